@@ -1,0 +1,20 @@
+-- What the rates, classes and ranks count as.
+use Rattle.std.specs.Prelude.{ℕ}
+use Rattle.srp_base.specs.declared.bandwidth.Rate.{Rate}
+use Rattle.srp_base.specs.declared.bandwidth.Rate.TheVariants.{M100, G1, G10}
+use Rattle.srp_base.specs.declared.bandwidth.Class.{Class}
+use Rattle.srp_base.specs.declared.bandwidth.Class.TheVariants.{A, B}
+use Rattle.srp_base.specs.declared.bandwidth.Rank.{Rank}
+use Rattle.srp_base.specs.declared.bandwidth.Rank.TheVariants.{Emergency, Normal}
+
+-- a rate in bit/s
+abbrev pub bits_of : Rate → ℕ
+bits_of M100 = 100000000
+bits_of G1 = 1000000000
+bits_of G10 = 10000000000
+
+-- the time of one bit in ps
+abbrev pub bit_ps_of : Rate → ℕ
+bit_ps_of M100 = 10000
+bit_ps_of G1 = 1000
+bit_ps_of G10 = 100

@@ -1,0 +1,27 @@
+//! The words that every other crate of the network speaks: numbers with their ranges, link rates,
+//! SR classes and ranks, lists, the events of MRP, and how identifiers are read and written.
+//!
+//! ```text
+//! numbers      StreamId BridgeId NodeNo LinkNo PortNo Cs Ps     plain numbers, each of its own kind
+//!              Vid Mac                                          numbers of a stated range
+//! bandwidth    Rate Percent Class Rank                          what a reservation is measured in
+//! mrp          App MrpEvent                                     the six attribute events of MRP
+//! list         Seq                                              a list over a vector
+//! memory       NoMemory                                         the one free answer
+//! ```
+//!
+//! Contracts see a `Vid`, a `Mac` and a `Percent` as the number, a `Seq` as the list of its elements,
+//! and each other type as its fields.
+#![tactic(auto)]
+
+pub mod bandwidth;
+pub mod list;
+pub mod memory;
+pub mod mrp;
+pub mod numbers;
+
+pub use bandwidth::{Class, Percent, Rank, Rate};
+pub use list::Seq;
+pub use memory::NoMemory;
+pub use mrp::{App, MrpEvent};
+pub use numbers::{BridgeId, Cs, LinkNo, Mac, NodeNo, PortNo, Ps, StreamId, Vid};

@@ -1,0 +1,20 @@
+//! The words of MRP that every application shares (IEEE Std 802.1Q-2018, clause 10).
+
+/// An application of MRP: VLAN registration (clause 11) or stream reservation (clause 35).
+#[derive(Clone, Copy, Debug, PartialEq, Eq)]
+pub enum App {
+    Mvrp,
+    Msrp,
+}
+
+/// The attribute events that a vector encodes, numbered from 0 as they stand here
+/// (IEEE Std 802.1Q-2018, 10.8.1.2). The standard's In and Mt are `OnlyIn` and `OnlyMt`.
+#[derive(Clone, Copy, Debug, PartialEq, Eq, PartialOrd, Ord)]
+pub enum MrpEvent {
+    New,
+    JoinIn,
+    OnlyIn,
+    JoinMt,
+    OnlyMt,
+    Lv,
+}
