@@ -2,10 +2,6 @@
 use Rattle.std.specs.Prelude.{ℕ}
 use Rattle.srp_base.specs.declared.bandwidth.Rate.{Rate}
 use Rattle.srp_base.specs.declared.bandwidth.Rate.TheVariants.{M100, G1, G10}
-use Rattle.srp_base.specs.declared.bandwidth.Class.{Class}
-use Rattle.srp_base.specs.declared.bandwidth.Class.TheVariants.{A, B}
-use Rattle.srp_base.specs.declared.bandwidth.Rank.{Rank}
-use Rattle.srp_base.specs.declared.bandwidth.Rank.TheVariants.{Emergency, Normal}
 
 -- a rate in bit/s
 abbrev pub bits_of : Rate → ℕ

@@ -8,6 +8,7 @@
 //! mrp          App MrpEvent                                     the six attribute events of MRP
 //! list         Seq                                              a list over a vector
 //! memory       NoMemory                                         the one free answer
+//! hexadecimal  read_hex16                                       identifiers as 16 digits
 //! ```
 //!
 //! Contracts see a `Vid`, a `Mac` and a `Percent` as the number, a `Seq` as the list of its elements,
@@ -15,12 +16,14 @@
 #![tactic(auto)]
 
 pub mod bandwidth;
+pub mod hexadecimal;
 pub mod list;
 pub mod memory;
 pub mod mrp;
 pub mod numbers;
 
 pub use bandwidth::{Class, Percent, Rank, Rate};
+pub use hexadecimal::read_hex16;
 pub use list::Seq;
 pub use memory::NoMemory;
 pub use mrp::{App, MrpEvent};

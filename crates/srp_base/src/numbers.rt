@@ -2,6 +2,7 @@
 
 ghost use Rattle.std.specs.Prelude.{◌≡◌, ◌<◌, ◌≤◌, ◌↔◌, ◌^◌, IsSome, IfSome};
 
+use std::fmt;
 use std::marker::Model;
 
 /// A StreamID: the 48-bit address of the Talker's station and a 16-bit number, as one number
@@ -9,9 +10,33 @@ use std::marker::Model;
 #[derive(Clone, Copy, Debug, PartialEq, Eq, PartialOrd, Ord, Hash)]
 pub struct StreamId(pub u64);
 
+impl fmt::Display for StreamId {
+    ghost use Rattle.std.specs.Prelude.{Some};
+    ghost use Rattle.srp_base.specs.Hexadecimal.{hex16_text};
+
+    ghost output = { λ s. Some (hex16_text s.0) };
+
+    #[tactic(auto, using(crate::proofs::HexadecimalLemmas::padded_hex16), unfolding(crate::specs::Hexadecimal::hex16_text))]
+    fn fmt<W: fmt::Write>(&self, f: &mut fmt::Formatter<W>) -> fmt::Result {
+        write!(f, "{:016x}", self.0)
+    }
+}
+
 /// A bridge's identifier as a Talker Failed carries it (IEEE Std 802.1Q-2018, 35.2.2.8.7).
 #[derive(Clone, Copy, Debug, PartialEq, Eq, PartialOrd, Ord, Hash)]
 pub struct BridgeId(pub u64);
+
+impl fmt::Display for BridgeId {
+    ghost use Rattle.std.specs.Prelude.{Some};
+    ghost use Rattle.srp_base.specs.Hexadecimal.{hex16_text};
+
+    ghost output = { λ s. Some (hex16_text s.0) };
+
+    #[tactic(auto, using(crate::proofs::HexadecimalLemmas::padded_hex16), unfolding(crate::specs::Hexadecimal::hex16_text))]
+    fn fmt<W: fmt::Write>(&self, f: &mut fmt::Formatter<W>) -> fmt::Result {
+        write!(f, "{:016x}", self.0)
+    }
+}
 
 /// A node's number, from 1 in file order.
 #[derive(Clone, Copy, Debug, PartialEq, Eq, PartialOrd, Ord, Hash)]

@@ -1,0 +1,20 @@
+-- Identifiers as hexadecimal digits: StreamIDs and BridgeIDs have sixteen.
+use Rattle.std.specs.Prelude.{ℕ, false, ◌-◌, List, ◌++◌, length, Option, Some, None, Result, Ok, Err, replicate}
+use Rattle.std.specs.Fmt.{digits}
+use Rattle.std.specs.Int.{w64, from_be_bytes}
+use Rattle.hex.specs.Hex.{decode_sized}
+use Rattle.hex.specs.declared.error.FromHexError.{FromHexError}
+
+-- the number of eight octets, the first of them the highest
+abbrev pub number_of_octets : Result (List ℕ) FromHexError → Option ℕ
+number_of_octets (Ok octets) = Some (from_be_bytes w64 octets)
+number_of_octets (Err e) = None
+
+-- the number that sixteen hexadecimal digits of either case spell, the highest digit first; no other
+-- text spells one
+unfoldable pub hex16 : List ℕ → Option ℕ
+hex16 text = number_of_octets (decode_sized text 8)
+
+-- a number below 2 ^ 64 as sixteen hexadecimal digits in lower case: its digits, with zeros before them
+unfoldable pub hex16_text : ℕ → List ℕ
+hex16_text n = let ds = digits 16 false n in replicate (16 - length ds) 48 ++ ds
