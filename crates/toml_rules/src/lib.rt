@@ -1,0 +1,17 @@
+//! Input files by numbered rules: what a TOML table has at a key, and the first rule that fails.
+//!
+//! ```text
+//! fields   number number_or within text tables has_only     what a table has at a key
+//! rules    RuleErr needs holds                              a rule, and how it fails
+//! ```
+//!
+//! A file's definition is a list of rules in the order in which they are checked, each a fact about the
+//! table. Contracts see a table as its members (`table_view` of the crate `toml`), and each reader here
+//! answers what the definition of the same name says of them.
+#![tactic(auto)]
+
+pub mod fields;
+pub mod rules;
+
+pub use fields::{has_only, number, number_or, tables, text, within};
+pub use rules::{RuleErr, holds, needs};
