@@ -1,0 +1,14 @@
+-- What reading and writing whole say of an error.
+use Rattle.std.specs.Prelude.{ℕ}
+use Rattle.srp_io.specs.declared.whole.WriteErr.{WriteErr}
+use Rattle.srp_io.specs.declared.whole.WriteErr.TheVariants.{Fault, NoMemory}
+
+-- how many octets went out before the error
+abbrev pub written_of : WriteErr → ℕ
+written_of (Fault written) = written
+written_of (NoMemory written) = written
+
+-- the error is a fault of the sink
+abbrev pub IsFault : WriteErr → Type 0
+IsFault (Fault written) = Unit {0}
+IsFault (NoMemory written) = ⊥
