@@ -1,0 +1,88 @@
+-- What a ledger keeps, and what its calls make of it.
+use Rattle.std.specs.Prelude.{ℕ, ◌≤◌, Bool, true, false, not, ◌&&◌, ◌==◌, nat_lt, List, [], ◌∷◌, map, filter, find, sum_by, Option, Some, None, option_and_then, if◌then◌else◌}
+use Rattle.std.specs.List.{AllByRecursion, list_any}
+use Rattle.srp_base.specs.declared.numbers.Cs.{Cs}
+use Rattle.srp_base.specs.declared.numbers.StreamId.{StreamId}
+use Rattle.srp_base.specs.declared.bandwidth.Class.{Class}
+use Rattle.stream_importance.specs.declared.entry.Entry.{Entry}
+use Rattle.stream_importance.specs.declared.entry.Want.{Want}
+use Rattle.stream_importance.specs.declared.entry.Fit.{Fit}
+use Rattle.stream_importance.specs.declared.entry.Fit.TheVariants.{Fits, TooLittle}
+use Rattle.stream_importance.specs.Bandwidth.{Caps, cap_of}
+use Rattle.stream_importance.specs.Importance.{class_number, rank_number, moment_or}
+use Rattle.port_ledger.specs.Decision.{stream_of, slope_of, above, does_fit, is_booked, booked_of, marks_of, IsAscending, IsDecision}
+
+-- a ledger: its caps in bit/s, the last moment that was handed to it in cs, and the wanting streams
+pub record Book : Type 0 where
+  pub caps : Caps
+  pub moment : ℕ
+  pub entries : List Entry
+
+-- what holds of every ledger
+pub record IsKept (book : Book) : Type 0 where
+  pub ascending : IsAscending book.entries
+  pub shares : book.caps.class_a ≤ book.caps.both
+  pub moments : AllByRecursion (λ x. moment_or book.moment x.since ≤ book.moment) book.entries
+  pub decision : IsDecision book.moment book.caps book.entries (marks_of book.entries)
+
+abbrev pub same_want : Want → Want → Bool
+same_want a b =
+    (a.stream.0 == b.stream.0) && (class_number a.class == class_number b.class)
+    && (rank_number a.rank == rank_number b.rank) && (a.slope == b.slope)
+
+abbrev pub same_since : Option Cs → Option Cs → Bool
+same_since None None = true
+same_since None (Some b) = false
+same_since (Some a) None = false
+same_since (Some a) (Some b) = a.0 == b.0
+
+abbrev pub same_entry : Entry → Entry → Bool
+same_entry x y = same_want x.want y.want && same_since x.since y.since
+
+-- the entry of a stream
+abbrev pub entry_of : List Entry → StreamId → Option Entry
+entry_of entries stream = find (λ x. stream_of x == stream.0) entries
+
+-- the entries once a want has come: in the place of the stream's entry where that has another want, and
+-- in the order of StreamIDs where the stream has none; the same want again changes nothing
+abbrev pub with_want : List Entry → Want → List Entry
+with_want [] want = record { want = want; since = None } ∷ []
+with_want (x ∷ xs) want =
+    if nat_lt want.stream.0 (stream_of x)
+    then record { want = want; since = None } ∷ x ∷ xs
+    else if want.stream.0 == stream_of x
+    then (if same_want x.want want then x else record { want = want; since = None }) ∷ xs
+    else x ∷ with_want xs want
+
+-- the streams, ascending, whose booked entry with its want and its moment is in these and not in those
+abbrev pub booked_only_in : List Entry → List Entry → List StreamId
+booked_only_in these those =
+    map (λ x. x.want.stream) (filter (λ x. is_booked x && not (list_any (same_entry x) those)) these)
+
+-- the slopes of the booked entries of a class, together
+abbrev pub booked_slope : List Entry → Class → ℕ
+booked_slope entries class =
+    sum_by slope_of (filter (λ x. class_number x.want.class == class_number class) (booked_of entries))
+
+-- the entry as which a want is tested: with the moment of the stream's entry where that has this same want
+abbrev pub tested_as : List Entry → Want → Entry
+tested_as entries want =
+    record {
+      want = want;
+      since = option_and_then (λ x. if same_want x.want want then x.since else None) (entry_of entries want.stream);
+    }
+
+abbrev pub is_normal : Entry → Bool
+is_normal x = rank_number x.want.rank == 1
+
+-- the failure code of what doesn't fit: 6 where a stream of rank 1 would fit if the bookings of rank 0
+-- weren't there, else 1 (table 35-6)
+abbrev pub code_of : ℕ → Caps → List Entry → Entry → ℕ
+code_of now caps set x = if is_normal x && does_fit now caps (filter is_normal set) x then 6 else 1
+
+-- whether an entry fits in a set
+abbrev pub fit_in : ℕ → Caps → List Entry → Entry → Fit
+fit_in now caps set x =
+    if does_fit now caps set x
+    then Fits
+    else TooLittle (above now x set) (cap_of caps x.want.class) (code_of now caps set x)

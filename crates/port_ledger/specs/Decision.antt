@@ -1,0 +1,73 @@
+-- Which entries of an egress port are booked, as a condition on a set (IEEE Std 802.1Q-2018, 34.3, 35.2.2.8).
+use Rattle.std.specs.Prelude.{ℕ, ◌+◌, ◌<◌, ◌≡◌, ◌≢◌, Bool, true, false, not, ◌&&◌, ◌==◌, nat_le, List, [], ◌∷◌, map, filter, sum_by, is_some, Option, Some, None, if◌then◌else◌}
+use Rattle.std.specs.List.{AllByRecursion}
+use Rattle.srp_base.specs.declared.numbers.Cs.{Cs}
+use Rattle.stream_importance.specs.declared.entry.Entry.{Entry}
+use Rattle.stream_importance.specs.Bandwidth.{Caps, cap_of}
+use Rattle.stream_importance.specs.Importance.{moment_or, is_more_important}
+
+-- the StreamID of an entry, as a number
+abbrev pub stream_of : Entry → ℕ
+stream_of x = x.want.stream.0
+
+abbrev pub slope_of : Entry → ℕ
+slope_of x = x.want.slope
+
+-- no stream has two of the entries
+abbrev pub AreOfDifferentStreams : List Entry → Type 0
+AreOfDifferentStreams [] = Unit {0}
+AreOfDifferentStreams (x ∷ xs) = AllByRecursion (λ y. stream_of x ≢ stream_of y) xs × AreOfDifferentStreams xs
+
+-- strictly ascending by StreamID
+abbrev pub IsAscending : List Entry → Type 0
+IsAscending [] = Unit {0}
+IsAscending (x ∷ xs) = AllByRecursion (λ y. stream_of x < stream_of y) xs × IsAscending xs
+
+-- the set that marks beside the entries mark
+abbrev pub marked : List Entry → List Bool → List Entry
+marked [] marks = []
+marked (x ∷ xs) [] = []
+marked (x ∷ xs) (mark ∷ marks) = if mark then x ∷ marked xs marks else marked xs marks
+
+-- y goes before x: it is of another stream, and more important
+abbrev pub goes_before : ℕ → Entry → Entry → Bool
+goes_before now x y = not (stream_of y == stream_of x) && is_more_important now y x
+
+-- what the entries of a set that go before x take, in bit/s
+abbrev pub above : ℕ → Entry → List Entry → ℕ
+above now x set = sum_by slope_of (filter (goes_before now x) set)
+
+-- x fits in a set where these, with x's own slope, stay at or under the cap of x
+abbrev pub does_fit : ℕ → Caps → List Entry → Entry → Bool
+does_fit now caps set x = nat_le (above now x set + slope_of x) (cap_of caps x.want.class)
+
+-- the marks of the decided set: an entry is marked exactly where it fits in the set that is marked
+abbrev pub IsDecision : ℕ → Caps → List Entry → List Bool → Type 0
+IsDecision now caps entries marks = marks ≡ map (does_fit now caps (marked entries marks)) entries
+
+-- an entry is booked where it has a moment
+abbrev pub is_booked : Entry → Bool
+is_booked x = is_some x.since
+
+abbrev pub marks_of : List Entry → List Bool
+marks_of entries = map is_booked entries
+
+-- the booked set: the entries that have a moment
+abbrev pub booked_of : List Entry → List Entry
+booked_of entries = filter is_booked entries
+
+-- a booked entry keeps its moment, or gets this one; another has none
+abbrev pub since_after : ℕ → Option Cs → Bool → Option Cs
+since_after now since true = Some (record { 0 = moment_or now since })
+since_after now since false = None
+
+-- the entries with their moments after a decision
+abbrev pub settled : ℕ → List Entry → List Bool → List Entry
+settled now [] marks = []
+settled now (x ∷ xs) [] = []
+settled now (x ∷ xs) (mark ∷ marks) = record x { since = since_after now x.since mark } ∷ settled now xs marks
+
+-- a call that decides these entries at this moment leaves those
+pub record Decides (now : ℕ) (caps : Caps) (before after : List Entry) : Type 0 where
+  pub decision : IsDecision now caps before (marks_of after)
+  pub moments : after ≡ settled now before (marks_of after)

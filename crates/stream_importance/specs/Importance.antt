@@ -1,0 +1,37 @@
+-- Which of two entries of a port is more important (IEEE Std 802.1Q-2018, 34.2, 35.2.2.8).
+use Rattle.std.specs.Prelude.{ℕ, Bool, Option, Some, None}
+use Rattle.std.specs.declared.cmp.Ordering.{Ordering}
+use Rattle.std.specs.Ordering.{nat_cmp, ordering_then, is_lt}
+use Rattle.srp_base.specs.declared.numbers.Cs.{Cs}
+use Rattle.srp_base.specs.declared.bandwidth.Class.{Class}
+use Rattle.srp_base.specs.declared.bandwidth.Class.TheVariants.{A, B}
+use Rattle.srp_base.specs.declared.bandwidth.Rank.{Rank}
+use Rattle.srp_base.specs.declared.bandwidth.Rank.TheVariants.{Emergency, Normal}
+use Rattle.stream_importance.specs.declared.entry.Entry.{Entry}
+
+-- class A is decided before class B (34.2)
+abbrev pub class_number : Class → ℕ
+class_number A = 0
+class_number B = 1
+
+-- the rank as a stream's DataFrameParameters carry it (35.2.2.8.5)
+abbrev pub rank_number : Rank → ℕ
+rank_number Emergency = 0
+rank_number Normal = 1
+
+-- the moment of booking in cs, where none counts as now
+abbrev pub moment_or : ℕ → Option Cs → ℕ
+moment_or now None = now
+moment_or now (Some moment) = moment.0
+
+-- two entries compared by their class, then their rank, then their moment of booking, then their StreamID
+abbrev pub compare_importance : ℕ → Entry → Entry → Ordering
+compare_importance now x y =
+    ordering_then (nat_cmp (class_number x.want.class) (class_number y.want.class))
+    (ordering_then (nat_cmp (rank_number x.want.rank) (rank_number y.want.rank))
+    (ordering_then (nat_cmp (moment_or now x.since) (moment_or now y.since))
+    (nat_cmp x.want.stream.0 y.want.stream.0)))
+
+-- more important is the one that comes first
+abbrev pub is_more_important : ℕ → Entry → Entry → Bool
+is_more_important now x y = is_lt (compare_importance now x y)

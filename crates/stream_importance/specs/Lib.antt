@@ -1,0 +1,2 @@
+pub mod Bandwidth
+pub mod Importance

@@ -1,0 +1,56 @@
+//! Which of two entries is more important.
+
+ghost use Rattle.std.specs.Prelude.{◌≡◌, ◌≢◌, ◌⊎◌, ℕ, IsTrue};
+ghost use Rattle.std.specs.Ordering.{nat_cmp};
+ghost use Rattle.stream_importance.specs.declared.entry.Entry.{Entry};
+ghost use Rattle.stream_importance.specs.Importance.{class_number, is_more_important, moment_or, rank_number};
+
+use crate::entry::Entry;
+use srp_base::{Class, Cs, Rank};
+use std::cmp::Ordering;
+
+/// Whether `x` is more important than `y` at the moment `now`, in cs: by the first that differs, class A
+/// before B, rank 0 before 1, the earlier moment of booking, where none counts as `now`, and the lower
+/// StreamID.
+pub fn more_important(now: Cs, x: &Entry, y: &Entry) -> bool
+    ensures { result ≡ is_more_important now.0 x.now y.now }
+{
+    by_class(x, y)
+        .then(by_rank(x, y))
+        .then(by_age(now, x, y))
+        .then(x.want.stream.cmp(&y.want.stream))
+        .is_lt()
+}
+
+fn by_class(x: &Entry, y: &Entry) -> Ordering
+    ensures { result ≡ nat_cmp (class_number x.now.want.class) (class_number y.now.want.class) }
+{
+    x.want.class.cmp(&y.want.class)
+}
+
+fn by_rank(x: &Entry, y: &Entry) -> Ordering
+    ensures { result ≡ nat_cmp (rank_number x.now.want.rank) (rank_number y.now.want.rank) }
+{
+    x.want.rank.cmp(&y.want.rank)
+}
+
+fn by_age(now: Cs, x: &Entry, y: &Entry) -> Ordering
+    ensures { result ≡ nat_cmp (moment_or now.0 x.now.since) (moment_or now.0 y.now.since) }
+{
+    x.since.unwrap_or(now).cmp(&y.since.unwrap_or(now))
+}
+
+/// Of two entries at most one is more important than the other, so none is more important than itself.
+pub fn importance_is_strict()
+    ensures { (now : ℕ) (x y : Entry) → IsTrue (is_more_important now x y) → IsTrue (is_more_important now y x) → ⊥ }
+{}
+
+/// Of two entries of different streams one is more important than the other.
+pub fn importance_is_total()
+    ensures { (now : ℕ) (x y : Entry) → x.want.stream.0 ≢ y.want.stream.0 → IsTrue (is_more_important now x y) ⊎ IsTrue (is_more_important now y x) }
+{}
+
+/// What is more important than a more important entry is more important.
+pub fn importance_is_transitive()
+    ensures { (now : ℕ) (x y z : Entry) → IsTrue (is_more_important now x y) → IsTrue (is_more_important now y z) → IsTrue (is_more_important now x z) }
+{}
