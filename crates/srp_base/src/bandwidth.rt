@@ -1,7 +1,7 @@
 //! What a reservation is measured in: link rates, shares of them, SR classes and ranks.
 
 ghost use Rattle.std.specs.Prelude.{◌≡◌, ◌≤◌, ◌*◌, ◌↔◌, ◌⊎◌, IsSome, IfSome};
-ghost use Rattle.srp_base.specs.Bandwidth.{bits_of, bit_ps_of};
+ghost use Rattle.srp_base.specs.Bandwidth.{bits_of, bit_ps_of, rate_of_mbit};
 
 use std::marker::Model;
 
@@ -18,6 +18,7 @@ impl Rate {
     pub fn of_mbit(mbit: u64) -> Option<Rate>
         ensures known { IsSome result ↔ ((mbit ≡ 100) ⊎ (mbit ≡ 1000) ⊎ (mbit ≡ 10000)) }
         ensures value { IfSome result (λ r. bits_of r ≡ mbit * 1000000) }
+        ensures row { result ≡ rate_of_mbit mbit }
     {
         match mbit {
             100 => Some(Rate::M100),

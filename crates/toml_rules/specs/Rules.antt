@@ -40,8 +40,8 @@ abbrev pub each_entry : {A B : Type 0} → ℕ → (ℕ → A → Option B) → 
 each_entry rule read n [] = Ok []
 each_entry rule read n (x ∷ xs) = entry_then rule n (read n x) (each_entry rule read (n + 1) xs)
 
--- what a reader answers is what the rules say, unless memory ran out
-abbrev pub Reads : {A : Type 0} → Result A RuleErr → Result A RuleErr → Type 0
-Reads (Ok x) said = said ≡ Ok x
-Reads (Err NoMemory) said = Unit {0}
-Reads (Err (Rule rule entry)) said = said ≡ Err (Rule rule entry)
+-- what a reader answers, seen by view, is what the rules say, unless memory ran out
+abbrev pub Reads : {X A : Type 0} → (X → A) → Result X RuleErr → Result A RuleErr → Type 0
+Reads view (Ok x) said = said ≡ Ok (view x)
+Reads view (Err NoMemory) said = Unit {0}
+Reads view (Err (Rule rule entry)) said = said ≡ Err (Rule rule entry)

@@ -1,0 +1,3 @@
+//! The command `ledger`: the bookings of one port.
+
+pub mod file;

@@ -1,0 +1,195 @@
+//! The ledger file: one port and the streams that want it.
+
+ghost use Rattle.std.specs.Prelude.{◌≡◌, ◌+◌, ◌≤◌, List, ℕ, codes, length, map, Option, option_map, IfSome, IfOk};
+ghost use Rattle.std.specs.Option.{option_and_then};
+ghost use Rattle.srp_base.specs.Hexadecimal.{hex16};
+ghost use Rattle.toml.specs.View.{table_view};
+ghost use Rattle.toml_rules.specs.Fields.{number_or as number_or_lem, within as within_lem};
+ghost use Rattle.toml_rules.specs.Rules.{Reads, each_entry};
+ghost use Rattle.srpnet.specs.LedgerFile.{stream_at, class_of_text, class_at, rank_of_number, rank_at, frames_at, octets_at, tick_at, known_want, want_entry, rate_at, shares_at, first_fall, first_crowd, different, streams_of, ledger_file as ledger_file_lem};
+
+use srp_base::{Class, Cs, Percent, Rank, Rate, Seq, StreamId, read_hex16};
+use std::alloc::Global;
+use stream_importance::{Want, slope_of};
+use toml::Table;
+use toml_rules::{RuleErr, has_only, holds, needs, number, number_or, tables, text, within};
+
+/// A want of the file with its moment in cs.
+#[derive(Clone, Copy, Debug, PartialEq, Eq)]
+pub struct LedgerWant {
+    pub tick: Cs,
+    pub want: Want,
+}
+
+/// A ledger file: a port, and the wants in file order.
+#[derive(Debug, PartialEq, Eq, Drop)]
+pub struct LedgerFile {
+    pub rate: Rate,
+    pub delta_a: Percent,
+    pub delta_b: Percent,
+    pub wants: Seq<LedgerWant>,
+    /// The different streams, in the order of their first mention.
+    pub streams: Seq<StreamId>,
+}
+
+fn read_stream(table: &Table) -> Option<u64>
+    ensures { result ≡ stream_at (table_view table.now) }
+{
+    read_hex16(text(table, "stream")?)
+}
+
+fn class_of(word: &str) -> Option<Class>
+    ensures { result ≡ class_of_text word.now }
+{
+    match word {
+        "A" => Some(Class::A),
+        "B" => Some(Class::B),
+        _ => None,
+    }
+}
+
+fn read_class(table: &Table) -> Option<Class>
+    ensures { result ≡ class_at (table_view table.now) }
+{
+    class_of(text(table, "class")?)
+}
+
+fn rank_of(number: u64) -> Option<Rank>
+    ensures { result ≡ rank_of_number number }
+{
+    match number {
+        0 => Some(Rank::Emergency),
+        1 => Some(Rank::Normal),
+        _ => None,
+    }
+}
+
+fn read_rank(table: &Table) -> Option<Rank>
+    ensures { result ≡ rank_at (table_view table.now) }
+{
+    rank_of(number_or(table, "rank", 1)?)
+}
+
+/// The most frames in a class measurement interval, and the most octets of a frame.
+fn read_frames(table: &Table) -> Option<u16>
+    ensures { result ≡ frames_at (table_view table.now) }
+{
+    small(within(0, 65_535, number(table, "frames")))
+}
+
+fn read_octets(table: &Table) -> Option<u16>
+    ensures { result ≡ octets_at (table_view table.now) }
+{
+    small(within(0, 1_500, number(table, "octets")))
+}
+
+/// A number that is known to be small.
+fn small(number: Option<u64>) -> Option<u16>
+    requires { IfSome number (λ n. n ≤ 65535) }
+    ensures { result ≡ number }
+{
+    match number {
+        Some(n) => Some(n as u16),
+        None => None,
+    }
+}
+
+fn read_tick(table: &Table) -> Option<u64>
+    ensures { result ≡ tick_at (table_view table.now) }
+{
+    within(0, 11_999, number_or(table, "tick", 0))
+}
+
+/// The want of a table whose keys are all known.
+fn read_known_want(table: &Table) -> Option<LedgerWant>
+    ensures { result ≡ known_want (table_view table.now) }
+{
+    let stream = read_stream(table)?;
+    let class = read_class(table)?;
+    let rank = read_rank(table)?;
+    let frames = read_frames(table)?;
+    let octets = read_octets(table)?;
+    let tick = read_tick(table)?;
+    Some(LedgerWant {
+        tick: Cs(tick),
+        want: Want {
+            stream: StreamId(stream),
+            class,
+            rank,
+            slope: slope_of(class, octets, frames),
+        },
+    })
+}
+
+const WANT_KEYS: [&str; 6] = ["stream", "class", "rank", "frames", "octets", "tick"];
+
+/// The most wants of a file.
+const MOST_WANTS: usize = 10_000;
+
+/// The want of an entry with this number.
+fn read_want(number: usize, table: &Table) -> Option<LedgerWant>
+    ensures { result ≡ want_entry number (table_view table.now) }
+{
+    if number <= MOST_WANTS && has_only(table, &WANT_KEYS) {
+        read_known_want(table)
+    } else {
+        None
+    }
+}
+
+/// The wants of all entries, each with its form.
+fn read_wants(alloc: Global, entries: &[&Table]) -> Result<Vec<LedgerWant>, RuleErr>
+    ensures wants { Reads (λ v. v.items) result (each_entry 33 want_entry 1 (map (λ t. table_view t.now) entries.now)) }
+    ensures many { IfOk result (λ v. length v.items ≤ 10000) }
+{
+    let mut wants = Vec::new(alloc);
+    for (i, table) in entries.iter().enumerate() {
+        match read_want(i + 1, table) {
+            Some(want) => wants.push(want)?,
+            None => {
+                return Err(RuleErr::Rule {
+                    rule: 33,
+                    entry: (i + 1) as u32,
+                });
+            }
+        }
+    }
+    Ok(wants)
+}
+
+fn read_rate(table: &Table) -> Option<Rate>
+    ensures { result ≡ rate_at (table_view table.now) }
+{
+    Rate::of_mbit(number(table, "rate")?)
+}
+
+fn read_share(table: &Table, key: &str, default: u64) -> Option<Percent>
+    ensures { result ≡ within_lem 0 90 (number_or_lem key.now default (table_view table.now)) }
+{
+    percent(within(0, 90, number_or(table, key, default)))
+}
+
+/// A number that is known to be a percentage.
+fn percent(number: Option<u64>) -> Option<Percent>
+    requires { IfSome number (λ n. n ≤ 90) }
+    ensures { result ≡ number }
+{
+    match number {
+        Some(n) => Percent::new(n),
+        None => None,
+    }
+}
+
+/// The shares of class A and class B.
+fn read_shares(table: &Table) -> Option<(Percent, Percent)>
+    ensures shares { result ≡ shares_at (table_view table.now) }
+    ensures together { IfSome result (λ s. s.0 + s.1 ≤ 90) }
+{
+    let delta_a = read_share(table, "delta_a", 75)?;
+    let delta_b = read_share(table, "delta_b", 0)?;
+    if delta_a.get() + delta_b.get() <= 90 {
+        Some((delta_a, delta_b))
+    } else {
+        None
+    }
+}

@@ -1,0 +1,6 @@
+//! `srpnet`: the Stream Reservation Protocol over a file, as a program.
+#![tactic(auto)]
+
+mod ledger;
+
+fn main() {}
