@@ -1,5 +1,5 @@
 -- Lemmas on the reading of a ledger file.
-use Rattle.std.proofs.Common.{◌≡◌, ℕ, List, [], ◌∷◌, ◌++◌, refl, ap, sym, Result, Ok, Err, append_assoc}
+use Rattle.std.proofs.Common.{◌≡◌, List, [], ◌∷◌, ◌++◌, refl, ap, Result, Ok, Err, append_assoc}
 use Rattle.toml_rules.specs.declared.rules.RuleErr.{RuleErr}
 use Rattle.toml_rules.specs.Rules.{with_front}
 use Rattle.srpnet.specs.declared.ledger.file.LedgerWant.{LedgerWant}

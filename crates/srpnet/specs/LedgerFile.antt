@@ -1,5 +1,5 @@
 -- The ledger file: one port and the streams that want it, or the first rule that the table breaks.
-use Rattle.std.specs.Prelude.{ℕ, ◌+◌, ◌==◌, Bool, not, ◌&&◌, nat_le, nat_lt, nat_eq, if◌then◌else◌, List, [], ◌∷◌, ◌++◌, length, map, take, filter, codes, Option, Some, None, option_map, Result, Ok, Err}
+use Rattle.std.specs.Prelude.{ℕ, ◌+◌, ◌==◌, not, ◌&&◌, nat_le, nat_lt, nat_eq, if◌then◌else◌, List, [], ◌∷◌, ◌++◌, length, map, filter, codes, Option, Some, None, Result, Ok}
 use Rattle.std.specs.Option.{option_and_then}
 use Rattle.std.specs.Cmp.Lexicographic.{pointwise}
 use Rattle.srp_base.specs.declared.bandwidth.Rate.{Rate}
@@ -13,8 +13,8 @@ use Rattle.toml.specs.Data.{Members}
 use Rattle.toml_rules.specs.declared.rules.RuleErr.{RuleErr}
 use Rattle.toml_rules.specs.Fields.{number, number_or, within, text, tables, has_only}
 use Rattle.toml_rules.specs.Rules.{◌>>=◌, needs, holds, no_entry, each_entry}
-use Rattle.stream_importance.specs.declared.entry.Want.{Want}
 use Rattle.stream_importance.specs.Bandwidth.{slope_of_frames}
+use Rattle.srp_base.specs.declared.numbers.StreamId.{StreamId}
 use Rattle.srpnet.specs.declared.ledger.file.LedgerWant.{LedgerWant}
 use Rattle.srpnet.specs.declared.ledger.file.LedgerFile.{LedgerFile}
 
@@ -112,15 +112,19 @@ first_crowd front (k ∷ ks) =
     then first_crowd (front ++ k ∷ []) ks
     else Some (length front + 1)
 
--- the file of these parts
-abbrev pub file_of : Rate → ℕ × ℕ → List LedgerWant → LedgerFile
-file_of rate shares wants = record {
-  rate = rate;
-  delta_a = shares.0;
-  delta_b = shares.1;
-  wants = wants;
-  streams = map (λ k. record { 0 = k }) (different (streams_of wants));
-}
+-- the different streams, where there are at most 128
+abbrev pub mentioned : List LedgerWant → Result (List ℕ) RuleErr
+mentioned wants = do
+  _ ← no_entry 35 (first_crowd [] (streams_of wants))
+  Ok (different (streams_of wants))
+
+-- the wants of the entries, with the different streams in the order of their first mention
+abbrev pub wants_of : List Members → Result (List LedgerWant × List StreamId) RuleErr
+wants_of entries = do
+  wants ← each_entry 33 want_entry 1 entries
+  _ ← no_entry 34 (first_fall 1 0 wants)
+  streams ← mentioned wants
+  Ok (wants, map (λ k. record { 0 = k }) streams)
 
 -- The file of a table, or the first rule that fails, with its first failing entry:
 -- 31  the keys are known, and there is a rate
@@ -134,7 +138,5 @@ ledger_file ms = do
   rate ← needs 31 (rate_at ms)
   shares ← needs 32 (shares_at ms)
   entries ← needs 33 (tables (codes "want") ms)
-  wants ← each_entry 33 want_entry 1 entries
-  _ ← no_entry 34 (first_fall 1 0 wants)
-  _ ← no_entry 35 (first_crowd [] (streams_of wants))
-  Ok (file_of rate shares wants)
+  wants ← wants_of entries
+  Ok (record { rate = rate; delta_a = shares.0; delta_b = shares.1; wants = wants.0; streams = wants.1 })

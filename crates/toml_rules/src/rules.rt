@@ -19,6 +19,14 @@ pub enum RuleErr {
     NoMemory,
 }
 
+impl From<srp_base::NoMemory> for RuleErr {
+    ghost from_gives = { λ _ e. e ≡ NoMemory };
+
+    fn from(_error: srp_base::NoMemory) -> RuleErr {
+        RuleErr::NoMemory
+    }
+}
+
 impl From<AllocError> for RuleErr {
     ghost from_gives = { λ _ e. e ≡ NoMemory };
 

@@ -1,15 +1,16 @@
 //! The ledger file: one port and the streams that want it.
 
-ghost use Rattle.std.specs.Prelude.{◌≡◌, ◌+◌, ◌≤◌, List, ℕ, codes, length, map, Option, option_map, IfSome, IfOk};
+ghost use Rattle.std.specs.Prelude.{◌≡◌, ◌+◌, None, ◌≤◌, List, ℕ, codes, length, map, Option, option_map, IfSome, IfOk};
 ghost use Rattle.std.specs.Option.{option_and_then};
 ghost use Rattle.srp_base.specs.Hexadecimal.{hex16};
 ghost use Rattle.toml.specs.View.{table_view};
-ghost use Rattle.toml_rules.specs.Fields.{number_or as number_or_lem, within as within_lem};
-ghost use Rattle.toml_rules.specs.Rules.{Reads, each_entry};
-ghost use Rattle.srpnet.specs.LedgerFile.{stream_at, class_of_text, class_at, rank_of_number, rank_at, frames_at, octets_at, tick_at, known_want, want_entry, rate_at, shares_at, first_fall, first_crowd, different, streams_of, ledger_file as ledger_file_lem};
+ghost use Rattle.toml_rules.specs.Fields.{number_or as number_or_lem, tables as tables_lem, within as within_lem};
+ghost use Rattle.toml_rules.specs.Rules.{Reads, each_entry, needs as needs_lem, no_entry};
+ghost use Rattle.srpnet.specs.LedgerFile.{stream_at, class_of_text, class_at, rank_of_number, rank_at, frames_at, octets_at, tick_at, known_want, want_entry, rate_at, shares_at, first_fall, mentioned, wants_of, ledger_file as ledger_file_lem};
 
+use indexmap::IndexSet;
 use srp_base::{Class, Cs, Percent, Rank, Rate, Seq, StreamId, read_hex16};
-use std::alloc::Global;
+use std::alloc::{AllocError, Global};
 use stream_importance::{Want, slope_of};
 use toml::Table;
 use toml_rules::{RuleErr, has_only, holds, needs, number, number_or, tables, text, within};
@@ -192,4 +193,97 @@ fn read_shares(table: &Table) -> Option<(Percent, Percent)>
     } else {
         None
     }
+}
+
+/// Rule 34: the ticks don't fall.
+fn check_ticks(wants: &[LedgerWant]) -> Result<(), RuleErr>
+    requires { length wants.now ≤ 10000 }
+    ensures { result ≡ no_entry 34 (first_fall 1 0 wants.now) }
+{
+    let mut before = 0;
+    for (i, want) in wants.iter().enumerate() {
+        if want.tick.0 < before {
+            return Err(RuleErr::Rule {
+                rule: 34,
+                entry: (i + 1) as u32,
+            });
+        }
+        before = want.tick.0;
+    }
+    Ok(())
+}
+
+/// The most different streams of a file.
+const MOST_STREAMS: usize = 128;
+
+/// Rule 35: the different streams, in the order of their first mention, are at most 128.
+fn read_streams(alloc: Global, wants: &[LedgerWant]) -> Result<IndexSet<u64>, RuleErr>
+    requires { length wants.now ≤ 10000 }
+    ensures { Reads (λ s. s.keys) result (mentioned wants.now) }
+{
+    let mut streams = IndexSet::new(alloc);
+    for (i, want) in wants.iter().enumerate() {
+        streams.insert(want.want.stream.0)?;
+        if streams.len() > MOST_STREAMS {
+            return Err(RuleErr::Rule {
+                rule: 35,
+                entry: (i + 1) as u32,
+            });
+        }
+    }
+    Ok(streams)
+}
+
+const FILE_KEYS: [&str; 4] = ["rate", "delta_a", "delta_b", "want"];
+
+/// The entries of the file's wants, where they are an array of tables.
+fn read_entries<'a>(alloc: Global, table: &'a Table) -> Result<Vec<&'a Table>, RuleErr>
+    ensures { Reads (λ v. map (λ t. table_view t.now) v.items) result (needs_lem 33 (tables_lem (codes "want") (table_view table.now))) }
+{
+    match tables(alloc, table, "want") {
+        Ok(Some(entries)) => Ok(entries),
+        Ok(None) => Err(RuleErr::Rule { rule: 33, entry: 0 }),
+        Err(_) => Err(RuleErr::NoMemory),
+    }
+}
+
+fn stream_ids(alloc: Global, streams: &IndexSet<u64>) -> Result<Vec<StreamId>, AllocError>
+    ensures { IfOk result (λ v. v.items ≡ map (λ k. record { 0 = k }) streams.now.keys) }
+{
+    streams.iter().map(|k| StreamId(*k)).collect(alloc)
+}
+
+/// The wants of a file with the different streams that they mention.
+fn read_mentioned(
+    alloc: Global,
+    entries: &[&Table],
+) -> Result<(Seq<LedgerWant>, Seq<StreamId>), RuleErr>
+    ensures file { Reads (λ r. r) result (wants_of (map (λ t. table_view t.now) entries.now)) }
+    ensures ticks { IfOk result (λ r. first_fall 1 0 r.0 ≡ None) }
+{
+    let wants = read_wants(alloc, entries)?;
+    check_ticks(&wants)?;
+    let streams = read_streams(alloc, &wants)?;
+    let ids = stream_ids(alloc, &streams)?;
+    Ok((Seq::from_vec(wants), Seq::from_vec(ids)))
+}
+
+/// The file of a table, or the first rule that fails with its first failing entry: rules 31 to 35.
+pub fn read_ledger_file(alloc: Global, table: &Table) -> Result<LedgerFile, RuleErr>
+    ensures file { Reads (λ f. f) result (ledger_file_lem (table_view table.now)) }
+    ensures shares { IfOk result (λ f. f.delta_a + f.delta_b ≤ 90) }
+    ensures ticks { IfOk result (λ f. first_fall 1 0 f.wants ≡ None) }
+{
+    holds(31, has_only(table, &FILE_KEYS))?;
+    let rate = needs(31, read_rate(table))?;
+    let (delta_a, delta_b) = needs(32, read_shares(table))?;
+    let entries = read_entries(alloc, table)?;
+    let (wants, streams) = read_mentioned(alloc, &entries)?;
+    Ok(LedgerFile {
+        rate,
+        delta_a,
+        delta_b,
+        wants,
+        streams,
+    })
 }
