@@ -1,2 +1,3 @@
 pub mod Bandwidth
 pub mod Hexadecimal
+pub mod Text

@@ -1,2 +1,3 @@
 pub mod LedgerLemmas
 pub mod Different
+pub mod Documents

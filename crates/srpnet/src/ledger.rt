@@ -1,3 +1,5 @@
 //! The command `ledger`: the bookings of one port.
 
 pub mod file;
+pub mod input;
+pub mod text;

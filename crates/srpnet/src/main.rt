@@ -2,5 +2,7 @@
 #![tactic(auto)]
 
 mod ledger;
+mod outcome;
+mod words;
 
 fn main() {}

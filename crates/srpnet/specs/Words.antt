@@ -1,0 +1,18 @@
+-- The table of the program's words.
+use Rattle.std.specs.Prelude.{ℕ, nat_eq, List, [], ◌∷◌, codes, if◌then◌else◌, Option, Some, None}
+use Rattle.std.specs.Cmp.Lexicographic.{pointwise}
+use Rattle.srpnet.specs.declared.words.Command.{Command}
+use Rattle.srpnet.specs.declared.words.Command.TheVariants.{Ledger, Help, Version}
+
+-- the rows of one word
+abbrev pub command_of_word : List ℕ → Option Command
+command_of_word word =
+    if pointwise nat_eq word (codes "ledger") then Some Ledger
+    else if pointwise nat_eq word (codes "--help") then Some Help
+    else if pointwise nat_eq word (codes "--version") then Some Version
+    else None
+
+-- the command of some words, where they match a row
+abbrev pub command_of : List (List ℕ) → Option Command
+command_of (word ∷ []) = command_of_word word
+command_of _ = None

@@ -1,0 +1,103 @@
+//! How the program ends: a status, its cause, and the text of the cause.
+
+ghost use Rattle.std.specs.Prelude.{◌≡◌, ℕ, take, IfOk, string_bytes};
+ghost use Rattle.std.specs.Io.KnownBytes.{Appends};
+ghost use Rattle.srpnet.specs.Outcomes.{status_of as status_of_lem, err_text as err_text_lem, fixed_text as fixed_text_lem};
+ghost use Rattle.srpnet.specs.declared.outcome.Cause.TheVariants.{BadScenario};
+
+use srp_io::{Sink, WriteErr, write_whole};
+use std::alloc::{AllocError, Global};
+
+/// Why the program ends.
+#[derive(Clone, Copy, Debug, PartialEq, Eq)]
+pub enum Cause {
+    /// The input was read to its end and the output written whole. Status 0.
+    Done,
+    /// The words match no row of the table. Status 2.
+    BadWords,
+    /// The source counted a fault. Status 3.
+    ReadFault,
+    /// The input has more than 1,048,576 octets. Status 4.
+    TooLong,
+    /// The input isn't TOML. Status 5.
+    NotToml,
+    /// The first rule that the file breaks, with its first failing entry, 0 for the file as a whole.
+    /// Status 6.
+    BadScenario { rule: u8, entry: u32 },
+    /// The out sink counted a fault; exactly the first `written` octets of the output went out.
+    /// Status 7.
+    WriteFault { written: u64 },
+    /// Want of memory. Status 9.
+    NoMemory,
+}
+
+/// How the top call ends.
+#[derive(Clone, Copy, Debug, PartialEq, Eq)]
+pub struct Outcome {
+    /// The exit status.
+    pub status: u8,
+    pub cause: Cause,
+}
+
+/// The exit status of a cause.
+pub fn status_of(cause: Cause) -> u8
+    ensures { result ≡ status_of_lem cause }
+{
+    match cause {
+        Cause::Done => 0,
+        Cause::BadWords => 2,
+        Cause::ReadFault => 3,
+        Cause::TooLong => 4,
+        Cause::NotToml => 5,
+        Cause::BadScenario { .. } => 6,
+        Cause::WriteFault { .. } => 7,
+        Cause::NoMemory => 9,
+    }
+}
+
+/// The text of a cause that is the same at each time.
+fn fixed_text(cause: Cause) -> &'static str
+    ensures { result.now ≡ fixed_text_lem cause }
+{
+    match cause {
+        Cause::Done => "",
+        Cause::BadWords => "srpnet: bad words\n",
+        Cause::ReadFault => "srpnet: read fault\n",
+        Cause::TooLong => "srpnet: input too long\n",
+        Cause::NotToml => "srpnet: not TOML\n",
+        Cause::BadScenario { .. } => "",
+        Cause::WriteFault { .. } => "srpnet: write fault\n",
+        Cause::NoMemory => "srpnet: no memory\n",
+    }
+}
+
+/// The text that names a rule and an entry.
+fn rule_text(alloc: Global, rule: u8, entry: u32) -> Result<String, AllocError>
+    ensures { IfOk result (λ s. string_bytes s ≡ err_text_lem (BadScenario rule entry)) }
+{
+    format!(in alloc; "srpnet: rule {rule} entry {entry}\n")
+}
+
+/// Writes what it can of a text, and says how many octets went out.
+fn put<E: Sink>(err: &mut E, text: &[u8]) -> usize
+    ensures { Appends (E.held err.old) (E.held err.new) (take result text.now) }
+{
+    match write_whole(err, text) {
+        Ok(()) => text.len(),
+        Err(WriteErr::Fault { written }) => written as usize,
+        Err(WriteErr::NoMemory { written }) => written as usize,
+    }
+}
+
+/// Writes the text of a cause, as much as the sink takes, and says how many octets went out.
+pub fn tell<E: Sink>(alloc: Global, err: &mut E, cause: Cause) -> usize
+    ensures { Appends (E.held err.old) (E.held err.new) (take result (err_text_lem cause)) }
+{
+    match cause {
+        Cause::BadScenario { rule, entry } => match rule_text(alloc, rule, entry) {
+            Ok(text) => put(err, text.as_bytes()),
+            Err(_) => 0,
+        },
+        _ => put(err, fixed_text(cause).as_bytes()),
+    }
+}

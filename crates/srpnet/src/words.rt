@@ -1,0 +1,41 @@
+//! The words of the command line.
+
+ghost use Rattle.std.specs.Prelude.{◌≡◌};
+ghost use Rattle.srpnet.specs.Words.{command_of as command_of_lem, command_of_word};
+
+use srp_base::Seq;
+
+/// What the program can be asked to do, by a row of the table of words each.
+#[derive(Clone, Copy, Debug, PartialEq, Eq)]
+pub enum Command {
+    /// `ledger`: reads a ledger file and prints its bookings.
+    Ledger,
+    /// `--help`: prints a page of help.
+    Help,
+    /// `--version`: prints the version.
+    Version,
+}
+
+/// The command of the words; None exactly where they match no row. It takes no memory.
+pub fn command_of(words: &Seq<Seq<u8>>) -> Option<Command>
+    ensures { result ≡ command_of_lem words.now }
+{
+    match words.as_slice() {
+        [word] => command_of_word(word.as_slice()),
+        _ => None,
+    }
+}
+
+fn command_of_word(word: &[u8]) -> Option<Command>
+    ensures { result ≡ command_of_word word.now }
+{
+    if word == b"ledger".as_slice() {
+        Some(Command::Ledger)
+    } else if word == b"--help".as_slice() {
+        Some(Command::Help)
+    } else if word == b"--version".as_slice() {
+        Some(Command::Version)
+    } else {
+        None
+    }
+}
