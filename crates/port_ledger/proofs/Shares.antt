@@ -1,0 +1,68 @@
+-- The booked slopes stay within the caps.
+use Rattle.std.proofs.Common.{◌≡◌, ◌⊎◌, ℕ, ◌+◌, ◌≤◌, Bool, true, false, not, ◌==◌, ◌&&◌, cond, List, [], ◌∷◌, map, filter, sum_by, refl, sym, ◌∙◌, ap, subst, arith, inl, inr}
+use Rattle.std.specs.Prelude.{nat_le}
+use Rattle.std.specs.declared.cmp.Ordering.{Ordering}
+use Rattle.std.specs.declared.cmp.Ordering.TheVariants.{Less, Equal, Greater}
+use Rattle.std.specs.Ordering.{nat_cmp, is_lt, ordering_then}
+use Rattle.std.specs.List.{AllByRecursion}
+use Rattle.std.proofs.lemmas.Bool.{and_parts, leb-true}
+use Rattle.srp_base.specs.declared.bandwidth.Class.{Class}
+use Rattle.srp_base.specs.declared.bandwidth.Class.TheVariants.{A, B}
+use Rattle.stream_importance.specs.declared.entry.Entry.{Entry}
+use Rattle.stream_importance.specs.Bandwidth.{Caps, cap_of}
+use Rattle.stream_importance.specs.Importance.{class_number, rank_number, moment_or, is_more_important}
+use Rattle.port_ledger.specs.Decision.{stream_of, slope_of, goes_before, does_fit, marked, is_booked, booked_of, marks_of, IsDecision, AreOfDifferentStreams}
+use Rattle.port_ledger.specs.Book.{booked_slope}
+use Rattle.port_ledger.proofs.Running.{part, sum-filter, IsRanked, Runs}
+use Rattle.port_ledger.proofs.Ranking.{ranked, ranked_is_ranked, IsPermutation-ranked, part-IsPermutation}
+use Rattle.port_ledger.proofs.Marking.{choice, marked-map, marked-choice, holds_from_decision, ranked_runs}
+
+-- the entries of a class
+abbrev pub is_of : Class → Entry → Bool
+is_of class x = class_number x.want.class == class_number class
+
+-- of each entry one class has the slope
+class_parts : (class : Class) (slope : ℕ) (chosen : Bool) → cond chosen (cond (class_number class == 0) slope 0) 0 + cond chosen (cond (class_number class == 1) slope 0) 0 ≡ cond chosen slope 0
+class_parts A slope true = omega arith
+class_parts A slope false = omega arith
+class_parts B slope true = omega arith
+class_parts B slope false = omega arith
+
+-- a chosen one stays within its cap, so what is let in stays within the larger cap
+cap_within : (caps : Caps) (class : Class) → caps.class_a ≤ caps.both → cap_of caps class ≤ caps.both
+cap_within caps A h = h
+cap_within caps B h = omega arith
+
+step_within : (chosen : Bool) (sum slope cap most : ℕ) → chosen ≡ nat_le (sum + slope) cap → cap ≤ most → sum ≤ most → sum + cond chosen slope 0 ≤ most
+step_within true sum slope cap most e h k = omega (arith, leb-true (sum + slope) cap (sym e))
+step_within false sum slope cap most e h k = omega arith
+
+runs_both : (caps : Caps) (sum : ℕ) (b : Entry → Bool) (xs : List Entry) → caps.class_a ≤ caps.both → sum ≤ caps.both → Runs caps sum b xs → sum + (part b (is_of A) xs + part b (is_of B) xs) ≤ caps.both
+runs_both caps sum b [] shares h runs = omega (arith, h)
+runs_both caps sum b (x ∷ xs) shares h runs =
+    let next : sum + cond (b x) (slope_of x) 0 ≤ caps.both =
+      step_within (b x) sum (slope_of x) (cap_of caps x.want.class) caps.both runs.0 (cap_within caps x.want.class shares) h in
+    omega (arith, class_parts x.want.class (slope_of x) (b x), runs_both caps (sum + cond (b x) (slope_of x) 0) b xs shares next runs.1)
+
+-- after an entry of class B come only such
+not_a_after_b : (now : ℕ) (x y : Entry) (class other : Class) → x.want.class ≡ class → y.want.class ≡ other → class ≡ B → goes_before now y x ≡ true → other ≡ B
+not_a_after_b now x y class B e f g h = refl
+not_a_after_b now x y class A e f g h =
+    let lt : is_more_important now x y ≡ true = (and_parts (not (stream_of x == stream_of y)) (is_more_important now x y) h).1 in
+    let first : nat_cmp (class_number x.want.class) (class_number y.want.class) ≡ Greater =
+      ap (λ c. nat_cmp (class_number c) (class_number y.want.class)) (e ∙ g) ∙ ap (λ c. nat_cmp (class_number B) (class_number c)) f in
+    absurd (greater_isnt_less (nat_cmp (class_number x.want.class) (class_number y.want.class))
+      (ordering_then (nat_cmp (rank_number x.want.rank) (rank_number y.want.rank)) (ordering_then (nat_cmp (moment_or now x.since) (moment_or now y.since)) (nat_cmp (stream_of x) (stream_of y)))) first lt)
+  where
+    greater_isnt_less : (o rest : Ordering) → o ≡ Greater → is_lt (ordering_then o rest) ≡ true → ⊥
+    greater_isnt_less Less rest e h = cc
+    greater_isnt_less Equal rest e h = cc
+    greater_isnt_less Greater rest e h = cc
+
+none_of_a : (b : Entry → Bool) (xs : List Entry) → AllByRecursion (λ y. y.want.class ≡ B) xs → part b (is_of A) xs ≡ 0
+none_of_a b [] h = refl
+none_of_a b (x ∷ xs) h = ?
+
+runs_a : (now : ℕ) (caps : Caps) (sum : ℕ) (b : Entry → Bool) (xs : List Entry) → IsRanked now xs → sum ≤ caps.class_a → Runs caps sum b xs → sum + part b (is_of A) xs ≤ caps.class_a
+runs_a now caps sum b [] ranked h runs = omega (arith, h)
+runs_a now caps sum b (x ∷ xs) ranked h runs = ?
