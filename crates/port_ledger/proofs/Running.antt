@@ -67,11 +67,11 @@ not_itself now x =
       (not_from_true (stream_of x == stream_of x) (eq-eqb (stream_of x) (stream_of x) refl))
 
 -- an entry that goes before x counts where it is chosen, and another doesn't
-weight-no : (b g : Bool) (s : ℕ) → g ≡ false → cond b (cond g s 0) 0 ≡ 0
+pub weight-no : (b g : Bool) (s : ℕ) → g ≡ false → cond b (cond g s 0) 0 ≡ 0
 weight-no true g s h = cond-false g s 0 h
 weight-no false g s h = refl
 
-weight-yes : (b g : Bool) (s : ℕ) → g ≡ true → cond b (cond g s 0) 0 ≡ cond b s 0
+pub weight-yes : (b g : Bool) (s : ℕ) → g ≡ true → cond b (cond g s 0) 0 ≡ cond b s 0
 weight-yes true g s h = cond-true g s 0 h
 weight-yes false g s h = refl
 

@@ -13,7 +13,7 @@ use Rattle.stream_importance.specs.Bandwidth.{Caps, cap_of}
 use Rattle.stream_importance.specs.Importance.{class_number, rank_number, moment_or, is_more_important}
 use Rattle.port_ledger.specs.Decision.{stream_of, slope_of, goes_before, does_fit, marked, is_booked, booked_of, marks_of, IsDecision, AreOfDifferentStreams}
 use Rattle.port_ledger.specs.Book.{booked_slope}
-use Rattle.port_ledger.proofs.Running.{part, sum-filter, IsRanked, Runs}
+use Rattle.port_ledger.proofs.Running.{part, sum-filter, weight-no, weight-yes, IsRanked, Runs, all_with}
 use Rattle.port_ledger.proofs.Ranking.{ranked, ranked_is_ranked, IsPermutation-ranked, part-IsPermutation}
 use Rattle.port_ledger.proofs.Marking.{choice, marked-map, marked-choice, holds_from_decision, ranked_runs}
 
@@ -61,8 +61,50 @@ not_a_after_b now x y class A e f g h =
 
 none_of_a : (b : Entry → Bool) (xs : List Entry) → AllByRecursion (λ y. y.want.class ≡ B) xs → part b (is_of A) xs ≡ 0
 none_of_a b [] h = refl
-none_of_a b (x ∷ xs) h = ?
+none_of_a b (x ∷ xs) h =
+    let w : cond (b x) (cond (is_of A x) (slope_of x) 0) 0 ≡ 0 = weight-no (b x) (is_of A x) (slope_of x) (ap (λ c. class_number c == 0) h.0) in
+    omega (arith, w, none_of_a b xs h.1)
+
+either_class : (class : Class) → (class ≡ A) ⊎ (class ≡ B)
+either_class A = inl refl
+either_class B = inr refl
 
 runs_a : (now : ℕ) (caps : Caps) (sum : ℕ) (b : Entry → Bool) (xs : List Entry) → IsRanked now xs → sum ≤ caps.class_a → Runs caps sum b xs → sum + part b (is_of A) xs ≤ caps.class_a
 runs_a now caps sum b [] ranked h runs = omega (arith, h)
-runs_a now caps sum b (x ∷ xs) ranked h runs = ?
+runs_a now caps sum b (x ∷ xs) ranked h runs =
+    elim (either_class x.want.class)
+      [ inl e ↦
+          (let cap : cap_of caps x.want.class ≡ caps.class_a = ap (cap_of caps) e in
+           let next : sum + cond (b x) (slope_of x) 0 ≤ caps.class_a =
+             step_within (b x) sum (slope_of x) (cap_of caps x.want.class) caps.class_a runs.0 (omega (arith, cap)) h in
+           let w : cond (b x) (cond (is_of A x) (slope_of x) 0) 0 ≡ cond (b x) (slope_of x) 0 =
+             weight-yes (b x) (is_of A x) (slope_of x) (ap (λ c. class_number c == 0) e) in
+           omega (arith, w, runs_a now caps (sum + cond (b x) (slope_of x) 0) b xs ranked.1 next runs.1))
+      | inr e ↦
+          (let w : cond (b x) (cond (is_of A x) (slope_of x) 0) 0 ≡ 0 =
+             weight-no (b x) (is_of A x) (slope_of x) (ap (λ c. class_number c == 0) e) in
+           let rest : part b (is_of A) xs ≡ 0 =
+             none_of_a b xs (all_with xs ranked.0 ranked.0 (λ y before _. not_a_after_b now x y x.want.class y.want.class refl refl e before)) in
+           omega (arith, w, rest, h)) ]
+
+-- the booked slopes of a class, in the order of importance
+booked_slope-ranked : (now : ℕ) (caps : Caps) (xs : List Entry) (class : Class) → IsDecision now caps xs (marks_of xs) → booked_slope xs class ≡ part (choice now caps xs (marks_of xs)) (is_of class) (ranked now xs)
+booked_slope-ranked now caps xs class d =
+    let b : Entry → Bool = choice now caps xs (marks_of xs) in
+    let set : booked_of xs ≡ filter b xs = sym (marked-map is_booked xs) ∙ marked-choice now caps xs (marks_of xs) d in
+    ap (λ ys. sum_by slope_of (filter (is_of class) ys)) set
+    ∙ (sum-filter b (is_of class) xs ∙ sym (part-IsPermutation b (is_of class) xs (ranked now xs) (IsPermutation-ranked now xs)))
+
+pub record IsWithin (caps : Caps) (xs : List Entry) : Type 0 where
+  pub class_a : booked_slope xs A ≤ caps.class_a
+  pub both : booked_slope xs A + booked_slope xs B ≤ caps.both
+
+pub within_caps : (now : ℕ) (caps : Caps) (xs : List Entry) → AreOfDifferentStreams xs → caps.class_a ≤ caps.both → IsDecision now caps xs (marks_of xs) → IsWithin caps xs
+within_caps now caps xs different shares d =
+    let b : Entry → Bool = choice now caps xs (marks_of xs) in
+    let runs : Runs caps 0 b (ranked now xs) = ranked_runs now caps b xs different (holds_from_decision now caps xs (marks_of xs) d) in
+    let a : booked_slope xs A ≡ part b (is_of A) (ranked now xs) = booked_slope-ranked now caps xs A d in
+    let other : booked_slope xs B ≡ part b (is_of B) (ranked now xs) = booked_slope-ranked now caps xs B d in
+    record
+      { class_a = omega (arith, a, runs_a now caps 0 b (ranked now xs) (ranked_is_ranked now xs different) (omega arith) runs);
+        both = omega (arith, a, other, runs_both caps 0 b (ranked now xs) shares (omega arith) runs) }
