@@ -5,7 +5,8 @@ use Rattle.std.specs.List.{AllByRecursion}
 use Rattle.std.specs.List.Sorted.{IsPermutation}
 use Rattle.std.proofs.lemmas.List.Sorted.{IsPermutation-sym}
 use Rattle.stream_importance.specs.declared.entry.Entry.{Entry}
-use Rattle.stream_importance.specs.Bandwidth.{Caps, cap_of}
+use Rattle.stream_importance.specs.declared.slope.Caps.{Caps}
+use Rattle.stream_importance.specs.Bandwidth.{cap_of}
 use Rattle.port_ledger.specs.Decision.{stream_of, slope_of, above, does_fit, marked, IsDecision, AreOfDifferentStreams}
 use Rattle.port_ledger.specs.Pass.{is_among, taken}
 use Rattle.port_ledger.proofs.Running.{total, above-filter, Holds, Runs, IsRanked, holds_from_runs, runs_from_holds, runs_agree, all_with}

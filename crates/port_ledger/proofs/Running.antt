@@ -6,7 +6,8 @@ use Rattle.std.specs.List.{AllByRecursion}
 use Rattle.std.proofs.lemmas.List.Sums.{sum_by-cons}
 use Rattle.std.proofs.lemmas.Bool.{ne_eqb, eq-eqb, and_parts, and_left, and_right, and_from, false_from_ne_true, not_from_true, not_from_false, cond-false, cond-true, or_right, or_left}
 use Rattle.stream_importance.specs.declared.entry.Entry.{Entry}
-use Rattle.stream_importance.specs.Bandwidth.{Caps, cap_of}
+use Rattle.stream_importance.specs.declared.slope.Caps.{Caps}
+use Rattle.stream_importance.specs.Bandwidth.{cap_of}
 use Rattle.stream_importance.specs.Importance.{is_more_important}
 use Rattle.stream_importance.proofs.OrderLaws.{importance_strict, importance_compares}
 use Rattle.port_ledger.specs.Decision.{stream_of, slope_of, goes_before, above, does_fit, AreOfDifferentStreams}

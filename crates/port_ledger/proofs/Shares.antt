@@ -9,7 +9,8 @@ use Rattle.std.proofs.lemmas.Bool.{and_parts, leb-true}
 use Rattle.srp_base.specs.declared.bandwidth.Class.{Class}
 use Rattle.srp_base.specs.declared.bandwidth.Class.TheVariants.{A, B}
 use Rattle.stream_importance.specs.declared.entry.Entry.{Entry}
-use Rattle.stream_importance.specs.Bandwidth.{Caps, cap_of}
+use Rattle.stream_importance.specs.declared.slope.Caps.{Caps}
+use Rattle.stream_importance.specs.Bandwidth.{cap_of}
 use Rattle.stream_importance.specs.Importance.{class_number, rank_number, moment_or, is_more_important}
 use Rattle.port_ledger.specs.Decision.{stream_of, slope_of, goes_before, does_fit, marked, is_booked, booked_of, marks_of, IsDecision, AreOfDifferentStreams}
 use Rattle.port_ledger.specs.Book.{booked_slope}

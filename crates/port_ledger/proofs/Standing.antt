@@ -9,7 +9,8 @@ use Rattle.std.proofs.lemmas.Bool.{and_parts, and_from, cases_order, leb-false, 
 use Rattle.std.proofs.lemmas.Bool.Decides.{nat_tests}
 use Rattle.srp_base.specs.declared.numbers.Cs.{Cs}
 use Rattle.stream_importance.specs.declared.entry.Entry.{Entry}
-use Rattle.stream_importance.specs.Bandwidth.{Caps, cap_of}
+use Rattle.stream_importance.specs.declared.slope.Caps.{Caps}
+use Rattle.stream_importance.specs.Bandwidth.{cap_of}
 use Rattle.stream_importance.specs.Importance.{class_number, rank_number, moment_or, is_more_important}
 use Rattle.port_ledger.specs.Decision.{stream_of, slope_of, goes_before, above, does_fit, marked, IsDecision, is_booked, marks_of, since_after, settled, Decides}
 use Rattle.port_ledger.proofs.Running.{sum-filter-cons}

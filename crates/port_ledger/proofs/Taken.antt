@@ -4,7 +4,8 @@ use Rattle.std.specs.Prelude.{nat_le}
 use Rattle.std.specs.List.{AllByRecursion}
 use Rattle.std.proofs.lemmas.Bool.{ne_eqb, eq-eqb, or_from, or_left}
 use Rattle.stream_importance.specs.declared.entry.Entry.{Entry}
-use Rattle.stream_importance.specs.Bandwidth.{Caps, cap_of}
+use Rattle.stream_importance.specs.declared.slope.Caps.{Caps}
+use Rattle.stream_importance.specs.Bandwidth.{cap_of}
 use Rattle.port_ledger.specs.Decision.{stream_of, slope_of, AreOfDifferentStreams}
 use Rattle.port_ledger.specs.Pass.{is_among, taken}
 use Rattle.port_ledger.proofs.Running.{Runs, runs_like, all_with}

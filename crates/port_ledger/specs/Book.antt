@@ -8,7 +8,8 @@ use Rattle.stream_importance.specs.declared.entry.Entry.{Entry}
 use Rattle.stream_importance.specs.declared.entry.Want.{Want}
 use Rattle.stream_importance.specs.declared.entry.Fit.{Fit}
 use Rattle.stream_importance.specs.declared.entry.Fit.TheVariants.{Fits, TooLittle}
-use Rattle.stream_importance.specs.Bandwidth.{Caps, cap_of}
+use Rattle.stream_importance.specs.declared.slope.Caps.{Caps}
+use Rattle.stream_importance.specs.Bandwidth.{cap_of}
 use Rattle.stream_importance.specs.Importance.{class_number, rank_number, moment_or}
 use Rattle.port_ledger.specs.Decision.{stream_of, slope_of, above, does_fit, is_booked, booked_of, marks_of, IsAscending, IsDecision}
 

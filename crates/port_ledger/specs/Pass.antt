@@ -2,7 +2,8 @@
 use Rattle.std.specs.Prelude.{ℕ, ◌+◌, nat_le, List, [], ◌∷◌, if◌then◌else◌, Bool, ◌==◌}
 use Rattle.std.specs.List.{list_any}
 use Rattle.stream_importance.specs.declared.entry.Entry.{Entry}
-use Rattle.stream_importance.specs.Bandwidth.{Caps, cap_of}
+use Rattle.stream_importance.specs.declared.slope.Caps.{Caps}
+use Rattle.stream_importance.specs.Bandwidth.{cap_of}
 use Rattle.port_ledger.specs.Decision.{stream_of, slope_of}
 
 -- whether a stream is one of these

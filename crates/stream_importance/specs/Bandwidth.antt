@@ -4,7 +4,7 @@ use Rattle.srp_base.specs.declared.bandwidth.Rate.{Rate}
 use Rattle.srp_base.specs.declared.bandwidth.Class.{Class}
 use Rattle.srp_base.specs.declared.bandwidth.Class.TheVariants.{A, B}
 use Rattle.srp_base.specs.Bandwidth.{bits_of}
-pub use Rattle.stream_importance.specs.declared.slope.Caps.{Caps}
+use Rattle.stream_importance.specs.declared.slope.Caps.{Caps}
 
 -- the class measurement intervals in a second: 8,000 for class A, 4,000 for class B
 -- (IEEE Std 802.1Q-2018, 34.3, 34.4)

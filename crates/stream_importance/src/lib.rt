@@ -11,8 +11,8 @@
 //! ```
 //!
 //! The contracts say that a slope is that of the frames with their overhead, that the caps are the
-//! shares of the rate, and that importance is the lexicographic order of those four. Three laws say that it is a strict order in which any two
-//! entries of different streams compare.
+//! shares of the rate, and that importance is the lexicographic order of those four. Three laws say
+//! that it is a strict order in which any two entries of different streams compare.
 #![tactic(auto)]
 
 pub mod entry;
@@ -21,7 +21,8 @@ pub mod slope;
 
 pub use entry::{Entry, Fit, Want};
 pub use order::{
-    importance_is_strict, importance_is_total, importance_is_transitive, more_important,
+    compare_importance, importance_is_strict, importance_is_total, importance_is_transitive,
+    more_important,
 };
 pub use slope::{Caps, slope_of};
 
