@@ -1,3 +1,4 @@
+pub mod Finding
 pub mod Marking
 pub mod Ranking
 pub mod Running
