@@ -83,15 +83,15 @@ missing_is xs stream i low high =
         (λ f. elim (cases_lt k i) [ inl below ↦ omega (arith, low k blank (omega arith) below, f) | inr over ↦ omega (arith, high k blank over l, f) ]))
 
 -- the first place of a list with a want, by how its StreamID compares
-with_want-lower : (x : Entry) (xs : List Entry) (want : Want) → want.stream.0 < stream_of x → with_want (x ∷ xs) want ≡ unbooked want ∷ x ∷ xs
+pub with_want-lower : (x : Entry) (xs : List Entry) (want : Want) → want.stream.0 < stream_of x → with_want (x ∷ xs) want ≡ unbooked want ∷ x ∷ xs
 with_want-lower x xs want l = cond-true (nat_lt want.stream.0 (stream_of x)) _ _ (lt-ltb want.stream.0 (stream_of x) l)
 
-with_want-same : (x : Entry) (xs : List Entry) (want : Want) → stream_of x ≡ want.stream.0 → with_want (x ∷ xs) want ≡ entry_with x want ∷ xs
+pub with_want-same : (x : Entry) (xs : List Entry) (want : Want) → stream_of x ≡ want.stream.0 → with_want (x ∷ xs) want ≡ entry_with x want ∷ xs
 with_want-same x xs want e =
     cond-false (nat_lt want.stream.0 (stream_of x)) _ _ (le-ltb want.stream.0 (stream_of x) (omega (arith, e)))
     ∙ cond-true (want.stream.0 == stream_of x) _ _ (eq-eqb want.stream.0 (stream_of x) (sym e))
 
-with_want-higher : (x : Entry) (xs : List Entry) (want : Want) → stream_of x < want.stream.0 → with_want (x ∷ xs) want ≡ x ∷ with_want xs want
+pub with_want-higher : (x : Entry) (xs : List Entry) (want : Want) → stream_of x < want.stream.0 → with_want (x ∷ xs) want ≡ x ∷ with_want xs want
 with_want-higher x xs want l =
     cond-false (nat_lt want.stream.0 (stream_of x)) _ _ (le-ltb want.stream.0 (stream_of x) (omega (arith, l)))
     ∙ cond-false (want.stream.0 == stream_of x) _ _ (ne_eqb want.stream.0 (stream_of x) (λ e. omega (arith, e, l)))

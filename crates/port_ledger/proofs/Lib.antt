@@ -1,4 +1,5 @@
 pub mod Finding
+pub mod Keeping
 pub mod Marking
 pub mod Ranking
 pub mod Running

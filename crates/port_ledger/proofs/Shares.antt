@@ -13,10 +13,10 @@ use Rattle.stream_importance.specs.declared.slope.Caps.{Caps}
 use Rattle.stream_importance.specs.Bandwidth.{cap_of}
 use Rattle.stream_importance.specs.Importance.{class_number, rank_number, moment_or, is_more_important}
 use Rattle.port_ledger.specs.Decision.{stream_of, slope_of, goes_before, does_fit, marked, is_booked, booked_of, marks_of, IsDecision, AreOfDifferentStreams}
-use Rattle.port_ledger.specs.Book.{booked_slope}
+use Rattle.port_ledger.specs.Book.{Book, IsKept, booked_slope}
 use Rattle.port_ledger.proofs.Running.{part, sum-filter, weight-no, weight-yes, IsRanked, Runs, all_with}
 use Rattle.port_ledger.proofs.Ranking.{ranked, ranked_is_ranked, IsPermutation-ranked, part-IsPermutation}
-use Rattle.port_ledger.proofs.Marking.{choice, marked-map, marked-choice, holds_from_decision, ranked_runs}
+use Rattle.port_ledger.proofs.Marking.{choice, different_from_ascending, marked-map, marked-choice, holds_from_decision, ranked_runs}
 
 -- the entries of a class
 abbrev pub is_of : Class → Entry → Bool
@@ -109,3 +109,6 @@ within_caps now caps xs different shares d =
     record
       { class_a = omega (arith, a, runs_a now caps 0 b (ranked now xs) (ranked_is_ranked now xs different) (omega arith) runs);
         both = omega (arith, a, other, runs_both caps 0 b (ranked now xs) shares (omega arith) runs) }
+
+pub book_within : (book : Book) → IsKept book → IsWithin book.caps book.entries
+book_within book kept = within_caps book.moment book.caps book.entries (different_from_ascending book.entries kept.ascending) kept.shares kept.decision

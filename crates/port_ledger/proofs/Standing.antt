@@ -13,6 +13,7 @@ use Rattle.stream_importance.specs.declared.slope.Caps.{Caps}
 use Rattle.stream_importance.specs.Bandwidth.{cap_of}
 use Rattle.stream_importance.specs.Importance.{class_number, rank_number, moment_or, is_more_important}
 use Rattle.port_ledger.specs.Decision.{stream_of, slope_of, goes_before, above, does_fit, marked, IsDecision, is_booked, marks_of, since_after, settled, Decides}
+use Rattle.port_ledger.specs.Book.{Book, IsKept}
 use Rattle.port_ledger.proofs.Running.{sum-filter-cons}
 
 -- a later moment of the other entry makes nothing less important than it was
@@ -129,3 +130,7 @@ decision_later now later caps xs up h d =
 pub decision_settled : (now : ℕ) (caps : Caps) (before after : List Entry) → AllByRecursion (λ x. moment_or now x.since ≤ now) before → Decides now caps before after → IsDecision now caps after (marks_of after)
 decision_settled now caps before after h d =
     subst (λ (ys : List Entry). IsDecision now caps ys (marks_of after)) (sym d.moments) (decision_stands now now caps before (marks_of after) h d.decision)
+
+-- the booked set of a ledger is decided at every later moment
+pub book_stands : (book : Book) → IsKept book → (later : ℕ) → book.moment ≤ later → IsDecision later book.caps book.entries (marks_of book.entries)
+book_stands book kept later up = decision_later book.moment later book.caps book.entries up kept.moments kept.decision

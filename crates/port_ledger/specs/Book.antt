@@ -71,13 +71,14 @@ abbrev pub booked_slope : List Entry → Class → ℕ
 booked_slope entries class =
     sum_by slope_of (filter (λ x. class_number x.want.class == class_number class) (booked_of entries))
 
+-- the moment of an entry that has this same want
+abbrev pub since_if_same : Entry → Want → Option Cs
+since_if_same x want = if same_want x.want want then x.since else None
+
 -- the entry as which a want is tested: with the moment of the stream's entry where that has this same want
 abbrev pub tested_as : List Entry → Want → Entry
 tested_as entries want =
-    record {
-      want = want;
-      since = option_and_then (λ x. if same_want x.want want then x.since else None) (entry_of entries want.stream);
-    }
+    record { want = want; since = option_and_then (λ x. since_if_same x want) (entry_of entries want.stream) }
 
 abbrev pub is_normal : Entry → Bool
 is_normal x = rank_number x.want.rank == 1

@@ -20,8 +20,20 @@ pub struct Changed {
     pub dropped: Seq<StreamId>,
 }
 
+/// What changed in the booked set between two lists of entries.
+pub(crate) fn changes(alloc: Global, before: &[Entry], after: &[Entry]) -> Result<Changed, NoMemory>
+    requires before { IsAscending before.now }
+    requires after { IsAscending after.now }
+    ensures booked { IfOk result (λ c. c.booked ≡ booked_only_in after.now before.now) }
+    ensures dropped { IfOk result (λ c. c.dropped ≡ booked_only_in before.now after.now) }
+{
+    let booked = booked_only_in(alloc, after, before)?;
+    let dropped = booked_only_in(alloc, before, after)?;
+    Ok(Changed { booked, dropped })
+}
+
 /// The streams, ascending, whose booked entry is in these and not in those.
-pub(crate) fn booked_only_in(alloc: Global, these: &[Entry], those: &[Entry]) -> Result<Seq<StreamId>, NoMemory>
+fn booked_only_in(alloc: Global, these: &[Entry], those: &[Entry]) -> Result<Seq<StreamId>, NoMemory>
     requires { IsAscending those.now }
     ensures { IfOk result (λ s. s ≡ booked_only_in these.now those.now) }
 {

@@ -4,19 +4,43 @@
 ghost use Rattle.std.specs.Prelude.{◌≡◌, ◌^◌, ◌<◌, map, IfOk, OnOk, OnErr};
 ghost use Rattle.std.specs.List.Sorted.{IsPermutation, IsSortedBy, IsNonDecreasing};
 ghost use Rattle.stream_importance.specs.Importance.{is_more_important};
+ghost use Rattle.port_ledger.specs.Book.{with_want};
 ghost use Rattle.port_ledger.specs.Decision.{Decides, IsAscending, settled, since_after, stream_of};
 ghost use Rattle.port_ledger.specs.Pass.{is_among, taken};
 
+use crate::entries::entries_with;
 use srp_base::{Cs, NoMemory};
 use std::alloc::Global;
-use stream_importance::{Caps, Entry, compare_importance};
+use stream_importance::{Caps, Entry, Want, compare_importance};
+
+/// The entries once this want has come and they are decided at a moment.
+pub fn decided_with(
+    alloc: Global,
+    now: Cs,
+    caps: &Caps,
+    entries: &[Entry],
+    want: Want,
+) -> Result<Vec<Entry>, NoMemory>
+    requires { IsAscending entries.now }
+    ensures decided { IfOk result (λ v. Decides now.0 caps.now (with_want entries.now want) v.items) }
+    ensures ascending { IfOk result (λ v. IsAscending v.items) }
+{
+    let mut next = entries_with(alloc, entries, want)?;
+    decide(alloc, now, caps, &mut next)?;
+    Ok(next)
+}
 
 /// Decides the entries at a moment: those that are booked keep their moment or get this one, the others
 /// have none. After want of memory they are as they were.
-pub fn decide(alloc: Global, now: Cs, caps: &Caps, entries: &mut [Entry]) -> Result<(), NoMemory>
-    requires { IsAscending entries.old }
-    ensures ok { OnOk result (Decides now.0 caps.now entries.old entries.new) }
-    ensures err { OnErr result (entries.new ≡ entries.old) }
+fn decide(
+    alloc: Global,
+    now: Cs,
+    caps: &Caps,
+    entries: &mut Vec<Entry>,
+) -> Result<(), NoMemory>
+    requires { IsAscending entries.old.items }
+    ensures ok { OnOk result (Decides now.0 caps.now entries.old.items entries.new.items) }
+    ensures err { OnErr result (entries.new.items ≡ entries.old.items) }
 {
     let order = by_importance(alloc, now, entries)?;
     let streams = taken(alloc, caps, &order)?;

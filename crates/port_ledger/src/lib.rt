@@ -20,7 +20,10 @@
 pub mod changed;
 mod decide;
 mod entries;
-
+mod fit;
+pub mod laws;
+pub mod ledger;
 
 pub use changed::Changed;
-
+pub use laws::one_decision;
+pub use ledger::Ledger;
