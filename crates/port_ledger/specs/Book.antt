@@ -8,7 +8,8 @@ use Rattle.stream_importance.specs.declared.entry.Entry.{Entry}
 use Rattle.stream_importance.specs.declared.entry.Want.{Want}
 use Rattle.stream_importance.specs.declared.entry.Fit.{Fit}
 use Rattle.stream_importance.specs.declared.entry.Fit.TheVariants.{Fits, TooLittle}
-use Rattle.stream_importance.specs.Bandwidth.{Caps, cap_of}
+use Rattle.stream_importance.specs.declared.slope.Caps.{Caps}
+use Rattle.stream_importance.specs.Bandwidth.{cap_of}
 use Rattle.stream_importance.specs.Importance.{class_number, rank_number, moment_or}
 use Rattle.port_ledger.specs.Decision.{stream_of, slope_of, above, does_fit, is_booked, booked_of, marks_of, IsAscending, IsDecision}
 
@@ -43,16 +44,22 @@ same_entry x y = same_want x.want y.want && same_since x.since y.since
 abbrev pub entry_of : List Entry → StreamId → Option Entry
 entry_of entries stream = find (λ x. stream_of x == stream.0) entries
 
--- the entries once a want has come: in the place of the stream's entry where that has another want, and
--- in the order of StreamIDs where the stream has none; the same want again changes nothing
+-- a want that isn't booked
+abbrev pub unbooked : Want → Entry
+unbooked want = record { want = want; since = None }
+
+-- a stream's entry once this want of the stream has come: the same want again changes nothing, and
+-- another one takes the entry's place with no moment
+abbrev pub entry_with : Entry → Want → Entry
+entry_with x want = if same_want x.want want then x else unbooked want
+
+-- the entries once a want has come, which is added where its stream has no entry
 abbrev pub with_want : List Entry → Want → List Entry
-with_want [] want = record { want = want; since = None } ∷ []
+with_want [] want = unbooked want ∷ []
 with_want (x ∷ xs) want =
     if nat_lt want.stream.0 (stream_of x)
-    then record { want = want; since = None } ∷ x ∷ xs
-    else if want.stream.0 == stream_of x
-    then (if same_want x.want want then x else record { want = want; since = None }) ∷ xs
-    else x ∷ with_want xs want
+    then unbooked want ∷ x ∷ xs
+    else if want.stream.0 == stream_of x then entry_with x want ∷ xs else x ∷ with_want xs want
 
 -- the streams, ascending, whose booked entry with its want and its moment is in these and not in those
 abbrev pub booked_only_in : List Entry → List Entry → List StreamId
@@ -64,13 +71,14 @@ abbrev pub booked_slope : List Entry → Class → ℕ
 booked_slope entries class =
     sum_by slope_of (filter (λ x. class_number x.want.class == class_number class) (booked_of entries))
 
+-- the moment of an entry that has this same want
+abbrev pub since_if_same : Entry → Want → Option Cs
+since_if_same x want = if same_want x.want want then x.since else None
+
 -- the entry as which a want is tested: with the moment of the stream's entry where that has this same want
 abbrev pub tested_as : List Entry → Want → Entry
 tested_as entries want =
-    record {
-      want = want;
-      since = option_and_then (λ x. if same_want x.want want then x.since else None) (entry_of entries want.stream);
-    }
+    record { want = want; since = option_and_then (λ x. since_if_same x want) (entry_of entries want.stream) }
 
 abbrev pub is_normal : Entry → Bool
 is_normal x = rank_number x.want.rank == 1

@@ -3,7 +3,8 @@ use Rattle.std.specs.Prelude.{ℕ, ◌+◌, ◌<◌, ◌≡◌, ◌≢◌, Bool,
 use Rattle.std.specs.List.{AllByRecursion}
 use Rattle.srp_base.specs.declared.numbers.Cs.{Cs}
 use Rattle.stream_importance.specs.declared.entry.Entry.{Entry}
-use Rattle.stream_importance.specs.Bandwidth.{Caps, cap_of}
+use Rattle.stream_importance.specs.declared.slope.Caps.{Caps}
+use Rattle.stream_importance.specs.Bandwidth.{cap_of}
 use Rattle.stream_importance.specs.Importance.{moment_or, is_more_important}
 
 -- the StreamID of an entry, as a number

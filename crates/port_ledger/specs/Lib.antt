@@ -1,2 +1,3 @@
 pub mod Book
 pub mod Decision
+pub mod Pass

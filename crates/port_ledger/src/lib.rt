@@ -1,16 +1,29 @@
-//! The bookings of one egress port: which of the streams that want the port are booked.
+//! The bookings of one egress port: which of the streams that want the port are booked, and since when
+//! (IEEE Std 802.1Q-2018, 34.3, 35.2.2.8).
+//!
+//! ```text
+//! want(now, want) --> the wanting streams, ascending by StreamID
+//!                       |  in the order of importance: class A, rank 0, the earlier booking, the lower StreamID
+//!                       |  each is booked where the booked ones before it leave room under its cap
+//!                       v
+//!                     Changed { booked, dropped }
+//! ```
+//!
+//! Contracts see a ledger as a `Book`: its caps, the last moment that was handed to it, and the entries.
+//! The booked set is stated as a condition on a set, and not as a way to find it: an entry is booked
+//! exactly where the slopes of the booked entries of other streams that are more important, with its
+//! own, stay at or under its cap. There is exactly one such set (`one_decision`), and it stays the same
+//! as time passes (`Ledger::stands`). So at every moment the booked slopes stay within the caps
+//! (`Ledger::within_caps`). No order of the entries but that of StreamIDs stands in a contract.
 #![tactic(auto)]
 
-ghost use Rattle.port_ledger.specs.Book.{Book, IsKept, with_want, booked_only_in, booked_slope, tested_as, fit_in};
-ghost use Rattle.port_ledger.specs.Decision.{IsDecision, Decides};
+pub mod changed;
+mod decide;
+mod entries;
+mod fit;
+pub mod laws;
+pub mod ledger;
 
-use srp_base::{Seq, StreamId};
-
-/// What a call changed in the booked set, each list ascending.
-#[derive(Debug, PartialEq, Eq, Drop)]
-pub struct Changed {
-    /// The streams whose booking, with its want and its moment, is new.
-    pub booked: Seq<StreamId>,
-    /// The streams whose earlier booking is gone. A stream that is booked anew stands in both.
-    pub dropped: Seq<StreamId>,
-}
+pub use changed::Changed;
+pub use laws::one_decision;
+pub use ledger::Ledger;

@@ -4,6 +4,7 @@ use Rattle.srp_base.specs.declared.bandwidth.Rate.{Rate}
 use Rattle.srp_base.specs.declared.bandwidth.Class.{Class}
 use Rattle.srp_base.specs.declared.bandwidth.Class.TheVariants.{A, B}
 use Rattle.srp_base.specs.Bandwidth.{bits_of}
+use Rattle.stream_importance.specs.declared.slope.Caps.{Caps}
 
 -- the class measurement intervals in a second: 8,000 for class A, 4,000 for class B
 -- (IEEE Std 802.1Q-2018, 34.3, 34.4)
@@ -16,12 +17,8 @@ intervals_of B = 4000
 abbrev pub slope_of_frames : Class → ℕ → ℕ → ℕ
 slope_of_frames class max_frame frames = frames * (max_frame + 42) * 8 * intervals_of class
 
--- what a port's booked slopes may come to, in bit/s: those of class A, and those of both classes
-pub record Caps : Type 0 where
-  pub class_a : ℕ
-  pub both : ℕ
-
--- the caps of a port of this rate with these shares in percent (34.3)
+-- the caps of a port of this rate with these shares in percent, in bit/s: of class A, and of both
+-- classes together (34.3)
 abbrev pub caps_of : Rate → ℕ → ℕ → Caps
 caps_of rate delta_a delta_b =
     record { class_a = delta_a * bits_of rate / 100; both = (delta_a + delta_b) * bits_of rate / 100 }

@@ -2,16 +2,17 @@
 //! port is more important (IEEE Std 802.1Q-2018, 34.3, 34.4, 35.2.2.8).
 //!
 //! ```text
-//! max_frame, frames --slope_of--> Want { stream, class, rank, slope }     in bit/s
+//! max_frame, frames --slope_of--> Want { stream, class, rank, slope }    in bit/s
+//! rate, deltas --Caps::new------> Caps { class_a, both }                 in bit/s
 //!                                   |
-//!                                 Entry { want, since }                   booked since a moment, or not
+//!                                 Entry { want, since }                  booked since a moment, or not
 //!                                   |
-//!                       more_important(now, x, y)    class A, rank 0, the earlier booking, the lower StreamID
+//!                       more_important(now, x, y)   class A, rank 0, the earlier booking, the lower StreamID
 //! ```
 //!
-//! The contracts say that a slope is that of the frames with their overhead, and that importance is
-//! the lexicographic order of those four. Three laws say that it is a strict order in which any two
-//! entries of different streams compare.
+//! The contracts say that a slope is that of the frames with their overhead, that the caps are the
+//! shares of the rate, and that importance is the lexicographic order of those four. Three laws say
+//! that it is a strict order in which any two entries of different streams compare.
 #![tactic(auto)]
 
 pub mod entry;
@@ -20,6 +21,10 @@ pub mod slope;
 
 pub use entry::{Entry, Fit, Want};
 pub use order::{
-    importance_is_strict, importance_is_total, importance_is_transitive, more_important,
+    compare_importance, importance_is_strict, importance_is_total, importance_is_transitive,
+    more_important,
 };
-pub use slope::slope_of;
+pub use slope::{Caps, slope_of};
+
+#[cfg(test)]
+mod tests;

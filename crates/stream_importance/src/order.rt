@@ -3,7 +3,7 @@
 ghost use Rattle.std.specs.Prelude.{◌≡◌, ◌≢◌, ◌⊎◌, ℕ, IsTrue};
 ghost use Rattle.std.specs.Ordering.{nat_cmp};
 ghost use Rattle.stream_importance.specs.declared.entry.Entry.{Entry};
-ghost use Rattle.stream_importance.specs.Importance.{class_number, is_more_important, moment_or, rank_number};
+ghost use Rattle.stream_importance.specs.Importance.{class_number, compare_importance, is_more_important, moment_or, rank_number};
 
 use crate::entry::Entry;
 use srp_base::{Class, Cs, Rank};
@@ -15,11 +15,17 @@ use std::cmp::Ordering;
 pub fn more_important(now: Cs, x: &Entry, y: &Entry) -> bool
     ensures { result ≡ is_more_important now.0 x.now y.now }
 {
+    compare_importance(now, x, y).is_lt()
+}
+
+/// How two entries compare at the moment `now`, in cs: `Less` where `x` is more important than `y`.
+pub fn compare_importance(now: Cs, x: &Entry, y: &Entry) -> Ordering
+    ensures { result ≡ compare_importance now.0 x.now y.now }
+{
     by_class(x, y)
         .then(by_rank(x, y))
         .then(by_age(now, x, y))
         .then(x.want.stream.cmp(&y.want.stream))
-        .is_lt()
 }
 
 fn by_class(x: &Entry, y: &Entry) -> Ordering

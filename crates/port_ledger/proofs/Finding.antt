@@ -1,0 +1,150 @@
+-- Where a stream stands in a list that ascends by StreamID, and whether it is among chosen ones.
+use Rattle.std.proofs.Common.{◌≡◌, ◌≢◌, ◌⊎◌, ℕ, zero, suc, ◌+◌, ◌-◌, ◌<◌, ◌≤◌, Bool, true, false, ◌==◌, ◌||◌, ◌&&◌, cond, List, [], ◌∷◌, ◌++◌, length, get_or, take, drop, set, map, Option, Some, None, Result, Ok, Err, is_ok, refl, sym, ◌∙◌, ap, subst, arith, inl, inr, IfOk, IfErr}
+use Rattle.std.specs.Prelude.{find, MatchResult, nat_lt}
+use Rattle.std.specs.Ordering.{nat_cmp, is_lt, ordering_index}
+use Rattle.std.specs.declared.cmp.Ordering.{Ordering}
+use Rattle.std.specs.declared.cmp.Ordering.TheVariants.{Less, Equal, Greater}
+use Rattle.std.specs.List.{AllByRecursion, All, AllWithin, HoldsAt, list_any}
+use Rattle.std.specs.List.Sorted.{IsNonDecreasing, IsNonDecreasingBy, IsBinarySearchResult, IsSearchInRange, IsSortedBy}
+use Rattle.std.proofs.lemmas.Bool.{eq-eqb, ne_eqb, cases_lt, cases_Bool, eqb-true, eqb-false, lt-ltb, le-ltb, or_left, or_right, or_from, and_left, cond-true, cond-false}
+use Rattle.std.proofs.lemmas.Bool.Decides.{nat_tests}
+use Rattle.std.proofs.lemmas.Cmp.{nat_cmp_total}
+use Rattle.std.proofs.lemmas.List.Recursion.{or_at, or_is, found_at, found_nowhere}
+use Rattle.std.proofs.lemmas.List.Sorted.{searched, searchable_from_sorted}
+use Rattle.std.proofs.lemmas.List.Elements.{All-from_recursion}
+use Rattle.srp_base.specs.declared.bandwidth.Class.TheVariants.{A}
+use Rattle.srp_base.specs.declared.bandwidth.Rank.TheVariants.{Emergency}
+use Rattle.stream_importance.specs.declared.entry.Entry.{Entry}
+use Rattle.stream_importance.specs.declared.entry.Want.{Want}
+use Rattle.stream_importance.specs.Importance.{class_number, rank_number}
+use Rattle.port_ledger.specs.Decision.{stream_of, IsAscending}
+use Rattle.port_ledger.specs.Book.{entry_of, entry_with, unbooked, with_want, same_want, same_since, same_entry}
+use Rattle.port_ledger.specs.Pass.{is_among}
+
+-- what a binary search over ascending numbers answers
+pub among_found : (xs : List ℕ) (x : ℕ) (r : Result ℕ ℕ) → IsNonDecreasing xs → IsBinarySearchResult (λ y. nat_cmp y x) xs r → is_ok r ≡ is_among xs x
+among_found xs x (Ok i) up h =
+    let s : (i < length xs) × (get_or xs i 0 ≡ x) = searched xs x (Ok i) h (λ i j a b. up i j 0 a b) in
+    sym (or_at (list_any (λ s. s == x)) (λ s. s == x) refl (λ _ _. refl) xs i 0 s.0 (eq-eqb (get_or xs i 0) x s.1))
+among_found xs x (Err i) up h =
+    let s : (i ≤ length xs) × ((k : ℕ) → k < i → get_or xs k 0 < x) × ((k : ℕ) → i ≤ k → k < length xs → x < get_or xs k 0) =
+      searched xs x (Err i) h (λ i j a b. up i j 0 a b) in
+    or_is (list_any (λ s. s == x)) (λ s. s == x) refl (λ _ _. refl) xs 0 false (λ e. absurd (let k : false ≡ true = e in cc))
+      (λ _ k l. ne_eqb (get_or xs k 0) x
+        (λ e. elim (cases_lt k i) [ inl below ↦ omega (arith, s.1 k below, e) | inr over ↦ omega (arith, s.2 k over l, e) ]))
+
+-- of two places the earlier has the lower StreamID
+pub ascending_at : (xs : List Entry) → IsAscending xs → (i j : ℕ) (d : Entry) → i < j → j < length xs → stream_of (get_or xs i d) < stream_of (get_or xs j d)
+ascending_at [] up i j d l k = absurd (omega (arith, k))
+ascending_at (x ∷ xs) up i zero d l k = absurd (omega (arith, l))
+ascending_at (x ∷ xs) up zero (suc j) d l k = All-from_recursion (λ y. stream_of x < stream_of y) xs up.0 j d (omega (arith, k))
+ascending_at (x ∷ xs) up (suc i) (suc j) d l k = ascending_at xs up.1 i j d (omega (arith, l)) (omega (arith, k))
+
+sorted_from_ascending : (xs : List Entry) → IsAscending xs → IsSortedBy (λ a b. is_lt (nat_cmp (stream_of a) (stream_of b))) xs
+sorted_from_ascending xs up k d low high =
+    let l : stream_of (get_or xs k d) < stream_of (get_or xs (k + 1) d) = ascending_at xs up k (k + 1) d (omega arith) high in
+    grind (arith, nat_tests)
+
+equal_is : (a b : ℕ) → nat_cmp a b ≡ Equal → a ≡ b
+equal_is a b h = grind (arith, nat_tests)
+
+less_is : (a b : ℕ) → nat_cmp a b ≡ Less → a < b
+less_is a b h = grind (arith, nat_tests)
+
+greater_is : (a b : ℕ) → nat_cmp a b ≡ Greater → b < a
+greater_is a b h = grind (arith, nat_tests)
+
+pub place_found : (xs : List Entry) (stream : ℕ) (r : Result ℕ ℕ) → IsSearchInRange r (length xs) → IsBinarySearchResult (λ y. nat_cmp (stream_of y) stream) xs r → IfOk r (λ i. (i < length xs) × HoldsAt (λ x. stream_of x ≡ stream) xs i)
+place_found xs stream (Ok i) range h = (range, λ d. equal_is (stream_of (get_or xs i d)) stream (h d))
+place_found xs stream (Err i) range h = tt
+
+pub place_missing : (xs : List Entry) (stream : ℕ) (r : Result ℕ ℕ) → IsAscending xs → IsSearchInRange r (length xs) → IsBinarySearchResult (λ y. nat_cmp (stream_of y) stream) xs r → IfErr r (λ i. (i ≤ length xs) × AllWithin (λ x. stream_of x < stream) xs 0 i × AllWithin (λ x. stream < stream_of x) xs i (length xs))
+place_missing xs stream (Ok i) up range h = tt
+place_missing xs stream (Err i) up range h =
+    let split : AllWithin (λ y. nat_cmp (stream_of y) stream ≡ Less) xs 0 i × AllWithin (λ y. nat_cmp (stream_of y) stream ≡ Greater) xs i (length xs) =
+      h (searchable_from_sorted nat_cmp_total stream_of xs stream (sorted_from_ascending xs up)) in
+    (range, (λ k d a b. less_is (stream_of (get_or xs k d)) stream (split.0 k d a b)), (λ k d a b. greater_is (stream_of (get_or xs k d)) stream (split.1 k d a b)))
+
+-- an entry that is read of no list
+blank : Entry
+blank = record { want = record { stream = record { 0 = 0 }; class = A; rank = Emergency; slope = 0 }; since = None }
+
+-- the stream's entry is the one at that place
+pub found_is : (xs : List Entry) (stream i : ℕ) (d : Entry) → IsAscending xs → i < length xs → stream_of (get_or xs i d) ≡ stream → find (λ x. stream_of x == stream) xs ≡ Some (get_or xs i d)
+found_is xs stream i d up l e =
+    found_at (find (λ x. stream_of x == stream)) (λ x. stream_of x == stream) (λ x. Some x) None refl (λ _ _. refl) xs i d l
+      (λ k below. ne_eqb (stream_of (get_or xs k d)) stream (λ f. omega (arith, ascending_at xs up k i d below l, e, f)))
+      (eq-eqb (stream_of (get_or xs i d)) stream e)
+
+pub missing_is : (xs : List Entry) (stream i : ℕ) → AllWithin (λ x. stream_of x < stream) xs 0 i → AllWithin (λ x. stream < stream_of x) xs i (length xs) → find (λ x. stream_of x == stream) xs ≡ None
+missing_is xs stream i low high =
+    found_nowhere (find (λ x. stream_of x == stream)) (λ x. stream_of x == stream) (λ x. Some x) None refl (λ _ _. refl) xs blank
+      (λ k l. ne_eqb (stream_of (get_or xs k blank)) stream
+        (λ f. elim (cases_lt k i) [ inl below ↦ omega (arith, low k blank (omega arith) below, f) | inr over ↦ omega (arith, high k blank over l, f) ]))
+
+-- the first place of a list with a want, by how its StreamID compares
+pub with_want-lower : (x : Entry) (xs : List Entry) (want : Want) → want.stream.0 < stream_of x → with_want (x ∷ xs) want ≡ unbooked want ∷ x ∷ xs
+with_want-lower x xs want l = cond-true (nat_lt want.stream.0 (stream_of x)) _ _ (lt-ltb want.stream.0 (stream_of x) l)
+
+pub with_want-same : (x : Entry) (xs : List Entry) (want : Want) → stream_of x ≡ want.stream.0 → with_want (x ∷ xs) want ≡ entry_with x want ∷ xs
+with_want-same x xs want e =
+    cond-false (nat_lt want.stream.0 (stream_of x)) _ _ (le-ltb want.stream.0 (stream_of x) (omega (arith, e)))
+    ∙ cond-true (want.stream.0 == stream_of x) _ _ (eq-eqb want.stream.0 (stream_of x) (sym e))
+
+pub with_want-higher : (x : Entry) (xs : List Entry) (want : Want) → stream_of x < want.stream.0 → with_want (x ∷ xs) want ≡ x ∷ with_want xs want
+with_want-higher x xs want l =
+    cond-false (nat_lt want.stream.0 (stream_of x)) _ _ (le-ltb want.stream.0 (stream_of x) (omega (arith, l)))
+    ∙ cond-false (want.stream.0 == stream_of x) _ _ (ne_eqb want.stream.0 (stream_of x) (λ e. omega (arith, e, l)))
+
+-- a want at the place of its stream's entry
+pub with_want-found : (xs : List Entry) (want : Want) (i : ℕ) (d : Entry) → IsAscending xs → i < length xs → stream_of (get_or xs i d) ≡ want.stream.0 → set xs i (entry_with (get_or xs i d) want) ≡ with_want xs want
+with_want-found [] want i d up l e = absurd (omega (arith, l))
+with_want-found (x ∷ xs) want zero d up l e = sym (with_want-same x xs want e)
+with_want-found (x ∷ xs) want (suc i) d up l e =
+    let below : stream_of x < stream_of (get_or xs i d) = All-from_recursion (λ y. stream_of x < stream_of y) xs up.0 i d (omega (arith, l)) in
+    ap (λ ys. x ∷ ys) (with_want-found xs want i d up.1 (omega (arith, l)) e) ∙ sym (with_want-higher x xs want (omega (arith, below, e)))
+
+-- and where its stream has none
+pub with_want-missing : (xs : List Entry) (want : Want) (i : ℕ) → i ≤ length xs → AllWithin (λ x. stream_of x < want.stream.0) xs 0 i → AllWithin (λ x. want.stream.0 < stream_of x) xs i (length xs) → take i xs ++ unbooked want ∷ drop i xs ≡ with_want xs want
+with_want-missing [] want zero l low high = refl
+with_want-missing [] want (suc i) l low high = absurd (omega (arith, l))
+with_want-missing (x ∷ xs) want zero l low high = sym (with_want-lower x xs want (high 0 x (omega arith) (omega arith)))
+with_want-missing (x ∷ xs) want (suc i) l low high =
+    ap (λ ys. x ∷ ys) (with_want-missing xs want i (omega (arith, l)) (λ k d a b. low (suc k) d (omega arith) (omega (arith, b))) (λ k d a b. high (suc k) d (omega (arith, a)) (omega (arith, b))))
+    ∙ sym (with_want-higher x xs want (low 0 x (omega arith) (omega arith)))
+
+-- entries of other streams are others
+differ : (x y : Entry) → stream_of x ≢ stream_of y → same_entry x y ≡ false
+differ x y ne =
+    let streams : Bool = stream_of x == stream_of y in
+    let classes : Bool = class_number x.want.class == class_number y.want.class in
+    let ranks : Bool = rank_number x.want.rank == rank_number y.want.rank in
+    and_left (same_want x.want y.want) (same_since x.since y.since)
+      (and_left (streams && classes && ranks) (x.want.slope == y.want.slope)
+        (and_left (streams && classes) ranks (and_left streams classes (ne_eqb (stream_of x) (stream_of y) ne))))
+
+others_differ : (x : Entry) (xs : List Entry) → AllByRecursion (λ y. stream_of x < stream_of y) xs → list_any (same_entry x) xs ≡ false
+others_differ x [] h = refl
+others_differ x (y ∷ ys) h =
+    or_from (same_entry x y) (list_any (same_entry x) ys) (differ x y (λ e. let l : stream_of x < stream_of y = h.0 in omega (arith, e, l))) (others_differ x ys h.1)
+
+abbrev pub found_same : Entry → Option Entry → Bool
+found_same x None = false
+found_same x (Some y) = same_entry x y
+
+or-false : (a b : Bool) → b ≡ false → a ≡ (a || b)
+or-false true b h = refl
+or-false false b h = sym h
+
+-- an entry is in an ascending list where it is the entry of its stream there
+pub has_entry_is : (x : Entry) (xs : List Entry) → IsAscending xs → found_same x (entry_of xs x.want.stream) ≡ list_any (same_entry x) xs
+has_entry_is x [] up = refl
+has_entry_is x (y ∷ ys) up =
+    elim (cases_Bool (stream_of y == stream_of x))
+      [ inl h ↦
+          (let e : stream_of y ≡ stream_of x = eqb-true (stream_of y) (stream_of x) h in
+           ap (λ b. found_same x (cond b (Some y) (entry_of ys x.want.stream))) h
+           ∙ or-false (same_entry x y) (list_any (same_entry x) ys) (others_differ x ys (subst (λ (s : ℕ). AllByRecursion (λ z. s < stream_of z) ys) e up.0)))
+      | inr h ↦
+          ap (λ b. found_same x (cond b (Some y) (entry_of ys x.want.stream))) h
+          ∙ (has_entry_is x ys up.1 ∙ ap (λ b. b || list_any (same_entry x) ys) (sym (differ x y (λ e. eqb-false (stream_of y) (stream_of x) h (sym e))))) ]

@@ -1,0 +1,116 @@
+-- What holds of every ledger is kept by a call that decides.
+use Rattle.std.proofs.Common.{◌≡◌, ◌⊎◌, ℕ, ◌+◌, ◌*◌, ◌/◌, ◌<◌, ◌≤◌, Bool, true, false, ◌==◌, cond, List, [], ◌∷◌, ◌++◌, take, drop, length, Option, Some, None, refl, sym, ◌∙◌, ap, subst, arith, inl, inr}
+use Rattle.std.specs.List.{AllByRecursion}
+use Rattle.std.proofs.Math.Seq.{take-append_seam}
+use Rattle.std.proofs.lemmas.Bool.{cases_order}
+use Rattle.srp_base.specs.declared.numbers.Cs.{Cs}
+use Rattle.srp_base.specs.declared.bandwidth.Rate.{Rate}
+use Rattle.srp_base.specs.Bandwidth.{bits_of}
+use Rattle.stream_importance.specs.declared.entry.Entry.{Entry}
+use Rattle.stream_importance.specs.declared.entry.Fit.{Fit}
+use Rattle.stream_importance.specs.declared.entry.Want.{Want}
+use Rattle.stream_importance.specs.declared.slope.Caps.{Caps}
+use Rattle.stream_importance.specs.Bandwidth.{caps_of}
+use Rattle.stream_importance.specs.Importance.{moment_or}
+use Rattle.port_ledger.specs.Decision.{booked_of, stream_of, IsAscending, IsDecision, Decides, marks_of, settled, since_after}
+use Rattle.port_ledger.specs.Book.{Book, IsKept, fit_in, tested_as, same_want, unbooked, entry_with, with_want}
+use Rattle.port_ledger.proofs.Running.{all_with}
+use Rattle.port_ledger.proofs.Finding.{with_want-lower, with_want-same, with_want-higher}
+use Rattle.port_ledger.proofs.Standing.{decision_settled}
+
+-- class A has no more than both classes
+pub caps_share : (rate : Rate) (delta_a delta_b : ℕ) → (caps_of rate delta_a delta_b).class_a ≤ (caps_of rate delta_a delta_b).both
+caps_share rate delta_a delta_b =
+    let n : ℕ = bits_of rate in
+    grind arith
+
+-- a moment that isn't past its ledger's isn't past a later one
+moment_later : (since : Option Cs) (moment now : ℕ) → moment ≤ now → moment_or moment since ≤ moment → moment_or now since ≤ now
+moment_later None moment now up h = omega arith
+moment_later (Some c) moment now up h = omega (arith, h, up)
+
+pub moments_later : (moment now : ℕ) (xs : List Entry) → moment ≤ now → AllByRecursion (λ x. moment_or moment x.since ≤ moment) xs → AllByRecursion (λ x. moment_or now x.since ≤ now) xs
+moments_later moment now xs up h = all_with xs h h (λ x k _. moment_later x.since moment now up k)
+
+-- a fact of each entry, with a want
+all-with_want : (P : Entry → Type 0) (want : Want) (xs : List Entry) → P (unbooked want) → ((x : Entry) → stream_of x ≡ want.stream.0 → P x → P (entry_with x want)) → AllByRecursion P xs → AllByRecursion P (with_want xs want)
+all-with_want P want [] new more h = (new, tt)
+all-with_want P want (x ∷ xs) new more h =
+    elim (cases_order want.stream.0 (stream_of x))
+      [ inl e ↦ subst (λ (ys : List Entry). AllByRecursion P ys) (sym (with_want-same x xs want (sym e))) (more x (sym e) h.0, h.1)
+      | inr c ↦ elim c
+          [ inl l ↦ subst (λ (ys : List Entry). AllByRecursion P ys) (sym (with_want-lower x xs want l)) (new, h)
+          | inr l ↦ subst (λ (ys : List Entry). AllByRecursion P ys) (sym (with_want-higher x xs want l)) (h.0, all-with_want P want xs new more h.1) ] ]
+
+stream_of-entry_with : (x : Entry) (want : Want) → stream_of x ≡ want.stream.0 → stream_of (entry_with x want) ≡ stream_of x
+stream_of-entry_with x want e =
+    elim (same_want x.want want) as (λ v. stream_of (cond v x (unbooked want)) ≡ stream_of x) [ true ↦ refl | false ↦ sym e ]
+
+pub ascending-with_want : (want : Want) (xs : List Entry) → IsAscending xs → IsAscending (with_want xs want)
+ascending-with_want want [] up = (tt, tt)
+ascending-with_want want (x ∷ xs) up =
+    elim (cases_order want.stream.0 (stream_of x))
+      [ inl e ↦ subst (λ (ys : List Entry). IsAscending ys) (sym (with_want-same x xs want (sym e)))
+          (let s : stream_of (entry_with x want) ≡ stream_of x = stream_of-entry_with x want (sym e) in
+           (subst (λ (n : ℕ). AllByRecursion (λ y. n < stream_of y) xs) (sym s) up.0, up.1))
+      | inr c ↦ elim c
+          [ inl l ↦ subst (λ (ys : List Entry). IsAscending ys) (sym (with_want-lower x xs want l))
+              ((l, all_with xs up.0 up.0 (λ y k _. omega (arith, l, k))), up)
+          | inr l ↦ subst (λ (ys : List Entry). IsAscending ys) (sym (with_want-higher x xs want l))
+              (all-with_want (λ y. stream_of x < stream_of y) want xs l (λ y e k. omega (arith, stream_of-entry_with y want e, k)) up.0, ascending-with_want want xs up.1) ] ]
+
+moment-entry_with : (now : ℕ) (x : Entry) (want : Want) → moment_or now x.since ≤ now → moment_or now (entry_with x want).since ≤ now
+moment-entry_with now x want h =
+    elim (same_want x.want want) as (λ v. moment_or now (cond v x (unbooked want)).since ≤ now) [ true ↦ h | false ↦ omega arith ]
+
+pub moments-with_want : (now : ℕ) (want : Want) (xs : List Entry) → AllByRecursion (λ x. moment_or now x.since ≤ now) xs → AllByRecursion (λ x. moment_or now x.since ≤ now) (with_want xs want)
+moments-with_want now want xs h =
+    all-with_want (λ x. moment_or now x.since ≤ now) want xs (omega arith) (λ x _ k. moment-entry_with now x want k) h
+
+-- moments that are set change no stream, and none is past the decision's
+above-settled : (n now : ℕ) (xs : List Entry) (marks : List Bool) → AllByRecursion (λ y. n < stream_of y) xs → AllByRecursion (λ y. n < stream_of y) (settled now xs marks)
+above-settled n now [] marks h = tt
+above-settled n now (x ∷ xs) [] h = tt
+above-settled n now (x ∷ xs) (mark ∷ marks) h = (h.0, above-settled n now xs marks h.1)
+
+ascending-settled : (now : ℕ) (xs : List Entry) (marks : List Bool) → IsAscending xs → IsAscending (settled now xs marks)
+ascending-settled now [] marks up = tt
+ascending-settled now (x ∷ xs) [] up = tt
+ascending-settled now (x ∷ xs) (mark ∷ marks) up = (above-settled (stream_of x) now xs marks up.0, ascending-settled now xs marks up.1)
+
+moment-since_after : (now : ℕ) (since : Option Cs) (mark : Bool) → moment_or now since ≤ now → moment_or now (since_after now since mark) ≤ now
+moment-since_after now since true h = h
+moment-since_after now since false h = omega arith
+
+moments-settled : (now : ℕ) (xs : List Entry) (marks : List Bool) → AllByRecursion (λ x. moment_or now x.since ≤ now) xs → AllByRecursion (λ x. moment_or now x.since ≤ now) (settled now xs marks)
+moments-settled now [] marks h = tt
+moments-settled now (x ∷ xs) [] h = tt
+moments-settled now (x ∷ xs) (mark ∷ marks) h = (moment-since_after now x.since mark h.0, moments-settled now xs marks h.1)
+
+pub ascending_after : (now : ℕ) (caps : Caps) (before after : List Entry) → IsAscending before → Decides now caps before after → IsAscending after
+ascending_after now caps before after up d = subst (λ (ys : List Entry). IsAscending ys) (sym d.moments) (ascending-settled now before (marks_of after) up)
+
+-- a decided list of entries makes a ledger
+pub kept_after : (caps : Caps) (now : ℕ) (before after : List Entry) → caps.class_a ≤ caps.both → IsAscending before → AllByRecursion (λ x. moment_or now x.since ≤ now) before → Decides now caps before after → IsKept (record { caps = caps; moment = now; entries = after })
+kept_after caps now before after shares up moments d =
+    record
+      { ascending = ascending_after now caps before after up d;
+        shares = shares;
+        moments = subst (λ (ys : List Entry). AllByRecursion (λ x. moment_or now x.since ≤ now) ys) (sym d.moments) (moments-settled now before (marks_of after) moments);
+        decision = decision_settled now caps before after moments d }
+
+-- the ledger after a want
+pub kept_with_want : (book : Book) (now : ℕ) (want : Want) (after : List Entry) → IsKept book → book.moment ≤ now → Decides now book.caps (with_want book.entries want) after → IsKept (record { caps = book.caps; moment = now; entries = after })
+kept_with_want book now want after kept up d =
+    kept_after book.caps now (with_want book.entries want) after kept.shares (ascending-with_want want book.entries kept.ascending)
+      (moments-with_want now want book.entries (moments_later book.moment now book.entries up kept.moments)) d
+
+-- what was written through a slice of all of a vector
+pub written_back : (n : ℕ) (xs ys : List Entry) → n ≡ length xs → length ys ≡ length xs → take n (ys ++ drop (length ys) xs) ≡ ys
+written_back n xs ys e f = ap (λ k. take k (ys ++ drop (length ys) xs)) (e ∙ sym f) ∙ take-append_seam ys (drop (length ys) xs)
+
+-- a want is tested against the entries that the book has
+pub fit_in_book : (now moment : ℕ) (caps : Caps) (entries one two : List Entry) (want : Want) (x : Entry) (fit : Fit) (book : Book) → fit ≡ fit_in now caps (booked_of two) x → x ≡ tested_as one want → one ≡ entries → two ≡ entries → record { caps = caps; moment = moment; entries = entries } ≡ book → fit ≡ fit_in now book.caps (booked_of book.entries) (tested_as book.entries want)
+fit_in_book now moment caps entries one two want x fit book e tested first second same =
+    subst (λ (b : Book). fit ≡ fit_in now b.caps (booked_of b.entries) (tested_as b.entries want)) same
+      (e ∙ (ap (λ ys. fit_in now caps (booked_of ys) x) second ∙ ap (λ y. fit_in now caps (booked_of entries) y) (tested ∙ ap (λ ys. tested_as ys want) first)))

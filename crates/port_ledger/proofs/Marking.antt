@@ -1,0 +1,104 @@
+-- A choice of entries and the marks beside them; there is exactly one marking.
+use Rattle.std.proofs.Common.{◌≡◌, ℕ, ◌+◌, Bool, true, false, cond, List, [], ◌∷◌, map, filter, Option, is_some, refl, sym, ◌∙◌, ap, subst, arith, ◌==◌, zero-add}
+use Rattle.std.specs.Prelude.{nat_le}
+use Rattle.std.specs.List.{AllByRecursion}
+use Rattle.std.specs.List.Sorted.{IsPermutation, IsSortedBy}
+use Rattle.std.proofs.lemmas.List.Sorted.{IsPermutation-sym, list_any-IsPermutation}
+use Rattle.srp_base.specs.declared.numbers.Cs.{Cs}
+use Rattle.stream_importance.specs.declared.entry.Entry.{Entry}
+use Rattle.stream_importance.specs.Importance.{is_more_important}
+use Rattle.stream_importance.specs.declared.slope.Caps.{Caps}
+use Rattle.stream_importance.specs.Bandwidth.{cap_of}
+use Rattle.port_ledger.specs.Decision.{stream_of, slope_of, above, does_fit, marked, IsDecision, Decides, IsAscending, AreOfDifferentStreams, marks_of, settled, since_after}
+use Rattle.port_ledger.specs.Pass.{is_among, taken}
+use Rattle.port_ledger.proofs.Running.{total, above-filter, Holds, Runs, IsRanked, holds_from_runs, runs_from_holds, runs_agree, all_with}
+use Rattle.port_ledger.proofs.Ranking.{ranked, ranked_from_sorted, IsPermutation-ranked, ranked_is_ranked, holds_permuted, all_permuted, different_permuted}
+use Rattle.port_ledger.proofs.Taken.{taken_runs}
+
+pub marked-map : (b : Entry → Bool) (xs : List Entry) → marked xs (map b xs) ≡ filter b xs
+marked-map b [] = refl
+marked-map b (x ∷ xs) = ap (λ ys. cond (b x) (x ∷ ys) ys) (marked-map b xs)
+
+map_agree : {X Y : Type 0} (f g : X → Y) (xs : List X) → AllByRecursion (λ x. f x ≡ g x) xs → map f xs ≡ map g xs
+map_agree f g [] h = refl
+map_agree f g (x ∷ xs) h = ap (λ y. y ∷ map f xs) h.0 ∙ ap (λ ys. g x ∷ ys) (map_agree f g xs h.1)
+
+pub all_of : {X : Type 0} {P : X → Type 0} (xs : List X) → ((x : X) → P x) → AllByRecursion P xs
+all_of [] f = tt
+all_of (x ∷ xs) f = (f x, all_of xs f)
+
+-- what stands above, by the set and by the choice
+choice_above : (b : Entry → Bool) (now : ℕ) (caps : Caps) (xs : List Entry) (x : Entry) → nat_le (0 + total b now x xs + slope_of x) (cap_of caps x.want.class) ≡ does_fit now caps (filter b xs) x
+choice_above b now caps xs x = ap (λ n. nat_le (n + slope_of x) (cap_of caps x.want.class)) (zero-add (total b now x xs) ∙ sym (above-filter b now x xs))
+
+pub decision_from_holds : (now : ℕ) (caps : Caps) (b : Entry → Bool) (xs : List Entry) → AllByRecursion (Holds now caps 0 b xs) xs → IsDecision now caps xs (map b xs)
+decision_from_holds now caps b xs h =
+    map_agree b (does_fit now caps (filter b xs)) xs (all_with xs h h (λ x k _. k ∙ choice_above b now caps xs x))
+    ∙ ap (λ set. map (does_fit now caps set) xs) (sym (marked-map b xs))
+
+-- the choice that a marking stands for
+abbrev pub choice : ℕ → Caps → List Entry → List Bool → Entry → Bool
+choice now caps xs marks = does_fit now caps (marked xs marks)
+
+pub marked-choice : (now : ℕ) (caps : Caps) (xs : List Entry) (marks : List Bool) → IsDecision now caps xs marks → marked xs marks ≡ filter (choice now caps xs marks) xs
+marked-choice now caps xs marks d = ap (marked xs) d ∙ marked-map (choice now caps xs marks) xs
+
+pub holds_from_decision : (now : ℕ) (caps : Caps) (xs : List Entry) (marks : List Bool) → IsDecision now caps xs marks → AllByRecursion (Holds now caps 0 (choice now caps xs marks) xs) xs
+holds_from_decision now caps xs marks d =
+    all_of xs (λ x. ap (λ set. does_fit now caps set x) (marked-choice now caps xs marks d) ∙ sym (choice_above (choice now caps xs marks) now caps xs x))
+
+-- a choice that holds, run in the order of importance
+pub ranked_runs : (now : ℕ) (caps : Caps) (b : Entry → Bool) (xs : List Entry) → AreOfDifferentStreams xs → AllByRecursion (Holds now caps 0 b xs) xs → Runs caps 0 b (ranked now xs)
+ranked_runs now caps b xs different h =
+    runs_from_holds now caps 0 b (ranked now xs) (ranked_is_ranked now xs different)
+      (holds_permuted now caps 0 b xs (ranked now xs) (IsPermutation-ranked now xs) h)
+
+pub decision_unique : (now : ℕ) (caps : Caps) (xs : List Entry) → AreOfDifferentStreams xs → (marks others : List Bool) → IsDecision now caps xs marks → IsDecision now caps xs others → marks ≡ others
+decision_unique now caps xs different marks others d e =
+    let b : Entry → Bool = choice now caps xs marks in
+    let c : Entry → Bool = choice now caps xs others in
+    let agree : AllByRecursion (λ x. b x ≡ c x) (ranked now xs) =
+      runs_agree caps 0 0 b c (ranked now xs) refl (ranked_runs now caps b xs different (holds_from_decision now caps xs marks d))
+        (ranked_runs now caps c xs different (holds_from_decision now caps xs others e)) in
+    let back : AllByRecursion (λ x. b x ≡ c x) xs = all_permuted (λ x. b x ≡ c x) (ranked now xs) xs (IsPermutation-sym xs (ranked now xs) (IsPermutation-ranked now xs)) agree in
+    d ∙ (map_agree b c xs back ∙ sym e)
+
+-- what a pass in the order of importance lets in is decided
+pub decision_from_pass : (now : ℕ) (caps : Caps) (xs order : List Entry) → IsPermutation xs order → IsRanked now order → AreOfDifferentStreams order → IsDecision now caps xs (map (λ x. is_among (taken caps 0 order) (stream_of x)) xs)
+decision_from_pass now caps xs order p r different =
+    let b : Entry → Bool = λ x. is_among (taken caps 0 order) (stream_of x) in
+    decision_from_holds now caps b xs
+      (holds_permuted now caps 0 b order xs (IsPermutation-sym xs order p) (holds_from_runs now caps 0 b order r (taken_runs caps 0 order different)))
+
+-- streams that ascend differ
+pub different_from_ascending : (xs : List Entry) → IsAscending xs → AreOfDifferentStreams xs
+different_from_ascending [] up = tt
+different_from_ascending (x ∷ xs) up = (all_with xs up.0 up.0 (λ y l _ e. omega (arith, l, e)), different_from_ascending xs up.1)
+
+-- a choice is what its settled entries show
+marks_of-settled : (now : ℕ) (b : Entry → Bool) (xs : List Entry) → marks_of (settled now xs (map b xs)) ≡ map b xs
+marks_of-settled now b [] = refl
+marks_of-settled now b (x ∷ xs) =
+    ap (λ m. m ∷ marks_of (settled now xs (map b xs))) (shown (b x) x.since) ∙ ap (λ ms. b x ∷ ms) (marks_of-settled now b xs)
+  where
+    shown : (mark : Bool) (since : Option Cs) → is_some (since_after now since mark) ≡ mark
+    shown true since = refl
+    shown false since = refl
+
+-- a sort, a pass, and the moments set by it
+pub decides_from_pass : (now : ℕ) (caps : Caps) (before order after : List Entry) (streams : List ℕ) → IsAscending before → IsPermutation before order → IsSortedBy (is_more_important now) order → IsPermutation (taken caps 0 order) streams → after ≡ settled now before (map (λ x. is_among streams (stream_of x)) before) → Decides now caps before after
+decides_from_pass now caps before order after streams up moved sorted among e =
+    let different : AreOfDifferentStreams order = different_permuted before order moved (different_from_ascending before up) in
+    let b : Entry → Bool = λ x. is_among streams (stream_of x) in
+    let c : Entry → Bool = λ x. is_among (taken caps 0 order) (stream_of x) in
+    let same : map c before ≡ map b before = map_agree c b before (all_of before (λ x. list_any-IsPermutation (λ s. s == stream_of x) (taken caps 0 order) streams among)) in
+    let marks : map b before ≡ marks_of after = sym (ap marks_of e ∙ marks_of-settled now b before) in
+    let d : IsDecision now caps before (map c before) = decision_from_pass now caps before order moved (ranked_from_sorted now order different sorted) different in
+    record
+      { decision = subst (λ (ms : List Bool). IsDecision now caps before ms) (same ∙ marks) d;
+        moments = e ∙ ap (settled now before) marks }
+
+pub decision_exists : (now : ℕ) (caps : Caps) (xs : List Entry) → AreOfDifferentStreams xs → (marks : List Bool) × IsDecision now caps xs marks
+decision_exists now caps xs different =
+    (map (λ x. is_among (taken caps 0 (ranked now xs)) (stream_of x)) xs,
+      decision_from_pass now caps xs (ranked now xs) (IsPermutation-ranked now xs) (ranked_is_ranked now xs different) (different_permuted xs (ranked now xs) (IsPermutation-ranked now xs) different))

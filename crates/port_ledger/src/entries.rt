@@ -1,0 +1,62 @@
+//! The wanting streams as a list that ascends by StreamID.
+
+ghost use Rattle.std.specs.Prelude.{◌≡◌, ◌<◌, ◌≤◌, length, IfOk, IfErr, OnOk};
+ghost use Rattle.std.specs.List.{AllWithin, HoldsAt};
+ghost use Rattle.port_ledger.specs.Book.{entry_of, entry_with, with_want};
+ghost use Rattle.port_ledger.specs.Decision.{IsAscending, stream_of};
+
+use srp_base::{NoMemory, StreamId};
+use std::alloc::Global;
+use stream_importance::{Entry, Want};
+
+/// The place of the stream's entry, or the place where it belongs.
+pub fn place_of(entries: &[Entry], stream: StreamId) -> Result<usize, usize>
+    requires { IsAscending entries.now }
+    ensures found { IfOk result (λ i. (i < length entries.now) × HoldsAt (λ x. stream_of x ≡ stream.0) entries.now i) }
+    ensures missing { IfErr result (λ i. (i ≤ length entries.now) × AllWithin (λ x. stream_of x < stream.0) entries.now 0 i × AllWithin (λ x. stream.0 < stream_of x) entries.now i (length entries.now)) }
+{
+    entries.binary_search_by_key(&stream.0, |x| x.want.stream.0)
+}
+
+/// The stream's entry.
+pub fn find_entry(entries: &[Entry], stream: StreamId) -> Option<Entry>
+    requires { IsAscending entries.now }
+    ensures { result ≡ entry_of entries.now stream }
+{
+    match place_of(entries, stream) {
+        Ok(place) => Some(entries[place]),
+        Err(_) => None,
+    }
+}
+
+/// The entries once this want has come.
+pub fn entries_with(alloc: Global, entries: &[Entry], want: Want) -> Result<Vec<Entry>, NoMemory>
+    requires { IsAscending entries.now }
+    ensures { IfOk result (λ v. v.items ≡ with_want entries.now want) }
+{
+    let mut next = Vec::with_capacity(alloc, entries.len() + 1)?;
+    next.extend_from_slice(entries)?;
+    put(&mut next, want)?;
+    Ok(next)
+}
+
+fn put(entries: &mut Vec<Entry>, want: Want) -> Result<(), NoMemory>
+    requires { IsAscending entries.old.items }
+    ensures { OnOk result (entries.new.items ≡ with_want entries.old.items want) }
+{
+    match place_of(entries, want.stream) {
+        Ok(place) => entries[place] = entry_with(entries[place], want),
+        Err(place) => entries.insert(place, Entry { want, since: None })?,
+    }
+    Ok(())
+}
+
+fn entry_with(entry: Entry, want: Want) -> Entry
+    ensures { result ≡ entry_with entry want }
+{
+    if entry.want == want {
+        entry
+    } else {
+        Entry { want, since: None }
+    }
+}

@@ -1,0 +1,100 @@
+//! What of a port is taken, and whether a want fits beside it.
+
+ghost use Rattle.std.specs.Prelude.{◌≡◌, ◌+◌, nat_le, filter};
+ghost use Rattle.port_ledger.specs.Book.{booked_slope, code_of, fit_in, is_normal, since_if_same, tested_as};
+ghost use Rattle.port_ledger.specs.Decision.{above, booked_of, does_fit, goes_before, IsAscending};
+
+use crate::entries::find_entry;
+use srp_base::{Class, Cs, Rank};
+use stream_importance::{Caps, Entry, Fit, Want, more_important};
+
+/// The slopes of the booked entries of a class together, in bit/s.
+pub fn booked_slope(entries: &[Entry], class: Class) -> u128
+    ensures { result ≡ booked_slope entries.now class }
+{
+    entries
+        .iter()
+        .filter(|x| x.since.is_some())
+        .filter(|x| x.want.class == class)
+        .map(|x| u128::from(x.want.slope))
+        .sum()
+}
+
+/// The entry as which a want is tested.
+pub fn tested_as(entries: &[Entry], want: &Want) -> Entry
+    requires { IsAscending entries.now }
+    ensures { result ≡ tested_as entries.now want.now }
+{
+    let since = find_entry(entries, want.stream).and_then(|x| since_if_same(&x, want));
+    Entry { want: *want, since }
+}
+
+fn since_if_same(entry: &Entry, want: &Want) -> Option<Cs>
+    ensures { result ≡ since_if_same entry.now want.now }
+{
+    if entry.want == *want { entry.since } else { None }
+}
+
+/// Whether an entry fits beside the booked ones.
+pub fn fit_of(now: Cs, caps: &Caps, entries: &[Entry], x: &Entry) -> Fit
+    ensures { result ≡ fit_in now.0 caps.now (booked_of entries.now) x.now }
+{
+    let cap = caps.of(x.want.class);
+    let more_important = above(now, x, entries);
+    if leaves_room(more_important, x.want.slope, cap) {
+        return Fit::Fits;
+    }
+    Fit::TooLittle {
+        more_important,
+        cap: u128::from(cap),
+        code: code_of(now, caps, entries, x),
+    }
+}
+
+fn code_of(now: Cs, caps: &Caps, entries: &[Entry], x: &Entry) -> u8
+    ensures { result ≡ code_of now.0 caps.now (booked_of entries.now) x.now }
+{
+    let cap = caps.of(x.want.class);
+    let of_rank_1 = above_of_rank_1(now, x, entries);
+    if x.want.rank == Rank::Normal && leaves_room(of_rank_1, x.want.slope, cap) {
+        6
+    } else {
+        1
+    }
+}
+
+/// Whether the slope, beside what is taken, stays at or under the cap.
+fn leaves_room(taken: u128, slope: u64, cap: u64) -> bool
+    ensures { result ≡ nat_le (taken + slope) cap }
+{
+    taken <= u128::from(cap) && u128::from(slope) <= u128::from(cap) - taken
+}
+
+fn above(now: Cs, x: &Entry, entries: &[Entry]) -> u128
+    ensures { result ≡ above now.0 x.now (booked_of entries.now) }
+{
+    entries
+        .iter()
+        .filter(|y| y.since.is_some())
+        .filter(|y| goes_before(now, x, y))
+        .map(|y| u128::from(y.want.slope))
+        .sum()
+}
+
+fn above_of_rank_1(now: Cs, x: &Entry, entries: &[Entry]) -> u128
+    ensures { result ≡ above now.0 x.now (filter is_normal (booked_of entries.now)) }
+{
+    entries
+        .iter()
+        .filter(|y| y.since.is_some())
+        .filter(|y| y.want.rank == Rank::Normal)
+        .filter(|y| goes_before(now, x, y))
+        .map(|y| u128::from(y.want.slope))
+        .sum()
+}
+
+fn goes_before(now: Cs, x: &Entry, y: &Entry) -> bool
+    ensures { result ≡ goes_before now.0 x.now y.now }
+{
+    y.want.stream != x.want.stream && more_important(now, y, x)
+}

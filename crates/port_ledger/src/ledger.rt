@@ -1,0 +1,121 @@
+//! The ledger of one egress port.
+
+ghost use Rattle.std.specs.Prelude.{◌≡◌, ◌+◌, ◌≤◌, ℕ, [], map, IfOk, OnOk, OnErr, IsTrue, is_some, option_and_then};
+ghost use Rattle.srp_base.specs.declared.bandwidth.Class.TheVariants.{A, B};
+ghost use Rattle.stream_importance.specs.Bandwidth.{caps_of};
+ghost use Rattle.port_ledger.specs.Book.{booked_only_in, booked_slope, entry_of, fit_in, tested_as, with_want};
+ghost use Rattle.port_ledger.specs.Decision.{booked_of, Decides, IsAscending, IsDecision, marks_of};
+
+use crate::changed::{Changed, changes};
+use crate::decide::decided_with;
+use crate::entries::find_entry;
+use crate::fit::{booked_slope, fit_of, tested_as};
+use srp_base::{Class, Cs, NoMemory, Percent, Rate, StreamId};
+use std::alloc::Global;
+use std::marker::Model;
+use stream_importance::{Caps, Entry, Fit, Want};
+
+/// The streams that want one egress port, and which of them are booked. Contracts see the caps, the
+/// moment, and the entries, ascending by StreamID.
+#[derive(Debug, Drop)]
+pub struct Ledger {
+    caps: Caps,
+    moment: Cs,
+    entries: Vec<Entry>,
+}
+
+impl Model for Ledger {
+    ghost use Rattle.port_ledger.specs.Book.{Book, IsKept};
+
+    ghost Value = { Book };
+
+    ghost view = { λ l. record { caps = l.caps; moment = l.moment.0; entries = l.entries.items } };
+
+    ghost invariant = { λ l. IsKept (record { caps = l.caps; moment = l.moment.0; entries = l.entries.items }) };
+}
+
+impl Ledger {
+    /// The ledger of a port of this rate, of which class A may take `delta_a` percent, and class B
+    /// `delta_b` percent and what class A leaves (IEEE Std 802.1Q-2018, 34.3). It takes no memory, and
+    /// its moment is 0.
+    pub fn new(alloc: Global, rate: Rate, delta_a: Percent, delta_b: Percent) -> Ledger
+        requires { delta_a + delta_b ≤ 90 }
+        ensures { result ≡ record { caps = caps_of rate delta_a delta_b; moment = 0; entries = [] } }
+    {
+        Ledger {
+            caps: Caps::new(rate, delta_a, delta_b),
+            moment: Cs(0),
+            entries: Vec::new(alloc),
+        }
+    }
+
+    /// Takes a want at a moment in cs, which isn't before the ledger's, and decides anew. The same want
+    /// again keeps its booking; one with another class, rank or slope loses it first. After want of
+    /// memory the ledger is as it was.
+    pub fn want(&mut self, now: Cs, want: Want) -> Result<Changed, NoMemory>
+        requires { self.old.moment ≤ now.0 }
+
+        ensures decided { OnOk result (Decides now.0 self.old.caps (with_want self.old.entries want) self.new.entries) }
+        ensures rest { OnOk result (self.new ≡ record self.old { moment = now.0; entries = self.new.entries }) }
+
+        ensures booked { IfOk result (λ c. c.booked ≡ booked_only_in self.new.entries self.old.entries) }
+        ensures dropped { IfOk result (λ c. c.dropped ≡ booked_only_in self.old.entries self.new.entries) }
+
+        ensures err { OnErr result (self.new ≡ self.old) }
+    {
+        let alloc = *self.entries.allocator();
+        let entries = decided_with(alloc, now, &self.caps, &self.entries, want)?;
+        let changed = changes(alloc, &self.entries, &entries)?;
+        self.entries = entries;
+        self.moment = now;
+        Ok(changed)
+    }
+
+    /// The moment since when the stream is booked, in cs; None exactly where it isn't booked.
+    pub fn booked(&self, stream: StreamId) -> Option<Cs>
+        ensures { result ≡ option_and_then (λ x. x.since) (entry_of self.now.entries stream) }
+    {
+        find_entry(&self.entries, stream).and_then(|x| x.since)
+    }
+
+    /// Whether the stream is kept as wanting the port.
+    pub fn wants(&self, stream: StreamId) -> bool
+        ensures { result ≡ is_some (entry_of self.now.entries stream) }
+    {
+        find_entry(&self.entries, stream).is_some()
+    }
+
+    /// Whether a want fits beside what is booked, at a moment in cs that isn't before the ledger's. It is
+    /// tested with the moment of the stream's entry where that has this same want, else with none.
+    pub fn fits(&self, now: Cs, want: &Want) -> Fit
+        requires { self.now.moment ≤ now.0 }
+        ensures { result ≡ fit_in now.0 self.now.caps (booked_of self.now.entries) (tested_as self.now.entries want.now) }
+    {
+        let x = tested_as(&self.entries, want);
+        fit_of(now, &self.caps, &self.entries, &x)
+    }
+
+    /// The slopes of the booked streams of a class together, in bit/s.
+    pub fn slope(&self, class: Class) -> u128
+        ensures { result ≡ booked_slope self.now.entries class }
+    {
+        booked_slope(&self.entries, class)
+    }
+
+    /// The booked set of every ledger is the decided set of its entries, at its moment and at every later
+    /// one, so that time passing changes no booking.
+    pub fn stands(&self)
+        ensures ascending { IsAscending self.now.entries }
+        ensures decided { (later : ℕ) → self.now.moment ≤ later → IsDecision later self.now.caps self.now.entries (marks_of self.now.entries) }
+    {
+        let _ = &self.entries;
+    }
+
+    /// The booked slopes of every ledger stay within its caps.
+    pub fn within_caps(&self)
+        ensures class_a { booked_slope self.now.entries A ≤ self.now.caps.class_a }
+        ensures both { booked_slope self.now.entries A + booked_slope self.now.entries B ≤ self.now.caps.both }
+    {
+        let _ = &self.entries;
+    }
+}
