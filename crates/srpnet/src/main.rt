@@ -3,6 +3,7 @@
 
 mod ledger;
 mod outcome;
+mod pages;
 mod words;
 
 fn main() {}

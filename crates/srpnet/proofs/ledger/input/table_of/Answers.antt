@@ -10,4 +10,4 @@ returns-in-Ok c =
 pub returns-else-is_memory : goal.returns-else-is_memory
 returns-else-is_memory c =
     ap or_not_toml (document_refused c.args.octets.now
-      (c.in-Err.ensures.refused (ruled_out _ _ c.if-is_memory.false c.is_memory.ensures)))
+    (c.in-Err.ensures.refused (ruled_out _ _ c.if-is_memory.false c.is_memory.ensures)))

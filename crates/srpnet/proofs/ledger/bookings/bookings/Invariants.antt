@@ -1,0 +1,13 @@
+use Rattle.std.proofs.Common.{◌≡◌, ◌+◌, drop, None}
+use Rattle.port_ledger.specs.Book.{Book}
+use Rattle.srpnet.specs.LedgerFile.{first_fall}
+use Rattle.srpnet.specs.LedgerRun.{Leads, fresh}
+use Rattle.srpnet.proofs.ledger.bookings.bookings.Given as goal
+
+abbrev pub invariant-loop-want : goal.invariant-loop-want
+invariant-loop-want l = record {
+  caps : l.ledger.caps ≡ l.initial.ledger.caps;
+  moment : l.now.0 ≡ l.ledger.moment;
+  ticks : first_fall (l.want-index + 1) l.now.0 (drop l.want-index l.wants) ≡ None;
+  leads : (end : Book) → Leads l.ledger (drop l.want-index l.wants) end → Leads l.initial.ledger l.wants end;
+}

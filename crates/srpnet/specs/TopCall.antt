@@ -1,0 +1,70 @@
+-- What the top call does: which text is a command's output, and what each ending means.
+use Rattle.std.specs.Prelude.{◌≡◌, ℕ, ◌+◌, ◌<◌, ◌≤◌, List, length, take, Option, Some, None, Ok, Err}
+use Rattle.std.specs.Io.KnownBytes.{Appends, Consumes, IsAtEnd}
+use Rattle.srpnet.specs.declared.words.Command.{Command}
+use Rattle.srpnet.specs.declared.words.Command.TheVariants.{Ledger, Help, Version}
+use Rattle.srpnet.specs.declared.outcome.Cause.{Cause}
+use Rattle.srpnet.specs.declared.ledger.file.LedgerFile.{LedgerFile}
+use Rattle.srpnet.specs.LedgerInput.{ledger_input}
+use Rattle.srpnet.specs.LedgerText.{LedgerOutput}
+use Rattle.srpnet.specs.Pages.{help_page, version_page}
+
+-- the most octets of an input
+abbrev pub most_octets : ℕ
+most_octets = 1048576
+
+-- a source gave these octets, which are all that it had
+pub record ReadWhole (before after : Option (List ℕ)) (octets : List ℕ) : Type 0 where
+  pub consumed : Consumes before after octets
+  pub at_end : IsAtEnd after
+  pub within : length octets ≤ most_octets
+
+-- the octets that a source gave, and the text that they make the command `ledger` print
+pub record LedgerPrints (before after : Option (List ℕ)) (text : List ℕ) : Type 0 where
+  pub octets : List ℕ
+  pub whole : ReadWhole before after octets
+  pub output : LedgerOutput octets text
+
+-- a command's output, where the source's octets were these before and are those after
+abbrev pub IsOutput : Command → Option (List ℕ) → Option (List ℕ) → List ℕ → Type 0
+IsOutput Ledger before after text = LedgerPrints before after text
+IsOutput Help before after text = text ≡ help_page
+IsOutput Version before after text = text ≡ version_page
+
+-- the whole output of a command went out
+pub record Wrote (command : Command) (before after held now : Option (List ℕ)) : Type 0 where
+  pub text : List ℕ
+  pub output : IsOutput command before after text
+  pub appended : Appends held now text
+
+-- exactly the first octets of a command's output went out, fewer than all
+pub record WrotePart (command : Command) (before after held now : Option (List ℕ)) (written : ℕ) : Type 0 where
+  pub text : List ℕ
+  pub output : IsOutput command before after text
+  pub appended : Appends held now (take written text)
+  pub short : written < length text
+
+-- the octets that a source gave aren't what the command reads, for this cause
+pub record Refuses (before after : Option (List ℕ)) (cause : Cause) : Type 0 where
+  pub octets : List ℕ
+  pub whole : ReadWhole before after octets
+  pub refused : ledger_input octets ≡ Err cause
+
+-- one octet past the most was taken
+pub record TookTooMany (before after : Option (List ℕ)) : Type 0 where
+  pub octets : List ℕ
+  pub consumed : Consumes before after octets
+  pub many : length octets ≡ most_octets + 1
+
+-- some octets are an input of the command `ledger`
+pub record IsLedgerInput (octets : List ℕ) : Type 0 where
+  pub within : length octets ≤ most_octets
+  pub file : LedgerFile
+  pub read : ledger_input octets ≡ Ok file
+
+-- a source tells that it has an input which the command reads; the pages read none
+abbrev pub HasGoodInput : Command → Option (List ℕ) → Type 0
+HasGoodInput Ledger None = ⊥
+HasGoodInput Ledger (Some octets) = IsLedgerInput octets
+HasGoodInput Help left = Unit {0}
+HasGoodInput Version left = Unit {0}

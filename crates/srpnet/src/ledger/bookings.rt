@@ -1,0 +1,32 @@
+//! The wants of a file, applied to a port.
+
+ghost use Rattle.std.specs.Prelude.{◌≡◌, ◌+◌, ◌≤◌, None, IfOk};
+ghost use Rattle.stream_importance.specs.Bandwidth.{caps_of};
+ghost use Rattle.srpnet.specs.LedgerFile.{first_fall};
+ghost use Rattle.srpnet.specs.LedgerRun.{AreSmall, fresh, Leads};
+
+use crate::ledger::file::LedgerFile;
+use port_ledger::Ledger;
+use srp_base::{Cs, NoMemory};
+use std::alloc::Global;
+
+/// The ledger once the wants are applied in file order at their ticks, and the moment of the last one
+/// in cs, 0 where there is none.
+#[tactic(auto, using(crate::proofs::Caps::small_caps))]
+pub fn bookings(alloc: Global, file: &LedgerFile) -> Result<(Ledger, Cs), NoMemory>
+    requires shares { file.now.delta_a + file.now.delta_b ≤ 90 }
+    requires ticks { first_fall 1 0 file.now.wants ≡ None }
+    ensures applied { IfOk result (λ r. Leads (fresh file.now) file.now.wants r.0) }
+    ensures caps { IfOk result (λ r. r.0.caps ≡ caps_of file.now.rate file.now.delta_a file.now.delta_b) }
+    ensures small { IfOk result (λ r. AreSmall r.0.caps) }
+    ensures moment { IfOk result (λ r. r.1.0 ≡ r.0.moment) }
+{
+    let mut ledger = Ledger::new(alloc, file.rate, file.delta_a, file.delta_b);
+    let mut now = Cs(0);
+    let wants = file.wants.as_slice();
+    for want in wants {
+        now = want.tick;
+        let _ = ledger.want(now, want.want)?;
+    }
+    Ok((ledger, now))
+}

@@ -1,0 +1,17 @@
+//! The pages of `--help` and `--version`.
+
+/// The page of `--help`.
+pub const HELP: &str = "\
+srpnet: the Stream Reservation Protocol (IEEE Std 802.1Q-2018) over a file
+
+  srpnet ledger     reads a ledger file on standard input, one port and the
+                    streams that want it, and prints what is booked and why
+                    the rest is refused
+  srpnet --help     this page
+  srpnet --version  the version
+
+The input files, the printed lines and the statuses stand in docs/FILES.md.
+";
+
+/// The page of `--version`.
+pub const VERSION: &str = "srpnet 0.1.0 (rattle-kit-13f)\n";
