@@ -4,6 +4,7 @@ use Rattle.std.specs.Io.KnownBytes.{Appends, Consumes, IsAtEnd}
 use Rattle.srpnet.specs.declared.words.Command.{Command}
 use Rattle.srpnet.specs.declared.words.Command.TheVariants.{Ledger, Help, Version}
 use Rattle.srpnet.specs.declared.outcome.Cause.{Cause}
+use Rattle.srpnet.specs.declared.outcome.Cause.TheVariants.{Done, BadWords, ReadFault, TooLong, NotToml, BadScenario, WriteFault, NoMemory}
 use Rattle.srpnet.specs.declared.ledger.file.LedgerFile.{LedgerFile}
 use Rattle.srpnet.specs.LedgerInput.{ledger_input}
 use Rattle.srpnet.specs.LedgerText.{LedgerOutput}
@@ -31,6 +32,23 @@ IsOutput Ledger before after text = LedgerPrints before after text
 IsOutput Help before after text = text ≡ help_page
 IsOutput Version before after text = text ≡ version_page
 
+-- the first octets of a text went out, fewer than all
+pub record PartOf (held now : Option (List ℕ)) (text : List ℕ) : Type 0 where
+  pub written : ℕ
+  pub appended : Appends held now (take written text)
+  pub short : written < length text
+
+-- the causes with which writing ends
+abbrev pub IsOfWriting : Cause → Type 0
+IsOfWriting Done = Unit {0}
+IsOfWriting (WriteFault written) = Unit {0}
+IsOfWriting NoMemory = Unit {0}
+IsOfWriting BadWords = ⊥
+IsOfWriting ReadFault = ⊥
+IsOfWriting TooLong = ⊥
+IsOfWriting NotToml = ⊥
+IsOfWriting (BadScenario rule entry) = ⊥
+
 -- the whole output of a command went out
 pub record Wrote (command : Command) (before after held now : Option (List ℕ)) : Type 0 where
   pub text : List ℕ
@@ -55,6 +73,18 @@ pub record TookTooMany (before after : Option (List ℕ)) : Type 0 where
   pub octets : List ℕ
   pub consumed : Consumes before after octets
   pub many : length octets ≡ most_octets + 1
+
+-- why the command `ledger` has no output: the source's octets are refused, or were not read to their end, or
+-- memory ran out
+abbrev pub LedgerRefusal : Option (List ℕ) → Option (List ℕ) → Cause → Type 0
+LedgerRefusal before after NotToml = Refuses before after NotToml
+LedgerRefusal before after (BadScenario rule entry) = Refuses before after (BadScenario rule entry)
+LedgerRefusal before after ReadFault = Unit {0}
+LedgerRefusal before after TooLong = Unit {0}
+LedgerRefusal before after NoMemory = Unit {0}
+LedgerRefusal before after Done = ⊥
+LedgerRefusal before after BadWords = ⊥
+LedgerRefusal before after (WriteFault written) = ⊥
 
 -- some octets are an input of the command `ledger`
 pub record IsLedgerInput (octets : List ℕ) : Type 0 where

@@ -4,6 +4,7 @@
 mod ledger;
 mod outcome;
 mod pages;
+mod top;
 mod words;
 
 fn main() {}
