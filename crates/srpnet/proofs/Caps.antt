@@ -1,5 +1,5 @@
 -- What a port gives away has 64 bits.
-use Rattle.std.proofs.Common.{◌≡◌, ℕ, ◌+◌, ◌*◌, ◌/◌, ◌^◌, ◌<◌, ◌≤◌, Bool, true, false, List, [], ◌∷◌, filter, sum_by, refl, arith, cond, sym, zero-add}
+use Rattle.std.proofs.Common.{◌≡◌, ℕ, ◌+◌, ◌≤◌, Bool, true, false, List, [], ◌∷◌, filter, sum_by, refl, arith, cond, sym, zero-add}
 use Rattle.std.proofs.lemmas.List.Sums.{sum_by-cons}
 use Rattle.std.specs.Prelude.{◌==◌}
 use Rattle.srp_base.specs.declared.bandwidth.Rate.{Rate}

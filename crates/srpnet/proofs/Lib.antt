@@ -3,3 +3,4 @@ pub mod Different
 pub mod Documents
 pub mod Caps
 pub mod Refusals
+pub mod Parts

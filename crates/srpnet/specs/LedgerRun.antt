@@ -1,5 +1,5 @@
 -- The wants of a file, applied in file order at their ticks.
-use Rattle.std.specs.Prelude.{◌≡◌, ◌<◌, ◌^◌, ℕ, List, [], ◌∷◌}
+use Rattle.std.specs.Prelude.{◌≡◌, ◌<◌, ◌^◌, List, [], ◌∷◌}
 use Rattle.stream_importance.specs.Bandwidth.{caps_of}
 use Rattle.stream_importance.specs.declared.slope.Caps.{Caps}
 use Rattle.port_ledger.specs.Book.{Book, with_want}

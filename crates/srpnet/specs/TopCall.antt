@@ -1,5 +1,5 @@
 -- What the top call does: which text is a command's output, and what each ending means.
-use Rattle.std.specs.Prelude.{◌≡◌, ℕ, ◌+◌, ◌<◌, ◌≤◌, List, length, take, Option, Some, None, Ok, Err}
+use Rattle.std.specs.Prelude.{◌≡◌, ℕ, ◌+◌, ◌<◌, ◌≤◌, ◌⊎◌, nat_le, if◌then◌else◌, Result, List, length, take, Option, Ok, Err}
 use Rattle.std.specs.Io.KnownBytes.{Appends, Consumes, IsAtEnd}
 use Rattle.srpnet.specs.declared.words.Command.{Command}
 use Rattle.srpnet.specs.declared.words.Command.TheVariants.{Ledger, Help, Version}
@@ -38,6 +38,11 @@ pub record PartOf (held now : Option (List ℕ)) (text : List ℕ) : Type 0 wher
   pub appended : Appends held now (take written text)
   pub short : written < length text
 
+-- a sink gained a front of a text
+pub record GainsFront (held now : Option (List ℕ)) (text : List ℕ) : Type 0 where
+  pub count : ℕ
+  pub appended : Appends held now (take count text)
+
 -- the causes with which writing ends
 abbrev pub IsOfWriting : Cause → Type 0
 IsOfWriting Done = Unit {0}
@@ -61,6 +66,12 @@ pub record WrotePart (command : Command) (before after held now : Option (List �
   pub output : IsOutput command before after text
   pub appended : Appends held now (take written text)
   pub short : written < length text
+
+-- memory ran out while a command's output went out
+pub record WroteUntilNoMemory (command : Command) (before after held now : Option (List ℕ)) : Type 0 where
+  pub text : List ℕ
+  pub output : IsOutput command before after text
+  pub part : PartOf held now text
 
 -- the octets that a source gave aren't what the command reads, for this cause
 pub record Refuses (before after : Option (List ℕ)) (cause : Cause) : Type 0 where
@@ -86,15 +97,35 @@ LedgerRefusal before after Done = ⊥
 LedgerRefusal before after BadWords = ⊥
 LedgerRefusal before after (WriteFault written) = ⊥
 
--- some octets are an input of the command `ledger`
-pub record IsLedgerInput (octets : List ℕ) : Type 0 where
-  pub within : length octets ≤ most_octets
-  pub file : LedgerFile
-  pub read : ledger_input octets ≡ Ok file
+-- how a reading of a ledger file ends
+abbrev pub ending : Result LedgerFile Cause → Cause
+ending (Ok file) = Done
+ending (Err cause) = cause
 
--- a source tells that it has an input which the command reads; the pages read none
-abbrev pub HasGoodInput : Command → Option (List ℕ) → Type 0
-HasGoodInput Ledger None = ⊥
-HasGoodInput Ledger (Some octets) = IsLedgerInput octets
-HasGoodInput Help left = Unit {0}
-HasGoodInput Version left = Unit {0}
+-- how a command ends for an input of these octets, where no source and no sink fails and memory lasts
+abbrev pub expected : Command → List ℕ → Cause
+expected Ledger octets = if nat_le (length octets) most_octets then ending (ledger_input octets) else TooLong
+expected Help octets = Done
+expected Version octets = Done
+
+-- an answer ends so, or memory ran out
+abbrev pub EndsAs : {X : Type 0} → Cause → Result X Cause → Type 0
+EndsAs cause (Ok x) = cause ≡ Done
+EndsAs cause (Err other) = (other ≡ cause) ⊎ (other ≡ NoMemory)
+
+-- the commands that read no input
+abbrev pub ReadsNothing : Command → Type 0
+ReadsNothing Ledger = ⊥
+ReadsNothing Help = Unit {0}
+ReadsNothing Version = Unit {0}
+
+-- the causes with which nothing is written
+abbrev pub WritesNothing : Cause → Type 0
+WritesNothing Done = ⊥
+WritesNothing BadWords = Unit {0}
+WritesNothing ReadFault = Unit {0}
+WritesNothing TooLong = Unit {0}
+WritesNothing NotToml = Unit {0}
+WritesNothing (BadScenario rule entry) = Unit {0}
+WritesNothing (WriteFault written) = ⊥
+WritesNothing NoMemory = ⊥

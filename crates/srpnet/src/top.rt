@@ -1,13 +1,14 @@
 //! The top call: from the program's words and streams to its outcome.
 
-ghost use Rattle.std.specs.Prelude.{◌≡◌, ℕ, ◌↔◌, ◌⊎◌, ◌≤◌, ◌<◌, length, take, None, Some, Err, IfOk, IfErr, IfSome, string_bytes};
+ghost use Rattle.std.specs.Prelude.{◌≡◌, ℕ, ◌↔◌, ◌⊎◌, ◌≤◌, ◌<◌, List, length, take, None, Some, Err, IfOk, IfErr, IfSome, string_bytes};
 ghost use Rattle.std.specs.Io.KnownBytes.{Appends};
 ghost use Rattle.srp_io.specs.Faults.{Rose};
+ghost use Rattle.srpnet.specs.declared.words.Command.TheVariants.{Ledger};
 ghost use Rattle.srpnet.specs.LedgerInput.{ledger_input as ledger_input_lem};
 ghost use Rattle.srpnet.specs.LedgerText.{LedgerOutput};
 ghost use Rattle.srpnet.specs.Outcomes.{status_of as status_of_lem, err_text};
 ghost use Rattle.srpnet.specs.Words.{command_of as command_of_lem};
-ghost use Rattle.srpnet.specs.TopCall.{IsOfWriting, PartOf, LedgerPrints, LedgerRefusal, IsOutput, Wrote, WrotePart, Refuses, TookTooMany, HasGoodInput};
+ghost use Rattle.srpnet.specs.TopCall.{IsOfWriting, PartOf, GainsFront, LedgerPrints, LedgerRefusal, IsOutput, Wrote, WrotePart, WroteUntilNoMemory, Refuses, TookTooMany, WritesNothing, ReadsNothing, EndsAs, expected};
 
 use crate::ledger::{bookings, input, text};
 use crate::outcome::{Cause, Outcome, status_of, tell};
@@ -41,6 +42,7 @@ fn ledger<I: Source>(alloc: Global, source: &mut I) -> Result<String, Cause>
     ensures read_fault { result ≡ Err Cause.ReadFault → Rose (I.faults source.old) (I.faults source.new) }
     ensures too_long { result ≡ Err Cause.TooLong → TookTooMany (I.left source.old) (I.left source.new) }
     ensures refused { IfErr result (LedgerRefusal (I.left source.old) (I.left source.new)) }
+    ensures ends { (octets : List ℕ) → I.left source.old ≡ Some octets → (Rose (I.faults source.old) (I.faults source.new) → ⊥) → EndsAs (expected Ledger octets) result }
     ensures never_falls { I.faults source.old ≤ I.faults source.new }
 {
     match read_all(alloc, source, MOST_OCTETS) {
@@ -65,5 +67,82 @@ fn print<O: Sink>(out: &mut O, text: &[u8]) -> Cause
         Ok(()) => Cause::Done,
         Err(WriteErr::Fault { written }) => Cause::WriteFault { written },
         Err(WriteErr::NoMemory { .. }) => Cause::NoMemory,
+    }
+}
+
+/// Does what a command asks for.
+fn carry_out<I: Source, O: Sink>(
+    alloc: Global,
+    command: Command,
+    source: &mut I,
+    out: &mut O,
+) -> Cause
+    ensures done { result ≡ Cause.Done → Wrote command (I.left source.old) (I.left source.new) (O.held out.old) (O.held out.new) }
+    ensures part { (written : ℕ) → result ≡ Cause.WriteFault written → WrotePart command (I.left source.old) (I.left source.new) (O.held out.old) (O.held out.new) written }
+    ensures write_fault { (written : ℕ) → result ≡ Cause.WriteFault written → Rose (O.faults out.old) (O.faults out.new) }
+    ensures read_fault { result ≡ Cause.ReadFault → Rose (I.faults source.old) (I.faults source.new) }
+    ensures too_long { result ≡ Cause.TooLong → TookTooMany (I.left source.old) (I.left source.new) }
+    ensures not_toml { result ≡ Cause.NotToml → Refuses (I.left source.old) (I.left source.new) Cause.NotToml }
+    ensures bad_scenario { (rule entry : ℕ) → result ≡ Cause.BadScenario rule entry → Refuses (I.left source.old) (I.left source.new) (Cause.BadScenario rule entry) }
+    ensures memory { result ≡ Cause.NoMemory → (out.new ≡ out.old) ⊎ WroteUntilNoMemory command (I.left source.old) (I.left source.new) (O.held out.old) (O.held out.new) }
+    ensures bad_words { result ≡ Cause.BadWords → ⊥ }
+    ensures nothing_written { WritesNothing result → out.new ≡ out.old }
+    ensures unread { ReadsNothing command → source.new ≡ source.old }
+    ensures pages { ReadsNothing command → IsOfWriting result }
+    ensures ends { (octets : List ℕ) → I.left source.old ≡ Some octets → (Rose (I.faults source.old) (I.faults source.new) → ⊥) → (Rose (O.faults out.old) (O.faults out.new) → ⊥) → (result ≡ expected command octets) ⊎ (result ≡ Cause.NoMemory) }
+{
+    match command {
+        Command::Ledger => match ledger(alloc, source) {
+            Ok(text) => print(out, text.as_bytes()),
+            Err(cause) => cause,
+        },
+        Command::Help => print(out, HELP.as_bytes()),
+        Command::Version => print(out, VERSION.as_bytes()),
+    }
+}
+
+/// Does what the words ask for, on one thread, and returns for every source and sink. The err sink gains
+/// a prefix of the cause's text; its faults change nothing.
+pub fn srp_plain<I: Source, O: Sink, E: Sink>(
+    alloc: Global,
+    words: &Seq<Seq<u8>>,
+    source: &mut I,
+    out: &mut O,
+    err: &mut E,
+) -> Outcome
+    ensures status { result.status ≡ status_of_lem result.cause }
+
+    // The words.
+    ensures bad_words { (result.cause ≡ Cause.BadWords) ↔ (command_of_lem words.now ≡ None) }
+    ensures bad_words_unread { result.cause ≡ Cause.BadWords → source.new ≡ source.old }
+    ensures pages_unread { IfSome (command_of_lem words.now) (λ command. ReadsNothing command → source.new ≡ source.old) }
+
+    // The output.
+    ensures done { result.cause ≡ Cause.Done → IfSome (command_of_lem words.now) (λ command. Wrote command (I.left source.old) (I.left source.new) (O.held out.old) (O.held out.new)) }
+    ensures part { (written : ℕ) → result.cause ≡ Cause.WriteFault written → IfSome (command_of_lem words.now) (λ command. WrotePart command (I.left source.old) (I.left source.new) (O.held out.old) (O.held out.new) written) }
+    ensures memory { result.cause ≡ Cause.NoMemory → IfSome (command_of_lem words.now) (λ command. (out.new ≡ out.old) ⊎ WroteUntilNoMemory command (I.left source.old) (I.left source.new) (O.held out.old) (O.held out.new)) }
+    ensures nothing_written { WritesNothing result.cause → out.new ≡ out.old }
+
+    // The causes.
+    ensures read_fault { result.cause ≡ Cause.ReadFault → Rose (I.faults source.old) (I.faults source.new) }
+    ensures too_long { result.cause ≡ Cause.TooLong → TookTooMany (I.left source.old) (I.left source.new) }
+    ensures not_toml { result.cause ≡ Cause.NotToml → Refuses (I.left source.old) (I.left source.new) Cause.NotToml }
+    ensures bad_scenario { (rule entry : ℕ) → result.cause ≡ Cause.BadScenario rule entry → Refuses (I.left source.old) (I.left source.new) (Cause.BadScenario rule entry) }
+    ensures write_fault { (written : ℕ) → result.cause ≡ Cause.WriteFault written → Rose (O.faults out.old) (O.faults out.new) }
+
+    // Where nothing fails, the ending is the expected one, or want of memory.
+    ensures ends { (octets : List ℕ) → I.left source.old ≡ Some octets → (Rose (I.faults source.old) (I.faults source.new) → ⊥) → (Rose (O.faults out.old) (O.faults out.new) → ⊥) → IfSome (command_of_lem words.now) (λ command. (result.cause ≡ expected command octets) ⊎ (result.cause ≡ Cause.NoMemory)) }
+
+    // The text of the cause.
+    ensures told { GainsFront (E.held err.old) (E.held err.new) (err_text result.cause) }
+{
+    let cause = match command_of(words) {
+        Some(command) => carry_out(alloc, command, source, out),
+        None => Cause::BadWords,
+    };
+    tell(alloc, err, cause);
+    Outcome {
+        status: status_of(cause),
+        cause,
     }
 }

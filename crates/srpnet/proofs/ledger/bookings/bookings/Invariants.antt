@@ -1,7 +1,7 @@
 use Rattle.std.proofs.Common.{◌≡◌, ◌+◌, drop, None}
 use Rattle.port_ledger.specs.Book.{Book}
 use Rattle.srpnet.specs.LedgerFile.{first_fall}
-use Rattle.srpnet.specs.LedgerRun.{Leads, fresh}
+use Rattle.srpnet.specs.LedgerRun.{Leads}
 use Rattle.srpnet.proofs.ledger.bookings.bookings.Given as goal
 
 abbrev pub invariant-loop-want : goal.invariant-loop-want
