@@ -1,3 +1,4 @@
+pub mod Ending
 pub mod LedgerFile
 pub mod LedgerInput
 pub mod LedgerRun

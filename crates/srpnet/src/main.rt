@@ -1,4 +1,15 @@
-//! `srpnet`: the Stream Reservation Protocol over a file, as a program.
+//! `srpnet`: the Stream Reservation Protocol (IEEE Std 802.1Q-2018) over a file, as a program.
+//!
+//! ```text
+//! words    the table of the command line
+//! top      srp_main, srp_plain: words and streams in, an outcome out
+//! ledger   the command `ledger`: input, file, bookings, text
+//! outcome  statuses, causes and their texts
+//! pages    --help and --version
+//! ```
+//!
+//! The top call's contract is one record, `IsEnding`: which words are bad, which text goes out for which
+//! input, and why each other status comes.
 #![tactic(auto)]
 
 mod ledger;
@@ -7,4 +18,46 @@ mod pages;
 mod top;
 mod words;
 
-fn main() {}
+use srp_base::{NoMemory, Seq};
+use srp_io::{StdSink, StdSource};
+use std::alloc::Global;
+use std::process::ExitCode;
+use std::{env, io};
+
+/// The status where the words can't be had for want of memory.
+const NO_MEMORY: u8 = 9;
+
+/// A word that matches no row of the table: what stands for a word that isn't UTF-8.
+const NO_WORD: &str = "";
+
+/// The words of the command line without the program's name, each as its octets.
+fn words_of(alloc: Global, args: io::Result<env::Args>) -> Result<Seq<Seq<u8>>, NoMemory> {
+    let mut words = Vec::new(alloc);
+    match args {
+        Ok(args) => {
+            for arg in args.skip(1) {
+                words.push(Seq::from_vec(arg.into_bytes()))?;
+            }
+        }
+        Err(error) => {
+            if error.kind() == io::ErrorKind::OutOfMemory {
+                return Err(NoMemory);
+            }
+            let word = String::from_str(alloc, NO_WORD)?;
+            words.push(Seq::from_vec(word.into_bytes()))?;
+        }
+    }
+    Ok(Seq::from_vec(words))
+}
+
+fn main(rt: HostRuntime) -> ExitCode {
+    let words = match words_of(rt.alloc(), env::args(&rt)) {
+        Ok(words) => words,
+        Err(_) => return ExitCode::from(NO_MEMORY),
+    };
+    let mut source = StdSource::new(rt.stdin());
+    let mut out = StdSink::new(rt.stdout());
+    let mut err = StdSink::new(rt.stderr());
+    let outcome = top::srp_main(&rt, &words, &mut source, &mut out, &mut err);
+    ExitCode::from(outcome.status)
+}

@@ -8,6 +8,7 @@ ghost use Rattle.srpnet.specs.LedgerInput.{ledger_input as ledger_input_lem};
 ghost use Rattle.srpnet.specs.LedgerText.{LedgerOutput};
 ghost use Rattle.srpnet.specs.Outcomes.{status_of as status_of_lem, err_text};
 ghost use Rattle.srpnet.specs.Words.{command_of as command_of_lem};
+ghost use Rattle.srpnet.specs.Ending.{IsEnding};
 ghost use Rattle.srpnet.specs.TopCall.{IsOfWriting, PartOf, GainsFront, LedgerPrints, LedgerRefusal, IsOutput, Wrote, WrotePart, WroteUntilNoMemory, Refuses, TookTooMany, WritesNothing, ReadsNothing, EndsAs, expected};
 
 use crate::ledger::{bookings, input, text};
@@ -101,8 +102,36 @@ fn carry_out<I: Source, O: Sink>(
     }
 }
 
-/// Does what the words ask for, on one thread, and returns for every source and sink. The err sink gains
-/// a prefix of the cause's text; its faults change nothing.
+/// Does what the words ask for.
+fn end_of<I: Source, O: Sink>(
+    alloc: Global,
+    words: &Seq<Seq<u8>>,
+    source: &mut I,
+    out: &mut O,
+) -> Cause
+    ensures bad_words { (result ≡ Cause.BadWords) ↔ (command_of_lem words.now ≡ None) }
+    ensures bad_words_unread { result ≡ Cause.BadWords → source.new ≡ source.old }
+    ensures pages_unread { IfSome (command_of_lem words.now) (λ command. ReadsNothing command → source.new ≡ source.old) }
+    ensures done { result ≡ Cause.Done → IfSome (command_of_lem words.now) (λ command. Wrote command (I.left source.old) (I.left source.new) (O.held out.old) (O.held out.new)) }
+    ensures part { (written : ℕ) → result ≡ Cause.WriteFault written → IfSome (command_of_lem words.now) (λ command. WrotePart command (I.left source.old) (I.left source.new) (O.held out.old) (O.held out.new) written) }
+    ensures memory { result ≡ Cause.NoMemory → IfSome (command_of_lem words.now) (λ command. (out.new ≡ out.old) ⊎ WroteUntilNoMemory command (I.left source.old) (I.left source.new) (O.held out.old) (O.held out.new)) }
+    ensures nothing_written { WritesNothing result → out.new ≡ out.old }
+    ensures read_fault { result ≡ Cause.ReadFault → Rose (I.faults source.old) (I.faults source.new) }
+    ensures too_long { result ≡ Cause.TooLong → TookTooMany (I.left source.old) (I.left source.new) }
+    ensures not_toml { result ≡ Cause.NotToml → Refuses (I.left source.old) (I.left source.new) Cause.NotToml }
+    ensures bad_scenario { (rule entry : ℕ) → result ≡ Cause.BadScenario rule entry → Refuses (I.left source.old) (I.left source.new) (Cause.BadScenario rule entry) }
+    ensures write_fault { (written : ℕ) → result ≡ Cause.WriteFault written → Rose (O.faults out.old) (O.faults out.new) }
+    ensures ends { (octets : List ℕ) → I.left source.old ≡ Some octets → (Rose (I.faults source.old) (I.faults source.new) → ⊥) → (Rose (O.faults out.old) (O.faults out.new) → ⊥) → IfSome (command_of_lem words.now) (λ command. (result ≡ expected command octets) ⊎ (result ≡ Cause.NoMemory)) }
+{
+    match command_of(words) {
+        Some(command) => carry_out(alloc, command, source, out),
+        None => Cause::BadWords,
+    }
+}
+
+/// Does what the words ask for, on one thread, and returns for every source and sink. Want of memory may
+/// come at any place after the words; the order of the other refusals is bad words, reading, TOML, the
+/// file's rules, writing. Faults and want of memory of the err sink change nothing.
 pub fn srp_plain<I: Source, O: Sink, E: Sink>(
     alloc: Global,
     words: &Seq<Seq<u8>>,
@@ -111,38 +140,28 @@ pub fn srp_plain<I: Source, O: Sink, E: Sink>(
     err: &mut E,
 ) -> Outcome
     ensures status { result.status ≡ status_of_lem result.cause }
-
-    // The words.
-    ensures bad_words { (result.cause ≡ Cause.BadWords) ↔ (command_of_lem words.now ≡ None) }
-    ensures bad_words_unread { result.cause ≡ Cause.BadWords → source.new ≡ source.old }
-    ensures pages_unread { IfSome (command_of_lem words.now) (λ command. ReadsNothing command → source.new ≡ source.old) }
-
-    // The output.
-    ensures done { result.cause ≡ Cause.Done → IfSome (command_of_lem words.now) (λ command. Wrote command (I.left source.old) (I.left source.new) (O.held out.old) (O.held out.new)) }
-    ensures part { (written : ℕ) → result.cause ≡ Cause.WriteFault written → IfSome (command_of_lem words.now) (λ command. WrotePart command (I.left source.old) (I.left source.new) (O.held out.old) (O.held out.new) written) }
-    ensures memory { result.cause ≡ Cause.NoMemory → IfSome (command_of_lem words.now) (λ command. (out.new ≡ out.old) ⊎ WroteUntilNoMemory command (I.left source.old) (I.left source.new) (O.held out.old) (O.held out.new)) }
-    ensures nothing_written { WritesNothing result.cause → out.new ≡ out.old }
-
-    // The causes.
-    ensures read_fault { result.cause ≡ Cause.ReadFault → Rose (I.faults source.old) (I.faults source.new) }
-    ensures too_long { result.cause ≡ Cause.TooLong → TookTooMany (I.left source.old) (I.left source.new) }
-    ensures not_toml { result.cause ≡ Cause.NotToml → Refuses (I.left source.old) (I.left source.new) Cause.NotToml }
-    ensures bad_scenario { (rule entry : ℕ) → result.cause ≡ Cause.BadScenario rule entry → Refuses (I.left source.old) (I.left source.new) (Cause.BadScenario rule entry) }
-    ensures write_fault { (written : ℕ) → result.cause ≡ Cause.WriteFault written → Rose (O.faults out.old) (O.faults out.new) }
-
-    // Where nothing fails, the ending is the expected one, or want of memory.
-    ensures ends { (octets : List ℕ) → I.left source.old ≡ Some octets → (Rose (I.faults source.old) (I.faults source.new) → ⊥) → (Rose (O.faults out.old) (O.faults out.new) → ⊥) → IfSome (command_of_lem words.now) (λ command. (result.cause ≡ expected command octets) ⊎ (result.cause ≡ Cause.NoMemory)) }
-
-    // The text of the cause.
+    ensures ending { IsEnding I.left I.faults O.held O.faults words.now source.old source.new out.old out.new result.cause }
     ensures told { GainsFront (E.held err.old) (E.held err.new) (err_text result.cause) }
 {
-    let cause = match command_of(words) {
-        Some(command) => carry_out(alloc, command, source, out),
-        None => Cause::BadWords,
-    };
+    let cause = end_of(alloc, words, source, out);
     tell(alloc, err, cause);
     Outcome {
         status: status_of(cause),
         cause,
     }
+}
+
+/// The call of the program's main, with the runtime that it was given.
+pub fn srp_main<R: AllocGlobal, I: Source, O: Sink, E: Sink>(
+    rt: &R,
+    words: &Seq<Seq<u8>>,
+    source: &mut I,
+    out: &mut O,
+    err: &mut E,
+) -> Outcome
+    ensures status { result.status ≡ status_of_lem result.cause }
+    ensures ending { IsEnding I.left I.faults O.held O.faults words.now source.old source.new out.old out.new result.cause }
+    ensures told { GainsFront (E.held err.old) (E.held err.new) (err_text result.cause) }
+{
+    srp_plain(rt.alloc(), words, source, out, err)
 }
