@@ -21,6 +21,8 @@ pub mod list;
 pub mod memory;
 pub mod mrp;
 pub mod numbers;
+#[cfg(test)]
+mod tests;
 
 pub use bandwidth::{Class, Percent, Rank, Rate};
 pub use hexadecimal::read_hex16;

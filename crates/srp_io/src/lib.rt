@@ -18,6 +18,8 @@
 pub mod sink;
 pub mod source;
 pub mod standard;
+#[cfg(test)]
+mod tests;
 pub mod whole;
 
 pub use sink::{MemSink, PlainSink, Sink, SinkErr};

@@ -15,6 +15,8 @@
 mod ledger;
 mod outcome;
 mod pages;
+#[cfg(test)]
+mod tests;
 mod top;
 mod words;
 

@@ -12,6 +12,8 @@
 
 pub mod fields;
 pub mod rules;
+#[cfg(test)]
+mod tests;
 
 pub use fields::{has_only, number, number_or, tables, text, within};
 pub use rules::{RuleErr, holds, needs};
