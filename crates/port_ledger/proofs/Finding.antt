@@ -1,12 +1,11 @@
 -- Where a stream stands in a list that ascends by StreamID, and whether it is among chosen ones.
-use Rattle.std.proofs.Common.{◌≡◌, ◌≢◌, ◌⊎◌, ℕ, zero, suc, ◌+◌, ◌-◌, ◌<◌, ◌≤◌, Bool, true, false, ◌==◌, ◌||◌, ◌&&◌, cond, List, [], ◌∷◌, ◌++◌, length, get_or, take, drop, set, map, Option, Some, None, Result, Ok, Err, is_ok, refl, sym, ◌∙◌, ap, subst, arith, inl, inr, IfOk, IfErr}
-use Rattle.std.specs.Prelude.{find, MatchResult, nat_lt}
-use Rattle.std.specs.Ordering.{nat_cmp, is_lt, ordering_index}
-use Rattle.std.specs.declared.cmp.Ordering.{Ordering}
+use Rattle.std.proofs.Common.{◌≡◌, ◌≢◌, ℕ, zero, suc, ◌+◌, ◌<◌, ◌≤◌, Bool, true, false, ◌==◌, ◌||◌, ◌&&◌, cond, List, [], ◌∷◌, ◌++◌, length, get_or, take, drop, set, Option, Some, None, Result, Ok, Err, is_ok, refl, sym, ◌∙◌, ap, subst, arith, inl, inr, IfOk, IfErr}
+use Rattle.std.specs.Prelude.{find, nat_lt}
+use Rattle.std.specs.Ordering.{nat_cmp, is_lt}
 use Rattle.std.specs.declared.cmp.Ordering.TheVariants.{Less, Equal, Greater}
-use Rattle.std.specs.List.{AllByRecursion, All, AllWithin, HoldsAt, list_any}
-use Rattle.std.specs.List.Sorted.{IsNonDecreasing, IsNonDecreasingBy, IsBinarySearchResult, IsSearchInRange, IsSortedBy}
-use Rattle.std.proofs.lemmas.Bool.{eq-eqb, ne_eqb, cases_lt, cases_Bool, eqb-true, eqb-false, lt-ltb, le-ltb, or_left, or_right, or_from, and_left, cond-true, cond-false}
+use Rattle.std.specs.List.{AllByRecursion, AllWithin, HoldsAt, list_any}
+use Rattle.std.specs.List.Sorted.{IsNonDecreasing, IsBinarySearchResult, IsSearchInRange, IsSortedBy}
+use Rattle.std.proofs.lemmas.Bool.{eq-eqb, ne_eqb, cases_lt, cases_Bool, eqb-true, eqb-false, lt-ltb, le-ltb, or_from, and_left, cond-true, cond-false}
 use Rattle.std.proofs.lemmas.Bool.Decides.{nat_tests}
 use Rattle.std.proofs.lemmas.Cmp.{nat_cmp_total}
 use Rattle.std.proofs.lemmas.List.Recursion.{or_at, or_is, found_at, found_nowhere}
@@ -28,10 +27,10 @@ among_found xs x (Ok i) up h =
     sym (or_at (list_any (λ s. s == x)) (λ s. s == x) refl (λ _ _. refl) xs i 0 s.0 (eq-eqb (get_or xs i 0) x s.1))
 among_found xs x (Err i) up h =
     let s : (i ≤ length xs) × ((k : ℕ) → k < i → get_or xs k 0 < x) × ((k : ℕ) → i ≤ k → k < length xs → x < get_or xs k 0) =
-      searched xs x (Err i) h (λ i j a b. up i j 0 a b) in
+    searched xs x (Err i) h (λ i j a b. up i j 0 a b) in
     or_is (list_any (λ s. s == x)) (λ s. s == x) refl (λ _ _. refl) xs 0 false (λ e. absurd (let k : false ≡ true = e in cc))
-      (λ _ k l. ne_eqb (get_or xs k 0) x
-        (λ e. elim (cases_lt k i) [ inl below ↦ omega (arith, s.1 k below, e) | inr over ↦ omega (arith, s.2 k over l, e) ]))
+    (λ _ k l. ne_eqb (get_or xs k 0) x
+    (λ e. elim (cases_lt k i) [ inl below ↦ omega (arith, s.1 k below, e) | inr over ↦ omega (arith, s.2 k over l, e) ]))
 
 -- of two places the earlier has the lower StreamID
 pub ascending_at : (xs : List Entry) → IsAscending xs → (i j : ℕ) (d : Entry) → i < j → j < length xs → stream_of (get_or xs i d) < stream_of (get_or xs j d)
@@ -62,7 +61,7 @@ pub place_missing : (xs : List Entry) (stream : ℕ) (r : Result ℕ ℕ) → Is
 place_missing xs stream (Ok i) up range h = tt
 place_missing xs stream (Err i) up range h =
     let split : AllWithin (λ y. nat_cmp (stream_of y) stream ≡ Less) xs 0 i × AllWithin (λ y. nat_cmp (stream_of y) stream ≡ Greater) xs i (length xs) =
-      h (searchable_from_sorted nat_cmp_total stream_of xs stream (sorted_from_ascending xs up)) in
+    h (searchable_from_sorted nat_cmp_total stream_of xs stream (sorted_from_ascending xs up)) in
     (range, (λ k d a b. less_is (stream_of (get_or xs k d)) stream (split.0 k d a b)), (λ k d a b. greater_is (stream_of (get_or xs k d)) stream (split.1 k d a b)))
 
 -- an entry that is read of no list
@@ -73,14 +72,14 @@ blank = record { want = record { stream = record { 0 = 0 }; class = A; rank = Em
 pub found_is : (xs : List Entry) (stream i : ℕ) (d : Entry) → IsAscending xs → i < length xs → stream_of (get_or xs i d) ≡ stream → find (λ x. stream_of x == stream) xs ≡ Some (get_or xs i d)
 found_is xs stream i d up l e =
     found_at (find (λ x. stream_of x == stream)) (λ x. stream_of x == stream) (λ x. Some x) None refl (λ _ _. refl) xs i d l
-      (λ k below. ne_eqb (stream_of (get_or xs k d)) stream (λ f. omega (arith, ascending_at xs up k i d below l, e, f)))
-      (eq-eqb (stream_of (get_or xs i d)) stream e)
+    (λ k below. ne_eqb (stream_of (get_or xs k d)) stream (λ f. omega (arith, ascending_at xs up k i d below l, e, f)))
+    (eq-eqb (stream_of (get_or xs i d)) stream e)
 
 pub missing_is : (xs : List Entry) (stream i : ℕ) → AllWithin (λ x. stream_of x < stream) xs 0 i → AllWithin (λ x. stream < stream_of x) xs i (length xs) → find (λ x. stream_of x == stream) xs ≡ None
 missing_is xs stream i low high =
     found_nowhere (find (λ x. stream_of x == stream)) (λ x. stream_of x == stream) (λ x. Some x) None refl (λ _ _. refl) xs blank
-      (λ k l. ne_eqb (stream_of (get_or xs k blank)) stream
-        (λ f. elim (cases_lt k i) [ inl below ↦ omega (arith, low k blank (omega arith) below, f) | inr over ↦ omega (arith, high k blank over l, f) ]))
+    (λ k l. ne_eqb (stream_of (get_or xs k blank)) stream
+    (λ f. elim (cases_lt k i) [ inl below ↦ omega (arith, low k blank (omega arith) below, f) | inr over ↦ omega (arith, high k blank over l, f) ]))
 
 -- the first place of a list with a want, by how its StreamID compares
 pub with_want-lower : (x : Entry) (xs : List Entry) (want : Want) → want.stream.0 < stream_of x → with_want (x ∷ xs) want ≡ unbooked want ∷ x ∷ xs
@@ -120,8 +119,8 @@ differ x y ne =
     let classes : Bool = class_number x.want.class == class_number y.want.class in
     let ranks : Bool = rank_number x.want.rank == rank_number y.want.rank in
     and_left (same_want x.want y.want) (same_since x.since y.since)
-      (and_left (streams && classes && ranks) (x.want.slope == y.want.slope)
-        (and_left (streams && classes) ranks (and_left streams classes (ne_eqb (stream_of x) (stream_of y) ne))))
+    (and_left (streams && classes && ranks) (x.want.slope == y.want.slope)
+    (and_left (streams && classes) ranks (and_left streams classes (ne_eqb (stream_of x) (stream_of y) ne))))
 
 others_differ : (x : Entry) (xs : List Entry) → AllByRecursion (λ y. stream_of x < stream_of y) xs → list_any (same_entry x) xs ≡ false
 others_differ x [] h = refl
@@ -140,11 +139,12 @@ or-false false b h = sym h
 pub has_entry_is : (x : Entry) (xs : List Entry) → IsAscending xs → found_same x (entry_of xs x.want.stream) ≡ list_any (same_entry x) xs
 has_entry_is x [] up = refl
 has_entry_is x (y ∷ ys) up =
-    elim (cases_Bool (stream_of y == stream_of x))
-      [ inl h ↦
+    elim (cases_Bool (stream_of y == stream_of x)) [
+      | inl h ↦
           (let e : stream_of y ≡ stream_of x = eqb-true (stream_of y) (stream_of x) h in
-           ap (λ b. found_same x (cond b (Some y) (entry_of ys x.want.stream))) h
-           ∙ or-false (same_entry x y) (list_any (same_entry x) ys) (others_differ x ys (subst (λ (s : ℕ). AllByRecursion (λ z. s < stream_of z) ys) e up.0)))
+          ap (λ b. found_same x (cond b (Some y) (entry_of ys x.want.stream))) h
+          ∙ or-false (same_entry x y) (list_any (same_entry x) ys) (others_differ x ys (subst (λ (s : ℕ). AllByRecursion (λ z. s < stream_of z) ys) e up.0)))
       | inr h ↦
           ap (λ b. found_same x (cond b (Some y) (entry_of ys x.want.stream))) h
-          ∙ (has_entry_is x ys up.1 ∙ ap (λ b. b || list_any (same_entry x) ys) (sym (differ x y (λ e. eqb-false (stream_of y) (stream_of x) h (sym e))))) ]
+          ∙ (has_entry_is x ys up.1 ∙ ap (λ b. b || list_any (same_entry x) ys) (sym (differ x y (λ e. eqb-false (stream_of y) (stream_of x) h (sym e)))))
+    ]

@@ -1,5 +1,5 @@
 -- What holds of every ledger is kept by a call that decides.
-use Rattle.std.proofs.Common.{◌≡◌, ◌⊎◌, ℕ, ◌+◌, ◌*◌, ◌/◌, ◌<◌, ◌≤◌, Bool, true, false, ◌==◌, cond, List, [], ◌∷◌, ◌++◌, take, drop, length, Option, Some, None, refl, sym, ◌∙◌, ap, subst, arith, inl, inr}
+use Rattle.std.proofs.Common.{◌≡◌, ℕ, ◌<◌, ◌≤◌, Bool, true, false, cond, List, [], ◌∷◌, ◌++◌, take, drop, length, Option, Some, None, refl, sym, ◌∙◌, ap, subst, arith, inl, inr}
 use Rattle.std.specs.List.{AllByRecursion}
 use Rattle.std.proofs.Math.Seq.{take-append_seam}
 use Rattle.std.proofs.lemmas.Bool.{cases_order}
@@ -12,7 +12,7 @@ use Rattle.stream_importance.specs.declared.entry.Want.{Want}
 use Rattle.stream_importance.specs.declared.slope.Caps.{Caps}
 use Rattle.stream_importance.specs.Bandwidth.{caps_of}
 use Rattle.stream_importance.specs.Importance.{moment_or}
-use Rattle.port_ledger.specs.Decision.{booked_of, stream_of, IsAscending, IsDecision, Decides, marks_of, settled, since_after}
+use Rattle.port_ledger.specs.Decision.{booked_of, stream_of, IsAscending, Decides, marks_of, settled, since_after}
 use Rattle.port_ledger.specs.Book.{Book, IsKept, fit_in, tested_as, same_want, unbooked, entry_with, with_want}
 use Rattle.port_ledger.proofs.Running.{all_with}
 use Rattle.port_ledger.proofs.Finding.{with_want-lower, with_want-same, with_want-higher}
@@ -36,11 +36,13 @@ moments_later moment now xs up h = all_with xs h h (λ x k _. moment_later x.sin
 all-with_want : (P : Entry → Type 0) (want : Want) (xs : List Entry) → P (unbooked want) → ((x : Entry) → stream_of x ≡ want.stream.0 → P x → P (entry_with x want)) → AllByRecursion P xs → AllByRecursion P (with_want xs want)
 all-with_want P want [] new more h = (new, tt)
 all-with_want P want (x ∷ xs) new more h =
-    elim (cases_order want.stream.0 (stream_of x))
-      [ inl e ↦ subst (λ (ys : List Entry). AllByRecursion P ys) (sym (with_want-same x xs want (sym e))) (more x (sym e) h.0, h.1)
-      | inr c ↦ elim c
-          [ inl l ↦ subst (λ (ys : List Entry). AllByRecursion P ys) (sym (with_want-lower x xs want l)) (new, h)
-          | inr l ↦ subst (λ (ys : List Entry). AllByRecursion P ys) (sym (with_want-higher x xs want l)) (h.0, all-with_want P want xs new more h.1) ] ]
+    elim (cases_order want.stream.0 (stream_of x)) [
+      | inl e ↦ subst (λ (ys : List Entry). AllByRecursion P ys) (sym (with_want-same x xs want (sym e))) (more x (sym e) h.0, h.1)
+      | inr c ↦ elim c [
+        | inl l ↦ subst (λ (ys : List Entry). AllByRecursion P ys) (sym (with_want-lower x xs want l)) (new, h)
+        | inr l ↦ subst (λ (ys : List Entry). AllByRecursion P ys) (sym (with_want-higher x xs want l)) (h.0, all-with_want P want xs new more h.1)
+      ]
+    ]
 
 stream_of-entry_with : (x : Entry) (want : Want) → stream_of x ≡ want.stream.0 → stream_of (entry_with x want) ≡ stream_of x
 stream_of-entry_with x want e =
@@ -49,15 +51,17 @@ stream_of-entry_with x want e =
 pub ascending-with_want : (want : Want) (xs : List Entry) → IsAscending xs → IsAscending (with_want xs want)
 ascending-with_want want [] up = (tt, tt)
 ascending-with_want want (x ∷ xs) up =
-    elim (cases_order want.stream.0 (stream_of x))
-      [ inl e ↦ subst (λ (ys : List Entry). IsAscending ys) (sym (with_want-same x xs want (sym e)))
+    elim (cases_order want.stream.0 (stream_of x)) [
+      | inl e ↦ subst (λ (ys : List Entry). IsAscending ys) (sym (with_want-same x xs want (sym e)))
           (let s : stream_of (entry_with x want) ≡ stream_of x = stream_of-entry_with x want (sym e) in
-           (subst (λ (n : ℕ). AllByRecursion (λ y. n < stream_of y) xs) (sym s) up.0, up.1))
-      | inr c ↦ elim c
-          [ inl l ↦ subst (λ (ys : List Entry). IsAscending ys) (sym (with_want-lower x xs want l))
-              ((l, all_with xs up.0 up.0 (λ y k _. omega (arith, l, k))), up)
-          | inr l ↦ subst (λ (ys : List Entry). IsAscending ys) (sym (with_want-higher x xs want l))
-              (all-with_want (λ y. stream_of x < stream_of y) want xs l (λ y e k. omega (arith, stream_of-entry_with y want e, k)) up.0, ascending-with_want want xs up.1) ] ]
+          (subst (λ (n : ℕ). AllByRecursion (λ y. n < stream_of y) xs) (sym s) up.0, up.1))
+      | inr c ↦ elim c [
+        | inl l ↦ subst (λ (ys : List Entry). IsAscending ys) (sym (with_want-lower x xs want l))
+            ((l, all_with xs up.0 up.0 (λ y k _. omega (arith, l, k))), up)
+        | inr l ↦ subst (λ (ys : List Entry). IsAscending ys) (sym (with_want-higher x xs want l))
+            (all-with_want (λ y. stream_of x < stream_of y) want xs l (λ y e k. omega (arith, stream_of-entry_with y want e, k)) up.0, ascending-with_want want xs up.1)
+      ]
+    ]
 
 moment-entry_with : (now : ℕ) (x : Entry) (want : Want) → moment_or now x.since ≤ now → moment_or now (entry_with x want).since ≤ now
 moment-entry_with now x want h =
@@ -93,17 +97,18 @@ ascending_after now caps before after up d = subst (λ (ys : List Entry). IsAsce
 -- a decided list of entries makes a ledger
 pub kept_after : (caps : Caps) (now : ℕ) (before after : List Entry) → caps.class_a ≤ caps.both → IsAscending before → AllByRecursion (λ x. moment_or now x.since ≤ now) before → Decides now caps before after → IsKept (record { caps = caps; moment = now; entries = after })
 kept_after caps now before after shares up moments d =
-    record
-      { ascending = ascending_after now caps before after up d;
-        shares = shares;
-        moments = subst (λ (ys : List Entry). AllByRecursion (λ x. moment_or now x.since ≤ now) ys) (sym d.moments) (moments-settled now before (marks_of after) moments);
-        decision = decision_settled now caps before after moments d }
+    record {
+      ascending = ascending_after now caps before after up d;
+      shares = shares;
+      moments = subst (λ (ys : List Entry). AllByRecursion (λ x. moment_or now x.since ≤ now) ys) (sym d.moments) (moments-settled now before (marks_of after) moments);
+      decision = decision_settled now caps before after moments d;
+    }
 
 -- the ledger after a want
 pub kept_with_want : (book : Book) (now : ℕ) (want : Want) (after : List Entry) → IsKept book → book.moment ≤ now → Decides now book.caps (with_want book.entries want) after → IsKept (record { caps = book.caps; moment = now; entries = after })
 kept_with_want book now want after kept up d =
     kept_after book.caps now (with_want book.entries want) after kept.shares (ascending-with_want want book.entries kept.ascending)
-      (moments-with_want now want book.entries (moments_later book.moment now book.entries up kept.moments)) d
+    (moments-with_want now want book.entries (moments_later book.moment now book.entries up kept.moments)) d
 
 -- what was written through a slice of all of a vector
 pub written_back : (n : ℕ) (xs ys : List Entry) → n ≡ length xs → length ys ≡ length xs → take n (ys ++ drop (length ys) xs) ≡ ys
@@ -113,4 +118,4 @@ written_back n xs ys e f = ap (λ k. take k (ys ++ drop (length ys) xs)) (e ∙ 
 pub fit_in_book : (now moment : ℕ) (caps : Caps) (entries one two : List Entry) (want : Want) (x : Entry) (fit : Fit) (book : Book) → fit ≡ fit_in now caps (booked_of two) x → x ≡ tested_as one want → one ≡ entries → two ≡ entries → record { caps = caps; moment = moment; entries = entries } ≡ book → fit ≡ fit_in now book.caps (booked_of book.entries) (tested_as book.entries want)
 fit_in_book now moment caps entries one two want x fit book e tested first second same =
     subst (λ (b : Book). fit ≡ fit_in now b.caps (booked_of b.entries) (tested_as b.entries want)) same
-      (e ∙ (ap (λ ys. fit_in now caps (booked_of ys) x) second ∙ ap (λ y. fit_in now caps (booked_of entries) y) (tested ∙ ap (λ ys. tested_as ys want) first)))
+    (e ∙ (ap (λ ys. fit_in now caps (booked_of ys) x) second ∙ ap (λ y. fit_in now caps (booked_of entries) y) (tested ∙ ap (λ ys. tested_as ys want) first)))

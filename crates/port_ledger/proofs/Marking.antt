@@ -9,7 +9,7 @@ use Rattle.stream_importance.specs.declared.entry.Entry.{Entry}
 use Rattle.stream_importance.specs.Importance.{is_more_important}
 use Rattle.stream_importance.specs.declared.slope.Caps.{Caps}
 use Rattle.stream_importance.specs.Bandwidth.{cap_of}
-use Rattle.port_ledger.specs.Decision.{stream_of, slope_of, above, does_fit, marked, IsDecision, Decides, IsAscending, AreOfDifferentStreams, marks_of, settled, since_after}
+use Rattle.port_ledger.specs.Decision.{stream_of, slope_of, does_fit, marked, IsDecision, Decides, IsAscending, AreOfDifferentStreams, marks_of, settled, since_after}
 use Rattle.port_ledger.specs.Pass.{is_among, taken}
 use Rattle.port_ledger.proofs.Running.{total, above-filter, Holds, Runs, IsRanked, holds_from_runs, runs_from_holds, runs_agree, all_with}
 use Rattle.port_ledger.proofs.Ranking.{ranked, ranked_from_sorted, IsPermutation-ranked, ranked_is_ranked, holds_permuted, all_permuted, different_permuted}
@@ -51,15 +51,15 @@ holds_from_decision now caps xs marks d =
 pub ranked_runs : (now : ℕ) (caps : Caps) (b : Entry → Bool) (xs : List Entry) → AreOfDifferentStreams xs → AllByRecursion (Holds now caps 0 b xs) xs → Runs caps 0 b (ranked now xs)
 ranked_runs now caps b xs different h =
     runs_from_holds now caps 0 b (ranked now xs) (ranked_is_ranked now xs different)
-      (holds_permuted now caps 0 b xs (ranked now xs) (IsPermutation-ranked now xs) h)
+    (holds_permuted now caps 0 b xs (ranked now xs) (IsPermutation-ranked now xs) h)
 
 pub decision_unique : (now : ℕ) (caps : Caps) (xs : List Entry) → AreOfDifferentStreams xs → (marks others : List Bool) → IsDecision now caps xs marks → IsDecision now caps xs others → marks ≡ others
 decision_unique now caps xs different marks others d e =
     let b : Entry → Bool = choice now caps xs marks in
     let c : Entry → Bool = choice now caps xs others in
     let agree : AllByRecursion (λ x. b x ≡ c x) (ranked now xs) =
-      runs_agree caps 0 0 b c (ranked now xs) refl (ranked_runs now caps b xs different (holds_from_decision now caps xs marks d))
-        (ranked_runs now caps c xs different (holds_from_decision now caps xs others e)) in
+    runs_agree caps 0 0 b c (ranked now xs) refl (ranked_runs now caps b xs different (holds_from_decision now caps xs marks d))
+    (ranked_runs now caps c xs different (holds_from_decision now caps xs others e)) in
     let back : AllByRecursion (λ x. b x ≡ c x) xs = all_permuted (λ x. b x ≡ c x) (ranked now xs) xs (IsPermutation-sym xs (ranked now xs) (IsPermutation-ranked now xs)) agree in
     d ∙ (map_agree b c xs back ∙ sym e)
 
@@ -68,7 +68,7 @@ pub decision_from_pass : (now : ℕ) (caps : Caps) (xs order : List Entry) → I
 decision_from_pass now caps xs order p r different =
     let b : Entry → Bool = λ x. is_among (taken caps 0 order) (stream_of x) in
     decision_from_holds now caps b xs
-      (holds_permuted now caps 0 b order xs (IsPermutation-sym xs order p) (holds_from_runs now caps 0 b order r (taken_runs caps 0 order different)))
+    (holds_permuted now caps 0 b order xs (IsPermutation-sym xs order p) (holds_from_runs now caps 0 b order r (taken_runs caps 0 order different)))
 
 -- streams that ascend differ
 pub different_from_ascending : (xs : List Entry) → IsAscending xs → AreOfDifferentStreams xs
@@ -94,11 +94,13 @@ decides_from_pass now caps before order after streams up moved sorted among e =
     let same : map c before ≡ map b before = map_agree c b before (all_of before (λ x. list_any-IsPermutation (λ s. s == stream_of x) (taken caps 0 order) streams among)) in
     let marks : map b before ≡ marks_of after = sym (ap marks_of e ∙ marks_of-settled now b before) in
     let d : IsDecision now caps before (map c before) = decision_from_pass now caps before order moved (ranked_from_sorted now order different sorted) different in
-    record
-      { decision = subst (λ (ms : List Bool). IsDecision now caps before ms) (same ∙ marks) d;
-        moments = e ∙ ap (settled now before) marks }
+    record {
+      decision = subst (λ (ms : List Bool). IsDecision now caps before ms) (same ∙ marks) d;
+      moments = e ∙ ap (settled now before) marks;
+    }
 
 pub decision_exists : (now : ℕ) (caps : Caps) (xs : List Entry) → AreOfDifferentStreams xs → (marks : List Bool) × IsDecision now caps xs marks
-decision_exists now caps xs different =
-    (map (λ x. is_among (taken caps 0 (ranked now xs)) (stream_of x)) xs,
-      decision_from_pass now caps xs (ranked now xs) (IsPermutation-ranked now xs) (ranked_is_ranked now xs different) (different_permuted xs (ranked now xs) (IsPermutation-ranked now xs) different))
+decision_exists now caps xs different = (
+  map (λ x. is_among (taken caps 0 (ranked now xs)) (stream_of x)) xs,
+  decision_from_pass now caps xs (ranked now xs) (IsPermutation-ranked now xs) (ranked_is_ranked now xs different) (different_permuted xs (ranked now xs) (IsPermutation-ranked now xs) different),
+)

@@ -1,13 +1,13 @@
 -- The entries in the order of importance, and what doesn't depend on the order of a list.
-use Rattle.std.proofs.Common.{◌≡◌, ◌≢◌, ◌⊎◌, ℕ, suc, zero, ◌+◌, ◌<◌, ◌≤◌, Bool, true, false, not, ◌&&◌, ◌==◌, cond, List, [], ◌∷◌, length, get_or, refl, sym, ◌∙◌, ap, subst, arith, inl, inr, true≢false, zero-add}
+use Rattle.std.proofs.Common.{◌≡◌, ◌≢◌, ◌⊎◌, ℕ, suc, ◌+◌, ◌<◌, ◌≤◌, Bool, true, false, not, ◌==◌, cond, List, [], ◌∷◌, length, get_or, refl, sym, ◌∙◌, ap, subst, arith, inl, inr, true≢false, zero-add}
 use Rattle.std.specs.Prelude.{nat_le}
 use Rattle.std.specs.Cmp.{IsStrictWeakOrder}
-use Rattle.std.specs.List.{AllByRecursion, All, sum_by}
+use Rattle.std.specs.List.{AllByRecursion, All}
 use Rattle.std.specs.List.Sorted.{IsPermutation, IsSortedBy}
-use Rattle.std.proofs.lemmas.List.Sorted.{ranks_by, sorted_far, IsPermutation-refl, IsPermutation-sym, IsPermutation-cons, IsPermutation-swap, IsPermutation-trans, All-permutation, sum_by-IsPermutation}
-use Rattle.std.proofs.lemmas.List.Elements.{All-from_recursion, recursion_from_All, All-weaker}
+use Rattle.std.proofs.lemmas.List.Sorted.{ranks_by, sorted_far, IsPermutation-refl, IsPermutation-cons, IsPermutation-swap, IsPermutation-trans, All-permutation, sum_by-IsPermutation}
+use Rattle.std.proofs.lemmas.List.Elements.{All-from_recursion, recursion_from_All}
 use Rattle.std.proofs.lemmas.List.Recursion.{is_sum_by}
-use Rattle.std.proofs.lemmas.Bool.{ne_eqb, eq-eqb, and_parts, and_from, not_from_false, cases_Bool, eqb-true, not-true, eqb-false}
+use Rattle.std.proofs.lemmas.Bool.{ne_eqb, eq-eqb, and_parts, and_from, not_from_false, cases_Bool, eqb-true}
 use Rattle.stream_importance.specs.declared.entry.Entry.{Entry}
 use Rattle.stream_importance.specs.declared.slope.Caps.{Caps}
 use Rattle.stream_importance.specs.Bandwidth.{cap_of}
@@ -22,31 +22,34 @@ importance_ranks now = ranks_by (importance_total now) (λ (x : Entry). x)
 -- of two entries of different streams one goes before the other
 goes_either_way : (now : ℕ) (x y : Entry) → stream_of x ≢ stream_of y → (goes_before now y x ≡ true) ⊎ (goes_before now x y ≡ true)
 goes_either_way now x y ne =
-    elim (importance_compares now x y ne)
-      [ inl h ↦ inl (and_from (not (stream_of x == stream_of y)) (is_more_important now x y) (not_from_false (stream_of x == stream_of y) (ne_eqb (stream_of x) (stream_of y) ne)) h)
-      | inr h ↦ inr (and_from (not (stream_of y == stream_of x)) (is_more_important now y x) (not_from_false (stream_of y == stream_of x) (ne_eqb (stream_of y) (stream_of x) (λ e. ne (sym e)))) h) ]
+    elim (importance_compares now x y ne) [
+      | inl h ↦ inl (and_from (not (stream_of x == stream_of y)) (is_more_important now x y) (not_from_false (stream_of x == stream_of y) (ne_eqb (stream_of x) (stream_of y) ne)) h)
+      | inr h ↦ inr (and_from (not (stream_of y == stream_of x)) (is_more_important now y x) (not_from_false (stream_of y == stream_of x) (ne_eqb (stream_of y) (stream_of x) (λ e. ne (sym e)))) h)
+    ]
 
 goes_far : (now : ℕ) (x y z : Entry) → stream_of x ≢ stream_of z → goes_before now y x ≡ true → goes_before now z y ≡ true → goes_before now z x ≡ true
 goes_far now x y z ne h k =
     and_from (not (stream_of x == stream_of z)) (is_more_important now x z)
-      (not_from_false (stream_of x == stream_of z) (ne_eqb (stream_of x) (stream_of z) ne))
-      (importance_transitive now x y z (and_parts (not (stream_of x == stream_of y)) (is_more_important now x y) h).1
-        (and_parts (not (stream_of y == stream_of z)) (is_more_important now y z) k).1)
+    (not_from_false (stream_of x == stream_of z) (ne_eqb (stream_of x) (stream_of z) ne))
+    (importance_transitive now x y z (and_parts (not (stream_of x == stream_of y)) (is_more_important now x y) h).1
+    (and_parts (not (stream_of y == stream_of z)) (is_more_important now y z) k).1)
 
 -- what isn't after goes before
 goes_if_not_after : (now : ℕ) (x y : Entry) → stream_of x ≢ stream_of y → is_more_important now y x ≡ false → goes_before now y x ≡ true
 goes_if_not_after now x y ne h =
-    elim (goes_either_way now x y ne)
-      [ inl k ↦ k
-      | inr k ↦ absurd (true≢false (sym (and_parts (not (stream_of y == stream_of x)) (is_more_important now y x) k).1 ∙ h)) ]
+    elim (goes_either_way now x y ne) [
+      | inl k ↦ k
+      | inr k ↦ absurd (true≢false (sym (and_parts (not (stream_of y == stream_of x)) (is_more_important now y x) k).1 ∙ h))
+    ]
 
 -- a sort by importance puts entries of different streams in order
 pub ranked_from_places : (now : ℕ) (xs : List Entry) → AreOfDifferentStreams xs → ((i j : ℕ) (d : Entry) → i < j → j < length xs → is_more_important now (get_or xs j d) (get_or xs i d) ≡ false) → IsRanked now xs
 ranked_from_places now [] different h = tt
 ranked_from_places now (x ∷ xs) different h =
-    let after : All (λ y. is_more_important now y x ≡ false) xs = λ k d l. h 0 (suc k) d (omega arith) (omega arith) in
-    (all_with xs different.0 (recursion_from_All (λ y. is_more_important now y x ≡ false) xs after) (λ y ne no. goes_if_not_after now x y ne no),
-      ranked_from_places now xs different.1 (λ i j d l k. h (suc i) (suc j) d (omega arith) (omega arith)))
+    let after : All (λ y. is_more_important now y x ≡ false) xs = λ k d l. h 0 (suc k) d (omega arith) (omega arith) in (
+      all_with xs different.0 (recursion_from_All (λ y. is_more_important now y x ≡ false) xs after) (λ y ne no. goes_if_not_after now x y ne no),
+      ranked_from_places now xs different.1 (λ i j d l k. h (suc i) (suc j) d (omega arith) (omega arith)),
+    )
 
 pub ranked_from_sorted : (now : ℕ) (xs : List Entry) → AreOfDifferentStreams xs → IsSortedBy (is_more_important now) xs → IsRanked now xs
 ranked_from_sorted now xs different sorted =
@@ -64,17 +67,18 @@ ranked now (x ∷ xs) = place now x (ranked now xs)
 IsPermutation-place : (now : ℕ) (x : Entry) (ys : List Entry) → IsPermutation (x ∷ ys) (place now x ys)
 IsPermutation-place now x [] = IsPermutation-refl (x ∷ [])
 IsPermutation-place now x (y ∷ ys) =
-    elim (goes_before now y x) as (λ v. IsPermutation (x ∷ y ∷ ys) (cond v (x ∷ y ∷ ys) (y ∷ place now x ys)))
-      [ true ↦ IsPermutation-refl (x ∷ y ∷ ys)
+    elim (goes_before now y x) as (λ v. IsPermutation (x ∷ y ∷ ys) (cond v (x ∷ y ∷ ys) (y ∷ place now x ys))) [
+      | true ↦ IsPermutation-refl (x ∷ y ∷ ys)
       | false ↦ IsPermutation-trans (x ∷ y ∷ ys) (y ∷ x ∷ ys) (y ∷ place now x ys)
           (IsPermutation-swap (x ∷ y ∷ ys) (y ∷ x ∷ ys) 0 1 (omega arith) (omega arith) refl)
-          (IsPermutation-cons y (x ∷ ys) (place now x ys) (IsPermutation-place now x ys)) ]
+          (IsPermutation-cons y (x ∷ ys) (place now x ys) (IsPermutation-place now x ys))
+    ]
 
 pub IsPermutation-ranked : (now : ℕ) (xs : List Entry) → IsPermutation xs (ranked now xs)
 IsPermutation-ranked now [] = IsPermutation-refl []
 IsPermutation-ranked now (x ∷ xs) =
     IsPermutation-trans (x ∷ xs) (x ∷ ranked now xs) (place now x (ranked now xs))
-      (IsPermutation-cons x xs (ranked now xs) (IsPermutation-ranked now xs)) (IsPermutation-place now x (ranked now xs))
+    (IsPermutation-cons x xs (ranked now xs) (IsPermutation-ranked now xs)) (IsPermutation-place now x (ranked now xs))
 
 -- a fact of each element is one of each element in another order
 pub all_permuted : {X : Type 0} (P : X → Type 0) (xs ys : List X) → IsPermutation xs ys → AllByRecursion P xs → AllByRecursion P ys
@@ -83,13 +87,14 @@ all_permuted P xs ys p h = recursion_from_All P ys (All-permutation P xs ys p (A
 ranked-place : (now : ℕ) (x : Entry) (ys : List Entry) → AllByRecursion (λ y. stream_of x ≢ stream_of y) ys → IsRanked now ys → IsRanked now (place now x ys)
 ranked-place now x [] ne r = (tt, tt)
 ranked-place now x (y ∷ ys) ne r =
-    elim (cases_Bool (goes_before now y x))
-      [ inl h ↦ subst (λ (v : Bool). IsRanked now (cond v (x ∷ y ∷ ys) (y ∷ place now x ys))) (sym h)
+    elim (cases_Bool (goes_before now y x)) [
+      | inl h ↦ subst (λ (v : Bool). IsRanked now (cond v (x ∷ y ∷ ys) (y ∷ place now x ys))) (sym h)
           ((h, all_with ys ne.1 r.0 (λ z other later. goes_far now x y z other h later)), r)
       | inr h ↦ subst (λ (v : Bool). IsRanked now (cond v (x ∷ y ∷ ys) (y ∷ place now x ys))) (sym h)
           (let first : goes_before now x y ≡ true =
-             elim (goes_either_way now x y ne.0) [ inl k ↦ absurd (true≢false (sym k ∙ h)) | inr k ↦ k ] in
-           (all_permuted (λ z. goes_before now z y ≡ true) (x ∷ ys) (place now x ys) (IsPermutation-place now x ys) (first, r.0), ranked-place now x ys ne.1 r.1)) ]
+          elim (goes_either_way now x y ne.0) [ inl k ↦ absurd (true≢false (sym k ∙ h)) | inr k ↦ k ] in
+          (all_permuted (λ z. goes_before now z y ≡ true) (x ∷ ys) (place now x ys) (IsPermutation-place now x ys) (first, r.0), ranked-place now x ys ne.1 r.1))
+    ]
 
 pub ranked_is_ranked : (now : ℕ) (xs : List Entry) → AreOfDifferentStreams xs → IsRanked now (ranked now xs)
 ranked_is_ranked now [] different = tt
@@ -112,37 +117,40 @@ copies-none stream (x ∷ xs) ne =
 
 none_from_copies : (stream : ℕ) (xs : List Entry) → copies stream xs ≡ 0 → AllByRecursion (λ y. stream ≢ stream_of y) xs
 none_from_copies stream [] h = tt
-none_from_copies stream (x ∷ xs) h =
-    ((λ e. let one : one_if (stream_of x == stream) ≡ 1 = ap one_if (eq-eqb (stream_of x) stream (sym e)) in omega (arith, one, h)),
-      none_from_copies stream xs (omega (arith, h)))
+none_from_copies stream (x ∷ xs) h = (
+  (λ e. let one : one_if (stream_of x == stream) ≡ 1 = ap one_if (eq-eqb (stream_of x) stream (sym e)) in omega (arith, one, h)),
+  none_from_copies stream xs (omega (arith, h)),
+)
 
 copies_at_most : (xs : List Entry) → AreOfDifferentStreams xs → (stream : ℕ) → copies stream xs ≤ 1
 copies_at_most [] different stream = omega arith
 copies_at_most (x ∷ xs) different stream =
-    elim (cases_Bool (stream_of x == stream))
-      [ inl h ↦
+    elim (cases_Bool (stream_of x == stream)) [
+      | inl h ↦
           (let e : stream_of x ≡ stream = eqb-true (stream_of x) stream h in
-           let none : copies stream xs ≡ 0 = copies-none stream xs (subst (λ (s : ℕ). AllByRecursion (λ y. s ≢ stream_of y) xs) e different.0) in
-           let one : one_if (stream_of x == stream) ≡ 1 = ap one_if h in
-           omega (arith, none, one))
+          let none : copies stream xs ≡ 0 = copies-none stream xs (subst (λ (s : ℕ). AllByRecursion (λ y. s ≢ stream_of y) xs) e different.0) in
+          let one : one_if (stream_of x == stream) ≡ 1 = ap one_if h in
+          omega (arith, none, one))
       | inr h ↦
           (let zero' : one_if (stream_of x == stream) ≡ 0 = ap one_if h in
-           omega (arith, zero', copies_at_most xs different.1 stream)) ]
+          omega (arith, zero', copies_at_most xs different.1 stream))
+    ]
 
 different_from_copies : (xs : List Entry) → ((stream : ℕ) → copies stream xs ≤ 1) → AreOfDifferentStreams xs
 different_from_copies [] h = tt
 different_from_copies (x ∷ xs) h =
-    let one : one_if (stream_of x == stream_of x) ≡ 1 = ap one_if (eq-eqb (stream_of x) (stream_of x) refl) in
-    (none_from_copies (stream_of x) xs (omega (arith, one, h (stream_of x))),
-      different_from_copies xs (λ s. omega (arith, h s)))
+    let one : one_if (stream_of x == stream_of x) ≡ 1 = ap one_if (eq-eqb (stream_of x) (stream_of x) refl) in (
+      none_from_copies (stream_of x) xs (omega (arith, one, h (stream_of x))),
+      different_from_copies xs (λ s. omega (arith, h s)),
+    )
 
 pub different_permuted : (xs ys : List Entry) → IsPermutation xs ys → AreOfDifferentStreams xs → AreOfDifferentStreams ys
 different_permuted xs ys p different =
     different_from_copies ys
-      (λ s. let f : Entry → ℕ = λ e. one_if (stream_of e == s) in
-        let same : copies s ys ≡ copies s xs =
-          is_sum_by (copies s) f refl (λ _ _. refl) ys ∙ (sum_by-IsPermutation f xs ys p ∙ sym (is_sum_by (copies s) f refl (λ _ _. refl) xs)) in
-        omega (arith, same, copies_at_most xs different s))
+    (λ s. let f : Entry → ℕ = λ e. one_if (stream_of e == s) in
+    let same : copies s ys ≡ copies s xs =
+    is_sum_by (copies s) f refl (λ _ _. refl) ys ∙ (sum_by-IsPermutation f xs ys p ∙ sym (is_sum_by (copies s) f refl (λ _ _. refl) xs)) in
+    omega (arith, same, copies_at_most xs different s))
 
 -- what a kind of entries takes comes to the same in another order
 pub part-IsPermutation : (b kind : Entry → Bool) (xs ys : List Entry) → IsPermutation xs ys → part b kind ys ≡ part b kind xs

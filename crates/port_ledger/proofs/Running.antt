@@ -1,16 +1,16 @@
 -- Going through the entries in the order of importance with a running sum meets the condition on the set,
 -- and whatever meets the condition comes of going so.
-use Rattle.std.proofs.Common.{◌≡◌, ◌≢◌, ◌⊎◌, ℕ, ◌+◌, ◌≤◌, ◌<◌, Bool, true, false, not, ◌&&◌, ◌==◌, cond, List, [], ◌∷◌, map, filter, sum_by, refl, sym, ◌∙◌, ap, subst, arith, add_assoc, zero-add, IsTrue, inl, inr}
+use Rattle.std.proofs.Common.{◌≡◌, ℕ, ◌+◌, Bool, true, false, not, ◌==◌, cond, List, [], ◌∷◌, filter, sum_by, refl, sym, ◌∙◌, ap, arith, zero-add}
 use Rattle.std.specs.Prelude.{nat_le}
 use Rattle.std.specs.List.{AllByRecursion}
 use Rattle.std.proofs.lemmas.List.Sums.{sum_by-cons}
-use Rattle.std.proofs.lemmas.Bool.{ne_eqb, eq-eqb, and_parts, and_left, and_right, and_from, false_from_ne_true, not_from_true, not_from_false, cond-false, cond-true, or_right, or_left}
+use Rattle.std.proofs.lemmas.Bool.{eq-eqb, and_parts, and_left, and_right, false_from_ne_true, not_from_true, cond-false, cond-true}
 use Rattle.stream_importance.specs.declared.entry.Entry.{Entry}
 use Rattle.stream_importance.specs.declared.slope.Caps.{Caps}
 use Rattle.stream_importance.specs.Bandwidth.{cap_of}
 use Rattle.stream_importance.specs.Importance.{is_more_important}
-use Rattle.stream_importance.proofs.OrderLaws.{importance_strict, importance_compares}
-use Rattle.port_ledger.specs.Decision.{stream_of, slope_of, goes_before, above, does_fit, AreOfDifferentStreams}
+use Rattle.stream_importance.proofs.OrderLaws.{importance_strict}
+use Rattle.port_ledger.specs.Decision.{stream_of, slope_of, goes_before, above}
 
 -- what the chosen entries of one kind take, as a sum over all entries
 abbrev pub part : (Entry → Bool) → (Entry → Bool) → List Entry → ℕ
@@ -24,14 +24,15 @@ total b now x = part b (goes_before now x)
 pub sum-filter-cons : (kind : Entry → Bool) (e : Entry) (es : List Entry) → sum_by slope_of (filter kind (e ∷ es)) ≡ cond (kind e) (slope_of e) 0 + sum_by slope_of (filter kind es)
 sum-filter-cons kind e es =
     elim (kind e) as (λ v. sum_by slope_of (cond v (e ∷ filter kind es) (filter kind es)) ≡ cond v (slope_of e) 0 + sum_by slope_of (filter kind es))
-      [ true ↦ sum_by-cons slope_of e (filter kind es) | false ↦ sym (zero-add (sum_by slope_of (filter kind es))) ]
+    [ true ↦ sum_by-cons slope_of e (filter kind es) | false ↦ sym (zero-add (sum_by slope_of (filter kind es))) ]
 
 pub sum-filter : (b kind : Entry → Bool) (es : List Entry) → sum_by slope_of (filter kind (filter b es)) ≡ part b kind es
 sum-filter b kind [] = refl
 sum-filter b kind (e ∷ es) =
-    elim (b e) as (λ v. sum_by slope_of (filter kind (cond v (e ∷ filter b es) (filter b es))) ≡ cond v (cond (kind e) (slope_of e) 0) 0 + part b kind es)
-      [ true ↦ sum-filter-cons kind e (filter b es) ∙ ap (λ n. cond (kind e) (slope_of e) 0 + n) (sum-filter b kind es)
-      | false ↦ sum-filter b kind es ∙ sym (zero-add (part b kind es)) ]
+    elim (b e) as (λ v. sum_by slope_of (filter kind (cond v (e ∷ filter b es) (filter b es))) ≡ cond v (cond (kind e) (slope_of e) 0) 0 + part b kind es) [
+      | true ↦ sum-filter-cons kind e (filter b es) ∙ ap (λ n. cond (kind e) (slope_of e) 0 + n) (sum-filter b kind es)
+      | false ↦ sum-filter b kind es ∙ sym (zero-add (part b kind es))
+    ]
 
 pub above-filter : (b : Entry → Bool) (now : ℕ) (x : Entry) (es : List Entry) → above now x (filter b es) ≡ total b now x es
 above-filter b now x es = sum-filter b (goes_before now x) es
@@ -59,13 +60,13 @@ all_with (x ∷ xs) p q f = (f x p.0 q.0, all_with xs p.1 q.1 f)
 goes_one_way : (now : ℕ) (x y : Entry) → goes_before now y x ≡ true → goes_before now x y ≡ false
 goes_one_way now x y h =
     and_right (not (stream_of y == stream_of x)) (is_more_important now y x)
-      (false_from_ne_true (is_more_important now y x)
-        (λ k. importance_strict now x y (and_parts (not (stream_of x == stream_of y)) (is_more_important now x y) h).1 k))
+    (false_from_ne_true (is_more_important now y x)
+    (λ k. importance_strict now x y (and_parts (not (stream_of x == stream_of y)) (is_more_important now x y) h).1 k))
 
 not_itself : (now : ℕ) (x : Entry) → goes_before now x x ≡ false
 not_itself now x =
     and_left (not (stream_of x == stream_of x)) (is_more_important now x x)
-      (not_from_true (stream_of x == stream_of x) (eq-eqb (stream_of x) (stream_of x) refl))
+    (not_from_true (stream_of x == stream_of x) (eq-eqb (stream_of x) (stream_of x) refl))
 
 -- an entry that goes before x counts where it is chosen, and another doesn't
 pub weight-no : (b g : Bool) (s : ℕ) → g ≡ false → cond b (cond g s 0) 0 ≡ 0
@@ -109,9 +110,10 @@ pub runs_from_holds : (now : ℕ) (caps : Caps) (sum : ℕ) (b : Entry → Bool)
 runs_from_holds now caps sum b [] ranked holds = tt
 runs_from_holds now caps sum b (x ∷ xs) ranked holds =
     let none : sum + total b now x (x ∷ xs) ≡ sum = omega (arith, total-head b now x xs ranked.0) in
-    let rest : AllByRecursion (Holds now caps (sum + cond (b x) (slope_of x) 0) b xs) xs = all_with xs ranked.0 holds.1 (λ y before h. h ∙ ap (λ n. nat_le (n + slope_of y) (cap_of caps y.want.class)) (sym (total-tail b now x y xs sum before))) in
-    (holds.0 ∙ ap (λ n. nat_le (n + slope_of x) (cap_of caps x.want.class)) none,
-      runs_from_holds now caps (sum + cond (b x) (slope_of x) 0) b xs ranked.1 rest)
+    let rest : AllByRecursion (Holds now caps (sum + cond (b x) (slope_of x) 0) b xs) xs = all_with xs ranked.0 holds.1 (λ y before h. h ∙ ap (λ n. nat_le (n + slope_of y) (cap_of caps y.want.class)) (sym (total-tail b now x y xs sum before))) in (
+      holds.0 ∙ ap (λ n. nat_le (n + slope_of x) (cap_of caps x.want.class)) none,
+      runs_from_holds now caps (sum + cond (b x) (slope_of x) 0) b xs ranked.1 rest,
+    )
 
 -- a pass comes out in one way
 pub runs_agree : (caps : Caps) (s t : ℕ) (b c : Entry → Bool) (xs : List Entry) → s ≡ t → Runs caps s b xs → Runs caps t c xs → AllByRecursion (λ x. b x ≡ c x) xs
@@ -125,6 +127,7 @@ runs_agree caps s t b c (x ∷ xs) e p q =
 pub runs_like : (caps : Caps) (s t : ℕ) (b c : Entry → Bool) (xs : List Entry) → s ≡ t → AllByRecursion (λ x. b x ≡ c x) xs → Runs caps s b xs → Runs caps t c xs
 runs_like caps s t b c [] e same runs = tt
 runs_like caps s t b c (x ∷ xs) e same runs =
-    let sums : s + cond (b x) (slope_of x) 0 ≡ t + cond (c x) (slope_of x) 0 = ap (λ n. n + cond (b x) (slope_of x) 0) e ∙ ap (λ v. t + cond v (slope_of x) 0) same.0 in
-    (sym same.0 ∙ (runs.0 ∙ ap (λ n. nat_le (n + slope_of x) (cap_of caps x.want.class)) e),
-      runs_like caps (s + cond (b x) (slope_of x) 0) (t + cond (c x) (slope_of x) 0) b c xs sums same.1 runs.1)
+    let sums : s + cond (b x) (slope_of x) 0 ≡ t + cond (c x) (slope_of x) 0 = ap (λ n. n + cond (b x) (slope_of x) 0) e ∙ ap (λ v. t + cond v (slope_of x) 0) same.0 in (
+      sym same.0 ∙ (runs.0 ∙ ap (λ n. nat_le (n + slope_of x) (cap_of caps x.want.class)) e),
+      runs_like caps (s + cond (b x) (slope_of x) 0) (t + cond (c x) (slope_of x) 0) b c xs sums same.1 runs.1,
+    )

@@ -1,5 +1,5 @@
 -- The booked slopes stay within the caps.
-use Rattle.std.proofs.Common.{◌≡◌, ◌⊎◌, ℕ, ◌+◌, ◌≤◌, Bool, true, false, not, ◌==◌, ◌&&◌, cond, List, [], ◌∷◌, map, filter, sum_by, refl, sym, ◌∙◌, ap, subst, arith, inl, inr}
+use Rattle.std.proofs.Common.{◌≡◌, ◌⊎◌, ℕ, ◌+◌, ◌≤◌, Bool, true, false, not, ◌==◌, cond, List, [], ◌∷◌, filter, sum_by, refl, sym, ◌∙◌, ap, arith, inl, inr}
 use Rattle.std.specs.Prelude.{nat_le}
 use Rattle.std.specs.declared.cmp.Ordering.{Ordering}
 use Rattle.std.specs.declared.cmp.Ordering.TheVariants.{Less, Equal, Greater}
@@ -12,7 +12,7 @@ use Rattle.stream_importance.specs.declared.entry.Entry.{Entry}
 use Rattle.stream_importance.specs.declared.slope.Caps.{Caps}
 use Rattle.stream_importance.specs.Bandwidth.{cap_of}
 use Rattle.stream_importance.specs.Importance.{class_number, rank_number, moment_or, is_more_important}
-use Rattle.port_ledger.specs.Decision.{stream_of, slope_of, goes_before, does_fit, marked, is_booked, booked_of, marks_of, IsDecision, AreOfDifferentStreams}
+use Rattle.port_ledger.specs.Decision.{stream_of, slope_of, goes_before, is_booked, booked_of, marks_of, IsDecision, AreOfDifferentStreams}
 use Rattle.port_ledger.specs.Book.{Book, IsKept, booked_slope}
 use Rattle.port_ledger.proofs.Running.{part, sum-filter, weight-no, weight-yes, IsRanked, Runs, all_with}
 use Rattle.port_ledger.proofs.Ranking.{ranked, ranked_is_ranked, IsPermutation-ranked, part-IsPermutation}
@@ -42,7 +42,7 @@ runs_both : (caps : Caps) (sum : ℕ) (b : Entry → Bool) (xs : List Entry) →
 runs_both caps sum b [] shares h runs = omega (arith, h)
 runs_both caps sum b (x ∷ xs) shares h runs =
     let next : sum + cond (b x) (slope_of x) 0 ≤ caps.both =
-      step_within (b x) sum (slope_of x) (cap_of caps x.want.class) caps.both runs.0 (cap_within caps x.want.class shares) h in
+    step_within (b x) sum (slope_of x) (cap_of caps x.want.class) caps.both runs.0 (cap_within caps x.want.class shares) h in
     omega (arith, class_parts x.want.class (slope_of x) (b x), runs_both caps (sum + cond (b x) (slope_of x) 0) b xs shares next runs.1)
 
 -- after an entry of class B come only such
@@ -51,9 +51,9 @@ not_a_after_b now x y class B e f g h = refl
 not_a_after_b now x y class A e f g h =
     let lt : is_more_important now x y ≡ true = (and_parts (not (stream_of x == stream_of y)) (is_more_important now x y) h).1 in
     let first : nat_cmp (class_number x.want.class) (class_number y.want.class) ≡ Greater =
-      ap (λ c. nat_cmp (class_number c) (class_number y.want.class)) (e ∙ g) ∙ ap (λ c. nat_cmp (class_number B) (class_number c)) f in
+    ap (λ c. nat_cmp (class_number c) (class_number y.want.class)) (e ∙ g) ∙ ap (λ c. nat_cmp (class_number B) (class_number c)) f in
     absurd (greater_isnt_less (nat_cmp (class_number x.want.class) (class_number y.want.class))
-      (ordering_then (nat_cmp (rank_number x.want.rank) (rank_number y.want.rank)) (ordering_then (nat_cmp (moment_or now x.since) (moment_or now y.since)) (nat_cmp (stream_of x) (stream_of y)))) first lt)
+    (ordering_then (nat_cmp (rank_number x.want.rank) (rank_number y.want.rank)) (ordering_then (nat_cmp (moment_or now x.since) (moment_or now y.since)) (nat_cmp (stream_of x) (stream_of y)))) first lt)
   where
     greater_isnt_less : (o rest : Ordering) → o ≡ Greater → is_lt (ordering_then o rest) ≡ true → ⊥
     greater_isnt_less Less rest e h = cc
@@ -73,20 +73,21 @@ either_class B = inr refl
 runs_a : (now : ℕ) (caps : Caps) (sum : ℕ) (b : Entry → Bool) (xs : List Entry) → IsRanked now xs → sum ≤ caps.class_a → Runs caps sum b xs → sum + part b (is_of A) xs ≤ caps.class_a
 runs_a now caps sum b [] ranked h runs = omega (arith, h)
 runs_a now caps sum b (x ∷ xs) ranked h runs =
-    elim (either_class x.want.class)
-      [ inl e ↦
+    elim (either_class x.want.class) [
+      | inl e ↦
           (let cap : cap_of caps x.want.class ≡ caps.class_a = ap (cap_of caps) e in
-           let next : sum + cond (b x) (slope_of x) 0 ≤ caps.class_a =
-             step_within (b x) sum (slope_of x) (cap_of caps x.want.class) caps.class_a runs.0 (omega (arith, cap)) h in
-           let w : cond (b x) (cond (is_of A x) (slope_of x) 0) 0 ≡ cond (b x) (slope_of x) 0 =
-             weight-yes (b x) (is_of A x) (slope_of x) (ap (λ c. class_number c == 0) e) in
-           omega (arith, w, runs_a now caps (sum + cond (b x) (slope_of x) 0) b xs ranked.1 next runs.1))
+          let next : sum + cond (b x) (slope_of x) 0 ≤ caps.class_a =
+          step_within (b x) sum (slope_of x) (cap_of caps x.want.class) caps.class_a runs.0 (omega (arith, cap)) h in
+          let w : cond (b x) (cond (is_of A x) (slope_of x) 0) 0 ≡ cond (b x) (slope_of x) 0 =
+          weight-yes (b x) (is_of A x) (slope_of x) (ap (λ c. class_number c == 0) e) in
+          omega (arith, w, runs_a now caps (sum + cond (b x) (slope_of x) 0) b xs ranked.1 next runs.1))
       | inr e ↦
           (let w : cond (b x) (cond (is_of A x) (slope_of x) 0) 0 ≡ 0 =
-             weight-no (b x) (is_of A x) (slope_of x) (ap (λ c. class_number c == 0) e) in
-           let rest : part b (is_of A) xs ≡ 0 =
-             none_of_a b xs (all_with xs ranked.0 ranked.0 (λ y before _. not_a_after_b now x y x.want.class y.want.class refl refl e before)) in
-           omega (arith, w, rest, h)) ]
+          weight-no (b x) (is_of A x) (slope_of x) (ap (λ c. class_number c == 0) e) in
+          let rest : part b (is_of A) xs ≡ 0 =
+          none_of_a b xs (all_with xs ranked.0 ranked.0 (λ y before _. not_a_after_b now x y x.want.class y.want.class refl refl e before)) in
+          omega (arith, w, rest, h))
+    ]
 
 -- the booked slopes of a class, in the order of importance
 booked_slope-ranked : (now : ℕ) (caps : Caps) (xs : List Entry) (class : Class) → IsDecision now caps xs (marks_of xs) → booked_slope xs class ≡ part (choice now caps xs (marks_of xs)) (is_of class) (ranked now xs)
@@ -106,9 +107,10 @@ within_caps now caps xs different shares d =
     let runs : Runs caps 0 b (ranked now xs) = ranked_runs now caps b xs different (holds_from_decision now caps xs (marks_of xs) d) in
     let a : booked_slope xs A ≡ part b (is_of A) (ranked now xs) = booked_slope-ranked now caps xs A d in
     let other : booked_slope xs B ≡ part b (is_of B) (ranked now xs) = booked_slope-ranked now caps xs B d in
-    record
-      { class_a = omega (arith, a, runs_a now caps 0 b (ranked now xs) (ranked_is_ranked now xs different) (omega arith) runs);
-        both = omega (arith, a, other, runs_both caps 0 b (ranked now xs) shares (omega arith) runs) }
+    record {
+      class_a = omega (arith, a, runs_a now caps 0 b (ranked now xs) (ranked_is_ranked now xs different) (omega arith) runs);
+      both = omega (arith, a, other, runs_both caps 0 b (ranked now xs) shares (omega arith) runs);
+    }
 
 pub book_within : (book : Book) → IsKept book → IsWithin book.caps book.entries
 book_within book kept = within_caps book.moment book.caps book.entries (different_from_ascending book.entries kept.ascending) kept.shares kept.decision

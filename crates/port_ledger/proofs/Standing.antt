@@ -1,5 +1,5 @@
 -- A decision stands when moments are set and time passes.
-use Rattle.std.proofs.Common.{◌≡◌, ◌≢◌, ◌⊎◌, ℕ, ◌+◌, ◌<◌, ◌≤◌, Bool, true, false, not, ◌&&◌, ◌==◌, cond, List, [], ◌∷◌, map, filter, Option, Some, None, is_some, refl, sym, ◌∙◌, ap, subst, arith, inl, inr}
+use Rattle.std.proofs.Common.{◌≡◌, ℕ, ◌+◌, ◌<◌, ◌≤◌, Bool, true, false, not, ◌==◌, cond, List, [], ◌∷◌, map, Option, Some, None, is_some, refl, sym, ◌∙◌, ap, subst, arith, inl, inr}
 use Rattle.std.specs.Prelude.{nat_le}
 use Rattle.std.specs.declared.cmp.Ordering.{Ordering}
 use Rattle.std.specs.declared.cmp.Ordering.TheVariants.{Less, Equal, Greater}
@@ -12,7 +12,7 @@ use Rattle.stream_importance.specs.declared.entry.Entry.{Entry}
 use Rattle.stream_importance.specs.declared.slope.Caps.{Caps}
 use Rattle.stream_importance.specs.Bandwidth.{cap_of}
 use Rattle.stream_importance.specs.Importance.{class_number, rank_number, moment_or, is_more_important}
-use Rattle.port_ledger.specs.Decision.{stream_of, slope_of, goes_before, above, does_fit, marked, IsDecision, is_booked, marks_of, since_after, settled, Decides}
+use Rattle.port_ledger.specs.Decision.{stream_of, slope_of, goes_before, above, does_fit, marked, IsDecision, marks_of, since_after, settled, Decides}
 use Rattle.port_ledger.specs.Book.{Book, IsKept}
 use Rattle.port_ledger.proofs.Running.{sum-filter-cons}
 
@@ -28,15 +28,19 @@ above_is_greater p q h = grind (arith, nat_tests)
 
 still_before : (p q later : ℕ) (rest : Ordering) → q ≤ later → is_lt (ordering_then (nat_cmp p q) rest) ≡ true → is_lt (ordering_then (nat_cmp p later) rest) ≡ true
 still_before p q later rest up h =
-    elim (cases_order p q)
-      [ inl e ↦ elim (cases_order p later)
-          [ inl f ↦ ap (λ o. is_lt (ordering_then o rest)) (same_is_equal p later f ∙ sym (same_is_equal p q e)) ∙ h
-          | inr c ↦ elim c
-              [ inl f ↦ ap (λ o. is_lt (ordering_then o rest)) (less_is_below p later f)
-              | inr f ↦ absurd (omega (arith, e, f, up)) ] ]
-      | inr c ↦ elim c
-          [ inl e ↦ (let f : p < later = omega (arith, e, up) in ap (λ o. is_lt (ordering_then o rest)) (less_is_below p later f))
-          | inr e ↦ (let k : is_lt (ordering_then (nat_cmp p q) rest) ≡ false = ap (λ o. is_lt (ordering_then o rest)) (above_is_greater p q e) in cc) ] ]
+    elim (cases_order p q) [
+      | inl e ↦ elim (cases_order p later) [
+        | inl f ↦ ap (λ o. is_lt (ordering_then o rest)) (same_is_equal p later f ∙ sym (same_is_equal p q e)) ∙ h
+        | inr c ↦ elim c [
+          | inl f ↦ ap (λ o. is_lt (ordering_then o rest)) (less_is_below p later f)
+          | inr f ↦ absurd (omega (arith, e, f, up))
+        ]
+      ]
+      | inr c ↦ elim c [
+        | inl e ↦ (let f : p < later = omega (arith, e, up) in ap (λ o. is_lt (ordering_then o rest)) (less_is_below p later f))
+        | inr e ↦ (let k : is_lt (ordering_then (nat_cmp p q) rest) ≡ false = ap (λ o. is_lt (ordering_then o rest)) (above_is_greater p q e) in cc)
+      ]
+    ]
 
 still_first : (first second rest : Ordering) (p q later : ℕ) → q ≤ later → is_lt (ordering_then first (ordering_then second (ordering_then (nat_cmp p q) rest))) ≡ true → is_lt (ordering_then first (ordering_then second (ordering_then (nat_cmp p later) rest))) ≡ true
 still_first Less second rest p q later up h = refl
@@ -75,17 +79,22 @@ goes_still : (now later : ℕ) (x e : Entry) → moment_or now x.since ≤ later
 goes_still now later x e up h =
     let parts : (not (stream_of e == stream_of x) ≡ true) × (is_more_important now e x ≡ true) = and_parts (not (stream_of e == stream_of x)) (is_more_important now e x) h in
     and_from (not (stream_of e == stream_of x)) (is_more_important later (kept now e) (left_out now x)) parts.0
-      (still_first (nat_cmp (class_number e.want.class) (class_number x.want.class)) (nat_cmp (rank_number e.want.rank) (rank_number x.want.rank)) (nat_cmp (stream_of e) (stream_of x))
-        (moment_or now e.since) (moment_or now x.since) later up parts.1)
+    (still_first (nat_cmp (class_number e.want.class) (class_number x.want.class)) (nat_cmp (rank_number e.want.rank) (rank_number x.want.rank)) (nat_cmp (stream_of e) (stream_of x))
+    (moment_or now e.since) (moment_or now x.since) later up parts.1)
 
 -- above one that isn't booked stands no less than before
 above_grows : (now later : ℕ) (x : Entry) (set : List Entry) → moment_or now x.since ≤ later → above now x set ≤ above later (left_out now x) (map (kept now) set)
 above_grows now later x [] up = omega arith
 above_grows now later x (e ∷ es) up =
     let grows : cond (goes_before now x e) (slope_of e) 0 ≤ cond (goes_before later (left_out now x) (kept now e)) (slope_of e) 0 =
-      weight_grows (goes_before now x e) (goes_before later (left_out now x) (kept now e)) (slope_of e) (goes_still now later x e up) in
-    omega (arith, grows, above_grows now later x es up, sum-filter-cons (goes_before now x) e es,
-      sum-filter-cons (goes_before later (left_out now x)) (kept now e) (map (kept now) es))
+    weight_grows (goes_before now x e) (goes_before later (left_out now x) (kept now e)) (slope_of e) (goes_still now later x e up) in
+    omega (
+      arith,
+      grows,
+      above_grows now later x es up,
+      sum-filter-cons (goes_before now x) e es,
+      sum-filter-cons (goes_before later (left_out now x)) (kept now e) (map (kept now) es),
+    )
 
 one_stands : (now later : ℕ) (caps : Caps) (set : List Entry) (x : Entry) (mark : Bool) → moment_or now x.since ≤ later → mark ≡ does_fit now caps set x → mark ≡ does_fit later caps (map (kept now) set) (record x { since = since_after now x.since mark })
 one_stands now later caps set x true up h = h ∙ ap (λ n. nat_le (n + slope_of x) (cap_of caps x.want.class)) (sym (above-kept now later x set))

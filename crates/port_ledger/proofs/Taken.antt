@@ -1,5 +1,5 @@
 -- What one pass over entries of different streams lets in runs beside the running sum.
-use Rattle.std.proofs.Common.{◌≡◌, ◌≢◌, ℕ, ◌+◌, Bool, true, false, ◌||◌, ◌==◌, cond, List, [], ◌∷◌, refl, sym, ◌∙◌, ap, arith}
+use Rattle.std.proofs.Common.{◌≡◌, ◌≢◌, ℕ, ◌+◌, true, false, ◌||◌, ◌==◌, cond, List, [], ◌∷◌, refl, sym, ◌∙◌, ap, arith}
 use Rattle.std.specs.Prelude.{nat_le}
 use Rattle.std.specs.List.{AllByRecursion}
 use Rattle.std.proofs.lemmas.Bool.{ne_eqb, eq-eqb, or_from, or_left}
@@ -15,32 +15,36 @@ taken_not : (caps : Caps) (sum stream : ℕ) (xs : List Entry) → AllByRecursio
 taken_not caps sum stream [] h = refl
 taken_not caps sum stream (x ∷ xs) h =
     elim (nat_le (sum + slope_of x) (cap_of caps x.want.class))
-      as (λ v. is_among (cond v (stream_of x ∷ taken caps (sum + slope_of x) xs) (taken caps sum xs)) stream ≡ false)
-      [ true ↦ or_from (stream_of x == stream) (is_among (taken caps (sum + slope_of x) xs) stream) (ne_eqb (stream_of x) stream (λ e. h.0 (sym e))) (taken_not caps (sum + slope_of x) stream xs h.1)
-      | false ↦ taken_not caps sum stream xs h.1 ]
+    as (λ v. is_among (cond v (stream_of x ∷ taken caps (sum + slope_of x) xs) (taken caps sum xs)) stream ≡ false) [
+      | true ↦ or_from (stream_of x == stream) (is_among (taken caps (sum + slope_of x) xs) stream) (ne_eqb (stream_of x) stream (λ e. h.0 (sym e))) (taken_not caps (sum + slope_of x) stream xs h.1)
+      | false ↦ taken_not caps sum stream xs h.1
+    ]
 
 pub taken_runs : (caps : Caps) (sum : ℕ) (xs : List Entry) → AreOfDifferentStreams xs → Runs caps sum (λ e. is_among (taken caps sum xs) (stream_of e)) xs
 taken_runs caps sum [] different = tt
 taken_runs caps sum (x ∷ xs) different =
     elim (nat_le (sum + slope_of x) (cap_of caps x.want.class))
-      as (λ v. (is_among (cond v (stream_of x ∷ taken caps (sum + slope_of x) xs) (taken caps sum xs)) (stream_of x) ≡ v)
-        × Runs caps (sum + cond (is_among (cond v (stream_of x ∷ taken caps (sum + slope_of x) xs) (taken caps sum xs)) (stream_of x)) (slope_of x) 0)
-            (λ e. is_among (cond v (stream_of x ∷ taken caps (sum + slope_of x) xs) (taken caps sum xs)) (stream_of e)) xs)
-      [ true ↦
+    as (λ v. (is_among (cond v (stream_of x ∷ taken caps (sum + slope_of x) xs) (taken caps sum xs)) (stream_of x) ≡ v)
+    × Runs caps (sum + cond (is_among (cond v (stream_of x ∷ taken caps (sum + slope_of x) xs) (taken caps sum xs)) (stream_of x)) (slope_of x) 0)
+    (λ e. is_among (cond v (stream_of x ∷ taken caps (sum + slope_of x) xs) (taken caps sum xs)) (stream_of e)) xs) [
+      | true ↦
           (let in_it : is_among (stream_of x ∷ taken caps (sum + slope_of x) xs) (stream_of x) ≡ true =
-             or_left (stream_of x == stream_of x) (is_among (taken caps (sum + slope_of x) xs) (stream_of x)) (eq-eqb (stream_of x) (stream_of x) refl) in
-          (in_it,
+          or_left (stream_of x == stream_of x) (is_among (taken caps (sum + slope_of x) xs) (stream_of x)) (eq-eqb (stream_of x) (stream_of x) refl) in (
+            in_it,
             runs_like caps (sum + slope_of x) (sum + cond (is_among (stream_of x ∷ taken caps (sum + slope_of x) xs) (stream_of x)) (slope_of x) 0)
-              (λ e. is_among (taken caps (sum + slope_of x) xs) (stream_of e)) (λ e. is_among (stream_of x ∷ taken caps (sum + slope_of x) xs) (stream_of e)) xs
-              (ap (λ v. sum + cond v (slope_of x) 0) (sym in_it))
-              (all_with xs different.0 different.0 (λ e ne _. ap (λ w. w || is_among (taken caps (sum + slope_of x) xs) (stream_of e)) (sym (ne_eqb (stream_of x) (stream_of e) ne))))
-              (taken_runs caps (sum + slope_of x) xs different.1)))
+                (λ e. is_among (taken caps (sum + slope_of x) xs) (stream_of e)) (λ e. is_among (stream_of x ∷ taken caps (sum + slope_of x) xs) (stream_of e)) xs
+                (ap (λ v. sum + cond v (slope_of x) 0) (sym in_it))
+                (all_with xs different.0 different.0 (λ e ne _. ap (λ w. w || is_among (taken caps (sum + slope_of x) xs) (stream_of e)) (sym (ne_eqb (stream_of x) (stream_of e) ne))))
+                (taken_runs caps (sum + slope_of x) xs different.1),
+          ))
       | false ↦
           (let out_of_it : is_among (taken caps sum xs) (stream_of x) ≡ false = taken_not caps sum (stream_of x) xs different.0 in
-          let same : sum ≡ sum + 0 = omega arith in
-          (out_of_it,
+          let same : sum ≡ sum + 0 = omega arith in (
+            out_of_it,
             runs_like caps sum (sum + cond (is_among (taken caps sum xs) (stream_of x)) (slope_of x) 0)
-              (λ e. is_among (taken caps sum xs) (stream_of e)) (λ e. is_among (taken caps sum xs) (stream_of e)) xs
-              (same ∙ ap (λ v. sum + cond v (slope_of x) 0) (sym out_of_it))
-              (all_with xs different.0 different.0 (λ e ne _. refl))
-              (taken_runs caps sum xs different.1))) ]
+                (λ e. is_among (taken caps sum xs) (stream_of e)) (λ e. is_among (taken caps sum xs) (stream_of e)) xs
+                (same ∙ ap (λ v. sum + cond v (slope_of x) 0) (sym out_of_it))
+                (all_with xs different.0 different.0 (λ e ne _. refl))
+                (taken_runs caps sum xs different.1),
+          ))
+    ]

@@ -26,17 +26,20 @@ pub record IsKept (book : Book) : Type 0 where
   pub moments : AllByRecursion (λ x. moment_or book.moment x.since ≤ book.moment) book.entries
   pub decision : IsDecision book.moment book.caps book.entries (marks_of book.entries)
 
+-- the same stream, class, rank and slope
 abbrev pub same_want : Want → Want → Bool
 same_want a b =
     (a.stream.0 == b.stream.0) && (class_number a.class == class_number b.class)
     && (rank_number a.rank == rank_number b.rank) && (a.slope == b.slope)
 
+-- both not booked, or since one moment
 abbrev pub same_since : Option Cs → Option Cs → Bool
 same_since None None = true
 same_since None (Some b) = false
 same_since (Some a) None = false
 same_since (Some a) (Some b) = a.0 == b.0
 
+-- the same want with the same booking
 abbrev pub same_entry : Entry → Entry → Bool
 same_entry x y = same_want x.want y.want && same_since x.since y.since
 
@@ -80,11 +83,12 @@ abbrev pub tested_as : List Entry → Want → Entry
 tested_as entries want =
     record { want = want; since = option_and_then (λ x. since_if_same x want) (entry_of entries want.stream) }
 
+-- of rank 1
 abbrev pub is_normal : Entry → Bool
 is_normal x = rank_number x.want.rank == 1
 
 -- the failure code of what doesn't fit: 6 where a stream of rank 1 would fit if the bookings of rank 0
--- weren't there, else 1 (table 35-6)
+-- weren't there, else 1 (IEEE Std 802.1Q-2018, 35.2.2.8.7)
 abbrev pub code_of : ℕ → Caps → List Entry → Entry → ℕ
 code_of now caps set x = if is_normal x && does_fit now caps (filter is_normal set) x then 6 else 1
 

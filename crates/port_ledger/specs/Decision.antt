@@ -11,6 +11,7 @@ use Rattle.stream_importance.specs.Importance.{moment_or, is_more_important}
 abbrev pub stream_of : Entry → ℕ
 stream_of x = x.want.stream.0
 
+-- the slope of an entry in bit/s
 abbrev pub slope_of : Entry → ℕ
 slope_of x = x.want.slope
 
@@ -50,6 +51,7 @@ IsDecision now caps entries marks = marks ≡ map (does_fit now caps (marked ent
 abbrev pub is_booked : Entry → Bool
 is_booked x = is_some x.since
 
+-- the marks beside the entries that say which are booked
 abbrev pub marks_of : List Entry → List Bool
 marks_of entries = map is_booked entries
 

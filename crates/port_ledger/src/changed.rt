@@ -33,7 +33,11 @@ pub(crate) fn changes(alloc: Global, before: &[Entry], after: &[Entry]) -> Resul
 }
 
 /// The streams, ascending, whose booked entry is in these and not in those.
-fn booked_only_in(alloc: Global, these: &[Entry], those: &[Entry]) -> Result<Seq<StreamId>, NoMemory>
+fn booked_only_in(
+    alloc: Global,
+    these: &[Entry],
+    those: &[Entry],
+) -> Result<Seq<StreamId>, NoMemory>
     requires { IsAscending those.now }
     ensures { IfOk result (λ s. s ≡ booked_only_in these.now those.now) }
 {

@@ -32,12 +32,7 @@ pub fn decided_with(
 
 /// Decides the entries at a moment: those that are booked keep their moment or get this one, the others
 /// have none. After want of memory they are as they were.
-fn decide(
-    alloc: Global,
-    now: Cs,
-    caps: &Caps,
-    entries: &mut Vec<Entry>,
-) -> Result<(), NoMemory>
+fn decide(alloc: Global, now: Cs, caps: &Caps, entries: &mut Vec<Entry>) -> Result<(), NoMemory>
     requires { IsAscending entries.old.items }
     ensures ok { OnOk result (Decides now.0 caps.now entries.old.items entries.new.items) }
     ensures err { OnErr result (entries.new.items ≡ entries.old.items) }

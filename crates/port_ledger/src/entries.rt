@@ -54,9 +54,8 @@ fn put(entries: &mut Vec<Entry>, want: Want) -> Result<(), NoMemory>
 fn entry_with(entry: Entry, want: Want) -> Entry
     ensures { result ≡ entry_with entry want }
 {
-    if entry.want == want {
-        entry
-    } else {
-        Entry { want, since: None }
+    if entry.want != want {
+        return Entry { want, since: None };
     }
+    entry
 }

@@ -32,7 +32,11 @@ pub fn tested_as(entries: &[Entry], want: &Want) -> Entry
 fn since_if_same(entry: &Entry, want: &Want) -> Option<Cs>
     ensures { result ≡ since_if_same entry.now want.now }
 {
-    if entry.want == *want { entry.since } else { None }
+    if entry.want == *want {
+        entry.since
+    } else {
+        None
+    }
 }
 
 /// Whether an entry fits beside the booked ones.

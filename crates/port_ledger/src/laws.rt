@@ -9,5 +9,4 @@ ghost use Rattle.port_ledger.specs.Decision.{AreOfDifferentStreams, IsDecision};
 pub fn one_decision()
     ensures exists { (now : ℕ) (caps : Caps) (entries : List Entry) → AreOfDifferentStreams entries → (marks : List Bool) × IsDecision now caps entries marks }
     ensures unique { (now : ℕ) (caps : Caps) (entries : List Entry) (marks others : List Bool) → AreOfDifferentStreams entries → IsDecision now caps entries marks → IsDecision now caps entries others → marks ≡ others }
-{
-}
+{}

@@ -27,3 +27,6 @@ pub mod ledger;
 pub use changed::Changed;
 pub use laws::one_decision;
 pub use ledger::Ledger;
+
+#[cfg(test)]
+mod tests;

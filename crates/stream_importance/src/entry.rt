@@ -35,7 +35,7 @@ pub enum Fit {
         more_important: u128,
         /// The cap that the want has to keep, in bit/s.
         cap: u128,
-        /// The failure code of a Talker Failed (IEEE Std 802.1Q-2018, table 35-6): 6 where bookings
+        /// The failure code of a Talker Failed (IEEE Std 802.1Q-2018, 35.2.2.8.7): 6 where bookings
         /// of rank 0 alone stand in the way of a want of rank 1, else 1.
         code: u8,
     },

@@ -1,4 +1,4 @@
-use Rattle.std.proofs.Common.{◌∙◌, sym, ap}
+use Rattle.std.proofs.Common.{◌∙◌, ap}
 use Rattle.port_ledger.proofs.Finding.{has_entry_is, found_same}
 use Rattle.port_ledger.proofs.changed.has_entry.Goals as goal
 

@@ -8,4 +8,4 @@ use Rattle.port_ledger.proofs.decide.by_importance.Goals as goal
 pub returns-clause-sorted : goal.returns-clause-sorted
 returns-clause-sorted c =
     c.sort_unstable_by.ensures.sorted (is_more_important c.args.now.0) (importance_ranks c.args.now.0)
-      (always_returns_same _ _ _ (λ a r q k. (let e : r ≡ compare_importance c.args.now.0 a.0.now a.1.0.now = search rules in ap is_lt e, search rules)))
+    (always_returns_same _ _ _ (λ a r q k. (let e : r ≡ compare_importance c.args.now.0 a.0.now a.1.0.now = search rules in ap is_lt e, search rules)))

@@ -1,4 +1,4 @@
-use Rattle.std.proofs.Common.{◌≡◌, subst, sym, List}
+use Rattle.std.proofs.Common.{subst, sym, List}
 use Rattle.stream_importance.specs.declared.entry.Entry.{Entry}
 use Rattle.port_ledger.specs.Decision.{IsAscending}
 use Rattle.port_ledger.proofs.Keeping.{ascending-with_want, ascending_after}
