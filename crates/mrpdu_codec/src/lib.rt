@@ -1,0 +1,11 @@
+//! MRPDUs: the octets in which MRP participants tell each other their attributes (IEEE Std 802.1Q-2018, 10.8).
+#![tactic(auto)]
+
+pub mod error;
+pub mod form;
+pub mod pdu;
+mod raw;
+
+pub use error::DecodeErr;
+pub use form::{AppForm, TypeForm};
+pub use pdu::{Message, Pdu, VectorAttr};
