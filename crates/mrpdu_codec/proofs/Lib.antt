@@ -1,7 +1,10 @@
 pub mod Steps
-pub mod Vectors
-pub mod Regions
-pub mod Messages
-pub mod Again
-pub mod AgainWhole
+pub mod ReadVectors
+pub mod ReadRegions
+pub mod ReadMessages
+pub mod AgainVectors
+pub mod AgainMessages
 pub mod Loops
+pub mod Whiles
+pub mod WhileBlocks
+pub mod ErrorLemmas

@@ -1,7 +1,7 @@
 -- The grammar of MRPDUs (IEEE Std 802.1Q-2018, 10.8): which octets spell which PDU, and where octets
 -- that spell none break. Both join whole texts.
-use Rattle.std.specs.Prelude.{◌≡◌, ℕ, ◌+◌, ◌*◌, ◌/◌, ◌%◌, ◌<◌, ◌≤◌, Bool, true, false, List, [], ◌∷◌, ◌++◌, length, Option, Some, None, ◌⊎◌}
-use Rattle.std.specs.List.{flat_map, AllByRecursion}
+use Rattle.std.specs.Prelude.{◌≡◌, ℕ, ◌+◌, ◌<◌, true, false, List, [], ◌∷◌, ◌++◌, length, Option, Some, None, ◌⊎◌}
+use Rattle.std.specs.List.{AllByRecursion}
 use Rattle.mrpdu_codec.specs.declared.form.AppForm.{AppForm}
 use Rattle.mrpdu_codec.specs.declared.form.AppForm.TheVariants.{Mvrp, Msrp, Mmrp}
 use Rattle.mrpdu_codec.specs.declared.form.TypeForm.{TypeForm}
@@ -64,19 +64,19 @@ LaterTypeBreaks (kind ∷ next ∷ rest) = (kind ≡ 0) × (0 < next)
 pub data VectorBreaks (row : Option TypeForm) (len : ℕ) (front rest : List ℕ) : Type 0 where
   header : front ≡ [] → HeaderBreaks row rest → VectorBreaks row len front rest
   first_value : (v : Vector) → header_fits row v.high v.low ≡ true → 0 < number v.high v.low
-    → front ≡ v.high ∷ v.low ∷ [] → length rest < len → VectorBreaks row len front rest
+      → front ≡ v.high ∷ v.low ∷ [] → length rest < len → VectorBreaks row len front rest
   packed : (v : Vector) → header_fits row v.high v.low ≡ true → 0 < number v.high v.low
-    → length v.first ≡ len → AllUpTo (packed_limit row) v.packed → length v.packed < thirds (count v)
-    → front ≡ v.high ∷ v.low ∷ (v.first ++ v.packed) → OctetBreaks (packed_limit row) rest → VectorBreaks row len front rest
+      → length v.first ≡ len → AllUpTo (packed_limit row) v.packed → length v.packed < thirds (count v)
+      → front ≡ v.high ∷ v.low ∷ (v.first ++ v.packed) → OctetBreaks (packed_limit row) rest → VectorBreaks row len front rest
   four_packed : (v : Vector) → header_fits row v.high v.low ≡ true → 0 < number v.high v.low
-    → length v.first ≡ len → AllUpTo (packed_limit row) v.packed → length v.packed ≡ thirds (count v)
-    → AllUpTo 255 v.fours → length v.fours < fours_for row (count v)
-    → front ≡ v.high ∷ v.low ∷ (v.first ++ (v.packed ++ v.fours)) → OctetBreaks 255 rest → VectorBreaks row len front rest
+      → length v.first ≡ len → AllUpTo (packed_limit row) v.packed → length v.packed ≡ thirds (count v)
+      → AllUpTo 255 v.fours → length v.fours < fours_for row (count v)
+      → front ≡ v.high ∷ v.low ∷ (v.first ++ (v.packed ++ v.fours)) → OctetBreaks 255 rest → VectorBreaks row len front rest
 
 -- Whole vectors, and one that breaks.
 pub data ListBreaks (row : Option TypeForm) (len : ℕ) (front rest : List ℕ) : Type 0 where
   vector : (vs : List Vector) (part : List ℕ) → AreVectors row len vs → front ≡ vectors_octets vs ++ part
-    → VectorBreaks row len part rest → ListBreaks row len front rest
+      → VectorBreaks row len part rest → ListBreaks row len front rest
 
 -- In MSRP a region of size octets holds whole vectors alone, and a field that passes its end breaks.
 -- Where fewer octets are there, the region ends with them, and a header is missing at its end. So
@@ -84,9 +84,9 @@ pub data ListBreaks (row : Option TypeForm) (len : ℕ) (front rest : List ℕ) 
 pub data RegionBreaks (row : Option TypeForm) (len size : ℕ) (front rest : List ℕ) : Type 0 where
   vector : ListBreaks row len front rest → RegionBreaks row len size front rest
   end_mark : (vs : List Vector) → AreVectors row len vs → front ≡ vectors_octets vs
-    → (more : List ℕ) → rest ≡ 0 ∷ 0 ∷ more → RegionBreaks row len size front rest
+      → (more : List ℕ) → rest ≡ 0 ∷ 0 ∷ more → RegionBreaks row len size front rest
   short : (vs : List Vector) → AreVectors row len vs → front ≡ vectors_octets vs
-    → rest ≡ [] → length front < size → RegionBreaks row len size front rest
+      → rest ≡ [] → length front < size → RegionBreaks row len size front rest
 
 -- What of octets is a region of size octets, and what stands beyond it: where the octets are fewer,
 -- all of them are the region's.
@@ -97,13 +97,13 @@ IsRegion size region beyond = (length region ≡ size) ⊎ ((length region < siz
 pub data CountedBreaks (row : Option TypeForm) (len : ℕ) (front rest : List ℕ) : Type 0 where
   list_length : front ≡ [] → ListLengthBreaks rest → CountedBreaks row len front rest
   region : (t : TypeForm) → row ≡ Some t → (high low size : ℕ) → number high low ≡ size + 2
-    → (part within beyond : List ℕ) → IsRegion size (part ++ within) beyond → front ≡ high ∷ low ∷ part → rest ≡ within ++ beyond
-    → RegionBreaks row len size part within → CountedBreaks row len front rest
+      → (part within beyond : List ℕ) → IsRegion size (part ++ within) beyond → front ≡ high ∷ low ∷ part → rest ≡ within ++ beyond
+      → RegionBreaks row len size part within → CountedBreaks row len front rest
   end_mark : (t : TypeForm) → row ≡ Some t → (high low : ℕ) (vs : List Vector) → AreVectors row len vs
-    → number high low ≡ length (vectors_octets vs) + 2 → front ≡ high ∷ low ∷ vectors_octets vs
-    → EndMarkBreaks rest → CountedBreaks row len front rest
+      → number high low ≡ length (vectors_octets vs) + 2 → front ≡ high ∷ low ∷ vectors_octets vs
+      → EndMarkBreaks rest → CountedBreaks row len front rest
   skipped : row ≡ None → (high low size : ℕ) → number high low ≡ size + 2 → front ≡ high ∷ low ∷ []
-    → (length rest < size) ⊎ (length rest ≡ size + 1) → CountedBreaks row len front rest
+      → (length rest < size) ⊎ (length rest ≡ size + 1) → CountedBreaks row len front rest
 
 abbrev pub BodyBreaks : AppForm → Option TypeForm → ℕ → List ℕ → List ℕ → Type 0
 BodyBreaks Mvrp row len front rest = ListBreaks row len front rest
@@ -114,7 +114,7 @@ BodyBreaks Mmrp row len front rest = ListBreaks row len front rest
 pub data BlockBreaks (form : AppForm) (front rest : List ℕ) : Type 0 where
   len : (kind : ℕ) → 0 < kind → front ≡ kind ∷ [] → LengthBreaks (row_of form kind) rest → BlockBreaks form front rest
   body : (kind len : ℕ) → 0 < kind → length_fits (row_of form kind) len ≡ true → (part : List ℕ) → front ≡ kind ∷ len ∷ part
-    → BodyBreaks form (row_of form kind) len part rest → BlockBreaks form front rest
+      → BodyBreaks form (row_of form kind) len part rest → BlockBreaks form front rest
 
 -- Messages that are whole with their EndMarks, so that another may follow
 abbrev pub AreClosed : AppForm → List Block → Type 0
@@ -125,9 +125,9 @@ pub data PduBreaks (form : AppForm) (front rest : List ℕ) : Type 0 where
   version : front ≡ [] → rest ≡ [] → PduBreaks form front rest
   first_type : (version : ℕ) → front ≡ version ∷ [] → FirstTypeBreaks rest → PduBreaks form front rest
   later_type : (version : ℕ) (bs : List Block) → 0 < length bs → AreClosed form bs → front ≡ version ∷ blocks_octets bs
-    → LaterTypeBreaks rest → PduBreaks form front rest
+      → LaterTypeBreaks rest → PduBreaks form front rest
   block : (version : ℕ) (bs : List Block) (part : List ℕ) → AreClosed form bs → front ≡ version ∷ (blocks_octets bs ++ part)
-    → BlockBreaks form part rest → PduBreaks form front rest
+      → BlockBreaks form part rest → PduBreaks form front rest
 
 -- The octets have whole fields that meet their rules before this place, and the field there breaks its
 -- rule or isn't whole.

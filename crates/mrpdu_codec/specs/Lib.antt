@@ -4,3 +4,4 @@ pub mod Tree
 pub mod Grammar
 pub mod Reading
 pub mod Raw
+pub mod Errors

@@ -28,6 +28,10 @@ abbrev pub Gives : {X Y : Type 0} → (X → Y) → Result X ReadErr → Result 
 Gives view (Ok x) read = read ≡ Ok (view x)
 Gives view (Err e) read = Fails e read
 
+-- the octets behind what was read
+abbrev pub rest_of : {A : Type 0} → Result (A × List ℕ) ℕ → Result (List ℕ) ℕ
+rest_of read = read >>= λ x. Ok x.1
+
 -- n octets, each at most limit and each a field of its own
 unfoldable pub run_at : ℕ → ℕ → List ℕ → Result (List ℕ × List ℕ) ℕ
 run_at limit zero octets = Ok ([], octets)
@@ -155,9 +159,24 @@ blocks_at (suc fuel) form (kind ∷ rest) =
 unfoldable pub blocks_of : AppForm → List ℕ → Result (List Message) ℕ
 blocks_of form octets = blocks_at (length octets) form octets
 
+-- in the place of a later Message: its AttributeType, or none at the PDU's end
+unfoldable pub type_at : List ℕ → Result (Option (ℕ × List ℕ)) ℕ
+type_at [] = Ok None
+type_at (kind ∷ rest) = if kind == 0 then (end_at rest >>= λ none. Ok None) else Ok (Some (kind, rest))
+
+-- ProtocolVersion
+unfoldable pub version_at : List ℕ → Result (ℕ × List ℕ) ℕ
+version_at [] = Err 0
+version_at (version ∷ rest) = Ok (version, rest)
+
+-- in the place of the first Message
+unfoldable pub first_type_at : List ℕ → Result (Unit {0}) ℕ
+first_type_at [] = Err 0
+first_type_at (kind ∷ rest) = if kind == 0 then Err (suc (length rest)) else Ok tt
+
 unfoldable pub pdu_at : AppForm → List ℕ → Result Pdu ℕ
-pdu_at form [] = Err 0
-pdu_at form (version ∷ []) = Err 0
-pdu_at form (version ∷ kind ∷ rest) =
-    if kind == 0 then Err (suc (length rest))
-    else (blocks_of form (kind ∷ rest) >>= λ ms. Ok (record { version = version; messages = ms }))
+pdu_at form octets = do
+  version ← version_at octets
+  first ← first_type_at version.1
+  messages ← blocks_of form version.1
+  Ok (record { version = version.0; messages = messages })

@@ -37,6 +37,35 @@ pub(crate) enum ReadErr {
     NoMemory,
 }
 
+impl ReadErr {
+    ghost use Rattle.std.specs.Prelude.{◌-◌, ◌<◌, ◌≤◌, ◌^◌};
+    ghost use Rattle.mrpdu_codec.specs.Errors.{IsWithin, behind, placed};
+
+    /// The same where the octets that were read are the first ones of all.
+    pub(crate) fn behind(self, here: usize, all: usize) -> ReadErr
+        requires within { IsWithin self here }
+        requires first { here ≤ all }
+        ensures { result ≡ behind self (all - here) }
+    {
+        match self {
+            ReadErr::Left(left) => ReadErr::Left(all - (here - left)),
+            ReadErr::NoMemory => ReadErr::NoMemory,
+        }
+    }
+
+    /// The same with the place of the field, in so many octets.
+    pub(crate) fn placed(self, all: usize) -> DecodeErr
+        requires within { IsWithin self all }
+        requires few { all < 2 ^ 32 }
+        ensures { result ≡ placed self all }
+    {
+        match self {
+            ReadErr::Left(left) => DecodeErr::Malformed((all - left) as u32),
+            ReadErr::NoMemory => DecodeErr::NoMemory,
+        }
+    }
+}
+
 impl From<NoMemory> for ReadErr {
     ghost from_gives = { λ _ e. e ≡ read_errors.NoMemory };
 

@@ -35,6 +35,7 @@ impl AppForm {
         }
     }
 }
+
 ghost use Rattle.mrpdu_codec.specs.Types.{mvrp_row, msrp_row, mmrp_row};
 
 /// A type with no FourPackedEvents.

@@ -10,6 +10,7 @@ use crate::error::ReadErr;
 use crate::form::TypeForm;
 
 /// A vector's header and its three lists of octets (IEEE Std 802.1Q-2018, 10.8.1.2).
+#[derive(Clone, Copy)]
 pub(crate) struct RawVector<'a> {
     pub(crate) high: u8,
     pub(crate) low: u8,
@@ -58,13 +59,7 @@ fn fours_for(row: Option<TypeForm>, n: usize) -> usize
     ensures { result ≡ fours_for row n }
 {
     match row {
-        Some(form) => {
-            if form.four_packed {
-                (n + 3) / 4
-            } else {
-                0
-            }
-        }
+        Some(form) => { if form.four_packed { (n + 3) / 4 } else { 0 } }
         None => 0,
     }
 }

@@ -1,8 +1,8 @@
 -- What stands after AttributeLength: what a reader takes there is a region of the grammar with its
 -- EndMark, and where it stops a field breaks.
-use Rattle.std.proofs.Common.{◌≡◌, ℕ, zero, suc, ◌+◌, ◌-◌, ◌<◌, ◌≤◌, Bool, true, false, cond, leb, ltb, eqb, List, [], ◌∷◌, ◌++◌, length, take, drop, map, Option, Some, None, Result, Ok, Err, MatchResult, ◌⊎◌, inl, inr, refl, sym, ap, subst, ◌∙◌, append_assoc, length-append, arith}
+use Rattle.std.proofs.Common.{◌≡◌, ℕ, ◌+◌, ◌<◌, ◌≤◌, true, leb, ltb, eqb, List, [], ◌∷◌, ◌++◌, length, take, drop, map, Option, Some, None, Result, Ok, Err, MatchResult, ◌⊎◌, inl, inr, refl, sym, ap, subst, ◌∙◌, append_assoc, length-append, arith}
 use Rattle.std.proofs.lemmas.Bool.{false≢true, cases_lt, ltb-false, leb-true, leb-false, ltb-true, eqb-false, eqb-true}
-use Rattle.std.proofs.lemmas.List.{append-nil, take-append-drop, length-take, length-drop, length-take-le, take_all, drop_all, drop-drop, nil_from_length}
+use Rattle.std.proofs.lemmas.List.{append-nil, take-append-drop, length-take, length-drop, length-take-le, drop_all, drop-drop, nil_from_length}
 use Rattle.mrpdu_codec.specs.declared.form.AppForm.{AppForm}
 use Rattle.mrpdu_codec.specs.declared.form.AppForm.TheVariants.{Mvrp, Msrp, Mmrp}
 use Rattle.mrpdu_codec.specs.declared.form.TypeForm.{TypeForm}
@@ -13,9 +13,10 @@ use Rattle.mrpdu_codec.specs.Tree.Region.{Vectors, Skipped}
 use Rattle.mrpdu_codec.specs.Grammar.{EndMarkBreaks, ListLengthBreaks, ListBreaks, RegionBreaks, IsRegion, CountedBreaks, BodyBreaks}
 use Rattle.mrpdu_codec.specs.Grammar.RegionBreaks.{vector as region_vector, end_mark as region_mark, short as region_short}
 use Rattle.mrpdu_codec.specs.Grammar.CountedBreaks.{list_length as counted_length, region as counted_region, end_mark as counted_mark, skipped as counted_skipped}
-use Rattle.mrpdu_codec.specs.Reading.{◌>>=◌, before, ends_list, vectors_of, mark_at, list_at, region_at, known_at, skip_at, size_at, sized_at, counted_at, body_at}
+use Rattle.mrpdu_codec.specs.Reading.{before, ends_list, vectors_of, mark_at, list_at, region_at, known_at, skip_at, size_at, sized_at, counted_at, body_at}
+use Rattle.std.proofs.lemmas.Result.{MatchResult-at_err}
 use Rattle.mrpdu_codec.proofs.Steps.{then_match, test_match, weaker_match, Broken}
-use Rattle.mrpdu_codec.proofs.Vectors.{TookVectors, vectors_match}
+use Rattle.mrpdu_codec.proofs.ReadVectors.{TookVectors, vectors_match}
 
 of_match : (row : Option TypeForm) (len : ℕ) (octets : List ℕ)
     → MatchResult (vectors_of row len octets) (λ x. TookVectors row len octets x.0 x.1) (λ left. Broken (ListBreaks row len) octets left)
@@ -40,7 +41,7 @@ mark_match (a ∷ []) = (refl, tt)
 mark_match (a ∷ b ∷ rest) =
     test_match (eqb (number a b) 0) _ _ _ _
     (λ good. let z = both_zero a b (eqb-true (number a b) 0 good) in
-      record { mark = 0 ∷ 0 ∷ []; is_mark = inr refl; whole = rw (z.0, z.1) refl; last = λ e. cc })
+    record { mark = 0 ∷ 0 ∷ []; is_mark = inr refl; whole = rw (z.0, z.1) refl; last = λ e. cc })
     (λ bad. let n : number a b ≡ 0 → ⊥ = eqb-false (number a b) 0 bad in (refl, omega arith))
 
 ended_marks : (octets : List ℕ) → ends_list octets ≡ true → EndMarkBreaks octets → ⊥
@@ -82,8 +83,8 @@ unfolding list_at
 list_match row len octets =
     then_match (vectors_of row len octets) _ _ _ _ _ (of_match row len octets)
     (λ x t. then_match (mark_at x.1) _ _ _ _ _ (mark_match x.1)
-      (λ rest m. record { vs = t.vs; rules = t.rules; mark = m.mark; is_mark = m.is_mark; whole = t.whole ∙ ap (λ (o : List ℕ). vectors_octets t.vs ++ o) m.whole; meaning = t.meaning; last = m.last })
-      (λ left h. absurd (ended_marks x.1 t.ended h.1)))
+    (λ rest m. record { vs = t.vs; rules = t.rules; mark = m.mark; is_mark = m.is_mark; whole = t.whole ∙ ap (λ (o : List ℕ). vectors_octets t.vs ++ o) m.whole; meaning = t.meaning; last = m.last })
+    (λ left h. absurd (ended_marks x.1 t.ended h.1)))
     (λ left b. b)
 
 -- ---- a region of stated size
@@ -101,16 +102,27 @@ unfolding region_at
 region_match row len size octets at_most =
     then_match (vectors_of row len octets) _ _ _ _ _ (of_match row len octets)
     (λ x t. test_match (eqb (length x.1) 0) _ _ _ _
-      (λ ends. let rest-is : x.1 ≡ [] = nil_from_length x.1 (eqb-true (length x.1) 0 ends) in
-        let all : octets ≡ vectors_octets t.vs = t.whole ∙ ap (λ (o : List ℕ). vectors_octets t.vs ++ o) rest-is ∙ append-nil (vectors_octets t.vs) in
-        test_match (ltb (length octets) size) _ _ _ _
-        (λ good. record { front = octets; rest = []; whole = sym (append-nil octets); left_is = refl;
-          breaks = region_short t.vs t.rules all refl (ltb-true (length octets) size good) })
-        (λ bad. let le = ltb-false (length octets) size bad in
-          record { vs = t.vs; rules = t.rules; whole = all; full = omega arith; meaning = t.meaning }))
-      (λ more. let m = ended_more x.1 t.ended (eqb-false (length x.1) 0 more) in
-        record { front = vectors_octets t.vs; rest = x.1; whole = t.whole; left_is = refl; breaks = region_mark t.vs t.rules refl m.0 m.1 }))
+    (λ ends. let rest-is : x.1 ≡ [] = nil_from_length x.1 (eqb-true (length x.1) 0 ends) in
+    let all : octets ≡ vectors_octets t.vs = t.whole ∙ ap (λ (o : List ℕ). vectors_octets t.vs ++ o) rest-is ∙ append-nil (vectors_octets t.vs) in
+    test_match (ltb (length octets) size) _ _ _ _
+    (λ good. record {
+      front = octets;
+      rest = [];
+      whole = sym (append-nil octets);
+      left_is = refl;
+      breaks = region_short t.vs t.rules all refl (ltb-true (length octets) size good);
+    })
+    (λ bad. let le = ltb-false (length octets) size bad in
+    record { vs = t.vs; rules = t.rules; whole = all; full = omega arith; meaning = t.meaning }))
+    (λ more. let m = ended_more x.1 t.ended (eqb-false (length x.1) 0 more) in
+    record { front = vectors_octets t.vs; rest = x.1; whole = t.whole; left_is = refl; breaks = region_mark t.vs t.rules refl m.0 m.1 }))
     (λ left b. record { front = b.front; rest = b.rest; whole = b.whole; left_is = b.left_is; breaks = region_vector b.breaks })
+
+-- a region isn't left with more octets than it has
+pub region_left : (row : Option TypeForm) (len size : ℕ) (octets : List ℕ) (left : ℕ) → region_at row len size (take size octets) ≡ Err left → left ≤ length (take size octets)
+region_left row len size octets left e =
+    let b = MatchResult-at_err (λ attrs. TookRegion row len size (take size octets) attrs) (λ n. Broken (RegionBreaks row len size) (take size octets) n) left e (region_match row len size (take size octets) (omega (arith, length-take size octets))) in
+    omega (arith, b.left_is, ap length b.whole, length-append b.front b.rest)
 
 before_match : {A : Type 0} (beyond : ℕ) (r : Result A ℕ) (P : A → Type 0) (Q Q' : ℕ → Type 0) → MatchResult r P Q → ((left : ℕ) → Q left → Q' (left + beyond)) → MatchResult (before beyond r) P Q'
 before_match beyond (Ok x) P Q Q' h f = h
@@ -147,15 +159,31 @@ known_match t len size octets =
     let short : length region ≤ size = omega (arith, length-take size octets) in
     then_match (before (length beyond) (region_at (Some t) len size region)) _ _ (λ left. Broken (KnownBreaks t len size) octets left) _ _
     (before_match (length beyond) (region_at (Some t) len size region) _ _ _ (region_match (Some t) len size region short)
-      (λ left b. record { front = b.front; rest = b.rest ++ beyond;
-        whole = split ∙ ap (λ (o : List ℕ). o ++ beyond) b.whole ∙ append_assoc b.front b.rest beyond;
-        left_is = omega (arith, length-append b.rest beyond, b.left_is);
-        breaks = in_region b.rest beyond (subst (λ (o : List ℕ). IsRegion size o beyond) b.whole (parts_of size octets)) refl b.breaks }))
+    (λ left b. record {
+      front = b.front;
+      rest = b.rest ++ beyond;
+      whole = split ∙ ap (λ (o : List ℕ). o ++ beyond) b.whole ∙ append_assoc b.front b.rest beyond;
+      left_is = omega (arith, length-append b.rest beyond, b.left_is);
+      breaks = in_region b.rest beyond (subst (λ (o : List ℕ). IsRegion size o beyond) b.whole (parts_of size octets)) refl b.breaks;
+    }))
     (λ attrs r. then_match (mark_at beyond) _ _ _ _ _ (mark_match beyond)
-      (λ rest m. record { vs = r.vs; rules = r.rules; full = sym (ap length r.whole) ∙ r.full; mark = m.mark; is_mark = m.is_mark;
-        whole = split ∙ ap (λ (o : List ℕ). o ++ beyond) r.whole ∙ ap (λ (o : List ℕ). vectors_octets r.vs ++ o) m.whole; meaning = r.meaning; last = m.last })
-      (λ left h. record { front = vectors_octets r.vs; rest = beyond; whole = split ∙ ap (λ (o : List ℕ). o ++ beyond) r.whole; left_is = h.0;
-        breaks = at_mark r.vs r.rules (sym (ap length r.whole) ∙ r.full) refl h.1 }))
+    (λ rest m. record {
+      vs = r.vs;
+      rules = r.rules;
+      full = sym (ap length r.whole) ∙ r.full;
+      mark = m.mark;
+      is_mark = m.is_mark;
+      whole = split ∙ ap (λ (o : List ℕ). o ++ beyond) r.whole ∙ ap (λ (o : List ℕ). vectors_octets r.vs ++ o) m.whole;
+      meaning = r.meaning;
+      last = m.last;
+    })
+    (λ left h. record {
+      front = vectors_octets r.vs;
+      rest = beyond;
+      whole = split ∙ ap (λ (o : List ℕ). o ++ beyond) r.whole;
+      left_is = h.0;
+      breaks = at_mark r.vs r.rules (sym (ap length r.whole) ∙ r.full) refl h.1;
+    }))
     (λ left b. b)
 
 -- ---- an unknown type's region
@@ -176,15 +204,20 @@ unfolding skip_at
 skip_match size octets =
     test_match (leb (size + 2) (length octets)) _ _ _ _
     (λ good. let long = leb-true (size + 2) (length octets) good in
-      let here : 2 ≤ length (drop size octets) = omega (arith, length-drop size octets) in
-      record { skipped = take size octets; full = length-take-le size octets (omega arith); mark = take 2 (drop size octets); is_mark = inr (length-take-le 2 (drop size octets) here);
-        whole = sym (take-append-drop size octets) ∙ ap (λ (o : List ℕ). take size octets ++ o) (sym (take-append-drop 2 (drop size octets)) ∙ ap (λ (o : List ℕ). take 2 (drop size octets) ++ o) (drop-drop 2 size octets));
-        last = λ e. absurd (two_of (drop size octets) here e) })
+    let here : 2 ≤ length (drop size octets) = omega (arith, length-drop size octets) in
+    record {
+      skipped = take size octets;
+      full = length-take-le size octets (omega arith);
+      mark = take 2 (drop size octets);
+      is_mark = inr (length-take-le 2 (drop size octets) here);
+      whole = sym (take-append-drop size octets) ∙ ap (λ (o : List ℕ). take size octets ++ o) (sym (take-append-drop 2 (drop size octets)) ∙ ap (λ (o : List ℕ). take 2 (drop size octets) ++ o) (drop-drop 2 size octets));
+      last = λ e. absurd (two_of (drop size octets) here e);
+    })
     (λ bad. let lt = leb-false (size + 2) (length octets) bad in
-      test_match (eqb (length octets) size) _ _ _ _
-      (λ good. record { skipped = octets; full = eqb-true (length octets) size good; mark = []; is_mark = inl refl; whole = sym (append-nil octets); last = λ e. refl })
-      (λ other. let ne = eqb-false (length octets) size other in
-        (refl, elim (cases_lt (length octets) size) [ inl l ↦ inl l | inr g ↦ inr (omega arith) ])))
+    test_match (eqb (length octets) size) _ _ _ _
+    (λ good. record { skipped = octets; full = eqb-true (length octets) size good; mark = []; is_mark = inl refl; whole = sym (append-nil octets); last = λ e. refl })
+    (λ other. let ne = eqb-false (length octets) size other in
+    (refl, elim (cases_lt (length octets) size) [ inl l ↦ inl l | inr g ↦ inr (omega arith) ])))
 
 -- ---- MSRP's AttributeListLength
 
@@ -206,24 +239,46 @@ size_match (high ∷ low ∷ rest) =
 known_breaks : (t : TypeForm) (len : ℕ) (octets : List ℕ) (size : ℕ) (after : List ℕ) → TookSize octets size after → (left : ℕ) → Broken (KnownBreaks t len size) after left → Broken (CountedBreaks (Some t) len) octets left
 known_breaks t len octets size after s left b = go b.breaks where
   go : KnownBreaks t len size b.front b.rest → Broken (CountedBreaks (Some t) len) octets left
-  go (in_region within beyond is_region rest-is breaks) = record { front = s.high ∷ s.low ∷ b.front; rest = b.rest; left_is = b.left_is;
+  go (in_region within beyond is_region rest-is breaks) = record {
+    front = s.high ∷ s.low ∷ b.front;
+    rest = b.rest;
+    left_is = b.left_is;
     whole = s.whole ∙ ap (λ (o : List ℕ). s.high ∷ s.low ∷ o) b.whole;
-    breaks = counted_region t refl s.high s.low size s.counts b.front within beyond is_region refl rest-is breaks }
-  go (at_mark vs rules full front-is breaks) = record { front = s.high ∷ s.low ∷ b.front; rest = b.rest; left_is = b.left_is;
+    breaks = counted_region t refl s.high s.low size s.counts b.front within beyond is_region refl rest-is breaks;
+  }
+  go (at_mark vs rules full front-is breaks) = record {
+    front = s.high ∷ s.low ∷ b.front;
+    rest = b.rest;
+    left_is = b.left_is;
     whole = s.whole ∙ ap (λ (o : List ℕ). s.high ∷ s.low ∷ o) b.whole;
-    breaks = counted_mark t refl s.high s.low vs rules (rw full s.counts) (ap (λ (o : List ℕ). s.high ∷ s.low ∷ o) front-is) breaks }
+    breaks = counted_mark t refl s.high s.low vs rules (rw full s.counts) (ap (λ (o : List ℕ). s.high ∷ s.low ∷ o) front-is) breaks;
+  }
 
 sized_match : (row : Option TypeForm) (len : ℕ) (octets : List ℕ) (size : ℕ) (after : List ℕ) → TookSize octets size after
     → MatchResult (sized_at row len size after) (λ x. TookBody Msrp row len octets x.0 x.1) (λ left. Broken (CountedBreaks row len) octets left)
 sized_match None len octets size after s =
     then_match (skip_at size after) _ _ _ _ _ (skip_match size after)
-    (λ rest k. record { list_length = s.high ∷ s.low ∷ []; region = Skipped k.skipped; mark = k.mark; rules = (rw k.full s.counts, k.is_mark);
-      whole = s.whole ∙ ap (λ (o : List ℕ). s.high ∷ s.low ∷ o) k.whole; meaning = refl; last = k.last })
+    (λ rest k. record {
+      list_length = s.high ∷ s.low ∷ [];
+      region = Skipped k.skipped;
+      mark = k.mark;
+      rules = (rw k.full s.counts, k.is_mark);
+      whole = s.whole ∙ ap (λ (o : List ℕ). s.high ∷ s.low ∷ o) k.whole;
+      meaning = refl;
+      last = k.last;
+    })
     (λ left h. record { front = s.high ∷ s.low ∷ []; rest = after; whole = s.whole; left_is = h.0; breaks = counted_skipped refl s.high s.low size s.counts refl h.1 })
 sized_match (Some t) len octets size after s =
     weaker_match (known_at (Some t) len size after) _ _ _ _ (known_match t len size after)
-    (λ x k. record { list_length = s.high ∷ s.low ∷ []; region = Vectors k.vs; mark = k.mark; rules = (rw k.full s.counts, k.rules, k.is_mark);
-      whole = s.whole ∙ ap (λ (o : List ℕ). s.high ∷ s.low ∷ o) k.whole; meaning = k.meaning; last = k.last })
+    (λ x k. record {
+      list_length = s.high ∷ s.low ∷ [];
+      region = Vectors k.vs;
+      mark = k.mark;
+      rules = (rw k.full s.counts, k.rules, k.is_mark);
+      whole = s.whole ∙ ap (λ (o : List ℕ). s.high ∷ s.low ∷ o) k.whole;
+      meaning = k.meaning;
+      last = k.last;
+    })
     (λ left b. known_breaks t len octets size after s left b)
 
 counted_match : (row : Option TypeForm) (len : ℕ) (octets : List ℕ)

@@ -1,13 +1,12 @@
 -- What the grammar says is what reading gives: regions, Messages and PDUs.
-use Rattle.std.proofs.Common.{◌≡◌, ℕ, zero, suc, ◌+◌, ◌-◌, ◌<◌, ◌≤◌, Bool, true, false, cond, leb, ltb, eqb, List, [], ◌∷◌, ◌++◌, length, take, drop, map, Option, Some, None, Result, Ok, Err, MatchResult, ◌⊎◌, inl, inr, refl, sym, ap, subst, ◌∙◌, append_assoc, length-append, arith}
+use Rattle.std.proofs.Common.{◌≡◌, ℕ, zero, suc, ◌+◌, ◌-◌, ◌<◌, ◌≤◌, true, false, eqb, List, [], ◌∷◌, ◌++◌, length, take, drop, map, Option, Some, None, Result, Ok, Err, ◌⊎◌, inl, inr, refl, sym, ap, subst, ◌∙◌, append_assoc, length-append, arith}
 use Rattle.std.specs.List.{flat_map}
-use Rattle.std.proofs.lemmas.Bool.{cases_lt, le-leb, lt-leb, le-ltb, lt-ltb, ne_eqb, eq-eqb}
+use Rattle.std.proofs.lemmas.Bool.{le-leb, lt-leb, le-ltb, lt-ltb, ne_eqb, eq-eqb}
 use Rattle.std.proofs.lemmas.List.{append-nil, take_at, drop_at, take_all, drop_all}
 use Rattle.mrpdu_codec.specs.declared.form.AppForm.{AppForm}
 use Rattle.mrpdu_codec.specs.declared.form.AppForm.TheVariants.{Mvrp, Msrp, Mmrp}
 use Rattle.mrpdu_codec.specs.declared.form.TypeForm.{TypeForm}
 use Rattle.mrpdu_codec.specs.declared.pdu.VectorAttr.{VectorAttr}
-use Rattle.mrpdu_codec.specs.declared.pdu.Message.{Message}
 use Rattle.mrpdu_codec.specs.declared.pdu.Pdu.{Pdu}
 use Rattle.mrpdu_codec.specs.Octets.{number}
 use Rattle.mrpdu_codec.specs.Types.{row_of}
@@ -18,8 +17,8 @@ use Rattle.mrpdu_codec.specs.Grammar.RegionBreaks.{vector as region_vector, end_
 use Rattle.mrpdu_codec.specs.Grammar.CountedBreaks.{list_length as counted_length, region as counted_region, end_mark as counted_mark, skipped as counted_skipped}
 use Rattle.mrpdu_codec.specs.Grammar.BlockBreaks.{len as length_breaks, body as body_breaks_at}
 use Rattle.mrpdu_codec.specs.Grammar.PduBreaks.{version as version_breaks, first_type, later_type, block as block_breaks_at}
-use Rattle.mrpdu_codec.specs.Reading.{◌>>=◌, before, ends_list, vectors_of, mark_at, list_at, region_at, known_at, skip_at, size_at, sized_at, counted_at, body_at, length_at, block_at, end_at, blocks_at, blocks_of, pdu_at}
-use Rattle.mrpdu_codec.proofs.Again.{of_reads, of_breaks}
+use Rattle.mrpdu_codec.specs.Reading.{◌>>=◌, ends_list, vectors_of, mark_at, list_at, region_at, known_at, skip_at, size_at, sized_at, counted_at, body_at, length_at, block_at, end_at, blocks_at, blocks_of, version_at, first_type_at, pdu_at}
+use Rattle.mrpdu_codec.proofs.AgainVectors.{of_reads, of_breaks}
 
 -- a number that isn't 0
 nonzero : (kind : ℕ) → 0 < kind → eqb kind 0 ≡ false
@@ -217,11 +216,17 @@ length_reads row len rest fits = rw fits refl
 block_breaks : (form : AppForm) (front rest : List ℕ) → BlockBreaks form front rest → BrokenBlock form front rest
 unfolding block_at
 block_breaks form front rest (length_breaks kind some front-is h) = record {
-  kind = kind; tail = rest; text = ap (λ (o : List ℕ). o ++ rest) front-is; some = some;
+  kind = kind;
+  tail = rest;
+  text = ap (λ (o : List ℕ). o ++ rest) front-is;
+  some = some;
   fails = rw (length_breaks_at (row_of form kind) rest h) refl;
 }
 block_breaks form front rest (body_breaks_at kind len some fits part front-is h) = record {
-  kind = kind; tail = len ∷ (part ++ rest); text = ap (λ (o : List ℕ). o ++ rest) front-is; some = some;
+  kind = kind;
+  tail = len ∷ (part ++ rest);
+  text = ap (λ (o : List ℕ). o ++ rest) front-is;
+  some = some;
   fails = rw (length_reads (row_of form kind) len (part ++ rest) fits, body_breaks form (row_of form kind) len part rest h) refl;
 }
 
@@ -284,7 +289,7 @@ inner_breaks form part rest h (suc fuel) enough =
 -- a first Message has an AttributeType, so that octets with one are read as Messages
 pdu_from : (form : AppForm) (version kind : ℕ) (octets tail : List ℕ) → octets ≡ kind ∷ tail → 0 < kind
     → pdu_at form (version ∷ octets) ≡ (blocks_of form octets >>= λ ms. let pdu : Pdu = record { version = version; messages = ms } in Ok pdu)
-unfolding pdu_at
+unfolding pdu_at version_at first_type_at
 pdu_from form version kind octets tail e some =
     ap (λ (o : List ℕ). pdu_at form (version ∷ o)) e ∙ rw (nonzero kind some) (ap (λ (o : List ℕ). blocks_of form o >>= λ ms. let pdu : Pdu = record { version = version; messages = ms } in Ok pdu) (sym e))
 
@@ -298,7 +303,7 @@ unfolding blocks_of
 past_of form bs rest left all h = past_blocks form rest left h (length (blocks_octets bs ++ rest)) bs all (omega arith)
 
 first_fails : (form : AppForm) (version : ℕ) (rest : List ℕ) → FirstTypeBreaks rest → pdu_at form (version ∷ rest) ≡ Err (length rest)
-unfolding pdu_at
+unfolding pdu_at version_at first_type_at
 first_fails form version [] h = refl
 first_fails form version (kind ∷ rest) h = rw h refl
 
@@ -307,11 +312,11 @@ tree_reads form tree is = go tree.blocks is.some is.blocks where
   go : (bs : List Block) → 0 < length bs → AreBlocks form bs tree.after → pdu_at form (tree.version ∷ (blocks_octets bs ++ after_octets tree.after)) ≡ Ok (pdu_of form (record { version = tree.version; blocks = bs; after = tree.after }))
   go [] some all = absurd (omega arith)
   go (b ∷ bs) some all =
-    pdu_from form tree.version b.kind (blocks_octets (b ∷ bs) ++ after_octets tree.after) _ refl all.0.kind
-    ∙ rw (all_read form (b ∷ bs) tree.after all) refl
+      pdu_from form tree.version b.kind (blocks_octets (b ∷ bs) ++ after_octets tree.after) _ refl all.0.kind
+      ∙ rw (all_read form (b ∷ bs) tree.after all) refl
 
 pdu_fails : (form : AppForm) (front rest : List ℕ) → PduBreaks form front rest → pdu_at form (front ++ rest) ≡ Err (length rest)
-unfolding pdu_at
+unfolding pdu_at version_at first_type_at
 pdu_fails form front rest (version_breaks front-is rest-is) =
     ap (λ (o : List ℕ). pdu_at form (o ++ rest)) front-is ∙ ap (λ (o : List ℕ). pdu_at form o) rest-is ∙ rw rest-is refl
 pdu_fails form front rest (first_type version front-is h) = ap (λ (o : List ℕ). pdu_at form (o ++ rest)) front-is ∙ first_fails form version rest h

@@ -1,10 +1,10 @@
 -- What the grammar says is what reading gives: vectors.
-use Rattle.std.proofs.Common.{◌≡◌, ℕ, zero, suc, ◌+◌, ◌%◌, ◌/◌, ◌<◌, ◌≤◌, Bool, true, false, cond, leb, ltb, eqb, List, [], ◌∷◌, ◌++◌, length, take, drop, map, Option, Some, None, Result, Ok, Err, ◌⊎◌, inl, inr, refl, sym, ap, subst, ◌∙◌, append_assoc, length-append, arith}
-use Rattle.std.proofs.lemmas.Bool.{false≢true, cases_lt, le-leb, le-ltb, lt-leb, lt-ltb, ltb-false, leb-true, leb-false, eqb-true, ne_eqb}
-use Rattle.std.proofs.lemmas.List.{append-nil, take_at, drop_at, take_all, drop_all}
+use Rattle.std.proofs.Common.{◌≡◌, ℕ, zero, suc, ◌+◌, ◌/◌, ◌<◌, ◌≤◌, true, false, ltb, List, [], ◌∷◌, ◌++◌, length, map, Option, Ok, Err, refl, sym, ap, ◌∙◌, append_assoc, length-append, arith}
+use Rattle.std.proofs.lemmas.Bool.{false≢true, le-leb, le-ltb, lt-leb, lt-ltb, leb-false, ne_eqb}
+use Rattle.std.proofs.lemmas.List.{take_at, drop_at}
 use Rattle.mrpdu_codec.specs.declared.form.TypeForm.{TypeForm}
 use Rattle.mrpdu_codec.specs.Octets.{number, thirds}
-use Rattle.mrpdu_codec.specs.Tree.{Vector, header, count, packed_limit, leave_all_limit, fours_for, header_fits, AllUpTo, IsVector, vector_octets, vectors_octets, AreVectors, attr_of}
+use Rattle.mrpdu_codec.specs.Tree.{Vector, count, packed_limit, leave_all_limit, fours_for, header_fits, AllUpTo, IsVector, vector_octets, vectors_octets, AreVectors, attr_of}
 use Rattle.mrpdu_codec.specs.Grammar.{OctetBreaks, HeaderBreaks, VectorBreaks, ListBreaks}
 use Rattle.mrpdu_codec.specs.Grammar.ListBreaks.{vector as list_vector}
 use Rattle.mrpdu_codec.specs.Grammar.VectorBreaks.{header as header_breaks, first_value, packed as packed_breaks, four_packed}
@@ -50,8 +50,12 @@ unfolding vector_at
 vector_reads row len v rest is =
     let regrouped : (v.first ++ (v.packed ++ v.fours)) ++ rest ≡ v.first ++ (v.packed ++ (v.fours ++ rest)) = append_assoc v.first (v.packed ++ v.fours) rest ∙ ap (λ (o : List ℕ). v.first ++ o) (append_assoc v.packed v.fours rest) in
     ap (λ (o : List ℕ). vector_at row len (v.high ∷ v.low ∷ o)) regrouped
-    ∙ rw (head_reads row v.high v.low (v.first ++ (v.packed ++ (v.fours ++ rest))) is.leave_all, first_reads len v.first (v.packed ++ (v.fours ++ rest)) is.first,
-        run_reads (packed_limit row) (thirds (count v)) v.packed (v.fours ++ rest) is.packed is.events, run_reads 255 (fours_for row (count v)) v.fours rest is.fours is.params) refl
+    ∙ rw (
+      head_reads row v.high v.low (v.first ++ (v.packed ++ (v.fours ++ rest))) is.leave_all,
+      first_reads len v.first (v.packed ++ (v.fours ++ rest)) is.first,
+      run_reads (packed_limit row) (thirds (count v)) v.packed (v.fours ++ rest) is.packed is.events,
+      run_reads 255 (fours_for row (count v)) v.fours rest is.fours is.params,
+    ) refl
 
 pub vector_breaks : (row : Option TypeForm) (len : ℕ) (front rest : List ℕ) → VectorBreaks row len front rest → vector_at row len (front ++ rest) ≡ Err (length rest)
 unfolding vector_at
@@ -62,13 +66,20 @@ vector_breaks row len front rest (first_value v fits some front-is h) =
 vector_breaks row len front rest (packed_breaks v fits some first all short front-is h) =
     ap (λ (o : List ℕ). vector_at row len (o ++ rest)) front-is
     ∙ ap (λ (o : List ℕ). vector_at row len (v.high ∷ v.low ∷ o)) (append_assoc v.first v.packed rest)
-    ∙ rw (head_reads row v.high v.low (v.first ++ (v.packed ++ rest)) fits, first_reads len v.first (v.packed ++ rest) first,
-        run_breaks (packed_limit row) (thirds (count v)) v.packed rest short all h) refl
+    ∙ rw (
+      head_reads row v.high v.low (v.first ++ (v.packed ++ rest)) fits,
+      first_reads len v.first (v.packed ++ rest) first,
+      run_breaks (packed_limit row) (thirds (count v)) v.packed rest short all h,
+    ) refl
 vector_breaks row len front rest (four_packed v fits some first all full all4 short front-is h) =
     ap (λ (o : List ℕ). vector_at row len (o ++ rest)) front-is
     ∙ ap (λ (o : List ℕ). vector_at row len (v.high ∷ v.low ∷ o)) (append_assoc v.first (v.packed ++ v.fours) rest ∙ ap (λ (o : List ℕ). v.first ++ o) (append_assoc v.packed v.fours rest))
-    ∙ rw (head_reads row v.high v.low (v.first ++ (v.packed ++ (v.fours ++ rest))) fits, first_reads len v.first (v.packed ++ (v.fours ++ rest)) first,
-        run_reads (packed_limit row) (thirds (count v)) v.packed (v.fours ++ rest) full all, run_breaks 255 (fours_for row (count v)) v.fours rest short all4 h) refl
+    ∙ rw (
+      head_reads row v.high v.low (v.first ++ (v.packed ++ (v.fours ++ rest))) fits,
+      first_reads len v.first (v.packed ++ (v.fours ++ rest)) first,
+      run_reads (packed_limit row) (thirds (count v)) v.packed (v.fours ++ rest) full all,
+      run_breaks 255 (fours_for row (count v)) v.fours rest short all4 h,
+    ) refl
 
 -- ---- vectors up to an end
 
