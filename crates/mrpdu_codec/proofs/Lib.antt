@@ -8,3 +8,6 @@ pub mod Loops
 pub mod Whiles
 pub mod WhileBlocks
 pub mod ErrorLemmas
+pub mod Packed
+pub mod RoundTrip
+pub mod Sizes

@@ -5,3 +5,4 @@ pub mod Grammar
 pub mod Reading
 pub mod Raw
 pub mod Errors
+pub mod Canonical

@@ -3,13 +3,20 @@
 
 mod blocks;
 mod decoding;
+mod encoding;
 pub mod error;
 pub mod form;
 pub mod pdu;
 mod raw;
 mod vectors;
+mod writable;
 
 pub use decoding::{decode, one_reading};
+pub use encoding::{encode, written_is_read};
 pub use error::DecodeErr;
 pub use form::{AppForm, TypeForm};
 pub use pdu::{Message, Pdu, VectorAttr};
+pub use writable::{size_of, well_formed};
+
+#[cfg(test)]
+mod tests;
