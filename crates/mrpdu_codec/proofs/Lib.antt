@@ -11,3 +11,4 @@ pub mod ErrorLemmas
 pub mod Packed
 pub mod RoundTrip
 pub mod Sizes
+pub mod Reread

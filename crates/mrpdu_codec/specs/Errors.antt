@@ -1,5 +1,5 @@
 -- What a reader's error says of the octets that it was given.
-use Rattle.std.specs.Prelude.{ℕ, ◌+◌, ◌-◌, ◌≤◌}
+use Rattle.std.specs.Prelude.{◌≡◌, ℕ, ◌+◌, ◌-◌, ◌≤◌, Result, Ok, Err}
 use Rattle.mrpdu_codec.specs.declared.error.DecodeErr.{DecodeErr}
 use Rattle.mrpdu_codec.specs.declared.error.DecodeErr.TheVariants as decode_errors
 use Rattle.mrpdu_codec.specs.declared.error.ReadErr.{ReadErr}
@@ -19,3 +19,9 @@ behind errors.NoMemory n = errors.NoMemory
 abbrev pub placed : ReadErr → ℕ → DecodeErr
 placed (errors.Left left) all = decode_errors.Malformed (all - left)
 placed errors.NoMemory all = decode_errors.NoMemory
+
+-- What `decode` answered is what the octets say, unless memory ran out.
+abbrev pub Answers : {A : Type 0} → Result A DecodeErr → Result A ℕ → Type 0
+Answers (Ok x) read = read ≡ Ok x
+Answers (Err (decode_errors.Malformed place)) read = read ≡ Err place
+Answers (Err decode_errors.NoMemory) read = Unit {0}

@@ -180,3 +180,11 @@ pdu_at form octets = do
   first ← first_type_at version.1
   messages ← blocks_of form version.1
   Ok (record { version = version.0; messages = messages })
+
+-- The PDU that octets spell, or the place where they break.
+abbrev pub placed_in : ℕ → Result Pdu ℕ → Result Pdu ℕ
+placed_in all (Ok pdu) = Ok pdu
+placed_in all (Err left) = Err (all - left)
+
+unfoldable pub reading : AppForm → List ℕ → Result Pdu ℕ
+reading form octets = placed_in (length octets) (pdu_at form octets)

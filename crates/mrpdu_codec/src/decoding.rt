@@ -1,10 +1,11 @@
 //! Octets read as a PDU.
 
-ghost use Rattle.std.specs.Prelude.{◌≡◌, ◌⊎◌, ◌<◌, ◌^◌, ℕ, List, length, Ok, Err, IfOk};
+ghost use Rattle.std.specs.Prelude.{◌≡◌, ◌⊎◌, ◌↔◌, ◌<◌, ◌^◌, ℕ, List, length, Ok, Err, IfOk};
 ghost use Rattle.mrpdu_codec.specs.declared.form.AppForm.{AppForm};
 ghost use Rattle.mrpdu_codec.specs.declared.pdu.Pdu.{Pdu};
 ghost use Rattle.mrpdu_codec.specs.Grammar.{Spells, Breaks};
-ghost use Rattle.mrpdu_codec.specs.Reading.{Gives, version_at, first_type_at, pdu_at};
+ghost use Rattle.mrpdu_codec.specs.Reading.{Gives, version_at, first_type_at, pdu_at, reading};
+ghost use Rattle.mrpdu_codec.specs.Errors.{Answers};
 
 use crate::blocks::messages;
 use crate::error::{DecodeErr, ReadErr};
@@ -64,6 +65,9 @@ fn pdu(alloc: Global, app: AppForm, octets: &[u8]) -> Result<Pdu, ReadErr>
 pub fn decode(alloc: Global, form: AppForm, octets: &[u8]) -> Result<Pdu, DecodeErr>
     requires { length octets.now < 2 ^ 32 }
 
+    // It answers what the octets say.
+    ensures exact { Answers result (reading form octets.now) }
+
     // What it answers holds.
     ensures spelled { (pdu : Pdu) → result ≡ Ok pdu → Spells form octets.now pdu }
     ensures broken { (place : ℕ) → result ≡ Err (DecodeErr.Malformed place) → Breaks form octets.now place }
@@ -85,3 +89,11 @@ pub fn one_reading()
     ensures one_place { (form : AppForm) (octets : List ℕ) (m n : ℕ) → Breaks form octets m → Breaks form octets n → m ≡ n }
     ensures never_both { (form : AppForm) (octets : List ℕ) (pdu : Pdu) (place : ℕ) → Spells form octets pdu → Breaks form octets place → ⊥ }
 {}
+
+/// The reading as a function is the grammar: octets read as exactly the PDU that they spell, or as exactly
+/// the place where they break.
+pub fn reading_is_the_grammar()
+    ensures spelled { (form : AppForm) (octets : List ℕ) (pdu : Pdu) → (reading form octets ≡ Ok pdu) ↔ Spells form octets pdu }
+    ensures broken { (form : AppForm) (octets : List ℕ) (place : ℕ) → (reading form octets ≡ Err place) ↔ Breaks form octets place }
+{
+}

@@ -1,6 +1,7 @@
 //! A PDU written as octets.
 
-ghost use Rattle.std.specs.Prelude.{◌≡◌, ◌++◌, ◌∷◌, [], ◌≤◌, ◌<◌, ◌+◌, ◌^◌, length, map, nat_le, IsTrue, IfOk, OnOk, OnErr};
+ghost use Rattle.std.specs.Prelude.{◌≡◌, ◌++◌, ◌∷◌, [], ◌≤◌, ◌<◌, ◌+◌, ◌^◌, length, map, nat_le, IsTrue, IfOk, OnOk, OnErr, Ok};
+ghost use Rattle.mrpdu_codec.specs.Reading.{reading};
 ghost use Rattle.std.specs.List.{list_all, AllByRecursion};
 ghost use Rattle.mrpdu_codec.specs.declared.form.AppForm.{AppForm};
 ghost use Rattle.mrpdu_codec.specs.declared.pdu.Pdu.{Pdu};
@@ -211,10 +212,14 @@ fn written(alloc: Global, form: AppForm, pdu: &Pdu) -> Result<Vec<u8>, AllocErro
 /// Writes a PDU at the end of `out`, in its one canonical spelling: with every EndMark, and with 0 in the
 /// places past the last value of a vector (IEEE Std 802.1Q-2018, 10.8.1.2). `well_formed` tests the
 /// condition. After want of memory `out` is as it was.
+#[tactic(auto, using(crate::proofs::Reread::reread))]
 pub fn encode(form: AppForm, pdu: &Pdu, out: &mut Vec<u8>) -> Result<(), NoMemory>
     requires { IsTrue (well_formed form pdu.now) }
     ensures ok { OnOk result (out.new.items ≡ out.old.items ++ spelling form pdu.now) }
     ensures err { OnErr result (out.new.items ≡ out.old.items) }
+
+    // What was written reads as the PDU.
+    ensures read_back { reading form (spelling form pdu.now) ≡ Ok pdu.now }
 {
     let octets = written(*out.allocator(), form, pdu)?;
     out.extend_from_slice(&octets)?;

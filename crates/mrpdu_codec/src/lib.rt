@@ -11,7 +11,7 @@ mod raw;
 mod vectors;
 mod writable;
 
-pub use decoding::{decode, one_reading};
+pub use decoding::{decode, one_reading, reading_is_the_grammar};
 pub use encoding::{encode, written_is_read};
 pub use error::DecodeErr;
 pub use form::{AppForm, TypeForm};

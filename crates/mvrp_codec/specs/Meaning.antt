@@ -1,5 +1,5 @@
 -- What a MRPDU of MVRP says (IEEE Std 802.1Q-2018, 10.8.1.2, 11.2.3.1).
-use Rattle.std.specs.Prelude.{◌≡◌, ℕ, ◌+◌, Bool, ◌&&◌, List, [], ◌∷◌, ◌++◌, slice_index, nat_le, if◌then◌else◌}
+use Rattle.std.specs.Prelude.{◌≡◌, ℕ, ◌+◌, Bool, ◌&&◌, List, [], ◌∷◌, ◌++◌, slice_index, nat_le, if◌then◌else◌, Result, Ok, Err}
 use Rattle.std.specs.List.{flat_map, list_any}
 use Rattle.srp_base.specs.declared.mrp.MrpEvent.{MrpEvent}
 use Rattle.mrpdu_codec.specs.declared.form.AppForm.TheVariants.{Mvrp}
@@ -8,6 +8,7 @@ use Rattle.mrpdu_codec.specs.declared.pdu.Message.{Message}
 use Rattle.mrpdu_codec.specs.declared.pdu.Pdu.{Pdu}
 use Rattle.mrpdu_codec.specs.Octets.{number}
 use Rattle.mrpdu_codec.specs.Grammar.{Spells}
+use Rattle.mrpdu_codec.specs.Reading.{reading}
 use Rattle.mvrp_codec.specs.declared.pdu.MvrpPdu.{MvrpPdu}
 
 -- the VID in the two octets of a FirstValue
@@ -41,3 +42,11 @@ pub record Reads (octets : List ℕ) (read : MvrpPdu) : Type 0 where
   pub pdu : Pdu
   pub spelled : Spells Mvrp octets pdu
   pub meant : read ≡ meaning pdu
+
+-- The reading of an MVRP text: what it says, or the place where it breaks.
+abbrev pub read_as : Result Pdu ℕ → Result MvrpPdu ℕ
+read_as (Ok pdu) = Ok (meaning pdu)
+read_as (Err place) = Err place
+
+abbrev pub mvrp_reading : List ℕ → Result MvrpPdu ℕ
+mvrp_reading octets = read_as (reading Mvrp octets)

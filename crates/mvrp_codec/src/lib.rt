@@ -3,7 +3,9 @@
 
 mod pdu;
 mod reading;
+mod writing;
 
 pub use mrpdu_codec::DecodeErr;
 pub use pdu::MvrpPdu;
-pub use reading::decode;
+pub use reading::{decode, reading_is_the_grammar};
+pub use writing::encode;

@@ -1,12 +1,13 @@
 //! Octets read as the events of VIDs.
 
-ghost use Rattle.std.specs.Prelude.{◌≡◌, ◌⊎◌, ◌++◌, ◌<◌, ◌≤◌, ◌^◌, ℕ, Ok, Err, length, OnOk, IfOk};
+ghost use Rattle.std.specs.Prelude.{◌≡◌, ◌⊎◌, ◌↔◌, List, ◌++◌, ◌<◌, ◌≤◌, ◌^◌, ℕ, Ok, Err, length, OnOk, IfOk};
 ghost use Rattle.std.specs.List.{flat_map, list_any};
 ghost use Rattle.mrpdu_codec.specs.declared.error.DecodeErr.TheVariants as errors;
 ghost use Rattle.mrpdu_codec.specs.declared.form.AppForm.TheVariants.{Mvrp};
 ghost use Rattle.mrpdu_codec.specs.Grammar.{Breaks};
 ghost use Rattle.mvrp_codec.specs.declared.pdu.MvrpPdu.{MvrpPdu};
-ghost use Rattle.mvrp_codec.specs.Meaning.{first_vid, event_at, events_from, vector_events, message_events, message_leaves, meaning, Reads};
+ghost use Rattle.mvrp_codec.specs.Meaning.{first_vid, event_at, events_from, vector_events, message_events, message_leaves, meaning, Reads, mvrp_reading};
+ghost use Rattle.mrpdu_codec.specs.Errors.{Answers};
 
 use crate::pdu::MvrpPdu;
 use mrpdu_codec::{AppForm, DecodeErr, Message, Pdu, VectorAttr};
@@ -116,6 +117,9 @@ fn meaning(alloc: Global, pdu: &Pdu) -> Result<MvrpPdu, NoMemory>
 pub fn decode(alloc: Global, octets: &[u8]) -> Result<MvrpPdu, DecodeErr>
     requires { length octets.now < 2 ^ 32 }
 
+    // It answers what the octets say.
+    ensures exact { Answers result (mvrp_reading octets.now) }
+
     // What it answers holds.
     ensures reads { (read : MvrpPdu) → result ≡ Ok read → Reads octets.now read }
     ensures broken { (place : ℕ) → result ≡ Err (errors.Malformed place) → Breaks Mvrp octets.now place }
@@ -127,4 +131,13 @@ pub fn decode(alloc: Global, octets: &[u8]) -> Result<MvrpPdu, DecodeErr>
     let pdu = mrpdu_codec::decode(alloc, AppForm::Mvrp, octets)?;
     let read = meaning(alloc, &pdu)?;
     Ok(read)
+}
+
+/// The reading as a function is the grammar with the meaning of a PDU: a text reads as exactly what the
+/// PDU that it spells says, or as exactly the place where it breaks.
+pub fn reading_is_the_grammar()
+    ensures reads { (octets : List ℕ) (read : MvrpPdu) → (mvrp_reading octets ≡ Ok read) ↔ Reads octets read }
+    ensures broken { (octets : List ℕ) (place : ℕ) → (mvrp_reading octets ≡ Err place) ↔ Breaks Mvrp octets place }
+{
+    mrpdu_codec::reading_is_the_grammar();
 }

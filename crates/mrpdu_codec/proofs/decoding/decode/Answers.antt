@@ -3,7 +3,7 @@ use Rattle.mrpdu_codec.specs.declared.error.DecodeErr.{DecodeErr}
 use Rattle.mrpdu_codec.specs.declared.error.DecodeErr.TheVariants.{Malformed}
 use Rattle.mrpdu_codec.specs.declared.pdu.Pdu.{Pdu}
 use Rattle.mrpdu_codec.specs.Grammar.{Spells}
-use Rattle.mrpdu_codec.proofs.ErrorLemmas.{pdu_within, pdu_spelled, pdu_broken, read_ok, never_fails, never_reads, fails_there}
+use Rattle.mrpdu_codec.proofs.ErrorLemmas.{pdu_within, pdu_spelled, pdu_broken, read_ok, never_fails, never_reads, fails_there, reading_ok, answers_err}
 use Rattle.mrpdu_codec.proofs.decoding.decode.Goals as goal
 
 refused : DecodeErr → Result Pdu DecodeErr
@@ -41,3 +41,9 @@ returns-in-Err-clause-all_broken c = λ place b.
       | inl h ↦ inl (ap refused (c.placed.ensures ∙ h))
       | inr h ↦ inr (ap refused (c.placed.ensures ∙ h))
     ]
+
+pub returns-in-Ok-clause-exact : goal.returns-in-Ok-clause-exact
+returns-in-Ok-clause-exact c = reading_ok c.args.form c.args.octets.now c.in-Ok.pdu c.in-Ok.ensures
+
+pub returns-in-Err-clause-exact : goal.returns-in-Err-clause-exact
+returns-in-Err-clause-exact c = answers_err c.in-Err.error c.args.form c.args.octets.now c.placed.result c.in-Err.ensures c.placed.ensures
