@@ -95,5 +95,4 @@ pub fn one_reading()
 pub fn reading_is_the_grammar()
     ensures spelled { (form : AppForm) (octets : List ℕ) (pdu : Pdu) → (reading form octets ≡ Ok pdu) ↔ Spells form octets pdu }
     ensures broken { (form : AppForm) (octets : List ℕ) (place : ℕ) → (reading form octets ≡ Err place) ↔ Breaks form octets place }
-{
-}
+{}

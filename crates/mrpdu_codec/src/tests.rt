@@ -1,12 +1,18 @@
 use super::*;
 use srp_base::{MrpEvent, Seq};
 use std::alloc::Global;
+use std::process::Abort;
 use std::test::Fail;
 
 /// Where octets break; None where they spell a PDU.
-fn place(rt: &HostRuntime, form: AppForm, octets: &[u8]) -> Result<Option<u32>, Fail> {
+fn place(
+    rt: &impl Abort,
+    alloc: Global,
+    form: AppForm,
+    octets: &[u8],
+) -> Result<Option<u32>, Fail> {
     assert!(rt; octets.len() <= 1500);
-    match decode(rt.alloc(), form, octets) {
+    match decode(alloc, form, octets) {
         Ok(_) => Ok(None),
         Err(DecodeErr::Malformed(place)) => Ok(Some(place)),
         Err(DecodeErr::NoMemory) => Err(DecodeErr::NoMemory)?,
@@ -65,7 +71,11 @@ fn cut_at_every_length(rt: HostRuntime) -> Result<(), Fail> {
     ];
     for (i, want) in vid.iter().enumerate() {
         let cut = &VID[..i.min(12)];
-        assert_eq!(rt; place(&rt, AppForm::Mvrp, cut)?, *want, "at {i}");
+        assert_eq!(rt;
+            place(&rt, rt.alloc(), AppForm::Mvrp, cut)?,
+            *want,
+            "at {i}"
+        );
     }
     let listener = [
         Some(0),
@@ -93,7 +103,11 @@ fn cut_at_every_length(rt: HostRuntime) -> Result<(), Fail> {
     ];
     for (i, want) in listener.iter().enumerate() {
         let cut = &LISTENER[..i.min(21)];
-        assert_eq!(rt; place(&rt, AppForm::Msrp, cut)?, *want, "at {i}");
+        assert_eq!(rt;
+            place(&rt, rt.alloc(), AppForm::Msrp, cut)?,
+            *want,
+            "at {i}"
+        );
     }
     Ok(())
 }
@@ -127,7 +141,11 @@ fn leniencies_and_faults(rt: HostRuntime) -> Result<(), Fail> {
         (&[0, 1, 2, 0, 4, 0, 5, 0x81], Some(8)),
     ];
     for (octets, want) in &mvrp {
-        assert_eq!(rt; place(&rt, AppForm::Mvrp, octets)?, *want, "{octets:?}");
+        assert_eq!(rt;
+            place(&rt, rt.alloc(), AppForm::Mvrp, octets)?,
+            *want,
+            "{octets:?}"
+        );
     }
     let msrp: [(&[u8], Option<u32>); 10] = [
         // AttributeListLength below 2, and a list without vectors
@@ -152,7 +170,11 @@ fn leniencies_and_faults(rt: HostRuntime) -> Result<(), Fail> {
         ),
     ];
     for (octets, want) in &msrp {
-        assert_eq!(rt; place(&rt, AppForm::Msrp, octets)?, *want, "{octets:?}");
+        assert_eq!(rt;
+            place(&rt, rt.alloc(), AppForm::Msrp, octets)?,
+            *want,
+            "{octets:?}"
+        );
     }
     Ok(())
 }
