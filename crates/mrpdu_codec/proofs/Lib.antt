@@ -5,7 +5,7 @@ pub mod ReadMessages
 pub mod AgainVectors
 pub mod AgainMessages
 pub mod Loops
-pub mod Whiles
+pub mod WhileVectors
 pub mod WhileBlocks
 pub mod ErrorLemmas
 pub mod Packed

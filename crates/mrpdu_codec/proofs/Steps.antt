@@ -25,3 +25,13 @@ pub weaker_match : {A : Type 0} (r : Result A ℕ) (P : A → Type 0) (Q : ℕ �
     → MatchResult r P Q → ((x : A) → P x → P' x) → ((left : ℕ) → Q left → Q' left) → MatchResult r P' Q'
 weaker_match (Ok x) P Q P' Q' h f g = f x h
 weaker_match (Err left) P Q P' Q' h f g = g left h
+
+-- ---- two chains that begin alike
+
+pub same_after : {A B : Type 0} (r : Result A ℕ) (f g : A → Result B ℕ) → ((x : A) → r ≡ Ok x → f x ≡ g x) → (r >>= f) ≡ (r >>= g)
+same_after (Ok x) f g h = h x refl
+same_after (Err left) f g h = refl
+
+pub same_choice : {A : Type 0} (b : Bool) (x y z : A) → (b ≡ false → y ≡ z) → cond b x y ≡ cond b x z
+same_choice true x y z h = refl
+same_choice false x y z h = h refl

@@ -8,6 +8,7 @@ use Rattle.mrpdu_codec.specs.declared.error.ReadErr.{ReadErr}
 use Rattle.mrpdu_codec.specs.declared.error.ReadErr.TheVariants as errors
 use Rattle.mrpdu_codec.specs.declared.pdu.Message.{Message}
 use Rattle.mrpdu_codec.specs.Reading.{◌>>=◌, Fails, block_at, end_at, type_at, blocks_at, blocks_of}
+use Rattle.mrpdu_codec.proofs.Steps.{same_after, same_choice}
 use Rattle.mrpdu_codec.proofs.ReadMessages.{TookBlock, block_match, block_longer}
 
 -- ---- where a Message begins
@@ -60,14 +61,6 @@ type_fails form (o ∷ octets) left h =
     rw (p.0, p.1) refl
 
 -- ---- fuel makes no difference
-
-same_after : {A B : Type 0} (r : Result A ℕ) (f g : A → Result B ℕ) → ((x : A) → r ≡ Ok x → f x ≡ g x) → (r >>= f) ≡ (r >>= g)
-same_after (Ok x) f g h = h x refl
-same_after (Err left) f g h = refl
-
-same_choice : {A : Type 0} (b : Bool) (x y z : A) → (b ≡ false → y ≡ z) → cond b x y ≡ cond b x z
-same_choice true x y z h = refl
-same_choice false x y z h = h refl
 
 -- a Message that was read takes octets
 pub falls : (form : AppForm) (kind : ℕ) (octets : List ℕ) (x : List Message × List ℕ) → eqb kind 0 ≡ false → block_at form kind octets ≡ Ok x → length x.1 ≤ length octets

@@ -1,5 +1,5 @@
 -- The attribute types of each application: AttributeLength, and whether FourPackedEvents follow
--- (IEEE Std 802.1Q-2018, 10.12.1.6, 11.2.3.1.6, 35.2.2.4).
+-- (IEEE Std 802.1Q-2018, 10.12.1, 11.2.3.1, 35.2.2.4 and 35.2.2.5).
 use Rattle.std.specs.Prelude.{ℕ, Bool, true, false, Option, Some, None, ◌==◌, if◌then◌else◌}
 use Rattle.mrpdu_codec.specs.declared.form.AppForm.{AppForm}
 use Rattle.mrpdu_codec.specs.declared.form.AppForm.TheVariants.{Mvrp, Msrp, Mmrp}

@@ -24,7 +24,7 @@ impl AppForm {
     ghost use Rattle.mrpdu_codec.specs.Types.{row_of};
 
     /// The form of an attribute type; None exactly where the application has no type of this number
-    /// (IEEE Std 802.1Q-2018, 10.12.1.6 to 10.12.1.7, 11.2.3.1.6 to 11.2.3.1.7, 35.2.2.4 to 35.2.2.5).
+    /// (IEEE Std 802.1Q-2018, 10.12.1, 11.2.3.1, 35.2.2.4 and 35.2.2.5).
     pub fn known(self, kind: u8) -> Option<TypeForm>
         ensures { result ≡ row_of self kind }
     {

@@ -1,7 +1,7 @@
 use Rattle.std.proofs.Common.{None}
 use Rattle.std.proofs.lemmas.Result.{err_from_is_err_and}
 use Rattle.mrpdu_codec.specs.Reading.{rest_of, vectors_of, mark_at}
-use Rattle.mrpdu_codec.proofs.Whiles.{rest_of-list_at, fails_on}
+use Rattle.mrpdu_codec.proofs.WhileVectors.{rest_of-list_at, fails_on}
 use Rattle.mrpdu_codec.proofs.vectors.skip_list.Goals as goal
 
 pub returns-in_err-rest : goal.returns-in_err-rest

@@ -1,6 +1,6 @@
 use Rattle.std.proofs.Common.{◌≡◌, length}
 use Rattle.mrpdu_codec.specs.Reading.{vectors_of}
-use Rattle.mrpdu_codec.proofs.Whiles.{with_front}
+use Rattle.mrpdu_codec.proofs.WhileVectors.{with_front}
 use Rattle.mrpdu_codec.proofs.vectors.vectors.Given as goal
 
 abbrev pub invariant-more : goal.invariant-more

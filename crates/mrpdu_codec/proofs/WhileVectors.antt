@@ -1,5 +1,5 @@
 -- Loops over vectors: one step on, and the end, of what is still read.
-use Rattle.std.proofs.Common.{◌≡◌, ℕ, zero, suc, ◌<◌, ◌≤◌, Bool, true, false, cond, List, [], ◌∷◌, ◌++◌, length, Option, None, Result, Ok, Err, refl, sym, ap, ◌∙◌, append_assoc, arith}
+use Rattle.std.proofs.Common.{◌≡◌, ℕ, zero, suc, ◌<◌, ◌≤◌, true, false, List, [], ◌∷◌, ◌++◌, length, Option, None, Result, Ok, Err, refl, sym, ap, ◌∙◌, append_assoc, arith}
 use Rattle.std.proofs.lemmas.List.{append-nil}
 use Rattle.mrpdu_codec.specs.declared.form.TypeForm.{TypeForm}
 use Rattle.mrpdu_codec.specs.declared.error.ReadErr.{ReadErr}
@@ -9,17 +9,10 @@ use Rattle.mrpdu_codec.specs.Tree.{Vector, attr_of, IsVector, vector_octets}
 use Rattle.mrpdu_codec.specs.Reading.{◌>>=◌, Fails, rest_of, vector_at, ends_list, vectors_at, vectors_of, mark_at, list_at}
 use Rattle.std.proofs.lemmas.Result.{MatchResult-at_ok}
 use Rattle.std.proofs.lemmas.Bool.{false≢true}
+use Rattle.mrpdu_codec.proofs.Steps.{same_after, same_choice}
 use Rattle.mrpdu_codec.proofs.ReadVectors.{vector_match, vector_longer}
 
 -- ---- fuel makes no difference
-
-same_after : {A B : Type 0} (r : Result A ℕ) (f g : A → Result B ℕ) → ((x : A) → r ≡ Ok x → f x ≡ g x) → (r >>= f) ≡ (r >>= g)
-same_after (Ok x) f g h = h x refl
-same_after (Err left) f g h = refl
-
-same_choice : {A : Type 0} (b : Bool) (x y z : A) → (b ≡ false → y ≡ z) → cond b x y ≡ cond b x z
-same_choice true x y z h = refl
-same_choice false x y z h = h refl
 
 -- a vector that was read takes octets
 pub falls : (row : Option TypeForm) (len : ℕ) (octets : List ℕ) (x : Vector × List ℕ) → ends_list octets ≡ false → vector_at row len octets ≡ Ok x → length x.1 < length octets
