@@ -62,12 +62,16 @@ LaterTypeBreaks (kind ∷ next ∷ rest) = (kind ≡ 0) × (0 < next)
 -- first field that breaks.
 
 pub data VectorBreaks (row : Option TypeForm) (len : ℕ) (front rest : List ℕ) : Type 0 where
+  -- the header
   header : front ≡ [] → HeaderBreaks row rest → VectorBreaks row len front rest
+  -- FirstValue is cut
   first_value : (v : Vector) → header_fits row v.high v.low ≡ true → 0 < number v.high v.low
       → front ≡ v.high ∷ v.low ∷ [] → length rest < len → VectorBreaks row len front rest
+  -- one of the ThreePackedEvents, each a field of its own
   packed : (v : Vector) → header_fits row v.high v.low ≡ true → 0 < number v.high v.low
       → length v.first ≡ len → AllUpTo (packed_limit row) v.packed → length v.packed < thirds (count v)
       → front ≡ v.high ∷ v.low ∷ (v.first ++ v.packed) → OctetBreaks (packed_limit row) rest → VectorBreaks row len front rest
+  -- one of the FourPackedEvents is missing
   four_packed : (v : Vector) → header_fits row v.high v.low ≡ true → 0 < number v.high v.low
       → length v.first ≡ len → AllUpTo (packed_limit row) v.packed → length v.packed ≡ thirds (count v)
       → AllUpTo 255 v.fours → length v.fours < fours_for row (count v)
@@ -82,9 +86,12 @@ pub data ListBreaks (row : Option TypeForm) (len : ℕ) (front rest : List ℕ) 
 -- Where fewer octets are there, the region ends with them, and a header is missing at its end. So
 -- front and rest are the region's octets alone.
 pub data RegionBreaks (row : Option TypeForm) (len size : ℕ) (front rest : List ℕ) : Type 0 where
+  -- a vector in it
   vector : ListBreaks row len front rest → RegionBreaks row len size front rest
+  -- a header of 0 in it
   end_mark : (vs : List Vector) → AreVectors row len vs → front ≡ vectors_octets vs
       → (more : List ℕ) → rest ≡ 0 ∷ 0 ∷ more → RegionBreaks row len size front rest
+  -- the octets end before it does
   short : (vs : List Vector) → AreVectors row len vs → front ≡ vectors_octets vs
       → rest ≡ [] → length front < size → RegionBreaks row len size front rest
 
@@ -95,13 +102,18 @@ IsRegion size region beyond = (length region ≡ size) ⊎ ((length region < siz
 
 -- What stands after AttributeLength in MSRP: AttributeListLength, and what it counts with an EndMark.
 pub data CountedBreaks (row : Option TypeForm) (len : ℕ) (front rest : List ℕ) : Type 0 where
+  -- AttributeListLength
   list_length : front ≡ [] → ListLengthBreaks rest → CountedBreaks row len front rest
+  -- the region of a known type
   region : (t : TypeForm) → row ≡ Some t → (high low size : ℕ) → number high low ≡ size + 2
       → (part within beyond : List ℕ) → IsRegion size (part ++ within) beyond → front ≡ high ∷ low ∷ part → rest ≡ within ++ beyond
       → RegionBreaks row len size part within → CountedBreaks row len front rest
+  -- the EndMark behind a whole region of a known type
   end_mark : (t : TypeForm) → row ≡ Some t → (high low : ℕ) (vs : List Vector) → AreVectors row len vs
       → number high low ≡ length (vectors_octets vs) + 2 → front ≡ high ∷ low ∷ vectors_octets vs
       → EndMarkBreaks rest → CountedBreaks row len front rest
+  -- The octets of an unknown type are more or fewer than a whole region alone, and fewer than one with
+  -- an EndMark.
   skipped : row ≡ None → (high low size : ℕ) → number high low ≡ size + 2 → front ≡ high ∷ low ∷ []
       → (length rest < size) ⊎ (length rest ≡ size + 1) → CountedBreaks row len front rest
 
@@ -112,7 +124,9 @@ BodyBreaks Mmrp row len front rest = ListBreaks row len front rest
 
 -- A Message of some AttributeType.
 pub data BlockBreaks (form : AppForm) (front rest : List ℕ) : Type 0 where
+  -- AttributeLength
   len : (kind : ℕ) → 0 < kind → front ≡ kind ∷ [] → LengthBreaks (row_of form kind) rest → BlockBreaks form front rest
+  -- what stands after it
   body : (kind len : ℕ) → 0 < kind → length_fits (row_of form kind) len ≡ true → (part : List ℕ) → front ≡ kind ∷ len ∷ part
       → BodyBreaks form (row_of form kind) len part rest → BlockBreaks form front rest
 
@@ -122,10 +136,14 @@ AreClosed form bs = AllByRecursion (λ b. IsBlock form b × (0 < length b.mark))
 
 -- Whole fields, and the first field of all that breaks.
 pub data PduBreaks (form : AppForm) (front rest : List ℕ) : Type 0 where
+  -- ProtocolVersion is missing
   version : front ≡ [] → rest ≡ [] → PduBreaks form front rest
+  -- the AttributeType of the first Message
   first_type : (version : ℕ) → front ≡ version ∷ [] → FirstTypeBreaks rest → PduBreaks form front rest
+  -- the AttributeType of a later Message, or the PDU's EndMark
   later_type : (version : ℕ) (bs : List Block) → 0 < length bs → AreClosed form bs → front ≡ version ∷ blocks_octets bs
       → LaterTypeBreaks rest → PduBreaks form front rest
+  -- a Message behind whole ones
   block : (version : ℕ) (bs : List Block) (part : List ℕ) → AreClosed form bs → front ≡ version ∷ (blocks_octets bs ++ part)
       → BlockBreaks form part rest → PduBreaks form front rest
 

@@ -69,7 +69,7 @@ fn push_params(items: &mut Vec<u8>, n: usize, octet: u8) -> Result<(), AllocErro
 fn events_of(alloc: Global, packed: &[u8], n: usize) -> Result<Vec<MrpEvent>, AllocError>
     ensures { IfOk result (λ v. v.items ≡ take n (flat_map three_events packed.now)) }
 {
-    let mut events = Vec::new(alloc);
+    let mut events = Vec::with_capacity(alloc, n)?;
     for octet in packed {
         push_events(&mut events, n, *octet)?;
     }

@@ -110,8 +110,9 @@ fn pdu_of(alloc: Global, vectors: Vec<VectorAttr>) -> Result<Pdu, AllocError>
 }
 
 /// The octets that say a LeaveAll and the events of VIDs, in their one spelling: each maximal run of
-/// consecutive VIDs is one vector, and a LeaveAll stands in the first. They are at most 1,500
-/// (IEEE Std 802.1Q-2018, 10.8.1.2, 11.2.3.1).
+/// consecutive VIDs is one vector, and a LeaveAll stands in the first (IEEE Std 802.1Q-2018, 10.8.1.2,
+/// 11.2.3.1). There is a LeaveAll or an event, and there are at most 297 events, so that the octets are at
+/// most 1,500.
 pub fn encode(alloc: Global, pdu: &MvrpPdu) -> Result<Seq<u8>, NoMemory>
     requires { IsWritable pdu.now }
     ensures spelled { IfOk result (λ octets. octets ≡ mvrp_spelling pdu.now) }
