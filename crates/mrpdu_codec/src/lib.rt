@@ -2,13 +2,13 @@
 //! 10.8), for the applications MVRP (clause 11), MSRP (clause 35) and MMRP (10.12).
 //!
 //! ```text
-//! 00      ProtocolVersion
-//! 01 02   a Message: AttributeType, AttributeLength
-//! 20 01   a vector's header: LeaveAllEvent 1, NumberOfValues 1
-//! 00 05   FirstValue
-//! 6c      ThreePackedEvents: JoinMt, and two places that are ignored
-//! 00 00   the EndMark of the Message
-//! 00 00   the EndMark of the PDU
+//! 00        ProtocolVersion
+//! 0102      a Message: AttributeType, AttributeLength
+//! 2001      a vector's header: LeaveAllEvent 1, NumberOfValues 1
+//! 0005      FirstValue
+//! 6c        ThreePackedEvents: JoinMt, and two places that are ignored
+//! 0000      the EndMark of the Message
+//! 0000      the EndMark of the PDU
 //!
 //! decode  octets -> Pdu { version, messages: [Message { kind, vectors: [VectorAttr { .. }] }] },
 //!                   or Malformed at an offset, or NoMemory

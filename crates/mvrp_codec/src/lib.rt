@@ -1,7 +1,7 @@
 //! The VLAN identifiers that MRPDUs of MVRP carry (IEEE Std 802.1Q-2018, 11.2.3.1).
 //!
 //! ```text
-//! 00 01 02 | 20 01 00 05 6c | 00 02 00 09 7e | 00 00 00 00
+//! 000102 | 200100056c | 000200097e | 00000000
 //!
 //! decode  octets -> MvrpPdu { leave_all: true, events: [JoinMt of 5, JoinMt of 9, JoinMt of 10] },
 //!                   or Malformed at an offset, or NoMemory
