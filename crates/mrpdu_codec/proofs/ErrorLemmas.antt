@@ -1,0 +1,104 @@
+-- What a reader's error says, and what `decode` makes of it.
+use Rattle.std.proofs.Common.{◌≡◌, ℕ, ◌-◌, ◌≤◌, List, length, take, drop, Option, Result, Ok, Err, ◌⊎◌, inl, inr, refl, ap, subst, ◌∙◌, arith}
+use Rattle.std.proofs.lemmas.Result.{MatchResult-at_ok, MatchResult-at_err}
+use Rattle.mrpdu_codec.specs.declared.error.DecodeErr.{DecodeErr}
+use Rattle.mrpdu_codec.specs.declared.error.DecodeErr.TheVariants as decode_errors
+use Rattle.mrpdu_codec.specs.declared.error.ReadErr.{ReadErr}
+use Rattle.mrpdu_codec.specs.declared.error.ReadErr.TheVariants as errors
+use Rattle.mrpdu_codec.specs.declared.form.AppForm.{AppForm}
+use Rattle.mrpdu_codec.specs.declared.form.TypeForm.{TypeForm}
+use Rattle.mrpdu_codec.specs.declared.pdu.Pdu.{Pdu}
+use Rattle.mrpdu_codec.specs.Errors.{IsWithin, behind, placed, Answers}
+use Rattle.mrpdu_codec.specs.Grammar.{Spells, Breaks}
+use Rattle.mrpdu_codec.specs.Reading.{Fails, region_at, known_at, pdu_at, placed_in, reading}
+use Rattle.mrpdu_codec.proofs.ReadRegions.{region_left}
+use Rattle.mrpdu_codec.proofs.ReadMessages.{reading_holds}
+use Rattle.mrpdu_codec.proofs.AgainMessages.{spells_reads, breaks_reads}
+
+pub region_within : (e : ReadErr) (row : Option TypeForm) (len size : ℕ) (octets : List ℕ) → Fails e (region_at row len size (take size octets)) → IsWithin e (length (take size octets))
+region_within errors.NoMemory row len size octets h = tt
+region_within (errors.Left left) row len size octets h = region_left row len size octets left h
+
+pub known_fails : (e : ReadErr) (row : Option TypeForm) (len size : ℕ) (octets : List ℕ) → Fails e (region_at row len size (take size octets)) → Fails (behind e (length (drop size octets))) (known_at row len size octets)
+unfolding known_at
+known_fails errors.NoMemory row len size octets h = tt
+known_fails (errors.Left left) row len size octets h = rw h refl
+
+err_is : (m n : ℕ) (read : Result Pdu ℕ) → read ≡ Err m → read ≡ Err n → m ≡ n
+err_is m n read h k = cc
+
+-- ---- decode
+
+pub pdu_within : (e : ReadErr) (form : AppForm) (octets : List ℕ) → Fails e (pdu_at form octets) → IsWithin e (length octets)
+pdu_within errors.NoMemory form octets h = tt
+pdu_within (errors.Left left) form octets h = (MatchResult-at_err _ (λ n. (n ≤ length octets) × Breaks form octets (length octets - n)) left h (reading_holds form octets)).0
+
+pub pdu_spelled : (form : AppForm) (octets : List ℕ) (pdu : Pdu) → pdu_at form octets ≡ Ok pdu → Spells form octets pdu
+pdu_spelled form octets pdu h = MatchResult-at_ok (λ p. Spells form octets p) _ pdu h (reading_holds form octets)
+
+pub pdu_broken : (e : ReadErr) (form : AppForm) (octets : List ℕ) (place : ℕ) → Fails e (pdu_at form octets) → placed e (length octets) ≡ decode_errors.Malformed place → Breaks form octets place
+pdu_broken errors.NoMemory form octets place h k = absurd cc
+pdu_broken (errors.Left left) form octets place h k =
+    let b = MatchResult-at_err _ (λ n. (n ≤ length octets) × Breaks form octets (length octets - n)) left h (reading_holds form octets) in
+    let e : length octets - left ≡ place = cc in
+    subst (λ (n : ℕ). Breaks form octets n) e b.1
+
+pub read_ok : (form : AppForm) (octets : List ℕ) (p q : Pdu) → pdu_at form octets ≡ Ok p → Spells form octets q → p ≡ q
+read_ok form octets p q h s = let k = spells_reads form octets q s in cc
+
+pub never_fails : (e : ReadErr) (form : AppForm) (octets : List ℕ) (q : Pdu) → Fails e (pdu_at form octets) → Spells form octets q → placed e (length octets) ≡ decode_errors.NoMemory
+never_fails errors.NoMemory form octets q h s = refl
+never_fails (errors.Left left) form octets q h s = let k = spells_reads form octets q s in absurd cc
+
+pub never_reads : (form : AppForm) (octets : List ℕ) (p : Pdu) (place : ℕ) → pdu_at form octets ≡ Ok p → Breaks form octets place → ⊥
+never_reads form octets p place h b = let k = (breaks_reads form octets place b).1 in absurd cc
+
+pub fails_there : (e : ReadErr) (form : AppForm) (octets : List ℕ) (place : ℕ) → Fails e (pdu_at form octets) → Breaks form octets place
+    → (placed e (length octets) ≡ decode_errors.Malformed place) ⊎ (placed e (length octets) ≡ decode_errors.NoMemory)
+fails_there errors.NoMemory form octets place h b = inr refl
+fails_there (errors.Left left) form octets place h b =
+    let k = breaks_reads form octets place b in
+    let same : left ≡ k.0 = err_is left k.0 (pdu_at form octets) h k.1 in
+    let e : length octets - left ≡ place = omega (arith, k.2) in
+    inl (ap (λ (n : ℕ). decode_errors.Malformed n) e)
+
+-- ---- the reading as a function
+
+pub reading_ok : (form : AppForm) (octets : List ℕ) (pdu : Pdu) → pdu_at form octets ≡ Ok pdu → reading form octets ≡ Ok pdu
+unfolding reading
+reading_ok form octets pdu h = ap (placed_in (length octets)) h
+
+pub reading_err : (form : AppForm) (octets : List ℕ) (left : ℕ) → pdu_at form octets ≡ Err left → reading form octets ≡ Err (length octets - left)
+unfolding reading
+reading_err form octets left h = ap (placed_in (length octets)) h
+
+answered : (read : Result Pdu ℕ) (all : ℕ) (pdu : Pdu) → placed_in all read ≡ Ok pdu → read ≡ Ok pdu
+answered (Ok p) all pdu h = h
+answered (Err left) all pdu h = absurd cc
+
+answered_err : (read : Result Pdu ℕ) (all place : ℕ) → placed_in all read ≡ Err place → (left : ℕ) × (read ≡ Err left) × (all - left ≡ place)
+answered_err (Ok p) all place h = absurd cc
+answered_err (Err left) all place h = (left, refl, cc)
+
+pub reading_spells : (form : AppForm) (octets : List ℕ) (pdu : Pdu) → reading form octets ≡ Ok pdu → Spells form octets pdu
+unfolding reading
+reading_spells form octets pdu h = pdu_spelled form octets pdu (answered (pdu_at form octets) (length octets) pdu h)
+
+pub spells_reading : (form : AppForm) (octets : List ℕ) (pdu : Pdu) → Spells form octets pdu → reading form octets ≡ Ok pdu
+spells_reading form octets pdu s = reading_ok form octets pdu (spells_reads form octets pdu s)
+
+pub reading_breaks : (form : AppForm) (octets : List ℕ) (place : ℕ) → reading form octets ≡ Err place → Breaks form octets place
+unfolding reading
+reading_breaks form octets place h =
+    let a = answered_err (pdu_at form octets) (length octets) place h in
+    subst (λ (n : ℕ). Breaks form octets n) a.2 (MatchResult-at_err _ (λ n. (n ≤ length octets) × Breaks form octets (length octets - n)) a.0 a.1 (reading_holds form octets)).1
+
+pub breaks_reading : (form : AppForm) (octets : List ℕ) (place : ℕ) → Breaks form octets place → reading form octets ≡ Err place
+breaks_reading form octets place b =
+    let r = breaks_reads form octets place b in
+    let k : length octets - r.0 ≡ place = omega (arith, r.2) in
+    reading_err form octets r.0 r.1 ∙ ap (λ (n : ℕ). let e : Result Pdu ℕ = Err n in e) k
+
+pub answers_err : (e : ReadErr) (form : AppForm) (octets : List ℕ) (answer : DecodeErr) → Fails e (pdu_at form octets) → answer ≡ placed e (length octets) → Answers (let r : Result Pdu DecodeErr = Err answer in r) (reading form octets)
+answers_err errors.NoMemory form octets answer h k = rw k tt
+answers_err (errors.Left left) form octets answer h k = rw k (reading_err form octets left h)

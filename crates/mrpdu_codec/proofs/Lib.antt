@@ -1,0 +1,14 @@
+pub mod Steps
+pub mod ReadVectors
+pub mod ReadRegions
+pub mod ReadMessages
+pub mod AgainVectors
+pub mod AgainMessages
+pub mod Loops
+pub mod WhileVectors
+pub mod WhileBlocks
+pub mod ErrorLemmas
+pub mod Packed
+pub mod RoundTrip
+pub mod Sizes
+pub mod Reread

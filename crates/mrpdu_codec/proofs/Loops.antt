@@ -1,0 +1,46 @@
+-- What loops over octets have at their ends.
+use Rattle.std.proofs.Common.{◌≡◌, ℕ, zero, suc, ◌+◌, ◌-◌, ◌<◌, ◌≤◌, List, [], ◌∷◌, ◌++◌, length, get_or, take, drop, Result, Ok, Err, refl, sym, ap, subst, ◌∙◌, append_assoc, arith}
+use Rattle.std.proofs.lemmas.List.{take-append-drop, length-take-le, length-drop, drop_all, drop_more, take_more, flat_map_more}
+use Rattle.std.specs.List.{flat_map}
+use Rattle.mrpdu_codec.specs.Tree.{AllUpTo}
+use Rattle.mrpdu_codec.specs.Grammar.{OctetBreaks}
+use Rattle.mrpdu_codec.specs.Reading.{run_at}
+use Rattle.mrpdu_codec.proofs.AgainVectors.{run_reads, run_breaks}
+
+stops : (limit n i : ℕ) (octets : List ℕ) → i < n → i ≤ length octets → AllUpTo limit (take i octets) → OctetBreaks limit (drop i octets) → run_at limit n octets ≡ Err (length octets - i)
+stops limit n i octets lt le all h =
+    ap (λ (o : List ℕ). run_at limit n o) (sym (take-append-drop i octets))
+    ∙ run_breaks limit n (take i octets) (drop i octets) (omega (arith, length-take-le i octets le)) all h
+    ∙ ap (λ (k : ℕ). let e : Result (List ℕ × List ℕ) ℕ = Err k in e) (length-drop i octets)
+
+pub run_ends : (limit n i : ℕ) (octets : List ℕ) → i < n → i ≡ length octets → AllUpTo limit (take i octets) → run_at limit n octets ≡ Err 0
+run_ends limit n i octets lt e all =
+    let none : length octets - i ≡ 0 = omega arith in
+    let end : drop i octets ≡ [] = drop_all i octets (omega arith) in
+    stops limit n i octets lt (omega arith) all (subst (λ (o : List ℕ). OctetBreaks limit o) (sym end) tt) ∙ ap (λ (k : ℕ). let e : Result (List ℕ × List ℕ) ℕ = Err k in e) none
+
+pub run_above : (limit n i : ℕ) (octets : List ℕ) → i < n → i < length octets → AllUpTo limit (take i octets) → limit < get_or octets i 0 → run_at limit n octets ≡ Err (length octets - i)
+run_above limit n i octets lt le all h =
+    stops limit n i octets lt (omega arith) all (subst (λ (o : List ℕ). OctetBreaks limit o) (sym (drop_more octets i 0 le)) h)
+
+pub run_whole : (limit n : ℕ) (octets : List ℕ) → n ≤ length octets → AllUpTo limit (take n octets) → run_at limit n octets ≡ Ok (take n octets, drop n octets)
+run_whole limit n octets le all =
+    ap (λ (o : List ℕ). run_at limit n o) (sym (take-append-drop n octets)) ∙ run_reads limit n (take n octets) (drop n octets) (length-take-le n octets le) all
+
+-- ---- the first n items of a list that grows
+
+pub take-take-append : {A : Type 0} (n : ℕ) (xs ys : List A) → take n (take n xs ++ ys) ≡ take n (xs ++ ys)
+take-take-append zero xs ys = refl
+take-take-append (suc n) [] ys = refl
+take-take-append {A = A} (suc n) (x ∷ xs) ys = ap (λ (zs : List A). x ∷ zs) (take-take-append n xs ys)
+
+pub take_two : {A : Type 0} (n : ℕ) (xs ys : List A) (a : A) (m p : List A) → m ≡ take n (xs ++ ys) → p ≡ take n (m ++ a ∷ []) → p ≡ take n (xs ++ (ys ++ a ∷ []))
+take_two {A = A} n xs ys a m p e f =
+    f ∙ ap (λ (zs : List A). take n (zs ++ a ∷ [])) e ∙ take-take-append n (xs ++ ys) (a ∷ []) ∙ ap (λ (zs : List A). take n zs) (append_assoc xs ys (a ∷ []))
+
+-- one octet more is unpacked
+pub unpacked_more : {A : Type 0} (f : ℕ → List A) (n i : ℕ) (octets : List ℕ) (items more : List A) → i < length octets → items ≡ take n (flat_map f (take i octets)) → more ≡ take n (items ++ f (get_or octets i 0))
+    → more ≡ take n (flat_map f (take (i + 1) octets))
+unpacked_more {A = A} f n i octets items more lt e g =
+    g ∙ ap (λ (zs : List A). take n (zs ++ f (get_or octets i 0))) e ∙ take-take-append n (flat_map f (take i octets)) (f (get_or octets i 0))
+    ∙ ap (λ (zs : List A). take n zs) (flat_map_more f [] (take i octets) (get_or octets i 0) ∙ ap (λ (os : List ℕ). flat_map f os) (sym (take_more octets i 0 lt)))

@@ -1,0 +1,146 @@
+-- Events and parameters that are packed are unpacked again.
+use Rattle.std.proofs.Common.{◌≡◌, ℕ, ◌+◌, ◌*◌, ◌/◌, ◌%◌, ◌≤◌, true, leb, List, [], ◌∷◌, ◌++◌, length, take, refl, ap, ◌∙◌, arith}
+use Rattle.std.specs.List.{flat_map, list_all}
+use Rattle.std.proofs.lemmas.Bool.{and_parts, leb-true}
+use Rattle.srp_base.specs.declared.mrp.MrpEvent.{MrpEvent}
+use Rattle.srp_base.specs.declared.mrp.MrpEvent.TheVariants.{New, JoinIn, OnlyIn, JoinMt, OnlyMt, Lv}
+use Rattle.mrpdu_codec.specs.Octets.{thirds, quarters, event_of, number_of, three_events, four_params}
+use Rattle.mrpdu_codec.specs.Tree.{AllUpTo}
+use Rattle.mrpdu_codec.specs.Canonical.{three, pack_events, four, pack_params}
+
+-- ---- events
+
+event_again : (e : MrpEvent) → event_of (number_of e) ≡ e
+event_again New = refl
+event_again JoinIn = refl
+event_again OnlyIn = refl
+event_again JoinMt = refl
+event_again OnlyMt = refl
+event_again Lv = refl
+
+pub number_limit : (e : MrpEvent) → number_of e ≤ 5
+number_limit New = omega arith
+number_limit JoinIn = omega arith
+number_limit OnlyIn = omega arith
+number_limit JoinMt = omega arith
+number_limit OnlyMt = omega arith
+number_limit Lv = omega arith
+
+three_limit : (a b c : MrpEvent) → three a b c ≤ 215
+three_limit a b c =
+    let x = number_limit a in let y = number_limit b in let z = number_limit c in
+    omega (arith, number_limit a, number_limit b, number_limit c)
+
+high_digit : (x y z : ℕ) → y ≤ 5 → z ≤ 5 → ((x * 6 + y) * 6 + z) / 36 ≡ x
+high_digit x y z p q = omega arith
+
+middle_digit : (x y z : ℕ) → y ≤ 5 → z ≤ 5 → ((x * 6 + y) * 6 + z) / 6 % 6 ≡ y
+middle_digit x y z p q = omega arith
+
+low_digit : (x y z : ℕ) → z ≤ 5 → ((x * 6 + y) * 6 + z) % 6 ≡ z
+low_digit x y z q = omega arith
+
+high_event : (a b c : MrpEvent) → event_of (three a b c / 36) ≡ a
+high_event a b c = ap event_of (high_digit (number_of a) (number_of b) (number_of c) (number_limit b) (number_limit c)) ∙ event_again a
+
+middle_event : (a b c : MrpEvent) → event_of (three a b c / 6 % 6) ≡ b
+middle_event a b c = ap event_of (middle_digit (number_of a) (number_of b) (number_of c) (number_limit b) (number_limit c)) ∙ event_again b
+
+low_event : (a b c : MrpEvent) → event_of (three a b c % 6) ≡ c
+low_event a b c = ap event_of (low_digit (number_of a) (number_of b) (number_of c) (number_limit c)) ∙ event_again c
+
+-- an octet's three events
+unpacked : (a b c : MrpEvent) → three_events (three a b c) ≡ a ∷ b ∷ c ∷ []
+unpacked a b c =
+    ap (λ (e : MrpEvent). e ∷ event_of (three a b c / 6 % 6) ∷ event_of (three a b c % 6) ∷ []) (high_event a b c)
+    ∙ ap (λ (e : MrpEvent). a ∷ e ∷ event_of (three a b c % 6) ∷ []) (middle_event a b c)
+    ∙ ap (λ (e : MrpEvent). a ∷ b ∷ e ∷ []) (low_event a b c)
+
+-- the first n events of an octet and of what follows
+unpacked_on : (n : ℕ) (a b c : MrpEvent) (octets : List ℕ) → take n (three_events (three a b c) ++ flat_map three_events octets) ≡ take n (a ∷ b ∷ c ∷ flat_map three_events octets)
+unpacked_on n a b c octets = ap (λ (es : List MrpEvent). take n (es ++ flat_map three_events octets)) (unpacked a b c)
+
+pub events_again : (events : List MrpEvent) → take (length events) (flat_map three_events (pack_events events)) ≡ events
+events_again [] = refl
+events_again (a ∷ []) = unpacked_on 1 a New New []
+events_again (a ∷ b ∷ []) = unpacked_on 2 a b New []
+events_again (a ∷ b ∷ c ∷ events) = unpacked_on (length (a ∷ b ∷ c ∷ events)) a b c (pack_events events) ∙ ap (λ (es : List MrpEvent). a ∷ b ∷ c ∷ es) (events_again events)
+
+pub packed_length : (events : List MrpEvent) → length (pack_events events) ≡ thirds (length events)
+packed_length [] = refl
+packed_length (a ∷ []) = refl
+packed_length (a ∷ b ∷ []) = refl
+packed_length (a ∷ b ∷ c ∷ events) = omega (arith, packed_length events)
+
+pub packed_limit_holds : (events : List MrpEvent) → AllUpTo 215 (pack_events events)
+packed_limit_holds [] = tt
+packed_limit_holds (a ∷ []) = (three_limit a New New, tt)
+packed_limit_holds (a ∷ b ∷ []) = (three_limit a b New, tt)
+packed_limit_holds (a ∷ b ∷ c ∷ events) = (three_limit a b c, packed_limit_holds events)
+
+-- ---- parameters
+
+abbrev Small : List ℕ → Type 0
+Small params = list_all (λ p. leb p 3) params ≡ true
+
+first_small : (p : ℕ) (params : List ℕ) → Small (p ∷ params) → (p ≤ 3) × Small params
+first_small p params h = let a = and_parts (leb p 3) (list_all (λ q. leb q 3) params) h in (leb-true p 3 a.0, a.1)
+
+params_of : (a b c d : ℕ) → a ≤ 3 → b ≤ 3 → c ≤ 3 → d ≤ 3 → four_params (four a b c d) ≡ a ∷ b ∷ c ∷ d ∷ []
+params_of a b c d p q r s =
+    let e1 : four a b c d / 64 ≡ a = omega arith in
+    let e2 : four a b c d / 16 % 4 ≡ b = omega arith in
+    let e3 : four a b c d / 4 % 4 ≡ c = omega arith in
+    let e4 : four a b c d % 4 ≡ d = omega arith in
+    ap (λ (x : ℕ). x ∷ four a b c d / 16 % 4 ∷ four a b c d / 4 % 4 ∷ four a b c d % 4 ∷ []) e1
+    ∙ ap (λ (x : ℕ). a ∷ x ∷ four a b c d / 4 % 4 ∷ four a b c d % 4 ∷ []) e2
+    ∙ ap (λ (x : ℕ). a ∷ b ∷ x ∷ four a b c d % 4 ∷ []) e3
+    ∙ ap (λ (x : ℕ). a ∷ b ∷ c ∷ x ∷ []) e4
+
+params_on : (n a b c d : ℕ) (octets : List ℕ) → a ≤ 3 → b ≤ 3 → c ≤ 3 → d ≤ 3 → take n (four_params (four a b c d) ++ flat_map four_params octets) ≡ take n (a ∷ b ∷ c ∷ d ∷ flat_map four_params octets)
+params_on n a b c d octets p q r s = ap (λ (xs : List ℕ). take n (xs ++ flat_map four_params octets)) (params_of a b c d p q r s)
+
+pub params_again : (params : List ℕ) → Small params → take (length params) (flat_map four_params (pack_params params)) ≡ params
+params_again [] h = refl
+params_again (a ∷ []) h = let p = first_small a [] h in params_on 1 a 0 0 0 [] p.0 (omega arith) (omega arith) (omega arith)
+params_again (a ∷ b ∷ []) h =
+    let p = first_small a (b ∷ []) h in
+    let q = first_small b [] p.1 in
+    params_on 2 a b 0 0 [] p.0 q.0 (omega arith) (omega arith)
+params_again (a ∷ b ∷ c ∷ []) h =
+    let p = first_small a (b ∷ c ∷ []) h in
+    let q = first_small b (c ∷ []) p.1 in
+    let r = first_small c [] q.1 in
+    params_on 3 a b c 0 [] p.0 q.0 r.0 (omega arith)
+params_again (a ∷ b ∷ c ∷ d ∷ params) h =
+    let p = first_small a (b ∷ c ∷ d ∷ params) h in
+    let q = first_small b (c ∷ d ∷ params) p.1 in
+    let r = first_small c (d ∷ params) q.1 in
+    let s = first_small d params r.1 in
+    params_on (length (a ∷ b ∷ c ∷ d ∷ params)) a b c d (pack_params params) p.0 q.0 r.0 s.0 ∙ ap (λ (ps : List ℕ). a ∷ b ∷ c ∷ d ∷ ps) (params_again params s.1)
+
+pub fours_length : (params : List ℕ) → length (pack_params params) ≡ quarters (length params)
+fours_length [] = refl
+fours_length (a ∷ []) = refl
+fours_length (a ∷ b ∷ []) = refl
+fours_length (a ∷ b ∷ c ∷ []) = refl
+fours_length (a ∷ b ∷ c ∷ d ∷ params) = omega (arith, fours_length params)
+
+pub fours_limit : (params : List ℕ) → Small params → AllUpTo 255 (pack_params params)
+fours_limit [] h = tt
+fours_limit (a ∷ []) h = let p = first_small a [] h in (omega arith, tt)
+fours_limit (a ∷ b ∷ []) h =
+    let p = first_small a (b ∷ []) h in
+    let q = first_small b [] p.1 in
+    (omega arith, tt)
+fours_limit (a ∷ b ∷ c ∷ []) h =
+    let p = first_small a (b ∷ c ∷ []) h in
+    let q = first_small b (c ∷ []) p.1 in
+    let r = first_small c [] q.1 in
+    (omega arith, tt)
+fours_limit (a ∷ b ∷ c ∷ d ∷ params) h =
+    let p = first_small a (b ∷ c ∷ d ∷ params) h in
+    let q = first_small b (c ∷ d ∷ params) p.1 in
+    let r = first_small c (d ∷ params) q.1 in
+    let s = first_small d params r.1 in
+    (omega arith, fours_limit params s.1)

@@ -1,0 +1,105 @@
+-- The one spelling in which a PDU is written (IEEE Std 802.1Q-2018, 10.8.1.2): every EndMark stands, and
+-- places past the last value are 0.
+use Rattle.std.specs.Prelude.{◌≡◌, ℕ, ◌+◌, ◌*◌, ◌/◌, ◌%◌, ◌≤◌, Bool, true, false, ◌&&◌, ◌||◌, List, [], ◌∷◌, length, map, Option, Some, None, nat_le, nat_lt, ◌==◌, if◌then◌else◌}
+use Rattle.std.specs.List.{list_all}
+use Rattle.srp_base.specs.declared.mrp.MrpEvent.{MrpEvent}
+use Rattle.srp_base.specs.declared.mrp.MrpEvent.TheVariants.{New}
+use Rattle.mrpdu_codec.specs.declared.form.AppForm.{AppForm}
+use Rattle.mrpdu_codec.specs.declared.form.AppForm.TheVariants.{Mvrp, Msrp, Mmrp}
+use Rattle.mrpdu_codec.specs.declared.form.TypeForm.{TypeForm}
+use Rattle.mrpdu_codec.specs.declared.pdu.VectorAttr.{VectorAttr}
+use Rattle.mrpdu_codec.specs.declared.pdu.Message.{Message}
+use Rattle.mrpdu_codec.specs.declared.pdu.Pdu.{Pdu}
+use Rattle.mrpdu_codec.specs.Octets.{number_of}
+use Rattle.mrpdu_codec.specs.Types.{row_of}
+use Rattle.mrpdu_codec.specs.Tree.{Vector, vectors_octets, Block, Tree, tree_octets}
+use Rattle.mrpdu_codec.specs.Tree.Region.{Vectors}
+
+-- a number below 65,536 in two octets, the high one first
+abbrev pub two_octets : ℕ → List ℕ
+two_octets n = n / 256 ∷ n % 256 ∷ []
+
+-- three events in an octet
+abbrev pub three : MrpEvent → MrpEvent → MrpEvent → ℕ
+three a b c = (number_of a * 6 + number_of b) * 6 + number_of c
+
+-- New is 0
+abbrev pub pack_events : List MrpEvent → List ℕ
+pack_events [] = []
+pack_events (a ∷ []) = three a New New ∷ []
+pack_events (a ∷ b ∷ []) = three a b New ∷ []
+pack_events (a ∷ b ∷ c ∷ events) = three a b c ∷ pack_events events
+
+-- four parameters in an octet
+abbrev pub four : ℕ → ℕ → ℕ → ℕ → ℕ
+four a b c d = a * 64 + b * 16 + c * 4 + d
+
+abbrev pub pack_params : List ℕ → List ℕ
+pack_params [] = []
+pack_params (a ∷ []) = four a 0 0 0 ∷ []
+pack_params (a ∷ b ∷ []) = four a b 0 0 ∷ []
+pack_params (a ∷ b ∷ c ∷ []) = four a b c 0 ∷ []
+pack_params (a ∷ b ∷ c ∷ d ∷ params) = four a b c d ∷ pack_params params
+
+-- LeaveAllEvent * 8,192 + NumberOfValues
+abbrev pub header_for : VectorAttr → ℕ
+header_for v = (if v.leave_all then 8192 else 0) + length v.events
+
+abbrev pub vector_for : VectorAttr → Vector
+vector_for v = record { high = header_for v / 256; low = header_for v % 256; first = v.first; packed = pack_events v.events; fours = pack_params v.params }
+
+abbrev pub vectors_for : List VectorAttr → List Vector
+vectors_for vs = map vector_for vs
+
+-- AttributeListLength, which MSRP alone has, counts the EndMark too
+abbrev pub list_length_for : AppForm → List VectorAttr → List ℕ
+list_length_for Mvrp vs = []
+list_length_for Msrp vs = two_octets (length (vectors_octets (vectors_for vs)) + 2)
+list_length_for Mmrp vs = []
+
+abbrev pub length_for : Option TypeForm → ℕ
+length_for None = 0
+length_for (Some t) = t.length
+
+abbrev pub block_for : AppForm → Message → Block
+block_for form m = record { kind = m.kind; len = length_for (row_of form m.kind); list_length = list_length_for form m.vectors; region = Vectors (vectors_for m.vectors); mark = 0 ∷ 0 ∷ [] }
+
+abbrev pub tree_for : AppForm → Pdu → Tree
+tree_for form pdu = record { version = pdu.version; blocks = map (block_for form) pdu.messages; after = Some [] }
+
+-- the octets in which a PDU is written
+abbrev pub spelling : AppForm → Pdu → List ℕ
+spelling form pdu = tree_octets (tree_for form pdu)
+
+-- ---- What can be written
+
+-- a parameter from 0 to 3 for each event, or none
+abbrev pub params_fit : TypeForm → VectorAttr → Bool
+params_fit t v = if t.four_packed then (length v.params == length v.events) && list_all (λ p. nat_le p 3) v.params else length v.params == 0
+
+-- FirstValue has the type's length, and the vector a LeaveAll or an event and at most 8,191 events
+abbrev pub vector_fits : TypeForm → VectorAttr → Bool
+vector_fits t v = (length v.first == t.length) && (v.leave_all || nat_lt 0 (length v.events)) && nat_le (length v.events) 8191 && params_fit t v
+
+-- AttributeListLength has two octets
+abbrev pub list_fits : AppForm → List VectorAttr → Bool
+list_fits Mvrp vs = true
+list_fits Msrp vs = nat_le (length (vectors_octets (vectors_for vs)) + 2) 65535
+list_fits Mmrp vs = true
+
+-- the type is known
+abbrev pub known_fits : AppForm → Option TypeForm → Message → Bool
+known_fits form None m = false
+known_fits form (Some t) m = list_all (vector_fits t) m.vectors && list_fits form m.vectors
+
+abbrev pub message_fits : AppForm → Message → Bool
+message_fits form m = known_fits form (row_of form m.kind) m
+
+-- version 0, and one or more Messages
+abbrev pub well_formed : AppForm → Pdu → Bool
+well_formed form pdu = (pdu.version == 0) && nat_lt 0 (length pdu.messages) && list_all (message_fits form) pdu.messages
+
+-- what the octets of a vector can hold, of whatever type it is
+pub record CanPut (v : VectorAttr) : Type 0 where
+  pub events : length v.events ≤ 8191
+  pub params : list_all (λ p. nat_le p 3) v.params ≡ true

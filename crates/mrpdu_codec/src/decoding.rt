@@ -1,0 +1,98 @@
+//! Octets read as a PDU.
+
+ghost use Rattle.std.specs.Prelude.{◌≡◌, ◌⊎◌, ◌↔◌, ◌<◌, ◌^◌, ℕ, List, length, Ok, Err, IfOk};
+ghost use Rattle.mrpdu_codec.specs.declared.form.AppForm.{AppForm};
+ghost use Rattle.mrpdu_codec.specs.declared.pdu.Pdu.{Pdu};
+ghost use Rattle.mrpdu_codec.specs.Grammar.{Spells, Breaks};
+ghost use Rattle.mrpdu_codec.specs.Reading.{Gives, version_at, first_type_at, pdu_at, reading};
+ghost use Rattle.mrpdu_codec.specs.Errors.{Answers};
+
+use crate::blocks::messages;
+use crate::error::{DecodeErr, ReadErr};
+use crate::form::AppForm;
+use crate::pdu::Pdu;
+use srp_base::Seq;
+use std::alloc::Global;
+
+/// ProtocolVersion.
+#[tactic(auto, unfolding(crate::specs::Reading::version_at))]
+fn version(octets: &[u8]) -> Result<(u8, &[u8]), ReadErr>
+    ensures { Gives (λ x. (x.0, x.1.now)) result (version_at octets.now) }
+{
+    match octets {
+        [] => Err(ReadErr::Left(0)),
+        [version, rest @ ..] => Ok((*version, rest)),
+    }
+}
+
+/// A first Message has an AttributeType.
+#[tactic(auto, unfolding(crate::specs::Reading::first_type_at))]
+fn first_type(octets: &[u8]) -> Result<(), ReadErr>
+    ensures { Gives (λ _. tt) result (first_type_at octets.now) }
+{
+    match octets {
+        [] => Err(ReadErr::Left(0)),
+        [kind, ..] => {
+            if *kind == 0 {
+                Err(ReadErr::Left(octets.len()))
+            } else {
+                Ok(())
+            }
+        }
+    }
+}
+
+/// A PDU, or how many octets are left from the first field on that breaks.
+#[tactic(auto, unfolding(crate::specs::Reading::pdu_at))]
+fn pdu(alloc: Global, app: AppForm, octets: &[u8]) -> Result<Pdu, ReadErr>
+    ensures { Gives (λ pdu. pdu) result (pdu_at app octets.now) }
+{
+    let (version, rest) = version(octets)?;
+    first_type(rest)?;
+    let found = messages(alloc, app, rest)?;
+    let messages = Seq::from_vec(found);
+    Ok(Pdu { version, messages })
+}
+
+/// The PDU that the octets spell (IEEE Std 802.1Q-2018, 10.8). Any version is read, octets behind the
+/// PDU's EndMark aren't read, EndMarks at the end of the octets may be missing, and Messages of types
+/// that the application doesn't know are passed over.
+///
+/// # Errors
+///
+/// `Malformed` carries the offset, in octets from 0, of the first field that breaks its rule or that the
+/// octets are too short for.
+pub fn decode(alloc: Global, form: AppForm, octets: &[u8]) -> Result<Pdu, DecodeErr>
+    requires { length octets.now < 2 ^ 32 }
+
+    // It answers what the octets say.
+    ensures exact { Answers result (reading form octets.now) }
+
+    // What it answers holds.
+    ensures spelled { (pdu : Pdu) → result ≡ Ok pdu → Spells form octets.now pdu }
+    ensures broken { (place : ℕ) → result ≡ Err (DecodeErr.Malformed place) → Breaks form octets.now place }
+
+    // It answers all that holds, unless memory runs out.
+    ensures all_spelled { (pdu : Pdu) → Spells form octets.now pdu → (result ≡ Ok pdu) ⊎ (result ≡ Err DecodeErr.NoMemory) }
+    ensures all_broken { (place : ℕ) → Breaks form octets.now place → (result ≡ Err (DecodeErr.Malformed place)) ⊎ (result ≡ Err DecodeErr.NoMemory) }
+{
+    match pdu(alloc, form, octets) {
+        Ok(pdu) => Ok(pdu),
+        Err(error) => Err(error.placed(octets.len())),
+    }
+}
+
+/// The law of the grammar: all octets spell exactly one PDU, or break at exactly one place.
+pub fn one_reading()
+    ensures some { (form : AppForm) (octets : List ℕ) → ((pdu : Pdu) × Spells form octets pdu) ⊎ ((place : ℕ) × Breaks form octets place) }
+    ensures one_pdu { (form : AppForm) (octets : List ℕ) (p q : Pdu) → Spells form octets p → Spells form octets q → p ≡ q }
+    ensures one_place { (form : AppForm) (octets : List ℕ) (m n : ℕ) → Breaks form octets m → Breaks form octets n → m ≡ n }
+    ensures never_both { (form : AppForm) (octets : List ℕ) (pdu : Pdu) (place : ℕ) → Spells form octets pdu → Breaks form octets place → ⊥ }
+{}
+
+/// The reading as a function is the grammar: octets read as exactly the PDU that they spell, or as exactly
+/// the place where they break.
+pub fn reading_is_the_grammar()
+    ensures spelled { (form : AppForm) (octets : List ℕ) (pdu : Pdu) → (reading form octets ≡ Ok pdu) ↔ Spells form octets pdu }
+    ensures broken { (form : AppForm) (octets : List ℕ) (place : ℕ) → (reading form octets ≡ Err place) ↔ Breaks form octets place }
+{}

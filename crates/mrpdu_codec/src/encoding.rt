@@ -1,0 +1,232 @@
+//! A PDU written as octets.
+
+ghost use Rattle.std.specs.Prelude.{◌≡◌, ◌++◌, ◌∷◌, [], ◌≤◌, ◌<◌, ◌+◌, ◌^◌, length, map, nat_le, IsTrue, IfOk, OnOk, OnErr, Ok};
+ghost use Rattle.mrpdu_codec.specs.Reading.{reading};
+ghost use Rattle.std.specs.List.{list_all, AllByRecursion};
+ghost use Rattle.mrpdu_codec.specs.declared.form.AppForm.{AppForm};
+ghost use Rattle.mrpdu_codec.specs.declared.pdu.Pdu.{Pdu};
+ghost use Rattle.mrpdu_codec.specs.Types.{row_of};
+ghost use Rattle.mrpdu_codec.specs.Grammar.{Spells};
+ghost use Rattle.srp_base.specs.declared.mrp.MrpEvent.TheVariants.{New};
+ghost use Rattle.mrpdu_codec.specs.Octets.{number_of};
+ghost use Rattle.mrpdu_codec.specs.Tree.{vector_octets, vectors_octets, block_octets, blocks_octets};
+ghost use Rattle.mrpdu_codec.specs.Canonical.{two_octets, three, pack_events, four, pack_params, vector_for, vectors_for, block_for, spelling, well_formed, message_fits, header_for, vectors_for, list_length_for, list_fits, length_for, CanPut};
+
+use crate::form::AppForm;
+use crate::pdu::{Message, Pdu, VectorAttr};
+use crate::writable::{size_of, vectors_size};
+use srp_base::{MrpEvent, NoMemory};
+use std::alloc::{AllocError, Global};
+
+/// Writes a number in two octets, the high one first.
+fn put_number(out: &mut Vec<u8>, number: u16) -> Result<(), AllocError>
+    ensures { OnOk result (out.new.items ≡ out.old.items ++ two_octets number) }
+{
+    out.push((number / 256) as u8)?;
+    out.push((number % 256) as u8)?;
+    Ok(())
+}
+
+/// An event's number.
+fn number_of(event: MrpEvent) -> u8
+    ensures value { result ≡ number_of event }
+    ensures limit { result ≤ 5 }
+{
+    match event {
+        MrpEvent::New => 0,
+        MrpEvent::JoinIn => 1,
+        MrpEvent::OnlyIn => 2,
+        MrpEvent::JoinMt => 3,
+        MrpEvent::OnlyMt => 4,
+        MrpEvent::Lv => 5,
+    }
+}
+
+/// Three events in an octet.
+fn three(a: MrpEvent, b: MrpEvent, c: MrpEvent) -> u8
+    ensures { result ≡ three a b c }
+{
+    (number_of(a) * 6 + number_of(b)) * 6 + number_of(c)
+}
+
+/// The octet of the first three events, and the events after them.
+fn first_three(events: &[MrpEvent]) -> (u8, &[MrpEvent])
+    requires { 0 < length events.now }
+    ensures packed { pack_events events.now ≡ result.0 ∷ pack_events result.1.now }
+    ensures fewer { length result.1.now < length events.now }
+{
+    match events {
+        [a, b, c, rest @ ..] => (three(*a, *b, *c), rest),
+        [a, b] => (three(*a, *b, MrpEvent::New), &[]),
+        [a] => (three(*a, MrpEvent::New, MrpEvent::New), &[]),
+        [] => (0, &[]),
+    }
+}
+
+/// Writes the packed events of a vector.
+fn put_events(out: &mut Vec<u8>, events: &[MrpEvent]) -> Result<(), AllocError>
+    ensures { OnOk result (out.new.items ≡ out.old.items ++ pack_events events.now) }
+{
+    let mut rest = events;
+    'more: while !rest.is_empty() {
+        let (octet, after) = first_three(rest);
+        out.push(octet)?;
+        rest = after;
+    }
+    Ok(())
+}
+
+/// Four parameters in an octet.
+fn four(a: u8, b: u8, c: u8, d: u8) -> u8
+    requires first { a ≤ 3 }
+    requires second { b ≤ 3 }
+    requires third { c ≤ 3 }
+    requires last { d ≤ 3 }
+    ensures { result ≡ four a b c d }
+{
+    a * 64 + b * 16 + c * 4 + d
+}
+
+/// The octet of the first four parameters, and the parameters after them.
+fn first_four(params: &[u8]) -> (u8, &[u8])
+    requires some { 0 < length params.now }
+    requires small { IsTrue (list_all (λ p. nat_le p 3) params.now) }
+    ensures packed { pack_params params.now ≡ result.0 ∷ pack_params result.1.now }
+    ensures fewer { length result.1.now < length params.now }
+    ensures small { IsTrue (list_all (λ p. nat_le p 3) result.1.now) }
+{
+    match params {
+        [a, b, c, d, rest @ ..] => (four(*a, *b, *c, *d), rest),
+        [a, b, c] => (four(*a, *b, *c, 0), &[]),
+        [a, b] => (four(*a, *b, 0, 0), &[]),
+        [a] => (four(*a, 0, 0, 0), &[]),
+        [] => (0, &[]),
+    }
+}
+
+/// Writes the FourPackedEvents of a vector.
+fn put_params(out: &mut Vec<u8>, params: &[u8]) -> Result<(), AllocError>
+    requires { IsTrue (list_all (λ p. nat_le p 3) params.now) }
+    ensures { OnOk result (out.new.items ≡ out.old.items ++ pack_params params.now) }
+{
+    let mut rest = params;
+    'more: while !rest.is_empty() {
+        let (octet, after) = first_four(rest);
+        out.push(octet)?;
+        rest = after;
+    }
+    Ok(())
+}
+
+/// A vector's header.
+fn header_for(v: &VectorAttr) -> u16
+    requires { length v.now.events ≤ 8191 }
+    ensures { result ≡ header_for v.now }
+{
+    let n = v.events.len() as u16;
+    if v.leave_all { 8192 + n } else { n }
+}
+
+/// Writes a vector.
+fn put_vector(out: &mut Vec<u8>, v: &VectorAttr) -> Result<(), AllocError>
+    requires events { length v.now.events ≤ 8191 }
+    requires params { IsTrue (list_all (λ p. nat_le p 3) v.now.params) }
+    ensures { OnOk result (out.new.items ≡ out.old.items ++ vector_octets (vector_for v.now)) }
+{
+    put_number(out, header_for(v))?;
+    out.extend_from_slice(v.first.as_slice())?;
+    put_events(out, v.events.as_slice())?;
+    put_params(out, v.params.as_slice())?;
+    Ok(())
+}
+
+/// Writes vectors.
+fn put_vectors(out: &mut Vec<u8>, vs: &[VectorAttr]) -> Result<(), AllocError>
+    requires { AllByRecursion CanPut vs.now }
+    ensures { OnOk result (out.new.items ≡ out.old.items ++ vectors_octets (vectors_for vs.now)) }
+{
+    for v in vs {
+        put_vector(out, v)?;
+    }
+    Ok(())
+}
+
+/// Writes MSRP's AttributeListLength.
+fn put_list_length(out: &mut Vec<u8>, form: AppForm, vs: &[VectorAttr]) -> Result<(), AllocError>
+    requires { IsTrue (list_fits form vs.now) }
+    ensures { OnOk result (out.new.items ≡ out.old.items ++ list_length_for form vs.now) }
+{
+    match form {
+        AppForm::Mvrp => Ok(()),
+        AppForm::Msrp => put_number(out, (vectors_size(vs) + 2) as u16),
+        AppForm::Mmrp => Ok(()),
+    }
+}
+
+/// AttributeLength of a Message.
+fn length_for(form: AppForm, message: &Message) -> u8
+    ensures { result ≡ length_for (row_of form message.now.kind) }
+{
+    match form.known(message.kind) {
+        Some(row) => row.length,
+        None => 0,
+    }
+}
+
+/// Writes a Message.
+fn put_message(out: &mut Vec<u8>, form: AppForm, message: &Message) -> Result<(), AllocError>
+    requires { IsTrue (message_fits form message.now) }
+    ensures { OnOk result (out.new.items ≡ out.old.items ++ block_octets (block_for form message.now)) }
+{
+    out.push(message.kind)?;
+    out.push(length_for(form, message))?;
+    put_list_length(out, form, message.vectors.as_slice())?;
+    put_vectors(out, message.vectors.as_slice())?;
+    put_number(out, 0)?;
+    Ok(())
+}
+
+/// Writes Messages.
+fn put_messages(out: &mut Vec<u8>, form: AppForm, messages: &[Message]) -> Result<(), AllocError>
+    requires { IsTrue (list_all (message_fits form) messages.now) }
+    ensures { OnOk result (out.new.items ≡ out.old.items ++ blocks_octets (map (block_for form) messages.now)) }
+{
+    for message in messages {
+        put_message(out, form, message)?;
+    }
+    Ok(())
+}
+
+/// The octets of a PDU.
+fn written(alloc: Global, form: AppForm, pdu: &Pdu) -> Result<Vec<u8>, AllocError>
+    requires { IsTrue (well_formed form pdu.now) }
+    ensures { IfOk result (λ v. v.items ≡ spelling form pdu.now) }
+{
+    let mut out = Vec::with_capacity(alloc, size_of(form, pdu))?;
+    out.push(pdu.version)?;
+    put_messages(&mut out, form, pdu.messages.as_slice())?;
+    put_number(&mut out, 0)?;
+    Ok(out)
+}
+
+/// Writes a PDU at the end of `out`, in its one canonical spelling: with every EndMark, and with 0 in the
+/// places past the last value of a vector (IEEE Std 802.1Q-2018, 10.8.1.2). `well_formed` tests the
+/// condition. After want of memory `out` is as it was.
+#[tactic(auto, using(crate::proofs::Reread::reread))]
+pub fn encode(form: AppForm, pdu: &Pdu, out: &mut Vec<u8>) -> Result<(), NoMemory>
+    requires { IsTrue (well_formed form pdu.now) }
+    ensures ok { OnOk result (out.new.items ≡ out.old.items ++ spelling form pdu.now) }
+    ensures err { OnErr result (out.new.items ≡ out.old.items) }
+
+    // What was written reads as the PDU.
+    ensures read_back { reading form (spelling form pdu.now) ≡ Ok pdu.now }
+{
+    let octets = written(*out.allocator(), form, pdu)?;
+    out.extend_from_slice(&octets)?;
+    Ok(())
+}
+
+/// The round trip: the octets in which a PDU is written spell that PDU, and so they spell no other.
+pub fn written_is_read()
+    ensures { (form : AppForm) (pdu : Pdu) → IsTrue (well_formed form pdu) → Spells form (spelling form pdu) pdu }
+{}

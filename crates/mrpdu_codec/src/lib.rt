@@ -1,0 +1,48 @@
+//! MRPDUs: the octets in which MRP participants tell each other their attributes (IEEE Std 802.1Q-2018,
+//! 10.8), for the applications MVRP (clause 11), MSRP (clause 35) and MMRP (10.12).
+//!
+//! ```text
+//! 00        ProtocolVersion
+//! 0102      a Message: AttributeType, AttributeLength
+//! 2001      a vector's header: LeaveAllEvent 1, NumberOfValues 1
+//! 0005      FirstValue
+//! 6c        ThreePackedEvents: JoinMt, and two places that are ignored
+//! 0000      the EndMark of the Message
+//! 0000      the EndMark of the PDU
+//!
+//! decode  octets -> Pdu { version, messages: [Message { kind, vectors: [VectorAttr { .. }] }] },
+//!                   or Malformed at an offset, or NoMemory
+//! encode  a Pdu that is well_formed -> its one canonical spelling, of size_of octets
+//! ```
+//!
+//! The grammar stands in `specs/`: `Types` is the table of attribute types, `Tree` the syntax tree of a
+//! PDU with the rules of its fields, its spelling and its meaning, and `Grammar` says which octets spell
+//! which PDU (`Spells`) and where others break (`Breaks`). `decode` answers the PDU that the octets spell,
+//! or the place where they break, and `one_reading` is the law that all octets have exactly one of the two.
+//! `Reading` is the same as a function, which `reading_is_the_grammar` ties to the grammar. `Canonical` has
+//! the spelling in which a PDU is written; that it spells the PDU is the law `written_is_read`.
+//!
+//! The code reads in one pass: a reader answers a value and the octets after it, or how many octets are
+//! left from the first field on that breaks (`raw` a vector's fields, `vectors` lists of vectors, `blocks`
+//! Messages, `decoding` the PDU and the place). Messages of unknown types are passed over without memory.
+#![tactic(auto)]
+
+mod blocks;
+mod decoding;
+mod encoding;
+pub mod error;
+pub mod form;
+pub mod pdu;
+mod raw;
+mod vectors;
+mod writable;
+
+pub use decoding::{decode, one_reading, reading_is_the_grammar};
+pub use encoding::{encode, written_is_read};
+pub use error::DecodeErr;
+pub use form::{AppForm, TypeForm};
+pub use pdu::{Message, Pdu, VectorAttr};
+pub use writable::{size_of, well_formed};
+
+#[cfg(test)]
+mod tests;

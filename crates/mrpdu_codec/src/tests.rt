@@ -1,0 +1,230 @@
+use super::*;
+use srp_base::{MrpEvent, Seq};
+use std::alloc::Global;
+use std::process::Abort;
+use std::test::Fail;
+
+/// Where octets break; None where they spell a PDU.
+fn place(
+    rt: &impl Abort,
+    alloc: Global,
+    form: AppForm,
+    octets: &[u8],
+) -> Result<Option<u32>, Fail> {
+    assert!(rt; octets.len() <= 1500);
+    match decode(alloc, form, octets) {
+        Ok(_) => Ok(None),
+        Err(DecodeErr::Malformed(place)) => Ok(Some(place)),
+        Err(DecodeErr::NoMemory) => Err(DecodeErr::NoMemory)?,
+    }
+}
+
+/// A PDU of one Message with one vector.
+fn one_vector(
+    alloc: Global,
+    kind: u8,
+    leave_all: bool,
+    first: &[u8],
+    events: &[MrpEvent],
+    params: &[u8],
+) -> Result<Pdu, Fail> {
+    let mut vectors = Vec::new(alloc);
+    vectors.push(VectorAttr {
+        leave_all,
+        first: Seq::from_vec(first.to_vec(alloc)?),
+        events: Seq::from_vec(events.to_vec(alloc)?),
+        params: Seq::from_vec(params.to_vec(alloc)?),
+    })?;
+    let mut messages = Vec::new(alloc);
+    messages.push(Message {
+        kind,
+        vectors: Seq::from_vec(vectors),
+    })?;
+    Ok(Pdu {
+        version: 0,
+        messages: Seq::from_vec(messages),
+    })
+}
+
+const VID: [u8; 12] = [0, 1, 2, 0, 1, 0, 2, 0x6c, 0, 0, 0, 0];
+
+const LISTENER: [u8; 21] = [
+    0, 3, 8, 0, 14, 0, 1, 2, 0, 0, 0, 0, 1, 0, 1, 0x6c, 0x80, 0, 0, 0, 0,
+];
+
+#[test]
+fn cut_at_every_length(rt: HostRuntime) -> Result<(), Fail> {
+    let vid = [
+        Some(0),
+        Some(1),
+        Some(2),
+        None,
+        Some(3),
+        Some(5),
+        Some(5),
+        Some(7),
+        None,
+        Some(8),
+        None,
+        Some(10),
+        None,
+    ];
+    for (i, want) in vid.iter().enumerate() {
+        let cut = &VID[..i.min(12)];
+        assert_eq!(rt;
+            place(&rt, rt.alloc(), AppForm::Mvrp, cut)?,
+            *want,
+            "at {i}"
+        );
+    }
+    let listener = [
+        Some(0),
+        Some(1),
+        Some(2),
+        Some(3),
+        Some(3),
+        Some(5),
+        Some(5),
+        Some(7),
+        Some(7),
+        Some(7),
+        Some(7),
+        Some(7),
+        Some(7),
+        Some(7),
+        Some(7),
+        Some(15),
+        Some(16),
+        None,
+        Some(17),
+        None,
+        Some(19),
+        None,
+    ];
+    for (i, want) in listener.iter().enumerate() {
+        let cut = &LISTENER[..i.min(21)];
+        assert_eq!(rt;
+            place(&rt, rt.alloc(), AppForm::Msrp, cut)?,
+            *want,
+            "at {i}"
+        );
+    }
+    Ok(())
+}
+
+#[test]
+fn leniencies_and_faults(rt: HostRuntime) -> Result<(), Fail> {
+    let mvrp: [(&[u8], Option<u32>); 16] = [
+        // a packed octet of 216, and 255 in a type that is skipped
+        (&[0, 1, 2, 0, 1, 0, 2, 216, 0, 0, 0, 0], Some(7)),
+        (&[0, 9, 1, 0, 1, 5, 255, 0, 0, 1, 2, 0, 1, 0, 2, 0x6c], None),
+        // LeaveAllEvent 2, and 7 in a type that is skipped
+        (&[0, 1, 2, 0x40, 1, 0, 2, 0x6c], Some(3)),
+        (&[0, 9, 1, 0xe0, 0, 5], None),
+        // another version, and octets behind the PDU's EndMark
+        (&[7, 1, 2, 0x20, 0, 0, 0, 0, 0, 0, 0, 9], None),
+        // a type of 0, and none
+        (&[0, 0, 0], Some(1)),
+        (&[0, 1, 2, 0x20, 0, 0, 0, 0, 0, 0, 9], Some(9)),
+        // another AttributeLength, and 0 in a type that is skipped
+        (&[0, 1, 3], Some(2)),
+        (&[0, 9, 0], Some(2)),
+        // a type that is skipped, cut in its FirstValue, its packed octets and its header
+        (&[0, 9, 2, 0, 4, 1], Some(5)),
+        (&[0, 9, 1, 0, 4, 1, 0], Some(7)),
+        (&[0, 9, 1, 0], Some(3)),
+        // unknown types alone
+        (&[0, 9, 1, 0, 0, 8, 1, 0, 0, 0, 0], None),
+        // no vector; two packed octets
+        (&[0, 1, 2, 0, 0, 0, 0], None),
+        (&[0, 1, 2, 0, 4, 0, 5, 0x81, 0x6c], None),
+        (&[0, 1, 2, 0, 4, 0, 5, 0x81], Some(8)),
+    ];
+    for (octets, want) in &mvrp {
+        assert_eq!(rt;
+            place(&rt, rt.alloc(), AppForm::Mvrp, octets)?,
+            *want,
+            "{octets:?}"
+        );
+    }
+    let msrp: [(&[u8], Option<u32>); 10] = [
+        // AttributeListLength below 2, and a list without vectors
+        (&[0, 4, 4, 0, 1], Some(3)),
+        (&[0, 4, 4, 0, 2, 0, 0, 0, 0], None),
+        // a header of 0 inside the region, and a FirstValue that passes its end
+        (&[0, 4, 4, 0, 9, 0, 0, 0, 0, 0, 0, 0, 0, 0], Some(5)),
+        (&[0, 4, 4, 0, 6, 0, 1, 5, 2, 0, 2, 0x6c, 0, 0], Some(7)),
+        // another value in the EndMark's place
+        (&[0, 4, 4, 0, 2, 0, 5], Some(5)),
+        // a type that is skipped: whole, two octets short, one short, three short
+        (&[0, 9, 1, 0, 4, 5, 5, 5, 5, 4, 4, 0, 2], None),
+        (&[0, 9, 1, 0, 4, 5, 5], None),
+        (&[0, 9, 1, 0, 4, 5, 5, 5], Some(5)),
+        (&[0, 9, 1, 0, 4, 5], Some(5)),
+        // a FourPackedEvent that passes the region's end
+        (
+            &[
+                0, 3, 8, 0, 13, 0, 1, 2, 0, 0, 0, 0, 1, 0, 1, 0x6c, 0x80, 0, 0,
+            ],
+            Some(16),
+        ),
+    ];
+    for (octets, want) in &msrp {
+        assert_eq!(rt;
+            place(&rt, rt.alloc(), AppForm::Msrp, octets)?,
+            *want,
+            "{octets:?}"
+        );
+    }
+    Ok(())
+}
+
+#[test]
+fn written_and_read(rt: HostRuntime) -> Result<(), Fail> {
+    let alloc = rt.alloc();
+    let vid = one_vector(alloc, 1, false, &[0, 2], &[MrpEvent::JoinMt], &[])?;
+    let listener = one_vector(
+        alloc,
+        3,
+        false,
+        &[2, 0, 0, 0, 0, 1, 0, 1],
+        &[MrpEvent::JoinMt],
+        &[2],
+    )?;
+    let mac = one_vector(
+        alloc,
+        2,
+        true,
+        &[1, 2, 3, 4, 5, 6],
+        &[
+            MrpEvent::New,
+            MrpEvent::Lv,
+            MrpEvent::OnlyIn,
+            MrpEvent::OnlyMt,
+        ],
+        &[],
+    )?;
+    let octets = [0, 2, 6, 0x20, 4, 1, 2, 3, 4, 5, 6, 32, 144, 0, 0, 0, 0];
+    let cases: [(AppForm, &Pdu, &[u8]); 3] = [
+        (AppForm::Mvrp, &vid, &VID),
+        (AppForm::Msrp, &listener, &LISTENER),
+        (AppForm::Mmrp, &mac, &octets),
+    ];
+    for (form, pdu, text) in &cases {
+        assert!(rt; well_formed(*form, pdu));
+        assert_eq!(rt; size_of(*form, pdu), text.len());
+        let mut out = [9].to_vec(alloc)?;
+        encode(*form, pdu, &mut out)?;
+        assert_eq!(rt; out.as_slice(), [&[9], *text].concat(alloc)?.as_slice());
+        assert!(rt; text.len() <= 1500);
+        assert_eq!(rt; &decode(alloc, *form, text)?, *pdu);
+    }
+    assert!(rt; !well_formed(AppForm::Mmrp, &vid));
+    assert!(rt;
+        !well_formed(
+            AppForm::Mvrp,
+            &one_vector(alloc, 1, false, &[0, 2], &[], &[])?
+        )
+    );
+    Ok(())
+}

@@ -1,0 +1,154 @@
+//! Which PDUs can be written, and in how many octets.
+
+ghost use Rattle.std.specs.Prelude.{◌≡◌, ◌+◌, ◌-◌, ◌^◌, ◌&&◌, min, map, length, nat_le, Some};
+ghost use Rattle.std.specs.List.{list_all, flat_map};
+ghost use Rattle.mrpdu_codec.specs.Octets.{thirds, quarters};
+ghost use Rattle.mrpdu_codec.specs.Tree.{vector_octets, vectors_octets, block_octets, blocks_octets};
+ghost use Rattle.mrpdu_codec.specs.Canonical.{vector_for, vectors_for, block_for, spelling, params_fit, vector_fits, list_fits, known_fits, message_fits, well_formed};
+
+use crate::form::{AppForm, TypeForm};
+use crate::pdu::{Message, Pdu, VectorAttr};
+
+/// How many octets n values take where an octet holds 3.
+fn thirds(n: usize) -> usize
+    ensures { result ≡ thirds n }
+{
+    n.div_ceil(3)
+}
+
+/// How many octets n values take where an octet holds 4.
+fn quarters(n: usize) -> usize
+    ensures { result ≡ quarters n }
+{
+    n.div_ceil(4)
+}
+
+#[tactic(auto, using(crate::proofs::Sizes::vector_length))]
+/// The octets of a vector, or the greatest usize where they are more.
+fn vector_size(v: &VectorAttr) -> usize
+    ensures { result ≡ min (length (vector_octets (vector_for v.now))) (2 ^ 64 - 1) }
+{
+    let events = thirds(v.events.len());
+    let params = quarters(v.params.len());
+    let values = v.first.len().saturating_add(events).saturating_add(params);
+    values.saturating_add(2)
+}
+
+/// The octets of vectors, or the greatest usize where they are more.
+pub(crate) fn vectors_size(vs: &[VectorAttr]) -> usize
+    ensures { result ≡ min (length (vectors_octets (vectors_for vs.now))) (2 ^ 64 - 1) }
+{
+    let mut size = 0usize;
+    for v in vs {
+        size = size.saturating_add(vector_size(v));
+    }
+    size
+}
+
+/// The octets of a Message: with its EndMark 4 beside the vectors, and in MSRP 2 more.
+fn message_size(form: AppForm, message: &Message) -> usize
+    ensures { result ≡ min (length (block_octets (block_for form message.now))) (2 ^ 64 - 1) }
+{
+    let vectors = vectors_size(message.vectors.as_slice());
+    match form {
+        AppForm::Mvrp => vectors.saturating_add(4),
+        AppForm::Msrp => vectors.saturating_add(6),
+        AppForm::Mmrp => vectors.saturating_add(4),
+    }
+}
+
+/// The octets of Messages, or the greatest usize where they are more.
+fn messages_size(form: AppForm, messages: &[Message]) -> usize
+    ensures { result ≡ min (length (blocks_octets (map (block_for form) messages.now))) (2 ^ 64 - 1) }
+{
+    let mut size = 0usize;
+    for message in messages {
+        size = size.saturating_add(message_size(form, message));
+    }
+    size
+}
+
+/// How many octets `encode` writes of a PDU; the greatest usize where they are more.
+pub fn size_of(form: AppForm, pdu: &Pdu) -> usize
+    ensures { result ≡ min (length (spelling form pdu.now)) (2 ^ 64 - 1) }
+{
+    messages_size(form, pdu.messages.as_slice()).saturating_add(3)
+}
+
+/// Numbers from 0 to 3.
+fn are_params(params: &[u8]) -> bool
+    ensures { result ≡ list_all (λ p. nat_le p 3) params.now }
+{
+    params.iter().all(|p| *p <= 3)
+}
+
+/// A parameter from 0 to 3 for each event of a four-packed type, and else none.
+fn params_fit(form: TypeForm, v: &VectorAttr) -> bool
+    ensures { result ≡ params_fit form v.now }
+{
+    if !form.four_packed {
+        return v.params.len() == 0;
+    }
+    let small = are_params(v.params.as_slice());
+    v.params.len() == v.events.len() && small
+}
+
+/// A FirstValue of the type's length, and a LeaveAll or an event, and at most 8,191 events.
+fn vector_fits(form: TypeForm, v: &VectorAttr) -> bool
+    ensures { result ≡ vector_fits form v.now }
+{
+    let params = params_fit(form, v);
+    let n = v.events.len();
+    v.first.len() == usize::from(form.length) && (v.leave_all || 0 < n) && n <= 8191 && params
+}
+
+/// Vectors that fit in a list whose AttributeListLength has two octets.
+fn list_fits(form: AppForm, vs: &[VectorAttr]) -> bool
+    ensures { result ≡ list_fits form vs.now }
+{
+    match form {
+        AppForm::Mvrp => true,
+        AppForm::Msrp => vectors_size(vs) <= 65533,
+        AppForm::Mmrp => true,
+    }
+}
+
+fn vectors_fit(row: TypeForm, vs: &[VectorAttr]) -> bool
+    ensures { result ≡ list_all (vector_fits row) vs.now }
+{
+    vs.iter().all(|v| vector_fits(row, v))
+}
+
+/// A Message of a known type.
+fn known_fits(form: AppForm, row: TypeForm, message: &Message) -> bool
+    ensures { result ≡ known_fits form (Some row) message.now }
+{
+    let each = vectors_fit(row, message.vectors.as_slice());
+    let list = list_fits(form, message.vectors.as_slice());
+    each && list
+}
+
+fn message_fits(form: AppForm, message: &Message) -> bool
+    ensures { result ≡ message_fits form message.now }
+{
+    match form.known(message.kind) {
+        None => false,
+        Some(row) => known_fits(form, row, message),
+    }
+}
+
+fn messages_fit(form: AppForm, messages: &[Message]) -> bool
+    ensures { result ≡ list_all (message_fits form) messages.now }
+{
+    messages.iter().all(|m| message_fits(form, m))
+}
+
+/// Whether `encode` can write a PDU: its version is 0, it has a Message, each type is known, each
+/// FirstValue has the type's length, each vector has a LeaveAll or an event and at most 8,191 events,
+/// the parameters fit the type, and a list of MSRP has at most 65,535 octets with its EndMark.
+pub fn well_formed(form: AppForm, pdu: &Pdu) -> bool
+    ensures { result ≡ well_formed form pdu.now }
+{
+    let each = messages_fit(form, pdu.messages.as_slice());
+    pdu.version == 0 && 0 < pdu.messages.len() && each
+}

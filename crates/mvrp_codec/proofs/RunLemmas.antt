@@ -1,0 +1,98 @@
+-- Runs of consecutive VIDs.
+use Rattle.std.proofs.Common.{◌≡◌, ℕ, suc, ◌+◌, ◌<◌, ◌≤◌, Bool, true, false, eqb, inl, inr, List, [], ◌∷◌, ◌++◌, length, get_or, take, drop, refl, sym, ap, subst, ◌∙◌, append_assoc, arith}
+use Rattle.std.proofs.lemmas.Bool.{cases_Bool, eq-eqb, ne_eqb}
+use Rattle.std.proofs.lemmas.List.{take-append-drop, drop_more, drop_all, take_more}
+use Rattle.srp_base.specs.declared.mrp.MrpEvent.{MrpEvent}
+use Rattle.mrpdu_codec.specs.declared.pdu.VectorAttr.{VectorAttr}
+use Rattle.mvrp_codec.specs.Writing.{join, runs, run_vector, run_vectors, run_len, AreVids}
+
+-- ---- how far a run goes
+
+at_place : (events : List (MrpEvent × ℕ)) (i : ℕ) (x : MrpEvent × ℕ) → i < length events → x ≡ get_or events i x → drop i events ≡ x ∷ drop (i + 1) events
+at_place events i x lt is = drop_more events i x lt ∙ ap (λ (y : MrpEvent × ℕ). y ∷ drop (i + 1) events) (sym is)
+
+two_places : (events : List (MrpEvent × ℕ)) (i : ℕ) (x y : MrpEvent × ℕ) → i + 1 < length events → x ≡ get_or events i x → y ≡ get_or events (i + 1) y → drop i events ≡ x ∷ y ∷ drop (i + 1 + 1) events
+two_places events i x y lt isx isy = at_place events i x (omega arith) isx ∙ ap (λ (ys : List (MrpEvent × ℕ)). x ∷ ys) (at_place events (i + 1) y lt isy)
+
+pub run_goes_on : (events : List (MrpEvent × ℕ)) (i total : ℕ) (x y : MrpEvent × ℕ) → i + 1 < length events → x ≡ get_or events i x → y ≡ get_or events (i + 1) y → x.1 + 1 ≡ y.1
+    → run_len (drop i events) + i ≡ total → run_len (drop (i + 1) events) + (i + 1) ≡ total
+run_goes_on events i total x y lt isx isy follows so_far =
+    let here : run_len (drop i events) ≡ run_len (y ∷ drop (i + 1 + 1) events) + 1 = ap run_len (two_places events i x y lt isx isy) ∙ rw (eq-eqb (x.1 + 1) y.1 follows) refl in
+    let next : run_len (drop (i + 1) events) ≡ run_len (y ∷ drop (i + 1 + 1) events) = ap run_len (at_place events (i + 1) y lt isy) in
+    omega arith
+
+pub run_breaks_off : (events : List (MrpEvent × ℕ)) (i total : ℕ) (x y : MrpEvent × ℕ) → i + 1 < length events → x ≡ get_or events i x → y ≡ get_or events (i + 1) y → (x.1 + 1 ≡ y.1 → ⊥)
+    → run_len (drop i events) + i ≡ total → i + 1 ≡ total
+run_breaks_off events i total x y lt isx isy apart so_far =
+    let here : run_len (drop i events) ≡ 1 = ap run_len (two_places events i x y lt isx isy) ∙ rw (ne_eqb (x.1 + 1) y.1 apart) refl in
+    omega arith
+
+pub run_ends : (events : List (MrpEvent × ℕ)) (i total : ℕ) (x : MrpEvent × ℕ) → i + 1 ≡ length events → x ≡ get_or events i x → run_len (drop i events) + i ≡ total → i + 1 ≡ total
+run_ends events i total x e isx so_far =
+    let here : run_len (drop i events) ≡ 1 = ap run_len (at_place events i x (omega arith) isx ∙ ap (λ (ys : List (MrpEvent × ℕ)). x ∷ ys) (drop_all (i + 1) events (omega arith))) in
+    omega arith
+
+vids_push : (xs : List (MrpEvent × ℕ)) (x : MrpEvent × ℕ) → AreVids xs → (1 ≤ x.1) × (x.1 ≤ 4094) → AreVids (xs ++ x ∷ [])
+vids_push [] x all one = (one, tt)
+vids_push (y ∷ ys) x all one = (all.0, vids_push ys x all.1 one)
+
+pub vids_more : (events : List (MrpEvent × ℕ)) (i : ℕ) (x : MrpEvent × ℕ) → i < length events → x ≡ get_or events i x → (1 ≤ x.1) × (x.1 ≤ 4094) → AreVids (take i events) → AreVids (take (i + 1) events)
+vids_more events i x lt is one all =
+    subst AreVids (sym (take_more events i x lt ∙ ap (λ (y : MrpEvent × ℕ). take i events ++ y ∷ []) (sym is))) (vids_push (take i events) x all one)
+
+-- ---- a list is its first run, and the runs of the rest
+
+run_len_some : (x : MrpEvent × ℕ) (xs : List (MrpEvent × ℕ)) → (m : ℕ) × (run_len (x ∷ xs) ≡ suc m)
+run_len_some x [] = (0, refl)
+run_len_some x (y ∷ ys) =
+    elim (cases_Bool (eqb (x.1 + 1) y.1)) [
+      | inl yes_it ↦ (run_len (y ∷ ys), rw yes_it (omega arith))
+      | inr not_it ↦ (0, rw not_it refl)
+    ]
+
+joins : (x y : MrpEvent × ℕ) (ys : List (MrpEvent × ℕ)) (m : ℕ) → runs (y ∷ ys) ≡ (y ∷ take m ys) ∷ runs (drop m ys) → eqb (x.1 + 1) y.1 ≡ true → run_len (y ∷ ys) ≡ suc m
+    → runs (x ∷ y ∷ ys) ≡ take (run_len (x ∷ y ∷ ys)) (x ∷ y ∷ ys) ∷ runs (drop (run_len (x ∷ y ∷ ys)) (x ∷ y ∷ ys))
+joins x y ys m later follows n-is =
+    let len : run_len (x ∷ y ∷ ys) ≡ suc (suc m) = rw follows (omega (arith, n-is)) in
+    ap (join x) later ∙ rw follows refl ∙ ap (λ (n : ℕ). take n (x ∷ y ∷ ys) ∷ runs (drop n (x ∷ y ∷ ys))) (sym len)
+
+apart : (x y : MrpEvent × ℕ) (ys : List (MrpEvent × ℕ)) (m : ℕ) → runs (y ∷ ys) ≡ (y ∷ take m ys) ∷ runs (drop m ys) → eqb (x.1 + 1) y.1 ≡ false
+    → runs (x ∷ y ∷ ys) ≡ take (run_len (x ∷ y ∷ ys)) (x ∷ y ∷ ys) ∷ runs (drop (run_len (x ∷ y ∷ ys)) (x ∷ y ∷ ys))
+apart x y ys m later not_next =
+    let len : run_len (x ∷ y ∷ ys) ≡ 1 = rw not_next refl in
+    ap (join x) later ∙ rw not_next refl ∙ ap (λ (rs : List (List (MrpEvent × ℕ))). (x ∷ []) ∷ rs) (sym later) ∙ ap (λ (n : ℕ). take n (x ∷ y ∷ ys) ∷ runs (drop n (x ∷ y ∷ ys))) (sym len)
+
+pub runs_cut : (x : MrpEvent × ℕ) (xs : List (MrpEvent × ℕ)) → runs (x ∷ xs) ≡ take (run_len (x ∷ xs)) (x ∷ xs) ∷ runs (drop (run_len (x ∷ xs)) (x ∷ xs))
+runs_cut x [] = refl
+runs_cut x (y ∷ ys) =
+    let m = run_len_some y ys in
+    let n-is : run_len (y ∷ ys) ≡ suc m.0 = m.1 in
+    let later : runs (y ∷ ys) ≡ (y ∷ take m.0 ys) ∷ runs (drop m.0 ys) = runs_cut y ys ∙ ap (λ (n : ℕ). take n (y ∷ ys) ∷ runs (drop n (y ∷ ys))) n-is in
+    elim (cases_Bool (eqb (x.1 + 1) y.1)) [
+      | inl yes_it ↦ joins x y ys m.0 later yes_it n-is
+      | inr not_it ↦ apart x y ys m.0 later not_it
+    ]
+
+-- ---- the vectors of the runs
+
+vectors_more : (leave : Bool) (run : List (MrpEvent × ℕ)) (others : List (List (MrpEvent × ℕ))) → run_vectors leave (run ∷ others) ≡ run_vector leave run ∷ run_vectors false others
+vectors_more true run [] = refl
+vectors_more false run [] = refl
+vectors_more true run (r ∷ rs) = refl
+vectors_more false run (r ∷ rs) = refl
+
+pub vectors_go_on : (out new total : List VectorAttr) (leave : Bool) (rest : List (MrpEvent × ℕ)) (n : ℕ) (v : VectorAttr) → 0 < length rest → n ≡ run_len rest → out ++ run_vectors leave (runs rest) ≡ total
+    → new ≡ out ++ v ∷ [] → v ≡ run_vector leave (take n rest) → new ++ run_vectors false (runs (drop n rest)) ≡ total
+vectors_go_on out new total leave [] n v some e so_far new-is v-is = absurd (omega arith)
+vectors_go_on out new total leave (x ∷ xs) n v some e so_far new-is v-is =
+    let cut : runs (x ∷ xs) ≡ take n (x ∷ xs) ∷ runs (drop n (x ∷ xs)) = runs_cut x xs ∙ ap (λ (k : ℕ). take k (x ∷ xs) ∷ runs (drop k (x ∷ xs))) (sym e) in
+    let all : run_vectors leave (runs (x ∷ xs)) ≡ v ∷ run_vectors false (runs (drop n (x ∷ xs))) =
+    ap (run_vectors leave) cut ∙ vectors_more leave (take n (x ∷ xs)) (runs (drop n (x ∷ xs))) ∙ ap (λ (w : VectorAttr). w ∷ run_vectors false (runs (drop n (x ∷ xs)))) (sym v-is) in
+    ap (λ (vs : List VectorAttr). vs ++ run_vectors false (runs (drop n (x ∷ xs)))) new-is ∙ append_assoc out (v ∷ []) (run_vectors false (runs (drop n (x ∷ xs)))) ∙ ap (λ (vs : List VectorAttr). out ++ vs) (sym all) ∙ so_far
+
+vids_append : (xs ys : List (MrpEvent × ℕ)) → AreVids xs → AreVids ys → AreVids (xs ++ ys)
+vids_append [] ys h k = k
+vids_append (x ∷ xs) ys h k = (h.0, vids_append xs ys h.1 k)
+
+pub vids_join : (n : ℕ) (rest : List (MrpEvent × ℕ)) → AreVids (take n rest) → AreVids (drop n rest) → AreVids rest
+vids_join n rest h k = subst AreVids (take-append-drop n rest) (vids_append (take n rest) (drop n rest) h k)

@@ -1,0 +1,215 @@
+-- What is written reads as what was written, in at most 1,500 octets.
+use Rattle.std.proofs.Common.{◌≡◌, ℕ, suc, ◌+◌, ◌*◌, ◌/◌, ◌%◌, ◌<◌, ◌≤◌, Bool, true, false, leb, ltb, eqb, ◌||◌, inl, inr, List, [], ◌∷◌, ◌++◌, length, map, Result, Ok, refl, sym, ap, ◌∙◌, length-append, arith}
+use Rattle.std.specs.List.{flat_map, list_any, list_all, AllByRecursion}
+use Rattle.std.proofs.lemmas.Bool.{cases_Bool, and_from, eqb-true, le-leb, lt-ltb}
+use Rattle.std.proofs.lemmas.List.{append-nil, length-map}
+use Rattle.srp_base.specs.declared.mrp.MrpEvent.{MrpEvent}
+use Rattle.mrpdu_codec.specs.declared.form.AppForm.TheVariants.{Mvrp}
+use Rattle.mrpdu_codec.specs.declared.form.TypeForm.{TypeForm}
+use Rattle.mrpdu_codec.specs.declared.pdu.VectorAttr.{VectorAttr}
+use Rattle.mrpdu_codec.specs.declared.pdu.Pdu.{Pdu}
+use Rattle.mrpdu_codec.specs.Octets.{number}
+use Rattle.mrpdu_codec.specs.Tree.{vector_octets, vectors_octets}
+use Rattle.mrpdu_codec.specs.Canonical.{pack_events, vector_for, vectors_for, vector_fits, well_formed, spelling}
+use Rattle.mrpdu_codec.specs.Reading.{reading}
+use Rattle.mvrp_codec.specs.declared.pdu.MvrpPdu.{MvrpPdu}
+use Rattle.mvrp_codec.specs.Meaning.{event_at, events_from, vector_events, meaning, read_as, mvrp_reading}
+use Rattle.mvrp_codec.specs.Writing.{join, runs, run_vector, run_vectors, one_message, pdu_for, mvrp_spelling, IsWritable, AreVids}
+
+-- ---- the events
+
+abbrev IsVid : ℕ → Type 0
+IsVid vid = (1 ≤ vid) × (vid ≤ 4094)
+
+-- what the vectors of runs say
+run_events : List (List (MrpEvent × ℕ)) → List (MrpEvent × ℕ)
+run_events rs = flat_map vector_events (map (run_vector false) rs)
+
+number_again : (n : ℕ) → number (n / 256) (n % 256) ≡ n
+number_again n = omega arith
+
+event_of_vid : (x : MrpEvent × ℕ) → IsVid x.1 → event_at x.0 x.1 ≡ x ∷ []
+event_of_vid x h = rw (le-leb 1 x.1 h.0, le-leb x.1 4094 h.1) refl
+
+-- a run says its first event, and then those of the VIDs from the next on
+first_event : (x : MrpEvent × ℕ) (xs : List (MrpEvent × ℕ)) → IsVid x.1 → vector_events (run_vector false (x ∷ xs)) ≡ x ∷ events_from (x.1 + 1) (map (λ y. y.0) xs)
+first_event x xs h =
+    ap (λ (n : ℕ). events_from n (map (λ y. y.0) (x ∷ xs))) (number_again x.1)
+    ∙ ap (λ (es : List (MrpEvent × ℕ)). es ++ events_from (x.1 + 1) (map (λ y. y.0) xs)) (event_of_vid x h)
+
+later_events : (y : MrpEvent × ℕ) (ys : List (MrpEvent × ℕ)) → events_from y.1 (map (λ z. z.0) (y ∷ ys)) ≡ vector_events (run_vector false (y ∷ ys))
+later_events y ys = ap (λ (n : ℕ). events_from n (map (λ z. z.0) (y ∷ ys))) (sym (number_again y.1))
+
+join_events : (x : MrpEvent × ℕ) (rs : List (List (MrpEvent × ℕ))) → IsVid x.1 → run_events (join x rs) ≡ x ∷ run_events rs
+unfolding run_events
+join_events x [] h = ap (λ (es : List (MrpEvent × ℕ)). es ++ []) (first_event x [] h)
+join_events x ([] ∷ others) h = ap (λ (es : List (MrpEvent × ℕ)). es ++ run_events others) (first_event x [] h)
+join_events x ((y ∷ ys) ∷ others) h =
+    elim (cases_Bool (eqb (x.1 + 1) y.1)) [
+      | inl follows ↦ rw follows (
+          ap (λ (es : List (MrpEvent × ℕ)). es ++ run_events others) (first_event x (y ∷ ys) h)
+          ∙ ap (λ (es : List (MrpEvent × ℕ)). x ∷ (es ++ run_events others)) (ap (λ (n : ℕ). events_from n (map (λ z. z.0) (y ∷ ys))) (eqb-true (x.1 + 1) y.1 follows) ∙ later_events y ys))
+      | inr apart ↦ rw apart (ap (λ (es : List (MrpEvent × ℕ)). es ++ run_events ((y ∷ ys) ∷ others)) (first_event x [] h))
+    ]
+
+events_again : (events : List (MrpEvent × ℕ)) → AreVids events → run_events (runs events) ≡ events
+unfolding run_events
+events_again [] h = refl
+events_again (x ∷ xs) h = join_events x (runs xs) h.0 ∙ ap (λ (ys : List (MrpEvent × ℕ)). x ∷ ys) (events_again xs h.1)
+
+with_leave : (leave : Bool) (rs : List (List (MrpEvent × ℕ))) → flat_map vector_events (run_vectors leave rs) ≡ run_events rs
+unfolding run_events
+with_leave true [] = refl
+with_leave false [] = refl
+with_leave true (r ∷ rs) = refl
+with_leave false (r ∷ rs) = refl
+
+none_leave : (rs : List (List (MrpEvent × ℕ))) → list_any (λ (v : VectorAttr). v.leave_all) (map (run_vector false) rs) ≡ false
+none_leave [] = refl
+none_leave (r ∷ rs) = none_leave rs
+
+leave_again : (leave : Bool) (rs : List (List (MrpEvent × ℕ))) → list_any (λ (v : VectorAttr). v.leave_all) (run_vectors leave rs) ≡ leave
+leave_again true [] = refl
+leave_again false [] = refl
+leave_again true (r ∷ rs) = refl
+leave_again false (r ∷ rs) = none_leave rs
+
+or_no : (b : Bool) → (b || false) ≡ b
+or_no true = refl
+or_no false = refl
+
+made : Bool → List (MrpEvent × ℕ) → MvrpPdu
+made leave events = record { leave_all = leave; events = events }
+
+meaning_again : (read : MvrpPdu) → AreVids read.events → meaning (pdu_for read) ≡ read
+unfolding made
+meaning_again read h =
+    let vs = run_vectors read.leave_all (runs read.events) in
+    ap (λ (b : Bool). made b (flat_map vector_events vs ++ [])) (or_no (list_any (λ (v : VectorAttr). v.leave_all) vs) ∙ leave_again read.leave_all (runs read.events))
+    ∙ ap (λ (es : List (MrpEvent × ℕ)). made read.leave_all es) (append-nil (flat_map vector_events vs) ∙ with_leave read.leave_all (runs read.events) ∙ events_again read.events h)
+
+pub reads_again : (read : MvrpPdu) → AreVids read.events → reading Mvrp (spelling Mvrp (pdu_for read)) ≡ Ok (pdu_for read) → mvrp_reading (mvrp_spelling read) ≡ Ok read
+reads_again read h e = ap read_as e ∙ ap (λ (m : MvrpPdu). let r : Result MvrpPdu ℕ = Ok m in r) (meaning_again read h)
+
+-- ---- what can be written
+
+-- each run has an event, and no more than there are
+abbrev AreSmall : ℕ → List (List (MrpEvent × ℕ)) → Type 0
+AreSmall n rs = AllByRecursion (λ r. (0 < length r) × (length r ≤ n)) rs
+
+still_small : (m n : ℕ) (rs : List (List (MrpEvent × ℕ))) → m ≤ n → AreSmall m rs → AreSmall n rs
+still_small m n [] le h = tt
+still_small m n (r ∷ rs) le h = ((h.0.0, omega (arith, h.0.1)), still_small m n rs le h.1)
+
+join_small : (n : ℕ) (x : MrpEvent × ℕ) (rs : List (List (MrpEvent × ℕ))) → AreSmall n rs → AreSmall (suc n) (join x rs)
+join_small n x [] h = ((omega arith, omega arith), tt)
+join_small n x ([] ∷ others) h = ((omega arith, omega arith), still_small n (suc n) others (omega arith) h.1)
+join_small n x ((y ∷ ys) ∷ others) h =
+    let small = still_small n (suc n) others (omega arith) h.1 in
+    elim (cases_Bool (eqb (x.1 + 1) y.1)) [
+      | inl follows ↦ rw follows ((omega arith, omega (arith, h.0.1)), small)
+      | inr apart ↦ rw apart ((omega arith, omega arith), ((omega arith, omega (arith, h.0.1)), small))
+    ]
+
+runs_small : (events : List (MrpEvent × ℕ)) → AreSmall (length events) (runs events)
+runs_small [] = tt
+runs_small (x ∷ xs) = join_small (length xs) x (runs xs) (runs_small xs)
+
+vid_form : TypeForm
+vid_form = record { length = 2; four_packed = false }
+
+run_fits : (leave : Bool) (r : List (MrpEvent × ℕ)) → (leave || ltb 0 (length r)) ≡ true → length r ≤ 8191 → vector_fits vid_form (run_vector leave r) ≡ true
+unfolding vid_form
+run_fits leave [] some few = rw some refl
+run_fits leave (x ∷ xs) some few =
+    let n : length (map (λ y. y.0) (x ∷ xs)) ≡ length (x ∷ xs) = length-map (x ∷ xs) (λ y. y.0) in
+    and_from _ _ (and_from _ _ (and_from _ _ refl (ap (λ (k : ℕ). leave || ltb 0 k) n ∙ some)) (ap (λ (k : ℕ). leb k 8191) n ∙ le-leb (length (x ∷ xs)) 8191 few)) refl
+
+or_some : (leave : Bool) (n : ℕ) → 0 < n → (leave || ltb 0 n) ≡ true
+or_some true n h = refl
+or_some false n h = lt-ltb 0 n h
+
+all_fit : (n : ℕ) (rs : List (List (MrpEvent × ℕ))) → n ≤ 8191 → AreSmall n rs → list_all (vector_fits vid_form) (map (run_vector false) rs) ≡ true
+all_fit n [] few h = refl
+all_fit n (r ∷ rs) few h = and_from _ _ (run_fits false r (or_some false (length r) h.0.0) (omega (arith, h.0.1))) (all_fit n rs few h.1)
+
+vectors_fit : (leave : Bool) (n : ℕ) (rs : List (List (MrpEvent × ℕ))) → n ≤ 8191 → AreSmall n rs → list_all (vector_fits vid_form) (run_vectors leave rs) ≡ true
+vectors_fit true n [] few h = and_from _ _ (run_fits true [] refl (omega arith)) refl
+vectors_fit false n [] few h = refl
+vectors_fit true n (r ∷ rs) few h = and_from _ _ (run_fits true r refl (omega (arith, h.0.1))) (all_fit n rs few h.1)
+vectors_fit false n (r ∷ rs) few h = and_from _ _ (run_fits false r (or_some false (length r) h.0.0) (omega (arith, h.0.1))) (all_fit n rs few h.1)
+
+pub is_well_formed : (read : MvrpPdu) → IsWritable read → well_formed Mvrp (pdu_for read) ≡ true
+unfolding vid_form
+is_well_formed read w =
+    and_from _ _ refl (and_from _ _ (and_from _ _ (vectors_fit read.leave_all (length read.events) (runs read.events) (omega (arith, w.few)) (runs_small read.events)) refl) refl)
+
+-- ---- how many octets
+
+packed_few : (events : List MrpEvent) → length (pack_events events) ≤ length events
+packed_few [] = omega arith
+packed_few (a ∷ []) = omega arith
+packed_few (a ∷ b ∷ []) = omega arith
+packed_few (a ∷ b ∷ c ∷ events) = omega (arith, packed_few events)
+
+-- a vector has at most 4 octets, and one for each event
+run_octets : (leave : Bool) (r : List (MrpEvent × ℕ)) → length (vector_octets (vector_for (run_vector leave r))) ≤ 4 + length r
+run_octets leave [] = omega arith
+run_octets leave (x ∷ xs) =
+    let es = map (λ y. y.0) (x ∷ xs) in
+    omega (arith, length-append (pack_events es) [], packed_few es, length-map (x ∷ xs) (λ y. y.0))
+
+-- 5 octets for each event are enough
+abbrev octets_of : List (List (MrpEvent × ℕ)) → ℕ
+octets_of rs = length (vectors_octets (vectors_for (map (run_vector false) rs)))
+
+few_octets : (rs : List (List (MrpEvent × ℕ))) → AllByRecursion (λ r. 0 < length r) rs → octets_of rs ≤ 5 * length (flat_map (λ r. r) rs)
+few_octets [] h = omega arith
+few_octets (r ∷ rs) h =
+    omega (arith, length-append (vector_octets (vector_for (run_vector false r))) (vectors_octets (vectors_for (map (run_vector false) rs))), length-append r (flat_map (λ q. q) rs), run_octets false r, few_octets rs h.1, h.0)
+
+join_flat : (x : MrpEvent × ℕ) (rs : List (List (MrpEvent × ℕ))) → flat_map (λ r. r) (join x rs) ≡ x ∷ flat_map (λ r. r) rs
+join_flat x [] = refl
+join_flat x ([] ∷ others) = refl
+join_flat x ((y ∷ ys) ∷ others) =
+    elim (cases_Bool (eqb (x.1 + 1) y.1)) [
+      | inl follows ↦ rw follows refl
+      | inr apart ↦ rw apart refl
+    ]
+
+runs_flat : (events : List (MrpEvent × ℕ)) → flat_map (λ r. r) (runs events) ≡ events
+runs_flat [] = refl
+runs_flat (x ∷ xs) = join_flat x (runs xs) ∙ ap (λ (ys : List (MrpEvent × ℕ)). x ∷ ys) (runs_flat xs)
+
+some_each : (n : ℕ) (rs : List (List (MrpEvent × ℕ))) → AreSmall n rs → AllByRecursion (λ r. 0 < length r) rs
+some_each n [] h = tt
+some_each n (r ∷ rs) h = (h.0.0, some_each n rs h.1)
+
+leave_octets : (leave : Bool) (rs : List (List (MrpEvent × ℕ))) → length (vectors_octets (vectors_for (run_vectors leave rs))) ≤ octets_of rs + 4
+leave_octets true [] = omega arith
+leave_octets false [] = omega arith
+leave_octets true (r ∷ rs) = omega arith
+leave_octets false (r ∷ rs) = omega arith
+
+pub few_in_all : (read : MvrpPdu) → IsWritable read → length (mvrp_spelling read) ≤ 1500
+few_in_all read w =
+    let rs = runs read.events in
+    let vectors = vectors_octets (vectors_for (run_vectors read.leave_all rs)) in
+    omega (
+      arith,
+      w.few,
+      length-append vectors (0 ∷ 0 ∷ []),
+      length-append (vectors ++ 0 ∷ 0 ∷ []) [],
+      length-append ((vectors ++ 0 ∷ 0 ∷ []) ++ []) (0 ∷ 0 ∷ []),
+      leave_octets read.leave_all rs,
+      few_octets rs (some_each (length read.events) rs (runs_small read.events)),
+      ap length (runs_flat read.events),
+    )
+
+-- ---- what `encode` makes
+
+pub written_is : (written : Pdu) (vs : List VectorAttr) (events : List (MrpEvent × ℕ)) (read : MvrpPdu) → written ≡ one_message vs → vs ≡ run_vectors read.leave_all (runs events) → events ≡ read.events → written ≡ pdu_for read
+written_is written vs events read e f g = e ∙ ap one_message (f ∙ ap (λ (es : List (MrpEvent × ℕ)). run_vectors read.leave_all (runs es)) g)
+
+pub octets_are : (octets before after : List ℕ) (written : Pdu) (read : MvrpPdu) → octets ≡ after → after ≡ before ++ spelling Mvrp written → before ≡ [] → written ≡ pdu_for read → octets ≡ mvrp_spelling read
+octets_are octets before after written read e f g h = e ∙ f ∙ ap (λ (os : List ℕ). os ++ spelling Mvrp written) g ∙ ap (spelling Mvrp) h

@@ -1,0 +1,30 @@
+//! The VLAN identifiers that MRPDUs of MVRP carry (IEEE Std 802.1Q-2018, 11.2.3.1).
+//!
+//! ```text
+//! 000102 | 200100056c | 000200097e | 00000000
+//!
+//! decode  octets -> MvrpPdu { leave_all: true, events: [JoinMt of 5, JoinMt of 9, JoinMt of 10] },
+//!                   or Malformed at an offset, or NoMemory
+//! encode  the octets again: each maximal run of consecutive VIDs is one vector
+//! ```
+//!
+//! A MRPDU has LeaveAll where any vector of a known type has it. Its events are those of the vectors in the
+//! order of the octets; the values of a vector are consecutive VIDs, and VIDs outside 1 to 4,094 give none.
+//!
+//! `specs/Meaning` says what a PDU of `mrpdu_codec` means here (`meaning`), and what octets say: `Reads`
+//! joins them through the grammar, and `mvrp_reading` is the same as a function. `decode` is that reading.
+//! `specs/Writing` has the one spelling; what `encode` writes reads as what was written, in at most 1,500
+//! octets.
+#![tactic(auto)]
+
+mod pdu;
+mod reading;
+mod writing;
+
+pub use mrpdu_codec::DecodeErr;
+pub use pdu::MvrpPdu;
+pub use reading::{decode, reading_is_the_grammar};
+pub use writing::encode;
+
+#[cfg(test)]
+mod tests;
