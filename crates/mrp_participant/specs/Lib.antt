@@ -1,0 +1,4 @@
+pub mod Lookup
+pub mod OneRow
+pub mod Sending
+pub mod State

@@ -1,0 +1,13 @@
+//! One application's MRP participant at one port, for every application
+//! (IEEE Std 802.1Q-2018, 10.7).
+#![tactic(auto)]
+
+pub mod application;
+pub mod calls;
+pub mod lookup;
+pub mod model;
+pub mod one_row;
+
+pub use application::{MrpApp, Msgs};
+pub use model::Participant;
+pub use one_row::Row;
