@@ -1,5 +1,5 @@
 -- Rows ascending by key: the place of a key, and what `put` leaves at each key.
-use Rattle.std.proofs.Common.{◌≡◌, ℕ, zero, suc, ◌+◌, ◌<◌, ◌≤◌, Bool, true, false, if◌then◌else◌, List, [], ◌∷◌, ◌++◌, length, take, drop, get_or, refl, sym, ap, ◌∙◌, subst, arith, add-one, option_map, option_and_then}
+use Rattle.std.proofs.Common.{◌≡◌, ℕ, zero, suc, ◌+◌, ◌<◌, ◌≤◌, Bool, true, false, if◌then◌else◌, List, [], ◌∷◌, ◌++◌, length, map, fold, take, drop, drop-cons, get_or, refl, sym, ap, ◌∙◌, subst, arith, add-one, option_map, option_and_then}
 use Rattle.std.specs.declared.option.Option.{Option}
 use Rattle.std.specs.declared.option.Option.TheVariants.{None, Some}
 use Rattle.std.specs.declared.cmp.Ordering.{Ordering}
@@ -21,6 +21,10 @@ pub Each-map : {X : Type 0} (P Q : X → Type 0) → ((x : X) → P x → Q x) �
 Each-map P Q f [] h = tt
 Each-map P Q f (x ∷ xs) h = (f x h.0, Each-map P Q f xs h.1)
 
+pub Each-mapped : {X Y : Type 0} (P : X → Type 0) (Q : Y → Type 0) (f : X → Y) → ((x : X) → P x → Q (f x)) → (xs : List X) → Each P xs → Each Q (map f xs)
+Each-mapped P Q f step [] h = tt
+Each-mapped P Q f step (x ∷ xs) h = (step x h.0, Each-mapped P Q f step xs h.1)
+
 pub Each-cons_option : {X : Type 0} (P : X → Type 0) (new : Option X) (xs : List X) → ((x : X) → new ≡ Some x → P x) → Each P xs → Each P (cons_option new xs)
 Each-cons_option P None xs n h = h
 Each-cons_option P (Some x) xs n h = (n x refl, h)
@@ -29,6 +33,12 @@ pub Each-at : {X : Type 0} (P : X → Type 0) (xs : List X) → Each P xs → (i
 Each-at P [] h i d below = absurd (omega arith)
 Each-at P (x ∷ xs) h zero d below = h.0
 Each-at P (x ∷ xs) h (suc i) d below = Each-at P xs h.1 i d (omega arith)
+
+-- ---- a loop that folds a list
+
+pub fold-step : {A B : Type 0} (f : B → A → B) (start at : B) (xs : List A) (i : ℕ) (x : A) → i < length xs → x ≡ get_or xs i x → fold f start xs ≡ fold f at (drop i xs) → fold f start xs ≡ fold f (f at x) (drop (i + 1) xs)
+fold-step f start at xs i x below is h =
+    rw (add-one i) (h ∙ ap (fold f at) (drop-cons xs i x below ∙ ap (λ y. y ∷ drop (suc i) xs) (sym is)))
 
 -- a key below another is not the same, seen from the other
 pub above_is_not_same : {K : Type 0} {cmp : K → K → Ordering} → IsTotalOrder cmp → (a b : K) → cmp a b ≡ Less → same cmp b a ≡ false

@@ -1,5 +1,5 @@
 -- Each event keeps a row's key, and leaves no row of which nothing is kept.
-use Rattle.std.proofs.Common.{◌≡◌, Bool, true, false, not, ◌||◌, if◌then◌else◌, refl, sym, ap, ◌∙◌, subst, List, OnOk, OnErr}
+use Rattle.std.proofs.Common.{◌≡◌, Bool, true, false, not, ◌||◌, if◌then◌else◌, refl, sym, ap, ◌∙◌, subst, List, [], ◌∷◌, map, OnOk, OnErr}
 use Rattle.std.specs.declared.option.Option.{Option}
 use Rattle.std.specs.declared.option.Option.TheVariants.{None, Some}
 use Rattle.std.specs.declared.cmp.Ordering.{Ordering}
@@ -23,9 +23,9 @@ use Rattle.mrp_participant.specs.declared.one_row.Row.{Row}
 use Rattle.mrp_participant.specs.OneRow.{is_live, is_in, applicant_takes, registrar_takes, with_heard, leave_all_row, periodic_row, kept_row, fresh_row, declared_row, with_applicant, left_row, heard_row, after_declare, after_withdraw, after_leave, after_hear, is_observer}
 use Rattle.std.specs.declared.result.Result.{Result}
 use Rattle.std.specs.declared.result.Result.TheVariants.{Ok, Err}
-use Rattle.mrp_participant.specs.Lookup.{find, put}
+use Rattle.mrp_participant.specs.Lookup.{Ascends, key_of, find, put}
 use Rattle.mrp_participant.specs.State.{AreRows}
-use Rattle.mrp_participant.proofs.Lookups.{Fits, AreRows-put, find-fits}
+use Rattle.mrp_participant.proofs.Lookups.{Fits, AreRows-put, find-fits, Each-mapped}
 
 module _ {K C : Type 0} where
   -- ---- declaring
@@ -199,3 +199,22 @@ module _ {K C : Type 0} {cmp : K → K → Ordering} (o : IsTotalOrder cmp) wher
 pub AreRows-either : {K C X E : Type 0} (cmp : K → K → Ordering) (r : Result X E) (new then_rows old : List (Row K C)) → OnOk r (new ≡ then_rows) → OnErr r (new ≡ old) → AreRows cmp then_rows → AreRows cmp old → AreRows cmp new
 AreRows-either cmp (Ok x) new then_rows old ok err after before = subst (AreRows cmp) (sym ok) after
 AreRows-either cmp (Err x) new then_rows old ok err after before = subst (AreRows cmp) (sym err) before
+
+-- ---- an event at every row
+
+module _ {K C : Type 0} where
+  Ascends-mapped : (cmp : K → K → Ordering) (f : Row K C → Row K C) → ((r : Row K C) → (f r).key ≡ r.key) → (rows : List (Row K C)) → Ascends cmp key_of rows → Ascends cmp key_of (map f rows)
+  Ascends-mapped cmp f keeps [] up = tt
+  Ascends-mapped cmp f keeps (r ∷ rows) up =
+      (Each-mapped (λ y. cmp r.key y.key ≡ Less) (λ y. cmp (f r).key y.key ≡ Less) f (λ y h. rw (keeps r, keeps y) h) rows up.0, Ascends-mapped cmp f keeps rows up.1)
+
+  pub AreRows-mapped : (cmp : K → K → Ordering) (f : Row K C → Row K C) → ((r : Row K C) → (f r).key ≡ r.key) → ((r : Row K C) → is_live r ≡ true → is_live (f r) ≡ true) → (rows : List (Row K C)) → AreRows cmp rows → AreRows cmp (map f rows)
+  AreRows-mapped cmp f keeps lives rows are =
+      (Ascends-mapped cmp f keeps rows are.0, Each-mapped (λ r. is_live r ≡ true) (λ r. is_live r ≡ true) f lives rows are.1)
+
+  pub AreRows-leave_all : (cmp : K → K → Ordering) (leave : Cs) (rows : List (Row K C)) (leave_all : Bool) → AreRows cmp rows → AreRows cmp (if leave_all then map (leave_all_row leave) rows else rows)
+  AreRows-leave_all cmp leave rows true are = AreRows-mapped cmp (leave_all_row leave) (λ r. refl) (leave_all-live leave) rows are
+  AreRows-leave_all cmp leave rows false are = are
+
+  pub AreRows-periodic : (cmp : K → K → Ordering) (rows : List (Row K C)) → AreRows cmp rows → AreRows cmp (map periodic_row rows)
+  AreRows-periodic cmp rows are = AreRows-mapped cmp periodic_row (λ r. refl) periodic-live rows are

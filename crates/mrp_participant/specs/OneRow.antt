@@ -126,6 +126,13 @@ abbrev pub registered_in : {K C : Type 0} → Option (Row K C) → Option C
 registered_in None = None
 registered_in (Some r) = if registrar.is_registered_in r.registrar then Some r.heard else None
 
+-- whether two keys' registered contents are the same, or none is
+abbrev pub same_content : {C : Type 0} → (C → C → Bool) → Option C → Option C → Bool
+same_content eq None None = true
+same_content eq None (Some b) = false
+same_content eq (Some a) None = false
+same_content eq (Some a) (Some b) = eq a b
+
 -- what is declared of a key: the content that was declared last, in each state but VO and LA
 abbrev pub declared_in : {K C : Type 0} → Option (Row K C) → Option C
 declared_in None = None

@@ -13,7 +13,7 @@ use Rattle.leaveall.specs.declared.Periodic.{Periodic}
 use Rattle.leaveall.specs.Table as leaveall
 use Rattle.mrp_participant.specs.declared.one_row.Row.{Row}
 use Rattle.mrp_participant.specs.Lookup.{Each, Ascends, key_of, find, put}
-use Rattle.mrp_participant.specs.OneRow.{is_live, after_declare, after_withdraw, after_leave, after_hear, leave_all_row, registered_in, leave_is_due, after_leave_due, periodic_row, is_settled}
+use Rattle.mrp_participant.specs.OneRow.{is_live, after_declare, after_withdraw, after_leave, after_hear, leave_all_row, registered_in, same_content, leave_is_due, after_leave_due, periodic_row, is_settled}
 use Rattle.mrp_participant.specs.Sending.{is_taken, is_tried, sent_row, sent_event}
 
 -- the rows ascending by key, the LeaveAll machine with the moment of its timer and its period, the time
@@ -43,13 +43,6 @@ IsTime t = (1 ≤ t.0) × (t.0 ≤ 10000)
 abbrev pub is_active : LeaveAll → Bool
 is_active Active = true
 is_active Passive = false
-
--- whether two keys' registered contents are the same, or none is
-abbrev pub same_content : {C : Type 0} → (C → C → Bool) → Option C → Option C → Bool
-same_content eq None None = true
-same_content eq None (Some b) = false
-same_content eq (Some a) None = false
-same_content eq (Some a) (Some b) = eq a b
 
 -- the periodic machine after it has fired
 abbrev pub rearmed : Cs → Periodic → Periodic

@@ -7,6 +7,7 @@ pub mod calls;
 pub mod lookup;
 pub mod model;
 pub mod one_row;
+pub mod receive;
 
 pub use application::{MrpApp, Msgs};
 pub use model::Participant;
