@@ -13,8 +13,8 @@
 //! received LeaveAll; it is kept by the participant. `Periodic` keeps its own next moment.
 #![tactic(auto)]
 
-ghost use Rattle.std.specs.Prelude.{◌≡◌, ℕ, ◌+◌, ◌*◌, ◌/◌, ◌%◌, ◌^◌, ◌<◌, ◌≤◌, ◌↔◌, IsTrue};
-ghost use Rattle.leaveall.specs.Table.{table, hundred_after};
+ghost use Rattle.std.specs.Prelude.{◌≡◌, ℕ, ◌+◌, ◌*◌, ◌/◌, ◌%◌, ◌^◌, ◌<◌, ◌≤◌};
+ghost use Rattle.leaveall.specs.Table.{table, is_due, hundred_after};
 
 use srp_base::Cs;
 
@@ -55,7 +55,7 @@ pub struct Periodic {
 impl Periodic {
     /// Whether the machine is on and its next moment is at or before `now`.
     pub fn due(&self, now: Cs) -> bool
-        ensures { IsTrue result ↔ (IsTrue self.now.on × (self.now.next.0 ≤ now.0)) }
+        ensures { result ≡ is_due now.0 self.now }
     {
         self.on && self.next.0 <= now.0
     }

@@ -1,5 +1,5 @@
 -- Each event keeps a row's key, and leaves no row of which nothing is kept.
-use Rattle.std.proofs.Common.{◌≡◌, Bool, true, false, not, ◌||◌, if◌then◌else◌, refl, sym, ap, ◌∙◌, subst, List, [], ◌∷◌, map, OnOk, OnErr}
+use Rattle.std.proofs.Common.{◌≡◌, ℕ, Bool, true, false, not, ◌||◌, if◌then◌else◌, refl, sym, ap, ◌∙◌, subst, List, [], ◌∷◌, map, OnOk, OnErr}
 use Rattle.std.specs.declared.option.Option.{Option}
 use Rattle.std.specs.declared.option.Option.TheVariants.{None, Some}
 use Rattle.std.specs.declared.cmp.Ordering.{Ordering}
@@ -17,15 +17,16 @@ use Rattle.registrar.specs.declared.Registrar.TheVariants.{Held, Leaving, Empty}
 use Rattle.applicant.specs.declared.AppEvent.{AppEvent}
 use Rattle.applicant.specs.declared.AppEvent.TheVariants.{RxIn, RxMt, RxLv as AppRxLv, RxLeaveAll as AppRxLeaveAll, Periodic}
 use Rattle.registrar.specs.declared.RegEvent.{RegEvent}
-use Rattle.registrar.specs.declared.RegEvent.TheVariants.{RxNew, RxJoin, RxLv as RegRxLv, RxLeaveAll as RegRxLeaveAll, TxLeaveAll}
+use Rattle.registrar.specs.declared.RegEvent.TheVariants.{RxNew, RxJoin, RxLv as RegRxLv, RxLeaveAll as RegRxLeaveAll, TxLeaveAll, LeaveTimer}
 use Rattle.registrar.specs.Table as registrar
+use Rattle.std.specs.List.{filter_map, cons_option}
 use Rattle.mrp_participant.specs.declared.one_row.Row.{Row}
-use Rattle.mrp_participant.specs.OneRow.{is_live, is_in, applicant_takes, registrar_takes, with_heard, leave_all_row, periodic_row, kept_row, fresh_row, declared_row, with_applicant, left_row, heard_row, after_declare, after_withdraw, after_leave, after_hear, is_observer}
+use Rattle.mrp_participant.specs.OneRow.{is_live, leave_is_due, after_leave_due, is_in, applicant_takes, registrar_takes, with_heard, leave_all_row, periodic_row, kept_row, fresh_row, declared_row, with_applicant, left_row, heard_row, after_declare, after_withdraw, after_leave, after_hear, is_observer}
 use Rattle.std.specs.declared.result.Result.{Result}
 use Rattle.std.specs.declared.result.Result.TheVariants.{Ok, Err}
-use Rattle.mrp_participant.specs.Lookup.{Ascends, key_of, find, put}
+use Rattle.mrp_participant.specs.Lookup.{Each, Ascends, key_of, find, put}
 use Rattle.mrp_participant.specs.State.{AreRows}
-use Rattle.mrp_participant.proofs.Lookups.{Fits, AreRows-put, find-fits, Each-mapped}
+use Rattle.mrp_participant.proofs.Lookups.{Fits, AreRows-put, find-fits, Each-mapped, Each-cons_option}
 
 module _ {K C : Type 0} where
   -- ---- declaring
@@ -218,3 +219,50 @@ module _ {K C : Type 0} where
 
   pub AreRows-periodic : (cmp : K → K → Ordering) (rows : List (Row K C)) → AreRows cmp rows → AreRows cmp (map periodic_row rows)
   AreRows-periodic cmp rows are = AreRows-mapped cmp periodic_row (λ r. refl) periodic-live rows are
+
+-- ---- rows that go where an event leaves nothing of them
+
+module _ {K C : Type 0} where
+  pub record Keeps (f : Row K C → Option (Row K C)) : Type 0 where
+    pub key : (r s : Row K C) → f r ≡ Some s → s.key ≡ r.key
+    pub lives : (r s : Row K C) → is_live r ≡ true → f r ≡ Some s → is_live s ≡ true
+
+  Each-filter_mapped : (P : Row K C → Type 0) (f : Row K C → Option (Row K C)) → ((r s : Row K C) → P r → f r ≡ Some s → P s) → (rows : List (Row K C)) → Each P rows → Each P (filter_map f rows)
+  Each-filter_mapped P f step [] h = tt
+  Each-filter_mapped P f step (r ∷ rows) h = Each-cons_option P (f r) (filter_map f rows) (λ s e. step r s h.0 e) (Each-filter_mapped P f step rows h.1)
+
+  Ascends-consed : (cmp : K → K → Ordering) (new : Option (Row K C)) (rows : List (Row K C)) → ((s : Row K C) → new ≡ Some s → Each (λ y. cmp s.key y.key ≡ Less) rows) → Ascends cmp key_of rows → Ascends cmp key_of (cons_option new rows)
+  Ascends-consed cmp None rows above up = up
+  Ascends-consed cmp (Some s) rows above up = (above s refl, up)
+
+  Ascends-filter_mapped : (cmp : K → K → Ordering) (f : Row K C → Option (Row K C)) → Keeps f → (rows : List (Row K C)) → Ascends cmp key_of rows → Ascends cmp key_of (filter_map f rows)
+  Ascends-filter_mapped cmp f keeps [] up = tt
+  Ascends-filter_mapped cmp f keeps (r ∷ rows) up =
+      Ascends-consed cmp (f r) (filter_map f rows)
+      (λ s e. Each-filter_mapped (λ y. cmp s.key y.key ≡ Less) f (λ a b h e. subst (λ k. cmp s.key k ≡ Less) (sym (keeps.key a b e)) h) rows (subst (λ k. Each (λ y. cmp k y.key ≡ Less) rows) (sym (keeps.key r s e)) up.0))
+      (Ascends-filter_mapped cmp f keeps rows up.1)
+
+  pub AreRows-filter_mapped : (cmp : K → K → Ordering) (f : Row K C → Option (Row K C)) → Keeps f → (rows : List (Row K C)) → AreRows cmp rows → AreRows cmp (filter_map f rows)
+  AreRows-filter_mapped cmp f keeps rows are = (Ascends-filter_mapped cmp f keeps rows are.0, Each-filter_mapped (λ r. is_live r ≡ true) f keeps.lives rows are.1)
+
+  -- a row that is kept only where something is left of it
+  kept-is_by : (r s : Row K C) (b : Bool) → is_live r ≡ b → (if b then Some r else None) ≡ Some s → (s ≡ r) × (is_live s ≡ true)
+  kept-is_by r s true live e = let same_row : r ≡ s = cc in (sym same_row, subst (λ x. is_live x ≡ true) same_row live)
+  kept-is_by r s false live e = cc
+
+  pub kept-is : (r s : Row K C) → kept_row r ≡ Some s → (s ≡ r) × (is_live s ≡ true)
+  kept-is r s e = kept-is_by r s (is_live r) refl e
+
+  due-key : (r s : Row K C) (b : Bool) → (if b then left_row r else Some r) ≡ Some s → s.key ≡ r.key
+  due-key r s true e = ap key_of (kept-is (record r { registrar = registrar.next LeaveTimer r.registrar }) s e).0
+  due-key r s false e = let same_row : r ≡ s = cc in ap key_of (sym same_row)
+
+  due-live : (r s : Row K C) (b : Bool) → is_live r ≡ true → (if b then left_row r else Some r) ≡ Some s → is_live s ≡ true
+  due-live r s true live e = (kept-is (record r { registrar = registrar.next LeaveTimer r.registrar }) s e).1
+  due-live r s false live e = let same_row : r ≡ s = cc in subst (λ x. is_live x ≡ true) same_row live
+
+  pub due-keeps : (now : ℕ) → Keeps (after_leave_due now)
+  due-keeps now = record {
+    key = λ r s e. due-key r s (leave_is_due now r) e;
+    lives = λ r s live e. due-live r s (leave_is_due now r) live e;
+  }

@@ -107,7 +107,7 @@ module _ {K C : Type 0} where
 
   -- whether the periodic machine is on and due, after its event at every row, and after it has fired
   abbrev pub is_periodic_due : Cs → State K C → Bool
-  is_periodic_due now s = s.periodic.on && nat_le s.periodic.next.0 now.0
+  is_periodic_due now s = leaveall.is_due now.0 s.periodic
 
   abbrev pub periodic_state : State K C → State K C
   periodic_state s = with_rows (map periodic_row s.rows) s
