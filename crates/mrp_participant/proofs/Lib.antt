@@ -1,2 +1,3 @@
 pub mod Lookups
+pub mod Rooms
 pub mod Transitions

@@ -71,10 +71,10 @@ is_taken base octets cmp leave_all rows r =
     is_tried leave_all r && nat_le (base + octets_of octets (up_to cmp r.key (order leave_all rows))) 1500
 
 -- the chance to send that a row's applicant gets: without LeaveAll only a taken row gets one; with
--- LeaveAll those that are tried and not taken find no room
-abbrev pub chance : {K C : Type 0} → Bool → (Row K C → Bool) → Row K C → Option AppEvent
-chance true taken r = Some (if is_tried true r && not (taken r) then TxLeaveAllFull else TxLeaveAll)
-chance false taken r = if taken r then Some Tx else None
+-- LeaveAll a row that is tried and not taken finds no room
+abbrev pub chance : {K C : Type 0} → Bool → Bool → Row K C → Option AppEvent
+chance true taken r = Some (if is_tried true r && not taken then TxLeaveAllFull else TxLeaveAll)
+chance false taken r = if taken then Some Tx else None
 
 -- the row as it stands when its applicant gets its chance: with LeaveAll, TxLeaveAll goes to every
 -- registrar first
@@ -87,8 +87,8 @@ abbrev pub row_after : {K C : Type 0} → Option AppEvent → Row K C → Option
 row_after None r = Some r
 row_after (Some event) r = kept_row (applicant_takes event r)
 
--- a row after sending, given which rows are taken
-abbrev pub sent_row : {K C : Type 0} → Bool → (Row K C → Bool) → Cs → Row K C → Option (Row K C)
+-- a row after sending, where it is taken or not
+abbrev pub sent_row : {K C : Type 0} → Bool → Bool → Cs → Row K C → Option (Row K C)
 sent_row leave_all taken leave r = row_after (chance leave_all taken r) (before_chance leave_all leave r)
 
 -- what is written for what an applicant says: a Join is JoinIn where the row's own registrar is IN
@@ -99,15 +99,15 @@ written SayJoin held = Some (if held then JoinIn else JoinMt)
 written SayLv held = Some Lv
 
 -- the event of a row with its key and the declared content
-abbrev pub event_of : {K C : Type 0} → Option MrpEvent → Row K C → Option (MrpEvent × K × C)
-event_of None r = None
-event_of (Some e) r = Some (e, r.key, r.content)
+abbrev pub event_of : {K C : Type 0} → Row K C → Option MrpEvent → Option (MrpEvent × K × C)
+event_of r None = None
+event_of r (Some e) = Some (e, r.key, r.content)
 
 -- what a row says at a chance
 abbrev pub said_at : {K C : Type 0} → Option AppEvent → Row K C → Option (MrpEvent × K × C)
 said_at None r = None
-said_at (Some event) r = event_of (written (applicant.said event (is_in r.registrar) r.applicant) (is_in r.registrar)) r
+said_at (Some event) r = event_of r (written (applicant.said event (is_in r.registrar) r.applicant) (is_in r.registrar))
 
--- what a row says in the PDU, given which rows are taken
-abbrev pub sent_event : {K C : Type 0} → Bool → (Row K C → Bool) → Cs → Row K C → Option (MrpEvent × K × C)
+-- what a row says in the PDU, where it is taken or not
+abbrev pub sent_event : {K C : Type 0} → Bool → Bool → Cs → Row K C → Option (MrpEvent × K × C)
 sent_event leave_all taken leave r = said_at (chance leave_all taken r) (before_chance leave_all leave r)

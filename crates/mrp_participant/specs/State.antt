@@ -138,15 +138,21 @@ module _ {K C : Type 0} where
   abbrev pub is_silent : State K C → Bool
   is_silent s = not (is_active s.leave_all) && list_all (λ r. not (is_tried false r)) s.rows
 
-  -- what is sent, and after it: the LeaveAll machine gets Tx, and a LeaveAll makes the participant sound
+  -- which rows are taken into the PDU
+  abbrev pub takes : ℕ → (C → ℕ) → (K → K → Ordering) → State K C → Row K C → Bool
+  takes base octets cmp s = is_taken base octets cmp (is_active s.leave_all) s.rows
+
+  -- the events of the PDU, ascending by key
   abbrev pub sent_events : ℕ → (C → ℕ) → (K → K → Ordering) → Cs → State K C → List (MrpEvent × K × C)
   sent_events base octets cmp now s =
-      filter_map (sent_event (is_active s.leave_all) (is_taken base octets cmp (is_active s.leave_all) s.rows) (after now s.leave_time)) s.rows
+      filter_map (λ r. sent_event (is_active s.leave_all) (takes base octets cmp s r) (after now s.leave_time) r) s.rows
 
+  -- the rows after sending
   abbrev pub sent_rows : ℕ → (C → ℕ) → (K → K → Ordering) → Cs → State K C → List (Row K C)
   sent_rows base octets cmp now s =
-      filter_map (sent_row (is_active s.leave_all) (is_taken base octets cmp (is_active s.leave_all) s.rows) (after now s.leave_time)) s.rows
+      filter_map (λ r. sent_row (is_active s.leave_all) (takes base octets cmp s r) (after now s.leave_time) r) s.rows
 
+  -- after sending: the LeaveAll machine gets Tx, and a LeaveAll makes the participant sound
   abbrev pub sent_state : ℕ → (C → ℕ) → (K → K → Ordering) → Cs → State K C → State K C
   sent_state base octets cmp now s =
       record s { rows = sent_rows base octets cmp now s; leave_all = leaveall.table Tx s.leave_all; sound = is_active s.leave_all || s.sound }

@@ -8,6 +8,7 @@ pub mod lookup;
 pub mod model;
 pub mod one_row;
 pub mod receive;
+pub mod room;
 pub mod timers;
 
 pub use application::{MrpApp, Msgs};

@@ -3,8 +3,9 @@
 ghost use Rattle.std.specs.Prelude.{◌≡◌};
 ghost use Rattle.applicant.specs.Table.{withdraw_of};
 ghost use Rattle.mrp_participant.specs.OneRow.{is_live, kept_row, applicant_takes, registrar_takes, with_applicant, fresh_row, declared_row, left_row, leave_all_row, with_heard, heard_row, makes_row, registered_in, declared_in, leave_is_due, after_leave_due, periodic_row, is_settled};
+ghost use Rattle.mrp_participant.specs.Sending.{round, is_tried, chance, before_chance, row_after, said_at, written, sent_row, sent_event};
 
-use applicant::{AppEvent, Applicant};
+use applicant::{AppEvent, Applicant, Say};
 use registrar::{RegEvent, Registrar};
 use srp_base::{Cs, MrpEvent};
 
@@ -186,6 +187,102 @@ impl<K: Copy, C: Copy> Row<K, C> {
         ensures { result ≡ periodic_row self }
     {
         self.applicant_takes(AppEvent::Periodic)
+    }
+
+    /// Whether the row is tried when the participant may send.
+    pub(crate) fn is_tried(&self, leave_all: bool) -> bool
+        ensures { result ≡ is_tried leave_all self.now }
+    {
+        round(leave_all, self.applicant) != 0
+    }
+
+    /// The chance to send that the row's Applicant gets.
+    fn chance(&self, leave_all: bool, taken: bool) -> Option<AppEvent>
+        ensures { result ≡ chance leave_all taken self.now }
+    {
+        if !leave_all {
+            return if taken { Some(AppEvent::Tx) } else { None };
+        }
+        if self.is_tried(true) && !taken {
+            Some(AppEvent::TxLeaveAllFull)
+        } else {
+            Some(AppEvent::TxLeaveAll)
+        }
+    }
+
+    /// The row as it stands when its Applicant gets its chance.
+    fn before_chance(self, leave_all: bool, leave: Cs) -> Row<K, C>
+        ensures { result ≡ before_chance leave_all leave self }
+    {
+        if leave_all { self.registrar_takes(RegEvent::TxLeaveAll, leave) } else { self }
+    }
+
+    /// The row after a chance.
+    fn after_chance(self, chance: Option<AppEvent>) -> Option<Row<K, C>>
+        ensures { result ≡ row_after chance self }
+    {
+        match chance {
+            None => Some(self),
+            Some(event) => self.applicant_takes(event).kept(),
+        }
+    }
+
+    /// What the row says at a chance.
+    fn said_at(self, chance: Option<AppEvent>) -> Option<(MrpEvent, K, C)>
+        ensures { result ≡ said_at chance self }
+    {
+        match chance {
+            None => None,
+            Some(event) => {
+                let held = self.registrar == Registrar::Held;
+                let (_, say) = self.applicant.step(event, held);
+                match written(say, held) {
+                    None => None,
+                    Some(event) => Some((event, self.key, self.content)),
+                }
+            }
+        }
+    }
+
+    /// The row after sending, or none where nothing is kept any more.
+    pub(crate) fn sent(self, leave_all: bool, taken: bool, leave: Cs) -> Option<Row<K, C>>
+        ensures { result ≡ sent_row leave_all taken leave self }
+    {
+        let chance = self.chance(leave_all, taken);
+        self.before_chance(leave_all, leave).after_chance(chance)
+    }
+
+    /// What the row says in the PDU.
+    pub(crate) fn says(self, leave_all: bool, taken: bool, leave: Cs) -> Option<(MrpEvent, K, C)>
+        ensures { result ≡ sent_event leave_all taken leave self }
+    {
+        let chance = self.chance(leave_all, taken);
+        self.before_chance(leave_all, leave).said_at(chance)
+    }
+}
+
+/// What is written for what an Applicant says.
+fn written(say: Say, held: bool) -> Option<MrpEvent>
+    ensures { result ≡ written say held }
+{
+    match say {
+        Say::Quiet => None,
+        Say::New => Some(MrpEvent::New),
+        Say::Join => Some(if held { MrpEvent::JoinIn } else { MrpEvent::JoinMt }),
+        Say::Lv => Some(MrpEvent::Lv),
+    }
+}
+
+/// The round in which a row with this Applicant is tried, or 0.
+pub(crate) fn round(leave_all: bool, applicant: Applicant) -> u8
+    ensures { result ≡ round leave_all applicant }
+{
+    match applicant {
+        Applicant::Vo => 0,
+        Applicant::Vp | Applicant::Vn => 1,
+        Applicant::An | Applicant::Aa => 2,
+        Applicant::Qa => if leave_all { 3 } else { 0 },
+        Applicant::La => if leave_all { 0 } else { 1 },
     }
 }
 
