@@ -1,3 +1,4 @@
 pub mod Lookups
 pub mod Rooms
+pub mod Sendings
 pub mod Transitions

@@ -12,6 +12,9 @@ use Rattle.std.proofs.lemmas.Cmp.{alike_right, tied_back, tied_itself}
 use Rattle.std.proofs.lemmas.List.Sums.{sum_by-cons}
 use Rattle.std.proofs.Common.{eqb-true, eq-eqb}
 use Rattle.std.proofs.lemmas.Bool.Decides.{nat_tests}
+use Rattle.std.specs.List.{filter_map, cons_option}
+use Rattle.applicant.specs.declared.Applicant.{Applicant}
+use Rattle.applicant.specs.declared.Applicant.TheVariants.{Vo, Vp, Vn, An, Aa, Qa, La}
 use Rattle.mrp_participant.specs.declared.one_row.Row.{Row}
 use Rattle.mrp_participant.specs.declared.room.Cut.{Cut}
 use Rattle.mrp_participant.specs.Lookup.{Each, Ascends, key_of, same, find}
@@ -144,6 +147,21 @@ earlier_by a b c h = grind (arith, nat_tests)
 together_by : (a b : ℕ) (c : Bool) → a ≡ b → c ≡ true → (nat_lt a b || (a == b && c)) ≡ true
 together_by a b c h k = grind (arith, nat_tests)
 
+rounds_are : (a : Bool) (b : Applicant) → not (round a b == 0) ≡ true → (round a b ≡ 1) ⊎ ((round a b ≡ 2) ⊎ (round a b ≡ 3))
+rounds_are a Vo h = elim a as (λ a. not (round a Vo == 0) ≡ true → (round a Vo ≡ 1) ⊎ ((round a Vo ≡ 2) ⊎ (round a Vo ≡ 3))) [ true ↦ λ h. cc | false ↦ λ h. cc ] h
+rounds_are true Vp h = inl refl
+rounds_are false Vp h = inl refl
+rounds_are true Vn h = inl refl
+rounds_are false Vn h = inl refl
+rounds_are true An h = inr (inl refl)
+rounds_are false An h = inr (inl refl)
+rounds_are true Aa h = inr (inl refl)
+rounds_are false Aa h = inr (inl refl)
+rounds_are true Qa h = inr (inr refl)
+rounds_are false Qa h = cc
+rounds_are true La h = cc
+rounds_are false La h = inl refl
+
 module _ {K C : Type 0} {cmp : K → K → Ordering} (o : IsTotalOrder cmp) (leave_all : Bool) (octets : C → ℕ) where
   -- a row is tried before another, and has another key
   abbrev pub Ahead : Row K C → Row K C → Type 0
@@ -236,3 +254,28 @@ module _ {K C : Type 0} {cmp : K → K → Ordering} (o : IsTotalOrder cmp) (lea
     after_first : (x y : Row K C) → In x (rows_of_round leave_all 1 rows) → In y (rows_of_round leave_all 2 rows) ⊎ In y (rows_of_round leave_all 3 rows) → Ahead x y
     after_first x y at (inl bt) = apart rows up x y 1 2 (omega arith) at bt
     after_first x y at (inr bt) = apart rows up x y 1 3 (omega arith) at bt
+
+  -- ---- the rows before the cut are those that are taken
+
+  in_round : (n : ℕ) (r : Row K C) (rows : List (Row K C)) → round leave_all r.applicant ≡ n → In r rows → In r (rows_of_round leave_all n rows)
+  in_round n r rows e at = In-filter (λ x. round leave_all x.applicant == n) r rows (eq-eqb (round leave_all r.applicant) n e) at
+
+  pub in_order : (r : Row K C) (rows : List (Row K C)) → is_tried leave_all r ≡ true → In r rows → In r (order leave_all rows)
+  in_order r rows tried at = place (rounds_are leave_all r.applicant tried)
+    where
+    place : (round leave_all r.applicant ≡ 1) ⊎ ((round leave_all r.applicant ≡ 2) ⊎ (round leave_all r.applicant ≡ 3)) → In r (order leave_all rows)
+    place (inl e) = In-left r (rows_of_round leave_all 1 rows) (rows_of_round leave_all 2 rows ++ rows_of_round leave_all 3 rows) (in_round 1 r rows e at)
+    place (inr (inl e)) = In-right r (rows_of_round leave_all 1 rows) (rows_of_round leave_all 2 rows ++ rows_of_round leave_all 3 rows) (In-left r (rows_of_round leave_all 2 rows) (rows_of_round leave_all 3 rows) (in_round 2 r rows e at))
+    place (inr (inr e)) = In-right r (rows_of_round leave_all 1 rows) (rows_of_round leave_all 2 rows ++ rows_of_round leave_all 3 rows) (In-right r (rows_of_round leave_all 2 rows) (rows_of_round leave_all 3 rows) (in_round 3 r rows e at))
+
+  in_room_by : (base : ℕ) (rows : List (Row K C)) (r : Row K C) (b : Bool) → is_tried leave_all r ≡ b → Ascends cmp key_of rows → In r rows → (b && is_before cmp leave_all (first_cut leave_all octets base (order leave_all rows)) r) ≡ (b && nat_le (base + octets_of octets (up_to cmp r.key (order leave_all rows))) 1500)
+  in_room_by base rows r true tried up at = sym (fits_before base (order leave_all rows) r (lined_order rows up) (in_order r rows tried at))
+  in_room_by base rows r false tried up at = refl
+
+  pub in_room : (base : ℕ) (rows : List (Row K C)) (r : Row K C) → Ascends cmp key_of rows → In r rows → is_in_room cmp leave_all (first_cut leave_all octets base (order leave_all rows)) r ≡ is_taken base octets cmp leave_all rows r
+  in_room base rows r up at = in_room_by base rows r (is_tried leave_all r) refl up at
+
+-- what a function makes of a list depends on what it makes of its elements
+pub filter_map-same : {X Y : Type 0} (f g : X → Option Y) (xs : List X) → ((x : X) → In x xs → f x ≡ g x) → filter_map f xs ≡ filter_map g xs
+filter_map-same f g [] same_at = refl
+filter_map-same f g (x ∷ xs) same_at = ap (λ y. cons_option y (filter_map f xs)) (same_at x (inl refl)) ∙ ap (cons_option (g x)) (filter_map-same f g xs (λ y at. same_at y (inr at)))

@@ -133,10 +133,13 @@ module _ {K C : Type 0} where
   abbrev pub due_count : Cs → State K C → ℕ
   due_count now s = length (left_keys now s) + ((if is_leave_all_due now s then 1 else 0) + (if is_periodic_due now s then 1 else 0))
 
-  -- whether a LeaveAll is to be sent, and whether nothing is to be said: no row is VP, VN, AN, AA or LA,
-  -- and LeaveAll is Passive
+  -- whether no row is VP, VN, AN, AA or LA
+  abbrev pub none_tried : List (Row K C) → Bool
+  none_tried rows = list_all (λ r. not (is_tried false r)) rows
+
+  -- whether nothing is to be said: no row is tried, and LeaveAll is Passive
   abbrev pub is_silent : State K C → Bool
-  is_silent s = not (is_active s.leave_all) && list_all (λ r. not (is_tried false r)) s.rows
+  is_silent s = not (is_active s.leave_all) && none_tried s.rows
 
   -- which rows are taken into the PDU
   abbrev pub takes : ℕ → (C → ℕ) → (K → K → Ordering) → State K C → Row K C → Bool

@@ -9,6 +9,7 @@ pub mod model;
 pub mod one_row;
 pub mod receive;
 pub mod room;
+pub mod sending;
 pub mod timers;
 
 pub use application::{MrpApp, Msgs};
