@@ -1,3 +1,4 @@
+pub mod EachKey
 pub mod Lookups
 pub mod Rooms
 pub mod Sendings

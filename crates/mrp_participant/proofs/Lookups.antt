@@ -7,7 +7,7 @@ use Rattle.std.specs.declared.cmp.Ordering.TheVariants.{Less, Equal, Greater}
 use Rattle.std.specs.Ordering.{is_eq, is_lt, ordering_index, ordering_reverse}
 use Rattle.std.specs.Cmp.{IsTotalOrder}
 use Rattle.std.proofs.lemmas.Cmp.{alike_right, tied_back, tied_itself}
-use Rattle.std.specs.List.{cons_option, AllWithin}
+use Rattle.std.specs.List.{cons_option, filter_map, AllWithin}
 use Rattle.std.specs.List.Sorted.{IsPartitionPoint, IsNonDecreasingBy, IsSortedBy}
 use Rattle.std.proofs.lemmas.List.Sorted.{searchable_from_sorted}
 use Rattle.mrp_participant.specs.declared.one_row.Row.{Row}
@@ -28,6 +28,22 @@ Each-mapped P Q f step (x ∷ xs) h = (step x h.0, Each-mapped P Q f step xs h.1
 pub Each-cons_option : {X : Type 0} (P : X → Type 0) (new : Option X) (xs : List X) → ((x : X) → new ≡ Some x → P x) → Each P xs → Each P (cons_option new xs)
 Each-cons_option P None xs n h = h
 Each-cons_option P (Some x) xs n h = (n x refl, h)
+
+pub Each-kept : {X Y : Type 0} (P : X → Type 0) (Q : Y → Type 0) (f : X → Option Y) → ((x : X) (y : Y) → P x → f x ≡ Some y → Q y) → (xs : List X) → Each P xs → Each Q (filter_map f xs)
+Each-kept P Q f step [] h = tt
+Each-kept P Q f step (x ∷ xs) h = Each-cons_option Q (f x) (filter_map f xs) (λ y e. step x y h.0 e) (Each-kept P Q f step xs h.1)
+
+Ascends-consed : {Y K : Type 0} (cmp : K → K → Ordering) (key : Y → K) (new : Option Y) (ys : List Y) → ((y : Y) → new ≡ Some y → Each (λ z. cmp (key y) (key z) ≡ Less) ys) → Ascends cmp key ys → Ascends cmp key (cons_option new ys)
+Ascends-consed cmp key None ys above up = up
+Ascends-consed cmp key (Some y) ys above up = (above y refl, up)
+
+-- what is kept of ascending elements, each with its key, ascends
+pub Ascends-kept : {X Y K : Type 0} (cmp : K → K → Ordering) (key : X → K) (new_key : Y → K) (f : X → Option Y) → ((x : X) (y : Y) → f x ≡ Some y → new_key y ≡ key x) → (xs : List X) → Ascends cmp key xs → Ascends cmp new_key (filter_map f xs)
+Ascends-kept cmp key new_key f keeps [] up = tt
+Ascends-kept cmp key new_key f keeps (x ∷ xs) up =
+    Ascends-consed cmp new_key (f x) (filter_map f xs)
+    (λ y e. Each-kept (λ z. cmp (key x) (key z) ≡ Less) (λ z. cmp (new_key y) (new_key z) ≡ Less) f (λ a b h e' . subst (λ k. cmp k (new_key b) ≡ Less) (sym (keeps x y e)) (subst (λ k. cmp (key x) k ≡ Less) (sym (keeps a b e')) h)) xs up.0)
+    (Ascends-kept cmp key new_key f keeps xs up.1)
 
 pub Each-at : {X : Type 0} (P : X → Type 0) (xs : List X) → Each P xs → (i : ℕ) (d : X) → i < length xs → P (get_or xs i d)
 Each-at P [] h i d below = absurd (omega arith)
@@ -206,3 +222,8 @@ module _ {K C : Type 0} {cmp : K → K → Ordering} (o : IsTotalOrder cmp) wher
   pub find-fits : (k : K) (rows : List (Row K C)) → Each (λ r. is_live r ≡ true) rows → Fits k (find cmp k rows)
   find-fits k [] live = record { is_of = λ n h. cc; lives = λ n h. cc }
   find-fits k (r ∷ rows) live = find-is_of_by k r rows (same cmp r.key k) refl live.0 live.1 (find-fits k rows live.1)
+
+  -- keys that are the same have the same row
+  pub find-same : (a b : K) (rows : List (Row K C)) → cmp a b ≡ Equal → find cmp a rows ≡ find cmp b rows
+  find-same a b [] e = refl
+  find-same a b (r ∷ rows) e = rw (ap is_eq (alike_right o a b r.key e)) (ap (λ t. if same cmp r.key b then Some r else t) (find-same a b rows e))

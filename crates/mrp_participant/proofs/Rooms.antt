@@ -20,7 +20,7 @@ use Rattle.mrp_participant.specs.declared.room.Cut.{Cut}
 use Rattle.mrp_participant.specs.Lookup.{Each, Ascends, key_of, same, find}
 use Rattle.mrp_participant.specs.Sending.{round, is_tried, rows_of_round, order, octets_of, up_to, is_taken}
 use Rattle.mrp_participant.specs.Room.{cut_at, is_ahead, is_before, is_in_room, first_cut}
-use Rattle.mrp_participant.proofs.Lookups.{Each-map, same_is, above_is_not_same}
+use Rattle.mrp_participant.proofs.Lookups.{same_is, find-same}
 
 -- ---- membership
 
@@ -115,14 +115,10 @@ module _ {K C : Type 0} {cmp : K → K → Ordering} (o : IsTotalOrder cmp) wher
   find-in r (x ∷ rows) up (inl e) = subst (λ z. find cmp z.key (x ∷ rows) ≡ Some z) (sym e) (rw (same_refl o x.key) refl)
   find-in r (x ∷ rows) up (inr at) = rw (below_is_not_same cmp x.key r.key (Each-in (λ y. cmp x.key y.key ≡ Less) r rows up.0 at)) (find-in r rows up.1 at)
 
-  find-same : (a b : K) (rows : List (Row K C)) → cmp a b ≡ Equal → find cmp a rows ≡ find cmp b rows
-  find-same a b [] e = refl
-  find-same a b (r ∷ rows) e = rw (ap is_eq (alike_right o a b r.key e)) (ap (λ t. if same cmp r.key b then Some r else t) (find-same a b rows e))
-
   -- two rows of one list with one key are one row
   one_row : (r s : Row K C) (rows : List (Row K C)) → Ascends cmp key_of rows → In r rows → In s rows → cmp r.key s.key ≡ Equal → r ≡ s
   one_row r s rows up at bt e =
-      let found : Some r ≡ Some s = sym (find-in r rows up at) ∙ find-same r.key s.key rows e ∙ find-in s rows up bt in
+      let found : Some r ≡ Some s = sym (find-in r rows up at) ∙ find-same o r.key s.key rows e ∙ find-in s rows up bt in
       cc
 
 -- ---- before and after in the order

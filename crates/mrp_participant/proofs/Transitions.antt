@@ -26,7 +26,7 @@ use Rattle.std.specs.declared.result.Result.{Result}
 use Rattle.std.specs.declared.result.Result.TheVariants.{Ok, Err}
 use Rattle.mrp_participant.specs.Lookup.{Each, Ascends, key_of, find, put}
 use Rattle.mrp_participant.specs.State.{AreRows}
-use Rattle.mrp_participant.proofs.Lookups.{Fits, AreRows-put, find-fits, Each-mapped, Each-cons_option}
+use Rattle.mrp_participant.proofs.Lookups.{Fits, AreRows-put, find-fits, Each-mapped, Each-kept, Ascends-kept}
 
 module _ {K C : Type 0} where
   -- ---- declaring
@@ -227,23 +227,8 @@ module _ {K C : Type 0} where
     pub key : (r s : Row K C) → f r ≡ Some s → s.key ≡ r.key
     pub lives : (r s : Row K C) → is_live r ≡ true → f r ≡ Some s → is_live s ≡ true
 
-  Each-filter_mapped : (P : Row K C → Type 0) (f : Row K C → Option (Row K C)) → ((r s : Row K C) → P r → f r ≡ Some s → P s) → (rows : List (Row K C)) → Each P rows → Each P (filter_map f rows)
-  Each-filter_mapped P f step [] h = tt
-  Each-filter_mapped P f step (r ∷ rows) h = Each-cons_option P (f r) (filter_map f rows) (λ s e. step r s h.0 e) (Each-filter_mapped P f step rows h.1)
-
-  Ascends-consed : (cmp : K → K → Ordering) (new : Option (Row K C)) (rows : List (Row K C)) → ((s : Row K C) → new ≡ Some s → Each (λ y. cmp s.key y.key ≡ Less) rows) → Ascends cmp key_of rows → Ascends cmp key_of (cons_option new rows)
-  Ascends-consed cmp None rows above up = up
-  Ascends-consed cmp (Some s) rows above up = (above s refl, up)
-
-  Ascends-filter_mapped : (cmp : K → K → Ordering) (f : Row K C → Option (Row K C)) → Keeps f → (rows : List (Row K C)) → Ascends cmp key_of rows → Ascends cmp key_of (filter_map f rows)
-  Ascends-filter_mapped cmp f keeps [] up = tt
-  Ascends-filter_mapped cmp f keeps (r ∷ rows) up =
-      Ascends-consed cmp (f r) (filter_map f rows)
-      (λ s e. Each-filter_mapped (λ y. cmp s.key y.key ≡ Less) f (λ a b h e. subst (λ k. cmp s.key k ≡ Less) (sym (keeps.key a b e)) h) rows (subst (λ k. Each (λ y. cmp k y.key ≡ Less) rows) (sym (keeps.key r s e)) up.0))
-      (Ascends-filter_mapped cmp f keeps rows up.1)
-
   pub AreRows-filter_mapped : (cmp : K → K → Ordering) (f : Row K C → Option (Row K C)) → Keeps f → (rows : List (Row K C)) → AreRows cmp rows → AreRows cmp (filter_map f rows)
-  AreRows-filter_mapped cmp f keeps rows are = (Ascends-filter_mapped cmp f keeps rows are.0, Each-filter_mapped (λ r. is_live r ≡ true) f keeps.lives rows are.1)
+  AreRows-filter_mapped cmp f keeps rows are = (Ascends-kept cmp key_of key_of f keeps.key rows are.0, Each-kept (λ r. is_live r ≡ true) (λ r. is_live r ≡ true) f keeps.lives rows are.1)
 
   -- a row that is kept only where something is left of it
   kept-is_by : (r s : Row K C) (b : Bool) → is_live r ≡ b → (if b then Some r else None) ≡ Some s → (s ≡ r) × (is_live s ≡ true)

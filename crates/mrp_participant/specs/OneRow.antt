@@ -1,6 +1,7 @@
 -- What happens to the row of one key, by each call of a participant: the machines of the key, and the
 -- contents and the leave moment that stand beside them (IEEE Std 802.1Q-2018, 10.7).
-use Rattle.std.specs.Prelude.{ℕ, Bool, true, false, ◌&&◌, ◌||◌, not, if◌then◌else◌, nat_le}
+use Rattle.std.specs.Prelude.{ℕ, Bool, true, false, ◌&&◌, ◌||◌, not, if◌then◌else◌, nat_le, List, fold, option_map}
+use Rattle.std.specs.declared.cmp.Ordering.{Ordering}
 use Rattle.std.specs.declared.option.Option.{Option}
 use Rattle.std.specs.declared.option.Option.TheVariants.{None, Some}
 use Rattle.srp_base.specs.declared.numbers.Cs.{Cs}
@@ -17,6 +18,7 @@ use Rattle.registrar.specs.declared.RegEvent.{RegEvent}
 use Rattle.registrar.specs.declared.RegEvent.TheVariants.{RxNew, RxJoin, RxLv, RxLeaveAll, LeaveTimer}
 use Rattle.registrar.specs.Table as registrar
 use Rattle.mrp_participant.specs.declared.one_row.Row.{Row}
+use Rattle.mrp_participant.specs.Lookup.{same}
 
 -- whether a registrar is IN
 abbrev pub is_in : Registrar → Bool
@@ -120,6 +122,15 @@ makes_row Lv = false
 abbrev pub after_hear : {K C : Type 0} → MrpEvent → K → C → Cs → Option (Row K C) → Option (Row K C)
 after_hear event k c leave None = if makes_row event then Some (heard_row event c leave (fresh_row k c)) else None
 after_hear event k c leave (Some r) = Some (heard_row event c leave r)
+
+-- the row of a key after one received event, of this key or of another
+abbrev pub row_hearing : {K C : Type 0} → (K → K → Ordering) → Cs → K → Option (Row K C) → MrpEvent × K × C → Option (Row K C)
+row_hearing cmp leave k r e = if same cmp e.1 k then after_hear e.0 e.1 e.2 leave r else r
+
+-- the row of a key after what was received: LeaveAll first, then the events of this key in order
+abbrev pub row_after_receive : {K C : Type 0} → (K → K → Ordering) → Cs → Bool → List (MrpEvent × K × C) → K → Option (Row K C) → Option (Row K C)
+row_after_receive cmp leave leave_all events k r =
+    fold (row_hearing cmp leave k) (if leave_all then option_map (leave_all_row leave) r else r) events
 
 -- what is registered of a key: the content that was heard last, in IN and LV
 abbrev pub registered_in : {K C : Type 0} → Option (Row K C) → Option C

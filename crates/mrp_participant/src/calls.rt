@@ -1,7 +1,7 @@
 //! What the user asks of one key, and the end of one leave timer.
 
-ghost use Rattle.std.specs.Prelude.{◌≡◌, None, OnOk, OnErr};
-ghost use Rattle.mrp_participant.specs.Lookup.{Ascends, key_of, find, put};
+ghost use Rattle.std.specs.Prelude.{◌≡◌, None, OnOk, OnErr, if◌then◌else◌};
+ghost use Rattle.mrp_participant.specs.Lookup.{Ascends, key_of, same, find, put};
 ghost use Rattle.mrp_participant.specs.OneRow.{after_declare, after_withdraw, after_leave, is_leaving_in};
 ghost use Rattle.mrp_participant.specs.State.{declared_state, withdrawn_state, left_state};
 
@@ -20,6 +20,7 @@ impl<A: MrpApp> Participant<A> {
         ensures ok { OnOk result (self.new ≡ declared_state A.Key.cmp A.Content.eq key content self.old) }
         ensures err { OnErr result (self.new ≡ self.old) }
         ensures room { OnErr result (find A.Key.cmp key self.old.rows ≡ None) }
+        ensures each_key { OnOk result ((k : A.Key) → find A.Key.cmp k self.new.rows ≡ (if same A.Key.cmp key k then after_declare A.Content.eq key content (find A.Key.cmp key self.old.rows) else find A.Key.cmp k self.old.rows)) }
     {
         declare_in(&mut self.rows, key, content)
     }
@@ -27,7 +28,8 @@ impl<A: MrpApp> Participant<A> {
     /// Withdraws a key: NewReq and then LvReq in VP, nothing in VO and LA, LvReq in the others. So each
     /// withdrawal says Lv, or rides on a LeaveAll.
     pub fn withdraw(&mut self, key: A::Key)
-        ensures { self.new ≡ withdrawn_state A.Key.cmp key self.old }
+        ensures after { self.new ≡ withdrawn_state A.Key.cmp key self.old }
+        ensures each_key { (k : A.Key) → find A.Key.cmp k self.new.rows ≡ (if same A.Key.cmp key k then after_withdraw (find A.Key.cmp key self.old.rows) else find A.Key.cmp k self.old.rows) }
     {
         withdraw_in(&mut self.rows, key);
     }
@@ -36,6 +38,7 @@ impl<A: MrpApp> Participant<A> {
     pub fn leave_due(&mut self, key: A::Key) -> bool
         ensures was { result ≡ is_leaving_in (find A.Key.cmp key self.old.rows) }
         ensures after { self.new ≡ left_state A.Key.cmp key self.old }
+        ensures each_key { (k : A.Key) → find A.Key.cmp k self.new.rows ≡ (if same A.Key.cmp key k then after_leave (find A.Key.cmp key self.old.rows) else find A.Key.cmp k self.old.rows) }
     {
         leave_in(&mut self.rows, key)
     }

@@ -4,6 +4,7 @@
 
 pub mod application;
 pub mod calls;
+pub mod laws;
 pub mod lookup;
 pub mod model;
 pub mod one_row;
@@ -15,3 +16,6 @@ pub mod timers;
 pub use application::{MrpApp, Msgs};
 pub use model::Participant;
 pub use one_row::Row;
+
+#[cfg(test)]
+mod tests;
