@@ -52,7 +52,7 @@ pub Each-from_in : {X : Type 0} (P : X → Type 0) (xs : List X) → ((x : X) �
 Each-from_in P [] f = tt
 Each-from_in P (x ∷ xs) f = (f x (inl refl), Each-from_in P xs (λ y at. f y (inr at)))
 
-Each-filtered : {X : Type 0} (P : X → Type 0) (p : X → Bool) (xs : List X) → Each P xs → Each P (filter p xs)
+pub Each-filtered : {X : Type 0} (P : X → Type 0) (p : X → Bool) (xs : List X) → Each P xs → Each P (filter p xs)
 Each-filtered P p [] h = tt
 Each-filtered P p (x ∷ xs) h = elim (p x) as (λ b. Each P (if b then x ∷ filter p xs else filter p xs)) [ true ↦ (h.0, Each-filtered P p xs h.1) | false ↦ Each-filtered P p xs h.1 ]
 
@@ -163,16 +163,16 @@ module _ {K C : Type 0} {cmp : K → K → Ordering} (o : IsTotalOrder cmp) (lea
   abbrev pub Ahead : Row K C → Row K C → Type 0
   Ahead x y = (is_ahead cmp leave_all (cut_at leave_all y) x ≡ true) × (same cmp x.key y.key ≡ false)
 
-  ahead_once : (x y : Row K C) → Ahead x y → is_ahead cmp leave_all (cut_at leave_all x) y ≡ false
+  pub ahead_once : (x y : Row K C) → Ahead x y → is_ahead cmp leave_all (cut_at leave_all x) y ≡ false
   ahead_once x y ahead =
       asym_by (round leave_all x.applicant) (round leave_all y.applicant) (is_lt (cmp x.key y.key)) (is_lt (cmp y.key x.key))
       (λ h k. less_once o x.key y.key (lt_is (cmp x.key y.key) h) (lt_is (cmp y.key x.key) k)) ahead.0
 
-  not_ahead_of_itself : (x : Row K C) → is_ahead cmp leave_all (cut_at leave_all x) x ≡ false
+  pub not_ahead_of_itself : (x : Row K C) → is_ahead cmp leave_all (cut_at leave_all x) x ≡ false
   not_ahead_of_itself x = irrefl_by (round leave_all x.applicant) (is_lt (cmp x.key x.key)) (ap is_lt (tied_itself o x.key))
 
   -- a row that is ahead of all of some rows is before the first of them that finds no room
-  first_is_before : (used : ℕ) (xs : List (Row K C)) (x : Row K C) → Each (Ahead x) xs → is_before cmp leave_all (first_cut leave_all octets used xs) x ≡ true
+  pub first_is_before : (used : ℕ) (xs : List (Row K C)) (x : Row K C) → Each (Ahead x) xs → is_before cmp leave_all (first_cut leave_all octets used xs) x ≡ true
   first_is_before used [] x ahead = refl
   first_is_before used (y ∷ ys) x ahead =
       elim (nat_le (used + octets y.content) 1500)
@@ -211,7 +211,7 @@ module _ {K C : Type 0} {cmp : K → K → Ordering} (o : IsTotalOrder cmp) (lea
 
   -- ---- the order
 
-  of_round : (n : ℕ) (rows : List (Row K C)) (r : Row K C) → In r (rows_of_round leave_all n rows) → (round leave_all r.applicant ≡ n) × In r rows
+  pub of_round : (n : ℕ) (rows : List (Row K C)) (r : Row K C) → In r (rows_of_round leave_all n rows) → (round leave_all r.applicant ≡ n) × In r rows
   of_round n rows r at = let h = In-filtered (λ (x : Row K C). round leave_all x.applicant == n) r rows at in (eqb-true (round leave_all r.applicant) n h.0, h.1)
 
   apart : (rows : List (Row K C)) → Ascends cmp key_of rows → (x y : Row K C) (n m : ℕ) → n < m → In x (rows_of_round leave_all n rows) → In y (rows_of_round leave_all m rows) → Ahead x y
@@ -240,7 +240,7 @@ module _ {K C : Type 0} {cmp : K → K → Ordering} (o : IsTotalOrder cmp) (lea
          below_is_not_same cmp x.key y.key less))
       (Lined-filtered (λ x y. cmp x.key y.key ≡ Less) (λ x. round leave_all x.applicant == n) rows (lined_rows rows up))
 
-  lined_order : (rows : List (Row K C)) → Ascends cmp key_of rows → Lined Ahead (order leave_all rows)
+  pub lined_order : (rows : List (Row K C)) → Ascends cmp key_of rows → Lined Ahead (order leave_all rows)
   lined_order rows up =
       Lined-append Ahead (rows_of_round leave_all 1 rows) (rows_of_round leave_all 2 rows ++ rows_of_round leave_all 3 rows) (lined_round 1 rows up)
       (Lined-append Ahead (rows_of_round leave_all 2 rows) (rows_of_round leave_all 3 rows) (lined_round 2 rows up) (lined_round 3 rows up)

@@ -1,7 +1,8 @@
 //! What a participant sends (IEEE Std 802.1Q-2018, 10.7.6 and 10.8).
 
-ghost use Rattle.std.specs.Prelude.{◌≡◌, ◌<◌, ◌^◌, ◌||◌, OnOk, OnErr, IfOk, IfSome, is_none};
+ghost use Rattle.std.specs.Prelude.{◌≡◌, ◌<◌, ◌^◌, ◌+◌, ◌≤◌, ◌≢◌, ◌||◌, false, [], sum_by, OnOk, OnErr, IfOk, IfSome, is_none};
 ghost use Rattle.std.specs.List.{filter_map};
+ghost use Rattle.mrp_participant.specs.Lookup.{Ascends};
 ghost use Rattle.mrp_participant.specs.Sending.{sent_row, sent_event, is_taken};
 ghost use Rattle.mrp_participant.specs.Room.{is_before, is_in_room};
 ghost use Rattle.mrp_participant.specs.State.{AreRows, is_active, is_silent, none_tried, sent_events, sent_state};
@@ -24,6 +25,9 @@ impl<A: MrpApp> Participant<A> {
         ensures silent { IfOk result (λ sent. is_none sent ≡ is_silent self.old) }
         ensures leave_all { IfOk result (λ sent. IfSome sent (λ msgs. msgs.leave_all ≡ is_active self.old.leave_all)) }
         ensures events { IfOk result (λ sent. IfSome sent (λ msgs. msgs.events ≡ sent_events A.base A.octets A.Key.cmp now self.old)) }
+        ensures ascending { IfOk result (λ sent. IfSome sent (λ msgs. Ascends A.Key.cmp (λ e. e.1) msgs.events)) }
+        ensures fits { IfOk result (λ sent. IfSome sent (λ msgs. A.base + sum_by (λ e. A.octets e.2) msgs.events ≤ 1500)) }
+        ensures says { IfOk result (λ sent. IfSome sent (λ msgs. msgs.leave_all ≡ false → msgs.events ≢ [])) }
         ensures after { OnOk result (self.new ≡ sent_state A.base A.octets A.Key.cmp now self.old) }
         ensures err { OnErr result (self.new ≡ self.old) }
     {
@@ -73,6 +77,10 @@ fn pdu_of<A: MrpApp>(
     ensures rows { IfOk result (λ p. p.0.items ≡ filter_map (λ r. sent_row leave_all (is_taken A.base A.octets A.Key.cmp leave_all rows.now r) leave r) rows.now) }
     ensures events { IfOk result (λ p. p.1 ≡ filter_map (λ r. sent_event leave_all (is_taken A.base A.octets A.Key.cmp leave_all rows.now r) leave r) rows.now) }
     ensures are_rows { IfOk result (λ p. AreRows A.Key.cmp p.0.items) }
+
+    ensures ascending { IfOk result (λ p. Ascends A.Key.cmp (λ e. e.1) p.1) }
+    ensures fits { IfOk result (λ p. A.base + sum_by (λ e. A.octets e.2) p.1 ≤ 1500) }
+    ensures says { IfOk result (λ p. leave_all ≡ false → none_tried rows.now ≡ false → p.1 ≢ []) }
 {
     let cut = find_cut::<A>(rows, leave_all);
     let events = events_sent(alloc, rows, leave_all, &cut, leave)?;
