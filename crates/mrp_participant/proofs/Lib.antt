@@ -1,3 +1,4 @@
+pub mod Changes
 pub mod EachKey
 pub mod Lookups
 pub mod Octets

@@ -42,7 +42,7 @@ pub Ascends-kept : {X Y K : Type 0} (cmp : K → K → Ordering) (key : X → K)
 Ascends-kept cmp key new_key f keeps [] up = tt
 Ascends-kept cmp key new_key f keeps (x ∷ xs) up =
     Ascends-consed cmp new_key (f x) (filter_map f xs)
-    (λ y e. Each-kept (λ z. cmp (key x) (key z) ≡ Less) (λ z. cmp (new_key y) (new_key z) ≡ Less) f (λ a b h e' . subst (λ k. cmp k (new_key b) ≡ Less) (sym (keeps x y e)) (subst (λ k. cmp (key x) k ≡ Less) (sym (keeps a b e')) h)) xs up.0)
+    (λ y e. Each-kept (λ z. cmp (key x) (key z) ≡ Less) (λ z. cmp (new_key y) (new_key z) ≡ Less) f (λ a b h e'. subst (λ k. cmp k (new_key b) ≡ Less) (sym (keeps x y e)) (subst (λ k. cmp (key x) k ≡ Less) (sym (keeps a b e')) h)) xs up.0)
     (Ascends-kept cmp key new_key f keeps xs up.1)
 
 pub Each-at : {X : Type 0} (P : X → Type 0) (xs : List X) → Each P xs → (i : ℕ) (d : X) → i < length xs → P (get_or xs i d)
@@ -122,7 +122,7 @@ module _ {K C : Type 0} {cmp : K → K → Ordering} (o : IsTotalOrder cmp) wher
   gap_at k (r ∷ rows) (suc i) up below at =
       let less : cmp r.key k ≡ Less = at.0 zero r (omega arith) (omega arith) in
       let rest : IsGapAt cmp k rows i =
-        gap_at k rows i up.1 (omega arith) (λ j d low high. at.0 (suc j) d (omega arith) (omega arith), λ j d low high. at.1 (suc j) d (omega arith) (omega arith)) in
+      gap_at k rows i up.1 (omega arith) (λ j d low high. at.0 (suc j) d (omega arith) (omega arith), λ j d low high. at.1 (suc j) d (omega arith) (omega arith)) in
       record {
         within = below;
         absent = rw less rest.absent;
@@ -133,11 +133,11 @@ module _ {K C : Type 0} {cmp : K → K → Ordering} (o : IsTotalOrder cmp) wher
   pub rises : (k : K) (rows : List (Row K C)) → Ascends cmp key_of rows → IsNonDecreasingBy (λ (y : Row K C). ordering_index (cmp y.key k)) rows
   rises k rows up = searchable_from_sorted o key_of rows k (sorted rows up)
     where
-    sorted : (rows : List (Row K C)) → Ascends cmp key_of rows → IsSortedBy (λ (a b : Row K C). is_lt (cmp a.key b.key)) rows
-    sorted [] up i d low high = absurd (omega arith)
-    sorted (r ∷ []) up zero d low high = absurd (omega arith)
-    sorted (r ∷ q ∷ rows) up zero d low high = ap is_lt (o.antisymm q.key r.key ∙ ap ordering_reverse up.0.0)
-    sorted (r ∷ rows) up (suc i) d low high = rw (add-one (suc i)) (rw (add-one i) at (sorted rows up.1 i d (omega arith) (omega arith)))
+      sorted : (rows : List (Row K C)) → Ascends cmp key_of rows → IsSortedBy (λ (a b : Row K C). is_lt (cmp a.key b.key)) rows
+      sorted [] up i d low high = absurd (omega arith)
+      sorted (r ∷ []) up zero d low high = absurd (omega arith)
+      sorted (r ∷ q ∷ rows) up zero d low high = ap is_lt (o.antisymm q.key r.key ∙ ap ordering_reverse up.0.0)
+      sorted (r ∷ rows) up (suc i) d low high = rw (add-one (suc i)) (rw (add-one i) at (sorted rows up.1 i d (omega arith) (omega arith)))
 
   -- ---- what is kept at each key
 
@@ -164,7 +164,7 @@ module _ {K C : Type 0} {cmp : K → K → Ordering} (o : IsTotalOrder cmp) wher
   find-put_at k q new r rows later Less c of up rest =
       ap (λ t. if same cmp r.key q then Some r else t) rest
       ∙ swap_tests (same cmp r.key q) (same cmp k q) (Some r) new (find cmp q rows)
-        (λ a b. let e : cmp r.key k ≡ Equal = alike_right o k q r.key (same_is cmp k q b) ∙ same_is cmp r.key q a in cc)
+      (λ a b. let e : cmp r.key k ≡ Equal = alike_right o k q r.key (same_is cmp k q b) ∙ same_is cmp r.key q a in cc)
   find-put_at k q new r rows later Equal c of up rest =
       find-front k q new rows (λ e. none_above r.key q rows up.0 (same_left o r.key k q c ∙ e)) of
       ∙ same_tests (same cmp k q) (same cmp r.key q) new (Some r) (find cmp q rows) (same_left o r.key k q c)

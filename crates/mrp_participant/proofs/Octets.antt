@@ -18,10 +18,10 @@ use Rattle.mrp_participant.specs.declared.one_row.Row.{Row}
 use Rattle.mrp_participant.specs.declared.room.Cut.{Cut}
 use Rattle.mrp_participant.specs.Lookup.{Each, Ascends, key_of}
 use Rattle.mrp_participant.specs.OneRow.{with_applicant, registrar_takes}
-use Rattle.mrp_participant.specs.Sending.{round, is_tried, rows_of_round, order, chance, before_chance, said_at, event_of, sent_event, is_taken}
+use Rattle.mrp_participant.specs.Sending.{IsSplit, round, is_tried, rows_of_round, order, chance, before_chance, said_at, event_of, sent_event, is_taken}
 use Rattle.mrp_participant.specs.Room.{cut_at, is_before, is_in_room, first_cut}
 use Rattle.mrp_participant.specs.State.{none_tried}
-use Rattle.mrp_participant.proofs.Lookups.{Ascends-kept}
+use Rattle.mrp_participant.proofs.Lookups.{Ascends-kept, Each-map}
 use Rattle.mrp_participant.proofs.Rooms.{In, In-append, In-filtered, Each-in, Lined, Ahead, first_is_before, lined_order, of_round, ahead_once, not_ahead_of_itself, in_order, in_room, filter_map-same}
 
 -- ---- sums
@@ -104,9 +104,9 @@ module _ {K C : Type 0} {cmp : K → K → Ordering} (o : IsTotalOrder cmp) (lea
       let later : sum_by (weight cut) xs ≡ 0 = sum_by-zero (weight cut) xs (nothing xs ahead) in
       omega arith
     where
-    nothing : (ys : List (Row K C)) → Each (Ahead o leave_all octets x) ys → Each (λ y. weight (Some (cut_at leave_all x)) y ≡ 0) ys
-    nothing [] h = tt
-    nothing (y ∷ ys) h = (ap (λ b. if b then octets y.content else 0) (ahead_once o leave_all octets x y h.0), nothing ys h.1)
+      nothing : (ys : List (Row K C)) → Each (Ahead o leave_all octets x) ys → Each (λ y. weight (Some (cut_at leave_all x)) y ≡ 0) ys
+      nothing [] h = tt
+      nothing (y ∷ ys) h = (ap (λ b. if b then octets y.content else 0) (ahead_once o leave_all octets x y h.0), nothing ys h.1)
 
   room_left : (used : ℕ) (xs : List (Row K C)) → Lined (Ahead o leave_all octets) xs → used ≤ 1500 → used + sum_by (weight (first_cut leave_all octets used xs)) xs ≤ 1500
   room_left used [] lined room = omega arith
@@ -125,12 +125,13 @@ module _ {K C : Type 0} {cmp : K → K → Ordering} (o : IsTotalOrder cmp) (lea
   pub tried_in_order : (r : Row K C) (rows : List (Row K C)) → In r (order leave_all rows) → (is_tried leave_all r ≡ true) × In r rows
   tried_in_order r rows at = by_round (In-append r (rows_of_round leave_all 1 rows) (rows_of_round leave_all 2 rows ++ rows_of_round leave_all 3 rows) at)
     where
-    late : In r (rows_of_round leave_all 2 rows) ⊎ In r (rows_of_round leave_all 3 rows) → (is_tried leave_all r ≡ true) × In r rows
-    late (inl h) = (tried_of_round 2 r rows (omega arith) h, (of_round o leave_all octets 2 rows r h).1)
-    late (inr h) = (tried_of_round 3 r rows (omega arith) h, (of_round o leave_all octets 3 rows r h).1)
-    by_round : In r (rows_of_round leave_all 1 rows) ⊎ In r (rows_of_round leave_all 2 rows ++ rows_of_round leave_all 3 rows) → (is_tried leave_all r ≡ true) × In r rows
-    by_round (inl h) = (tried_of_round 1 r rows (omega arith) h, (of_round o leave_all octets 1 rows r h).1)
-    by_round (inr h) = late (In-append r (rows_of_round leave_all 2 rows) (rows_of_round leave_all 3 rows) h)
+      late : In r (rows_of_round leave_all 2 rows) ⊎ In r (rows_of_round leave_all 3 rows) → (is_tried leave_all r ≡ true) × In r rows
+      late (inl h) = (tried_of_round 2 r rows (omega arith) h, (of_round o leave_all octets 2 rows r h).1)
+      late (inr h) = (tried_of_round 3 r rows (omega arith) h, (of_round o leave_all octets 3 rows r h).1)
+
+      by_round : In r (rows_of_round leave_all 1 rows) ⊎ In r (rows_of_round leave_all 2 rows ++ rows_of_round leave_all 3 rows) → (is_tried leave_all r ≡ true) × In r rows
+      by_round (inl h) = (tried_of_round 1 r rows (omega arith) h, (of_round o leave_all octets 1 rows r h).1)
+      by_round (inr h) = late (In-append r (rows_of_round leave_all 2 rows) (rows_of_round leave_all 3 rows) h)
 
   untried_share : (cut : Option (Cut K)) (r : Row K C) → round leave_all r.applicant ≡ 0 → share cut r ≡ 0
   untried_share cut r e = ap (λ n. if not (n == 0) && is_before cmp leave_all cut r then octets r.content else 0) e
@@ -143,16 +144,16 @@ module _ {K C : Type 0} {cmp : K → K → Ordering} (o : IsTotalOrder cmp) (lea
       let two = sum_by-filtered (share cut) (λ r. round leave_all r.applicant == 2) rows in
       let three = sum_by-filtered (share cut) (λ r. round leave_all r.applicant == 3) rows in
       let whole =
-        sum_by-three (λ (r : Row K C). if round leave_all r.applicant == 1 then share cut r else 0) (λ r. if round leave_all r.applicant == 2 then share cut r else 0) (λ r. if round leave_all r.applicant == 3 then share cut r else 0) (share cut) rows
-        (λ r. in_one_round (round leave_all r.applicant) (share cut r) (three_rounds leave_all r.applicant) (untried_share cut r)) in
+      sum_by-three (λ (r : Row K C). if round leave_all r.applicant == 1 then share cut r else 0) (λ r. if round leave_all r.applicant == 2 then share cut r else 0) (λ r. if round leave_all r.applicant == 3 then share cut r else 0) (share cut) rows
+      (λ r. in_one_round (round leave_all r.applicant) (share cut r) (three_rounds leave_all r.applicant) (untried_share cut r)) in
       omega arith
 
   all_room_left : (base : ℕ) (rows : List (Row K C)) → Ascends cmp key_of rows → base ≤ 1500 → base + sum_by (share (first_cut leave_all octets base (order leave_all rows))) rows ≤ 1500
   all_room_left base rows up room =
       let cut : Option (Cut K) = first_cut leave_all octets base (order leave_all rows) in
       let tried : sum_by (weight cut) (order leave_all rows) ≡ sum_by (share cut) (order leave_all rows) =
-        sum_by-same (weight cut) (share cut) (order leave_all rows)
-        (λ r at. ap (λ t. if t && is_before cmp leave_all cut r then octets r.content else 0) (sym (tried_in_order r rows at).0)) in
+      sum_by-same (weight cut) (share cut) (order leave_all rows)
+      (λ r at. ap (λ t. if t && is_before cmp leave_all cut r then octets r.content else 0) (sym (tried_in_order r rows at).0)) in
       let same_rows = shares cut rows in
       let left = room_left base (order leave_all rows) (lined_order o leave_all octets rows up) room in
       omega arith
@@ -237,8 +238,8 @@ module _ {K C : Type 0} {cmp : K → K → Ordering} (o : IsTotalOrder cmp) (oct
       let left = all_room_left o leave_all octets base rows up room in
       let most = sum_by-kept (share o leave_all octets cut) (λ (e : MrpEvent × K × C). octets e.2) (λ r. sent_event leave_all (is_in_room cmp leave_all cut r) leave r) rows (λ r e h. share_of leave_all cut leave r e h) in
       let same_events =
-        ap (sum_by (λ (e : MrpEvent × K × C). octets e.2)) (filter_map-same (λ r. sent_event leave_all (is_in_room cmp leave_all cut r) leave r) (λ r. sent_event leave_all (is_taken base octets cmp leave_all rows r) leave r) rows
-         (λ r at. ap (λ t. sent_event leave_all t leave r) (in_room o leave_all octets base rows r up at))) in
+      ap (sum_by (λ (e : MrpEvent × K × C). octets e.2)) (filter_map-same (λ r. sent_event leave_all (is_in_room cmp leave_all cut r) leave r) (λ r. sent_event leave_all (is_taken base octets cmp leave_all rows r) leave r) rows
+      (λ r at. ap (λ t. sent_event leave_all t leave r) (in_room o leave_all octets base rows r up at))) in
       omega arith
 
   -- a row that is tried is found where not none is
@@ -255,10 +256,11 @@ module _ {K C : Type 0} {cmp : K → K → Ordering} (o : IsTotalOrder cmp) (oct
   first_by [] r at lined fits = absurd at
   first_by (x ∷ xs) r at lined fits = (x, inl refl, found)
     where
-    room : nat_le (base + octets x.content) 1500 ≡ true
-    room = let bound = fits x.content in grind (arith, nat_tests)
-    found : is_before cmp false (first_cut false octets base (x ∷ xs)) x ≡ true
-    found = rw room (first_is_before o false octets (base + octets x.content) xs x lined.0)
+      room : nat_le (base + octets x.content) 1500 ≡ true
+      room = let bound = fits x.content in grind (arith, nat_tests)
+
+      found : is_before cmp false (first_cut false octets base (x ∷ xs)) x ≡ true
+      found = rw room (first_is_before o false octets (base + octets x.content) xs x lined.0)
 
   -- without LeaveAll something is said where not none is tried
   pub events-are_some : (leave : Cs) (rows : List (Row K C)) → Ascends cmp key_of rows → ((c : C) → base + octets c ≤ 1500) → none_tried rows ≡ false → filter_map (λ r. sent_event false (is_taken base octets cmp false rows r) leave r) rows ≡ [] → ⊥
@@ -266,8 +268,96 @@ module _ {K C : Type 0} {cmp : K → K → Ordering} (o : IsTotalOrder cmp) (oct
       let tried = some_tried rows some in
       let first = first_by (order false rows) tried.0 (in_order o false octets tried.0 rows tried.2 tried.1) (lined_order o false octets rows up) fits in
       let member = tried_in_order o false octets first.0 rows first.1 in
-      let taken : is_taken base octets cmp false rows first.0 ≡ true =
-        sym (in_room o false octets base rows first.0 up member.1) ∙ ap (λ b. b && is_before cmp false (first_cut false octets base (order false rows)) first.0) member.0 ∙ first.2 in
+      let cut : Option (Cut K) = first_cut false octets base (order false rows) in
+      let here : is_in_room cmp false cut first.0 ≡ is_before cmp false cut first.0 = ap (λ b. b && is_before cmp false cut first.0) member.0 in
+      let test : is_taken base octets cmp false rows first.0 ≡ is_in_room cmp false cut first.0 = sym (in_room o false octets base rows first.0 up member.1) in
+      let taken : is_taken base octets cmp false rows first.0 ≡ true = test ∙ (here ∙ first.2) in
       let said = says_by leave first.0 first.0.applicant member.0 in
-      kept_is_not_empty (λ r. sent_event false (is_taken base octets cmp false rows r) leave r) first.0 said.0 rows member.1
-      (ap (λ t. sent_event false t leave first.0) taken ∙ said.1) empty
+      let sent : sent_event false (is_taken base octets cmp false rows first.0) leave first.0 ≡ sent_event false true leave first.0 = ap (λ t. sent_event false t leave first.0) taken in
+      let says : sent_event false (is_taken base octets cmp false rows first.0) leave first.0 ≡ Some said.0 = sent ∙ said.1 in
+      kept_is_not_empty (λ r. sent_event false (is_taken base octets cmp false rows r) leave r) first.0 said.0 rows member.1 says empty
+
+-- ---- the rows that are taken are a split of the order
+
+filter-all : {X : Type 0} (p : X → Bool) (xs : List X) → Each (λ x. p x ≡ true) xs → filter p xs ≡ xs
+filter-all p [] h = refl
+filter-all p (x ∷ xs) h = ap (λ b. if b then x ∷ filter p xs else filter p xs) h.0 ∙ ap (λ l. x ∷ l) (filter-all p xs h.1)
+
+filter-none : {X : Type 0} (p : X → Bool) (xs : List X) → Each (λ x. p x ≡ false) xs → filter p xs ≡ []
+filter-none p [] h = refl
+filter-none p (x ∷ xs) h = ap (λ b. if b then x ∷ filter p xs else filter p xs) h.0 ∙ filter-none p xs h.1
+
+filter-same : {X : Type 0} (p q : X → Bool) (xs : List X) → ((x : X) → In x xs → p x ≡ q x) → filter p xs ≡ filter q xs
+filter-same p q [] h = refl
+filter-same p q (x ∷ xs) h =
+    ap (λ b. if b then x ∷ filter p xs else filter p xs) (h x (inl refl)) ∙ ap (λ l. if q x then x ∷ l else l) (filter-same p q xs (λ y at. h y (inr at)))
+
+first_of : {X : Type 0} (x y : X) (xs ys : List X) → x ∷ xs ≡ y ∷ ys → x ≡ y
+first_of x y xs ys h = cc
+
+module _ {K C : Type 0} (octets : C → ℕ) where
+  split_more : (used : ℕ) (x : Row K C) (xs front rest : List (Row K C)) → IsSplit (used + octets x.content) octets xs front rest → IsSplit used octets (x ∷ xs) (x ∷ front) rest
+  split_more used x xs front rest split =
+      let e = sum_by-cons (λ (r : Row K C). octets r.content) x front in
+      record {
+        joined = ap (λ l. x ∷ l) split.joined;
+        fits = let room = split.fits in omega arith;
+        full = λ next more h. let bound = split.full next more h in omega arith;
+      }
+
+  split_here : (used : ℕ) (x : Row K C) (xs : List (Row K C)) → used ≤ 1500 → nat_le (used + octets x.content) 1500 ≡ false → IsSplit used octets (x ∷ xs) [] (x ∷ xs)
+  split_here used x xs room full =
+      let over : 1500 < used + octets x.content = grind (arith, nat_tests) in
+      record {
+        joined = refl;
+        fits = omega arith;
+        full = λ next more h. let e : octets x.content ≡ octets next.content = ap (λ (r : Row K C). octets r.content) (first_of x next xs more h) in omega arith;
+      }
+
+module _ {K C : Type 0} {cmp : K → K → Ordering} (o : IsTotalOrder cmp) (leave_all : Bool) (octets : C → ℕ) where
+  abbrev before : Option (Cut K) → Row K C → Bool
+  before cut r = is_before cmp leave_all cut r
+
+  abbrev after_it : Option (Cut K) → Row K C → Bool
+  after_it cut r = not (is_before cmp leave_all cut r)
+
+  splits_by : (used : ℕ) (x : Row K C) (xs : List (Row K C)) (b : Bool) → nat_le (used + octets x.content) 1500 ≡ b → Each (Ahead o leave_all octets x) xs → used ≤ 1500 → (used + octets x.content ≤ 1500 → IsSplit (used + octets x.content) octets xs (filter (before (first_cut leave_all octets (used + octets x.content) xs)) xs) (filter (after_it (first_cut leave_all octets (used + octets x.content) xs)) xs)) → IsSplit used octets (x ∷ xs) (filter (before (if b then first_cut leave_all octets (used + octets x.content) xs else Some (cut_at leave_all x))) (x ∷ xs)) (filter (after_it (if b then first_cut leave_all octets (used + octets x.content) xs else Some (cut_at leave_all x))) (x ∷ xs))
+  splits_by used x xs true fits ahead room rest =
+      let cut : Option (Cut K) = first_cut leave_all octets (used + octets x.content) xs in
+      let here : before cut x ≡ true = first_is_before o leave_all octets (used + octets x.content) xs x ahead in
+      let bound : used + octets x.content ≤ 1500 = grind (arith, nat_tests) in
+      let front : filter (before cut) (x ∷ xs) ≡ x ∷ filter (before cut) xs = ap (λ b. if b then x ∷ filter (before cut) xs else filter (before cut) xs) here in
+      let back : filter (after_it cut) (x ∷ xs) ≡ filter (after_it cut) xs = ap (λ b. if not b then x ∷ filter (after_it cut) xs else filter (after_it cut) xs) here in
+      subst (λ f. IsSplit used octets (x ∷ xs) f (filter (after_it cut) (x ∷ xs))) (sym front)
+      (subst (λ g. IsSplit used octets (x ∷ xs) (x ∷ filter (before cut) xs) g) (sym back) (split_more octets used x xs _ _ (rest bound)))
+  splits_by used x xs false fits ahead room rest =
+      let cut : Option (Cut K) = Some (cut_at leave_all x) in
+      let none : Each (λ y. before cut y ≡ false) (x ∷ xs) = (not_ahead_of_itself o leave_all octets x, late xs ahead) in
+      let front : filter (before cut) (x ∷ xs) ≡ [] = filter-none (before cut) (x ∷ xs) none in
+      let back : filter (after_it cut) (x ∷ xs) ≡ x ∷ xs = filter-all (after_it cut) (x ∷ xs) (Each-map _ _ (λ y h. ap not h) (x ∷ xs) none) in
+      subst (λ f. IsSplit used octets (x ∷ xs) f (filter (after_it cut) (x ∷ xs))) (sym front)
+      (subst (λ g. IsSplit used octets (x ∷ xs) [] g) (sym back) (split_here octets used x xs room fits))
+    where
+      late : (ys : List (Row K C)) → Each (Ahead o leave_all octets x) ys → Each (λ y. before (Some (cut_at leave_all x)) y ≡ false) ys
+      late [] h = tt
+      late (y ∷ ys) h = (ahead_once o leave_all octets x y h.0, late ys h.1)
+
+  splits : (used : ℕ) (xs : List (Row K C)) → Lined (Ahead o leave_all octets) xs → used ≤ 1500 → IsSplit used octets xs (filter (before (first_cut leave_all octets used xs)) xs) (filter (after_it (first_cut leave_all octets used xs)) xs)
+  splits used [] lined room = record { joined = refl; fits = omega arith; full = λ next more h. cc }
+  splits used (x ∷ xs) lined room = splits_by used x xs (nat_le (used + octets x.content) 1500) refl lined.0 room (λ more. splits (used + octets x.content) xs lined.1 more)
+
+  taken_in_order : (base : ℕ) (rows : List (Row K C)) → Ascends cmp key_of rows → (r : Row K C) → In r (order leave_all rows) → before (first_cut leave_all octets base (order leave_all rows)) r ≡ is_taken base octets cmp leave_all rows r
+  taken_in_order base rows up r at =
+      let member = tried_in_order o leave_all octets r rows at in
+      let cut : Option (Cut K) = first_cut leave_all octets base (order leave_all rows) in
+      let tried : before cut r ≡ is_in_room cmp leave_all cut r = ap (λ t. t && is_before cmp leave_all cut r) (sym member.0) in
+      tried ∙ in_room o leave_all octets base rows r up member.1
+
+  -- the rows that are taken are the front of the order that fits
+  pub taken-split : (base : ℕ) (rows : List (Row K C)) → Ascends cmp key_of rows → base ≤ 1500 → IsSplit base octets (order leave_all rows) (filter (is_taken base octets cmp leave_all rows) (order leave_all rows)) (filter (λ r. not (is_taken base octets cmp leave_all rows r)) (order leave_all rows))
+  taken-split base rows up room =
+      let cut : Option (Cut K) = first_cut leave_all octets base (order leave_all rows) in
+      let front = filter-same (before cut) (is_taken base octets cmp leave_all rows) (order leave_all rows) (taken_in_order base rows up) in
+      let back = filter-same (after_it cut) (λ r. not (is_taken base octets cmp leave_all rows r)) (order leave_all rows) (λ r at. ap not (taken_in_order base rows up r at)) in
+      subst (λ f. IsSplit base octets (order leave_all rows) f (filter (λ r. not (is_taken base octets cmp leave_all rows r)) (order leave_all rows))) front
+      (subst (λ g. IsSplit base octets (order leave_all rows) (filter (before cut) (order leave_all rows)) g) back (splits base (order leave_all rows) (lined_order o leave_all octets rows up) room))

@@ -188,26 +188,27 @@ module _ {K C : Type 0} {cmp : K → K → Ordering} (o : IsTotalOrder cmp) (lea
   later_by used rest x r xs true e late step = step
   later_by used rest x r xs false e late step = no_room (used + octets x.content) rest e ∙ sym late
     where
-    no_room : (n m : ℕ) → nat_le n 1500 ≡ false → nat_le (n + m) 1500 ≡ false
-    no_room n m h = grind (arith, nat_tests)
+      no_room : (n m : ℕ) → nat_le n 1500 ≡ false → nat_le (n + m) 1500 ≡ false
+      no_room n m h = grind (arith, nat_tests)
 
   pub fits_before : (used : ℕ) (xs : List (Row K C)) (r : Row K C) → Lined Ahead xs → In r xs → nat_le (used + octets_of octets (up_to cmp r.key xs)) 1500 ≡ is_before cmp leave_all (first_cut leave_all octets used xs) r
   fits_before used [] r lined at = absurd at
   fits_before used (x ∷ xs) r lined (inl e) = subst (λ z. nat_le (used + octets_of octets (up_to cmp z.key (x ∷ xs))) 1500 ≡ is_before cmp leave_all (first_cut leave_all octets used (x ∷ xs)) z) (sym e) here
     where
-    one_more : used + (0 + octets x.content) ≡ used + octets x.content
-    one_more = omega arith
-    here : nat_le (used + octets_of octets (up_to cmp x.key (x ∷ xs))) 1500 ≡ is_before cmp leave_all (first_cut leave_all octets used (x ∷ xs)) x
-    here = rw (same_refl o x.key) (ap (λ n. nat_le n 1500) one_more ∙ here_by used x xs (nat_le (used + octets x.content) 1500) refl lined.0)
+      one_more : used + (0 + octets x.content) ≡ used + octets x.content
+      one_more = omega arith
+
+      here : nat_le (used + octets_of octets (up_to cmp x.key (x ∷ xs))) 1500 ≡ is_before cmp leave_all (first_cut leave_all octets used (x ∷ xs)) x
+      here = rw (same_refl o x.key) (ap (λ n. nat_le n 1500) one_more ∙ here_by used x xs (nat_le (used + octets x.content) 1500) refl lined.0)
   fits_before used (x ∷ xs) r lined (inr at) =
       let ahead : Ahead x r = Each-in (Ahead x) r xs lined.0 at in
       rw ahead.1
       (ap (λ n. nat_le n 1500) (more (up_to cmp r.key xs))
-       ∙ later_by used (octets_of octets (up_to cmp r.key xs)) x r xs (nat_le (used + octets x.content) 1500) refl (ahead_once x r ahead)
-         (fits_before (used + octets x.content) xs r lined.1 at))
+      ∙ later_by used (octets_of octets (up_to cmp r.key xs)) x r xs (nat_le (used + octets x.content) 1500) refl (ahead_once x r ahead)
+      (fits_before (used + octets x.content) xs r lined.1 at))
     where
-    more : (ys : List (Row K C)) → used + octets_of octets (x ∷ ys) ≡ used + octets x.content + octets_of octets ys
-    more ys = let e = sum_by-cons (λ (y : Row K C). octets y.content) x ys in omega arith
+      more : (ys : List (Row K C)) → used + octets_of octets (x ∷ ys) ≡ used + octets x.content + octets_of octets ys
+      more ys = let e = sum_by-cons (λ (y : Row K C). octets y.content) x ys in omega arith
 
   -- ---- the order
 
@@ -221,12 +222,12 @@ module _ {K C : Type 0} {cmp : K → K → Ordering} (o : IsTotalOrder cmp) (lea
       let rounds : round leave_all x.applicant < round leave_all y.applicant = omega arith in
       (earlier_by (round leave_all x.applicant) (round leave_all y.applicant) (is_lt (cmp x.key y.key)) rounds, differ (same cmp x.key y.key) refl rounds a.1 b.1)
     where
-    differ : (b : Bool) → same cmp x.key y.key ≡ b → round leave_all x.applicant < round leave_all y.applicant → In x rows → In y rows → b ≡ false
-    differ false e rounds at bt = refl
-    differ true e rounds at bt =
-        let one : x ≡ y = one_row o x y rows up at bt (same_is cmp x.key y.key e) in
-        let tied : round leave_all x.applicant ≡ round leave_all y.applicant = ap (λ (r : Row K C). round leave_all r.applicant) one in
-        absurd (omega arith)
+      differ : (b : Bool) → same cmp x.key y.key ≡ b → round leave_all x.applicant < round leave_all y.applicant → In x rows → In y rows → b ≡ false
+      differ false e rounds at bt = refl
+      differ true e rounds at bt =
+          let one : x ≡ y = one_row o x y rows up at bt (same_is cmp x.key y.key e) in
+          let tied : round leave_all x.applicant ≡ round leave_all y.applicant = ap (λ (r : Row K C). round leave_all r.applicant) one in
+          absurd (omega arith)
 
   lined_rows : (rows : List (Row K C)) → Ascends cmp key_of rows → Lined (λ (x y : Row K C). cmp x.key y.key ≡ Less) rows
   lined_rows [] up = tt
@@ -235,21 +236,22 @@ module _ {K C : Type 0} {cmp : K → K → Ordering} (o : IsTotalOrder cmp) (lea
   lined_round : (n : ℕ) (rows : List (Row K C)) → Ascends cmp key_of rows → Lined Ahead (rows_of_round leave_all n rows)
   lined_round n rows up =
       Lined-in (λ x y. cmp x.key y.key ≡ Less) Ahead (rows_of_round leave_all n rows)
-      (λ x y at bt less.
-         (together_by (round leave_all x.applicant) (round leave_all y.applicant) (is_lt (cmp x.key y.key)) ((of_round n rows x at).0 ∙ sym (of_round n rows y bt).0) (ap is_lt less),
-         below_is_not_same cmp x.key y.key less))
+      (λ x y at bt less. (
+        together_by (round leave_all x.applicant) (round leave_all y.applicant) (is_lt (cmp x.key y.key)) ((of_round n rows x at).0 ∙ sym (of_round n rows y bt).0) (ap is_lt less),
+        below_is_not_same cmp x.key y.key less,
+      ))
       (Lined-filtered (λ x y. cmp x.key y.key ≡ Less) (λ x. round leave_all x.applicant == n) rows (lined_rows rows up))
 
   pub lined_order : (rows : List (Row K C)) → Ascends cmp key_of rows → Lined Ahead (order leave_all rows)
   lined_order rows up =
       Lined-append Ahead (rows_of_round leave_all 1 rows) (rows_of_round leave_all 2 rows ++ rows_of_round leave_all 3 rows) (lined_round 1 rows up)
       (Lined-append Ahead (rows_of_round leave_all 2 rows) (rows_of_round leave_all 3 rows) (lined_round 2 rows up) (lined_round 3 rows up)
-         (λ x y at bt. apart rows up x y 2 3 (omega arith) at bt))
+      (λ x y at bt. apart rows up x y 2 3 (omega arith) at bt))
       (λ x y at bt. after_first x y at (In-append y (rows_of_round leave_all 2 rows) (rows_of_round leave_all 3 rows) bt))
     where
-    after_first : (x y : Row K C) → In x (rows_of_round leave_all 1 rows) → In y (rows_of_round leave_all 2 rows) ⊎ In y (rows_of_round leave_all 3 rows) → Ahead x y
-    after_first x y at (inl bt) = apart rows up x y 1 2 (omega arith) at bt
-    after_first x y at (inr bt) = apart rows up x y 1 3 (omega arith) at bt
+      after_first : (x y : Row K C) → In x (rows_of_round leave_all 1 rows) → In y (rows_of_round leave_all 2 rows) ⊎ In y (rows_of_round leave_all 3 rows) → Ahead x y
+      after_first x y at (inl bt) = apart rows up x y 1 2 (omega arith) at bt
+      after_first x y at (inr bt) = apart rows up x y 1 3 (omega arith) at bt
 
   -- ---- the rows before the cut are those that are taken
 
@@ -259,10 +261,10 @@ module _ {K C : Type 0} {cmp : K → K → Ordering} (o : IsTotalOrder cmp) (lea
   pub in_order : (r : Row K C) (rows : List (Row K C)) → is_tried leave_all r ≡ true → In r rows → In r (order leave_all rows)
   in_order r rows tried at = place (rounds_are leave_all r.applicant tried)
     where
-    place : (round leave_all r.applicant ≡ 1) ⊎ ((round leave_all r.applicant ≡ 2) ⊎ (round leave_all r.applicant ≡ 3)) → In r (order leave_all rows)
-    place (inl e) = In-left r (rows_of_round leave_all 1 rows) (rows_of_round leave_all 2 rows ++ rows_of_round leave_all 3 rows) (in_round 1 r rows e at)
-    place (inr (inl e)) = In-right r (rows_of_round leave_all 1 rows) (rows_of_round leave_all 2 rows ++ rows_of_round leave_all 3 rows) (In-left r (rows_of_round leave_all 2 rows) (rows_of_round leave_all 3 rows) (in_round 2 r rows e at))
-    place (inr (inr e)) = In-right r (rows_of_round leave_all 1 rows) (rows_of_round leave_all 2 rows ++ rows_of_round leave_all 3 rows) (In-right r (rows_of_round leave_all 2 rows) (rows_of_round leave_all 3 rows) (in_round 3 r rows e at))
+      place : (round leave_all r.applicant ≡ 1) ⊎ ((round leave_all r.applicant ≡ 2) ⊎ (round leave_all r.applicant ≡ 3)) → In r (order leave_all rows)
+      place (inl e) = In-left r (rows_of_round leave_all 1 rows) (rows_of_round leave_all 2 rows ++ rows_of_round leave_all 3 rows) (in_round 1 r rows e at)
+      place (inr (inl e)) = In-right r (rows_of_round leave_all 1 rows) (rows_of_round leave_all 2 rows ++ rows_of_round leave_all 3 rows) (In-left r (rows_of_round leave_all 2 rows) (rows_of_round leave_all 3 rows) (in_round 2 r rows e at))
+      place (inr (inr e)) = In-right r (rows_of_round leave_all 1 rows) (rows_of_round leave_all 2 rows ++ rows_of_round leave_all 3 rows) (In-right r (rows_of_round leave_all 2 rows) (rows_of_round leave_all 3 rows) (in_round 3 r rows e at))
 
   in_room_by : (base : ℕ) (rows : List (Row K C)) (r : Row K C) (b : Bool) → is_tried leave_all r ≡ b → Ascends cmp key_of rows → In r rows → (b && is_before cmp leave_all (first_cut leave_all octets base (order leave_all rows)) r) ≡ (b && nat_le (base + octets_of octets (up_to cmp r.key (order leave_all rows))) 1500)
   in_room_by base rows r true tried up at = sym (fits_before base (order leave_all rows) r (lined_order rows up) (in_order r rows tried at))

@@ -50,7 +50,6 @@ module _ {K C : Type 0} where
     key = λ r s e. sent-key leave_all (taken r) leave r s e;
     lives = λ r s live e. sent-live leave_all (taken r) leave r s live e;
   }
-
   -- ---- the cut gives what the test gives
 
 module _ {K C : Type 0} {cmp : K → K → Ordering} (o : IsTotalOrder cmp) where

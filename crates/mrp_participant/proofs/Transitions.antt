@@ -1,5 +1,5 @@
 -- Each event keeps a row's key, and leaves no row of which nothing is kept.
-use Rattle.std.proofs.Common.{◌≡◌, ℕ, Bool, true, false, not, ◌||◌, if◌then◌else◌, refl, sym, ap, ◌∙◌, subst, List, [], ◌∷◌, map, OnOk, OnErr}
+use Rattle.std.proofs.Common.{◌≡◌, ℕ, Bool, true, false, not, ◌||◌, if◌then◌else◌, refl, sym, ap, ◌∙◌, subst, List, [], ◌∷◌, map, fold, OnOk, OnErr}
 use Rattle.std.specs.declared.option.Option.{Option}
 use Rattle.std.specs.declared.option.Option.TheVariants.{None, Some}
 use Rattle.std.specs.declared.cmp.Ordering.{Ordering}
@@ -25,7 +25,7 @@ use Rattle.mrp_participant.specs.OneRow.{is_live, leave_is_due, after_leave_due,
 use Rattle.std.specs.declared.result.Result.{Result}
 use Rattle.std.specs.declared.result.Result.TheVariants.{Ok, Err}
 use Rattle.mrp_participant.specs.Lookup.{Each, Ascends, key_of, find, put}
-use Rattle.mrp_participant.specs.State.{AreRows}
+use Rattle.mrp_participant.specs.State.{AreRows, rows_hearing, rows_after_receive}
 use Rattle.mrp_participant.proofs.Lookups.{Fits, AreRows-put, find-fits, Each-mapped, Each-kept, Ascends-kept}
 
 module _ {K C : Type 0} where
@@ -219,6 +219,14 @@ module _ {K C : Type 0} where
 
   pub AreRows-periodic : (cmp : K → K → Ordering) (rows : List (Row K C)) → AreRows cmp rows → AreRows cmp (map periodic_row rows)
   AreRows-periodic cmp rows are = AreRows-mapped cmp periodic_row (λ r. refl) periodic-live rows are
+
+module _ {K C : Type 0} {cmp : K → K → Ordering} (o : IsTotalOrder cmp) where
+  AreRows-fold : (leave : Cs) (events : List (MrpEvent × K × C)) (rows : List (Row K C)) → AreRows cmp rows → AreRows cmp (fold (rows_hearing cmp leave) rows events)
+  AreRows-fold leave [] rows are = are
+  AreRows-fold leave (e ∷ events) rows are = AreRows-fold leave events (rows_hearing cmp leave rows e) (AreRows-hear o e.0 e.1 e.2 leave rows are)
+
+  pub AreRows-receive : (leave : Cs) (leave_all : Bool) (events : List (MrpEvent × K × C)) (rows : List (Row K C)) → AreRows cmp rows → AreRows cmp (rows_after_receive cmp leave leave_all events rows)
+  AreRows-receive leave leave_all events rows are = AreRows-fold leave events (if leave_all then map (leave_all_row leave) rows else rows) (AreRows-leave_all cmp leave rows leave_all are)
 
 -- ---- rows that go where an event leaves nothing of them
 

@@ -1,6 +1,6 @@
 -- What a participant says when it may send (IEEE Std 802.1Q-2018, 10.7.6 and 10.8): which rows are taken
 -- into the PDU, what they say, and what becomes of them. The order and the limit are this project's.
-use Rattle.std.specs.Prelude.{ℕ, ◌+◌, Bool, true, false, ◌&&◌, not, if◌then◌else◌, nat_le, ◌==◌, List, [], ◌∷◌, ◌++◌, filter, sum_by}
+use Rattle.std.specs.Prelude.{◌≡◌, ℕ, ◌+◌, ◌<◌, ◌≤◌, Bool, true, false, ◌&&◌, not, if◌then◌else◌, nat_le, ◌==◌, List, [], ◌∷◌, ◌++◌, filter, sum_by}
 use Rattle.std.specs.declared.option.Option.{Option}
 use Rattle.std.specs.declared.option.Option.TheVariants.{None, Some}
 use Rattle.std.specs.declared.cmp.Ordering.{Ordering}
@@ -111,3 +111,9 @@ said_at (Some event) r = event_of r (written (applicant.said event (is_in r.regi
 -- what a row says in the PDU, where it is taken or not
 abbrev pub sent_event : {K C : Type 0} → Bool → Bool → Cs → Row K C → Option (MrpEvent × K × C)
 sent_event leave_all taken leave r = said_at (chance leave_all taken r) (before_chance leave_all leave r)
+
+-- a list of rows is split where room ends: the front fits, and with the next row it wouldn't
+pub record IsSplit {K C : Type 0} (base : ℕ) (octets : C → ℕ) (whole front rest : List (Row K C)) : Type 0 where
+  pub joined : whole ≡ front ++ rest
+  pub fits : base + octets_of octets front ≤ 1500
+  pub full : (next : Row K C) (more : List (Row K C)) → rest ≡ next ∷ more → 1500 < base + octets_of octets front + octets next.content

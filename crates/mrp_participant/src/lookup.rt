@@ -28,7 +28,11 @@ pub(crate) fn find_row<K: Copy + Ord, C: Copy>(rows: &[Row<K, C>], key: &K) -> O
 }
 
 /// Puts another row, or none, in the place of the row at `at`.
-pub(crate) fn replace_at<K: Copy, C: Copy>(rows: &mut Vec<Row<K, C>>, at: usize, new: Option<Row<K, C>>)
+pub(crate) fn replace_at<K: Copy, C: Copy>(
+    rows: &mut Vec<Row<K, C>>,
+    at: usize,
+    new: Option<Row<K, C>>,
+)
     requires { at < length rows.old.items }
     ensures { rows.new.items ≡ take at rows.old.items ++ cons_option new (drop (suc at) rows.old.items) }
 {

@@ -69,7 +69,11 @@ impl<K: Copy, C: Copy> Row<K, C> {
         let (registrar, _) = self.registrar.step(event);
         let starts = self.registrar == Registrar::Held && registrar == Registrar::Leaving;
         let leave = if starts { leave } else { self.leave };
-        Row { registrar, leave, ..self }
+        Row {
+            registrar,
+            leave,
+            ..self
+        }
     }
 
     /// The row after the user declared a content: the same again changes nothing, another is declared
@@ -81,13 +85,21 @@ impl<K: Copy, C: Copy> Row<K, C> {
     {
         if !self.applicant.is_declared() {
             let applicant = self.applicant.declare();
-            return Row { applicant, content, ..self };
+            return Row {
+                applicant,
+                content,
+                ..self
+            };
         }
         if self.content == content {
             return self;
         }
         let applicant = self.applicant.redeclare();
-        Row { applicant, content, ..self }
+        Row {
+            applicant,
+            content,
+            ..self
+        }
     }
 
     /// The row after the user withdrew.
@@ -150,14 +162,22 @@ impl<K: Copy, C: Copy> Row<K, C> {
     pub(crate) fn registered(&self) -> Option<C>
         ensures { result ≡ registered_in (Some self.now) }
     {
-        if self.registrar.is_registered() { Some(self.heard) } else { None }
+        if self.registrar.is_registered() {
+            Some(self.heard)
+        } else {
+            None
+        }
     }
 
     /// What is declared of the key.
     pub(crate) fn declares(&self) -> Option<C>
         ensures { result ≡ declared_in (Some self.now) }
     {
-        if self.applicant.is_declared() { Some(self.content) } else { None }
+        if self.applicant.is_declared() {
+            Some(self.content)
+        } else {
+            None
+        }
     }
 
     /// Whether the row's leave timer has its end at or before `now`.
@@ -171,7 +191,11 @@ impl<K: Copy, C: Copy> Row<K, C> {
     pub(crate) fn after_leave_due(self, now: Cs) -> Option<Row<K, C>>
         ensures { result ≡ after_leave_due now.0 self }
     {
-        if self.leave_is_due(now) { self.left() } else { Some(self) }
+        if self.leave_is_due(now) {
+            self.left()
+        } else {
+            Some(self)
+        }
     }
 
     /// Whether the row's machines are at rest.
@@ -214,7 +238,11 @@ impl<K: Copy, C: Copy> Row<K, C> {
     fn before_chance(self, leave_all: bool, leave: Cs) -> Row<K, C>
         ensures { result ≡ before_chance leave_all leave self }
     {
-        if leave_all { self.registrar_takes(RegEvent::TxLeaveAll, leave) } else { self }
+        if leave_all {
+            self.registrar_takes(RegEvent::TxLeaveAll, leave)
+        } else {
+            self
+        }
     }
 
     /// The row after a chance.
@@ -268,7 +296,11 @@ fn written(say: Say, held: bool) -> Option<MrpEvent>
     match say {
         Say::Quiet => None,
         Say::New => Some(MrpEvent::New),
-        Say::Join => Some(if held { MrpEvent::JoinIn } else { MrpEvent::JoinMt }),
+        Say::Join => Some(if held {
+            MrpEvent::JoinIn
+        } else {
+            MrpEvent::JoinMt
+        }),
         Say::Lv => Some(MrpEvent::Lv),
     }
 }

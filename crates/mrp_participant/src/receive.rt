@@ -28,7 +28,13 @@ impl<A: MrpApp> Participant<A> {
     {
         let alloc = *self.rows.allocator();
         let leave = Cs(now.0 + self.leave_time.0);
-        let rows = rows_after(alloc, self.rows.as_slice(), msgs.leave_all, msgs.events.as_slice(), leave)?;
+        let rows = rows_after(
+            alloc,
+            self.rows.as_slice(),
+            msgs.leave_all,
+            msgs.events.as_slice(),
+            leave,
+        )?;
         let keys = changed(alloc, self.rows.as_slice(), rows.as_slice())?;
         self.rows = rows;
         self.leave_all = machine_after(self.leave_all, msgs.leave_all);
@@ -41,7 +47,11 @@ impl<A: MrpApp> Participant<A> {
 fn machine_after(machine: LeaveAll, leave_all: bool) -> LeaveAll
     ensures { result ≡ (if leave_all then table Rx machine else machine) }
 {
-    if leave_all { machine.step(LaEvent::Rx) } else { machine }
+    if leave_all {
+        machine.step(LaEvent::Rx)
+    } else {
+        machine
+    }
 }
 
 /// The moment of the LeaveAll timer after a list of messages was received at `now`.
@@ -49,7 +59,11 @@ fn timer_after(next: Cs, leave_all: bool, now: Cs, period: Cs) -> Cs
     requires { now.0 + period.0 < 2 ^ 64 }
     ensures { result ≡ (if leave_all then after now period else next) }
 {
-    if leave_all { Cs(now.0 + period.0) } else { next }
+    if leave_all {
+        Cs(now.0 + period.0)
+    } else {
+        next
+    }
 }
 
 /// The rows after a list of messages was received: LeaveAll first, then the events in order.
@@ -135,7 +149,11 @@ fn hear_in<K: Copy + Ord, C: Copy>(
             if !makes_row(event) {
                 return Ok(());
             }
-            fill_at(rows, at, Row::fresh(key, content).hears(event, content, leave))
+            fill_at(
+                rows,
+                at,
+                Row::fresh(key, content).hears(event, content, leave),
+            )
         }
     }
 }

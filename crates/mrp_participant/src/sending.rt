@@ -36,7 +36,12 @@ impl<A: MrpApp> Participant<A> {
         }
         let leave_all = is_active(self.leave_all);
         let leave = Cs(now.0 + self.leave_time.0);
-        let (rows, events) = pdu_of::<A>(*self.rows.allocator(), self.rows.as_slice(), leave_all, leave)?;
+        let (rows, events) = pdu_of::<A>(
+            *self.rows.allocator(),
+            self.rows.as_slice(),
+            leave_all,
+            leave,
+        )?;
         self.rows = rows;
         self.leave_all = self.leave_all.step(LaEvent::Tx);
         self.sound = sound_after(self.sound, leave_all);
@@ -71,7 +76,13 @@ fn pdu_of<A: MrpApp>(
     rows: &[Row<A::Key, A::Content>],
     leave_all: bool,
     leave: Cs,
-) -> Result<(Vec<Row<A::Key, A::Content>>, Seq<(MrpEvent, A::Key, A::Content)>), NoMemory>
+) -> Result<
+    (
+        Vec<Row<A::Key, A::Content>>,
+        Seq<(MrpEvent, A::Key, A::Content)>,
+    ),
+    NoMemory,
+>
     requires { AreRows A.Key.cmp rows.now }
 
     ensures rows { IfOk result (λ p. p.0.items ≡ filter_map (λ r. sent_row leave_all (is_taken A.base A.octets A.Key.cmp leave_all rows.now r) leave r) rows.now) }
@@ -96,7 +107,11 @@ fn none_tried<K: Copy, C: Copy>(rows: &[Row<K, C>]) -> bool
 }
 
 /// Whether a row is tried, and before the first one that finds no room.
-fn is_in_room<K: Copy + Ord, C: Copy>(row: &Row<K, C>, leave_all: bool, cut: &Option<Cut<K>>) -> bool
+fn is_in_room<K: Copy + Ord, C: Copy>(
+    row: &Row<K, C>,
+    leave_all: bool,
+    cut: &Option<Cut<K>>,
+) -> bool
     ensures { result ≡ is_in_room K.cmp leave_all cut.now row.now }
 {
     row.is_tried(leave_all) && is_before(row, leave_all, cut)

@@ -36,7 +36,8 @@ impl<A: MrpApp> Participant<A> {
     pub fn any_due(&self, now: Cs) -> bool
         ensures { result ≡ is_any_due now self.now }
     {
-        any_leave_due(self.rows.as_slice(), now) || (self.next_leave_all.0 <= now.0 || self.periodic.due(now))
+        any_leave_due(self.rows.as_slice(), now)
+            || (self.next_leave_all.0 <= now.0 || self.periodic.due(now))
     }
 
     /// Fires all timers that are due at the moment `now`: the leave timers ascending, then LeaveAll, then
@@ -133,5 +134,9 @@ fn count(left: usize, leave_all: bool, periodic: bool) -> u32
 {
     let others = u128::from(leave_all) + u128::from(periodic);
     let fired = left as u128 + others;
-    if fired < 4_294_967_295 { fired as u32 } else { u32::MAX }
+    if fired < 4_294_967_295 {
+        fired as u32
+    } else {
+        u32::MAX
+    }
 }

@@ -6,7 +6,7 @@ abbrev pub invariant-loop-event : goal.invariant-loop-event
 invariant-loop-event g l =
     record {
       heard :
-        fold (rows_hearing g.K.Ord.cmp l.fn.leave) l.fn.rows.items l.events
-        ≡ fold (rows_hearing g.K.Ord.cmp l.fn.leave) l.rows.items (drop l.event-index l.events);
-      are_rows : AreRows g.K.Ord.cmp l.rows.items
+          fold (rows_hearing g.K.Ord.cmp l.fn.leave) l.fn.rows.items l.events
+          ≡ fold (rows_hearing g.K.Ord.cmp l.fn.leave) l.rows.items (drop l.event-index l.events);
+      are_rows : AreRows g.K.Ord.cmp l.rows.items;
     }

@@ -9,7 +9,7 @@ invariant-loop-row g l =
     record {
       room : l.total ≤ 1500;
       filled :
-        (rest : List (Row g.row.A-Key.Denot g.row.A-Content.Denot))
-        → first_cut l.leave_all g.A.MrpApp.octets l.used (rows_of_round l.leave_all l.n l.rows ++ rest)
-        ≡ first_cut l.leave_all g.A.MrpApp.octets l.total (rows_of_round l.leave_all l.n (drop l.row-index l.rows) ++ rest)
+          (rest : List (Row g.row.A-Key.Denot g.row.A-Content.Denot))
+          → first_cut l.leave_all g.A.MrpApp.octets l.used (rows_of_round l.leave_all l.n l.rows ++ rest)
+          ≡ first_cut l.leave_all g.A.MrpApp.octets l.total (rows_of_round l.leave_all l.n (drop l.row-index l.rows) ++ rest);
     }
