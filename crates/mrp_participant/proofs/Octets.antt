@@ -1,5 +1,5 @@
 -- What is sent fits into a PDU, ascends by key, and isn't empty.
-use Rattle.std.proofs.Common.{◌≡◌, ℕ, zero, suc, ◌+◌, ◌<◌, ◌≤◌, Bool, true, false, not, ◌&&◌, ◌||◌, if◌then◌else◌, nat_le, ◌==◌, List, [], ◌∷◌, ◌++◌, filter, sum_by, refl, sym, ap, ◌∙◌, subst, arith, inl, inr, eqb-true}
+use Rattle.std.proofs.Common.{◌≡◌, ℕ, zero, suc, ◌+◌, ◌<◌, ◌≤◌, Bool, true, false, not, ◌&&◌, if◌then◌else◌, nat_le, ◌==◌, List, [], ◌∷◌, ◌++◌, filter, sum_by, refl, sym, ap, ◌∙◌, subst, arith, inl, inr}
 use Rattle.std.specs.Prelude.{◌⊎◌}
 use Rattle.std.specs.declared.option.Option.{Option}
 use Rattle.std.specs.declared.option.Option.TheVariants.{None, Some}
@@ -18,11 +18,11 @@ use Rattle.mrp_participant.specs.declared.one_row.Row.{Row}
 use Rattle.mrp_participant.specs.declared.room.Cut.{Cut}
 use Rattle.mrp_participant.specs.Lookup.{Each, Ascends, key_of}
 use Rattle.mrp_participant.specs.OneRow.{with_applicant, registrar_takes}
-use Rattle.mrp_participant.specs.Sending.{IsSplit, round, is_tried, rows_of_round, order, chance, before_chance, said_at, event_of, sent_event, is_taken}
+use Rattle.mrp_participant.specs.Sending.{IsSplit, round, is_tried, rows_of_round, order, chance, said_at, event_of, sent_event, is_taken}
 use Rattle.mrp_participant.specs.Room.{cut_at, is_before, is_in_room, first_cut}
 use Rattle.mrp_participant.specs.State.{none_tried}
 use Rattle.mrp_participant.proofs.Lookups.{Ascends-kept, Each-map}
-use Rattle.mrp_participant.proofs.Rooms.{In, In-append, In-filtered, Each-in, Lined, Ahead, first_is_before, lined_order, of_round, ahead_once, not_ahead_of_itself, in_order, in_room, filter_map-same}
+use Rattle.mrp_participant.proofs.Rooms.{In, In-append, Lined, Ahead, first_is_before, lined_order, of_round, ahead_once, not_ahead_of_itself, in_order, in_room, filter_map-same}
 
 -- ---- sums
 
@@ -273,8 +273,8 @@ module _ {K C : Type 0} {cmp : K → K → Ordering} (o : IsTotalOrder cmp) (oct
       let test : is_taken base octets cmp false rows first.0 ≡ is_in_room cmp false cut first.0 = sym (in_room o false octets base rows first.0 up member.1) in
       let taken : is_taken base octets cmp false rows first.0 ≡ true = test ∙ (here ∙ first.2) in
       let said = says_by leave first.0 first.0.applicant member.0 in
-      let sent : sent_event false (is_taken base octets cmp false rows first.0) leave first.0 ≡ sent_event false true leave first.0 = ap (λ t. sent_event false t leave first.0) taken in
-      let says : sent_event false (is_taken base octets cmp false rows first.0) leave first.0 ≡ Some said.0 = sent ∙ said.1 in
+      let says : sent_event false (is_taken base octets cmp false rows first.0) leave first.0 ≡ Some said.0 =
+      subst (λ t. sent_event false t leave first.0 ≡ Some said.0) (sym taken) said.1 in
       kept_is_not_empty (λ r. sent_event false (is_taken base octets cmp false rows r) leave r) first.0 said.0 rows member.1 says empty
 
 -- ---- the rows that are taken are a split of the order

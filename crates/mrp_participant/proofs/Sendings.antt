@@ -1,5 +1,5 @@
 -- What a participant keeps of its rows when it sends, and what it says.
-use Rattle.std.proofs.Common.{◌≡◌, ℕ, ◌+◌, ◌<◌, ◌≤◌, Bool, true, false, not, ◌&&◌, ◌||◌, if◌then◌else◌, nat_le, ◌==◌, List, [], ◌∷◌, ◌++◌, filter, sum_by, refl, sym, ap, ◌∙◌, subst, arith}
+use Rattle.std.proofs.Common.{◌≡◌, ℕ, ◌+◌, Bool, true, false, not, ◌&&◌, ◌||◌, nat_le, List, [], ◌∷◌, refl, sym, ap, ◌∙◌, subst}
 use Rattle.std.specs.declared.option.Option.{Option}
 use Rattle.std.specs.declared.option.Option.TheVariants.{None, Some}
 use Rattle.std.specs.declared.cmp.Ordering.{Ordering}
@@ -7,10 +7,7 @@ use Rattle.std.specs.Cmp.{IsTotalOrder}
 use Rattle.std.specs.List.{filter_map, cons_option}
 use Rattle.srp_base.specs.declared.numbers.Cs.{Cs}
 use Rattle.srp_base.specs.declared.mrp.MrpEvent.{MrpEvent}
-use Rattle.applicant.specs.declared.Applicant.{Applicant}
-use Rattle.applicant.specs.declared.Applicant.TheVariants.{Vo, Vp, Vn, An, Aa, Qa, La}
 use Rattle.applicant.specs.declared.AppEvent.{AppEvent}
-use Rattle.applicant.specs.declared.AppEvent.TheVariants.{Tx, TxLeaveAll, TxLeaveAllFull}
 use Rattle.registrar.specs.declared.RegEvent.TheVariants.{TxLeaveAll as RegTxLeaveAll}
 use Rattle.leaveall.specs.declared.LeaveAll.{LeaveAll}
 use Rattle.leaveall.specs.declared.LeaveAll.TheVariants.{Active, Passive}
@@ -18,13 +15,13 @@ use Rattle.leaveall.specs.declared.LaEvent.TheVariants.{Tx as LaTx}
 use Rattle.leaveall.specs.Table as leaveall
 use Rattle.mrp_participant.specs.declared.one_row.Row.{Row}
 use Rattle.mrp_participant.specs.declared.room.Cut.{Cut}
-use Rattle.mrp_participant.specs.Lookup.{Each, Ascends, key_of}
-use Rattle.mrp_participant.specs.OneRow.{is_live, kept_row, applicant_takes, registrar_takes}
-use Rattle.mrp_participant.specs.Sending.{is_tried, is_taken, chance, before_chance, row_after, sent_row, sent_event, order, octets_of, up_to}
+use Rattle.mrp_participant.specs.Lookup.{key_of}
+use Rattle.mrp_participant.specs.OneRow.{is_live, applicant_takes, registrar_takes}
+use Rattle.mrp_participant.specs.Sending.{is_tried, is_taken, chance, row_after, sent_row, sent_event, order, octets_of, up_to}
 use Rattle.mrp_participant.specs.Room.{is_in_room, first_cut}
-use Rattle.mrp_participant.specs.State.{State, AreRows, after, is_active, is_silent, none_tried, sent_events, sent_rows, sent_state}
-use Rattle.mrp_participant.proofs.Transitions.{Keeps, kept-is, registrar-lives, sent_leave_all-registers, AreRows-filter_mapped}
-use Rattle.mrp_participant.proofs.Rooms.{In, in_room, filter_map-same}
+use Rattle.mrp_participant.specs.State.{State, AreRows, after, is_active, is_silent, none_tried, sent_events, sent_state}
+use Rattle.mrp_participant.proofs.Transitions.{Keeps, kept-is, registrar-lives, sent_leave_all-registers}
+use Rattle.mrp_participant.proofs.Rooms.{in_room, filter_map-same}
 
 -- ---- rows stay rows
 

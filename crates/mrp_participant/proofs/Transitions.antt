@@ -3,7 +3,7 @@ use Rattle.std.proofs.Common.{◌≡◌, ℕ, Bool, true, false, not, ◌||◌, 
 use Rattle.std.specs.declared.option.Option.{Option}
 use Rattle.std.specs.declared.option.Option.TheVariants.{None, Some}
 use Rattle.std.specs.declared.cmp.Ordering.{Ordering}
-use Rattle.std.specs.declared.cmp.Ordering.TheVariants.{Less, Equal, Greater}
+use Rattle.std.specs.declared.cmp.Ordering.TheVariants.{Less, Equal}
 use Rattle.std.specs.Cmp.{IsTotalOrder}
 use Rattle.std.proofs.lemmas.Cmp.{tied_itself}
 use Rattle.srp_base.specs.declared.numbers.Cs.{Cs}
@@ -13,18 +13,18 @@ use Rattle.applicant.specs.declared.Applicant.{Applicant}
 use Rattle.applicant.specs.declared.Applicant.TheVariants.{Vo, Vp, Vn, An, Aa, Qa, La}
 use Rattle.applicant.specs.Table as applicant
 use Rattle.registrar.specs.declared.Registrar.{Registrar}
-use Rattle.registrar.specs.declared.Registrar.TheVariants.{Held, Leaving, Empty}
+use Rattle.registrar.specs.declared.Registrar.TheVariants.{Held, Empty}
 use Rattle.applicant.specs.declared.AppEvent.{AppEvent}
 use Rattle.applicant.specs.declared.AppEvent.TheVariants.{RxIn, RxMt, RxLv as AppRxLv, RxLeaveAll as AppRxLeaveAll, Periodic}
 use Rattle.registrar.specs.declared.RegEvent.{RegEvent}
 use Rattle.registrar.specs.declared.RegEvent.TheVariants.{RxNew, RxJoin, RxLv as RegRxLv, RxLeaveAll as RegRxLeaveAll, TxLeaveAll, LeaveTimer}
 use Rattle.registrar.specs.Table as registrar
-use Rattle.std.specs.List.{filter_map, cons_option}
+use Rattle.std.specs.List.{filter_map}
 use Rattle.mrp_participant.specs.declared.one_row.Row.{Row}
 use Rattle.mrp_participant.specs.OneRow.{is_live, leave_is_due, after_leave_due, is_in, applicant_takes, registrar_takes, with_heard, leave_all_row, periodic_row, kept_row, fresh_row, declared_row, with_applicant, left_row, heard_row, after_declare, after_withdraw, after_leave, after_hear, is_observer}
 use Rattle.std.specs.declared.result.Result.{Result}
 use Rattle.std.specs.declared.result.Result.TheVariants.{Ok, Err}
-use Rattle.mrp_participant.specs.Lookup.{Each, Ascends, key_of, find, put}
+use Rattle.mrp_participant.specs.Lookup.{Ascends, key_of, find, put}
 use Rattle.mrp_participant.specs.State.{AreRows, rows_hearing, rows_after_receive}
 use Rattle.mrp_participant.proofs.Lookups.{Fits, AreRows-put, find-fits, Each-mapped, Each-kept, Ascends-kept}
 

@@ -1,7 +1,6 @@
 -- A participant as contracts see it, and the participant after each call (IEEE Std 802.1Q-2018, 10.7).
 use Rattle.std.specs.Prelude.{◌≡◌, ℕ, ◌+◌, ◌≤◌, Bool, true, false, ◌&&◌, ◌||◌, not, if◌then◌else◌, nat_le, List, [], map, filter, length, fold}
-use Rattle.std.specs.declared.option.Option.{Option}
-use Rattle.std.specs.declared.option.Option.TheVariants.{None, Some}
+use Rattle.std.specs.declared.option.Option.TheVariants.{Some}
 use Rattle.std.specs.declared.cmp.Ordering.{Ordering}
 use Rattle.std.specs.List.{filter_map, list_any, list_all}
 use Rattle.srp_base.specs.declared.numbers.Cs.{Cs}
@@ -49,6 +48,7 @@ abbrev pub rearmed : Cs → Periodic → Periodic
 rearmed now p = record p { next = record { 0 = leaveall.hundred_after now.0 } }
 
 module _ {K C : Type 0} where
+  -- the same participant with other rows
   abbrev pub with_rows : List (Row K C) → State K C → State K C
   with_rows rows s = record s { rows = rows }
 

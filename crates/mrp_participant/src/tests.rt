@@ -41,11 +41,13 @@ impl MrpApp for Numbers {
     ghost row_fits = { λ c. Prim.omega arith };
 }
 
-fn new_participant(alloc: Global, period: u64, periodic: bool) -> Participant<Numbers>
-    requires low { 1 ≤ period }
-    requires high { period ≤ 10000 }
-{
-    Participant::new(alloc, Cs(period), Cs(60), periodic)
+// A participant whose first LeaveAll is at 100 with periodic transmission, or at 1,001 without.
+fn new_participant(alloc: Global, often: bool) -> Participant<Numbers> {
+    if often {
+        Participant::new(alloc, Cs(100), Cs(60), true)
+    } else {
+        Participant::new(alloc, Cs(1001), Cs(60), false)
+    }
 }
 
 fn declare(participant: &mut Participant<Numbers>, first: u32, last: u32) -> Result<(), NoMemory> {
@@ -120,7 +122,7 @@ fn registrar(participant: &Participant<Numbers>, key: u32) -> (Option<u32>, Regi
 // 300 keys take three PDUs, and a LeaveAll leaves the last three very anxious.
 #[test]
 fn full_pdus(rt: HostRuntime) -> Result<(), Fail> {
-    let mut participant = new_participant(rt.alloc(), 1001, false);
+    let mut participant = new_participant(rt.alloc(), false);
     declare(&mut participant, 1, 300)?;
     let join = MrpEvent::JoinMt;
     assert!(rt; sends(&mut participant, 20, false, join, &[(1, 297)])?);
@@ -145,7 +147,7 @@ fn full_pdus(rt: HostRuntime) -> Result<(), Fail> {
 // A row that is declared and withdrawn with nothing sent between still says Lv, once.
 #[test]
 fn withdrawn_in_time(rt: HostRuntime) -> Result<(), Fail> {
-    let mut participant = new_participant(rt.alloc(), 1001, false);
+    let mut participant = new_participant(rt.alloc(), false);
     declare(&mut participant, 7, 7)?;
     participant.withdraw(7);
     assert_eq!(rt; applicant(&participant, 7), Applicant::La);
@@ -159,7 +161,7 @@ fn withdrawn_in_time(rt: HostRuntime) -> Result<(), Fail> {
 // Receiving tells the keys whose registration or content changed, and acts on LeaveAll first.
 #[test]
 fn registrations(rt: HostRuntime) -> Result<(), Fail> {
-    let mut participant = new_participant(rt.alloc(), 1001, false);
+    let mut participant = new_participant(rt.alloc(), false);
     let held = Registrar::Held;
     // LeaveAll, the event with its content; whether the key is told, and what is registered of it
     let cases = [
@@ -201,7 +203,7 @@ fn registrations(rt: HostRuntime) -> Result<(), Fail> {
 // The timers fire together, and the periodic event makes what is quiet anxious.
 #[test]
 fn timers(rt: HostRuntime) -> Result<(), Fail> {
-    let mut participant = new_participant(rt.alloc(), 100, true);
+    let mut participant = new_participant(rt.alloc(), true);
     declare(&mut participant, 1, 1)?;
     declare(&mut participant, 1, 1)?;
     assert_eq!(rt; applicant(&participant, 1), Applicant::Vp);

@@ -1,4 +1,4 @@
-use Rattle.std.proofs.Common.{◌≡◌, ◌∙◌, sym, ap}
+use Rattle.std.proofs.Common.{◌∙◌, sym, ap}
 use Rattle.mrp_participant.specs.State.{State, after, is_active}
 use Rattle.mrp_participant.proofs.Sendings.{silent-state, events-of}
 use Rattle.mrp_participant.proofs.model.Participant.send.Goals as goal
