@@ -1,0 +1,239 @@
+//! The Applicant of MRP (IEEE Std 802.1Q-2018, 10.7.7): what a port has said of one attribute, and
+//! what it still has to say.
+//!
+//! ```text
+//!            nothing said         said once           said enough
+//! observer   Vo  very anxious
+//! declared   Vp  very anxious     Aa  anxious         Qa  quiet
+//! new        Vn  very anxious     An  anxious
+//! withdrawn  La  leaving: a Lv is still to be said
+//! ```
+//!
+//! `step` is one cell of the table in `specs/Table.antt`: the new state, and what is said. The user's
+//! `declare`, `redeclare` and `withdraw` are requests of that table, chosen so that every withdrawal
+//! of something declared says a Lv, or rides on a LeaveAll: a plain LvReq in VP would go to VO in
+//! silence while an earlier Join may still be in flight, and leave the attribute registered at the
+//! neighbour for good. The table is this project's, after the standard's.
+#![tactic(auto)]
+
+ghost use Rattle.std.specs.Prelude.{◌≡◌};
+ghost use Rattle.applicant.specs.Table.{table, declare_of, redeclare_of, withdraw_of, is_declared_in};
+
+/// The states. The first letter is very anxious, anxious, quiet or leaving; the second is observer,
+/// passive, new, active or quiet's "active".
+#[derive(Clone, Copy, Debug, PartialEq, Eq)]
+pub enum Applicant {
+    Vo,
+    Vp,
+    Vn,
+    An,
+    Aa,
+    Qa,
+    La,
+}
+
+/// What happens to an Applicant: a request of its user, a received event, or a chance to send.
+/// `RxIn` is a received JoinIn or In, `RxMt` a received JoinMt or Mt. `TxLeaveAllFull` is a LeaveAll
+/// sent in a PDU that had no room for the attribute.
+#[derive(Clone, Copy, Debug, PartialEq, Eq)]
+pub enum AppEvent {
+    NewReq,
+    JoinReq,
+    LvReq,
+    RxIn,
+    RxMt,
+    RxLv,
+    RxLeaveAll,
+    Periodic,
+    Tx,
+    TxLeaveAll,
+    TxLeaveAllFull,
+}
+
+/// What an Applicant says of its attribute in the PDU that is being sent.
+#[derive(Clone, Copy, Debug, PartialEq, Eq)]
+pub enum Say {
+    Quiet,
+    New,
+    Join,
+    Lv,
+}
+
+impl Applicant {
+    /// The new state, and what is said. `held` is whether the port's own Registrar of the attribute is
+    /// IN.
+    pub fn step(self, event: AppEvent, held: bool) -> (Applicant, Say)
+        ensures { result ≡ table event held self }
+    {
+        use AppEvent::*;
+        use Applicant::*;
+        match (event, self) {
+            (NewReq, Vo | Vp | An | Aa | Qa | La) => (Vn, Say::Quiet),
+            (JoinReq, Vo) => (Vp, Say::Quiet),
+            (JoinReq, La) => (Aa, Say::Quiet),
+            (LvReq, Vp) => (Vo, Say::Quiet),
+            (LvReq, Vn | An | Aa | Qa) => (La, Say::Quiet),
+            (RxIn, Aa) => (Qa, Say::Quiet),
+            (RxMt | Periodic, Qa) => (Aa, Say::Quiet),
+            (RxLv | RxLeaveAll | TxLeaveAllFull, An) => (Vn, Say::Quiet),
+            (RxLv | RxLeaveAll | TxLeaveAllFull, Aa | Qa) => (Vp, Say::Quiet),
+            (Tx | TxLeaveAll, Vp) => (Aa, Say::Join),
+            (Tx | TxLeaveAll, Vn) => (An, Say::New),
+            (Tx, An) if !held => (Aa, Say::New),
+            (Tx | TxLeaveAll, An) => (Qa, Say::New),
+            (Tx | TxLeaveAll, Aa) => (Qa, Say::Join),
+            (TxLeaveAll, Qa) => (Qa, Say::Join),
+            (Tx, La) => (Vo, Say::Lv),
+            (TxLeaveAll | TxLeaveAllFull, La) => (Vo, Say::Quiet),
+            _ => (self, Say::Quiet),
+        }
+    }
+
+    /// The state after the user declared: JoinReq in `Vo`, NewReq in `La`, nothing in the others.
+    pub fn declare(self) -> Applicant
+        ensures { result ≡ declare_of self }
+    {
+        match self {
+            Applicant::Vo => self.step(AppEvent::JoinReq, false).0,
+            Applicant::La => self.step(AppEvent::NewReq, false).0,
+            _ => self,
+        }
+    }
+
+    /// The state after the user declared another content: NewReq.
+    pub fn redeclare(self) -> Applicant
+        ensures { result ≡ redeclare_of self }
+    {
+        self.step(AppEvent::NewReq, false).0
+    }
+
+    /// The state after the user withdrew: NewReq and then LvReq in `Vp`, nothing in `Vo` and `La`,
+    /// LvReq in the others.
+    pub fn withdraw(self) -> Applicant
+        ensures { result ≡ withdraw_of self }
+    {
+        match self {
+            Applicant::Vo | Applicant::La => self,
+            Applicant::Vp => self.redeclare().step(AppEvent::LvReq, false).0,
+            _ => self.step(AppEvent::LvReq, false).0,
+        }
+    }
+
+    /// Whether the attribute is declared: in every state but `Vo` and `La`.
+    pub fn is_declared(self) -> bool
+        ensures { result ≡ is_declared_in self }
+    {
+        !matches!(self, Applicant::Vo | Applicant::La)
+    }
+}
+
+#[cfg(test)]
+mod tests {
+    use super::*;
+    use Applicant::*;
+
+    const STATES: [Applicant; 7] = [Vo, Vp, Vn, An, Aa, Qa, La];
+
+    // The cells of one event, in the order of the states. A cell whose state and Say are the column's
+    // own state and Quiet is blank.
+    fn row_is(
+        rt: &impl std::process::Abort,
+        event: AppEvent,
+        held: bool,
+        cells: [(Applicant, Say); 7],
+    ) {
+        for (state, cell) in STATES.iter().zip(cells.iter()) {
+            assert_eq!(rt; state.step(event, held), *cell, "{state:?} at {event:?}");
+        }
+    }
+
+    // A row at which nothing is said.
+    fn quiet_row_is(rt: &impl std::process::Abort, event: AppEvent, cells: [Applicant; 7]) {
+        for held in [false, true] {
+            for (state, cell) in STATES.iter().zip(cells.iter()) {
+                assert_eq!(rt;
+                    state.step(event, held),
+                    (*cell, Say::Quiet),
+                    "{state:?} at {event:?}"
+                );
+            }
+        }
+    }
+
+    #[test]
+    fn cells_of_the_table(rt: HostRuntime) {
+        quiet_row_is(&rt, AppEvent::NewReq, [Vn, Vn, Vn, Vn, Vn, Vn, Vn]);
+        quiet_row_is(&rt, AppEvent::JoinReq, [Vp, Vp, Vn, An, Aa, Qa, Aa]);
+        quiet_row_is(&rt, AppEvent::LvReq, [Vo, Vo, La, La, La, La, La]);
+        quiet_row_is(&rt, AppEvent::RxIn, [Vo, Vp, Vn, An, Qa, Qa, La]);
+        quiet_row_is(&rt, AppEvent::RxMt, [Vo, Vp, Vn, An, Aa, Aa, La]);
+        quiet_row_is(&rt, AppEvent::RxLv, [Vo, Vp, Vn, Vn, Vp, Vp, La]);
+        quiet_row_is(&rt, AppEvent::RxLeaveAll, [Vo, Vp, Vn, Vn, Vp, Vp, La]);
+        quiet_row_is(&rt, AppEvent::Periodic, [Vo, Vp, Vn, An, Aa, Aa, La]);
+        quiet_row_is(&rt, AppEvent::TxLeaveAllFull, [Vo, Vp, Vn, Vn, Vp, Vp, Vo]);
+        let (quiet, new, join, lv) = (Say::Quiet, Say::New, Say::Join, Say::Lv);
+        row_is(
+            &rt,
+            AppEvent::Tx,
+            false,
+            [
+                (Vo, quiet),
+                (Aa, join),
+                (An, new),
+                (Aa, new),
+                (Qa, join),
+                (Qa, quiet),
+                (Vo, lv),
+            ],
+        );
+        row_is(
+            &rt,
+            AppEvent::Tx,
+            true,
+            [
+                (Vo, quiet),
+                (Aa, join),
+                (An, new),
+                (Qa, new),
+                (Qa, join),
+                (Qa, quiet),
+                (Vo, lv),
+            ],
+        );
+        for held in [false, true] {
+            row_is(
+                &rt,
+                AppEvent::TxLeaveAll,
+                held,
+                [
+                    (Vo, quiet),
+                    (Aa, join),
+                    (An, new),
+                    (Qa, new),
+                    (Qa, join),
+                    (Qa, join),
+                    (Vo, quiet),
+                ],
+            );
+        }
+    }
+
+    #[test]
+    fn requests_of_the_user(rt: HostRuntime) {
+        let cases = [
+            (Vo, Vp, Vn, Vo, false),
+            (Vp, Vp, Vn, La, true),
+            (Vn, Vn, Vn, La, true),
+            (An, An, Vn, La, true),
+            (Aa, Aa, Vn, La, true),
+            (Qa, Qa, Vn, La, true),
+            (La, Vn, Vn, La, false),
+        ];
+        for (state, declared, redeclared, withdrawn, is_declared) in cases {
+            assert_eq!(rt; state.declare(), declared, "{state:?}");
+            assert_eq!(rt; state.redeclare(), redeclared, "{state:?}");
+            assert_eq!(rt; state.withdraw(), withdrawn, "{state:?}");
+            assert_eq!(rt; state.is_declared(), is_declared, "{state:?}");
+        }
+    }
+}

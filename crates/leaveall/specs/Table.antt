@@ -1,0 +1,22 @@
+-- The LeaveAll machine's table, after IEEE Std 802.1Q-2018, 10.7.9 (Table 10-5), and the moments of the
+-- periodic machine, after 10.7.10 (Table 10-6).
+use Rattle.std.specs.Prelude.{ℕ, ◌+◌, ◌*◌, ◌/◌, Bool, ◌&&◌, nat_le}
+use Rattle.leaveall.specs.declared.LeaveAll.{LeaveAll}
+use Rattle.leaveall.specs.declared.LeaveAll.TheVariants.{Active, Passive}
+use Rattle.leaveall.specs.declared.Periodic.{Periodic}
+use Rattle.leaveall.specs.declared.LaEvent.{LaEvent}
+use Rattle.leaveall.specs.declared.LaEvent.TheVariants.{Timer, Rx, Tx}
+
+-- the table: the timer of LeaveAll makes the machine Active, what is sent or received makes it Passive
+abbrev pub table : LaEvent → LeaveAll → LeaveAll
+table Timer _ = Active
+table Rx _ = Passive
+table Tx _ = Passive
+
+-- whether the periodic machine is on and its next moment is at or before `now`
+abbrev pub is_due : ℕ → Periodic → Bool
+is_due now p = p.on && nat_le p.next.0 now
+
+-- the first moment above `now` that is divisible by 100, in centiseconds
+abbrev pub hundred_after : ℕ → ℕ
+hundred_after now = (now / 100 + 1) * 100

@@ -1,0 +1,115 @@
+//! The two machines of MRP that each participant has once: LeaveAll (IEEE Std 802.1Q-2018, 10.7.9) and
+//! periodic transmission (10.7.10).
+//!
+//! ```text
+//!              timer                          on: at 100, 200, 300 .. cs each attribute that is
+//!   Passive ----------> Active                    quietly declared becomes anxious again
+//!      ^                  |
+//!      +------------------+
+//!       LeaveAll sent or received
+//! ```
+//!
+//! `LeaveAll::step` is the table in `specs/Table.antt`. Its timer restarts at its own expiry and at a
+//! received LeaveAll; it is kept by the participant. `Periodic` keeps its own next moment.
+#![tactic(auto)]
+
+ghost use Rattle.std.specs.Prelude.{◌≡◌, ℕ, ◌+◌, ◌*◌, ◌/◌, ◌%◌, ◌^◌, ◌<◌, ◌≤◌};
+ghost use Rattle.leaveall.specs.Table.{table, is_due, hundred_after};
+
+use srp_base::Cs;
+
+/// The states of the LeaveAll machine: Active where a LeaveAll is still to be sent.
+#[derive(Clone, Copy, Debug, PartialEq, Eq)]
+pub enum LeaveAll {
+    Active,
+    Passive,
+}
+
+/// What happens to the LeaveAll machine: its timer's end, a LeaveAll received, one sent.
+#[derive(Clone, Copy, Debug, PartialEq, Eq)]
+pub enum LaEvent {
+    Timer,
+    Rx,
+    Tx,
+}
+
+impl LeaveAll {
+    /// The new state: Active at the timer's end, Passive where a LeaveAll was received or sent.
+    pub fn step(self, event: LaEvent) -> LeaveAll
+        ensures { result ≡ table event self }
+    {
+        match event {
+            LaEvent::Timer => LeaveAll::Active,
+            LaEvent::Rx | LaEvent::Tx => LeaveAll::Passive,
+        }
+    }
+}
+
+/// The periodic machine: whether it is on, and the next moment at which it fires, in cs.
+#[derive(Clone, Copy, Debug, PartialEq, Eq)]
+pub struct Periodic {
+    pub on: bool,
+    pub next: Cs,
+}
+
+impl Periodic {
+    /// Whether the machine is on and its next moment is at or before `now`.
+    pub fn due(&self, now: Cs) -> bool
+        ensures { result ≡ is_due now.0 self.now }
+    {
+        self.on && self.next.0 <= now.0
+    }
+
+    /// Sets the next moment to the first one above `now` that is divisible by 100 cs; whether the
+    /// machine is on stays.
+    pub fn fire(&mut self, now: Cs)
+        requires { now.0 < 2 ^ 62 }
+
+        ensures moment { self.new.next.0 ≡ hundred_after now.0 }
+        ensures above { now.0 < self.new.next.0 }
+        ensures divisible { self.new.next.0 % 100 ≡ 0 }
+        ensures first { (k : ℕ) → now.0 < k → k % 100 ≡ 0 → self.new.next.0 ≤ k }
+        ensures kept { self.new.on ≡ self.old.on }
+    {
+        self.next = Cs((now.0 / 100 + 1) * 100);
+    }
+}
+
+#[cfg(test)]
+mod tests {
+    use super::*;
+
+    #[test]
+    fn cells_of_the_table(rt: HostRuntime) {
+        for state in [LeaveAll::Active, LeaveAll::Passive] {
+            assert_eq!(rt; state.step(LaEvent::Timer), LeaveAll::Active);
+            assert_eq!(rt; state.step(LaEvent::Rx), LeaveAll::Passive);
+            assert_eq!(rt; state.step(LaEvent::Tx), LeaveAll::Passive);
+        }
+    }
+
+    // The machine begins at 100 and fires at moments divisible by 100.
+    #[test]
+    fn periodic_moments(rt: HostRuntime) {
+        let cases = [(100, 200), (101, 200), (199, 200), (200, 300), (250, 300)];
+        for (now, next) in cases {
+            let mut periodic = Periodic {
+                on: true,
+                next: Cs(100),
+            };
+            assert_eq!(rt; periodic.due(Cs(99)), false);
+            assert_eq!(rt; periodic.due(Cs(now)), true, "at {now}");
+            periodic.fire(Cs(now));
+            assert_eq!(rt; periodic.next, Cs(next), "after {now}");
+            assert_eq!(rt; periodic.due(Cs(now)), false, "after {now}");
+        }
+        assert_eq!(rt;
+            Periodic {
+                on: false,
+                next: Cs(100)
+            }
+            .due(Cs(100)),
+            false
+        );
+    }
+}

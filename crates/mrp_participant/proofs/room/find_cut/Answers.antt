@@ -1,0 +1,25 @@
+use Rattle.std.proofs.Common.{◌≡◌, ℕ, Bool, List, [], ◌++◌, ap, sym, ◌∙◌}
+use Rattle.std.proofs.lemmas.List.{append-nil}
+use Rattle.std.specs.declared.option.Option.{Option}
+use Rattle.mrp_participant.specs.declared.one_row.Row.{Row}
+use Rattle.mrp_participant.specs.declared.room.Cut.{Cut}
+use Rattle.mrp_participant.specs.Sending.{rows_of_round}
+use Rattle.mrp_participant.specs.Room.{first_cut}
+use Rattle.mrp_participant.proofs.room.find_cut.Goals as goal
+
+-- three rounds, one after the other
+rounds : {K C : Type 0} (leave_all : Bool) (octets : C → ℕ) (start base used more : ℕ) (x y z : List (Row K C)) (cut : Option (Cut K)) → start ≡ base → ((rest : List (Row K C)) → first_cut leave_all octets start (x ++ rest) ≡ first_cut leave_all octets used rest) → ((rest : List (Row K C)) → first_cut leave_all octets used (y ++ rest) ≡ first_cut leave_all octets more rest) → first_cut leave_all octets more (z ++ []) ≡ cut → cut ≡ first_cut leave_all octets base (x ++ (y ++ z))
+rounds leave_all octets start base used more x y z cut is first second third =
+    sym (ap (λ b. first_cut leave_all octets b (x ++ (y ++ z))) (sym is) ∙ first (y ++ z) ∙ second z ∙ ap (first_cut leave_all octets more) (sym (append-nil z)) ∙ third)
+
+pub returns-in-Ok-fill-2 : goal.returns-in-Ok-fill-2
+returns-in-Ok-fill-2 g c =
+    rounds c.args.leave_all g.A.MrpApp.octets _ _ _ _
+    (rows_of_round c.args.leave_all 1 c.args.rows.now) (rows_of_round c.args.leave_all 2 c.args.rows.now) (rows_of_round c.args.leave_all 3 c.args.rows.now) _
+    c.base_octets.ensures c.in-Ok.ensures.filled c.in-Ok-fill.ensures.filled (c.in-Ok-fill-2.ensures.filled [])
+
+pub returns-in-Err-fill-2 : goal.returns-in-Err-fill-2
+returns-in-Err-fill-2 g c =
+    rounds c.args.leave_all g.A.MrpApp.octets _ _ _ _
+    (rows_of_round c.args.leave_all 1 c.args.rows.now) (rows_of_round c.args.leave_all 2 c.args.rows.now) (rows_of_round c.args.leave_all 3 c.args.rows.now) _
+    c.base_octets.ensures c.in-Ok.ensures.filled c.in-Ok-fill.ensures.filled (c.in-Err-fill-2.ensures.filled [])

@@ -1,0 +1,5 @@
+pub mod Lookup
+pub mod OneRow
+pub mod Room
+pub mod Sending
+pub mod State

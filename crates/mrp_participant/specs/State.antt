@@ -1,0 +1,169 @@
+-- A participant as contracts see it, and the participant after each call (IEEE Std 802.1Q-2018, 10.7).
+use Rattle.std.specs.Prelude.{◌≡◌, ℕ, ◌+◌, ◌≤◌, Bool, true, false, ◌&&◌, ◌||◌, not, if◌then◌else◌, nat_le, List, [], map, filter, length, fold}
+use Rattle.std.specs.declared.option.Option.TheVariants.{Some}
+use Rattle.std.specs.declared.cmp.Ordering.{Ordering}
+use Rattle.std.specs.List.{filter_map, list_any, list_all}
+use Rattle.srp_base.specs.declared.numbers.Cs.{Cs}
+use Rattle.srp_base.specs.declared.mrp.MrpEvent.{MrpEvent}
+use Rattle.leaveall.specs.declared.LeaveAll.{LeaveAll}
+use Rattle.leaveall.specs.declared.LeaveAll.TheVariants.{Active, Passive}
+use Rattle.leaveall.specs.declared.LaEvent.TheVariants.{Timer, Rx, Tx}
+use Rattle.leaveall.specs.declared.Periodic.{Periodic}
+use Rattle.leaveall.specs.Table as leaveall
+use Rattle.mrp_participant.specs.declared.one_row.Row.{Row}
+use Rattle.mrp_participant.specs.Lookup.{Each, Ascends, key_of, find, put}
+use Rattle.mrp_participant.specs.OneRow.{is_live, after_declare, after_withdraw, after_leave, after_hear, leave_all_row, registered_in, same_content, leave_is_due, after_leave_due, periodic_row, is_settled}
+use Rattle.mrp_participant.specs.Sending.{is_taken, is_tried, sent_row, sent_event}
+
+-- the rows ascending by key, the LeaveAll machine with the moment of its timer and its period, the time
+-- of a leave timer, the periodic machine, and the mark of soundness
+pub record State (K C : Type 0) : Type 0 where
+  pub rows : List (Row K C)
+  pub leave_all : LeaveAll
+  pub next_leave_all : Cs
+  pub period : Cs
+  pub leave_time : Cs
+  pub periodic : Periodic
+  pub sound : Bool
+
+-- a time after a moment
+abbrev pub after : Cs → Cs → Cs
+after now time = record { 0 = now.0 + time.0 }
+
+-- the rows of a participant ascend strictly by key, and each keeps something
+abbrev pub AreRows : {K C : Type 0} → (K → K → Ordering) → List (Row K C) → Type 0
+AreRows cmp rows = Ascends cmp key_of rows × Each (λ r. is_live r ≡ true) rows
+
+-- a time that a participant may be given, in cs
+abbrev pub IsTime : Cs → Type 0
+IsTime t = (1 ≤ t.0) × (t.0 ≤ 10000)
+
+-- whether a LeaveAll machine is Active
+abbrev pub is_active : LeaveAll → Bool
+is_active Active = true
+is_active Passive = false
+
+-- the periodic machine after it has fired
+abbrev pub rearmed : Cs → Periodic → Periodic
+rearmed now p = record p { next = record { 0 = leaveall.hundred_after now.0 } }
+
+module _ {K C : Type 0} where
+  -- the same participant with other rows
+  abbrev pub with_rows : List (Row K C) → State K C → State K C
+  with_rows rows s = record s { rows = rows }
+
+  -- a new participant
+  abbrev pub new_state : Cs → Cs → Bool → State K C
+  new_state period leave_time periodic =
+      record { rows = []; leave_all = Passive; next_leave_all = period; period = period; leave_time = leave_time; periodic = record { on = periodic; next = record { 0 = 100 } }; sound = true }
+
+  -- after a declaration, a withdrawal and the end of one leave timer
+  abbrev pub declared_state : (K → K → Ordering) → (C → C → Bool) → K → C → State K C → State K C
+  declared_state cmp eq k c s = with_rows (put cmp k (after_declare eq k c (find cmp k s.rows)) s.rows) s
+
+  abbrev pub withdrawn_state : (K → K → Ordering) → K → State K C → State K C
+  withdrawn_state cmp k s = with_rows (put cmp k (after_withdraw (find cmp k s.rows)) s.rows) s
+
+  abbrev pub left_state : (K → K → Ordering) → K → State K C → State K C
+  left_state cmp k s = with_rows (put cmp k (after_leave (find cmp k s.rows)) s.rows) s
+
+  -- the rows after one received event
+  abbrev pub rows_hearing : (K → K → Ordering) → Cs → List (Row K C) → MrpEvent × K × C → List (Row K C)
+  rows_hearing cmp leave rows e = put cmp e.1 (after_hear e.0 e.1 e.2 leave (find cmp e.1 rows)) rows
+
+  -- the rows after what was received: LeaveAll first, then the events in order
+  abbrev pub rows_after_receive : (K → K → Ordering) → Cs → Bool → List (MrpEvent × K × C) → List (Row K C) → List (Row K C)
+  rows_after_receive cmp leave leave_all events rows =
+      fold (rows_hearing cmp leave) (if leave_all then map (leave_all_row leave) rows else rows) events
+
+  -- after a PDU was received: with LeaveAll the LeaveAll machine gets Rx, and its timer restarts
+  abbrev pub received_state : (K → K → Ordering) → Cs → Bool → List (MrpEvent × K × C) → State K C → State K C
+  received_state cmp now leave_all events s =
+      record s {
+        rows = rows_after_receive cmp (after now s.leave_time) leave_all events s.rows;
+        leave_all = if leave_all then leaveall.table Rx s.leave_all else s.leave_all;
+        next_leave_all = if leave_all then after now s.period else s.next_leave_all;
+      }
+
+  -- the keys whose registration or registered content differs between two lists of rows, ascending; a
+  -- received PDU takes no row away, so all of them have a row afterwards
+  abbrev pub changed_keys : (K → K → Ordering) → (C → C → Bool) → List (Row K C) → List (Row K C) → List K
+  changed_keys cmp eq old new =
+      map key_of (filter (λ r. not (same_content eq (registered_in (find cmp r.key old)) (registered_in (Some r)))) new)
+
+  -- after the leave timers that are due have fired, and the keys that left, ascending
+  abbrev pub leave_timers_state : Cs → State K C → State K C
+  leave_timers_state now s = with_rows (filter_map (after_leave_due now.0) s.rows) s
+
+  abbrev pub left_keys : Cs → State K C → List K
+  left_keys now s = map key_of (filter (leave_is_due now.0) s.rows)
+
+  -- whether the timer of LeaveAll has its end at or before a moment, and after it has fired
+  abbrev pub is_leave_all_due : Cs → State K C → Bool
+  is_leave_all_due now s = nat_le s.next_leave_all.0 now.0
+
+  abbrev pub leave_all_state : Cs → State K C → State K C
+  leave_all_state now s = record s { leave_all = leaveall.table Timer s.leave_all; next_leave_all = after now s.period }
+
+  -- whether the periodic machine is on and due, after its event at every row, and after it has fired
+  abbrev pub is_periodic_due : Cs → State K C → Bool
+  is_periodic_due now s = leaveall.is_due now.0 s.periodic
+
+  abbrev pub periodic_state : State K C → State K C
+  periodic_state s = with_rows (map periodic_row s.rows) s
+
+  abbrev pub periodic_fired_state : Cs → State K C → State K C
+  periodic_fired_state now s = record s { rows = map periodic_row s.rows; periodic = rearmed now s.periodic }
+
+  -- whether any timer's moment is at or before a moment
+  abbrev pub is_any_due : Cs → State K C → Bool
+  is_any_due now s = list_any (leave_is_due now.0) s.rows || (is_leave_all_due now s || is_periodic_due now s)
+
+  -- after all timers that are due have fired: the leave timers, then LeaveAll, then periodic
+  abbrev pub due_leave_all_state : Cs → State K C → State K C
+  due_leave_all_state now s = if is_leave_all_due now s then leave_all_state now s else s
+
+  abbrev pub due_periodic_state : Cs → State K C → State K C
+  due_periodic_state now s = if is_periodic_due now s then periodic_fired_state now s else s
+
+  abbrev pub due_state : Cs → State K C → State K C
+  due_state now s = due_periodic_state now (due_leave_all_state now (leave_timers_state now s))
+
+  -- how many timers are due
+  abbrev pub due_count : Cs → State K C → ℕ
+  due_count now s = length (left_keys now s) + ((if is_leave_all_due now s then 1 else 0) + (if is_periodic_due now s then 1 else 0))
+
+  -- whether no row is VP, VN, AN, AA or LA
+  abbrev pub none_tried : List (Row K C) → Bool
+  none_tried rows = list_all (λ r. not (is_tried false r)) rows
+
+  -- whether nothing is to be said: no row is tried, and LeaveAll is Passive
+  abbrev pub is_silent : State K C → Bool
+  is_silent s = not (is_active s.leave_all) && none_tried s.rows
+
+  -- which rows are taken into the PDU
+  abbrev pub takes : ℕ → (C → ℕ) → (K → K → Ordering) → State K C → Row K C → Bool
+  takes base octets cmp s = is_taken base octets cmp (is_active s.leave_all) s.rows
+
+  -- the events of the PDU, ascending by key
+  abbrev pub sent_events : ℕ → (C → ℕ) → (K → K → Ordering) → Cs → State K C → List (MrpEvent × K × C)
+  sent_events base octets cmp now s =
+      filter_map (λ r. sent_event (is_active s.leave_all) (takes base octets cmp s r) (after now s.leave_time) r) s.rows
+
+  -- the rows after sending
+  abbrev pub sent_rows : ℕ → (C → ℕ) → (K → K → Ordering) → Cs → State K C → List (Row K C)
+  sent_rows base octets cmp now s =
+      filter_map (λ r. sent_row (is_active s.leave_all) (takes base octets cmp s r) (after now s.leave_time) r) s.rows
+
+  -- after sending: the LeaveAll machine gets Tx, and a LeaveAll makes the participant sound
+  abbrev pub sent_state : ℕ → (C → ℕ) → (K → K → Ordering) → Cs → State K C → State K C
+  sent_state base octets cmp now s =
+      record s { rows = sent_rows base octets cmp now s; leave_all = leaveall.table Tx s.leave_all; sound = is_active s.leave_all || s.sound }
+
+  -- whether nothing is pending: every applicant is VO or QA, every registrar IN or MT, and LeaveAll is
+  -- Passive
+  abbrev pub all_settled : List (Row K C) → Bool
+  all_settled rows = list_all is_settled rows
+
+  abbrev pub is_still : State K C → Bool
+  is_still s = not (is_active s.leave_all) && all_settled s.rows

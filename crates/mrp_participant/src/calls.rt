@@ -1,0 +1,94 @@
+//! What the user asks of one key, and the end of one leave timer.
+
+ghost use Rattle.std.specs.Prelude.{◌≡◌, None, OnOk, OnErr, if◌then◌else◌};
+ghost use Rattle.mrp_participant.specs.Lookup.{Ascends, key_of, same, find, put};
+ghost use Rattle.mrp_participant.specs.OneRow.{after_declare, after_withdraw, after_leave, is_leaving_in};
+ghost use Rattle.mrp_participant.specs.State.{declared_state, withdrawn_state, left_state};
+
+use crate::application::MrpApp;
+use crate::lookup::{fill_at, place, replace_at};
+use crate::model::Participant;
+use crate::one_row::Row;
+use registrar::Registrar;
+use srp_base::NoMemory;
+
+impl<A: MrpApp> Participant<A> {
+    /// Declares a key with a content: JoinReq in VO, NewReq in LA. The same content again changes
+    /// nothing, another content is declared anew, by NewReq. After want of memory, which comes only for
+    /// a key without a row, the participant is as it was.
+    pub fn declare(&mut self, key: A::Key, content: A::Content) -> Result<(), NoMemory>
+        ensures ok { OnOk result (self.new ≡ declared_state A.Key.cmp A.Content.eq key content self.old) }
+        ensures err { OnErr result (self.new ≡ self.old) }
+        ensures room { OnErr result (find A.Key.cmp key self.old.rows ≡ None) }
+        ensures each_key { OnOk result ((k : A.Key) → find A.Key.cmp k self.new.rows ≡ (if same A.Key.cmp key k then after_declare A.Content.eq key content (find A.Key.cmp key self.old.rows) else find A.Key.cmp k self.old.rows)) }
+    {
+        declare_in(&mut self.rows, key, content)
+    }
+
+    /// Withdraws a key: NewReq and then LvReq in VP, nothing in VO and LA, LvReq in the others. So each
+    /// withdrawal says Lv, or rides on a LeaveAll.
+    pub fn withdraw(&mut self, key: A::Key)
+        ensures after { self.new ≡ withdrawn_state A.Key.cmp key self.old }
+        ensures each_key { (k : A.Key) → find A.Key.cmp k self.new.rows ≡ (if same A.Key.cmp key k then after_withdraw (find A.Key.cmp key self.old.rows) else find A.Key.cmp k self.old.rows) }
+    {
+        withdraw_in(&mut self.rows, key);
+    }
+
+    /// Ends a key's leave timer: LV becomes MT. True exactly where the Registrar was LV.
+    pub fn leave_due(&mut self, key: A::Key) -> bool
+        ensures was { result ≡ is_leaving_in (find A.Key.cmp key self.old.rows) }
+        ensures after { self.new ≡ left_state A.Key.cmp key self.old }
+        ensures each_key { (k : A.Key) → find A.Key.cmp k self.new.rows ≡ (if same A.Key.cmp key k then after_leave (find A.Key.cmp key self.old.rows) else find A.Key.cmp k self.old.rows) }
+    {
+        leave_in(&mut self.rows, key)
+    }
+}
+
+/// Declares a key. After want of memory, which comes only for a key without a row, the rows are as they
+/// were.
+pub(crate) fn declare_in<K: Copy + Ord, C: Copy + Eq>(
+    rows: &mut Vec<Row<K, C>>,
+    key: K,
+    content: C,
+) -> Result<(), NoMemory>
+    requires { Ascends K.cmp key_of rows.old.items }
+    ensures ok { OnOk result (rows.new.items ≡ put K.cmp key (after_declare C.eq key content (find K.cmp key rows.old.items)) rows.old.items) }
+    ensures err { OnErr result (rows.new.items ≡ rows.old.items) }
+    ensures room { OnErr result (find K.cmp key rows.old.items ≡ None) }
+{
+    match place(rows.as_slice(), &key) {
+        Ok(at) => {
+            let row = rows[at];
+            replace_at(rows, at, Some(row.declared(content)));
+            Ok(())
+        }
+        Err(at) => fill_at(rows, at, Row::fresh(key, content).declared(content)),
+    }
+}
+
+/// Withdraws a key; one without a row stays so.
+pub(crate) fn withdraw_in<K: Copy + Ord, C: Copy>(rows: &mut Vec<Row<K, C>>, key: K)
+    requires { Ascends K.cmp key_of rows.old.items }
+    ensures { rows.new.items ≡ put K.cmp key (after_withdraw (find K.cmp key rows.old.items)) rows.old.items }
+{
+    if let Ok(at) = place(rows.as_slice(), &key) {
+        let row = rows[at];
+        replace_at(rows, at, Some(row.withdrawn()));
+    }
+}
+
+/// Ends a key's leave timer; whether its Registrar was LV.
+pub(crate) fn leave_in<K: Copy + Ord, C: Copy>(rows: &mut Vec<Row<K, C>>, key: K) -> bool
+    requires { Ascends K.cmp key_of rows.old.items }
+    ensures was { result ≡ is_leaving_in (find K.cmp key rows.old.items) }
+    ensures rows { rows.new.items ≡ put K.cmp key (after_leave (find K.cmp key rows.old.items)) rows.old.items }
+{
+    match place(rows.as_slice(), &key) {
+        Ok(at) => {
+            let row = rows[at];
+            replace_at(rows, at, row.left());
+            row.registrar == Registrar::Leaving
+        }
+        Err(_) => false,
+    }
+}

@@ -1,0 +1,46 @@
+//! The participant of MRP: what one application keeps at one port of what it declares and of what its
+//! neighbour has declared (IEEE Std 802.1Q-2018, 10.7), for every application.
+//!
+//! ```text
+//!   user                           participant                              link
+//!   declare, withdraw  ------->  rows, ascending by key:  -- send ------->  Msgs to the neighbour
+//!                                  Applicant, content
+//!   keys that changed  <-------    Registrar, content     <- receive -----  Msgs from the neighbour
+//!   keys that left     <- due --   leave timer
+//!                                LeaveAll and its timer, periodic, sound
+//! ```
+//!
+//! A key has a row exactly where its Applicant isn't VO or its Registrar isn't MT. Contracts see the
+//! participant as one `State` (`specs/State.antt`), and each call's clause is the whole state after it:
+//!
+//! - `declare`, `withdraw` and `leave_due` change the row of one key, by the tables of the machines
+//!   (`specs/OneRow.antt`), and no other;
+//! - `receive` is LeaveAll at every row, and then the events in order;
+//! - `send` takes the rows, in the order in which they are tried, that fit into a PDU
+//!   (`specs/Sending.antt`); what each row says, and what becomes of it, depends on that test and on the
+//!   row alone;
+//! - `due` fires the timers that are due: the leave timers, LeaveAll, periodic.
+//!
+//! `laws` says of the calls that touch every row what each single key has afterwards. After want of
+//! memory a participant is as it was.
+//!
+//! An application is a type with `MrpApp`: its keys and contents, and how many octets they take.
+#![tactic(auto)]
+
+pub mod application;
+pub mod calls;
+pub mod laws;
+pub mod lookup;
+pub mod model;
+pub mod one_row;
+pub mod receive;
+pub mod room;
+pub mod sending;
+pub mod timers;
+
+pub use application::{MrpApp, Msgs};
+pub use model::Participant;
+pub use one_row::Row;
+
+#[cfg(test)]
+mod tests;

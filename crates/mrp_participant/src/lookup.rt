@@ -1,0 +1,61 @@
+//! Rows ascending by key: where a key has its place, and the rows with another row for a key.
+
+ghost use Rattle.std.specs.Prelude.{◌≡◌, suc, ◌<◌, ◌≤◌, ◌++◌, take, drop, length, Some, IfOk, IfErr, OnOk, OnErr};
+ghost use Rattle.std.specs.List.{cons_option};
+ghost use Rattle.mrp_participant.specs.Lookup.{Ascends, key_of, find, IsRowAt, IsGapAt};
+
+use crate::one_row::Row;
+use srp_base::NoMemory;
+
+/// The place of a key's row, or the place at which a row of it would stand.
+pub(crate) fn place<K: Copy + Ord, C: Copy>(rows: &[Row<K, C>], key: &K) -> Result<usize, usize>
+    requires { Ascends K.cmp key_of rows.now }
+    ensures row { IfOk result (λ i. IsRowAt K.cmp key.now rows.now i) }
+    ensures gap { IfErr result (λ i. IsGapAt K.cmp key.now rows.now i) }
+{
+    rows.binary_search_by_key(key, |row| row.key)
+}
+
+/// The row of a key.
+pub(crate) fn find_row<K: Copy + Ord, C: Copy>(rows: &[Row<K, C>], key: &K) -> Option<Row<K, C>>
+    requires { Ascends K.cmp key_of rows.now }
+    ensures { result ≡ find K.cmp key.now rows.now }
+{
+    match place(rows, key) {
+        Ok(at) => Some(rows[at]),
+        Err(_) => None,
+    }
+}
+
+/// Puts another row, or none, in the place of the row at `at`.
+pub(crate) fn replace_at<K: Copy, C: Copy>(
+    rows: &mut Vec<Row<K, C>>,
+    at: usize,
+    new: Option<Row<K, C>>,
+)
+    requires { at < length rows.old.items }
+    ensures { rows.new.items ≡ take at rows.old.items ++ cons_option new (drop (suc at) rows.old.items) }
+{
+    match new {
+        Some(row) => {
+            rows[at] = row;
+        }
+        None => {
+            rows.remove(at);
+        }
+    }
+}
+
+/// Puts a row before the row at `at`. After want of memory the rows are as they were.
+pub(crate) fn fill_at<K: Copy, C: Copy>(
+    rows: &mut Vec<Row<K, C>>,
+    at: usize,
+    new: Row<K, C>,
+) -> Result<(), NoMemory>
+    requires { at ≤ length rows.old.items }
+    ensures ok { OnOk result (rows.new.items ≡ take at rows.old.items ++ cons_option (Some new) (drop at rows.old.items)) }
+    ensures err { OnErr result (rows.new.items ≡ rows.old.items) }
+{
+    rows.insert(at, new)?;
+    Ok(())
+}

@@ -1,0 +1,181 @@
+//! The participant as contracts see it, and what it shows.
+
+ghost use Rattle.std.specs.Prelude.{◌≡◌, length, map, slice_get, false, IfOk};
+ghost use Rattle.mrp_participant.specs.Lookup.{find, key_of};
+ghost use Rattle.mrp_participant.specs.OneRow.{applicant_of, registrar_of, registered_in, declared_in};
+ghost use Rattle.mrp_participant.specs.State.{IsTime, AreRows, new_state, is_still, all_settled};
+
+use crate::application::MrpApp;
+use crate::lookup::find_row;
+use crate::one_row::Row;
+use applicant::Applicant;
+use leaveall::{LeaveAll, Periodic};
+use registrar::Registrar;
+use srp_base::{Cs, NoMemory};
+use std::alloc::Global;
+use std::marker::Model;
+
+/// The participant of one application at one port (IEEE Std 802.1Q-2018, 10.7): a row for each key of
+/// which anything is kept, the LeaveAll machine, the timers, and the mark of soundness. Contracts see
+/// a `State`: the rows as a list ascending by key, and the rest.
+#[derive(Drop)]
+pub struct Participant<A: MrpApp> {
+    pub(crate) rows: Vec<Row<A::Key, A::Content>>,
+    pub(crate) leave_all: LeaveAll,
+    pub(crate) next_leave_all: Cs,
+    pub(crate) period: Cs,
+    pub(crate) leave_time: Cs,
+    pub(crate) periodic: Periodic,
+    pub(crate) sound: bool,
+}
+
+impl<A: MrpApp> Model for Participant<A> {
+    ghost use Rattle.mrp_participant.specs.State.{State, AreRows, IsTime};
+
+    ghost Value = { State A.Key A.Content };
+
+    ghost view = { λ p. record { rows = p.rows.items; leave_all = p.leave_all; next_leave_all = p.next_leave_all; period = p.period; leave_time = p.leave_time; periodic = p.periodic; sound = p.sound } };
+
+    ghost invariant = { λ p. AreRows A.Key.cmp p.rows.items × IsTime p.period × IsTime p.leave_time };
+}
+
+impl<A: MrpApp> Participant<A> {
+    /// A participant without rows, LeaveAll Passive and sound. The first LeaveAll is due at `period`,
+    /// and then each `period` after the last; a leave timer lasts `leave_time`. Both are 1 to 10,000 cs.
+    /// `periodic` is whether periodic transmission is on. It takes no memory.
+    pub fn new(alloc: Global, period: Cs, leave_time: Cs, periodic: bool) -> Participant<A>
+        requires is_period { IsTime period }
+        requires is_leave_time { IsTime leave_time }
+        ensures { result ≡ new_state period leave_time periodic }
+    {
+        Participant {
+            rows: Vec::new(alloc),
+            leave_all: LeaveAll::Passive,
+            next_leave_all: period,
+            period,
+            leave_time,
+            periodic: Periodic {
+                on: periodic,
+                next: Cs(100),
+            },
+            sound: true,
+        }
+    }
+
+    /// What every participant keeps: its rows ascend strictly by key, each keeps something, and its
+    /// times are 1 to 10,000 cs. It is a law, and does nothing.
+    pub fn rows_ascend(&self)
+        ensures rows { AreRows A.Key.cmp self.now.rows }
+        ensures period { IsTime self.now.period }
+        ensures leave_time { IsTime self.now.leave_time }
+    {
+        let _ = &self.rows;
+    }
+
+    /// Another participant with the same rows, machines, timers and mark.
+    pub fn copy(&self) -> Result<Participant<A>, NoMemory>
+        ensures { IfOk result (λ p. p ≡ self.now) }
+    {
+        let rows = Vec::from_slice(*self.rows.allocator(), self.rows.as_slice())?;
+        Ok(Participant {
+            rows,
+            leave_all: self.leave_all,
+            next_leave_all: self.next_leave_all,
+            period: self.period,
+            leave_time: self.leave_time,
+            periodic: self.periodic,
+            sound: self.sound,
+        })
+    }
+
+    /// The content that is registered of a key; None exactly where its Registrar is MT.
+    pub fn registered(&self, key: A::Key) -> Option<A::Content>
+        ensures { result ≡ registered_in (find A.Key.cmp key self.now.rows) }
+    {
+        match find_row(self.rows.as_slice(), &key) {
+            Some(row) => row.registered(),
+            None => None,
+        }
+    }
+
+    /// The content that is declared of a key; None exactly where its Applicant is VO or LA.
+    pub fn declared(&self, key: A::Key) -> Option<A::Content>
+        ensures { result ≡ declared_in (find A.Key.cmp key self.now.rows) }
+    {
+        match find_row(self.rows.as_slice(), &key) {
+            Some(row) => row.declares(),
+            None => None,
+        }
+    }
+
+    /// The state of a key's Registrar; MT where nothing is kept of the key.
+    pub fn registrar(&self, key: A::Key) -> Registrar
+        ensures { result ≡ registrar_of (find A.Key.cmp key self.now.rows) }
+    {
+        match find_row(self.rows.as_slice(), &key) {
+            Some(row) => row.registrar,
+            None => Registrar::Empty,
+        }
+    }
+
+    /// The state of a key's Applicant; VO where nothing is kept of the key.
+    pub fn applicant(&self, key: A::Key) -> Applicant
+        ensures { result ≡ applicant_of (find A.Key.cmp key self.now.rows) }
+    {
+        match find_row(self.rows.as_slice(), &key) {
+            Some(row) => row.applicant,
+            None => Applicant::Vo,
+        }
+    }
+
+    /// Whether a LeaveAll was sent since the last spoiling, or none was spoilt.
+    pub fn sound(&self) -> bool
+        ensures { result ≡ self.now.sound }
+    {
+        self.sound
+    }
+
+    /// Ends soundness, as after a loss on the port's link.
+    pub fn spoil(&mut self)
+        ensures { self.new ≡ record self.old { sound = false } }
+    {
+        self.sound = false;
+    }
+
+    /// Whether nothing is pending: every Applicant is VO or QA, every Registrar IN or MT, and LeaveAll
+    /// is Passive.
+    pub fn still(&self) -> bool
+        ensures { result ≡ is_still self.now }
+    {
+        self.leave_all == LeaveAll::Passive && all_settled(self.rows.as_slice())
+    }
+
+    /// The number of rows: of keys whose Applicant isn't VO or whose Registrar isn't MT.
+    pub fn rows(&self) -> usize
+        ensures { result ≡ length self.now.rows }
+    {
+        self.rows.len()
+    }
+
+    /// The key of the row at a place, counted from 0 and ascending; None exactly where the index isn't
+    /// below the number of rows.
+    pub fn key_at(&self, index: usize) -> Option<A::Key>
+        ensures { result ≡ slice_get (map key_of self.now.rows) index }
+    {
+        row_key(self.rows.as_slice(), index)
+    }
+}
+
+// Whether every row's machines are at rest.
+fn all_settled<K: Copy, C: Copy>(rows: &[Row<K, C>]) -> bool
+    ensures { result ≡ all_settled rows.now }
+{
+    rows.iter().all(|row| row.is_settled())
+}
+
+// The key of the row at a place.
+fn row_key<K: Copy, C: Copy>(rows: &[Row<K, C>], index: usize) -> Option<K>
+    ensures { result ≡ slice_get (map key_of rows.now) index }
+{
+    rows.get(index).map(|row| row.key)
+}

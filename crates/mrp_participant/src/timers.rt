@@ -1,0 +1,142 @@
+//! The timers of a participant (IEEE Std 802.1Q-2018, 10.7.4): the leave timers of its rows, the LeaveAll
+//! timer, and periodic transmission.
+
+ghost use Rattle.std.specs.Prelude.{◌≡◌, ◌<◌, ◌+◌, ◌^◌, map, filter, min, length, if◌then◌else◌, OnOk, OnErr, IfOk};
+ghost use Rattle.std.specs.List.{filter_map, list_any};
+ghost use Rattle.mrp_participant.specs.Lookup.{key_of};
+ghost use Rattle.mrp_participant.specs.OneRow.{leave_is_due, after_leave_due, periodic_row};
+ghost use Rattle.mrp_participant.specs.State.{leave_all_state, periodic_state, is_any_due, due_leave_all_state, due_periodic_state, due_state, due_count, left_keys};
+
+use crate::application::MrpApp;
+use crate::model::Participant;
+use crate::one_row::Row;
+use leaveall::LaEvent;
+use srp_base::{Cs, NoMemory, Seq};
+use std::alloc::{AllocError, Global};
+
+impl<A: MrpApp> Participant<A> {
+    /// Fires the LeaveAll timer at the moment `now`: the machine is Active, and the timer ends again a
+    /// period later.
+    pub fn leaveall_due(&mut self, now: Cs)
+        requires { now.0 < 2 ^ 62 }
+        ensures { self.new ≡ leave_all_state now self.old }
+    {
+        self.leave_all = self.leave_all.step(LaEvent::Timer);
+        self.next_leave_all = Cs(now.0 + self.period.0);
+    }
+
+    /// The periodic event to each row. The periodic machine's next moment stays.
+    pub fn periodic_due(&mut self)
+        ensures { self.new ≡ periodic_state self.old }
+    {
+        all_periodic(&mut self.rows);
+    }
+
+    /// Whether a timer's moment is at or before `now`.
+    pub fn any_due(&self, now: Cs) -> bool
+        ensures { result ≡ is_any_due now self.now }
+    {
+        any_leave_due(self.rows.as_slice(), now)
+            || (self.next_leave_all.0 <= now.0 || self.periodic.due(now))
+    }
+
+    /// Fires all timers that are due at the moment `now`: the leave timers ascending, then LeaveAll, then
+    /// periodic. Answers how many fired, and the keys that left, ascending. After want of memory the
+    /// participant is as it was.
+    pub fn due(&mut self, now: Cs) -> Result<(u32, Seq<A::Key>), NoMemory>
+        requires { now.0 < 2 ^ 62 }
+
+        ensures after { OnOk result (self.new ≡ due_state now self.old) }
+        ensures fired { IfOk result (λ r. r.0 ≡ min (due_count now self.old) 4294967295) }
+        ensures keys { IfOk result (λ r. r.1 ≡ left_keys now self.old) }
+        ensures err { OnErr result (self.new ≡ self.old) }
+    {
+        let alloc = *self.rows.allocator();
+        let keys = Seq::from_vec(keys_that_leave(alloc, self.rows.as_slice(), now)?);
+        let rows = rows_that_stay(alloc, self.rows.as_slice(), now)?;
+        let leave_all = self.next_leave_all.0 <= now.0;
+        let periodic = self.periodic.due(now);
+        let fired = count(keys.len(), leave_all, periodic);
+        self.rows = rows;
+        self.fire_leave_all(now);
+        self.fire_periodic(now);
+        Ok((fired, keys))
+    }
+
+    /// Fires the LeaveAll timer where it is due.
+    fn fire_leave_all(&mut self, now: Cs)
+        requires { now.0 < 2 ^ 62 }
+        ensures { self.new ≡ due_leave_all_state now self.old }
+    {
+        if self.next_leave_all.0 <= now.0 {
+            self.leaveall_due(now);
+        }
+    }
+
+    /// Fires the periodic machine where it is due.
+    fn fire_periodic(&mut self, now: Cs)
+        requires { now.0 < 2 ^ 62 }
+        ensures { self.new ≡ due_periodic_state now self.old }
+    {
+        if self.periodic.due(now) {
+            all_periodic(&mut self.rows);
+            self.periodic.fire(now);
+        }
+    }
+}
+
+/// The periodic event to each row.
+fn all_periodic<K: Copy, C: Copy>(rows: &mut Vec<Row<K, C>>)
+    ensures { rows.new.items ≡ map periodic_row rows.old.items }
+{
+    for row in rows.iter_mut() {
+        *row = row.hears_periodic();
+    }
+}
+
+/// Whether a leave timer is due.
+fn any_leave_due<K: Copy, C: Copy>(rows: &[Row<K, C>], now: Cs) -> bool
+    ensures { result ≡ list_any (leave_is_due now.0) rows.now }
+{
+    rows.iter().any(|row| row.leave_is_due(now))
+}
+
+/// The keys whose leave timers are due.
+fn keys_that_leave<K: Copy, C: Copy>(
+    alloc: Global,
+    rows: &[Row<K, C>],
+    now: Cs,
+) -> Result<Vec<K>, AllocError>
+    ensures { IfOk result (λ v. v.items ≡ map key_of (filter (leave_is_due now.0) rows.now)) }
+{
+    rows.iter()
+        .filter(|row| row.leave_is_due(now))
+        .map(|row| row.key)
+        .collect(alloc)
+}
+
+/// The rows once the leave timers that are due have fired.
+fn rows_that_stay<K: Copy, C: Copy>(
+    alloc: Global,
+    rows: &[Row<K, C>],
+    now: Cs,
+) -> Result<Vec<Row<K, C>>, AllocError>
+    ensures { IfOk result (λ v. v.items ≡ filter_map (after_leave_due now.0) rows.now) }
+{
+    rows.iter()
+        .filter_map(|row| row.after_leave_due(now))
+        .collect(alloc)
+}
+
+/// How many timers fire: the leave timers, and the two others where they are due.
+fn count(left: usize, leave_all: bool, periodic: bool) -> u32
+    ensures { result ≡ min (left + ((if leave_all then 1 else 0) + (if periodic then 1 else 0))) 4294967295 }
+{
+    let others = u128::from(leave_all) + u128::from(periodic);
+    let fired = left as u128 + others;
+    if fired < 4_294_967_295 {
+        fired as u32
+    } else {
+        u32::MAX
+    }
+}

@@ -1,0 +1,110 @@
+//! The Registrar of MRP (IEEE Std 802.1Q-2018, 10.7.8): what the neighbour has said of one attribute.
+//!
+//! ```text
+//!   Empty ---- New, Join ----> Held ---- Lv, LeaveAll ----> Leaving ---- leave timer ----> Empty
+//!                               ^       (starts the timer)     |
+//!                               +---------- New, Join ---------+
+//! ```
+//!
+//! `Held`, `Leaving` and `Empty` are the standard's IN, LV and MT. An attribute is registered in IN
+//! and LV. `step` is one cell of the table in `specs/Table.antt`: the new state, and what its user is
+//! told. The leave timer itself is kept where the row is.
+#![tactic(auto)]
+
+ghost use Rattle.std.specs.Prelude.{◌≡◌};
+ghost use Rattle.registrar.specs.Table.{table, is_registered_in};
+
+/// The states: the standard's IN, LV and MT.
+#[derive(Clone, Copy, Debug, PartialEq, Eq)]
+pub enum Registrar {
+    Held,
+    Leaving,
+    Empty,
+}
+
+/// What happens to a Registrar: something received, an own LeaveAll sent, or the end of its leave
+/// timer. `RxJoin` is a received JoinIn or JoinMt.
+#[derive(Clone, Copy, Debug, PartialEq, Eq)]
+pub enum RegEvent {
+    RxNew,
+    RxJoin,
+    RxLv,
+    RxLeaveAll,
+    TxLeaveAll,
+    LeaveTimer,
+}
+
+/// What the user is told of its attribute.
+#[derive(Clone, Copy, Debug, PartialEq, Eq)]
+pub enum Tell {
+    Nothing,
+    Joined,
+    Left,
+}
+
+impl Registrar {
+    /// The new state, and what the user is told.
+    pub fn step(self, event: RegEvent) -> (Registrar, Tell)
+        ensures { result ≡ table event self }
+    {
+        use RegEvent::*;
+        use Registrar::*;
+        match (event, self) {
+            (RxNew | RxJoin, Held | Leaving) => (Held, Tell::Nothing),
+            (RxNew | RxJoin, Empty) => (Held, Tell::Joined),
+            (RxLv | RxLeaveAll | TxLeaveAll, Held) => (Leaving, Tell::Nothing),
+            (LeaveTimer, Leaving) => (Empty, Tell::Left),
+            _ => (self, Tell::Nothing),
+        }
+    }
+
+    /// Whether the attribute is registered: in IN and LV.
+    pub fn is_registered(self) -> bool
+        ensures { result ≡ is_registered_in self }
+    {
+        self != Registrar::Empty
+    }
+}
+
+#[cfg(test)]
+mod tests {
+    use super::*;
+    use RegEvent::*;
+    use Registrar::*;
+
+    #[test]
+    fn cells_of_the_table(rt: HostRuntime) {
+        let (nothing, joined, left) = (Tell::Nothing, Tell::Joined, Tell::Left);
+        let rows = [
+            (RxNew, (Held, nothing), (Held, nothing), (Held, joined)),
+            (RxJoin, (Held, nothing), (Held, nothing), (Held, joined)),
+            (
+                RxLv,
+                (Leaving, nothing),
+                (Leaving, nothing),
+                (Empty, nothing),
+            ),
+            (
+                RxLeaveAll,
+                (Leaving, nothing),
+                (Leaving, nothing),
+                (Empty, nothing),
+            ),
+            (
+                TxLeaveAll,
+                (Leaving, nothing),
+                (Leaving, nothing),
+                (Empty, nothing),
+            ),
+            (LeaveTimer, (Held, nothing), (Empty, left), (Empty, nothing)),
+        ];
+        for (event, held, leaving, empty) in rows {
+            assert_eq!(rt; Held.step(event), held, "IN at {event:?}");
+            assert_eq!(rt; Leaving.step(event), leaving, "LV at {event:?}");
+            assert_eq!(rt; Empty.step(event), empty, "MT at {event:?}");
+        }
+        assert_eq!(rt; Held.is_registered(), true);
+        assert_eq!(rt; Leaving.is_registered(), true);
+        assert_eq!(rt; Empty.is_registered(), false);
+    }
+}
