@@ -1,0 +1,4 @@
+pub mod Graph
+pub mod Ports
+pub mod Walk
+pub mod Refusal

@@ -1,0 +1,6 @@
+//! Trees.
+#![tactic(auto)]
+
+pub mod graph;
+
+pub use graph::{Link, NodeKind, TreeErr};
