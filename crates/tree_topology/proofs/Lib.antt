@@ -1,3 +1,5 @@
 pub mod Walks
 pub mod Links
 pub mod Forests
+pub mod Components
+pub mod Trees

@@ -1,6 +1,7 @@
 -- The egress ports of a tree: a node with one of its links. A node's ports are numbered from 1 in the
 -- order of its links.
-use Rattle.std.specs.Prelude.{◌≡◌, ◌==◌, ℕ, ◌-◌, ◌≤◌, List, [], ◌∷◌, length, Option, Some, None, Bool, if◌then◌else◌, unwrap_or, position, filter_map, slice_index, ◌+◌}
+use Rattle.std.specs.Prelude.{◌≡◌, ◌==◌, ℕ, ◌-◌, ◌≤◌, List, [], ◌∷◌, length, Option, Some, None, Bool, if◌then◌else◌, filter_map, slice_index, ◌+◌}
+use Rattle.std.specs.List.{position_or_len}
 use Rattle.srp_base.specs.declared.numbers.EgressPort.{EgressPort}
 use Rattle.tree_topology.specs.declared.graph.Link.{Link}
 use Rattle.tree_topology.specs.Graph.{IsNode, IsPath, Joined}
@@ -13,9 +14,9 @@ far_end x l = if l.a.0 == x then Some l.b.0 else (if l.b.0 == x then Some l.a.0 
 abbrev pub neighbours : List Link → ℕ → List ℕ
 neighbours links x = filter_map (far_end x) links
 
--- the place of a node in a list that has it
+-- the place of a node in a list, counted from 0
 abbrev pub place_of : ℕ → List ℕ → ℕ
-place_of v xs = unwrap_or (position (λ u. u == v) xs) 0
+place_of v xs = position_or_len (λ u. u == v) xs
 
 -- the egress port of a node towards its neighbour
 abbrev pub port_to : List Link → ℕ → ℕ → EgressPort
