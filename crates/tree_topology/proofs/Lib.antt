@@ -3,3 +3,5 @@ pub mod Links
 pub mod Forests
 pub mod Components
 pub mod Trees
+pub mod Climbs
+pub mod PortFacts
