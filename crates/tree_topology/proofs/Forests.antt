@@ -70,11 +70,11 @@ tree-from_checks count links graph none all =
     }
 
 -- in a tree no link is a second one, whatever the order
-abbrev IsApart : List Link → Type 0
+abbrev pub IsApart : List Link → Type 0
 IsApart [] = Unit {0}
 IsApart (l ∷ links) = (¬ Joined links l.a.0 l.b.0) × IsApart links
 
-apart-from_graph : (links : List Link) → HasNoSecondLink links → IsApart links
+pub apart-from_graph : (links : List Link) → HasNoSecondLink links → IsApart links
 apart-from_graph [] none = tt
 apart-from_graph (l ∷ links) none =
     let J : Link → Type 0 = λ m. Joins m l.a.0 l.b.0 in

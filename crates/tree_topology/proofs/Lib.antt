@@ -5,3 +5,4 @@ pub mod Components
 pub mod Trees
 pub mod Climbs
 pub mod PortFacts
+pub mod Laws
