@@ -6,3 +6,4 @@ pub mod Trees
 pub mod Climbs
 pub mod PortFacts
 pub mod Laws
+pub mod RowFacts

@@ -2,3 +2,4 @@ pub mod Graph
 pub mod Ports
 pub mod Walk
 pub mod Refusal
+pub mod Tables

@@ -1,7 +1,10 @@
 //! The nodes and links that a tree is made of, and why they may be refused.
 
+ghost use Rattle.std.specs.Prelude.{◌≡◌};
+ghost use Rattle.tree_topology.specs.declared.graph.TreeErr.TheVariants.{NoMemory};
+
 use srp_base::{LinkNo, NoMemory, NodeNo};
-use std::alloc::{AllocError, AllocFailed};
+use std::alloc::AllocError;
 use thiserror::Error;
 
 /// What a node is: an end station, or a bridge that relays between its ports.
@@ -38,4 +41,20 @@ pub enum TreeErr {
     TooManyLinks(NodeNo),
     #[error("no memory")]
     NoMemory,
+}
+
+impl From<NoMemory> for TreeErr {
+    ghost from_gives = { λ _ e. e ≡ NoMemory };
+
+    fn from(_error: NoMemory) -> TreeErr {
+        TreeErr::NoMemory
+    }
+}
+
+impl From<AllocError> for TreeErr {
+    ghost from_gives = { λ _ e. e ≡ NoMemory };
+
+    fn from(_error: AllocError) -> TreeErr {
+        TreeErr::NoMemory
+    }
 }
