@@ -1,9 +1,11 @@
+pub mod ListReads
 pub mod Walks
 pub mod Links
 pub mod Forests
-pub mod Components
+pub mod WalkBetween
 pub mod Trees
 pub mod Climbs
 pub mod PortFacts
 pub mod Laws
 pub mod RowFacts
+pub mod ComponentSteps

@@ -84,11 +84,6 @@ any-joined links x v row other e j =
     let F : List ℕ → Type 0 = λ t. list_any (λ u. u == v) t ≡ true in
     subst F (sym e) (at-any v (neighbours links x) k.0 k.1 (k.2 0))
 
--- what reading a row at a place gives
-pub row-read : (rows : List (List ℕ)) (i j : ℕ) (row : List ℕ) → j ≡ i → i < length rows → row ≡ get_or rows j row → row ≡ get_or rows i []
-row-read rows i j row e lt h =
-    h ∙ ap (λ (t : ℕ). get_or rows t row) e ∙ get_or_default rows i row [] lt
-
 no_self-take : (links : List Link) (n : ℕ) → HasNoSelfLink links → HasNoSelfLink (take n links)
 no_self-take links n h = All-take (λ (l : Link). l.a.0 ≢ l.b.0) n links h
 

@@ -10,7 +10,7 @@ use Rattle.tree_topology.specs.Walk.{walk_between, begins_with}
 use Rattle.tree_topology.proofs.Walks.{IsLoopFree, IsStraight, straight-path, straight-from_path, walk-append}
 use Rattle.tree_topology.proofs.Links.{joined-sym, joined-known, joined-apart}
 use Rattle.tree_topology.proofs.Forests.{loop_free-tree, forest-from_tree}
-use Rattle.tree_topology.proofs.Components.{path-walk_between}
+use Rattle.tree_topology.proofs.WalkBetween.{path-walk_between}
 
 pub tree-connected : (count : ℕ) (links : List Link) → IsTree count links → (x y : ℕ) → IsNode count x → IsNode count y → Connected links x y
 tree-connected count links tree x y m n = let p = tree.one_path x y m n in (p.0, p.1.0)

@@ -1,7 +1,8 @@
 -- What the tables of a tree hold.
-use Rattle.std.specs.Prelude.{◌≡◌, ℕ, ◌+◌, ◌≤◌, List, [], ◌∷◌, ◌++◌, length}
+use Rattle.std.specs.Prelude.{◌≡◌, ◌≢◌, ℕ, ◌+◌, ◌<◌, ◌≤◌, nat_lt, max, if◌then◌else◌, List, [], ◌∷◌, ◌++◌, length}
 use Rattle.std.proofs.Common.{get_or, set}
 use Rattle.tree_topology.specs.declared.graph.Link.{Link}
+use Rattle.tree_topology.specs.Graph.{Connected}
 use Rattle.tree_topology.specs.Ports.{neighbours}
 
 -- row x has the neighbours of node x; row 0 has none
@@ -16,3 +17,37 @@ with_neighbour rows x v = set rows x (get_or rows x [] ++ v ∷ [])
 -- the rows with one link more
 abbrev pub with_link : List (List ℕ) → Link → List (List ℕ)
 with_link rows l = with_neighbour (with_neighbour rows l.a.0 l.b.0) l.b.0 l.a.0
+
+-- each place but a leader's leads to one of higher rank
+pub record HasLeaders (leaders ranks : List ℕ) : Type 0 where
+  pub size : length ranks ≡ length leaders
+  pub within : (x : ℕ) → x < length leaders → get_or leaders x 0 < length leaders
+  pub small : (x : ℕ) → x < length leaders → get_or ranks x 0 < 65536
+  pub rises : (x : ℕ) → x < length leaders → get_or leaders x 0 ≢ x → get_or ranks x 0 < get_or ranks (get_or leaders x 0) 0
+
+-- each node is connected with the one that it leads to
+abbrev pub LeadsAlong : List Link → List ℕ → Type 0
+LeadsAlong links leaders = (x : ℕ) → x < length leaders → Connected links x (get_or leaders x 0)
+
+-- two leaders aren't connected
+abbrev pub HasApartLeaders : List Link → List ℕ → Type 0
+HasApartLeaders links leaders =
+    (x y : ℕ) → x < length leaders → y < length leaders → get_or leaders x 0 ≡ x → get_or leaders y 0 ≡ y → Connected links x y → x ≡ y
+
+-- each component of the links has one leader
+pub record HasComponents (count : ℕ) (links : List Link) (leaders ranks : List ℕ) : Type 0 where
+  pub size : length leaders ≡ count + 1
+  pub led : HasLeaders leaders ranks
+  pub low : (x : ℕ) → x < length leaders → get_or ranks x 0 ≤ length links
+  pub along : LeadsAlong links leaders
+  pub apart : HasApartLeaders links leaders
+
+-- the leaders once the one of lower rank follows the other
+abbrev pub joined_leaders : List ℕ → List ℕ → ℕ → ℕ → List ℕ
+joined_leaders leaders ranks a b =
+    if nat_lt (get_or ranks a 0) (get_or ranks b 0) then set leaders a b else set leaders b a
+
+-- and the ranks
+abbrev pub joined_ranks : List ℕ → ℕ → ℕ → List ℕ
+joined_ranks ranks a b =
+    if nat_lt (get_or ranks a 0) (get_or ranks b 0) then ranks else set ranks a (max (get_or ranks a 0) (get_or ranks b 0 + 1))

@@ -3,6 +3,7 @@
 
 mod adjacency;
 mod checks;
+mod components;
 pub mod graph;
 
 pub use graph::{Link, NodeKind, TreeErr};

@@ -104,7 +104,7 @@ over-ab l links x y n e = grind (arith, nat_tests)
 over-ba : (l : Link) (links : List Link) (x y : ℕ) → component links x ≢ component links y → component links x ≢ component links l.a.0 → walk_between (l ∷ links) x y ≡ walk_between links x l.b.0 ++ (l.a.0 ∷ walk_between links l.a.0 y)
 over-ba l links x y n e = grind (arith, nat_tests)
 
-empty-walk : (w : List ℕ) (x y : ℕ) → IsWalk (Joined []) x w y → x ≡ y
+pub empty-walk : (w : List ℕ) (x y : ℕ) → IsWalk (Joined []) x w y → x ≡ y
 empty-walk [] x y h = h
 empty-walk (v ∷ w) x y h = absurd h.0
 
