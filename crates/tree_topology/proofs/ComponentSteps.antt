@@ -1,14 +1,15 @@
 -- The tables of leaders, step by step.
-use Rattle.std.proofs.Common.{◌≡◌, ◌≢◌, ℕ, suc, zero, ◌+◌, ◌-◌, ◌<◌, ◌≤◌, max, Bool, true, false, eqb, ltb, List, [], ◌∷◌, ◌++◌, ◌⊎◌, inl, inr, refl, sym, ap, subst, ◌∙◌, length, get_or, set, take, replicate, arith, map}
+use Rattle.std.proofs.Common.{◌≡◌, ◌≢◌, ℕ, suc, zero, ◌+◌, ◌-◌, ◌<◌, ◌≤◌, max, Bool, true, false, eqb, ltb, List, [], ◌∷◌, ◌++◌, ◌⊎◌, inl, inr, refl, sym, ap, subst, ◌∙◌, length, get_or, set, take, replicate, arith, map, below_more}
 use Rattle.std.proofs.lemmas.Bool.{cases_eq, cases_lt, false≢true}
 use Rattle.std.proofs.lemmas.Bool.Decides.{nat_tests}
-use Rattle.std.proofs.lemmas.List.{map-id, length-set, length-replicate, get_or-replicate, get_or-set_same, get_or-set_other, length_push}
+use Rattle.std.proofs.lemmas.List.{map-id, length-set, length-replicate, get_or-replicate, get_or-set_same, get_or-set_other, length_push, get_or_default, take_more, length-take-le}
 use Rattle.std.proofs.lemmas.List.FromFn.{map-range_with_len_more, length-range_with_len, get_or-range_with_len}
 use Rattle.std.specs.List.{range_with_len}
 use Rattle.tree_topology.specs.declared.graph.Link.{Link}
 use Rattle.tree_topology.specs.Graph.{IsNode, Joins, Joined, IsWalk, Connected}
 use Rattle.tree_topology.specs.Tables.{HasLeaders, LeadsAlong, HasApartLeaders, HasComponents, joined_leaders, joined_ranks}
 use Rattle.tree_topology.proofs.Links.{connected-sym, connected-through, connected-left, connected-over, ConnectedOver, joined-push, joined-last}
+use Rattle.tree_topology.specs.Refusal.{IsFirstLink, ClosesLoop}
 use Rattle.tree_topology.proofs.Walks.{reaches-step}
 use Rattle.tree_topology.proofs.WalkBetween.{empty-walk}
 
@@ -101,3 +102,87 @@ follow count links l leaders ranks more r s h few lr ls ne er es c over size oth
         | inr n ↦ (let G : ℕ → Type 0 = λ t. Connected all x t in subst G (sym (at_x x n)) (connected-left links l x (get_or leaders x 0) (h.along x (omega (arith, len, lt))))) ]);
       apart = (λ x y lt lt2 ex ey w. apart-follow links l leaders r s x y h.apart lr ls er es (omega (arith, len, lt)) (omega (arith, len, lt2)) ne at_r at_x ex ey (over x y (connected-over links all l (joined-push links l) x w.0 y w.1)));
     }
+
+-- a link between two components, by their leaders
+over-leaders : (links : List Link) (l : Link) (r s : ℕ) → Connected links l.a.0 r → Connected links l.b.0 s → (x y : ℕ) → ConnectedOver links l x y → Connected links x y ⊎ ((Connected links x r × Connected links s y) ⊎ (Connected links x s × Connected links r y))
+over-leaders links l r s a b x y c =
+    let back_a = connected-sym links l.a.0 r a in
+    let back_b = connected-sym links l.b.0 s b in
+    elim c [ inl c ↦ inl c | inr c ↦ elim c [
+        inl c ↦ inr (inl (connected-through links x l.a.0 r c.0 a, connected-through links s l.b.0 y back_b c.1))
+      | inr c ↦ inr (inr (connected-through links x l.b.0 s c.0 b, connected-through links r l.a.0 y back_a c.1)) ] ]
+
+over-turned : (links : List Link) (r s x y : ℕ) → Connected links x y ⊎ ((Connected links x r × Connected links s y) ⊎ (Connected links x s × Connected links r y)) → Connected links x y ⊎ ((Connected links x s × Connected links r y) ⊎ (Connected links x r × Connected links s y))
+over-turned links r s x y c =
+    elim c [ inl c ↦ inl c | inr c ↦ elim c [ inl c ↦ inr (inr c) | inr c ↦ inr (inl c) ] ]
+
+leaders-lower : (leaders ranks : List ℕ) (a b : ℕ) → get_or ranks a 0 < get_or ranks b 0 → joined_leaders leaders ranks a b ≡ set leaders a b
+leaders-lower leaders ranks a b lt = grind (arith, nat_tests)
+
+leaders-higher : (leaders ranks : List ℕ) (a b : ℕ) → get_or ranks b 0 ≤ get_or ranks a 0 → joined_leaders leaders ranks a b ≡ set leaders b a
+leaders-higher leaders ranks a b le = grind (arith, nat_tests)
+
+ranks-lower : (ranks : List ℕ) (a b : ℕ) → get_or ranks a 0 < get_or ranks b 0 → joined_ranks ranks a b ≡ ranks
+ranks-lower ranks a b lt = grind (arith, nat_tests)
+
+ranks-higher : (ranks : List ℕ) (a b : ℕ) → get_or ranks b 0 ≤ get_or ranks a 0 → joined_ranks ranks a b ≡ set ranks a (max (get_or ranks a 0) (get_or ranks b 0 + 1))
+ranks-higher ranks a b le = grind (arith, nat_tests)
+
+-- a link between two components makes them one
+pub components-join : (count : ℕ) (links : List Link) (l : Link) (leaders ranks : List ℕ) (r s : ℕ) → HasComponents count links leaders ranks → length links < 65535 → r < length leaders → s < length leaders → r ≢ s → get_or leaders r 0 ≡ r → get_or leaders s 0 ≡ s → Connected links l.a.0 r → Connected links l.b.0 s → HasComponents count (links ++ l ∷ []) (joined_leaders leaders ranks r s) (joined_ranks ranks r s)
+components-join count links l leaders ranks r s h few lr ls ne er es a b =
+    let all = links ++ l ∷ [] in
+    let link : Connected all l.a.0 l.b.0 = reaches-step (Joined all) l.a.0 l.b.0 (joined-last links l l.a.0 l.b.0 (inl (refl, refl))) in
+    let wide = λ (x y : ℕ) (c : Connected links x y). connected-left links l x y c in
+    let rs : Connected all r s = connected-through all r l.a.0 s (connected-sym all l.a.0 r (wide l.a.0 r a)) (connected-through all l.a.0 l.b.0 s link (wide l.b.0 s b)) in
+    let over = over-leaders links l r s a b in
+    let F : List ℕ → List ℕ → Type 0 = λ t u. HasComponents count all t u in
+    elim (cases_lt (get_or ranks r 0) (get_or ranks s 0)) [
+      inl lt ↦ (
+        let done : F (set leaders r s) ranks = follow count links l leaders ranks ranks r s h few lr ls ne er es rs over refl (λ x n. refl) (omega arith) lt (omega (arith, h.low s ls)) in
+        let G : List ℕ → Type 0 = λ t. F t (joined_ranks ranks r s) in
+        let K : List ℕ → Type 0 = λ u. F (set leaders r s) u in
+        subst G (sym (leaders-lower leaders ranks r s lt)) (subst K (sym (ranks-lower ranks r s lt)) done))
+    | inr le ↦ (
+        let top = max (get_or ranks r 0) (get_or ranks s 0 + 1) in
+        let more = set ranks r top in
+        let at : get_or more r 0 ≡ top = get_or-set_same ranks r top 0 (omega (arith, h.led.size, lr)) in
+        let done : F (set leaders s r) more = follow count links l leaders ranks more s r h few ls lr (λ e. ne (sym e)) es er (connected-sym all r s rs) (λ x y c. over-turned links r s x y (over x y c)) (length-set ranks r top) (λ x n. get_or-set_other ranks r x top 0 n) (omega (arith, at)) (omega (arith, at)) (omega (arith, at, h.low s ls, h.low r lr)) in
+        let G : List ℕ → Type 0 = λ t. F t (joined_ranks ranks r s) in
+        let K : List ℕ → Type 0 = λ u. F (set leaders s r) u in
+        subst G (sym (leaders-higher leaders ranks r s le)) (subst K (sym (ranks-higher ranks r s le)) done)) ]
+
+-- no link before this place closes a loop
+abbrev pub IsLoopFreeTo : List Link → ℕ → Type 0
+IsLoopFreeTo links n =
+    (i : ℕ) (d : Link) → i < n → ¬ Connected (take i links) (get_or links i d).a.0 (get_or links i d).b.0
+
+-- the first link whose ends have one leader closes a loop
+pub loop-found : (links : List Link) (i : ℕ) (l : Link) (r s : ℕ) → IsLoopFreeTo links i → i < length links → Connected (take i links) (get_or links i l).a.0 r → Connected (take i links) (get_or links i l).b.0 s → r ≡ s → IsFirstLink ClosesLoop links (i + 1)
+loop-found links i l r s free lt a b e =
+    let F : ℕ → Type 0 = λ t. Connected (take i links) (get_or links i l).a.0 t in
+    let c = connected-through (take i links) (get_or links i l).a.0 s (get_or links i l).b.0 (subst F e a) (connected-sym (take i links) (get_or links i l).b.0 s b) in
+    let G : Link → Type 0 = λ m. Connected (take i links) m.a.0 m.b.0 in
+    (i, refl, lt, (λ d. subst G (get_or_default links i l d lt) c), (λ j d less. free j d less))
+
+-- one link more whose ends have two leaders
+pub loop_free-step : (links : List Link) (leaders ranks : List ℕ) (count i : ℕ) (l : Link) (r s : ℕ) → HasComponents count (take i links) leaders ranks → length links < 65536 → IsLoopFreeTo links i → i < length links → r < length leaders → s < length leaders → r ≢ s → get_or leaders r 0 ≡ r → get_or leaders s 0 ≡ s → Connected (take i links) (get_or links i l).a.0 r → Connected (take i links) (get_or links i l).b.0 s → HasComponents count (take (i + 1) links) (joined_leaders leaders ranks r s) (joined_ranks ranks r s) × IsLoopFreeTo links (i + 1)
+loop_free-step links leaders ranks count i l r s h few free lt lr ls ne er es a b =
+    let back_b = connected-sym (take i links) (get_or links i l).b.0 s b in
+    let apart : ¬ Connected (take i links) (get_or links i l).a.0 (get_or links i l).b.0 = λ c. ne (h.apart r s lr ls er es (connected-through (take i links) r (get_or links i l).b.0 s (connected-through (take i links) r (get_or links i l).a.0 (get_or links i l).b.0 (connected-sym (take i links) (get_or links i l).a.0 r a) c) b)) in
+    let F : Link → Type 0 = λ m. ¬ Connected (take i links) m.a.0 m.b.0 in
+    let T : List Link → Type 0 = λ t. HasComponents count t (joined_leaders leaders ranks r s) (joined_ranks ranks r s) in
+    let short : length (take i links) ≡ i = length-take-le i links (omega arith) in
+    let joined = components-join count (take i links) (get_or links i l) leaders ranks r s h (omega (arith, short, few, lt)) lr ls ne er es a b in
+    (subst T (sym (take_more links i l lt)) joined, (λ k d less. below_more (λ k. (d : Link) → ¬ Connected (take k links) (get_or links k d).a.0 (get_or links k d).b.0) i (λ k less d. free k d less) (λ d. subst F (get_or_default links i l d lt) apart) k less d))
+
+pub components-start : (count n : ℕ) (links : List Link) (leaders ranks : List ℕ) → n ≡ count → leaders ≡ range_with_len 0 (n + 1) → ranks ≡ replicate (n + 1) 0 → HasComponents count [] leaders ranks × IsLoopFreeTo links 0
+components-start count n links leaders ranks e f g =
+    let F : ℕ → Type 0 = λ t. HasComponents t [] leaders ranks in
+    (subst F e (components-single n leaders ranks f g), (λ i d lt. absurd (omega (arith, lt))))
+
+pub components-as : (count : ℕ) (links all : List Link) (i : ℕ) (leaders ranks leaders' ranks' : List ℕ) → HasComponents count links leaders ranks × IsLoopFreeTo all i → leaders' ≡ leaders → ranks' ≡ ranks → HasComponents count links leaders' ranks' × IsLoopFreeTo all i
+components-as count links all i leaders ranks leaders' ranks' h e f =
+    let F : List ℕ → Type 0 = λ t. HasComponents count links t ranks in
+    let G : List ℕ → Type 0 = λ t. HasComponents count links leaders' t in
+    (subst G (sym f) (subst F (sym e) h.0), h.1)

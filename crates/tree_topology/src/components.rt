@@ -3,12 +3,11 @@
 ghost use Rattle.std.specs.Prelude.{◌≡◌, ◌≢◌, ◌+◌, ◌<◌, ◌≤◌, length, List, OnOk, IfOk, IfErr, slice_index, [], vec_len, replicate};
 ghost use Rattle.std.specs.List.{range_with_len};
 ghost use Rattle.tree_topology.specs.declared.graph.Link.{Link};
-ghost use Rattle.tree_topology.specs.Graph.{Connected, HasKnownEnds};
+ghost use Rattle.tree_topology.specs.Graph.{Connected, IsGraph};
 ghost use Rattle.tree_topology.specs.Tables.{HasLeaders, LeadsAlong, HasComponents, joined_leaders, joined_ranks};
 ghost use Rattle.tree_topology.specs.Refusal.{HasNoLoop, IsRefusal};
 
-use crate::adjacency::Graph;
-use crate::graph::TreeErr;
+use crate::graph::{Link, NodeKind, TreeErr};
 use srp_base::{LinkNo, NoMemory};
 use std::alloc::Global;
 
@@ -70,4 +69,24 @@ impl Components {
             self.ranks[usize::from(a)] = rank_a.max(rank_b + 1);
         }
     }
+}
+
+/// No link joins two nodes that earlier links connect.
+pub(crate) fn check_loops(alloc: Global, nodes: &[NodeKind], links: &[Link]) -> Result<(), TreeErr>
+    requires few_nodes { length nodes.now < 65536 }
+    requires few_links { length links.now < 65536 }
+    requires graph { IsGraph (length nodes.now) links.now }
+    ensures ok { OnOk result (HasNoLoop links.now) }
+    ensures err { IfErr result (λ e. IsRefusal nodes.now links.now e) }
+{
+    let mut components = Components::new(alloc, nodes.len())?;
+    for (i, link) in links.iter().enumerate() {
+        let a = components.leader(link.a.0);
+        let b = components.leader(link.b.0);
+        if a == b {
+            return Err(TreeErr::Loop(LinkNo((i + 1) as u16)));
+        }
+        components.join(a, b);
+    }
+    Ok(())
 }
