@@ -9,3 +9,4 @@ pub mod PortFacts
 pub mod Laws
 pub mod RowFacts
 pub mod ComponentSteps
+pub mod SpanSteps

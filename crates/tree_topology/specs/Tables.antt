@@ -2,7 +2,8 @@
 use Rattle.std.specs.Prelude.{◌≡◌, ◌≢◌, ℕ, ◌+◌, ◌<◌, ◌≤◌, nat_lt, max, if◌then◌else◌, List, [], ◌∷◌, ◌++◌, length}
 use Rattle.std.proofs.Common.{get_or, set}
 use Rattle.tree_topology.specs.declared.graph.Link.{Link}
-use Rattle.tree_topology.specs.Graph.{Connected}
+use Rattle.std.specs.List.{count_by}
+use Rattle.tree_topology.specs.Graph.{IsNode, Joined, Connected}
 use Rattle.tree_topology.specs.Ports.{neighbours}
 
 -- row x has the neighbours of node x; row 0 has none
@@ -51,3 +52,31 @@ joined_leaders leaders ranks a b =
 abbrev pub joined_ranks : List ℕ → ℕ → ℕ → List ℕ
 joined_ranks ranks a b =
     if nat_lt (get_or ranks a 0) (get_or ranks b 0) then ranks else set ranks a (max (get_or ranks a 0) (get_or ranks b 0 + 1))
+
+-- the nodes that a search from node 1 has reached, in order; each but the first with the node that it
+-- was reached from as its parent, and deeper than that
+pub record IsSpan (count : ℕ) (links : List Link) (parents depths order : List ℕ) : Type 0 where
+  pub parents_size : length parents ≡ count + 1
+  pub depths_size : length depths ≡ count + 1
+  pub none : get_or parents 0 0 ≡ 0
+  pub first : 1 ≤ count → get_or parents 1 0 ≢ 0
+  pub top : get_or depths 1 0 ≡ 0
+  pub listed : (k : ℕ) → k < length order → IsNode count (get_or order k 0) × (get_or parents (get_or order k 0) 0 ≢ 0)
+  pub found : (x : ℕ) → IsNode count x → get_or parents x 0 ≢ 0 → (k : ℕ) × (k < length order) × (get_or order k 0 ≡ x)
+  pub connected : (x : ℕ) → IsNode count x → get_or parents x 0 ≢ 0 → Connected links 1 x
+  pub joined : (x : ℕ) → IsNode count x → get_or parents x 0 ≢ 0 → x ≢ 1 → Joined links x (get_or parents x 0)
+  pub above : (x : ℕ) → IsNode count x → get_or parents x 0 ≢ 0 → x ≢ 1 → get_or parents (get_or parents x 0) 0 ≢ 0
+  pub falls : (x : ℕ) → IsNode count x → get_or parents x 0 ≢ 0 → x ≢ 1 → get_or depths (get_or parents x 0) 0 < get_or depths x 0
+  pub shallow : (x : ℕ) → x ≤ count → get_or depths x 0 ≤ length order
+  pub counted : count_by (λ p. nat_lt 0 p) parents ≡ length order
+
+-- a search reaches more, and keeps what it had
+pub record Grows (parents order more longer : List ℕ) : Type 0 where
+  pub reached : (x : ℕ) → get_or parents x 0 ≢ 0 → get_or more x 0 ≢ 0
+  pub at_least : length order ≤ length longer
+  pub same : (k : ℕ) → k < length order → get_or longer k 0 ≡ get_or order k 0
+
+-- whom a reached node is joined with is reached
+abbrev pub IsClosed : ℕ → List Link → List ℕ → Type 0
+IsClosed count links parents =
+    (x v : ℕ) → IsNode count x → get_or parents x 0 ≢ 0 → Joined links x v → get_or parents v 0 ≢ 0

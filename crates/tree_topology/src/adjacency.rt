@@ -4,6 +4,7 @@ ghost use Rattle.std.specs.Prelude.{◌≡◌, ◌==◌, ◌<◌, ◌≤◌, ◌
 ghost use Rattle.std.specs.List.{list_any};
 ghost use Rattle.std.specs.Prelude.{replicate};
 ghost use Rattle.tree_topology.specs.Graph.{HasKnownEnds, HasNoSelfLink, HasNoSecondLink, IsGraph};
+ghost use Rattle.tree_topology.specs.Ports.{neighbours};
 ghost use Rattle.tree_topology.specs.Tables.{HasRows, with_neighbour, with_link};
 ghost use Rattle.tree_topology.specs.Refusal.{IsRefusal};
 
@@ -39,6 +40,15 @@ impl Graph {
         let kinds = nodes.to_vec(alloc)?;
         let links = links.to_vec(alloc)?;
         Ok(Graph { kinds, links, rows })
+    }
+
+    /// A node's neighbours in the order of its links.
+    pub(crate) fn neighbours(&self, node: u16) -> &[u16]
+        requires { node ≤ length self.now.kinds.items }
+        ensures { result.now ≡ neighbours self.now.links.items node }
+    {
+        let row = &self.rows[usize::from(node)];
+        row.as_slice()
     }
 }
 

@@ -5,5 +5,6 @@ mod adjacency;
 mod checks;
 mod components;
 pub mod graph;
+mod span;
 
 pub use graph::{Link, NodeKind, TreeErr};
