@@ -10,3 +10,4 @@ pub mod Laws
 pub mod RowFacts
 pub mod ComponentSteps
 pub mod SpanSteps
+pub mod Refusals

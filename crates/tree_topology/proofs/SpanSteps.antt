@@ -6,8 +6,10 @@ use Rattle.std.proofs.lemmas.List.{length-set, length-replicate, get_or-replicat
 use Rattle.std.proofs.lemmas.List.Sums.{sum_by-set, count_by-le-length}
 use Rattle.std.specs.List.{count_by}
 use Rattle.tree_topology.specs.declared.graph.Link.{Link}
-use Rattle.tree_topology.specs.Graph.{IsNode, Joined, IsWalk, Connected, HasKnownEnds, HasNoSelfLink}
-use Rattle.tree_topology.specs.Tables.{IsSpan, Grows, IsClosed}
+use Rattle.tree_topology.specs.Graph.{IsNode, Joined, IsWalk, Connected, HasKnownEnds, HasNoSelfLink, IsGraph, IsTree}
+use Rattle.tree_topology.specs.Refusal.{HasNoLoop, IsFirstNode}
+use Rattle.tree_topology.proofs.Forests.{tree-from_checks}
+use Rattle.tree_topology.specs.Tables.{IsSpan, Grows, IsClosed, HasReachedAll}
 use Rattle.tree_topology.specs.Ports.{neighbours}
 use Rattle.tree_topology.proofs.PortFacts.{neighbour-joined, joined-neighbour}
 use Rattle.tree_topology.proofs.Walks.{reaches-step}
@@ -168,3 +170,27 @@ search-end count links parents depths order n h le all x v m q j =
 pub search-bound : (count : ℕ) (links : List Link) (parents depths order : List ℕ) → IsSpan count links parents depths order → length order ≤ count + 1
 search-bound count links parents depths order h =
     omega (arith, h.counted, h.parents_size, count_by-le-length (λ (p : ℕ). nat_lt 0 p) parents)
+
+-- whom node 1 is connected with is reached
+walk-reached : (count : ℕ) (links : List Link) (parents : List ℕ) (x : ℕ) (w : List ℕ) (y : ℕ) → HasKnownEnds count links → IsClosed count links parents → IsNode count x → get_or parents x 0 ≢ 0 → IsWalk (Joined links) x w y → get_or parents y 0 ≢ 0
+walk-reached count links parents x [] y known closed m q h = let F : ℕ → Type 0 = λ t. get_or parents t 0 ≢ 0 in subst F h q
+walk-reached count links parents x (v ∷ w) y known closed m q h =
+    walk-reached count links parents v w y known closed (joined-known count links x v known h.0).1 (closed x v m q h.0) h.1
+
+pub reached-all : (count n : ℕ) (parents : List ℕ) → count ≤ n → ((k : ℕ) → k < n → get_or parents (k + 1) 0 ≢ 0) → HasReachedAll count parents
+reached-all count n parents le all x m =
+    let e : x - 1 + 1 ≡ x = omega (arith, m.0) in
+    let F : ℕ → Type 0 = λ t. get_or parents t 0 ≢ 0 in
+    subst F e (all (x - 1) (omega (arith, m.0, m.1, le)))
+
+-- a graph without loops whose nodes are all reached is a tree
+pub tree-from_span : (count : ℕ) (links : List Link) (parents depths order : List ℕ) → IsGraph count links → HasNoLoop links → IsSpan count links parents depths order → HasReachedAll count parents → IsTree count links
+tree-from_span count links parents depths order graph none h all =
+    tree-from_checks count links graph none (λ x m. h.connected x m (all x m))
+
+-- the first node that isn't reached is the first that isn't connected
+pub first-unreached : (count i : ℕ) (links : List Link) (parents depths order : List ℕ) → IsGraph count links → IsSpan count links parents depths order → IsClosed count links parents → i < count → get_or parents (i + 1) 0 ≡ 0 → ((k : ℕ) → k < i → get_or parents (k + 1) 0 ≢ 0) → IsFirstNode (λ y. ¬ Connected links 1 y) count (i + 1)
+first-unreached count i links parents depths order graph h closed lt e before =
+    let one : IsNode count 1 = (omega arith, omega (arith, lt)) in
+    let F : ℕ → Type 0 = λ t. get_or parents t 0 ≢ 0 in
+    ((omega arith, omega (arith, lt)), (λ c. walk-reached count links parents 1 c.0 (i + 1) graph.known closed one (h.first (omega (arith, lt))) c.1 e), (λ y low less no. (let f : y - 1 + 1 ≡ y = omega (arith, low) in no (h.connected y (low, omega (arith, less, lt)) (subst F f (before (y - 1) (omega (arith, low, less))))))))

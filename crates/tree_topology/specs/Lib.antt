@@ -3,3 +3,5 @@ pub mod Ports
 pub mod Walk
 pub mod Refusal
 pub mod Tables
+pub mod Topology
+pub mod Routes

@@ -80,3 +80,7 @@ pub record Grows (parents order more longer : List ℕ) : Type 0 where
 abbrev pub IsClosed : ℕ → List Link → List ℕ → Type 0
 IsClosed count links parents =
     (x v : ℕ) → IsNode count x → get_or parents x 0 ≢ 0 → Joined links x v → get_or parents v 0 ≢ 0
+
+-- each node is reached
+abbrev pub HasReachedAll : ℕ → List ℕ → Type 0
+HasReachedAll count parents = (x : ℕ) → IsNode count x → get_or parents x 0 ≢ 0

@@ -1,16 +1,16 @@
 //! Nodes and links as a graph, with each node's neighbours in the order of its links.
 
-ghost use Rattle.std.specs.Prelude.{◌≡◌, ◌==◌, ◌<◌, ◌≤◌, ◌⊎◌, length, IsTrue, OnOk, IfOk, IfErr, slice_index_or, [], vec_len};
+ghost use Rattle.std.specs.Prelude.{◌≡◌, ◌==◌, ◌+◌, ◌↔◌, ◌<◌, ◌≤◌, ◌⊎◌, length, IsTrue, OnOk, IfOk, IfErr, slice_index_or, [], vec_len};
 ghost use Rattle.std.specs.List.{list_any};
 ghost use Rattle.std.specs.Prelude.{replicate};
-ghost use Rattle.tree_topology.specs.Graph.{HasKnownEnds, HasNoSelfLink, HasNoSecondLink, IsGraph};
+ghost use Rattle.tree_topology.specs.Graph.{HasKnownEnds, HasNoSelfLink, HasNoSecondLink, IsGraph, IsTree};
 ghost use Rattle.tree_topology.specs.Ports.{neighbours};
 ghost use Rattle.tree_topology.specs.Tables.{HasRows, with_neighbour, with_link};
-ghost use Rattle.tree_topology.specs.Refusal.{IsRefusal};
+ghost use Rattle.tree_topology.specs.Refusal.{IsStationWithLinks, HasLeafStations, HasCountedPorts, IsRefusal};
 
 use crate::checks::{check_ends, check_self_links};
 use crate::graph::{Link, NodeKind, TreeErr};
-use srp_base::{LinkNo, NoMemory, Seq};
+use srp_base::{LinkNo, NoMemory, NodeNo, Seq};
 use std::alloc::Global;
 
 /// A graph: both ends of each link are nodes, no link joins a node with itself, and no two join the
@@ -49,6 +49,43 @@ impl Graph {
     {
         let row = &self.rows[usize::from(node)];
         row.as_slice()
+    }
+
+    /// Each station has exactly one link.
+    pub(crate) fn check_stations(&self) -> Result<(), TreeErr>
+        requires { IsTree (length self.now.kinds.items) self.now.links.items }
+        ensures ok { OnOk result (HasLeafStations self.now.kinds.items self.now.links.items) }
+        ensures err { IfErr result (λ e. IsRefusal self.now.kinds.items self.now.links.items e) }
+    {
+        for i in 0..self.kinds.len() {
+            if self.is_stray_station(i) {
+                return Err(TreeErr::StationWithLinks(NodeNo((i + 1) as u16)));
+            }
+        }
+        Ok(())
+    }
+
+    /// Whether the node at this place is a station that hasn't exactly one link.
+    fn is_stray_station(&self, place: usize) -> bool
+        requires { place < length self.now.kinds.items }
+        ensures { IsTrue result ↔ IsStationWithLinks self.now.kinds.items self.now.links.items (place + 1) }
+    {
+        self.kinds[place] == NodeKind::Station && self.neighbours((place + 1) as u16).len() != 1
+    }
+
+    /// Each node has at most 255 links.
+    pub(crate) fn check_port_counts(&self) -> Result<(), TreeErr>
+        requires tree { IsTree (length self.now.kinds.items) self.now.links.items }
+        requires stations { HasLeafStations self.now.kinds.items self.now.links.items }
+        ensures ok { OnOk result (HasCountedPorts self.now.kinds.items self.now.links.items) }
+        ensures err { IfErr result (λ e. IsRefusal self.now.kinds.items self.now.links.items e) }
+    {
+        for i in 0..self.kinds.len() {
+            if self.neighbours((i + 1) as u16).len() > 255 {
+                return Err(TreeErr::TooManyLinks(NodeNo((i + 1) as u16)));
+            }
+        }
+        Ok(())
     }
 }
 

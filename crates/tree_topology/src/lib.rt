@@ -5,6 +5,9 @@ mod adjacency;
 mod checks;
 mod components;
 pub mod graph;
+mod routes;
 mod span;
+pub mod topology;
 
 pub use graph::{Link, NodeKind, TreeErr};
+pub use topology::Tree;

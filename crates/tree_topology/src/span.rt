@@ -1,11 +1,13 @@
 //! The search from node 1, which gives each node its parent and its depth.
 
 ghost use Rattle.std.specs.Prelude.{◌≡◌, ◌≢◌, ◌==◌, ◌+◌, ◌<◌, ◌≤◌, ℕ, length, OnOk, IfOk, IfErr, slice_index, slice_set, [], ◌∷◌, ◌++◌, if◌then◌else◌};
-ghost use Rattle.tree_topology.specs.Graph.{IsNode, Joined};
-ghost use Rattle.tree_topology.specs.Tables.{IsSpan, Grows, IsClosed};
+ghost use Rattle.tree_topology.specs.Graph.{IsNode, Joined, IsTree};
+ghost use Rattle.tree_topology.specs.Tables.{IsSpan, Grows, IsClosed, HasReachedAll};
+ghost use Rattle.tree_topology.specs.Refusal.{HasNoLoop, IsRefusal};
 
 use crate::adjacency::Graph;
-use srp_base::NoMemory;
+use crate::graph::TreeErr;
+use srp_base::{NoMemory, NodeNo};
 use std::alloc::Global;
 
 /// What a search from node 1 has reached. A node that it hasn't reached has parent 0, node 1 is its own.
@@ -32,6 +34,24 @@ impl Span {
             done += 1;
         }
         Ok(span)
+    }
+
+    /// Each node is connected with node 1.
+    pub(crate) fn check_connected(&self, graph: &Graph) -> Result<(), TreeErr>
+        requires span { IsSpan (length graph.now.kinds.items) graph.now.links.items
+            self.now.parents.items self.now.depths.items self.now.order.items }
+        requires closed { IsClosed (length graph.now.kinds.items) graph.now.links.items self.now.parents.items }
+        requires no_loop { HasNoLoop graph.now.links.items }
+        ensures tree { OnOk result (IsTree (length graph.now.kinds.items) graph.now.links.items) }
+        ensures reached { OnOk result (HasReachedAll (length graph.now.kinds.items) self.now.parents.items) }
+        ensures err { IfErr result (λ e. IsRefusal graph.now.kinds.items graph.now.links.items e) }
+    {
+        for i in 0..graph.kinds.len() {
+            if self.parents[i + 1] == 0 {
+                return Err(TreeErr::Unconnected(NodeNo((i + 1) as u16)));
+            }
+        }
+        Ok(())
     }
 
     /// Node 1 alone, where there is a node.
