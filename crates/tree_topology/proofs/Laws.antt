@@ -8,10 +8,16 @@ use Rattle.std.specs.List.{count_by, range_with_len}
 use Rattle.srp_base.specs.declared.numbers.EgressPort.{EgressPort}
 use Rattle.tree_topology.specs.declared.graph.Link.{Link}
 use Rattle.tree_topology.specs.Graph.{IsNode, Joined, IsPath, IsTree, IsWalk, HasNoRepeat}
-use Rattle.tree_topology.specs.Ports.{neighbours, port_to, IsPort, far_node, peer_of, egress_ports, IsPortPath, LiesBehind}
+use Rattle.tree_topology.specs.Ports.{port_to, IsPort, far_node, peer_of, egress_ports, IsPortPath, LiesBehind, link_at, ends_of}
 use Rattle.tree_topology.specs.Walk.{walk_between, path_between, begins_with, is_behind, count_behind}
+use Rattle.std.specs.Bool.{IsTrue}
+use Rattle.std.specs.Prelude.{◌↔◌}
+use Rattle.tree_topology.specs.declared.graph.NodeKind.{NodeKind}
+use Rattle.tree_topology.specs.Refusal.{IsAccepted}
 use Rattle.tree_topology.proofs.Links.{joined-sym, joined-known, joined-apart}
 use Rattle.tree_topology.proofs.Trees.{walk-path, walk-one_path, walk-self, walk-first, walk-begins, walk-on, side-far, side-near, begins-same, begins-at}
+use Rattle.tree_topology.proofs.Refusals.{link-joined}
+use Rattle.tree_topology.proofs.RouteFacts.{sides}
 use Rattle.tree_topology.proofs.PortFacts.{port-leads, port-joined, port-is, peer-of_port}
 
 -- the egress ports of the walk without a repeated node are `path_between`
@@ -184,3 +190,37 @@ behind-falls count links tree p q h k e ne =
     let G : ℕ → Type 0 = λ t. g t ≡ true in
     let own : f v ≡ false = (let O : ℕ → Type 0 = λ t. f t ≡ false in subst O e (behind-own count links tree q k.0)) in
     count-less f g xs (v - 1) (λ i lt b. behind-beyond count links tree p q (get_or xs i 0) h k (node i lt) e ne b) (omega (arith, size, m.0, m.1)) (subst F (sym at_v) own) (subst G (sym at_v) (behind-far count links tree p h))
+
+-- the exact answer of a path, in the words of the graph
+pub path-answer : (kinds : List NodeKind) (links : List Link) → IsAccepted kinds links → (x y : ℕ) (ports : List EgressPort) → IsNode (length kinds) x → IsNode (length kinds) y → ports ≡ path_between links x y → IsPortPath links x y ports
+path-answer kinds links h x y ports m n e =
+    let F : List EgressPort → Type 0 = λ t. IsPortPath links x y t in
+    subst F (sym e) (path-of_ports (length kinds) links h.tree x y m n)
+
+-- the exact answer of what lies behind a port, in the words of the graph
+pub behind-answer : (kinds : List NodeKind) (links : List Link) → IsAccepted kinds links → (p : EgressPort) (y : ℕ) (b : Bool) → IsPort (length kinds) links p → IsNode (length kinds) y → b ≡ is_behind links p y → IsTrue b ↔ LiesBehind links p y
+behind-answer kinds links h p y b port n e =
+    ((λ t. walk-from_behind (length kinds) links h.tree p y port.0 n (sym e ∙ t)), (λ l. e ∙ behind-from_walk (length kinds) links h.tree p y port.0 n l))
+
+-- a node lies on one side of a port's link
+pub behind-sides : (count : ℕ) (links : List Link) → IsTree count links → (p : EgressPort) (y : ℕ) → IsPort count links p → IsNode count y → is_behind links p y ≡ not (is_behind links (peer_of links p) y)
+behind-sides count links tree p y h n =
+    let x = p.node.0 in
+    let v = far_node links p in
+    let peer = peer-port count links tree p h in
+    sides count links tree x v y h.0 n (port-joined count links p h) ∙ ap (λ (t : ℕ). not (begins_with t (walk_between links v y))) (sym peer.1)
+
+-- the ends of a link are two ports, each the other's peer
+pub ends-peers : (count : ℕ) (links : List Link) → IsTree count links → (n : ℕ) → 1 ≤ n → n ≤ length links → IsPort count links (ends_of links n).0 × IsPort count links (ends_of links n).1 × (peer_of links (ends_of links n).0 ≡ (ends_of links n).1) × (peer_of links (ends_of links n).1 ≡ (ends_of links n).0)
+ends-peers count links tree n low high =
+    let l = link_at links n in
+    let none : Link = record { a = record { 0 = 0 }; b = record { 0 = 0 } } in
+    let j : Joined links l.a.0 l.b.0 = link-joined links (n - 1) none (omega (arith, low, high)) in
+    let k = joined-sym links l.a.0 l.b.0 j in
+    ((port-leads count links tree l.a.0 l.b.0 j).0, (port-leads count links tree l.b.0 l.a.0 k).0, peer-of_port count links tree l.a.0 l.b.0 j, peer-of_port count links tree l.b.0 l.a.0 k)
+
+-- what lies behind a port, apart: its far node, and what lies behind that node's other ports
+pub behind-far_apart : (count : ℕ) (links : List Link) → IsTree count links → (p q : EgressPort) → IsPort count links p → IsPort count links q → q.node.0 ≡ far_node links p → is_behind links q (far_node links p) ≡ false
+behind-far_apart count links tree p q h k e =
+    let F : ℕ → Type 0 = λ t. is_behind links q t ≡ false in
+    subst F e (behind-own count links tree q k.0)

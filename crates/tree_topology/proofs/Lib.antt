@@ -11,3 +11,4 @@ pub mod RowFacts
 pub mod ComponentSteps
 pub mod SpanSteps
 pub mod Refusals
+pub mod RouteFacts

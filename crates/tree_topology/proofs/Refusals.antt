@@ -17,7 +17,7 @@ abbrev no_link : Link
 no_link = record { a = record { 0 = 0 }; b = record { 0 = 0 } }
 
 -- a link of a list joins its ends
-link-joined : (links : List Link) (i : ℕ) (d : Link) → i < length links → Joined links (get_or links i d).a.0 (get_or links i d).b.0
+pub link-joined : (links : List Link) (i : ℕ) (d : Link) → i < length links → Joined links (get_or links i d).a.0 (get_or links i d).b.0
 link-joined [] i d lt = absurd (omega (arith, lt))
 link-joined (l ∷ links) zero d lt = inl (inl (refl, refl))
 link-joined (l ∷ links) (suc i) d lt = inr (link-joined links i d (omega (arith, lt)))
@@ -87,3 +87,135 @@ accepted-refusal kinds links (Unconnected x) h r = absurd (connected-none (lengt
 accepted-refusal kinds links (StationWithLinks x) h r = absurd (leaf-none kinds links x.0 h.leaf_stations r.1)
 accepted-refusal kinds links (TooManyLinks x) h r = absurd (counted-none kinds links x.0 h.counted_ports r.2)
 accepted-refusal kinds links NoMemory h r = refl
+
+-- what each check says, in their order
+pub record Checks (kinds : List NodeKind) (links : List Link) (passed : ℕ) : Type 0 where
+  pub known : 0 < passed → HasKnownEnds (length kinds) links
+  pub no_self : 1 < passed → HasNoSelfLink links
+  pub no_second : 2 < passed → HasNoSecondLink links
+  pub no_loop : 3 < passed → HasNoLoop links
+  pub tree : 4 < passed → IsTree (length kinds) links
+  pub leaf : 5 < passed → HasLeafStations kinds links
+
+-- which check a refusal fails
+step_of : TreeErr → ℕ
+step_of (UnknownNode n) = 0
+step_of (SelfLink n) = 1
+step_of (SecondLink n) = 2
+step_of (Loop n) = 3
+step_of (Unconnected x) = 4
+step_of (StationWithLinks x) = 5
+step_of (TooManyLinks x) = 6
+step_of NoMemory = 7
+
+-- a refusal has passed the checks before its own
+passed : (kinds : List NodeKind) (links : List Link) (e : TreeErr) → e ≢ NoMemory → IsRefusal kinds links e → Checks kinds links (step_of e)
+unfolding step_of
+passed kinds links (UnknownNode n) m r = record {
+  known = (λ h. absurd (omega (arith, h)));
+  no_self = (λ h. absurd (omega (arith, h)));
+  no_second = (λ h. absurd (omega (arith, h)));
+  no_loop = (λ h. absurd (omega (arith, h)));
+  tree = (λ h. absurd (omega (arith, h)));
+  leaf = (λ h. absurd (omega (arith, h)));
+}
+passed kinds links (SelfLink n) m r = record {
+  known = (λ h. r.0);
+  no_self = (λ h. absurd (omega (arith, h)));
+  no_second = (λ h. absurd (omega (arith, h)));
+  no_loop = (λ h. absurd (omega (arith, h)));
+  tree = (λ h. absurd (omega (arith, h)));
+  leaf = (λ h. absurd (omega (arith, h)));
+}
+passed kinds links (SecondLink n) m r = record {
+  known = (λ h. r.0);
+  no_self = (λ h. r.1);
+  no_second = (λ h. absurd (omega (arith, h)));
+  no_loop = (λ h. absurd (omega (arith, h)));
+  tree = (λ h. absurd (omega (arith, h)));
+  leaf = (λ h. absurd (omega (arith, h)));
+}
+passed kinds links (Loop n) m r = record {
+  known = (λ h. r.0.known);
+  no_self = (λ h. r.0.no_self);
+  no_second = (λ h. r.0.no_second);
+  no_loop = (λ h. absurd (omega (arith, h)));
+  tree = (λ h. absurd (omega (arith, h)));
+  leaf = (λ h. absurd (omega (arith, h)));
+}
+passed kinds links (Unconnected x) m r = record {
+  known = (λ h. r.0.known);
+  no_self = (λ h. r.0.no_self);
+  no_second = (λ h. r.0.no_second);
+  no_loop = (λ h. r.1);
+  tree = (λ h. absurd (omega (arith, h)));
+  leaf = (λ h. absurd (omega (arith, h)));
+}
+passed kinds links (StationWithLinks x) m r = record {
+  known = (λ h. r.0.graph.known);
+  no_self = (λ h. r.0.graph.no_self);
+  no_second = (λ h. r.0.graph.no_second);
+  no_loop = (λ h. tree-no_loop (length kinds) links r.0);
+  tree = (λ h. r.0);
+  leaf = (λ h. absurd (omega (arith, h)));
+}
+passed kinds links (TooManyLinks x) m r = record {
+  known = (λ h. r.0.graph.known);
+  no_self = (λ h. r.0.graph.no_self);
+  no_second = (λ h. r.0.graph.no_second);
+  no_loop = (λ h. tree-no_loop (length kinds) links r.0);
+  tree = (λ h. r.0);
+  leaf = (λ h. r.1);
+}
+passed kinds links NoMemory m r = absurd (m refl)
+
+-- and fails its own
+failed : (kinds : List NodeKind) (links : List Link) (e : TreeErr) (n : ℕ) → e ≢ NoMemory → IsRefusal kinds links e → Checks kinds links n → step_of e < n → n ≤ 6 → ⊥
+unfolding step_of
+failed kinds links (UnknownNode k) n m r c lt le = known-no_unknown (length kinds) links k.0 (c.known lt) r
+failed kinds links (SelfLink k) n m r c lt le = no_self-none links k.0 (c.no_self lt) r.1
+failed kinds links (SecondLink k) n m r c lt le = no_second-none links k.0 (c.no_second lt) r.2
+failed kinds links (Loop k) n m r c lt le = no_loop-none links k.0 (c.no_loop lt) r.1
+failed kinds links (Unconnected x) n m r c lt le = connected-none (length kinds) links x.0 (c.tree lt) r.2
+failed kinds links (StationWithLinks x) n m r c lt le = leaf-none kinds links x.0 (c.leaf lt) r.1
+failed kinds links (TooManyLinks x) n m r c lt le = absurd (omega (arith, lt, le))
+failed kinds links NoMemory n m r c lt le = m refl
+
+step-low : (e : TreeErr) → e ≢ NoMemory → step_of e ≤ 6
+unfolding step_of
+step-low (UnknownNode n) m = omega arith
+step-low (SelfLink n) m = omega arith
+step-low (SecondLink n) m = omega arith
+step-low (Loop n) m = omega arith
+step-low (Unconnected x) m = omega arith
+step-low (StationWithLinks x) m = omega arith
+step-low (TooManyLinks x) m = omega arith
+step-low NoMemory m = absurd (m refl)
+
+link_no : (n m : LinkNo) → n.0 ≡ m.0 → n ≡ m
+link_no n m e = let make : ℕ → LinkNo = λ t. record { 0 = t } in ap make e
+
+node_no : (n m : NodeNo) → n.0 ≡ m.0 → n ≡ m
+node_no n m e = let make : ℕ → NodeNo = λ t. record { 0 = t } in ap make e
+
+-- refusals that fail the same check are the same
+same-step : (kinds : List NodeKind) (links : List Link) (e f : TreeErr) → IsRefusal kinds links e → IsRefusal kinds links f → step_of e ≡ step_of f → e ≡ f
+unfolding step_of
+same-step kinds links (UnknownNode n) (UnknownNode m) r s q = ap UnknownNode (link_no n m (first_link-same (HasUnknownEnd (length kinds)) links n.0 m.0 r s))
+same-step kinds links (SelfLink n) (SelfLink m) r s q = ap SelfLink (link_no n m (first_link-same IsSelfLink links n.0 m.0 r.1 s.1))
+same-step kinds links (SecondLink n) (SecondLink m) r s q = ap SecondLink (link_no n m (first_link-same IsSecondLink links n.0 m.0 r.2 s.2))
+same-step kinds links (Loop n) (Loop m) r s q = ap Loop (link_no n m (first_link-same ClosesLoop links n.0 m.0 r.1 s.1))
+same-step kinds links (Unconnected x) (Unconnected y) r s q = ap Unconnected (node_no x y (first_node-same (λ z. ¬ Connected links 1 z) (length kinds) x.0 y.0 r.2 s.2))
+same-step kinds links (StationWithLinks x) (StationWithLinks y) r s q = ap StationWithLinks (node_no x y (first_node-same (IsStationWithLinks kinds links) (length kinds) x.0 y.0 r.1 s.1))
+same-step kinds links (TooManyLinks x) (TooManyLinks y) r s q = ap TooManyLinks (node_no x y (first_node-same (HasTooManyLinks links) (length kinds) x.0 y.0 r.2 s.2))
+same-step kinds links NoMemory NoMemory r s q = refl
+same-step kinds links e f r s q = absurd (omega (arith, q))
+
+-- at most one refusal fits, but for want of memory
+pub refusals-same : (kinds : List NodeKind) (links : List Link) (e f : TreeErr) → e ≢ NoMemory → f ≢ NoMemory → IsRefusal kinds links e → IsRefusal kinds links f → e ≡ f
+refusals-same kinds links e f m k r s =
+    elim (cases_lt (step_of e) (step_of f)) [
+      inl lt ↦ absurd (failed kinds links e (step_of f) m r (passed kinds links f k s) lt (step-low f k))
+    | inr le ↦ elim (cases_lt (step_of f) (step_of e)) [
+        inl lt ↦ absurd (failed kinds links f (step_of e) k s (passed kinds links e m r) lt (step-low e m))
+      | inr ge ↦ same-step kinds links e f r s (omega (arith, le, ge)) ] ]

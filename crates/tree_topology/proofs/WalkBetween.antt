@@ -95,7 +95,7 @@ path-over l links x a b y w u j n p q =
     let same : component links x ≡ component links a = component-walk links x w a p.0 in
     (walk-append (Joined (l ∷ links)) x w a (b ∷ u) y to_a (inl j, from_b), no_repeat-append links x b (x ∷ w) (b ∷ u) (λ e. n (sym same ∙ e)) (in_component-walk links x w a p.0) (in_component-walk links b u y q.0) p.1 q.1)
 
-within : (l : Link) (links : List Link) (x y : ℕ) → component links x ≡ component links y → walk_between (l ∷ links) x y ≡ walk_between links x y
+pub within : (l : Link) (links : List Link) (x y : ℕ) → component links x ≡ component links y → walk_between (l ∷ links) x y ≡ walk_between links x y
 within l links x y e = grind (arith, nat_tests)
 
 over-ab : (l : Link) (links : List Link) (x y : ℕ) → component links x ≢ component links y → component links x ≡ component links l.a.0 → walk_between (l ∷ links) x y ≡ walk_between links x l.a.0 ++ (l.b.0 ∷ walk_between links l.b.0 y)

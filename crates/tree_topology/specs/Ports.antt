@@ -1,6 +1,6 @@
 -- The egress ports of a tree: a node with one of its links. A node's ports are numbered from 1 in the
 -- order of its links.
-use Rattle.std.specs.Prelude.{◌≡◌, ◌==◌, ℕ, ◌-◌, ◌≤◌, List, [], ◌∷◌, length, Option, Some, None, Bool, if◌then◌else◌, filter_map, slice_index, ◌+◌}
+use Rattle.std.specs.Prelude.{◌≡◌, ◌==◌, ℕ, ◌-◌, ◌≤◌, List, [], ◌∷◌, length, Option, Some, None, Bool, if◌then◌else◌, filter_map, slice_index, slice_index_or, ◌+◌}
 use Rattle.std.specs.List.{position_or_len}
 use Rattle.srp_base.specs.declared.numbers.EgressPort.{EgressPort}
 use Rattle.tree_topology.specs.declared.graph.Link.{Link}
@@ -49,3 +49,12 @@ IsPortPath links x y ports =
 -- the port's link
 abbrev pub LiesBehind : List Link → EgressPort → ℕ → Type 0
 LiesBehind links p y = (walk : List ℕ) × IsPath (Joined links) p.node.0 (far_node links p ∷ walk) y
+
+-- the link of this number, counted from 1
+abbrev pub link_at : List Link → ℕ → Link
+link_at links n = slice_index_or links (n - 1) (record { a = record { 0 = 0 }; b = record { 0 = 0 } })
+
+-- the ports of a link's ends, `a` first
+abbrev pub ends_of : List Link → ℕ → EgressPort × EgressPort
+ends_of links n =
+    let l = link_at links n in (port_to links l.a.0 l.b.0, port_to links l.b.0 l.a.0)

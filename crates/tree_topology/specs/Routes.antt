@@ -1,10 +1,12 @@
 -- A tree with the parent and the depth of each node.
-use Rattle.std.specs.Prelude.{◌≡◌, ◌≢◌, ℕ, ◌+◌, ◌<◌, List, length}
+use Rattle.std.specs.Prelude.{◌≡◌, ◌≢◌, ℕ, ◌+◌, ◌<◌, List, ◌++◌, length, reverse}
 use Rattle.std.proofs.Common.{get_or}
+use Rattle.srp_base.specs.declared.numbers.EgressPort.{EgressPort}
 use Rattle.tree_topology.specs.declared.graph.Link.{Link}
 use Rattle.tree_topology.specs.declared.graph.NodeKind.{NodeKind}
 use Rattle.tree_topology.specs.Graph.{IsNode, Joined}
 use Rattle.tree_topology.specs.Refusal.{IsAccepted}
+use Rattle.tree_topology.specs.Walk.{path_between}
 
 pub record Routed : Type 0 where
   pub kinds : List NodeKind
@@ -24,3 +26,8 @@ pub record IsRooted (count : ℕ) (links : List Link) (parents depths : List ℕ
 pub record IsRouted (kinds : List NodeKind) (links : List Link) (parents depths : List ℕ) : Type 0 where
   pub accepted : IsAccepted kinds links
   pub rooted : IsRooted (length kinds) links parents depths
+
+-- the egress ports of a path in the making: up from where it began, on from here to there, and down
+-- to where it ends
+abbrev pub ports_made : List Link → ℕ → ℕ → List EgressPort → List EgressPort → List EgressPort
+ports_made links here there ups downs = ups ++ (path_between links here there ++ reverse downs)

@@ -3,6 +3,7 @@
 
 mod adjacency;
 mod checks;
+mod climb;
 mod components;
 pub mod graph;
 mod routes;
