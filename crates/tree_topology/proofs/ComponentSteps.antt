@@ -1,12 +1,12 @@
 -- The tables of leaders, step by step.
-use Rattle.std.proofs.Common.{◌≡◌, ◌≢◌, ℕ, suc, zero, ◌+◌, ◌-◌, ◌<◌, ◌≤◌, max, Bool, true, false, eqb, ltb, List, [], ◌∷◌, ◌++◌, ◌⊎◌, inl, inr, refl, sym, ap, subst, ◌∙◌, length, get_or, set, take, replicate, arith, map, below_more}
-use Rattle.std.proofs.lemmas.Bool.{cases_eq, cases_lt, false≢true}
+use Rattle.std.proofs.Common.{◌≡◌, ◌≢◌, ℕ, ◌+◌, ◌-◌, ◌<◌, ◌≤◌, max, List, [], ◌∷◌, ◌++◌, ◌⊎◌, inl, inr, refl, sym, ap, subst, ◌∙◌, length, get_or, set, take, replicate, arith, below_more}
+use Rattle.std.proofs.lemmas.Bool.{cases_eq, cases_lt}
 use Rattle.std.proofs.lemmas.Bool.Decides.{nat_tests}
 use Rattle.std.proofs.lemmas.List.{map-id, length-set, length-replicate, get_or-replicate, get_or-set_same, get_or-set_other, length_push, get_or_default, take_more, length-take-le}
 use Rattle.std.proofs.lemmas.List.FromFn.{map-range_with_len_more, length-range_with_len, get_or-range_with_len}
 use Rattle.std.specs.List.{range_with_len}
 use Rattle.tree_topology.specs.declared.graph.Link.{Link}
-use Rattle.tree_topology.specs.Graph.{IsNode, Joins, Joined, IsWalk, Connected}
+use Rattle.tree_topology.specs.Graph.{Joined, Connected}
 use Rattle.tree_topology.specs.Tables.{HasLeaders, LeadsAlong, HasApartLeaders, HasComponents, joined_leaders, joined_ranks}
 use Rattle.tree_topology.proofs.Links.{connected-sym, connected-through, connected-left, connected-over, ConnectedOver, joined-push, joined-last}
 use Rattle.tree_topology.specs.Refusal.{IsFirstLink, ClosesLoop}
@@ -62,17 +62,20 @@ apart-follow links l leaders r s x y apart lr ls er es lx ly ne at_r at_x ex ey 
     let ox = own-leader leaders (set leaders r s) r s x ne at_r at_x ex in
     let oy = own-leader leaders (set leaders r s) r s y ne at_r at_x ey in
     elim c [
-      inl c ↦ apart x y lx ly ox.1 oy.1 c
-    | inr c ↦ elim c [
-        inl c ↦ absurd (ox.0 (apart x r lx lr ox.1 er c.0))
-      | inr c ↦ absurd (oy.0 (sym (apart r y lr ly er oy.1 c.1))) ] ]
+      | inl c ↦ apart x y lx ly ox.1 oy.1 c
+      | inr c ↦ elim c [
+        | inl c ↦ absurd (ox.0 (apart x r lx lr ox.1 er c.0))
+        | inr c ↦ absurd (oy.0 (sym (apart r y lr ly er oy.1 c.1)))
+      ]
+    ]
 
 -- ranks rise along leaders once one follows another
 rises-follow : (leaders ranks more : List ℕ) (r s x : ℕ) → HasLeaders leaders ranks → x < length leaders → r ≢ s → get_or leaders r 0 ≡ r → get_or leaders s 0 ≡ s → get_or (set leaders r s) r 0 ≡ s → ((x : ℕ) → x ≢ r → get_or (set leaders r s) x 0 ≡ get_or leaders x 0) → ((x : ℕ) → x ≢ s → get_or more x 0 ≡ get_or ranks x 0) → ((x : ℕ) → get_or ranks x 0 ≤ get_or more x 0) → get_or ranks r 0 < get_or more s 0 → get_or (set leaders r s) x 0 ≢ x → get_or more x 0 < get_or more (get_or (set leaders r s) x 0) 0
 rises-follow leaders ranks more r s x h lt ne er es at_r at_x other grow less n =
     elim (cases_eq x r) [
-      inl e ↦ (let F : ℕ → Type 0 = λ t. get_or more t 0 < get_or more (get_or (set leaders r s) t 0) 0 in let G : ℕ → Type 0 = λ t. get_or more r 0 < get_or more t 0 in subst F (sym e) (subst G (sym at_r) (omega (arith, other r ne, less))))
-    | inr nr ↦ (let own : get_or leaders x 0 ≢ x = λ q. n (at_x x nr ∙ q) in let ns : x ≢ s = λ q. (let K : ℕ → ℕ = λ t. get_or leaders t 0 in own (ap K q ∙ es ∙ sym q)) in let up = h.rises x lt own in let G : ℕ → Type 0 = λ t. get_or more x 0 < get_or more t 0 in subst G (sym (at_x x nr)) (omega (arith, other x ns, grow (get_or leaders x 0), up))) ]
+      | inl e ↦ (let F : ℕ → Type 0 = λ t. get_or more t 0 < get_or more (get_or (set leaders r s) t 0) 0 in let G : ℕ → Type 0 = λ t. get_or more r 0 < get_or more t 0 in subst F (sym e) (subst G (sym at_r) (omega (arith, other r ne, less))))
+      | inr nr ↦ (let own : get_or leaders x 0 ≢ x = λ q. n (at_x x nr ∙ q) in let ns : x ≢ s = λ q. (let K : ℕ → ℕ = λ t. get_or leaders t 0 in own (ap K q ∙ es ∙ sym q)) in let up = h.rises x lt own in let G : ℕ → Type 0 = λ t. get_or more x 0 < get_or more t 0 in subst G (sym (at_x x nr)) (omega (arith, other x ns, grow (get_or leaders x 0), up)))
+    ]
 
 -- a leader that follows another one, which has the higher rank then
 follow : (count : ℕ) (links : List Link) (l : Link) (leaders ranks more : List ℕ) (r s : ℕ) → HasComponents count links leaders ranks → length links < 65535 → r < length leaders → s < length leaders → r ≢ s → get_or leaders r 0 ≡ r → get_or leaders s 0 ≡ s → Connected (links ++ l ∷ []) r s → ((x y : ℕ) → ConnectedOver links l x y → Connected links x y ⊎ ((Connected links x r × Connected links s y) ⊎ (Connected links x s × Connected links r y))) → length more ≡ length ranks → ((x : ℕ) → x ≢ s → get_or more x 0 ≡ get_or ranks x 0) → get_or ranks s 0 ≤ get_or more s 0 → get_or ranks r 0 < get_or more s 0 → get_or more s 0 ≤ length links + 1 → HasComponents count (links ++ l ∷ []) (set leaders r s) more
@@ -98,8 +101,9 @@ follow count links l leaders ranks more r s h few lr ls ne er es c over size oth
       led = led;
       low = (λ x lt. omega (arith, count_all, low x (omega (arith, len, lt))));
       along = (λ x lt. elim (cases_eq x r) [
-          inl e ↦ (let F : ℕ → Type 0 = λ t. Connected all t (get_or new t 0) in let G : ℕ → Type 0 = λ t. Connected all r t in subst F (sym e) (subst G (sym at_r) c))
-        | inr n ↦ (let G : ℕ → Type 0 = λ t. Connected all x t in subst G (sym (at_x x n)) (connected-left links l x (get_or leaders x 0) (h.along x (omega (arith, len, lt))))) ]);
+        | inl e ↦ (let F : ℕ → Type 0 = λ t. Connected all t (get_or new t 0) in let G : ℕ → Type 0 = λ t. Connected all r t in subst F (sym e) (subst G (sym at_r) c))
+        | inr n ↦ (let G : ℕ → Type 0 = λ t. Connected all x t in subst G (sym (at_x x n)) (connected-left links l x (get_or leaders x 0) (h.along x (omega (arith, len, lt)))))
+      ]);
       apart = (λ x y lt lt2 ex ey w. apart-follow links l leaders r s x y h.apart lr ls er es (omega (arith, len, lt)) (omega (arith, len, lt2)) ne at_r at_x ex ey (over x y (connected-over links all l (joined-push links l) x w.0 y w.1)));
     }
 
@@ -108,9 +112,13 @@ over-leaders : (links : List Link) (l : Link) (r s : ℕ) → Connected links l.
 over-leaders links l r s a b x y c =
     let back_a = connected-sym links l.a.0 r a in
     let back_b = connected-sym links l.b.0 s b in
-    elim c [ inl c ↦ inl c | inr c ↦ elim c [
-        inl c ↦ inr (inl (connected-through links x l.a.0 r c.0 a, connected-through links s l.b.0 y back_b c.1))
-      | inr c ↦ inr (inr (connected-through links x l.b.0 s c.0 b, connected-through links r l.a.0 y back_a c.1)) ] ]
+    elim c [
+      | inl c ↦ inl c
+      | inr c ↦ elim c [
+        | inl c ↦ inr (inl (connected-through links x l.a.0 r c.0 a, connected-through links s l.b.0 y back_b c.1))
+        | inr c ↦ inr (inr (connected-through links x l.b.0 s c.0 b, connected-through links r l.a.0 y back_a c.1))
+      ]
+    ]
 
 over-turned : (links : List Link) (r s x y : ℕ) → Connected links x y ⊎ ((Connected links x r × Connected links s y) ⊎ (Connected links x s × Connected links r y)) → Connected links x y ⊎ ((Connected links x s × Connected links r y) ⊎ (Connected links x r × Connected links s y))
 over-turned links r s x y c =
@@ -138,19 +146,20 @@ components-join count links l leaders ranks r s h few lr ls ne er es a b =
     let over = over-leaders links l r s a b in
     let F : List ℕ → List ℕ → Type 0 = λ t u. HasComponents count all t u in
     elim (cases_lt (get_or ranks r 0) (get_or ranks s 0)) [
-      inl lt ↦ (
-        let done : F (set leaders r s) ranks = follow count links l leaders ranks ranks r s h few lr ls ne er es rs over refl (λ x n. refl) (omega arith) lt (omega (arith, h.low s ls)) in
-        let G : List ℕ → Type 0 = λ t. F t (joined_ranks ranks r s) in
-        let K : List ℕ → Type 0 = λ u. F (set leaders r s) u in
-        subst G (sym (leaders-lower leaders ranks r s lt)) (subst K (sym (ranks-lower ranks r s lt)) done))
-    | inr le ↦ (
-        let top = max (get_or ranks r 0) (get_or ranks s 0 + 1) in
-        let more = set ranks r top in
-        let at : get_or more r 0 ≡ top = get_or-set_same ranks r top 0 (omega (arith, h.led.size, lr)) in
-        let done : F (set leaders s r) more = follow count links l leaders ranks more s r h few ls lr (λ e. ne (sym e)) es er (connected-sym all r s rs) (λ x y c. over-turned links r s x y (over x y c)) (length-set ranks r top) (λ x n. get_or-set_other ranks r x top 0 n) (omega (arith, at)) (omega (arith, at)) (omega (arith, at, h.low s ls, h.low r lr)) in
-        let G : List ℕ → Type 0 = λ t. F t (joined_ranks ranks r s) in
-        let K : List ℕ → Type 0 = λ u. F (set leaders s r) u in
-        subst G (sym (leaders-higher leaders ranks r s le)) (subst K (sym (ranks-higher ranks r s le)) done)) ]
+      | inl lt ↦ (
+          let done : F (set leaders r s) ranks = follow count links l leaders ranks ranks r s h few lr ls ne er es rs over refl (λ x n. refl) (omega arith) lt (omega (arith, h.low s ls)) in
+          let G : List ℕ → Type 0 = λ t. F t (joined_ranks ranks r s) in
+          let K : List ℕ → Type 0 = λ u. F (set leaders r s) u in
+          subst G (sym (leaders-lower leaders ranks r s lt)) (subst K (sym (ranks-lower ranks r s lt)) done))
+      | inr le ↦ (
+          let top = max (get_or ranks r 0) (get_or ranks s 0 + 1) in
+          let more = set ranks r top in
+          let at : get_or more r 0 ≡ top = get_or-set_same ranks r top 0 (omega (arith, h.led.size, lr)) in
+          let done : F (set leaders s r) more = follow count links l leaders ranks more s r h few ls lr (λ e. ne (sym e)) es er (connected-sym all r s rs) (λ x y c. over-turned links r s x y (over x y c)) (length-set ranks r top) (λ x n. get_or-set_other ranks r x top 0 n) (omega (arith, at)) (omega (arith, at)) (omega (arith, at, h.low s ls, h.low r lr)) in
+          let G : List ℕ → Type 0 = λ t. F t (joined_ranks ranks r s) in
+          let K : List ℕ → Type 0 = λ u. F (set leaders s r) u in
+          subst G (sym (leaders-higher leaders ranks r s le)) (subst K (sym (ranks-higher ranks r s le)) done))
+    ]
 
 -- no link before this place closes a loop
 abbrev pub IsLoopFreeTo : List Link → ℕ → Type 0

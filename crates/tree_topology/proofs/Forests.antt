@@ -1,16 +1,13 @@
 -- Links of which each joins two components of those after it: straight walks are unique, `component`
 -- tells who is connected, and `walk_between` is a walk without a repeated node.
-use Rattle.std.proofs.Common.{◌≡◌, ◌≢◌, ℕ, suc, zero, ◌+◌, ◌<◌, ◌≤◌, Bool, true, false, cond, eqb, List, [], ◌∷◌, ◌++◌, ◌⊎◌, inl, inr, refl, sym, ap, subst, ◌∙◌, length, get_or, take, arith, add-one}
+use Rattle.std.proofs.Common.{◌≡◌, ◌≢◌, ℕ, suc, zero, ◌+◌, ◌<◌, ◌≤◌, List, [], ◌∷◌, ◌⊎◌, inl, inr, refl, sym, subst, ◌∙◌, length, get_or, take, arith, add-one}
 use Rattle.std.proofs.lemmas.List.{take_more, take_all}
 use Rattle.std.proofs.lemmas.List.Elements.{All-head, All-tail}
-use Rattle.std.proofs.lemmas.Bool.{cases_eq}
-use Rattle.std.proofs.lemmas.Bool.Decides.{nat_tests}
 use Rattle.tree_topology.specs.declared.graph.Link.{Link}
-use Rattle.tree_topology.specs.Graph.{IsNode, Joins, Joined, IsWalk, IsAbsent, HasNoRepeat, IsPath, Connected, HasKnownEnds, HasNoSelfLink, HasNoSecondLink, IsGraph, IsTree}
-use Rattle.tree_topology.specs.Walk.{component, walk_between}
+use Rattle.tree_topology.specs.Graph.{IsNode, Joins, Joined, IsWalk, IsPath, Connected, HasKnownEnds, HasNoSelfLink, HasNoSecondLink, IsGraph, IsTree}
 use Rattle.tree_topology.specs.Refusal.{HasNoLoop}
-use Rattle.tree_topology.proofs.Walks.{Reaches, IsLoopFree, IsStraight, loop_free-link, reaches-widen, walk-widen, walk-append, path-from_walk, straight-path}
-use Rattle.tree_topology.proofs.Links.{joins-sym, joined-sym, joined-push, joined-left, joined-last, joins-ends, joined-at, joined-take, joined-known, joined-apart, connected-sym, connected-through, connected-left, connected-over, ConnectedOver}
+use Rattle.tree_topology.proofs.Walks.{IsLoopFree, IsStraight, loop_free-link, walk-widen, path-from_walk, straight-path}
+use Rattle.tree_topology.proofs.Links.{joined-sym, joined-push, joins-ends, joined-at, connected-sym, connected-through}
 
 -- each link joins two components of those after it
 abbrev pub IsForest : List Link → Type 0

@@ -6,7 +6,7 @@ pub mod WalkBetween
 pub mod Trees
 pub mod Climbs
 pub mod PortFacts
-pub mod Laws
+pub mod PortLaws
 pub mod RowFacts
 pub mod ComponentSteps
 pub mod SpanSteps

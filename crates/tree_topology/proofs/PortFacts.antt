@@ -1,27 +1,27 @@
 -- A node's neighbours in the order of its links: whom they name, that none stands twice, and the
 -- place of each.
-use Rattle.std.proofs.Common.{◌≡◌, ◌≢◌, ℕ, suc, zero, ◌+◌, ◌-◌, ◌<◌, ◌≤◌, Bool, true, false, not, cond, eqb, Option, Some, None, List, [], ◌∷◌, ◌++◌, ◌⊎◌, inl, inr, refl, sym, ap, subst, ◌∙◌, length, get_or, take, arith}
-use Rattle.std.proofs.lemmas.Bool.{cases_eq, false≢true}
+use Rattle.std.proofs.Common.{◌≡◌, ◌≢◌, ℕ, suc, zero, ◌+◌, ◌-◌, ◌<◌, Option, Some, None, List, [], ◌∷◌, ◌⊎◌, inl, inr, refl, sym, ap, subst, ◌∙◌, length, get_or, arith}
+use Rattle.std.proofs.lemmas.Bool.{cases_eq}
 use Rattle.std.proofs.lemmas.Bool.Decides.{nat_tests}
 use Rattle.std.proofs.lemmas.List.Elements.{All-head, All-tail}
-use Rattle.std.specs.List.{position_or_len, filter_map, cons_option}
+use Rattle.std.specs.List.{cons_option}
 use Rattle.srp_base.specs.declared.numbers.EgressPort.{EgressPort}
-use Rattle.srp_base.specs.declared.numbers.NodeNo.{NodeNo}
-use Rattle.srp_base.specs.declared.numbers.PortNo.{PortNo}
 use Rattle.tree_topology.specs.declared.graph.Link.{Link}
-use Rattle.tree_topology.specs.Graph.{IsNode, Joins, Joined, IsAbsent, HasNoRepeat, HasNoSelfLink, IsTree, IsGraph}
+use Rattle.tree_topology.specs.Graph.{Joins, Joined, IsAbsent, HasNoRepeat, HasNoSelfLink, IsTree}
 use Rattle.tree_topology.specs.Ports.{far_end, neighbours, place_of, port_to, IsPort, far_node, peer_of}
-use Rattle.tree_topology.proofs.Links.{joins-sym, joined-sym, joined-known, joined-apart}
+use Rattle.tree_topology.proofs.Links.{joined-sym, joined-known}
 use Rattle.tree_topology.proofs.Forests.{IsApart, apart-from_graph}
 
 -- a link leads from a node to the other end, or not at all
 pub far_end-cases : (x : ℕ) (l : Link) → ((v : ℕ) × (far_end x l ≡ Some v) × Joins l x v) ⊎ ((far_end x l ≡ None) × (l.a.0 ≢ x) × (l.b.0 ≢ x))
 far_end-cases x l =
     elim (cases_eq l.a.0 x) [
-      inl e ↦ (let f : far_end x l ≡ Some l.b.0 = grind (arith, nat_tests) in inl (l.b.0, f, inl (e, refl)))
-    | inr n ↦ elim (cases_eq l.b.0 x) [
-        inl e ↦ (let f : far_end x l ≡ Some l.a.0 = grind (arith, nat_tests) in inl (l.a.0, f, inr (refl, e)))
-      | inr k ↦ (let f : far_end x l ≡ None = grind (arith, nat_tests) in inr (f, n, k)) ] ]
+      | inl e ↦ (let f : far_end x l ≡ Some l.b.0 = grind (arith, nat_tests) in inl (l.b.0, f, inl (e, refl)))
+      | inr n ↦ elim (cases_eq l.b.0 x) [
+        | inl e ↦ (let f : far_end x l ≡ Some l.a.0 = grind (arith, nat_tests) in inl (l.a.0, f, inr (refl, e)))
+        | inr k ↦ (let f : far_end x l ≡ None = grind (arith, nat_tests) in inr (f, n, k))
+      ]
+    ]
 
 neighbours-some : (x v : ℕ) (l : Link) (links : List Link) → far_end x l ≡ Some v → neighbours (l ∷ links) x ≡ v ∷ neighbours links x
 neighbours-some x v l links e = ap (λ (o : Option ℕ). cons_option o (neighbours links x)) e
@@ -40,8 +40,9 @@ neighbour-joined (l ∷ links) x k d lt =
     let F : List ℕ → Type 0 = λ t. Joined (l ∷ links) x (get_or t k d) in
     let L : List ℕ → Type 0 = λ t. k < length t in
     elim (far_end-cases x l) [
-      inl h ↦ (let e = neighbours-some x h.0 l links h.1 in subst F (sym e) (neighbour-cons l links x h.0 k d h.2 (λ j less. neighbour-joined links x j d less) (subst L e lt)))
-    | inr h ↦ (let e = neighbours-none x l links h.0 in subst F (sym e) (inr (neighbour-joined links x k d (subst L e lt)))) ]
+      | inl h ↦ (let e = neighbours-some x h.0 l links h.1 in subst F (sym e) (neighbour-cons l links x h.0 k d h.2 (λ j less. neighbour-joined links x j d less) (subst L e lt)))
+      | inr h ↦ (let e = neighbours-none x l links h.0 in subst F (sym e) (inr (neighbour-joined links x k d (subst L e lt))))
+    ]
 
 -- a link leads from either end to the other
 pub far_end-joins : (x v : ℕ) (l : Link) → l.a.0 ≢ l.b.0 → Joins l x v → far_end x l ≡ Some v
@@ -55,10 +56,12 @@ joined-neighbour (l ∷ links) other x v j =
     let P : Link → Type 0 = λ l. l.a.0 ≢ l.b.0 in
     let G : List ℕ → Type 0 = λ t. (k : ℕ) × (k < length t) × ((d : ℕ) → get_or t k d ≡ v) in
     elim j [
-      inl e ↦ (let q = neighbours-some x v l links (far_end-joins x v l (All-head P l links other) e) in subst G (sym q) (0, omega arith, (λ d. refl)))
-    | inr i ↦ (let h = joined-neighbour links (All-tail P l links other) x v i in elim (far_end-cases x l) [
-        inl f ↦ subst G (sym (neighbours-some x f.0 l links f.1)) (suc h.0, omega (arith, h.1), h.2)
-      | inr f ↦ subst G (sym (neighbours-none x l links f.0)) h ]) ]
+      | inl e ↦ (let q = neighbours-some x v l links (far_end-joins x v l (All-head P l links other) e) in subst G (sym q) (0, omega arith, (λ d. refl)))
+      | inr i ↦ (let h = joined-neighbour links (All-tail P l links other) x v i in elim (far_end-cases x l) [
+        | inl f ↦ subst G (sym (neighbours-some x f.0 l links f.1)) (suc h.0, omega (arith, h.1), h.2)
+        | inr f ↦ subst G (sym (neighbours-none x l links f.0)) h
+      ])
+    ]
 
 -- who isn't joined with a node isn't among its neighbours
 absent-neighbours : (links : List Link) (x v : ℕ) → ¬ Joined links x v → IsAbsent v (neighbours links x)
@@ -67,8 +70,9 @@ absent-neighbours (l ∷ links) x v n =
     let F : List ℕ → Type 0 = λ t. IsAbsent v t in
     let rest = absent-neighbours links x v (λ j. n (inr j)) in
     elim (far_end-cases x l) [
-      inl f ↦ (let J : ℕ → Type 0 = λ t. Joins l x t in subst F (sym (neighbours-some x f.0 l links f.1)) ((λ e. n (inl (subst J (sym e) f.2))), rest))
-    | inr f ↦ subst F (sym (neighbours-none x l links f.0)) rest ]
+      | inl f ↦ (let J : ℕ → Type 0 = λ t. Joins l x t in subst F (sym (neighbours-some x f.0 l links f.1)) ((λ e. n (inl (subst J (sym e) f.2))), rest))
+      | inr f ↦ subst F (sym (neighbours-none x l links f.0)) rest
+    ]
 
 joins-same : (l : Link) (links : List Link) (x v : ℕ) → Joins l x v → Joined links x v → Joined links l.a.0 l.b.0
 joins-same l links x v j k =
@@ -84,8 +88,9 @@ neighbours-differ (l ∷ links) apart x =
     let F : List ℕ → Type 0 = λ t. HasNoRepeat t in
     let rest = neighbours-differ links apart.1 x in
     elim (far_end-cases x l) [
-      inl f ↦ subst F (sym (neighbours-some x f.0 l links f.1)) (absent-neighbours links x f.0 (λ j. apart.0 (joins-same l links x f.0 f.2 j)), rest)
-    | inr f ↦ subst F (sym (neighbours-none x l links f.0)) rest ]
+      | inl f ↦ subst F (sym (neighbours-some x f.0 l links f.1)) (absent-neighbours links x f.0 (λ j. apart.0 (joins-same l links x f.0 f.2 j)), rest)
+      | inr f ↦ subst F (sym (neighbours-none x l links f.0)) rest
+    ]
 
 absent-at : (v : ℕ) (xs : List ℕ) (k d : ℕ) → IsAbsent v xs → k < length xs → get_or xs k d ≢ v
 absent-at v [] k d a lt = absurd (omega (arith, lt))

@@ -1,13 +1,13 @@
 -- At most one refusal fits, and none fits an accepted tree.
-use Rattle.std.proofs.Common.{◌≡◌, ◌≢◌, ℕ, suc, zero, ◌+◌, ◌-◌, ◌<◌, ◌≤◌, List, [], ◌∷◌, ◌⊎◌, inl, inr, refl, sym, ap, subst, ◌∙◌, length, get_or, take, arith}
-use Rattle.std.proofs.lemmas.Bool.{cases_lt, cases_eq}
+use Rattle.std.proofs.Common.{◌≡◌, ◌≢◌, ℕ, suc, zero, ◌<◌, ◌≤◌, List, [], ◌∷◌, inl, inr, refl, sym, ap, subst, ◌∙◌, length, get_or, take, arith}
+use Rattle.std.proofs.lemmas.Bool.{cases_lt}
 use Rattle.srp_base.specs.declared.numbers.LinkNo.{LinkNo}
 use Rattle.srp_base.specs.declared.numbers.NodeNo.{NodeNo}
 use Rattle.tree_topology.specs.declared.graph.Link.{Link}
 use Rattle.tree_topology.specs.declared.graph.NodeKind.{NodeKind}
 use Rattle.tree_topology.specs.declared.graph.TreeErr.{TreeErr}
 use Rattle.tree_topology.specs.declared.graph.TreeErr.TheVariants.{UnknownNode, SelfLink, SecondLink, Loop, Unconnected, StationWithLinks, TooManyLinks, NoMemory}
-use Rattle.tree_topology.specs.Graph.{IsNode, Joins, Joined, IsWalk, IsPath, Connected, HasKnownEnds, HasNoSelfLink, HasNoSecondLink, IsGraph, IsTree}
+use Rattle.tree_topology.specs.Graph.{Joined, IsWalk, IsPath, Connected, HasKnownEnds, HasNoSelfLink, HasNoSecondLink, IsTree}
 use Rattle.tree_topology.specs.Refusal.{IsFirstLink, IsFirstNode, HasUnknownEnd, IsSelfLink, IsSecondLink, ClosesLoop, HasNoLoop, IsStationWithLinks, HasTooManyLinks, HasLeafStations, HasCountedPorts, IsAccepted, IsRefusal}
 use Rattle.tree_topology.proofs.Walks.{walk-widen, path-from_walk}
 use Rattle.tree_topology.proofs.Links.{joined-take}
@@ -42,18 +42,22 @@ first_link-none F links n none h = none h.0 no_link h.2 (h.3 no_link)
 first_link-same : (F : List Link → Link → Type 0) (links : List Link) (n m : ℕ) → IsFirstLink F links n → IsFirstLink F links m → n ≡ m
 first_link-same F links n m h k =
     elim (cases_lt h.0 k.0) [
-      inl lt ↦ absurd (k.4 h.0 no_link lt (h.3 no_link))
-    | inr le ↦ elim (cases_lt k.0 h.0) [
-        inl lt ↦ absurd (h.4 k.0 no_link lt (k.3 no_link))
-      | inr ge ↦ omega (arith, h.1, k.1, le, ge) ] ]
+      | inl lt ↦ absurd (k.4 h.0 no_link lt (h.3 no_link))
+      | inr le ↦ elim (cases_lt k.0 h.0) [
+        | inl lt ↦ absurd (h.4 k.0 no_link lt (k.3 no_link))
+        | inr ge ↦ omega (arith, h.1, k.1, le, ge)
+      ]
+    ]
 
 first_node-same : (F : ℕ → Type 0) (count x y : ℕ) → IsFirstNode F count x → IsFirstNode F count y → x ≡ y
 first_node-same F count x y h k =
     elim (cases_lt x y) [
-      inl lt ↦ absurd (k.2 x h.0.0 lt h.1)
-    | inr le ↦ elim (cases_lt y x) [
-        inl lt ↦ absurd (h.2 y k.0.0 lt k.1)
-      | inr ge ↦ omega (arith, le, ge) ] ]
+      | inl lt ↦ absurd (k.2 x h.0.0 lt h.1)
+      | inr le ↦ elim (cases_lt y x) [
+        | inl lt ↦ absurd (h.2 y k.0.0 lt k.1)
+        | inr ge ↦ omega (arith, le, ge)
+      ]
+    ]
 
 -- what no two refusals say
 known-no_unknown : (count : ℕ) (links : List Link) (n : ℕ) → HasKnownEnds count links → ¬ IsFirstLink (HasUnknownEnd count) links n
@@ -215,7 +219,9 @@ same-step kinds links e f r s q = absurd (omega (arith, q))
 pub refusals-same : (kinds : List NodeKind) (links : List Link) (e f : TreeErr) → e ≢ NoMemory → f ≢ NoMemory → IsRefusal kinds links e → IsRefusal kinds links f → e ≡ f
 refusals-same kinds links e f m k r s =
     elim (cases_lt (step_of e) (step_of f)) [
-      inl lt ↦ absurd (failed kinds links e (step_of f) m r (passed kinds links f k s) lt (step-low f k))
-    | inr le ↦ elim (cases_lt (step_of f) (step_of e)) [
-        inl lt ↦ absurd (failed kinds links f (step_of e) k s (passed kinds links e m r) lt (step-low e m))
-      | inr ge ↦ same-step kinds links e f r s (omega (arith, le, ge)) ] ]
+      | inl lt ↦ absurd (failed kinds links e (step_of f) m r (passed kinds links f k s) lt (step-low f k))
+      | inr le ↦ elim (cases_lt (step_of f) (step_of e)) [
+        | inl lt ↦ absurd (failed kinds links f (step_of e) k s (passed kinds links e m r) lt (step-low e m))
+        | inr ge ↦ same-step kinds links e f r s (omega (arith, le, ge))
+      ]
+    ]

@@ -1,6 +1,6 @@
 -- What the tables of a tree's parents and depths say of its walks.
-use Rattle.std.proofs.Common.{◌≡◌, ◌≢◌, ℕ, ◌+◌, ◌-◌, ◌<◌, ◌≤◌, Bool, true, false, not, ◌==◌, List, [], ◌∷◌, ◌++◌, ◌⊎◌, inl, inr, refl, sym, ap, subst, ◌∙◌, length, get_or, reverse, arith}
-use Rattle.std.proofs.lemmas.Bool.{cases_eq, cases_lt, false≢true}
+use Rattle.std.proofs.Common.{◌≡◌, ◌≢◌, ℕ, ◌+◌, ◌-◌, ◌<◌, ◌≤◌, Bool, true, false, not, ◌==◌, List, [], ◌∷◌, ◌++◌, inl, inr, refl, sym, ap, subst, ◌∙◌, length, get_or, reverse, arith}
+use Rattle.std.proofs.lemmas.Bool.{cases_eq, false≢true}
 use Rattle.std.proofs.lemmas.Bool.Decides.{nat_tests}
 use Rattle.std.proofs.lemmas.List.{append_assoc, reverse-append}
 use Rattle.std.proofs.lemmas.List.Sums.{position_or_len_is}
@@ -10,12 +10,11 @@ use Rattle.tree_topology.specs.declared.graph.NodeKind.{NodeKind}
 use Rattle.tree_topology.specs.Graph.{IsNode, Joined, IsWalk, IsTree}
 use Rattle.tree_topology.specs.Ports.{neighbours, place_of, port_to, IsPort, far_node, egress_ports, link_at}
 use Rattle.tree_topology.specs.Walk.{walk_between, path_between, begins_with, is_behind}
-use Rattle.tree_topology.specs.Refusal.{IsAccepted}
 use Rattle.tree_topology.specs.Routes.{IsRooted, IsRouted, ports_made}
 use Rattle.tree_topology.proofs.Climbs as climbs
 use Rattle.tree_topology.proofs.Climbs.{walk-up, walk-down, not-top, parent-joined}
-use Rattle.tree_topology.proofs.Links.{joined-sym, joined-known, joined-apart}
-use Rattle.tree_topology.proofs.Trees.{walk-path, walk-self, walk-joined, walk-first, begins-same, side-far, side-near}
+use Rattle.tree_topology.proofs.Links.{joined-sym, joined-known}
+use Rattle.tree_topology.proofs.Trees.{walk-path, walk-joined, begins-same, side-far, side-near}
 use Rattle.tree_topology.proofs.WalkBetween.{within}
 use Rattle.tree_topology.proofs.PortFacts.{port-leads, port-joined}
 use Rattle.tree_topology.proofs.ListReads.{read-at}
@@ -84,15 +83,17 @@ pub parent-of_joined : (count : ℕ) (links : List Link) (parents depths : List 
 parent-of_joined count links parents depths tree r u v j lt =
     let k = joined-known count links u v tree.graph.known j in
     elim (parent-joined count links (λ x. get_or parents x 0) (λ x. get_or depths x 0) (rooted-by count links parents depths r) tree u v j) [
-      inl e ↦ (let f = r.falls u k.0 e.0 in let d : get_or depths (get_or parents u 0) 0 ≡ get_or depths v 0 = ap (λ (t : ℕ). get_or depths t 0) e.1 in absurd (omega (arith, f, d, lt)))
-    | inr e ↦ e ]
+      | inl e ↦ (let f = r.falls u k.0 e.0 in let d : get_or depths (get_or parents u 0) 0 ≡ get_or depths v 0 = ap (λ (t : ℕ). get_or depths t 0) e.1 in absurd (omega (arith, f, d, lt)))
+      | inr e ↦ e
+    ]
 
 pub parent-of_other : (count : ℕ) (links : List Link) (parents depths : List ℕ) → IsTree count links → IsRooted count links parents depths → (u v : ℕ) → Joined links u v → get_or depths v 0 ≤ get_or depths u 0 → (u ≢ 1) × (get_or parents u 0 ≡ v)
 parent-of_other count links parents depths tree r u v j le =
     let k = joined-known count links u v tree.graph.known j in
     elim (parent-joined count links (λ x. get_or parents x 0) (λ x. get_or depths x 0) (rooted-by count links parents depths r) tree u v j) [
-      inl e ↦ e
-    | inr e ↦ (let f = r.falls v k.1 e.0 in let d : get_or depths (get_or parents v 0) 0 ≡ get_or depths u 0 = ap (λ (t : ℕ). get_or depths t 0) e.1 in absurd (omega (arith, f, d, le))) ]
+      | inl e ↦ e
+      | inr e ↦ (let f = r.falls v k.1 e.0 in let d : get_or depths (get_or parents v 0) 0 ≡ get_or depths u 0 = ap (λ (t : ℕ). get_or depths t 0) e.1 in absurd (omega (arith, f, d, le)))
+    ]
 
 sides-by : (b c : Bool) → (c ≡ false → b ≡ true) → (b ≡ true → c ≡ false) → b ≡ not c
 sides-by true true f g = absurd (false≢true (sym (g refl)))
@@ -128,8 +129,9 @@ climb-ends count links parents depths tree r top at m n first le =
     let back = joined-sym links top near j in
     let k = parent-known count links parents depths tree r top m first in
     elim (cases_eq at top) [
-      inl e ↦ (let yes' : (at == top) ≡ true = grind (arith, nat_tests) in let w : walk_between links near at ≡ top ∷ [] = ap (λ (t : ℕ). walk_between links near t) e ∙ walk-joined count links tree near top back in begins-same top [] (walk_between links near at) w ∙ sym yes')
-    | inr ne ↦ (let no' : (at == top) ≡ false = grind (arith, nat_tests) in let w = walk-up count links (λ x. get_or parents x 0) (λ x. get_or depths x 0) (rooted-by count links parents depths r) tree top at m n (λ e. ne (sym e)) le in side-near count links tree top near at m n (begins-same near (walk_between links near at) (walk_between links top at) w) ∙ sym no') ]
+      | inl e ↦ (let yes' : (at == top) ≡ true = grind (arith, nat_tests) in let w : walk_between links near at ≡ top ∷ [] = ap (λ (t : ℕ). walk_between links near t) e ∙ walk-joined count links tree near top back in begins-same top [] (walk_between links near at) w ∙ sym yes')
+      | inr ne ↦ (let no' : (at == top) ≡ false = grind (arith, nat_tests) in let w = walk-up count links (λ x. get_or parents x 0) (λ x. get_or depths x 0) (rooted-by count links parents depths r) tree top at m n (λ e. ne (sym e)) le in side-near count links tree top near at m n (begins-same near (walk_between links near at) (walk_between links top at) w) ∙ sym no')
+    ]
 
 -- behind a port to a child is what is below the child
 pub behind-child : (links : List Link) (p : EgressPort) (y far up : ℕ) (b : Bool) → far ≡ far_node links p → up ≡ p.node.0 → b ≡ begins_with far (walk_between links up y) → b ≡ is_behind links p y

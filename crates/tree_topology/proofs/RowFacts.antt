@@ -1,17 +1,17 @@
 -- The rows of neighbours, link by link.
-use Rattle.std.proofs.Common.{◌≡◌, ◌≢◌, ℕ, suc, zero, ◌+◌, ◌-◌, ◌<◌, ◌≤◌, Bool, true, false, eqb, ◌==◌, Option, Some, None, List, [], ◌∷◌, ◌++◌, ◌⊎◌, inl, inr, refl, sym, ap, subst, ◌∙◌, length, get_or, set, take, replicate, below_more, arith}
+use Rattle.std.proofs.Common.{◌≡◌, ◌≢◌, ℕ, suc, zero, ◌+◌, ◌<◌, Bool, true, false, ◌==◌, Option, None, List, [], ◌∷◌, ◌++◌, ◌⊎◌, inl, inr, refl, sym, ap, subst, ◌∙◌, length, get_or, take, replicate, below_more, arith}
 use Rattle.std.proofs.lemmas.Bool.{cases_eq, false≢true}
 use Rattle.std.proofs.lemmas.Bool.Decides.{nat_tests}
-use Rattle.std.proofs.lemmas.List.{append-nil, take_more, length-set, length-replicate, get_or-replicate, get_or-set_same, get_or-set_other, get_or_default, take_all}
+use Rattle.std.proofs.lemmas.List.{append-nil, take_more, length-set, length-replicate, get_or-replicate, get_or-set_same, get_or-set_other, get_or_default}
 use Rattle.std.proofs.lemmas.List.Elements.{filter_map-append, All-take}
-use Rattle.std.specs.List.{list_any, filter_map, cons_option}
+use Rattle.std.specs.List.{list_any, cons_option}
 use Rattle.tree_topology.specs.declared.graph.Link.{Link}
-use Rattle.tree_topology.specs.Graph.{IsNode, Joins, Joined, HasKnownEnds, HasNoSelfLink, HasNoSecondLink}
+use Rattle.tree_topology.specs.Graph.{IsNode, Joins, Joined, HasKnownEnds, HasNoSelfLink}
 use Rattle.tree_topology.specs.Ports.{far_end, neighbours}
 use Rattle.tree_topology.specs.Refusal.{IsFirstLink, IsSecondLink}
 use Rattle.tree_topology.specs.Tables.{HasRows, with_neighbour, with_link}
-use Rattle.tree_topology.proofs.Links.{joined-sym, joined-known, joins-sym}
-use Rattle.tree_topology.proofs.PortFacts.{far_end-cases, far_end-joins, neighbour-joined, joined-neighbour}
+use Rattle.tree_topology.proofs.Links.{joined-sym}
+use Rattle.tree_topology.proofs.PortFacts.{far_end-joins, neighbour-joined, joined-neighbour}
 
 -- no link before this place joins the same nodes as an earlier one
 abbrev pub IsApartTo : List Link → ℕ → Type 0
@@ -50,18 +50,21 @@ rows-link count links l rows m n ne h =
     record {
       size = length-set one b (get_or one b [] ++ a ∷ []) ∙ length-set rows a (get_or rows a [] ++ b ∷ []) ∙ h.size;
       rows_are = (λ x d le. elim (cases_eq x b) [
-          inl e ↦ (let F : ℕ → Type 0 = λ t. get_or (with_link rows l) t d ≡ neighbours (links ++ l ∷ []) t in subst F (sym e) (get_or-set_same one b (get_or one b [] ++ a ∷ []) d lb1 ∙ ap (λ (t : List ℕ). t ++ a ∷ []) (at_b ∙ h.rows_are b [] n.1) ∙ sym (row-end links l b a ne (inr (refl, refl)))))
+        | inl e ↦ (let F : ℕ → Type 0 = λ t. get_or (with_link rows l) t d ≡ neighbours (links ++ l ∷ []) t in subst F (sym e) (get_or-set_same one b (get_or one b [] ++ a ∷ []) d lb1 ∙ ap (λ (t : List ℕ). t ++ a ∷ []) (at_b ∙ h.rows_are b [] n.1) ∙ sym (row-end links l b a ne (inr (refl, refl)))))
         | inr nb ↦ elim (cases_eq x a) [
-            inl e ↦ (let F : ℕ → Type 0 = λ t. get_or (with_link rows l) t d ≡ neighbours (links ++ l ∷ []) t in subst F (sym e) (get_or-set_other one b a (get_or one b [] ++ a ∷ []) d ne ∙ get_or-set_same rows a (get_or rows a [] ++ b ∷ []) d la ∙ ap (λ (t : List ℕ). t ++ b ∷ []) (h.rows_are a [] m.1) ∙ sym (row-end links l a b ne (inl (refl, refl)))))
-          | inr na ↦ get_or-set_other one b x (get_or one b [] ++ a ∷ []) d nb ∙ get_or-set_other rows a x (get_or rows a [] ++ b ∷ []) d na ∙ h.rows_are x d le ∙ sym (row-other links l x (λ e. na (sym e)) (λ e. nb (sym e))) ] ]);
+          | inl e ↦ (let F : ℕ → Type 0 = λ t. get_or (with_link rows l) t d ≡ neighbours (links ++ l ∷ []) t in subst F (sym e) (get_or-set_other one b a (get_or one b [] ++ a ∷ []) d ne ∙ get_or-set_same rows a (get_or rows a [] ++ b ∷ []) d la ∙ ap (λ (t : List ℕ). t ++ b ∷ []) (h.rows_are a [] m.1) ∙ sym (row-end links l a b ne (inl (refl, refl)))))
+          | inr na ↦ get_or-set_other one b x (get_or one b [] ++ a ∷ []) d nb ∙ get_or-set_other rows a x (get_or rows a [] ++ b ∷ []) d na ∙ h.rows_are x d le ∙ sym (row-other links l x (λ e. na (sym e)) (λ e. nb (sym e)))
+        ]
+      ]);
     }
 
 any-at : (v : ℕ) (xs : List ℕ) → list_any (λ u. u == v) xs ≡ true → (k : ℕ) × (k < length xs) × (get_or xs k 0 ≡ v)
 any-at v [] e = absurd (false≢true e)
 any-at v (x ∷ xs) e =
     elim (cases_eq x v) [
-      inl q ↦ (0, omega arith, q)
-    | inr n ↦ (let rest : list_any (λ u. u == v) xs ≡ true = grind (arith, nat_tests) in let h = any-at v xs rest in (suc h.0, omega (arith, h.1), h.2)) ]
+      | inl q ↦ (0, omega arith, q)
+      | inr n ↦ (let rest : list_any (λ u. u == v) xs ≡ true = grind (arith, nat_tests) in let h = any-at v xs rest in (suc h.0, omega (arith, h.1), h.2))
+    ]
 
 at-any : (v : ℕ) (xs : List ℕ) (k : ℕ) → k < length xs → get_or xs k 0 ≡ v → list_any (λ u. u == v) xs ≡ true
 at-any v [] k lt e = absurd (omega (arith, lt))
@@ -95,14 +98,16 @@ SaysJoined r rows l =
 joined-said : (count : ℕ) (links : List Link) (rows : List (List ℕ)) (l : Link) (r : Bool) → HasRows count links rows → IsNode count l.a.0 → IsNode count l.b.0 → SaysJoined r rows l → r ≡ true → Joined links l.a.0 l.b.0
 joined-said count links rows l r h m n s e =
     elim s [
-      inl t ↦ joined-any links l.a.0 l.b.0 (get_or rows l.a.0 []) (h.rows_are l.a.0 [] m.1) (sym t ∙ e)
-    | inr t ↦ joined-sym links l.b.0 l.a.0 (joined-any links l.b.0 l.a.0 (get_or rows l.b.0 []) (h.rows_are l.b.0 [] n.1) (sym t ∙ e)) ]
+      | inl t ↦ joined-any links l.a.0 l.b.0 (get_or rows l.a.0 []) (h.rows_are l.a.0 [] m.1) (sym t ∙ e)
+      | inr t ↦ joined-sym links l.b.0 l.a.0 (joined-any links l.b.0 l.a.0 (get_or rows l.b.0 []) (h.rows_are l.b.0 [] n.1) (sym t ∙ e))
+    ]
 
 said-joined : (count : ℕ) (links : List Link) (rows : List (List ℕ)) (l : Link) (r : Bool) → HasRows count links rows → HasNoSelfLink links → IsNode count l.a.0 → IsNode count l.b.0 → SaysJoined r rows l → r ≡ false → ¬ Joined links l.a.0 l.b.0
 said-joined count links rows l r h other m n s e j =
     elim s [
-      inl t ↦ false≢true (sym e ∙ t ∙ any-joined links l.a.0 l.b.0 (get_or rows l.a.0 []) other (h.rows_are l.a.0 [] m.1) j)
-    | inr t ↦ false≢true (sym e ∙ t ∙ any-joined links l.b.0 l.a.0 (get_or rows l.b.0 []) other (h.rows_are l.b.0 [] n.1) (joined-sym links l.a.0 l.b.0 j)) ]
+      | inl t ↦ false≢true (sym e ∙ t ∙ any-joined links l.a.0 l.b.0 (get_or rows l.a.0 []) other (h.rows_are l.a.0 [] m.1) j)
+      | inr t ↦ false≢true (sym e ∙ t ∙ any-joined links l.b.0 l.a.0 (get_or rows l.b.0 []) other (h.rows_are l.b.0 [] n.1) (joined-sym links l.a.0 l.b.0 j))
+    ]
 
 said-of : (rows rows' : List (List ℕ)) (l : Link) (r : Bool) → rows ≡ rows' → SaysJoined r rows l → SaysJoined r rows' l
 said-of rows rows' l r e s = let F : List (List ℕ) → Type 0 = λ t. SaysJoined r t l in subst F e s

@@ -1,10 +1,9 @@
 -- The search from node 1, step by step.
-use Rattle.std.proofs.Common.{◌≡◌, ◌≢◌, ℕ, suc, zero, ◌+◌, ◌-◌, ◌<◌, ◌≤◌, ◌==◌, nat_lt, if◌then◌else◌, Bool, true, false, cond, eqb, ltb, List, [], ◌∷◌, ◌++◌, ◌⊎◌, inl, inr, refl, sym, ap, subst, ◌∙◌, length, get_or, set, replicate, below_more, arith}
-use Rattle.std.proofs.lemmas.Bool.{cases_eq, cases_lt, false≢true}
+use Rattle.std.proofs.Common.{◌≡◌, ◌≢◌, ℕ, ◌+◌, ◌-◌, ◌<◌, ◌≤◌, ◌==◌, nat_lt, if◌then◌else◌, Bool, true, false, cond, List, [], ◌∷◌, ◌++◌, inl, inr, refl, sym, ap, subst, ◌∙◌, length, get_or, set, below_more, arith}
+use Rattle.std.proofs.lemmas.Bool.{cases_eq, cases_lt}
 use Rattle.std.proofs.lemmas.Bool.Decides.{nat_tests}
-use Rattle.std.proofs.lemmas.List.{length-set, length-replicate, get_or-replicate, get_or-set_same, get_or-set_other, length_push, get_or_append_left, get_or_push, get_or_past}
+use Rattle.std.proofs.lemmas.List.{length-set, get_or-set_same, get_or-set_other, length_push, get_or_append_left, get_or_push}
 use Rattle.std.proofs.lemmas.List.Sums.{sum_by-set, count_by-le-length}
-use Rattle.std.specs.List.{count_by}
 use Rattle.tree_topology.specs.declared.graph.Link.{Link}
 use Rattle.tree_topology.specs.Graph.{IsNode, Joined, IsWalk, Connected, HasKnownEnds, HasNoSelfLink, IsGraph, IsTree}
 use Rattle.tree_topology.specs.Refusal.{HasNoLoop, IsFirstNode}
@@ -60,33 +59,40 @@ span-more count links parents depths order u v known h m reached j free =
       first = (λ some. keeps 1 (h.first some));
       top = (d_x 1 (λ e. v1 (sym e)) ∙ h.top);
       listed = (λ k lt. elim (cases_lt k (length order)) [
-          inl less ↦ (let same = push-old order v k less in let F : ℕ → Type 0 = λ t. IsNode count t × (get_or p' t 0 ≢ 0) in let l = h.listed k less in subst F (sym same) (l.0, keeps (get_or order k 0) l.1))
-        | inr more ↦ (let last : k ≡ length order = omega (arith, lt, more, size) in let at : get_or o' k 0 ≡ v = get_or_push order v 0 k (sym last) in let F : ℕ → Type 0 = λ t. IsNode count t × (get_or p' t 0 ≢ 0) in subst F (sym at) (n, (λ e. u0 (sym p_v ∙ e)))) ]);
+        | inl less ↦ (let same = push-old order v k less in let F : ℕ → Type 0 = λ t. IsNode count t × (get_or p' t 0 ≢ 0) in let l = h.listed k less in subst F (sym same) (l.0, keeps (get_or order k 0) l.1))
+        | inr more ↦ (let last : k ≡ length order = omega (arith, lt, more, size) in let at : get_or o' k 0 ≡ v = get_or_push order v 0 k (sym last) in let F : ℕ → Type 0 = λ t. IsNode count t × (get_or p' t 0 ≢ 0) in subst F (sym at) (n, (λ e. u0 (sym p_v ∙ e))))
+      ]);
       found = (λ x k q. elim (cases_eq x v) [
-          inl e ↦ (length order, omega (arith, size), get_or_push order v 0 (length order) refl ∙ sym e)
-        | inr ne ↦ (let f = h.found x k (was x ne q) in (f.0, omega (arith, f.1, size), push-old order v f.0 f.1 ∙ f.2)) ]);
+        | inl e ↦ (length order, omega (arith, size), get_or_push order v 0 (length order) refl ∙ sym e)
+        | inr ne ↦ (let f = h.found x k (was x ne q) in (f.0, omega (arith, f.1, size), push-old order v f.0 f.1 ∙ f.2))
+      ]);
       connected = (λ x k q. elim (cases_eq x v) [
-          inl e ↦ (let F : ℕ → Type 0 = λ t. Connected links 1 t in subst F (sym e) (connected-through links 1 u v (h.connected u m reached) (reaches-step (Joined links) u v j)))
-        | inr ne ↦ h.connected x k (was x ne q) ]);
+        | inl e ↦ (let F : ℕ → Type 0 = λ t. Connected links 1 t in subst F (sym e) (connected-through links 1 u v (h.connected u m reached) (reaches-step (Joined links) u v j)))
+        | inr ne ↦ h.connected x k (was x ne q)
+      ]);
       joined = (λ x k q o. elim (cases_eq x v) [
-          inl e ↦ (let F : ℕ → Type 0 = λ t. Joined links t (get_or p' t 0) in let G : ℕ → Type 0 = λ t. Joined links v t in subst F (sym e) (subst G (sym p_v) (joined-sym links u v j)))
-        | inr ne ↦ (let G : ℕ → Type 0 = λ t. Joined links x t in subst G (sym (p_x x ne)) (h.joined x k (was x ne q) o)) ]);
+        | inl e ↦ (let F : ℕ → Type 0 = λ t. Joined links t (get_or p' t 0) in let G : ℕ → Type 0 = λ t. Joined links v t in subst F (sym e) (subst G (sym p_v) (joined-sym links u v j)))
+        | inr ne ↦ (let G : ℕ → Type 0 = λ t. Joined links x t in subst G (sym (p_x x ne)) (h.joined x k (was x ne q) o))
+      ]);
       above = (λ x k q o. elim (cases_eq x v) [
-          inl e ↦ (let F : ℕ → Type 0 = λ t. get_or p' (get_or p' t 0) 0 ≢ 0 in let G : ℕ → Type 0 = λ t. get_or p' t 0 ≢ 0 in subst F (sym e) (subst G (sym p_v) (keeps u reached)))
-        | inr ne ↦ (let G : ℕ → Type 0 = λ t. get_or p' t 0 ≢ 0 in subst G (sym (p_x x ne)) (keeps (get_or parents x 0) (h.above x k (was x ne q) o))) ]);
+        | inl e ↦ (let F : ℕ → Type 0 = λ t. get_or p' (get_or p' t 0) 0 ≢ 0 in let G : ℕ → Type 0 = λ t. get_or p' t 0 ≢ 0 in subst F (sym e) (subst G (sym p_v) (keeps u reached)))
+        | inr ne ↦ (let G : ℕ → Type 0 = λ t. get_or p' t 0 ≢ 0 in subst G (sym (p_x x ne)) (keeps (get_or parents x 0) (h.above x k (was x ne q) o)))
+      ]);
       falls = (λ x k q o. elim (cases_eq x v) [
-          inl e ↦ (let F : ℕ → Type 0 = λ t. get_or d' (get_or p' t 0) 0 < get_or d' t 0 in let G : ℕ → Type 0 = λ t. get_or d' t 0 < get_or d' v 0 in subst F (sym e) (subst G (sym p_v) (omega (arith, d_x u uv, d_v))))
-        | inr ne ↦ (let G : ℕ → Type 0 = λ t. get_or d' t 0 < get_or d' x 0 in let w = was x ne q in let pv = parent_old x k w o in subst G (sym (p_x x ne)) (omega (arith, d_x x ne, d_x (get_or parents x 0) pv, h.falls x k w o))) ]);
+        | inl e ↦ (let F : ℕ → Type 0 = λ t. get_or d' (get_or p' t 0) 0 < get_or d' t 0 in let G : ℕ → Type 0 = λ t. get_or d' t 0 < get_or d' v 0 in subst F (sym e) (subst G (sym p_v) (omega (arith, d_x u uv, d_v))))
+        | inr ne ↦ (let G : ℕ → Type 0 = λ t. get_or d' t 0 < get_or d' x 0 in let w = was x ne q in let pv = parent_old x k w o in subst G (sym (p_x x ne)) (omega (arith, d_x x ne, d_x (get_or parents x 0) pv, h.falls x k w o)))
+      ]);
       shallow = (λ x le. elim (cases_eq x v) [
-          inl e ↦ (let F : ℕ → Type 0 = λ t. get_or d' t 0 ≤ length o' in subst F (sym e) (omega (arith, d_v, h.shallow u m.1, size)))
-        | inr ne ↦ omega (arith, d_x x ne, h.shallow x le, size) ]);
+        | inl e ↦ (let F : ℕ → Type 0 = λ t. get_or d' t 0 ≤ length o' in subst F (sym e) (omega (arith, d_v, h.shallow u m.1, size)))
+        | inr ne ↦ omega (arith, d_x x ne, h.shallow x le, size)
+      ]);
       counted = (
-        let f : ℕ → Bool = λ p. nat_lt 0 p in
-        let g : ℕ → ℕ = λ p. cond (f p) 1 0 in
-        let s = sum_by-set g parents v u 0 lp in
-        let zero_v : g (get_or parents v 0) ≡ 0 = ap g free in
-        let one_u : g u ≡ 1 = (let t : nat_lt 0 u ≡ true = grind (arith, nat_tests) in ap (λ (b : Bool). cond b 1 0) t) in
-        omega (arith, s, zero_v, one_u, h.counted, size));
+          let f : ℕ → Bool = λ p. nat_lt 0 p in
+          let g : ℕ → ℕ = λ p. cond (f p) 1 0 in
+          let s = sum_by-set g parents v u 0 lp in
+          let zero_v : g (get_or parents v 0) ≡ 0 = ap g free in
+          let one_u : g u ≡ 1 = (let t : nat_lt 0 u ≡ true = grind (arith, nat_tests) in ap (λ (b : Bool). cond b 1 0) t) in
+          omega (arith, s, zero_v, one_u, h.counted, size));
     }
 
 chosen : {X : Type 0} (a : ℕ) (x y : X) → a ≡ 0 → (if a == 0 then x else y) ≡ x
@@ -106,27 +112,28 @@ span-as count links parents order p d o p' d' o' v h ep ed eo =
 pub span-reach : (count : ℕ) (links : List Link) (parents depths order p' d' o' : List ℕ) (u v : ℕ) → HasKnownEnds count links → IsSpan count links parents depths order → IsNode count u → get_or parents u 0 ≢ 0 → Joined links u v → p' ≡ (if get_or parents v 0 == 0 then set parents v u else parents) → d' ≡ (if get_or parents v 0 == 0 then set depths v (get_or depths u 0 + 1) else depths) → o' ≡ (if get_or parents v 0 == 0 then order ++ v ∷ [] else order) → IsSpan count links p' d' o' × Grows parents order p' o' × (get_or p' v 0 ≢ 0)
 span-reach count links parents depths order p' d' o' u v known h m reached j ep ed eo =
     elim (cases_eq (get_or parents v 0) 0) [
-      inl e ↦ (
-        let n : IsNode count v = (joined-known count links u v known j).1 in
-        let p = set parents v u in
-        let d = set depths v (get_or depths u 0 + 1) in
-        let o = order ++ v ∷ [] in
-        let sp : p' ≡ p = ep ∙ chosen (get_or parents v 0) p parents e in
-        let sd : d' ≡ d = ed ∙ chosen (get_or parents v 0) d depths e in
-        let so : o' ≡ o = eo ∙ chosen (get_or parents v 0) o order e in
-        let p_v : get_or p v 0 ≡ u = get_or-set_same parents v u 0 (omega (arith, h.parents_size, n.1)) in
-        let grows : Grows parents order p o = record {
-          reached = (λ x q. (λ z. elim (cases_eq x v) [ inl s ↦ (let K : ℕ → ℕ = λ t. get_or parents t 0 in q (ap K s ∙ e)) | inr ne ↦ q (sym (get_or-set_other parents v x u 0 ne) ∙ z) ]));
-          at_least = omega (arith, length_push order v);
-          same = (λ k lt. push-old order v k lt);
-        } in
-        let whole : IsSpan count links p d o × Grows parents order p o × (get_or p v 0 ≢ 0) = (span-more count links parents depths order u v known h m reached j e, grows, (λ z. absurd (omega (arith, m.0, p_v, z)))) in
-        span-as count links parents order p d o p' d' o' v whole sp sd so)
-    | inr n ↦ (
-        let sp : p' ≡ parents = ep ∙ left (get_or parents v 0) (set parents v u) parents n in
-        let sd : d' ≡ depths = ed ∙ left (get_or parents v 0) (set depths v (get_or depths u 0 + 1)) depths n in
-        let so : o' ≡ order = eo ∙ left (get_or parents v 0) (order ++ v ∷ []) order n in
-        span-as count links parents order parents depths order p' d' o' v (h, grows-same parents order, n) sp sd so) ]
+      | inl e ↦ (
+          let n : IsNode count v = (joined-known count links u v known j).1 in
+          let p = set parents v u in
+          let d = set depths v (get_or depths u 0 + 1) in
+          let o = order ++ v ∷ [] in
+          let sp : p' ≡ p = ep ∙ chosen (get_or parents v 0) p parents e in
+          let sd : d' ≡ d = ed ∙ chosen (get_or parents v 0) d depths e in
+          let so : o' ≡ o = eo ∙ chosen (get_or parents v 0) o order e in
+          let p_v : get_or p v 0 ≡ u = get_or-set_same parents v u 0 (omega (arith, h.parents_size, n.1)) in
+          let grows : Grows parents order p o = record {
+            reached = (λ x q. (λ z. elim (cases_eq x v) [ inl s ↦ (let K : ℕ → ℕ = λ t. get_or parents t 0 in q (ap K s ∙ e)) | inr ne ↦ q (sym (get_or-set_other parents v x u 0 ne) ∙ z) ]));
+            at_least = omega (arith, length_push order v);
+            same = (λ k lt. push-old order v k lt);
+          } in
+          let whole : IsSpan count links p d o × Grows parents order p o × (get_or p v 0 ≢ 0) = (span-more count links parents depths order u v known h m reached j e, grows, (λ z. absurd (omega (arith, m.0, p_v, z)))) in
+          span-as count links parents order p d o p' d' o' v whole sp sd so)
+      | inr n ↦ (
+          let sp : p' ≡ parents = ep ∙ left (get_or parents v 0) (set parents v u) parents n in
+          let sd : d' ≡ depths = ed ∙ left (get_or parents v 0) (set depths v (get_or depths u 0 + 1)) depths n in
+          let so : o' ≡ order = eo ∙ left (get_or parents v 0) (order ++ v ∷ []) order n in
+          span-as count links parents order parents depths order p' d' o' v (h, grows-same parents order, n) sp sd so)
+    ]
 
 -- the neighbours of a node, one by one
 pub neighbour-at : (count : ℕ) (links : List Link) (u i : ℕ) (row : List ℕ) → HasKnownEnds count links → row ≡ neighbours links u → i < length row → Joined links u (get_or row i 0) × (get_or row i 0 ≤ count)

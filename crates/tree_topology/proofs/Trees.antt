@@ -1,13 +1,13 @@
 -- The walks of a tree: `walk_between` is the one straight walk, a link has each node on exactly one of
 -- its sides, and a walk turned round is the walk back.
-use Rattle.std.proofs.Common.{◌≡◌, ◌≢◌, ℕ, Bool, true, false, eqb, List, [], ◌∷◌, ◌++◌, ◌⊎◌, inl, inr, refl, sym, ap, subst, ◌∙◌, reverse, arith}
-use Rattle.std.proofs.lemmas.Bool.{cases_eq, false≢true}
+use Rattle.std.proofs.Common.{◌≡◌, ◌≢◌, ℕ, Bool, true, false, List, [], ◌∷◌, ◌++◌, refl, sym, ap, subst, ◌∙◌, reverse, arith}
+use Rattle.std.proofs.lemmas.Bool.{false≢true}
 use Rattle.std.proofs.lemmas.Bool.Decides.{nat_tests}
-use Rattle.std.proofs.lemmas.List.{reverse-append, reverse-reverse}
+use Rattle.std.proofs.lemmas.List.{reverse-append}
 use Rattle.tree_topology.specs.declared.graph.Link.{Link}
-use Rattle.tree_topology.specs.Graph.{IsNode, Joins, Joined, IsWalk, IsAbsent, HasNoRepeat, IsPath, Connected, IsTree}
+use Rattle.tree_topology.specs.Graph.{IsNode, Joined, IsWalk, IsAbsent, HasNoRepeat, IsPath, Connected, IsTree}
 use Rattle.tree_topology.specs.Walk.{walk_between, begins_with}
-use Rattle.tree_topology.proofs.Walks.{IsLoopFree, IsStraight, straight-path, straight-from_path, walk-append}
+use Rattle.tree_topology.proofs.Walks.{IsStraight, straight-path, walk-append}
 use Rattle.tree_topology.proofs.Links.{joined-sym, joined-known, joined-apart}
 use Rattle.tree_topology.proofs.Forests.{loop_free-tree, forest-from_tree}
 use Rattle.tree_topology.proofs.WalkBetween.{path-walk_between}

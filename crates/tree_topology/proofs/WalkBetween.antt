@@ -1,12 +1,12 @@
 -- `component` tells which nodes links connect, and `walk_between` is a walk without a repeated node.
-use Rattle.std.proofs.Common.{◌≡◌, ◌≢◌, ℕ, Bool, true, false, cond, eqb, List, [], ◌∷◌, ◌++◌, ◌⊎◌, inl, inr, refl, sym, ap, subst, ◌∙◌, arith}
+use Rattle.std.proofs.Common.{◌≡◌, ◌≢◌, ℕ, List, [], ◌∷◌, ◌++◌, inl, inr, refl, sym, ap, subst, ◌∙◌, arith}
 use Rattle.std.proofs.lemmas.Bool.{cases_eq}
 use Rattle.std.proofs.lemmas.Bool.Decides.{nat_tests}
 use Rattle.tree_topology.specs.declared.graph.Link.{Link}
 use Rattle.tree_topology.specs.Graph.{Joins, Joined, IsWalk, IsAbsent, HasNoRepeat, IsPath, Connected}
 use Rattle.tree_topology.specs.Walk.{component, walk_between}
-use Rattle.tree_topology.proofs.Walks.{Reaches, reaches-widen, reaches-step, reaches-same, walk-widen, walk-append}
-use Rattle.tree_topology.proofs.Links.{joins-sym, connected-sym, connected-through, connected-over, ConnectedOver}
+use Rattle.tree_topology.proofs.Walks.{reaches-widen, reaches-step, walk-widen, walk-append}
+use Rattle.tree_topology.proofs.Links.{connected-sym, connected-through, connected-over}
 use Rattle.tree_topology.proofs.Forests.{IsForest}
 
 -- one link more makes the component of its far end that of its near end
@@ -118,9 +118,12 @@ path-walk_between (l ∷ links) f x y c =
     let split = connected-over links all l (λ u v j. elim j [ inl e ↦ inr e | inr k ↦ inl k ]) x c.0 y c.1 in
     let same = λ (m n : ℕ) (h : Connected links m n). component-walk links m h.0 n h.1 in
     elim (cases_eq (K x) (K y)) [
-      inl e ↦ (let p = rest x y (connected-from_component links x y e) in path-same_ends all x y (walk_between all x y) (walk_between links x y) (within l links x y e) (walk-widen (Joined links) (Joined all) (λ u v j. inr j) x (walk_between links x y) y p.0, p.1))
-    | inr n ↦ elim split [
-        inl h ↦ absurd (n (same x y h))
-      | inr h ↦ elim h [
-          inl h ↦ (let e = same x l.a.0 h.0 in path-same_ends all x y (walk_between all x y) (walk_between links x l.a.0 ++ (l.b.0 ∷ walk_between links l.b.0 y)) (over-ab l links x y n e) (path-over l links x l.a.0 l.b.0 y (walk_between links x l.a.0) (walk_between links l.b.0 y) (inl (refl, refl)) apart (rest x l.a.0 h.0) (rest l.b.0 y h.1)))
-        | inr h ↦ (let e = same x l.b.0 h.0 in path-same_ends all x y (walk_between all x y) (walk_between links x l.b.0 ++ (l.a.0 ∷ walk_between links l.a.0 y)) (over-ba l links x y n (λ g. apart (sym g ∙ e))) (path-over l links x l.b.0 l.a.0 y (walk_between links x l.b.0) (walk_between links l.a.0 y) (inr (refl, refl)) (λ g. apart (sym g)) (rest x l.b.0 h.0) (rest l.a.0 y h.1))) ] ] ]
+      | inl e ↦ (let p = rest x y (connected-from_component links x y e) in path-same_ends all x y (walk_between all x y) (walk_between links x y) (within l links x y e) (walk-widen (Joined links) (Joined all) (λ u v j. inr j) x (walk_between links x y) y p.0, p.1))
+      | inr n ↦ elim split [
+        | inl h ↦ absurd (n (same x y h))
+        | inr h ↦ elim h [
+          | inl h ↦ (let e = same x l.a.0 h.0 in path-same_ends all x y (walk_between all x y) (walk_between links x l.a.0 ++ (l.b.0 ∷ walk_between links l.b.0 y)) (over-ab l links x y n e) (path-over l links x l.a.0 l.b.0 y (walk_between links x l.a.0) (walk_between links l.b.0 y) (inl (refl, refl)) apart (rest x l.a.0 h.0) (rest l.b.0 y h.1)))
+          | inr h ↦ (let e = same x l.b.0 h.0 in path-same_ends all x y (walk_between all x y) (walk_between links x l.b.0 ++ (l.a.0 ∷ walk_between links l.a.0 y)) (over-ba l links x y n (λ g. apart (sym g ∙ e))) (path-over l links x l.b.0 l.a.0 y (walk_between links x l.b.0) (walk_between links l.a.0 y) (inr (refl, refl)) (λ g. apart (sym g)) (rest x l.b.0 h.0) (rest l.a.0 y h.1)))
+        ]
+      ]
+    ]

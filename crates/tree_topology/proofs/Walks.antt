@@ -1,8 +1,8 @@
 -- Walks over any relation between nodes: joined end to end, turned round, freed of repeats; and walks
 -- that never go straight back, of which a link between two components leaves at most one.
-use Rattle.std.proofs.Common.{◌≡◌, ◌≢◌, ℕ, List, [], ◌∷◌, ◌++◌, ◌⊎◌, inl, inr, refl, sym, ap, subst, ◌∙◌, append_assoc}
+use Rattle.std.proofs.Common.{◌≡◌, ◌≢◌, ℕ, List, [], ◌∷◌, ◌++◌, ◌⊎◌, inl, inr, refl, sym, ap, subst, ◌∙◌}
 use Rattle.std.proofs.lemmas.Bool.{cases_eq}
-use Rattle.tree_topology.specs.Graph.{IsWalk, IsAbsent, HasNoRepeat, IsPath}
+use Rattle.tree_topology.specs.Graph.{IsWalk, IsAbsent, IsPath}
 
 -- a walk that never goes straight back to where it came from; before it one came from `p`
 abbrev pub IsStraight : (ℕ → ℕ → Type 0) → ℕ → ℕ → List ℕ → ℕ → Type 0
@@ -139,19 +139,27 @@ loop_free-link R S a b s f free apart p q x y w u h k =
     let ends' = crossed-ends R S b a g free apart in
     let join = reaches-through R in
     elim (crossing R S a b f p x w y h) [
-      inl h' ↦ elim (crossing R S a b f q x u y k) [
-          inl k' ↦ free p q x y w u h' k'
+      | inl h' ↦ elim (crossing R S a b f q x u y k) [
+        | inl k' ↦ free p q x y w u h' k'
         | inr d ↦ elim d [
-            inl d ↦ (let e = ends q x y u d in absurd (apart' (join b y a e.1 (join y x a (back x y (reaches-straight R p x w y h')) e.0))))
-          | inr d ↦ (let e = ends' q x y u d in absurd (apart (join a y b e.1 (join y x b (back x y (reaches-straight R p x w y h')) e.0)))) ] ]
-    | inr c ↦ elim c [
-        inl c ↦ (let d' = ends p x y w c in elim (crossing R S a b f q x u y k) [
-            inl k' ↦ absurd (apart' (join b y a d'.1 (join y x a (back x y (reaches-straight R q x u y k')) d'.0)))
+          | inl d ↦ (let e = ends q x y u d in absurd (apart' (join b y a e.1 (join y x a (back x y (reaches-straight R p x w y h')) e.0))))
+          | inr d ↦ (let e = ends' q x y u d in absurd (apart (join a y b e.1 (join y x b (back x y (reaches-straight R p x w y h')) e.0))))
+        ]
+      ]
+      | inr c ↦ elim c [
+        | inl c ↦ (let d' = ends p x y w c in elim (crossing R S a b f q x u y k) [
+          | inl k' ↦ absurd (apart' (join b y a d'.1 (join y x a (back x y (reaches-straight R q x u y k')) d'.0)))
           | inr d ↦ elim d [
-              inl d ↦ same-crossing R S a b f free apart' p q x y w u c d
-            | inr d ↦ (let e = ends' q x y u d in absurd (apart (join a x b (back x a d'.0) e.0))) ] ])
-      | inr c ↦ (let d' = ends' p x y w c in elim (crossing R S a b f q x u y k) [
-            inl k' ↦ absurd (apart (join a y b d'.1 (join y x b (back x y (reaches-straight R q x u y k')) d'.0)))
+            | inl d ↦ same-crossing R S a b f free apart' p q x y w u c d
+            | inr d ↦ (let e = ends' q x y u d in absurd (apart (join a x b (back x a d'.0) e.0)))
+          ]
+        ])
+        | inr c ↦ (let d' = ends' p x y w c in elim (crossing R S a b f q x u y k) [
+          | inl k' ↦ absurd (apart (join a y b d'.1 (join y x b (back x y (reaches-straight R q x u y k')) d'.0)))
           | inr d ↦ elim d [
-              inl d ↦ (let e = ends q x y u d in absurd (apart' (join b x a (back x b d'.0) e.0)))
-            | inr d ↦ same-crossing R S b a g free apart p q x y w u c d ] ]) ] ]
+            | inl d ↦ (let e = ends q x y u d in absurd (apart' (join b x a (back x b d'.0) e.0)))
+            | inr d ↦ same-crossing R S b a g free apart p q x y w u c d
+          ]
+        ])
+      ]
+    ]

@@ -1,6 +1,6 @@
 -- The egress ports of a tree: a node with one of its links. A node's ports are numbered from 1 in the
 -- order of its links.
-use Rattle.std.specs.Prelude.{◌≡◌, ◌==◌, ℕ, ◌-◌, ◌≤◌, List, [], ◌∷◌, length, Option, Some, None, Bool, if◌then◌else◌, filter_map, slice_index, slice_index_or, ◌+◌}
+use Rattle.std.specs.Prelude.{◌≡◌, ◌==◌, ℕ, ◌-◌, ◌≤◌, List, [], ◌∷◌, length, Option, Some, None, if◌then◌else◌, filter_map, slice_index, slice_index_or, ◌+◌}
 use Rattle.std.specs.List.{position_or_len}
 use Rattle.srp_base.specs.declared.numbers.EgressPort.{EgressPort}
 use Rattle.tree_topology.specs.declared.graph.Link.{Link}

@@ -1,13 +1,13 @@
 -- When nodes and links are no accepted tree, and which refusal names what is wrong: the first that
 -- fits in the order of the variants, with the first link or node at which it fits.
-use Rattle.std.specs.Prelude.{◌≡◌, ◌≢◌, ℕ, ◌+◌, ◌-◌, ◌≤◌, ◌<◌, List, [], ◌∷◌, length}
+use Rattle.std.specs.Prelude.{◌≡◌, ◌≢◌, ℕ, ◌+◌, ◌-◌, ◌≤◌, ◌<◌, List, length}
 use Rattle.std.proofs.Common.{take, get_or}
 use Rattle.tree_topology.specs.declared.graph.Link.{Link}
 use Rattle.tree_topology.specs.declared.graph.NodeKind.{NodeKind}
 use Rattle.tree_topology.specs.declared.graph.NodeKind.TheVariants.{Station}
 use Rattle.tree_topology.specs.declared.graph.TreeErr.{TreeErr}
 use Rattle.tree_topology.specs.declared.graph.TreeErr.TheVariants.{UnknownNode, SelfLink, SecondLink, Loop, Unconnected, StationWithLinks, TooManyLinks, NoMemory}
-use Rattle.tree_topology.specs.Graph.{IsNode, Joined, Connected, HasKnownEnds, HasNoSelfLink, HasNoSecondLink, IsGraph, IsTree}
+use Rattle.tree_topology.specs.Graph.{IsNode, Joined, Connected, HasKnownEnds, HasNoSelfLink, IsGraph, IsTree}
 use Rattle.tree_topology.specs.Ports.{neighbours}
 
 -- the first link, counted from 1, at which a fault stands; a link is judged by those before it

@@ -5,6 +5,7 @@ use Rattle.tree_topology.specs.declared.graph.Link.{Link}
 use Rattle.tree_topology.specs.declared.graph.NodeKind.{NodeKind}
 use Rattle.tree_topology.specs.Graph.{IsNode}
 use Rattle.tree_topology.specs.Ports.{IsPort}
+use Rattle.tree_topology.specs.Refusal.{IsAccepted}
 
 -- the kinds of the nodes and the links between them, both in the order of their numbers
 pub record Topology : Type 0 where
@@ -22,3 +23,7 @@ HasLink tree n = (1 ≤ n) × (n ≤ length tree.links)
 -- the tree has this port
 abbrev pub HasPort : Topology → EgressPort → Type 0
 HasPort tree p = IsPort (length tree.kinds) tree.links p
+
+-- the tree is an accepted one
+abbrev pub IsSound : Topology → Type 0
+IsSound tree = IsAccepted tree.kinds tree.links

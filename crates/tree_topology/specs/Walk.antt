@@ -18,8 +18,8 @@ walk_between [] x y = []
 walk_between (l ∷ links) x y =
     if component links x == component links y then walk_between links x y
     else (if component links x == component links l.a.0
-      then walk_between links x l.a.0 ++ (l.b.0 ∷ walk_between links l.b.0 y)
-      else walk_between links x l.b.0 ++ (l.a.0 ∷ walk_between links l.a.0 y))
+    then walk_between links x l.a.0 ++ (l.b.0 ∷ walk_between links l.b.0 y)
+    else walk_between links x l.b.0 ++ (l.a.0 ∷ walk_between links l.a.0 y))
 
 -- the egress ports from one node to another, in order
 abbrev pub path_between : List Link → ℕ → ℕ → List EgressPort

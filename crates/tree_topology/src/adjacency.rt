@@ -151,7 +151,11 @@ fn add_link(rows: &mut Vec<Seq<u16>>, link: &Link) -> Result<(), NoMemory>
 }
 
 /// The neighbours of each node, unless two links join the same nodes.
-fn neighbour_rows(alloc: Global, nodes: &[NodeKind], links: &[Link]) -> Result<Vec<Seq<u16>>, TreeErr>
+fn neighbour_rows(
+    alloc: Global,
+    nodes: &[NodeKind],
+    links: &[Link],
+) -> Result<Vec<Seq<u16>>, TreeErr>
     requires few_nodes { length nodes.now < 65536 }
     requires few_links { length links.now < 65536 }
     requires known { HasKnownEnds (length nodes.now) links.now }

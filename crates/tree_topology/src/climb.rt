@@ -88,7 +88,11 @@ impl Climb {
     fn finish(self) -> Result<Seq<EgressPort>, NoMemory>
         ensures { IfOk result (λ ports. ports ≡ self.ups.items ++ reverse self.downs.items) }
     {
-        let Climb { mut ups, mut downs, .. } = self;
+        let Climb {
+            mut ups,
+            mut downs,
+            ..
+        } = self;
         while let Some(port) = downs.pop() {
             ups.push(port)?;
         }
@@ -97,7 +101,12 @@ impl Climb {
 }
 
 /// The egress ports from one node to another, in order.
-pub(crate) fn find_path(alloc: Global, routes: &Routes, from: NodeNo, to: NodeNo) -> Result<Seq<EgressPort>, NoMemory>
+pub(crate) fn find_path(
+    alloc: Global,
+    routes: &Routes,
+    from: NodeNo,
+    to: NodeNo,
+) -> Result<Seq<EgressPort>, NoMemory>
     requires from { IsNode (length routes.now.kinds) from.0 }
     requires to { IsNode (length routes.now.kinds) to.0 }
     ensures { IfOk result (λ ports. ports ≡ path_between routes.now.links from.0 to.0) }

@@ -28,10 +28,10 @@ impl Model for Routes {
     ghost Value = { Routed };
 
     ghost view = { λ r. record {
-        kinds = r.graph.kinds.items;
-        links = r.graph.links.items;
-        parents = r.parents.items;
-        depths = r.depths.items;
+      kinds = r.graph.kinds.items;
+      links = r.graph.links.items;
+      parents = r.parents.items;
+      depths = r.depths.items;
     } };
 
     ghost invariant = { λ r. IsRouted r.graph.kinds.items r.graph.links.items r.parents.items r.depths.items };
@@ -55,7 +55,11 @@ impl Routes {
         span.check_connected(&graph)?;
         graph.check_stations()?;
         graph.check_port_counts()?;
-        let Span { parents, depths, .. } = span;
+        let Span {
+            parents,
+            depths,
+            ..
+        } = span;
         Ok(Routes {
             graph,
             parents,

@@ -1,5 +1,4 @@
-use Rattle.std.proofs.Common.{◌≤◌, length, take}
-use Rattle.tree_topology.specs.declared.graph.Link.{Link}
+use Rattle.std.proofs.Common.{length, take}
 use Rattle.tree_topology.specs.Tables.{HasRows}
 use Rattle.tree_topology.proofs.RowFacts.{IsApartTo}
 use Rattle.tree_topology.proofs.adjacency.neighbour_rows.Given as goal

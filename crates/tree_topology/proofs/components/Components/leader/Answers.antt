@@ -1,7 +1,4 @@
-use Rattle.std.proofs.Common.{◌≡◌, ◌≢◌, ◌<◌, List, ℕ, sym, ap, subst, ◌∙◌, get_or, length}
-use Rattle.tree_topology.specs.declared.graph.Link.{Link}
-use Rattle.tree_topology.specs.Graph.{Connected}
-use Rattle.tree_topology.specs.Tables.{LeadsAlong}
+use Rattle.std.proofs.Common.{◌<◌, ℕ, sym, subst, length}
 use Rattle.tree_topology.proofs.ListReads.{read-at}
 use Rattle.tree_topology.proofs.ComponentSteps.{leads-lower, leads-further}
 use Rattle.tree_topology.proofs.components.Components.leader.Goals as goal

@@ -1,6 +1,6 @@
-use Rattle.std.proofs.Common.{◌∙◌, ◌-◌, ℕ, List, length, sym, ap, subst, get_or}
+use Rattle.std.proofs.Common.{◌-◌, length, sym, subst, get_or}
 use Rattle.tree_topology.specs.Graph.{IsNode, Joined}
-use Rattle.tree_topology.specs.Ports.{IsPort, neighbours}
+use Rattle.tree_topology.specs.Ports.{IsPort}
 use Rattle.tree_topology.specs.Routes.{Routed}
 use Rattle.tree_topology.proofs.RouteFacts.{far-node, far-read}
 use Rattle.tree_topology.proofs.routes.Routes.far_node.Goals as goal

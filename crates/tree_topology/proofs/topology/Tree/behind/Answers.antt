@@ -2,7 +2,7 @@ use Rattle.std.proofs.Common.{◌≡◌, subst}
 use Rattle.tree_topology.specs.Walk.{is_behind}
 use Rattle.tree_topology.specs.Topology.{Topology}
 use Rattle.tree_topology.specs.Refusal.{IsAccepted}
-use Rattle.tree_topology.proofs.Laws.{behind-answer}
+use Rattle.tree_topology.proofs.PortLaws.{behind-answer}
 use Rattle.tree_topology.proofs.topology.Tree.behind.Goals as goal
 
 pub returns-clause-walk : goal.returns-clause-walk

@@ -1,21 +1,21 @@
 -- The laws of a tree over its ports.
-use Rattle.std.proofs.Common.{◌≡◌, ◌≢◌, ℕ, suc, zero, ◌+◌, ◌-◌, ◌<◌, ◌≤◌, Bool, true, false, not, cond, eqb, List, [], ◌∷◌, ◌++◌, ◌⊎◌, inl, inr, refl, sym, ap, subst, ◌∙◌, length, get_or, arith}
-use Rattle.std.proofs.lemmas.Bool.{cases_eq, false≢true}
+use Rattle.std.proofs.Common.{◌≡◌, ◌≢◌, ℕ, suc, zero, ◌+◌, ◌-◌, ◌<◌, ◌≤◌, Bool, true, false, not, cond, List, [], ◌∷◌, ◌⊎◌, inl, inr, refl, sym, ap, subst, ◌∙◌, length, get_or, arith}
+use Rattle.std.proofs.lemmas.Bool.{false≢true}
 use Rattle.std.proofs.lemmas.Bool.Decides.{nat_tests}
 use Rattle.std.proofs.lemmas.List.Sums.{sum_by-cons}
 use Rattle.std.proofs.lemmas.List.FromFn.{length-range_with_len, get_or-range_with_len}
 use Rattle.std.specs.List.{count_by, range_with_len}
 use Rattle.srp_base.specs.declared.numbers.EgressPort.{EgressPort}
 use Rattle.tree_topology.specs.declared.graph.Link.{Link}
-use Rattle.tree_topology.specs.Graph.{IsNode, Joined, IsPath, IsTree, IsWalk, HasNoRepeat}
+use Rattle.tree_topology.specs.Graph.{IsNode, Joined, IsPath, IsTree, IsWalk}
 use Rattle.tree_topology.specs.Ports.{port_to, IsPort, far_node, peer_of, egress_ports, IsPortPath, LiesBehind, link_at, ends_of}
 use Rattle.tree_topology.specs.Walk.{walk_between, path_between, begins_with, is_behind, count_behind}
 use Rattle.std.specs.Bool.{IsTrue}
 use Rattle.std.specs.Prelude.{◌↔◌}
 use Rattle.tree_topology.specs.declared.graph.NodeKind.{NodeKind}
 use Rattle.tree_topology.specs.Refusal.{IsAccepted}
-use Rattle.tree_topology.proofs.Links.{joined-sym, joined-known, joined-apart}
-use Rattle.tree_topology.proofs.Trees.{walk-path, walk-one_path, walk-self, walk-first, walk-begins, walk-on, side-far, side-near, begins-same, begins-at}
+use Rattle.tree_topology.proofs.Links.{joined-sym, joined-known}
+use Rattle.tree_topology.proofs.Trees.{walk-path, walk-one_path, walk-self, walk-first, walk-begins, side-far, side-near, begins-same}
 use Rattle.tree_topology.proofs.Refusals.{link-joined}
 use Rattle.tree_topology.proofs.RouteFacts.{sides}
 use Rattle.tree_topology.proofs.PortFacts.{port-leads, port-joined, port-is, peer-of_port}
@@ -129,8 +129,9 @@ behind-splits count links tree p y h n b =
     let v = far_node links p in
     let m = far-known count links tree p h in
     elim (first-port count links tree v y m n) [
-      inl e ↦ inl (sym e)
-    | inr f ↦ (let near = side-near count links tree x v y h.0 n b in let peer = peer-port count links tree p h in inr (f.0, f.1, f.2, (λ e. (let B : EgressPort → Type 0 = λ t. is_behind links t y ≡ true in let back = subst B e f.3 in let G : ℕ → Type 0 = λ t. begins_with t (walk_between links v y) ≡ true in false≢true (sym near ∙ subst G peer.1 back))), f.3)) ]
+      | inl e ↦ inl (sym e)
+      | inr f ↦ (let near = side-near count links tree x v y h.0 n b in let peer = peer-port count links tree p h in inr (f.0, f.1, f.2, (λ e. (let B : EgressPort → Type 0 = λ t. is_behind links t y ≡ true in let back = subst B e f.3 in let G : ℕ → Type 0 = λ t. begins_with t (walk_between links v y) ≡ true in false≢true (sym near ∙ subst G peer.1 back))), f.3))
+    ]
 
 -- a path begins with the port behind which its end lies, and goes on from the far node
 pub path-begins : (count : ℕ) (links : List Link) → IsTree count links → (p : EgressPort) (y : ℕ) → IsPort count links p → IsNode count y → is_behind links p y ≡ true → path_between links p.node.0 y ≡ p ∷ path_between links (far_node links p) y
