@@ -29,4 +29,4 @@ pub use hexadecimal::read_hex16;
 pub use list::Seq;
 pub use memory::NoMemory;
 pub use mrp::{App, MrpEvent};
-pub use numbers::{BridgeId, Cs, LinkNo, Mac, NodeNo, PortNo, Ps, StreamId, Vid};
+pub use numbers::{BridgeId, Cs, EgressPort, LinkNo, Mac, NodeNo, PortNo, Ps, StreamId, Vid};

@@ -51,6 +51,13 @@ pub struct LinkNo(pub u16);
 #[derive(Clone, Copy, Debug, PartialEq, Eq, PartialOrd, Ord, Hash)]
 pub struct PortNo(pub u8);
 
+/// An egress port: a node with one of its ports.
+#[derive(Clone, Copy, Debug, PartialEq, Eq, PartialOrd, Ord, Hash)]
+pub struct EgressPort {
+    pub node: NodeNo,
+    pub port: PortNo,
+}
+
 /// A moment or a time in centiseconds.
 #[derive(Clone, Copy, Debug, PartialEq, Eq, PartialOrd, Ord, Hash)]
 pub struct Cs(pub u64);

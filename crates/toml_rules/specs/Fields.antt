@@ -2,7 +2,7 @@
 use Rattle.std.specs.Prelude.{ℕ, pos, Bool, ◌&&◌, nat_le, nat_eq, if◌then◌else◌, List, [], ◌∷◌, Option, Some, None, option_map, option_and_then}
 use Rattle.std.specs.Cmp.Lexicographic.{pointwise}
 use Rattle.std.specs.List.{list_all, list_any}
-use Rattle.toml.specs.Data.{Data, integer, array, Items, no_items, item, Members, no_members, member, get_member, as_str, as_table}
+use Rattle.toml.specs.Data.{Data, integer, boolean, array, Items, no_items, item, Members, no_members, member, get_member, as_str, as_table}
 
 -- a TOML integer that isn't negative
 abbrev pub number_of : Data → Option ℕ
@@ -21,6 +21,15 @@ number key ms = option_and_then number_of (get_member key ms)
 -- the number at a key, or the default where the key is missing
 abbrev pub number_or : List ℕ → ℕ → Members → Option ℕ
 number_or key x ms = or_default x number_of (get_member key ms)
+
+-- a truth value
+abbrev pub truth_of : Data → Option Bool
+truth_of (boolean b) = Some b
+truth_of _ = None
+
+-- the truth value at a key, or the default where the key is missing
+abbrev pub truth_or : List ℕ → Bool → Members → Option Bool
+truth_or key x ms = or_default x truth_of (get_member key ms)
 
 -- a number from low to high
 abbrev pub within : ℕ → ℕ → Option ℕ → Option ℕ

@@ -6,14 +6,14 @@ ghost use Rattle.std.specs.List.{list_all};
 ghost use Rattle.std.specs.BTreeMap.{keys};
 ghost use Rattle.toml.specs.Data.{get_member};
 ghost use Rattle.toml.specs.View.{view, table_view, items_view};
-ghost use Rattle.toml_rules.specs.Fields.{number as number_lem, number_of, number_or as number_or_lem, within as within_lem, text as text_lem, tables as tables_lem, tables_of as tables_of_lem, all_tables as all_tables_lem, has_only as has_only_lem, is_known as is_known_lem};
+ghost use Rattle.toml_rules.specs.Fields.{number as number_lem, number_of, number_or as number_or_lem, truth_or as truth_or_lem, within as within_lem, text as text_lem, tables as tables_lem, tables_of as tables_of_lem, all_tables as all_tables_lem, has_only as has_only_lem, is_known as is_known_lem};
 
 use srp_base::NoMemory;
 use std::alloc::Global;
 use toml::{Table, Value};
 
 /// The value at a key.
-fn value_at<'a>(table: &'a Table, key: &str) -> Option<&'a Value>
+pub fn value_at<'a>(table: &'a Table, key: &str) -> Option<&'a Value>
     ensures { option_map (λ v. view v.now) result ≡ get_member key.now (table_view table.now) }
 {
     table.get(key)
@@ -46,6 +46,18 @@ pub fn number_or(table: &Table, key: &str, default: u64) -> Option<u64>
 {
     match value_at(table, key) {
         Some(value) => as_number(value),
+        None => Some(default),
+    }
+}
+
+/// The truth value at a key, or the default where the key is missing; None where the key has another
+/// value.
+pub fn truth_or(table: &Table, key: &str, default: bool) -> Option<bool>
+    ensures { result ≡ truth_or_lem key.now default (table_view table.now) }
+{
+    match value_at(table, key) {
+        Some(Value::Boolean(truth)) => Some(*truth),
+        Some(_) => None,
         None => Some(default),
     }
 }

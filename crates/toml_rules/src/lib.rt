@@ -1,8 +1,8 @@
 //! Input files by numbered rules: what a TOML table has at a key, and the first rule that fails.
 //!
 //! ```text
-//! fields   number number_or within text tables has_only     what a table has at a key
-//! rules    RuleErr needs holds                              a rule, and how it fails
+//! fields   value_at number number_or within truth_or text tables has_only     what a table has at a key
+//! rules    RuleErr needs holds                                                a rule, and how it fails
 //! ```
 //!
 //! A file's definition is a list of rules in the order in which they are checked, each a fact about the
@@ -15,5 +15,5 @@ pub mod rules;
 #[cfg(test)]
 mod tests;
 
-pub use fields::{has_only, number, number_or, tables, text, within};
+pub use fields::{has_only, number, number_or, tables, text, truth_or, value_at, within};
 pub use rules::{RuleErr, holds, needs};

@@ -1,0 +1,14 @@
+pub mod ListReads
+pub mod Walks
+pub mod Links
+pub mod Forests
+pub mod WalkBetween
+pub mod Trees
+pub mod Climbs
+pub mod PortFacts
+pub mod PortLaws
+pub mod RowFacts
+pub mod ComponentSteps
+pub mod SpanSteps
+pub mod Refusals
+pub mod RouteFacts

@@ -1,0 +1,143 @@
+-- A node's neighbours in the order of its links: whom they name, that none stands twice, and the
+-- place of each.
+use Rattle.std.proofs.Common.{◌≡◌, ◌≢◌, ℕ, suc, zero, ◌+◌, ◌-◌, ◌<◌, Option, Some, None, List, [], ◌∷◌, ◌⊎◌, inl, inr, refl, sym, ap, subst, ◌∙◌, length, get_or, arith}
+use Rattle.std.proofs.lemmas.Bool.{cases_eq}
+use Rattle.std.proofs.lemmas.Bool.Decides.{nat_tests}
+use Rattle.std.proofs.lemmas.List.Elements.{All-head, All-tail}
+use Rattle.std.specs.List.{cons_option}
+use Rattle.srp_base.specs.declared.numbers.EgressPort.{EgressPort}
+use Rattle.tree_topology.specs.declared.graph.Link.{Link}
+use Rattle.tree_topology.specs.Graph.{Joins, Joined, IsAbsent, HasNoRepeat, HasNoSelfLink, IsTree}
+use Rattle.tree_topology.specs.Ports.{far_end, neighbours, place_of, port_to, IsPort, far_node, peer_of}
+use Rattle.tree_topology.proofs.Links.{joined-sym, joined-known}
+use Rattle.tree_topology.proofs.Forests.{IsApart, apart-from_graph}
+
+-- a link leads from a node to the other end, or not at all
+pub far_end-cases : (x : ℕ) (l : Link) → ((v : ℕ) × (far_end x l ≡ Some v) × Joins l x v) ⊎ ((far_end x l ≡ None) × (l.a.0 ≢ x) × (l.b.0 ≢ x))
+far_end-cases x l =
+    elim (cases_eq l.a.0 x) [
+      | inl e ↦ (let f : far_end x l ≡ Some l.b.0 = grind (arith, nat_tests) in inl (l.b.0, f, inl (e, refl)))
+      | inr n ↦ elim (cases_eq l.b.0 x) [
+        | inl e ↦ (let f : far_end x l ≡ Some l.a.0 = grind (arith, nat_tests) in inl (l.a.0, f, inr (refl, e)))
+        | inr k ↦ (let f : far_end x l ≡ None = grind (arith, nat_tests) in inr (f, n, k))
+      ]
+    ]
+
+neighbours-some : (x v : ℕ) (l : Link) (links : List Link) → far_end x l ≡ Some v → neighbours (l ∷ links) x ≡ v ∷ neighbours links x
+neighbours-some x v l links e = ap (λ (o : Option ℕ). cons_option o (neighbours links x)) e
+
+neighbours-none : (x : ℕ) (l : Link) (links : List Link) → far_end x l ≡ None → neighbours (l ∷ links) x ≡ neighbours links x
+neighbours-none x l links e = ap (λ (o : Option ℕ). cons_option o (neighbours links x)) e
+
+neighbour-cons : (l : Link) (links : List Link) (x v k d : ℕ) → Joins l x v → ((j : ℕ) → j < length (neighbours links x) → Joined links x (get_or (neighbours links x) j d)) → k < suc (length (neighbours links x)) → Joined (l ∷ links) x (get_or (v ∷ neighbours links x) k d)
+neighbour-cons l links x v zero d j rest lt = inl j
+neighbour-cons l links x v (suc k) d j rest lt = inr (rest k (omega arith))
+
+-- each of a node's neighbours is joined with it
+pub neighbour-joined : (links : List Link) (x k d : ℕ) → k < length (neighbours links x) → Joined links x (get_or (neighbours links x) k d)
+neighbour-joined [] x k d lt = absurd (omega (arith, lt))
+neighbour-joined (l ∷ links) x k d lt =
+    let F : List ℕ → Type 0 = λ t. Joined (l ∷ links) x (get_or t k d) in
+    let L : List ℕ → Type 0 = λ t. k < length t in
+    elim (far_end-cases x l) [
+      | inl h ↦ (let e = neighbours-some x h.0 l links h.1 in subst F (sym e) (neighbour-cons l links x h.0 k d h.2 (λ j less. neighbour-joined links x j d less) (subst L e lt)))
+      | inr h ↦ (let e = neighbours-none x l links h.0 in subst F (sym e) (inr (neighbour-joined links x k d (subst L e lt))))
+    ]
+
+-- a link leads from either end to the other
+pub far_end-joins : (x v : ℕ) (l : Link) → l.a.0 ≢ l.b.0 → Joins l x v → far_end x l ≡ Some v
+far_end-joins x v l ne j =
+    elim j [ inl e ↦ (let f : far_end x l ≡ Some l.b.0 = grind (arith, nat_tests) in f ∙ ap (λ (t : ℕ). Some t) e.1) | inr e ↦ (let n : l.a.0 ≢ x = λ q. ne (q ∙ sym e.1) in let f : far_end x l ≡ Some l.a.0 = grind (arith, nat_tests) in f ∙ ap (λ (t : ℕ). Some t) e.0) ]
+
+-- whom a node is joined with stands among its neighbours
+pub joined-neighbour : (links : List Link) → HasNoSelfLink links → (x v : ℕ) → Joined links x v → (k : ℕ) × (k < length (neighbours links x)) × ((d : ℕ) → get_or (neighbours links x) k d ≡ v)
+joined-neighbour [] other x v j = absurd j
+joined-neighbour (l ∷ links) other x v j =
+    let P : Link → Type 0 = λ l. l.a.0 ≢ l.b.0 in
+    let G : List ℕ → Type 0 = λ t. (k : ℕ) × (k < length t) × ((d : ℕ) → get_or t k d ≡ v) in
+    elim j [
+      | inl e ↦ (let q = neighbours-some x v l links (far_end-joins x v l (All-head P l links other) e) in subst G (sym q) (0, omega arith, (λ d. refl)))
+      | inr i ↦ (let h = joined-neighbour links (All-tail P l links other) x v i in elim (far_end-cases x l) [
+        | inl f ↦ subst G (sym (neighbours-some x f.0 l links f.1)) (suc h.0, omega (arith, h.1), h.2)
+        | inr f ↦ subst G (sym (neighbours-none x l links f.0)) h
+      ])
+    ]
+
+-- who isn't joined with a node isn't among its neighbours
+absent-neighbours : (links : List Link) (x v : ℕ) → ¬ Joined links x v → IsAbsent v (neighbours links x)
+absent-neighbours [] x v n = tt
+absent-neighbours (l ∷ links) x v n =
+    let F : List ℕ → Type 0 = λ t. IsAbsent v t in
+    let rest = absent-neighbours links x v (λ j. n (inr j)) in
+    elim (far_end-cases x l) [
+      | inl f ↦ (let J : ℕ → Type 0 = λ t. Joins l x t in subst F (sym (neighbours-some x f.0 l links f.1)) ((λ e. n (inl (subst J (sym e) f.2))), rest))
+      | inr f ↦ subst F (sym (neighbours-none x l links f.0)) rest
+    ]
+
+joins-same : (l : Link) (links : List Link) (x v : ℕ) → Joins l x v → Joined links x v → Joined links l.a.0 l.b.0
+joins-same l links x v j k =
+    let F : ℕ → Type 0 = λ t. Joined links t l.b.0 in
+    let G : ℕ → Type 0 = λ t. Joined links x t in
+    let H : ℕ → Type 0 = λ t. Joined links v t in
+    elim j [ inl e ↦ subst F (sym e.0) (subst G (sym e.1) k) | inr e ↦ subst F (sym e.0) (subst H (sym e.1) (joined-sym links x v k)) ]
+
+-- no neighbour stands twice
+pub neighbours-differ : (links : List Link) → IsApart links → (x : ℕ) → HasNoRepeat (neighbours links x)
+neighbours-differ [] apart x = tt
+neighbours-differ (l ∷ links) apart x =
+    let F : List ℕ → Type 0 = λ t. HasNoRepeat t in
+    let rest = neighbours-differ links apart.1 x in
+    elim (far_end-cases x l) [
+      | inl f ↦ subst F (sym (neighbours-some x f.0 l links f.1)) (absent-neighbours links x f.0 (λ j. apart.0 (joins-same l links x f.0 f.2 j)), rest)
+      | inr f ↦ subst F (sym (neighbours-none x l links f.0)) rest
+    ]
+
+absent-at : (v : ℕ) (xs : List ℕ) (k d : ℕ) → IsAbsent v xs → k < length xs → get_or xs k d ≢ v
+absent-at v [] k d a lt = absurd (omega (arith, lt))
+absent-at v (x ∷ xs) zero d a lt = λ e. a.0 (sym e)
+absent-at v (x ∷ xs) (suc k) d a lt = absent-at v xs k d a.1 (omega (arith, lt))
+
+place-head : (v : ℕ) (x : ℕ) (xs : List ℕ) → x ≡ v → place_of v (x ∷ xs) ≡ 0
+place-head v x xs e = grind (arith, nat_tests)
+
+place-tail : (v : ℕ) (x : ℕ) (xs : List ℕ) → x ≢ v → place_of v (x ∷ xs) ≡ 1 + place_of v xs
+place-tail v x xs n = grind (arith, nat_tests)
+
+-- in a list without repeats each element has one place
+pub place-at : (v : ℕ) (xs : List ℕ) (k d : ℕ) → HasNoRepeat xs → k < length xs → get_or xs k d ≡ v → place_of v xs ≡ k
+place-at v [] k d r lt e = absurd (omega (arith, lt))
+place-at v (x ∷ xs) zero d r lt e = place-head v x xs e
+place-at v (x ∷ xs) (suc k) d r lt e =
+    let less : k < length xs = omega (arith, lt) in
+    let n : x ≢ v = λ q. absent-at x xs k d r.0 less (e ∙ sym q) in
+    let p = place-at v xs k d r.1 less e in
+    place-tail v x xs n ∙ omega (arith, p)
+
+-- the port towards a neighbour exists, and leads there
+pub port-leads : (count : ℕ) (links : List Link) → IsTree count links → (x v : ℕ) → Joined links x v → IsPort count links (port_to links x v) × (far_node links (port_to links x v) ≡ v)
+port-leads count links tree x v j =
+    let h = joined-neighbour links tree.graph.no_self x v j in
+    let none = neighbours-differ links (apart-from_graph links tree.graph.no_second) x in
+    let p : place_of v (neighbours links x) ≡ h.0 = place-at v (neighbours links x) h.0 0 none h.1 (h.2 0) in
+    let known = joined-known count links x v tree.graph.known j in
+    let G : ℕ → ℕ = λ t. get_or (neighbours links x) t 0 in
+    let back : place_of v (neighbours links x) + 1 - 1 ≡ h.0 = omega (arith, p) in
+    ((known.0, omega arith, omega (arith, p, h.1)), ap G back ∙ h.2 0)
+
+-- a port's node is joined with the node that the port leads to
+pub port-joined : (count : ℕ) (links : List Link) (p : EgressPort) → IsPort count links p → Joined links p.node.0 (far_node links p)
+port-joined count links p h = neighbour-joined links p.node.0 (p.port.0 - 1) 0 (omega (arith, h.1, h.2))
+
+-- a port is the one towards the node that it leads to
+pub port-is : (count : ℕ) (links : List Link) → IsTree count links → (p : EgressPort) → IsPort count links p → p ≡ port_to links p.node.0 (far_node links p)
+port-is count links tree p h =
+    let xs = neighbours links p.node.0 in
+    let none = neighbours-differ links (apart-from_graph links tree.graph.no_second) p.node.0 in
+    let e : place_of (far_node links p) xs ≡ p.port.0 - 1 = place-at (far_node links p) xs (p.port.0 - 1) 0 none (omega (arith, h.1, h.2)) refl in
+    let n : p.port.0 ≡ place_of (far_node links p) xs + 1 = omega (arith, e, h.1) in
+    ap (λ (t : ℕ). let r : EgressPort = record { node = record { 0 = p.node.0 }; port = record { 0 = t } } in r) n
+
+-- the peer of the port towards a neighbour is the neighbour's port back
+pub peer-of_port : (count : ℕ) (links : List Link) → IsTree count links → (x v : ℕ) → Joined links x v → peer_of links (port_to links x v) ≡ port_to links v x
+peer-of_port count links tree x v j =
+    ap (λ (t : ℕ). port_to links t x) (port-leads count links tree x v j).1

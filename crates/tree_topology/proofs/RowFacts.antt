@@ -1,0 +1,132 @@
+-- The rows of neighbours, link by link.
+use Rattle.std.proofs.Common.{◌≡◌, ◌≢◌, ℕ, suc, zero, ◌+◌, ◌<◌, Bool, true, false, ◌==◌, Option, None, List, [], ◌∷◌, ◌++◌, ◌⊎◌, inl, inr, refl, sym, ap, subst, ◌∙◌, length, get_or, take, replicate, below_more, arith}
+use Rattle.std.proofs.lemmas.Bool.{cases_eq, false≢true}
+use Rattle.std.proofs.lemmas.Bool.Decides.{nat_tests}
+use Rattle.std.proofs.lemmas.List.{append-nil, take_more, length-set, length-replicate, get_or-replicate, get_or-set_same, get_or-set_other, get_or_default}
+use Rattle.std.proofs.lemmas.List.Elements.{filter_map-append, All-take}
+use Rattle.std.specs.List.{list_any, cons_option}
+use Rattle.tree_topology.specs.declared.graph.Link.{Link}
+use Rattle.tree_topology.specs.Graph.{IsNode, Joins, Joined, HasKnownEnds, HasNoSelfLink}
+use Rattle.tree_topology.specs.Ports.{far_end, neighbours}
+use Rattle.tree_topology.specs.Refusal.{IsFirstLink, IsSecondLink}
+use Rattle.tree_topology.specs.Tables.{HasRows, with_neighbour, with_link}
+use Rattle.tree_topology.proofs.Links.{joined-sym}
+use Rattle.tree_topology.proofs.PortFacts.{far_end-joins, neighbour-joined, joined-neighbour}
+
+-- no link before this place joins the same nodes as an earlier one
+abbrev pub IsApartTo : List Link → ℕ → Type 0
+IsApartTo links n =
+    (i : ℕ) (d : Link) → i < n → ¬ Joined (take i links) (get_or links i d).a.0 (get_or links i d).b.0
+
+-- no node has a neighbour before the first link
+pub rows-empty : (count : ℕ) (rows : List (List ℕ)) → rows ≡ replicate (count + 1) [] → HasRows count [] rows
+rows-empty count rows e = record {
+  size = ap length e ∙ length-replicate (count + 1) [];
+  rows_are = (λ x d le. ap (λ (t : List (List ℕ)). get_or t x d) e ∙ get_or-replicate (count + 1) x [] d (omega arith));
+}
+
+neighbours-push : (links : List Link) (l : Link) (x : ℕ) → neighbours (links ++ l ∷ []) x ≡ neighbours links x ++ cons_option (far_end x l) []
+neighbours-push links l x = filter_map-append (far_end x) links (l ∷ [])
+
+row-other : (links : List Link) (l : Link) (x : ℕ) → l.a.0 ≢ x → l.b.0 ≢ x → neighbours (links ++ l ∷ []) x ≡ neighbours links x
+row-other links l x n k =
+    let none : far_end x l ≡ None = grind (arith, nat_tests) in
+    neighbours-push links l x ∙ ap (λ (o : Option ℕ). neighbours links x ++ cons_option o []) none ∙ append-nil (neighbours links x)
+
+row-end : (links : List Link) (l : Link) (x v : ℕ) → l.a.0 ≢ l.b.0 → Joins l x v → neighbours (links ++ l ∷ []) x ≡ neighbours links x ++ v ∷ []
+row-end links l x v ne j =
+    neighbours-push links l x ∙ ap (λ (o : Option ℕ). neighbours links x ++ cons_option o []) (far_end-joins x v l ne j)
+
+-- one link more
+pub rows-link : (count : ℕ) (links : List Link) (l : Link) (rows : List (List ℕ)) → IsNode count l.a.0 → IsNode count l.b.0 → l.a.0 ≢ l.b.0 → HasRows count links rows → HasRows count (links ++ l ∷ []) (with_link rows l)
+rows-link count links l rows m n ne h =
+    let a = l.a.0 in
+    let b = l.b.0 in
+    let one = with_neighbour rows a b in
+    let la : a < length rows = omega (arith, h.size, m.1) in
+    let lb : b < length rows = omega (arith, h.size, n.1) in
+    let lb1 : b < length one = omega (arith, lb, length-set rows a (get_or rows a [] ++ b ∷ [])) in
+    let at_b : get_or one b [] ≡ get_or rows b [] = get_or-set_other rows a b (get_or rows a [] ++ b ∷ []) [] (λ e. ne (sym e)) in
+    record {
+      size = length-set one b (get_or one b [] ++ a ∷ []) ∙ length-set rows a (get_or rows a [] ++ b ∷ []) ∙ h.size;
+      rows_are = (λ x d le. elim (cases_eq x b) [
+        | inl e ↦ (let F : ℕ → Type 0 = λ t. get_or (with_link rows l) t d ≡ neighbours (links ++ l ∷ []) t in subst F (sym e) (get_or-set_same one b (get_or one b [] ++ a ∷ []) d lb1 ∙ ap (λ (t : List ℕ). t ++ a ∷ []) (at_b ∙ h.rows_are b [] n.1) ∙ sym (row-end links l b a ne (inr (refl, refl)))))
+        | inr nb ↦ elim (cases_eq x a) [
+          | inl e ↦ (let F : ℕ → Type 0 = λ t. get_or (with_link rows l) t d ≡ neighbours (links ++ l ∷ []) t in subst F (sym e) (get_or-set_other one b a (get_or one b [] ++ a ∷ []) d ne ∙ get_or-set_same rows a (get_or rows a [] ++ b ∷ []) d la ∙ ap (λ (t : List ℕ). t ++ b ∷ []) (h.rows_are a [] m.1) ∙ sym (row-end links l a b ne (inl (refl, refl)))))
+          | inr na ↦ get_or-set_other one b x (get_or one b [] ++ a ∷ []) d nb ∙ get_or-set_other rows a x (get_or rows a [] ++ b ∷ []) d na ∙ h.rows_are x d le ∙ sym (row-other links l x (λ e. na (sym e)) (λ e. nb (sym e)))
+        ]
+      ]);
+    }
+
+any-at : (v : ℕ) (xs : List ℕ) → list_any (λ u. u == v) xs ≡ true → (k : ℕ) × (k < length xs) × (get_or xs k 0 ≡ v)
+any-at v [] e = absurd (false≢true e)
+any-at v (x ∷ xs) e =
+    elim (cases_eq x v) [
+      | inl q ↦ (0, omega arith, q)
+      | inr n ↦ (let rest : list_any (λ u. u == v) xs ≡ true = grind (arith, nat_tests) in let h = any-at v xs rest in (suc h.0, omega (arith, h.1), h.2))
+    ]
+
+at-any : (v : ℕ) (xs : List ℕ) (k : ℕ) → k < length xs → get_or xs k 0 ≡ v → list_any (λ u. u == v) xs ≡ true
+at-any v [] k lt e = absurd (omega (arith, lt))
+at-any v (x ∷ xs) zero lt e = grind (arith, nat_tests)
+at-any v (x ∷ xs) (suc k) lt e =
+    let rest = at-any v xs k (omega (arith, lt)) e in
+    elim (cases_eq x v) [ inl q ↦ grind (arith, nat_tests) | inr n ↦ grind (arith, nat_tests) ]
+
+-- a row has a neighbour exactly where links join the two
+pub joined-any : (links : List Link) (x v : ℕ) (row : List ℕ) → row ≡ neighbours links x → list_any (λ u. u == v) row ≡ true → Joined links x v
+joined-any links x v row e h =
+    let F : List ℕ → Type 0 = λ t. list_any (λ u. u == v) t ≡ true in
+    let k = any-at v (neighbours links x) (subst F e h) in
+    let G : ℕ → Type 0 = λ t. Joined links x t in
+    subst G k.2 (neighbour-joined links x k.0 0 k.1)
+
+pub any-joined : (links : List Link) (x v : ℕ) (row : List ℕ) → HasNoSelfLink links → row ≡ neighbours links x → Joined links x v → list_any (λ u. u == v) row ≡ true
+any-joined links x v row other e j =
+    let k = joined-neighbour links other x v j in
+    let F : List ℕ → Type 0 = λ t. list_any (λ u. u == v) t ≡ true in
+    subst F (sym e) (at-any v (neighbours links x) k.0 k.1 (k.2 0))
+
+no_self-take : (links : List Link) (n : ℕ) → HasNoSelfLink links → HasNoSelfLink (take n links)
+no_self-take links n h = All-take (λ (l : Link). l.a.0 ≢ l.b.0) n links h
+
+-- what either row of a link's ends says of an earlier link
+abbrev pub SaysJoined : Bool → List (List ℕ) → Link → Type 0
+SaysJoined r rows l =
+    (r ≡ list_any (λ u. u == l.b.0) (get_or rows l.a.0 [])) ⊎ (r ≡ list_any (λ u. u == l.a.0) (get_or rows l.b.0 []))
+
+joined-said : (count : ℕ) (links : List Link) (rows : List (List ℕ)) (l : Link) (r : Bool) → HasRows count links rows → IsNode count l.a.0 → IsNode count l.b.0 → SaysJoined r rows l → r ≡ true → Joined links l.a.0 l.b.0
+joined-said count links rows l r h m n s e =
+    elim s [
+      | inl t ↦ joined-any links l.a.0 l.b.0 (get_or rows l.a.0 []) (h.rows_are l.a.0 [] m.1) (sym t ∙ e)
+      | inr t ↦ joined-sym links l.b.0 l.a.0 (joined-any links l.b.0 l.a.0 (get_or rows l.b.0 []) (h.rows_are l.b.0 [] n.1) (sym t ∙ e))
+    ]
+
+said-joined : (count : ℕ) (links : List Link) (rows : List (List ℕ)) (l : Link) (r : Bool) → HasRows count links rows → HasNoSelfLink links → IsNode count l.a.0 → IsNode count l.b.0 → SaysJoined r rows l → r ≡ false → ¬ Joined links l.a.0 l.b.0
+said-joined count links rows l r h other m n s e j =
+    elim s [
+      | inl t ↦ false≢true (sym e ∙ t ∙ any-joined links l.a.0 l.b.0 (get_or rows l.a.0 []) other (h.rows_are l.a.0 [] m.1) j)
+      | inr t ↦ false≢true (sym e ∙ t ∙ any-joined links l.b.0 l.a.0 (get_or rows l.b.0 []) other (h.rows_are l.b.0 [] n.1) (joined-sym links l.a.0 l.b.0 j))
+    ]
+
+said-of : (rows rows' : List (List ℕ)) (l : Link) (r : Bool) → rows ≡ rows' → SaysJoined r rows l → SaysJoined r rows' l
+said-of rows rows' l r e s = let F : List (List ℕ) → Type 0 = λ t. SaysJoined r t l in subst F e s
+
+-- the first link that joins nodes which an earlier one joins
+pub second-link : (count : ℕ) (links : List Link) (rows rows' : List (List ℕ)) (i : ℕ) (l : Link) (r : Bool) → HasKnownEnds count links → HasRows count (take i links) rows → IsApartTo links i → i < length links → rows' ≡ rows → SaysJoined r rows' (get_or links i l) → r ≡ true → IsFirstLink IsSecondLink links (i + 1)
+second-link count links rows rows' i l r known h apart lt same s e =
+    let ends = known i l lt in
+    let j = joined-said count (take i links) rows (get_or links i l) r h ends.0 ends.1 (said-of rows' rows (get_or links i l) r same s) e in
+    let F : Link → Type 0 = λ m. Joined (take i links) m.a.0 m.b.0 in
+    (i, refl, lt, (λ d. subst F (get_or_default links i l d lt) j), (λ k d less. apart k d less))
+
+-- one link more that joins nodes which no earlier one joins
+pub rows-step : (count : ℕ) (links : List Link) (rows rows' more : List (List ℕ)) (i : ℕ) (l : Link) (r : Bool) → HasKnownEnds count links → HasNoSelfLink links → HasRows count (take i links) rows → IsApartTo links i → i < length links → rows' ≡ rows → SaysJoined r rows' (get_or links i l) → r ≡ false → more ≡ with_link rows (get_or links i l) → HasRows count (take (i + 1) links) more × IsApartTo links (i + 1)
+rows-step count links rows rows' more i l r known other h apart lt same s e new =
+    let ends = known i l lt in
+    let n = said-joined count (take i links) rows (get_or links i l) r h (no_self-take links i other) ends.0 ends.1 (said-of rows' rows (get_or links i l) r same s) e in
+    let F : Link → Type 0 = λ m. ¬ Joined (take i links) m.a.0 m.b.0 in
+    let T : List Link → Type 0 = λ t. HasRows count t (with_link rows (get_or links i l)) in
+    let M : List (List ℕ) → Type 0 = λ t. HasRows count (take (i + 1) links) t in
+    let linked = rows-link count (take i links) (get_or links i l) rows ends.0 ends.1 (other i l lt) h in
+    (subst M (sym new) (subst T (sym (take_more links i l lt)) linked), (λ k d less. below_more (λ k. (d : Link) → ¬ Joined (take k links) (get_or links k d).a.0 (get_or links k d).b.0) i (λ k less d. apart k d less) (λ d. subst F (get_or_default links i l d lt) n) k less d))

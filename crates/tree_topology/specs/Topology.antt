@@ -1,0 +1,29 @@
+-- A tree as contracts see it, and what its nodes, links and ports are.
+use Rattle.std.specs.Prelude.{ℕ, ◌≤◌, List, length}
+use Rattle.srp_base.specs.declared.numbers.EgressPort.{EgressPort}
+use Rattle.tree_topology.specs.declared.graph.Link.{Link}
+use Rattle.tree_topology.specs.declared.graph.NodeKind.{NodeKind}
+use Rattle.tree_topology.specs.Graph.{IsNode}
+use Rattle.tree_topology.specs.Ports.{IsPort}
+use Rattle.tree_topology.specs.Refusal.{IsAccepted}
+
+-- the kinds of the nodes and the links between them, both in the order of their numbers
+pub record Topology : Type 0 where
+  pub kinds : List NodeKind
+  pub links : List Link
+
+-- the tree has a node of this number
+abbrev pub HasNode : Topology → ℕ → Type 0
+HasNode tree x = IsNode (length tree.kinds) x
+
+-- the tree has a link of this number
+abbrev pub HasLink : Topology → ℕ → Type 0
+HasLink tree n = (1 ≤ n) × (n ≤ length tree.links)
+
+-- the tree has this port
+abbrev pub HasPort : Topology → EgressPort → Type 0
+HasPort tree p = IsPort (length tree.kinds) tree.links p
+
+-- the tree is an accepted one
+abbrev pub IsSound : Topology → Type 0
+IsSound tree = IsAccepted tree.kinds tree.links

@@ -1,0 +1,36 @@
+//! The tree of a bridged network: stations and bridges, and the links between them.
+//!
+//! A bridged network forwards along its active topology, which is a tree (IEEE Std 802.1Q-2018, 7.4).
+//! This crate takes nodes and links, refuses what is no tree, and answers what SRP asks of a tree: the
+//! egress ports from a Talker to a Listener, and what lies behind a port.
+//!
+//! ```text
+//!   t1 ---- b1 ---- b2 ---- l2       path(t1, l3) = t1>b1, b1>b2, b2>l3
+//!            |       |
+//!           l1      l3               behind(b1>b2) = b2, l2, l3
+//! ```
+//!
+//! The contract is a graph's. A tree is a graph with exactly one walk without a repeated node between
+//! any two nodes (`IsTree`); `path` gives the egress ports of that walk, `behind` tells whose walk
+//! begins with a port's link. `Tree::new` accepts exactly the trees whose stations have one link and
+//! whose nodes have at most 255, and names the first refusal (`IsRefusal`). The laws that inductions
+//! over a tree need stand in `laws`.
+//!
+//! The code keeps each node's neighbours, its parent and its depth as seen from node 1. Making a tree
+//! takes little more than linear time, a path as many steps as it has links.
+#![tactic(auto)]
+
+mod adjacency;
+mod checks;
+mod climb;
+mod components;
+pub mod graph;
+pub mod laws;
+mod routes;
+mod span;
+#[cfg(test)]
+mod tests;
+pub mod topology;
+
+pub use graph::{Link, NodeKind, TreeErr};
+pub use topology::Tree;
