@@ -10,7 +10,7 @@ use std::test::Fail;
 fn a_source_is_read_to_its_end(rt: HostRuntime) -> Result<(), Fail> {
     let alloc = rt.alloc();
     for (step, fails, limit, want) in [
-        (1, 0u64, 5, Ok(5)),
+        (1usize, 0u64, 5usize, Ok(5)),
         (3, 0, 5, Ok(5)),
         (100, 0, 6, Ok(5)),
         (3, 0, 4, Err(ReadErr::TooLong)),
@@ -20,15 +20,18 @@ fn a_source_is_read_to_its_end(rt: HostRuntime) -> Result<(), Fail> {
         (2, 5, 5, Ok(5)),
     ] {
         let bytes = vec![in alloc; 1u8, 2, 3, 4, 5]?;
-        let mut source = MemSource::new(bytes, step, vec![in alloc; fails]?);
-        let found = read_all(alloc, &mut source, limit).map(|octets| octets.len());
+        let mut source = MemSource::new(bytes, step.max(1), vec![in alloc; fails]?);
+        let found = read_len(alloc, &mut source, limit);
         assert!(rt; found == want, "step {step} fails {fails} limit {limit}");
     }
     let mut plain = PlainSource::new(vec![in alloc; 8u8, 9]?, 1);
-    assert!(rt;
-        read_all(alloc, &mut plain, 10).is_ok_and(|octets| octets.as_slice() == [8, 9].as_slice())
-    );
+    assert!(rt; read_all(alloc, &mut plain, 10)?.as_slice() == [8, 9].as_slice());
     Ok(())
+}
+
+/// How many octets a source has.
+fn read_len<S: Source>(alloc: Global, source: &mut S, limit: usize) -> Result<usize, ReadErr> {
+    Ok(read_all(alloc, source, limit.min(1000))?.len())
 }
 
 #[test]
@@ -41,7 +44,7 @@ fn a_text_is_written_whole_or_its_front(rt: HostRuntime) -> Result<(), Fail> {
         (2, 3, Err(WriteErr::Fault { written: 4 }), b"hell"),
         (2, 4, Ok(()), b"hello"),
     ] {
-        let mut sink = MemSink::new(alloc, step, vec![in alloc; fails]?);
+        let mut sink = MemSink::new(alloc, step.max(1), vec![in alloc; fails]?);
         let done = write_whole(&mut sink, b"hello");
         assert!(rt; done == want, "step {step} fails {fails}");
         assert!(rt; sink.bytes() == held, "step {step} fails {fails}");
@@ -83,22 +86,18 @@ impl io::Write for Stuck {
 }
 
 fn is_read_fault(alloc: Global, fails: bool) -> bool {
-    read_all(alloc, &mut StdSource::new(Stuck { fails }), 10).is_err_and(|e| e == ReadErr::Fault)
+    read_len(alloc, &mut StdSource::new(Stuck { fails }), 10) == Err(ReadErr::Fault)
 }
 
 fn is_write_fault(fails: bool) -> bool {
-    write_whole(&mut StdSink::new(Stuck { fails }), b"x").is_err_and(|e| e
-        == WriteErr::Fault { written: 0 })
+    write_whole(&mut StdSink::new(Stuck { fails }), b"x") == Err(WriteErr::Fault { written: 0 })
 }
 
 #[test]
 fn std_readers_and_writers_serve(rt: HostRuntime) -> Result<(), Fail> {
     let alloc = rt.alloc();
     let mut source = StdSource::new(b"hello".as_slice());
-    assert!(rt;
-        read_all(alloc, &mut source, 10).is_ok_and(|octets| octets.as_slice()
-            == b"hello".as_slice())
-    );
+    assert!(rt; read_all(alloc, &mut source, 10)?.as_slice() == b"hello".as_slice());
     assert!(rt; is_read_fault(alloc, true));
     assert!(rt; !is_read_fault(alloc, false));
     // A write that takes nothing of a piece is a fault, and so is one that fails.

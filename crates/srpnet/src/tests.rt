@@ -1,5 +1,3 @@
-ghost use Rattle.std.specs.Prelude.{◌≤◌};
-
 use crate::outcome::Cause;
 use crate::pages::{HELP, VERSION};
 use crate::top::srp_plain;
@@ -44,13 +42,11 @@ fn call(
     read: (usize, u64),
     write: (usize, u64),
 ) -> Result<Ended, AllocError>
-    requires reads { 1 ≤ read.0 }
-    requires writes { 1 ≤ write.0 }
 {
     let octets = word.as_bytes().to_vec(alloc)?;
     let words = Seq::from_vec(vec![in alloc; Seq::from_vec(octets)]?);
-    let mut source = MemSource::new(text.to_vec(alloc)?, read.0, vec![in alloc; read.1]?);
-    let mut out = MemSink::new(alloc, write.0, vec![in alloc; write.1]?);
+    let mut source = MemSource::new(text.to_vec(alloc)?, read.0.max(1), vec![in alloc; read.1]?);
+    let mut out = MemSink::new(alloc, write.0.max(1), vec![in alloc; write.1]?);
     let mut err = MemSink::new(alloc, 5, Vec::new(alloc));
     let outcome = srp_plain(alloc, &words, &mut source, &mut out, &mut err);
     Ok(Ended {

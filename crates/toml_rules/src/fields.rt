@@ -66,10 +66,7 @@ pub fn truth_or(table: &Table, key: &str, default: bool) -> Option<bool>
 pub fn within(low: u64, high: u64, number: Option<u64>) -> Option<u64>
     ensures { result ≡ within_lem low high number }
 {
-    match number {
-        Some(n) => { if low <= n && n <= high { Some(n) } else { None } }
-        None => None,
-    }
+    number.filter(|n| low <= *n && *n <= high)
 }
 
 /// The text at a key; None where the key is missing or has another value.

@@ -1,5 +1,8 @@
 use crate::{has_only, number, number_or, tables, text, within};
+use srp_base::NoMemory;
+use std::alloc::Global;
 use std::test::Fail;
+use toml::Table;
 
 #[test]
 fn a_table_has_its_fields(rt: HostRuntime) -> Result<(), Fail> {
@@ -18,8 +21,16 @@ fn a_table_has_its_fields(rt: HostRuntime) -> Result<(), Fail> {
     assert!(rt; text(&table, "a").is_none());
     assert!(rt; has_only(&table, &["a", "b", "c", "d", "e", "y"]));
     assert!(rt; !has_only(&table, &["a", "b", "c", "d"]));
-    assert!(rt; tables(alloc, &table, "e").is_ok_and(|e| e.is_some_and(|e| e.len() == 2)));
-    assert!(rt; tables(alloc, &table, "z").is_ok_and(|e| e.is_some_and(|e| e.is_empty())));
-    assert!(rt; tables(alloc, &table, "a").is_ok_and(|e| e.is_none()));
+    assert_eq!(rt; count(alloc, &table, "e")?, Some(2));
+    assert_eq!(rt; count(alloc, &table, "z")?, Some(0), "missing");
+    assert_eq!(rt; count(alloc, &table, "a")?, None, "no array");
     Ok(())
+}
+
+/// How many tables an array of tables has.
+fn count(alloc: Global, table: &Table, key: &str) -> Result<Option<usize>, NoMemory> {
+    match tables(alloc, table, key)? {
+        Some(found) => Ok(Some(found.len())),
+        None => Ok(None),
+    }
 }
