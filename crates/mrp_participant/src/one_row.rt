@@ -11,8 +11,8 @@ use srp_base::{Cs, MrpEvent};
 
 /// What is kept of one key: its Applicant with the content declared last, and its Registrar with the
 /// content heard last and the moment at which its leave timer ends, in cs. The declared content means
-/// nothing where the Applicant is `Vo` and was never asked, the heard one nothing where the Registrar is
-/// `Empty`, the moment nothing where it isn't `Leaving`.
+/// nothing where the Applicant is `Vo`, the heard one nothing where the Registrar is `Empty`, the moment
+/// nothing where it isn't `Leaving`.
 #[derive(Clone, Copy, Debug)]
 pub struct Row<K, C> {
     pub key: K,
