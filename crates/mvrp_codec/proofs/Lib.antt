@@ -1,3 +1,4 @@
 pub mod ReadingLemmas
 pub mod RunLemmas
 pub mod WritingLemmas
+pub mod MaximalRuns

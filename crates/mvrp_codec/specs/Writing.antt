@@ -1,7 +1,7 @@
 -- The one spelling in which the events of VIDs are written (IEEE Std 802.1Q-2018, 10.8.1.2): one Message,
 -- in which each maximal run of consecutive VIDs is one vector.
-use Rattle.std.specs.Prelude.{◌≡◌, ℕ, ◌+◌, ◌≤◌, Bool, true, false, ◌||◌, List, [], ◌∷◌, length, map, nat_lt, ◌==◌, if◌then◌else◌}
-use Rattle.std.specs.List.{AllByRecursion}
+use Rattle.std.specs.Prelude.{◌≡◌, ◌≢◌, ℕ, ◌+◌, ◌≤◌, Bool, true, false, ◌||◌, List, [], ◌∷◌, length, map, nat_lt, ◌==◌, if◌then◌else◌}
+use Rattle.std.specs.List.{flat_map, AllByRecursion}
 use Rattle.srp_base.specs.declared.mrp.MrpEvent.{MrpEvent}
 use Rattle.mrpdu_codec.specs.declared.form.AppForm.TheVariants.{Mvrp}
 use Rattle.mrpdu_codec.specs.declared.pdu.VectorAttr.{VectorAttr}
@@ -60,3 +60,27 @@ run_len (x ∷ y ∷ ys) = if x.1 + 1 == y.1 then run_len (y ∷ ys) + 1 else 1
 -- the numbers that VIDs have
 abbrev pub AreVids : List (MrpEvent × ℕ) → Type 0
 AreVids events = AllByRecursion (λ x. (1 ≤ x.1) × (x.1 ≤ 4094)) events
+
+-- ---- What maximal runs are
+
+-- one event or more, of consecutive VIDs
+abbrev pub IsRun : List (MrpEvent × ℕ) → Type 0
+IsRun [] = ⊥
+IsRun (x ∷ []) = Unit {0}
+IsRun (x ∷ y ∷ ys) = (x.1 + 1 ≡ y.1) × IsRun (y ∷ ys)
+
+-- the run behind a run doesn't begin with the VID after its last
+abbrev pub EndsBefore : List (MrpEvent × ℕ) → List (List (MrpEvent × ℕ)) → Type 0
+EndsBefore [] others = ⊥
+EndsBefore (x ∷ []) [] = Unit {0}
+EndsBefore (x ∷ []) ([] ∷ others) = ⊥
+EndsBefore (x ∷ []) ((y ∷ ys) ∷ others) = x.1 + 1 ≢ y.1
+EndsBefore (x ∷ y ∷ ys) others = EndsBefore (y ∷ ys) others
+
+abbrev pub AreMaximal : List (List (MrpEvent × ℕ)) → Type 0
+AreMaximal [] = Unit {0}
+AreMaximal (run ∷ others) = IsRun run × EndsBefore run others × AreMaximal others
+
+-- these runs one after another are the events
+abbrev pub joined : List (List (MrpEvent × ℕ)) → List (MrpEvent × ℕ)
+joined rs = flat_map (λ run. run) rs

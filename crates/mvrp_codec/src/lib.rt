@@ -24,7 +24,7 @@ mod writing;
 pub use mrpdu_codec::DecodeErr;
 pub use pdu::MvrpPdu;
 pub use reading::{decode, reading_is_the_grammar};
-pub use writing::encode;
+pub use writing::{encode, runs_are_maximal};
 
 #[cfg(test)]
 mod tests;

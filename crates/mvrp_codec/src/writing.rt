@@ -1,8 +1,9 @@
 //! The events of VIDs written as octets.
 
-ghost use Rattle.std.specs.Prelude.{◌≡◌, ◌++◌, ◌<◌, ◌≤◌, ◌+◌, ◌==◌, length, map, take, drop, Ok, IfOk, OnOk};
+ghost use Rattle.std.specs.Prelude.{◌≡◌, ◌++◌, ◌<◌, ◌≤◌, ◌+◌, ◌==◌, length, map, take, drop, ℕ, List, Ok, IfOk, OnOk};
+ghost use Rattle.srp_base.specs.declared.mrp.MrpEvent.{MrpEvent};
 ghost use Rattle.mvrp_codec.specs.Meaning.{mvrp_reading};
-ghost use Rattle.mvrp_codec.specs.Writing.{runs, first_for, run_vector, run_vectors, one_message, mvrp_spelling, IsWritable, run_len, AreVids};
+ghost use Rattle.mvrp_codec.specs.Writing.{runs, first_for, run_vector, run_vectors, one_message, mvrp_spelling, IsWritable, run_len, AreVids, AreMaximal, joined};
 
 use crate::pdu::MvrpPdu;
 use mrpdu_codec::{AppForm, Message, Pdu, VectorAttr};
@@ -127,3 +128,11 @@ pub fn encode(alloc: Global, pdu: &MvrpPdu) -> Result<Seq<u8>, NoMemory>
     mrpdu_codec::encode(AppForm::Mvrp, &written, &mut out)?;
     Ok(Seq::from_vec(out))
 }
+
+/// The law of the runs: one after another they are the events, they are maximal, and no other runs are
+/// both.
+pub fn runs_are_maximal()
+    ensures whole { (events : List (MrpEvent × ℕ)) → joined (runs events) ≡ events }
+    ensures maximal { (events : List (MrpEvent × ℕ)) → AreMaximal (runs events) }
+    ensures only { (rs : List (List (MrpEvent × ℕ))) → AreMaximal rs → runs (joined rs) ≡ rs }
+{}
