@@ -3,4 +3,3 @@ pub mod Different
 pub mod Documents
 pub mod Caps
 pub mod Refusals
-pub mod Parts

@@ -1,59 +1,65 @@
--- Why a ledger file is refused.
-use Rattle.std.proofs.Common.{◌≡◌, ℕ, List, Option, Some, None, Result, Ok, Err, ◌⊎◌, inl, inr}
+-- Why the octets of an input are refused.
+use Rattle.std.proofs.Common.{◌≡◌, List, ℕ, Option, Some, None, Result, Ok, Err, ◌⊎◌, inl, inr, sym, refl, ◌∙◌, subst}
 use Rattle.std.specs.Prelude.{IfErr}
-use Rattle.std.proofs.lemmas.Result.{IfErr-at_err}
 use Rattle.toml.specs.Data.{Members}
 use Rattle.toml_rules.specs.declared.rules.RuleErr.{RuleErr}
 use Rattle.toml_rules.specs.declared.rules.RuleErr.TheVariants.{Rule, NoMemory as no_memory}
+use Rattle.srpnet.specs.declared.words.Command.{Command}
+use Rattle.srpnet.specs.declared.words.Command.TheVariants.{Ledger, Help, Version}
 use Rattle.srpnet.specs.declared.outcome.Cause.{Cause}
 use Rattle.srpnet.specs.declared.outcome.Cause.TheVariants.{Done, BadWords, ReadFault, TooLong, NotToml, BadScenario, WriteFault, NoMemory}
 use Rattle.srpnet.specs.LedgerFile.{ledger_file}
-use Rattle.srpnet.specs.LedgerInput.{ledger_input, document, or_not_toml, by_rules, ◌>>=◌}
-use Rattle.srpnet.specs.TopCall.{ReadWhole, LedgerRefusal}
+use Rattle.srpnet.specs.Input.{document, or_not_toml, by_rules, ending, ◌>>=◌}
+use Rattle.srpnet.specs.TopCall.{ReadWhole, Refusal, EndsAs, ending_of}
 
--- the causes by which octets are no ledger file
-abbrev IsOfFile : Cause → Type 0
-IsOfFile Done = ⊥
-IsOfFile BadWords = ⊥
-IsOfFile ReadFault = Unit {0}
-IsOfFile TooLong = Unit {0}
-IsOfFile NotToml = Unit {0}
-IsOfFile (BadScenario rule entry) = Unit {0}
-IsOfFile (WriteFault written) = ⊥
-IsOfFile NoMemory = Unit {0}
+-- the causes by which a reading of octets ends
+abbrev IsOfReading : Cause → Type 0
+IsOfReading Done = Unit {0}
+IsOfReading BadWords = ⊥
+IsOfReading ReadFault = ⊥
+IsOfReading TooLong = ⊥
+IsOfReading NotToml = Unit {0}
+IsOfReading (BadScenario rule entry) = Unit {0}
+IsOfReading (WriteFault written) = ⊥
+IsOfReading NoMemory = Unit {0}
 
-of_file-by_rules : {A : Type 0} (r : Result A RuleErr) → IfErr (by_rules r) IsOfFile
-of_file-by_rules (Ok x) = tt
-of_file-by_rules (Err (Rule rule entry)) = tt
-of_file-by_rules (Err no_memory) = tt
+by_the_rules : {A : Type 0} (r : Result A RuleErr) → IsOfReading (ending (by_rules r))
+by_the_rules (Ok x) = tt
+by_the_rules (Err (Rule rule entry)) = tt
+by_the_rules (Err no_memory) = tt
 
-of_file-document : (o : Option Members) → IfErr (or_not_toml o >>= (λ ms. by_rules (ledger_file ms))) IsOfFile
-of_file-document None = tt
-of_file-document (Some ms) = of_file-by_rules (ledger_file ms)
+by_document : {A : Type 0} (rules : Members → Result A RuleErr) (o : Option Members)
+    → IsOfReading (ending (or_not_toml o >>= (λ ms. by_rules (rules ms))))
+by_document rules None = tt
+by_document rules (Some ms) = by_the_rules (rules ms)
 
--- a refusal of octets is by one of them
-of_file : (octets : List ℕ) (cause : Cause) → ledger_input octets ≡ Err cause → IsOfFile cause
-of_file octets cause e = IfErr-at_err IsOfFile e (of_file-document (document octets))
+-- each command's reading ends by one of them
+reading_ends : (command : Command) (octets : List ℕ) → IsOfReading (ending_of command octets)
+reading_ends Ledger octets = by_document ledger_file (document octets)
+reading_ends Help octets = tt
+reading_ends Version octets = tt
 
-refusal : (before after : Option (List ℕ)) (octets : List ℕ) (cause : Cause) → ReadWhole before after octets
-    → (cause ≡ NoMemory) ⊎ (ledger_input octets ≡ Err cause) → LedgerRefusal before after cause
-refusal before after octets NotToml whole (inl e) = absurd (let f : ⊥ = cc in f)
-refusal before after octets NotToml whole (inr e) = record { octets = octets; whole = whole; refused = e }
-refusal before after octets (BadScenario rule entry) whole (inl e) = absurd (let f : ⊥ = cc in f)
-refusal before after octets (BadScenario rule entry) whole (inr e) = record { octets = octets; whole = whole; refused = e }
-refusal before after octets ReadFault whole h = tt
-refusal before after octets TooLong whole h = tt
-refusal before after octets NoMemory whole h = tt
-refusal before after octets Done whole (inl e) = cc
-refusal before after octets Done whole (inr e) = of_file octets Done e
-refusal before after octets BadWords whole (inl e) = cc
-refusal before after octets BadWords whole (inr e) = of_file octets BadWords e
-refusal before after octets (WriteFault written) whole (inl e) = cc
-refusal before after octets (WriteFault written) whole (inr e) = of_file octets (WriteFault written) e
+-- an answer of octets that were read whole
+refusal : (command : Command) (before after : Option (List ℕ)) (octets : List ℕ) (end other : Cause)
+    → ReadWhole before after octets → ending_of command octets ≡ end → IsOfReading end
+    → (other ≡ end) ⊎ (other ≡ NoMemory) → (other ≡ Done → ⊥) → Refusal command before after other
+refusal command before after octets end Done whole is of h not_done = not_done refl
+refusal command before after octets end NoMemory whole is of h not_done = tt
+refusal command before after octets end ReadFault whole is of h not_done = tt
+refusal command before after octets end TooLong whole is of h not_done = tt
+refusal command before after octets end NotToml whole is of (inl e) not_done = record { octets = octets; whole = whole; refused = is ∙ sym e }
+refusal command before after octets end NotToml whole is of (inr e) not_done = absurd (let f : ⊥ = cc in f)
+refusal command before after octets end (BadScenario rule entry) whole is of (inl e) not_done = record { octets = octets; whole = whole; refused = is ∙ sym e }
+refusal command before after octets end (BadScenario rule entry) whole is of (inr e) not_done = absurd (let f : ⊥ = cc in f)
+refusal command before after octets end BadWords whole is of (inl e) not_done = let P : Cause → Type 0 = IsOfReading in subst P (sym e) of
+refusal command before after octets end BadWords whole is of (inr e) not_done = cc
+refusal command before after octets end (WriteFault written) whole is of (inl e) not_done = let P : Cause → Type 0 = IsOfReading in subst P (sym e) of
+refusal command before after octets end (WriteFault written) whole is of (inr e) not_done = cc
 
 -- what the octets make of an input that was read whole
-pub refusals : {X : Type 0} (r : Result X Cause) (before after : Option (List ℕ)) (octets : List ℕ)
-    → ReadWhole before after octets → IfErr r (λ c. (c ≡ NoMemory) ⊎ (ledger_input octets ≡ Err c))
-    → IfErr r (LedgerRefusal before after)
-refusals (Ok x) before after octets whole h = tt
-refusals (Err cause) before after octets whole h = refusal before after octets cause whole h
+pub refusals : {X : Type 0} (command : Command) (r : Result X Cause) (before after : Option (List ℕ)) (octets : List ℕ)
+    → ReadWhole before after octets → EndsAs (ending_of command octets) r → IfErr r (λ c. c ≡ Done → ⊥)
+    → IfErr r (Refusal command before after)
+refusals command (Ok x) before after octets whole h not_done = tt
+refusals command (Err cause) before after octets whole h not_done =
+    refusal command before after octets (ending_of command octets) cause whole refl (reading_ends command octets) h not_done

@@ -31,10 +31,14 @@ pub record IsEnding {I O : Type 0} (left : I → Option (List ℕ)) (in_faults :
   -- the input is too long only where one octet past the most was taken
   pub too_long : cause ≡ TooLong → TookTooMany (left source) (left source')
   -- the input is refused only where its octets, read to the end, are refused for this cause
-  pub not_toml : cause ≡ NotToml → Refuses (left source) (left source') NotToml
-  pub bad_scenario : (rule entry : ℕ) → cause ≡ BadScenario rule entry → Refuses (left source) (left source') (BadScenario rule entry)
+  pub not_toml : cause ≡ NotToml → IfSome (command_of words) (λ command. Refuses command (left source) (left source') NotToml)
+  pub bad_scenario : (rule entry : ℕ) → cause ≡ BadScenario rule entry
+      → IfSome (command_of words) (λ command. Refuses command (left source) (left source') (BadScenario rule entry))
   -- where the words match and neither the source nor the out sink fails in this call, the ending is the
   -- expected one for the octets that the source tells, or want of memory
   pub ends : (octets : List ℕ) → left source ≡ Some octets → (Rose (in_faults source) (in_faults source') → ⊥)
       → (Rose (out_faults out) (out_faults out') → ⊥)
       → IfSome (command_of words) (λ command. (cause ≡ expected command octets) ⊎ (cause ≡ NoMemory))
+  -- a page goes out whatever the source is
+  pub pages_end : (Rose (out_faults out) (out_faults out') → ⊥)
+      → IfSome (command_of words) (λ command. ReadsNothing command → (cause ≡ Done) ⊎ (cause ≡ NoMemory))

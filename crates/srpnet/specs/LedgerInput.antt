@@ -1,44 +1,9 @@
--- What the octets of an input are: a TOML document, and then a ledger file or the rule that it breaks.
-use Rattle.std.specs.Prelude.{◌≡◌, ℕ, if◌then◌else◌, List, Option, Some, None, Result, Ok, Err}
-use Rattle.std.specs.Str.{is_utf8}
-use Rattle.toml.specs.Data.{Members}
-use Rattle.toml.specs.Parse.{parse_document}
-use Rattle.toml_rules.specs.declared.rules.RuleErr.{RuleErr}
-use Rattle.toml_rules.specs.declared.rules.RuleErr.TheVariants.{Rule, NoMemory as no_memory}
+-- The ledger file of some octets, or the cause of their refusal.
+use Rattle.std.specs.Prelude.{ℕ, List, Result}
 use Rattle.srpnet.specs.declared.outcome.Cause.{Cause}
-use Rattle.srpnet.specs.declared.outcome.Cause.TheVariants.{NotToml, BadScenario, NoMemory}
 use Rattle.srpnet.specs.declared.ledger.file.LedgerFile.{LedgerFile}
 use Rattle.srpnet.specs.LedgerFile.{ledger_file}
+use Rattle.srpnet.specs.Input.{input_of}
 
--- the document of some octets, if they are UTF-8 and TOML
-abbrev pub document : List ℕ → Option Members
-document octets = if is_utf8 octets then parse_document octets else None
-
--- the document, or the cause without one
-abbrev pub or_not_toml : Option Members → Result Members Cause
-or_not_toml (Some ms) = Ok ms
-or_not_toml None = Err NotToml
-
--- what the rules say, as a cause
-abbrev pub by_rules : {A : Type 0} → Result A RuleErr → Result A Cause
-by_rules (Ok x) = Ok x
-by_rules (Err (Rule rule entry)) = Err (BadScenario rule entry)
-by_rules (Err no_memory) = Err NoMemory
-
--- the next step, where those before gave a value
-infixl 10 ◌>>=◌
-abbrev pub ◌>>=◌ : {A B : Type 0} → Result A Cause → (A → Result B Cause) → Result B Cause
-(Ok x) >>= f = f x
-(Err e) >>= f = Err e
-
--- the ledger file of some octets
 abbrev pub ledger_input : List ℕ → Result LedgerFile Cause
-ledger_input octets = do
-  ms ← or_not_toml (document octets)
-  by_rules (ledger_file ms)
-
--- what is answered, seen by view, is what is said, unless memory ran out
-abbrev pub Gives : {X A : Type 0} → (X → A) → Result X Cause → Result A Cause → Type 0
-Gives view (Ok x) said = said ≡ Ok (view x)
-Gives view (Err NoMemory) said = Unit {0}
-Gives view (Err cause) said = said ≡ Err cause
+ledger_input octets = input_of ledger_file octets

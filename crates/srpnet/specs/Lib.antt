@@ -1,4 +1,5 @@
 pub mod Ending
+pub mod Input
 pub mod LedgerFile
 pub mod LedgerInput
 pub mod LedgerRun

@@ -1,14 +1,36 @@
 -- What the top call does: which text is a command's output, and what each ending means.
-use Rattle.std.specs.Prelude.{◌≡◌, ℕ, ◌+◌, ◌<◌, ◌≤◌, ◌⊎◌, nat_le, if◌then◌else◌, Result, List, length, take, Option, Ok, Err}
+use Rattle.std.specs.Prelude.{◌≡◌, ℕ, ◌+◌, ◌<◌, ◌≤◌, ◌⊎◌, nat_le, nat_lt, Bool, true, false, ◌&&◌, if◌then◌else◌, Result, List, length, take, Option, Ok, Err}
 use Rattle.std.specs.Io.KnownBytes.{Appends, Consumes, IsAtEnd}
 use Rattle.srpnet.specs.declared.words.Command.{Command}
 use Rattle.srpnet.specs.declared.words.Command.TheVariants.{Ledger, Help, Version}
 use Rattle.srpnet.specs.declared.outcome.Cause.{Cause}
 use Rattle.srpnet.specs.declared.outcome.Cause.TheVariants.{Done, BadWords, ReadFault, TooLong, NotToml, BadScenario, WriteFault, NoMemory}
-use Rattle.srpnet.specs.declared.ledger.file.LedgerFile.{LedgerFile}
+use Rattle.srpnet.specs.Input.{ending}
 use Rattle.srpnet.specs.LedgerInput.{ledger_input}
 use Rattle.srpnet.specs.LedgerText.{LedgerOutput}
 use Rattle.srpnet.specs.Pages.{help_page, version_page}
+
+-- ---- The commands. A command has a line in each of these three.
+
+-- whether it reads an input; the pages read none
+abbrev pub reads_input : Command → Bool
+reads_input Ledger = true
+reads_input Help = false
+reads_input Version = false
+
+-- what it prints for the octets of an input
+abbrev pub Output : Command → List ℕ → List ℕ → Type 0
+Output Ledger octets text = LedgerOutput octets text
+Output Help octets text = text ≡ help_page
+Output Version octets text = text ≡ version_page
+
+-- how it ends for the octets of an input, where nothing fails and memory lasts
+abbrev pub ending_of : Command → List ℕ → Cause
+ending_of Ledger octets = ending (ledger_input octets)
+ending_of Help octets = Done
+ending_of Version octets = Done
+
+-- ---- Reading
 
 -- the most octets of an input
 abbrev pub most_octets : ℕ
@@ -20,39 +42,38 @@ pub record ReadWhole (before after : Option (List ℕ)) (octets : List ℕ) : Ty
   pub at_end : IsAtEnd after
   pub within : length octets ≤ most_octets
 
--- the octets that a source gave, and the text that they make the command `ledger` print
-pub record LedgerPrints (before after : Option (List ℕ)) (text : List ℕ) : Type 0 where
+-- one octet past the most was taken
+pub record TookTooMany (before after : Option (List ℕ)) : Type 0 where
+  pub octets : List ℕ
+  pub consumed : Consumes before after octets
+  pub many : length octets ≡ most_octets + 1
+
+-- the octets that a source gave aren't what a command reads, for this cause
+pub record Refuses (command : Command) (before after : Option (List ℕ)) (cause : Cause) : Type 0 where
   pub octets : List ℕ
   pub whole : ReadWhole before after octets
-  pub output : LedgerOutput octets text
+  pub refused : ending_of command octets ≡ cause
 
--- a command's output, where the source's octets were these before and are those after
-abbrev pub IsOutput : Command → Option (List ℕ) → Option (List ℕ) → List ℕ → Type 0
-IsOutput Ledger before after text = LedgerPrints before after text
-IsOutput Help before after text = text ≡ help_page
-IsOutput Version before after text = text ≡ version_page
+-- why a command has no output: the source's octets are refused, or were not read to their end, or memory
+-- ran out
+abbrev pub Refusal : Command → Option (List ℕ) → Option (List ℕ) → Cause → Type 0
+Refusal command before after NotToml = Refuses command before after NotToml
+Refusal command before after (BadScenario rule entry) = Refuses command before after (BadScenario rule entry)
+Refusal command before after ReadFault = Unit {0}
+Refusal command before after TooLong = Unit {0}
+Refusal command before after NoMemory = Unit {0}
+Refusal command before after Done = ⊥
+Refusal command before after BadWords = ⊥
+Refusal command before after (WriteFault written) = ⊥
 
--- the first octets of a text went out, fewer than all
-pub record PartOf (held now : Option (List ℕ)) (text : List ℕ) : Type 0 where
-  pub written : ℕ
-  pub appended : Appends held now (take written text)
-  pub short : written < length text
+-- ---- Writing
 
--- a sink gained a front of a text
-pub record GainsFront (held now : Option (List ℕ)) (text : List ℕ) : Type 0 where
-  pub count : ℕ
-  pub appended : Appends held now (take count text)
-
--- the causes with which writing ends
-abbrev pub IsOfWriting : Cause → Type 0
-IsOfWriting Done = Unit {0}
-IsOfWriting (WriteFault written) = Unit {0}
-IsOfWriting NoMemory = Unit {0}
-IsOfWriting BadWords = ⊥
-IsOfWriting ReadFault = ⊥
-IsOfWriting TooLong = ⊥
-IsOfWriting NotToml = ⊥
-IsOfWriting (BadScenario rule entry) = ⊥
+-- a command's output: of the octets that the source gave, which are all that it had, for a command that
+-- reads an input
+pub record IsOutput (command : Command) (before after : Option (List ℕ)) (text : List ℕ) : Type 0 where
+  pub octets : List ℕ
+  pub whole : reads_input command ≡ true → ReadWhole before after octets
+  pub output : Output command octets text
 
 -- the whole output of a command went out
 pub record Wrote (command : Command) (before after held now : Option (List ℕ)) : Type 0 where
@@ -67,57 +88,35 @@ pub record WrotePart (command : Command) (before after held now : Option (List �
   pub appended : Appends held now (take written text)
   pub short : written < length text
 
+-- the first octets of a text went out, fewer than all
+pub record PartOf (held now : Option (List ℕ)) (text : List ℕ) : Type 0 where
+  pub written : ℕ
+  pub appended : Appends held now (take written text)
+  pub short : written < length text
+
 -- memory ran out while a command's output went out
 pub record WroteUntilNoMemory (command : Command) (before after held now : Option (List ℕ)) : Type 0 where
   pub text : List ℕ
   pub output : IsOutput command before after text
   pub part : PartOf held now text
 
--- the octets that a source gave aren't what the command reads, for this cause
-pub record Refuses (before after : Option (List ℕ)) (cause : Cause) : Type 0 where
-  pub octets : List ℕ
-  pub whole : ReadWhole before after octets
-  pub refused : ledger_input octets ≡ Err cause
+-- a sink gained a front of a text
+pub record GainsFront (held now : Option (List ℕ)) (text : List ℕ) : Type 0 where
+  pub count : ℕ
+  pub appended : Appends held now (take count text)
 
--- one octet past the most was taken
-pub record TookTooMany (before after : Option (List ℕ)) : Type 0 where
-  pub octets : List ℕ
-  pub consumed : Consumes before after octets
-  pub many : length octets ≡ most_octets + 1
+-- ---- Causes
 
--- why the command `ledger` has no output: the source's octets are refused, or were not read to their end, or
--- memory ran out
-abbrev pub LedgerRefusal : Option (List ℕ) → Option (List ℕ) → Cause → Type 0
-LedgerRefusal before after NotToml = Refuses before after NotToml
-LedgerRefusal before after (BadScenario rule entry) = Refuses before after (BadScenario rule entry)
-LedgerRefusal before after ReadFault = Unit {0}
-LedgerRefusal before after TooLong = Unit {0}
-LedgerRefusal before after NoMemory = Unit {0}
-LedgerRefusal before after Done = ⊥
-LedgerRefusal before after BadWords = ⊥
-LedgerRefusal before after (WriteFault written) = ⊥
-
--- how a reading of a ledger file ends
-abbrev pub ending : Result LedgerFile Cause → Cause
-ending (Ok file) = Done
-ending (Err cause) = cause
-
--- how a command ends for an input of these octets, where no source and no sink fails and memory lasts
-abbrev pub expected : Command → List ℕ → Cause
-expected Ledger octets = if nat_le (length octets) most_octets then ending (ledger_input octets) else TooLong
-expected Help octets = Done
-expected Version octets = Done
-
--- an answer ends so, or memory ran out
-abbrev pub EndsAs : {X : Type 0} → Cause → Result X Cause → Type 0
-EndsAs cause (Ok x) = cause ≡ Done
-EndsAs cause (Err other) = (other ≡ cause) ⊎ (other ≡ NoMemory)
-
--- the commands that read no input
-abbrev pub ReadsNothing : Command → Type 0
-ReadsNothing Ledger = ⊥
-ReadsNothing Help = Unit {0}
-ReadsNothing Version = Unit {0}
+-- the causes with which writing ends
+abbrev pub IsOfWriting : Cause → Type 0
+IsOfWriting Done = Unit {0}
+IsOfWriting (WriteFault written) = Unit {0}
+IsOfWriting NoMemory = Unit {0}
+IsOfWriting BadWords = ⊥
+IsOfWriting ReadFault = ⊥
+IsOfWriting TooLong = ⊥
+IsOfWriting NotToml = ⊥
+IsOfWriting (BadScenario rule entry) = ⊥
 
 -- the causes with which nothing is written
 abbrev pub WritesNothing : Cause → Type 0
@@ -129,3 +128,20 @@ WritesNothing NotToml = Unit {0}
 WritesNothing (BadScenario rule entry) = Unit {0}
 WritesNothing (WriteFault written) = ⊥
 WritesNothing NoMemory = ⊥
+
+-- the commands that read no input
+abbrev pub ReadsNothing : Command → Type 0
+ReadsNothing command = reads_input command ≡ false
+
+-- how a command that reads an input of these octets ends, where nothing fails and memory lasts
+abbrev pub expected_of_input : Command → List ℕ → Cause
+expected_of_input command octets = if nat_le (length octets) most_octets then ending_of command octets else TooLong
+
+-- how a command ends where a source tells these octets, nothing fails and memory lasts
+abbrev pub expected : Command → List ℕ → Cause
+expected command octets = if reads_input command then expected_of_input command octets else Done
+
+-- an answer ends so, or memory ran out
+abbrev pub EndsAs : {X : Type 0} → Cause → Result X Cause → Type 0
+EndsAs cause (Ok x) = cause ≡ Done
+EndsAs cause (Err other) = (other ≡ cause) ⊎ (other ≡ NoMemory)

@@ -12,6 +12,7 @@
 //! input, and why each other status comes.
 #![tactic(auto)]
 
+mod input;
 mod ledger;
 mod outcome;
 mod pages;

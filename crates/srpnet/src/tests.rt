@@ -41,8 +41,7 @@ fn call(
     text: &[u8],
     read: (usize, u64),
     write: (usize, u64),
-) -> Result<Ended, AllocError>
-{
+) -> Result<Ended, AllocError> {
     let octets = word.as_bytes().to_vec(alloc)?;
     let words = Seq::from_vec(vec![in alloc; Seq::from_vec(octets)]?);
     let mut source = MemSource::new(text.to_vec(alloc)?, read.0.max(1), vec![in alloc; read.1]?);
@@ -265,6 +264,13 @@ fn the_limits_are_128_streams_and_10000_wants(rt: HostRuntime) -> Result<(), Fai
     Ok(())
 }
 
+/// A call that prints nothing ends with this status and this text of its cause.
+fn ends_with(rt: &impl Abort, ended: &Ended, status: u8, err: &str) {
+    assert_eq!(rt; ended.status, status);
+    assert_eq!(rt; ended.err.as_str(), err);
+    assert_eq!(rt; ended.out.as_str(), "");
+}
+
 #[test]
 fn each_cause_has_its_status(rt: HostRuntime) -> Result<(), Fail> {
     let alloc = rt.alloc();
@@ -335,9 +341,7 @@ fn each_cause_has_its_status(rt: HostRuntime) -> Result<(), Fail> {
         ),
     ] {
         let ended = call(alloc, word, text, read, write)?;
-        assert_eq!(rt; ended.status, status, "{err}");
-        assert_eq!(rt; ended.err.as_str(), err);
-        assert_eq!(rt; ended.out.as_str(), "", "{err}");
+        ends_with(&rt, &ended, status, err);
     }
     let ended = call(alloc, "ledger", FIVE.as_bytes(), (7, 0), (100, 2))?;
     assert!(rt; ended.cause == Cause::WriteFault { written: 100 });

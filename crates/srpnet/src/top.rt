@@ -3,13 +3,13 @@
 ghost use Rattle.std.specs.Prelude.{◌≡◌, ℕ, ◌↔◌, ◌⊎◌, ◌≤◌, ◌<◌, List, length, take, None, Some, Err, IfOk, IfErr, IfSome, string_bytes};
 ghost use Rattle.std.specs.Io.KnownBytes.{Appends};
 ghost use Rattle.srp_io.specs.Faults.{Rose};
-ghost use Rattle.srpnet.specs.declared.words.Command.TheVariants.{Ledger};
+ghost use Rattle.srpnet.specs.Input.{ending};
 ghost use Rattle.srpnet.specs.LedgerInput.{ledger_input as ledger_input_lem};
 ghost use Rattle.srpnet.specs.LedgerText.{LedgerOutput};
 ghost use Rattle.srpnet.specs.Outcomes.{status_of as status_of_lem, err_text};
 ghost use Rattle.srpnet.specs.Words.{command_of as command_of_lem};
 ghost use Rattle.srpnet.specs.Ending.{IsEnding};
-ghost use Rattle.srpnet.specs.TopCall.{IsOfWriting, PartOf, GainsFront, LedgerPrints, LedgerRefusal, IsOutput, Wrote, WrotePart, WroteUntilNoMemory, Refuses, TookTooMany, WritesNothing, ReadsNothing, EndsAs, expected};
+ghost use Rattle.srpnet.specs.TopCall.{IsOfWriting, PartOf, GainsFront, Refusal, Output, IsOutput, Wrote, WrotePart, WroteUntilNoMemory, Refuses, TookTooMany, WritesNothing, ReadsNothing, EndsAs, ending_of, expected_of_input, expected};
 
 use crate::ledger::{bookings, input, text};
 use crate::outcome::{Cause, Outcome, status_of, tell};
@@ -25,7 +25,8 @@ const MOST_OCTETS: usize = 1_048_576;
 /// The text of the bookings of a ledger file, or why there is none.
 fn ledger_output(alloc: Global, octets: &[u8]) -> Result<String, Cause>
     ensures output { IfOk result (λ s. LedgerOutput octets.now (string_bytes s)) }
-    ensures refused { IfErr result (λ c. (c ≡ Cause.NoMemory) ⊎ (ledger_input_lem octets.now ≡ Err c)) }
+    ensures ends { EndsAs (ending (ledger_input_lem octets.now)) result }
+    ensures not_done { IfErr result (λ c. c ≡ Cause.Done → ⊥) }
 {
     let file = input::ledger_input(alloc, octets)?;
     match bookings::bookings(alloc, &file) {
@@ -37,17 +38,41 @@ fn ledger_output(alloc: Global, octets: &[u8]) -> Result<String, Cause>
     }
 }
 
-/// Reads the input of the command `ledger` to its end, and makes its output.
-fn ledger<I: Source>(alloc: Global, source: &mut I) -> Result<String, Cause>
-    ensures output { IfOk result (λ s. LedgerPrints (I.left source.old) (I.left source.new) (string_bytes s)) }
+/// A page, or want of memory as a cause.
+fn page_output(alloc: Global, page: &str) -> Result<String, Cause>
+    ensures output { IfOk result (λ s. string_bytes s ≡ page.now) }
+    ensures ends { EndsAs Cause.Done result }
+    ensures not_done { IfErr result (λ c. c ≡ Cause.Done → ⊥) }
+{
+    match String::from_str(alloc, page) {
+        Ok(text) => Ok(text),
+        Err(_) => Err(Cause::NoMemory),
+    }
+}
+
+/// What a command prints for the octets of its input, or why there is nothing to print.
+fn output(alloc: Global, command: Command, octets: &[u8]) -> Result<String, Cause>
+    ensures output { IfOk result (λ s. Output command octets.now (string_bytes s)) }
+    ensures ends { EndsAs (ending_of command octets.now) result }
+    ensures not_done { IfErr result (λ c. c ≡ Cause.Done → ⊥) }
+{
+    match command {
+        Command::Ledger => ledger_output(alloc, octets),
+        Command::Help => page_output(alloc, HELP),
+        Command::Version => page_output(alloc, VERSION),
+    }
+}
+
+/// Reads the input of a command to its end, and makes the command's output.
+fn read_output<I: Source>(alloc: Global, command: Command, source: &mut I) -> Result<String, Cause>
+    ensures output { IfOk result (λ s. IsOutput command (I.left source.old) (I.left source.new) (string_bytes s)) }
     ensures read_fault { result ≡ Err Cause.ReadFault → Rose (I.faults source.old) (I.faults source.new) }
     ensures too_long { result ≡ Err Cause.TooLong → TookTooMany (I.left source.old) (I.left source.new) }
-    ensures refused { IfErr result (LedgerRefusal (I.left source.old) (I.left source.new)) }
-    ensures ends { (octets : List ℕ) → I.left source.old ≡ Some octets → (Rose (I.faults source.old) (I.faults source.new) → ⊥) → EndsAs (expected Ledger octets) result }
-    ensures never_falls { I.faults source.old ≤ I.faults source.new }
+    ensures refused { IfErr result (Refusal command (I.left source.old) (I.left source.new)) }
+    ensures ends { (octets : List ℕ) → I.left source.old ≡ Some octets → (Rose (I.faults source.old) (I.faults source.new) → ⊥) → EndsAs (expected_of_input command octets) result }
 {
     match read_all(alloc, source, MOST_OCTETS) {
-        Ok(octets) => ledger_output(alloc, octets.as_slice()),
+        Ok(octets) => output(alloc, command, octets.as_slice()),
         Err(ReadErr::Fault) => Err(Cause::ReadFault),
         Err(ReadErr::TooLong) => Err(Cause::TooLong),
         Err(ReadErr::NoMemory) => Err(Cause::NoMemory),
@@ -62,12 +87,36 @@ fn print<O: Sink>(out: &mut O, text: &[u8]) -> Cause
     ensures fault { (written : ℕ) → result ≡ Cause.WriteFault written → Rose (O.faults out.old) (O.faults out.new) }
     ensures memory { result ≡ Cause.NoMemory → PartOf (O.held out.old) (O.held out.new) text.now }
     ensures only { IsOfWriting result }
-    ensures never_falls { O.faults out.old ≤ O.faults out.new }
 {
     match write_whole(out, text) {
         Ok(()) => Cause::Done,
         Err(WriteErr::Fault { written }) => Cause::WriteFault { written },
         Err(WriteErr::NoMemory { .. }) => Cause::NoMemory,
+    }
+}
+
+/// Does what a command that reads an input asks for.
+fn from_input<I: Source, O: Sink>(
+    alloc: Global,
+    command: Command,
+    source: &mut I,
+    out: &mut O,
+) -> Cause
+    ensures done { result ≡ Cause.Done → Wrote command (I.left source.old) (I.left source.new) (O.held out.old) (O.held out.new) }
+    ensures part { (written : ℕ) → result ≡ Cause.WriteFault written → WrotePart command (I.left source.old) (I.left source.new) (O.held out.old) (O.held out.new) written }
+    ensures write_fault { (written : ℕ) → result ≡ Cause.WriteFault written → Rose (O.faults out.old) (O.faults out.new) }
+    ensures read_fault { result ≡ Cause.ReadFault → Rose (I.faults source.old) (I.faults source.new) }
+    ensures too_long { result ≡ Cause.TooLong → TookTooMany (I.left source.old) (I.left source.new) }
+    ensures not_toml { result ≡ Cause.NotToml → Refuses command (I.left source.old) (I.left source.new) Cause.NotToml }
+    ensures bad_scenario { (rule entry : ℕ) → result ≡ Cause.BadScenario rule entry → Refuses command (I.left source.old) (I.left source.new) (Cause.BadScenario rule entry) }
+    ensures memory { result ≡ Cause.NoMemory → (out.new ≡ out.old) ⊎ WroteUntilNoMemory command (I.left source.old) (I.left source.new) (O.held out.old) (O.held out.new) }
+    ensures bad_words { result ≡ Cause.BadWords → ⊥ }
+    ensures nothing_written { WritesNothing result → out.new ≡ out.old }
+    ensures ends { (octets : List ℕ) → I.left source.old ≡ Some octets → (Rose (I.faults source.old) (I.faults source.new) → ⊥) → (Rose (O.faults out.old) (O.faults out.new) → ⊥) → (result ≡ expected_of_input command octets) ⊎ (result ≡ Cause.NoMemory) }
+{
+    match read_output(alloc, command, source) {
+        Ok(text) => print(out, text.as_bytes()),
+        Err(cause) => cause,
     }
 }
 
@@ -83,20 +132,18 @@ fn carry_out<I: Source, O: Sink>(
     ensures write_fault { (written : ℕ) → result ≡ Cause.WriteFault written → Rose (O.faults out.old) (O.faults out.new) }
     ensures read_fault { result ≡ Cause.ReadFault → Rose (I.faults source.old) (I.faults source.new) }
     ensures too_long { result ≡ Cause.TooLong → TookTooMany (I.left source.old) (I.left source.new) }
-    ensures not_toml { result ≡ Cause.NotToml → Refuses (I.left source.old) (I.left source.new) Cause.NotToml }
-    ensures bad_scenario { (rule entry : ℕ) → result ≡ Cause.BadScenario rule entry → Refuses (I.left source.old) (I.left source.new) (Cause.BadScenario rule entry) }
+    ensures not_toml { result ≡ Cause.NotToml → Refuses command (I.left source.old) (I.left source.new) Cause.NotToml }
+    ensures bad_scenario { (rule entry : ℕ) → result ≡ Cause.BadScenario rule entry → Refuses command (I.left source.old) (I.left source.new) (Cause.BadScenario rule entry) }
     ensures memory { result ≡ Cause.NoMemory → (out.new ≡ out.old) ⊎ WroteUntilNoMemory command (I.left source.old) (I.left source.new) (O.held out.old) (O.held out.new) }
     ensures bad_words { result ≡ Cause.BadWords → ⊥ }
     ensures nothing_written { WritesNothing result → out.new ≡ out.old }
     ensures unread { ReadsNothing command → source.new ≡ source.old }
     ensures pages { ReadsNothing command → IsOfWriting result }
     ensures ends { (octets : List ℕ) → I.left source.old ≡ Some octets → (Rose (I.faults source.old) (I.faults source.new) → ⊥) → (Rose (O.faults out.old) (O.faults out.new) → ⊥) → (result ≡ expected command octets) ⊎ (result ≡ Cause.NoMemory) }
+    ensures pages_end { ReadsNothing command → (Rose (O.faults out.old) (O.faults out.new) → ⊥) → (result ≡ Cause.Done) ⊎ (result ≡ Cause.NoMemory) }
 {
     match command {
-        Command::Ledger => match ledger(alloc, source) {
-            Ok(text) => print(out, text.as_bytes()),
-            Err(cause) => cause,
-        },
+        Command::Ledger => from_input(alloc, command, source, out),
         Command::Help => print(out, HELP.as_bytes()),
         Command::Version => print(out, VERSION.as_bytes()),
     }
@@ -118,10 +165,11 @@ fn end_of<I: Source, O: Sink>(
     ensures nothing_written { WritesNothing result → out.new ≡ out.old }
     ensures read_fault { result ≡ Cause.ReadFault → Rose (I.faults source.old) (I.faults source.new) }
     ensures too_long { result ≡ Cause.TooLong → TookTooMany (I.left source.old) (I.left source.new) }
-    ensures not_toml { result ≡ Cause.NotToml → Refuses (I.left source.old) (I.left source.new) Cause.NotToml }
-    ensures bad_scenario { (rule entry : ℕ) → result ≡ Cause.BadScenario rule entry → Refuses (I.left source.old) (I.left source.new) (Cause.BadScenario rule entry) }
+    ensures not_toml { result ≡ Cause.NotToml → IfSome (command_of_lem words.now) (λ command. Refuses command (I.left source.old) (I.left source.new) Cause.NotToml) }
+    ensures bad_scenario { (rule entry : ℕ) → result ≡ Cause.BadScenario rule entry → IfSome (command_of_lem words.now) (λ command. Refuses command (I.left source.old) (I.left source.new) (Cause.BadScenario rule entry)) }
     ensures write_fault { (written : ℕ) → result ≡ Cause.WriteFault written → Rose (O.faults out.old) (O.faults out.new) }
     ensures ends { (octets : List ℕ) → I.left source.old ≡ Some octets → (Rose (I.faults source.old) (I.faults source.new) → ⊥) → (Rose (O.faults out.old) (O.faults out.new) → ⊥) → IfSome (command_of_lem words.now) (λ command. (result ≡ expected command octets) ⊎ (result ≡ Cause.NoMemory)) }
+    ensures pages_end { (Rose (O.faults out.old) (O.faults out.new) → ⊥) → IfSome (command_of_lem words.now) (λ command. ReadsNothing command → (result ≡ Cause.Done) ⊎ (result ≡ Cause.NoMemory)) }
 {
     match command_of(words) {
         Some(command) => carry_out(alloc, command, source, out),

@@ -1,35 +1,20 @@
 //! From octets to a ledger file.
 
-ghost use Rattle.std.specs.Prelude.{◌≡◌, ◌+◌, ◌≤◌, None, IfOk};
-ghost use Rattle.toml.specs.View.{table_view};
+ghost use Rattle.std.specs.Prelude.{◌≡◌, ◌+◌, ◌≤◌, None, IfOk, IfErr};
 ghost use Rattle.srpnet.specs.LedgerFile.{first_fall};
-ghost use Rattle.srpnet.specs.LedgerInput.{Gives, document, or_not_toml, ledger_input as ledger_input_lem};
+ghost use Rattle.srpnet.specs.Input.{Gives};
+ghost use Rattle.srpnet.specs.LedgerInput.{ledger_input as ledger_input_lem};
 
+use crate::input::table_of;
 use crate::ledger::file::{LedgerFile, read_ledger_file};
 use crate::outcome::Cause;
 use std::alloc::Global;
-use toml::Table;
 use toml_rules::RuleErr;
-
-/// The document of the octets, or why there is none.
-fn table_of(alloc: Global, octets: &[u8]) -> Result<Table, Cause>
-    ensures { Gives table_view result (or_not_toml (document octets.now)) }
-{
-    match toml::table_from_slice(alloc, octets) {
-        Ok(table) => Ok(table),
-        Err(error) => {
-            if error.is_memory() {
-                Err(Cause::NoMemory)
-            } else {
-                Err(Cause::NotToml)
-            }
-        }
-    }
-}
 
 /// The ledger file of the octets, or the cause of its refusal.
 pub fn ledger_input(alloc: Global, octets: &[u8]) -> Result<LedgerFile, Cause>
     ensures file { Gives (λ f. f) result (ledger_input_lem octets.now) }
+    ensures not_done { IfErr result (λ c. c ≡ Cause.Done → ⊥) }
     ensures shares { IfOk result (λ f. f.delta_a + f.delta_b ≤ 90) }
     ensures ticks { IfOk result (λ f. first_fall 1 0 f.wants ≡ None) }
 {

@@ -1,13 +1,13 @@
 use Rattle.srpnet.proofs.Refusals.{refusals}
-use Rattle.srpnet.proofs.top.ledger.Goals as goal
+use Rattle.srpnet.proofs.top.read_output.Goals as goal
 
 pub returns-in-Ok-clause-refused : goal.returns-in-Ok-clause-refused
 returns-in-Ok-clause-refused g c =
     let same = c.as_slice.ensures.value in
-    refusals c.ledger_output.result _ _ c.as_slice.result.now
+    refusals c.args.command c.output.result _ _ c.as_slice.result.now
     (record {
       consumed = rw same c.in-Ok.ensures.whole.0;
       at_end = c.in-Ok.ensures.whole.1;
       within = rw same c.in-Ok.ensures.within;
     })
-    c.ledger_output.ensures.refused
+    c.output.ensures.ends c.output.ensures.not_done
