@@ -12,10 +12,10 @@ ghost use Rattle.tree_topology.specs.declared.graph.TreeErr.{TreeErr};
 ghost use Rattle.tree_topology.specs.declared.graph.TreeErr.TheVariants.{NoMemory};
 ghost use Rattle.tree_topology.specs.Topology.{Topology, HasNode, HasLink, HasPort, IsSound};
 ghost use Rattle.tree_topology.specs.declared.graph.Link.{Link};
-ghost use Rattle.tree_topology.specs.Graph.{Connected, IsGraph};
+ghost use Rattle.tree_topology.specs.Graph.{IsNode, Connected, IsGraph, IsTree};
 ghost use Rattle.tree_topology.specs.Ports.{neighbours, IsPortPath, LiesBehind, far_node, peer_of, ends_of};
 ghost use Rattle.tree_topology.specs.Walk.{component, path_between, is_behind, count_behind};
-ghost use Rattle.tree_topology.specs.Refusal.{IsRefusal};
+ghost use Rattle.tree_topology.specs.Refusal.{HasNoLoop, IsRefusal};
 
 /// At most one refusal fits nodes and links, and none fits an accepted tree; want of memory aside.
 pub fn one_refusal()
@@ -100,5 +100,13 @@ pub fn components()
 pub fn few_links()
     ensures node { (count : ℕ) (links : List Link) (x : ℕ) → IsGraph count links → length (neighbours links x) ≤ count + 1 }
     ensures all { (count : ℕ) (links : List Link) → IsGraph count links → length links ≤ (count + 1) * (count + 1) }
+{
+}
+
+/// In a tree no link closes a loop, and all nodes are connected.
+pub fn one_component()
+    ensures no_loop { (count : ℕ) (links : List Link) → IsTree count links → HasNoLoop links }
+    ensures connected { (count : ℕ) (links : List Link) (x y : ℕ) → IsTree count links → IsNode count x → IsNode count y
+        → Connected links x y }
 {
 }
