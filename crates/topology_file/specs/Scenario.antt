@@ -1,5 +1,5 @@
 -- The scenario of a table, or the first rule that it breaks, with the first entry that breaks it.
-use Rattle.std.specs.Prelude.{ℕ, ◌+◌, ◌*◌, ◌==◌, Bool, true, false, not, ◌&&◌, ◌||◌, nat_le, nat_lt, nat_eq, if◌then◌else◌, List, [], ◌∷◌, length, map, codes, Option, Some, None, option_map, option_and_then, Result, Ok}
+use Rattle.std.specs.Prelude.{◌≡◌, ◌≤◌, ℕ, ◌+◌, ◌*◌, ◌==◌, Bool, true, false, not, ◌&&◌, ◌||◌, nat_le, nat_lt, nat_eq, if◌then◌else◌, List, [], ◌∷◌, length, map, codes, Option, Some, None, option_map, option_and_then, Result, Ok}
 use Rattle.std.specs.Cmp.Lexicographic.{pointwise}
 use Rattle.std.specs.List.{list_any}
 use Rattle.toml.specs.Data.{Members}
@@ -213,3 +213,16 @@ scenario_of ms = do
   leave_time ← needs 3 (leave_time_at ms)
   periodic ← needs 3 (truth_or (codes "periodic") false ms)
   plan_of ticks leave_time periodic node_tables link_tables event_tables
+
+-- what a scenario keeps: rules 1, 3, 5 to 7, 10 to 15 and 20 on the values, and that the tree is that
+-- of the nodes and links
+pub record KeepsRules (p : Plan) : Type 0 where
+  pub ticks : (1 ≤ p.ticks) × (p.ticks ≤ 12000)
+  pub leave_time : (60 ≤ p.leave_time.0) × (p.leave_time.0 ≤ 100)
+  pub small : is_small p.ticks p.nodes ≡ true
+  pub names : first_where has_name_of [] p.nodes ≡ None
+  pub ids : first_where has_id_of [] p.nodes ≡ None
+  pub no_self : first_where is_self_link [] p.links ≡ None
+  pub no_second : first_where is_second_link [] p.links ≡ None
+  pub tree : tree_of p.nodes p.links ≡ Ok p.tree
+  pub uncrowded : first_where (is_crowded p.tree.links) [] p.nodes ≡ None

@@ -25,6 +25,9 @@ mod nodes;
 pub mod scenario;
 mod tree;
 
+#[cfg(test)]
+mod tests;
+
 pub use entries::{EventEntry, EventKind, LinkEntry, NodeEntry};
 pub use scenario::{Scenario, read_scenario};
 pub use toml_rules::RuleErr;

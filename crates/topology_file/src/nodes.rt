@@ -1,6 +1,6 @@
 //! The nodes of a scenario: rules 4 to 7.
 
-ghost use Rattle.std.specs.Prelude.{◌≡◌, ◌+◌, ◌==◌, ◌<◌, ◌≤◌, [], map, length, nat_eq, Option, None, option_map, IfOk, IfSome, OnOk};
+ghost use Rattle.std.specs.Prelude.{◌≡◌, ◌+◌, ◌==◌, ◌<◌, ◌≤◌, [], map, length, nat_eq, true, Option, None, option_map, IfOk, IfSome, OnOk};
 ghost use Rattle.std.specs.Cmp.Lexicographic.{pointwise};
 ghost use Rattle.std.specs.List.{list_any};
 ghost use Rattle.toml.specs.View.{table_view};
@@ -121,6 +121,9 @@ pub(crate) fn read_nodes(
     requires { ticks ≤ 12000 }
     ensures nodes { Reads (λ v. v.items) result (nodes_of ticks (map (λ t. table_view t.now) entries.now)) }
     ensures few { IfOk result (λ v. length v.items ≤ 64) }
+    ensures small { IfOk result (λ v. is_small_lem ticks v.items ≡ true) }
+    ensures names { IfOk result (λ v. first_where has_name_of_lem [] v.items ≡ None) }
+    ensures ids { IfOk result (λ v. first_where has_id_of_lem [] v.items ≡ None) }
 {
     let nodes = read_node_entries(alloc, entries)?;
     holds(5, is_small(ticks, &nodes))?;

@@ -34,6 +34,7 @@ pub struct Scenario {
 
 impl Model for Scenario {
     ghost use Rattle.topology_file.specs.Plan.{Plan};
+    ghost use Rattle.topology_file.specs.Scenario.{KeepsRules};
 
     ghost Value = { Plan };
 
@@ -87,7 +88,10 @@ fn read_plan(
     link_tables: &[&Table],
     event_tables: &[&Table],
 ) -> Result<Scenario, RuleErr>
-    requires { times.ticks ≤ 12000 }
+    requires some_ticks { 1 ≤ times.ticks }
+    requires ticks { times.ticks ≤ 12000 }
+    requires least_leave { 60 ≤ times.leave_time }
+    requires leave { times.leave_time ≤ 100 }
     ensures { Reads (λ s. s) result (plan_of times.ticks times.leave_time times.periodic
         (map (λ t. table_view t.now) node_tables.now) (map (λ t. table_view t.now) link_tables.now)
         (map (λ t. table_view t.now) event_tables.now)) }
