@@ -1,7 +1,9 @@
 -- The scenario of a table, or the first rule that it breaks, with the first entry that breaks it.
-use Rattle.std.specs.Prelude.{◌≡◌, ◌≤◌, ℕ, ◌+◌, ◌*◌, ◌==◌, Bool, true, false, not, ◌&&◌, ◌||◌, nat_le, nat_lt, nat_eq, if◌then◌else◌, List, [], ◌∷◌, length, map, codes, Option, Some, None, option_map, option_and_then, Result, Ok}
+use Rattle.std.specs.Prelude.{◌≡◌, ◌≤◌, ◌<◌, ◌-◌, All, ℕ, ◌+◌, ◌*◌, ◌==◌, Bool, true, false, not, ◌&&◌, ◌||◌, nat_le, nat_lt, nat_eq, if◌then◌else◌, List, [], ◌∷◌, length, map, codes, Option, Some, None, option_map, option_and_then, Result, Ok}
 use Rattle.std.specs.Cmp.Lexicographic.{pointwise}
 use Rattle.std.specs.List.{list_any}
+use Rattle.std.proofs.Common.{get_or}
+use Rattle.tree_topology.specs.Graph.{IsNode}
 use Rattle.toml.specs.Data.{Members}
 use Rattle.toml_rules.specs.declared.rules.RuleErr.{RuleErr}
 use Rattle.toml_rules.specs.declared.rules.RuleErr.TheVariants as rules
@@ -138,10 +140,16 @@ links_of nodes entries = do
 
 -- ---- events
 
--- the first event, from entry n on, whose tick is below that of the one before it
-abbrev pub first_fall : ℕ → ℕ → List EventForm → Option ℕ
+-- the first of these ticks, numbered from n, that is below the one before it
+abbrev pub first_fall : ℕ → ℕ → List ℕ → Option ℕ
 first_fall n before [] = None
-first_fall n before (e ∷ events) = if nat_lt e.tick before then Some n else first_fall (n + 1) e.tick events
+first_fall n before (t ∷ ticks) = if nat_lt t before then Some n else first_fall (n + 1) t ticks
+
+abbrev pub form_ticks : List EventForm → List ℕ
+form_ticks forms = map (λ e. e.tick) forms
+
+abbrev pub event_ticks : List EventEntry → List ℕ
+event_ticks events = map (λ e. e.tick) events
 
 -- two nodes that a link joins
 abbrev pub joined_from : List NodeEntry → List LinkEntry → List ℕ → List ℕ → Option (ℕ × ℕ)
@@ -166,7 +174,7 @@ event_entry nodes links n form =
 abbrev pub events_of : ℕ → List NodeEntry → List LinkEntry → List Members → Result (List EventEntry) RuleErr
 events_of ticks nodes links entries = do
   forms ← each 20 (event_form ticks) 1 entries
-  _ ← none_at 21 (first_fall 1 0 forms)
+  _ ← none_at 21 (first_fall 1 0 (form_ticks forms))
   each 22 (event_entry nodes links) 1 forms
 
 -- ---- the file
@@ -214,15 +222,36 @@ scenario_of ms = do
   periodic ← needs 3 (truth_or (codes "periodic") false ms)
   plan_of ticks leave_time periodic node_tables link_tables event_tables
 
--- what a scenario keeps: rules 1, 3, 5 to 7, 10 to 15 and 20 on the values, and that the tree is that
--- of the nodes and links
+-- a station
+abbrev pub IsStationNumber : List NodeEntry → ℕ → Type 0
+IsStationNumber nodes x = IsNode (length nodes) x × ((d : NodeEntry) → is_station (get_or nodes (x - 1) d).kind ≡ true)
+
+-- two nodes that a link joins
+abbrev pub AreJoinedNumbers : List NodeEntry → List LinkEntry → ℕ → ℕ → Type 0
+AreJoinedNumbers nodes links x y =
+    IsNode (length nodes) x × IsNode (length nodes) y × (list_any (joins_both x y) links ≡ true)
+
+-- the numbers in an event are a station, or nodes that a link joins
+abbrev pub IsKnownKind : List NodeEntry → List LinkEntry → EventKind → Type 0
+IsKnownKind nodes links (kinds.Declare station vid) = IsStationNumber nodes station.0
+IsKnownKind nodes links (kinds.Withdraw station vid) = IsStationNumber nodes station.0
+IsKnownKind nodes links (kinds.Lose from to index) = AreJoinedNumbers nodes links from.0 to.0
+IsKnownKind nodes links (kinds.Repeat from to index) = AreJoinedNumbers nodes links from.0 to.0
+
+-- what a scenario keeps: rules 1, 3, 5 to 7, 9 to 15 and 20 to 22 on its values, and that the tree is
+-- that of the nodes and links
 pub record KeepsRules (p : Plan) : Type 0 where
   pub ticks : (1 ≤ p.ticks) × (p.ticks ≤ 12000)
   pub leave_time : (60 ≤ p.leave_time.0) × (p.leave_time.0 ≤ 100)
   pub small : is_small p.ticks p.nodes ≡ true
+  pub known_ends : All (λ l. IsNode (length p.nodes) l.a.0 × IsNode (length p.nodes) l.b.0) p.links
   pub names : first_where has_name_of [] p.nodes ≡ None
   pub ids : first_where has_id_of [] p.nodes ≡ None
   pub no_self : first_where is_self_link [] p.links ≡ None
   pub no_second : first_where is_second_link [] p.links ≡ None
   pub tree : tree_of p.nodes p.links ≡ Ok p.tree
   pub uncrowded : first_where (is_crowded p.tree.links) [] p.nodes ≡ None
+  pub events_many : length p.events ≤ 10000
+  pub events_within : All (λ t. t < p.ticks) (event_ticks p.events)
+  pub events_order : first_fall 1 0 (event_ticks p.events) ≡ None
+  pub events_known : All (λ e. IsKnownKind p.nodes p.links e.kind) p.events

@@ -23,10 +23,9 @@ mod forms;
 mod links;
 mod nodes;
 pub mod scenario;
-mod tree;
-
 #[cfg(test)]
 mod tests;
+mod tree;
 
 pub use entries::{EventEntry, EventKind, LinkEntry, NodeEntry};
 pub use scenario::{Scenario, read_scenario};

@@ -8,7 +8,7 @@ ghost use Rattle.toml_rules.specs.Rules.{Reads};
 ghost use Rattle.tree_topology.specs.Graph.{IsNode};
 ghost use Rattle.topology_file.specs.Entries.{node_entry};
 ghost use Rattle.topology_file.specs.First.{each, first_where};
-ghost use Rattle.topology_file.specs.Scenario.{node_from, station_from, is_station as is_station_lem, has_name_of as has_name_of_lem, has_id_of as has_id_of_lem, is_small as is_small_lem, nodes_of};
+ghost use Rattle.topology_file.specs.Scenario.{node_from, station_from, IsStationNumber, is_station as is_station_lem, has_name_of as has_name_of_lem, has_id_of as has_id_of_lem, is_small as is_small_lem, nodes_of};
 
 use crate::entries::NodeEntry;
 use crate::first::{fails_at, none_at};
@@ -156,7 +156,7 @@ pub(crate) fn node_named(nodes: &[NodeEntry], name: &Seq<u8>) -> Option<NodeNo>
 pub(crate) fn station_named(nodes: &[NodeEntry], name: &Seq<u8>) -> Option<NodeNo>
     requires { length nodes.now ≤ 64 }
     ensures number { option_map (λ n. n.0) result ≡ station_from 1 name.now nodes.now }
-    ensures known { IfSome result (λ n. IsNode (length nodes.now) n.0) }
+    ensures known { IfSome result (λ n. IsStationNumber nodes.now n.0) }
 {
     for (i, node) in nodes.iter().enumerate() {
         if node.name == *name {

@@ -6,56 +6,16 @@ use std::test::Fail;
 
 /// Files, each with the rule that it breaks first and the entry that it breaks it at.
 const BROKEN: [(&str, u8, u32); 36] = [
-    (
-        "",
-        1,
-        0,
-    ),
-    (
-        "ticks = 0\n",
-        1,
-        0,
-    ),
-    (
-        "ticks = 12001\n",
-        1,
-        0,
-    ),
-    (
-        "ticks = true\n",
-        1,
-        0,
-    ),
-    (
-        "ticks = 22\nstream = []\n",
-        2,
-        0,
-    ),
-    (
-        "ticks = 22\nnode = 1\n",
-        2,
-        0,
-    ),
-    (
-        "ticks = 22\nlink = [1]\n",
-        2,
-        0,
-    ),
-    (
-        "ticks = 22\nleave_time = 59\n",
-        3,
-        0,
-    ),
-    (
-        "ticks = 22\nleave_time = 101\n",
-        3,
-        0,
-    ),
-    (
-        "ticks = 22\nperiodic = 1\n",
-        3,
-        0,
-    ),
+    ("", 1, 0),
+    ("ticks = 0\n", 1, 0),
+    ("ticks = 12001\n", 1, 0),
+    ("ticks = true\n", 1, 0),
+    ("ticks = 22\nstream = []\n", 2, 0),
+    ("ticks = 22\nnode = 1\n", 2, 0),
+    ("ticks = 22\nlink = [1]\n", 2, 0),
+    ("ticks = 22\nleave_time = 59\n", 3, 0),
+    ("ticks = 22\nleave_time = 101\n", 3, 0),
+    ("ticks = 22\nperiodic = 1\n", 3, 0),
     (
         "ticks = 22\nnode = [{ name = \"a\", kind = \"hub\" }]\n",
         4,
@@ -76,11 +36,7 @@ const BROKEN: [(&str, u8, u32); 36] = [
         4,
         1,
     ),
-    (
-        "ticks = 22\n",
-        5,
-        0,
-    ),
+    ("ticks = 22\n", 5, 0),
     (
         "ticks = 12000\nnode = [{ name = \"n0\", kind = \"bridge\" }, { name = \"n1\", kind = \"bridge\" }, { name = \"n2\", kind = \"bridge\" }, { name = \"n3\", kind = \"bridge\" }, { name = \"n4\", kind = \"bridge\" }, { name = \"n5\", kind = \"bridge\" }, { name = \"n6\", kind = \"bridge\" }, { name = \"n7\", kind = \"bridge\" }, { name = \"n8\", kind = \"bridge\" }, { name = \"n9\", kind = \"bridge\" }, { name = \"n10\", kind = \"bridge\" }, { name = \"n11\", kind = \"bridge\" }, { name = \"n12\", kind = \"bridge\" }, { name = \"n13\", kind = \"bridge\" }, { name = \"n14\", kind = \"bridge\" }, { name = \"n15\", kind = \"bridge\" }, { name = \"n16\", kind = \"bridge\" }, { name = \"n17\", kind = \"bridge\" }, { name = \"n18\", kind = \"bridge\" }, { name = \"n19\", kind = \"bridge\" }, { name = \"n20\", kind = \"bridge\" }, { name = \"n21\", kind = \"bridge\" }, { name = \"n22\", kind = \"bridge\" }, { name = \"n23\", kind = \"bridge\" }, { name = \"n24\", kind = \"bridge\" }, { name = \"n25\", kind = \"bridge\" }, { name = \"n26\", kind = \"bridge\" }, { name = \"n27\", kind = \"bridge\" }, { name = \"n28\", kind = \"bridge\" }, { name = \"n29\", kind = \"bridge\" }, { name = \"n30\", kind = \"bridge\" }, { name = \"n31\", kind = \"bridge\" }, { name = \"n32\", kind = \"bridge\" }, { name = \"n33\", kind = \"bridge\" }]\n",
         5,
@@ -220,7 +176,10 @@ fn two_stations_are_read_with_their_defaults(rt: HostRuntime) -> Result<(), Fail
     for link in scenario.links.as_slice() {
         assert_eq!(rt; (link.a, link.b), (NodeNo(1), NodeNo(2)));
         assert_eq!(rt; link.rate.bits(), 100_000_000);
-        assert_eq!(rt; (link.delta_a.get(), link.delta_b.get(), link.latency), (75, 0, 0));
+        assert_eq!(rt;
+            (link.delta_a.get(), link.delta_b.get(), link.latency),
+            (75, 0, 0)
+        );
     }
     for (event, tick) in scenario.events.as_slice().iter().zip([0, 1, 21]) {
         assert_eq!(rt; event.tick, tick);
