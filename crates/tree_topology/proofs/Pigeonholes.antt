@@ -36,8 +36,9 @@ without : (n : ℕ) (xs : List ℕ) → IsBelow (suc n) xs → HasNoRepeat xs �
 without n [] b r = record { rest = []; long = omega arith; below = tt; differ = tt; kept = (λ z a. tt) }
 without n (x ∷ xs) b r =
     elim (cases_eq x n) [
-      inl e ↦ record { rest = xs; long = omega arith; below = lower n xs b.1 (absent-same n x xs e r.0); differ = r.1; kept = (λ z a. a.1) }
-    | inr ne ↦ (let w = without n xs b.1 r.1 in record { rest = x ∷ w.rest; long = omega (arith, w.long); below = (omega (arith, b.0, ne), w.below); differ = (w.kept x r.0, w.differ); kept = (λ z a. (a.0, w.kept z a.1)) }) ]
+      | inl e ↦ record { rest = xs; long = omega arith; below = lower n xs b.1 (absent-same n x xs e r.0); differ = r.1; kept = (λ z a. a.1) }
+      | inr ne ↦ (let w = without n xs b.1 r.1 in record { rest = x ∷ w.rest; long = omega (arith, w.long); below = (omega (arith, b.0, ne), w.below); differ = (w.kept x r.0, w.differ); kept = (λ z a. (a.0, w.kept z a.1)) })
+    ]
 
 pub pigeonholes : (n : ℕ) (xs : List ℕ) → IsBelow n xs → HasNoRepeat xs → length xs ≤ n
 pigeonholes zero [] b r = omega arith

@@ -92,21 +92,18 @@ pub fn behind_falls()
 /// Nodes are in one component exactly where links connect them.
 pub fn components()
     ensures { (links : List Link) (x y : ℕ) → (component links x ≡ component links y) ↔ Connected links x y }
-{
-}
+{}
 
 /// A graph has few links for its nodes: a node at most one for each node and one, all together at most
 /// as many as pairs of such numbers.
 pub fn few_links()
     ensures node { (count : ℕ) (links : List Link) (x : ℕ) → IsGraph count links → length (neighbours links x) ≤ count + 1 }
     ensures all { (count : ℕ) (links : List Link) → IsGraph count links → length links ≤ (count + 1) * (count + 1) }
-{
-}
+{}
 
 /// In a tree no link closes a loop, and all nodes are connected.
 pub fn one_component()
     ensures no_loop { (count : ℕ) (links : List Link) → IsTree count links → HasNoLoop links }
     ensures connected { (count : ℕ) (links : List Link) (x y : ℕ) → IsTree count links → IsNode count x → IsNode count y
         → Connected links x y }
-{
-}
+{}
