@@ -5,7 +5,7 @@ ghost use Rattle.toml.specs.View.{table_view};
 ghost use Rattle.toml_rules.specs.Fields.{tables as tables_lem};
 ghost use Rattle.toml_rules.specs.Rules.{Reads, needs as needs_lem};
 ghost use Rattle.topology_file.specs.First.{first_where};
-ghost use Rattle.topology_file.specs.Scenario.{ticks_at, leave_time_at, plan_of, scenario_of};
+ghost use Rattle.topology_file.specs.Scenario.{KeepsRules, ticks_at, leave_time_at, plan_of, scenario_of};
 
 use crate::entries::{EventEntry, LinkEntry, NodeEntry};
 use crate::events::read_events;
@@ -47,6 +47,25 @@ impl Model for Scenario {
       links = s.links;
       events = s.events;
     } };
+
+    ghost invariant = { λ s. KeepsRules (record {
+      ticks = s.ticks;
+      leave_time = s.leave_time;
+      periodic = s.periodic;
+      tree = s.tree;
+      nodes = s.nodes;
+      links = s.links;
+      events = s.events;
+    }) };
+}
+
+impl Scenario {
+    /// Every scenario keeps the rules of its file, and its tree is that of its nodes and links.
+    pub fn keeps_rules(&self)
+        ensures { KeepsRules self.now }
+    {
+        let _ = &self.nodes;
+    }
 }
 
 fn read_ticks(table: &Table) -> Option<u64>
