@@ -15,5 +15,5 @@ within-push ticks forms more e new lt all =
     subst F (sym split) (All-push (λ t. t < ticks) (form_ticks forms) e.tick all lt)
 
 -- what an entry that was read says
-pub some-says : (P : EventForm → Type 0) (o : Option EventForm) (e : EventForm) → o ≡ Some e → IfSome o P → P e
-some-says P o e is h = let F : Option EventForm → Type 0 = λ x. IfSome x P in subst F is h
+pub some-says : {A : Type 0} (P : A → Type 0) (o : Option A) (e : A) → o ≡ Some e → IfSome o P → P e
+some-says {A = A} P o e is h = let F : Option A → Type 0 = λ x. IfSome x P in subst F is h
