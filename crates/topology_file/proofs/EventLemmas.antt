@@ -1,6 +1,6 @@
 -- The ticks of events, one event after the other.
-use Rattle.std.proofs.Common.{◌≡◌, ℕ, ◌+◌, ◌<◌, ◌≤◌, List, [], ◌∷◌, ◌++◌, Option, Some, None, refl, sym, ap, subst, ◌∙◌, length, map, arith}
-use Rattle.std.proofs.lemmas.List.{map-append, length_push}
+use Rattle.std.proofs.Common.{◌≡◌, ℕ, ◌<◌, List, [], ◌∷◌, ◌++◌, Option, Some, sym, ap, subst, ◌∙◌}
+use Rattle.std.proofs.lemmas.List.{map-append}
 use Rattle.std.proofs.lemmas.List.Elements.{All-push}
 use Rattle.std.specs.List.{All}
 use Rattle.std.specs.Option.{IfSome}
@@ -15,5 +15,5 @@ within-push ticks forms more e new lt all =
     subst F (sym split) (All-push (λ t. t < ticks) (form_ticks forms) e.tick all lt)
 
 -- what an entry that was read says
-pub some-says : (P : EventForm → Type 0) (o : Option EventForm) (e : EventForm) → o ≡ Some e → IfSome o P → P e
-some-says P o e is h = let F : Option EventForm → Type 0 = λ x. IfSome x P in subst F is h
+pub some-says : {A : Type 0} (P : A → Type 0) (o : Option A) (e : A) → o ≡ Some e → IfSome o P → P e
+some-says {A = A} P o e is h = let F : Option A → Type 0 = λ x. IfSome x P in subst F is h

@@ -1,5 +1,5 @@
 -- How the first entry at which a rule fails is found, one entry after the other.
-use Rattle.std.proofs.Common.{◌≡◌, ℕ, suc, zero, add-one, if◌then◌else◌, append-nil, ◌+◌, ◌<◌, ◌≤◌, Bool, true, false, cond, List, [], ◌∷◌, ◌++◌, Option, Some, None, Result, Ok, Err, refl, sym, ap, subst, ◌∙◌, length, get_or, take, drop, map, arith, append_assoc}
+use Rattle.std.proofs.Common.{◌≡◌, ℕ, suc, zero, add-one, if◌then◌else◌, append-nil, ◌+◌, ◌<◌, ◌≤◌, Bool, true, false, cond, List, [], ◌∷◌, ◌++◌, Option, Some, None, Result, Ok, Err, refl, sym, ap, ◌∙◌, length, get_or, take, drop, map, arith, append_assoc}
 use Rattle.std.proofs.lemmas.List.{take_more, drop_more, drop_all, length-take-le}
 use Rattle.toml_rules.specs.declared.rules.RuleErr.{RuleErr}
 use Rattle.toml_rules.specs.Rules.{with_front}

@@ -1,8 +1,8 @@
 -- The rules on links and nodes, and what the tree refuses.
-use Rattle.std.proofs.Common.{◌≡◌, ◌≢◌, ℕ, suc, zero, ◌+◌, ◌-◌, ◌*◌, ◌<◌, ◌≤◌, Bool, true, false, not, ◌&&◌, ◌||◌, ◌==◌, List, [], ◌∷◌, ◌++◌, ◌⊎◌, inl, inr, Option, Some, None, Result, Ok, Err, refl, sym, ap, subst, ◌∙◌, length, get_or, take, drop, map, mul-le-mul, arith}
+use Rattle.std.proofs.Common.{◌≡◌, ◌≢◌, ℕ, suc, zero, ◌+◌, ◌-◌, ◌*◌, ◌<◌, ◌≤◌, Bool, true, false, not, ◌&&◌, ◌||◌, ◌==◌, List, [], ◌∷◌, inl, inr, Option, Some, None, Ok, Err, refl, sym, ap, subst, ◌∙◌, length, get_or, take, drop, map, mul-le-mul, arith}
 use Rattle.std.proofs.lemmas.Bool.{cases_eq, false≢true}
 use Rattle.std.proofs.lemmas.Bool.Decides.{nat_tests}
-use Rattle.std.proofs.lemmas.List.{length-map, take-map, length-take-le, get_or_default}
+use Rattle.std.proofs.lemmas.List.{length-map, take-map, length-take-le}
 use Rattle.std.specs.List.{All, list_any}
 use Rattle.std.specs.Prelude.{◌↔◌, nat_lt}
 use Rattle.toml_rules.specs.declared.rules.RuleErr.{RuleErr}
@@ -13,9 +13,9 @@ use Rattle.tree_topology.specs.declared.graph.NodeKind.{NodeKind}
 use Rattle.tree_topology.specs.declared.graph.NodeKind.TheVariants.{Station, Bridge}
 use Rattle.tree_topology.specs.declared.graph.TreeErr.{TreeErr}
 use Rattle.tree_topology.specs.declared.graph.TreeErr.TheVariants.{UnknownNode, SelfLink, SecondLink, Loop, Unconnected, StationWithLinks, TooManyLinks, NoMemory}
-use Rattle.tree_topology.specs.Graph.{IsNode, Joins, Joined, Connected, HasKnownEnds, HasNoSelfLink, HasNoSecondLink, IsGraph, IsTree}
+use Rattle.tree_topology.specs.Graph.{IsNode, Joins, Joined, Connected, IsGraph, IsTree}
 use Rattle.tree_topology.specs.Ports.{neighbours}
-use Rattle.tree_topology.specs.Refusal.{IsFirstLink, IsFirstNode, ClosesLoop, HasNoLoop, IsStationWithLinks, HasLeafStations, HasTooManyLinks, IsAccepted, IsRefusal}
+use Rattle.tree_topology.specs.Refusal.{IsFirstLink, IsFirstNode, ClosesLoop, HasNoLoop, IsStationWithLinks, IsAccepted, IsRefusal}
 use Rattle.tree_topology.specs.Walk.{component}
 use Rattle.topology_file.specs.declared.entries.NodeEntry.{NodeEntry}
 use Rattle.topology_file.specs.declared.entries.LinkEntry.{LinkEntry}

@@ -3,7 +3,6 @@ use Rattle.std.specs.Prelude.{ℕ, ◌+◌, ◌==◌, Bool, ◌&&◌, ◌||◌, 
 use Rattle.std.specs.Cmp.Lexicographic.{pointwise}
 use Rattle.std.specs.List.{list_all}
 use Rattle.srp_base.specs.declared.bandwidth.Rate.{Rate}
-use Rattle.srp_base.specs.declared.bandwidth.Rate.TheVariants.{M100}
 use Rattle.srp_base.specs.Bandwidth.{rate_of_mbit}
 use Rattle.srp_base.specs.Hexadecimal.{hex16}
 use Rattle.toml.specs.Data.{Data, Members, get_member, as_str}

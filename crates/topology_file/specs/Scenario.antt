@@ -238,12 +238,13 @@ IsKnownKind nodes links (kinds.Withdraw station vid) = IsStationNumber nodes sta
 IsKnownKind nodes links (kinds.Lose from to index) = AreJoinedNumbers nodes links from.0 to.0
 IsKnownKind nodes links (kinds.Repeat from to index) = AreJoinedNumbers nodes links from.0 to.0
 
--- what a scenario keeps: rules 1, 3, 5 to 7, 9 to 15 and 20 to 22 on its values, and that the tree is
+-- what a scenario keeps: rules 1, 3, 5 to 15 and 20 to 22 on its values, and that the tree is
 -- that of the nodes and links
 pub record KeepsRules (p : Plan) : Type 0 where
   pub ticks : (1 ≤ p.ticks) × (p.ticks ≤ 12000)
   pub leave_time : (60 ≤ p.leave_time.0) × (p.leave_time.0 ≤ 100)
   pub small : is_small p.ticks p.nodes ≡ true
+  pub shares : All (λ l. l.delta_a + l.delta_b ≤ 90) p.links
   pub known_ends : All (λ l. IsNode (length p.nodes) l.a.0 × IsNode (length p.nodes) l.b.0) p.links
   pub names : first_where has_name_of [] p.nodes ≡ None
   pub ids : first_where has_id_of [] p.nodes ≡ None

@@ -22,7 +22,8 @@ const LINK_KEYS: [&str; 6] = ["a", "b", "rate", "delta_a", "delta_b", "latency"]
 
 /// A link with the names of its ends, where the entry has its form.
 fn read_link(alloc: Global, table: &Table) -> Result<Option<LinkForm>, NoMemory>
-    ensures { IfOk result (λ link. link ≡ link_form 0 (table_view table.now)) }
+    ensures link { IfOk result (λ link. link ≡ link_form 0 (table_view table.now)) }
+    ensures shares { IfOk result (λ link. IfSome link (λ l. l.delta_a + l.delta_b ≤ 90)) }
 {
     if !has_only(table, &LINK_KEYS) {
         return Ok(None);
@@ -56,7 +57,8 @@ fn read_link(alloc: Global, table: &Table) -> Result<Option<LinkForm>, NoMemory>
 
 /// Rule 8: each link has its form.
 fn read_forms(alloc: Global, entries: &[&Table]) -> Result<Vec<LinkForm>, RuleErr>
-    ensures { Reads (λ v. v.items) result (each 8 link_form 1 (map (λ t. table_view t.now) entries.now)) }
+    ensures forms { Reads (λ v. v.items) result (each 8 link_form 1 (map (λ t. table_view t.now) entries.now)) }
+    ensures shares { IfOk result (λ v. All (λ l. l.delta_a + l.delta_b ≤ 90) v.items) }
 {
     let mut forms = Vec::new(alloc);
     for (i, table) in entries.iter().enumerate() {
@@ -73,6 +75,7 @@ fn read_forms(alloc: Global, entries: &[&Table]) -> Result<Vec<LinkForm>, RuleEr
 fn name_ends(nodes: &[NodeEntry], form: &LinkForm) -> Option<LinkEntry>
     requires { length nodes.now ≤ 64 }
     ensures link { result ≡ link_entry nodes.now 0 form.now }
+    ensures shares { IfSome result (λ l. l.delta_a + l.delta_b ≡ form.now.delta_a + form.now.delta_b) }
     ensures known { IfSome result (λ l. IsNode (length nodes.now) l.a.0 × IsNode (length nodes.now) l.b.0) }
 {
     let a = node_named(nodes, &form.a)?;
@@ -93,7 +96,9 @@ fn name_links(
     nodes: &[NodeEntry],
     forms: &[LinkForm],
 ) -> Result<Vec<LinkEntry>, RuleErr>
-    requires { length nodes.now ≤ 64 }
+    requires few { length nodes.now ≤ 64 }
+    requires shares { All (λ l. l.delta_a + l.delta_b ≤ 90) forms.now }
+    ensures shares { IfOk result (λ v. All (λ l. l.delta_a + l.delta_b ≤ 90) v.items) }
     ensures links { Reads (λ v. v.items) result (each 9 (link_entry nodes.now) 1 forms.now) }
     ensures known { IfOk result (λ v. All (λ l. IsNode (length nodes.now) l.a.0 × IsNode (length nodes.now) l.b.0) v.items) }
 {
@@ -154,6 +159,7 @@ pub(crate) fn read_links(
     requires { length nodes.now ≤ 64 }
     ensures links { Reads (λ v. v.items) result (links_of nodes.now (map (λ t. table_view t.now) entries.now)) }
     ensures known { IfOk result (λ v. All (λ l. IsNode (length nodes.now) l.a.0 × IsNode (length nodes.now) l.b.0) v.items) }
+    ensures shares { IfOk result (λ v. All (λ l. l.delta_a + l.delta_b ≤ 90) v.items) }
     ensures no_self { IfOk result (λ v. first_where is_self_link_lem [] v.items ≡ None) }
     ensures no_second { IfOk result (λ v. first_where is_second_link_lem [] v.items ≡ None) }
 {

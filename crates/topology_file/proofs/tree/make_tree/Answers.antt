@@ -1,5 +1,5 @@
-use Rattle.std.proofs.Common.{ap, ◌∙◌, List, length, arith}
-use Rattle.topology_file.proofs.TreeRules.{TreeLaws, graph-from_rules, made-tree, refused-tree, links-few, length-links}
+use Rattle.std.proofs.Common.{ap, ◌∙◌, length, arith}
+use Rattle.topology_file.proofs.TreeRules.{TreeLaws, graph-from_rules, made-tree, refused-tree, links-few}
 use Rattle.topology_file.proofs.tree.make_tree.Goals as goal
 
 pub new-requires-clause-few_links : goal.new-requires-clause-few_links
