@@ -5,9 +5,10 @@ use Rattle.toml.specs.Data.{Members}
 use Rattle.toml_rules.specs.declared.rules.RuleErr.{RuleErr}
 use Rattle.toml_rules.specs.declared.rules.RuleErr.TheVariants.{Rule, NoMemory as no_memory}
 use Rattle.srpnet.specs.declared.words.Command.{Command}
-use Rattle.srpnet.specs.declared.words.Command.TheVariants.{Ledger, Help, Version}
+use Rattle.srpnet.specs.declared.words.Command.TheVariants.{Ledger, Check, Help, Version}
 use Rattle.srpnet.specs.declared.outcome.Cause.{Cause}
 use Rattle.srpnet.specs.declared.outcome.Cause.TheVariants.{Done, BadWords, ReadFault, TooLong, NotToml, BadScenario, WriteFault, NoMemory}
+use Rattle.topology_file.specs.Scenario.{scenario_of}
 use Rattle.srpnet.specs.LedgerFile.{ledger_file}
 use Rattle.srpnet.specs.Input.{document, or_not_toml, by_rules, ending, ◌>>=◌}
 use Rattle.srpnet.specs.TopCall.{ReadWhole, Refusal, EndsAs, ending_of}
@@ -36,6 +37,7 @@ by_document rules (Some ms) = by_the_rules (rules ms)
 -- each command's reading ends by one of them
 reading_ends : (command : Command) (octets : List ℕ) → IsOfReading (ending_of command octets)
 reading_ends Ledger octets = by_document ledger_file (document octets)
+reading_ends Check octets = by_document scenario_of (document octets)
 reading_ends Help octets = tt
 reading_ends Version octets = tt
 

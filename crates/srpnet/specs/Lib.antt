@@ -1,3 +1,4 @@
+pub mod CheckText
 pub mod Ending
 pub mod Input
 pub mod LedgerFile

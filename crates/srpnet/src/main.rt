@@ -4,6 +4,7 @@
 //! words    the table of the command line
 //! top      srp_main, srp_plain: words and streams in, an outcome out
 //! ledger   the command `ledger`: input, file, bookings, text
+//! check    the command `check`
 //! outcome  statuses, causes and their texts
 //! pages    --help and --version
 //! ```
@@ -12,6 +13,7 @@
 //! input, and why each other status comes.
 #![tactic(auto)]
 
+mod check;
 mod input;
 mod ledger;
 mod outcome;

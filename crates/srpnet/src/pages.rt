@@ -7,6 +7,8 @@ srpnet: the Stream Reservation Protocol (IEEE Std 802.1Q-2018) over a file
   srpnet ledger     reads a ledger file on standard input, one port and the
                     streams that want it, and prints what is booked and why
                     the rest is refused
+  srpnet check      reads a scenario file on standard input, a network and
+                    what happens in it, and prints its counts
   srpnet --help     this page
   srpnet --version  the version
 

@@ -367,3 +367,24 @@ fn an_input_has_at_most_1048576_octets(rt: HostRuntime) -> Result<(), Fail> {
     }
     Ok(())
 }
+
+#[test]
+fn a_scenario_is_checked_by_its_counts(rt: HostRuntime) -> Result<(), Fail> {
+    let alloc = rt.alloc();
+    let two = "ticks = 22
+[[node]]\nname = 's1'\nkind = 'station'\n[[node]]\nname = 's2'\nkind = 'station'
+[[link]]\na = 's1'\nb = 's2'
+[[event]]\ntick = 0\nkind = 'declare'\nstation = 's1'\nvid = 7
+[[event]]\ntick = 1\nkind = 'lose'\nfrom = 's1'\nto = 's2'\nindex = 0
+[[event]]\ntick = 21\nkind = 'lose'\nfrom = 's1'\nto = 's2'\nindex = 0
+";
+    let ended = call(alloc, "check", two.as_bytes(), (100, 0), (100, 0))?;
+    assert_eq!(rt; ended.status, 0);
+    assert_eq!(rt;
+        ended.out.as_str(),
+        "nodes 2\nlinks 1\nstreams 0\nevents 3\nframes 0\nticks 22\n"
+    );
+    let ended = call(alloc, "check", b"", (100, 0), (100, 0))?;
+    ends_with(&rt, &ended, 6, "srpnet: rule 1 entry 0\n");
+    Ok(())
+}

@@ -11,6 +11,7 @@ ghost use Rattle.srpnet.specs.Words.{command_of as command_of_lem};
 ghost use Rattle.srpnet.specs.Ending.{IsEnding};
 ghost use Rattle.srpnet.specs.TopCall.{IsOfWriting, PartOf, GainsFront, Refusal, Output, IsOutput, Wrote, WrotePart, WroteUntilNoMemory, Refuses, TookTooMany, WritesNothing, ReadsNothing, EndsAs, ending_of, expected_of_input, expected};
 
+use crate::check::check_output;
 use crate::ledger::{bookings, input, text};
 use crate::outcome::{Cause, Outcome, status_of, tell};
 use crate::pages::{HELP, VERSION};
@@ -58,6 +59,7 @@ fn output(alloc: Global, command: Command, octets: &[u8]) -> Result<String, Caus
 {
     match command {
         Command::Ledger => ledger_output(alloc, octets),
+        Command::Check => check_output(alloc, octets),
         Command::Help => page_output(alloc, HELP),
         Command::Version => page_output(alloc, VERSION),
     }
@@ -144,6 +146,7 @@ fn carry_out<I: Source, O: Sink>(
 {
     match command {
         Command::Ledger => from_input(alloc, command, source, out),
+        Command::Check => from_input(alloc, command, source, out),
         Command::Help => print(out, HELP.as_bytes()),
         Command::Version => print(out, VERSION.as_bytes()),
     }

@@ -10,6 +10,8 @@ use srp_base::Seq;
 pub enum Command {
     /// `ledger`: reads a ledger file and prints its bookings.
     Ledger,
+    /// `check`: reads a scenario and prints its counts.
+    Check,
     /// `--help`: prints a page of help.
     Help,
     /// `--version`: prints the version.
@@ -31,6 +33,8 @@ fn command_of_word(word: &[u8]) -> Option<Command>
 {
     if word == b"ledger".as_slice() {
         Some(Command::Ledger)
+    } else if word == b"check".as_slice() {
+        Some(Command::Check)
     } else if word == b"--help".as_slice() {
         Some(Command::Help)
     } else if word == b"--version".as_slice() {

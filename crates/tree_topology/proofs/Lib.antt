@@ -12,3 +12,4 @@ pub mod ComponentSteps
 pub mod SpanSteps
 pub mod Refusals
 pub mod RouteFacts
+pub mod Pigeonholes

@@ -219,9 +219,3 @@ ends-peers count links tree n low high =
     let j : Joined links l.a.0 l.b.0 = link-joined links (n - 1) none (omega (arith, low, high)) in
     let k = joined-sym links l.a.0 l.b.0 j in
     ((port-leads count links tree l.a.0 l.b.0 j).0, (port-leads count links tree l.b.0 l.a.0 k).0, peer-of_port count links tree l.a.0 l.b.0 j, peer-of_port count links tree l.b.0 l.a.0 k)
-
--- what lies behind a port, apart: its far node, and what lies behind that node's other ports
-pub behind-far_apart : (count : ℕ) (links : List Link) → IsTree count links → (p q : EgressPort) → IsPort count links p → IsPort count links q → q.node.0 ≡ far_node links p → is_behind links q (far_node links p) ≡ false
-behind-far_apart count links tree p q h k e =
-    let F : ℕ → Type 0 = λ t. is_behind links q t ≡ false in
-    subst F e (behind-own count links tree q k.0)

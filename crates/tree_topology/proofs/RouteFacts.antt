@@ -212,8 +212,3 @@ pub step-down : (kinds : List NodeKind) (links : List Link) (parents depths : Li
 step-down kinds links parents depths x y up port ups downs downs' h m n ne le eu ep e =
     let whole : downs' ≡ downs ++ port_to links (get_or parents y 0) y ∷ [] = e ∙ ap (λ (t : EgressPort). downs ++ t ∷ []) (ep ∙ ap (λ (t : ℕ). port_to links t y) eu) in
     ap (λ (t : ℕ). ports_made links x t ups downs') eu ∙ made-down (length kinds) links parents depths ups downs downs' h.accepted.tree h.rooted x y m n ne le whole
-
--- the deeper of two different nodes isn't the first
-pub step-first : (kinds : List NodeKind) (links : List Link) (parents depths : List ℕ) (x y a b : ℕ) → IsRouted kinds links parents depths → IsNode (length kinds) y → x ≢ y → a ≡ get_or depths x 0 → b ≡ get_or depths y 0 → b ≤ a → x ≢ 1
-step-first kinds links parents depths x y a b h n ne ea eb le =
-    deeper-not_first (length kinds) links parents depths h.rooted x y n ne (omega (arith, ea, eb, le))

@@ -18,13 +18,6 @@ abbrev pub IsApartTo : List Link → ℕ → Type 0
 IsApartTo links n =
     (i : ℕ) (d : Link) → i < n → ¬ Joined (take i links) (get_or links i d).a.0 (get_or links i d).b.0
 
--- no node has a neighbour before the first link
-pub rows-empty : (count : ℕ) (rows : List (List ℕ)) → rows ≡ replicate (count + 1) [] → HasRows count [] rows
-rows-empty count rows e = record {
-  size = ap length e ∙ length-replicate (count + 1) [];
-  rows_are = (λ x d le. ap (λ (t : List (List ℕ)). get_or t x d) e ∙ get_or-replicate (count + 1) x [] d (omega arith));
-}
-
 neighbours-push : (links : List Link) (l : Link) (x : ℕ) → neighbours (links ++ l ∷ []) x ≡ neighbours links x ++ cons_option (far_end x l) []
 neighbours-push links l x = filter_map-append (far_end x) links (l ∷ [])
 

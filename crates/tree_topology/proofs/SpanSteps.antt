@@ -160,24 +160,6 @@ visit-end links parents row u n other e le all v j =
     let F : ℕ → Type 0 = λ t. get_or parents t 0 ≢ 0 in
     subst F at (all k.0 (omega (arith, lt, le)))
 
--- a search that has visited one node more
-pub search-step : (links : List Link) (parents order more longer : List ℕ) (i u : ℕ) → Grows parents order more longer → i < length order → u ≡ get_or order i 0 → ((k v : ℕ) → k < i → Joined links (get_or order k 0) v → get_or parents v 0 ≢ 0) → ((v : ℕ) → Joined links u v → get_or more v 0 ≢ 0) → (k v : ℕ) → k < i + 1 → Joined links (get_or longer k 0) v → get_or more v 0 ≢ 0
-search-step links parents order more longer i u g lt e before here k v less =
-    let J : (k : ℕ) → k < length order → (v : ℕ) → Joined links (get_or longer k 0) v → Joined links (get_or order k 0) v = λ k l v j. (let F : ℕ → Type 0 = λ t. Joined links t v in subst F (g.same k l) j) in
-    below_more (λ k. (v : ℕ) → Joined links (get_or longer k 0) v → get_or more v 0 ≢ 0) i (λ k l v j. g.reached v (before k v l (J k (omega (arith, l, lt)) v j))) (λ v j. here v (let F : ℕ → Type 0 = λ t. Joined links t v in subst F (sym e) (J i lt v j))) k less v
-
--- once all that are reached have been visited
-pub search-end : (count : ℕ) (links : List Link) (parents depths order : List ℕ) (n : ℕ) → IsSpan count links parents depths order → length order ≤ n → ((k v : ℕ) → k < n → Joined links (get_or order k 0) v → get_or parents v 0 ≢ 0) → IsClosed count links parents
-search-end count links parents depths order n h le all x v m q j =
-    let f = h.found x m q in
-    let F : ℕ → Type 0 = λ t. Joined links t v in
-    all f.0 v (omega (arith, f.1, le)) (subst F (sym f.2) j)
-
--- fewer are reached than the table has places
-pub search-bound : (count : ℕ) (links : List Link) (parents depths order : List ℕ) → IsSpan count links parents depths order → length order ≤ count + 1
-search-bound count links parents depths order h =
-    omega (arith, h.counted, h.parents_size, count_by-le-length (λ (p : ℕ). nat_lt 0 p) parents)
-
 -- whom node 1 is connected with is reached
 walk-reached : (count : ℕ) (links : List Link) (parents : List ℕ) (x : ℕ) (w : List ℕ) (y : ℕ) → HasKnownEnds count links → IsClosed count links parents → IsNode count x → get_or parents x 0 ≢ 0 → IsWalk (Joined links) x w y → get_or parents y 0 ≢ 0
 walk-reached count links parents x [] y known closed m q h = let F : ℕ → Type 0 = λ t. get_or parents t 0 ≢ 0 in subst F h q

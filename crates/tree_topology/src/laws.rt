@@ -6,14 +6,16 @@
 //!                                    --q2--> behind q2
 //! ```
 
-ghost use Rattle.std.specs.Prelude.{◌≡◌, ◌≢◌, ◌⊎◌, ◌↔◌, ◌<◌, ℕ, List, [], ◌∷◌, IsTrue, not, length};
+ghost use Rattle.std.specs.Prelude.{◌≡◌, ◌≢◌, ◌⊎◌, ◌↔◌, ◌+◌, ◌*◌, ◌<◌, ◌≤◌, ℕ, List, [], ◌∷◌, IsTrue, not, length};
 ghost use Rattle.srp_base.specs.declared.numbers.EgressPort.{EgressPort};
 ghost use Rattle.tree_topology.specs.declared.graph.TreeErr.{TreeErr};
 ghost use Rattle.tree_topology.specs.declared.graph.TreeErr.TheVariants.{NoMemory};
 ghost use Rattle.tree_topology.specs.Topology.{Topology, HasNode, HasLink, HasPort, IsSound};
-ghost use Rattle.tree_topology.specs.Ports.{IsPortPath, LiesBehind, far_node, peer_of, ends_of};
-ghost use Rattle.tree_topology.specs.Walk.{path_between, is_behind, count_behind};
-ghost use Rattle.tree_topology.specs.Refusal.{IsRefusal};
+ghost use Rattle.tree_topology.specs.declared.graph.Link.{Link};
+ghost use Rattle.tree_topology.specs.Graph.{IsNode, Connected, IsGraph, IsTree};
+ghost use Rattle.tree_topology.specs.Ports.{neighbours, IsPortPath, LiesBehind, far_node, peer_of, ends_of};
+ghost use Rattle.tree_topology.specs.Walk.{component, path_between, is_behind, count_behind};
+ghost use Rattle.tree_topology.specs.Refusal.{HasNoLoop, IsRefusal};
 
 /// At most one refusal fits nodes and links, and none fits an accepted tree; want of memory aside.
 pub fn one_refusal()
@@ -85,4 +87,23 @@ pub fn behind_falls()
     ensures { (tree : Topology) (p q : EgressPort) → IsSound tree → HasPort tree p → HasPort tree q
         → q.node.0 ≡ far_node tree.links p → q ≢ peer_of tree.links p
         → count_behind (length tree.kinds) tree.links q < count_behind (length tree.kinds) tree.links p }
+{}
+
+/// Nodes are in one component exactly where links connect them.
+pub fn components()
+    ensures { (links : List Link) (x y : ℕ) → (component links x ≡ component links y) ↔ Connected links x y }
+{}
+
+/// A graph has few links for its nodes: a node at most one for each node and one, all together at most
+/// as many as pairs of such numbers.
+pub fn few_links()
+    ensures node { (count : ℕ) (links : List Link) (x : ℕ) → IsGraph count links → length (neighbours links x) ≤ count + 1 }
+    ensures all { (count : ℕ) (links : List Link) → IsGraph count links → length links ≤ (count + 1) * (count + 1) }
+{}
+
+/// In a tree no link closes a loop, and all nodes are connected.
+pub fn one_component()
+    ensures no_loop { (count : ℕ) (links : List Link) → IsTree count links → HasNoLoop links }
+    ensures connected { (count : ℕ) (links : List Link) (x y : ℕ) → IsTree count links → IsNode count x → IsNode count y
+        → Connected links x y }
 {}

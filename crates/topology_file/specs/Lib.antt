@@ -1,0 +1,4 @@
+pub mod Entries
+pub mod First
+pub mod Plan
+pub mod Scenario

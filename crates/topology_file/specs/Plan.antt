@@ -1,0 +1,16 @@
+-- What a scenario holds.
+use Rattle.std.specs.Prelude.{ℕ, Bool, List}
+use Rattle.srp_base.specs.declared.numbers.Cs.{Cs}
+use Rattle.tree_topology.specs.Topology.{Topology}
+use Rattle.topology_file.specs.declared.entries.NodeEntry.{NodeEntry}
+use Rattle.topology_file.specs.declared.entries.LinkEntry.{LinkEntry}
+use Rattle.topology_file.specs.declared.entries.EventEntry.{EventEntry}
+
+pub record Plan : Type 0 where
+  pub ticks : ℕ
+  pub leave_time : Cs
+  pub periodic : Bool
+  pub tree : Topology
+  pub nodes : List NodeEntry
+  pub links : List LinkEntry
+  pub events : List EventEntry

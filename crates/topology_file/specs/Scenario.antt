@@ -1,0 +1,258 @@
+-- The scenario of a table, or the first rule that it breaks, with the first entry that breaks it.
+use Rattle.std.specs.Prelude.{◌≡◌, ◌≤◌, ◌<◌, ◌-◌, All, ℕ, ◌+◌, ◌*◌, ◌==◌, Bool, true, false, not, ◌&&◌, ◌||◌, nat_le, nat_lt, nat_eq, if◌then◌else◌, List, [], ◌∷◌, length, map, codes, Option, Some, None, option_map, option_and_then, Result, Ok}
+use Rattle.std.specs.Cmp.Lexicographic.{pointwise}
+use Rattle.std.specs.List.{list_any}
+use Rattle.std.proofs.Common.{get_or}
+use Rattle.tree_topology.specs.Graph.{IsNode}
+use Rattle.toml.specs.Data.{Members}
+use Rattle.toml_rules.specs.declared.rules.RuleErr.{RuleErr}
+use Rattle.toml_rules.specs.declared.rules.RuleErr.TheVariants as rules
+use Rattle.tree_topology.specs.declared.graph.TreeErr.TheVariants as refusals
+use Rattle.toml_rules.specs.Fields.{number, number_or, within, truth_or, tables, has_only}
+use Rattle.toml_rules.specs.Rules.{◌>>=◌, needs, holds}
+use Rattle.tree_topology.specs.declared.graph.Link.{Link}
+use Rattle.tree_topology.specs.declared.graph.NodeKind.{NodeKind}
+use Rattle.tree_topology.specs.declared.graph.NodeKind.TheVariants.{Station, Bridge}
+use Rattle.tree_topology.specs.declared.graph.TreeErr.{TreeErr}
+use Rattle.tree_topology.specs.declared.graph.TreeErr.TheVariants.{UnknownNode, SelfLink, SecondLink, Loop, Unconnected, StationWithLinks, TooManyLinks}
+use Rattle.tree_topology.specs.Ports.{neighbours}
+use Rattle.tree_topology.specs.Topology.{Topology}
+use Rattle.tree_topology.specs.Walk.{component}
+use Rattle.topology_file.specs.declared.entries.NodeEntry.{NodeEntry}
+use Rattle.topology_file.specs.declared.entries.LinkEntry.{LinkEntry}
+use Rattle.topology_file.specs.declared.entries.EventEntry.{EventEntry}
+use Rattle.topology_file.specs.declared.entries.EventKind.{EventKind}
+use Rattle.topology_file.specs.declared.entries.EventKind.TheVariants as kinds
+use Rattle.topology_file.specs.declared.entries.LinkForm.{LinkForm}
+use Rattle.topology_file.specs.declared.entries.EventForm.{EventForm}
+use Rattle.topology_file.specs.declared.entries.KindForm.{KindForm}
+use Rattle.topology_file.specs.declared.entries.KindForm.TheVariants as forms
+use Rattle.topology_file.specs.First.{fails_at, none_at, each, first_where}
+use Rattle.topology_file.specs.Entries.{node_entry, link_form, event_form}
+use Rattle.topology_file.specs.Plan.{Plan}
+
+-- ---- nodes
+
+abbrev pub is_station : NodeKind → Bool
+is_station Station = true
+is_station Bridge = false
+
+-- the number of the node of this name, where the nodes are numbered from n
+abbrev pub node_from : ℕ → List ℕ → List NodeEntry → Option ℕ
+node_from n name [] = None
+node_from n name (x ∷ nodes) = if pointwise nat_eq x.name name then Some n else node_from (n + 1) name nodes
+
+-- the number of the station of this name
+abbrev pub station_from : ℕ → List ℕ → List NodeEntry → Option ℕ
+station_from n name [] = None
+station_from n name (x ∷ nodes) =
+    if pointwise nat_eq x.name name then (if is_station x.kind then Some n else None) else station_from (n + 1) name nodes
+
+abbrev pub has_name_of : List NodeEntry → NodeEntry → Bool
+has_name_of earlier x = list_any (λ y. pointwise nat_eq y.name x.name) earlier
+
+abbrev pub has_id_of : List NodeEntry → NodeEntry → Bool
+has_id_of earlier x = list_any (λ y. y.id.0 == x.id.0) earlier
+
+-- 2 to 64 nodes, and 400,000 nodes times ticks at most
+abbrev pub is_small : ℕ → List NodeEntry → Bool
+is_small ticks nodes =
+    nat_le 2 (length nodes) && nat_le (length nodes) 64 && nat_le (length nodes * ticks) 400000
+
+abbrev pub nodes_of : ℕ → List Members → Result (List NodeEntry) RuleErr
+nodes_of ticks entries = do
+  nodes ← each 4 node_entry 1 entries
+  _ ← holds 5 (is_small ticks nodes)
+  _ ← none_at 6 (first_where has_name_of [] nodes)
+  _ ← none_at 7 (first_where has_id_of [] nodes)
+  Ok nodes
+
+-- ---- links
+
+abbrev pub ends_of_entry : LinkEntry → Link
+ends_of_entry l = record { a = l.a; b = l.b }
+
+abbrev pub tree_links : List LinkEntry → List Link
+tree_links links = map ends_of_entry links
+
+-- the link joins these two nodes
+abbrev pub joins_both : ℕ → ℕ → LinkEntry → Bool
+joins_both x y l = l.a.0 == x && l.b.0 == y || l.a.0 == y && l.b.0 == x
+
+-- the link of a form, with the numbers of its ends
+abbrev pub link_entry : List NodeEntry → ℕ → LinkForm → Option LinkEntry
+link_entry nodes n form =
+    option_and_then (λ a. option_and_then (λ b.
+    Some (record { a = record { 0 = a }; b = record { 0 = b }; rate = form.rate; delta_a = form.delta_a; delta_b = form.delta_b; latency = form.latency }))
+    (node_from 1 form.b nodes)) (node_from 1 form.a nodes)
+
+abbrev pub is_self_link : List LinkEntry → LinkEntry → Bool
+is_self_link earlier l = l.a.0 == l.b.0
+
+abbrev pub is_second_link : List LinkEntry → LinkEntry → Bool
+is_second_link earlier l = list_any (joins_both l.a.0 l.b.0) earlier
+
+-- earlier links connect its ends already
+abbrev pub closes_loop : List LinkEntry → LinkEntry → Bool
+closes_loop earlier l = component (tree_links earlier) l.a.0 == component (tree_links earlier) l.b.0
+
+-- ---- the tree, node by node; the node behind so many earlier ones
+
+abbrev pub is_unconnected : List LinkEntry → List NodeEntry → NodeEntry → Bool
+is_unconnected links earlier x =
+    not (component (tree_links links) 1 == component (tree_links links) (length earlier + 1))
+
+abbrev pub is_stray_station : List LinkEntry → List NodeEntry → NodeEntry → Bool
+is_stray_station links earlier x =
+    is_station x.kind && not (length (neighbours (tree_links links) (length earlier + 1)) == 1)
+
+abbrev pub is_crowded : List Link → List NodeEntry → NodeEntry → Bool
+is_crowded links earlier x = nat_lt 16 (length (neighbours links (length earlier + 1)))
+
+abbrev pub topology_of : List NodeEntry → List LinkEntry → Topology
+topology_of nodes links = record { kinds = map (λ x. x.kind) nodes; links = tree_links links }
+
+-- the rule that a refusal of the tree breaks
+abbrev pub rule_of : TreeErr → RuleErr
+rule_of (UnknownNode n) = fails_at 9 n.0
+rule_of (SelfLink n) = fails_at 10 n.0
+rule_of (SecondLink n) = fails_at 11 n.0
+rule_of (Loop n) = fails_at 12 n.0
+rule_of (Unconnected x) = fails_at 13 x.0
+rule_of (StationWithLinks x) = fails_at 14 x.0
+rule_of (TooManyLinks x) = fails_at 15 x.0
+rule_of refusals.NoMemory = rules.NoMemory
+
+abbrev pub tree_of : List NodeEntry → List LinkEntry → Result Topology RuleErr
+tree_of nodes links = do
+  _ ← none_at 12 (first_where closes_loop [] links)
+  _ ← none_at 13 (first_where (is_unconnected links) [] nodes)
+  _ ← none_at 14 (first_where (is_stray_station links) [] nodes)
+  Ok (topology_of nodes links)
+
+abbrev pub links_of : List NodeEntry → List Members → Result (List LinkEntry) RuleErr
+links_of nodes entries = do
+  forms ← each 8 link_form 1 entries
+  links ← each 9 (link_entry nodes) 1 forms
+  _ ← none_at 10 (first_where is_self_link [] links)
+  _ ← none_at 11 (first_where is_second_link [] links)
+  Ok links
+
+-- ---- events
+
+-- the first of these ticks, numbered from n, that is below the one before it
+abbrev pub first_fall : ℕ → ℕ → List ℕ → Option ℕ
+first_fall n before [] = None
+first_fall n before (t ∷ ticks) = if nat_lt t before then Some n else first_fall (n + 1) t ticks
+
+abbrev pub form_ticks : List EventForm → List ℕ
+form_ticks forms = map (λ e. e.tick) forms
+
+abbrev pub event_ticks : List EventEntry → List ℕ
+event_ticks events = map (λ e. e.tick) events
+
+-- two nodes that a link joins
+abbrev pub joined_from : List NodeEntry → List LinkEntry → List ℕ → List ℕ → Option (ℕ × ℕ)
+joined_from nodes links from to =
+    option_and_then (λ x. option_and_then (λ y. if list_any (joins_both x y) links then Some (x, y) else None)
+    (node_from 1 to nodes)) (node_from 1 from nodes)
+
+abbrev pub kind_entry : List NodeEntry → List LinkEntry → KindForm → Option EventKind
+kind_entry nodes links (forms.Declare station vid) =
+    option_map (λ x. kinds.Declare (record { 0 = x }) vid) (station_from 1 station nodes)
+kind_entry nodes links (forms.Withdraw station vid) =
+    option_map (λ x. kinds.Withdraw (record { 0 = x }) vid) (station_from 1 station nodes)
+kind_entry nodes links (forms.Lose from to index) =
+    option_map (λ p. kinds.Lose (record { 0 = p.0 }) (record { 0 = p.1 }) index) (joined_from nodes links from to)
+kind_entry nodes links (forms.Repeat from to index) =
+    option_map (λ p. kinds.Repeat (record { 0 = p.0 }) (record { 0 = p.1 }) index) (joined_from nodes links from to)
+
+abbrev pub event_entry : List NodeEntry → List LinkEntry → ℕ → EventForm → Option EventEntry
+event_entry nodes links n form =
+    option_map (λ kind. record { tick = form.tick; kind = kind }) (kind_entry nodes links form.kind)
+
+abbrev pub events_of : ℕ → List NodeEntry → List LinkEntry → List Members → Result (List EventEntry) RuleErr
+events_of ticks nodes links entries = do
+  forms ← each 20 (event_form ticks) 1 entries
+  _ ← none_at 21 (first_fall 1 0 (form_ticks forms))
+  each 22 (event_entry nodes links) 1 forms
+
+-- ---- the file
+
+abbrev pub file_keys : List (List ℕ)
+file_keys = codes "ticks" ∷ codes "leave_time" ∷ codes "periodic" ∷ codes "node" ∷ codes "link" ∷ codes "event" ∷ []
+
+abbrev pub ticks_at : Members → Option ℕ
+ticks_at ms = within 1 12000 (number (codes "ticks") ms)
+
+-- LeaveTime in cs, 60 where none is given
+abbrev pub leave_time_at : Members → Option ℕ
+leave_time_at ms = within 60 100 (number_or (codes "leave_time") 60 ms)
+
+-- the scenario of these times and entries
+abbrev pub plan_of : ℕ → ℕ → Bool → List Members → List Members → List Members → Result Plan RuleErr
+plan_of ticks leave_time periodic node_tables link_tables event_tables = do
+  nodes ← nodes_of ticks node_tables
+  links ← links_of nodes link_tables
+  tree ← tree_of nodes links
+  _ ← none_at 15 (first_where (is_crowded tree.links) [] nodes)
+  events ← events_of ticks nodes links event_tables
+  Ok (record { ticks = ticks; leave_time = record { 0 = leave_time }; periodic = periodic; tree = tree; nodes = nodes; links = links; events = events })
+
+-- The scenario of a table, or the first rule that fails, with its first failing entry:
+--  1  `ticks` is 1 to 12,000
+--  2  the keys are known; nodes, links and events are arrays of tables
+--  3  `leave_time` is 60 to 100, `periodic` a truth value
+--  4  each node has its form                  5  there are 2 to 64 nodes, and not too many ticks
+--  6  node names differ                       7  node ids differ
+--  8  each link has its form                  9  each link's names are nodes
+-- 10  no link joins a node with itself       11  no two links join the same nodes
+-- 12  no link closes a loop                  13  each node is connected with node 1
+-- 14  each station has one link              15  each node has at most 16 links
+-- 20  each event has its form                21  event ticks don't fall
+-- 22  the names in events are stations, or nodes that a link joins
+abbrev pub scenario_of : Members → Result Plan RuleErr
+scenario_of ms = do
+  ticks ← needs 1 (ticks_at ms)
+  _ ← holds 2 (has_only file_keys ms)
+  node_tables ← needs 2 (tables (codes "node") ms)
+  link_tables ← needs 2 (tables (codes "link") ms)
+  event_tables ← needs 2 (tables (codes "event") ms)
+  leave_time ← needs 3 (leave_time_at ms)
+  periodic ← needs 3 (truth_or (codes "periodic") false ms)
+  plan_of ticks leave_time periodic node_tables link_tables event_tables
+
+-- a station
+abbrev pub IsStationNumber : List NodeEntry → ℕ → Type 0
+IsStationNumber nodes x = IsNode (length nodes) x × ((d : NodeEntry) → is_station (get_or nodes (x - 1) d).kind ≡ true)
+
+-- two nodes that a link joins
+abbrev pub AreJoinedNumbers : List NodeEntry → List LinkEntry → ℕ → ℕ → Type 0
+AreJoinedNumbers nodes links x y =
+    IsNode (length nodes) x × IsNode (length nodes) y × (list_any (joins_both x y) links ≡ true)
+
+-- the numbers in an event are a station, or nodes that a link joins
+abbrev pub IsKnownKind : List NodeEntry → List LinkEntry → EventKind → Type 0
+IsKnownKind nodes links (kinds.Declare station vid) = IsStationNumber nodes station.0
+IsKnownKind nodes links (kinds.Withdraw station vid) = IsStationNumber nodes station.0
+IsKnownKind nodes links (kinds.Lose from to index) = AreJoinedNumbers nodes links from.0 to.0
+IsKnownKind nodes links (kinds.Repeat from to index) = AreJoinedNumbers nodes links from.0 to.0
+
+-- what a scenario keeps: rules 1, 3, 5 to 15 and 20 to 22 on its values, and that the tree is
+-- that of the nodes and links
+pub record KeepsRules (p : Plan) : Type 0 where
+  pub ticks : (1 ≤ p.ticks) × (p.ticks ≤ 12000)
+  pub leave_time : (60 ≤ p.leave_time.0) × (p.leave_time.0 ≤ 100)
+  pub small : is_small p.ticks p.nodes ≡ true
+  pub shares : All (λ l. l.delta_a + l.delta_b ≤ 90) p.links
+  pub known_ends : All (λ l. IsNode (length p.nodes) l.a.0 × IsNode (length p.nodes) l.b.0) p.links
+  pub names : first_where has_name_of [] p.nodes ≡ None
+  pub ids : first_where has_id_of [] p.nodes ≡ None
+  pub no_self : first_where is_self_link [] p.links ≡ None
+  pub no_second : first_where is_second_link [] p.links ≡ None
+  pub tree : tree_of p.nodes p.links ≡ Ok p.tree
+  pub uncrowded : first_where (is_crowded p.tree.links) [] p.nodes ≡ None
+  pub events_many : length p.events ≤ 10000
+  pub events_within : All (λ t. t < p.ticks) (event_ticks p.events)
+  pub events_order : first_fall 1 0 (event_ticks p.events) ≡ None
+  pub events_known : All (λ e. IsKnownKind p.nodes p.links e.kind) p.events

@@ -1,0 +1,145 @@
+//! The form of each entry: its keys, their values and their defaults.
+
+ghost use Rattle.std.specs.Prelude.{◌≡◌, ◌+◌, ◌≤◌, Option, option_map, IfSome, IfOk};
+ghost use Rattle.std.specs.Option.{option_and_then, option_copied};
+ghost use Rattle.toml.specs.View.{view, table_view};
+ghost use Rattle.topology_file.specs.Entries.{is_name_char as is_name_char_lem, is_name as is_name_lem, name_at, kind_of_text, kind_at, id_at, rate_at, shares_at, latency_at, vid_at, index_at, tick_at};
+ghost use Rattle.std.specs.List.{list_all};
+ghost use Rattle.toml_rules.specs.Fields.{number_or as number_or_lem, within as within_lem};
+
+use srp_base::{Percent, Rate, Vid, read_hex16};
+use toml::{Table, Value};
+use toml_rules::{number, number_or, text, value_at, within};
+use tree_topology::NodeKind;
+
+/// a to z, 0 to 9, `-` and `_`.
+fn is_name_char(c: u8) -> bool
+    ensures { result ≡ is_name_char_lem c }
+{
+    97 <= c && c <= 122 || 48 <= c && c <= 57 || c == 45 || c == 95
+}
+
+fn has_name_chars(word: &[u8]) -> bool
+    ensures { result ≡ list_all is_name_char_lem word.now }
+{
+    word.iter().all(|c| is_name_char(*c))
+}
+
+/// 1 to 32 such characters.
+fn is_name(word: &[u8]) -> bool
+    ensures { result ≡ is_name_lem word.now }
+{
+    1 <= word.len() && word.len() <= 32 && has_name_chars(word)
+}
+
+/// The name at a key.
+pub(crate) fn read_name<'a>(table: &'a Table, key: &str) -> Option<&'a str>
+    ensures { option_copied result ≡ name_at key.now (table_view table.now) }
+{
+    let word = text(table, key)?;
+    if is_name(word.as_bytes()) {
+        Some(word)
+    } else {
+        None
+    }
+}
+
+fn kind_of(word: &str) -> Option<NodeKind>
+    ensures { result ≡ kind_of_text word.now }
+{
+    match word {
+        "station" => Some(NodeKind::Station),
+        "bridge" => Some(NodeKind::Bridge),
+        _ => None,
+    }
+}
+
+pub(crate) fn read_kind(table: &Table) -> Option<NodeKind>
+    ensures { result ≡ kind_at (table_view table.now) }
+{
+    kind_of(text(table, "kind")?)
+}
+
+/// The id of sixteen hexadecimal digits, or the entry's number where there is none.
+pub(crate) fn read_id(number: usize, table: &Table) -> Option<u64>
+    ensures { result ≡ id_at number (table_view table.now) }
+{
+    match value_at(table, "id") {
+        Some(value) => read_hex16(value.as_str()?),
+        None => Some(number as u64),
+    }
+}
+
+pub(crate) fn read_rate(table: &Table) -> Option<Rate>
+    ensures { result ≡ rate_at (table_view table.now) }
+{
+    Rate::of_mbit(number_or(table, "rate", 100)?)
+}
+
+fn read_share(table: &Table, key: &str, default: u64) -> Option<Percent>
+    ensures { result ≡ within_lem 0 90 (number_or_lem key.now default (table_view table.now)) }
+{
+    percent(within(0, 90, number_or(table, key, default)))
+}
+
+/// A number that is known to be a percentage.
+fn percent(number: Option<u64>) -> Option<Percent>
+    requires { IfSome number (λ n. n ≤ 90) }
+    ensures { result ≡ number }
+{
+    match number {
+        Some(n) => Percent::new(n),
+        None => None,
+    }
+}
+
+/// The shares of class A and class B.
+pub(crate) fn read_shares(table: &Table) -> Option<(Percent, Percent)>
+    ensures shares { result ≡ shares_at (table_view table.now) }
+    ensures together { IfSome result (λ s. s.0 + s.1 ≤ 90) }
+{
+    let delta_a = read_share(table, "delta_a", 75)?;
+    let delta_b = read_share(table, "delta_b", 0)?;
+    if delta_a.get() + delta_b.get() <= 90 {
+        Some((delta_a, delta_b))
+    } else {
+        None
+    }
+}
+
+pub(crate) fn read_latency(table: &Table) -> Option<u32>
+    ensures { result ≡ latency_at (table_view table.now) }
+{
+    match within(0, 4_294_967_295, number_or(table, "latency", 0)) {
+        Some(n) => Some(n as u32),
+        None => None,
+    }
+}
+
+pub(crate) fn read_vid(table: &Table) -> Option<Vid>
+    ensures { result ≡ vid_at (table_view table.now) }
+{
+    match within(1, 4_094, number(table, "vid")) {
+        Some(n) => Vid::new(n as u16),
+        None => None,
+    }
+}
+
+pub(crate) fn read_index(table: &Table) -> Option<u32>
+    ensures { result ≡ index_at (table_view table.now) }
+{
+    match within(0, 65_535, number(table, "index")) {
+        Some(n) => Some(n as u32),
+        None => None,
+    }
+}
+
+/// The tick of an event, below the scenario's ticks.
+pub(crate) fn read_tick(ticks: u64, table: &Table) -> Option<u64>
+    ensures { result ≡ tick_at ticks (table_view table.now) }
+{
+    match number(table, "tick") {
+        Some(tick) => { if tick < ticks { Some(tick) } else { None } }
+        None => None,
+    }
+}

@@ -1,0 +1,171 @@
+//! The links of a scenario and the tree that they make: rules 8 to 15.
+
+ghost use Rattle.std.specs.Prelude.{◌≡◌, ◌+◌, ◌==◌, ◌<◌, ◌≤◌, [], map, length, All, Option, None, option_map, IfOk, IfSome, OnOk};
+ghost use Rattle.std.specs.List.{list_any};
+ghost use Rattle.toml.specs.View.{table_view};
+ghost use Rattle.toml_rules.specs.Rules.{Reads};
+ghost use Rattle.tree_topology.specs.Graph.{IsNode};
+ghost use Rattle.topology_file.specs.Entries.{link_form};
+ghost use Rattle.topology_file.specs.First.{each, first_where};
+ghost use Rattle.topology_file.specs.Scenario.{joins_both as joins_both_lem, link_entry, is_self_link as is_self_link_lem, is_second_link as is_second_link_lem, links_of};
+
+use crate::entries::{LinkEntry, LinkForm, NodeEntry};
+use crate::first::{fails_at, none_at};
+use crate::forms::{read_latency, read_name, read_rate, read_shares};
+use crate::nodes::{copy_text, node_named};
+use srp_base::NoMemory;
+use std::alloc::Global;
+use toml::Table;
+use toml_rules::{RuleErr, has_only};
+
+const LINK_KEYS: [&str; 6] = ["a", "b", "rate", "delta_a", "delta_b", "latency"];
+
+/// A link with the names of its ends, where the entry has its form.
+fn read_link(alloc: Global, table: &Table) -> Result<Option<LinkForm>, NoMemory>
+    ensures link { IfOk result (λ link. link ≡ link_form 0 (table_view table.now)) }
+    ensures shares { IfOk result (λ link. IfSome link (λ l. l.delta_a + l.delta_b ≤ 90)) }
+{
+    if !has_only(table, &LINK_KEYS) {
+        return Ok(None);
+    }
+    let Some(a) = read_name(table, "a") else {
+        return Ok(None);
+    };
+    let Some(b) = read_name(table, "b") else {
+        return Ok(None);
+    };
+    let Some(rate) = read_rate(table) else {
+        return Ok(None);
+    };
+    let Some((delta_a, delta_b)) = read_shares(table) else {
+        return Ok(None);
+    };
+    let Some(latency) = read_latency(table) else {
+        return Ok(None);
+    };
+    let a = copy_text(alloc, a)?;
+    let b = copy_text(alloc, b)?;
+    Ok(Some(LinkForm {
+        a,
+        b,
+        rate,
+        delta_a,
+        delta_b,
+        latency,
+    }))
+}
+
+/// Rule 8: each link has its form.
+fn read_forms(alloc: Global, entries: &[&Table]) -> Result<Vec<LinkForm>, RuleErr>
+    ensures forms { Reads (λ v. v.items) result (each 8 link_form 1 (map (λ t. table_view t.now) entries.now)) }
+    ensures shares { IfOk result (λ v. All (λ l. l.delta_a + l.delta_b ≤ 90) v.items) }
+{
+    let mut forms = Vec::new(alloc);
+    for (i, table) in entries.iter().enumerate() {
+        let form = read_link(alloc, table)?;
+        match form {
+            Some(form) => forms.push(form)?,
+            None => return Err(fails_at(8, i + 1)),
+        }
+    }
+    Ok(forms)
+}
+
+/// The link of a form, where the names of its ends are nodes.
+fn name_ends(nodes: &[NodeEntry], form: &LinkForm) -> Option<LinkEntry>
+    requires { length nodes.now ≤ 64 }
+    ensures link { result ≡ link_entry nodes.now 0 form.now }
+    ensures shares { IfSome result (λ l. l.delta_a + l.delta_b ≡ form.now.delta_a + form.now.delta_b) }
+    ensures known { IfSome result (λ l. IsNode (length nodes.now) l.a.0 × IsNode (length nodes.now) l.b.0) }
+{
+    let a = node_named(nodes, &form.a)?;
+    let b = node_named(nodes, &form.b)?;
+    Some(LinkEntry {
+        a,
+        b,
+        rate: form.rate,
+        delta_a: form.delta_a,
+        delta_b: form.delta_b,
+        latency: form.latency,
+    })
+}
+
+/// Rule 9: the names of each link's ends are nodes.
+fn name_links(
+    alloc: Global,
+    nodes: &[NodeEntry],
+    forms: &[LinkForm],
+) -> Result<Vec<LinkEntry>, RuleErr>
+    requires few { length nodes.now ≤ 64 }
+    requires shares { All (λ l. l.delta_a + l.delta_b ≤ 90) forms.now }
+    ensures shares { IfOk result (λ v. All (λ l. l.delta_a + l.delta_b ≤ 90) v.items) }
+    ensures links { Reads (λ v. v.items) result (each 9 (link_entry nodes.now) 1 forms.now) }
+    ensures known { IfOk result (λ v. All (λ l. IsNode (length nodes.now) l.a.0 × IsNode (length nodes.now) l.b.0) v.items) }
+{
+    let mut links = Vec::new(alloc);
+    for (i, form) in forms.iter().enumerate() {
+        match name_ends(nodes, form) {
+            Some(link) => links.push(link)?,
+            None => return Err(fails_at(9, i + 1)),
+        }
+    }
+    Ok(links)
+}
+
+/// The first link of a node with itself.
+fn self_link(links: &[LinkEntry]) -> Option<usize>
+    ensures { result ≡ first_where is_self_link_lem [] links.now }
+{
+    for (i, link) in links.iter().enumerate() {
+        if link.a.0 == link.b.0 {
+            return Some(i + 1);
+        }
+    }
+    None
+}
+
+/// Whether a link joins these two nodes.
+pub(crate) fn joins_both(x: u16, y: u16, link: &LinkEntry) -> bool
+    ensures { result ≡ joins_both_lem x y link.now }
+{
+    link.a.0 == x && link.b.0 == y || link.a.0 == y && link.b.0 == x
+}
+
+/// Whether one of the links joins these two nodes.
+pub(crate) fn are_joined(links: &[LinkEntry], x: u16, y: u16) -> bool
+    ensures { result ≡ list_any (joins_both_lem x y) links.now }
+{
+    links.iter().any(|link| joins_both(x, y, link))
+}
+
+/// The first link that joins the same nodes as an earlier one.
+fn second_link(links: &[LinkEntry]) -> Option<usize>
+    ensures { result ≡ first_where is_second_link_lem [] links.now }
+{
+    for (i, link) in links.iter().enumerate() {
+        if are_joined(&links[..i], link.a.0, link.b.0) {
+            return Some(i + 1);
+        }
+    }
+    None
+}
+
+/// The links of the entries: rules 8 to 11.
+pub(crate) fn read_links(
+    alloc: Global,
+    nodes: &[NodeEntry],
+    entries: &[&Table],
+) -> Result<Vec<LinkEntry>, RuleErr>
+    requires { length nodes.now ≤ 64 }
+    ensures links { Reads (λ v. v.items) result (links_of nodes.now (map (λ t. table_view t.now) entries.now)) }
+    ensures known { IfOk result (λ v. All (λ l. IsNode (length nodes.now) l.a.0 × IsNode (length nodes.now) l.b.0) v.items) }
+    ensures shares { IfOk result (λ v. All (λ l. l.delta_a + l.delta_b ≤ 90) v.items) }
+    ensures no_self { IfOk result (λ v. first_where is_self_link_lem [] v.items ≡ None) }
+    ensures no_second { IfOk result (λ v. first_where is_second_link_lem [] v.items ≡ None) }
+{
+    let forms = read_forms(alloc, entries)?;
+    let links = name_links(alloc, nodes, &forms)?;
+    none_at(10, self_link(&links))?;
+    none_at(11, second_link(&links))?;
+    Ok(links)
+}

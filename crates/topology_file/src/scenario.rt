@@ -1,0 +1,157 @@
+//! A scenario: a network, its times, and what happens in it.
+
+ghost use Rattle.std.specs.Prelude.{◌≡◌, ◌≤◌, [], map, length, All, None, IfOk};
+ghost use Rattle.toml.specs.View.{table_view};
+ghost use Rattle.toml_rules.specs.Fields.{tables as tables_lem};
+ghost use Rattle.toml_rules.specs.Rules.{Reads, needs as needs_lem};
+ghost use Rattle.topology_file.specs.First.{first_where};
+ghost use Rattle.topology_file.specs.Scenario.{KeepsRules, ticks_at, leave_time_at, plan_of, scenario_of};
+
+use crate::entries::{EventEntry, LinkEntry, NodeEntry};
+use crate::events::read_events;
+use crate::first::none_at;
+use crate::links::read_links;
+use crate::nodes::read_nodes;
+use crate::tree::{crowded_node, make_tree};
+use srp_base::{Cs, Seq};
+use std::alloc::Global;
+use std::marker::Model;
+use toml::Table;
+use toml_rules::{RuleErr, has_only, holds, needs, number, number_or, tables, truth_or, within};
+use tree_topology::Tree;
+
+/// A scenario. It runs for so many ticks of 1 cs.
+#[derive(Drop)]
+pub struct Scenario {
+    pub ticks: u64,
+    pub leave_time: Cs,
+    pub periodic: bool,
+    pub tree: Tree,
+    pub nodes: Seq<NodeEntry>,
+    pub links: Seq<LinkEntry>,
+    pub events: Seq<EventEntry>,
+}
+
+impl Model for Scenario {
+    ghost use Rattle.topology_file.specs.Plan.{Plan};
+    ghost use Rattle.topology_file.specs.Scenario.{KeepsRules};
+
+    ghost Value = { Plan };
+
+    ghost view = { λ s. record {
+      ticks = s.ticks;
+      leave_time = s.leave_time;
+      periodic = s.periodic;
+      tree = s.tree;
+      nodes = s.nodes;
+      links = s.links;
+      events = s.events;
+    } };
+
+    ghost invariant = { λ s. KeepsRules (record {
+      ticks = s.ticks;
+      leave_time = s.leave_time;
+      periodic = s.periodic;
+      tree = s.tree;
+      nodes = s.nodes;
+      links = s.links;
+      events = s.events;
+    }) };
+}
+
+impl Scenario {
+    /// Every scenario keeps the rules of its file, and its tree is that of its nodes and links.
+    pub fn keeps_rules(&self)
+        ensures { KeepsRules self.now }
+    {
+        let _ = &self.nodes;
+    }
+}
+
+fn read_ticks(table: &Table) -> Option<u64>
+    ensures { result ≡ ticks_at (table_view table.now) }
+{
+    within(1, 12_000, number(table, "ticks"))
+}
+
+fn read_leave_time(table: &Table) -> Option<u64>
+    ensures { result ≡ leave_time_at (table_view table.now) }
+{
+    within(60, 100, number_or(table, "leave_time", 60))
+}
+
+/// Rule 2 at a key: the tables of an array of tables.
+fn read_tables<'a>(alloc: Global, table: &'a Table, key: &str) -> Result<Vec<&'a Table>, RuleErr>
+    ensures { Reads (λ v. map (λ t. table_view t.now) v.items) result (needs_lem 2 (tables_lem key.now (table_view table.now))) }
+{
+    match tables(alloc, table, key) {
+        Ok(Some(entries)) => Ok(entries),
+        Ok(None) => Err(RuleErr::Rule { rule: 2, entry: 0 }),
+        Err(_) => Err(RuleErr::NoMemory),
+    }
+}
+
+/// The times of a scenario.
+#[derive(Clone, Copy)]
+struct Times {
+    ticks: u64,
+    leave_time: u64,
+    periodic: bool,
+}
+
+/// The scenario of these times and entries: rules 4 to 22.
+fn read_plan(
+    alloc: Global,
+    times: Times,
+    node_tables: &[&Table],
+    link_tables: &[&Table],
+    event_tables: &[&Table],
+) -> Result<Scenario, RuleErr>
+    requires some_ticks { 1 ≤ times.ticks }
+    requires ticks { times.ticks ≤ 12000 }
+    requires least_leave { 60 ≤ times.leave_time }
+    requires leave { times.leave_time ≤ 100 }
+    ensures { Reads (λ s. s) result (plan_of times.ticks times.leave_time times.periodic
+        (map (λ t. table_view t.now) node_tables.now) (map (λ t. table_view t.now) link_tables.now)
+        (map (λ t. table_view t.now) event_tables.now)) }
+{
+    let nodes = read_nodes(alloc, times.ticks, node_tables)?;
+    let links = read_links(alloc, &nodes, link_tables)?;
+    let tree = make_tree(alloc, &nodes, &links)?;
+    none_at(15, crowded_node(&nodes, &tree))?;
+    let events = read_events(alloc, times.ticks, &nodes, &links, event_tables)?;
+    Ok(Scenario {
+        ticks: times.ticks,
+        leave_time: Cs(times.leave_time),
+        periodic: times.periodic,
+        tree,
+        nodes: Seq::from_vec(nodes),
+        links: Seq::from_vec(links),
+        events: Seq::from_vec(events),
+    })
+}
+
+const FILE_KEYS: [&str; 6] = ["ticks", "leave_time", "periodic", "node", "link", "event"];
+
+/// The scenario of a table, or the first rule that fails with its first failing entry: rules 1 to 22.
+///
+/// # Errors
+///
+/// `Rule` names the rule and the entry, counted from 1; entry 0 is the file as a whole.
+pub fn read_scenario(alloc: Global, table: &Table) -> Result<Scenario, RuleErr>
+    ensures { Reads (λ s. s) result (scenario_of (table_view table.now)) }
+{
+    let ticks = needs(1, read_ticks(table))?;
+    holds(2, has_only(table, &FILE_KEYS))?;
+    let node_tables = read_tables(alloc, table, "node")?;
+    let link_tables = read_tables(alloc, table, "link")?;
+    let event_tables = read_tables(alloc, table, "event")?;
+    let leave_time = needs(3, read_leave_time(table))?;
+    let periodic = needs(3, truth_or(table, "periodic", false))?;
+    let times = Times {
+        ticks,
+        leave_time,
+        periodic,
+    };
+    read_plan(alloc, times, &node_tables, &link_tables, &event_tables)
+}
