@@ -53,7 +53,7 @@ const LISTENER: [u8; 21] = [
 ];
 
 #[test]
-fn cut_at_every_length(rt: HostRuntime) -> Result<(), Fail> {
+fn a_vid_cut_at_every_length(rt: HostRuntime) -> Result<(), Fail> {
     let vid = [
         Some(0),
         Some(1),
@@ -77,6 +77,11 @@ fn cut_at_every_length(rt: HostRuntime) -> Result<(), Fail> {
             "at {i}"
         );
     }
+    Ok(())
+}
+
+#[test]
+fn a_listener_cut_at_every_length(rt: HostRuntime) -> Result<(), Fail> {
     let listener = [
         Some(0),
         Some(1),
@@ -113,7 +118,7 @@ fn cut_at_every_length(rt: HostRuntime) -> Result<(), Fail> {
 }
 
 #[test]
-fn leniencies_and_faults(rt: HostRuntime) -> Result<(), Fail> {
+fn leniencies_and_faults_without_list_lengths(rt: HostRuntime) -> Result<(), Fail> {
     let mvrp: [(&[u8], Option<u32>); 16] = [
         // a packed octet of 216, and 255 in a type that is skipped
         (&[0, 1, 2, 0, 1, 0, 2, 216, 0, 0, 0, 0], Some(7)),
@@ -147,6 +152,11 @@ fn leniencies_and_faults(rt: HostRuntime) -> Result<(), Fail> {
             "{octets:?}"
         );
     }
+    Ok(())
+}
+
+#[test]
+fn leniencies_and_faults_with_list_lengths(rt: HostRuntime) -> Result<(), Fail> {
     let msrp: [(&[u8], Option<u32>); 10] = [
         // AttributeListLength below 2, and a list without vectors
         (&[0, 4, 4, 0, 1], Some(3)),
@@ -219,12 +229,16 @@ fn written_and_read(rt: HostRuntime) -> Result<(), Fail> {
         assert!(rt; text.len() <= 1500);
         assert_eq!(rt; &decode(alloc, *form, text)?, *pdu);
     }
+    Ok(())
+}
+
+#[test]
+fn a_pdu_that_cannot_be_written(rt: HostRuntime) -> Result<(), Fail> {
+    let alloc = rt.alloc();
+    let vid = one_vector(alloc, 1, false, &[0, 2], &[MrpEvent::JoinMt], &[])?;
+    assert!(rt; well_formed(AppForm::Mvrp, &vid));
     assert!(rt; !well_formed(AppForm::Mmrp, &vid));
-    assert!(rt;
-        !well_formed(
-            AppForm::Mvrp,
-            &one_vector(alloc, 1, false, &[0, 2], &[], &[])?
-        )
-    );
+    let empty = one_vector(alloc, 1, false, &[0, 2], &[], &[])?;
+    assert!(rt; !well_formed(AppForm::Mvrp, &empty));
     Ok(())
 }

@@ -14,7 +14,7 @@ use std::alloc::Global;
 use stream_importance::{Caps, Entry, Want, compare_importance};
 
 /// The entries once this want has come and they are decided at a moment.
-pub fn decided_with(
+pub(crate) fn decided_with(
     alloc: Global,
     now: Cs,
     caps: &Caps,

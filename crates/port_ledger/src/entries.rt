@@ -10,7 +10,7 @@ use std::alloc::Global;
 use stream_importance::{Entry, Want};
 
 /// The place of the stream's entry, or the place where it belongs.
-pub fn place_of(entries: &[Entry], stream: StreamId) -> Result<usize, usize>
+pub(crate) fn place_of(entries: &[Entry], stream: StreamId) -> Result<usize, usize>
     requires { IsAscending entries.now }
     ensures found { IfOk result (λ i. (i < length entries.now) × HoldsAt (λ x. stream_of x ≡ stream.0) entries.now i) }
     ensures missing { IfErr result (λ i. (i ≤ length entries.now) × AllWithin (λ x. stream_of x < stream.0) entries.now 0 i × AllWithin (λ x. stream.0 < stream_of x) entries.now i (length entries.now)) }
@@ -19,7 +19,7 @@ pub fn place_of(entries: &[Entry], stream: StreamId) -> Result<usize, usize>
 }
 
 /// The stream's entry.
-pub fn find_entry(entries: &[Entry], stream: StreamId) -> Option<Entry>
+pub(crate) fn find_entry(entries: &[Entry], stream: StreamId) -> Option<Entry>
     requires { IsAscending entries.now }
     ensures { result ≡ entry_of entries.now stream }
 {
@@ -30,7 +30,11 @@ pub fn find_entry(entries: &[Entry], stream: StreamId) -> Option<Entry>
 }
 
 /// The entries once this want has come.
-pub fn entries_with(alloc: Global, entries: &[Entry], want: Want) -> Result<Vec<Entry>, NoMemory>
+pub(crate) fn entries_with(
+    alloc: Global,
+    entries: &[Entry],
+    want: Want,
+) -> Result<Vec<Entry>, NoMemory>
     requires { IsAscending entries.now }
     ensures { IfOk result (λ v. v.items ≡ with_want entries.now want) }
 {

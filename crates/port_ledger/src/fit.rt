@@ -9,7 +9,7 @@ use srp_base::{Class, Cs, Rank};
 use stream_importance::{Caps, Entry, Fit, Want, more_important};
 
 /// The slopes of the booked entries of a class together, in bit/s.
-pub fn booked_slope(entries: &[Entry], class: Class) -> u128
+pub(crate) fn booked_slope(entries: &[Entry], class: Class) -> u128
     ensures { result ≡ booked_slope entries.now class }
 {
     entries
@@ -21,7 +21,7 @@ pub fn booked_slope(entries: &[Entry], class: Class) -> u128
 }
 
 /// The entry as which a want is tested.
-pub fn tested_as(entries: &[Entry], want: &Want) -> Entry
+pub(crate) fn tested_as(entries: &[Entry], want: &Want) -> Entry
     requires { IsAscending entries.now }
     ensures { result ≡ tested_as entries.now want.now }
 {
@@ -40,7 +40,7 @@ fn since_if_same(entry: &Entry, want: &Want) -> Option<Cs>
 }
 
 /// Whether an entry fits beside the booked ones.
-pub fn fit_of(now: Cs, caps: &Caps, entries: &[Entry], x: &Entry) -> Fit
+pub(crate) fn fit_of(now: Cs, caps: &Caps, entries: &[Entry], x: &Entry) -> Fit
     ensures { result ≡ fit_in now.0 caps.now (booked_of entries.now) x.now }
 {
     let cap = caps.of(x.want.class);

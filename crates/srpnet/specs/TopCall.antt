@@ -1,5 +1,5 @@
 -- What the top call does: which text is a command's output, and what each ending means.
-use Rattle.std.specs.Prelude.{◌≡◌, ℕ, ◌+◌, ◌<◌, ◌≤◌, ◌⊎◌, nat_le, Bool, true, false, if◌then◌else◌, Result, List, length, take, Option, Ok, Err}
+use Rattle.std.specs.Prelude.{◌≡◌, ℕ, ◌+◌, ◌<◌, ◌≤◌, ◌⊎◌, nat_le, Bool, true, false, not, ◌&&◌, if◌then◌else◌, Result, List, length, take, Option, Ok, Err}
 use Rattle.std.specs.Io.KnownBytes.{Appends, Consumes, IsAtEnd}
 use Rattle.srpnet.specs.declared.words.Command.{Command}
 use Rattle.srpnet.specs.declared.words.Command.TheVariants.{Ledger, Check, Help, Version}
@@ -137,13 +137,10 @@ WritesNothing NoMemory = ⊥
 abbrev pub ReadsNothing : Command → Type 0
 ReadsNothing command = reads_input command ≡ false
 
--- how a command that reads an input of these octets ends, where nothing fails and memory lasts
-abbrev pub expected_of_input : Command → List ℕ → Cause
-expected_of_input command octets = if nat_le (length octets) most_octets then ending_of command octets else TooLong
-
 -- how a command ends where a source tells these octets, nothing fails and memory lasts
 abbrev pub expected : Command → List ℕ → Cause
-expected command octets = if reads_input command then expected_of_input command octets else Done
+expected command octets =
+    if reads_input command && not (nat_le (length octets) most_octets) then TooLong else ending_of command octets
 
 -- an answer ends so, or memory ran out
 abbrev pub EndsAs : {X : Type 0} → Cause → Result X Cause → Type 0

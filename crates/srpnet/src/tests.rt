@@ -184,7 +184,6 @@ fn the_lower_stream_id_goes_first(rt: HostRuntime) -> Result<(), Fail> {
 #[test]
 fn the_first_broken_rule_is_named(rt: HostRuntime) -> Result<(), Fail> {
     let alloc = rt.alloc();
-    let good = "[[want]]\nstream = '0000000000000001'\nclass = 'A'\nframes = 1\noctets = 9\n";
     for (text, rule, entry) in [
         ("", 31, 0),
         ("rate = 99", 31, 0),
@@ -193,6 +192,17 @@ fn the_first_broken_rule_is_named(rt: HostRuntime) -> Result<(), Fail> {
         ("rate = 100\ndelta_a = 91", 32, 0),
         ("rate = 100\ndelta_a = 50\ndelta_b = 41", 32, 0),
         ("rate = 100\ndelta_b = -1", 32, 0),
+    ] {
+        refuses(&rt, alloc, text, rule, entry)?;
+    }
+    Ok(())
+}
+
+#[test]
+fn the_first_broken_want_is_named(rt: HostRuntime) -> Result<(), Fail> {
+    let alloc = rt.alloc();
+    let good = "[[want]]\nstream = '0000000000000001'\nclass = 'A'\nframes = 1\noctets = 9\n";
+    for (text, rule, entry) in [
         ("rate = 100\nwant = 1", 33, 0),
         ("rate = 100\nwant = [1]", 33, 0),
         ("rate = 100\n[[want]]", 33, 1),
@@ -272,67 +282,27 @@ fn ends_with(rt: &impl Abort, ended: &Ended, status: u8, err: &str) {
 }
 
 #[test]
+fn other_words_are_bad_words(rt: HostRuntime) -> Result<(), Fail> {
+    let alloc = rt.alloc();
+    for word in ["ledgers", "run", ""] {
+        let ended = call(alloc, word, FIVE.as_bytes(), (10, 1), (10, 1))?;
+        ends_with(&rt, &ended, 2, "srpnet: bad words\n");
+    }
+    Ok(())
+}
+
+#[test]
 fn each_cause_has_its_status(rt: HostRuntime) -> Result<(), Fail> {
     let alloc = rt.alloc();
-    for (word, text, read, write, status, err) in [
+    let broken = b"rate =".as_slice();
+    let no_text = b"rate = 100 # \xff".as_slice();
+    let empty = b"".as_slice();
+    for (text, read, write, status, err) in [
+        (FIVE.as_bytes(), (10, 3), (10, 0), 3, "srpnet: read fault\n"),
+        (broken, (10, 0), (10, 1), 5, "srpnet: not TOML\n"),
+        (no_text, (10, 0), (10, 1), 5, "srpnet: not TOML\n"),
+        (empty, (10, 0), (10, 1), 6, "srpnet: rule 31 entry 0\n"),
         (
-            "ledgers",
-            FIVE.as_bytes(),
-            (10, 1),
-            (10, 1),
-            2,
-            "srpnet: bad words\n",
-        ),
-        (
-            "run",
-            FIVE.as_bytes(),
-            (10, 1),
-            (10, 1),
-            2,
-            "srpnet: bad words\n",
-        ),
-        (
-            "",
-            FIVE.as_bytes(),
-            (10, 1),
-            (10, 1),
-            2,
-            "srpnet: bad words\n",
-        ),
-        (
-            "ledger",
-            FIVE.as_bytes(),
-            (10, 3),
-            (10, 0),
-            3,
-            "srpnet: read fault\n",
-        ),
-        (
-            "ledger",
-            b"rate =".as_slice(),
-            (10, 0),
-            (10, 1),
-            5,
-            "srpnet: not TOML\n",
-        ),
-        (
-            "ledger",
-            b"rate = 100 # \xff".as_slice(),
-            (10, 0),
-            (10, 1),
-            5,
-            "srpnet: not TOML\n",
-        ),
-        (
-            "ledger",
-            b"".as_slice(),
-            (10, 0),
-            (10, 1),
-            6,
-            "srpnet: rule 31 entry 0\n",
-        ),
-        (
-            "ledger",
             FIVE.as_bytes(),
             (10, 0),
             (10, 1),
@@ -340,12 +310,23 @@ fn each_cause_has_its_status(rt: HostRuntime) -> Result<(), Fail> {
             "srpnet: write fault\n",
         ),
     ] {
-        let ended = call(alloc, word, text, read, write)?;
+        let ended = call(alloc, "ledger", text, read, write)?;
         ends_with(&rt, &ended, status, err);
     }
-    let ended = call(alloc, "ledger", FIVE.as_bytes(), (7, 0), (100, 2))?;
+    Ok(())
+}
+
+#[test]
+fn a_failed_write_says_how_many_octets_went_out(rt: HostRuntime) -> Result<(), Fail> {
+    let ended = call(rt.alloc(), "ledger", FIVE.as_bytes(), (7, 0), (100, 2))?;
     assert!(rt; ended.cause == Cause::WriteFault { written: 100 });
     assert!(rt; ended.out.as_str() == FIVE_OUT.get(0..100).unwrap_or(""));
+    Ok(())
+}
+
+#[test]
+fn the_pages_are_printed(rt: HostRuntime) -> Result<(), Fail> {
+    let alloc = rt.alloc();
     for (word, page) in [("--help", HELP), ("--version", VERSION)] {
         let ended = call(alloc, word, b"", (10, 1), (10, 0))?;
         assert_eq!(rt; ended.status, 0);

@@ -1,15 +1,14 @@
 //! The top call: from the program's words and streams to its outcome.
 
-ghost use Rattle.std.specs.Prelude.{◌≡◌, ℕ, ◌↔◌, ◌⊎◌, ◌≤◌, ◌<◌, List, length, take, None, Some, Err, IfOk, IfErr, IfSome, string_bytes};
+ghost use Rattle.std.specs.Prelude.{◌≡◌, ℕ, ◌<◌, List, length, take, Some, Err, IfOk, IfErr, string_bytes};
 ghost use Rattle.std.specs.Io.KnownBytes.{Appends};
 ghost use Rattle.srp_io.specs.Faults.{Rose};
 ghost use Rattle.srpnet.specs.Input.{ending};
 ghost use Rattle.srpnet.specs.LedgerInput.{ledger_input as ledger_input_lem};
 ghost use Rattle.srpnet.specs.LedgerText.{LedgerOutput};
 ghost use Rattle.srpnet.specs.Outcomes.{status_of as status_of_lem, err_text};
-ghost use Rattle.srpnet.specs.Words.{command_of as command_of_lem};
-ghost use Rattle.srpnet.specs.Ending.{IsEnding};
-ghost use Rattle.srpnet.specs.TopCall.{IsOfWriting, PartOf, GainsFront, Refusal, Output, IsOutput, Wrote, WrotePart, WroteUntilNoMemory, Refuses, TookTooMany, WritesNothing, ReadsNothing, EndsAs, ending_of, expected_of_input, expected};
+ghost use Rattle.srpnet.specs.Ending.{CarriedOut, IsEnding};
+ghost use Rattle.srpnet.specs.TopCall.{reads_input as reads_input_lem, ending_of, expected, Output, IsOutput, Refusal, TookTooMany, ReadsNothing, PartOf, GainsFront, IsOfWriting, EndsAs};
 
 use crate::check::check_output;
 use crate::ledger::{bookings, input, text};
@@ -51,6 +50,16 @@ fn page_output(alloc: Global, page: &str) -> Result<String, Cause>
     }
 }
 
+/// Whether a command reads an input; the pages read none.
+fn reads_input(command: Command) -> bool
+    ensures { result ≡ reads_input_lem command }
+{
+    match command {
+        Command::Ledger | Command::Check => true,
+        Command::Help | Command::Version => false,
+    }
+}
+
 /// What a command prints for the octets of its input, or why there is nothing to print.
 fn output(alloc: Global, command: Command, octets: &[u8]) -> Result<String, Cause>
     ensures output { IfOk result (λ s. Output command octets.now (string_bytes s)) }
@@ -65,14 +74,19 @@ fn output(alloc: Global, command: Command, octets: &[u8]) -> Result<String, Caus
     }
 }
 
-/// Reads the input of a command to its end, and makes the command's output.
+/// Reads the input of a command to its end, where it reads one, and makes the command's output.
 fn read_output<I: Source>(alloc: Global, command: Command, source: &mut I) -> Result<String, Cause>
     ensures output { IfOk result (λ s. IsOutput command (I.left source.old) (I.left source.new) (string_bytes s)) }
     ensures read_fault { result ≡ Err Cause.ReadFault → Rose (I.faults source.old) (I.faults source.new) }
     ensures too_long { result ≡ Err Cause.TooLong → TookTooMany (I.left source.old) (I.left source.new) }
     ensures refused { IfErr result (Refusal command (I.left source.old) (I.left source.new)) }
-    ensures ends { (octets : List ℕ) → I.left source.old ≡ Some octets → (Rose (I.faults source.old) (I.faults source.new) → ⊥) → EndsAs (expected_of_input command octets) result }
+    ensures ends { (octets : List ℕ) → I.left source.old ≡ Some octets → (Rose (I.faults source.old) (I.faults source.new) → ⊥) → EndsAs (expected command octets) result }
+    ensures page_unread { ReadsNothing command → source.new ≡ source.old }
+    ensures page_ends { ReadsNothing command → EndsAs Cause.Done result }
 {
+    if !reads_input(command) {
+        return output(alloc, command, b"".as_slice());
+    }
     match read_all(alloc, source, MOST_OCTETS) {
         Ok(octets) => output(alloc, command, octets.as_slice()),
         Err(ReadErr::Fault) => Err(Cause::ReadFault),
@@ -97,31 +111,6 @@ fn print<O: Sink>(out: &mut O, text: &[u8]) -> Cause
     }
 }
 
-/// Does what a command that reads an input asks for.
-fn from_input<I: Source, O: Sink>(
-    alloc: Global,
-    command: Command,
-    source: &mut I,
-    out: &mut O,
-) -> Cause
-    ensures done { result ≡ Cause.Done → Wrote command (I.left source.old) (I.left source.new) (O.held out.old) (O.held out.new) }
-    ensures part { (written : ℕ) → result ≡ Cause.WriteFault written → WrotePart command (I.left source.old) (I.left source.new) (O.held out.old) (O.held out.new) written }
-    ensures write_fault { (written : ℕ) → result ≡ Cause.WriteFault written → Rose (O.faults out.old) (O.faults out.new) }
-    ensures read_fault { result ≡ Cause.ReadFault → Rose (I.faults source.old) (I.faults source.new) }
-    ensures too_long { result ≡ Cause.TooLong → TookTooMany (I.left source.old) (I.left source.new) }
-    ensures not_toml { result ≡ Cause.NotToml → Refuses command (I.left source.old) (I.left source.new) Cause.NotToml }
-    ensures bad_scenario { (rule entry : ℕ) → result ≡ Cause.BadScenario rule entry → Refuses command (I.left source.old) (I.left source.new) (Cause.BadScenario rule entry) }
-    ensures memory { result ≡ Cause.NoMemory → (out.new ≡ out.old) ⊎ WroteUntilNoMemory command (I.left source.old) (I.left source.new) (O.held out.old) (O.held out.new) }
-    ensures bad_words { result ≡ Cause.BadWords → ⊥ }
-    ensures nothing_written { WritesNothing result → out.new ≡ out.old }
-    ensures ends { (octets : List ℕ) → I.left source.old ≡ Some octets → (Rose (I.faults source.old) (I.faults source.new) → ⊥) → (Rose (O.faults out.old) (O.faults out.new) → ⊥) → (result ≡ expected_of_input command octets) ⊎ (result ≡ Cause.NoMemory) }
-{
-    match read_output(alloc, command, source) {
-        Ok(text) => print(out, text.as_bytes()),
-        Err(cause) => cause,
-    }
-}
-
 /// Does what a command asks for.
 fn carry_out<I: Source, O: Sink>(
     alloc: Global,
@@ -129,26 +118,11 @@ fn carry_out<I: Source, O: Sink>(
     source: &mut I,
     out: &mut O,
 ) -> Cause
-    ensures done { result ≡ Cause.Done → Wrote command (I.left source.old) (I.left source.new) (O.held out.old) (O.held out.new) }
-    ensures part { (written : ℕ) → result ≡ Cause.WriteFault written → WrotePart command (I.left source.old) (I.left source.new) (O.held out.old) (O.held out.new) written }
-    ensures write_fault { (written : ℕ) → result ≡ Cause.WriteFault written → Rose (O.faults out.old) (O.faults out.new) }
-    ensures read_fault { result ≡ Cause.ReadFault → Rose (I.faults source.old) (I.faults source.new) }
-    ensures too_long { result ≡ Cause.TooLong → TookTooMany (I.left source.old) (I.left source.new) }
-    ensures not_toml { result ≡ Cause.NotToml → Refuses command (I.left source.old) (I.left source.new) Cause.NotToml }
-    ensures bad_scenario { (rule entry : ℕ) → result ≡ Cause.BadScenario rule entry → Refuses command (I.left source.old) (I.left source.new) (Cause.BadScenario rule entry) }
-    ensures memory { result ≡ Cause.NoMemory → (out.new ≡ out.old) ⊎ WroteUntilNoMemory command (I.left source.old) (I.left source.new) (O.held out.old) (O.held out.new) }
-    ensures bad_words { result ≡ Cause.BadWords → ⊥ }
-    ensures nothing_written { WritesNothing result → out.new ≡ out.old }
-    ensures unread { ReadsNothing command → source.new ≡ source.old }
-    ensures pages { ReadsNothing command → IsOfWriting result }
-    ensures ends { (octets : List ℕ) → I.left source.old ≡ Some octets → (Rose (I.faults source.old) (I.faults source.new) → ⊥) → (Rose (O.faults out.old) (O.faults out.new) → ⊥) → (result ≡ expected command octets) ⊎ (result ≡ Cause.NoMemory) }
-    ensures pages_end { ReadsNothing command → (Rose (O.faults out.old) (O.faults out.new) → ⊥) → (result ≡ Cause.Done) ⊎ (result ≡ Cause.NoMemory) }
+    ensures { CarriedOut I.left I.faults O.held O.faults command source.old source.new out.old out.new result }
 {
-    match command {
-        Command::Ledger => from_input(alloc, command, source, out),
-        Command::Check => from_input(alloc, command, source, out),
-        Command::Help => print(out, HELP.as_bytes()),
-        Command::Version => print(out, VERSION.as_bytes()),
+    match read_output(alloc, command, source) {
+        Ok(text) => print(out, text.as_bytes()),
+        Err(cause) => cause,
     }
 }
 
@@ -159,20 +133,7 @@ fn end_of<I: Source, O: Sink>(
     source: &mut I,
     out: &mut O,
 ) -> Cause
-    ensures bad_words { (result ≡ Cause.BadWords) ↔ (command_of_lem words.now ≡ None) }
-    ensures bad_words_unread { result ≡ Cause.BadWords → source.new ≡ source.old }
-    ensures pages_unread { IfSome (command_of_lem words.now) (λ command. ReadsNothing command → source.new ≡ source.old) }
-    ensures done { result ≡ Cause.Done → IfSome (command_of_lem words.now) (λ command. Wrote command (I.left source.old) (I.left source.new) (O.held out.old) (O.held out.new)) }
-    ensures part { (written : ℕ) → result ≡ Cause.WriteFault written → IfSome (command_of_lem words.now) (λ command. WrotePart command (I.left source.old) (I.left source.new) (O.held out.old) (O.held out.new) written) }
-    ensures memory { result ≡ Cause.NoMemory → IfSome (command_of_lem words.now) (λ command. (out.new ≡ out.old) ⊎ WroteUntilNoMemory command (I.left source.old) (I.left source.new) (O.held out.old) (O.held out.new)) }
-    ensures nothing_written { WritesNothing result → out.new ≡ out.old }
-    ensures read_fault { result ≡ Cause.ReadFault → Rose (I.faults source.old) (I.faults source.new) }
-    ensures too_long { result ≡ Cause.TooLong → TookTooMany (I.left source.old) (I.left source.new) }
-    ensures not_toml { result ≡ Cause.NotToml → IfSome (command_of_lem words.now) (λ command. Refuses command (I.left source.old) (I.left source.new) Cause.NotToml) }
-    ensures bad_scenario { (rule entry : ℕ) → result ≡ Cause.BadScenario rule entry → IfSome (command_of_lem words.now) (λ command. Refuses command (I.left source.old) (I.left source.new) (Cause.BadScenario rule entry)) }
-    ensures write_fault { (written : ℕ) → result ≡ Cause.WriteFault written → Rose (O.faults out.old) (O.faults out.new) }
-    ensures ends { (octets : List ℕ) → I.left source.old ≡ Some octets → (Rose (I.faults source.old) (I.faults source.new) → ⊥) → (Rose (O.faults out.old) (O.faults out.new) → ⊥) → IfSome (command_of_lem words.now) (λ command. (result ≡ expected command octets) ⊎ (result ≡ Cause.NoMemory)) }
-    ensures pages_end { (Rose (O.faults out.old) (O.faults out.new) → ⊥) → IfSome (command_of_lem words.now) (λ command. ReadsNothing command → (result ≡ Cause.Done) ⊎ (result ≡ Cause.NoMemory)) }
+    ensures { IsEnding I.left I.faults O.held O.faults words.now source.old source.new out.old out.new result }
 {
     match command_of(words) {
         Some(command) => carry_out(alloc, command, source, out),

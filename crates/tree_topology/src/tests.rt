@@ -9,6 +9,7 @@ use crate::TreeErr::{
 use crate::{Link, NodeKind, Tree, TreeErr};
 use srp_base::{EgressPort, LinkNo, NodeNo, PortNo};
 use std::alloc::Global;
+use std::process::Abort;
 use std::test::Fail;
 
 /// The tree of these nodes and of links given by the numbers of their ends.
@@ -38,12 +39,32 @@ fn port(node: u16, port: u8) -> EgressPort
     }
 }
 
+/// Each of these lists of nodes and links is refused as said, or taken.
+fn answers(
+    rt: &impl Abort,
+    alloc: Global,
+    cases: &[(&[NodeKind], &[(u16, u16)], Option<TreeErr>)],
+) {
+    for (nodes, ends, refusal) in cases {
+        assert_eq!(rt; tree_of(alloc, nodes, ends).err(), *refusal);
+    }
+}
+
 #[test]
-fn the_first_refusal_is_named(rt: HostRuntime) -> Result<(), Fail> {
-    let cases: [(&[NodeKind], &[(u16, u16)], Option<TreeErr>); 14] = [
+fn trees_are_taken(rt: HostRuntime) -> Result<(), Fail> {
+    let cases: [(&[NodeKind], &[(u16, u16)], Option<TreeErr>); 4] = [
         (&[], &[], None),
         (&[Bridge], &[], None),
         (&[Station, Station], &[(1, 2)], None),
+        (&[Bridge, Station, Station], &[(2, 1), (1, 3)], None),
+    ];
+    answers(&rt, rt.alloc(), &cases);
+    Ok(())
+}
+
+#[test]
+fn the_first_refused_link_is_named(rt: HostRuntime) -> Result<(), Fail> {
+    let cases: [(&[NodeKind], &[(u16, u16)], Option<TreeErr>); 6] = [
         (
             &[Station, Station],
             &[(1, 2), (0, 1)],
@@ -74,6 +95,14 @@ fn the_first_refusal_is_named(rt: HostRuntime) -> Result<(), Fail> {
             &[(1, 2), (3, 4), (2, 3), (4, 1)],
             Some(Loop(LinkNo(4))),
         ),
+    ];
+    answers(&rt, rt.alloc(), &cases);
+    Ok(())
+}
+
+#[test]
+fn the_first_refused_node_is_named(rt: HostRuntime) -> Result<(), Fail> {
+    let cases: [(&[NodeKind], &[(u16, u16)], Option<TreeErr>); 4] = [
         (
             &[Bridge, Station, Station],
             &[(1, 3)],
@@ -90,11 +119,8 @@ fn the_first_refusal_is_named(rt: HostRuntime) -> Result<(), Fail> {
             &[(1, 3), (3, 2)],
             Some(StationWithLinks(NodeNo(3))),
         ),
-        (&[Bridge, Station, Station], &[(2, 1), (1, 3)], None),
     ];
-    for (nodes, ends, refusal) in &cases {
-        assert_eq!(rt; tree_of(rt.alloc(), nodes, ends).err(), *refusal);
-    }
+    answers(&rt, rt.alloc(), &cases);
     Ok(())
 }
 
