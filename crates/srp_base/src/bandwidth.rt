@@ -8,8 +8,11 @@ use std::marker::Model;
 /// The rate of a link.
 #[derive(Clone, Copy, Debug, PartialEq, Eq)]
 pub enum Rate {
+    /// 100 Mb/s.
     M100,
+    /// 1 Gb/s.
     G1,
+    /// 10 Gb/s.
     G10,
 }
 
@@ -41,7 +44,9 @@ impl Rate {
 
     /// The time of one bit in ps: 10,000, 1,000 or 100.
     pub fn bit_ps(self) -> u64
-        ensures { result ≡ bit_ps_of self }
+        ensures table { result ≡ bit_ps_of self }
+        // The bits of one second take one second.
+        ensures second { result * bits_of self ≡ 1000000000000 }
     {
         match self {
             Rate::M100 => 10_000,
@@ -91,17 +96,21 @@ impl Percent {
     }
 }
 
-/// A stream reservation class (IEEE Std 802.1Q-2018, 34.2). Class A is decided before class B.
+/// A stream reservation class (IEEE Std 802.1Q-2018, clause 34). Where a port can't book every stream,
+/// those of class A come before those of class B: this project's own rule.
 #[derive(Clone, Copy, Debug, PartialEq, Eq, PartialOrd, Ord)]
 pub enum Class {
+    /// Class A, measured over intervals of 125 us.
     A,
+    /// Class B, measured over intervals of 250 us.
     B,
 }
 
-/// The rank of a stream: 0 for emergency traffic, 1 for all other
-/// (IEEE Std 802.1Q-2018, 35.2.2.8.5).
+/// The rank of a stream, the Rank bit of PriorityAndRank (IEEE Std 802.1Q-2018, 35.2.2.8.5).
 #[derive(Clone, Copy, Debug, PartialEq, Eq, PartialOrd, Ord)]
 pub enum Rank {
+    /// Rank 0: emergency traffic.
     Emergency,
+    /// Rank 1: all other traffic.
     Normal,
 }

@@ -54,7 +54,9 @@ pub struct PortNo(pub u8);
 /// An egress port: a node with one of its ports.
 #[derive(Clone, Copy, Debug, PartialEq, Eq, PartialOrd, Ord, Hash)]
 pub struct EgressPort {
+    /// The node that it belongs to.
     pub node: NodeNo,
+    /// Its number there, from 1.
     pub port: PortNo,
 }
 

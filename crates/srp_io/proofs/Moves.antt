@@ -1,7 +1,8 @@
 -- Octets that move from one list to another, a front at a time.
-use Rattle.std.proofs.Common.{◌≡◌, ℕ, ◌+◌, ◌<◌, ◌≤◌, min, List, [], ◌++◌, length, take, drop, sym, Option, arith}
+use Rattle.std.proofs.Common.{◌≡◌, ℕ, ◌+◌, ◌<◌, ◌≤◌, min, List, [], ◌++◌, length, take, drop, sym, Option, Result, Ok, Err, arith}
 use Rattle.std.proofs.lemmas.List.{drop-drop, nil_from_length, take-append-drop}
 use Rattle.std.proofs.Math.Seq.{take-add}
+use Rattle.std.specs.Prelude.{OnErr}
 use Rattle.std.specs.Io.KnownBytes.{Appends}
 use Rattle.std.proofs.KnownBytes.{Appends-trans}
 
@@ -27,3 +28,8 @@ taken_more a b c text rest written count e p q =
 -- what went out of the rest stays within the text
 pub within_text : (written count rest all : ℕ) → count ≤ rest → rest + written ≡ all → written + count ≤ all
 within_text written count rest all p e = omega arith
+
+-- what holds anyway holds where an error is answered
+pub on_err : {X E P : Type 0} (r : Result X E) → P → OnErr r P
+on_err (Ok x) p = tt
+on_err (Err e) p = p

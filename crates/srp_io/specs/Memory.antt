@@ -6,9 +6,13 @@ use Rattle.std.specs.List.{list_any}
 abbrev pub counted : ℕ → ℕ
 counted n = min (n + 1) (2 ^ 64 - 1)
 
--- a list of octets at one end, the most octets that one call moves, the numbers of the calls that fail,
--- counted from 1, the calls so far and the faults so far
-pub record Line : Type 0 where
+-- a list of octets at one end, and the most octets that one call moves
+pub record Pipe : Type 0 where
+  pub octets : List ℕ
+  pub step : ℕ
+
+-- the same with the numbers of the calls that fail, counted from 1, the calls so far and the faults so far
+pub record FailingPipe : Type 0 where
   pub octets : List ℕ
   pub step : ℕ
   pub fails : List ℕ
@@ -16,17 +20,17 @@ pub record Line : Type 0 where
   pub faults : ℕ
 
 -- whether the next call fails
-abbrev pub next_fails : Line → Bool
-next_fails l = list_any (nat_eq (counted l.calls)) l.fails
+abbrev pub next_fails : FailingPipe → Bool
+next_fails p = list_any (nat_eq (counted p.calls)) p.fails
 
--- the line after a call that fails: one more call, one more fault
-abbrev pub failed : Line → Line
-failed l = record l { calls = counted l.calls; faults = counted l.faults }
+-- the pipe after a call that fails: one more call, one more fault
+abbrev pub failed : FailingPipe → FailingPipe
+failed p = record p { calls = counted p.calls; faults = counted p.faults }
 
--- a source's line after a call that gave n octets
-abbrev pub given : ℕ → Line → Line
-given n l = record l { octets = drop n l.octets; calls = counted l.calls }
+-- a source's pipe after a call that gave n octets
+abbrev pub given : ℕ → FailingPipe → FailingPipe
+given n p = record p { octets = drop n p.octets; calls = counted p.calls }
 
--- a sink's line after a call that took these octets
-abbrev pub taken : List ℕ → Line → Line
-taken piece l = record l { octets = l.octets ++ piece; calls = counted l.calls }
+-- a sink's pipe after a call that took these octets
+abbrev pub taken : List ℕ → FailingPipe → FailingPipe
+taken piece p = record p { octets = p.octets ++ piece; calls = counted p.calls }

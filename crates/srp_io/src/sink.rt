@@ -1,6 +1,6 @@
 //! Sinks of octets.
 
-ghost use Rattle.std.specs.Prelude.{◌≡◌, ◌≤◌, ◌<◌, Option, List, ℕ, Some, [], true, false, min, length, take, IfOk, IfErr, Err};
+ghost use Rattle.std.specs.Prelude.{◌≡◌, ◌≤◌, ◌<◌, Option, List, ℕ, Some, [], true, false, min, length, take, ◌++◌, IfOk, IfErr, Err};
 ghost use Rattle.std.specs.Io.{WritesAtMost};
 ghost use Rattle.std.specs.Io.KnownBytes.{WriteAppends};
 ghost use Rattle.srp_io.specs.Faults.{Rose};
@@ -35,7 +35,7 @@ pub trait Sink {
     // The octets taken so far, where the sink tells them.
     ghost held: { Self → Option (List ℕ) };
 
-    // The faults so far. The count never falls.
+    // The faults so far. The count never falls, and rises only in a call that fails.
     ghost faults: { Self → ℕ };
 
     /// Takes some octets from the front of a piece, as many as it says, and at least one of a piece that
@@ -46,6 +46,7 @@ pub trait Sink {
         ensures octets { WriteAppends (held self.old) (held self.new) result piece.now }
         ensures progress { IfOk result (λ n. 0 < length piece.now → 0 < n) }
         ensures fault { result ≡ Err SinkErr.Failed → Rose (faults self.old) (faults self.new) }
+        ensures counts { (result ≡ Err SinkErr.Failed → ⊥) → faults self.new ≡ faults self.old }
         ensures never_falls { faults self.old ≤ faults self.new };
 }
 
@@ -62,9 +63,9 @@ pub struct MemSink {
 
 impl Model for MemSink {
     ghost use Rattle.std.specs.Prelude.{◌≤◌};
-    ghost use Rattle.srp_io.specs.Memory.{Line};
+    ghost use Rattle.srp_io.specs.Memory.{FailingPipe};
 
-    ghost Value = { Line };
+    ghost Value = { FailingPipe };
 
     ghost view = { λ s. record { octets = s.bytes.items; step = s.step; fails = s.fails.items; calls = s.calls; faults = s.faults } };
 
@@ -104,19 +105,23 @@ impl Sink for MemSink {
         ensures octets { WriteAppends (Some self.old.octets) (Some self.new.octets) result piece.now }
         ensures progress { IfOk result (λ n. 0 < length piece.now → 0 < n) }
         ensures fault { result ≡ Err SinkErr.Failed → Rose self.old.faults self.new.faults }
+        ensures counts { (result ≡ Err SinkErr.Failed → ⊥) → self.new.faults ≡ self.old.faults }
         ensures never_falls { self.old.faults ≤ self.new.faults }
 
         // It fails exactly at the stated calls.
         ensures fails { result ≡ Err SinkErr.Failed → (next_fails self.old ≡ true) × (self.new ≡ failed self.old) }
         ensures takes { IfOk result (λ n. (next_fails self.old ≡ false) × (self.new ≡ taken (take n piece.now) self.old) × (n ≡ min self.old.step (length piece.now))) }
+        ensures memory { result ≡ Err SinkErr.NoMemory → self.new ≡ self.old }
     {
-        self.calls = self.calls.saturating_add(1);
-        if self.fails.contains(&self.calls) {
+        let call = self.calls.saturating_add(1);
+        if self.fails.contains(&call) {
+            self.calls = call;
             self.faults = self.faults.saturating_add(1);
             return Err(SinkErr::Failed);
         }
         let count = self.step.min(piece.len());
         self.bytes.extend_from_slice(&piece[..count])?;
+        self.calls = call;
         Ok(count)
     }
 }
@@ -129,11 +134,12 @@ pub struct PlainSink {
 }
 
 impl Model for PlainSink {
-    ghost use Rattle.std.specs.Prelude.{◌≤◌, List, ℕ};
+    ghost use Rattle.std.specs.Prelude.{◌≤◌};
+    ghost use Rattle.srp_io.specs.Memory.{Pipe};
 
-    ghost Value = { List ℕ };
+    ghost Value = { Pipe };
 
-    ghost view = { λ s. s.bytes.items };
+    ghost view = { λ s. record { octets = s.bytes.items; step = s.step } };
 
     ghost invariant = { λ s. 1 ≤ s.step };
 }
@@ -142,7 +148,7 @@ impl PlainSink {
     /// A sink that holds nothing yet and takes at most `step` octets in a call. `step` is at least 1.
     pub fn new(alloc: Global, step: usize) -> PlainSink
         requires { 1 ≤ step }
-        ensures { result ≡ [] }
+        ensures { result ≡ record { octets = []; step = step } }
     {
         PlainSink {
             bytes: Vec::new(alloc),
@@ -152,25 +158,28 @@ impl PlainSink {
 
     /// The octets taken so far.
     pub fn bytes(&self) -> &[u8]
-        ensures { result.now ≡ self.now }
+        ensures { result.now ≡ self.now.octets }
     {
         self.bytes.as_slice()
     }
 }
 
 impl Sink for PlainSink {
-    ghost held = { λ s. Some s };
+    ghost held = { λ s. Some s.octets };
 
     ghost faults = { λ _. 0 };
 
     fn write(&mut self, piece: &[u8]) -> Result<usize, SinkErr>
+        // The trait's clauses; the count is the constant 0.
         ensures bound { WritesAtMost result piece.now }
-        ensures octets { WriteAppends (Some self.old) (Some self.new) result piece.now }
+        ensures octets { WriteAppends (Some self.old.octets) (Some self.new.octets) result piece.now }
         ensures progress { IfOk result (λ n. 0 < length piece.now → 0 < n) }
         ensures fault { result ≡ Err SinkErr.Failed → Rose 0 0 }
+        ensures counts { (result ≡ Err SinkErr.Failed → ⊥) → ◌≡◌ {A = ℕ} 0 0 }
         ensures never_falls { 0 ≤ 0 }
 
-        ensures never_fails { IfErr result (λ e. e ≡ SinkErr.NoMemory) }
+        ensures takes { IfOk result (λ n. (n ≡ min self.old.step (length piece.now)) × (self.new ≡ record self.old { octets = self.old.octets ++ take n piece.now })) }
+        ensures memory { IfErr result (λ e. (e ≡ SinkErr.NoMemory) × (self.new ≡ self.old)) }
     {
         let count = self.step.min(piece.len());
         self.bytes.extend_from_slice(&piece[..count])?;

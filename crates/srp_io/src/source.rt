@@ -19,7 +19,7 @@ pub trait Source {
     // The octets still to come, where the source tells them.
     ghost left: { Self → Option (List ℕ) };
 
-    // The faults so far. The count never falls.
+    // The faults so far. The count never falls, and rises only in a call that fails.
     ghost faults: { Self → ℕ };
 
     /// Gives some of the octets still to come, as many as it says, at the buffer's front. For a buffer
@@ -29,6 +29,7 @@ pub trait Source {
         ensures bound { ReadsAtMost result buf.new }
         ensures octets { ReadConsumes (left self.old) (left self.new) result buf.new }
         ensures fault { OnErr result (Rose (faults self.old) (faults self.new)) }
+        ensures counts { OnOk result (faults self.new ≡ faults self.old) }
         ensures never_falls { faults self.old ≤ faults self.new };
 }
 
@@ -56,9 +57,9 @@ pub struct MemSource {
 
 impl Model for MemSource {
     ghost use Rattle.std.specs.Prelude.{◌≤◌, length, drop};
-    ghost use Rattle.srp_io.specs.Memory.{Line};
+    ghost use Rattle.srp_io.specs.Memory.{FailingPipe};
 
-    ghost Value = { Line };
+    ghost Value = { FailingPipe };
 
     ghost view = { λ s. record { octets = drop s.at s.bytes.items; step = s.step; fails = s.fails.items; calls = s.calls; faults = s.faults } };
 
@@ -92,6 +93,7 @@ impl Source for MemSource {
         ensures bound { ReadsAtMost result buf.new }
         ensures octets { ReadConsumes (Some self.old.octets) (Some self.new.octets) result buf.new }
         ensures fault { OnErr result (Rose self.old.faults self.new.faults) }
+        ensures counts { OnOk result (self.new.faults ≡ self.old.faults) }
         ensures never_falls { self.old.faults ≤ self.new.faults }
 
         // It fails exactly at the stated calls.
@@ -118,11 +120,12 @@ pub struct PlainSource {
 }
 
 impl Model for PlainSource {
-    ghost use Rattle.std.specs.Prelude.{◌≤◌, List, ℕ, length, drop};
+    ghost use Rattle.std.specs.Prelude.{◌≤◌, length, drop};
+    ghost use Rattle.srp_io.specs.Memory.{Pipe};
 
-    ghost Value = { List ℕ };
+    ghost Value = { Pipe };
 
-    ghost view = { λ s. drop s.at s.bytes.items };
+    ghost view = { λ s. record { octets = drop s.at s.bytes.items; step = s.step } };
 
     ghost invariant = { λ s. (s.at ≤ length s.bytes.items) × (1 ≤ s.step) };
 }
@@ -131,25 +134,28 @@ impl PlainSource {
     /// A source of these octets, at most `step` of them in a call. `step` is at least 1.
     pub fn new(bytes: Vec<u8>, step: usize) -> PlainSource
         requires { 1 ≤ step }
-        ensures { result ≡ bytes.items }
+        ensures { result ≡ record { octets = bytes.items; step = step } }
     {
         PlainSource { bytes, at: 0, step }
     }
 }
 
 impl Source for PlainSource {
-    ghost left = { λ s. Some s };
+    ghost left = { λ s. Some s.octets };
 
     ghost faults = { λ _. 0 };
 
     #[tactic(auto, using(crate::proofs::Moves::given_octets, crate::proofs::Moves::given_end))]
     fn read(&mut self, buf: &mut [u8]) -> Result<usize, Failed>
+        // The trait's clauses; the count is the constant 0.
         ensures bound { ReadsAtMost result buf.new }
-        ensures octets { ReadConsumes (Some self.old) (Some self.new) result buf.new }
+        ensures octets { ReadConsumes (Some self.old.octets) (Some self.new.octets) result buf.new }
         ensures fault { OnErr result (Rose 0 0) }
+        ensures counts { OnOk result (◌≡◌ {A = ℕ} 0 0) }
         ensures never_falls { 0 ≤ 0 }
 
         ensures never_fails { IsOk result }
+        ensures gives { IfOk result (λ n. (n ≡ min (min self.old.step (length buf.old)) (length self.old.octets)) × (self.new ≡ record self.old { octets = drop n self.old.octets })) }
     {
         let count = give(&self.bytes[self.at..], self.step, buf);
         self.at += count;

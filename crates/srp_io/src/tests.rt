@@ -100,6 +100,10 @@ fn std_readers_and_writers_serve(rt: HostRuntime) -> Result<(), Fail> {
     assert!(rt; read_all(alloc, &mut source, 10)?.as_slice() == b"hello".as_slice());
     assert!(rt; is_read_fault(alloc, true));
     assert!(rt; !is_read_fault(alloc, false));
+    let mut room = [0u8; 3];
+    let done = write_whole(&mut StdSink::new(room.as_mut_slice()), b"hello");
+    assert!(rt; done == Err(WriteErr::Fault { written: 3 }));
+    assert!(rt; room.as_slice() == b"hel".as_slice());
     // A write that takes nothing of a piece is a fault, and so is one that fails.
     assert!(rt; is_write_fault(true));
     assert!(rt; is_write_fault(false));

@@ -1,6 +1,6 @@
 //! All octets of a source, and all of a text into a sink.
 
-ghost use Rattle.std.specs.Prelude.{◌≡◌, ℕ, ◌+◌, ◌^◌, ◌<◌, ◌≤◌, List, length, take, drop, Err, OnOk, IfOk, IfErr};
+ghost use Rattle.std.specs.Prelude.{◌≡◌, ℕ, ◌+◌, ◌^◌, ◌<◌, ◌≤◌, List, length, take, drop, Err, OnOk, OnErr, IfOk, IfErr};
 ghost use Rattle.std.specs.Io.KnownBytes.{Appends, Consumes, IsAtEnd};
 ghost use Rattle.srp_io.specs.Faults.{Rose};
 ghost use Rattle.srp_io.specs.declared.whole.ReadErr.TheVariants.{Fault, NoMemory};
@@ -63,8 +63,12 @@ pub fn read_all<S: Source>(alloc: Global, source: &mut S, limit: usize) -> Resul
     ensures within { IfOk result (λ v. length v.items ≤ limit) }
 
     ensures fault { result ≡ Err ReadErr.Fault → Rose (S.faults source.old) (S.faults source.new) }
-    // One octet past the limit was taken.
+    // One octet past the limit was taken, with no fault before.
     ensures too_long { result ≡ Err ReadErr.TooLong → (octets : List ℕ) × (length octets ≡ limit + 1) × Consumes (S.left source.old) (S.left source.new) octets }
+    // After an error the source has given what was read.
+    ensures given { OnErr result ((octets : List ℕ) × Consumes (S.left source.old) (S.left source.new) octets) }
+    // The count rises only with a fault.
+    ensures counts { (result ≡ Err ReadErr.Fault → ⊥) → S.faults source.new ≡ S.faults source.old }
     ensures never_falls { S.faults source.old ≤ S.faults source.new }
 {
     let mut octets = Vec::new(alloc);
@@ -88,6 +92,8 @@ pub fn write_whole<K: Sink>(sink: &mut K, text: &[u8]) -> Result<(), WriteErr>
     ensures part { IfErr result (λ e. Appends (K.held sink.old) (K.held sink.new) (take (written_of e) text.now)) }
     ensures short { IfErr result (λ e. written_of e < length text.now) }
     ensures fault { IfErr result (λ e. IsFault e → Rose (K.faults sink.old) (K.faults sink.new)) }
+    // The count rises only with a fault.
+    ensures counts { (IfErr result IsFault → ⊥) → K.faults sink.new ≡ K.faults sink.old }
     ensures never_falls { K.faults sink.old ≤ K.faults sink.new }
 {
     let mut written = 0;
@@ -113,6 +119,7 @@ fn after(text: &[u8], count: usize) -> &[u8]
 fn write_err(error: SinkErr, written: u64) -> WriteErr
     ensures written { written_of result ≡ written }
     ensures fault { IsFault result → error ≡ SinkErr.Failed }
+    ensures failed { error ≡ SinkErr.Failed → IsFault result }
 {
     match error {
         SinkErr::Failed => WriteErr::Fault { written },
