@@ -93,7 +93,8 @@ pub fn write_whole<K: Sink>(sink: &mut K, text: &[u8]) -> Result<(), WriteErr>
     ensures short { IfErr result (λ e. written_of e < length text.now) }
     ensures fault { IfErr result (λ e. IsFault e → Rose (K.faults sink.old) (K.faults sink.new)) }
     // The count rises only with a fault.
-    ensures counts { (IfErr result IsFault → ⊥) → K.faults sink.new ≡ K.faults sink.old }
+    ensures counts { OnOk result (K.faults sink.new ≡ K.faults sink.old) }
+    ensures memory { IfErr result (λ e. (IsFault e → ⊥) → K.faults sink.new ≡ K.faults sink.old) }
     ensures never_falls { K.faults sink.old ≤ K.faults sink.new }
 {
     let mut written = 0;

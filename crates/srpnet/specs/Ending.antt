@@ -5,7 +5,7 @@ use Rattle.srpnet.specs.declared.words.Command.{Command}
 use Rattle.srpnet.specs.declared.outcome.Cause.{Cause}
 use Rattle.srpnet.specs.declared.outcome.Cause.TheVariants.{Done, BadWords, ReadFault, TooLong, NotToml, BadScenario, WriteFault, NoMemory}
 use Rattle.srpnet.specs.Words.{command_of}
-use Rattle.srpnet.specs.TopCall.{Wrote, WrotePart, WroteUntilNoMemory, Refuses, TookTooMany, WritesNothing, ReadsNothing, expected}
+use Rattle.srpnet.specs.TopCall.{Wrote, WrotePart, WroteUntilNoMemory, Refuses, TookTooMany, IsWriteFault, WritesNothing, ReadsNothing, expected}
 
 -- A command is carried out on a source of the type I and an out sink of the type O, before the call and
 -- after it. What they tell of their octets and how many faults they count is `left`, `held` and the two
@@ -23,7 +23,10 @@ pub record CarriedOut {I O : Type 0} (left : I → Option (List ℕ)) (in_faults
   -- a fault of reading or writing comes only where the count of that object rose in this call
   pub read_fault : cause ≡ ReadFault → Rose (in_faults source) (in_faults source')
   pub write_fault : (written : ℕ) → cause ≡ WriteFault written → Rose (out_faults out) (out_faults out')
-  -- the input is too long only where one octet past the most was taken
+  -- and nothing else makes a count rise
+  pub read_counts : (cause ≡ ReadFault → ⊥) → in_faults source' ≡ in_faults source
+  pub write_counts : (IsWriteFault cause → ⊥) → out_faults out' ≡ out_faults out
+  -- the input is too long only where one octet past the most was taken, with no fault before
   pub too_long : cause ≡ TooLong → TookTooMany (left source) (left source')
   -- the input is refused only where its octets, read to the end, are refused for this cause
   pub not_toml : cause ≡ NotToml → Refuses command (left source) (left source') NotToml

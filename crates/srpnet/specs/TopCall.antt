@@ -122,6 +122,17 @@ IsOfWriting TooLong = ⊥
 IsOfWriting NotToml = ⊥
 IsOfWriting (BadScenario rule entry) = ⊥
 
+-- a fault of the out sink
+abbrev pub IsWriteFault : Cause → Type 0
+IsWriteFault (WriteFault written) = Unit {0}
+IsWriteFault Done = ⊥
+IsWriteFault NoMemory = ⊥
+IsWriteFault BadWords = ⊥
+IsWriteFault ReadFault = ⊥
+IsWriteFault TooLong = ⊥
+IsWriteFault NotToml = ⊥
+IsWriteFault (BadScenario rule entry) = ⊥
+
 -- the causes with which nothing is written
 abbrev pub WritesNothing : Cause → Type 0
 WritesNothing Done = ⊥

@@ -8,7 +8,7 @@ ghost use Rattle.srpnet.specs.LedgerInput.{ledger_input as ledger_input_lem};
 ghost use Rattle.srpnet.specs.LedgerText.{LedgerOutput};
 ghost use Rattle.srpnet.specs.Outcomes.{status_of as status_of_lem, err_text};
 ghost use Rattle.srpnet.specs.Ending.{CarriedOut, IsEnding};
-ghost use Rattle.srpnet.specs.TopCall.{reads_input as reads_input_lem, ending_of, expected, Output, IsOutput, Refusal, TookTooMany, ReadsNothing, PartOf, GainsFront, IsOfWriting, EndsAs};
+ghost use Rattle.srpnet.specs.TopCall.{reads_input as reads_input_lem, ending_of, expected, Output, IsOutput, Refusal, TookTooMany, ReadsNothing, PartOf, GainsFront, IsWriteFault, IsOfWriting, EndsAs};
 
 use crate::check::check_output;
 use crate::ledger::{bookings, input, text};
@@ -78,6 +78,7 @@ fn output(alloc: Global, command: Command, octets: &[u8]) -> Result<String, Caus
 fn read_output<I: Source>(alloc: Global, command: Command, source: &mut I) -> Result<String, Cause>
     ensures output { IfOk result (λ s. IsOutput command (I.left source.old) (I.left source.new) (string_bytes s)) }
     ensures read_fault { result ≡ Err Cause.ReadFault → Rose (I.faults source.old) (I.faults source.new) }
+    ensures counts { (result ≡ Err Cause.ReadFault → ⊥) → I.faults source.new ≡ I.faults source.old }
     ensures too_long { result ≡ Err Cause.TooLong → TookTooMany (I.left source.old) (I.left source.new) }
     ensures refused { IfErr result (Refusal command (I.left source.old) (I.left source.new)) }
     ensures ends { (octets : List ℕ) → I.left source.old ≡ Some octets → (Rose (I.faults source.old) (I.faults source.new) → ⊥) → EndsAs (expected command octets) result }
@@ -101,6 +102,7 @@ fn print<O: Sink>(out: &mut O, text: &[u8]) -> Cause
     ensures part { (written : ℕ) → result ≡ Cause.WriteFault written → Appends (O.held out.old) (O.held out.new) (take written text.now) }
     ensures short { (written : ℕ) → result ≡ Cause.WriteFault written → written < length text.now }
     ensures fault { (written : ℕ) → result ≡ Cause.WriteFault written → Rose (O.faults out.old) (O.faults out.new) }
+    ensures counts { (IsWriteFault result → ⊥) → O.faults out.new ≡ O.faults out.old }
     ensures memory { result ≡ Cause.NoMemory → PartOf (O.held out.old) (O.held out.new) text.now }
     ensures only { IsOfWriting result }
 {

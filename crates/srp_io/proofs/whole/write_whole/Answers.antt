@@ -11,6 +11,6 @@ loop-written-preserved g c = record {
   within = within_text _ _ _ _ c.in-Ok.ensures.bound c.after.ensures.len;
 }
 
-pub returns-in-Err-clause-counts : goal.returns-in-Err-clause-counts
-returns-in-Err-clause-counts g c =
+pub returns-in-Err-clause-memory : goal.returns-in-Err-clause-memory
+returns-in-Err-clause-memory g c =
     λ no. c.in-Err.ensures.counts (λ e. no (c.write_err.ensures.failed (let same : c.in-Err.error ≡ Failed = cc in same))) ∙ c.loop-written.invariant.counts

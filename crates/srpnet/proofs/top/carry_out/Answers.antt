@@ -1,0 +1,21 @@
+use Rattle.std.proofs.Common.{rules}
+use Rattle.srpnet.proofs.top.carry_out.Goals as goal
+
+pub returns-in-Ok : goal.returns-in-Ok
+returns-in-Ok g c = record {
+  done = search rules;
+  part = search rules;
+  memory = search rules;
+  nothing_written = search rules;
+  read_fault = search rules;
+  write_fault = search rules;
+  read_counts = search rules;
+  write_counts = search rules;
+  too_long = search rules;
+  not_toml = search rules;
+  bad_scenario = search rules;
+  good_words = search rules;
+  ends = search rules;
+  page_unread = search rules;
+  page_ends = search rules;
+}
