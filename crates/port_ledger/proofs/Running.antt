@@ -8,8 +8,7 @@ use Rattle.std.proofs.lemmas.Bool.{eq-eqb, and_parts, and_left, and_right, false
 use Rattle.stream_importance.specs.declared.entry.Entry.{Entry}
 use Rattle.stream_importance.specs.declared.slope.Caps.{Caps}
 use Rattle.stream_importance.specs.Bandwidth.{cap_of}
-use Rattle.stream_importance.specs.Importance.{is_more_important}
-use Rattle.stream_importance.proofs.OrderLaws.{importance_strict}
+use Rattle.stream_importance.specs.Importance.{is_more_important, IsImportanceOrder}
 use Rattle.port_ledger.specs.Decision.{stream_of, slope_of, goes_before, above}
 
 -- what the chosen entries of one kind take, as a sum over all entries
@@ -57,11 +56,11 @@ all_with [] p q f = tt
 all_with (x ∷ xs) p q f = (f x p.0 q.0, all_with xs p.1 q.1 f)
 
 -- of two entries one goes before the other at most
-goes_one_way : (now : ℕ) (x y : Entry) → goes_before now y x ≡ true → goes_before now x y ≡ false
-goes_one_way now x y h =
+goes_one_way : (now : ℕ) (o : IsImportanceOrder now) (x y : Entry) → goes_before now y x ≡ true → goes_before now x y ≡ false
+goes_one_way now o x y h =
     and_right (not (stream_of y == stream_of x)) (is_more_important now y x)
     (false_from_ne_true (is_more_important now y x)
-    (λ k. importance_strict now x y (and_parts (not (stream_of x == stream_of y)) (is_more_important now x y) h).1 k))
+    (λ k. o.strict x y (and_parts (not (stream_of x == stream_of y)) (is_more_important now x y) h).1 k))
 
 not_itself : (now : ℕ) (x : Entry) → goes_before now x x ≡ false
 not_itself now x =
@@ -78,18 +77,18 @@ weight-yes true g s h = cond-true g s 0 h
 weight-yes false g s h = refl
 
 -- nothing that goes after x goes before it
-total-none : (b : Entry → Bool) (now : ℕ) (x : Entry) (es : List Entry) → AllByRecursion (λ y. goes_before now y x ≡ true) es → total b now x es ≡ 0
-total-none b now x [] h = refl
-total-none b now x (e ∷ es) h =
-    let w : cond (b e) (cond (goes_before now x e) (slope_of e) 0) 0 ≡ 0 = weight-no (b e) (goes_before now x e) (slope_of e) (goes_one_way now x e h.0) in
-    let r : total b now x es ≡ 0 = total-none b now x es h.1 in
+total-none : (b : Entry → Bool) (now : ℕ) (o : IsImportanceOrder now) (x : Entry) (es : List Entry) → AllByRecursion (λ y. goes_before now y x ≡ true) es → total b now x es ≡ 0
+total-none b now o x [] h = refl
+total-none b now o x (e ∷ es) h =
+    let w : cond (b e) (cond (goes_before now x e) (slope_of e) 0) 0 ≡ 0 = weight-no (b e) (goes_before now x e) (slope_of e) (goes_one_way now o x e h.0) in
+    let r : total b now x es ≡ 0 = total-none b now o x es h.1 in
     omega (arith, w, r)
 
 -- at the head nothing goes before
-total-head : (b : Entry → Bool) (now : ℕ) (x : Entry) (xs : List Entry) → AllByRecursion (λ y. goes_before now y x ≡ true) xs → total b now x (x ∷ xs) ≡ 0
-total-head b now x xs h =
+total-head : (b : Entry → Bool) (now : ℕ) (o : IsImportanceOrder now) (x : Entry) (xs : List Entry) → AllByRecursion (λ y. goes_before now y x ≡ true) xs → total b now x (x ∷ xs) ≡ 0
+total-head b now o x xs h =
     let w : cond (b x) (cond (goes_before now x x) (slope_of x) 0) 0 ≡ 0 = weight-no (b x) (goes_before now x x) (slope_of x) (not_itself now x) in
-    let r : total b now x xs ≡ 0 = total-none b now x xs h in
+    let r : total b now x xs ≡ 0 = total-none b now o x xs h in
     omega (arith, w, r)
 
 -- further on the head counts where it is chosen
@@ -98,21 +97,21 @@ total-tail b now x y xs sum h =
     let w : cond (b x) (cond (goes_before now y x) (slope_of x) 0) 0 ≡ cond (b x) (slope_of x) 0 = weight-yes (b x) (goes_before now y x) (slope_of x) h in
     omega (arith, w)
 
-pub holds_from_runs : (now : ℕ) (caps : Caps) (sum : ℕ) (b : Entry → Bool) (xs : List Entry) → IsRanked now xs → Runs caps sum b xs → AllByRecursion (Holds now caps sum b xs) xs
-holds_from_runs now caps sum b [] ranked runs = tt
-holds_from_runs now caps sum b (x ∷ xs) ranked runs =
-    let none : sum ≡ sum + total b now x (x ∷ xs) = omega (arith, total-head b now x xs ranked.0) in
+pub holds_from_runs : (now : ℕ) (o : IsImportanceOrder now) (caps : Caps) (sum : ℕ) (b : Entry → Bool) (xs : List Entry) → IsRanked now xs → Runs caps sum b xs → AllByRecursion (Holds now caps sum b xs) xs
+holds_from_runs now o caps sum b [] ranked runs = tt
+holds_from_runs now o caps sum b (x ∷ xs) ranked runs =
+    let none : sum ≡ sum + total b now x (x ∷ xs) = omega (arith, total-head b now o x xs ranked.0) in
     let head : b x ≡ nat_le (sum + total b now x (x ∷ xs) + slope_of x) (cap_of caps x.want.class) = runs.0 ∙ ap (λ n. nat_le (n + slope_of x) (cap_of caps x.want.class)) none in
-    let rest : AllByRecursion (Holds now caps (sum + cond (b x) (slope_of x) 0) b xs) xs = holds_from_runs now caps (sum + cond (b x) (slope_of x) 0) b xs ranked.1 runs.1 in
+    let rest : AllByRecursion (Holds now caps (sum + cond (b x) (slope_of x) 0) b xs) xs = holds_from_runs now o caps (sum + cond (b x) (slope_of x) 0) b xs ranked.1 runs.1 in
     (head, all_with xs ranked.0 rest (λ y before h. h ∙ ap (λ n. nat_le (n + slope_of y) (cap_of caps y.want.class)) (total-tail b now x y xs sum before)))
 
-pub runs_from_holds : (now : ℕ) (caps : Caps) (sum : ℕ) (b : Entry → Bool) (xs : List Entry) → IsRanked now xs → AllByRecursion (Holds now caps sum b xs) xs → Runs caps sum b xs
-runs_from_holds now caps sum b [] ranked holds = tt
-runs_from_holds now caps sum b (x ∷ xs) ranked holds =
-    let none : sum + total b now x (x ∷ xs) ≡ sum = omega (arith, total-head b now x xs ranked.0) in
+pub runs_from_holds : (now : ℕ) (o : IsImportanceOrder now) (caps : Caps) (sum : ℕ) (b : Entry → Bool) (xs : List Entry) → IsRanked now xs → AllByRecursion (Holds now caps sum b xs) xs → Runs caps sum b xs
+runs_from_holds now o caps sum b [] ranked holds = tt
+runs_from_holds now o caps sum b (x ∷ xs) ranked holds =
+    let none : sum + total b now x (x ∷ xs) ≡ sum = omega (arith, total-head b now o x xs ranked.0) in
     let rest : AllByRecursion (Holds now caps (sum + cond (b x) (slope_of x) 0) b xs) xs = all_with xs ranked.0 holds.1 (λ y before h. h ∙ ap (λ n. nat_le (n + slope_of y) (cap_of caps y.want.class)) (sym (total-tail b now x y xs sum before))) in (
       holds.0 ∙ ap (λ n. nat_le (n + slope_of x) (cap_of caps x.want.class)) none,
-      runs_from_holds now caps (sum + cond (b x) (slope_of x) 0) b xs ranked.1 rest,
+      runs_from_holds now o caps (sum + cond (b x) (slope_of x) 0) b xs ranked.1 rest,
     )
 
 -- a pass comes out in one way

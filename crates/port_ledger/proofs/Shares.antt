@@ -11,7 +11,7 @@ use Rattle.srp_base.specs.declared.bandwidth.Class.TheVariants.{A, B}
 use Rattle.stream_importance.specs.declared.entry.Entry.{Entry}
 use Rattle.stream_importance.specs.declared.slope.Caps.{Caps}
 use Rattle.stream_importance.specs.Bandwidth.{cap_of}
-use Rattle.stream_importance.specs.Importance.{class_number, rank_number, moment_or, is_more_important}
+use Rattle.stream_importance.specs.Importance.{class_number, rank_number, moment_or, is_more_important, IsImportanceOrder}
 use Rattle.port_ledger.specs.Decision.{stream_of, slope_of, goes_before, is_booked, booked_of, marks_of, IsDecision, AreOfDifferentStreams}
 use Rattle.port_ledger.specs.Book.{Book, IsKept, booked_slope}
 use Rattle.port_ledger.proofs.Running.{part, sum-filter, weight-no, weight-yes, IsRanked, Runs, all_with}
@@ -101,16 +101,16 @@ pub record IsWithin (caps : Caps) (xs : List Entry) : Type 0 where
   pub class_a : booked_slope xs A ≤ caps.class_a
   pub both : booked_slope xs A + booked_slope xs B ≤ caps.both
 
-pub within_caps : (now : ℕ) (caps : Caps) (xs : List Entry) → AreOfDifferentStreams xs → caps.class_a ≤ caps.both → IsDecision now caps xs (marks_of xs) → IsWithin caps xs
-within_caps now caps xs different shares d =
+pub within_caps : (now : ℕ) (o : IsImportanceOrder now) (caps : Caps) (xs : List Entry) → AreOfDifferentStreams xs → caps.class_a ≤ caps.both → IsDecision now caps xs (marks_of xs) → IsWithin caps xs
+within_caps now o caps xs different shares d =
     let b : Entry → Bool = choice now caps xs (marks_of xs) in
-    let runs : Runs caps 0 b (ranked now xs) = ranked_runs now caps b xs different (holds_from_decision now caps xs (marks_of xs) d) in
+    let runs : Runs caps 0 b (ranked now xs) = ranked_runs now o caps b xs different (holds_from_decision now caps xs (marks_of xs) d) in
     let a : booked_slope xs A ≡ part b (is_of A) (ranked now xs) = booked_slope-ranked now caps xs A d in
     let other : booked_slope xs B ≡ part b (is_of B) (ranked now xs) = booked_slope-ranked now caps xs B d in
     record {
-      class_a = omega (arith, a, runs_a now caps 0 b (ranked now xs) (ranked_is_ranked now xs different) (omega arith) runs);
+      class_a = omega (arith, a, runs_a now caps 0 b (ranked now xs) (ranked_is_ranked now o xs different) (omega arith) runs);
       both = omega (arith, a, other, runs_both caps 0 b (ranked now xs) shares (omega arith) runs);
     }
 
-pub book_within : (book : Book) → IsKept book → IsWithin book.caps book.entries
-book_within book kept = within_caps book.moment book.caps book.entries (different_from_ascending book.entries kept.ascending) kept.shares kept.decision
+pub book_within : (book : Book) → IsImportanceOrder book.moment → IsKept book → IsWithin book.caps book.entries
+book_within book o kept = within_caps book.moment o book.caps book.entries (different_from_ascending book.entries kept.ascending) kept.shares kept.decision

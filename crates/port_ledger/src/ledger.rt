@@ -13,7 +13,7 @@ use crate::fit::{booked_slope, fit_of, tested_as};
 use srp_base::{Class, Cs, NoMemory, Percent, Rate, StreamId};
 use std::alloc::Global;
 use std::marker::Model;
-use stream_importance::{Caps, Entry, Fit, Want};
+use stream_importance::{Caps, Entry, Fit, Want, importance_is_an_order};
 
 /// The streams that want one egress port, and which of them are booked. Contracts see the caps, the
 /// moment, and the entries, ascending by StreamID.
@@ -116,6 +116,7 @@ impl Ledger {
         ensures class_a { booked_slope self.now.entries A ≤ self.now.caps.class_a }
         ensures both { booked_slope self.now.entries A + booked_slope self.now.entries B ≤ self.now.caps.both }
     {
+        importance_is_an_order();
         let _ = &self.entries;
     }
 }

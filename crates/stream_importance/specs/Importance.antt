@@ -1,7 +1,8 @@
 -- Which of two entries of a port is more important (IEEE Std 802.1Q-2018, 34.2, 35.2.2.8).
-use Rattle.std.specs.Prelude.{ℕ, Bool, Option, Some, None}
+use Rattle.std.specs.Prelude.{◌≢◌, ◌⊎◌, ℕ, Bool, IsTrue, Option, Some, None}
 use Rattle.std.specs.declared.cmp.Ordering.{Ordering}
 use Rattle.std.specs.Ordering.{nat_cmp, ordering_then, is_lt}
+use Rattle.std.specs.Cmp.{IsStrictWeakOrder}
 use Rattle.srp_base.specs.declared.numbers.Cs.{Cs}
 use Rattle.srp_base.specs.declared.bandwidth.Class.{Class}
 use Rattle.srp_base.specs.declared.bandwidth.Class.TheVariants.{A, B}
@@ -35,3 +36,17 @@ compare_importance now x y =
 -- more important is the one that comes first
 abbrev pub is_more_important : ℕ → Entry → Entry → Bool
 is_more_important now x y = is_lt (compare_importance now x y)
+
+-- at a moment, more important is a strict order in which entries of different streams compare, and it
+-- ranks all entries, as a sort asks
+pub record IsImportanceOrder (now : ℕ) : Type 0 where
+  -- of two entries at most one is more important than the other
+  pub strict : (x y : Entry) → IsTrue (is_more_important now x y) → IsTrue (is_more_important now y x) → ⊥
+  -- of two entries of different streams one is
+  pub total : (x y : Entry) → x.want.stream.0 ≢ y.want.stream.0
+      → IsTrue (is_more_important now x y) ⊎ IsTrue (is_more_important now y x)
+  -- what is more important than a more important entry is more important
+  pub transitive : (x y z : Entry) → IsTrue (is_more_important now x y) → IsTrue (is_more_important now y z)
+      → IsTrue (is_more_important now x z)
+  -- entries of which neither is more important than the other are alike beside every third
+  pub ranks : IsStrictWeakOrder (is_more_important now)

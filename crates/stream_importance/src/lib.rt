@@ -11,7 +11,7 @@
 //! ```
 //!
 //! The contracts say that a slope is that of the frames with their overhead, that the caps are the
-//! shares of the rate, and that importance is the lexicographic order of those four. Three laws say
+//! shares of the rate, and that importance is the lexicographic order of those four. A law says
 //! that it is a strict order in which any two entries of different streams compare.
 #![tactic(auto)]
 
@@ -20,10 +20,7 @@ pub mod order;
 pub mod slope;
 
 pub use entry::{Entry, Fit, Want};
-pub use order::{
-    compare_importance, importance_is_strict, importance_is_total, importance_is_transitive,
-    more_important,
-};
+pub use order::{compare_importance, importance_is_an_order, more_important};
 pub use slope::{Caps, slope_of};
 
 #[cfg(test)]
