@@ -1,5 +1,5 @@
 -- The booked slopes stay within the caps.
-use Rattle.std.proofs.Common.{◌≡◌, ◌⊎◌, ℕ, ◌+◌, ◌≤◌, Bool, true, false, not, ◌==◌, cond, List, [], ◌∷◌, filter, sum_by, refl, sym, ◌∙◌, ap, arith, inl, inr}
+use Rattle.std.proofs.Common.{◌≡◌, ◌⊎◌, ℕ, ◌+◌, ◌≤◌, Bool, true, false, not, ◌==◌, cond, List, [], ◌∷◌, filter, sum_by, refl, sym, ◌∙◌, ap, subst, arith, inl, inr}
 use Rattle.std.specs.Prelude.{nat_le}
 use Rattle.std.specs.declared.cmp.Ordering.{Ordering}
 use Rattle.std.specs.declared.cmp.Ordering.TheVariants.{Less, Equal, Greater}
@@ -9,11 +9,13 @@ use Rattle.std.proofs.lemmas.Bool.{and_parts, leb-true}
 use Rattle.srp_base.specs.declared.bandwidth.Class.{Class}
 use Rattle.srp_base.specs.declared.bandwidth.Class.TheVariants.{A, B}
 use Rattle.stream_importance.specs.declared.entry.Entry.{Entry}
+use Rattle.stream_importance.specs.declared.entry.Fit.{Fit}
+use Rattle.stream_importance.specs.declared.entry.Fit.TheVariants.{Fits, TooLittle}
 use Rattle.stream_importance.specs.declared.slope.Caps.{Caps}
 use Rattle.stream_importance.specs.Bandwidth.{cap_of}
 use Rattle.stream_importance.specs.Importance.{class_number, rank_number, moment_or, is_more_important, IsImportanceOrder}
-use Rattle.port_ledger.specs.Decision.{stream_of, slope_of, goes_before, is_booked, booked_of, marks_of, IsDecision, AreOfDifferentStreams}
-use Rattle.port_ledger.specs.Book.{Book, IsKept, booked_slope}
+use Rattle.port_ledger.specs.Decision.{stream_of, slope_of, above, does_fit, goes_before, is_booked, booked_of, marks_of, IsDecision, AreOfDifferentStreams}
+use Rattle.port_ledger.specs.Book.{Book, IsKept, IsFitWithin, booked_slope, code_of, fit_in}
 use Rattle.port_ledger.proofs.Running.{part, sum-filter, weight-no, weight-yes, IsRanked, Runs, all_with}
 use Rattle.port_ledger.proofs.Ranking.{ranked, ranked_is_ranked, IsPermutation-ranked, part-IsPermutation}
 use Rattle.port_ledger.proofs.Marking.{choice, different_from_ascending, marked-map, marked-choice, holds_from_decision, ranked_runs}
@@ -114,3 +116,37 @@ within_caps now o caps xs different shares d =
 
 pub book_within : (book : Book) → IsImportanceOrder book.moment → IsKept book → IsWithin book.caps book.entries
 book_within book o kept = within_caps book.moment o book.caps book.entries (different_from_ascending book.entries kept.ascending) kept.shares kept.decision
+
+-- chosen entries of a kind take no more than those of both classes
+weight_within : (b kind : Bool) (slope : ℕ) → cond b (cond kind slope 0) 0 ≤ cond b slope 0
+weight_within true true slope = omega arith
+weight_within true false slope = omega arith
+weight_within false kind slope = omega arith
+
+part_within : (b kind : Entry → Bool) (xs : List Entry) → part b kind xs ≤ part b (is_of A) xs + part b (is_of B) xs
+part_within b kind [] = omega arith
+part_within b kind (x ∷ xs) =
+    omega (arith, weight_within (b x) (kind x) (slope_of x), class_parts x.want.class (slope_of x) (b x), part_within b kind xs)
+
+-- what goes before an entry is a part of what is booked
+above_within : (now : ℕ) (x : Entry) (xs : List Entry)
+    → above now x (booked_of xs) ≤ booked_slope xs A + booked_slope xs B
+above_within now x xs =
+    omega (
+      arith,
+      part_within is_booked (goes_before now x) xs,
+      sum-filter is_booked (goes_before now x) xs,
+      sum-filter is_booked (is_of A) xs,
+      sum-filter is_booked (is_of B) xs,
+    )
+
+pub fit_within : (now : ℕ) (caps : Caps) (xs : List Entry) (x : Entry) (fit : Fit)
+    → fit ≡ fit_in now caps (booked_of xs) x → caps.class_a ≤ caps.both
+    → booked_slope xs A + booked_slope xs B ≤ caps.both → IsFitWithin caps.both fit
+fit_within now caps xs x fit e shares within =
+    subst (λ (f : Fit). IsFitWithin caps.both f) (sym e) (by_test (does_fit now caps (booked_of xs) x))
+  where
+    by_test : (b : Bool)
+        → IsFitWithin caps.both (cond b Fits (TooLittle (above now x (booked_of xs)) (cap_of caps x.want.class) (code_of now caps (booked_of xs) x)))
+    by_test true = tt
+    by_test false = (omega (arith, above_within now x xs, within), cap_within caps x.want.class shares)

@@ -1,5 +1,5 @@
 -- What a ledger keeps, and what its calls make of it.
-use Rattle.std.specs.Prelude.{ℕ, ◌≤◌, Bool, true, false, not, ◌&&◌, ◌==◌, nat_lt, List, [], ◌∷◌, map, filter, find, sum_by, Option, Some, None, option_and_then, if◌then◌else◌}
+use Rattle.std.specs.Prelude.{ℕ, ◌≤◌, Bool, true, false, not, ◌&&◌, ◌==◌, nat_lt, List, [], ◌∷◌, map, filter, find, sum_by, Option, Some, None, option_map, option_and_then, if◌then◌else◌}
 use Rattle.std.specs.List.{AllByRecursion, list_any}
 use Rattle.srp_base.specs.declared.numbers.Cs.{Cs}
 use Rattle.srp_base.specs.declared.numbers.StreamId.{StreamId}
@@ -46,6 +46,14 @@ same_entry x y = same_want x.want y.want && same_since x.since y.since
 -- the entry of a stream
 abbrev pub entry_of : List Entry → StreamId → Option Entry
 entry_of entries stream = find (λ x. stream_of x == stream.0) entries
+
+-- the want that is kept of a stream
+abbrev pub want_of : List Entry → StreamId → Option Want
+want_of entries stream = option_map (λ x. x.want) (entry_of entries stream)
+
+-- the moment since when a stream is booked, in cs; None where it isn't booked
+abbrev pub since_of : List Entry → StreamId → Option Cs
+since_of entries stream = option_and_then (λ x. x.since) (entry_of entries stream)
 
 -- a want that isn't booked
 abbrev pub unbooked : Want → Entry
@@ -98,3 +106,12 @@ fit_in now caps set x =
     if does_fit now caps set x
     then Fits
     else TooLittle (above now x set) (cap_of caps x.want.class) (code_of now caps set x)
+
+-- whether a want fits beside what a ledger has booked, at a moment in cs
+abbrev pub fit_for : ℕ → Book → Want → Fit
+fit_for now book want = fit_in now book.caps (booked_of book.entries) (tested_as book.entries want)
+
+-- what a fit carries is at most this many bit/s
+abbrev pub IsFitWithin : ℕ → Fit → Type 0
+IsFitWithin most Fits = Unit {0}
+IsFitWithin most (TooLittle more cap code) = (more ≤ most) × (cap ≤ most)

@@ -1,7 +1,7 @@
 //! Which entries are booked at a moment: a sort by importance, one pass with a running sum, and the
 //! moments set accordingly.
 
-ghost use Rattle.std.specs.Prelude.{◌≡◌, ◌^◌, ◌<◌, map, IfOk, OnOk, OnErr};
+ghost use Rattle.std.specs.Prelude.{◌≡◌, ◌<◌, map, IfOk, OnOk, OnErr};
 ghost use Rattle.std.specs.List.Sorted.{IsPermutation, IsSortedBy, IsNonDecreasing};
 ghost use Rattle.stream_importance.specs.Importance.{is_more_important};
 ghost use Rattle.port_ledger.specs.Book.{with_want};

@@ -2,7 +2,7 @@
 
 ghost use Rattle.std.specs.Prelude.{◌≡◌, ◌+◌, nat_le, filter};
 ghost use Rattle.port_ledger.specs.Book.{booked_slope, code_of, fit_in, is_normal, since_if_same, tested_as};
-ghost use Rattle.port_ledger.specs.Decision.{above, booked_of, does_fit, goes_before, IsAscending};
+ghost use Rattle.port_ledger.specs.Decision.{above, booked_of, goes_before, IsAscending};
 
 use crate::entries::find_entry;
 use srp_base::{Class, Cs, Rank};
