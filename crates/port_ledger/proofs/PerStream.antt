@@ -99,7 +99,8 @@ stream_of-entry_with : (x : Entry) (want : Want) → stream_of (entry_with x wan
 stream_of-entry_with x want = ap (λ (w : Want). w.stream.0) (want-entry_with x want)
 
 -- with a want, its stream has that one
-want_of-own : (want : Want) (xs : List Entry) (s : StreamId) → s.0 ≡ want.stream.0 → want_of (with_want xs want) s ≡ Some want
+want_of-own : (want : Want) (xs : List Entry) (s : StreamId) → s.0 ≡ want.stream.0
+    → want_of (with_want xs want) s ≡ Some want
 want_of-own want [] s e = want_of-here (unbooked want) [] s (sym e)
 want_of-own want (x ∷ xs) s e =
     elim (cases_order want.stream.0 (stream_of x)) [
@@ -115,7 +116,8 @@ want_of-own want (x ∷ xs) s e =
     ]
 
 -- and each other stream has what it had
-want_of-other : (want : Want) (xs : List Entry) (s : StreamId) → s.0 ≢ want.stream.0 → want_of (with_want xs want) s ≡ want_of xs s
+want_of-other : (want : Want) (xs : List Entry) (s : StreamId) → s.0 ≢ want.stream.0
+    → want_of (with_want xs want) s ≡ want_of xs s
 want_of-other want [] s ne = want_of-past (unbooked want) [] s (λ e. ne (sym e))
 want_of-other want (x ∷ xs) s ne =
     elim (cases_order want.stream.0 (stream_of x)) [
@@ -139,18 +141,21 @@ want_of-other want (x ∷ xs) s ne =
     ]
 
 -- a decision changes no want
-want_of-settled : (now : ℕ) (b : Entry → Bool) (xs : List Entry) (s : StreamId) → want_of (settled now xs (map b xs)) s ≡ want_of xs s
+want_of-settled : (now : ℕ) (b : Entry → Bool) (xs : List Entry) (s : StreamId)
+    → want_of (settled now xs (map b xs)) s ≡ want_of xs s
 want_of-settled now b [] s = refl
 want_of-settled now b (x ∷ xs) s =
     elim (stream_of x == s.0)
     as (λ v. option_map (λ (y : Entry). y.want) (cond v (Some (record x { since = since_after now x.since (b x) })) (entry_of (settled now xs (map b xs)) s))
     ≡ option_map (λ (y : Entry). y.want) (cond v (Some x) (entry_of xs s))) [ true ↦ refl | false ↦ want_of-settled now b xs s ]
 
-want_of-decided : (now : ℕ) (caps : Caps) (before after : List Entry) (s : StreamId) → Decides now caps before after → want_of after s ≡ want_of before s
+want_of-decided : (now : ℕ) (caps : Caps) (before after : List Entry) (s : StreamId)
+    → Decides now caps before after → want_of after s ≡ want_of before s
 want_of-decided now caps before after s d =
     ap (λ ys. want_of ys s) (d.moments ∙ ap (settled now before) d.decision) ∙ want_of-settled now _ before s
 
-pub wants_kept : (now : ℕ) (caps : Caps) (old new : List Entry) (want : Want) → Decides now caps (with_want old want) new
+pub wants_kept : (now : ℕ) (caps : Caps) (old new : List Entry) (want : Want)
+    → Decides now caps (with_want old want) new
     → (s : StreamId) → want_of new s ≡ cond (s.0 == want.stream.0) (Some want) (want_of old s)
 wants_kept now caps old new want d s =
     want_of-decided now caps (with_want old want) new s d
@@ -165,7 +170,8 @@ want_of-none s [] h = refl
 want_of-none s (x ∷ xs) h = want_of-past x xs s (λ e. let l : s.0 < stream_of x = h.0 in omega (arith, e, l)) ∙ want_of-none s xs h.1
 
 -- a want that is kept adds nothing
-with_want-again : (want : Want) (xs : List Entry) → IsAscending xs → want_of xs want.stream ≡ Some want → with_want xs want ≡ xs
+with_want-again : (want : Want) (xs : List Entry) → IsAscending xs → want_of xs want.stream ≡ Some want
+    → with_want xs want ≡ xs
 with_want-again want [] up h = cc
 with_want-again want (x ∷ xs) up h =
     elim (cases_order want.stream.0 (stream_of x)) [
@@ -193,7 +199,8 @@ decided_again now o caps xs ys up d decides =
     ∙ (ap (settled now xs) (decision_unique now o caps xs (different_from_ascending xs up) (marks_of ys) (marks_of xs) decides.decision d)
     ∙ settled-own now xs)
 
-pub same_again : (now : ℕ) (o : IsImportanceOrder now) (caps : Caps) (old new : List Entry) (want : Want) → IsAscending old
+pub same_again : (now : ℕ) (o : IsImportanceOrder now) (caps : Caps) (old new : List Entry) (want : Want)
+    → IsAscending old
     → IsDecision now caps old (marks_of old) → Decides now caps (with_want old want) new → want_of old want.stream ≡ Some want → new ≡ old
 same_again now o caps old new want up d decides h =
     decided_again now o caps old new up d (subst (λ ys. Decides now caps ys new) (with_want-again want old up h) decides)
@@ -211,7 +218,8 @@ kept_fits now caps entries want fit e booked h =
     by_test x true e = (λ _. e, λ _. refl)
     by_test x false e = (λ f. absurd (let k : false ≡ true = cc in cc), λ f. absurd (let k : false ≡ true = sym e ∙ f in cc))
 
-    by_entry : (o : Option Entry) → IfSome o (λ x. is_booked x ≡ does_fit now caps (booked_of entries) x) → option_map (λ (x : Entry). x.want) o ≡ Some want
+    by_entry : (o : Option Entry) → IfSome o (λ x. is_booked x ≡ does_fit now caps (booked_of entries) x)
+        → option_map (λ (x : Entry). x.want) o ≡ Some want
         → (fit_in now caps (booked_of entries) (record { want = want; since = option_and_then (λ x. since_if_same x want) o }) ≡ Fits)
         ↔ IsSome (option_and_then (λ (x : Entry). x.since) o)
     by_entry None booked h = absurd (let k : None ≡ Some want = h in cc)

@@ -14,7 +14,7 @@ use Rattle.stream_importance.specs.declared.entry.Fit.TheVariants.{Fits, TooLitt
 use Rattle.stream_importance.specs.declared.slope.Caps.{Caps}
 use Rattle.stream_importance.specs.Bandwidth.{cap_of}
 use Rattle.stream_importance.specs.Importance.{class_number, rank_number, moment_or, is_more_important, IsImportanceOrder}
-use Rattle.port_ledger.specs.Decision.{stream_of, slope_of, above, does_fit, goes_before, is_booked, booked_of, marks_of, IsDecision, AreOfDifferentStreams}
+use Rattle.port_ledger.specs.Decision.{stream_of, entry_slope, above, does_fit, is_preceded_by, is_booked, booked_of, marks_of, IsDecision, AreOfDifferentStreams}
 use Rattle.port_ledger.specs.Book.{Book, IsKept, IsFitWithin, booked_slope, code_of, fit_in}
 use Rattle.port_ledger.proofs.Running.{part, sum-filter, weight-no, weight-yes, IsRanked, Runs, all_with}
 use Rattle.port_ledger.proofs.Ranking.{ranked, ranked_is_ranked, IsPermutation-ranked, part-IsPermutation}
@@ -25,7 +25,8 @@ abbrev pub is_of : Class → Entry → Bool
 is_of class x = class_number x.want.class == class_number class
 
 -- of each entry one class has the slope
-class_parts : (class : Class) (slope : ℕ) (chosen : Bool) → cond chosen (cond (class_number class == 0) slope 0) 0 + cond chosen (cond (class_number class == 1) slope 0) 0 ≡ cond chosen slope 0
+class_parts : (class : Class) (slope : ℕ) (chosen : Bool)
+    → cond chosen (cond (class_number class == 0) slope 0) 0 + cond chosen (cond (class_number class == 1) slope 0) 0 ≡ cond chosen slope 0
 class_parts A slope true = omega arith
 class_parts A slope false = omega arith
 class_parts B slope true = omega arith
@@ -36,19 +37,22 @@ cap_within : (caps : Caps) (class : Class) → caps.class_a ≤ caps.both → ca
 cap_within caps A h = h
 cap_within caps B h = omega arith
 
-step_within : (chosen : Bool) (sum slope cap most : ℕ) → chosen ≡ nat_le (sum + slope) cap → cap ≤ most → sum ≤ most → sum + cond chosen slope 0 ≤ most
+step_within : (chosen : Bool) (sum slope cap most : ℕ) → chosen ≡ nat_le (sum + slope) cap → cap ≤ most
+    → sum ≤ most → sum + cond chosen slope 0 ≤ most
 step_within true sum slope cap most e h k = omega (arith, leb-true (sum + slope) cap (sym e))
 step_within false sum slope cap most e h k = omega arith
 
-runs_both : (caps : Caps) (sum : ℕ) (b : Entry → Bool) (xs : List Entry) → caps.class_a ≤ caps.both → sum ≤ caps.both → Runs caps sum b xs → sum + (part b (is_of A) xs + part b (is_of B) xs) ≤ caps.both
+runs_both : (caps : Caps) (sum : ℕ) (b : Entry → Bool) (xs : List Entry) → caps.class_a ≤ caps.both
+    → sum ≤ caps.both → Runs caps sum b xs → sum + (part b (is_of A) xs + part b (is_of B) xs) ≤ caps.both
 runs_both caps sum b [] shares h runs = omega (arith, h)
 runs_both caps sum b (x ∷ xs) shares h runs =
-    let next : sum + cond (b x) (slope_of x) 0 ≤ caps.both =
-    step_within (b x) sum (slope_of x) (cap_of caps x.want.class) caps.both runs.0 (cap_within caps x.want.class shares) h in
-    omega (arith, class_parts x.want.class (slope_of x) (b x), runs_both caps (sum + cond (b x) (slope_of x) 0) b xs shares next runs.1)
+    let next : sum + cond (b x) (entry_slope x) 0 ≤ caps.both =
+    step_within (b x) sum (entry_slope x) (cap_of caps x.want.class) caps.both runs.0 (cap_within caps x.want.class shares) h in
+    omega (arith, class_parts x.want.class (entry_slope x) (b x), runs_both caps (sum + cond (b x) (entry_slope x) 0) b xs shares next runs.1)
 
 -- after an entry of class B come only such
-not_a_after_b : (now : ℕ) (x y : Entry) (class other : Class) → x.want.class ≡ class → y.want.class ≡ other → class ≡ B → goes_before now y x ≡ true → other ≡ B
+not_a_after_b : (now : ℕ) (x y : Entry) (class other : Class) → x.want.class ≡ class → y.want.class ≡ other
+    → class ≡ B → is_preceded_by now y x ≡ true → other ≡ B
 not_a_after_b now x y class B e f g h = refl
 not_a_after_b now x y class A e f g h =
     let lt : is_more_important now x y ≡ true = (and_parts (not (stream_of x == stream_of y)) (is_more_important now x y) h).1 in
@@ -65,45 +69,50 @@ not_a_after_b now x y class A e f g h =
 none_of_a : (b : Entry → Bool) (xs : List Entry) → AllByRecursion (λ y. y.want.class ≡ B) xs → part b (is_of A) xs ≡ 0
 none_of_a b [] h = refl
 none_of_a b (x ∷ xs) h =
-    let w : cond (b x) (cond (is_of A x) (slope_of x) 0) 0 ≡ 0 = weight-no (b x) (is_of A x) (slope_of x) (ap (λ c. class_number c == 0) h.0) in
+    let w : cond (b x) (cond (is_of A x) (entry_slope x) 0) 0 ≡ 0 = weight-no (b x) (is_of A x) (entry_slope x) (ap (λ c. class_number c == 0) h.0) in
     omega (arith, w, none_of_a b xs h.1)
 
 either_class : (class : Class) → (class ≡ A) ⊎ (class ≡ B)
 either_class A = inl refl
 either_class B = inr refl
 
-runs_a : (now : ℕ) (caps : Caps) (sum : ℕ) (b : Entry → Bool) (xs : List Entry) → IsRanked now xs → sum ≤ caps.class_a → Runs caps sum b xs → sum + part b (is_of A) xs ≤ caps.class_a
+runs_a : (now : ℕ) (caps : Caps) (sum : ℕ) (b : Entry → Bool) (xs : List Entry) → IsRanked now xs
+    → sum ≤ caps.class_a → Runs caps sum b xs → sum + part b (is_of A) xs ≤ caps.class_a
 runs_a now caps sum b [] ranked h runs = omega (arith, h)
 runs_a now caps sum b (x ∷ xs) ranked h runs =
     elim (either_class x.want.class) [
       | inl e ↦
           (let cap : cap_of caps x.want.class ≡ caps.class_a = ap (cap_of caps) e in
-          let next : sum + cond (b x) (slope_of x) 0 ≤ caps.class_a =
-          step_within (b x) sum (slope_of x) (cap_of caps x.want.class) caps.class_a runs.0 (omega (arith, cap)) h in
-          let w : cond (b x) (cond (is_of A x) (slope_of x) 0) 0 ≡ cond (b x) (slope_of x) 0 =
-          weight-yes (b x) (is_of A x) (slope_of x) (ap (λ c. class_number c == 0) e) in
-          omega (arith, w, runs_a now caps (sum + cond (b x) (slope_of x) 0) b xs ranked.1 next runs.1))
+          let next : sum + cond (b x) (entry_slope x) 0 ≤ caps.class_a =
+          step_within (b x) sum (entry_slope x) (cap_of caps x.want.class) caps.class_a runs.0 (omega (arith, cap)) h in
+          let w : cond (b x) (cond (is_of A x) (entry_slope x) 0) 0 ≡ cond (b x) (entry_slope x) 0 =
+          weight-yes (b x) (is_of A x) (entry_slope x) (ap (λ c. class_number c == 0) e) in
+          omega (arith, w, runs_a now caps (sum + cond (b x) (entry_slope x) 0) b xs ranked.1 next runs.1))
       | inr e ↦
-          (let w : cond (b x) (cond (is_of A x) (slope_of x) 0) 0 ≡ 0 =
-          weight-no (b x) (is_of A x) (slope_of x) (ap (λ c. class_number c == 0) e) in
+          (let w : cond (b x) (cond (is_of A x) (entry_slope x) 0) 0 ≡ 0 =
+          weight-no (b x) (is_of A x) (entry_slope x) (ap (λ c. class_number c == 0) e) in
           let rest : part b (is_of A) xs ≡ 0 =
           none_of_a b xs (all_with xs ranked.0 ranked.0 (λ y before _. not_a_after_b now x y x.want.class y.want.class refl refl e before)) in
           omega (arith, w, rest, h))
     ]
 
 -- the booked slopes of a class, in the order of importance
-booked_slope-ranked : (now : ℕ) (caps : Caps) (xs : List Entry) (class : Class) → IsDecision now caps xs (marks_of xs) → booked_slope xs class ≡ part (choice now caps xs (marks_of xs)) (is_of class) (ranked now xs)
+booked_slope-ranked : (now : ℕ) (caps : Caps) (xs : List Entry) (class : Class)
+    → IsDecision now caps xs (marks_of xs)
+    → booked_slope xs class ≡ part (choice now caps xs (marks_of xs)) (is_of class) (ranked now xs)
 booked_slope-ranked now caps xs class d =
     let b : Entry → Bool = choice now caps xs (marks_of xs) in
     let set : booked_of xs ≡ filter b xs = sym (marked-map is_booked xs) ∙ marked-choice now caps xs (marks_of xs) d in
-    ap (λ ys. sum_by slope_of (filter (is_of class) ys)) set
+    ap (λ ys. sum_by entry_slope (filter (is_of class) ys)) set
     ∙ (sum-filter b (is_of class) xs ∙ sym (part-IsPermutation b (is_of class) xs (ranked now xs) (IsPermutation-ranked now xs)))
 
 pub record IsWithin (caps : Caps) (xs : List Entry) : Type 0 where
   pub class_a : booked_slope xs A ≤ caps.class_a
   pub both : booked_slope xs A + booked_slope xs B ≤ caps.both
 
-pub within_caps : (now : ℕ) (o : IsImportanceOrder now) (caps : Caps) (xs : List Entry) → AreOfDifferentStreams xs → caps.class_a ≤ caps.both → IsDecision now caps xs (marks_of xs) → IsWithin caps xs
+pub within_caps : (now : ℕ) (o : IsImportanceOrder now) (caps : Caps) (xs : List Entry)
+    → AreOfDifferentStreams xs → caps.class_a ≤ caps.both → IsDecision now caps xs (marks_of xs)
+    → IsWithin caps xs
 within_caps now o caps xs different shares d =
     let b : Entry → Bool = choice now caps xs (marks_of xs) in
     let runs : Runs caps 0 b (ranked now xs) = ranked_runs now o caps b xs different (holds_from_decision now caps xs (marks_of xs) d) in
@@ -126,7 +135,7 @@ weight_within false kind slope = omega arith
 part_within : (b kind : Entry → Bool) (xs : List Entry) → part b kind xs ≤ part b (is_of A) xs + part b (is_of B) xs
 part_within b kind [] = omega arith
 part_within b kind (x ∷ xs) =
-    omega (arith, weight_within (b x) (kind x) (slope_of x), class_parts x.want.class (slope_of x) (b x), part_within b kind xs)
+    omega (arith, weight_within (b x) (kind x) (entry_slope x), class_parts x.want.class (entry_slope x) (b x), part_within b kind xs)
 
 -- what goes before an entry is a part of what is booked
 above_within : (now : ℕ) (x : Entry) (xs : List Entry)
@@ -134,8 +143,8 @@ above_within : (now : ℕ) (x : Entry) (xs : List Entry)
 above_within now x xs =
     omega (
       arith,
-      part_within is_booked (goes_before now x) xs,
-      sum-filter is_booked (goes_before now x) xs,
+      part_within is_booked (is_preceded_by now x) xs,
+      sum-filter is_booked (is_preceded_by now x) xs,
       sum-filter is_booked (is_of A) xs,
       sum-filter is_booked (is_of B) xs,
     )

@@ -11,7 +11,7 @@ use Rattle.stream_importance.specs.declared.entry.Fit.TheVariants.{Fits, TooLitt
 use Rattle.stream_importance.specs.declared.slope.Caps.{Caps}
 use Rattle.stream_importance.specs.Bandwidth.{cap_of}
 use Rattle.stream_importance.specs.Importance.{class_number, rank_number, moment_or}
-use Rattle.port_ledger.specs.Decision.{stream_of, slope_of, above, does_fit, is_booked, booked_of, marks_of, IsAscending, IsDecision}
+use Rattle.port_ledger.specs.Decision.{stream_of, entry_slope, above, does_fit, is_booked, booked_of, marks_of, IsAscending, IsDecision}
 
 -- a ledger: its caps in bit/s, the last moment that was handed to it in cs, and the wanting streams
 pub record Book : Type 0 where
@@ -80,7 +80,7 @@ booked_only_in these those =
 -- the slopes of the booked entries of a class, together
 abbrev pub booked_slope : List Entry → Class → ℕ
 booked_slope entries class =
-    sum_by slope_of (filter (λ x. class_number x.want.class == class_number class) (booked_of entries))
+    sum_by entry_slope (filter (λ x. class_number x.want.class == class_number class) (booked_of entries))
 
 -- the moment of an entry that has this same want
 abbrev pub since_if_same : Entry → Want → Option Cs
@@ -91,12 +91,12 @@ abbrev pub tested_as : List Entry → Want → Entry
 tested_as entries want =
     record { want = want; since = option_and_then (λ x. since_if_same x want) (entry_of entries want.stream) }
 
--- of rank 1
+-- of rank 1, which isn't emergency traffic
 abbrev pub is_normal : Entry → Bool
 is_normal x = rank_number x.want.rank == 1
 
--- the failure code of what doesn't fit: 6 where a stream of rank 1 would fit if the bookings of rank 0
--- weren't there, else 1 (IEEE Std 802.1Q-2018, 35.2.2.8.7)
+-- the failure code of what doesn't fit: 6 where the want is of rank 1 and would fit if the bookings of
+-- rank 0 weren't there, else 1; so a want of rank 0 has 1 (IEEE Std 802.1Q-2018, 35.2.2.8.7)
 abbrev pub code_of : ℕ → Caps → List Entry → Entry → ℕ
 code_of now caps set x = if is_normal x && does_fit now caps (filter is_normal set) x then 6 else 1
 

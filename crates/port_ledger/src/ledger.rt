@@ -53,8 +53,8 @@ impl Ledger {
     }
 
     /// Takes a want at a moment in cs, which isn't before the ledger's, and decides anew. The same want
-    /// again keeps its booking; one with another class, rank or slope loses it first. After want of
-    /// memory the ledger is as it was.
+    /// again keeps its booking; one with another class, rank or slope loses it first. What changed in the
+    /// booked set is answered. After want of memory, the one error, the ledger is as it was.
     pub fn want(&mut self, now: Cs, want: Want) -> Result<Changed, NoMemory>
         requires { self.old.moment ≤ now.0 }
 
@@ -98,7 +98,11 @@ impl Ledger {
     }
 
     /// Whether a want fits beside what is booked, at a moment in cs that isn't before the ledger's. It is
-    /// tested with the moment of the stream's entry where that has this same want, else with none.
+    /// tested with the moment of the stream's entry where that has this same want, else with none; what
+    /// the stream has booked doesn't count against it. `TooLittle` comes exactly where the slopes of the
+    /// more important booked streams, with the want's own, pass the cap of its class. It carries their sum
+    /// without the own slope and that cap, both in bit/s, and the failure code 1 or 6 of a Talker Failed
+    /// (IEEE Std 802.1Q-2018, 35.2.2.8.7).
     pub fn fits(&self, now: Cs, want: &Want) -> Fit
         requires { self.now.moment ≤ now.0 }
         ensures value { result ≡ fit_for now.0 self.now want.now }

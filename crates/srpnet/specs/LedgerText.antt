@@ -20,7 +20,8 @@ use Rattle.srpnet.specs.LedgerInput.{ledger_input}
 -- `ID booked slope S since T`
 abbrev pub booked_line : Want → Cs → List ℕ
 booked_line want since = joined (
-    hex16_text want.stream.0 ∷ codes " booked slope " ∷ decimal want.slope ∷ codes " since " ∷ decimal since.0 ∷ codes "\n" ∷ [])
+    hex16_text want.stream.0 ∷ codes " booked slope " ∷ decimal want.slope
+    ∷ codes " since " ∷ decimal since.0 ∷ codes "\n" ∷ [])
 
 -- `ID refused slope S more M cap C code K`
 abbrev pub refused_line : Want → ℕ → ℕ → ℕ → List ℕ
@@ -30,7 +31,8 @@ refused_line want more cap code = joined (
 
 -- `slope A S cap C`, and `slope A+B S cap C` for both classes
 abbrev pub sum_line : List ℕ → ℕ → ℕ → List ℕ
-sum_line classes sum cap = joined (codes "slope " ∷ classes ∷ codes " " ∷ decimal sum ∷ codes " cap " ∷ decimal cap ∷ codes "\n" ∷ [])
+sum_line classes sum cap = joined (
+    codes "slope " ∷ classes ∷ codes " " ∷ decimal sum ∷ codes " cap " ∷ decimal cap ∷ codes "\n" ∷ [])
 
 -- the line of a want by its booking; a want that is kept and isn't booked doesn't fit, so that the last
 -- case doesn't occur (`HasLines`)

@@ -36,7 +36,8 @@ last_equal Greater b h = cc
 same_number : (a b : ℕ) → nat_cmp a b ≡ Equal → a ≡ b
 same_number a b h = grind (arith, nat_tests)
 
-importance_strict : (now : ℕ) (x y : Entry) → IsTrue (is_more_important now x y) → IsTrue (is_more_important now y x) → ⊥
+importance_strict : (now : ℕ) (x y : Entry) → IsTrue (is_more_important now x y)
+    → IsTrue (is_more_important now y x) → ⊥
 importance_strict now x y h k =
     let o : IsTotalOrder (compare_importance now) = comparison_is_total_order now in
     let e : compare_importance now x y ≡ Less = is_less (compare_importance now x y) h in
@@ -44,7 +45,8 @@ importance_strict now x y h k =
     let r : Less ≡ Greater = sym e ∙ (o.antisymm x y ∙ ap ordering_reverse f) in
     cc
 
-importance_transitive : (now : ℕ) (x y z : Entry) → IsTrue (is_more_important now x y) → IsTrue (is_more_important now y z) → IsTrue (is_more_important now x z)
+importance_transitive : (now : ℕ) (x y z : Entry) → IsTrue (is_more_important now x y)
+    → IsTrue (is_more_important now y z) → IsTrue (is_more_important now x z)
 importance_transitive now x y z h k =
     let o : IsTotalOrder (compare_importance now) = comparison_is_total_order now in
     less_is (compare_importance now x z)
@@ -58,14 +60,17 @@ equal_streams now x y h =
     (last_equal (nat_cmp (rank_number x.want.rank) (rank_number y.want.rank)) _
     (last_equal (nat_cmp (class_number x.want.class) (class_number y.want.class)) _ h)))
 
-either_way : (now : ℕ) (x y : Entry) (o : Ordering) → compare_importance now x y ≡ o → x.want.stream.0 ≢ y.want.stream.0 → IsTrue (is_more_important now x y) ⊎ IsTrue (is_more_important now y x)
+either_way : (now : ℕ) (x y : Entry) (o : Ordering) → compare_importance now x y ≡ o
+    → x.want.stream.0 ≢ y.want.stream.0
+    → IsTrue (is_more_important now x y) ⊎ IsTrue (is_more_important now y x)
 either_way now x y Less h ne = inl (less_is (compare_importance now x y) h)
 either_way now x y Equal h ne = absurd (ne (equal_streams now x y h))
 either_way now x y Greater h ne =
     let o : IsTotalOrder (compare_importance now) = comparison_is_total_order now in
     inr (less_is (compare_importance now y x) (o.antisymm y x ∙ ap ordering_reverse h))
 
-importance_compares : (now : ℕ) (x y : Entry) → x.want.stream.0 ≢ y.want.stream.0 → IsTrue (is_more_important now x y) ⊎ IsTrue (is_more_important now y x)
+importance_compares : (now : ℕ) (x y : Entry) → x.want.stream.0 ≢ y.want.stream.0
+    → IsTrue (is_more_important now x y) ⊎ IsTrue (is_more_important now y x)
 importance_compares now x y ne = either_way now x y (compare_importance now x y) refl ne
 
 pub importance_order : (now : ℕ) → IsImportanceOrder now

@@ -11,8 +11,10 @@
 //! ```
 //!
 //! The contracts say that a slope is that of the frames with their overhead, that the caps are the
-//! shares of the rate, and that importance is the lexicographic order of those four. A law says
-//! that it is a strict order in which any two entries of different streams compare.
+//! shares of the rate, and that importance is the lexicographic order of those four. That class A goes
+//! first and that the earlier booking counts is this project's own rule. The law
+//! `importance_is_an_order` says that it is a strict order in which any two entries of different streams
+//! compare.
 #![tactic(auto)]
 
 pub mod entry;

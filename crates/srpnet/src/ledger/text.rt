@@ -111,7 +111,8 @@ fn write_streams(
     file: &LedgerFile,
 ) -> Result<(), AllocError>
     requires now { now.0 ≡ ledger.now.moment }
-    ensures { OnOk result (string_bytes out.new ≡ string_bytes out.old ++ stream_lines ledger.now file.now.wants file.now.streams) }
+    ensures { OnOk result (string_bytes out.new
+        ≡ string_bytes out.old ++ stream_lines ledger.now file.now.wants file.now.streams) }
 {
     let wants = file.wants.as_slice();
     let streams = file.streams.as_slice();
