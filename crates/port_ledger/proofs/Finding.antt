@@ -21,7 +21,8 @@ use Rattle.port_ledger.specs.Book.{entry_of, entry_with, unbooked, with_want, sa
 use Rattle.port_ledger.specs.Pass.{is_among}
 
 -- what a binary search over ascending numbers answers
-pub among_found : (xs : List ℕ) (x : ℕ) (r : Result ℕ ℕ) → IsNonDecreasing xs → IsBinarySearchResult (λ y. nat_cmp y x) xs r → is_ok r ≡ is_among xs x
+pub among_found : (xs : List ℕ) (x : ℕ) (r : Result ℕ ℕ) → IsNonDecreasing xs
+    → IsBinarySearchResult (λ y. nat_cmp y x) xs r → is_ok r ≡ is_among xs x
 among_found xs x (Ok i) up h =
     let s : (i < length xs) × (get_or xs i 0 ≡ x) = searched xs x (Ok i) h (λ i j a b. up i j 0 a b) in
     sym (or_at (list_any (λ s. s == x)) (λ s. s == x) refl (λ _ _. refl) xs i 0 s.0 (eq-eqb (get_or xs i 0) x s.1))
@@ -33,13 +34,15 @@ among_found xs x (Err i) up h =
     (λ e. elim (cases_lt k i) [ inl below ↦ omega (arith, s.1 k below, e) | inr over ↦ omega (arith, s.2 k over l, e) ]))
 
 -- of two places the earlier has the lower StreamID
-pub ascending_at : (xs : List Entry) → IsAscending xs → (i j : ℕ) (d : Entry) → i < j → j < length xs → stream_of (get_or xs i d) < stream_of (get_or xs j d)
+pub ascending_at : (xs : List Entry) → IsAscending xs → (i j : ℕ) (d : Entry) → i < j → j < length xs
+    → stream_of (get_or xs i d) < stream_of (get_or xs j d)
 ascending_at [] up i j d l k = absurd (omega (arith, k))
 ascending_at (x ∷ xs) up i zero d l k = absurd (omega (arith, l))
 ascending_at (x ∷ xs) up zero (suc j) d l k = All-from_recursion (λ y. stream_of x < stream_of y) xs up.0 j d (omega (arith, k))
 ascending_at (x ∷ xs) up (suc i) (suc j) d l k = ascending_at xs up.1 i j d (omega (arith, l)) (omega (arith, k))
 
-sorted_from_ascending : (xs : List Entry) → IsAscending xs → IsSortedBy (λ a b. is_lt (nat_cmp (stream_of a) (stream_of b))) xs
+sorted_from_ascending : (xs : List Entry) → IsAscending xs
+    → IsSortedBy (λ a b. is_lt (nat_cmp (stream_of a) (stream_of b))) xs
 sorted_from_ascending xs up k d low high =
     let l : stream_of (get_or xs k d) < stream_of (get_or xs (k + 1) d) = ascending_at xs up k (k + 1) d (omega arith) high in
     grind (arith, nat_tests)
@@ -53,11 +56,15 @@ less_is a b h = grind (arith, nat_tests)
 greater_is : (a b : ℕ) → nat_cmp a b ≡ Greater → b < a
 greater_is a b h = grind (arith, nat_tests)
 
-pub place_found : (xs : List Entry) (stream : ℕ) (r : Result ℕ ℕ) → IsSearchInRange r (length xs) → IsBinarySearchResult (λ y. nat_cmp (stream_of y) stream) xs r → IfOk r (λ i. (i < length xs) × HoldsAt (λ x. stream_of x ≡ stream) xs i)
+pub place_found : (xs : List Entry) (stream : ℕ) (r : Result ℕ ℕ) → IsSearchInRange r (length xs)
+    → IsBinarySearchResult (λ y. nat_cmp (stream_of y) stream) xs r
+    → IfOk r (λ i. (i < length xs) × HoldsAt (λ x. stream_of x ≡ stream) xs i)
 place_found xs stream (Ok i) range h = (range, λ d. equal_is (stream_of (get_or xs i d)) stream (h d))
 place_found xs stream (Err i) range h = tt
 
-pub place_missing : (xs : List Entry) (stream : ℕ) (r : Result ℕ ℕ) → IsAscending xs → IsSearchInRange r (length xs) → IsBinarySearchResult (λ y. nat_cmp (stream_of y) stream) xs r → IfErr r (λ i. (i ≤ length xs) × AllWithin (λ x. stream_of x < stream) xs 0 i × AllWithin (λ x. stream < stream_of x) xs i (length xs))
+pub place_missing : (xs : List Entry) (stream : ℕ) (r : Result ℕ ℕ) → IsAscending xs
+    → IsSearchInRange r (length xs) → IsBinarySearchResult (λ y. nat_cmp (stream_of y) stream) xs r
+    → IfErr r (λ i. (i ≤ length xs) × AllWithin (λ x. stream_of x < stream) xs 0 i × AllWithin (λ x. stream < stream_of x) xs i (length xs))
 place_missing xs stream (Ok i) up range h = tt
 place_missing xs stream (Err i) up range h =
     let split : AllWithin (λ y. nat_cmp (stream_of y) stream ≡ Less) xs 0 i × AllWithin (λ y. nat_cmp (stream_of y) stream ≡ Greater) xs i (length xs) =
@@ -69,34 +76,40 @@ blank : Entry
 blank = record { want = record { stream = record { 0 = 0 }; class = A; rank = Emergency; slope = 0 }; since = None }
 
 -- the stream's entry is the one at that place
-pub found_is : (xs : List Entry) (stream i : ℕ) (d : Entry) → IsAscending xs → i < length xs → stream_of (get_or xs i d) ≡ stream → find (λ x. stream_of x == stream) xs ≡ Some (get_or xs i d)
+pub found_is : (xs : List Entry) (stream i : ℕ) (d : Entry) → IsAscending xs → i < length xs
+    → stream_of (get_or xs i d) ≡ stream → find (λ x. stream_of x == stream) xs ≡ Some (get_or xs i d)
 found_is xs stream i d up l e =
     found_at (find (λ x. stream_of x == stream)) (λ x. stream_of x == stream) (λ x. Some x) None refl (λ _ _. refl) xs i d l
     (λ k below. ne_eqb (stream_of (get_or xs k d)) stream (λ f. omega (arith, ascending_at xs up k i d below l, e, f)))
     (eq-eqb (stream_of (get_or xs i d)) stream e)
 
-pub missing_is : (xs : List Entry) (stream i : ℕ) → AllWithin (λ x. stream_of x < stream) xs 0 i → AllWithin (λ x. stream < stream_of x) xs i (length xs) → find (λ x. stream_of x == stream) xs ≡ None
+pub missing_is : (xs : List Entry) (stream i : ℕ) → AllWithin (λ x. stream_of x < stream) xs 0 i
+    → AllWithin (λ x. stream < stream_of x) xs i (length xs) → find (λ x. stream_of x == stream) xs ≡ None
 missing_is xs stream i low high =
     found_nowhere (find (λ x. stream_of x == stream)) (λ x. stream_of x == stream) (λ x. Some x) None refl (λ _ _. refl) xs blank
     (λ k l. ne_eqb (stream_of (get_or xs k blank)) stream
     (λ f. elim (cases_lt k i) [ inl below ↦ omega (arith, low k blank (omega arith) below, f) | inr over ↦ omega (arith, high k blank over l, f) ]))
 
 -- the first place of a list with a want, by how its StreamID compares
-pub with_want-lower : (x : Entry) (xs : List Entry) (want : Want) → want.stream.0 < stream_of x → with_want (x ∷ xs) want ≡ unbooked want ∷ x ∷ xs
+pub with_want-lower : (x : Entry) (xs : List Entry) (want : Want) → want.stream.0 < stream_of x
+    → with_want (x ∷ xs) want ≡ unbooked want ∷ x ∷ xs
 with_want-lower x xs want l = cond-true (nat_lt want.stream.0 (stream_of x)) _ _ (lt-ltb want.stream.0 (stream_of x) l)
 
-pub with_want-same : (x : Entry) (xs : List Entry) (want : Want) → stream_of x ≡ want.stream.0 → with_want (x ∷ xs) want ≡ entry_with x want ∷ xs
+pub with_want-same : (x : Entry) (xs : List Entry) (want : Want) → stream_of x ≡ want.stream.0
+    → with_want (x ∷ xs) want ≡ entry_with x want ∷ xs
 with_want-same x xs want e =
     cond-false (nat_lt want.stream.0 (stream_of x)) _ _ (le-ltb want.stream.0 (stream_of x) (omega (arith, e)))
     ∙ cond-true (want.stream.0 == stream_of x) _ _ (eq-eqb want.stream.0 (stream_of x) (sym e))
 
-pub with_want-higher : (x : Entry) (xs : List Entry) (want : Want) → stream_of x < want.stream.0 → with_want (x ∷ xs) want ≡ x ∷ with_want xs want
+pub with_want-higher : (x : Entry) (xs : List Entry) (want : Want) → stream_of x < want.stream.0
+    → with_want (x ∷ xs) want ≡ x ∷ with_want xs want
 with_want-higher x xs want l =
     cond-false (nat_lt want.stream.0 (stream_of x)) _ _ (le-ltb want.stream.0 (stream_of x) (omega (arith, l)))
     ∙ cond-false (want.stream.0 == stream_of x) _ _ (ne_eqb want.stream.0 (stream_of x) (λ e. omega (arith, e, l)))
 
 -- a want at the place of its stream's entry
-pub with_want-found : (xs : List Entry) (want : Want) (i : ℕ) (d : Entry) → IsAscending xs → i < length xs → stream_of (get_or xs i d) ≡ want.stream.0 → set xs i (entry_with (get_or xs i d) want) ≡ with_want xs want
+pub with_want-found : (xs : List Entry) (want : Want) (i : ℕ) (d : Entry) → IsAscending xs → i < length xs
+    → stream_of (get_or xs i d) ≡ want.stream.0 → set xs i (entry_with (get_or xs i d) want) ≡ with_want xs want
 with_want-found [] want i d up l e = absurd (omega (arith, l))
 with_want-found (x ∷ xs) want zero d up l e = sym (with_want-same x xs want e)
 with_want-found (x ∷ xs) want (suc i) d up l e =
@@ -104,7 +117,10 @@ with_want-found (x ∷ xs) want (suc i) d up l e =
     ap (λ ys. x ∷ ys) (with_want-found xs want i d up.1 (omega (arith, l)) e) ∙ sym (with_want-higher x xs want (omega (arith, below, e)))
 
 -- and where its stream has none
-pub with_want-missing : (xs : List Entry) (want : Want) (i : ℕ) → i ≤ length xs → AllWithin (λ x. stream_of x < want.stream.0) xs 0 i → AllWithin (λ x. want.stream.0 < stream_of x) xs i (length xs) → take i xs ++ unbooked want ∷ drop i xs ≡ with_want xs want
+pub with_want-missing : (xs : List Entry) (want : Want) (i : ℕ) → i ≤ length xs
+    → AllWithin (λ x. stream_of x < want.stream.0) xs 0 i
+    → AllWithin (λ x. want.stream.0 < stream_of x) xs i (length xs)
+    → take i xs ++ unbooked want ∷ drop i xs ≡ with_want xs want
 with_want-missing [] want zero l low high = refl
 with_want-missing [] want (suc i) l low high = absurd (omega (arith, l))
 with_want-missing (x ∷ xs) want zero l low high = sym (with_want-lower x xs want (high 0 x (omega arith) (omega arith)))
@@ -122,7 +138,8 @@ differ x y ne =
     (and_left (streams && classes && ranks) (x.want.slope == y.want.slope)
     (and_left (streams && classes) ranks (and_left streams classes (ne_eqb (stream_of x) (stream_of y) ne))))
 
-others_differ : (x : Entry) (xs : List Entry) → AllByRecursion (λ y. stream_of x < stream_of y) xs → list_any (same_entry x) xs ≡ false
+others_differ : (x : Entry) (xs : List Entry) → AllByRecursion (λ y. stream_of x < stream_of y) xs
+    → list_any (same_entry x) xs ≡ false
 others_differ x [] h = refl
 others_differ x (y ∷ ys) h =
     or_from (same_entry x y) (list_any (same_entry x) ys) (differ x y (λ e. let l : stream_of x < stream_of y = h.0 in omega (arith, e, l))) (others_differ x ys h.1)
@@ -136,7 +153,8 @@ or-false true b h = refl
 or-false false b h = sym h
 
 -- an entry is in an ascending list where it is the entry of its stream there
-pub has_entry_is : (x : Entry) (xs : List Entry) → IsAscending xs → found_same x (entry_of xs x.want.stream) ≡ list_any (same_entry x) xs
+pub has_entry_is : (x : Entry) (xs : List Entry) → IsAscending xs
+    → found_same x (entry_of xs x.want.stream) ≡ list_any (same_entry x) xs
 has_entry_is x [] up = refl
 has_entry_is x (y ∷ ys) up =
     elim (cases_Bool (stream_of y == stream_of x)) [

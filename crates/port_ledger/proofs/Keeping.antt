@@ -19,21 +19,27 @@ use Rattle.port_ledger.proofs.Finding.{with_want-lower, with_want-same, with_wan
 use Rattle.port_ledger.proofs.Standing.{decision_settled}
 
 -- class A has no more than both classes
-pub caps_share : (rate : Rate) (delta_a delta_b : ℕ) → (caps_of rate delta_a delta_b).class_a ≤ (caps_of rate delta_a delta_b).both
+pub caps_share : (rate : Rate) (delta_a delta_b : ℕ)
+    → (caps_of rate delta_a delta_b).class_a ≤ (caps_of rate delta_a delta_b).both
 caps_share rate delta_a delta_b =
     let n : ℕ = bits_of rate in
     grind arith
 
 -- a moment that isn't past its ledger's isn't past a later one
-moment_later : (since : Option Cs) (moment now : ℕ) → moment ≤ now → moment_or moment since ≤ moment → moment_or now since ≤ now
+moment_later : (since : Option Cs) (moment now : ℕ) → moment ≤ now → moment_or moment since ≤ moment
+    → moment_or now since ≤ now
 moment_later None moment now up h = omega arith
 moment_later (Some c) moment now up h = omega (arith, h, up)
 
-pub moments_later : (moment now : ℕ) (xs : List Entry) → moment ≤ now → AllByRecursion (λ x. moment_or moment x.since ≤ moment) xs → AllByRecursion (λ x. moment_or now x.since ≤ now) xs
+pub moments_later : (moment now : ℕ) (xs : List Entry) → moment ≤ now
+    → AllByRecursion (λ x. moment_or moment x.since ≤ moment) xs
+    → AllByRecursion (λ x. moment_or now x.since ≤ now) xs
 moments_later moment now xs up h = all_with xs h h (λ x k _. moment_later x.since moment now up k)
 
 -- a fact of each entry, with a want
-all-with_want : (P : Entry → Type 0) (want : Want) (xs : List Entry) → P (unbooked want) → ((x : Entry) → stream_of x ≡ want.stream.0 → P x → P (entry_with x want)) → AllByRecursion P xs → AllByRecursion P (with_want xs want)
+all-with_want : (P : Entry → Type 0) (want : Want) (xs : List Entry) → P (unbooked want)
+    → ((x : Entry) → stream_of x ≡ want.stream.0 → P x → P (entry_with x want)) → AllByRecursion P xs
+    → AllByRecursion P (with_want xs want)
 all-with_want P want [] new more h = (new, tt)
 all-with_want P want (x ∷ xs) new more h =
     elim (cases_order want.stream.0 (stream_of x)) [
@@ -44,7 +50,8 @@ all-with_want P want (x ∷ xs) new more h =
       ]
     ]
 
-stream_of-entry_with : (x : Entry) (want : Want) → stream_of x ≡ want.stream.0 → stream_of (entry_with x want) ≡ stream_of x
+stream_of-entry_with : (x : Entry) (want : Want) → stream_of x ≡ want.stream.0
+    → stream_of (entry_with x want) ≡ stream_of x
 stream_of-entry_with x want e =
     elim (same_want x.want want) as (λ v. stream_of (cond v x (unbooked want)) ≡ stream_of x) [ true ↦ refl | false ↦ sym e ]
 
@@ -63,35 +70,44 @@ ascending-with_want want (x ∷ xs) up =
       ]
     ]
 
-moment-entry_with : (now : ℕ) (x : Entry) (want : Want) → moment_or now x.since ≤ now → moment_or now (entry_with x want).since ≤ now
+moment-entry_with : (now : ℕ) (x : Entry) (want : Want) → moment_or now x.since ≤ now
+    → moment_or now (entry_with x want).since ≤ now
 moment-entry_with now x want h =
     elim (same_want x.want want) as (λ v. moment_or now (cond v x (unbooked want)).since ≤ now) [ true ↦ h | false ↦ omega arith ]
 
-pub moments-with_want : (now : ℕ) (want : Want) (xs : List Entry) → AllByRecursion (λ x. moment_or now x.since ≤ now) xs → AllByRecursion (λ x. moment_or now x.since ≤ now) (with_want xs want)
+pub moments-with_want : (now : ℕ) (want : Want) (xs : List Entry)
+    → AllByRecursion (λ x. moment_or now x.since ≤ now) xs
+    → AllByRecursion (λ x. moment_or now x.since ≤ now) (with_want xs want)
 moments-with_want now want xs h =
     all-with_want (λ x. moment_or now x.since ≤ now) want xs (omega arith) (λ x _ k. moment-entry_with now x want k) h
 
 -- moments that are set change no stream, and none is past the decision's
-above-settled : (n now : ℕ) (xs : List Entry) (marks : List Bool) → AllByRecursion (λ y. n < stream_of y) xs → AllByRecursion (λ y. n < stream_of y) (settled now xs marks)
+above-settled : (n now : ℕ) (xs : List Entry) (marks : List Bool) → AllByRecursion (λ y. n < stream_of y) xs
+    → AllByRecursion (λ y. n < stream_of y) (settled now xs marks)
 above-settled n now [] marks h = tt
 above-settled n now (x ∷ xs) [] h = tt
 above-settled n now (x ∷ xs) (mark ∷ marks) h = (h.0, above-settled n now xs marks h.1)
 
-ascending-settled : (now : ℕ) (xs : List Entry) (marks : List Bool) → IsAscending xs → IsAscending (settled now xs marks)
+ascending-settled : (now : ℕ) (xs : List Entry) (marks : List Bool) → IsAscending xs
+    → IsAscending (settled now xs marks)
 ascending-settled now [] marks up = tt
 ascending-settled now (x ∷ xs) [] up = tt
 ascending-settled now (x ∷ xs) (mark ∷ marks) up = (above-settled (stream_of x) now xs marks up.0, ascending-settled now xs marks up.1)
 
-moment-since_after : (now : ℕ) (since : Option Cs) (mark : Bool) → moment_or now since ≤ now → moment_or now (since_after now since mark) ≤ now
+moment-since_after : (now : ℕ) (since : Option Cs) (mark : Bool) → moment_or now since ≤ now
+    → moment_or now (since_after now since mark) ≤ now
 moment-since_after now since true h = h
 moment-since_after now since false h = omega arith
 
-moments-settled : (now : ℕ) (xs : List Entry) (marks : List Bool) → AllByRecursion (λ x. moment_or now x.since ≤ now) xs → AllByRecursion (λ x. moment_or now x.since ≤ now) (settled now xs marks)
+moments-settled : (now : ℕ) (xs : List Entry) (marks : List Bool)
+    → AllByRecursion (λ x. moment_or now x.since ≤ now) xs
+    → AllByRecursion (λ x. moment_or now x.since ≤ now) (settled now xs marks)
 moments-settled now [] marks h = tt
 moments-settled now (x ∷ xs) [] h = tt
 moments-settled now (x ∷ xs) (mark ∷ marks) h = (moment-since_after now x.since mark h.0, moments-settled now xs marks h.1)
 
-pub ascending_after : (now : ℕ) (caps : Caps) (before after : List Entry) → IsAscending before → Decides now caps before after → IsAscending after
+pub ascending_after : (now : ℕ) (caps : Caps) (before after : List Entry) → IsAscending before
+    → Decides now caps before after → IsAscending after
 ascending_after now caps before after up d = subst (λ (ys : List Entry). IsAscending ys) (sym d.moments) (ascending-settled now before (marks_of after) up)
 
 -- a decided list of entries makes a ledger
@@ -111,7 +127,8 @@ kept_with_want book now want after kept up d =
     (moments-with_want now want book.entries (moments_later book.moment now book.entries up kept.moments)) d
 
 -- what was written through a slice of all of a vector
-pub written_back : (n : ℕ) (xs ys : List Entry) → n ≡ length xs → length ys ≡ length xs → take n (ys ++ drop (length ys) xs) ≡ ys
+pub written_back : (n : ℕ) (xs ys : List Entry) → n ≡ length xs → length ys ≡ length xs
+    → take n (ys ++ drop (length ys) xs) ≡ ys
 written_back n xs ys e f = ap (λ k. take k (ys ++ drop (length ys) xs)) (e ∙ sym f) ∙ take-append_seam ys (drop (length ys) xs)
 
 -- a want is tested against the entries that the book has

@@ -1,6 +1,7 @@
 pub mod Finding
 pub mod Keeping
 pub mod Marking
+pub mod PerStream
 pub mod Ranking
 pub mod Running
 pub mod Shares

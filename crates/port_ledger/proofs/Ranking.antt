@@ -1,64 +1,65 @@
 -- The entries in the order of importance, and what doesn't depend on the order of a list.
 use Rattle.std.proofs.Common.{◌≡◌, ◌≢◌, ◌⊎◌, ℕ, suc, ◌+◌, ◌<◌, ◌≤◌, Bool, true, false, not, ◌==◌, cond, List, [], ◌∷◌, length, get_or, refl, sym, ◌∙◌, ap, subst, arith, inl, inr, true≢false, zero-add}
 use Rattle.std.specs.Prelude.{nat_le}
-use Rattle.std.specs.Cmp.{IsStrictWeakOrder}
 use Rattle.std.specs.List.{AllByRecursion, All}
 use Rattle.std.specs.List.Sorted.{IsPermutation, IsSortedBy}
-use Rattle.std.proofs.lemmas.List.Sorted.{ranks_by, sorted_far, IsPermutation-refl, IsPermutation-cons, IsPermutation-swap, IsPermutation-trans, All-permutation, sum_by-IsPermutation}
+use Rattle.std.proofs.lemmas.List.Sorted.{sorted_far, IsPermutation-refl, IsPermutation-cons, IsPermutation-swap, IsPermutation-trans, All-permutation, sum_by-IsPermutation}
 use Rattle.std.proofs.lemmas.List.Elements.{All-from_recursion, recursion_from_All}
 use Rattle.std.proofs.lemmas.List.Recursion.{is_sum_by}
 use Rattle.std.proofs.lemmas.Bool.{ne_eqb, eq-eqb, and_parts, and_from, not_from_false, cases_Bool, eqb-true}
 use Rattle.stream_importance.specs.declared.entry.Entry.{Entry}
 use Rattle.stream_importance.specs.declared.slope.Caps.{Caps}
 use Rattle.stream_importance.specs.Bandwidth.{cap_of}
-use Rattle.stream_importance.specs.Importance.{is_more_important}
-use Rattle.stream_importance.proofs.OrderLaws.{importance_total, importance_transitive, importance_compares}
-use Rattle.port_ledger.specs.Decision.{stream_of, slope_of, goes_before, AreOfDifferentStreams}
+use Rattle.stream_importance.specs.Importance.{is_more_important, IsImportanceOrder}
+use Rattle.port_ledger.specs.Decision.{stream_of, entry_slope, is_preceded_by, AreOfDifferentStreams}
 use Rattle.port_ledger.proofs.Running.{part, IsRanked, Holds, all_with}
 
-pub importance_ranks : (now : ℕ) → IsStrictWeakOrder (is_more_important now)
-importance_ranks now = ranks_by (importance_total now) (λ (x : Entry). x)
-
 -- of two entries of different streams one goes before the other
-goes_either_way : (now : ℕ) (x y : Entry) → stream_of x ≢ stream_of y → (goes_before now y x ≡ true) ⊎ (goes_before now x y ≡ true)
-goes_either_way now x y ne =
-    elim (importance_compares now x y ne) [
+goes_either_way : (now : ℕ) (o : IsImportanceOrder now) (x y : Entry) → stream_of x ≢ stream_of y
+    → (is_preceded_by now y x ≡ true) ⊎ (is_preceded_by now x y ≡ true)
+goes_either_way now o x y ne =
+    elim (o.total x y ne) [
       | inl h ↦ inl (and_from (not (stream_of x == stream_of y)) (is_more_important now x y) (not_from_false (stream_of x == stream_of y) (ne_eqb (stream_of x) (stream_of y) ne)) h)
       | inr h ↦ inr (and_from (not (stream_of y == stream_of x)) (is_more_important now y x) (not_from_false (stream_of y == stream_of x) (ne_eqb (stream_of y) (stream_of x) (λ e. ne (sym e)))) h)
     ]
 
-goes_far : (now : ℕ) (x y z : Entry) → stream_of x ≢ stream_of z → goes_before now y x ≡ true → goes_before now z y ≡ true → goes_before now z x ≡ true
-goes_far now x y z ne h k =
+goes_far : (now : ℕ) (o : IsImportanceOrder now) (x y z : Entry) → stream_of x ≢ stream_of z
+    → is_preceded_by now y x ≡ true → is_preceded_by now z y ≡ true → is_preceded_by now z x ≡ true
+goes_far now o x y z ne h k =
     and_from (not (stream_of x == stream_of z)) (is_more_important now x z)
     (not_from_false (stream_of x == stream_of z) (ne_eqb (stream_of x) (stream_of z) ne))
-    (importance_transitive now x y z (and_parts (not (stream_of x == stream_of y)) (is_more_important now x y) h).1
+    (o.transitive x y z (and_parts (not (stream_of x == stream_of y)) (is_more_important now x y) h).1
     (and_parts (not (stream_of y == stream_of z)) (is_more_important now y z) k).1)
 
 -- what isn't after goes before
-goes_if_not_after : (now : ℕ) (x y : Entry) → stream_of x ≢ stream_of y → is_more_important now y x ≡ false → goes_before now y x ≡ true
-goes_if_not_after now x y ne h =
-    elim (goes_either_way now x y ne) [
+goes_if_not_after : (now : ℕ) (o : IsImportanceOrder now) (x y : Entry) → stream_of x ≢ stream_of y
+    → is_more_important now y x ≡ false → is_preceded_by now y x ≡ true
+goes_if_not_after now o x y ne h =
+    elim (goes_either_way now o x y ne) [
       | inl k ↦ k
       | inr k ↦ absurd (true≢false (sym (and_parts (not (stream_of y == stream_of x)) (is_more_important now y x) k).1 ∙ h))
     ]
 
 -- a sort by importance puts entries of different streams in order
-pub ranked_from_places : (now : ℕ) (xs : List Entry) → AreOfDifferentStreams xs → ((i j : ℕ) (d : Entry) → i < j → j < length xs → is_more_important now (get_or xs j d) (get_or xs i d) ≡ false) → IsRanked now xs
-ranked_from_places now [] different h = tt
-ranked_from_places now (x ∷ xs) different h =
+pub ranked_from_places : (now : ℕ) (o : IsImportanceOrder now) (xs : List Entry) → AreOfDifferentStreams xs
+    → ((i j : ℕ) (d : Entry) → i < j → j < length xs → is_more_important now (get_or xs j d) (get_or xs i d) ≡ false)
+    → IsRanked now xs
+ranked_from_places now o [] different h = tt
+ranked_from_places now o (x ∷ xs) different h =
     let after : All (λ y. is_more_important now y x ≡ false) xs = λ k d l. h 0 (suc k) d (omega arith) (omega arith) in (
-      all_with xs different.0 (recursion_from_All (λ y. is_more_important now y x ≡ false) xs after) (λ y ne no. goes_if_not_after now x y ne no),
-      ranked_from_places now xs different.1 (λ i j d l k. h (suc i) (suc j) d (omega arith) (omega arith)),
+      all_with xs different.0 (recursion_from_All (λ y. is_more_important now y x ≡ false) xs after) (λ y ne no. goes_if_not_after now o x y ne no),
+      ranked_from_places now o xs different.1 (λ i j d l k. h (suc i) (suc j) d (omega arith) (omega arith)),
     )
 
-pub ranked_from_sorted : (now : ℕ) (xs : List Entry) → AreOfDifferentStreams xs → IsSortedBy (is_more_important now) xs → IsRanked now xs
-ranked_from_sorted now xs different sorted =
-    ranked_from_places now xs different (λ i j d l k. sorted_far (is_more_important now) (importance_ranks now) xs sorted i j d (omega arith) k)
+pub ranked_from_sorted : (now : ℕ) (o : IsImportanceOrder now) (xs : List Entry) → AreOfDifferentStreams xs
+    → IsSortedBy (is_more_important now) xs → IsRanked now xs
+ranked_from_sorted now o xs different sorted =
+    ranked_from_places now o xs different (λ i j d l k. sorted_far (is_more_important now) o.ranks xs sorted i j d (omega arith) k)
 
 -- the entries in the order of importance, by insertion
 abbrev place : ℕ → Entry → List Entry → List Entry
 place now x [] = x ∷ []
-place now x (y ∷ ys) = cond (goes_before now y x) (x ∷ y ∷ ys) (y ∷ place now x ys)
+place now x (y ∷ ys) = cond (is_preceded_by now y x) (x ∷ y ∷ ys) (y ∷ place now x ys)
 
 abbrev pub ranked : ℕ → List Entry → List Entry
 ranked now [] = []
@@ -67,7 +68,7 @@ ranked now (x ∷ xs) = place now x (ranked now xs)
 IsPermutation-place : (now : ℕ) (x : Entry) (ys : List Entry) → IsPermutation (x ∷ ys) (place now x ys)
 IsPermutation-place now x [] = IsPermutation-refl (x ∷ [])
 IsPermutation-place now x (y ∷ ys) =
-    elim (goes_before now y x) as (λ v. IsPermutation (x ∷ y ∷ ys) (cond v (x ∷ y ∷ ys) (y ∷ place now x ys))) [
+    elim (is_preceded_by now y x) as (λ v. IsPermutation (x ∷ y ∷ ys) (cond v (x ∷ y ∷ ys) (y ∷ place now x ys))) [
       | true ↦ IsPermutation-refl (x ∷ y ∷ ys)
       | false ↦ IsPermutation-trans (x ∷ y ∷ ys) (y ∷ x ∷ ys) (y ∷ place now x ys)
           (IsPermutation-swap (x ∷ y ∷ ys) (y ∷ x ∷ ys) 0 1 (omega arith) (omega arith) refl)
@@ -81,25 +82,28 @@ IsPermutation-ranked now (x ∷ xs) =
     (IsPermutation-cons x xs (ranked now xs) (IsPermutation-ranked now xs)) (IsPermutation-place now x (ranked now xs))
 
 -- a fact of each element is one of each element in another order
-pub all_permuted : {X : Type 0} (P : X → Type 0) (xs ys : List X) → IsPermutation xs ys → AllByRecursion P xs → AllByRecursion P ys
+pub all_permuted : {X : Type 0} (P : X → Type 0) (xs ys : List X) → IsPermutation xs ys → AllByRecursion P xs
+    → AllByRecursion P ys
 all_permuted P xs ys p h = recursion_from_All P ys (All-permutation P xs ys p (All-from_recursion P xs h))
 
-ranked-place : (now : ℕ) (x : Entry) (ys : List Entry) → AllByRecursion (λ y. stream_of x ≢ stream_of y) ys → IsRanked now ys → IsRanked now (place now x ys)
-ranked-place now x [] ne r = (tt, tt)
-ranked-place now x (y ∷ ys) ne r =
-    elim (cases_Bool (goes_before now y x)) [
+ranked-place : (now : ℕ) (o : IsImportanceOrder now) (x : Entry) (ys : List Entry)
+    → AllByRecursion (λ y. stream_of x ≢ stream_of y) ys → IsRanked now ys → IsRanked now (place now x ys)
+ranked-place now o x [] ne r = (tt, tt)
+ranked-place now o x (y ∷ ys) ne r =
+    elim (cases_Bool (is_preceded_by now y x)) [
       | inl h ↦ subst (λ (v : Bool). IsRanked now (cond v (x ∷ y ∷ ys) (y ∷ place now x ys))) (sym h)
-          ((h, all_with ys ne.1 r.0 (λ z other later. goes_far now x y z other h later)), r)
+          ((h, all_with ys ne.1 r.0 (λ z other later. goes_far now o x y z other h later)), r)
       | inr h ↦ subst (λ (v : Bool). IsRanked now (cond v (x ∷ y ∷ ys) (y ∷ place now x ys))) (sym h)
-          (let first : goes_before now x y ≡ true =
-          elim (goes_either_way now x y ne.0) [ inl k ↦ absurd (true≢false (sym k ∙ h)) | inr k ↦ k ] in
-          (all_permuted (λ z. goes_before now z y ≡ true) (x ∷ ys) (place now x ys) (IsPermutation-place now x ys) (first, r.0), ranked-place now x ys ne.1 r.1))
+          (let first : is_preceded_by now x y ≡ true =
+          elim (goes_either_way now o x y ne.0) [ inl k ↦ absurd (true≢false (sym k ∙ h)) | inr k ↦ k ] in
+          (all_permuted (λ z. is_preceded_by now z y ≡ true) (x ∷ ys) (place now x ys) (IsPermutation-place now x ys) (first, r.0), ranked-place now o x ys ne.1 r.1))
     ]
 
-pub ranked_is_ranked : (now : ℕ) (xs : List Entry) → AreOfDifferentStreams xs → IsRanked now (ranked now xs)
-ranked_is_ranked now [] different = tt
-ranked_is_ranked now (x ∷ xs) different =
-    ranked-place now x (ranked now xs) (all_permuted (λ y. stream_of x ≢ stream_of y) xs (ranked now xs) (IsPermutation-ranked now xs) different.0) (ranked_is_ranked now xs different.1)
+pub ranked_is_ranked : (now : ℕ) (o : IsImportanceOrder now) (xs : List Entry) → AreOfDifferentStreams xs
+    → IsRanked now (ranked now xs)
+ranked_is_ranked now o [] different = tt
+ranked_is_ranked now o (x ∷ xs) different =
+    ranked-place now o x (ranked now xs) (all_permuted (λ y. stream_of x ≢ stream_of y) xs (ranked now xs) (IsPermutation-ranked now xs) different.0) (ranked_is_ranked now o xs different.1)
 
 abbrev one_if : Bool → ℕ
 one_if true = 1
@@ -144,7 +148,8 @@ different_from_copies (x ∷ xs) h =
       different_from_copies xs (λ s. omega (arith, h s)),
     )
 
-pub different_permuted : (xs ys : List Entry) → IsPermutation xs ys → AreOfDifferentStreams xs → AreOfDifferentStreams ys
+pub different_permuted : (xs ys : List Entry) → IsPermutation xs ys → AreOfDifferentStreams xs
+    → AreOfDifferentStreams ys
 different_permuted xs ys p different =
     different_from_copies ys
     (λ s. let f : Entry → ℕ = λ e. one_if (stream_of e == s) in
@@ -153,12 +158,15 @@ different_permuted xs ys p different =
     omega (arith, same, copies_at_most xs different s))
 
 -- what a kind of entries takes comes to the same in another order
-pub part-IsPermutation : (b kind : Entry → Bool) (xs ys : List Entry) → IsPermutation xs ys → part b kind ys ≡ part b kind xs
+pub part-IsPermutation : (b kind : Entry → Bool) (xs ys : List Entry) → IsPermutation xs ys
+    → part b kind ys ≡ part b kind xs
 part-IsPermutation b kind xs ys p =
-    let f : Entry → ℕ = λ e. cond (b e) (cond (kind e) (slope_of e) 0) 0 in
+    let f : Entry → ℕ = λ e. cond (b e) (cond (kind e) (entry_slope e) 0) 0 in
     is_sum_by (part b kind) f refl (λ _ _. refl) ys ∙ (sum_by-IsPermutation f xs ys p ∙ sym (is_sum_by (part b kind) f refl (λ _ _. refl) xs))
 
-pub holds_permuted : (now : ℕ) (caps : Caps) (sum : ℕ) (b : Entry → Bool) (xs ys : List Entry) → IsPermutation xs ys → AllByRecursion (Holds now caps sum b xs) xs → AllByRecursion (Holds now caps sum b ys) ys
+pub holds_permuted : (now : ℕ) (caps : Caps) (sum : ℕ) (b : Entry → Bool) (xs ys : List Entry)
+    → IsPermutation xs ys → AllByRecursion (Holds now caps sum b xs) xs
+    → AllByRecursion (Holds now caps sum b ys) ys
 holds_permuted now caps sum b xs ys p h =
     let moved : AllByRecursion (Holds now caps sum b xs) ys = all_permuted (Holds now caps sum b xs) xs ys p h in
-    all_with ys moved moved (λ x k _. k ∙ ap (λ n. nat_le (sum + n + slope_of x) (cap_of caps x.want.class)) (sym (part-IsPermutation b (goes_before now x) xs ys p)))
+    all_with ys moved moved (λ x k _. k ∙ ap (λ n. nat_le (sum + n + entry_slope x) (cap_of caps x.want.class)) (sym (part-IsPermutation b (is_preceded_by now x) xs ys p)))

@@ -8,62 +8,66 @@ use Rattle.std.proofs.lemmas.Bool.{eq-eqb, and_parts, and_left, and_right, false
 use Rattle.stream_importance.specs.declared.entry.Entry.{Entry}
 use Rattle.stream_importance.specs.declared.slope.Caps.{Caps}
 use Rattle.stream_importance.specs.Bandwidth.{cap_of}
-use Rattle.stream_importance.specs.Importance.{is_more_important}
-use Rattle.stream_importance.proofs.OrderLaws.{importance_strict}
-use Rattle.port_ledger.specs.Decision.{stream_of, slope_of, goes_before, above}
+use Rattle.stream_importance.specs.Importance.{is_more_important, IsImportanceOrder}
+use Rattle.port_ledger.specs.Decision.{stream_of, entry_slope, is_preceded_by, above}
 
 -- what the chosen entries of one kind take, as a sum over all entries
 abbrev pub part : (Entry → Bool) → (Entry → Bool) → List Entry → ℕ
 part b kind [] = 0
-part b kind (e ∷ es) = cond (b e) (cond (kind e) (slope_of e) 0) 0 + part b kind es
+part b kind (e ∷ es) = cond (b e) (cond (kind e) (entry_slope e) 0) 0 + part b kind es
 
 -- what of a chosen set goes before x
 abbrev pub total : (Entry → Bool) → ℕ → Entry → List Entry → ℕ
-total b now x = part b (goes_before now x)
+total b now x = part b (is_preceded_by now x)
 
-pub sum-filter-cons : (kind : Entry → Bool) (e : Entry) (es : List Entry) → sum_by slope_of (filter kind (e ∷ es)) ≡ cond (kind e) (slope_of e) 0 + sum_by slope_of (filter kind es)
+pub sum-filter-cons : (kind : Entry → Bool) (e : Entry) (es : List Entry)
+    → sum_by entry_slope (filter kind (e ∷ es)) ≡ cond (kind e) (entry_slope e) 0 + sum_by entry_slope (filter kind es)
 sum-filter-cons kind e es =
-    elim (kind e) as (λ v. sum_by slope_of (cond v (e ∷ filter kind es) (filter kind es)) ≡ cond v (slope_of e) 0 + sum_by slope_of (filter kind es))
-    [ true ↦ sum_by-cons slope_of e (filter kind es) | false ↦ sym (zero-add (sum_by slope_of (filter kind es))) ]
+    elim (kind e) as (λ v. sum_by entry_slope (cond v (e ∷ filter kind es) (filter kind es)) ≡ cond v (entry_slope e) 0 + sum_by entry_slope (filter kind es))
+    [ true ↦ sum_by-cons entry_slope e (filter kind es) | false ↦ sym (zero-add (sum_by entry_slope (filter kind es))) ]
 
-pub sum-filter : (b kind : Entry → Bool) (es : List Entry) → sum_by slope_of (filter kind (filter b es)) ≡ part b kind es
+pub sum-filter : (b kind : Entry → Bool) (es : List Entry)
+    → sum_by entry_slope (filter kind (filter b es)) ≡ part b kind es
 sum-filter b kind [] = refl
 sum-filter b kind (e ∷ es) =
-    elim (b e) as (λ v. sum_by slope_of (filter kind (cond v (e ∷ filter b es) (filter b es))) ≡ cond v (cond (kind e) (slope_of e) 0) 0 + part b kind es) [
-      | true ↦ sum-filter-cons kind e (filter b es) ∙ ap (λ n. cond (kind e) (slope_of e) 0 + n) (sum-filter b kind es)
+    elim (b e) as (λ v. sum_by entry_slope (filter kind (cond v (e ∷ filter b es) (filter b es))) ≡ cond v (cond (kind e) (entry_slope e) 0) 0 + part b kind es) [
+      | true ↦ sum-filter-cons kind e (filter b es) ∙ ap (λ n. cond (kind e) (entry_slope e) 0 + n) (sum-filter b kind es)
       | false ↦ sum-filter b kind es ∙ sym (zero-add (part b kind es))
     ]
 
-pub above-filter : (b : Entry → Bool) (now : ℕ) (x : Entry) (es : List Entry) → above now x (filter b es) ≡ total b now x es
-above-filter b now x es = sum-filter b (goes_before now x) es
+pub above-filter : (b : Entry → Bool) (now : ℕ) (x : Entry) (es : List Entry)
+    → above now x (filter b es) ≡ total b now x es
+above-filter b now x es = sum-filter b (is_preceded_by now x) es
 
 -- each entry goes before all later ones
 abbrev pub IsRanked : ℕ → List Entry → Type 0
 IsRanked now [] = Unit {0}
-IsRanked now (x ∷ xs) = AllByRecursion (λ y. goes_before now y x ≡ true) xs × IsRanked now xs
+IsRanked now (x ∷ xs) = AllByRecursion (λ y. is_preceded_by now y x ≡ true) xs × IsRanked now xs
 
 -- the chosen ones are those that a running sum lets in
 abbrev pub Runs : Caps → ℕ → (Entry → Bool) → List Entry → Type 0
 Runs caps sum b [] = Unit {0}
 Runs caps sum b (x ∷ xs) =
-    (b x ≡ nat_le (sum + slope_of x) (cap_of caps x.want.class)) × Runs caps (sum + cond (b x) (slope_of x) 0) b xs
+    (b x ≡ nat_le (sum + entry_slope x) (cap_of caps x.want.class)) × Runs caps (sum + cond (b x) (entry_slope x) 0) b xs
 
 -- the same by the condition on the set, beside a sum that went before
 abbrev pub Holds : ℕ → Caps → ℕ → (Entry → Bool) → List Entry → Entry → Type 0
-Holds now caps sum b set x = b x ≡ nat_le (sum + total b now x set + slope_of x) (cap_of caps x.want.class)
+Holds now caps sum b set x = b x ≡ nat_le (sum + total b now x set + entry_slope x) (cap_of caps x.want.class)
 
-pub all_with : {X : Type 0} {P Q R : X → Type 0} (xs : List X) → AllByRecursion P xs → AllByRecursion Q xs → ((x : X) → P x → Q x → R x) → AllByRecursion R xs
+pub all_with : {X : Type 0} {P Q R : X → Type 0} (xs : List X) → AllByRecursion P xs → AllByRecursion Q xs
+    → ((x : X) → P x → Q x → R x) → AllByRecursion R xs
 all_with [] p q f = tt
 all_with (x ∷ xs) p q f = (f x p.0 q.0, all_with xs p.1 q.1 f)
 
 -- of two entries one goes before the other at most
-goes_one_way : (now : ℕ) (x y : Entry) → goes_before now y x ≡ true → goes_before now x y ≡ false
-goes_one_way now x y h =
+goes_one_way : (now : ℕ) (o : IsImportanceOrder now) (x y : Entry) → is_preceded_by now y x ≡ true
+    → is_preceded_by now x y ≡ false
+goes_one_way now o x y h =
     and_right (not (stream_of y == stream_of x)) (is_more_important now y x)
     (false_from_ne_true (is_more_important now y x)
-    (λ k. importance_strict now x y (and_parts (not (stream_of x == stream_of y)) (is_more_important now x y) h).1 k))
+    (λ k. o.strict x y (and_parts (not (stream_of x == stream_of y)) (is_more_important now x y) h).1 k))
 
-not_itself : (now : ℕ) (x : Entry) → goes_before now x x ≡ false
+not_itself : (now : ℕ) (x : Entry) → is_preceded_by now x x ≡ false
 not_itself now x =
     and_left (not (stream_of x == stream_of x)) (is_more_important now x x)
     (not_from_true (stream_of x == stream_of x) (eq-eqb (stream_of x) (stream_of x) refl))
@@ -78,56 +82,64 @@ weight-yes true g s h = cond-true g s 0 h
 weight-yes false g s h = refl
 
 -- nothing that goes after x goes before it
-total-none : (b : Entry → Bool) (now : ℕ) (x : Entry) (es : List Entry) → AllByRecursion (λ y. goes_before now y x ≡ true) es → total b now x es ≡ 0
-total-none b now x [] h = refl
-total-none b now x (e ∷ es) h =
-    let w : cond (b e) (cond (goes_before now x e) (slope_of e) 0) 0 ≡ 0 = weight-no (b e) (goes_before now x e) (slope_of e) (goes_one_way now x e h.0) in
-    let r : total b now x es ≡ 0 = total-none b now x es h.1 in
+total-none : (b : Entry → Bool) (now : ℕ) (o : IsImportanceOrder now) (x : Entry) (es : List Entry)
+    → AllByRecursion (λ y. is_preceded_by now y x ≡ true) es → total b now x es ≡ 0
+total-none b now o x [] h = refl
+total-none b now o x (e ∷ es) h =
+    let w : cond (b e) (cond (is_preceded_by now x e) (entry_slope e) 0) 0 ≡ 0 = weight-no (b e) (is_preceded_by now x e) (entry_slope e) (goes_one_way now o x e h.0) in
+    let r : total b now x es ≡ 0 = total-none b now o x es h.1 in
     omega (arith, w, r)
 
 -- at the head nothing goes before
-total-head : (b : Entry → Bool) (now : ℕ) (x : Entry) (xs : List Entry) → AllByRecursion (λ y. goes_before now y x ≡ true) xs → total b now x (x ∷ xs) ≡ 0
-total-head b now x xs h =
-    let w : cond (b x) (cond (goes_before now x x) (slope_of x) 0) 0 ≡ 0 = weight-no (b x) (goes_before now x x) (slope_of x) (not_itself now x) in
-    let r : total b now x xs ≡ 0 = total-none b now x xs h in
+total-head : (b : Entry → Bool) (now : ℕ) (o : IsImportanceOrder now) (x : Entry) (xs : List Entry)
+    → AllByRecursion (λ y. is_preceded_by now y x ≡ true) xs → total b now x (x ∷ xs) ≡ 0
+total-head b now o x xs h =
+    let w : cond (b x) (cond (is_preceded_by now x x) (entry_slope x) 0) 0 ≡ 0 = weight-no (b x) (is_preceded_by now x x) (entry_slope x) (not_itself now x) in
+    let r : total b now x xs ≡ 0 = total-none b now o x xs h in
     omega (arith, w, r)
 
 -- further on the head counts where it is chosen
-total-tail : (b : Entry → Bool) (now : ℕ) (x y : Entry) (xs : List Entry) (sum : ℕ) → goes_before now y x ≡ true → sum + cond (b x) (slope_of x) 0 + total b now y xs ≡ sum + total b now y (x ∷ xs)
+total-tail : (b : Entry → Bool) (now : ℕ) (x y : Entry) (xs : List Entry) (sum : ℕ)
+    → is_preceded_by now y x ≡ true
+    → sum + cond (b x) (entry_slope x) 0 + total b now y xs ≡ sum + total b now y (x ∷ xs)
 total-tail b now x y xs sum h =
-    let w : cond (b x) (cond (goes_before now y x) (slope_of x) 0) 0 ≡ cond (b x) (slope_of x) 0 = weight-yes (b x) (goes_before now y x) (slope_of x) h in
+    let w : cond (b x) (cond (is_preceded_by now y x) (entry_slope x) 0) 0 ≡ cond (b x) (entry_slope x) 0 = weight-yes (b x) (is_preceded_by now y x) (entry_slope x) h in
     omega (arith, w)
 
-pub holds_from_runs : (now : ℕ) (caps : Caps) (sum : ℕ) (b : Entry → Bool) (xs : List Entry) → IsRanked now xs → Runs caps sum b xs → AllByRecursion (Holds now caps sum b xs) xs
-holds_from_runs now caps sum b [] ranked runs = tt
-holds_from_runs now caps sum b (x ∷ xs) ranked runs =
-    let none : sum ≡ sum + total b now x (x ∷ xs) = omega (arith, total-head b now x xs ranked.0) in
-    let head : b x ≡ nat_le (sum + total b now x (x ∷ xs) + slope_of x) (cap_of caps x.want.class) = runs.0 ∙ ap (λ n. nat_le (n + slope_of x) (cap_of caps x.want.class)) none in
-    let rest : AllByRecursion (Holds now caps (sum + cond (b x) (slope_of x) 0) b xs) xs = holds_from_runs now caps (sum + cond (b x) (slope_of x) 0) b xs ranked.1 runs.1 in
-    (head, all_with xs ranked.0 rest (λ y before h. h ∙ ap (λ n. nat_le (n + slope_of y) (cap_of caps y.want.class)) (total-tail b now x y xs sum before)))
+pub holds_from_runs : (now : ℕ) (o : IsImportanceOrder now) (caps : Caps) (sum : ℕ) (b : Entry → Bool) (xs : List Entry)
+    → IsRanked now xs → Runs caps sum b xs → AllByRecursion (Holds now caps sum b xs) xs
+holds_from_runs now o caps sum b [] ranked runs = tt
+holds_from_runs now o caps sum b (x ∷ xs) ranked runs =
+    let none : sum ≡ sum + total b now x (x ∷ xs) = omega (arith, total-head b now o x xs ranked.0) in
+    let head : b x ≡ nat_le (sum + total b now x (x ∷ xs) + entry_slope x) (cap_of caps x.want.class) = runs.0 ∙ ap (λ n. nat_le (n + entry_slope x) (cap_of caps x.want.class)) none in
+    let rest : AllByRecursion (Holds now caps (sum + cond (b x) (entry_slope x) 0) b xs) xs = holds_from_runs now o caps (sum + cond (b x) (entry_slope x) 0) b xs ranked.1 runs.1 in
+    (head, all_with xs ranked.0 rest (λ y before h. h ∙ ap (λ n. nat_le (n + entry_slope y) (cap_of caps y.want.class)) (total-tail b now x y xs sum before)))
 
-pub runs_from_holds : (now : ℕ) (caps : Caps) (sum : ℕ) (b : Entry → Bool) (xs : List Entry) → IsRanked now xs → AllByRecursion (Holds now caps sum b xs) xs → Runs caps sum b xs
-runs_from_holds now caps sum b [] ranked holds = tt
-runs_from_holds now caps sum b (x ∷ xs) ranked holds =
-    let none : sum + total b now x (x ∷ xs) ≡ sum = omega (arith, total-head b now x xs ranked.0) in
-    let rest : AllByRecursion (Holds now caps (sum + cond (b x) (slope_of x) 0) b xs) xs = all_with xs ranked.0 holds.1 (λ y before h. h ∙ ap (λ n. nat_le (n + slope_of y) (cap_of caps y.want.class)) (sym (total-tail b now x y xs sum before))) in (
-      holds.0 ∙ ap (λ n. nat_le (n + slope_of x) (cap_of caps x.want.class)) none,
-      runs_from_holds now caps (sum + cond (b x) (slope_of x) 0) b xs ranked.1 rest,
+pub runs_from_holds : (now : ℕ) (o : IsImportanceOrder now) (caps : Caps) (sum : ℕ) (b : Entry → Bool) (xs : List Entry)
+    → IsRanked now xs → AllByRecursion (Holds now caps sum b xs) xs → Runs caps sum b xs
+runs_from_holds now o caps sum b [] ranked holds = tt
+runs_from_holds now o caps sum b (x ∷ xs) ranked holds =
+    let none : sum + total b now x (x ∷ xs) ≡ sum = omega (arith, total-head b now o x xs ranked.0) in
+    let rest : AllByRecursion (Holds now caps (sum + cond (b x) (entry_slope x) 0) b xs) xs = all_with xs ranked.0 holds.1 (λ y before h. h ∙ ap (λ n. nat_le (n + entry_slope y) (cap_of caps y.want.class)) (sym (total-tail b now x y xs sum before))) in (
+      holds.0 ∙ ap (λ n. nat_le (n + entry_slope x) (cap_of caps x.want.class)) none,
+      runs_from_holds now o caps (sum + cond (b x) (entry_slope x) 0) b xs ranked.1 rest,
     )
 
 -- a pass comes out in one way
-pub runs_agree : (caps : Caps) (s t : ℕ) (b c : Entry → Bool) (xs : List Entry) → s ≡ t → Runs caps s b xs → Runs caps t c xs → AllByRecursion (λ x. b x ≡ c x) xs
+pub runs_agree : (caps : Caps) (s t : ℕ) (b c : Entry → Bool) (xs : List Entry) → s ≡ t → Runs caps s b xs
+    → Runs caps t c xs → AllByRecursion (λ x. b x ≡ c x) xs
 runs_agree caps s t b c [] e p q = tt
 runs_agree caps s t b c (x ∷ xs) e p q =
-    let same : b x ≡ c x = p.0 ∙ (ap (λ n. nat_le (n + slope_of x) (cap_of caps x.want.class)) e ∙ sym q.0) in
-    let sums : s + cond (b x) (slope_of x) 0 ≡ t + cond (c x) (slope_of x) 0 = ap (λ n. n + cond (b x) (slope_of x) 0) e ∙ ap (λ v. t + cond v (slope_of x) 0) same in
-    (same, runs_agree caps (s + cond (b x) (slope_of x) 0) (t + cond (c x) (slope_of x) 0) b c xs sums p.1 q.1)
+    let same : b x ≡ c x = p.0 ∙ (ap (λ n. nat_le (n + entry_slope x) (cap_of caps x.want.class)) e ∙ sym q.0) in
+    let sums : s + cond (b x) (entry_slope x) 0 ≡ t + cond (c x) (entry_slope x) 0 = ap (λ n. n + cond (b x) (entry_slope x) 0) e ∙ ap (λ v. t + cond v (entry_slope x) 0) same in
+    (same, runs_agree caps (s + cond (b x) (entry_slope x) 0) (t + cond (c x) (entry_slope x) 0) b c xs sums p.1 q.1)
 
 -- two choices that agree on the entries run alike
-pub runs_like : (caps : Caps) (s t : ℕ) (b c : Entry → Bool) (xs : List Entry) → s ≡ t → AllByRecursion (λ x. b x ≡ c x) xs → Runs caps s b xs → Runs caps t c xs
+pub runs_like : (caps : Caps) (s t : ℕ) (b c : Entry → Bool) (xs : List Entry) → s ≡ t
+    → AllByRecursion (λ x. b x ≡ c x) xs → Runs caps s b xs → Runs caps t c xs
 runs_like caps s t b c [] e same runs = tt
 runs_like caps s t b c (x ∷ xs) e same runs =
-    let sums : s + cond (b x) (slope_of x) 0 ≡ t + cond (c x) (slope_of x) 0 = ap (λ n. n + cond (b x) (slope_of x) 0) e ∙ ap (λ v. t + cond v (slope_of x) 0) same.0 in (
-      sym same.0 ∙ (runs.0 ∙ ap (λ n. nat_le (n + slope_of x) (cap_of caps x.want.class)) e),
-      runs_like caps (s + cond (b x) (slope_of x) 0) (t + cond (c x) (slope_of x) 0) b c xs sums same.1 runs.1,
+    let sums : s + cond (b x) (entry_slope x) 0 ≡ t + cond (c x) (entry_slope x) 0 = ap (λ n. n + cond (b x) (entry_slope x) 0) e ∙ ap (λ v. t + cond v (entry_slope x) 0) same.0 in (
+      sym same.0 ∙ (runs.0 ∙ ap (λ n. nat_le (n + entry_slope x) (cap_of caps x.want.class)) e),
+      runs_like caps (s + cond (b x) (entry_slope x) 0) (t + cond (c x) (entry_slope x) 0) b c xs sums same.1 runs.1,
     )

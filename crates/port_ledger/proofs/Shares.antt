@@ -1,5 +1,5 @@
 -- The booked slopes stay within the caps.
-use Rattle.std.proofs.Common.{◌≡◌, ◌⊎◌, ℕ, ◌+◌, ◌≤◌, Bool, true, false, not, ◌==◌, cond, List, [], ◌∷◌, filter, sum_by, refl, sym, ◌∙◌, ap, arith, inl, inr}
+use Rattle.std.proofs.Common.{◌≡◌, ◌⊎◌, ℕ, ◌+◌, ◌≤◌, Bool, true, false, not, ◌==◌, cond, List, [], ◌∷◌, filter, sum_by, refl, sym, ◌∙◌, ap, subst, arith, inl, inr}
 use Rattle.std.specs.Prelude.{nat_le}
 use Rattle.std.specs.declared.cmp.Ordering.{Ordering}
 use Rattle.std.specs.declared.cmp.Ordering.TheVariants.{Less, Equal, Greater}
@@ -9,11 +9,13 @@ use Rattle.std.proofs.lemmas.Bool.{and_parts, leb-true}
 use Rattle.srp_base.specs.declared.bandwidth.Class.{Class}
 use Rattle.srp_base.specs.declared.bandwidth.Class.TheVariants.{A, B}
 use Rattle.stream_importance.specs.declared.entry.Entry.{Entry}
+use Rattle.stream_importance.specs.declared.entry.Fit.{Fit}
+use Rattle.stream_importance.specs.declared.entry.Fit.TheVariants.{Fits, TooLittle}
 use Rattle.stream_importance.specs.declared.slope.Caps.{Caps}
 use Rattle.stream_importance.specs.Bandwidth.{cap_of}
-use Rattle.stream_importance.specs.Importance.{class_number, rank_number, moment_or, is_more_important}
-use Rattle.port_ledger.specs.Decision.{stream_of, slope_of, goes_before, is_booked, booked_of, marks_of, IsDecision, AreOfDifferentStreams}
-use Rattle.port_ledger.specs.Book.{Book, IsKept, booked_slope}
+use Rattle.stream_importance.specs.Importance.{class_number, rank_number, moment_or, is_more_important, IsImportanceOrder}
+use Rattle.port_ledger.specs.Decision.{stream_of, entry_slope, above, does_fit, is_preceded_by, is_booked, booked_of, marks_of, IsDecision, AreOfDifferentStreams}
+use Rattle.port_ledger.specs.Book.{Book, IsKept, IsFitWithin, booked_slope, code_of, fit_in}
 use Rattle.port_ledger.proofs.Running.{part, sum-filter, weight-no, weight-yes, IsRanked, Runs, all_with}
 use Rattle.port_ledger.proofs.Ranking.{ranked, ranked_is_ranked, IsPermutation-ranked, part-IsPermutation}
 use Rattle.port_ledger.proofs.Marking.{choice, different_from_ascending, marked-map, marked-choice, holds_from_decision, ranked_runs}
@@ -23,7 +25,8 @@ abbrev pub is_of : Class → Entry → Bool
 is_of class x = class_number x.want.class == class_number class
 
 -- of each entry one class has the slope
-class_parts : (class : Class) (slope : ℕ) (chosen : Bool) → cond chosen (cond (class_number class == 0) slope 0) 0 + cond chosen (cond (class_number class == 1) slope 0) 0 ≡ cond chosen slope 0
+class_parts : (class : Class) (slope : ℕ) (chosen : Bool)
+    → cond chosen (cond (class_number class == 0) slope 0) 0 + cond chosen (cond (class_number class == 1) slope 0) 0 ≡ cond chosen slope 0
 class_parts A slope true = omega arith
 class_parts A slope false = omega arith
 class_parts B slope true = omega arith
@@ -34,19 +37,22 @@ cap_within : (caps : Caps) (class : Class) → caps.class_a ≤ caps.both → ca
 cap_within caps A h = h
 cap_within caps B h = omega arith
 
-step_within : (chosen : Bool) (sum slope cap most : ℕ) → chosen ≡ nat_le (sum + slope) cap → cap ≤ most → sum ≤ most → sum + cond chosen slope 0 ≤ most
+step_within : (chosen : Bool) (sum slope cap most : ℕ) → chosen ≡ nat_le (sum + slope) cap → cap ≤ most
+    → sum ≤ most → sum + cond chosen slope 0 ≤ most
 step_within true sum slope cap most e h k = omega (arith, leb-true (sum + slope) cap (sym e))
 step_within false sum slope cap most e h k = omega arith
 
-runs_both : (caps : Caps) (sum : ℕ) (b : Entry → Bool) (xs : List Entry) → caps.class_a ≤ caps.both → sum ≤ caps.both → Runs caps sum b xs → sum + (part b (is_of A) xs + part b (is_of B) xs) ≤ caps.both
+runs_both : (caps : Caps) (sum : ℕ) (b : Entry → Bool) (xs : List Entry) → caps.class_a ≤ caps.both
+    → sum ≤ caps.both → Runs caps sum b xs → sum + (part b (is_of A) xs + part b (is_of B) xs) ≤ caps.both
 runs_both caps sum b [] shares h runs = omega (arith, h)
 runs_both caps sum b (x ∷ xs) shares h runs =
-    let next : sum + cond (b x) (slope_of x) 0 ≤ caps.both =
-    step_within (b x) sum (slope_of x) (cap_of caps x.want.class) caps.both runs.0 (cap_within caps x.want.class shares) h in
-    omega (arith, class_parts x.want.class (slope_of x) (b x), runs_both caps (sum + cond (b x) (slope_of x) 0) b xs shares next runs.1)
+    let next : sum + cond (b x) (entry_slope x) 0 ≤ caps.both =
+    step_within (b x) sum (entry_slope x) (cap_of caps x.want.class) caps.both runs.0 (cap_within caps x.want.class shares) h in
+    omega (arith, class_parts x.want.class (entry_slope x) (b x), runs_both caps (sum + cond (b x) (entry_slope x) 0) b xs shares next runs.1)
 
 -- after an entry of class B come only such
-not_a_after_b : (now : ℕ) (x y : Entry) (class other : Class) → x.want.class ≡ class → y.want.class ≡ other → class ≡ B → goes_before now y x ≡ true → other ≡ B
+not_a_after_b : (now : ℕ) (x y : Entry) (class other : Class) → x.want.class ≡ class → y.want.class ≡ other
+    → class ≡ B → is_preceded_by now y x ≡ true → other ≡ B
 not_a_after_b now x y class B e f g h = refl
 not_a_after_b now x y class A e f g h =
     let lt : is_more_important now x y ≡ true = (and_parts (not (stream_of x == stream_of y)) (is_more_important now x y) h).1 in
@@ -63,54 +69,93 @@ not_a_after_b now x y class A e f g h =
 none_of_a : (b : Entry → Bool) (xs : List Entry) → AllByRecursion (λ y. y.want.class ≡ B) xs → part b (is_of A) xs ≡ 0
 none_of_a b [] h = refl
 none_of_a b (x ∷ xs) h =
-    let w : cond (b x) (cond (is_of A x) (slope_of x) 0) 0 ≡ 0 = weight-no (b x) (is_of A x) (slope_of x) (ap (λ c. class_number c == 0) h.0) in
+    let w : cond (b x) (cond (is_of A x) (entry_slope x) 0) 0 ≡ 0 = weight-no (b x) (is_of A x) (entry_slope x) (ap (λ c. class_number c == 0) h.0) in
     omega (arith, w, none_of_a b xs h.1)
 
 either_class : (class : Class) → (class ≡ A) ⊎ (class ≡ B)
 either_class A = inl refl
 either_class B = inr refl
 
-runs_a : (now : ℕ) (caps : Caps) (sum : ℕ) (b : Entry → Bool) (xs : List Entry) → IsRanked now xs → sum ≤ caps.class_a → Runs caps sum b xs → sum + part b (is_of A) xs ≤ caps.class_a
+runs_a : (now : ℕ) (caps : Caps) (sum : ℕ) (b : Entry → Bool) (xs : List Entry) → IsRanked now xs
+    → sum ≤ caps.class_a → Runs caps sum b xs → sum + part b (is_of A) xs ≤ caps.class_a
 runs_a now caps sum b [] ranked h runs = omega (arith, h)
 runs_a now caps sum b (x ∷ xs) ranked h runs =
     elim (either_class x.want.class) [
       | inl e ↦
           (let cap : cap_of caps x.want.class ≡ caps.class_a = ap (cap_of caps) e in
-          let next : sum + cond (b x) (slope_of x) 0 ≤ caps.class_a =
-          step_within (b x) sum (slope_of x) (cap_of caps x.want.class) caps.class_a runs.0 (omega (arith, cap)) h in
-          let w : cond (b x) (cond (is_of A x) (slope_of x) 0) 0 ≡ cond (b x) (slope_of x) 0 =
-          weight-yes (b x) (is_of A x) (slope_of x) (ap (λ c. class_number c == 0) e) in
-          omega (arith, w, runs_a now caps (sum + cond (b x) (slope_of x) 0) b xs ranked.1 next runs.1))
+          let next : sum + cond (b x) (entry_slope x) 0 ≤ caps.class_a =
+          step_within (b x) sum (entry_slope x) (cap_of caps x.want.class) caps.class_a runs.0 (omega (arith, cap)) h in
+          let w : cond (b x) (cond (is_of A x) (entry_slope x) 0) 0 ≡ cond (b x) (entry_slope x) 0 =
+          weight-yes (b x) (is_of A x) (entry_slope x) (ap (λ c. class_number c == 0) e) in
+          omega (arith, w, runs_a now caps (sum + cond (b x) (entry_slope x) 0) b xs ranked.1 next runs.1))
       | inr e ↦
-          (let w : cond (b x) (cond (is_of A x) (slope_of x) 0) 0 ≡ 0 =
-          weight-no (b x) (is_of A x) (slope_of x) (ap (λ c. class_number c == 0) e) in
+          (let w : cond (b x) (cond (is_of A x) (entry_slope x) 0) 0 ≡ 0 =
+          weight-no (b x) (is_of A x) (entry_slope x) (ap (λ c. class_number c == 0) e) in
           let rest : part b (is_of A) xs ≡ 0 =
           none_of_a b xs (all_with xs ranked.0 ranked.0 (λ y before _. not_a_after_b now x y x.want.class y.want.class refl refl e before)) in
           omega (arith, w, rest, h))
     ]
 
 -- the booked slopes of a class, in the order of importance
-booked_slope-ranked : (now : ℕ) (caps : Caps) (xs : List Entry) (class : Class) → IsDecision now caps xs (marks_of xs) → booked_slope xs class ≡ part (choice now caps xs (marks_of xs)) (is_of class) (ranked now xs)
+booked_slope-ranked : (now : ℕ) (caps : Caps) (xs : List Entry) (class : Class)
+    → IsDecision now caps xs (marks_of xs)
+    → booked_slope xs class ≡ part (choice now caps xs (marks_of xs)) (is_of class) (ranked now xs)
 booked_slope-ranked now caps xs class d =
     let b : Entry → Bool = choice now caps xs (marks_of xs) in
     let set : booked_of xs ≡ filter b xs = sym (marked-map is_booked xs) ∙ marked-choice now caps xs (marks_of xs) d in
-    ap (λ ys. sum_by slope_of (filter (is_of class) ys)) set
+    ap (λ ys. sum_by entry_slope (filter (is_of class) ys)) set
     ∙ (sum-filter b (is_of class) xs ∙ sym (part-IsPermutation b (is_of class) xs (ranked now xs) (IsPermutation-ranked now xs)))
 
 pub record IsWithin (caps : Caps) (xs : List Entry) : Type 0 where
   pub class_a : booked_slope xs A ≤ caps.class_a
   pub both : booked_slope xs A + booked_slope xs B ≤ caps.both
 
-pub within_caps : (now : ℕ) (caps : Caps) (xs : List Entry) → AreOfDifferentStreams xs → caps.class_a ≤ caps.both → IsDecision now caps xs (marks_of xs) → IsWithin caps xs
-within_caps now caps xs different shares d =
+pub within_caps : (now : ℕ) (o : IsImportanceOrder now) (caps : Caps) (xs : List Entry)
+    → AreOfDifferentStreams xs → caps.class_a ≤ caps.both → IsDecision now caps xs (marks_of xs)
+    → IsWithin caps xs
+within_caps now o caps xs different shares d =
     let b : Entry → Bool = choice now caps xs (marks_of xs) in
-    let runs : Runs caps 0 b (ranked now xs) = ranked_runs now caps b xs different (holds_from_decision now caps xs (marks_of xs) d) in
+    let runs : Runs caps 0 b (ranked now xs) = ranked_runs now o caps b xs different (holds_from_decision now caps xs (marks_of xs) d) in
     let a : booked_slope xs A ≡ part b (is_of A) (ranked now xs) = booked_slope-ranked now caps xs A d in
     let other : booked_slope xs B ≡ part b (is_of B) (ranked now xs) = booked_slope-ranked now caps xs B d in
     record {
-      class_a = omega (arith, a, runs_a now caps 0 b (ranked now xs) (ranked_is_ranked now xs different) (omega arith) runs);
+      class_a = omega (arith, a, runs_a now caps 0 b (ranked now xs) (ranked_is_ranked now o xs different) (omega arith) runs);
       both = omega (arith, a, other, runs_both caps 0 b (ranked now xs) shares (omega arith) runs);
     }
 
-pub book_within : (book : Book) → IsKept book → IsWithin book.caps book.entries
-book_within book kept = within_caps book.moment book.caps book.entries (different_from_ascending book.entries kept.ascending) kept.shares kept.decision
+pub book_within : (book : Book) → IsImportanceOrder book.moment → IsKept book → IsWithin book.caps book.entries
+book_within book o kept = within_caps book.moment o book.caps book.entries (different_from_ascending book.entries kept.ascending) kept.shares kept.decision
+
+-- chosen entries of a kind take no more than those of both classes
+weight_within : (b kind : Bool) (slope : ℕ) → cond b (cond kind slope 0) 0 ≤ cond b slope 0
+weight_within true true slope = omega arith
+weight_within true false slope = omega arith
+weight_within false kind slope = omega arith
+
+part_within : (b kind : Entry → Bool) (xs : List Entry) → part b kind xs ≤ part b (is_of A) xs + part b (is_of B) xs
+part_within b kind [] = omega arith
+part_within b kind (x ∷ xs) =
+    omega (arith, weight_within (b x) (kind x) (entry_slope x), class_parts x.want.class (entry_slope x) (b x), part_within b kind xs)
+
+-- what goes before an entry is a part of what is booked
+above_within : (now : ℕ) (x : Entry) (xs : List Entry)
+    → above now x (booked_of xs) ≤ booked_slope xs A + booked_slope xs B
+above_within now x xs =
+    omega (
+      arith,
+      part_within is_booked (is_preceded_by now x) xs,
+      sum-filter is_booked (is_preceded_by now x) xs,
+      sum-filter is_booked (is_of A) xs,
+      sum-filter is_booked (is_of B) xs,
+    )
+
+pub fit_within : (now : ℕ) (caps : Caps) (xs : List Entry) (x : Entry) (fit : Fit)
+    → fit ≡ fit_in now caps (booked_of xs) x → caps.class_a ≤ caps.both
+    → booked_slope xs A + booked_slope xs B ≤ caps.both → IsFitWithin caps.both fit
+fit_within now caps xs x fit e shares within =
+    subst (λ (f : Fit). IsFitWithin caps.both f) (sym e) (by_test (does_fit now caps (booked_of xs) x))
+  where
+    by_test : (b : Bool)
+        → IsFitWithin caps.both (cond b Fits (TooLittle (above now x (booked_of xs)) (cap_of caps x.want.class) (code_of now caps (booked_of xs) x)))
+    by_test true = tt
+    by_test false = (omega (arith, above_within now x xs, within), cap_within caps x.want.class shares)

@@ -12,7 +12,7 @@ use Rattle.stream_importance.specs.declared.entry.Entry.{Entry}
 use Rattle.stream_importance.specs.declared.slope.Caps.{Caps}
 use Rattle.stream_importance.specs.Bandwidth.{cap_of}
 use Rattle.stream_importance.specs.Importance.{class_number, rank_number, moment_or, is_more_important}
-use Rattle.port_ledger.specs.Decision.{stream_of, slope_of, goes_before, above, does_fit, marked, IsDecision, marks_of, since_after, settled, Decides}
+use Rattle.port_ledger.specs.Decision.{stream_of, entry_slope, is_preceded_by, above, does_fit, marked, IsDecision, marks_of, since_after, settled, Decides}
 use Rattle.port_ledger.specs.Book.{Book, IsKept}
 use Rattle.port_ledger.proofs.Running.{sum-filter-cons}
 
@@ -26,7 +26,8 @@ same_is_equal p q h = grind (arith, nat_tests)
 above_is_greater : (p q : ℕ) → q < p → nat_cmp p q ≡ Greater
 above_is_greater p q h = grind (arith, nat_tests)
 
-still_before : (p q later : ℕ) (rest : Ordering) → q ≤ later → is_lt (ordering_then (nat_cmp p q) rest) ≡ true → is_lt (ordering_then (nat_cmp p later) rest) ≡ true
+still_before : (p q later : ℕ) (rest : Ordering) → q ≤ later → is_lt (ordering_then (nat_cmp p q) rest) ≡ true
+    → is_lt (ordering_then (nat_cmp p later) rest) ≡ true
 still_before p q later rest up h =
     elim (cases_order p q) [
       | inl e ↦ elim (cases_order p later) [
@@ -42,7 +43,9 @@ still_before p q later rest up h =
       ]
     ]
 
-still_first : (first second rest : Ordering) (p q later : ℕ) → q ≤ later → is_lt (ordering_then first (ordering_then second (ordering_then (nat_cmp p q) rest))) ≡ true → is_lt (ordering_then first (ordering_then second (ordering_then (nat_cmp p later) rest))) ≡ true
+still_first : (first second rest : Ordering) (p q later : ℕ) → q ≤ later
+    → is_lt (ordering_then first (ordering_then second (ordering_then (nat_cmp p q) rest))) ≡ true
+    → is_lt (ordering_then first (ordering_then second (ordering_then (nat_cmp p later) rest))) ≡ true
 still_first Less second rest p q later up h = refl
 still_first Equal Less rest p q later up h = refl
 still_first Equal Equal rest p q later up h = still_before p q later rest up h
@@ -57,25 +60,28 @@ abbrev pub left_out : ℕ → Entry → Entry
 left_out now x = record x { since = since_after now x.since false }
 
 -- the booked set is the same, with the moments
-marked-settled : (now : ℕ) (xs : List Entry) (marks : List Bool) → marked (settled now xs marks) marks ≡ map (kept now) (marked xs marks)
+marked-settled : (now : ℕ) (xs : List Entry) (marks : List Bool)
+    → marked (settled now xs marks) marks ≡ map (kept now) (marked xs marks)
 marked-settled now [] marks = refl
 marked-settled now (x ∷ xs) [] = refl
 marked-settled now (x ∷ xs) (true ∷ marks) = ap (λ ys. kept now x ∷ ys) (marked-settled now xs marks)
 marked-settled now (x ∷ xs) (false ∷ marks) = marked-settled now xs marks
 
 -- among booked entries nothing changes
-above-kept : (now later : ℕ) (x : Entry) (set : List Entry) → above later (kept now x) (map (kept now) set) ≡ above now x set
+above-kept : (now later : ℕ) (x : Entry) (set : List Entry)
+    → above later (kept now x) (map (kept now) set) ≡ above now x set
 above-kept now later x [] = refl
 above-kept now later x (e ∷ es) =
-    sum-filter-cons (goes_before later (kept now x)) (kept now e) (map (kept now) es)
-    ∙ (ap (λ n. cond (goes_before now x e) (slope_of e) 0 + n) (above-kept now later x es) ∙ sym (sum-filter-cons (goes_before now x) e es))
+    sum-filter-cons (is_preceded_by later (kept now x)) (kept now e) (map (kept now) es)
+    ∙ (ap (λ n. cond (is_preceded_by now x e) (entry_slope e) 0 + n) (above-kept now later x es) ∙ sym (sum-filter-cons (is_preceded_by now x) e es))
 
 weight_grows : (g h : Bool) (slope : ℕ) → (g ≡ true → h ≡ true) → cond g slope 0 ≤ cond h slope 0
 weight_grows true true slope f = omega arith
 weight_grows true false slope f = absurd (let k : false ≡ true = f refl in cc)
 weight_grows false h slope f = omega arith
 
-goes_still : (now later : ℕ) (x e : Entry) → moment_or now x.since ≤ later → goes_before now x e ≡ true → goes_before later (left_out now x) (kept now e) ≡ true
+goes_still : (now later : ℕ) (x e : Entry) → moment_or now x.since ≤ later → is_preceded_by now x e ≡ true
+    → is_preceded_by later (left_out now x) (kept now e) ≡ true
 goes_still now later x e up h =
     let parts : (not (stream_of e == stream_of x) ≡ true) × (is_more_important now e x ≡ true) = and_parts (not (stream_of e == stream_of x)) (is_more_important now e x) h in
     and_from (not (stream_of e == stream_of x)) (is_more_important later (kept now e) (left_out now x)) parts.0
@@ -83,26 +89,29 @@ goes_still now later x e up h =
     (moment_or now e.since) (moment_or now x.since) later up parts.1)
 
 -- above one that isn't booked stands no less than before
-above_grows : (now later : ℕ) (x : Entry) (set : List Entry) → moment_or now x.since ≤ later → above now x set ≤ above later (left_out now x) (map (kept now) set)
+above_grows : (now later : ℕ) (x : Entry) (set : List Entry) → moment_or now x.since ≤ later
+    → above now x set ≤ above later (left_out now x) (map (kept now) set)
 above_grows now later x [] up = omega arith
 above_grows now later x (e ∷ es) up =
-    let grows : cond (goes_before now x e) (slope_of e) 0 ≤ cond (goes_before later (left_out now x) (kept now e)) (slope_of e) 0 =
-    weight_grows (goes_before now x e) (goes_before later (left_out now x) (kept now e)) (slope_of e) (goes_still now later x e up) in
+    let grows : cond (is_preceded_by now x e) (entry_slope e) 0 ≤ cond (is_preceded_by later (left_out now x) (kept now e)) (entry_slope e) 0 =
+    weight_grows (is_preceded_by now x e) (is_preceded_by later (left_out now x) (kept now e)) (entry_slope e) (goes_still now later x e up) in
     omega (
       arith,
       grows,
       above_grows now later x es up,
-      sum-filter-cons (goes_before now x) e es,
-      sum-filter-cons (goes_before later (left_out now x)) (kept now e) (map (kept now) es),
+      sum-filter-cons (is_preceded_by now x) e es,
+      sum-filter-cons (is_preceded_by later (left_out now x)) (kept now e) (map (kept now) es),
     )
 
 one_stands : (now later : ℕ) (caps : Caps) (set : List Entry) (x : Entry) (mark : Bool) → moment_or now x.since ≤ later → mark ≡ does_fit now caps set x → mark ≡ does_fit later caps (map (kept now) set) (record x { since = since_after now x.since mark })
-one_stands now later caps set x true up h = h ∙ ap (λ n. nat_le (n + slope_of x) (cap_of caps x.want.class)) (sym (above-kept now later x set))
+one_stands now later caps set x true up h = h ∙ ap (λ n. nat_le (n + entry_slope x) (cap_of caps x.want.class)) (sym (above-kept now later x set))
 one_stands now later caps set x false up h =
-    let over : cap_of caps x.want.class < above now x set + slope_of x = leb-false (above now x set + slope_of x) (cap_of caps x.want.class) (sym h) in
-    sym (lt-leb (above later (left_out now x) (map (kept now) set) + slope_of x) (cap_of caps x.want.class) (omega (arith, over, above_grows now later x set up)))
+    let over : cap_of caps x.want.class < above now x set + entry_slope x = leb-false (above now x set + entry_slope x) (cap_of caps x.want.class) (sym h) in
+    sym (lt-leb (above later (left_out now x) (map (kept now) set) + entry_slope x) (cap_of caps x.want.class) (omega (arith, over, above_grows now later x set up)))
 
-fits_stand : (now later : ℕ) (caps : Caps) (set xs : List Entry) (marks : List Bool) → AllByRecursion (λ x. moment_or now x.since ≤ later) xs → marks ≡ map (does_fit now caps set) xs → marks ≡ map (does_fit later caps (map (kept now) set)) (settled now xs marks)
+fits_stand : (now later : ℕ) (caps : Caps) (set xs : List Entry) (marks : List Bool)
+    → AllByRecursion (λ x. moment_or now x.since ≤ later) xs → marks ≡ map (does_fit now caps set) xs
+    → marks ≡ map (does_fit later caps (map (kept now) set)) (settled now xs marks)
 fits_stand now later caps set [] marks up h = h
 fits_stand now later caps set (x ∷ xs) [] up h = cc
 fits_stand now later caps set (x ∷ xs) (mark ∷ marks) up h =
@@ -111,7 +120,9 @@ fits_stand now later caps set (x ∷ xs) (mark ∷ marks) up h =
     ap (λ m. m ∷ marks) (one_stands now later caps set x mark up.0 first)
     ∙ ap (λ ms. does_fit later caps (map (kept now) set) (record x { since = since_after now x.since mark }) ∷ ms) (fits_stand now later caps set xs marks up.1 rest)
 
-pub decision_stands : (now later : ℕ) (caps : Caps) (xs : List Entry) (marks : List Bool) → AllByRecursion (λ x. moment_or now x.since ≤ later) xs → IsDecision now caps xs marks → IsDecision later caps (settled now xs marks) marks
+pub decision_stands : (now later : ℕ) (caps : Caps) (xs : List Entry) (marks : List Bool)
+    → AllByRecursion (λ x. moment_or now x.since ≤ later) xs → IsDecision now caps xs marks
+    → IsDecision later caps (settled now xs marks) marks
 decision_stands now later caps xs marks up d =
     fits_stand now later caps (marked xs marks) xs marks up d
     ∙ ap (λ set. map (does_fit later caps set) (settled now xs marks)) (sym (marked-settled now xs marks))
@@ -126,20 +137,27 @@ settled-own now [] = refl
 settled-own now (x ∷ xs) =
     ap (λ s. record x { since = s } ∷ settled now xs (marks_of xs)) (since_own now x.since) ∙ ap (λ ys. x ∷ ys) (settled-own now xs)
 
-pub moments_before : (now later : ℕ) (xs : List Entry) → now ≤ later → AllByRecursion (λ x. moment_or now x.since ≤ now) xs → AllByRecursion (λ x. moment_or now x.since ≤ later) xs
+pub moments_before : (now later : ℕ) (xs : List Entry) → now ≤ later
+    → AllByRecursion (λ x. moment_or now x.since ≤ now) xs
+    → AllByRecursion (λ x. moment_or now x.since ≤ later) xs
 moments_before now later [] up h = tt
 moments_before now later (x ∷ xs) up h = (omega (arith, h.0, up), moments_before now later xs up h.1)
 
 -- time passes
-pub decision_later : (now later : ℕ) (caps : Caps) (xs : List Entry) → now ≤ later → AllByRecursion (λ x. moment_or now x.since ≤ now) xs → IsDecision now caps xs (marks_of xs) → IsDecision later caps xs (marks_of xs)
+pub decision_later : (now later : ℕ) (caps : Caps) (xs : List Entry) → now ≤ later
+    → AllByRecursion (λ x. moment_or now x.since ≤ now) xs → IsDecision now caps xs (marks_of xs)
+    → IsDecision later caps xs (marks_of xs)
 decision_later now later caps xs up h d =
     subst (λ (ys : List Entry). IsDecision later caps ys (marks_of xs)) (settled-own now xs) (decision_stands now later caps xs (marks_of xs) (moments_before now later xs up h) d)
 
 -- moments are set
-pub decision_settled : (now : ℕ) (caps : Caps) (before after : List Entry) → AllByRecursion (λ x. moment_or now x.since ≤ now) before → Decides now caps before after → IsDecision now caps after (marks_of after)
+pub decision_settled : (now : ℕ) (caps : Caps) (before after : List Entry)
+    → AllByRecursion (λ x. moment_or now x.since ≤ now) before → Decides now caps before after
+    → IsDecision now caps after (marks_of after)
 decision_settled now caps before after h d =
     subst (λ (ys : List Entry). IsDecision now caps ys (marks_of after)) (sym d.moments) (decision_stands now now caps before (marks_of after) h d.decision)
 
 -- the booked set of a ledger is decided at every later moment
-pub book_stands : (book : Book) → IsKept book → (later : ℕ) → book.moment ≤ later → IsDecision later book.caps book.entries (marks_of book.entries)
+pub book_stands : (book : Book) → IsKept book → (later : ℕ) → book.moment ≤ later
+    → IsDecision later book.caps book.entries (marks_of book.entries)
 book_stands book kept later up = decision_later book.moment later book.caps book.entries up kept.moments kept.decision

@@ -6,44 +6,46 @@ use Rattle.std.proofs.lemmas.Bool.{ne_eqb, eq-eqb, or_from, or_left}
 use Rattle.stream_importance.specs.declared.entry.Entry.{Entry}
 use Rattle.stream_importance.specs.declared.slope.Caps.{Caps}
 use Rattle.stream_importance.specs.Bandwidth.{cap_of}
-use Rattle.port_ledger.specs.Decision.{stream_of, slope_of, AreOfDifferentStreams}
+use Rattle.port_ledger.specs.Decision.{stream_of, entry_slope, AreOfDifferentStreams}
 use Rattle.port_ledger.specs.Pass.{is_among, taken}
 use Rattle.port_ledger.proofs.Running.{Runs, runs_like, all_with}
 
 -- a stream that no entry is of isn't let in
-taken_not : (caps : Caps) (sum stream : ℕ) (xs : List Entry) → AllByRecursion (λ y. stream ≢ stream_of y) xs → is_among (taken caps sum xs) stream ≡ false
+taken_not : (caps : Caps) (sum stream : ℕ) (xs : List Entry) → AllByRecursion (λ y. stream ≢ stream_of y) xs
+    → is_among (taken caps sum xs) stream ≡ false
 taken_not caps sum stream [] h = refl
 taken_not caps sum stream (x ∷ xs) h =
-    elim (nat_le (sum + slope_of x) (cap_of caps x.want.class))
-    as (λ v. is_among (cond v (stream_of x ∷ taken caps (sum + slope_of x) xs) (taken caps sum xs)) stream ≡ false) [
-      | true ↦ or_from (stream_of x == stream) (is_among (taken caps (sum + slope_of x) xs) stream) (ne_eqb (stream_of x) stream (λ e. h.0 (sym e))) (taken_not caps (sum + slope_of x) stream xs h.1)
+    elim (nat_le (sum + entry_slope x) (cap_of caps x.want.class))
+    as (λ v. is_among (cond v (stream_of x ∷ taken caps (sum + entry_slope x) xs) (taken caps sum xs)) stream ≡ false) [
+      | true ↦ or_from (stream_of x == stream) (is_among (taken caps (sum + entry_slope x) xs) stream) (ne_eqb (stream_of x) stream (λ e. h.0 (sym e))) (taken_not caps (sum + entry_slope x) stream xs h.1)
       | false ↦ taken_not caps sum stream xs h.1
     ]
 
-pub taken_runs : (caps : Caps) (sum : ℕ) (xs : List Entry) → AreOfDifferentStreams xs → Runs caps sum (λ e. is_among (taken caps sum xs) (stream_of e)) xs
+pub taken_runs : (caps : Caps) (sum : ℕ) (xs : List Entry) → AreOfDifferentStreams xs
+    → Runs caps sum (λ e. is_among (taken caps sum xs) (stream_of e)) xs
 taken_runs caps sum [] different = tt
 taken_runs caps sum (x ∷ xs) different =
-    elim (nat_le (sum + slope_of x) (cap_of caps x.want.class))
-    as (λ v. (is_among (cond v (stream_of x ∷ taken caps (sum + slope_of x) xs) (taken caps sum xs)) (stream_of x) ≡ v)
-    × Runs caps (sum + cond (is_among (cond v (stream_of x ∷ taken caps (sum + slope_of x) xs) (taken caps sum xs)) (stream_of x)) (slope_of x) 0)
-    (λ e. is_among (cond v (stream_of x ∷ taken caps (sum + slope_of x) xs) (taken caps sum xs)) (stream_of e)) xs) [
+    elim (nat_le (sum + entry_slope x) (cap_of caps x.want.class))
+    as (λ v. (is_among (cond v (stream_of x ∷ taken caps (sum + entry_slope x) xs) (taken caps sum xs)) (stream_of x) ≡ v)
+    × Runs caps (sum + cond (is_among (cond v (stream_of x ∷ taken caps (sum + entry_slope x) xs) (taken caps sum xs)) (stream_of x)) (entry_slope x) 0)
+    (λ e. is_among (cond v (stream_of x ∷ taken caps (sum + entry_slope x) xs) (taken caps sum xs)) (stream_of e)) xs) [
       | true ↦
-          (let in_it : is_among (stream_of x ∷ taken caps (sum + slope_of x) xs) (stream_of x) ≡ true =
-          or_left (stream_of x == stream_of x) (is_among (taken caps (sum + slope_of x) xs) (stream_of x)) (eq-eqb (stream_of x) (stream_of x) refl) in (
+          (let in_it : is_among (stream_of x ∷ taken caps (sum + entry_slope x) xs) (stream_of x) ≡ true =
+          or_left (stream_of x == stream_of x) (is_among (taken caps (sum + entry_slope x) xs) (stream_of x)) (eq-eqb (stream_of x) (stream_of x) refl) in (
             in_it,
-            runs_like caps (sum + slope_of x) (sum + cond (is_among (stream_of x ∷ taken caps (sum + slope_of x) xs) (stream_of x)) (slope_of x) 0)
-                (λ e. is_among (taken caps (sum + slope_of x) xs) (stream_of e)) (λ e. is_among (stream_of x ∷ taken caps (sum + slope_of x) xs) (stream_of e)) xs
-                (ap (λ v. sum + cond v (slope_of x) 0) (sym in_it))
-                (all_with xs different.0 different.0 (λ e ne _. ap (λ w. w || is_among (taken caps (sum + slope_of x) xs) (stream_of e)) (sym (ne_eqb (stream_of x) (stream_of e) ne))))
-                (taken_runs caps (sum + slope_of x) xs different.1),
+            runs_like caps (sum + entry_slope x) (sum + cond (is_among (stream_of x ∷ taken caps (sum + entry_slope x) xs) (stream_of x)) (entry_slope x) 0)
+                (λ e. is_among (taken caps (sum + entry_slope x) xs) (stream_of e)) (λ e. is_among (stream_of x ∷ taken caps (sum + entry_slope x) xs) (stream_of e)) xs
+                (ap (λ v. sum + cond v (entry_slope x) 0) (sym in_it))
+                (all_with xs different.0 different.0 (λ e ne _. ap (λ w. w || is_among (taken caps (sum + entry_slope x) xs) (stream_of e)) (sym (ne_eqb (stream_of x) (stream_of e) ne))))
+                (taken_runs caps (sum + entry_slope x) xs different.1),
           ))
       | false ↦
           (let out_of_it : is_among (taken caps sum xs) (stream_of x) ≡ false = taken_not caps sum (stream_of x) xs different.0 in
           let same : sum ≡ sum + 0 = omega arith in (
             out_of_it,
-            runs_like caps sum (sum + cond (is_among (taken caps sum xs) (stream_of x)) (slope_of x) 0)
+            runs_like caps sum (sum + cond (is_among (taken caps sum xs) (stream_of x)) (entry_slope x) 0)
                 (λ e. is_among (taken caps sum xs) (stream_of e)) (λ e. is_among (taken caps sum xs) (stream_of e)) xs
-                (same ∙ ap (λ v. sum + cond v (slope_of x) 0) (sym out_of_it))
+                (same ∙ ap (λ v. sum + cond v (entry_slope x) 0) (sym out_of_it))
                 (all_with xs different.0 different.0 (λ e ne _. refl))
                 (taken_runs caps sum xs different.1),
           ))

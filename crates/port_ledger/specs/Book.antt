@@ -1,5 +1,5 @@
 -- What a ledger keeps, and what its calls make of it.
-use Rattle.std.specs.Prelude.{ℕ, ◌≤◌, Bool, true, false, not, ◌&&◌, ◌==◌, nat_lt, List, [], ◌∷◌, map, filter, find, sum_by, Option, Some, None, option_and_then, if◌then◌else◌}
+use Rattle.std.specs.Prelude.{ℕ, ◌≤◌, Bool, true, false, not, ◌&&◌, ◌==◌, nat_lt, List, [], ◌∷◌, map, filter, find, sum_by, Option, Some, None, option_map, option_and_then, if◌then◌else◌}
 use Rattle.std.specs.List.{AllByRecursion, list_any}
 use Rattle.srp_base.specs.declared.numbers.Cs.{Cs}
 use Rattle.srp_base.specs.declared.numbers.StreamId.{StreamId}
@@ -11,7 +11,7 @@ use Rattle.stream_importance.specs.declared.entry.Fit.TheVariants.{Fits, TooLitt
 use Rattle.stream_importance.specs.declared.slope.Caps.{Caps}
 use Rattle.stream_importance.specs.Bandwidth.{cap_of}
 use Rattle.stream_importance.specs.Importance.{class_number, rank_number, moment_or}
-use Rattle.port_ledger.specs.Decision.{stream_of, slope_of, above, does_fit, is_booked, booked_of, marks_of, IsAscending, IsDecision}
+use Rattle.port_ledger.specs.Decision.{stream_of, entry_slope, above, does_fit, is_booked, booked_of, marks_of, IsAscending, IsDecision}
 
 -- a ledger: its caps in bit/s, the last moment that was handed to it in cs, and the wanting streams
 pub record Book : Type 0 where
@@ -47,6 +47,14 @@ same_entry x y = same_want x.want y.want && same_since x.since y.since
 abbrev pub entry_of : List Entry → StreamId → Option Entry
 entry_of entries stream = find (λ x. stream_of x == stream.0) entries
 
+-- the want that is kept of a stream
+abbrev pub want_of : List Entry → StreamId → Option Want
+want_of entries stream = option_map (λ x. x.want) (entry_of entries stream)
+
+-- the moment since when a stream is booked, in cs; None where it isn't booked
+abbrev pub since_of : List Entry → StreamId → Option Cs
+since_of entries stream = option_and_then (λ x. x.since) (entry_of entries stream)
+
 -- a want that isn't booked
 abbrev pub unbooked : Want → Entry
 unbooked want = record { want = want; since = None }
@@ -72,7 +80,7 @@ booked_only_in these those =
 -- the slopes of the booked entries of a class, together
 abbrev pub booked_slope : List Entry → Class → ℕ
 booked_slope entries class =
-    sum_by slope_of (filter (λ x. class_number x.want.class == class_number class) (booked_of entries))
+    sum_by entry_slope (filter (λ x. class_number x.want.class == class_number class) (booked_of entries))
 
 -- the moment of an entry that has this same want
 abbrev pub since_if_same : Entry → Want → Option Cs
@@ -83,12 +91,12 @@ abbrev pub tested_as : List Entry → Want → Entry
 tested_as entries want =
     record { want = want; since = option_and_then (λ x. since_if_same x want) (entry_of entries want.stream) }
 
--- of rank 1
+-- of rank 1, which isn't emergency traffic
 abbrev pub is_normal : Entry → Bool
 is_normal x = rank_number x.want.rank == 1
 
--- the failure code of what doesn't fit: 6 where a stream of rank 1 would fit if the bookings of rank 0
--- weren't there, else 1 (IEEE Std 802.1Q-2018, 35.2.2.8.7)
+-- the failure code of what doesn't fit: 6 where the want is of rank 1 and would fit if the bookings of
+-- rank 0 weren't there, else 1; so a want of rank 0 has 1 (IEEE Std 802.1Q-2018, 35.2.2.8.7)
 abbrev pub code_of : ℕ → Caps → List Entry → Entry → ℕ
 code_of now caps set x = if is_normal x && does_fit now caps (filter is_normal set) x then 6 else 1
 
@@ -98,3 +106,12 @@ fit_in now caps set x =
     if does_fit now caps set x
     then Fits
     else TooLittle (above now x set) (cap_of caps x.want.class) (code_of now caps set x)
+
+-- whether a want fits beside what a ledger has booked, at a moment in cs
+abbrev pub fit_for : ℕ → Book → Want → Fit
+fit_for now book want = fit_in now book.caps (booked_of book.entries) (tested_as book.entries want)
+
+-- what a fit carries is at most this many bit/s
+abbrev pub IsFitWithin : ℕ → Fit → Type 0
+IsFitWithin most Fits = Unit {0}
+IsFitWithin most (TooLittle more cap code) = (more ≤ most) × (cap ≤ most)

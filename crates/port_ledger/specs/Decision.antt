@@ -1,4 +1,5 @@
--- Which entries of an egress port are booked, as a condition on a set (IEEE Std 802.1Q-2018, 34.3, 35.2.2.8).
+-- Which entries of an egress port are booked, as a condition on a set. The caps are those of IEEE Std
+-- 802.1Q-2018, 34.3; in which order streams get what there is, is this project's own rule.
 use Rattle.std.specs.Prelude.{ℕ, ◌+◌, ◌<◌, ◌≡◌, ◌≢◌, Bool, true, false, not, ◌&&◌, ◌==◌, nat_le, List, [], ◌∷◌, map, filter, sum_by, is_some, Option, Some, None, if◌then◌else◌}
 use Rattle.std.specs.List.{AllByRecursion}
 use Rattle.srp_base.specs.declared.numbers.Cs.{Cs}
@@ -12,8 +13,8 @@ abbrev pub stream_of : Entry → ℕ
 stream_of x = x.want.stream.0
 
 -- the slope of an entry in bit/s
-abbrev pub slope_of : Entry → ℕ
-slope_of x = x.want.slope
+abbrev pub entry_slope : Entry → ℕ
+entry_slope x = x.want.slope
 
 -- no stream has two of the entries
 abbrev pub AreOfDifferentStreams : List Entry → Type 0
@@ -31,17 +32,17 @@ marked [] marks = []
 marked (x ∷ xs) [] = []
 marked (x ∷ xs) (mark ∷ marks) = if mark then x ∷ marked xs marks else marked xs marks
 
--- y goes before x: it is of another stream, and more important
-abbrev pub goes_before : ℕ → Entry → Entry → Bool
-goes_before now x y = not (stream_of y == stream_of x) && is_more_important now y x
+-- y precedes x: it is of another stream, and more important
+abbrev pub is_preceded_by : ℕ → Entry → Entry → Bool
+is_preceded_by now x y = not (stream_of y == stream_of x) && is_more_important now y x
 
--- what the entries of a set that go before x take, in bit/s
+-- what the entries of a set that precede x take, in bit/s
 abbrev pub above : ℕ → Entry → List Entry → ℕ
-above now x set = sum_by slope_of (filter (goes_before now x) set)
+above now x set = sum_by entry_slope (filter (is_preceded_by now x) set)
 
 -- x fits in a set where these, with x's own slope, stay at or under the cap of x
 abbrev pub does_fit : ℕ → Caps → List Entry → Entry → Bool
-does_fit now caps set x = nat_le (above now x set + slope_of x) (cap_of caps x.want.class)
+does_fit now caps set x = nat_le (above now x set + entry_slope x) (cap_of caps x.want.class)
 
 -- the marks of the decided set: an entry is marked exactly where it fits in the set that is marked
 abbrev pub IsDecision : ℕ → Caps → List Entry → List Bool → Type 0

@@ -1,7 +1,7 @@
 //! Which entries are booked at a moment: a sort by importance, one pass with a running sum, and the
 //! moments set accordingly.
 
-ghost use Rattle.std.specs.Prelude.{◌≡◌, ◌^◌, ◌<◌, map, IfOk, OnOk, OnErr};
+ghost use Rattle.std.specs.Prelude.{◌≡◌, ◌<◌, map, IfOk, OnOk, OnErr};
 ghost use Rattle.std.specs.List.Sorted.{IsPermutation, IsSortedBy, IsNonDecreasing};
 ghost use Rattle.stream_importance.specs.Importance.{is_more_important};
 ghost use Rattle.port_ledger.specs.Book.{with_want};
@@ -11,7 +11,7 @@ ghost use Rattle.port_ledger.specs.Pass.{is_among, taken};
 use crate::entries::entries_with;
 use srp_base::{Cs, NoMemory};
 use std::alloc::Global;
-use stream_importance::{Caps, Entry, Want, compare_importance};
+use stream_importance::{Caps, Entry, Want, compare_importance, importance_is_an_order};
 
 /// The entries once this want has come and they are decided at a moment.
 pub(crate) fn decided_with(
@@ -37,6 +37,7 @@ fn decide(alloc: Global, now: Cs, caps: &Caps, entries: &mut Vec<Entry>) -> Resu
     ensures ok { OnOk result (Decides now.0 caps.now entries.old.items entries.new.items) }
     ensures err { OnErr result (entries.new.items ≡ entries.old.items) }
 {
+    importance_is_an_order();
     let order = by_importance(alloc, now, entries)?;
     let streams = taken(alloc, caps, &order)?;
     settle(now, &streams, entries);
@@ -47,6 +48,7 @@ fn by_importance(alloc: Global, now: Cs, entries: &[Entry]) -> Result<Vec<Entry>
     ensures permutation { IfOk result (λ v. IsPermutation entries.now v.items) }
     ensures sorted { IfOk result (λ v. IsSortedBy (is_more_important now.0) v.items) }
 {
+    importance_is_an_order();
     let mut order = Vec::new(alloc);
     order.extend_from_slice(entries)?;
     order.sort_unstable_by(|x, y| compare_importance(now, x, y));

@@ -12,8 +12,11 @@ use stream_importance::{Entry, Want};
 /// The place of the stream's entry, or the place where it belongs.
 pub(crate) fn place_of(entries: &[Entry], stream: StreamId) -> Result<usize, usize>
     requires { IsAscending entries.now }
-    ensures found { IfOk result (λ i. (i < length entries.now) × HoldsAt (λ x. stream_of x ≡ stream.0) entries.now i) }
-    ensures missing { IfErr result (λ i. (i ≤ length entries.now) × AllWithin (λ x. stream_of x < stream.0) entries.now 0 i × AllWithin (λ x. stream.0 < stream_of x) entries.now i (length entries.now)) }
+    ensures found { IfOk result (λ i. (i < length entries.now)
+        × HoldsAt (λ x. stream_of x ≡ stream.0) entries.now i) }
+    ensures missing { IfErr result (λ i. (i ≤ length entries.now)
+        × AllWithin (λ x. stream_of x < stream.0) entries.now 0 i
+        × AllWithin (λ x. stream.0 < stream_of x) entries.now i (length entries.now)) }
 {
     entries.binary_search_by_key(&stream.0, |x| x.want.stream.0)
 }

@@ -2,7 +2,7 @@
 
 ghost use Rattle.std.specs.Prelude.{◌≡◌, ◌+◌, nat_le, filter};
 ghost use Rattle.port_ledger.specs.Book.{booked_slope, code_of, fit_in, is_normal, since_if_same, tested_as};
-ghost use Rattle.port_ledger.specs.Decision.{above, booked_of, does_fit, goes_before, IsAscending};
+ghost use Rattle.port_ledger.specs.Decision.{above, booked_of, is_preceded_by, IsAscending};
 
 use crate::entries::find_entry;
 use srp_base::{Class, Cs, Rank};
@@ -80,7 +80,7 @@ fn above(now: Cs, x: &Entry, entries: &[Entry]) -> u128
     entries
         .iter()
         .filter(|y| y.since.is_some())
-        .filter(|y| goes_before(now, x, y))
+        .filter(|y| is_preceded_by(now, x, y))
         .map(|y| u128::from(y.want.slope))
         .sum()
 }
@@ -92,13 +92,13 @@ fn above_of_rank_1(now: Cs, x: &Entry, entries: &[Entry]) -> u128
         .iter()
         .filter(|y| y.since.is_some())
         .filter(|y| y.want.rank == Rank::Normal)
-        .filter(|y| goes_before(now, x, y))
+        .filter(|y| is_preceded_by(now, x, y))
         .map(|y| u128::from(y.want.slope))
         .sum()
 }
 
-fn goes_before(now: Cs, x: &Entry, y: &Entry) -> bool
-    ensures { result ≡ goes_before now.0 x.now y.now }
+fn is_preceded_by(now: Cs, x: &Entry, y: &Entry) -> bool
+    ensures { result ≡ is_preceded_by now.0 x.now y.now }
 {
     y.want.stream != x.want.stream && more_important(now, y, x)
 }

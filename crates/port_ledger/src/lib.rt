@@ -14,7 +14,12 @@
 //! exactly where the slopes of the booked entries of other streams that are more important, with its
 //! own, stay at or under its cap. There is exactly one such set (`one_decision`), and it stays the same
 //! as time passes (`Ledger::stands`). So at every moment the booked slopes stay within the caps
-//! (`Ledger::within_caps`). No order of the entries but that of StreamIDs stands in a contract.
+//! (`Ledger::within_caps`).
+//!
+//! What a caller needs of one stream stands on the calls: a want is kept as it came and changes no other
+//! stream's (`Ledger::want`), a stream is booked exactly where its entry fits among the booked ones, and a
+//! want that is kept fits exactly where it is booked (`Ledger::stands`, `Ledger::fits`). No order of the
+//! entries but that of StreamIDs stands in a contract.
 #![tactic(auto)]
 
 pub mod changed;

@@ -1,15 +1,10 @@
 -- The wants of a file, applied in file order at their ticks.
-use Rattle.std.specs.Prelude.{◌≡◌, ◌<◌, ◌^◌, List, [], ◌∷◌}
+use Rattle.std.specs.Prelude.{◌≡◌, List, [], ◌∷◌}
 use Rattle.stream_importance.specs.Bandwidth.{caps_of}
-use Rattle.stream_importance.specs.declared.slope.Caps.{Caps}
 use Rattle.port_ledger.specs.Book.{Book, with_want}
 use Rattle.port_ledger.specs.Decision.{Decides}
 use Rattle.srpnet.specs.declared.ledger.file.LedgerWant.{LedgerWant}
 use Rattle.srpnet.specs.declared.ledger.file.LedgerFile.{LedgerFile}
-
--- both caps have 64 bits
-abbrev pub AreSmall : Caps → Type 0
-AreSmall caps = (caps.class_a < 2 ^ 64) × (caps.both < 2 ^ 64)
 
 -- a port that no stream wants yet
 abbrev pub fresh : LedgerFile → Book

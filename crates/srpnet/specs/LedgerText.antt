@@ -1,6 +1,6 @@
 -- What `srpnet ledger` prints: a line for each stream in the order of first mention, and two lines of sums.
 -- It is judged at the moment of the last want.
-use Rattle.std.specs.Prelude.{◌≡◌, ◌<◌, ◌^◌, ℕ, ◌+◌, ◌==◌, List, [], ◌∷◌, ◌++◌, codes, find, reverse, Option, Some, None, option_map, option_and_then, Ok}
+use Rattle.std.specs.Prelude.{◌≡◌, ◌≢◌, ℕ, ◌+◌, ◌==◌, List, [], ◌∷◌, ◌++◌, codes, find, reverse, Option, Some, None, IsSome, option_map, Ok}
 use Rattle.std.specs.Option.{option_map_or}
 use Rattle.std.specs.Fmt.{decimal}
 use Rattle.srp_base.specs.declared.numbers.Cs.{Cs}
@@ -11,8 +11,7 @@ use Rattle.srp_base.specs.Text.{joined}
 use Rattle.stream_importance.specs.declared.entry.Want.{Want}
 use Rattle.stream_importance.specs.declared.entry.Fit.{Fit}
 use Rattle.stream_importance.specs.declared.entry.Fit.TheVariants.{Fits, TooLittle}
-use Rattle.port_ledger.specs.Book.{Book, entry_of, fit_in, tested_as, booked_slope}
-use Rattle.port_ledger.specs.Decision.{booked_of}
+use Rattle.port_ledger.specs.Book.{Book, booked_slope, fit_for, since_of}
 use Rattle.srpnet.specs.declared.ledger.file.LedgerWant.{LedgerWant}
 use Rattle.srpnet.specs.declared.ledger.file.LedgerFile.{LedgerFile}
 use Rattle.srpnet.specs.LedgerRun.{fresh, Leads}
@@ -21,34 +20,30 @@ use Rattle.srpnet.specs.LedgerInput.{ledger_input}
 -- `ID booked slope S since T`
 abbrev pub booked_line : Want → Cs → List ℕ
 booked_line want since = joined (
-    hex16_text want.stream.0 ∷ codes " booked slope " ∷ decimal want.slope ∷ codes " since " ∷ decimal since.0 ∷ codes "\n" ∷ [])
+    hex16_text want.stream.0 ∷ codes " booked slope " ∷ decimal want.slope
+    ∷ codes " since " ∷ decimal since.0 ∷ codes "\n" ∷ [])
 
 -- `ID refused slope S more M cap C code K`
-abbrev pub refused_line : Want → Fit → List ℕ
-refused_line want (TooLittle more cap code) = joined (
+abbrev pub refused_line : Want → ℕ → ℕ → ℕ → List ℕ
+refused_line want more cap code = joined (
     hex16_text want.stream.0 ∷ codes " refused slope " ∷ decimal want.slope ∷ codes " more " ∷ decimal more
     ∷ codes " cap " ∷ decimal cap ∷ codes " code " ∷ decimal code ∷ codes "\n" ∷ [])
-refused_line want Fits = []
-
--- what a fit carries has 64 bits
-abbrev pub fit_within : Fit → Type 0
-fit_within (TooLittle more cap code) = (more < 2 ^ 64) × (cap < 2 ^ 64)
-fit_within Fits = Unit {0}
 
 -- `slope A S cap C`, and `slope A+B S cap C` for both classes
 abbrev pub sum_line : List ℕ → ℕ → ℕ → List ℕ
-sum_line classes sum cap = joined (codes "slope " ∷ classes ∷ codes " " ∷ decimal sum ∷ codes " cap " ∷ decimal cap ∷ codes "\n" ∷ [])
+sum_line classes sum cap = joined (
+    codes "slope " ∷ classes ∷ codes " " ∷ decimal sum ∷ codes " cap " ∷ decimal cap ∷ codes "\n" ∷ [])
 
--- the line of a want by its booking
+-- the line of a want by its booking; a want that is kept and isn't booked doesn't fit, so that the last
+-- case doesn't occur (`HasLines`)
 abbrev pub line_by : Want → Fit → Option Cs → List ℕ
 line_by want fit (Some since) = booked_line want since
-line_by want fit None = refused_line want fit
+line_by want (TooLittle more cap code) None = refused_line want more cap code
+line_by want Fits None = []
 
 -- the line of a stream's want
 abbrev pub want_line : Book → Want → List ℕ
-want_line book want =
-    line_by want (fit_in book.moment book.caps (booked_of book.entries) (tested_as book.entries want))
-    (option_and_then (λ x. x.since) (entry_of book.entries want.stream))
+want_line book want = line_by want (fit_for book.moment book want) (since_of book.entries want.stream)
 
 -- the last want of a stream
 abbrev pub last_want : List LedgerWant → StreamId → Option Want
@@ -57,6 +52,10 @@ last_want wants stream = option_map (λ w. w.want) (find (λ w. w.want.stream.0 
 -- the line of a stream
 abbrev pub stream_line : Book → List LedgerWant → StreamId → List ℕ
 stream_line book wants stream = option_map_or (want_line book) (last_want wants stream) []
+
+-- each stream that these wants mention has its line
+abbrev pub HasLines : Book → List LedgerWant → Type 0
+HasLines book wants = (stream : StreamId) → IsSome (last_want wants stream) → stream_line book wants stream ≢ []
 
 -- the lines of some streams
 abbrev pub stream_lines : Book → List LedgerWant → List StreamId → List ℕ
@@ -74,10 +73,12 @@ abbrev pub ledger_text : LedgerFile → Book → List ℕ
 ledger_text file book = stream_lines book file.wants file.streams ++ sum_lines book
 
 -- The output of the command `ledger` for an input of these octets: they are a ledger file, its wants lead
--- from a port that no stream wants to some state, and the text is that of this state.
+-- from a port that no stream wants to some state, the text is that of this state, and each stream that the
+-- file mentions has its line there.
 pub record LedgerOutput (octets text : List ℕ) : Type 0 where
   pub file : LedgerFile
   pub book : Book
   pub read : ledger_input octets ≡ Ok file
   pub applied : Leads (fresh file) file.wants book
   pub printed : text ≡ ledger_text file book
+  pub lines : HasLines book file.wants

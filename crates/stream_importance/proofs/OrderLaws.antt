@@ -6,11 +6,12 @@ use Rattle.std.specs.Ordering.{nat_cmp, is_lt, ordering_then, ordering_reverse}
 use Rattle.std.specs.Cmp.{IsTotalOrder}
 use Rattle.std.proofs.lemmas.Cmp.{then_total, on_total, nat_cmp_total}
 use Rattle.std.proofs.lemmas.Bool.Decides.{nat_tests}
+use Rattle.std.proofs.lemmas.List.Sorted.{ranks_by}
 use Rattle.stream_importance.specs.declared.entry.Entry.{Entry}
-use Rattle.stream_importance.specs.Importance.{class_number, rank_number, moment_or, compare_importance, is_more_important}
+use Rattle.stream_importance.specs.Importance.{class_number, rank_number, moment_or, compare_importance, is_more_important, IsImportanceOrder}
 
-pub importance_total : (now : ℕ) → IsTotalOrder (compare_importance now)
-importance_total now =
+comparison_is_total_order : (now : ℕ) → IsTotalOrder (compare_importance now)
+comparison_is_total_order now =
     then_total (on_total (λ (e : Entry). class_number e.want.class) nat_cmp_total)
     (then_total (on_total (λ (e : Entry). rank_number e.want.rank) nat_cmp_total)
     (then_total (on_total (λ (e : Entry). moment_or now e.since) nat_cmp_total)
@@ -35,17 +36,19 @@ last_equal Greater b h = cc
 same_number : (a b : ℕ) → nat_cmp a b ≡ Equal → a ≡ b
 same_number a b h = grind (arith, nat_tests)
 
-pub importance_strict : (now : ℕ) (x y : Entry) → IsTrue (is_more_important now x y) → IsTrue (is_more_important now y x) → ⊥
+importance_strict : (now : ℕ) (x y : Entry) → IsTrue (is_more_important now x y)
+    → IsTrue (is_more_important now y x) → ⊥
 importance_strict now x y h k =
-    let o : IsTotalOrder (compare_importance now) = importance_total now in
+    let o : IsTotalOrder (compare_importance now) = comparison_is_total_order now in
     let e : compare_importance now x y ≡ Less = is_less (compare_importance now x y) h in
     let f : compare_importance now y x ≡ Less = is_less (compare_importance now y x) k in
     let r : Less ≡ Greater = sym e ∙ (o.antisymm x y ∙ ap ordering_reverse f) in
     cc
 
-pub importance_transitive : (now : ℕ) (x y z : Entry) → IsTrue (is_more_important now x y) → IsTrue (is_more_important now y z) → IsTrue (is_more_important now x z)
+importance_transitive : (now : ℕ) (x y z : Entry) → IsTrue (is_more_important now x y)
+    → IsTrue (is_more_important now y z) → IsTrue (is_more_important now x z)
 importance_transitive now x y z h k =
-    let o : IsTotalOrder (compare_importance now) = importance_total now in
+    let o : IsTotalOrder (compare_importance now) = comparison_is_total_order now in
     less_is (compare_importance now x z)
     (o.trans x y z (is_less (compare_importance now x y) h) (is_less (compare_importance now y z) k))
 
@@ -57,12 +60,23 @@ equal_streams now x y h =
     (last_equal (nat_cmp (rank_number x.want.rank) (rank_number y.want.rank)) _
     (last_equal (nat_cmp (class_number x.want.class) (class_number y.want.class)) _ h)))
 
-either_way : (now : ℕ) (x y : Entry) (o : Ordering) → compare_importance now x y ≡ o → x.want.stream.0 ≢ y.want.stream.0 → IsTrue (is_more_important now x y) ⊎ IsTrue (is_more_important now y x)
+either_way : (now : ℕ) (x y : Entry) (o : Ordering) → compare_importance now x y ≡ o
+    → x.want.stream.0 ≢ y.want.stream.0
+    → IsTrue (is_more_important now x y) ⊎ IsTrue (is_more_important now y x)
 either_way now x y Less h ne = inl (less_is (compare_importance now x y) h)
 either_way now x y Equal h ne = absurd (ne (equal_streams now x y h))
 either_way now x y Greater h ne =
-    let o : IsTotalOrder (compare_importance now) = importance_total now in
+    let o : IsTotalOrder (compare_importance now) = comparison_is_total_order now in
     inr (less_is (compare_importance now y x) (o.antisymm y x ∙ ap ordering_reverse h))
 
-pub importance_compares : (now : ℕ) (x y : Entry) → x.want.stream.0 ≢ y.want.stream.0 → IsTrue (is_more_important now x y) ⊎ IsTrue (is_more_important now y x)
+importance_compares : (now : ℕ) (x y : Entry) → x.want.stream.0 ≢ y.want.stream.0
+    → IsTrue (is_more_important now x y) ⊎ IsTrue (is_more_important now y x)
 importance_compares now x y ne = either_way now x y (compare_importance now x y) refl ne
+
+pub importance_order : (now : ℕ) → IsImportanceOrder now
+importance_order now = record {
+  strict = importance_strict now;
+  total = importance_compares now;
+  transitive = importance_transitive now;
+  ranks = ranks_by (comparison_is_total_order now) (λ (x : Entry). x);
+}

@@ -12,8 +12,9 @@ abbrev pub intervals_of : Class → ℕ
 intervals_of A = 8000
 intervals_of B = 4000
 
--- the slope in bit/s of a stream of so many frames in each interval: with each frame go 42 octets of
--- preamble, header, tag, check sequence and gap (34.4)
+-- the slope in bit/s of a stream that sends MaxIntervalFrames frames in each class measurement interval,
+-- each of MaxFrameSize octets (35.2.2.8.4), with 42 octets of preamble, header, tag, check sequence and
+-- gap (34.4)
 abbrev pub slope_of_frames : Class → ℕ → ℕ → ℕ
 slope_of_frames class max_frame frames = frames * (max_frame + 42) * 8 * intervals_of class
 

@@ -1,7 +1,10 @@
--- Which of two entries of a port is more important (IEEE Std 802.1Q-2018, 34.2, 35.2.2.8).
-use Rattle.std.specs.Prelude.{ℕ, Bool, Option, Some, None}
+-- Which of two entries of a port is more important. The rank is that of a stream's PriorityAndRank (IEEE
+-- Std 802.1Q-2018, 35.2.2.8.5). That class A goes before class B, and the earlier booking before the
+-- later, is this project's own rule.
+use Rattle.std.specs.Prelude.{◌≢◌, ◌⊎◌, ℕ, Bool, IsTrue, Option, Some, None}
 use Rattle.std.specs.declared.cmp.Ordering.{Ordering}
 use Rattle.std.specs.Ordering.{nat_cmp, ordering_then, is_lt}
+use Rattle.std.specs.Cmp.{IsStrictWeakOrder}
 use Rattle.srp_base.specs.declared.numbers.Cs.{Cs}
 use Rattle.srp_base.specs.declared.bandwidth.Class.{Class}
 use Rattle.srp_base.specs.declared.bandwidth.Class.TheVariants.{A, B}
@@ -9,17 +12,17 @@ use Rattle.srp_base.specs.declared.bandwidth.Rank.{Rank}
 use Rattle.srp_base.specs.declared.bandwidth.Rank.TheVariants.{Emergency, Normal}
 use Rattle.stream_importance.specs.declared.entry.Entry.{Entry}
 
--- class A is decided before class B (34.2)
+-- class A is decided before class B, which is this project's own rule
 abbrev pub class_number : Class → ℕ
 class_number A = 0
 class_number B = 1
 
--- the rank as a stream's DataFrameParameters carry it (35.2.2.8.5)
+-- the rank as a stream's PriorityAndRank carries it (35.2.2.8.5): 0 is emergency traffic
 abbrev pub rank_number : Rank → ℕ
 rank_number Emergency = 0
 rank_number Normal = 1
 
--- the moment of booking in cs, where none counts as now
+-- the moment of booking in cs, where none counts as now; that age counts is this project's own rule
 abbrev pub moment_or : ℕ → Option Cs → ℕ
 moment_or now None = now
 moment_or now (Some moment) = moment.0
@@ -35,3 +38,17 @@ compare_importance now x y =
 -- more important is the one that comes first
 abbrev pub is_more_important : ℕ → Entry → Entry → Bool
 is_more_important now x y = is_lt (compare_importance now x y)
+
+-- at a moment, more important is a strict order in which entries of different streams compare, and it
+-- ranks all entries, as a sort asks
+pub record IsImportanceOrder (now : ℕ) : Type 0 where
+  -- of two entries at most one is more important than the other
+  pub strict : (x y : Entry) → IsTrue (is_more_important now x y) → IsTrue (is_more_important now y x) → ⊥
+  -- of two entries of different streams one is
+  pub total : (x y : Entry) → x.want.stream.0 ≢ y.want.stream.0
+      → IsTrue (is_more_important now x y) ⊎ IsTrue (is_more_important now y x)
+  -- what is more important than a more important entry is more important
+  pub transitive : (x y z : Entry) → IsTrue (is_more_important now x y) → IsTrue (is_more_important now y z)
+      → IsTrue (is_more_important now x z)
+  -- entries of which neither is more important than the other are alike beside every third
+  pub ranks : IsStrictWeakOrder (is_more_important now)

@@ -11,8 +11,10 @@
 //! ```
 //!
 //! The contracts say that a slope is that of the frames with their overhead, that the caps are the
-//! shares of the rate, and that importance is the lexicographic order of those four. Three laws say
-//! that it is a strict order in which any two entries of different streams compare.
+//! shares of the rate, and that importance is the lexicographic order of those four. That class A goes
+//! first and that the earlier booking counts is this project's own rule. The law
+//! `importance_is_an_order` says that it is a strict order in which any two entries of different streams
+//! compare.
 #![tactic(auto)]
 
 pub mod entry;
@@ -20,10 +22,7 @@ pub mod order;
 pub mod slope;
 
 pub use entry::{Entry, Fit, Want};
-pub use order::{
-    compare_importance, importance_is_strict, importance_is_total, importance_is_transitive,
-    more_important,
-};
+pub use order::{compare_importance, importance_is_an_order, more_important};
 pub use slope::{Caps, slope_of};
 
 #[cfg(test)]

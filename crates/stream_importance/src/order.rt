@@ -1,17 +1,16 @@
 //! Which of two entries is more important.
 
-ghost use Rattle.std.specs.Prelude.{◌≡◌, ◌≢◌, ◌⊎◌, ℕ, IsTrue};
+ghost use Rattle.std.specs.Prelude.{◌≡◌, ℕ};
 ghost use Rattle.std.specs.Ordering.{nat_cmp};
-ghost use Rattle.stream_importance.specs.declared.entry.Entry.{Entry};
-ghost use Rattle.stream_importance.specs.Importance.{class_number, compare_importance, is_more_important, moment_or, rank_number};
+ghost use Rattle.stream_importance.specs.Importance.{class_number, compare_importance, is_more_important, IsImportanceOrder, moment_or, rank_number};
 
 use crate::entry::Entry;
 use srp_base::{Class, Cs, Rank};
 use std::cmp::Ordering;
 
 /// Whether `x` is more important than `y` at the moment `now`, in cs: by the first that differs, class A
-/// before B, rank 0 before 1, the earlier moment of booking, where none counts as `now`, and the lower
-/// StreamID.
+/// before B, rank 0 before 1 (IEEE Std 802.1Q-2018, 35.2.2.8.5), the earlier moment of booking, where none
+/// counts as `now`, and the lower StreamID. Class and age are this project's own rule.
 pub fn more_important(now: Cs, x: &Entry, y: &Entry) -> bool
     ensures { result ≡ is_more_important now.0 x.now y.now }
 {
@@ -46,17 +45,9 @@ fn by_age(now: Cs, x: &Entry, y: &Entry) -> Ordering
     x.since.unwrap_or(now).cmp(&y.since.unwrap_or(now))
 }
 
-/// Of two entries at most one is more important than the other, so none is more important than itself.
-pub fn importance_is_strict()
-    ensures { (now : ℕ) (x y : Entry) → IsTrue (is_more_important now x y) → IsTrue (is_more_important now y x) → ⊥ }
-{}
-
-/// Of two entries of different streams one is more important than the other.
-pub fn importance_is_total()
-    ensures { (now : ℕ) (x y : Entry) → x.want.stream.0 ≢ y.want.stream.0 → IsTrue (is_more_important now x y) ⊎ IsTrue (is_more_important now y x) }
-{}
-
-/// What is more important than a more important entry is more important.
-pub fn importance_is_transitive()
-    ensures { (now : ℕ) (x y z : Entry) → IsTrue (is_more_important now x y) → IsTrue (is_more_important now y z) → IsTrue (is_more_important now x z) }
+/// At every moment, in cs, more important is a strict order: of two entries at most one is more important
+/// than the other, of two entries of different streams exactly one is, and what is more important than a
+/// more important entry is more important.
+pub fn importance_is_an_order()
+    ensures { (now : ℕ) → IsImportanceOrder now }
 {}

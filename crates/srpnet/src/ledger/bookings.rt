@@ -3,7 +3,8 @@
 ghost use Rattle.std.specs.Prelude.{◌≡◌, ◌+◌, ◌≤◌, None, IfOk};
 ghost use Rattle.stream_importance.specs.Bandwidth.{caps_of};
 ghost use Rattle.srpnet.specs.LedgerFile.{first_fall};
-ghost use Rattle.srpnet.specs.LedgerRun.{AreSmall, fresh, Leads};
+ghost use Rattle.srpnet.specs.LedgerRun.{fresh, Leads};
+ghost use Rattle.srpnet.specs.LedgerText.{HasLines};
 
 use crate::ledger::file::LedgerFile;
 use port_ledger::Ledger;
@@ -11,14 +12,14 @@ use srp_base::{Cs, NoMemory};
 use std::alloc::Global;
 
 /// The ledger once the wants are applied in file order at their ticks, and the moment of the last one
-/// in cs, 0 where there is none.
-#[tactic(auto, using(crate::proofs::Caps::small_caps))]
+/// in cs, 0 where there is none. Each stream that the file mentions has its line in the text.
+#[tactic(auto, using(crate::proofs::LedgerLemmas::kept_step))]
 pub fn bookings(alloc: Global, file: &LedgerFile) -> Result<(Ledger, Cs), NoMemory>
     requires shares { file.now.delta_a + file.now.delta_b ≤ 90 }
     requires ticks { first_fall 1 0 file.now.wants ≡ None }
     ensures applied { IfOk result (λ r. Leads (fresh file.now) file.now.wants r.0) }
     ensures caps { IfOk result (λ r. r.0.caps ≡ caps_of file.now.rate file.now.delta_a file.now.delta_b) }
-    ensures small { IfOk result (λ r. AreSmall r.0.caps) }
+    ensures lines { IfOk result (λ r. HasLines r.0 file.now.wants) }
     ensures moment { IfOk result (λ r. r.1.0 ≡ r.0.moment) }
 {
     let mut ledger = Ledger::new(alloc, file.rate, file.delta_a, file.delta_b);
@@ -28,5 +29,6 @@ pub fn bookings(alloc: Global, file: &LedgerFile) -> Result<(Ledger, Cs), NoMemo
         now = want.tick;
         let _ = ledger.want(now, want.want)?;
     }
+    ledger.stands();
     Ok((ledger, now))
 }

@@ -1,11 +1,9 @@
 //! The printed lines of a ledger.
 
-ghost use Rattle.std.specs.Prelude.{◌≡◌, ◌++◌, ◌<◌, ◌^◌, codes, OnOk, IfOk, string_bytes};
+ghost use Rattle.std.specs.Prelude.{◌≡◌, ◌++◌, None, OnOk, IfOk, string_bytes};
 ghost use Rattle.stream_importance.specs.Bandwidth.{caps_of};
-ghost use Rattle.port_ledger.specs.Book.{fit_in, tested_as};
-ghost use Rattle.port_ledger.specs.Decision.{booked_of};
-ghost use Rattle.srpnet.specs.LedgerRun.{AreSmall};
-ghost use Rattle.srpnet.specs.LedgerText.{fit_within, booked_line, refused_line, sum_line, want_line, last_want as last_want_lem, stream_line, stream_lines, sum_lines, ledger_text as ledger_text_lem};
+ghost use Rattle.port_ledger.specs.Book.{fit_for};
+ghost use Rattle.srpnet.specs.LedgerText.{booked_line, line_by, refused_line, sum_line, want_line, last_want as last_want_spec, stream_line, stream_lines, sum_lines, ledger_text as ledger_text_spec};
 
 use crate::ledger::file::{LedgerFile, LedgerWant};
 use port_ledger::Ledger;
@@ -24,29 +22,23 @@ fn write_booked(out: &mut String, want: &Want, since: Cs) -> Result<(), AllocErr
     writeln!(out, "{stream} booked slope {slope} since {tick}")
 }
 
-/// The line of a stream that isn't booked. A stream that fits has none: each that isn't booked doesn't
-/// fit.
-fn write_refused(out: &mut String, want: &Want, fit: Fit) -> Result<(), AllocError>
-    requires { fit_within fit }
-    ensures { OnOk result (string_bytes out.new ≡ string_bytes out.old ++ refused_line want.now fit) }
+/// The line of a stream that doesn't fit: what the more important streams take, and the cap, both in
+/// bit/s, with the failure code.
+fn write_refused(
+    out: &mut String,
+    want: &Want,
+    more: u64,
+    cap: u64,
+    code: u8,
+) -> Result<(), AllocError>
+    ensures { OnOk result (string_bytes out.new ≡ string_bytes out.old ++ refused_line want.now more cap code) }
 {
-    match fit {
-        Fit::Fits => Ok(()),
-        Fit::TooLittle {
-            more_important,
-            cap,
-            code,
-        } => {
-            let stream = want.stream;
-            let slope = want.slope;
-            let more = more_important as u64;
-            let cap = cap as u64;
-            writeln!(
-                out,
-                "{stream} refused slope {slope} more {more} cap {cap} code {code}"
-            )
-        }
-    }
+    let stream = want.stream;
+    let slope = want.slope;
+    writeln!(
+        out,
+        "{stream} refused slope {slope} more {more} cap {cap} code {code}"
+    )
 }
 
 /// A line of sums.
@@ -56,32 +48,37 @@ fn write_sum(out: &mut String, classes: &str, sum: u64, cap: u64) -> Result<(), 
     writeln!(out, "slope {classes} {sum} cap {cap}")
 }
 
-/// Whether a want fits, with numbers that have 64 bits.
-fn fit_of(ledger: &Ledger, now: Cs, want: &Want) -> Fit
+/// The line of a stream that isn't booked. Each want that a ledger keeps and hasn't booked doesn't fit.
+fn write_unbooked(out: &mut String, ledger: &Ledger, now: Cs, want: &Want) -> Result<(), AllocError>
     requires now { now.0 ≡ ledger.now.moment }
-    requires small { AreSmall ledger.now.caps }
-    ensures value { result ≡ fit_in ledger.now.moment ledger.now.caps (booked_of ledger.now.entries) (tested_as ledger.now.entries want.now) }
-    ensures within { fit_within result }
+    ensures { OnOk result (string_bytes out.new
+        ≡ string_bytes out.old ++ line_by want.now (fit_for ledger.now.moment ledger.now want.now) None) }
 {
     ledger.within_caps();
-    ledger.fits(now, want)
+    match ledger.fits(now, want) {
+        Fit::TooLittle {
+            more_important,
+            cap,
+            code,
+        } => write_refused(out, want, more_important as u64, cap as u64, code),
+        Fit::Fits => Ok(()),
+    }
 }
 
 /// The line of a stream's want.
 fn write_want(out: &mut String, ledger: &Ledger, now: Cs, want: &Want) -> Result<(), AllocError>
     requires now { now.0 ≡ ledger.now.moment }
-    requires small { AreSmall ledger.now.caps }
     ensures { OnOk result (string_bytes out.new ≡ string_bytes out.old ++ want_line ledger.now want.now) }
 {
     match ledger.booked(want.stream) {
         Some(since) => write_booked(out, want, since),
-        None => write_refused(out, want, fit_of(ledger, now, want)),
+        None => write_unbooked(out, ledger, now, want),
     }
 }
 
 /// The last want of a stream.
 fn last_want(wants: &[LedgerWant], stream: StreamId) -> Option<Want>
-    ensures { result ≡ last_want_lem wants.now stream }
+    ensures { result ≡ last_want_spec wants.now stream }
 {
     match wants.iter().rev().find(|w| w.want.stream.0 == stream.0) {
         Some(w) => Some(w.want),
@@ -98,7 +95,6 @@ fn write_stream(
     stream: StreamId,
 ) -> Result<(), AllocError>
     requires now { now.0 ≡ ledger.now.moment }
-    requires small { AreSmall ledger.now.caps }
     ensures { OnOk result (string_bytes out.new ≡ string_bytes out.old ++ stream_line ledger.now wants.now stream) }
 {
     match last_want(wants, stream) {
@@ -115,8 +111,8 @@ fn write_streams(
     file: &LedgerFile,
 ) -> Result<(), AllocError>
     requires now { now.0 ≡ ledger.now.moment }
-    requires small { AreSmall ledger.now.caps }
-    ensures { OnOk result (string_bytes out.new ≡ string_bytes out.old ++ stream_lines ledger.now file.now.wants file.now.streams) }
+    ensures { OnOk result (string_bytes out.new
+        ≡ string_bytes out.old ++ stream_lines ledger.now file.now.wants file.now.streams) }
 {
     let wants = file.wants.as_slice();
     let streams = file.streams.as_slice();
@@ -129,7 +125,6 @@ fn write_streams(
 /// The two lines of sums.
 fn write_sums(out: &mut String, ledger: &Ledger, file: &LedgerFile) -> Result<(), AllocError>
     requires caps { ledger.now.caps ≡ caps_of file.now.rate file.now.delta_a file.now.delta_b }
-    requires small { AreSmall ledger.now.caps }
     ensures { OnOk result (string_bytes out.new ≡ string_bytes out.old ++ sum_lines ledger.now) }
 {
     let caps = Caps::new(file.rate, file.delta_a, file.delta_b);
@@ -149,8 +144,7 @@ pub fn ledger_text(
 ) -> Result<String, AllocError>
     requires now { now.0 ≡ ledger.now.moment }
     requires caps { ledger.now.caps ≡ caps_of file.now.rate file.now.delta_a file.now.delta_b }
-    requires small { AreSmall ledger.now.caps }
-    ensures { IfOk result (λ s. string_bytes s ≡ ledger_text_lem file.now ledger.now) }
+    ensures { IfOk result (λ s. string_bytes s ≡ ledger_text_spec file.now ledger.now) }
 {
     let mut out = String::new(alloc);
     write_streams(&mut out, ledger, now, file)?;

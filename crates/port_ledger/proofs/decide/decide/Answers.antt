@@ -12,4 +12,4 @@ returns-clause-ok c =
     let settled = rw (c.deref-3.ensures.value, c.deref_mut.ensures.value) at c.settle.ensures in
     subst (λ (ys : List Entry). Decides c.args.now.0 c.args.caps.now c.args.entries.now.items ys)
     (sym (written_back _ _ _ c.args.entries.now.ok.0 (c.settle.auto.entries ∙ ap length c.deref_mut.ensures.value)))
-    (decides_from_pass _ _ _ _ _ _ c.requires moved c.in_ok-order.ensures.sorted among settled)
+    (decides_from_pass c.args.now.0 (c.importance_is_an_order.ensures c.args.now.0) _ _ _ _ _ c.requires moved c.in_ok-order.ensures.sorted among settled)
