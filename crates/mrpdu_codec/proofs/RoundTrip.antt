@@ -1,7 +1,8 @@
 -- The canonical tree of a PDU that can be written meets the rules, and means the PDU.
-use Rattle.std.proofs.Common.{◌≡◌, ℕ, zero, suc, ◌+◌, ◌/◌, ◌%◌, ◌<◌, ◌≤◌, Bool, true, false, cond, leb, ltb, eqb, ◌&&◌, ◌||◌, List, [], ◌∷◌, ◌++◌, length, take, map, Option, Some, None, inr, refl, sym, ap, ◌∙◌, arith}
+use Rattle.std.proofs.Common.{◌≡◌, ℕ, zero, suc, ◌+◌, ◌/◌, ◌%◌, ◌<◌, ◌≤◌, Bool, true, false, cond, leb, ltb, eqb, ◌&&◌, ◌||◌, List, [], ◌∷◌, ◌++◌, length, take, drop, map, Option, Some, None, inr, refl, sym, ap, subst, ◌∙◌, arith}
 use Rattle.std.specs.List.{flat_map, list_all, AllByRecursion}
 use Rattle.std.proofs.lemmas.Bool.{false≢true, and_parts, leb-true, le-leb, lt-ltb, le-ltb, ltb-true, eqb-true, eq-eqb}
+use Rattle.std.proofs.lemmas.List.{drop_at}
 use Rattle.srp_base.specs.declared.mrp.MrpEvent.{MrpEvent}
 use Rattle.mrpdu_codec.specs.declared.form.AppForm.{AppForm}
 use Rattle.mrpdu_codec.specs.declared.form.AppForm.TheVariants.{Mvrp, Msrp, Mmrp}
@@ -148,6 +149,12 @@ spells_again form pdu fits =
       spelling = refl;
       meaning = ap (λ (ms : List Message). let x : Pdu = record { version = pdu.version; messages = ms } in x) (sym b.1);
     }
+
+-- and so does what stands behind other octets
+pub spells_behind : (form : AppForm) (pdu : Pdu) (before after : List ℕ) → well_formed form pdu ≡ true → after ≡ before ++ spelling form pdu → Spells form (drop (length before) after) pdu
+spells_behind form pdu before after fits e =
+    let behind : drop (length before) after ≡ spelling form pdu = ap (λ (octets : List ℕ). drop (length before) octets) e ∙ drop_at before (spelling form pdu) (length before) refl in
+    subst (λ (octets : List ℕ). Spells form octets pdu) (sym behind) (spells_again form pdu fits)
 
 -- ---- what a writer asks of its vectors
 

@@ -124,6 +124,7 @@ pub fn encode(alloc: Global, pdu: &MvrpPdu) -> Result<Seq<u8>, NoMemory>
 {
     let vectors = vectors_of(alloc, pdu.leave_all, pdu.events.as_slice())?;
     let written = pdu_of(alloc, vectors)?;
+    mrpdu_codec::written_is_read();
     let mut out = Vec::new(alloc);
     mrpdu_codec::encode(AppForm::Mvrp, &written, &mut out)?;
     Ok(Seq::from_vec(out))
