@@ -12,3 +12,4 @@ pub mod Packed
 pub mod RoundTrip
 pub mod Sizes
 pub mod Reread
+pub mod Formed

@@ -15,7 +15,7 @@ use Rattle.mrpdu_codec.specs.Types.{row_of}
 use Rattle.mrpdu_codec.specs.Tree.{AllUpTo, IsVector, AreVectors, attr_of, vectors_octets, IsBody, length_fits, IsBlock, messages_from, messages_of, AreBlocks}
 use Rattle.mrpdu_codec.specs.Tree.Region.{Vectors}
 use Rattle.mrpdu_codec.specs.Grammar.{Spells}
-use Rattle.mrpdu_codec.specs.Canonical.{pack_events, pack_params, header_for, vector_for, vectors_for, list_length_for, length_for, block_for, tree_for, spelling, vector_fits, known_fits, message_fits, well_formed, CanPut}
+use Rattle.mrpdu_codec.specs.Canonical.{pack_events, pack_params, header_for, vector_for, vectors_for, list_length_for, length_for, block_for, tree_for, spelling, vector_fits, vectors_fit, has_form, message_fits, well_formed, CanPut}
 use Rattle.mrpdu_codec.proofs.Packed.{events_again, packed_length, packed_limit_holds, params_again, fours_length, fours_limit}
 
 -- ---- a vector
@@ -101,27 +101,27 @@ record BodyAgain (form : AppForm) (row : Option TypeForm) (m : Message) : Type 0
   body : IsBody form row (length_for row) (list_length_for form m.vectors) (Vectors (vectors_for m.vectors)) (0 ∷ 0 ∷ [])
   meaning : messages_from row m.kind (map attr_of (vectors_for m.vectors)) ≡ m ∷ []
 
-body_again : (form : AppForm) (row : Option TypeForm) (m : Message) → known_fits form row m ≡ true → BodyAgain form row m
+body_again : (form : AppForm) (row : Option TypeForm) (m : Message) → vectors_fit row m.vectors ≡ true → BodyAgain form row m
 body_again form None m fits = absurd (false≢true fits)
 body_again form (Some t) m fits = record { len = eq-eqb t.length t.length refl; body = rules form; meaning = ap (λ (vs : List VectorAttr). let x : Message = record { kind = m.kind; vectors = vs } in x ∷ []) vectors.1 } where
   vectors : AreVectors (Some t) t.length (vectors_for m.vectors) × (map attr_of (vectors_for m.vectors) ≡ m.vectors)
-  vectors = vectors_again t m.vectors (and_parts _ _ fits).0
+  vectors = vectors_again t m.vectors fits
 
   rules : (f : AppForm) → IsBody f (Some t) t.length (list_length_for f m.vectors) (Vectors (vectors_for m.vectors)) (0 ∷ 0 ∷ [])
   rules Mvrp = (refl, vectors.0, inr refl)
   rules Msrp = (header_again (length (vectors_octets (vectors_for m.vectors)) + 2), vectors.0, inr refl)
   rules Mmrp = (refl, vectors.0, inr refl)
 
-known_kind : (form : AppForm) (kind : ℕ) (m : Message) → known_fits form (row_of form kind) m ≡ true → 0 < kind
-known_kind Mvrp zero m fits = absurd (false≢true fits)
-known_kind Msrp zero m fits = absurd (false≢true fits)
-known_kind Mmrp zero m fits = absurd (false≢true fits)
-known_kind form (suc kind) m fits = omega arith
+known_kind : (form : AppForm) (kind : ℕ) (vs : List VectorAttr) → vectors_fit (row_of form kind) vs ≡ true → 0 < kind
+known_kind Mvrp zero vs fits = absurd (false≢true fits)
+known_kind Msrp zero vs fits = absurd (false≢true fits)
+known_kind Mmrp zero vs fits = absurd (false≢true fits)
+known_kind form (suc kind) vs fits = omega arith
 
-block_again : (form : AppForm) (m : Message) → message_fits form m ≡ true → IsBlock form (block_for form m) × (messages_of form (block_for form m) ≡ m ∷ [])
+block_again : (form : AppForm) (m : Message) → has_form form m ≡ true → IsBlock form (block_for form m) × (messages_of form (block_for form m) ≡ m ∷ [])
 block_again form m fits =
     let b = body_again form (row_of form m.kind) m fits in
-    (record { kind = known_kind form m.kind m fits; len = b.len; body = b.body }, b.meaning)
+    (record { kind = known_kind form m.kind m.vectors fits; len = b.len; body = b.body }, b.meaning)
 
 -- ---- a PDU
 
@@ -130,7 +130,7 @@ blocks_again : (form : AppForm) (ms : List Message) → list_all (message_fits f
 blocks_again form [] fits = (tt, refl)
 blocks_again form (m ∷ ms) fits =
     let p = and_parts _ _ fits in
-    let one = block_again form m p.0 in
+    let one = block_again form m (and_parts _ _ p.0).0 in
     let more = blocks_again form ms p.1 in
     ((one.0, λ e. absurd cc, more.0), ap (λ (x : List Message). x ++ flat_map (messages_of form) (map (block_for form) ms)) one.1 ∙ ap (λ (x : List Message). m ∷ x) more.1)
 
@@ -171,9 +171,9 @@ can_put t (v ∷ vs) fits =
     let r = and_parts _ _ q.0 in
     (record { events = leb-true (length v.events) 8191 r.1; params = params_small t.four_packed (length v.events) v.params q.1 }, can_put t vs p.1)
 
-can_put_known : (form : AppForm) (row : Option TypeForm) (m : Message) → known_fits form row m ≡ true → AllByRecursion CanPut m.vectors
-can_put_known form None m fits = absurd (false≢true fits)
-can_put_known form (Some t) m fits = can_put t m.vectors (and_parts _ _ fits).0
+can_put_known : (row : Option TypeForm) (vs : List VectorAttr) → vectors_fit row vs ≡ true → AllByRecursion CanPut vs
+can_put_known None vs fits = absurd (false≢true fits)
+can_put_known (Some t) vs fits = can_put t vs fits
 
 pub message_can_put : (form : AppForm) (m : Message) → message_fits form m ≡ true → AllByRecursion CanPut m.vectors
-message_can_put form m fits = can_put_known form (row_of form m.kind) m fits
+message_can_put form m fits = can_put_known (row_of form m.kind) m.vectors (and_parts _ _ fits).0

@@ -81,12 +81,6 @@ module _ (row : Option TypeForm) (len : ℕ) (total : Result (List VectorAttr ×
   list_ends ended =
       sym so_far ∙ ap (with_front front) (vectors_end row len octets ended) ∙ ap (λ (vs : List VectorAttr). let y : Result (List VectorAttr × List ℕ) ℕ = Ok (vs, octets) in y) (append-nil front)
 
-ok_is : (x y : List ℕ) → (let r : Result (List ℕ) ℕ = Ok x in r) ≡ Ok y → x ≡ y
-ok_is x y e = cc
-
-err_is : {B : Type 0} (m n : ℕ) → (let r : Result (List ℕ) ℕ = Err m in r) ≡ Err n → (let r : Result B ℕ = Err m in r) ≡ Err n
-err_is {B = B} m n e = let k : m ≡ n = cc in ap (λ (i : ℕ). let r : Result B ℕ = Err i in r) k
-
 rest_more : (v : VectorAttr) (read : Result (List VectorAttr × List ℕ) ℕ) → rest_of (read >>= λ x. Ok (v ∷ x.0, x.1)) ≡ rest_of read
 rest_more v (Ok x) = refl
 rest_more v (Err left) = refl

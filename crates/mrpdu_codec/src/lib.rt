@@ -42,7 +42,7 @@ pub use encoding::{encode, written_is_read};
 pub use error::DecodeErr;
 pub use form::{AppForm, TypeForm};
 pub use pdu::{Message, Pdu, VectorAttr};
-pub use writable::{size_of, well_formed};
+pub use writable::{size_of, well_formed, written_size};
 
 #[cfg(test)]
 mod tests;

@@ -1,4 +1,6 @@
-//! What a MRPDU says.
+//! What an MRPDU says.
+
+ghost use Rattle.std.specs.Prelude.{◌≡◌};
 
 use srp_base::{MrpEvent, Seq};
 
@@ -31,4 +33,27 @@ pub struct VectorAttr {
     pub events: Seq<MrpEvent>,
     /// For a four-packed type a number from 0 to 3 for each event; else none.
     pub params: Seq<u8>,
+}
+
+impl Pdu {
+    ghost use Rattle.mrpdu_codec.specs.Canonical.{has_leave_all};
+
+    /// Whether a vector of any Message has a LeaveAllEvent, which then counts for all attributes of the
+    /// application, and acts before all attribute events (IEEE Std 802.1Q-2018, 10.8.2).
+    pub fn has_leave_all(&self) -> bool
+        ensures { result ≡ has_leave_all self.now }
+    {
+        self.messages.as_slice().iter().any(|m| m.leaves())
+    }
+}
+
+impl Message {
+    ghost use Rattle.mrpdu_codec.specs.Canonical.{message_leaves};
+
+    /// Whether a vector has a LeaveAllEvent.
+    fn leaves(&self) -> bool
+        ensures { result ≡ message_leaves self.now }
+    {
+        self.vectors.as_slice().iter().any(|v| v.leave_all)
+    }
 }

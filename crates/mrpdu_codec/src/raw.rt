@@ -33,6 +33,20 @@ pub(crate) fn count(high: u8, low: u8) -> usize
     usize::from(number(high, low) % 8192)
 }
 
+/// How many octets n values take where an octet holds 3.
+pub(crate) fn thirds(n: usize) -> usize
+    ensures { result ≡ thirds n }
+{
+    n.div_ceil(3)
+}
+
+/// How many octets n values take where an octet holds 4.
+pub(crate) fn quarters(n: usize) -> usize
+    ensures { result ≡ quarters n }
+{
+    n.div_ceil(4)
+}
+
 /// The greatest LeaveAllEvent that a type allows.
 fn leave_all_limit(row: Option<TypeForm>) -> u16
     ensures { result ≡ leave_all_limit row }
@@ -55,11 +69,10 @@ fn packed_limit(row: Option<TypeForm>) -> u8
 
 /// How many FourPackedEvents n values take.
 fn fours_for(row: Option<TypeForm>, n: usize) -> usize
-    requires { n < 8192 }
     ensures { result ≡ fours_for row n }
 {
     match row {
-        Some(form) => { if form.four_packed { (n + 3) / 4 } else { 0 } }
+        Some(row) => { if row.four_packed { quarters(n) } else { 0 } }
         None => 0,
     }
 }
@@ -120,7 +133,7 @@ pub(crate) fn raw_vector(
     let (high, low, rest) = header(octets, row)?;
     let n = count(high, low);
     let (first, rest) = first(rest, usize::from(len))?;
-    let (packed, rest) = run(rest, packed_limit(row), (n + 2) / 3)?;
+    let (packed, rest) = run(rest, packed_limit(row), thirds(n))?;
     let (fours, rest) = run(rest, 255, fours_for(row, n))?;
     let raw = RawVector {
         high,

@@ -22,4 +22,4 @@ pub returns-clause-few : goal.returns-clause-few
 returns-clause-few c =
     let same : c.in_ok-written.written ≡ pdu_for c.args.pdu.now = written_is _ _ _ c.args.pdu.now c.in_ok-written.ensures c.in_ok-vectors.ensures.vectors c.as_slice.ensures in
     let octets : c.from_vec.result ≡ mvrp_spelling c.args.pdu.now = octets_are _ _ _ _ c.args.pdu.now c.from_vec.ensures c.in_ok-encode.ensures.ok c.new-out.ensures.items same in
-    subst (λ (os : List ℕ). length os ≤ 1500) (sym octets) (few_in_all c.args.pdu.now c.requires)
+    subst (λ (os : List ℕ). length os ≤ 1500) (sym octets) (few_in_all c.args.pdu.now c.requires (c.written_size.ensures Mvrp (pdu_for c.args.pdu.now)))
