@@ -8,9 +8,11 @@ use Rattle.mrpdu_codec.specs.declared.error.ReadErr.TheVariants as errors
 use Rattle.mrpdu_codec.specs.declared.form.AppForm.{AppForm}
 use Rattle.mrpdu_codec.specs.declared.form.TypeForm.{TypeForm}
 use Rattle.mrpdu_codec.specs.declared.pdu.Pdu.{Pdu}
-use Rattle.mrpdu_codec.specs.Errors.{IsWithin, behind, placed, Answers}
+use Rattle.mrpdu_codec.specs.Workers.{IsWithin, behind, placed}
+use Rattle.mrpdu_codec.specs.Reading.{Answers}
 use Rattle.mrpdu_codec.specs.Grammar.{Spells, Breaks}
-use Rattle.mrpdu_codec.specs.Reading.{Fails, region_at, known_at, pdu_at, placed_in, reading}
+use Rattle.mrpdu_codec.specs.Workers.{Fails}
+use Rattle.mrpdu_codec.specs.Reading.{region_at, known_at, pdu_at, placed_in, reading}
 use Rattle.mrpdu_codec.proofs.ReadRegions.{region_left}
 use Rattle.mrpdu_codec.proofs.ReadMessages.{reading_holds}
 use Rattle.mrpdu_codec.proofs.AgainMessages.{spells_reads, breaks_reads}

@@ -9,10 +9,10 @@ use Rattle.mrpdu_codec.specs.declared.form.TypeForm.{TypeForm}
 use Rattle.mrpdu_codec.specs.declared.pdu.Pdu.{Pdu}
 use Rattle.mrpdu_codec.specs.Octets.{quarters, three_events, four_params}
 use Rattle.mrpdu_codec.specs.Types.{row_of}
-use Rattle.mrpdu_codec.specs.Tree.{Vector, header, count, AllUpTo, IsVector, AreVectors, attr_of, Region, region_attrs, IsBody, length_fits, Block, AreBlocks, messages_from, messages_of}
-use Rattle.mrpdu_codec.specs.Tree.Region.{Vectors, Skipped}
+use Rattle.mrpdu_codec.specs.Tree.{Vector, header, count, AllUpTo, IsVector, AreVectors, attr_of, AttributeList, list_attrs, IsBody, length_fits, MessageTree, AreMessages, messages_from, messages_meant}
+use Rattle.mrpdu_codec.specs.Tree.AttributeList.{Vectors, Skipped}
 use Rattle.mrpdu_codec.specs.Grammar.{Spells}
-use Rattle.mrpdu_codec.specs.Canonical.{vector_fits, vectors_fit, has_form}
+use Rattle.mrpdu_codec.specs.Shape.{vector_fits, vectors_fit, has_form}
 
 -- ---- lists
 
@@ -61,12 +61,12 @@ leave_or_some h some =
 vector_formed : (row : TypeForm) (len : ℕ) (v : Vector) → len ≡ row.length → IsVector (Some row) len v → vector_fits row (attr_of v) ≡ true
 vector_formed row len v e is =
     let n = count v in
-    let events : length (take n (flat_map three_events v.packed)) ≡ n = length-take-le n (flat_map three_events v.packed) (omega (arith, three_each v.packed, is.packed)) in
+    let events : length (take n (flat_map three_events v.three_packed)) ≡ n = length-take-le n (flat_map three_events v.three_packed) (omega (arith, three_each v.three_packed, is.three_packed)) in
     and_from _ _ (and_from _ _ (and_from _ _
     (eq-eqb (length v.first) row.length (is.first ∙ e))
     (ap (λ (k : ℕ). ltb 0 (header v / 8192) || ltb 0 k) events ∙ leave_or_some (header v) is.no_mark))
     (le-leb _ 8191 (omega (arith, events))))
-    (params_formed row.four_packed n (length (take n (flat_map three_events v.packed))) v.fours is.fours is.params events)
+    (params_formed row.four_packed n (length (take n (flat_map three_events v.three_packed))) v.four_packed is.four_packed is.params events)
 
 vectors_formed : (row : TypeForm) (len : ℕ) (vs : List Vector) → len ≡ row.length → AreVectors (Some row) len vs → list_all (vector_fits row) (map attr_of vs) ≡ true
 vectors_formed row len [] e all = refl
@@ -74,8 +74,8 @@ vectors_formed row len (v ∷ vs) e all = and_from _ _ (vector_formed row len v 
 
 -- ---- a Message
 
-region_formed : (form : AppForm) (row : TypeForm) (len : ℕ) (list_length : List ℕ) (region : Region) (mark : List ℕ) → len ≡ row.length → IsBody form (Some row) len list_length region mark
-    → list_all (vector_fits row) (region_attrs region) ≡ true
+region_formed : (form : AppForm) (row : TypeForm) (len : ℕ) (list_length : List ℕ) (region : AttributeList) (mark : List ℕ) → len ≡ row.length → IsBody form (Some row) len list_length region mark
+    → list_all (vector_fits row) (list_attrs region) ≡ true
 region_formed Mvrp row len list_length (Vectors vs) mark e is = vectors_formed row len vs e is.1
 region_formed Msrp row len list_length (Vectors vs) mark e is = vectors_formed row len vs e is.1
 region_formed Mmrp row len list_length (Vectors vs) mark e is = vectors_formed row len vs e is.1
@@ -83,18 +83,18 @@ region_formed Mvrp row len list_length (Skipped octets) mark e is = absurd is
 region_formed Msrp row len list_length (Skipped octets) mark e is = absurd is
 region_formed Mmrp row len list_length (Skipped octets) mark e is = absurd is
 
-message_formed : (form : AppForm) (row : Option TypeForm) (kind len : ℕ) (list_length : List ℕ) (region : Region) (mark : List ℕ) → row_of form kind ≡ row → length_fits row len ≡ true
-    → IsBody form row len list_length region mark → list_all (has_form form) (messages_from row kind (region_attrs region)) ≡ true
+message_formed : (form : AppForm) (row : Option TypeForm) (kind len : ℕ) (list_length : List ℕ) (region : AttributeList) (mark : List ℕ) → row_of form kind ≡ row → length_fits row len ≡ true
+    → IsBody form row len list_length region mark → list_all (has_form form) (messages_from row kind (list_attrs region)) ≡ true
 message_formed form None kind len list_length region mark e fits is = refl
 message_formed form (Some row) kind len list_length region mark e fits is =
-    and_from _ _ (ap (λ (r : Option TypeForm). vectors_fit r (region_attrs region)) e ∙ region_formed form row len list_length region mark (eqb-true len row.length fits) is) refl
+    and_from _ _ (ap (λ (r : Option TypeForm). vectors_fit r (list_attrs region)) e ∙ region_formed form row len list_length region mark (eqb-true len row.length fits) is) refl
 
-blocks_formed : (form : AppForm) (bs : List Block) (after : Option (List ℕ)) → AreBlocks form bs after → list_all (has_form form) (flat_map (messages_of form) bs) ≡ true
-blocks_formed form [] after all = refl
-blocks_formed form (b ∷ bs) after all =
-    all_append (has_form form) (messages_of form b) (flat_map (messages_of form) bs)
-    (message_formed form (row_of form b.kind) b.kind b.len b.list_length b.region b.mark refl all.0.len all.0.body)
-    (blocks_formed form bs after all.2)
+messages_formed : (form : AppForm) (bs : List MessageTree) (after : Option (List ℕ)) → AreMessages form bs after → list_all (has_form form) (flat_map (messages_meant form) bs) ≡ true
+messages_formed form [] after all = refl
+messages_formed form (b ∷ bs) after all =
+    all_append (has_form form) (messages_meant form b) (flat_map (messages_meant form) bs)
+    (message_formed form (row_of form b.kind) b.kind b.len b.list_length b.list b.end_mark refl all.0.len all.0.body)
+    (messages_formed form bs after all.2)
 
 pub pdu_formed : (form : AppForm) (octets : List ℕ) (pdu : Pdu) → Spells form octets pdu → list_all (has_form form) pdu.messages ≡ true
-pdu_formed form octets pdu s = ap (λ (p : Pdu). list_all (has_form form) p.messages) s.meaning ∙ blocks_formed form s.tree.blocks s.tree.after s.rules.blocks
+pdu_formed form octets pdu s = ap (λ (p : Pdu). list_all (has_form form) p.messages) s.meaning ∙ messages_formed form s.tree.messages s.tree.after s.rules.messages

@@ -12,10 +12,11 @@ use Rattle.mrpdu_codec.specs.declared.pdu.Message.{Message}
 use Rattle.mrpdu_codec.specs.declared.pdu.Pdu.{Pdu}
 use Rattle.mrpdu_codec.specs.Octets.{number, thirds, quarters, three_events, four_params}
 use Rattle.mrpdu_codec.specs.Types.{row_of}
-use Rattle.mrpdu_codec.specs.Tree.{AllUpTo, IsVector, AreVectors, attr_of, vectors_octets, IsBody, length_fits, IsBlock, messages_from, messages_of, AreBlocks}
-use Rattle.mrpdu_codec.specs.Tree.Region.{Vectors}
+use Rattle.mrpdu_codec.specs.Tree.{AllUpTo, IsVector, AreVectors, attr_of, vectors_octets, IsBody, length_fits, IsMessage, messages_from, messages_meant, AreMessages}
+use Rattle.mrpdu_codec.specs.Tree.AttributeList.{Vectors}
 use Rattle.mrpdu_codec.specs.Grammar.{Spells}
-use Rattle.mrpdu_codec.specs.Canonical.{pack_events, pack_params, header_for, vector_for, vectors_for, list_length_for, length_for, block_for, tree_for, spelling, vector_fits, vectors_fit, has_form, message_fits, well_formed, CanPut}
+use Rattle.mrpdu_codec.specs.Canonical.{pack_events, pack_params, header_for, vector_for, vectors_for, list_length_for, length_for, message_for, tree_for, spelling, message_fits, well_formed, CanPut}
+use Rattle.mrpdu_codec.specs.Shape.{vector_fits, vectors_fit, has_form}
 use Rattle.mrpdu_codec.proofs.Packed.{events_again, packed_length, packed_limit_holds, params_again, fours_length, fours_limit}
 
 -- ---- a vector
@@ -75,9 +76,9 @@ vector_again t v fits =
         no_mark = omega (arith, e, f.some);
         leave_all = ap (λ (x : ℕ). leb (x / 8192) 1) e ∙ f.limit;
         first = eqb-true (length v.first) t.length r.0;
-        packed = packed_length v.events ∙ ap thirds (sym counted);
+        three_packed = packed_length v.events ∙ ap thirds (sym counted);
         events = packed_limit_holds v.events;
-        fours = g.len ∙ ap (λ (x : ℕ). cond t.four_packed (quarters x) 0) (sym counted);
+        four_packed = g.len ∙ ap (λ (x : ℕ). cond t.four_packed (quarters x) 0) (sym counted);
         params = g.limit;
       },
       attr_is _ v.leave_all v.first _ v.events _ v.params
@@ -118,23 +119,23 @@ known_kind Msrp zero vs fits = absurd (false≢true fits)
 known_kind Mmrp zero vs fits = absurd (false≢true fits)
 known_kind form (suc kind) vs fits = omega arith
 
-block_again : (form : AppForm) (m : Message) → has_form form m ≡ true → IsBlock form (block_for form m) × (messages_of form (block_for form m) ≡ m ∷ [])
-block_again form m fits =
+message_again : (form : AppForm) (m : Message) → has_form form m ≡ true → IsMessage form (message_for form m) × (messages_meant form (message_for form m) ≡ m ∷ [])
+message_again form m fits =
     let b = body_again form (row_of form m.kind) m fits in
     (record { kind = known_kind form m.kind m.vectors fits; len = b.len; body = b.body }, b.meaning)
 
 -- ---- a PDU
 
-blocks_again : (form : AppForm) (ms : List Message) → list_all (message_fits form) ms ≡ true
-    → AreBlocks form (map (block_for form) ms) (Some []) × (flat_map (messages_of form) (map (block_for form) ms) ≡ ms)
-blocks_again form [] fits = (tt, refl)
-blocks_again form (m ∷ ms) fits =
+messages_again : (form : AppForm) (ms : List Message) → list_all (message_fits form) ms ≡ true
+    → AreMessages form (map (message_for form) ms) (Some []) × (flat_map (messages_meant form) (map (message_for form) ms) ≡ ms)
+messages_again form [] fits = (tt, refl)
+messages_again form (m ∷ ms) fits =
     let p = and_parts _ _ fits in
-    let one = block_again form m (and_parts _ _ p.0).0 in
-    let more = blocks_again form ms p.1 in
-    ((one.0, λ e. absurd cc, more.0), ap (λ (x : List Message). x ++ flat_map (messages_of form) (map (block_for form) ms)) one.1 ∙ ap (λ (x : List Message). m ∷ x) more.1)
+    let one = message_again form m (and_parts _ _ p.0).0 in
+    let more = messages_again form ms p.1 in
+    ((one.0, λ e. absurd cc, more.0), ap (λ (x : List Message). x ++ flat_map (messages_meant form) (map (message_for form) ms)) one.1 ∙ ap (λ (x : List Message). m ∷ x) more.1)
 
-some_again : (form : AppForm) (ms : List Message) → 0 < length ms → 0 < length (map (block_for form) ms)
+some_again : (form : AppForm) (ms : List Message) → 0 < length ms → 0 < length (map (message_for form) ms)
 some_again form [] h = h
 some_again form (m ∷ ms) h = omega arith
 
@@ -142,10 +143,10 @@ pub spells_again : (form : AppForm) (pdu : Pdu) → well_formed form pdu ≡ tru
 spells_again form pdu fits =
     let p = and_parts _ _ fits in
     let q = and_parts _ _ p.0 in
-    let b = blocks_again form pdu.messages p.1 in
+    let b = messages_again form pdu.messages p.1 in
     record {
       tree = tree_for form pdu;
-      rules = record { some = some_again form pdu.messages (ltb-true 0 (length pdu.messages) q.1); blocks = b.0 };
+      rules = record { some = some_again form pdu.messages (ltb-true 0 (length pdu.messages) q.1); messages = b.0 };
       spelling = refl;
       meaning = ap (λ (ms : List Message). let x : Pdu = record { version = pdu.version; messages = ms } in x) (sym b.1);
     }

@@ -6,11 +6,13 @@ use Rattle.mrpdu_codec.specs.declared.error.ReadErr.{ReadErr}
 use Rattle.mrpdu_codec.specs.declared.error.ReadErr.TheVariants as errors
 use Rattle.mrpdu_codec.specs.declared.pdu.VectorAttr.{VectorAttr}
 use Rattle.mrpdu_codec.specs.Tree.{Vector, attr_of, IsVector, vector_octets}
-use Rattle.mrpdu_codec.specs.Reading.{◌>>=◌, Fails, rest_of, vector_at, ends_list, vectors_at, vectors_of, mark_at, list_at}
+use Rattle.mrpdu_codec.specs.Reading.{◌>>=◌, rest_of, vector_at, ends_list, vectors_at, vectors_of, mark_at, list_at}
+use Rattle.mrpdu_codec.specs.Workers.{Fails}
 use Rattle.std.proofs.lemmas.Result.{MatchResult-at_ok}
 use Rattle.std.proofs.lemmas.Bool.{false≢true}
 use Rattle.mrpdu_codec.proofs.Steps.{same_after, same_choice}
-use Rattle.mrpdu_codec.proofs.ReadVectors.{vector_match, vector_longer}
+use Rattle.mrpdu_codec.proofs.ReadVectors.{vector_match}
+use Rattle.mrpdu_codec.proofs.Longer.{vector_longer}
 
 -- ---- fuel makes no difference
 

@@ -1,7 +1,7 @@
 -- The one spelling in which a PDU is written (IEEE Std 802.1Q-2018, 10.8.1.2): every EndMark stands, and
 -- places past the last value are 0.
-use Rattle.std.specs.Prelude.{◌≡◌, ℕ, ◌+◌, ◌*◌, ◌/◌, ◌%◌, ◌≤◌, Bool, true, false, ◌&&◌, ◌||◌, List, [], ◌∷◌, length, map, Option, Some, None, nat_le, nat_lt, ◌==◌, if◌then◌else◌}
-use Rattle.std.specs.List.{list_all, list_any, sum_by}
+use Rattle.std.specs.Prelude.{◌≡◌, ℕ, ◌+◌, ◌*◌, ◌/◌, ◌%◌, ◌≤◌, Bool, true, ◌&&◌, List, [], ◌∷◌, length, map, Option, Some, None, nat_le, nat_lt, ◌==◌, if◌then◌else◌}
+use Rattle.std.specs.List.{list_all, sum_by}
 use Rattle.srp_base.specs.declared.mrp.MrpEvent.{MrpEvent}
 use Rattle.srp_base.specs.declared.mrp.MrpEvent.TheVariants.{New}
 use Rattle.mrpdu_codec.specs.declared.form.AppForm.{AppForm}
@@ -12,8 +12,9 @@ use Rattle.mrpdu_codec.specs.declared.pdu.Message.{Message}
 use Rattle.mrpdu_codec.specs.declared.pdu.Pdu.{Pdu}
 use Rattle.mrpdu_codec.specs.Octets.{number_of, thirds, quarters}
 use Rattle.mrpdu_codec.specs.Types.{row_of}
-use Rattle.mrpdu_codec.specs.Tree.{Vector, vectors_octets, Block, Tree, tree_octets}
-use Rattle.mrpdu_codec.specs.Tree.Region.{Vectors}
+use Rattle.mrpdu_codec.specs.Shape.{has_form}
+use Rattle.mrpdu_codec.specs.Tree.{Vector, vectors_octets, MessageTree, MrpduTree, tree_octets}
+use Rattle.mrpdu_codec.specs.Tree.AttributeList.{Vectors}
 
 -- a number below 65,536 in two octets, the high one first
 abbrev pub two_octets : ℕ → List ℕ
@@ -52,8 +53,8 @@ vector_for v = record {
   high = header_for v / 256;
   low = header_for v % 256;
   first = v.first;
-  packed = pack_events v.events;
-  fours = pack_params v.params;
+  three_packed = pack_events v.events;
+  four_packed = pack_params v.params;
 }
 
 -- an AttributeList
@@ -72,18 +73,18 @@ length_for None = 0
 length_for (Some row) = row.length
 
 -- a Message with its octets, and its EndMark
-abbrev pub block_for : AppForm → Message → Block
-block_for form m = record {
+abbrev pub message_for : AppForm → Message → MessageTree
+message_for form m = record {
   kind = m.kind;
   len = length_for (row_of form m.kind);
   list_length = list_length_for form m.vectors;
-  region = Vectors (vectors_for m.vectors);
-  mark = 0 ∷ 0 ∷ [];
+  list = Vectors (vectors_for m.vectors);
+  end_mark = 0 ∷ 0 ∷ [];
 }
 
 -- a PDU with its EndMark, and no octets after it
-abbrev pub tree_for : AppForm → Pdu → Tree
-tree_for form pdu = record { version = pdu.version; blocks = map (block_for form) pdu.messages; after = Some [] }
+abbrev pub tree_for : AppForm → Pdu → MrpduTree
+tree_for form pdu = record { version = pdu.version; messages = map (message_for form) pdu.messages; after = Some [] }
 
 -- the octets in which a PDU is written
 abbrev pub spelling : AppForm → Pdu → List ℕ
@@ -113,30 +114,7 @@ message_size form m = fixed_size form + vectors_size m.vectors
 abbrev pub pdu_size : AppForm → Pdu → ℕ
 pdu_size form pdu = 3 + sum_by (message_size form) pdu.messages
 
--- ---- What is read, and what can be written
-
--- a parameter from 0 to 3 for each event of a four-packed type, and else none
-abbrev pub params_fit : TypeForm → VectorAttr → Bool
-params_fit row v =
-    if row.four_packed then (length v.params == length v.events) && list_all (λ p. nat_le p 3) v.params
-    else length v.params == 0
-
--- FirstValue has the type's length, and the vector a LeaveAll or an event and at most 8,191 events
-abbrev pub vector_fits : TypeForm → VectorAttr → Bool
-vector_fits row v =
-    (length v.first == row.length)
-    && (v.leave_all || nat_lt 0 (length v.events))
-    && nat_le (length v.events) 8191
-    && params_fit row v
-
--- vectors of a type with this row of its application's table; a type without a row is none
-abbrev pub vectors_fit : Option TypeForm → List VectorAttr → Bool
-vectors_fit None vs = false
-vectors_fit (Some row) vs = list_all (vector_fits row) vs
-
--- a Message of a known type whose vectors fit it: each Message that is read has this form
-abbrev pub has_form : AppForm → Message → Bool
-has_form form m = vectors_fit (row_of form m.kind) m.vectors
+-- ---- What can be written
 
 -- AttributeListLength has two octets
 abbrev pub list_fits : AppForm → List VectorAttr → Bool
@@ -152,16 +130,6 @@ message_fits form m = has_form form m && list_fits form m.vectors
 abbrev pub well_formed : AppForm → Pdu → Bool
 well_formed form pdu =
     (pdu.version == 0) && nat_lt 0 (length pdu.messages) && list_all (message_fits form) pdu.messages
-
--- ---- LeaveAll
-
--- a vector of the Message has it
-abbrev pub message_leaves : Message → Bool
-message_leaves m = list_any (λ v. v.leave_all) m.vectors
-
--- A PDU has LeaveAll where any vector has it. It then counts for all attributes of the application.
-abbrev pub has_leave_all : Pdu → Bool
-has_leave_all pdu = list_any message_leaves pdu.messages
 
 -- what the octets of a vector can hold, of whatever type it is
 pub record CanPut (v : VectorAttr) : Type 0 where

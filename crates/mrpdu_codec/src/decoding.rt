@@ -5,13 +5,14 @@ ghost use Rattle.std.specs.List.{list_all};
 ghost use Rattle.mrpdu_codec.specs.declared.form.AppForm.{AppForm};
 ghost use Rattle.mrpdu_codec.specs.declared.pdu.Pdu.{Pdu};
 ghost use Rattle.mrpdu_codec.specs.Grammar.{Spells, Breaks};
-ghost use Rattle.mrpdu_codec.specs.Reading.{Gives, version_at, first_type_at, pdu_at, reading};
-ghost use Rattle.mrpdu_codec.specs.Errors.{Answers};
-ghost use Rattle.mrpdu_codec.specs.Canonical.{has_form};
+ghost use Rattle.mrpdu_codec.specs.Workers.{Gives};
+ghost use Rattle.mrpdu_codec.specs.Reading.{version_at, first_type_at, pdu_at, reading};
+ghost use Rattle.mrpdu_codec.specs.Reading.{Answers};
+ghost use Rattle.mrpdu_codec.specs.Shape.{has_form};
 
-use crate::blocks::messages;
 use crate::error::{DecodeErr, ReadErr};
 use crate::form::AppForm;
+use crate::messages::messages;
 use crate::pdu::Pdu;
 use srp_base::Seq;
 use std::alloc::Global;
@@ -46,12 +47,12 @@ fn first_type(octets: &[u8]) -> Result<(), ReadErr>
 
 /// A PDU, or how many octets are left from the first field on that breaks.
 #[tactic(auto, unfolding(crate::specs::Reading::pdu_at))]
-fn pdu(alloc: Global, app: AppForm, octets: &[u8]) -> Result<Pdu, ReadErr>
-    ensures { Gives (λ pdu. pdu) result (pdu_at app octets.now) }
+fn pdu(alloc: Global, form: AppForm, octets: &[u8]) -> Result<Pdu, ReadErr>
+    ensures { Gives (λ pdu. pdu) result (pdu_at form octets.now) }
 {
     let (version, rest) = version(octets)?;
     first_type(rest)?;
-    let found = messages(alloc, app, rest)?;
+    let found = messages(alloc, form, rest)?;
     let messages = Seq::from_vec(found);
     Ok(Pdu { version, messages })
 }

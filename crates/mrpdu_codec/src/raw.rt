@@ -3,8 +3,9 @@
 ghost use Rattle.std.specs.Prelude.{◌≡◌, ◌+◌, ◌*◌, ◌/◌, ◌%◌, ◌<◌};
 ghost use Rattle.mrpdu_codec.specs.Octets.{number, thirds, quarters};
 ghost use Rattle.mrpdu_codec.specs.Tree.{packed_limit, leave_all_limit, fours_for, header_fits};
-ghost use Rattle.mrpdu_codec.specs.Reading.{Gives, run_at, header_at, first_at, vector_at, ends_list};
-ghost use Rattle.mrpdu_codec.specs.Raw.{raw_of};
+ghost use Rattle.mrpdu_codec.specs.Workers.{Gives};
+ghost use Rattle.mrpdu_codec.specs.Reading.{run_at, header_at, first_at, vector_at, ends_list};
+ghost use Rattle.mrpdu_codec.specs.Workers.{raw_of};
 
 use crate::error::ReadErr;
 use crate::form::TypeForm;
@@ -15,8 +16,8 @@ pub(crate) struct RawVector<'a> {
     pub(crate) high: u8,
     pub(crate) low: u8,
     pub(crate) first: &'a [u8],
-    pub(crate) packed: &'a [u8],
-    pub(crate) fours: &'a [u8],
+    pub(crate) three_packed: &'a [u8],
+    pub(crate) four_packed: &'a [u8],
 }
 
 /// The number in two octets, the high one first.
@@ -133,14 +134,14 @@ pub(crate) fn raw_vector(
     let (high, low, rest) = header(octets, row)?;
     let n = count(high, low);
     let (first, rest) = first(rest, usize::from(len))?;
-    let (packed, rest) = run(rest, packed_limit(row), thirds(n))?;
-    let (fours, rest) = run(rest, 255, fours_for(row, n))?;
+    let (three_packed, rest) = run(rest, packed_limit(row), thirds(n))?;
+    let (four_packed, rest) = run(rest, 255, fours_for(row, n))?;
     let raw = RawVector {
         high,
         low,
         first,
-        packed,
-        fours,
+        three_packed,
+        four_packed,
     };
     Ok((raw, rest))
 }

@@ -4,8 +4,9 @@ ghost use Rattle.std.specs.Prelude.{◌≡◌, ◌+◌, ◌-◌, ◌^◌, ◌&&�
 ghost use Rattle.std.specs.List.{list_all, flat_map};
 ghost use Rattle.mrpdu_codec.specs.declared.form.AppForm.{AppForm};
 ghost use Rattle.mrpdu_codec.specs.declared.pdu.Pdu.{Pdu};
-ghost use Rattle.mrpdu_codec.specs.Tree.{vector_octets, vectors_octets, block_octets, blocks_octets};
-ghost use Rattle.mrpdu_codec.specs.Canonical.{vector_for, vectors_for, block_for, spelling, params_fit, vector_fits, vectors_fit, has_form, list_fits, message_fits, pdu_size, well_formed};
+ghost use Rattle.mrpdu_codec.specs.Tree.{vector_octets, vectors_octets, message_octets, messages_octets};
+ghost use Rattle.mrpdu_codec.specs.Canonical.{vector_for, vectors_for, message_for, spelling, list_fits, message_fits, pdu_size, well_formed};
+ghost use Rattle.mrpdu_codec.specs.Shape.{params_fit, vector_fits, vectors_fit, has_form};
 
 use crate::form::{AppForm, TypeForm};
 use crate::pdu::{Message, Pdu, VectorAttr};
@@ -35,7 +36,7 @@ pub(crate) fn vectors_size(vs: &[VectorAttr]) -> usize
 
 /// The octets of a Message: with its EndMark 4 beside the vectors, and in MSRP 2 more.
 fn message_size(form: AppForm, message: &Message) -> usize
-    ensures { result ≡ min (length (block_octets (block_for form message.now))) (2 ^ 64 - 1) }
+    ensures { result ≡ min (length (message_octets (message_for form message.now))) (2 ^ 64 - 1) }
 {
     let vectors = vectors_size(message.vectors.as_slice());
     match form {
@@ -47,7 +48,7 @@ fn message_size(form: AppForm, message: &Message) -> usize
 
 /// The octets of Messages, or the greatest usize where they are more.
 fn messages_size(form: AppForm, messages: &[Message]) -> usize
-    ensures { result ≡ min (length (blocks_octets (map (block_for form) messages.now))) (2 ^ 64 - 1) }
+    ensures { result ≡ min (length (messages_octets (map (message_for form) messages.now))) (2 ^ 64 - 1) }
 {
     let mut size = 0usize;
     for message in messages {
@@ -138,7 +139,7 @@ fn messages_fit(form: AppForm, messages: &[Message]) -> bool
 /// FirstValue has the type's length, each vector has a LeaveAll or an event and at most 8,191 events,
 /// the parameters fit the type, and a list of MSRP has at most 65,535 octets with its EndMark.
 pub fn well_formed(form: AppForm, pdu: &Pdu) -> bool
-    ensures named { result ≡ well_formed form pdu.now }
+    ensures exact { result ≡ well_formed form pdu.now }
 {
     let each = messages_fit(form, pdu.messages.as_slice());
     pdu.version == 0 && 0 < pdu.messages.len() && each

@@ -10,7 +10,8 @@ use Rattle.mrpdu_codec.specs.declared.form.TypeForm.{TypeForm}
 use Rattle.mrpdu_codec.specs.declared.pdu.VectorAttr.{VectorAttr}
 use Rattle.mrpdu_codec.specs.declared.pdu.Pdu.{Pdu}
 use Rattle.mrpdu_codec.specs.Octets.{number}
-use Rattle.mrpdu_codec.specs.Canonical.{vector_fits, well_formed, spelling, vector_size, vectors_size, pdu_size}
+use Rattle.mrpdu_codec.specs.Shape.{vector_fits}
+use Rattle.mrpdu_codec.specs.Canonical.{well_formed, spelling, vector_size, vectors_size, pdu_size}
 use Rattle.mrpdu_codec.specs.Reading.{reading}
 use Rattle.mvrp_codec.specs.declared.pdu.MvrpPdu.{MvrpPdu}
 use Rattle.mvrp_codec.specs.Meaning.{event_at, events_from, vector_events, meaning, read_as, mvrp_reading}

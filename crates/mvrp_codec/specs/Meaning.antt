@@ -9,7 +9,7 @@ use Rattle.mrpdu_codec.specs.declared.pdu.Pdu.{Pdu}
 use Rattle.mrpdu_codec.specs.Octets.{number}
 use Rattle.mrpdu_codec.specs.Grammar.{Spells}
 use Rattle.mrpdu_codec.specs.Reading.{reading}
-use Rattle.mrpdu_codec.specs.Canonical.{has_leave_all}
+use Rattle.mrpdu_codec.specs.Shape.{has_leave_all}
 use Rattle.mvrp_codec.specs.declared.pdu.MvrpPdu.{MvrpPdu}
 
 -- the VID in the two octets that each FirstValue of MVRP has; octets of another number are none

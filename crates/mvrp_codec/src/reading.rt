@@ -7,8 +7,8 @@ ghost use Rattle.mrpdu_codec.specs.declared.form.AppForm.TheVariants.{Mvrp};
 ghost use Rattle.mrpdu_codec.specs.Grammar.{Breaks};
 ghost use Rattle.mvrp_codec.specs.declared.pdu.MvrpPdu.{MvrpPdu};
 ghost use Rattle.mvrp_codec.specs.Meaning.{first_vid, event_at, events_from, vector_events, message_events, meaning, Reads, mvrp_reading};
-ghost use Rattle.mrpdu_codec.specs.Errors.{Answers};
-ghost use Rattle.mrpdu_codec.specs.Canonical.{has_form};
+ghost use Rattle.mrpdu_codec.specs.Reading.{Answers};
+ghost use Rattle.mrpdu_codec.specs.Shape.{has_form};
 
 use crate::pdu::MvrpPdu;
 use mrpdu_codec::{AppForm, DecodeErr, Message, Pdu, VectorAttr};

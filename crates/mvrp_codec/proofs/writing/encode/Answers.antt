@@ -9,7 +9,7 @@ use Rattle.mvrp_codec.proofs.writing.encode.Goals as goal
 pub encode-requires : goal.encode-requires
 encode-requires c =
     let same : c.in_ok-written.written ≡ pdu_for c.args.pdu.now = written_is _ _ _ c.args.pdu.now c.in_ok-written.ensures c.in_ok-vectors.ensures.vectors c.as_slice.ensures in
-    subst (λ (p : Pdu). well_formed Mvrp p ≡ true) (sym same) (is_well_formed c.args.pdu.now c.requires)
+    record { well_formed = subst (λ (p : Pdu). well_formed Mvrp p ≡ true) (sym same) (is_well_formed c.args.pdu.now c.requires) }
 
 pub returns-clause-read_back : goal.returns-clause-read_back
 returns-clause-read_back c =
