@@ -10,14 +10,15 @@ use Rattle.mrpdu_codec.specs.declared.pdu.VectorAttr.{VectorAttr}
 use Rattle.mrpdu_codec.specs.declared.pdu.Pdu.{Pdu}
 use Rattle.mrpdu_codec.specs.Octets.{number}
 use Rattle.mrpdu_codec.specs.Types.{row_of}
-use Rattle.mrpdu_codec.specs.Tree.{Vector, vectors_octets, AreVectors, attr_of, Region, IsEndMark, IsBody, region_octets, region_attrs, length_fits, Block, IsBlock, block_octets, blocks_octets, messages_of, AreBlocks, after_octets, Tree, IsTree, tree_octets, pdu_of}
-use Rattle.mrpdu_codec.specs.Tree.Region.{Vectors, Skipped}
-use Rattle.mrpdu_codec.specs.Grammar.{EndMarkBreaks, ListLengthBreaks, LengthBreaks, FirstTypeBreaks, LaterTypeBreaks, ListBreaks, RegionBreaks, IsRegion, CountedBreaks, BodyBreaks, BlockBreaks, AreClosed, PduBreaks, Spells, Breaks}
+use Rattle.mrpdu_codec.specs.Tree.{Vector, vectors_octets, AreVectors, attr_of, AttributeList, IsEndMark, IsBody, list_octets, list_attrs, length_fits, MessageTree, IsMessage, message_octets, messages_octets, messages_meant, AreMessages, after_octets, MrpduTree, IsTree, tree_octets, pdu_of}
+use Rattle.mrpdu_codec.specs.Tree.AttributeList.{Vectors, Skipped}
+use Rattle.mrpdu_codec.specs.Grammar.{EndMarkBreaks, ListLengthBreaks, LengthBreaks, FirstTypeBreaks, LaterTypeBreaks, ListBreaks, RegionBreaks, IsRegion, CountedBreaks, BodyBreaks, MessageBreaks, AreClosed, PduBreaks, Spells, Breaks}
 use Rattle.mrpdu_codec.specs.Grammar.RegionBreaks.{vector as region_vector, end_mark as region_mark, short as region_short}
 use Rattle.mrpdu_codec.specs.Grammar.CountedBreaks.{list_length as counted_length, region as counted_region, end_mark as counted_mark, skipped as counted_skipped}
-use Rattle.mrpdu_codec.specs.Grammar.BlockBreaks.{len as length_breaks, body as body_breaks_at}
-use Rattle.mrpdu_codec.specs.Grammar.PduBreaks.{version as version_breaks, first_type, later_type, block as block_breaks_at}
-use Rattle.mrpdu_codec.specs.Reading.{◌>>=◌, ends_list, vectors_of, mark_at, list_at, region_at, known_at, skip_at, size_at, sized_at, counted_at, body_at, length_at, block_at, end_at, blocks_at, blocks_of, version_at, first_type_at, pdu_at}
+use Rattle.mrpdu_codec.specs.Grammar.MessageBreaks.{len as length_breaks, body as body_breaks_at}
+use Rattle.mrpdu_codec.specs.Grammar.PduBreaks.{version as version_breaks, first_type, later_type, message as message_breaks_at}
+use Rattle.mrpdu_codec.specs.Reading.{◌>>=◌, ends_list, vectors_of, mark_at, list_at, region_at, known_at, skip_at, size_at, sized_at, counted_at, body_at, length_at, message_at, end_at, messages_at, messages_of, version_at, first_type_at, pdu_at}
+use Rattle.mrpdu_codec.proofs.Longer.{message_longer}
 use Rattle.mrpdu_codec.proofs.AgainVectors.{of_reads, of_breaks}
 
 -- a number that isn't 0
@@ -159,8 +160,8 @@ counted_breaks row len front rest (counted_skipped row-is high low size counts f
 
 -- ---- the body of a Message
 
-body_reads : (form : AppForm) (row : Option TypeForm) (len : ℕ) (list_length : List ℕ) (region : Region) (mark rest : List ℕ) → IsBody form row len list_length region mark → (mark ≡ [] → rest ≡ [])
-    → body_at form row len (list_length ++ (region_octets region ++ (mark ++ rest))) ≡ Ok (region_attrs region, rest)
+body_reads : (form : AppForm) (row : Option TypeForm) (len : ℕ) (list_length : List ℕ) (region : AttributeList) (mark rest : List ℕ) → IsBody form row len list_length region mark → (mark ≡ [] → rest ≡ [])
+    → body_at form row len (list_length ++ (list_octets region ++ (mark ++ rest))) ≡ Ok (list_attrs region, rest)
 body_reads Mvrp row len list_length (Vectors vs) mark rest is last =
     ap (λ (o : List ℕ). list_at row len (o ++ (vectors_octets vs ++ (mark ++ rest)))) is.0 ∙ list_reads row len vs mark rest is.1 is.2 last
 body_reads Mmrp row len list_length (Vectors vs) mark rest is last =
@@ -187,22 +188,22 @@ body_breaks Mmrp row len front rest h = list_breaks row len front rest h
 
 -- ---- a Message
 
-block_tail : Block → List ℕ → List ℕ
-block_tail b rest = (b.list_length ++ (region_octets b.region ++ b.mark)) ++ rest
+message_tail : MessageTree → List ℕ → List ℕ
+message_tail b rest = (b.list_length ++ (list_octets b.list ++ b.end_mark)) ++ rest
 
-block_reads : (form : AppForm) (b : Block) (rest : List ℕ) → IsBlock form b → (b.mark ≡ [] → rest ≡ []) → block_at form b.kind (b.len ∷ block_tail b rest) ≡ Ok (messages_of form b, rest)
-unfolding block_at length_at block_tail
-block_reads form b rest is last =
-    let text : block_tail b rest ≡ b.list_length ++ (region_octets b.region ++ (b.mark ++ rest)) = append_assoc b.list_length (region_octets b.region ++ b.mark) rest ∙ ap (λ (o : List ℕ). b.list_length ++ o) (append_assoc (region_octets b.region) b.mark rest) in
-    ap (λ (o : List ℕ). block_at form b.kind (b.len ∷ o)) text
-    ∙ rw (is.len, body_reads form (row_of form b.kind) b.len b.list_length b.region b.mark rest is.body last) refl
+message_reads : (form : AppForm) (b : MessageTree) (rest : List ℕ) → IsMessage form b → (b.end_mark ≡ [] → rest ≡ []) → message_at form b.kind (b.len ∷ message_tail b rest) ≡ Ok (messages_meant form b, rest)
+unfolding message_at length_at message_tail
+message_reads form b rest is last =
+    let text : message_tail b rest ≡ b.list_length ++ (list_octets b.list ++ (b.end_mark ++ rest)) = append_assoc b.list_length (list_octets b.list ++ b.end_mark) rest ∙ ap (λ (o : List ℕ). b.list_length ++ o) (append_assoc (list_octets b.list) b.end_mark rest) in
+    ap (λ (o : List ℕ). message_at form b.kind (b.len ∷ o)) text
+    ∙ rw (is.len, body_reads form (row_of form b.kind) b.len b.list_length b.list b.end_mark rest is.body last) refl
 
-record BrokenBlock (form : AppForm) (front rest : List ℕ) : Type 0 where
+record BrokenMessage (form : AppForm) (front rest : List ℕ) : Type 0 where
   kind : ℕ
   tail : List ℕ
   text : front ++ rest ≡ kind ∷ tail
   some : 0 < kind
-  fails : block_at form kind tail ≡ Err (length rest)
+  fails : message_at form kind tail ≡ Err (length rest)
 
 length_breaks_at : (row : Option TypeForm) (octets : List ℕ) → LengthBreaks row octets → length_at row octets ≡ Err (length octets)
 unfolding length_at
@@ -213,16 +214,16 @@ length_reads : (row : Option TypeForm) (len : ℕ) (rest : List ℕ) → length_
 unfolding length_at
 length_reads row len rest fits = rw fits refl
 
-block_breaks : (form : AppForm) (front rest : List ℕ) → BlockBreaks form front rest → BrokenBlock form front rest
-unfolding block_at
-block_breaks form front rest (length_breaks kind some front-is h) = record {
+message_breaks : (form : AppForm) (front rest : List ℕ) → MessageBreaks form front rest → BrokenMessage form front rest
+unfolding message_at
+message_breaks form front rest (length_breaks kind some front-is h) = record {
   kind = kind;
   tail = rest;
   text = ap (λ (o : List ℕ). o ++ rest) front-is;
   some = some;
   fails = rw (length_breaks_at (row_of form kind) rest h) refl;
 }
-block_breaks form front rest (body_breaks_at kind len some fits part front-is h) = record {
+message_breaks form front rest (body_breaks_at kind len some fits part front-is h) = record {
   kind = kind;
   tail = len ∷ (part ++ rest);
   text = ap (λ (o : List ℕ). o ++ rest) front-is;
@@ -232,87 +233,84 @@ block_breaks form front rest (body_breaks_at kind len some fits part front-is h)
 
 -- ---- Messages up to an end
 
-one_more : (fuel : ℕ) (form : AppForm) (b : Block) (rest : List ℕ) → IsBlock form b → (b.mark ≡ [] → rest ≡ [])
-    → blocks_at (suc fuel) form (block_octets b ++ rest) ≡ (blocks_at fuel form rest >>= λ ms. Ok (messages_of form b ++ ms))
-unfolding blocks_at block_tail
-one_more fuel form b rest is last = rw (nonzero b.kind is.kind, block_reads form b rest is last) refl
+one_more : (fuel : ℕ) (form : AppForm) (b : MessageTree) (rest : List ℕ) → IsMessage form b → (b.end_mark ≡ [] → rest ≡ [])
+    → messages_at (suc fuel) form (message_octets b ++ rest) ≡ (messages_at fuel form rest >>= λ ms. Ok (messages_meant form b ++ ms))
+unfolding messages_at message_tail
+one_more fuel form b rest is last = rw (nonzero b.kind is.kind, message_reads form b rest is last) refl
 
-block_takes : (b : Block) (rest : List ℕ) → length rest + 2 ≤ length (block_octets b ++ rest)
-block_takes b rest = omega (arith, length-append (b.list_length ++ (region_octets b.region ++ b.mark)) rest)
-
-blocks_read : (fuel : ℕ) (form : AppForm) (bs : List Block) (after : Option (List ℕ)) → AreBlocks form bs after → length (blocks_octets bs ++ after_octets after) ≤ fuel
-    → blocks_at fuel form (blocks_octets bs ++ after_octets after) ≡ Ok (flat_map (messages_of form) bs)
-unfolding blocks_at end_at
-blocks_read zero form [] None all enough = refl
-blocks_read (suc fuel) form [] None all enough = refl
-blocks_read zero form [] (Some rest) all enough = refl
-blocks_read (suc fuel) form [] (Some rest) all enough = refl
-blocks_read zero form (b ∷ bs) after all enough = absurd (omega arith)
-blocks_read (suc fuel) form (b ∷ bs) after all enough =
-    let others = blocks_octets bs ++ after_octets after in
-    let regrouped : (block_octets b ++ blocks_octets bs) ++ after_octets after ≡ block_octets b ++ others = append_assoc (block_octets b) (blocks_octets bs) (after_octets after) in
-    let more = block_takes b others in
-    let last : b.mark ≡ [] → others ≡ [] = λ e. ap (λ (cs : List Block). blocks_octets cs ++ after_octets after) (all.1 e).0 ∙ ap after_octets (all.1 e).1 in
-    ap (λ (o : List ℕ). blocks_at (suc fuel) form o) regrouped
+messages_read : (fuel : ℕ) (form : AppForm) (bs : List MessageTree) (after : Option (List ℕ)) → AreMessages form bs after → length (messages_octets bs ++ after_octets after) ≤ fuel
+    → messages_at fuel form (messages_octets bs ++ after_octets after) ≡ Ok (flat_map (messages_meant form) bs)
+unfolding messages_at end_at
+messages_read zero form [] None all enough = refl
+messages_read (suc fuel) form [] None all enough = refl
+messages_read zero form [] (Some rest) all enough = refl
+messages_read (suc fuel) form [] (Some rest) all enough = refl
+messages_read zero form (b ∷ bs) after all enough = absurd (omega arith)
+messages_read (suc fuel) form (b ∷ bs) after all enough =
+    let others = messages_octets bs ++ after_octets after in
+    let regrouped : (message_octets b ++ messages_octets bs) ++ after_octets after ≡ message_octets b ++ others = append_assoc (message_octets b) (messages_octets bs) (after_octets after) in
+    let more = message_longer _ b others refl in
+    let last : b.end_mark ≡ [] → others ≡ [] = λ e. ap (λ (cs : List MessageTree). messages_octets cs ++ after_octets after) (all.1 e).0 ∙ ap after_octets (all.1 e).1 in
+    ap (λ (o : List ℕ). messages_at (suc fuel) form o) regrouped
     ∙ one_more fuel form b others all.0 last
-    ∙ rw (blocks_read fuel form bs after all.2 (omega (arith, ap length regrouped))) refl
+    ∙ rw (messages_read fuel form bs after all.2 (omega (arith, ap length regrouped))) refl
 
 -- whole Messages, and what is read behind them
-past_blocks : (form : AppForm) (rest : List ℕ) (left : ℕ) → ((fuel : ℕ) → length rest ≤ fuel → blocks_at fuel form rest ≡ Err left)
-    → (fuel : ℕ) (bs : List Block) → AreClosed form bs → length (blocks_octets bs ++ rest) ≤ fuel → blocks_at fuel form (blocks_octets bs ++ rest) ≡ Err left
-past_blocks form rest left h fuel [] all enough = h fuel enough
-past_blocks form rest left h zero (b ∷ bs) all enough = absurd (omega arith)
-past_blocks form rest left h (suc fuel) (b ∷ bs) all enough =
-    let others = blocks_octets bs ++ rest in
-    let regrouped : (block_octets b ++ blocks_octets bs) ++ rest ≡ block_octets b ++ others = append_assoc (block_octets b) (blocks_octets bs) rest in
-    let more = block_takes b others in
-    ap (λ (o : List ℕ). blocks_at (suc fuel) form o) regrouped
+past_messages : (form : AppForm) (rest : List ℕ) (left : ℕ) → ((fuel : ℕ) → length rest ≤ fuel → messages_at fuel form rest ≡ Err left)
+    → (fuel : ℕ) (bs : List MessageTree) → AreClosed form bs → length (messages_octets bs ++ rest) ≤ fuel → messages_at fuel form (messages_octets bs ++ rest) ≡ Err left
+past_messages form rest left h fuel [] all enough = h fuel enough
+past_messages form rest left h zero (b ∷ bs) all enough = absurd (omega arith)
+past_messages form rest left h (suc fuel) (b ∷ bs) all enough =
+    let others = messages_octets bs ++ rest in
+    let regrouped : (message_octets b ++ messages_octets bs) ++ rest ≡ message_octets b ++ others = append_assoc (message_octets b) (messages_octets bs) rest in
+    let more = message_longer _ b others refl in
+    ap (λ (o : List ℕ). messages_at (suc fuel) form o) regrouped
     ∙ one_more fuel form b others all.0.0 (λ e. absurd (omega (arith, all.0.1, ap length e)))
-    ∙ rw (past_blocks form rest left h fuel bs all.1 (omega (arith, ap length regrouped))) refl
+    ∙ rw (past_messages form rest left h fuel bs all.1 (omega (arith, ap length regrouped))) refl
 
-type_breaks : (form : AppForm) (octets : List ℕ) → LaterTypeBreaks octets → (fuel : ℕ) → length octets ≤ fuel → blocks_at fuel form octets ≡ Err (length octets)
-unfolding blocks_at end_at
+type_breaks : (form : AppForm) (octets : List ℕ) → LaterTypeBreaks octets → (fuel : ℕ) → length octets ≤ fuel → messages_at fuel form octets ≡ Err (length octets)
+unfolding messages_at end_at
 type_breaks form [] h fuel enough = absurd h
 type_breaks form (kind ∷ rest) h zero enough = absurd (omega arith)
 type_breaks form (kind ∷ []) h (suc fuel) enough = rw h refl
 type_breaks form (kind ∷ next ∷ rest) h (suc fuel) enough = rw (h.0, nonzero next h.1) refl
 
-inner_breaks : (form : AppForm) (part rest : List ℕ) → BlockBreaks form part rest → (fuel : ℕ) → length (part ++ rest) ≤ fuel → blocks_at fuel form (part ++ rest) ≡ Err (length rest)
-unfolding blocks_at
-inner_breaks form part rest h zero enough = let b = block_breaks form part rest h in absurd (omega (arith, ap length b.text))
+inner_breaks : (form : AppForm) (part rest : List ℕ) → MessageBreaks form part rest → (fuel : ℕ) → length (part ++ rest) ≤ fuel → messages_at fuel form (part ++ rest) ≡ Err (length rest)
+unfolding messages_at
+inner_breaks form part rest h zero enough = let b = message_breaks form part rest h in absurd (omega (arith, ap length b.text))
 inner_breaks form part rest h (suc fuel) enough =
-    let b = block_breaks form part rest h in
-    ap (λ (o : List ℕ). blocks_at (suc fuel) form o) b.text ∙ rw (nonzero b.kind b.some, b.fails) refl
+    let b = message_breaks form part rest h in
+    ap (λ (o : List ℕ). messages_at (suc fuel) form o) b.text ∙ rw (nonzero b.kind b.some, b.fails) refl
 
 -- ---- a PDU
 
 -- a first Message has an AttributeType, so that octets with one are read as Messages
 pdu_from : (form : AppForm) (version kind : ℕ) (octets tail : List ℕ) → octets ≡ kind ∷ tail → 0 < kind
-    → pdu_at form (version ∷ octets) ≡ (blocks_of form octets >>= λ ms. let pdu : Pdu = record { version = version; messages = ms } in Ok pdu)
+    → pdu_at form (version ∷ octets) ≡ (messages_of form octets >>= λ ms. let pdu : Pdu = record { version = version; messages = ms } in Ok pdu)
 unfolding pdu_at version_at first_type_at
 pdu_from form version kind octets tail e some =
-    ap (λ (o : List ℕ). pdu_at form (version ∷ o)) e ∙ rw (nonzero kind some) (ap (λ (o : List ℕ). blocks_of form o >>= λ ms. let pdu : Pdu = record { version = version; messages = ms } in Ok pdu) (sym e))
+    ap (λ (o : List ℕ). pdu_at form (version ∷ o)) e ∙ rw (nonzero kind some) (ap (λ (o : List ℕ). messages_of form o >>= λ ms. let pdu : Pdu = record { version = version; messages = ms } in Ok pdu) (sym e))
 
-all_read : (form : AppForm) (bs : List Block) (after : Option (List ℕ)) → AreBlocks form bs after → blocks_of form (blocks_octets bs ++ after_octets after) ≡ Ok (flat_map (messages_of form) bs)
-unfolding blocks_of
-all_read form bs after all = blocks_read (length (blocks_octets bs ++ after_octets after)) form bs after all (omega arith)
+all_read : (form : AppForm) (bs : List MessageTree) (after : Option (List ℕ)) → AreMessages form bs after → messages_of form (messages_octets bs ++ after_octets after) ≡ Ok (flat_map (messages_meant form) bs)
+unfolding messages_of
+all_read form bs after all = messages_read (length (messages_octets bs ++ after_octets after)) form bs after all (omega arith)
 
-past_of : (form : AppForm) (bs : List Block) (rest : List ℕ) (left : ℕ) → AreClosed form bs → ((fuel : ℕ) → length rest ≤ fuel → blocks_at fuel form rest ≡ Err left)
-    → blocks_of form (blocks_octets bs ++ rest) ≡ Err left
-unfolding blocks_of
-past_of form bs rest left all h = past_blocks form rest left h (length (blocks_octets bs ++ rest)) bs all (omega arith)
+past_of : (form : AppForm) (bs : List MessageTree) (rest : List ℕ) (left : ℕ) → AreClosed form bs → ((fuel : ℕ) → length rest ≤ fuel → messages_at fuel form rest ≡ Err left)
+    → messages_of form (messages_octets bs ++ rest) ≡ Err left
+unfolding messages_of
+past_of form bs rest left all h = past_messages form rest left h (length (messages_octets bs ++ rest)) bs all (omega arith)
 
 first_fails : (form : AppForm) (version : ℕ) (rest : List ℕ) → FirstTypeBreaks rest → pdu_at form (version ∷ rest) ≡ Err (length rest)
 unfolding pdu_at version_at first_type_at
 first_fails form version [] h = refl
 first_fails form version (kind ∷ rest) h = rw h refl
 
-tree_reads : (form : AppForm) (tree : Tree) → IsTree form tree → pdu_at form (tree_octets tree) ≡ Ok (pdu_of form tree)
-tree_reads form tree is = go tree.blocks is.some is.blocks where
-  go : (bs : List Block) → 0 < length bs → AreBlocks form bs tree.after → pdu_at form (tree.version ∷ (blocks_octets bs ++ after_octets tree.after)) ≡ Ok (pdu_of form (record { version = tree.version; blocks = bs; after = tree.after }))
+tree_reads : (form : AppForm) (tree : MrpduTree) → IsTree form tree → pdu_at form (tree_octets tree) ≡ Ok (pdu_of form tree)
+tree_reads form tree is = go tree.messages is.some is.messages where
+  go : (bs : List MessageTree) → 0 < length bs → AreMessages form bs tree.after → pdu_at form (tree.version ∷ (messages_octets bs ++ after_octets tree.after)) ≡ Ok (pdu_of form (record { version = tree.version; messages = bs; after = tree.after }))
   go [] some all = absurd (omega arith)
   go (b ∷ bs) some all =
-      pdu_from form tree.version b.kind (blocks_octets (b ∷ bs) ++ after_octets tree.after) _ refl all.0.kind
+      pdu_from form tree.version b.kind (messages_octets (b ∷ bs) ++ after_octets tree.after) _ refl all.0.kind
       ∙ rw (all_read form (b ∷ bs) tree.after all) refl
 
 pdu_fails : (form : AppForm) (front rest : List ℕ) → PduBreaks form front rest → pdu_at form (front ++ rest) ≡ Err (length rest)
@@ -323,17 +321,17 @@ pdu_fails form front rest (first_type version front-is h) = ap (λ (o : List ℕ
 pdu_fails form front rest (later_type version [] some all front-is h) = absurd (omega arith)
 pdu_fails form front rest (later_type version (b ∷ bs) some all front-is h) =
     ap (λ (o : List ℕ). pdu_at form (o ++ rest)) front-is
-    ∙ pdu_from form version b.kind (blocks_octets (b ∷ bs) ++ rest) _ refl all.0.0.kind
+    ∙ pdu_from form version b.kind (messages_octets (b ∷ bs) ++ rest) _ refl all.0.0.kind
     ∙ rw (past_of form (b ∷ bs) rest (length rest) all (type_breaks form rest h)) refl
-pdu_fails form front rest (block_breaks_at version [] part all front-is h) =
-    let b = block_breaks form part rest h in
+pdu_fails form front rest (message_breaks_at version [] part all front-is h) =
+    let b = message_breaks form part rest h in
     ap (λ (o : List ℕ). pdu_at form (o ++ rest)) front-is
     ∙ pdu_from form version b.kind (part ++ rest) b.tail b.text b.some
     ∙ rw (past_of form [] (part ++ rest) (length rest) tt (inner_breaks form part rest h)) refl
-pdu_fails form front rest (block_breaks_at version (b ∷ bs) part all front-is h) =
+pdu_fails form front rest (message_breaks_at version (b ∷ bs) part all front-is h) =
     ap (λ (o : List ℕ). pdu_at form (o ++ rest)) front-is
-    ∙ ap (λ (o : List ℕ). pdu_at form (version ∷ o)) (append_assoc (blocks_octets (b ∷ bs)) part rest)
-    ∙ pdu_from form version b.kind (blocks_octets (b ∷ bs) ++ (part ++ rest)) _ refl all.0.0.kind
+    ∙ ap (λ (o : List ℕ). pdu_at form (version ∷ o)) (append_assoc (messages_octets (b ∷ bs)) part rest)
+    ∙ pdu_from form version b.kind (messages_octets (b ∷ bs) ++ (part ++ rest)) _ refl all.0.0.kind
     ∙ rw (past_of form (b ∷ bs) (part ++ rest) (length rest) all (inner_breaks form part rest h)) refl
 
 -- a PDU that octets spell is the one that reading gives

@@ -1,5 +1,5 @@
 -- What the grammar says is what reading gives: vectors.
-use Rattle.std.proofs.Common.{◌≡◌, ℕ, zero, suc, ◌+◌, ◌/◌, ◌<◌, ◌≤◌, true, false, ltb, List, [], ◌∷◌, ◌++◌, length, map, Option, Ok, Err, refl, sym, ap, ◌∙◌, append_assoc, length-append, arith}
+use Rattle.std.proofs.Common.{◌≡◌, ℕ, zero, suc, ◌/◌, ◌<◌, ◌≤◌, true, false, ltb, List, [], ◌∷◌, ◌++◌, length, map, Option, Ok, Err, refl, sym, ap, ◌∙◌, append_assoc, length-append, arith}
 use Rattle.std.proofs.lemmas.Bool.{false≢true, le-leb, le-ltb, lt-leb, lt-ltb, leb-false, ne_eqb}
 use Rattle.std.proofs.lemmas.List.{take_at, drop_at}
 use Rattle.mrpdu_codec.specs.declared.form.TypeForm.{TypeForm}
@@ -9,6 +9,7 @@ use Rattle.mrpdu_codec.specs.Grammar.{OctetBreaks, HeaderBreaks, VectorBreaks, L
 use Rattle.mrpdu_codec.specs.Grammar.ListBreaks.{vector as list_vector}
 use Rattle.mrpdu_codec.specs.Grammar.VectorBreaks.{header as header_breaks, first_value, packed as packed_breaks, four_packed}
 use Rattle.mrpdu_codec.specs.Reading.{◌>>=◌, run_at, header_at, first_at, vector_at, ends_list, vectors_at, vectors_of}
+use Rattle.mrpdu_codec.proofs.Longer.{vector_longer}
 
 module _ (limit : ℕ) where
   pub run_reads : (n : ℕ) (taken rest : List ℕ) → length taken ≡ n → AllUpTo limit taken → run_at limit n (taken ++ rest) ≡ Ok (taken, rest)
@@ -48,13 +49,13 @@ head_breaks row (high ∷ low ∷ rest) h = rw h refl
 pub vector_reads : (row : Option TypeForm) (len : ℕ) (v : Vector) (rest : List ℕ) → IsVector row len v → vector_at row len (vector_octets v ++ rest) ≡ Ok (v, rest)
 unfolding vector_at
 vector_reads row len v rest is =
-    let regrouped : (v.first ++ (v.packed ++ v.fours)) ++ rest ≡ v.first ++ (v.packed ++ (v.fours ++ rest)) = append_assoc v.first (v.packed ++ v.fours) rest ∙ ap (λ (o : List ℕ). v.first ++ o) (append_assoc v.packed v.fours rest) in
+    let regrouped : (v.first ++ (v.three_packed ++ v.four_packed)) ++ rest ≡ v.first ++ (v.three_packed ++ (v.four_packed ++ rest)) = append_assoc v.first (v.three_packed ++ v.four_packed) rest ∙ ap (λ (o : List ℕ). v.first ++ o) (append_assoc v.three_packed v.four_packed rest) in
     ap (λ (o : List ℕ). vector_at row len (v.high ∷ v.low ∷ o)) regrouped
     ∙ rw (
-      head_reads row v.high v.low (v.first ++ (v.packed ++ (v.fours ++ rest))) is.leave_all,
-      first_reads len v.first (v.packed ++ (v.fours ++ rest)) is.first,
-      run_reads (packed_limit row) (thirds (count v)) v.packed (v.fours ++ rest) is.packed is.events,
-      run_reads 255 (fours_for row (count v)) v.fours rest is.fours is.params,
+      head_reads row v.high v.low (v.first ++ (v.three_packed ++ (v.four_packed ++ rest))) is.leave_all,
+      first_reads len v.first (v.three_packed ++ (v.four_packed ++ rest)) is.first,
+      run_reads (packed_limit row) (thirds (count v)) v.three_packed (v.four_packed ++ rest) is.three_packed is.events,
+      run_reads 255 (fours_for row (count v)) v.four_packed rest is.four_packed is.params,
     ) refl
 
 pub vector_breaks : (row : Option TypeForm) (len : ℕ) (front rest : List ℕ) → VectorBreaks row len front rest → vector_at row len (front ++ rest) ≡ Err (length rest)
@@ -65,20 +66,20 @@ vector_breaks row len front rest (first_value v fits some front-is h) =
     ap (λ (o : List ℕ). vector_at row len (o ++ rest)) front-is ∙ rw (head_reads row v.high v.low rest fits, first_breaks len rest h) refl
 vector_breaks row len front rest (packed_breaks v fits some first all short front-is h) =
     ap (λ (o : List ℕ). vector_at row len (o ++ rest)) front-is
-    ∙ ap (λ (o : List ℕ). vector_at row len (v.high ∷ v.low ∷ o)) (append_assoc v.first v.packed rest)
+    ∙ ap (λ (o : List ℕ). vector_at row len (v.high ∷ v.low ∷ o)) (append_assoc v.first v.three_packed rest)
     ∙ rw (
-      head_reads row v.high v.low (v.first ++ (v.packed ++ rest)) fits,
-      first_reads len v.first (v.packed ++ rest) first,
-      run_breaks (packed_limit row) (thirds (count v)) v.packed rest short all h,
+      head_reads row v.high v.low (v.first ++ (v.three_packed ++ rest)) fits,
+      first_reads len v.first (v.three_packed ++ rest) first,
+      run_breaks (packed_limit row) (thirds (count v)) v.three_packed rest short all h,
     ) refl
 vector_breaks row len front rest (four_packed v fits some first all full all4 short front-is h) =
     ap (λ (o : List ℕ). vector_at row len (o ++ rest)) front-is
-    ∙ ap (λ (o : List ℕ). vector_at row len (v.high ∷ v.low ∷ o)) (append_assoc v.first (v.packed ++ v.fours) rest ∙ ap (λ (o : List ℕ). v.first ++ o) (append_assoc v.packed v.fours rest))
+    ∙ ap (λ (o : List ℕ). vector_at row len (v.high ∷ v.low ∷ o)) (append_assoc v.first (v.three_packed ++ v.four_packed) rest ∙ ap (λ (o : List ℕ). v.first ++ o) (append_assoc v.three_packed v.four_packed rest))
     ∙ rw (
-      head_reads row v.high v.low (v.first ++ (v.packed ++ (v.fours ++ rest))) fits,
-      first_reads len v.first (v.packed ++ (v.fours ++ rest)) first,
-      run_reads (packed_limit row) (thirds (count v)) v.packed (v.fours ++ rest) full all,
-      run_breaks 255 (fours_for row (count v)) v.fours rest short all4 h,
+      head_reads row v.high v.low (v.first ++ (v.three_packed ++ (v.four_packed ++ rest))) fits,
+      first_reads len v.first (v.three_packed ++ (v.four_packed ++ rest)) first,
+      run_reads (packed_limit row) (thirds (count v)) v.three_packed (v.four_packed ++ rest) full all,
+      run_breaks 255 (fours_for row (count v)) v.four_packed rest short all4 h,
     ) refl
 
 -- ---- vectors up to an end
@@ -98,18 +99,15 @@ header_on row (a ∷ c ∷ octets) b =
 pub breaks_on : (row : Option TypeForm) (len : ℕ) (front rest : List ℕ) → VectorBreaks row len front rest → ends_list (front ++ rest) ≡ false
 breaks_on row len front rest (header_breaks front-is h) = ap (λ (o : List ℕ). ends_list (o ++ rest)) front-is ∙ header_on row rest h
 breaks_on row len front rest (first_value v fits some front-is h) = ap (λ (o : List ℕ). ends_list (o ++ rest)) front-is ∙ going_on v.high v.low rest some
-breaks_on row len front rest (packed_breaks v fits some first all short front-is h) = ap (λ (o : List ℕ). ends_list (o ++ rest)) front-is ∙ going_on v.high v.low ((v.first ++ v.packed) ++ rest) some
-breaks_on row len front rest (four_packed v fits some first all full all4 short front-is h) = ap (λ (o : List ℕ). ends_list (o ++ rest)) front-is ∙ going_on v.high v.low ((v.first ++ (v.packed ++ v.fours)) ++ rest) some
-
-vector_takes : (v : Vector) (rest : List ℕ) → length rest + 2 ≤ length (vector_octets v ++ rest)
-vector_takes v rest = omega (arith, length-append (v.first ++ (v.packed ++ v.fours)) rest)
+breaks_on row len front rest (packed_breaks v fits some first all short front-is h) = ap (λ (o : List ℕ). ends_list (o ++ rest)) front-is ∙ going_on v.high v.low ((v.first ++ v.three_packed) ++ rest) some
+breaks_on row len front rest (four_packed v fits some first all full all4 short front-is h) = ap (λ (o : List ℕ). ends_list (o ++ rest)) front-is ∙ going_on v.high v.low ((v.first ++ (v.three_packed ++ v.four_packed)) ++ rest) some
 
 -- one vector, and what is read after it
 one_more : (fuel : ℕ) (row : Option TypeForm) (len : ℕ) (v : Vector) (rest : List ℕ) → IsVector row len v
     → vectors_at (suc fuel) row len (vector_octets v ++ rest) ≡ (vectors_at fuel row len rest >>= λ vs. Ok (attr_of v ∷ vs.0, vs.1))
 unfolding vectors_at
 one_more fuel row len v rest is =
-    rw (going_on v.high v.low ((v.first ++ (v.packed ++ v.fours)) ++ rest) is.no_mark, vector_reads row len v rest is) refl
+    rw (going_on v.high v.low ((v.first ++ (v.three_packed ++ v.four_packed)) ++ rest) is.no_mark, vector_reads row len v rest is) refl
 
 pub vectors_read : (fuel : ℕ) (row : Option TypeForm) (len : ℕ) (vs : List Vector) (rest : List ℕ) → AreVectors row len vs → ends_list rest ≡ true → length (vectors_octets vs ++ rest) ≤ fuel
     → vectors_at fuel row len (vectors_octets vs ++ rest) ≡ Ok (map attr_of vs, rest)
@@ -119,7 +117,7 @@ vectors_read (suc fuel) row len [] rest all ended enough = rw ended refl
 vectors_read zero row len (v ∷ vs) rest all ended enough = absurd (omega arith)
 vectors_read (suc fuel) row len (v ∷ vs) rest all ended enough =
     let regrouped = append_assoc (vector_octets v) (vectors_octets vs) rest in
-    let more = vector_takes v (vectors_octets vs ++ rest) in
+    let more = vector_longer _ v (vectors_octets vs ++ rest) refl in
     ap (λ (o : List ℕ). vectors_at (suc fuel) row len o) regrouped
     ∙ one_more fuel row len v (vectors_octets vs ++ rest) all.0
     ∙ rw (vectors_read fuel row len vs rest all.1 ended (omega (arith, ap length regrouped))) refl
@@ -137,7 +135,7 @@ list_breaks_at (suc fuel) row len [] part rest all h enough = rw (breaks_on row 
 list_breaks_at zero row len (v ∷ vs) part rest all h enough = absurd (omega arith)
 list_breaks_at (suc fuel) row len (v ∷ vs) part rest all h enough =
     let regrouped = append_assoc (vector_octets v) (vectors_octets vs) (part ++ rest) in
-    let more = vector_takes v (vectors_octets vs ++ (part ++ rest)) in
+    let more = vector_longer _ v (vectors_octets vs ++ (part ++ rest)) refl in
     ap (λ (o : List ℕ). vectors_at (suc fuel) row len o) regrouped
     ∙ one_more fuel row len v (vectors_octets vs ++ (part ++ rest)) all.0
     ∙ rw (list_breaks_at fuel row len vs part rest all.1 h (omega (arith, ap length regrouped))) refl

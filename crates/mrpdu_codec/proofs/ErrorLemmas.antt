@@ -1,5 +1,5 @@
 -- What a reader's error says, and what `decode` makes of it.
-use Rattle.std.proofs.Common.{◌≡◌, ℕ, ◌-◌, ◌≤◌, List, length, take, drop, Option, Result, Ok, Err, ◌⊎◌, inl, inr, refl, ap, subst, ◌∙◌, arith}
+use Rattle.std.proofs.Common.{◌≡◌, ℕ, ◌-◌, ◌≤◌, List, length, take, drop, Option, Result, Ok, Err, refl, ap, subst, ◌∙◌, arith}
 use Rattle.std.proofs.lemmas.Result.{MatchResult-at_ok, MatchResult-at_err}
 use Rattle.mrpdu_codec.specs.declared.error.DecodeErr.{DecodeErr}
 use Rattle.mrpdu_codec.specs.declared.error.DecodeErr.TheVariants as decode_errors
@@ -8,9 +8,11 @@ use Rattle.mrpdu_codec.specs.declared.error.ReadErr.TheVariants as errors
 use Rattle.mrpdu_codec.specs.declared.form.AppForm.{AppForm}
 use Rattle.mrpdu_codec.specs.declared.form.TypeForm.{TypeForm}
 use Rattle.mrpdu_codec.specs.declared.pdu.Pdu.{Pdu}
-use Rattle.mrpdu_codec.specs.Errors.{IsWithin, behind, placed, Answers}
+use Rattle.mrpdu_codec.specs.Workers.{IsWithin, behind, placed}
+use Rattle.mrpdu_codec.specs.Reading.{Answers}
 use Rattle.mrpdu_codec.specs.Grammar.{Spells, Breaks}
-use Rattle.mrpdu_codec.specs.Reading.{Fails, region_at, known_at, pdu_at, placed_in, reading}
+use Rattle.mrpdu_codec.specs.Workers.{Fails}
+use Rattle.mrpdu_codec.specs.Reading.{region_at, known_at, pdu_at, placed_in, reading}
 use Rattle.mrpdu_codec.proofs.ReadRegions.{region_left}
 use Rattle.mrpdu_codec.proofs.ReadMessages.{reading_holds}
 use Rattle.mrpdu_codec.proofs.AgainMessages.{spells_reads, breaks_reads}
@@ -23,9 +25,6 @@ pub known_fails : (e : ReadErr) (row : Option TypeForm) (len size : ℕ) (octets
 unfolding known_at
 known_fails errors.NoMemory row len size octets h = tt
 known_fails (errors.Left left) row len size octets h = rw h refl
-
-err_is : (m n : ℕ) (read : Result Pdu ℕ) → read ≡ Err m → read ≡ Err n → m ≡ n
-err_is m n read h k = cc
 
 -- ---- decode
 
@@ -42,25 +41,6 @@ pdu_broken (errors.Left left) form octets place h k =
     let b = MatchResult-at_err _ (λ n. (n ≤ length octets) × Breaks form octets (length octets - n)) left h (reading_holds form octets) in
     let e : length octets - left ≡ place = cc in
     subst (λ (n : ℕ). Breaks form octets n) e b.1
-
-pub read_ok : (form : AppForm) (octets : List ℕ) (p q : Pdu) → pdu_at form octets ≡ Ok p → Spells form octets q → p ≡ q
-read_ok form octets p q h s = let k = spells_reads form octets q s in cc
-
-pub never_fails : (e : ReadErr) (form : AppForm) (octets : List ℕ) (q : Pdu) → Fails e (pdu_at form octets) → Spells form octets q → placed e (length octets) ≡ decode_errors.NoMemory
-never_fails errors.NoMemory form octets q h s = refl
-never_fails (errors.Left left) form octets q h s = let k = spells_reads form octets q s in absurd cc
-
-pub never_reads : (form : AppForm) (octets : List ℕ) (p : Pdu) (place : ℕ) → pdu_at form octets ≡ Ok p → Breaks form octets place → ⊥
-never_reads form octets p place h b = let k = (breaks_reads form octets place b).1 in absurd cc
-
-pub fails_there : (e : ReadErr) (form : AppForm) (octets : List ℕ) (place : ℕ) → Fails e (pdu_at form octets) → Breaks form octets place
-    → (placed e (length octets) ≡ decode_errors.Malformed place) ⊎ (placed e (length octets) ≡ decode_errors.NoMemory)
-fails_there errors.NoMemory form octets place h b = inr refl
-fails_there (errors.Left left) form octets place h b =
-    let k = breaks_reads form octets place b in
-    let same : left ≡ k.0 = err_is left k.0 (pdu_at form octets) h k.1 in
-    let e : length octets - left ≡ place = omega (arith, k.2) in
-    inl (ap (λ (n : ℕ). decode_errors.Malformed n) e)
 
 -- ---- the reading as a function
 

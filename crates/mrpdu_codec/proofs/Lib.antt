@@ -6,9 +6,11 @@ pub mod AgainVectors
 pub mod AgainMessages
 pub mod Loops
 pub mod WhileVectors
-pub mod WhileBlocks
+pub mod WhileMessages
 pub mod ErrorLemmas
 pub mod Packed
 pub mod RoundTrip
 pub mod Sizes
 pub mod Reread
+pub mod Formed
+pub mod Longer

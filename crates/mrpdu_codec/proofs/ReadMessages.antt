@@ -8,11 +8,12 @@ use Rattle.mrpdu_codec.specs.declared.pdu.VectorAttr.{VectorAttr}
 use Rattle.mrpdu_codec.specs.declared.pdu.Message.{Message}
 use Rattle.mrpdu_codec.specs.declared.pdu.Pdu.{Pdu}
 use Rattle.mrpdu_codec.specs.Types.{row_of}
-use Rattle.mrpdu_codec.specs.Tree.{Block, IsBlock, block_octets, blocks_octets, length_fits, region_octets, messages_from, messages_of, AreBlocks, after_octets}
-use Rattle.mrpdu_codec.specs.Grammar.{LengthBreaks, LaterTypeBreaks, BlockBreaks, AreClosed, PduBreaks, Spells, Breaks}
-use Rattle.mrpdu_codec.specs.Grammar.BlockBreaks.{len as length_breaks, body as body_breaks}
-use Rattle.mrpdu_codec.specs.Grammar.PduBreaks.{version as version_breaks, first_type, later_type, block as block_breaks}
-use Rattle.mrpdu_codec.specs.Reading.{body_at, length_at, block_at, end_at, blocks_at, blocks_of, version_at, first_type_at, pdu_at}
+use Rattle.mrpdu_codec.specs.Tree.{MessageTree, IsMessage, message_octets, messages_octets, length_fits, list_octets, messages_from, messages_meant, AreMessages, after_octets}
+use Rattle.mrpdu_codec.specs.Grammar.{LengthBreaks, LaterTypeBreaks, MessageBreaks, AreClosed, PduBreaks, Spells, Breaks}
+use Rattle.mrpdu_codec.specs.Grammar.MessageBreaks.{len as length_breaks, body as body_breaks}
+use Rattle.mrpdu_codec.specs.Grammar.PduBreaks.{version as version_breaks, first_type, later_type, message as message_breaks}
+use Rattle.mrpdu_codec.specs.Reading.{body_at, length_at, message_at, end_at, messages_at, messages_of, version_at, first_type_at, pdu_at}
+use Rattle.mrpdu_codec.proofs.Longer.{message_longer}
 use Rattle.mrpdu_codec.proofs.Steps.{then_match, test_match, weaker_match, Broken}
 use Rattle.mrpdu_codec.proofs.ReadRegions.{body_match}
 
@@ -23,27 +24,27 @@ unfolding length_at
 length_match row [] = (refl, tt)
 length_match row (len ∷ rest) = test_match (length_fits row len) _ _ _ _ (λ good. (refl, good)) (λ bad. (refl, bad))
 
-pub record TookBlock (form : AppForm) (octets : List ℕ) (messages : List Message) (rest : List ℕ) : Type 0 where
-  pub block : Block
-  pub rules : IsBlock form block
-  pub whole : octets ≡ block_octets block ++ rest
-  pub meaning : messages ≡ messages_of form block
-  pub last : block.mark ≡ [] → rest ≡ []
+pub record TookMessage (form : AppForm) (octets : List ℕ) (messages : List Message) (rest : List ℕ) : Type 0 where
+  pub tree : MessageTree
+  pub rules : IsMessage form tree
+  pub whole : octets ≡ message_octets tree ++ rest
+  pub meaning : messages ≡ messages_meant form tree
+  pub last : tree.end_mark ≡ [] → rest ≡ []
 
 regroup : (kind len : ℕ) (list_length region mark rest : List ℕ) → kind ∷ len ∷ (list_length ++ (region ++ (mark ++ rest))) ≡ (kind ∷ len ∷ (list_length ++ (region ++ mark))) ++ rest
 regroup kind len list_length region mark rest =
     ap (λ (o : List ℕ). kind ∷ len ∷ o) (ap (λ (o : List ℕ). list_length ++ o) (sym (append_assoc region mark rest)) ∙ sym (append_assoc list_length (region ++ mark) rest))
 
-pub block_match : (form : AppForm) (kind : ℕ) (octets : List ℕ) → 0 < kind
-    → MatchResult (block_at form kind octets) (λ x. TookBlock form (kind ∷ octets) x.0 x.1) (λ left. Broken (BlockBreaks form) (kind ∷ octets) left)
-unfolding block_at
-block_match form kind octets some =
+pub message_match : (form : AppForm) (kind : ℕ) (octets : List ℕ) → 0 < kind
+    → MatchResult (message_at form kind octets) (λ x. TookMessage form (kind ∷ octets) x.0 x.1) (λ left. Broken (MessageBreaks form) (kind ∷ octets) left)
+unfolding message_at
+message_match form kind octets some =
     then_match (length_at (row_of form kind) octets) _ _ _ _ _ (length_match (row_of form kind) octets)
     (λ len h. then_match (body_at form (row_of form kind) len.0 len.1) _ _ _ _ _ (body_match form (row_of form kind) len.0 len.1)
     (λ x t. record {
-      block = record { kind = kind; len = len.0; list_length = t.list_length; region = t.region; mark = t.mark };
+      tree = record { kind = kind; len = len.0; list_length = t.list_length; list = t.list; end_mark = t.end_mark };
       rules = record { kind = some; len = h.1; body = t.rules };
-      whole = ap (λ (o : List ℕ). kind ∷ o) (h.0 ∙ ap (λ (o : List ℕ). len.0 ∷ o) t.whole) ∙ regroup kind len.0 t.list_length (region_octets t.region) t.mark x.1;
+      whole = ap (λ (o : List ℕ). kind ∷ o) (h.0 ∙ ap (λ (o : List ℕ). len.0 ∷ o) t.whole) ∙ regroup kind len.0 t.list_length (list_octets t.list) t.end_mark x.1;
       meaning = ap (λ (attrs : List VectorAttr). messages_from (row_of form kind) kind attrs) t.meaning;
       last = t.last;
     })
@@ -56,30 +57,25 @@ block_match form kind octets some =
     }))
     (λ left h. record { front = kind ∷ []; rest = octets; whole = refl; left_is = h.0; breaks = length_breaks kind some refl h.1 })
 
-pub block_longer : (octets : List ℕ) (b : Block) (rest : List ℕ) → octets ≡ block_octets b ++ rest → length rest + 2 ≤ length octets
-block_longer octets b rest e =
-    let h : length octets ≡ suc (suc (length ((b.list_length ++ (region_octets b.region ++ b.mark)) ++ rest))) = ap length e in
-    omega (arith, length-append (b.list_length ++ (region_octets b.region ++ b.mark)) rest)
-
 -- ---- Messages up to an end
 
-record TookBlocks (form : AppForm) (octets : List ℕ) (messages : List Message) : Type 0 where
-  blocks : List Block
+record TookMessages (form : AppForm) (octets : List ℕ) (messages : List Message) : Type 0 where
+  trees : List MessageTree
   after : Option (List ℕ)
-  rules : AreBlocks form blocks after
-  whole : octets ≡ blocks_octets blocks ++ after_octets after
-  meaning : messages ≡ flat_map (messages_of form) blocks
+  rules : AreMessages form trees after
+  whole : octets ≡ messages_octets trees ++ after_octets after
+  meaning : messages ≡ flat_map (messages_meant form) trees
 
 data LaterBreaks (form : AppForm) (front rest : List ℕ) : Type 0 where
-  at_type : (bs : List Block) → AreClosed form bs → front ≡ blocks_octets bs → LaterTypeBreaks rest → LaterBreaks form front rest
-  in_block : (bs : List Block) (part : List ℕ) → AreClosed form bs → front ≡ blocks_octets bs ++ part → BlockBreaks form part rest → LaterBreaks form front rest
+  at_type : (bs : List MessageTree) → AreClosed form bs → front ≡ messages_octets bs → LaterTypeBreaks rest → LaterBreaks form front rest
+  in_message : (bs : List MessageTree) (part : List ℕ) → AreClosed form bs → front ≡ messages_octets bs ++ part → MessageBreaks form part rest → LaterBreaks form front rest
 
-end_match : (form : AppForm) (octets : List ℕ) → MatchResult (end_at octets) (λ messages. TookBlocks form (0 ∷ octets) messages) (λ left. Broken (LaterBreaks form) (0 ∷ octets) left)
+end_match : (form : AppForm) (octets : List ℕ) → MatchResult (end_at octets) (λ messages. TookMessages form (0 ∷ octets) messages) (λ left. Broken (LaterBreaks form) (0 ∷ octets) left)
 unfolding end_at
 end_match form [] = record { front = []; rest = 0 ∷ []; whole = refl; left_is = refl; breaks = at_type [] tt refl refl }
 end_match form (next ∷ rest) =
     test_match (eqb next 0) _ _ _ _
-    (λ good. record { blocks = []; after = Some rest; rules = tt; whole = rw (eqb-true next 0 good) refl; meaning = refl })
+    (λ good. record { trees = []; after = Some rest; rules = tt; whole = rw (eqb-true next 0 good) refl; meaning = refl })
     (λ bad. let n : next ≡ 0 → ⊥ = eqb-false next 0 bad in
     record { front = []; rest = 0 ∷ next ∷ rest; whole = refl; left_is = refl; breaks = at_type [] tt refl (refl, omega arith) })
 
@@ -99,74 +95,74 @@ closed_by form [] rest last left b = absurd (go b.breaks) where
 
   go : LaterBreaks form b.front b.rest → ⊥
   go (at_type bs rules front-is h) = no_type b.rest (omega (arith, sizes)) h
-  go (in_block bs part rules front-is (length_breaks kind some part-is h)) =
-      let e = ap length (front-is ∙ ap (λ (o : List ℕ). blocks_octets bs ++ o) part-is) in
-      omega (arith, sizes, e, length-append (blocks_octets bs) (kind ∷ []))
-  go (in_block bs part rules front-is (body_breaks kind len some fits inner part-is h)) =
-      let e = ap length (front-is ∙ ap (λ (o : List ℕ). blocks_octets bs ++ o) part-is) in
-      omega (arith, sizes, e, length-append (blocks_octets bs) (kind ∷ len ∷ inner))
+  go (in_message bs part rules front-is (length_breaks kind some part-is h)) =
+      let e = ap length (front-is ∙ ap (λ (o : List ℕ). messages_octets bs ++ o) part-is) in
+      omega (arith, sizes, e, length-append (messages_octets bs) (kind ∷ []))
+  go (in_message bs part rules front-is (body_breaks kind len some fits inner part-is h)) =
+      let e = ap length (front-is ∙ ap (λ (o : List ℕ). messages_octets bs ++ o) part-is) in
+      omega (arith, sizes, e, length-append (messages_octets bs) (kind ∷ len ∷ inner))
 
 -- where nothing is left, there are no more Messages and no EndMark
-nothing_after : (bs : List Block) (after : Option (List ℕ)) (octets : List ℕ) → octets ≡ [] → octets ≡ blocks_octets bs ++ after_octets after → (bs ≡ []) × (after ≡ None)
+nothing_after : (bs : List MessageTree) (after : Option (List ℕ)) (octets : List ℕ) → octets ≡ [] → octets ≡ messages_octets bs ++ after_octets after → (bs ≡ []) × (after ≡ None)
 nothing_after [] None octets e w = (refl, refl)
 nothing_after [] (Some rest) octets e w = absurd cc
 nothing_after (b ∷ bs) after octets e w = absurd cc
 
-then_block : (form : AppForm) (octets : List ℕ) (messages : List Message) (after : List ℕ) → TookBlock form octets messages after
+then_message : (form : AppForm) (octets : List ℕ) (messages : List Message) (after : List ℕ) → TookMessage form octets messages after
     → (left : ℕ) → Broken (LaterBreaks form) after left → Broken (LaterBreaks form) octets left
-then_block form octets messages after t left b = go b.breaks where
-  closed : 0 < length t.block.mark
-  closed = closed_by form t.block.mark after t.last left b
+then_message form octets messages after t left b = go b.breaks where
+  closed : 0 < length t.tree.end_mark
+  closed = closed_by form t.tree.end_mark after t.last left b
 
-  text : octets ≡ (block_octets t.block ++ b.front) ++ b.rest
-  text = t.whole ∙ ap (λ (o : List ℕ). block_octets t.block ++ o) b.whole ∙ sym (append_assoc (block_octets t.block) b.front b.rest)
+  text : octets ≡ (message_octets t.tree ++ b.front) ++ b.rest
+  text = t.whole ∙ ap (λ (o : List ℕ). message_octets t.tree ++ o) b.whole ∙ sym (append_assoc (message_octets t.tree) b.front b.rest)
 
   go : LaterBreaks form b.front b.rest → Broken (LaterBreaks form) octets left
   go (at_type bs rules front-is h) = record {
-    front = block_octets t.block ++ b.front;
+    front = message_octets t.tree ++ b.front;
     rest = b.rest;
     whole = text;
     left_is = b.left_is;
-    breaks = at_type (t.block ∷ bs) ((t.rules, closed), rules) (ap (λ (o : List ℕ). block_octets t.block ++ o) front-is) h;
+    breaks = at_type (t.tree ∷ bs) ((t.rules, closed), rules) (ap (λ (o : List ℕ). message_octets t.tree ++ o) front-is) h;
   }
-  go (in_block bs part rules front-is h) = record {
-    front = block_octets t.block ++ b.front;
+  go (in_message bs part rules front-is h) = record {
+    front = message_octets t.tree ++ b.front;
     rest = b.rest;
     whole = text;
     left_is = b.left_is;
-    breaks = in_block (t.block ∷ bs) part ((t.rules, closed), rules) (ap (λ (o : List ℕ). block_octets t.block ++ o) front-is ∙ sym (append_assoc (block_octets t.block) (blocks_octets bs) part)) h;
+    breaks = in_message (t.tree ∷ bs) part ((t.rules, closed), rules) (ap (λ (o : List ℕ). message_octets t.tree ++ o) front-is ∙ sym (append_assoc (message_octets t.tree) (messages_octets bs) part)) h;
   }
 
-blocks_match : (fuel : ℕ) (form : AppForm) (octets : List ℕ) → length octets ≤ fuel
-    → MatchResult (blocks_at fuel form octets) (λ messages. TookBlocks form octets messages) (λ left. Broken (LaterBreaks form) octets left)
-unfolding blocks_at
-blocks_match zero form [] enough = record { blocks = []; after = None; rules = tt; whole = refl; meaning = refl }
-blocks_match zero form (o ∷ octets) enough = absurd (omega arith)
-blocks_match (suc fuel) form [] enough = record { blocks = []; after = None; rules = tt; whole = refl; meaning = refl }
-blocks_match (suc fuel) form (kind ∷ rest) enough =
+messages_match : (fuel : ℕ) (form : AppForm) (octets : List ℕ) → length octets ≤ fuel
+    → MatchResult (messages_at fuel form octets) (λ messages. TookMessages form octets messages) (λ left. Broken (LaterBreaks form) octets left)
+unfolding messages_at
+messages_match zero form [] enough = record { trees = []; after = None; rules = tt; whole = refl; meaning = refl }
+messages_match zero form (o ∷ octets) enough = absurd (omega arith)
+messages_match (suc fuel) form [] enough = record { trees = []; after = None; rules = tt; whole = refl; meaning = refl }
+messages_match (suc fuel) form (kind ∷ rest) enough =
     test_match (eqb kind 0) _ _ _ _
-    (λ good. subst (λ (k : ℕ). MatchResult (end_at rest) (λ messages. TookBlocks form (k ∷ rest) messages) (λ left. Broken (LaterBreaks form) (k ∷ rest) left)) (sym (eqb-true kind 0 good)) (end_match form rest))
+    (λ good. subst (λ (k : ℕ). MatchResult (end_at rest) (λ messages. TookMessages form (k ∷ rest) messages) (λ left. Broken (LaterBreaks form) (k ∷ rest) left)) (sym (eqb-true kind 0 good)) (end_match form rest))
     (λ bad. let n : kind ≡ 0 → ⊥ = eqb-false kind 0 bad in
     let some : 0 < kind = omega arith in
-    then_match (block_at form kind rest) _ _ _ _ _ (block_match form kind rest some)
-    (λ x t. let below = block_longer (kind ∷ rest) t.block x.1 t.whole in
-    then_match (blocks_at fuel form x.1) _ _ _ _ _ (blocks_match fuel form x.1 (omega arith))
+    then_match (message_at form kind rest) _ _ _ _ _ (message_match form kind rest some)
+    (λ x t. let below = message_longer (kind ∷ rest) t.tree x.1 t.whole in
+    then_match (messages_at fuel form x.1) _ _ _ _ _ (messages_match fuel form x.1 (omega arith))
     (λ messages u. record {
-      blocks = t.block ∷ u.blocks;
+      trees = t.tree ∷ u.trees;
       after = u.after;
-      rules = (t.rules, λ e. nothing_after u.blocks u.after x.1 (t.last e) u.whole, u.rules);
-      whole = t.whole ∙ ap (λ (o : List ℕ). block_octets t.block ++ o) u.whole ∙ sym (append_assoc (block_octets t.block) (blocks_octets u.blocks) (after_octets u.after));
-      meaning = ap (λ (ms : List Message). ms ++ messages) t.meaning ∙ ap (λ (ms : List Message). messages_of form t.block ++ ms) u.meaning;
+      rules = (t.rules, λ e. nothing_after u.trees u.after x.1 (t.last e) u.whole, u.rules);
+      whole = t.whole ∙ ap (λ (o : List ℕ). message_octets t.tree ++ o) u.whole ∙ sym (append_assoc (message_octets t.tree) (messages_octets u.trees) (after_octets u.after));
+      meaning = ap (λ (ms : List Message). ms ++ messages) t.meaning ∙ ap (λ (ms : List Message). messages_meant form t.tree ++ ms) u.meaning;
     })
-    (λ left b. then_block form (kind ∷ rest) x.0 x.1 t left b))
-    (λ left b. record { front = b.front; rest = b.rest; whole = b.whole; left_is = b.left_is; breaks = in_block [] b.front tt refl b.breaks }))
+    (λ left b. then_message form (kind ∷ rest) x.0 x.1 t left b))
+    (λ left b. record { front = b.front; rest = b.rest; whole = b.whole; left_is = b.left_is; breaks = in_message [] b.front tt refl b.breaks }))
 
 -- ---- a PDU
 
-some_blocks : (bs : List Block) (after : Option (List ℕ)) (kind : ℕ) (rest : List ℕ) → 0 < kind → kind ∷ rest ≡ blocks_octets bs ++ after_octets after → 0 < length bs
-some_blocks (b ∷ bs) after kind rest some e = omega arith
-some_blocks [] None kind rest some e = absurd cc
-some_blocks [] (Some more) kind rest some e =
+some_messages : (bs : List MessageTree) (after : Option (List ℕ)) (kind : ℕ) (rest : List ℕ) → 0 < kind → kind ∷ rest ≡ messages_octets bs ++ after_octets after → 0 < length bs
+some_messages (b ∷ bs) after kind rest some e = omega arith
+some_messages [] None kind rest some e = absurd cc
+some_messages [] (Some more) kind rest some e =
     let k : kind ≡ 0 = cc in omega arith
 
 no_later : (kind : ℕ) (rest : List ℕ) → 0 < kind → LaterTypeBreaks (kind ∷ rest) → ⊥
@@ -189,17 +185,17 @@ pdu_breaks form version kind rest some left b = go b.breaks where
     left_is = b.left_is;
     breaks = later_type version (c ∷ bs) (omega arith) rules (ap (λ (o : List ℕ). version ∷ o) front-is) h;
   }
-  go (in_block bs part rules front-is h) = record {
+  go (in_message bs part rules front-is h) = record {
     front = version ∷ b.front;
     rest = b.rest;
     whole = text;
     left_is = b.left_is;
-    breaks = block_breaks version bs part rules (ap (λ (o : List ℕ). version ∷ o) front-is) h;
+    breaks = message_breaks version bs part rules (ap (λ (o : List ℕ). version ∷ o) front-is) h;
   }
 
-blocks_of_match : (form : AppForm) (octets : List ℕ) → MatchResult (blocks_of form octets) (λ messages. TookBlocks form octets messages) (λ left. Broken (LaterBreaks form) octets left)
-unfolding blocks_of
-blocks_of_match form octets = blocks_match (length octets) form octets (omega arith)
+messages_of_match : (form : AppForm) (octets : List ℕ) → MatchResult (messages_of form octets) (λ messages. TookMessages form octets messages) (λ left. Broken (LaterBreaks form) octets left)
+unfolding messages_of
+messages_of_match form octets = messages_match (length octets) form octets (omega arith)
 
 pdu_match : (form : AppForm) (octets : List ℕ) → MatchResult (pdu_at form octets) (λ pdu. Spells form octets pdu) (λ left. Broken (PduBreaks form) octets left)
 unfolding pdu_at version_at first_type_at
@@ -208,10 +204,10 @@ pdu_match form (version ∷ []) = record { front = version ∷ []; rest = []; wh
 pdu_match form (version ∷ kind ∷ rest) =
     then_match (cond (eqb kind 0) (Err (suc (length rest))) (Ok tt)) _ (λ (u : Unit {0}). 0 < kind) (λ left. (left ≡ suc (length rest)) × (kind ≡ 0)) _ _
     (test_match (eqb kind 0) _ _ _ _ (λ good. (refl, eqb-true kind 0 good)) (λ bad. let n : kind ≡ 0 → ⊥ = eqb-false kind 0 bad in omega arith))
-    (λ u some. then_match (blocks_of form (kind ∷ rest)) _ _ _ _ _ (blocks_of_match form (kind ∷ rest))
+    (λ u some. then_match (messages_of form (kind ∷ rest)) _ _ _ _ _ (messages_of_match form (kind ∷ rest))
     (λ messages t. record {
-      tree = record { version = version; blocks = t.blocks; after = t.after };
-      rules = record { some = some_blocks t.blocks t.after kind rest some t.whole; blocks = t.rules };
+      tree = record { version = version; messages = t.trees; after = t.after };
+      rules = record { some = some_messages t.trees t.after kind rest some t.whole; messages = t.rules };
       spelling = ap (λ (o : List ℕ). version ∷ o) t.whole;
       meaning = ap (λ (ms : List Message). let pdu : Pdu = record { version = version; messages = ms } in pdu) t.meaning;
     })

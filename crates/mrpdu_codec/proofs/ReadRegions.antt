@@ -8,8 +8,8 @@ use Rattle.mrpdu_codec.specs.declared.form.AppForm.TheVariants.{Mvrp, Msrp, Mmrp
 use Rattle.mrpdu_codec.specs.declared.form.TypeForm.{TypeForm}
 use Rattle.mrpdu_codec.specs.declared.pdu.VectorAttr.{VectorAttr}
 use Rattle.mrpdu_codec.specs.Octets.{number}
-use Rattle.mrpdu_codec.specs.Tree.{Vector, vectors_octets, AreVectors, attr_of, Region, IsEndMark, IsBody, region_octets, region_attrs}
-use Rattle.mrpdu_codec.specs.Tree.Region.{Vectors, Skipped}
+use Rattle.mrpdu_codec.specs.Tree.{Vector, vectors_octets, AreVectors, attr_of, AttributeList, IsEndMark, IsBody, list_octets, list_attrs}
+use Rattle.mrpdu_codec.specs.Tree.AttributeList.{Vectors, Skipped}
 use Rattle.mrpdu_codec.specs.Grammar.{EndMarkBreaks, ListLengthBreaks, ListBreaks, RegionBreaks, IsRegion, CountedBreaks, BodyBreaks}
 use Rattle.mrpdu_codec.specs.Grammar.RegionBreaks.{vector as region_vector, end_mark as region_mark, short as region_short}
 use Rattle.mrpdu_codec.specs.Grammar.CountedBreaks.{list_length as counted_length, region as counted_region, end_mark as counted_mark, skipped as counted_skipped}
@@ -29,19 +29,19 @@ pub both_zero : (a b : ℕ) → number a b ≡ 0 → (a ≡ 0) × (b ≡ 0)
 both_zero a b e = (omega arith, omega arith)
 
 pub record TookMark (octets rest : List ℕ) : Type 0 where
-  pub mark : List ℕ
-  pub is_mark : IsEndMark mark
-  pub whole : octets ≡ mark ++ rest
-  pub last : mark ≡ [] → rest ≡ []
+  pub end_mark : List ℕ
+  pub is_mark : IsEndMark end_mark
+  pub whole : octets ≡ end_mark ++ rest
+  pub last : end_mark ≡ [] → rest ≡ []
 
 pub mark_match : (octets : List ℕ) → MatchResult (mark_at octets) (λ rest. TookMark octets rest) (λ left. (left ≡ length octets) × EndMarkBreaks octets)
 unfolding mark_at
-mark_match [] = record { mark = []; is_mark = inl refl; whole = refl; last = λ e. refl }
+mark_match [] = record { end_mark = []; is_mark = inl refl; whole = refl; last = λ e. refl }
 mark_match (a ∷ []) = (refl, tt)
 mark_match (a ∷ b ∷ rest) =
     test_match (eqb (number a b) 0) _ _ _ _
     (λ good. let z = both_zero a b (eqb-true (number a b) 0 good) in
-    record { mark = 0 ∷ 0 ∷ []; is_mark = inr refl; whole = rw (z.0, z.1) refl; last = λ e. cc })
+    record { end_mark = 0 ∷ 0 ∷ []; is_mark = inr refl; whole = rw (z.0, z.1) refl; last = λ e. cc })
     (λ bad. let n : number a b ≡ 0 → ⊥ = eqb-false (number a b) 0 bad in (refl, omega arith))
 
 ended_marks : (octets : List ℕ) → ends_list octets ≡ true → EndMarkBreaks octets → ⊥
@@ -60,22 +60,22 @@ ended_more (a ∷ b ∷ rest) ended some = let z = both_zero a b (eqb-true (numb
 
 pub record TookBody (form : AppForm) (row : Option TypeForm) (len : ℕ) (octets : List ℕ) (attrs : List VectorAttr) (rest : List ℕ) : Type 0 where
   pub list_length : List ℕ
-  pub region : Region
-  pub mark : List ℕ
-  pub rules : IsBody form row len list_length region mark
-  pub whole : octets ≡ list_length ++ (region_octets region ++ (mark ++ rest))
-  pub meaning : attrs ≡ region_attrs region
-  pub last : mark ≡ [] → rest ≡ []
+  pub list : AttributeList
+  pub end_mark : List ℕ
+  pub rules : IsBody form row len list_length list end_mark
+  pub whole : octets ≡ list_length ++ (list_octets list ++ (end_mark ++ rest))
+  pub meaning : attrs ≡ list_attrs list
+  pub last : end_mark ≡ [] → rest ≡ []
 
 -- vectors and the EndMark behind them
 record TookList (row : Option TypeForm) (len : ℕ) (octets : List ℕ) (attrs : List VectorAttr) (rest : List ℕ) : Type 0 where
   vs : List Vector
   rules : AreVectors row len vs
-  mark : List ℕ
-  is_mark : IsEndMark mark
-  whole : octets ≡ vectors_octets vs ++ (mark ++ rest)
+  end_mark : List ℕ
+  is_mark : IsEndMark end_mark
+  whole : octets ≡ vectors_octets vs ++ (end_mark ++ rest)
   meaning : attrs ≡ map attr_of vs
-  last : mark ≡ [] → rest ≡ []
+  last : end_mark ≡ [] → rest ≡ []
 
 list_match : (row : Option TypeForm) (len : ℕ) (octets : List ℕ)
     → MatchResult (list_at row len octets) (λ x. TookList row len octets x.0 x.1) (λ left. Broken (ListBreaks row len) octets left)
@@ -83,7 +83,7 @@ unfolding list_at
 list_match row len octets =
     then_match (vectors_of row len octets) _ _ _ _ _ (of_match row len octets)
     (λ x t. then_match (mark_at x.1) _ _ _ _ _ (mark_match x.1)
-    (λ rest m. record { vs = t.vs; rules = t.rules; mark = m.mark; is_mark = m.is_mark; whole = t.whole ∙ ap (λ (o : List ℕ). vectors_octets t.vs ++ o) m.whole; meaning = t.meaning; last = m.last })
+    (λ rest m. record { vs = t.vs; rules = t.rules; end_mark = m.end_mark; is_mark = m.is_mark; whole = t.whole ∙ ap (λ (o : List ℕ). vectors_octets t.vs ++ o) m.whole; meaning = t.meaning; last = m.last })
     (λ left h. absurd (ended_marks x.1 t.ended h.1)))
     (λ left b. b)
 
@@ -139,11 +139,11 @@ record TookKnown (t : TypeForm) (len size : ℕ) (octets : List ℕ) (attrs : Li
   vs : List Vector
   rules : AreVectors (Some t) len vs
   full : length (vectors_octets vs) ≡ size
-  mark : List ℕ
-  is_mark : IsEndMark mark
-  whole : octets ≡ vectors_octets vs ++ (mark ++ rest)
+  end_mark : List ℕ
+  is_mark : IsEndMark end_mark
+  whole : octets ≡ vectors_octets vs ++ (end_mark ++ rest)
   meaning : attrs ≡ map attr_of vs
-  last : mark ≡ [] → rest ≡ []
+  last : end_mark ≡ [] → rest ≡ []
 
 data KnownBreaks (t : TypeForm) (len size : ℕ) (front rest : List ℕ) : Type 0 where
   in_region : (within beyond : List ℕ) → IsRegion size (front ++ within) beyond → rest ≡ within ++ beyond → RegionBreaks (Some t) len size front within → KnownBreaks t len size front rest
@@ -171,7 +171,7 @@ known_match t len size octets =
       vs = r.vs;
       rules = r.rules;
       full = sym (ap length r.whole) ∙ r.full;
-      mark = m.mark;
+      end_mark = m.end_mark;
       is_mark = m.is_mark;
       whole = split ∙ ap (λ (o : List ℕ). o ++ beyond) r.whole ∙ ap (λ (o : List ℕ). vectors_octets r.vs ++ o) m.whole;
       meaning = r.meaning;
@@ -191,10 +191,10 @@ known_match t len size octets =
 record TookSkipped (size : ℕ) (octets rest : List ℕ) : Type 0 where
   skipped : List ℕ
   full : length skipped ≡ size
-  mark : List ℕ
-  is_mark : (mark ≡ []) ⊎ (length mark ≡ 2)
-  whole : octets ≡ skipped ++ (mark ++ rest)
-  last : mark ≡ [] → rest ≡ []
+  end_mark : List ℕ
+  is_mark : (end_mark ≡ []) ⊎ (length end_mark ≡ 2)
+  whole : octets ≡ skipped ++ (end_mark ++ rest)
+  last : end_mark ≡ [] → rest ≡ []
 
 two_of : (octets : List ℕ) → 2 ≤ length octets → take 2 octets ≡ [] → ⊥
 two_of octets h e = let l = ap length e in absurd (omega (arith, length-take 2 octets))
@@ -208,14 +208,14 @@ skip_match size octets =
     record {
       skipped = take size octets;
       full = length-take-le size octets (omega arith);
-      mark = take 2 (drop size octets);
+      end_mark = take 2 (drop size octets);
       is_mark = inr (length-take-le 2 (drop size octets) here);
       whole = sym (take-append-drop size octets) ∙ ap (λ (o : List ℕ). take size octets ++ o) (sym (take-append-drop 2 (drop size octets)) ∙ ap (λ (o : List ℕ). take 2 (drop size octets) ++ o) (drop-drop 2 size octets));
       last = λ e. absurd (two_of (drop size octets) here e);
     })
     (λ bad. let lt = leb-false (size + 2) (length octets) bad in
     test_match (eqb (length octets) size) _ _ _ _
-    (λ good. record { skipped = octets; full = eqb-true (length octets) size good; mark = []; is_mark = inl refl; whole = sym (append-nil octets); last = λ e. refl })
+    (λ good. record { skipped = octets; full = eqb-true (length octets) size good; end_mark = []; is_mark = inl refl; whole = sym (append-nil octets); last = λ e. refl })
     (λ other. let ne = eqb-false (length octets) size other in
     (refl, elim (cases_lt (length octets) size) [ inl l ↦ inl l | inr g ↦ inr (omega arith) ])))
 
@@ -260,8 +260,8 @@ sized_match None len octets size after s =
     then_match (skip_at size after) _ _ _ _ _ (skip_match size after)
     (λ rest k. record {
       list_length = s.high ∷ s.low ∷ [];
-      region = Skipped k.skipped;
-      mark = k.mark;
+      list = Skipped k.skipped;
+      end_mark = k.end_mark;
       rules = (rw k.full s.counts, k.is_mark);
       whole = s.whole ∙ ap (λ (o : List ℕ). s.high ∷ s.low ∷ o) k.whole;
       meaning = refl;
@@ -272,8 +272,8 @@ sized_match (Some t) len octets size after s =
     weaker_match (known_at (Some t) len size after) _ _ _ _ (known_match t len size after)
     (λ x k. record {
       list_length = s.high ∷ s.low ∷ [];
-      region = Vectors k.vs;
-      mark = k.mark;
+      list = Vectors k.vs;
+      end_mark = k.end_mark;
       rules = (rw k.full s.counts, k.rules, k.is_mark);
       whole = s.whole ∙ ap (λ (o : List ℕ). s.high ∷ s.low ∷ o) k.whole;
       meaning = k.meaning;
@@ -293,10 +293,10 @@ pub body_match : (form : AppForm) (row : Option TypeForm) (len : ℕ) (octets : 
     → MatchResult (body_at form row len octets) (λ x. TookBody form row len octets x.0 x.1) (λ left. Broken (BodyBreaks form row len) octets left)
 body_match Mvrp row len octets =
     weaker_match (list_at row len octets) _ _ _ _ (list_match row len octets)
-    (λ x t. record { list_length = []; region = Vectors t.vs; mark = t.mark; rules = (refl, t.rules, t.is_mark); whole = t.whole; meaning = t.meaning; last = t.last })
+    (λ x t. record { list_length = []; list = Vectors t.vs; end_mark = t.end_mark; rules = (refl, t.rules, t.is_mark); whole = t.whole; meaning = t.meaning; last = t.last })
     (λ left b. b)
 body_match Msrp row len octets = counted_match row len octets
 body_match Mmrp row len octets =
     weaker_match (list_at row len octets) _ _ _ _ (list_match row len octets)
-    (λ x t. record { list_length = []; region = Vectors t.vs; mark = t.mark; rules = (refl, t.rules, t.is_mark); whole = t.whole; meaning = t.meaning; last = t.last })
+    (λ x t. record { list_length = []; list = Vectors t.vs; end_mark = t.end_mark; rules = (refl, t.rules, t.is_mark); whole = t.whole; meaning = t.meaning; last = t.last })
     (λ left b. b)

@@ -1,5 +1,5 @@
 -- What a reader of vectors takes is a vector of the grammar, and where it stops a field breaks.
-use Rattle.std.proofs.Common.{◌≡◌, ℕ, zero, suc, ◌+◌, ◌%◌, ◌<◌, ◌≤◌, true, false, leb, ltb, eqb, List, [], ◌∷◌, ◌++◌, length, map, Option, MatchResult, ◌⊎◌, inl, inr, refl, sym, ap, subst, ◌∙◌, append_assoc, length-append, arith, rules}
+use Rattle.std.proofs.Common.{◌≡◌, ℕ, zero, suc, ◌%◌, ◌<◌, ◌≤◌, true, false, leb, ltb, eqb, List, [], ◌∷◌, ◌++◌, length, map, Option, MatchResult, ◌⊎◌, inl, inr, refl, sym, ap, subst, ◌∙◌, append_assoc, arith, rules}
 use Rattle.std.proofs.lemmas.Bool.{false≢true, ltb-false, leb-true, leb-false, ltb-true, eqb-false}
 use Rattle.std.proofs.lemmas.List.{take-append-drop, length-take-le}
 use Rattle.mrpdu_codec.specs.declared.form.TypeForm.{TypeForm}
@@ -10,6 +10,7 @@ use Rattle.mrpdu_codec.specs.Grammar.{OctetBreaks, HeaderBreaks, VectorBreaks, L
 use Rattle.mrpdu_codec.specs.Grammar.ListBreaks.{vector as list_vector}
 use Rattle.mrpdu_codec.specs.Grammar.VectorBreaks.{header as header_breaks, first_value, packed as packed_breaks, four_packed}
 use Rattle.mrpdu_codec.specs.Reading.{run_at, header_at, first_at, vector_at, ends_list, vectors_at}
+use Rattle.mrpdu_codec.proofs.Longer.{vector_longer}
 use Rattle.mrpdu_codec.proofs.Steps.{then_match, test_match, Broken}
 
 whole3 : (octets : List ℕ) (high low : ℕ) (rest first after packed last : List ℕ) → octets ≡ high ∷ low ∷ rest → rest ≡ first ++ after → after ≡ packed ++ last
@@ -89,7 +90,7 @@ vector_match row len octets going =
     (λ first f. then_match (run_at (packed_limit row) (thirds n) first.1) _ _ _ _ _ (run_match (packed_limit row) (thirds n) first.1)
     (λ packed p. then_match (run_at 255 (fours_for row n) packed.1) _ _ _ _ _ (run_match 255 (fours_for row n) packed.1)
     (λ fours q. (
-      record { no_mark = some; leave_all = h.1; first = f.1; packed = p.count; events = p.each; fours = q.count; params = q.each },
+      record { no_mark = some; leave_all = h.1; first = f.1; three_packed = p.count; events = p.each; four_packed = q.count; params = q.each },
       whole4 octets head.0 head.1 head.2 first.0 first.1 packed.0 packed.1 fours.0 fours.1 h.0 f.0 p.whole q.whole,
     ))
     (λ left q. record {
@@ -97,30 +98,25 @@ vector_match row len octets going =
       rest = q.rest;
       left_is = q.left_is;
       whole = whole4 octets head.0 head.1 head.2 first.0 first.1 packed.0 packed.1 q.front q.rest h.0 f.0 p.whole q.whole;
-      breaks = four_packed (record { high = head.0; low = head.1; first = first.0; packed = packed.0; fours = q.front }) h.1 some f.1 p.each p.count q.breaks.each q.breaks.short refl q.breaks.breaks;
+      breaks = four_packed (record { high = head.0; low = head.1; first = first.0; three_packed = packed.0; four_packed = q.front }) h.1 some f.1 p.each p.count q.breaks.each q.breaks.short refl q.breaks.breaks;
     }))
     (λ left p. record {
       front = head.0 ∷ head.1 ∷ (first.0 ++ p.front);
       rest = p.rest;
       left_is = p.left_is;
       whole = whole3 octets head.0 head.1 head.2 first.0 first.1 p.front p.rest h.0 f.0 p.whole;
-      breaks = packed_breaks (record { high = head.0; low = head.1; first = first.0; packed = p.front; fours = [] }) h.1 some f.1 p.breaks.each p.breaks.short refl p.breaks.breaks;
+      breaks = packed_breaks (record { high = head.0; low = head.1; first = first.0; three_packed = p.front; four_packed = [] }) h.1 some f.1 p.breaks.each p.breaks.short refl p.breaks.breaks;
     }))
     (λ left f. record {
       front = head.0 ∷ head.1 ∷ [];
       rest = head.2;
       left_is = f.0;
       whole = h.0;
-      breaks = first_value (record { high = head.0; low = head.1; first = []; packed = []; fours = [] }) h.1 some refl f.1;
+      breaks = first_value (record { high = head.0; low = head.1; first = []; three_packed = []; four_packed = [] }) h.1 some refl f.1;
     }))
     (λ left h. record { front = []; rest = octets; left_is = h.0; whole = refl; breaks = header_breaks refl (never_ended row octets going h.1) })
 
 -- ---- vectors up to an end
-
-pub vector_longer : (octets : List ℕ) (v : Vector) (rest : List ℕ) → octets ≡ vector_octets v ++ rest → length rest + 2 ≤ length octets
-vector_longer octets v rest e =
-    let h : length octets ≡ suc (suc (length ((v.first ++ (v.packed ++ v.fours)) ++ rest))) = ap length e in
-    omega (arith, length-append (v.first ++ (v.packed ++ v.fours)) rest)
 
 pub record TookVectors (row : Option TypeForm) (len : ℕ) (octets : List ℕ) (attrs : List VectorAttr) (rest : List ℕ) : Type 0 where
   pub vs : List Vector

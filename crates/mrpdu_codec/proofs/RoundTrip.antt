@@ -1,7 +1,8 @@
 -- The canonical tree of a PDU that can be written meets the rules, and means the PDU.
-use Rattle.std.proofs.Common.{◌≡◌, ℕ, zero, suc, ◌+◌, ◌/◌, ◌%◌, ◌<◌, ◌≤◌, Bool, true, false, cond, leb, ltb, eqb, ◌&&◌, ◌||◌, List, [], ◌∷◌, ◌++◌, length, take, map, Option, Some, None, inr, refl, sym, ap, ◌∙◌, arith}
+use Rattle.std.proofs.Common.{◌≡◌, ℕ, zero, suc, ◌+◌, ◌/◌, ◌%◌, ◌<◌, ◌≤◌, Bool, true, false, cond, leb, ltb, eqb, ◌&&◌, ◌||◌, List, [], ◌∷◌, ◌++◌, length, take, drop, map, Option, Some, None, inr, refl, sym, ap, subst, ◌∙◌, arith}
 use Rattle.std.specs.List.{flat_map, list_all, AllByRecursion}
 use Rattle.std.proofs.lemmas.Bool.{false≢true, and_parts, leb-true, le-leb, lt-ltb, le-ltb, ltb-true, eqb-true, eq-eqb}
+use Rattle.std.proofs.lemmas.List.{drop_at}
 use Rattle.srp_base.specs.declared.mrp.MrpEvent.{MrpEvent}
 use Rattle.mrpdu_codec.specs.declared.form.AppForm.{AppForm}
 use Rattle.mrpdu_codec.specs.declared.form.AppForm.TheVariants.{Mvrp, Msrp, Mmrp}
@@ -11,10 +12,11 @@ use Rattle.mrpdu_codec.specs.declared.pdu.Message.{Message}
 use Rattle.mrpdu_codec.specs.declared.pdu.Pdu.{Pdu}
 use Rattle.mrpdu_codec.specs.Octets.{number, thirds, quarters, three_events, four_params}
 use Rattle.mrpdu_codec.specs.Types.{row_of}
-use Rattle.mrpdu_codec.specs.Tree.{AllUpTo, IsVector, AreVectors, attr_of, vectors_octets, IsBody, length_fits, IsBlock, messages_from, messages_of, AreBlocks}
-use Rattle.mrpdu_codec.specs.Tree.Region.{Vectors}
+use Rattle.mrpdu_codec.specs.Tree.{AllUpTo, IsVector, AreVectors, attr_of, vectors_octets, IsBody, length_fits, IsMessage, messages_from, messages_meant, AreMessages}
+use Rattle.mrpdu_codec.specs.Tree.AttributeList.{Vectors}
 use Rattle.mrpdu_codec.specs.Grammar.{Spells}
-use Rattle.mrpdu_codec.specs.Canonical.{pack_events, pack_params, header_for, vector_for, vectors_for, list_length_for, length_for, block_for, tree_for, spelling, vector_fits, known_fits, message_fits, well_formed, CanPut}
+use Rattle.mrpdu_codec.specs.Canonical.{pack_events, pack_params, header_for, vector_for, vectors_for, list_length_for, length_for, message_for, tree_for, spelling, message_fits, well_formed, CanPut}
+use Rattle.mrpdu_codec.specs.Shape.{vector_fits, vectors_fit, has_form}
 use Rattle.mrpdu_codec.proofs.Packed.{events_again, packed_length, packed_limit_holds, params_again, fours_length, fours_limit}
 
 -- ---- a vector
@@ -74,9 +76,9 @@ vector_again t v fits =
         no_mark = omega (arith, e, f.some);
         leave_all = ap (λ (x : ℕ). leb (x / 8192) 1) e ∙ f.limit;
         first = eqb-true (length v.first) t.length r.0;
-        packed = packed_length v.events ∙ ap thirds (sym counted);
+        three_packed = packed_length v.events ∙ ap thirds (sym counted);
         events = packed_limit_holds v.events;
-        fours = g.len ∙ ap (λ (x : ℕ). cond t.four_packed (quarters x) 0) (sym counted);
+        four_packed = g.len ∙ ap (λ (x : ℕ). cond t.four_packed (quarters x) 0) (sym counted);
         params = g.limit;
       },
       attr_is _ v.leave_all v.first _ v.events _ v.params
@@ -100,40 +102,40 @@ record BodyAgain (form : AppForm) (row : Option TypeForm) (m : Message) : Type 0
   body : IsBody form row (length_for row) (list_length_for form m.vectors) (Vectors (vectors_for m.vectors)) (0 ∷ 0 ∷ [])
   meaning : messages_from row m.kind (map attr_of (vectors_for m.vectors)) ≡ m ∷ []
 
-body_again : (form : AppForm) (row : Option TypeForm) (m : Message) → known_fits form row m ≡ true → BodyAgain form row m
+body_again : (form : AppForm) (row : Option TypeForm) (m : Message) → vectors_fit row m.vectors ≡ true → BodyAgain form row m
 body_again form None m fits = absurd (false≢true fits)
 body_again form (Some t) m fits = record { len = eq-eqb t.length t.length refl; body = rules form; meaning = ap (λ (vs : List VectorAttr). let x : Message = record { kind = m.kind; vectors = vs } in x ∷ []) vectors.1 } where
   vectors : AreVectors (Some t) t.length (vectors_for m.vectors) × (map attr_of (vectors_for m.vectors) ≡ m.vectors)
-  vectors = vectors_again t m.vectors (and_parts _ _ fits).0
+  vectors = vectors_again t m.vectors fits
 
   rules : (f : AppForm) → IsBody f (Some t) t.length (list_length_for f m.vectors) (Vectors (vectors_for m.vectors)) (0 ∷ 0 ∷ [])
   rules Mvrp = (refl, vectors.0, inr refl)
   rules Msrp = (header_again (length (vectors_octets (vectors_for m.vectors)) + 2), vectors.0, inr refl)
   rules Mmrp = (refl, vectors.0, inr refl)
 
-known_kind : (form : AppForm) (kind : ℕ) (m : Message) → known_fits form (row_of form kind) m ≡ true → 0 < kind
-known_kind Mvrp zero m fits = absurd (false≢true fits)
-known_kind Msrp zero m fits = absurd (false≢true fits)
-known_kind Mmrp zero m fits = absurd (false≢true fits)
-known_kind form (suc kind) m fits = omega arith
+known_kind : (form : AppForm) (kind : ℕ) (vs : List VectorAttr) → vectors_fit (row_of form kind) vs ≡ true → 0 < kind
+known_kind Mvrp zero vs fits = absurd (false≢true fits)
+known_kind Msrp zero vs fits = absurd (false≢true fits)
+known_kind Mmrp zero vs fits = absurd (false≢true fits)
+known_kind form (suc kind) vs fits = omega arith
 
-block_again : (form : AppForm) (m : Message) → message_fits form m ≡ true → IsBlock form (block_for form m) × (messages_of form (block_for form m) ≡ m ∷ [])
-block_again form m fits =
+message_again : (form : AppForm) (m : Message) → has_form form m ≡ true → IsMessage form (message_for form m) × (messages_meant form (message_for form m) ≡ m ∷ [])
+message_again form m fits =
     let b = body_again form (row_of form m.kind) m fits in
-    (record { kind = known_kind form m.kind m fits; len = b.len; body = b.body }, b.meaning)
+    (record { kind = known_kind form m.kind m.vectors fits; len = b.len; body = b.body }, b.meaning)
 
 -- ---- a PDU
 
-blocks_again : (form : AppForm) (ms : List Message) → list_all (message_fits form) ms ≡ true
-    → AreBlocks form (map (block_for form) ms) (Some []) × (flat_map (messages_of form) (map (block_for form) ms) ≡ ms)
-blocks_again form [] fits = (tt, refl)
-blocks_again form (m ∷ ms) fits =
+messages_again : (form : AppForm) (ms : List Message) → list_all (message_fits form) ms ≡ true
+    → AreMessages form (map (message_for form) ms) (Some []) × (flat_map (messages_meant form) (map (message_for form) ms) ≡ ms)
+messages_again form [] fits = (tt, refl)
+messages_again form (m ∷ ms) fits =
     let p = and_parts _ _ fits in
-    let one = block_again form m p.0 in
-    let more = blocks_again form ms p.1 in
-    ((one.0, λ e. absurd cc, more.0), ap (λ (x : List Message). x ++ flat_map (messages_of form) (map (block_for form) ms)) one.1 ∙ ap (λ (x : List Message). m ∷ x) more.1)
+    let one = message_again form m (and_parts _ _ p.0).0 in
+    let more = messages_again form ms p.1 in
+    ((one.0, λ e. absurd cc, more.0), ap (λ (x : List Message). x ++ flat_map (messages_meant form) (map (message_for form) ms)) one.1 ∙ ap (λ (x : List Message). m ∷ x) more.1)
 
-some_again : (form : AppForm) (ms : List Message) → 0 < length ms → 0 < length (map (block_for form) ms)
+some_again : (form : AppForm) (ms : List Message) → 0 < length ms → 0 < length (map (message_for form) ms)
 some_again form [] h = h
 some_again form (m ∷ ms) h = omega arith
 
@@ -141,13 +143,19 @@ pub spells_again : (form : AppForm) (pdu : Pdu) → well_formed form pdu ≡ tru
 spells_again form pdu fits =
     let p = and_parts _ _ fits in
     let q = and_parts _ _ p.0 in
-    let b = blocks_again form pdu.messages p.1 in
+    let b = messages_again form pdu.messages p.1 in
     record {
       tree = tree_for form pdu;
-      rules = record { some = some_again form pdu.messages (ltb-true 0 (length pdu.messages) q.1); blocks = b.0 };
+      rules = record { some = some_again form pdu.messages (ltb-true 0 (length pdu.messages) q.1); messages = b.0 };
       spelling = refl;
       meaning = ap (λ (ms : List Message). let x : Pdu = record { version = pdu.version; messages = ms } in x) (sym b.1);
     }
+
+-- and so does what stands behind other octets
+pub spells_behind : (form : AppForm) (pdu : Pdu) (before after : List ℕ) → well_formed form pdu ≡ true → after ≡ before ++ spelling form pdu → Spells form (drop (length before) after) pdu
+spells_behind form pdu before after fits e =
+    let behind : drop (length before) after ≡ spelling form pdu = ap (λ (octets : List ℕ). drop (length before) octets) e ∙ drop_at before (spelling form pdu) (length before) refl in
+    subst (λ (octets : List ℕ). Spells form octets pdu) (sym behind) (spells_again form pdu fits)
 
 -- ---- what a writer asks of its vectors
 
@@ -164,9 +172,9 @@ can_put t (v ∷ vs) fits =
     let r = and_parts _ _ q.0 in
     (record { events = leb-true (length v.events) 8191 r.1; params = params_small t.four_packed (length v.events) v.params q.1 }, can_put t vs p.1)
 
-can_put_known : (form : AppForm) (row : Option TypeForm) (m : Message) → known_fits form row m ≡ true → AllByRecursion CanPut m.vectors
-can_put_known form None m fits = absurd (false≢true fits)
-can_put_known form (Some t) m fits = can_put t m.vectors (and_parts _ _ fits).0
+can_put_known : (row : Option TypeForm) (vs : List VectorAttr) → vectors_fit row vs ≡ true → AllByRecursion CanPut vs
+can_put_known None vs fits = absurd (false≢true fits)
+can_put_known (Some t) vs fits = can_put t vs fits
 
 pub message_can_put : (form : AppForm) (m : Message) → message_fits form m ≡ true → AllByRecursion CanPut m.vectors
-message_can_put form m fits = can_put_known form (row_of form m.kind) m fits
+message_can_put form m fits = can_put_known (row_of form m.kind) m.vectors (and_parts _ _ fits).0

@@ -1,17 +1,49 @@
 -- How many octets the canonical spelling has.
-use Rattle.std.proofs.Common.{◌≡◌, ℕ, ◌+◌, ◌<◌, min, List, [], ◌∷◌, ◌++◌, length, get_or, take, map, sym, ap, ◌∙◌, length-append, arith}
-use Rattle.std.specs.List.{flat_map}
+use Rattle.std.proofs.Common.{◌≡◌, ℕ, ◌+◌, ◌<◌, min, List, [], ◌∷◌, ◌++◌, length, get_or, take, map, refl, sym, ap, ◌∙◌, length-append, arith}
+use Rattle.std.specs.List.{flat_map, sum_by}
 use Rattle.std.proofs.lemmas.List.{append-nil, map-append, take_more}
+use Rattle.std.proofs.lemmas.List.Sums.{sum_by-cons}
 use Rattle.std.proofs.lemmas.List.Concat.{flat_map-append}
+use Rattle.mrpdu_codec.specs.declared.form.AppForm.{AppForm}
+use Rattle.mrpdu_codec.specs.declared.form.AppForm.TheVariants.{Mvrp, Msrp, Mmrp}
 use Rattle.mrpdu_codec.specs.declared.pdu.VectorAttr.{VectorAttr}
+use Rattle.mrpdu_codec.specs.declared.pdu.Message.{Message}
+use Rattle.mrpdu_codec.specs.declared.pdu.Pdu.{Pdu}
 use Rattle.mrpdu_codec.specs.Octets.{thirds, quarters}
-use Rattle.mrpdu_codec.specs.Tree.{vector_octets}
-use Rattle.mrpdu_codec.specs.Canonical.{pack_events, pack_params, vector_for}
+use Rattle.mrpdu_codec.specs.Tree.{vector_octets, vectors_octets, message_octets, messages_octets}
+use Rattle.mrpdu_codec.specs.Canonical.{pack_events, pack_params, vector_for, vectors_for, message_for, spelling, vector_size, vectors_size, message_size, pdu_size}
 use Rattle.mrpdu_codec.proofs.Packed.{packed_length, fours_length}
 
 pub vector_length : (v : VectorAttr) → length (vector_octets (vector_for v)) ≡ ((length v.first + thirds (length v.events)) + quarters (length v.params)) + 2
 vector_length v =
     omega (arith, length-append v.first (pack_events v.events ++ pack_params v.params), length-append (pack_events v.events) (pack_params v.params), packed_length v.events, fours_length v.params)
+
+vector_written : (v : VectorAttr) → length (vector_octets (vector_for v)) ≡ vector_size v
+vector_written v = omega (arith, vector_length v)
+
+pub vectors_written : (vs : List VectorAttr) → length (vectors_octets (vectors_for vs)) ≡ vectors_size vs
+vectors_written [] = refl
+vectors_written (v ∷ vs) =
+    length-append (vector_octets (vector_for v)) (vectors_octets (vectors_for vs))
+    ∙ ap (λ (n : ℕ). n + length (vectors_octets (vectors_for vs))) (vector_written v)
+    ∙ ap (λ (n : ℕ). vector_size v + n) (vectors_written vs)
+    ∙ sym (sum_by-cons vector_size v vs)
+
+message_written : (form : AppForm) (m : Message) → length (message_octets (message_for form m)) ≡ message_size form m
+message_written Mvrp m = omega (arith, length-append (vectors_octets (vectors_for m.vectors)) (0 ∷ 0 ∷ []), vectors_written m.vectors)
+message_written Msrp m = omega (arith, length-append (vectors_octets (vectors_for m.vectors)) (0 ∷ 0 ∷ []), vectors_written m.vectors)
+message_written Mmrp m = omega (arith, length-append (vectors_octets (vectors_for m.vectors)) (0 ∷ 0 ∷ []), vectors_written m.vectors)
+
+messages_written : (form : AppForm) (ms : List Message) → length (messages_octets (map (message_for form) ms)) ≡ sum_by (message_size form) ms
+messages_written form [] = refl
+messages_written form (m ∷ ms) =
+    length-append (message_octets (message_for form m)) (messages_octets (map (message_for form) ms))
+    ∙ ap (λ (n : ℕ). n + length (messages_octets (map (message_for form) ms))) (message_written form m)
+    ∙ ap (λ (n : ℕ). message_size form m + n) (messages_written form ms)
+    ∙ sym (sum_by-cons (message_size form) m ms)
+
+pub pdu_written : (form : AppForm) (pdu : Pdu) → length (spelling form pdu) ≡ pdu_size form pdu
+pdu_written form pdu = omega (arith, length-append (messages_octets (map (message_for form) pdu.messages)) (0 ∷ 0 ∷ []), messages_written form pdu.messages)
 
 -- one item more
 pub grows : {A B : Type 0} (f : B → List ℕ) (h : A → B) (xs : List A) (i : ℕ) (x : A) → i < length xs → x ≡ get_or xs i x

@@ -6,11 +6,13 @@ use Rattle.mrpdu_codec.specs.declared.error.ReadErr.{ReadErr}
 use Rattle.mrpdu_codec.specs.declared.error.ReadErr.TheVariants as errors
 use Rattle.mrpdu_codec.specs.declared.pdu.VectorAttr.{VectorAttr}
 use Rattle.mrpdu_codec.specs.Tree.{Vector, attr_of, IsVector, vector_octets}
-use Rattle.mrpdu_codec.specs.Reading.{◌>>=◌, Fails, rest_of, vector_at, ends_list, vectors_at, vectors_of, mark_at, list_at}
+use Rattle.mrpdu_codec.specs.Reading.{◌>>=◌, rest_of, vector_at, ends_list, vectors_at, vectors_of, mark_at, list_at}
+use Rattle.mrpdu_codec.specs.Workers.{Fails}
 use Rattle.std.proofs.lemmas.Result.{MatchResult-at_ok}
 use Rattle.std.proofs.lemmas.Bool.{false≢true}
 use Rattle.mrpdu_codec.proofs.Steps.{same_after, same_choice}
-use Rattle.mrpdu_codec.proofs.ReadVectors.{vector_match, vector_longer}
+use Rattle.mrpdu_codec.proofs.ReadVectors.{vector_match}
+use Rattle.mrpdu_codec.proofs.Longer.{vector_longer}
 
 -- ---- fuel makes no difference
 
@@ -80,12 +82,6 @@ module _ (row : Option TypeForm) (len : ℕ) (total : Result (List VectorAttr ×
   pub list_ends : ends_list octets ≡ true → total ≡ Ok (front, octets)
   list_ends ended =
       sym so_far ∙ ap (with_front front) (vectors_end row len octets ended) ∙ ap (λ (vs : List VectorAttr). let y : Result (List VectorAttr × List ℕ) ℕ = Ok (vs, octets) in y) (append-nil front)
-
-ok_is : (x y : List ℕ) → (let r : Result (List ℕ) ℕ = Ok x in r) ≡ Ok y → x ≡ y
-ok_is x y e = cc
-
-err_is : {B : Type 0} (m n : ℕ) → (let r : Result (List ℕ) ℕ = Err m in r) ≡ Err n → (let r : Result B ℕ = Err m in r) ≡ Err n
-err_is {B = B} m n e = let k : m ≡ n = cc in ap (λ (i : ℕ). let r : Result B ℕ = Err i in r) k
 
 rest_more : (v : VectorAttr) (read : Result (List VectorAttr × List ℕ) ℕ) → rest_of (read >>= λ x. Ok (v ∷ x.0, x.1)) ≡ rest_of read
 rest_more v (Ok x) = refl

@@ -1,5 +1,5 @@
 -- The grammar of MRPDUs (IEEE Std 802.1Q-2018, 10.8): which octets spell which PDU, and where octets
--- that spell none break. Both join whole texts.
+-- that spell none break. Both join whole lists of octets.
 use Rattle.std.specs.Prelude.{◌≡◌, ℕ, ◌+◌, ◌<◌, true, false, List, [], ◌∷◌, ◌++◌, length, Option, Some, None, ◌⊎◌}
 use Rattle.std.specs.List.{AllByRecursion}
 use Rattle.mrpdu_codec.specs.declared.form.AppForm.{AppForm}
@@ -8,11 +8,11 @@ use Rattle.mrpdu_codec.specs.declared.form.TypeForm.{TypeForm}
 use Rattle.mrpdu_codec.specs.declared.pdu.Pdu.{Pdu}
 use Rattle.mrpdu_codec.specs.Octets.{number, thirds}
 use Rattle.mrpdu_codec.specs.Types.{row_of}
-use Rattle.mrpdu_codec.specs.Tree.{Vector, count, packed_limit, fours_for, header_fits, AllUpTo, vectors_octets, Block, length_fits, AreVectors, IsBlock, blocks_octets, Tree, tree_octets, IsTree, pdu_of}
+use Rattle.mrpdu_codec.specs.Tree.{Vector, count, packed_limit, fours_for, header_fits, AllUpTo, vectors_octets, MessageTree, length_fits, AreVectors, IsMessage, messages_octets, MrpduTree, tree_octets, IsTree, pdu_of}
 
 -- A tree that meets the rules has these octets as its spelling and this PDU as its meaning.
 pub record Spells (form : AppForm) (octets : List ℕ) (pdu : Pdu) : Type 0 where
-  pub tree : Tree
+  pub tree : MrpduTree
   pub rules : IsTree form tree
   pub spelling : octets ≡ tree_octets tree
   pub meaning : pdu ≡ pdu_of form tree
@@ -61,6 +61,7 @@ LaterTypeBreaks (kind ∷ next ∷ rest) = (kind ≡ 0) × (0 < next)
 -- ---- Where whole fields end and a field breaks: front are whole fields, and rest begins with the
 -- first field that breaks.
 
+-- A vector of a type with this row, where FirstValue has len octets.
 pub data VectorBreaks (row : Option TypeForm) (len : ℕ) (front rest : List ℕ) : Type 0 where
   -- the header
   header : front ≡ [] → HeaderBreaks row rest → VectorBreaks row len front rest
@@ -69,13 +70,13 @@ pub data VectorBreaks (row : Option TypeForm) (len : ℕ) (front rest : List ℕ
       → front ≡ v.high ∷ v.low ∷ [] → length rest < len → VectorBreaks row len front rest
   -- one of the ThreePackedEvents, each a field of its own
   packed : (v : Vector) → header_fits row v.high v.low ≡ true → 0 < number v.high v.low
-      → length v.first ≡ len → AllUpTo (packed_limit row) v.packed → length v.packed < thirds (count v)
-      → front ≡ v.high ∷ v.low ∷ (v.first ++ v.packed) → OctetBreaks (packed_limit row) rest → VectorBreaks row len front rest
+      → length v.first ≡ len → AllUpTo (packed_limit row) v.three_packed → length v.three_packed < thirds (count v)
+      → front ≡ v.high ∷ v.low ∷ (v.first ++ v.three_packed) → OctetBreaks (packed_limit row) rest → VectorBreaks row len front rest
   -- one of the FourPackedEvents is missing
   four_packed : (v : Vector) → header_fits row v.high v.low ≡ true → 0 < number v.high v.low
-      → length v.first ≡ len → AllUpTo (packed_limit row) v.packed → length v.packed ≡ thirds (count v)
-      → AllUpTo 255 v.fours → length v.fours < fours_for row (count v)
-      → front ≡ v.high ∷ v.low ∷ (v.first ++ (v.packed ++ v.fours)) → OctetBreaks 255 rest → VectorBreaks row len front rest
+      → length v.first ≡ len → AllUpTo (packed_limit row) v.three_packed → length v.three_packed ≡ thirds (count v)
+      → AllUpTo 255 v.four_packed → length v.four_packed < fours_for row (count v)
+      → front ≡ v.high ∷ v.low ∷ (v.first ++ (v.three_packed ++ v.four_packed)) → OctetBreaks 255 rest → VectorBreaks row len front rest
 
 -- Whole vectors, and one that breaks.
 pub data ListBreaks (row : Option TypeForm) (len : ℕ) (front rest : List ℕ) : Type 0 where
@@ -117,22 +118,23 @@ pub data CountedBreaks (row : Option TypeForm) (len : ℕ) (front rest : List �
   skipped : row ≡ None → (high low size : ℕ) → number high low ≡ size + 2 → front ≡ high ∷ low ∷ []
       → (length rest < size) ⊎ (length rest ≡ size + 1) → CountedBreaks row len front rest
 
+-- What stands after AttributeLength.
 abbrev pub BodyBreaks : AppForm → Option TypeForm → ℕ → List ℕ → List ℕ → Type 0
 BodyBreaks Mvrp row len front rest = ListBreaks row len front rest
 BodyBreaks Msrp row len front rest = CountedBreaks row len front rest
 BodyBreaks Mmrp row len front rest = ListBreaks row len front rest
 
--- A Message of some AttributeType.
-pub data BlockBreaks (form : AppForm) (front rest : List ℕ) : Type 0 where
+-- A Message of an AttributeType that isn't 0.
+pub data MessageBreaks (form : AppForm) (front rest : List ℕ) : Type 0 where
   -- AttributeLength
-  len : (kind : ℕ) → 0 < kind → front ≡ kind ∷ [] → LengthBreaks (row_of form kind) rest → BlockBreaks form front rest
+  len : (kind : ℕ) → 0 < kind → front ≡ kind ∷ [] → LengthBreaks (row_of form kind) rest → MessageBreaks form front rest
   -- what stands after it
   body : (kind len : ℕ) → 0 < kind → length_fits (row_of form kind) len ≡ true → (part : List ℕ) → front ≡ kind ∷ len ∷ part
-      → BodyBreaks form (row_of form kind) len part rest → BlockBreaks form front rest
+      → BodyBreaks form (row_of form kind) len part rest → MessageBreaks form front rest
 
 -- Messages that are whole with their EndMarks, so that another may follow
-abbrev pub AreClosed : AppForm → List Block → Type 0
-AreClosed form bs = AllByRecursion (λ b. IsBlock form b × (0 < length b.mark)) bs
+abbrev pub AreClosed : AppForm → List MessageTree → Type 0
+AreClosed form bs = AllByRecursion (λ b. IsMessage form b × (0 < length b.end_mark)) bs
 
 -- Whole fields, and the first field of all that breaks.
 pub data PduBreaks (form : AppForm) (front rest : List ℕ) : Type 0 where
@@ -141,11 +143,11 @@ pub data PduBreaks (form : AppForm) (front rest : List ℕ) : Type 0 where
   -- the AttributeType of the first Message
   first_type : (version : ℕ) → front ≡ version ∷ [] → FirstTypeBreaks rest → PduBreaks form front rest
   -- the AttributeType of a later Message, or the PDU's EndMark
-  later_type : (version : ℕ) (bs : List Block) → 0 < length bs → AreClosed form bs → front ≡ version ∷ blocks_octets bs
+  later_type : (version : ℕ) (bs : List MessageTree) → 0 < length bs → AreClosed form bs → front ≡ version ∷ messages_octets bs
       → LaterTypeBreaks rest → PduBreaks form front rest
   -- a Message behind whole ones
-  block : (version : ℕ) (bs : List Block) (part : List ℕ) → AreClosed form bs → front ≡ version ∷ (blocks_octets bs ++ part)
-      → BlockBreaks form part rest → PduBreaks form front rest
+  message : (version : ℕ) (bs : List MessageTree) (part : List ℕ) → AreClosed form bs → front ≡ version ∷ (messages_octets bs ++ part)
+      → MessageBreaks form part rest → PduBreaks form front rest
 
 -- The octets have whole fields that meet their rules before this place, and the field there breaks its
 -- rule or isn't whole.

@@ -3,6 +3,6 @@ pub mod Octets
 pub mod Tree
 pub mod Grammar
 pub mod Reading
-pub mod Raw
-pub mod Errors
+pub mod Workers
+pub mod Shape
 pub mod Canonical

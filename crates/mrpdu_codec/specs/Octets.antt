@@ -1,4 +1,4 @@
--- What single octets of a MRPDU hold (IEEE Std 802.1Q-2018, 10.8.1.2, 10.8.2.10).
+-- What single octets of an MRPDU hold (IEEE Std 802.1Q-2018, 10.8.1.2, 10.8.2.10).
 use Rattle.std.specs.Prelude.{ℕ, ◌+◌, ◌*◌, ◌/◌, ◌%◌, List, [], ◌∷◌, ◌==◌, if◌then◌else◌}
 use Rattle.srp_base.specs.declared.mrp.MrpEvent.{MrpEvent}
 use Rattle.srp_base.specs.declared.mrp.MrpEvent.TheVariants.{New, JoinIn, OnlyIn, JoinMt, OnlyMt, Lv}
@@ -7,10 +7,11 @@ use Rattle.srp_base.specs.declared.mrp.MrpEvent.TheVariants.{New, JoinIn, OnlyIn
 abbrev pub number : ℕ → ℕ → ℕ
 number high low = 256 * high + low
 
--- how many ThreePackedEvents, and how many FourPackedEvents, n values take
+-- how many ThreePackedEvents n values take
 abbrev pub thirds : ℕ → ℕ
 thirds n = (n + 2) / 3
 
+-- how many FourPackedEvents n values take
 abbrev pub quarters : ℕ → ℕ
 quarters n = (n + 3) / 4
 

@@ -1,8 +1,8 @@
 -- Reading from left to right: each reader answers a value and the octets after it, or how many octets are
 -- left from the first field on that breaks. That this is the grammar is proved of `decode`.
 use Rattle.std.specs.Prelude.{◌≡◌, ℕ, zero, suc, ◌+◌, ◌-◌, ◌%◌, Bool, true, false, List, [], ◌∷◌, ◌++◌, length, take, drop, Option, Some, None, Result, Ok, Err, nat_lt, nat_le, ◌==◌, if◌then◌else◌}
-use Rattle.mrpdu_codec.specs.declared.error.ReadErr.{ReadErr}
-use Rattle.mrpdu_codec.specs.declared.error.ReadErr.TheVariants as errors
+use Rattle.mrpdu_codec.specs.declared.error.DecodeErr.{DecodeErr}
+use Rattle.mrpdu_codec.specs.declared.error.DecodeErr.TheVariants as decode_errors
 use Rattle.mrpdu_codec.specs.declared.form.AppForm.{AppForm}
 use Rattle.mrpdu_codec.specs.declared.form.AppForm.TheVariants.{Mvrp, Msrp, Mmrp}
 use Rattle.mrpdu_codec.specs.declared.form.TypeForm.{TypeForm}
@@ -18,15 +18,6 @@ infixl 10 ◌>>=◌
 abbrev pub ◌>>=◌ : {A B : Type 0} → Result A ℕ → (A → Result B ℕ) → Result B ℕ
 (Ok x) >>= f = f x
 (Err left) >>= f = Err left
-
--- What a function returned, seen by view, is what reading gives, unless memory ran out.
-abbrev pub Fails : {Y : Type 0} → ReadErr → Result Y ℕ → Type 0
-Fails errors.NoMemory read = Unit {0}
-Fails (errors.Left left) read = read ≡ Err left
-
-abbrev pub Gives : {X Y : Type 0} → (X → Y) → Result X ReadErr → Result Y ℕ → Type 0
-Gives view (Ok x) read = read ≡ Ok (view x)
-Gives view (Err e) read = Fails e read
 
 -- the octets behind what was read
 abbrev pub rest_of : {A : Type 0} → Result (A × List ℕ) ℕ → Result (List ℕ) ℕ
@@ -48,13 +39,14 @@ header_at row (high ∷ low ∷ rest) = if header_fits row high low then Ok (hig
 unfoldable pub first_at : ℕ → List ℕ → Result (List ℕ × List ℕ) ℕ
 first_at len octets = if nat_lt (length octets) len then Err (length octets) else Ok (take len octets, drop len octets)
 
+-- a vector, field by field
 unfoldable pub vector_at : Option TypeForm → ℕ → List ℕ → Result (Vector × List ℕ) ℕ
 vector_at row len octets = do
   head ← header_at row octets
   first ← first_at len head.2
   packed ← run_at (packed_limit row) (thirds (number head.0 head.1 % 8192)) first.1
   fours ← run_at 255 (fours_for row (number head.0 head.1 % 8192)) packed.1
-  Ok (record { high = head.0; low = head.1; first = first.0; packed = packed.0; fours = fours.0 }, fours.1)
+  Ok (record { high = head.0; low = head.1; first = first.0; three_packed = packed.0; four_packed = fours.0 }, fours.1)
 
 -- in a header's place, the octets end or an EndMark stands
 unfoldable pub ends_list : List ℕ → Bool
@@ -116,10 +108,12 @@ size_at [] = Err 0
 size_at (high ∷ []) = Err 1
 size_at (high ∷ low ∷ rest) = if nat_lt (number high low) 2 then Err (suc (suc (length rest))) else Ok (number high low - 2, rest)
 
+-- what AttributeListLength counts, and its EndMark
 abbrev pub sized_at : Option TypeForm → ℕ → ℕ → List ℕ → Result (List VectorAttr × List ℕ) ℕ
 sized_at None len size octets = skip_at size octets >>= λ rest. Ok ([], rest)
 sized_at (Some t) len size octets = known_at (Some t) len size octets
 
+-- AttributeListLength, and what it counts
 unfoldable pub counted_at : Option TypeForm → ℕ → List ℕ → Result (List VectorAttr × List ℕ) ℕ
 counted_at row len octets = do
   size ← size_at octets
@@ -137,8 +131,8 @@ length_at row [] = Err 0
 length_at row (len ∷ rest) = if length_fits row len then Ok (len, rest) else Err (suc (length rest))
 
 -- a Message after its AttributeType
-unfoldable pub block_at : AppForm → ℕ → List ℕ → Result (List Message × List ℕ) ℕ
-block_at form kind octets = do
+unfoldable pub message_at : AppForm → ℕ → List ℕ → Result (List Message × List ℕ) ℕ
+message_at form kind octets = do
   len ← length_at (row_of form kind) octets
   body ← body_at form (row_of form kind) len.0 len.1
   Ok (messages_from (row_of form kind) kind body.0, body.1)
@@ -149,15 +143,16 @@ end_at [] = Err 1
 end_at (next ∷ rest) = if next == 0 then Ok [] else Err (suc (suc (length rest)))
 
 -- Messages up to the PDU's EndMark or the octets' end, and at most as many as fuel
-unfoldable pub blocks_at : ℕ → AppForm → List ℕ → Result (List Message) ℕ
-blocks_at zero form octets = Ok []
-blocks_at (suc fuel) form [] = Ok []
-blocks_at (suc fuel) form (kind ∷ rest) =
+unfoldable pub messages_at : ℕ → AppForm → List ℕ → Result (List Message) ℕ
+messages_at zero form octets = Ok []
+messages_at (suc fuel) form [] = Ok []
+messages_at (suc fuel) form (kind ∷ rest) =
     if kind == 0 then end_at rest
-    else (block_at form kind rest >>= λ b. blocks_at fuel form b.1 >>= λ ms. Ok (b.0 ++ ms))
+    else (message_at form kind rest >>= λ b. messages_at fuel form b.1 >>= λ ms. Ok (b.0 ++ ms))
 
-unfoldable pub blocks_of : AppForm → List ℕ → Result (List Message) ℕ
-blocks_of form octets = blocks_at (length octets) form octets
+-- a Message takes at least two octets
+unfoldable pub messages_of : AppForm → List ℕ → Result (List Message) ℕ
+messages_of form octets = messages_at (length octets) form octets
 
 -- in the place of a later Message: its AttributeType, or none at the PDU's end
 unfoldable pub type_at : List ℕ → Result (Option (ℕ × List ℕ)) ℕ
@@ -174,17 +169,25 @@ unfoldable pub first_type_at : List ℕ → Result (Unit {0}) ℕ
 first_type_at [] = Err 0
 first_type_at (kind ∷ rest) = if kind == 0 then Err (suc (length rest)) else Ok tt
 
+-- a PDU, or how many octets are left where it breaks
 unfoldable pub pdu_at : AppForm → List ℕ → Result Pdu ℕ
 pdu_at form octets = do
   version ← version_at octets
   first ← first_type_at version.1
-  messages ← blocks_of form version.1
+  messages ← messages_of form version.1
   Ok (record { version = version.0; messages = messages })
 
--- The PDU that octets spell, or the place where they break.
+-- a reading with the place where it breaks, of so many octets
 abbrev pub placed_in : ℕ → Result Pdu ℕ → Result Pdu ℕ
 placed_in all (Ok pdu) = Ok pdu
 placed_in all (Err left) = Err (all - left)
 
+-- The PDU that octets spell, or the place where they break.
 unfoldable pub reading : AppForm → List ℕ → Result Pdu ℕ
 reading form octets = placed_in (length octets) (pdu_at form octets)
+
+-- What `decode` answered is what the octets say, unless memory ran out.
+abbrev pub Answers : {A : Type 0} → Result A DecodeErr → Result A ℕ → Type 0
+Answers (Ok x) read = read ≡ Ok x
+Answers (Err (decode_errors.Malformed place)) read = read ≡ Err place
+Answers (Err decode_errors.NoMemory) read = Unit {0}

@@ -1,4 +1,4 @@
--- The syntax tree of a MRPDU (IEEE Std 802.1Q-2018, 10.8.1.2): what a PDU's octets are, field by field,
+-- The syntax tree of an MRPDU (IEEE Std 802.1Q-2018, 10.8.1.2): what a PDU's octets are, field by field,
 -- also what the PDU forgets: the octets of a vector's header, padding places, Messages of unknown types,
 -- missing EndMarks, and what stands after the PDU's EndMark. Each node has its rules, its spelling and
 -- its meaning.
@@ -20,13 +20,14 @@ pub record Vector : Type 0 where
   pub high : ℕ
   pub low : ℕ
   pub first : List ℕ
-  pub packed : List ℕ
-  pub fours : List ℕ
+  pub three_packed : List ℕ
+  pub four_packed : List ℕ
 
 -- the header is LeaveAllEvent * 8,192 + NumberOfValues
 abbrev pub header : Vector → ℕ
 header v = number v.high v.low
 
+-- NumberOfValues
 abbrev pub count : Vector → ℕ
 count v = header v % 8192
 
@@ -36,6 +37,7 @@ abbrev pub leave_all_limit : Option TypeForm → ℕ
 leave_all_limit None = 7
 leave_all_limit (Some t) = 1
 
+-- an octet holds three events, and each is at most 5
 abbrev pub packed_limit : Option TypeForm → ℕ
 packed_limit None = 255
 packed_limit (Some t) = 215
@@ -59,14 +61,16 @@ pub record IsVector (row : Option TypeForm) (len : ℕ) (v : Vector) : Type 0 wh
   pub no_mark : 0 < header v
   pub leave_all : header_fits row v.high v.low ≡ true
   pub first : length v.first ≡ len
-  pub packed : length v.packed ≡ thirds (count v)
-  pub events : AllUpTo (packed_limit row) v.packed
-  pub fours : length v.fours ≡ fours_for row (count v)
-  pub params : AllUpTo 255 v.fours
+  pub three_packed : length v.three_packed ≡ thirds (count v)
+  pub events : AllUpTo (packed_limit row) v.three_packed
+  pub four_packed : length v.four_packed ≡ fours_for row (count v)
+  pub params : AllUpTo 255 v.four_packed
 
+-- the octets of a vector
 abbrev pub vector_octets : Vector → List ℕ
-vector_octets v = v.high ∷ v.low ∷ (v.first ++ (v.packed ++ v.fours))
+vector_octets v = v.high ∷ v.low ∷ (v.first ++ (v.three_packed ++ v.four_packed))
 
+-- the octets of vectors, one after another
 abbrev pub vectors_octets : List Vector → List ℕ
 vectors_octets vs = flat_map vector_octets vs
 
@@ -75,32 +79,34 @@ abbrev pub attr_of : Vector → VectorAttr
 attr_of v = record {
   leave_all = nat_lt 0 (header v / 8192);
   first = v.first;
-  events = take (count v) (flat_map three_events v.packed);
-  params = take (count v) (flat_map four_params v.fours);
+  events = take (count v) (flat_map three_events v.three_packed);
+  params = take (count v) (flat_map four_params v.four_packed);
 }
 
 -- ---- a Message
 
 -- what stands between AttributeLength and the EndMark: vectors, or octets that MSRP skips
-pub data Region : Type 0 where
-  Vectors : List Vector → Region
-  Skipped : List ℕ → Region
+pub data AttributeList : Type 0 where
+  Vectors : List Vector → AttributeList
+  Skipped : List ℕ → AttributeList
 
--- A Message: AttributeType, AttributeLength, in MSRP the two octets of AttributeListLength, its region,
+-- A Message: AttributeType, AttributeLength, in MSRP the two octets of AttributeListLength, its list,
 -- and its EndMark, which is missing where the octets end instead.
-pub record Block : Type 0 where
+pub record MessageTree : Type 0 where
   pub kind : ℕ
   pub len : ℕ
   pub list_length : List ℕ
-  pub region : Region
-  pub mark : List ℕ
+  pub list : AttributeList
+  pub end_mark : List ℕ
 
-abbrev pub region_octets : Region → List ℕ
-region_octets (Vectors vs) = vectors_octets vs
-region_octets (Skipped octets) = octets
+-- the octets of an AttributeList
+abbrev pub list_octets : AttributeList → List ℕ
+list_octets (Vectors vs) = vectors_octets vs
+list_octets (Skipped octets) = octets
 
-abbrev pub block_octets : Block → List ℕ
-block_octets b = b.kind ∷ b.len ∷ (b.list_length ++ (region_octets b.region ++ b.mark))
+-- the octets of a Message
+abbrev pub message_octets : MessageTree → List ℕ
+message_octets b = b.kind ∷ b.len ∷ (b.list_length ++ (list_octets b.list ++ b.end_mark))
 
 -- AttributeLength is the type's, and 0 for none
 abbrev pub length_fits : Option TypeForm → ℕ → Bool
@@ -109,70 +115,82 @@ length_fits (Some t) len = len == t.length
 
 -- two octets of 0, or none where the octets end
 abbrev pub IsEndMark : List ℕ → Type 0
-IsEndMark mark = (mark ≡ []) ⊎ (mark ≡ 0 ∷ 0 ∷ [])
+IsEndMark end_mark = (end_mark ≡ []) ⊎ (end_mark ≡ 0 ∷ 0 ∷ [])
 
--- AttributeListLength counts the region and an EndMark, whether or not that is there
-abbrev pub CountsRegion : List ℕ → Region → Type 0
-CountsRegion (high ∷ low ∷ []) region = number high low ≡ length (region_octets region) + 2
-CountsRegion _ region = ⊥
+-- AttributeListLength counts the list and an EndMark, whether or not that is there
+abbrev pub CountsList : List ℕ → AttributeList → Type 0
+CountsList (high ∷ low ∷ []) list = number high low ≡ length (list_octets list) + 2
+CountsList _ list = ⊥
 
+-- vectors that meet their rules
 abbrev pub AreVectors : Option TypeForm → ℕ → List Vector → Type 0
 AreVectors row len vs = AllByRecursion (IsVector row len) vs
 
--- What stands after AttributeLength. MSRP's regions are counted, so that an unknown type is skipped
+-- What stands after AttributeLength. MSRP's lists are counted, so that an unknown type is skipped
 -- whole; the two octets that close it there may be any.
-abbrev pub IsBody : AppForm → Option TypeForm → ℕ → List ℕ → Region → List ℕ → Type 0
-IsBody Msrp (Some t) len list_length (Vectors vs) mark = CountsRegion list_length (Vectors vs) × AreVectors (Some t) len vs × IsEndMark mark
-IsBody Msrp None len list_length (Skipped octets) mark = CountsRegion list_length (Skipped octets) × ((mark ≡ []) ⊎ (length mark ≡ 2))
-IsBody Mvrp row len list_length (Vectors vs) mark = (list_length ≡ []) × AreVectors row len vs × IsEndMark mark
-IsBody Mmrp row len list_length (Vectors vs) mark = (list_length ≡ []) × AreVectors row len vs × IsEndMark mark
-IsBody _ _ len list_length _ mark = ⊥
+abbrev pub IsBody : AppForm → Option TypeForm → ℕ → List ℕ → AttributeList → List ℕ → Type 0
+IsBody Msrp (Some row) len list_length (Vectors vs) end_mark =
+    CountsList list_length (Vectors vs) × AreVectors (Some row) len vs × IsEndMark end_mark
+IsBody Msrp None len list_length (Skipped octets) end_mark =
+    CountsList list_length (Skipped octets) × ((end_mark ≡ []) ⊎ (length end_mark ≡ 2))
+IsBody Mvrp row len list_length (Vectors vs) end_mark =
+    (list_length ≡ []) × AreVectors row len vs × IsEndMark end_mark
+IsBody Mmrp row len list_length (Vectors vs) end_mark =
+    (list_length ≡ []) × AreVectors row len vs × IsEndMark end_mark
+IsBody _ _ len list_length _ end_mark = ⊥
 
 -- an AttributeType of 0 is none
-pub record IsBlock (form : AppForm) (b : Block) : Type 0 where
+pub record IsMessage (form : AppForm) (b : MessageTree) : Type 0 where
   pub kind : 0 < b.kind
   pub len : length_fits (row_of form b.kind) b.len ≡ true
-  pub body : IsBody form (row_of form b.kind) b.len b.list_length b.region b.mark
+  pub body : IsBody form (row_of form b.kind) b.len b.list_length b.list b.end_mark
 
-abbrev pub region_attrs : Region → List VectorAttr
-region_attrs (Vectors vs) = map attr_of vs
-region_attrs (Skipped octets) = []
+-- what an AttributeList says
+abbrev pub list_attrs : AttributeList → List VectorAttr
+list_attrs (Vectors vs) = map attr_of vs
+list_attrs (Skipped octets) = []
 
 -- a Message of a type that its application doesn't know says nothing
 abbrev pub messages_from : Option TypeForm → ℕ → List VectorAttr → List Message
 messages_from None kind attrs = []
 messages_from (Some t) kind attrs = record { kind = kind; vectors = attrs } ∷ []
 
-abbrev pub messages_of : AppForm → Block → List Message
-messages_of form b = messages_from (row_of form b.kind) b.kind (region_attrs b.region)
+-- what a Message says
+abbrev pub messages_meant : AppForm → MessageTree → List Message
+messages_meant form b = messages_from (row_of form b.kind) b.kind (list_attrs b.list)
 
 -- ---- a PDU
 
 -- ProtocolVersion, the Messages, and what stands after the PDU's EndMark, where that is there
-pub record Tree : Type 0 where
+pub record MrpduTree : Type 0 where
   pub version : ℕ
-  pub blocks : List Block
+  pub messages : List MessageTree
   pub after : Option (List ℕ)
 
 -- A Message whose EndMark is missing is the last, and the octets end after it.
-abbrev pub AreBlocks : AppForm → List Block → Option (List ℕ) → Type 0
-AreBlocks form [] after = Unit {0}
-AreBlocks form (b ∷ bs) after = IsBlock form b × (b.mark ≡ [] → (bs ≡ []) × (after ≡ None)) × AreBlocks form bs after
+abbrev pub AreMessages : AppForm → List MessageTree → Option (List ℕ) → Type 0
+AreMessages form [] after = Unit {0}
+AreMessages form (b ∷ bs) after =
+    IsMessage form b × (b.end_mark ≡ [] → (bs ≡ []) × (after ≡ None)) × AreMessages form bs after
 
+-- the PDU's EndMark and what stands after it
 abbrev pub after_octets : Option (List ℕ) → List ℕ
 after_octets None = []
 after_octets (Some rest) = 0 ∷ 0 ∷ rest
 
-abbrev pub blocks_octets : List Block → List ℕ
-blocks_octets bs = flat_map block_octets bs
+-- the octets of Messages, one after another
+abbrev pub messages_octets : List MessageTree → List ℕ
+messages_octets bs = flat_map message_octets bs
 
-abbrev pub tree_octets : Tree → List ℕ
-tree_octets tree = tree.version ∷ (blocks_octets tree.blocks ++ after_octets tree.after)
+-- the octets of a PDU
+abbrev pub tree_octets : MrpduTree → List ℕ
+tree_octets tree = tree.version ∷ (messages_octets tree.messages ++ after_octets tree.after)
 
 -- any version, and one or more Messages
-pub record IsTree (form : AppForm) (tree : Tree) : Type 0 where
-  pub some : 0 < length tree.blocks
-  pub blocks : AreBlocks form tree.blocks tree.after
+pub record IsTree (form : AppForm) (tree : MrpduTree) : Type 0 where
+  pub some : 0 < length tree.messages
+  pub messages : AreMessages form tree.messages tree.after
 
-abbrev pub pdu_of : AppForm → Tree → Pdu
-pdu_of form tree = record { version = tree.version; messages = flat_map (messages_of form) tree.blocks }
+-- what a PDU says
+abbrev pub pdu_of : AppForm → MrpduTree → Pdu
+pdu_of form tree = record { version = tree.version; messages = flat_map (messages_meant form) tree.messages }

@@ -7,7 +7,7 @@ use Rattle.mrpdu_codec.specs.declared.form.TypeForm.{TypeForm}
 
 -- a type of this length, with FourPackedEvents or not
 abbrev pub form_of : ℕ → Bool → Option TypeForm
-form_of n fours = Some (record { length = n; four_packed = fours })
+form_of n four_packed = Some (record { length = n; four_packed = four_packed })
 
 -- 1 is a VID
 abbrev pub mvrp_row : ℕ → Option TypeForm

@@ -1,15 +1,18 @@
 //! Octets read as a PDU.
 
-ghost use Rattle.std.specs.Prelude.{◌≡◌, ◌⊎◌, ◌↔◌, ◌<◌, ◌^◌, ℕ, List, length, Ok, Err, IfOk};
+ghost use Rattle.std.specs.Prelude.{◌≡◌, ◌⊎◌, ◌↔◌, ◌<◌, ◌^◌, ℕ, List, length, Ok, Err, IfOk, IsTrue};
+ghost use Rattle.std.specs.List.{list_all};
 ghost use Rattle.mrpdu_codec.specs.declared.form.AppForm.{AppForm};
 ghost use Rattle.mrpdu_codec.specs.declared.pdu.Pdu.{Pdu};
 ghost use Rattle.mrpdu_codec.specs.Grammar.{Spells, Breaks};
-ghost use Rattle.mrpdu_codec.specs.Reading.{Gives, version_at, first_type_at, pdu_at, reading};
-ghost use Rattle.mrpdu_codec.specs.Errors.{Answers};
+ghost use Rattle.mrpdu_codec.specs.Workers.{Gives};
+ghost use Rattle.mrpdu_codec.specs.Reading.{version_at, first_type_at, pdu_at, reading};
+ghost use Rattle.mrpdu_codec.specs.Reading.{Answers};
+ghost use Rattle.mrpdu_codec.specs.Shape.{has_form};
 
-use crate::blocks::messages;
 use crate::error::{DecodeErr, ReadErr};
 use crate::form::AppForm;
+use crate::messages::messages;
 use crate::pdu::Pdu;
 use srp_base::Seq;
 use std::alloc::Global;
@@ -44,37 +47,37 @@ fn first_type(octets: &[u8]) -> Result<(), ReadErr>
 
 /// A PDU, or how many octets are left from the first field on that breaks.
 #[tactic(auto, unfolding(crate::specs::Reading::pdu_at))]
-fn pdu(alloc: Global, app: AppForm, octets: &[u8]) -> Result<Pdu, ReadErr>
-    ensures { Gives (λ pdu. pdu) result (pdu_at app octets.now) }
+fn pdu(alloc: Global, form: AppForm, octets: &[u8]) -> Result<Pdu, ReadErr>
+    ensures { Gives (λ pdu. pdu) result (pdu_at form octets.now) }
 {
     let (version, rest) = version(octets)?;
     first_type(rest)?;
-    let found = messages(alloc, app, rest)?;
+    let found = messages(alloc, form, rest)?;
     let messages = Seq::from_vec(found);
     Ok(Pdu { version, messages })
 }
 
 /// The PDU that the octets spell (IEEE Std 802.1Q-2018, 10.8). Any version is read, octets behind the
 /// PDU's EndMark aren't read, EndMarks at the end of the octets may be missing, and Messages of types
-/// that the application doesn't know are passed over.
+/// that the application doesn't know are passed over. There are fewer than 2^32 octets.
 ///
 /// # Errors
 ///
 /// `Malformed` carries the offset, in octets from 0, of the first field that breaks its rule or that the
-/// octets are too short for.
+/// octets are too short for. `NoMemory` comes where memory for the PDU runs out.
 pub fn decode(alloc: Global, form: AppForm, octets: &[u8]) -> Result<Pdu, DecodeErr>
     requires { length octets.now < 2 ^ 32 }
-
-    // It answers what the octets say.
-    ensures exact { Answers result (reading form octets.now) }
 
     // What it answers holds.
     ensures spelled { (pdu : Pdu) → result ≡ Ok pdu → Spells form octets.now pdu }
     ensures broken { (place : ℕ) → result ≡ Err (DecodeErr.Malformed place) → Breaks form octets.now place }
 
-    // It answers all that holds, unless memory runs out.
-    ensures all_spelled { (pdu : Pdu) → Spells form octets.now pdu → (result ≡ Ok pdu) ⊎ (result ≡ Err DecodeErr.NoMemory) }
-    ensures all_broken { (place : ℕ) → Breaks form octets.now place → (result ≡ Err (DecodeErr.Malformed place)) ⊎ (result ≡ Err DecodeErr.NoMemory) }
+    // Want of memory alone is free: else the answer is the reading, which the law `reading_is_the_grammar`
+    // says is each PDU that the octets spell and each place where they break.
+    ensures exact { Answers result (reading form octets.now) }
+
+    // Each Message has a type that the application knows, and vectors of the type's form.
+    ensures formed { IfOk result (λ pdu. IsTrue (list_all (has_form form) pdu.messages)) }
 {
     match pdu(alloc, form, octets) {
         Ok(pdu) => Ok(pdu),

@@ -1,6 +1,6 @@
 //! A PDU written as octets.
 
-ghost use Rattle.std.specs.Prelude.{◌≡◌, ◌++◌, ◌∷◌, [], ◌≤◌, ◌<◌, ◌+◌, ◌^◌, length, map, nat_le, IsTrue, IfOk, OnOk, OnErr, Ok};
+ghost use Rattle.std.specs.Prelude.{◌≡◌, ◌++◌, ◌∷◌, [], ◌≤◌, ◌<◌, ◌+◌, ◌^◌, length, drop, map, nat_le, IsTrue, IfOk, OnOk, OnErr, Ok};
 ghost use Rattle.mrpdu_codec.specs.Reading.{reading};
 ghost use Rattle.std.specs.List.{list_all, AllByRecursion};
 ghost use Rattle.mrpdu_codec.specs.declared.form.AppForm.{AppForm};
@@ -9,8 +9,8 @@ ghost use Rattle.mrpdu_codec.specs.Types.{row_of};
 ghost use Rattle.mrpdu_codec.specs.Grammar.{Spells};
 ghost use Rattle.srp_base.specs.declared.mrp.MrpEvent.TheVariants.{New};
 ghost use Rattle.mrpdu_codec.specs.Octets.{number_of};
-ghost use Rattle.mrpdu_codec.specs.Tree.{vector_octets, vectors_octets, block_octets, blocks_octets};
-ghost use Rattle.mrpdu_codec.specs.Canonical.{two_octets, three, pack_events, four, pack_params, vector_for, vectors_for, block_for, spelling, well_formed, message_fits, header_for, vectors_for, list_length_for, list_fits, length_for, CanPut};
+ghost use Rattle.mrpdu_codec.specs.Tree.{vector_octets, vectors_octets, message_octets, messages_octets};
+ghost use Rattle.mrpdu_codec.specs.Canonical.{two_octets, three, pack_events, four, pack_params, vector_for, vectors_for, message_for, spelling, well_formed, message_fits, header_for, list_length_for, list_fits, length_for, CanPut};
 
 use crate::form::AppForm;
 use crate::pdu::{Message, Pdu, VectorAttr};
@@ -176,7 +176,7 @@ fn length_for(form: AppForm, message: &Message) -> u8
 /// Writes a Message.
 fn put_message(out: &mut Vec<u8>, form: AppForm, message: &Message) -> Result<(), AllocError>
     requires { IsTrue (message_fits form message.now) }
-    ensures { OnOk result (out.new.items ≡ out.old.items ++ block_octets (block_for form message.now)) }
+    ensures { OnOk result (out.new.items ≡ out.old.items ++ message_octets (message_for form message.now)) }
 {
     out.push(message.kind)?;
     out.push(length_for(form, message))?;
@@ -189,7 +189,7 @@ fn put_message(out: &mut Vec<u8>, form: AppForm, message: &Message) -> Result<()
 /// Writes Messages.
 fn put_messages(out: &mut Vec<u8>, form: AppForm, messages: &[Message]) -> Result<(), AllocError>
     requires { IsTrue (list_all (message_fits form) messages.now) }
-    ensures { OnOk result (out.new.items ≡ out.old.items ++ blocks_octets (map (block_for form) messages.now)) }
+    ensures { OnOk result (out.new.items ≡ out.old.items ++ messages_octets (map (message_for form) messages.now)) }
 {
     for message in messages {
         put_message(out, form, message)?;
@@ -210,23 +210,28 @@ fn written(alloc: Global, form: AppForm, pdu: &Pdu) -> Result<Vec<u8>, AllocErro
 }
 
 /// Writes a PDU at the end of `out`, in its one canonical spelling: with every EndMark, and with 0 in the
-/// places past the last value of a vector (IEEE Std 802.1Q-2018, 10.8.1.2). `well_formed` tests the
-/// condition. After want of memory `out` is as it was.
-#[tactic(auto, using(crate::proofs::Reread::reread))]
+/// places past the last value of a vector (IEEE Std 802.1Q-2018, 10.8.1.2). The PDU is `well_formed`. The
+/// octets are `size_of` many.
+///
+/// # Errors
+///
+/// `NoMemory` where memory for the octets runs out; `out` is then as it was.
+#[tactic(auto, using(crate::proofs::RoundTrip::spells_behind))]
 pub fn encode(form: AppForm, pdu: &Pdu, out: &mut Vec<u8>) -> Result<(), NoMemory>
-    requires { IsTrue (well_formed form pdu.now) }
+    requires well_formed { IsTrue (well_formed form pdu.now) }
     ensures ok { OnOk result (out.new.items ≡ out.old.items ++ spelling form pdu.now) }
     ensures err { OnErr result (out.new.items ≡ out.old.items) }
 
-    // What was written reads as the PDU.
-    ensures read_back { reading form (spelling form pdu.now) ≡ Ok pdu.now }
+    // What now stands behind the old octets spells the PDU.
+    ensures spelled { OnOk result (Spells form (drop (length out.old.items) out.new.items) pdu.now) }
 {
     let octets = written(*out.allocator(), form, pdu)?;
     out.extend_from_slice(&octets)?;
     Ok(())
 }
 
-/// The round trip: the octets in which a PDU is written spell that PDU, and so they spell no other.
+/// The round trip: the octets in which a PDU is written spell that PDU, and are read as it.
 pub fn written_is_read()
-    ensures { (form : AppForm) (pdu : Pdu) → IsTrue (well_formed form pdu) → Spells form (spelling form pdu) pdu }
+    ensures spelled { (form : AppForm) (pdu : Pdu) → IsTrue (well_formed form pdu) → Spells form (spelling form pdu) pdu }
+    ensures read { (form : AppForm) (pdu : Pdu) → IsTrue (well_formed form pdu) → reading form (spelling form pdu) ≡ Ok pdu }
 {}

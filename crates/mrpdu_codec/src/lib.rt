@@ -20,19 +20,21 @@
 //! which PDU (`Spells`) and where others break (`Breaks`). `decode` answers the PDU that the octets spell,
 //! or the place where they break, and `one_reading` is the law that all octets have exactly one of the two.
 //! `Reading` is the same as a function, which `reading_is_the_grammar` ties to the grammar. `Canonical` has
-//! the spelling in which a PDU is written; that it spells the PDU is the law `written_is_read`.
+//! the spelling in which a PDU is written; that it spells the PDU is the law `written_is_read`, and how long
+//! it is the law `written_size`. `Shape` says what each PDU that was read looks like, and whether it has
+//! LeaveAll.
 //!
 //! The code reads in one pass: a reader answers a value and the octets after it, or how many octets are
-//! left from the first field on that breaks (`raw` a vector's fields, `vectors` lists of vectors, `blocks`
+//! left from the first field on that breaks (`raw` a vector's fields, `vectors` lists of vectors, `messages`
 //! Messages, `decoding` the PDU and the place). Messages of unknown types are passed over without memory.
 #![tactic(auto)]
 
-mod blocks;
 mod decoding;
 mod encoding;
-pub mod error;
-pub mod form;
-pub mod pdu;
+mod error;
+mod form;
+mod messages;
+mod pdu;
 mod raw;
 mod vectors;
 mod writable;
@@ -42,7 +44,7 @@ pub use encoding::{encode, written_is_read};
 pub use error::DecodeErr;
 pub use form::{AppForm, TypeForm};
 pub use pdu::{Message, Pdu, VectorAttr};
-pub use writable::{size_of, well_formed};
+pub use writable::{size_of, well_formed, written_size};
 
 #[cfg(test)]
 mod tests;

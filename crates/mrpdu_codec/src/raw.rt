@@ -3,8 +3,9 @@
 ghost use Rattle.std.specs.Prelude.{◌≡◌, ◌+◌, ◌*◌, ◌/◌, ◌%◌, ◌<◌};
 ghost use Rattle.mrpdu_codec.specs.Octets.{number, thirds, quarters};
 ghost use Rattle.mrpdu_codec.specs.Tree.{packed_limit, leave_all_limit, fours_for, header_fits};
-ghost use Rattle.mrpdu_codec.specs.Reading.{Gives, run_at, header_at, first_at, vector_at, ends_list};
-ghost use Rattle.mrpdu_codec.specs.Raw.{raw_of};
+ghost use Rattle.mrpdu_codec.specs.Workers.{Gives};
+ghost use Rattle.mrpdu_codec.specs.Reading.{run_at, header_at, first_at, vector_at, ends_list};
+ghost use Rattle.mrpdu_codec.specs.Workers.{raw_of};
 
 use crate::error::ReadErr;
 use crate::form::TypeForm;
@@ -15,8 +16,8 @@ pub(crate) struct RawVector<'a> {
     pub(crate) high: u8,
     pub(crate) low: u8,
     pub(crate) first: &'a [u8],
-    pub(crate) packed: &'a [u8],
-    pub(crate) fours: &'a [u8],
+    pub(crate) three_packed: &'a [u8],
+    pub(crate) four_packed: &'a [u8],
 }
 
 /// The number in two octets, the high one first.
@@ -31,6 +32,20 @@ pub(crate) fn count(high: u8, low: u8) -> usize
     ensures { result ≡ number high low % 8192 }
 {
     usize::from(number(high, low) % 8192)
+}
+
+/// How many octets n values take where an octet holds 3.
+pub(crate) fn thirds(n: usize) -> usize
+    ensures { result ≡ thirds n }
+{
+    n.div_ceil(3)
+}
+
+/// How many octets n values take where an octet holds 4.
+pub(crate) fn quarters(n: usize) -> usize
+    ensures { result ≡ quarters n }
+{
+    n.div_ceil(4)
 }
 
 /// The greatest LeaveAllEvent that a type allows.
@@ -55,11 +70,10 @@ fn packed_limit(row: Option<TypeForm>) -> u8
 
 /// How many FourPackedEvents n values take.
 fn fours_for(row: Option<TypeForm>, n: usize) -> usize
-    requires { n < 8192 }
     ensures { result ≡ fours_for row n }
 {
     match row {
-        Some(form) => { if form.four_packed { (n + 3) / 4 } else { 0 } }
+        Some(row) => { if row.four_packed { quarters(n) } else { 0 } }
         None => 0,
     }
 }
@@ -120,14 +134,14 @@ pub(crate) fn raw_vector(
     let (high, low, rest) = header(octets, row)?;
     let n = count(high, low);
     let (first, rest) = first(rest, usize::from(len))?;
-    let (packed, rest) = run(rest, packed_limit(row), (n + 2) / 3)?;
-    let (fours, rest) = run(rest, 255, fours_for(row, n))?;
+    let (three_packed, rest) = run(rest, packed_limit(row), thirds(n))?;
+    let (four_packed, rest) = run(rest, 255, fours_for(row, n))?;
     let raw = RawVector {
         high,
         low,
         first,
-        packed,
-        fours,
+        three_packed,
+        four_packed,
     };
     Ok((raw, rest))
 }

@@ -19,6 +19,38 @@ fn place(
     }
 }
 
+/// A vector.
+fn vector(
+    alloc: Global,
+    leave_all: bool,
+    first: &[u8],
+    events: &[MrpEvent],
+    params: &[u8],
+) -> Result<VectorAttr, Fail> {
+    Ok(VectorAttr {
+        leave_all,
+        first: Seq::from_vec(first.to_vec(alloc)?),
+        events: Seq::from_vec(events.to_vec(alloc)?),
+        params: Seq::from_vec(params.to_vec(alloc)?),
+    })
+}
+
+/// A PDU of these Messages.
+fn pdu_of(messages: Vec<Message>) -> Pdu {
+    Pdu {
+        version: 0,
+        messages: Seq::from_vec(messages),
+    }
+}
+
+/// A Message of these vectors.
+fn message_of(kind: u8, vectors: Vec<VectorAttr>) -> Message {
+    Message {
+        kind,
+        vectors: Seq::from_vec(vectors),
+    }
+}
+
 /// A PDU of one Message with one vector.
 fn one_vector(
     alloc: Global,
@@ -29,21 +61,10 @@ fn one_vector(
     params: &[u8],
 ) -> Result<Pdu, Fail> {
     let mut vectors = Vec::new(alloc);
-    vectors.push(VectorAttr {
-        leave_all,
-        first: Seq::from_vec(first.to_vec(alloc)?),
-        events: Seq::from_vec(events.to_vec(alloc)?),
-        params: Seq::from_vec(params.to_vec(alloc)?),
-    })?;
+    vectors.push(vector(alloc, leave_all, first, events, params)?)?;
     let mut messages = Vec::new(alloc);
-    messages.push(Message {
-        kind,
-        vectors: Seq::from_vec(vectors),
-    })?;
-    Ok(Pdu {
-        version: 0,
-        messages: Seq::from_vec(messages),
-    })
+    messages.push(message_of(kind, vectors))?;
+    Ok(pdu_of(messages))
 }
 
 const VID: [u8; 12] = [0, 1, 2, 0, 1, 0, 2, 0x6c, 0, 0, 0, 0];
@@ -240,5 +261,56 @@ fn a_pdu_that_cannot_be_written(rt: HostRuntime) -> Result<(), Fail> {
     assert!(rt; !well_formed(AppForm::Mmrp, &vid));
     let empty = one_vector(alloc, 1, false, &[0, 2], &[], &[])?;
     assert!(rt; !well_formed(AppForm::Mvrp, &empty));
+    Ok(())
+}
+
+const TWO_VECTORS: [u8; 17] = [0, 1, 2, 0x20, 1, 0, 5, 0x6c, 0, 2, 0, 9, 0x7e, 0, 0, 0, 0];
+
+const TWO_MESSAGES: [u8; 22] = [
+    0, 1, 1, 0, 1, 1, 0x24, 0, 0, 2, 6, 0, 1, 1, 0x80, 0xc2, 0, 0, 0x21, 0x6c, 0, 0,
+];
+
+#[test]
+fn two_vectors_and_two_messages(rt: HostRuntime) -> Result<(), Fail> {
+    let alloc = rt.alloc();
+    let mut vectors = Vec::new(alloc);
+    vectors.push(vector(alloc, true, &[0, 5], &[MrpEvent::JoinMt], &[])?)?;
+    vectors.push(vector(
+        alloc,
+        false,
+        &[0, 9],
+        &[MrpEvent::JoinMt, MrpEvent::JoinMt],
+        &[],
+    )?)?;
+    let mut messages = Vec::new(alloc);
+    messages.push(message_of(1, vectors))?;
+    let two = pdu_of(messages);
+    assert!(rt; two.has_leave_all() && well_formed(AppForm::Mvrp, &two));
+    assert_eq!(rt; &decode(alloc, AppForm::Mvrp, &TWO_VECTORS)?, &two);
+    let mut out = Vec::new(alloc);
+    encode(AppForm::Mvrp, &two, &mut out)?;
+    assert_eq!(rt; out.as_slice(), &TWO_VECTORS[..]);
+    let mut service = Vec::new(alloc);
+    service.push(vector(alloc, false, &[1], &[MrpEvent::JoinIn], &[])?)?;
+    let mut mac = Vec::new(alloc);
+    mac.push(vector(
+        alloc,
+        false,
+        &[1, 0x80, 0xc2, 0, 0, 0x21],
+        &[MrpEvent::JoinMt],
+        &[],
+    )?)?;
+    let mut messages = Vec::new(alloc);
+    messages.push(message_of(1, service))?;
+    messages.push(message_of(2, mac))?;
+    let two = pdu_of(messages);
+    assert!(rt; !two.has_leave_all() && well_formed(AppForm::Mmrp, &two));
+    assert_eq!(rt; &decode(alloc, AppForm::Mmrp, &TWO_MESSAGES)?, &two);
+    let mut out = Vec::new(alloc);
+    encode(AppForm::Mmrp, &two, &mut out)?;
+    assert_eq!(rt;
+        out.as_slice(),
+        [&TWO_MESSAGES[..], &[0, 0]].concat(alloc)?.as_slice()
+    );
     Ok(())
 }

@@ -4,8 +4,9 @@ ghost use Rattle.std.specs.Prelude.{◌≡◌, ◌≤◌, ◌++◌, ◌∷◌, [
 ghost use Rattle.std.specs.List.{flat_map};
 ghost use Rattle.mrpdu_codec.specs.Octets.{event_of, three_events, four_params};
 ghost use Rattle.mrpdu_codec.specs.Tree.{attr_of};
-ghost use Rattle.mrpdu_codec.specs.Raw.{raw_of};
-ghost use Rattle.mrpdu_codec.specs.Reading.{Gives, vectors_of, mark_at, list_at, rest_of};
+ghost use Rattle.mrpdu_codec.specs.Workers.{raw_of};
+ghost use Rattle.mrpdu_codec.specs.Workers.{Gives};
+ghost use Rattle.mrpdu_codec.specs.Reading.{vectors_of, mark_at, list_at, rest_of};
 
 use crate::error::ReadErr;
 use crate::form::TypeForm;
@@ -80,7 +81,7 @@ fn events_of(alloc: Global, packed: &[u8], n: usize) -> Result<Vec<MrpEvent>, Al
 fn params_of(alloc: Global, fours: &[u8], n: usize) -> Result<Vec<u8>, AllocError>
     ensures { IfOk result (λ v. v.items ≡ take n (flat_map four_params fours.now)) }
 {
-    let mut params = Vec::new(alloc);
+    let mut params = Vec::with_capacity(alloc, n.min(fours.len().saturating_mul(4)))?;
     for octet in fours {
         push_params(&mut params, n, *octet)?;
     }
@@ -93,8 +94,8 @@ fn attr_of(alloc: Global, raw: &RawVector<'_>) -> Result<VectorAttr, AllocError>
 {
     let n = count(raw.high, raw.low);
     let first = Vec::from_slice(alloc, raw.first)?;
-    let events = events_of(alloc, raw.packed, n)?;
-    let params = params_of(alloc, raw.fours, n)?;
+    let events = events_of(alloc, raw.three_packed, n)?;
+    let params = params_of(alloc, raw.four_packed, n)?;
     Ok(VectorAttr {
         leave_all: 0 < number(raw.high, raw.low) / 8192,
         first: Seq::from_vec(first),

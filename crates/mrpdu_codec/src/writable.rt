@@ -2,29 +2,18 @@
 
 ghost use Rattle.std.specs.Prelude.{◌≡◌, ◌+◌, ◌-◌, ◌^◌, ◌&&◌, min, map, length, nat_le, Some};
 ghost use Rattle.std.specs.List.{list_all, flat_map};
-ghost use Rattle.mrpdu_codec.specs.Octets.{thirds, quarters};
-ghost use Rattle.mrpdu_codec.specs.Tree.{vector_octets, vectors_octets, block_octets, blocks_octets};
-ghost use Rattle.mrpdu_codec.specs.Canonical.{vector_for, vectors_for, block_for, spelling, params_fit, vector_fits, list_fits, known_fits, message_fits, well_formed};
+ghost use Rattle.mrpdu_codec.specs.declared.form.AppForm.{AppForm};
+ghost use Rattle.mrpdu_codec.specs.declared.pdu.Pdu.{Pdu};
+ghost use Rattle.mrpdu_codec.specs.Tree.{vector_octets, vectors_octets, message_octets, messages_octets};
+ghost use Rattle.mrpdu_codec.specs.Canonical.{vector_for, vectors_for, message_for, spelling, list_fits, message_fits, pdu_size, well_formed};
+ghost use Rattle.mrpdu_codec.specs.Shape.{params_fit, vector_fits, vectors_fit, has_form};
 
 use crate::form::{AppForm, TypeForm};
 use crate::pdu::{Message, Pdu, VectorAttr};
+use crate::raw::{quarters, thirds};
 
-/// How many octets n values take where an octet holds 3.
-fn thirds(n: usize) -> usize
-    ensures { result ≡ thirds n }
-{
-    n.div_ceil(3)
-}
-
-/// How many octets n values take where an octet holds 4.
-fn quarters(n: usize) -> usize
-    ensures { result ≡ quarters n }
-{
-    n.div_ceil(4)
-}
-
-#[tactic(auto, using(crate::proofs::Sizes::vector_length))]
 /// The octets of a vector, or the greatest usize where they are more.
+#[tactic(auto, using(crate::proofs::Sizes::vector_length))]
 fn vector_size(v: &VectorAttr) -> usize
     ensures { result ≡ min (length (vector_octets (vector_for v.now))) (2 ^ 64 - 1) }
 {
@@ -47,7 +36,7 @@ pub(crate) fn vectors_size(vs: &[VectorAttr]) -> usize
 
 /// The octets of a Message: with its EndMark 4 beside the vectors, and in MSRP 2 more.
 fn message_size(form: AppForm, message: &Message) -> usize
-    ensures { result ≡ min (length (block_octets (block_for form message.now))) (2 ^ 64 - 1) }
+    ensures { result ≡ min (length (message_octets (message_for form message.now))) (2 ^ 64 - 1) }
 {
     let vectors = vectors_size(message.vectors.as_slice());
     match form {
@@ -59,7 +48,7 @@ fn message_size(form: AppForm, message: &Message) -> usize
 
 /// The octets of Messages, or the greatest usize where they are more.
 fn messages_size(form: AppForm, messages: &[Message]) -> usize
-    ensures { result ≡ min (length (blocks_octets (map (block_for form) messages.now))) (2 ^ 64 - 1) }
+    ensures { result ≡ min (length (messages_octets (map (message_for form) messages.now))) (2 ^ 64 - 1) }
 {
     let mut size = 0usize;
     for message in messages {
@@ -83,10 +72,10 @@ fn are_params(params: &[u8]) -> bool
 }
 
 /// A parameter from 0 to 3 for each event of a four-packed type, and else none.
-fn params_fit(form: TypeForm, v: &VectorAttr) -> bool
-    ensures { result ≡ params_fit form v.now }
+fn params_fit(row: TypeForm, v: &VectorAttr) -> bool
+    ensures { result ≡ params_fit row v.now }
 {
-    if !form.four_packed {
+    if !row.four_packed {
         return v.params.len() == 0;
     }
     let small = are_params(v.params.as_slice());
@@ -94,12 +83,29 @@ fn params_fit(form: TypeForm, v: &VectorAttr) -> bool
 }
 
 /// A FirstValue of the type's length, and a LeaveAll or an event, and at most 8,191 events.
-fn vector_fits(form: TypeForm, v: &VectorAttr) -> bool
-    ensures { result ≡ vector_fits form v.now }
+fn vector_fits(row: TypeForm, v: &VectorAttr) -> bool
+    ensures { result ≡ vector_fits row v.now }
 {
-    let params = params_fit(form, v);
+    let params = params_fit(row, v);
     let n = v.events.len();
-    v.first.len() == usize::from(form.length) && (v.leave_all || 0 < n) && n <= 8191 && params
+    v.first.len() == usize::from(row.length) && (v.leave_all || 0 < n) && n <= 8191 && params
+}
+
+/// The vectors of a Message of a known type.
+fn vectors_fit(row: TypeForm, vs: &[VectorAttr]) -> bool
+    ensures { result ≡ vectors_fit (Some row) vs.now }
+{
+    vs.iter().all(|v| vector_fits(row, v))
+}
+
+/// A Message of a known type whose vectors fit it.
+fn has_form(form: AppForm, message: &Message) -> bool
+    ensures { result ≡ has_form form message.now }
+{
+    match form.known(message.kind) {
+        None => false,
+        Some(row) => vectors_fit(row, message.vectors.as_slice()),
+    }
 }
 
 /// Vectors that fit in a list whose AttributeListLength has two octets.
@@ -113,30 +119,16 @@ fn list_fits(form: AppForm, vs: &[VectorAttr]) -> bool
     }
 }
 
-fn vectors_fit(row: TypeForm, vs: &[VectorAttr]) -> bool
-    ensures { result ≡ list_all (vector_fits row) vs.now }
-{
-    vs.iter().all(|v| vector_fits(row, v))
-}
-
-/// A Message of a known type.
-fn known_fits(form: AppForm, row: TypeForm, message: &Message) -> bool
-    ensures { result ≡ known_fits form (Some row) message.now }
-{
-    let each = vectors_fit(row, message.vectors.as_slice());
-    let list = list_fits(form, message.vectors.as_slice());
-    each && list
-}
-
+/// A Message that can be written.
 fn message_fits(form: AppForm, message: &Message) -> bool
     ensures { result ≡ message_fits form message.now }
 {
-    match form.known(message.kind) {
-        None => false,
-        Some(row) => known_fits(form, row, message),
-    }
+    let known = has_form(form, message);
+    let list = list_fits(form, message.vectors.as_slice());
+    known && list
 }
 
+/// Messages that can be written.
 fn messages_fit(form: AppForm, messages: &[Message]) -> bool
     ensures { result ≡ list_all (message_fits form) messages.now }
 {
@@ -147,8 +139,13 @@ fn messages_fit(form: AppForm, messages: &[Message]) -> bool
 /// FirstValue has the type's length, each vector has a LeaveAll or an event and at most 8,191 events,
 /// the parameters fit the type, and a list of MSRP has at most 65,535 octets with its EndMark.
 pub fn well_formed(form: AppForm, pdu: &Pdu) -> bool
-    ensures { result ≡ well_formed form pdu.now }
+    ensures exact { result ≡ well_formed form pdu.now }
 {
     let each = messages_fit(form, pdu.messages.as_slice());
     pdu.version == 0 && 0 < pdu.messages.len() && each
 }
+
+/// The law of the lengths: how many octets `encode` writes, from the numbers of events and parameters.
+pub fn written_size()
+    ensures { (form : AppForm) (pdu : Pdu) → length (spelling form pdu) ≡ pdu_size form pdu }
+{}

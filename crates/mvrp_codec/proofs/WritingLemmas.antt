@@ -3,18 +3,20 @@ use Rattle.std.proofs.Common.{◌≡◌, ℕ, suc, ◌+◌, ◌*◌, ◌/◌, �
 use Rattle.std.specs.List.{flat_map, list_any, list_all, AllByRecursion}
 use Rattle.std.proofs.lemmas.Bool.{cases_Bool, and_from, eqb-true, le-leb, lt-ltb}
 use Rattle.std.proofs.lemmas.List.{append-nil, length-map}
+use Rattle.std.proofs.lemmas.List.Sums.{sum_by-cons}
 use Rattle.srp_base.specs.declared.mrp.MrpEvent.{MrpEvent}
 use Rattle.mrpdu_codec.specs.declared.form.AppForm.TheVariants.{Mvrp}
 use Rattle.mrpdu_codec.specs.declared.form.TypeForm.{TypeForm}
 use Rattle.mrpdu_codec.specs.declared.pdu.VectorAttr.{VectorAttr}
 use Rattle.mrpdu_codec.specs.declared.pdu.Pdu.{Pdu}
 use Rattle.mrpdu_codec.specs.Octets.{number}
-use Rattle.mrpdu_codec.specs.Tree.{vector_octets, vectors_octets}
-use Rattle.mrpdu_codec.specs.Canonical.{pack_events, vector_for, vectors_for, vector_fits, well_formed, spelling}
+use Rattle.mrpdu_codec.specs.Shape.{vector_fits}
+use Rattle.mrpdu_codec.specs.Canonical.{well_formed, spelling, vector_size, vectors_size, pdu_size}
 use Rattle.mrpdu_codec.specs.Reading.{reading}
 use Rattle.mvrp_codec.specs.declared.pdu.MvrpPdu.{MvrpPdu}
 use Rattle.mvrp_codec.specs.Meaning.{event_at, events_from, vector_events, meaning, read_as, mvrp_reading}
-use Rattle.mvrp_codec.specs.Writing.{join, runs, run_vector, run_vectors, one_message, pdu_for, mvrp_spelling, IsWritable, AreVids}
+use Rattle.mvrp_codec.specs.Writing.{join, runs, run_vector, run_vectors, one_message, pdu_for, mvrp_spelling, IsWritable, AreVids, joined}
+use Rattle.mvrp_codec.proofs.MaximalRuns.{runs_joined}
 
 -- ---- the events
 
@@ -146,65 +148,27 @@ is_well_formed read w =
 
 -- ---- how many octets
 
-packed_few : (events : List MrpEvent) → length (pack_events events) ≤ length events
-packed_few [] = omega arith
-packed_few (a ∷ []) = omega arith
-packed_few (a ∷ b ∷ []) = omega arith
-packed_few (a ∷ b ∷ c ∷ events) = omega (arith, packed_few events)
-
 -- a vector has at most 4 octets, and one for each event
-run_octets : (leave : Bool) (r : List (MrpEvent × ℕ)) → length (vector_octets (vector_for (run_vector leave r))) ≤ 4 + length r
-run_octets leave [] = omega arith
-run_octets leave (x ∷ xs) =
-    let es = map (λ y. y.0) (x ∷ xs) in
-    omega (arith, length-append (pack_events es) [], packed_few es, length-map (x ∷ xs) (λ y. y.0))
+run_size : (leave : Bool) (r : List (MrpEvent × ℕ)) → vector_size (run_vector leave r) ≤ 4 + length r
+run_size leave [] = omega arith
+run_size leave (x ∷ xs) = omega (arith, length-map (x ∷ xs) (λ y. y.0))
 
 -- 5 octets for each event are enough
-abbrev octets_of : List (List (MrpEvent × ℕ)) → ℕ
-octets_of rs = length (vectors_octets (vectors_for (map (run_vector false) rs)))
+runs_size : (n : ℕ) (rs : List (List (MrpEvent × ℕ))) → AreSmall n rs → vectors_size (map (run_vector false) rs) ≤ 5 * length (joined rs)
+runs_size n [] h = omega arith
+runs_size n (r ∷ rs) h =
+    omega (arith, sum_by-cons vector_size (run_vector false r) (map (run_vector false) rs), length-append r (joined rs), run_size false r, runs_size n rs h.1, h.0.0)
 
-few_octets : (rs : List (List (MrpEvent × ℕ))) → AllByRecursion (λ r. 0 < length r) rs → octets_of rs ≤ 5 * length (flat_map (λ r. r) rs)
-few_octets [] h = omega arith
-few_octets (r ∷ rs) h =
-    omega (arith, length-append (vector_octets (vector_for (run_vector false r))) (vectors_octets (vectors_for (map (run_vector false) rs))), length-append r (flat_map (λ q. q) rs), run_octets false r, few_octets rs h.1, h.0)
+leave_size : (leave : Bool) (rs : List (List (MrpEvent × ℕ))) → vectors_size (run_vectors leave rs) ≤ vectors_size (map (run_vector false) rs) + 4
+leave_size true [] = omega arith
+leave_size false [] = omega arith
+leave_size true (r ∷ rs) = omega arith
+leave_size false (r ∷ rs) = omega arith
 
-join_flat : (x : MrpEvent × ℕ) (rs : List (List (MrpEvent × ℕ))) → flat_map (λ r. r) (join x rs) ≡ x ∷ flat_map (λ r. r) rs
-join_flat x [] = refl
-join_flat x ([] ∷ others) = refl
-join_flat x ((y ∷ ys) ∷ others) =
-    elim (cases_Bool (eqb (x.1 + 1) y.1)) [
-      | inl follows ↦ rw follows refl
-      | inr apart ↦ rw apart refl
-    ]
-
-runs_flat : (events : List (MrpEvent × ℕ)) → flat_map (λ r. r) (runs events) ≡ events
-runs_flat [] = refl
-runs_flat (x ∷ xs) = join_flat x (runs xs) ∙ ap (λ (ys : List (MrpEvent × ℕ)). x ∷ ys) (runs_flat xs)
-
-some_each : (n : ℕ) (rs : List (List (MrpEvent × ℕ))) → AreSmall n rs → AllByRecursion (λ r. 0 < length r) rs
-some_each n [] h = tt
-some_each n (r ∷ rs) h = (h.0.0, some_each n rs h.1)
-
-leave_octets : (leave : Bool) (rs : List (List (MrpEvent × ℕ))) → length (vectors_octets (vectors_for (run_vectors leave rs))) ≤ octets_of rs + 4
-leave_octets true [] = omega arith
-leave_octets false [] = omega arith
-leave_octets true (r ∷ rs) = omega arith
-leave_octets false (r ∷ rs) = omega arith
-
-pub few_in_all : (read : MvrpPdu) → IsWritable read → length (mvrp_spelling read) ≤ 1500
-few_in_all read w =
+pub few_in_all : (read : MvrpPdu) → IsWritable read → length (mvrp_spelling read) ≡ pdu_size Mvrp (pdu_for read) → length (mvrp_spelling read) ≤ 1500
+few_in_all read w size =
     let rs = runs read.events in
-    let vectors = vectors_octets (vectors_for (run_vectors read.leave_all rs)) in
-    omega (
-      arith,
-      w.few,
-      length-append vectors (0 ∷ 0 ∷ []),
-      length-append (vectors ++ 0 ∷ 0 ∷ []) [],
-      length-append ((vectors ++ 0 ∷ 0 ∷ []) ++ []) (0 ∷ 0 ∷ []),
-      leave_octets read.leave_all rs,
-      few_octets rs (some_each (length read.events) rs (runs_small read.events)),
-      ap length (runs_flat read.events),
-    )
+    omega (arith, size, w.few, leave_size read.leave_all rs, runs_size (length read.events) rs (runs_small read.events), ap length (runs_joined read.events))
 
 -- ---- what `encode` makes
 

@@ -39,6 +39,7 @@ run_vectors leave (run ∷ others) = run_vector leave run ∷ map (run_vector fa
 abbrev pub one_message : List VectorAttr → Pdu
 one_message vs = record { version = 0; messages = record { kind = 1; vectors = vs } ∷ [] }
 
+-- the PDU of a LeaveAll and events
 abbrev pub pdu_for : MvrpPdu → Pdu
 pdu_for read = one_message (run_vectors read.leave_all (runs read.events))
 
@@ -77,6 +78,7 @@ EndsBefore (x ∷ []) ([] ∷ others) = ⊥
 EndsBefore (x ∷ []) ((y ∷ ys) ∷ others) = x.1 + 1 ≢ y.1
 EndsBefore (x ∷ y ∷ ys) others = EndsBefore (y ∷ ys) others
 
+-- runs of which none goes on in the next
 abbrev pub AreMaximal : List (List (MrpEvent × ℕ)) → Type 0
 AreMaximal [] = Unit {0}
 AreMaximal (run ∷ others) = IsRun run × EndsBefore run others × AreMaximal others

@@ -8,7 +8,7 @@
 //! encode  the octets again: each maximal run of consecutive VIDs is one vector
 //! ```
 //!
-//! A MRPDU has LeaveAll where any vector of a known type has it. Its events are those of the vectors in the
+//! An MRPDU has LeaveAll where any vector of a known type has it. Its events are those of the vectors in the
 //! order of the octets; the values of a vector are consecutive VIDs, and VIDs outside 1 to 4,094 give none.
 //!
 //! `specs/Meaning` says what a PDU of `mrpdu_codec` means here (`meaning`), and what octets say: `Reads`

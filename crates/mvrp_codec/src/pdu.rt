@@ -2,7 +2,7 @@
 
 use srp_base::{MrpEvent, Seq, Vid};
 
-/// What a MRPDU of MVRP says.
+/// What an MRPDU of MVRP says.
 #[derive(Clone, Debug, PartialEq, Eq, Drop)]
 pub struct MvrpPdu {
     /// Whether any vector has a LeaveAll, which counts for all VIDs and acts before all events.

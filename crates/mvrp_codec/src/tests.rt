@@ -29,6 +29,8 @@ const LEAVE_ALL: [u8; 11] = [0, 1, 2, 0x20, 0, 0, 0, 0, 0, 0, 0];
 
 const BOTH: [u8; 12] = [0, 1, 2, 0x20, 1, 0, 5, 0x6c, 0, 0, 0, 0];
 
+const TWO_RUNS: [u8; 17] = [0, 1, 2, 0x20, 1, 0, 5, 0x6c, 0, 2, 0, 9, 0x7e, 0, 0, 0, 0];
+
 const SKIPPED: [u8; 20] = [
     0, 9, 1, 0, 1, 5, 0x6c, 0, 0, 1, 2, 0, 1, 0, 2, 0x6c, 0, 0, 0, 0,
 ];
@@ -52,11 +54,21 @@ fn read_and_written(rt: HostRuntime) -> Result<(), Fail> {
     assert_eq!(rt; decode(alloc, &[0, 1, 2, 0, 2, 0, 0, 0x7e])?, first);
     let last = said(alloc, false, MrpEvent::JoinMt, 4094, 4095)?;
     assert_eq!(rt; decode(alloc, &[0, 1, 2, 0, 2, 0x0f, 0xfe, 0x7e])?, last);
-    let cases: [(&MvrpPdu, &[u8]); 4] = [
+    let mut events = Vec::new(alloc);
+    for number in [5, 9, 10] {
+        events.push((MrpEvent::JoinMt, Vid::new(number).ok_or("a VID")?))?;
+    }
+    let two_runs = MvrpPdu {
+        leave_all: true,
+        events: Seq::from_vec(events),
+    };
+    assert_eq!(rt; decode(alloc, &TWO_RUNS)?, two_runs);
+    let cases: [(&MvrpPdu, &[u8]); 5] = [
         (&one, &ONE),
         (&four, &FOUR),
         (&leave_all, &LEAVE_ALL),
         (&both, &BOTH),
+        (&two_runs, &TWO_RUNS),
     ];
     for (pdu, octets) in &cases {
         let n = pdu.events.len();

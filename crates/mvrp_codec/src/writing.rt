@@ -110,10 +110,14 @@ fn pdu_of(alloc: Global, vectors: Vec<VectorAttr>) -> Result<Pdu, AllocError>
     })
 }
 
-/// The octets that say a LeaveAll and the events of VIDs, in their one spelling: each maximal run of
-/// consecutive VIDs is one vector, and a LeaveAll stands in the first (IEEE Std 802.1Q-2018, 10.8.1.2,
-/// 11.2.3.1). There is a LeaveAll or an event, and there are at most 297 events, so that the octets are at
-/// most 1,500.
+/// The octets that say a LeaveAll and the events of VIDs (IEEE Std 802.1Q-2018, 10.8.1.2, 11.2.3.1), in the
+/// order given: each maximal run of consecutive VIDs is one vector, and a LeaveAll stands in the first.
+/// Where the VIDs ascend this is the canonical encoding. There has to be a LeaveAll
+/// or an event, and there have to be at most 297 events, so that the octets are at most 1,500.
+///
+/// # Errors
+///
+/// `NoMemory` where memory for the octets runs out.
 pub fn encode(alloc: Global, pdu: &MvrpPdu) -> Result<Seq<u8>, NoMemory>
     requires { IsWritable pdu.now }
     ensures spelled { IfOk result (λ octets. octets ≡ mvrp_spelling pdu.now) }
@@ -124,6 +128,8 @@ pub fn encode(alloc: Global, pdu: &MvrpPdu) -> Result<Seq<u8>, NoMemory>
 {
     let vectors = vectors_of(alloc, pdu.leave_all, pdu.events.as_slice())?;
     let written = pdu_of(alloc, vectors)?;
+    mrpdu_codec::written_is_read();
+    mrpdu_codec::written_size();
     let mut out = Vec::new(alloc);
     mrpdu_codec::encode(AppForm::Mvrp, &written, &mut out)?;
     Ok(Seq::from_vec(out))

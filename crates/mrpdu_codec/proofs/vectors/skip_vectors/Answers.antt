@@ -1,6 +1,6 @@
 use Rattle.std.proofs.Common.{None, sym, ◌∙◌}
 use Rattle.std.proofs.lemmas.Result.{err_from_is_err_and}
-use Rattle.mrpdu_codec.specs.Raw.{raw_of}
+use Rattle.mrpdu_codec.specs.Workers.{raw_of}
 use Rattle.mrpdu_codec.proofs.WhileVectors.{falls, skip_goes_on, skip_fails, skip_ends}
 use Rattle.mrpdu_codec.proofs.vectors.skip_vectors.Goals as goal
 

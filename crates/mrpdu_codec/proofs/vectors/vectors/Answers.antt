@@ -1,6 +1,6 @@
 use Rattle.std.proofs.Common.{◌≡◌, ◌++◌, ◌∷◌, [], sym, ap, ◌∙◌}
 use Rattle.std.proofs.lemmas.Result.{err_from_is_err_and}
-use Rattle.mrpdu_codec.specs.Raw.{raw_of}
+use Rattle.mrpdu_codec.specs.Workers.{raw_of}
 use Rattle.mrpdu_codec.specs.Tree.{attr_of}
 use Rattle.mrpdu_codec.proofs.WhileVectors.{falls, list_goes_on, list_fails, list_ends}
 use Rattle.mrpdu_codec.proofs.vectors.vectors.Goals as goal

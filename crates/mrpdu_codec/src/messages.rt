@@ -2,8 +2,9 @@
 
 ghost use Rattle.std.specs.Prelude.{◌≡◌, ◌<◌, ◌++◌, ◌+◌, List, [], ◌∷◌, length, take, drop, IfOk, OnOk, Some, None, option_map};
 ghost use Rattle.mrpdu_codec.specs.Tree.{length_fits};
-ghost use Rattle.mrpdu_codec.specs.Reading.{Gives, rest_of, region_at, known_at, skip_at, size_at, counted_at, body_at, length_at, block_at, type_at, end_at, blocks_of};
-ghost use Rattle.mrpdu_codec.specs.Raw.{messages};
+ghost use Rattle.mrpdu_codec.specs.Workers.{Gives};
+ghost use Rattle.mrpdu_codec.specs.Reading.{rest_of, region_at, known_at, skip_at, size_at, counted_at, body_at, length_at, message_at, type_at, end_at, messages_of};
+ghost use Rattle.mrpdu_codec.specs.Workers.{messages};
 
 use crate::error::ReadErr;
 use crate::form::{AppForm, TypeForm};
@@ -18,13 +19,13 @@ use std::alloc::{AllocError, Global};
 fn region(
     alloc: Global,
     octets: &[u8],
-    form: TypeForm,
+    row: TypeForm,
     len: u8,
     size: usize,
 ) -> Result<Vec<VectorAttr>, ReadErr>
-    ensures { Gives (λ v. v.items) result (region_at (Some form) len size octets.now) }
+    ensures { Gives (λ v. v.items) result (region_at (Some row) len size octets.now) }
 {
-    let (found, rest) = vectors(alloc, octets, Some(form), len)?;
+    let (found, rest) = vectors(alloc, octets, Some(row), len)?;
     if rest.len() != 0 {
         return Err(ReadErr::Left(rest.len()));
     }
@@ -34,7 +35,7 @@ fn region(
     Ok(found)
 }
 
-/// The first octets of a text, as many as are there up to so many, and the octets beyond.
+/// The first octets, as many as are there up to so many, and the octets beyond.
 fn cut(octets: &[u8], size: usize) -> (&[u8], &[u8])
     ensures front { result.0.now ≡ take size octets.now }
     ensures beyond { result.1.now ≡ drop size octets.now }
@@ -47,14 +48,14 @@ fn cut(octets: &[u8], size: usize) -> (&[u8], &[u8])
 fn known(
     alloc: Global,
     octets: &[u8],
-    form: TypeForm,
+    row: TypeForm,
     len: u8,
     size: usize,
 ) -> Result<(Vec<VectorAttr>, &[u8]), ReadErr>
-    ensures { Gives (λ x. (x.0.items, x.1.now)) result (known_at (Some form) len size octets.now) }
+    ensures { Gives (λ x. (x.0.items, x.1.now)) result (known_at (Some row) len size octets.now) }
 {
     let (here, beyond) = cut(octets, size);
-    match region(alloc, here, form, len, size) {
+    match region(alloc, here, row, len, size) {
         Err(error) => Err(error.behind(here.len(), octets.len())),
         Ok(found) => {
             let rest = mark(beyond)?;
@@ -103,13 +104,13 @@ fn size(octets: &[u8]) -> Result<(usize, &[u8]), ReadErr>
 fn counted(
     alloc: Global,
     octets: &[u8],
-    form: TypeForm,
+    row: TypeForm,
     len: u8,
 ) -> Result<(Vec<VectorAttr>, &[u8]), ReadErr>
-    ensures { Gives (λ x. (x.0.items, x.1.now)) result (counted_at (Some form) len octets.now) }
+    ensures { Gives (λ x. (x.0.items, x.1.now)) result (counted_at (Some row) len octets.now) }
 {
     let (size, rest) = size(octets)?;
-    let (found, rest) = known(alloc, rest, form, len, size)?;
+    let (found, rest) = known(alloc, rest, row, len, size)?;
     Ok((found, rest))
 }
 
@@ -126,25 +127,25 @@ fn skip_counted(octets: &[u8], len: u8) -> Result<&[u8], ReadErr>
 /// What stands after AttributeLength, for a known type.
 fn body(
     alloc: Global,
-    app: AppForm,
+    form: AppForm,
     octets: &[u8],
-    form: TypeForm,
+    row: TypeForm,
     len: u8,
 ) -> Result<(Vec<VectorAttr>, &[u8]), ReadErr>
-    ensures { Gives (λ x. (x.0.items, x.1.now)) result (body_at app (Some form) len octets.now) }
+    ensures { Gives (λ x. (x.0.items, x.1.now)) result (body_at form (Some row) len octets.now) }
 {
-    match app {
-        AppForm::Mvrp => list(alloc, octets, Some(form), len),
-        AppForm::Msrp => counted(alloc, octets, form, len),
-        AppForm::Mmrp => list(alloc, octets, Some(form), len),
+    match form {
+        AppForm::Mvrp => list(alloc, octets, Some(row), len),
+        AppForm::Msrp => counted(alloc, octets, row, len),
+        AppForm::Mmrp => list(alloc, octets, Some(row), len),
     }
 }
 
 /// Passes over what stands after AttributeLength, for an unknown type.
-fn skip_body(app: AppForm, octets: &[u8], len: u8) -> Result<&[u8], ReadErr>
-    ensures { Gives (λ x. x.now) result (rest_of (body_at app None len octets.now)) }
+fn skip_body(form: AppForm, octets: &[u8], len: u8) -> Result<&[u8], ReadErr>
+    ensures { Gives (λ x. x.now) result (rest_of (body_at form None len octets.now)) }
 {
-    match app {
+    match form {
         AppForm::Mvrp => skip_list(octets, len),
         AppForm::Msrp => skip_counted(octets, len),
         AppForm::Mmrp => skip_list(octets, len),
@@ -156,7 +157,7 @@ fn length_fits(row: Option<TypeForm>, len: u8) -> bool
     ensures { result ≡ length_fits row len }
 {
     match row {
-        Some(form) => len == form.length,
+        Some(row) => len == row.length,
         None => 0 < len,
     }
 }
@@ -179,25 +180,25 @@ fn attribute_length(octets: &[u8], row: Option<TypeForm>) -> Result<(u8, &[u8]),
 }
 
 /// A Message after its AttributeType, if its type is known.
-#[tactic(auto, unfolding(crate::specs::Reading::block_at))]
+#[tactic(auto, unfolding(crate::specs::Reading::message_at))]
 fn message(
     alloc: Global,
-    app: AppForm,
+    form: AppForm,
     kind: u8,
     octets: &[u8],
 ) -> Result<(Option<Message>, &[u8]), ReadErr>
-    ensures { Gives (λ x. (messages x.0, x.1.now)) result (block_at app kind octets.now) }
+    ensures { Gives (λ x. (messages x.0, x.1.now)) result (message_at form kind octets.now) }
 {
-    let row = app.known(kind);
+    let row = form.known(kind);
     let (len, rest) = attribute_length(octets, row)?;
     match row {
-        Some(form) => {
-            let (found, rest) = body(alloc, app, rest, form, len)?;
+        Some(row) => {
+            let (found, rest) = body(alloc, form, rest, row, len)?;
             let vectors = Seq::from_vec(found);
             Ok((Some(Message { kind, vectors }), rest))
         }
         None => {
-            let rest = skip_body(app, rest, len)?;
+            let rest = skip_body(form, rest, len)?;
             Ok((None, rest))
         }
     }
@@ -249,8 +250,8 @@ fn push_some(found: &mut Vec<Message>, message: Option<Message>) -> Result<(), A
 }
 
 /// The Messages of known types, up to the PDU's EndMark or the octets' end.
-pub(crate) fn messages(alloc: Global, app: AppForm, octets: &[u8]) -> Result<Vec<Message>, ReadErr>
-    ensures { Gives (λ v. v.items) result (blocks_of app octets.now) }
+pub(crate) fn messages(alloc: Global, form: AppForm, octets: &[u8]) -> Result<Vec<Message>, ReadErr>
+    ensures { Gives (λ v. v.items) result (messages_of form octets.now) }
 {
     let mut found = Vec::new(alloc);
     let mut rest = octets;
@@ -258,7 +259,7 @@ pub(crate) fn messages(alloc: Global, app: AppForm, octets: &[u8]) -> Result<Vec
         match next_type(rest)? {
             None => return Ok(found),
             Some((kind, after)) => {
-                let (message, after) = message(alloc, app, kind, after)?;
+                let (message, after) = message(alloc, form, kind, after)?;
                 push_some(&mut found, message)?;
                 rest = after;
             }

@@ -1,0 +1,49 @@
+-- What the private readers answer, without where it lies in memory, and what their errors say.
+use Rattle.std.specs.Prelude.{◌≡◌, ℕ, ◌+◌, ◌-◌, ◌≤◌, List, [], ◌∷◌, Option, Some, None, Result, Ok, Err}
+use Rattle.mrpdu_codec.specs.declared.error.DecodeErr.{DecodeErr}
+use Rattle.mrpdu_codec.specs.declared.error.DecodeErr.TheVariants as decode_errors
+use Rattle.mrpdu_codec.specs.declared.error.ReadErr.{ReadErr}
+use Rattle.mrpdu_codec.specs.declared.error.ReadErr.TheVariants as errors
+use Rattle.mrpdu_codec.specs.declared.pdu.Message.{Message}
+use Rattle.mrpdu_codec.specs.declared.raw.RawVector.{RawVector}
+use Rattle.mrpdu_codec.specs.Tree.{Vector}
+
+-- the fields of a vector in borrowed octets, as a node of the syntax tree
+abbrev pub raw_of : RawVector → Vector
+raw_of raw = record {
+  high = raw.high;
+  low = raw.low;
+  first = raw.first.now;
+  three_packed = raw.three_packed.now;
+  four_packed = raw.four_packed.now;
+}
+
+-- a Message that may be there, as a list
+abbrev pub messages : Option Message → List Message
+messages None = []
+messages (Some m) = m ∷ []
+
+-- an error is the reading's, unless memory ran out
+abbrev pub Fails : {Y : Type 0} → ReadErr → Result Y ℕ → Type 0
+Fails errors.NoMemory read = Unit {0}
+Fails (errors.Left left) read = read ≡ Err left
+
+-- what a reader returned, seen by view, is what reading gives, unless memory ran out
+abbrev pub Gives : {X Y : Type 0} → (X → Y) → Result X ReadErr → Result Y ℕ → Type 0
+Gives view (Ok x) read = read ≡ Ok (view x)
+Gives view (Err e) read = Fails e read
+
+-- no more octets are left than there are
+abbrev pub IsWithin : ReadErr → ℕ → Type 0
+IsWithin (errors.Left left) all = left ≤ all
+IsWithin errors.NoMemory all = Unit {0}
+
+-- where n octets stand behind those that were read
+abbrev pub behind : ReadErr → ℕ → ReadErr
+behind (errors.Left left) n = errors.Left (left + n)
+behind errors.NoMemory n = errors.NoMemory
+
+-- the place of the field that breaks, in all octets
+abbrev pub placed : ReadErr → ℕ → DecodeErr
+placed (errors.Left left) all = decode_errors.Malformed (all - left)
+placed errors.NoMemory all = decode_errors.NoMemory
