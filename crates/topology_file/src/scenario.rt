@@ -1,10 +1,12 @@
 //! A scenario: a network, its times, and what happens in it.
 
-ghost use Rattle.std.specs.Prelude.{◌≡◌, ◌≤◌, [], map, length, All, None, IfOk};
+ghost use Rattle.std.specs.Prelude.{◌≡◌, ◌≤◌, [], map, Ok};
+ghost use Rattle.toml.specs.Data.{Members};
 ghost use Rattle.toml.specs.View.{table_view};
 ghost use Rattle.toml_rules.specs.Fields.{tables as tables_lem};
 ghost use Rattle.toml_rules.specs.Rules.{Reads, needs as needs_lem};
 ghost use Rattle.topology_file.specs.First.{first_where};
+ghost use Rattle.topology_file.specs.Plan.{Plan};
 ghost use Rattle.topology_file.specs.Scenario.{KeepsRules, ticks_at, leave_time_at, plan_of, scenario_of};
 
 use crate::entries::{EventEntry, LinkEntry, NodeEntry};
@@ -18,7 +20,7 @@ use std::alloc::Global;
 use std::marker::Model;
 use toml::Table;
 use toml_rules::{RuleErr, has_only, holds, needs, number, number_or, tables, truth_or, within};
-use tree_topology::Tree;
+use tree_topology::{Tree, laws};
 
 /// A scenario. It runs for so many ticks of 1 cs.
 #[derive(Drop)]
@@ -68,6 +70,15 @@ impl Scenario {
     }
 }
 
+/// Every scenario that a table is read as keeps the rules of its file, in plain words.
+pub fn read_scenarios_keep_the_rules()
+    ensures { (ms : Members) (plan : Plan) → scenario_of ms ≡ Ok plan → KeepsRules plan }
+{
+    laws::components();
+    laws::few_links();
+    laws::one_component();
+}
+
 fn read_ticks(table: &Table) -> Option<u64>
     ensures { result ≡ ticks_at (table_view table.now) }
 {
@@ -115,6 +126,9 @@ fn read_plan(
         (map (λ t. table_view t.now) node_tables.now) (map (λ t. table_view t.now) link_tables.now)
         (map (λ t. table_view t.now) event_tables.now)) }
 {
+    laws::components();
+    laws::few_links();
+    laws::one_component();
     let nodes = read_nodes(alloc, times.ticks, node_tables)?;
     let links = read_links(alloc, &nodes, link_tables)?;
     let tree = make_tree(alloc, &nodes, &links)?;
