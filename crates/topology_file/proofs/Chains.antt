@@ -1,4 +1,4 @@
--- What a chain of rules tells of its answer: each rule passed, and what is made of what was read.
+-- What a chain of rules tells of its answer: each_entry rule passed, and what is made of what was read.
 use Rattle.std.proofs.Common.{◌≡◌, ℕ, ◌+◌, ◌≤◌, Bool, true, false, ◌&&◌, if◌then◌else◌, List, [], ◌∷◌, map, length, Option, Some, None, option_map, option_and_then, Result, Ok, Err, refl, ap, subst, ◌∙◌, leb-true, IfSome, IfOk, arith}
 use Rattle.std.proofs.lemmas.Bool.{and_parts, false≢true}
 use Rattle.std.proofs.lemmas.List.Elements.{All-nil, All-cons, All-head, All-tail}
@@ -6,8 +6,7 @@ use Rattle.std.specs.List.{All}
 use Rattle.std.specs.Prelude.{nat_le}
 use Rattle.toml_rules.specs.declared.rules.RuleErr.{RuleErr}
 use Rattle.toml_rules.specs.Fields.{within}
-use Rattle.toml_rules.specs.Rules.{◌>>=◌, needs, holds, with_front}
-use Rattle.topology_file.specs.First.{none_at, each, entry_then}
+use Rattle.toml_rules.specs.Rules.{◌>>=◌, needs, holds, with_front, no_entry, each_entry, entry_then}
 
 -- ---- values that may be missing
 
@@ -60,7 +59,7 @@ pub holds-true : (rule : ℕ) (b : Bool) → IfOk (holds rule b) (λ _. b ≡ tr
 holds-true rule true = refl
 holds-true rule false = tt
 
-pub none-none : (rule : ℕ) (o : Option ℕ) → IfOk (none_at rule o) (λ _. o ≡ None)
+pub none-none : (rule : ℕ) (o : Option ℕ) → IfOk (no_entry rule o) (λ _. o ≡ None)
 none-none rule None = refl
 none-none rule (Some n) = tt
 
@@ -75,10 +74,10 @@ entry-all P rule n (Some y) (Ok ys) p ps = All-cons P y ys p ps
 -- what every entry is read with, all values have
 pub each-all : {A B : Type 0} (Q : A → Type 0) (P : B → Type 0) (rule : ℕ) (read : ℕ → A → Option B)
     → ((n : ℕ) (x : A) → Q x → IfSome (read n x) P) → (n : ℕ) (xs : List A) → All Q xs
-    → IfOk (each rule read n xs) (All P)
+    → IfOk (each_entry rule read n xs) (All P)
 each-all Q P rule read h n [] qs = All-nil P
 each-all Q P rule read h n (x ∷ xs) qs =
-    entry-all P rule n (read n x) (each rule read (n + 1) xs) (h n x (All-head Q x xs qs)) (each-all Q P rule read h (n + 1) xs (All-tail Q x xs qs))
+    entry-all P rule n (read n x) (each_entry rule read (n + 1) xs) (h n x (All-head Q x xs qs)) (each-all Q P rule read h (n + 1) xs (All-tail Q x xs qs))
 
 entry-map : {A B C : Type 0} (f : A → C) (g : B → C) (rule n : ℕ) (x : A) (xs : List A) (o : Option B) (rest : Result (List B) RuleErr)
     → IfSome o (λ y. g y ≡ f x) → IfOk rest (λ ys. map g ys ≡ map f xs)
@@ -90,10 +89,10 @@ entry-map f g rule n x xs (Some y) (Ok ys) p ps = ap (λ c. c ∷ map g ys) p �
 -- what every value keeps of its entry, all keep
 pub each-map : {A B C : Type 0} (f : A → C) (g : B → C) (rule : ℕ) (read : ℕ → A → Option B)
     → ((n : ℕ) (x : A) → IfSome (read n x) (λ y. g y ≡ f x)) → (n : ℕ) (xs : List A)
-    → IfOk (each rule read n xs) (λ ys. map g ys ≡ map f xs)
+    → IfOk (each_entry rule read n xs) (λ ys. map g ys ≡ map f xs)
 each-map f g rule read h n [] = refl
 each-map f g rule read h n (x ∷ xs) =
-    entry-map f g rule n x xs (read n x) (each rule read (n + 1) xs) (h n x) (each-map f g rule read h (n + 1) xs)
+    entry-map f g rule n x xs (read n x) (each_entry rule read (n + 1) xs) (h n x) (each-map f g rule read h (n + 1) xs)
 
 entry-count : {B : Type 0} (high rule n : ℕ) (o : Option B) (rest : Result (List B) RuleErr)
     → IfSome o (λ _. n ≤ high) → (n ≤ high → IfOk rest (λ ys. length ys + n ≤ high))
@@ -109,8 +108,8 @@ same-count high n (Err e) h = tt
 -- where no entry past a number is read, there are no more values
 pub each-count : {A B : Type 0} (high rule : ℕ) (read : ℕ → A → Option B)
     → ((n : ℕ) (x : A) → IfSome (read n x) (λ _. n ≤ high)) → (n : ℕ) (xs : List A) → n ≤ high + 1
-    → IfOk (each rule read n xs) (λ ys. length ys + n ≤ high + 1)
+    → IfOk (each_entry rule read n xs) (λ ys. length ys + n ≤ high + 1)
 each-count high rule read h n [] le = omega (arith, le)
 each-count high rule read h n (x ∷ xs) le =
-    entry-count high rule n (read n x) (each rule read (n + 1) xs) (h n x)
-    (λ few. same-count high n (each rule read (n + 1) xs) (each-count high rule read h (n + 1) xs (omega (arith, few))))
+    entry-count high rule n (read n x) (each_entry rule read (n + 1) xs) (h n x)
+    (λ few. same-count high n (each_entry rule read (n + 1) xs) (each-count high rule read h (n + 1) xs (omega (arith, few))))

@@ -13,7 +13,8 @@ use Rattle.std.specs.Prelude.{AllPairs, nat_le, nat_lt, nat_eq, codes}
 use Rattle.toml.specs.Data.{Members}
 use Rattle.toml_rules.specs.declared.rules.RuleErr.{RuleErr}
 use Rattle.toml_rules.specs.Fields.{number, number_or, within, truth_or, tables, text, has_only}
-use Rattle.toml_rules.specs.Rules.{◌>>=◌, needs, holds}
+use Rattle.toml_rules.specs.Rules.{◌>>=◌, needs, holds, no_entry, each_entry, first_where}
+use Rattle.toml_rules.specs.Shares.{share_at, shares_at}
 use Rattle.tree_topology.proofs.Forests.{tree-from_checks}
 use Rattle.tree_topology.specs.Topology.{Topology}
 use Rattle.tree_topology.specs.declared.graph.Link.{Link}
@@ -33,8 +34,7 @@ use Rattle.topology_file.specs.declared.entries.EventWord.{EventWord}
 use Rattle.topology_file.specs.declared.entries.EventWord.TheVariants as words
 use Rattle.topology_file.specs.declared.entries.KindForm.{KindForm}
 use Rattle.topology_file.specs.declared.entries.KindForm.TheVariants as forms
-use Rattle.topology_file.specs.Entries.{is_name, name_of_text, name_at, kind_at, id_at, node_keys, node_entry, link_keys, rate_at, shares_at, latency_at, link_form, vlan_keys, link_event_keys, vid_at, index_at, vlan_parts, link_parts, kind_form, word_at, tick_at, event_form}
-use Rattle.topology_file.specs.First.{none_at, each, first_where}
+use Rattle.topology_file.specs.Entries.{is_name, name_of_text, name_at, kind_at, id_at, node_keys, node_entry, link_keys, rate_at, latency_at, link_form, vlan_keys, link_event_keys, vid_at, index_at, vlan_parts, link_parts, kind_form, word_at, tick_at, event_form}
 use Rattle.topology_file.specs.Plan.{Plan}
 use Rattle.topology_file.specs.Scenario.{is_station, node_from, station_from, has_name_of, has_id_of, is_small, nodes_of, tree_links, joins_both, link_entry, is_self_link, is_second_link, closes_loop, is_unconnected, is_stray_station, is_crowded, topology_of, tree_of, links_of, first_fall, form_ticks, event_ticks, joined_from, kind_entry, event_entry, events_of, file_keys, ticks_at, leave_time_at, plan_of, scenario_of, IsStationNumber, AreJoinedNumbers, IsKnownKind, HasRanges, KeepsRules}
 use Rattle.topology_file.proofs.Chains.{and_then-if, map-if, when-if, some-says, within-range, chain-if, ok-all, ok-says, needs-some, holds-true, none-none, each-all, each-map, each-count}
@@ -74,14 +74,14 @@ pub nodes-keep : (ticks : ℕ) (entries : List Members) → IfOk (nodes_of ticks
 nodes-keep ticks entries =
     let P = NodesKeep ticks in
     let F : NodeEntry → Type 0 = λ x. is_name x.name ≡ true in
-    chain-if P (each 4 node_entry 1 entries) _ (λ nodes en.
+    chain-if P (each_entry 4 node_entry 1 entries) _ (λ nodes en.
     chain-if P (holds 5 (is_small ticks nodes)) _ (λ a ea.
-    chain-if P (none_at 6 (first_where has_name_of [] nodes)) _ (λ b eb.
-    chain-if P (none_at 7 (first_where has_id_of [] nodes)) _ (λ c ec. record {
-      forms = ok-says (All F) (each 4 node_entry 1 entries) nodes en (each-all Any F 4 node_entry (λ n x _. node-form n x) 1 entries (all-any entries));
+    chain-if P (no_entry 6 (first_where has_name_of [] nodes)) _ (λ b eb.
+    chain-if P (no_entry 7 (first_where has_id_of [] nodes)) _ (λ c ec. record {
+      forms = ok-says (All F) (each_entry 4 node_entry 1 entries) nodes en (each-all Any F 4 node_entry (λ n x _. node-form n x) 1 entries (all-any entries));
       small = ok-says (λ _. is_small ticks nodes ≡ true) (holds 5 (is_small ticks nodes)) a ea (holds-true 5 (is_small ticks nodes));
-      names = ok-says (λ _. first_where has_name_of [] nodes ≡ None) (none_at 6 (first_where has_name_of [] nodes)) b eb (none-none 6 (first_where has_name_of [] nodes));
-      ids = ok-says (λ _. first_where has_id_of [] nodes ≡ None) (none_at 7 (first_where has_id_of [] nodes)) c ec (none-none 7 (first_where has_id_of [] nodes));
+      names = ok-says (λ _. first_where has_name_of [] nodes ≡ None) (no_entry 6 (first_where has_name_of [] nodes)) b eb (none-none 6 (first_where has_name_of [] nodes));
+      ids = ok-says (λ _. first_where has_id_of [] nodes ≡ None) (no_entry 7 (first_where has_id_of [] nodes)) c ec (none-none 7 (first_where has_id_of [] nodes));
     }))))
 
 pub small-parts : (ticks : ℕ) (nodes : List NodeEntry) → is_small ticks nodes ≡ true
@@ -115,8 +115,8 @@ ids-differ nodes e i j d lt inside same =
 shares-together : (ms : Members) → IfSome (shares_at ms) (λ s. s.0 + s.1 ≤ 90)
 shares-together ms =
     let P : ℕ × ℕ → Type 0 = λ s. s.0 + s.1 ≤ 90 in
-    and_then-if P _ (within 0 90 (number_or (codes "delta_a") 75 ms)) (λ a ea.
-    and_then-if P _ (within 0 90 (number_or (codes "delta_b") 0 ms)) (λ b eb.
+    and_then-if P _ (share_at (codes "delta_a") 75 ms) (λ a ea.
+    and_then-if P _ (share_at (codes "delta_b") 0 ms) (λ b eb.
     when-if P (nat_le (a + b) 90) (Some (a, b)) (λ e. leb-true (a + b) 90 e)))
 
 latency-range : (ms : Members) → IfSome (latency_at ms) (λ n. (0 ≤ n) × (n ≤ 4294967295))
@@ -178,16 +178,16 @@ links-keep nodes entries =
     let F : LinkForm → Type 0 = λ l. (l.delta_a + l.delta_b ≤ 90) × (l.latency < 2 ^ 32) in
     let L : LinkEntry → Type 0 = λ l. (l.delta_a + l.delta_b ≤ 90) × (l.latency < 2 ^ 32) in
     let K : LinkEntry → Type 0 = λ l. IsNode (length nodes) l.a.0 × IsNode (length nodes) l.b.0 in
-    chain-if P (each 8 link_form 1 entries) _ (λ read ef.
-    chain-if P (each 9 (link_entry nodes) 1 read) _ (λ links el.
-    chain-if P (none_at 10 (first_where is_self_link [] links)) _ (λ a ea.
-    chain-if P (none_at 11 (first_where is_second_link [] links)) _ (λ b eb.
-    (let fs = ok-says (All F) (each 8 link_form 1 entries) read ef (each-all Any F 8 link_form (λ n x _. link-numbers n x) 1 entries (all-any entries)) in
+    chain-if P (each_entry 8 link_form 1 entries) _ (λ read ef.
+    chain-if P (each_entry 9 (link_entry nodes) 1 read) _ (λ links el.
+    chain-if P (no_entry 10 (first_where is_self_link [] links)) _ (λ a ea.
+    chain-if P (no_entry 11 (first_where is_second_link [] links)) _ (λ b eb.
+    (let fs = ok-says (All F) (each_entry 8 link_form 1 entries) read ef (each-all Any F 8 link_form (λ n x _. link-numbers n x) 1 entries (all-any entries)) in
     record {
-      forms = ok-says (All L) (each 9 (link_entry nodes) 1 read) links el (each-all F L 9 (link_entry nodes) (link-kept nodes) 1 read fs);
-      known = ok-says (All K) (each 9 (link_entry nodes) 1 read) links el (each-all Any K 9 (link_entry nodes) (λ n x _. link-known nodes n x) 1 read (all-any read));
-      no_self = ok-says (λ _. first_where is_self_link [] links ≡ None) (none_at 10 (first_where is_self_link [] links)) a ea (none-none 10 (first_where is_self_link [] links));
-      no_second = ok-says (λ _. first_where is_second_link [] links ≡ None) (none_at 11 (first_where is_second_link [] links)) b eb (none-none 11 (first_where is_second_link [] links));
+      forms = ok-says (All L) (each_entry 9 (link_entry nodes) 1 read) links el (each-all F L 9 (link_entry nodes) (link-kept nodes) 1 read fs);
+      known = ok-says (All K) (each_entry 9 (link_entry nodes) 1 read) links el (each-all Any K 9 (link_entry nodes) (λ n x _. link-known nodes n x) 1 read (all-any read));
+      no_self = ok-says (λ _. first_where is_self_link [] links ≡ None) (no_entry 10 (first_where is_self_link [] links)) a ea (none-none 10 (first_where is_self_link [] links));
+      no_second = ok-says (λ _. first_where is_second_link [] links ≡ None) (no_entry 11 (first_where is_second_link [] links)) b eb (none-none 11 (first_where is_second_link [] links));
     })))))
 
 -- the links that were read, as the code has them
@@ -209,12 +209,12 @@ pub record TreeKeeps (nodes : List NodeEntry) (links : List LinkEntry) (made : T
 pub tree-keeps : (nodes : List NodeEntry) (links : List LinkEntry) → IfOk (tree_of nodes links) (TreeKeeps nodes links)
 tree-keeps nodes links =
     let P = TreeKeeps nodes links in
-    chain-if P (none_at 12 (first_where closes_loop [] links)) _ (λ a ea.
-    chain-if P (none_at 13 (first_where (is_unconnected links) [] nodes)) _ (λ b eb.
-    chain-if P (none_at 14 (first_where (is_stray_station links) [] nodes)) _ (λ c ec. record {
-      no_loop = ok-says (λ _. first_where closes_loop [] links ≡ None) (none_at 12 (first_where closes_loop [] links)) a ea (none-none 12 (first_where closes_loop [] links));
-      connected = ok-says (λ _. first_where (is_unconnected links) [] nodes ≡ None) (none_at 13 (first_where (is_unconnected links) [] nodes)) b eb (none-none 13 (first_where (is_unconnected links) [] nodes));
-      stations = ok-says (λ _. first_where (is_stray_station links) [] nodes ≡ None) (none_at 14 (first_where (is_stray_station links) [] nodes)) c ec (none-none 14 (first_where (is_stray_station links) [] nodes));
+    chain-if P (no_entry 12 (first_where closes_loop [] links)) _ (λ a ea.
+    chain-if P (no_entry 13 (first_where (is_unconnected links) [] nodes)) _ (λ b eb.
+    chain-if P (no_entry 14 (first_where (is_stray_station links) [] nodes)) _ (λ c ec. record {
+      no_loop = ok-says (λ _. first_where closes_loop [] links ≡ None) (no_entry 12 (first_where closes_loop [] links)) a ea (none-none 12 (first_where closes_loop [] links));
+      connected = ok-says (λ _. first_where (is_unconnected links) [] nodes ≡ None) (no_entry 13 (first_where (is_unconnected links) [] nodes)) b eb (none-none 13 (first_where (is_unconnected links) [] nodes));
+      stations = ok-says (λ _. first_where (is_stray_station links) [] nodes ≡ None) (no_entry 14 (first_where (is_stray_station links) [] nodes)) c ec (none-none 14 (first_where (is_stray_station links) [] nodes));
       tree = refl;
     })))
 
@@ -416,13 +416,13 @@ events-keep ticks nodes links entries =
     let F : EventForm → Type 0 = λ e. (e.tick < ticks) × FormRanges e.kind in
     let K : EventEntry → Type 0 = λ e. IsKnownKind nodes links e.kind × HasRanges e.kind in
     let D : List ℕ → Type 0 = λ ts. All (λ t. t < ticks) ts in
-    let read_all = each 20 (event_form ticks) 1 entries in
+    let read_all = each_entry 20 (event_form ticks) 1 entries in
     chain-if (EventsKeep ticks nodes links) read_all _ (λ read er.
-    chain-if (EventsKeep ticks nodes links) (none_at 21 (first_fall 1 0 (form_ticks read))) _ (λ a ea.
-    (let name_all = each 22 (event_entry nodes links) 1 read in
+    chain-if (EventsKeep ticks nodes links) (no_entry 21 (first_fall 1 0 (form_ticks read))) _ (λ a ea.
+    (let name_all = each_entry 22 (event_entry nodes links) 1 read in
     let fs = ok-says (All F) read_all read er (each-all Any F 20 (event_form ticks) (λ n x _. drop-count n (event_form ticks n x) (event-form-keeps ticks n x)) 1 entries (all-any entries)) in
     let few = ok-says (λ ys. length ys + 1 ≤ 10000 + 1) read_all read er (each-count 10000 20 (event_form ticks) (λ n x. only-count n (event_form ticks n x) (event-form-keeps ticks n x)) 1 entries (omega arith)) in
-    let order = ok-says (λ _. first_fall 1 0 (form_ticks read) ≡ None) (none_at 21 (first_fall 1 0 (form_ticks read))) a ea (none-none 21 (first_fall 1 0 (form_ticks read))) in
+    let order = ok-says (λ _. first_fall 1 0 (form_ticks read) ≡ None) (no_entry 21 (first_fall 1 0 (form_ticks read))) a ea (none-none 21 (first_fall 1 0 (form_ticks read))) in
     ok-all name_all (EventsKeep ticks nodes links) (λ events ee.
     (let same = ok-says (λ ys. event_ticks ys ≡ form_ticks read) name_all events ee (each-map (λ (x : EventForm). x.tick) (λ (y : EventEntry). y.tick) 22 (event_entry nodes links) (event-tick nodes links) 1 read) in
     record {
@@ -476,13 +476,13 @@ plan-of-keeps laws ticks leave_time periodic node_tables link_tables event_table
     chain-if KeepsRules (nodes_of ticks node_tables) _ (λ nodes en.
     chain-if KeepsRules (links_of nodes link_tables) _ (λ links el.
     chain-if KeepsRules (tree_of nodes links) _ (λ tree et.
-    chain-if KeepsRules (none_at 15 (first_where (is_crowded tree.links) [] nodes)) _ (λ a ea.
+    chain-if KeepsRules (no_entry 15 (first_where (is_crowded tree.links) [] nodes)) _ (λ a ea.
     chain-if KeepsRules (events_of ticks nodes links event_tables) _ (λ events ee.
     plan-keeps laws ticks leave_time periodic tree nodes links events t l
     (ok-says (NodesKeep ticks) (nodes_of ticks node_tables) nodes en (nodes-keep ticks node_tables))
     (ok-says (LinksKeep nodes) (links_of nodes link_tables) links el (links-keep nodes link_tables))
     (ok-says (TreeKeeps nodes links) (tree_of nodes links) tree et (tree-keeps nodes links))
-    (ok-says (λ _. first_where (is_crowded tree.links) [] nodes ≡ None) (none_at 15 (first_where (is_crowded tree.links) [] nodes)) a ea (none-none 15 (first_where (is_crowded tree.links) [] nodes)))
+    (ok-says (λ _. first_where (is_crowded tree.links) [] nodes ≡ None) (no_entry 15 (first_where (is_crowded tree.links) [] nodes)) a ea (none-none 15 (first_where (is_crowded tree.links) [] nodes)))
     (ok-says (EventsKeep ticks nodes links) (events_of ticks nodes links event_tables) events ee (events-keep ticks nodes links event_tables)))))))
 
 pub scenario-keeps : TreeLaws → (ms : Members) → IfOk (scenario_of ms) KeepsRules

@@ -6,7 +6,7 @@ use Rattle.std.proofs.lemmas.List.{length-map, take-map, length-take-le}
 use Rattle.std.specs.List.{All, list_any}
 use Rattle.std.specs.Prelude.{◌↔◌, nat_lt}
 use Rattle.toml_rules.specs.declared.rules.RuleErr.{RuleErr}
-use Rattle.toml_rules.specs.Rules.{◌>>=◌, Reads}
+use Rattle.toml_rules.specs.Rules.{◌>>=◌, Reads, fails_at, no_entry, first_where}
 use Rattle.tree_topology.specs.Topology.{Topology}
 use Rattle.tree_topology.specs.declared.graph.Link.{Link}
 use Rattle.tree_topology.specs.declared.graph.NodeKind.{NodeKind}
@@ -19,7 +19,6 @@ use Rattle.tree_topology.specs.Refusal.{IsFirstLink, IsFirstNode, ClosesLoop, Ha
 use Rattle.tree_topology.specs.Walk.{component}
 use Rattle.topology_file.specs.declared.entries.NodeEntry.{NodeEntry}
 use Rattle.topology_file.specs.declared.entries.LinkEntry.{LinkEntry}
-use Rattle.topology_file.specs.First.{fails_at, none_at, first_where}
 use Rattle.topology_file.specs.Scenario.{is_station, ends_of_entry, tree_links, joins_both, is_self_link, is_second_link, closes_loop, is_unconnected, is_stray_station, is_crowded, topology_of, tree_of, rule_of}
 use Rattle.topology_file.proofs.FirstLemmas.{where-none, where-found, where-not_found, where-here, where-later}
 
@@ -214,9 +213,9 @@ pub record TreeLaws : Type 0 where
   pub no_loop : (count : ℕ) (links : List Link) → IsTree count links → HasNoLoop links
   pub connected : (count : ℕ) (links : List Link) (x y : ℕ) → IsTree count links → IsNode count x → IsNode count y → Connected links x y
 
-tree-result : (nodes : List NodeEntry) (links : List LinkEntry) (o p q : Option ℕ) → first_where closes_loop [] links ≡ o → first_where (is_unconnected links) [] nodes ≡ p → first_where (is_stray_station links) [] nodes ≡ q → tree_of nodes links ≡ (none_at 12 o >>= (λ _. none_at 13 p >>= (λ _. none_at 14 q >>= (λ _. Ok (topology_of nodes links)))))
+tree-result : (nodes : List NodeEntry) (links : List LinkEntry) (o p q : Option ℕ) → first_where closes_loop [] links ≡ o → first_where (is_unconnected links) [] nodes ≡ p → first_where (is_stray_station links) [] nodes ≡ q → tree_of nodes links ≡ (no_entry 12 o >>= (λ _. no_entry 13 p >>= (λ _. no_entry 14 q >>= (λ _. Ok (topology_of nodes links)))))
 tree-result nodes links o p q e f g =
-    ap (λ x. none_at 12 x >>= (λ _. none_at 13 (first_where (is_unconnected links) [] nodes) >>= (λ _. none_at 14 (first_where (is_stray_station links) [] nodes) >>= (λ _. Ok (topology_of nodes links))))) e ∙ ap (λ x. none_at 12 o >>= (λ _. none_at 13 x >>= (λ _. none_at 14 (first_where (is_stray_station links) [] nodes) >>= (λ _. Ok (topology_of nodes links))))) f ∙ ap (λ x. none_at 12 o >>= (λ _. none_at 13 p >>= (λ _. none_at 14 x >>= (λ _. Ok (topology_of nodes links))))) g
+    ap (λ x. no_entry 12 x >>= (λ _. no_entry 13 (first_where (is_unconnected links) [] nodes) >>= (λ _. no_entry 14 (first_where (is_stray_station links) [] nodes) >>= (λ _. Ok (topology_of nodes links))))) e ∙ ap (λ x. no_entry 12 o >>= (λ _. no_entry 13 x >>= (λ _. no_entry 14 (first_where (is_stray_station links) [] nodes) >>= (λ _. Ok (topology_of nodes links))))) f ∙ ap (λ x. no_entry 12 o >>= (λ _. no_entry 13 p >>= (λ _. no_entry 14 x >>= (λ _. Ok (topology_of nodes links))))) g
 
 tree-loop : (nodes : List NodeEntry) (links : List LinkEntry) (n : ℕ) → first_where closes_loop [] links ≡ Some n → tree_of nodes links ≡ Err (fails_at 12 n)
 tree-loop nodes links n e =

@@ -10,7 +10,7 @@ use Rattle.toml_rules.specs.declared.rules.RuleErr.{RuleErr}
 use Rattle.toml_rules.specs.declared.rules.RuleErr.TheVariants as rules
 use Rattle.tree_topology.specs.declared.graph.TreeErr.TheVariants as refusals
 use Rattle.toml_rules.specs.Fields.{number, number_or, within, truth_or, tables, has_only}
-use Rattle.toml_rules.specs.Rules.{◌>>=◌, needs, holds}
+use Rattle.toml_rules.specs.Rules.{◌>>=◌, needs, holds, fails_at, no_entry, each_entry, first_where}
 use Rattle.tree_topology.specs.declared.graph.Link.{Link}
 use Rattle.tree_topology.specs.declared.graph.NodeKind.{NodeKind}
 use Rattle.tree_topology.specs.declared.graph.NodeKind.TheVariants.{Station, Bridge}
@@ -29,7 +29,6 @@ use Rattle.topology_file.specs.declared.entries.LinkForm.{LinkForm}
 use Rattle.topology_file.specs.declared.entries.EventForm.{EventForm}
 use Rattle.topology_file.specs.declared.entries.KindForm.{KindForm}
 use Rattle.topology_file.specs.declared.entries.KindForm.TheVariants as forms
-use Rattle.topology_file.specs.First.{fails_at, none_at, each, first_where}
 use Rattle.topology_file.specs.Entries.{is_name, node_entry, link_form, event_form}
 use Rattle.topology_file.specs.Plan.{Plan}
 
@@ -63,10 +62,10 @@ is_small ticks nodes =
 
 abbrev pub nodes_of : ℕ → List Members → Result (List NodeEntry) RuleErr
 nodes_of ticks entries = do
-  nodes ← each 4 node_entry 1 entries
+  nodes ← each_entry 4 node_entry 1 entries
   _ ← holds 5 (is_small ticks nodes)
-  _ ← none_at 6 (first_where has_name_of [] nodes)
-  _ ← none_at 7 (first_where has_id_of [] nodes)
+  _ ← no_entry 6 (first_where has_name_of [] nodes)
+  _ ← no_entry 7 (first_where has_id_of [] nodes)
   Ok nodes
 
 -- ---- links
@@ -127,17 +126,17 @@ rule_of refusals.NoMemory = rules.NoMemory
 
 abbrev pub tree_of : List NodeEntry → List LinkEntry → Result Topology RuleErr
 tree_of nodes links = do
-  _ ← none_at 12 (first_where closes_loop [] links)
-  _ ← none_at 13 (first_where (is_unconnected links) [] nodes)
-  _ ← none_at 14 (first_where (is_stray_station links) [] nodes)
+  _ ← no_entry 12 (first_where closes_loop [] links)
+  _ ← no_entry 13 (first_where (is_unconnected links) [] nodes)
+  _ ← no_entry 14 (first_where (is_stray_station links) [] nodes)
   Ok (topology_of nodes links)
 
 abbrev pub links_of : List NodeEntry → List Members → Result (List LinkEntry) RuleErr
 links_of nodes entries = do
-  forms ← each 8 link_form 1 entries
-  links ← each 9 (link_entry nodes) 1 forms
-  _ ← none_at 10 (first_where is_self_link [] links)
-  _ ← none_at 11 (first_where is_second_link [] links)
+  forms ← each_entry 8 link_form 1 entries
+  links ← each_entry 9 (link_entry nodes) 1 forms
+  _ ← no_entry 10 (first_where is_self_link [] links)
+  _ ← no_entry 11 (first_where is_second_link [] links)
   Ok links
 
 -- ---- events
@@ -175,9 +174,9 @@ event_entry nodes links n form =
 
 abbrev pub events_of : ℕ → List NodeEntry → List LinkEntry → List Members → Result (List EventEntry) RuleErr
 events_of ticks nodes links entries = do
-  forms ← each 20 (event_form ticks) 1 entries
-  _ ← none_at 21 (first_fall 1 0 (form_ticks forms))
-  each 22 (event_entry nodes links) 1 forms
+  forms ← each_entry 20 (event_form ticks) 1 entries
+  _ ← no_entry 21 (first_fall 1 0 (form_ticks forms))
+  each_entry 22 (event_entry nodes links) 1 forms
 
 -- ---- the file
 
@@ -197,7 +196,7 @@ plan_of ticks leave_time periodic node_tables link_tables event_tables = do
   nodes ← nodes_of ticks node_tables
   links ← links_of nodes link_tables
   tree ← tree_of nodes links
-  _ ← none_at 15 (first_where (is_crowded tree.links) [] nodes)
+  _ ← no_entry 15 (first_where (is_crowded tree.links) [] nodes)
   events ← events_of ticks nodes links event_tables
   Ok (record { ticks = ticks; leave_time = record { 0 = leave_time }; periodic = periodic; tree = tree; nodes = nodes; links = links; events = events })
 

@@ -2,20 +2,18 @@
 
 ghost use Rattle.std.specs.Prelude.{◌≡◌, ◌<◌, ◌≤◌, map, length, codes, Option, option_map, IfOk};
 ghost use Rattle.toml.specs.View.{table_view};
-ghost use Rattle.toml_rules.specs.Rules.{Reads};
+ghost use Rattle.toml_rules.specs.Rules.{Reads, each_entry};
 ghost use Rattle.topology_file.specs.Entries.{vlan_parts, link_parts, word_of_text, word_at, kind_form, event_form};
-ghost use Rattle.topology_file.specs.First.{each};
 ghost use Rattle.topology_file.specs.Scenario.{joined_from, kind_entry, event_entry, form_ticks, first_fall as first_fall_lem, events_of};
 
 use crate::entries::{EventEntry, EventForm, EventKind, EventWord, KindForm, LinkEntry, NodeEntry};
-use crate::first::{fails_at, none_at};
 use crate::forms::{read_index, read_name, read_tick, read_vid};
 use crate::links::are_joined;
 use crate::nodes::{copy_text, node_named, station_named};
 use srp_base::{NoMemory, NodeNo, Seq, Vid};
 use std::alloc::Global;
 use toml::Table;
-use toml_rules::{RuleErr, has_only, text};
+use toml_rules::{RuleErr, fails_at, has_only, no_entry, text};
 
 const VLAN_KEYS: [&str; 4] = ["tick", "kind", "station", "vid"];
 
@@ -134,7 +132,7 @@ fn read_event(
 
 /// Rule 20: each event has its form.
 fn read_forms(alloc: Global, ticks: u64, entries: &[&Table]) -> Result<Vec<EventForm>, RuleErr>
-    ensures { Reads (λ v. v.items) result (each 20 (event_form ticks) 1 (map (λ t. table_view t.now) entries.now)) }
+    ensures { Reads (λ v. v.items) result (each_entry 20 (event_form ticks) 1 (map (λ t. table_view t.now) entries.now)) }
 {
     let mut forms = Vec::new(alloc);
     for (i, table) in entries.iter().enumerate() {
@@ -221,7 +219,7 @@ fn name_events(
     forms: &[EventForm],
 ) -> Result<Vec<EventEntry>, RuleErr>
     requires { length nodes.now ≤ 64 }
-    ensures { Reads (λ v. v.items) result (each 22 (event_entry nodes.now links.now) 1 forms.now) }
+    ensures { Reads (λ v. v.items) result (each_entry 22 (event_entry nodes.now links.now) 1 forms.now) }
 {
     let mut events = Vec::new(alloc);
     for (i, form) in forms.iter().enumerate() {
@@ -249,6 +247,6 @@ pub(crate) fn read_events(
     ensures { Reads (λ v. v.items) result (events_of ticks nodes.now links.now (map (λ t. table_view t.now) entries.now)) }
 {
     let forms = read_forms(alloc, ticks, entries)?;
-    none_at(21, first_fall(&forms))?;
+    no_entry(21, first_fall(&forms))?;
     name_events(alloc, nodes, links, &forms)
 }

@@ -1,21 +1,19 @@
-//! The links of a scenario and the tree that they make: rules 8 to 15.
+//! The links of a scenario: rules 8 to 11.
 
 ghost use Rattle.std.specs.Prelude.{◌≡◌, ◌+◌, ◌==◌, ◌<◌, ◌≤◌, [], map, length, Option, option_map, IfOk};
 ghost use Rattle.std.specs.List.{list_any};
 ghost use Rattle.toml.specs.View.{table_view};
-ghost use Rattle.toml_rules.specs.Rules.{Reads};
+ghost use Rattle.toml_rules.specs.Rules.{Reads, each_entry, first_where};
 ghost use Rattle.topology_file.specs.Entries.{link_form};
-ghost use Rattle.topology_file.specs.First.{each, first_where};
 ghost use Rattle.topology_file.specs.Scenario.{joins_both as joins_both_lem, link_entry, is_self_link as is_self_link_lem, is_second_link as is_second_link_lem, links_of};
 
 use crate::entries::{LinkEntry, LinkForm, NodeEntry};
-use crate::first::{fails_at, none_at};
-use crate::forms::{read_latency, read_name, read_rate, read_shares};
+use crate::forms::{read_latency, read_name, read_rate};
 use crate::nodes::{copy_text, node_named};
 use srp_base::NoMemory;
 use std::alloc::Global;
 use toml::Table;
-use toml_rules::{RuleErr, has_only};
+use toml_rules::{RuleErr, fails_at, has_only, no_entry, read_shares};
 
 const LINK_KEYS: [&str; 6] = ["a", "b", "rate", "delta_a", "delta_b", "latency"];
 
@@ -55,7 +53,7 @@ fn read_link(alloc: Global, table: &Table) -> Result<Option<LinkForm>, NoMemory>
 
 /// Rule 8: each link has its form.
 fn read_forms(alloc: Global, entries: &[&Table]) -> Result<Vec<LinkForm>, RuleErr>
-    ensures { Reads (λ v. v.items) result (each 8 link_form 1 (map (λ t. table_view t.now) entries.now)) }
+    ensures { Reads (λ v. v.items) result (each_entry 8 link_form 1 (map (λ t. table_view t.now) entries.now)) }
 {
     let mut forms = Vec::new(alloc);
     for (i, table) in entries.iter().enumerate() {
@@ -92,7 +90,7 @@ fn name_links(
     forms: &[LinkForm],
 ) -> Result<Vec<LinkEntry>, RuleErr>
     requires { length nodes.now ≤ 64 }
-    ensures { Reads (λ v. v.items) result (each 9 (link_entry nodes.now) 1 forms.now) }
+    ensures { Reads (λ v. v.items) result (each_entry 9 (link_entry nodes.now) 1 forms.now) }
 {
     let mut links = Vec::new(alloc);
     for (i, form) in forms.iter().enumerate() {
@@ -153,7 +151,7 @@ pub(crate) fn read_links(
 {
     let forms = read_forms(alloc, entries)?;
     let links = name_links(alloc, nodes, &forms)?;
-    none_at(10, self_link(&links))?;
-    none_at(11, second_link(&links))?;
+    no_entry(10, self_link(&links))?;
+    no_entry(11, second_link(&links))?;
     Ok(links)
 }

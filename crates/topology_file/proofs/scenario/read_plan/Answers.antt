@@ -4,7 +4,7 @@ use Rattle.srp_base.specs.declared.numbers.Cs.{Cs}
 use Rattle.topology_file.specs.declared.entries.NodeEntry.{NodeEntry}
 use Rattle.topology_file.specs.declared.entries.LinkEntry.{LinkEntry}
 use Rattle.topology_file.specs.declared.entries.EventEntry.{EventEntry}
-use Rattle.topology_file.specs.First.{none_at, first_where}
+use Rattle.toml_rules.specs.Rules.{no_entry, first_where}
 use Rattle.topology_file.specs.Scenario.{is_crowded, nodes_of, links_of, tree_of, events_of, KeepsRules}
 use Rattle.topology_file.proofs.Chains.{ok-says, none-none}
 use Rattle.topology_file.proofs.Kept.{NodesKeep, LinksKeep, TreeKeeps, EventsKeep, links-kept, nodes-keep, links-keep, tree-keeps, events-keep, plan-keeps}
@@ -34,7 +34,7 @@ invariant_of-result c =
     let CN : List NodeEntry → Type 0 = λ ns. first_where (is_crowded tree.links) [] ns ≡ None in
     let EN : List NodeEntry → Type 0 = λ ns. events_of ticks ns c.deref-6.result.now event_tables ≡ Ok events in
     let EL : List LinkEntry → Type 0 = λ ls. events_of ticks nodes ls event_tables ≡ Ok events in
-    let none = ok-says (λ _. c.crowded_node.result ≡ None) (none_at 15 c.crowded_node.result) _ (sym c.in_ok-none_at.ensures) (none-none 15 c.crowded_node.result) in
+    let none = ok-says (λ _. c.crowded_node.result ≡ None) (no_entry 15 c.crowded_node.result) _ (sym c.in_ok-no_entry.ensures) (none-none 15 c.crowded_node.result) in
     let KN : List NodeEntry → Type 0 = λ ns. KeepsRules (record { ticks = ticks; leave_time = record { 0 = c.args.times.leave_time }; periodic = c.args.times.periodic; tree = tree; nodes = ns; links = links; events = events }) in
     let KL : List LinkEntry → Type 0 = λ ls. KeepsRules (record { ticks = ticks; leave_time = record { 0 = c.args.times.leave_time }; periodic = c.args.times.periodic; tree = tree; nodes = c.from_vec.result; links = ls; events = events }) in
     let KE : List EventEntry → Type 0 = λ es. KeepsRules (record { ticks = ticks; leave_time = record { 0 = c.args.times.leave_time }; periodic = c.args.times.periodic; tree = tree; nodes = c.from_vec.result; links = c.from_vec-2.result; events = es }) in
