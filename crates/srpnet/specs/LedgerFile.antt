@@ -12,6 +12,7 @@ use Rattle.srp_base.specs.Hexadecimal.{hex16}
 use Rattle.toml.specs.Data.{Members}
 use Rattle.toml_rules.specs.declared.rules.RuleErr.{RuleErr}
 use Rattle.toml_rules.specs.Fields.{number, number_or, within, text, tables, has_only}
+use Rattle.toml_rules.specs.Shares.{shares_at}
 use Rattle.toml_rules.specs.Rules.{◌>>=◌, needs, holds, no_entry, each_entry}
 use Rattle.stream_importance.specs.Bandwidth.{slope_of_frames}
 use Rattle.srp_base.specs.declared.numbers.StreamId.{StreamId}
@@ -82,12 +83,6 @@ file_keys = codes "rate" ∷ codes "delta_a" ∷ codes "delta_b" ∷ codes "want
 -- the port's rate in Mb/s
 abbrev pub rate_at : Members → Option Rate
 rate_at ms = option_and_then rate_of_mbit (number (codes "rate") ms)
-
--- the shares of class A and class B in percent, 90 together at most
-abbrev pub shares_at : Members → Option (ℕ × ℕ)
-shares_at ms =
-    option_and_then (λ a. option_and_then (λ b. if nat_le (a + b) 90 then Some (a, b) else None)
-    (within 0 90 (number_or (codes "delta_b") 0 ms))) (within 0 90 (number_or (codes "delta_a") 75 ms))
 
 -- the first want, from entry n on, whose tick is below the one before it
 abbrev pub first_fall : ℕ → ℕ → List LedgerWant → Option ℕ

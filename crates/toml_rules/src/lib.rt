@@ -2,7 +2,8 @@
 //!
 //! ```text
 //! fields   value_at number number_or within truth_or text tables has_only     what a table has at a key
-//! rules    RuleErr needs holds                                                a rule, and how it fails
+//! rules    RuleErr needs needs_tables holds no_entry fails_at                 a rule, and how it fails
+//! shares   read_shares                                                        the shares of class A and B
 //! ```
 //!
 //! A file's definition is a list of rules in the order in which they are checked, each a fact about the
@@ -10,10 +11,12 @@
 //! answers what the definition of the same name says of them.
 #![tactic(auto)]
 
-pub mod fields;
-pub mod rules;
+mod fields;
+mod rules;
+mod shares;
 #[cfg(test)]
 mod tests;
 
 pub use fields::{has_only, number, number_or, tables, text, truth_or, value_at, within};
-pub use rules::{RuleErr, holds, needs};
+pub use rules::{RuleErr, fails_at, holds, needs, needs_tables, no_entry};
+pub use shares::read_shares;

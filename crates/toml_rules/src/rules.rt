@@ -1,11 +1,15 @@
 //! The rules of a file and how they fail.
 
-ghost use Rattle.std.specs.Prelude.{◌≡◌};
+ghost use Rattle.std.specs.Prelude.{◌≡◌, map};
+ghost use Rattle.toml.specs.View.{table_view};
 ghost use Rattle.toml_rules.specs.declared.rules.RuleErr.TheVariants.{NoMemory};
-ghost use Rattle.toml_rules.specs.Rules.{needs as needs_lem, holds as holds_lem};
+ghost use Rattle.toml_rules.specs.Fields.{tables as tables_lem};
+ghost use Rattle.toml_rules.specs.Rules.{Reads, fails_at as fails_at_lem, holds as holds_lem, needs as needs_lem, no_entry as no_entry_lem};
 
-use std::alloc::{AllocError, AllocFailed};
+use crate::fields::tables;
+use std::alloc::{AllocError, AllocFailed, Global};
 use thiserror::Error;
+use toml::Table;
 
 /// Why a file is refused.
 #[derive(Clone, Copy, Debug, PartialEq, Eq, Error)]
@@ -61,5 +65,46 @@ pub fn holds(rule: u8, test: bool) -> Result<(), RuleErr>
         Ok(())
     } else {
         Err(RuleErr::Rule { rule, entry: 0 })
+    }
+}
+
+/// A rule that needs the array of tables at a key, which is empty where the key is missing: with
+/// another value at the key the rule fails with entry 0.
+///
+/// # Errors
+///
+/// `NoMemory` beside the broken rule.
+pub fn needs_tables<'a>(
+    alloc: Global,
+    rule: u8,
+    table: &'a Table,
+    key: &str,
+) -> Result<Vec<&'a Table>, RuleErr>
+    ensures { Reads (λ v. map (λ t. table_view t.now) v.items) result (needs_lem rule (tables_lem key.now (table_view table.now))) }
+{
+    match tables(alloc, table, key) {
+        Ok(Some(entries)) => Ok(entries),
+        Ok(None) => Err(RuleErr::Rule { rule, entry: 0 }),
+        Err(_) => Err(RuleErr::NoMemory),
+    }
+}
+
+/// The rule fails at this entry, counted from 1; a number past 4,294,967,295 stands still there.
+pub fn fails_at(rule: u8, number: usize) -> RuleErr
+    ensures { result ≡ fails_at_lem rule number }
+{
+    RuleErr::Rule {
+        rule,
+        entry: number.min(4_294_967_295) as u32,
+    }
+}
+
+/// A rule that no entry breaks: where one is named the rule fails at it.
+pub fn no_entry(rule: u8, found: Option<usize>) -> Result<(), RuleErr>
+    ensures { result ≡ no_entry_lem rule found }
+{
+    match found {
+        Some(number) => Err(fails_at(rule, number)),
+        None => Ok(()),
     }
 }

@@ -1,4 +1,7 @@
-use crate::{has_only, number, number_or, tables, text, within};
+use crate::{
+    RuleErr, fails_at, has_only, holds, needs, needs_tables, no_entry, number, number_or,
+    read_shares, tables, text, truth_or, value_at, within,
+};
 use srp_base::NoMemory;
 use std::alloc::Global;
 use std::test::Fail;
@@ -24,6 +27,59 @@ fn a_table_has_its_fields(rt: HostRuntime) -> Result<(), Fail> {
     assert_eq!(rt; count(alloc, &table, "e")?, Some(2));
     assert_eq!(rt; count(alloc, &table, "z")?, Some(0), "missing");
     assert_eq!(rt; count(alloc, &table, "a")?, None, "no array");
+    Ok(())
+}
+
+#[test]
+fn a_truth_value_is_no_number(rt: HostRuntime) -> Result<(), Fail> {
+    let table = toml::table_from_str(rt.alloc(), "a = true\nb = 1\n")?;
+    assert_eq!(rt; truth_or(&table, "a", false), Some(true));
+    assert_eq!(rt; truth_or(&table, "z", false), Some(false), "missing");
+    assert_eq!(rt; truth_or(&table, "b", false), None, "a number");
+    assert!(rt; value_at(&table, "b").is_some());
+    assert!(rt; value_at(&table, "z").is_none());
+    Ok(())
+}
+
+#[test]
+fn a_rule_fails_with_its_entry(rt: HostRuntime) -> Result<(), Fail> {
+    let alloc = rt.alloc();
+    let whole = RuleErr::Rule { rule: 3, entry: 0 };
+    let second = RuleErr::Rule { rule: 3, entry: 2 };
+    let last = RuleErr::Rule {
+        rule: 3,
+        entry: 4_294_967_295,
+    };
+    assert_eq!(rt; needs(3, Some(7u64)), Ok(7));
+    assert_eq!(rt; needs::<u64>(3, None), Err(whole));
+    assert_eq!(rt; holds(3, true), Ok(()));
+    assert_eq!(rt; holds(3, false), Err(whole));
+    assert_eq!(rt; no_entry(3, None), Ok(()));
+    assert_eq!(rt; no_entry(3, Some(2)), Err(second));
+    assert_eq!(rt; fails_at(3, 4_294_967_296), last);
+    let table = toml::table_from_str(alloc, "a = 1\n[[e]]\n[[e]]\n")?;
+    assert_eq!(rt; needs_tables(alloc, 3, &table, "e")?.len(), 2);
+    assert_eq!(rt; needs_tables(alloc, 3, &table, "z")?.len(), 0);
+    assert_eq!(rt; needs_tables(alloc, 3, &table, "a").err(), Some(whole));
+    Ok(())
+}
+
+#[test]
+fn shares_are_ninety_together_at_most(rt: HostRuntime) -> Result<(), Fail> {
+    let cases = [
+        ("", Some((75, 0))),
+        ("delta_a = 90\n", Some((90, 0))),
+        ("delta_a = 91\n", None),
+        ("delta_b = 15\n", Some((75, 15))),
+        ("delta_b = 16\n", None),
+        ("delta_a = 0\ndelta_b = 90\n", Some((0, 90))),
+        ("delta_a = '1'\n", None),
+    ];
+    for (text, shares) in cases {
+        let table = toml::table_from_str(rt.alloc(), text)?;
+        let answer = read_shares(&table).map(|(a, b)| (a.get(), b.get()));
+        assert_eq!(rt; answer, shares, "{text}");
+    }
     Ok(())
 }
 

@@ -2,8 +2,7 @@
 use Rattle.std.proofs.Common.{◌≡◌, ℕ, suc, zero, add-one, if◌then◌else◌, append-nil, ◌+◌, ◌<◌, ◌≤◌, Bool, true, false, cond, List, [], ◌∷◌, ◌++◌, Option, Some, None, Result, Ok, Err, refl, sym, ap, ◌∙◌, length, get_or, take, drop, map, arith, append_assoc}
 use Rattle.std.proofs.lemmas.List.{take_more, drop_more, drop_all, length-take-le}
 use Rattle.toml_rules.specs.declared.rules.RuleErr.{RuleErr}
-use Rattle.toml_rules.specs.Rules.{with_front}
-use Rattle.topology_file.specs.First.{each, entry_then, first_where}
+use Rattle.toml_rules.specs.Rules.{with_front, each_entry, entry_then, first_where}
 
 -- some values in front of those that the later entries give
 abbrev pub in_front : {B : Type 0} → List B → Result (List B) RuleErr → Result (List B) RuleErr
@@ -32,11 +31,11 @@ pub where-end : {A : Type 0} (test : List A → A → Bool) (xs : List A) (i : �
 where-end test xs i le = ap (λ ys. first_where test (take i xs) ys) (drop_all i xs le)
 
 -- one entry more that its rule reads
-pub each-step : {T A B : Type 0} (rule : ℕ) (read : ℕ → A → Option B) (f : T → A) (front more : List B) (i : ℕ) (xs : List T) (x : T) (y : B) (all : Result (List B) RuleErr) → i < length xs → x ≡ get_or xs i x → read (i + 1) (f x) ≡ Some y → more ≡ front ++ y ∷ [] → in_front front (each rule read (i + 1) (map f (drop i xs))) ≡ all → in_front more (each rule read (i + 1 + 1) (map f (drop (i + 1) xs))) ≡ all
+pub each-step : {T A B : Type 0} (rule : ℕ) (read : ℕ → A → Option B) (f : T → A) (front more : List B) (i : ℕ) (xs : List T) (x : T) (y : B) (all : Result (List B) RuleErr) → i < length xs → x ≡ get_or xs i x → read (i + 1) (f x) ≡ Some y → more ≡ front ++ y ∷ [] → in_front front (each_entry rule read (i + 1) (map f (drop i xs))) ≡ all → in_front more (each_entry rule read (i + 1 + 1) (map f (drop (i + 1) xs))) ≡ all
 each-step rule read f front more i xs x y all lt is e new h =
-    let rest = each rule read (i + 1 + 1) (map f (drop (i + 1) xs)) in
+    let rest = each_entry rule read (i + 1 + 1) (map f (drop (i + 1) xs)) in
     let cut : drop i xs ≡ x ∷ drop (i + 1) xs = drop_more xs i x lt ∙ ap (λ t. t ∷ drop (i + 1) xs) (sym is) in
-    let one : each rule read (i + 1) (map f (drop i xs)) ≡ entry_then rule (i + 1) (read (i + 1) (f x)) rest = ap (λ ts. each rule read (i + 1) (map f ts)) cut in
+    let one : each_entry rule read (i + 1) (map f (drop i xs)) ≡ entry_then rule (i + 1) (read (i + 1) (f x)) rest = ap (λ ts. each_entry rule read (i + 1) (map f ts)) cut in
     ap (λ ys. in_front ys rest) new ∙ sym (in_front-step front y rest) ∙ ap (λ r. in_front front r) (sym (one ∙ ap (λ o. entry_then rule (i + 1) o rest) e)) ∙ h
 
 not-found : (b : Bool) (n : ℕ) (o : Option ℕ) → (if b then Some n else o) ≡ None → b ≡ false

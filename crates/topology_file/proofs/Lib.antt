@@ -1,3 +1,4 @@
 pub mod FirstLemmas
+pub mod Chains
 pub mod TreeRules
-pub mod EventLemmas
+pub mod Kept

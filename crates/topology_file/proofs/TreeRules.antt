@@ -6,7 +6,7 @@ use Rattle.std.proofs.lemmas.List.{length-map, take-map, length-take-le}
 use Rattle.std.specs.List.{All, list_any}
 use Rattle.std.specs.Prelude.{◌↔◌, nat_lt}
 use Rattle.toml_rules.specs.declared.rules.RuleErr.{RuleErr}
-use Rattle.toml_rules.specs.Rules.{◌>>=◌, Reads}
+use Rattle.toml_rules.specs.Rules.{◌>>=◌, Reads, fails_at, no_entry, first_where}
 use Rattle.tree_topology.specs.Topology.{Topology}
 use Rattle.tree_topology.specs.declared.graph.Link.{Link}
 use Rattle.tree_topology.specs.declared.graph.NodeKind.{NodeKind}
@@ -19,7 +19,6 @@ use Rattle.tree_topology.specs.Refusal.{IsFirstLink, IsFirstNode, ClosesLoop, Ha
 use Rattle.tree_topology.specs.Walk.{component}
 use Rattle.topology_file.specs.declared.entries.NodeEntry.{NodeEntry}
 use Rattle.topology_file.specs.declared.entries.LinkEntry.{LinkEntry}
-use Rattle.topology_file.specs.First.{fails_at, none_at, first_where}
 use Rattle.topology_file.specs.Scenario.{is_station, ends_of_entry, tree_links, joins_both, is_self_link, is_second_link, closes_loop, is_unconnected, is_stray_station, is_crowded, topology_of, tree_of, rule_of}
 use Rattle.topology_file.proofs.FirstLemmas.{where-none, where-found, where-not_found, where-here, where-later}
 
@@ -63,14 +62,14 @@ joined-any (l ∷ links) x y j = elim j [ inl e ↦ or-left (joins_both x y l) (
 ends-at : (links : List LinkEntry) (i : ℕ) (d : LinkEntry) (e : Link) → i < length links → get_or (tree_links links) i e ≡ ends_of_entry (get_or links i d)
 ends-at links i d e lt = get_or-map ends_of_entry links i d e lt
 
-an_entry : (links : List LinkEntry) (i : ℕ) → i < length links → LinkEntry
+pub an_entry : (links : List LinkEntry) (i : ℕ) → i < length links → LinkEntry
 an_entry [] i lt = absurd (omega (arith, lt))
 an_entry (l ∷ links) i lt = l
 
 pub length-links : (links : List LinkEntry) → length (tree_links links) ≡ length links
 length-links links = length-map links ends_of_entry
 
-no-true : (b : Bool) → b ≡ false → b ≡ true → ⊥
+pub no-true : (b : Bool) → b ≡ false → b ≡ true → ⊥
 no-true b e f = false≢true (sym e ∙ f)
 
 -- links that pass the rules so far are a graph
@@ -99,13 +98,13 @@ known-closes links i d e lt c =
     let G : List Link → Type 0 = λ t. Connected t (get_or links i d).a.0 (get_or links i d).b.0 in
     subst F (sym (ends-at links i d e lt)) (subst G (sym (take-map ends_of_entry i links)) c)
 
-same-test : (a b : ℕ) → a ≡ b → (a == b) ≡ true
+pub same-test : (a b : ℕ) → a ≡ b → (a == b) ≡ true
 same-test a b e = grind (arith, nat_tests)
 
 other-test : (a b : ℕ) → a ≢ b → (a == b) ≡ false
 other-test a b n = grind (arith, nat_tests)
 
-closes-true : ComponentLaw → (links : List LinkEntry) (i : ℕ) (d : LinkEntry) (e : Link) → i < length links → ClosesLoop (take i (tree_links links)) (get_or (tree_links links) i e) → closes_loop (take i links) (get_or links i d) ≡ true
+pub closes-true : ComponentLaw → (links : List LinkEntry) (i : ℕ) (d : LinkEntry) (e : Link) → i < length links → ClosesLoop (take i (tree_links links)) (get_or (tree_links links) i e) → closes_loop (take i links) (get_or links i d) ≡ true
 closes-true law links i d e lt c =
     same-test (component (tree_links (take i links)) (get_or links i d).a.0) (component (tree_links (take i links)) (get_or links i d).b.0) ((law (tree_links (take i links)) (get_or links i d).a.0 (get_or links i d).b.0).1 (closes-known links i d e lt c))
 
@@ -141,7 +140,7 @@ cut-false law links nodes i x lt n =
       | inr q ↦ absurd (n (λ c. q ((law L 1 (i + 1)).1 c)))
     ]
 
-a_node : (nodes : List NodeEntry) (i : ℕ) → i < length nodes → NodeEntry
+pub a_node : (nodes : List NodeEntry) (i : ℕ) → i < length nodes → NodeEntry
 a_node [] i lt = absurd (omega (arith, lt))
 a_node (x ∷ nodes) i lt = x
 
@@ -179,7 +178,7 @@ and-false true true n = absurd (n (refl, refl))
 and-false true false n = refl
 and-false false c n = refl
 
-stray-true : (links : List LinkEntry) (nodes : List NodeEntry) (i : ℕ) (d : NodeEntry) → i < length nodes → IsStationWithLinks (map (λ x. x.kind) nodes) (tree_links links) (i + 1) → is_stray_station links (take i nodes) (get_or nodes i d) ≡ true
+pub stray-true : (links : List LinkEntry) (nodes : List NodeEntry) (i : ℕ) (d : NodeEntry) → i < length nodes → IsStationWithLinks (map (λ x. x.kind) nodes) (tree_links links) (i + 1) → is_stray_station links (take i nodes) (get_or nodes i d) ≡ true
 stray-true links nodes i d lt h =
     let count : ℕ → ℕ = λ t. length (neighbours (tree_links links) t) in
     let kind : (get_or nodes i d).kind ≡ Station = sym (kind-at nodes i d Station lt) ∙ h.0 Station in
@@ -214,9 +213,9 @@ pub record TreeLaws : Type 0 where
   pub no_loop : (count : ℕ) (links : List Link) → IsTree count links → HasNoLoop links
   pub connected : (count : ℕ) (links : List Link) (x y : ℕ) → IsTree count links → IsNode count x → IsNode count y → Connected links x y
 
-tree-result : (nodes : List NodeEntry) (links : List LinkEntry) (o p q : Option ℕ) → first_where closes_loop [] links ≡ o → first_where (is_unconnected links) [] nodes ≡ p → first_where (is_stray_station links) [] nodes ≡ q → tree_of nodes links ≡ (none_at 12 o >>= (λ _. none_at 13 p >>= (λ _. none_at 14 q >>= (λ _. Ok (topology_of nodes links)))))
+tree-result : (nodes : List NodeEntry) (links : List LinkEntry) (o p q : Option ℕ) → first_where closes_loop [] links ≡ o → first_where (is_unconnected links) [] nodes ≡ p → first_where (is_stray_station links) [] nodes ≡ q → tree_of nodes links ≡ (no_entry 12 o >>= (λ _. no_entry 13 p >>= (λ _. no_entry 14 q >>= (λ _. Ok (topology_of nodes links)))))
 tree-result nodes links o p q e f g =
-    ap (λ x. none_at 12 x >>= (λ _. none_at 13 (first_where (is_unconnected links) [] nodes) >>= (λ _. none_at 14 (first_where (is_stray_station links) [] nodes) >>= (λ _. Ok (topology_of nodes links))))) e ∙ ap (λ x. none_at 12 o >>= (λ _. none_at 13 x >>= (λ _. none_at 14 (first_where (is_stray_station links) [] nodes) >>= (λ _. Ok (topology_of nodes links))))) f ∙ ap (λ x. none_at 12 o >>= (λ _. none_at 13 p >>= (λ _. none_at 14 x >>= (λ _. Ok (topology_of nodes links))))) g
+    ap (λ x. no_entry 12 x >>= (λ _. no_entry 13 (first_where (is_unconnected links) [] nodes) >>= (λ _. no_entry 14 (first_where (is_stray_station links) [] nodes) >>= (λ _. Ok (topology_of nodes links))))) e ∙ ap (λ x. no_entry 12 o >>= (λ _. no_entry 13 x >>= (λ _. no_entry 14 (first_where (is_stray_station links) [] nodes) >>= (λ _. Ok (topology_of nodes links))))) f ∙ ap (λ x. no_entry 12 o >>= (λ _. no_entry 13 p >>= (λ _. no_entry 14 x >>= (λ _. Ok (topology_of nodes links))))) g
 
 tree-loop : (nodes : List NodeEntry) (links : List LinkEntry) (n : ℕ) → first_where closes_loop [] links ≡ Some n → tree_of nodes links ≡ Err (fails_at 12 n)
 tree-loop nodes links n e =

@@ -7,6 +7,7 @@ use Rattle.srp_base.specs.Bandwidth.{rate_of_mbit}
 use Rattle.srp_base.specs.Hexadecimal.{hex16}
 use Rattle.toml.specs.Data.{Data, Members, get_member, as_str}
 use Rattle.toml_rules.specs.Fields.{or_default, number, number_or, within, text, has_only}
+use Rattle.toml_rules.specs.Shares.{shares_at}
 use Rattle.tree_topology.specs.declared.graph.NodeKind.{NodeKind}
 use Rattle.tree_topology.specs.declared.graph.NodeKind.TheVariants.{Station, Bridge}
 use Rattle.topology_file.specs.declared.entries.NodeEntry.{NodeEntry}
@@ -73,12 +74,6 @@ link_keys = codes "a" ∷ codes "b" ∷ codes "rate" ∷ codes "delta_a" ∷ cod
 -- 100, 1000 or 10000 Mb/s, 100 where none is given
 abbrev pub rate_at : Members → Option Rate
 rate_at ms = option_and_then rate_of_mbit (number_or (codes "rate") 100 ms)
-
--- the shares of class A and class B in percent, 75 and 0 where none are given, 90 together at most
-abbrev pub shares_at : Members → Option (ℕ × ℕ)
-shares_at ms =
-    option_and_then (λ a. option_and_then (λ b. if nat_le (a + b) 90 then Some (a, b) else None)
-    (within 0 90 (number_or (codes "delta_b") 0 ms))) (within 0 90 (number_or (codes "delta_a") 75 ms))
 
 -- the latency in ns, 0 where none is given
 abbrev pub latency_at : Members → Option ℕ

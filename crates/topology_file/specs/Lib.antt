@@ -1,4 +1,3 @@
 pub mod Entries
-pub mod First
 pub mod Plan
 pub mod Scenario

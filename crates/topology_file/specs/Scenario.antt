@@ -1,7 +1,8 @@
 -- The scenario of a table, or the first rule that it breaks, with the first entry that breaks it.
-use Rattle.std.specs.Prelude.{◌≡◌, ◌≤◌, ◌<◌, ◌-◌, All, ℕ, ◌+◌, ◌*◌, ◌==◌, Bool, true, false, not, ◌&&◌, ◌||◌, nat_le, nat_lt, nat_eq, if◌then◌else◌, List, [], ◌∷◌, length, map, codes, Option, Some, None, option_map, option_and_then, Result, Ok}
+use Rattle.std.specs.Prelude.{◌≡◌, ◌≢◌, ◌≤◌, ◌<◌, ◌-◌, ◌^◌, All, AllPairs, ℕ, ◌+◌, ◌*◌, ◌==◌, Bool, true, false, not, ◌&&◌, ◌||◌, nat_le, nat_lt, nat_eq, if◌then◌else◌, List, [], ◌∷◌, length, map, codes, Option, Some, None, option_map, option_and_then, Result, Ok}
 use Rattle.std.specs.Cmp.Lexicographic.{pointwise}
 use Rattle.std.specs.List.{list_any}
+use Rattle.std.specs.List.Sorted.{IsNonDecreasing}
 use Rattle.std.proofs.Common.{get_or}
 use Rattle.tree_topology.specs.Graph.{IsNode}
 use Rattle.toml.specs.Data.{Members}
@@ -9,13 +10,14 @@ use Rattle.toml_rules.specs.declared.rules.RuleErr.{RuleErr}
 use Rattle.toml_rules.specs.declared.rules.RuleErr.TheVariants as rules
 use Rattle.tree_topology.specs.declared.graph.TreeErr.TheVariants as refusals
 use Rattle.toml_rules.specs.Fields.{number, number_or, within, truth_or, tables, has_only}
-use Rattle.toml_rules.specs.Rules.{◌>>=◌, needs, holds}
+use Rattle.toml_rules.specs.Rules.{◌>>=◌, needs, holds, fails_at, no_entry, each_entry, first_where}
 use Rattle.tree_topology.specs.declared.graph.Link.{Link}
 use Rattle.tree_topology.specs.declared.graph.NodeKind.{NodeKind}
 use Rattle.tree_topology.specs.declared.graph.NodeKind.TheVariants.{Station, Bridge}
 use Rattle.tree_topology.specs.declared.graph.TreeErr.{TreeErr}
 use Rattle.tree_topology.specs.declared.graph.TreeErr.TheVariants.{UnknownNode, SelfLink, SecondLink, Loop, Unconnected, StationWithLinks, TooManyLinks}
 use Rattle.tree_topology.specs.Ports.{neighbours}
+use Rattle.tree_topology.specs.Refusal.{IsAccepted}
 use Rattle.tree_topology.specs.Topology.{Topology}
 use Rattle.tree_topology.specs.Walk.{component}
 use Rattle.topology_file.specs.declared.entries.NodeEntry.{NodeEntry}
@@ -27,8 +29,7 @@ use Rattle.topology_file.specs.declared.entries.LinkForm.{LinkForm}
 use Rattle.topology_file.specs.declared.entries.EventForm.{EventForm}
 use Rattle.topology_file.specs.declared.entries.KindForm.{KindForm}
 use Rattle.topology_file.specs.declared.entries.KindForm.TheVariants as forms
-use Rattle.topology_file.specs.First.{fails_at, none_at, each, first_where}
-use Rattle.topology_file.specs.Entries.{node_entry, link_form, event_form}
+use Rattle.topology_file.specs.Entries.{is_name, node_entry, link_form, event_form}
 use Rattle.topology_file.specs.Plan.{Plan}
 
 -- ---- nodes
@@ -61,10 +62,10 @@ is_small ticks nodes =
 
 abbrev pub nodes_of : ℕ → List Members → Result (List NodeEntry) RuleErr
 nodes_of ticks entries = do
-  nodes ← each 4 node_entry 1 entries
+  nodes ← each_entry 4 node_entry 1 entries
   _ ← holds 5 (is_small ticks nodes)
-  _ ← none_at 6 (first_where has_name_of [] nodes)
-  _ ← none_at 7 (first_where has_id_of [] nodes)
+  _ ← no_entry 6 (first_where has_name_of [] nodes)
+  _ ← no_entry 7 (first_where has_id_of [] nodes)
   Ok nodes
 
 -- ---- links
@@ -125,17 +126,17 @@ rule_of refusals.NoMemory = rules.NoMemory
 
 abbrev pub tree_of : List NodeEntry → List LinkEntry → Result Topology RuleErr
 tree_of nodes links = do
-  _ ← none_at 12 (first_where closes_loop [] links)
-  _ ← none_at 13 (first_where (is_unconnected links) [] nodes)
-  _ ← none_at 14 (first_where (is_stray_station links) [] nodes)
+  _ ← no_entry 12 (first_where closes_loop [] links)
+  _ ← no_entry 13 (first_where (is_unconnected links) [] nodes)
+  _ ← no_entry 14 (first_where (is_stray_station links) [] nodes)
   Ok (topology_of nodes links)
 
 abbrev pub links_of : List NodeEntry → List Members → Result (List LinkEntry) RuleErr
 links_of nodes entries = do
-  forms ← each 8 link_form 1 entries
-  links ← each 9 (link_entry nodes) 1 forms
-  _ ← none_at 10 (first_where is_self_link [] links)
-  _ ← none_at 11 (first_where is_second_link [] links)
+  forms ← each_entry 8 link_form 1 entries
+  links ← each_entry 9 (link_entry nodes) 1 forms
+  _ ← no_entry 10 (first_where is_self_link [] links)
+  _ ← no_entry 11 (first_where is_second_link [] links)
   Ok links
 
 -- ---- events
@@ -173,9 +174,9 @@ event_entry nodes links n form =
 
 abbrev pub events_of : ℕ → List NodeEntry → List LinkEntry → List Members → Result (List EventEntry) RuleErr
 events_of ticks nodes links entries = do
-  forms ← each 20 (event_form ticks) 1 entries
-  _ ← none_at 21 (first_fall 1 0 (form_ticks forms))
-  each 22 (event_entry nodes links) 1 forms
+  forms ← each_entry 20 (event_form ticks) 1 entries
+  _ ← no_entry 21 (first_fall 1 0 (form_ticks forms))
+  each_entry 22 (event_entry nodes links) 1 forms
 
 -- ---- the file
 
@@ -195,7 +196,7 @@ plan_of ticks leave_time periodic node_tables link_tables event_tables = do
   nodes ← nodes_of ticks node_tables
   links ← links_of nodes link_tables
   tree ← tree_of nodes links
-  _ ← none_at 15 (first_where (is_crowded tree.links) [] nodes)
+  _ ← no_entry 15 (first_where (is_crowded tree.links) [] nodes)
   events ← events_of ticks nodes links event_tables
   Ok (record { ticks = ticks; leave_time = record { 0 = leave_time }; periodic = periodic; tree = tree; nodes = nodes; links = links; events = events })
 
@@ -238,21 +239,29 @@ IsKnownKind nodes links (kinds.Withdraw station vid) = IsStationNumber nodes sta
 IsKnownKind nodes links (kinds.Lose from to index) = AreJoinedNumbers nodes links from.0 to.0
 IsKnownKind nodes links (kinds.Repeat from to index) = AreJoinedNumbers nodes links from.0 to.0
 
--- what a scenario keeps: rules 1, 3, 5 to 15 and 20 to 22 on its values, and that the tree is
--- that of the nodes and links
+-- the numbers in an event have their ranges
+abbrev pub HasRanges : EventKind → Type 0
+HasRanges (kinds.Declare station vid) = (1 ≤ vid) × (vid ≤ 4094)
+HasRanges (kinds.Withdraw station vid) = (1 ≤ vid) × (vid ≤ 4094)
+HasRanges (kinds.Lose from to index) = index ≤ 65535
+HasRanges (kinds.Repeat from to index) = index ≤ 65535
+
+-- What every scenario keeps: its numbers have their ranges, names and ids differ, its nodes and links are
+-- an accepted tree, and its events are in order and speak of known nodes and links.
 pub record KeepsRules (p : Plan) : Type 0 where
   pub ticks : (1 ≤ p.ticks) × (p.ticks ≤ 12000)
   pub leave_time : (60 ≤ p.leave_time.0) × (p.leave_time.0 ≤ 100)
-  pub small : is_small p.ticks p.nodes ≡ true
-  pub shares : All (λ l. l.delta_a + l.delta_b ≤ 90) p.links
-  pub known_ends : All (λ l. IsNode (length p.nodes) l.a.0 × IsNode (length p.nodes) l.b.0) p.links
-  pub names : first_where has_name_of [] p.nodes ≡ None
-  pub ids : first_where has_id_of [] p.nodes ≡ None
-  pub no_self : first_where is_self_link [] p.links ≡ None
-  pub no_second : first_where is_second_link [] p.links ≡ None
-  pub tree : tree_of p.nodes p.links ≡ Ok p.tree
-  pub uncrowded : first_where (is_crowded p.tree.links) [] p.nodes ≡ None
+  pub node_forms : All (λ x. is_name x.name ≡ true) p.nodes
+  pub node_count : (2 ≤ length p.nodes) × (length p.nodes ≤ 64)
+  pub size : length p.nodes * p.ticks ≤ 400000
+  pub names : AllPairs (λ x y. x.name ≢ y.name) p.nodes
+  pub ids : AllPairs (λ x y. x.id.0 ≢ y.id.0) p.nodes
+  pub link_forms : All (λ l. (l.delta_a + l.delta_b ≤ 90) × (l.latency < 2 ^ 32)) p.links
+  pub accepted : IsAccepted (map (λ x. x.kind) p.nodes) (tree_links p.links)
+  pub uncrowded : (x : ℕ) → IsNode (length p.nodes) x → length (neighbours (tree_links p.links) x) ≤ 16
   pub events_many : length p.events ≤ 10000
   pub events_within : All (λ t. t < p.ticks) (event_ticks p.events)
-  pub events_order : first_fall 1 0 (event_ticks p.events) ≡ None
+  pub events_ranges : All (λ e. HasRanges e.kind) p.events
+  pub events_order : IsNonDecreasing (event_ticks p.events)
   pub events_known : All (λ e. IsKnownKind p.nodes p.links e.kind) p.events
+  pub tree : p.tree ≡ topology_of p.nodes p.links

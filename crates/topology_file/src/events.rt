@@ -1,21 +1,19 @@
 //! The events of a scenario: rules 20 to 22.
 
-ghost use Rattle.std.specs.Prelude.{◌≡◌, ◌<◌, ◌≤◌, All, None, map, length, codes, Option, option_map, IfOk, IfSome};
+ghost use Rattle.std.specs.Prelude.{◌≡◌, ◌<◌, ◌≤◌, map, length, codes, Option, option_map, IfOk};
 ghost use Rattle.toml.specs.View.{table_view};
-ghost use Rattle.toml_rules.specs.Rules.{Reads};
+ghost use Rattle.toml_rules.specs.Rules.{Reads, each_entry};
 ghost use Rattle.topology_file.specs.Entries.{vlan_parts, link_parts, word_of_text, word_at, kind_form, event_form};
-ghost use Rattle.topology_file.specs.First.{each};
-ghost use Rattle.topology_file.specs.Scenario.{joined_from, kind_entry, event_entry, form_ticks, event_ticks, AreJoinedNumbers, IsKnownKind, first_fall as first_fall_lem, events_of};
+ghost use Rattle.topology_file.specs.Scenario.{joined_from, kind_entry, event_entry, form_ticks, first_fall as first_fall_lem, events_of};
 
 use crate::entries::{EventEntry, EventForm, EventKind, EventWord, KindForm, LinkEntry, NodeEntry};
-use crate::first::{fails_at, none_at};
 use crate::forms::{read_index, read_name, read_tick, read_vid};
 use crate::links::are_joined;
 use crate::nodes::{copy_text, node_named, station_named};
 use srp_base::{NoMemory, NodeNo, Seq, Vid};
 use std::alloc::Global;
 use toml::Table;
-use toml_rules::{RuleErr, has_only, text};
+use toml_rules::{RuleErr, fails_at, has_only, no_entry, text};
 
 const VLAN_KEYS: [&str; 4] = ["tick", "kind", "station", "vid"];
 
@@ -114,9 +112,7 @@ fn read_event(
     number: usize,
     table: &Table,
 ) -> Result<Option<EventForm>, NoMemory>
-    ensures event { IfOk result (λ event. event ≡ event_form ticks number (table_view table.now)) }
-    ensures many { IfOk result (λ event. IfSome event (λ e. number ≤ 10000)) }
-    ensures within { IfOk result (λ event. IfSome event (λ e. e.tick < ticks)) }
+    ensures { IfOk result (λ event. event ≡ event_form ticks number (table_view table.now)) }
 {
     if number > MOST_EVENTS {
         return Ok(None);
@@ -136,9 +132,7 @@ fn read_event(
 
 /// Rule 20: each event has its form.
 fn read_forms(alloc: Global, ticks: u64, entries: &[&Table]) -> Result<Vec<EventForm>, RuleErr>
-    ensures forms { Reads (λ v. v.items) result (each 20 (event_form ticks) 1 (map (λ t. table_view t.now) entries.now)) }
-    ensures many { IfOk result (λ v. length v.items ≤ 10000) }
-    ensures within { IfOk result (λ v. All (λ t. t < ticks) (form_ticks v.items)) }
+    ensures { Reads (λ v. v.items) result (each_entry 20 (event_form ticks) 1 (map (λ t. table_view t.now) entries.now)) }
 {
     let mut forms = Vec::new(alloc);
     for (i, table) in entries.iter().enumerate() {
@@ -173,8 +167,7 @@ fn joined_nodes(
     to: &Seq<u8>,
 ) -> Option<(NodeNo, NodeNo)>
     requires { length nodes.now ≤ 64 }
-    ensures numbers { option_map (λ p. (p.0.0, p.1.0)) result ≡ joined_from nodes.now links.now from.now to.now }
-    ensures joined { IfSome result (λ p. AreJoinedNumbers nodes.now links.now p.0.0 p.1.0) }
+    ensures { option_map (λ p. (p.0.0, p.1.0)) result ≡ joined_from nodes.now links.now from.now to.now }
 {
     let x = node_named(nodes, from)?;
     let y = node_named(nodes, to)?;
@@ -188,8 +181,7 @@ fn joined_nodes(
 /// What happens, with numbers in place of names.
 fn name_kind(nodes: &[NodeEntry], links: &[LinkEntry], kind: &KindForm) -> Option<EventKind>
     requires { length nodes.now ≤ 64 }
-    ensures kind { result ≡ kind_entry nodes.now links.now kind.now }
-    ensures known { IfSome result (IsKnownKind nodes.now links.now) }
+    ensures { result ≡ kind_entry nodes.now links.now kind.now }
 {
     match kind {
         KindForm::Declare { station, vid } => {
@@ -227,10 +219,7 @@ fn name_events(
     forms: &[EventForm],
 ) -> Result<Vec<EventEntry>, RuleErr>
     requires { length nodes.now ≤ 64 }
-    ensures events { Reads (λ v. v.items) result (each 22 (event_entry nodes.now links.now) 1 forms.now) }
-    ensures count { IfOk result (λ v. length v.items ≡ length forms.now) }
-    ensures ticks { IfOk result (λ v. event_ticks v.items ≡ form_ticks forms.now) }
-    ensures known { IfOk result (λ v. All (λ e. IsKnownKind nodes.now links.now e.kind) v.items) }
+    ensures { Reads (λ v. v.items) result (each_entry 22 (event_entry nodes.now links.now) 1 forms.now) }
 {
     let mut events = Vec::new(alloc);
     for (i, form) in forms.iter().enumerate() {
@@ -255,13 +244,9 @@ pub(crate) fn read_events(
     entries: &[&Table],
 ) -> Result<Vec<EventEntry>, RuleErr>
     requires { length nodes.now ≤ 64 }
-    ensures events { Reads (λ v. v.items) result (events_of ticks nodes.now links.now (map (λ t. table_view t.now) entries.now)) }
-    ensures many { IfOk result (λ v. length v.items ≤ 10000) }
-    ensures within { IfOk result (λ v. All (λ t. t < ticks) (event_ticks v.items)) }
-    ensures order { IfOk result (λ v. first_fall_lem 1 0 (event_ticks v.items) ≡ None) }
-    ensures known { IfOk result (λ v. All (λ e. IsKnownKind nodes.now links.now e.kind) v.items) }
+    ensures { Reads (λ v. v.items) result (events_of ticks nodes.now links.now (map (λ t. table_view t.now) entries.now)) }
 {
     let forms = read_forms(alloc, ticks, entries)?;
-    none_at(21, first_fall(&forms))?;
+    no_entry(21, first_fall(&forms))?;
     name_events(alloc, nodes, links, &forms)
 }

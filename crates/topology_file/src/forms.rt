@@ -1,13 +1,12 @@
 //! The form of each entry: its keys, their values and their defaults.
 
-ghost use Rattle.std.specs.Prelude.{◌≡◌, ◌+◌, ◌≤◌, Option, option_map, IfSome, IfOk};
+ghost use Rattle.std.specs.Prelude.{◌≡◌, Option};
 ghost use Rattle.std.specs.Option.{option_and_then, option_copied};
 ghost use Rattle.toml.specs.View.{view, table_view};
-ghost use Rattle.topology_file.specs.Entries.{is_name_char as is_name_char_lem, is_name as is_name_lem, name_at, kind_of_text, kind_at, id_at, rate_at, shares_at, latency_at, vid_at, index_at, tick_at};
+ghost use Rattle.topology_file.specs.Entries.{is_name_char as is_name_char_lem, is_name as is_name_lem, name_at, kind_of_text, kind_at, id_at, rate_at, latency_at, vid_at, index_at, tick_at};
 ghost use Rattle.std.specs.List.{list_all};
-ghost use Rattle.toml_rules.specs.Fields.{number_or as number_or_lem, within as within_lem};
 
-use srp_base::{Percent, Rate, Vid, read_hex16};
+use srp_base::{Rate, Vid, read_hex16};
 use toml::{Table, Value};
 use toml_rules::{number, number_or, text, value_at, within};
 use tree_topology::NodeKind;
@@ -74,37 +73,6 @@ pub(crate) fn read_rate(table: &Table) -> Option<Rate>
     ensures { result ≡ rate_at (table_view table.now) }
 {
     Rate::of_mbit(number_or(table, "rate", 100)?)
-}
-
-fn read_share(table: &Table, key: &str, default: u64) -> Option<Percent>
-    ensures { result ≡ within_lem 0 90 (number_or_lem key.now default (table_view table.now)) }
-{
-    percent(within(0, 90, number_or(table, key, default)))
-}
-
-/// A number that is known to be a percentage.
-fn percent(number: Option<u64>) -> Option<Percent>
-    requires { IfSome number (λ n. n ≤ 90) }
-    ensures { result ≡ number }
-{
-    match number {
-        Some(n) => Percent::new(n),
-        None => None,
-    }
-}
-
-/// The shares of class A and class B.
-pub(crate) fn read_shares(table: &Table) -> Option<(Percent, Percent)>
-    ensures shares { result ≡ shares_at (table_view table.now) }
-    ensures together { IfSome result (λ s. s.0 + s.1 ≤ 90) }
-{
-    let delta_a = read_share(table, "delta_a", 75)?;
-    let delta_b = read_share(table, "delta_b", 0)?;
-    if delta_a.get() + delta_b.get() <= 90 {
-        Some((delta_a, delta_b))
-    } else {
-        None
-    }
 }
 
 pub(crate) fn read_latency(table: &Table) -> Option<u32>

@@ -1,29 +1,25 @@
-//! The links of a scenario and the tree that they make: rules 8 to 15.
+//! The links of a scenario: rules 8 to 11.
 
-ghost use Rattle.std.specs.Prelude.{◌≡◌, ◌+◌, ◌==◌, ◌<◌, ◌≤◌, [], map, length, All, Option, None, option_map, IfOk, IfSome, OnOk};
+ghost use Rattle.std.specs.Prelude.{◌≡◌, ◌+◌, ◌==◌, ◌<◌, ◌≤◌, [], map, length, Option, option_map, IfOk};
 ghost use Rattle.std.specs.List.{list_any};
 ghost use Rattle.toml.specs.View.{table_view};
-ghost use Rattle.toml_rules.specs.Rules.{Reads};
-ghost use Rattle.tree_topology.specs.Graph.{IsNode};
+ghost use Rattle.toml_rules.specs.Rules.{Reads, each_entry, first_where};
 ghost use Rattle.topology_file.specs.Entries.{link_form};
-ghost use Rattle.topology_file.specs.First.{each, first_where};
 ghost use Rattle.topology_file.specs.Scenario.{joins_both as joins_both_lem, link_entry, is_self_link as is_self_link_lem, is_second_link as is_second_link_lem, links_of};
 
 use crate::entries::{LinkEntry, LinkForm, NodeEntry};
-use crate::first::{fails_at, none_at};
-use crate::forms::{read_latency, read_name, read_rate, read_shares};
+use crate::forms::{read_latency, read_name, read_rate};
 use crate::nodes::{copy_text, node_named};
 use srp_base::NoMemory;
 use std::alloc::Global;
 use toml::Table;
-use toml_rules::{RuleErr, has_only};
+use toml_rules::{RuleErr, fails_at, has_only, no_entry, read_shares};
 
 const LINK_KEYS: [&str; 6] = ["a", "b", "rate", "delta_a", "delta_b", "latency"];
 
 /// A link with the names of its ends, where the entry has its form.
 fn read_link(alloc: Global, table: &Table) -> Result<Option<LinkForm>, NoMemory>
-    ensures link { IfOk result (λ link. link ≡ link_form 0 (table_view table.now)) }
-    ensures shares { IfOk result (λ link. IfSome link (λ l. l.delta_a + l.delta_b ≤ 90)) }
+    ensures { IfOk result (λ link. link ≡ link_form 0 (table_view table.now)) }
 {
     if !has_only(table, &LINK_KEYS) {
         return Ok(None);
@@ -57,8 +53,7 @@ fn read_link(alloc: Global, table: &Table) -> Result<Option<LinkForm>, NoMemory>
 
 /// Rule 8: each link has its form.
 fn read_forms(alloc: Global, entries: &[&Table]) -> Result<Vec<LinkForm>, RuleErr>
-    ensures forms { Reads (λ v. v.items) result (each 8 link_form 1 (map (λ t. table_view t.now) entries.now)) }
-    ensures shares { IfOk result (λ v. All (λ l. l.delta_a + l.delta_b ≤ 90) v.items) }
+    ensures { Reads (λ v. v.items) result (each_entry 8 link_form 1 (map (λ t. table_view t.now) entries.now)) }
 {
     let mut forms = Vec::new(alloc);
     for (i, table) in entries.iter().enumerate() {
@@ -74,9 +69,7 @@ fn read_forms(alloc: Global, entries: &[&Table]) -> Result<Vec<LinkForm>, RuleEr
 /// The link of a form, where the names of its ends are nodes.
 fn name_ends(nodes: &[NodeEntry], form: &LinkForm) -> Option<LinkEntry>
     requires { length nodes.now ≤ 64 }
-    ensures link { result ≡ link_entry nodes.now 0 form.now }
-    ensures shares { IfSome result (λ l. l.delta_a + l.delta_b ≡ form.now.delta_a + form.now.delta_b) }
-    ensures known { IfSome result (λ l. IsNode (length nodes.now) l.a.0 × IsNode (length nodes.now) l.b.0) }
+    ensures { result ≡ link_entry nodes.now 0 form.now }
 {
     let a = node_named(nodes, &form.a)?;
     let b = node_named(nodes, &form.b)?;
@@ -96,11 +89,8 @@ fn name_links(
     nodes: &[NodeEntry],
     forms: &[LinkForm],
 ) -> Result<Vec<LinkEntry>, RuleErr>
-    requires few { length nodes.now ≤ 64 }
-    requires shares { All (λ l. l.delta_a + l.delta_b ≤ 90) forms.now }
-    ensures shares { IfOk result (λ v. All (λ l. l.delta_a + l.delta_b ≤ 90) v.items) }
-    ensures links { Reads (λ v. v.items) result (each 9 (link_entry nodes.now) 1 forms.now) }
-    ensures known { IfOk result (λ v. All (λ l. IsNode (length nodes.now) l.a.0 × IsNode (length nodes.now) l.b.0) v.items) }
+    requires { length nodes.now ≤ 64 }
+    ensures { Reads (λ v. v.items) result (each_entry 9 (link_entry nodes.now) 1 forms.now) }
 {
     let mut links = Vec::new(alloc);
     for (i, form) in forms.iter().enumerate() {
@@ -157,15 +147,11 @@ pub(crate) fn read_links(
     entries: &[&Table],
 ) -> Result<Vec<LinkEntry>, RuleErr>
     requires { length nodes.now ≤ 64 }
-    ensures links { Reads (λ v. v.items) result (links_of nodes.now (map (λ t. table_view t.now) entries.now)) }
-    ensures known { IfOk result (λ v. All (λ l. IsNode (length nodes.now) l.a.0 × IsNode (length nodes.now) l.b.0) v.items) }
-    ensures shares { IfOk result (λ v. All (λ l. l.delta_a + l.delta_b ≤ 90) v.items) }
-    ensures no_self { IfOk result (λ v. first_where is_self_link_lem [] v.items ≡ None) }
-    ensures no_second { IfOk result (λ v. first_where is_second_link_lem [] v.items ≡ None) }
+    ensures { Reads (λ v. v.items) result (links_of nodes.now (map (λ t. table_view t.now) entries.now)) }
 {
     let forms = read_forms(alloc, entries)?;
     let links = name_links(alloc, nodes, &forms)?;
-    none_at(10, self_link(&links))?;
-    none_at(11, second_link(&links))?;
+    no_entry(10, self_link(&links))?;
+    no_entry(11, second_link(&links))?;
     Ok(links)
 }

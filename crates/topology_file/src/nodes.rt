@@ -1,22 +1,19 @@
 //! The nodes of a scenario: rules 4 to 7.
 
-ghost use Rattle.std.specs.Prelude.{◌≡◌, ◌+◌, ◌==◌, ◌<◌, ◌≤◌, [], map, length, nat_eq, true, Option, None, option_map, IfOk, IfSome, OnOk};
+ghost use Rattle.std.specs.Prelude.{◌≡◌, ◌+◌, ◌==◌, ◌<◌, ◌≤◌, [], map, length, nat_eq, Option, option_map, IfOk};
 ghost use Rattle.std.specs.Cmp.Lexicographic.{pointwise};
 ghost use Rattle.std.specs.List.{list_any};
 ghost use Rattle.toml.specs.View.{table_view};
-ghost use Rattle.toml_rules.specs.Rules.{Reads};
-ghost use Rattle.tree_topology.specs.Graph.{IsNode};
+ghost use Rattle.toml_rules.specs.Rules.{Reads, each_entry, first_where};
 ghost use Rattle.topology_file.specs.Entries.{node_entry};
-ghost use Rattle.topology_file.specs.First.{each, first_where};
-ghost use Rattle.topology_file.specs.Scenario.{node_from, station_from, IsStationNumber, is_station as is_station_lem, has_name_of as has_name_of_lem, has_id_of as has_id_of_lem, is_small as is_small_lem, nodes_of};
+ghost use Rattle.topology_file.specs.Scenario.{node_from, station_from, is_station as is_station_lem, has_name_of as has_name_of_lem, has_id_of as has_id_of_lem, is_small as is_small_lem, nodes_of};
 
 use crate::entries::NodeEntry;
-use crate::first::{fails_at, none_at};
 use crate::forms::{read_id, read_kind, read_name};
 use srp_base::{BridgeId, NoMemory, NodeNo, Seq};
 use std::alloc::Global;
 use toml::Table;
-use toml_rules::{RuleErr, has_only, holds};
+use toml_rules::{RuleErr, fails_at, has_only, holds, no_entry};
 use tree_topology::NodeKind;
 
 /// A text as a list of its bytes.
@@ -55,7 +52,7 @@ fn read_node(alloc: Global, number: usize, table: &Table) -> Result<Option<NodeE
 
 /// Rule 4: each node has its form.
 fn read_node_entries(alloc: Global, entries: &[&Table]) -> Result<Vec<NodeEntry>, RuleErr>
-    ensures { Reads (λ v. v.items) result (each 4 node_entry 1 (map (λ t. table_view t.now) entries.now)) }
+    ensures { Reads (λ v. v.items) result (each_entry 4 node_entry 1 (map (λ t. table_view t.now) entries.now)) }
 {
     let mut nodes = Vec::new(alloc);
     for (i, table) in entries.iter().enumerate() {
@@ -119,16 +116,12 @@ pub(crate) fn read_nodes(
     entries: &[&Table],
 ) -> Result<Vec<NodeEntry>, RuleErr>
     requires { ticks ≤ 12000 }
-    ensures nodes { Reads (λ v. v.items) result (nodes_of ticks (map (λ t. table_view t.now) entries.now)) }
-    ensures few { IfOk result (λ v. length v.items ≤ 64) }
-    ensures small { IfOk result (λ v. is_small_lem ticks v.items ≡ true) }
-    ensures names { IfOk result (λ v. first_where has_name_of_lem [] v.items ≡ None) }
-    ensures ids { IfOk result (λ v. first_where has_id_of_lem [] v.items ≡ None) }
+    ensures { Reads (λ v. v.items) result (nodes_of ticks (map (λ t. table_view t.now) entries.now)) }
 {
     let nodes = read_node_entries(alloc, entries)?;
     holds(5, is_small(ticks, &nodes))?;
-    none_at(6, repeated_name(&nodes))?;
-    none_at(7, repeated_id(&nodes))?;
+    no_entry(6, repeated_name(&nodes))?;
+    no_entry(7, repeated_id(&nodes))?;
     Ok(nodes)
 }
 
@@ -141,8 +134,7 @@ pub(crate) fn is_station(kind: NodeKind) -> bool
 /// The node of this name.
 pub(crate) fn node_named(nodes: &[NodeEntry], name: &Seq<u8>) -> Option<NodeNo>
     requires { length nodes.now ≤ 64 }
-    ensures number { option_map (λ n. n.0) result ≡ node_from 1 name.now nodes.now }
-    ensures known { IfSome result (λ n. IsNode (length nodes.now) n.0) }
+    ensures { option_map (λ n. n.0) result ≡ node_from 1 name.now nodes.now }
 {
     for (i, node) in nodes.iter().enumerate() {
         if node.name == *name {
@@ -155,8 +147,7 @@ pub(crate) fn node_named(nodes: &[NodeEntry], name: &Seq<u8>) -> Option<NodeNo>
 /// The station of this name.
 pub(crate) fn station_named(nodes: &[NodeEntry], name: &Seq<u8>) -> Option<NodeNo>
     requires { length nodes.now ≤ 64 }
-    ensures number { option_map (λ n. n.0) result ≡ station_from 1 name.now nodes.now }
-    ensures known { IfSome result (λ n. IsStationNumber nodes.now n.0) }
+    ensures { option_map (λ n. n.0) result ≡ station_from 1 name.now nodes.now }
 {
     for (i, node) in nodes.iter().enumerate() {
         if node.name == *name {

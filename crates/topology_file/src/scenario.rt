@@ -1,15 +1,14 @@
 //! A scenario: a network, its times, and what happens in it.
 
-ghost use Rattle.std.specs.Prelude.{◌≡◌, ◌≤◌, [], map, length, All, None, IfOk};
+ghost use Rattle.std.specs.Prelude.{◌≡◌, ◌≤◌, [], map, Ok};
+ghost use Rattle.toml.specs.Data.{Members};
 ghost use Rattle.toml.specs.View.{table_view};
-ghost use Rattle.toml_rules.specs.Fields.{tables as tables_lem};
-ghost use Rattle.toml_rules.specs.Rules.{Reads, needs as needs_lem};
-ghost use Rattle.topology_file.specs.First.{first_where};
+ghost use Rattle.toml_rules.specs.Rules.{Reads, needs as needs_lem, first_where};
+ghost use Rattle.topology_file.specs.Plan.{Plan};
 ghost use Rattle.topology_file.specs.Scenario.{KeepsRules, ticks_at, leave_time_at, plan_of, scenario_of};
 
 use crate::entries::{EventEntry, LinkEntry, NodeEntry};
 use crate::events::read_events;
-use crate::first::none_at;
 use crate::links::read_links;
 use crate::nodes::read_nodes;
 use crate::tree::{crowded_node, make_tree};
@@ -17,18 +16,27 @@ use srp_base::{Cs, Seq};
 use std::alloc::Global;
 use std::marker::Model;
 use toml::Table;
-use toml_rules::{RuleErr, has_only, holds, needs, number, number_or, tables, truth_or, within};
-use tree_topology::Tree;
+use toml_rules::{
+    RuleErr, has_only, holds, needs, needs_tables, no_entry, number, number_or, truth_or, within,
+};
+use tree_topology::{Tree, laws};
 
-/// A scenario. It runs for so many ticks of 1 cs.
+/// A scenario: a network, its times, and what happens in it.
 #[derive(Drop)]
 pub struct Scenario {
+    /// How many ticks of 1 cs it runs: 1 to 12,000.
     pub ticks: u64,
+    /// LeaveTime in cs, 60 to 100 (IEEE Std 802.1Q-2018, 10.7.11).
     pub leave_time: Cs,
+    /// Whether participants transmit periodically.
     pub periodic: bool,
+    /// The tree of the nodes and links.
     pub tree: Tree,
+    /// The nodes in the order of their numbers, 2 to 64.
     pub nodes: Seq<NodeEntry>,
+    /// The links in the order of the file.
     pub links: Seq<LinkEntry>,
+    /// The events in the order of the file, which their ticks ascend in: 10,000 at most.
     pub events: Seq<EventEntry>,
 }
 
@@ -68,6 +76,15 @@ impl Scenario {
     }
 }
 
+/// Every scenario that a table is read as keeps the rules of its file, in plain words.
+pub fn read_scenarios_keep_the_rules()
+    ensures { (ms : Members) (plan : Plan) → scenario_of ms ≡ Ok plan → KeepsRules plan }
+{
+    laws::components();
+    laws::few_links();
+    laws::one_component();
+}
+
 fn read_ticks(table: &Table) -> Option<u64>
     ensures { result ≡ ticks_at (table_view table.now) }
 {
@@ -80,17 +97,6 @@ fn read_leave_time(table: &Table) -> Option<u64>
     within(60, 100, number_or(table, "leave_time", 60))
 }
 
-/// Rule 2 at a key: the tables of an array of tables.
-fn read_tables<'a>(alloc: Global, table: &'a Table, key: &str) -> Result<Vec<&'a Table>, RuleErr>
-    ensures { Reads (λ v. map (λ t. table_view t.now) v.items) result (needs_lem 2 (tables_lem key.now (table_view table.now))) }
-{
-    match tables(alloc, table, key) {
-        Ok(Some(entries)) => Ok(entries),
-        Ok(None) => Err(RuleErr::Rule { rule: 2, entry: 0 }),
-        Err(_) => Err(RuleErr::NoMemory),
-    }
-}
-
 /// The times of a scenario.
 #[derive(Clone, Copy)]
 struct Times {
@@ -99,7 +105,7 @@ struct Times {
     periodic: bool,
 }
 
-/// The scenario of these times and entries: rules 4 to 22.
+/// The scenario of these times and entries: rules 4 to 15 and 20 to 22.
 fn read_plan(
     alloc: Global,
     times: Times,
@@ -115,10 +121,13 @@ fn read_plan(
         (map (λ t. table_view t.now) node_tables.now) (map (λ t. table_view t.now) link_tables.now)
         (map (λ t. table_view t.now) event_tables.now)) }
 {
+    laws::components();
+    laws::few_links();
+    laws::one_component();
     let nodes = read_nodes(alloc, times.ticks, node_tables)?;
     let links = read_links(alloc, &nodes, link_tables)?;
     let tree = make_tree(alloc, &nodes, &links)?;
-    none_at(15, crowded_node(&nodes, &tree))?;
+    no_entry(15, crowded_node(&nodes, &tree))?;
     let events = read_events(alloc, times.ticks, &nodes, &links, event_tables)?;
     Ok(Scenario {
         ticks: times.ticks,
@@ -133,7 +142,8 @@ fn read_plan(
 
 const FILE_KEYS: [&str; 6] = ["ticks", "leave_time", "periodic", "node", "link", "event"];
 
-/// The scenario of a table, or the first rule that fails with its first failing entry: rules 1 to 22.
+/// The scenario of a table, or the first rule that fails with its first failing entry: rules 1 to 15
+/// and 20 to 22.
 ///
 /// # Errors
 ///
@@ -143,9 +153,9 @@ pub fn read_scenario(alloc: Global, table: &Table) -> Result<Scenario, RuleErr>
 {
     let ticks = needs(1, read_ticks(table))?;
     holds(2, has_only(table, &FILE_KEYS))?;
-    let node_tables = read_tables(alloc, table, "node")?;
-    let link_tables = read_tables(alloc, table, "link")?;
-    let event_tables = read_tables(alloc, table, "event")?;
+    let node_tables = needs_tables(alloc, 2, table, "node")?;
+    let link_tables = needs_tables(alloc, 2, table, "link")?;
+    let event_tables = needs_tables(alloc, 2, table, "event")?;
     let leave_time = needs(3, read_leave_time(table))?;
     let periodic = needs(3, truth_or(table, "periodic", false))?;
     let times = Times {

@@ -1,17 +1,15 @@
-//! The tree of a scenario: rules 12 to 14.
+//! The tree of a scenario: rules 12 to 15.
 
 ghost use Rattle.std.specs.Prelude.{◌≡◌, ◌≤◌, ◌<◌, [], map, length, All, None, IfOk, OnOk};
-ghost use Rattle.toml_rules.specs.Rules.{Reads};
+ghost use Rattle.toml_rules.specs.Rules.{Reads, first_where};
 ghost use Rattle.tree_topology.specs.Graph.{IsNode, IsGraph};
 ghost use Rattle.tree_topology.specs.Refusal.{IsRefusal};
-ghost use Rattle.topology_file.specs.First.{first_where};
 ghost use Rattle.topology_file.specs.Scenario.{is_self_link, is_second_link, is_crowded as is_crowded_lem, tree_links, tree_of, topology_of, rule_of as rule_of_lem};
 
 use crate::entries::{LinkEntry, NodeEntry};
-use crate::first::fails_at;
 use srp_base::{NoMemory, NodeNo};
 use std::alloc::Global;
-use toml_rules::RuleErr;
+use toml_rules::{RuleErr, fails_at};
 use tree_topology::{Link, NodeKind, Tree, TreeErr, laws};
 
 /// The rule that a refusal of the tree breaks.

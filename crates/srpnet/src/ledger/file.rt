@@ -1,19 +1,21 @@
 //! The ledger file: one port and the streams that want it.
 
-ghost use Rattle.std.specs.Prelude.{◌≡◌, ◌+◌, None, ◌≤◌, List, ℕ, codes, length, map, Option, option_map, IfSome, IfOk};
+ghost use Rattle.std.specs.Prelude.{◌≡◌, ◌+◌, None, ◌≤◌, map, Option, IfSome, IfOk};
 ghost use Rattle.std.specs.Option.{option_and_then};
 ghost use Rattle.srp_base.specs.Hexadecimal.{hex16};
 ghost use Rattle.toml.specs.View.{table_view};
-ghost use Rattle.toml_rules.specs.Fields.{number_or as number_or_lem, tables as tables_lem, within as within_lem};
-ghost use Rattle.toml_rules.specs.Rules.{Reads, each_entry, needs as needs_lem, no_entry};
-ghost use Rattle.srpnet.specs.LedgerFile.{stream_at, class_of_text, class_at, rank_of_number, rank_at, frames_at, octets_at, tick_at, known_want, want_entry, rate_at, shares_at, first_fall, mentioned, wants_of, ledger_file as ledger_file_lem};
+ghost use Rattle.toml_rules.specs.Rules.{Reads, each_entry, no_entry};
+ghost use Rattle.srpnet.specs.LedgerFile.{stream_at, class_of_text, class_at, rank_of_number, rank_at, frames_at, octets_at, tick_at, known_want, want_entry, rate_at, first_fall, mentioned, wants_of, ledger_file as ledger_file_lem};
 
 use indexmap::IndexSet;
 use srp_base::{Class, Cs, Percent, Rank, Rate, Seq, StreamId, read_hex16};
 use std::alloc::{AllocError, Global};
 use stream_importance::{Want, slope_of};
 use toml::Table;
-use toml_rules::{RuleErr, has_only, holds, needs, number, number_or, tables, text, within};
+use toml_rules::{
+    RuleErr, fails_at, has_only, holds, needs, needs_tables, number, number_or, read_shares, text,
+    within,
+};
 
 /// A want of the file with its moment in cs.
 #[derive(Clone, Copy, Debug, PartialEq, Eq)]
@@ -140,19 +142,13 @@ fn read_want(number: usize, table: &Table) -> Option<LedgerWant>
 
 /// The wants of all entries, each with its form.
 fn read_wants(alloc: Global, entries: &[&Table]) -> Result<Vec<LedgerWant>, RuleErr>
-    ensures wants { Reads (λ v. v.items) result (each_entry 33 want_entry 1 (map (λ t. table_view t.now) entries.now)) }
-    ensures many { IfOk result (λ v. length v.items ≤ 10000) }
+    ensures { Reads (λ v. v.items) result (each_entry 33 want_entry 1 (map (λ t. table_view t.now) entries.now)) }
 {
     let mut wants = Vec::new(alloc);
     for (i, table) in entries.iter().enumerate() {
         match read_want(i + 1, table) {
             Some(want) => wants.push(want)?,
-            None => {
-                return Err(RuleErr::Rule {
-                    rule: 33,
-                    entry: (i + 1) as u32,
-                });
-            }
+            None => return Err(fails_at(33, i + 1)),
         }
     }
     Ok(wants)
@@ -164,49 +160,14 @@ fn read_rate(table: &Table) -> Option<Rate>
     Rate::of_mbit(number(table, "rate")?)
 }
 
-fn read_share(table: &Table, key: &str, default: u64) -> Option<Percent>
-    ensures { result ≡ within_lem 0 90 (number_or_lem key.now default (table_view table.now)) }
-{
-    percent(within(0, 90, number_or(table, key, default)))
-}
-
-/// A number that is known to be a percentage.
-fn percent(number: Option<u64>) -> Option<Percent>
-    requires { IfSome number (λ n. n ≤ 90) }
-    ensures { result ≡ number }
-{
-    match number {
-        Some(n) => Percent::new(n),
-        None => None,
-    }
-}
-
-/// The shares of class A and class B.
-fn read_shares(table: &Table) -> Option<(Percent, Percent)>
-    ensures shares { result ≡ shares_at (table_view table.now) }
-    ensures together { IfSome result (λ s. s.0 + s.1 ≤ 90) }
-{
-    let delta_a = read_share(table, "delta_a", 75)?;
-    let delta_b = read_share(table, "delta_b", 0)?;
-    if delta_a.get() + delta_b.get() <= 90 {
-        Some((delta_a, delta_b))
-    } else {
-        None
-    }
-}
-
 /// Rule 34: the ticks don't fall.
 fn check_ticks(wants: &[LedgerWant]) -> Result<(), RuleErr>
-    requires { length wants.now ≤ 10000 }
     ensures { result ≡ no_entry 34 (first_fall 1 0 wants.now) }
 {
     let mut before = 0;
     for (i, want) in wants.iter().enumerate() {
         if want.tick.0 < before {
-            return Err(RuleErr::Rule {
-                rule: 34,
-                entry: (i + 1) as u32,
-            });
+            return Err(fails_at(34, i + 1));
         }
         before = want.tick.0;
     }
@@ -218,34 +179,19 @@ const MOST_STREAMS: usize = 128;
 
 /// Rule 35: the different streams, in the order of their first mention, are at most 128.
 fn read_streams(alloc: Global, wants: &[LedgerWant]) -> Result<IndexSet<u64>, RuleErr>
-    requires { length wants.now ≤ 10000 }
     ensures { Reads (λ s. s.keys) result (mentioned wants.now) }
 {
     let mut streams = IndexSet::new(alloc);
     for (i, want) in wants.iter().enumerate() {
         streams.insert(want.want.stream.0)?;
         if streams.len() > MOST_STREAMS {
-            return Err(RuleErr::Rule {
-                rule: 35,
-                entry: (i + 1) as u32,
-            });
+            return Err(fails_at(35, i + 1));
         }
     }
     Ok(streams)
 }
 
 const FILE_KEYS: [&str; 4] = ["rate", "delta_a", "delta_b", "want"];
-
-/// The entries of the file's wants, where they are an array of tables.
-fn read_entries<'a>(alloc: Global, table: &'a Table) -> Result<Vec<&'a Table>, RuleErr>
-    ensures { Reads (λ v. map (λ t. table_view t.now) v.items) result (needs_lem 33 (tables_lem (codes "want") (table_view table.now))) }
-{
-    match tables(alloc, table, "want") {
-        Ok(Some(entries)) => Ok(entries),
-        Ok(None) => Err(RuleErr::Rule { rule: 33, entry: 0 }),
-        Err(_) => Err(RuleErr::NoMemory),
-    }
-}
 
 fn stream_ids(alloc: Global, streams: &IndexSet<u64>) -> Result<Vec<StreamId>, AllocError>
     ensures { IfOk result (λ v. v.items ≡ map (λ k. record { 0 = k }) streams.now.keys) }
@@ -277,7 +223,7 @@ pub fn read_ledger_file(alloc: Global, table: &Table) -> Result<LedgerFile, Rule
     holds(31, has_only(table, &FILE_KEYS))?;
     let rate = needs(31, read_rate(table))?;
     let (delta_a, delta_b) = needs(32, read_shares(table))?;
-    let entries = read_entries(alloc, table)?;
+    let entries = needs_tables(alloc, 33, table, "want")?;
     let (wants, streams) = read_mentioned(alloc, &entries)?;
     Ok(LedgerFile {
         rate,

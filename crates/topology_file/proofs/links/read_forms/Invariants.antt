@@ -1,14 +1,11 @@
-use Rattle.std.proofs.Common.{◌≡◌, ◌+◌, ◌≤◌, map, drop}
-use Rattle.std.specs.List.{All}
+use Rattle.std.proofs.Common.{◌≡◌, ◌+◌, map, drop}
 use Rattle.toml.specs.View.{table_view}
 use Rattle.topology_file.specs.Entries.{link_form}
-use Rattle.topology_file.specs.First.{each}
+use Rattle.toml_rules.specs.Rules.{each_entry}
 use Rattle.topology_file.proofs.FirstLemmas.{in_front}
 use Rattle.topology_file.proofs.links.read_forms.Given as goal
 
 abbrev pub invariant-loop-i : goal.invariant-loop-i
-invariant-loop-i l = record {
-  read : in_front l.forms.items (each 8 link_form (l.i + 1) (map (λ t. table_view t.now) (drop l.i l.entries)))
-      ≡ each 8 link_form 1 (map (λ t. table_view t.now) l.entries);
-  shares : All (λ f. f.delta_a + f.delta_b ≤ 90) l.forms.items;
-}
+invariant-loop-i l =
+    in_front l.forms.items (each_entry 8 link_form (l.i + 1) (map (λ t. table_view t.now) (drop l.i l.entries)))
+    ≡ each_entry 8 link_form 1 (map (λ t. table_view t.now) l.entries)

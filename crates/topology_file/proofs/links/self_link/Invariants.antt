@@ -1,5 +1,5 @@
 use Rattle.std.proofs.Common.{◌≡◌, [], take, drop}
-use Rattle.topology_file.specs.First.{first_where}
+use Rattle.toml_rules.specs.Rules.{first_where}
 use Rattle.topology_file.specs.Scenario.{is_self_link}
 use Rattle.topology_file.proofs.links.self_link.Given as goal
 

@@ -1,0 +1,115 @@
+-- What a chain of rules tells of its answer: each_entry rule passed, and what is made of what was read.
+use Rattle.std.proofs.Common.{◌≡◌, ℕ, ◌+◌, ◌≤◌, Bool, true, false, ◌&&◌, if◌then◌else◌, List, [], ◌∷◌, map, length, Option, Some, None, option_map, option_and_then, Result, Ok, Err, refl, ap, subst, ◌∙◌, leb-true, IfSome, IfOk, arith}
+use Rattle.std.proofs.lemmas.Bool.{and_parts, false≢true}
+use Rattle.std.proofs.lemmas.List.Elements.{All-nil, All-cons, All-head, All-tail}
+use Rattle.std.specs.List.{All}
+use Rattle.std.specs.Prelude.{nat_le}
+use Rattle.toml_rules.specs.declared.rules.RuleErr.{RuleErr}
+use Rattle.toml_rules.specs.Fields.{within}
+use Rattle.toml_rules.specs.Rules.{◌>>=◌, needs, holds, with_front, no_entry, each_entry, entry_then}
+
+-- ---- values that may be missing
+
+pub and_then-if : {A B : Type 0} (P : B → Type 0) (f : A → Option B) (o : Option A)
+    → ((x : A) → o ≡ Some x → IfSome (f x) P) → IfSome (option_and_then f o) P
+and_then-if P f None h = tt
+and_then-if P f (Some x) h = h x refl
+
+pub map-if : {A B : Type 0} (P : B → Type 0) (f : A → B) (o : Option A)
+    → ((x : A) → o ≡ Some x → P (f x)) → IfSome (option_map f o) P
+map-if P f None h = tt
+map-if P f (Some x) h = h x refl
+
+pub when-if : {A : Type 0} (P : A → Type 0) (b : Bool) (o : Option A)
+    → (b ≡ true → IfSome o P) → IfSome (if b then o else None) P
+when-if P true o h = h refl
+when-if P false o h = tt
+
+-- what a value that is there has
+pub some-says : {A : Type 0} (P : A → Type 0) (o : Option A) (x : A) → o ≡ Some x → IfSome o P → P x
+some-says {A = A} P o x is h = let F : Option A → Type 0 = λ y. IfSome y P in subst F is h
+
+pub within-range : (low high : ℕ) (o : Option ℕ) → IfSome (within low high o) (λ n. (low ≤ n) × (n ≤ high))
+within-range low high None = tt
+within-range low high (Some n) =
+    when-if (λ m. (low ≤ m) × (m ≤ high)) (nat_le low n && nat_le n high) (Some n) (λ e.
+    (let p = and_parts (nat_le low n) (nat_le n high) e in (leb-true low n p.0, leb-true n high p.1)))
+
+-- ---- rules one after the other
+
+pub chain-if : {A B : Type 0} (P : B → Type 0) (r : Result A RuleErr) (f : A → Result B RuleErr)
+    → ((x : A) → r ≡ Ok x → IfOk (f x) P) → IfOk (r >>= f) P
+chain-if P (Ok x) f h = h x refl
+chain-if P (Err e) f h = tt
+
+-- what each answer has
+pub ok-all : {A : Type 0} (r : Result A RuleErr) (P : A → Type 0) → ((x : A) → r ≡ Ok x → P x) → IfOk r P
+ok-all (Ok x) P h = h x refl
+ok-all (Err e) P h = tt
+
+-- what an answer has
+pub ok-says : {A : Type 0} (P : A → Type 0) (r : Result A RuleErr) (x : A) → r ≡ Ok x → IfOk r P → P x
+ok-says {A = A} P r x is h = let F : Result A RuleErr → Type 0 = λ y. IfOk y P in subst F is h
+
+pub needs-some : {A : Type 0} (rule : ℕ) (o : Option A) → IfOk (needs rule o) (λ x. o ≡ Some x)
+needs-some rule (Some x) = refl
+needs-some rule None = tt
+
+pub holds-true : (rule : ℕ) (b : Bool) → IfOk (holds rule b) (λ _. b ≡ true)
+holds-true rule true = refl
+holds-true rule false = tt
+
+pub none-none : (rule : ℕ) (o : Option ℕ) → IfOk (no_entry rule o) (λ _. o ≡ None)
+none-none rule None = refl
+none-none rule (Some n) = tt
+
+-- ---- a rule on each entry
+
+entry-all : {B : Type 0} (P : B → Type 0) (rule n : ℕ) (o : Option B) (rest : Result (List B) RuleErr)
+    → IfSome o P → IfOk rest (All P) → IfOk (entry_then rule n o rest) (All P)
+entry-all P rule n None rest p ps = tt
+entry-all P rule n (Some y) (Err e) p ps = tt
+entry-all P rule n (Some y) (Ok ys) p ps = All-cons P y ys p ps
+
+-- what every entry is read with, all values have
+pub each-all : {A B : Type 0} (Q : A → Type 0) (P : B → Type 0) (rule : ℕ) (read : ℕ → A → Option B)
+    → ((n : ℕ) (x : A) → Q x → IfSome (read n x) P) → (n : ℕ) (xs : List A) → All Q xs
+    → IfOk (each_entry rule read n xs) (All P)
+each-all Q P rule read h n [] qs = All-nil P
+each-all Q P rule read h n (x ∷ xs) qs =
+    entry-all P rule n (read n x) (each_entry rule read (n + 1) xs) (h n x (All-head Q x xs qs)) (each-all Q P rule read h (n + 1) xs (All-tail Q x xs qs))
+
+entry-map : {A B C : Type 0} (f : A → C) (g : B → C) (rule n : ℕ) (x : A) (xs : List A) (o : Option B) (rest : Result (List B) RuleErr)
+    → IfSome o (λ y. g y ≡ f x) → IfOk rest (λ ys. map g ys ≡ map f xs)
+    → IfOk (entry_then rule n o rest) (λ ys. map g ys ≡ map f (x ∷ xs))
+entry-map f g rule n x xs None rest p ps = tt
+entry-map f g rule n x xs (Some y) (Err e) p ps = tt
+entry-map f g rule n x xs (Some y) (Ok ys) p ps = ap (λ c. c ∷ map g ys) p ∙ ap (λ cs. f x ∷ cs) ps
+
+-- what every value keeps of its entry, all keep
+pub each-map : {A B C : Type 0} (f : A → C) (g : B → C) (rule : ℕ) (read : ℕ → A → Option B)
+    → ((n : ℕ) (x : A) → IfSome (read n x) (λ y. g y ≡ f x)) → (n : ℕ) (xs : List A)
+    → IfOk (each_entry rule read n xs) (λ ys. map g ys ≡ map f xs)
+each-map f g rule read h n [] = refl
+each-map f g rule read h n (x ∷ xs) =
+    entry-map f g rule n x xs (read n x) (each_entry rule read (n + 1) xs) (h n x) (each-map f g rule read h (n + 1) xs)
+
+entry-count : {B : Type 0} (high rule n : ℕ) (o : Option B) (rest : Result (List B) RuleErr)
+    → IfSome o (λ _. n ≤ high) → (n ≤ high → IfOk rest (λ ys. length ys + n ≤ high))
+    → IfOk (entry_then rule n o rest) (λ ys. length ys + n ≤ high + 1)
+entry-count high rule n None rest p h = tt
+entry-count high rule n (Some y) (Err e) p h = tt
+entry-count high rule n (Some y) (Ok ys) p h = omega (arith, h p)
+
+same-count : {B : Type 0} (high n : ℕ) (r : Result (List B) RuleErr) → IfOk r (λ ys. length ys + (n + 1) ≤ high + 1) → IfOk r (λ ys. length ys + n ≤ high)
+same-count high n (Ok ys) h = omega (arith, h)
+same-count high n (Err e) h = tt
+
+-- where no entry past a number is read, there are no more values
+pub each-count : {A B : Type 0} (high rule : ℕ) (read : ℕ → A → Option B)
+    → ((n : ℕ) (x : A) → IfSome (read n x) (λ _. n ≤ high)) → (n : ℕ) (xs : List A) → n ≤ high + 1
+    → IfOk (each_entry rule read n xs) (λ ys. length ys + n ≤ high + 1)
+each-count high rule read h n [] le = omega (arith, le)
+each-count high rule read h n (x ∷ xs) le =
+    entry-count high rule n (read n x) (each_entry rule read (n + 1) xs) (h n x)
+    (λ few. same-count high n (each_entry rule read (n + 1) xs) (each-count high rule read h (n + 1) xs (omega (arith, few))))
