@@ -2,7 +2,7 @@
 
 ghost use Rattle.std.specs.Prelude.{◌≡◌, ℕ, take, IfOk, string_bytes};
 ghost use Rattle.std.specs.Io.KnownBytes.{Appends};
-ghost use Rattle.srpnet.specs.Outcomes.{status_of as status_of_lem, err_text as err_text_lem, fixed_text as fixed_text_lem};
+ghost use Rattle.srpnet.specs.Outcomes.{status_of as status_of_spec, err_text as err_text_spec, fixed_text as fixed_text_spec};
 ghost use Rattle.srpnet.specs.declared.outcome.Cause.TheVariants.{BadScenario};
 
 use srp_io::{Sink, WriteErr, write_whole};
@@ -41,7 +41,7 @@ pub struct Outcome {
 
 /// The exit status of a cause.
 pub fn status_of(cause: Cause) -> u8
-    ensures { result ≡ status_of_lem cause }
+    ensures { result ≡ status_of_spec cause }
 {
     match cause {
         Cause::Done => 0,
@@ -57,7 +57,7 @@ pub fn status_of(cause: Cause) -> u8
 
 /// The text of a cause that is the same at each time.
 fn fixed_text(cause: Cause) -> &'static str
-    ensures { result.now ≡ fixed_text_lem cause }
+    ensures { result.now ≡ fixed_text_spec cause }
 {
     match cause {
         Cause::Done => "",
@@ -73,7 +73,7 @@ fn fixed_text(cause: Cause) -> &'static str
 
 /// The text that names a rule and an entry.
 fn rule_text(alloc: Global, rule: u8, entry: u32) -> Result<String, AllocError>
-    ensures { IfOk result (λ s. string_bytes s ≡ err_text_lem (BadScenario rule entry)) }
+    ensures { IfOk result (λ s. string_bytes s ≡ err_text_spec (BadScenario rule entry)) }
 {
     format!(in alloc; "srpnet: rule {rule} entry {entry}\n")
 }
@@ -91,7 +91,7 @@ fn put<E: Sink>(err: &mut E, text: &[u8]) -> usize
 
 /// Writes the text of a cause, as much as the sink takes, and says how many octets went out.
 pub fn tell<E: Sink>(alloc: Global, err: &mut E, cause: Cause) -> usize
-    ensures { Appends (E.held err.old) (E.held err.new) (take result (err_text_lem cause)) }
+    ensures { Appends (E.held err.old) (E.held err.new) (take result (err_text_spec cause)) }
 {
     match cause {
         Cause::BadScenario { rule, entry } => match rule_text(alloc, rule, entry) {

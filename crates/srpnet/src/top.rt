@@ -4,11 +4,11 @@ ghost use Rattle.std.specs.Prelude.{◌≡◌, ℕ, ◌<◌, List, length, take,
 ghost use Rattle.std.specs.Io.KnownBytes.{Appends};
 ghost use Rattle.srp_io.specs.Faults.{Rose};
 ghost use Rattle.srpnet.specs.Input.{ending};
-ghost use Rattle.srpnet.specs.LedgerInput.{ledger_input as ledger_input_lem};
+ghost use Rattle.srpnet.specs.LedgerInput.{ledger_input as ledger_input_spec};
 ghost use Rattle.srpnet.specs.LedgerText.{LedgerOutput};
-ghost use Rattle.srpnet.specs.Outcomes.{status_of as status_of_lem, err_text};
+ghost use Rattle.srpnet.specs.Outcomes.{status_of as status_of_spec, err_text};
 ghost use Rattle.srpnet.specs.Ending.{CarriedOut, IsEnding};
-ghost use Rattle.srpnet.specs.TopCall.{reads_input as reads_input_lem, ending_of, expected, Output, IsOutput, Refusal, TookTooMany, ReadsNothing, PartOf, GainsFront, IsWriteFault, IsOfWriting, EndsAs};
+ghost use Rattle.srpnet.specs.TopCall.{reads_input as reads_input_spec, ending_of, expected, Output, IsOutput, Refusal, TookTooMany, ReadsNothing, PartOf, GainsFront, IsWriteFault, IsOfWriting, EndsAs};
 
 use crate::check::check_output;
 use crate::ledger::{bookings, input, text};
@@ -25,7 +25,7 @@ const MOST_OCTETS: usize = 1_048_576;
 /// The text of the bookings of a ledger file, or why there is none.
 fn ledger_output(alloc: Global, octets: &[u8]) -> Result<String, Cause>
     ensures output { IfOk result (λ s. LedgerOutput octets.now (string_bytes s)) }
-    ensures ends { EndsAs (ending (ledger_input_lem octets.now)) result }
+    ensures ends { EndsAs (ending (ledger_input_spec octets.now)) result }
     ensures not_done { IfErr result (λ c. c ≡ Cause.Done → ⊥) }
 {
     let file = input::ledger_input(alloc, octets)?;
@@ -52,7 +52,7 @@ fn page_output(alloc: Global, page: &str) -> Result<String, Cause>
 
 /// Whether a command reads an input; the pages read none.
 fn reads_input(command: Command) -> bool
-    ensures { result ≡ reads_input_lem command }
+    ensures { result ≡ reads_input_spec command }
 {
     match command {
         Command::Ledger | Command::Check => true,
@@ -153,7 +153,7 @@ pub fn srp_plain<I: Source, O: Sink, E: Sink>(
     out: &mut O,
     err: &mut E,
 ) -> Outcome
-    ensures status { result.status ≡ status_of_lem result.cause }
+    ensures status { result.status ≡ status_of_spec result.cause }
     ensures ending { IsEnding I.left I.faults O.held O.faults words.now source.old source.new out.old out.new result.cause }
     ensures told { GainsFront (E.held err.old) (E.held err.new) (err_text result.cause) }
 {
@@ -173,7 +173,7 @@ pub fn srp_main<R: AllocGlobal, I: Source, O: Sink, E: Sink>(
     out: &mut O,
     err: &mut E,
 ) -> Outcome
-    ensures status { result.status ≡ status_of_lem result.cause }
+    ensures status { result.status ≡ status_of_spec result.cause }
     ensures ending { IsEnding I.left I.faults O.held O.faults words.now source.old source.new out.old out.new result.cause }
     ensures told { GainsFront (E.held err.old) (E.held err.new) (err_text result.cause) }
 {

@@ -1,7 +1,7 @@
 //! The words of the command line.
 
 ghost use Rattle.std.specs.Prelude.{◌≡◌};
-ghost use Rattle.srpnet.specs.Words.{command_of as command_of_lem, command_of_word};
+ghost use Rattle.srpnet.specs.Words.{command_of as command_of_spec, command_of_word};
 
 use srp_base::Seq;
 
@@ -20,7 +20,7 @@ pub enum Command {
 
 /// The command of the words; None exactly where they match no row. It takes no memory.
 pub fn command_of(words: &Seq<Seq<u8>>) -> Option<Command>
-    ensures { result ≡ command_of_lem words.now }
+    ensures { result ≡ command_of_spec words.now }
 {
     match words.as_slice() {
         [word] => command_of_word(word.as_slice()),

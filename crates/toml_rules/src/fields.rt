@@ -6,7 +6,7 @@ ghost use Rattle.std.specs.List.{list_all};
 ghost use Rattle.std.specs.BTreeMap.{keys};
 ghost use Rattle.toml.specs.Data.{get_member};
 ghost use Rattle.toml.specs.View.{view, table_view, items_view};
-ghost use Rattle.toml_rules.specs.Fields.{number as number_lem, number_of, number_or as number_or_lem, truth_or as truth_or_lem, within as within_lem, text as text_lem, tables as tables_lem, tables_of as tables_of_lem, all_tables as all_tables_lem, has_only as has_only_lem, is_known as is_known_lem};
+ghost use Rattle.toml_rules.specs.Fields.{number as number_spec, number_of, number_or as number_or_spec, truth_or as truth_or_spec, within as within_spec, text as text_spec, tables as tables_spec, tables_of as tables_of_spec, all_tables as all_tables_spec, has_only as has_only_spec, is_known as is_known_spec};
 
 use srp_base::NoMemory;
 use std::alloc::Global;
@@ -32,7 +32,7 @@ fn as_number(value: &Value) -> Option<u64>
 /// The number at a key, a TOML integer that isn't negative; None where the key is missing or has
 /// another value.
 pub fn number(table: &Table, key: &str) -> Option<u64>
-    ensures { result ≡ number_lem key.now (table_view table.now) }
+    ensures { result ≡ number_spec key.now (table_view table.now) }
 {
     match value_at(table, key) {
         Some(value) => as_number(value),
@@ -42,7 +42,7 @@ pub fn number(table: &Table, key: &str) -> Option<u64>
 
 /// The number at a key, or the default where the key is missing; None where the key has another value.
 pub fn number_or(table: &Table, key: &str, default: u64) -> Option<u64>
-    ensures { result ≡ number_or_lem key.now default (table_view table.now) }
+    ensures { result ≡ number_or_spec key.now default (table_view table.now) }
 {
     match value_at(table, key) {
         Some(value) => as_number(value),
@@ -53,7 +53,7 @@ pub fn number_or(table: &Table, key: &str, default: u64) -> Option<u64>
 /// The truth value at a key, or the default where the key is missing; None where the key has another
 /// value.
 pub fn truth_or(table: &Table, key: &str, default: bool) -> Option<bool>
-    ensures { result ≡ truth_or_lem key.now default (table_view table.now) }
+    ensures { result ≡ truth_or_spec key.now default (table_view table.now) }
 {
     match value_at(table, key) {
         Some(Value::Boolean(truth)) => Some(*truth),
@@ -64,14 +64,14 @@ pub fn truth_or(table: &Table, key: &str, default: bool) -> Option<bool>
 
 /// The number, where it is from low to high.
 pub fn within(low: u64, high: u64, number: Option<u64>) -> Option<u64>
-    ensures { result ≡ within_lem low high number }
+    ensures { result ≡ within_spec low high number }
 {
     number.filter(|n| low <= *n && *n <= high)
 }
 
 /// The text at a key; None where the key is missing or has another value.
 pub fn text<'a>(table: &'a Table, key: &str) -> Option<&'a str>
-    ensures { option_copied result ≡ text_lem key.now (table_view table.now) }
+    ensures { option_copied result ≡ text_spec key.now (table_view table.now) }
 {
     match value_at(table, key) {
         Some(value) => value.as_str(),
@@ -81,7 +81,7 @@ pub fn text<'a>(table: &'a Table, key: &str) -> Option<&'a str>
 
 /// Whether a key is one of the known ones.
 fn is_known(key: &str, known: &[&str]) -> bool
-    ensures { result ≡ is_known_lem (map (λ k. k.now) known.now) key.now }
+    ensures { result ≡ is_known_spec (map (λ k. k.now) known.now) key.now }
 {
     for word in known {
         if key == *word {
@@ -93,14 +93,14 @@ fn is_known(key: &str, known: &[&str]) -> bool
 
 /// Whether each key of a table passes.
 fn all_known(table: &Table, known: &[&str]) -> bool
-    ensures { result ≡ list_all (λ k. is_known_lem (map (λ w. w.now) known.now) (string_bytes k)) (keys table.now) }
+    ensures { result ≡ list_all (λ k. is_known_spec (map (λ w. w.now) known.now) (string_bytes k)) (keys table.now) }
 {
     table.keys().all(|key| is_known(key.as_str(), known))
 }
 
 /// Whether each key of a table is one of the known ones.
 pub fn has_only(table: &Table, known: &[&str]) -> bool
-    ensures { result ≡ has_only_lem (map (λ k. k.now) known.now) (table_view table.now) }
+    ensures { result ≡ has_only_spec (map (λ k. k.now) known.now) (table_view table.now) }
 {
     all_known(table, known)
 }
@@ -112,7 +112,7 @@ pub fn tables<'a>(
     table: &'a Table,
     key: &str,
 ) -> Result<Option<Vec<&'a Table>>, NoMemory>
-    ensures { IfOk result (λ found. option_map (λ v. map (λ t. table_view t.now) v.items) found ≡ tables_lem key.now (table_view table.now)) }
+    ensures { IfOk result (λ found. option_map (λ v. map (λ t. table_view t.now) v.items) found ≡ tables_spec key.now (table_view table.now)) }
 {
     match value_at(table, key) {
         Some(value) => tables_of(alloc, value),
@@ -122,7 +122,7 @@ pub fn tables<'a>(
 
 /// The tables of a value that is an array of tables.
 fn tables_of(alloc: Global, value: &Value) -> Result<Option<Vec<&Table>>, NoMemory>
-    ensures { IfOk result (λ found. option_map (λ v. map (λ t. table_view t.now) v.items) found ≡ tables_of_lem (view value.now)) }
+    ensures { IfOk result (λ found. option_map (λ v. map (λ t. table_view t.now) v.items) found ≡ tables_of_spec (view value.now)) }
 {
     match value {
         Value::Array(values) => all_tables(alloc, values.as_slice()),
@@ -132,7 +132,7 @@ fn tables_of(alloc: Global, value: &Value) -> Result<Option<Vec<&Table>>, NoMemo
 
 /// The values as tables, where each of them is one.
 fn all_tables(alloc: Global, values: &[Value]) -> Result<Option<Vec<&Table>>, NoMemory>
-    ensures { IfOk result (λ found. option_map (λ v. map (λ t. table_view t.now) v.items) found ≡ all_tables_lem (items_view values.now)) }
+    ensures { IfOk result (λ found. option_map (λ v. map (λ t. table_view t.now) v.items) found ≡ all_tables_spec (items_view values.now)) }
 {
     let mut found = Vec::with_capacity(alloc, values.len())?;
     for value in values {

@@ -3,8 +3,8 @@
 ghost use Rattle.std.specs.Prelude.{◌≡◌, map};
 ghost use Rattle.toml.specs.View.{table_view};
 ghost use Rattle.toml_rules.specs.declared.rules.RuleErr.TheVariants.{NoMemory};
-ghost use Rattle.toml_rules.specs.Fields.{tables as tables_lem};
-ghost use Rattle.toml_rules.specs.Rules.{Reads, fails_at as fails_at_lem, holds as holds_lem, needs as needs_lem, no_entry as no_entry_lem};
+ghost use Rattle.toml_rules.specs.Fields.{tables as tables_spec};
+ghost use Rattle.toml_rules.specs.Rules.{Reads, fails_at as fails_at_spec, holds as holds_spec, needs as needs_spec, no_entry as no_entry_spec};
 
 use crate::fields::tables;
 use std::alloc::{AllocError, AllocFailed, Global};
@@ -49,7 +49,7 @@ impl<T: Drop> From<AllocFailed<T>> for RuleErr {
 
 /// A rule that needs a value of the file as a whole: without it the rule fails with entry 0.
 pub fn needs<T: Drop>(rule: u8, value: Option<T>) -> Result<T, RuleErr>
-    ensures { result ≡ needs_lem rule value }
+    ensures { result ≡ needs_spec rule value }
 {
     match value {
         Some(value) => Ok(value),
@@ -59,7 +59,7 @@ pub fn needs<T: Drop>(rule: u8, value: Option<T>) -> Result<T, RuleErr>
 
 /// A rule that is a test of the file as a whole: where it doesn't pass the rule fails with entry 0.
 pub fn holds(rule: u8, test: bool) -> Result<(), RuleErr>
-    ensures { result ≡ holds_lem rule test }
+    ensures { result ≡ holds_spec rule test }
 {
     if test {
         Ok(())
@@ -80,7 +80,7 @@ pub fn needs_tables<'a>(
     table: &'a Table,
     key: &str,
 ) -> Result<Vec<&'a Table>, RuleErr>
-    ensures { Reads (λ v. map (λ t. table_view t.now) v.items) result (needs_lem rule (tables_lem key.now (table_view table.now))) }
+    ensures { Reads (λ v. map (λ t. table_view t.now) v.items) result (needs_spec rule (tables_spec key.now (table_view table.now))) }
 {
     match tables(alloc, table, key) {
         Ok(Some(entries)) => Ok(entries),
@@ -91,7 +91,7 @@ pub fn needs_tables<'a>(
 
 /// The rule fails at this entry, counted from 1; a number past 4,294,967,295 stands still there.
 pub fn fails_at(rule: u8, number: usize) -> RuleErr
-    ensures { result ≡ fails_at_lem rule number }
+    ensures { result ≡ fails_at_spec rule number }
 {
     RuleErr::Rule {
         rule,
@@ -101,7 +101,7 @@ pub fn fails_at(rule: u8, number: usize) -> RuleErr
 
 /// A rule that no entry breaks: where one is named the rule fails at it.
 pub fn no_entry(rule: u8, found: Option<usize>) -> Result<(), RuleErr>
-    ensures { result ≡ no_entry_lem rule found }
+    ensures { result ≡ no_entry_spec rule found }
 {
     match found {
         Some(number) => Err(fails_at(rule, number)),

@@ -4,7 +4,7 @@ ghost use Rattle.std.specs.Prelude.{◌≡◌, ◌<◌, ◌≤◌, map, length, 
 ghost use Rattle.toml.specs.View.{table_view};
 ghost use Rattle.toml_rules.specs.Rules.{Reads, each_entry};
 ghost use Rattle.topology_file.specs.Entries.{vlan_parts, link_parts, word_of_text, word_at, kind_form, event_form};
-ghost use Rattle.topology_file.specs.Scenario.{joined_from, kind_entry, event_entry, form_ticks, first_fall as first_fall_lem, events_of};
+ghost use Rattle.topology_file.specs.Scenario.{joined_from, kind_entry, event_entry, form_ticks, first_fall as first_fall_spec, events_of};
 
 use crate::entries::{EventEntry, EventForm, EventKind, EventWord, KindForm, LinkEntry, NodeEntry};
 use crate::forms::{read_index, read_name, read_tick, read_vid};
@@ -147,7 +147,7 @@ fn read_forms(alloc: Global, ticks: u64, entries: &[&Table]) -> Result<Vec<Event
 
 /// The first event whose tick is below that of the one before it.
 fn first_fall(events: &[EventForm]) -> Option<usize>
-    ensures { result ≡ first_fall_lem 1 0 (form_ticks events.now) }
+    ensures { result ≡ first_fall_spec 1 0 (form_ticks events.now) }
 {
     let mut before = 0;
     for (i, event) in events.iter().enumerate() {

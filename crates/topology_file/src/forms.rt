@@ -3,7 +3,7 @@
 ghost use Rattle.std.specs.Prelude.{◌≡◌, Option};
 ghost use Rattle.std.specs.Option.{option_and_then, option_copied};
 ghost use Rattle.toml.specs.View.{view, table_view};
-ghost use Rattle.topology_file.specs.Entries.{is_name_char as is_name_char_lem, is_name as is_name_lem, name_at, kind_of_text, kind_at, id_at, rate_at, latency_at, vid_at, index_at, tick_at};
+ghost use Rattle.topology_file.specs.Entries.{is_name_char as is_name_char_spec, is_name as is_name_spec, name_at, kind_of_text, kind_at, id_at, rate_at, latency_at, vid_at, index_at, tick_at};
 ghost use Rattle.std.specs.List.{list_all};
 
 use srp_base::{Rate, Vid, read_hex16};
@@ -13,20 +13,20 @@ use tree_topology::NodeKind;
 
 /// a to z, 0 to 9, `-` and `_`.
 fn is_name_char(c: u8) -> bool
-    ensures { result ≡ is_name_char_lem c }
+    ensures { result ≡ is_name_char_spec c }
 {
     97 <= c && c <= 122 || 48 <= c && c <= 57 || c == 45 || c == 95
 }
 
 fn has_name_chars(word: &[u8]) -> bool
-    ensures { result ≡ list_all is_name_char_lem word.now }
+    ensures { result ≡ list_all is_name_char_spec word.now }
 {
     word.iter().all(|c| is_name_char(*c))
 }
 
 /// 1 to 32 such characters.
 fn is_name(word: &[u8]) -> bool
-    ensures { result ≡ is_name_lem word.now }
+    ensures { result ≡ is_name_spec word.now }
 {
     1 <= word.len() && word.len() <= 32 && has_name_chars(word)
 }

@@ -5,7 +5,7 @@ ghost use Rattle.std.specs.List.{list_any};
 ghost use Rattle.toml.specs.View.{table_view};
 ghost use Rattle.toml_rules.specs.Rules.{Reads, each_entry, first_where};
 ghost use Rattle.topology_file.specs.Entries.{link_form};
-ghost use Rattle.topology_file.specs.Scenario.{joins_both as joins_both_lem, link_entry, is_self_link as is_self_link_lem, is_second_link as is_second_link_lem, links_of};
+ghost use Rattle.topology_file.specs.Scenario.{joins_both as joins_both_spec, link_entry, is_self_link as is_self_link_spec, is_second_link as is_second_link_spec, links_of};
 
 use crate::entries::{LinkEntry, LinkForm, NodeEntry};
 use crate::forms::{read_latency, read_name, read_rate};
@@ -104,7 +104,7 @@ fn name_links(
 
 /// The first link of a node with itself.
 fn self_link(links: &[LinkEntry]) -> Option<usize>
-    ensures { result ≡ first_where is_self_link_lem [] links.now }
+    ensures { result ≡ first_where is_self_link_spec [] links.now }
 {
     for (i, link) in links.iter().enumerate() {
         if link.a.0 == link.b.0 {
@@ -116,21 +116,21 @@ fn self_link(links: &[LinkEntry]) -> Option<usize>
 
 /// Whether a link joins these two nodes.
 pub(crate) fn joins_both(x: u16, y: u16, link: &LinkEntry) -> bool
-    ensures { result ≡ joins_both_lem x y link.now }
+    ensures { result ≡ joins_both_spec x y link.now }
 {
     link.a.0 == x && link.b.0 == y || link.a.0 == y && link.b.0 == x
 }
 
 /// Whether one of the links joins these two nodes.
 pub(crate) fn are_joined(links: &[LinkEntry], x: u16, y: u16) -> bool
-    ensures { result ≡ list_any (joins_both_lem x y) links.now }
+    ensures { result ≡ list_any (joins_both_spec x y) links.now }
 {
     links.iter().any(|link| joins_both(x, y, link))
 }
 
 /// The first link that joins the same nodes as an earlier one.
 fn second_link(links: &[LinkEntry]) -> Option<usize>
-    ensures { result ≡ first_where is_second_link_lem [] links.now }
+    ensures { result ≡ first_where is_second_link_spec [] links.now }
 {
     for (i, link) in links.iter().enumerate() {
         if are_joined(&links[..i], link.a.0, link.b.0) {

@@ -6,7 +6,7 @@ ghost use Rattle.std.specs.List.{list_any};
 ghost use Rattle.toml.specs.View.{table_view};
 ghost use Rattle.toml_rules.specs.Rules.{Reads, each_entry, first_where};
 ghost use Rattle.topology_file.specs.Entries.{node_entry};
-ghost use Rattle.topology_file.specs.Scenario.{node_from, station_from, is_station as is_station_lem, has_name_of as has_name_of_lem, has_id_of as has_id_of_lem, is_small as is_small_lem, nodes_of};
+ghost use Rattle.topology_file.specs.Scenario.{node_from, station_from, is_station as is_station_spec, has_name_of as has_name_of_spec, has_id_of as has_id_of_spec, is_small as is_small_spec, nodes_of};
 
 use crate::entries::NodeEntry;
 use crate::forms::{read_id, read_kind, read_name};
@@ -68,20 +68,20 @@ fn read_node_entries(alloc: Global, entries: &[&Table]) -> Result<Vec<NodeEntry>
 /// Whether there are 2 to 64 nodes, and at most 400,000 nodes times ticks.
 fn is_small(ticks: u64, nodes: &[NodeEntry]) -> bool
     requires { ticks ≤ 12000 }
-    ensures { result ≡ is_small_lem ticks nodes.now }
+    ensures { result ≡ is_small_spec ticks nodes.now }
 {
     2 <= nodes.len() && nodes.len() <= 64 && nodes.len() as u64 * ticks <= 400_000
 }
 
 fn has_name_of(earlier: &[NodeEntry], node: &NodeEntry) -> bool
-    ensures { result ≡ has_name_of_lem earlier.now node.now }
+    ensures { result ≡ has_name_of_spec earlier.now node.now }
 {
     earlier.iter().any(|other| other.name == node.name)
 }
 
 /// The first node whose name an earlier one has.
 fn repeated_name(nodes: &[NodeEntry]) -> Option<usize>
-    ensures { result ≡ first_where has_name_of_lem [] nodes.now }
+    ensures { result ≡ first_where has_name_of_spec [] nodes.now }
 {
     for (i, node) in nodes.iter().enumerate() {
         if has_name_of(&nodes[..i], node) {
@@ -92,14 +92,14 @@ fn repeated_name(nodes: &[NodeEntry]) -> Option<usize>
 }
 
 fn has_id_of(earlier: &[NodeEntry], node: &NodeEntry) -> bool
-    ensures { result ≡ has_id_of_lem earlier.now node.now }
+    ensures { result ≡ has_id_of_spec earlier.now node.now }
 {
     earlier.iter().any(|other| other.id.0 == node.id.0)
 }
 
 /// The first node whose id an earlier one has.
 fn repeated_id(nodes: &[NodeEntry]) -> Option<usize>
-    ensures { result ≡ first_where has_id_of_lem [] nodes.now }
+    ensures { result ≡ first_where has_id_of_spec [] nodes.now }
 {
     for (i, node) in nodes.iter().enumerate() {
         if has_id_of(&nodes[..i], node) {
@@ -126,7 +126,7 @@ pub(crate) fn read_nodes(
 }
 
 pub(crate) fn is_station(kind: NodeKind) -> bool
-    ensures { result ≡ is_station_lem kind }
+    ensures { result ≡ is_station_spec kind }
 {
     kind == NodeKind::Station
 }

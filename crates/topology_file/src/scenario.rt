@@ -3,7 +3,7 @@
 ghost use Rattle.std.specs.Prelude.{◌≡◌, ◌≤◌, [], map, Ok};
 ghost use Rattle.toml.specs.Data.{Members};
 ghost use Rattle.toml.specs.View.{table_view};
-ghost use Rattle.toml_rules.specs.Rules.{Reads, needs as needs_lem, first_where};
+ghost use Rattle.toml_rules.specs.Rules.{Reads, needs as needs_spec, first_where};
 ghost use Rattle.topology_file.specs.Plan.{Plan};
 ghost use Rattle.topology_file.specs.Scenario.{KeepsRules, ticks_at, leave_time_at, plan_of, scenario_of};
 

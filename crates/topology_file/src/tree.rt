@@ -4,7 +4,7 @@ ghost use Rattle.std.specs.Prelude.{◌≡◌, ◌≤◌, ◌<◌, [], map, leng
 ghost use Rattle.toml_rules.specs.Rules.{Reads, first_where};
 ghost use Rattle.tree_topology.specs.Graph.{IsNode, IsGraph};
 ghost use Rattle.tree_topology.specs.Refusal.{IsRefusal};
-ghost use Rattle.topology_file.specs.Scenario.{is_self_link, is_second_link, is_crowded as is_crowded_lem, tree_links, tree_of, topology_of, rule_of as rule_of_lem};
+ghost use Rattle.topology_file.specs.Scenario.{is_self_link, is_second_link, is_crowded as is_crowded_spec, tree_links, tree_of, topology_of, rule_of as rule_of_spec};
 
 use crate::entries::{LinkEntry, NodeEntry};
 use srp_base::{NoMemory, NodeNo};
@@ -14,7 +14,7 @@ use tree_topology::{Link, NodeKind, Tree, TreeErr, laws};
 
 /// The rule that a refusal of the tree breaks.
 fn rule_of(refusal: TreeErr) -> RuleErr
-    ensures { result ≡ rule_of_lem refusal }
+    ensures { result ≡ rule_of_spec refusal }
 {
     match refusal {
         TreeErr::UnknownNode(link) => fails_at(9, usize::from(link.0)),
@@ -81,7 +81,7 @@ pub(crate) fn make_tree(
 pub(crate) fn crowded_node(nodes: &[NodeEntry], tree: &Tree) -> Option<usize>
     requires few { length nodes.now ≤ 64 }
     requires size { length tree.now.kinds ≡ length nodes.now }
-    ensures { result ≡ first_where (is_crowded_lem tree.now.links) [] nodes.now }
+    ensures { result ≡ first_where (is_crowded_spec tree.now.links) [] nodes.now }
 {
     for i in 0..nodes.len() {
         if tree.ports(NodeNo((i + 1) as u16)) > 16 {

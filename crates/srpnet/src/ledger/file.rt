@@ -5,7 +5,7 @@ ghost use Rattle.std.specs.Option.{option_and_then};
 ghost use Rattle.srp_base.specs.Hexadecimal.{hex16};
 ghost use Rattle.toml.specs.View.{table_view};
 ghost use Rattle.toml_rules.specs.Rules.{Reads, each_entry, no_entry};
-ghost use Rattle.srpnet.specs.LedgerFile.{stream_at, class_of_text, class_at, rank_of_number, rank_at, frames_at, octets_at, tick_at, known_want, want_entry, rate_at, first_fall, mentioned, wants_of, ledger_file as ledger_file_lem};
+ghost use Rattle.srpnet.specs.LedgerFile.{stream_at, class_of_text, class_at, rank_of_number, rank_at, frames_at, octets_at, tick_at, known_want, want_entry, rate_at, first_fall, mentioned, wants_of, ledger_file as ledger_file_spec};
 
 use indexmap::IndexSet;
 use srp_base::{Class, Cs, Percent, Rank, Rate, Seq, StreamId, read_hex16};
@@ -216,7 +216,7 @@ fn read_mentioned(
 
 /// The file of a table, or the first rule that fails with its first failing entry: rules 31 to 35.
 pub fn read_ledger_file(alloc: Global, table: &Table) -> Result<LedgerFile, RuleErr>
-    ensures file { Reads (λ f. f) result (ledger_file_lem (table_view table.now)) }
+    ensures file { Reads (λ f. f) result (ledger_file_spec (table_view table.now)) }
     ensures shares { IfOk result (λ f. f.delta_a + f.delta_b ≤ 90) }
     ensures ticks { IfOk result (λ f. first_fall 1 0 f.wants ≡ None) }
 {

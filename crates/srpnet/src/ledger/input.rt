@@ -3,7 +3,7 @@
 ghost use Rattle.std.specs.Prelude.{◌≡◌, ◌+◌, ◌≤◌, None, IfOk, IfErr};
 ghost use Rattle.srpnet.specs.LedgerFile.{first_fall};
 ghost use Rattle.srpnet.specs.Input.{Gives};
-ghost use Rattle.srpnet.specs.LedgerInput.{ledger_input as ledger_input_lem};
+ghost use Rattle.srpnet.specs.LedgerInput.{ledger_input as ledger_input_spec};
 
 use crate::input::table_of;
 use crate::ledger::file::{LedgerFile, read_ledger_file};
@@ -13,7 +13,7 @@ use toml_rules::RuleErr;
 
 /// The ledger file of the octets, or the cause of its refusal.
 pub fn ledger_input(alloc: Global, octets: &[u8]) -> Result<LedgerFile, Cause>
-    ensures file { Gives (λ f. f) result (ledger_input_lem octets.now) }
+    ensures file { Gives (λ f. f) result (ledger_input_spec octets.now) }
     ensures not_done { IfErr result (λ c. c ≡ Cause.Done → ⊥) }
     ensures shares { IfOk result (λ f. f.delta_a + f.delta_b ≤ 90) }
     ensures ticks { IfOk result (λ f. first_fall 1 0 f.wants ≡ None) }
