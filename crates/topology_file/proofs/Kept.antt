@@ -15,7 +15,6 @@ use Rattle.toml_rules.specs.declared.rules.RuleErr.{RuleErr}
 use Rattle.toml_rules.specs.Fields.{number, number_or, within, truth_or, tables, text, has_only}
 use Rattle.toml_rules.specs.Rules.{◌>>=◌, needs, holds, no_entry, each_entry, first_where}
 use Rattle.toml_rules.specs.Shares.{share_at, shares_at}
-use Rattle.tree_topology.proofs.Forests.{tree-from_checks}
 use Rattle.tree_topology.specs.Topology.{Topology}
 use Rattle.tree_topology.specs.declared.graph.Link.{Link}
 use Rattle.tree_topology.specs.declared.graph.NodeKind.{NodeKind}
@@ -261,7 +260,7 @@ accepted-tree laws nodes links tree few l t =
     let T : ℕ → Type 0 = λ n. IsTree n L in
     let N : ℕ → Type 0 = λ n. (x : ℕ) → IsNode n x → ¬ IsStationWithLinks (map (λ x. x.kind) nodes) L x in
     record {
-      tree = subst T size (tree-from_checks (length nodes) L graph (no-loop laws links t.no_loop) (all-connected laws nodes links t.connected));
+      tree = subst T size (laws.tree (length nodes) L graph (no-loop laws links t.no_loop) (all-connected laws nodes links t.connected));
       leaf_stations = subst N size (leaf-stations nodes links t.stations);
       counted_ports = (λ x k. omega (arith, laws.few (length nodes) L x graph, few));
     }

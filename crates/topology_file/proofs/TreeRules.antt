@@ -212,6 +212,7 @@ pub record TreeLaws : Type 0 where
   pub few : (count : ℕ) (links : List Link) (x : ℕ) → IsGraph count links → length (neighbours links x) ≤ count + 1
   pub no_loop : (count : ℕ) (links : List Link) → IsTree count links → HasNoLoop links
   pub connected : (count : ℕ) (links : List Link) (x y : ℕ) → IsTree count links → IsNode count x → IsNode count y → Connected links x y
+  pub tree : (count : ℕ) (links : List Link) → IsGraph count links → HasNoLoop links → ((x : ℕ) → IsNode count x → Connected links 1 x) → IsTree count links
 
 tree-result : (nodes : List NodeEntry) (links : List LinkEntry) (o p q : Option ℕ) → first_where closes_loop [] links ≡ o → first_where (is_unconnected links) [] nodes ≡ p → first_where (is_stray_station links) [] nodes ≡ q → tree_of nodes links ≡ (no_entry 12 o >>= (λ _. no_entry 13 p >>= (λ _. no_entry 14 q >>= (λ _. Ok (topology_of nodes links)))))
 tree-result nodes links o p q e f g =

@@ -1,5 +1,5 @@
 -- A graph: nodes, numbered from 1, and undirected links. Its walks, and what makes it a tree.
--- The tree is the active topology of a bridged network (IEEE Std 802.1Q-2018, 7.4, 10.3.1).
+-- The tree is the active topology of a bridged network (IEEE Std 802.1Q-2018, 7.3, 10.3.1).
 use Rattle.std.specs.Prelude.{◌≡◌, ◌≢◌, ℕ, ◌≤◌, ◌<◌, ◌⊎◌, List, [], ◌∷◌, length, All}
 use Rattle.std.proofs.Common.{take, get_or}
 use Rattle.tree_topology.specs.declared.graph.Link.{Link}

@@ -101,9 +101,11 @@ pub fn few_links()
     ensures all { (count : ℕ) (links : List Link) → IsGraph count links → length links ≤ (count + 1) * (count + 1) }
 {}
 
-/// In a tree no link closes a loop, and all nodes are connected.
+/// In a tree no link closes a loop, and all nodes are connected; and a graph of which this is true is a tree.
 pub fn one_component()
     ensures no_loop { (count : ℕ) (links : List Link) → IsTree count links → HasNoLoop links }
     ensures connected { (count : ℕ) (links : List Link) (x y : ℕ) → IsTree count links → IsNode count x → IsNode count y
         → Connected links x y }
+    ensures tree { (count : ℕ) (links : List Link) → IsGraph count links → HasNoLoop links
+        → ((x : ℕ) → IsNode count x → Connected links 1 x) → IsTree count links }
 {}

@@ -1,6 +1,6 @@
 //! The tree of a bridged network: stations and bridges, and the links between them.
 //!
-//! A bridged network forwards along its active topology, which is a tree (IEEE Std 802.1Q-2018, 7.4).
+//! A bridged network forwards along its active topology, which is a tree (IEEE Std 802.1Q-2018, 7.3).
 //! This crate takes nodes and links, refuses what is no tree, and answers what SRP asks of a tree: the
 //! egress ports from a Talker to a Listener, and what lies behind a port.
 //!

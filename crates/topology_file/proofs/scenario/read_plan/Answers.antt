@@ -19,7 +19,7 @@ make_tree-requires-clause-known c =
 
 pub invariant_of-result : goal.invariant_of-result
 invariant_of-result c =
-    let laws : TreeLaws = record { components = c.components.ensures; few = c.few_links.ensures.node; no_loop = c.one_component.ensures.no_loop; connected = c.one_component.ensures.connected } in
+    let laws : TreeLaws = record { components = c.components.ensures; few = c.few_links.ensures.node; no_loop = c.one_component.ensures.no_loop; connected = c.one_component.ensures.connected; tree = c.one_component.ensures.tree } in
     let ticks = c.args.times.ticks in
     let node_tables = map (λ t. table_view t.now) c.args.node_tables.now in
     let link_tables = map (λ t. table_view t.now) c.args.link_tables.now in

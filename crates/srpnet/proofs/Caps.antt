@@ -1,1 +1,0 @@
--- Nothing is left here: what a port gives away has 64 bits by a clause of port_ledger.
