@@ -21,7 +21,7 @@ use Rattle.mrp_participant.proofs.Transitions.{due-keeps}
 
 -- ---- members of a list
 
-In-map : {X Y : Type 0} (f : X → Y) (x : X) (xs : List X) → In x xs → In (f x) (map f xs)
+pub In-map : {X Y : Type 0} (f : X → Y) (x : X) (xs : List X) → In x xs → In (f x) (map f xs)
 In-map f x [] at = absurd at
 In-map f x (y ∷ ys) (inl e) = inl (ap f e)
 In-map f x (y ∷ ys) (inr at) = inr (In-map f x ys at)
@@ -128,7 +128,7 @@ module _ {K C : Type 0} {cmp : K → K → Ordering} (o : IsTotalOrder cmp) (eq 
 -- ---- the timers
 
 module _ {K C : Type 0} where
-  periodic-registered : (r : Option (Row K C)) → registered_in (option_map periodic_row r) ≡ registered_in r
+  pub periodic-registered : (r : Option (Row K C)) → registered_in (option_map periodic_row r) ≡ registered_in r
   periodic-registered None = refl
   periodic-registered (Some r) = refl
 
@@ -147,7 +147,7 @@ module _ {K C : Type 0} where
   leaving-registered_by now r Empty h = cc
   leaving-registered_by now r Leaving h = refl
 
-  due_rows_by : (now : Cs) (s : State K C) (b : Bool) → (if b then leave_all_state now s else s).rows ≡ s.rows
+  pub due_rows_by : (now : Cs) (s : State K C) (b : Bool) → (if b then leave_all_state now s else s).rows ≡ s.rows
   due_rows_by now s true = refl
   due_rows_by now s false = refl
 

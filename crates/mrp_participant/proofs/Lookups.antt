@@ -104,7 +104,7 @@ module _ {K C : Type 0} {cmp : K → K → Ordering} (o : IsTotalOrder cmp) wher
       }
 
   -- all rows after one that is above k are above k
-  above_all : (k : K) (r : Row K C) (rows : List (Row K C)) → cmp k r.key ≡ Less → Each (λ y. cmp r.key y.key ≡ Less) rows → Each (λ y. cmp k y.key ≡ Less) rows
+  pub above_all : (k : K) (r : Row K C) (rows : List (Row K C)) → cmp k r.key ≡ Less → Each (λ y. cmp r.key y.key ≡ Less) rows → Each (λ y. cmp k y.key ≡ Less) rows
   above_all k r rows less up = Each-map _ _ (λ y h. o.trans k r.key y.key less h) rows up
 
   -- the gap between the rows below k and those above it

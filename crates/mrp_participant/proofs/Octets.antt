@@ -18,7 +18,7 @@ use Rattle.mrp_participant.specs.declared.one_row.Row.{Row}
 use Rattle.mrp_participant.specs.declared.room.Cut.{Cut}
 use Rattle.mrp_participant.specs.Lookup.{Each, Ascends, key_of}
 use Rattle.mrp_participant.specs.OneRow.{with_applicant, registrar_takes}
-use Rattle.mrp_participant.specs.Sending.{IsSplit, round, is_tried, rows_of_round, order, chance, said_at, event_of, sent_event, is_taken}
+use Rattle.mrp_participant.specs.Sending.{IsSplit, round, is_tried, rows_of_round, order, opportunity, said_at, event_of, sent_event, is_taken}
 use Rattle.mrp_participant.specs.Room.{cut_at, is_before, is_in_room, first_cut}
 use Rattle.mrp_participant.specs.State.{none_tried}
 use Rattle.mrp_participant.proofs.Lookups.{Ascends-kept, Each-map}
@@ -197,13 +197,13 @@ module _ {K C : Type 0} where
   event_is r None e h = cc
   event_is r (Some event) e h = let is = some_is (event, r.key, r.content) e h in (ap (λ (x : MrpEvent × K × C). x.1) (sym is), ap (λ (x : MrpEvent × K × C). x.2) (sym is))
 
-  said_is : (chance_of : Option AppEvent) (r : Row K C) (e : MrpEvent × K × C) → said_at chance_of r ≡ Some e → (e.1 ≡ r.key) × (e.2 ≡ r.content)
+  said_is : (opportunity_of : Option AppEvent) (r : Row K C) (e : MrpEvent × K × C) → said_at opportunity_of r ≡ Some e → (e.1 ≡ r.key) × (e.2 ≡ r.content)
   said_is None r e h = cc
   said_is (Some event) r e h = event_is r _ e h
 
   pub sent_is : (leave_all taken : Bool) (leave : Cs) (r : Row K C) (e : MrpEvent × K × C) → sent_event leave_all taken leave r ≡ Some e → (e.1 ≡ r.key) × (e.2 ≡ r.content)
-  sent_is true taken leave r e h = said_is (chance true taken r) (registrar_takes RegTxLeaveAll leave r) e h
-  sent_is false taken leave r e h = said_is (chance false taken r) r e h
+  sent_is true taken leave r e h = said_is (opportunity true taken r) (registrar_takes RegTxLeaveAll leave r) e h
+  sent_is false taken leave r e h = said_is (opportunity false taken r) r e h
 
   only_taken : (leave_all taken : Bool) (leave : Cs) (r : Row K C) (e : MrpEvent × K × C) → sent_event leave_all taken leave r ≡ Some e → taken ≡ true
   only_taken leave_all true leave r e h = refl

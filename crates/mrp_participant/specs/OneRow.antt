@@ -53,10 +53,10 @@ with_applicant a r = record r { applicant = a }
 abbrev pub applicant_takes : {K C : Type 0} → AppEvent → Row K C → Row K C
 applicant_takes event r = with_applicant (applicant.next event (is_in r.registrar) r.applicant) r
 
--- the registrar of a row takes an event; where that takes it from IN to LV, the leave timer starts
+-- the registrar of a row takes an event; where that starts the leave timer, it ends at the moment `leave`
 abbrev pub registrar_takes : {K C : Type 0} → RegEvent → Cs → Row K C → Row K C
 registrar_takes event leave r =
-    record r { registrar = registrar.next event r.registrar; leave = if is_in r.registrar && is_leaving (registrar.next event r.registrar) then leave else r.leave }
+    record r { registrar = registrar.next event r.registrar; leave = if registrar.starts_leave_timer event r.registrar then leave else r.leave }
 
 -- a row of a key of which nothing was kept; what is not stated and not heard stands for nothing
 abbrev pub fresh_row : {K C : Type 0} → K → C → Row K C

@@ -1,5 +1,6 @@
 -- A participant as contracts see it, and the participant after each call (IEEE Std 802.1Q-2018, 10.7).
 use Rattle.std.specs.Prelude.{◌≡◌, ℕ, ◌+◌, ◌≤◌, Bool, true, false, ◌&&◌, ◌||◌, not, if◌then◌else◌, nat_le, List, [], map, filter, length, fold}
+use Rattle.std.specs.declared.option.Option.{Option}
 use Rattle.std.specs.declared.option.Option.TheVariants.{Some}
 use Rattle.std.specs.declared.cmp.Ordering.{Ordering}
 use Rattle.std.specs.List.{filter_map, list_any, list_all}
@@ -7,12 +8,13 @@ use Rattle.srp_base.specs.declared.numbers.Cs.{Cs}
 use Rattle.srp_base.specs.declared.mrp.MrpEvent.{MrpEvent}
 use Rattle.leaveall.specs.declared.LeaveAll.{LeaveAll}
 use Rattle.leaveall.specs.declared.LeaveAll.TheVariants.{Active, Passive}
+use Rattle.leaveall.specs.declared.LaEvent.{LaEvent}
 use Rattle.leaveall.specs.declared.LaEvent.TheVariants.{Timer, Rx, Tx}
 use Rattle.leaveall.specs.declared.Periodic.{Periodic}
 use Rattle.leaveall.specs.Table as leaveall
 use Rattle.mrp_participant.specs.declared.one_row.Row.{Row}
 use Rattle.mrp_participant.specs.Lookup.{Each, Ascends, key_of, find, put}
-use Rattle.mrp_participant.specs.OneRow.{is_live, after_declare, after_withdraw, after_leave, after_hear, leave_all_row, registered_in, same_content, leave_is_due, after_leave_due, periodic_row, is_settled}
+use Rattle.mrp_participant.specs.OneRow.{is_live, after_declare, after_withdraw, after_leave, after_hear, leave_all_row, declared_in, registered_in, same_content, leave_is_due, after_leave_due, periodic_row, is_settled}
 use Rattle.mrp_participant.specs.Sending.{is_taken, is_tried, sent_row, sent_event}
 
 -- the rows ascending by key, the LeaveAll machine with the moment of its timer and its period, the time
@@ -67,6 +69,13 @@ module _ {K C : Type 0} where
   abbrev pub left_state : (K → K → Ordering) → K → State K C → State K C
   left_state cmp k s = with_rows (put cmp k (after_leave (find cmp k s.rows)) s.rows) s
 
+  -- what is declared and what is registered of a key
+  abbrev pub declared_at : (K → K → Ordering) → K → State K C → Option C
+  declared_at cmp k s = declared_in (find cmp k s.rows)
+
+  abbrev pub registered_at : (K → K → Ordering) → K → State K C → Option C
+  registered_at cmp k s = registered_in (find cmp k s.rows)
+
   -- the rows after one received event
   abbrev pub rows_hearing : (K → K → Ordering) → Cs → List (Row K C) → MrpEvent × K × C → List (Row K C)
   rows_hearing cmp leave rows e = put cmp e.1 (after_hear e.0 e.1 e.2 leave (find cmp e.1 rows)) rows
@@ -76,13 +85,17 @@ module _ {K C : Type 0} where
   rows_after_receive cmp leave leave_all events rows =
       fold (rows_hearing cmp leave) (if leave_all then map (leave_all_row leave) rows else rows) events
 
+  -- the moment of the LeaveAll timer after an event of its machine
+  abbrev pub timer_after : LaEvent → Cs → State K C → Cs
+  timer_after event now s = if leaveall.restarts event then after now s.period else s.next_leave_all
+
   -- after a PDU was received: with LeaveAll the LeaveAll machine gets Rx, and its timer restarts
   abbrev pub received_state : (K → K → Ordering) → Cs → Bool → List (MrpEvent × K × C) → State K C → State K C
   received_state cmp now leave_all events s =
       record s {
         rows = rows_after_receive cmp (after now s.leave_time) leave_all events s.rows;
         leave_all = if leave_all then leaveall.table Rx s.leave_all else s.leave_all;
-        next_leave_all = if leave_all then after now s.period else s.next_leave_all;
+        next_leave_all = if leave_all then timer_after Rx now s else s.next_leave_all;
       }
 
   -- the keys whose registration or registered content differs between two lists of rows, ascending; a
@@ -103,7 +116,7 @@ module _ {K C : Type 0} where
   is_leave_all_due now s = nat_le s.next_leave_all.0 now.0
 
   abbrev pub leave_all_state : Cs → State K C → State K C
-  leave_all_state now s = record s { leave_all = leaveall.table Timer s.leave_all; next_leave_all = after now s.period }
+  leave_all_state now s = record s { leave_all = leaveall.table Timer s.leave_all; next_leave_all = timer_after Timer now s }
 
   -- whether the periodic machine is on and due, after its event at every row, and after it has fired
   abbrev pub is_periodic_due : Cs → State K C → Bool

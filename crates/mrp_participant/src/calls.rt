@@ -1,8 +1,8 @@
 //! What the user asks of one key, and the end of one leave timer.
 
-ghost use Rattle.std.specs.Prelude.{◌≡◌, None, OnOk, OnErr, if◌then◌else◌};
+ghost use Rattle.std.specs.Prelude.{◌≡◌, false, Some, None, OnOk, OnErr, if◌then◌else◌};
 ghost use Rattle.mrp_participant.specs.Lookup.{Ascends, key_of, same, find, put};
-ghost use Rattle.mrp_participant.specs.OneRow.{after_declare, after_withdraw, after_leave, is_leaving_in};
+ghost use Rattle.mrp_participant.specs.OneRow.{after_declare, after_withdraw, after_leave, is_leaving_in, declared_in};
 ghost use Rattle.mrp_participant.specs.State.{declared_state, withdrawn_state, left_state};
 
 use crate::application::MrpApp;
@@ -18,6 +18,7 @@ impl<A: MrpApp> Participant<A> {
     /// a key without a row, the participant is as it was.
     pub fn declare(&mut self, key: A::Key, content: A::Content) -> Result<(), NoMemory>
         ensures ok { OnOk result (self.new ≡ declared_state A.Key.cmp A.Content.eq key content self.old) }
+        ensures same_content { declared_in (find A.Key.cmp key self.old.rows) ≡ Some content → self.new ≡ self.old }
         ensures err { OnErr result (self.new ≡ self.old) }
         ensures room { OnErr result (find A.Key.cmp key self.old.rows ≡ None) }
         ensures each_key { OnOk result ((k : A.Key) → find A.Key.cmp k self.new.rows ≡ (if same A.Key.cmp key k then after_declare A.Content.eq key content (find A.Key.cmp key self.old.rows) else find A.Key.cmp k self.old.rows)) }
@@ -29,6 +30,7 @@ impl<A: MrpApp> Participant<A> {
     /// withdrawal says Lv, or rides on a LeaveAll.
     pub fn withdraw(&mut self, key: A::Key)
         ensures after { self.new ≡ withdrawn_state A.Key.cmp key self.old }
+        ensures undeclared { declared_in (find A.Key.cmp key self.old.rows) ≡ None → self.new ≡ self.old }
         ensures each_key { (k : A.Key) → find A.Key.cmp k self.new.rows ≡ (if same A.Key.cmp key k then after_withdraw (find A.Key.cmp key self.old.rows) else find A.Key.cmp k self.old.rows) }
     {
         withdraw_in(&mut self.rows, key);
@@ -38,6 +40,7 @@ impl<A: MrpApp> Participant<A> {
     pub fn leave_due(&mut self, key: A::Key) -> bool
         ensures was { result ≡ is_leaving_in (find A.Key.cmp key self.old.rows) }
         ensures after { self.new ≡ left_state A.Key.cmp key self.old }
+        ensures stays { result ≡ false → self.new ≡ self.old }
         ensures each_key { (k : A.Key) → find A.Key.cmp k self.new.rows ≡ (if same A.Key.cmp key k then after_leave (find A.Key.cmp key self.old.rows) else find A.Key.cmp k self.old.rows) }
     {
         leave_in(&mut self.rows, key)

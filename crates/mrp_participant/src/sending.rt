@@ -1,6 +1,6 @@
 //! What a participant sends (IEEE Std 802.1Q-2018, 10.7.6 and 10.8).
 
-ghost use Rattle.std.specs.Prelude.{◌≡◌, ◌<◌, ◌^◌, ◌+◌, ◌≤◌, ◌≢◌, ◌||◌, false, [], sum_by, OnOk, OnErr, IfOk, IfSome, is_none};
+ghost use Rattle.std.specs.Prelude.{◌≡◌, ◌<◌, ◌^◌, ◌+◌, ◌≤◌, ◌≢◌, ◌||◌, false, [], sum_by, OnOk, OnErr, IfOk, IfSome, IfNone, is_none};
 ghost use Rattle.std.specs.List.{filter_map};
 ghost use Rattle.mrp_participant.specs.Lookup.{Ascends};
 ghost use Rattle.mrp_participant.specs.Sending.{sent_row, sent_event, is_taken};
@@ -29,6 +29,7 @@ impl<A: MrpApp> Participant<A> {
         ensures fits { IfOk result (λ sent. IfSome sent (λ msgs. A.base + sum_by (λ e. A.octets e.2) msgs.events ≤ 1500)) }
         ensures says { IfOk result (λ sent. IfSome sent (λ msgs. msgs.leave_all ≡ false → msgs.events ≢ [])) }
         ensures after { OnOk result (self.new ≡ sent_state A.base A.octets A.Key.cmp now self.old) }
+        ensures stays { IfOk result (λ sent. IfNone sent (self.new ≡ self.old)) }
         ensures err { OnErr result (self.new ≡ self.old) }
     {
         if self.has_nothing_to_say() {
