@@ -16,9 +16,15 @@ use srp_base::{Cs, MrpEvent, NoMemory, Seq};
 use std::alloc::{AllocError, Global};
 
 impl<A: MrpApp> Participant<A> {
-    /// What the participant sends at the moment `now`. None exactly where no row is VP, VN, AN, AA or LA
-    /// and LeaveAll is Passive. A LeaveAll makes the participant sound. After want of memory it is as it
-    /// was.
+    /// What the participant sends at the moment `now`, in cs and below 2^62 (IEEE Std 802.1Q-2018, 10.7.6).
+    ///
+    /// The rows in VP, VN and LA, then those in AN and AA, each ascending by key, while the PDU stays within
+    /// 1,500 octets. With LeaveAll those in VP and VN, in AN and AA, then also those in QA; LA then says nothing.
+    /// A Join is JoinIn where the row's own Registrar is IN, else JoinMt; LeaveAll takes each Registrar out of
+    /// IN first. The events stand ascending by key.
+    ///
+    /// None exactly where no row is VP, VN, AN, AA or LA and LeaveAll is Passive; nothing changes then. A LeaveAll
+    /// makes the participant sound. After want of memory it is as it was.
     pub fn send(&mut self, now: Cs) -> Result<Option<Msgs<A>>, NoMemory>
         requires { now.0 < 2 ^ 62 }
 
