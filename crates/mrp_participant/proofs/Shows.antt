@@ -8,7 +8,6 @@ use Rattle.std.specs.declared.cmp.Ordering.{Ordering}
 use Rattle.std.specs.declared.cmp.Ordering.TheVariants.{Equal}
 use Rattle.std.specs.Cmp.{IsTotalOrder}
 use Rattle.std.specs.List.{filter_map, cons_option, list_any, list_all}
-use Rattle.registrar.specs.declared.Registrar.{Registrar}
 use Rattle.leaveall.specs.declared.LeaveAll.{LeaveAll}
 use Rattle.leaveall.specs.declared.LeaveAll.TheVariants.{Active, Passive}
 use Rattle.srp_base.specs.declared.numbers.Cs.{Cs}
