@@ -73,6 +73,13 @@ said event held state = (table event held state).1
 abbrev pub asked : AppEvent → Applicant → Applicant
 asked request state = next request false state
 
+-- whether an event is a request of the user: New!, Join!, Lv!
+abbrev pub is_request : AppEvent → Bool
+is_request NewReq = true
+is_request JoinReq = true
+is_request LvReq = true
+is_request _ = false
+
 -- the user declares: JoinReq in VO, NewReq in LA, and nothing in the other states
 abbrev pub declare_of : Applicant → Applicant
 declare_of Vo = asked JoinReq Vo

@@ -11,16 +11,20 @@
 //!
 //! `step` is one cell of the table in `specs/Table.antt`: the new state, and what is said. The user's
 //! `declare`, `redeclare` and `withdraw` are requests of that table, chosen so that every withdrawal
-//! of something declared says a Lv, or rides on a LeaveAll: a plain LvReq in VP would go to VO in
+//! of something declared says a Lv, or rides on a LeaveAll: a plain Lv! in VP would go to VO in
 //! silence while an earlier Join may still be in flight, and leave the attribute registered at the
 //! neighbour for good. The table is this project's, after the standard's.
 #![tactic(auto)]
 
+pub mod laws;
+
 ghost use Rattle.std.specs.Prelude.{◌≡◌};
 ghost use Rattle.applicant.specs.Table.{table, declare_of, redeclare_of, withdraw_of, is_declared_in};
 
-/// The states. The first letter is very anxious, anxious, quiet or leaving; the second is observer,
-/// passive, new, active or quiet's "active".
+/// The states (IEEE Std 802.1Q-2018, 10.7.7). The first letter says how far the neighbour can be trusted to
+/// know: V very anxious, A anxious, Q quiet, L leaving. The second says what this side is: O observer, which
+/// declares nothing; P passive, which declares and hasn't said so; N new, which declares as new; A active,
+/// which has said what it declares.
 #[derive(Clone, Copy, Debug, PartialEq, Eq)]
 pub enum Applicant {
     Vo,
@@ -32,25 +36,35 @@ pub enum Applicant {
     La,
 }
 
-/// What happens to an Applicant: a request of its user, a received event, or a chance to send.
-/// `RxIn` is a received JoinIn or In, `RxMt` a received JoinMt or Mt. `TxLeaveAllFull` is a LeaveAll
-/// sent in a PDU that had no room for the attribute.
+/// What happens to an Applicant: a request of its user, a received event, or a transmission opportunity
+/// (IEEE Std 802.1Q-2018, 10.7.7; its names stand beside).
 #[derive(Clone, Copy, Debug, PartialEq, Eq)]
 pub enum AppEvent {
+    /// New!
     NewReq,
+    /// Join!
     JoinReq,
+    /// Lv!
     LvReq,
+    /// rJoinIn! or rIn!
     RxIn,
+    /// rJoinMt! or rMt!
     RxMt,
+    /// rLv!
     RxLv,
+    /// rLA!
     RxLeaveAll,
+    /// periodic!
     Periodic,
+    /// tx!, a transmission opportunity
     Tx,
+    /// txLA!, one in a PDU with LeaveAll
     TxLeaveAll,
+    /// txLAF!, one in a PDU with LeaveAll that has no room for the attribute
     TxLeaveAllFull,
 }
 
-/// What an Applicant says of its attribute in the PDU that is being sent.
+/// What an Applicant says of its attribute in the PDU that is being sent (IEEE Std 802.1Q-2018, 10.7.7).
 #[derive(Clone, Copy, Debug, PartialEq, Eq)]
 pub enum Say {
     Quiet,
@@ -60,8 +74,8 @@ pub enum Say {
 }
 
 impl Applicant {
-    /// The new state, and what is said. `held` is whether the port's own Registrar of the attribute is
-    /// IN.
+    /// The new state, and what is said: one cell of the table (IEEE Std 802.1Q-2018, 10.7.7). `held` is
+    /// whether the port's own Registrar of the attribute is IN.
     pub fn step(self, event: AppEvent, held: bool) -> (Applicant, Say)
         ensures { result ≡ table event held self }
     {
@@ -89,7 +103,7 @@ impl Applicant {
         }
     }
 
-    /// The state after the user declared: JoinReq in `Vo`, NewReq in `La`, nothing in the others.
+    /// The state after the user declared: Join! in `Vo`, New! in `La`, nothing in the others.
     pub fn declare(self) -> Applicant
         ensures { result ≡ declare_of self }
     {
@@ -100,15 +114,15 @@ impl Applicant {
         }
     }
 
-    /// The state after the user declared another content: NewReq.
+    /// The state after the user declared another content: New!.
     pub fn redeclare(self) -> Applicant
         ensures { result ≡ redeclare_of self }
     {
         self.step(AppEvent::NewReq, false).0
     }
 
-    /// The state after the user withdrew: NewReq and then LvReq in `Vp`, nothing in `Vo` and `La`,
-    /// LvReq in the others.
+    /// The state after the user withdrew: New! and then Lv! in `Vp`, nothing in `Vo` and `La`, Lv! in
+    /// the others.
     pub fn withdraw(self) -> Applicant
         ensures { result ≡ withdraw_of self }
     {
@@ -134,8 +148,7 @@ mod tests {
 
     const STATES: [Applicant; 7] = [Vo, Vp, Vn, An, Aa, Qa, La];
 
-    // The cells of one event, in the order of the states. A cell whose state and Say are the column's
-    // own state and Quiet is blank.
+    // The cells of one event, in the order of the states.
     fn row_is(
         rt: &impl std::process::Abort,
         event: AppEvent,
@@ -161,7 +174,7 @@ mod tests {
     }
 
     #[test]
-    fn cells_of_the_table(rt: HostRuntime) {
+    fn cells_at_which_nothing_is_said(rt: HostRuntime) {
         quiet_row_is(&rt, AppEvent::NewReq, [Vn, Vn, Vn, Vn, Vn, Vn, Vn]);
         quiet_row_is(&rt, AppEvent::JoinReq, [Vp, Vp, Vn, An, Aa, Qa, Aa]);
         quiet_row_is(&rt, AppEvent::LvReq, [Vo, Vo, La, La, La, La, La]);
@@ -171,50 +184,37 @@ mod tests {
         quiet_row_is(&rt, AppEvent::RxLeaveAll, [Vo, Vp, Vn, Vn, Vp, Vp, La]);
         quiet_row_is(&rt, AppEvent::Periodic, [Vo, Vp, Vn, An, Aa, Aa, La]);
         quiet_row_is(&rt, AppEvent::TxLeaveAllFull, [Vo, Vp, Vn, Vn, Vp, Vp, Vo]);
-        let (quiet, new, join, lv) = (Say::Quiet, Say::New, Say::Join, Say::Lv);
-        row_is(
-            &rt,
-            AppEvent::Tx,
-            false,
-            [
-                (Vo, quiet),
-                (Aa, join),
-                (An, new),
-                (Aa, new),
-                (Qa, join),
-                (Qa, quiet),
-                (Vo, lv),
-            ],
-        );
-        row_is(
-            &rt,
-            AppEvent::Tx,
-            true,
-            [
-                (Vo, quiet),
-                (Aa, join),
-                (An, new),
-                (Qa, new),
-                (Qa, join),
-                (Qa, quiet),
-                (Vo, lv),
-            ],
-        );
+    }
+
+    #[test]
+    fn cells_of_a_transmission_opportunity(rt: HostRuntime) {
+        for (held, after_new) in [(false, Aa), (true, Qa)] {
+            let cells = [
+                (Vo, Say::Quiet),
+                (Aa, Say::Join),
+                (An, Say::New),
+                (after_new, Say::New),
+                (Qa, Say::Join),
+                (Qa, Say::Quiet),
+                (Vo, Say::Lv),
+            ];
+            row_is(&rt, AppEvent::Tx, held, cells);
+        }
+    }
+
+    #[test]
+    fn cells_of_a_sent_leave_all(rt: HostRuntime) {
+        let cells = [
+            (Vo, Say::Quiet),
+            (Aa, Say::Join),
+            (An, Say::New),
+            (Qa, Say::New),
+            (Qa, Say::Join),
+            (Qa, Say::Join),
+            (Vo, Say::Quiet),
+        ];
         for held in [false, true] {
-            row_is(
-                &rt,
-                AppEvent::TxLeaveAll,
-                held,
-                [
-                    (Vo, quiet),
-                    (Aa, join),
-                    (An, new),
-                    (Qa, new),
-                    (Qa, join),
-                    (Qa, join),
-                    (Vo, quiet),
-                ],
-            );
+            row_is(&rt, AppEvent::TxLeaveAll, held, cells);
         }
     }
 

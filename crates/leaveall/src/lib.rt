@@ -14,7 +14,7 @@
 #![tactic(auto)]
 
 ghost use Rattle.std.specs.Prelude.{◌≡◌, ℕ, ◌+◌, ◌*◌, ◌/◌, ◌%◌, ◌^◌, ◌<◌, ◌≤◌};
-ghost use Rattle.leaveall.specs.Table.{table, is_due, hundred_after};
+ghost use Rattle.leaveall.specs.Table.{table, restarts, is_due, hundred_after};
 
 use srp_base::Cs;
 
@@ -25,16 +25,30 @@ pub enum LeaveAll {
     Passive,
 }
 
-/// What happens to the LeaveAll machine: its timer's end, a LeaveAll received, one sent.
+/// What happens to the LeaveAll machine (IEEE Std 802.1Q-2018, 10.7.9; its names stand beside).
 #[derive(Clone, Copy, Debug, PartialEq, Eq)]
 pub enum LaEvent {
+    /// leavealltimer!, the end of its timer
     Timer,
+    /// rLA!, a LeaveAll received
     Rx,
+    /// tx!, at which a LeaveAll is sent where the machine is Active
     Tx,
 }
 
+impl LaEvent {
+    /// Whether the machine's timer starts anew: at its own end and at a received LeaveAll
+    /// (IEEE Std 802.1Q-2018, 10.7.9).
+    pub fn restarts(self) -> bool
+        ensures { result ≡ restarts self }
+    {
+        self != LaEvent::Tx
+    }
+}
+
 impl LeaveAll {
-    /// The new state: Active at the timer's end, Passive where a LeaveAll was received or sent.
+    /// The new state: Active at the timer's end, Passive where a LeaveAll was received or sent
+    /// (IEEE Std 802.1Q-2018, 10.7.9).
     pub fn step(self, event: LaEvent) -> LeaveAll
         ensures { result ≡ table event self }
     {
@@ -53,7 +67,8 @@ pub struct Periodic {
 }
 
 impl Periodic {
-    /// Whether the machine is on and its next moment is at or before `now`.
+    /// Whether the machine is on and its next moment is at or before `now`, in cs
+    /// (IEEE Std 802.1Q-2018, 10.7.10).
     pub fn due(&self, now: Cs) -> bool
         ensures { result ≡ is_due now.0 self.now }
     {
@@ -61,7 +76,7 @@ impl Periodic {
     }
 
     /// Sets the next moment to the first one above `now` that is divisible by 100 cs; whether the
-    /// machine is on stays.
+    /// machine is on stays. `now` is in cs, and below 2^62 (IEEE Std 802.1Q-2018, 10.7.10).
     pub fn fire(&mut self, now: Cs)
         requires { now.0 < 2 ^ 62 }
 
@@ -86,6 +101,9 @@ mod tests {
             assert_eq!(rt; state.step(LaEvent::Rx), LeaveAll::Passive);
             assert_eq!(rt; state.step(LaEvent::Tx), LeaveAll::Passive);
         }
+        assert_eq!(rt; LaEvent::Timer.restarts(), true);
+        assert_eq!(rt; LaEvent::Rx.restarts(), true);
+        assert_eq!(rt; LaEvent::Tx.restarts(), false);
     }
 
     // The machine begins at 100 and fires at moments divisible by 100.

@@ -12,7 +12,8 @@ use Rattle.srp_base.specs.declared.numbers.Cs.{Cs}
 use Rattle.srp_base.specs.declared.mrp.MrpEvent.{MrpEvent}
 use Rattle.mrp_participant.specs.declared.one_row.Row.{Row}
 use Rattle.mrp_participant.specs.Lookup.{Ascends, key_of, same, find}
-use Rattle.mrp_participant.specs.OneRow.{is_leaving, is_live, registered_in, same_content, row_hearing, row_after_receive, after_hear, leave_all_row, leave_is_due, after_leave_due, left_row, periodic_row}
+use Rattle.std.specs.Option.{option_eq}
+use Rattle.mrp_participant.specs.OneRow.{is_leaving, is_live, registered_in, row_hearing, row_after_receive, after_hear, leave_all_row, leave_is_due, after_leave_due, left_row, periodic_row}
 use Rattle.mrp_participant.specs.State.{State, AreRows, changed_keys, rows_after_receive, left_keys, leave_timers_state, leave_all_state, periodic_fired_state, due_leave_all_state, due_state, is_leave_all_due, is_periodic_due}
 use Rattle.mrp_participant.proofs.Lookups.{same_is}
 use Rattle.mrp_participant.proofs.Rooms.{In, In-filter, In-filtered, find-in}
@@ -21,7 +22,7 @@ use Rattle.mrp_participant.proofs.Transitions.{due-keeps}
 
 -- ---- members of a list
 
-In-map : {X Y : Type 0} (f : X → Y) (x : X) (xs : List X) → In x xs → In (f x) (map f xs)
+pub In-map : {X Y : Type 0} (f : X → Y) (x : X) (xs : List X) → In x xs → In (f x) (map f xs)
 In-map f x [] at = absurd at
 In-map f x (y ∷ ys) (inl e) = inl (ap f e)
 In-map f x (y ∷ ys) (inr at) = inr (In-map f x ys at)
@@ -56,15 +57,15 @@ find-found cmp k s (r ∷ rows) h = find-found_by cmp k r s rows (same cmp r.key
 
 -- ---- contents
 
-same_content-is : {C : Type 0} (eq : C → C → Bool) → ((a b : C) → eq a b ≡ true → a ≡ b) → (x y : Option C) → same_content eq x y ≡ true → x ≡ y
-same_content-is eq one None None h = refl
-same_content-is eq one None (Some b) h = cc
-same_content-is eq one (Some a) None h = cc
-same_content-is eq one (Some a) (Some b) h = ap Some (one a b h)
+option_eq-is : {C : Type 0} (eq : C → C → Bool) → ((a b : C) → eq a b ≡ true → a ≡ b) → (x y : Option C) → option_eq eq x y ≡ true → x ≡ y
+option_eq-is eq one None None h = refl
+option_eq-is eq one None (Some b) h = cc
+option_eq-is eq one (Some a) None h = cc
+option_eq-is eq one (Some a) (Some b) h = ap Some (one a b h)
 
-same_content-refl : {C : Type 0} (eq : C → C → Bool) → IsEquivalence eq → (x : Option C) → same_content eq x x ≡ true
-same_content-refl eq laws None = refl
-same_content-refl eq laws (Some a) = laws.refl a
+option_eq-refl : {C : Type 0} (eq : C → C → Bool) → IsEquivalence eq → (x : Option C) → option_eq eq x x ≡ true
+option_eq-refl eq laws None = refl
+option_eq-refl eq laws (Some a) = laws.refl a
 
 -- ---- receiving takes no row away
 
@@ -89,18 +90,18 @@ receive_some cmp leave false events k r = fold_some cmp leave k events r
 module _ {K C : Type 0} {cmp : K → K → Ordering} (o : IsTotalOrder cmp) (eq : C → C → Bool) (one_key : (a b : K) → cmp a b ≡ Equal → a ≡ b) where
   -- the row of a key differs between two lists
   abbrev differs : List (Row K C) → Row K C → Bool
-  differs old r = not (same_content eq (registered_in (find cmp r.key old)) (registered_in (Some r)))
+  differs old r = not (option_eq eq (registered_in (find cmp r.key old)) (registered_in (Some r)))
 
-  told_by : ((a b : C) → eq a b ≡ true → a ≡ b) → (old new : List (Row K C)) (k : K) (r : Row K C) (b : Bool) → same_content eq (registered_in (find cmp r.key old)) (registered_in (Some r)) ≡ b → In r new → r.key ≡ k → find cmp k new ≡ Some r → Contains (changed_keys cmp eq old new) k ⊎ (registered_in (find cmp k new) ≡ registered_in (find cmp k old))
+  told_by : ((a b : C) → eq a b ≡ true → a ≡ b) → (old new : List (Row K C)) (k : K) (r : Row K C) (b : Bool) → option_eq eq (registered_in (find cmp r.key old)) (registered_in (Some r)) ≡ b → In r new → r.key ≡ k → find cmp k new ≡ Some r → Contains (changed_keys cmp eq old new) k ⊎ (registered_in (find cmp k new) ≡ registered_in (find cmp k old))
   told_by one_content old new k r true e at key found =
-      inr (ap registered_in found ∙ sym (same_content-is eq one_content _ _ e) ∙ ap (λ q. registered_in (find cmp q old)) key)
+      inr (ap registered_in found ∙ sym (option_eq-is eq one_content _ _ e) ∙ ap (λ q. registered_in (find cmp q old)) key)
   told_by one_content old new k r false e at key found =
       inl (subst (Contains (changed_keys cmp eq old new)) key (Contains-in r.key (changed_keys cmp eq old new) (In-map key_of r (filter (differs old) new) (In-filter (differs old) r new (ap not e) at))))
 
   told_at : ((a b : C) → eq a b ≡ true → a ≡ b) → (old new : List (Row K C)) (k : K) (here : Option (Row K C)) → find cmp k new ≡ here → ((r : Row K C) → find cmp k old ≡ Some r → (s : Row K C) × (find cmp k new ≡ Some s)) → (before : Option (Row K C)) → find cmp k old ≡ before → Contains (changed_keys cmp eq old new) k ⊎ (registered_in (find cmp k new) ≡ registered_in (find cmp k old))
   told_at one_content old new k (Some r) found stays before was =
       let member = find-found cmp k r new found in
-      told_by one_content old new k r (same_content eq (registered_in (find cmp r.key old)) (registered_in (Some r))) refl member.0 (one_key r.key k (same_is cmp r.key k member.1)) found
+      told_by one_content old new k r (option_eq eq (registered_in (find cmp r.key old)) (registered_in (Some r))) refl member.0 (one_key r.key k (same_is cmp r.key k member.1)) found
   told_at one_content old new k None found stays None was = inr (ap registered_in found ∙ sym (ap registered_in was))
   told_at one_content old new k None found stays (Some r) was = let still = stays r was in let none : None ≡ Some still.0 = sym found ∙ still.1 in cc
 
@@ -120,15 +121,15 @@ module _ {K C : Type 0} {cmp : K → K → Ordering} (o : IsTotalOrder cmp) (eq 
       let kept = In-filtered (differs old) r new member.1 in
       let found : find cmp k new ≡ Some r = ap (λ q. find cmp q new) member.2 ∙ find-in o r new up kept.1 in
       let both : registered_in (Some r) ≡ registered_in (find cmp r.key old) = ap registered_in (sym found) ∙ still ∙ ap (λ q. registered_in (find cmp q old)) member.2 in
-      let equal : same_content eq (registered_in (find cmp r.key old)) (registered_in (Some r)) ≡ true =
-      ap (same_content eq (registered_in (find cmp r.key old))) both ∙ same_content-refl eq laws (registered_in (find cmp r.key old)) in
+      let equal : option_eq eq (registered_in (find cmp r.key old)) (registered_in (Some r)) ≡ true =
+      ap (option_eq eq (registered_in (find cmp r.key old))) both ∙ option_eq-refl eq laws (registered_in (find cmp r.key old)) in
       let never : not true ≡ true = ap not (sym equal) ∙ kept.0 in
       cc
 
 -- ---- the timers
 
 module _ {K C : Type 0} where
-  periodic-registered : (r : Option (Row K C)) → registered_in (option_map periodic_row r) ≡ registered_in r
+  pub periodic-registered : (r : Option (Row K C)) → registered_in (option_map periodic_row r) ≡ registered_in r
   periodic-registered None = refl
   periodic-registered (Some r) = refl
 
@@ -147,7 +148,7 @@ module _ {K C : Type 0} where
   leaving-registered_by now r Empty h = cc
   leaving-registered_by now r Leaving h = refl
 
-  due_rows_by : (now : Cs) (s : State K C) (b : Bool) → (if b then leave_all_state now s else s).rows ≡ s.rows
+  pub due_rows_by : (now : Cs) (s : State K C) (b : Bool) → (if b then leave_all_state now s else s).rows ≡ s.rows
   due_rows_by now s true = refl
   due_rows_by now s false = refl
 

@@ -4,4 +4,7 @@ pub mod Lookups
 pub mod Octets
 pub mod Rooms
 pub mod Sendings
+pub mod Shows
+pub mod Stays
 pub mod Transitions
+pub mod Unchanged

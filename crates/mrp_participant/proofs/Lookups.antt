@@ -11,29 +11,30 @@ use Rattle.std.specs.List.{cons_option, filter_map}
 use Rattle.std.specs.List.Sorted.{IsPartitionPoint, IsNonDecreasingBy, IsSortedBy}
 use Rattle.std.proofs.lemmas.List.Sorted.{searchable_from_sorted}
 use Rattle.mrp_participant.specs.declared.one_row.Row.{Row}
-use Rattle.mrp_participant.specs.Lookup.{Each, Ascends, key_of, same, find, put, put_at, IsRowAt, IsGapAt}
+use Rattle.std.specs.List.{AllByRecursion}
+use Rattle.mrp_participant.specs.Lookup.{Ascends, key_of, same, find, put, put_at, IsRowAt, IsGapAt}
 use Rattle.mrp_participant.specs.OneRow.{is_live}
 use Rattle.mrp_participant.specs.State.{AreRows}
 
 -- ---- a fact of each element
 
-pub Each-map : {X : Type 0} (P Q : X → Type 0) → ((x : X) → P x → Q x) → (xs : List X) → Each P xs → Each Q xs
+pub Each-map : {X : Type 0} (P Q : X → Type 0) → ((x : X) → P x → Q x) → (xs : List X) → AllByRecursion P xs → AllByRecursion Q xs
 Each-map P Q f [] h = tt
 Each-map P Q f (x ∷ xs) h = (f x h.0, Each-map P Q f xs h.1)
 
-pub Each-mapped : {X Y : Type 0} (P : X → Type 0) (Q : Y → Type 0) (f : X → Y) → ((x : X) → P x → Q (f x)) → (xs : List X) → Each P xs → Each Q (map f xs)
+pub Each-mapped : {X Y : Type 0} (P : X → Type 0) (Q : Y → Type 0) (f : X → Y) → ((x : X) → P x → Q (f x)) → (xs : List X) → AllByRecursion P xs → AllByRecursion Q (map f xs)
 Each-mapped P Q f step [] h = tt
 Each-mapped P Q f step (x ∷ xs) h = (step x h.0, Each-mapped P Q f step xs h.1)
 
-pub Each-cons_option : {X : Type 0} (P : X → Type 0) (new : Option X) (xs : List X) → ((x : X) → new ≡ Some x → P x) → Each P xs → Each P (cons_option new xs)
+pub Each-cons_option : {X : Type 0} (P : X → Type 0) (new : Option X) (xs : List X) → ((x : X) → new ≡ Some x → P x) → AllByRecursion P xs → AllByRecursion P (cons_option new xs)
 Each-cons_option P None xs n h = h
 Each-cons_option P (Some x) xs n h = (n x refl, h)
 
-pub Each-kept : {X Y : Type 0} (P : X → Type 0) (Q : Y → Type 0) (f : X → Option Y) → ((x : X) (y : Y) → P x → f x ≡ Some y → Q y) → (xs : List X) → Each P xs → Each Q (filter_map f xs)
+pub Each-kept : {X Y : Type 0} (P : X → Type 0) (Q : Y → Type 0) (f : X → Option Y) → ((x : X) (y : Y) → P x → f x ≡ Some y → Q y) → (xs : List X) → AllByRecursion P xs → AllByRecursion Q (filter_map f xs)
 Each-kept P Q f step [] h = tt
 Each-kept P Q f step (x ∷ xs) h = Each-cons_option Q (f x) (filter_map f xs) (λ y e. step x y h.0 e) (Each-kept P Q f step xs h.1)
 
-Ascends-consed : {Y K : Type 0} (cmp : K → K → Ordering) (key : Y → K) (new : Option Y) (ys : List Y) → ((y : Y) → new ≡ Some y → Each (λ z. cmp (key y) (key z) ≡ Less) ys) → Ascends cmp key ys → Ascends cmp key (cons_option new ys)
+Ascends-consed : {Y K : Type 0} (cmp : K → K → Ordering) (key : Y → K) (new : Option Y) (ys : List Y) → ((y : Y) → new ≡ Some y → AllByRecursion (λ z. cmp (key y) (key z) ≡ Less) ys) → Ascends cmp key ys → Ascends cmp key (cons_option new ys)
 Ascends-consed cmp key None ys above up = up
 Ascends-consed cmp key (Some y) ys above up = (above y refl, up)
 
@@ -45,7 +46,7 @@ Ascends-kept cmp key new_key f keeps (x ∷ xs) up =
     (λ y e. Each-kept (λ z. cmp (key x) (key z) ≡ Less) (λ z. cmp (new_key y) (new_key z) ≡ Less) f (λ a b h e'. subst (λ k. cmp k (new_key b) ≡ Less) (sym (keeps x y e)) (subst (λ k. cmp (key x) k ≡ Less) (sym (keeps a b e')) h)) xs up.0)
     (Ascends-kept cmp key new_key f keeps xs up.1)
 
-pub Each-at : {X : Type 0} (P : X → Type 0) (xs : List X) → Each P xs → (i : ℕ) (d : X) → i < length xs → P (get_or xs i d)
+pub Each-at : {X : Type 0} (P : X → Type 0) (xs : List X) → AllByRecursion P xs → (i : ℕ) (d : X) → i < length xs → P (get_or xs i d)
 Each-at P [] h i d below = absurd (omega arith)
 Each-at P (x ∷ xs) h zero d below = h.0
 Each-at P (x ∷ xs) h (suc i) d below = Each-at P xs h.1 i d (omega arith)
@@ -81,11 +82,11 @@ same_tests true b x y z e = refl
 same_tests false b x y z e = rw e refl
 
 module _ {K C : Type 0} {cmp : K → K → Ordering} (o : IsTotalOrder cmp) where
-  pub find-above : (k : K) (rows : List (Row K C)) → Each (λ y. cmp k y.key ≡ Less) rows → find cmp k rows ≡ None
+  pub find-above : (k : K) (rows : List (Row K C)) → AllByRecursion (λ y. cmp k y.key ≡ Less) rows → find cmp k rows ≡ None
   find-above k [] h = refl
   find-above k (r ∷ rows) h = rw (above_is_not_same o k r.key h.0) (find-above k rows h.1)
 
-  put-above : (k : K) (new : Option (Row K C)) (rows : List (Row K C)) → Each (λ y. cmp k y.key ≡ Less) rows → put cmp k new rows ≡ cons_option new rows
+  put-above : (k : K) (new : Option (Row K C)) (rows : List (Row K C)) → AllByRecursion (λ y. cmp k y.key ≡ Less) rows → put cmp k new rows ≡ cons_option new rows
   put-above k new [] h = refl
   put-above k new (r ∷ rows) h = rw (o.antisymm r.key k ∙ ap ordering_reverse h.0) refl
 
@@ -104,7 +105,7 @@ module _ {K C : Type 0} {cmp : K → K → Ordering} (o : IsTotalOrder cmp) wher
       }
 
   -- all rows after one that is above k are above k
-  above_all : (k : K) (r : Row K C) (rows : List (Row K C)) → cmp k r.key ≡ Less → Each (λ y. cmp r.key y.key ≡ Less) rows → Each (λ y. cmp k y.key ≡ Less) rows
+  pub above_all : (k : K) (r : Row K C) (rows : List (Row K C)) → cmp k r.key ≡ Less → AllByRecursion (λ y. cmp r.key y.key ≡ Less) rows → AllByRecursion (λ y. cmp k y.key ≡ Less) rows
   above_all k r rows less up = Each-map _ _ (λ y h. o.trans k r.key y.key less h) rows up
 
   -- the gap between the rows below k and those above it
@@ -142,14 +143,14 @@ module _ {K C : Type 0} {cmp : K → K → Ordering} (o : IsTotalOrder cmp) wher
   -- ---- what is kept at each key
 
   -- rows above a key are above each key that is the same
-  above_same : (k q : K) (rows : List (Row K C)) → cmp k q ≡ Equal → Each (λ y. cmp k y.key ≡ Less) rows → Each (λ y. cmp q y.key ≡ Less) rows
+  above_same : (k q : K) (rows : List (Row K C)) → cmp k q ≡ Equal → AllByRecursion (λ y. cmp k y.key ≡ Less) rows → AllByRecursion (λ y. cmp q y.key ≡ Less) rows
   above_same k q rows e up = Each-map _ _ (λ y h. sym (o.congr k q y.key e) ∙ h) rows up
 
   -- the row is one of the key
   abbrev pub IsOf : K → Option (Row K C) → Type 0
   IsOf k new = (r : Row K C) → new ≡ Some r → cmp r.key k ≡ Equal
 
-  pub none_above : (k q : K) (rows : List (Row K C)) → Each (λ y. cmp k y.key ≡ Less) rows → same cmp k q ≡ true → find cmp q rows ≡ None
+  pub none_above : (k q : K) (rows : List (Row K C)) → AllByRecursion (λ y. cmp k y.key ≡ Less) rows → same cmp k q ≡ true → find cmp q rows ≡ None
   none_above k q rows up e = find-above q rows (above_same k q rows (same_is cmp k q e) up)
 
   find-front_by : (k q : K) (new : Option (Row K C)) (rows : List (Row K C)) (b : Bool) → same cmp k q ≡ b → (b ≡ true → find cmp q rows ≡ None) → IsOf k new → find cmp q (cons_option new rows) ≡ (if b then new else find cmp q rows)
@@ -179,20 +180,20 @@ module _ {K C : Type 0} {cmp : K → K → Ordering} (o : IsTotalOrder cmp) wher
 
   -- ---- rows stay rows
 
-  Each-put_at : (P : Row K C → Type 0) (new : Option (Row K C)) (r : Row K C) (rows later : List (Row K C)) (c : Ordering) → ((n : Row K C) → new ≡ Some n → P n) → Each P (r ∷ rows) → Each P later → Each P (put_at c new r rows later)
+  Each-put_at : (P : Row K C → Type 0) (new : Option (Row K C)) (r : Row K C) (rows later : List (Row K C)) (c : Ordering) → ((n : Row K C) → new ≡ Some n → P n) → AllByRecursion P (r ∷ rows) → AllByRecursion P later → AllByRecursion P (put_at c new r rows later)
   Each-put_at P new r rows later Less n h rest = (h.0, rest)
   Each-put_at P new r rows later Equal n h rest = Each-cons_option P new rows n h.1
   Each-put_at P new r rows later Greater n h rest = Each-cons_option P new (r ∷ rows) n h
 
-  pub Each-put : (P : Row K C → Type 0) (k : K) (new : Option (Row K C)) (rows : List (Row K C)) → ((n : Row K C) → new ≡ Some n → P n) → Each P rows → Each P (put cmp k new rows)
+  pub Each-put : (P : Row K C → Type 0) (k : K) (new : Option (Row K C)) (rows : List (Row K C)) → ((n : Row K C) → new ≡ Some n → P n) → AllByRecursion P rows → AllByRecursion P (put cmp k new rows)
   Each-put P k new [] n h = Each-cons_option P new [] n tt
   Each-put P k new (r ∷ rows) n h = Each-put_at P new r rows (put cmp k new rows) (cmp r.key k) n h (Each-put P k new rows n h.1)
 
-  Ascends-front : (k : K) (new : Option (Row K C)) (rows : List (Row K C)) → IsOf k new → Each (λ y. cmp k y.key ≡ Less) rows → Ascends cmp key_of rows → Ascends cmp key_of (cons_option new rows)
+  Ascends-front : (k : K) (new : Option (Row K C)) (rows : List (Row K C)) → IsOf k new → AllByRecursion (λ y. cmp k y.key ≡ Less) rows → Ascends cmp key_of rows → Ascends cmp key_of (cons_option new rows)
   Ascends-front k None rows of above up = up
   Ascends-front k (Some n) rows of above up = (above_same k n.key rows (tied_back o n.key k (of n refl)) above, up)
 
-  Ascends-put_at : (k : K) (new : Option (Row K C)) (r : Row K C) (rows later : List (Row K C)) (c : Ordering) → cmp r.key k ≡ c → IsOf k new → Ascends cmp key_of (r ∷ rows) → (cmp r.key k ≡ Less → Each (λ y. cmp r.key y.key ≡ Less) later) → Ascends cmp key_of later → Ascends cmp key_of (put_at c new r rows later)
+  Ascends-put_at : (k : K) (new : Option (Row K C)) (r : Row K C) (rows later : List (Row K C)) (c : Ordering) → cmp r.key k ≡ c → IsOf k new → Ascends cmp key_of (r ∷ rows) → (cmp r.key k ≡ Less → AllByRecursion (λ y. cmp r.key y.key ≡ Less) later) → Ascends cmp key_of later → Ascends cmp key_of (put_at c new r rows later)
   Ascends-put_at k new r rows later Less c of up above rest = (above c, rest)
   Ascends-put_at k new r rows later Equal c of up above rest = Ascends-front k new rows of (above_same r.key k rows c up.0) up.1
   Ascends-put_at k new r rows later Greater c of up above rest =
@@ -214,12 +215,12 @@ module _ {K C : Type 0} {cmp : K → K → Ordering} (o : IsTotalOrder cmp) wher
   AreRows-put k new rows fits are = (Ascends-put k new rows fits.is_of are.0, Each-put (λ r. is_live r ≡ true) k new rows fits.lives are.1)
 
   -- the row that is found is one of the key, and keeps something
-  find-is_of_by : (k : K) (r : Row K C) (rows : List (Row K C)) (b : Bool) → same cmp r.key k ≡ b → is_live r ≡ true → Each (λ r. is_live r ≡ true) rows → Fits k (find cmp k rows) → Fits k (if b then Some r else find cmp k rows)
+  find-is_of_by : (k : K) (r : Row K C) (rows : List (Row K C)) (b : Bool) → same cmp r.key k ≡ b → is_live r ≡ true → AllByRecursion (λ r. is_live r ≡ true) rows → Fits k (find cmp k rows) → Fits k (if b then Some r else find cmp k rows)
   find-is_of_by k r rows true e live lives rest =
       record { is_of = λ n h. let same_row : r ≡ n = cc in subst (λ x. cmp x.key k ≡ Equal) same_row (same_is cmp r.key k e); lives = λ n h. let same_row : r ≡ n = cc in subst (λ x. is_live x ≡ true) same_row live }
   find-is_of_by k r rows false e live lives rest = rest
 
-  pub find-fits : (k : K) (rows : List (Row K C)) → Each (λ r. is_live r ≡ true) rows → Fits k (find cmp k rows)
+  pub find-fits : (k : K) (rows : List (Row K C)) → AllByRecursion (λ r. is_live r ≡ true) rows → Fits k (find cmp k rows)
   find-fits k [] live = record { is_of = λ n h. cc; lives = λ n h. cc }
   find-fits k (r ∷ rows) live = find-is_of_by k r rows (same cmp r.key k) refl live.0 live.1 (find-fits k rows live.1)
 

@@ -16,9 +16,10 @@ use Rattle.applicant.specs.declared.Applicant.TheVariants.{Vo, Vp, Vn, An, Aa, Q
 use Rattle.registrar.specs.declared.RegEvent.TheVariants.{TxLeaveAll as RegTxLeaveAll}
 use Rattle.mrp_participant.specs.declared.one_row.Row.{Row}
 use Rattle.mrp_participant.specs.declared.room.Cut.{Cut}
-use Rattle.mrp_participant.specs.Lookup.{Each, Ascends, key_of}
+use Rattle.std.specs.List.{AllByRecursion}
+use Rattle.mrp_participant.specs.Lookup.{Ascends, key_of}
 use Rattle.mrp_participant.specs.OneRow.{with_applicant, registrar_takes}
-use Rattle.mrp_participant.specs.Sending.{IsSplit, round, is_tried, rows_of_round, order, chance, said_at, event_of, sent_event, is_taken}
+use Rattle.mrp_participant.specs.Sending.{IsSplit, round, is_tried, rows_of_round, order, opportunity, said_at, event_of, sent_event, is_taken}
 use Rattle.mrp_participant.specs.Room.{cut_at, is_before, is_in_room, first_cut}
 use Rattle.mrp_participant.specs.State.{none_tried}
 use Rattle.mrp_participant.proofs.Lookups.{Ascends-kept, Each-map}
@@ -26,7 +27,7 @@ use Rattle.mrp_participant.proofs.Rooms.{In, In-append, Lined, Ahead, first_is_b
 
 -- ---- sums
 
-sum_by-zero : {X : Type 0} (f : X → ℕ) (xs : List X) → Each (λ x. f x ≡ 0) xs → sum_by f xs ≡ 0
+sum_by-zero : {X : Type 0} (f : X → ℕ) (xs : List X) → AllByRecursion (λ x. f x ≡ 0) xs → sum_by f xs ≡ 0
 sum_by-zero f [] h = refl
 sum_by-zero f (x ∷ xs) h = let e = sum_by-cons f x xs in let rest = sum_by-zero f xs h.1 in let here = h.0 in omega arith
 
@@ -89,7 +90,7 @@ module _ {K C : Type 0} {cmp : K → K → Ordering} (o : IsTotalOrder cmp) (lea
   abbrev weight : Option (Cut K) → Row K C → ℕ
   weight cut r = if is_before cmp leave_all cut r then octets r.content else 0
 
-  room_left_by : (used : ℕ) (x : Row K C) (xs : List (Row K C)) (b : Bool) → nat_le (used + octets x.content) 1500 ≡ b → Each (Ahead o leave_all octets x) xs → used ≤ 1500 → (used + octets x.content ≤ 1500 → used + octets x.content + sum_by (weight (first_cut leave_all octets (used + octets x.content) xs)) xs ≤ 1500) → used + sum_by (weight (if b then first_cut leave_all octets (used + octets x.content) xs else Some (cut_at leave_all x))) (x ∷ xs) ≤ 1500
+  room_left_by : (used : ℕ) (x : Row K C) (xs : List (Row K C)) (b : Bool) → nat_le (used + octets x.content) 1500 ≡ b → AllByRecursion (Ahead o leave_all octets x) xs → used ≤ 1500 → (used + octets x.content ≤ 1500 → used + octets x.content + sum_by (weight (first_cut leave_all octets (used + octets x.content) xs)) xs ≤ 1500) → used + sum_by (weight (if b then first_cut leave_all octets (used + octets x.content) xs else Some (cut_at leave_all x))) (x ∷ xs) ≤ 1500
   room_left_by used x xs true fits ahead room rest =
       let cut : Option (Cut K) = first_cut leave_all octets (used + octets x.content) xs in
       let e = sum_by-cons (weight cut) x xs in
@@ -104,7 +105,7 @@ module _ {K C : Type 0} {cmp : K → K → Ordering} (o : IsTotalOrder cmp) (lea
       let later : sum_by (weight cut) xs ≡ 0 = sum_by-zero (weight cut) xs (nothing xs ahead) in
       omega arith
     where
-      nothing : (ys : List (Row K C)) → Each (Ahead o leave_all octets x) ys → Each (λ y. weight (Some (cut_at leave_all x)) y ≡ 0) ys
+      nothing : (ys : List (Row K C)) → AllByRecursion (Ahead o leave_all octets x) ys → AllByRecursion (λ y. weight (Some (cut_at leave_all x)) y ≡ 0) ys
       nothing [] h = tt
       nothing (y ∷ ys) h = (ap (λ b. if b then octets y.content else 0) (ahead_once o leave_all octets x y h.0), nothing ys h.1)
 
@@ -197,13 +198,13 @@ module _ {K C : Type 0} where
   event_is r None e h = cc
   event_is r (Some event) e h = let is = some_is (event, r.key, r.content) e h in (ap (λ (x : MrpEvent × K × C). x.1) (sym is), ap (λ (x : MrpEvent × K × C). x.2) (sym is))
 
-  said_is : (chance_of : Option AppEvent) (r : Row K C) (e : MrpEvent × K × C) → said_at chance_of r ≡ Some e → (e.1 ≡ r.key) × (e.2 ≡ r.content)
+  said_is : (opportunity_of : Option AppEvent) (r : Row K C) (e : MrpEvent × K × C) → said_at opportunity_of r ≡ Some e → (e.1 ≡ r.key) × (e.2 ≡ r.content)
   said_is None r e h = cc
   said_is (Some event) r e h = event_is r _ e h
 
   pub sent_is : (leave_all taken : Bool) (leave : Cs) (r : Row K C) (e : MrpEvent × K × C) → sent_event leave_all taken leave r ≡ Some e → (e.1 ≡ r.key) × (e.2 ≡ r.content)
-  sent_is true taken leave r e h = said_is (chance true taken r) (registrar_takes RegTxLeaveAll leave r) e h
-  sent_is false taken leave r e h = said_is (chance false taken r) r e h
+  sent_is true taken leave r e h = said_is (opportunity true taken r) (registrar_takes RegTxLeaveAll leave r) e h
+  sent_is false taken leave r e h = said_is (opportunity false taken r) r e h
 
   only_taken : (leave_all taken : Bool) (leave : Cs) (r : Row K C) (e : MrpEvent × K × C) → sent_event leave_all taken leave r ≡ Some e → taken ≡ true
   only_taken leave_all true leave r e h = refl
@@ -279,11 +280,11 @@ module _ {K C : Type 0} {cmp : K → K → Ordering} (o : IsTotalOrder cmp) (oct
 
 -- ---- the rows that are taken are a split of the order
 
-filter-all : {X : Type 0} (p : X → Bool) (xs : List X) → Each (λ x. p x ≡ true) xs → filter p xs ≡ xs
+filter-all : {X : Type 0} (p : X → Bool) (xs : List X) → AllByRecursion (λ x. p x ≡ true) xs → filter p xs ≡ xs
 filter-all p [] h = refl
 filter-all p (x ∷ xs) h = ap (λ b. if b then x ∷ filter p xs else filter p xs) h.0 ∙ ap (λ l. x ∷ l) (filter-all p xs h.1)
 
-filter-none : {X : Type 0} (p : X → Bool) (xs : List X) → Each (λ x. p x ≡ false) xs → filter p xs ≡ []
+filter-none : {X : Type 0} (p : X → Bool) (xs : List X) → AllByRecursion (λ x. p x ≡ false) xs → filter p xs ≡ []
 filter-none p [] h = refl
 filter-none p (x ∷ xs) h = ap (λ b. if b then x ∷ filter p xs else filter p xs) h.0 ∙ filter-none p xs h.1
 
@@ -321,7 +322,7 @@ module _ {K C : Type 0} {cmp : K → K → Ordering} (o : IsTotalOrder cmp) (lea
   abbrev after_it : Option (Cut K) → Row K C → Bool
   after_it cut r = not (is_before cmp leave_all cut r)
 
-  splits_by : (used : ℕ) (x : Row K C) (xs : List (Row K C)) (b : Bool) → nat_le (used + octets x.content) 1500 ≡ b → Each (Ahead o leave_all octets x) xs → used ≤ 1500 → (used + octets x.content ≤ 1500 → IsSplit (used + octets x.content) octets xs (filter (before (first_cut leave_all octets (used + octets x.content) xs)) xs) (filter (after_it (first_cut leave_all octets (used + octets x.content) xs)) xs)) → IsSplit used octets (x ∷ xs) (filter (before (if b then first_cut leave_all octets (used + octets x.content) xs else Some (cut_at leave_all x))) (x ∷ xs)) (filter (after_it (if b then first_cut leave_all octets (used + octets x.content) xs else Some (cut_at leave_all x))) (x ∷ xs))
+  splits_by : (used : ℕ) (x : Row K C) (xs : List (Row K C)) (b : Bool) → nat_le (used + octets x.content) 1500 ≡ b → AllByRecursion (Ahead o leave_all octets x) xs → used ≤ 1500 → (used + octets x.content ≤ 1500 → IsSplit (used + octets x.content) octets xs (filter (before (first_cut leave_all octets (used + octets x.content) xs)) xs) (filter (after_it (first_cut leave_all octets (used + octets x.content) xs)) xs)) → IsSplit used octets (x ∷ xs) (filter (before (if b then first_cut leave_all octets (used + octets x.content) xs else Some (cut_at leave_all x))) (x ∷ xs)) (filter (after_it (if b then first_cut leave_all octets (used + octets x.content) xs else Some (cut_at leave_all x))) (x ∷ xs))
   splits_by used x xs true fits ahead room rest =
       let cut : Option (Cut K) = first_cut leave_all octets (used + octets x.content) xs in
       let here : before cut x ≡ true = first_is_before o leave_all octets (used + octets x.content) xs x ahead in
@@ -332,13 +333,13 @@ module _ {K C : Type 0} {cmp : K → K → Ordering} (o : IsTotalOrder cmp) (lea
       (subst (λ g. IsSplit used octets (x ∷ xs) (x ∷ filter (before cut) xs) g) (sym back) (split_more octets used x xs _ _ (rest bound)))
   splits_by used x xs false fits ahead room rest =
       let cut : Option (Cut K) = Some (cut_at leave_all x) in
-      let none : Each (λ y. before cut y ≡ false) (x ∷ xs) = (not_ahead_of_itself o leave_all octets x, late xs ahead) in
+      let none : AllByRecursion (λ y. before cut y ≡ false) (x ∷ xs) = (not_ahead_of_itself o leave_all octets x, late xs ahead) in
       let front : filter (before cut) (x ∷ xs) ≡ [] = filter-none (before cut) (x ∷ xs) none in
       let back : filter (after_it cut) (x ∷ xs) ≡ x ∷ xs = filter-all (after_it cut) (x ∷ xs) (Each-map _ _ (λ y h. ap not h) (x ∷ xs) none) in
       subst (λ f. IsSplit used octets (x ∷ xs) f (filter (after_it cut) (x ∷ xs))) (sym front)
       (subst (λ g. IsSplit used octets (x ∷ xs) [] g) (sym back) (split_here octets used x xs room fits))
     where
-      late : (ys : List (Row K C)) → Each (Ahead o leave_all octets x) ys → Each (λ y. before (Some (cut_at leave_all x)) y ≡ false) ys
+      late : (ys : List (Row K C)) → AllByRecursion (Ahead o leave_all octets x) ys → AllByRecursion (λ y. before (Some (cut_at leave_all x)) y ≡ false) ys
       late [] h = tt
       late (y ∷ ys) h = (ahead_once o leave_all octets x y h.0, late ys h.1)
 

@@ -16,7 +16,8 @@ use Rattle.std.specs.List.{filter_map, cons_option}
 use Rattle.applicant.specs.declared.Applicant.{Applicant}
 use Rattle.applicant.specs.declared.Applicant.TheVariants.{Vo, Vp, Vn, An, Aa, Qa, La}
 use Rattle.mrp_participant.specs.declared.one_row.Row.{Row}
-use Rattle.mrp_participant.specs.Lookup.{Each, Ascends, key_of, same, find}
+use Rattle.std.specs.List.{AllByRecursion}
+use Rattle.mrp_participant.specs.Lookup.{Ascends, key_of, same, find}
 use Rattle.mrp_participant.specs.Sending.{round, is_tried, rows_of_round, order, octets_of, up_to, is_taken}
 use Rattle.mrp_participant.specs.Room.{cut_at, is_ahead, is_before, is_in_room, first_cut}
 use Rattle.mrp_participant.proofs.Lookups.{same_is, find-same}
@@ -42,18 +43,18 @@ pub In-right : {X : Type 0} (x : X) (xs ys : List X) → In x ys → In x (xs ++
 In-right x [] ys at = at
 In-right x (z ∷ xs) ys at = inr (In-right x xs ys at)
 
-pub Each-in : {X : Type 0} (P : X → Type 0) (x : X) (xs : List X) → Each P xs → In x xs → P x
+pub Each-in : {X : Type 0} (P : X → Type 0) (x : X) (xs : List X) → AllByRecursion P xs → In x xs → P x
 Each-in P x [] h at = absurd at
 Each-in P x (y ∷ ys) h (inl e) = subst P (sym e) h.0
 Each-in P x (y ∷ ys) h (inr at) = Each-in P x ys h.1 at
 
-pub Each-from_in : {X : Type 0} (P : X → Type 0) (xs : List X) → ((x : X) → In x xs → P x) → Each P xs
+pub Each-from_in : {X : Type 0} (P : X → Type 0) (xs : List X) → ((x : X) → In x xs → P x) → AllByRecursion P xs
 Each-from_in P [] f = tt
 Each-from_in P (x ∷ xs) f = (f x (inl refl), Each-from_in P xs (λ y at. f y (inr at)))
 
-pub Each-filtered : {X : Type 0} (P : X → Type 0) (p : X → Bool) (xs : List X) → Each P xs → Each P (filter p xs)
+pub Each-filtered : {X : Type 0} (P : X → Type 0) (p : X → Bool) (xs : List X) → AllByRecursion P xs → AllByRecursion P (filter p xs)
 Each-filtered P p [] h = tt
-Each-filtered P p (x ∷ xs) h = elim (p x) as (λ b. Each P (if b then x ∷ filter p xs else filter p xs)) [ true ↦ (h.0, Each-filtered P p xs h.1) | false ↦ Each-filtered P p xs h.1 ]
+Each-filtered P p (x ∷ xs) h = elim (p x) as (λ b. AllByRecursion P (if b then x ∷ filter p xs else filter p xs)) [ true ↦ (h.0, Each-filtered P p xs h.1) | false ↦ Each-filtered P p xs h.1 ]
 
 -- each element of a filtered list passes the test and was in the list
 filtered_in : {X : Type 0} (p : X → Bool) (x y : X) (ys : List X) (b : Bool) → p y ≡ b → (In x (filter p ys) → (p x ≡ true) × In x ys) → In x (if b then y ∷ filter p ys else filter p ys) → (p x ≡ true) × In x (y ∷ ys)
@@ -74,9 +75,9 @@ In-append x (z ∷ xs) ys (inr at) = elim (In-append x xs ys at) [ inl h ↦ inl
 
 abbrev pub Lined : {X : Type 0} → (X → X → Type 0) → List X → Type 0
 Lined R [] = Unit {0}
-Lined R (x ∷ xs) = Each (R x) xs × Lined R xs
+Lined R (x ∷ xs) = AllByRecursion (R x) xs × Lined R xs
 
-pub Each-append : {X : Type 0} (P : X → Type 0) (xs ys : List X) → Each P xs → Each P ys → Each P (xs ++ ys)
+pub Each-append : {X : Type 0} (P : X → Type 0) (xs ys : List X) → AllByRecursion P xs → AllByRecursion P ys → AllByRecursion P (xs ++ ys)
 Each-append P [] ys h k = k
 Each-append P (x ∷ xs) ys h k = (h.0, Each-append P xs ys h.1 k)
 
@@ -171,7 +172,7 @@ module _ {K C : Type 0} {cmp : K → K → Ordering} (o : IsTotalOrder cmp) (lea
   not_ahead_of_itself x = irrefl_by (round leave_all x.applicant) (is_lt (cmp x.key x.key)) (ap is_lt (tied_itself o x.key))
 
   -- a row that is ahead of all of some rows is before the first of them that finds no room
-  pub first_is_before : (used : ℕ) (xs : List (Row K C)) (x : Row K C) → Each (Ahead x) xs → is_before cmp leave_all (first_cut leave_all octets used xs) x ≡ true
+  pub first_is_before : (used : ℕ) (xs : List (Row K C)) (x : Row K C) → AllByRecursion (Ahead x) xs → is_before cmp leave_all (first_cut leave_all octets used xs) x ≡ true
   first_is_before used [] x ahead = refl
   first_is_before used (y ∷ ys) x ahead =
       elim (nat_le (used + octets y.content) 1500)
@@ -179,7 +180,7 @@ module _ {K C : Type 0} {cmp : K → K → Ordering} (o : IsTotalOrder cmp) (lea
       [ true ↦ first_is_before (used + octets y.content) ys x ahead.1 | false ↦ ahead.0.0 ]
 
   -- the octets up to a row, and whether it is before the cut, at the first of some rows
-  here_by : (used : ℕ) (x : Row K C) (xs : List (Row K C)) (b : Bool) → nat_le (used + octets x.content) 1500 ≡ b → Each (Ahead x) xs → b ≡ is_before cmp leave_all (if b then first_cut leave_all octets (used + octets x.content) xs else Some (cut_at leave_all x)) x
+  here_by : (used : ℕ) (x : Row K C) (xs : List (Row K C)) (b : Bool) → nat_le (used + octets x.content) 1500 ≡ b → AllByRecursion (Ahead x) xs → b ≡ is_before cmp leave_all (if b then first_cut leave_all octets (used + octets x.content) xs else Some (cut_at leave_all x)) x
   here_by used x xs true e ahead = sym (first_is_before (used + octets x.content) xs x ahead)
   here_by used x xs false e ahead = sym (not_ahead_of_itself x)
 

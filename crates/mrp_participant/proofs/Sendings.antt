@@ -17,7 +17,7 @@ use Rattle.mrp_participant.specs.declared.one_row.Row.{Row}
 use Rattle.mrp_participant.specs.declared.room.Cut.{Cut}
 use Rattle.mrp_participant.specs.Lookup.{key_of}
 use Rattle.mrp_participant.specs.OneRow.{is_live, applicant_takes, registrar_takes}
-use Rattle.mrp_participant.specs.Sending.{is_tried, is_taken, chance, row_after, sent_row, sent_event, order, octets_of, up_to}
+use Rattle.mrp_participant.specs.Sending.{is_tried, is_taken, opportunity, row_after, sent_row, sent_event, order, octets_of, up_to}
 use Rattle.mrp_participant.specs.Room.{is_in_room, first_cut}
 use Rattle.mrp_participant.specs.State.{State, AreRows, after, is_active, is_silent, none_tried, sent_events, sent_state}
 use Rattle.mrp_participant.proofs.Transitions.{Keeps, kept-is, registrar-lives, sent_leave_all-registers}
@@ -35,12 +35,12 @@ module _ {K C : Type 0} where
   after-live (Some event) r s live e = (kept-is (applicant_takes event r) s e).1
 
   sent-key : (leave_all taken : Bool) (leave : Cs) (r s : Row K C) → sent_row leave_all taken leave r ≡ Some s → s.key ≡ r.key
-  sent-key true taken leave r s e = after-key (chance true taken r) (registrar_takes RegTxLeaveAll leave r) s e
-  sent-key false taken leave r s e = after-key (chance false taken r) r s e
+  sent-key true taken leave r s e = after-key (opportunity true taken r) (registrar_takes RegTxLeaveAll leave r) s e
+  sent-key false taken leave r s e = after-key (opportunity false taken r) r s e
 
   sent-live : (leave_all taken : Bool) (leave : Cs) (r s : Row K C) → is_live r ≡ true → sent_row leave_all taken leave r ≡ Some s → is_live s ≡ true
-  sent-live true taken leave r s live e = after-live (chance true taken r) (registrar_takes RegTxLeaveAll leave r) s (registrar-lives RegTxLeaveAll sent_leave_all-registers leave r live) e
-  sent-live false taken leave r s live e = after-live (chance false taken r) r s live e
+  sent-live true taken leave r s live e = after-live (opportunity true taken r) (registrar_takes RegTxLeaveAll leave r) s (registrar-lives RegTxLeaveAll sent_leave_all-registers leave r live) e
+  sent-live false taken leave r s live e = after-live (opportunity false taken r) r s live e
 
   pub sent-keeps : (leave_all : Bool) (taken : Row K C → Bool) (leave : Cs) → Keeps (λ r. sent_row leave_all (taken r) leave r)
   sent-keeps leave_all taken leave = record {

@@ -5,18 +5,13 @@ use Rattle.std.specs.declared.option.Option.TheVariants.{None, Some}
 use Rattle.std.specs.declared.cmp.Ordering.{Ordering}
 use Rattle.std.specs.declared.cmp.Ordering.TheVariants.{Less, Equal, Greater}
 use Rattle.std.specs.Ordering.{is_eq}
-use Rattle.std.specs.List.{cons_option}
+use Rattle.std.specs.List.{cons_option, AllByRecursion}
 use Rattle.mrp_participant.specs.declared.one_row.Row.{Row}
-
--- a fact that holds of each element
-abbrev pub Each : {X : Type 0} → (X → Type 0) → List X → Type 0
-Each P [] = Unit {0}
-Each P (x ∷ xs) = P x × Each P xs
 
 -- the keys of the elements ascend strictly: each is below all later ones
 abbrev pub Ascends : {X K : Type 0} → (K → K → Ordering) → (X → K) → List X → Type 0
 Ascends cmp key [] = Unit {0}
-Ascends cmp key (x ∷ xs) = Each (λ y. cmp (key x) (key y) ≡ Less) xs × Ascends cmp key xs
+Ascends cmp key (x ∷ xs) = AllByRecursion (λ y. cmp (key x) (key y) ≡ Less) xs × Ascends cmp key xs
 
 -- the key of a row
 abbrev pub key_of : {K C : Type 0} → Row K C → K
@@ -42,6 +37,11 @@ put_at Greater new r rows later = cons_option new (r ∷ rows)
 abbrev pub put : {K C : Type 0} → (K → K → Ordering) → K → Option (Row K C) → List (Row K C) → List (Row K C)
 put cmp k new [] = cons_option new []
 put cmp k new (r ∷ rows) = put_at (cmp r.key k) new r rows (put cmp k new rows)
+
+-- one key has a row, or none, and each other key has what it had
+abbrev pub ChangesOnly : {K C : Type 0} → (K → K → Ordering) → K → Option (Row K C) → List (Row K C) → List (Row K C) → Type 0
+ChangesOnly {K = K} cmp key new old_rows new_rows =
+    (k : K) → find cmp k new_rows ≡ (if same cmp key k then new else find cmp k old_rows)
 
 -- the row of a key stands at a place
 pub record IsRowAt {K C : Type 0} (cmp : K → K → Ordering) (k : K) (rows : List (Row K C)) (i : ℕ) : Type 0 where

@@ -53,10 +53,13 @@ with_applicant a r = record r { applicant = a }
 abbrev pub applicant_takes : {K C : Type 0} → AppEvent → Row K C → Row K C
 applicant_takes event r = with_applicant (applicant.next event (is_in r.registrar) r.applicant) r
 
--- the registrar of a row takes an event; where that takes it from IN to LV, the leave timer starts
+-- the registrar of a row takes an event; where that starts the leave timer, it ends at the moment `leave`
 abbrev pub registrar_takes : {K C : Type 0} → RegEvent → Cs → Row K C → Row K C
 registrar_takes event leave r =
-    record r { registrar = registrar.next event r.registrar; leave = if is_in r.registrar && is_leaving (registrar.next event r.registrar) then leave else r.leave }
+    record r {
+      registrar = registrar.next event r.registrar;
+      leave = if registrar.starts_leave_timer event r.registrar then leave else r.leave;
+    }
 
 -- a row of a key of which nothing was kept; what is not stated and not heard stands for nothing
 abbrev pub fresh_row : {K C : Type 0} → K → C → Row K C
@@ -65,7 +68,8 @@ fresh_row k c = record { key = k; applicant = Vo; content = c; registrar = Empty
 -- the user declares a content: the same again changes nothing, another is declared anew
 abbrev pub declared_row : {K C : Type 0} → (C → C → Bool) → C → Row K C → Row K C
 declared_row eq c r =
-    if applicant.is_declared_in r.applicant then (if eq r.content c then r else record r { applicant = applicant.redeclare_of r.applicant; content = c })
+    if applicant.is_declared_in r.applicant
+    then (if eq r.content c then r else record r { applicant = applicant.redeclare_of r.applicant; content = c })
     else record r { applicant = applicant.declare_of r.applicant; content = c }
 
 -- the row of a key after its declaration
@@ -136,13 +140,6 @@ row_after_receive cmp leave leave_all events k r =
 abbrev pub registered_in : {K C : Type 0} → Option (Row K C) → Option C
 registered_in None = None
 registered_in (Some r) = if registrar.is_registered_in r.registrar then Some r.heard else None
-
--- whether two keys' registered contents are the same, or none is
-abbrev pub same_content : {C : Type 0} → (C → C → Bool) → Option C → Option C → Bool
-same_content eq None None = true
-same_content eq None (Some b) = false
-same_content eq (Some a) None = false
-same_content eq (Some a) (Some b) = eq a b
 
 -- what is declared of a key: the content that was declared last, in each state but VO and LA
 abbrev pub declared_in : {K C : Type 0} → Option (Row K C) → Option C

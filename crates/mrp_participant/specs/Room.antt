@@ -1,5 +1,5 @@
 -- How the code finds which rows are taken: as those before the first row for which there is no room. That
--- it is the test of `Sending` is proved.
+-- it is the test of `Sending` is proved, and no public contract names this file.
 use Rattle.std.specs.Prelude.{ℕ, ◌+◌, Bool, true, ◌&&◌, ◌||◌, if◌then◌else◌, nat_le, nat_lt, ◌==◌, List, [], ◌∷◌}
 use Rattle.std.specs.declared.option.Option.{Option}
 use Rattle.std.specs.declared.option.Option.TheVariants.{None, Some}

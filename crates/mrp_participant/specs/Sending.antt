@@ -70,26 +70,26 @@ abbrev pub is_taken : {K C : Type 0} → ℕ → (C → ℕ) → (K → K → Or
 is_taken base octets cmp leave_all rows r =
     is_tried leave_all r && nat_le (base + octets_of octets (up_to cmp r.key (order leave_all rows))) 1500
 
--- the chance to send that a row's applicant gets: without LeaveAll only a taken row gets one; with
+-- the transmission opportunity that a row's applicant gets: without LeaveAll only a taken row gets one; with
 -- LeaveAll a row that is tried and not taken finds no room
-abbrev pub chance : {K C : Type 0} → Bool → Bool → Row K C → Option AppEvent
-chance true taken r = Some (if is_tried true r && not taken then TxLeaveAllFull else TxLeaveAll)
-chance false taken r = if taken then Some Tx else None
+abbrev pub opportunity : {K C : Type 0} → Bool → Bool → Row K C → Option AppEvent
+opportunity true taken r = Some (if is_tried true r && not taken then TxLeaveAllFull else TxLeaveAll)
+opportunity false taken r = if taken then Some Tx else None
 
--- the row as it stands when its applicant gets its chance: with LeaveAll, TxLeaveAll goes to every
+-- the row as it stands when its applicant gets its opportunity: with LeaveAll, TxLeaveAll goes to every
 -- registrar first
-abbrev pub before_chance : {K C : Type 0} → Bool → Cs → Row K C → Row K C
-before_chance true leave r = registrar_takes RegTxLeaveAll leave r
-before_chance false leave r = r
+abbrev pub before_opportunity : {K C : Type 0} → Bool → Cs → Row K C → Row K C
+before_opportunity true leave r = registrar_takes RegTxLeaveAll leave r
+before_opportunity false leave r = r
 
--- the row after a chance
+-- the row after an opportunity
 abbrev pub row_after : {K C : Type 0} → Option AppEvent → Row K C → Option (Row K C)
 row_after None r = Some r
 row_after (Some event) r = kept_row (applicant_takes event r)
 
 -- a row after sending, where it is taken or not
 abbrev pub sent_row : {K C : Type 0} → Bool → Bool → Cs → Row K C → Option (Row K C)
-sent_row leave_all taken leave r = row_after (chance leave_all taken r) (before_chance leave_all leave r)
+sent_row leave_all taken leave r = row_after (opportunity leave_all taken r) (before_opportunity leave_all leave r)
 
 -- what is written for what an applicant says: a Join is JoinIn where the row's own registrar is IN
 abbrev pub written : Say → Bool → Option MrpEvent
@@ -103,14 +103,14 @@ abbrev pub event_of : {K C : Type 0} → Row K C → Option MrpEvent → Option 
 event_of r None = None
 event_of r (Some e) = Some (e, r.key, r.content)
 
--- what a row says at a chance
+-- what a row says at an opportunity
 abbrev pub said_at : {K C : Type 0} → Option AppEvent → Row K C → Option (MrpEvent × K × C)
 said_at None r = None
 said_at (Some event) r = event_of r (written (applicant.said event (is_in r.registrar) r.applicant) (is_in r.registrar))
 
 -- what a row says in the PDU, where it is taken or not
 abbrev pub sent_event : {K C : Type 0} → Bool → Bool → Cs → Row K C → Option (MrpEvent × K × C)
-sent_event leave_all taken leave r = said_at (chance leave_all taken r) (before_chance leave_all leave r)
+sent_event leave_all taken leave r = said_at (opportunity leave_all taken r) (before_opportunity leave_all leave r)
 
 -- a list of rows is split where room ends: the front fits, and with the next row it wouldn't
 pub record IsSplit {K C : Type 0} (base : ℕ) (octets : C → ℕ) (whole front rest : List (Row K C)) : Type 0 where

@@ -1,5 +1,6 @@
 -- A participant as contracts see it, and the participant after each call (IEEE Std 802.1Q-2018, 10.7).
 use Rattle.std.specs.Prelude.{◌≡◌, ℕ, ◌+◌, ◌≤◌, Bool, true, false, ◌&&◌, ◌||◌, not, if◌then◌else◌, nat_le, List, [], map, filter, length, fold}
+use Rattle.std.specs.declared.option.Option.{Option}
 use Rattle.std.specs.declared.option.Option.TheVariants.{Some}
 use Rattle.std.specs.declared.cmp.Ordering.{Ordering}
 use Rattle.std.specs.List.{filter_map, list_any, list_all}
@@ -7,12 +8,15 @@ use Rattle.srp_base.specs.declared.numbers.Cs.{Cs}
 use Rattle.srp_base.specs.declared.mrp.MrpEvent.{MrpEvent}
 use Rattle.leaveall.specs.declared.LeaveAll.{LeaveAll}
 use Rattle.leaveall.specs.declared.LeaveAll.TheVariants.{Active, Passive}
+use Rattle.leaveall.specs.declared.LaEvent.{LaEvent}
 use Rattle.leaveall.specs.declared.LaEvent.TheVariants.{Timer, Rx, Tx}
 use Rattle.leaveall.specs.declared.Periodic.{Periodic}
 use Rattle.leaveall.specs.Table as leaveall
 use Rattle.mrp_participant.specs.declared.one_row.Row.{Row}
-use Rattle.mrp_participant.specs.Lookup.{Each, Ascends, key_of, find, put}
-use Rattle.mrp_participant.specs.OneRow.{is_live, after_declare, after_withdraw, after_leave, after_hear, leave_all_row, registered_in, same_content, leave_is_due, after_leave_due, periodic_row, is_settled}
+use Rattle.std.specs.List.{AllByRecursion}
+use Rattle.mrp_participant.specs.Lookup.{Ascends, key_of, find, put}
+use Rattle.std.specs.Option.{option_eq}
+use Rattle.mrp_participant.specs.OneRow.{is_live, after_declare, after_withdraw, after_leave, after_hear, leave_all_row, declared_in, registered_in, leave_is_due, after_leave_due, periodic_row, is_settled}
 use Rattle.mrp_participant.specs.Sending.{is_taken, is_tried, sent_row, sent_event}
 
 -- the rows ascending by key, the LeaveAll machine with the moment of its timer and its period, the time
@@ -32,7 +36,7 @@ after now time = record { 0 = now.0 + time.0 }
 
 -- the rows of a participant ascend strictly by key, and each keeps something
 abbrev pub AreRows : {K C : Type 0} → (K → K → Ordering) → List (Row K C) → Type 0
-AreRows cmp rows = Ascends cmp key_of rows × Each (λ r. is_live r ≡ true) rows
+AreRows cmp rows = Ascends cmp key_of rows × AllByRecursion (λ r. is_live r ≡ true) rows
 
 -- a time that a participant may be given, in cs
 abbrev pub IsTime : Cs → Type 0
@@ -55,7 +59,15 @@ module _ {K C : Type 0} where
   -- a new participant
   abbrev pub new_state : Cs → Cs → Bool → State K C
   new_state period leave_time periodic =
-      record { rows = []; leave_all = Passive; next_leave_all = period; period = period; leave_time = leave_time; periodic = record { on = periodic; next = record { 0 = 100 } }; sound = true }
+      record {
+        rows = [];
+        leave_all = Passive;
+        next_leave_all = period;
+        period = period;
+        leave_time = leave_time;
+        periodic = record { on = periodic; next = record { 0 = 100 } };
+        sound = true;
+      }
 
   -- after a declaration, a withdrawal and the end of one leave timer
   abbrev pub declared_state : (K → K → Ordering) → (C → C → Bool) → K → C → State K C → State K C
@@ -67,6 +79,13 @@ module _ {K C : Type 0} where
   abbrev pub left_state : (K → K → Ordering) → K → State K C → State K C
   left_state cmp k s = with_rows (put cmp k (after_leave (find cmp k s.rows)) s.rows) s
 
+  -- what is declared and what is registered of a key
+  abbrev pub declared_at : (K → K → Ordering) → K → State K C → Option C
+  declared_at cmp k s = declared_in (find cmp k s.rows)
+
+  abbrev pub registered_at : (K → K → Ordering) → K → State K C → Option C
+  registered_at cmp k s = registered_in (find cmp k s.rows)
+
   -- the rows after one received event
   abbrev pub rows_hearing : (K → K → Ordering) → Cs → List (Row K C) → MrpEvent × K × C → List (Row K C)
   rows_hearing cmp leave rows e = put cmp e.1 (after_hear e.0 e.1 e.2 leave (find cmp e.1 rows)) rows
@@ -76,20 +95,24 @@ module _ {K C : Type 0} where
   rows_after_receive cmp leave leave_all events rows =
       fold (rows_hearing cmp leave) (if leave_all then map (leave_all_row leave) rows else rows) events
 
+  -- the moment of the LeaveAll timer after an event of its machine
+  abbrev pub timer_after : LaEvent → Cs → State K C → Cs
+  timer_after event now s = if leaveall.restarts event then after now s.period else s.next_leave_all
+
   -- after a PDU was received: with LeaveAll the LeaveAll machine gets Rx, and its timer restarts
   abbrev pub received_state : (K → K → Ordering) → Cs → Bool → List (MrpEvent × K × C) → State K C → State K C
   received_state cmp now leave_all events s =
       record s {
         rows = rows_after_receive cmp (after now s.leave_time) leave_all events s.rows;
         leave_all = if leave_all then leaveall.table Rx s.leave_all else s.leave_all;
-        next_leave_all = if leave_all then after now s.period else s.next_leave_all;
+        next_leave_all = if leave_all then timer_after Rx now s else s.next_leave_all;
       }
 
   -- the keys whose registration or registered content differs between two lists of rows, ascending; a
   -- received PDU takes no row away, so all of them have a row afterwards
   abbrev pub changed_keys : (K → K → Ordering) → (C → C → Bool) → List (Row K C) → List (Row K C) → List K
   changed_keys cmp eq old new =
-      map key_of (filter (λ r. not (same_content eq (registered_in (find cmp r.key old)) (registered_in (Some r)))) new)
+      map key_of (filter (λ r. not (option_eq eq (registered_in (find cmp r.key old)) (registered_in (Some r)))) new)
 
   -- after the leave timers that are due have fired, and the keys that left, ascending
   abbrev pub leave_timers_state : Cs → State K C → State K C
@@ -103,7 +126,7 @@ module _ {K C : Type 0} where
   is_leave_all_due now s = nat_le s.next_leave_all.0 now.0
 
   abbrev pub leave_all_state : Cs → State K C → State K C
-  leave_all_state now s = record s { leave_all = leaveall.table Timer s.leave_all; next_leave_all = after now s.period }
+  leave_all_state now s = record s { leave_all = leaveall.table Timer s.leave_all; next_leave_all = timer_after Timer now s }
 
   -- whether the periodic machine is on and due, after its event at every row, and after it has fired
   abbrev pub is_periodic_due : Cs → State K C → Bool
@@ -145,20 +168,31 @@ module _ {K C : Type 0} where
   abbrev pub takes : ℕ → (C → ℕ) → (K → K → Ordering) → State K C → Row K C → Bool
   takes base octets cmp s = is_taken base octets cmp (is_active s.leave_all) s.rows
 
+  -- what a row says in the PDU, and the row after sending
+  abbrev pub event_sent : ℕ → (C → ℕ) → (K → K → Ordering) → Cs → State K C → Row K C → Option (MrpEvent × K × C)
+  event_sent base octets cmp now s r =
+      sent_event (is_active s.leave_all) (takes base octets cmp s r) (after now s.leave_time) r
+
+  abbrev pub row_sent : ℕ → (C → ℕ) → (K → K → Ordering) → Cs → State K C → Row K C → Option (Row K C)
+  row_sent base octets cmp now s r =
+      sent_row (is_active s.leave_all) (takes base octets cmp s r) (after now s.leave_time) r
+
   -- the events of the PDU, ascending by key
   abbrev pub sent_events : ℕ → (C → ℕ) → (K → K → Ordering) → Cs → State K C → List (MrpEvent × K × C)
-  sent_events base octets cmp now s =
-      filter_map (λ r. sent_event (is_active s.leave_all) (takes base octets cmp s r) (after now s.leave_time) r) s.rows
+  sent_events base octets cmp now s = filter_map (λ r. event_sent base octets cmp now s r) s.rows
 
   -- the rows after sending
   abbrev pub sent_rows : ℕ → (C → ℕ) → (K → K → Ordering) → Cs → State K C → List (Row K C)
-  sent_rows base octets cmp now s =
-      filter_map (λ r. sent_row (is_active s.leave_all) (takes base octets cmp s r) (after now s.leave_time) r) s.rows
+  sent_rows base octets cmp now s = filter_map (λ r. row_sent base octets cmp now s r) s.rows
 
   -- after sending: the LeaveAll machine gets Tx, and a LeaveAll makes the participant sound
   abbrev pub sent_state : ℕ → (C → ℕ) → (K → K → Ordering) → Cs → State K C → State K C
   sent_state base octets cmp now s =
-      record s { rows = sent_rows base octets cmp now s; leave_all = leaveall.table Tx s.leave_all; sound = is_active s.leave_all || s.sound }
+      record s {
+        rows = sent_rows base octets cmp now s;
+        leave_all = leaveall.table Tx s.leave_all;
+        sound = is_active s.leave_all || s.sound;
+      }
 
   -- whether nothing is pending: every applicant is VO or QA, every registrar IN or MT, and LeaveAll is
   -- Passive

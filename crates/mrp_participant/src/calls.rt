@@ -1,8 +1,8 @@
 //! What the user asks of one key, and the end of one leave timer.
 
-ghost use Rattle.std.specs.Prelude.{◌≡◌, None, OnOk, OnErr, if◌then◌else◌};
-ghost use Rattle.mrp_participant.specs.Lookup.{Ascends, key_of, same, find, put};
-ghost use Rattle.mrp_participant.specs.OneRow.{after_declare, after_withdraw, after_leave, is_leaving_in};
+ghost use Rattle.std.specs.Prelude.{◌≡◌, false, Some, None, OnOk, OnErr};
+ghost use Rattle.mrp_participant.specs.Lookup.{Ascends, ChangesOnly, key_of, find, put};
+ghost use Rattle.mrp_participant.specs.OneRow.{after_declare, after_withdraw, after_leave, is_leaving_in, declared_in};
 ghost use Rattle.mrp_participant.specs.State.{declared_state, withdrawn_state, left_state};
 
 use crate::application::MrpApp;
@@ -13,32 +13,39 @@ use registrar::Registrar;
 use srp_base::NoMemory;
 
 impl<A: MrpApp> Participant<A> {
-    /// Declares a key with a content: JoinReq in VO, NewReq in LA. The same content again changes
-    /// nothing, another content is declared anew, by NewReq. After want of memory, which comes only for
-    /// a key without a row, the participant is as it was.
+    /// Declares a key with a content: Join! in VO, New! in LA (IEEE Std 802.1Q-2018, 10.7.7). The same content
+    /// again changes nothing, another content is declared anew, by New!. After want of memory, which comes only
+    /// for a key without a row, the participant is as it was.
     pub fn declare(&mut self, key: A::Key, content: A::Content) -> Result<(), NoMemory>
         ensures ok { OnOk result (self.new ≡ declared_state A.Key.cmp A.Content.eq key content self.old) }
+        ensures same_content { declared_in (find A.Key.cmp key self.old.rows) ≡ Some content → self.new ≡ self.old }
         ensures err { OnErr result (self.new ≡ self.old) }
         ensures room { OnErr result (find A.Key.cmp key self.old.rows ≡ None) }
-        ensures each_key { OnOk result ((k : A.Key) → find A.Key.cmp k self.new.rows ≡ (if same A.Key.cmp key k then after_declare A.Content.eq key content (find A.Key.cmp key self.old.rows) else find A.Key.cmp k self.old.rows)) }
+        ensures each_key { OnOk result
+            (ChangesOnly A.Key.cmp key (after_declare A.Content.eq key content (find A.Key.cmp key self.old.rows))
+            self.old.rows self.new.rows) }
     {
         declare_in(&mut self.rows, key, content)
     }
 
-    /// Withdraws a key: NewReq and then LvReq in VP, nothing in VO and LA, LvReq in the others. So each
-    /// withdrawal says Lv, or rides on a LeaveAll.
+    /// Withdraws a key: New! and then Lv! in VP, nothing in VO and LA, Lv! in the others
+    /// (IEEE Std 802.1Q-2018, 10.7.7). So each withdrawal says Lv, or rides on a LeaveAll. What isn't declared
+    /// stays as it is.
     pub fn withdraw(&mut self, key: A::Key)
         ensures after { self.new ≡ withdrawn_state A.Key.cmp key self.old }
-        ensures each_key { (k : A.Key) → find A.Key.cmp k self.new.rows ≡ (if same A.Key.cmp key k then after_withdraw (find A.Key.cmp key self.old.rows) else find A.Key.cmp k self.old.rows) }
+        ensures undeclared { declared_in (find A.Key.cmp key self.old.rows) ≡ None → self.new ≡ self.old }
+        ensures each_key { ChangesOnly A.Key.cmp key (after_withdraw (find A.Key.cmp key self.old.rows)) self.old.rows self.new.rows }
     {
         withdraw_in(&mut self.rows, key);
     }
 
-    /// Ends a key's leave timer: LV becomes MT. True exactly where the Registrar was LV.
+    /// Ends a key's leave timer: LV becomes MT (IEEE Std 802.1Q-2018, 10.7.8). True exactly where the Registrar
+    /// was LV; where it wasn't, nothing changes.
     pub fn leave_due(&mut self, key: A::Key) -> bool
         ensures was { result ≡ is_leaving_in (find A.Key.cmp key self.old.rows) }
         ensures after { self.new ≡ left_state A.Key.cmp key self.old }
-        ensures each_key { (k : A.Key) → find A.Key.cmp k self.new.rows ≡ (if same A.Key.cmp key k then after_leave (find A.Key.cmp key self.old.rows) else find A.Key.cmp k self.old.rows) }
+        ensures stays { result ≡ false → self.new ≡ self.old }
+        ensures each_key { ChangesOnly A.Key.cmp key (after_leave (find A.Key.cmp key self.old.rows)) self.old.rows self.new.rows }
     {
         leave_in(&mut self.rows, key)
     }

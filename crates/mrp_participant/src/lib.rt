@@ -27,16 +27,16 @@
 //! An application is a type with `MrpApp`: its keys and contents, and how many octets they take.
 #![tactic(auto)]
 
-pub mod application;
-pub mod calls;
+mod application;
+mod calls;
 pub mod laws;
-pub mod lookup;
-pub mod model;
-pub mod one_row;
-pub mod receive;
-pub mod room;
-pub mod sending;
-pub mod timers;
+mod lookup;
+mod model;
+mod one_row;
+mod receive;
+mod room;
+mod sending;
+mod timers;
 
 pub use application::{MrpApp, Msgs};
 pub use model::Participant;

@@ -128,7 +128,7 @@ impl<A: MrpApp> Participant<A> {
         }
     }
 
-    /// Whether a LeaveAll was sent since the last spoiling, or none was spoilt.
+    /// Whether the participant is sound: it was never spoilt, or has sent a LeaveAll since.
     pub fn sound(&self) -> bool
         ensures { result ≡ self.now.sound }
     {

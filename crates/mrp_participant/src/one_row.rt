@@ -3,7 +3,7 @@
 ghost use Rattle.std.specs.Prelude.{◌≡◌};
 ghost use Rattle.applicant.specs.Table.{withdraw_of};
 ghost use Rattle.mrp_participant.specs.OneRow.{is_live, kept_row, applicant_takes, registrar_takes, with_applicant, fresh_row, declared_row, left_row, leave_all_row, with_heard, heard_row, makes_row, registered_in, declared_in, leave_is_due, after_leave_due, periodic_row, is_settled};
-ghost use Rattle.mrp_participant.specs.Sending.{round, is_tried, chance, before_chance, row_after, said_at, written, sent_row, sent_event};
+ghost use Rattle.mrp_participant.specs.Sending.{round, is_tried, opportunity, before_opportunity, row_after, said_at, written, sent_row, sent_event};
 
 use applicant::{AppEvent, Applicant, Say};
 use registrar::{RegEvent, Registrar};
@@ -67,7 +67,7 @@ impl<K: Copy, C: Copy> Row<K, C> {
         ensures { result ≡ registrar_takes event leave self }
     {
         let (registrar, _) = self.registrar.step(event);
-        let starts = self.registrar == Registrar::Held && registrar == Registrar::Leaving;
+        let starts = self.registrar.starts_leave_timer(event);
         let leave = if starts { leave } else { self.leave };
         Row {
             registrar,
@@ -220,9 +220,9 @@ impl<K: Copy, C: Copy> Row<K, C> {
         round(leave_all, self.applicant) != 0
     }
 
-    /// The chance to send that the row's Applicant gets.
-    fn chance(&self, leave_all: bool, taken: bool) -> Option<AppEvent>
-        ensures { result ≡ chance leave_all taken self.now }
+    /// The transmission opportunity that the row's Applicant gets.
+    fn opportunity(&self, leave_all: bool, taken: bool) -> Option<AppEvent>
+        ensures { result ≡ opportunity leave_all taken self.now }
     {
         if !leave_all {
             return if taken { Some(AppEvent::Tx) } else { None };
@@ -234,9 +234,9 @@ impl<K: Copy, C: Copy> Row<K, C> {
         }
     }
 
-    /// The row as it stands when its Applicant gets its chance.
-    fn before_chance(self, leave_all: bool, leave: Cs) -> Row<K, C>
-        ensures { result ≡ before_chance leave_all leave self }
+    /// The row as it stands when its Applicant gets its opportunity.
+    fn before_opportunity(self, leave_all: bool, leave: Cs) -> Row<K, C>
+        ensures { result ≡ before_opportunity leave_all leave self }
     {
         if leave_all {
             self.registrar_takes(RegEvent::TxLeaveAll, leave)
@@ -245,21 +245,21 @@ impl<K: Copy, C: Copy> Row<K, C> {
         }
     }
 
-    /// The row after a chance.
-    fn after_chance(self, chance: Option<AppEvent>) -> Option<Row<K, C>>
-        ensures { result ≡ row_after chance self }
+    /// The row after an opportunity.
+    fn after_opportunity(self, opportunity: Option<AppEvent>) -> Option<Row<K, C>>
+        ensures { result ≡ row_after opportunity self }
     {
-        match chance {
+        match opportunity {
             None => Some(self),
             Some(event) => self.applicant_takes(event).kept(),
         }
     }
 
-    /// What the row says at a chance.
-    fn said_at(self, chance: Option<AppEvent>) -> Option<(MrpEvent, K, C)>
-        ensures { result ≡ said_at chance self }
+    /// What the row says at an opportunity.
+    fn said_at(self, opportunity: Option<AppEvent>) -> Option<(MrpEvent, K, C)>
+        ensures { result ≡ said_at opportunity self }
     {
-        match chance {
+        match opportunity {
             None => None,
             Some(event) => {
                 let held = self.registrar == Registrar::Held;
@@ -276,16 +276,18 @@ impl<K: Copy, C: Copy> Row<K, C> {
     pub(crate) fn sent(self, leave_all: bool, taken: bool, leave: Cs) -> Option<Row<K, C>>
         ensures { result ≡ sent_row leave_all taken leave self }
     {
-        let chance = self.chance(leave_all, taken);
-        self.before_chance(leave_all, leave).after_chance(chance)
+        let opportunity = self.opportunity(leave_all, taken);
+        self.before_opportunity(leave_all, leave)
+            .after_opportunity(opportunity)
     }
 
     /// What the row says in the PDU.
     pub(crate) fn says(self, leave_all: bool, taken: bool, leave: Cs) -> Option<(MrpEvent, K, C)>
         ensures { result ≡ sent_event leave_all taken leave self }
     {
-        let chance = self.chance(leave_all, taken);
-        self.before_chance(leave_all, leave).said_at(chance)
+        let opportunity = self.opportunity(leave_all, taken);
+        self.before_opportunity(leave_all, leave)
+            .said_at(opportunity)
     }
 }
 

@@ -1,10 +1,11 @@
 //! What a received list of messages makes of the rows (IEEE Std 802.1Q-2018, 10.7.5 and 10.7.6).
 
 ghost use Rattle.std.specs.Prelude.{◌≡◌, ◌<◌, ◌+◌, ◌^◌, map, filter, fold, not, Some, if◌then◌else◌, OnOk, OnErr, IfOk};
+ghost use Rattle.std.specs.Option.{option_eq};
 ghost use Rattle.leaveall.specs.Table.{table};
 ghost use Rattle.leaveall.specs.declared.LaEvent.TheVariants.{Rx};
 ghost use Rattle.mrp_participant.specs.Lookup.{Ascends, key_of, find, put};
-ghost use Rattle.mrp_participant.specs.OneRow.{after_hear, leave_all_row, registered_in, same_content};
+ghost use Rattle.mrp_participant.specs.OneRow.{after_hear, leave_all_row, registered_in};
 ghost use Rattle.mrp_participant.specs.State.{AreRows, after, rows_hearing, rows_after_receive, changed_keys, received_state};
 
 use crate::application::{MrpApp, Msgs};
@@ -16,9 +17,9 @@ use srp_base::{Cs, MrpEvent, NoMemory, Seq};
 use std::alloc::{AllocError, Global};
 
 impl<A: MrpApp> Participant<A> {
-    /// Takes what the neighbour sent at the moment `now`: LeaveAll first, then the events in order.
-    /// Answers, ascending, the keys whose registration or registered content differs from before. After
-    /// want of memory the participant is as it was.
+    /// Takes what the neighbour sent at the moment `now`, in cs and below 2^62: LeaveAll first, then the events
+    /// in order (IEEE Std 802.1Q-2018, 10.7.5). Answers, ascending, the keys whose registration or registered
+    /// content differs from before. After want of memory the participant is as it was.
     pub fn receive(&mut self, now: Cs, msgs: &Msgs<A>) -> Result<Seq<A::Key>, NoMemory>
         requires { now.0 < 2 ^ 62 }
 
@@ -179,22 +180,12 @@ fn changed<K: Copy + Ord, C: Copy + Eq>(
 /// Whether what is registered in a row differs from what was registered of its key.
 fn differs<K: Copy + Ord, C: Copy + Eq>(old: &[Row<K, C>], row: &Row<K, C>) -> bool
     requires { Ascends K.cmp key_of old.now }
-    ensures { result ≡ not (same_content C.eq (registered_in (find K.cmp row.now.key old.now)) (registered_in (Some row.now))) }
+    ensures { result
+        ≡ not (option_eq C.eq (registered_in (find K.cmp row.now.key old.now)) (registered_in (Some row.now))) }
 {
     let before = match find_row(old, &row.key) {
         Some(row) => row.registered(),
         None => None,
     };
-    !same_content(before, row.registered())
-}
-
-/// Whether two registered contents are the same, or none is.
-fn same_content<C: Copy + Eq>(a: Option<C>, b: Option<C>) -> bool
-    ensures { result ≡ same_content C.eq a b }
-{
-    match (a, b) {
-        (None, None) => true,
-        (Some(a), Some(b)) => a == b,
-        _ => false,
-    }
+    before != row.registered()
 }

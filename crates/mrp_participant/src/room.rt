@@ -11,7 +11,7 @@ use crate::one_row::{Row, round};
 
 /// A place in the order in which rows are tried: a round, and a key in it.
 #[derive(Clone, Copy, Debug)]
-pub struct Cut<K> {
+pub(crate) struct Cut<K> {
     pub round: u8,
     pub key: K,
 }

@@ -1,6 +1,6 @@
 //! What a participant sends (IEEE Std 802.1Q-2018, 10.7.6 and 10.8).
 
-ghost use Rattle.std.specs.Prelude.{◌≡◌, ◌<◌, ◌^◌, ◌+◌, ◌≤◌, ◌≢◌, ◌||◌, false, [], sum_by, OnOk, OnErr, IfOk, IfSome, is_none};
+ghost use Rattle.std.specs.Prelude.{◌≡◌, ◌<◌, ◌^◌, ◌+◌, ◌≤◌, ◌≢◌, ◌||◌, false, [], sum_by, OnOk, OnErr, IfOk, IfSome, IfNone, is_none};
 ghost use Rattle.std.specs.List.{filter_map};
 ghost use Rattle.mrp_participant.specs.Lookup.{Ascends};
 ghost use Rattle.mrp_participant.specs.Sending.{sent_row, sent_event, is_taken};
@@ -16,9 +16,15 @@ use srp_base::{Cs, MrpEvent, NoMemory, Seq};
 use std::alloc::{AllocError, Global};
 
 impl<A: MrpApp> Participant<A> {
-    /// What the participant sends at the moment `now`. None exactly where no row is VP, VN, AN, AA or LA
-    /// and LeaveAll is Passive. A LeaveAll makes the participant sound. After want of memory it is as it
-    /// was.
+    /// What the participant sends at the moment `now`, in cs and below 2^62 (IEEE Std 802.1Q-2018, 10.7.6).
+    ///
+    /// The rows in VP, VN and LA, then those in AN and AA, each ascending by key, while the PDU stays within
+    /// 1,500 octets. With LeaveAll those in VP and VN, in AN and AA, then also those in QA; LA then says nothing.
+    /// A Join is JoinIn where the row's own Registrar is IN, else JoinMt; LeaveAll takes each Registrar out of
+    /// IN first. The events stand ascending by key.
+    ///
+    /// None exactly where no row is VP, VN, AN, AA or LA and LeaveAll is Passive; nothing changes then. A LeaveAll
+    /// makes the participant sound. After want of memory it is as it was.
     pub fn send(&mut self, now: Cs) -> Result<Option<Msgs<A>>, NoMemory>
         requires { now.0 < 2 ^ 62 }
 
@@ -29,6 +35,7 @@ impl<A: MrpApp> Participant<A> {
         ensures fits { IfOk result (λ sent. IfSome sent (λ msgs. A.base + sum_by (λ e. A.octets e.2) msgs.events ≤ 1500)) }
         ensures says { IfOk result (λ sent. IfSome sent (λ msgs. msgs.leave_all ≡ false → msgs.events ≢ [])) }
         ensures after { OnOk result (self.new ≡ sent_state A.base A.octets A.Key.cmp now self.old) }
+        ensures stays { IfOk result (λ sent. IfNone sent (self.new ≡ self.old)) }
         ensures err { OnErr result (self.new ≡ self.old) }
     {
         if self.has_nothing_to_say() {

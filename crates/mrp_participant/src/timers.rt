@@ -15,8 +15,8 @@ use srp_base::{Cs, NoMemory, Seq};
 use std::alloc::{AllocError, Global};
 
 impl<A: MrpApp> Participant<A> {
-    /// Fires the LeaveAll timer at the moment `now`: the machine is Active, and the timer ends again a
-    /// period later.
+    /// Fires the LeaveAll timer at the moment `now`, in cs and below 2^62: the machine is Active, and the timer
+    /// ends again a period later (IEEE Std 802.1Q-2018, 10.7.9).
     pub fn leaveall_due(&mut self, now: Cs)
         requires { now.0 < 2 ^ 62 }
         ensures { self.new ≡ leave_all_state now self.old }
@@ -25,14 +25,14 @@ impl<A: MrpApp> Participant<A> {
         self.next_leave_all = Cs(now.0 + self.period.0);
     }
 
-    /// The periodic event to each row. The periodic machine's next moment stays.
+    /// The event periodic! to each row (IEEE Std 802.1Q-2018, 10.7.10). The periodic machine's next moment stays.
     pub fn periodic_due(&mut self)
         ensures { self.new ≡ periodic_state self.old }
     {
         all_periodic(&mut self.rows);
     }
 
-    /// Whether a timer's moment is at or before `now`.
+    /// Whether a timer's moment is at or before `now`, in cs.
     pub fn any_due(&self, now: Cs) -> bool
         ensures { result ≡ is_any_due now self.now }
     {
@@ -40,9 +40,9 @@ impl<A: MrpApp> Participant<A> {
             || (self.next_leave_all.0 <= now.0 || self.periodic.due(now))
     }
 
-    /// Fires all timers that are due at the moment `now`: the leave timers ascending, then LeaveAll, then
-    /// periodic. Answers how many fired, and the keys that left, ascending. After want of memory the
-    /// participant is as it was.
+    /// Fires all timers that are due at the moment `now`, in cs and below 2^62: the leave timers ascending, then
+    /// LeaveAll, then periodic. Answers how many fired, a number that stops at 4,294,967,295, and the keys that
+    /// left, ascending. After want of memory the participant is as it was.
     pub fn due(&mut self, now: Cs) -> Result<(u32, Seq<A::Key>), NoMemory>
         requires { now.0 < 2 ^ 62 }
 

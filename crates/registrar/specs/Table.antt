@@ -29,7 +29,7 @@ row held leaving empty Held = held Held
 row held leaving empty Leaving = leaving Leaving
 row held leaving empty Empty = empty Empty
 
--- the table, whose columns are the states; the leave timer starts where IN becomes LV
+-- the table, whose columns are the states
 abbrev pub table : RegEvent → Cell
 -- IN, LV, MT
 table RxNew =
@@ -48,6 +48,17 @@ table LeaveTimer =
 -- the state after an event
 abbrev pub next : RegEvent → Registrar → Registrar
 next event state = (table event state).0
+
+-- what the user is told at an event
+abbrev pub told : RegEvent → Registrar → Tell
+told event state = (table event state).1
+
+-- whether an event starts the leave timer: where it takes IN to LV
+abbrev pub starts_leave_timer : RegEvent → Registrar → Bool
+starts_leave_timer RxLv Held = true
+starts_leave_timer RxLeaveAll Held = true
+starts_leave_timer TxLeaveAll Held = true
+starts_leave_timer _ _ = false
 
 -- whether the attribute is registered: IN or LV
 abbrev pub is_registered_in : Registrar → Bool

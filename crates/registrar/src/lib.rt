@@ -11,8 +11,10 @@
 //! told. The leave timer itself is kept where the row is.
 #![tactic(auto)]
 
+pub mod laws;
+
 ghost use Rattle.std.specs.Prelude.{◌≡◌};
-ghost use Rattle.registrar.specs.Table.{table, is_registered_in};
+ghost use Rattle.registrar.specs.Table.{table, is_registered_in, starts_leave_timer};
 
 /// The states: the standard's IN, LV and MT.
 #[derive(Clone, Copy, Debug, PartialEq, Eq)]
@@ -22,28 +24,36 @@ pub enum Registrar {
     Empty,
 }
 
-/// What happens to a Registrar: something received, an own LeaveAll sent, or the end of its leave
-/// timer. `RxJoin` is a received JoinIn or JoinMt.
+/// What happens to a Registrar: something received, an own LeaveAll sent, or the end of its leave timer
+/// (IEEE Std 802.1Q-2018, 10.7.8; its names stand beside).
 #[derive(Clone, Copy, Debug, PartialEq, Eq)]
 pub enum RegEvent {
+    /// rNew!
     RxNew,
+    /// rJoinIn! or rJoinMt!
     RxJoin,
+    /// rLv!
     RxLv,
+    /// rLA!
     RxLeaveAll,
+    /// txLA!
     TxLeaveAll,
+    /// leavetimer!
     LeaveTimer,
 }
 
-/// What the user is told of its attribute.
+/// What the user is told of its attribute (IEEE Std 802.1Q-2018, 10.7.8).
 #[derive(Clone, Copy, Debug, PartialEq, Eq)]
 pub enum Tell {
     Nothing,
+    /// It wasn't registered and now is.
     Joined,
+    /// It was registered and now isn't.
     Left,
 }
 
 impl Registrar {
-    /// The new state, and what the user is told.
+    /// The new state, and what the user is told: one cell of the table (IEEE Std 802.1Q-2018, 10.7.8).
     pub fn step(self, event: RegEvent) -> (Registrar, Tell)
         ensures { result ≡ table event self }
     {
@@ -56,6 +66,17 @@ impl Registrar {
             (LeaveTimer, Leaving) => (Empty, Tell::Left),
             _ => (self, Tell::Nothing),
         }
+    }
+
+    /// Whether the event starts the leave timer: where it takes IN to LV (IEEE Std 802.1Q-2018, 10.7.8).
+    pub fn starts_leave_timer(self, event: RegEvent) -> bool
+        ensures { result ≡ starts_leave_timer event self }
+    {
+        self == Registrar::Held
+            && matches!(
+                event,
+                RegEvent::RxLv | RegEvent::RxLeaveAll | RegEvent::TxLeaveAll
+            )
     }
 
     /// Whether the attribute is registered: in IN and LV.
@@ -100,6 +121,13 @@ mod tests {
         ];
         for (event, held, leaving, empty) in rows {
             assert_eq!(rt; Held.step(event), held, "IN at {event:?}");
+            assert_eq!(rt;
+                Held.starts_leave_timer(event),
+                held.0 == Leaving,
+                "IN at {event:?}"
+            );
+            assert_eq!(rt; Leaving.starts_leave_timer(event), false, "LV at {event:?}");
+            assert_eq!(rt; Empty.starts_leave_timer(event), false, "MT at {event:?}");
             assert_eq!(rt; Leaving.step(event), leaving, "LV at {event:?}");
             assert_eq!(rt; Empty.step(event), empty, "MT at {event:?}");
         }

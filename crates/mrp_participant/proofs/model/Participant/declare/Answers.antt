@@ -2,10 +2,11 @@ use Rattle.std.proofs.Common.{ap, ◌∙◌, if◌then◌else◌, OnOk}
 use Rattle.std.specs.declared.result.Result.{Result}
 use Rattle.std.specs.declared.result.Result.TheVariants.{Ok, Err}
 use Rattle.mrp_participant.specs.Lookup.{find, same}
-use Rattle.mrp_participant.specs.OneRow.{after_declare}
+use Rattle.mrp_participant.specs.OneRow.{after_declare, declared_in}
 use Rattle.mrp_participant.specs.State.{State}
 use Rattle.mrp_participant.proofs.EachKey.{each-declare}
 use Rattle.mrp_participant.proofs.Transitions.{AreRows-declare, AreRows-either}
+use Rattle.mrp_participant.proofs.Unchanged.{declare-same, either-same, unchanged}
 use Rattle.mrp_participant.proofs.model.Participant.declare.Goals as goal
 
 pub invariant_of-self : goal.invariant_of-self
@@ -30,3 +31,10 @@ returns-clause-each_key g c =
     (λ (s : State g.row.A-Key.Denot g.row.A-Content.Denot). if same g.A.Key.Ord.cmp c.args.key k then after_declare g.A.Content.PartialEq.eq c.args.key c.args.content (find g.A.Key.Ord.cmp c.args.key s.rows) else find g.A.Key.Ord.cmp k s.rows)
     c.self.view_is)
     c.declare_in.ensures.ok
+
+pub returns-clause-same_content : goal.returns-clause-same_content
+returns-clause-same_content g c h =
+    unchanged _ _ _ c.self.view_is
+    (either-same c.declare_in.result _ _ _ c.declare_in.ensures.ok c.declare_in.ensures.err
+    (declare-same g.met.A.Key.Ord.total g.A.Content.PartialEq.eq g.met.A.Content.Eq.laws c.args.key c.args.content c.self.inside.rows.items c.self.invariant.0
+    (ap (λ (s : State g.row.A-Key.Denot g.row.A-Content.Denot). declared_in (find g.A.Key.Ord.cmp c.args.key s.rows)) c.self.view_is ∙ h)))

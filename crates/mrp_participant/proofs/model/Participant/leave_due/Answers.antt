@@ -4,6 +4,7 @@ use Rattle.mrp_participant.specs.OneRow.{after_leave}
 use Rattle.mrp_participant.specs.State.{State, AreRows}
 use Rattle.mrp_participant.proofs.EachKey.{each-leave}
 use Rattle.mrp_participant.proofs.Transitions.{AreRows-leave}
+use Rattle.mrp_participant.proofs.Unchanged.{leave-unleaving, unchanged}
 use Rattle.mrp_participant.proofs.model.Participant.leave_due.Goals as goal
 
 pub invariant_of-self : goal.invariant_of-self
@@ -20,3 +21,8 @@ returns-clause-each_key g c k =
     ∙ ap
     (λ (s : State g.row.A-Key.Denot g.row.A-Content.Denot). if same g.A.Key.Ord.cmp c.args.key k then after_leave (find g.A.Key.Ord.cmp c.args.key s.rows) else find g.A.Key.Ord.cmp k s.rows)
     c.self.view_is
+
+pub returns-clause-stays : goal.returns-clause-stays
+returns-clause-stays g c h =
+    unchanged _ _ _ c.self.view_is
+    (c.leave_in.ensures.rows ∙ leave-unleaving g.met.A.Key.Ord.total c.args.key c.self.inside.rows.items c.self.invariant.0 (sym c.leave_in.ensures.was ∙ h))
