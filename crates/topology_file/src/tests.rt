@@ -3,6 +3,7 @@
 use crate::{EventEntry, EventKind, RuleErr, read_scenario};
 use srp_base::{BridgeId, Cs, NodeNo, Vid};
 use std::alloc::{AllocError, Global};
+use std::process::Abort;
 use std::test::Fail;
 use tree_topology::NodeKind;
 
@@ -78,48 +79,78 @@ fn rules_of_the_file_as_a_whole(rt: HostRuntime) -> Result<(), Fail> {
     Ok(())
 }
 
+/// A file of these nodes and links breaks a rule at an entry.
+fn network_breaks(
+    rt: &impl Abort,
+    alloc: Global,
+    (nodes, links): (&str, &str),
+    (rule, entry): (u8, u32),
+) -> Result<(), Fail> {
+    let text = format!(in alloc; "ticks = 22\nnode = [{nodes}]\nlink = [{links}]\n")?;
+    let broken = RuleErr::Rule { rule, entry };
+    assert_eq!(rt; refusal(alloc, text.as_str())?, Some(broken), "{text}");
+    Ok(())
+}
+
 #[test]
-fn rules_of_nodes_and_links(rt: HostRuntime) -> Result<(), Fail> {
-    let two = "{ name = 'a', kind = 'station' }, { name = 'b', kind = 'station' }";
-    let three =
-        "{ name = 'a', kind = 'station' }, { name = 'b', kind = 'station' }, { name = 'c', kind = 'station' }";
-    let bridges =
-        "{ name = 'a', kind = 'bridge' }, { name = 'b', kind = 'bridge' }, { name = 'c', kind = 'bridge' }";
-    let cases: [(&str, &str, u8, u32); 20] = [
-        ("{ name = 'a', kind = 'hub' }", "", 4, 1),
+fn rules_of_nodes(rt: HostRuntime) -> Result<(), Fail> {
+    let cases = [
+        ("{ name = 'a', kind = 'hub' }", 4, 1),
         (
             "{ name = 'a', kind = 'bridge' }, { name = 'A', kind = 'bridge' }",
-            "",
             4,
             2,
         ),
-        ("{ name = '', kind = 'bridge' }", "", 4, 1),
+        ("{ name = '', kind = 'bridge' }", 4, 1),
         (
             "{ name = 'a23456789b23456789c23456789d23456', kind = 'bridge' }",
-            "",
             4,
             1,
         ),
-        ("{ name = 'a', kind = 'bridge', id = '1' }", "", 4, 1),
-        ("{ name = 'a', kind = 'bridge', rate = 1 }", "", 4, 1),
+        ("{ name = 'a', kind = 'bridge', id = '1' }", 4, 1),
+        ("{ name = 'a', kind = 'bridge', rate = 1 }", 4, 1),
         (
             "{ name = 'a', kind = 'bridge' }, { name = 'a', kind = 'bridge' }",
-            "",
             6,
             2,
         ),
         (
             "{ name = 'a', kind = 'bridge', id = '0000000000000002' }, { name = 'b', kind = 'bridge' }",
-            "",
             7,
             2,
         ),
-        (two, "{ a = 'a', b = 'b', rate = 10 }", 8, 1),
-        (two, "{ a = 'a', b = 'b', delta_a = 91 }", 8, 1),
-        (two, "{ a = 'a', b = 'b', delta_a = 90, delta_b = 1 }", 8, 1),
-        (two, "{ a = 'a', b = 'b', latency = 4294967296 }", 8, 1),
-        (two, "{ a = 'a' }", 8, 1),
-        (two, "{ a = 'a', b = 'c' }", 9, 1),
+    ];
+    for (nodes, rule, entry) in cases {
+        network_breaks(&rt, rt.alloc(), (nodes, ""), (rule, entry))?;
+    }
+    Ok(())
+}
+
+#[test]
+fn rules_of_one_link(rt: HostRuntime) -> Result<(), Fail> {
+    let two = "{ name = 'a', kind = 'station' }, { name = 'b', kind = 'station' }";
+    let cases = [
+        ("{ a = 'a', b = 'b', rate = 10 }", 8, 1),
+        ("{ a = 'a', b = 'b', delta_a = 91 }", 8, 1),
+        ("{ a = 'a', b = 'b', delta_a = 90, delta_b = 1 }", 8, 1),
+        ("{ a = 'a', b = 'b', latency = 4294967296 }", 8, 1),
+        ("{ a = 'a' }", 8, 1),
+        ("{ a = 'a', b = 'c' }", 9, 1),
+    ];
+    for (links, rule, entry) in cases {
+        network_breaks(&rt, rt.alloc(), (two, links), (rule, entry))?;
+    }
+    Ok(())
+}
+
+#[test]
+fn rules_of_the_tree(rt: HostRuntime) -> Result<(), Fail> {
+    let two = "{ name = 'a', kind = 'station' }, { name = 'b', kind = 'station' }";
+    let three =
+        "{ name = 'a', kind = 'station' }, { name = 'b', kind = 'station' }, { name = 'c', kind = 'station' }";
+    let bridges =
+        "{ name = 'a', kind = 'bridge' }, { name = 'b', kind = 'bridge' }, { name = 'c', kind = 'bridge' }";
+    let cases = [
         (two, "{ a = 'a', b = 'b' }, { a = 'b', b = 'b' }", 10, 2),
         (two, "{ a = 'a', b = 'b' }, { a = 'b', b = 'a' }", 11, 2),
         (
@@ -133,44 +164,50 @@ fn rules_of_nodes_and_links(rt: HostRuntime) -> Result<(), Fail> {
         (three, "{ a = 'a', b = 'c' }, { a = 'c', b = 'b' }", 14, 3),
     ];
     for (nodes, links, rule, entry) in cases {
-        let text = format!(in rt.alloc(); "ticks = 22\nnode = [{nodes}]\nlink = [{links}]\n")?;
-        let broken = RuleErr::Rule { rule, entry };
-        assert_eq!(rt; refusal(rt.alloc(), text.as_str())?, Some(broken), "{text}");
+        network_breaks(&rt, rt.alloc(), (nodes, links), (rule, entry))?;
+    }
+    Ok(())
+}
+
+/// A file of a bridge between two stations with these events breaks a rule at an entry.
+fn events_break(
+    rt: &impl Abort,
+    alloc: Global,
+    events: &str,
+    (rule, entry): (u8, u32),
+) -> Result<(), Fail> {
+    let text = format!(in alloc;
+        "ticks = 22\n\
+        node = [{{ name = 'a', kind = 'station' }}, {{ name = 'b', kind = 'bridge' }}, {{ name = 'c', kind = 'station' }}]\n\
+        link = [{{ a = 'a', b = 'b' }}, {{ a = 'c', b = 'b' }}]\n\
+        event = [{events}]\n"
+    )?;
+    let broken = RuleErr::Rule { rule, entry };
+    assert_eq!(rt; refusal(alloc, text.as_str())?, Some(broken), "{text}");
+    Ok(())
+}
+
+#[test]
+fn forms_of_events(rt: HostRuntime) -> Result<(), Fail> {
+    let cases = [
+        "{ tick = 0, kind = 'talk', stream = 'k' }",
+        "{ kind = 'declare', station = 'a', vid = 7 }",
+        "{ tick = 22, kind = 'declare', station = 'a', vid = 7 }",
+        "{ tick = 0, kind = 'declare', station = 'a', vid = 0 }",
+        "{ tick = 0, kind = 'withdraw', station = 'a', vid = 4095 }",
+        "{ tick = 0, kind = 'lose', from = 'a', to = 'b', index = 0, vid = 7 }",
+        "{ tick = 0, kind = 'lose', from = 'a', to = 'b', index = 65536 }",
+        "{ tick = 0, kind = 'repeat', from = 'a', to = 'b' }",
+    ];
+    for events in cases {
+        events_break(&rt, rt.alloc(), events, (20, 1))?;
     }
     Ok(())
 }
 
 #[test]
-fn rules_of_events(rt: HostRuntime) -> Result<(), Fail> {
-    let cases: [(&str, u8, u32); 13] = [
-        ("{ tick = 0, kind = 'talk', stream = 'k' }", 20, 1),
-        ("{ kind = 'declare', station = 'a', vid = 7 }", 20, 1),
-        (
-            "{ tick = 22, kind = 'declare', station = 'a', vid = 7 }",
-            20,
-            1,
-        ),
-        (
-            "{ tick = 0, kind = 'declare', station = 'a', vid = 0 }",
-            20,
-            1,
-        ),
-        (
-            "{ tick = 0, kind = 'withdraw', station = 'a', vid = 4095 }",
-            20,
-            1,
-        ),
-        (
-            "{ tick = 0, kind = 'lose', from = 'a', to = 'b', index = 0, vid = 7 }",
-            20,
-            1,
-        ),
-        (
-            "{ tick = 0, kind = 'lose', from = 'a', to = 'b', index = 65536 }",
-            20,
-            1,
-        ),
-        ("{ tick = 0, kind = 'repeat', from = 'a', to = 'b' }", 20, 1),
+fn order_and_names_of_events(rt: HostRuntime) -> Result<(), Fail> {
+    let cases = [
         (
             "{ tick = 1, kind = 'declare', station = 'a', vid = 7 }, { tick = 0, kind = 'declare', station = 'a', vid = 8 }",
             21,
@@ -198,14 +235,7 @@ fn rules_of_events(rt: HostRuntime) -> Result<(), Fail> {
         ),
     ];
     for (events, rule, entry) in cases {
-        let text = format!(in rt.alloc();
-            "ticks = 22\n\
-            node = [{{ name = 'a', kind = 'station' }}, {{ name = 'b', kind = 'bridge' }}, {{ name = 'c', kind = 'station' }}]\n\
-            link = [{{ a = 'a', b = 'b' }}, {{ a = 'c', b = 'b' }}]\n\
-            event = [{events}]\n"
-        )?;
-        let broken = RuleErr::Rule { rule, entry };
-        assert_eq!(rt; refusal(rt.alloc(), text.as_str())?, Some(broken), "{text}");
+        events_break(&rt, rt.alloc(), events, (rule, entry))?;
     }
     Ok(())
 }
