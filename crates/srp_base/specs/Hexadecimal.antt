@@ -1,5 +1,5 @@
--- Identifiers as hexadecimal digits: StreamIDs and BridgeIDs have sixteen.
-use Rattle.std.specs.Prelude.{ℕ, false, ◌-◌, List, ◌++◌, length, Option, Some, None, Result, Ok, Err, replicate}
+-- Identifiers as hexadecimal digits: StreamIDs and BridgeIDs have sixteen, addresses twelve.
+use Rattle.std.specs.Prelude.{ℕ, false, ◌+◌, ◌-◌, ◌*◌, List, ◌++◌, length, fold, Option, Some, None, Result, Ok, Err, replicate}
 use Rattle.std.specs.Fmt.{digits}
 use Rattle.std.specs.Int.{w64, from_be_bytes}
 use Rattle.hex.specs.Hex.{decode_sized}
@@ -14,6 +14,19 @@ number_of_octets (Err e) = None
 -- text spells one
 unfoldable pub hex16 : List ℕ → Option ℕ
 hex16 text = number_of_octets (decode_sized text 8)
+
+-- the number of some octets, the first of them the highest
+abbrev pub number_of : List ℕ → ℕ
+number_of octets = fold (λ n octet. n * 256 + octet) 0 octets
+
+abbrev pub number_of_decoded : Result (List ℕ) FromHexError → Option ℕ
+number_of_decoded (Ok octets) = Some (number_of octets)
+number_of_decoded (Err e) = None
+
+-- the number that twelve hexadecimal digits of either case spell, the highest digit first; no other text
+-- spells one
+unfoldable pub hex12 : List ℕ → Option ℕ
+hex12 text = number_of_decoded (decode_sized text 6)
 
 -- a number below 2 ^ 64 as sixteen hexadecimal digits in lower case: its digits, with zeros before them
 unfoldable pub hex16_text : ℕ → List ℕ

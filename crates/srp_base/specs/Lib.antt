@@ -1,3 +1,4 @@
 pub mod Bandwidth
 pub mod Hexadecimal
+pub mod Results
 pub mod Text

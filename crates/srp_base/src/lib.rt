@@ -5,13 +5,15 @@
 //! numbers      StreamId BridgeId NodeNo LinkNo PortNo Cs Ps     plain numbers, each of its own kind
 //!              Vid Mac                                          numbers of a stated range
 //! bandwidth    Rate Percent Class Rank                          what a reservation is measured in
+//! streams      Talker Failure TalkerReg ListenerKind Priority   what is declared of a stream
+//! ports        PortSetup Timeline PortChange                    what a port is set up with, and has in force
 //! mrp          App MrpEvent                                     the six attribute events of MRP
 //! list         Seq                                              a list over a vector
 //! memory       NoMemory                                         the one free answer
-//! hexadecimal  read_hex16                                       identifiers as 16 digits
+//! hexadecimal  read_hex16 read_hex12                            identifiers as 16 digits, addresses as 12
 //! ```
 //!
-//! Contracts see a `Vid`, a `Mac` and a `Percent` as the number, a `Seq` as the list of its elements,
+//! Contracts see a `Vid`, a `Mac`, a `Percent` and a `Priority` as the number, a `Seq` as the list of its elements,
 //! and each other type as its fields.
 #![tactic(auto)]
 
@@ -21,12 +23,16 @@ pub mod list;
 pub mod memory;
 pub mod mrp;
 pub mod numbers;
+pub mod ports;
+pub mod streams;
 #[cfg(test)]
 mod tests;
 
 pub use bandwidth::{Class, Percent, Rank, Rate};
-pub use hexadecimal::read_hex16;
+pub use hexadecimal::{read_hex12, read_hex16};
 pub use list::Seq;
 pub use memory::NoMemory;
 pub use mrp::{App, MrpEvent};
 pub use numbers::{BridgeId, Cs, EgressPort, LinkNo, Mac, NodeNo, PortNo, Ps, StreamId, Vid};
+pub use ports::{PortChange, PortSetup, Timeline};
+pub use streams::{Failure, ListenerKind, Priority, Talker, TalkerReg};

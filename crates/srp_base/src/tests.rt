@@ -1,4 +1,4 @@
-use crate::{BridgeId, Mac, Percent, Rate, Seq, StreamId, Vid, read_hex16};
+use crate::{BridgeId, Mac, Percent, Priority, Rate, Seq, StreamId, Vid, read_hex12, read_hex16};
 use std::test::Fail;
 
 #[test]
@@ -15,6 +15,18 @@ fn identifiers_are_sixteen_digits(rt: HostRuntime) -> Result<(), Fail> {
     ] {
         assert_eq!(rt; read_hex16(text), want, "{text}");
     }
+    for (text, want) in [
+        ("91e0f000fe01", Some(0x91e0_f000_fe01)),
+        ("FFFFFFFFFFFF", Some(0xffff_ffff_ffff)),
+        ("91e0f000fe0", None),
+        ("91e0f000fe0x", None),
+    ] {
+        assert_eq!(rt;
+            read_hex12(text).map(|address| address.get()),
+            want,
+            "{text}"
+        );
+    }
     let alloc = rt.alloc();
     let stream = StreamId(0x0200_0000_0001_0001);
     assert_eq!(rt; format!(in alloc; "{stream}")?.as_str(), "0200000000010001");
@@ -30,6 +42,9 @@ fn numbers_have_their_ranges(rt: HostRuntime) {
     }
     for (number, good) in [(0u64, true), (90, true), (91, false)] {
         assert_eq!(rt; Percent::new(number).is_some(), good, "{number} percent");
+    }
+    for (number, good) in [(0u8, true), (7, true), (8, false)] {
+        assert_eq!(rt; Priority::new(number).is_some(), good, "priority {number}");
     }
     for (number, good) in [(0xffff_ffff_ffffu64, true), (0x1_0000_0000_0000, false)] {
         assert_eq!(rt; Mac::new(number).is_some(), good, "address {number}");
