@@ -1,0 +1,2 @@
+mod DirtyLemmas
+mod FlatLemmas

@@ -1,0 +1,52 @@
+-- A set of keys as the list of its keys, ascending strictly.
+use Rattle.std.specs.Prelude.{◌≡◌, ◌≤◌, ◌<◌, ℕ, suc, Bool, true, false, not, if◌then◌else◌, List, [], ◌∷◌, ◌++◌, length, filter, fold, take, drop, Result, Ok, Err}
+use Rattle.std.specs.declared.cmp.Ordering.{Ordering}
+use Rattle.std.specs.declared.cmp.Ordering.TheVariants.{Less, Equal, Greater}
+use Rattle.std.specs.Ordering.{is_eq}
+use Rattle.std.specs.List.{AllByRecursion, list_any}
+
+-- each key is below all later ones
+abbrev pub IsAscending : {K : Type 0} → (K → K → Ordering) → List K → Type 0
+IsAscending cmp [] = Unit {0}
+IsAscending cmp (x ∷ xs) = AllByRecursion (λ y. cmp x y ≡ Less) xs × IsAscending cmp xs
+
+-- whether a key is among the keys
+abbrev pub is_awaiting : {K : Type 0} → (K → K → Ordering) → K → List K → Bool
+is_awaiting cmp k keys = list_any (λ x. is_eq (cmp x k)) keys
+
+-- at the first of some keys: another key that comes after it, is it, or comes before it; `later` is the
+-- rest with that key
+abbrev pub marked_at : {K : Type 0} → Ordering → K → K → List K → List K → List K
+marked_at Less k x keys later = x ∷ later
+marked_at Equal k x keys later = x ∷ keys
+marked_at Greater k x keys later = k ∷ x ∷ keys
+
+-- the keys with one more, at its place in the order, where it isn't among them
+abbrev pub marked : {K : Type 0} → (K → K → Ordering) → K → List K → List K
+marked cmp k [] = k ∷ []
+marked cmp k (x ∷ keys) = marked_at (cmp x k) k x keys (marked cmp k keys)
+
+-- the keys with some more
+abbrev pub all_marked : {K : Type 0} → (K → K → Ordering) → List K → List K → List K
+all_marked cmp new keys = fold (λ ks k. marked cmp k ks) keys new
+
+-- the keys without one
+abbrev pub cleared : {K : Type 0} → (K → K → Ordering) → K → List K → List K
+cleared cmp k keys = filter (λ x. not (is_eq (cmp x k))) keys
+
+-- a key stands at a place, or would stand there
+pub record IsFoundAt {K : Type 0} (cmp : K → K → Ordering) (k : K) (keys : List K) (i : ℕ) : Type 0 where
+  pub within : i < length keys
+  pub present : is_awaiting cmp k keys ≡ true
+  pub same : marked cmp k keys ≡ keys
+  pub without : cleared cmp k keys ≡ take i keys ++ drop (suc i) keys
+
+pub record IsMissingAt {K : Type 0} (cmp : K → K → Ordering) (k : K) (keys : List K) (i : ℕ) : Type 0 where
+  pub within : i ≤ length keys
+  pub absent : is_awaiting cmp k keys ≡ false
+  pub more : marked cmp k keys ≡ take i keys ++ (k ∷ drop i keys)
+  pub without : cleared cmp k keys ≡ keys
+
+abbrev pub IsPlace : {K : Type 0} → (K → K → Ordering) → K → List K → Result ℕ ℕ → Type 0
+IsPlace cmp k keys (Ok i) = IsFoundAt cmp k keys i
+IsPlace cmp k keys (Err i) = IsMissingAt cmp k keys i

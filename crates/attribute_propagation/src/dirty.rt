@@ -1,0 +1,158 @@
+//! A set of keys that await settling.
+
+ghost use Rattle.std.specs.Prelude.{◌≡◌, ◌==◌, [], length, slice_get, IfOk, OnOk, OnErr};
+ghost use Rattle.attribute_propagation.specs.Dirty.{IsAscending, IsPlace, marked, all_marked, cleared, is_awaiting};
+
+use srp_base::NoMemory;
+use std::alloc::Global;
+use std::marker::Model;
+
+/// A set of keys that await settling. Contracts see the list of its keys, ascending strictly.
+#[derive(Drop)]
+pub struct Dirty<K: Copy + Ord> {
+    keys: Vec<K>,
+}
+
+impl<K: Copy + Ord> Model for Dirty<K> {
+    ghost use Rattle.std.specs.Prelude.{List};
+    ghost use Rattle.attribute_propagation.specs.Dirty.{IsAscending};
+
+    ghost Value = { List K };
+
+    ghost view = { λ d. d.keys.items };
+
+    ghost invariant = { λ d. IsAscending K.cmp d.keys.items };
+}
+
+impl<K: Copy + Ord> Dirty<K> {
+    /// The empty set. It takes no memory.
+    pub fn new(alloc: Global) -> Dirty<K>
+        ensures { result ≡ [] }
+    {
+        Dirty {
+            keys: Vec::new(alloc),
+        }
+    }
+
+    /// What every set keeps: its keys ascend strictly. It is a law, and does nothing.
+    pub fn ascends(&self)
+        ensures { IsAscending K.cmp self.now }
+    {
+        let _ = &self.keys;
+    }
+
+    /// Puts a key in. After want of memory the set is as it was.
+    pub fn mark(&mut self, key: K) -> Result<(), NoMemory>
+        ensures ok { OnOk result (self.new ≡ marked K.cmp key self.old) }
+        ensures err { OnErr result (self.new ≡ self.old) }
+    {
+        insert(&mut self.keys, key)
+    }
+
+    /// The set with these keys put in, apart from the set itself.
+    pub fn with_all(&self, keys: &[K]) -> Result<Dirty<K>, NoMemory>
+        ensures { IfOk result (λ d. d ≡ all_marked K.cmp keys.now self.now) }
+    {
+        let mut all = self.copy()?;
+        for key in keys {
+            all.mark(*key)?;
+        }
+        Ok(all)
+    }
+
+    /// Takes a key out, where it is in. It takes no memory.
+    pub fn clear(&mut self, key: K)
+        ensures { self.new ≡ cleared K.cmp key self.old }
+    {
+        remove(&mut self.keys, &key);
+    }
+
+    /// Whether a key is in.
+    pub fn awaits(&self, key: K) -> bool
+        ensures { result ≡ is_awaiting K.cmp key self.now }
+    {
+        is_in(self.keys.as_slice(), &key)
+    }
+
+    /// The number of keys.
+    pub fn len(&self) -> usize
+        ensures { result ≡ length self.now }
+    {
+        self.keys.len()
+    }
+
+    /// Whether no key is in.
+    pub fn is_empty(&self) -> bool
+        ensures { result ≡ (length self.now == 0) }
+    {
+        self.keys.is_empty()
+    }
+
+    /// The keys as a slice, ascending.
+    pub fn as_slice(&self) -> &[K]
+        ensures { result.now ≡ self.now }
+    {
+        self.keys.as_slice()
+    }
+
+    /// The key at a place, counted from 0 and ascending; None exactly where the index isn't below `len`.
+    pub fn key_at(&self, index: usize) -> Option<K>
+        ensures { result ≡ slice_get self.now index }
+    {
+        self.keys.as_slice().get(index).copied()
+    }
+
+    /// Another set with the same keys.
+    pub fn copy(&self) -> Result<Dirty<K>, NoMemory>
+        ensures { IfOk result (λ d. d ≡ self.now) }
+    {
+        let keys = Vec::from_slice(*self.keys.allocator(), self.keys.as_slice())?;
+        Ok(Dirty { keys })
+    }
+}
+
+// The place of a key, or the place at which it would stand.
+fn place<K: Copy + Ord>(keys: &[K], key: &K) -> Result<usize, usize>
+    requires { IsAscending K.cmp keys.now }
+    ensures { IsPlace K.cmp key.now keys.now result }
+{
+    keys.binary_search(key)
+}
+
+// Whether a key is in.
+fn is_in<K: Copy + Ord>(keys: &[K], key: &K) -> bool
+    requires { IsAscending K.cmp keys.now }
+    ensures { result ≡ is_awaiting K.cmp key.now keys.now }
+{
+    match place(keys, key) {
+        Ok(_) => true,
+        Err(_) => false,
+    }
+}
+
+// Puts a key in its place, where it isn't in.
+fn insert<K: Copy + Ord>(keys: &mut Vec<K>, key: K) -> Result<(), NoMemory>
+    requires { IsAscending K.cmp keys.old.items }
+    ensures ok { OnOk result (keys.new.items ≡ marked K.cmp key keys.old.items) }
+    ensures err { OnErr result (keys.new.items ≡ keys.old.items) }
+    ensures ascends { IsAscending K.cmp keys.new.items }
+{
+    match place(keys.as_slice(), &key) {
+        Ok(_) => Ok(()),
+        Err(at) => {
+            keys.insert(at, key)?;
+            Ok(())
+        }
+    }
+}
+
+// Takes a key out, where it is in.
+fn remove<K: Copy + Ord>(keys: &mut Vec<K>, key: &K)
+    requires { IsAscending K.cmp keys.old.items }
+    ensures without { keys.new.items ≡ cleared K.cmp key.now keys.old.items }
+    ensures ascends { IsAscending K.cmp keys.new.items }
+{
+    if let Ok(at) = place(keys.as_slice(), key) {
+        keys.remove(at);
+    }
+}

@@ -1,0 +1,25 @@
+//! How attributes get from one port of a node to its other ports (IEEE Std 802.1Q-2018, 10.3, 11.2):
+//! the keys that await settling, and the rule of a flat propagation.
+//!
+//! ```text
+//! a registration changes at one port --mark--> Dirty of each other port --settle--> declared or withdrawn
+//!
+//!        registered at   app  p1  p2  p3
+//! flat:                   -   yes  -   -      declared at p2 and p3, since p1 has it; not at p1
+//! ```
+//!
+//! A `Dirty` is a finite set of keys, which contracts see as the list of its keys, ascending strictly:
+//! `mark` puts a key in, `clear` takes one out. `flat_declares` is the rule of MAP for an attribute that
+//! goes everywhere: a port declares it exactly where another port, the application side included, has it
+//! registered.
+//!
+//! An application whose propagation isn't flat keeps its keys in a `Dirty` too, and brings a rule of its own.
+#![tactic(auto)]
+
+mod dirty;
+mod flat;
+#[cfg(test)]
+mod tests;
+
+pub use dirty::Dirty;
+pub use flat::flat_declares;
