@@ -1,9 +1,17 @@
+pub mod Comparing
 pub mod Finding
+pub mod Fitting
 pub mod Keeping
 pub mod Marking
+pub mod Moving
+pub mod Passing
 pub mod PerStream
 pub mod Ranking
+pub mod Rounds
 pub mod Running
 pub mod Shares
+pub mod Sinking
 pub mod Standing
 pub mod Taken
+pub mod TakingOut
+pub mod Unwanting

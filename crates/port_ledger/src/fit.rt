@@ -68,7 +68,7 @@ fn code_of(now: Cs, caps: &Caps, entries: &[Entry], x: &Entry) -> u8
 }
 
 /// Whether the slope, beside what is taken, stays at or under the cap.
-fn leaves_room(taken: u128, slope: u64, cap: u64) -> bool
+pub(crate) fn leaves_room(taken: u128, slope: u64, cap: u64) -> bool
     ensures { result ≡ nat_le (taken + slope) cap }
 {
     taken <= u128::from(cap) && u128::from(slope) <= u128::from(cap) - taken
@@ -97,7 +97,7 @@ fn above_of_rank_1(now: Cs, x: &Entry, entries: &[Entry]) -> u128
         .sum()
 }
 
-fn is_preceded_by(now: Cs, x: &Entry, y: &Entry) -> bool
+pub(crate) fn is_preceded_by(now: Cs, x: &Entry, y: &Entry) -> bool
     ensures { result ≡ is_preceded_by now.0 x.now y.now }
 {
     y.want.stream != x.want.stream && more_important(now, y, x)

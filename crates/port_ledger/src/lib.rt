@@ -28,6 +28,7 @@ mod entries;
 mod fit;
 pub mod laws;
 pub mod ledger;
+mod order;
 
 pub use changed::Changed;
 pub use laws::one_decision;

@@ -22,9 +22,9 @@ pub fn compare_importance(now: Cs, x: &Entry, y: &Entry) -> Ordering
     ensures { result ≡ compare_importance now.0 x.now y.now }
 {
     by_class(x, y)
-        .then(by_rank(x, y))
-        .then(by_age(now, x, y))
-        .then(x.want.stream.cmp(&y.want.stream))
+        .then_with(|| by_rank(x, y))
+        .then_with(|| by_age(now, x, y))
+        .then_with(|| x.want.stream.cmp(&y.want.stream))
 }
 
 fn by_class(x: &Entry, y: &Entry) -> Ordering
