@@ -1,5 +1,5 @@
 -- When two booked sets are the same, and what then is the same.
-use Rattle.std.proofs.Common.{◌≡◌, ◌↔◌, ℕ, ◌<◌, Bool, true, false, not, ◌||◌, ◌&&◌, cond, List, [], ◌∷◌, map, filter, refl, sym, ◌∙◌, ap, arith, inl, inr, true≢false}
+use Rattle.std.proofs.Common.{Result, Ok, Err, IfOk, ◌≡◌, ◌↔◌, ℕ, ◌<◌, Bool, true, false, not, ◌||◌, ◌&&◌, cond, List, [], ◌∷◌, map, filter, refl, sym, ◌∙◌, ap, subst, arith, inl, inr, true≢false}
 use Rattle.std.specs.List.{AllByRecursion, list_any}
 use Rattle.std.proofs.lemmas.Bool.{cases_Bool, or_left}
 use Rattle.stream_importance.specs.declared.entry.Entry.{Entry}
@@ -15,7 +15,7 @@ all_booked P [] h = tt
 all_booked P (x ∷ xs) h =
     elim (is_booked x) as (λ v. AllByRecursion P (cond v (x ∷ booked_of xs) (booked_of xs))) [ true ↦ (h.0, all_booked P xs h.1) | false ↦ all_booked P xs h.1 ]
 
-ascending-booked : (xs : List Entry) → IsAscending xs → IsAscending (booked_of xs)
+pub ascending-booked : (xs : List Entry) → IsAscending xs → IsAscending (booked_of xs)
 ascending-booked [] up = tt
 ascending-booked (x ∷ xs) up =
     elim (is_booked x) as (λ v. IsAscending (cond v (x ∷ booked_of xs) (booked_of xs))) [
@@ -164,3 +164,9 @@ nothing_changed before after up down = (
         sym (booked_only_in-booked these those)
         ∙ (ap (λ zs. booked_only_in zs (booked_of those)) e
         ∙ ap (map (λ (x : Entry). x.want.stream)) (none_missing (booked_of those) (booked_of those) (in_own (booked_of those))))
+
+-- what is answered as the bookings of an ascending list ascends
+pub bookings_ascend : {F : Type 0} (xs : List Entry) (r : Result (List Entry) F) → IfOk r (λ s. s ≡ booked_of xs) → IsAscending xs
+    → IfOk r (λ s. IsAscending s)
+bookings_ascend xs (Ok s) e up = subst (λ (ys : List Entry). IsAscending ys) (sym e) (ascending-booked xs up)
+bookings_ascend xs (Err f) e up = tt

@@ -163,8 +163,10 @@ impl Ledger {
 
     /// The booked entries, ascending by StreamID.
     pub fn bookings(&self) -> Result<Seq<Entry>, NoMemory>
-        ensures { IfOk result (λ s. s ≡ booked_of self.now.entries) }
+        ensures booked { IfOk result (λ s. s ≡ booked_of self.now.entries) }
+        ensures ascending { IfOk result (λ s. IsAscending s) }
     {
+        self.stands();
         bookings(*self.entries.allocator(), &self.entries)
     }
 
