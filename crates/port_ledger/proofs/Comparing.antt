@@ -43,7 +43,7 @@ found_booked x (y ∷ ys) h =
     ]
 
 -- what these have booked and those haven't, as a list of entries
-abbrev only_in : List Entry → List Entry → List Entry
+abbrev pub only_in : List Entry → List Entry → List Entry
 only_in these those = filter (λ x. is_booked x && not (list_any (same_entry x) those)) these
 
 only_in-booked : (these those : List Entry) → only_in (booked_of these) (booked_of those) ≡ only_in these those

@@ -129,26 +129,3 @@ pub others_differ : (x : Entry) (xs : List Entry) → AllByRecursion (λ y. stre
 others_differ x [] h = refl
 others_differ x (y ∷ ys) h =
     or_from (same_entry x y) (list_any (same_entry x) ys) (differ x y (λ e. let l : stream_of x < stream_of y = h.0 in omega (arith, e, l))) (others_differ x ys h.1)
-
-abbrev pub found_same : Entry → Option Entry → Bool
-found_same x None = false
-found_same x (Some y) = same_entry x y
-
-or-false : (a b : Bool) → b ≡ false → a ≡ (a || b)
-or-false true b h = refl
-or-false false b h = sym h
-
--- an entry is in an ascending list where it is the entry of its stream there
-pub has_entry_is : (x : Entry) (xs : List Entry) → IsAscending xs
-    → found_same x (entry_of xs x.want.stream) ≡ list_any (same_entry x) xs
-has_entry_is x [] up = refl
-has_entry_is x (y ∷ ys) up =
-    elim (cases_Bool (stream_of y == stream_of x)) [
-      | inl h ↦
-          (let e : stream_of y ≡ stream_of x = eqb-true (stream_of y) (stream_of x) h in
-          ap (λ b. found_same x (cond b (Some y) (entry_of ys x.want.stream))) h
-          ∙ or-false (same_entry x y) (list_any (same_entry x) ys) (others_differ x ys (subst (λ (s : ℕ). AllByRecursion (λ z. s < stream_of z) ys) e up.0)))
-      | inr h ↦
-          ap (λ b. found_same x (cond b (Some y) (entry_of ys x.want.stream))) h
-          ∙ (has_entry_is x ys up.1 ∙ ap (λ b. b || list_any (same_entry x) ys) (sym (differ x y (λ e. eqb-false (stream_of y) (stream_of x) h (sym e)))))
-    ]

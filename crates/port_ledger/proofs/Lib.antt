@@ -3,6 +3,7 @@ pub mod Finding
 pub mod Fitting
 pub mod Keeping
 pub mod Marking
+pub mod Merging
 pub mod Moving
 pub mod Passing
 pub mod PerStream

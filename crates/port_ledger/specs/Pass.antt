@@ -1,15 +1,16 @@
 -- How the code finds the decided set: it keeps the entries in the order of importance, puts them back into
--- that order at each decision, and goes through them once with a running sum. No public contract names it;
--- what is promised is the condition on a set in `Decision`.
-use Rattle.std.specs.Prelude.{◌≡◌, ℕ, ◌+◌, Bool, nat_le, List, [], ◌∷◌, ◌++◌, map, Option, if◌then◌else◌, ◌==◌}
+-- that order at each decision, and goes through them once with a running sum; and how it compares two lists
+-- in one walk. No public contract names it; what is promised is the condition on a set in `Decision`.
+use Rattle.std.specs.Prelude.{◌≡◌, ℕ, ◌+◌, Bool, false, not, ◌&&◌, nat_le, nat_lt, List, [], ◌∷◌, ◌++◌, map, Option, if◌then◌else◌, ◌==◌}
 use Rattle.std.specs.List.{AllByRecursion}
 use Rattle.srp_base.specs.declared.numbers.Cs.{Cs}
+use Rattle.srp_base.specs.declared.numbers.StreamId.{StreamId}
 use Rattle.stream_importance.specs.declared.entry.Entry.{Entry}
 use Rattle.stream_importance.specs.declared.entry.Want.{Want}
 use Rattle.stream_importance.specs.declared.slope.Caps.{Caps}
 use Rattle.stream_importance.specs.Bandwidth.{cap_of}
-use Rattle.port_ledger.specs.Decision.{stream_of, entry_slope, is_preceded_by, since_after}
-use Rattle.port_ledger.specs.Book.{entry_with, unbooked}
+use Rattle.port_ledger.specs.Decision.{stream_of, entry_slope, is_booked, is_preceded_by, since_after}
+use Rattle.port_ledger.specs.Book.{entry_with, same_entry, unbooked}
 
 -- an entry among entries in the order of importance: before the first that it precedes
 abbrev pub place : ℕ → Entry → List Entry → List Entry
@@ -65,3 +66,17 @@ rewanted entries want =
 -- the order once a want has come, of a stream that has an entry in it or is new and goes last
 abbrev pub order_with : List Entry → Want → Bool → List Entry
 order_with order want known = if known then rewanted order want else order ++ unbooked want ∷ []
+
+-- the entries from the first on that isn't below a stream
+abbrev pub from_stream : List Entry → StreamId → List Entry
+from_stream [] stream = []
+from_stream (x ∷ xs) stream = if nat_lt (stream_of x) stream.0 then from_stream xs stream else x ∷ xs
+
+-- an entry stands first
+abbrev pub begins_with : List Entry → Entry → Bool
+begins_with [] x = false
+begins_with (y ∷ ys) x = same_entry x y
+
+-- an entry is booked, and doesn't stand first
+abbrev pub is_missing : List Entry → Entry → Bool
+is_missing entries x = is_booked x && not (begins_with entries x)

@@ -9,7 +9,6 @@ ghost use Rattle.port_ledger.specs.Pass.{has_room, IsOnlyIn, passed, passed_in, 
 ghost use Rattle.stream_importance.specs.Bandwidth.{cap_of};
 
 use crate::entries::{entries_with, find_entry, place_of, take_out};
-use crate::fit::leaves_room;
 use crate::order::{order_with, rank};
 use srp_base::{Cs, NoMemory, StreamId};
 use std::alloc::Global;
@@ -84,7 +83,7 @@ fn pass(now: Cs, caps: &Caps, order: &mut [Entry], entries: &mut [Entry])
     ensures order { order.new ≡ passed now.0 caps.now 0 order.old }
     ensures entries { entries.new ≡ passed_in now.0 caps.now 0 order.old entries.old }
 {
-    let mut sum: u128 = 0;
+    let mut sum: u64 = 0;
     for x in order.iter_mut() {
         let let_in = has_room(caps, sum, x);
         let since = since_after(now, x.since, let_in);
@@ -94,22 +93,20 @@ fn pass(now: Cs, caps: &Caps, order: &mut [Entry], entries: &mut [Entry])
     }
 }
 
-fn has_room(caps: &Caps, sum: u128, x: &Entry) -> bool
+/// Whether an entry's slope, beside what is taken, stays at or under its cap.
+fn has_room(caps: &Caps, sum: u64, x: &Entry) -> bool
     ensures { result ≡ has_room caps.now sum x.now }
 {
-    leaves_room(sum, x.want.slope, caps.of(x.want.class))
+    let cap = caps.of(x.want.class);
+    sum <= cap && x.want.slope <= cap - sum
 }
 
-fn sum_with(caps: &Caps, sum: u128, x: &Entry, let_in: bool) -> u128
+fn sum_with(caps: &Caps, sum: u64, x: &Entry, let_in: bool) -> u64
     requires { let_in ≡ true → sum + x.now.want.slope ≤ cap_of caps.now x.now.want.class }
     ensures { result ≡ sum_with sum x.now let_in }
 {
     let _cap = caps.of(x.want.class);
-    if let_in {
-        sum + u128::from(x.want.slope)
-    } else {
-        sum
-    }
+    if let_in { sum + x.want.slope } else { sum }
 }
 
 fn since_after(now: Cs, since: Option<Cs>, booked: bool) -> Option<Cs>

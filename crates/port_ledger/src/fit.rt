@@ -68,7 +68,7 @@ fn code_of(now: Cs, caps: &Caps, entries: &[Entry], x: &Entry) -> u8
 }
 
 /// Whether the slope, beside what is taken, stays at or under the cap.
-pub(crate) fn leaves_room(taken: u128, slope: u64, cap: u64) -> bool
+fn leaves_room(taken: u128, slope: u64, cap: u64) -> bool
     ensures { result ≡ nat_le (taken + slope) cap }
 {
     taken <= u128::from(cap) && u128::from(slope) <= u128::from(cap) - taken
