@@ -40,7 +40,7 @@ mod vectors;
 mod writable;
 
 pub use decoding::{decode, one_reading, reading_is_the_grammar};
-pub use encoding::{encode, written_is_read};
+pub use encoding::{encode, put_vector, written_is_read};
 pub use error::DecodeErr;
 pub use form::{AppForm, TypeForm};
 pub use pdu::{Message, Pdu, VectorAttr};
