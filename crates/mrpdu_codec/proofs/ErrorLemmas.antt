@@ -8,10 +8,11 @@ use Rattle.mrpdu_codec.specs.declared.error.ReadErr.TheVariants as errors
 use Rattle.mrpdu_codec.specs.declared.form.AppForm.{AppForm}
 use Rattle.mrpdu_codec.specs.declared.form.TypeForm.{TypeForm}
 use Rattle.mrpdu_codec.specs.declared.pdu.Pdu.{Pdu}
-use Rattle.mrpdu_codec.specs.Workers.{IsWithin, behind, placed}
-use Rattle.mrpdu_codec.specs.Reading.{Answers}
+use Rattle.mrpdu_codec.specs.Raw.{pdu_in}
+use Rattle.mrpdu_codec.specs.ReadErr.{IsWithin, behind, placed}
+use Rattle.mrpdu_codec.specs.Reading.{AnswersAs}
 use Rattle.mrpdu_codec.specs.Grammar.{Spells, Breaks}
-use Rattle.mrpdu_codec.specs.Workers.{Fails}
+use Rattle.mrpdu_codec.specs.ReadErr.{Fails}
 use Rattle.mrpdu_codec.specs.Reading.{region_at, known_at, pdu_at, placed_in, reading}
 use Rattle.mrpdu_codec.proofs.ReadRegions.{region_left}
 use Rattle.mrpdu_codec.proofs.ReadMessages.{reading_holds}
@@ -32,15 +33,8 @@ pub pdu_within : (e : ReadErr) (form : AppForm) (octets : List ℕ) → Fails e 
 pdu_within errors.NoMemory form octets h = tt
 pdu_within (errors.Left left) form octets h = (MatchResult-at_err _ (λ n. (n ≤ length octets) × Breaks form octets (length octets - n)) left h (reading_holds form octets)).0
 
-pub pdu_spelled : (form : AppForm) (octets : List ℕ) (pdu : Pdu) → pdu_at form octets ≡ Ok pdu → Spells form octets pdu
+pdu_spelled : (form : AppForm) (octets : List ℕ) (pdu : Pdu) → pdu_at form octets ≡ Ok pdu → Spells form octets pdu
 pdu_spelled form octets pdu h = MatchResult-at_ok (λ p. Spells form octets p) _ pdu h (reading_holds form octets)
-
-pub pdu_broken : (e : ReadErr) (form : AppForm) (octets : List ℕ) (place : ℕ) → Fails e (pdu_at form octets) → placed e (length octets) ≡ decode_errors.Malformed place → Breaks form octets place
-pdu_broken errors.NoMemory form octets place h k = absurd cc
-pdu_broken (errors.Left left) form octets place h k =
-    let b = MatchResult-at_err _ (λ n. (n ≤ length octets) × Breaks form octets (length octets - n)) left h (reading_holds form octets) in
-    let e : length octets - left ≡ place = cc in
-    subst (λ (n : ℕ). Breaks form octets n) e b.1
 
 -- ---- the reading as a function
 
@@ -48,7 +42,7 @@ pub reading_ok : (form : AppForm) (octets : List ℕ) (pdu : Pdu) → pdu_at for
 unfolding reading
 reading_ok form octets pdu h = ap (placed_in (length octets)) h
 
-pub reading_err : (form : AppForm) (octets : List ℕ) (left : ℕ) → pdu_at form octets ≡ Err left → reading form octets ≡ Err (length octets - left)
+reading_err : (form : AppForm) (octets : List ℕ) (left : ℕ) → pdu_at form octets ≡ Err left → reading form octets ≡ Err (length octets - left)
 unfolding reading
 reading_err form octets left h = ap (placed_in (length octets)) h
 
@@ -79,6 +73,14 @@ breaks_reading form octets place b =
     let k : length octets - r.0 ≡ place = omega (arith, r.2) in
     reading_err form octets r.0 r.1 ∙ ap (λ (n : ℕ). let e : Result Pdu ℕ = Err n in e) k
 
-pub answers_err : (e : ReadErr) (form : AppForm) (octets : List ℕ) (answer : DecodeErr) → Fails e (pdu_at form octets) → answer ≡ placed e (length octets) → Answers (let r : Result Pdu DecodeErr = Err answer in r) (reading form octets)
+-- ---- what `decode_in_place` answers
+
+pub answers_err : (e : ReadErr) (form : AppForm) (octets : List ℕ) (answer : DecodeErr) → Fails e (pdu_at form octets) → answer ≡ placed e (length octets) → AnswersAs pdu_in (Err answer) (reading form octets)
 answers_err errors.NoMemory form octets answer h k = rw k tt
 answers_err (errors.Left left) form octets answer h k = rw k (reading_err form octets left h)
+
+pub answered_broken : (e : DecodeErr) (form : AppForm) (octets : List ℕ) (place : ℕ) → AnswersAs pdu_in (Err e) (reading form octets) → e ≡ decode_errors.Malformed place → Breaks form octets place
+answered_broken decode_errors.NoMemory form octets place h k = absurd cc
+answered_broken (decode_errors.Malformed n) form octets place h k =
+    let e : n ≡ place = cc in
+    subst (λ (i : ℕ). Breaks form octets i) e (reading_breaks form octets n h)

@@ -14,3 +14,4 @@ pub mod Sizes
 pub mod Reread
 pub mod Formed
 pub mod Longer
+pub mod Kept

@@ -32,6 +32,7 @@
 mod decoding;
 mod encoding;
 mod error;
+mod fields;
 mod form;
 mod messages;
 mod pdu;
@@ -39,11 +40,12 @@ mod raw;
 mod vectors;
 mod writable;
 
-pub use decoding::{decode, one_reading, reading_is_the_grammar};
+pub use decoding::{decode, decode_in_place, one_reading, reading_is_the_grammar};
 pub use encoding::{encode, put_vector, written_is_read};
 pub use error::DecodeErr;
 pub use form::{AppForm, TypeForm};
 pub use pdu::{Message, Pdu, VectorAttr};
+pub use raw::{RawMessage, RawPdu, RawVector};
 pub use writable::{size_of, well_formed, written_size};
 
 #[cfg(test)]

@@ -1,30 +1,21 @@
-use Rattle.std.proofs.Common.{◌≡◌, sym, subst, ◌∙◌}
+use Rattle.std.proofs.Common.{◌≡◌}
+use Rattle.std.proofs.lemmas.Result.{err_from_is_err_and}
 use Rattle.mrpdu_codec.specs.declared.error.DecodeErr.TheVariants.{Malformed}
-use Rattle.mrpdu_codec.specs.declared.pdu.Pdu.{Pdu}
-use Rattle.mrpdu_codec.specs.Grammar.{Spells}
-use Rattle.mrpdu_codec.proofs.ErrorLemmas.{pdu_within, pdu_spelled, pdu_broken, reading_ok, answers_err}
+use Rattle.mrpdu_codec.proofs.ErrorLemmas.{reading_spells, answered_broken}
 use Rattle.mrpdu_codec.proofs.Formed.{pdu_formed}
 use Rattle.mrpdu_codec.proofs.decoding.decode.Goals as goal
 
-pub placed-requires-clause-within : goal.placed-requires-clause-within
-placed-requires-clause-within c = pdu_within c.in-Err.error c.args.form c.args.octets.now c.in-Err.ensures
+pub returns-in_err-raw-clause-broken : goal.returns-in_err-raw-clause-broken
+returns-in_err-raw-clause-broken c = λ place e.
+    let p = err_from_is_err_and c.from_residual.result c.from_residual.ensures.1 in
+    let same : c.in_err-raw.field-0.0 ≡ Malformed place = cc in
+    answered_broken c.in_err-raw.field-0.0 c.args.form c.args.octets.now place c.in_err-raw.ensures same
 
-pub returns-in-Ok-clause-spelled : goal.returns-in-Ok-clause-spelled
-returns-in-Ok-clause-spelled c = λ pdu e.
-    let same : c.in-Ok.pdu ≡ pdu = cc in
-    subst (λ (p : Pdu). Spells c.args.form c.args.octets.now p) same (pdu_spelled c.args.form c.args.octets.now c.in-Ok.pdu c.in-Ok.ensures)
+pub returns-clause-spelled : goal.returns-clause-spelled
+returns-clause-spelled c = λ pdu e.
+    let same : c.in_ok-pdu.pdu ≡ pdu = cc in
+    reading_spells c.args.form c.args.octets.now pdu (rw (← same, c.in_ok-pdu.ensures) c.in_ok-raw.ensures)
 
-pub returns-in-Err-clause-broken : goal.returns-in-Err-clause-broken
-returns-in-Err-clause-broken c = λ place e.
-    let same : c.placed.result ≡ Malformed place = cc in
-    pdu_broken c.in-Err.error c.args.form c.args.octets.now place c.in-Err.ensures (sym c.placed.ensures ∙ same)
-
-pub returns-in-Ok-clause-exact : goal.returns-in-Ok-clause-exact
-returns-in-Ok-clause-exact c = reading_ok c.args.form c.args.octets.now c.in-Ok.pdu c.in-Ok.ensures
-
-pub returns-in-Err-clause-exact : goal.returns-in-Err-clause-exact
-returns-in-Err-clause-exact c = answers_err c.in-Err.error c.args.form c.args.octets.now c.placed.result c.in-Err.ensures c.placed.ensures
-
-pub returns-in-Ok-clause-formed : goal.returns-in-Ok-clause-formed
-returns-in-Ok-clause-formed c =
-    pdu_formed c.args.form c.args.octets.now c.in-Ok.pdu (pdu_spelled c.args.form c.args.octets.now c.in-Ok.pdu c.in-Ok.ensures)
+pub returns-clause-formed : goal.returns-clause-formed
+returns-clause-formed c =
+    rw c.in_ok-pdu.ensures (pdu_formed c.args.form c.args.octets.now _ (reading_spells c.args.form c.args.octets.now _ c.in_ok-raw.ensures))
