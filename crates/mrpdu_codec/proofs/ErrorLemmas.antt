@@ -33,8 +33,15 @@ pub pdu_within : (e : ReadErr) (form : AppForm) (octets : List ℕ) → Fails e 
 pdu_within errors.NoMemory form octets h = tt
 pdu_within (errors.Left left) form octets h = (MatchResult-at_err _ (λ n. (n ≤ length octets) × Breaks form octets (length octets - n)) left h (reading_holds form octets)).0
 
-pdu_spelled : (form : AppForm) (octets : List ℕ) (pdu : Pdu) → pdu_at form octets ≡ Ok pdu → Spells form octets pdu
+pub pdu_spelled : (form : AppForm) (octets : List ℕ) (pdu : Pdu) → pdu_at form octets ≡ Ok pdu → Spells form octets pdu
 pdu_spelled form octets pdu h = MatchResult-at_ok (λ p. Spells form octets p) _ pdu h (reading_holds form octets)
+
+pub pdu_broken : (e : ReadErr) (form : AppForm) (octets : List ℕ) (place : ℕ) → Fails e (pdu_at form octets) → placed e (length octets) ≡ decode_errors.Malformed place → Breaks form octets place
+pdu_broken errors.NoMemory form octets place h k = absurd cc
+pdu_broken (errors.Left left) form octets place h k =
+    let b = MatchResult-at_err _ (λ n. (n ≤ length octets) × Breaks form octets (length octets - n)) left h (reading_holds form octets) in
+    let e : length octets - left ≡ place = cc in
+    subst (λ (n : ℕ). Breaks form octets n) e b.1
 
 -- ---- the reading as a function
 
@@ -78,9 +85,3 @@ breaks_reading form octets place b =
 pub answers_err : (e : ReadErr) (form : AppForm) (octets : List ℕ) (answer : DecodeErr) → Fails e (pdu_at form octets) → answer ≡ placed e (length octets) → AnswersAs pdu_in (Err answer) (reading form octets)
 answers_err errors.NoMemory form octets answer h k = rw k tt
 answers_err (errors.Left left) form octets answer h k = rw k (reading_err form octets left h)
-
-pub answered_broken : (e : DecodeErr) (form : AppForm) (octets : List ℕ) (place : ℕ) → AnswersAs pdu_in (Err e) (reading form octets) → e ≡ decode_errors.Malformed place → Breaks form octets place
-answered_broken decode_errors.NoMemory form octets place h k = absurd cc
-answered_broken (decode_errors.Malformed n) form octets place h k =
-    let e : n ≡ place = cc in
-    subst (λ (i : ℕ). Breaks form octets i) e (reading_breaks form octets n h)

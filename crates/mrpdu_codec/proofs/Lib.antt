@@ -15,3 +15,4 @@ pub mod Reread
 pub mod Formed
 pub mod Longer
 pub mod Kept
+pub mod RawLemmas

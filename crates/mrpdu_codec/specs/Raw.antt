@@ -1,5 +1,5 @@
 -- What a PDU says that was read in place, without where its fields lie in memory.
-use Rattle.std.specs.Prelude.{List, [], ◌∷◌, map, Option, Some, None}
+use Rattle.std.specs.Prelude.{Bool, List, [], ◌∷◌, map, Option, Some, None}
 use Rattle.mrpdu_codec.specs.declared.pdu.VectorAttr.{VectorAttr}
 use Rattle.mrpdu_codec.specs.declared.pdu.Message.{Message}
 use Rattle.mrpdu_codec.specs.declared.pdu.Pdu.{Pdu}
@@ -21,6 +21,10 @@ vector_in raw = record {
 -- what it says
 abbrev pub attr_in : RawVector → VectorAttr
 attr_in raw = attr_of (vector_in raw)
+
+-- whether it has a LeaveAllEvent
+abbrev pub leaves_in_place : RawVector → Bool
+leaves_in_place raw = (attr_in raw).leave_all
 
 -- what vectors say
 abbrev pub attrs_in : List RawVector → List VectorAttr

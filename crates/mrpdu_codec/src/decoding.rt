@@ -4,6 +4,7 @@ ghost use Rattle.std.specs.Prelude.{◌≡◌, ◌⊎◌, ◌↔◌, ◌<◌, �
 ghost use Rattle.std.specs.List.{list_all};
 ghost use Rattle.mrpdu_codec.specs.declared.form.AppForm.{AppForm};
 ghost use Rattle.mrpdu_codec.specs.declared.pdu.Pdu.{Pdu};
+ghost use Rattle.mrpdu_codec.specs.declared.raw.RawPdu.{RawPdu};
 ghost use Rattle.mrpdu_codec.specs.Grammar.{Spells, Breaks};
 ghost use Rattle.mrpdu_codec.specs.Raw.{pdu_in};
 ghost use Rattle.mrpdu_codec.specs.ReadErr.{Gives};
@@ -67,7 +68,16 @@ fn pdu(alloc: Global, form: AppForm, octets: &[u8]) -> Result<RawPdu<'_>, ReadEr
 /// octets are too short for. `NoMemory` comes where memory for the lists of Messages and vectors runs out.
 pub fn decode_in_place(alloc: Global, form: AppForm, octets: &[u8]) -> Result<RawPdu<'_>, DecodeErr>
     requires { length octets.now < 2 ^ 32 }
-    ensures { AnswersAs pdu_in result (reading form octets.now) }
+
+    // What it answers holds.
+    ensures spelled { (raw : RawPdu) → result ≡ Ok raw → Spells form octets.now (pdu_in raw) }
+    ensures broken { (place : ℕ) → result ≡ Err (DecodeErr.Malformed place) → Breaks form octets.now place }
+
+    // Want of memory alone is free, as in `decode`.
+    ensures exact { AnswersAs pdu_in result (reading form octets.now) }
+
+    // Each Message has a type that the application knows, and vectors of the type's form.
+    ensures formed { IfOk result (λ raw. IsTrue (list_all (has_form form) (pdu_in raw).messages)) }
 {
     match pdu(alloc, form, octets) {
         Ok(raw) => Ok(raw),

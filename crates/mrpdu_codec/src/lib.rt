@@ -45,7 +45,7 @@ pub use encoding::{encode, put_vector, written_is_read};
 pub use error::DecodeErr;
 pub use form::{AppForm, TypeForm};
 pub use pdu::{Message, Pdu, VectorAttr};
-pub use raw::{RawMessage, RawPdu, RawVector};
+pub use raw::{RawMessage, RawPdu, RawVector, events_in};
 pub use writable::{size_of, well_formed, written_size};
 
 #[cfg(test)]

@@ -1,9 +1,9 @@
 //! A PDU in place: what was read of it, with the fields of its vectors borrowed from the octets.
 
 ghost use Rattle.std.specs.Prelude.{◌≡◌, ◌≤◌, ◌++◌, ◌∷◌, [], length, take, map, IfOk, OnOk};
-ghost use Rattle.std.specs.List.{flat_map};
+ghost use Rattle.std.specs.List.{flat_map, list_any};
 ghost use Rattle.mrpdu_codec.specs.Octets.{event_of, three_events, four_params};
-ghost use Rattle.mrpdu_codec.specs.Raw.{attr_in, attrs_in, message_in};
+ghost use Rattle.mrpdu_codec.specs.Raw.{attr_in, attrs_in, message_in, leaves_in_place};
 
 use crate::fields::{count, number};
 use crate::pdu::{Message, Pdu, VectorAttr};
@@ -74,6 +74,17 @@ fn event_of(number: u8) -> MrpEvent
         4 => MrpEvent::OnlyMt,
         _ => MrpEvent::Lv,
     }
+}
+
+/// The three events of an octet of ThreePackedEvents (IEEE Std 802.1Q-2018, 10.8.2.10.1).
+pub fn events_in(octet: u8) -> [MrpEvent; 3]
+    ensures { result ≡ three_events octet }
+{
+    [
+        event_of(octet / 36),
+        event_of(octet / 6 % 6),
+        event_of(octet % 6),
+    ]
 }
 
 /// Puts an item at the end of a list that has fewer than n.
@@ -184,8 +195,32 @@ fn messages_of(alloc: Global, raws: &[RawMessage<'_>]) -> Result<Vec<Message>, A
     Ok(messages)
 }
 
+/// Whether a vector has a LeaveAllEvent.
+fn any_leaves(raws: &[RawVector<'_>]) -> bool
+    ensures { result ≡ list_any leaves_in_place raws.now }
+{
+    raws.iter().any(|v| v.leave_all())
+}
+
+/// Whether a Message has a LeaveAllEvent.
+fn any_message_leaves(raws: &[RawMessage<'_>]) -> bool
+    ensures { result ≡ list_any (λ m. list_any leaves_in_place m.vectors.items) raws.now }
+{
+    raws.iter().any(|m| any_leaves(&m.vectors))
+}
+
 impl RawPdu<'_> {
+    ghost use Rattle.mrpdu_codec.specs.Shape.{has_leave_all};
     ghost use Rattle.mrpdu_codec.specs.Raw.{pdu_in};
+
+    /// Whether a vector of any Message has a LeaveAllEvent, which then counts for all attributes of the
+    /// application, and acts before all attribute events (IEEE Std 802.1Q-2018, 10.8.2).
+    #[tactic(auto, using(crate::proofs::RawLemmas::leaves_meant))]
+    pub fn has_leave_all(&self) -> bool
+        ensures { result ≡ has_leave_all (pdu_in self.now) }
+    {
+        any_message_leaves(&self.messages)
+    }
 
     /// What the PDU says, in memory of its own.
     ///

@@ -8,7 +8,6 @@ use Rattle.srp_base.specs.declared.mrp.MrpEvent.{MrpEvent}
 use Rattle.mrpdu_codec.specs.declared.form.AppForm.TheVariants.{Mvrp}
 use Rattle.mrpdu_codec.specs.declared.form.TypeForm.{TypeForm}
 use Rattle.mrpdu_codec.specs.declared.pdu.VectorAttr.{VectorAttr}
-use Rattle.mrpdu_codec.specs.declared.pdu.Pdu.{Pdu}
 use Rattle.mrpdu_codec.specs.Octets.{number}
 use Rattle.mrpdu_codec.specs.Tree.{vectors_octets}
 use Rattle.mrpdu_codec.specs.Shape.{vector_fits}

@@ -1,4 +1,4 @@
-use Rattle.std.proofs.Common.{◌≡◌, ◌<◌, ◌≤◌, length, map, drop, ap, sym, ◌∙◌, arith, length-drop}
+use Rattle.std.proofs.Common.{◌<◌, length, drop, ap, ◌∙◌, arith, length-drop}
 use Rattle.mvrp_codec.proofs.RunLemmas.{octets_go_on, vids_join}
 use Rattle.std.proofs.lemmas.List.{drop-map}
 use Rattle.mvrp_codec.proofs.writing.put_runs.Goals as goal
