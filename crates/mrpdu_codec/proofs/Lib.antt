@@ -16,3 +16,4 @@ pub mod Formed
 pub mod Longer
 pub mod Kept
 pub mod RawLemmas
+pub mod NumberLemmas

@@ -9,14 +9,8 @@ ghost use Rattle.mrpdu_codec.specs.Raw.{vector_in};
 
 use crate::error::ReadErr;
 use crate::form::TypeForm;
+use crate::numbers::number;
 use crate::raw::RawVector;
-
-/// The number in two octets, the high one first.
-pub(crate) fn number(high: u8, low: u8) -> u16
-    ensures { result ≡ number high low }
-{
-    256 * u16::from(high) + u16::from(low)
-}
 
 /// NumberOfValues of a header.
 pub(crate) fn count(high: u8, low: u8) -> usize

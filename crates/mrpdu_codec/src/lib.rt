@@ -35,6 +35,7 @@ mod error;
 mod fields;
 mod form;
 mod messages;
+mod numbers;
 mod pdu;
 mod raw;
 mod vectors;
@@ -44,9 +45,10 @@ pub use decoding::{decode, decode_in_place, one_reading, reading_is_the_grammar}
 pub use encoding::{encode, put_vector, written_is_read};
 pub use error::DecodeErr;
 pub use form::{AppForm, TypeForm};
+pub use numbers::{number_in, numbers_are_read_back, put_number};
 pub use pdu::{Message, Pdu, VectorAttr};
 pub use raw::{RawMessage, RawPdu, RawVector, events_in};
-pub use writable::{size_of, well_formed, written_size};
+pub use writable::{size_of, well_formed, written_list_size, written_size};
 
 #[cfg(test)]
 mod tests;

@@ -7,8 +7,8 @@ ghost use Rattle.mrpdu_codec.specs.ReadErr.{Gives};
 ghost use Rattle.mrpdu_codec.specs.Reading.{kept, region_at, known_at, skip_at, size_at, sized_at, counted_at, body_at, length_at, message_at, type_at, end_at, messages_of};
 
 use crate::error::ReadErr;
-use crate::fields::number;
 use crate::form::{AppForm, TypeForm};
+use crate::numbers::number;
 use crate::raw::{RawMessage, RawVector};
 use crate::vectors::{list, mark, vectors};
 use std::alloc::{AllocError, Global};
