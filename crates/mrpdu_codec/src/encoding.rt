@@ -1,16 +1,13 @@
 //! A PDU written as octets.
 
-ghost use Rattle.std.specs.Prelude.{◌≡◌, ◌++◌, ◌∷◌, [], ◌≤◌, ◌<◌, ◌+◌, ◌^◌, length, drop, map, nat_le, if◌then◌else◌, IsTrue, IfOk, OnOk, OnErr, Ok};
-ghost use Rattle.mrpdu_codec.specs.Reading.{reading};
+ghost use Rattle.std.specs.Prelude.{◌≡◌, ◌++◌, ◌∷◌, [], ◌≤◌, ◌<◌, ◌+◌, length, drop, map, nat_le, if◌then◌else◌, IsTrue, IfOk, OnOk, OnErr};
 ghost use Rattle.std.specs.List.{list_all, AllByRecursion};
-ghost use Rattle.mrpdu_codec.specs.declared.form.AppForm.{AppForm};
-ghost use Rattle.mrpdu_codec.specs.declared.pdu.Pdu.{Pdu};
 ghost use Rattle.mrpdu_codec.specs.Types.{row_of};
 ghost use Rattle.mrpdu_codec.specs.Grammar.{Spells};
 ghost use Rattle.srp_base.specs.declared.mrp.MrpEvent.TheVariants.{New};
 ghost use Rattle.mrpdu_codec.specs.Octets.{number_of};
-ghost use Rattle.mrpdu_codec.specs.Tree.{vector_octets, vectors_octets, message_octets, messages_octets};
-ghost use Rattle.mrpdu_codec.specs.Canonical.{two_octets, three, pack_events, four, pack_params, vector_for, vectors_for, message_for, spelling, well_formed, message_fits, list_length_for, list_fits, length_for, octets_for, CanPut};
+ghost use Rattle.mrpdu_codec.specs.Tree.{vectors_octets, message_octets, messages_octets};
+ghost use Rattle.mrpdu_codec.specs.Canonical.{three, pack_events, four, pack_params, vectors_for, message_for, spelling, well_formed, message_fits, list_length_for, list_fits, length_for, octets_for, CanPut};
 
 use crate::form::AppForm;
 use crate::numbers::put_two;
@@ -239,9 +236,3 @@ pub fn encode(form: AppForm, pdu: &Pdu, out: &mut Vec<u8>) -> Result<(), NoMemor
     out.extend_from_slice(&octets)?;
     Ok(())
 }
-
-/// The round trip: the octets in which a PDU is written spell that PDU, and are read as it.
-pub fn written_is_read()
-    ensures spelled { (form : AppForm) (pdu : Pdu) → IsTrue (well_formed form pdu) → Spells form (spelling form pdu) pdu }
-    ensures read { (form : AppForm) (pdu : Pdu) → IsTrue (well_formed form pdu) → reading form (spelling form pdu) ≡ Ok pdu }
-{}

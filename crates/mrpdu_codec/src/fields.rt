@@ -1,8 +1,8 @@
 //! The fields of a vector, read one after another. Nothing here takes memory.
 
-ghost use Rattle.std.specs.Prelude.{◌≡◌, ◌+◌, ◌*◌, ◌/◌, ◌%◌, ◌<◌};
+ghost use Rattle.std.specs.Prelude.{◌≡◌, ◌*◌, ◌/◌, ◌%◌, ◌<◌};
 ghost use Rattle.mrpdu_codec.specs.Octets.{number, thirds, quarters};
-ghost use Rattle.mrpdu_codec.specs.Tree.{packed_limit, leave_all_limit, fours_for, header_fits};
+ghost use Rattle.mrpdu_codec.specs.Tree.{packed_limit, leave_all_limit, fours_for};
 ghost use Rattle.mrpdu_codec.specs.ReadErr.{Gives};
 ghost use Rattle.mrpdu_codec.specs.Reading.{run_at, header_at, first_at, vector_at, ends_list};
 ghost use Rattle.mrpdu_codec.specs.Raw.{vector_in};

@@ -1,6 +1,6 @@
 //! Numbers in octets, the high one first.
 
-ghost use Rattle.std.specs.Prelude.{◌≡◌, ◌++◌, ◌∷◌, [], ◌≤◌, ◌<◌, ◌^◌, ℕ, length, OnOk, OnErr};
+ghost use Rattle.std.specs.Prelude.{◌≡◌, ◌++◌, ◌≤◌, ◌<◌, ◌^◌, length, OnOk, OnErr};
 ghost use Rattle.std.specs.Int.{bytes_high_first};
 ghost use Rattle.srp_base.specs.Hexadecimal.{number_of};
 ghost use Rattle.mrpdu_codec.specs.Octets.{number};
@@ -54,12 +54,3 @@ pub fn put_number(out: &mut Vec<u8>, number: u64, n: usize) -> Result<(), NoMemo
     out.extend_from_slice(low)?;
     Ok(())
 }
-
-/// The law of the numbers: those that fit in n octets are read from what is written of them, and two
-/// octets are as any others.
-pub fn numbers_are_read_back()
-    ensures read { (n number : ℕ) → number < 256 ^ n → number_of (bytes_high_first n number) ≡ number }
-    ensures length { (n number : ℕ) → length (bytes_high_first n number) ≡ n }
-    ensures pair { (high low : ℕ) → number_of (high ∷ low ∷ []) ≡ number high low }
-    ensures two { (number : ℕ) → number < 65536 → bytes_high_first 2 number ≡ two_octets number }
-{}

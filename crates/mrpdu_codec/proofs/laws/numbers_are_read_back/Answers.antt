@@ -1,6 +1,6 @@
 use Rattle.std.proofs.Common.{arith}
 use Rattle.mrpdu_codec.proofs.NumberLemmas.{read_back, bytes_length, two_bytes}
-use Rattle.mrpdu_codec.proofs.numbers.numbers_are_read_back.Goals as goal
+use Rattle.mrpdu_codec.proofs.laws.numbers_are_read_back.Goals as goal
 
 pub returns-clause-read : goal.returns-clause-read
 returns-clause-read c = λ n number fits. read_back n number fits
