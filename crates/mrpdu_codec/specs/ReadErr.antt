@@ -1,9 +1,11 @@
--- What the readers of fields answer: a value as the reading has it, or how many octets were left.
-use Rattle.std.specs.Prelude.{◌≡◌, ℕ, ◌+◌, ◌-◌, ◌≤◌, Result, Ok, Err}
+-- What the private readers answer: a value as the reading has it, or how many octets were left.
+use Rattle.std.specs.Prelude.{◌≡◌, ℕ, ◌+◌, ◌-◌, ◌≤◌, List, [], ◌∷◌, Option, Some, None, Result, Ok, Err}
 use Rattle.mrpdu_codec.specs.declared.error.DecodeErr.{DecodeErr}
 use Rattle.mrpdu_codec.specs.declared.error.DecodeErr.TheVariants as decode_errors
 use Rattle.mrpdu_codec.specs.declared.error.ReadErr.{ReadErr}
 use Rattle.mrpdu_codec.specs.declared.error.ReadErr.TheVariants as errors
+use Rattle.mrpdu_codec.specs.declared.form.TypeForm.{TypeForm}
+use Rattle.mrpdu_codec.specs.declared.pdu.VectorAttr.{VectorAttr}
 
 -- an error is the reading's, unless memory ran out
 abbrev pub Fails : {Y : Type 0} → ReadErr → Result Y ℕ → Type 0
@@ -29,3 +31,16 @@ behind errors.NoMemory n = errors.NoMemory
 abbrev pub placed : ReadErr → ℕ → DecodeErr
 placed (errors.Left left) all = decode_errors.Malformed (all - left)
 placed errors.NoMemory all = decode_errors.NoMemory
+
+-- ---- What is kept of lists of vectors
+
+-- of what was read, what is kept: nothing of a type that its application doesn't know
+abbrev pub kept : Option TypeForm → Result (List VectorAttr × List ℕ) ℕ → Result (List VectorAttr × List ℕ) ℕ
+kept row (Err left) = Err left
+kept None (Ok x) = Ok ([], x.1)
+kept (Some t) (Ok x) = Ok x
+
+-- of a vector's attribute, what is kept
+abbrev pub kept_attr : Option TypeForm → VectorAttr → List VectorAttr
+kept_attr None attr = []
+kept_attr (Some t) attr = attr ∷ []

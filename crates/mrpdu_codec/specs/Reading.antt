@@ -19,17 +19,6 @@ abbrev pub ◌>>=◌ : {A B : Type 0} → Result A ℕ → (A → Result B ℕ) 
 (Ok x) >>= f = f x
 (Err left) >>= f = Err left
 
--- of what was read, what is kept: nothing of a type that its application doesn't know
-abbrev pub kept : Option TypeForm → Result (List VectorAttr × List ℕ) ℕ → Result (List VectorAttr × List ℕ) ℕ
-kept row (Err left) = Err left
-kept None (Ok x) = Ok ([], x.1)
-kept (Some t) (Ok x) = Ok x
-
--- of a vector's attribute, what is kept
-abbrev pub kept_attr : Option TypeForm → VectorAttr → List VectorAttr
-kept_attr None attr = []
-kept_attr (Some t) attr = attr ∷ []
-
 -- n octets, each at most limit and each a field of its own
 unfoldable pub run_at : ℕ → ℕ → List ℕ → Result (List ℕ × List ℕ) ℕ
 run_at limit zero octets = Ok ([], octets)

@@ -3,8 +3,8 @@
 ghost use Rattle.std.specs.Prelude.{◌≡◌, ◌<◌, ◌++◌, ◌+◌, [], length, take, drop, map, IfOk, OnOk, Some, None, option_map};
 ghost use Rattle.mrpdu_codec.specs.Tree.{length_fits};
 ghost use Rattle.mrpdu_codec.specs.Raw.{attrs_in, message_in, messages_in};
-ghost use Rattle.mrpdu_codec.specs.ReadErr.{Gives};
-ghost use Rattle.mrpdu_codec.specs.Reading.{kept, region_at, known_at, skip_at, size_at, sized_at, counted_at, body_at, length_at, message_at, type_at, end_at, messages_of};
+ghost use Rattle.mrpdu_codec.specs.ReadErr.{Gives, kept};
+ghost use Rattle.mrpdu_codec.specs.Reading.{region_at, known_at, skip_at, size_at, sized_at, counted_at, body_at, length_at, message_at, type_at, end_at, messages_of};
 
 use crate::error::ReadErr;
 use crate::form::{AppForm, TypeForm};

@@ -2,8 +2,8 @@
 
 ghost use Rattle.std.specs.Prelude.{◌≡◌, ◌++◌, OnOk};
 ghost use Rattle.mrpdu_codec.specs.Raw.{attr_in, attrs_in};
-ghost use Rattle.mrpdu_codec.specs.ReadErr.{Gives};
-ghost use Rattle.mrpdu_codec.specs.Reading.{kept, kept_attr, vectors_of, mark_at, list_at};
+ghost use Rattle.mrpdu_codec.specs.ReadErr.{Gives, kept, kept_attr};
+ghost use Rattle.mrpdu_codec.specs.Reading.{vectors_of, mark_at, list_at};
 
 use crate::error::ReadErr;
 use crate::fields::{ends_list, raw_vector};
