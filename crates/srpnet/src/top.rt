@@ -3,6 +3,7 @@
 ghost use Rattle.std.specs.Prelude.{◌≡◌, ℕ, ◌<◌, List, length, take, Some, Err, IfOk, IfErr, string_bytes};
 ghost use Rattle.std.specs.Io.KnownBytes.{Appends};
 ghost use Rattle.srp_io.specs.Faults.{Rose};
+ghost use Rattle.srp_io.specs.Whole.{TookAtMost};
 ghost use Rattle.srpnet.specs.Input.{ending};
 ghost use Rattle.srpnet.specs.LedgerInput.{ledger_input as ledger_input_spec};
 ghost use Rattle.srpnet.specs.LedgerText.{LedgerOutput};
@@ -78,6 +79,7 @@ fn output(alloc: Global, command: Command, octets: &[u8]) -> Result<String, Caus
 fn read_output<I: Source>(alloc: Global, command: Command, source: &mut I) -> Result<String, Cause>
     ensures output { IfOk result (λ s. IsOutput command (I.left source.old) (I.left source.new) (string_bytes s)) }
     ensures read_fault { result ≡ Err Cause.ReadFault → Rose (I.faults source.old) (I.faults source.new) }
+    ensures in_time { result ≡ Err Cause.ReadFault → TookAtMost MOST_OCTETS (I.left source.old) (I.left source.new) }
     ensures counts { (result ≡ Err Cause.ReadFault → ⊥) → I.faults source.new ≡ I.faults source.old }
     ensures too_long { result ≡ Err Cause.TooLong → TookTooMany (I.left source.old) (I.left source.new) }
     ensures refused { IfErr result (Refusal command (I.left source.old) (I.left source.new)) }

@@ -11,6 +11,7 @@ returns-in-Ok g c = record {
   write_fault = search rules;
   read_counts = search rules;
   write_counts = search rules;
+  in_time = search rules;
   too_long = search rules;
   not_toml = search rules;
   bad_scenario = search rules;
