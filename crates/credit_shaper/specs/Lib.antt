@@ -1,0 +1,5 @@
+pub mod Credit
+pub mod Port
+pub mod Trace
+pub mod Walk
+pub mod Bounds
