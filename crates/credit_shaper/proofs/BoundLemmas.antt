@@ -18,6 +18,7 @@ use Rattle.credit_shaper.specs.Credit.{traffic_number, credit_after, does_send}
 use Rattle.credit_shaper.specs.Port.{IsPortInput, IsFrameSize, is_of, slopes_at, arrivals_at}
 use Rattle.credit_shaper.specs.Trace.{Port, head_of, turn_of, does_wait, without_head, starts, sends_frame, with_start, with_arrivals, with_credits, within_bit, port_at, port_in}
 use Rattle.credit_shaper.specs.Bounds.{slope_a_at, lo_credit, hi_credit, IsStretch, IsCreditAWithin}
+use Rattle.credit_shaper.proofs.CreditLemmas.{below_zero}
 use Rattle.credit_shaper.proofs.QueueLemmas.{traffic_of}
 use Rattle.credit_shaper.proofs.PortLemmas.{shaper-port_in, rate_is, slope_a_below}
 
@@ -84,10 +85,6 @@ zero_or_more : (c : ℤ) → int_le (pos 0) c ≡ true → pos 0 ≤ℤ c
 zero_or_more (pos n) e = omega (arith, ints)
 zero_or_more (negsuc n) e = absurd (false≢true e)
 
-below_zero : (c : ℤ) → int_le (pos 0) c ≡ false → c <ℤ pos 0
-below_zero (pos n) e = absurd (true≢false (sym (le-leb 0 n (omega arith)) ∙ e))
-below_zero (negsuc n) e = omega (arith, ints)
-
 -- the first frame of a queue is of its traffic
 pub head_traffic : (traffic : Traffic) (w : List Arrival) (x : Arrival) → head_of traffic w ≡ Some x → x.traffic ≡ traffic
 head_traffic traffic [] x e = cc
@@ -101,7 +98,7 @@ head_traffic traffic (y ∷ ys) x e =
     ]
 
 -- a start of another traffic leaves class A's queue
-head_of-other : (traffic gone : Traffic) (w : List Arrival) → (traffic_number gone ≡ traffic_number traffic → ⊥)
+pub head_of-other : (traffic gone : Traffic) (w : List Arrival) → (traffic_number gone ≡ traffic_number traffic → ⊥)
     → head_of traffic (without_head gone w) ≡ head_of traffic w
 head_of-other traffic gone [] ne = refl
 head_of-other traffic gone (x ∷ xs) ne =
@@ -122,22 +119,23 @@ abbrev PortStands : ℕ → ℕ → ℕ → Port → Type 0
 PortStands gap most t p = Stands gap most (p.free_from - t) (does_send A p.line) (does_wait A p.waiting) p.shaper.credit_a
 
 -- a frame that waits has 1 to 12,336 bits, and what is on the line has no more
-record HasSizes (t : ℕ) (p : Port) : Type 0 where
-  line : p.free_from ≤ t + 12336
-  waiting : All (λ x. IsFrameSize x.bits) p.waiting
+pub record HasSizes (t : ℕ) (p : Port) : Type 0 where
+  pub line : p.free_from ≤ t + 12336
+  pub waiting : All (λ x. IsFrameSize x.bits) p.waiting
 
-head_size : (traffic : Traffic) (w : List Arrival) (x : Arrival) → All (λ y. IsFrameSize y.bits) w → head_of traffic w ≡ Some x → IsFrameSize x.bits
-head_size traffic [] x all e = cc
-head_size traffic (y ∷ ys) x all e =
+-- what holds of all that wait holds of the first frame of a queue
+pub head_within : (P : Arrival → Type 0) (traffic : Traffic) (w : List Arrival) (x : Arrival) → All P w → head_of traffic w ≡ Some x → P x
+head_within P traffic [] x all e = cc
+head_within P traffic (y ∷ ys) x all e =
     elim (cases_Bool (is_of traffic y)) [
       | inl own ↦
           let found : Some y ≡ Some x = sym (cond-true (is_of traffic y) (Some y) (head_of traffic ys) own) ∙ e in
           let same : y ≡ x = cc in
-          subst (λ (z : Arrival). IsFrameSize z.bits) same (All-head (λ z. IsFrameSize z.bits) y ys all)
-      | inr out ↦ head_size traffic ys x (All-tail (λ z. IsFrameSize z.bits) y ys all) (sym (cond-false (is_of traffic y) (Some y) (head_of traffic ys) out) ∙ e)
+          subst P same (All-head P y ys all)
+      | inr out ↦ head_within P traffic ys x (All-tail P y ys all) (sym (cond-false (is_of traffic y) (Some y) (head_of traffic ys) out) ∙ e)
     ]
 
-All-without_head : (P : Arrival → Type 0) (traffic : Traffic) (w : List Arrival) → All P w → All P (without_head traffic w)
+pub All-without_head : (P : Arrival → Type 0) (traffic : Traffic) (w : List Arrival) → All P w → All P (without_head traffic w)
 All-without_head P traffic [] all = all
 All-without_head P traffic (x ∷ xs) all =
     let rest : All P xs = All-tail P x xs all in
@@ -190,7 +188,7 @@ starts_stand gap most t p None e free sizes b =
     ])
 starts_stand gap most t p (Some x) e free sizes b =
     let wide = begins_free gap most (p.free_from - t) (does_send A p.line) p.shaper.credit_a (omega (arith, free)) b in
-    let size : IsFrameSize x.bits = head_size (turn_of p.shaper p.waiting) p.waiting x sizes e in
+    let size : IsFrameSize x.bits = head_within (λ y. IsFrameSize y.bits) (turn_of p.shaper p.waiting) p.waiting x sizes e in
     let own : x.traffic ≡ turn_of p.shaper p.waiting = head_traffic (turn_of p.shaper p.waiting) p.waiting x e in
     let bits : x.bits ≡ t + x.bits - t = omega arith in
     let waits : Bool = does_wait A (without_head x.traffic p.waiting) in
@@ -224,10 +222,10 @@ with_start_stands gap most t p sizes b =
 starts_sizes : (t : ℕ) (p : Port) (o : Option Arrival) → head_of (turn_of p.shaper p.waiting) p.waiting ≡ o → HasSizes t p → HasSizes t (starts t p o)
 starts_sizes t p None e sizes = record { line = sizes.line; waiting = sizes.waiting }
 starts_sizes t p (Some x) e sizes =
-    let size : IsFrameSize x.bits = head_size (turn_of p.shaper p.waiting) p.waiting x sizes.waiting e in
+    let size : IsFrameSize x.bits = head_within (λ y. IsFrameSize y.bits) (turn_of p.shaper p.waiting) p.waiting x sizes.waiting e in
     record { line = omega (arith, size.1); waiting = All-without_head (λ y. IsFrameSize y.bits) x.traffic p.waiting sizes.waiting }
 
-with_arrivals_sizes : (input : PortInput) (t : ℕ) (p : Port) → IsPortInput input → HasSizes t p → HasSizes t (with_arrivals input t p)
+pub with_arrivals_sizes : (input : PortInput) (t : ℕ) (p : Port) → IsPortInput input → HasSizes t p → HasSizes t (with_arrivals input t p)
 with_arrivals_sizes input t p valid sizes =
     record {
       line = sizes.line;
@@ -244,7 +242,7 @@ sizes_in input t p valid sizes =
       | false ↦ come
     ]
 
-sizes_at : (input : PortInput) (t : ℕ) → IsPortInput input → HasSizes t (port_at input t)
+pub sizes_at : (input : PortInput) (t : ℕ) → IsPortInput input → HasSizes t (port_at input t)
 unfolding port_at
 sizes_at input zero valid = record { line = omega arith; waiting = λ k d l. absurd (omega (arith, l)) }
 sizes_at input (suc t) valid =

@@ -1,6 +1,7 @@
 -- What a class's credit is after some bit times.
 use Rattle.std.proofs.Common.{◌≡◌, ℕ, zero, suc, ◌+◌, ◌*◌, ◌<◌, ◌≤◌, Bool, true, false, refl, sym, ◌∙◌, ap, arith}
-use Rattle.std.specs.Prelude.{ℤ, pos, ◌+ℤ◌, ◌-ℤ◌, ◌≤ℤ◌, ◌<ℤ◌, negsuc, unsigned_abs}
+use Rattle.std.specs.Prelude.{ℤ, pos, ◌+ℤ◌, ◌-ℤ◌, ◌≤ℤ◌, ◌<ℤ◌, negsuc, unsigned_abs, int_le}
+use Rattle.std.proofs.lemmas.Bool.{true≢false, le-leb}
 use Rattle.std.proofs.Math.Nat.{mul-le-mul_right}
 use Rattle.std.specs.Int.{int_min}
 use Rattle.std.proofs.lemmas.Int.{ints, clamps}
@@ -67,3 +68,8 @@ short_before (pos m) slope bits n below up l = absurd (omega (arith, ints, below
 short_before (negsuc m) slope bits n below up l =
     let fewer : suc n * slope ≤ bits * slope = mul-le-mul_right slope (omega arith) in
     omega (arith, ints, up, fewer)
+
+-- the test whether a credit is negative
+pub below_zero : (c : ℤ) → int_le (pos 0) c ≡ false → c <ℤ pos 0
+below_zero (pos n) e = absurd (true≢false (sym (le-leb 0 n (omega arith)) ∙ e))
+below_zero (negsuc n) e = omega (arith, ints)

@@ -7,3 +7,4 @@ pub mod StartLemmas
 pub mod QuietLemmas
 pub mod BoundLemmas
 pub mod WindowLemmas
+pub mod DepartureLemmas

@@ -1,9 +1,10 @@
 -- Lists in order of bit times: what lies before and after an index.
 use Rattle.std.proofs.Common.{◌≡◌, ℕ, zero, suc, ◌+◌, ◌-◌, ◌<◌, ◌≤◌, ◌⊎◌, List, [], ◌∷◌, length, get_or, take, refl, sym, ◌∙◌, ap, subst, arith, inl, inr, Bool, true, false, cond, ◌++◌, drop, eqb}
-use Rattle.std.specs.Prelude.{AllPairs, HoldsAt, filter, nat_le, ◌==◌}
+use Rattle.std.specs.Prelude.{All, AllPairs, HoldsAt, filter, nat_le, ◌==◌}
 use Rattle.std.specs.List.{AllWithin}
 use Rattle.std.proofs.lemmas.Bool.{cases_lt, cases_eq, ne_eqb, eq-eqb, lt-leb, le-leb}
 use Rattle.std.proofs.lemmas.List.{get_or_default}
+use Rattle.std.proofs.lemmas.List.Elements.{All-head, All-tail}
 use Rattle.credit_shaper.specs.declared.port.SlopeChange.{SlopeChange}
 use Rattle.credit_shaper.specs.declared.port.Arrival.{Arrival}
 use Rattle.credit_shaper.specs.declared.shaper.Traffic.TheVariants.{A}
@@ -14,7 +15,7 @@ use Rattle.credit_shaper.specs.Walk.{IsReached, arrival_bit, change_bit, newest}
 abbrev pub IsNonDescending : {X : Type 0} → (X → ℕ) → List X → Type 0
 IsNonDescending {X} bit_of xs = (i j : ℕ) (d : X) → i ≤ j → j < length xs → bit_of (get_or xs i d) ≤ bit_of (get_or xs j d)
 
-not_after : (x y : Arrival) → IsNotAfter x y → x.bit ≤ y.bit
+pub not_after : (x y : Arrival) → IsNotAfter x y → x.bit ≤ y.bit
 not_after x y (inl l) = omega (arith, l)
 not_after x y (inr e) = omega (arith, e)
 
@@ -103,21 +104,20 @@ arrivals_join xs t m n low high =
       omega (arith, f, g)))
     (λ k d a b. ne_eqb (get_or xs k d).bit t (λ e. let f : t + 1 ≤ (get_or xs k d).bit = high.later k d a b in omega (arith, e, f)))
 
--- what passes no test
-filter_none : {X : Type 0} (p : X → Bool) (xs : List X) → AllWithin (λ x. p x ≡ false) xs 0 (length xs) → filter p xs ≡ []
-filter_none p [] before = refl
-filter_none p (x ∷ xs) before =
-    let out : p x ≡ false = before 0 x (omega arith) (omega arith) in
-    let rest : filter p xs ≡ [] = filter_none p xs (λ k d a b. before (suc k) d (omega arith) (omega (arith, b))) in
-    rw out rest
+-- where nothing passes a test nothing is kept
+pub filter_nothing : {X : Type 0} (p : X → Bool) (xs : List X) → All (λ x. p x ≡ false) xs → filter p xs ≡ []
+filter_nothing p [] all = refl
+filter_nothing p (x ∷ xs) all =
+    let here : p x ≡ false = All-head (λ y. p y ≡ false) x xs all in
+    rw here (filter_nothing p xs (All-tail (λ y. p y ≡ false) x xs all))
 
 -- nothing arrives between two bit times by which the same is reached
 pub arrivals_none : (xs : List Arrival) (s t n k : ℕ) → IsReached arrival_bit s n xs → IsReached arrival_bit t n xs
     → s ≤ k → k < t → arrivals_at xs k ≡ []
 arrivals_none xs s t n k low high from to =
-    filter_none (λ x. x.bit == k) xs (λ i d a b. ne_eqb (get_or xs i d).bit k (λ e.
+    filter_nothing (λ x. x.bit == k) xs (λ i d b. ne_eqb (get_or xs i d).bit k (λ e.
       elim (cases_lt i n) [
-        | inl l ↦ let f : (get_or xs i d).bit < s = low.before i d a l in omega (arith, e, f, from)
+        | inl l ↦ let f : (get_or xs i d).bit < s = low.before i d (omega arith) l in omega (arith, e, f, from)
         | inr l ↦ let f : t ≤ (get_or xs i d).bit = high.later i d l b in omega (arith, e, f, to)
       ]))
 

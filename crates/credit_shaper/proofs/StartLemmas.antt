@@ -13,6 +13,7 @@ use Rattle.credit_shaper.specs.declared.trace.PortTrace.{PortTrace}
 use Rattle.credit_shaper.specs.Port.{IsPortInput}
 use Rattle.credit_shaper.specs.Trace.{Port, head_of, turn_of, does_wait, starts, with_start}
 use Rattle.credit_shaper.specs.Walk.{head_index, AreHeads, IsFirst, IsIdle, IsShort, waiting_of, port_of, turn_in, has_frame}
+use Rattle.credit_shaper.proofs.CreditLemmas.{below_zero}
 use Rattle.credit_shaper.proofs.MomentLemmas.{blank}
 use Rattle.credit_shaper.proofs.QueueLemmas.{waits_is}
 use Rattle.credit_shaper.proofs.TraceLemmas.{frame_of, free_line}
@@ -53,10 +54,6 @@ some_bits input trace x valid within first =
     let size : 336 ≤ (get_or input.arrivals (head_index trace.heads x.traffic) blank).bits =
         (valid.frame_sizes (head_index trace.heads x.traffic) blank (omega (arith, first.came, within))).0 in
     omega (arith, size, ap (λ y. y.bits) (first.here blank))
-
-below_zero : (c : ℤ) → int_le (pos 0) c ≡ false → c <ℤ pos 0
-below_zero (pos n) e = absurd (true≢false (sym (le-leb 0 n (omega arith)) ∙ e))
-below_zero (negsuc n) e = omega (arith, ints)
 
 -- where the queue whose turn it is has no frame, neither has the last, and a class that waits has no credit
 record HasNoTurn (trace : PortTrace) : Type 0 where

@@ -14,7 +14,7 @@ use Rattle.credit_shaper.specs.declared.port.PortInput.{PortInput}
 use Rattle.credit_shaper.specs.Credit.{credit_after, does_send}
 use Rattle.credit_shaper.specs.Port.{IsPortInput, last_change, no_slopes, slopes_at}
 use Rattle.credit_shaper.specs.Trace.{Port, does_wait, port_at, port_in}
-use Rattle.credit_shaper.specs.Bounds.{credit_a_at, slope_a_at, is_on_line, greatest_slope_a, hi_credit, lo_credit, IsStretch, IsCreditAWithin, bit_times, bits_a, area_a, IsWindowAWithin}
+use Rattle.credit_shaper.specs.Bounds.{credit_a_at, slope_a_at, is_on_line, greatest_slope_a, hi_credit, lo_credit, IsStretch, IsCreditAWithin, bit_times, bits_a, area_a, IsWindowAWithin, DoesWaitA, IsWaitAWithin}
 use Rattle.credit_shaper.proofs.PortLemmas.{shaper-port_in, rate_is, last_change_all}
 use Rattle.credit_shaper.proofs.BoundLemmas.{credit_within}
 
@@ -46,6 +46,9 @@ mul_add k m n = omega arith
 spent_sum : (x y z : ℤ) (p q r a b s : ℕ) → (y +ℤ pos p) ≤ℤ (x +ℤ pos a) → (z +ℤ pos q) ≤ℤ (y +ℤ pos b)
     → r ≡ p + q → s ≡ a + b → (z +ℤ pos r) ≤ℤ (x +ℤ pos s)
 spent_sum x y z p q r a b s first rest e f = omega (arith, ints, first, rest, e, f)
+
+risen_sum : (w x y z : ℤ) (a b s : ℕ) → x ≡ w +ℤ pos a → y ≡ x +ℤ pos b → z ≡ y → s ≡ a + b → z ≡ w +ℤ pos s
+risen_sum w x y z a b s first rest last e = omega (arith, ints, first, rest, last, e)
 
 -- what class A takes is what the slopes give, and what the credit falls by
 spent_over : (input : PortInput) (from n : ℕ)
@@ -105,3 +108,44 @@ window_within input least most from to a b valid s low mid high =
     (credit_a_at input a) (credit_a_at input b)
     (subst (λ (t : ℕ). (credit_a_at input t +ℤ pos (bits_of input.rate * bits_a input a b)) ≤ℤ (credit_a_at input a +ℤ pos (area_a input a b))) at (spent_over input a (b - a)))
     before.high after.low
+
+-- while class A waits and doesn't send, its credit rises by the slope
+waited : (input : PortInput) (t : ℕ) → does_wait A (port_in input t).waiting ≡ true → is_on_line input A t ≡ false
+    → credit_a_at input (suc t) ≡ credit_a_at input t +ℤ pos (slope_a_at input t)
+unfolding port_at
+waited input t waits idle =
+    let q : Port = port_in input t in
+    let is = shaper-port_in input t in
+    rw (waits, idle, ap (λ s. s.credit_a) is, ap (λ s. s.slope_a) is) refl
+
+waited_over : (input : PortInput) (from n : ℕ) → DoesWaitA input from (from + n)
+    → credit_a_at input (from + n) ≡ credit_a_at input from +ℤ pos (sum_by (slope_a_at input) (range_with_len from n))
+waited_over input from zero wait =
+    let at : from + 0 ≡ from = omega arith in
+    let none : credit_a_at input from ≡ credit_a_at input from +ℤ pos 0 = omega (arith, ints) in
+    ap (credit_a_at input) at ∙ none
+waited_over input from (suc n) wait =
+    let here = wait from (omega arith) (omega arith) in
+    let one : from + 1 ≡ suc from = omega arith in
+    let first : credit_a_at input (from + 1) ≡ credit_a_at input from +ℤ pos (slope_a_at input from) =
+        ap (credit_a_at input) one ∙ waited input from here.0 here.1 in
+    let rest : credit_a_at input (from + 1 + n) ≡ credit_a_at input (from + 1) +ℤ pos (sum_by (slope_a_at input) (range_with_len (from + 1) n)) =
+        waited_over input (from + 1) n (λ t low high. wait t (omega (arith, low)) (omega (arith, high))) in
+    let last : credit_a_at input (from + suc n) ≡ credit_a_at input (from + 1 + n) = ap (credit_a_at input) (omega arith) in
+    let area = sum_by-cons (slope_a_at input) from (range_with_len (from + 1) n) in
+    risen_sum (credit_a_at input from) (credit_a_at input (from + 1)) (credit_a_at input (from + 1 + n)) (credit_a_at input (from + suc n))
+    (slope_a_at input from) (sum_by (slope_a_at input) (range_with_len (from + 1) n)) (sum_by (slope_a_at input) (range_with_len from (suc n)))
+    first rest last area
+
+within_wait : (area : ℕ) (lo hi x y : ℤ) → y ≡ x +ℤ pos area → y ≤ℤ hi → lo ≤ℤ x → pos area ≤ℤ (hi -ℤ lo)
+within_wait area lo hi x y e top low = omega (arith, ints, e, top, low)
+
+pub wait_within : (input : PortInput) (least most from to a b : ℕ) → IsPortInput input → IsStretch input least most from to
+    → from ≤ a → a ≤ b → b ≤ to → IsWaitAWithin input least most a b
+wait_within input least most from to a b valid s low mid high wait =
+    let at : a + (b - a) ≡ b = omega (arith, mid) in
+    let before : IsCreditAWithin input least most a = credit_within input least most from to a valid s low (omega (arith, mid, high)) in
+    let after : IsCreditAWithin input least most b = credit_within input least most from to b valid s (omega (arith, low, mid)) high in
+    within_wait (area_a input a b) (lo_credit (bits_of input.rate) least) (hi_credit most) (credit_a_at input a) (credit_a_at input b)
+    (sym (ap (credit_a_at input) at) ∙ waited_over input a (b - a) (λ t from' to'. wait t from' (omega (arith, to', at))))
+    after.high before.low

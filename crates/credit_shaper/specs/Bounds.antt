@@ -1,6 +1,6 @@
 -- What class A's credit stays between, and what class A takes of the line in a window (IEEE Std
 -- 802.1Q-2018, 8.6.8.2 and Annex L in outline; with bounds for every input, own).
-use Rattle.std.specs.Prelude.{◌≡◌, ℕ, ◌+◌, ◌-◌, ◌*◌, ◌<◌, ◌≤◌, max, Bool, List, [], ◌∷◌, count_by, sum_by, ℤ, pos, ◌+ℤ◌, ◌-ℤ◌, ◌≤ℤ◌}
+use Rattle.std.specs.Prelude.{◌≡◌, ℕ, ◌+◌, ◌-◌, ◌*◌, ◌<◌, ◌≤◌, max, Bool, true, false, List, [], ◌∷◌, count_by, sum_by, ℤ, pos, ◌+ℤ◌, ◌-ℤ◌, ◌≤ℤ◌}
 use Rattle.std.specs.List.{range_with_len}
 use Rattle.srp_base.specs.Bandwidth.{bits_of}
 use Rattle.credit_shaper.specs.declared.shaper.Traffic.{Traffic}
@@ -9,7 +9,7 @@ use Rattle.credit_shaper.specs.declared.port.SlopeChange.{SlopeChange}
 use Rattle.credit_shaper.specs.declared.port.PortInput.{PortInput}
 use Rattle.credit_shaper.specs.Credit.{does_send}
 use Rattle.credit_shaper.specs.Port.{slopes_at}
-use Rattle.credit_shaper.specs.Trace.{port_at, port_in}
+use Rattle.credit_shaper.specs.Trace.{does_wait, port_at, port_in}
 
 -- class A's credit as a bit time begins
 abbrev pub credit_a_at : PortInput → ℕ → ℤ
@@ -69,3 +69,13 @@ abbrev pub IsWindowAWithin : PortInput → ℕ → ℕ → ℕ → ℕ → Type 
 IsWindowAWithin input least most from to =
     pos (bits_of input.rate * bits_a input from to)
     ≤ℤ (pos (area_a input from to) +ℤ hi_credit most -ℤ lo_credit (bits_of input.rate) least)
+
+-- in each bit time from one to before another frames of class A wait, and none is on the line
+abbrev pub DoesWaitA : PortInput → ℕ → ℕ → Type 0
+DoesWaitA input from to =
+    (t : ℕ) → from ≤ t → t < to → (does_wait A (port_in input t).waiting ≡ true) × (is_on_line input A t ≡ false)
+
+-- a wait of class A takes no more than hiCredit minus loCredit of idleSlope
+abbrev pub IsWaitAWithin : PortInput → ℕ → ℕ → ℕ → ℕ → Type 0
+IsWaitAWithin input least most from to =
+    DoesWaitA input from to → pos (area_a input from to) ≤ℤ (hi_credit most -ℤ lo_credit (bits_of input.rate) least)

@@ -3,3 +3,4 @@ pub mod Port
 pub mod Trace
 pub mod Walk
 pub mod Bounds
+pub mod Departures

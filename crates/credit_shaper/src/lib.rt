@@ -1,6 +1,7 @@
 //! The credit-based shaper.
 #![tactic(auto)]
 
+pub mod laws;
 mod moments;
 mod port;
 mod queues;
