@@ -7,6 +7,7 @@ pub mod Trees
 pub mod Climbs
 pub mod PortFacts
 pub mod PortLaws
+pub mod Propagation
 pub mod RowFacts
 pub mod ComponentSteps
 pub mod SpanSteps
