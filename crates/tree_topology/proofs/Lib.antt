@@ -12,5 +12,6 @@ pub mod RowFacts
 pub mod ComponentSteps
 pub mod SpanSteps
 pub mod Refusals
+pub mod RefusalChecks
 pub mod RouteFacts
 pub mod Pigeonholes

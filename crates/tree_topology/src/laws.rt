@@ -1,7 +1,8 @@
 //! Laws of every accepted tree, over the definitions that the methods of `Tree` cite. Each is a
 //! function that does nothing and whose clauses are the law.
 
-ghost use Rattle.std.specs.Prelude.{◌≡◌, ◌≢◌, ◌↔◌, ◌+◌, ◌*◌, ◌≤◌, ℕ, List, IsTrue, length};
+ghost use Rattle.std.specs.Prelude.{◌≡◌, ◌≢◌, ◌↔◌, ◌+◌, ◌*◌, ◌≤◌, ℕ, List, [], Option, Some, None, IsTrue, length};
+ghost use Rattle.srp_base.specs.Firsts.{first_where};
 ghost use Rattle.srp_base.specs.declared.numbers.EgressPort.{EgressPort};
 ghost use Rattle.tree_topology.specs.declared.graph.TreeErr.{TreeErr};
 ghost use Rattle.tree_topology.specs.declared.graph.TreeErr.TheVariants.{NoMemory};
@@ -11,13 +12,26 @@ ghost use Rattle.tree_topology.specs.Graph.{IsNode, Connected, IsGraph, IsTree};
 ghost use Rattle.tree_topology.specs.Ports.{neighbours, IsPortPath, LiesBehind};
 ghost use Rattle.tree_topology.specs.Walk.{component, path_between, is_behind};
 ghost use Rattle.tree_topology.specs.PortLaws.{HasPortLaws};
-ghost use Rattle.tree_topology.specs.Refusal.{HasNoLoop, IsRefusal};
+ghost use Rattle.tree_topology.specs.Refusal.{HasNoLoop, IsRefusal, refusal, has_unknown_end, is_self_link, is_second_link};
 
 /// At most one refusal fits nodes and links, and none fits an accepted tree; want of memory aside.
 pub fn one_refusal()
     ensures one { (tree : Topology) (e f : TreeErr) → e ≢ NoMemory → f ≢ NoMemory
         → IsRefusal tree.kinds tree.links e → IsRefusal tree.kinds tree.links f → e ≡ f }
     ensures none { (tree : Topology) (e : TreeErr) → IsSound tree → IsRefusal tree.kinds tree.links e → e ≡ NoMemory }
+{}
+
+/// `refusal` gives the one refusal that fits nodes and links, want of memory aside, and none exactly for
+/// an accepted tree.
+pub fn refusals()
+    ensures gives { (tree : Topology) (e : TreeErr) → refusal tree.kinds tree.links ≡ Some e
+        → IsRefusal tree.kinds tree.links e × (e ≢ NoMemory) }
+    ensures fits { (tree : Topology) (e : TreeErr) → IsRefusal tree.kinds tree.links e → e ≢ NoMemory
+        → refusal tree.kinds tree.links ≡ Some e }
+    ensures accepted { (tree : Topology) → refusal tree.kinds tree.links ≡ None ↔ IsSound tree }
+    ensures graph { (tree : Topology) → first_where (has_unknown_end (length tree.kinds)) [] tree.links ≡ None
+        → first_where is_self_link [] tree.links ≡ None → first_where is_second_link [] tree.links ≡ None
+        → IsGraph (length tree.kinds) tree.links }
 {}
 
 /// `path_between` is the egress ports of the one walk without a repeated node, and `is_behind` tells

@@ -13,7 +13,8 @@
 //! The contract is a graph's. A tree is a graph with exactly one walk without a repeated node between
 //! any two nodes (`IsTree`); `path` gives the egress ports of that walk, `behind` tells whose walk
 //! begins with a port's link. `Tree::new` accepts exactly the trees whose stations have one link and
-//! whose nodes have at most 255, and names the first refusal (`IsRefusal`). The laws that inductions
+//! whose nodes have at most 255, and names the first refusal, as a relation (`IsRefusal`) and as a
+//! function (`refusal`), which the law `refusals` joins. The laws that inductions
 //! over a tree need stand in `laws`. Those of ports are one record, `HasPortLaws`, which each tree hands
 //! out by `keeps`: its last one says of what is propagated from node to node, as a registration is,
 //! that it holds at a port exactly where some node behind the port began it.

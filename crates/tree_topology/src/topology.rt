@@ -1,11 +1,11 @@
 //! The tree of a network: its nodes and links, the egress ports along a path, and what lies behind a port.
 
-ghost use Rattle.std.specs.Prelude.{◌≡◌, ◌<◌, ◌↔◌, length, IsTrue, IsSome, IfSome, OnOk, IfOk, IfErr, IsOkUnless};
+ghost use Rattle.std.specs.Prelude.{◌≡◌, ◌≢◌, ◌<◌, ◌↔◌, length, Some, None, IsTrue, IsSome, IfSome, OnOk, IfOk, IfErr, IsOkUnless};
 ghost use Rattle.tree_topology.specs.Graph.{Joined};
 ghost use Rattle.tree_topology.specs.Ports.{neighbours, port_to, peer_of, ends_of, IsPortPath, LiesBehind};
 ghost use Rattle.tree_topology.specs.PortLaws.{HasPortLaws};
 ghost use Rattle.tree_topology.specs.Walk.{path_between, is_behind};
-ghost use Rattle.tree_topology.specs.Refusal.{IsAccepted, IsRefusal};
+ghost use Rattle.tree_topology.specs.Refusal.{IsAccepted, IsRefusal, refusal};
 
 use crate::climb::find_path;
 use crate::graph::{Link, NodeKind, TreeErr};
@@ -49,6 +49,8 @@ impl Tree {
         ensures links { IfOk result (λ tree. tree.links ≡ links.now) }
         ensures accepted { OnOk result (IsAccepted nodes.now links.now) }
         ensures refused { IfErr result (λ e. IsRefusal nodes.now links.now e) }
+        ensures refusal { IfErr result (λ e. e ≢ TreeErr.NoMemory → refusal nodes.now links.now ≡ Some e) }
+        ensures none { OnOk result (refusal nodes.now links.now ≡ None) }
         ensures accepts { IsAccepted nodes.now links.now → IsOkUnless result TreeErr.NoMemory }
     {
         let routes = Routes::new(alloc, nodes, links)?;
