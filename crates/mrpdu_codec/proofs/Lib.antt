@@ -14,3 +14,6 @@ pub mod Sizes
 pub mod Reread
 pub mod Formed
 pub mod Longer
+pub mod PlacesLemmas
+pub mod PlacesOfTree
+pub mod PlacesStand

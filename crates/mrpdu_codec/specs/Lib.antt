@@ -6,3 +6,4 @@ pub mod Reading
 pub mod Workers
 pub mod Shape
 pub mod Canonical
+pub mod Places

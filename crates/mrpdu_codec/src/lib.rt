@@ -22,7 +22,8 @@
 //! `Reading` is the same as a function, which `reading_is_the_grammar` ties to the grammar. `Canonical` has
 //! the spelling in which a PDU is written; that it spells the PDU is the law `written_is_read`, and how long
 //! it is the law `written_size`. `Shape` says what each PDU that was read looks like, and whether it has
-//! LeaveAll.
+//! LeaveAll. `Places` says where the FirstValues stand, for crates that find one of them at fault:
+//! `first_value_at` answers the offset of one, and `first_values_have_places` is its law.
 //!
 //! The code reads in one pass: a reader answers a value and the octets after it, or how many octets are
 //! left from the first field on that breaks (`raw` a vector's fields, `vectors` lists of vectors, `messages`
@@ -35,6 +36,7 @@ mod error;
 mod form;
 mod messages;
 mod pdu;
+mod places;
 mod raw;
 mod vectors;
 mod writable;
@@ -44,6 +46,7 @@ pub use encoding::{encode, written_is_read};
 pub use error::DecodeErr;
 pub use form::{AppForm, TypeForm};
 pub use pdu::{Message, Pdu, VectorAttr};
+pub use places::{first_value_at, first_values_have_places};
 pub use writable::{size_of, well_formed, written_size};
 
 #[cfg(test)]
