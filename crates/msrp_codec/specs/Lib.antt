@@ -1,0 +1,3 @@
+pub mod AttributeType
+pub mod FirstValue
+pub mod Meaning
