@@ -17,3 +17,5 @@ pub mod Longer
 pub mod PlacesLemmas
 pub mod PlacesOfTree
 pub mod PlacesStand
+pub mod Kept
+pub mod RawLemmas

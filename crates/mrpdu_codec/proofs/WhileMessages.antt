@@ -8,7 +8,7 @@ use Rattle.mrpdu_codec.specs.declared.error.ReadErr.{ReadErr}
 use Rattle.mrpdu_codec.specs.declared.error.ReadErr.TheVariants as errors
 use Rattle.mrpdu_codec.specs.declared.pdu.Message.{Message}
 use Rattle.mrpdu_codec.specs.Reading.{◌>>=◌, message_at, end_at, type_at, messages_at, messages_of}
-use Rattle.mrpdu_codec.specs.Workers.{Fails}
+use Rattle.mrpdu_codec.specs.ReadErr.{Fails}
 use Rattle.mrpdu_codec.proofs.Steps.{same_after, same_choice}
 use Rattle.mrpdu_codec.proofs.ReadMessages.{TookMessage, message_match}
 use Rattle.mrpdu_codec.proofs.Longer.{message_longer}

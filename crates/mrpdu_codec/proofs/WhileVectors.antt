@@ -1,13 +1,13 @@
 -- Loops over vectors: one step on, and the end, of what is still read.
-use Rattle.std.proofs.Common.{◌≡◌, ℕ, zero, suc, ◌<◌, ◌≤◌, true, false, List, [], ◌∷◌, ◌++◌, length, Option, None, Result, Ok, Err, refl, sym, ap, ◌∙◌, append_assoc, arith}
+use Rattle.std.proofs.Common.{◌≡◌, ℕ, zero, suc, ◌<◌, ◌≤◌, true, false, List, [], ◌∷◌, ◌++◌, length, Option, Some, None, Result, Ok, Err, refl, sym, ap, ◌∙◌, append_assoc, arith}
 use Rattle.std.proofs.lemmas.List.{append-nil}
 use Rattle.mrpdu_codec.specs.declared.form.TypeForm.{TypeForm}
 use Rattle.mrpdu_codec.specs.declared.error.ReadErr.{ReadErr}
 use Rattle.mrpdu_codec.specs.declared.error.ReadErr.TheVariants as errors
 use Rattle.mrpdu_codec.specs.declared.pdu.VectorAttr.{VectorAttr}
 use Rattle.mrpdu_codec.specs.Tree.{Vector, attr_of, IsVector, vector_octets}
-use Rattle.mrpdu_codec.specs.Reading.{◌>>=◌, rest_of, vector_at, ends_list, vectors_at, vectors_of, mark_at, list_at}
-use Rattle.mrpdu_codec.specs.Workers.{Fails}
+use Rattle.mrpdu_codec.specs.Reading.{◌>>=◌, kept, kept_attr, vector_at, ends_list, vectors_at, vectors_of}
+use Rattle.mrpdu_codec.specs.ReadErr.{Fails}
 use Rattle.std.proofs.lemmas.Result.{MatchResult-at_ok}
 use Rattle.std.proofs.lemmas.Bool.{false≢true}
 use Rattle.mrpdu_codec.proofs.Steps.{same_after, same_choice}
@@ -66,51 +66,27 @@ vectors_end row len octets ended = step (length octets) ended where
 abbrev pub with_front : List VectorAttr → Result (List VectorAttr × List ℕ) ℕ → Result (List VectorAttr × List ℕ) ℕ
 with_front front read = read >>= λ x. Ok (front ++ x.0, x.1)
 
-with_more : (front : List VectorAttr) (v : VectorAttr) (read : Result (List VectorAttr × List ℕ) ℕ) → with_front front (read >>= λ x. Ok (v ∷ x.0, x.1)) ≡ with_front (front ++ v ∷ []) read
-with_more front v (Ok x) = ap (λ (vs : List VectorAttr). let y : Result (List VectorAttr × List ℕ) ℕ = Ok (vs, x.1) in y) (simp append_assoc)
-with_more front v (Err left) = refl
+-- one vector more, of what is kept
+with_more : (row : Option TypeForm) (front : List VectorAttr) (v : VectorAttr) (read : Result (List VectorAttr × List ℕ) ℕ)
+    → with_front front (kept row (read >>= λ x. Ok (v ∷ x.0, x.1))) ≡ with_front (front ++ kept_attr row v) (kept row read)
+with_more None front v (Ok x) = ap (λ (vs : List VectorAttr). let y : Result (List VectorAttr × List ℕ) ℕ = Ok (vs, x.1) in y) (sym (append-nil (front ++ [])))
+with_more (Some t) front v (Ok x) = ap (λ (vs : List VectorAttr). let y : Result (List VectorAttr × List ℕ) ℕ = Ok (vs, x.1) in y) (sym (append_assoc front (v ∷ []) x.0))
+with_more row front v (Err left) = refl
 
-module _ (row : Option TypeForm) (len : ℕ) (total : Result (List VectorAttr × List ℕ) ℕ) (front : List VectorAttr) (octets : List ℕ) (so_far : with_front front (vectors_of row len octets) ≡ total) where
-  pub list_goes_on : (v : Vector) (after : List ℕ) → ends_list octets ≡ false → vector_at row len octets ≡ Ok (v, after) → with_front (front ++ attr_of v ∷ []) (vectors_of row len after) ≡ total
-  list_goes_on v after going e =
-      sym (ap (with_front front) (vectors_step row len octets v after going e) ∙ with_more front (attr_of v) (vectors_of row len after)) ∙ so_far
+kept_nil : (row : Option TypeForm) (front : List VectorAttr) (octets : List ℕ) → with_front front (kept row (Ok ([], octets))) ≡ Ok (front, octets)
+kept_nil None front octets = ap (λ (vs : List VectorAttr). let y : Result (List VectorAttr × List ℕ) ℕ = Ok (vs, octets) in y) (append-nil front)
+kept_nil (Some t) front octets = ap (λ (vs : List VectorAttr). let y : Result (List VectorAttr × List ℕ) ℕ = Ok (vs, octets) in y) (append-nil front)
+
+module _ (row : Option TypeForm) (len : ℕ) (total : Result (List VectorAttr × List ℕ) ℕ) (front : List VectorAttr) (octets : List ℕ) (so_far : with_front front (kept row (vectors_of row len octets)) ≡ total) where
+  after_all : (read : Result (List VectorAttr × List ℕ) ℕ) → vectors_of row len octets ≡ read → total ≡ with_front front (kept row read)
+  after_all read e = sym so_far ∙ ap (λ (r : Result (List VectorAttr × List ℕ) ℕ). with_front front (kept row r)) e
+
+  pub list_goes_on : (v : Vector) (after : List ℕ) → ends_list octets ≡ false → vector_at row len octets ≡ Ok (v, after) → with_front (front ++ kept_attr row (attr_of v)) (kept row (vectors_of row len after)) ≡ total
+  list_goes_on v after going e = sym (after_all _ (vectors_step row len octets v after going e) ∙ with_more row front (attr_of v) (vectors_of row len after))
 
   pub list_fails : (e : ReadErr) → ends_list octets ≡ false → Fails e (vector_at row len octets) → Fails e total
   list_fails errors.NoMemory going h = tt
-  list_fails (errors.Left left) going h = sym so_far ∙ ap (with_front front) (vectors_fail row len octets left going h)
+  list_fails (errors.Left left) going h = after_all _ (vectors_fail row len octets left going h)
 
   pub list_ends : ends_list octets ≡ true → total ≡ Ok (front, octets)
-  list_ends ended =
-      sym so_far ∙ ap (with_front front) (vectors_end row len octets ended) ∙ ap (λ (vs : List VectorAttr). let y : Result (List VectorAttr × List ℕ) ℕ = Ok (vs, octets) in y) (append-nil front)
-
-rest_more : (v : VectorAttr) (read : Result (List VectorAttr × List ℕ) ℕ) → rest_of (read >>= λ x. Ok (v ∷ x.0, x.1)) ≡ rest_of read
-rest_more v (Ok x) = refl
-rest_more v (Err left) = refl
-
-module _ (len : ℕ) (total : Result (List ℕ) ℕ) (octets : List ℕ) (so_far : rest_of (vectors_of None len octets) ≡ total) where
-  pub skip_goes_on : (v : Vector) (after : List ℕ) → ends_list octets ≡ false → vector_at None len octets ≡ Ok (v, after) → rest_of (vectors_of None len after) ≡ total
-  skip_goes_on v after going e = sym (ap rest_of (vectors_step None len octets v after going e) ∙ rest_more (attr_of v) (vectors_of None len after)) ∙ so_far
-
-  pub skip_fails : (e : ReadErr) → ends_list octets ≡ false → Fails e (vector_at None len octets) → Fails e total
-  skip_fails errors.NoMemory going h = tt
-  skip_fails (errors.Left left) going h = sym so_far ∙ ap rest_of (vectors_fail None len octets left going h)
-
-  pub skip_ends : ends_list octets ≡ true → total ≡ Ok octets
-  skip_ends ended = sym so_far ∙ ap rest_of (vectors_end None len octets ended)
-
-rest_done : {A : Type 0} (a : A) (r : Result (List ℕ) ℕ) → rest_of (r >>= λ rest. let y : Result (A × List ℕ) ℕ = Ok (a, rest) in y) ≡ r
-rest_done a (Ok rest) = refl
-rest_done a (Err left) = refl
-
-list_then : {A : Type 0} (read : Result (A × List ℕ) ℕ) (f : List ℕ → Result (List ℕ) ℕ) → rest_of (read >>= λ x. f x.1 >>= λ rest. Ok (x.0, rest)) ≡ (rest_of read >>= f)
-list_then (Ok x) f = rest_done x.0 (f x.1)
-list_then (Err left) f = refl
-
--- what is behind vectors and their EndMark
-pub rest_of-list_at : (row : Option TypeForm) (len : ℕ) (octets : List ℕ) → rest_of (list_at row len octets) ≡ (rest_of (vectors_of row len octets) >>= mark_at)
-unfolding list_at
-rest_of-list_at row len octets = list_then (vectors_of row len octets) mark_at
-
-pub fails_on : {A : Type 0} (e : ReadErr) (read : Result (List ℕ) ℕ) (f : List ℕ → Result A ℕ) → Fails e read → Fails e (read >>= f)
-fails_on errors.NoMemory read f h = tt
-fails_on {A = A} (errors.Left left) read f h = ap (λ (r : Result (List ℕ) ℕ). r >>= f) h
+  list_ends ended = after_all _ (vectors_end row len octets ended) ∙ kept_nil row front octets

@@ -33,6 +33,7 @@
 mod decoding;
 mod encoding;
 mod error;
+mod fields;
 mod form;
 mod messages;
 mod pdu;
@@ -41,12 +42,13 @@ mod raw;
 mod vectors;
 mod writable;
 
-pub use decoding::{decode, one_reading, reading_is_the_grammar};
-pub use encoding::{encode, written_is_read};
+pub use decoding::{decode, decode_in_place, one_reading, reading_is_the_grammar};
+pub use encoding::{encode, put_vector, written_is_read};
 pub use error::DecodeErr;
 pub use form::{AppForm, TypeForm};
 pub use pdu::{Message, Pdu, VectorAttr};
 pub use places::{first_value_at, first_values_have_places};
+pub use raw::{RawMessage, RawPdu, RawVector, events_in};
 pub use writable::{size_of, well_formed, written_size};
 
 #[cfg(test)]

@@ -8,9 +8,9 @@ ghost use Rattle.mrpdu_codec.specs.Tree.{vector_octets, vectors_octets, message_
 ghost use Rattle.mrpdu_codec.specs.Canonical.{vector_for, vectors_for, message_for, spelling, list_fits, message_fits, pdu_size, well_formed};
 ghost use Rattle.mrpdu_codec.specs.Shape.{params_fit, vector_fits, vectors_fit, has_form};
 
+use crate::fields::{quarters, thirds};
 use crate::form::{AppForm, TypeForm};
 use crate::pdu::{Message, Pdu, VectorAttr};
-use crate::raw::{quarters, thirds};
 
 /// The octets of a vector, or the greatest usize where they are more.
 #[tactic(auto, using(crate::proofs::Sizes::vector_length))]

@@ -1,27 +1,9 @@
--- What the private readers answer, without where it lies in memory, and what their errors say.
-use Rattle.std.specs.Prelude.{◌≡◌, ℕ, ◌+◌, ◌-◌, ◌≤◌, List, [], ◌∷◌, Option, Some, None, Result, Ok, Err}
+-- What the readers of fields answer: a value as the reading has it, or how many octets were left.
+use Rattle.std.specs.Prelude.{◌≡◌, ℕ, ◌+◌, ◌-◌, ◌≤◌, Result, Ok, Err}
 use Rattle.mrpdu_codec.specs.declared.error.DecodeErr.{DecodeErr}
 use Rattle.mrpdu_codec.specs.declared.error.DecodeErr.TheVariants as decode_errors
 use Rattle.mrpdu_codec.specs.declared.error.ReadErr.{ReadErr}
 use Rattle.mrpdu_codec.specs.declared.error.ReadErr.TheVariants as errors
-use Rattle.mrpdu_codec.specs.declared.pdu.Message.{Message}
-use Rattle.mrpdu_codec.specs.declared.raw.RawVector.{RawVector}
-use Rattle.mrpdu_codec.specs.Tree.{Vector}
-
--- the fields of a vector in borrowed octets, as a node of the syntax tree
-abbrev pub raw_of : RawVector → Vector
-raw_of raw = record {
-  high = raw.high;
-  low = raw.low;
-  first = raw.first.now;
-  three_packed = raw.three_packed.now;
-  four_packed = raw.four_packed.now;
-}
-
--- a Message that may be there, as a list
-abbrev pub messages : Option Message → List Message
-messages None = []
-messages (Some m) = m ∷ []
 
 -- an error is the reading's, unless memory ran out
 abbrev pub Fails : {Y : Type 0} → ReadErr → Result Y ℕ → Type 0

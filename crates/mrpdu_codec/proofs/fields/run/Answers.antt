@@ -1,6 +1,6 @@
 use Rattle.std.proofs.Common.{◌≡◌, arith}
 use Rattle.mrpdu_codec.proofs.Loops.{run_ends, run_above, run_whole}
-use Rattle.mrpdu_codec.proofs.raw.run.Goals as goal
+use Rattle.mrpdu_codec.proofs.fields.run.Goals as goal
 
 pub returns-then-i-octets : goal.returns-then-i-octets
 returns-then-i-octets c = run_ends c.args.limit c.args.n c.loop-i.i c.args.octets.now c.loop-i-test.true c.if-i-octets.true c.loop-i.invariant.1

@@ -1,6 +1,6 @@
 use Rattle.std.proofs.Common.{◌∷◌, []}
 use Rattle.mrpdu_codec.proofs.Loops.{take_two}
-use Rattle.mrpdu_codec.proofs.vectors.push_events.Goals as goal
+use Rattle.mrpdu_codec.proofs.raw.push_events.Goals as goal
 
 pub returns-clause-ok : goal.returns-clause-ok
 returns-clause-ok c =

@@ -1,5 +1,5 @@
 use Rattle.mrpdu_codec.proofs.Loops.{take_two}
-use Rattle.mrpdu_codec.proofs.vectors.push_params.Goals as goal
+use Rattle.mrpdu_codec.proofs.raw.push_params.Goals as goal
 
 pub returns-clause-ok : goal.returns-clause-ok
 returns-clause-ok c =
