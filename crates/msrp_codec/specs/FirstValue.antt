@@ -1,6 +1,7 @@
 -- The values of MSRP's attributes as octets, field by field (IEEE Std 802.1Q-2018, 35.2.2.8, 35.2.2.9). All
 -- numbers stand with the high octet first.
-use Rattle.std.specs.Prelude.{ℕ, ◌+◌, ◌/◌, ◌%◌, ◌^◌, Bool, ◌&&◌, List, take, drop, nat_le, ◌==◌, if◌then◌else◌}
+use Rattle.std.specs.Prelude.{ℕ, ◌+◌, ◌*◌, ◌/◌, ◌%◌, ◌^◌, Bool, ◌&&◌, List, ◌++◌, take, drop, nat_le, ◌==◌, if◌then◌else◌}
+use Rattle.std.specs.Int.{bytes_high_first}
 use Rattle.srp_base.specs.Hexadecimal.{number_of}
 use Rattle.srp_base.specs.declared.bandwidth.Rank.{Rank}
 use Rattle.srp_base.specs.declared.bandwidth.Rank.TheVariants.{Emergency, Normal}
@@ -66,3 +67,33 @@ values_fit (Domain class priority vid) n = nat_le (class + n) 256 && nat_le (pri
 -- a Talker so many values later
 abbrev pub talker_after : Talker → ℕ → Talker
 talker_after t i = record t { stream = record { 0 = t.stream.0 + i }; dest = t.dest + i }
+
+-- ---- Written
+
+-- the Rank bit of a rank
+abbrev pub rank_bit : Rank → ℕ
+rank_bit Emergency = 0
+rank_bit Normal = 1
+
+-- the fields of a Talker, in the order in which they are read
+abbrev pub talker_octets : Talker → List ℕ
+talker_octets t =
+    bytes_high_first 8 t.stream.0
+    ++ (bytes_high_first 6 t.dest
+    ++ (bytes_high_first 2 t.vid
+    ++ (bytes_high_first 2 t.max_frame
+    ++ (bytes_high_first 2 t.frames
+    ++ (bytes_high_first 1 (t.priority * 32 + rank_bit t.rank * 16)
+    ++ bytes_high_first 4 t.latency)))))
+
+-- FailureInformation
+abbrev pub failure_octets : Failure → List ℕ
+failure_octets f = bytes_high_first 8 f.bridge.0 ++ bytes_high_first 1 f.code
+
+-- a FirstValue
+abbrev pub first_octets : FirstValue → List ℕ
+first_octets (Advertise t) = talker_octets t
+first_octets (Failed t f) = talker_octets t ++ failure_octets f
+first_octets (Listener stream) = bytes_high_first 8 stream.0
+first_octets (Domain class priority vid) =
+    bytes_high_first 1 class ++ (bytes_high_first 1 priority ++ bytes_high_first 2 vid)

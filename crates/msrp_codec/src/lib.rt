@@ -6,8 +6,9 @@ mod first_value;
 pub mod laws;
 mod pdu;
 mod reading;
+mod writing;
 
 pub use attribute_type::AttributeType;
 pub use mrpdu_codec::DecodeErr;
-pub use pdu::{MsrpContent, MsrpKey, MsrpPdu};
+pub use pdu::{MsrpContent, MsrpKey, MsrpPdu, row_octets};
 pub use reading::decode;

@@ -1,5 +1,9 @@
 //! What MSRP reads and writes.
 
+ghost use Rattle.std.specs.Prelude.{◌≡◌};
+ghost use Rattle.msrp_codec.specs.Content.{type_of_content, octets_of};
+
+use crate::attribute_type::AttributeType;
 use srp_base::{Failure, ListenerKind, MrpEvent, Seq, StreamId, Talker};
 
 /// What a declaration is of. Keys are ordered as they stand here, and then by number.
@@ -38,4 +42,31 @@ pub struct MsrpPdu {
     pub leave_all: bool,
     /// The events of keys, each with what it declares, in the order of the octets.
     pub events: Seq<(MrpEvent, MsrpKey, MsrpContent)>,
+}
+
+impl MsrpContent {
+    /// The attribute type that carries it.
+    pub fn attribute_type(&self) -> AttributeType
+        ensures { result ≡ type_of_content self.now }
+    {
+        match self {
+            MsrpContent::Advertise(_) => AttributeType::Advertise,
+            MsrpContent::Failed(_, _) => AttributeType::Failed,
+            MsrpContent::Listener(_) => AttributeType::Listener,
+            MsrpContent::Domain { .. } => AttributeType::Domain,
+        }
+    }
+}
+
+/// The stated octets of a declaration: how many an MRPDU takes for it at most. An MRPDU takes at most 106
+/// beside them.
+pub fn row_octets(content: &MsrpContent) -> usize
+    ensures { result ≡ octets_of content.now }
+{
+    match content {
+        MsrpContent::Advertise(_) => 28,
+        MsrpContent::Failed(_, _) => 37,
+        MsrpContent::Listener(_) => 12,
+        MsrpContent::Domain { .. } => 7,
+    }
 }
