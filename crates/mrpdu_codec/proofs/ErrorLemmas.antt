@@ -16,7 +16,7 @@ use Rattle.mrpdu_codec.specs.ReadErr.{Fails}
 use Rattle.mrpdu_codec.specs.Reading.{region_at, known_at, pdu_at, placed_in, reading}
 use Rattle.mrpdu_codec.proofs.ReadRegions.{region_left}
 use Rattle.mrpdu_codec.proofs.ReadMessages.{reading_holds}
-use Rattle.mrpdu_codec.proofs.AgainMessages.{spells_reads, breaks_reads}
+use Rattle.mrpdu_codec.proofs.SpelledMessages.{spells_reads, breaks_reads}
 
 pub region_within : (e : ReadErr) (row : Option TypeForm) (len size : ℕ) (octets : List ℕ) → Fails e (region_at row len size (take size octets)) → IsWithin e (length (take size octets))
 region_within errors.NoMemory row len size octets h = tt

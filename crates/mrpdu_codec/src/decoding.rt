@@ -1,6 +1,6 @@
 //! Octets read as a PDU.
 
-ghost use Rattle.std.specs.Prelude.{◌≡◌, ◌⊎◌, ◌↔◌, ◌<◌, ◌^◌, ℕ, List, length, Ok, Err, IfOk, IsTrue};
+ghost use Rattle.std.specs.Prelude.{◌≡◌, ◌<◌, ◌^◌, ℕ, length, Ok, Err, IfOk, IsTrue};
 ghost use Rattle.std.specs.List.{list_all};
 ghost use Rattle.mrpdu_codec.specs.declared.form.AppForm.{AppForm};
 ghost use Rattle.mrpdu_codec.specs.declared.pdu.Pdu.{Pdu};
@@ -111,18 +111,3 @@ pub fn decode(alloc: Global, form: AppForm, octets: &[u8]) -> Result<Pdu, Decode
     let pdu = raw.to_pdu(alloc)?;
     Ok(pdu)
 }
-
-/// The law of the grammar: all octets spell exactly one PDU, or break at exactly one place.
-pub fn one_reading()
-    ensures some { (form : AppForm) (octets : List ℕ) → ((pdu : Pdu) × Spells form octets pdu) ⊎ ((place : ℕ) × Breaks form octets place) }
-    ensures one_pdu { (form : AppForm) (octets : List ℕ) (p q : Pdu) → Spells form octets p → Spells form octets q → p ≡ q }
-    ensures one_place { (form : AppForm) (octets : List ℕ) (m n : ℕ) → Breaks form octets m → Breaks form octets n → m ≡ n }
-    ensures never_both { (form : AppForm) (octets : List ℕ) (pdu : Pdu) (place : ℕ) → Spells form octets pdu → Breaks form octets place → ⊥ }
-{}
-
-/// The reading as a function is the grammar: octets read as exactly the PDU that they spell, or as exactly
-/// the place where they break.
-pub fn reading_is_the_grammar()
-    ensures spelled { (form : AppForm) (octets : List ℕ) (pdu : Pdu) → (reading form octets ≡ Ok pdu) ↔ Spells form octets pdu }
-    ensures broken { (form : AppForm) (octets : List ℕ) (place : ℕ) → (reading form octets ≡ Err place) ↔ Breaks form octets place }
-{}

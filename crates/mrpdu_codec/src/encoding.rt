@@ -1,31 +1,20 @@
 //! A PDU written as octets.
 
-ghost use Rattle.std.specs.Prelude.{◌≡◌, ◌++◌, ◌∷◌, [], ◌≤◌, ◌<◌, ◌+◌, ◌^◌, length, drop, map, nat_le, if◌then◌else◌, IsTrue, IfOk, OnOk, OnErr, Ok};
-ghost use Rattle.mrpdu_codec.specs.Reading.{reading};
+ghost use Rattle.std.specs.Prelude.{◌≡◌, ◌++◌, ◌∷◌, [], ◌≤◌, ◌<◌, ◌+◌, length, drop, map, nat_le, if◌then◌else◌, IsTrue, IfOk, OnOk, OnErr};
 ghost use Rattle.std.specs.List.{list_all, AllByRecursion};
-ghost use Rattle.mrpdu_codec.specs.declared.form.AppForm.{AppForm};
-ghost use Rattle.mrpdu_codec.specs.declared.pdu.Pdu.{Pdu};
 ghost use Rattle.mrpdu_codec.specs.Types.{row_of};
 ghost use Rattle.mrpdu_codec.specs.Grammar.{Spells};
 ghost use Rattle.srp_base.specs.declared.mrp.MrpEvent.TheVariants.{New};
 ghost use Rattle.mrpdu_codec.specs.Octets.{number_of};
-ghost use Rattle.mrpdu_codec.specs.Tree.{vector_octets, vectors_octets, message_octets, messages_octets};
-ghost use Rattle.mrpdu_codec.specs.Canonical.{two_octets, three, pack_events, four, pack_params, vector_for, vectors_for, message_for, spelling, well_formed, message_fits, list_length_for, list_fits, length_for, octets_for, CanPut};
+ghost use Rattle.mrpdu_codec.specs.Tree.{vectors_octets, message_octets, messages_octets};
+ghost use Rattle.mrpdu_codec.specs.Canonical.{three, pack_events, four, pack_params, vectors_for, message_for, spelling, well_formed, message_fits, list_length_for, list_fits, length_for, octets_for, CanPut};
 
 use crate::form::AppForm;
+use crate::numbers::put_two;
 use crate::pdu::{Message, Pdu, VectorAttr};
 use crate::writable::{size_of, vectors_size};
 use srp_base::{MrpEvent, NoMemory};
 use std::alloc::{AllocError, Global};
-
-/// Writes a number in two octets, the high one first.
-fn put_number(out: &mut Vec<u8>, number: u16) -> Result<(), AllocError>
-    ensures { OnOk result (out.new.items ≡ out.old.items ++ two_octets number) }
-{
-    out.push((number / 256) as u8)?;
-    out.push((number % 256) as u8)?;
-    Ok(())
-}
 
 /// An event's number.
 fn number_of(event: MrpEvent) -> u8
@@ -145,7 +134,7 @@ pub fn put_vector(
     requires small { IsTrue (list_all (λ p. nat_le p 3) params.now) }
     ensures { OnOk result (out.new.items ≡ out.old.items ++ octets_for leave_all first.now events.now params.now) }
 {
-    put_number(out, header_for(leave_all, events))?;
+    put_two(out, header_for(leave_all, events))?;
     out.extend_from_slice(first)?;
     put_events(out, events)?;
     put_params(out, params)?;
@@ -176,7 +165,7 @@ fn put_list_length(out: &mut Vec<u8>, form: AppForm, vs: &[VectorAttr]) -> Resul
 {
     match form {
         AppForm::Mvrp => Ok(()),
-        AppForm::Msrp => put_number(out, (vectors_size(vs) + 2) as u16),
+        AppForm::Msrp => put_two(out, (vectors_size(vs) + 2) as u16),
         AppForm::Mmrp => Ok(()),
     }
 }
@@ -200,7 +189,7 @@ fn put_message(out: &mut Vec<u8>, form: AppForm, message: &Message) -> Result<()
     out.push(length_for(form, message))?;
     put_list_length(out, form, message.vectors.as_slice())?;
     put_vectors(out, message.vectors.as_slice())?;
-    put_number(out, 0)?;
+    put_two(out, 0)?;
     Ok(())
 }
 
@@ -223,7 +212,7 @@ fn written(alloc: Global, form: AppForm, pdu: &Pdu) -> Result<Vec<u8>, NoMemory>
     let mut out = Vec::with_capacity(alloc, size_of(form, pdu))?;
     out.push(pdu.version)?;
     put_messages(&mut out, form, pdu.messages.as_slice())?;
-    put_number(&mut out, 0)?;
+    put_two(&mut out, 0)?;
     Ok(out)
 }
 
@@ -247,9 +236,3 @@ pub fn encode(form: AppForm, pdu: &Pdu, out: &mut Vec<u8>) -> Result<(), NoMemor
     out.extend_from_slice(&octets)?;
     Ok(())
 }
-
-/// The round trip: the octets in which a PDU is written spell that PDU, and are read as it.
-pub fn written_is_read()
-    ensures spelled { (form : AppForm) (pdu : Pdu) → IsTrue (well_formed form pdu) → Spells form (spelling form pdu) pdu }
-    ensures read { (form : AppForm) (pdu : Pdu) → IsTrue (well_formed form pdu) → reading form (spelling form pdu) ≡ Ok pdu }
-{}

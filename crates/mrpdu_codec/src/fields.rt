@@ -1,22 +1,16 @@
 //! The fields of a vector, read one after another. Nothing here takes memory.
 
-ghost use Rattle.std.specs.Prelude.{◌≡◌, ◌+◌, ◌*◌, ◌/◌, ◌%◌, ◌<◌};
+ghost use Rattle.std.specs.Prelude.{◌≡◌, ◌*◌, ◌/◌, ◌%◌, ◌<◌};
 ghost use Rattle.mrpdu_codec.specs.Octets.{number, thirds, quarters};
-ghost use Rattle.mrpdu_codec.specs.Tree.{packed_limit, leave_all_limit, fours_for, header_fits};
+ghost use Rattle.mrpdu_codec.specs.Tree.{packed_limit, leave_all_limit, fours_for};
 ghost use Rattle.mrpdu_codec.specs.ReadErr.{Gives};
 ghost use Rattle.mrpdu_codec.specs.Reading.{run_at, header_at, first_at, vector_at, ends_list};
 ghost use Rattle.mrpdu_codec.specs.Raw.{vector_in};
 
 use crate::error::ReadErr;
 use crate::form::TypeForm;
+use crate::numbers::number;
 use crate::raw::RawVector;
-
-/// The number in two octets, the high one first.
-pub(crate) fn number(high: u8, low: u8) -> u16
-    ensures { result ≡ number high low }
-{
-    256 * u16::from(high) + u16::from(low)
-}
 
 /// NumberOfValues of a header.
 pub(crate) fn count(high: u8, low: u8) -> usize

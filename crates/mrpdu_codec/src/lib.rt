@@ -35,21 +35,28 @@ mod encoding;
 mod error;
 mod fields;
 mod form;
+pub mod laws;
 mod messages;
+mod numbers;
 mod pdu;
 mod places;
 mod raw;
 mod vectors;
 mod writable;
 
-pub use decoding::{decode, decode_in_place, one_reading, reading_is_the_grammar};
-pub use encoding::{encode, put_vector, written_is_read};
+pub use decoding::{decode, decode_in_place};
+pub use encoding::{encode, put_vector};
 pub use error::DecodeErr;
 pub use form::{AppForm, TypeForm};
+pub use laws::{
+    numbers_are_read_back, one_reading, reading_is_the_grammar, written_is_read, written_list_size,
+    written_size,
+};
+pub use numbers::{number_in, put_number};
 pub use pdu::{Message, Pdu, VectorAttr};
 pub use places::{first_value_at, first_values_have_places};
 pub use raw::{RawMessage, RawPdu, RawVector, events_in};
-pub use writable::{size_of, well_formed, written_size};
+pub use writable::{size_of, well_formed};
 
 #[cfg(test)]
 mod tests;

@@ -1,14 +1,14 @@
 //! Messages as they stand in the octets.
 
-ghost use Rattle.std.specs.Prelude.{◌≡◌, ◌<◌, ◌++◌, ◌+◌, List, [], ◌∷◌, length, take, drop, map, IfOk, OnOk, Some, None, option_map};
+ghost use Rattle.std.specs.Prelude.{◌≡◌, ◌<◌, ◌++◌, ◌+◌, [], length, take, drop, map, IfOk, OnOk, Some, None, option_map};
 ghost use Rattle.mrpdu_codec.specs.Tree.{length_fits};
 ghost use Rattle.mrpdu_codec.specs.Raw.{attrs_in, message_in, messages_in};
 ghost use Rattle.mrpdu_codec.specs.ReadErr.{Gives};
 ghost use Rattle.mrpdu_codec.specs.Reading.{kept, region_at, known_at, skip_at, size_at, sized_at, counted_at, body_at, length_at, message_at, type_at, end_at, messages_of};
 
 use crate::error::ReadErr;
-use crate::fields::number;
 use crate::form::{AppForm, TypeForm};
+use crate::numbers::number;
 use crate::raw::{RawMessage, RawVector};
 use crate::vectors::{list, mark, vectors};
 use std::alloc::{AllocError, Global};

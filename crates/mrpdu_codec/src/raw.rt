@@ -5,7 +5,8 @@ ghost use Rattle.std.specs.List.{flat_map, list_any};
 ghost use Rattle.mrpdu_codec.specs.Octets.{event_of, three_events, four_params};
 ghost use Rattle.mrpdu_codec.specs.Raw.{attr_in, attrs_in, message_in, leaves_in_place};
 
-use crate::fields::{count, number};
+use crate::fields::count;
+use crate::numbers::number;
 use crate::pdu::{Message, Pdu, VectorAttr};
 use srp_base::{MrpEvent, NoMemory, Seq};
 use std::alloc::{AllocError, Global};

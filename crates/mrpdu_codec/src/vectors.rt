@@ -6,8 +6,9 @@ ghost use Rattle.mrpdu_codec.specs.ReadErr.{Gives};
 ghost use Rattle.mrpdu_codec.specs.Reading.{kept, kept_attr, vectors_of, mark_at, list_at};
 
 use crate::error::ReadErr;
-use crate::fields::{ends_list, number, raw_vector};
+use crate::fields::{ends_list, raw_vector};
 use crate::form::TypeForm;
+use crate::numbers::number;
 use crate::raw::RawVector;
 use std::alloc::{AllocError, Global};
 

@@ -17,14 +17,16 @@
 //! octets.
 #![tactic(auto)]
 
+pub mod laws;
 mod pdu;
 mod reading;
 mod writing;
 
+pub use laws::{reading_is_the_grammar, runs_are_maximal};
 pub use mrpdu_codec::DecodeErr;
 pub use pdu::MvrpPdu;
-pub use reading::{decode, reading_is_the_grammar};
-pub use writing::{encode, runs_are_maximal};
+pub use reading::decode;
+pub use writing::encode;
 
 #[cfg(test)]
 mod tests;

@@ -1,6 +1,6 @@
 //! Octets read as the events of VIDs.
 
-ghost use Rattle.std.specs.Prelude.{◌≡◌, ◌↔◌, List, ◌++◌, ◌<◌, ◌≤◌, ◌^◌, ℕ, Ok, Err, length, take, OnOk, IfOk};
+ghost use Rattle.std.specs.Prelude.{◌≡◌, ◌++◌, ◌<◌, ◌≤◌, ◌^◌, ℕ, Ok, Err, length, take, OnOk, IfOk};
 ghost use Rattle.std.specs.List.{flat_map};
 ghost use Rattle.mrpdu_codec.specs.declared.error.DecodeErr.TheVariants as errors;
 ghost use Rattle.mrpdu_codec.specs.declared.form.AppForm.TheVariants.{Mvrp};
@@ -141,13 +141,4 @@ pub fn decode(alloc: Global, octets: &[u8]) -> Result<MvrpPdu, DecodeErr>
     let raw = mrpdu_codec::decode_in_place(alloc, AppForm::Mvrp, octets)?;
     let read = meaning(alloc, &raw)?;
     Ok(read)
-}
-
-/// The reading as a function is the grammar with the meaning of a PDU: octets read as exactly what the
-/// PDU that they spell says, or as exactly the place where they break.
-pub fn reading_is_the_grammar()
-    ensures reads { (octets : List ℕ) (read : MvrpPdu) → (mvrp_reading octets ≡ Ok read) ↔ Reads octets read }
-    ensures broken { (octets : List ℕ) (place : ℕ) → (mvrp_reading octets ≡ Err place) ↔ Breaks Mvrp octets place }
-{
-    mrpdu_codec::reading_is_the_grammar();
 }

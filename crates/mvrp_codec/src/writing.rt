@@ -1,11 +1,11 @@
 //! The events of VIDs written as octets.
 
-ghost use Rattle.std.specs.Prelude.{◌≡◌, ◌++◌, ◌<◌, ◌≤◌, ◌+◌, ◌==◌, length, map, take, drop, ℕ, List, Ok, IfOk, OnOk};
+ghost use Rattle.std.specs.Prelude.{◌≡◌, ◌++◌, ◌<◌, ◌≤◌, ◌+◌, ◌==◌, length, map, take, Ok, IfOk, OnOk};
 ghost use Rattle.srp_base.specs.declared.mrp.MrpEvent.{MrpEvent};
 ghost use Rattle.mvrp_codec.specs.Meaning.{mvrp_reading};
 ghost use Rattle.mrpdu_codec.specs.Tree.{vector_octets};
 ghost use Rattle.mrpdu_codec.specs.Canonical.{vector_for};
-ghost use Rattle.mvrp_codec.specs.Writing.{runs, first_for, run_vector, runs_octets, framed, mvrp_spelling, IsWritable, run_len, AreVids, AreMaximal, joined};
+ghost use Rattle.mvrp_codec.specs.Writing.{runs, first_for, run_vector, runs_octets, framed, mvrp_spelling, IsWritable, run_len, AreVids};
 
 use crate::pdu::MvrpPdu;
 use mrpdu_codec::put_vector;
@@ -131,11 +131,3 @@ pub fn encode(alloc: Global, pdu: &MvrpPdu) -> Result<Seq<u8>, NoMemory>
     mrpdu_codec::written_size();
     Ok(Seq::from_vec(octets))
 }
-
-/// The law of the runs: one after another they are the events, they are maximal, and no other runs are
-/// both.
-pub fn runs_are_maximal()
-    ensures whole { (events : List (MrpEvent × ℕ)) → joined (runs events) ≡ events }
-    ensures maximal { (events : List (MrpEvent × ℕ)) → AreMaximal (runs events) }
-    ensures only { (rs : List (List (MrpEvent × ℕ))) → AreMaximal rs → runs (joined rs) ≡ rs }
-{}

@@ -1,7 +1,7 @@
 use Rattle.std.proofs.Common.{◌≡◌, length, map}
 use Rattle.mrpdu_codec.specs.Raw.{message_in}
 use Rattle.mrpdu_codec.specs.Reading.{messages_of}
-use Rattle.mrpdu_codec.proofs.WhileMessages.{with_messages}
+use Rattle.mrpdu_codec.proofs.MessageLoops.{with_messages}
 use Rattle.mrpdu_codec.proofs.messages.messages.Given as goal
 
 abbrev pub invariant-more : goal.invariant-more

@@ -1,7 +1,7 @@
 use Rattle.std.proofs.Common.{◌≡◌, length}
 use Rattle.mrpdu_codec.specs.Raw.{attrs_in}
 use Rattle.mrpdu_codec.specs.Reading.{kept, vectors_of}
-use Rattle.mrpdu_codec.proofs.WhileVectors.{with_front}
+use Rattle.mrpdu_codec.proofs.VectorLoops.{with_front}
 use Rattle.mrpdu_codec.proofs.vectors.vectors.Given as goal
 
 abbrev pub invariant-more : goal.invariant-more

@@ -1,5 +1,5 @@
 use Rattle.mvrp_codec.proofs.MaximalRuns.{runs_joined, runs_maximal, only_runs}
-use Rattle.mvrp_codec.proofs.writing.runs_are_maximal.Goals as goal
+use Rattle.mvrp_codec.proofs.laws.runs_are_maximal.Goals as goal
 
 pub returns-clause-whole : goal.returns-clause-whole
 returns-clause-whole c = λ events. runs_joined events

@@ -19,7 +19,7 @@ use Rattle.mrpdu_codec.specs.Grammar.MessageBreaks.{len as length_breaks, body a
 use Rattle.mrpdu_codec.specs.Grammar.PduBreaks.{version as version_breaks, first_type, later_type, message as message_breaks_at}
 use Rattle.mrpdu_codec.specs.Reading.{◌>>=◌, ends_list, vectors_of, mark_at, list_at, region_at, known_at, skip_at, size_at, sized_at, counted_at, body_at, length_at, message_at, end_at, messages_at, messages_of, version_at, first_type_at, pdu_at}
 use Rattle.mrpdu_codec.proofs.Longer.{message_longer}
-use Rattle.mrpdu_codec.proofs.AgainVectors.{of_reads, of_breaks}
+use Rattle.mrpdu_codec.proofs.SpelledVectors.{of_reads, of_breaks}
 
 -- a number that isn't 0
 nonzero : (kind : ℕ) → 0 < kind → eqb kind 0 ≡ false

@@ -4,8 +4,8 @@ use Rattle.mrpdu_codec.specs.declared.pdu.Pdu.{Pdu}
 use Rattle.mrpdu_codec.specs.Grammar.{Spells, Breaks}
 use Rattle.mrpdu_codec.specs.Reading.{pdu_at}
 use Rattle.mrpdu_codec.proofs.ReadMessages.{reading_holds}
-use Rattle.mrpdu_codec.proofs.AgainMessages.{spells_reads, breaks_reads}
-use Rattle.mrpdu_codec.proofs.decoding.one_reading.Goals as goal
+use Rattle.mrpdu_codec.proofs.SpelledMessages.{spells_reads, breaks_reads}
+use Rattle.mrpdu_codec.proofs.laws.one_reading.Goals as goal
 
 either : (form : AppForm) (octets : List ℕ) (read : Result Pdu ℕ) → MatchResult read (λ pdu. Spells form octets pdu) (λ left. (left ≤ length octets) × Breaks form octets (length octets - left))
     → ((pdu : Pdu) × Spells form octets pdu) ⊎ ((place : ℕ) × Breaks form octets place)
