@@ -1,3 +1,4 @@
-pub mod FieldLemmas
 pub mod ReadingLemmas
 pub mod PastLemmas
+pub mod WritingLemmas
+pub mod SizeLemmas

@@ -1,7 +1,7 @@
 -- The one spelling in which the events of keys are written (IEEE Std 802.1Q-2018, 10.8.1.2): a Message for each
 -- type that has an event or that LeaveAll asks for, types ascending, and in it a vector for each event, in the
 -- order given.
-use Rattle.std.specs.Prelude.{◌≡◌, ℕ, ◌+◌, ◌≤◌, Bool, true, false, ◌||◌, List, [], ◌∷◌, length, map, replicate, nat_lt, ◌==◌}
+use Rattle.std.specs.Prelude.{◌≡◌, ℕ, ◌+◌, ◌*◌, ◌≤◌, Bool, true, false, ◌||◌, List, [], ◌∷◌, length, map, replicate, nat_lt, ◌==◌, if◌then◌else◌}
 use Rattle.std.specs.List.{flat_map, filter, sum_by, AllByRecursion}
 use Rattle.mrpdu_codec.specs.declared.form.AppForm.TheVariants.{Msrp}
 use Rattle.mrpdu_codec.specs.declared.pdu.VectorAttr.{VectorAttr}
@@ -12,7 +12,7 @@ use Rattle.msrp_codec.specs.declared.attribute_type.AttributeType.{AttributeType
 use Rattle.msrp_codec.specs.declared.pdu.MsrpPdu.{MsrpPdu}
 use Rattle.msrp_codec.specs.AttributeType.{number_of_type, length_of, all_types}
 use Rattle.msrp_codec.specs.FirstValue.{first_octets}
-use Rattle.msrp_codec.specs.Content.{type_of_content, value_of, four_packed_for, Belongs, octets_of, base_octets}
+use Rattle.msrp_codec.specs.Content.{type_of_content, value_of, four_packed_for, Belongs, octets_of_type, octets_of, base_octets}
 use Rattle.msrp_codec.specs.Meaning.{KeyEvent}
 
 -- the event is of this type
@@ -50,6 +50,10 @@ messages_for t (v ∷ vs) = record { kind = number_of_type t; vectors = v ∷ vs
 -- the Message of a type, if it has one
 abbrev pub type_messages : Bool → List KeyEvent → AttributeType → List Message
 type_messages leave events t = messages_for t (type_vectors leave t (of_type t events))
+
+-- how many octets the vectors of a type take that has so many events
+abbrev pub list_size : Bool → AttributeType → ℕ → ℕ
+list_size leave t n = if n == 0 then (if leave then 2 + length_of t else 0) else n * octets_of_type t
 
 -- the PDU of a LeaveAll and events
 abbrev pub pdu_for : MsrpPdu → Pdu

@@ -2,11 +2,11 @@
 
 ghost use Rattle.std.specs.Prelude.{◌≡◌, ◌≤◌, ◌<◌, ◌+◌, ◌/◌, ◌^◌, nat_le, length};
 ghost use Rattle.mrpdu_codec.specs.declared.form.AppForm.TheVariants.{Msrp};
-ghost use Rattle.srp_base.specs.Hexadecimal.{number_of};
 ghost use Rattle.msrp_codec.specs.FirstValue.{field, rank_of, talker_of, failure_of, first_value_of, talkers_fit, values_fit};
 ghost use Rattle.msrp_codec.specs.AttributeType.{length_of};
 
 use crate::attribute_type::AttributeType;
+use mrpdu_codec::number_in;
 use srp_base::{BridgeId, Failure, Mac, Priority, Rank, StreamId, Talker};
 
 /// A FirstValue of MSRP (IEEE Std 802.1Q-2018, 35.2.2.8, 35.2.2.9).
@@ -19,19 +19,6 @@ pub(crate) enum FirstValue {
     Domain(u8, u8, u16),
 }
 
-/// The number of some octets, the high one first.
-fn number_of(octets: &[u8]) -> u64
-    requires { length octets.now ≤ 8 }
-    ensures value { result ≡ number_of octets.now }
-    ensures below { result < 256 ^ length octets.now }
-{
-    let mut number = 0u64;
-    for octet in octets {
-        number = number * 256 + u64::from(*octet);
-    }
-    number
-}
-
 /// The number in n octets at an offset.
 fn field(octets: &[u8], at: usize, n: usize) -> u64
     requires within { at + n ≤ length octets.now }
@@ -39,7 +26,7 @@ fn field(octets: &[u8], at: usize, n: usize) -> u64
     ensures value { result ≡ field octets.now at n }
     ensures below { result < 256 ^ n }
 {
-    number_of(&octets[at..at + n])
+    number_in(&octets[at..at + n])
 }
 
 /// The Rank bit.

@@ -1,6 +1,6 @@
 //! The events of keys written as octets.
 
-ghost use Rattle.std.specs.Prelude.{◌≡◌, ◌++◌, ◌∷◌, [], ◌<◌, ◌≤◌, ◌+◌, ◌*◌, ◌^◌, ℕ, Bool, List, Ok, ◌==◌, length, map, replicate, filter, OnOk, IfOk, if◌then◌else◌};
+ghost use Rattle.std.specs.Prelude.{◌≡◌, ◌++◌, ◌∷◌, [], ◌<◌, ◌≤◌, ◌+◌, ◌*◌, ◌^◌, false, ℕ, Bool, List, Ok, ◌==◌, length, map, replicate, filter, OnOk, IfOk, if◌then◌else◌};
 ghost use Rattle.std.specs.Int.{bytes_high_first};
 ghost use Rattle.mrpdu_codec.specs.declared.form.AppForm.TheVariants.{Msrp};
 ghost use Rattle.mrpdu_codec.specs.Tree.{vector_octets, vectors_octets, messages_octets};
@@ -9,24 +9,13 @@ ghost use Rattle.msrp_codec.specs.AttributeType.{number_of_type, length_of};
 ghost use Rattle.msrp_codec.specs.FirstValue.{rank_bit, talker_octets, failure_octets, first_octets};
 ghost use Rattle.msrp_codec.specs.Content.{type_of_content, stream_of, class_of, value_of, kind_number, four_packed_for};
 ghost use Rattle.msrp_codec.specs.Meaning.{msrp_reading};
-ghost use Rattle.msrp_codec.specs.Writing.{has_type, of_type, event_vector, leave_vector, type_vectors, type_messages, msrp_spelling, as_written, IsWritable};
+ghost use Rattle.msrp_codec.specs.Writing.{has_type, of_type, event_vector, leave_vector, type_vectors, type_messages, list_size, msrp_spelling, as_written, IsWritable};
 
 use crate::attribute_type::AttributeType;
 use crate::pdu::{MsrpContent, MsrpKey, MsrpPdu};
-use mrpdu_codec::{AppForm, put_vector};
+use mrpdu_codec::{put_number, put_vector};
 use srp_base::{Failure, ListenerKind, MrpEvent, NoMemory, Rank, Seq, StreamId, Talker};
 use std::alloc::{AllocError, Global};
-
-/// Writes the n low octets of a number, the high one first.
-fn put_number(out: &mut Vec<u8>, number: u64, n: usize) -> Result<(), NoMemory>
-    requires { n ≤ 8 }
-    ensures ok { OnOk result (out.new.items ≡ out.old.items ++ bytes_high_first n number) }
-{
-    let octets = number.to_be_bytes();
-    let (_, low) = octets.split_at(8 - n);
-    out.extend_from_slice(low)?;
-    Ok(())
-}
 
 /// PriorityAndRank.
 fn priority_and_rank(t: &Talker) -> u64
@@ -53,10 +42,11 @@ fn put_talker(out: &mut Vec<u8>, t: &Talker) -> Result<(), NoMemory>
     Ok(())
 }
 
-/// Writes FailureInformation.
-fn put_failure(out: &mut Vec<u8>, failure: &Failure) -> Result<(), NoMemory>
-    ensures { OnOk result (out.new.items ≡ out.old.items ++ failure_octets failure.now) }
+/// Writes the fields of a Talker and FailureInformation.
+fn put_failed(out: &mut Vec<u8>, t: &Talker, failure: &Failure) -> Result<(), NoMemory>
+    ensures { OnOk result (out.new.items ≡ out.old.items ++ (talker_octets t.now ++ failure_octets failure.now)) }
 {
+    put_talker(out, t)?;
     put_number(out, failure.bridge.0, 8)?;
     put_number(out, u64::from(failure.code), 1)?;
     Ok(())
@@ -90,10 +80,7 @@ fn put_first(out: &mut Vec<u8>, key: MsrpKey, content: &MsrpContent) -> Result<(
 {
     match content {
         MsrpContent::Advertise(t) => put_talker(out, t),
-        MsrpContent::Failed(t, failure) => {
-            put_talker(out, t)?;
-            put_failure(out, failure)
-        }
+        MsrpContent::Failed(t, failure) => put_failed(out, t, failure),
         MsrpContent::Listener(_) => put_number(out, stream_of(key).0, 8),
         MsrpContent::Domain { priority, vid } => {
             put_number(out, u64::from(class_of(key)), 1)?;
@@ -151,4 +138,155 @@ fn put_event(
         }
         _ => put_vector(out, leave_all, first, &[event.0], &[]),
     }
+}
+
+/// Writes the vector of a LeaveAll alone.
+fn put_leave(out: &mut Vec<u8>, t: AttributeType) -> Result<(), NoMemory>
+    ensures { OnOk result (out.new.items ≡ out.old.items ++ vector_octets (vector_for (leave_vector t))) }
+{
+    match t {
+        AttributeType::Advertise => put_vector(out, true, &[0; 25], &[], &[]),
+        AttributeType::Failed => put_vector(out, true, &[0; 34], &[], &[]),
+        AttributeType::Listener => put_vector(out, true, &[0; 8], &[], &[]),
+        AttributeType::Domain => put_vector(out, true, &[0; 4], &[], &[]),
+    }
+}
+
+/// Writes the vector of an event, if it is of a type. What is answered is whether the LeaveAll is still to be
+/// written.
+fn put_if_typed(
+    out: &mut Vec<u8>,
+    first: &mut Vec<u8>,
+    leave_all: bool,
+    t: AttributeType,
+    event: &(MrpEvent, MsrpKey, MsrpContent),
+) -> Result<bool, NoMemory>
+    ensures octets { OnOk result (out.new.items ≡ out.old.items ++ (if has_type t event.now then vector_octets (vector_for (event_vector leave_all event.now)) else [])) }
+    ensures leave { IfOk result (λ leave. leave ≡ if has_type t event.now then false else leave_all) }
+{
+    if !has_type(t, &event.2) {
+        return Ok(leave_all);
+    }
+    put_event(out, first, leave_all, event)?;
+    Ok(false)
+}
+
+/// Writes the vectors of a type's events.
+fn put_vectors(
+    out: &mut Vec<u8>,
+    first: &mut Vec<u8>,
+    leave_all: bool,
+    t: AttributeType,
+    events: &[(MrpEvent, MsrpKey, MsrpContent)],
+) -> Result<(), NoMemory>
+    ensures { OnOk result (out.new.items ≡ out.old.items ++ vectors_octets (vectors_for (type_vectors leave_all t (of_type t events.now)))) }
+{
+    let mut leave = leave_all;
+    for event in events {
+        leave = put_if_typed(out, first, leave, t, event)?;
+    }
+    if leave {
+        put_leave(out, t)?;
+    }
+    Ok(())
+}
+
+/// How many events are of a type.
+fn count_of(t: AttributeType, events: &[(MrpEvent, MsrpKey, MsrpContent)]) -> usize
+    ensures count { result ≡ length (of_type t events.now) }
+    ensures within { result ≤ length events.now }
+{
+    let mut n = 0usize;
+    for event in events {
+        if has_type(t, &event.2) {
+            n += 1;
+        }
+    }
+    n
+}
+
+/// How many octets the vectors of a type's events take, where so many events are of the type.
+fn list_size(leave_all: bool, t: AttributeType, n: usize) -> usize
+    requires { n ≤ 1500 }
+    ensures size { result ≡ list_size leave_all t n }
+    ensures small { result ≤ 60000 }
+{
+    if n == 0 {
+        return if leave_all { 2 + length_of(t) } else { 0 };
+    }
+    match t {
+        AttributeType::Advertise => n * 28,
+        AttributeType::Failed => n * 37,
+        AttributeType::Listener => n * 12,
+        AttributeType::Domain => n * 7,
+    }
+}
+
+/// Writes the Message of a type, if it has one.
+fn put_type(
+    out: &mut Vec<u8>,
+    first: &mut Vec<u8>,
+    leave_all: bool,
+    t: AttributeType,
+    events: &[(MrpEvent, MsrpKey, MsrpContent)],
+) -> Result<(), NoMemory>
+    requires { length events.now ≤ 1500 }
+    ensures { OnOk result (out.new.items ≡ out.old.items ++ messages_octets (map (message_for Msrp) (type_messages leave_all events.now t))) }
+{
+    mrpdu_codec::written_list_size();
+    mrpdu_codec::numbers_are_read_back();
+    let size = list_size(leave_all, t, count_of(t, events));
+    if size == 0 {
+        return Ok(());
+    }
+    out.push(t.number())?;
+    out.push(length_of(t) as u8)?;
+    put_number(out, (size + 2) as u64, 2)?;
+    put_vectors(out, first, leave_all, t, events)?;
+    out.extend_from_slice(&[0, 0])?;
+    Ok(())
+}
+
+/// The octets of a PDU.
+fn written(
+    alloc: Global,
+    leave_all: bool,
+    events: &[(MrpEvent, MsrpKey, MsrpContent)],
+) -> Result<Vec<u8>, NoMemory>
+    requires { length events.now ≤ 1500 }
+    ensures { IfOk result (λ v. v.items ≡ msrp_spelling (record { leave_all = leave_all; events = events.now })) }
+{
+    let mut out = Vec::with_capacity(alloc, 1500)?;
+    let mut first = Vec::with_capacity(alloc, 34)?;
+    out.push(0)?;
+    put_type(&mut out, &mut first, leave_all, AttributeType::Advertise, events)?;
+    put_type(&mut out, &mut first, leave_all, AttributeType::Failed, events)?;
+    put_type(&mut out, &mut first, leave_all, AttributeType::Listener, events)?;
+    put_type(&mut out, &mut first, leave_all, AttributeType::Domain, events)?;
+    out.extend_from_slice(&[0, 0])?;
+    Ok(out)
+}
+
+/// The octets that say a LeaveAll and the events of keys (IEEE Std 802.1Q-2018, 10.8.1.2, 35.2.2): a Message
+/// for each type that has an event or that the LeaveAll asks for, types ascending, and in it a vector for each
+/// event, in the order given. Where keys ascend this is the canonical encoding. With a LeaveAll the first vector
+/// of each of the four types has it. There has to be a LeaveAll or an event, each content has to belong to its
+/// key, and the stated octets of all events may be at most 1,500 with the base of 106.
+///
+/// # Errors
+///
+/// `NoMemory` where memory for the octets runs out.
+pub fn encode(alloc: Global, pdu: &MsrpPdu) -> Result<Seq<u8>, NoMemory>
+    requires { IsWritable pdu.now }
+    ensures spelled { IfOk result (λ octets. octets ≡ msrp_spelling pdu.now) }
+
+    // They read as what was written: the same LeaveAll, and the same events in the order of types.
+    ensures read_back { IfOk result (λ octets. msrp_reading octets ≡ Ok (as_written pdu.now)) }
+    ensures few { IfOk result (λ octets. length octets ≤ 1500) }
+{
+    let octets = written(alloc, pdu.leave_all, pdu.events.as_slice())?;
+    mrpdu_codec::written_is_read();
+    mrpdu_codec::written_size();
+    mrpdu_codec::numbers_are_read_back();
+    Ok(Seq::from_vec(octets))
 }
