@@ -2,3 +2,4 @@ pub mod ReadingLemmas
 pub mod PastLemmas
 pub mod WritingLemmas
 pub mod SizeLemmas
+pub mod ReadBackLemmas

@@ -13,7 +13,7 @@ use Rattle.msrp_codec.specs.declared.pdu.MsrpContent.TheVariants as contents
 use Rattle.msrp_codec.specs.AttributeType.{number_of_type, length_of}
 use Rattle.msrp_codec.specs.Content.{type_of_content, octets_of_type, octets_of}
 use Rattle.msrp_codec.specs.Meaning.{KeyEvent}
-use Rattle.msrp_codec.specs.Writing.{has_type, of_type, event_vector, leave_vector, type_vectors, list_size}
+use Rattle.msrp_codec.specs.Writing.{has_type, of_type, event_vector, leave_vector, type_vectors, list_size, stated_octets}
 use Rattle.msrp_codec.proofs.WritingLemmas.{vectors_more, all_later}
 
 -- a number has one type
@@ -84,3 +84,18 @@ sized leave t (y ∷ ys) h =
 
 pub list_sized : (leave : Bool) (t : AttributeType) (events : List KeyEvent) → vectors_size (type_vectors leave t (of_type t events)) ≡ list_size leave t (length (of_type t events))
 list_sized leave t events = sized leave t (of_type t events) (later_size t events)
+
+-- ---- how many octets in all
+
+some_octets : (t : AttributeType) → 1 ≤ octets_of_type t
+some_octets Advertise = omega arith
+some_octets Failed = omega arith
+some_octets Listener = omega arith
+some_octets Domain = omega arith
+
+each_some : (events : List KeyEvent) → length events ≤ sum_by (λ (x : KeyEvent). octets_of x.2) events
+each_some [] = omega arith
+each_some (x ∷ xs) = omega (arith, sum_by-cons (λ (y : KeyEvent). octets_of y.2) x xs, some_octets (type_of_content x.2), each_some xs)
+
+pub few_events : (events : List KeyEvent) → stated_octets events ≤ 1500 → length events ≤ 1500
+few_events events few = omega (arith, each_some events, few)

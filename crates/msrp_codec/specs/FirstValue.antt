@@ -1,6 +1,6 @@
 -- The values of MSRP's attributes as octets, field by field (IEEE Std 802.1Q-2018, 35.2.2.8, 35.2.2.9). All
 -- numbers stand with the high octet first.
-use Rattle.std.specs.Prelude.{ℕ, ◌+◌, ◌*◌, ◌/◌, ◌%◌, ◌^◌, Bool, ◌&&◌, List, ◌++◌, take, drop, nat_le, ◌==◌, if◌then◌else◌}
+use Rattle.std.specs.Prelude.{ℕ, ◌+◌, ◌*◌, ◌/◌, ◌%◌, ◌^◌, ◌<◌, ◌≤◌, Bool, ◌&&◌, List, ◌++◌, take, drop, nat_le, ◌==◌, if◌then◌else◌}
 use Rattle.std.specs.Int.{bytes_high_first}
 use Rattle.srp_base.specs.Hexadecimal.{number_of}
 use Rattle.srp_base.specs.declared.bandwidth.Rank.{Rank}
@@ -97,3 +97,24 @@ first_octets (Failed t f) = talker_octets t ++ failure_octets f
 first_octets (Listener stream) = bytes_high_first 8 stream.0
 first_octets (Domain class priority vid) =
     bytes_high_first 1 class ++ (bytes_high_first 1 priority ++ bytes_high_first 2 vid)
+
+-- ---- The numbers that fields hold
+
+pub record IsTalker (t : Talker) : Type 0 where
+  pub stream : t.stream.0 < 2 ^ 64
+  pub dest : t.dest < 2 ^ 48
+  pub vid : t.vid < 2 ^ 16
+  pub max_frame : t.max_frame < 2 ^ 16
+  pub frames : t.frames < 2 ^ 16
+  pub priority : t.priority ≤ 7
+  pub latency : t.latency < 2 ^ 32
+
+pub record IsFailure (f : Failure) : Type 0 where
+  pub bridge : f.bridge.0 < 2 ^ 64
+  pub code : f.code < 2 ^ 8
+
+abbrev pub IsFirst : FirstValue → Type 0
+IsFirst (Advertise t) = IsTalker t
+IsFirst (Failed t f) = IsTalker t × IsFailure f
+IsFirst (Listener stream) = stream.0 < 2 ^ 64
+IsFirst (Domain class priority vid) = (class < 2 ^ 8) × (priority < 2 ^ 8) × (vid < 2 ^ 16)

@@ -1,18 +1,18 @@
 //! The events of keys written as octets.
 
 ghost use Rattle.std.specs.Prelude.{◌≡◌, ◌++◌, ◌∷◌, [], ◌<◌, ◌≤◌, ◌+◌, ◌*◌, ◌^◌, false, ℕ, Bool, List, Ok, ◌==◌, length, map, replicate, filter, OnOk, IfOk, if◌then◌else◌};
-ghost use Rattle.std.specs.Int.{bytes_high_first};
+ghost use Rattle.std.specs.List.{AllByRecursion};
 ghost use Rattle.mrpdu_codec.specs.declared.form.AppForm.TheVariants.{Msrp};
 ghost use Rattle.mrpdu_codec.specs.Tree.{vector_octets, vectors_octets, messages_octets};
 ghost use Rattle.mrpdu_codec.specs.Canonical.{vector_for, vectors_for, message_for};
 ghost use Rattle.msrp_codec.specs.AttributeType.{number_of_type, length_of};
-ghost use Rattle.msrp_codec.specs.FirstValue.{rank_bit, talker_octets, failure_octets, first_octets};
-ghost use Rattle.msrp_codec.specs.Content.{type_of_content, stream_of, class_of, value_of, kind_number, four_packed_for};
+ghost use Rattle.msrp_codec.specs.FirstValue.{IsTalker, IsFailure, IsFirst, rank_bit, talker_octets, failure_octets, first_octets};
+ghost use Rattle.msrp_codec.specs.Content.{type_of_content, stream_of, class_of, value_of, octets_of, kind_number, four_packed_for};
 ghost use Rattle.msrp_codec.specs.Meaning.{msrp_reading};
-ghost use Rattle.msrp_codec.specs.Writing.{has_type, of_type, event_vector, leave_vector, type_vectors, type_messages, list_size, msrp_spelling, as_written, IsWritable};
+ghost use Rattle.msrp_codec.specs.Writing.{has_type, of_type, event_vector, leave_vector, type_vectors, type_messages, list_size, stated_octets, msrp_spelling, as_written, IsWritable};
 
 use crate::attribute_type::AttributeType;
-use crate::pdu::{MsrpContent, MsrpKey, MsrpPdu};
+use crate::pdu::{MsrpContent, MsrpKey, MsrpPdu, row_octets};
 use mrpdu_codec::{put_number, put_vector};
 use srp_base::{Failure, ListenerKind, MrpEvent, NoMemory, Rank, Seq, StreamId, Talker};
 use std::alloc::{AllocError, Global};
@@ -247,16 +247,70 @@ fn put_type(
     Ok(())
 }
 
+/// The numbers of a Talker fit in its fields.
+fn talker_fits(_t: Talker)
+    ensures { IsTalker _t }
+{}
+
+/// The numbers of a Talker and of FailureInformation fit in their fields.
+fn failed_fits(t: Talker, _failure: Failure)
+    ensures { IsTalker t × IsFailure _failure }
+{
+    talker_fits(t);
+}
+
+/// A StreamID fits in its field.
+fn stream_fits(_stream: StreamId)
+    ensures { _stream.0 < 2 ^ 64 }
+{}
+
+/// The numbers of a Domain fit in its fields.
+fn domain_fits(_class: u8, _priority: u8, _vid: u16)
+    ensures { (_class < 2 ^ 8) × (_priority < 2 ^ 8) × (_vid < 2 ^ 16) }
+{}
+
+/// The numbers of a declaration fit in their fields, as their types have it. It is a law, and does nothing.
+fn numbers_fit(key: MsrpKey, content: &MsrpContent)
+    ensures { IsFirst (value_of key content.now) }
+{
+    match content {
+        MsrpContent::Advertise(t) => talker_fits(*t),
+        MsrpContent::Failed(t, failure) => failed_fits(*t, *failure),
+        MsrpContent::Listener(_) => stream_fits(stream_of(key)),
+        MsrpContent::Domain { priority, vid } => domain_fits(class_of(key), *priority, *vid),
+    }
+}
+
+/// The stated octets of events, with the base.
+#[tactic(auto, using(crate::proofs::SizeLemmas::few_events))]
+fn stated_octets(events: &[(MrpEvent, MsrpKey, MsrpContent)]) -> usize
+    requires { stated_octets events.now ≤ 1500 }
+    ensures octets { result ≡ stated_octets events.now }
+    ensures few { length events.now ≤ 1500 }
+
+    // Their numbers fit in their fields.
+    ensures in_range { AllByRecursion (λ x. IsFirst (value_of x.1 x.2)) events.now }
+{
+    let mut size = 106usize;
+    for event in events {
+        numbers_fit(event.1, &event.2);
+        size += row_octets(&event.2);
+    }
+    size
+}
+
 /// The octets of a PDU.
 fn written(
     alloc: Global,
     leave_all: bool,
     events: &[(MrpEvent, MsrpKey, MsrpContent)],
 ) -> Result<Vec<u8>, NoMemory>
-    requires { length events.now ≤ 1500 }
-    ensures { IfOk result (λ v. v.items ≡ msrp_spelling (record { leave_all = leave_all; events = events.now })) }
+    requires { stated_octets events.now ≤ 1500 }
+    ensures octets { IfOk result (λ v. v.items ≡ msrp_spelling (record { leave_all = leave_all; events = events.now })) }
+    ensures in_range { OnOk result (AllByRecursion (λ x. IsFirst (value_of x.1 x.2)) events.now) }
 {
-    let mut out = Vec::with_capacity(alloc, 1500)?;
+    let size = stated_octets(events);
+    let mut out = Vec::with_capacity(alloc, size)?;
     let mut first = Vec::with_capacity(alloc, 34)?;
     out.push(0)?;
     put_type(&mut out, &mut first, leave_all, AttributeType::Advertise, events)?;
