@@ -3,3 +3,4 @@ pub mod PastLemmas
 pub mod WritingLemmas
 pub mod SizeLemmas
 pub mod ReadBackLemmas
+pub mod WrittenPdu

@@ -1,4 +1,4 @@
-use Rattle.msrp_codec.proofs.ReadBackLemmas.{type_of_first}
+use Rattle.msrp_codec.proofs.WrittenPdu.{reads_again}
 use Rattle.msrp_codec.proofs.writing.encode.Goals as goal
 
 pub returns-clause-read_back : goal.returns-clause-read_back
