@@ -2,7 +2,7 @@
 use Rattle.std.proofs.Common.{◌≡◌, ℕ, zero, suc, ◌+◌, ◌*◌, ◌^◌, ◌<◌, ◌≤◌, Bool, true, false, eqb, leb, ltb, ◌&&◌, ◌||◌, ◌⊎◌, inl, inr, List, [], ◌∷◌, ◌++◌, length, map, Option, Some, Result, Ok, refl, sym, ap, subst, ◌∙◌, append-nil, length-append, arith}
 use Rattle.std.specs.List.{flat_map, filter, list_all, list_any, sum_by, AllByRecursion}
 use Rattle.std.specs.Int.{bytes_high_first}
-use Rattle.std.proofs.lemmas.Bool.{cases_Bool, and_from, le-leb, lt-ltb, ltb-true, ne_eqb}
+use Rattle.std.proofs.lemmas.Bool.{cases_Bool, and_from, le-leb, lt-ltb, ne_eqb, eq-eqb}
 use Rattle.std.proofs.lemmas.List.Concat.{flat_map-append}
 use Rattle.std.proofs.lemmas.List.Folds.{list_all-append, list_any-append}
 use Rattle.std.proofs.lemmas.List.Sums.{sum_by-append, sum_by-cons}
@@ -199,3 +199,110 @@ module _ (back : (n number : ℕ) → number < 256 ^ n → number_of (bytes_high
       ap (read_as (msrp_spelling read)) e
       ∙ ap (judged (msrp_spelling read) (pdu_for read)) (past_all 0 (pdu_for read).messages in_range)
       ∙ ap (λ (m : MsrpPdu). let x : Result MsrpPdu ℕ = Ok m in x) meaning_again
+
+-- ---- it can be written
+
+-- a type has vectors where there is LeaveAll, or an event of it
+some_message : (leave : Bool) (t : AttributeType) (ys : List KeyEvent) → (leave || ltb 0 (length ys)) ≡ true → 0 < length (messages_for t (type_vectors leave t ys))
+some_message true t [] h = omega arith
+some_message false t [] h = absurd cc
+some_message true t (y ∷ ys) h = omega arith
+some_message false t (y ∷ ys) h = omega arith
+
+four_long : (leave : Bool) (events : List KeyEvent) → length (flat_map (type_messages leave events) all_types)
+    ≡ length (type_messages leave events Advertise) + (length (type_messages leave events Failed) + (length (type_messages leave events Listener) + length (type_messages leave events Domain)))
+four_long leave events =
+    let m = type_messages leave events in
+    omega (arith, length-append (m Advertise) (m Failed ++ (m Listener ++ (m Domain ++ []))), length-append (m Failed) (m Listener ++ (m Domain ++ [])), length-append (m Listener) (m Domain ++ []), length-append (m Domain) [])
+
+-- one of four is there
+one_of : (leave : Bool) (events : List KeyEvent) (t : AttributeType) → 0 < length (type_messages leave events t) → 0 < length (flat_map (type_messages leave events) all_types)
+one_of leave events Advertise h = omega (arith, four_long leave events, h)
+one_of leave events Failed h = omega (arith, four_long leave events, h)
+one_of leave events Listener h = omega (arith, four_long leave events, h)
+one_of leave events Domain h = omega (arith, four_long leave events, h)
+
+-- the first event has its type
+first_typed : (x : KeyEvent) (xs : List KeyEvent) → (t : AttributeType) → type_of_content x.2 ≡ t → ltb 0 (length (of_type t (x ∷ xs))) ≡ true
+first_typed x xs t typed =
+    let same : has_type t x ≡ true = eq-eqb (number_of_type (type_of_content x.2)) (number_of_type t) (ap number_of_type typed) in
+    rw same (lt-ltb 0 (suc (length (of_type t xs))) (omega arith))
+
+or_true : (b : Bool) → (b || true) ≡ true
+or_true true = refl
+or_true false = refl
+
+some_messages : (leave : Bool) (events : List KeyEvent) → (leave || ltb 0 (length events)) ≡ true → 0 < length (flat_map (type_messages leave events) all_types)
+some_messages true events h = one_of true events Advertise (some_message true Advertise (of_type Advertise events) refl)
+some_messages false [] h = absurd cc
+some_messages false (x ∷ xs) h =
+    let t = type_of_content x.2 in
+    one_of false (x ∷ xs) t (some_message false t (of_type t (x ∷ xs)) (first_typed x xs t refl))
+
+-- ---- it is small
+
+size_below : (leave : Bool) (t : AttributeType) (n : ℕ) → list_size leave t n ≤ 2 + length_of t + n * octets_of_type t
+size_below true t zero = omega arith
+size_below false t zero = omega arith
+size_below leave t (suc n) = rw (ne_eqb (suc n) 0 (λ e. absurd (omega arith))) (omega arith)
+
+-- the octets of the declarations of a type
+abbrev typed_octets : AttributeType → List KeyEvent → ℕ
+typed_octets t events = length (of_type t events) * octets_of_type t
+
+abbrev octets_in_all : List KeyEvent → ℕ
+octets_in_all events = sum_by (λ (x : KeyEvent). octets_of x.2) events
+
+list_below : (leave : Bool) (t : AttributeType) (events : List KeyEvent) → vectors_size (type_vectors leave t (of_type t events)) ≤ 2 + length_of t + typed_octets t events
+list_below leave t events = omega (arith, list_sized leave t events, size_below leave t (length (of_type t events)))
+
+four_typed : (event : MrpEvent) (key : MsrpKey) (content : MsrpContent) (xs : List KeyEvent) → (let all : List KeyEvent = (event, key, content) ∷ xs in
+    typed_octets Advertise all + (typed_octets Failed all + (typed_octets Listener all + typed_octets Domain all))) ≡ octets_of content + (typed_octets Advertise xs + (typed_octets Failed xs + (typed_octets Listener xs + typed_octets Domain xs)))
+four_typed event key (contents.Advertise t) xs = omega arith
+four_typed event key (contents.Failed t f) xs = omega arith
+four_typed event key (contents.Listener kind) xs = omega arith
+four_typed event key (contents.Domain priority vid) xs = omega arith
+
+typed_in_all : (events : List KeyEvent) → typed_octets Advertise events + (typed_octets Failed events + (typed_octets Listener events + typed_octets Domain events)) ≡ octets_in_all events
+typed_in_all [] = refl
+typed_in_all (x ∷ xs) = four_typed x.0 x.1 x.2 xs ∙ ap (λ (n : ℕ). octets_of x.2 + n) (typed_in_all xs) ∙ sym (sum_by-cons (λ (y : KeyEvent). octets_of y.2) x xs)
+
+message_below : (t : AttributeType) (vs : List VectorAttr) → sum_by (message_size Msrp) (messages_for t vs) ≤ 6 + vectors_size vs
+message_below t [] = omega arith
+message_below t (v ∷ vs) = omega (arith, sum_by-cons (message_size Msrp) (let m : Message = record { kind = number_of_type t; vectors = v ∷ vs } in m) [])
+
+type_below : (leave : Bool) (t : AttributeType) (events : List KeyEvent) → sum_by (message_size Msrp) (type_messages leave events t) ≤ 8 + length_of t + typed_octets t events
+type_below leave t events = omega (arith, message_below t (type_vectors leave t (of_type t events)), list_below leave t events)
+
+four_sizes : (leave : Bool) (events : List KeyEvent) → (let m = type_messages leave events in let size = sum_by (message_size Msrp) in
+    size (flat_map m all_types) ≡ size (m Advertise) + (size (m Failed) + (size (m Listener) + size (m Domain))))
+four_sizes leave events =
+    let m = type_messages leave events in
+    omega (arith, sum_by-append (message_size Msrp) (m Advertise) (m Failed ++ (m Listener ++ (m Domain ++ []))), sum_by-append (message_size Msrp) (m Failed) (m Listener ++ (m Domain ++ [])), sum_by-append (message_size Msrp) (m Listener) (m Domain ++ []), sum_by-append (message_size Msrp) (m Domain) [])
+
+pub few_in_all : (read : MsrpPdu) → stated_octets read.events ≤ 1500 → length (msrp_spelling read) ≡ pdu_size Msrp (pdu_for read) → length (msrp_spelling read) ≤ 1500
+few_in_all read few size =
+    let leave = read.leave_all in
+    let events = read.events in
+    omega (arith, size, few, four_sizes leave events, type_below leave Advertise events, type_below leave Failed events, type_below leave Listener events, type_below leave Domain events, typed_in_all events)
+
+typed_few : (t : AttributeType) (events : List KeyEvent) → typed_octets t events ≤ octets_in_all events
+typed_few Advertise events = omega (arith, typed_in_all events)
+typed_few Failed events = omega (arith, typed_in_all events)
+typed_few Listener events = omega (arith, typed_in_all events)
+typed_few Domain events = omega (arith, typed_in_all events)
+
+length_small : (t : AttributeType) → length_of t ≤ 34
+length_small Advertise = omega arith
+length_small Failed = omega arith
+length_small Listener = omega arith
+length_small Domain = omega arith
+
+pub is_well_formed : (read : MsrpPdu) → IsWritable read → FitAll read.events → ((vs : List VectorAttr) → length (vectors_octets (vectors_for vs)) ≡ vectors_size vs) → well_formed Msrp (pdu_for read) ≡ true
+is_well_formed read w fit sizes =
+    let leave = read.leave_all in
+    let events = read.events in
+    and_from _ _ (and_from _ _ refl (lt-ltb 0 (length (pdu_for read).messages) (some_messages leave events w.some))) (
+      all_of (message_fits Msrp) leave events (λ t.
+          messages_fit t (type_vectors leave t (of_type t events)) (vectors_fit_type leave t (of_type t events) (good_of_type t events w.belong fit))
+              (omega (arith, sizes (type_vectors leave t (of_type t events)), list_below leave t events, typed_few t events, length_small t, w.few))))

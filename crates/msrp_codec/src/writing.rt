@@ -341,6 +341,7 @@ pub fn encode(alloc: Global, pdu: &MsrpPdu) -> Result<Seq<u8>, NoMemory>
     let octets = written(alloc, pdu.leave_all, pdu.events.as_slice())?;
     mrpdu_codec::written_is_read();
     mrpdu_codec::written_size();
+    mrpdu_codec::written_list_size();
     mrpdu_codec::numbers_are_read_back();
     Ok(Seq::from_vec(octets))
 }
