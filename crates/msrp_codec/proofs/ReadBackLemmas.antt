@@ -1,5 +1,5 @@
 -- What was written reads as what was written.
-use Rattle.std.proofs.Common.{◌≡◌, ℕ, zero, suc, ◌+◌, ◌*◌, ◌/◌, ◌%◌, ◌^◌, ◌<◌, ◌≤◌, Bool, true, false, List, [], ◌∷◌, ◌++◌, length, map, Option, Some, refl, sym, ap, ◌∙◌, append-nil, arith}
+use Rattle.std.proofs.Common.{◌≡◌, ℕ, ◌+◌, ◌*◌, ◌/◌, ◌%◌, ◌^◌, ◌<◌, ◌≤◌, Bool, true, false, List, [], ◌∷◌, ◌++◌, map, Some, refl, sym, ap, ◌∙◌, append-nil, arith}
 use Rattle.std.specs.Prelude.{slice_index}
 use Rattle.std.specs.List.{flat_map, list_all, AllByRecursion}
 use Rattle.std.specs.Int.{bytes_high_first}
@@ -22,7 +22,7 @@ use Rattle.msrp_codec.specs.declared.pdu.MsrpKey.{MsrpKey}
 use Rattle.msrp_codec.specs.declared.pdu.MsrpKey.TheVariants as keys
 use Rattle.msrp_codec.specs.declared.pdu.MsrpContent.{MsrpContent}
 use Rattle.msrp_codec.specs.declared.pdu.MsrpContent.TheVariants as contents
-use Rattle.msrp_codec.specs.FirstValue.{field, rank_of, talker_of, failure_of, first_value_of, talkers_fit, values_fit, talker_after, rank_bit, talker_octets, failure_octets, first_octets, IsTalker, IsFailure, IsFirst}
+use Rattle.msrp_codec.specs.FirstValue.{rank_of, talker_of, failure_of, first_value_of, talkers_fit, values_fit, talker_after, rank_bit, talker_octets, failure_octets, first_octets, IsTalker, IsFailure, IsFirst}
 use Rattle.msrp_codec.specs.Content.{type_of_content, Belongs, value_of, kind_number, four_packed_for}
 use Rattle.msrp_codec.specs.Meaning.{KeyEvent, kind_of, listener_event, event_at, events_from, vector_events, is_in_range}
 use Rattle.msrp_codec.specs.Writing.{event_vector, leave_vector, type_vectors}

@@ -1,11 +1,12 @@
 -- How many octets the vectors of events take.
-use Rattle.std.proofs.Common.{◌≡◌, ℕ, zero, suc, ◌+◌, ◌*◌, ◌<◌, ◌≤◌, Bool, true, false, cond, eqb, List, [], ◌∷◌, ◌++◌, length, map, refl, sym, ap, ◌∙◌, inl, inr, arith}
-use Rattle.std.specs.List.{filter, sum_by}
+use Rattle.std.proofs.Common.{◌≡◌, ℕ, suc, ◌+◌, ◌*◌, ◌≤◌, Bool, true, false, eqb, List, [], ◌∷◌, length, map, refl, sym, ap, ◌∙◌, inl, inr, arith}
+use Rattle.std.specs.List.{sum_by}
 use Rattle.std.proofs.Math.Nat.{suc-mul}
 use Rattle.std.proofs.lemmas.Bool.{cases_Bool, false≢true, ne_eqb}
 use Rattle.std.proofs.lemmas.List.Sums.{sum_by-cons}
 use Rattle.mrpdu_codec.specs.declared.pdu.VectorAttr.{VectorAttr}
-use Rattle.mrpdu_codec.specs.Canonical.{vector_size, vectors_size}
+use Rattle.mrpdu_codec.specs.Tree.{vectors_octets}
+use Rattle.mrpdu_codec.specs.Canonical.{vectors_for, vector_size, vectors_size}
 use Rattle.msrp_codec.specs.declared.attribute_type.AttributeType.{AttributeType}
 use Rattle.msrp_codec.specs.declared.attribute_type.AttributeType.TheVariants.{Advertise, Failed, Listener, Domain}
 use Rattle.msrp_codec.specs.declared.pdu.MsrpContent.{MsrpContent}
@@ -14,7 +15,7 @@ use Rattle.msrp_codec.specs.AttributeType.{number_of_type, length_of}
 use Rattle.msrp_codec.specs.Content.{type_of_content, octets_of_type, octets_of}
 use Rattle.msrp_codec.specs.Meaning.{KeyEvent}
 use Rattle.msrp_codec.specs.Writing.{has_type, of_type, event_vector, leave_vector, type_vectors, list_size, stated_octets}
-use Rattle.msrp_codec.proofs.WritingLemmas.{vectors_more, all_later}
+use Rattle.msrp_codec.proofs.WritingLemmas.{type_octets, vectors_more, all_later}
 
 -- a number has one type
 pub same_type : (a b : AttributeType) → eqb (number_of_type a) (number_of_type b) ≡ true → a ≡ b
@@ -84,6 +85,11 @@ sized leave t (y ∷ ys) h =
 
 pub list_sized : (leave : Bool) (t : AttributeType) (events : List KeyEvent) → vectors_size (type_vectors leave t (of_type t events)) ≡ list_size leave t (length (of_type t events))
 list_sized leave t events = sized leave t (of_type t events) (later_size t events)
+
+-- the octets that were counted are those that are written
+pub list_counted : ((vs : List VectorAttr) → length (vectors_octets (vectors_for vs)) ≡ vectors_size vs) → (leave : Bool) (t : AttributeType) (events : List KeyEvent) (n size : ℕ)
+    → n ≡ length (of_type t events) → size ≡ list_size leave t n → size ≡ length (type_octets leave t events)
+list_counted sizes leave t events n size e f = f ∙ ap (list_size leave t) e ∙ sym (sizes (type_vectors leave t (of_type t events)) ∙ list_sized leave t events)
 
 -- ---- how many octets in all
 

@@ -1,8 +1,7 @@
 -- What is written, piece by piece.
 use Rattle.std.proofs.Common.{◌≡◌, ℕ, ◌+◌, ◌<◌, Bool, true, false, cond, List, [], ◌∷◌, ◌++◌, length, get_or, drop, map, refl, sym, ap, ◌∙◌, inl, inr, append_assoc, append-nil, arith}
-use Rattle.std.specs.List.{filter}
 use Rattle.std.proofs.lemmas.Bool.{cases_Bool}
-use Rattle.std.proofs.lemmas.List.{at_drop_more, drop_all}
+use Rattle.std.proofs.lemmas.List.{at_drop_more}
 use Rattle.mrpdu_codec.specs.declared.pdu.VectorAttr.{VectorAttr}
 use Rattle.mrpdu_codec.specs.declared.form.AppForm.TheVariants.{Msrp}
 use Rattle.mrpdu_codec.specs.Tree.{vector_octets, vectors_octets, messages_octets}
@@ -37,25 +36,6 @@ vectors_more false t x (y ∷ ys) = refl
 pub all_later : (t : AttributeType) (events : List KeyEvent) → type_vectors false t events ≡ map (event_vector false) events
 all_later t [] = refl
 all_later t (x ∷ xs) = refl
-
--- one event more, of what is left
-typed_step : (leave : Bool) (t : AttributeType) (x : KeyEvent) (xs : List KeyEvent)
-    → type_octets leave t (x ∷ xs) ≡ cond (has_type t x) (vector_octets (vector_for (event_vector leave x))) [] ++ type_octets (cond (has_type t x) false leave) t xs
-typed_step leave t x xs =
-    elim (cases_Bool (has_type t x)) [
-      | inl typed ↦ rw typed (ap (λ (vs : List VectorAttr). vectors_octets (vectors_for vs)) (vectors_more leave t x (of_type t xs)))
-      | inr other ↦ rw other refl
-    ]
-
-pub typed_goes_on : (out new total : List ℕ) (leave next : Bool) (t : AttributeType) (events : List KeyEvent) (i : ℕ) (x : KeyEvent) → i < length events → x ≡ get_or events i x
-    → out ++ type_octets leave t (drop i events) ≡ total → new ≡ out ++ cond (has_type t x) (vector_octets (vector_for (event_vector leave x))) [] → next ≡ cond (has_type t x) false leave
-    → new ++ type_octets next t (drop (i + 1) events) ≡ total
-typed_goes_on out new total leave next t events i x lt is so_far e f =
-    rw (e, f) (append_assoc out _ _ ∙ ap (λ (o : List ℕ). out ++ o) (
-        sym (typed_step leave t x (drop (i + 1) events))
-        ∙ ap (λ (y : KeyEvent). type_octets leave t (y ∷ drop (i + 1) events)) is
-        ∙ sym (at_drop_more (type_octets leave t) events i x lt))
-      ∙ so_far)
 
 -- the Message of a type that has vectors
 message_is : (t : AttributeType) (vs : List VectorAttr) → 0 < length (vectors_octets (vectors_for vs))

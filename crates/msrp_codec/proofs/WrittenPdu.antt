@@ -1,6 +1,6 @@
 -- The PDU that is written: it can be written, says what was written, and is small.
-use Rattle.std.proofs.Common.{◌≡◌, ℕ, zero, suc, ◌+◌, ◌*◌, ◌^◌, ◌<◌, ◌≤◌, Bool, true, false, eqb, leb, ltb, ◌&&◌, ◌||◌, ◌⊎◌, inl, inr, List, [], ◌∷◌, ◌++◌, length, map, Option, Some, Result, Ok, refl, sym, ap, subst, ◌∙◌, append-nil, length-append, arith}
-use Rattle.std.specs.List.{flat_map, filter, list_all, list_any, sum_by, AllByRecursion}
+use Rattle.std.proofs.Common.{◌≡◌, ℕ, zero, suc, ◌+◌, ◌*◌, ◌^◌, ◌<◌, ◌≤◌, Bool, true, false, ltb, ◌||◌, inl, inr, List, [], ◌∷◌, ◌++◌, length, map, Option, Some, Result, Ok, refl, sym, ap, subst, ◌∙◌, append-nil, length-append, arith}
+use Rattle.std.specs.List.{flat_map, list_all, list_any, sum_by, AllByRecursion}
 use Rattle.std.specs.Int.{bytes_high_first}
 use Rattle.std.proofs.lemmas.Bool.{cases_Bool, and_from, le-leb, lt-ltb, ne_eqb, eq-eqb}
 use Rattle.std.proofs.lemmas.List.Concat.{flat_map-append}
@@ -14,11 +14,10 @@ use Rattle.mrpdu_codec.specs.declared.form.AppForm.TheVariants.{Msrp}
 use Rattle.mrpdu_codec.specs.declared.form.TypeForm.{TypeForm}
 use Rattle.mrpdu_codec.specs.declared.pdu.VectorAttr.{VectorAttr}
 use Rattle.mrpdu_codec.specs.declared.pdu.Message.{Message}
-use Rattle.mrpdu_codec.specs.declared.pdu.Pdu.{Pdu}
 use Rattle.mrpdu_codec.specs.Types.{row_of}
 use Rattle.mrpdu_codec.specs.Tree.{vectors_octets}
 use Rattle.mrpdu_codec.specs.Shape.{vector_fits, vectors_fit, message_leaves}
-use Rattle.mrpdu_codec.specs.Canonical.{vectors_for, spelling, vectors_size, message_size, pdu_size, message_fits, well_formed}
+use Rattle.mrpdu_codec.specs.Canonical.{vectors_for, vectors_size, message_size, pdu_size, message_fits, well_formed}
 use Rattle.mrpdu_codec.specs.Reading.{reading}
 use Rattle.msrp_codec.specs.declared.attribute_type.AttributeType.{AttributeType}
 use Rattle.msrp_codec.specs.declared.attribute_type.AttributeType.TheVariants.{Advertise, Failed, Listener, Domain}
@@ -32,7 +31,7 @@ use Rattle.msrp_codec.specs.Content.{type_of_content, Belongs, octets_of_type, o
 use Rattle.msrp_codec.specs.Meaning.{KeyEvent, typed_events, message_events, vector_events, meaning, is_in_range, are_in_range, message_in_range, judged, read_as, msrp_reading}
 use Rattle.msrp_codec.specs.Writing.{has_type, of_type, event_vector, leave_vector, type_vectors, messages_for, type_messages, list_size, pdu_for, msrp_spelling, in_type_order, as_written, stated_octets, IsWritable}
 use Rattle.msrp_codec.proofs.WritingLemmas.{vectors_more, all_later}
-use Rattle.msrp_codec.proofs.SizeLemmas.{same_type, list_sized, few_events}
+use Rattle.msrp_codec.proofs.SizeLemmas.{same_type, list_sized}
 use Rattle.msrp_codec.proofs.ReadBackLemmas.{IsGood, vectors_again, vectors_in_range}
 use Rattle.msrp_codec.proofs.PastLemmas.{past_all}
 
@@ -280,11 +279,11 @@ four_sizes leave events =
     let m = type_messages leave events in
     omega (arith, sum_by-append (message_size Msrp) (m Advertise) (m Failed ++ (m Listener ++ (m Domain ++ []))), sum_by-append (message_size Msrp) (m Failed) (m Listener ++ (m Domain ++ [])), sum_by-append (message_size Msrp) (m Listener) (m Domain ++ []), sum_by-append (message_size Msrp) (m Domain) [])
 
-pub few_in_all : (read : MsrpPdu) → stated_octets read.events ≤ 1500 → length (msrp_spelling read) ≡ pdu_size Msrp (pdu_for read) → length (msrp_spelling read) ≤ 1500
-few_in_all read few size =
+pub stated_suffice : (read : MsrpPdu) → length (msrp_spelling read) ≡ pdu_size Msrp (pdu_for read) → length (msrp_spelling read) ≤ stated_octets read.events
+stated_suffice read size =
     let leave = read.leave_all in
     let events = read.events in
-    omega (arith, size, few, four_sizes leave events, type_below leave Advertise events, type_below leave Failed events, type_below leave Listener events, type_below leave Domain events, typed_in_all events)
+    omega (arith, size, four_sizes leave events, type_below leave Advertise events, type_below leave Failed events, type_below leave Listener events, type_below leave Domain events, typed_in_all events)
 
 typed_few : (t : AttributeType) (events : List KeyEvent) → typed_octets t events ≤ octets_in_all events
 typed_few Advertise events = omega (arith, typed_in_all events)

@@ -9,6 +9,7 @@ use Rattle.mrpdu_codec.specs.declared.pdu.Message.{Message}
 use Rattle.mrpdu_codec.specs.declared.pdu.Pdu.{Pdu}
 use Rattle.mrpdu_codec.specs.Canonical.{spelling}
 use Rattle.msrp_codec.specs.declared.attribute_type.AttributeType.{AttributeType}
+use Rattle.msrp_codec.specs.declared.pdu.MsrpKey.{MsrpKey}
 use Rattle.msrp_codec.specs.declared.pdu.MsrpPdu.{MsrpPdu}
 use Rattle.msrp_codec.specs.AttributeType.{number_of_type, length_of, all_types}
 use Rattle.msrp_codec.specs.FirstValue.{first_octets}
@@ -67,6 +68,10 @@ msrp_spelling read = spelling Msrp (pdu_for read)
 -- Listener and a Domain
 abbrev pub in_type_order : List KeyEvent → List KeyEvent
 in_type_order events = flat_map (λ t. of_type t events) all_types
+
+-- the events of a key, which a test tells from others
+abbrev pub of_key : (MsrpKey → Bool) → List KeyEvent → List KeyEvent
+of_key is_key events = filter (λ x. is_key x.1) events
 
 -- what the octets say that were written
 abbrev pub as_written : MsrpPdu → MsrpPdu

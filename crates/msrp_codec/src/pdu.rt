@@ -1,7 +1,7 @@
 //! What MSRP reads and writes.
 
 ghost use Rattle.std.specs.Prelude.{◌≡◌};
-ghost use Rattle.msrp_codec.specs.Content.{type_of_content, octets_of};
+ghost use Rattle.msrp_codec.specs.Content.{type_of_content, octets_of, base_octets};
 
 use crate::attribute_type::AttributeType;
 use srp_base::{Failure, ListenerKind, MrpEvent, Seq, StreamId, Talker};
@@ -58,8 +58,14 @@ impl MsrpContent {
     }
 }
 
-/// The stated octets of a declaration: how many an MRPDU takes for it at most. An MRPDU takes at most 106
-/// beside them.
+/// The stated octets of an MRPDU without declarations: it takes no more, also with a LeaveAll of every type.
+pub const fn base_octets() -> usize
+    ensures { result ≡ base_octets }
+{
+    106
+}
+
+/// The stated octets of a declaration: an MRPDU takes no more for it.
 pub fn row_octets(content: &MsrpContent) -> usize
     ensures { result ≡ octets_of content.now }
 {

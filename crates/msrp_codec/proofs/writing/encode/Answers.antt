@@ -1,11 +1,7 @@
-use Rattle.std.proofs.Common.{◌≡◌, ◌≤◌, ℕ, List, length, sym, subst, ◌∙◌, ap}
-use Rattle.std.specs.List.{AllByRecursion}
+use Rattle.std.proofs.Common.{◌∙◌, arith}
 use Rattle.mrpdu_codec.specs.declared.form.AppForm.TheVariants.{Msrp}
-use Rattle.msrp_codec.specs.FirstValue.{IsFirst}
-use Rattle.msrp_codec.specs.Content.{value_of}
-use Rattle.msrp_codec.specs.Meaning.{KeyEvent}
-use Rattle.msrp_codec.specs.Writing.{pdu_for, msrp_spelling}
-use Rattle.msrp_codec.proofs.WrittenPdu.{reads_again, few_in_all, is_well_formed}
+use Rattle.msrp_codec.specs.Writing.{pdu_for}
+use Rattle.msrp_codec.proofs.WrittenPdu.{reads_again, stated_suffice, is_well_formed}
 use Rattle.msrp_codec.proofs.writing.encode.Goals as goal
 
 pub returns-clause-read_back : goal.returns-clause-read_back
@@ -20,4 +16,4 @@ pub returns-clause-few : goal.returns-clause-few
 returns-clause-few c =
     let pdu = c.args.pdu.now in
     let octets = c.from_vec.ensures ∙ rw c.as_slice.ensures at c.in_ok-octets.ensures.octets in
-    rw octets (few_in_all pdu c.requires.few (c.written_size.ensures Msrp (pdu_for pdu)))
+    rw octets (omega (arith, c.requires.few, stated_suffice pdu (c.written_size.ensures Msrp (pdu_for pdu))))
