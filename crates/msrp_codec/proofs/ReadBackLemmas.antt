@@ -61,10 +61,10 @@ module _ (back : (n number : ℕ) → number < 256 ^ n → number_of (bytes_high
       let octet = t.priority * 32 + rank_bit t.rank * 16 in
       let pr : number_of (bytes_high_first 1 octet) ≡ octet = back 1 octet (one_octet t.priority t.rank is.priority) in
       same_talker _ t.stream.0 _ t.dest _ t.vid _ t.max_frame _ t.frames _ t.priority _ t.rank _ t.latency
-          (back 8 t.stream.0 is.stream) (back 6 t.dest is.dest) (back 2 t.vid is.vid) (back 2 t.max_frame is.max_frame) (back 2 t.frames is.frames)
-          (ap (λ (n : ℕ). n / 32) pr ∙ priority_again t.priority t.rank)
-          (ap (λ (n : ℕ). rank_of (n / 16 % 2)) pr ∙ rank_again t.priority t.rank)
-          (back 4 t.latency is.latency)
+      (back 8 t.stream.0 is.stream) (back 6 t.dest is.dest) (back 2 t.vid is.vid) (back 2 t.max_frame is.max_frame) (back 2 t.frames is.frames)
+      (ap (λ (n : ℕ). n / 32) pr ∙ priority_again t.priority t.rank)
+      (ap (λ (n : ℕ). rank_of (n / 16 % 2)) pr ∙ rank_again t.priority t.rank)
+      (back 4 t.latency is.latency)
 
   failure_again : (t : Talker) (f : Failure) → IsFailure f → failure_of (talker_octets t ++ failure_octets f) ≡ f
   failure_again t f is =

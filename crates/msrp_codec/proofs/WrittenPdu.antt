@@ -142,8 +142,8 @@ all_of p leave events each =
     let m = type_messages leave events in
     list_all-append p (m Advertise) (m Failed ++ (m Listener ++ (m Domain ++ [])))
     ∙ and_from _ _ (each Advertise) (list_all-append p (m Failed) (m Listener ++ (m Domain ++ []))
-      ∙ and_from _ _ (each Failed) (list_all-append p (m Listener) (m Domain ++ [])
-        ∙ and_from _ _ (each Listener) (list_all-append p (m Domain) [] ∙ and_from _ _ (each Domain) refl)))
+    ∙ and_from _ _ (each Failed) (list_all-append p (m Listener) (m Domain ++ [])
+    ∙ and_from _ _ (each Listener) (list_all-append p (m Domain) [] ∙ and_from _ _ (each Domain) refl)))
 
 say_all : (leave : Bool) (events : List KeyEvent) → ((t : AttributeType) → flat_map message_events (type_messages leave events t) ≡ of_type t events)
     → flat_map message_events (flat_map (type_messages leave events) all_types) ≡ in_type_order events
@@ -153,13 +153,13 @@ say_all leave events each =
     flat_map-append message_events (m Advertise) (m Failed ++ (m Listener ++ (m Domain ++ [])))
     ∙ ap (λ (xs : List KeyEvent). xs ++ say (m Failed ++ (m Listener ++ (m Domain ++ [])))) (each Advertise)
     ∙ ap (λ (xs : List KeyEvent). of_type Advertise events ++ xs) (
-      flat_map-append message_events (m Failed) (m Listener ++ (m Domain ++ []))
-      ∙ ap (λ (xs : List KeyEvent). xs ++ say (m Listener ++ (m Domain ++ []))) (each Failed)
-      ∙ ap (λ (xs : List KeyEvent). of_type Failed events ++ xs) (
-        flat_map-append message_events (m Listener) (m Domain ++ [])
-        ∙ ap (λ (xs : List KeyEvent). xs ++ say (m Domain ++ [])) (each Listener)
-        ∙ ap (λ (xs : List KeyEvent). of_type Listener events ++ xs) (
-          flat_map-append message_events (m Domain) [] ∙ ap (λ (xs : List KeyEvent). xs ++ []) (each Domain))))
+    flat_map-append message_events (m Failed) (m Listener ++ (m Domain ++ []))
+    ∙ ap (λ (xs : List KeyEvent). xs ++ say (m Listener ++ (m Domain ++ []))) (each Failed)
+    ∙ ap (λ (xs : List KeyEvent). of_type Failed events ++ xs) (
+    flat_map-append message_events (m Listener) (m Domain ++ [])
+    ∙ ap (λ (xs : List KeyEvent). xs ++ say (m Domain ++ [])) (each Listener)
+    ∙ ap (λ (xs : List KeyEvent). of_type Listener events ++ xs) (
+    flat_map-append message_events (m Domain) [] ∙ ap (λ (xs : List KeyEvent). xs ++ []) (each Domain))))
 
 leave_all_of : (leave : Bool) (events : List KeyEvent) → list_any message_leaves (flat_map (type_messages leave events) all_types) ≡ leave
 leave_all_of leave events =
@@ -168,16 +168,16 @@ leave_all_of leave events =
     list_any-append message_leaves (m Advertise) (m Failed ++ (m Listener ++ (m Domain ++ [])))
     ∙ ap (λ (b : Bool). b || list_any message_leaves (m Failed ++ (m Listener ++ (m Domain ++ [])))) (each Advertise)
     ∙ ap (λ (b : Bool). leave || b) (
-      list_any-append message_leaves (m Failed) (m Listener ++ (m Domain ++ []))
-      ∙ ap (λ (b : Bool). b || list_any message_leaves (m Listener ++ (m Domain ++ []))) (each Failed)
-      ∙ ap (λ (b : Bool). leave || b) (
-        list_any-append message_leaves (m Listener) (m Domain ++ [])
-        ∙ ap (λ (b : Bool). b || list_any message_leaves (m Domain ++ [])) (each Listener)
-        ∙ ap (λ (b : Bool). leave || b) (list_any-append message_leaves (m Domain) [] ∙ ap (λ (b : Bool). b || false) (each Domain))))
+    list_any-append message_leaves (m Failed) (m Listener ++ (m Domain ++ []))
+    ∙ ap (λ (b : Bool). b || list_any message_leaves (m Listener ++ (m Domain ++ []))) (each Failed)
+    ∙ ap (λ (b : Bool). leave || b) (
+    list_any-append message_leaves (m Listener) (m Domain ++ [])
+    ∙ ap (λ (b : Bool). b || list_any message_leaves (m Domain ++ [])) (each Listener)
+    ∙ ap (λ (b : Bool). leave || b) (list_any-append message_leaves (m Domain) [] ∙ ap (λ (b : Bool). b || false) (each Domain))))
     ∙ four_times leave where
-  four_times : (b : Bool) → (b || (b || (b || (b || false)))) ≡ b
-  four_times true = refl
-  four_times false = refl
+      four_times : (b : Bool) → (b || (b || (b || (b || false)))) ≡ b
+      four_times true = refl
+      four_times false = refl
 
 -- ---- what was written is read
 
@@ -190,8 +190,8 @@ module _ (back : (n number : ℕ) → number < 256 ^ n → number_of (bytes_high
   meaning_again =
       ap (λ (b : Bool). let m : MsrpPdu = record { leave_all = b; events = flat_map message_events (pdu_for read).messages } in m) (leave_all_of read.leave_all read.events)
       ∙ ap (λ (xs : List KeyEvent). let m : MsrpPdu = record { leave_all = read.leave_all; events = xs } in m) (say_all read.leave_all read.events (λ t.
-          messages_say t (type_vectors read.leave_all t (of_type t read.events))
-          ∙ vectors_again back read.leave_all t (of_type t read.events) (good_of_type t read.events belong fit)))
+      messages_say t (type_vectors read.leave_all t (of_type t read.events))
+      ∙ vectors_again back read.leave_all t (of_type t read.events) (good_of_type t read.events belong fit)))
 
   pub reads_again : reading Msrp (msrp_spelling read) ≡ Ok (pdu_for read) → msrp_reading (msrp_spelling read) ≡ Ok (as_written read)
   reads_again e =
@@ -302,6 +302,6 @@ is_well_formed read w fit sizes =
     let leave = read.leave_all in
     let events = read.events in
     and_from _ _ (and_from _ _ refl (lt-ltb 0 (length (pdu_for read).messages) (some_messages leave events w.some))) (
-      all_of (message_fits Msrp) leave events (λ t.
-          messages_fit t (type_vectors leave t (of_type t events)) (vectors_fit_type leave t (of_type t events) (good_of_type t events w.belong fit))
-              (omega (arith, sizes (type_vectors leave t (of_type t events)), list_below leave t events, typed_few t events, length_small t, w.few))))
+    all_of (message_fits Msrp) leave events (λ t.
+    messages_fit t (type_vectors leave t (of_type t events)) (vectors_fit_type leave t (of_type t events) (good_of_type t events w.belong fit))
+    (omega (arith, sizes (type_vectors leave t (of_type t events)), list_below leave t events, typed_few t events, length_small t, w.few))))

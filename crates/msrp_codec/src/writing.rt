@@ -313,10 +313,34 @@ fn written(
     let mut out = Vec::with_capacity(alloc, size)?;
     let mut first = Vec::with_capacity(alloc, 34)?;
     out.push(0)?;
-    put_type(&mut out, &mut first, leave_all, AttributeType::Advertise, events)?;
-    put_type(&mut out, &mut first, leave_all, AttributeType::Failed, events)?;
-    put_type(&mut out, &mut first, leave_all, AttributeType::Listener, events)?;
-    put_type(&mut out, &mut first, leave_all, AttributeType::Domain, events)?;
+    put_type(
+        &mut out,
+        &mut first,
+        leave_all,
+        AttributeType::Advertise,
+        events,
+    )?;
+    put_type(
+        &mut out,
+        &mut first,
+        leave_all,
+        AttributeType::Failed,
+        events,
+    )?;
+    put_type(
+        &mut out,
+        &mut first,
+        leave_all,
+        AttributeType::Listener,
+        events,
+    )?;
+    put_type(
+        &mut out,
+        &mut first,
+        leave_all,
+        AttributeType::Domain,
+        events,
+    )?;
     out.extend_from_slice(&[0, 0])?;
     Ok(out)
 }

@@ -23,11 +23,11 @@ module _ (is_key : MsrpKey → Bool) where
       elim (cases_Bool (is_key x.1)) [
         | inl here ↦ let e = rw here at h in absurd cc
         | inr apart ↦
-          let later : keep xs ≡ [] = rw apart at h in
-          elim (cases_Bool (has_type t x)) [
-            | inl typed ↦ rw (typed, apart) (none_typed t xs later)
-            | inr other ↦ rw other (none_typed t xs later)
-          ]
+            let later : keep xs ≡ [] = rw apart at h in
+            elim (cases_Bool (has_type t x)) [
+              | inl typed ↦ rw (typed, apart) (none_typed t xs later)
+              | inr other ↦ rw other (none_typed t xs later)
+            ]
       ]
 
   -- an event that isn't of the key makes no difference
@@ -60,9 +60,9 @@ module _ (is_key : MsrpKey → Bool) where
   kept (x ∷ xs) h =
       elim (cases_Bool (is_key x.1)) [
         | inl here ↦
-          let one = rw here at h in
-          let later : keep xs ≡ [] = none_left (keep xs) (omega (arith, one)) in
-          alone x x.2 xs refl here (λ t. none_typed t xs later) ∙ rw (here, later) refl
+            let one = rw here at h in
+            let later : keep xs ≡ [] = none_left (keep xs) (omega (arith, one)) in
+            alone x x.2 xs refl here (λ t. none_typed t xs later) ∙ rw (here, later) refl
         | inr apart ↦ rw (passed Advertise x xs apart, passed Failed x xs apart, passed Listener x xs apart, passed Domain x xs apart, apart) (kept xs (rw apart at h))
       ]
 
@@ -72,10 +72,10 @@ module _ (is_key : MsrpKey → Bool) where
       let p = λ (x : KeyEvent). is_key x.1 in
       filter-append p (of_type Advertise xs) (of_type Failed xs ++ (of_type Listener xs ++ (of_type Domain xs ++ [])))
       ∙ ap (λ (ys : List KeyEvent). filter p (of_type Advertise xs) ++ ys) (
-        filter-append p (of_type Failed xs) (of_type Listener xs ++ (of_type Domain xs ++ []))
-        ∙ ap (λ (ys : List KeyEvent). filter p (of_type Failed xs) ++ ys) (
-          filter-append p (of_type Listener xs) (of_type Domain xs ++ [])
-          ∙ ap (λ (ys : List KeyEvent). filter p (of_type Listener xs) ++ ys) (filter-append p (of_type Domain xs) [])))
+      filter-append p (of_type Failed xs) (of_type Listener xs ++ (of_type Domain xs ++ []))
+      ∙ ap (λ (ys : List KeyEvent). filter p (of_type Failed xs) ++ ys) (
+      filter-append p (of_type Listener xs) (of_type Domain xs ++ [])
+      ∙ ap (λ (ys : List KeyEvent). filter p (of_type Listener xs) ++ ys) (filter-append p (of_type Domain xs) [])))
 
 pub returns : goal.returns
 unfolding keep
