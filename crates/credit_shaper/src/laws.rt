@@ -22,7 +22,7 @@ pub fn what_leaves_is_sent_or_left()
 pub fn frames_depart_in_order()
     ensures { (input : PortInput) (traffic : Traffic) → IsPortInput input
         → DepartInOrder (filter (is_of traffic) input.arrivals) (filter (departs_as traffic) (sent_of input))
-            (filter (is_of traffic) (left_of input)) }
+        (filter (is_of traffic) (left_of input)) }
 {}
 
 /// The frames that are left are in order of arrival.
