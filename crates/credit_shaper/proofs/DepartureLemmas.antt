@@ -97,28 +97,52 @@ pub record AreApart (t : ℕ) (p : Port) : Type 0 where
   pub apart : AllPairs (λ d e. d.end ≤ e.start) p.sent
   pub ended : All (λ d. d.end ≤ p.free_from) p.sent
   pub started : All (λ d. d.start < t) p.sent
+  pub sized : All (λ d. (d.start + 336 ≤ d.end) × (d.end ≤ d.start + 12336)) p.sent
 
-apart_in : (t : ℕ) (q : Port) → AreApart t q → AreApart (suc t) (with_start t q)
-apart_in t q a =
+apart_in : (t : ℕ) (q : Port) → All (λ x. IsFrameSize x.bits) q.waiting → AreApart t q → AreApart (suc t) (with_start t q)
+apart_in t q sizes a =
     let before : All (λ d. d.start < suc t) q.sent = λ k d l. omega (arith, a.started k d l) in
     with_start_cases (AreApart (suc t)) t q
-    (λ _. record { apart = a.apart; ended = a.ended; started = before })
-    (λ _. record { apart = a.apart; ended = a.ended; started = before })
-    (λ x free _. record {
-      apart = all_pairs_push (λ d e. d.end ≤ e.start) q.sent (departure_at t x) a.apart (λ k d l. omega (arith, a.ended k d l, free));
-      ended = All-push (λ d. d.end ≤ t + x.bits) q.sent (departure_at t x) (λ k d l. omega (arith, a.ended k d l, free)) (omega arith);
-      started = All-push (λ d. d.start < suc t) q.sent (departure_at t x) before (omega arith);
-    })
+    (λ _. record { apart = a.apart; ended = a.ended; started = before; sized = a.sized })
+    (λ _. record { apart = a.apart; ended = a.ended; started = before; sized = a.sized })
+    (λ x free e.
+      let size : IsFrameSize x.bits = head_within (λ y. IsFrameSize y.bits) x.traffic q.waiting x sizes e in
+      record {
+        apart = all_pairs_push (λ d e. d.end ≤ e.start) q.sent (departure_at t x) a.apart (λ k d l. omega (arith, a.ended k d l, free));
+        ended = All-push (λ d. d.end ≤ t + x.bits) q.sent (departure_at t x) (λ k d l. omega (arith, a.ended k d l, free)) (omega arith);
+        started = All-push (λ d. d.start < suc t) q.sent (departure_at t x) before (omega arith);
+        sized = All-push (λ d. (d.start + 336 ≤ d.end) × (d.end ≤ d.start + 12336)) q.sent (departure_at t x) a.sized
+            (omega (arith, size.0), omega (arith, size.1));
+      })
 
-pub apart_at : (input : PortInput) (t : ℕ) → AreApart t (port_at input t)
+pub apart_at : (input : PortInput) (t : ℕ) → IsPortInput input → AreApart t (port_at input t)
 unfolding port_at
-apart_at input zero =
-    record { apart = λ i j d l h. absurd (omega (arith, h)); ended = λ k d l. absurd (omega (arith, l)); started = λ k d l. absurd (omega (arith, l)) }
-apart_at input (suc t) =
-    let before : AreApart t (port_at input t) = apart_at input t in
+apart_at input zero valid =
+    record {
+      apart = λ i j d l h. absurd (omega (arith, h));
+      ended = λ k d l. absurd (omega (arith, l));
+      started = λ k d l. absurd (omega (arith, l));
+      sized = λ k d l. absurd (omega (arith, l));
+    }
+apart_at input (suc t) valid =
+    let before : AreApart t (port_at input t) = apart_at input t valid in
+    let sizes = (with_arrivals_sizes input t (port_at input t) valid (sizes_at input t valid)).waiting in
     let now : AreApart (suc t) (port_in input t) =
-    apart_in t (with_arrivals input t (port_at input t)) (record { apart = before.apart; ended = before.ended; started = before.started }) in
-    record { apart = now.apart; ended = now.ended; started = now.started }
+        apart_in t (with_arrivals input t (port_at input t)) sizes
+        (record { apart = before.apart; ended = before.ended; started = before.started; sized = before.sized }) in
+    record { apart = now.apart; ended = now.ended; started = now.started; sized = now.sized }
+
+-- a departure starts before the bit time up to which a port has sent it
+started_in : (t : ℕ) (q : Port) → All (λ d. d.start < t) q.sent → All (λ d. d.start < suc t) (with_start t q).sent
+started_in t q all =
+    let before : All (λ d. d.start < suc t) q.sent = λ k d l. omega (arith, all k d l) in
+    with_start_cases (λ p. All (λ d. d.start < suc t) p.sent) t q (λ _. before) (λ _. before)
+    (λ x _ _. All-push (λ d. d.start < suc t) q.sent (departure_at t x) before (omega arith))
+
+pub started_at : (input : PortInput) (t : ℕ) → All (λ d. d.start < t) (port_at input t).sent
+unfolding port_at
+started_at input zero = λ k d l. absurd (omega (arith, l))
+started_at input (suc t) = started_in t (with_arrivals input t (port_at input t)) (started_at input t)
 
 -- ---- more departs, and nothing is taken back
 
@@ -168,7 +192,7 @@ pub started_is : (input : PortInput) (t : ℕ) → t ≤ input.end → started_b
 started_is input t l =
     let goes : Goes t (port_at input t).sent (sent_of input) = goes_by input t input.end l in
     let early : filter (λ d. nat_lt d.start t) (port_at input t).sent ≡ (port_at input t).sent =
-    filter_all (λ d. nat_lt d.start t) (port_at input t).sent (λ k d h. lt-ltb (get_or (port_at input t).sent k d).start t ((apart_at input t).started k d h)) in
+    filter_all (λ d. nat_lt d.start t) (port_at input t).sent (λ k d h. lt-ltb (get_or (port_at input t).sent k d).start t (started_at input t k d h)) in
     let late : filter (λ d. nat_lt d.start t) goes.more ≡ [] =
     filter_nothing (λ d. nat_lt d.start t) goes.more (λ k d h. le-ltb (get_or goes.more k d).start t (goes.later k d h)) in
     ap (started_before t) goes.is
