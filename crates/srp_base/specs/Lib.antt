@@ -1,4 +1,5 @@
 pub mod Bandwidth
+pub mod Firsts
 pub mod Hexadecimal
 pub mod Results
 pub mod Text

@@ -1,13 +1,8 @@
 -- The rules of a file, checked one after the other: what a rule needs, and the first that fails.
-use Rattle.std.specs.Prelude.{◌≡◌, ℕ, ◌+◌, min, Bool, true, false, if◌then◌else◌, List, [], ◌∷◌, ◌++◌, length, Option, Some, None, Result, Ok, Err}
+use Rattle.std.specs.Prelude.{ℕ, ◌+◌, ◌-◌, min, nat_le, nat_lt, Bool, true, false, if◌then◌else◌, List, [], ◌∷◌, Option, Some, None, Result, Ok, Err}
+use Rattle.srp_base.specs.Results.{Gives}
 use Rattle.toml_rules.specs.declared.rules.RuleErr.{RuleErr}
 use Rattle.toml_rules.specs.declared.rules.RuleErr.TheVariants.{Rule, NoMemory}
-
--- the next rules, where those before hold
-infixl 10 ◌>>=◌
-abbrev pub ◌>>=◌ : {A B : Type 0} → Result A RuleErr → (A → Result B RuleErr) → Result B RuleErr
-(Ok x) >>= f = f x
-(Err e) >>= f = Err e
 
 -- a rule that needs a value of the file as a whole
 abbrev pub needs : {A : Type 0} → ℕ → Option A → Result A RuleErr
@@ -44,14 +39,34 @@ abbrev pub each_entry : {A B : Type 0} → ℕ → (ℕ → A → Option B) → 
 each_entry rule read n [] = Ok []
 each_entry rule read n (x ∷ xs) = entry_then rule n (read n x) (each_entry rule read (n + 1) xs)
 
--- the number of the first element that a test passes, seen with those before it
-abbrev pub first_where : {A : Type 0} → (List A → A → Bool) → List A → List A → Option ℕ
-first_where test earlier [] = None
-first_where test earlier (x ∷ xs) =
-    if test earlier x then Some (length earlier + 1) else first_where test (earlier ++ x ∷ []) xs
+-- the number of the first key, from number n on, that is below the key before it
+abbrev pub first_fall : ℕ → ℕ → List ℕ → Option ℕ
+first_fall n before [] = None
+first_fall n before (k ∷ ks) = if nat_lt k before then Some n else first_fall (n + 1) k ks
+
+-- an entry's value, where there is room for its weight
+abbrev pub light : {B : Type 0} → ℕ → (B → ℕ) → Option B → Option B
+light room weight None = None
+light room weight (Some y) = if nat_le (weight y) room then Some y else None
+
+-- the weight of an entry's value
+abbrev pub weight_of : {B : Type 0} → (B → ℕ) → Option B → ℕ
+weight_of weight None = 0
+weight_of weight (Some y) = weight y
+
+-- a rule on each entry as `each_entry`, whose values may weigh so much together: it refuses the first
+-- entry too whose value weighs more than what is left. The law `weighing` says what it lets through
+abbrev pub each_within : {A B : Type 0} → ℕ → (B → ℕ) → (ℕ → A → Option B) → ℕ → ℕ → List A → Result (List B) RuleErr
+each_within rule weight read n room [] = Ok []
+each_within rule weight read n room (x ∷ xs) =
+    entry_then rule n (light room weight (read n x))
+    (each_within rule weight read (n + 1) (room - weight_of weight (read n x)) xs)
+
+-- the broken rule of a failure, which want of memory isn't
+abbrev pub broken_rule : RuleErr → Option RuleErr
+broken_rule (Rule rule entry) = Some (Rule rule entry)
+broken_rule NoMemory = None
 
 -- what a reader answers, seen by view, is what the rules say, unless memory ran out
 abbrev pub Reads : {X A : Type 0} → (X → A) → Result X RuleErr → Result A RuleErr → Type 0
-Reads view (Ok x) said = said ≡ Ok (view x)
-Reads view (Err NoMemory) said = Unit {0}
-Reads view (Err (Rule rule entry)) said = said ≡ Err (Rule rule entry)
+Reads view result rules = Gives view broken_rule result rules

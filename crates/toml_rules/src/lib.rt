@@ -11,12 +11,15 @@
 //! answers what the definition of the same name says of them.
 #![tactic(auto)]
 
+mod entries;
 mod fields;
+pub mod laws;
 mod rules;
 mod shares;
 #[cfg(test)]
 mod tests;
 
+pub use entries::{each_entry, each_table, each_within, first_fall, first_where};
 pub use fields::{has_only, number, number_or, tables, text, truth_or, value_at, within};
 pub use rules::{RuleErr, fails_at, holds, needs, needs_tables, no_entry};
 pub use shares::read_shares;

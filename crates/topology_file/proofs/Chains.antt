@@ -1,12 +1,13 @@
 -- What a chain of rules tells of its answer: each_entry rule passed, and what is made of what was read.
 use Rattle.std.proofs.Common.{◌≡◌, ℕ, ◌+◌, ◌≤◌, Bool, true, false, ◌&&◌, if◌then◌else◌, List, [], ◌∷◌, map, length, Option, Some, None, option_map, option_and_then, Result, Ok, Err, refl, ap, subst, ◌∙◌, leb-true, IfSome, IfOk, arith}
-use Rattle.std.proofs.lemmas.Bool.{and_parts, false≢true}
+use Rattle.std.proofs.lemmas.Bool.{and_parts}
 use Rattle.std.proofs.lemmas.List.Elements.{All-nil, All-cons, All-head, All-tail}
 use Rattle.std.specs.List.{All}
 use Rattle.std.specs.Prelude.{nat_le}
 use Rattle.toml_rules.specs.declared.rules.RuleErr.{RuleErr}
 use Rattle.toml_rules.specs.Fields.{within}
-use Rattle.toml_rules.specs.Rules.{◌>>=◌, needs, holds, with_front, no_entry, each_entry, entry_then}
+use Rattle.srp_base.specs.Results.{◌>>=◌}
+use Rattle.toml_rules.specs.Rules.{needs, holds, no_entry, each_entry, entry_then}
 
 -- ---- values that may be missing
 
@@ -25,6 +26,10 @@ pub when-if : {A : Type 0} (P : A → Type 0) (b : Bool) (o : Option A)
 when-if P true o h = h refl
 when-if P false o h = tt
 
+pub either-if : {A : Type 0} (P : A → Type 0) (b : Bool) (o p : Option A) → IfSome o P → IfSome p P → IfSome (if b then o else p) P
+either-if P true o p h k = h
+either-if P false o p h k = k
+
 -- what a value that is there has
 pub some-says : {A : Type 0} (P : A → Type 0) (o : Option A) (x : A) → o ≡ Some x → IfSome o P → P x
 some-says {A = A} P o x is h = let F : Option A → Type 0 = λ y. IfSome y P in subst F is h
@@ -37,31 +42,44 @@ within-range low high (Some n) =
 
 -- ---- rules one after the other
 
-pub chain-if : {A B : Type 0} (P : B → Type 0) (r : Result A RuleErr) (f : A → Result B RuleErr)
-    → ((x : A) → r ≡ Ok x → IfOk (f x) P) → IfOk (r >>= f) P
-chain-if P (Ok x) f h = h x refl
-chain-if P (Err e) f h = tt
+-- what an answer has
+pub ok-says : {A : Type 0} (P : A → Type 0) (r : Result A RuleErr) (x : A) → r ≡ Ok x → IfOk r P → P x
+ok-says {A = A} P r x is h = let F : Result A RuleErr → Type 0 = λ y. IfOk y P in subst F is h
 
 -- what each answer has
 pub ok-all : {A : Type 0} (r : Result A RuleErr) (P : A → Type 0) → ((x : A) → r ≡ Ok x → P x) → IfOk r P
 ok-all (Ok x) P h = h x refl
 ok-all (Err e) P h = tt
 
--- what an answer has
-pub ok-says : {A : Type 0} (P : A → Type 0) (r : Result A RuleErr) (x : A) → r ≡ Ok x → IfOk r P → P x
-ok-says {A = A} P r x is h = let F : Result A RuleErr → Type 0 = λ y. IfOk y P in subst F is h
+-- a chain goes on with what its first rules give
+pub chain-ok : {A B : Type 0} (P : B → Type 0) (r : Result A RuleErr) (f : A → Result B RuleErr)
+    → ((x : A) → r ≡ Ok x → IfOk (f x) P) → IfOk (r >>= f) P
+chain-ok P (Ok x) f h = h x refl
+chain-ok P (Err e) f h = tt
 
-pub needs-some : {A : Type 0} (rule : ℕ) (o : Option A) → IfOk (needs rule o) (λ x. o ≡ Some x)
-needs-some rule (Some x) = refl
-needs-some rule None = tt
+-- with what is known of that
+pub chain-if : {A B : Type 0} (P : B → Type 0) (Q : A → Type 0) (r : Result A RuleErr) (f : A → Result B RuleErr)
+    → IfOk r Q → ((x : A) → Q x → IfOk (f x) P) → IfOk (r >>= f) P
+chain-if P Q (Ok x) f q h = h x q
+chain-if P Q (Err e) f q h = tt
 
-pub holds-true : (rule : ℕ) (b : Bool) → IfOk (holds rule b) (λ _. b ≡ true)
-holds-true rule true = refl
-holds-true rule false = tt
+-- with a value that is there
+pub chain-needs : {A B : Type 0} (P : B → Type 0) (rule : ℕ) (o : Option A) (f : A → Result B RuleErr)
+    → ((x : A) → o ≡ Some x → IfOk (f x) P) → IfOk (needs rule o >>= f) P
+chain-needs P rule (Some x) f h = h x refl
+chain-needs P rule None f h = tt
 
-pub none-none : (rule : ℕ) (o : Option ℕ) → IfOk (no_entry rule o) (λ _. o ≡ None)
-none-none rule None = refl
-none-none rule (Some n) = tt
+-- with a test that passes
+pub chain-holds : {B : Type 0} (P : B → Type 0) (rule : ℕ) (b : Bool) (f : Unit {0} → Result B RuleErr)
+    → (b ≡ true → IfOk (f tt) P) → IfOk (holds rule b >>= f) P
+chain-holds P rule true f h = h refl
+chain-holds P rule false f h = tt
+
+-- with no entry found
+pub chain-none : {B : Type 0} (P : B → Type 0) (rule : ℕ) (o : Option ℕ) (f : Unit {0} → Result B RuleErr)
+    → (o ≡ None → IfOk (f tt) P) → IfOk (no_entry rule o >>= f) P
+chain-none P rule None f h = h refl
+chain-none P rule (Some n) f h = tt
 
 -- ---- a rule on each entry
 

@@ -1,4 +1,3 @@
-pub mod FirstLemmas
 pub mod Chains
 pub mod TreeRules
 pub mod Kept

@@ -1,53 +1,35 @@
 -- The scenario of a table, or the first rule that it breaks, with the first entry that breaks it.
-use Rattle.std.specs.Prelude.{◌≡◌, ◌≢◌, ◌≤◌, ◌<◌, ◌-◌, ◌^◌, All, AllPairs, ℕ, ◌+◌, ◌*◌, ◌==◌, Bool, true, false, not, ◌&&◌, ◌||◌, nat_le, nat_lt, nat_eq, if◌then◌else◌, List, [], ◌∷◌, length, map, codes, Option, Some, None, option_map, option_and_then, Result, Ok}
+use Rattle.std.specs.Prelude.{◌≡◌, ◌≢◌, ◌≤◌, ◌<◌, ◌-◌, ◌^◌, All, AllPairs, ℕ, ◌+◌, ◌*◌, ◌==◌, Bool, true, false, ◌&&◌, nat_le, nat_lt, nat_eq, List, [], ◌∷◌, length, map, codes, Option, Some, None, option_map, Result, Ok, Err}
 use Rattle.std.specs.Cmp.Lexicographic.{pointwise}
 use Rattle.std.specs.List.{list_any}
 use Rattle.std.specs.List.Sorted.{IsNonDecreasing}
 use Rattle.std.proofs.Common.{get_or}
-use Rattle.tree_topology.specs.Graph.{IsNode}
+use Rattle.srp_base.specs.Firsts.{first_where}
+use Rattle.srp_base.specs.Results.{◌>>=◌}
 use Rattle.toml.specs.Data.{Members}
 use Rattle.toml_rules.specs.declared.rules.RuleErr.{RuleErr}
 use Rattle.toml_rules.specs.declared.rules.RuleErr.TheVariants as rules
-use Rattle.tree_topology.specs.declared.graph.TreeErr.TheVariants as refusals
 use Rattle.toml_rules.specs.Fields.{number, number_or, within, truth_or, tables, has_only}
-use Rattle.toml_rules.specs.Rules.{◌>>=◌, needs, holds, fails_at, no_entry, each_entry, first_where}
+use Rattle.toml_rules.specs.Rules.{needs, holds, fails_at, no_entry, each_entry, first_fall}
 use Rattle.tree_topology.specs.declared.graph.Link.{Link}
 use Rattle.tree_topology.specs.declared.graph.NodeKind.{NodeKind}
-use Rattle.tree_topology.specs.declared.graph.NodeKind.TheVariants.{Station, Bridge}
 use Rattle.tree_topology.specs.declared.graph.TreeErr.{TreeErr}
 use Rattle.tree_topology.specs.declared.graph.TreeErr.TheVariants.{UnknownNode, SelfLink, SecondLink, Loop, Unconnected, StationWithLinks, TooManyLinks}
+use Rattle.tree_topology.specs.declared.graph.TreeErr.TheVariants as refusals
+use Rattle.tree_topology.specs.Graph.{IsNode}
 use Rattle.tree_topology.specs.Ports.{neighbours}
-use Rattle.tree_topology.specs.Refusal.{IsAccepted}
+use Rattle.tree_topology.specs.Refusal.{IsAccepted, is_self_link, is_second_link, refusal}
 use Rattle.tree_topology.specs.Topology.{Topology}
-use Rattle.tree_topology.specs.Walk.{component}
 use Rattle.topology_file.specs.declared.entries.NodeEntry.{NodeEntry}
 use Rattle.topology_file.specs.declared.entries.LinkEntry.{LinkEntry}
 use Rattle.topology_file.specs.declared.entries.EventEntry.{EventEntry}
+use Rattle.topology_file.specs.declared.entries.EventForm.{EventForm}
 use Rattle.topology_file.specs.declared.entries.EventKind.{EventKind}
 use Rattle.topology_file.specs.declared.entries.EventKind.TheVariants as kinds
-use Rattle.topology_file.specs.declared.entries.LinkForm.{LinkForm}
-use Rattle.topology_file.specs.declared.entries.EventForm.{EventForm}
-use Rattle.topology_file.specs.declared.entries.KindForm.{KindForm}
-use Rattle.topology_file.specs.declared.entries.KindForm.TheVariants as forms
-use Rattle.topology_file.specs.Entries.{is_name, node_entry, link_form, event_form}
+use Rattle.topology_file.specs.Entries.{is_name, is_station, joins_both, node_entry, link_form, event_form}
 use Rattle.topology_file.specs.Plan.{Plan}
 
 -- ---- nodes
-
-abbrev pub is_station : NodeKind → Bool
-is_station Station = true
-is_station Bridge = false
-
--- the number of the node of this name, where the nodes are numbered from n
-abbrev pub node_from : ℕ → List ℕ → List NodeEntry → Option ℕ
-node_from n name [] = None
-node_from n name (x ∷ nodes) = if pointwise nat_eq x.name name then Some n else node_from (n + 1) name nodes
-
--- the number of the station of this name
-abbrev pub station_from : ℕ → List ℕ → List NodeEntry → Option ℕ
-station_from n name [] = None
-station_from n name (x ∷ nodes) =
-    if pointwise nat_eq x.name name then (if is_station x.kind then Some n else None) else station_from (n + 1) name nodes
 
 abbrev pub has_name_of : List NodeEntry → NodeEntry → Bool
 has_name_of earlier x = list_any (λ y. pointwise nat_eq y.name x.name) earlier
@@ -70,50 +52,32 @@ nodes_of ticks entries = do
 
 -- ---- links
 
+abbrev pub links_of : List NodeEntry → List Members → Result (List LinkEntry) RuleErr
+links_of nodes entries = do
+  forms ← each_entry 8 (link_form nodes) 1 entries
+  each_entry 9 (λ n form. form) 1 forms
+
+-- ---- the tree
+
 abbrev pub ends_of_entry : LinkEntry → Link
 ends_of_entry l = record { a = l.a; b = l.b }
 
 abbrev pub tree_links : List LinkEntry → List Link
 tree_links links = map ends_of_entry links
 
--- the link joins these two nodes
-abbrev pub joins_both : ℕ → ℕ → LinkEntry → Bool
-joins_both x y l = l.a.0 == x && l.b.0 == y || l.a.0 == y && l.b.0 == x
-
--- the link of a form, with the numbers of its ends
-abbrev pub link_entry : List NodeEntry → ℕ → LinkForm → Option LinkEntry
-link_entry nodes n form =
-    option_and_then (λ a. option_and_then (λ b.
-    Some (record { a = record { 0 = a }; b = record { 0 = b }; rate = form.rate; delta_a = form.delta_a; delta_b = form.delta_b; latency = form.latency }))
-    (node_from 1 form.b nodes)) (node_from 1 form.a nodes)
-
-abbrev pub is_self_link : List LinkEntry → LinkEntry → Bool
-is_self_link earlier l = l.a.0 == l.b.0
-
-abbrev pub is_second_link : List LinkEntry → LinkEntry → Bool
-is_second_link earlier l = list_any (joins_both l.a.0 l.b.0) earlier
-
--- earlier links connect its ends already
-abbrev pub closes_loop : List LinkEntry → LinkEntry → Bool
-closes_loop earlier l = component (tree_links earlier) l.a.0 == component (tree_links earlier) l.b.0
-
--- ---- the tree, node by node; the node behind so many earlier ones
-
-abbrev pub is_unconnected : List LinkEntry → List NodeEntry → NodeEntry → Bool
-is_unconnected links earlier x =
-    not (component (tree_links links) 1 == component (tree_links links) (length earlier + 1))
-
-abbrev pub is_stray_station : List LinkEntry → List NodeEntry → NodeEntry → Bool
-is_stray_station links earlier x =
-    is_station x.kind && not (length (neighbours (tree_links links) (length earlier + 1)) == 1)
-
-abbrev pub is_crowded : List Link → List NodeEntry → NodeEntry → Bool
-is_crowded links earlier x = nat_lt 16 (length (neighbours links (length earlier + 1)))
+abbrev pub node_kinds : List NodeEntry → List NodeKind
+node_kinds nodes = map (λ x. x.kind) nodes
 
 abbrev pub topology_of : List NodeEntry → List LinkEntry → Topology
-topology_of nodes links = record { kinds = map (λ x. x.kind) nodes; links = tree_links links }
+topology_of nodes links = record { kinds = node_kinds nodes; links = tree_links links }
 
--- the rule that a refusal of the tree breaks
+-- rules 10 and 11, which the ends of links alone tell
+abbrev pub proper_ends : List Link → Result (Unit {0}) RuleErr
+proper_ends ends = do
+  _ ← no_entry 10 (first_where is_self_link [] ends)
+  no_entry 11 (first_where is_second_link [] ends)
+
+-- the rule that a refusal of the tree breaks; names are nodes by then, and there are few
 abbrev pub rule_of : TreeErr → RuleErr
 rule_of (UnknownNode n) = fails_at 9 n.0
 rule_of (SelfLink n) = fails_at 10 n.0
@@ -124,27 +88,20 @@ rule_of (StationWithLinks x) = fails_at 14 x.0
 rule_of (TooManyLinks x) = fails_at 15 x.0
 rule_of refusals.NoMemory = rules.NoMemory
 
-abbrev pub tree_of : List NodeEntry → List LinkEntry → Result Topology RuleErr
-tree_of nodes links = do
-  _ ← no_entry 12 (first_where closes_loop [] links)
-  _ ← no_entry 13 (first_where (is_unconnected links) [] nodes)
-  _ ← no_entry 14 (first_where (is_stray_station links) [] nodes)
-  Ok (topology_of nodes links)
+-- this tree, unless it is refused
+abbrev pub unless_refused : Topology → Option TreeErr → Result Topology RuleErr
+unless_refused tree None = Ok tree
+unless_refused tree (Some e) = Err (rule_of e)
 
-abbrev pub links_of : List NodeEntry → List Members → Result (List LinkEntry) RuleErr
-links_of nodes entries = do
-  forms ← each_entry 8 link_form 1 entries
-  links ← each_entry 9 (link_entry nodes) 1 forms
-  _ ← no_entry 10 (first_where is_self_link [] links)
-  _ ← no_entry 11 (first_where is_second_link [] links)
-  Ok links
+abbrev pub tree_of : List NodeEntry → List LinkEntry → Result Topology RuleErr
+tree_of nodes links =
+    unless_refused (topology_of nodes links) (refusal (node_kinds nodes) (tree_links links))
+
+-- the node behind so many earlier ones has more than 16 links
+abbrev pub is_crowded : List Link → List NodeEntry → NodeEntry → Bool
+is_crowded links earlier x = nat_lt 16 (length (neighbours links (length earlier + 1)))
 
 -- ---- events
-
--- the first of these ticks, numbered from n, that is below the one before it
-abbrev pub first_fall : ℕ → ℕ → List ℕ → Option ℕ
-first_fall n before [] = None
-first_fall n before (t ∷ ticks) = if nat_lt t before then Some n else first_fall (n + 1) t ticks
 
 abbrev pub form_ticks : List EventForm → List ℕ
 form_ticks forms = map (λ e. e.tick) forms
@@ -152,31 +109,15 @@ form_ticks forms = map (λ e. e.tick) forms
 abbrev pub event_ticks : List EventEntry → List ℕ
 event_ticks events = map (λ e. e.tick) events
 
--- two nodes that a link joins
-abbrev pub joined_from : List NodeEntry → List LinkEntry → List ℕ → List ℕ → Option (ℕ × ℕ)
-joined_from nodes links from to =
-    option_and_then (λ x. option_and_then (λ y. if list_any (joins_both x y) links then Some (x, y) else None)
-    (node_from 1 to nodes)) (node_from 1 from nodes)
-
-abbrev pub kind_entry : List NodeEntry → List LinkEntry → KindForm → Option EventKind
-kind_entry nodes links (forms.Declare station vid) =
-    option_map (λ x. kinds.Declare (record { 0 = x }) vid) (station_from 1 station nodes)
-kind_entry nodes links (forms.Withdraw station vid) =
-    option_map (λ x. kinds.Withdraw (record { 0 = x }) vid) (station_from 1 station nodes)
-kind_entry nodes links (forms.Lose from to index) =
-    option_map (λ p. kinds.Lose (record { 0 = p.0 }) (record { 0 = p.1 }) index) (joined_from nodes links from to)
-kind_entry nodes links (forms.Repeat from to index) =
-    option_map (λ p. kinds.Repeat (record { 0 = p.0 }) (record { 0 = p.1 }) index) (joined_from nodes links from to)
-
-abbrev pub event_entry : List NodeEntry → List LinkEntry → ℕ → EventForm → Option EventEntry
-event_entry nodes links n form =
-    option_map (λ kind. record { tick = form.tick; kind = kind }) (kind_entry nodes links form.kind)
+-- the event, where what it names is known
+abbrev pub event_entry : ℕ → EventForm → Option EventEntry
+event_entry n form = option_map (λ kind. record { tick = form.tick; kind = kind }) form.kind
 
 abbrev pub events_of : ℕ → List NodeEntry → List LinkEntry → List Members → Result (List EventEntry) RuleErr
 events_of ticks nodes links entries = do
-  forms ← each_entry 20 (event_form ticks) 1 entries
+  forms ← each_entry 20 (event_form ticks nodes links) 1 entries
   _ ← no_entry 21 (first_fall 1 0 (form_ticks forms))
-  each_entry 22 (event_entry nodes links) 1 forms
+  each_entry 22 event_entry 1 forms
 
 -- ---- the file
 
@@ -223,6 +164,8 @@ scenario_of ms = do
   periodic ← needs 3 (truth_or (codes "periodic") false ms)
   plan_of ticks leave_time periodic node_tables link_tables event_tables
 
+-- ---- what every scenario keeps
+
 -- a station
 abbrev pub IsStationNumber : List NodeEntry → ℕ → Type 0
 IsStationNumber nodes x = IsNode (length nodes) x × ((d : NodeEntry) → is_station (get_or nodes (x - 1) d).kind ≡ true)
@@ -232,19 +175,12 @@ abbrev pub AreJoinedNumbers : List NodeEntry → List LinkEntry → ℕ → ℕ 
 AreJoinedNumbers nodes links x y =
     IsNode (length nodes) x × IsNode (length nodes) y × (list_any (joins_both x y) links ≡ true)
 
--- the numbers in an event are a station, or nodes that a link joins
+-- the numbers in an event have their ranges, and are a station, or nodes that a link joins
 abbrev pub IsKnownKind : List NodeEntry → List LinkEntry → EventKind → Type 0
-IsKnownKind nodes links (kinds.Declare station vid) = IsStationNumber nodes station.0
-IsKnownKind nodes links (kinds.Withdraw station vid) = IsStationNumber nodes station.0
-IsKnownKind nodes links (kinds.Lose from to index) = AreJoinedNumbers nodes links from.0 to.0
-IsKnownKind nodes links (kinds.Repeat from to index) = AreJoinedNumbers nodes links from.0 to.0
-
--- the numbers in an event have their ranges
-abbrev pub HasRanges : EventKind → Type 0
-HasRanges (kinds.Declare station vid) = (1 ≤ vid) × (vid ≤ 4094)
-HasRanges (kinds.Withdraw station vid) = (1 ≤ vid) × (vid ≤ 4094)
-HasRanges (kinds.Lose from to index) = index ≤ 65535
-HasRanges (kinds.Repeat from to index) = index ≤ 65535
+IsKnownKind nodes links (kinds.Declare station vid) = IsStationNumber nodes station.0 × (1 ≤ vid) × (vid ≤ 4094)
+IsKnownKind nodes links (kinds.Withdraw station vid) = IsStationNumber nodes station.0 × (1 ≤ vid) × (vid ≤ 4094)
+IsKnownKind nodes links (kinds.Lose from to index) = AreJoinedNumbers nodes links from.0 to.0 × (index ≤ 65535)
+IsKnownKind nodes links (kinds.Repeat from to index) = AreJoinedNumbers nodes links from.0 to.0 × (index ≤ 65535)
 
 -- What every scenario keeps: its numbers have their ranges, names and ids differ, its nodes and links are
 -- an accepted tree, and its events are in order and speak of known nodes and links.
@@ -257,11 +193,10 @@ pub record KeepsRules (p : Plan) : Type 0 where
   pub names : AllPairs (λ x y. x.name ≢ y.name) p.nodes
   pub ids : AllPairs (λ x y. x.id.0 ≢ y.id.0) p.nodes
   pub link_forms : All (λ l. (l.delta_a + l.delta_b ≤ 90) × (l.latency < 2 ^ 32)) p.links
-  pub accepted : IsAccepted (map (λ x. x.kind) p.nodes) (tree_links p.links)
+  pub accepted : IsAccepted (node_kinds p.nodes) (tree_links p.links)
   pub uncrowded : (x : ℕ) → IsNode (length p.nodes) x → length (neighbours (tree_links p.links) x) ≤ 16
   pub events_many : length p.events ≤ 10000
   pub events_within : All (λ t. t < p.ticks) (event_ticks p.events)
-  pub events_ranges : All (λ e. HasRanges e.kind) p.events
   pub events_order : IsNonDecreasing (event_ticks p.events)
   pub events_known : All (λ e. IsKnownKind p.nodes p.links e.kind) p.events
   pub tree : p.tree ≡ topology_of p.nodes p.links

@@ -63,52 +63,10 @@ pub enum EventKind {
     },
 }
 
-/// A link entry with the names of its ends.
-#[derive(Drop)]
-pub(crate) struct LinkForm {
-    pub(crate) a: Seq<u8>,
-    pub(crate) b: Seq<u8>,
-    pub(crate) rate: Rate,
-    pub(crate) delta_a: Percent,
-    pub(crate) delta_b: Percent,
-    pub(crate) latency: u32,
-}
-
-/// An event entry with its names.
-#[derive(Drop)]
+/// An event entry that has its form; what happens is missing where it names no station, or no nodes
+/// that a link joins.
+#[derive(Clone, Copy)]
 pub(crate) struct EventForm {
     pub(crate) tick: u64,
-    pub(crate) kind: KindForm,
-}
-
-/// What happens, by names.
-#[derive(Drop)]
-pub(crate) enum KindForm {
-    Declare {
-        station: Seq<u8>,
-        vid: Vid,
-    },
-    Withdraw {
-        station: Seq<u8>,
-        vid: Vid,
-    },
-    Lose {
-        from: Seq<u8>,
-        to: Seq<u8>,
-        index: u32,
-    },
-    Repeat {
-        from: Seq<u8>,
-        to: Seq<u8>,
-        index: u32,
-    },
-}
-
-/// The word of each kind of event.
-#[derive(Clone, Copy)]
-pub(crate) enum EventWord {
-    Declare,
-    Withdraw,
-    Lose,
-    Repeat,
+    pub(crate) kind: Option<EventKind>,
 }

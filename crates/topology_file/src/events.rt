@@ -1,173 +1,29 @@
 //! The events of a scenario: rules 20 to 22.
 
-ghost use Rattle.std.specs.Prelude.{◌≡◌, ◌<◌, ◌≤◌, map, length, codes, Option, option_map, IfOk};
+ghost use Rattle.std.specs.Prelude.{◌≡◌, ◌≤◌, map, length, Option};
 ghost use Rattle.toml.specs.View.{table_view};
-ghost use Rattle.toml_rules.specs.Rules.{Reads, each_entry};
-ghost use Rattle.topology_file.specs.Entries.{vlan_parts, link_parts, word_of_text, word_at, kind_form, event_form};
-ghost use Rattle.topology_file.specs.Scenario.{joined_from, kind_entry, event_entry, form_ticks, first_fall as first_fall_spec, events_of};
+ghost use Rattle.toml_rules.specs.Rules.{Reads, each_entry as each_entry_spec, first_fall as first_fall_spec};
+ghost use Rattle.topology_file.specs.Entries.{joined_named, known_vlan, vlan_at, known_pdu, pdu_at, kind_form, known_event, event_form};
+ghost use Rattle.topology_file.specs.Scenario.{event_entry, form_ticks, events_of};
 
-use crate::entries::{EventEntry, EventForm, EventKind, EventWord, KindForm, LinkEntry, NodeEntry};
+use crate::entries::{EventEntry, EventForm, EventKind, LinkEntry, NodeEntry};
 use crate::forms::{read_index, read_name, read_tick, read_vid};
 use crate::links::are_joined;
-use crate::nodes::{copy_text, node_named, station_named};
-use srp_base::{NoMemory, NodeNo, Seq, Vid};
+use crate::nodes::{node_named, station_named};
+use srp_base::{NodeNo, Vid};
 use std::alloc::Global;
 use toml::Table;
-use toml_rules::{RuleErr, fails_at, has_only, no_entry, text};
-
-const VLAN_KEYS: [&str; 4] = ["tick", "kind", "station", "vid"];
-
-/// A station and a VID.
-fn read_vlan(alloc: Global, table: &Table) -> Result<Option<(Seq<u8>, Vid)>, NoMemory>
-    ensures { IfOk result (λ found. found ≡ vlan_parts (table_view table.now)) }
-{
-    if !has_only(table, &VLAN_KEYS) {
-        return Ok(None);
-    }
-    let Some(station) = read_name(table, "station") else {
-        return Ok(None);
-    };
-    let Some(vid) = read_vid(table) else {
-        return Ok(None);
-    };
-    let station = copy_text(alloc, station)?;
-    Ok(Some((station, vid)))
-}
-
-const LINK_EVENT_KEYS: [&str; 5] = ["tick", "kind", "from", "to", "index"];
-
-/// Two nodes and the index of a PDU.
-fn read_link_event(
-    alloc: Global,
-    table: &Table,
-) -> Result<Option<(Seq<u8>, Seq<u8>, u32)>, NoMemory>
-    ensures { IfOk result (λ found. found ≡ link_parts (table_view table.now)) }
-{
-    if !has_only(table, &LINK_EVENT_KEYS) {
-        return Ok(None);
-    }
-    let Some(from) = read_name(table, "from") else {
-        return Ok(None);
-    };
-    let Some(to) = read_name(table, "to") else {
-        return Ok(None);
-    };
-    let Some(index) = read_index(table) else {
-        return Ok(None);
-    };
-    let from = copy_text(alloc, from)?;
-    let to = copy_text(alloc, to)?;
-    Ok(Some((from, to, index)))
-}
-
-fn word_of(kind: &str) -> Option<EventWord>
-    ensures { result ≡ word_of_text kind.now }
-{
-    match kind {
-        "declare" => Some(EventWord::Declare),
-        "withdraw" => Some(EventWord::Withdraw),
-        "lose" => Some(EventWord::Lose),
-        "repeat" => Some(EventWord::Repeat),
-        _ => None,
-    }
-}
-
-fn read_word(table: &Table) -> Option<EventWord>
-    ensures { result ≡ word_at (table_view table.now) }
-{
-    word_of(text(table, "kind")?)
-}
-
-/// What happens, with the keys of this kind.
-fn read_kind(alloc: Global, word: EventWord, table: &Table) -> Result<Option<KindForm>, NoMemory>
-    ensures { IfOk result (λ kind. kind ≡ kind_form word (table_view table.now)) }
-{
-    match word {
-        EventWord::Declare => {
-            let parts = read_vlan(alloc, table)?;
-            Ok(parts.map(|(station, vid)| KindForm::Declare { station, vid }))
-        }
-        EventWord::Withdraw => {
-            let parts = read_vlan(alloc, table)?;
-            Ok(parts.map(|(station, vid)| KindForm::Withdraw { station, vid }))
-        }
-        EventWord::Lose => {
-            let parts = read_link_event(alloc, table)?;
-            Ok(parts.map(|(from, to, index)| KindForm::Lose { from, to, index }))
-        }
-        EventWord::Repeat => {
-            let parts = read_link_event(alloc, table)?;
-            Ok(parts.map(|(from, to, index)| KindForm::Repeat { from, to, index }))
-        }
-    }
-}
-
-/// The most events of a scenario.
-const MOST_EVENTS: usize = 10_000;
-
-/// The event of an entry with this number, with its names, where it has its form.
-fn read_event(
-    alloc: Global,
-    ticks: u64,
-    number: usize,
-    table: &Table,
-) -> Result<Option<EventForm>, NoMemory>
-    ensures { IfOk result (λ event. event ≡ event_form ticks number (table_view table.now)) }
-{
-    if number > MOST_EVENTS {
-        return Ok(None);
-    }
-    let Some(tick) = read_tick(ticks, table) else {
-        return Ok(None);
-    };
-    let Some(word) = read_word(table) else {
-        return Ok(None);
-    };
-    let kind = read_kind(alloc, word, table)?;
-    match kind {
-        Some(kind) => Ok(Some(EventForm { tick, kind })),
-        None => Ok(None),
-    }
-}
-
-/// Rule 20: each event has its form.
-fn read_forms(alloc: Global, ticks: u64, entries: &[&Table]) -> Result<Vec<EventForm>, RuleErr>
-    ensures { Reads (λ v. v.items) result (each_entry 20 (event_form ticks) 1 (map (λ t. table_view t.now) entries.now)) }
-{
-    let mut forms = Vec::new(alloc);
-    for (i, table) in entries.iter().enumerate() {
-        let form = read_event(alloc, ticks, i + 1, table)?;
-        match form {
-            Some(form) => forms.push(form)?,
-            None => return Err(fails_at(20, i + 1)),
-        }
-    }
-    Ok(forms)
-}
-
-/// The first event whose tick is below that of the one before it.
-fn first_fall(events: &[EventForm]) -> Option<usize>
-    ensures { result ≡ first_fall_spec 1 0 (form_ticks events.now) }
-{
-    let mut before = 0;
-    for (i, event) in events.iter().enumerate() {
-        if event.tick < before {
-            return Some(i + 1);
-        }
-        before = event.tick;
-    }
-    None
-}
+use toml_rules::{RuleErr, each_entry, each_table, first_fall, has_only, no_entry, text};
 
 /// The nodes of these names, where a link joins them.
 fn joined_nodes(
     nodes: &[NodeEntry],
     links: &[LinkEntry],
-    from: &Seq<u8>,
-    to: &Seq<u8>,
+    from: &str,
+    to: &str,
 ) -> Option<(NodeNo, NodeNo)>
     requires { length nodes.now ≤ 64 }
-    ensures { option_map (λ p. (p.0.0, p.1.0)) result ≡ joined_from nodes.now links.now from.now to.now }
+    ensures { result ≡ joined_named nodes.now links.now from.now to.now }
 {
     let x = node_named(nodes, from)?;
     let y = node_named(nodes, to)?;
@@ -178,61 +34,171 @@ fn joined_nodes(
     }
 }
 
-/// What happens, with numbers in place of names.
-fn name_kind(nodes: &[NodeEntry], links: &[LinkEntry], kind: &KindForm) -> Option<EventKind>
+/// A station, missing where there is none of this name, and a VID, at keys that are known.
+fn read_known_vlan(nodes: &[NodeEntry], table: &Table) -> Option<(Option<NodeNo>, Vid)>
     requires { length nodes.now ≤ 64 }
-    ensures { result ≡ kind_entry nodes.now links.now kind.now }
+    ensures { result ≡ known_vlan nodes.now (table_view table.now) }
 {
-    match kind {
-        KindForm::Declare { station, vid } => {
-            let station = station_named(nodes, station)?;
-            Some(EventKind::Declare { station, vid: *vid })
-        }
-        KindForm::Withdraw { station, vid } => {
-            let station = station_named(nodes, station)?;
-            Some(EventKind::Withdraw { station, vid: *vid })
-        }
-        KindForm::Lose { from, to, index } => {
-            let (from, to) = joined_nodes(nodes, links, from, to)?;
-            Some(EventKind::Lose {
-                from,
-                to,
-                index: *index,
-            })
-        }
-        KindForm::Repeat { from, to, index } => {
-            let (from, to) = joined_nodes(nodes, links, from, to)?;
-            Some(EventKind::Repeat {
-                from,
-                to,
-                index: *index,
-            })
-        }
+    let name = read_name(table, "station")?;
+    let vid = read_vid(table)?;
+    Some((station_named(nodes, name), vid))
+}
+
+const VLAN_KEYS: [&str; 4] = ["tick", "kind", "station", "vid"];
+
+fn read_vlan(nodes: &[NodeEntry], table: &Table) -> Option<(Option<NodeNo>, Vid)>
+    requires { length nodes.now ≤ 64 }
+    ensures { result ≡ vlan_at nodes.now (table_view table.now) }
+{
+    if has_only(table, &VLAN_KEYS) {
+        read_known_vlan(nodes, table)
+    } else {
+        None
     }
 }
 
-/// Rule 22: the names in events are known.
-fn name_events(
-    alloc: Global,
+/// Two nodes, missing where no link joins nodes of these names, and the index of a PDU, at keys that
+/// are known.
+fn read_known_pdu(
     nodes: &[NodeEntry],
     links: &[LinkEntry],
-    forms: &[EventForm],
-) -> Result<Vec<EventEntry>, RuleErr>
+    table: &Table,
+) -> Option<(Option<(NodeNo, NodeNo)>, u32)>
     requires { length nodes.now ≤ 64 }
-    ensures { Reads (λ v. v.items) result (each_entry 22 (event_entry nodes.now links.now) 1 forms.now) }
+    ensures { result ≡ known_pdu nodes.now links.now (table_view table.now) }
 {
-    let mut events = Vec::new(alloc);
-    for (i, form) in forms.iter().enumerate() {
-        let kind: Option<EventKind> = name_kind(nodes, links, &form.kind);
-        match kind {
-            Some(kind) => events.push(EventEntry {
-                tick: form.tick,
-                kind,
-            })?,
-            None => return Err(fails_at(22, i + 1)),
-        }
+    let from = read_name(table, "from")?;
+    let to = read_name(table, "to")?;
+    let index = read_index(table)?;
+    Some((joined_nodes(nodes, links, from, to), index))
+}
+
+const PDU_KEYS: [&str; 5] = ["tick", "kind", "from", "to", "index"];
+
+fn read_pdu(
+    nodes: &[NodeEntry],
+    links: &[LinkEntry],
+    table: &Table,
+) -> Option<(Option<(NodeNo, NodeNo)>, u32)>
+    requires { length nodes.now ≤ 64 }
+    ensures { result ≡ pdu_at nodes.now links.now (table_view table.now) }
+{
+    if has_only(table, &PDU_KEYS) {
+        read_known_pdu(nodes, links, table)
+    } else {
+        None
     }
-    Ok(events)
+}
+
+/// What happens, by the word of its kind, each with exactly its keys; missing where it names no
+/// station, or no nodes that a link joins.
+fn read_kind(
+    nodes: &[NodeEntry],
+    links: &[LinkEntry],
+    table: &Table,
+    word: &str,
+) -> Option<Option<EventKind>>
+    requires { length nodes.now ≤ 64 }
+    ensures { result ≡ kind_form nodes.now links.now (table_view table.now) word.now }
+{
+    match word {
+        "declare" => {
+            let (station, vid) = read_vlan(nodes, table)?;
+            Some(station.map(|station| EventKind::Declare { station, vid }))
+        }
+        "withdraw" => {
+            let (station, vid) = read_vlan(nodes, table)?;
+            Some(station.map(|station| EventKind::Withdraw { station, vid }))
+        }
+        "lose" => {
+            let (ends, index) = read_pdu(nodes, links, table)?;
+            Some(ends.map(|(from, to)| EventKind::Lose { from, to, index }))
+        }
+        "repeat" => {
+            let (ends, index) = read_pdu(nodes, links, table)?;
+            Some(ends.map(|(from, to)| EventKind::Repeat { from, to, index }))
+        }
+        _ => None,
+    }
+}
+
+/// The event of an entry among the first 10,000, where it has its form.
+fn read_known_event(
+    ticks: u64,
+    nodes: &[NodeEntry],
+    links: &[LinkEntry],
+    table: &Table,
+) -> Option<EventForm>
+    requires { length nodes.now ≤ 64 }
+    ensures { result ≡ known_event ticks nodes.now links.now (table_view table.now) }
+{
+    let tick = read_tick(ticks, table)?;
+    let word = text(table, "kind")?;
+    let kind = read_kind(nodes, links, table, word)?;
+    Some(EventForm { tick, kind })
+}
+
+/// The most events of a scenario.
+const MOST_EVENTS: usize = 10_000;
+
+/// The event of an entry with this number, where it has its form.
+fn read_event(
+    ticks: u64,
+    nodes: &[NodeEntry],
+    links: &[LinkEntry],
+    number: usize,
+    table: &Table,
+) -> Option<EventForm>
+    requires { length nodes.now ≤ 64 }
+    ensures { result ≡ event_form ticks nodes.now links.now number (table_view table.now) }
+{
+    if number <= MOST_EVENTS {
+        read_known_event(ticks, nodes, links, table)
+    } else {
+        None
+    }
+}
+
+/// Rule 20: each event has its form.
+fn read_forms(
+    alloc: Global,
+    ticks: u64,
+    nodes: &[NodeEntry],
+    links: &[LinkEntry],
+    entries: &[&Table],
+) -> Result<Vec<EventForm>, RuleErr>
+    requires { length nodes.now ≤ 64 }
+    ensures { Reads (λ v. v.items) result
+        (each_entry_spec 20 (event_form ticks nodes.now links.now) 1 (map (λ t. table_view t.now) entries.now)) }
+{
+    each_table(alloc, 20, entries, |number, table| {
+        Ok(read_event(ticks, nodes, links, number, table))
+    })
+}
+
+/// The first event whose tick is below that of the one before it.
+fn falling_event(forms: &[EventForm]) -> Option<usize>
+    ensures { result ≡ first_fall_spec 1 0 (form_ticks forms.now) }
+{
+    first_fall(forms, |form| form.tick)
+}
+
+/// The event of a form, where what it names is known.
+fn named_event(form: &EventForm) -> Option<EventEntry>
+    ensures { result ≡ event_entry 0 form.now }
+{
+    let kind = form.kind?;
+    Some(EventEntry {
+        tick: form.tick,
+        kind,
+    })
+}
+
+/// Rule 22: the names in events are known.
+fn named_events(alloc: Global, forms: &[EventForm]) -> Result<Vec<EventEntry>, RuleErr>
+    ensures { Reads (λ v. v.items) result (each_entry_spec 22 event_entry 1 forms.now) }
+{
+    each_entry(alloc, 22, forms, |_, form| Ok(named_event(form)))
 }
 
 /// The events of the entries: rules 20 to 22.
@@ -246,7 +212,7 @@ pub(crate) fn read_events(
     requires { length nodes.now ≤ 64 }
     ensures { Reads (λ v. v.items) result (events_of ticks nodes.now links.now (map (λ t. table_view t.now) entries.now)) }
 {
-    let forms = read_forms(alloc, ticks, entries)?;
-    no_entry(21, first_fall(&forms))?;
-    name_events(alloc, nodes, links, &forms)
+    let forms = read_forms(alloc, ticks, nodes, links, entries)?;
+    no_entry(21, falling_event(&forms))?;
+    named_events(alloc, &forms)
 }

@@ -1,23 +1,24 @@
 //! The nodes of a scenario: rules 4 to 7.
 
-ghost use Rattle.std.specs.Prelude.{◌≡◌, ◌+◌, ◌==◌, ◌<◌, ◌≤◌, [], map, length, nat_eq, Option, option_map, IfOk};
+ghost use Rattle.std.specs.Prelude.{◌≡◌, ◌+◌, ◌==◌, ◌&&◌, ◌<◌, ◌≤◌, [], map, length, nat_eq, Option, option_map, IfOk, IfSome};
 ghost use Rattle.std.specs.Cmp.Lexicographic.{pointwise};
 ghost use Rattle.std.specs.List.{list_any};
+ghost use Rattle.srp_base.specs.Firsts.{first_where as first_where_spec};
 ghost use Rattle.toml.specs.View.{table_view};
-ghost use Rattle.toml_rules.specs.Rules.{Reads, each_entry, first_where};
-ghost use Rattle.topology_file.specs.Entries.{node_entry};
-ghost use Rattle.topology_file.specs.Scenario.{node_from, station_from, is_station as is_station_spec, has_name_of as has_name_of_spec, has_id_of as has_id_of_spec, is_small as is_small_spec, nodes_of};
+ghost use Rattle.toml_rules.specs.Rules.{Reads, each_entry};
+ghost use Rattle.topology_file.specs.Entries.{node_entry, has_name as has_name_spec, is_station as is_station_spec, node_no as node_no_spec, node_named as node_named_spec, station_named as station_named_spec};
+ghost use Rattle.topology_file.specs.Scenario.{has_name_of as has_name_of_spec, has_id_of as has_id_of_spec, is_small as is_small_spec, nodes_of};
 
 use crate::entries::NodeEntry;
 use crate::forms::{read_id, read_kind, read_name};
 use srp_base::{BridgeId, NoMemory, NodeNo, Seq};
 use std::alloc::Global;
 use toml::Table;
-use toml_rules::{RuleErr, fails_at, has_only, holds, no_entry};
+use toml_rules::{RuleErr, each_table, first_where, has_only, holds, no_entry};
 use tree_topology::NodeKind;
 
 /// A text as a list of its bytes.
-pub(crate) fn copy_text(alloc: Global, text: &str) -> Result<Seq<u8>, NoMemory>
+fn copy_text(alloc: Global, text: &str) -> Result<Seq<u8>, NoMemory>
     ensures { IfOk result (λ bytes. bytes ≡ text.now) }
 {
     let bytes = text.as_bytes().to_vec(alloc)?;
@@ -51,18 +52,15 @@ fn read_node(alloc: Global, number: usize, table: &Table) -> Result<Option<NodeE
 }
 
 /// Rule 4: each node has its form.
-fn read_node_entries(alloc: Global, entries: &[&Table]) -> Result<Vec<NodeEntry>, RuleErr>
+fn read_forms(alloc: Global, entries: &[&Table]) -> Result<Vec<NodeEntry>, RuleErr>
     ensures { Reads (λ v. v.items) result (each_entry 4 node_entry 1 (map (λ t. table_view t.now) entries.now)) }
 {
-    let mut nodes = Vec::new(alloc);
-    for (i, table) in entries.iter().enumerate() {
-        let node = read_node(alloc, i + 1, table)?;
-        match node {
-            Some(node) => nodes.push(node)?,
-            None => return Err(fails_at(4, i + 1)),
-        }
-    }
-    Ok(nodes)
+    each_table(
+        alloc,
+        4,
+        entries,
+        |number, table| read_node(alloc, number, table),
+    )
 }
 
 /// Whether there are 2 to 64 nodes, and at most 400,000 nodes times ticks.
@@ -81,14 +79,9 @@ fn has_name_of(earlier: &[NodeEntry], node: &NodeEntry) -> bool
 
 /// The first node whose name an earlier one has.
 fn repeated_name(nodes: &[NodeEntry]) -> Option<usize>
-    ensures { result ≡ first_where has_name_of_spec [] nodes.now }
+    ensures { result ≡ first_where_spec has_name_of_spec [] nodes.now }
 {
-    for (i, node) in nodes.iter().enumerate() {
-        if has_name_of(&nodes[..i], node) {
-            return Some(i + 1);
-        }
-    }
-    None
+    first_where(nodes, |earlier, node| has_name_of(earlier, node))
 }
 
 fn has_id_of(earlier: &[NodeEntry], node: &NodeEntry) -> bool
@@ -99,14 +92,9 @@ fn has_id_of(earlier: &[NodeEntry], node: &NodeEntry) -> bool
 
 /// The first node whose id an earlier one has.
 fn repeated_id(nodes: &[NodeEntry]) -> Option<usize>
-    ensures { result ≡ first_where has_id_of_spec [] nodes.now }
+    ensures { result ≡ first_where_spec has_id_of_spec [] nodes.now }
 {
-    for (i, node) in nodes.iter().enumerate() {
-        if has_id_of(&nodes[..i], node) {
-            return Some(i + 1);
-        }
-    }
-    None
+    first_where(nodes, |earlier, node| has_id_of(earlier, node))
 }
 
 /// The nodes of the entries: rules 4 to 7.
@@ -118,45 +106,54 @@ pub(crate) fn read_nodes(
     requires { ticks ≤ 12000 }
     ensures { Reads (λ v. v.items) result (nodes_of ticks (map (λ t. table_view t.now) entries.now)) }
 {
-    let nodes = read_node_entries(alloc, entries)?;
+    let nodes = read_forms(alloc, entries)?;
     holds(5, is_small(ticks, &nodes))?;
     no_entry(6, repeated_name(&nodes))?;
     no_entry(7, repeated_id(&nodes))?;
     Ok(nodes)
 }
 
-pub(crate) fn is_station(kind: NodeKind) -> bool
+fn is_station(kind: NodeKind) -> bool
     ensures { result ≡ is_station_spec kind }
 {
     kind == NodeKind::Station
 }
 
-/// The node of this name.
-pub(crate) fn node_named(nodes: &[NodeEntry], name: &Seq<u8>) -> Option<NodeNo>
-    requires { length nodes.now ≤ 64 }
-    ensures { option_map (λ n. n.0) result ≡ node_from 1 name.now nodes.now }
+fn has_name(name: &str, node: &NodeEntry) -> bool
+    ensures { result ≡ has_name_spec name.now node.now }
 {
-    for (i, node) in nodes.iter().enumerate() {
-        if node.name == *name {
-            return Some(NodeNo((i + 1) as u16));
-        }
+    node.name.as_slice() == name.as_bytes()
+}
+
+fn is_station_named(name: &str, node: &NodeEntry) -> bool
+    ensures { result ≡ (has_name_spec name.now node.now && is_station_spec node.now.kind) }
+{
+    has_name(name, node) && is_station(node.kind)
+}
+
+/// A number of a node that is known to be small.
+fn node_no(number: Option<usize>) -> Option<NodeNo>
+    requires { IfSome number (λ n. n ≤ 65535) }
+    ensures { result ≡ option_map node_no_spec number }
+{
+    match number {
+        Some(n) => Some(NodeNo(n as u16)),
+        None => None,
     }
-    None
+}
+
+/// The node of this name.
+pub(crate) fn node_named(nodes: &[NodeEntry], name: &str) -> Option<NodeNo>
+    requires { length nodes.now ≤ 64 }
+    ensures { result ≡ node_named_spec nodes.now name.now }
+{
+    node_no(first_where(nodes, |_, node| has_name(name, node)))
 }
 
 /// The station of this name.
-pub(crate) fn station_named(nodes: &[NodeEntry], name: &Seq<u8>) -> Option<NodeNo>
+pub(crate) fn station_named(nodes: &[NodeEntry], name: &str) -> Option<NodeNo>
     requires { length nodes.now ≤ 64 }
-    ensures { option_map (λ n. n.0) result ≡ station_from 1 name.now nodes.now }
+    ensures { result ≡ station_named_spec nodes.now name.now }
 {
-    for (i, node) in nodes.iter().enumerate() {
-        if node.name == *name {
-            return if is_station(node.kind) {
-                Some(NodeNo((i + 1) as u16))
-            } else {
-                None
-            };
-        }
-    }
-    None
+    node_no(first_where(nodes, |_, node| is_station_named(name, node)))
 }

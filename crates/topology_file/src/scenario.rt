@@ -1,9 +1,9 @@
 //! A scenario: a network, its times, and what happens in it.
 
-ghost use Rattle.std.specs.Prelude.{◌≡◌, ◌≤◌, [], map, Ok};
+ghost use Rattle.std.specs.Prelude.{◌≡◌, ◌≤◌, map, Ok};
 ghost use Rattle.toml.specs.Data.{Members};
 ghost use Rattle.toml.specs.View.{table_view};
-ghost use Rattle.toml_rules.specs.Rules.{Reads, needs as needs_spec, first_where};
+ghost use Rattle.toml_rules.specs.Rules.{Reads};
 ghost use Rattle.topology_file.specs.Plan.{Plan};
 ghost use Rattle.topology_file.specs.Scenario.{KeepsRules, ticks_at, leave_time_at, plan_of, scenario_of};
 
@@ -80,9 +80,7 @@ impl Scenario {
 pub fn read_scenarios_keep_the_rules()
     ensures { (ms : Members) (plan : Plan) → scenario_of ms ≡ Ok plan → KeepsRules plan }
 {
-    laws::components();
-    laws::few_links();
-    laws::one_component();
+    laws::refusals();
 }
 
 fn read_ticks(table: &Table) -> Option<u64>
@@ -121,21 +119,25 @@ fn read_plan(
         (map (λ t. table_view t.now) node_tables.now) (map (λ t. table_view t.now) link_tables.now)
         (map (λ t. table_view t.now) event_tables.now)) }
 {
-    laws::components();
-    laws::few_links();
-    laws::one_component();
-    let nodes = read_nodes(alloc, times.ticks, node_tables)?;
-    let links = read_links(alloc, &nodes, link_tables)?;
-    let tree = make_tree(alloc, &nodes, &links)?;
-    no_entry(15, crowded_node(&nodes, &tree))?;
-    let events = read_events(alloc, times.ticks, &nodes, &links, event_tables)?;
+    laws::refusals();
+    let nodes = Seq::from_vec(read_nodes(alloc, times.ticks, node_tables)?);
+    let links = Seq::from_vec(read_links(alloc, nodes.as_slice(), link_tables)?);
+    let tree = make_tree(alloc, nodes.as_slice(), links.as_slice())?;
+    no_entry(15, crowded_node(nodes.as_slice(), &tree))?;
+    let events = read_events(
+        alloc,
+        times.ticks,
+        nodes.as_slice(),
+        links.as_slice(),
+        event_tables,
+    )?;
     Ok(Scenario {
         ticks: times.ticks,
         leave_time: Cs(times.leave_time),
         periodic: times.periodic,
         tree,
-        nodes: Seq::from_vec(nodes),
-        links: Seq::from_vec(links),
+        nodes,
+        links,
         events: Seq::from_vec(events),
     })
 }

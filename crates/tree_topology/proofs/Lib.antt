@@ -7,9 +7,11 @@ pub mod Trees
 pub mod Climbs
 pub mod PortFacts
 pub mod PortLaws
+pub mod Propagation
 pub mod RowFacts
 pub mod ComponentSteps
 pub mod SpanSteps
 pub mod Refusals
+pub mod RefusalChecks
 pub mod RouteFacts
 pub mod Pigeonholes

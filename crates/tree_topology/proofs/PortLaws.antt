@@ -40,7 +40,7 @@ walk-from_behind count links tree p y m n e =
     let F : List ℕ → Type 0 = λ t. IsPath (Joined links) p.node.0 t y in
     (walk_between links (far_node links p) y, subst F w (walk-path count links tree p.node.0 y m n))
 
-far-known : (count : ℕ) (links : List Link) → IsTree count links → (p : EgressPort) → IsPort count links p → IsNode count (far_node links p)
+pub far-known : (count : ℕ) (links : List Link) → IsTree count links → (p : EgressPort) → IsPort count links p → IsNode count (far_node links p)
 far-known count links tree p h =
     (joined-known count links p.node.0 (far_node links p) tree.graph.known (port-joined count links p h)).1
 
@@ -64,7 +64,7 @@ pub port-same : (count : ℕ) (links : List Link) → IsTree count links → (p 
 port-same count links tree p q h k e f =
     port-is count links tree p h ∙ ap (λ (t : ℕ). port_to links t (far_node links p)) e ∙ ap (λ (t : ℕ). port_to links q.node.0 t) f ∙ sym (port-is count links tree q k)
 
-not-true : (b : Bool) → ¬ (b ≡ true) → b ≡ false
+pub not-true : (b : Bool) → ¬ (b ≡ true) → b ≡ false
 not-true true h = absurd (h refl)
 not-true false h = refl
 

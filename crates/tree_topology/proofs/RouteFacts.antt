@@ -35,7 +35,7 @@ deeper-not_first count links parents depths r x y m ne le =
     not-top count links (λ x. get_or parents x 0) (λ x. get_or depths x 0) (rooted-by count links parents depths r) x y m ne le
 
 -- the ports of a walk and one step more
-egress-push : (links : List Link) (x : ℕ) (w : List ℕ) (y z : ℕ) → IsWalk (Joined links) x w y → egress_ports links x (w ++ z ∷ []) ≡ egress_ports links x w ++ port_to links y z ∷ []
+pub egress-push : (links : List Link) (x : ℕ) (w : List ℕ) (y z : ℕ) → IsWalk (Joined links) x w y → egress_ports links x (w ++ z ∷ []) ≡ egress_ports links x w ++ port_to links y z ∷ []
 egress-push links x [] y z h = ap (λ (t : ℕ). port_to links t z ∷ []) h
 egress-push links x (v ∷ w) y z h =
     ap (λ (t : List EgressPort). port_to links x v ∷ t) (egress-push links v w y z h.1)

@@ -4,4 +4,5 @@ pub mod Walk
 pub mod Refusal
 pub mod Tables
 pub mod Topology
+pub mod PortLaws
 pub mod Routes

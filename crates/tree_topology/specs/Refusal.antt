@@ -1,14 +1,17 @@
 -- When nodes and links are no accepted tree, and which refusal names what is wrong: the first that
 -- fits in the order of the variants, with the first link or node at which it fits.
-use Rattle.std.specs.Prelude.{◌≡◌, ◌≢◌, ℕ, ◌+◌, ◌-◌, ◌≤◌, ◌<◌, List, length}
+use Rattle.std.specs.Prelude.{◌≡◌, ◌≢◌, ℕ, ◌+◌, ◌-◌, ◌≤◌, ◌<◌, ◌==◌, nat_le, nat_lt, Bool, true, false, not, ◌&&◌, ◌||◌, List, [], length, Option, Some, None}
+use Rattle.std.specs.List.{list_any}
 use Rattle.std.proofs.Common.{take, get_or}
+use Rattle.srp_base.specs.Firsts.{first_where}
 use Rattle.tree_topology.specs.declared.graph.Link.{Link}
 use Rattle.tree_topology.specs.declared.graph.NodeKind.{NodeKind}
-use Rattle.tree_topology.specs.declared.graph.NodeKind.TheVariants.{Station}
+use Rattle.tree_topology.specs.declared.graph.NodeKind.TheVariants.{Station, Bridge}
 use Rattle.tree_topology.specs.declared.graph.TreeErr.{TreeErr}
 use Rattle.tree_topology.specs.declared.graph.TreeErr.TheVariants.{UnknownNode, SelfLink, SecondLink, Loop, Unconnected, StationWithLinks, TooManyLinks, NoMemory}
 use Rattle.tree_topology.specs.Graph.{IsNode, Joined, Connected, HasKnownEnds, HasNoSelfLink, IsGraph, IsTree}
 use Rattle.tree_topology.specs.Ports.{neighbours}
+use Rattle.tree_topology.specs.Walk.{component}
 
 -- the first link, counted from 1, at which a fault stands; a link is judged by those before it
 abbrev pub IsFirstLink : (List Link → Link → Type 0) → List Link → ℕ → Type 0
@@ -78,3 +81,60 @@ IsRefusal kinds links (StationWithLinks x) =
 IsRefusal kinds links (TooManyLinks x) =
     IsTree (length kinds) links × HasLeafStations kinds links × IsFirstNode (HasTooManyLinks links) (length kinds) x.0
 IsRefusal kinds links NoMemory = Unit {0}
+
+-- ---- the refusal as a function: the law `refusals` says that it is the one that fits
+
+-- the tests of a link, seen with those before it
+abbrev pub is_node : ℕ → ℕ → Bool
+is_node count x = nat_le 1 x && nat_le x count
+
+abbrev pub has_unknown_end : ℕ → List Link → Link → Bool
+has_unknown_end count earlier l = not (is_node count l.a.0 && is_node count l.b.0)
+
+abbrev pub is_self_link : List Link → Link → Bool
+is_self_link earlier l = l.a.0 == l.b.0
+
+abbrev pub joins_both : ℕ → ℕ → Link → Bool
+joins_both x y l = l.a.0 == x && l.b.0 == y || l.a.0 == y && l.b.0 == x
+
+abbrev pub is_second_link : List Link → Link → Bool
+is_second_link earlier l = list_any (joins_both l.a.0 l.b.0) earlier
+
+abbrev pub closes_loop : List Link → Link → Bool
+closes_loop earlier l = component earlier l.a.0 == component earlier l.b.0
+
+-- the tests of a node, which is the one behind so many earlier ones
+abbrev pub is_unconnected : List Link → List NodeKind → NodeKind → Bool
+is_unconnected links earlier kind = not (component links 1 == component links (length earlier + 1))
+
+abbrev pub is_station : NodeKind → Bool
+is_station Station = true
+is_station Bridge = false
+
+abbrev pub is_stray_station : List Link → List NodeKind → NodeKind → Bool
+is_stray_station links earlier kind = is_station kind && not (length (neighbours links (length earlier + 1)) == 1)
+
+abbrev pub has_too_many_links : List Link → List NodeKind → NodeKind → Bool
+has_too_many_links links earlier kind = nat_lt 255 (length (neighbours links (length earlier + 1)))
+
+-- the refusal of a number that a check finds, or what the later checks say
+abbrev pub refused_or : (ℕ → TreeErr) → Option ℕ → Option TreeErr → Option TreeErr
+refused_or error None later = later
+refused_or error (Some n) later = Some (error n)
+
+-- the first refusal of a node, where the links are a graph without a loop
+unfoldable pub node_refusal : List NodeKind → List Link → Option TreeErr
+node_refusal kinds links =
+    refused_or (λ n. Unconnected (record { 0 = n })) (first_where (is_unconnected links) [] kinds)
+    (refused_or (λ n. StationWithLinks (record { 0 = n })) (first_where (is_stray_station links) [] kinds)
+    (refused_or (λ n. TooManyLinks (record { 0 = n })) (first_where (has_too_many_links links) [] kinds)
+    None))
+
+-- the first refusal, in the order of the variants
+unfoldable pub refusal : List NodeKind → List Link → Option TreeErr
+refusal kinds links =
+    refused_or (λ n. UnknownNode (record { 0 = n })) (first_where (has_unknown_end (length kinds)) [] links)
+    (refused_or (λ n. SelfLink (record { 0 = n })) (first_where is_self_link [] links)
+    (refused_or (λ n. SecondLink (record { 0 = n })) (first_where is_second_link [] links)
+    (refused_or (λ n. Loop (record { 0 = n })) (first_where closes_loop [] links)
+    (node_refusal kinds links))))

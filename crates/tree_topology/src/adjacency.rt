@@ -3,7 +3,7 @@
 ghost use Rattle.std.specs.Prelude.{◌≡◌, ◌==◌, ◌+◌, ◌↔◌, ◌<◌, ◌≤◌, ◌⊎◌, length, IsTrue, OnOk, IfOk, IfErr, slice_index_or, [], vec_len};
 ghost use Rattle.std.specs.List.{list_any};
 ghost use Rattle.std.specs.Prelude.{replicate};
-ghost use Rattle.tree_topology.specs.Graph.{HasKnownEnds, HasNoSelfLink, HasNoSecondLink, IsGraph, IsTree};
+ghost use Rattle.tree_topology.specs.Graph.{Joined, HasKnownEnds, HasNoSelfLink, HasNoSecondLink, IsGraph, IsTree};
 ghost use Rattle.tree_topology.specs.Ports.{neighbours};
 ghost use Rattle.tree_topology.specs.Tables.{HasRows, with_neighbour, with_link};
 ghost use Rattle.tree_topology.specs.Refusal.{IsStationWithLinks, HasLeafStations, HasCountedPorts, IsRefusal};
@@ -40,6 +40,25 @@ impl Graph {
         let kinds = nodes.to_vec(alloc)?;
         let links = links.to_vec(alloc)?;
         Ok(Graph { kinds, links, rows })
+    }
+
+    /// The same graph once more.
+    pub(crate) fn copy(&self) -> Result<Graph, NoMemory>
+        ensures kinds { IfOk result (λ g. g.kinds.items ≡ self.now.kinds.items) }
+        ensures links { IfOk result (λ g. g.links.items ≡ self.now.links.items) }
+    {
+        Ok(Graph {
+            kinds: self.kinds.clone()?,
+            links: self.links.clone()?,
+            rows: self.rows.clone()?,
+        })
+    }
+
+    /// Whether a link joins two nodes.
+    pub(crate) fn joins(&self, node: u16, other: u16) -> bool
+        ensures { IsTrue result ↔ Joined self.now.links.items node other }
+    {
+        usize::from(node) <= self.kinds.len() && is_among(self.neighbours(node), other)
     }
 
     /// A node's neighbours in the order of its links.

@@ -1,27 +1,37 @@
 //! Laws of every accepted tree, over the definitions that the methods of `Tree` cite. Each is a
 //! function that does nothing and whose clauses are the law.
-//!
-//! ```text
-//! behind p:   p.node --p--> far node --q1--> behind q1
-//!                                    --q2--> behind q2
-//! ```
 
-ghost use Rattle.std.specs.Prelude.{◌≡◌, ◌≢◌, ◌⊎◌, ◌↔◌, ◌+◌, ◌*◌, ◌<◌, ◌≤◌, ℕ, List, [], ◌∷◌, IsTrue, not, length};
+ghost use Rattle.std.specs.Prelude.{◌≡◌, ◌≢◌, ◌↔◌, ◌+◌, ◌*◌, ◌≤◌, ℕ, List, [], Option, Some, None, IsTrue, length};
+ghost use Rattle.srp_base.specs.Firsts.{first_where};
 ghost use Rattle.srp_base.specs.declared.numbers.EgressPort.{EgressPort};
 ghost use Rattle.tree_topology.specs.declared.graph.TreeErr.{TreeErr};
 ghost use Rattle.tree_topology.specs.declared.graph.TreeErr.TheVariants.{NoMemory};
-ghost use Rattle.tree_topology.specs.Topology.{Topology, HasNode, HasLink, HasPort, IsSound};
+ghost use Rattle.tree_topology.specs.Topology.{Topology, HasNode, HasPort, IsSound};
 ghost use Rattle.tree_topology.specs.declared.graph.Link.{Link};
 ghost use Rattle.tree_topology.specs.Graph.{IsNode, Connected, IsGraph, IsTree};
-ghost use Rattle.tree_topology.specs.Ports.{neighbours, IsPortPath, LiesBehind, far_node, peer_of, ends_of};
-ghost use Rattle.tree_topology.specs.Walk.{component, path_between, is_behind, count_behind};
-ghost use Rattle.tree_topology.specs.Refusal.{HasNoLoop, IsRefusal};
+ghost use Rattle.tree_topology.specs.Ports.{neighbours, IsPortPath, LiesBehind};
+ghost use Rattle.tree_topology.specs.Walk.{component, path_between, is_behind};
+ghost use Rattle.tree_topology.specs.PortLaws.{HasPortLaws};
+ghost use Rattle.tree_topology.specs.Refusal.{HasNoLoop, IsRefusal, refusal, has_unknown_end, is_self_link, is_second_link};
 
 /// At most one refusal fits nodes and links, and none fits an accepted tree; want of memory aside.
 pub fn one_refusal()
     ensures one { (tree : Topology) (e f : TreeErr) → e ≢ NoMemory → f ≢ NoMemory
         → IsRefusal tree.kinds tree.links e → IsRefusal tree.kinds tree.links f → e ≡ f }
     ensures none { (tree : Topology) (e : TreeErr) → IsSound tree → IsRefusal tree.kinds tree.links e → e ≡ NoMemory }
+{}
+
+/// `refusal` gives the one refusal that fits nodes and links, want of memory aside, and none exactly for
+/// an accepted tree.
+pub fn refusals()
+    ensures gives { (tree : Topology) (e : TreeErr) → refusal tree.kinds tree.links ≡ Some e
+        → IsRefusal tree.kinds tree.links e × (e ≢ NoMemory) }
+    ensures fits { (tree : Topology) (e : TreeErr) → IsRefusal tree.kinds tree.links e → e ≢ NoMemory
+        → refusal tree.kinds tree.links ≡ Some e }
+    ensures accepted { (tree : Topology) → refusal tree.kinds tree.links ≡ None ↔ IsSound tree }
+    ensures graph { (tree : Topology) → first_where (has_unknown_end (length tree.kinds)) [] tree.links ≡ None
+        → first_where is_self_link [] tree.links ≡ None → first_where is_second_link [] tree.links ≡ None
+        → IsGraph (length tree.kinds) tree.links }
 {}
 
 /// `path_between` is the egress ports of the one walk without a repeated node, and `is_behind` tells
@@ -33,60 +43,10 @@ pub fn the_walk()
         → (LiesBehind tree.links p y ↔ IsTrue (is_behind tree.links p y)) }
 {}
 
-/// The peer of a port is a port of the far node, which leads back, and whose peer is the port. The
-/// two ends of a link are each other's peers.
-pub fn peers()
-    ensures port { (tree : Topology) (p : EgressPort) → IsSound tree → HasPort tree p → HasPort tree (peer_of tree.links p) }
-    ensures back { (tree : Topology) (p : EgressPort) → IsSound tree → HasPort tree p
-        → far_node tree.links (peer_of tree.links p) ≡ p.node.0 }
-    ensures twice { (tree : Topology) (p : EgressPort) → IsSound tree → HasPort tree p
-        → peer_of tree.links (peer_of tree.links p) ≡ p }
-    ensures ends { (tree : Topology) (n : ℕ) → IsSound tree → HasLink tree n
-        → peer_of tree.links (ends_of tree.links n).0 ≡ (ends_of tree.links n).1 }
-    ensures a { (tree : Topology) (n : ℕ) → IsSound tree → HasLink tree n → HasPort tree (ends_of tree.links n).0 }
-    ensures b { (tree : Topology) (n : ℕ) → IsSound tree → HasLink tree n → HasPort tree (ends_of tree.links n).1 }
-{}
-
-/// Every node but the own lies behind exactly one port of a node, and the own behind none.
-pub fn one_port()
-    ensures some { (tree : Topology) (x y : ℕ) → IsSound tree → HasNode tree x → HasNode tree y
-        → (x ≡ y) ⊎ ((p : EgressPort) × HasPort tree p × (p.node.0 ≡ x) × IsTrue (is_behind tree.links p y)) }
-    ensures one { (tree : Topology) (p q : EgressPort) (y : ℕ) → IsSound tree → HasPort tree p → HasPort tree q
-        → p.node.0 ≡ q.node.0 → IsTrue (is_behind tree.links p y) → IsTrue (is_behind tree.links q y) → p ≡ q }
-    ensures own { (tree : Topology) (p : EgressPort) → IsSound tree → HasPort tree p
-        → ¬ IsTrue (is_behind tree.links p p.node.0) }
-{}
-
-/// What lies behind a port is its far node, and what lies behind the far node's ports but the peer.
-/// The far node lies behind none of these, and no other node behind two (`one_port`).
-pub fn behind_splits()
-    ensures far { (tree : Topology) (p : EgressPort) → IsSound tree → HasPort tree p
-        → IsTrue (is_behind tree.links p (far_node tree.links p)) }
-    ensures beyond { (tree : Topology) (p q : EgressPort) (y : ℕ) → IsSound tree → HasPort tree p → HasPort tree q → HasNode tree y
-        → q.node.0 ≡ far_node tree.links p → q ≢ peer_of tree.links p
-        → IsTrue (is_behind tree.links q y) → IsTrue (is_behind tree.links p y) }
-    ensures no_more { (tree : Topology) (p : EgressPort) (y : ℕ) → IsSound tree → HasPort tree p → HasNode tree y
-        → IsTrue (is_behind tree.links p y)
-        → (y ≡ far_node tree.links p) ⊎ ((q : EgressPort) × HasPort tree q × (q.node.0 ≡ far_node tree.links p)
-        × (q ≢ peer_of tree.links p) × IsTrue (is_behind tree.links q y)) }
-    ensures sides { (tree : Topology) (p : EgressPort) (y : ℕ) → IsSound tree → HasPort tree p → HasNode tree y
-        → is_behind tree.links p y ≡ not (is_behind tree.links (peer_of tree.links p) y) }
-{}
-
-/// A path begins with the one port behind which its end lies, and goes on from the far node.
-pub fn path_goes_on()
-    ensures end { (tree : Topology) (x : ℕ) → IsSound tree → HasNode tree x → path_between tree.links x x ≡ [] }
-    ensures step { (tree : Topology) (p : EgressPort) (y : ℕ) → IsSound tree → HasPort tree p → HasNode tree y
-        → IsTrue (is_behind tree.links p y)
-        → path_between tree.links p.node.0 y ≡ p ∷ path_between tree.links (far_node tree.links p) y }
-{}
-
-/// Fewer nodes lie behind the far node's other ports than behind a port: a measure for inductions
-/// over a tree.
-pub fn behind_falls()
-    ensures { (tree : Topology) (p q : EgressPort) → IsSound tree → HasPort tree p → HasPort tree q
-        → q.node.0 ≡ far_node tree.links p → q ≢ peer_of tree.links p
-        → count_behind (length tree.kinds) tree.links q < count_behind (length tree.kinds) tree.links p }
+/// What every accepted tree keeps of its ports: which there are, whose peers they are, what lies behind
+/// them, how paths begin and end, and what is propagated from port to port. `HasPortLaws` lists it.
+pub fn ports()
+    ensures { (tree : Topology) → IsSound tree → HasPortLaws tree }
 {}
 
 /// Nodes are in one component exactly where links connect them.

@@ -1,6 +1,6 @@
 //! A tree with the parent and the depth of each node, by which ways through it are found.
 
-ghost use Rattle.std.specs.Prelude.{◌≡◌, ◌≢◌, ◌+◌, ◌-◌, ◌<◌, ◌≤◌, length, OnOk, IfOk, IfErr, slice_index};
+ghost use Rattle.std.specs.Prelude.{◌≡◌, ◌≢◌, ◌+◌, ◌-◌, ◌<◌, ◌≤◌, ◌↔◌, length, IsSome, IfSome, OnOk, IfOk, IfErr, slice_index};
 ghost use Rattle.tree_topology.specs.Graph.{IsNode, Joined};
 ghost use Rattle.tree_topology.specs.Ports.{IsPort, far_node, neighbours, place_of, port_to, peer_of, ends_of};
 ghost use Rattle.tree_topology.specs.Walk.{begins_with, walk_between, is_behind};
@@ -10,7 +10,7 @@ use crate::adjacency::Graph;
 use crate::components::check_loops;
 use crate::graph::{Link, NodeKind, TreeErr};
 use crate::span::Span;
-use srp_base::{EgressPort, LinkNo, NodeNo, PortNo};
+use srp_base::{EgressPort, LinkNo, NoMemory, NodeNo, PortNo};
 use std::alloc::Global;
 use std::marker::Model;
 
@@ -66,6 +66,18 @@ impl Routes {
             depths,
         })
     }
+
+    /// The same tree once more.
+    pub(crate) fn copy(&self) -> Result<Routes, NoMemory>
+        ensures { IfOk result (λ routes. routes ≡ self.now) }
+    {
+        Ok(Routes {
+            graph: self.graph.copy()?,
+            parents: self.parents.clone()?,
+            depths: self.depths.clone()?,
+        })
+    }
+
     /// The number of nodes.
     pub(crate) fn node_count(&self) -> u16
         ensures { result ≡ length self.now.kinds }
@@ -107,6 +119,18 @@ impl Routes {
         EgressPort {
             node: NodeNo(node),
             port: PortNo((place + 1) as u8),
+        }
+    }
+
+    /// The port of a node towards another, where a link joins them.
+    pub(crate) fn find_port(&self, node: u16, other: u16) -> Option<EgressPort>
+        ensures port { IfSome result (λ p. p ≡ port_to self.now.links node other) }
+        ensures joined { IsSome result ↔ Joined self.now.links node other }
+    {
+        if self.graph.joins(node, other) {
+            Some(self.port_to(node, other))
+        } else {
+            None
         }
     }
 

@@ -137,6 +137,10 @@ fn a_path_goes_over_two_bridges(rt: HostRuntime) -> Result<(), Fail> {
     assert_eq!(rt; tree.ports(NodeNo(2)), 3);
     assert_eq!(rt; tree.ends(LinkNo(4)), (port(3, 2), port(5, 1)));
     assert_eq!(rt; tree.peer(port(2, 2)), port(3, 1));
+    assert_eq!(rt; tree.port_to(NodeNo(3), NodeNo(6)), Some(port(3, 3)));
+    assert_eq!(rt; tree.port_to(NodeNo(1), NodeNo(6)), None);
+    assert_eq!(rt; tree.port_to(NodeNo(7), NodeNo(0)), None);
+    assert_eq!(rt; tree.copy()?.ends(LinkNo(4)), (port(3, 2), port(5, 1)));
     for (node, far) in [
         (1, false),
         (2, false),

@@ -1,12 +1,15 @@
 //! The tree of a network: its nodes and links, the egress ports along a path, and what lies behind a port.
 
-ghost use Rattle.std.specs.Prelude.{◌≡◌, ◌<◌, ◌↔◌, length, IsTrue, OnOk, IfOk, IfErr, IsOkUnless};
-ghost use Rattle.tree_topology.specs.Ports.{neighbours, peer_of, ends_of, IsPortPath, LiesBehind};
+ghost use Rattle.std.specs.Prelude.{◌≡◌, ◌≢◌, ◌<◌, ◌↔◌, length, Some, None, IsTrue, IsSome, IfSome, OnOk, IfOk, IfErr, IsOkUnless};
+ghost use Rattle.tree_topology.specs.Graph.{Joined};
+ghost use Rattle.tree_topology.specs.Ports.{neighbours, port_to, peer_of, ends_of, IsPortPath, LiesBehind};
+ghost use Rattle.tree_topology.specs.PortLaws.{HasPortLaws};
 ghost use Rattle.tree_topology.specs.Walk.{path_between, is_behind};
-ghost use Rattle.tree_topology.specs.Refusal.{IsAccepted, IsRefusal};
+ghost use Rattle.tree_topology.specs.Refusal.{IsAccepted, IsRefusal, refusal};
 
 use crate::climb::find_path;
 use crate::graph::{Link, NodeKind, TreeErr};
+use crate::laws;
 use crate::routes::Routes;
 use srp_base::{EgressPort, LinkNo, NoMemory, NodeNo, Seq};
 use std::alloc::Global;
@@ -46,6 +49,8 @@ impl Tree {
         ensures links { IfOk result (λ tree. tree.links ≡ links.now) }
         ensures accepted { OnOk result (IsAccepted nodes.now links.now) }
         ensures refused { IfErr result (λ e. IsRefusal nodes.now links.now e) }
+        ensures refusal { IfErr result (λ e. e ≢ TreeErr.NoMemory → refusal nodes.now links.now ≡ Some e) }
+        ensures none { OnOk result (refusal nodes.now links.now ≡ None) }
         ensures accepts { IsAccepted nodes.now links.now → IsOkUnless result TreeErr.NoMemory }
     {
         let routes = Routes::new(alloc, nodes, links)?;
@@ -60,6 +65,22 @@ impl Tree {
         ensures value { IfOk result (λ ports. ports ≡ path_between self.now.links from.0 to.0) }
     {
         find_path(alloc, &self.routes, from, to)
+    }
+
+    /// The same tree once more.
+    pub fn copy(&self) -> Result<Tree, NoMemory>
+        ensures { IfOk result (λ tree. tree ≡ self.now) }
+    {
+        let routes = self.routes.copy()?;
+        Ok(Tree { routes })
+    }
+
+    /// The port of the link that joins two nodes, at the first of them; None where no link does.
+    pub fn port_to(&self, from: NodeNo, to: NodeNo) -> Option<EgressPort>
+        ensures port { IfSome result (λ p. p ≡ port_to self.now.links from.0 to.0) }
+        ensures joined { IsSome result ↔ Joined self.now.links from.0 to.0 }
+    {
+        self.routes.find_port(from.0, to.0)
     }
 
     /// The other end of a port's link.
@@ -110,10 +131,12 @@ impl Tree {
         self.routes.ends(link)
     }
 
-    /// What every tree keeps.
+    /// What every tree keeps, and the laws of its ports.
     pub fn keeps(&self)
-        ensures { IsAccepted self.now.kinds self.now.links }
+        ensures accepted { IsAccepted self.now.kinds self.now.links }
+        ensures ports { HasPortLaws self.now }
     {
+        laws::ports();
         let _routes = &self.routes;
     }
 }

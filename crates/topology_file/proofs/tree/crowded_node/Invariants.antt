@@ -1,5 +1,5 @@
 use Rattle.std.proofs.Common.{◌≡◌, [], take, drop}
-use Rattle.toml_rules.specs.Rules.{first_where}
+use Rattle.srp_base.specs.Firsts.{first_where}
 use Rattle.topology_file.specs.Scenario.{is_crowded}
 use Rattle.topology_file.proofs.tree.crowded_node.Given as goal
 

@@ -1,24 +1,16 @@
-use Rattle.std.proofs.Common.{ap, ◌∙◌, length, arith}
-use Rattle.topology_file.proofs.TreeRules.{TreeLaws, graph-from_rules, made-tree, refused-tree, links-few}
+use Rattle.std.proofs.Common.{◌≡◌, ℕ, List, [], None, length, sym, subst, ap, ◌∙◌}
+use Rattle.std.proofs.lemmas.List.{length-map}
+use Rattle.srp_base.specs.Firsts.{first_where}
+use Rattle.tree_topology.specs.declared.graph.Link.{Link}
+use Rattle.tree_topology.specs.Refusal.{has_unknown_end}
+use Rattle.topology_file.specs.declared.entries.NodeEntry.{NodeEntry}
+use Rattle.topology_file.proofs.TreeRules.{known-links}
 use Rattle.topology_file.proofs.tree.make_tree.Goals as goal
 
-pub new-requires-clause-few_links : goal.new-requires-clause-few_links
-new-requires-clause-few_links c =
+pub tree_of_ends-requires-clause-known : goal.tree_of_ends-requires-clause-known
+tree_of_ends-requires-clause-known c =
     let nodes = c.args.nodes.now in
-    let links = c.args.links.now in
-    let graph = graph-from_rules (length nodes) links c.requires.known c.requires.no_self c.requires.no_second in
-    let few = links-few (length nodes) _ c.requires.few (c.few_links.ensures.all (length nodes) _ graph) in
-    omega (arith, few, ap length (c.deref-2.ensures.value ∙ c.in_ok-ends.ensures))
-
-pub returns-in-Ok-clause-tree : goal.returns-in-Ok-clause-tree
-returns-in-Ok-clause-tree c =
-    let laws : TreeLaws = record { components = c.components.ensures; few = c.few_links.ensures.node; no_loop = c.one_component.ensures.no_loop; connected = c.one_component.ensures.connected; tree = c.one_component.ensures.tree } in
-    made-tree laws c.args.nodes.now c.args.links.now c.deref.result.now c.deref-2.result.now c.in-Ok.tree (c.deref.ensures.value ∙ c.in_ok-kinds.ensures) (c.deref-2.ensures.value ∙ c.in_ok-ends.ensures) c.in-Ok.ensures.accepted c.in-Ok.ensures.kinds c.in-Ok.ensures.links
-
-pub returns-clause-tree : goal.returns-clause-tree
-returns-clause-tree c =
-    let nodes = c.args.nodes.now in
-    let links = c.args.links.now in
-    let laws : TreeLaws = record { components = c.components.ensures; few = c.few_links.ensures.node; no_loop = c.one_component.ensures.no_loop; connected = c.one_component.ensures.connected; tree = c.one_component.ensures.tree } in
-    let graph = graph-from_rules (length nodes) links c.requires.known c.requires.no_self c.requires.no_second in
-    refused-tree laws nodes links c.deref.result.now c.deref-2.result.now c.in-Err.refusal c.rule_of.result c.requires.few graph (c.deref.ensures.value ∙ c.in_ok-kinds.ensures) (c.deref-2.ensures.value ∙ c.in_ok-ends.ensures) c.in-Err.ensures.refused c.rule_of.ensures
+    let size : length c.deref.result.now ≡ length nodes = ap length (c.deref.ensures.value ∙ c.in_ok-kinds.ensures) ∙ length-map nodes (λ (x : NodeEntry). x.kind) in
+    let F : ℕ → Type 0 = λ n. first_where (has_unknown_end n) [] c.deref-2.result.now ≡ None in
+    let G : List Link → Type 0 = λ es. first_where (has_unknown_end (length nodes)) [] es ≡ None in
+    subst F (sym size) (subst G (sym (c.deref-2.ensures.value ∙ c.in_ok-ends.ensures)) (known-links (length nodes) c.args.links.now c.requires.known))
