@@ -10,7 +10,8 @@ use Rattle.srpnet.specs.declared.outcome.Cause.{Cause}
 use Rattle.srpnet.specs.declared.outcome.Cause.TheVariants.{Done, BadWords, ReadFault, TooLong, NotToml, BadScenario, WriteFault, NoMemory}
 use Rattle.topology_file.specs.Scenario.{scenario_of}
 use Rattle.srpnet.specs.LedgerFile.{ledger_file}
-use Rattle.srpnet.specs.Input.{document, or_not_toml, by_rules, ending, ◌>>=◌}
+use Rattle.srpnet.specs.Input.{document, or_not_toml, by_rules, ending}
+use Rattle.srp_base.specs.Results.{◌>>=◌}
 use Rattle.srpnet.specs.TopCall.{ReadWhole, Refusal, EndsAs, ending_of}
 
 -- the causes by which a reading of octets ends
