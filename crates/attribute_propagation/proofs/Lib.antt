@@ -1,2 +1,3 @@
+mod AwaitingLemmas
 mod DirtyLemmas
 mod FlatLemmas

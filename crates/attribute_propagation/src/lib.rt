@@ -18,8 +18,11 @@
 
 mod dirty;
 mod flat;
+pub mod laws;
+mod ports;
 #[cfg(test)]
 mod tests;
 
 pub use dirty::Dirty;
 pub use flat::flat_declares;
+pub use ports::{await_elsewhere, await_everywhere};

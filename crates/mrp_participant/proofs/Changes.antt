@@ -4,7 +4,7 @@ use Rattle.std.specs.Prelude.{◌⊎◌, Contains, IsSome}
 use Rattle.std.specs.declared.option.Option.{Option}
 use Rattle.std.specs.declared.option.Option.TheVariants.{None, Some}
 use Rattle.std.specs.declared.cmp.Ordering.{Ordering}
-use Rattle.std.specs.declared.cmp.Ordering.TheVariants.{Equal}
+use Rattle.std.specs.declared.cmp.Ordering.TheVariants.{Less, Equal}
 use Rattle.std.specs.Cmp.{IsTotalOrder, IsEquivalence}
 use Rattle.registrar.specs.declared.Registrar.{Registrar}
 use Rattle.registrar.specs.declared.Registrar.TheVariants.{Held, Leaving, Empty}
@@ -12,11 +12,12 @@ use Rattle.srp_base.specs.declared.numbers.Cs.{Cs}
 use Rattle.srp_base.specs.declared.mrp.MrpEvent.{MrpEvent}
 use Rattle.mrp_participant.specs.declared.one_row.Row.{Row}
 use Rattle.mrp_participant.specs.Lookup.{Ascends, key_of, same, find}
+use Rattle.std.specs.List.{AllByRecursion}
 use Rattle.std.specs.Option.{option_eq}
 use Rattle.mrp_participant.specs.OneRow.{is_leaving, is_live, registered_in, row_hearing, row_after_receive, after_hear, leave_all_row, leave_is_due, after_leave_due, left_row, periodic_row}
 use Rattle.mrp_participant.specs.State.{State, AreRows, changed_keys, rows_after_receive, left_keys, leave_timers_state, leave_all_state, periodic_fired_state, due_leave_all_state, due_state, is_leave_all_due, is_periodic_due}
-use Rattle.mrp_participant.proofs.Lookups.{same_is}
-use Rattle.mrp_participant.proofs.Rooms.{In, In-filter, In-filtered, find-in}
+use Rattle.mrp_participant.proofs.Lookups.{same_is, Each-mapped}
+use Rattle.mrp_participant.proofs.Rooms.{In, In-filter, In-filtered, Each-filtered, find-in}
 use Rattle.mrp_participant.proofs.EachKey.{each-receive, each-mapped, each-kept}
 use Rattle.mrp_participant.proofs.Transitions.{due-keeps}
 
@@ -27,7 +28,7 @@ In-map f x [] at = absurd at
 In-map f x (y ∷ ys) (inl e) = inl (ap f e)
 In-map f x (y ∷ ys) (inr at) = inr (In-map f x ys at)
 
-In-mapped : {X Y : Type 0} (f : X → Y) (y : Y) (xs : List X) → In y (map f xs) → (x : X) × In x xs × (y ≡ f x)
+pub In-mapped : {X Y : Type 0} (f : X → Y) (y : Y) (xs : List X) → In y (map f xs) → (x : X) × In x xs × (y ≡ f x)
 In-mapped f y [] at = absurd at
 In-mapped f y (x ∷ xs) (inl e) = (x, inl refl, e)
 In-mapped f y (x ∷ xs) (inr at) = let h = In-mapped f y xs at in (h.0, inr h.1, h.2)
@@ -190,3 +191,29 @@ module _ {K C : Type 0} {cmp : K → K → Ordering} (o : IsTotalOrder cmp) wher
       let after_is : registered_in (find cmp k (due_state now s).rows) ≡ registered_in (after_leave_due now.0 r) = due-registered now s are.0 k ∙ ap (λ x. registered_in (option_and_then (after_leave_due now.0) x)) found in
       let due : registered_in (after_leave_due now.0 r) ≡ registered_in (left_row r) = ap (λ b. registered_in (if b then left_row r else Some r)) kept.0 in
       (after_is ∙ (due ∙ left-unregistered_by now.0 r r.registrar kept.0), subst (λ x. IsSome (registered_in x)) (sym found) (leaving-registered_by now.0 r r.registrar kept.0))
+
+-- ---- the keys that are told, in order
+
+module _ {X K : Type 0} (cmp : K → K → Ordering) (key : X → K) where
+  Ascends-filtered_by : (p : X → Bool) (x : X) (xs : List X) (b : Bool) → AllByRecursion (λ y. cmp (key x) (key y) ≡ Less) xs → Ascends cmp key (filter p xs) → Ascends cmp key (if b then x ∷ filter p xs else filter p xs)
+  Ascends-filtered_by p x xs true above up = (Each-filtered (λ y. cmp (key x) (key y) ≡ Less) p xs above, up)
+  Ascends-filtered_by p x xs false above up = up
+
+  Ascends-filtered : (p : X → Bool) (xs : List X) → Ascends cmp key xs → Ascends cmp key (filter p xs)
+  Ascends-filtered p [] up = tt
+  Ascends-filtered p (x ∷ xs) up = Ascends-filtered_by p x xs (p x) up.0 (Ascends-filtered p xs up.1)
+
+  Ascends-keys : (xs : List X) → Ascends cmp key xs → Ascends cmp (λ k. k) (map key xs)
+  Ascends-keys [] up = tt
+  Ascends-keys (x ∷ xs) up = (Each-mapped (λ y. cmp (key x) (key y) ≡ Less) (λ k. cmp (key x) k ≡ Less) key (λ y h. h) xs up.0, Ascends-keys xs up.1)
+
+  -- the keys of those that pass a test ascend
+  pub told-ascend : (p : X → Bool) (xs : List X) → Ascends cmp key xs → Ascends cmp (λ k. k) (map key (filter p xs))
+  told-ascend p xs up = Ascends-keys (filter p xs) (Ascends-filtered p xs up)
+
+-- the keys of those that pass a test are keys
+pub told-are_keys : {X K : Type 0} (key : X → K) (p : X → Bool) (xs : List X) (k : K) → Contains (map key (filter p xs)) k → Contains (map key xs) k
+told-are_keys key p xs k at =
+    let member = In-mapped key k (filter p xs) (In-contains k (map key (filter p xs)) at) in
+    let kept = In-filtered p member.0 xs member.1 in
+    subst (Contains (map key xs)) (sym member.2) (Contains-in (key member.0) (map key xs) (In-map key member.0 xs kept.1))

@@ -4,6 +4,7 @@ pub mod Lookups
 pub mod Octets
 pub mod Rooms
 pub mod Sendings
+pub mod SentEvents
 pub mod Shows
 pub mod Stays
 pub mod Transitions

@@ -1,27 +1,32 @@
 -- What the timers leave at each key, what is sent of one key, when a participant is still, and where a key
 -- stands.
 use Rattle.std.proofs.Common.{◌≡◌, ℕ, zero, suc, ◌+◌, Bool, true, false, not, ◌&&◌, ◌||◌, if◌then◌else◌, List, [], ◌∷◌, map, filter, length, refl, sym, ap, ◌∙◌, subst, arith, inl, inr, option_map, option_and_then, slice_get, ◌↔◌}
-use Rattle.std.specs.Prelude.{Contains, IsSome, option_to_list}
+use Rattle.std.specs.Prelude.{◌≢◌, ◌⊎◌, Contains, IsSome, option_to_list}
 use Rattle.std.specs.declared.option.Option.{Option}
 use Rattle.std.specs.declared.option.Option.TheVariants.{None, Some}
 use Rattle.std.specs.declared.cmp.Ordering.{Ordering}
 use Rattle.std.specs.declared.cmp.Ordering.TheVariants.{Equal}
 use Rattle.std.specs.Cmp.{IsTotalOrder}
-use Rattle.std.specs.List.{filter_map, cons_option, list_any, list_all}
+use Rattle.std.specs.List.{filter_map, cons_option, list_any, list_all, AllByRecursion}
+use Rattle.applicant.specs.declared.Applicant.{Applicant}
+use Rattle.applicant.specs.declared.Applicant.TheVariants.{Vo}
+use Rattle.registrar.specs.declared.Registrar.{Registrar}
+use Rattle.registrar.specs.declared.Registrar.TheVariants.{Held, Leaving, Empty}
+use Rattle.registrar.specs.Table as registrar
 use Rattle.leaveall.specs.declared.LeaveAll.{LeaveAll}
 use Rattle.leaveall.specs.declared.LeaveAll.TheVariants.{Active, Passive}
 use Rattle.srp_base.specs.declared.numbers.Cs.{Cs}
 use Rattle.srp_base.specs.declared.mrp.MrpEvent.{MrpEvent}
 use Rattle.mrp_participant.specs.declared.one_row.Row.{Row}
 use Rattle.mrp_participant.specs.Lookup.{Ascends, key_of, same, find}
-use Rattle.mrp_participant.specs.OneRow.{after_leave_due, leave_is_due, periodic_row, is_settled, is_quiet, is_leaving, is_leaving_in, applicant_of, declared_in, registered_in}
+use Rattle.mrp_participant.specs.OneRow.{after_leave_due, leave_is_due, periodic_row, is_settled, is_quiet, is_leaving, is_leaving_in, is_live, is_observer, applicant_of, registrar_of, declared_in, registered_in}
 use Rattle.mrp_participant.specs.Sending.{sent_event}
 use Rattle.mrp_participant.specs.State.{State, leave_timers_state, leave_all_state, periodic_fired_state, due_leave_all_state, due_state, due_count, is_any_due, is_leave_all_due, is_periodic_due, is_active, is_still, all_settled}
-use Rattle.mrp_participant.proofs.Lookups.{none_above, same_is}
+use Rattle.mrp_participant.proofs.Lookups.{none_above, same_is, find-fits}
 use Rattle.mrp_participant.proofs.Rooms.{In, find-in}
 use Rattle.mrp_participant.proofs.EachKey.{each-mapped, each-kept}
 use Rattle.mrp_participant.proofs.Transitions.{due-keeps}
-use Rattle.mrp_participant.proofs.Changes.{due_rows_by, find-found, In-map, Contains-in}
+use Rattle.mrp_participant.proofs.Changes.{due_rows_by, find-found, In-map, In-mapped, In-contains, Contains-in}
 use Rattle.mrp_participant.proofs.Octets.{sent_is}
 
 -- ---- after the timers
@@ -178,3 +183,35 @@ module _ {K C : Type 0} where
 
   pub registered-place : (cmp : K → K → Ordering) → ((a b : K) → cmp a b ≡ Equal → a ≡ b) → (rows : List (Row K C)) (k : K) → IsSome (registered_in (find cmp k rows)) → Contains (map key_of rows) k
   registered-place cmp one_key rows k h = place_by cmp one_key rows k (find cmp k rows) refl (registered_some (find cmp k rows) h)
+
+-- ---- where a key has a row
+
+live_by : (a : Applicant) (g : Registrar) → (not (is_observer a) || registrar.is_registered_in g) ≡ true → (a ≢ Vo) ⊎ (g ≢ Empty)
+live_by Vo Held h = inr (λ e. cc)
+live_by Vo Leaving h = inr (λ e. cc)
+live_by Vo Empty h = cc
+live_by a g h = inl (λ e. cc)
+
+idle : ((Vo ≢ Vo) ⊎ (Empty ≢ Empty)) → ⊥
+idle (inl h) = h refl
+idle (inr h) = h refl
+
+module _ {K C : Type 0} where
+  row-where_kept : (found : Option (Row K C)) → ((r : Row K C) → found ≡ Some r → is_live r ≡ true) → IsSome found ↔ ((applicant_of found ≢ Vo) ⊎ (registrar_of found ≢ Empty))
+  row-where_kept None live = (λ h. cc, λ h. absurd (idle h))
+  row-where_kept (Some r) live = (λ h. live_by r.applicant r.registrar (live r refl), λ h. refl)
+
+  -- a key has a row exactly where something is kept of it
+  pub row-kept : {cmp : K → K → Ordering} (o : IsTotalOrder cmp) (rows : List (Row K C)) (k : K) → AllByRecursion (λ r. is_live r ≡ true) rows → IsSome (find cmp k rows) ↔ ((applicant_of (find cmp k rows) ≢ Vo) ⊎ (registrar_of (find cmp k rows) ≢ Empty))
+  row-kept {cmp = cmp} o rows k live = row-where_kept (find cmp k rows) (find-fits o k rows live).lives
+
+  found_some : (cmp : K → K → Ordering) (rows : List (Row K C)) (k : K) (r : Row K C) → find cmp r.key rows ≡ Some r → k ≡ r.key → IsSome (find cmp k rows)
+  found_some cmp rows k r found is = subst IsSome (sym (ap (λ q. find cmp q rows) is ∙ found)) refl
+
+  -- a key has a row exactly where it is the key of one
+  pub row-place : {cmp : K → K → Ordering} (o : IsTotalOrder cmp) → ((a b : K) → cmp a b ≡ Equal → a ≡ b) → (rows : List (Row K C)) → Ascends cmp key_of rows → (k : K) → IsSome (find cmp k rows) ↔ Contains (map key_of rows) k
+  row-place {cmp = cmp} o one_key rows up k = (
+    λ h. place_by cmp one_key rows k (find cmp k rows) refl h,
+    λ at. let member = In-mapped key_of k rows (In-contains k (map key_of rows) at) in
+        found_some cmp rows k member.0 (find-in o member.0 rows up member.1) member.2,
+  )

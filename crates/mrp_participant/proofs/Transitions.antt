@@ -25,7 +25,7 @@ use Rattle.mrp_participant.specs.OneRow.{is_live, leave_is_due, after_leave_due,
 use Rattle.std.specs.declared.result.Result.{Result}
 use Rattle.std.specs.declared.result.Result.TheVariants.{Ok, Err}
 use Rattle.mrp_participant.specs.Lookup.{Ascends, key_of, find, put}
-use Rattle.mrp_participant.specs.State.{AreRows, rows_hearing, rows_after_receive}
+use Rattle.mrp_participant.specs.State.{State, AreRows, rows_hearing, rows_after_receive, leave_timers_state, leave_all_state, due_leave_all_state, periodic_fired_state, due_state, is_leave_all_due, is_periodic_due}
 use Rattle.mrp_participant.proofs.Lookups.{Fits, AreRows-put, find-fits, Each-mapped, Each-kept, Ascends-kept}
 
 module _ {K C : Type 0} where
@@ -259,3 +259,21 @@ module _ {K C : Type 0} where
     key = λ r s e. due-key r s (leave_is_due now r) e;
     lives = λ r s live e. due-live r s (leave_is_due now r) live e;
   }
+
+-- ---- all timers that are due
+
+module _ {K C : Type 0} where
+  leave_all_due-rows : (now : Cs) (s : State K C) (b : Bool) → (if b then leave_all_state now s else s).rows ≡ s.rows
+  leave_all_due-rows now s true = refl
+  leave_all_due-rows now s false = refl
+
+  periodic_due-rows : (cmp : K → K → Ordering) (now : Cs) (s : State K C) (b : Bool) → AreRows cmp s.rows → AreRows cmp (if b then periodic_fired_state now s else s).rows
+  periodic_due-rows cmp now s true are = AreRows-periodic cmp s.rows are
+  periodic_due-rows cmp now s false are = are
+
+  pub AreRows-due : (cmp : K → K → Ordering) (now : Cs) (s : State K C) → AreRows cmp s.rows → AreRows cmp (due_state now s).rows
+  AreRows-due cmp now s are =
+      let first : State K C = leave_timers_state now s in
+      let second : State K C = due_leave_all_state now first in
+      periodic_due-rows cmp now second (is_periodic_due now second)
+      (subst (AreRows cmp) (sym (leave_all_due-rows now first (is_leave_all_due now first))) (AreRows-filter_mapped cmp (after_leave_due now.0) (due-keeps now.0) s.rows are))

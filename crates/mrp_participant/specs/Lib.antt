@@ -1,3 +1,4 @@
+pub mod Duty
 pub mod Lookup
 pub mod OneRow
 pub mod Room

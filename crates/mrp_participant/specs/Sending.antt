@@ -98,6 +98,19 @@ written SayNew held = Some New
 written SayJoin held = Some (if held then JoinIn else JoinMt)
 written SayLv held = Some Lv
 
+-- what a taken row says, by its applicant: VN and AN say New, LA says Lv, and each other says Join, which is
+-- JoinIn where the row's own registrar is IN and there is no LeaveAll
+abbrev pub word_of : Bool → Applicant → Bool → MrpEvent
+word_of leave_all Vn held = New
+word_of leave_all An held = New
+word_of leave_all La held = Lv
+word_of leave_all _ held = if held && not leave_all then JoinIn else JoinMt
+
+-- whether an event is Lv
+abbrev pub is_leave : MrpEvent → Bool
+is_leave Lv = true
+is_leave _ = false
+
 -- the event of a row with its key and the declared content
 abbrev pub event_of : {K C : Type 0} → Row K C → Option MrpEvent → Option (MrpEvent × K × C)
 event_of r None = None

@@ -30,6 +30,12 @@ pub record State (K C : Type 0) : Type 0 where
   pub periodic : Periodic
   pub sound : Bool
 
+-- a list of messages of an application: whether it has LeaveAll, and the attribute events with their keys and
+-- contents, in order (10.8)
+pub record Messages (K C : Type 0) : Type 0 where
+  pub leave_all : Bool
+  pub events : List (MrpEvent × K × C)
+
 -- a time after a moment
 abbrev pub after : Cs → Cs → Cs
 after now time = record { 0 = now.0 + time.0 }
@@ -180,6 +186,10 @@ module _ {K C : Type 0} where
   -- the events of the PDU, ascending by key
   abbrev pub sent_events : ℕ → (C → ℕ) → (K → K → Ordering) → Cs → State K C → List (MrpEvent × K × C)
   sent_events base octets cmp now s = filter_map (λ r. event_sent base octets cmp now s r) s.rows
+
+  -- the list of messages that is sent, where something is to be said
+  abbrev pub sent_messages : ℕ → (C → ℕ) → (K → K → Ordering) → Cs → State K C → Messages K C
+  sent_messages base octets cmp now s = record { leave_all = is_active s.leave_all; events = sent_events base octets cmp now s }
 
   -- the rows after sending
   abbrev pub sent_rows : ℕ → (C → ℕ) → (K → K → Ordering) → Cs → State K C → List (Row K C)

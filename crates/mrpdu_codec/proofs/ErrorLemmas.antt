@@ -8,14 +8,15 @@ use Rattle.mrpdu_codec.specs.declared.error.ReadErr.TheVariants as errors
 use Rattle.mrpdu_codec.specs.declared.form.AppForm.{AppForm}
 use Rattle.mrpdu_codec.specs.declared.form.TypeForm.{TypeForm}
 use Rattle.mrpdu_codec.specs.declared.pdu.Pdu.{Pdu}
-use Rattle.mrpdu_codec.specs.Workers.{IsWithin, behind, placed}
-use Rattle.mrpdu_codec.specs.Reading.{Answers}
+use Rattle.mrpdu_codec.specs.Raw.{pdu_in}
+use Rattle.mrpdu_codec.specs.ReadErr.{IsWithin, behind, placed}
+use Rattle.mrpdu_codec.specs.Reading.{AnswersAs}
 use Rattle.mrpdu_codec.specs.Grammar.{Spells, Breaks}
-use Rattle.mrpdu_codec.specs.Workers.{Fails}
+use Rattle.mrpdu_codec.specs.ReadErr.{Fails}
 use Rattle.mrpdu_codec.specs.Reading.{region_at, known_at, pdu_at, placed_in, reading}
 use Rattle.mrpdu_codec.proofs.ReadRegions.{region_left}
 use Rattle.mrpdu_codec.proofs.ReadMessages.{reading_holds}
-use Rattle.mrpdu_codec.proofs.AgainMessages.{spells_reads, breaks_reads}
+use Rattle.mrpdu_codec.proofs.SpelledMessages.{spells_reads, breaks_reads}
 
 pub region_within : (e : ReadErr) (row : Option TypeForm) (len size : ℕ) (octets : List ℕ) → Fails e (region_at row len size (take size octets)) → IsWithin e (length (take size octets))
 region_within errors.NoMemory row len size octets h = tt
@@ -48,7 +49,7 @@ pub reading_ok : (form : AppForm) (octets : List ℕ) (pdu : Pdu) → pdu_at for
 unfolding reading
 reading_ok form octets pdu h = ap (placed_in (length octets)) h
 
-pub reading_err : (form : AppForm) (octets : List ℕ) (left : ℕ) → pdu_at form octets ≡ Err left → reading form octets ≡ Err (length octets - left)
+reading_err : (form : AppForm) (octets : List ℕ) (left : ℕ) → pdu_at form octets ≡ Err left → reading form octets ≡ Err (length octets - left)
 unfolding reading
 reading_err form octets left h = ap (placed_in (length octets)) h
 
@@ -79,6 +80,8 @@ breaks_reading form octets place b =
     let k : length octets - r.0 ≡ place = omega (arith, r.2) in
     reading_err form octets r.0 r.1 ∙ ap (λ (n : ℕ). let e : Result Pdu ℕ = Err n in e) k
 
-pub answers_err : (e : ReadErr) (form : AppForm) (octets : List ℕ) (answer : DecodeErr) → Fails e (pdu_at form octets) → answer ≡ placed e (length octets) → Answers (let r : Result Pdu DecodeErr = Err answer in r) (reading form octets)
+-- ---- what `decode_in_place` answers
+
+pub answers_err : (e : ReadErr) (form : AppForm) (octets : List ℕ) (answer : DecodeErr) → Fails e (pdu_at form octets) → answer ≡ placed e (length octets) → AnswersAs pdu_in (Err answer) (reading form octets)
 answers_err errors.NoMemory form octets answer h k = rw k tt
 answers_err (errors.Left left) form octets answer h k = rw k (reading_err form octets left h)

@@ -2,11 +2,11 @@ pub mod Steps
 pub mod ReadVectors
 pub mod ReadRegions
 pub mod ReadMessages
-pub mod AgainVectors
-pub mod AgainMessages
+pub mod SpelledVectors
+pub mod SpelledMessages
 pub mod Loops
-pub mod WhileVectors
-pub mod WhileMessages
+pub mod VectorLoops
+pub mod MessageLoops
 pub mod ErrorLemmas
 pub mod Packed
 pub mod RoundTrip
@@ -14,3 +14,6 @@ pub mod Sizes
 pub mod Reread
 pub mod Formed
 pub mod Longer
+pub mod Kept
+pub mod RawLemmas
+pub mod NumberLemmas

@@ -5,7 +5,7 @@ use Rattle.std.specs.List.{flat_map}
 use Rattle.mrpdu_codec.specs.Tree.{AllUpTo}
 use Rattle.mrpdu_codec.specs.Grammar.{OctetBreaks}
 use Rattle.mrpdu_codec.specs.Reading.{run_at}
-use Rattle.mrpdu_codec.proofs.AgainVectors.{run_reads, run_breaks}
+use Rattle.mrpdu_codec.proofs.SpelledVectors.{run_reads, run_breaks}
 
 stops : (limit n i : ℕ) (octets : List ℕ) → i < n → i ≤ length octets → AllUpTo limit (take i octets) → OctetBreaks limit (drop i octets) → run_at limit n octets ≡ Err (length octets - i)
 stops limit n i octets lt le all h =

@@ -13,7 +13,7 @@ use Rattle.mrpdu_codec.specs.declared.pdu.Pdu.{Pdu}
 use Rattle.mrpdu_codec.specs.Octets.{number_of, thirds, quarters}
 use Rattle.mrpdu_codec.specs.Types.{row_of}
 use Rattle.mrpdu_codec.specs.Shape.{has_form}
-use Rattle.mrpdu_codec.specs.Tree.{Vector, vectors_octets, MessageTree, MrpduTree, tree_octets}
+use Rattle.mrpdu_codec.specs.Tree.{Vector, vector_octets, vectors_octets, MessageTree, MrpduTree, tree_octets}
 use Rattle.mrpdu_codec.specs.Tree.AttributeList.{Vectors}
 
 -- a number below 65,536 in two octets, the high one first
@@ -56,6 +56,11 @@ vector_for v = record {
   three_packed = pack_events v.events;
   four_packed = pack_params v.params;
 }
+
+-- the octets of a vector that has these parts
+abbrev pub octets_for : Bool → List ℕ → List MrpEvent → List ℕ → List ℕ
+octets_for leave first events params =
+    vector_octets (vector_for (record { leave_all = leave; first = first; events = events; params = params }))
 
 -- an AttributeList
 abbrev pub vectors_for : List VectorAttr → List Vector

@@ -3,6 +3,7 @@ pub mod Octets
 pub mod Tree
 pub mod Grammar
 pub mod Reading
-pub mod Workers
+pub mod ReadErr
+pub mod Raw
 pub mod Shape
 pub mod Canonical

@@ -19,10 +19,6 @@ abbrev pub ◌>>=◌ : {A B : Type 0} → Result A ℕ → (A → Result B ℕ) 
 (Ok x) >>= f = f x
 (Err left) >>= f = Err left
 
--- the octets behind what was read
-abbrev pub rest_of : {A : Type 0} → Result (A × List ℕ) ℕ → Result (List ℕ) ℕ
-rest_of read = read >>= λ x. Ok x.1
-
 -- n octets, each at most limit and each a field of its own
 unfoldable pub run_at : ℕ → ℕ → List ℕ → Result (List ℕ × List ℕ) ℕ
 run_at limit zero octets = Ok ([], octets)
@@ -185,6 +181,12 @@ placed_in all (Err left) = Err (all - left)
 -- The PDU that octets spell, or the place where they break.
 unfoldable pub reading : AppForm → List ℕ → Result Pdu ℕ
 reading form octets = placed_in (length octets) (pdu_at form octets)
+
+-- What was answered is, seen by view, what the octets say, unless memory ran out.
+abbrev pub AnswersAs : {X A : Type 0} → (X → A) → Result X DecodeErr → Result A ℕ → Type 0
+AnswersAs view (Ok x) read = read ≡ Ok (view x)
+AnswersAs view (Err (decode_errors.Malformed place)) read = read ≡ Err place
+AnswersAs view (Err decode_errors.NoMemory) read = Unit {0}
 
 -- What `decode` answered is what the octets say, unless memory ran out.
 abbrev pub Answers : {A : Type 0} → Result A DecodeErr → Result A ℕ → Type 0

@@ -1,20 +1,22 @@
 //! Octets read as a PDU.
 
-ghost use Rattle.std.specs.Prelude.{◌≡◌, ◌⊎◌, ◌↔◌, ◌<◌, ◌^◌, ℕ, List, length, Ok, Err, IfOk, IsTrue};
+ghost use Rattle.std.specs.Prelude.{◌≡◌, ◌<◌, ◌^◌, ℕ, length, Ok, Err, IfOk, IsTrue};
 ghost use Rattle.std.specs.List.{list_all};
 ghost use Rattle.mrpdu_codec.specs.declared.form.AppForm.{AppForm};
 ghost use Rattle.mrpdu_codec.specs.declared.pdu.Pdu.{Pdu};
+ghost use Rattle.mrpdu_codec.specs.declared.raw.RawPdu.{RawPdu};
 ghost use Rattle.mrpdu_codec.specs.Grammar.{Spells, Breaks};
-ghost use Rattle.mrpdu_codec.specs.Workers.{Gives};
+ghost use Rattle.mrpdu_codec.specs.Raw.{pdu_in};
+ghost use Rattle.mrpdu_codec.specs.ReadErr.{Gives};
 ghost use Rattle.mrpdu_codec.specs.Reading.{version_at, first_type_at, pdu_at, reading};
-ghost use Rattle.mrpdu_codec.specs.Reading.{Answers};
+ghost use Rattle.mrpdu_codec.specs.Reading.{Answers, AnswersAs};
 ghost use Rattle.mrpdu_codec.specs.Shape.{has_form};
 
 use crate::error::{DecodeErr, ReadErr};
 use crate::form::AppForm;
 use crate::messages::messages;
 use crate::pdu::Pdu;
-use srp_base::Seq;
+use crate::raw::RawPdu;
 use std::alloc::Global;
 
 /// ProtocolVersion.
@@ -47,14 +49,40 @@ fn first_type(octets: &[u8]) -> Result<(), ReadErr>
 
 /// A PDU, or how many octets are left from the first field on that breaks.
 #[tactic(auto, unfolding(crate::specs::Reading::pdu_at))]
-fn pdu(alloc: Global, form: AppForm, octets: &[u8]) -> Result<Pdu, ReadErr>
-    ensures { Gives (λ pdu. pdu) result (pdu_at form octets.now) }
+fn pdu(alloc: Global, form: AppForm, octets: &[u8]) -> Result<RawPdu<'_>, ReadErr>
+    ensures { Gives pdu_in result (pdu_at form octets.now) }
 {
     let (version, rest) = version(octets)?;
     first_type(rest)?;
-    let found = messages(alloc, form, rest)?;
-    let messages = Seq::from_vec(found);
-    Ok(Pdu { version, messages })
+    let messages = messages(alloc, form, rest)?;
+    Ok(RawPdu { version, messages })
+}
+
+/// The PDU that the octets spell, in place: of each vector the fields are borrowed from the octets, so
+/// that a crate which knows the values of its application reads them without a copy. It is what `decode`
+/// answers in memory of its own. There are fewer than 2^32 octets.
+///
+/// # Errors
+///
+/// `Malformed` carries the offset, in octets from 0, of the first field that breaks its rule or that the
+/// octets are too short for. `NoMemory` comes where memory for the lists of Messages and vectors runs out.
+pub fn decode_in_place(alloc: Global, form: AppForm, octets: &[u8]) -> Result<RawPdu<'_>, DecodeErr>
+    requires { length octets.now < 2 ^ 32 }
+
+    // What it answers holds.
+    ensures spelled { (raw : RawPdu) → result ≡ Ok raw → Spells form octets.now (pdu_in raw) }
+    ensures broken { (place : ℕ) → result ≡ Err (DecodeErr.Malformed place) → Breaks form octets.now place }
+
+    // Want of memory alone is free, as in `decode`.
+    ensures exact { AnswersAs pdu_in result (reading form octets.now) }
+
+    // Each Message has a type that the application knows, and vectors of the type's form.
+    ensures formed { IfOk result (λ raw. IsTrue (list_all (has_form form) (pdu_in raw).messages)) }
+{
+    match pdu(alloc, form, octets) {
+        Ok(raw) => Ok(raw),
+        Err(error) => Err(error.placed(octets.len())),
+    }
 }
 
 /// The PDU that the octets spell (IEEE Std 802.1Q-2018, 10.8). Any version is read, octets behind the
@@ -79,23 +107,7 @@ pub fn decode(alloc: Global, form: AppForm, octets: &[u8]) -> Result<Pdu, Decode
     // Each Message has a type that the application knows, and vectors of the type's form.
     ensures formed { IfOk result (λ pdu. IsTrue (list_all (has_form form) pdu.messages)) }
 {
-    match pdu(alloc, form, octets) {
-        Ok(pdu) => Ok(pdu),
-        Err(error) => Err(error.placed(octets.len())),
-    }
+    let raw = decode_in_place(alloc, form, octets)?;
+    let pdu = raw.to_pdu(alloc)?;
+    Ok(pdu)
 }
-
-/// The law of the grammar: all octets spell exactly one PDU, or break at exactly one place.
-pub fn one_reading()
-    ensures some { (form : AppForm) (octets : List ℕ) → ((pdu : Pdu) × Spells form octets pdu) ⊎ ((place : ℕ) × Breaks form octets place) }
-    ensures one_pdu { (form : AppForm) (octets : List ℕ) (p q : Pdu) → Spells form octets p → Spells form octets q → p ≡ q }
-    ensures one_place { (form : AppForm) (octets : List ℕ) (m n : ℕ) → Breaks form octets m → Breaks form octets n → m ≡ n }
-    ensures never_both { (form : AppForm) (octets : List ℕ) (pdu : Pdu) (place : ℕ) → Spells form octets pdu → Breaks form octets place → ⊥ }
-{}
-
-/// The reading as a function is the grammar: octets read as exactly the PDU that they spell, or as exactly
-/// the place where they break.
-pub fn reading_is_the_grammar()
-    ensures spelled { (form : AppForm) (octets : List ℕ) (pdu : Pdu) → (reading form octets ≡ Ok pdu) ↔ Spells form octets pdu }
-    ensures broken { (form : AppForm) (octets : List ℕ) (place : ℕ) → (reading form octets ≡ Err place) ↔ Breaks form octets place }
-{}

@@ -1,31 +1,20 @@
 //! A PDU written as octets.
 
-ghost use Rattle.std.specs.Prelude.{◌≡◌, ◌++◌, ◌∷◌, [], ◌≤◌, ◌<◌, ◌+◌, ◌^◌, length, drop, map, nat_le, IsTrue, IfOk, OnOk, OnErr, Ok};
-ghost use Rattle.mrpdu_codec.specs.Reading.{reading};
+ghost use Rattle.std.specs.Prelude.{◌≡◌, ◌++◌, ◌∷◌, [], ◌≤◌, ◌<◌, ◌+◌, length, drop, map, nat_le, if◌then◌else◌, IsTrue, IfOk, OnOk, OnErr};
 ghost use Rattle.std.specs.List.{list_all, AllByRecursion};
-ghost use Rattle.mrpdu_codec.specs.declared.form.AppForm.{AppForm};
-ghost use Rattle.mrpdu_codec.specs.declared.pdu.Pdu.{Pdu};
 ghost use Rattle.mrpdu_codec.specs.Types.{row_of};
 ghost use Rattle.mrpdu_codec.specs.Grammar.{Spells};
 ghost use Rattle.srp_base.specs.declared.mrp.MrpEvent.TheVariants.{New};
 ghost use Rattle.mrpdu_codec.specs.Octets.{number_of};
-ghost use Rattle.mrpdu_codec.specs.Tree.{vector_octets, vectors_octets, message_octets, messages_octets};
-ghost use Rattle.mrpdu_codec.specs.Canonical.{two_octets, three, pack_events, four, pack_params, vector_for, vectors_for, message_for, spelling, well_formed, message_fits, header_for, list_length_for, list_fits, length_for, CanPut};
+ghost use Rattle.mrpdu_codec.specs.Tree.{vectors_octets, message_octets, messages_octets};
+ghost use Rattle.mrpdu_codec.specs.Canonical.{three, pack_events, four, pack_params, vectors_for, message_for, spelling, well_formed, message_fits, list_length_for, list_fits, length_for, octets_for, CanPut};
 
 use crate::form::AppForm;
+use crate::numbers::put_two;
 use crate::pdu::{Message, Pdu, VectorAttr};
 use crate::writable::{size_of, vectors_size};
 use srp_base::{MrpEvent, NoMemory};
 use std::alloc::{AllocError, Global};
-
-/// Writes a number in two octets, the high one first.
-fn put_number(out: &mut Vec<u8>, number: u16) -> Result<(), AllocError>
-    ensures { OnOk result (out.new.items ≡ out.old.items ++ two_octets number) }
-{
-    out.push((number / 256) as u8)?;
-    out.push((number % 256) as u8)?;
-    Ok(())
-}
 
 /// An event's number.
 fn number_of(event: MrpEvent) -> u8
@@ -119,34 +108,52 @@ fn put_params(out: &mut Vec<u8>, params: &[u8]) -> Result<(), AllocError>
 }
 
 /// A vector's header.
-fn header_for(v: &VectorAttr) -> u16
-    requires { length v.now.events ≤ 8191 }
-    ensures { result ≡ header_for v.now }
+fn header_for(leave_all: bool, events: &[MrpEvent]) -> u16
+    requires { length events.now ≤ 8191 }
+    ensures { result ≡ (if leave_all then 8192 else 0) + length events.now }
 {
-    let n = v.events.len() as u16;
-    if v.leave_all { 8192 + n } else { n }
+    let n = events.len() as u16;
+    if leave_all { 8192 + n } else { n }
 }
 
-/// Writes a vector.
-fn put_vector(out: &mut Vec<u8>, v: &VectorAttr) -> Result<(), AllocError>
-    requires events { length v.now.events ≤ 8191 }
-    requires params { IsTrue (list_all (λ p. nat_le p 3) v.now.params) }
-    ensures { OnOk result (out.new.items ≡ out.old.items ++ vector_octets (vector_for v.now)) }
+/// Writes a vector at the end of `out`, from parts that needn't lie in one: a crate that knows its values
+/// writes them so into one buffer, in place of making a PDU first. There are at most 8,191 events, and the
+/// parameters are at most 3.
+///
+/// # Errors
+///
+/// `NoMemory` where memory for the octets runs out; `out` then may have some of them at its end.
+pub fn put_vector(
+    out: &mut Vec<u8>,
+    leave_all: bool,
+    first: &[u8],
+    events: &[MrpEvent],
+    params: &[u8],
+) -> Result<(), NoMemory>
+    requires few { length events.now ≤ 8191 }
+    requires small { IsTrue (list_all (λ p. nat_le p 3) params.now) }
+    ensures { OnOk result (out.new.items ≡ out.old.items ++ octets_for leave_all first.now events.now params.now) }
 {
-    put_number(out, header_for(v))?;
-    out.extend_from_slice(v.first.as_slice())?;
-    put_events(out, v.events.as_slice())?;
-    put_params(out, v.params.as_slice())?;
+    put_two(out, header_for(leave_all, events))?;
+    out.extend_from_slice(first)?;
+    put_events(out, events)?;
+    put_params(out, params)?;
     Ok(())
 }
 
 /// Writes vectors.
-fn put_vectors(out: &mut Vec<u8>, vs: &[VectorAttr]) -> Result<(), AllocError>
+fn put_vectors(out: &mut Vec<u8>, vs: &[VectorAttr]) -> Result<(), NoMemory>
     requires { AllByRecursion CanPut vs.now }
     ensures { OnOk result (out.new.items ≡ out.old.items ++ vectors_octets (vectors_for vs.now)) }
 {
     for v in vs {
-        put_vector(out, v)?;
+        put_vector(
+            out,
+            v.leave_all,
+            v.first.as_slice(),
+            v.events.as_slice(),
+            v.params.as_slice(),
+        )?;
     }
     Ok(())
 }
@@ -158,7 +165,7 @@ fn put_list_length(out: &mut Vec<u8>, form: AppForm, vs: &[VectorAttr]) -> Resul
 {
     match form {
         AppForm::Mvrp => Ok(()),
-        AppForm::Msrp => put_number(out, (vectors_size(vs) + 2) as u16),
+        AppForm::Msrp => put_two(out, (vectors_size(vs) + 2) as u16),
         AppForm::Mmrp => Ok(()),
     }
 }
@@ -174,7 +181,7 @@ fn length_for(form: AppForm, message: &Message) -> u8
 }
 
 /// Writes a Message.
-fn put_message(out: &mut Vec<u8>, form: AppForm, message: &Message) -> Result<(), AllocError>
+fn put_message(out: &mut Vec<u8>, form: AppForm, message: &Message) -> Result<(), NoMemory>
     requires { IsTrue (message_fits form message.now) }
     ensures { OnOk result (out.new.items ≡ out.old.items ++ message_octets (message_for form message.now)) }
 {
@@ -182,12 +189,12 @@ fn put_message(out: &mut Vec<u8>, form: AppForm, message: &Message) -> Result<()
     out.push(length_for(form, message))?;
     put_list_length(out, form, message.vectors.as_slice())?;
     put_vectors(out, message.vectors.as_slice())?;
-    put_number(out, 0)?;
+    put_two(out, 0)?;
     Ok(())
 }
 
 /// Writes Messages.
-fn put_messages(out: &mut Vec<u8>, form: AppForm, messages: &[Message]) -> Result<(), AllocError>
+fn put_messages(out: &mut Vec<u8>, form: AppForm, messages: &[Message]) -> Result<(), NoMemory>
     requires { IsTrue (list_all (message_fits form) messages.now) }
     ensures { OnOk result (out.new.items ≡ out.old.items ++ messages_octets (map (message_for form) messages.now)) }
 {
@@ -198,14 +205,14 @@ fn put_messages(out: &mut Vec<u8>, form: AppForm, messages: &[Message]) -> Resul
 }
 
 /// The octets of a PDU.
-fn written(alloc: Global, form: AppForm, pdu: &Pdu) -> Result<Vec<u8>, AllocError>
+fn written(alloc: Global, form: AppForm, pdu: &Pdu) -> Result<Vec<u8>, NoMemory>
     requires { IsTrue (well_formed form pdu.now) }
     ensures { IfOk result (λ v. v.items ≡ spelling form pdu.now) }
 {
     let mut out = Vec::with_capacity(alloc, size_of(form, pdu))?;
     out.push(pdu.version)?;
     put_messages(&mut out, form, pdu.messages.as_slice())?;
-    put_number(&mut out, 0)?;
+    put_two(&mut out, 0)?;
     Ok(out)
 }
 
@@ -229,9 +236,3 @@ pub fn encode(form: AppForm, pdu: &Pdu, out: &mut Vec<u8>) -> Result<(), NoMemor
     out.extend_from_slice(&octets)?;
     Ok(())
 }
-
-/// The round trip: the octets in which a PDU is written spell that PDU, and are read as it.
-pub fn written_is_read()
-    ensures spelled { (form : AppForm) (pdu : Pdu) → IsTrue (well_formed form pdu) → Spells form (spelling form pdu) pdu }
-    ensures read { (form : AppForm) (pdu : Pdu) → IsTrue (well_formed form pdu) → reading form (spelling form pdu) ≡ Ok pdu }
-{}

@@ -39,7 +39,7 @@ pub(crate) enum ReadErr {
 
 impl ReadErr {
     ghost use Rattle.std.specs.Prelude.{◌-◌, ◌<◌, ◌≤◌, ◌^◌};
-    ghost use Rattle.mrpdu_codec.specs.Workers.{IsWithin, behind, placed};
+    ghost use Rattle.mrpdu_codec.specs.ReadErr.{IsWithin, behind, placed};
 
     /// The same where the octets that were read are the first ones of all.
     pub(crate) fn behind(self, here: usize, all: usize) -> ReadErr

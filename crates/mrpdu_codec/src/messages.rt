@@ -1,29 +1,28 @@
 //! Messages as they stand in the octets.
 
-ghost use Rattle.std.specs.Prelude.{◌≡◌, ◌<◌, ◌++◌, ◌+◌, List, [], ◌∷◌, length, take, drop, IfOk, OnOk, Some, None, option_map};
+ghost use Rattle.std.specs.Prelude.{◌≡◌, ◌<◌, ◌++◌, ◌+◌, [], length, take, drop, map, IfOk, OnOk, Some, None, option_map};
 ghost use Rattle.mrpdu_codec.specs.Tree.{length_fits};
-ghost use Rattle.mrpdu_codec.specs.Workers.{Gives};
-ghost use Rattle.mrpdu_codec.specs.Reading.{rest_of, region_at, known_at, skip_at, size_at, counted_at, body_at, length_at, message_at, type_at, end_at, messages_of};
-ghost use Rattle.mrpdu_codec.specs.Workers.{messages};
+ghost use Rattle.mrpdu_codec.specs.Raw.{attrs_in, message_in, messages_in};
+ghost use Rattle.mrpdu_codec.specs.ReadErr.{Gives, kept};
+ghost use Rattle.mrpdu_codec.specs.Reading.{region_at, known_at, skip_at, size_at, sized_at, counted_at, body_at, length_at, message_at, type_at, end_at, messages_of};
 
 use crate::error::ReadErr;
 use crate::form::{AppForm, TypeForm};
-use crate::pdu::{Message, VectorAttr};
-use crate::raw::number;
-use crate::vectors::{list, mark, skip_list, vectors};
-use srp_base::Seq;
+use crate::numbers::number;
+use crate::raw::{RawMessage, RawVector};
+use crate::vectors::{list, mark, vectors};
 use std::alloc::{AllocError, Global};
 
 /// A region of MSRP, of which these octets are here: vectors in exactly so many octets.
-#[tactic(auto, unfolding(crate::specs::Reading::region_at))]
+#[tactic(auto, using(crate::proofs::Kept::kept_some), unfolding(crate::specs::Reading::region_at))]
 fn region(
     alloc: Global,
     octets: &[u8],
     row: TypeForm,
     len: u8,
     size: usize,
-) -> Result<Vec<VectorAttr>, ReadErr>
-    ensures { Gives (λ v. v.items) result (region_at (Some row) len size octets.now) }
+) -> Result<Vec<RawVector<'_>>, ReadErr>
+    ensures { Gives (λ v. attrs_in v.items) result (region_at (Some row) len size octets.now) }
 {
     let (found, rest) = vectors(alloc, octets, Some(row), len)?;
     if rest.len() != 0 {
@@ -51,8 +50,8 @@ fn known(
     row: TypeForm,
     len: u8,
     size: usize,
-) -> Result<(Vec<VectorAttr>, &[u8]), ReadErr>
-    ensures { Gives (λ x. (x.0.items, x.1.now)) result (known_at (Some row) len size octets.now) }
+) -> Result<(Vec<RawVector<'_>>, &[u8]), ReadErr>
+    ensures { Gives (λ x. (attrs_in x.0.items, x.1.now)) result (known_at (Some row) len size octets.now) }
 {
     let (here, beyond) = cut(octets, size);
     match region(alloc, here, row, len, size) {
@@ -99,56 +98,55 @@ fn size(octets: &[u8]) -> Result<(usize, &[u8]), ReadErr>
     }
 }
 
-/// What stands after AttributeLength in MSRP, for a known type.
+/// What AttributeListLength counts, and its EndMark. The octets of an unknown type are passed over.
+fn sized(
+    alloc: Global,
+    octets: &[u8],
+    row: Option<TypeForm>,
+    len: u8,
+    size: usize,
+) -> Result<(Vec<RawVector<'_>>, &[u8]), ReadErr>
+    requires { size < 65536 }
+    ensures { Gives (λ x. (attrs_in x.0.items, x.1.now)) result (kept row (sized_at row len size octets.now)) }
+{
+    match row {
+        Some(row) => known(alloc, octets, row, len, size),
+        None => {
+            let rest = skip(octets, size)?;
+            Ok((Vec::new(alloc), rest))
+        }
+    }
+}
+
+/// AttributeListLength, and what it counts.
 #[tactic(auto, unfolding(crate::specs::Reading::counted_at))]
 fn counted(
     alloc: Global,
     octets: &[u8],
-    row: TypeForm,
+    row: Option<TypeForm>,
     len: u8,
-) -> Result<(Vec<VectorAttr>, &[u8]), ReadErr>
-    ensures { Gives (λ x. (x.0.items, x.1.now)) result (counted_at (Some row) len octets.now) }
+) -> Result<(Vec<RawVector<'_>>, &[u8]), ReadErr>
+    ensures { Gives (λ x. (attrs_in x.0.items, x.1.now)) result (kept row (counted_at row len octets.now)) }
 {
     let (size, rest) = size(octets)?;
-    let (found, rest) = known(alloc, rest, row, len, size)?;
+    let (found, rest) = sized(alloc, rest, row, len, size)?;
     Ok((found, rest))
 }
 
-/// Passes over what stands after AttributeLength in MSRP, for an unknown type.
-#[tactic(auto, unfolding(crate::specs::Reading::counted_at))]
-fn skip_counted(octets: &[u8], len: u8) -> Result<&[u8], ReadErr>
-    ensures { Gives (λ x. x.now) result (rest_of (counted_at None len octets.now)) }
-{
-    let (size, rest) = size(octets)?;
-    let rest = skip(rest, size)?;
-    Ok(rest)
-}
-
-/// What stands after AttributeLength, for a known type.
+/// What stands after AttributeLength.
 fn body(
     alloc: Global,
     form: AppForm,
     octets: &[u8],
-    row: TypeForm,
+    row: Option<TypeForm>,
     len: u8,
-) -> Result<(Vec<VectorAttr>, &[u8]), ReadErr>
-    ensures { Gives (λ x. (x.0.items, x.1.now)) result (body_at form (Some row) len octets.now) }
+) -> Result<(Vec<RawVector<'_>>, &[u8]), ReadErr>
+    ensures { Gives (λ x. (attrs_in x.0.items, x.1.now)) result (kept row (body_at form row len octets.now)) }
 {
     match form {
-        AppForm::Mvrp => list(alloc, octets, Some(row), len),
+        AppForm::Mvrp => list(alloc, octets, row, len),
         AppForm::Msrp => counted(alloc, octets, row, len),
-        AppForm::Mmrp => list(alloc, octets, Some(row), len),
-    }
-}
-
-/// Passes over what stands after AttributeLength, for an unknown type.
-fn skip_body(form: AppForm, octets: &[u8], len: u8) -> Result<&[u8], ReadErr>
-    ensures { Gives (λ x. x.now) result (rest_of (body_at form None len octets.now)) }
-{
-    match form {
-        AppForm::Mvrp => skip_list(octets, len),
-        AppForm::Msrp => skip_counted(octets, len),
-        AppForm::Mmrp => skip_list(octets, len),
+        AppForm::Mmrp => list(alloc, octets, row, len),
     }
 }
 
@@ -180,28 +178,20 @@ fn attribute_length(octets: &[u8], row: Option<TypeForm>) -> Result<(u8, &[u8]),
 }
 
 /// A Message after its AttributeType, if its type is known.
-#[tactic(auto, unfolding(crate::specs::Reading::message_at))]
+#[tactic(auto, using(crate::proofs::Kept::message_kept))]
 fn message(
     alloc: Global,
     form: AppForm,
     kind: u8,
     octets: &[u8],
-) -> Result<(Option<Message>, &[u8]), ReadErr>
-    ensures { Gives (λ x. (messages x.0, x.1.now)) result (message_at form kind octets.now) }
+) -> Result<(Option<RawMessage<'_>>, &[u8]), ReadErr>
+    ensures { Gives (λ x. (messages_in x.0, x.1.now)) result (message_at form kind octets.now) }
 {
     let row = form.known(kind);
     let (len, rest) = attribute_length(octets, row)?;
-    match row {
-        Some(row) => {
-            let (found, rest) = body(alloc, form, rest, row, len)?;
-            let vectors = Seq::from_vec(found);
-            Ok((Some(Message { kind, vectors }), rest))
-        }
-        None => {
-            let rest = skip_body(form, rest, len)?;
-            Ok((None, rest))
-        }
-    }
+    let (vectors, rest) = body(alloc, form, rest, row, len)?;
+    let message = row.map(|_| RawMessage { kind, vectors });
+    Ok((message, rest))
 }
 
 /// The octet behind a 0 in the place of a later Message, which is 0 too in an EndMark.
@@ -240,8 +230,11 @@ fn next_type(octets: &[u8]) -> Result<Option<(u8, &[u8])>, ReadErr>
 }
 
 /// Puts a Message at the end, if there is one.
-fn push_some(found: &mut Vec<Message>, message: Option<Message>) -> Result<(), AllocError>
-    ensures { OnOk result (found.new.items ≡ found.old.items ++ messages message) }
+fn push_some<'a>(
+    found: &mut Vec<RawMessage<'a>>,
+    message: Option<RawMessage<'a>>,
+) -> Result<(), AllocError>
+    ensures { OnOk result (map message_in found.new.items ≡ map message_in found.old.items ++ messages_in message.entry) }
 {
     if let Some(message) = message {
         found.push(message)?;
@@ -250,8 +243,12 @@ fn push_some(found: &mut Vec<Message>, message: Option<Message>) -> Result<(), A
 }
 
 /// The Messages of known types, up to the PDU's EndMark or the octets' end.
-pub(crate) fn messages(alloc: Global, form: AppForm, octets: &[u8]) -> Result<Vec<Message>, ReadErr>
-    ensures { Gives (λ v. v.items) result (messages_of form octets.now) }
+pub(crate) fn messages(
+    alloc: Global,
+    form: AppForm,
+    octets: &[u8],
+) -> Result<Vec<RawMessage<'_>>, ReadErr>
+    ensures { Gives (λ v. map message_in v.items) result (messages_of form octets.now) }
 {
     let mut found = Vec::new(alloc);
     let mut rest = octets;

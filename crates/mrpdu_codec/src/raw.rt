@@ -1,159 +1,240 @@
-//! The fields of a vector, as they stand in the octets. Nothing here takes memory.
+//! A PDU in place: what was read of it, with the fields of its vectors borrowed from the octets.
 
-ghost use Rattle.std.specs.Prelude.{◌≡◌, ◌+◌, ◌*◌, ◌/◌, ◌%◌, ◌<◌};
-ghost use Rattle.mrpdu_codec.specs.Octets.{number, thirds, quarters};
-ghost use Rattle.mrpdu_codec.specs.Tree.{packed_limit, leave_all_limit, fours_for, header_fits};
-ghost use Rattle.mrpdu_codec.specs.Workers.{Gives};
-ghost use Rattle.mrpdu_codec.specs.Reading.{run_at, header_at, first_at, vector_at, ends_list};
-ghost use Rattle.mrpdu_codec.specs.Workers.{raw_of};
+ghost use Rattle.std.specs.Prelude.{◌≡◌, ◌≤◌, ◌++◌, ◌∷◌, [], length, take, map, IfOk, OnOk};
+ghost use Rattle.std.specs.List.{flat_map, list_any};
+ghost use Rattle.mrpdu_codec.specs.Octets.{event_of, three_events, four_params};
+ghost use Rattle.mrpdu_codec.specs.Raw.{attr_in, attrs_in, message_in, leaves_in_place};
 
-use crate::error::ReadErr;
-use crate::form::TypeForm;
+use crate::fields::count;
+use crate::numbers::number;
+use crate::pdu::{Message, Pdu, VectorAttr};
+use srp_base::{MrpEvent, NoMemory, Seq};
+use std::alloc::{AllocError, Global};
 
 /// A vector's header and its three lists of octets (IEEE Std 802.1Q-2018, 10.8.1.2).
 #[derive(Clone, Copy)]
-pub(crate) struct RawVector<'a> {
-    pub(crate) high: u8,
-    pub(crate) low: u8,
-    pub(crate) first: &'a [u8],
-    pub(crate) three_packed: &'a [u8],
-    pub(crate) four_packed: &'a [u8],
+pub struct RawVector<'a> {
+    /// The first octet of the header.
+    pub high: u8,
+    /// The second octet of the header.
+    pub low: u8,
+    /// FirstValue.
+    pub first: &'a [u8],
+    /// ThreePackedEvents.
+    pub three_packed: &'a [u8],
+    /// FourPackedEvents, of a four-packed type.
+    pub four_packed: &'a [u8],
 }
 
-/// The number in two octets, the high one first.
-pub(crate) fn number(high: u8, low: u8) -> u16
-    ensures { result ≡ number high low }
-{
-    256 * u16::from(high) + u16::from(low)
+/// A Message of a known type.
+#[derive(Drop)]
+pub struct RawMessage<'a> {
+    /// AttributeType.
+    pub kind: u8,
+    /// The AttributeList.
+    pub vectors: Vec<RawVector<'a>>,
 }
 
-/// NumberOfValues of a header.
-pub(crate) fn count(high: u8, low: u8) -> usize
-    ensures { result ≡ number high low % 8192 }
-{
-    usize::from(number(high, low) % 8192)
+/// An MRPDU (IEEE Std 802.1Q-2018, 10.8.1.2).
+#[derive(Drop)]
+pub struct RawPdu<'a> {
+    /// ProtocolVersion.
+    pub version: u8,
+    /// The Messages of known types, in order.
+    pub messages: Vec<RawMessage<'a>>,
 }
 
-/// How many octets n values take where an octet holds 3.
-pub(crate) fn thirds(n: usize) -> usize
-    ensures { result ≡ thirds n }
-{
-    n.div_ceil(3)
-}
+impl RawVector<'_> {
+    ghost use Rattle.mrpdu_codec.specs.Tree.{count};
+    ghost use Rattle.mrpdu_codec.specs.Raw.{vector_in, attr_in};
 
-/// How many octets n values take where an octet holds 4.
-pub(crate) fn quarters(n: usize) -> usize
-    ensures { result ≡ quarters n }
-{
-    n.div_ceil(4)
-}
+    /// NumberOfValues.
+    pub fn count(&self) -> usize
+        ensures { result ≡ count (vector_in self.now) }
+    {
+        count(self.high, self.low)
+    }
 
-/// The greatest LeaveAllEvent that a type allows.
-fn leave_all_limit(row: Option<TypeForm>) -> u16
-    ensures { result ≡ leave_all_limit row }
-{
-    match row {
-        Some(_) => 1,
-        None => 7,
+    /// LeaveAllEvent.
+    pub fn leave_all(&self) -> bool
+        ensures { result ≡ (attr_in self.now).leave_all }
+    {
+        0 < number(self.high, self.low) / 8192
     }
 }
 
-/// The greatest packed octet that a type allows.
-fn packed_limit(row: Option<TypeForm>) -> u8
-    ensures { result ≡ packed_limit row }
+/// The event of a number from 0 to 5.
+fn event_of(number: u8) -> MrpEvent
+    ensures { result ≡ event_of number }
 {
-    match row {
-        Some(_) => 215,
-        None => 255,
+    match number {
+        0 => MrpEvent::New,
+        1 => MrpEvent::JoinIn,
+        2 => MrpEvent::OnlyIn,
+        3 => MrpEvent::JoinMt,
+        4 => MrpEvent::OnlyMt,
+        _ => MrpEvent::Lv,
     }
 }
 
-/// How many FourPackedEvents n values take.
-fn fours_for(row: Option<TypeForm>, n: usize) -> usize
-    ensures { result ≡ fours_for row n }
+/// The three events of an octet of ThreePackedEvents (IEEE Std 802.1Q-2018, 10.8.2.10.1).
+pub fn events_in(octet: u8) -> [MrpEvent; 3]
+    ensures { result ≡ three_events octet }
 {
-    match row {
-        Some(row) => { if row.four_packed { quarters(n) } else { 0 } }
-        None => 0,
+    [
+        event_of(octet / 36),
+        event_of(octet / 6 % 6),
+        event_of(octet % 6),
+    ]
+}
+
+/// Puts an item at the end of a list that has fewer than n.
+fn push_up_to<T: Drop>(items: &mut Vec<T>, n: usize, item: T) -> Result<(), AllocError>
+    requires { length items.old.items ≤ n }
+    ensures ok { OnOk result (items.new.items ≡ take n (items.old.items ++ item ∷ [])) }
+    ensures at_most { OnOk result (length items.new.items ≤ n) }
+{
+    if items.len() < n {
+        items.push(item)?;
     }
+    Ok(())
 }
 
-/// A header's two octets, if its LeaveAllEvent is allowed.
-#[tactic(auto, unfolding(crate::specs::Reading::header_at))]
-fn header(octets: &[u8], row: Option<TypeForm>) -> Result<(u8, u8, &[u8]), ReadErr>
-    ensures { Gives (λ x. (x.0, x.1, x.2.now)) result (header_at row octets.now) }
+/// Puts an octet's three events at the end, up to n in all.
+fn push_events(items: &mut Vec<MrpEvent>, n: usize, octet: u8) -> Result<(), AllocError>
+    requires { length items.old.items ≤ n }
+    ensures ok { OnOk result (items.new.items ≡ take n (items.old.items ++ three_events octet)) }
+    ensures at_most { OnOk result (length items.new.items ≤ n) }
 {
-    match octets {
-        [] => Err(ReadErr::Left(0)),
-        [_] => Err(ReadErr::Left(1)),
-        [high, low, rest @ ..] => {
-            if number(*high, *low) / 8192 <= leave_all_limit(row) {
-                Ok((*high, *low, rest))
-            } else {
-                Err(ReadErr::Left(octets.len()))
-            }
-        }
+    push_up_to(items, n, event_of(octet / 36))?;
+    push_up_to(items, n, event_of(octet / 6 % 6))?;
+    push_up_to(items, n, event_of(octet % 6))?;
+    Ok(())
+}
+
+/// Puts an octet's four parameters at the end, up to n in all.
+fn push_params(items: &mut Vec<u8>, n: usize, octet: u8) -> Result<(), AllocError>
+    requires { length items.old.items ≤ n }
+    ensures ok { OnOk result (items.new.items ≡ take n (items.old.items ++ four_params octet)) }
+    ensures at_most { OnOk result (length items.new.items ≤ n) }
+{
+    push_up_to(items, n, octet / 64)?;
+    push_up_to(items, n, octet / 16 % 4)?;
+    push_up_to(items, n, octet / 4 % 4)?;
+    push_up_to(items, n, octet % 4)?;
+    Ok(())
+}
+
+/// The first n events of packed octets.
+fn events_of(alloc: Global, packed: &[u8], n: usize) -> Result<Vec<MrpEvent>, AllocError>
+    ensures { IfOk result (λ v. v.items ≡ take n (flat_map three_events packed.now)) }
+{
+    let mut events = Vec::with_capacity(alloc, n)?;
+    for octet in packed {
+        push_events(&mut events, n, *octet)?;
     }
+    Ok(events)
 }
 
-/// A FirstValue.
-#[tactic(auto, unfolding(crate::specs::Reading::first_at))]
-fn first(octets: &[u8], len: usize) -> Result<(&[u8], &[u8]), ReadErr>
-    ensures { Gives (λ x. (x.0.now, x.1.now)) result (first_at len octets.now) }
+/// The first n parameters of FourPackedEvents.
+fn params_of(alloc: Global, fours: &[u8], n: usize) -> Result<Vec<u8>, AllocError>
+    ensures { IfOk result (λ v. v.items ≡ take n (flat_map four_params fours.now)) }
 {
-    if octets.len() < len {
-        return Err(ReadErr::Left(octets.len()));
+    let mut params = Vec::with_capacity(alloc, n.min(fours.len().saturating_mul(4)))?;
+    for octet in fours {
+        push_params(&mut params, n, *octet)?;
     }
-    Ok(octets.split_at(len))
+    Ok(params)
 }
 
-/// So many octets, each at most the limit.
-fn run(octets: &[u8], limit: u8, n: usize) -> Result<(&[u8], &[u8]), ReadErr>
-    ensures { Gives (λ x. (x.0.now, x.1.now)) result (run_at limit n octets.now) }
+/// What a vector says.
+fn attr_of(alloc: Global, raw: &RawVector<'_>) -> Result<VectorAttr, AllocError>
+    ensures { IfOk result (λ v. v ≡ attr_in raw.now) }
 {
-    for i in 0..n {
-        if i == octets.len() {
-            return Err(ReadErr::Left(0));
-        }
-        if octets[i] > limit {
-            return Err(ReadErr::Left(octets.len() - i));
-        }
+    let n = raw.count();
+    let first = Vec::from_slice(alloc, raw.first)?;
+    let events = events_of(alloc, raw.three_packed, n)?;
+    let params = params_of(alloc, raw.four_packed, n)?;
+    Ok(VectorAttr {
+        leave_all: raw.leave_all(),
+        first: Seq::from_vec(first),
+        events: Seq::from_vec(events),
+        params: Seq::from_vec(params),
+    })
+}
+
+/// What vectors say.
+fn attrs_of(alloc: Global, raws: &[RawVector<'_>]) -> Result<Vec<VectorAttr>, AllocError>
+    ensures { IfOk result (λ v. v.items ≡ attrs_in raws.now) }
+{
+    let mut attrs = Vec::with_capacity(alloc, raws.len())?;
+    for raw in raws {
+        attrs.push(attr_of(alloc, raw)?)?;
     }
-    Ok(octets.split_at(n))
+    Ok(attrs)
 }
 
-/// A vector of a type with this row of its application's table, and with len octets of FirstValue.
-#[tactic(auto, unfolding(crate::specs::Reading::vector_at))]
-pub(crate) fn raw_vector(
-    octets: &[u8],
-    row: Option<TypeForm>,
-    len: u8,
-) -> Result<(RawVector<'_>, &[u8]), ReadErr>
-    ensures { Gives (λ x. (raw_of x.0, x.1.now)) result (vector_at row len octets.now) }
+/// What a Message says.
+fn message_of(alloc: Global, raw: &RawMessage<'_>) -> Result<Message, AllocError>
+    ensures { IfOk result (λ m. m ≡ message_in raw.now) }
 {
-    let (high, low, rest) = header(octets, row)?;
-    let n = count(high, low);
-    let (first, rest) = first(rest, usize::from(len))?;
-    let (three_packed, rest) = run(rest, packed_limit(row), thirds(n))?;
-    let (four_packed, rest) = run(rest, 255, fours_for(row, n))?;
-    let raw = RawVector {
-        high,
-        low,
-        first,
-        three_packed,
-        four_packed,
-    };
-    Ok((raw, rest))
+    let vectors = attrs_of(alloc, &raw.vectors)?;
+    Ok(Message {
+        kind: raw.kind,
+        vectors: Seq::from_vec(vectors),
+    })
 }
 
-/// Whether a list of vectors ends here: the octets end, or an EndMark stands in a header's place.
-#[tactic(auto, unfolding(crate::specs::Reading::ends_list))]
-pub(crate) fn ends_list(octets: &[u8]) -> bool
-    ensures { result ≡ ends_list octets.now }
+/// What Messages say.
+fn messages_of(alloc: Global, raws: &[RawMessage<'_>]) -> Result<Vec<Message>, AllocError>
+    ensures { IfOk result (λ v. v.items ≡ map message_in raws.now) }
 {
-    match octets {
-        [] => true,
-        [_] => false,
-        [high, low, ..] => number(*high, *low) == 0,
+    let mut messages = Vec::with_capacity(alloc, raws.len())?;
+    for raw in raws {
+        messages.push(message_of(alloc, raw)?)?;
+    }
+    Ok(messages)
+}
+
+/// Whether a vector has a LeaveAllEvent.
+fn any_leaves(raws: &[RawVector<'_>]) -> bool
+    ensures { result ≡ list_any leaves_in_place raws.now }
+{
+    raws.iter().any(|v| v.leave_all())
+}
+
+/// Whether a Message has a LeaveAllEvent.
+fn any_message_leaves(raws: &[RawMessage<'_>]) -> bool
+    ensures { result ≡ list_any (λ m. list_any leaves_in_place m.vectors.items) raws.now }
+{
+    raws.iter().any(|m| any_leaves(&m.vectors))
+}
+
+impl RawPdu<'_> {
+    ghost use Rattle.mrpdu_codec.specs.Shape.{has_leave_all};
+    ghost use Rattle.mrpdu_codec.specs.Raw.{pdu_in};
+
+    /// Whether a vector of any Message has a LeaveAllEvent, which then counts for all attributes of the
+    /// application, and acts before all attribute events (IEEE Std 802.1Q-2018, 10.8.2).
+    #[tactic(auto, using(crate::proofs::RawLemmas::leaves_meant))]
+    pub fn has_leave_all(&self) -> bool
+        ensures { result ≡ has_leave_all (pdu_in self.now) }
+    {
+        any_message_leaves(&self.messages)
+    }
+
+    /// What the PDU says, in memory of its own.
+    ///
+    /// # Errors
+    ///
+    /// `NoMemory` where memory for it runs out.
+    pub fn to_pdu(&self, alloc: Global) -> Result<Pdu, NoMemory>
+        ensures { IfOk result (λ pdu. pdu ≡ pdu_in self.now) }
+    {
+        let messages = messages_of(alloc, &self.messages)?;
+        Ok(Pdu {
+            version: self.version,
+            messages: Seq::from_vec(messages),
+        })
     }
 }

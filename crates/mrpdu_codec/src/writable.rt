@@ -1,16 +1,14 @@
 //! Which PDUs can be written, and in how many octets.
 
-ghost use Rattle.std.specs.Prelude.{◌≡◌, ◌+◌, ◌-◌, ◌^◌, ◌&&◌, min, map, length, nat_le, Some};
-ghost use Rattle.std.specs.List.{list_all, flat_map};
-ghost use Rattle.mrpdu_codec.specs.declared.form.AppForm.{AppForm};
-ghost use Rattle.mrpdu_codec.specs.declared.pdu.Pdu.{Pdu};
+ghost use Rattle.std.specs.Prelude.{◌≡◌, ◌-◌, ◌^◌, ◌&&◌, min, map, length, nat_le, Some};
+ghost use Rattle.std.specs.List.{list_all};
 ghost use Rattle.mrpdu_codec.specs.Tree.{vector_octets, vectors_octets, message_octets, messages_octets};
-ghost use Rattle.mrpdu_codec.specs.Canonical.{vector_for, vectors_for, message_for, spelling, list_fits, message_fits, pdu_size, well_formed};
+ghost use Rattle.mrpdu_codec.specs.Canonical.{vector_for, vectors_for, message_for, spelling, list_fits, message_fits, well_formed};
 ghost use Rattle.mrpdu_codec.specs.Shape.{params_fit, vector_fits, vectors_fit, has_form};
 
+use crate::fields::{quarters, thirds};
 use crate::form::{AppForm, TypeForm};
 use crate::pdu::{Message, Pdu, VectorAttr};
-use crate::raw::{quarters, thirds};
 
 /// The octets of a vector, or the greatest usize where they are more.
 #[tactic(auto, using(crate::proofs::Sizes::vector_length))]
@@ -144,8 +142,3 @@ pub fn well_formed(form: AppForm, pdu: &Pdu) -> bool
     let each = messages_fit(form, pdu.messages.as_slice());
     pdu.version == 0 && 0 < pdu.messages.len() && each
 }
-
-/// The law of the lengths: how many octets `encode` writes, from the numbers of events and parameters.
-pub fn written_size()
-    ensures { (form : AppForm) (pdu : Pdu) → length (spelling form pdu) ≡ pdu_size form pdu }
-{}

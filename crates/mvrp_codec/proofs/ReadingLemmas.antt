@@ -1,24 +1,62 @@
--- The events of consecutive VIDs, one event after another.
-use Rattle.std.proofs.Common.{◌≡◌, ℕ, ◌+◌, ◌<◌, false, leb, List, [], ◌∷◌, ◌++◌, length, get_or, drop, refl, sym, ap, ◌∙◌, append_assoc, arith}
+-- The events of consecutive VIDs, one packed octet after another.
+use Rattle.std.proofs.Common.{◌≡◌, ℕ, zero, suc, ◌+◌, ◌-◌, ◌/◌, ◌%◌, ◌<◌, false, leb, List, [], ◌∷◌, ◌++◌, length, get_or, take, drop, map, refl, sym, ap, ◌∙◌, append_assoc, arith}
+use Rattle.std.specs.List.{flat_map}
 use Rattle.std.proofs.lemmas.Bool.{lt-leb, and_right}
-use Rattle.std.proofs.lemmas.List.{append-nil, at_drop_more}
+use Rattle.std.proofs.lemmas.List.{append-nil, drop_more}
+use Rattle.std.proofs.lemmas.List.Folds.{flat_map-map}
 use Rattle.srp_base.specs.declared.mrp.MrpEvent.{MrpEvent}
-use Rattle.mvrp_codec.specs.Meaning.{event_at, events_from}
+use Rattle.mrpdu_codec.specs.declared.raw.RawMessage.{RawMessage}
+use Rattle.mrpdu_codec.specs.Octets.{event_of, three_events}
+use Rattle.mrpdu_codec.specs.Raw.{attr_in, message_in}
+use Rattle.mvrp_codec.specs.Meaning.{event_at, events_from, events_in_place, vector_events, message_events}
+
+-- ---- the events of packed octets
 
 -- past 4,094 there are none
-pub none_past : (vid : ℕ) (events : List MrpEvent) → 4094 < vid → events_from vid events ≡ []
+none_past : (vid : ℕ) (events : List MrpEvent) → 4094 < vid → events_from vid events ≡ []
 none_past vid [] h = refl
 none_past vid (event ∷ events) h =
     rw (lt-leb vid 4094 h, and_right (leb 1 vid) false refl) (none_past (vid + 1) events (omega arith))
 
--- one event more, of what is left
-pub events_go_on : (done more total : List (MrpEvent × ℕ)) (vid i : ℕ) (events : List MrpEvent) (event : MrpEvent) → i < length events → event ≡ get_or events i event
-    → done ++ events_from vid (drop i events) ≡ total → more ≡ done ++ event_at event vid → more ++ events_from (vid + 1) (drop (i + 1) events) ≡ total
-events_go_on done more total vid i events event lt is so_far e =
-    ap (λ (x : List (MrpEvent × ℕ)). x ++ events_from (vid + 1) (drop (i + 1) events)) e
-    ∙ append_assoc done (event_at event vid) (events_from (vid + 1) (drop (i + 1) events))
-    ∙ ap (λ (x : List (MrpEvent × ℕ)). done ++ x) (ap (λ (y : MrpEvent). event_at y vid ++ events_from (vid + 1) (drop (i + 1) events)) is ∙ sym (at_drop_more (events_from vid) events i event lt))
-    ∙ so_far
+-- three events, and what follows them
+after_three : (vid : ℕ) (a b c : MrpEvent) (rest : List MrpEvent) → events_from vid (a ∷ b ∷ c ∷ rest) ≡ events_from vid (a ∷ b ∷ c ∷ []) ++ events_from (vid + 3) rest
+after_three vid a b c rest =
+    let three : vid + 1 + 1 + 1 ≡ vid + 3 = omega arith in
+    ap (λ (n : ℕ). event_at a vid ++ (event_at b (vid + 1) ++ (event_at c (vid + 1 + 1) ++ events_from n rest))) three ∙ simp (append_assoc, append-nil) refl
 
-pub events_stop : (done total : List (MrpEvent × ℕ)) (vid i : ℕ) (events : List MrpEvent) → 4094 < vid → done ++ events_from vid (drop i events) ≡ total → done ≡ total
-events_stop done total vid i events h so_far = sym (append-nil done) ∙ ap (λ (x : List (MrpEvent × ℕ)). done ++ x) (sym (none_past vid (drop i events) h)) ∙ so_far
+take_nil : (n : ℕ) → take {A = MrpEvent} n [] ≡ []
+take_nil zero = refl
+take_nil (suc n) = refl
+
+-- at most n events of an octet, and what follows it
+octet_more : (vid n : ℕ) (a b c : MrpEvent) (rest : List MrpEvent)
+    → events_from vid (take n (a ∷ b ∷ c ∷ rest)) ≡ events_from vid (take n (a ∷ b ∷ c ∷ [])) ++ events_from (vid + 3) (take (n - 3) rest)
+octet_more vid zero a b c rest = refl
+octet_more vid (suc zero) a b c rest = sym (append-nil (events_from vid (a ∷ [])))
+octet_more vid (suc (suc zero)) a b c rest = sym (append-nil (events_from vid (a ∷ b ∷ [])))
+octet_more vid (suc (suc (suc n))) a b c rest =
+    let less : n ≡ suc (suc (suc n)) - 3 = omega arith in
+    after_three vid a b c (take n rest)
+    ∙ ap (λ (k : ℕ). events_from vid (a ∷ b ∷ c ∷ []) ++ events_from (vid + 3) (take k rest)) less
+    ∙ ap (λ (none : List MrpEvent). events_from vid (a ∷ b ∷ c ∷ none) ++ events_from (vid + 3) (take (suc (suc (suc n)) - 3) rest)) (sym (take_nil n))
+
+pub events_go_on : (done more total : List (MrpEvent × ℕ)) (vid n i : ℕ) (packed : List ℕ) → i < length packed
+    → done ++ events_from vid (take n (flat_map three_events (drop i packed))) ≡ total → more ≡ done ++ events_from vid (take n (three_events (get_or packed i 0)))
+    → more ++ events_from (vid + 3) (take (n - 3) (flat_map three_events (drop (i + 1) packed))) ≡ total
+events_go_on done more total vid n i packed lt so_far e =
+    let octet = get_or packed i 0 in
+    let here = events_from vid (take n (three_events octet)) in
+    let later = events_from (vid + 3) (take (n - 3) (flat_map three_events (drop (i + 1) packed))) in
+    let split : events_from vid (take n (flat_map three_events (drop i packed))) ≡ here ++ later =
+    ap (λ (os : List ℕ). events_from vid (take n (flat_map three_events os))) (drop_more packed i 0 lt)
+    ∙ octet_more vid n (event_of (octet / 36)) (event_of (octet / 6 % 6)) (event_of (octet % 6)) (flat_map three_events (drop (i + 1) packed)) in
+    ap (λ (es : List (MrpEvent × ℕ)). es ++ later) e ∙ append_assoc done here later ∙ ap (λ (es : List (MrpEvent × ℕ)). done ++ es) (sym split) ∙ so_far
+
+pub events_stop : (done total : List (MrpEvent × ℕ)) (vid : ℕ) (events : List MrpEvent) → 4094 < vid → done ++ events_from vid events ≡ total → done ≡ total
+events_stop done total vid events h so_far = sym (append-nil done) ∙ ap (λ (x : List (MrpEvent × ℕ)). done ++ x) (sym (none_past vid events h)) ∙ so_far
+
+-- ---- the events of what was read in place
+
+pub events_meant : (messages : List RawMessage) → flat_map message_events (map message_in messages) ≡ flat_map (λ m. flat_map events_in_place m.vectors.items) messages
+events_meant [] = refl
+events_meant (m ∷ messages) = rw (flat_map-map vector_events attr_in m.vectors.items, events_meant messages) refl

@@ -4,7 +4,9 @@ use Rattle.std.proofs.lemmas.Bool.{cases_Bool, eq-eqb, ne_eqb}
 use Rattle.std.proofs.lemmas.List.{take-append-drop, drop_more, drop_all, take_more}
 use Rattle.srp_base.specs.declared.mrp.MrpEvent.{MrpEvent}
 use Rattle.mrpdu_codec.specs.declared.pdu.VectorAttr.{VectorAttr}
-use Rattle.mvrp_codec.specs.Writing.{join, runs, run_vector, run_vectors, run_len, AreVids}
+use Rattle.mrpdu_codec.specs.Tree.{vector_octets, vectors_octets}
+use Rattle.mrpdu_codec.specs.Canonical.{vector_for, vectors_for}
+use Rattle.mvrp_codec.specs.Writing.{join, runs, run_vector, run_vectors, runs_octets, run_len, AreVids}
 
 -- ---- how far a run goes
 
@@ -81,14 +83,16 @@ vectors_more false run [] = refl
 vectors_more true run (r ∷ rs) = refl
 vectors_more false run (r ∷ rs) = refl
 
-pub vectors_go_on : (out new total : List VectorAttr) (leave : Bool) (rest : List (MrpEvent × ℕ)) (n : ℕ) (v : VectorAttr) → 0 < length rest → n ≡ run_len rest → out ++ run_vectors leave (runs rest) ≡ total
-    → new ≡ out ++ v ∷ [] → v ≡ run_vector leave (take n rest) → new ++ run_vectors false (runs (drop n rest)) ≡ total
-vectors_go_on out new total leave [] n v some e so_far new-is v-is = absurd (omega arith)
-vectors_go_on out new total leave (x ∷ xs) n v some e so_far new-is v-is =
-    let cut : runs (x ∷ xs) ≡ take n (x ∷ xs) ∷ runs (drop n (x ∷ xs)) = runs_cut x xs ∙ ap (λ (k : ℕ). take k (x ∷ xs) ∷ runs (drop k (x ∷ xs))) (sym e) in
-    let all : run_vectors leave (runs (x ∷ xs)) ≡ v ∷ run_vectors false (runs (drop n (x ∷ xs))) =
-    ap (run_vectors leave) cut ∙ vectors_more leave (take n (x ∷ xs)) (runs (drop n (x ∷ xs))) ∙ ap (λ (w : VectorAttr). w ∷ run_vectors false (runs (drop n (x ∷ xs)))) (sym v-is) in
-    ap (λ (vs : List VectorAttr). vs ++ run_vectors false (runs (drop n (x ∷ xs)))) new-is ∙ append_assoc out (v ∷ []) (run_vectors false (runs (drop n (x ∷ xs)))) ∙ ap (λ (vs : List VectorAttr). out ++ vs) (sym all) ∙ so_far
+pub octets_go_on : (out new total : List ℕ) (leave : Bool) (rest : List (MrpEvent × ℕ)) (n : ℕ) → 0 < length rest → n ≡ run_len rest → out ++ runs_octets leave (runs rest) ≡ total
+    → new ≡ out ++ vector_octets (vector_for (run_vector leave (take n rest))) → new ++ runs_octets false (runs (drop n rest)) ≡ total
+octets_go_on out new total leave [] n some e so_far new-is = absurd (omega arith)
+octets_go_on out new total leave (x ∷ xs) n some e so_far new-is =
+    let run = take n (x ∷ xs) in
+    let after = runs (drop n (x ∷ xs)) in
+    let cut : runs (x ∷ xs) ≡ run ∷ after = runs_cut x xs ∙ ap (λ (k : ℕ). take k (x ∷ xs) ∷ runs (drop k (x ∷ xs))) (sym e) in
+    let all : runs_octets leave (runs (x ∷ xs)) ≡ vector_octets (vector_for (run_vector leave run)) ++ runs_octets false after =
+    ap (runs_octets leave) cut ∙ ap (λ (vs : List VectorAttr). vectors_octets (vectors_for vs)) (vectors_more leave run after) in
+    ap (λ (os : List ℕ). os ++ runs_octets false after) new-is ∙ append_assoc out (vector_octets (vector_for (run_vector leave run))) (runs_octets false after) ∙ ap (λ (os : List ℕ). out ++ os) (sym all) ∙ so_far
 
 vids_append : (xs ys : List (MrpEvent × ℕ)) → AreVids xs → AreVids ys → AreVids (xs ++ ys)
 vids_append [] ys h k = k

@@ -1,5 +1,5 @@
 -- What is written reads as what was written, in at most 1,500 octets.
-use Rattle.std.proofs.Common.{◌≡◌, ℕ, suc, ◌+◌, ◌*◌, ◌/◌, ◌%◌, ◌<◌, ◌≤◌, Bool, true, false, leb, ltb, eqb, ◌||◌, inl, inr, List, [], ◌∷◌, ◌++◌, length, map, Result, Ok, refl, sym, ap, ◌∙◌, length-append, arith}
+use Rattle.std.proofs.Common.{◌≡◌, ℕ, suc, ◌+◌, ◌*◌, ◌/◌, ◌%◌, ◌<◌, ◌≤◌, Bool, true, false, leb, ltb, eqb, ◌||◌, inl, inr, List, [], ◌∷◌, ◌++◌, length, map, Result, Ok, refl, sym, ap, ◌∙◌, append_assoc, length-append, arith}
 use Rattle.std.specs.List.{flat_map, list_any, list_all, AllByRecursion}
 use Rattle.std.proofs.lemmas.Bool.{cases_Bool, and_from, eqb-true, le-leb, lt-ltb}
 use Rattle.std.proofs.lemmas.List.{append-nil, length-map}
@@ -8,14 +8,14 @@ use Rattle.srp_base.specs.declared.mrp.MrpEvent.{MrpEvent}
 use Rattle.mrpdu_codec.specs.declared.form.AppForm.TheVariants.{Mvrp}
 use Rattle.mrpdu_codec.specs.declared.form.TypeForm.{TypeForm}
 use Rattle.mrpdu_codec.specs.declared.pdu.VectorAttr.{VectorAttr}
-use Rattle.mrpdu_codec.specs.declared.pdu.Pdu.{Pdu}
 use Rattle.mrpdu_codec.specs.Octets.{number}
+use Rattle.mrpdu_codec.specs.Tree.{vectors_octets}
 use Rattle.mrpdu_codec.specs.Shape.{vector_fits}
-use Rattle.mrpdu_codec.specs.Canonical.{well_formed, spelling, vector_size, vectors_size, pdu_size}
+use Rattle.mrpdu_codec.specs.Canonical.{vectors_for, well_formed, spelling, vector_size, vectors_size, pdu_size}
 use Rattle.mrpdu_codec.specs.Reading.{reading}
 use Rattle.mvrp_codec.specs.declared.pdu.MvrpPdu.{MvrpPdu}
 use Rattle.mvrp_codec.specs.Meaning.{event_at, events_from, vector_events, meaning, read_as, mvrp_reading}
-use Rattle.mvrp_codec.specs.Writing.{join, runs, run_vector, run_vectors, one_message, pdu_for, mvrp_spelling, IsWritable, AreVids, joined}
+use Rattle.mvrp_codec.specs.Writing.{join, runs, run_vector, run_vectors, runs_octets, framed, one_message, pdu_for, mvrp_spelling, IsWritable, AreVids, joined}
 use Rattle.mvrp_codec.proofs.MaximalRuns.{runs_joined}
 
 -- ---- the events
@@ -170,10 +170,14 @@ few_in_all read w size =
     let rs = runs read.events in
     omega (arith, size, w.few, leave_size read.leave_all rs, runs_size (length read.events) rs (runs_small read.events), ap length (runs_joined read.events))
 
--- ---- what `encode` makes
+-- ---- what `encode` writes
 
-pub written_is : (written : Pdu) (vs : List VectorAttr) (events : List (MrpEvent × ℕ)) (read : MvrpPdu) → written ≡ one_message vs → vs ≡ run_vectors read.leave_all (runs events) → events ≡ read.events → written ≡ pdu_for read
-written_is written vs events read e f g = e ∙ ap one_message (f ∙ ap (λ (es : List (MrpEvent × ℕ)). run_vectors read.leave_all (runs es)) g)
+framed_spelling : (vs : List VectorAttr) → framed (vectors_octets (vectors_for vs)) ≡ spelling Mvrp (one_message vs)
+framed_spelling vs =
+    let octets = vectors_octets (vectors_for vs) in
+    let mark : List ℕ = 0 ∷ 0 ∷ [] in
+    ap (λ (os : List ℕ). 0 ∷ 1 ∷ 2 ∷ os) (sym (ap (λ (os : List ℕ). os ++ mark) (append-nil (octets ++ mark)) ∙ append_assoc octets mark mark))
 
-pub octets_are : (octets before after : List ℕ) (written : Pdu) (read : MvrpPdu) → octets ≡ after → after ≡ before ++ spelling Mvrp written → before ≡ [] → written ≡ pdu_for read → octets ≡ mvrp_spelling read
-octets_are octets before after written read e f g h = e ∙ f ∙ ap (λ (os : List ℕ). os ++ spelling Mvrp written) g ∙ ap (spelling Mvrp) h
+pub octets_are : (octets : List ℕ) (events : List (MrpEvent × ℕ)) (read : MvrpPdu) → octets ≡ framed (runs_octets read.leave_all (runs events)) → events ≡ read.events → octets ≡ mvrp_spelling read
+octets_are octets events read e f =
+    e ∙ ap (λ (es : List (MrpEvent × ℕ)). framed (runs_octets read.leave_all (runs es))) f ∙ framed_spelling (run_vectors read.leave_all (runs read.events))

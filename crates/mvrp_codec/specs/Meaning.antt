@@ -6,7 +6,9 @@ use Rattle.mrpdu_codec.specs.declared.form.AppForm.TheVariants.{Mvrp}
 use Rattle.mrpdu_codec.specs.declared.pdu.VectorAttr.{VectorAttr}
 use Rattle.mrpdu_codec.specs.declared.pdu.Message.{Message}
 use Rattle.mrpdu_codec.specs.declared.pdu.Pdu.{Pdu}
+use Rattle.mrpdu_codec.specs.declared.raw.RawVector.{RawVector}
 use Rattle.mrpdu_codec.specs.Octets.{number}
+use Rattle.mrpdu_codec.specs.Raw.{attr_in}
 use Rattle.mrpdu_codec.specs.Grammar.{Spells}
 use Rattle.mrpdu_codec.specs.Reading.{reading}
 use Rattle.mrpdu_codec.specs.Shape.{has_leave_all}
@@ -29,6 +31,10 @@ events_from vid (event ∷ events) = event_at event vid ++ events_from (vid + 1)
 -- the events of a vector: its first one is that of FirstValue
 abbrev pub vector_events : VectorAttr → List (MrpEvent × ℕ)
 vector_events v = events_from (first_vid v.first) v.events
+
+-- the events of a vector in place
+abbrev pub events_in_place : RawVector → List (MrpEvent × ℕ)
+events_in_place raw = vector_events (attr_in raw)
 
 -- the events of a Message, in the order of its octets
 abbrev pub message_events : Message → List (MrpEvent × ℕ)

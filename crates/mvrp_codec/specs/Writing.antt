@@ -1,12 +1,13 @@
 -- The one spelling in which the events of VIDs are written (IEEE Std 802.1Q-2018, 10.8.1.2): one Message,
 -- in which each maximal run of consecutive VIDs is one vector.
-use Rattle.std.specs.Prelude.{◌≡◌, ◌≢◌, ℕ, ◌+◌, ◌≤◌, Bool, true, false, ◌||◌, List, [], ◌∷◌, length, map, nat_lt, ◌==◌, if◌then◌else◌}
+use Rattle.std.specs.Prelude.{◌≡◌, ◌≢◌, ℕ, ◌+◌, ◌≤◌, Bool, true, false, ◌||◌, List, [], ◌∷◌, ◌++◌, length, map, nat_lt, ◌==◌, if◌then◌else◌}
 use Rattle.std.specs.List.{flat_map, AllByRecursion}
 use Rattle.srp_base.specs.declared.mrp.MrpEvent.{MrpEvent}
 use Rattle.mrpdu_codec.specs.declared.form.AppForm.TheVariants.{Mvrp}
 use Rattle.mrpdu_codec.specs.declared.pdu.VectorAttr.{VectorAttr}
 use Rattle.mrpdu_codec.specs.declared.pdu.Pdu.{Pdu}
-use Rattle.mrpdu_codec.specs.Canonical.{two_octets, spelling}
+use Rattle.mrpdu_codec.specs.Tree.{vectors_octets}
+use Rattle.mrpdu_codec.specs.Canonical.{two_octets, vectors_for, spelling}
 use Rattle.mvrp_codec.specs.declared.pdu.MvrpPdu.{MvrpPdu}
 
 -- an event joins the run behind it where that begins with the next VID
@@ -34,6 +35,14 @@ abbrev pub run_vectors : Bool → List (List (MrpEvent × ℕ)) → List VectorA
 run_vectors false [] = []
 run_vectors true [] = run_vector true [] ∷ []
 run_vectors leave (run ∷ others) = run_vector leave run ∷ map (run_vector false) others
+
+-- the octets of the vectors of runs
+abbrev pub runs_octets : Bool → List (List (MrpEvent × ℕ)) → List ℕ
+runs_octets leave rs = vectors_octets (vectors_for (run_vectors leave rs))
+
+-- the octets of a Message of VIDs with these vectors, alone in a PDU
+abbrev pub framed : List ℕ → List ℕ
+framed vectors = 0 ∷ 1 ∷ 2 ∷ (vectors ++ 0 ∷ 0 ∷ 0 ∷ 0 ∷ [])
 
 -- a PDU of VIDs, which are type 1
 abbrev pub one_message : List VectorAttr → Pdu

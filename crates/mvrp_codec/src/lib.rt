@@ -12,19 +12,26 @@
 //! order of the octets; the values of a vector are consecutive VIDs, and VIDs outside 1 to 4,094 give none.
 //!
 //! `specs/Meaning` says what a PDU of `mrpdu_codec` means here (`meaning`), and what octets say: `Reads`
-//! joins them through the grammar, and `mvrp_reading` is the same as a function. `decode` is that reading.
-//! `specs/Writing` has the one spelling; what `encode` writes reads as what was written, in at most 1,500
-//! octets.
+//! joins them through the grammar, and `mvrp_reading` is the same as a function, as the law
+//! `reading_is_the_grammar` says. `decode` is that reading. `specs/Writing` has the one spelling, and what
+//! its runs are is the law `runs_are_maximal`; what `encode` writes reads as what was written, in at most
+//! 1,500 octets.
+//!
+//! Neither makes a PDU of `mrpdu_codec` on the way: `decode` takes the events from the octets in place, and
+//! `encode` writes each run into one buffer. Another value in an event, or another rule on which VIDs count,
+//! begins in `event_at` and `run_vector` of the definitions, with `push_event` and `first_of` beside them.
 #![tactic(auto)]
 
+pub mod laws;
 mod pdu;
 mod reading;
 mod writing;
 
+pub use laws::{reading_is_the_grammar, runs_are_maximal};
 pub use mrpdu_codec::DecodeErr;
 pub use pdu::MvrpPdu;
-pub use reading::{decode, reading_is_the_grammar};
-pub use writing::{encode, runs_are_maximal};
+pub use reading::decode;
+pub use writing::encode;
 
 #[cfg(test)]
 mod tests;

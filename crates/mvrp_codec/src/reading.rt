@@ -1,28 +1,28 @@
 //! Octets read as the events of VIDs.
 
-ghost use Rattle.std.specs.Prelude.{◌≡◌, ◌↔◌, List, ◌++◌, ◌<◌, ◌^◌, ℕ, Ok, Err, length, OnOk, IfOk, IsTrue};
-ghost use Rattle.std.specs.List.{flat_map, list_all};
+ghost use Rattle.std.specs.Prelude.{◌≡◌, ◌++◌, ◌<◌, ◌≤◌, ◌^◌, ℕ, Ok, Err, length, take, OnOk, IfOk};
+ghost use Rattle.std.specs.List.{flat_map};
 ghost use Rattle.mrpdu_codec.specs.declared.error.DecodeErr.TheVariants as errors;
 ghost use Rattle.mrpdu_codec.specs.declared.form.AppForm.TheVariants.{Mvrp};
 ghost use Rattle.mrpdu_codec.specs.Grammar.{Breaks};
 ghost use Rattle.mvrp_codec.specs.declared.pdu.MvrpPdu.{MvrpPdu};
-ghost use Rattle.mvrp_codec.specs.Meaning.{first_vid, event_at, events_from, vector_events, message_events, meaning, Reads, mvrp_reading};
+ghost use Rattle.mrpdu_codec.specs.Octets.{three_events};
+ghost use Rattle.mrpdu_codec.specs.Raw.{pdu_in};
+ghost use Rattle.mvrp_codec.specs.Meaning.{first_vid, event_at, events_from, events_in_place, meaning, Reads, mvrp_reading};
 ghost use Rattle.mrpdu_codec.specs.Reading.{Answers};
-ghost use Rattle.mrpdu_codec.specs.Shape.{has_form};
 
 use crate::pdu::MvrpPdu;
-use mrpdu_codec::{AppForm, DecodeErr, Message, Pdu, VectorAttr};
+use mrpdu_codec::{AppForm, DecodeErr, RawMessage, RawPdu, RawVector, events_in};
 use srp_base::{MrpEvent, NoMemory, Seq, Vid};
 use std::alloc::{AllocError, Global};
 
 /// The VID in the two octets of a FirstValue.
 fn first_vid(first: &[u8]) -> u16
-    requires { length first.now ≡ 2 }
     ensures { result ≡ first_vid first.now }
 {
     match first {
         [high, low] => 256 * u16::from(*high) + u16::from(*low),
-        _ => unreachable!(),
+        _ => 0,
     }
 }
 
@@ -40,63 +40,79 @@ fn push_event(
     Ok(())
 }
 
-/// Puts the events of consecutive VIDs at the end. Those past 4,094 give none.
+/// Puts the events of consecutive VIDs at the end, at most n of an octet.
+fn push_octet(
+    out: &mut Vec<(MrpEvent, Vid)>,
+    first: u16,
+    octet: u8,
+    n: usize,
+) -> Result<(), AllocError>
+    requires { first ≤ 4094 }
+    ensures { OnOk result (out.new.items ≡ out.old.items ++ events_from first (take n (three_events octet))) }
+{
+    let [a, b, c] = events_in(octet);
+    if 0 < n {
+        push_event(out, a, first)?;
+    }
+    if 1 < n {
+        push_event(out, b, first + 1)?;
+    }
+    if 2 < n {
+        push_event(out, c, first + 2)?;
+    }
+    Ok(())
+}
+
+/// Puts the first n events of packed octets at the end, with consecutive VIDs. Those past 4,094 give none.
 fn push_events(
     out: &mut Vec<(MrpEvent, Vid)>,
     first: u16,
-    events: &[MrpEvent],
+    packed: &[u8],
+    n: usize,
 ) -> Result<(), AllocError>
-    ensures { OnOk result (out.new.items ≡ out.old.items ++ events_from first events.now) }
+    ensures { OnOk result (out.new.items ≡ out.old.items ++ events_from first (take n (flat_map three_events packed.now))) }
 {
     let mut number = first;
-    for event in events {
+    let mut left = n;
+    for octet in packed {
         if 4094 < number {
             return Ok(());
         }
-        push_event(out, *event, number)?;
-        number += 1;
+        push_octet(out, number, *octet, left)?;
+        number += 3;
+        left = left.saturating_sub(3);
     }
     Ok(())
 }
 
-/// Puts the events of a vector at the end.
-fn push_vector(out: &mut Vec<(MrpEvent, Vid)>, v: &VectorAttr) -> Result<(), AllocError>
-    requires { length v.now.first ≡ 2 }
-    ensures { OnOk result (out.new.items ≡ out.old.items ++ vector_events v.now) }
+/// Puts the events of vectors at the end.
+fn push_vectors(out: &mut Vec<(MrpEvent, Vid)>, vectors: &[RawVector<'_>]) -> Result<(), AllocError>
+    ensures { OnOk result (out.new.items ≡ out.old.items ++ flat_map events_in_place vectors.now) }
 {
-    push_events(out, first_vid(v.first.as_slice()), v.events.as_slice())
-}
-
-/// Puts the events of a Message at the end.
-fn push_message(out: &mut Vec<(MrpEvent, Vid)>, message: &Message) -> Result<(), AllocError>
-    requires { IsTrue (has_form Mvrp message.now) }
-    ensures { OnOk result (out.new.items ≡ out.old.items ++ message_events message.now) }
-{
-    for v in message.vectors.as_slice() {
-        push_vector(out, v)?;
+    for v in vectors {
+        push_events(out, first_vid(v.first), v.three_packed, v.count())?;
     }
     Ok(())
 }
 
-/// The events of a PDU, in the order of its octets.
-fn events_of(alloc: Global, pdu: &Pdu) -> Result<Vec<(MrpEvent, Vid)>, AllocError>
-    requires { IsTrue (list_all (has_form Mvrp) pdu.now.messages) }
-    ensures { IfOk result (λ v. v.items ≡ flat_map message_events pdu.now.messages) }
+/// The events of Messages, in the order of their octets.
+fn events_of(alloc: Global, messages: &[RawMessage<'_>]) -> Result<Vec<(MrpEvent, Vid)>, AllocError>
+    ensures { IfOk result (λ v. v.items ≡ flat_map (λ m. flat_map events_in_place m.vectors.items) messages.now) }
 {
     let mut out = Vec::new(alloc);
-    for message in pdu.messages.as_slice() {
-        push_message(&mut out, message)?;
+    for message in messages {
+        push_vectors(&mut out, &message.vectors)?;
     }
     Ok(out)
 }
 
 /// What a PDU says.
-fn meaning(alloc: Global, pdu: &Pdu) -> Result<MvrpPdu, NoMemory>
-    requires { IsTrue (list_all (has_form Mvrp) pdu.now.messages) }
-    ensures { IfOk result (λ read. read ≡ meaning pdu.now) }
+#[tactic(auto, using(crate::proofs::ReadingLemmas::events_meant))]
+fn meaning(alloc: Global, raw: &RawPdu<'_>) -> Result<MvrpPdu, NoMemory>
+    ensures { IfOk result (λ read. read ≡ meaning (pdu_in raw.now)) }
 {
-    let leave_all = pdu.has_leave_all();
-    let events = events_of(alloc, pdu)?;
+    let leave_all = raw.has_leave_all();
+    let events = events_of(alloc, &raw.messages)?;
     Ok(MvrpPdu {
         leave_all,
         events: Seq::from_vec(events),
@@ -122,16 +138,7 @@ pub fn decode(alloc: Global, octets: &[u8]) -> Result<MvrpPdu, DecodeErr>
     // says is all that the octets read as and each place where they break.
     ensures exact { Answers result (mvrp_reading octets.now) }
 {
-    let pdu = mrpdu_codec::decode(alloc, AppForm::Mvrp, octets)?;
-    let read = meaning(alloc, &pdu)?;
+    let raw = mrpdu_codec::decode_in_place(alloc, AppForm::Mvrp, octets)?;
+    let read = meaning(alloc, &raw)?;
     Ok(read)
-}
-
-/// The reading as a function is the grammar with the meaning of a PDU: octets read as exactly what the
-/// PDU that they spell says, or as exactly the place where they break.
-pub fn reading_is_the_grammar()
-    ensures reads { (octets : List ℕ) (read : MvrpPdu) → (mvrp_reading octets ≡ Ok read) ↔ Reads octets read }
-    ensures broken { (octets : List ℕ) (place : ℕ) → (mvrp_reading octets ≡ Err place) ↔ Breaks Mvrp octets place }
-{
-    mrpdu_codec::reading_is_the_grammar();
 }

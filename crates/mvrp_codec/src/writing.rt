@@ -1,12 +1,14 @@
 //! The events of VIDs written as octets.
 
-ghost use Rattle.std.specs.Prelude.{◌≡◌, ◌++◌, ◌<◌, ◌≤◌, ◌+◌, ◌==◌, length, map, take, drop, ℕ, List, Ok, IfOk, OnOk};
+ghost use Rattle.std.specs.Prelude.{◌≡◌, ◌++◌, ◌<◌, ◌≤◌, ◌+◌, ◌==◌, length, map, take, Ok, IfOk, OnOk};
 ghost use Rattle.srp_base.specs.declared.mrp.MrpEvent.{MrpEvent};
 ghost use Rattle.mvrp_codec.specs.Meaning.{mvrp_reading};
-ghost use Rattle.mvrp_codec.specs.Writing.{runs, first_for, run_vector, run_vectors, one_message, mvrp_spelling, IsWritable, run_len, AreVids, AreMaximal, joined};
+ghost use Rattle.mrpdu_codec.specs.Tree.{vector_octets};
+ghost use Rattle.mrpdu_codec.specs.Canonical.{vector_for};
+ghost use Rattle.mvrp_codec.specs.Writing.{runs, first_for, run_vector, runs_octets, framed, mvrp_spelling, IsWritable, run_len, AreVids};
 
 use crate::pdu::MvrpPdu;
-use mrpdu_codec::{AppForm, Message, Pdu, VectorAttr};
+use mrpdu_codec::put_vector;
 use srp_base::{MrpEvent, NoMemory, Seq, Vid};
 use std::alloc::{AllocError, Global};
 
@@ -32,82 +34,80 @@ fn run_len(events: &[(MrpEvent, Vid)]) -> usize
     }
 }
 
-/// The two octets of a run's first VID, or zeros where there is none.
-fn first_of(alloc: Global, run: &[(MrpEvent, Vid)]) -> Result<Vec<u8>, AllocError>
-    ensures { IfOk result (λ v. v.items ≡ first_for run.now) }
+/// The FirstValue of a run: the octets of its first VID, or zeros where there is none.
+fn first_of(run: &[(MrpEvent, Vid)]) -> [u8; 2]
+    ensures { result ≡ first_for run.now }
 {
     let number = match run {
         [] => 0,
         [first, ..] => first.1.get(),
     };
-    let mut out = Vec::new(alloc);
-    out.push((number / 256) as u8)?;
-    out.push((number % 256) as u8)?;
-    Ok(out)
+    [(number / 256) as u8, (number % 256) as u8]
 }
 
-/// The events of a run.
-fn events_of(alloc: Global, run: &[(MrpEvent, Vid)]) -> Result<Vec<MrpEvent>, AllocError>
-    ensures { IfOk result (λ v. v.items ≡ map (λ x. x.0) run.now) }
-{
-    run.iter().map(|x| x.0).collect(alloc)
-}
-
-/// The vector of a run.
-fn vector_of(
-    alloc: Global,
+/// Writes the vector of a run, of which these are the events alone.
+fn put_run(
+    out: &mut Vec<u8>,
     leave_all: bool,
     run: &[(MrpEvent, Vid)],
-) -> Result<VectorAttr, AllocError>
-    ensures { IfOk result (λ v. v ≡ run_vector leave_all run.now) }
+    alone: &[MrpEvent],
+) -> Result<(), NoMemory>
+    requires alone { alone.now ≡ map (λ x. x.0) run.now }
+    requires few { length alone.now ≤ 8191 }
+    ensures { OnOk result (out.new.items ≡ out.old.items ++ vector_octets (vector_for (run_vector leave_all run.now))) }
 {
-    let first = first_of(alloc, run)?;
-    let events = events_of(alloc, run)?;
-    Ok(VectorAttr {
-        leave_all,
-        first: Seq::from_vec(first),
-        events: Seq::from_vec(events),
-        params: Seq::new(alloc),
-    })
+    put_vector(out, leave_all, &first_of(run), alone, &[])
 }
 
-/// The vectors of all events.
-fn vectors_of(
-    alloc: Global,
+/// Writes the vectors of events that have VIDs, of which these are the events alone.
+fn put_runs(
+    out: &mut Vec<u8>,
     leave_all: bool,
     events: &[(MrpEvent, Vid)],
-) -> Result<Vec<VectorAttr>, AllocError>
-    ensures vectors { IfOk result (λ v. v.items ≡ run_vectors leave_all (runs events.now)) }
+    alone: &[MrpEvent],
+) -> Result<(), NoMemory>
+    requires alone { alone.now ≡ map (λ x. x.0) events.now }
+    requires few { length alone.now ≤ 8191 }
+    ensures vectors { OnOk result (out.new.items ≡ out.old.items ++ runs_octets leave_all (runs events.now)) }
     ensures vids { OnOk result (AreVids events.now) }
 {
-    let mut out = Vec::new(alloc);
     let mut leave = leave_all;
     let mut rest = events;
+    let mut rest_alone = alone;
     'more: while !rest.is_empty() {
-        let (run, after) = rest.split_at(run_len(rest));
-        out.push(vector_of(alloc, leave, run)?)?;
+        let n = run_len(rest);
+        let (run, after) = rest.split_at(n);
+        let (run_alone, after_alone) = rest_alone.split_at(n);
+        put_run(out, leave, run, run_alone)?;
         leave = false;
         rest = after;
+        rest_alone = after_alone;
     }
     if leave {
-        out.push(vector_of(alloc, true, &[])?)?;
+        put_run(out, true, &[], &[])?;
     }
-    Ok(out)
+    Ok(())
 }
 
-/// A PDU of one Message with these vectors.
-fn pdu_of(alloc: Global, vectors: Vec<VectorAttr>) -> Result<Pdu, AllocError>
-    ensures { IfOk result (λ pdu. pdu ≡ one_message vectors.items) }
+/// The events without their VIDs.
+fn alone(alloc: Global, events: &[(MrpEvent, Vid)]) -> Result<Vec<MrpEvent>, AllocError>
+    ensures { IfOk result (λ v. v.items ≡ map (λ x. x.0) events.now) }
 {
-    let mut messages = Vec::new(alloc);
-    messages.push(Message {
-        kind: 1,
-        vectors: Seq::from_vec(vectors),
-    })?;
-    Ok(Pdu {
-        version: 0,
-        messages: Seq::from_vec(messages),
-    })
+    events.iter().map(|x| x.0).collect(alloc)
+}
+
+/// The octets of a PDU of one Message, in a buffer with room for a vector of each event.
+fn written(alloc: Global, leave_all: bool, events: &[(MrpEvent, Vid)]) -> Result<Vec<u8>, NoMemory>
+    requires { length events.now ≤ 8191 }
+    ensures octets { IfOk result (λ v. v.items ≡ framed (runs_octets leave_all (runs events.now))) }
+    ensures vids { OnOk result (AreVids events.now) }
+{
+    let alone = alone(alloc, events)?;
+    let mut out = Vec::with_capacity(alloc, 11 + 5 * events.len())?;
+    out.extend_from_slice(&[0, 1, 2])?;
+    put_runs(&mut out, leave_all, events, &alone)?;
+    out.extend_from_slice(&[0, 0, 0, 0])?;
+    Ok(out)
 }
 
 /// The octets that say a LeaveAll and the events of VIDs (IEEE Std 802.1Q-2018, 10.8.1.2, 11.2.3.1), in the
@@ -126,19 +126,8 @@ pub fn encode(alloc: Global, pdu: &MvrpPdu) -> Result<Seq<u8>, NoMemory>
     ensures read_back { IfOk result (λ octets. mvrp_reading octets ≡ Ok pdu.now) }
     ensures few { IfOk result (λ octets. length octets ≤ 1500) }
 {
-    let vectors = vectors_of(alloc, pdu.leave_all, pdu.events.as_slice())?;
-    let written = pdu_of(alloc, vectors)?;
+    let octets = written(alloc, pdu.leave_all, pdu.events.as_slice())?;
     mrpdu_codec::written_is_read();
     mrpdu_codec::written_size();
-    let mut out = Vec::new(alloc);
-    mrpdu_codec::encode(AppForm::Mvrp, &written, &mut out)?;
-    Ok(Seq::from_vec(out))
+    Ok(Seq::from_vec(octets))
 }
-
-/// The law of the runs: one after another they are the events, they are maximal, and no other runs are
-/// both.
-pub fn runs_are_maximal()
-    ensures whole { (events : List (MrpEvent × ℕ)) → joined (runs events) ≡ events }
-    ensures maximal { (events : List (MrpEvent × ℕ)) → AreMaximal (runs events) }
-    ensures only { (rs : List (List (MrpEvent × ℕ))) → AreMaximal rs → runs (joined rs) ≡ rs }
-{}

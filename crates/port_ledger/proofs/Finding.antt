@@ -1,15 +1,15 @@
 -- Where a stream stands in a list that ascends by StreamID, and whether it is among chosen ones.
-use Rattle.std.proofs.Common.{◌≡◌, ◌≢◌, ℕ, zero, suc, ◌+◌, ◌<◌, ◌≤◌, Bool, true, false, ◌==◌, ◌||◌, ◌&&◌, cond, List, [], ◌∷◌, ◌++◌, length, get_or, take, drop, set, Option, Some, None, Result, Ok, Err, is_ok, refl, sym, ◌∙◌, ap, subst, arith, inl, inr, IfOk, IfErr}
+use Rattle.std.proofs.Common.{◌≡◌, ◌≢◌, ℕ, zero, suc, ◌+◌, ◌<◌, ◌≤◌, Bool, true, false, ◌==◌, ◌||◌, ◌&&◌, cond, List, [], ◌∷◌, ◌++◌, length, get_or, take, drop, set, Option, Some, None, Result, Ok, Err, refl, sym, ◌∙◌, ap, subst, arith, inl, inr, IfOk, IfErr}
 use Rattle.std.specs.Prelude.{find, nat_lt}
 use Rattle.std.specs.Ordering.{nat_cmp, is_lt}
 use Rattle.std.specs.declared.cmp.Ordering.TheVariants.{Less, Equal, Greater}
 use Rattle.std.specs.List.{AllByRecursion, AllWithin, HoldsAt, list_any}
-use Rattle.std.specs.List.Sorted.{IsNonDecreasing, IsBinarySearchResult, IsSearchInRange, IsSortedBy}
+use Rattle.std.specs.List.Sorted.{IsBinarySearchResult, IsSearchInRange, IsSortedBy}
 use Rattle.std.proofs.lemmas.Bool.{eq-eqb, ne_eqb, cases_lt, cases_Bool, eqb-true, eqb-false, lt-ltb, le-ltb, or_from, and_left, cond-true, cond-false}
 use Rattle.std.proofs.lemmas.Bool.Decides.{nat_tests}
 use Rattle.std.proofs.lemmas.Cmp.{nat_cmp_total}
-use Rattle.std.proofs.lemmas.List.Recursion.{or_at, or_is, found_at, found_nowhere}
-use Rattle.std.proofs.lemmas.List.Sorted.{searched, searchable_from_sorted}
+use Rattle.std.proofs.lemmas.List.Recursion.{found_at, found_nowhere}
+use Rattle.std.proofs.lemmas.List.Sorted.{searchable_from_sorted}
 use Rattle.std.proofs.lemmas.List.Elements.{All-from_recursion}
 use Rattle.srp_base.specs.declared.bandwidth.Class.TheVariants.{A}
 use Rattle.srp_base.specs.declared.bandwidth.Rank.TheVariants.{Emergency}
@@ -18,20 +18,6 @@ use Rattle.stream_importance.specs.declared.entry.Want.{Want}
 use Rattle.stream_importance.specs.Importance.{class_number, rank_number}
 use Rattle.port_ledger.specs.Decision.{stream_of, IsAscending}
 use Rattle.port_ledger.specs.Book.{entry_of, entry_with, unbooked, with_want, same_want, same_since, same_entry}
-use Rattle.port_ledger.specs.Pass.{is_among}
-
--- what a binary search over ascending numbers answers
-pub among_found : (xs : List ℕ) (x : ℕ) (r : Result ℕ ℕ) → IsNonDecreasing xs
-    → IsBinarySearchResult (λ y. nat_cmp y x) xs r → is_ok r ≡ is_among xs x
-among_found xs x (Ok i) up h =
-    let s : (i < length xs) × (get_or xs i 0 ≡ x) = searched xs x (Ok i) h (λ i j a b. up i j 0 a b) in
-    sym (or_at (list_any (λ s. s == x)) (λ s. s == x) refl (λ _ _. refl) xs i 0 s.0 (eq-eqb (get_or xs i 0) x s.1))
-among_found xs x (Err i) up h =
-    let s : (i ≤ length xs) × ((k : ℕ) → k < i → get_or xs k 0 < x) × ((k : ℕ) → i ≤ k → k < length xs → x < get_or xs k 0) =
-    searched xs x (Err i) h (λ i j a b. up i j 0 a b) in
-    or_is (list_any (λ s. s == x)) (λ s. s == x) refl (λ _ _. refl) xs 0 false (λ e. absurd (let k : false ≡ true = e in cc))
-    (λ _ k l. ne_eqb (get_or xs k 0) x
-    (λ e. elim (cases_lt k i) [ inl below ↦ omega (arith, s.1 k below, e) | inr over ↦ omega (arith, s.2 k over l, e) ]))
 
 -- of two places the earlier has the lower StreamID
 pub ascending_at : (xs : List Entry) → IsAscending xs → (i j : ℕ) (d : Entry) → i < j → j < length xs
@@ -72,7 +58,7 @@ place_missing xs stream (Err i) up range h =
     (range, (λ k d a b. less_is (stream_of (get_or xs k d)) stream (split.0 k d a b)), (λ k d a b. greater_is (stream_of (get_or xs k d)) stream (split.1 k d a b)))
 
 -- an entry that is read of no list
-blank : Entry
+abbrev pub blank : Entry
 blank = record { want = record { stream = record { 0 = 0 }; class = A; rank = Emergency; slope = 0 }; since = None }
 
 -- the stream's entry is the one at that place
@@ -129,7 +115,7 @@ with_want-missing (x ∷ xs) want (suc i) l low high =
     ∙ sym (with_want-higher x xs want (low 0 x (omega arith) (omega arith)))
 
 -- entries of other streams are others
-differ : (x y : Entry) → stream_of x ≢ stream_of y → same_entry x y ≡ false
+pub differ : (x y : Entry) → stream_of x ≢ stream_of y → same_entry x y ≡ false
 differ x y ne =
     let streams : Bool = stream_of x == stream_of y in
     let classes : Bool = class_number x.want.class == class_number y.want.class in
@@ -138,31 +124,8 @@ differ x y ne =
     (and_left (streams && classes && ranks) (x.want.slope == y.want.slope)
     (and_left (streams && classes) ranks (and_left streams classes (ne_eqb (stream_of x) (stream_of y) ne))))
 
-others_differ : (x : Entry) (xs : List Entry) → AllByRecursion (λ y. stream_of x < stream_of y) xs
+pub others_differ : (x : Entry) (xs : List Entry) → AllByRecursion (λ y. stream_of x < stream_of y) xs
     → list_any (same_entry x) xs ≡ false
 others_differ x [] h = refl
 others_differ x (y ∷ ys) h =
     or_from (same_entry x y) (list_any (same_entry x) ys) (differ x y (λ e. let l : stream_of x < stream_of y = h.0 in omega (arith, e, l))) (others_differ x ys h.1)
-
-abbrev pub found_same : Entry → Option Entry → Bool
-found_same x None = false
-found_same x (Some y) = same_entry x y
-
-or-false : (a b : Bool) → b ≡ false → a ≡ (a || b)
-or-false true b h = refl
-or-false false b h = sym h
-
--- an entry is in an ascending list where it is the entry of its stream there
-pub has_entry_is : (x : Entry) (xs : List Entry) → IsAscending xs
-    → found_same x (entry_of xs x.want.stream) ≡ list_any (same_entry x) xs
-has_entry_is x [] up = refl
-has_entry_is x (y ∷ ys) up =
-    elim (cases_Bool (stream_of y == stream_of x)) [
-      | inl h ↦
-          (let e : stream_of y ≡ stream_of x = eqb-true (stream_of y) (stream_of x) h in
-          ap (λ b. found_same x (cond b (Some y) (entry_of ys x.want.stream))) h
-          ∙ or-false (same_entry x y) (list_any (same_entry x) ys) (others_differ x ys (subst (λ (s : ℕ). AllByRecursion (λ z. s < stream_of z) ys) e up.0)))
-      | inr h ↦
-          ap (λ b. found_same x (cond b (Some y) (entry_of ys x.want.stream))) h
-          ∙ (has_entry_is x ys up.1 ∙ ap (λ b. b || list_any (same_entry x) ys) (sym (differ x y (λ e. eqb-false (stream_of y) (stream_of x) h (sym e)))))
-    ]

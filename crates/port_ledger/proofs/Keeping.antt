@@ -1,9 +1,10 @@
 -- What holds of every ledger is kept by a call that decides.
-use Rattle.std.proofs.Common.{◌≡◌, ℕ, ◌<◌, ◌≤◌, Bool, true, false, cond, List, [], ◌∷◌, ◌++◌, take, drop, length, Option, Some, None, refl, sym, ◌∙◌, ap, subst, arith, inl, inr}
+use Rattle.std.proofs.Common.{◌≡◌, ℕ, ◌<◌, ◌≤◌, Bool, true, false, not, ◌==◌, cond, List, [], ◌∷◌, ◌++◌, take, drop, length, Option, Some, None, refl, sym, ◌∙◌, ap, subst, arith, inl, inr}
 use Rattle.std.specs.List.{AllByRecursion}
 use Rattle.std.proofs.Math.Seq.{take-append_seam}
 use Rattle.std.proofs.lemmas.Bool.{cases_order}
 use Rattle.srp_base.specs.declared.numbers.Cs.{Cs}
+use Rattle.srp_base.specs.declared.numbers.StreamId.{StreamId}
 use Rattle.srp_base.specs.declared.bandwidth.Rate.{Rate}
 use Rattle.srp_base.specs.Bandwidth.{bits_of}
 use Rattle.stream_importance.specs.declared.entry.Entry.{Entry}
@@ -11,12 +12,14 @@ use Rattle.stream_importance.specs.declared.entry.Fit.{Fit}
 use Rattle.stream_importance.specs.declared.entry.Want.{Want}
 use Rattle.stream_importance.specs.declared.slope.Caps.{Caps}
 use Rattle.stream_importance.specs.Bandwidth.{caps_of}
-use Rattle.stream_importance.specs.Importance.{moment_or}
-use Rattle.port_ledger.specs.Decision.{booked_of, stream_of, IsAscending, Decides, marks_of, settled, since_after}
-use Rattle.port_ledger.specs.Book.{Book, IsKept, fit_in, tested_as, same_want, unbooked, entry_with, with_want}
+use Rattle.stream_importance.specs.Importance.{moment_or, IsImportanceOrder}
+use Rattle.port_ledger.specs.Decision.{booked_of, stream_of, IsAscending, decided, Decides, marks_of, settled, since_after}
+use Rattle.port_ledger.specs.Book.{Book, IsKept, clocked_book, fit_in, tested_as, same_want, unbooked, unwanted_book, wanted_book, entry_with, with_want, without}
 use Rattle.port_ledger.proofs.Running.{all_with}
 use Rattle.port_ledger.proofs.Finding.{with_want-lower, with_want-same, with_want-higher}
-use Rattle.port_ledger.proofs.Standing.{decision_settled}
+use Rattle.port_ledger.proofs.Marking.{different_from_ascending}
+use Rattle.port_ledger.proofs.Rounds.{decided_decides}
+use Rattle.port_ledger.proofs.Standing.{book_stands, decision_settled}
 
 -- class A has no more than both classes
 pub caps_share : (rate : Rate) (delta_a delta_b : ℕ)
@@ -136,3 +139,52 @@ pub fit_in_book : (now moment : ℕ) (caps : Caps) (entries one two : List Entry
 fit_in_book now moment caps entries one two want x fit book e tested first second same =
     subst (λ (b : Book). fit ≡ fit_in now b.caps (booked_of b.entries) (tested_as b.entries want)) same
     (e ∙ (ap (λ ys. fit_in now caps (booked_of ys) x) second ∙ ap (λ y. fit_in now caps (booked_of entries) y) (tested ∙ ap (λ ys. tested_as ys want) first)))
+
+-- what is taken out leaves the others as they were
+all-without : (P : Entry → Type 0) (stream : StreamId) (xs : List Entry) → AllByRecursion P xs
+    → AllByRecursion P (without xs stream)
+all-without P stream [] h = tt
+all-without P stream (x ∷ xs) h =
+    elim (not (stream_of x == stream.0)) as (λ v. AllByRecursion P (cond v (x ∷ without xs stream) (without xs stream))) [
+      | true ↦ (h.0, all-without P stream xs h.1)
+      | false ↦ all-without P stream xs h.1
+    ]
+
+pub ascending-without : (stream : StreamId) (xs : List Entry) → IsAscending xs → IsAscending (without xs stream)
+ascending-without stream [] up = tt
+ascending-without stream (x ∷ xs) up =
+    elim (not (stream_of x == stream.0)) as (λ v. IsAscending (cond v (x ∷ without xs stream) (without xs stream))) [
+      | true ↦ (all-without (λ y. stream_of x < stream_of y) stream xs up.0, ascending-without stream xs up.1)
+      | false ↦ ascending-without stream xs up.1
+    ]
+
+-- every step of a ledger keeps what holds of every ledger
+pub kept_wanted : (book : Book) (now : ℕ) (want : Want) → IsImportanceOrder now → IsKept book → book.moment ≤ now
+    → IsKept (wanted_book now want book)
+kept_wanted book now want o kept up =
+    kept_with_want book now want (decided now book.caps (with_want book.entries want)) kept up
+    (decided_decides now o book.caps (with_want book.entries want) (different_from_ascending _ (ascending-with_want want book.entries kept.ascending)))
+
+pub kept_unwanted : (book : Book) (now : ℕ) (stream : StreamId) → IsImportanceOrder now → IsKept book
+    → book.moment ≤ now → IsKept (unwanted_book now stream book)
+kept_unwanted book now stream o kept up =
+    kept_after book.caps now (without book.entries stream) (decided now book.caps (without book.entries stream)) kept.shares
+    (ascending-without stream book.entries kept.ascending)
+    (all-without (λ x. moment_or now x.since ≤ now) stream book.entries (moments_later book.moment now book.entries up kept.moments))
+    (decided_decides now o book.caps (without book.entries stream) (different_from_ascending _ (ascending-without stream book.entries kept.ascending)))
+
+pub kept_clocked : (book : Book) (now : ℕ) → IsKept book → book.moment ≤ now → IsKept (clocked_book now book)
+kept_clocked book now kept up =
+    record {
+      ascending = kept.ascending;
+      shares = kept.shares;
+      moments = moments_later book.moment now book.entries up kept.moments;
+      decision = book_stands book kept now up;
+    }
+
+pub ascending_wanted : (now : ℕ) (caps : Caps) (xs : List Entry) (want : Want) → IsImportanceOrder now → IsAscending xs
+    → IsAscending (decided now caps (with_want xs want))
+ascending_wanted now caps xs want o up =
+    let next : IsAscending (with_want xs want) = ascending-with_want want xs up in
+    ascending_after now caps (with_want xs want) (decided now caps (with_want xs want)) next
+    (decided_decides now o caps (with_want xs want) (different_from_ascending _ next))

@@ -1,25 +1,25 @@
 -- A choice of entries and the marks beside them; there is exactly one marking.
-use Rattle.std.proofs.Common.{◌≡◌, ℕ, ◌+◌, Bool, true, false, cond, List, [], ◌∷◌, map, filter, Option, is_some, refl, sym, ◌∙◌, ap, subst, arith, ◌==◌, zero-add}
+use Rattle.std.proofs.Common.{◌≡◌, ℕ, ◌+◌, Bool, true, false, cond, List, [], ◌∷◌, map, filter, Option, is_some, refl, sym, ◌∙◌, ap, arith, zero-add}
 use Rattle.std.specs.Prelude.{nat_le}
 use Rattle.std.specs.List.{AllByRecursion}
-use Rattle.std.specs.List.Sorted.{IsPermutation, IsSortedBy}
-use Rattle.std.proofs.lemmas.List.Sorted.{IsPermutation-sym, list_any-IsPermutation}
+use Rattle.std.specs.List.Sorted.{IsPermutation}
+use Rattle.std.proofs.lemmas.List.Sorted.{IsPermutation-sym}
 use Rattle.srp_base.specs.declared.numbers.Cs.{Cs}
 use Rattle.stream_importance.specs.declared.entry.Entry.{Entry}
-use Rattle.stream_importance.specs.Importance.{is_more_important, IsImportanceOrder}
+use Rattle.stream_importance.specs.Importance.{IsImportanceOrder}
 use Rattle.stream_importance.specs.declared.slope.Caps.{Caps}
 use Rattle.stream_importance.specs.Bandwidth.{cap_of}
-use Rattle.port_ledger.specs.Decision.{stream_of, entry_slope, does_fit, marked, IsDecision, Decides, IsAscending, AreOfDifferentStreams, marks_of, settled, since_after}
-use Rattle.port_ledger.specs.Pass.{is_among, taken}
+use Rattle.port_ledger.specs.Decision.{stream_of, entry_slope, does_fit, marked, IsDecision, IsAscending, AreOfDifferentStreams, marks_of, settled, since_after}
+use Rattle.port_ledger.specs.Pass.{ranked}
 use Rattle.port_ledger.proofs.Running.{total, above-filter, Holds, Runs, IsRanked, holds_from_runs, runs_from_holds, runs_agree, all_with}
-use Rattle.port_ledger.proofs.Ranking.{ranked, ranked_from_sorted, IsPermutation-ranked, ranked_is_ranked, holds_permuted, all_permuted, different_permuted}
-use Rattle.port_ledger.proofs.Taken.{taken_runs}
+use Rattle.port_ledger.proofs.Ranking.{IsPermutation-ranked, ranked_is_ranked, holds_permuted, all_permuted, different_permuted}
+use Rattle.port_ledger.proofs.Taken.{is_among, taken, taken_runs}
 
 pub marked-map : (b : Entry → Bool) (xs : List Entry) → marked xs (map b xs) ≡ filter b xs
 marked-map b [] = refl
 marked-map b (x ∷ xs) = ap (λ ys. cond (b x) (x ∷ ys) ys) (marked-map b xs)
 
-map_agree : {X Y : Type 0} (f g : X → Y) (xs : List X) → AllByRecursion (λ x. f x ≡ g x) xs → map f xs ≡ map g xs
+pub map_agree : {X Y : Type 0} (f g : X → Y) (xs : List X) → AllByRecursion (λ x. f x ≡ g x) xs → map f xs ≡ map g xs
 map_agree f g [] h = refl
 map_agree f g (x ∷ xs) h = ap (λ y. y ∷ map f xs) h.0 ∙ ap (λ ys. g x ∷ ys) (map_agree f g xs h.1)
 
@@ -28,7 +28,7 @@ all_of [] f = tt
 all_of (x ∷ xs) f = (f x, all_of xs f)
 
 -- what stands above, by the set and by the choice
-choice_above : (b : Entry → Bool) (now : ℕ) (caps : Caps) (xs : List Entry) (x : Entry)
+pub choice_above : (b : Entry → Bool) (now : ℕ) (caps : Caps) (xs : List Entry) (x : Entry)
     → nat_le (0 + total b now x xs + entry_slope x) (cap_of caps x.want.class) ≡ does_fit now caps (filter b xs) x
 choice_above b now caps xs x = ap (λ n. nat_le (n + entry_slope x) (cap_of caps x.want.class)) (zero-add (total b now x xs) ∙ sym (above-filter b now x xs))
 
@@ -85,7 +85,7 @@ different_from_ascending [] up = tt
 different_from_ascending (x ∷ xs) up = (all_with xs up.0 up.0 (λ y l _ e. omega (arith, l, e)), different_from_ascending xs up.1)
 
 -- a choice is what its settled entries show
-marks_of-settled : (now : ℕ) (b : Entry → Bool) (xs : List Entry) → marks_of (settled now xs (map b xs)) ≡ map b xs
+pub marks_of-settled : (now : ℕ) (b : Entry → Bool) (xs : List Entry) → marks_of (settled now xs (map b xs)) ≡ map b xs
 marks_of-settled now b [] = refl
 marks_of-settled now b (x ∷ xs) =
     ap (λ m. m ∷ marks_of (settled now xs (map b xs))) (shown (b x) x.since) ∙ ap (λ ms. b x ∷ ms) (marks_of-settled now b xs)
@@ -93,24 +93,6 @@ marks_of-settled now b (x ∷ xs) =
     shown : (mark : Bool) (since : Option Cs) → is_some (since_after now since mark) ≡ mark
     shown true since = refl
     shown false since = refl
-
--- a sort, a pass, and the moments set by it
-pub decides_from_pass : (now : ℕ) (o : IsImportanceOrder now) (caps : Caps) (before order after : List Entry) (streams : List ℕ)
-    → IsAscending before → IsPermutation before order → IsSortedBy (is_more_important now) order
-    → IsPermutation (taken caps 0 order) streams
-    → after ≡ settled now before (map (λ x. is_among streams (stream_of x)) before)
-    → Decides now caps before after
-decides_from_pass now o caps before order after streams up moved sorted among e =
-    let different : AreOfDifferentStreams order = different_permuted before order moved (different_from_ascending before up) in
-    let b : Entry → Bool = λ x. is_among streams (stream_of x) in
-    let c : Entry → Bool = λ x. is_among (taken caps 0 order) (stream_of x) in
-    let same : map c before ≡ map b before = map_agree c b before (all_of before (λ x. list_any-IsPermutation (λ s. s == stream_of x) (taken caps 0 order) streams among)) in
-    let marks : map b before ≡ marks_of after = sym (ap marks_of e ∙ marks_of-settled now b before) in
-    let d : IsDecision now caps before (map c before) = decision_from_pass now o caps before order moved (ranked_from_sorted now o order different sorted) different in
-    record {
-      decision = subst (λ (ms : List Bool). IsDecision now caps before ms) (same ∙ marks) d;
-      moments = e ∙ ap (settled now before) marks;
-    }
 
 pub decision_exists : (now : ℕ) (o : IsImportanceOrder now) (caps : Caps) (xs : List Entry)
     → AreOfDifferentStreams xs → (marks : List Bool) × IsDecision now caps xs marks

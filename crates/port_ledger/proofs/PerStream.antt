@@ -3,6 +3,7 @@ use Rattle.std.proofs.Common.{◌≡◌, ◌≢◌, ◌↔◌, ℕ, ◌<◌, Boo
 use Rattle.std.specs.Prelude.{find}
 use Rattle.std.specs.List.{AllByRecursion}
 use Rattle.std.proofs.lemmas.Bool.{eq-eqb, ne_eqb, and_parts, and_from, cases_order, cases_Bool, cond-true, cond-false, eqb-true, eqb-false}
+use Rattle.srp_base.specs.declared.numbers.Cs.{Cs}
 use Rattle.srp_base.specs.declared.numbers.StreamId.{StreamId}
 use Rattle.srp_base.specs.declared.bandwidth.Class.{Class}
 use Rattle.srp_base.specs.declared.bandwidth.Class.TheVariants.{A, B}
@@ -15,8 +16,8 @@ use Rattle.stream_importance.specs.declared.entry.Fit.TheVariants.{Fits, TooLitt
 use Rattle.stream_importance.specs.declared.slope.Caps.{Caps}
 use Rattle.stream_importance.specs.Bandwidth.{cap_of}
 use Rattle.stream_importance.specs.Importance.{class_number, rank_number, IsImportanceOrder}
-use Rattle.port_ledger.specs.Decision.{stream_of, booked_of, is_booked, does_fit, above, marks_of, settled, since_after, IsAscending, IsDecision, Decides}
-use Rattle.port_ledger.specs.Book.{entry_of, entry_with, want_of, since_of, since_if_same, same_want, unbooked, with_want, tested_as, fit_in, code_of}
+use Rattle.port_ledger.specs.Decision.{stream_of, decided, decided_set, booked_of, is_booked, does_fit, above, marks_of, settled, since_after, IsAscending, IsDecision, Decides}
+use Rattle.port_ledger.specs.Book.{entry_of, entry_with, want_of, since_of, since_if_same, same_entry, same_since, same_want, unbooked, with_want, tested_as, fit_in, code_of}
 use Rattle.port_ledger.proofs.Finding.{with_want-lower, with_want-same, with_want-higher}
 use Rattle.port_ledger.proofs.Marking.{marked-map, decision_unique, different_from_ascending}
 use Rattle.port_ledger.proofs.Running.{all_with}
@@ -50,7 +51,7 @@ same_rank Emergency Normal e = absurd (omega (arith, e))
 same_rank Normal Emergency e = absurd (omega (arith, e))
 same_rank Normal Normal e = refl
 
-same_want-refl : (a : Want) → same_want a a ≡ true
+pub same_want-refl : (a : Want) → same_want a a ≡ true
 same_want-refl a =
     let streams : Bool = a.stream.0 == a.stream.0 in
     let classes : Bool = class_number a.class == class_number a.class in
@@ -78,6 +79,27 @@ same_want-is a b h =
     ∙ (ap (λ r. record { stream = b.stream; class = b.class; rank = r; slope = a.slope }) rank
     ∙ ap (λ n. record { stream = b.stream; class = b.class; rank = b.rank; slope = n }) slope))
 
+-- so are moments
+pub same_since-is : (a b : Option Cs) → same_since a b ≡ true → a ≡ b
+same_since-is None None h = refl
+same_since-is None (Some b) h = cc
+same_since-is (Some a) None h = cc
+same_since-is (Some a) (Some b) h = ap (λ n. Some (record { 0 = n })) (eqb-true a.0 b.0 h)
+
+same_since-refl : (a : Option Cs) → same_since a a ≡ true
+same_since-refl None = refl
+same_since-refl (Some a) = eq-eqb a.0 a.0 refl
+
+-- and entries
+pub same_entry-is : (x y : Entry) → same_entry x y ≡ true → x ≡ y
+same_entry-is x y h =
+    let both = and_parts (same_want x.want y.want) (same_since x.since y.since) h in
+    ap (λ w. record { want = w; since = x.since }) (same_want-is x.want y.want both.0)
+    ∙ ap (λ s. record { want = y.want; since = s }) (same_since-is x.since y.since both.1)
+
+pub same_entry-refl : (x : Entry) → same_entry x x ≡ true
+same_entry-refl x = and_from (same_want x.want x.want) (same_since x.since x.since) (same_want-refl x.want) (same_since-refl x.since)
+
 -- the entry that stands in an entry's place has the want
 want-entry_with : (x : Entry) (want : Want) → (entry_with x want).want ≡ want
 want-entry_with x want = by_test (same_want x.want want) (same_want-is x.want want)
@@ -87,11 +109,11 @@ want-entry_with x want = by_test (same_want x.want want) (same_want-is x.want wa
     by_test false f = refl
 
 -- the first entry is that of the stream, or the stream's entry is further on
-want_of-here : (x : Entry) (xs : List Entry) (s : StreamId) → stream_of x ≡ s.0 → want_of (x ∷ xs) s ≡ Some x.want
+pub want_of-here : (x : Entry) (xs : List Entry) (s : StreamId) → stream_of x ≡ s.0 → want_of (x ∷ xs) s ≡ Some x.want
 want_of-here x xs s e =
     ap (λ v. option_map (λ (y : Entry). y.want) (cond v (Some x) (entry_of xs s))) (eq-eqb (stream_of x) s.0 e)
 
-want_of-past : (x : Entry) (xs : List Entry) (s : StreamId) → stream_of x ≢ s.0 → want_of (x ∷ xs) s ≡ want_of xs s
+pub want_of-past : (x : Entry) (xs : List Entry) (s : StreamId) → stream_of x ≢ s.0 → want_of (x ∷ xs) s ≡ want_of xs s
 want_of-past x xs s ne =
     ap (λ v. option_map (λ (y : Entry). y.want) (cond v (Some x) (entry_of xs s))) (ne_eqb (stream_of x) s.0 ne)
 
@@ -99,7 +121,7 @@ stream_of-entry_with : (x : Entry) (want : Want) → stream_of (entry_with x wan
 stream_of-entry_with x want = ap (λ (w : Want). w.stream.0) (want-entry_with x want)
 
 -- with a want, its stream has that one
-want_of-own : (want : Want) (xs : List Entry) (s : StreamId) → s.0 ≡ want.stream.0
+pub want_of-own : (want : Want) (xs : List Entry) (s : StreamId) → s.0 ≡ want.stream.0
     → want_of (with_want xs want) s ≡ Some want
 want_of-own want [] s e = want_of-here (unbooked want) [] s (sym e)
 want_of-own want (x ∷ xs) s e =
@@ -116,7 +138,7 @@ want_of-own want (x ∷ xs) s e =
     ]
 
 -- and each other stream has what it had
-want_of-other : (want : Want) (xs : List Entry) (s : StreamId) → s.0 ≢ want.stream.0
+pub want_of-other : (want : Want) (xs : List Entry) (s : StreamId) → s.0 ≢ want.stream.0
     → want_of (with_want xs want) s ≡ want_of xs s
 want_of-other want [] s ne = want_of-past (unbooked want) [] s (λ e. ne (sym e))
 want_of-other want (x ∷ xs) s ne =
@@ -141,7 +163,7 @@ want_of-other want (x ∷ xs) s ne =
     ]
 
 -- a decision changes no want
-want_of-settled : (now : ℕ) (b : Entry → Bool) (xs : List Entry) (s : StreamId)
+pub want_of-settled : (now : ℕ) (b : Entry → Bool) (xs : List Entry) (s : StreamId)
     → want_of (settled now xs (map b xs)) s ≡ want_of xs s
 want_of-settled now b [] s = refl
 want_of-settled now b (x ∷ xs) s =
@@ -154,15 +176,26 @@ want_of-decided : (now : ℕ) (caps : Caps) (before after : List Entry) (s : Str
 want_of-decided now caps before after s d =
     ap (λ ys. want_of ys s) (d.moments ∙ ap (settled now before) d.decision) ∙ want_of-settled now _ before s
 
+-- of its own stream the want, and of each other stream the want that it had
+want_of-with_want : (want : Want) (old : List Entry) (s : StreamId)
+    → want_of (with_want old want) s ≡ cond (s.0 == want.stream.0) (Some want) (want_of old s)
+want_of-with_want want old s =
+    elim (cases_Bool (s.0 == want.stream.0)) [
+      | inl h ↦ want_of-own want old s (eqb-true s.0 want.stream.0 h) ∙ sym (cond-true (s.0 == want.stream.0) (Some want) (want_of old s) h)
+      | inr h ↦ want_of-other want old s (eqb-false s.0 want.stream.0 h) ∙ sym (cond-false (s.0 == want.stream.0) (Some want) (want_of old s) h)
+    ]
+
+pub wants_wanted : (now : ℕ) (caps : Caps) (old : List Entry) (want : Want) (s : StreamId)
+    → want_of (decided now caps (with_want old want)) s ≡ cond (s.0 == want.stream.0) (Some want) (want_of old s)
+unfolding decided
+wants_wanted now caps old want s =
+    want_of-settled now (does_fit now caps (decided_set now caps (with_want old want))) (with_want old want) s ∙ want_of-with_want want old s
+
 pub wants_kept : (now : ℕ) (caps : Caps) (old new : List Entry) (want : Want)
     → Decides now caps (with_want old want) new
     → (s : StreamId) → want_of new s ≡ cond (s.0 == want.stream.0) (Some want) (want_of old s)
 wants_kept now caps old new want d s =
-    want_of-decided now caps (with_want old want) new s d
-    ∙ elim (cases_Bool (s.0 == want.stream.0)) [
-      | inl h ↦ want_of-own want old s (eqb-true s.0 want.stream.0 h) ∙ sym (cond-true (s.0 == want.stream.0) (Some want) (want_of old s) h)
-      | inr h ↦ want_of-other want old s (eqb-false s.0 want.stream.0 h) ∙ sym (cond-false (s.0 == want.stream.0) (Some want) (want_of old s) h)
-    ]
+    want_of-decided now caps (with_want old want) new s d ∙ want_of-with_want want old s
 
 -- no stream below all of a list has an entry there
 want_of-none : (s : StreamId) (xs : List Entry) → AllByRecursion (λ y. s.0 < stream_of y) xs → want_of xs s ≡ None
@@ -170,7 +203,7 @@ want_of-none s [] h = refl
 want_of-none s (x ∷ xs) h = want_of-past x xs s (λ e. let l : s.0 < stream_of x = h.0 in omega (arith, e, l)) ∙ want_of-none s xs h.1
 
 -- a want that is kept adds nothing
-with_want-again : (want : Want) (xs : List Entry) → IsAscending xs → want_of xs want.stream ≡ Some want
+pub with_want-again : (want : Want) (xs : List Entry) → IsAscending xs → want_of xs want.stream ≡ Some want
     → with_want xs want ≡ xs
 with_want-again want [] up h = cc
 with_want-again want (x ∷ xs) up h =
@@ -192,7 +225,7 @@ with_want-again want (x ∷ xs) up h =
     ]
 
 -- entries that are decided already are left as they are
-decided_again : (now : ℕ) (o : IsImportanceOrder now) (caps : Caps) (xs ys : List Entry) → IsAscending xs
+pub decided_again : (now : ℕ) (o : IsImportanceOrder now) (caps : Caps) (xs ys : List Entry) → IsAscending xs
     → IsDecision now caps xs (marks_of xs) → Decides now caps xs ys → ys ≡ xs
 decided_again now o caps xs ys up d decides =
     decides.moments

@@ -1,9 +1,9 @@
 -- The entries in the order of importance, and what doesn't depend on the order of a list.
-use Rattle.std.proofs.Common.{◌≡◌, ◌≢◌, ◌⊎◌, ℕ, suc, ◌+◌, ◌<◌, ◌≤◌, Bool, true, false, not, ◌==◌, cond, List, [], ◌∷◌, length, get_or, refl, sym, ◌∙◌, ap, subst, arith, inl, inr, true≢false, zero-add}
+use Rattle.std.proofs.Common.{◌≡◌, ◌≢◌, ◌⊎◌, ℕ, ◌+◌, ◌≤◌, Bool, true, false, not, ◌==◌, cond, List, [], ◌∷◌, refl, sym, ◌∙◌, ap, subst, arith, inl, inr, true≢false, zero-add}
 use Rattle.std.specs.Prelude.{nat_le}
-use Rattle.std.specs.List.{AllByRecursion, All}
-use Rattle.std.specs.List.Sorted.{IsPermutation, IsSortedBy}
-use Rattle.std.proofs.lemmas.List.Sorted.{sorted_far, IsPermutation-refl, IsPermutation-cons, IsPermutation-swap, IsPermutation-trans, All-permutation, sum_by-IsPermutation}
+use Rattle.std.specs.List.{AllByRecursion}
+use Rattle.std.specs.List.Sorted.{IsPermutation}
+use Rattle.std.proofs.lemmas.List.Sorted.{IsPermutation-refl, IsPermutation-cons, IsPermutation-swap, IsPermutation-trans, All-permutation, sum_by-IsPermutation}
 use Rattle.std.proofs.lemmas.List.Elements.{All-from_recursion, recursion_from_All}
 use Rattle.std.proofs.lemmas.List.Recursion.{is_sum_by}
 use Rattle.std.proofs.lemmas.Bool.{ne_eqb, eq-eqb, and_parts, and_from, not_from_false, cases_Bool, eqb-true}
@@ -12,6 +12,7 @@ use Rattle.stream_importance.specs.declared.slope.Caps.{Caps}
 use Rattle.stream_importance.specs.Bandwidth.{cap_of}
 use Rattle.stream_importance.specs.Importance.{is_more_important, IsImportanceOrder}
 use Rattle.port_ledger.specs.Decision.{stream_of, entry_slope, is_preceded_by, AreOfDifferentStreams}
+use Rattle.port_ledger.specs.Pass.{place, ranked}
 use Rattle.port_ledger.proofs.Running.{part, IsRanked, Holds, all_with}
 
 -- of two entries of different streams one goes before the other
@@ -31,40 +32,7 @@ goes_far now o x y z ne h k =
     (o.transitive x y z (and_parts (not (stream_of x == stream_of y)) (is_more_important now x y) h).1
     (and_parts (not (stream_of y == stream_of z)) (is_more_important now y z) k).1)
 
--- what isn't after goes before
-goes_if_not_after : (now : ℕ) (o : IsImportanceOrder now) (x y : Entry) → stream_of x ≢ stream_of y
-    → is_more_important now y x ≡ false → is_preceded_by now y x ≡ true
-goes_if_not_after now o x y ne h =
-    elim (goes_either_way now o x y ne) [
-      | inl k ↦ k
-      | inr k ↦ absurd (true≢false (sym (and_parts (not (stream_of y == stream_of x)) (is_more_important now y x) k).1 ∙ h))
-    ]
-
--- a sort by importance puts entries of different streams in order
-pub ranked_from_places : (now : ℕ) (o : IsImportanceOrder now) (xs : List Entry) → AreOfDifferentStreams xs
-    → ((i j : ℕ) (d : Entry) → i < j → j < length xs → is_more_important now (get_or xs j d) (get_or xs i d) ≡ false)
-    → IsRanked now xs
-ranked_from_places now o [] different h = tt
-ranked_from_places now o (x ∷ xs) different h =
-    let after : All (λ y. is_more_important now y x ≡ false) xs = λ k d l. h 0 (suc k) d (omega arith) (omega arith) in (
-      all_with xs different.0 (recursion_from_All (λ y. is_more_important now y x ≡ false) xs after) (λ y ne no. goes_if_not_after now o x y ne no),
-      ranked_from_places now o xs different.1 (λ i j d l k. h (suc i) (suc j) d (omega arith) (omega arith)),
-    )
-
-pub ranked_from_sorted : (now : ℕ) (o : IsImportanceOrder now) (xs : List Entry) → AreOfDifferentStreams xs
-    → IsSortedBy (is_more_important now) xs → IsRanked now xs
-ranked_from_sorted now o xs different sorted =
-    ranked_from_places now o xs different (λ i j d l k. sorted_far (is_more_important now) o.ranks xs sorted i j d (omega arith) k)
-
--- the entries in the order of importance, by insertion
-abbrev place : ℕ → Entry → List Entry → List Entry
-place now x [] = x ∷ []
-place now x (y ∷ ys) = cond (is_preceded_by now y x) (x ∷ y ∷ ys) (y ∷ place now x ys)
-
-abbrev pub ranked : ℕ → List Entry → List Entry
-ranked now [] = []
-ranked now (x ∷ xs) = place now x (ranked now xs)
-
+-- what is placed is among the others
 IsPermutation-place : (now : ℕ) (x : Entry) (ys : List Entry) → IsPermutation (x ∷ ys) (place now x ys)
 IsPermutation-place now x [] = IsPermutation-refl (x ∷ [])
 IsPermutation-place now x (y ∷ ys) =

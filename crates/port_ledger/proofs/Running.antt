@@ -91,7 +91,7 @@ total-none b now o x (e ∷ es) h =
     omega (arith, w, r)
 
 -- at the head nothing goes before
-total-head : (b : Entry → Bool) (now : ℕ) (o : IsImportanceOrder now) (x : Entry) (xs : List Entry)
+pub total-head : (b : Entry → Bool) (now : ℕ) (o : IsImportanceOrder now) (x : Entry) (xs : List Entry)
     → AllByRecursion (λ y. is_preceded_by now y x ≡ true) xs → total b now x (x ∷ xs) ≡ 0
 total-head b now o x xs h =
     let w : cond (b x) (cond (is_preceded_by now x x) (entry_slope x) 0) 0 ≡ 0 = weight-no (b x) (is_preceded_by now x x) (entry_slope x) (not_itself now x) in
@@ -99,7 +99,7 @@ total-head b now o x xs h =
     omega (arith, w, r)
 
 -- further on the head counts where it is chosen
-total-tail : (b : Entry → Bool) (now : ℕ) (x y : Entry) (xs : List Entry) (sum : ℕ)
+pub total-tail : (b : Entry → Bool) (now : ℕ) (x y : Entry) (xs : List Entry) (sum : ℕ)
     → is_preceded_by now y x ≡ true
     → sum + cond (b x) (entry_slope x) 0 + total b now y xs ≡ sum + total b now y (x ∷ xs)
 total-tail b now x y xs sum h =

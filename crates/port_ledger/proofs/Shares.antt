@@ -17,7 +17,8 @@ use Rattle.stream_importance.specs.Importance.{class_number, rank_number, moment
 use Rattle.port_ledger.specs.Decision.{stream_of, entry_slope, above, does_fit, is_preceded_by, is_booked, booked_of, marks_of, IsDecision, AreOfDifferentStreams}
 use Rattle.port_ledger.specs.Book.{Book, IsKept, IsFitWithin, booked_slope, code_of, fit_in}
 use Rattle.port_ledger.proofs.Running.{part, sum-filter, weight-no, weight-yes, IsRanked, Runs, all_with}
-use Rattle.port_ledger.proofs.Ranking.{ranked, ranked_is_ranked, IsPermutation-ranked, part-IsPermutation}
+use Rattle.port_ledger.specs.Pass.{ranked}
+use Rattle.port_ledger.proofs.Ranking.{ranked_is_ranked, IsPermutation-ranked, part-IsPermutation}
 use Rattle.port_ledger.proofs.Marking.{choice, different_from_ascending, marked-map, marked-choice, holds_from_decision, ranked_runs}
 
 -- the entries of a class

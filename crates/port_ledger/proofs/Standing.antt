@@ -17,7 +17,7 @@ use Rattle.port_ledger.specs.Book.{Book, IsKept}
 use Rattle.port_ledger.proofs.Running.{sum-filter-cons}
 
 -- a later moment of the other entry makes nothing less important than it was
-less_is_below : (p q : ℕ) → p < q → nat_cmp p q ≡ Less
+pub less_is_below : (p q : ℕ) → p < q → nat_cmp p q ≡ Less
 less_is_below p q h = grind (arith, nat_tests)
 
 same_is_equal : (p q : ℕ) → p ≡ q → nat_cmp p q ≡ Equal

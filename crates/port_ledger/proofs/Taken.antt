@@ -1,14 +1,24 @@
 -- What one pass over entries of different streams lets in runs beside the running sum.
-use Rattle.std.proofs.Common.{◌≡◌, ◌≢◌, ℕ, ◌+◌, true, false, ◌||◌, ◌==◌, cond, List, [], ◌∷◌, refl, sym, ◌∙◌, ap, arith}
+use Rattle.std.proofs.Common.{◌≡◌, ◌≢◌, ℕ, ◌+◌, Bool, true, false, ◌||◌, ◌==◌, cond, List, [], ◌∷◌, refl, sym, ◌∙◌, ap, arith}
 use Rattle.std.specs.Prelude.{nat_le}
-use Rattle.std.specs.List.{AllByRecursion}
+use Rattle.std.specs.List.{AllByRecursion, list_any}
 use Rattle.std.proofs.lemmas.Bool.{ne_eqb, eq-eqb, or_from, or_left}
 use Rattle.stream_importance.specs.declared.entry.Entry.{Entry}
 use Rattle.stream_importance.specs.declared.slope.Caps.{Caps}
 use Rattle.stream_importance.specs.Bandwidth.{cap_of}
 use Rattle.port_ledger.specs.Decision.{stream_of, entry_slope, AreOfDifferentStreams}
-use Rattle.port_ledger.specs.Pass.{is_among, taken}
 use Rattle.port_ledger.proofs.Running.{Runs, runs_like, all_with}
+
+-- whether a stream is one of these
+abbrev pub is_among : List ℕ → ℕ → Bool
+is_among streams stream = list_any (λ s. s == stream) streams
+
+-- the StreamIDs of the entries that are let in, beside a sum that is taken already
+abbrev pub taken : Caps → ℕ → List Entry → List ℕ
+taken caps sum [] = []
+taken caps sum (x ∷ xs) =
+    cond (nat_le (sum + entry_slope x) (cap_of caps x.want.class)) (stream_of x ∷ taken caps (sum + entry_slope x) xs)
+    (taken caps sum xs)
 
 -- a stream that no entry is of isn't let in
 taken_not : (caps : Caps) (sum stream : ℕ) (xs : List Entry) → AllByRecursion (λ y. stream ≢ stream_of y) xs

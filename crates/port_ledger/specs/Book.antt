@@ -11,7 +11,7 @@ use Rattle.stream_importance.specs.declared.entry.Fit.TheVariants.{Fits, TooLitt
 use Rattle.stream_importance.specs.declared.slope.Caps.{Caps}
 use Rattle.stream_importance.specs.Bandwidth.{cap_of}
 use Rattle.stream_importance.specs.Importance.{class_number, rank_number, moment_or}
-use Rattle.port_ledger.specs.Decision.{stream_of, entry_slope, above, does_fit, is_booked, booked_of, marks_of, IsAscending, IsDecision}
+use Rattle.port_ledger.specs.Decision.{stream_of, entry_slope, above, decided, does_fit, is_booked, booked_of, marks_of, IsAscending, IsDecision}
 
 -- a ledger: its caps in bit/s, the last moment that was handed to it in cs, and the wanting streams
 pub record Book : Type 0 where
@@ -71,6 +71,39 @@ with_want (x ∷ xs) want =
     if nat_lt want.stream.0 (stream_of x)
     then unbooked want ∷ x ∷ xs
     else if want.stream.0 == stream_of x then entry_with x want ∷ xs else x ∷ with_want xs want
+
+-- the entries once a stream wants nothing
+abbrev pub without : List Entry → StreamId → List Entry
+without entries stream = filter (λ x. not (stream_of x == stream.0)) entries
+
+-- a book without entries
+abbrev pub empty_book : Caps → Book
+empty_book caps = record { caps = caps; moment = 0; entries = [] }
+
+-- the book after these entries are decided at a moment in cs
+abbrev pub decided_book : ℕ → List Entry → Book → Book
+decided_book now entries book = record book { moment = now; entries = decided now book.caps entries }
+
+-- the book after a want at a moment
+abbrev pub wanted_book : ℕ → Want → Book → Book
+wanted_book now want book = decided_book now (with_want book.entries want) book
+
+-- the book after a stream wants nothing more, at a moment
+abbrev pub unwanted_book : ℕ → StreamId → Book → Book
+unwanted_book now stream book = decided_book now (without book.entries stream) book
+
+-- the book at a later moment
+abbrev pub clocked_book : ℕ → Book → Book
+clocked_book now book = record book { moment = now }
+
+-- booked since this moment
+abbrev pub is_since : ℕ → Option Cs → Bool
+is_since moment None = false
+is_since moment (Some since) = since.0 == moment
+
+-- some booking is as old as the book's moment, so that with a later moment it is older than what isn't booked
+abbrev pub has_new_booking : Book → Bool
+has_new_booking book = list_any (λ x. is_since book.moment x.since) book.entries
 
 -- the streams, ascending, whose booked entry with its want and its moment is in these and not in those
 abbrev pub booked_only_in : List Entry → List Entry → List StreamId

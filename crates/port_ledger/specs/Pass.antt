@@ -1,21 +1,82 @@
--- How the code finds the decided set: the streams that one pass in the order of importance lets in, entry
--- by entry, each where the sum of those before it leaves room. No public contract names it; what is
--- promised is the condition on a set in `Decision`.
-use Rattle.std.specs.Prelude.{ℕ, ◌+◌, nat_le, List, [], ◌∷◌, if◌then◌else◌, Bool, ◌==◌}
-use Rattle.std.specs.List.{list_any}
+-- How the code finds the decided set: it keeps the entries in the order of importance, puts them back into
+-- that order at each decision, and goes through them once with a running sum; and how it compares two lists
+-- in one walk. No public contract names it; what is promised is the condition on a set in `Decision`.
+use Rattle.std.specs.Prelude.{◌≡◌, ℕ, ◌+◌, Bool, false, not, ◌&&◌, nat_le, nat_lt, List, [], ◌∷◌, ◌++◌, map, Option, if◌then◌else◌, ◌==◌}
+use Rattle.std.specs.List.{AllByRecursion}
+use Rattle.srp_base.specs.declared.numbers.Cs.{Cs}
+use Rattle.srp_base.specs.declared.numbers.StreamId.{StreamId}
 use Rattle.stream_importance.specs.declared.entry.Entry.{Entry}
+use Rattle.stream_importance.specs.declared.entry.Want.{Want}
 use Rattle.stream_importance.specs.declared.slope.Caps.{Caps}
 use Rattle.stream_importance.specs.Bandwidth.{cap_of}
-use Rattle.port_ledger.specs.Decision.{stream_of, entry_slope}
+use Rattle.port_ledger.specs.Decision.{stream_of, entry_slope, is_booked, is_preceded_by, since_after}
+use Rattle.port_ledger.specs.Book.{entry_with, same_entry, unbooked}
 
--- whether a stream is one of these
-abbrev pub is_among : List ℕ → ℕ → Bool
-is_among streams stream = list_any (λ s. s == stream) streams
+-- an entry among entries in the order of importance: before the first that it precedes
+abbrev pub place : ℕ → Entry → List Entry → List Entry
+place now x [] = x ∷ []
+place now x (y ∷ ys) = if is_preceded_by now y x then x ∷ y ∷ ys else y ∷ place now x ys
 
--- the StreamIDs of the entries that are let in, beside a sum that is taken already
-abbrev pub taken : Caps → ℕ → List Entry → List ℕ
-taken caps sum [] = []
-taken caps sum (x ∷ xs) =
-    if nat_le (sum + entry_slope x) (cap_of caps x.want.class)
-    then stream_of x ∷ taken caps (sum + entry_slope x) xs
-    else taken caps sum xs
+-- the first entry among the others, which are in the order of importance
+abbrev pub place_first : ℕ → List Entry → List Entry
+place_first now [] = []
+place_first now (x ∷ xs) = place now x xs
+
+-- the entries in the order of importance
+abbrev pub ranked : ℕ → List Entry → List Entry
+ranked now [] = []
+ranked now (x ∷ xs) = place now x (ranked now xs)
+
+-- beside a sum that is taken already there is room for an entry
+abbrev pub has_room : Caps → ℕ → Entry → Bool
+has_room caps sum x = nat_le (sum + entry_slope x) (cap_of caps x.want.class)
+
+-- the sum once an entry was let in, or not
+abbrev pub sum_with : ℕ → Entry → Bool → ℕ
+sum_with sum x let_in = if let_in then sum + entry_slope x else sum
+
+-- the entries with the moments that one pass gives them, beside a sum that is taken already
+abbrev pub passed : ℕ → Caps → ℕ → List Entry → List Entry
+passed now caps sum [] = []
+passed now caps sum (x ∷ xs) =
+    record x { since = since_after now x.since (has_room caps sum x) }
+    ∷ passed now caps (sum_with sum x (has_room caps sum x)) xs
+
+-- these entries, with that moment at the stream of an entry
+abbrev pub with_since : List Entry → Entry → Option Cs → List Entry
+with_since entries x since =
+    map (λ (e : Entry). if stream_of e == stream_of x then record e { since = since } else e) entries
+
+-- these entries, with the moments that the pass over those gives
+abbrev pub passed_in : ℕ → Caps → ℕ → List Entry → List Entry → List Entry
+passed_in now caps sum [] entries = entries
+passed_in now caps sum (x ∷ xs) entries =
+    passed_in now caps (sum_with sum x (has_room caps sum x)) xs
+    (with_since entries x (since_after now x.since (has_room caps sum x)))
+
+-- no other entry of these is of the entry's stream
+abbrev pub IsOnlyIn : List Entry → Entry → Type 0
+IsOnlyIn entries x = AllByRecursion (λ e. stream_of e ≡ stream_of x → e ≡ x) entries
+
+-- the entries once a want of a stream that has an entry has come
+abbrev pub rewanted : List Entry → Want → List Entry
+rewanted entries want =
+    map (λ x. if stream_of x == want.stream.0 then entry_with x want else x) entries
+
+-- the order once a want has come, of a stream that has an entry in it or is new and goes last
+abbrev pub order_with : List Entry → Want → Bool → List Entry
+order_with order want known = if known then rewanted order want else order ++ unbooked want ∷ []
+
+-- the entries from the first on that isn't below a stream
+abbrev pub from_stream : List Entry → StreamId → List Entry
+from_stream [] stream = []
+from_stream (x ∷ xs) stream = if nat_lt (stream_of x) stream.0 then from_stream xs stream else x ∷ xs
+
+-- an entry stands first
+abbrev pub begins_with : List Entry → Entry → Bool
+begins_with [] x = false
+begins_with (y ∷ ys) x = same_entry x y
+
+-- an entry is booked, and doesn't stand first
+abbrev pub is_missing : List Entry → Entry → Bool
+is_missing entries x = is_booked x && not (begins_with entries x)

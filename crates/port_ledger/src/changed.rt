@@ -1,11 +1,10 @@
 //! What a call changed in the booked set.
 
 ghost use Rattle.std.specs.Prelude.{◌≡◌, IfOk};
-ghost use Rattle.std.specs.List.{list_any};
 ghost use Rattle.port_ledger.specs.Book.{booked_only_in, same_entry};
 ghost use Rattle.port_ledger.specs.Decision.{IsAscending};
+ghost use Rattle.port_ledger.specs.Pass.{begins_with, from_stream, is_missing};
 
-use crate::entries::find_entry;
 use srp_base::{NoMemory, Seq, StreamId};
 use std::alloc::Global;
 use stream_importance::Entry;
@@ -32,31 +31,51 @@ pub(crate) fn changes(alloc: Global, before: &[Entry], after: &[Entry]) -> Resul
     Ok(Changed { booked, dropped })
 }
 
-/// The streams, ascending, whose booked entry is in these and not in those.
+/// The streams, ascending, whose booked entry is in these and not in those: one walk along both.
 fn booked_only_in(
     alloc: Global,
     these: &[Entry],
     those: &[Entry],
 ) -> Result<Seq<StreamId>, NoMemory>
-    requires { IsAscending those.now }
+    requires these { IsAscending these.now }
+    requires those { IsAscending those.now }
     ensures { IfOk result (λ s. s ≡ booked_only_in these.now those.now) }
 {
     let mut streams = Vec::new(alloc);
+    let mut rest = those;
     for x in these {
-        if x.since.is_some() && !has_entry(those, x) {
+        rest = from_stream(rest, x.want.stream);
+        if is_missing(rest, x) {
             streams.push(x.want.stream)?;
         }
     }
     Ok(Seq::from_vec(streams))
 }
 
-fn has_entry(entries: &[Entry], x: &Entry) -> bool
-    requires { IsAscending entries.now }
-    ensures { result ≡ list_any (same_entry x.now) entries.now }
+/// The entries from the first on that isn't below the stream.
+fn from_stream(entries: &[Entry], stream: StreamId) -> &[Entry]
+    ensures { result.now ≡ from_stream entries.now stream }
 {
-    match find_entry(entries, x.want.stream) {
-        Some(other) => same_entry(x, &other),
-        None => false,
+    let mut at = 0;
+    while at < entries.len() && entries[at].want.stream < stream {
+        at += 1;
+    }
+    &entries[at..]
+}
+
+/// Whether an entry is booked and doesn't stand first.
+fn is_missing(entries: &[Entry], x: &Entry) -> bool
+    ensures { result ≡ is_missing entries.now x.now }
+{
+    x.since.is_some() && !begins_with(entries, x)
+}
+
+fn begins_with(entries: &[Entry], x: &Entry) -> bool
+    ensures { result ≡ begins_with entries.now x.now }
+{
+    match entries {
+        [] => false,
+        [first, ..] => same_entry(x, first),
     }
 }
 

@@ -1,108 +1,140 @@
-//! Which entries are booked at a moment: a sort by importance, one pass with a running sum, and the
-//! moments set accordingly.
+//! Which entries are booked at a moment: one pass with a running sum over the entries in the order of
+//! importance, and the moments set accordingly.
 
-ghost use Rattle.std.specs.Prelude.{◌≡◌, ◌<◌, map, IfOk, OnOk, OnErr};
-ghost use Rattle.std.specs.List.Sorted.{IsPermutation, IsSortedBy, IsNonDecreasing};
-ghost use Rattle.stream_importance.specs.Importance.{is_more_important};
-ghost use Rattle.port_ledger.specs.Book.{with_want};
-ghost use Rattle.port_ledger.specs.Decision.{Decides, IsAscending, settled, since_after, stream_of};
-ghost use Rattle.port_ledger.specs.Pass.{is_among, taken};
+ghost use Rattle.std.specs.Prelude.{◌≡◌, ◌+◌, ◌≤◌, true, IfOk, IsPermutation};
+ghost use Rattle.std.specs.List.{AllByRecursion};
+ghost use Rattle.port_ledger.specs.Book.{same_since, with_want, without};
+ghost use Rattle.port_ledger.specs.Decision.{AreOfDifferentStreams, decided, IsAscending, since_after};
+ghost use Rattle.port_ledger.specs.Pass.{has_room, IsOnlyIn, passed, passed_in, sum_with, with_since};
+ghost use Rattle.stream_importance.specs.Bandwidth.{cap_of};
 
-use crate::entries::entries_with;
-use srp_base::{Cs, NoMemory};
+use crate::entries::{entries_with, find_entry, place_of, take_out};
+use crate::order::{order_with, rank};
+use srp_base::{Cs, NoMemory, StreamId};
 use std::alloc::Global;
-use stream_importance::{Caps, Entry, Want, compare_importance, importance_is_an_order};
+use stream_importance::{Caps, Entry, Want, importance_is_an_order};
 
-/// The entries once this want has come and they are decided at a moment.
-pub(crate) fn decided_with(
+/// The entries and their order once this want has come, decided at a moment.
+pub(crate) fn wanted(
     alloc: Global,
     now: Cs,
     caps: &Caps,
     entries: &[Entry],
+    order: &[Entry],
     want: Want,
-) -> Result<Vec<Entry>, NoMemory>
-    requires { IsAscending entries.now }
-    ensures decided { IfOk result (λ v. Decides now.0 caps.now (with_want entries.now want) v.items) }
-    ensures ascending { IfOk result (λ v. IsAscending v.items) }
+) -> Result<(Vec<Entry>, Vec<Entry>), NoMemory>
+    requires ascending { IsAscending entries.now }
+    requires same { IsPermutation entries.now order.now }
+    ensures decided { IfOk result (λ r. r.0.items ≡ decided now.0 caps.now (with_want entries.now want)) }
+    ensures same { IfOk result (λ r. IsPermutation r.0.items r.1.items) }
 {
+    let known = find_entry(entries, want.stream).is_some();
     let mut next = entries_with(alloc, entries, want)?;
-    decide(alloc, now, caps, &mut next)?;
-    Ok(next)
+    let mut next_order = order_with(alloc, order, want, known)?;
+    decide(now, caps, &mut next_order, &mut next);
+    Ok((next, next_order))
+}
+
+/// Takes a stream's entry out, and decides the others at a moment. It takes no memory.
+pub(crate) fn unwant(
+    now: Cs,
+    caps: &Caps,
+    entries: &mut Vec<Entry>,
+    order: &mut Vec<Entry>,
+    stream: StreamId,
+)
+    requires ascending { IsAscending entries.old.items }
+    requires same { IsPermutation entries.old.items order.old.items }
+    ensures decided { entries.new.items ≡ decided now.0 caps.now (without entries.old.items stream) }
+    ensures same { IsPermutation entries.new.items order.new.items }
+{
+    take_out(entries, stream);
+    take_out(order, stream);
+    decide(now, caps, order, entries);
 }
 
 /// Decides the entries at a moment: those that are booked keep their moment or get this one, the others
-/// have none. After want of memory they are as they were.
-fn decide(alloc: Global, now: Cs, caps: &Caps, entries: &mut Vec<Entry>) -> Result<(), NoMemory>
-    requires { IsAscending entries.old.items }
-    ensures ok { OnOk result (Decides now.0 caps.now entries.old.items entries.new.items) }
-    ensures err { OnErr result (entries.new.items ≡ entries.old.items) }
+/// have none. The order has the same entries; it is left in the order of importance that led to this.
+fn decide(now: Cs, caps: &Caps, order: &mut Vec<Entry>, entries: &mut Vec<Entry>)
+    requires ascending { IsAscending entries.old.items }
+    requires same { IsPermutation entries.old.items order.old.items }
+    ensures decided { entries.new.items ≡ decided now.0 caps.now entries.old.items }
+    ensures same { IsPermutation entries.new.items order.new.items }
+{
+    decide_in_place(now, caps, order.as_mut_slice(), entries.as_mut_slice());
+}
+
+fn decide_in_place(now: Cs, caps: &Caps, order: &mut [Entry], entries: &mut [Entry])
+    requires ascending { IsAscending entries.old }
+    requires same { IsPermutation entries.old order.old }
+    ensures decided { entries.new ≡ decided now.0 caps.now entries.old }
+    ensures same { IsPermutation entries.new order.new }
 {
     importance_is_an_order();
-    let order = by_importance(alloc, now, entries)?;
-    let streams = taken(alloc, caps, &order)?;
-    settle(now, &streams, entries);
-    Ok(())
+    rank(now, order);
+    pass(now, caps, order, entries);
 }
 
-fn by_importance(alloc: Global, now: Cs, entries: &[Entry]) -> Result<Vec<Entry>, NoMemory>
-    ensures permutation { IfOk result (λ v. IsPermutation entries.now v.items) }
-    ensures sorted { IfOk result (λ v. IsSortedBy (is_more_important now.0) v.items) }
+/// Lets in what there is room for, in the order given, and sets the moments.
+fn pass(now: Cs, caps: &Caps, order: &mut [Entry], entries: &mut [Entry])
+    requires ascending { IsAscending entries.old }
+    requires different { AreOfDifferentStreams order.old }
+    requires same { AllByRecursion (IsOnlyIn entries.old) order.old }
+    ensures order { order.new ≡ passed now.0 caps.now 0 order.old }
+    ensures entries { entries.new ≡ passed_in now.0 caps.now 0 order.old entries.old }
 {
-    importance_is_an_order();
-    let mut order = Vec::new(alloc);
-    order.extend_from_slice(entries)?;
-    order.sort_unstable_by(|x, y| compare_importance(now, x, y));
-    Ok(order)
-}
-
-/// The StreamIDs, ascending, of the entries that the ones before them leave room for.
-fn taken(alloc: Global, caps: &Caps, order: &[Entry]) -> Result<Vec<u64>, NoMemory>
-    ensures permutation { IfOk result (λ v. IsPermutation (taken caps.now 0 order.now) v.items) }
-    ensures ascending { IfOk result (λ v. IsNonDecreasing v.items) }
-{
-    let mut streams = pass(alloc, caps, order)?;
-    streams.sort_unstable();
-    Ok(streams)
-}
-
-fn pass(alloc: Global, caps: &Caps, order: &[Entry]) -> Result<Vec<u64>, NoMemory>
-    ensures { IfOk result (λ v. v.items ≡ taken caps.now 0 order.now) }
-{
-    let mut streams = Vec::new(alloc);
-    let mut sum: u128 = 0;
-    for x in order {
-        let with_x = sum + u128::from(x.want.slope);
-        if with_x <= u128::from(caps.of(x.want.class)) {
-            streams.push(x.want.stream.0)?;
-            sum = with_x;
-        }
-    }
-    Ok(streams)
-}
-
-fn settle(now: Cs, streams: &[u64], entries: &mut [Entry])
-    requires { IsNonDecreasing streams.now }
-    ensures { entries.new ≡ settled now.0 entries.old (map (λ x. is_among streams.now (stream_of x)) entries.old) }
-{
-    for entry in entries.iter_mut() {
-        entry.since = since_after(now, entry, streams);
+    let mut sum: u64 = 0;
+    for x in order.iter_mut() {
+        let let_in = has_room(caps, sum, x);
+        let since = since_after(now, x.since, let_in);
+        set_since(entries, x, since);
+        x.since = since;
+        sum = sum_with(caps, sum, x, let_in);
     }
 }
 
-fn since_after(now: Cs, entry: &Entry, streams: &[u64]) -> Option<Cs>
-    requires { IsNonDecreasing streams.now }
-    ensures { result ≡ since_after now.0 entry.now.since (is_among streams.now (stream_of entry.now)) }
+/// Whether an entry's slope, beside what is taken, stays at or under its cap.
+fn has_room(caps: &Caps, sum: u64, x: &Entry) -> bool
+    ensures { result ≡ has_room caps.now sum x.now }
 {
-    if is_among(streams, entry.want.stream.0) {
-        Some(entry.since.unwrap_or(now))
+    let cap = caps.of(x.want.class);
+    sum <= cap && x.want.slope <= cap - sum
+}
+
+fn sum_with(caps: &Caps, sum: u64, x: &Entry, let_in: bool) -> u64
+    requires { let_in ≡ true → sum + x.now.want.slope ≤ cap_of caps.now x.now.want.class }
+    ensures { result ≡ sum_with sum x.now let_in }
+{
+    let _cap = caps.of(x.want.class);
+    if let_in { sum + x.want.slope } else { sum }
+}
+
+fn since_after(now: Cs, since: Option<Cs>, booked: bool) -> Option<Cs>
+    ensures { result ≡ since_after now.0 since booked }
+{
+    if booked {
+        Some(since.unwrap_or(now))
     } else {
         None
     }
 }
 
-fn is_among(streams: &[u64], stream: u64) -> bool
-    requires { IsNonDecreasing streams.now }
-    ensures { result ≡ is_among streams.now stream }
+/// Sets the moment of the entry among these, where it differs.
+fn set_since(entries: &mut [Entry], x: &Entry, since: Option<Cs>)
+    requires ascending { IsAscending entries.old }
+    requires only { IsOnlyIn entries.old x.now }
+    ensures { entries.new ≡ with_since entries.old x.now since }
 {
-    streams.binary_search(&stream).is_ok()
+    if same_since(x.since, since) {
+        return;
+    }
+    if let Ok(place) = place_of(entries, x.want.stream) {
+        entries[place].since = since;
+    }
+}
+
+fn same_since(one: Option<Cs>, other: Option<Cs>) -> bool
+    ensures { result ≡ same_since one other }
+{
+    one == other
 }

@@ -1,11 +1,11 @@
 //! The wanting streams as a list that ascends by StreamID.
 
-ghost use Rattle.std.specs.Prelude.{◌≡◌, ◌<◌, ◌≤◌, length, IfOk, IfErr, OnOk};
-ghost use Rattle.std.specs.List.{AllWithin, HoldsAt};
-ghost use Rattle.port_ledger.specs.Book.{entry_of, entry_with, with_want};
-ghost use Rattle.port_ledger.specs.Decision.{IsAscending, stream_of};
+ghost use Rattle.std.specs.Prelude.{◌≡◌, ◌==◌, position, ◌<◌, ◌≤◌, length, IfOk, IfErr, OnOk};
+ghost use Rattle.std.specs.List.{AllWithin, HoldsAt, list_any};
+ghost use Rattle.port_ledger.specs.Book.{entry_of, entry_with, is_since, with_want, without};
+ghost use Rattle.port_ledger.specs.Decision.{AreOfDifferentStreams, booked_of, IsAscending, stream_of};
 
-use srp_base::{NoMemory, StreamId};
+use srp_base::{Cs, NoMemory, Seq, StreamId};
 use std::alloc::Global;
 use stream_importance::{Entry, Want};
 
@@ -30,6 +30,23 @@ pub(crate) fn find_entry(entries: &[Entry], stream: StreamId) -> Option<Entry>
         Ok(place) => Some(entries[place]),
         Err(_) => None,
     }
+}
+
+/// The stream's entry is taken out, where there is one. It takes no memory.
+pub(crate) fn take_out(entries: &mut Vec<Entry>, stream: StreamId)
+    requires { AreOfDifferentStreams entries.old.items }
+    ensures { entries.new.items ≡ without entries.old.items stream }
+{
+    if let Some(place) = position_of(entries, stream) {
+        entries.remove(place);
+    }
+}
+
+/// The place of the stream's entry among entries in any order.
+fn position_of(entries: &[Entry], stream: StreamId) -> Option<usize>
+    ensures { result ≡ position (λ x. stream_of x == stream.0) entries.now }
+{
+    entries.iter().position(|x| x.want.stream == stream)
 }
 
 /// The entries once this want has come.
@@ -58,11 +75,40 @@ fn put(entries: &mut Vec<Entry>, want: Want) -> Result<(), NoMemory>
     Ok(())
 }
 
-fn entry_with(entry: Entry, want: Want) -> Entry
+pub(crate) fn entry_with(entry: Entry, want: Want) -> Entry
     ensures { result ≡ entry_with entry want }
 {
     if entry.want != want {
         return Entry { want, since: None };
     }
     entry
+}
+
+/// The booked ones of the entries, in their order.
+pub(crate) fn bookings(alloc: Global, entries: &[Entry]) -> Result<Seq<Entry>, NoMemory>
+    ensures { IfOk result (λ s. s ≡ booked_of entries.now) }
+{
+    let mut booked = Vec::new(alloc);
+    for x in entries {
+        if x.since.is_some() {
+            booked.push(*x)?;
+        }
+    }
+    Ok(Seq::from_vec(booked))
+}
+
+/// Whether one of the entries is booked since this moment.
+pub(crate) fn has_new_booking(entries: &[Entry], moment: Cs) -> bool
+    ensures { result ≡ list_any (λ x. is_since moment.0 x.since) entries.now }
+{
+    entries.iter().any(|x| is_since(x.since, moment))
+}
+
+fn is_since(since: Option<Cs>, moment: Cs) -> bool
+    ensures { result ≡ is_since moment.0 since }
+{
+    match since {
+        Some(since) => since == moment,
+        None => false,
+    }
 }

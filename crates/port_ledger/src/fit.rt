@@ -97,7 +97,7 @@ fn above_of_rank_1(now: Cs, x: &Entry, entries: &[Entry]) -> u128
         .sum()
 }
 
-fn is_preceded_by(now: Cs, x: &Entry, y: &Entry) -> bool
+pub(crate) fn is_preceded_by(now: Cs, x: &Entry, y: &Entry) -> bool
     ensures { result ≡ is_preceded_by now.0 x.now y.now }
 {
     y.want.stream != x.want.stream && more_important(now, y, x)

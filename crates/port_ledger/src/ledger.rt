@@ -1,19 +1,20 @@
 //! The ledger of one egress port.
 
-ghost use Rattle.std.specs.Prelude.{◌≡◌, ◌↔◌, ◌+◌, ◌≤◌, ◌<◌, ◌^◌, ◌==◌, ℕ, [], Some, if◌then◌else◌, IfOk, IfSome, IsSome, OnOk, OnErr, is_some};
+ghost use Rattle.std.specs.Prelude.{◌≡◌, ◌≢◌, ◌↔◌, ◌+◌, ◌≤◌, ◌<◌, ◌^◌, ◌==◌, ◌&&◌, nat_lt, ℕ, [], length, slice_get, Some, None, IsTrue, if◌then◌else◌, IfOk, IfSome, IsSome, OnOk, OnErr, is_some};
 ghost use Rattle.srp_base.specs.declared.bandwidth.Class.TheVariants.{A, B};
 ghost use Rattle.srp_base.specs.declared.numbers.StreamId.{StreamId};
 ghost use Rattle.stream_importance.specs.declared.entry.Fit.TheVariants.{Fits};
 ghost use Rattle.stream_importance.specs.declared.entry.Want.{Want};
 ghost use Rattle.stream_importance.specs.Bandwidth.{caps_of};
-ghost use Rattle.port_ledger.specs.Book.{booked_only_in, booked_slope, entry_of, fit_for, IsFitWithin, since_of, want_of, with_want};
+ghost use Rattle.port_ledger.specs.Book.{booked_only_in, booked_slope, clocked_book, entry_of, fit_for, has_new_booking, IsFitWithin, IsKept, since_of, unwanted_book, want_of, wanted_book, with_want};
 ghost use Rattle.port_ledger.specs.Decision.{booked_of, Decides, does_fit, is_booked, IsAscending, IsDecision, marks_of};
 
 use crate::changed::{Changed, changes};
-use crate::decide::decided_with;
-use crate::entries::find_entry;
+use crate::decide::{unwant, wanted};
+use crate::entries::{bookings, find_entry, has_new_booking};
 use crate::fit::{booked_slope, fit_of, tested_as};
-use srp_base::{Class, Cs, NoMemory, Percent, Rate, StreamId};
+use crate::laws::nothing_changed_where_both_lists_are_empty;
+use srp_base::{Class, Cs, NoMemory, Percent, Rate, Seq, StreamId};
 use std::alloc::Global;
 use std::marker::Model;
 use stream_importance::{Caps, Entry, Fit, Want, importance_is_an_order};
@@ -25,16 +26,20 @@ pub struct Ledger {
     caps: Caps,
     moment: Cs,
     entries: Vec<Entry>,
+    // The same entries, in the order of importance of the last decision.
+    order: Vec<Entry>,
 }
 
 impl Model for Ledger {
+    ghost use Rattle.std.specs.Prelude.{IsPermutation};
     ghost use Rattle.port_ledger.specs.Book.{Book, IsKept};
 
     ghost Value = { Book };
 
     ghost view = { λ l. record { caps = l.caps; moment = l.moment.0; entries = l.entries.items } };
 
-    ghost invariant = { λ l. IsKept (record { caps = l.caps; moment = l.moment.0; entries = l.entries.items }) };
+    ghost invariant = { λ l. IsKept (record { caps = l.caps; moment = l.moment.0; entries = l.entries.items })
+        × IsPermutation l.entries.items l.order.items };
 }
 
 impl Ledger {
@@ -49,6 +54,7 @@ impl Ledger {
             caps: Caps::new(rate, delta_a, delta_b),
             moment: Cs(0),
             entries: Vec::new(alloc),
+            order: Vec::new(alloc),
         }
     }
 
@@ -59,6 +65,7 @@ impl Ledger {
         requires { self.old.moment ≤ now.0 }
 
         ensures decided { OnOk result (Decides now.0 self.old.caps (with_want self.old.entries want) self.new.entries) }
+        ensures book { OnOk result (self.new ≡ wanted_book now.0 want self.old) }
         ensures rest { OnOk result (self.new ≡ record self.old { moment = now.0; entries = self.new.entries }) }
 
         ensures booked { IfOk result (λ c. c.booked ≡ booked_only_in self.new.entries self.old.entries) }
@@ -76,11 +83,47 @@ impl Ledger {
         self.stands();
         importance_is_an_order();
         let alloc = *self.entries.allocator();
-        let entries = decided_with(alloc, now, &self.caps, &self.entries, want)?;
+        let (entries, order) = wanted(alloc, now, &self.caps, &self.entries, &self.order, want)?;
         let changed = changes(alloc, &self.entries, &entries)?;
         self.entries = entries;
+        self.order = order;
         self.moment = now;
         Ok(changed)
+    }
+
+    /// Takes the stream's want out at a moment in cs, which isn't before the ledger's, and decides anew; a stream
+    /// that isn't kept changes nothing but the moment. It takes no memory. The answer is whether the booked set
+    /// changed, which it does exactly where the stream was booked.
+    pub fn unwant(&mut self, now: Cs, stream: StreamId) -> bool
+        requires { self.old.moment ≤ now.0 }
+        ensures book { self.new ≡ unwanted_book now.0 stream self.old }
+        ensures changed { IsTrue result ↔ (booked_of self.new.entries ≢ booked_of self.old.entries) }
+        ensures was_booked { result ≡ is_some (since_of self.old.entries stream) }
+
+        // No want is kept of this stream, and of each other stream the want that it had.
+        ensures kept { (s : StreamId) → want_of self.new.entries s
+            ≡ (if s.0 == stream.0 then None else want_of self.old.entries s) }
+    {
+        self.stands();
+        importance_is_an_order();
+        let was_booked = self.booked(stream).is_some();
+        unwant(now, &self.caps, &mut self.entries, &mut self.order, stream);
+        self.moment = now;
+        was_booked
+    }
+
+    /// Sets the ledger's moment, in cs, to one that isn't before it. It takes no memory and changes no booking.
+    /// The answer is whether a want that isn't booked may fit otherwise than before: exactly where time moved,
+    /// and some booking was of the moment before, which is older now than what isn't booked.
+    pub fn clock(&mut self, now: Cs) -> bool
+        requires { self.old.moment ≤ now.0 }
+        ensures book { self.new ≡ clocked_book now.0 self.old }
+        ensures shown { result ≡ (nat_lt self.old.moment now.0 && has_new_booking self.old) }
+    {
+        self.stands();
+        let moved = self.moment < now && has_new_booking(&self.entries, self.moment);
+        self.moment = now;
+        moved
     }
 
     /// The moment since when the stream is booked, in cs; None exactly where it isn't booked.
@@ -118,11 +161,80 @@ impl Ledger {
         fit_of(now, &self.caps, &self.entries, &x)
     }
 
+    /// The booked entries, ascending by StreamID.
+    pub fn bookings(&self) -> Result<Seq<Entry>, NoMemory>
+        ensures booked { IfOk result (λ s. s ≡ booked_of self.now.entries) }
+        ensures ascending { IfOk result (λ s. IsAscending s) }
+    {
+        self.stands();
+        bookings(*self.entries.allocator(), &self.entries)
+    }
+
+    /// What changed in the booked set since it was that of these entries, which ascend by StreamID: a ledger's
+    /// `bookings` of an earlier moment, say. Both lists are empty exactly where it is the same.
+    pub fn changes_since(&self, before: &[Entry]) -> Result<Changed, NoMemory>
+        requires { IsAscending before.now }
+        ensures booked { IfOk result (λ c. c.booked ≡ booked_only_in self.now.entries before.now) }
+        ensures dropped { IfOk result (λ c. c.dropped ≡ booked_only_in before.now self.now.entries) }
+        ensures same { IfOk result (λ c. ((c.booked ≡ []) × (c.dropped ≡ []))
+            ↔ (booked_of self.now.entries ≡ booked_of before.now)) }
+    {
+        nothing_changed_where_both_lists_are_empty();
+        self.stands();
+        changes(*self.entries.allocator(), before, &self.entries)
+    }
+
+    /// The stream's entry, booked or not; None exactly where none is kept.
+    pub fn entry(&self, stream: StreamId) -> Option<Entry>
+        ensures { result ≡ entry_of self.now.entries stream }
+    {
+        find_entry(&self.entries, stream)
+    }
+
+    /// The number of entries, booked or not.
+    pub fn len(&self) -> usize
+        ensures { result ≡ length self.now.entries }
+    {
+        self.entries.len()
+    }
+
+    /// The entry at this place, counted from 0 and ascending by StreamID; None exactly where the index isn't
+    /// below `len`.
+    pub fn entry_at(&self, index: usize) -> Option<Entry>
+        ensures { result ≡ slice_get self.now.entries index }
+    {
+        self.entries.get(index).copied()
+    }
+
+    /// The same ledger again.
+    pub fn copy(&self) -> Result<Ledger, NoMemory>
+        ensures { IfOk result (λ l. l ≡ self.now) }
+    {
+        let alloc = *self.entries.allocator();
+        let mut entries = Vec::with_capacity(alloc, self.entries.len())?;
+        entries.extend_from_slice(&self.entries)?;
+        let mut order = Vec::with_capacity(alloc, self.order.len())?;
+        order.extend_from_slice(&self.order)?;
+        Ok(Ledger {
+            caps: self.caps,
+            moment: self.moment,
+            entries,
+            order,
+        })
+    }
+
     /// The slopes of the booked streams of a class together, in bit/s.
     pub fn slope(&self, class: Class) -> u128
         ensures { result ≡ booked_slope self.now.entries class }
     {
         booked_slope(&self.entries, class)
+    }
+
+    /// What holds of every ledger.
+    pub fn keeps(&self)
+        ensures { IsKept self.now }
+    {
+        let _ = &self.entries;
     }
 
     /// The booked set of every ledger is the decided set of its entries, at its moment and at every later

@@ -2,11 +2,12 @@
 //! (IEEE Std 802.1Q-2018, 34.3, 35.2.2.8).
 //!
 //! ```text
-//! want(now, want) --> the wanting streams, ascending by StreamID
-//!                       |  in the order of importance: class A, rank 0, the earlier booking, the lower StreamID
-//!                       |  each is booked where the booked ones before it leave room under its cap
-//!                       v
-//!                     Changed { booked, dropped }
+//! want(now, want) -----> the wanting streams, ascending by StreamID, and the same in the order of importance:
+//! unwant(now, stream) ->   |  class A, rank 0, the earlier booking, the lower StreamID
+//!                          |  each is booked where the booked ones before it leave room under its cap
+//!                          v
+//!                        what changed in the booked set
+//! clock(now) ----------> the moment alone; true where a booking is older now than what isn't booked
 //! ```
 //!
 //! Contracts see a ledger as a `Book`: its caps, the last moment that was handed to it, and the entries.
@@ -16,18 +17,31 @@
 //! as time passes (`Ledger::stands`). So at every moment the booked slopes stay within the caps
 //! (`Ledger::within_caps`).
 //!
+//! What a call leaves is a function of the book before it: `wanted_book`, `unwanted_book` and
+//! `clocked_book` of `specs/Book.antt`, over `decided` of `specs/Decision.antt`, the one outcome of
+//! deciding. Who speaks of whole runs speaks of these, and `laws` says of them what the methods say of
+//! a living ledger: every step keeps what holds of every ledger, the caps are kept, no booking is ahead of
+//! its ledger, a clock that shows nothing and a booked set that stays leave every fit as it was.
+//!
 //! What a caller needs of one stream stands on the calls: a want is kept as it came and changes no other
-//! stream's (`Ledger::want`), a stream is booked exactly where its entry fits among the booked ones, and a
-//! want that is kept fits exactly where it is booked (`Ledger::stands`, `Ledger::fits`). No order of the
-//! entries but that of StreamIDs stands in a contract.
+//! stream's (`Ledger::want`, `Ledger::unwant`), a stream is booked exactly where its entry fits among the
+//! booked ones, and a want that is kept fits exactly where it is booked (`Ledger::stands`,
+//! `Ledger::fits`). No order of the entries but that of StreamIDs stands in a contract. A call that takes
+//! no memory (`unwant`, `clock`, the readers but `bookings`, `changes_since` and `copy`) can't fail.
+//!
+//! To extend it: a new way to judge who goes first is a line of `compare_importance` in stream_importance,
+//! and nothing here changes but what time does to it (`proofs/Standing.antt`). A new step is a function of
+//! the book beside `wanted_book`, a clause of `every_step_keeps_a_book`, and a method whose body changes
+//! the entries and the order alike and then calls `decide`.
 #![tactic(auto)]
 
-pub mod changed;
+mod changed;
 mod decide;
 mod entries;
 mod fit;
 pub mod laws;
-pub mod ledger;
+mod ledger;
+mod order;
 
 pub use changed::Changed;
 pub use laws::one_decision;

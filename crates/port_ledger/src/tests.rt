@@ -5,7 +5,7 @@ use srp_base::{Class, Cs, Percent, Rank, Rate, StreamId};
 use std::alloc::Global;
 use std::process::Abort;
 use std::test::Fail;
-use stream_importance::{Fit, Want};
+use stream_importance::{Entry, Fit, Want};
 
 /// A stream of 200 octets and one frame takes this much in class A.
 const SMALL: u64 = 15_488_000;
@@ -71,6 +71,53 @@ fn four_of_five_equal_streams_fit(rt: HostRuntime) -> Result<(), Fail> {
     assert_eq!(rt; ledger.booked(StreamId(5)), None);
     assert_eq!(rt; ledger.slope(Class::A), 61_952_000);
     assert_eq!(rt; ledger.slope(Class::B), 0);
+    Ok(())
+}
+
+#[test]
+fn what_a_stream_leaves_is_decided_anew(rt: HostRuntime) -> Result<(), Fail> {
+    let mut ledger = ledger(rt.alloc(), 75, 0).ok_or("percentages")?;
+    for stream in 1..6u64 {
+        let want = want_of(stream, Class::A, Rank::Normal, SMALL);
+        ledger.want(Cs(stream - 1), want)?;
+    }
+    assert!(rt; ledger.unwant(Cs(5), StreamId(1)));
+    let since = [None, Some(1), Some(2), Some(3), Some(5)];
+    for (stream, moment) in (1..6u64).zip(since) {
+        assert_eq!(rt; ledger.booked(StreamId(stream)), moment.map(Cs));
+    }
+    assert!(rt; !ledger.unwant(Cs(5), StreamId(1)));
+    assert!(rt; ledger.clock(Cs(6)));
+    assert!(rt; !ledger.clock(Cs(7)));
+    Ok(())
+}
+
+#[test]
+fn entries_and_bookings_ascend(rt: HostRuntime) -> Result<(), Fail> {
+    let mut ledger = ledger(rt.alloc(), 20, 0).ok_or("percentages")?;
+    ledger.want(Cs(0), want_of(9, Class::A, Rank::Normal, SMALL))?;
+    let before = ledger.bookings()?;
+    let other = ledger.copy()?;
+    ledger.want(Cs(1), want_of(3, Class::A, Rank::Emergency, SMALL))?;
+    let low = Entry {
+        want: want_of(3, Class::A, Rank::Emergency, SMALL),
+        since: Some(Cs(1)),
+    };
+    let high = Entry {
+        want: want_of(9, Class::A, Rank::Normal, SMALL),
+        since: None,
+    };
+    assert_eq!(rt; ledger.bookings()?.as_slice(), [low].as_slice());
+    assert_eq!(rt; ledger.entry(StreamId(9)), Some(high));
+    assert_eq!(rt; ledger.entry(StreamId(4)), None);
+    assert_eq!(rt; ledger.len(), 2);
+    assert_eq!(rt; ledger.entry_at(0), Some(low));
+    assert_eq!(rt; ledger.entry_at(1), Some(high));
+    assert_eq!(rt; ledger.entry_at(2), None);
+    assert_eq!(rt; other.booked(StreamId(9)), Some(Cs(0)));
+    let changed = ledger.changes_since(before.as_slice())?;
+    assert_eq!(rt; changed.booked.as_slice(), [StreamId(3)].as_slice());
+    assert_eq!(rt; changed.dropped.as_slice(), [StreamId(9)].as_slice());
     Ok(())
 }
 

@@ -1,7 +1,14 @@
 -- What reading and writing whole say of an error.
-use Rattle.std.specs.Prelude.{ℕ}
+use Rattle.std.specs.Prelude.{ℕ, ◌≤◌, List, length, Option}
+use Rattle.std.specs.Io.KnownBytes.{Consumes}
 use Rattle.srp_io.specs.declared.whole.WriteErr.{WriteErr}
 use Rattle.srp_io.specs.declared.whole.WriteErr.TheVariants.{Fault, NoMemory}
+
+-- a source gave octets, at most so many
+pub record TookAtMost (limit : ℕ) (before after : Option (List ℕ)) : Type 0 where
+  pub octets : List ℕ
+  pub consumed : Consumes before after octets
+  pub within : length octets ≤ limit
 
 -- how many octets went out before the error
 abbrev pub written_of : WriteErr → ℕ

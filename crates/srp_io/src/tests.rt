@@ -14,6 +14,7 @@ fn a_source_is_read_to_its_end(rt: HostRuntime) -> Result<(), Fail> {
         (3, 0, 5, Ok(5)),
         (100, 0, 6, Ok(5)),
         (3, 0, 4, Err(ReadErr::TooLong)),
+        (3, 3, 4, Err(ReadErr::TooLong)),
         (2, 1, 5, Err(ReadErr::Fault)),
         (2, 3, 5, Err(ReadErr::Fault)),
         (2, 4, 5, Err(ReadErr::Fault)),

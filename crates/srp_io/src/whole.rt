@@ -4,7 +4,7 @@ ghost use Rattle.std.specs.Prelude.{◌≡◌, ℕ, ◌+◌, ◌^◌, ◌<◌, �
 ghost use Rattle.std.specs.Io.KnownBytes.{Appends, Consumes, IsAtEnd};
 ghost use Rattle.srp_io.specs.Faults.{Rose};
 ghost use Rattle.srp_io.specs.declared.whole.ReadErr.TheVariants.{Fault, NoMemory};
-ghost use Rattle.srp_io.specs.Whole.{written_of, IsFault};
+ghost use Rattle.srp_io.specs.Whole.{TookAtMost, written_of, IsFault};
 
 use crate::{Failed, Sink, SinkErr, Source};
 use std::alloc::{AllocError, Global};
@@ -63,6 +63,8 @@ pub fn read_all<S: Source>(alloc: Global, source: &mut S, limit: usize) -> Resul
     ensures within { IfOk result (λ v. length v.items ≤ limit) }
 
     ensures fault { result ≡ Err ReadErr.Fault → Rose (S.faults source.old) (S.faults source.new) }
+    // A fault comes before one octet past the limit was taken.
+    ensures fault_within { result ≡ Err ReadErr.Fault → TookAtMost limit (S.left source.old) (S.left source.new) }
     // One octet past the limit was taken, with no fault before.
     ensures too_long { result ≡ Err ReadErr.TooLong → (octets : List ℕ) × (length octets ≡ limit + 1) × Consumes (S.left source.old) (S.left source.new) octets }
     // After an error the source has given what was read.

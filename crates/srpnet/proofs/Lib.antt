@@ -1,4 +1,3 @@
 pub mod LedgerLemmas
 pub mod Different
 pub mod Documents
-pub mod Refusals

@@ -1,15 +1,9 @@
 -- What `srpnet check` prints: what a scenario holds, by its counts.
-use Rattle.std.specs.Prelude.{◌≡◌, ℕ, List, [], ◌∷◌, length, codes, Result, Ok}
+use Rattle.std.specs.Prelude.{◌≡◌, ℕ, List, [], ◌∷◌, length, codes, Ok}
 use Rattle.std.specs.Fmt.{decimal}
 use Rattle.srp_base.specs.Text.{joined}
 use Rattle.topology_file.specs.Plan.{Plan}
-use Rattle.topology_file.specs.Scenario.{scenario_of}
-use Rattle.srpnet.specs.declared.outcome.Cause.{Cause}
-use Rattle.srpnet.specs.Input.{input_of}
-
--- the scenario of some octets, or the cause of their refusal
-abbrev pub check_input : List ℕ → Result Plan Cause
-check_input octets = input_of scenario_of octets
+use Rattle.srpnet.specs.ScenarioInput.{scenario_input}
 
 -- the counts, a line each; a scenario has no streams and no frames yet
 abbrev pub check_text : Plan → List ℕ
@@ -24,5 +18,5 @@ check_text plan = joined (
 -- that of its counts.
 pub record CheckOutput (octets text : List ℕ) : Type 0 where
   pub plan : Plan
-  pub read : check_input octets ≡ Ok plan
+  pub read : scenario_input octets ≡ Ok plan
   pub printed : text ≡ check_text plan

@@ -1,11 +1,12 @@
 -- The top clause: everything that the top call promises of its ending.
 use Rattle.std.specs.Prelude.{◌≡◌, ℕ, ◌⊎◌, List, Option, Some, None}
 use Rattle.srp_io.specs.Faults.{Rose}
+use Rattle.srp_io.specs.Whole.{TookAtMost}
 use Rattle.srpnet.specs.declared.words.Command.{Command}
 use Rattle.srpnet.specs.declared.outcome.Cause.{Cause}
-use Rattle.srpnet.specs.declared.outcome.Cause.TheVariants.{Done, BadWords, ReadFault, TooLong, NotToml, BadScenario, WriteFault, NoMemory}
-use Rattle.srpnet.specs.Words.{command_of}
-use Rattle.srpnet.specs.TopCall.{Wrote, WrotePart, WroteUntilNoMemory, Refuses, TookTooMany, IsWriteFault, WritesNothing, ReadsNothing, expected}
+use Rattle.srpnet.specs.declared.outcome.Cause.TheVariants.{Done, BadWords, ReadFault, TooLong, WriteFault, NoMemory}
+use Rattle.srpnet.specs.Outcomes.{IsRefusal, IsWriteFault, WritesNothing}
+use Rattle.srpnet.specs.TopCall.{Wrote, WrotePart, WroteUntilNoMemory, Refuses, TookTooMany, ReadsNothing, most_octets, expected}
 
 -- A command is carried out on a source of the type I and an out sink of the type O, before the call and
 -- after it. What they tell of their octets and how many faults they count is `left`, `held` and the two
@@ -26,12 +27,12 @@ pub record CarriedOut {I O : Type 0} (left : I → Option (List ℕ)) (in_faults
   -- and nothing else makes a count rise
   pub read_counts : (cause ≡ ReadFault → ⊥) → in_faults source' ≡ in_faults source
   pub write_counts : (IsWriteFault cause → ⊥) → out_faults out' ≡ out_faults out
-  -- the input is too long only where one octet past the most was taken, with no fault before
+  -- the input is too long exactly where one octet past the most was taken with no fault before: a read
+  -- fault comes while at most the most was taken
+  pub in_time : cause ≡ ReadFault → TookAtMost most_octets (left source) (left source')
   pub too_long : cause ≡ TooLong → TookTooMany (left source) (left source')
   -- the input is refused only where its octets, read to the end, are refused for this cause
-  pub not_toml : cause ≡ NotToml → Refuses command (left source) (left source') NotToml
-  pub bad_scenario : (rule entry : ℕ) → cause ≡ BadScenario rule entry
-      → Refuses command (left source) (left source') (BadScenario rule entry)
+  pub refused : IsRefusal cause → Refuses command (left source) (left source') cause
   -- the words were good
   pub good_words : cause ≡ BadWords → ⊥
   -- where neither the source nor the out sink fails in this call, the ending is the expected one for the
@@ -48,15 +49,9 @@ pub record WordsRefused {I O : Type 0} (source source' : I) (out out' : O) (caus
   pub unread : source' ≡ source
   pub unwritten : out' ≡ out
 
--- how the call ends for the row of the table that its words match, if any
-abbrev pub EndsFor : {I O : Type 0} → (I → Option (List ℕ)) → (I → ℕ) → (O → Option (List ℕ)) → (O → ℕ)
-    → Option Command → I → I → O → O → Cause → Type 0
-EndsFor left in_faults held out_faults (Some command) source source' out out' cause =
-    CarriedOut left in_faults held out_faults command source source' out out' cause
-EndsFor left in_faults held out_faults None source source' out out' cause = WordsRefused source source' out out' cause
-
--- how the call ends for its words
+-- how the call ends for the command that its words were found to be, if any
 abbrev pub IsEnding : {I O : Type 0} → (I → Option (List ℕ)) → (I → ℕ) → (O → Option (List ℕ)) → (O → ℕ)
-    → List (List ℕ) → I → I → O → O → Cause → Type 0
-IsEnding left in_faults held out_faults words source source' out out' cause =
-    EndsFor left in_faults held out_faults (command_of words) source source' out out' cause
+    → Option Command → I → I → O → O → Cause → Type 0
+IsEnding left in_faults held out_faults (Some command) source source' out out' cause =
+    CarriedOut left in_faults held out_faults command source source' out out' cause
+IsEnding left in_faults held out_faults None source source' out out' cause = WordsRefused source source' out out' cause

@@ -1,4 +1,5 @@
 pub mod CheckText
+pub mod Commands
 pub mod Ending
 pub mod Input
 pub mod LedgerFile
@@ -7,5 +8,6 @@ pub mod LedgerRun
 pub mod LedgerText
 pub mod Outcomes
 pub mod Pages
+pub mod ScenarioInput
 pub mod TopCall
 pub mod Words

@@ -1,10 +1,41 @@
--- What the program ends with: the status of each cause, and its text for the error stream.
-use Rattle.std.specs.Prelude.{ℕ, List, [], ◌∷◌, codes}
+-- What the program ends with: the place of each cause in the call, its status, and its text for the
+-- error stream. A new cause has a line in each of these three, and none elsewhere.
+use Rattle.std.specs.Prelude.{◌≡◌, ◌⊎◌, ℕ, List, [], ◌∷◌, codes, Result, Ok, Err}
 use Rattle.std.specs.Fmt.{decimal}
 use Rattle.srp_base.specs.Text.{joined}
+use Rattle.srp_io.specs.declared.whole.ReadErr.{ReadErr}
+use Rattle.srp_io.specs.declared.whole.ReadErr.TheVariants.{Fault as fault, TooLong as too_long, NoMemory as no_memory_to_read}
+use Rattle.toml_rules.specs.declared.rules.RuleErr.{RuleErr}
+use Rattle.toml_rules.specs.declared.rules.RuleErr.TheVariants.{Rule, NoMemory as no_memory}
 use Rattle.srpnet.specs.declared.outcome.Cause.{Cause}
 use Rattle.srpnet.specs.declared.outcome.Cause.TheVariants.{Done, BadWords, ReadFault, TooLong, NotToml, BadScenario, WriteFault, NoMemory}
 
+-- where in the call a cause comes up
+pub data Place : Type 0 where
+  -- at its end: all was done
+  finish : Place
+  -- at the words, before anything is read
+  words : Place
+  -- while the source is read
+  reading : Place
+  -- when the octets are read to their end: they are judged, and refused
+  judging : Place
+  -- while the output goes out
+  writing : Place
+  -- anywhere after the words: memory runs out
+  anywhere : Place
+
+abbrev pub place_of : Cause → Place
+place_of Done = finish
+place_of BadWords = words
+place_of ReadFault = reading
+place_of TooLong = reading
+place_of NotToml = judging
+place_of (BadScenario rule entry) = judging
+place_of (WriteFault written) = writing
+place_of NoMemory = anywhere
+
+-- the exit status
 abbrev pub status_of : Cause → ℕ
 status_of Done = 0
 status_of BadWords = 2
@@ -30,3 +61,70 @@ fixed_text NoMemory = codes "srpnet: no memory\n"
 abbrev pub err_text : Cause → List ℕ
 err_text (BadScenario rule entry) = joined (codes "srpnet: rule " ∷ decimal rule ∷ codes " entry " ∷ decimal entry ∷ codes "\n" ∷ [])
 err_text cause = fixed_text cause
+
+-- ---- Facts of causes, by their places
+
+-- the octets of the input are refused
+abbrev pub IsRefusal : Cause → Type 0
+IsRefusal cause = place_of cause ≡ judging
+
+-- a fault of the out sink
+abbrev pub IsWriteFault : Cause → Type 0
+IsWriteFault cause = place_of cause ≡ writing
+
+-- the places before anything is written; memory may run out on either side
+abbrev pub IsBeforeWriting : Place → Type 0
+IsBeforeWriting finish = ⊥
+IsBeforeWriting words = Unit {0}
+IsBeforeWriting reading = Unit {0}
+IsBeforeWriting judging = Unit {0}
+IsBeforeWriting writing = ⊥
+IsBeforeWriting anywhere = ⊥
+
+-- nothing is written
+abbrev pub WritesNothing : Cause → Type 0
+WritesNothing cause = IsBeforeWriting (place_of cause)
+
+-- the places at which making an output ends without one
+abbrev pub IsBeforeOutput : Place → Type 0
+IsBeforeOutput finish = ⊥
+IsBeforeOutput words = ⊥
+IsBeforeOutput reading = Unit {0}
+IsBeforeOutput judging = Unit {0}
+IsBeforeOutput writing = ⊥
+IsBeforeOutput anywhere = Unit {0}
+
+-- why a command has no output
+abbrev pub LacksOutput : Cause → Type 0
+LacksOutput cause = IsBeforeOutput (place_of cause)
+
+-- the places at which writing ends
+abbrev pub IsOfWriting : Place → Type 0
+IsOfWriting finish = Unit {0}
+IsOfWriting words = ⊥
+IsOfWriting reading = ⊥
+IsOfWriting judging = ⊥
+IsOfWriting writing = Unit {0}
+IsOfWriting anywhere = Unit {0}
+
+-- the causes with which writing ends
+abbrev pub EndsWriting : Cause → Type 0
+EndsWriting cause = IsOfWriting (place_of cause)
+
+-- an answer ends so, or memory ran out
+abbrev pub EndsAs : {X : Type 0} → Cause → Result X Cause → Type 0
+EndsAs cause (Ok x) = cause ≡ Done
+EndsAs cause (Err other) = (other ≡ cause) ⊎ (other ≡ NoMemory)
+
+-- ---- Causes of errors
+
+-- a broken rule
+abbrev pub cause_of_rules : RuleErr → Cause
+cause_of_rules (Rule rule entry) = BadScenario rule entry
+cause_of_rules no_memory = NoMemory
+
+-- a source that wasn't read to its end
+abbrev pub cause_of_reading : ReadErr → Cause
+cause_of_reading fault = ReadFault
+cause_of_reading too_long = TooLong
+cause_of_reading no_memory_to_read = NoMemory

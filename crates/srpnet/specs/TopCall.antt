@@ -1,38 +1,10 @@
--- What the top call does: which text is a command's output, and what each ending means.
-use Rattle.std.specs.Prelude.{◌≡◌, ℕ, ◌+◌, ◌<◌, ◌≤◌, ◌⊎◌, nat_le, Bool, true, false, not, ◌&&◌, if◌then◌else◌, Result, List, length, take, Option, Ok, Err}
+-- What the top call does: how a source is read and a text written, and how a command ends.
+use Rattle.std.specs.Prelude.{◌≡◌, ℕ, ◌+◌, ◌<◌, ◌≤◌, nat_le, true, false, not, ◌&&◌, if◌then◌else◌, List, length, take, Option}
 use Rattle.std.specs.Io.KnownBytes.{Appends, Consumes, IsAtEnd}
 use Rattle.srpnet.specs.declared.words.Command.{Command}
-use Rattle.srpnet.specs.declared.words.Command.TheVariants.{Ledger, Check, Help, Version}
 use Rattle.srpnet.specs.declared.outcome.Cause.{Cause}
-use Rattle.srpnet.specs.declared.outcome.Cause.TheVariants.{Done, BadWords, ReadFault, TooLong, NotToml, BadScenario, WriteFault, NoMemory}
-use Rattle.srpnet.specs.Input.{ending}
-use Rattle.srpnet.specs.CheckText.{check_input, CheckOutput}
-use Rattle.srpnet.specs.LedgerInput.{ledger_input}
-use Rattle.srpnet.specs.LedgerText.{LedgerOutput}
-use Rattle.srpnet.specs.Pages.{help_page, version_page}
-
--- ---- The commands. A command has a line in each of these three.
-
--- whether it reads an input; the pages read none
-abbrev pub reads_input : Command → Bool
-reads_input Ledger = true
-reads_input Check = true
-reads_input Help = false
-reads_input Version = false
-
--- what it prints for the octets of an input
-abbrev pub Output : Command → List ℕ → List ℕ → Type 0
-Output Ledger octets text = LedgerOutput octets text
-Output Check octets text = CheckOutput octets text
-Output Help octets text = text ≡ help_page
-Output Version octets text = text ≡ version_page
-
--- how it ends for the octets of an input, where nothing fails and memory lasts
-abbrev pub ending_of : Command → List ℕ → Cause
-ending_of Ledger octets = ending (ledger_input octets)
-ending_of Check octets = ending (check_input octets)
-ending_of Help octets = Done
-ending_of Version octets = Done
+use Rattle.srpnet.specs.declared.outcome.Cause.TheVariants.{TooLong}
+use Rattle.srpnet.specs.Commands.{reads_input, Output, ending_of}
 
 -- ---- Reading
 
@@ -57,18 +29,6 @@ pub record Refuses (command : Command) (before after : Option (List ℕ)) (cause
   pub octets : List ℕ
   pub whole : ReadWhole before after octets
   pub refused : ending_of command octets ≡ cause
-
--- why a command has no output: the source's octets are refused, or were not read to their end, or memory
--- ran out
-abbrev pub Refusal : Command → Option (List ℕ) → Option (List ℕ) → Cause → Type 0
-Refusal command before after NotToml = Refuses command before after NotToml
-Refusal command before after (BadScenario rule entry) = Refuses command before after (BadScenario rule entry)
-Refusal command before after ReadFault = Unit {0}
-Refusal command before after TooLong = Unit {0}
-Refusal command before after NoMemory = Unit {0}
-Refusal command before after Done = ⊥
-Refusal command before after BadWords = ⊥
-Refusal command before after (WriteFault written) = ⊥
 
 -- ---- Writing
 
@@ -109,40 +69,7 @@ pub record GainsFront (held now : Option (List ℕ)) (text : List ℕ) : Type 0 
   pub count : ℕ
   pub appended : Appends held now (take count text)
 
--- ---- Causes
-
--- the causes with which writing ends
-abbrev pub IsOfWriting : Cause → Type 0
-IsOfWriting Done = Unit {0}
-IsOfWriting (WriteFault written) = Unit {0}
-IsOfWriting NoMemory = Unit {0}
-IsOfWriting BadWords = ⊥
-IsOfWriting ReadFault = ⊥
-IsOfWriting TooLong = ⊥
-IsOfWriting NotToml = ⊥
-IsOfWriting (BadScenario rule entry) = ⊥
-
--- a fault of the out sink
-abbrev pub IsWriteFault : Cause → Type 0
-IsWriteFault (WriteFault written) = Unit {0}
-IsWriteFault Done = ⊥
-IsWriteFault NoMemory = ⊥
-IsWriteFault BadWords = ⊥
-IsWriteFault ReadFault = ⊥
-IsWriteFault TooLong = ⊥
-IsWriteFault NotToml = ⊥
-IsWriteFault (BadScenario rule entry) = ⊥
-
--- the causes with which nothing is written
-abbrev pub WritesNothing : Cause → Type 0
-WritesNothing Done = ⊥
-WritesNothing BadWords = Unit {0}
-WritesNothing ReadFault = Unit {0}
-WritesNothing TooLong = Unit {0}
-WritesNothing NotToml = Unit {0}
-WritesNothing (BadScenario rule entry) = Unit {0}
-WritesNothing (WriteFault written) = ⊥
-WritesNothing NoMemory = ⊥
+-- ---- Endings
 
 -- the commands that read no input
 abbrev pub ReadsNothing : Command → Type 0
@@ -152,8 +79,3 @@ ReadsNothing command = reads_input command ≡ false
 abbrev pub expected : Command → List ℕ → Cause
 expected command octets =
     if reads_input command && not (nat_le (length octets) most_octets) then TooLong else ending_of command octets
-
--- an answer ends so, or memory ran out
-abbrev pub EndsAs : {X : Type 0} → Cause → Result X Cause → Type 0
-EndsAs cause (Ok x) = cause ≡ Done
-EndsAs cause (Err other) = (other ≡ cause) ⊎ (other ≡ NoMemory)

@@ -1,23 +1,33 @@
 //! `srpnet`: the Stream Reservation Protocol (IEEE Std 802.1Q-2018) over a file, as a program.
 //!
 //! ```text
-//! words    the table of the command line
-//! top      srp_main, srp_plain: words and streams in, an outcome out
-//! ledger   the command `ledger`: input, file, bookings, text
-//! check    the command `check`
-//! outcome  statuses, causes and their texts
-//! pages    --help and --version
+//! top        srp_main, srp_plain: words and streams in, an outcome out
+//! words      the table of the command line
+//! commands   what each command makes of the octets of an input: its arm
+//! |- ledger  bookings of one port: file, input, bookings, text
+//! |- check   what a scenario holds, by its counts: text
+//! '- pages   --help and --version
+//! scenario   the input of the commands that read a scenario
+//! input      octets to a TOML table
+//! outcome    causes, their statuses and their texts
 //! ```
 //!
 //! The top call's contract is one record, `IsEnding`: which words are bad, which text goes out for which
 //! input, and why each other status comes.
+//!
+//! To add a command: a module with its input, its text and its `output`, as `ledger` has; a row of the
+//! table in `words`; an arm in `reads_input` and `output` of `commands`; and a line in each definition of
+//! `specs/Words.antt` and `specs/Commands.antt`. A new cause has a line in `place_of`, `status_of` and
+//! `err_text` of `specs/Outcomes.antt`, and in `status_of` and `tell` of `outcome`.
 #![tactic(auto)]
 
 mod check;
+mod commands;
 mod input;
 mod ledger;
 mod outcome;
 mod pages;
+mod scenario;
 #[cfg(test)]
 mod tests;
 mod top;

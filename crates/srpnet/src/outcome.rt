@@ -2,11 +2,13 @@
 
 ghost use Rattle.std.specs.Prelude.{◌≡◌, ℕ, take, IfOk, string_bytes};
 ghost use Rattle.std.specs.Io.KnownBytes.{Appends};
-ghost use Rattle.srpnet.specs.Outcomes.{status_of as status_of_spec, err_text as err_text_spec, fixed_text as fixed_text_spec};
-ghost use Rattle.srpnet.specs.declared.outcome.Cause.TheVariants.{BadScenario};
+ghost use Rattle.srpnet.specs.Outcomes.{status_of as status_of_spec, err_text as err_text_spec, fixed_text as fixed_text_spec, cause_of_rules, cause_of_reading};
+ghost use Rattle.srpnet.specs.declared.outcome.Cause.TheVariants.{BadScenario, NoMemory as no_memory};
 
-use srp_io::{Sink, WriteErr, write_whole};
+use srp_base::NoMemory;
+use srp_io::{ReadErr, Sink, WriteErr, write_whole};
 use std::alloc::{AllocError, Global};
+use toml_rules::RuleErr;
 
 /// Why the program ends.
 #[derive(Clone, Copy, Debug, PartialEq, Eq)]
@@ -29,6 +31,45 @@ pub enum Cause {
     WriteFault { written: u64 },
     /// Want of memory. Status 9.
     NoMemory,
+}
+
+impl From<AllocError> for Cause {
+    ghost from_gives = { λ _ c. c ≡ no_memory };
+
+    fn from(_error: AllocError) -> Cause {
+        Cause::NoMemory
+    }
+}
+
+impl From<NoMemory> for Cause {
+    ghost from_gives = { λ _ c. c ≡ no_memory };
+
+    fn from(_error: NoMemory) -> Cause {
+        Cause::NoMemory
+    }
+}
+
+impl From<RuleErr> for Cause {
+    ghost from_gives = { λ e c. c ≡ cause_of_rules e };
+
+    fn from(error: RuleErr) -> Cause {
+        match error {
+            RuleErr::Rule { rule, entry } => Cause::BadScenario { rule, entry },
+            RuleErr::NoMemory => Cause::NoMemory,
+        }
+    }
+}
+
+impl From<ReadErr> for Cause {
+    ghost from_gives = { λ e c. c ≡ cause_of_reading e };
+
+    fn from(error: ReadErr) -> Cause {
+        match error {
+            ReadErr::Fault => Cause::ReadFault,
+            ReadErr::TooLong => Cause::TooLong,
+            ReadErr::NoMemory => Cause::NoMemory,
+        }
+    }
 }
 
 /// How the top call ends.

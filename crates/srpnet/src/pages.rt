@@ -1,4 +1,11 @@
-//! The pages of `--help` and `--version`.
+//! The commands `--help` and `--version`: the pages that the program prints without reading anything.
+
+ghost use Rattle.std.specs.Prelude.{◌≡◌, IfOk, IfErr};
+ghost use Rattle.srpnet.specs.Outcomes.{EndsAs};
+
+use crate::outcome::Cause;
+use srp_base::Seq;
+use std::alloc::Global;
 
 /// The page of `--help`.
 pub const HELP: &str = "\
@@ -17,3 +24,12 @@ The input files, the printed lines and the statuses stand in docs/FILES.md.
 
 /// The page of `--version`.
 pub const VERSION: &str = "srpnet 0.1.0 (rattle-kit-13f)\n";
+
+/// A page as an output.
+pub fn output(alloc: Global, page: &str) -> Result<Seq<u8>, Cause>
+    ensures output { IfOk result (λ text. text ≡ page.now) }
+    ensures ends { EndsAs Cause.Done result }
+    ensures not_done { IfErr result (λ c. c ≡ Cause.Done → ⊥) }
+{
+    Ok(Seq::from_vec(page.as_bytes().to_vec(alloc)?))
+}

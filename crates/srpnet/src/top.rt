@@ -1,99 +1,44 @@
 //! The top call: from the program's words and streams to its outcome.
 
-ghost use Rattle.std.specs.Prelude.{◌≡◌, ℕ, ◌<◌, List, length, take, Some, Err, IfOk, IfErr, string_bytes};
+ghost use Rattle.std.specs.Prelude.{◌≡◌, ℕ, ◌<◌, List, length, take, Some, Err, IfOk, IfErr};
 ghost use Rattle.std.specs.Io.KnownBytes.{Appends};
 ghost use Rattle.srp_io.specs.Faults.{Rose};
-ghost use Rattle.srpnet.specs.Input.{ending};
-ghost use Rattle.srpnet.specs.LedgerInput.{ledger_input as ledger_input_spec};
-ghost use Rattle.srpnet.specs.LedgerText.{LedgerOutput};
-ghost use Rattle.srpnet.specs.Outcomes.{status_of as status_of_spec, err_text};
+ghost use Rattle.srp_io.specs.Whole.{TookAtMost};
+ghost use Rattle.srpnet.specs.Outcomes.{status_of as status_of_spec, err_text, EndsAs, EndsWriting, IsRefusal, IsWriteFault, LacksOutput};
 ghost use Rattle.srpnet.specs.Ending.{CarriedOut, IsEnding};
-ghost use Rattle.srpnet.specs.TopCall.{reads_input as reads_input_spec, ending_of, expected, Output, IsOutput, Refusal, TookTooMany, ReadsNothing, PartOf, GainsFront, IsWriteFault, IsOfWriting, EndsAs};
+ghost use Rattle.srpnet.specs.TopCall.{expected, IsOutput, Refuses, TookTooMany, ReadsNothing, PartOf, GainsFront};
+ghost use Rattle.srpnet.specs.Words.{command_of as command_of_spec};
 
-use crate::check::check_output;
-use crate::ledger::{bookings, input, text};
+use crate::commands::{output, reads_input};
 use crate::outcome::{Cause, Outcome, status_of, tell};
-use crate::pages::{HELP, VERSION};
 use crate::words::{Command, command_of};
 use srp_base::Seq;
-use srp_io::{ReadErr, Sink, Source, WriteErr, read_all, write_whole};
+use srp_io::{Sink, Source, WriteErr, read_all, write_whole};
 use std::alloc::Global;
 
 /// The most octets of an input.
 const MOST_OCTETS: usize = 1_048_576;
 
-/// The text of the bookings of a ledger file, or why there is none.
-fn ledger_output(alloc: Global, octets: &[u8]) -> Result<String, Cause>
-    ensures output { IfOk result (λ s. LedgerOutput octets.now (string_bytes s)) }
-    ensures ends { EndsAs (ending (ledger_input_spec octets.now)) result }
-    ensures not_done { IfErr result (λ c. c ≡ Cause.Done → ⊥) }
-{
-    let file = input::ledger_input(alloc, octets)?;
-    match bookings::bookings(alloc, &file) {
-        Ok((ledger, now)) => match text::ledger_text(alloc, &file, &ledger, now) {
-            Ok(text) => Ok(text),
-            Err(_) => Err(Cause::NoMemory),
-        },
-        Err(_) => Err(Cause::NoMemory),
-    }
-}
-
-/// A page, or want of memory as a cause.
-fn page_output(alloc: Global, page: &str) -> Result<String, Cause>
-    ensures output { IfOk result (λ s. string_bytes s ≡ page.now) }
-    ensures ends { EndsAs Cause.Done result }
-    ensures not_done { IfErr result (λ c. c ≡ Cause.Done → ⊥) }
-{
-    match String::from_str(alloc, page) {
-        Ok(text) => Ok(text),
-        Err(_) => Err(Cause::NoMemory),
-    }
-}
-
-/// Whether a command reads an input; the pages read none.
-fn reads_input(command: Command) -> bool
-    ensures { result ≡ reads_input_spec command }
-{
-    match command {
-        Command::Ledger | Command::Check => true,
-        Command::Help | Command::Version => false,
-    }
-}
-
-/// What a command prints for the octets of its input, or why there is nothing to print.
-fn output(alloc: Global, command: Command, octets: &[u8]) -> Result<String, Cause>
-    ensures output { IfOk result (λ s. Output command octets.now (string_bytes s)) }
-    ensures ends { EndsAs (ending_of command octets.now) result }
-    ensures not_done { IfErr result (λ c. c ≡ Cause.Done → ⊥) }
-{
-    match command {
-        Command::Ledger => ledger_output(alloc, octets),
-        Command::Check => check_output(alloc, octets),
-        Command::Help => page_output(alloc, HELP),
-        Command::Version => page_output(alloc, VERSION),
-    }
-}
-
 /// Reads the input of a command to its end, where it reads one, and makes the command's output.
-fn read_output<I: Source>(alloc: Global, command: Command, source: &mut I) -> Result<String, Cause>
-    ensures output { IfOk result (λ s. IsOutput command (I.left source.old) (I.left source.new) (string_bytes s)) }
+fn read_output<I: Source>(alloc: Global, command: Command, source: &mut I) -> Result<Seq<u8>, Cause>
+    ensures output { IfOk result (IsOutput command (I.left source.old) (I.left source.new)) }
+    ensures only { IfErr result LacksOutput }
+
     ensures read_fault { result ≡ Err Cause.ReadFault → Rose (I.faults source.old) (I.faults source.new) }
+    ensures in_time { result ≡ Err Cause.ReadFault → TookAtMost MOST_OCTETS (I.left source.old) (I.left source.new) }
     ensures counts { (result ≡ Err Cause.ReadFault → ⊥) → I.faults source.new ≡ I.faults source.old }
     ensures too_long { result ≡ Err Cause.TooLong → TookTooMany (I.left source.old) (I.left source.new) }
-    ensures refused { IfErr result (Refusal command (I.left source.old) (I.left source.new)) }
-    ensures ends { (octets : List ℕ) → I.left source.old ≡ Some octets → (Rose (I.faults source.old) (I.faults source.new) → ⊥) → EndsAs (expected command octets) result }
+    ensures refused { IfErr result (λ c. IsRefusal c → Refuses command (I.left source.old) (I.left source.new) c) }
+    ensures ends { (octets : List ℕ) → I.left source.old ≡ Some octets → (Rose (I.faults source.old) (I.faults source.new) → ⊥)
+        → EndsAs (expected command octets) result }
     ensures page_unread { ReadsNothing command → source.new ≡ source.old }
     ensures page_ends { ReadsNothing command → EndsAs Cause.Done result }
 {
     if !reads_input(command) {
         return output(alloc, command, b"".as_slice());
     }
-    match read_all(alloc, source, MOST_OCTETS) {
-        Ok(octets) => output(alloc, command, octets.as_slice()),
-        Err(ReadErr::Fault) => Err(Cause::ReadFault),
-        Err(ReadErr::TooLong) => Err(Cause::TooLong),
-        Err(ReadErr::NoMemory) => Err(Cause::NoMemory),
-    }
+    let octets = read_all(alloc, source, MOST_OCTETS)?;
+    output(alloc, command, octets.as_slice())
 }
 
 /// Writes a text to the out sink.
@@ -104,7 +49,7 @@ fn print<O: Sink>(out: &mut O, text: &[u8]) -> Cause
     ensures fault { (written : ℕ) → result ≡ Cause.WriteFault written → Rose (O.faults out.old) (O.faults out.new) }
     ensures counts { (IsWriteFault result → ⊥) → O.faults out.new ≡ O.faults out.old }
     ensures memory { result ≡ Cause.NoMemory → PartOf (O.held out.old) (O.held out.new) text.now }
-    ensures only { IsOfWriting result }
+    ensures only { EndsWriting result }
 {
     match write_whole(out, text) {
         Ok(()) => Cause::Done,
@@ -123,21 +68,21 @@ fn carry_out<I: Source, O: Sink>(
     ensures { CarriedOut I.left I.faults O.held O.faults command source.old source.new out.old out.new result }
 {
     match read_output(alloc, command, source) {
-        Ok(text) => print(out, text.as_bytes()),
+        Ok(text) => print(out, text.as_slice()),
         Err(cause) => cause,
     }
 }
 
-/// Does what the words ask for.
+/// Carries out the command that was found in the table of words, if any.
 fn end_of<I: Source, O: Sink>(
     alloc: Global,
-    words: &Seq<Seq<u8>>,
+    found: Option<Command>,
     source: &mut I,
     out: &mut O,
 ) -> Cause
-    ensures { IsEnding I.left I.faults O.held O.faults words.now source.old source.new out.old out.new result }
+    ensures { IsEnding I.left I.faults O.held O.faults found source.old source.new out.old out.new result }
 {
-    match command_of(words) {
+    match found {
         Some(command) => carry_out(alloc, command, source, out),
         None => Cause::BadWords,
     }
@@ -154,10 +99,11 @@ pub fn srp_plain<I: Source, O: Sink, E: Sink>(
     err: &mut E,
 ) -> Outcome
     ensures status { result.status ≡ status_of_spec result.cause }
-    ensures ending { IsEnding I.left I.faults O.held O.faults words.now source.old source.new out.old out.new result.cause }
+    ensures ending { IsEnding I.left I.faults O.held O.faults (command_of_spec words.now)
+        source.old source.new out.old out.new result.cause }
     ensures told { GainsFront (E.held err.old) (E.held err.new) (err_text result.cause) }
 {
-    let cause = end_of(alloc, words, source, out);
+    let cause = end_of(alloc, command_of(words), source, out);
     tell(alloc, err, cause);
     Outcome {
         status: status_of(cause),
@@ -174,7 +120,8 @@ pub fn srp_main<R: AllocGlobal, I: Source, O: Sink, E: Sink>(
     err: &mut E,
 ) -> Outcome
     ensures status { result.status ≡ status_of_spec result.cause }
-    ensures ending { IsEnding I.left I.faults O.held O.faults words.now source.old source.new out.old out.new result.cause }
+    ensures ending { IsEnding I.left I.faults O.held O.faults (command_of_spec words.now)
+        source.old source.new out.old out.new result.cause }
     ensures told { GainsFront (E.held err.old) (E.held err.new) (err_text result.cause) }
 {
     srp_plain(rt.alloc(), words, source, out, err)

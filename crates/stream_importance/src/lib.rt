@@ -15,14 +15,19 @@
 //! first and that the earlier booking counts is this project's own rule. The law
 //! `importance_is_an_order` says that it is a strict order in which any two entries of different streams
 //! compare.
+//!
+//! To extend it: one more thing that decides who is more important is one more comparison in
+//! `compare_importance`, in `specs/Importance.antt` and in `src/order.rt`, at its place in the order.
 #![tactic(auto)]
 
-pub mod entry;
-pub mod order;
-pub mod slope;
+mod entry;
+pub mod laws;
+mod order;
+mod slope;
 
 pub use entry::{Entry, Fit, Want};
-pub use order::{compare_importance, importance_is_an_order, more_important};
+pub use laws::importance_is_an_order;
+pub use order::{compare_importance, more_important};
 pub use slope::{Caps, slope_of};
 
 #[cfg(test)]

@@ -1,8 +1,8 @@
 //! Which of two entries is more important.
 
-ghost use Rattle.std.specs.Prelude.{◌≡◌, ℕ};
+ghost use Rattle.std.specs.Prelude.{◌≡◌};
 ghost use Rattle.std.specs.Ordering.{nat_cmp};
-ghost use Rattle.stream_importance.specs.Importance.{class_number, compare_importance, is_more_important, IsImportanceOrder, moment_or, rank_number};
+ghost use Rattle.stream_importance.specs.Importance.{class_number, compare_importance, is_more_important, moment_or, rank_number};
 
 use crate::entry::Entry;
 use srp_base::{Class, Cs, Rank};
@@ -22,9 +22,9 @@ pub fn compare_importance(now: Cs, x: &Entry, y: &Entry) -> Ordering
     ensures { result ≡ compare_importance now.0 x.now y.now }
 {
     by_class(x, y)
-        .then(by_rank(x, y))
-        .then(by_age(now, x, y))
-        .then(x.want.stream.cmp(&y.want.stream))
+        .then_with(|| by_rank(x, y))
+        .then_with(|| by_age(now, x, y))
+        .then_with(|| x.want.stream.cmp(&y.want.stream))
 }
 
 fn by_class(x: &Entry, y: &Entry) -> Ordering
@@ -44,10 +44,3 @@ fn by_age(now: Cs, x: &Entry, y: &Entry) -> Ordering
 {
     x.since.unwrap_or(now).cmp(&y.since.unwrap_or(now))
 }
-
-/// At every moment, in cs, more important is a strict order: of two entries at most one is more important
-/// than the other, of two entries of different streams exactly one is, and what is more important than a
-/// more important entry is more important.
-pub fn importance_is_an_order()
-    ensures { (now : ℕ) → IsImportanceOrder now }
-{}

@@ -9,7 +9,6 @@ use crate::input::table_of;
 use crate::ledger::file::{LedgerFile, read_ledger_file};
 use crate::outcome::Cause;
 use std::alloc::Global;
-use toml_rules::RuleErr;
 
 /// The ledger file of the octets, or the cause of its refusal.
 pub fn ledger_input(alloc: Global, octets: &[u8]) -> Result<LedgerFile, Cause>
@@ -19,9 +18,5 @@ pub fn ledger_input(alloc: Global, octets: &[u8]) -> Result<LedgerFile, Cause>
     ensures ticks { IfOk result (λ f. first_fall 1 0 f.wants ≡ None) }
 {
     let table = table_of(alloc, octets)?;
-    match read_ledger_file(alloc, &table) {
-        Ok(file) => Ok(file),
-        Err(RuleErr::Rule { rule, entry }) => Err(Cause::BadScenario { rule, entry }),
-        Err(RuleErr::NoMemory) => Err(Cause::NoMemory),
-    }
+    Ok(read_ledger_file(alloc, &table)?)
 }

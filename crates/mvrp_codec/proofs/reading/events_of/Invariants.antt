@@ -1,7 +1,7 @@
 use Rattle.std.proofs.Common.{◌≡◌, take}
 use Rattle.std.specs.List.{flat_map}
-use Rattle.mvrp_codec.specs.Meaning.{message_events}
+use Rattle.mvrp_codec.specs.Meaning.{events_in_place}
 use Rattle.mvrp_codec.proofs.reading.events_of.Given as goal
 
 abbrev pub invariant-loop-message : goal.invariant-loop-message
-invariant-loop-message l = l.out.items ≡ flat_map message_events (take l.message-index l.message-items)
+invariant-loop-message l = l.out.items ≡ flat_map (λ m. flat_map events_in_place m.vectors.items) (take l.message-index l.messages)

@@ -1,25 +1,42 @@
-use Rattle.std.proofs.Common.{◌≤◌, subst, sym}
-use Rattle.port_ledger.specs.Book.{Book, with_want}
-use Rattle.port_ledger.specs.Decision.{Decides}
-use Rattle.port_ledger.proofs.Keeping.{kept_with_want}
+use Rattle.std.proofs.Common.{◌≡◌, ◌≤◌, List, ap, subst, sym, ◌∙◌}
+use Rattle.stream_importance.specs.declared.entry.Entry.{Entry}
+use Rattle.port_ledger.specs.Book.{Book, IsKept, wanted_book, with_want}
+use Rattle.port_ledger.specs.Decision.{decided, Decides, IsAscending}
+use Rattle.port_ledger.proofs.Keeping.{ascending-with_want, ascending_wanted, kept_wanted}
+use Rattle.port_ledger.proofs.Marking.{different_from_ascending}
 use Rattle.port_ledger.proofs.PerStream.{same_again, wants_kept}
+use Rattle.port_ledger.proofs.Rounds.{decided_decides}
 use Rattle.port_ledger.proofs.ledger.Ledger.want.Goals as goal
+
+pub changes-requires-clause-after : goal.changes-requires-clause-after
+changes-requires-clause-after c =
+    subst (λ (es : List Entry). IsAscending es) (sym (c.deref-4.ensures.value ∙ rw c.deref.ensures.value at c.in_ok-entries.ensures.decided))
+    (ascending_wanted c.args.now.0 c.self.inside.caps c.self.inside.entries.items c.args.want (c.importance_is_an_order.ensures c.args.now.0) c.self.invariant.0.ascending)
 
 pub invariant_of-self : goal.invariant_of-self
 invariant_of-self c =
-    let decided = rw c.deref.ensures.value at c.in_ok-entries.ensures.decided in
-    kept_with_want _ _ c.args.want _ c.self.invariant (subst (λ (b : Book). b.moment ≤ c.args.now.0) (sym c.self.view_is) c.requires) decided
+    let book : Book = record { caps = c.self.inside.caps; moment = c.self.inside.moment.0; entries = c.self.inside.entries.items } in
+    let up : book.moment ≤ c.args.now.0 = subst (λ (b : Book). b.moment ≤ c.args.now.0) (sym c.self.view_is) c.requires in (
+      subst (λ (es : List Entry). IsKept (record { caps = c.self.inside.caps; moment = c.args.now.0; entries = es })) (sym (rw c.deref.ensures.value at c.in_ok-entries.ensures.decided))
+          (kept_wanted book c.args.now.0 c.args.want (c.importance_is_an_order.ensures c.args.now.0) c.self.invariant.0 up),
+      c.in_ok-entries.ensures.same,
+    )
+
+pub returns-clause-decided : goal.returns-clause-decided
+returns-clause-decided c =
+    let is : c.in_ok-entries.entries.items ≡ (wanted_book c.args.now.0 c.args.want c.args.self.now).entries =
+    rw c.deref.ensures.value at c.in_ok-entries.ensures.decided
+    ∙ ap (λ (b : Book). decided c.args.now.0 b.caps (with_want b.entries c.args.want)) c.self.view_is in
+    subst (λ (es : List Entry). Decides c.args.now.0 c.args.self.now.caps (with_want c.args.self.now.entries c.args.want) es) (sym is)
+    (decided_decides c.args.now.0 (c.importance_is_an_order.ensures c.args.now.0) c.args.self.now.caps (with_want c.args.self.now.entries c.args.want)
+    (different_from_ascending _ (ascending-with_want c.args.want c.args.self.now.entries c.stands.ensures.ascending)))
 
 pub returns-clause-kept : goal.returns-clause-kept
 returns-clause-kept c =
-    let decided = rw c.deref.ensures.value at c.in_ok-entries.ensures.decided in
-    wants_kept c.args.now.0 c.args.self.now.caps c.args.self.now.entries c.in_ok-entries.entries.items c.args.want
-    (subst (λ (b : Book). Decides c.args.now.0 b.caps (with_want b.entries c.args.want) c.in_ok-entries.entries.items) c.self.view_is decided)
+    wants_kept c.args.now.0 c.args.self.now.caps c.args.self.now.entries c.in_ok-entries.entries.items c.args.want (returns-clause-decided c)
 
 pub returns-clause-again : goal.returns-clause-again
 returns-clause-again c =
-    let decided = rw c.deref.ensures.value at c.in_ok-entries.ensures.decided in
     same_again c.args.now.0 (c.importance_is_an_order.ensures c.args.now.0)
     c.args.self.now.caps c.args.self.now.entries c.in_ok-entries.entries.items c.args.want
-    c.stands.ensures.ascending (c.stands.ensures.decided c.args.now.0 c.requires)
-    (subst (λ (b : Book). Decides c.args.now.0 b.caps (with_want b.entries c.args.want) c.in_ok-entries.entries.items) c.self.view_is decided)
+    c.stands.ensures.ascending (c.stands.ensures.decided c.args.now.0 c.requires) (returns-clause-decided c)

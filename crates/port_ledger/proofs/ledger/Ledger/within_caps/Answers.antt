@@ -4,7 +4,7 @@ use Rattle.port_ledger.proofs.Shares.{book_within}
 use Rattle.port_ledger.proofs.ledger.Ledger.within_caps.Goals as goal
 
 pub returns-clause-class_a : goal.returns-clause-class_a
-returns-clause-class_a c = (book_within c.args.self.now (c.importance_is_an_order.ensures c.args.self.now.moment) (subst (λ (b : Book). IsKept b) c.self.view_is c.self.invariant)).class_a
+returns-clause-class_a c = (book_within c.args.self.now (c.importance_is_an_order.ensures c.args.self.now.moment) (subst (λ (b : Book). IsKept b) c.self.view_is c.self.invariant.0)).class_a
 
 pub returns-clause-both : goal.returns-clause-both
-returns-clause-both c = (book_within c.args.self.now (c.importance_is_an_order.ensures c.args.self.now.moment) (subst (λ (b : Book). IsKept b) c.self.view_is c.self.invariant)).both
+returns-clause-both c = (book_within c.args.self.now (c.importance_is_an_order.ensures c.args.self.now.moment) (subst (λ (b : Book). IsKept b) c.self.view_is c.self.invariant.0)).both

@@ -1,0 +1,16 @@
+//! What awaits after a set has changed, key by key: laws over the lists that contracts see. Each is a
+//! function that does nothing; calling it brings the law to a proof.
+
+ghost use Rattle.std.specs.Prelude.{◌≡◌, ◌&&◌, ◌||◌, not, [], List};
+ghost use Rattle.std.specs.Ordering.{is_eq};
+ghost use Rattle.attribute_propagation.specs.Dirty.{is_awaiting, marked, all_marked, cleared};
+
+/// A key awaits once it, or a key that is the same, was marked; others await as before.
+pub fn each_key_awaits<K: Copy + Ord>()
+    ensures marked { (k x : K) (keys : List K)
+        → is_awaiting K.cmp k (marked K.cmp x keys) ≡ (is_eq (K.cmp x k) || is_awaiting K.cmp k keys) }
+    ensures all_marked { (k : K) (new keys : List K)
+        → is_awaiting K.cmp k (all_marked K.cmp new keys) ≡ (is_awaiting K.cmp k new || is_awaiting K.cmp k keys) }
+    ensures cleared { (k x : K) (keys : List K)
+        → is_awaiting K.cmp k (cleared K.cmp x keys) ≡ (not (is_eq (K.cmp x k)) && is_awaiting K.cmp k keys) }
+{}

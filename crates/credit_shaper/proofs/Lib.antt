@@ -1,0 +1,10 @@
+pub mod CreditLemmas
+pub mod MomentLemmas
+pub mod QueueLemmas
+pub mod TraceLemmas
+pub mod PortLemmas
+pub mod StartLemmas
+pub mod QuietLemmas
+pub mod BoundLemmas
+pub mod WindowLemmas
+pub mod DepartureLemmas

@@ -1,0 +1,147 @@
+-- Lists in order of bit times: what lies before and after an index.
+use Rattle.std.proofs.Common.{◌≡◌, ℕ, zero, suc, ◌+◌, ◌-◌, ◌<◌, ◌≤◌, ◌⊎◌, List, [], ◌∷◌, length, get_or, take, refl, sym, ◌∙◌, ap, subst, arith, inl, inr, Bool, true, false, cond, ◌++◌, drop, eqb}
+use Rattle.std.specs.Prelude.{All, AllPairs, HoldsAt, filter, nat_le, ◌==◌}
+use Rattle.std.specs.List.{AllWithin}
+use Rattle.std.proofs.lemmas.Bool.{cases_lt, cases_eq, ne_eqb, eq-eqb, lt-leb, le-leb}
+use Rattle.std.proofs.lemmas.List.{get_or_default}
+use Rattle.std.proofs.lemmas.List.Elements.{All-head, All-tail}
+use Rattle.credit_shaper.specs.declared.port.SlopeChange.{SlopeChange}
+use Rattle.credit_shaper.specs.declared.port.Arrival.{Arrival}
+use Rattle.credit_shaper.specs.declared.shaper.Traffic.TheVariants.{A}
+use Rattle.credit_shaper.specs.Port.{IsNotAfter, no_slopes, last_change, arrivals_at}
+use Rattle.credit_shaper.specs.Walk.{IsReached, arrival_bit, change_bit, newest}
+
+-- no element is before an earlier one
+abbrev pub IsNonDescending : {X : Type 0} → (X → ℕ) → List X → Type 0
+IsNonDescending {X} bit_of xs = (i j : ℕ) (d : X) → i ≤ j → j < length xs → bit_of (get_or xs i d) ≤ bit_of (get_or xs j d)
+
+pub not_after : (x y : Arrival) → IsNotAfter x y → x.bit ≤ y.bit
+not_after x y (inl l) = omega (arith, l)
+not_after x y (inr e) = omega (arith, e)
+
+pub in_order_arrivals : (xs : List Arrival) → AllPairs IsNotAfter xs → IsNonDescending arrival_bit xs
+in_order_arrivals xs order i j d l h =
+    elim (cases_eq i j) [
+      | inl e ↦ subst (λ (k : ℕ). (get_or xs i d).bit ≤ (get_or xs k d).bit) e (omega arith)
+      | inr ne ↦ not_after (get_or xs i d) (get_or xs j d) (order i j d (omega arith) h)
+    ]
+
+pub in_order_changes : (xs : List SlopeChange) → AllPairs (λ x y. x.bit < y.bit) xs → IsNonDescending change_bit xs
+in_order_changes xs order i j d l h =
+    elim (cases_eq i j) [
+      | inl e ↦ subst (λ (k : ℕ). (get_or xs i d).bit ≤ (get_or xs k d).bit) e (omega arith)
+      | inr ne ↦ let f : (get_or xs i d).bit < (get_or xs j d).bit = order i j d (omega arith) h in omega (arith, f)
+    ]
+
+-- an element that is read of before list
+abbrev pub blank : Arrival
+blank = record { bit = 0; traffic = A; bits = 0; frame = 0 }
+
+-- from an element on that isn't before a bit time, none is
+pub all_later : {X : Type 0} (bit_of : X → ℕ) (xs : List X) (t i : ℕ) (e : X) → IsNonDescending bit_of xs
+    → i < length xs → t ≤ bit_of (get_or xs i e) → AllWithin (λ y. t ≤ bit_of y) xs i (length xs)
+all_later bit_of xs t i e order l h k d from to =
+    let here : bit_of (get_or xs i e) ≡ bit_of (get_or xs i d) = ap bit_of (get_or_default xs i e d l) in
+    let up : bit_of (get_or xs i d) ≤ bit_of (get_or xs k d) = order i k d from to in
+    omega (arith, here, up, h)
+
+-- the last of the first changes
+pub newest-take : (xs : List SlopeChange) (n : ℕ) (current d : SlopeChange) → n < length xs
+    → newest current (take (suc n) xs) ≡ get_or xs n d
+newest-take [] n current d l = absurd (omega (arith, l))
+newest-take (x ∷ xs) zero current d l = refl
+newest-take (x ∷ xs) (suc n) current d l = newest-take xs n x d (omega (arith, l))
+
+pub reached_at_start : {X : Type 0} (bit_of : X → ℕ) (xs : List X) → IsReached bit_of 0 0 xs
+reached_at_start bit_of xs =
+    record { within = omega arith; before = λ k d _ h. absurd (omega (arith, h)); later = λ k d _ _. omega arith }
+
+-- more is reached by a later bit time
+pub reached_more : {X : Type 0} (bit_of : X → ℕ) (xs : List X) (s t m n : ℕ) (d : X) → s ≤ t
+    → IsReached bit_of s m xs → IsReached bit_of t n xs → m ≤ n
+reached_more bit_of xs s t m n d up low high =
+    elim (cases_lt n m) [
+      | inl l ↦
+          let early : bit_of (get_or xs n d) < s = low.before n d (omega arith) l in
+          let late : t ≤ bit_of (get_or xs n d) = high.later n d (omega arith) (omega (arith, l, low.within)) in
+          absurd (omega (arith, early, late, up))
+      | inr l ↦ l
+    ]
+
+-- what passes a test, where that is a part of the list
+filter_part : {X : Type 0} (p : X → Bool) (xs : List X) (m n : ℕ) → m ≤ n → n ≤ length xs
+    → AllWithin (λ x. p x ≡ false) xs 0 m → AllWithin (λ x. p x ≡ true) xs m n
+    → AllWithin (λ x. p x ≡ false) xs n (length xs) → take n xs ≡ take m xs ++ filter p xs
+filter_part p [] zero zero up l before in_part after = refl
+filter_part p [] (suc m) n up l before in_part after = absurd (omega (arith, up, l))
+filter_part p [] zero (suc n) up l before in_part after = absurd (omega (arith, l))
+filter_part p (x ∷ xs) zero zero up l before in_part after =
+    let out : p x ≡ false = after 0 x (omega arith) (omega arith) in
+    let rest : [] ≡ filter p xs = filter_part p xs 0 0 (omega arith) (omega arith)
+        (λ k d a b. absurd (omega (arith, b))) (λ k d a b. absurd (omega (arith, b))) (λ k d a b. after (suc k) d (omega arith) (omega (arith, b))) in
+    rw out rest
+filter_part p (x ∷ xs) zero (suc n) up l before in_part after =
+    let inside : p x ≡ true = in_part 0 x (omega arith) (omega arith) in
+    let rest : take n xs ≡ filter p xs = filter_part p xs 0 n (omega arith) (omega (arith, l))
+        (λ k d a b. absurd (omega (arith, b))) (λ k d a b. in_part (suc k) d (omega arith) (omega (arith, b))) (λ k d a b. after (suc k) d (omega (arith, a)) (omega (arith, b))) in
+    rw inside (ap (λ ys. x ∷ ys) rest)
+filter_part p (x ∷ xs) (suc m) zero up l before in_part after = absurd (omega (arith, up))
+filter_part p (x ∷ xs) (suc m) (suc n) up l before in_part after =
+    let out : p x ≡ false = before 0 x (omega arith) (omega arith) in
+    let rest : take n xs ≡ take m xs ++ filter p xs = filter_part p xs m n (omega (arith, up)) (omega (arith, l))
+        (λ k d a b. before (suc k) d (omega arith) (omega (arith, b))) (λ k d a b. in_part (suc k) d (omega (arith, a)) (omega (arith, b))) (λ k d a b. after (suc k) d (omega (arith, a)) (omega (arith, b))) in
+    rw out (ap (λ ys. x ∷ ys) rest)
+
+-- the arrivals of a bit time are those between what was reached before it and by it
+pub arrivals_join : (xs : List Arrival) (t m n : ℕ) → IsReached arrival_bit t m xs → IsReached arrival_bit (t + 1) n xs
+    → take n xs ≡ take m xs ++ arrivals_at xs t
+arrivals_join xs t m n low high =
+    filter_part (λ x. x.bit == t) xs m n (reached_more arrival_bit xs t (t + 1) m n blank (omega arith) low high) high.within
+    (λ k d a b. ne_eqb (get_or xs k d).bit t (λ e. let f : (get_or xs k d).bit < t = low.before k d a b in omega (arith, e, f)))
+    (λ k d a b. eq-eqb (get_or xs k d).bit t
+      (let f : t ≤ (get_or xs k d).bit = low.later k d a (omega (arith, b, high.within)) in
+      let g : (get_or xs k d).bit < t + 1 = high.before k d (omega arith) b in
+      omega (arith, f, g)))
+    (λ k d a b. ne_eqb (get_or xs k d).bit t (λ e. let f : t + 1 ≤ (get_or xs k d).bit = high.later k d a b in omega (arith, e, f)))
+
+-- where nothing passes a test nothing is kept
+pub filter_nothing : {X : Type 0} (p : X → Bool) (xs : List X) → All (λ x. p x ≡ false) xs → filter p xs ≡ []
+filter_nothing p [] all = refl
+filter_nothing p (x ∷ xs) all =
+    let here : p x ≡ false = All-head (λ y. p y ≡ false) x xs all in
+    rw here (filter_nothing p xs (All-tail (λ y. p y ≡ false) x xs all))
+
+-- nothing arrives between two bit times by which the same is reached
+pub arrivals_none : (xs : List Arrival) (s t n k : ℕ) → IsReached arrival_bit s n xs → IsReached arrival_bit t n xs
+    → s ≤ k → k < t → arrivals_at xs k ≡ []
+arrivals_none xs s t n k low high from to =
+    filter_nothing (λ x. x.bit == k) xs (λ i d b. ne_eqb (get_or xs i d).bit k (λ e.
+      elim (cases_lt i n) [
+        | inl l ↦ let f : (get_or xs i d).bit < s = low.before i d (omega arith) l in omega (arith, e, f, from)
+        | inr l ↦ let f : t ≤ (get_or xs i d).bit = high.later i d l b in omega (arith, e, f, to)
+      ]))
+
+-- no change is in force where all are later
+change_none : (xs : List SlopeChange) (t : ℕ) (current : SlopeChange) → AllWithin (λ x. t < x.bit) xs 0 (length xs)
+    → last_change t current xs ≡ current
+change_none [] t current late = refl
+change_none (x ∷ xs) t current late =
+    let out : nat_le x.bit t ≡ false = lt-leb x.bit t (late 0 x (omega arith) (omega arith)) in
+    rw out (change_none xs t current (λ k d a b. late (suc k) d (omega arith) (omega (arith, b))))
+
+last_change_is : (xs : List SlopeChange) (n t : ℕ) (current : SlopeChange) → n ≤ length xs
+    → AllWithin (λ x. x.bit ≤ t) xs 0 n → AllWithin (λ x. t < x.bit) xs n (length xs)
+    → last_change t current xs ≡ newest current (take n xs)
+last_change_is xs zero t current l early late = change_none xs t current late
+last_change_is [] (suc n) t current l early late = absurd (omega (arith, l))
+last_change_is (x ∷ xs) (suc n) t current l early late =
+    let inside : nat_le x.bit t ≡ true = le-leb x.bit t (early 0 x (omega arith) (omega arith)) in
+    rw inside (last_change_is xs n t x (omega (arith, l)) (λ k d a b. early (suc k) d (omega arith) (omega (arith, b))) (λ k d a b. late (suc k) d (omega (arith, a)) (omega (arith, b))))
+
+-- the slopes in force in a bit time are the last of those reached
+pub slopes_reached : (xs : List SlopeChange) (s t n k : ℕ) → IsReached change_bit s n xs → IsReached change_bit t n xs
+    → s ≤ k + 1 → k < t → last_change k no_slopes xs ≡ newest no_slopes (take n xs)
+slopes_reached xs s t n k low high from to =
+    last_change_is xs n k no_slopes low.within
+    (λ i d a b. let f : (get_or xs i d).bit < s = low.before i d a b in omega (arith, f, from))
+    (λ i d a b. let f : t ≤ (get_or xs i d).bit = high.later i d a b in omega (arith, f, to))

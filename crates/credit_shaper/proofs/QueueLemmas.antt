@@ -1,0 +1,257 @@
+-- The waiting frames and the three queues: what an index for each traffic makes of the arrivals.
+use Rattle.std.proofs.Common.{◌≡◌, ℕ, zero, suc, ◌+◌, ◌-◌, ◌<◌, ◌≤◌, ◌⊎◌, Bool, true, false, cond, List, [], ◌∷◌, ◌++◌, length, get_or, take, Option, Some, None, refl, sym, ◌∙◌, ap, subst, arith, inl, inr, add-one, add-zero, append_assoc}
+use Rattle.std.specs.Prelude.{nat_le, nat_lt, find, is_some, HoldsAt}
+use Rattle.std.specs.List.{AllWithin}
+use Rattle.std.proofs.lemmas.Bool.{cond-true, cond-false, le-leb, lt-leb, leb-true, lt-ltb, le-ltb, eqb-true, ne_eqb, eq-eqb, false≢true, cases_lt, cases_Bool, cases_eq}
+use Rattle.std.proofs.lemmas.List.{length-take-le, get_or-take, get_or_default}
+use Rattle.credit_shaper.specs.declared.shaper.Traffic.{Traffic}
+use Rattle.credit_shaper.specs.declared.shaper.Traffic.TheVariants.{A, B, Other}
+use Rattle.credit_shaper.specs.declared.port.Arrival.{Arrival}
+use Rattle.credit_shaper.specs.declared.queues.Heads.{Heads}
+use Rattle.credit_shaper.specs.Credit.{traffic_number}
+use Rattle.credit_shaper.specs.Port.{is_of}
+use Rattle.credit_shaper.specs.Trace.{head_of, does_wait, without_head}
+use Rattle.credit_shaper.specs.Walk.{head_index, with_head_index, pending, AreWithin, AreHeads, IsHead}
+use Rattle.credit_shaper.proofs.MomentLemmas.{blank}
+
+-- traffics with one number are one
+pub same_traffic : (x y : Traffic) → (traffic_number x ≡ traffic_number y) → x ≡ y
+same_traffic A A e = refl
+same_traffic A B e = absurd (omega (arith, e))
+same_traffic A Other e = absurd (omega (arith, e))
+same_traffic B A e = absurd (omega (arith, e))
+same_traffic B B e = refl
+same_traffic B Other e = absurd (omega (arith, e))
+same_traffic Other A e = absurd (omega (arith, e))
+same_traffic Other B e = absurd (omega (arith, e))
+same_traffic Other Other e = refl
+
+pub traffic_of : (traffic : Traffic) (x : Arrival) → is_of traffic x ≡ true → x.traffic ≡ traffic
+traffic_of traffic x e = same_traffic x.traffic traffic (eqb-true (traffic_number x.traffic) (traffic_number traffic) e)
+
+-- an index that is read after another was put: of the same traffic or not
+pub head_index-same : (traffic : Traffic) (n : ℕ) (h : Heads) → head_index (with_head_index traffic n h) traffic ≡ n
+head_index-same A n h = refl
+head_index-same B n h = refl
+head_index-same Other n h = refl
+
+pub head_index-other : (traffic other : Traffic) (n : ℕ) (h : Heads) → (traffic_number other ≡ traffic_number traffic → ⊥)
+    → head_index (with_head_index traffic n h) other ≡ head_index h other
+head_index-other A A n h ne = absurd (ne refl)
+head_index-other A B n h ne = refl
+head_index-other A Other n h ne = refl
+head_index-other B A n h ne = refl
+head_index-other B B n h ne = absurd (ne refl)
+head_index-other B Other n h ne = refl
+head_index-other Other A n h ne = refl
+head_index-other Other B n h ne = refl
+head_index-other Other Other n h ne = absurd (ne refl)
+
+-- a fact of each traffic, with another index for one
+pub head_index-each : (P : Traffic → ℕ → Type 0) (traffic : Traffic) (n : ℕ) (h : Heads) → P traffic n
+    → ((other : Traffic) → P other (head_index h other)) → (other : Traffic) → P other (head_index (with_head_index traffic n h) other)
+head_index-each P A n h new old A = new
+head_index-each P A n h new old B = old B
+head_index-each P A n h new old Other = old Other
+head_index-each P B n h new old A = old A
+head_index-each P B n h new old B = new
+head_index-each P B n h new old Other = old Other
+head_index-each P Other n h new old A = old A
+head_index-each P Other n h new old B = old B
+head_index-each P Other n h new old Other = new
+
+-- indices that take the same frames in and leave the same out
+pub same_pending : (g h : Heads) (i : ℕ) (xs : List Arrival)
+    → ((k : ℕ) → k < length xs → nat_le (head_index g (get_or xs k blank).traffic) (i + k) ≡ nat_le (head_index h (get_or xs k blank).traffic) (i + k))
+    → pending g i xs ≡ pending h i xs
+same_pending g h i [] same = refl
+same_pending g h i (x ∷ xs) same =
+    let here : nat_le (head_index g x.traffic) i ≡ nat_le (head_index h x.traffic) i = rw add-zero at (same 0 (omega arith)) in
+    let rest : pending g (i + 1) xs ≡ pending h (i + 1) xs =
+        same_pending g h (i + 1) xs (λ k l.
+          subst (λ (n : ℕ). nat_le (head_index g (get_or xs k blank).traffic) n ≡ nat_le (head_index h (get_or xs k blank).traffic) n)
+          (omega arith) (same (suc k) (omega (arith, l)))) in
+    rw (here, rest) refl
+
+pub pending-append : (h : Heads) (i : ℕ) (xs ys : List Arrival)
+    → pending h i (xs ++ ys) ≡ pending h i xs ++ pending h (i + length xs) ys
+pending-append h i [] ys = ap (λ n. pending h n ys) (omega arith)
+pending-append h i (x ∷ xs) ys =
+    let more : pending h (i + 1) (xs ++ ys) ≡ pending h (i + 1) xs ++ pending h (i + suc (length xs)) ys =
+        pending-append h (i + 1) xs ys ∙ ap (λ n. pending h (i + 1) xs ++ pending h n ys) (omega arith) in
+    elim (nat_le (head_index h x.traffic) i) as (λ b. cond b (x ∷ pending h (i + 1) (xs ++ ys)) (pending h (i + 1) (xs ++ ys))
+      ≡ cond b (x ∷ pending h (i + 1) xs) (pending h (i + 1) xs) ++ pending h (i + suc (length xs)) ys) [
+      | true ↦ ap (λ zs. x ∷ zs) more
+      | false ↦ more
+    ]
+
+-- where no queue begins later, all are pending
+pub pending-all : (h : Heads) (i : ℕ) (xs : List Arrival) → AreWithin i h → pending h i xs ≡ xs
+pending-all h i [] low = refl
+pending-all h i (x ∷ xs) low =
+    cond-true (nat_le (head_index h x.traffic) i) _ _ (le-leb (head_index h x.traffic) i (low x.traffic))
+    ∙ ap (λ zs. x ∷ zs) (pending-all h (i + 1) xs (λ traffic. omega (arith, low traffic)))
+
+-- frames that come where no queue begins later join the waiting ones
+pub pending-join : (h : Heads) (xs ys : List Arrival) → AreWithin (length xs) h
+    → pending h 0 (xs ++ ys) ≡ pending h 0 xs ++ ys
+pending-join h xs ys low =
+    let n : 0 + length xs ≡ length xs = omega arith in
+    pending-append h 0 xs ys ∙ ap (λ zs. pending h 0 xs ++ zs) (ap (λ k. pending h k ys) n ∙ pending-all h (length xs) ys low)
+
+-- the first frame of a queue is at its index, and there is none where the index is past the frames
+pub head_of-at : (h : Heads) (traffic : Traffic) (xs : List Arrival) (i j : ℕ) → head_index h traffic ≡ i + j
+    → j < length xs → is_of traffic (get_or xs j blank) ≡ true
+    → head_of traffic (pending h i xs) ≡ Some (get_or xs j blank)
+head_of-at h traffic [] i j e l here = absurd (omega (arith, l))
+head_of-at h traffic (x ∷ xs) i zero e l here =
+    let same : x.traffic ≡ traffic = traffic_of traffic x here in
+    let inside : nat_le (head_index h x.traffic) i ≡ true = le-leb (head_index h x.traffic) i (omega (arith, e, ap (head_index h) same)) in
+    rw inside (rw here refl)
+head_of-at h traffic (x ∷ xs) i (suc j) e l here =
+    let rest : head_of traffic (pending h (i + 1) xs) ≡ Some (get_or xs j blank) = head_of-at h traffic xs (i + 1) j (omega (arith, e)) (omega (arith, l)) here in
+    elim (cases_Bool (is_of traffic x)) [
+      | inl own ↦
+          let out : nat_le (head_index h x.traffic) i ≡ false = lt-leb (head_index h x.traffic) i (omega (arith, e, ap (head_index h) (traffic_of traffic x own))) in
+          rw out rest
+      | inr other ↦ elim (cases_Bool (nat_le (head_index h x.traffic) i)) [ inl y ↦ rw y (rw other rest) | inr n ↦ rw n rest ]
+    ]
+
+pub head_of-none : (h : Heads) (traffic : Traffic) (xs : List Arrival) (i : ℕ) → i + length xs ≤ head_index h traffic
+    → head_of traffic (pending h i xs) ≡ None
+head_of-none h traffic [] i past = refl
+head_of-none h traffic (x ∷ xs) i past =
+    let rest : head_of traffic (pending h (i + 1) xs) ≡ None = head_of-none h traffic xs (i + 1) (omega (arith, past)) in
+    elim (cases_Bool (is_of traffic x)) [
+      | inl own ↦
+          let out : nat_le (head_index h x.traffic) i ≡ false = lt-leb (head_index h x.traffic) i (omega (arith, past, ap (head_index h) (traffic_of traffic x own))) in
+          rw out rest
+      | inr other ↦ elim (cases_Bool (nat_le (head_index h x.traffic) i)) [ inl y ↦ rw y (rw other rest) | inr n ↦ rw n rest ]
+    ]
+
+-- frames after both indices of a traffic are taken in alike
+after_both : (g h : Heads) (i : ℕ) (xs : List Arrival) → ((traffic : Traffic) → (head_index g traffic ≡ head_index h traffic) ⊎ ((head_index g traffic ≤ i) × (head_index h traffic ≤ i)))
+    → pending g i xs ≡ pending h i xs
+after_both g h i xs same =
+    same_pending g h i xs (λ k l.
+      elim (same (get_or xs k blank).traffic) [
+        | inl e ↦ ap (λ n. nat_le n (i + k)) e
+        | inr low ↦ le-leb (head_index g (get_or xs k blank).traffic) (i + k) (omega (arith, low.0)) ∙ sym (le-leb (head_index h (get_or xs k blank).traffic) (i + k) (omega (arith, low.1)))
+      ])
+
+-- without the first of a queue, the queue begins at the next index
+pub without_head-at : (h : Heads) (traffic : Traffic) (xs : List Arrival) (i j : ℕ) → head_index h traffic ≡ i + j
+    → j < length xs → is_of traffic (get_or xs j blank) ≡ true
+    → without_head traffic (pending h i xs) ≡ pending (with_head_index traffic (i + j + 1) h) i xs
+without_head-at h traffic [] i j e l here = absurd (omega (arith, l))
+without_head-at h traffic (x ∷ xs) i zero e l here =
+    let g : Heads = with_head_index traffic (i + 0 + 1) h in
+    let same : x.traffic ≡ traffic = traffic_of traffic x here in
+    let put : head_index g traffic ≡ i + 0 + 1 = head_index-same traffic (i + 0 + 1) h in
+    let inside : nat_le (head_index h x.traffic) i ≡ true = le-leb (head_index h x.traffic) i (omega (arith, e, ap (head_index h) same)) in
+    let out : nat_le (head_index g x.traffic) i ≡ false = lt-leb (head_index g x.traffic) i (omega (arith, put, ap (head_index g) same)) in
+    let each : (other : Traffic) → (head_index h other ≡ head_index g other) ⊎ ((head_index h other ≤ i + 1) × (head_index g other ≤ i + 1)) =
+        λ other. elim (cases_eq (traffic_number other) (traffic_number traffic)) [
+          | inl f ↦ let one : other ≡ traffic = same_traffic other traffic f in
+              inr (omega (arith, e, ap (head_index h) one), omega (arith, put, ap (head_index g) one))
+          | inr ne ↦ inl (sym (head_index-other traffic other (i + 0 + 1) h ne))
+        ] in
+    let rest : pending h (i + 1) xs ≡ pending g (i + 1) xs = after_both h g (i + 1) xs each in
+    rw inside (rw (here, out) rest)
+without_head-at h traffic (x ∷ xs) i (suc j) e l here =
+    let g : Heads = with_head_index traffic (i + suc j + 1) h in
+    let put : head_index g traffic ≡ i + suc j + 1 = head_index-same traffic (i + suc j + 1) h in
+    let rest : without_head traffic (pending h (i + 1) xs) ≡ pending g (i + 1) xs =
+        without_head-at h traffic xs (i + 1) j (omega (arith, e)) (omega (arith, l)) here
+        ∙ ap (λ n. pending (with_head_index traffic n h) (i + 1) xs) (omega arith) in
+    elim (cases_eq (traffic_number x.traffic) (traffic_number traffic)) [
+      | inl f ↦
+          let same : x.traffic ≡ traffic = same_traffic x.traffic traffic f in
+          let out : nat_le (head_index h x.traffic) i ≡ false = lt-leb (head_index h x.traffic) i (omega (arith, e, ap (head_index h) same)) in
+          let out' : nat_le (head_index g x.traffic) i ≡ false = lt-leb (head_index g x.traffic) i (omega (arith, put, ap (head_index g) same)) in
+          rw out (rw out' rest)
+      | inr ne ↦
+          let other : is_of traffic x ≡ false = ne_eqb (traffic_number x.traffic) (traffic_number traffic) ne in
+          let kept : head_index g x.traffic ≡ head_index h x.traffic = head_index-other traffic x.traffic (i + suc j + 1) h ne in
+          elim (cases_Bool (nat_le (head_index h x.traffic) i)) [
+            | inl y ↦ let y' : nat_le (head_index g x.traffic) i ≡ true = ap (λ n. nat_le n i) kept ∙ y in rw y (rw (other, y') (ap (λ zs. x ∷ zs) rest))
+            | inr n ↦ let n' : nat_le (head_index g x.traffic) i ≡ false = ap (λ n. nat_le n i) kept ∙ n in rw n (rw n' rest)
+          ]
+    ]
+
+-- indices that move on over frames of other traffic change nothing
+pub pending-settled : (g h : Heads) (arrivals : List Arrival) (came : ℕ) → came ≤ length arrivals
+    → ((traffic : Traffic) → (head_index g traffic ≤ head_index h traffic) × AllWithin (λ x. is_of traffic x ≡ false) arrivals (head_index g traffic) (head_index h traffic))
+    → pending h 0 (take came arrivals) ≡ pending g 0 (take came arrivals)
+pending-settled g h arrivals came within moved =
+    same_pending h g 0 (take came arrivals) (λ k l.
+      let x : Arrival = get_or (take came arrivals) k blank in
+      let long : length (take came arrivals) ≡ came = length-take-le came arrivals within in
+      let read : x ≡ get_or arrivals k blank = get_or-take came arrivals k blank (omega (arith, long, l)) in
+      let skipped = moved x.traffic in
+      elim (cases_lt k (head_index g x.traffic)) [
+        | inl low ↦ lt-leb (head_index h x.traffic) (0 + k) (omega (arith, low, skipped.0)) ∙ sym (lt-leb (head_index g x.traffic) (0 + k) (omega (arith, low)))
+        | inr high ↦ elim (cases_lt k (head_index h x.traffic)) [
+          | inl between ↦
+              let other : is_of x.traffic (get_or arrivals k blank) ≡ false = skipped.1 k blank high between in
+              let own : is_of x.traffic x ≡ true = eq-eqb (traffic_number x.traffic) (traffic_number x.traffic) refl in
+              absurd (false≢true (sym other ∙ (ap (is_of x.traffic) (sym read) ∙ own)))
+          | inr over ↦ le-leb (head_index h x.traffic) (0 + k) (omega (arith, over)) ∙ sym (le-leb (head_index g x.traffic) (0 + k) (omega (arith, high)))
+        ]
+      ])
+
+-- the first frame of a queue, where there is one
+pub frame_at : (h : Heads) (arrivals : List Arrival) (came : ℕ) (traffic : Traffic) → AreHeads arrivals came h
+    → came ≤ length arrivals → head_index h traffic < came
+    → head_of traffic (pending h 0 (take came arrivals)) ≡ Some (get_or arrivals (head_index h traffic) blank)
+frame_at h arrivals came traffic heads within l =
+    let j : ℕ = head_index h traffic in
+    let long : length (take came arrivals) ≡ came = length-take-le came arrivals within in
+    let read : get_or (take came arrivals) j blank ≡ get_or arrivals j blank = get_or-take came arrivals j blank l in
+    let here : is_of traffic (get_or arrivals j blank) ≡ true = (heads traffic).1 l blank in
+    head_of-at h traffic (take came arrivals) 0 j (omega arith) (omega (arith, long, l)) (ap (is_of traffic) read ∙ here)
+    ∙ ap (λ x. Some x) read
+
+pub frame_none : (h : Heads) (arrivals : List Arrival) (came : ℕ) (traffic : Traffic) → came ≤ length arrivals
+    → came ≤ head_index h traffic → head_of traffic (pending h 0 (take came arrivals)) ≡ None
+frame_none h arrivals came traffic within l =
+    let long : length (take came arrivals) ≡ came = length-take-le came arrivals within in
+    head_of-none h traffic (take came arrivals) 0 (omega (arith, long, l))
+
+-- a queue has a frame where its index is below the number of those that have come
+pub waits_is : (h : Heads) (arrivals : List Arrival) (came : ℕ) (traffic : Traffic) → AreHeads arrivals came h
+    → came ≤ length arrivals → does_wait traffic (pending h 0 (take came arrivals)) ≡ nat_lt (head_index h traffic) came
+waits_is h arrivals came traffic heads within =
+    elim (cases_lt (head_index h traffic) came) [
+      | inl l ↦ ap is_some (frame_at h arrivals came traffic heads within l) ∙ sym (lt-ltb (head_index h traffic) came l)
+      | inr l ↦ ap is_some (frame_none h arrivals came traffic within l) ∙ sym (le-ltb (head_index h traffic) came l)
+    ]
+
+-- without its first frame, a queue begins at the next frame of its traffic
+pub without_first : (h : Heads) (arrivals : List Arrival) (came : ℕ) (x : Arrival) (n : ℕ) → AreHeads arrivals came h
+    → came ≤ length arrivals → head_index h x.traffic < came → get_or arrivals (head_index h x.traffic) blank ≡ x
+    → head_index h x.traffic + 1 ≤ n
+    → AllWithin (λ y. is_of x.traffic y ≡ false) arrivals (head_index h x.traffic + 1) n
+    → pending (with_head_index x.traffic n h) 0 (take came arrivals) ≡ without_head x.traffic (pending h 0 (take came arrivals))
+without_first h arrivals came x n heads within l first up others =
+    let traffic : Traffic = x.traffic in
+    let j : ℕ = head_index h traffic in
+    let g : Heads = with_head_index traffic (j + 1) h in
+    let long : length (take came arrivals) ≡ came = length-take-le came arrivals within in
+    let read : get_or (take came arrivals) j blank ≡ get_or arrivals j blank = get_or-take came arrivals j blank l in
+    let here : is_of traffic (get_or arrivals j blank) ≡ true = (heads traffic).1 l blank in
+    let moved : (other : Traffic) → (head_index g other ≤ head_index (with_head_index traffic n h) other)
+        × AllWithin (λ y. is_of other y ≡ false) arrivals (head_index g other) (head_index (with_head_index traffic n h) other) =
+        λ other. elim (cases_eq (traffic_number other) (traffic_number traffic)) [
+          | inl f ↦
+              subst (λ (t : Traffic). (head_index g t ≤ head_index (with_head_index traffic n h) t)
+                × AllWithin (λ y. is_of t y ≡ false) arrivals (head_index g t) (head_index (with_head_index traffic n h) t))
+              (sym (same_traffic other traffic f))
+              (rw (head_index-same traffic (j + 1) h, head_index-same traffic n h) (up, others))
+          | inr ne ↦
+              rw (head_index-other traffic other (j + 1) h ne, head_index-other traffic other n h ne)
+              (omega arith, λ k d from to. absurd (omega (arith, from, to)))
+        ] in
+    pending-settled g (with_head_index traffic n h) arrivals came within moved
+    ∙ sym (without_head-at h traffic (take came arrivals) 0 j (omega arith) (omega (arith, long, l)) (ap (is_of traffic) read ∙ here)
+      ∙ ap (λ k. pending (with_head_index traffic k h) 0 (take came arrivals)) (omega arith))

@@ -1,0 +1,150 @@
+-- What a trace's steps make of the port that it stands for.
+use Rattle.std.proofs.Common.{◌≡◌, ℕ, zero, suc, ◌+◌, ◌-◌, ◌<◌, ◌≤◌, ◌⊎◌, Bool, true, false, cond, List, [], ◌∷◌, ◌++◌, length, get_or, take, Option, Some, None, refl, sym, ◌∙◌, ap, subst, arith, inl, inr, map}
+use Rattle.std.specs.Prelude.{nat_le, nat_lt, find, is_some, HoldsAt, ◌&&◌, int_le, pos, if◌then◌else◌}
+use Rattle.std.specs.List.{AllWithin}
+use Rattle.std.proofs.lemmas.List.{length-take-le, take_all}
+use Rattle.std.proofs.lemmas.Bool.{cond-true, cond-false, le-leb, lt-leb, cases_lt}
+use Rattle.credit_shaper.specs.declared.shaper.Traffic.{Traffic}
+use Rattle.credit_shaper.specs.declared.shaper.Traffic.TheVariants.{A, B, Other}
+use Rattle.credit_shaper.specs.declared.port.Arrival.{Arrival}
+use Rattle.credit_shaper.specs.declared.trace.PortTrace.{PortTrace}
+use Rattle.credit_shaper.specs.declared.port.SlopeChange.{SlopeChange}
+use Rattle.credit_shaper.specs.declared.port.PortInput.{PortInput}
+use Rattle.credit_shaper.specs.declared.port.Departure.{Departure}
+use Rattle.credit_shaper.specs.declared.queues.Heads.{Heads}
+use Rattle.credit_shaper.specs.Port.{IsPortInput, no_slopes, slopes_at, arrivals_at}
+use Rattle.credit_shaper.specs.Trace.{head_of, turn_of, does_wait, with_arrivals, fresh_port, port_at, departures_of}
+use Rattle.credit_shaper.specs.Walk.{head_index, pending, AreHeads, HasReached, IsReached, IsQuiet, arrival_bit, change_bit, newest, waiting_of, port_of, turn_in, has_frame, moved_to}
+use Rattle.credit_shaper.proofs.CreditLemmas.{after_bits_is}
+use Rattle.credit_shaper.proofs.MomentLemmas.{blank, arrivals_join, slopes_reached}
+use Rattle.credit_shaper.proofs.QueueLemmas.{frame_at, frame_none, waits_is, pending-join}
+
+-- whose turn it is, by the indices
+pub turn_is : (arrivals : List Arrival) (trace : PortTrace) → AreHeads arrivals trace.came trace.heads
+    → trace.came ≤ length arrivals → turn_of trace.shaper (waiting_of arrivals trace) ≡ turn_in trace
+turn_is arrivals trace heads within =
+    let a : does_wait A (waiting_of arrivals trace) ≡ has_frame trace A = waits_is trace.heads arrivals trace.came A heads within in
+    let b : does_wait B (waiting_of arrivals trace) ≡ has_frame trace B = waits_is trace.heads arrivals trace.came B heads within in
+    rw (a, b) refl
+
+-- the frame that starts in a bit time, if any
+abbrev pub frame_of : List Arrival → PortTrace → Option Arrival
+frame_of arrivals trace =
+    if nat_le trace.free_from trace.bit
+    then head_of (turn_of trace.shaper (waiting_of arrivals trace)) (waiting_of arrivals trace)
+    else None
+
+-- on a free line it is the first of the queue whose turn it is
+pub free_line : (arrivals : List Arrival) (trace : PortTrace) → AreHeads arrivals trace.came trace.heads
+    → trace.came ≤ length arrivals → trace.free_from ≤ trace.bit
+    → frame_of arrivals trace ≡ head_of (turn_in trace) (waiting_of arrivals trace)
+free_line arrivals trace heads within free =
+    cond-true (nat_le trace.free_from trace.bit) _ _ (le-leb trace.free_from trace.bit free)
+    ∙ ap (λ traffic. head_of traffic (waiting_of arrivals trace)) (turn_is arrivals trace heads within)
+
+pub frame_found : (arrivals : List Arrival) (trace : PortTrace) (i : ℕ) → AreHeads arrivals trace.came trace.heads
+    → trace.came ≤ length arrivals → trace.free_from ≤ trace.bit → i ≡ head_index trace.heads (turn_in trace)
+    → i < trace.came → Some (get_or arrivals i blank) ≡ frame_of arrivals trace
+frame_found arrivals trace i heads within free e l =
+    ap (λ k. Some (get_or arrivals k blank)) e
+    ∙ sym (free_line arrivals trace heads within free
+      ∙ frame_at trace.heads arrivals trace.came (turn_in trace) heads within (omega (arith, e, l)))
+
+pub frame_missing : (arrivals : List Arrival) (trace : PortTrace) (i : ℕ) → AreHeads arrivals trace.came trace.heads
+    → trace.came ≤ length arrivals → trace.free_from ≤ trace.bit → i ≡ head_index trace.heads (turn_in trace)
+    → trace.came ≤ i → None ≡ frame_of arrivals trace
+frame_missing arrivals trace i heads within free e l =
+    sym (free_line arrivals trace heads within free
+      ∙ frame_none trace.heads arrivals trace.came (turn_in trace) within (omega (arith, e, l)))
+
+-- the step at a bit time's beginning
+pub arrivals_step : (input : PortInput) (trace : PortTrace) (came changed : ℕ) (heads : Heads) (slopes : SlopeChange)
+    (sent : List Departure) → HasReached input trace.bit trace
+    → IsReached arrival_bit (trace.bit + 1) came input.arrivals → IsReached change_bit (trace.bit + 1) changed input.slopes
+    → slopes ≡ newest no_slopes (take changed input.slopes)
+    → pending heads 0 (take came input.arrivals) ≡ pending trace.heads 0 (take came input.arrivals)
+    → port_of input.arrivals sent (record trace {
+        came = came; changed = changed; heads = heads;
+        shaper = record trace.shaper { slope_a = slopes.slope_a; slope_b = slopes.slope_b };
+      })
+      ≡ with_arrivals input trace.bit (port_of input.arrivals sent trace)
+arrivals_step input trace came changed heads slopes sent reached arrived changes new same =
+    let long : length (take trace.came input.arrivals) ≡ trace.came = length-take-le trace.came input.arrivals reached.arrivals.within in
+    let join : pending trace.heads 0 (take trace.came input.arrivals ++ arrivals_at input.arrivals trace.bit)
+        ≡ waiting_of input.arrivals trace ++ arrivals_at input.arrivals trace.bit =
+        pending-join trace.heads (take trace.came input.arrivals) (arrivals_at input.arrivals trace.bit)
+        (λ traffic. omega (arith, long, reached.heads traffic)) in
+    let waiting : pending heads 0 (take came input.arrivals) ≡ waiting_of input.arrivals trace ++ arrivals_at input.arrivals trace.bit =
+        same ∙ ap (pending trace.heads 0) (arrivals_join input.arrivals trace.bit trace.came came reached.arrivals arrived) ∙ join in
+    let force : slopes_at input trace.bit ≡ slopes =
+        slopes_reached input.slopes (trace.bit + 1) (trace.bit + 1) changed trace.bit changes changes (omega arith) (omega arith) ∙ sym new in
+    rw (waiting, force) refl
+
+-- what has come stays so up to a later bit time, where the next is no earlier
+pub reached_until : (input : PortInput) (trace : PortTrace) (s t : ℕ) → HasReached input s trace → s ≤ t
+    → AllWithin (λ x. t ≤ x.bit) input.arrivals trace.came (length input.arrivals)
+    → AllWithin (λ x. t ≤ x.bit) input.slopes trace.changed (length input.slopes)
+    → HasReached input t trace
+reached_until input trace s t reached up arrivals changes =
+    record {
+      arrivals = record {
+        within = reached.arrivals.within;
+        before = λ k d from to. let f : (get_or input.arrivals k d).bit < s = reached.arrivals.before k d from to in omega (arith, f, up);
+        later = arrivals;
+      };
+      changes = record {
+        within = reached.changes.within;
+        before = λ k d from to. let f : (get_or input.slopes k d).bit < s = reached.changes.before k d from to in omega (arith, f, up);
+        later = changes;
+      };
+      slope_a = reached.slope_a;
+      slope_b = reached.slope_b;
+      heads = reached.heads;
+    }
+
+-- what is quiet up to a bit time is so up to an earlier one
+pub quiet_until : (trace : PortTrace) (m n : ℕ) → m ≤ n → IsQuiet trace n → IsQuiet trace m
+quiet_until trace m n l (inl busy) = inl (omega (arith, busy, l))
+quiet_until trace m n l (inr idle) = inr (λ bits h. idle bits (omega (arith, h, l)))
+
+-- steps of the credits change nothing that has come
+pub reached_moved : (input : PortInput) (t next bits : ℕ) (trace : PortTrace) → HasReached input t trace
+    → HasReached input t (moved_to next bits trace)
+reached_moved input t next bits trace reached =
+    let same = after_bits_is bits trace.line (has_frame trace A) (has_frame trace B) trace.shaper in
+    record {
+      arrivals = reached.arrivals;
+      changes = reached.changes;
+      slope_a = ap (λ s. s.slope_a) same ∙ reached.slope_a;
+      slope_b = ap (λ s. s.slope_b) same ∙ reached.slope_b;
+      heads = reached.heads;
+    }
+
+-- at the end all arrivals have come
+all_come : (input : PortInput) (trace : PortTrace) → IsPortInput input → HasReached input input.end trace
+    → length input.arrivals ≤ trace.came
+all_come input trace valid reached =
+    elim (cases_lt trace.came (length input.arrivals)) [
+      | inl l ↦
+          let late : input.end ≤ (get_or input.arrivals trace.came blank).bit = reached.arrivals.later trace.came blank (omega arith) l in
+          let early : (get_or input.arrivals trace.came blank).bit < input.end = valid.arrivals_in_time trace.came blank l in
+          absurd (omega (arith, late, early))
+      | inr l ↦ l
+    ]
+
+-- what a run answers
+pub departures_found : (input : PortInput) (trace : PortTrace) (sent : List Departure) (left : List ℕ) → IsPortInput input
+    → trace.bit ≡ input.end → HasReached input trace.bit trace → port_of input.arrivals sent trace ≡ port_at input trace.bit
+    → left ≡ map (λ x. x.frame) (pending trace.heads 0 input.arrivals)
+    → record { sent = sent; left = left } ≡ departures_of input
+departures_found input trace sent left valid end reached port is =
+    let last : port_of input.arrivals sent trace ≡ port_at input input.end = port ∙ ap (port_at input) end in
+    let all : take trace.came input.arrivals ≡ input.arrivals =
+        take_all trace.came input.arrivals (all_come input trace valid (subst (λ (t : ℕ). HasReached input t trace) end reached)) in
+    let rest : left ≡ map (λ x. x.frame) (port_at input input.end).waiting =
+        is ∙ (ap (λ xs. map (λ x. x.frame) (pending trace.heads 0 xs)) (sym all) ∙ ap (λ p. map (λ x. x.frame) p.waiting) last) in
+    rw (rest, ap (λ p. p.sent) last) refl
+
+pub port_at_start : (input : PortInput) → fresh_port input ≡ port_at input 0
+unfolding port_at
+port_at_start input = refl

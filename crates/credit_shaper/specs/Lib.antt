@@ -1,0 +1,6 @@
+pub mod Credit
+pub mod Port
+pub mod Trace
+pub mod Walk
+pub mod Bounds
+pub mod Departures

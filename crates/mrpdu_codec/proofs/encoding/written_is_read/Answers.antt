@@ -1,9 +1,0 @@
-use Rattle.mrpdu_codec.proofs.RoundTrip.{spells_again}
-use Rattle.mrpdu_codec.proofs.Reread.{reread}
-use Rattle.mrpdu_codec.proofs.encoding.written_is_read.Goals as goal
-
-pub returns-clause-spelled : goal.returns-clause-spelled
-returns-clause-spelled c = λ form pdu fits. spells_again form pdu fits
-
-pub returns-clause-read : goal.returns-clause-read
-returns-clause-read c = λ form pdu fits. reread form pdu fits

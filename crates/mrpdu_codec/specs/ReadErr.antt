@@ -1,0 +1,46 @@
+-- What the private readers answer: a value as the reading has it, or how many octets were left.
+use Rattle.std.specs.Prelude.{◌≡◌, ℕ, ◌+◌, ◌-◌, ◌≤◌, List, [], ◌∷◌, Option, Some, None, Result, Ok, Err}
+use Rattle.mrpdu_codec.specs.declared.error.DecodeErr.{DecodeErr}
+use Rattle.mrpdu_codec.specs.declared.error.DecodeErr.TheVariants as decode_errors
+use Rattle.mrpdu_codec.specs.declared.error.ReadErr.{ReadErr}
+use Rattle.mrpdu_codec.specs.declared.error.ReadErr.TheVariants as errors
+use Rattle.mrpdu_codec.specs.declared.form.TypeForm.{TypeForm}
+use Rattle.mrpdu_codec.specs.declared.pdu.VectorAttr.{VectorAttr}
+
+-- an error is the reading's, unless memory ran out
+abbrev pub Fails : {Y : Type 0} → ReadErr → Result Y ℕ → Type 0
+Fails errors.NoMemory read = Unit {0}
+Fails (errors.Left left) read = read ≡ Err left
+
+-- what a reader returned, seen by view, is what reading gives, unless memory ran out
+abbrev pub Gives : {X Y : Type 0} → (X → Y) → Result X ReadErr → Result Y ℕ → Type 0
+Gives view (Ok x) read = read ≡ Ok (view x)
+Gives view (Err e) read = Fails e read
+
+-- no more octets are left than there are
+abbrev pub IsWithin : ReadErr → ℕ → Type 0
+IsWithin (errors.Left left) all = left ≤ all
+IsWithin errors.NoMemory all = Unit {0}
+
+-- where n octets stand behind those that were read
+abbrev pub behind : ReadErr → ℕ → ReadErr
+behind (errors.Left left) n = errors.Left (left + n)
+behind errors.NoMemory n = errors.NoMemory
+
+-- the place of the field that breaks, in all octets
+abbrev pub placed : ReadErr → ℕ → DecodeErr
+placed (errors.Left left) all = decode_errors.Malformed (all - left)
+placed errors.NoMemory all = decode_errors.NoMemory
+
+-- ---- What is kept of lists of vectors
+
+-- of what was read, what is kept: nothing of a type that its application doesn't know
+abbrev pub kept : Option TypeForm → Result (List VectorAttr × List ℕ) ℕ → Result (List VectorAttr × List ℕ) ℕ
+kept row (Err left) = Err left
+kept None (Ok x) = Ok ([], x.1)
+kept (Some t) (Ok x) = Ok x
+
+-- of a vector's attribute, what is kept
+abbrev pub kept_attr : Option TypeForm → VectorAttr → List VectorAttr
+kept_attr None attr = []
+kept_attr (Some t) attr = attr ∷ []

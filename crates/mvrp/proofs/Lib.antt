@@ -1,0 +1,4 @@
+mod Keeping
+mod Places
+mod SendingLemmas
+mod SettlingLemmas

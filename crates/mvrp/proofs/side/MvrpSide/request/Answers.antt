@@ -1,0 +1,13 @@
+use Rattle.std.proofs.Common.{rules, ◌≡◌, ◌∷◌, [], if◌then◌else◌, ◌∙◌, ap}
+use Rattle.std.specs.Ordering.{nat_cmp}
+use Rattle.attribute_propagation.specs.Ports.{marked_everywhere}
+use Rattle.mvrp.specs.Side.{Vlans, IsKept}
+use Rattle.mvrp.proofs.Keeping.{kept-requested}
+use Rattle.mvrp.proofs.side.MvrpSide.request.Goals as goal
+
+pub invariant_of-self : goal.invariant_of-self
+invariant_of-self c =
+    let before : Vlans = record { parts = c.self.inside.parts.items; awaiting = c.self.inside.awaiting.items; own = c.self.inside.own } in
+    let sets : c.in_ok-awaiting.awaiting.items ≡ marked_everywhere nat_cmp (c.args.vid ∷ []) c.self.inside.awaiting.items = search rules in
+    kept-requested c.each_key_awaits.ensures.all_marked c.each_key_awaits.ensures.marked c.each_key_awaits.ensures.cleared
+    before c.self.invariant c.args.vid c.args.declared c.in_ok-own.own c.in_ok-awaiting.awaiting.items c.ascends.ensures c.in_ok-own.ensures sets

@@ -1,0 +1,13 @@
+use Rattle.std.proofs.Common.{◌≡◌, ◌≤◌, ◌++◌, length, map}
+use Rattle.mvrp_codec.specs.Writing.{runs, runs_octets, AreVids}
+use Rattle.mvrp_codec.proofs.writing.put_runs.Given as goal
+
+abbrev pub invariant-more : goal.invariant-more
+invariant-more l =
+    (l.out.items ++ runs_octets l.leave (runs l.rest) ≡ l.initial.out.items ++ runs_octets l.leave_all (runs l.events))
+    × (AreVids l.rest → AreVids l.events)
+    × (l.rest_alone ≡ map (λ x. x.0) l.rest)
+    × (length l.rest_alone ≤ 8191)
+
+abbrev pub decreases-more : goal.decreases-more
+decreases-more l = length l.rest

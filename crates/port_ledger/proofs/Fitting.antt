@@ -1,0 +1,160 @@
+-- What leaves a fit as it was.
+use Rattle.std.proofs.Common.{◌≡◌, ◌≢◌, ℕ, ◌+◌, ◌<◌, ◌≤◌, Bool, true, false, not, ◌==◌, ◌||◌, ◌&&◌, cond, List, [], ◌∷◌, filter, sum_by, Option, Some, None, option_and_then, is_some, IfSome, refl, sym, ◌∙◌, ap, subst, arith, inl, inr}
+use Rattle.std.specs.Prelude.{nat_le, nat_lt}
+use Rattle.std.specs.Ordering.{nat_cmp, is_lt, ordering_then}
+use Rattle.std.specs.List.{AllByRecursion, list_any}
+use Rattle.std.proofs.lemmas.Bool.{cases_Bool, cases_order, cases_lt, eqb-true, eqb-false, ne_eqb, lt-ltb}
+use Rattle.srp_base.specs.declared.numbers.Cs.{Cs}
+use Rattle.srp_base.specs.declared.numbers.StreamId.{StreamId}
+use Rattle.stream_importance.specs.declared.entry.Entry.{Entry}
+use Rattle.stream_importance.specs.declared.entry.Want.{Want}
+use Rattle.stream_importance.specs.declared.entry.Fit.TheVariants.{Fits, TooLittle}
+use Rattle.stream_importance.specs.declared.slope.Caps.{Caps}
+use Rattle.stream_importance.specs.Bandwidth.{cap_of}
+use Rattle.stream_importance.specs.Importance.{class_number, rank_number, moment_or}
+use Rattle.port_ledger.specs.Decision.{stream_of, entry_slope, above, booked_of, does_fit, is_booked, is_preceded_by, IsAscending}
+use Rattle.port_ledger.specs.Book.{Book, IsKept, code_of, entry_of, fit_for, fit_in, has_new_booking, is_normal, is_since, since_if_same, since_of, same_want, tested_as}
+use Rattle.port_ledger.proofs.Comparing.{all_booked}
+use Rattle.port_ledger.proofs.Rounds.{filter_agree}
+use Rattle.port_ledger.proofs.Running.{all_with}
+use Rattle.port_ledger.proofs.Standing.{less_is_below}
+
+-- a stream below all of the entries has none of them
+none_of : (s : StreamId) (xs : List Entry) → AllByRecursion (λ y. s.0 < stream_of y) xs → entry_of xs s ≡ None
+none_of s [] h = refl
+none_of s (x ∷ xs) h =
+    ap (λ v. cond v (Some x) (entry_of xs s)) (ne_eqb (stream_of x) s.0 (λ e. let l : s.0 < stream_of x = h.0 in omega (arith, e, l))) ∙ none_of s xs h.1
+
+-- the moment with which a want is tested
+abbrev tested_since : Want → Option Entry → Option Cs
+tested_since want o = option_and_then (λ x. since_if_same x want) o
+
+unbooked_since : (want : Want) (x : Entry) → is_booked x ≡ false → since_if_same x want ≡ None
+unbooked_since want x h = by_since x.since (same_want x.want want) h
+  where
+    by_since : (o : Option Cs) (v : Bool) → is_some o ≡ false → cond v o None ≡ None
+    by_since None true h = refl
+    by_since None false h = refl
+    by_since (Some c) v h = cc
+
+-- it is that of the booked entry
+tested_booked : (want : Want) (xs : List Entry) → IsAscending xs
+    → tested_since want (entry_of xs want.stream) ≡ tested_since want (entry_of (booked_of xs) want.stream)
+tested_booked want [] up = refl
+tested_booked want (x ∷ xs) up =
+    elim (cases_Bool (stream_of x == want.stream.0)) [
+      | inl e ↦
+          (let none : entry_of (booked_of xs) want.stream ≡ None =
+          none_of want.stream (booked_of xs) (all_booked (λ y. want.stream.0 < stream_of y) xs (subst (λ (n : ℕ). AllByRecursion (λ y. n < stream_of y) xs) (eqb-true (stream_of x) want.stream.0 e) up.0)) in
+          ap (λ v. tested_since want (cond v (Some x) (entry_of xs want.stream))) e
+          ∙ elim (cases_Bool (is_booked x)) [
+            | inl h ↦ ap (λ v. tested_since want (cond v (Some x) (entry_of (booked_of xs) want.stream))) (sym e)
+                ∙ ap (λ v. tested_since want (entry_of (cond v (x ∷ booked_of xs) (booked_of xs)) want.stream)) (sym h)
+            | inr h ↦ unbooked_since want x h
+                ∙ (ap (tested_since want) (sym none) ∙ ap (λ v. tested_since want (entry_of (cond v (x ∷ booked_of xs) (booked_of xs)) want.stream)) (sym h))
+          ])
+      | inr e ↦
+          ap (λ v. tested_since want (cond v (Some x) (entry_of xs want.stream))) e
+          ∙ (tested_booked want xs up.1
+          ∙ elim (cases_Bool (is_booked x)) [
+            | inl h ↦ ap (λ v. tested_since want (cond v (Some x) (entry_of (booked_of xs) want.stream))) (sym e)
+                ∙ ap (λ v. tested_since want (entry_of (cond v (x ∷ booked_of xs) (booked_of xs)) want.stream)) (sym h)
+            | inr h ↦ ap (λ v. tested_since want (entry_of (cond v (x ∷ booked_of xs) (booked_of xs)) want.stream)) (sym h)
+          ])
+    ]
+
+pub fits_by_bookings : (book other : Book) (now : ℕ) (want : Want) → IsAscending book.entries → IsAscending other.entries
+    → book.caps ≡ other.caps → booked_of book.entries ≡ booked_of other.entries
+    → fit_for now book want ≡ fit_for now other want
+fits_by_bookings book other now want up down caps same =
+    let since : tested_since want (entry_of book.entries want.stream) ≡ tested_since want (entry_of other.entries want.stream) =
+    tested_booked want book.entries up ∙ (ap (λ es. tested_since want (entry_of es want.stream)) same ∙ sym (tested_booked want other.entries down)) in
+    ap (λ (c : Caps). fit_in now c (booked_of book.entries) (tested_as book.entries want)) caps
+    ∙ (ap (λ set. fit_in now other.caps set (tested_as book.entries want)) same
+    ∙ ap (λ s. fit_in now other.caps (booked_of other.entries) (record { want = want; since = s })) since)
+
+-- booked before a moment
+abbrev IsBefore : ℕ → Option Cs → Type 0
+IsBefore moment None = ⊥
+IsBefore moment (Some since) = since.0 < moment
+
+-- where no booking is of the moment, all are before it
+all_before : (moment : ℕ) (xs : List Entry) → AllByRecursion (λ x. moment_or moment x.since ≤ moment) xs
+    → list_any (λ x. is_since moment x.since) xs ≡ false → AllByRecursion (λ x. IsBefore moment x.since) (booked_of xs)
+all_before moment [] h none = tt
+all_before moment (x ∷ xs) h none =
+    by_since x.since h.0 (either_false (is_since moment x.since) (list_any (λ y. is_since moment y.since) xs) none).0 refl
+    (all_before moment xs h.1 (either_false (is_since moment x.since) (list_any (λ y. is_since moment y.since) xs) none).1)
+  where
+    either_false : (a b : Bool) → (a || b) ≡ false → (a ≡ false) × (b ≡ false)
+    either_false true b k = cc
+    either_false false b k = (refl, k)
+
+    by_since : (o : Option Cs) → moment_or moment o ≤ moment → is_since moment o ≡ false → o ≡ x.since
+        → AllByRecursion (λ y. IsBefore moment y.since) (booked_of xs)
+        → AllByRecursion (λ y. IsBefore moment y.since) (cond (is_some o) (x ∷ booked_of xs) (booked_of xs))
+    by_since None l other e rest = rest
+    by_since (Some c) l other e rest =
+        let ne : c.0 ≢ moment = eqb-false c.0 moment other in
+        (subst (λ (s : Option Cs). IsBefore moment s) e (below c.0 l ne), rest)
+      where
+        below : (n : ℕ) → n ≤ moment → n ≢ moment → n < moment
+        below n l ne = elim (cases_lt n moment) [ inl k ↦ k | inr k ↦ absurd (ne (omega (arith, k, l))) ]
+
+-- such a booking goes before a want alike at every later moment
+same_preceded : (moment now : ℕ) (x y : Entry) → moment ≤ now → IsBefore moment y.since
+    → is_preceded_by now x y ≡ is_preceded_by moment x y
+same_preceded moment now x y up before =
+    ap (λ o. not (stream_of y == stream_of x) && is_lt (ordering_then (nat_cmp (class_number y.want.class) (class_number x.want.class)) (ordering_then (nat_cmp (rank_number y.want.rank) (rank_number x.want.rank)) (ordering_then o (nat_cmp (stream_of y) (stream_of x))))))
+    (by_since y.since x.since before)
+  where
+    by_since : (a b : Option Cs) → IsBefore moment a → nat_cmp (moment_or now a) (moment_or now b) ≡ nat_cmp (moment_or moment a) (moment_or moment b)
+    by_since None b h = absurd h
+    by_since (Some a) (Some b) h = refl
+    by_since (Some a) None h = less_is_below a.0 now (omega (arith, h, up)) ∙ sym (less_is_below a.0 moment h)
+
+same_above : (moment now : ℕ) (x : Entry) (set : List Entry) → moment ≤ now
+    → AllByRecursion (λ y. IsBefore moment y.since) set → above now x set ≡ above moment x set
+same_above moment now x set up h =
+    ap (sum_by entry_slope) (filter_agree (is_preceded_by now x) (is_preceded_by moment x) set (all_with set h h (λ y k _. same_preceded moment now x y up k)))
+
+all_filtered : (P : Entry → Type 0) (p : Entry → Bool) (xs : List Entry) → AllByRecursion P xs → AllByRecursion P (filter p xs)
+all_filtered P p [] h = tt
+all_filtered P p (x ∷ xs) h =
+    elim (p x) as (λ v. AllByRecursion P (cond v (x ∷ filter p xs) (filter p xs))) [ true ↦ (h.0, all_filtered P p xs h.1) | false ↦ all_filtered P p xs h.1 ]
+
+same_fit : (moment now : ℕ) (caps : Caps) (set : List Entry) (x : Entry) → moment ≤ now
+    → AllByRecursion (λ y. IsBefore moment y.since) set → fit_in now caps set x ≡ fit_in moment caps set x
+same_fit moment now caps set x up h =
+    let all : above now x set ≡ above moment x set = same_above moment now x set up h in
+    let normal : above now x (filter is_normal set) ≡ above moment x (filter is_normal set) =
+    same_above moment now x (filter is_normal set) up (all_filtered (λ y. IsBefore moment y.since) is_normal set h) in
+    ap (λ n. cond (nat_le (n + entry_slope x) (cap_of caps x.want.class)) Fits (TooLittle n (cap_of caps x.want.class) (code_of now caps set x))) all
+    ∙ ap (λ n. cond (does_fit moment caps set x) Fits (TooLittle (above moment x set) (cap_of caps x.want.class) (cond (is_normal x && nat_le (n + entry_slope x) (cap_of caps x.want.class)) 6 1))) normal
+
+pub fits_by_clock : (book : Book) (now : ℕ) (want : Want) → IsKept book → book.moment ≤ now
+    → (nat_lt book.moment now && has_new_booking book) ≡ false → fit_for now book want ≡ fit_for book.moment book want
+fits_by_clock book now want kept up none =
+    elim (cases_order book.moment now) [
+      | inl e ↦ ap (λ n. fit_for n book want) (sym e)
+      | inr c ↦ elim c [
+        | inl l ↦
+            same_fit book.moment now book.caps (booked_of book.entries) (tested_as book.entries want) up
+            (all_before book.moment book.entries kept.moments (sym (ap (λ v. v && has_new_booking book) (lt-ltb book.moment now l)) ∙ none))
+        | inr l ↦ absurd (omega (arith, l, up))
+      ]
+    ]
+
+-- no booking is ahead of its ledger
+pub none_ahead : (moment : ℕ) (xs : List Entry) (s : StreamId) → AllByRecursion (λ x. moment_or moment x.since ≤ moment) xs
+    → IfSome (since_of xs s) (λ since. since.0 ≤ moment)
+none_ahead moment [] s h = tt
+none_ahead moment (x ∷ xs) s h =
+    elim (stream_of x == s.0) as (λ v. IfSome (option_and_then (λ (y : Entry). y.since) (cond v (Some x) (entry_of xs s))) (λ since. since.0 ≤ moment)) [
+      | true ↦ own x.since h.0
+      | false ↦ none_ahead moment xs s h.1
+    ]
+  where
+    own : (o : Option Cs) → moment_or moment o ≤ moment → IfSome o (λ since. since.0 ≤ moment)
+    own None l = tt
+    own (Some c) l = l

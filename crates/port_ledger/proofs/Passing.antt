@@ -1,0 +1,299 @@
+-- One pass in the order of importance sets the moments of a decision, in the order and among the entries.
+use Rattle.std.proofs.Common.{◌≡◌, ◌≢◌, ℕ, zero, suc, ◌+◌, ◌<◌, Bool, true, false, ◌==◌, ◌||◌, cond, List, [], ◌∷◌, ◌++◌, map, length, get_or, set, take, drop, Option, refl, sym, ◌∙◌, ap, subst, arith, inl, inr, append_assoc, drop-cons, drop-set-lt, take-suc-set}
+use Rattle.std.specs.List.{AllByRecursion, AllWithin, list_any}
+use Rattle.std.specs.List.Sorted.{IsPermutation}
+use Rattle.std.proofs.lemmas.Bool.{eq-eqb, ne_eqb, eqb-true, cases_Bool, cases_lt, or_from, or_left, cond-true, cond-false}
+use Rattle.std.proofs.lemmas.List.Elements.{All-from_recursion}
+use Rattle.std.proofs.lemmas.List.Sorted.{IsPermutation-map, IsPermutation-trans, IsPermutation-sym, list_any-IsPermutation}
+use Rattle.srp_base.specs.declared.numbers.Cs.{Cs}
+use Rattle.stream_importance.specs.declared.entry.Entry.{Entry}
+use Rattle.stream_importance.specs.declared.slope.Caps.{Caps}
+use Rattle.stream_importance.specs.Importance.{IsImportanceOrder}
+use Rattle.port_ledger.specs.Decision.{stream_of, entry_slope, settled, since_after, decided, IsAscending, AreOfDifferentStreams}
+use Rattle.port_ledger.specs.Pass.{ranked, has_room, sum_with, passed, passed_in, with_since, IsOnlyIn}
+use Rattle.port_ledger.proofs.Running.{Holds, Runs, all_with, holds_from_runs}
+use Rattle.port_ledger.proofs.Ranking.{IsPermutation-ranked, ranked_is_ranked, holds_permuted, all_permuted, different_permuted}
+use Rattle.port_ledger.proofs.Taken.{is_among, taken, taken_runs}
+use Rattle.port_ledger.proofs.Marking.{different_from_ascending}
+use Rattle.port_ledger.proofs.Rounds.{decided_by_choice}
+
+-- an entry with the moment that a choice gives it
+abbrev settled_at : ℕ → (Entry → Bool) → Entry → Entry
+settled_at now b x = record x { since = since_after now x.since (b x) }
+
+settled-map : (now : ℕ) (b : Entry → Bool) (xs : List Entry) → settled now xs (map b xs) ≡ map (settled_at now b) xs
+settled-map now b [] = refl
+settled-map now b (x ∷ xs) = ap (λ ys. settled_at now b x ∷ ys) (settled-map now b xs)
+
+sum_with-cond : (sum : ℕ) (x : Entry) (let_in : Bool) → sum_with sum x let_in ≡ sum + cond let_in (entry_slope x) 0
+sum_with-cond sum x true = refl
+sum_with-cond sum x false = omega arith
+
+-- the sum runs on as the choice lets entries in
+runs_on : (caps : Caps) (sum : ℕ) (b : Entry → Bool) (x : Entry) (xs : List Entry) → Runs caps sum b (x ∷ xs)
+    → Runs caps (sum_with sum x (has_room caps sum x)) b xs
+runs_on caps sum b x xs runs =
+    subst (λ (n : ℕ). Runs caps n b xs) (sym (sum_with-cond sum x (has_room caps sum x) ∙ ap (λ v. sum + cond v (entry_slope x) 0) (sym runs.0))) runs.1
+
+passed_is : (now : ℕ) (caps : Caps) (sum : ℕ) (b : Entry → Bool) (xs : List Entry) → Runs caps sum b xs
+    → passed now caps sum xs ≡ map (settled_at now b) xs
+passed_is now caps sum b [] runs = refl
+passed_is now caps sum b (x ∷ xs) runs =
+    ap (λ v. record x { since = since_after now x.since v } ∷ passed now caps (sum_with sum x (has_room caps sum x)) xs) (sym runs.0)
+    ∙ ap (λ ys. settled_at now b x ∷ ys) (passed_is now caps (sum_with sum x (has_room caps sum x)) b xs (runs_on caps sum b x xs runs))
+
+-- whether an entry is of one of these streams
+abbrev is_stream_in : List Entry → Entry → Bool
+is_stream_in xs e = list_any (λ x. stream_of x == stream_of e) xs
+
+-- the entry, settled where it is of one of these streams
+abbrev settled_in : ℕ → (Entry → Bool) → List Entry → Entry → Entry
+settled_in now b xs e = cond (is_stream_in xs e) (settled_at now b e) e
+
+map_own : (xs : List Entry) → xs ≡ map (λ x. x) xs
+map_own [] = refl
+map_own (x ∷ xs) = ap (λ ys. x ∷ ys) (map_own xs)
+
+not_in : (x : Entry) (xs : List Entry) → AllByRecursion (λ y. stream_of x ≢ stream_of y) xs → is_stream_in xs x ≡ false
+not_in x [] ne = refl
+not_in x (y ∷ ys) ne =
+    or_from (stream_of y == stream_of x) (is_stream_in ys x) (ne_eqb (stream_of y) (stream_of x) (λ e. ne.0 (sym e))) (not_in x ys ne.1)
+
+-- one more entry of the order, at one entry
+one_settled : (now : ℕ) (b : Entry → Bool) (x : Entry) (xs : List Entry) (e : Entry)
+    → AllByRecursion (λ y. stream_of x ≢ stream_of y) xs → (stream_of e ≡ stream_of x → e ≡ x)
+    → settled_in now b xs (cond (stream_of e == stream_of x) (record e { since = since_after now x.since (b x) }) e)
+    ≡ settled_in now b (x ∷ xs) e
+one_settled now b x xs e ne only =
+    elim (cases_Bool (stream_of e == stream_of x)) [
+      | inl h ↦ subst (λ (y : Entry). settled_in now b xs (cond (stream_of y == stream_of x) (record y { since = since_after now x.since (b x) }) y) ≡ settled_in now b (x ∷ xs) y)
+          (sym (only (eqb-true (stream_of e) (stream_of x) h)))
+          (ap (λ v. settled_in now b xs (cond v (settled_at now b x) x)) (eq-eqb (stream_of x) (stream_of x) refl)
+          ∙ (cond-false (is_stream_in xs x) (settled_at now b (settled_at now b x)) (settled_at now b x) (not_in x xs ne)
+          ∙ sym (cond-true (is_stream_in (x ∷ xs) x) (settled_at now b x) x (or_left (stream_of x == stream_of x) (is_stream_in xs x) (eq-eqb (stream_of x) (stream_of x) refl)))))
+      | inr h ↦ ap (λ v. settled_in now b xs (cond v (record e { since = since_after now x.since (b x) }) e)) h
+          ∙ ap (λ v. cond (v || is_stream_in xs e) (settled_at now b e) e) (sym (ne_eqb (stream_of x) (stream_of e) (λ k. absurd (let l : false ≡ true = sym h ∙ eq-eqb (stream_of e) (stream_of x) (sym k) in cc))))
+    ]
+
+all_settled : (now : ℕ) (b : Entry → Bool) (x : Entry) (xs es : List Entry)
+    → AllByRecursion (λ y. stream_of x ≢ stream_of y) xs → IsOnlyIn es x
+    → map (settled_in now b xs) (with_since es x (since_after now x.since (b x))) ≡ map (settled_in now b (x ∷ xs)) es
+all_settled now b x xs [] ne only = refl
+all_settled now b x xs (e ∷ es) ne only =
+    ap (λ y. y ∷ map (settled_in now b xs) (with_since es x (since_after now x.since (b x)))) (one_settled now b x xs e ne only.0)
+    ∙ ap (λ ys. settled_in now b (x ∷ xs) e ∷ ys) (all_settled now b x xs es ne only.1)
+
+-- setting a moment leaves the other streams as they were
+only-with_since : (es : List Entry) (x y : Entry) (since : Option Cs) → stream_of x ≢ stream_of y → IsOnlyIn es y
+    → IsOnlyIn (with_since es x since) y
+only-with_since [] x y since ne only = tt
+only-with_since (e ∷ es) x y since ne only = (by_test (stream_of e == stream_of x) refl, only-with_since es x y since ne only.1)
+  where
+    by_test : (v : Bool) → stream_of e == stream_of x ≡ v → stream_of (cond v (record e { since = since }) e) ≡ stream_of y
+        → cond v (record e { since = since }) e ≡ y
+    by_test true h same = absurd (ne (sym (eqb-true (stream_of e) (stream_of x) h) ∙ same))
+    by_test false h same = only.0 same
+
+pub passed_in_is : (now : ℕ) (caps : Caps) (sum : ℕ) (b : Entry → Bool) (xs es : List Entry) → Runs caps sum b xs
+    → AreOfDifferentStreams xs → AllByRecursion (IsOnlyIn es) xs
+    → passed_in now caps sum xs es ≡ map (settled_in now b xs) es
+passed_in_is now caps sum b [] es runs different only = map_own es
+passed_in_is now caps sum b (x ∷ xs) es runs different only =
+    ap (λ v. passed_in now caps (sum_with sum x (has_room caps sum x)) xs (with_since es x (since_after now x.since v))) (sym runs.0)
+    ∙ (passed_in_is now caps (sum_with sum x (has_room caps sum x)) b xs (with_since es x (since_after now x.since (b x)))
+    (runs_on caps sum b x xs runs) different.1
+    (all_with xs different.0 only.1 (λ y ne h. only-with_since es x y (since_after now x.since (b x)) ne h))
+    ∙ all_settled now b x xs es different.0 only.0)
+
+-- entries of different streams are each the only one of its stream
+only_own : (xs : List Entry) → AreOfDifferentStreams xs → AllByRecursion (IsOnlyIn xs) xs
+only_own [] different = tt
+only_own (x ∷ xs) different = (
+  ((λ _. refl), all_with xs different.0 different.0 (λ y ne _ e. absurd (ne (sym e)))),
+  all_with xs different.0 (only_own xs different.1) (λ y ne only. ((λ e. absurd (ne e)), only)),
+)
+
+in_own : (xs : List Entry) → AllByRecursion (λ e. is_stream_in xs e ≡ true) xs
+in_own [] = tt
+in_own (x ∷ xs) = (
+  or_left (stream_of x == stream_of x) (is_stream_in xs x) (eq-eqb (stream_of x) (stream_of x) refl),
+  all_with xs (in_own xs) (in_own xs) (λ y h _. or_second (stream_of x == stream_of y) (is_stream_in xs y) h),
+)
+  where
+    or_second : (a b : Bool) → b ≡ true → (a || b) ≡ true
+    or_second true b h = refl
+    or_second false b h = h
+
+-- the choice that a pass makes
+abbrev choice_of : ℕ → Caps → List Entry → Entry → Bool
+choice_of now caps order e = is_among (taken caps 0 (ranked now order)) (stream_of e)
+
+ranked_permuted : (now : ℕ) (es order : List Entry) → IsPermutation es order → IsPermutation es (ranked now order)
+ranked_permuted now es order p = IsPermutation-trans es order (ranked now order) p (IsPermutation-ranked now order)
+
+pub ranked_only : (now : ℕ) (es order : List Entry) → IsAscending es → IsPermutation es order
+    → AllByRecursion (IsOnlyIn es) (ranked now order)
+ranked_only now es order up p =
+    all_permuted (IsOnlyIn es) es (ranked now order) (ranked_permuted now es order p) (only_own es (different_from_ascending es up))
+
+choice_runs : (now : ℕ) (caps : Caps) (es order : List Entry) → IsAscending es → IsPermutation es order
+    → Runs caps 0 (choice_of now caps order) (ranked now order)
+choice_runs now caps es order up p =
+    taken_runs caps 0 (ranked now order) (different_permuted es (ranked now order) (ranked_permuted now es order p) (different_from_ascending es up))
+
+entries_after : (now : ℕ) (caps : Caps) (es order : List Entry) → IsAscending es → IsPermutation es order
+    → passed_in now caps 0 (ranked now order) es ≡ map (settled_at now (choice_of now caps order)) es
+entries_after now caps es order up p =
+    let b : Entry → Bool = choice_of now caps order in
+    let q : IsPermutation es (ranked now order) = ranked_permuted now es order p in
+    passed_in_is now caps 0 b (ranked now order) es (choice_runs now caps es order up p)
+    (different_permuted es (ranked now order) q (different_from_ascending es up)) (ranked_only now es order up p)
+    ∙ entry_map (settled_in now b (ranked now order)) (settled_at now b) es
+    (all_with es (in_own es) (in_own es)
+    (λ e h _. cond-true (is_stream_in (ranked now order) e) (settled_at now b e) e
+    (sym (list_any-IsPermutation (λ x. stream_of x == stream_of e) es (ranked now order) q) ∙ h)))
+  where
+    entry_map : (f g : Entry → Entry) (xs : List Entry) → AllByRecursion (λ x. f x ≡ g x) xs → map f xs ≡ map g xs
+    entry_map f g [] h = refl
+    entry_map f g (x ∷ xs) h = ap (λ y. y ∷ map f xs) h.0 ∙ ap (λ ys. g x ∷ ys) (entry_map f g xs h.1)
+
+-- a pass in the order of importance decides
+pub pass_decides : (now : ℕ) (o : IsImportanceOrder now) (caps : Caps) (es order : List Entry) → IsAscending es
+    → IsPermutation es order → passed_in now caps 0 (ranked now order) es ≡ decided now caps es
+pass_decides now o caps es order up p =
+    let b : Entry → Bool = choice_of now caps order in
+    let different : AreOfDifferentStreams es = different_from_ascending es up in
+    let q : IsPermutation es (ranked now order) = ranked_permuted now es order p in
+    let in_order = holds_from_runs now o caps 0 b (ranked now order) (ranked_is_ranked now o order (different_permuted es order p different)) (choice_runs now caps es order up p) in
+    let holds : AllByRecursion (Holds now caps 0 b es) es = holds_permuted now caps 0 b (ranked now order) es (IsPermutation-sym es (ranked now order) q) in_order in
+    entries_after now caps es order up p ∙ (sym (settled-map now b es) ∙ sym (decided_by_choice now o caps b es different holds))
+
+-- and leaves the same entries in the order
+pub pass_keeps : (now : ℕ) (o : IsImportanceOrder now) (caps : Caps) (es order : List Entry) → IsAscending es
+    → IsPermutation es order → IsPermutation (decided now caps es) (passed now caps 0 (ranked now order))
+pass_keeps now o caps es order up p =
+    let b : Entry → Bool = choice_of now caps order in
+    let q : IsPermutation es (ranked now order) = ranked_permuted now es order p in
+    subst (λ (ys : List Entry). IsPermutation (decided now caps es) ys) (sym (passed_is now caps 0 b (ranked now order) (choice_runs now caps es order up p)))
+    (subst (λ (ys : List Entry). IsPermutation ys (map (settled_at now b) (ranked now order))) (sym (entries_after now caps es order up p) ∙ pass_decides now o caps es order up p)
+    (IsPermutation-map (settled_at now b) es (ranked now order) q))
+
+-- how the moment of one entry is set among these
+with_since-above : (es : List Entry) (x : Entry) (since : Option Cs) → AllByRecursion (λ y. stream_of x < stream_of y) es
+    → es ≡ with_since es x since
+with_since-above [] x since h = refl
+with_since-above (e ∷ es) x since h =
+    ap (λ ys. e ∷ ys) (with_since-above es x since h.1)
+    ∙ ap (λ v. cond v (record e { since = since }) e ∷ with_since es x since) (sym (ne_eqb (stream_of e) (stream_of x) (λ k. let l : stream_of x < stream_of e = h.0 in omega (arith, k, l))))
+
+pub with_since-found : (es : List Entry) (x : Entry) (since : Option Cs) (i : ℕ) (d : Entry) → IsAscending es
+    → i < length es → stream_of (get_or es i d) ≡ stream_of x
+    → set es i (record (get_or es i d) { since = since }) ≡ with_since es x since
+with_since-found [] x since i d up l e = absurd (omega (arith, l))
+with_since-found (y ∷ ys) x since zero d up l e =
+    ap (λ zs. record y { since = since } ∷ zs) (with_since-above ys x since (all_with ys up.0 up.0 (λ z k _. omega (arith, e, k))))
+    ∙ ap (λ v. cond v (record y { since = since }) y ∷ with_since ys x since) (sym (eq-eqb (stream_of y) (stream_of x) e))
+with_since-found (y ∷ ys) x since (suc i) d up l e =
+    let below : stream_of y < stream_of (get_or ys i d) = All-from_recursion (λ z. stream_of y < stream_of z) ys up.0 i d (omega (arith, l)) in
+    ap (λ zs. y ∷ zs) (with_since-found ys x since i d up.1 (omega (arith, l)) e)
+    ∙ ap (λ v. cond v (record y { since = since }) y ∷ with_since ys x since) (sym (ne_eqb (stream_of y) (stream_of x) (λ k. omega (arith, k, e, below))))
+
+with_since-none : (es : List Entry) (x : Entry) (since : Option Cs)
+    → ((k : ℕ) (d : Entry) → k < length es → stream_of (get_or es k d) ≢ stream_of x) → es ≡ with_since es x since
+with_since-none [] x since h = refl
+with_since-none (e ∷ es) x since h =
+    ap (λ ys. e ∷ ys) (with_since-none es x since (λ k d l. h (suc k) d (omega (arith, l))))
+    ∙ ap (λ v. cond v (record e { since = since }) e ∷ with_since es x since) (sym (ne_eqb (stream_of e) (stream_of x) (h 0 e (omega arith))))
+
+pub with_since-missing : (es : List Entry) (x : Entry) (since : Option Cs) (i : ℕ)
+    → AllWithin (λ y. stream_of y < stream_of x) es 0 i
+    → AllWithin (λ y. stream_of x < stream_of y) es i (length es) → es ≡ with_since es x since
+with_since-missing es x since i low high =
+    with_since-none es x since
+    (λ k d l e. elim (cases_lt k i) [ inl below ↦ omega (arith, low k d (omega arith) below, e) | inr over ↦ omega (arith, high k d over l, e) ])
+
+-- a moment that is the entry's own changes nothing
+pub with_since-own : (es : List Entry) (x : Entry) (since : Option Cs) → x.since ≡ since → IsOnlyIn es x
+    → es ≡ with_since es x since
+with_since-own [] x since same only = refl
+with_since-own (e ∷ es) x since same only =
+    ap (λ y. y ∷ es) (by_test (stream_of e == stream_of x) refl) ∙ ap (λ ys. cond (stream_of e == stream_of x) (record e { since = since }) e ∷ ys) (with_since-own es x since same only.1)
+  where
+    by_test : (v : Bool) → stream_of e == stream_of x ≡ v → e ≡ cond v (record e { since = since }) e
+    by_test true h = ap (λ s. record e { since = s }) (ap (λ (y : Entry). y.since) (only.0 (eqb-true (stream_of e) (stream_of x) h)) ∙ same)
+    by_test false h = refl
+
+-- what a pass keeps, at its i-th entry
+pub record PassesAt (now : ℕ) (caps : Caps) (first before : List Entry) (sum i : ℕ) (order es : List Entry) : Type 0 where
+  pub order_is : passed now caps 0 first ≡ take i order ++ passed now caps sum (drop i order)
+  pub entries_is : passed_in now caps 0 first before ≡ passed_in now caps sum (drop i order) es
+  pub ascending : IsAscending es
+  pub different : AreOfDifferentStreams (drop i order)
+  pub only : AllByRecursion (IsOnlyIn es) (drop i order)
+
+-- setting a moment moves no stream
+ascending-with_since : (es : List Entry) (x : Entry) (since : Option Cs) → IsAscending es → IsAscending (with_since es x since)
+ascending-with_since [] x since up = tt
+ascending-with_since (e ∷ es) x since up =
+    elim (stream_of e == stream_of x) as (λ v. IsAscending (cond v (record e { since = since }) e ∷ with_since es x since)) [
+      | true ↦ (above e es up.0, ascending-with_since es x since up.1)
+      | false ↦ (above e es up.0, ascending-with_since es x since up.1)
+    ]
+  where
+    above : (y : Entry) (ys : List Entry) → AllByRecursion (λ z. stream_of y < stream_of z) ys
+        → AllByRecursion (λ z. stream_of y < stream_of z) (with_since ys x since)
+    above y [] h = tt
+    above y (z ∷ zs) h =
+        (elim (stream_of z == stream_of x) as (λ v. stream_of y < stream_of (cond v (record z { since = since }) z)) [ true ↦ h.0 | false ↦ h.0 ], above y zs h.1)
+
+-- the head of what is left is passed
+pass_head : (now : ℕ) (caps : Caps) (first before : List Entry) (sum i : ℕ) (order es : List Entry) (x : Entry) (since : Option Cs)
+    → i < length order → drop i order ≡ x ∷ drop (suc i) order → since ≡ since_after now x.since (has_room caps sum x)
+    → PassesAt now caps first before sum i order es
+    → PassesAt now caps first before (sum_with sum x (has_room caps sum x)) (suc i) (set order i (record x { since = since })) (with_since es x since)
+pass_head now caps first before sum i order es x since l rest set_to at =
+    let y : Entry = record x { since = since } in
+    let kept : drop (suc i) (set order i y) ≡ drop (suc i) order = drop-set-lt (suc i) order i y (omega arith) in
+    let done : take (suc i) (set order i y) ≡ take i order ++ (y ∷ []) = take-suc-set order i y l in
+    let sum' : ℕ = sum_with sum x (has_room caps sum x) in
+    let left : AreOfDifferentStreams (x ∷ drop (suc i) order) = subst (λ (ys : List Entry). AreOfDifferentStreams ys) rest at.different in
+    let only : AllByRecursion (IsOnlyIn es) (x ∷ drop (suc i) order) = subst (λ (ys : List Entry). AllByRecursion (IsOnlyIn es) ys) rest at.only in
+    record {
+      order_is =
+          at.order_is
+          ∙ (ap (λ ys. take i order ++ passed now caps sum ys) rest
+          ∙ (ap (λ s. take i order ++ record x { since = s } ∷ passed now caps sum' (drop (suc i) order)) (sym set_to)
+          ∙ (sym (append_assoc (take i order) (y ∷ []) (passed now caps sum' (drop (suc i) order)))
+          ∙ (ap (λ ys. ys ++ passed now caps sum' (drop (suc i) order)) (sym done) ∙ ap (λ ys. take (suc i) (set order i y) ++ passed now caps sum' ys) (sym kept)))));
+      entries_is =
+          at.entries_is
+          ∙ (ap (λ ys. passed_in now caps sum ys es) rest
+          ∙ (ap (λ s. passed_in now caps sum' (drop (suc i) order) (with_since es x s)) (sym set_to) ∙ ap (λ ys. passed_in now caps sum' ys (with_since es x since)) (sym kept)));
+      ascending = ascending-with_since es x since at.ascending;
+      different = subst (λ (ys : List Entry). AreOfDifferentStreams ys) (sym kept) left.1;
+      only =
+          subst (λ (ys : List Entry). AllByRecursion (IsOnlyIn (with_since es x since)) ys) (sym kept)
+          (all_with (drop (suc i) order) left.0 only.1 (λ z ne h. only-with_since es x z since ne h));
+    }
+
+pub pass_more : (now : ℕ) (caps : Caps) (first before : List Entry) (sum i : ℕ) (order es : List Entry) (d : Entry) (since : Option Cs) (sum' : ℕ)
+    → i < length order → since ≡ since_after now (get_or order i d).since (has_room caps sum (get_or order i d))
+    → sum' ≡ sum_with sum (get_or order i d) (has_room caps sum (get_or order i d))
+    → PassesAt now caps first before sum i order es
+    → PassesAt now caps first before sum' (i + 1) (set order i (record (get_or order i d) { since = since })) (with_since es (get_or order i d) since)
+pass_more now caps first before sum i order es d since sum' l set_to next at =
+    let step = pass_head now caps first before sum i order es (get_or order i d) since l (drop-cons order i d l) set_to at in
+    let on : suc i ≡ i + 1 = omega arith in
+    subst (λ (n : ℕ). PassesAt now caps first before n (i + 1) (set order i (record (get_or order i d) { since = since })) (with_since es (get_or order i d) since)) (sym next)
+    (subst (λ (n : ℕ). PassesAt now caps first before (sum_with sum (get_or order i d) (has_room caps sum (get_or order i d))) n (set order i (record (get_or order i d) { since = since })) (with_since es (get_or order i d) since)) on step)
+
+-- at the start nothing is passed, and at the end all is
+pub passes_first : (now : ℕ) (caps : Caps) (order es : List Entry) → IsAscending es → AreOfDifferentStreams order
+    → AllByRecursion (IsOnlyIn es) order → PassesAt now caps order es 0 0 order es
+passes_first now caps order es up different only =
+    record { order_is = refl; entries_is = refl; ascending = up; different = different; only = only }
+
+pub ranked_different : (now : ℕ) (es order : List Entry) → IsAscending es → IsPermutation es order
+    → AreOfDifferentStreams (ranked now order)
+ranked_different now es order up p =
+    different_permuted es (ranked now order) (ranked_permuted now es order p) (different_from_ascending es up)

@@ -1,0 +1,66 @@
+-- What is left once a stream's entry is taken out.
+use Rattle.std.proofs.Common.{◌≡◌, ◌≢◌, ℕ, zero, suc, ◌+◌, ◌<◌, ◌≤◌, not, ◌==◌, cond, List, [], ◌∷◌, length, get_or, Some, None, refl, sym, ◌∙◌, ap, arith, inl, inr}
+use Rattle.std.specs.Prelude.{nat_lt, position, remove}
+use Rattle.std.specs.List.{AllByRecursion, position_or_len}
+use Rattle.std.proofs.lemmas.Bool.{eq-eqb, ne_eqb, eqb-true, cases_Bool, ltb-false}
+use Rattle.std.proofs.lemmas.List.Elements.{All-from_recursion}
+use Rattle.std.proofs.lemmas.List.Quantifiers.{position-Some}
+use Rattle.srp_base.specs.declared.numbers.StreamId.{StreamId}
+use Rattle.stream_importance.specs.declared.entry.Entry.{Entry}
+use Rattle.port_ledger.specs.Decision.{stream_of, AreOfDifferentStreams}
+use Rattle.port_ledger.specs.Book.{without}
+use Rattle.port_ledger.proofs.Finding.{blank}
+
+-- entries of other streams are left
+without-others : (stream : StreamId) (xs : List Entry) → AllByRecursion (λ x. stream_of x ≢ stream.0) xs → xs ≡ without xs stream
+without-others stream [] h = refl
+without-others stream (x ∷ xs) h =
+    ap (λ ys. x ∷ ys) (without-others stream xs h.1)
+    ∙ ap (λ v. cond (not v) (x ∷ without xs stream) (without xs stream)) (sym (ne_eqb (stream_of x) stream.0 h.0))
+
+others_along : (n m : ℕ) (xs : List Entry) → n ≡ m → AllByRecursion (λ y. n ≢ stream_of y) xs
+    → AllByRecursion (λ y. stream_of y ≢ m) xs
+others_along n m [] e h = tt
+others_along n m (x ∷ xs) e h = ((λ k. h.0 (e ∙ sym k)), others_along n m xs e h.1)
+
+without-at : (xs : List Entry) (stream : StreamId) (i : ℕ) (d : Entry) → AreOfDifferentStreams xs → i < length xs
+    → stream_of (get_or xs i d) ≡ stream.0 → remove xs i ≡ without xs stream
+without-at [] stream i d different l e = absurd (omega (arith, l))
+without-at (x ∷ xs) stream zero d different l e =
+    without-others stream xs (others_along (stream_of x) stream.0 xs e different.0)
+    ∙ ap (λ v. cond (not v) (x ∷ without xs stream) (without xs stream)) (sym (eq-eqb (stream_of x) stream.0 e))
+without-at (x ∷ xs) stream (suc i) d different l e =
+    let other : stream_of x ≢ stream_of (get_or xs i d) = All-from_recursion (λ y. stream_of x ≢ stream_of y) xs different.0 i d (omega (arith, l)) in
+    ap (λ ys. x ∷ ys) (without-at xs stream i d different.1 (omega (arith, l)) e)
+    ∙ ap (λ v. cond (not v) (x ∷ without xs stream) (without xs stream)) (sym (ne_eqb (stream_of x) stream.0 (λ k. other (k ∙ sym e))))
+
+pub without_found : (xs : List Entry) (stream : StreamId) (i : ℕ) → AreOfDifferentStreams xs
+    → position (λ x. stream_of x == stream.0) xs ≡ Some i → remove xs i ≡ without xs stream
+without_found xs stream i different h =
+    let found = position-Some (λ x. stream_of x == stream.0) xs i blank h in
+    without-at xs stream i blank different found.0 (eqb-true (stream_of (get_or xs i blank)) stream.0 found.1)
+
+without-past : (xs : List Entry) (stream : StreamId)
+    → length xs ≤ position_or_len (λ x. stream_of x == stream.0) xs → xs ≡ without xs stream
+without-past [] stream h = refl
+without-past (x ∷ xs) stream h =
+    elim (cases_Bool (stream_of x == stream.0)) [
+      | inl e ↦
+          (let none : position_or_len (λ y. stream_of y == stream.0) (x ∷ xs) ≡ 0 = ap (λ v. cond (not v) (1 + position_or_len (λ y. stream_of y == stream.0) xs) 0) e in
+          absurd (omega (arith, h, none)))
+      | inr e ↦
+          (let more : position_or_len (λ y. stream_of y == stream.0) (x ∷ xs) ≡ 1 + position_or_len (λ y. stream_of y == stream.0) xs =
+          ap (λ v. cond (not v) (1 + position_or_len (λ y. stream_of y == stream.0) xs) 0) e in
+          ap (λ ys. x ∷ ys) (without-past xs stream (omega (arith, h, more))) ∙ ap (λ v. cond (not v) (x ∷ without xs stream) (without xs stream)) (sym e))
+    ]
+
+pub without_missing : (xs : List Entry) (stream : StreamId) → position (λ x. stream_of x == stream.0) xs ≡ None
+    → xs ≡ without xs stream
+without_missing xs stream h =
+    elim (cases_Bool (nat_lt (position_or_len (λ x. stream_of x == stream.0) xs) (length xs))) [
+      | inl e ↦
+          (let found : position (λ x. stream_of x == stream.0) xs ≡ Some (position_or_len (λ x. stream_of x == stream.0) xs) =
+          ap (λ v. cond v (Some (position_or_len (λ x. stream_of x == stream.0) xs)) None) e in
+          cc)
+      | inr e ↦ without-past xs stream (ltb-false (position_or_len (λ x. stream_of x == stream.0) xs) (length xs) e)
+    ]

@@ -1,0 +1,63 @@
+//! The wanting streams in the order of importance, as they are kept between two decisions.
+
+ghost use Rattle.std.specs.Prelude.{◌≡◌, IfOk};
+ghost use Rattle.port_ledger.specs.Pass.{order_with, place_first, ranked, rewanted};
+
+use crate::entries::entry_with;
+use crate::fit::is_preceded_by;
+use srp_base::{Cs, NoMemory};
+use std::alloc::Global;
+use stream_importance::{Entry, Want};
+
+/// The order once this want has come, of a stream that has an entry in it or is new and goes last.
+pub(crate) fn order_with(
+    alloc: Global,
+    order: &[Entry],
+    want: Want,
+    known: bool,
+) -> Result<Vec<Entry>, NoMemory>
+    ensures { IfOk result (λ v. v.items ≡ order_with order.now want known) }
+{
+    let mut next = Vec::with_capacity(alloc, order.len() + 1)?;
+    next.extend_from_slice(order)?;
+    if known {
+        rewant(&mut next, want);
+    } else {
+        next.push(Entry { want, since: None })?;
+    }
+    Ok(next)
+}
+
+fn rewant(entries: &mut [Entry], want: Want)
+    ensures { entries.new ≡ rewanted entries.old want }
+{
+    for x in entries.iter_mut() {
+        if x.want.stream == want.stream {
+            *x = entry_with(*x, want);
+        }
+    }
+}
+
+/// Puts the entries into the order of importance at a moment. It takes one look at each where they are in it
+/// already, as they mostly are.
+pub(crate) fn rank(now: Cs, entries: &mut [Entry])
+    ensures { entries.new ≡ ranked now.0 entries.old }
+{
+    let mut rest = entries.len();
+    while rest > 0 {
+        rest -= 1;
+        place_first(now, &mut entries[rest..]);
+    }
+}
+
+/// Moves the first entry behind those that precede it.
+fn place_first(now: Cs, entries: &mut [Entry])
+    ensures { entries.new ≡ place_first now.0 entries.old }
+{
+    for at in 1..entries.len() {
+        if is_preceded_by(now, &entries[at], &entries[at - 1]) {
+            return;
+        }
+        entries.swap(at - 1, at);
+    }
+}

@@ -1,0 +1,9 @@
+-- The scenario of some octets, or the cause of their refusal.
+use Rattle.std.specs.Prelude.{ℕ, List, Result}
+use Rattle.topology_file.specs.Plan.{Plan}
+use Rattle.topology_file.specs.Scenario.{scenario_of}
+use Rattle.srpnet.specs.declared.outcome.Cause.{Cause}
+use Rattle.srpnet.specs.Input.{input_of}
+
+abbrev pub scenario_input : List ℕ → Result Plan Cause
+scenario_input octets = input_of scenario_of octets
