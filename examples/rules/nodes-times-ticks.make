@@ -1,8 +1,0 @@
-#!/usr/bin/env bash
-# Nodes times ticks are at most 400,000: 40 times 10,000.
-row() {
-  echo "ticks = $1"
-  for i in $(seq "$2"); do printf '[[node]]\nname = "n%s"\nkind = "bridge"\n' "$i"; done
-  for i in $(seq $(($2 - 1))); do printf '[[link]]\na = "n%s"\nb = "n%s"\n' "$i" $((i + 1)); done
-}
-row 10000 40
