@@ -71,7 +71,8 @@ pub fn decode_in_place(alloc: Global, form: AppForm, octets: &[u8]) -> Result<Ra
 
     // What it answers holds.
     ensures spelled { (raw : RawPdu) → result ≡ Ok raw → Spells form octets.now (pdu_in raw) }
-    ensures broken { (place : ℕ) → result ≡ Err (DecodeErr.Malformed place) → Breaks form octets.now place }
+    ensures broken { (place : ℕ)
+        → result ≡ Err (DecodeErr.Malformed place) → Breaks form octets.now place }
 
     // Want of memory alone is free, as in `decode`.
     ensures exact { AnswersAs pdu_in result (reading form octets.now) }
@@ -98,7 +99,8 @@ pub fn decode(alloc: Global, form: AppForm, octets: &[u8]) -> Result<Pdu, Decode
 
     // What it answers holds.
     ensures spelled { (pdu : Pdu) → result ≡ Ok pdu → Spells form octets.now pdu }
-    ensures broken { (place : ℕ) → result ≡ Err (DecodeErr.Malformed place) → Breaks form octets.now place }
+    ensures broken { (place : ℕ)
+        → result ≡ Err (DecodeErr.Malformed place) → Breaks form octets.now place }
 
     // Want of memory alone is free: else the answer is the reading, which the law `reading_is_the_grammar`
     // says is each PDU that the octets spell and each place where they break.

@@ -132,7 +132,8 @@ pub fn put_vector(
 ) -> Result<(), NoMemory>
     requires few { length events.now ≤ 8191 }
     requires small { IsTrue (list_all (λ p. nat_le p 3) params.now) }
-    ensures { OnOk result (out.new.items ≡ out.old.items ++ octets_for leave_all first.now events.now params.now) }
+    ensures { OnOk result (out.new.items
+        ≡ out.old.items ++ octets_for leave_all first.now events.now params.now) }
 {
     put_two(out, header_for(leave_all, events))?;
     out.extend_from_slice(first)?;
@@ -183,7 +184,8 @@ fn length_for(form: AppForm, message: &Message) -> u8
 /// Writes a Message.
 fn put_message(out: &mut Vec<u8>, form: AppForm, message: &Message) -> Result<(), NoMemory>
     requires { IsTrue (message_fits form message.now) }
-    ensures { OnOk result (out.new.items ≡ out.old.items ++ message_octets (message_for form message.now)) }
+    ensures { OnOk result (out.new.items
+        ≡ out.old.items ++ message_octets (message_for form message.now)) }
 {
     out.push(message.kind)?;
     out.push(length_for(form, message))?;
@@ -196,7 +198,8 @@ fn put_message(out: &mut Vec<u8>, form: AppForm, message: &Message) -> Result<()
 /// Writes Messages.
 fn put_messages(out: &mut Vec<u8>, form: AppForm, messages: &[Message]) -> Result<(), NoMemory>
     requires { IsTrue (list_all (message_fits form) messages.now) }
-    ensures { OnOk result (out.new.items ≡ out.old.items ++ messages_octets (map (message_for form) messages.now)) }
+    ensures { OnOk result (out.new.items
+        ≡ out.old.items ++ messages_octets (map (message_for form) messages.now)) }
 {
     for message in messages {
         put_message(out, form, message)?;
@@ -230,7 +233,8 @@ pub fn encode(form: AppForm, pdu: &Pdu, out: &mut Vec<u8>) -> Result<(), NoMemor
     ensures err { OnErr result (out.new.items ≡ out.old.items) }
 
     // What now stands behind the old octets spells the PDU.
-    ensures spelled { OnOk result (Spells form (drop (length out.old.items) out.new.items) pdu.now) }
+    ensures spelled { OnOk result
+        (Spells form (drop (length out.old.items) out.new.items) pdu.now) }
 {
     let octets = written(*out.allocator(), form, pdu)?;
     out.extend_from_slice(&octets)?;

@@ -51,7 +51,8 @@ fn known(
     len: u8,
     size: usize,
 ) -> Result<(Vec<RawVector<'_>>, &[u8]), ReadErr>
-    ensures { Gives (λ x. (attrs_in x.0.items, x.1.now)) result (known_at (Some row) len size octets.now) }
+    ensures { Gives (λ x. (attrs_in x.0.items, x.1.now)) result
+        (known_at (Some row) len size octets.now) }
 {
     let (here, beyond) = cut(octets, size);
     match region(alloc, here, row, len, size) {
@@ -107,7 +108,8 @@ fn sized(
     size: usize,
 ) -> Result<(Vec<RawVector<'_>>, &[u8]), ReadErr>
     requires { size < 65536 }
-    ensures { Gives (λ x. (attrs_in x.0.items, x.1.now)) result (kept row (sized_at row len size octets.now)) }
+    ensures { Gives (λ x. (attrs_in x.0.items, x.1.now)) result
+        (kept row (sized_at row len size octets.now)) }
 {
     match row {
         Some(row) => known(alloc, octets, row, len, size),
@@ -126,7 +128,8 @@ fn counted(
     row: Option<TypeForm>,
     len: u8,
 ) -> Result<(Vec<RawVector<'_>>, &[u8]), ReadErr>
-    ensures { Gives (λ x. (attrs_in x.0.items, x.1.now)) result (kept row (counted_at row len octets.now)) }
+    ensures { Gives (λ x. (attrs_in x.0.items, x.1.now)) result
+        (kept row (counted_at row len octets.now)) }
 {
     let (size, rest) = size(octets)?;
     let (found, rest) = sized(alloc, rest, row, len, size)?;
@@ -141,7 +144,8 @@ fn body(
     row: Option<TypeForm>,
     len: u8,
 ) -> Result<(Vec<RawVector<'_>>, &[u8]), ReadErr>
-    ensures { Gives (λ x. (attrs_in x.0.items, x.1.now)) result (kept row (body_at form row len octets.now)) }
+    ensures { Gives (λ x. (attrs_in x.0.items, x.1.now)) result
+        (kept row (body_at form row len octets.now)) }
 {
     match form {
         AppForm::Mvrp => list(alloc, octets, row, len),
@@ -234,7 +238,8 @@ fn push_some<'a>(
     found: &mut Vec<RawMessage<'a>>,
     message: Option<RawMessage<'a>>,
 ) -> Result<(), AllocError>
-    ensures { OnOk result (map message_in found.new.items ≡ map message_in found.old.items ++ messages_in message.entry) }
+    ensures { OnOk result (map message_in found.new.items
+        ≡ map message_in found.old.items ++ messages_in message.entry) }
 {
     if let Some(message) = message {
         found.push(message)?;

@@ -18,7 +18,8 @@ fn push_known<'a>(
     row: Option<TypeForm>,
     raw: RawVector<'a>,
 ) -> Result<(), AllocError>
-    ensures { OnOk result (attrs_in found.new.items ≡ attrs_in found.old.items ++ kept_attr row (attr_in raw.entry)) }
+    ensures { OnOk result (attrs_in found.new.items
+        ≡ attrs_in found.old.items ++ kept_attr row (attr_in raw.entry)) }
 {
     if row.is_some() {
         found.push(raw)?;
@@ -34,7 +35,8 @@ pub(crate) fn vectors(
     row: Option<TypeForm>,
     len: u8,
 ) -> Result<(Vec<RawVector<'_>>, &[u8]), ReadErr>
-    ensures { Gives (λ x. (attrs_in x.0.items, x.1.now)) result (kept row (vectors_of row len octets.now)) }
+    ensures { Gives (λ x. (attrs_in x.0.items, x.1.now)) result
+        (kept row (vectors_of row len octets.now)) }
 {
     let mut found = Vec::new(alloc);
     let mut rest = octets;
@@ -72,7 +74,8 @@ pub(crate) fn list(
     row: Option<TypeForm>,
     len: u8,
 ) -> Result<(Vec<RawVector<'_>>, &[u8]), ReadErr>
-    ensures { Gives (λ x. (attrs_in x.0.items, x.1.now)) result (kept row (list_at row len octets.now)) }
+    ensures { Gives (λ x. (attrs_in x.0.items, x.1.now)) result
+        (kept row (list_at row len octets.now)) }
 {
     let (found, rest) = vectors(alloc, octets, row, len)?;
     let rest = mark(rest)?;

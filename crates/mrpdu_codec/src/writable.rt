@@ -46,7 +46,8 @@ fn message_size(form: AppForm, message: &Message) -> usize
 
 /// The octets of Messages, or the greatest usize where they are more.
 fn messages_size(form: AppForm, messages: &[Message]) -> usize
-    ensures { result ≡ min (length (messages_octets (map (message_for form) messages.now))) (2 ^ 64 - 1) }
+    ensures { result
+        ≡ min (length (messages_octets (map (message_for form) messages.now))) (2 ^ 64 - 1) }
 {
     let mut size = 0usize;
     for message in messages {

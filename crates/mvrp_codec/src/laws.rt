@@ -12,8 +12,10 @@ ghost use Rattle.mvrp_codec.specs.Writing.{runs, AreMaximal, joined};
 /// The reading as a function is the grammar with the meaning of a PDU: octets read as exactly what the
 /// PDU that they spell says, or as exactly the place where they break.
 pub fn reading_is_the_grammar()
-    ensures reads { (octets : List ℕ) (read : MvrpPdu) → (mvrp_reading octets ≡ Ok read) ↔ Reads octets read }
-    ensures broken { (octets : List ℕ) (place : ℕ) → (mvrp_reading octets ≡ Err place) ↔ Breaks Mvrp octets place }
+    ensures reads { (octets : List ℕ) (read : MvrpPdu)
+        → (mvrp_reading octets ≡ Ok read) ↔ Reads octets read }
+    ensures broken { (octets : List ℕ) (place : ℕ)
+        → (mvrp_reading octets ≡ Err place) ↔ Breaks Mvrp octets place }
 {
     mrpdu_codec::reading_is_the_grammar();
 }

@@ -48,7 +48,8 @@ fn push_octet(
     n: usize,
 ) -> Result<(), AllocError>
     requires { first ≤ 4094 }
-    ensures { OnOk result (out.new.items ≡ out.old.items ++ events_from first (take n (three_events octet))) }
+    ensures { OnOk result (out.new.items
+        ≡ out.old.items ++ events_from first (take n (three_events octet))) }
 {
     let [a, b, c] = events_in(octet);
     if 0 < n {
@@ -70,7 +71,8 @@ fn push_events(
     packed: &[u8],
     n: usize,
 ) -> Result<(), AllocError>
-    ensures { OnOk result (out.new.items ≡ out.old.items ++ events_from first (take n (flat_map three_events packed.now))) }
+    ensures { OnOk result (out.new.items
+        ≡ out.old.items ++ events_from first (take n (flat_map three_events packed.now))) }
 {
     let mut number = first;
     let mut left = n;
@@ -97,7 +99,8 @@ fn push_vectors(out: &mut Vec<(MrpEvent, Vid)>, vectors: &[RawVector<'_>]) -> Re
 
 /// The events of Messages, in the order of their octets.
 fn events_of(alloc: Global, messages: &[RawMessage<'_>]) -> Result<Vec<(MrpEvent, Vid)>, AllocError>
-    ensures { IfOk result (λ v. v.items ≡ flat_map (λ m. flat_map events_in_place m.vectors.items) messages.now) }
+    ensures { IfOk result (λ v. v.items
+        ≡ flat_map (λ m. flat_map events_in_place m.vectors.items) messages.now) }
 {
     let mut out = Vec::new(alloc);
     for message in messages {
@@ -132,7 +135,8 @@ pub fn decode(alloc: Global, octets: &[u8]) -> Result<MvrpPdu, DecodeErr>
 
     // What it answers holds.
     ensures reads { (read : MvrpPdu) → result ≡ Ok read → Reads octets.now read }
-    ensures broken { (place : ℕ) → result ≡ Err (errors.Malformed place) → Breaks Mvrp octets.now place }
+    ensures broken { (place : ℕ)
+        → result ≡ Err (errors.Malformed place) → Breaks Mvrp octets.now place }
 
     // Want of memory alone is free: else the answer is the reading, which the law `reading_is_the_grammar`
     // says is all that the octets read as and each place where they break.

@@ -54,7 +54,8 @@ fn put_run(
 ) -> Result<(), NoMemory>
     requires alone { alone.now ≡ map (λ x. x.0) run.now }
     requires few { length alone.now ≤ 8191 }
-    ensures { OnOk result (out.new.items ≡ out.old.items ++ vector_octets (vector_for (run_vector leave_all run.now))) }
+    ensures { OnOk result (out.new.items
+        ≡ out.old.items ++ vector_octets (vector_for (run_vector leave_all run.now))) }
 {
     put_vector(out, leave_all, &first_of(run), alone, &[])
 }
@@ -68,7 +69,8 @@ fn put_runs(
 ) -> Result<(), NoMemory>
     requires alone { alone.now ≡ map (λ x. x.0) events.now }
     requires few { length alone.now ≤ 8191 }
-    ensures vectors { OnOk result (out.new.items ≡ out.old.items ++ runs_octets leave_all (runs events.now)) }
+    ensures vectors { OnOk result (out.new.items
+        ≡ out.old.items ++ runs_octets leave_all (runs events.now)) }
     ensures vids { OnOk result (AreVids events.now) }
 {
     let mut leave = leave_all;
