@@ -259,7 +259,8 @@ kept_fits now caps entries want fit e booked h =
     by_entry (Some x) booked h =
         let f : x.want ≡ want = cc in
         let same : same_want x.want want ≡ true = ap (same_want x.want) (sym f) ∙ same_want-refl x.want in
-        let t : record { want = want; since = since_if_same x want } ≡ x =
-        ap (λ b. record { want = want; since = cond b x.since None }) same ∙ ap (λ w. record { want = w; since = x.since }) (sym f) in
-        subst (λ (y : Entry). (fit_in now caps (booked_of entries) y ≡ Fits) ↔ IsSome x.since) (sym t)
-        (by_test x (does_fit now caps (booked_of entries) x) booked)
+        let moment : record { want = want; since = since_if_same x want } ≡ record { want = want; since = x.since } =
+        ap (λ b. record { want = want; since = cond b x.since None }) same in
+        let own : record { want = want; since = x.since } ≡ x = ap (λ w. record { want = w; since = x.since }) (sym f) in
+        let F : Entry → Type 0 = λ y. (fit_in now caps (booked_of entries) y ≡ Fits) ↔ IsSome x.since in
+        subst F (sym moment) (subst F (sym own) (by_test x (does_fit now caps (booked_of entries) x) booked))

@@ -1,4 +1,4 @@
-use Rattle.std.proofs.Common.{◌≡◌, ◌+◌, ◌++◌, ◌∷◌, [], true, false, not, List, get_or, ap, subst, sym, ◌∙◌}
+use Rattle.std.proofs.Common.{◌+◌, true, false, not, List, get_or, ap, subst, sym, ◌∙◌}
 use Rattle.srp_base.specs.declared.numbers.StreamId.{StreamId}
 use Rattle.stream_importance.specs.declared.entry.Entry.{Entry}
 use Rattle.port_ledger.proofs.Finding.{blank}
