@@ -1,3 +1,5 @@
+ghost use Rattle.std.specs.Prelude.{◌≡◌, IfOk};
+
 use super::*;
 use srp_base::{
     BridgeId, Failure, ListenerKind, Mac, MrpEvent, Priority, Rank, Seq, StreamId, Talker,
@@ -8,7 +10,9 @@ use std::test::Fail;
 const STREAM: StreamId = StreamId(0x0200_0000_0001_0001);
 
 /// The Talker of a stream whose destination is at the end of three octets.
-fn talker(stream: StreamId, dest: u64) -> Result<Talker, Fail> {
+fn talker(stream: StreamId, dest: u64) -> Result<Talker, Fail>
+    ensures { IfOk result (λ t. t.stream ≡ stream) }
+{
     Ok(Talker {
         stream,
         dest: Mac::new(dest).ok_or("an address")?,
@@ -26,7 +30,9 @@ fn said(
     alloc: Global,
     leave_all: bool,
     events: &[(MrpEvent, MsrpKey, MsrpContent)],
-) -> Result<MsrpPdu, Fail> {
+) -> Result<MsrpPdu, Fail>
+    ensures { IfOk result (λ pdu. pdu ≡ record { leave_all = leave_all; events = events.now }) }
+{
     Ok(MsrpPdu {
         leave_all,
         events: Seq::from_vec(Vec::from_slice(alloc, events)?),
@@ -161,10 +167,11 @@ fn malformed_at_a_place(rt: HostRuntime) {
     }
 }
 
+/// A LeaveAll, the failed Talker of a stream, the advertised one of the next, and a Listener.
 #[test]
 fn written_by_types(rt: HostRuntime) -> Result<(), Fail> {
     let alloc = rt.alloc();
-    let second = StreamId(STREAM.0 + 1);
+    let second = StreamId(0x0200_0000_0001_0002);
     let failure = Failure {
         bridge: BridgeId(3),
         code: 1,
@@ -173,26 +180,31 @@ fn written_by_types(rt: HostRuntime) -> Result<(), Fail> {
     let advertised = MsrpContent::Advertise(talker(second, 0x91e0_f000_fe02)?);
     let a = (MrpEvent::New, MsrpKey::Talker(STREAM), failed);
     let b = (MrpEvent::JoinIn, MsrpKey::Talker(second), advertised);
-    let c = (
-        MrpEvent::Lv,
-        MsrpKey::Listener(STREAM),
-        MsrpContent::Listener(ListenerKind::Ready),
+    let octets = encode(alloc, &said(alloc, true, &[a, b])?)?;
+    assert_eq!(rt;
+        decode(alloc, octets.as_slice())?,
+        said(alloc, true, &[b, a])?
     );
-    let pdu = said(alloc, true, &[a, b, c])?;
-    let octets = encode(alloc, &pdu)?;
-    assert!(rt; octets.len() == 106 - 27 - 36 - 10 + 28 + 37 + 12);
-    let read = decode(alloc, octets.as_slice())?;
-    assert_eq!(rt; read, said(alloc, true, &[b, a, c])?);
-    let one = said(alloc, false, &[c])?;
-    let domain = (
-        MrpEvent::JoinMt,
-        MsrpKey::Domain(5),
-        MsrpContent::Domain {
-            priority: 2,
-            vid: 2,
-        },
-    );
-    assert!(rt; c.1 < domain.1 && a.1 < b.1 && b.1 < c.1);
-    assert!(rt; encode(alloc, &one)?.as_slice()[15] == 0xb4);
     Ok(())
+}
+
+#[test]
+fn written_as_it_was_read(rt: HostRuntime) -> Result<(), Fail> {
+    let alloc = rt.alloc();
+    let ready = MsrpContent::Listener(ListenerKind::Ready);
+    let pdu = said(
+        alloc,
+        false,
+        &[(MrpEvent::JoinMt, MsrpKey::Listener(STREAM), ready)],
+    )?;
+    assert_eq!(rt; encode(alloc, &pdu)?.as_slice(), LISTENER.as_slice());
+    Ok(())
+}
+
+#[test]
+fn keys_are_ordered(rt: HostRuntime) {
+    let next = StreamId(0x0200_0000_0001_0002);
+    assert!(rt; MsrpKey::Talker(STREAM) < MsrpKey::Talker(next));
+    assert!(rt; MsrpKey::Talker(next) < MsrpKey::Listener(STREAM));
+    assert!(rt; MsrpKey::Listener(next) < MsrpKey::Domain(5));
 }
