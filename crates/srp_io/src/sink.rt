@@ -109,8 +109,11 @@ impl Sink for MemSink {
         ensures never_falls { self.old.faults ≤ self.new.faults }
 
         // It fails exactly at the stated calls.
-        ensures fails { result ≡ Err SinkErr.Failed → (next_fails self.old ≡ true) × (self.new ≡ failed self.old) }
-        ensures takes { IfOk result (λ n. (next_fails self.old ≡ false) × (self.new ≡ taken (take n piece.now) self.old) × (n ≡ min self.old.step (length piece.now))) }
+        ensures fails { result ≡ Err SinkErr.Failed
+            → (next_fails self.old ≡ true) × (self.new ≡ failed self.old) }
+        ensures takes { IfOk result (λ n. (next_fails self.old ≡ false)
+            × (self.new ≡ taken (take n piece.now) self.old)
+            × (n ≡ min self.old.step (length piece.now))) }
         ensures memory { result ≡ Err SinkErr.NoMemory → self.new ≡ self.old }
     {
         let call = self.calls.saturating_add(1);
@@ -178,7 +181,8 @@ impl Sink for PlainSink {
         ensures counts { (result ≡ Err SinkErr.Failed → ⊥) → ◌≡◌ {A = ℕ} 0 0 }
         ensures never_falls { 0 ≤ 0 }
 
-        ensures takes { IfOk result (λ n. (n ≡ min self.old.step (length piece.now)) × (self.new ≡ record self.old { octets = self.old.octets ++ take n piece.now })) }
+        ensures takes { IfOk result (λ n. (n ≡ min self.old.step (length piece.now))
+            × (self.new ≡ record self.old { octets = self.old.octets ++ take n piece.now })) }
         ensures memory { IfErr result (λ e. (e ≡ SinkErr.NoMemory) × (self.new ≡ self.old)) }
     {
         let count = self.step.min(piece.len());

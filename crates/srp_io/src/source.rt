@@ -98,7 +98,9 @@ impl Source for MemSource {
 
         // It fails exactly at the stated calls.
         ensures fails { OnErr result ((next_fails self.old ≡ true) × (self.new ≡ failed self.old)) }
-        ensures gives { IfOk result (λ n. (next_fails self.old ≡ false) × (self.new ≡ given n self.old) × (n ≡ min (min self.old.step (length buf.old)) (length self.old.octets))) }
+        ensures gives { IfOk result (λ n. (next_fails self.old ≡ false)
+            × (self.new ≡ given n self.old)
+            × (n ≡ min (min self.old.step (length buf.old)) (length self.old.octets))) }
     {
         self.calls = self.calls.saturating_add(1);
         if self.fails.contains(&self.calls) {

@@ -59,16 +59,20 @@ const CHUNK: usize = 4096;
 pub fn read_all<S: Source>(alloc: Global, source: &mut S, limit: usize) -> Result<Vec<u8>, ReadErr>
     requires { limit < 2 ^ 32 }
     // All that was left was read, and it is at most the limit.
-    ensures whole { IfOk result (λ v. Consumes (S.left source.old) (S.left source.new) v.items × IsAtEnd (S.left source.new)) }
+    ensures whole { IfOk result (λ v. Consumes (S.left source.old) (S.left source.new) v.items
+        × IsAtEnd (S.left source.new)) }
     ensures within { IfOk result (λ v. length v.items ≤ limit) }
 
     ensures fault { result ≡ Err ReadErr.Fault → Rose (S.faults source.old) (S.faults source.new) }
     // A fault comes before one octet past the limit was taken.
-    ensures fault_within { result ≡ Err ReadErr.Fault → TookAtMost limit (S.left source.old) (S.left source.new) }
+    ensures fault_within { result ≡ Err ReadErr.Fault
+        → TookAtMost limit (S.left source.old) (S.left source.new) }
     // One octet past the limit was taken, with no fault before.
-    ensures too_long { result ≡ Err ReadErr.TooLong → TookPast limit (S.left source.old) (S.left source.new) }
+    ensures too_long { result ≡ Err ReadErr.TooLong
+        → TookPast limit (S.left source.old) (S.left source.new) }
     // After an error the source has given what was read.
-    ensures given { OnErr result ((octets : List ℕ) × Consumes (S.left source.old) (S.left source.new) octets) }
+    ensures given { OnErr result ((octets : List ℕ)
+        × Consumes (S.left source.old) (S.left source.new) octets) }
     // The count rises only with a fault.
     ensures counts { (result ≡ Err ReadErr.Fault → ⊥) → S.faults source.new ≡ S.faults source.old }
     ensures never_falls { S.faults source.old ≤ S.faults source.new }

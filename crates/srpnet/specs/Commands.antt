@@ -1,4 +1,4 @@
--- The commands. Each has a line in these three definitions, and a row in the table of words.
+-- The commands. Each has a line in `reads_input`, `Output` and `ending_of`, and a row in the table of words.
 use Rattle.std.specs.Prelude.{◌≡◌, ℕ, Bool, true, false, List}
 use Rattle.srpnet.specs.declared.words.Command.{Command}
 use Rattle.srpnet.specs.declared.words.Command.TheVariants.{Ledger, Check, Help, Version}

@@ -8,17 +8,20 @@ use Rattle.srpnet.specs.declared.outcome.Cause.TheVariants.{Done, BadWords, Read
 use Rattle.srpnet.specs.Outcomes.{IsRefusal, IsWriteFault, WritesNothing}
 use Rattle.srpnet.specs.TopCall.{Wrote, WrotePart, WroteUntilNoMemory, Refuses, ReadsNothing, most_octets, expected}
 
--- A command is carried out on a source of the type I and an out sink of the type O, before the call and
--- after it. What they tell of their octets and how many faults they count is `left`, `held` and the two
--- `faults`.
-pub record CarriedOut {I O : Type 0} (left : I → Option (List ℕ)) (in_faults : I → ℕ) (held : O → Option (List ℕ)) (out_faults : O → ℕ)
+-- A command is carried out on a source of the type I and an out sink of the type O, before the call
+-- and after it. What they tell of their octets and how many faults they count is `left`, `held` and the
+-- two `faults`.
+pub record CarriedOut {I O : Type 0} (left : I → Option (List ℕ)) (in_faults : I → ℕ)
+    (held : O → Option (List ℕ)) (out_faults : O → ℕ)
     (command : Command) (source source' : I) (out out' : O) (cause : Cause) : Type 0 where
   -- done: the input was read to its end, and the output that belongs to it went out whole
   pub done : cause ≡ Done → Wrote command (left source) (left source') (held out) (held out')
   -- a write fault: exactly the first octets of that output went out, as many as the cause says
-  pub part : (written : ℕ) → cause ≡ WriteFault written → WrotePart command (left source) (left source') (held out) (held out') written
+  pub part : (written : ℕ) → cause ≡ WriteFault written
+      → WrotePart command (left source) (left source') (held out) (held out') written
   -- want of memory: nothing was written, or a front of that output
-  pub memory : cause ≡ NoMemory → (out' ≡ out) ⊎ WroteUntilNoMemory command (left source) (left source') (held out) (held out')
+  pub memory : cause ≡ NoMemory
+      → (out' ≡ out) ⊎ WroteUntilNoMemory command (left source) (left source') (held out) (held out')
   -- with the causes of bad input nothing is written
   pub nothing_written : WritesNothing cause → out' ≡ out
   -- a fault of reading or writing comes only where the count of that object rose in this call
@@ -37,11 +40,13 @@ pub record CarriedOut {I O : Type 0} (left : I → Option (List ℕ)) (in_faults
   pub good_words : cause ≡ BadWords → ⊥
   -- where neither the source nor the out sink fails in this call, the ending is the expected one for the
   -- octets that the source tells, or want of memory
-  pub ends : (octets : List ℕ) → left source ≡ Some octets → (Rose (in_faults source) (in_faults source') → ⊥)
-      → (Rose (out_faults out) (out_faults out') → ⊥) → (cause ≡ expected command octets) ⊎ (cause ≡ NoMemory)
+  pub ends : (octets : List ℕ) → left source ≡ Some octets
+      → (Rose (in_faults source) (in_faults source') → ⊥) → (Rose (out_faults out) (out_faults out') → ⊥)
+      → (cause ≡ expected command octets) ⊎ (cause ≡ NoMemory)
   -- the pages of help and of the version read nothing, and go out whatever the source is
   pub page_unread : ReadsNothing command → source' ≡ source
-  pub page_ends : ReadsNothing command → (Rose (out_faults out) (out_faults out') → ⊥) → (cause ≡ Done) ⊎ (cause ≡ NoMemory)
+  pub page_ends : ReadsNothing command → (Rose (out_faults out) (out_faults out') → ⊥)
+      → (cause ≡ Done) ⊎ (cause ≡ NoMemory)
 
 -- the words match no row: nothing is read and nothing written
 pub record WordsRefused {I O : Type 0} (source source' : I) (out out' : O) (cause : Cause) : Type 0 where
@@ -50,8 +55,10 @@ pub record WordsRefused {I O : Type 0} (source source' : I) (out out' : O) (caus
   pub unwritten : out' ≡ out
 
 -- how the call ends for the command that its words were found to be, if any
-abbrev pub IsEnding : {I O : Type 0} → (I → Option (List ℕ)) → (I → ℕ) → (O → Option (List ℕ)) → (O → ℕ)
+abbrev pub IsEnding : {I O : Type 0}
+    → (I → Option (List ℕ)) → (I → ℕ) → (O → Option (List ℕ)) → (O → ℕ)
     → Option Command → I → I → O → O → Cause → Type 0
 IsEnding left in_faults held out_faults (Some command) source source' out out' cause =
     CarriedOut left in_faults held out_faults command source source' out out' cause
-IsEnding left in_faults held out_faults None source source' out out' cause = WordsRefused source source' out out' cause
+IsEnding left in_faults held out_faults None source source' out out' cause =
+    WordsRefused source source' out out' cause

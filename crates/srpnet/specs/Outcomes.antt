@@ -59,7 +59,8 @@ fixed_text NoMemory = codes "srpnet: no memory\n"
 
 -- the text of a cause; a broken rule is named by its number and its first failing entry
 abbrev pub err_text : Cause → List ℕ
-err_text (BadScenario rule entry) = joined (codes "srpnet: rule " ∷ decimal rule ∷ codes " entry " ∷ decimal entry ∷ codes "\n" ∷ [])
+err_text (BadScenario rule entry) = joined (
+    codes "srpnet: rule " ∷ decimal rule ∷ codes " entry " ∷ decimal entry ∷ codes "\n" ∷ [])
 err_text cause = fixed_text cause
 
 -- ---- Facts of causes, by their places

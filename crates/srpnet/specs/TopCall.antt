@@ -19,16 +19,18 @@ pub record ReadWhole (before after : Option (List ℕ)) (octets : List ℕ) : Ty
   pub within : length octets ≤ most_octets
 
 -- the octets that a source gave aren't what a command reads, for this cause
-pub record Refuses (command : Command) (before after : Option (List ℕ)) (cause : Cause) : Type 0 where
+pub record Refuses (command : Command) (before after : Option (List ℕ)) (cause : Cause)
+    : Type 0 where
   pub octets : List ℕ
   pub whole : ReadWhole before after octets
   pub refused : ending_of command octets ≡ cause
 
 -- ---- Writing
 
--- a command's output: of the octets that the source gave, which are all that it had, for a command that
--- reads an input
-pub record IsOutput (command : Command) (before after : Option (List ℕ)) (text : List ℕ) : Type 0 where
+-- a command's output: of the octets that the source gave, which are all that it had, for a command
+-- that reads an input
+pub record IsOutput (command : Command) (before after : Option (List ℕ)) (text : List ℕ)
+    : Type 0 where
   pub octets : List ℕ
   pub whole : reads_input command ≡ true → ReadWhole before after octets
   pub output : Output command octets text
@@ -40,7 +42,8 @@ pub record Wrote (command : Command) (before after held now : Option (List ℕ))
   pub appended : Appends held now text
 
 -- exactly the first octets of a command's output went out, fewer than all
-pub record WrotePart (command : Command) (before after held now : Option (List ℕ)) (written : ℕ) : Type 0 where
+pub record WrotePart (command : Command) (before after held now : Option (List ℕ)) (written : ℕ)
+    : Type 0 where
   pub text : List ℕ
   pub output : IsOutput command before after text
   pub appended : Appends held now (take written text)

@@ -24,12 +24,18 @@ fn read_output<I: Source>(alloc: Global, command: Command, source: &mut I) -> Re
     ensures output { IfOk result (IsOutput command (I.left source.old) (I.left source.new)) }
     ensures only { IfErr result LacksOutput }
 
-    ensures read_fault { result ≡ Err Cause.ReadFault → Rose (I.faults source.old) (I.faults source.new) }
-    ensures in_time { result ≡ Err Cause.ReadFault → TookAtMost MOST_OCTETS (I.left source.old) (I.left source.new) }
-    ensures counts { (result ≡ Err Cause.ReadFault → ⊥) → I.faults source.new ≡ I.faults source.old }
-    ensures too_long { result ≡ Err Cause.TooLong → TookPast MOST_OCTETS (I.left source.old) (I.left source.new) }
-    ensures refused { IfErr result (λ c. IsRefusal c → Refuses command (I.left source.old) (I.left source.new) c) }
-    ensures ends { (octets : List ℕ) → I.left source.old ≡ Some octets → (Rose (I.faults source.old) (I.faults source.new) → ⊥)
+    ensures read_fault { result ≡ Err Cause.ReadFault
+        → Rose (I.faults source.old) (I.faults source.new) }
+    ensures in_time { result ≡ Err Cause.ReadFault
+        → TookAtMost MOST_OCTETS (I.left source.old) (I.left source.new) }
+    ensures counts { (result ≡ Err Cause.ReadFault → ⊥)
+        → I.faults source.new ≡ I.faults source.old }
+    ensures too_long { result ≡ Err Cause.TooLong
+        → TookPast MOST_OCTETS (I.left source.old) (I.left source.new) }
+    ensures refused { IfErr result (λ c. IsRefusal c
+        → Refuses command (I.left source.old) (I.left source.new) c) }
+    ensures ends { (octets : List ℕ) → I.left source.old ≡ Some octets
+        → (Rose (I.faults source.old) (I.faults source.new) → ⊥)
         → EndsAs (expected command octets) result }
     ensures page_unread { ReadsNothing command → source.new ≡ source.old }
     ensures page_ends { ReadsNothing command → EndsAs Cause.Done result }
@@ -44,9 +50,11 @@ fn read_output<I: Source>(alloc: Global, command: Command, source: &mut I) -> Re
 /// Writes a text to the out sink.
 fn print<O: Sink>(out: &mut O, text: &[u8]) -> Cause
     ensures done { result ≡ Cause.Done → Appends (O.held out.old) (O.held out.new) text.now }
-    ensures part { (written : ℕ) → result ≡ Cause.WriteFault written → Appends (O.held out.old) (O.held out.new) (take written text.now) }
+    ensures part { (written : ℕ) → result ≡ Cause.WriteFault written
+        → Appends (O.held out.old) (O.held out.new) (take written text.now) }
     ensures short { (written : ℕ) → result ≡ Cause.WriteFault written → written < length text.now }
-    ensures fault { (written : ℕ) → result ≡ Cause.WriteFault written → Rose (O.faults out.old) (O.faults out.new) }
+    ensures fault { (written : ℕ) → result ≡ Cause.WriteFault written
+        → Rose (O.faults out.old) (O.faults out.new) }
     ensures counts { (IsWriteFault result → ⊥) → O.faults out.new ≡ O.faults out.old }
     ensures memory { result ≡ Cause.NoMemory → PartOf (O.held out.old) (O.held out.new) text.now }
     ensures only { EndsWriting result }
