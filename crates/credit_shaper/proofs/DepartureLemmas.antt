@@ -1,16 +1,13 @@
 -- Why what leaves a port is what arrived, in order, one frame after the other.
-use Rattle.std.proofs.Common.{◌≡◌, ℕ, zero, suc, ◌+◌, ◌-◌, ◌<◌, ◌≤◌, ◌⊎◌, Bool, true, false, cond, List, [], ◌∷◌, ◌++◌, length, get_or, Option, Some, None, refl, sym, ◌∙◌, ap, subst, arith, inl, inr, append-nil, append_assoc}
-use Rattle.std.specs.Prelude.{All, AllPairs, nat_le, nat_lt, ◌==◌, filter, find, map, ◌&&◌, ◌||◌}
+use Rattle.std.proofs.Common.{◌≡◌, ℕ, zero, suc, ◌+◌, ◌-◌, ◌<◌, ◌≤◌, Bool, true, false, cond, List, [], ◌∷◌, ◌++◌, get_or, Option, Some, None, refl, sym, ◌∙◌, ap, subst, arith, inl, inr, append-nil, append_assoc}
+use Rattle.std.specs.Prelude.{All, AllPairs, nat_le, nat_lt, ◌==◌, filter, ◌&&◌, ◌||◌}
 use Rattle.std.specs.List.{list_any}
-use Rattle.std.proofs.lemmas.Bool.{cases_Bool, cases_lt, cases_eq, cases_order, cond-true, cond-false, le-leb, lt-leb, lt-ltb, le-ltb, leb-true, eqb-true, ne_eqb, eq-eqb, and_parts, and_from, and_left, and_right, true≢false, false≢true}
-use Rattle.std.proofs.lemmas.List.{get_or-append_right, get_or_append_left, length-append}
+use Rattle.std.proofs.lemmas.Bool.{cases_Bool, cases_lt, cases_eq, cases_order, cond-true, cond-false, le-leb, lt-leb, lt-ltb, le-ltb, eqb-true, ne_eqb, eq-eqb, and_left, and_right}
 use Rattle.std.proofs.lemmas.List.Folds.{list_any-append}
-use Rattle.std.proofs.lemmas.List.Elements.{All-head, All-tail, All-cons, All-append, All-push, All-weaker, All-filter, filter-append, filter_passes}
+use Rattle.std.proofs.lemmas.List.Elements.{All-head, All-tail, All-append, All-push, filter-append, filter_passes}
 use Rattle.std.proofs.lemmas.List.Kept.{AllPairs-filter}
 use Rattle.std.proofs.lemmas.List.Quantifiers.{all_pairs_push}
 use Rattle.credit_shaper.specs.declared.shaper.Traffic.{Traffic}
-use Rattle.credit_shaper.specs.declared.shaper.Traffic.TheVariants.{A, B, Other}
-use Rattle.credit_shaper.specs.declared.shaper.Line.{Line}
 use Rattle.credit_shaper.specs.declared.shaper.Line.TheVariants.{Free, Sends}
 use Rattle.credit_shaper.specs.declared.port.SlopeChange.{SlopeChange}
 use Rattle.credit_shaper.specs.declared.port.Arrival.{Arrival}
@@ -18,12 +15,12 @@ use Rattle.credit_shaper.specs.declared.port.PortInput.{PortInput}
 use Rattle.credit_shaper.specs.declared.port.Departure.{Departure}
 use Rattle.credit_shaper.specs.Credit.{traffic_number, does_send}
 use Rattle.credit_shaper.specs.Port.{IsPortInput, IsNotAfter, IsFrameSize, is_of, slopes_at, arrivals_at}
-use Rattle.credit_shaper.specs.Trace.{Port, head_of, turn_of, without_head, departure_at, starts, sends_frame, with_start, with_arrivals, with_credits, within_bit, port_at, port_in}
+use Rattle.credit_shaper.specs.Trace.{Port, head_of, turn_of, without_head, departure_at, starts, sends_frame, with_start, with_arrivals, with_credits, port_at, port_in}
 use Rattle.credit_shaper.specs.Bounds.{is_on_line}
 use Rattle.credit_shaper.specs.Departures.{sent_of, left_of, departs_as, IsDepartureOf, DepartInOrder, is_sending, AgreeBefore, started_before}
 use Rattle.credit_shaper.proofs.MomentLemmas.{not_after, filter_nothing}
-use Rattle.credit_shaper.proofs.QueueLemmas.{same_traffic, traffic_of}
-use Rattle.credit_shaper.proofs.BoundLemmas.{head_traffic, head_within, head_of-other, All-without_head, with_arrivals_sizes, sizes_at}
+use Rattle.credit_shaper.proofs.QueueLemmas.{same_traffic}
+use Rattle.credit_shaper.proofs.BoundLemmas.{head_traffic, head_within, All-without_head, with_arrivals_sizes, sizes_at}
 
 -- ---- nothing depends on what comes later
 
@@ -106,14 +103,14 @@ apart_in t q sizes a =
     (λ _. record { apart = a.apart; ended = a.ended; started = before; sized = a.sized })
     (λ _. record { apart = a.apart; ended = a.ended; started = before; sized = a.sized })
     (λ x free e.
-      let size : IsFrameSize x.bits = head_within (λ y. IsFrameSize y.bits) x.traffic q.waiting x sizes e in
-      record {
-        apart = all_pairs_push (λ d e. d.end ≤ e.start) q.sent (departure_at t x) a.apart (λ k d l. omega (arith, a.ended k d l, free));
-        ended = All-push (λ d. d.end ≤ t + x.bits) q.sent (departure_at t x) (λ k d l. omega (arith, a.ended k d l, free)) (omega arith);
-        started = All-push (λ d. d.start < suc t) q.sent (departure_at t x) before (omega arith);
-        sized = All-push (λ d. (d.start + 336 ≤ d.end) × (d.end ≤ d.start + 12336)) q.sent (departure_at t x) a.sized
-            (omega (arith, size.0), omega (arith, size.1));
-      })
+    let size : IsFrameSize x.bits = head_within (λ y. IsFrameSize y.bits) x.traffic q.waiting x sizes e in
+    record {
+      apart = all_pairs_push (λ d e. d.end ≤ e.start) q.sent (departure_at t x) a.apart (λ k d l. omega (arith, a.ended k d l, free));
+      ended = All-push (λ d. d.end ≤ t + x.bits) q.sent (departure_at t x) (λ k d l. omega (arith, a.ended k d l, free)) (omega arith);
+      started = All-push (λ d. d.start < suc t) q.sent (departure_at t x) before (omega arith);
+      sized = All-push (λ d. (d.start + 336 ≤ d.end) × (d.end ≤ d.start + 12336)) q.sent (departure_at t x) a.sized
+          (omega (arith, size.0), omega (arith, size.1));
+    })
 
 pub apart_at : (input : PortInput) (t : ℕ) → IsPortInput input → AreApart t (port_at input t)
 unfolding port_at
@@ -128,8 +125,8 @@ apart_at input (suc t) valid =
     let before : AreApart t (port_at input t) = apart_at input t valid in
     let sizes = (with_arrivals_sizes input t (port_at input t) valid (sizes_at input t valid)).waiting in
     let now : AreApart (suc t) (port_in input t) =
-        apart_in t (with_arrivals input t (port_at input t)) sizes
-        (record { apart = before.apart; ended = before.ended; started = before.started; sized = before.sized }) in
+    apart_in t (with_arrivals input t (port_at input t)) sizes
+    (record { apart = before.apart; ended = before.ended; started = before.started; sized = before.sized }) in
     record { apart = now.apart; ended = now.ended; started = now.started; sized = now.sized }
 
 -- a departure starts before the bit time up to which a port has sent it

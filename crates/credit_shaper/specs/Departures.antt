@@ -1,10 +1,9 @@
 -- What is true of everything that leaves a port, over the trace by bit times.
-use Rattle.std.specs.Prelude.{◌≡◌, ℕ, ◌+◌, ◌<◌, ◌≤◌, Bool, ◌==◌, ◌&&◌, nat_lt, nat_le, List, [], ◌∷◌, filter, All, AllPairs, map}
+use Rattle.std.specs.Prelude.{◌≡◌, ℕ, ◌+◌, ◌<◌, ◌≤◌, Bool, ◌==◌, ◌&&◌, nat_lt, nat_le, List, [], ◌∷◌, filter}
 use Rattle.credit_shaper.specs.declared.shaper.Traffic.{Traffic}
 use Rattle.credit_shaper.specs.declared.port.Arrival.{Arrival}
 use Rattle.credit_shaper.specs.declared.port.PortInput.{PortInput}
 use Rattle.credit_shaper.specs.declared.port.Departure.{Departure}
-use Rattle.credit_shaper.specs.declared.port.Departures.{Departures}
 use Rattle.credit_shaper.specs.Credit.{traffic_number}
 use Rattle.credit_shaper.specs.Port.{slopes_at, arrivals_at}
 use Rattle.credit_shaper.specs.Trace.{port_at}
