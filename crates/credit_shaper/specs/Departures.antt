@@ -42,6 +42,10 @@ pub record AgreeBefore (t : ℕ) (one other : PortInput) : Type 0 where
   pub slopes : (k : ℕ) → k < t → slopes_at one k ≡ slopes_at other k
   pub arrivals : (k : ℕ) → k < t → arrivals_at one.arrivals k ≡ arrivals_at other.arrivals k
 
+-- the frames that arrive before a bit time
+abbrev pub arrivals_before : List Arrival → ℕ → List Arrival
+arrivals_before xs t = filter (λ x. nat_lt x.bit t) xs
+
 -- the departures that start before a bit time
 abbrev pub started_before : ℕ → List Departure → List Departure
 started_before t ds = filter (λ d. nat_lt d.start t) ds
