@@ -1,22 +1,21 @@
 -- Why class A's credit stays between its bounds.
-use Rattle.std.proofs.Common.{◌≡◌, ℕ, zero, suc, ◌+◌, ◌-◌, ◌*◌, ◌<◌, ◌≤◌, ◌⊎◌, Bool, true, false, cond, List, [], ◌∷◌, ◌++◌, length, get_or, Option, Some, None, refl, sym, ◌∙◌, ap, subst, arith, inl, inr}
-use Rattle.std.specs.Prelude.{All, nat_le, ◌==◌, filter, find, is_some, ◌&&◌, ℤ, pos, negsuc, ◌+ℤ◌, ◌-ℤ◌, ◌≤ℤ◌, ◌<ℤ◌, int_le}
+use Rattle.std.proofs.Common.{◌≡◌, ℕ, zero, suc, ◌+◌, ◌-◌, ◌*◌, ◌<◌, ◌≤◌, ◌⊎◌, Bool, true, false, cond, List, [], ◌∷◌, Option, Some, None, refl, sym, ◌∙◌, ap, subst, arith, inl, inr}
+use Rattle.std.specs.Prelude.{All, nat_le, ◌==◌, is_some, ◌&&◌, ℤ, pos, negsuc, ◌+ℤ◌, ◌≤ℤ◌, ◌<ℤ◌, int_le}
 use Rattle.std.proofs.Math.Nat.{mul-le-mul_left}
-use Rattle.std.proofs.lemmas.Bool.{cases_Bool, cases_lt, cases_eq, cond-true, cond-false, le-leb, lt-leb, leb-true, eqb-true, ne_eqb, eq-eqb, and_parts, true≢false, false≢true}
+use Rattle.std.proofs.lemmas.Bool.{cases_Bool, cases_lt, cond-true, cond-false, le-leb, lt-leb, eqb-true, ne_eqb, eq-eqb, and_parts, true≢false, false≢true}
 use Rattle.std.proofs.lemmas.Int.{ints, clamps}
 use Rattle.std.proofs.lemmas.List.Elements.{All-head, All-tail, All-cons, All-append, All-filter}
 use Rattle.srp_base.specs.declared.bandwidth.Rate.{Rate}
 use Rattle.srp_base.specs.Bandwidth.{bits_of}
 use Rattle.credit_shaper.specs.declared.shaper.Traffic.{Traffic}
 use Rattle.credit_shaper.specs.declared.shaper.Traffic.TheVariants.{A, B, Other}
-use Rattle.credit_shaper.specs.declared.shaper.Line.{Line}
-use Rattle.credit_shaper.specs.declared.shaper.Line.TheVariants.{Free, Sends}
+use Rattle.credit_shaper.specs.declared.shaper.Line.TheVariants.{Sends}
 use Rattle.credit_shaper.specs.declared.shaper.Shaper.{Shaper}
 use Rattle.credit_shaper.specs.declared.port.Arrival.{Arrival}
 use Rattle.credit_shaper.specs.declared.port.PortInput.{PortInput}
 use Rattle.credit_shaper.specs.Credit.{traffic_number, credit_after, does_send}
-use Rattle.credit_shaper.specs.Port.{IsPortInput, IsFrameSize, is_of, slopes_at, arrivals_at}
-use Rattle.credit_shaper.specs.Trace.{Port, head_of, turn_of, does_wait, without_head, starts, sends_frame, with_start, with_arrivals, with_credits, within_bit, port_at, port_in}
+use Rattle.credit_shaper.specs.Port.{IsPortInput, IsFrameSize, is_of, arrivals_at}
+use Rattle.credit_shaper.specs.Trace.{Port, head_of, turn_of, does_wait, without_head, starts, with_start, with_arrivals, within_bit, port_at, port_in}
 use Rattle.credit_shaper.specs.Bounds.{slope_a_at, lo_credit, hi_credit, IsStretch, IsCreditAWithin}
 use Rattle.credit_shaper.proofs.CreditLemmas.{below_zero}
 use Rattle.credit_shaper.proofs.QueueLemmas.{traffic_of}

@@ -1,16 +1,13 @@
 -- Why what leaves a port is what arrived, in order, one frame after the other.
-use Rattle.std.proofs.Common.{◌≡◌, ℕ, zero, suc, ◌+◌, ◌-◌, ◌<◌, ◌≤◌, ◌⊎◌, Bool, true, false, cond, List, [], ◌∷◌, ◌++◌, length, get_or, Option, Some, None, refl, sym, ◌∙◌, ap, subst, arith, inl, inr, append-nil, append_assoc}
-use Rattle.std.specs.Prelude.{All, AllPairs, nat_le, nat_lt, ◌==◌, filter, find, map, ◌&&◌, ◌||◌}
+use Rattle.std.proofs.Common.{◌≡◌, ℕ, zero, suc, ◌+◌, ◌-◌, ◌<◌, ◌≤◌, Bool, true, false, cond, List, [], ◌∷◌, ◌++◌, get_or, Option, Some, None, refl, sym, ◌∙◌, ap, subst, arith, inl, inr, append-nil, append_assoc}
+use Rattle.std.specs.Prelude.{All, AllPairs, nat_le, nat_lt, ◌==◌, filter, ◌&&◌, ◌||◌}
 use Rattle.std.specs.List.{list_any}
-use Rattle.std.proofs.lemmas.Bool.{cases_Bool, cases_lt, cases_eq, cases_order, cond-true, cond-false, le-leb, lt-leb, lt-ltb, le-ltb, leb-true, eqb-true, ne_eqb, eq-eqb, and_parts, and_from, and_left, and_right, true≢false, false≢true}
-use Rattle.std.proofs.lemmas.List.{get_or-append_right, get_or_append_left, length-append}
+use Rattle.std.proofs.lemmas.Bool.{cases_Bool, cases_lt, cases_eq, cases_order, cond-true, cond-false, le-leb, lt-leb, lt-ltb, le-ltb, eqb-true, ne_eqb, eq-eqb, and_left, and_right}
 use Rattle.std.proofs.lemmas.List.Folds.{list_any-append}
-use Rattle.std.proofs.lemmas.List.Elements.{All-head, All-tail, All-cons, All-append, All-push, All-weaker, All-filter, filter-append, filter_passes}
+use Rattle.std.proofs.lemmas.List.Elements.{All-head, All-tail, All-append, All-push, filter-append, filter_passes}
 use Rattle.std.proofs.lemmas.List.Kept.{AllPairs-filter}
 use Rattle.std.proofs.lemmas.List.Quantifiers.{all_pairs_push}
 use Rattle.credit_shaper.specs.declared.shaper.Traffic.{Traffic}
-use Rattle.credit_shaper.specs.declared.shaper.Traffic.TheVariants.{A, B, Other}
-use Rattle.credit_shaper.specs.declared.shaper.Line.{Line}
 use Rattle.credit_shaper.specs.declared.shaper.Line.TheVariants.{Free, Sends}
 use Rattle.credit_shaper.specs.declared.port.SlopeChange.{SlopeChange}
 use Rattle.credit_shaper.specs.declared.port.Arrival.{Arrival}
@@ -18,12 +15,12 @@ use Rattle.credit_shaper.specs.declared.port.PortInput.{PortInput}
 use Rattle.credit_shaper.specs.declared.port.Departure.{Departure}
 use Rattle.credit_shaper.specs.Credit.{traffic_number, does_send}
 use Rattle.credit_shaper.specs.Port.{IsPortInput, IsNotAfter, IsFrameSize, is_of, slopes_at, arrivals_at}
-use Rattle.credit_shaper.specs.Trace.{Port, head_of, turn_of, without_head, departure_at, starts, sends_frame, with_start, with_arrivals, with_credits, within_bit, port_at, port_in}
+use Rattle.credit_shaper.specs.Trace.{Port, head_of, turn_of, without_head, departure_at, starts, sends_frame, with_start, with_arrivals, with_credits, port_at, port_in}
 use Rattle.credit_shaper.specs.Bounds.{is_on_line}
-use Rattle.credit_shaper.specs.Departures.{sent_of, left_of, departs_as, IsDepartureOf, DepartInOrder, is_sending, AgreeBefore, started_before}
+use Rattle.credit_shaper.specs.Departures.{sent_of, left_of, departs_as, IsDepartureOf, DepartInOrder, is_sending, AgreeBefore, arrivals_before, started_before}
 use Rattle.credit_shaper.proofs.MomentLemmas.{not_after, filter_nothing}
-use Rattle.credit_shaper.proofs.QueueLemmas.{same_traffic, traffic_of}
-use Rattle.credit_shaper.proofs.BoundLemmas.{head_traffic, head_within, head_of-other, All-without_head, with_arrivals_sizes, sizes_at}
+use Rattle.credit_shaper.proofs.QueueLemmas.{same_traffic}
+use Rattle.credit_shaper.proofs.BoundLemmas.{head_traffic, head_within, All-without_head, with_arrivals_sizes, sizes_at}
 
 -- ---- nothing depends on what comes later
 
@@ -106,14 +103,14 @@ apart_in t q sizes a =
     (λ _. record { apart = a.apart; ended = a.ended; started = before; sized = a.sized })
     (λ _. record { apart = a.apart; ended = a.ended; started = before; sized = a.sized })
     (λ x free e.
-      let size : IsFrameSize x.bits = head_within (λ y. IsFrameSize y.bits) x.traffic q.waiting x sizes e in
-      record {
-        apart = all_pairs_push (λ d e. d.end ≤ e.start) q.sent (departure_at t x) a.apart (λ k d l. omega (arith, a.ended k d l, free));
-        ended = All-push (λ d. d.end ≤ t + x.bits) q.sent (departure_at t x) (λ k d l. omega (arith, a.ended k d l, free)) (omega arith);
-        started = All-push (λ d. d.start < suc t) q.sent (departure_at t x) before (omega arith);
-        sized = All-push (λ d. (d.start + 336 ≤ d.end) × (d.end ≤ d.start + 12336)) q.sent (departure_at t x) a.sized
-            (omega (arith, size.0), omega (arith, size.1));
-      })
+    let size : IsFrameSize x.bits = head_within (λ y. IsFrameSize y.bits) x.traffic q.waiting x sizes e in
+    record {
+      apart = all_pairs_push (λ d e. d.end ≤ e.start) q.sent (departure_at t x) a.apart (λ k d l. omega (arith, a.ended k d l, free));
+      ended = All-push (λ d. d.end ≤ t + x.bits) q.sent (departure_at t x) (λ k d l. omega (arith, a.ended k d l, free)) (omega arith);
+      started = All-push (λ d. d.start < suc t) q.sent (departure_at t x) before (omega arith);
+      sized = All-push (λ d. (d.start + 336 ≤ d.end) × (d.end ≤ d.start + 12336)) q.sent (departure_at t x) a.sized
+          (omega (arith, size.0), omega (arith, size.1));
+    })
 
 pub apart_at : (input : PortInput) (t : ℕ) → IsPortInput input → AreApart t (port_at input t)
 unfolding port_at
@@ -128,8 +125,8 @@ apart_at input (suc t) valid =
     let before : AreApart t (port_at input t) = apart_at input t valid in
     let sizes = (with_arrivals_sizes input t (port_at input t) valid (sizes_at input t valid)).waiting in
     let now : AreApart (suc t) (port_in input t) =
-        apart_in t (with_arrivals input t (port_at input t)) sizes
-        (record { apart = before.apart; ended = before.ended; started = before.started; sized = before.sized }) in
+    apart_in t (with_arrivals input t (port_at input t)) sizes
+    (record { apart = before.apart; ended = before.ended; started = before.started; sized = before.sized }) in
     record { apart = now.apart; ended = now.ended; started = now.started; sized = now.sized }
 
 -- a departure starts before the bit time up to which a port has sent it
@@ -276,17 +273,13 @@ line_is input traffic t valid l =
 
 -- ---- frames depart in order of arrival
 
--- the frames that arrive before a bit time
-abbrev pub come_before : List Arrival → ℕ → List Arrival
-come_before xs t = filter (λ x. nat_lt x.bit t) xs
-
-come_next : (xs : List Arrival) (t : ℕ) → AllPairs IsNotAfter xs → come_before xs (suc t) ≡ come_before xs t ++ arrivals_at xs t
-come_next [] t order = refl
-come_next (x ∷ xs) t order =
-    let rest : come_before xs (suc t) ≡ come_before xs t ++ arrivals_at xs t = come_next xs t (pairs-tail IsNotAfter x xs order) in
+arrivals_next : (xs : List Arrival) (t : ℕ) → AllPairs IsNotAfter xs → arrivals_before xs (suc t) ≡ arrivals_before xs t ++ arrivals_at xs t
+arrivals_next [] t order = refl
+arrivals_next (x ∷ xs) t order =
+    let rest : arrivals_before xs (suc t) ≡ arrivals_before xs t ++ arrivals_at xs t = arrivals_next xs t (pairs-tail IsNotAfter x xs order) in
     elim (cases_order x.bit t) [
       | inl same ↦
-          let none : come_before xs t ≡ [] =
+          let none : arrivals_before xs t ≡ [] =
           filter_nothing (λ y. nat_lt y.bit t) xs (λ k d l. le-ltb (get_or xs k d).bit t
           (let up : x.bit ≤ (get_or xs k d).bit = not_after x (get_or xs k d) (pairs-head IsNotAfter x xs order k d l) in omega (arith, same, up))) in
           let a : nat_lt x.bit (suc t) ≡ true = lt-ltb x.bit (suc t) (omega (arith, same)) in
@@ -353,13 +346,13 @@ record IsInOrder (come : List Arrival) (t : ℕ) (p : Port) : Type 0 where
   order : AllPairs IsNotAfter p.waiting
   early : All (λ x. x.bit < t) p.waiting
 
-order_with_arrivals : (input : PortInput) (t : ℕ) (p : Port) → IsPortInput input → IsInOrder (come_before input.arrivals t) t p
-    → IsInOrder (come_before input.arrivals (suc t)) (suc t) (with_arrivals input t p)
+order_with_arrivals : (input : PortInput) (t : ℕ) (p : Port) → IsPortInput input → IsInOrder (arrivals_before input.arrivals t) t p
+    → IsInOrder (arrivals_before input.arrivals (suc t)) (suc t) (with_arrivals input t p)
 order_with_arrivals input t p valid o =
-    let come : List Arrival = come_before input.arrivals t in
+    let come : List Arrival = arrivals_before input.arrivals t in
     let new : List Arrival = arrivals_at input.arrivals t in
     let now : All (λ x. (x.bit == t) ≡ true) new = filter_passes (λ x. x.bit == t) input.arrivals in
-    let next : come_before input.arrivals (suc t) ≡ come ++ new = come_next input.arrivals t valid.arrivals.ascend in
+    let next : arrivals_before input.arrivals (suc t) ≡ come ++ new = arrivals_next input.arrivals t valid.arrivals.ascend in
     record {
       each = λ traffic.
           subst (λ (xs : List Arrival). DepartInOrder xs (filter (departs_as traffic) p.sent) (filter (is_of traffic) (p.waiting ++ new)))
@@ -410,29 +403,48 @@ order_with_start come t q o =
       early = All-without_head (λ y. y.bit < suc t) x.traffic q.waiting o.early;
     })
 
-come_none : (xs : List Arrival) → come_before xs 0 ≡ []
-come_none xs = filter_nothing (λ x. nat_lt x.bit 0) xs (λ k d l. le-ltb (get_or xs k d).bit 0 (omega arith))
+arrivals_none_before : (xs : List Arrival) → arrivals_before xs 0 ≡ []
+arrivals_none_before xs = filter_nothing (λ x. nat_lt x.bit 0) xs (λ k d l. le-ltb (get_or xs k d).bit 0 (omega arith))
 
-order_at : (input : PortInput) (t : ℕ) → IsPortInput input → IsInOrder (come_before input.arrivals t) t (port_at input t)
+order_at : (input : PortInput) (t : ℕ) → IsPortInput input → IsInOrder (arrivals_before input.arrivals t) t (port_at input t)
 unfolding port_at
 order_at input zero valid =
     record {
-      each = λ traffic. ap (filter (is_of traffic)) (come_none input.arrivals);
+      each = λ traffic. ap (filter (is_of traffic)) (arrivals_none_before input.arrivals);
       order = λ i j d l h. absurd (omega (arith, h));
       early = λ k d l. absurd (omega (arith, l));
     }
 order_at input (suc t) valid =
-    let o : IsInOrder (come_before input.arrivals (suc t)) (suc t) (port_in input t) =
-    order_with_start (come_before input.arrivals (suc t)) t (with_arrivals input t (port_at input t)) (order_with_arrivals input t (port_at input t) valid (order_at input t valid)) in
+    let o : IsInOrder (arrivals_before input.arrivals (suc t)) (suc t) (port_in input t) =
+    order_with_start (arrivals_before input.arrivals (suc t)) t (with_arrivals input t (port_at input t)) (order_with_arrivals input t (port_at input t) valid (order_at input t valid)) in
     record { each = o.each; order = o.order; early = o.early }
 
 pub in_order : (input : PortInput) (traffic : Traffic) → IsPortInput input
     → DepartInOrder (filter (is_of traffic) input.arrivals) (filter (departs_as traffic) (sent_of input)) (filter (is_of traffic) (left_of input))
 in_order input traffic valid =
-    let all : come_before input.arrivals input.end ≡ input.arrivals =
+    let all : arrivals_before input.arrivals input.end ≡ input.arrivals =
     filter_all (λ x. nat_lt x.bit input.end) input.arrivals (λ k d l. lt-ltb (get_or input.arrivals k d).bit input.end (valid.arrivals.in_time k d l)) in
     subst (λ (xs : List Arrival). DepartInOrder (filter (is_of traffic) xs) (filter (departs_as traffic) (sent_of input)) (filter (is_of traffic) (left_of input))) all
     ((order_at input input.end valid).each traffic)
 
 pub left_order : (input : PortInput) → IsPortInput input → AllPairs IsNotAfter (left_of input)
 left_order input valid = (order_at input input.end valid).order
+
+-- what arrives in a bit time is told by what arrives before a later one
+arrivals_in : (xs : List Arrival) (t k : ℕ) → k < t → arrivals_at (arrivals_before xs t) k ≡ arrivals_at xs k
+arrivals_in [] t k l = refl
+arrivals_in (x ∷ xs) t k l =
+    let rest : arrivals_at (arrivals_before xs t) k ≡ arrivals_at xs k = arrivals_in xs t k l in
+    elim (cases_lt x.bit t) [
+      | inl early ↦
+          let a : nat_lt x.bit t ≡ true = lt-ltb x.bit t early in
+          rw a (elim (x.bit == k) as (λ b. cond b (x ∷ arrivals_at (arrivals_before xs t) k) (arrivals_at (arrivals_before xs t) k) ≡ cond b (x ∷ arrivals_at xs k) (arrivals_at xs k)) [ true ↦ ap (λ ys. x ∷ ys) rest | false ↦ rest ])
+      | inr late ↦
+          let a : nat_lt x.bit t ≡ false = le-ltb x.bit t late in
+          let e : (x.bit == k) ≡ false = ne_eqb x.bit k (λ f. omega (arith, f, late, l)) in
+          rw a (rw e rest)
+    ]
+
+pub arrivals_agree : (xs ys : List Arrival) (t k : ℕ) → arrivals_before xs t ≡ arrivals_before ys t → k < t
+    → arrivals_at xs k ≡ arrivals_at ys k
+arrivals_agree xs ys t k same l = sym (arrivals_in xs t k l) ∙ (ap (λ zs. arrivals_at zs k) same ∙ arrivals_in ys t k l)

@@ -1,6 +1,6 @@
 -- Lists in order of bit times: what lies before and after an index.
-use Rattle.std.proofs.Common.{◌≡◌, ℕ, zero, suc, ◌+◌, ◌-◌, ◌<◌, ◌≤◌, ◌⊎◌, List, [], ◌∷◌, length, get_or, take, refl, sym, ◌∙◌, ap, subst, arith, inl, inr, Bool, true, false, cond, ◌++◌, drop, eqb}
-use Rattle.std.specs.Prelude.{All, AllPairs, HoldsAt, IsTrue, filter, nat_le, ◌==◌}
+use Rattle.std.proofs.Common.{◌≡◌, ℕ, zero, suc, ◌+◌, ◌<◌, ◌≤◌, List, [], ◌∷◌, length, get_or, take, refl, sym, ap, subst, arith, inl, inr, Bool, true, false, ◌++◌}
+use Rattle.std.specs.Prelude.{All, AllPairs, filter, nat_le, ◌==◌}
 use Rattle.std.specs.List.{AllWithin, AllAdjacentBelow}
 use Rattle.std.proofs.lemmas.Bool.{cases_lt, cases_eq, ne_eqb, eq-eqb, lt-leb, le-leb}
 use Rattle.std.proofs.lemmas.List.{get_or_default}

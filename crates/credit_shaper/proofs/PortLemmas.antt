@@ -1,25 +1,19 @@
 -- What holds of a port at every bit time.
-use Rattle.std.proofs.Common.{◌≡◌, ℕ, zero, suc, ◌+◌, ◌-◌, ◌*◌, ◌^◌, ◌<◌, ◌≤◌, ◌⊎◌, Bool, true, false, cond, List, [], ◌∷◌, ◌++◌, length, get_or, Option, Some, None, refl, sym, ◌∙◌, ap, subst, arith, inl, inr}
-use Rattle.std.specs.Prelude.{All, nat_le, filter, ℤ, pos, ◌+ℤ◌, ◌-ℤ◌, ◌≤ℤ◌, ◌<ℤ◌}
-use Rattle.std.specs.Int.{int_min}
-use Rattle.std.proofs.Math.Nat.{mul-le-mul_right, mul-le-mul}
-use Rattle.std.proofs.lemmas.Bool.{cases_Bool}
+use Rattle.std.proofs.Common.{◌≡◌, ℕ, zero, suc, ◌+◌, ◌*◌, ◌^◌, ◌<◌, ◌≤◌, Bool, true, false, cond, List, [], ◌∷◌, Some, None, refl, sym, ◌∙◌, ap, subst, arith}
+use Rattle.std.specs.Prelude.{All, nat_le, ℤ}
+use Rattle.std.proofs.Math.Nat.{mul-le-mul}
 use Rattle.std.proofs.lemmas.Int.{ints, clamps}
 use Rattle.std.proofs.lemmas.List.Elements.{All-head, All-tail}
 use Rattle.srp_base.specs.declared.bandwidth.Rate.{Rate}
 use Rattle.srp_base.specs.declared.bandwidth.Rate.TheVariants.{M100, G1, G10}
 use Rattle.srp_base.specs.Bandwidth.{bits_of}
-use Rattle.credit_shaper.specs.declared.shaper.Traffic.{Traffic}
-use Rattle.credit_shaper.specs.declared.shaper.Traffic.TheVariants.{A, B, Other}
-use Rattle.credit_shaper.specs.declared.shaper.Line.{Line}
-use Rattle.credit_shaper.specs.declared.shaper.Line.TheVariants.{Free, Sends}
+use Rattle.credit_shaper.specs.declared.shaper.Traffic.TheVariants.{A, B}
 use Rattle.credit_shaper.specs.declared.shaper.Shaper.{Shaper}
 use Rattle.credit_shaper.specs.declared.port.SlopeChange.{SlopeChange}
-use Rattle.credit_shaper.specs.declared.port.Arrival.{Arrival}
 use Rattle.credit_shaper.specs.declared.port.PortInput.{PortInput}
 use Rattle.credit_shaper.specs.Credit.{credit_after, does_send, IsWithin, IsInRange}
 use Rattle.credit_shaper.specs.Port.{IsPortInput, last_change, no_slopes, slopes_at}
-use Rattle.credit_shaper.specs.Trace.{Port, head_of, turn_of, does_wait, starts, with_start, with_arrivals, with_credits, within_bit, port_at, port_in}
+use Rattle.credit_shaper.specs.Trace.{Port, head_of, turn_of, does_wait, starts, with_start, with_arrivals, port_at, port_in}
 
 -- a fact of every change holds of the slopes in force
 pub last_change_all : (P : SlopeChange → Type 0) (t : ℕ) (current : SlopeChange) (xs : List SlopeChange) → P current → All P xs

@@ -1,9 +1,9 @@
 -- The waiting frames and the three queues: what an index for each traffic makes of the arrivals.
-use Rattle.std.proofs.Common.{◌≡◌, ℕ, zero, suc, ◌+◌, ◌-◌, ◌<◌, ◌≤◌, ◌⊎◌, Bool, true, false, cond, List, [], ◌∷◌, ◌++◌, length, get_or, take, Option, Some, None, refl, sym, ◌∙◌, ap, subst, arith, inl, inr, add-one, add-zero, append_assoc}
-use Rattle.std.specs.Prelude.{nat_le, nat_lt, find, is_some, HoldsAt}
+use Rattle.std.proofs.Common.{◌≡◌, ℕ, zero, suc, ◌+◌, ◌<◌, ◌≤◌, ◌⊎◌, true, false, cond, List, [], ◌∷◌, ◌++◌, length, get_or, take, Some, None, refl, sym, ◌∙◌, ap, subst, arith, inl, inr, add-zero}
+use Rattle.std.specs.Prelude.{nat_le, nat_lt, is_some}
 use Rattle.std.specs.List.{AllWithin}
-use Rattle.std.proofs.lemmas.Bool.{cond-true, cond-false, le-leb, lt-leb, leb-true, lt-ltb, le-ltb, eqb-true, ne_eqb, eq-eqb, false≢true, cases_lt, cases_Bool, cases_eq}
-use Rattle.std.proofs.lemmas.List.{length-take-le, get_or-take, get_or_default}
+use Rattle.std.proofs.lemmas.Bool.{cond-true, le-leb, lt-leb, lt-ltb, le-ltb, eqb-true, ne_eqb, eq-eqb, false≢true, cases_lt, cases_Bool, cases_eq}
+use Rattle.std.proofs.lemmas.List.{length-take-le, get_or-take}
 use Rattle.credit_shaper.specs.declared.shaper.Traffic.{Traffic}
 use Rattle.credit_shaper.specs.declared.shaper.Traffic.TheVariants.{A, B, Other}
 use Rattle.credit_shaper.specs.declared.port.Arrival.{Arrival}
@@ -11,7 +11,7 @@ use Rattle.credit_shaper.specs.declared.queues.Heads.{Heads}
 use Rattle.credit_shaper.specs.Credit.{traffic_number}
 use Rattle.credit_shaper.specs.Port.{is_of}
 use Rattle.credit_shaper.specs.Trace.{head_of, does_wait, without_head}
-use Rattle.credit_shaper.specs.Walk.{head_index, with_head_index, pending, AreWithin, AreHeads, IsHead}
+use Rattle.credit_shaper.specs.Walk.{head_index, with_head_index, pending, AreWithin, AreHeads}
 use Rattle.credit_shaper.proofs.MomentLemmas.{blank}
 
 -- traffics with one number are one

@@ -1,7 +1,7 @@
 -- Bit times in which nothing happens but the credits' steps are one jump.
-use Rattle.std.proofs.Common.{◌≡◌, ℕ, zero, suc, ◌+◌, ◌-◌, ◌*◌, ◌<◌, ◌≤◌, ◌⊎◌, Bool, true, false, cond, List, [], ◌∷◌, ◌++◌, length, get_or, take, Option, Some, None, refl, sym, ◌∙◌, ap, subst, arith, inl, inr, append-nil}
-use Rattle.std.specs.Prelude.{nat_le, nat_lt, is_some, ◌&&◌, ℤ, pos, negsuc, ◌+ℤ◌, ◌<ℤ◌, int_le}
-use Rattle.std.proofs.lemmas.Bool.{cases_Bool, cond-true, cond-false, le-leb, lt-leb, and_left, and_right}
+use Rattle.std.proofs.Common.{◌≡◌, ℕ, zero, suc, ◌+◌, ◌-◌, ◌*◌, ◌<◌, ◌≤◌, Bool, true, false, cond, List, [], length, Some, None, refl, sym, ◌∙◌, ap, arith, inl, inr, append-nil}
+use Rattle.std.specs.Prelude.{nat_le, is_some, ◌&&◌, ℤ, pos, negsuc, ◌+ℤ◌, ◌<ℤ◌, int_le}
+use Rattle.std.proofs.lemmas.Bool.{cond-false, lt-leb}
 use Rattle.std.proofs.lemmas.Int.{ints}
 use Rattle.srp_base.specs.Bandwidth.{bits_of}
 use Rattle.credit_shaper.specs.declared.shaper.Traffic.{Traffic}
@@ -13,13 +13,13 @@ use Rattle.credit_shaper.specs.declared.port.Arrival.{Arrival}
 use Rattle.credit_shaper.specs.declared.port.PortInput.{PortInput}
 use Rattle.credit_shaper.specs.declared.port.Departure.{Departure}
 use Rattle.credit_shaper.specs.declared.trace.PortTrace.{PortTrace}
-use Rattle.credit_shaper.specs.Credit.{does_send, credit_after_bits, after_bit, after_bits}
-use Rattle.credit_shaper.specs.Port.{slopes_at, arrivals_at, no_slopes}
+use Rattle.credit_shaper.specs.Credit.{credit_after_bits, after_bits}
+use Rattle.credit_shaper.specs.Port.{slopes_at, arrivals_at}
 use Rattle.credit_shaper.specs.Trace.{Port, head_of, turn_of, does_wait, starts, with_start, with_arrivals, with_credits, within_bit, port_at, port_in}
-use Rattle.credit_shaper.specs.Walk.{head_index, AreHeads, HasReached, IsQuiet, IsIdle, IsShort, arrival_bit, change_bit, waiting_of, port_of, has_frame, moved_to}
+use Rattle.credit_shaper.specs.Walk.{AreHeads, HasReached, IsQuiet, IsIdle, IsShort, waiting_of, port_of, has_frame, moved_to}
 use Rattle.credit_shaper.proofs.CreditLemmas.{after_bits_is, credit-waits}
 use Rattle.credit_shaper.proofs.MomentLemmas.{arrivals_none, slopes_reached}
-use Rattle.credit_shaper.proofs.QueueLemmas.{waits_is, frame_none}
+use Rattle.credit_shaper.proofs.QueueLemmas.{waits_is}
 
 -- a port after some of the credits' steps
 abbrev pub jumped : ℕ → Port → Port

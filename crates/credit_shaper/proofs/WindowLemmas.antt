@@ -1,20 +1,19 @@
 -- Why what class A takes of the line in a window stays within its bound.
-use Rattle.std.proofs.Common.{◌≡◌, ℕ, zero, suc, ◌+◌, ◌-◌, ◌*◌, ◌<◌, ◌≤◌, Bool, true, false, cond, List, [], ◌∷◌, refl, sym, ◌∙◌, ap, subst, arith, add-zero}
-use Rattle.std.specs.Prelude.{All, AllPairs, max, count_by, sum_by, ℤ, pos, ◌+ℤ◌, ◌-ℤ◌, ◌≤ℤ◌, nat_le}
+use Rattle.std.proofs.Common.{◌≡◌, ℕ, zero, suc, ◌+◌, ◌-◌, ◌*◌, ◌<◌, ◌≤◌, Bool, true, false, cond, List, [], ◌∷◌, refl, sym, ◌∙◌, ap, subst, arith}
+use Rattle.std.specs.Prelude.{All, count_by, sum_by, ℤ, pos, ◌+ℤ◌, ◌-ℤ◌, ◌≤ℤ◌}
 use Rattle.std.specs.List.{range_with_len}
 use Rattle.std.proofs.lemmas.Int.{ints, clamps}
 use Rattle.std.proofs.lemmas.List.Sums.{sum_by-cons}
 use Rattle.srp_base.specs.declared.bandwidth.Rate.{Rate}
 use Rattle.srp_base.specs.Bandwidth.{bits_of}
-use Rattle.credit_shaper.specs.declared.shaper.Traffic.{Traffic}
-use Rattle.credit_shaper.specs.declared.shaper.Traffic.TheVariants.{A, B, Other}
+use Rattle.credit_shaper.specs.declared.shaper.Traffic.TheVariants.{A}
 use Rattle.credit_shaper.specs.declared.shaper.Shaper.{Shaper}
 use Rattle.credit_shaper.specs.declared.port.SlopeChange.{SlopeChange}
 use Rattle.credit_shaper.specs.declared.port.PortInput.{PortInput}
 use Rattle.credit_shaper.specs.Credit.{credit_after, does_send}
-use Rattle.credit_shaper.specs.Port.{IsPortInput, last_change, no_slopes, slopes_at}
+use Rattle.credit_shaper.specs.Port.{IsPortInput, no_slopes}
 use Rattle.credit_shaper.specs.Trace.{Port, does_wait, port_at, port_in}
-use Rattle.credit_shaper.specs.Bounds.{credit_a_at, slope_a_at, is_on_line, greatest_slope_a, hi_credit, lo_credit, IsStretch, IsCreditAWithin, bit_times, bits_a, area_a, IsWindowAWithin, DoesWaitA, IsWaitAWithin}
+use Rattle.credit_shaper.specs.Bounds.{credit_a_at, slope_a_at, is_on_line, greatest_slope_a, hi_credit, lo_credit, IsStretch, IsCreditAWithin, bits_a, area_a, IsWindowAWithin, DoesWaitA, IsWaitAWithin}
 use Rattle.credit_shaper.proofs.PortLemmas.{shaper-port_in, rate_is, last_change_all}
 use Rattle.credit_shaper.proofs.BoundLemmas.{credit_within}
 

@@ -1,6 +1,6 @@
 -- What class A's credit stays between, and what class A takes of the line in a window (IEEE Std
 -- 802.1Q-2018, 8.6.8.2 and Annex L in outline; with bounds for every input, own).
-use Rattle.std.specs.Prelude.{◌≡◌, ℕ, ◌+◌, ◌-◌, ◌*◌, ◌<◌, ◌≤◌, max, Bool, true, false, List, [], ◌∷◌, count_by, sum_by, ℤ, pos, ◌+ℤ◌, ◌-ℤ◌, ◌≤ℤ◌}
+use Rattle.std.specs.Prelude.{◌≡◌, ℕ, ◌-◌, ◌*◌, ◌<◌, ◌≤◌, max, Bool, true, false, List, [], ◌∷◌, count_by, sum_by, ℤ, pos, ◌+ℤ◌, ◌-ℤ◌, ◌≤ℤ◌}
 use Rattle.std.specs.List.{range_with_len}
 use Rattle.srp_base.specs.Bandwidth.{bits_of}
 use Rattle.credit_shaper.specs.declared.shaper.Traffic.{Traffic}

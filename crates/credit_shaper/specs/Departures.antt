@@ -1,10 +1,9 @@
 -- What is true of everything that leaves a port, over the trace by bit times.
-use Rattle.std.specs.Prelude.{◌≡◌, ℕ, ◌+◌, ◌<◌, ◌≤◌, Bool, ◌==◌, ◌&&◌, nat_lt, nat_le, List, [], ◌∷◌, filter, All, AllPairs, map}
+use Rattle.std.specs.Prelude.{◌≡◌, ℕ, ◌+◌, ◌<◌, ◌≤◌, Bool, ◌==◌, ◌&&◌, nat_lt, nat_le, List, [], ◌∷◌, filter}
 use Rattle.credit_shaper.specs.declared.shaper.Traffic.{Traffic}
 use Rattle.credit_shaper.specs.declared.port.Arrival.{Arrival}
 use Rattle.credit_shaper.specs.declared.port.PortInput.{PortInput}
 use Rattle.credit_shaper.specs.declared.port.Departure.{Departure}
-use Rattle.credit_shaper.specs.declared.port.Departures.{Departures}
 use Rattle.credit_shaper.specs.Credit.{traffic_number}
 use Rattle.credit_shaper.specs.Port.{slopes_at, arrivals_at}
 use Rattle.credit_shaper.specs.Trace.{port_at}
@@ -42,6 +41,10 @@ pub record AgreeBefore (t : ℕ) (one other : PortInput) : Type 0 where
   pub rate : one.rate ≡ other.rate
   pub slopes : (k : ℕ) → k < t → slopes_at one k ≡ slopes_at other k
   pub arrivals : (k : ℕ) → k < t → arrivals_at one.arrivals k ≡ arrivals_at other.arrivals k
+
+-- the frames that arrive before a bit time
+abbrev pub arrivals_before : List Arrival → ℕ → List Arrival
+arrivals_before xs t = filter (λ x. nat_lt x.bit t) xs
 
 -- the departures that start before a bit time
 abbrev pub started_before : ℕ → List Departure → List Departure

@@ -1,12 +1,11 @@
 -- What goes on at a port in each bit time: its three queues, its line and both credits (IEEE Std
 -- 802.1Q-2018, 8.6.8 for the choice of the frame, 8.6.8.2 for the credits).
-use Rattle.std.specs.Prelude.{ℕ, zero, suc, ◌+◌, Bool, ◌==◌, ◌&&◌, nat_le, List, [], ◌∷◌, ◌++◌, map, find, is_some, Option, Some, None, ℤ, pos, int_le, if◌then◌else◌}
+use Rattle.std.specs.Prelude.{ℕ, zero, suc, ◌+◌, Bool, ◌&&◌, nat_le, List, [], ◌∷◌, ◌++◌, map, find, is_some, Option, Some, None, pos, int_le, if◌then◌else◌}
 use Rattle.credit_shaper.specs.declared.shaper.Traffic.{Traffic}
 use Rattle.credit_shaper.specs.declared.shaper.Traffic.TheVariants.{A, B, Other}
 use Rattle.credit_shaper.specs.declared.shaper.Line.{Line}
 use Rattle.credit_shaper.specs.declared.shaper.Line.TheVariants.{Free, Sends}
 use Rattle.credit_shaper.specs.declared.shaper.Shaper.{Shaper}
-use Rattle.credit_shaper.specs.declared.port.SlopeChange.{SlopeChange}
 use Rattle.credit_shaper.specs.declared.port.Arrival.{Arrival}
 use Rattle.credit_shaper.specs.declared.port.PortInput.{PortInput}
 use Rattle.credit_shaper.specs.declared.port.Departure.{Departure}

@@ -1,10 +1,9 @@
 -- How a run finds its way from one moment to the next. No public contract names these words.
-use Rattle.std.specs.Prelude.{◌≡◌, ℕ, ◌+◌, ◌*◌, ◌<◌, ◌≤◌, ◌⊎◌, Bool, true, false, nat_le, nat_lt, ◌&&◌, List, [], ◌∷◌, take, length, get_or, HoldsAt, ℤ, pos, ◌+ℤ◌, ◌<ℤ◌, int_le, if◌then◌else◌}
+use Rattle.std.specs.Prelude.{◌≡◌, ℕ, ◌+◌, ◌*◌, ◌<◌, ◌≤◌, ◌⊎◌, Bool, true, false, nat_le, nat_lt, ◌&&◌, List, [], ◌∷◌, take, length, HoldsAt, ℤ, pos, ◌+ℤ◌, ◌<ℤ◌, int_le, if◌then◌else◌}
 use Rattle.std.specs.List.{AllWithin}
 use Rattle.credit_shaper.specs.declared.shaper.Traffic.{Traffic}
 use Rattle.credit_shaper.specs.declared.shaper.Traffic.TheVariants.{A, B, Other}
-use Rattle.credit_shaper.specs.declared.shaper.Line.{Line}
-use Rattle.credit_shaper.specs.declared.shaper.Line.TheVariants.{Free, Sends}
+use Rattle.credit_shaper.specs.declared.shaper.Line.TheVariants.{Free}
 use Rattle.credit_shaper.specs.declared.port.SlopeChange.{SlopeChange}
 use Rattle.credit_shaper.specs.declared.port.Arrival.{Arrival}
 use Rattle.credit_shaper.specs.declared.port.PortInput.{PortInput}
@@ -13,7 +12,7 @@ use Rattle.credit_shaper.specs.declared.trace.PortTrace.{PortTrace}
 use Rattle.credit_shaper.specs.declared.queues.Heads.{Heads}
 use Rattle.credit_shaper.specs.Credit.{after_bits}
 use Rattle.credit_shaper.specs.Port.{is_of, no_slopes}
-use Rattle.credit_shaper.specs.Trace.{Port, head_of, turn_of}
+use Rattle.credit_shaper.specs.Trace.{Port}
 
 -- the bit time of an arrival, and of a slope change
 abbrev pub arrival_bit : Arrival → ℕ

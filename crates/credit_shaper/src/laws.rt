@@ -1,15 +1,16 @@
 //! What is true of every run, over the definitions that the contract of `PortTrace::run` cites. Each is a
 //! function that does nothing; calling it brings the law to a proof.
 
-ghost use Rattle.std.specs.Prelude.{◌≡◌, ℕ, ◌+◌, ◌<◌, ◌≤◌, true, false, map, filter, All, AllPairs};
+ghost use Rattle.std.specs.Prelude.{◌≡◌, ℕ, ◌+◌, ◌<◌, ◌≤◌, true, false, List, map, filter, All, AllPairs};
 ghost use Rattle.std.specs.List.{list_any};
 ghost use Rattle.srp_base.specs.Bandwidth.{bits_of};
 ghost use Rattle.credit_shaper.specs.declared.shaper.Traffic.{Traffic};
+ghost use Rattle.credit_shaper.specs.declared.port.Arrival.{Arrival};
 ghost use Rattle.credit_shaper.specs.declared.port.PortInput.{PortInput};
-ghost use Rattle.credit_shaper.specs.Port.{IsPortInput, IsNotAfter, is_of};
+ghost use Rattle.credit_shaper.specs.Port.{IsPortInput, IsNotAfter, is_of, arrivals_at};
 ghost use Rattle.credit_shaper.specs.Trace.{port_at, departures_of};
 ghost use Rattle.credit_shaper.specs.Bounds.{is_on_line, IsStretch, IsCreditAWithin, IsWindowAWithin, IsWaitAWithin};
-ghost use Rattle.credit_shaper.specs.Departures.{sent_of, left_of, departs_as, DepartInOrder, is_sending, AgreeBefore, started_before};
+ghost use Rattle.credit_shaper.specs.Departures.{sent_of, left_of, departs_as, DepartInOrder, is_sending, AgreeBefore, arrivals_before, started_before};
 
 /// What leaves a port is what its trace has sent by the end, and the frames that wait then are left.
 pub fn what_leaves_is_sent_or_left()
@@ -46,8 +47,11 @@ pub fn the_line_carries_the_departures()
 {}
 
 /// What comes at a bit time or later changes nothing before it: neither the port as the bit time begins,
-/// nor the departures that start before it, whichever the ends.
+/// nor the departures that start before it, whichever the ends. Inputs agree on the arrivals before a bit time
+/// where these are one list.
 pub fn nothing_depends_on_what_comes_later()
+    ensures arrivals { (xs ys : List Arrival) (t k : ℕ) → arrivals_before xs t ≡ arrivals_before ys t → k < t
+        → arrivals_at xs k ≡ arrivals_at ys k }
     ensures port { (one other : PortInput) (t : ℕ) → AgreeBefore t one other → port_at one t ≡ port_at other t }
     ensures departures { (one other : PortInput) (t : ℕ) → AgreeBefore t one other → t ≤ one.end → t ≤ other.end
         → started_before t (sent_of one) ≡ started_before t (sent_of other) }

@@ -147,15 +147,15 @@ fn credit_after_bits(
     requires bits { bits ≤ 2 ^ 41 }
     ensures { result ≡ credit_after_bits bits rate slope sends waits credit }
 {
-    let raised = credit + over(slope, bits);
+    let risen = credit + over(slope, bits);
     if bits == 0 {
         credit
     } else if sends {
-        raised - over(rate, bits)
+        risen - over(rate, bits)
     } else if waits {
-        raised
+        risen
     } else {
-        raised.min(0)
+        risen.min(0)
     }
 }
 

@@ -1,5 +1,5 @@
 -- The change in force is the last of those that have come.
-use Rattle.std.proofs.Common.{◌≡◌, ℕ, suc, ◌-◌, ◌<◌, ◌≤◌, List, take, length, get_or, sym, ◌∙◌, ap, arith}
+use Rattle.std.proofs.Common.{◌≡◌, ℕ, suc, ◌-◌, ◌<◌, take, length, sym, ◌∙◌, ap, arith}
 use Rattle.credit_shaper.specs.Port.{no_slopes}
 use Rattle.credit_shaper.specs.Walk.{newest}
 use Rattle.credit_shaper.proofs.MomentLemmas.{newest-take}

@@ -1,5 +1,5 @@
 -- Rounded up, so that one bit time less isn't enough.
-use Rattle.std.proofs.Common.{◌≡◌, ℕ, ◌+◌, ◌*◌, ◌/◌, ◌%◌, ◌<◌, min, sym, ◌∙◌, ap, subst, arith}
+use Rattle.std.proofs.Common.{◌≡◌, ◌+◌, ◌*◌, ◌<◌, ◌∙◌, ap, arith}
 use Rattle.std.specs.Prelude.{unsigned_abs, pos, ◌<ℤ◌}
 use Rattle.std.specs.Int.{div_ceil, w128}
 use Rattle.std.proofs.lemmas.Int.{to_z-of_z}

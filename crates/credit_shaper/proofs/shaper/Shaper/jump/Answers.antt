@@ -1,9 +1,8 @@
 -- Each credit goes on by itself.
-use Rattle.std.proofs.Common.{arith, rules, ◌≡◌, ◌∙◌, sym, ap}
-use Rattle.std.specs.Prelude.{FitsSigned, ℤ}
+use Rattle.std.proofs.Common.{rules}
+use Rattle.std.specs.Prelude.{FitsSigned}
 use Rattle.std.specs.Int.{w128}
 use Rattle.std.proofs.lemmas.Int.{to_z-of_z}
-use Rattle.credit_shaper.specs.declared.shaper.Shaper.{Shaper}
 use Rattle.credit_shaper.proofs.CreditLemmas.{after_bits_is}
 use Rattle.credit_shaper.proofs.shaper.Shaper.jump.Goals as goal
 

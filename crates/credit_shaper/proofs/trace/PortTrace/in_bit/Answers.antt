@@ -1,10 +1,10 @@
 -- What starts is what the port starts.
-use Rattle.std.proofs.Common.{◌≡◌, ℕ, ◌+◌, ◌<◌, ◌≤◌, List, ◌++◌, [], ◌∷◌, length, Option, Some, None, sym, ◌∙◌, ap, subst, arith}
+use Rattle.std.proofs.Common.{◌≡◌, ◌+◌, ◌≤◌, List, ◌++◌, [], ◌∷◌, Some, None, sym, ◌∙◌, ap, subst, arith}
 use Rattle.credit_shaper.specs.declared.port.Arrival.{Arrival}
 use Rattle.credit_shaper.specs.declared.port.Departure.{Departure}
 use Rattle.credit_shaper.specs.declared.trace.PortTrace.{PortTrace}
-use Rattle.credit_shaper.specs.Trace.{Port, with_start, with_arrivals, sends_frame, departure_at, within_bit}
-use Rattle.credit_shaper.specs.Walk.{AreHeads, IsFirst, port_of, waiting_of}
+use Rattle.credit_shaper.specs.Trace.{with_start, sends_frame, departure_at}
+use Rattle.credit_shaper.specs.Walk.{IsFirst, port_of}
 use Rattle.credit_shaper.proofs.TraceLemmas.{frame_of}
 use Rattle.credit_shaper.proofs.StartLemmas.{start_found, start_none, port_at_rest, some_bits, rest_idle}
 use Rattle.credit_shaper.proofs.trace.PortTrace.in_bit.Goals as goal

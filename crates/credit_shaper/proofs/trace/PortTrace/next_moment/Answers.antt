@@ -1,5 +1,5 @@
 -- The earliest of three moments, each after this bit time.
-use Rattle.std.proofs.Common.{◌≡◌, ℕ, ◌+◌, ◌<◌, ◌≤◌, List, length, sym, subst, arith}
+use Rattle.std.proofs.Common.{◌+◌, ◌≤◌, List, length, sym, subst, arith}
 use Rattle.std.specs.List.{AllWithin}
 use Rattle.credit_shaper.specs.declared.port.SlopeChange.{SlopeChange}
 use Rattle.credit_shaper.specs.declared.port.Arrival.{Arrival}

@@ -1,5 +1,5 @@
 -- A whole run is a stretch for the slopes that it has.
-use Rattle.std.proofs.Common.{◌+◌, ◌≤◌, arith}
+use Rattle.std.proofs.Common.{◌+◌, arith}
 use Rattle.credit_shaper.specs.Bounds.{greatest_slope_a}
 use Rattle.credit_shaper.proofs.BoundLemmas.{credit_within}
 use Rattle.credit_shaper.proofs.WindowLemmas.{window_within, whole_run}

@@ -1,10 +1,8 @@
 -- The queue goes on at its next frame, and the others stay.
-use Rattle.std.proofs.Common.{◌≡◌, ℕ, ◌+◌, ◌<◌, ◌≤◌, List, ◌++◌, [], ◌∷◌, take, refl, sym, ◌∙◌, ap, subst, arith}
-use Rattle.credit_shaper.specs.declared.shaper.Line.TheVariants.{Sends}
-use Rattle.credit_shaper.specs.declared.port.Arrival.{Arrival}
+use Rattle.std.proofs.Common.{◌≡◌, take, refl, sym, subst, arith}
 use Rattle.credit_shaper.specs.declared.queues.Heads.{Heads}
-use Rattle.credit_shaper.specs.Trace.{Port, departure_at, without_head}
-use Rattle.credit_shaper.specs.Walk.{head_index, with_head_index, pending, waiting_of, AreHeads, IsHead}
+use Rattle.credit_shaper.specs.Trace.{without_head}
+use Rattle.credit_shaper.specs.Walk.{with_head_index, pending, waiting_of, AreHeads, IsHead}
 use Rattle.credit_shaper.proofs.MomentLemmas.{blank}
 use Rattle.credit_shaper.proofs.QueueLemmas.{head_index-each, without_first}
 use Rattle.credit_shaper.proofs.trace.PortTrace.sends.Goals as goal

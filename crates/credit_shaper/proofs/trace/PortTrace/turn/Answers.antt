@@ -1,11 +1,11 @@
 -- The credits are in range, and the trace moves on as the port does.
-use Rattle.std.proofs.Common.{◌≡◌, ℕ, ◌+◌, ◌-◌, ◌<◌, ◌≤◌, List, length, sym, ◌∙◌, ap, subst, arith}
+use Rattle.std.proofs.Common.{◌≡◌, ℕ, ◌+◌, ◌-◌, List, sym, ◌∙◌, ap, subst, arith}
 use Rattle.credit_shaper.specs.declared.port.PortInput.{PortInput}
 use Rattle.credit_shaper.specs.declared.port.Departure.{Departure}
 use Rattle.credit_shaper.specs.declared.trace.PortTrace.{PortTrace}
 use Rattle.credit_shaper.specs.Credit.{IsInRange}
-use Rattle.credit_shaper.specs.Trace.{Port, within_bit, port_at, port_in}
-use Rattle.credit_shaper.specs.Walk.{HasReached, IsQuiet, port_of, moved_to}
+use Rattle.credit_shaper.specs.Trace.{within_bit, port_in}
+use Rattle.credit_shaper.specs.Walk.{HasReached, port_of}
 use Rattle.credit_shaper.proofs.PortLemmas.{in_range}
 use Rattle.credit_shaper.proofs.TraceLemmas.{reached_moved}
 use Rattle.credit_shaper.proofs.QuietLemmas.{moved_port}
