@@ -1,5 +1,8 @@
 pub mod Changes
+pub mod Duties
+pub mod DutyRows
 pub mod EachKey
+pub mod Flying
 pub mod Lookups
 pub mod Octets
 pub mod Rooms

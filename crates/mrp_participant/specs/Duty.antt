@@ -64,11 +64,11 @@ abbrev pub OwesOf : {K C : Type 0} → Option (Row K C) → Option C → Bool �
 OwesOf None held asked = held ≡ None
 OwesOf (Some r) held asked = Owes r.applicant r.content held asked
 
--- the duty of a participant `near` to its neighbour `far` over their link, with the lists of messages in flight
--- to the neighbour and from it: where the participant is sound, it owes of each key what its row says. Where
--- it isn't sound, as after a loss and until its next LeaveAll, it has none.
-abbrev pub HasDuty : {K C : Type 0} → (K → K → Ordering) → (near far : State K C) → (sent coming : List (Messages K C)) → Type 0
-HasDuty {K = K} cmp near far sent coming =
-    near.sound ≡ true
-    → (k : K)
-    → OwesOf (find cmp k near.rows) (hears cmp k (held_in (find cmp k far.rows)) sent) (has_leave_all coming)
+-- the duty of a participant `near` to its neighbour `far` is met on their link, with the lists of messages in
+-- flight to the neighbour and from it: where the participant is sound, it owes of each key what its row says.
+-- Where it isn't sound, as after a loss and until its next LeaveAll, it owes nothing.
+pub record IsDutyMet {K C : Type 0} (cmp : K → K → Ordering) (near far : State K C) (sent coming : List (Messages K C)) : Type 0 where
+  pub of_key :
+      near.sound ≡ true
+      → (k : K)
+      → OwesOf (find cmp k near.rows) (hears cmp k (held_in (find cmp k far.rows)) sent) (has_leave_all coming)

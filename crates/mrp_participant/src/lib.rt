@@ -29,6 +29,7 @@
 
 mod application;
 mod calls;
+pub mod duty_laws;
 pub mod laws;
 mod lookup;
 mod model;
