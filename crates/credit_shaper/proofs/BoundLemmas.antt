@@ -70,15 +70,18 @@ turn_cases s w =
       | inl y ↦ inl (cond-true a A (cond b B Other) y, (and_parts (does_wait A w) (int_le (pos 0) s.credit_a) y).1)
       | inr n ↦
           let other : traffic_number (turn_of s w) ≡ 0 → ⊥ =
-            λ e. let f : traffic_number (cond b B Other) ≡ 0 = ap traffic_number (sym (cond-false a A (cond b B Other) n)) ∙ e in
-              elim (cases_Bool b) [
-                | inl y ↦ omega (arith, ap traffic_number (sym (cond-true b B Other y)) ∙ f)
-                | inr m ↦ omega (arith, ap traffic_number (sym (cond-false b B Other m)) ∙ f)
-              ] in
-          inr (other, λ w'. elim (cases_Bool (int_le (pos 0) s.credit_a)) [
-            | inl y ↦ absurd (true≢false (sym (ap (λ v. v && int_le (pos 0) s.credit_a) w' ∙ y) ∙ n))
-            | inr m ↦ m
-          ])
+          λ e. let f : traffic_number (cond b B Other) ≡ 0 = ap traffic_number (sym (cond-false a A (cond b B Other) n)) ∙ e in
+          elim (cases_Bool b) [
+            | inl y ↦ omega (arith, ap traffic_number (sym (cond-true b B Other y)) ∙ f)
+            | inr m ↦ omega (arith, ap traffic_number (sym (cond-false b B Other m)) ∙ f)
+          ] in
+          inr (
+            other,
+            λ w'. elim (cases_Bool (int_le (pos 0) s.credit_a)) [
+              | inl y ↦ absurd (true≢false (sym (ap (λ v. v && int_le (pos 0) s.credit_a) w' ∙ y) ∙ n))
+              | inr m ↦ m
+            ],
+          )
     ]
 
 zero_or_more : (c : ℤ) → int_le (pos 0) c ≡ true → pos 0 ≤ℤ c
@@ -106,7 +109,7 @@ head_of-other traffic gone (x ∷ xs) ne =
     elim (cases_Bool (is_of gone x)) [
       | inl own ↦
           let out : is_of traffic x ≡ false = ne_eqb (traffic_number x.traffic) (traffic_number traffic)
-              (λ e. ne (sym (eqb-true (traffic_number x.traffic) (traffic_number gone) own) ∙ e)) in
+          (λ e. ne (sym (eqb-true (traffic_number x.traffic) (traffic_number gone) own) ∙ e)) in
           rw own (rw out refl)
       | inr out ↦ rw out (elim (is_of traffic x) as (λ b. cond b (Some x) (head_of traffic (without_head gone xs)) ≡ cond b (Some x) (head_of traffic xs)) [ true ↦ refl | false ↦ rest ])
     ]
@@ -197,14 +200,14 @@ starts_stand gap most t p (Some x) e free sizes b =
           let sends : true ≡ does_send A (Sends x.traffic) = sym (eq-eqb (traffic_number x.traffic) 0 (ap traffic_number (own ∙ turn.0))) in
           subst (λ (n : ℕ). Stands gap most n (does_send A (Sends x.traffic)) waits p.shaper.credit_a) bits
           (subst (λ (s : Bool). Stands gap most x.bits s waits p.shaper.credit_a) sends
-            (begins_a gap most x.bits waits p.shaper.credit_a size (zero_or_more p.shaper.credit_a turn.1) wide.1))
+          (begins_a gap most x.bits waits p.shaper.credit_a size (zero_or_more p.shaper.credit_a turn.1) wide.1))
       | inr turn ↦
           let ne : traffic_number x.traffic ≡ 0 → ⊥ = λ f. turn.0 (ap traffic_number (sym own) ∙ f) in
           let sends : false ≡ does_send A (Sends x.traffic) = sym (ne_eqb (traffic_number x.traffic) 0 ne) in
           let kept : waits ≡ does_wait A p.waiting = ap is_some (head_of-other A x.traffic p.waiting ne) in
           subst (λ (n : ℕ). Stands gap most n (does_send A (Sends x.traffic)) waits p.shaper.credit_a) bits
           (subst (λ (s : Bool). Stands gap most x.bits s waits p.shaper.credit_a) sends
-            (begins_other gap most x.bits waits p.shaper.credit_a size.1 wide.0 (λ w. below_zero p.shaper.credit_a (turn.1 (sym kept ∙ w)))))
+          (begins_other gap most x.bits waits p.shaper.credit_a size.1 wide.0 (λ w. below_zero p.shaper.credit_a (turn.1 (sym kept ∙ w)))))
     ]
 
 with_start_stands : (gap most t : ℕ) (p : Port) → HasSizes t p → PortBegins gap most t p → PortStands gap most t (with_start t p)
@@ -230,7 +233,7 @@ with_arrivals_sizes input t p valid sizes =
     record {
       line = sizes.line;
       waiting = All-append (λ x. IsFrameSize x.bits) p.waiting (arrivals_at input.arrivals t) sizes.waiting
-          (All-filter (λ x. x.bit == t) (λ x. IsFrameSize x.bits) input.arrivals valid.frame_sizes);
+          (All-filter (λ x. x.bit == t) (λ x. IsFrameSize x.bits) input.arrivals valid.arrivals.sizes);
     }
 
 sizes_in : (input : PortInput) (t : ℕ) (p : Port) → IsPortInput input → HasSizes t p → HasSizes t (within_bit input t p)
@@ -262,12 +265,12 @@ begins_next input gap most t valid least top b =
     let rate : q.shaper.rate ≡ input.rate = ap (λ s. s.rate) is ∙ rate_is input t in
     let less : q.free_from - t - 1 ≡ q.free_from - suc t = omega arith in
     let next : Begins gap most (q.free_from - t - 1) (does_send A q.line)
-        (credit_after (bits_of input.rate) (slope_a_at input t) (does_send A q.line) (does_wait A q.waiting) q.shaper.credit_a) =
-        step gap most (q.free_from - t) (bits_of input.rate) (slope_a_at input t) (does_send A q.line) (does_wait A q.waiting) q.shaper.credit_a
-        least top (slope_a_below input t valid) stands in
+    (credit_after (bits_of input.rate) (slope_a_at input t) (does_send A q.line) (does_wait A q.waiting) q.shaper.credit_a) =
+    step gap most (q.free_from - t) (bits_of input.rate) (slope_a_at input t) (does_send A q.line) (does_wait A q.waiting) q.shaper.credit_a
+    least top (slope_a_below input t valid) stands in
     subst (λ (n : ℕ). Begins gap most n (does_send A q.line) (credit_after (bits_of q.shaper.rate) q.shaper.slope_a (does_send A q.line) (does_wait A q.waiting) q.shaper.credit_a)) less
     (subst (λ (r : Rate). Begins gap most (q.free_from - t - 1) (does_send A q.line) (credit_after (bits_of r) q.shaper.slope_a (does_send A q.line) (does_wait A q.waiting) q.shaper.credit_a)) (sym rate)
-      (subst (λ (s : ℕ). Begins gap most (q.free_from - t - 1) (does_send A q.line) (credit_after (bits_of input.rate) s (does_send A q.line) (does_wait A q.waiting) q.shaper.credit_a)) (sym (ap (λ s. s.slope_a) is)) next))
+    (subst (λ (s : ℕ). Begins gap most (q.free_from - t - 1) (does_send A q.line) (credit_after (bits_of input.rate) s (does_send A q.line) (does_wait A q.waiting) q.shaper.credit_a)) (sym (ap (λ s. s.slope_a) is)) next))
 
 begins_zero : (gap most rem : ℕ) (sends : Bool) (c : ℤ) → c ≡ pos 0 → Begins gap most rem sends c
 begins_zero gap most rem sends c zero' = record { low = omega (arith, ints, zero'); high = omega (arith, ints, zero') }
@@ -301,6 +304,6 @@ credit_within input least most from to t valid s up l =
     let below = slope_a_below input from valid in
     let p : Port = port_at input t in
     let b : PortBegins (bits_of input.rate - least) most t p =
-        subst (λ (k : ℕ). PortBegins (bits_of input.rate - least) most k (port_at input k)) at (begins_on input least most from to (t - from) valid s (omega (arith, at, l))) in
+    subst (λ (k : ℕ). PortBegins (bits_of input.rate - least) most k (port_at input k)) at (begins_on input least most from to (t - from) valid s (omega (arith, at, l))) in
     let bounds = bounds_of (bits_of input.rate) (bits_of input.rate - least) least most (p.free_from - t) (does_send A p.line) p.shaper.credit_a (omega (arith, first.0, below)) b in
     record { low = bounds.0; high = bounds.1 }

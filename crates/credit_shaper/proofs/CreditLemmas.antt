@@ -53,10 +53,10 @@ pub ruleset credits_on = (credit_at_0, credit-sends, credit-waits, credit_idles_
 -- both credits, each by itself
 pub after_bits_is : (n : ℕ) (line : Line) (waits_a waits_b : Bool) (s : Shaper)
     → after_bits n line waits_a waits_b s
-      ≡ record s {
-          credit_a = credit_after_bits n (bits_of s.rate) s.slope_a (does_send A line) waits_a s.credit_a;
-          credit_b = credit_after_bits n (bits_of s.rate) s.slope_b (does_send B line) waits_b s.credit_b;
-        }
+    ≡ record s {
+      credit_a = credit_after_bits n (bits_of s.rate) s.slope_a (does_send A line) waits_a s.credit_a;
+      credit_b = credit_after_bits n (bits_of s.rate) s.slope_b (does_send B line) waits_b s.credit_b;
+    }
 unfolding after_bits credit_after_bits
 after_bits_is zero line waits_a waits_b s = refl
 after_bits_is (suc n) line waits_a waits_b s = rw (after_bits_is n line waits_a waits_b s) refl

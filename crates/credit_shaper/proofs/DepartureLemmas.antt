@@ -32,16 +32,16 @@ unfolding port_at
 same_before one other zero agree = rw agree.rate refl
 same_before one other (suc t) agree =
     let earlier : AgreeBefore t one other =
-        record { rate = agree.rate; slopes = λ k l. agree.slopes k (omega (arith, l)); arrivals = λ k l. agree.arrivals k (omega (arith, l)) } in
+    record { rate = agree.rate; slopes = λ k l. agree.slopes k (omega (arith, l)); arrivals = λ k l. agree.arrivals k (omega (arith, l)) } in
     let before : port_at one t ≡ port_at other t = same_before one other t earlier in
     let next : SlopeChange → List Arrival → Port → Port =
-        λ slopes come p. with_credits (with_start t (record p {
-          waiting = p.waiting ++ come;
-          shaper = record p.shaper { slope_a = slopes.slope_a; slope_b = slopes.slope_b };
-        })) in
+    λ slopes come p. with_credits (with_start t (record p {
+      waiting = p.waiting ++ come;
+      shaper = record p.shaper { slope_a = slopes.slope_a; slope_b = slopes.slope_b };
+    })) in
     ap (next (slopes_at one t) (arrivals_at one.arrivals t)) before
     ∙ (ap (λ slopes. next slopes (arrivals_at one.arrivals t) (port_at other t)) (agree.slopes t (omega arith))
-      ∙ ap (λ come. next (slopes_at other t) come (port_at other t)) (agree.arrivals t (omega arith)))
+    ∙ ap (λ come. next (slopes_at other t) come (port_at other t)) (agree.arrivals t (omega arith)))
 
 -- ---- what a start may be
 
@@ -55,10 +55,10 @@ with_start_cases P t q busy rest begin =
           (started (head_of turn q.waiting) refl free)
     ]
   where
-  started : (o : Option Arrival) → head_of (turn_of q.shaper q.waiting) q.waiting ≡ o → q.free_from ≤ t → P (starts t q o)
-  started None e free = rest free
-  started (Some x) e free =
-    begin x free (ap (λ traffic. head_of traffic q.waiting) (head_traffic (turn_of q.shaper q.waiting) q.waiting x e) ∙ e)
+    started : (o : Option Arrival) → head_of (turn_of q.shaper q.waiting) q.waiting ≡ o → q.free_from ≤ t → P (starts t q o)
+    started None e free = rest free
+    started (Some x) e free =
+        begin x free (ap (λ traffic. head_of traffic q.waiting) (head_traffic (turn_of q.shaper q.waiting) q.waiting x e) ∙ e)
 
 -- ---- lists in which each element stands in a relation to each later one
 
@@ -97,28 +97,52 @@ pub record AreApart (t : ℕ) (p : Port) : Type 0 where
   pub apart : AllPairs (λ d e. d.end ≤ e.start) p.sent
   pub ended : All (λ d. d.end ≤ p.free_from) p.sent
   pub started : All (λ d. d.start < t) p.sent
+  pub sized : All (λ d. (d.start + 336 ≤ d.end) × (d.end ≤ d.start + 12336)) p.sent
 
-apart_in : (t : ℕ) (q : Port) → AreApart t q → AreApart (suc t) (with_start t q)
-apart_in t q a =
+apart_in : (t : ℕ) (q : Port) → All (λ x. IsFrameSize x.bits) q.waiting → AreApart t q → AreApart (suc t) (with_start t q)
+apart_in t q sizes a =
     let before : All (λ d. d.start < suc t) q.sent = λ k d l. omega (arith, a.started k d l) in
     with_start_cases (AreApart (suc t)) t q
-    (λ _. record { apart = a.apart; ended = a.ended; started = before })
-    (λ _. record { apart = a.apart; ended = a.ended; started = before })
-    (λ x free _. record {
+    (λ _. record { apart = a.apart; ended = a.ended; started = before; sized = a.sized })
+    (λ _. record { apart = a.apart; ended = a.ended; started = before; sized = a.sized })
+    (λ x free e.
+      let size : IsFrameSize x.bits = head_within (λ y. IsFrameSize y.bits) x.traffic q.waiting x sizes e in
+      record {
         apart = all_pairs_push (λ d e. d.end ≤ e.start) q.sent (departure_at t x) a.apart (λ k d l. omega (arith, a.ended k d l, free));
         ended = All-push (λ d. d.end ≤ t + x.bits) q.sent (departure_at t x) (λ k d l. omega (arith, a.ended k d l, free)) (omega arith);
         started = All-push (λ d. d.start < suc t) q.sent (departure_at t x) before (omega arith);
+        sized = All-push (λ d. (d.start + 336 ≤ d.end) × (d.end ≤ d.start + 12336)) q.sent (departure_at t x) a.sized
+            (omega (arith, size.0), omega (arith, size.1));
       })
 
-pub apart_at : (input : PortInput) (t : ℕ) → AreApart t (port_at input t)
+pub apart_at : (input : PortInput) (t : ℕ) → IsPortInput input → AreApart t (port_at input t)
 unfolding port_at
-apart_at input zero =
-    record { apart = λ i j d l h. absurd (omega (arith, h)); ended = λ k d l. absurd (omega (arith, l)); started = λ k d l. absurd (omega (arith, l)) }
-apart_at input (suc t) =
-    let before : AreApart t (port_at input t) = apart_at input t in
+apart_at input zero valid =
+    record {
+      apart = λ i j d l h. absurd (omega (arith, h));
+      ended = λ k d l. absurd (omega (arith, l));
+      started = λ k d l. absurd (omega (arith, l));
+      sized = λ k d l. absurd (omega (arith, l));
+    }
+apart_at input (suc t) valid =
+    let before : AreApart t (port_at input t) = apart_at input t valid in
+    let sizes = (with_arrivals_sizes input t (port_at input t) valid (sizes_at input t valid)).waiting in
     let now : AreApart (suc t) (port_in input t) =
-        apart_in t (with_arrivals input t (port_at input t)) (record { apart = before.apart; ended = before.ended; started = before.started }) in
-    record { apart = now.apart; ended = now.ended; started = now.started }
+        apart_in t (with_arrivals input t (port_at input t)) sizes
+        (record { apart = before.apart; ended = before.ended; started = before.started; sized = before.sized }) in
+    record { apart = now.apart; ended = now.ended; started = now.started; sized = now.sized }
+
+-- a departure starts before the bit time up to which a port has sent it
+started_in : (t : ℕ) (q : Port) → All (λ d. d.start < t) q.sent → All (λ d. d.start < suc t) (with_start t q).sent
+started_in t q all =
+    let before : All (λ d. d.start < suc t) q.sent = λ k d l. omega (arith, all k d l) in
+    with_start_cases (λ p. All (λ d. d.start < suc t) p.sent) t q (λ _. before) (λ _. before)
+    (λ x _ _. All-push (λ d. d.start < suc t) q.sent (departure_at t x) before (omega arith))
+
+pub started_at : (input : PortInput) (t : ℕ) → All (λ d. d.start < t) (port_at input t).sent
+unfolding port_at
+started_at input zero = λ k d l. absurd (omega (arith, l))
+started_at input (suc t) = started_in t (with_arrivals input t (port_at input t)) (started_at input t)
 
 -- ---- more departs, and nothing is taken back
 
@@ -168,12 +192,12 @@ pub started_is : (input : PortInput) (t : ℕ) → t ≤ input.end → started_b
 started_is input t l =
     let goes : Goes t (port_at input t).sent (sent_of input) = goes_by input t input.end l in
     let early : filter (λ d. nat_lt d.start t) (port_at input t).sent ≡ (port_at input t).sent =
-        filter_all (λ d. nat_lt d.start t) (port_at input t).sent (λ k d h. lt-ltb (get_or (port_at input t).sent k d).start t ((apart_at input t).started k d h)) in
+    filter_all (λ d. nat_lt d.start t) (port_at input t).sent (λ k d h. lt-ltb (get_or (port_at input t).sent k d).start t (started_at input t k d h)) in
     let late : filter (λ d. nat_lt d.start t) goes.more ≡ [] =
-        filter_nothing (λ d. nat_lt d.start t) goes.more (λ k d h. le-ltb (get_or goes.more k d).start t (goes.later k d h)) in
+    filter_nothing (λ d. nat_lt d.start t) goes.more (λ k d h. le-ltb (get_or goes.more k d).start t (goes.later k d h)) in
     ap (started_before t) goes.is
     ∙ (filter-append (λ d. nat_lt d.start t) (port_at input t).sent goes.more
-      ∙ (ap (λ ds. ds ++ filter (λ d. nat_lt d.start t) goes.more) early ∙ (ap (λ ds. (port_at input t).sent ++ ds) late ∙ append-nil (port_at input t).sent)))
+    ∙ (ap (λ ds. ds ++ filter (λ d. nat_lt d.start t) goes.more) early ∙ (ap (λ ds. (port_at input t).sent ++ ds) late ∙ append-nil (port_at input t).sent)))
 
 pub same_departures : (one other : PortInput) (t : ℕ) → AgreeBefore t one other → t ≤ one.end → t ≤ other.end
     → started_before t (sent_of one) ≡ started_before t (sent_of other)
@@ -204,9 +228,9 @@ carried_in t q carried =
     (λ _. carried)
     (λ free traffic u up. gone t u q traffic carried free up)
     (λ x free _ traffic u up.
-      any-push (is_sending traffic u) q.sent (departure_at t x)
-      ∙ (ap (λ b. b || is_sending traffic u (departure_at t x)) (gone t u q traffic carried free up)
-        ∙ ap (λ b. departs_as traffic (departure_at t x) && (b && nat_lt u (t + x.bits))) (le-leb t u up)))
+    any-push (is_sending traffic u) q.sent (departure_at t x)
+    ∙ (ap (λ b. b || is_sending traffic u (departure_at t x)) (gone t u q traffic carried free up)
+    ∙ ap (λ b. departs_as traffic (departure_at t x) && (b && nat_lt u (t + x.bits))) (le-leb t u up)))
 
 carried_at : (input : PortInput) (t : ℕ) → IsCarried t (port_at input t)
 unfolding port_at
@@ -226,14 +250,14 @@ busy_line traffic t q sizes =
     (λ l. and-true (does_send traffic q.line) (nat_lt t q.free_from) (lt-ltb t q.free_from l))
     (λ _. refl)
     (λ x _ e. let size : IsFrameSize x.bits = head_within (λ y. IsFrameSize y.bits) x.traffic q.waiting x sizes e in
-      and-true (does_send traffic (Sends x.traffic)) (nat_lt t (t + x.bits)) (lt-ltb t (t + x.bits) (omega (arith, size.0))))
+    and-true (does_send traffic (Sends x.traffic)) (nat_lt t (t + x.bits)) (lt-ltb t (t + x.bits) (omega (arith, size.0))))
 
 later_not : (traffic : Traffic) (t : ℕ) (ds : List Departure) → All (λ d. suc t ≤ d.start) ds → list_any (is_sending traffic t) ds ≡ false
 later_not traffic t [] all = refl
 later_not traffic t (d ∷ ds) all =
     let after : suc t ≤ d.start = All-head (λ e. suc t ≤ e.start) d ds all in
     let out : is_sending traffic t d ≡ false =
-        and_right (departs_as traffic d) (nat_le d.start t && nat_lt t d.end) (and_left (nat_le d.start t) (nat_lt t d.end) (lt-leb d.start t after)) in
+    and_right (departs_as traffic d) (nat_le d.start t && nat_lt t d.end) (and_left (nat_le d.start t) (nat_lt t d.end) (lt-leb d.start t after)) in
     ap (λ b. b || list_any (is_sending traffic t) ds) out ∙ later_not traffic t ds (All-tail (λ e. suc t ≤ e.start) d ds all)
 
 pub line_is : (input : PortInput) (traffic : Traffic) (t : ℕ) → IsPortInput input → t < input.end
@@ -243,12 +267,12 @@ line_is input traffic t valid l =
     let q : Port = with_arrivals input t (port_at input t) in
     let sizes = (with_arrivals_sizes input t (port_at input t) valid (sizes_at input t valid)).waiting in
     let now : list_any (is_sending traffic t) (port_at input (suc t)).sent ≡ is_on_line input traffic t =
-        carried_in t q (carried_at input t) traffic t (omega arith) ∙ busy_line traffic t q sizes in
+    carried_in t q (carried_at input t) traffic t (omega arith) ∙ busy_line traffic t q sizes in
     let goes : Goes (suc t) (port_at input (suc t)).sent (sent_of input) = goes_by input (suc t) input.end (omega (arith, l)) in
     let all : list_any (is_sending traffic t) (sent_of input) ≡ (list_any (is_sending traffic t) (port_at input (suc t)).sent || list_any (is_sending traffic t) goes.more) =
-        ap (list_any (is_sending traffic t)) goes.is ∙ list_any-append (is_sending traffic t) (port_at input (suc t)).sent goes.more in
+    ap (list_any (is_sending traffic t)) goes.is ∙ list_any-append (is_sending traffic t) (port_at input (suc t)).sent goes.more in
     sym (all ∙ (ap (λ b. list_any (is_sending traffic t) (port_at input (suc t)).sent || b) (later_not traffic t goes.more goes.later)
-      ∙ (or-false (list_any (is_sending traffic t) (port_at input (suc t)).sent) ∙ now)))
+    ∙ (or-false (list_any (is_sending traffic t) (port_at input (suc t)).sent) ∙ now)))
 
 -- ---- frames depart in order of arrival
 
@@ -263,8 +287,8 @@ come_next (x ∷ xs) t order =
     elim (cases_order x.bit t) [
       | inl same ↦
           let none : come_before xs t ≡ [] =
-              filter_nothing (λ y. nat_lt y.bit t) xs (λ k d l. le-ltb (get_or xs k d).bit t
-                (let up : x.bit ≤ (get_or xs k d).bit = not_after x (get_or xs k d) (pairs-head IsNotAfter x xs order k d l) in omega (arith, same, up))) in
+          filter_nothing (λ y. nat_lt y.bit t) xs (λ k d l. le-ltb (get_or xs k d).bit t
+          (let up : x.bit ≤ (get_or xs k d).bit = not_after x (get_or xs k d) (pairs-head IsNotAfter x xs order k d l) in omega (arith, same, up))) in
           let a : nat_lt x.bit (suc t) ≡ true = lt-ltb x.bit (suc t) (omega (arith, same)) in
           let b : nat_lt x.bit t ≡ false = le-ltb x.bit t (omega (arith, same)) in
           let e : (x.bit == t) ≡ true = eq-eqb x.bit t same in
@@ -306,7 +330,7 @@ filter-head traffic (y ∷ ys) x e =
           rw own (ap (λ z. z ∷ filter (is_of traffic) ys) same)
       | inr out ↦
           let rest : filter (is_of traffic) ys ≡ x ∷ filter (is_of traffic) (without_head traffic ys) =
-              filter-head traffic ys x (sym (cond-false (is_of traffic y) (Some y) (head_of traffic ys) out) ∙ e) in
+          filter-head traffic ys x (sym (cond-false (is_of traffic y) (Some y) (head_of traffic ys) out) ∙ e) in
           rw out (rw out rest)
     ]
 
@@ -318,7 +342,7 @@ filter-without_other traffic lost (x ∷ xs) ne =
     elim (cases_Bool (is_of lost x)) [
       | inl own ↦
           let out : is_of traffic x ≡ false = ne_eqb (traffic_number x.traffic) (traffic_number traffic)
-              (λ e. ne (sym (eqb-true (traffic_number x.traffic) (traffic_number lost) own) ∙ e)) in
+          (λ e. ne (sym (eqb-true (traffic_number x.traffic) (traffic_number lost) own) ∙ e)) in
           rw own (rw out refl)
       | inr out ↦ rw out (elim (is_of traffic x) as (λ b. cond b (x ∷ filter (is_of traffic) (without_head lost xs)) (filter (is_of traffic) (without_head lost xs)) ≡ cond b (x ∷ filter (is_of traffic) xs) (filter (is_of traffic) xs)) [ true ↦ ap (λ ys. x ∷ ys) rest | false ↦ rest ])
     ]
@@ -335,18 +359,18 @@ order_with_arrivals input t p valid o =
     let come : List Arrival = come_before input.arrivals t in
     let new : List Arrival = arrivals_at input.arrivals t in
     let now : All (λ x. (x.bit == t) ≡ true) new = filter_passes (λ x. x.bit == t) input.arrivals in
-    let next : come_before input.arrivals (suc t) ≡ come ++ new = come_next input.arrivals t valid.arrivals_ascend in
+    let next : come_before input.arrivals (suc t) ≡ come ++ new = come_next input.arrivals t valid.arrivals.ascend in
     record {
       each = λ traffic.
-        subst (λ (xs : List Arrival). DepartInOrder xs (filter (departs_as traffic) p.sent) (filter (is_of traffic) (p.waiting ++ new)))
-        (sym (ap (filter (is_of traffic)) next ∙ filter-append (is_of traffic) come new))
-        (subst (λ (xs : List Arrival). DepartInOrder (filter (is_of traffic) come ++ filter (is_of traffic) new) (filter (departs_as traffic) p.sent) xs)
+          subst (λ (xs : List Arrival). DepartInOrder xs (filter (departs_as traffic) p.sent) (filter (is_of traffic) (p.waiting ++ new)))
+          (sym (ap (filter (is_of traffic)) next ∙ filter-append (is_of traffic) come new))
+          (subst (λ (xs : List Arrival). DepartInOrder (filter (is_of traffic) come ++ filter (is_of traffic) new) (filter (departs_as traffic) p.sent) xs)
           (sym (filter-append (is_of traffic) p.waiting new))
           (depart_more (filter (is_of traffic) come) (filter (is_of traffic) new) (filter (departs_as traffic) p.sent) (filter (is_of traffic) p.waiting) (o.each traffic)));
-      order = pairs-append IsNotAfter p.waiting new o.order (AllPairs-filter IsNotAfter (λ x. x.bit == t) input.arrivals valid.arrivals_ascend)
-        (λ k d l j e h. inl (omega (arith, o.early k d l, eqb-true (get_or new j e).bit t (now j e h))));
+      order = pairs-append IsNotAfter p.waiting new o.order (AllPairs-filter IsNotAfter (λ x. x.bit == t) input.arrivals valid.arrivals.ascend)
+          (λ k d l j e h. inl (omega (arith, o.early k d l, eqb-true (get_or new j e).bit t (now j e h))));
       early = All-append (λ x. x.bit < suc t) p.waiting new (λ k d l. omega (arith, o.early k d l))
-        (λ k d l. omega (arith, eqb-true (get_or new k d).bit t (now k d l)));
+          (λ k d l. omega (arith, eqb-true (get_or new k d).bit t (now k d l)));
     }
 
 own_departs : (come : List Arrival) (t : ℕ) (q : Port) (x : Arrival) → IsInOrder come (suc t) q → head_of x.traffic q.waiting ≡ Some x
@@ -354,12 +378,12 @@ own_departs : (come : List Arrival) (t : ℕ) (q : Port) (x : Arrival) → IsInO
 own_departs come t q x o e =
     let own : departs_as x.traffic (departure_at t x) ≡ true = eq-eqb (traffic_number x.traffic) (traffic_number x.traffic) refl in
     let sent : filter (departs_as x.traffic) (q.sent ++ departure_at t x ∷ []) ≡ filter (departs_as x.traffic) q.sent ++ departure_at t x ∷ [] =
-        filter-append (departs_as x.traffic) q.sent (departure_at t x ∷ []) ∙ ap (λ ds. filter (departs_as x.traffic) q.sent ++ ds) (cond-true (departs_as x.traffic (departure_at t x)) _ _ own) in
+    filter-append (departs_as x.traffic) q.sent (departure_at t x ∷ []) ∙ ap (λ ds. filter (departs_as x.traffic) q.sent ++ ds) (cond-true (departs_as x.traffic (departure_at t x)) _ _ own) in
     let before : x.bit < suc t = head_within (λ y. y.bit < suc t) x.traffic q.waiting x o.early e in
     subst (λ (ds : List Departure). DepartInOrder (filter (is_of x.traffic) come) ds (filter (is_of x.traffic) (without_head x.traffic q.waiting))) (sym sent)
     (depart_next (filter (is_of x.traffic) come) (filter (departs_as x.traffic) q.sent) x (filter (is_of x.traffic) (without_head x.traffic q.waiting)) (departure_at t x)
-      (subst (λ (xs : List Arrival). DepartInOrder (filter (is_of x.traffic) come) (filter (departs_as x.traffic) q.sent) xs) (filter-head x.traffic q.waiting x e) (o.each x.traffic))
-      (record { frame = refl; traffic = refl; after = omega (arith, before); end = refl }))
+    (subst (λ (xs : List Arrival). DepartInOrder (filter (is_of x.traffic) come) (filter (departs_as x.traffic) q.sent) xs) (filter-head x.traffic q.waiting x e) (o.each x.traffic))
+    (record { frame = refl; traffic = refl; after = omega (arith, before); end = refl }))
 
 other_departs : (come : List Arrival) (t : ℕ) (q : Port) (x : Arrival) (traffic : Traffic) → IsInOrder come (suc t) q
     → (traffic_number x.traffic ≡ traffic_number traffic → ⊥)
@@ -367,8 +391,8 @@ other_departs : (come : List Arrival) (t : ℕ) (q : Port) (x : Arrival) (traffi
 other_departs come t q x traffic o ne =
     let out : departs_as traffic (departure_at t x) ≡ false = ne_eqb (traffic_number x.traffic) (traffic_number traffic) ne in
     let sent : filter (departs_as traffic) (q.sent ++ departure_at t x ∷ []) ≡ filter (departs_as traffic) q.sent =
-        filter-append (departs_as traffic) q.sent (departure_at t x ∷ [])
-        ∙ (ap (λ ds. filter (departs_as traffic) q.sent ++ ds) (cond-false (departs_as traffic (departure_at t x)) _ _ out) ∙ append-nil (filter (departs_as traffic) q.sent)) in
+    filter-append (departs_as traffic) q.sent (departure_at t x ∷ [])
+    ∙ (ap (λ ds. filter (departs_as traffic) q.sent ++ ds) (cond-false (departs_as traffic (departure_at t x)) _ _ out) ∙ append-nil (filter (departs_as traffic) q.sent)) in
     subst (λ (ds : List Departure). DepartInOrder (filter (is_of traffic) come) ds (filter (is_of traffic) (without_head x.traffic q.waiting))) (sym sent)
     (subst (λ (xs : List Arrival). DepartInOrder (filter (is_of traffic) come) (filter (departs_as traffic) q.sent) xs) (sym (filter-without_other traffic x.traffic q.waiting ne)) (o.each traffic))
 
@@ -376,15 +400,15 @@ order_with_start : (come : List Arrival) (t : ℕ) (q : Port) → IsInOrder come
 order_with_start come t q o =
     with_start_cases (IsInOrder come (suc t)) t q (λ _. o) (λ _. record { each = o.each; order = o.order; early = o.early })
     (λ x free e. record {
-        each = λ traffic. elim (cases_eq (traffic_number x.traffic) (traffic_number traffic)) [
-          | inl f ↦
-              subst (λ (kind : Traffic). DepartInOrder (filter (is_of kind) come) (filter (departs_as kind) (q.sent ++ departure_at t x ∷ [])) (filter (is_of kind) (without_head x.traffic q.waiting)))
-              (same_traffic x.traffic traffic f) (own_departs come t q x o e)
-          | inr ne ↦ other_departs come t q x traffic o ne
-        ];
-        order = pairs-without_head IsNotAfter x.traffic q.waiting o.order;
-        early = All-without_head (λ y. y.bit < suc t) x.traffic q.waiting o.early;
-      })
+      each = λ traffic. elim (cases_eq (traffic_number x.traffic) (traffic_number traffic)) [
+        | inl f ↦
+            subst (λ (kind : Traffic). DepartInOrder (filter (is_of kind) come) (filter (departs_as kind) (q.sent ++ departure_at t x ∷ [])) (filter (is_of kind) (without_head x.traffic q.waiting)))
+            (same_traffic x.traffic traffic f) (own_departs come t q x o e)
+        | inr ne ↦ other_departs come t q x traffic o ne
+      ];
+      order = pairs-without_head IsNotAfter x.traffic q.waiting o.order;
+      early = All-without_head (λ y. y.bit < suc t) x.traffic q.waiting o.early;
+    })
 
 come_none : (xs : List Arrival) → come_before xs 0 ≡ []
 come_none xs = filter_nothing (λ x. nat_lt x.bit 0) xs (λ k d l. le-ltb (get_or xs k d).bit 0 (omega arith))
@@ -399,14 +423,14 @@ order_at input zero valid =
     }
 order_at input (suc t) valid =
     let o : IsInOrder (come_before input.arrivals (suc t)) (suc t) (port_in input t) =
-        order_with_start (come_before input.arrivals (suc t)) t (with_arrivals input t (port_at input t)) (order_with_arrivals input t (port_at input t) valid (order_at input t valid)) in
+    order_with_start (come_before input.arrivals (suc t)) t (with_arrivals input t (port_at input t)) (order_with_arrivals input t (port_at input t) valid (order_at input t valid)) in
     record { each = o.each; order = o.order; early = o.early }
 
 pub in_order : (input : PortInput) (traffic : Traffic) → IsPortInput input
     → DepartInOrder (filter (is_of traffic) input.arrivals) (filter (departs_as traffic) (sent_of input)) (filter (is_of traffic) (left_of input))
 in_order input traffic valid =
     let all : come_before input.arrivals input.end ≡ input.arrivals =
-        filter_all (λ x. nat_lt x.bit input.end) input.arrivals (λ k d l. lt-ltb (get_or input.arrivals k d).bit input.end (valid.arrivals_in_time k d l)) in
+    filter_all (λ x. nat_lt x.bit input.end) input.arrivals (λ k d l. lt-ltb (get_or input.arrivals k d).bit input.end (valid.arrivals.in_time k d l)) in
     subst (λ (xs : List Arrival). DepartInOrder (filter (is_of traffic) xs) (filter (departs_as traffic) (sent_of input)) (filter (is_of traffic) (left_of input))) all
     ((order_at input input.end valid).each traffic)
 

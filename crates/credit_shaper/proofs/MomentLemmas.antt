@@ -1,7 +1,7 @@
 -- Lists in order of bit times: what lies before and after an index.
 use Rattle.std.proofs.Common.{◌≡◌, ℕ, zero, suc, ◌+◌, ◌-◌, ◌<◌, ◌≤◌, ◌⊎◌, List, [], ◌∷◌, length, get_or, take, refl, sym, ◌∙◌, ap, subst, arith, inl, inr, Bool, true, false, cond, ◌++◌, drop, eqb}
-use Rattle.std.specs.Prelude.{All, AllPairs, HoldsAt, filter, nat_le, ◌==◌}
-use Rattle.std.specs.List.{AllWithin}
+use Rattle.std.specs.Prelude.{All, AllPairs, HoldsAt, IsTrue, filter, nat_le, ◌==◌}
+use Rattle.std.specs.List.{AllWithin, AllAdjacentBelow}
 use Rattle.std.proofs.lemmas.Bool.{cases_lt, cases_eq, ne_eqb, eq-eqb, lt-leb, le-leb}
 use Rattle.std.proofs.lemmas.List.{get_or_default}
 use Rattle.std.proofs.lemmas.List.Elements.{All-head, All-tail}
@@ -78,18 +78,18 @@ filter_part p [] zero (suc n) up l before in_part after = absurd (omega (arith, 
 filter_part p (x ∷ xs) zero zero up l before in_part after =
     let out : p x ≡ false = after 0 x (omega arith) (omega arith) in
     let rest : [] ≡ filter p xs = filter_part p xs 0 0 (omega arith) (omega arith)
-        (λ k d a b. absurd (omega (arith, b))) (λ k d a b. absurd (omega (arith, b))) (λ k d a b. after (suc k) d (omega arith) (omega (arith, b))) in
+    (λ k d a b. absurd (omega (arith, b))) (λ k d a b. absurd (omega (arith, b))) (λ k d a b. after (suc k) d (omega arith) (omega (arith, b))) in
     rw out rest
 filter_part p (x ∷ xs) zero (suc n) up l before in_part after =
     let inside : p x ≡ true = in_part 0 x (omega arith) (omega arith) in
     let rest : take n xs ≡ filter p xs = filter_part p xs 0 n (omega arith) (omega (arith, l))
-        (λ k d a b. absurd (omega (arith, b))) (λ k d a b. in_part (suc k) d (omega arith) (omega (arith, b))) (λ k d a b. after (suc k) d (omega (arith, a)) (omega (arith, b))) in
+    (λ k d a b. absurd (omega (arith, b))) (λ k d a b. in_part (suc k) d (omega arith) (omega (arith, b))) (λ k d a b. after (suc k) d (omega (arith, a)) (omega (arith, b))) in
     rw inside (ap (λ ys. x ∷ ys) rest)
 filter_part p (x ∷ xs) (suc m) zero up l before in_part after = absurd (omega (arith, up))
 filter_part p (x ∷ xs) (suc m) (suc n) up l before in_part after =
     let out : p x ≡ false = before 0 x (omega arith) (omega arith) in
     let rest : take n xs ≡ take m xs ++ filter p xs = filter_part p xs m n (omega (arith, up)) (omega (arith, l))
-        (λ k d a b. before (suc k) d (omega arith) (omega (arith, b))) (λ k d a b. in_part (suc k) d (omega (arith, a)) (omega (arith, b))) (λ k d a b. after (suc k) d (omega (arith, a)) (omega (arith, b))) in
+    (λ k d a b. before (suc k) d (omega arith) (omega (arith, b))) (λ k d a b. in_part (suc k) d (omega (arith, a)) (omega (arith, b))) (λ k d a b. after (suc k) d (omega (arith, a)) (omega (arith, b))) in
     rw out (ap (λ ys. x ∷ ys) rest)
 
 -- the arrivals of a bit time are those between what was reached before it and by it
@@ -99,9 +99,9 @@ arrivals_join xs t m n low high =
     filter_part (λ x. x.bit == t) xs m n (reached_more arrival_bit xs t (t + 1) m n blank (omega arith) low high) high.within
     (λ k d a b. ne_eqb (get_or xs k d).bit t (λ e. let f : (get_or xs k d).bit < t = low.before k d a b in omega (arith, e, f)))
     (λ k d a b. eq-eqb (get_or xs k d).bit t
-      (let f : t ≤ (get_or xs k d).bit = low.later k d a (omega (arith, b, high.within)) in
-      let g : (get_or xs k d).bit < t + 1 = high.before k d (omega arith) b in
-      omega (arith, f, g)))
+    (let f : t ≤ (get_or xs k d).bit = low.later k d a (omega (arith, b, high.within)) in
+    let g : (get_or xs k d).bit < t + 1 = high.before k d (omega arith) b in
+    omega (arith, f, g)))
     (λ k d a b. ne_eqb (get_or xs k d).bit t (λ e. let f : t + 1 ≤ (get_or xs k d).bit = high.later k d a b in omega (arith, e, f)))
 
 -- where nothing passes a test nothing is kept
@@ -116,10 +116,10 @@ pub arrivals_none : (xs : List Arrival) (s t n k : ℕ) → IsReached arrival_bi
     → s ≤ k → k < t → arrivals_at xs k ≡ []
 arrivals_none xs s t n k low high from to =
     filter_nothing (λ x. x.bit == k) xs (λ i d b. ne_eqb (get_or xs i d).bit k (λ e.
-      elim (cases_lt i n) [
-        | inl l ↦ let f : (get_or xs i d).bit < s = low.before i d (omega arith) l in omega (arith, e, f, from)
-        | inr l ↦ let f : t ≤ (get_or xs i d).bit = high.later i d l b in omega (arith, e, f, to)
-      ]))
+    elim (cases_lt i n) [
+      | inl l ↦ let f : (get_or xs i d).bit < s = low.before i d (omega arith) l in omega (arith, e, f, from)
+      | inr l ↦ let f : t ≤ (get_or xs i d).bit = high.later i d l b in omega (arith, e, f, to)
+    ]))
 
 -- no change is in force where all are later
 change_none : (xs : List SlopeChange) (t : ℕ) (current : SlopeChange) → AllWithin (λ x. t < x.bit) xs 0 (length xs)
@@ -145,3 +145,25 @@ slopes_reached xs s t n k low high from to =
     last_change_is xs n k no_slopes low.within
     (λ i d a b. let f : (get_or xs i d).bit < s = low.before i d a b in omega (arith, f, from))
     (λ i d a b. let f : t ≤ (get_or xs i d).bit = high.later i d a b in omega (arith, f, to))
+
+-- where each is in order with the next, each is with each later one
+pairs_from_adjacent : {X : Type 0} (R : X → X → Type 0) → ((x y z : X) → R x y → R y z → R x z) → (xs : List X)
+    → AllAdjacentBelow R xs (length xs) → AllPairs R xs
+pairs_from_adjacent R trans xs next i zero d l h = absurd (omega (arith, l))
+pairs_from_adjacent R trans xs next i (suc j) d l h =
+    let step : R (get_or xs j d) (get_or xs (suc j) d) = subst (λ (k : ℕ). R (get_or xs j d) (get_or xs k d)) (omega arith) (next j d (omega (arith, h))) in
+    elim (cases_eq i j) [
+      | inl e ↦ subst (λ (k : ℕ). R (get_or xs k d) (get_or xs (suc j) d)) (sym e) step
+      | inr ne ↦ trans (get_or xs i d) (get_or xs j d) (get_or xs (suc j) d) (pairs_from_adjacent R trans xs next i j d (omega arith) (omega (arith, h))) step
+    ]
+
+not_after_trans : (x y z : Arrival) → IsNotAfter x y → IsNotAfter y z → IsNotAfter x z
+not_after_trans x y z (inl f) g = inl (omega (arith, f, not_after y z g))
+not_after_trans x y z (inr f) (inl g) = inl (omega (arith, f, g))
+not_after_trans x y z (inr f) (inr g) = inr (omega (arith, f, g), omega (arith, f, g))
+
+pub arrivals_ascend : (xs : List Arrival) → AllAdjacentBelow IsNotAfter xs (length xs) → AllPairs IsNotAfter xs
+arrivals_ascend = pairs_from_adjacent IsNotAfter not_after_trans
+
+pub changes_ascend : (xs : List SlopeChange) → AllAdjacentBelow (λ x y. x.bit < y.bit) xs (length xs) → AllPairs (λ x y. x.bit < y.bit) xs
+changes_ascend = pairs_from_adjacent (λ x y. x.bit < y.bit) (λ x y z f g. omega (arith, f, g))

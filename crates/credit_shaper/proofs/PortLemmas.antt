@@ -46,11 +46,11 @@ rate_at_most G10 = omega arith
 -- the slopes in force are below the rate
 pub slope_a_below : (input : PortInput) (t : ℕ) → IsPortInput input → (slopes_at input t).slope_a < bits_of input.rate
 slope_a_below input t valid =
-    last_change_all (λ c. c.slope_a < bits_of input.rate) t no_slopes input.slopes (some_rate input.rate) valid.slopes_a_below
+    last_change_all (λ c. c.slope_a < bits_of input.rate) t no_slopes input.slopes (some_rate input.rate) (λ k d l. (valid.slopes.below k d l).0)
 
 pub slope_b_below : (input : PortInput) (t : ℕ) → IsPortInput input → (slopes_at input t).slope_b < bits_of input.rate
 slope_b_below input t valid =
-    last_change_all (λ c. c.slope_b < bits_of input.rate) t no_slopes input.slopes (some_rate input.rate) valid.slopes_b_below
+    last_change_all (λ c. c.slope_b < bits_of input.rate) t no_slopes input.slopes (some_rate input.rate) (λ k d l. (valid.slopes.below k d l).1)
 
 -- a start changes no credit, slope or rate
 pub shaper-with_start : (t : ℕ) (p : Port) → (with_start t p).shaper ≡ p.shaper
@@ -94,7 +94,7 @@ credit_a_reach input (suc t) valid =
     subst (λ (s : Shaper). IsWithin (suc t * bits_of input.rate) (credit_after (bits_of s.rate) s.slope_a (does_send A p.line) (does_wait A p.waiting) s.credit_a))
     (sym (shaper-port_in input t))
     (reach_more (bits_of input.rate) (bits_of (port_at input t).shaper.rate) (slopes_at input t).slope_a t (does_send A p.line) (does_wait A p.waiting)
-      (port_at input t).shaper.credit_a (ap bits_of (rate_is input t)) (slope_a_below input t valid) (credit_a_reach input t valid))
+    (port_at input t).shaper.credit_a (ap bits_of (rate_is input t)) (slope_a_below input t valid) (credit_a_reach input t valid))
 
 pub credit_b_reach : (input : PortInput) (t : ℕ) → IsPortInput input → IsWithin (t * bits_of input.rate) (port_at input t).shaper.credit_b
 unfolding port_at
@@ -104,7 +104,7 @@ credit_b_reach input (suc t) valid =
     subst (λ (s : Shaper). IsWithin (suc t * bits_of input.rate) (credit_after (bits_of s.rate) s.slope_b (does_send B p.line) (does_wait B p.waiting) s.credit_b))
     (sym (shaper-port_in input t))
     (reach_more (bits_of input.rate) (bits_of (port_at input t).shaper.rate) (slopes_at input t).slope_b t (does_send B p.line) (does_wait B p.waiting)
-      (port_at input t).shaper.credit_b (ap bits_of (rate_is input t)) (slope_b_below input t valid) (credit_b_reach input t valid))
+    (port_at input t).shaper.credit_b (ap bits_of (rate_is input t)) (slope_b_below input t valid) (credit_b_reach input t valid))
 
 far_within : (rate t : ℕ) (c : ℤ) → rate ≤ 10000000000 → t ≤ 2 ^ 41 → IsWithin (t * rate) c → IsWithin (2 ^ 100) c
 far_within rate t c fast short within =

@@ -68,9 +68,9 @@ same_pending g h i [] same = refl
 same_pending g h i (x ∷ xs) same =
     let here : nat_le (head_index g x.traffic) i ≡ nat_le (head_index h x.traffic) i = rw add-zero at (same 0 (omega arith)) in
     let rest : pending g (i + 1) xs ≡ pending h (i + 1) xs =
-        same_pending g h (i + 1) xs (λ k l.
-          subst (λ (n : ℕ). nat_le (head_index g (get_or xs k blank).traffic) n ≡ nat_le (head_index h (get_or xs k blank).traffic) n)
-          (omega arith) (same (suc k) (omega (arith, l)))) in
+    same_pending g h (i + 1) xs (λ k l.
+    subst (λ (n : ℕ). nat_le (head_index g (get_or xs k blank).traffic) n ≡ nat_le (head_index h (get_or xs k blank).traffic) n)
+    (omega arith) (same (suc k) (omega (arith, l)))) in
     rw (here, rest) refl
 
 pub pending-append : (h : Heads) (i : ℕ) (xs ys : List Arrival)
@@ -78,9 +78,9 @@ pub pending-append : (h : Heads) (i : ℕ) (xs ys : List Arrival)
 pending-append h i [] ys = ap (λ n. pending h n ys) (omega arith)
 pending-append h i (x ∷ xs) ys =
     let more : pending h (i + 1) (xs ++ ys) ≡ pending h (i + 1) xs ++ pending h (i + suc (length xs)) ys =
-        pending-append h (i + 1) xs ys ∙ ap (λ n. pending h (i + 1) xs ++ pending h n ys) (omega arith) in
+    pending-append h (i + 1) xs ys ∙ ap (λ n. pending h (i + 1) xs ++ pending h n ys) (omega arith) in
     elim (nat_le (head_index h x.traffic) i) as (λ b. cond b (x ∷ pending h (i + 1) (xs ++ ys)) (pending h (i + 1) (xs ++ ys))
-      ≡ cond b (x ∷ pending h (i + 1) xs) (pending h (i + 1) xs) ++ pending h (i + suc (length xs)) ys) [
+    ≡ cond b (x ∷ pending h (i + 1) xs) (pending h (i + 1) xs) ++ pending h (i + suc (length xs)) ys) [
       | true ↦ ap (λ zs. x ∷ zs) more
       | false ↦ more
     ]
@@ -134,10 +134,10 @@ after_both : (g h : Heads) (i : ℕ) (xs : List Arrival) → ((traffic : Traffic
     → pending g i xs ≡ pending h i xs
 after_both g h i xs same =
     same_pending g h i xs (λ k l.
-      elim (same (get_or xs k blank).traffic) [
-        | inl e ↦ ap (λ n. nat_le n (i + k)) e
-        | inr low ↦ le-leb (head_index g (get_or xs k blank).traffic) (i + k) (omega (arith, low.0)) ∙ sym (le-leb (head_index h (get_or xs k blank).traffic) (i + k) (omega (arith, low.1)))
-      ])
+    elim (same (get_or xs k blank).traffic) [
+      | inl e ↦ ap (λ n. nat_le n (i + k)) e
+      | inr low ↦ le-leb (head_index g (get_or xs k blank).traffic) (i + k) (omega (arith, low.0)) ∙ sym (le-leb (head_index h (get_or xs k blank).traffic) (i + k) (omega (arith, low.1)))
+    ])
 
 -- without the first of a queue, the queue begins at the next index
 pub without_head-at : (h : Heads) (traffic : Traffic) (xs : List Arrival) (i j : ℕ) → head_index h traffic ≡ i + j
@@ -151,19 +151,19 @@ without_head-at h traffic (x ∷ xs) i zero e l here =
     let inside : nat_le (head_index h x.traffic) i ≡ true = le-leb (head_index h x.traffic) i (omega (arith, e, ap (head_index h) same)) in
     let out : nat_le (head_index g x.traffic) i ≡ false = lt-leb (head_index g x.traffic) i (omega (arith, put, ap (head_index g) same)) in
     let each : (other : Traffic) → (head_index h other ≡ head_index g other) ⊎ ((head_index h other ≤ i + 1) × (head_index g other ≤ i + 1)) =
-        λ other. elim (cases_eq (traffic_number other) (traffic_number traffic)) [
-          | inl f ↦ let one : other ≡ traffic = same_traffic other traffic f in
-              inr (omega (arith, e, ap (head_index h) one), omega (arith, put, ap (head_index g) one))
-          | inr ne ↦ inl (sym (head_index-other traffic other (i + 0 + 1) h ne))
-        ] in
+    λ other. elim (cases_eq (traffic_number other) (traffic_number traffic)) [
+      | inl f ↦ let one : other ≡ traffic = same_traffic other traffic f in
+          inr (omega (arith, e, ap (head_index h) one), omega (arith, put, ap (head_index g) one))
+      | inr ne ↦ inl (sym (head_index-other traffic other (i + 0 + 1) h ne))
+    ] in
     let rest : pending h (i + 1) xs ≡ pending g (i + 1) xs = after_both h g (i + 1) xs each in
     rw inside (rw (here, out) rest)
 without_head-at h traffic (x ∷ xs) i (suc j) e l here =
     let g : Heads = with_head_index traffic (i + suc j + 1) h in
     let put : head_index g traffic ≡ i + suc j + 1 = head_index-same traffic (i + suc j + 1) h in
     let rest : without_head traffic (pending h (i + 1) xs) ≡ pending g (i + 1) xs =
-        without_head-at h traffic xs (i + 1) j (omega (arith, e)) (omega (arith, l)) here
-        ∙ ap (λ n. pending (with_head_index traffic n h) (i + 1) xs) (omega arith) in
+    without_head-at h traffic xs (i + 1) j (omega (arith, e)) (omega (arith, l)) here
+    ∙ ap (λ n. pending (with_head_index traffic n h) (i + 1) xs) (omega arith) in
     elim (cases_eq (traffic_number x.traffic) (traffic_number traffic)) [
       | inl f ↦
           let same : x.traffic ≡ traffic = same_traffic x.traffic traffic f in
@@ -185,20 +185,20 @@ pub pending-settled : (g h : Heads) (arrivals : List Arrival) (came : ℕ) → c
     → pending h 0 (take came arrivals) ≡ pending g 0 (take came arrivals)
 pending-settled g h arrivals came within moved =
     same_pending h g 0 (take came arrivals) (λ k l.
-      let x : Arrival = get_or (take came arrivals) k blank in
-      let long : length (take came arrivals) ≡ came = length-take-le came arrivals within in
-      let read : x ≡ get_or arrivals k blank = get_or-take came arrivals k blank (omega (arith, long, l)) in
-      let skipped = moved x.traffic in
-      elim (cases_lt k (head_index g x.traffic)) [
-        | inl low ↦ lt-leb (head_index h x.traffic) (0 + k) (omega (arith, low, skipped.0)) ∙ sym (lt-leb (head_index g x.traffic) (0 + k) (omega (arith, low)))
-        | inr high ↦ elim (cases_lt k (head_index h x.traffic)) [
-          | inl between ↦
-              let other : is_of x.traffic (get_or arrivals k blank) ≡ false = skipped.1 k blank high between in
-              let own : is_of x.traffic x ≡ true = eq-eqb (traffic_number x.traffic) (traffic_number x.traffic) refl in
-              absurd (false≢true (sym other ∙ (ap (is_of x.traffic) (sym read) ∙ own)))
-          | inr over ↦ le-leb (head_index h x.traffic) (0 + k) (omega (arith, over)) ∙ sym (le-leb (head_index g x.traffic) (0 + k) (omega (arith, high)))
-        ]
-      ])
+    let x : Arrival = get_or (take came arrivals) k blank in
+    let long : length (take came arrivals) ≡ came = length-take-le came arrivals within in
+    let read : x ≡ get_or arrivals k blank = get_or-take came arrivals k blank (omega (arith, long, l)) in
+    let skipped = moved x.traffic in
+    elim (cases_lt k (head_index g x.traffic)) [
+      | inl low ↦ lt-leb (head_index h x.traffic) (0 + k) (omega (arith, low, skipped.0)) ∙ sym (lt-leb (head_index g x.traffic) (0 + k) (omega (arith, low)))
+      | inr high ↦ elim (cases_lt k (head_index h x.traffic)) [
+        | inl between ↦
+            let other : is_of x.traffic (get_or arrivals k blank) ≡ false = skipped.1 k blank high between in
+            let own : is_of x.traffic x ≡ true = eq-eqb (traffic_number x.traffic) (traffic_number x.traffic) refl in
+            absurd (false≢true (sym other ∙ (ap (is_of x.traffic) (sym read) ∙ own)))
+        | inr over ↦ le-leb (head_index h x.traffic) (0 + k) (omega (arith, over)) ∙ sym (le-leb (head_index g x.traffic) (0 + k) (omega (arith, high)))
+      ]
+    ])
 
 -- the first frame of a queue, where there is one
 pub frame_at : (h : Heads) (arrivals : List Arrival) (came : ℕ) (traffic : Traffic) → AreHeads arrivals came h
@@ -241,17 +241,17 @@ without_first h arrivals came x n heads within l first up others =
     let read : get_or (take came arrivals) j blank ≡ get_or arrivals j blank = get_or-take came arrivals j blank l in
     let here : is_of traffic (get_or arrivals j blank) ≡ true = (heads traffic).1 l blank in
     let moved : (other : Traffic) → (head_index g other ≤ head_index (with_head_index traffic n h) other)
-        × AllWithin (λ y. is_of other y ≡ false) arrivals (head_index g other) (head_index (with_head_index traffic n h) other) =
-        λ other. elim (cases_eq (traffic_number other) (traffic_number traffic)) [
-          | inl f ↦
-              subst (λ (t : Traffic). (head_index g t ≤ head_index (with_head_index traffic n h) t)
-                × AllWithin (λ y. is_of t y ≡ false) arrivals (head_index g t) (head_index (with_head_index traffic n h) t))
-              (sym (same_traffic other traffic f))
-              (rw (head_index-same traffic (j + 1) h, head_index-same traffic n h) (up, others))
-          | inr ne ↦
-              rw (head_index-other traffic other (j + 1) h ne, head_index-other traffic other n h ne)
-              (omega arith, λ k d from to. absurd (omega (arith, from, to)))
-        ] in
+    × AllWithin (λ y. is_of other y ≡ false) arrivals (head_index g other) (head_index (with_head_index traffic n h) other) =
+    λ other. elim (cases_eq (traffic_number other) (traffic_number traffic)) [
+      | inl f ↦
+          subst (λ (t : Traffic). (head_index g t ≤ head_index (with_head_index traffic n h) t)
+          × AllWithin (λ y. is_of t y ≡ false) arrivals (head_index g t) (head_index (with_head_index traffic n h) t))
+          (sym (same_traffic other traffic f))
+          (rw (head_index-same traffic (j + 1) h, head_index-same traffic n h) (up, others))
+      | inr ne ↦
+          rw (head_index-other traffic other (j + 1) h ne, head_index-other traffic other n h ne)
+          (omega arith, λ k d from to. absurd (omega (arith, from, to)))
+    ] in
     pending-settled g (with_head_index traffic n h) arrivals came within moved
     ∙ sym (without_head-at h traffic (take came arrivals) 0 j (omega arith) (omega (arith, long, l)) (ap (is_of traffic) read ∙ here)
-      ∙ ap (λ k. pending (with_head_index traffic k h) 0 (take came arrivals)) (omega arith))
+    ∙ ap (λ k. pending (with_head_index traffic k h) 0 (take came arrivals)) (omega arith))

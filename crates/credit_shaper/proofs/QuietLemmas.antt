@@ -39,7 +39,7 @@ start_busy t p busy = cond-false (nat_le p.free_from t) _ _ (lt-leb p.free_from 
 start_idle : (t : ℕ) (p : Port) → p.line ≡ Free → head_of (turn_of p.shaper p.waiting) p.waiting ≡ None → with_start t p ≡ p
 start_idle t p free none =
     let rest : starts t p (head_of (turn_of p.shaper p.waiting) p.waiting) ≡ p =
-        ap (starts t p) none ∙ ap (λ (l : Line). record p { line = l }) (sym free) in
+    ap (starts t p) none ∙ ap (λ (l : Line). record p { line = l }) (sym free) in
     elim (nat_le p.free_from t) as (λ b. cond b (starts t p (head_of (turn_of p.shaper p.waiting) p.waiting)) p ≡ p) [ true ↦ rest | false ↦ refl ]
 
 -- one step more
@@ -67,8 +67,8 @@ stretch input t (suc n) p here quiet =
     let before : port_at input (t + suc n) ≡ jumped (suc n) p = stretch input t n p here (λ k some l. quiet k some (omega (arith, l))) in
     ap (port_at input) one
     ∙ (port_at_next input (t + suc n)
-      ∙ (ap (λ q. with_credits (within_bit input (t + suc n) q)) before
-        ∙ (ap with_credits (quiet (suc n) (omega arith) (omega arith)) ∙ jumped_more (suc n) p)))
+    ∙ (ap (λ q. with_credits (within_bit input (t + suc n) q)) before
+    ∙ (ap with_credits (quiet (suc n) (omega arith) (omega arith)) ∙ jumped_more (suc n) p)))
 
 not_zero : (c : ℤ) → c <ℤ pos 0 → int_le (pos 0) c ≡ false
 not_zero (pos n) below = absurd (omega (arith, ints, below))
@@ -101,13 +101,13 @@ idle_start arrivals sent trace t n heads within idle =
     let wb : does_wait B p.waiting ≡ has_frame trace B = waits arrivals trace B heads within in
     let is = after_bits_is n trace.line (does_wait A p.waiting) (does_wait B p.waiting) trace.shaper in
     let a : (does_wait A p.waiting && int_le (pos 0) s.credit_a) ≡ false =
-        rw (ap (λ r. r.credit_a) is, idle.line, wa) (no_turn_for (has_frame trace A) (bits_of trace.shaper.rate) trace.shaper.slope_a n trace.shaper.credit_a idle.class_a) in
+    rw (ap (λ r. r.credit_a) is, idle.line, wa) (no_turn_for (has_frame trace A) (bits_of trace.shaper.rate) trace.shaper.slope_a n trace.shaper.credit_a idle.class_a) in
     let b : (does_wait B p.waiting && int_le (pos 0) s.credit_b) ≡ false =
-        rw (ap (λ r. r.credit_b) is, idle.line, wb) (no_turn_for (has_frame trace B) (bits_of trace.shaper.rate) trace.shaper.slope_b n trace.shaper.credit_b idle.class_b) in
+    rw (ap (λ r. r.credit_b) is, idle.line, wb) (no_turn_for (has_frame trace B) (bits_of trace.shaper.rate) trace.shaper.slope_b n trace.shaper.credit_b idle.class_b) in
     let turn : turn_of s p.waiting ≡ Other =
-        cond-false (does_wait A p.waiting && int_le (pos 0) s.credit_a) A _ a ∙ cond-false (does_wait B p.waiting && int_le (pos 0) s.credit_b) B Other b in
+    cond-false (does_wait A p.waiting && int_le (pos 0) s.credit_a) A _ a ∙ cond-false (does_wait B p.waiting && int_le (pos 0) s.credit_b) B Other b in
     let none : head_of (turn_of s p.waiting) p.waiting ≡ None =
-        ap (λ traffic. head_of traffic p.waiting) turn ∙ no_head Other p.waiting (waits arrivals trace Other heads within ∙ idle.other) in
+    ap (λ traffic. head_of traffic p.waiting) turn ∙ no_head Other p.waiting (waits arrivals trace Other heads within ∙ idle.other) in
     start_idle t (jumped n p) idle.line none
 
 -- up to the next moment each bit time leaves the port alone
@@ -119,13 +119,13 @@ quiet_bit input sent trace next k heads now later quiet some l =
     let p : Port = port_of input.arrivals sent trace in
     let is = after_bits_is k trace.line (does_wait A p.waiting) (does_wait B p.waiting) trace.shaper in
     let none : arrivals_at input.arrivals (trace.bit + k) ≡ [] =
-        arrivals_none input.arrivals (trace.bit + 1) next trace.came (trace.bit + k) now.arrivals later.arrivals (omega (arith, some)) l in
+    arrivals_none input.arrivals (trace.bit + 1) next trace.came (trace.bit + k) now.arrivals later.arrivals (omega (arith, some)) l in
     let force = slopes_reached input.slopes (trace.bit + 1) next trace.changed (trace.bit + k) now.changes later.changes (omega arith) l in
     let start : with_start (trace.bit + k) (jumped k p) ≡ jumped k p =
-        elim quiet [
-          | inl busy ↦ start_busy (trace.bit + k) (jumped k p) (omega (arith, busy, l))
-          | inr idle ↦ idle_start input.arrivals sent trace (trace.bit + k) k heads now.arrivals.within (idle k l)
-        ] in
+    elim quiet [
+      | inl busy ↦ start_busy (trace.bit + k) (jumped k p) (omega (arith, busy, l))
+      | inr idle ↦ idle_start input.arrivals sent trace (trace.bit + k) k heads now.arrivals.within (idle k l)
+    ] in
     within_quiet input (trace.bit + k) (jumped k p) none
     (ap (λ c. c.slope_a) force ∙ (sym now.slope_a ∙ sym (ap (λ r. r.slope_a) is)))
     (ap (λ c. c.slope_b) force ∙ (sym now.slope_b ∙ sym (ap (λ r. r.slope_b) is)))
@@ -145,5 +145,5 @@ moved_port input sent trace next heads now later quiet l here =
     let wb : does_wait B p.waiting ≡ has_frame trace B = waits input.arrivals trace B heads now.arrivals.within in
     let moved : port_of input.arrivals sent (moved_to next (next - trace.bit) trace) ≡ jumped (next - trace.bit) p = rw (wa, wb) refl in
     moved ∙ (ap (λ m. jumped m p) bits
-      ∙ (sym (stretch input trace.bit n p (sym here) (λ k some h. quiet_bit input sent trace next k heads now later quiet some (omega (arith, h, at))))
-        ∙ ap (port_at input) at))
+    ∙ (sym (stretch input trace.bit n p (sym here) (λ k some h. quiet_bit input sent trace next k heads now later quiet some (omega (arith, h, at))))
+    ∙ ap (port_at input) at))

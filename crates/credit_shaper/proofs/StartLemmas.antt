@@ -24,7 +24,7 @@ pub start_found : (t : ℕ) (p : Port) (x : Arrival)
     → with_start t p ≡ starts t p (Some x)
 start_found t p x =
     elim (nat_le p.free_from t) as (λ b. Some x ≡ cond b (head_of (turn_of p.shaper p.waiting) p.waiting) None
-      → cond b (starts t p (head_of (turn_of p.shaper p.waiting) p.waiting)) p ≡ starts t p (Some x)) [
+    → cond b (starts t p (head_of (turn_of p.shaper p.waiting) p.waiting)) p ≡ starts t p (Some x)) [
       | true ↦ λ e. ap (starts t p) (sym e)
       | false ↦ λ e. cc
     ]
@@ -34,7 +34,7 @@ pub start_none : (t : ℕ) (p : Port)
     → with_start t p ≡ (if nat_le p.free_from t then record p { line = Free } else p)
 start_none t p =
     elim (nat_le p.free_from t) as (λ b. None ≡ cond b (head_of (turn_of p.shaper p.waiting) p.waiting) None
-      → cond b (starts t p (head_of (turn_of p.shaper p.waiting) p.waiting)) p ≡ cond b (record p { line = Free }) p) [
+    → cond b (starts t p (head_of (turn_of p.shaper p.waiting) p.waiting)) p ≡ cond b (record p { line = Free }) p) [
       | true ↦ λ e. ap (starts t p) (sym e)
       | false ↦ λ e. refl
     ]
@@ -42,17 +42,17 @@ start_none t p =
 -- a trace at rest stands for a port at rest
 pub port_at_rest : (arrivals : List Arrival) (sent : List Departure) (trace : PortTrace)
     → port_of arrivals sent (if nat_le trace.free_from trace.bit then record trace { line = Free } else trace)
-      ≡ (if nat_le trace.free_from trace.bit then record (port_of arrivals sent trace) { line = Free } else port_of arrivals sent trace)
+    ≡ (if nat_le trace.free_from trace.bit then record (port_of arrivals sent trace) { line = Free } else port_of arrivals sent trace)
 port_at_rest arrivals sent trace =
     elim (nat_le trace.free_from trace.bit) as (λ b. port_of arrivals sent (cond b (record trace { line = Free }) trace)
-      ≡ cond b (record (port_of arrivals sent trace) { line = Free }) (port_of arrivals sent trace)) [ true ↦ refl | false ↦ refl ]
+    ≡ cond b (record (port_of arrivals sent trace) { line = Free }) (port_of arrivals sent trace)) [ true ↦ refl | false ↦ refl ]
 
 -- a frame of the arrivals has bits
 pub some_bits : (input : PortInput) (trace : PortTrace) (x : Arrival) → IsPortInput input → trace.came ≤ length input.arrivals
     → IsFirst input.arrivals trace x → 336 ≤ x.bits
 some_bits input trace x valid within first =
     let size : 336 ≤ (get_or input.arrivals (head_index trace.heads x.traffic) blank).bits =
-        (valid.frame_sizes (head_index trace.heads x.traffic) blank (omega (arith, first.came, within))).0 in
+    (valid.arrivals.sizes (head_index trace.heads x.traffic) blank (omega (arith, first.came, within))).0 in
     omega (arith, size, ap (λ y. y.bits) (first.here blank))
 
 -- where the queue whose turn it is has no frame, neither has the last, and a class that waits has no credit
@@ -76,10 +76,10 @@ no_turn trace =
         | inl y ↦ λ h. absurd (true≢false (sym (and_parts (has_frame trace B) (int_le (pos 0) trace.shaper.credit_b) y).0
             ∙ (ap (has_frame trace) (sym (cond-false a A (cond b B Other) n ∙ cond-true b B Other y)) ∙ h)))
         | inr m ↦ λ h. record {
-            class_a = short_of (has_frame trace A) trace.shaper.credit_a n;
-            class_b = short_of (has_frame trace B) trace.shaper.credit_b m;
-            other = ap (has_frame trace) (sym (cond-false a A (cond b B Other) n ∙ cond-false b B Other m)) ∙ h;
-          }
+          class_a = short_of (has_frame trace A) trace.shaper.credit_a n;
+          class_b = short_of (has_frame trace B) trace.shaper.credit_b m;
+          other = ap (has_frame trace) (sym (cond-false a A (cond b B Other) n ∙ cond-false b B Other m)) ∙ h;
+        }
       ]
     ]
 
@@ -93,12 +93,12 @@ pub rest_idle : (arrivals : List Arrival) (trace rested : PortTrace) → AreHead
     → rested.free_from ≤ trace.bit → IsIdle rested 0
 rest_idle arrivals trace rested heads within none is free =
     let same : rested.free_from ≡ trace.free_from =
-        ap (λ r. r.free_from) is ∙ elim (nat_le trace.free_from trace.bit) as (λ b. (cond b (record trace { line = Free }) trace).free_from ≡ trace.free_from) [ true ↦ refl | false ↦ refl ] in
+    ap (λ r. r.free_from) is ∙ elim (nat_le trace.free_from trace.bit) as (λ b. (cond b (record trace { line = Free }) trace).free_from ≡ trace.free_from) [ true ↦ refl | false ↦ refl ] in
     let now : trace.free_from ≤ trace.bit = omega (arith, same, free) in
     let on : rested ≡ record trace { line = Free } = is ∙ cond-true (nat_le trace.free_from trace.bit) _ _ (le-leb trace.free_from trace.bit now) in
     let empty : has_frame trace (turn_in trace) ≡ false =
-        sym (waits_is trace.heads arrivals trace.came (turn_in trace) heads within)
-        ∙ ap is_some (sym (free_line arrivals trace heads within now) ∙ sym none) in
+    sym (waits_is trace.heads arrivals trace.came (turn_in trace) heads within)
+    ∙ ap is_some (sym (free_line arrivals trace heads within now) ∙ sym none) in
     let turn : HasNoTurn trace = no_turn trace empty in
     subst (λ (r : PortTrace). IsIdle r 0) (sym on)
     (record {

@@ -48,14 +48,14 @@ pub frame_found : (arrivals : List Arrival) (trace : PortTrace) (i : ℕ) → Ar
 frame_found arrivals trace i heads within free e l =
     ap (λ k. Some (get_or arrivals k blank)) e
     ∙ sym (free_line arrivals trace heads within free
-      ∙ frame_at trace.heads arrivals trace.came (turn_in trace) heads within (omega (arith, e, l)))
+    ∙ frame_at trace.heads arrivals trace.came (turn_in trace) heads within (omega (arith, e, l)))
 
 pub frame_missing : (arrivals : List Arrival) (trace : PortTrace) (i : ℕ) → AreHeads arrivals trace.came trace.heads
     → trace.came ≤ length arrivals → trace.free_from ≤ trace.bit → i ≡ head_index trace.heads (turn_in trace)
     → trace.came ≤ i → None ≡ frame_of arrivals trace
 frame_missing arrivals trace i heads within free e l =
     sym (free_line arrivals trace heads within free
-      ∙ frame_none trace.heads arrivals trace.came (turn_in trace) within (omega (arith, e, l)))
+    ∙ frame_none trace.heads arrivals trace.came (turn_in trace) within (omega (arith, e, l)))
 
 -- the step at a bit time's beginning
 pub arrivals_step : (input : PortInput) (trace : PortTrace) (came changed : ℕ) (heads : Heads) (slopes : SlopeChange)
@@ -64,20 +64,22 @@ pub arrivals_step : (input : PortInput) (trace : PortTrace) (came changed : ℕ)
     → slopes ≡ newest no_slopes (take changed input.slopes)
     → pending heads 0 (take came input.arrivals) ≡ pending trace.heads 0 (take came input.arrivals)
     → port_of input.arrivals sent (record trace {
-        came = came; changed = changed; heads = heads;
-        shaper = record trace.shaper { slope_a = slopes.slope_a; slope_b = slopes.slope_b };
-      })
-      ≡ with_arrivals input trace.bit (port_of input.arrivals sent trace)
+      came = came;
+      changed = changed;
+      heads = heads;
+      shaper = record trace.shaper { slope_a = slopes.slope_a; slope_b = slopes.slope_b };
+    })
+    ≡ with_arrivals input trace.bit (port_of input.arrivals sent trace)
 arrivals_step input trace came changed heads slopes sent reached arrived changes new same =
     let long : length (take trace.came input.arrivals) ≡ trace.came = length-take-le trace.came input.arrivals reached.arrivals.within in
     let join : pending trace.heads 0 (take trace.came input.arrivals ++ arrivals_at input.arrivals trace.bit)
-        ≡ waiting_of input.arrivals trace ++ arrivals_at input.arrivals trace.bit =
-        pending-join trace.heads (take trace.came input.arrivals) (arrivals_at input.arrivals trace.bit)
-        (λ traffic. omega (arith, long, reached.heads traffic)) in
+    ≡ waiting_of input.arrivals trace ++ arrivals_at input.arrivals trace.bit =
+    pending-join trace.heads (take trace.came input.arrivals) (arrivals_at input.arrivals trace.bit)
+    (λ traffic. omega (arith, long, reached.heads traffic)) in
     let waiting : pending heads 0 (take came input.arrivals) ≡ waiting_of input.arrivals trace ++ arrivals_at input.arrivals trace.bit =
-        same ∙ ap (pending trace.heads 0) (arrivals_join input.arrivals trace.bit trace.came came reached.arrivals arrived) ∙ join in
+    same ∙ ap (pending trace.heads 0) (arrivals_join input.arrivals trace.bit trace.came came reached.arrivals arrived) ∙ join in
     let force : slopes_at input trace.bit ≡ slopes =
-        slopes_reached input.slopes (trace.bit + 1) (trace.bit + 1) changed trace.bit changes changes (omega arith) (omega arith) ∙ sym new in
+    slopes_reached input.slopes (trace.bit + 1) (trace.bit + 1) changed trace.bit changes changes (omega arith) (omega arith) ∙ sym new in
     rw (waiting, force) refl
 
 -- what has come stays so up to a later bit time, where the next is no earlier
@@ -127,7 +129,7 @@ all_come input trace valid reached =
     elim (cases_lt trace.came (length input.arrivals)) [
       | inl l ↦
           let late : input.end ≤ (get_or input.arrivals trace.came blank).bit = reached.arrivals.later trace.came blank (omega arith) l in
-          let early : (get_or input.arrivals trace.came blank).bit < input.end = valid.arrivals_in_time trace.came blank l in
+          let early : (get_or input.arrivals trace.came blank).bit < input.end = valid.arrivals.in_time trace.came blank l in
           absurd (omega (arith, late, early))
       | inr l ↦ l
     ]
@@ -140,9 +142,9 @@ pub departures_found : (input : PortInput) (trace : PortTrace) (sent : List Depa
 departures_found input trace sent left valid end reached port is =
     let last : port_of input.arrivals sent trace ≡ port_at input input.end = port ∙ ap (port_at input) end in
     let all : take trace.came input.arrivals ≡ input.arrivals =
-        take_all trace.came input.arrivals (all_come input trace valid (subst (λ (t : ℕ). HasReached input t trace) end reached)) in
+    take_all trace.came input.arrivals (all_come input trace valid (subst (λ (t : ℕ). HasReached input t trace) end reached)) in
     let rest : left ≡ map (λ x. x.frame) (port_at input input.end).waiting =
-        is ∙ (ap (λ xs. map (λ x. x.frame) (pending trace.heads 0 xs)) (sym all) ∙ ap (λ p. map (λ x. x.frame) p.waiting) last) in
+    is ∙ (ap (λ xs. map (λ x. x.frame) (pending trace.heads 0 xs)) (sym all) ∙ ap (λ p. map (λ x. x.frame) p.waiting) last) in
     rw (rest, ap (λ p. p.sent) last) refl
 
 pub port_at_start : (input : PortInput) → fresh_port input ≡ port_at input 0

@@ -32,12 +32,12 @@ spent input t =
     let q : Port = port_in input t in
     let is = shaper-port_in input t in
     subst (λ (s : Shaper). (credit_after (bits_of s.rate) s.slope_a (does_send A q.line) (does_wait A q.waiting) s.credit_a
-      +ℤ pos (bits_of input.rate * cond (does_send A q.line) 1 0)) ≤ℤ (credit_a_at input t +ℤ pos (slope_a_at input t)))
+    +ℤ pos (bits_of input.rate * cond (does_send A q.line) 1 0)) ≤ℤ (credit_a_at input t +ℤ pos (slope_a_at input t)))
     (sym is)
     (subst (λ (r : Rate). (credit_after (bits_of r) (slope_a_at input t) (does_send A q.line) (does_wait A q.waiting) (credit_a_at input t)
-        +ℤ pos (bits_of input.rate * cond (does_send A q.line) 1 0)) ≤ℤ (credit_a_at input t +ℤ pos (slope_a_at input t)))
-      (sym (rate_is input t))
-      (spent_by (bits_of input.rate) (slope_a_at input t) (does_send A q.line) (does_wait A q.waiting) (credit_a_at input t)))
+    +ℤ pos (bits_of input.rate * cond (does_send A q.line) 1 0)) ≤ℤ (credit_a_at input t +ℤ pos (slope_a_at input t)))
+    (sym (rate_is input t))
+    (spent_by (bits_of input.rate) (slope_a_at input t) (does_send A q.line) (does_wait A q.waiting) (credit_a_at input t)))
 
 mul_add : (k m n : ℕ) → k * (m + n) ≡ k * m + k * n
 mul_add k m n = omega arith
@@ -53,7 +53,7 @@ risen_sum w x y z a b s first rest last e = omega (arith, ints, first, rest, las
 -- what class A takes is what the slopes give, and what the credit falls by
 spent_over : (input : PortInput) (from n : ℕ)
     → (credit_a_at input (from + n) +ℤ pos (bits_of input.rate * count_by (is_on_line input A) (range_with_len from n)))
-      ≤ℤ (credit_a_at input from +ℤ pos (sum_by (slope_a_at input) (range_with_len from n)))
+    ≤ℤ (credit_a_at input from +ℤ pos (sum_by (slope_a_at input) (range_with_len from n)))
 spent_over input from zero =
     let at : from + 0 ≡ from = omega arith in
     let same : credit_a_at input (from + 0) ≡ credit_a_at input from = ap (credit_a_at input) at in
@@ -90,8 +90,10 @@ whole_run input to some =
     record {
       some = some;
       from_zero = refl;
-      slopes = λ t _ _. (omega arith,
-        last_change_all (λ c. c.slope_a ≤ greatest_slope_a input.slopes) t no_slopes input.slopes (omega arith) (greatest_bounds input.slopes));
+      slopes = λ t _ _. (
+        omega arith,
+        last_change_all (λ c. c.slope_a ≤ greatest_slope_a input.slopes) t no_slopes input.slopes (omega arith) (greatest_bounds input.slopes),
+      );
     }
 
 within_window : (rate bits area : ℕ) (lo hi x y : ℤ) → (y +ℤ pos (rate * bits)) ≤ℤ (x +ℤ pos area) → x ≤ℤ hi → lo ≤ℤ y
@@ -128,9 +130,9 @@ waited_over input from (suc n) wait =
     let here = wait from (omega arith) (omega arith) in
     let one : from + 1 ≡ suc from = omega arith in
     let first : credit_a_at input (from + 1) ≡ credit_a_at input from +ℤ pos (slope_a_at input from) =
-        ap (credit_a_at input) one ∙ waited input from here.0 here.1 in
+    ap (credit_a_at input) one ∙ waited input from here.0 here.1 in
     let rest : credit_a_at input (from + 1 + n) ≡ credit_a_at input (from + 1) +ℤ pos (sum_by (slope_a_at input) (range_with_len (from + 1) n)) =
-        waited_over input (from + 1) n (λ t low high. wait t (omega (arith, low)) (omega (arith, high))) in
+    waited_over input (from + 1) n (λ t low high. wait t (omega (arith, low)) (omega (arith, high))) in
     let last : credit_a_at input (from + suc n) ≡ credit_a_at input (from + 1 + n) = ap (credit_a_at input) (omega arith) in
     let area = sum_by-cons (slope_a_at input) from (range_with_len (from + 1) n) in
     risen_sum (credit_a_at input from) (credit_a_at input (from + 1)) (credit_a_at input (from + 1 + n)) (credit_a_at input (from + suc n))

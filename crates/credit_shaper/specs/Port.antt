@@ -1,5 +1,6 @@
 -- What a port's shaper is given, and when it is well formed.
 use Rattle.std.specs.Prelude.{◌≡◌, ℕ, ◌+◌, ◌^◌, ◌<◌, ◌≤◌, ◌⊎◌, Bool, ◌==◌, nat_le, List, [], ◌∷◌, filter, All, AllPairs, if◌then◌else◌}
+use Rattle.srp_base.specs.declared.bandwidth.Rate.{Rate}
 use Rattle.srp_base.specs.Bandwidth.{bits_of}
 use Rattle.credit_shaper.specs.declared.shaper.Traffic.{Traffic}
 use Rattle.credit_shaper.specs.declared.port.SlopeChange.{SlopeChange}
@@ -20,16 +21,23 @@ abbrev pub BeginsAtZero : List SlopeChange → Type 0
 BeginsAtZero [] = ⊥
 BeginsAtZero (x ∷ xs) = x.bit ≡ 0
 
+-- the slope changes begin at bit time 0 and ascend strictly, and each slope is below the rate
+pub record AreSlopes (rate : Rate) (slopes : List SlopeChange) : Type 0 where
+  pub begin : BeginsAtZero slopes
+  pub ascend : AllPairs (λ x y. x.bit < y.bit) slopes
+  pub below : All (λ c. (c.slope_a < bits_of rate) × (c.slope_b < bits_of rate)) slopes
+
+-- the arrivals ascend by bit time and then by frame number, are before the end, and are of a frame's size
+pub record AreArrivals (end : ℕ) (arrivals : List Arrival) : Type 0 where
+  pub ascend : AllPairs IsNotAfter arrivals
+  pub in_time : All (λ x. x.bit < end) arrivals
+  pub sizes : All (λ x. IsFrameSize x.bits) arrivals
+
 -- what a port's run asks for of its input
 pub record IsPortInput (input : PortInput) : Type 0 where
-  pub slopes_begin : BeginsAtZero input.slopes
-  pub slopes_ascend : AllPairs (λ x y. x.bit < y.bit) input.slopes
-  pub slopes_a_below : All (λ c. c.slope_a < bits_of input.rate) input.slopes
-  pub slopes_b_below : All (λ c. c.slope_b < bits_of input.rate) input.slopes
-  pub arrivals_ascend : AllPairs IsNotAfter input.arrivals
-  pub arrivals_in_time : All (λ x. x.bit < input.end) input.arrivals
-  pub frame_sizes : All (λ x. IsFrameSize x.bits) input.arrivals
-  pub end_in_range : input.end ≤ 2 ^ 41
+  pub slopes : AreSlopes input.rate input.slopes
+  pub arrivals : AreArrivals input.end input.arrivals
+  pub end : input.end ≤ 2 ^ 41
 
 -- whether a frame is of a traffic
 abbrev pub is_of : Traffic → Arrival → Bool

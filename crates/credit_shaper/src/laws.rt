@@ -1,7 +1,7 @@
 //! What is true of every run, over the definitions that the contract of `PortTrace::run` cites. Each is a
 //! function that does nothing; calling it brings the law to a proof.
 
-ghost use Rattle.std.specs.Prelude.{◌≡◌, ℕ, ◌<◌, ◌≤◌, true, false, map, filter, All, AllPairs};
+ghost use Rattle.std.specs.Prelude.{◌≡◌, ℕ, ◌+◌, ◌<◌, ◌≤◌, true, false, map, filter, All, AllPairs};
 ghost use Rattle.std.specs.List.{list_any};
 ghost use Rattle.srp_base.specs.Bandwidth.{bits_of};
 ghost use Rattle.credit_shaper.specs.declared.shaper.Traffic.{Traffic};
@@ -22,7 +22,7 @@ pub fn what_leaves_is_sent_or_left()
 pub fn frames_depart_in_order()
     ensures { (input : PortInput) (traffic : Traffic) → IsPortInput input
         → DepartInOrder (filter (is_of traffic) input.arrivals) (filter (departs_as traffic) (sent_of input))
-            (filter (is_of traffic) (left_of input)) }
+        (filter (is_of traffic) (left_of input)) }
 {}
 
 /// The frames that are left are in order of arrival.
@@ -30,9 +30,12 @@ pub fn left_frames_are_in_order()
     ensures { (input : PortInput) → IsPortInput input → AllPairs IsNotAfter (left_of input) }
 {}
 
-/// One frame has left the line before the next starts, and each starts before the end.
+/// One frame has left the line before the next starts, each takes the bits of a frame, and each starts before
+/// the end.
 pub fn departures_follow_one_another()
     ensures apart { (input : PortInput) → IsPortInput input → AllPairs (λ d e. d.end ≤ e.start) (sent_of input) }
+    ensures sized { (input : PortInput) → IsPortInput input
+        → All (λ d. (d.start + 336 ≤ d.end) × (d.end ≤ d.start + 12336)) (sent_of input) }
     ensures in_time { (input : PortInput) → All (λ d. d.start < input.end) (sent_of input) }
 {}
 

@@ -1,6 +1,8 @@
 //! What a port's shaper is given, and what leaves the port.
 
-ghost use Rattle.std.specs.Prelude.{◌≡◌, ◌^◌, ◌<◌};
+ghost use Rattle.std.specs.Prelude.{◌≡◌, ◌^◌, ◌<◌, ◌↔◌, IsTrue, All, AllPairs};
+ghost use Rattle.srp_base.specs.Bandwidth.{bits_of};
+ghost use Rattle.credit_shaper.specs.Port.{BeginsAtZero, IsNotAfter, IsFrameSize, AreSlopes, AreArrivals};
 ghost use Rattle.credit_shaper.specs.Trace.{departure_at};
 
 use crate::shaper::Traffic;
@@ -78,4 +80,84 @@ impl Arrival {
             end: bit + u64::from(self.bits),
         }
     }
+}
+
+impl PortInput {
+    ghost use Rattle.credit_shaper.specs.Port.{IsPortInput};
+
+    /// Whether a run may be asked for: whether the slopes and the arrivals are in order and in their ranges.
+    pub fn is_valid(&self) -> bool
+        ensures { IsTrue result ↔ IsPortInput self.now }
+    {
+        are_slopes(self.rate, self.slopes.as_slice())
+            && are_arrivals(self.end, self.arrivals.as_slice())
+            && self.end <= 1 << 41
+    }
+}
+
+fn are_slopes(rate: Rate, slopes: &[SlopeChange]) -> bool
+    ensures { IsTrue result ↔ AreSlopes rate slopes.now }
+{
+    begin_at_zero(slopes) && do_changes_ascend(slopes) && are_below(rate.bits(), slopes)
+}
+
+fn are_arrivals(end: u64, arrivals: &[Arrival]) -> bool
+    ensures { IsTrue result ↔ AreArrivals end arrivals.now }
+{
+    do_arrivals_ascend(arrivals) && are_in_time(end, arrivals) && are_frames(arrivals)
+}
+
+fn begin_at_zero(slopes: &[SlopeChange]) -> bool
+    ensures { IsTrue result ↔ BeginsAtZero slopes.now }
+{
+    match slopes {
+        [first, ..] => first.bit == 0,
+        [] => false,
+    }
+}
+
+fn do_changes_ascend(slopes: &[SlopeChange]) -> bool
+    ensures { IsTrue result ↔ AllPairs (λ x y. x.bit < y.bit) slopes.now }
+{
+    for i in 1..slopes.len() {
+        if slopes[i].bit <= slopes[i - 1].bit {
+            return false;
+        }
+    }
+    true
+}
+
+fn are_below(bits: u64, slopes: &[SlopeChange]) -> bool
+    ensures { IsTrue result ↔ All (λ c. (c.slope_a < bits) × (c.slope_b < bits)) slopes.now }
+{
+    slopes.iter().all(|c| c.slope_a < bits && c.slope_b < bits)
+}
+
+fn do_arrivals_ascend(arrivals: &[Arrival]) -> bool
+    ensures { IsTrue result ↔ AllPairs IsNotAfter arrivals.now }
+{
+    for i in 1..arrivals.len() {
+        if !is_not_after(&arrivals[i - 1], &arrivals[i]) {
+            return false;
+        }
+    }
+    true
+}
+
+fn is_not_after(x: &Arrival, y: &Arrival) -> bool
+    ensures { IsTrue result ↔ IsNotAfter x.now y.now }
+{
+    x.bit < y.bit || x.bit == y.bit && x.frame <= y.frame
+}
+
+fn are_in_time(end: u64, arrivals: &[Arrival]) -> bool
+    ensures { IsTrue result ↔ All (λ x. x.bit < end) arrivals.now }
+{
+    arrivals.iter().all(|x| x.bit < end)
+}
+
+fn are_frames(arrivals: &[Arrival]) -> bool
+    ensures { IsTrue result ↔ All (λ x. IsFrameSize x.bits) arrivals.now }
+{
+    arrivals.iter().all(|x| 336 <= x.bits && x.bits <= 12_336)
 }

@@ -1,6 +1,6 @@
 //! The credits of the two SR classes at one port, and how they go on from bit time to bit time.
 
-ghost use Rattle.std.specs.Prelude.{◌≡◌, ◌+◌, ◌*◌, ◌^◌, ◌≤◌, ◌<◌, pos};
+ghost use Rattle.std.specs.Prelude.{◌≡◌, ◌+◌, ◌*◌, ◌^◌, ◌≤◌, ◌<◌, ◌↔◌, pos, IsTrue};
 ghost use Rattle.srp_base.specs.Bandwidth.{bits_of};
 ghost use Rattle.credit_shaper.specs.Credit.{does_send, credit_after, credit_after_bits, IsWithin};
 
@@ -54,6 +54,17 @@ pub struct Shaper {
 impl Shaper {
     ghost use Rattle.credit_shaper.specs.Credit.{after_bit, after_bits, IsInRange};
 
+    /// Whether a step may be asked for: whether the slopes are below the rate, and the credits within 2^100
+    /// of 0.
+    pub fn is_in_range(&self) -> bool
+        ensures { IsTrue result ↔ IsInRange self.now }
+    {
+        self.slope_a < self.rate.bits()
+            && self.slope_b < self.rate.bits()
+            && is_within(self.credit_a)
+            && is_within(self.credit_b)
+    }
+
     /// The credits after one bit time, by what the line does in it and which classes wait. The slopes
     /// are below the rate, and the credits within 2^100 of 0.
     pub fn bit_step(self, line: Line, waits_a: bool, waits_b: bool) -> Shaper
@@ -62,8 +73,20 @@ impl Shaper {
     {
         let rate = self.rate.bits();
         Shaper {
-            credit_a: credit_after(rate, self.slope_a, line.does_send(Traffic::A), waits_a, self.credit_a),
-            credit_b: credit_after(rate, self.slope_b, line.does_send(Traffic::B), waits_b, self.credit_b),
+            credit_a: credit_after(
+                rate,
+                self.slope_a,
+                line.does_send(Traffic::A),
+                waits_a,
+                self.credit_a,
+            ),
+            credit_b: credit_after(
+                rate,
+                self.slope_b,
+                line.does_send(Traffic::B),
+                waits_b,
+                self.credit_b,
+            ),
             ..self
         }
     }
@@ -84,6 +107,13 @@ impl Shaper {
             ..self
         }
     }
+}
+
+/// Whether a credit is within 2^100 of 0.
+fn is_within(credit: i128) -> bool
+    ensures { IsTrue result ↔ IsWithin (2 ^ 100) credit }
+{
+    -(1 << 100) <= credit && credit <= 1 << 100
 }
 
 /// A class's credit after one bit time.

@@ -243,7 +243,9 @@ impl PortTrace {
         let waits_b = self.heads.b < self.came;
         PortTrace {
             bit: next,
-            shaper: self.shaper.jump(self.line, waits_a, waits_b, next - self.bit),
+            shaper: self
+                .shaper
+                .jump(self.line, waits_a, waits_b, next - self.bit),
             ..self
         }
     }
@@ -280,8 +282,18 @@ impl PortTrace {
             return self.free_from.min(end);
         }
         let most = end - self.bit;
-        let a = bits_to_start(self.heads.a < self.came, self.shaper.credit_a, self.shaper.slope_a, most);
-        let b = bits_to_start(self.heads.b < self.came, self.shaper.credit_b, self.shaper.slope_b, most);
+        let a = bits_to_start(
+            self.heads.a < self.came,
+            self.shaper.credit_a,
+            self.shaper.slope_a,
+            most,
+        );
+        let b = bits_to_start(
+            self.heads.b < self.came,
+            self.shaper.credit_b,
+            self.shaper.slope_b,
+            most,
+        );
         self.bit + a.min(b)
     }
 

@@ -14,6 +14,9 @@ pub mod Sizes
 pub mod Reread
 pub mod Formed
 pub mod Longer
+pub mod PlacesLemmas
+pub mod PlacesOfTree
+pub mod PlacesStand
 pub mod Kept
 pub mod RawLemmas
 pub mod NumberLemmas

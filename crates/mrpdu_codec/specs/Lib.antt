@@ -7,3 +7,4 @@ pub mod ReadErr
 pub mod Raw
 pub mod Shape
 pub mod Canonical
+pub mod Places

@@ -25,8 +25,9 @@
 //! `Reading` is the same as a function, which `reading_is_the_grammar` ties to the grammar. `Raw` says what
 //! a PDU says that was read in place. `Canonical` has the spelling in which a PDU is written; that it spells
 //! the PDU is the law `written_is_read`, and how long it is the law `written_size`. `Shape` says what each
-//! PDU that was read looks like, and whether it has LeaveAll. `ReadErr` has the words of the private
-//! readers.
+//! PDU that was read looks like, and whether it has LeaveAll. `Places` says where the FirstValues stand, for
+//! crates that find one of them at fault: `first_value_at` answers the offset of one, and
+//! `first_values_have_places` is its law. `ReadErr` has the words of the private readers.
 //!
 //! The code reads in one pass: a reader answers a value and the octets after it, or how many octets are
 //! left from the first field on that breaks (`fields` a vector's fields, `vectors` lists of vectors,
@@ -51,6 +52,7 @@ pub mod laws;
 mod messages;
 mod numbers;
 mod pdu;
+mod places;
 mod raw;
 mod vectors;
 mod writable;
@@ -65,6 +67,7 @@ pub use laws::{
 };
 pub use numbers::{number_in, put_number};
 pub use pdu::{Message, Pdu, VectorAttr};
+pub use places::{first_value_at, first_values_have_places};
 pub use raw::{RawMessage, RawPdu, RawVector, events_in};
 pub use writable::{size_of, well_formed};
 

@@ -314,3 +314,12 @@ fn two_vectors_and_two_messages(rt: HostRuntime) -> Result<(), Fail> {
     );
     Ok(())
 }
+
+#[test]
+fn numbers_in_octets(rt: HostRuntime) -> Result<(), Fail> {
+    let mut out = [9].to_vec(rt.alloc())?;
+    put_number(&mut out, 0x0102_0304, 4)?;
+    assert_eq!(rt; out.as_slice(), [9, 1, 2, 3, 4].as_slice());
+    assert_eq!(rt; number_in(&[1, 2, 3, 4]), 0x0102_0304);
+    Ok(())
+}

@@ -23,6 +23,8 @@ mod calls;
 mod sending;
 mod settling;
 mod side;
+#[cfg(test)]
+mod tests;
 
 pub use app::MvrpApp;
 pub use side::MvrpSide;

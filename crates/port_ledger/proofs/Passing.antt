@@ -1,5 +1,5 @@
 -- One pass in the order of importance sets the moments of a decision, in the order and among the entries.
-use Rattle.std.proofs.Common.{◌≡◌, ◌≢◌, ℕ, zero, suc, ◌+◌, ◌<◌, Bool, true, false, ◌==◌, ◌||◌, cond, List, [], ◌∷◌, ◌++◌, map, length, get_or, set, take, drop, Option, refl, sym, ◌∙◌, ap, subst, arith, inl, inr, append_assoc, drop-cons, drop-set-lt, take-suc-set}
+use Rattle.std.proofs.Common.{◌≡◌, ◌≢◌, ℕ, zero, suc, ◌+◌, ◌<◌, Bool, true, false, ◌==◌, ◌||◌, cond, List, [], ◌∷◌, ◌++◌, map, length, get_or, set, take, drop, Option, refl, sym, ◌∙◌, ap, subst, arith, inl, inr, append_assoc, drop-cons, drop-set-lt, take-suc-set, Some, None, is_some}
 use Rattle.std.specs.List.{AllByRecursion, AllWithin, list_any}
 use Rattle.std.specs.List.Sorted.{IsPermutation}
 use Rattle.std.proofs.lemmas.Bool.{eq-eqb, ne_eqb, eqb-true, cases_Bool, cases_lt, or_from, or_left, cond-true, cond-false}
@@ -297,3 +297,21 @@ pub ranked_different : (now : ℕ) (es order : List Entry) → IsAscending es �
     → AreOfDifferentStreams (ranked now order)
 ranked_different now es order up p =
     different_permuted es (ranked now order) (ranked_permuted now es order p) (different_from_ascending es up)
+
+-- an entry that isn't booked and finds no room is passed over
+pub pass_skip : (now : ℕ) (caps : Caps) (first before : List Entry) (sum i : ℕ) (order es : List Entry) (d : Entry)
+    → i < length order → has_room caps sum (get_or order i d) ≡ false → is_some (get_or order i d).since ≡ false
+    → PassesAt now caps first before sum i order es
+    → PassesAt now caps first before sum (i + 1) (set order i (get_or order i d)) es
+pass_skip now caps first before sum i order es d l full unbooked at =
+    let x : Entry = get_or order i d in
+    let none : x.since ≡ None = no_moment x.since unbooked in
+    let only : AllByRecursion (IsOnlyIn es) (x ∷ drop (suc i) order) = subst (λ (ys : List Entry). AllByRecursion (IsOnlyIn es) ys) (drop-cons order i d l) at.only in
+    subst (λ (y : Entry). PassesAt now caps first before sum (i + 1) (set order i y) es) (ap (λ s. record x { since = s }) (sym none))
+    (subst (λ (ys : List Entry). PassesAt now caps first before sum (i + 1) (set order i (record x { since = None })) ys) (sym (with_since-own es x None none only.0))
+    (pass_more now caps first before sum i order es d None sum l
+    (ap (since_after now x.since) (sym full)) (ap (sum_with sum x) (sym full)) at))
+  where
+    no_moment : (since : Option Cs) → is_some since ≡ false → since ≡ None
+    no_moment None h = refl
+    no_moment (Some c) h = cc

@@ -1,7 +1,7 @@
 -- How the code finds the decided set: it keeps the entries in the order of importance, puts them back into
 -- that order at each decision, and goes through them once with a running sum; and how it compares two lists
 -- in one walk. No public contract names it; what is promised is the condition on a set in `Decision`.
-use Rattle.std.specs.Prelude.{◌≡◌, ℕ, ◌+◌, Bool, false, not, ◌&&◌, nat_le, nat_lt, List, [], ◌∷◌, ◌++◌, map, Option, if◌then◌else◌, ◌==◌}
+use Rattle.std.specs.Prelude.{◌≡◌, ℕ, ◌+◌, Bool, false, nat_le, nat_lt, List, [], ◌∷◌, ◌++◌, map, Option, if◌then◌else◌, ◌==◌}
 use Rattle.std.specs.List.{AllByRecursion}
 use Rattle.srp_base.specs.declared.numbers.Cs.{Cs}
 use Rattle.srp_base.specs.declared.numbers.StreamId.{StreamId}
@@ -9,7 +9,7 @@ use Rattle.stream_importance.specs.declared.entry.Entry.{Entry}
 use Rattle.stream_importance.specs.declared.entry.Want.{Want}
 use Rattle.stream_importance.specs.declared.slope.Caps.{Caps}
 use Rattle.stream_importance.specs.Bandwidth.{cap_of}
-use Rattle.port_ledger.specs.Decision.{stream_of, entry_slope, is_booked, is_preceded_by, since_after}
+use Rattle.port_ledger.specs.Decision.{stream_of, entry_slope, is_preceded_by, since_after}
 use Rattle.port_ledger.specs.Book.{entry_with, same_entry, unbooked}
 
 -- an entry among entries in the order of importance: before the first that it precedes
@@ -76,7 +76,3 @@ from_stream (x ∷ xs) stream = if nat_lt (stream_of x) stream.0 then from_strea
 abbrev pub begins_with : List Entry → Entry → Bool
 begins_with [] x = false
 begins_with (y ∷ ys) x = same_entry x y
-
--- an entry is booked, and doesn't stand first
-abbrev pub is_missing : List Entry → Entry → Bool
-is_missing entries x = is_booked x && not (begins_with entries x)

@@ -3,7 +3,7 @@
 ghost use Rattle.std.specs.Prelude.{◌≡◌, IfOk};
 ghost use Rattle.port_ledger.specs.Book.{booked_only_in, same_entry};
 ghost use Rattle.port_ledger.specs.Decision.{IsAscending};
-ghost use Rattle.port_ledger.specs.Pass.{begins_with, from_stream, is_missing};
+ghost use Rattle.port_ledger.specs.Pass.{begins_with, from_stream};
 
 use srp_base::{NoMemory, Seq, StreamId};
 use std::alloc::Global;
@@ -44,10 +44,14 @@ fn booked_only_in(
     let mut streams = Vec::new(alloc);
     let mut rest = those;
     for x in these {
-        rest = from_stream(rest, x.want.stream);
-        if is_missing(rest, x) {
-            streams.push(x.want.stream)?;
+        if x.since.is_none() {
+            continue;
         }
+        rest = from_stream(rest, x.want.stream);
+        if begins_with(rest, x) {
+            continue;
+        }
+        streams.push(x.want.stream)?;
     }
     Ok(Seq::from_vec(streams))
 }
@@ -61,13 +65,6 @@ fn from_stream(entries: &[Entry], stream: StreamId) -> &[Entry]
         at += 1;
     }
     &entries[at..]
-}
-
-/// Whether an entry is booked and doesn't stand first.
-fn is_missing(entries: &[Entry], x: &Entry) -> bool
-    ensures { result ≡ is_missing entries.now x.now }
-{
-    x.since.is_some() && !begins_with(entries, x)
 }
 
 fn begins_with(entries: &[Entry], x: &Entry) -> bool

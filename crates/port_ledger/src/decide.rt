@@ -86,6 +86,9 @@ fn pass(now: Cs, caps: &Caps, order: &mut [Entry], entries: &mut [Entry])
     let mut sum: u64 = 0;
     for x in order.iter_mut() {
         let let_in = has_room(caps, sum, x);
+        if !let_in && x.since.is_none() {
+            continue;
+        }
         let since = since_after(now, x.since, let_in);
         set_since(entries, x, since);
         x.since = since;

@@ -1,5 +1,5 @@
 -- What reading and writing whole say of an error.
-use Rattle.std.specs.Prelude.{ℕ, ◌≤◌, List, length, Option}
+use Rattle.std.specs.Prelude.{◌≡◌, ℕ, ◌+◌, ◌≤◌, List, length, Option}
 use Rattle.std.specs.Io.KnownBytes.{Consumes}
 use Rattle.srp_io.specs.declared.whole.WriteErr.{WriteErr}
 use Rattle.srp_io.specs.declared.whole.WriteErr.TheVariants.{Fault, NoMemory}
@@ -9,6 +9,12 @@ pub record TookAtMost (limit : ℕ) (before after : Option (List ℕ)) : Type 0 
   pub octets : List ℕ
   pub consumed : Consumes before after octets
   pub within : length octets ≤ limit
+
+-- a source gave octets, one past so many
+pub record TookPast (limit : ℕ) (before after : Option (List ℕ)) : Type 0 where
+  pub octets : List ℕ
+  pub consumed : Consumes before after octets
+  pub past : length octets ≡ limit + 1
 
 -- how many octets went out before the error
 abbrev pub written_of : WriteErr → ℕ

@@ -4,7 +4,7 @@ ghost use Rattle.std.specs.Prelude.{◌≡◌, ℕ, ◌+◌, ◌^◌, ◌<◌, �
 ghost use Rattle.std.specs.Io.KnownBytes.{Appends, Consumes, IsAtEnd};
 ghost use Rattle.srp_io.specs.Faults.{Rose};
 ghost use Rattle.srp_io.specs.declared.whole.ReadErr.TheVariants.{Fault, NoMemory};
-ghost use Rattle.srp_io.specs.Whole.{TookAtMost, written_of, IsFault};
+ghost use Rattle.srp_io.specs.Whole.{TookAtMost, TookPast, written_of, IsFault};
 
 use crate::{Failed, Sink, SinkErr, Source};
 use std::alloc::{AllocError, Global};
@@ -66,7 +66,7 @@ pub fn read_all<S: Source>(alloc: Global, source: &mut S, limit: usize) -> Resul
     // A fault comes before one octet past the limit was taken.
     ensures fault_within { result ≡ Err ReadErr.Fault → TookAtMost limit (S.left source.old) (S.left source.new) }
     // One octet past the limit was taken, with no fault before.
-    ensures too_long { result ≡ Err ReadErr.TooLong → (octets : List ℕ) × (length octets ≡ limit + 1) × Consumes (S.left source.old) (S.left source.new) octets }
+    ensures too_long { result ≡ Err ReadErr.TooLong → TookPast limit (S.left source.old) (S.left source.new) }
     // After an error the source has given what was read.
     ensures given { OnErr result ((octets : List ℕ) × Consumes (S.left source.old) (S.left source.new) octets) }
     // The count rises only with a fault.

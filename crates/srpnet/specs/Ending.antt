@@ -1,12 +1,12 @@
 -- The top clause: everything that the top call promises of its ending.
 use Rattle.std.specs.Prelude.{◌≡◌, ℕ, ◌⊎◌, List, Option, Some, None}
 use Rattle.srp_io.specs.Faults.{Rose}
-use Rattle.srp_io.specs.Whole.{TookAtMost}
+use Rattle.srp_io.specs.Whole.{TookAtMost, TookPast}
 use Rattle.srpnet.specs.declared.words.Command.{Command}
 use Rattle.srpnet.specs.declared.outcome.Cause.{Cause}
 use Rattle.srpnet.specs.declared.outcome.Cause.TheVariants.{Done, BadWords, ReadFault, TooLong, WriteFault, NoMemory}
 use Rattle.srpnet.specs.Outcomes.{IsRefusal, IsWriteFault, WritesNothing}
-use Rattle.srpnet.specs.TopCall.{Wrote, WrotePart, WroteUntilNoMemory, Refuses, TookTooMany, ReadsNothing, most_octets, expected}
+use Rattle.srpnet.specs.TopCall.{Wrote, WrotePart, WroteUntilNoMemory, Refuses, ReadsNothing, most_octets, expected}
 
 -- A command is carried out on a source of the type I and an out sink of the type O, before the call and
 -- after it. What they tell of their octets and how many faults they count is `left`, `held` and the two
@@ -30,7 +30,7 @@ pub record CarriedOut {I O : Type 0} (left : I → Option (List ℕ)) (in_faults
   -- the input is too long exactly where one octet past the most was taken with no fault before: a read
   -- fault comes while at most the most was taken
   pub in_time : cause ≡ ReadFault → TookAtMost most_octets (left source) (left source')
-  pub too_long : cause ≡ TooLong → TookTooMany (left source) (left source')
+  pub too_long : cause ≡ TooLong → TookPast most_octets (left source) (left source')
   -- the input is refused only where its octets, read to the end, are refused for this cause
   pub refused : IsRefusal cause → Refuses command (left source) (left source') cause
   -- the words were good

@@ -1,6 +1,7 @@
 -- What the octets of an input are: a TOML document, and then a file or the rule that it breaks.
-use Rattle.std.specs.Prelude.{◌≡◌, ℕ, if◌then◌else◌, List, Option, Some, None, Result, Ok, Err}
+use Rattle.std.specs.Prelude.{ℕ, if◌then◌else◌, List, Option, Some, None, Result, Ok, Err}
 use Rattle.std.specs.Str.{is_utf8}
+use Rattle.srp_base.specs.Results.{◌>>=◌, Gives as AnswersAs}
 use Rattle.toml.specs.Data.{Members}
 use Rattle.toml.specs.Parse.{parse_document}
 use Rattle.toml_rules.specs.declared.rules.RuleErr.{RuleErr}
@@ -23,12 +24,6 @@ by_rules (Ok x) = Ok x
 by_rules (Err (Rule rule entry)) = Err (BadScenario rule entry)
 by_rules (Err no_memory) = Err NoMemory
 
--- the next step, where those before gave a value
-infixl 10 ◌>>=◌
-abbrev pub ◌>>=◌ : {A B : Type 0} → Result A Cause → (A → Result B Cause) → Result B Cause
-(Ok x) >>= f = f x
-(Err e) >>= f = Err e
-
 -- what a file's rules make of some octets
 abbrev pub input_of : {A : Type 0} → (Members → Result A RuleErr) → List ℕ → Result A Cause
 input_of rules octets = do
@@ -40,8 +35,11 @@ abbrev pub ending : {A : Type 0} → Result A Cause → Cause
 ending (Ok x) = Done
 ending (Err cause) = cause
 
+-- the cause that a failure tells, which want of memory doesn't
+abbrev pub told : Cause → Option Cause
+told NoMemory = None
+told cause = Some cause
+
 -- what is answered, seen by view, is what is said, unless memory ran out
 abbrev pub Gives : {X A : Type 0} → (X → A) → Result X Cause → Result A Cause → Type 0
-Gives view (Ok x) said = said ≡ Ok (view x)
-Gives view (Err NoMemory) said = Unit {0}
-Gives view (Err cause) said = said ≡ Err cause
+Gives view result said = AnswersAs view told result said

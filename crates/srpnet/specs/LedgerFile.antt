@@ -13,7 +13,8 @@ use Rattle.toml.specs.Data.{Members}
 use Rattle.toml_rules.specs.declared.rules.RuleErr.{RuleErr}
 use Rattle.toml_rules.specs.Fields.{number, number_or, within, text, tables, has_only}
 use Rattle.toml_rules.specs.Shares.{shares_at}
-use Rattle.toml_rules.specs.Rules.{◌>>=◌, needs, holds, no_entry, each_entry}
+use Rattle.srp_base.specs.Results.{◌>>=◌}
+use Rattle.toml_rules.specs.Rules.{needs, holds, no_entry, each_entry, first_fall as first_falling_key}
 use Rattle.stream_importance.specs.Bandwidth.{slope_of_frames}
 use Rattle.srp_base.specs.declared.numbers.StreamId.{StreamId}
 use Rattle.srpnet.specs.declared.ledger.file.LedgerWant.{LedgerWant}
@@ -86,8 +87,7 @@ rate_at ms = option_and_then rate_of_mbit (number (codes "rate") ms)
 
 -- the first want, from entry n on, whose tick is below the one before it
 abbrev pub first_fall : ℕ → ℕ → List LedgerWant → Option ℕ
-first_fall n before [] = None
-first_fall n before (w ∷ ws) = if nat_lt w.tick.0 before then Some n else first_fall (n + 1) w.tick.0 ws
+first_fall n before wants = first_falling_key n before (map (λ w. w.tick.0) wants)
 
 -- the different numbers of a list, in the order of their first mention
 abbrev pub different : List ℕ → List ℕ

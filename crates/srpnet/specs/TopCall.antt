@@ -1,5 +1,5 @@
 -- What the top call does: how a source is read and a text written, and how a command ends.
-use Rattle.std.specs.Prelude.{◌≡◌, ℕ, ◌+◌, ◌<◌, ◌≤◌, nat_le, true, false, not, ◌&&◌, if◌then◌else◌, List, length, take, Option}
+use Rattle.std.specs.Prelude.{◌≡◌, ℕ, ◌<◌, ◌≤◌, nat_le, true, false, not, ◌&&◌, if◌then◌else◌, List, length, take, Option}
 use Rattle.std.specs.Io.KnownBytes.{Appends, Consumes, IsAtEnd}
 use Rattle.srpnet.specs.declared.words.Command.{Command}
 use Rattle.srpnet.specs.declared.outcome.Cause.{Cause}
@@ -17,12 +17,6 @@ pub record ReadWhole (before after : Option (List ℕ)) (octets : List ℕ) : Ty
   pub consumed : Consumes before after octets
   pub at_end : IsAtEnd after
   pub within : length octets ≤ most_octets
-
--- one octet past the most was taken
-pub record TookTooMany (before after : Option (List ℕ)) : Type 0 where
-  pub octets : List ℕ
-  pub consumed : Consumes before after octets
-  pub many : length octets ≡ most_octets + 1
 
 -- the octets that a source gave aren't what a command reads, for this cause
 pub record Refuses (command : Command) (before after : Option (List ℕ)) (cause : Cause) : Type 0 where

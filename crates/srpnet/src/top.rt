@@ -3,10 +3,10 @@
 ghost use Rattle.std.specs.Prelude.{◌≡◌, ℕ, ◌<◌, List, length, take, Some, Err, IfOk, IfErr};
 ghost use Rattle.std.specs.Io.KnownBytes.{Appends};
 ghost use Rattle.srp_io.specs.Faults.{Rose};
-ghost use Rattle.srp_io.specs.Whole.{TookAtMost};
+ghost use Rattle.srp_io.specs.Whole.{TookAtMost, TookPast};
 ghost use Rattle.srpnet.specs.Outcomes.{status_of as status_of_spec, err_text, EndsAs, EndsWriting, IsRefusal, IsWriteFault, LacksOutput};
 ghost use Rattle.srpnet.specs.Ending.{CarriedOut, IsEnding};
-ghost use Rattle.srpnet.specs.TopCall.{expected, IsOutput, Refuses, TookTooMany, ReadsNothing, PartOf, GainsFront};
+ghost use Rattle.srpnet.specs.TopCall.{expected, IsOutput, Refuses, ReadsNothing, PartOf, GainsFront};
 ghost use Rattle.srpnet.specs.Words.{command_of as command_of_spec};
 
 use crate::commands::{output, reads_input};
@@ -27,7 +27,7 @@ fn read_output<I: Source>(alloc: Global, command: Command, source: &mut I) -> Re
     ensures read_fault { result ≡ Err Cause.ReadFault → Rose (I.faults source.old) (I.faults source.new) }
     ensures in_time { result ≡ Err Cause.ReadFault → TookAtMost MOST_OCTETS (I.left source.old) (I.left source.new) }
     ensures counts { (result ≡ Err Cause.ReadFault → ⊥) → I.faults source.new ≡ I.faults source.old }
-    ensures too_long { result ≡ Err Cause.TooLong → TookTooMany (I.left source.old) (I.left source.new) }
+    ensures too_long { result ≡ Err Cause.TooLong → TookPast MOST_OCTETS (I.left source.old) (I.left source.new) }
     ensures refused { IfErr result (λ c. IsRefusal c → Refuses command (I.left source.old) (I.left source.new) c) }
     ensures ends { (octets : List ℕ) → I.left source.old ≡ Some octets → (Rose (I.faults source.old) (I.faults source.new) → ⊥)
         → EndsAs (expected command octets) result }

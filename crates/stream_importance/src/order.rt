@@ -1,7 +1,7 @@
 //! Which of two entries is more important.
 
 ghost use Rattle.std.specs.Prelude.{◌≡◌};
-ghost use Rattle.std.specs.Ordering.{nat_cmp};
+ghost use Rattle.std.specs.Ordering.{is_lt, nat_cmp, ordering_then};
 ghost use Rattle.stream_importance.specs.Importance.{class_number, compare_importance, is_more_important, moment_or, rank_number};
 
 use crate::entry::Entry;
@@ -14,7 +14,25 @@ use std::cmp::Ordering;
 pub fn more_important(now: Cs, x: &Entry, y: &Entry) -> bool
     ensures { result ≡ is_more_important now.0 x.now y.now }
 {
-    compare_importance(now, x, y).is_lt()
+    if x.want.class != y.want.class {
+        return x.want.class < y.want.class;
+    }
+    if x.want.rank != y.want.rank {
+        return x.want.rank < y.want.rank;
+    }
+    is_older(now, x, y)
+}
+
+/// Whether `x` was booked before `y`, or at one moment and has the lower StreamID.
+fn is_older(now: Cs, x: &Entry, y: &Entry) -> bool
+    ensures { result ≡ is_lt (ordering_then (nat_cmp (moment_or now.0 x.now.since) (moment_or now.0 y.now.since))
+        (nat_cmp x.now.want.stream.0 y.now.want.stream.0)) }
+{
+    let (mine, other) = (x.since.unwrap_or(now), y.since.unwrap_or(now));
+    if mine != other {
+        return mine < other;
+    }
+    x.want.stream < y.want.stream
 }
 
 /// How two entries compare at the moment `now`, in cs: `Less` where `x` is more important than `y`.

@@ -1,6 +1,7 @@
 use crate::{
-    RuleErr, fails_at, has_only, holds, needs, needs_tables, no_entry, number, number_or,
-    read_shares, tables, text, truth_or, value_at, within,
+    RuleErr, each_entry, each_table, each_within, fails_at, first_fall, first_where, has_only,
+    holds, needs, needs_tables, no_entry, number, number_or, read_shares, tables, text, truth_or,
+    value_at, within,
 };
 use srp_base::NoMemory;
 use std::alloc::Global;
@@ -61,6 +62,42 @@ fn a_rule_fails_with_its_entry(rt: HostRuntime) -> Result<(), Fail> {
     assert_eq!(rt; needs_tables(alloc, 3, &table, "e")?.len(), 2);
     assert_eq!(rt; needs_tables(alloc, 3, &table, "z")?.len(), 0);
     assert_eq!(rt; needs_tables(alloc, 3, &table, "a").err(), Some(whole));
+    Ok(())
+}
+
+fn odd(n: u64) -> Option<u64> {
+    if n % 2 == 1 { Some(n) } else { None }
+}
+
+#[test]
+fn entries_are_read_one_by_one(rt: HostRuntime) -> Result<(), Fail> {
+    let alloc = rt.alloc();
+    let numbers = [3u64, 1, 5, 1, 4];
+    assert_eq!(rt;
+        first_where(&numbers, |earlier, n| earlier.len() > 1 && *n == 1),
+        Some(4)
+    );
+    assert_eq!(rt; first_fall(&numbers, |n| *n), Some(2));
+    let refused = each_entry(alloc, 9, &numbers, |_, n| Ok(odd(*n))).err();
+    assert_eq!(rt; refused, Some(RuleErr::Rule { rule: 9, entry: 5 }));
+    let taken = each_entry(alloc, 9, &numbers[..4], |_, n| Ok(odd(*n)))?;
+    assert!(rt; taken.as_slice() == &numbers[..4]);
+    let heavy = each_within(alloc, 9, 9, &numbers, |n| *n, |_, n| Ok(odd(*n))).err();
+    assert_eq!(rt; heavy, Some(RuleErr::Rule { rule: 9, entry: 4 }));
+    let light = each_within(alloc, 9, 10, &numbers[..4], |n| *n, |_, n| Ok(odd(*n)))?;
+    assert!(rt; light.as_slice() == &numbers[..4]);
+    Ok(())
+}
+
+#[test]
+fn tables_are_read_one_by_one(rt: HostRuntime) -> Result<(), Fail> {
+    let alloc = rt.alloc();
+    let file = toml::table_from_str(alloc, "e = [{ n = 7 }, { n = 8 }, { m = 9 }]\n")?;
+    let entries = needs_tables(alloc, 3, &file, "e")?;
+    let refused = each_table(alloc, 4, &entries, |_, table| Ok(number(table, "n"))).err();
+    assert_eq!(rt; refused, Some(RuleErr::Rule { rule: 4, entry: 3 }));
+    let taken = each_table(alloc, 4, &entries[..2], |_, table| Ok(number(table, "n")))?;
+    assert!(rt; taken.as_slice() == [7, 8].as_slice());
     Ok(())
 }
 

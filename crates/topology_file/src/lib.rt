@@ -1,22 +1,24 @@
 //! The scenario of a TOML file: a network, its times, and what happens in it.
 //!
 //! ```text
-//! table --> forms      each entry's keys, their values and defaults     rules 1 to 4, 8, 20
-//!       --> sizes      of the nodes, and the order of the events        rules 5, 21
-//!       --> numbers    in place of names                                rules 6, 7, 9, 22
-//!       --> tree       of the nodes and links                           rules 10 to 15
+//! table --> nodes      each with its form, few, of different names and ids     rules 1 to 7
+//!       --> links      each with its form, between nodes                       rules 8, 9
+//!       --> tree       of the nodes and links, each with at most 16 links      rules 10 to 15
+//!       --> events     each with its form, in order, of known names            rules 20 to 22
 //!       --> Scenario, or RuleErr::Rule { rule, entry }
 //! ```
 //!
 //! The definition `scenario_of` is the list of the rules in the order in which they are checked, each a
 //! test of the table or of what was read so far. `read_scenario` answers what it says: the scenario, or
 //! the first rule that fails with its first failing entry. `KeepsRules` says in plain words what every
-//! scenario keeps, and the law `read_scenarios_keep_the_rules` that each one that is read does. An entry is counted from 1 in its array; entry
-//! 0 is the file as a whole. A key or a kind of event that isn't listed fails the form of its entry.
+//! scenario keeps, and the law `read_scenarios_keep_the_rules` that each one that is read does. An entry
+//! is counted from 1 in its array; entry 0 is the file as a whole. A key or a kind of event that isn't
+//! listed fails the form of its entry. An entry is read with the numbers of what it names at once; where
+//! it names nothing that is there, its form is whole and its value missing, which a later rule refuses.
 //!
 //! A new key of an entry is a reader in `forms`, a field in `entries`, and one line in the reader of that
-//! entry; a new kind of event is an arm in `events`; each has its counterpart in `specs/Entries.antt`, a
-//! kind of event in `specs/Scenario.antt` too.
+//! entry and in its definition (`specs/Entries.antt`). A new kind of event is a variant of `EventKind`, an
+//! arm of `read_kind` and of `kind_form`, and what every scenario keeps of it, a case of `IsKnownKind`.
 #![tactic(auto)]
 
 mod entries;

@@ -4,8 +4,8 @@ ghost use Rattle.std.specs.Prelude.{◌≡◌, ◌+◌, None, ◌≤◌, map, Op
 ghost use Rattle.std.specs.Option.{option_and_then};
 ghost use Rattle.srp_base.specs.Hexadecimal.{hex16};
 ghost use Rattle.toml.specs.View.{table_view};
-ghost use Rattle.toml_rules.specs.Rules.{Reads, each_entry, no_entry};
-ghost use Rattle.srpnet.specs.LedgerFile.{stream_at, class_of_text, class_at, rank_of_number, rank_at, frames_at, octets_at, tick_at, known_want, want_entry, rate_at, first_fall, mentioned, wants_of, ledger_file as ledger_file_spec};
+ghost use Rattle.toml_rules.specs.Rules.{Reads, each_entry};
+ghost use Rattle.srpnet.specs.LedgerFile.{stream_at, class_of_text, class_at, rank_of_number, rank_at, frames_at, octets_at, tick_at, known_want, want_entry, rate_at, first_fall as first_fall_spec, mentioned, wants_of, ledger_file as ledger_file_spec};
 
 use indexmap::IndexSet;
 use srp_base::{Class, Cs, Percent, Rank, Rate, Seq, StreamId, read_hex16};
@@ -13,8 +13,8 @@ use std::alloc::{AllocError, Global};
 use stream_importance::{Want, slope_of};
 use toml::Table;
 use toml_rules::{
-    RuleErr, fails_at, has_only, holds, needs, needs_tables, number, number_or, read_shares, text,
-    within,
+    RuleErr, each_table, fails_at, first_fall, has_only, holds, needs, needs_tables, no_entry,
+    number, number_or, read_shares, text, within,
 };
 
 /// A want of the file with its moment in cs.
@@ -144,14 +144,12 @@ fn read_want(number: usize, table: &Table) -> Option<LedgerWant>
 fn read_wants(alloc: Global, entries: &[&Table]) -> Result<Vec<LedgerWant>, RuleErr>
     ensures { Reads (λ v. v.items) result (each_entry 33 want_entry 1 (map (λ t. table_view t.now) entries.now)) }
 {
-    let mut wants = Vec::new(alloc);
-    for (i, table) in entries.iter().enumerate() {
-        match read_want(i + 1, table) {
-            Some(want) => wants.push(want)?,
-            None => return Err(fails_at(33, i + 1)),
-        }
-    }
-    Ok(wants)
+    each_table(
+        alloc,
+        33,
+        entries,
+        |number, table| Ok(read_want(number, table)),
+    )
 }
 
 fn read_rate(table: &Table) -> Option<Rate>
@@ -160,18 +158,11 @@ fn read_rate(table: &Table) -> Option<Rate>
     Rate::of_mbit(number(table, "rate")?)
 }
 
-/// Rule 34: the ticks don't fall.
-fn check_ticks(wants: &[LedgerWant]) -> Result<(), RuleErr>
-    ensures { result ≡ no_entry 34 (first_fall 1 0 wants.now) }
+/// The first want whose tick is below that of the one before it.
+fn falling_want(wants: &[LedgerWant]) -> Option<usize>
+    ensures { result ≡ first_fall_spec 1 0 wants.now }
 {
-    let mut before = 0;
-    for (i, want) in wants.iter().enumerate() {
-        if want.tick.0 < before {
-            return Err(fails_at(34, i + 1));
-        }
-        before = want.tick.0;
-    }
-    Ok(())
+    first_fall(wants, |want| want.tick.0)
 }
 
 /// The most different streams of a file.
@@ -205,10 +196,10 @@ fn read_mentioned(
     entries: &[&Table],
 ) -> Result<(Seq<LedgerWant>, Seq<StreamId>), RuleErr>
     ensures file { Reads (λ r. r) result (wants_of (map (λ t. table_view t.now) entries.now)) }
-    ensures ticks { IfOk result (λ r. first_fall 1 0 r.0 ≡ None) }
+    ensures ticks { IfOk result (λ r. first_fall_spec 1 0 r.0 ≡ None) }
 {
     let wants = read_wants(alloc, entries)?;
-    check_ticks(&wants)?;
+    no_entry(34, falling_want(&wants))?;
     let streams = read_streams(alloc, &wants)?;
     let ids = stream_ids(alloc, &streams)?;
     Ok((Seq::from_vec(wants), Seq::from_vec(ids)))
@@ -218,7 +209,7 @@ fn read_mentioned(
 pub fn read_ledger_file(alloc: Global, table: &Table) -> Result<LedgerFile, RuleErr>
     ensures file { Reads (λ f. f) result (ledger_file_spec (table_view table.now)) }
     ensures shares { IfOk result (λ f. f.delta_a + f.delta_b ≤ 90) }
-    ensures ticks { IfOk result (λ f. first_fall 1 0 f.wants ≡ None) }
+    ensures ticks { IfOk result (λ f. first_fall_spec 1 0 f.wants ≡ None) }
 {
     holds(31, has_only(table, &FILE_KEYS))?;
     let rate = needs(31, read_rate(table))?;

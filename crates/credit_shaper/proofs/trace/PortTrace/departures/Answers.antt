@@ -26,7 +26,7 @@ pub returns : goal.returns
 returns c =
     let input : PortInput = c.args.input.now in
     let left : c.in_ok-left.left ≡ map (λ x. x.frame) (pending c.loop-trace.trace.heads 0 input.arrivals) =
-        subst (λ (xs : List Arrival). c.in_ok-left.left ≡ map (λ x. x.frame) (pending c.loop-trace.trace.heads 0 xs)) c.as_slice.ensures c.in_ok-left.ensures in
+    subst (λ (xs : List Arrival). c.in_ok-left.left ≡ map (λ x. x.frame) (pending c.loop-trace.trace.heads 0 xs)) c.as_slice.ensures c.in_ok-left.ensures in
     ap (λ ds. record { sent = ds; left = c.in_ok-left.left }) c.from_vec.ensures
     ∙ departures_found input c.loop-trace.trace c.loop-trace.sent.items c.in_ok-left.left c.requires (omega arith)
-      c.loop-trace.invariant.reached c.loop-trace.invariant.port left
+    c.loop-trace.invariant.reached c.loop-trace.invariant.port left

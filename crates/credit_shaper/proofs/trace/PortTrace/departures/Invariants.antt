@@ -9,7 +9,7 @@ invariant-loop-trace l =
     record {
       within : l.trace.bit ≤ l.input.end;
       reached : HasReached l.input l.trace.bit l.trace;
-      port : port_of l.input.arrivals l.sent.items l.trace ≡ port_at l.input l.trace.bit
+      port : port_of l.input.arrivals l.sent.items l.trace ≡ port_at l.input l.trace.bit;
     }
 
 abbrev pub decreases-loop-trace : goal.decreases-loop-trace

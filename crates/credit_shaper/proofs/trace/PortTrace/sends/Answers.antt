@@ -19,7 +19,7 @@ pub returns-clause-port : goal.returns-clause-port
 returns-clause-port c =
     let others = c.first_of-head.ensures.others in
     let left : pending (with_head_index c.args.x.traffic c.first_of-head.result c.args.self.heads) 0 (take c.args.self.came c.args.arrivals.now)
-        ≡ without_head c.args.x.traffic (waiting_of c.args.arrivals.now c.args.self) =
-        without_first c.args.self.heads c.args.arrivals.now c.args.self.came c.args.x c.first_of-head.result c.requires.heads c.requires.came
-        c.requires.first.came (c.requires.first.here blank) (omega arith) (λ k d from to. others k d (omega arith) to) in
+    ≡ without_head c.args.x.traffic (waiting_of c.args.arrivals.now c.args.self) =
+    without_first c.args.self.heads c.args.arrivals.now c.args.self.came c.args.x c.first_of-head.result c.requires.heads c.requires.came
+    c.requires.first.came (c.requires.first.here blank) (omega arith) (λ k d from to. others k d (omega arith) to) in
     λ sent. rw (c.with.ensures, left, c.from.ensures) refl

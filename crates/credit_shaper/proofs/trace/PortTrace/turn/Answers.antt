@@ -14,8 +14,8 @@ use Rattle.credit_shaper.proofs.trace.PortTrace.turn.Goals as goal
 pub goes_on-requires-clause-credits : goal.goes_on-requires-clause-credits
 goes_on-requires-clause-credits c =
     let here : port_of c.args.input.now.arrivals c.in_bit.new.sent.items c.in_ok-in_bit.field-0 ≡ port_in c.args.input.now c.args.self.bit =
-        c.in_ok-in_bit.ensures.port ∙ ap (within_bit c.args.input.now c.args.self.bit) c.requires.port in
-    subst IsInRange (sym (ap (λ p. p.shaper) here)) (in_range c.args.input.now c.args.self.bit c.requires.input (omega (arith, c.requires.input.end_in_range)))
+    c.in_ok-in_bit.ensures.port ∙ ap (within_bit c.args.input.now c.args.self.bit) c.requires.port in
+    subst IsInRange (sym (ap (λ p. p.shaper) here)) (in_range c.args.input.now c.args.self.bit c.requires.input (omega (arith, c.requires.input.end)))
 
 pub returns-clause-port : goal.returns-clause-port
 returns-clause-port c =
@@ -25,9 +25,9 @@ returns-clause-port c =
     let next : ℕ = c.goes_on.result.bit in
     let bit : trace.bit ≡ c.args.self.bit = c.in_ok-in_bit.ensures.bit in
     let here : port_of input.arrivals sent trace ≡ port_in input trace.bit =
-        c.in_ok-in_bit.ensures.port ∙ (ap (within_bit input c.args.self.bit) c.requires.port ∙ ap (port_in input) (sym bit)) in
+    c.in_ok-in_bit.ensures.port ∙ (ap (within_bit input c.args.self.bit) c.requires.port ∙ ap (port_in input) (sym bit)) in
     let now : HasReached input (trace.bit + 1) trace =
-        subst (λ (t : ℕ). HasReached input (t + 1) trace) (sym bit) c.in_ok-in_bit.ensures.reached in
+    subst (λ (t : ℕ). HasReached input (t + 1) trace) (sym bit) c.in_ok-in_bit.ensures.reached in
     ap (port_of input.arrivals sent) c.goes_on.ensures.moved
     ∙ moved_port input sent trace next c.in_ok-in_bit.ensures.heads now c.goes_on.ensures.reached c.goes_on.ensures.quiet c.goes_on.ensures.later here
 

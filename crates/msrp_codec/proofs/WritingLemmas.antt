@@ -1,0 +1,54 @@
+-- What is written, piece by piece.
+use Rattle.std.proofs.Common.{◌≡◌, ℕ, ◌+◌, ◌<◌, Bool, true, false, cond, List, [], ◌∷◌, ◌++◌, length, get_or, drop, map, refl, sym, ap, ◌∙◌, inl, inr, append_assoc, append-nil, arith}
+use Rattle.std.proofs.lemmas.Bool.{cases_Bool}
+use Rattle.std.proofs.lemmas.List.{at_drop_more}
+use Rattle.mrpdu_codec.specs.declared.pdu.VectorAttr.{VectorAttr}
+use Rattle.mrpdu_codec.specs.declared.form.AppForm.TheVariants.{Msrp}
+use Rattle.mrpdu_codec.specs.Tree.{vector_octets, vectors_octets, messages_octets}
+use Rattle.mrpdu_codec.specs.Canonical.{two_octets, vector_for, vectors_for, message_for}
+use Rattle.msrp_codec.specs.declared.attribute_type.AttributeType.{AttributeType}
+use Rattle.msrp_codec.specs.declared.attribute_type.AttributeType.TheVariants.{Advertise, Failed, Listener, Domain}
+use Rattle.msrp_codec.specs.AttributeType.{number_of_type, length_of}
+use Rattle.msrp_codec.specs.Meaning.{KeyEvent}
+use Rattle.msrp_codec.specs.Writing.{has_type, of_type, event_vector, type_vectors, messages_for, type_messages}
+
+-- ---- fields, one after another
+
+pub three_pieces : (o a b c x y z : List ℕ) → a ≡ o ++ x → b ≡ a ++ y → c ≡ b ++ z → c ≡ o ++ (x ++ (y ++ z))
+three_pieces o a b c x y z p q r = rw (r, q, p) (simp append_assoc)
+
+pub seven_pieces : (o a b c d e f g s t u v w x y : List ℕ) → a ≡ o ++ s → b ≡ a ++ t → c ≡ b ++ u → d ≡ c ++ v → e ≡ d ++ w → f ≡ e ++ x → g ≡ f ++ y → g ≡ o ++ (s ++ (t ++ (u ++ (v ++ (w ++ (x ++ y))))))
+seven_pieces o a b c d e f g s t u v w x y p1 p2 p3 p4 p5 p6 p7 = rw (p7, p6, p5, p4, p3, p2, p1) (simp append_assoc)
+
+-- ---- the vectors of a type
+
+-- their octets
+abbrev pub type_octets : Bool → AttributeType → List KeyEvent → List ℕ
+type_octets leave t events = vectors_octets (vectors_for (type_vectors leave t (of_type t events)))
+
+pub vectors_more : (leave : Bool) (t : AttributeType) (x : KeyEvent) (xs : List KeyEvent) → type_vectors leave t (x ∷ xs) ≡ event_vector leave x ∷ type_vectors false t xs
+vectors_more true t x [] = refl
+vectors_more false t x [] = refl
+vectors_more true t x (y ∷ ys) = refl
+vectors_more false t x (y ∷ ys) = refl
+
+-- without a LeaveAll each is its event's
+pub all_later : (t : AttributeType) (events : List KeyEvent) → type_vectors false t events ≡ map (event_vector false) events
+all_later t [] = refl
+all_later t (x ∷ xs) = refl
+
+-- the Message of a type that has vectors
+message_is : (t : AttributeType) (vs : List VectorAttr) → 0 < length (vectors_octets (vectors_for vs))
+    → messages_octets (map (message_for Msrp) (messages_for t vs))
+    ≡ number_of_type t ∷ length_of t ∷ (two_octets (length (vectors_octets (vectors_for vs)) + 2) ++ (vectors_octets (vectors_for vs) ++ 0 ∷ 0 ∷ []))
+message_is t [] some = absurd (omega arith)
+message_is Advertise (v ∷ vs) some = append-nil _
+message_is Failed (v ∷ vs) some = append-nil _
+message_is Listener (v ∷ vs) some = append-nil _
+message_is Domain (v ∷ vs) some = append-nil _
+
+pub message_written : (out a b c d e : List ℕ) (leave : Bool) (t : AttributeType) (events : List KeyEvent) (size : ℕ) → size ≡ length (type_octets leave t events) → 0 < size
+    → a ≡ out ++ number_of_type t ∷ [] → b ≡ a ++ length_of t ∷ [] → c ≡ b ++ two_octets (size + 2) → d ≡ c ++ type_octets leave t events → e ≡ d ++ 0 ∷ 0 ∷ []
+    → e ≡ out ++ messages_octets (map (message_for Msrp) (type_messages leave events t))
+message_written out a b c d e leave t events size is some p1 p2 p3 p4 p5 =
+    rw (message_is t (type_vectors leave t (of_type t events)) (omega (arith, is, some)), p5, p4, p3, p2, p1, is) (simp append_assoc)

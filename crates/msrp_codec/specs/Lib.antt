@@ -1,0 +1,5 @@
+pub mod AttributeType
+pub mod FirstValue
+pub mod Content
+pub mod Meaning
+pub mod Writing

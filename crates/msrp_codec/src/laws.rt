@@ -1,0 +1,31 @@
+//! The laws of what octets of MSRP say.
+
+ghost use Rattle.std.specs.Prelude.{◌≡◌, ◌↔◌, ◌≤◌, List, ℕ, Bool, length, Ok, Err};
+ghost use Rattle.msrp_codec.specs.declared.pdu.MsrpKey.{MsrpKey};
+ghost use Rattle.msrp_codec.specs.declared.pdu.MsrpPdu.{MsrpPdu};
+ghost use Rattle.msrp_codec.specs.Meaning.{KeyEvent, Reads, MsrpBreaks, msrp_reading};
+ghost use Rattle.msrp_codec.specs.Writing.{msrp_spelling, in_type_order, stated_octets, of_key};
+
+/// The reading as a function is the grammar with the meaning of a PDU: octets read as exactly what the PDU
+/// that they spell says, where its values stay within their fields, or as exactly the place where they are
+/// malformed: where the grammar breaks, or else the first FirstValue whose values pass the end of a field.
+pub fn reading_is_the_grammar()
+    ensures reads { (octets : List ℕ) (read : MsrpPdu) → (msrp_reading octets ≡ Ok read) ↔ Reads octets read }
+    ensures broken { (octets : List ℕ) (place : ℕ) → (msrp_reading octets ≡ Err place) ↔ MsrpBreaks octets place }
+{
+    mrpdu_codec::reading_is_the_grammar();
+    mrpdu_codec::first_values_have_places();
+}
+
+/// What is written takes at most the stated octets of its events, with the base.
+pub fn stated_octets_suffice()
+    ensures { (pdu : MsrpPdu) → length (msrp_spelling pdu) ≤ stated_octets pdu.events }
+{
+    mrpdu_codec::written_size();
+}
+
+/// The order of types keeps what each key says: where at most one event is of a key, the events of that key
+/// are the same before and after. `is_key` tells the key from others.
+pub fn each_key_keeps_its_event()
+    ensures { (events : List KeyEvent) (is_key : MsrpKey → Bool) → length (of_key is_key events) ≤ 1 → of_key is_key (in_type_order events) ≡ of_key is_key events }
+{}

@@ -1,0 +1,371 @@
+//! The events of keys written as octets.
+
+ghost use Rattle.std.specs.Prelude.{◌≡◌, ◌++◌, ◌∷◌, [], ◌<◌, ◌≤◌, ◌+◌, ◌*◌, ◌^◌, false, ℕ, Bool, List, Ok, ◌==◌, length, map, replicate, filter, OnOk, IfOk, if◌then◌else◌};
+ghost use Rattle.std.specs.List.{AllByRecursion};
+ghost use Rattle.mrpdu_codec.specs.declared.form.AppForm.TheVariants.{Msrp};
+ghost use Rattle.mrpdu_codec.specs.Tree.{vector_octets, vectors_octets, messages_octets};
+ghost use Rattle.mrpdu_codec.specs.Canonical.{vector_for, vectors_for, message_for};
+ghost use Rattle.msrp_codec.specs.AttributeType.{number_of_type, length_of};
+ghost use Rattle.msrp_codec.specs.FirstValue.{IsTalker, IsFailure, IsFirst, rank_bit, talker_octets, failure_octets, first_octets};
+ghost use Rattle.msrp_codec.specs.Content.{type_of_content, stream_of, class_of, value_of, octets_of, kind_number, four_packed_for};
+ghost use Rattle.msrp_codec.specs.Meaning.{msrp_reading};
+ghost use Rattle.msrp_codec.specs.Writing.{has_type, of_type, event_vector, leave_vector, type_vectors, type_messages, list_size, stated_octets, msrp_spelling, as_written, IsWritable};
+
+use crate::attribute_type::AttributeType;
+use crate::pdu::{MsrpContent, MsrpKey, MsrpPdu, row_octets};
+use mrpdu_codec::{put_number, put_vector};
+use srp_base::{Failure, ListenerKind, MrpEvent, NoMemory, Rank, Seq, StreamId, Talker};
+use std::alloc::{AllocError, Global};
+
+/// PriorityAndRank.
+fn priority_and_rank(t: &Talker) -> u64
+    ensures { result ≡ t.now.priority * 32 + rank_bit t.now.rank * 16 }
+{
+    let priority = u64::from(t.priority.get()) * 32;
+    match t.rank {
+        Rank::Emergency => priority,
+        Rank::Normal => priority + 16,
+    }
+}
+
+/// Writes the fields of a Talker.
+fn put_talker(out: &mut Vec<u8>, t: &Talker) -> Result<(), NoMemory>
+    ensures { OnOk result (out.new.items ≡ out.old.items ++ talker_octets t.now) }
+{
+    put_number(out, t.stream.0, 8)?;
+    put_number(out, t.dest.get(), 6)?;
+    put_number(out, u64::from(t.vid), 2)?;
+    put_number(out, u64::from(t.max_frame), 2)?;
+    put_number(out, u64::from(t.frames), 2)?;
+    put_number(out, priority_and_rank(t), 1)?;
+    put_number(out, u64::from(t.latency), 4)?;
+    Ok(())
+}
+
+/// Writes the fields of a Talker and FailureInformation.
+fn put_failed(out: &mut Vec<u8>, t: &Talker, failure: &Failure) -> Result<(), NoMemory>
+    ensures { OnOk result (out.new.items ≡ out.old.items ++ (talker_octets t.now ++ failure_octets failure.now)) }
+{
+    put_talker(out, t)?;
+    put_number(out, failure.bridge.0, 8)?;
+    put_number(out, u64::from(failure.code), 1)?;
+    Ok(())
+}
+
+/// The stream of a key; a Domain has none.
+fn stream_of(key: MsrpKey) -> StreamId
+    ensures { result ≡ stream_of key }
+{
+    match key {
+        MsrpKey::Talker(stream) => stream,
+        MsrpKey::Listener(stream) => stream,
+        MsrpKey::Domain(_) => StreamId(0),
+    }
+}
+
+/// The SRclassID of a key; a stream has none.
+fn class_of(key: MsrpKey) -> u8
+    ensures { result ≡ class_of key }
+{
+    match key {
+        MsrpKey::Talker(_) => 0,
+        MsrpKey::Listener(_) => 0,
+        MsrpKey::Domain(class) => class,
+    }
+}
+
+/// Writes a FirstValue.
+fn put_first(out: &mut Vec<u8>, key: MsrpKey, content: &MsrpContent) -> Result<(), NoMemory>
+    ensures { OnOk result (out.new.items ≡ out.old.items ++ first_octets (value_of key content.now)) }
+{
+    match content {
+        MsrpContent::Advertise(t) => put_talker(out, t),
+        MsrpContent::Failed(t, failure) => put_failed(out, t, failure),
+        MsrpContent::Listener(_) => put_number(out, stream_of(key).0, 8),
+        MsrpContent::Domain { priority, vid } => {
+            put_number(out, u64::from(class_of(key)), 1)?;
+            put_number(out, u64::from(*priority), 1)?;
+            put_number(out, u64::from(*vid), 2)
+        }
+    }
+}
+
+/// The FourPackedEvent of what a Listener declares.
+fn kind_number(kind: ListenerKind) -> u8
+    ensures value { result ≡ kind_number kind }
+    ensures small { result ≤ 3 }
+{
+    match kind {
+        ListenerKind::AskingFailed => 1,
+        ListenerKind::Ready => 2,
+        ListenerKind::ReadyFailed => 3,
+    }
+}
+
+/// The octets of a FirstValue.
+fn length_of(t: AttributeType) -> usize
+    ensures { result ≡ length_of t }
+{
+    match t {
+        AttributeType::Advertise => 25,
+        AttributeType::Failed => 34,
+        AttributeType::Listener => 8,
+        AttributeType::Domain => 4,
+    }
+}
+
+/// Whether an event is of a type.
+fn has_type(t: AttributeType, content: &MsrpContent) -> bool
+    ensures { result ≡ (number_of_type (type_of_content content.now) == number_of_type t) }
+{
+    content.attribute_type().number() == t.number()
+}
+
+/// Writes the vector of an event alone. Its FirstValue is put together in a buffer.
+fn put_event(
+    out: &mut Vec<u8>,
+    first: &mut Vec<u8>,
+    leave_all: bool,
+    event: &(MrpEvent, MsrpKey, MsrpContent),
+) -> Result<(), NoMemory>
+    ensures { OnOk result (out.new.items ≡ out.old.items ++ vector_octets (vector_for (event_vector leave_all event.now))) }
+{
+    first.clear();
+    put_first(first, event.1, &event.2)?;
+    match event.2 {
+        MsrpContent::Listener(kind) => {
+            put_vector(out, leave_all, first, &[event.0], &[kind_number(kind)])
+        }
+        _ => put_vector(out, leave_all, first, &[event.0], &[]),
+    }
+}
+
+/// Writes the vector of a LeaveAll alone.
+fn put_leave(out: &mut Vec<u8>, t: AttributeType) -> Result<(), NoMemory>
+    ensures { OnOk result (out.new.items ≡ out.old.items ++ vector_octets (vector_for (leave_vector t))) }
+{
+    match t {
+        AttributeType::Advertise => put_vector(out, true, &[0; 25], &[], &[]),
+        AttributeType::Failed => put_vector(out, true, &[0; 34], &[], &[]),
+        AttributeType::Listener => put_vector(out, true, &[0; 8], &[], &[]),
+        AttributeType::Domain => put_vector(out, true, &[0; 4], &[], &[]),
+    }
+}
+
+/// Writes the vector of an event, if it is of a type. What is answered is whether the LeaveAll is still to be
+/// written.
+fn put_if_typed(
+    out: &mut Vec<u8>,
+    first: &mut Vec<u8>,
+    leave_all: bool,
+    t: AttributeType,
+    event: &(MrpEvent, MsrpKey, MsrpContent),
+) -> Result<bool, NoMemory>
+    ensures octets { OnOk result (out.new.items ≡ out.old.items ++ (if has_type t event.now then vector_octets (vector_for (event_vector leave_all event.now)) else [])) }
+    ensures leave { IfOk result (λ leave. leave ≡ if has_type t event.now then false else leave_all) }
+{
+    if !has_type(t, &event.2) {
+        return Ok(leave_all);
+    }
+    put_event(out, first, leave_all, event)?;
+    Ok(false)
+}
+
+/// Writes the vectors of a type's events.
+fn put_vectors(
+    out: &mut Vec<u8>,
+    first: &mut Vec<u8>,
+    leave_all: bool,
+    t: AttributeType,
+    events: &[(MrpEvent, MsrpKey, MsrpContent)],
+) -> Result<(), NoMemory>
+    ensures { OnOk result (out.new.items ≡ out.old.items ++ vectors_octets (vectors_for (type_vectors leave_all t (of_type t events.now)))) }
+{
+    let mut leave = leave_all;
+    for event in events {
+        leave = put_if_typed(out, first, leave, t, event)?;
+    }
+    if leave {
+        put_leave(out, t)?;
+    }
+    Ok(())
+}
+
+/// How many events are of a type.
+fn count_of(t: AttributeType, events: &[(MrpEvent, MsrpKey, MsrpContent)]) -> usize
+    ensures count { result ≡ length (of_type t events.now) }
+    ensures within { result ≤ length events.now }
+{
+    let mut n = 0usize;
+    for event in events {
+        if has_type(t, &event.2) {
+            n += 1;
+        }
+    }
+    n
+}
+
+/// How many octets the vectors of a type's events take, where so many events are of the type.
+fn list_size(leave_all: bool, t: AttributeType, n: usize) -> usize
+    requires { n ≤ 1500 }
+    ensures size { result ≡ list_size leave_all t n }
+    ensures small { result ≤ 60000 }
+{
+    if n == 0 {
+        return if leave_all { 2 + length_of(t) } else { 0 };
+    }
+    match t {
+        AttributeType::Advertise => n * 28,
+        AttributeType::Failed => n * 37,
+        AttributeType::Listener => n * 12,
+        AttributeType::Domain => n * 7,
+    }
+}
+
+/// Writes the Message of a type, if it has one.
+fn put_type(
+    out: &mut Vec<u8>,
+    first: &mut Vec<u8>,
+    leave_all: bool,
+    t: AttributeType,
+    events: &[(MrpEvent, MsrpKey, MsrpContent)],
+) -> Result<(), NoMemory>
+    requires { length events.now ≤ 1500 }
+    ensures { OnOk result (out.new.items ≡ out.old.items ++ messages_octets (map (message_for Msrp) (type_messages leave_all events.now t))) }
+{
+    mrpdu_codec::written_list_size();
+    mrpdu_codec::numbers_are_read_back();
+    let size = list_size(leave_all, t, count_of(t, events));
+    if size == 0 {
+        return Ok(());
+    }
+    out.push(t.number())?;
+    out.push(length_of(t) as u8)?;
+    put_number(out, (size + 2) as u64, 2)?;
+    put_vectors(out, first, leave_all, t, events)?;
+    out.extend_from_slice(&[0, 0])?;
+    Ok(())
+}
+
+/// The numbers of a Talker fit in its fields.
+fn talker_fits(_t: Talker)
+    ensures { IsTalker _t }
+{}
+
+/// The numbers of a Talker and of FailureInformation fit in their fields.
+fn failed_fits(t: Talker, _failure: Failure)
+    ensures { IsTalker t × IsFailure _failure }
+{
+    talker_fits(t);
+}
+
+/// A StreamID fits in its field.
+fn stream_fits(_stream: StreamId)
+    ensures { _stream.0 < 2 ^ 64 }
+{}
+
+/// The numbers of a Domain fit in its fields.
+fn domain_fits(_class: u8, _priority: u8, _vid: u16)
+    ensures { (_class < 2 ^ 8) × (_priority < 2 ^ 8) × (_vid < 2 ^ 16) }
+{}
+
+/// The numbers of a declaration fit in their fields, as their types have it. It is a law, and does nothing.
+fn numbers_fit(key: MsrpKey, content: &MsrpContent)
+    ensures { IsFirst (value_of key content.now) }
+{
+    match content {
+        MsrpContent::Advertise(t) => talker_fits(*t),
+        MsrpContent::Failed(t, failure) => failed_fits(*t, *failure),
+        MsrpContent::Listener(_) => stream_fits(stream_of(key)),
+        MsrpContent::Domain { priority, vid } => domain_fits(class_of(key), *priority, *vid),
+    }
+}
+
+/// The stated octets of events, with the base.
+#[tactic(auto, using(crate::proofs::SizeLemmas::few_events))]
+fn stated_octets(events: &[(MrpEvent, MsrpKey, MsrpContent)]) -> usize
+    requires { stated_octets events.now ≤ 1500 }
+    ensures octets { result ≡ stated_octets events.now }
+    ensures few { length events.now ≤ 1500 }
+
+    // Their numbers fit in their fields.
+    ensures in_range { AllByRecursion (λ x. IsFirst (value_of x.1 x.2)) events.now }
+{
+    let mut size = 106usize;
+    for event in events {
+        numbers_fit(event.1, &event.2);
+        size += row_octets(&event.2);
+    }
+    size
+}
+
+/// The octets of a PDU.
+fn written(
+    alloc: Global,
+    leave_all: bool,
+    events: &[(MrpEvent, MsrpKey, MsrpContent)],
+) -> Result<Vec<u8>, NoMemory>
+    requires { stated_octets events.now ≤ 1500 }
+    ensures octets { IfOk result (λ v. v.items ≡ msrp_spelling (record { leave_all = leave_all; events = events.now })) }
+    ensures in_range { OnOk result (AllByRecursion (λ x. IsFirst (value_of x.1 x.2)) events.now) }
+{
+    let size = stated_octets(events);
+    let mut out = Vec::with_capacity(alloc, size)?;
+    let mut first = Vec::with_capacity(alloc, 34)?;
+    out.push(0)?;
+    put_type(
+        &mut out,
+        &mut first,
+        leave_all,
+        AttributeType::Advertise,
+        events,
+    )?;
+    put_type(
+        &mut out,
+        &mut first,
+        leave_all,
+        AttributeType::Failed,
+        events,
+    )?;
+    put_type(
+        &mut out,
+        &mut first,
+        leave_all,
+        AttributeType::Listener,
+        events,
+    )?;
+    put_type(
+        &mut out,
+        &mut first,
+        leave_all,
+        AttributeType::Domain,
+        events,
+    )?;
+    out.extend_from_slice(&[0, 0])?;
+    Ok(out)
+}
+
+/// The octets that say a LeaveAll and the events of keys (IEEE Std 802.1Q-2018, 10.8.1.2, 35.2.2): a Message
+/// for each type that has an event or that the LeaveAll asks for, types ascending, and in it a vector for each
+/// event, in the order given. Where keys ascend this is the canonical encoding. With a LeaveAll the first vector
+/// of each of the four types has it. There has to be a LeaveAll or an event, each content has to belong to its
+/// key, and the stated octets of all events may be at most 1,500 with the base of 106.
+///
+/// # Errors
+///
+/// `NoMemory` where memory for the octets runs out.
+pub fn encode(alloc: Global, pdu: &MsrpPdu) -> Result<Seq<u8>, NoMemory>
+    requires { IsWritable pdu.now }
+    ensures spelled { IfOk result (λ octets. octets ≡ msrp_spelling pdu.now) }
+
+    // They read as what was written: the same LeaveAll, and the same events in the order of types.
+    ensures read_back { IfOk result (λ octets. msrp_reading octets ≡ Ok (as_written pdu.now)) }
+    ensures few { IfOk result (λ octets. length octets ≤ 1500) }
+{
+    let octets = written(alloc, pdu.leave_all, pdu.events.as_slice())?;
+    mrpdu_codec::written_is_read();
+    mrpdu_codec::written_size();
+    mrpdu_codec::written_list_size();
+    mrpdu_codec::numbers_are_read_back();
+    Ok(Seq::from_vec(octets))
+}
