@@ -108,7 +108,7 @@ module _ {K C : Type 0} {cmp : K → K → Ordering} (o : IsTotalOrder cmp) wher
   periodic-sound now s true = refl
   periodic-sound now s false = refl
 
-  due-sound : (now : Cs) (s : State K C) → (due_state now s).sound ≡ s.sound
+  pub due-sound : (now : Cs) (s : State K C) → (due_state now s).sound ≡ s.sound
   due-sound now s =
       let first : State K C = leave_timers_state now s in
       let second : State K C = due_leave_all_state now first in

@@ -3,6 +3,7 @@ pub mod Duties
 pub mod DutyRows
 pub mod EachKey
 pub mod Flying
+pub mod Links
 pub mod Lookups
 pub mod Octets
 pub mod Rooms

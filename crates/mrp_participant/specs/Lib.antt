@@ -1,4 +1,5 @@
 pub mod Duty
+pub mod Link
 pub mod Lookup
 pub mod OneRow
 pub mod Room

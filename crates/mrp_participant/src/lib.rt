@@ -21,8 +21,9 @@
 //!   row alone;
 //! - `due` fires the timers that are due: the leave timers, LeaveAll, periodic.
 //!
-//! `laws` says of the calls that touch every row what each single key has afterwards. After want of
-//! memory a participant is as it was.
+//! `laws` says of the calls that touch every row what each single key has afterwards; `duty_laws` what two
+//! participants on a link owe one another, call by call; `link_laws` the same of every history of a link. After
+//! want of memory a participant is as it was.
 //!
 //! An application is a type with `MrpApp`: its keys and contents, and how many octets they take.
 #![tactic(auto)]
@@ -31,6 +32,7 @@ mod application;
 mod calls;
 pub mod duty_laws;
 pub mod laws;
+pub mod link_laws;
 mod lookup;
 mod model;
 mod one_row;
