@@ -30,6 +30,7 @@
 mod application;
 mod calls;
 pub mod duty_laws;
+mod hearing;
 pub mod laws;
 mod lookup;
 mod model;
