@@ -1,5 +1,5 @@
 -- The keys that receiving and the timers tell are those whose registration changed.
-use Rattle.std.proofs.Common.{◌≡◌, ℕ, zero, suc, ◌<◌, Bool, true, false, not, ◌&&◌, if◌then◌else◌, nat_le, List, [], ◌∷◌, map, filter, fold, length, get_or, refl, sym, ap, ◌∙◌, subst, arith, inl, inr, option_map, option_and_then}
+use Rattle.std.proofs.Common.{◌≡◌, ℕ, zero, suc, ◌<◌, Bool, true, false, not, ◌&&◌, ◌||◌, if◌then◌else◌, nat_le, List, [], ◌∷◌, map, filter, fold, length, get_or, refl, sym, ap, ◌∙◌, subst, arith, inl, inr, option_map, option_and_then}
 use Rattle.std.specs.Prelude.{◌⊎◌, Contains, IsSome}
 use Rattle.std.specs.declared.option.Option.{Option}
 use Rattle.std.specs.declared.option.Option.TheVariants.{None, Some}
@@ -12,7 +12,7 @@ use Rattle.srp_base.specs.declared.numbers.Cs.{Cs}
 use Rattle.srp_base.specs.declared.mrp.MrpEvent.{MrpEvent}
 use Rattle.mrp_participant.specs.declared.one_row.Row.{Row}
 use Rattle.mrp_participant.specs.Lookup.{Ascends, key_of, same, find}
-use Rattle.std.specs.List.{AllByRecursion}
+use Rattle.std.specs.List.{AllByRecursion, filter_map, cons_option, list_any}
 use Rattle.std.specs.Option.{option_eq}
 use Rattle.mrp_participant.specs.OneRow.{is_leaving, is_live, registered_in, row_hearing, row_after_receive, after_hear, leave_all_row, leave_is_due, after_leave_due, left_row, periodic_row}
 use Rattle.mrp_participant.specs.State.{State, AreRows, changed_keys, rows_after_receive, left_keys, leave_timers_state, leave_all_state, periodic_fired_state, due_leave_all_state, due_state, is_leave_all_due, is_periodic_due}
@@ -64,7 +64,7 @@ option_eq-is eq one None (Some b) h = cc
 option_eq-is eq one (Some a) None h = cc
 option_eq-is eq one (Some a) (Some b) h = ap Some (one a b h)
 
-option_eq-refl : {C : Type 0} (eq : C → C → Bool) → IsEquivalence eq → (x : Option C) → option_eq eq x x ≡ true
+pub option_eq-refl : {C : Type 0} (eq : C → C → Bool) → IsEquivalence eq → (x : Option C) → option_eq eq x x ≡ true
 option_eq-refl eq laws None = refl
 option_eq-refl eq laws (Some a) = laws.refl a
 
@@ -217,3 +217,28 @@ told-are_keys key p xs k at =
     let member = In-mapped key k (filter p xs) (In-contains k (map key (filter p xs)) at) in
     let kept = In-filtered p member.0 xs member.1 in
     subst (Contains (map key xs)) (sym member.2) (Contains-in (key member.0) (map key xs) (In-map key member.0 xs kept.1))
+
+-- ---- where no leave timer is due
+
+module _ {K C : Type 0} (now : ℕ) where
+  none_due-keys_by : (r : Row K C) (rows : List (Row K C)) (b : Bool) → (b || list_any (leave_is_due now) rows) ≡ false → (list_any (leave_is_due now) rows ≡ false → filter (leave_is_due now) rows ≡ []) → (if b then r ∷ filter (leave_is_due now) rows else filter (leave_is_due now) rows) ≡ []
+  none_due-keys_by r rows true h rest = cc
+  none_due-keys_by r rows false h rest = rest h
+
+  none_due-filter : (rows : List (Row K C)) → list_any (leave_is_due now) rows ≡ false → filter (leave_is_due now) rows ≡ []
+  none_due-filter [] h = refl
+  none_due-filter (r ∷ rows) h = none_due-keys_by r rows (leave_is_due now r) h (none_due-filter rows)
+
+  none_due-rows_by : (r : Row K C) (rows : List (Row K C)) (b : Bool) → (b || list_any (leave_is_due now) rows) ≡ false → (list_any (leave_is_due now) rows ≡ false → filter_map (after_leave_due now) rows ≡ rows) → cons_option (if b then left_row r else Some r) (filter_map (after_leave_due now) rows) ≡ r ∷ rows
+  none_due-rows_by r rows true h rest = cc
+  none_due-rows_by r rows false h rest = ap (λ l. r ∷ l) (rest h)
+
+  none_due-kept : (rows : List (Row K C)) → list_any (leave_is_due now) rows ≡ false → filter_map (after_leave_due now) rows ≡ rows
+  none_due-kept [] h = refl
+  none_due-kept (r ∷ rows) h = none_due-rows_by r rows (leave_is_due now r) h (none_due-kept rows)
+
+  -- no keys leave, and the rows stay, from what the code has at hand
+  pub none-leave : (rows slice : List (Row K C)) (answer : Bool) → slice ≡ rows → answer ≡ list_any (leave_is_due now) slice → answer ≡ false → (map key_of (filter (leave_is_due now) rows) ≡ []) × (filter_map (after_leave_due now) rows ≡ rows)
+  none-leave rows slice answer is e h =
+      let none : list_any (leave_is_due now) rows ≡ false = ap (list_any (leave_is_due now)) (sym is) ∙ (sym e ∙ h) in
+      (ap (map key_of) (none_due-filter rows none), none_due-kept rows none)

@@ -1,8 +1,10 @@
+pub mod Changed
 pub mod Changes
 pub mod Duties
 pub mod DutyRows
 pub mod EachKey
 pub mod Flying
+pub mod Hearings
 pub mod Links
 pub mod Lookups
 pub mod Octets

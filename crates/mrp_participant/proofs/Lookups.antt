@@ -143,7 +143,7 @@ module _ {K C : Type 0} {cmp : K → K → Ordering} (o : IsTotalOrder cmp) wher
   -- ---- what is kept at each key
 
   -- rows above a key are above each key that is the same
-  above_same : (k q : K) (rows : List (Row K C)) → cmp k q ≡ Equal → AllByRecursion (λ y. cmp k y.key ≡ Less) rows → AllByRecursion (λ y. cmp q y.key ≡ Less) rows
+  pub above_same : (k q : K) (rows : List (Row K C)) → cmp k q ≡ Equal → AllByRecursion (λ y. cmp k y.key ≡ Less) rows → AllByRecursion (λ y. cmp q y.key ≡ Less) rows
   above_same k q rows e up = Each-map _ _ (λ y h. sym (o.congr k q y.key e) ∙ h) rows up
 
   -- the row is one of the key

@@ -204,7 +204,7 @@ AreRows-either cmp (Err x) new then_rows old ok err after before = subst (AreRow
 -- ---- an event at every row
 
 module _ {K C : Type 0} where
-  Ascends-mapped : (cmp : K → K → Ordering) (f : Row K C → Row K C) → ((r : Row K C) → (f r).key ≡ r.key) → (rows : List (Row K C)) → Ascends cmp key_of rows → Ascends cmp key_of (map f rows)
+  pub Ascends-mapped : (cmp : K → K → Ordering) (f : Row K C → Row K C) → ((r : Row K C) → (f r).key ≡ r.key) → (rows : List (Row K C)) → Ascends cmp key_of rows → Ascends cmp key_of (map f rows)
   Ascends-mapped cmp f keeps [] up = tt
   Ascends-mapped cmp f keeps (r ∷ rows) up =
       (Each-mapped (λ y. cmp r.key y.key ≡ Less) (λ y. cmp (f r).key y.key ≡ Less) f (λ y h. rw (keeps r, keeps y) h) rows up.0, Ascends-mapped cmp f keeps rows up.1)

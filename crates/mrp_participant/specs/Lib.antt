@@ -1,4 +1,5 @@
 pub mod Duty
+pub mod Hearing
 pub mod Link
 pub mod Lookup
 pub mod OneRow

@@ -31,6 +31,7 @@
 mod application;
 mod calls;
 pub mod duty_laws;
+mod hearing;
 pub mod laws;
 pub mod link_laws;
 mod lookup;

@@ -3,6 +3,7 @@
 ghost use Rattle.std.specs.Prelude.{◌≡◌};
 ghost use Rattle.applicant.specs.Table.{withdraw_of};
 ghost use Rattle.mrp_participant.specs.OneRow.{is_live, kept_row, applicant_takes, registrar_takes, with_applicant, fresh_row, declared_row, left_row, leave_all_row, with_heard, heard_row, makes_row, registered_in, declared_in, leave_is_due, after_leave_due, periodic_row, is_settled};
+ghost use Rattle.mrp_participant.specs.Hearing.{begun_row};
 ghost use Rattle.mrp_participant.specs.Sending.{round, is_tried, opportunity, before_opportunity, row_after, said_at, written, sent_row, sent_event};
 
 use applicant::{AppEvent, Applicant, Say};
@@ -125,6 +126,17 @@ impl<K: Copy, C: Copy> Row<K, C> {
     {
         let after = self.registrar_takes(RegEvent::RxLeaveAll, leave);
         after.applicant_takes(AppEvent::RxLeaveAll)
+    }
+
+    /// The row as the events of a list of messages find it: after its LeaveAll, where it has one.
+    pub(crate) fn begun(self, leave_all: bool, leave: Cs) -> Row<K, C>
+        ensures { result ≡ begun_row leave_all leave self }
+    {
+        if leave_all {
+            self.hears_leave_all(leave)
+        } else {
+            self
+        }
     }
 
     /// The row with what the neighbour has declared.

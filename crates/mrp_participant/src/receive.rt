@@ -1,20 +1,21 @@
 //! What a received list of messages makes of the rows (IEEE Std 802.1Q-2018, 10.7.5 and 10.7.6).
 
-ghost use Rattle.std.specs.Prelude.{◌≡◌, ◌<◌, ◌+◌, ◌^◌, map, filter, fold, not, Some, if◌then◌else◌, OnOk, OnErr, IfOk};
+ghost use Rattle.std.specs.Prelude.{◌≡◌, ◌<◌, ◌+◌, ◌^◌, map, filter, not, Some, if◌then◌else◌, OnOk, OnErr, IfOk};
 ghost use Rattle.std.specs.Option.{option_eq};
 ghost use Rattle.leaveall.specs.Table.{table};
 ghost use Rattle.leaveall.specs.declared.LaEvent.TheVariants.{Rx};
-ghost use Rattle.mrp_participant.specs.Lookup.{Ascends, key_of, find, put};
-ghost use Rattle.mrp_participant.specs.OneRow.{after_hear, leave_all_row, registered_in};
-ghost use Rattle.mrp_participant.specs.State.{AreRows, after, rows_hearing, rows_after_receive, changed_keys, received_state};
+ghost use Rattle.mrp_participant.specs.Lookup.{Ascends, key_of, find};
+ghost use Rattle.mrp_participant.specs.OneRow.{registered_in};
+ghost use Rattle.mrp_participant.specs.State.{AreRows, after, rows_after_receive, changed_keys, received_state};
 
 use crate::application::{MrpApp, Msgs};
-use crate::lookup::{fill_at, find_row, place, replace_at};
+use crate::hearing::{put_heard, rows_heard};
+use crate::lookup::find_row;
 use crate::model::Participant;
-use crate::one_row::{Row, makes_row};
+use crate::one_row::Row;
 use leaveall::{LaEvent, LeaveAll};
 use srp_base::{Cs, MrpEvent, NoMemory, Seq};
-use std::alloc::{AllocError, Global};
+use std::alloc::Global;
 
 impl<A: MrpApp> Participant<A> {
     /// Takes what the neighbour sent at the moment `now`, in cs and below 2^62: LeaveAll first, then the events
@@ -29,15 +30,13 @@ impl<A: MrpApp> Participant<A> {
     {
         let alloc = *self.rows.allocator();
         let leave = Cs(now.0 + self.leave_time.0);
-        let rows = rows_after(
+        let keys = receive_in(
             alloc,
-            self.rows.as_slice(),
+            &mut self.rows,
             msgs.leave_all,
             msgs.events.as_slice(),
             leave,
         )?;
-        let keys = changed(alloc, self.rows.as_slice(), rows.as_slice())?;
-        self.rows = rows;
         self.leave_all = machine_after(self.leave_all, msgs.leave_all);
         self.next_leave_all = timer_after(self.next_leave_all, msgs.leave_all, now, self.period);
         Ok(keys)
@@ -67,96 +66,26 @@ fn timer_after(next: Cs, leave_all: bool, now: Cs, period: Cs) -> Cs
     }
 }
 
-/// The rows after a list of messages was received: LeaveAll first, then the events in order.
-fn rows_after<K: Copy + Ord, C: Copy>(
+/// Lets the rows hear a list of messages: LeaveAll first, then the events in order. Answers the keys whose
+/// registration or registered content that changes, which are among those of the events. After want of memory
+/// the rows are as they were.
+fn receive_in<K: Copy + Ord, C: Copy + Eq>(
     alloc: Global,
-    rows: &[Row<K, C>],
-    leave_all: bool,
-    events: &[(MrpEvent, K, C)],
-    leave: Cs,
-) -> Result<Vec<Row<K, C>>, NoMemory>
-    requires { AreRows K.cmp rows.now }
-    ensures heard { IfOk result (λ v. v.items ≡ rows_after_receive K.cmp leave leave_all events.now rows.now) }
-    ensures are_rows { IfOk result (λ v. AreRows K.cmp v.items) }
-{
-    let mut heard = rows_after_leave_all(alloc, rows, leave_all, leave)?;
-    hear_all(&mut heard, events, leave)?;
-    Ok(heard)
-}
-
-/// The rows after a LeaveAll was received, where one was.
-fn rows_after_leave_all<K: Copy, C: Copy>(
-    alloc: Global,
-    rows: &[Row<K, C>],
-    leave_all: bool,
-    leave: Cs,
-) -> Result<Vec<Row<K, C>>, AllocError>
-    ensures { IfOk result (λ v. v.items ≡ (if leave_all then map (leave_all_row leave) rows.now else rows.now)) }
-{
-    if leave_all {
-        each_after_leave_all(alloc, rows, leave)
-    } else {
-        Vec::from_slice(alloc, rows)
-    }
-}
-
-/// The rows after a LeaveAll was received.
-fn each_after_leave_all<K: Copy, C: Copy>(
-    alloc: Global,
-    rows: &[Row<K, C>],
-    leave: Cs,
-) -> Result<Vec<Row<K, C>>, AllocError>
-    ensures { IfOk result (λ v. v.items ≡ map (leave_all_row leave) rows.now) }
-{
-    rows.iter()
-        .map(|row| row.hears_leave_all(leave))
-        .collect(alloc)
-}
-
-/// Lets the rows hear events in order.
-fn hear_all<K: Copy + Ord, C: Copy>(
     rows: &mut Vec<Row<K, C>>,
+    leave_all: bool,
     events: &[(MrpEvent, K, C)],
     leave: Cs,
-) -> Result<(), NoMemory>
+) -> Result<Seq<K>, NoMemory>
     requires { AreRows K.cmp rows.old.items }
-    ensures heard { OnOk result (rows.new.items ≡ fold (rows_hearing K.cmp leave) rows.old.items events.now) }
+    ensures rows { OnOk result (rows.new.items ≡ rows_after_receive K.cmp leave leave_all events.now rows.old.items) }
+    ensures keys { IfOk result (λ keys. keys ≡ changed_keys K.cmp C.eq rows.old.items (rows_after_receive K.cmp leave leave_all events.now rows.old.items)) }
     ensures are_rows { OnOk result (AreRows K.cmp rows.new.items) }
+    ensures err { OnErr result (rows.new.items ≡ rows.old.items) }
 {
-    for event in events {
-        hear_in(rows, event.0, event.1, event.2, leave)?;
-    }
-    Ok(())
-}
-
-/// Lets the row of a key hear an event.
-fn hear_in<K: Copy + Ord, C: Copy>(
-    rows: &mut Vec<Row<K, C>>,
-    event: MrpEvent,
-    key: K,
-    content: C,
-    leave: Cs,
-) -> Result<(), NoMemory>
-    requires { Ascends K.cmp key_of rows.old.items }
-    ensures { OnOk result (rows.new.items ≡ put K.cmp key (after_hear event key content leave (find K.cmp key rows.old.items)) rows.old.items) }
-{
-    match place(rows.as_slice(), &key) {
-        Ok(at) => {
-            let row = rows[at];
-            replace_at(rows, at, Some(row.hears(event, content, leave)));
-            Ok(())
-        }
-        Err(at) => {
-            if !makes_row(event) {
-                return Ok(());
-            }
-            fill_at(
-                rows,
-                at,
-                Row::fresh(key, content).hears(event, content, leave),
-            )
-        }
-    }
+    let heard = rows_heard(alloc, rows.as_slice(), leave_all, events, leave)?;
+    let keys = changed(alloc, rows.as_slice(), heard.as_slice())?;
+    put_heard(rows, leave_all, heard.as_slice(), leave)?;
+    Ok(keys)
 }
 
 /// The keys whose registration or registered content differs between two lists of rows.

@@ -51,13 +51,10 @@ impl<A: MrpApp> Participant<A> {
         ensures keys { IfOk result (λ r. r.1 ≡ left_keys now self.old) }
         ensures err { OnErr result (self.new ≡ self.old) }
     {
-        let alloc = *self.rows.allocator();
-        let keys = Seq::from_vec(keys_that_leave(alloc, self.rows.as_slice(), now)?);
-        let rows = rows_that_stay(alloc, self.rows.as_slice(), now)?;
+        let keys = Seq::from_vec(fire_leave_timers(&mut self.rows, now)?);
         let leave_all = self.next_leave_all.0 <= now.0;
         let periodic = self.periodic.due(now);
         let fired = count(keys.len(), leave_all, periodic);
-        self.rows = rows;
         self.fire_leave_all(now);
         self.fire_periodic(now);
         Ok((fired, keys))
@@ -99,6 +96,25 @@ fn any_leave_due<K: Copy, C: Copy>(rows: &[Row<K, C>], now: Cs) -> bool
     ensures { result ≡ list_any (leave_is_due now.0) rows.now }
 {
     rows.iter().any(|row| row.leave_is_due(now))
+}
+
+/// Fires the leave timers that are due, and answers their keys. Where none is due nothing is copied. After want
+/// of memory the rows are as they were.
+fn fire_leave_timers<K: Copy, C: Copy>(
+    rows: &mut Vec<Row<K, C>>,
+    now: Cs,
+) -> Result<Vec<K>, NoMemory>
+    ensures keys { IfOk result (λ v. v.items ≡ map key_of (filter (leave_is_due now.0) rows.old.items)) }
+    ensures rows { OnOk result (rows.new.items ≡ filter_map (after_leave_due now.0) rows.old.items) }
+    ensures err { OnErr result (rows.new.items ≡ rows.old.items) }
+{
+    let alloc = *rows.allocator();
+    if !any_leave_due(rows.as_slice(), now) {
+        return Ok(Vec::new(alloc));
+    }
+    let keys = keys_that_leave(alloc, rows.as_slice(), now)?;
+    *rows = rows_that_stay(alloc, rows.as_slice(), now)?;
+    Ok(keys)
 }
 
 /// The keys whose leave timers are due.

@@ -1,0 +1,27 @@
+use Rattle.std.proofs.Common.{ap, sym, ◌∙◌, ◌+◌, subst, drop}
+use Rattle.std.specs.List.{AllByRecursion}
+use Rattle.std.specs.Prelude.{IsSome}
+use Rattle.std.specs.declared.option.Option.TheVariants.{Some}
+use Rattle.mrp_participant.specs.Lookup.{Ascends, key_of, find, put}
+use Rattle.mrp_participant.specs.Hearing.{put_over}
+use Rattle.mrp_participant.proofs.Lookups.{fold-step}
+use Rattle.mrp_participant.proofs.Hearings.{each-at_drop, Ascends-put_row, known-put}
+use Rattle.mrp_participant.proofs.hearing.put_known.Goals as goal
+
+pub put_in-requires-clause-rows : goal.put_in-requires-clause-rows
+put_in-requires-clause-rows g c = c.loop-row.invariant.ascends
+
+pub put_in-requires-clause-known : goal.put_in-requires-clause-known
+put_in-requires-clause-known g c = (each-at_drop _ c.args.heard.now _ _ c.loop-row-test.true c.row-item.is c.loop-row.invariant.known).0
+
+pub loop-row-preserved : goal.loop-row-preserved
+loop-row-preserved g c =
+    record {
+      put =
+          fold-step (λ rows u. put g.K.Ord.cmp u.key (Some u) rows) _ _ _ _ _ c.loop-row-test.true c.row-item.is c.loop-row.invariant.put
+          ∙ ap (λ rows. put_over g.K.Ord.cmp (drop (c.loop-row.row-index + 1) c.args.heard.now) rows) (sym c.put_in.ensures);
+      ascends = subst (Ascends g.K.Ord.cmp key_of) (sym c.put_in.ensures) (Ascends-put_row g.met.K.Ord.total _ _ c.loop-row.invariant.ascends);
+      known =
+          subst (λ rows. AllByRecursion (λ u. IsSome (find g.K.Ord.cmp u.key rows)) (drop (c.loop-row.row-index + 1) c.args.heard.now)) (sym c.put_in.ensures)
+          (known-put g.met.K.Ord.total _ _ _ c.loop-row.invariant.ascends (each-at_drop _ c.args.heard.now _ _ c.loop-row-test.true c.row-item.is c.loop-row.invariant.known).1);
+    }

@@ -1,0 +1,11 @@
+use Rattle.std.proofs.Common.{◌∙◌, sym}
+use Rattle.mrp_participant.proofs.Changes.{none-leave}
+use Rattle.mrp_participant.proofs.timers.fire_leave_timers.Goals as goal
+
+pub returns-then-not-any_leave_due-clause-keys : goal.returns-then-not-any_leave_due-clause-keys
+returns-then-not-any_leave_due-clause-keys g c =
+    c.new.ensures.items ∙ sym (none-leave c.args.now.0 c.args.rows.now.items _ _ c.as_slice.ensures.value c.any_leave_due.ensures c.if-not-any_leave_due.true).0
+
+pub returns-then-not-any_leave_due-clause-rows : goal.returns-then-not-any_leave_due-clause-rows
+returns-then-not-any_leave_due-clause-rows g c =
+    sym (none-leave c.args.now.0 c.args.rows.now.items _ _ c.as_slice.ensures.value c.any_leave_due.ensures c.if-not-any_leave_due.true).1

@@ -1,0 +1,228 @@
+//! What a list of messages makes of the rows, in the time of what it speaks of: the rows of its keys are found
+//! beside the participant's rows, which are then changed in place. Only where a key had no row are the rows
+//! merged with them into a new list. What wants memory comes first.
+
+ghost use Rattle.std.specs.Prelude.{◌≡◌, ◌<◌, ◌≤◌, ◌+◌, ◌∷◌, ◌⊎◌, map, fold, length, drop, true, Some, IsSome, option_map, OnOk, OnErr, IfOk};
+ghost use Rattle.std.specs.Option.{is_some};
+ghost use Rattle.std.specs.List.{AllByRecursion, list_all};
+ghost use Rattle.mrp_participant.specs.Lookup.{Ascends, key_of, find, put};
+ghost use Rattle.mrp_participant.specs.OneRow.{after_hear};
+ghost use Rattle.mrp_participant.specs.State.{AreRows};
+ghost use Rattle.mrp_participant.specs.Hearing.{first_of, begun_row, row_so_far, heard_with, heard_rows, merged, put_over};
+
+use crate::lookup::{fill_at, find_row, place, replace_at};
+use crate::one_row::{Row, makes_row};
+use srp_base::{Cs, MrpEvent, NoMemory};
+use std::alloc::Global;
+use std::cmp::Ordering;
+
+/// The rows of the keys that events speak of, after LeaveAll and then the events in order.
+pub(crate) fn rows_heard<K: Copy + Ord, C: Copy>(
+    alloc: Global,
+    rows: &[Row<K, C>],
+    leave_all: bool,
+    events: &[(MrpEvent, K, C)],
+    leave: Cs,
+) -> Result<Vec<Row<K, C>>, NoMemory>
+    requires { AreRows K.cmp rows.now }
+    ensures heard { IfOk result (λ v. v.items ≡ heard_rows K.cmp leave_all leave rows.now events.now) }
+    ensures are_rows { IfOk result (λ v. AreRows K.cmp v.items) }
+{
+    let mut heard = Vec::new(alloc);
+    for event in events {
+        hear_beside(
+            &mut heard, rows, leave_all, event.0, event.1, event.2, leave,
+        )?;
+    }
+    Ok(heard)
+}
+
+/// Lets the row of a key hear an event, beside the rows.
+fn hear_beside<K: Copy + Ord, C: Copy>(
+    heard: &mut Vec<Row<K, C>>,
+    rows: &[Row<K, C>],
+    leave_all: bool,
+    event: MrpEvent,
+    key: K,
+    content: C,
+    leave: Cs,
+) -> Result<(), NoMemory>
+    requires heard { Ascends K.cmp key_of heard.old.items }
+    requires rows { Ascends K.cmp key_of rows.now }
+    ensures { OnOk result (heard.new.items ≡ put K.cmp key (after_hear event key content leave (row_so_far K.cmp leave_all leave rows.now heard.old.items key)) heard.old.items) }
+{
+    match place(heard.as_slice(), &key) {
+        Ok(at) => {
+            let row = heard[at];
+            replace_at(heard, at, Some(row.hears(event, content, leave)));
+            Ok(())
+        }
+        Err(at) => match first_heard(rows, leave_all, event, key, content, leave) {
+            Some(row) => fill_at(heard, at, row),
+            None => Ok(()),
+        },
+    }
+}
+
+/// The row of a key after the first event of it.
+fn first_heard<K: Copy + Ord, C: Copy>(
+    rows: &[Row<K, C>],
+    leave_all: bool,
+    event: MrpEvent,
+    key: K,
+    content: C,
+    leave: Cs,
+) -> Option<Row<K, C>>
+    requires { Ascends K.cmp key_of rows.now }
+    ensures { result ≡ after_hear event key content leave (option_map (begun_row leave_all leave) (find K.cmp key rows.now)) }
+{
+    match find_row(rows, &key) {
+        Some(row) => Some(row.begun(leave_all, leave).hears(event, content, leave)),
+        None => {
+            if makes_row(event) {
+                Some(Row::fresh(key, content).hears(event, content, leave))
+            } else {
+                None
+            }
+        }
+    }
+}
+
+/// Puts the rows of the keys that were heard of over the rows, after LeaveAll where there is one. After want of
+/// memory the rows are as they were.
+pub(crate) fn put_heard<K: Copy + Ord, C: Copy>(
+    rows: &mut Vec<Row<K, C>>,
+    leave_all: bool,
+    heard: &[Row<K, C>],
+    leave: Cs,
+) -> Result<(), NoMemory>
+    requires rows { Ascends K.cmp key_of rows.old.items }
+    requires heard { Ascends K.cmp key_of heard.now }
+    ensures each_key { OnOk result ((k : K) → find K.cmp k rows.new.items ≡ row_so_far K.cmp leave_all leave rows.old.items heard.now k) }
+    ensures ascends { OnOk result (Ascends K.cmp key_of rows.new.items) }
+    ensures err { OnErr result (rows.new.items ≡ rows.old.items) }
+{
+    add_unknown(rows, heard)?;
+    begin_all(rows, leave_all, leave);
+    put_known(rows, heard);
+    Ok(())
+}
+
+/// Adds the rows of keys that have none. After want of memory the rows are as they were.
+fn add_unknown<K: Copy + Ord, C: Copy>(
+    rows: &mut Vec<Row<K, C>>,
+    heard: &[Row<K, C>],
+) -> Result<(), NoMemory>
+    requires rows { Ascends K.cmp key_of rows.old.items }
+    requires heard { Ascends K.cmp key_of heard.now }
+    ensures known { OnOk result (AllByRecursion (λ u. IsSome (find K.cmp u.key rows.new.items)) heard.now) }
+    ensures each_key { OnOk result ((k : K) → first_of (find K.cmp k heard.now) (find K.cmp k rows.new.items)
+        ≡ first_of (find K.cmp k heard.now) (find K.cmp k rows.old.items)) }
+    ensures ascends { OnOk result (Ascends K.cmp key_of rows.new.items) }
+    ensures err { OnErr result (rows.new.items ≡ rows.old.items) }
+{
+    if are_known(rows.as_slice(), heard) {
+        return Ok(());
+    }
+    *rows = merge(*rows.allocator(), rows.as_slice(), heard)?;
+    Ok(())
+}
+
+/// Whether each of some rows has a row of its key among others.
+fn are_known<K: Copy + Ord, C: Copy>(rows: &[Row<K, C>], heard: &[Row<K, C>]) -> bool
+    requires { Ascends K.cmp key_of rows.now }
+    ensures { result ≡ list_all (λ u. is_some (find K.cmp u.key rows.now)) heard.now }
+{
+    for row in heard {
+        if find_row(rows, &row.key).is_none() {
+            return false;
+        }
+    }
+    true
+}
+
+/// Two lists of rows as one; of two rows of one key that of `heard` stays.
+fn merge<K: Copy + Ord, C: Copy>(
+    alloc: Global,
+    rows: &[Row<K, C>],
+    heard: &[Row<K, C>],
+) -> Result<Vec<Row<K, C>>, NoMemory>
+    ensures { IfOk result (λ v. v.items ≡ merged K.cmp heard.now rows.now) }
+{
+    let mut all = Vec::new(alloc);
+    let mut i = 0;
+    let mut j = 0;
+    while i < rows.len() || j < heard.len() {
+        let (row, after, after_heard) = next_row(rows, i, heard, j);
+        all.push(row)?;
+        i = after;
+        j = after_heard;
+    }
+    Ok(all)
+}
+
+/// The next row of two lists that are merged, from a place in each, and the places after it.
+fn next_row<K: Copy + Ord, C: Copy>(
+    rows: &[Row<K, C>],
+    i: usize,
+    heard: &[Row<K, C>],
+    j: usize,
+) -> (Row<K, C>, usize, usize)
+    requires within { (i ≤ length rows.now) × (j ≤ length heard.now) }
+    requires more { (i < length rows.now) ⊎ (j < length heard.now) }
+    ensures next { merged K.cmp (drop j heard.now) (drop i rows.now) ≡ result.0 ∷ merged K.cmp (drop result.2 heard.now) (drop result.1 rows.now) }
+    ensures within { (result.1 ≤ length rows.now) × (result.2 ≤ length heard.now) }
+    ensures further { i + j < result.1 + result.2 }
+{
+    if j == heard.len() {
+        return (rows[i], i + 1, j);
+    }
+    if i == rows.len() {
+        return (heard[j], i, j + 1);
+    }
+    match heard[j].key.cmp(&rows[i].key) {
+        Ordering::Less => (heard[j], i, j + 1),
+        Ordering::Equal => (heard[j], i + 1, j + 1),
+        Ordering::Greater => (rows[i], i + 1, j),
+    }
+}
+
+/// The rows as the events find them.
+fn begin_all<K: Copy, C: Copy>(rows: &mut Vec<Row<K, C>>, leave_all: bool, leave: Cs)
+    ensures { rows.new.items ≡ map (begun_row leave_all leave) rows.old.items }
+{
+    if leave_all {
+        leave_all_in(rows, leave);
+    }
+}
+
+/// Lets every row hear a LeaveAll.
+fn leave_all_in<K: Copy, C: Copy>(rows: &mut Vec<Row<K, C>>, leave: Cs)
+    ensures { rows.new.items ≡ map (begun_row true leave) rows.old.items }
+{
+    for row in rows.iter_mut() {
+        *row = row.hears_leave_all(leave);
+    }
+}
+
+/// Puts rows in the places of those of their keys.
+fn put_known<K: Copy + Ord, C: Copy>(rows: &mut Vec<Row<K, C>>, heard: &[Row<K, C>])
+    requires rows { Ascends K.cmp key_of rows.old.items }
+    requires known { AllByRecursion (λ u. IsSome (find K.cmp u.key rows.old.items)) heard.now }
+    ensures { rows.new.items ≡ put_over K.cmp heard.now rows.old.items }
+{
+    for row in heard {
+        put_in(rows, *row);
+    }
+}
+
+/// Puts a row in the place of that of its key.
+fn put_in<K: Copy + Ord, C: Copy>(rows: &mut Vec<Row<K, C>>, row: Row<K, C>)
+    requires rows { Ascends K.cmp key_of rows.old.items }
+    requires known { IsSome (find K.cmp row.key rows.old.items) }
+    ensures { rows.new.items ≡ put K.cmp row.key (Some row) rows.old.items }
+{
+    if let Ok(at) = place(rows.as_slice(), &row.key) {
+        replace_at(rows, at, Some(row));
+    }
+}
