@@ -1,6 +1,7 @@
 use super::*;
 use srp_base::{MrpEvent, Seq, Vid};
 use std::alloc::Global;
+use std::process::Abort;
 use std::test::Fail;
 
 /// A LeaveAll or none, and one event of each VID from one number up to another.
@@ -35,26 +36,56 @@ const SKIPPED: [u8; 20] = [
     0, 9, 1, 0, 1, 5, 0x6c, 0, 0, 1, 2, 0, 1, 0, 2, 0x6c, 0, 0, 0, 0,
 ];
 
+/// The octets read as this.
+fn reads(rt: &impl Abort, alloc: Global, octets: &[u8], want: &MvrpPdu) -> Result<(), Fail> {
+    assert!(rt; octets.len() <= 1500);
+    assert_eq!(rt; &decode(alloc, octets)?, want);
+    Ok(())
+}
+
+/// It is written as these octets, and they read as it.
+fn is_written(rt: &impl Abort, alloc: Global, pdu: &MvrpPdu, octets: &[u8]) -> Result<(), Fail> {
+    let n = pdu.events.len();
+    assert!(rt; n <= 297 && (pdu.leave_all || 0 < n));
+    assert_eq!(rt; encode(alloc, pdu)?.as_slice(), octets);
+    reads(rt, alloc, octets, pdu)
+}
+
 #[test]
-fn read_and_written(rt: HostRuntime) -> Result<(), Fail> {
-    let alloc = rt.alloc();
-    let one = said(alloc, false, MrpEvent::JoinMt, 2, 3)?;
-    assert_eq!(rt; decode(alloc, &ONE)?, one);
-    assert_eq!(rt; decode(alloc, &ONE[..10])?, one);
-    assert_eq!(rt; decode(alloc, &ONE[..8])?, one);
-    assert_eq!(rt; decode(alloc, &SKIPPED)?, one);
-    let four = said(alloc, false, MrpEvent::JoinMt, 5, 9)?;
-    assert_eq!(rt; decode(alloc, &FOUR)?, four);
-    let leave_all = said(alloc, true, MrpEvent::JoinMt, 5, 5)?;
-    assert_eq!(rt; decode(alloc, &LEAVE_ALL)?, leave_all);
-    let both = said(alloc, true, MrpEvent::JoinMt, 5, 6)?;
-    assert_eq!(rt; decode(alloc, &BOTH)?, both);
-    // VIDs 0 and 1, and 4,094 and 4,095
-    let first = said(alloc, false, MrpEvent::JoinMt, 1, 2)?;
-    assert_eq!(rt; decode(alloc, &[0, 1, 2, 0, 2, 0, 0, 0x7e])?, first);
-    let last = said(alloc, false, MrpEvent::JoinMt, 4094, 4095)?;
-    assert_eq!(rt; decode(alloc, &[0, 1, 2, 0, 2, 0x0f, 0xfe, 0x7e])?, last);
-    let mut events = Vec::new(alloc);
+fn one_vid_and_four_consecutive_ones(rt: HostRuntime) -> Result<(), Fail> {
+    let one = said(rt.alloc(), false, MrpEvent::JoinMt, 2, 3)?;
+    is_written(&rt, rt.alloc(), &one, &ONE)?;
+    let four = said(rt.alloc(), false, MrpEvent::JoinMt, 5, 9)?;
+    is_written(&rt, rt.alloc(), &four, &FOUR)
+}
+
+#[test]
+fn missing_end_marks_and_an_unknown_type(rt: HostRuntime) -> Result<(), Fail> {
+    let one = said(rt.alloc(), false, MrpEvent::JoinMt, 2, 3)?;
+    reads(&rt, rt.alloc(), &ONE[..10], &one)?;
+    reads(&rt, rt.alloc(), &ONE[..8], &one)?;
+    reads(&rt, rt.alloc(), &SKIPPED, &one)
+}
+
+#[test]
+fn leave_all_alone_and_with_a_vid(rt: HostRuntime) -> Result<(), Fail> {
+    let alone = said(rt.alloc(), true, MrpEvent::JoinMt, 5, 5)?;
+    is_written(&rt, rt.alloc(), &alone, &LEAVE_ALL)?;
+    let both = said(rt.alloc(), true, MrpEvent::JoinMt, 5, 6)?;
+    is_written(&rt, rt.alloc(), &both, &BOTH)
+}
+
+#[test]
+fn numbers_that_are_no_vid(rt: HostRuntime) -> Result<(), Fail> {
+    let first = said(rt.alloc(), false, MrpEvent::JoinMt, 1, 2)?;
+    reads(&rt, rt.alloc(), &[0, 1, 2, 0, 2, 0, 0, 0x7e], &first)?;
+    let last = said(rt.alloc(), false, MrpEvent::JoinMt, 4094, 4095)?;
+    reads(&rt, rt.alloc(), &[0, 1, 2, 0, 2, 0x0f, 0xfe, 0x7e], &last)
+}
+
+#[test]
+fn two_runs(rt: HostRuntime) -> Result<(), Fail> {
+    let mut events = Vec::new(rt.alloc());
     for number in [5, 9, 10] {
         events.push((MrpEvent::JoinMt, Vid::new(number).ok_or("a VID")?))?;
     }
@@ -62,20 +93,7 @@ fn read_and_written(rt: HostRuntime) -> Result<(), Fail> {
         leave_all: true,
         events: Seq::from_vec(events),
     };
-    assert_eq!(rt; decode(alloc, &TWO_RUNS)?, two_runs);
-    let cases: [(&MvrpPdu, &[u8]); 5] = [
-        (&one, &ONE),
-        (&four, &FOUR),
-        (&leave_all, &LEAVE_ALL),
-        (&both, &BOTH),
-        (&two_runs, &TWO_RUNS),
-    ];
-    for (pdu, octets) in &cases {
-        let n = pdu.events.len();
-        assert!(rt; n <= 297 && (pdu.leave_all || 0 < n));
-        assert_eq!(rt; encode(alloc, pdu)?.as_slice(), *octets);
-    }
-    Ok(())
+    is_written(&rt, rt.alloc(), &two_runs, &TWO_RUNS)
 }
 
 #[test]
