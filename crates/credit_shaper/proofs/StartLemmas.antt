@@ -11,11 +11,11 @@ use Rattle.credit_shaper.specs.declared.port.Departure.{Departure}
 use Rattle.credit_shaper.specs.declared.trace.PortTrace.{PortTrace}
 use Rattle.credit_shaper.specs.Port.{IsPortInput}
 use Rattle.credit_shaper.specs.Trace.{Port, head_of, turn_of, starts, with_start}
-use Rattle.credit_shaper.specs.Walk.{head_index, AreHeads, IsFirst, IsIdle, IsShort, port_of, turn_in, has_frame}
+use Rattle.credit_shaper.specs.Walk.{frame_of, head_index, AreHeads, IsFirst, IsIdle, IsShort, port_of, turn_in, has_frame}
 use Rattle.credit_shaper.proofs.CreditLemmas.{below_zero}
 use Rattle.credit_shaper.proofs.MomentLemmas.{blank}
 use Rattle.credit_shaper.proofs.QueueLemmas.{waits_is}
-use Rattle.credit_shaper.proofs.TraceLemmas.{frame_of, free_line}
+use Rattle.credit_shaper.proofs.TraceLemmas.{free_line}
 
 -- a start by the frame that starts
 pub start_found : (t : ℕ) (p : Port) (x : Arrival)

@@ -13,7 +13,7 @@ use Rattle.credit_shaper.specs.declared.port.Departure.{Departure}
 use Rattle.credit_shaper.specs.declared.queues.Heads.{Heads}
 use Rattle.credit_shaper.specs.Port.{IsPortInput, no_slopes, slopes_at, arrivals_at}
 use Rattle.credit_shaper.specs.Trace.{head_of, turn_of, does_wait, with_arrivals, fresh_port, port_at, departures_of}
-use Rattle.credit_shaper.specs.Walk.{head_index, pending, AreHeads, HasReached, IsReached, IsQuiet, arrival_bit, change_bit, newest, waiting_of, port_of, turn_in, has_frame, moved_to}
+use Rattle.credit_shaper.specs.Walk.{head_index, pending, AreHeads, HasReached, IsReached, IsQuiet, arrival_bit, change_bit, newest, waiting_of, port_of, turn_in, frame_of, has_frame, moved_to}
 use Rattle.credit_shaper.proofs.CreditLemmas.{after_bits_is}
 use Rattle.credit_shaper.proofs.MomentLemmas.{blank, arrivals_join, slopes_reached}
 use Rattle.credit_shaper.proofs.QueueLemmas.{frame_at, frame_none, waits_is, pending-join}
@@ -25,13 +25,6 @@ turn_is arrivals trace heads within =
     let a : does_wait A (waiting_of arrivals trace) ≡ has_frame trace A = waits_is trace.heads arrivals trace.came A heads within in
     let b : does_wait B (waiting_of arrivals trace) ≡ has_frame trace B = waits_is trace.heads arrivals trace.came B heads within in
     rw (a, b) refl
-
--- the frame that starts in a bit time, if any
-abbrev pub frame_of : List Arrival → PortTrace → Option Arrival
-frame_of arrivals trace =
-    if nat_le trace.free_from trace.bit
-    then head_of (turn_of trace.shaper (waiting_of arrivals trace)) (waiting_of arrivals trace)
-    else None
 
 -- on a free line it is the first of the queue whose turn it is
 pub free_line : (arrivals : List Arrival) (trace : PortTrace) → AreHeads arrivals trace.came trace.heads

@@ -41,7 +41,8 @@ abbrev pub HasSlopesA : PortInput → ℕ → ℕ → ℕ → ℕ → Type 0
 HasSlopesA input least most from to =
     (t : ℕ) → from ≤ t → t < to → (least ≤ slope_a_at input t) × (slope_a_at input t ≤ most)
 
--- from a bit time at which class A's credit is 0 on, at least for that one, its slope stays between these
+-- from a bit time at which class A's credit is 0 on, at least for that one, its slope stays between
+-- these
 pub record IsStretch (input : PortInput) (least most from to : ℕ) : Type 0 where
   pub some : from < to
   pub from_zero : credit_a_at input from ≡ pos 0
@@ -64,7 +65,8 @@ bits_a input from to = count_by (is_on_line input A) (bit_times from to)
 abbrev pub area_a : PortInput → ℕ → ℕ → ℕ
 area_a input from to = sum_by (slope_a_at input) (bit_times from to)
 
--- class A bits of a window stay within the area of idleSlope plus hiCredit minus loCredit, times the rate
+-- a window's class A bits, times the rate, stay within the area of idleSlope plus hiCredit minus
+-- loCredit
 abbrev pub IsWindowAWithin : PortInput → ℕ → ℕ → ℕ → ℕ → Type 0
 IsWindowAWithin input least most from to =
     pos (bits_of input.rate * bits_a input from to)
@@ -73,9 +75,11 @@ IsWindowAWithin input least most from to =
 -- in each bit time from one to before another frames of class A wait, and none is on the line
 abbrev pub DoesWaitA : PortInput → ℕ → ℕ → Type 0
 DoesWaitA input from to =
-    (t : ℕ) → from ≤ t → t < to → (does_wait A (port_in input t).waiting ≡ true) × (is_on_line input A t ≡ false)
+    (t : ℕ) → from ≤ t → t < to
+    → (does_wait A (port_in input t).waiting ≡ true) × (is_on_line input A t ≡ false)
 
 -- a wait of class A takes no more than hiCredit minus loCredit of idleSlope
 abbrev pub IsWaitAWithin : PortInput → ℕ → ℕ → ℕ → ℕ → Type 0
 IsWaitAWithin input least most from to =
-    DoesWaitA input from to → pos (area_a input from to) ≤ℤ (hi_credit most -ℤ lo_credit (bits_of input.rate) least)
+    DoesWaitA input from to
+    → pos (area_a input from to) ≤ℤ (hi_credit most -ℤ lo_credit (bits_of input.rate) least)

@@ -45,7 +45,8 @@ after_bit line waits_a waits_b s =
 -- both credits after some bit times, in all of which the line and the queues are alike
 unfoldable pub after_bits : ℕ → Line → Bool → Bool → Shaper → Shaper
 after_bits zero line waits_a waits_b s = s
-after_bits (suc n) line waits_a waits_b s = after_bit line waits_a waits_b (after_bits n line waits_a waits_b s)
+after_bits (suc n) line waits_a waits_b s =
+    after_bit line waits_a waits_b (after_bits n line waits_a waits_b s)
 
 -- at most this far from 0
 abbrev pub IsWithin : ℕ → ℤ → Type 0

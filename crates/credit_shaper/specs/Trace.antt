@@ -14,8 +14,8 @@ use Rattle.credit_shaper.specs.Credit.{after_bit}
 use Rattle.credit_shaper.specs.Port.{is_of, slopes_at, arrivals_at}
 
 -- a port at a bit time: the frames that have arrived and not started, in order of arrival; the credits
--- with the slopes in force; the line, and the bit time from which on it is free; the departures so far.
--- The three queues are the waiting frames of each traffic
+-- with the slopes in force; what the line sends or sent last, and the bit time from which on it is free;
+-- the departures so far. The three queues are the waiting frames of each traffic
 pub record Port : Type 0 where
   pub waiting : List Arrival
   pub shaper : Shaper
@@ -63,8 +63,8 @@ abbrev pub starts : ℕ → Port → Option Arrival → Port
 starts t p None = record p { line = Free }
 starts t p (Some x) = sends_frame t p x
 
--- a port in a bit time, from what it was as the bit time began: first the frames that arrive join their
--- queues and the slopes change, then a frame starts where the line is free
+-- a port in a bit time, from what it was as the bit time began: first the frames that arrive join
+-- their queues, and the slopes change
 abbrev pub with_arrivals : PortInput → ℕ → Port → Port
 with_arrivals input t p =
     let slopes = slopes_at input t in
@@ -73,12 +73,15 @@ with_arrivals input t p =
       shaper = record p.shaper { slope_a = slopes.slope_a; slope_b = slopes.slope_b };
     }
 
+-- then, where the line is free, the first frame of the queue whose turn it is starts
 abbrev pub with_start : ℕ → Port → Port
-with_start t p = if nat_le p.free_from t then starts t p (head_of (turn_of p.shaper p.waiting) p.waiting) else p
+with_start t p =
+    if nat_le p.free_from t then starts t p (head_of (turn_of p.shaper p.waiting) p.waiting) else p
 
 -- a port after the credits' step, which ends a bit time
 abbrev pub with_credits : Port → Port
-with_credits p = record p { shaper = after_bit p.line (does_wait A p.waiting) (does_wait B p.waiting) p.shaper }
+with_credits p =
+    record p { shaper = after_bit p.line (does_wait A p.waiting) (does_wait B p.waiting) p.shaper }
 
 -- a port before bit time 0: nothing waits, the line is free, and both credits are 0
 abbrev pub fresh_port : PortInput → Port

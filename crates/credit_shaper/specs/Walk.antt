@@ -1,5 +1,5 @@
 -- How a run finds its way from one moment to the next. No public contract names these words.
-use Rattle.std.specs.Prelude.{◌≡◌, ℕ, ◌+◌, ◌*◌, ◌<◌, ◌≤◌, ◌⊎◌, Bool, true, false, nat_le, nat_lt, ◌&&◌, List, [], ◌∷◌, take, length, HoldsAt, ℤ, pos, ◌+ℤ◌, ◌<ℤ◌, int_le, if◌then◌else◌}
+use Rattle.std.specs.Prelude.{◌≡◌, ℕ, ◌+◌, ◌*◌, ◌<◌, ◌≤◌, ◌⊎◌, Bool, true, false, nat_le, nat_lt, ◌&&◌, List, [], ◌∷◌, take, length, HoldsAt, Option, None, ℤ, pos, ◌+ℤ◌, ◌<ℤ◌, int_le, if◌then◌else◌}
 use Rattle.std.specs.List.{AllWithin}
 use Rattle.credit_shaper.specs.declared.shaper.Traffic.{Traffic}
 use Rattle.credit_shaper.specs.declared.shaper.Traffic.TheVariants.{A, B, Other}
@@ -12,7 +12,7 @@ use Rattle.credit_shaper.specs.declared.trace.PortTrace.{PortTrace}
 use Rattle.credit_shaper.specs.declared.queues.Heads.{Heads}
 use Rattle.credit_shaper.specs.Credit.{after_bits}
 use Rattle.credit_shaper.specs.Port.{is_of, no_slopes}
-use Rattle.credit_shaper.specs.Trace.{Port}
+use Rattle.credit_shaper.specs.Trace.{Port, head_of, turn_of}
 
 -- the bit time of an arrival, and of a slope change
 abbrev pub arrival_bit : Arrival → ℕ
@@ -50,7 +50,8 @@ AreWithin came h = (traffic : Traffic) → head_index h traffic ≤ came
 
 -- an index is that of a frame of its traffic, or the number of those that have come
 abbrev pub IsHead : List Arrival → ℕ → Traffic → ℕ → Type 0
-IsHead arrivals came traffic i = (i ≤ came) × (i < came → HoldsAt (λ x. is_of traffic x ≡ true) arrivals i)
+IsHead arrivals came traffic i =
+    (i ≤ came) × (i < came → HoldsAt (λ x. is_of traffic x ≡ true) arrivals i)
 
 -- each index is that of a frame, or the number of those that have come
 abbrev pub AreHeads : List Arrival → ℕ → Heads → Type 0
@@ -59,7 +60,8 @@ AreHeads arrivals came h = (traffic : Traffic) → IsHead arrivals came traffic 
 -- of frames with indices from i on, those at or after their traffic's index
 abbrev pub pending : Heads → ℕ → List Arrival → List Arrival
 pending h i [] = []
-pending h i (x ∷ xs) = if nat_le (head_index h x.traffic) i then x ∷ pending h (i + 1) xs else pending h (i + 1) xs
+pending h i (x ∷ xs) =
+    if nat_le (head_index h x.traffic) i then x ∷ pending h (i + 1) xs else pending h (i + 1) xs
 
 -- the frames that wait in a trace
 abbrev pub waiting_of : List Arrival → PortTrace → List Arrival
@@ -95,6 +97,12 @@ turn_in trace =
     then A
     else if has_frame trace B && int_le (pos 0) trace.shaper.credit_b then B else Other
 
+-- the frame that starts in a trace's bit time: on a free line the first of the queue whose turn it is
+abbrev pub frame_of : List Arrival → PortTrace → Option Arrival
+frame_of arrivals trace =
+    let waiting = waiting_of arrivals trace in
+    if nat_le trace.free_from trace.bit then head_of (turn_of trace.shaper waiting) waiting else None
+
 -- the frame is the first of its queue
 pub record IsFirst (arrivals : List Arrival) (trace : PortTrace) (x : Arrival) : Type 0 where
   pub here : HoldsAt (λ y. y ≡ x) arrivals (head_index trace.heads x.traffic)
@@ -119,4 +127,7 @@ IsQuiet trace next =
 -- a trace at a later bit time, where nothing but the credits' steps happens up to it
 abbrev pub moved_to : ℕ → ℕ → PortTrace → PortTrace
 moved_to next bits trace =
-    record trace { bit = next; shaper = after_bits bits trace.line (has_frame trace A) (has_frame trace B) trace.shaper }
+    record trace {
+      bit = next;
+      shaper = after_bits bits trace.line (has_frame trace A) (has_frame trace B) trace.shaper;
+    }

@@ -15,14 +15,16 @@ ghost use Rattle.credit_shaper.specs.Departures.{sent_of, left_of, departs_as, D
 /// What leaves a port is what its trace has sent by the end, and the frames that wait then are left.
 pub fn what_leaves_is_sent_or_left()
     ensures sent { (input : PortInput) → (departures_of input).sent ≡ sent_of input }
-    ensures left { (input : PortInput) → (departures_of input).left ≡ map (λ x. x.frame) (left_of input) }
+    ensures left { (input : PortInput)
+        → (departures_of input).left ≡ map (λ x. x.frame) (left_of input) }
 {}
 
 /// Of each traffic, the frames depart in order of arrival, each at most once and with its own bits, and
 /// those that are left follow. So each frame departs once or is left.
 pub fn frames_depart_in_order()
     ensures { (input : PortInput) (traffic : Traffic) → IsPortInput input
-        → DepartInOrder (filter (is_of traffic) input.arrivals) (filter (departs_as traffic) (sent_of input))
+        → DepartInOrder (filter (is_of traffic) input.arrivals)
+        (filter (departs_as traffic) (sent_of input))
         (filter (is_of traffic) (left_of input)) }
 {}
 
@@ -34,7 +36,8 @@ pub fn left_frames_are_in_order()
 /// One frame has left the line before the next starts, each takes the bits of a frame, and each starts before
 /// the end.
 pub fn departures_follow_one_another()
-    ensures apart { (input : PortInput) → IsPortInput input → AllPairs (λ d e. d.end ≤ e.start) (sent_of input) }
+    ensures apart { (input : PortInput) → IsPortInput input
+        → AllPairs (λ d e. d.end ≤ e.start) (sent_of input) }
     ensures sized { (input : PortInput) → IsPortInput input
         → All (λ d. (d.start + 336 ≤ d.end) × (d.end ≤ d.start + 12336)) (sent_of input) }
     ensures in_time { (input : PortInput) → All (λ d. d.start < input.end) (sent_of input) }
@@ -50,11 +53,12 @@ pub fn the_line_carries_the_departures()
 /// nor the departures that start before it, whichever the ends. Inputs agree on the arrivals before a bit time
 /// where these are one list.
 pub fn nothing_depends_on_what_comes_later()
-    ensures arrivals { (xs ys : List Arrival) (t k : ℕ) → arrivals_before xs t ≡ arrivals_before ys t → k < t
-        → arrivals_at xs k ≡ arrivals_at ys k }
-    ensures port { (one other : PortInput) (t : ℕ) → AgreeBefore t one other → port_at one t ≡ port_at other t }
-    ensures departures { (one other : PortInput) (t : ℕ) → AgreeBefore t one other → t ≤ one.end → t ≤ other.end
-        → started_before t (sent_of one) ≡ started_before t (sent_of other) }
+    ensures arrivals { (xs ys : List Arrival) (t k : ℕ)
+        → arrivals_before xs t ≡ arrivals_before ys t → k < t → arrivals_at xs k ≡ arrivals_at ys k }
+    ensures port { (one other : PortInput) (t : ℕ) → AgreeBefore t one other
+        → port_at one t ≡ port_at other t }
+    ensures departures { (one other : PortInput) (t : ℕ) → AgreeBefore t one other
+        → t ≤ one.end → t ≤ other.end → started_before t (sent_of one) ≡ started_before t (sent_of other) }
 {}
 
 /// From a bit time at which class A's credit is 0 on, it stays between loCredit and hiCredit for any two
@@ -62,14 +66,16 @@ pub fn nothing_depends_on_what_comes_later()
 /// a whole run, and a slope that doesn't change gives those of 8.6.8.2.
 pub fn class_a_credit_stays_within()
     ensures { (input : PortInput) (least most from to t : ℕ) → IsPortInput input
-        → IsStretch input least most from to → from ≤ t → t ≤ to → IsCreditAWithin input least most t }
+        → IsStretch input least most from to → from ≤ t → t ≤ to
+        → IsCreditAWithin input least most t }
 {}
 
 /// Over a window in such a stretch, what class A has of the line is at most the area of its idleSlope
 /// plus hiCredit minus loCredit.
 pub fn class_a_windows_stay_within()
     ensures { (input : PortInput) (least most from to a b : ℕ) → IsPortInput input
-        → IsStretch input least most from to → from ≤ a → a ≤ b → b ≤ to → IsWindowAWithin input least most a b }
+        → IsStretch input least most from to → from ≤ a → a ≤ b → b ≤ to
+        → IsWindowAWithin input least most a b }
 {}
 
 /// While frames of class A wait and none is on the line, the area of idleSlope is at most hiCredit minus
@@ -77,5 +83,6 @@ pub fn class_a_windows_stay_within()
 /// slope.
 pub fn class_a_waits_stay_within()
     ensures { (input : PortInput) (least most from to a b : ℕ) → IsPortInput input
-        → IsStretch input least most from to → from ≤ a → a ≤ b → b ≤ to → IsWaitAWithin input least most a b }
+        → IsStretch input least most from to → from ≤ a → a ≤ b → b ≤ to
+        → IsWaitAWithin input least most a b }
 {}

@@ -40,8 +40,8 @@ pub(crate) fn next_arrival(arrivals: &[Arrival], came: usize, end: u64) -> u64
     requires { AllPairs IsNotAfter arrivals.now }
     ensures within { result ≤ end }
     ensures before { AllWithin (λ x. result ≤ x.bit) arrivals.now came (length arrivals.now) }
-    ensures later { (t : ℕ) → t ≤ end → AllWithin (λ x. t ≤ x.bit) arrivals.now came (length arrivals.now)
-        → t ≤ result }
+    ensures later { (t : ℕ) → t ≤ end
+        → AllWithin (λ x. t ≤ x.bit) arrivals.now came (length arrivals.now) → t ≤ result }
 {
     match arrivals.get(came) {
         Some(x) => x.bit.min(end),
@@ -54,8 +54,8 @@ pub(crate) fn next_change(changes: &[SlopeChange], changed: usize, end: u64) -> 
     requires { AllPairs (λ x y. x.bit < y.bit) changes.now }
     ensures within { result ≤ end }
     ensures before { AllWithin (λ x. result ≤ x.bit) changes.now changed (length changes.now) }
-    ensures later { (t : ℕ) → t ≤ end → AllWithin (λ x. t ≤ x.bit) changes.now changed (length changes.now)
-        → t ≤ result }
+    ensures later { (t : ℕ) → t ≤ end
+        → AllWithin (λ x. t ≤ x.bit) changes.now changed (length changes.now) → t ≤ result }
 {
     match changes.get(changed) {
         Some(x) => x.bit.min(end),

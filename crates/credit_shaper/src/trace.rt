@@ -36,20 +36,23 @@ impl PortTrace {
     ghost use Rattle.credit_shaper.specs.declared.shaper.Line.TheVariants.{Free};
     ghost use Rattle.credit_shaper.specs.Credit.{IsInRange};
     ghost use Rattle.credit_shaper.specs.Port.{IsPortInput};
-    ghost use Rattle.credit_shaper.specs.Trace.{port_at, with_arrivals, sends_frame, departure_at, head_of, turn_of, departures_of, fresh_port, within_bit};
+    ghost use Rattle.credit_shaper.specs.Trace.{port_at, with_arrivals, sends_frame, departure_at, departures_of, fresh_port, within_bit};
     ghost use Rattle.credit_shaper.specs.Bounds.{greatest_slope_a, IsStretch, IsCreditAWithin, IsWindowAWithin};
-    ghost use Rattle.credit_shaper.specs.Walk.{AreHeads, AreWithin, HasReached, IsFirst, IsQuiet, IsIdle, pending, head_index, port_of, waiting_of, turn_in, moved_to};
+    ghost use Rattle.credit_shaper.specs.Walk.{AreHeads, AreWithin, HasReached, IsFirst, IsQuiet, IsIdle, pending, head_index, port_of, turn_in, frame_of, moved_to};
 
     /// What becomes of a port's frames: which are sent, when each starts, and which are left.
     pub fn run(alloc: Global, input: &PortInput) -> Result<Departures, NoMemory>
         requires { IsPortInput input.now }
         ensures exact { IfOk result (λ d. d ≡ departures_of input.now) }
-        ensures credit { (t : ℕ) → IsCreditAWithin input.now 0 (greatest_slope_a input.now.slopes) t }
+        ensures credit { (t : ℕ)
+            → IsCreditAWithin input.now 0 (greatest_slope_a input.now.slopes) t }
         ensures credit_in_stretch { (slope from to t : ℕ) → IsStretch input.now slope slope from to
             → from ≤ t → t ≤ to → IsCreditAWithin input.now slope slope t }
-        ensures window { (a b : ℕ) → a ≤ b → IsWindowAWithin input.now 0 (greatest_slope_a input.now.slopes) a b }
-        ensures window_in_stretch { (slope from to a b : ℕ) → IsStretch input.now slope slope from to
-            → from ≤ a → a ≤ b → b ≤ to → IsWindowAWithin input.now slope slope a b }
+        ensures window { (a b : ℕ) → a ≤ b
+            → IsWindowAWithin input.now 0 (greatest_slope_a input.now.slopes) a b }
+        ensures window_in_stretch { (slope from to a b : ℕ)
+            → IsStretch input.now slope slope from to → from ≤ a → a ≤ b → b ≤ to
+            → IsWindowAWithin input.now slope slope a b }
     {
         PortTrace::departures(alloc, input)
     }
@@ -75,7 +78,8 @@ impl PortTrace {
     fn new(rate: Rate) -> PortTrace
         ensures bit { result.bit ≡ 0 }
         ensures reached { (input : PortInput) → input.rate ≡ rate → HasReached input 0 result }
-        ensures port { (input : PortInput) → input.rate ≡ rate → port_of input.arrivals [] result ≡ fresh_port input }
+        ensures port { (input : PortInput) → input.rate ≡ rate
+            → port_of input.arrivals [] result ≡ fresh_port input }
     {
         PortTrace {
             bit: 0,
@@ -107,7 +111,8 @@ impl PortTrace {
         ensures later { IfOk result (λ t. self.bit < t.bit) }
         ensures within { IfOk result (λ t. t.bit ≤ input.now.end) }
         ensures reached { IfOk result (λ t. HasReached input.now t.bit t) }
-        ensures port { IfOk result (λ t. port_of input.now.arrivals sent.new.items t ≡ port_at input.now t.bit) }
+        ensures port { IfOk result (λ t.
+            port_of input.now.arrivals sent.new.items t ≡ port_at input.now t.bit) }
     {
         Ok(self.in_bit(input, sent)?.goes_on(input))
     }
@@ -162,9 +167,7 @@ impl PortTrace {
         requires heads { AreHeads arrivals.now self.now.came self.now.heads }
         requires came { self.now.came ≤ length arrivals.now }
         ensures first { IfSome result (IsFirst arrivals.now self.now) }
-        ensures value { result ≡ (if nat_le self.now.free_from self.now.bit
-            then head_of (turn_of self.now.shaper (waiting_of arrivals.now self.now)) (waiting_of arrivals.now self.now)
-            else None) }
+        ensures value { result ≡ frame_of arrivals.now self.now }
     {
         if self.bit < self.free_from {
             return None;
@@ -197,9 +200,11 @@ impl PortTrace {
         requires first { IsFirst arrivals.now self x }
         requires bit { self.bit < 2 ^ 41 }
         ensures heads { AreHeads arrivals.now self.came result.heads }
-        ensures port { (sent : List Departure) → port_of arrivals.now (sent ++ departure_at self.bit x ∷ []) result
+        ensures port { (sent : List Departure)
+            → port_of arrivals.now (sent ++ departure_at self.bit x ∷ []) result
             ≡ sends_frame self.bit (port_of arrivals.now sent self) x }
-        ensures same { result ≡ record self { heads = result.heads; line = result.line; free_from = result.free_from } }
+        ensures same { result
+            ≡ record self { heads = result.heads; line = result.line; free_from = result.free_from } }
     {
         let after = self.heads.of(x.traffic) + 1;
         let head = first_of(arrivals, x.traffic, after, self.came);
@@ -213,7 +218,8 @@ impl PortTrace {
 
     /// No frame starts.
     fn rests(self) -> PortTrace
-        ensures { result ≡ (if nat_le self.free_from self.bit then record self { line = Free } else self) }
+        ensures { result
+            ≡ (if nat_le self.free_from self.bit then record self { line = Free } else self) }
     {
         if self.bit < self.free_from {
             self
@@ -313,7 +319,8 @@ impl PortTrace {
 
 /// A shaper with these slopes.
 fn with_slopes(shaper: Shaper, slopes: &SlopeChange) -> Shaper
-    ensures { result ≡ record shaper { slope_a = slopes.now.slope_a; slope_b = slopes.now.slope_b } }
+    ensures { result
+        ≡ record shaper { slope_a = slopes.now.slope_a; slope_b = slopes.now.slope_b } }
 {
     Shaper {
         slope_a: slopes.slope_a,
