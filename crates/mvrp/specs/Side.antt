@@ -1,7 +1,7 @@
 -- MVRP at a node (IEEE Std 802.1Q-2018, 11.2): its state, and the state after each call.
-use Rattle.std.specs.Prelude.{◌≡◌, ◌⊎◌, ◌≤◌, ℕ, suc, ◌-◌, Bool, true, false, if◌then◌else◌, List, [], ◌∷◌, length, map, min, Option, Some, None, slice_get, slice_set, Contains, Result, Ok, Err, IfSome}
+use Rattle.std.specs.Prelude.{◌≡◌, ◌⊎◌, ◌≤◌, ℕ, suc, ◌-◌, ◌==◌, Bool, true, false, not, ◌&&◌, ◌||◌, if◌then◌else◌, List, [], ◌∷◌, length, map, min, Option, Some, None, slice_get, slice_set, Contains, Result, Ok, Err, IfSome}
 use Rattle.std.specs.Ordering.{nat_cmp}
-use Rattle.std.specs.List.{AllByRecursion}
+use Rattle.std.specs.List.{AllByRecursion, list_all, list_any}
 use Rattle.srp_base.specs.declared.numbers.Cs.{Cs}
 use Rattle.srp_base.specs.declared.numbers.PortNo.{PortNo}
 use Rattle.srp_base.specs.declared.ports.PortSetup.{PortSetup}
@@ -13,7 +13,7 @@ use Rattle.mrpdu_codec.specs.declared.error.DecodeErr.{DecodeErr}
 use Rattle.mrpdu_codec.specs.declared.error.DecodeErr.TheVariants as errors
 use Rattle.mrp_participant.specs.Lookup.{find}
 use Rattle.mrp_participant.specs.OneRow.{is_leaving_in}
-use Rattle.mrp_participant.specs.State.{AreRows, is_silent, declared_at, registered_at, new_state, left_state, left_keys, due_state, leave_all_state, periodic_state}
+use Rattle.mrp_participant.specs.State.{AreRows, is_silent, is_still, is_any_due, declared_at, registered_at, new_state, left_state, left_keys, due_state, leave_all_state, periodic_state}
 use Rattle.attribute_propagation.specs.Dirty.{IsAscending, is_awaiting, marked, cleared}
 use Rattle.attribute_propagation.specs.Flat.{elsewhere}
 use Rattle.attribute_propagation.specs.Ports.{marked_elsewhere, marked_everywhere}
@@ -123,6 +123,16 @@ requested_vlans vid false side =
     if has_own vid side
     then record side { own = cleared nat_cmp vid side.own; awaiting = marked_everywhere nat_cmp (vid ∷ []) side.awaiting }
     else side
+
+-- ---- what a side has to do
+
+-- whether nothing is pending at any port: every participant is at rest, and no VID awaits
+abbrev pub are_still : Vlans → Bool
+are_still side = list_all is_still side.parts && list_all (λ vids. length vids == 0) side.awaiting
+
+-- whether at some port a timer is due at a moment, or a VID awaits
+abbrev pub is_busy : Cs → Vlans → Bool
+is_busy now side = list_any (is_any_due now) side.parts || list_any (λ vids. not (length vids == 0)) side.awaiting
 
 -- ---- what every side keeps
 

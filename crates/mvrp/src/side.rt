@@ -1,11 +1,11 @@
 //! The side of MVRP as contracts see it, and what it shows.
 
-ghost use Rattle.std.specs.Prelude.{◌≡◌, [], length, map, slice_get, Some, IfOk};
-ghost use Rattle.std.specs.List.{AllByRecursion};
+ghost use Rattle.std.specs.Prelude.{◌≡◌, ◌==◌, not, [], length, map, slice_get, Some, IfOk};
+ghost use Rattle.std.specs.List.{AllByRecursion, list_all, list_any};
 ghost use Rattle.srp_base.specs.declared.ports.PortSetup.{PortSetup};
-ghost use Rattle.mrp_participant.specs.State.{IsTime, new_state};
+ghost use Rattle.mrp_participant.specs.State.{IsTime, new_state, is_still, is_any_due};
 ghost use Rattle.mvrp.specs.Part.{Part};
-ghost use Rattle.mvrp.specs.Side.{Vlans, IsKept, IsLinkPort, place_of, has_own, new_vlans};
+ghost use Rattle.mvrp.specs.Side.{Vlans, IsKept, are_still, is_busy, IsLinkPort, place_of, has_own, new_vlans};
 
 use crate::app::MvrpApp;
 use attribute_propagation::Dirty;
@@ -98,6 +98,20 @@ impl MvrpSide {
         self.parts.len()
     }
 
+    /// Whether nothing is pending at any port: every participant is at rest, and no VID awaits.
+    pub fn still(&self) -> bool
+        ensures { result ≡ are_still self.now }
+    {
+        all_still(self.parts.as_slice()) && none_awaits(self.awaiting.as_slice())
+    }
+
+    /// Whether at some port a timer is due at the moment `now`, in cs, or a VID awaits.
+    pub fn is_busy(&self, now: Cs) -> bool
+        ensures { result ≡ is_busy now self.now }
+    {
+        any_due(self.parts.as_slice(), now) || some_awaits(self.awaiting.as_slice())
+    }
+
     /// Whether the application declares a VID.
     pub fn declares(&self, vid: Vid) -> bool
         ensures { result ≡ has_own vid self.now }
@@ -157,4 +171,28 @@ fn copied_awaiting(alloc: Global, sets: &[Dirty<Vid>]) -> Result<Vec<Dirty<Vid>>
         copies.push(set.copy()?)?;
     }
     Ok(copies)
+}
+
+fn all_still(parts: &[Participant<MvrpApp>]) -> bool
+    ensures { result ≡ list_all is_still parts.now }
+{
+    parts.iter().all(|part| part.still())
+}
+
+fn any_due(parts: &[Participant<MvrpApp>], now: Cs) -> bool
+    ensures { result ≡ list_any (is_any_due now) parts.now }
+{
+    parts.iter().any(|part| part.any_due(now))
+}
+
+fn none_awaits(sets: &[Dirty<Vid>]) -> bool
+    ensures { result ≡ list_all (λ vids. length vids == 0) sets.now }
+{
+    sets.iter().all(|set| set.is_empty())
+}
+
+fn some_awaits(sets: &[Dirty<Vid>]) -> bool
+    ensures { result ≡ list_any (λ vids. not (length vids == 0)) sets.now }
+{
+    sets.iter().any(|set| !set.is_empty())
 }
