@@ -10,8 +10,8 @@ ghost use Rattle.mrpdu_codec.specs.Tree.{fours_for, MrpduTree, IsTree, tree_octe
 ghost use Rattle.mrpdu_codec.specs.Grammar.{Spells};
 ghost use Rattle.mrpdu_codec.specs.Places.{span_of, header_in, places_in, behind_vectors, body_places, behind_body, known_places, kind_in, places_from, first_places, tree_places, place_of, AllStandAt};
 
-use crate::form::{AppForm, TypeForm};
 use crate::fields::{quarters, thirds};
+use crate::form::{AppForm, TypeForm};
 use crate::numbers::number;
 
 /// The octets behind so many; none where there are fewer.
