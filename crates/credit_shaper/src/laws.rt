@@ -1,9 +1,8 @@
 //! What is true of every run, over the definitions that the contract of `PortTrace::run` cites. Each is a
 //! function that does nothing; calling it brings the law to a proof.
 
-ghost use Rattle.std.specs.Prelude.{◌≡◌, ℕ, ◌+◌, ◌<◌, ◌≤◌, true, false, List, map, filter, All, AllPairs};
+ghost use Rattle.std.specs.Prelude.{◌≡◌, ℕ, ◌+◌, ◌<◌, ◌≤◌, List, map, filter, All, AllPairs};
 ghost use Rattle.std.specs.List.{list_any};
-ghost use Rattle.srp_base.specs.Bandwidth.{bits_of};
 ghost use Rattle.credit_shaper.specs.declared.shaper.Traffic.{Traffic};
 ghost use Rattle.credit_shaper.specs.declared.port.Arrival.{Arrival};
 ghost use Rattle.credit_shaper.specs.declared.port.PortInput.{PortInput};
@@ -33,8 +32,8 @@ pub fn left_frames_are_in_order()
     ensures { (input : PortInput) → IsPortInput input → AllPairs IsNotAfter (left_of input) }
 {}
 
-/// One frame has left the line before the next starts, each takes the bits of a frame, and each starts before
-/// the end.
+/// One frame has left the line before the next starts, each takes the bits of a frame, and each starts
+/// before the end.
 pub fn departures_follow_one_another()
     ensures apart { (input : PortInput) → IsPortInput input
         → AllPairs (λ d e. d.end ≤ e.start) (sent_of input) }
@@ -50,8 +49,8 @@ pub fn the_line_carries_the_departures()
 {}
 
 /// What comes at a bit time or later changes nothing before it: neither the port as the bit time begins,
-/// nor the departures that start before it, whichever the ends. Inputs agree on the arrivals before a bit time
-/// where these are one list.
+/// nor the departures that start before it, whichever the ends. Inputs agree on what arrives before a bit
+/// time where the arrivals before it are one list.
 pub fn nothing_depends_on_what_comes_later()
     ensures arrivals { (xs ys : List Arrival) (t k : ℕ)
         → arrivals_before xs t ≡ arrivals_before ys t → k < t → arrivals_at xs k ≡ arrivals_at ys k }
@@ -79,8 +78,8 @@ pub fn class_a_windows_stay_within()
 {}
 
 /// While frames of class A wait and none is on the line, the area of idleSlope is at most hiCredit minus
-/// loCredit. With one slope all along, the first frame of the queue waits at most 12,336 times the rate over the
-/// slope.
+/// loCredit. With one slope all along, the first frame of the queue waits at most 12,336 times the rate
+/// over the slope.
 pub fn class_a_waits_stay_within()
     ensures { (input : PortInput) (least most from to a b : ℕ) → IsPortInput input
         → IsStretch input least most from to → from ≤ a → a ≤ b → b ≤ to

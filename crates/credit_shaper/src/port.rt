@@ -1,7 +1,6 @@
 //! What a port's shaper is given, and what leaves the port.
 
 ghost use Rattle.std.specs.Prelude.{◌≡◌, ◌^◌, ◌<◌, ◌↔◌, IsTrue, All, AllPairs};
-ghost use Rattle.srp_base.specs.Bandwidth.{bits_of};
 ghost use Rattle.credit_shaper.specs.Port.{BeginsAtZero, IsNotAfter, IsFrameSize, AreSlopes, AreArrivals};
 ghost use Rattle.credit_shaper.specs.Trace.{departure_at};
 

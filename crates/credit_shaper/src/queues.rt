@@ -1,6 +1,6 @@
 //! The three queues of a port, each as the index of its first frame in the list of arrivals.
 
-ghost use Rattle.std.specs.Prelude.{◌≡◌, ◌+◌, ◌<◌, ◌≤◌, true, false, length, take, HoldsAt};
+ghost use Rattle.std.specs.Prelude.{◌≡◌, ◌<◌, ◌≤◌, true, false, length, take, HoldsAt};
 ghost use Rattle.std.specs.List.{AllWithin};
 ghost use Rattle.credit_shaper.specs.Port.{is_of};
 

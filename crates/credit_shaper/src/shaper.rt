@@ -1,7 +1,6 @@
 //! The credits of the two SR classes at one port, and how they go on from bit time to bit time.
 
 ghost use Rattle.std.specs.Prelude.{◌≡◌, ◌+◌, ◌*◌, ◌^◌, ◌≤◌, ◌<◌, ◌↔◌, pos, IsTrue};
-ghost use Rattle.srp_base.specs.Bandwidth.{bits_of};
 ghost use Rattle.credit_shaper.specs.Credit.{does_send, credit_after, credit_after_bits, IsWithin};
 
 use srp_base::Rate;

@@ -1,8 +1,7 @@
 //! A port's run, from one moment to the next at which something happens.
 
-ghost use Rattle.std.specs.Prelude.{◌≡◌, ℕ, ◌+◌, ◌-◌, ◌*◌, ◌^◌, ◌<◌, ◌≤◌, ◌≤ℤ◌, ◌<ℤ◌, ◌+ℤ◌, pos, Bool, true, List, [], ◌∷◌, ◌++◌, nat_le, map, length, if◌then◌else◌, IfOk, OnOk, IfSome, AllPairs};
+ghost use Rattle.std.specs.Prelude.{◌≡◌, ℕ, ◌+◌, ◌-◌, ◌*◌, ◌^◌, ◌<◌, ◌≤◌, ◌≤ℤ◌, ◌<ℤ◌, ◌+ℤ◌, pos, true, List, [], ◌∷◌, ◌++◌, nat_le, map, length, if◌then◌else◌, IfOk, IfSome};
 ghost use Rattle.credit_shaper.specs.Credit.{IsWithin};
-ghost use Rattle.credit_shaper.specs.Port.{IsNotAfter, IsFrameSize};
 
 use crate::moments::{arrived_by, changed_by, newest, next_arrival, next_change};
 use crate::port::{Arrival, Departure, Departures, PortInput, SlopeChange};
@@ -11,7 +10,7 @@ use crate::shaper::{Line, Shaper, Traffic};
 use srp_base::{NoMemory, Rate, Seq};
 use std::alloc::Global;
 
-/// A port at a bit time of its run.
+/// A port at a bit time of its run. The frames themselves stay in the input; what is sent is kept beside.
 #[derive(Clone, Copy, Debug)]
 pub struct PortTrace {
     /// The bit time.
@@ -38,9 +37,11 @@ impl PortTrace {
     ghost use Rattle.credit_shaper.specs.Port.{IsPortInput};
     ghost use Rattle.credit_shaper.specs.Trace.{port_at, with_arrivals, sends_frame, departure_at, departures_of, fresh_port, within_bit};
     ghost use Rattle.credit_shaper.specs.Bounds.{greatest_slope_a, IsStretch, IsCreditAWithin, IsWindowAWithin};
-    ghost use Rattle.credit_shaper.specs.Walk.{AreHeads, AreWithin, HasReached, IsFirst, IsQuiet, IsIdle, pending, head_index, port_of, turn_in, frame_of, moved_to};
+    ghost use Rattle.credit_shaper.specs.Walk.{AreHeads, HasReached, IsFirst, IsQuiet, IsIdle, pending, port_of, turn_in, frame_of, moved_to};
 
-    /// What becomes of a port's frames: which are sent, when each starts, and which are left.
+    /// What becomes of a port's frames: which start before the end, and when, in bit times, and which are
+    /// left. The input is as `PortInput::is_valid` tests it. The answer takes a few steps a frame, however
+    /// long the run, and the one error is want of memory (IEEE Std 802.1Q-2018, 8.6.8, 8.6.8.2).
     pub fn run(alloc: Global, input: &PortInput) -> Result<Departures, NoMemory>
         requires { IsPortInput input.now }
         ensures exact { IfOk result (λ d. d ≡ departures_of input.now) }
@@ -140,7 +141,7 @@ impl PortTrace {
         }
     }
 
-    /// The frames of this bit time join their queues, and the slopes change.
+    /// The frames of this bit time join their queues, and the slopes change where a change is due.
     fn with_arrivals(self, input: &PortInput) -> PortTrace
         requires input { IsPortInput input.now }
         requires reached { HasReached input.now self.bit self }
