@@ -1,7 +1,7 @@
 //! The declarations that MRPDUs of MSRP carry: of Talkers, Listeners and Domains (IEEE Std 802.1Q-2018, 35.2.2).
 //!
 //! ```text
-//! 00 | 03 08 000e | 0001 0200000000010001 6c 80 | 0000 | 0000
+//! 00 | 03 | 08 | 000e | 0001 0200000000010001 6c 80 | 0000 | 0000
 //!
 //! decode  octets -> MsrpPdu { leave_all: false, events: [(JoinMt, Listener 0200000000010001, Ready)] },
 //!                   or Malformed at an offset, or NoMemory
