@@ -2,7 +2,7 @@
 //!
 //! The calls stand in functions of their own without contracts, so that a test's own proof is short.
 
-ghost use Rattle.std.specs.Prelude.{◌≡◌, length, IfOk, IfSome, OnOk};
+ghost use Rattle.std.specs.Prelude.{◌≡◌, length, IfSome};
 ghost use Rattle.mvrp.specs.Side.{IsLinkPort};
 
 use crate::MvrpSide;
@@ -15,7 +15,9 @@ const JOIN: [u8; 12] = [0, 1, 2, 0, 1, 0, 7, 0x6c, 0, 0, 0, 0];
 
 const LEAVE: [u8; 12] = [0, 1, 2, 0, 1, 0, 7, 0xb4, 0, 0, 0, 0];
 
-fn setup(period: u64) -> Option<PortSetup> {
+fn setup(period: u64) -> Option<PortSetup>
+    ensures { IfSome result (λ s. s.period.0 ≡ period) }
+{
     let delta_a = Percent::new(75)?;
     let delta_b = Percent::new(0)?;
     Some(PortSetup {
@@ -27,9 +29,7 @@ fn setup(period: u64) -> Option<PortSetup> {
     })
 }
 
-fn bridge(alloc: Global) -> Result<Option<MvrpSide>, NoMemory>
-    ensures { IfOk result (λ o. IfSome o (λ side. length side.parts ≡ 2)) }
-{
+fn bridge(alloc: Global) -> Result<Option<MvrpSide>, NoMemory> {
     match (setup(1_008), setup(1_015)) {
         (Some(one), Some(two)) => {
             let side = MvrpSide::new(alloc, Cs(60), false, [one, two].as_slice())?;
@@ -50,7 +50,6 @@ fn states(side: &MvrpSide, port: PortNo, vid: Vid) -> (bool, bool)
 // What is seen when a Join comes in at port 1, is settled at port 2 and sent there.
 fn join(side: &mut MvrpSide, vid: Vid) -> Result<[bool; 6], NoMemory>
     requires { length side.old.parts ≡ 2 }
-    ensures { OnOk result (length side.new.parts ≡ 2) }
 {
     let (one, two) = (PortNo(1), PortNo(2));
     let received = side.receive(Cs(1), one, JOIN.as_slice()) == Ok(1);
@@ -80,7 +79,9 @@ fn leave(side: &mut MvrpSide, vid: Vid) -> Result<[bool; 5], NoMemory>
 fn a_vid_goes_from_port_to_port_and_leaves(rt: HostRuntime) -> Result<(), Fail> {
     let side = bridge(rt.alloc())?;
     if let (Some(mut side), Some(vid)) = (side, Vid::new(7)) {
+        assert!(rt; side.ports() == 2);
         assert_eq!(rt; join(&mut side, vid)?, [true; 6]);
+        assert!(rt; side.ports() == 2);
         assert_eq!(rt; leave(&mut side, vid)?, [true; 5]);
     }
     Ok(())
