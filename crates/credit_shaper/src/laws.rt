@@ -79,7 +79,7 @@ pub fn class_a_windows_stay_within()
 
 /// While frames of class A wait and none is on the line, the area of idleSlope is at most hiCredit minus
 /// loCredit. With one slope all along, the first frame of the queue waits at most 12,336 times the rate
-/// over the slope.
+/// over the slope, from when no frame of its class is on the line.
 pub fn class_a_waits_stay_within()
     ensures { (input : PortInput) (least most from to a b : ℕ) → IsPortInput input
         → IsStretch input least most from to → from ≤ a → a ≤ b → b ≤ to
