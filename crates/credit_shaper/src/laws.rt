@@ -8,7 +8,7 @@ ghost use Rattle.credit_shaper.specs.declared.port.Arrival.{Arrival};
 ghost use Rattle.credit_shaper.specs.declared.port.PortInput.{PortInput};
 ghost use Rattle.credit_shaper.specs.Port.{IsPortInput, IsNotAfter, is_of, arrivals_at};
 ghost use Rattle.credit_shaper.specs.Trace.{port_at, departures_of};
-ghost use Rattle.credit_shaper.specs.Bounds.{is_on_line, IsStretch, IsCreditAWithin, IsWindowAWithin, IsWaitAWithin};
+ghost use Rattle.credit_shaper.specs.Bounds.{is_on_line, greatest_slope_a, IsStretch, IsCreditAWithin, IsWindowAWithin, IsWaitAWithin};
 ghost use Rattle.credit_shaper.specs.Departures.{sent_of, left_of, departs_as, DepartInOrder, is_sending, AgreeBefore, arrivals_before, started_before};
 
 /// What leaves a port is what its trace has sent by the end, and the frames that wait then are left.
@@ -75,6 +75,15 @@ pub fn class_a_windows_stay_within()
     ensures { (input : PortInput) (least most from to a b : ℕ) → IsPortInput input
         → IsStretch input least most from to → from ≤ a → a ≤ b → b ≤ to
         → IsWindowAWithin input least most a b }
+{}
+
+/// In every run class A's credit is 0 at first, so the bounds that the greatest slope gives hold of each
+/// bit time and of each window.
+pub fn class_a_stays_within_in_every_run()
+    ensures credit { (input : PortInput) (t : ℕ) → IsPortInput input
+        → IsCreditAWithin input 0 (greatest_slope_a input.slopes) t }
+    ensures window { (input : PortInput) (a b : ℕ) → IsPortInput input → a ≤ b
+        → IsWindowAWithin input 0 (greatest_slope_a input.slopes) a b }
 {}
 
 /// While frames of class A wait and none is on the line, the area of idleSlope is at most hiCredit minus

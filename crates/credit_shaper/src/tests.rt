@@ -103,11 +103,12 @@ fn class_a_waits_for_credit(rt: HostRuntime) -> Result<(), Fail> {
         end: 20_000,
     };
     let result = run(&rt, alloc, &input)?;
-    let starts = [0, 1_600, 3_200];
+    let starts: [(u32, u64); 3] = [(1, 0), (2, 1_600), (3, 3_200)];
     assert_eq!(rt; result.sent.len(), 3);
-    for (sent, start) in result.sent.as_slice().iter().zip(starts) {
+    for (sent, (frame, start)) in result.sent.as_slice().iter().zip(starts) {
+        assert_eq!(rt; sent.frame, frame);
         assert_eq!(rt; sent.start, start);
-        assert_eq!(rt; sent.end, start + 800);
+        assert_eq!(rt; sent.end, start.wrapping_add(800));
     }
     assert!(rt; result.left.is_empty());
     Ok(())
@@ -134,6 +135,7 @@ fn class_a_saves_credit_behind_another_frame(rt: HostRuntime) -> Result<(), Fail
     {
         assert_eq!(rt; sent.start, start);
     }
+    assert!(rt; result.left.is_empty());
     Ok(())
 }
 
@@ -152,8 +154,10 @@ fn a_long_run_takes_few_steps(rt: HostRuntime) -> Result<(), Fail> {
     let mut start: u64 = 0;
     for sent in result.sent.as_slice() {
         assert_eq!(rt; sent.start, start);
+        assert_eq!(rt; sent.end, start.wrapping_add(800));
         start = start.wrapping_add(8_000_000_000);
     }
+    assert!(rt; result.left.is_empty());
     Ok(())
 }
 

@@ -1,6 +1,9 @@
+pub mod BelongingLemmas
 pub mod ReadingLemmas
 pub mod PastLemmas
 pub mod WritingLemmas
 pub mod SizeLemmas
 pub mod ReadBackLemmas
 pub mod WrittenPdu
+pub mod PlaceLemmas
+pub mod SilentLemmas

@@ -1,10 +1,16 @@
--- What a PDU that was read says of its vectors, and loops over values, vectors and Messages.
-use Rattle.std.proofs.Common.{◌≡◌, ℕ, ◌+◌, ◌≤◌, ◌^◌, true, eqb, leb, ◌&&◌, inl, inr, List, Some, subst, arith}
-use Rattle.std.specs.List.{list_all}
+-- What a PDU that was read in place says of its vectors, and loops over values, vectors and Messages.
+use Rattle.std.proofs.Common.{◌≡◌, ℕ, ◌+◌, ◌≤◌, ◌^◌, true, eqb, leb, ◌&&◌, inl, inr, List, map, Some, sym, ◌∙◌, subst, arith}
+use Rattle.std.specs.List.{list_all, flat_map}
+use Rattle.std.proofs.lemmas.List.Folds.{list_all-map, flat_map-map}
+use Rattle.mrpdu_codec.specs.declared.raw.RawVector.{RawVector}
+use Rattle.mrpdu_codec.specs.declared.raw.RawMessage.{RawMessage}
+use Rattle.mrpdu_codec.specs.Raw.{attr_in, attrs_in, message_in}
+use Rattle.msrp_codec.specs.InPlace.{fits_in_place, is_in_range_in_place, events_in_place}
+use Rattle.msrp_codec.specs.Meaning.{vector_events, message_events, is_in_range, message_in_range}
 use Rattle.std.proofs.lemmas.Bool.{cases_Bool, and_parts, and_from, leb-true, le-leb}
 use Rattle.mrpdu_codec.specs.declared.form.AppForm.TheVariants.{Msrp}
 use Rattle.mrpdu_codec.specs.declared.pdu.VectorAttr.{VectorAttr}
-use Rattle.mrpdu_codec.specs.Shape.{vector_fits, vectors_fit}
+use Rattle.mrpdu_codec.specs.Shape.{vector_fits, vectors_fit, has_form}
 use Rattle.mrpdu_codec.specs.Types.{row_of}
 use Rattle.msrp_codec.specs.declared.attribute_type.AttributeType.{AttributeType}
 use Rattle.msrp_codec.specs.declared.attribute_type.AttributeType.TheVariants.{Advertise, Failed, Listener, Domain}
@@ -50,3 +56,27 @@ typed_vectors_fit kind t vs fits is =
                 ]
           ]
     ]
+
+-- ---- in place
+
+-- vectors in place have the form of their type
+pub typed_in_place : (kind : ℕ) (t : AttributeType) (raws : List RawVector) → vectors_fit (row_of Msrp kind) (attrs_in raws) ≡ true → type_of kind ≡ Some t → list_all (fits_in_place t) raws ≡ true
+typed_in_place kind t raws fits is = sym (list_all-map (vector_fits (type_form t)) attr_in raws) ∙ typed_vectors_fit kind t (attrs_in raws) fits is
+
+-- their values are in range where those of the Message are
+pub in_range_in_place : (t : AttributeType) (raws : List RawVector) → list_all (is_in_range t) (attrs_in raws) ≡ true → list_all (is_in_range_in_place t) raws ≡ true
+in_range_in_place t raws h = sym (list_all-map (is_in_range t) attr_in raws) ∙ h
+
+-- their events are those of the Message
+pub events_meant : (t : AttributeType) (raws : List RawVector) → flat_map (vector_events t) (attrs_in raws) ≡ flat_map (events_in_place t) raws
+events_meant t raws = flat_map-map (vector_events t) attr_in raws
+
+-- the same of Messages
+pub forms_in_place : (raws : List RawMessage) → list_all (has_form Msrp) (map message_in raws) ≡ true → list_all (λ m. has_form Msrp (message_in m)) raws ≡ true
+forms_in_place raws h = sym (list_all-map (has_form Msrp) message_in raws) ∙ h
+
+pub ranges_in_place : (raws : List RawMessage) → list_all message_in_range (map message_in raws) ≡ true → list_all (λ m. message_in_range (message_in m)) raws ≡ true
+ranges_in_place raws h = sym (list_all-map message_in_range message_in raws) ∙ h
+
+pub messages_meant : (raws : List RawMessage) → flat_map message_events (map message_in raws) ≡ flat_map (λ m. message_events (message_in m)) raws
+messages_meant raws = flat_map-map message_events message_in raws

@@ -1,16 +1,14 @@
 -- What is written, piece by piece.
-use Rattle.std.proofs.Common.{◌≡◌, ℕ, ◌+◌, ◌<◌, Bool, true, false, cond, List, [], ◌∷◌, ◌++◌, length, get_or, drop, map, refl, sym, ap, ◌∙◌, inl, inr, append_assoc, append-nil, arith}
-use Rattle.std.proofs.lemmas.Bool.{cases_Bool}
-use Rattle.std.proofs.lemmas.List.{at_drop_more}
+use Rattle.std.proofs.Common.{◌≡◌, ℕ, ◌+◌, ◌<◌, Bool, true, false, List, [], ◌∷◌, ◌++◌, length, map, refl, append_assoc, append-nil, arith}
 use Rattle.mrpdu_codec.specs.declared.pdu.VectorAttr.{VectorAttr}
 use Rattle.mrpdu_codec.specs.declared.form.AppForm.TheVariants.{Msrp}
-use Rattle.mrpdu_codec.specs.Tree.{vector_octets, vectors_octets, messages_octets}
-use Rattle.mrpdu_codec.specs.Canonical.{two_octets, vector_for, vectors_for, message_for}
+use Rattle.mrpdu_codec.specs.Tree.{vectors_octets, messages_octets}
+use Rattle.mrpdu_codec.specs.Canonical.{two_octets, vectors_for, message_for}
 use Rattle.msrp_codec.specs.declared.attribute_type.AttributeType.{AttributeType}
 use Rattle.msrp_codec.specs.declared.attribute_type.AttributeType.TheVariants.{Advertise, Failed, Listener, Domain}
 use Rattle.msrp_codec.specs.AttributeType.{number_of_type, length_of}
 use Rattle.msrp_codec.specs.Meaning.{KeyEvent}
-use Rattle.msrp_codec.specs.Writing.{has_type, of_type, event_vector, type_vectors, messages_for, type_messages}
+use Rattle.msrp_codec.specs.Writing.{of_type, event_vector, type_vectors, messages_for, type_messages}
 
 -- ---- fields, one after another
 

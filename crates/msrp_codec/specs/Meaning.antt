@@ -45,11 +45,6 @@ abbrev pub listener_event : MrpEvent → StreamId → Option ListenerKind → Li
 listener_event event stream None = []
 listener_event event stream (Some kind) = (event, keys.Listener stream, contents.Listener kind) ∷ []
 
--- an event that may be there
-abbrev pub some_of : Option KeyEvent → List KeyEvent
-some_of None = []
-some_of (Some x) = x ∷ []
-
 -- the event of the value so many places after a FirstValue, with its FourPackedEvent
 abbrev pub event_at : FirstValue → ℕ → MrpEvent → ℕ → List KeyEvent
 event_at (Advertise t) i event four_packed =

@@ -1,10 +1,15 @@
 //! The laws of what octets of MSRP say.
 
-ghost use Rattle.std.specs.Prelude.{◌≡◌, ◌↔◌, ◌≤◌, List, ℕ, Bool, length, Ok, Err};
+ghost use Rattle.std.specs.Prelude.{◌≡◌, ◌↔◌, ◌≤◌, List, ℕ, Bool, length, Ok, Err, IsPermutation};
 ghost use Rattle.msrp_codec.specs.declared.pdu.MsrpKey.{MsrpKey};
 ghost use Rattle.msrp_codec.specs.declared.pdu.MsrpPdu.{MsrpPdu};
+ghost use Rattle.std.specs.List.{AllByRecursion};
+ghost use Rattle.msrp_codec.specs.Content.{Belongs};
+ghost use Rattle.msrp_codec.specs.Key.{compare_keys};
 ghost use Rattle.msrp_codec.specs.Meaning.{KeyEvent, Reads, MsrpBreaks, msrp_reading};
 ghost use Rattle.msrp_codec.specs.Writing.{msrp_spelling, in_type_order, stated_octets, of_key};
+
+use crate::pdu::MsrpKey;
 
 /// The reading as a function is the grammar with the meaning of a PDU: octets read as exactly what the PDU
 /// that they spell says, where its values stay within their fields, or as exactly the place where they are
@@ -28,4 +33,19 @@ pub fn stated_octets_suffice()
 /// are the same before and after. `is_key` tells the key from others.
 pub fn each_key_keeps_its_event()
     ensures { (events : List KeyEvent) (is_key : MsrpKey → Bool) → length (of_key is_key events) ≤ 1 → of_key is_key (in_type_order events) ≡ of_key is_key events }
+{}
+
+/// The order of types has all events, each as often as it was given.
+pub fn the_order_of_types_is_a_permutation()
+    ensures { (events : List KeyEvent) → IsPermutation events (in_type_order events) }
+{}
+
+/// Keys are ordered by kind, Talkers before Listeners before Domains, and then by number.
+pub fn keys_are_ordered()
+    ensures { (x y : MsrpKey) → ⟦<MsrpKey as Ord>⟧.cmp x y ≡ compare_keys x y }
+{}
+
+/// Of what octets say, each content belongs to its key: a Talker states the stream of its key.
+pub fn what_is_read_belongs_to_its_keys()
+    ensures { (octets : List ℕ) (read : MsrpPdu) → Reads octets read → AllByRecursion (λ e. Belongs e.1 e.2) read.events }
 {}

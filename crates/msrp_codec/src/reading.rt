@@ -1,22 +1,26 @@
 //! Octets read as the events of keys.
 
-ghost use Rattle.std.specs.Prelude.{◌≡◌, ◌↔◌, List, ◌++◌, ◌≤◌, ◌<◌, ◌+◌, ◌^◌, ℕ, Ok, Err, length, nat_le, slice_index, map, OnOk, IfOk, IsTrue, option_map};
+ghost use Rattle.std.specs.Prelude.{◌≡◌, ◌↔◌, List, ◌++◌, ◌≤◌, ◌<◌, ◌+◌, ◌^◌, ℕ, Ok, Err, length, get_or, nat_le, slice_index, map, OnOk, IfOk, IsTrue, option_map};
 ghost use Rattle.std.specs.List.{flat_map, list_all};
 ghost use Rattle.std.specs.Option.{unwrap_or};
 ghost use Rattle.mrpdu_codec.specs.declared.error.DecodeErr.TheVariants as errors;
 ghost use Rattle.mrpdu_codec.specs.declared.form.AppForm.TheVariants.{Msrp};
 ghost use Rattle.mrpdu_codec.specs.Grammar.{Breaks};
+ghost use Rattle.mrpdu_codec.specs.Octets.{four_params};
 ghost use Rattle.mrpdu_codec.specs.Reading.{Answers};
-ghost use Rattle.mrpdu_codec.specs.Shape.{has_form, vector_fits};
+ghost use Rattle.srp_base.specs.declared.mrp.MrpEvent.TheVariants.{New};
+ghost use Rattle.mrpdu_codec.specs.Raw.{attr_in, attrs_in, message_in, pdu_in};
+ghost use Rattle.mrpdu_codec.specs.Shape.{has_form};
+ghost use Rattle.msrp_codec.specs.InPlace.{fits_in_place, is_in_range_in_place, events_in_place, event_in_place, values_from, IsSilent};
 ghost use Rattle.msrp_codec.specs.declared.pdu.MsrpPdu.{MsrpPdu};
 ghost use Rattle.msrp_codec.specs.FirstValue.{first_value_of, talkers_fit, values_fit, talker_after};
-ghost use Rattle.msrp_codec.specs.AttributeType.{type_of, type_form};
-ghost use Rattle.msrp_codec.specs.Meaning.{kind_of, some_of, listener_event, event_at, events_from, vector_events, message_events, meaning, is_in_range, message_in_range, first_past_in, message_past, first_past, place_in, Reads, MsrpBreaks, msrp_reading};
+ghost use Rattle.msrp_codec.specs.AttributeType.{type_of};
+ghost use Rattle.msrp_codec.specs.Meaning.{kind_of, events_from, message_events, meaning, message_in_range, first_past_in, message_past, first_past, place_in, Reads, MsrpBreaks, msrp_reading};
 
 use crate::attribute_type::AttributeType;
 use crate::first_value::{FirstValue, first_value_of};
 use crate::pdu::{MsrpContent, MsrpKey, MsrpPdu};
-use mrpdu_codec::{AppForm, DecodeErr, Message, Pdu, VectorAttr};
+use mrpdu_codec::{AppForm, DecodeErr, RawMessage, RawPdu, RawVector, events_in};
 use srp_base::{ListenerKind, Mac, MrpEvent, NoMemory, Seq, StreamId, Talker};
 use std::alloc::{AllocError, Global};
 
@@ -47,90 +51,134 @@ fn talker_after(t: &Talker, i: usize) -> Talker
     }
 }
 
-/// The event of the value so many places after a FirstValue, if it declares something.
-fn event_at(
-    first: &FirstValue,
-    i: usize,
-    event: MrpEvent,
-    four_packed: u8,
-) -> Option<(MrpEvent, MsrpKey, MsrpContent)>
-    requires { IsTrue (values_fit first.now (i + 1)) }
-    ensures { some_of result ≡ event_at first.now i event four_packed }
+/// How many values a vector has.
+#[tactic(auto, using(crate::proofs::PlaceLemmas::count_of_values))]
+fn values_in(raw: &RawVector<'_>) -> usize
+    ensures value { result ≡ length (attr_in raw.now).events }
+    ensures few { result ≤ 8191 }
 {
-    match first {
-        FirstValue::Advertise(t) => {
-            let t = talker_after(t, i);
-            Some((event, MsrpKey::Talker(t.stream), MsrpContent::Advertise(t)))
-        }
-        FirstValue::Failed(t, failure) => {
-            let t = talker_after(t, i);
-            Some((
-                event,
-                MsrpKey::Talker(t.stream),
-                MsrpContent::Failed(t, *failure),
-            ))
-        }
-        FirstValue::Listener(stream) => {
-            let kind = kind_of(four_packed)?;
-            let stream = StreamId(stream.0 + i as u64);
-            Some((
-                event,
-                MsrpKey::Listener(stream),
-                MsrpContent::Listener(kind),
-            ))
-        }
-        FirstValue::Domain(class, priority, vid) => {
-            let priority = *priority + i as u8;
-            Some((
-                event,
-                MsrpKey::Domain(*class + i as u8),
-                MsrpContent::Domain {
-                    priority,
-                    vid: *vid,
-                },
-            ))
-        }
-    }
+    raw.count().min(raw.three_packed.len().saturating_mul(3))
+}
+
+/// The event of a value.
+#[tactic(auto, using(crate::proofs::PlaceLemmas::is_within, crate::proofs::PlaceLemmas::event_at_place))]
+fn event_in(raw: &RawVector<'_>, i: usize) -> MrpEvent
+    requires { i < length (attr_in raw.now).events }
+    ensures { result ≡ get_or (attr_in raw.now).events i New }
+{
+    events_in(raw.three_packed[i / 3])[i % 3]
+}
+
+/// The four parameters of an octet of FourPackedEvents.
+fn four_in(octet: u8) -> [u8; 4]
+    ensures { result ≡ four_params octet }
+{
+    [octet / 64, octet / 16 % 4, octet / 4 % 4, octet % 4]
 }
 
 /// The FourPackedEvent of a value; where a vector has none it is 0.
-fn four_packed_of(four_packed: &[u8], i: usize) -> u8
-    ensures { result ≡ slice_index four_packed.now i }
+#[tactic(auto, using(crate::proofs::PlaceLemmas::four_at_place, crate::proofs::PlaceLemmas::no_four))]
+fn four_packed_in(raw: &RawVector<'_>, i: usize) -> u8
+    requires { i < length (attr_in raw.now).events }
+    ensures { result ≡ slice_index (attr_in raw.now).params i }
 {
-    if i < four_packed.len() {
-        four_packed[i]
+    if i / 4 < raw.four_packed.len() {
+        four_in(raw.four_packed[i / 4])[i % 4]
     } else {
         0
     }
 }
 
-/// Puts an event at the end, if there is one.
+/// Puts the event of a value at the end, if it declares something.
 fn push_event(
     out: &mut Vec<(MrpEvent, MsrpKey, MsrpContent)>,
-    event: Option<(MrpEvent, MsrpKey, MsrpContent)>,
+    first: &FirstValue,
+    raw: &RawVector<'_>,
+    i: usize,
 ) -> Result<(), AllocError>
-    ensures { OnOk result (out.new.items ≡ out.old.items ++ some_of event) }
+    requires place { i < length (attr_in raw.now).events }
+    requires fits { IsTrue (values_fit first.now (i + 1)) }
+    ensures { OnOk result (out.new.items
+        ≡ out.old.items ++ event_in_place first.now raw.now i) }
 {
-    if let Some(event) = event {
-        out.push(event)?;
+    let event = event_in(raw, i);
+    match first {
+        FirstValue::Advertise(t) => {
+            let t = talker_after(t, i);
+            out.push((event, MsrpKey::Talker(t.stream), MsrpContent::Advertise(t)))?;
+            Ok(())
+        }
+        FirstValue::Failed(t, failure) => {
+            let t = talker_after(t, i);
+            let key = MsrpKey::Talker(t.stream);
+            out.push((event, key, MsrpContent::Failed(t, *failure)))?;
+            Ok(())
+        }
+        FirstValue::Listener(stream) => {
+            let Some(kind) = kind_of(four_packed_in(raw, i)) else {
+                return Ok(());
+            };
+            let key = MsrpKey::Listener(StreamId(stream.0 + i as u64));
+            out.push((event, key, MsrpContent::Listener(kind)))?;
+            Ok(())
+        }
+        FirstValue::Domain(class, priority, vid) => {
+            let key = MsrpKey::Domain(*class + i as u8);
+            let priority = *priority + i as u8;
+            let vid = *vid;
+            out.push((event, key, MsrpContent::Domain { priority, vid }))?;
+            Ok(())
+        }
     }
-    Ok(())
 }
 
-/// Puts the events of consecutive values at the end.
-#[tactic(auto, using(crate::proofs::ReadingLemmas::fits_fewer))]
+/// Whether a value stands in an octet of FourPackedEvents whose four Listeners are all ignored.
+fn is_silent(first: &FirstValue, raw: &RawVector<'_>, i: usize) -> bool
+    ensures { IsTrue result → IsSilent first.now raw.now i }
+{
+    match first {
+        FirstValue::Listener(_) => i / 4 < raw.four_packed.len() && raw.four_packed[i / 4] == 0,
+        _ => false,
+    }
+}
+
+/// Puts the event of a value at the end, and answers the place of the next value. Four Listeners that are
+/// all ignored are passed over at once.
+#[tactic(auto, using(crate::proofs::SilentLemmas::value_first, crate::proofs::SilentLemmas::silent_octet, crate::proofs::ReadingLemmas::fits_fewer))]
+fn push_value(
+    out: &mut Vec<(MrpEvent, MsrpKey, MsrpContent)>,
+    first: &FirstValue,
+    raw: &RawVector<'_>,
+    i: usize,
+) -> Result<usize, AllocError>
+    requires place { i < length (attr_in raw.now).events }
+    requires fits { IsTrue (values_fit first.now (length (attr_in raw.now).events)) }
+    ensures events { IfOk result (λ next. out.new.items ++ values_from first.now raw.now next
+        ≡ out.old.items ++ values_from first.now raw.now i) }
+    ensures later { IfOk result (λ next. i < next) }
+    ensures near { IfOk result (λ next. next ≤ i + 4) }
+{
+    if is_silent(first, raw, i) {
+        return Ok(i / 4 * 4 + 4);
+    }
+    push_event(out, first, raw, i)?;
+    Ok(i + 1)
+}
+
+/// Puts the events of a vector's values at the end.
 fn push_values(
     out: &mut Vec<(MrpEvent, MsrpKey, MsrpContent)>,
     first: &FirstValue,
-    four_packed: &[u8],
-    events: &[MrpEvent],
+    raw: &RawVector<'_>,
 ) -> Result<(), AllocError>
-    requires { IsTrue (values_fit first.now (length events.now)) }
-    ensures { OnOk result (out.new.items ≡ out.old.items ++ events_from first.now four_packed.now 0 events.now) }
+    requires { IsTrue (values_fit first.now (length (attr_in raw.now).events)) }
+    ensures { OnOk result (out.new.items ≡ out.old.items
+        ++ events_from first.now (attr_in raw.now).params 0 (attr_in raw.now).events) }
 {
-    for (i, event) in events.iter().enumerate() {
-        let next = event_at(first, i, *event, four_packed_of(four_packed, i));
-        push_event(out, next)?;
+    let n = values_in(raw);
+    let mut i = 0;
+    while i < n {
+        i = push_value(out, first, raw, i)?;
     }
     Ok(())
 }
@@ -139,59 +187,73 @@ fn push_values(
 fn push_vectors(
     out: &mut Vec<(MrpEvent, MsrpKey, MsrpContent)>,
     t: AttributeType,
-    vs: &[VectorAttr],
+    raws: &[RawVector<'_>],
 ) -> Result<(), AllocError>
-    requires form { IsTrue (list_all (vector_fits (type_form t)) vs.now) }
-    requires in_range { IsTrue (list_all (is_in_range t) vs.now) }
-    ensures { OnOk result (out.new.items ≡ out.old.items ++ flat_map (vector_events t) vs.now) }
+    requires form { IsTrue (list_all (fits_in_place t) raws.now) }
+    requires in_range { IsTrue (list_all (is_in_range_in_place t) raws.now) }
+    ensures { OnOk result (out.new.items
+        ≡ out.old.items ++ flat_map (events_in_place t) raws.now) }
 {
-    for v in vs {
-        let first = first_value_of(t, v.first.as_slice());
-        push_values(out, &first, v.params.as_slice(), v.events.as_slice())?;
+    for raw in raws {
+        let first = first_value_of(t, raw.first);
+        push_values(out, &first, raw)?;
     }
     Ok(())
 }
 
 /// Puts the events of a Message at the end.
-#[tactic(auto, using(crate::proofs::ReadingLemmas::typed_vectors_fit))]
+#[tactic(auto, using(crate::proofs::ReadingLemmas::typed_in_place, crate::proofs::ReadingLemmas::in_range_in_place, crate::proofs::ReadingLemmas::events_meant))]
 fn push_message(
     out: &mut Vec<(MrpEvent, MsrpKey, MsrpContent)>,
-    message: &Message,
+    raw: &RawMessage<'_>,
 ) -> Result<(), AllocError>
-    requires form { IsTrue (has_form Msrp message.now) }
-    requires in_range { IsTrue (message_in_range message.now) }
-    ensures { OnOk result (out.new.items ≡ out.old.items ++ message_events message.now) }
+    requires form { IsTrue (has_form Msrp (message_in raw.now)) }
+    requires in_range { IsTrue (message_in_range (message_in raw.now)) }
+    ensures { OnOk result (out.new.items
+        ≡ out.old.items ++ message_events (message_in raw.now)) }
 {
-    match AttributeType::of(message.kind) {
+    match AttributeType::of(raw.kind) {
         None => Ok(()),
-        Some(t) => push_vectors(out, t, message.vectors.as_slice()),
+        Some(t) => push_vectors(out, t, &raw.vectors),
     }
+}
+
+/// How many vectors Messages have: room for as many events spares most moves of what is read. No clause
+/// speaks of room.
+fn room_for(raws: &[RawMessage<'_>]) -> usize {
+    let mut room: usize = 0;
+    for raw in raws {
+        room = room.saturating_add(raw.vectors.len());
+    }
+    room
 }
 
 /// The events of Messages, in the order of their octets.
 fn events_of(
     alloc: Global,
-    messages: &[Message],
+    raws: &[RawMessage<'_>],
 ) -> Result<Vec<(MrpEvent, MsrpKey, MsrpContent)>, AllocError>
-    requires form { IsTrue (list_all (has_form Msrp) messages.now) }
-    requires in_range { IsTrue (list_all message_in_range messages.now) }
-    ensures { IfOk result (λ v. v.items ≡ flat_map message_events messages.now) }
+    requires form { IsTrue (list_all (λ m. has_form Msrp (message_in m)) raws.now) }
+    requires in_range { IsTrue (list_all (λ m. message_in_range (message_in m)) raws.now) }
+    ensures { IfOk result (λ v. v.items
+        ≡ flat_map (λ m. message_events (message_in m)) raws.now) }
 {
-    let mut out = Vec::new(alloc);
-    for message in messages {
-        push_message(&mut out, message)?;
+    let mut out = Vec::with_capacity(alloc, room_for(raws))?;
+    for raw in raws {
+        push_message(&mut out, raw)?;
     }
     Ok(out)
 }
 
 /// What a PDU says.
-fn meaning(alloc: Global, pdu: &Pdu) -> Result<MsrpPdu, NoMemory>
-    requires form { IsTrue (list_all (has_form Msrp) pdu.now.messages) }
-    requires in_range { IsTrue (list_all message_in_range pdu.now.messages) }
-    ensures { IfOk result (λ read. read ≡ meaning pdu.now) }
+#[tactic(auto, using(crate::proofs::ReadingLemmas::forms_in_place, crate::proofs::ReadingLemmas::ranges_in_place, crate::proofs::ReadingLemmas::messages_meant))]
+fn meaning(alloc: Global, raw: &RawPdu<'_>) -> Result<MsrpPdu, NoMemory>
+    requires form { IsTrue (list_all (has_form Msrp) (pdu_in raw.now).messages) }
+    requires in_range { IsTrue (list_all message_in_range (pdu_in raw.now).messages) }
+    ensures { IfOk result (λ read. read ≡ meaning (pdu_in raw.now)) }
 {
-    let leave_all = pdu.has_leave_all();
-    let events = events_of(alloc, pdu.messages.as_slice())?;
+    let leave_all = raw.has_leave_all();
+    let events = events_of(alloc, &raw.messages)?;
     Ok(MsrpPdu {
         leave_all,
         events: Seq::from_vec(events),
@@ -199,20 +261,20 @@ fn meaning(alloc: Global, pdu: &Pdu) -> Result<MsrpPdu, NoMemory>
 }
 
 /// Whether the values of a vector stay within the fields that are counted up.
-fn is_in_range(t: AttributeType, v: &VectorAttr) -> bool
-    requires { IsTrue (vector_fits (type_form t) v.now) }
-    ensures { result ≡ is_in_range t v.now }
+fn is_in_range(t: AttributeType, raw: &RawVector<'_>) -> bool
+    requires { IsTrue (fits_in_place t raw.now) }
+    ensures { result ≡ is_in_range_in_place t raw.now }
 {
-    first_value_of(t, v.first.as_slice()).values_fit(v.events.len())
+    first_value_of(t, raw.first).values_fit(values_in(raw))
 }
 
 /// The first of vectors whose values don't.
-fn first_past_in(t: AttributeType, vs: &[VectorAttr]) -> Option<usize>
-    requires { IsTrue (list_all (vector_fits (type_form t)) vs.now) }
-    ensures { result ≡ first_past_in t 0 vs.now }
+fn first_past_in(t: AttributeType, raws: &[RawVector<'_>]) -> Option<usize>
+    requires { IsTrue (list_all (fits_in_place t) raws.now) }
+    ensures { result ≡ first_past_in t 0 (attrs_in raws.now) }
 {
-    for (i, v) in vs.iter().enumerate() {
-        if !is_in_range(t, v) {
+    for (i, raw) in raws.iter().enumerate() {
+        if !is_in_range(t, raw) {
             return Some(i);
         }
     }
@@ -220,24 +282,24 @@ fn first_past_in(t: AttributeType, vs: &[VectorAttr]) -> Option<usize>
 }
 
 /// The first vector of a Message whose values don't.
-#[tactic(auto, using(crate::proofs::ReadingLemmas::typed_vectors_fit))]
-fn message_past(message: &Message) -> Option<usize>
-    requires { IsTrue (has_form Msrp message.now) }
-    ensures { result ≡ message_past message.now }
+#[tactic(auto, using(crate::proofs::ReadingLemmas::typed_in_place))]
+fn message_past(raw: &RawMessage<'_>) -> Option<usize>
+    requires { IsTrue (has_form Msrp (message_in raw.now)) }
+    ensures { result ≡ message_past (message_in raw.now) }
 {
-    match AttributeType::of(message.kind) {
+    match AttributeType::of(raw.kind) {
         None => None,
-        Some(t) => first_past_in(t, message.vectors.as_slice()),
+        Some(t) => first_past_in(t, &raw.vectors),
     }
 }
 
 /// The first vector of Messages whose values don't, by the number of its Message and its own number there.
-fn first_past(messages: &[Message]) -> Option<(usize, usize)>
-    requires { IsTrue (list_all (has_form Msrp) messages.now) }
-    ensures { result ≡ first_past 0 messages.now }
+fn first_past(raws: &[RawMessage<'_>]) -> Option<(usize, usize)>
+    requires { IsTrue (list_all (λ m. has_form Msrp (message_in m)) raws.now) }
+    ensures { result ≡ first_past 0 (map message_in raws.now) }
 {
-    for (i, message) in messages.iter().enumerate() {
-        if let Some(vector) = message_past(message) {
+    for (i, raw) in raws.iter().enumerate() {
+        if let Some(vector) = message_past(raw) {
             return Some((i, vector));
         }
     }
@@ -274,10 +336,10 @@ pub fn decode(alloc: Global, octets: &[u8]) -> Result<MsrpPdu, DecodeErr>
     ensures exact { Answers result (msrp_reading octets.now) }
 {
     mrpdu_codec::first_values_have_places();
-    let pdu = mrpdu_codec::decode(alloc, AppForm::Msrp, octets)?;
-    if let Some(vector) = first_past(pdu.messages.as_slice()) {
+    let raw = mrpdu_codec::decode_in_place(alloc, AppForm::Msrp, octets)?;
+    if let Some(vector) = first_past(&raw.messages) {
         return Err(DecodeErr::Malformed(place_in(octets, vector)));
     }
-    let read = meaning(alloc, &pdu)?;
+    let read = meaning(alloc, &raw)?;
     Ok(read)
 }

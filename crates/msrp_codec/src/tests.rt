@@ -167,7 +167,7 @@ fn malformed_at_a_place(rt: HostRuntime) {
     }
 }
 
-/// A LeaveAll, the failed Talker of a stream, the advertised one of the next, and a Listener.
+/// A LeaveAll with the failed Talker of a stream and the advertised one of the next.
 #[test]
 fn written_by_types(rt: HostRuntime) -> Result<(), Fail> {
     let alloc = rt.alloc();
@@ -198,6 +198,40 @@ fn written_as_it_was_read(rt: HostRuntime) -> Result<(), Fail> {
         &[(MrpEvent::JoinMt, MsrpKey::Listener(STREAM), ready)],
     )?;
     assert_eq!(rt; encode(alloc, &pdu)?.as_slice(), LISTENER.as_slice());
+    let t = talker(STREAM, 0x91e0_f000_fe01)?;
+    let advertised = (
+        MrpEvent::JoinMt,
+        MsrpKey::Talker(STREAM),
+        MsrpContent::Advertise(t),
+    );
+    let pdu = said(alloc, false, &[advertised])?;
+    assert_eq!(rt; encode(alloc, &pdu)?.as_slice(), ADVERTISE.as_slice());
+    Ok(())
+}
+
+/// A LeaveAll has a Message of each type, with a vector of no values and a FirstValue of zeros.
+#[test]
+fn a_leave_all_asks_for_every_type(rt: HostRuntime) -> Result<(), Fail> {
+    let alloc = rt.alloc();
+    let mut wanted = [0u8; 106];
+    wanted[1] = 1;
+    wanted[2] = 25;
+    wanted[4] = 29;
+    wanted[5] = 0x20;
+    wanted[34] = 2;
+    wanted[35] = 34;
+    wanted[37] = 38;
+    wanted[38] = 0x20;
+    wanted[76] = 3;
+    wanted[77] = 8;
+    wanted[79] = 12;
+    wanted[80] = 0x20;
+    wanted[92] = 4;
+    wanted[93] = 4;
+    wanted[95] = 8;
+    wanted[96] = 0x20;
+    let octets = encode(alloc, &said(alloc, true, &[])?)?;
+    assert_eq!(rt; octets.as_slice(), wanted.as_slice());
     Ok(())
 }
 

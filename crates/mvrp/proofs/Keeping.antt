@@ -2,7 +2,7 @@
 -- application declares or withdraws.
 use Rattle.std.proofs.Common.{◌≡◌, ◌≢◌, ◌⊎◌, inl, inr, ℕ, zero, suc, ◌+◌, ◌<◌, Bool, true, false, not, ◌&&◌, ◌||◌, if◌then◌else◌, List, [], ◌∷◌, length, map, refl, sym, ap, subst, ◌∙◌, arith}
 use Rattle.std.specs.Prelude.{IfSome, slice_get, slice_set, slice_index_or, Option, Some, None, option_map, Contains, is_some, ◌==◌}
-use Rattle.std.specs.List.{list_any, AllByRecursion}
+use Rattle.std.specs.List.{AllByRecursion}
 use Rattle.std.proofs.lemmas.List.Folds.{list_any_at}
 use Rattle.std.proofs.lemmas.Bool.Decides.{nat_tests}
 use Rattle.std.proofs.Math.ListN.{length-set}
@@ -11,7 +11,7 @@ use Rattle.srp_base.specs.declared.numbers.Cs.{Cs}
 use Rattle.srp_base.specs.declared.ports.PortSetup.{PortSetup}
 use Rattle.mrp_participant.specs.Lookup.{find, same}
 use Rattle.mrp_participant.specs.OneRow.{is_leaving_in}
-use Rattle.mrp_participant.specs.State.{AreRows, new_state, left_state, declared_at, registered_at}
+use Rattle.mrp_participant.specs.State.{AreRows, new_state, left_state, registered_at}
 use Rattle.attribute_propagation.specs.Dirty.{is_awaiting, all_marked, marked, cleared, IsAscending}
 use Rattle.attribute_propagation.specs.Flat.{is_any, elsewhere}
 use Rattle.attribute_propagation.specs.Ports.{marked_from, marked_elsewhere, marked_everywhere}
@@ -149,7 +149,7 @@ kept-put awaits side kept at below t told rows same tells =
 
 -- ---- a participant changes in its place, and tells none
 
-marked-none : (sets : List (List ℕ)) (n at : ℕ) → marked_from n nat_cmp at [] sets ≡ sets
+pub marked-none : (sets : List (List ℕ)) (n at : ℕ) → marked_from n nat_cmp at [] sets ≡ sets
 marked-none [] n at = refl
 marked-none (set ∷ sets) n at = ap (λ s. s ∷ marked_from (n + 1) nat_cmp at [] sets) (either (n == at)) ∙ ap (λ ss. set ∷ ss) (marked-none sets (n + 1) at)
   where

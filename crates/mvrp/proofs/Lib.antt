@@ -2,3 +2,5 @@ mod Keeping
 mod Places
 mod SendingLemmas
 mod SettlingLemmas
+mod VidLemmas
+mod ProperLemmas

@@ -1,5 +1,5 @@
 -- What is sent fits into a PDU, and a participant at rest has nothing to say.
-use Rattle.std.proofs.Common.{◌≡◌, ◌≢◌, ℕ, suc, ◌+◌, ◌*◌, ◌≤◌, Bool, true, false, not, ◌&&◌, ◌||◌, List, [], ◌∷◌, length, map, refl, sym, ap, ◌∙◌, arith, nat_lt}
+use Rattle.std.proofs.Common.{◌≡◌, ◌≢◌, ℕ, suc, ◌+◌, ◌*◌, ◌≤◌, Bool, true, false, not, ◌&&◌, ◌||◌, List, [], ◌∷◌, length, map, refl, ap, arith, nat_lt}
 use Rattle.std.specs.Prelude.{sum_by}
 use Rattle.std.specs.List.{list_all}
 use Rattle.srp_base.specs.declared.mrp.MrpEvent.{MrpEvent}
@@ -8,7 +8,7 @@ use Rattle.applicant.specs.declared.Applicant.TheVariants.{Vo, Vp, Vn, An, Aa, Q
 use Rattle.mrp_participant.specs.declared.one_row.Row.{Row}
 use Rattle.mrp_participant.specs.OneRow.{is_quiet, is_settled, is_leaving}
 use Rattle.mrp_participant.specs.Sending.{is_tried}
-use Rattle.mrp_participant.specs.State.{State, is_active, is_still, is_silent}
+use Rattle.mrp_participant.specs.State.{is_active, is_still, is_silent}
 use Rattle.std.proofs.lemmas.List.Sums.{sum_by-cons}
 use Rattle.std.proofs.lemmas.Bool.Decides.{nat_tests}
 use Rattle.mvrp_codec.specs.Writing.{IsWritable}

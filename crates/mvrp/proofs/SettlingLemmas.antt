@@ -1,14 +1,13 @@
 -- What settling VIDs leaves: each of them is declared by the rule, and no registration changes.
-use Rattle.std.proofs.Common.{◌≡◌, ◌≢◌, ◌⊎◌, inl, inr, ℕ, suc, ◌+◌, ◌<◌, Bool, true, false, ◌||◌, if◌then◌else◌, List, [], ◌∷◌, length, map, refl, sym, ap, subst, ◌∙◌, arith}
+use Rattle.std.proofs.Common.{◌≡◌, ◌≢◌, ◌⊎◌, inl, inr, ℕ, ◌<◌, Bool, true, false, ◌||◌, if◌then◌else◌, List, [], ◌∷◌, length, refl, sym, ap, subst, ◌∙◌, arith}
 use Rattle.std.specs.Prelude.{slice_get, slice_set, slice_index_or, IfSome, Option, Some, None, is_some}
-use Rattle.std.specs.List.{AllByRecursion}
-use Rattle.std.specs.Ordering.{nat_cmp, is_eq}
+use Rattle.std.specs.Ordering.{nat_cmp}
 use Rattle.std.proofs.lemmas.Bool.Decides.{nat_tests}
 use Rattle.std.proofs.Math.ListN.{length-set}
 use Rattle.mrp_participant.specs.Lookup.{same}
 use Rattle.mrp_participant.specs.State.{AreRows, declared_at, registered_at, declared_state, withdrawn_state}
 use Rattle.attribute_propagation.specs.Dirty.{is_awaiting}
-use Rattle.mvrp.specs.Part.{Part, same_content, declares, registers, settled_vid, settled_part}
+use Rattle.mvrp.specs.Part.{Part, same_content, declares, settled_vid, settled_part}
 use Rattle.mvrp.specs.Side.{Vlans, IsKept, IsFlatAt, is_flat, rule_at, awaiting_at, settled_vlans}
 use Rattle.std.proofs.lemmas.Option.{slice_get_read}
 use Rattle.mvrp.proofs.Places.{get-set_same, get-set_other, each-set, each-get}

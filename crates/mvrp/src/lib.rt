@@ -20,6 +20,7 @@
 
 mod app;
 mod calls;
+pub mod laws;
 mod sending;
 mod settling;
 mod side;

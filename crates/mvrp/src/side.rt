@@ -112,6 +112,13 @@ impl MvrpSide {
         any_due(self.parts.as_slice(), now) || some_awaits(self.awaiting.as_slice())
     }
 
+    /// Whether every participant is sound: it was never spoilt, or has sent a LeaveAll since.
+    pub fn all_sound(&self) -> bool
+        ensures { result ≡ list_all (λ part. part.sound) self.now.parts }
+    {
+        all_sound(self.parts.as_slice())
+    }
+
     /// Whether the application declares a VID.
     pub fn declares(&self, vid: Vid) -> bool
         ensures { result ≡ has_own vid self.now }
@@ -177,6 +184,12 @@ fn all_still(parts: &[Participant<MvrpApp>]) -> bool
     ensures { result ≡ list_all is_still parts.now }
 {
     parts.iter().all(|part| part.still())
+}
+
+fn all_sound(parts: &[Participant<MvrpApp>]) -> bool
+    ensures { result ≡ list_all (λ part. part.sound) parts.now }
+{
+    parts.iter().all(|part| part.sound())
 }
 
 fn any_due(parts: &[Participant<MvrpApp>], now: Cs) -> bool

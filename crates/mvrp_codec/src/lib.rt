@@ -27,7 +27,9 @@ mod pdu;
 mod reading;
 mod writing;
 
-pub use laws::{reading_is_the_grammar, runs_are_maximal};
+pub use laws::{
+    reading_is_the_grammar, runs_are_maximal, what_is_read_has_vids, what_is_written_is_read,
+};
 pub use mrpdu_codec::DecodeErr;
 pub use pdu::MvrpPdu;
 pub use reading::decode;

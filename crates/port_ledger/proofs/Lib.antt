@@ -15,4 +15,5 @@ pub mod Sinking
 pub mod Standing
 pub mod Taken
 pub mod TakingOut
+pub mod Unmoved
 pub mod Unwanting

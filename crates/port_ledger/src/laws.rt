@@ -2,7 +2,8 @@
 //! models of ledgers, for those who speak of whole runs. Each is a function that does nothing; calling it
 //! brings the law to a proof.
 
-ghost use Rattle.std.specs.Prelude.{◌≡◌, ◌↔◌, ◌≤◌, ◌+◌, ◌==◌, ◌&&◌, ℕ, Bool, false, nat_lt, List, [], Some, None, IfSome, IsSome, if◌then◌else◌};
+ghost use Rattle.std.specs.List.{list_any};
+ghost use Rattle.std.specs.Prelude.{◌≡◌, is_some, ◌↔◌, ◌≤◌, ◌+◌, ◌==◌, ◌&&◌, ℕ, Bool, false, nat_lt, List, [], Some, None, IfSome, IsSome, if◌then◌else◌};
 ghost use Rattle.srp_base.specs.declared.bandwidth.Class.TheVariants.{A, B};
 ghost use Rattle.srp_base.specs.declared.numbers.StreamId.{StreamId};
 ghost use Rattle.stream_importance.specs.declared.entry.Entry.{Entry};
@@ -125,4 +126,13 @@ pub fn nothing_changed_where_both_lists_are_empty()
         ↔ (booked_of after ≡ booked_of before) }
     ensures bookings { (these those : List Entry)
         → booked_only_in (booked_of these) (booked_of those) ≡ booked_only_in these those }
+{}
+
+/// A stream whose booking isn't among what changed between two lists of entries is booked after exactly where it was
+/// booked before.
+pub fn what_has_not_moved_is_booked_as_before()
+    ensures { (before after : List Entry) (s : StreamId) → IsAscending before → IsAscending after
+        → list_any (λ x. x.0 == s.0) (booked_only_in after before) ≡ false
+        → list_any (λ x. x.0 == s.0) (booked_only_in before after) ≡ false
+        → is_some (since_of after s) ≡ is_some (since_of before s) }
 {}

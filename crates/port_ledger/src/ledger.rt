@@ -126,6 +126,20 @@ impl Ledger {
         moved
     }
 
+    /// What `clock` would answer at this moment, in cs: whether a want that isn't booked may fit otherwise then.
+    pub fn shows_at(&self, now: Cs) -> bool
+        ensures { result ≡ (nat_lt self.now.moment now.0 && has_new_booking self.now) }
+    {
+        self.moment < now && has_new_booking(&self.entries, self.moment)
+    }
+
+    /// The ledger's moment, in cs: the last one that was handed to it, and 0 at the start.
+    pub fn moment(&self) -> Cs
+        ensures { result.0 ≡ self.now.moment }
+    {
+        self.moment
+    }
+
     /// The moment since when the stream is booked, in cs; None exactly where it isn't booked.
     pub fn booked(&self, stream: StreamId) -> Option<Cs>
         ensures { result ≡ since_of self.now.entries stream }
@@ -182,6 +196,20 @@ impl Ledger {
         nothing_changed_where_both_lists_are_empty();
         self.stands();
         changes(*self.entries.allocator(), before, &self.entries)
+    }
+
+    /// What changed in the booked set since it was that of this ledger.
+    pub fn changes_after(&self, before: &Ledger) -> Result<Changed, NoMemory>
+        ensures booked { IfOk result (λ c. c.booked ≡ booked_only_in self.now.entries before.now.entries) }
+        ensures dropped { IfOk result (λ c. c.dropped ≡ booked_only_in before.now.entries self.now.entries) }
+    {
+        self.stands();
+        before.stands();
+        changes(
+            *self.entries.allocator(),
+            &before.entries,
+            &self.entries,
+        )
     }
 
     /// The stream's entry, booked or not; None exactly where none is kept.

@@ -1,18 +1,30 @@
 -- What `srpnet check` prints: what a scenario holds, by its counts.
-use Rattle.std.specs.Prelude.{◌≡◌, ℕ, List, [], ◌∷◌, length, codes, Ok}
+use Rattle.std.specs.Prelude.{◌≡◌, ℕ, List, [], ◌∷◌, ◌++◌, length, codes, Ok}
 use Rattle.std.specs.Fmt.{decimal}
 use Rattle.srp_base.specs.Text.{joined}
+use Rattle.topology_file.specs.Frames.{frame_copies}
 use Rattle.topology_file.specs.Plan.{Plan}
 use Rattle.srpnet.specs.ScenarioInput.{scenario_input}
 
--- the counts, a line each; a scenario has no streams and no frames yet
-abbrev pub check_text : Plan → List ℕ
-check_text plan = joined (
+-- the counts of the network, a line each
+abbrev pub network_lines : Plan → List ℕ
+network_lines plan = joined (
     codes "nodes " ∷ decimal (length plan.nodes)
     ∷ codes "\nlinks " ∷ decimal (length plan.links)
-    ∷ codes "\nstreams 0\nevents " ∷ decimal (length plan.events)
-    ∷ codes "\nframes 0\nticks " ∷ decimal plan.ticks
+    ∷ codes "\nstreams " ∷ decimal (length plan.streams)
     ∷ codes "\n" ∷ [])
+
+-- the counts of what happens in it, a line each; frames count their copies
+abbrev pub run_lines : Plan → List ℕ
+run_lines plan = joined (
+    codes "events " ∷ decimal (length plan.events)
+    ∷ codes "\nframes " ∷ decimal (frame_copies plan.frames)
+    ∷ codes "\nticks " ∷ decimal plan.ticks
+    ∷ codes "\n" ∷ [])
+
+-- all of them
+abbrev pub check_text : Plan → List ℕ
+check_text plan = network_lines plan ++ run_lines plan
 
 -- The output of the command `check` for an input of these octets: they are a scenario, and the text is
 -- that of its counts.

@@ -109,3 +109,10 @@ pub within-end : {T B : Type 0} (rule : ℕ) (weight : B → ℕ) (said : ℕ �
     → length xs ≤ i → within_here rule weight said front room i xs ≡ all → all ≡ Ok front
 within-end rule weight said front room i xs all le h =
     sym h ∙ ap (λ ts. in_front front (each_within rule weight said (i + 1) room ts)) (drop_all i xs le) ∙ ap Ok (append-nil front)
+
+-- what is read of values that are read from others
+pub within-map : {T A B : Type 0} (rule : ℕ) (weight : B → ℕ) (f : T → A) (said : ℕ → A → Option B) (n room : ℕ) (xs : List T)
+    → each_within rule weight (λ k x. said k (f x)) n room xs ≡ each_within rule weight said n room (map f xs)
+within-map rule weight f said n room [] = refl
+within-map rule weight f said n room (x ∷ xs) =
+    ap (λ r. entry_then rule n (light room weight (said n (f x))) r) (within-map rule weight f said (n + 1) (room - weight_of weight (said n (f x))) xs)

@@ -124,3 +124,28 @@ pub fn each_within<T, B: Drop, W: Fn(&B) -> u64, F: Fn(usize, &T) -> Result<Opti
     }
     Ok(values)
 }
+
+/// `each_within` on tables, which contracts see as their members.
+///
+/// # Errors
+///
+/// `NoMemory` beside the broken rule.
+pub fn each_table_within<
+    B: Drop,
+    W: Fn(&B) -> u64,
+    F: Fn(usize, &Table) -> Result<Option<B>, NoMemory>,
+>(
+    alloc: Global,
+    rule: u8,
+    most: u64,
+    tables: &[&Table],
+    weigh: W,
+    read: F,
+) -> Result<Vec<B>, RuleErr>
+    requires weigh { W.IsAlwaysCallable weigh }
+    requires read { F.IsAlwaysCallable read }
+    ensures { (weight : B → ℕ) (said : ℕ → Members → Option B) → KeysAs (W.post weigh) weight → ReadsAs table_view (F.post read) said
+        → Reads (λ v. v.items) result (each_within_spec rule weight said 1 most (map (λ t. table_view t.now) tables.now)) }
+{
+    each_within(alloc, rule, most, tables, weigh, |n, table| read(n, table))
+}

@@ -3,7 +3,8 @@
 //! ```text
 //! fields   value_at number number_or within truth_or text tables has_only   what a table has at a key
 //! rules    RuleErr needs needs_tables holds no_entry fails_at               a rule, and how it fails
-//! entries  each_entry each_table each_within first_where first_fall         a rule on entries, one by one
+//! entries  each_entry each_table each_within each_table_within               a rule on entries, one by one
+//!          first_where first_fall
 //! shares   read_shares                                                      the shares of class A and B
 //! ```
 //!
@@ -31,7 +32,9 @@ mod shares;
 #[cfg(test)]
 mod tests;
 
-pub use entries::{each_entry, each_table, each_within, first_fall, first_where};
+pub use entries::{
+    each_entry, each_table, each_table_within, each_within, first_fall, first_where,
+};
 pub use fields::{has_only, number, number_or, tables, text, truth_or, value_at, within};
 pub use rules::{RuleErr, fails_at, holds, needs, needs_tables, no_entry};
 pub use shares::read_shares;

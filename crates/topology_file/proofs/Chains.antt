@@ -1,9 +1,10 @@
 -- What a chain of rules tells of its answer: each_entry rule passed, and what is made of what was read.
-use Rattle.std.proofs.Common.{◌≡◌, ℕ, ◌+◌, ◌≤◌, Bool, true, false, ◌&&◌, if◌then◌else◌, List, [], ◌∷◌, map, length, Option, Some, None, option_map, option_and_then, Result, Ok, Err, refl, ap, subst, ◌∙◌, leb-true, IfSome, IfOk, arith}
+use Rattle.std.proofs.Common.{◌≡◌, ◌≢◌, ℕ, zero, suc, ◌+◌, ◌≤◌, ◌<◌, Bool, true, false, ◌&&◌, if◌then◌else◌, List, [], ◌∷◌, map, length, get_or, Option, Some, None, option_map, option_and_then, Result, Ok, Err, refl, sym, ap, subst, ◌∙◌, leb-true, IfSome, IfOk, arith}
 use Rattle.std.proofs.lemmas.Bool.{and_parts}
+use Rattle.std.proofs.lemmas.List.{length-map}
 use Rattle.std.proofs.lemmas.List.Elements.{All-nil, All-cons, All-head, All-tail}
 use Rattle.std.specs.List.{All}
-use Rattle.std.specs.Prelude.{nat_le}
+use Rattle.std.specs.Prelude.{AllPairs, nat_le}
 use Rattle.toml_rules.specs.declared.rules.RuleErr.{RuleErr}
 use Rattle.toml_rules.specs.Fields.{within}
 use Rattle.srp_base.specs.Results.{◌>>=◌}
@@ -131,3 +132,65 @@ each-count high rule read h n [] le = omega (arith, le)
 each-count high rule read h n (x ∷ xs) le =
     entry-count high rule n (read n x) (each_entry rule read (n + 1) xs) (h n x)
     (λ few. same-count high n (each_entry rule read (n + 1) xs) (each-count high rule read h (n + 1) xs (omega (arith, few))))
+
+-- ---- values side by side
+
+pub unless-if : {A : Type 0} (P : A → Type 0) (b : Bool) (o : Option A) → (b ≡ false → IfSome o P) → IfSome (if b then None else o) P
+unless-if P false o h = h refl
+unless-if P true o h = tt
+
+-- what is made of a value that may be missing
+pub made-if : {A B : Type 0} (Q : A → Type 0) (P : B → Type 0) (f : A → B) (o : Option A)
+    → ((x : A) → Q x → P (f x)) → IfSome o Q → IfSome (option_map f o) P
+made-if Q P f None h q = tt
+made-if Q P f (Some x) h q = h x q
+
+-- where two lists look alike, so do their elements
+pub alike-at : {A B C : Type 0} (f : A → C) (g : B → C) (xs : List A) (ys : List B) → map g ys ≡ map f xs
+    → (i : ℕ) (d : A) (e : B) → i < length ys → g (get_or ys i e) ≡ f (get_or xs i d)
+alike-at f g xs [] h i d e lt = absurd (omega (arith, lt))
+alike-at f g [] (y ∷ ys) h i d e lt = absurd (let no : map g (y ∷ ys) ≡ [] → ⊥ = λ q. cc in no h)
+alike-at f g (x ∷ xs) (y ∷ ys) h zero d e lt = let first : g y ∷ map g ys ≡ f x ∷ map f xs = h in cc
+alike-at f g (x ∷ xs) (y ∷ ys) h (suc i) d e lt =
+    let whole : g y ∷ map g ys ≡ f x ∷ map f xs = h in
+    let rest : map g ys ≡ map f xs = cc in
+    alike-at f g xs ys rest i d e (omega (arith, lt))
+
+pub alike-length : {A B C : Type 0} (f : A → C) (g : B → C) (xs : List A) (ys : List B) → map g ys ≡ map f xs → length ys ≡ length xs
+alike-length f g xs ys h = sym (length-map ys g) ∙ ap length h ∙ length-map xs f
+
+an_element : {A : Type 0} (xs : List A) (i : ℕ) → i < length xs → A
+an_element [] i lt = absurd (omega (arith, lt))
+an_element (x ∷ xs) i lt = x
+
+-- where no two of the one list look alike, no two of the other do
+pub pairs-alike : {A B C : Type 0} (f : A → C) (g : B → C) (xs : List A) (ys : List B) → map g ys ≡ map f xs
+    → AllPairs (λ a b. f a ≢ f b) xs → AllPairs (λ a b. g a ≢ g b) ys
+pairs-alike f g xs ys h differ i j e lt inside same =
+    let far : j < length xs = omega (arith, inside, alike-length f g xs ys h) in
+    let d = an_element xs j far in
+    differ i j d lt far (sym (alike-at f g xs ys h i d e (omega (arith, lt, inside))) ∙ same ∙ alike-at f g xs ys h j d e inside)
+
+-- ---- a rule on each of so many entries
+
+-- what every entry is read with, and that there are no more of them
+pub each-keeps : {A B : Type 0} (P : B → Type 0) (high rule : ℕ) (read : ℕ → A → Option B)
+    → ((n : ℕ) (x : A) → IfSome (read n x) (λ y. P y × (n ≤ high))) → (xs : List A)
+    → IfOk (each_entry rule read 1 xs) (λ ys. All P ys × (length ys ≤ high))
+each-keeps {A} {B} P high rule read keeps xs =
+    let Q : A → Type 0 = λ x. Unit {0} in
+    both (each_entry rule read 1 xs)
+    (each-all Q P rule read (λ n x _. first-part n (read n x) (keeps n x)) 1 xs (λ i d lt. tt))
+    (each-count high rule read (λ n x. last-part n (read n x) (keeps n x)) 1 xs (omega arith))
+  where
+    both : (r : Result (List B) RuleErr) → IfOk r (All P) → IfOk r (λ ys. length ys + 1 ≤ high + 1) → IfOk r (λ ys. All P ys × (length ys ≤ high))
+    both (Ok ys) a b = (a, omega (arith, b))
+    both (Err e) a b = tt
+
+    first-part : (n : ℕ) (o : Option B) → IfSome o (λ y. P y × (n ≤ high)) → IfSome o P
+    first-part n None h = tt
+    first-part n (Some x) h = h.0
+
+    last-part : (n : ℕ) (o : Option B) → IfSome o (λ y. P y × (n ≤ high)) → IfSome o (λ _. n ≤ high)
+    last-part n None h = tt
+    last-part n (Some x) h = h.1

@@ -1,3 +1,7 @@
 pub mod Chains
 pub mod TreeRules
+pub mod NetworkKept
+pub mod StreamsKept
+pub mod EventsKept
+pub mod FramesKept
 pub mod Kept

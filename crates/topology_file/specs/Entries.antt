@@ -1,23 +1,20 @@
--- The entries of a file: their keys, their values and their defaults, and the numbers of the nodes that
--- they name.
-use Rattle.std.specs.Prelude.{ℕ, ◌==◌, Bool, true, false, ◌&&◌, ◌||◌, nat_le, nat_lt, nat_eq, if◌then◌else◌, List, [], ◌∷◌, length, codes, Option, Some, None, option_map, option_and_then}
+-- The nodes and links of a file: their keys, their values and their defaults, and the numbers of the nodes
+-- that they name.
+use Rattle.std.specs.Prelude.{ℕ, ◌==◌, Bool, true, false, ◌&&◌, ◌||◌, nat_le, nat_eq, if◌then◌else◌, List, [], ◌∷◌, length, codes, Option, Some, None, option_map, option_and_then}
 use Rattle.std.specs.Cmp.Lexicographic.{pointwise}
-use Rattle.std.specs.List.{list_all, list_any}
+use Rattle.std.specs.List.{list_all}
 use Rattle.srp_base.specs.declared.bandwidth.Rate.{Rate}
 use Rattle.srp_base.specs.declared.numbers.NodeNo.{NodeNo}
 use Rattle.srp_base.specs.Bandwidth.{rate_of_mbit}
 use Rattle.srp_base.specs.Firsts.{first_where}
 use Rattle.srp_base.specs.Hexadecimal.{hex16}
 use Rattle.toml.specs.Data.{Data, Members, get_member, as_str}
-use Rattle.toml_rules.specs.Fields.{◌>>=◌, or_default, number, number_or, within, text, has_only}
+use Rattle.toml_rules.specs.Fields.{◌>>=◌, or_default, number_or, within, text, has_only}
 use Rattle.toml_rules.specs.Shares.{shares_at}
 use Rattle.tree_topology.specs.declared.graph.NodeKind.{NodeKind}
 use Rattle.tree_topology.specs.declared.graph.NodeKind.TheVariants.{Station, Bridge}
 use Rattle.topology_file.specs.declared.entries.NodeEntry.{NodeEntry}
 use Rattle.topology_file.specs.declared.entries.LinkEntry.{LinkEntry}
-use Rattle.topology_file.specs.declared.entries.EventKind.{EventKind}
-use Rattle.topology_file.specs.declared.entries.EventKind.TheVariants as kinds
-use Rattle.topology_file.specs.declared.entries.EventForm.{EventForm}
 
 -- ---- names
 
@@ -126,79 +123,3 @@ link_form nodes n ms = if has_only link_keys ms then known_link nodes ms else No
 -- the link joins these two nodes
 abbrev pub joins_both : ℕ → ℕ → LinkEntry → Bool
 joins_both x y l = l.a.0 == x && l.b.0 == y || l.a.0 == y && l.b.0 == x
-
--- ---- events
-
-abbrev pub vlan_keys : List (List ℕ)
-vlan_keys = codes "tick" ∷ codes "kind" ∷ codes "station" ∷ codes "vid" ∷ []
-
-abbrev pub pdu_keys : List (List ℕ)
-pdu_keys = codes "tick" ∷ codes "kind" ∷ codes "from" ∷ codes "to" ∷ codes "index" ∷ []
-
-abbrev pub vid_at : Members → Option ℕ
-vid_at ms = within 1 4094 (number (codes "vid") ms)
-
-abbrev pub index_at : Members → Option ℕ
-index_at ms = within 0 65535 (number (codes "index") ms)
-
--- two nodes that a link joins
-abbrev pub joined_named : List NodeEntry → List LinkEntry → List ℕ → List ℕ → Option (NodeNo × NodeNo)
-joined_named nodes links from to = do
-  x ← node_named nodes from
-  y ← node_named nodes to
-  if list_any (joins_both x.0 y.0) links then Some (x, y) else None
-
--- a station, missing where there is none of this name, and a VID
-abbrev pub known_vlan : List NodeEntry → Members → Option (Option NodeNo × ℕ)
-known_vlan nodes ms = do
-  name ← name_at (codes "station") ms
-  vid ← vid_at ms
-  Some (station_named nodes name, vid)
-
-abbrev pub vlan_at : List NodeEntry → Members → Option (Option NodeNo × ℕ)
-vlan_at nodes ms = if has_only vlan_keys ms then known_vlan nodes ms else None
-
--- two nodes, missing where no link joins nodes of these names, and the index of a PDU
-abbrev pub known_pdu : List NodeEntry → List LinkEntry → Members → Option (Option (NodeNo × NodeNo) × ℕ)
-known_pdu nodes links ms = do
-  from ← name_at (codes "from") ms
-  to ← name_at (codes "to") ms
-  index ← index_at ms
-  Some (joined_named nodes links from to, index)
-
-abbrev pub pdu_at : List NodeEntry → List LinkEntry → Members → Option (Option (NodeNo × NodeNo) × ℕ)
-pdu_at nodes links ms = if has_only pdu_keys ms then known_pdu nodes links ms else None
-
--- what happens to a VID at a station
-abbrev pub vlan_form : (NodeNo → ℕ → EventKind) → List NodeEntry → Members → Option (Option EventKind)
-vlan_form kind nodes ms = option_map (λ p. option_map (λ x. kind x p.1) p.0) (vlan_at nodes ms)
-
--- what happens to a PDU that waits at a node
-abbrev pub pdu_form : (NodeNo → NodeNo → ℕ → EventKind) → List NodeEntry → List LinkEntry → Members → Option (Option EventKind)
-pdu_form kind nodes links ms = option_map (λ p. option_map (λ x. kind x.0 x.1 p.1) p.0) (pdu_at nodes links ms)
-
--- what happens, by the word of its kind, each with exactly its keys; missing where it names no station,
--- or no nodes that a link joins
-abbrev pub kind_form : List NodeEntry → List LinkEntry → Members → List ℕ → Option (Option EventKind)
-kind_form nodes links ms word =
-    if pointwise nat_eq word (codes "declare") then vlan_form kinds.Declare nodes ms
-    else if pointwise nat_eq word (codes "withdraw") then vlan_form kinds.Withdraw nodes ms
-    else if pointwise nat_eq word (codes "lose") then pdu_form kinds.Lose nodes links ms
-    else if pointwise nat_eq word (codes "repeat") then pdu_form kinds.Repeat nodes links ms
-    else None
-
--- the tick, below the scenario's ticks
-abbrev pub tick_at : ℕ → Members → Option ℕ
-tick_at ticks ms = option_and_then (λ tick. if nat_lt tick ticks then Some tick else None) (number (codes "tick") ms)
-
--- the event of an entry among the first 10,000
-abbrev pub known_event : ℕ → List NodeEntry → List LinkEntry → Members → Option EventForm
-known_event ticks nodes links ms = do
-  tick ← tick_at ticks ms
-  word ← text (codes "kind") ms
-  kind ← kind_form nodes links ms word
-  Some (record { tick = tick; kind = kind })
-
--- the event of entry n that has its form: the entries are at most 10,000
-abbrev pub event_form : ℕ → List NodeEntry → List LinkEntry → ℕ → Members → Option EventForm
-event_form ticks nodes links n ms = if nat_le n 10000 then known_event ticks nodes links ms else None

@@ -1,3 +1,7 @@
 pub mod Entries
+pub mod Events
+pub mod Frames
+pub mod Kinds
 pub mod Plan
 pub mod Scenario
+pub mod Streams

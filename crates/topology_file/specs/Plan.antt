@@ -4,7 +4,9 @@ use Rattle.srp_base.specs.declared.numbers.Cs.{Cs}
 use Rattle.tree_topology.specs.Topology.{Topology}
 use Rattle.topology_file.specs.declared.entries.NodeEntry.{NodeEntry}
 use Rattle.topology_file.specs.declared.entries.LinkEntry.{LinkEntry}
+use Rattle.topology_file.specs.declared.entries.StreamEntry.{StreamEntry}
 use Rattle.topology_file.specs.declared.entries.EventEntry.{EventEntry}
+use Rattle.topology_file.specs.declared.entries.FrameEntry.{FrameEntry}
 
 pub record Plan : Type 0 where
   pub ticks : ℕ
@@ -13,4 +15,6 @@ pub record Plan : Type 0 where
   pub tree : Topology
   pub nodes : List NodeEntry
   pub links : List LinkEntry
+  pub streams : List StreamEntry
   pub events : List EventEntry
+  pub frames : List FrameEntry

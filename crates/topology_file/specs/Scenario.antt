@@ -1,16 +1,15 @@
 -- The scenario of a table, or the first rule that it breaks, with the first entry that breaks it.
-use Rattle.std.specs.Prelude.{◌≡◌, ◌≢◌, ◌≤◌, ◌<◌, ◌-◌, ◌^◌, All, AllPairs, ℕ, ◌+◌, ◌*◌, ◌==◌, Bool, true, false, ◌&&◌, nat_le, nat_lt, nat_eq, List, [], ◌∷◌, length, map, codes, Option, Some, None, option_map, Result, Ok, Err}
+use Rattle.std.specs.Prelude.{◌≡◌, ◌≢◌, ◌≤◌, ◌<◌, ◌^◌, All, AllPairs, ℕ, ◌+◌, ◌*◌, ◌==◌, Bool, true, false, ◌&&◌, nat_le, nat_lt, nat_eq, List, [], ◌∷◌, length, map, codes, Option, Some, None, Result, Ok, Err}
 use Rattle.std.specs.Cmp.Lexicographic.{pointwise}
 use Rattle.std.specs.List.{list_any}
 use Rattle.std.specs.List.Sorted.{IsNonDecreasing}
-use Rattle.std.proofs.Common.{get_or}
 use Rattle.srp_base.specs.Firsts.{first_where}
 use Rattle.srp_base.specs.Results.{◌>>=◌}
 use Rattle.toml.specs.Data.{Members}
 use Rattle.toml_rules.specs.declared.rules.RuleErr.{RuleErr}
 use Rattle.toml_rules.specs.declared.rules.RuleErr.TheVariants as rules
 use Rattle.toml_rules.specs.Fields.{number, number_or, within, truth_or, tables, has_only}
-use Rattle.toml_rules.specs.Rules.{needs, holds, fails_at, no_entry, each_entry, first_fall}
+use Rattle.toml_rules.specs.Rules.{needs, holds, fails_at, no_entry, each_entry, each_within, first_fall}
 use Rattle.tree_topology.specs.declared.graph.Link.{Link}
 use Rattle.tree_topology.specs.declared.graph.NodeKind.{NodeKind}
 use Rattle.tree_topology.specs.declared.graph.TreeErr.{TreeErr}
@@ -23,11 +22,15 @@ use Rattle.tree_topology.specs.Topology.{Topology}
 use Rattle.topology_file.specs.declared.entries.NodeEntry.{NodeEntry}
 use Rattle.topology_file.specs.declared.entries.LinkEntry.{LinkEntry}
 use Rattle.topology_file.specs.declared.entries.EventEntry.{EventEntry}
-use Rattle.topology_file.specs.declared.entries.EventForm.{EventForm}
-use Rattle.topology_file.specs.declared.entries.EventKind.{EventKind}
-use Rattle.topology_file.specs.declared.entries.EventKind.TheVariants as kinds
-use Rattle.topology_file.specs.Entries.{is_name, is_station, joins_both, node_entry, link_form, event_form}
+use Rattle.topology_file.specs.declared.entries.FrameEntry.{FrameEntry}
+use Rattle.topology_file.specs.declared.entries.StreamEntry.{StreamEntry}
+use Rattle.topology_file.specs.declared.entries.StreamForm.{StreamForm}
+use Rattle.topology_file.specs.Entries.{is_name, node_entry, link_form}
+use Rattle.topology_file.specs.Events.{event_form, form_ticks, event_ticks, event_entry}
+use Rattle.topology_file.specs.Frames.{frame_form, form_copies, frame_entry, frame_copies, HasFrameForm, IsKnownRoute}
+use Rattle.topology_file.specs.Kinds.{IsKnownKind, IsStationNumber}
 use Rattle.topology_file.specs.Plan.{Plan}
+use Rattle.topology_file.specs.Streams.{stream_form, stream_entry}
 
 -- ---- nodes
 
@@ -101,28 +104,42 @@ tree_of nodes links =
 abbrev pub is_crowded : List Link → List NodeEntry → NodeEntry → Bool
 is_crowded links earlier x = nat_lt 16 (length (neighbours links (length earlier + 1)))
 
+-- ---- streams
+
+abbrev pub has_stream_name_of : List StreamForm → StreamForm → Bool
+has_stream_name_of earlier x = list_any (λ y. pointwise nat_eq y.name x.name) earlier
+
+abbrev pub has_stream_id_of : List StreamForm → StreamForm → Bool
+has_stream_id_of earlier x = list_any (λ y. y.values.id.0 == x.values.id.0) earlier
+
+abbrev pub streams_of : List NodeEntry → List Members → Result (List StreamEntry) RuleErr
+streams_of nodes entries = do
+  forms ← each_entry 16 (stream_form nodes) 1 entries
+  _ ← no_entry 17 (first_where has_stream_name_of [] forms)
+  _ ← no_entry 18 (first_where has_stream_id_of [] forms)
+  each_entry 19 stream_entry 1 forms
+
 -- ---- events
 
-abbrev pub form_ticks : List EventForm → List ℕ
-form_ticks forms = map (λ e. e.tick) forms
-
-abbrev pub event_ticks : List EventEntry → List ℕ
-event_ticks events = map (λ e. e.tick) events
-
--- the event, where what it names is known
-abbrev pub event_entry : ℕ → EventForm → Option EventEntry
-event_entry n form = option_map (λ kind. record { tick = form.tick; kind = kind }) form.kind
-
-abbrev pub events_of : ℕ → List NodeEntry → List LinkEntry → List Members → Result (List EventEntry) RuleErr
-events_of ticks nodes links entries = do
-  forms ← each_entry 20 (event_form ticks nodes links) 1 entries
+abbrev pub events_of : ℕ → List NodeEntry → List LinkEntry → List StreamEntry → List Members → Result (List EventEntry) RuleErr
+events_of ticks nodes links streams entries = do
+  forms ← each_entry 20 (event_form ticks nodes links streams) 1 entries
   _ ← no_entry 21 (first_fall 1 0 (form_ticks forms))
   each_entry 22 event_entry 1 forms
+
+-- ---- frames
+
+abbrev pub frames_of : ℕ → List NodeEntry → List StreamEntry → List Members → Result (List FrameEntry) RuleErr
+frames_of ticks nodes streams entries = do
+  forms ← each_within 23 form_copies (frame_form ticks nodes streams) 1 100000 entries
+  each_entry 24 frame_entry 1 forms
 
 -- ---- the file
 
 abbrev pub file_keys : List (List ℕ)
-file_keys = codes "ticks" ∷ codes "leave_time" ∷ codes "periodic" ∷ codes "node" ∷ codes "link" ∷ codes "event" ∷ []
+file_keys =
+    codes "ticks" ∷ codes "leave_time" ∷ codes "periodic" ∷ codes "node" ∷ codes "link" ∷ codes "stream"
+    ∷ codes "event" ∷ codes "frame" ∷ []
 
 abbrev pub ticks_at : Members → Option ℕ
 ticks_at ms = within 1 12000 (number (codes "ticks") ms)
@@ -132,18 +149,20 @@ abbrev pub leave_time_at : Members → Option ℕ
 leave_time_at ms = within 60 100 (number_or (codes "leave_time") 60 ms)
 
 -- the scenario of these times and entries
-abbrev pub plan_of : ℕ → ℕ → Bool → List Members → List Members → List Members → Result Plan RuleErr
-plan_of ticks leave_time periodic node_tables link_tables event_tables = do
+abbrev pub plan_of : ℕ → ℕ → Bool → List Members → List Members → List Members → List Members → List Members → Result Plan RuleErr
+plan_of ticks leave_time periodic node_tables link_tables stream_tables event_tables frame_tables = do
   nodes ← nodes_of ticks node_tables
   links ← links_of nodes link_tables
   tree ← tree_of nodes links
   _ ← no_entry 15 (first_where (is_crowded tree.links) [] nodes)
-  events ← events_of ticks nodes links event_tables
-  Ok (record { ticks = ticks; leave_time = record { 0 = leave_time }; periodic = periodic; tree = tree; nodes = nodes; links = links; events = events })
+  streams ← streams_of nodes stream_tables
+  events ← events_of ticks nodes links streams event_tables
+  frames ← frames_of ticks nodes streams frame_tables
+  Ok (record { ticks = ticks; leave_time = record { 0 = leave_time }; periodic = periodic; tree = tree; nodes = nodes; links = links; streams = streams; events = events; frames = frames })
 
 -- The scenario of a table, or the first rule that fails, with its first failing entry:
 --  1  `ticks` is 1 to 12,000
---  2  the keys are known; nodes, links and events are arrays of tables
+--  2  the keys are known; nodes, links, streams, events and frames are arrays of tables
 --  3  `leave_time` is 60 to 100, `periodic` a truth value
 --  4  each node has its form                  5  there are 2 to 64 nodes, and not too many ticks
 --  6  node names differ                       7  node ids differ
@@ -151,39 +170,38 @@ plan_of ticks leave_time periodic node_tables link_tables event_tables = do
 -- 10  no link joins a node with itself       11  no two links join the same nodes
 -- 12  no link closes a loop                  13  each node is connected with node 1
 -- 14  each station has one link              15  each node has at most 16 links
+-- 16  each stream has its form               17  stream names differ
+-- 18  stream ids differ                      19  each talker is a station
 -- 20  each event has its form                21  event ticks don't fall
--- 22  the names in events are stations, or nodes that a link joins
+-- 22  the names in events are known, and no station listens to a stream in which it talks
+-- 23  each frame has its form, and copies are few
+-- 24  a frame's stream is known, or its stations are two
 abbrev pub scenario_of : Members → Result Plan RuleErr
 scenario_of ms = do
   ticks ← needs 1 (ticks_at ms)
   _ ← holds 2 (has_only file_keys ms)
   node_tables ← needs 2 (tables (codes "node") ms)
   link_tables ← needs 2 (tables (codes "link") ms)
+  stream_tables ← needs 2 (tables (codes "stream") ms)
   event_tables ← needs 2 (tables (codes "event") ms)
+  frame_tables ← needs 2 (tables (codes "frame") ms)
   leave_time ← needs 3 (leave_time_at ms)
   periodic ← needs 3 (truth_or (codes "periodic") false ms)
-  plan_of ticks leave_time periodic node_tables link_tables event_tables
+  plan_of ticks leave_time periodic node_tables link_tables stream_tables event_tables frame_tables
 
 -- ---- what every scenario keeps
 
--- a station
-abbrev pub IsStationNumber : List NodeEntry → ℕ → Type 0
-IsStationNumber nodes x = IsNode (length nodes) x × ((d : NodeEntry) → is_station (get_or nodes (x - 1) d).kind ≡ true)
-
--- two nodes that a link joins
-abbrev pub AreJoinedNumbers : List NodeEntry → List LinkEntry → ℕ → ℕ → Type 0
-AreJoinedNumbers nodes links x y =
-    IsNode (length nodes) x × IsNode (length nodes) y × (list_any (joins_both x y) links ≡ true)
-
--- the numbers in an event have their ranges, and are a station, or nodes that a link joins
-abbrev pub IsKnownKind : List NodeEntry → List LinkEntry → EventKind → Type 0
-IsKnownKind nodes links (kinds.Declare station vid) = IsStationNumber nodes station.0 × (1 ≤ vid) × (vid ≤ 4094)
-IsKnownKind nodes links (kinds.Withdraw station vid) = IsStationNumber nodes station.0 × (1 ≤ vid) × (vid ≤ 4094)
-IsKnownKind nodes links (kinds.Lose from to index) = AreJoinedNumbers nodes links from.0 to.0 × (index ≤ 65535)
-IsKnownKind nodes links (kinds.Repeat from to index) = AreJoinedNumbers nodes links from.0 to.0 × (index ≤ 65535)
+-- a stream's values have their form
+pub record HasStreamForm (s : StreamEntry) : Type 0 where
+  pub name : is_name s.name ≡ true
+  pub octets : s.octets ≤ 65535
+  pub frames : s.frames ≤ 65535
+  pub vid : (1 ≤ s.vid) × (s.vid ≤ 4094)
+  pub priority : s.priority ≤ 7
 
 -- What every scenario keeps: its numbers have their ranges, names and ids differ, its nodes and links are
--- an accepted tree, and its events are in order and speak of known nodes and links.
+-- an accepted tree, its talkers are stations, its events are in order and speak of what is known, and its frames
+-- end in time, are few, and go where they can.
 pub record KeepsRules (p : Plan) : Type 0 where
   pub ticks : (1 ≤ p.ticks) × (p.ticks ≤ 12000)
   pub leave_time : (60 ≤ p.leave_time.0) × (p.leave_time.0 ≤ 100)
@@ -195,8 +213,16 @@ pub record KeepsRules (p : Plan) : Type 0 where
   pub link_forms : All (λ l. (l.delta_a + l.delta_b ≤ 90) × (l.latency < 2 ^ 32)) p.links
   pub accepted : IsAccepted (node_kinds p.nodes) (tree_links p.links)
   pub uncrowded : (x : ℕ) → IsNode (length p.nodes) x → length (neighbours (tree_links p.links) x) ≤ 16
+  pub streams_many : length p.streams ≤ 128
+  pub stream_forms : All HasStreamForm p.streams
+  pub stream_names : AllPairs (λ x y. x.name ≢ y.name) p.streams
+  pub stream_ids : AllPairs (λ x y. x.id.0 ≢ y.id.0) p.streams
+  pub talkers : All (λ s. IsStationNumber p.nodes s.talker.0) p.streams
   pub events_many : length p.events ≤ 10000
   pub events_within : All (λ t. t < p.ticks) (event_ticks p.events)
   pub events_order : IsNonDecreasing (event_ticks p.events)
-  pub events_known : All (λ e. IsKnownKind p.nodes p.links e.kind) p.events
+  pub events_known : All (λ e. IsKnownKind p.nodes p.links p.streams e.kind) p.events
+  pub frame_forms : All (HasFrameForm p.ticks) p.frames
+  pub copies : frame_copies p.frames ≤ 100000
+  pub routes : All (λ f. IsKnownRoute p.nodes p.streams f.route) p.frames
   pub tree : p.tree ≡ topology_of p.nodes p.links

@@ -1,7 +1,7 @@
-//! The entries of a scenario: nodes, links and events, with defaults filled in and names replaced by
-//! numbers.
+//! The entries of a scenario: nodes, links, streams, events and frames, with defaults filled in and names
+//! replaced by numbers.
 
-use srp_base::{BridgeId, NodeNo, Percent, Rate, Seq, Vid};
+use srp_base::{BridgeId, Mac, NodeNo, Percent, Priority, Rank, Rate, Seq, StreamId, Vid};
 use tree_topology::NodeKind;
 
 /// A node.
@@ -30,6 +30,25 @@ pub struct LinkEntry {
     pub latency: u32,
 }
 
+/// A stream: who talks in it, and what its Talker declares (IEEE Std 802.1Q-2018, 35.2.2.8).
+#[derive(Debug, PartialEq, Eq, Drop)]
+pub struct StreamEntry {
+    /// The bytes of its name: 1 to 32 characters a to z, 0 to 9, `-` and `_`.
+    pub name: Seq<u8>,
+    pub id: StreamId,
+    /// The station that talks.
+    pub talker: NodeNo,
+    /// The destination address of its frames.
+    pub dest: Mac,
+    /// MaxFrameSize, the most octets of a frame's data.
+    pub octets: u16,
+    /// MaxIntervalFrames, the most frames in a class measurement interval.
+    pub frames: u16,
+    pub vid: Vid,
+    pub priority: Priority,
+    pub rank: Rank,
+}
+
 /// An event of a tick.
 #[derive(Clone, Copy, Debug, PartialEq, Eq)]
 pub struct EventEntry {
@@ -38,24 +57,44 @@ pub struct EventEntry {
     pub kind: EventKind,
 }
 
-/// What happens: a station's application declares or withdraws a VID, or the PDU of this index that
-/// waits at `to` and comes from `from` is lost or comes twice. The index counts from 0, and is at most
-/// 65,535; a VID is 1 to 4094.
+/// What happens. A stream is named by its entry's number, from 1.
 #[derive(Clone, Copy, Debug, PartialEq, Eq)]
 pub enum EventKind {
+    /// A station's application declares a VID.
     Declare {
         station: NodeNo,
         vid: Vid,
     },
+    /// A station's application withdraws a VID.
     Withdraw {
         station: NodeNo,
         vid: Vid,
     },
+    /// The application of a stream's station declares its Talker.
+    Talk {
+        stream: u16,
+    },
+    /// The application of a stream's station withdraws its Talker.
+    Hush {
+        stream: u16,
+    },
+    /// A station's application listens to a stream in which another station talks.
+    Listen {
+        station: NodeNo,
+        stream: u16,
+    },
+    /// A station's application stops listening to a stream.
+    Unlisten {
+        station: NodeNo,
+        stream: u16,
+    },
+    /// The PDU of this index, from 0 to 65,535, is lost: of those that wait at `to` and come from `from`.
     Lose {
         from: NodeNo,
         to: NodeNo,
         index: u32,
     },
+    /// The PDU of this index comes twice.
     Repeat {
         from: NodeNo,
         to: NodeNo,
@@ -63,10 +102,68 @@ pub enum EventKind {
     },
 }
 
-/// An event entry that has its form; what happens is missing where it names no station, or no nodes
-/// that a link joins.
+/// A frame with its copies. The i-th copy, from 0, stands at `at + i * every`.
+#[derive(Clone, Copy, Debug, PartialEq, Eq)]
+pub struct FrameEntry {
+    pub route: FrameRoute,
+    /// The octets of its data, without the 42 octets of overhead: 0 to 1,500.
+    pub octets: u16,
+    /// The moment of its first copy in ns from the run's start.
+    pub at: u64,
+    /// How many copies it has, 1 to 100,000.
+    pub count: u32,
+    /// How far apart they are, in ns.
+    pub every: u64,
+}
+
+/// Where a frame goes, and as what.
+#[derive(Clone, Copy, Debug, PartialEq, Eq)]
+pub enum FrameRoute {
+    /// From a stream's talker, with the stream's VID and the traffic of its priority's class.
+    OfStream { stream: u16 },
+    /// From one station to another, as other traffic.
+    Between { from: NodeNo, to: NodeNo, vid: Vid },
+}
+
+/// The values of a stream that its Talker declares.
+#[derive(Clone, Copy)]
+pub(crate) struct StreamValues {
+    pub(crate) id: StreamId,
+    pub(crate) dest: Mac,
+    pub(crate) octets: u16,
+    pub(crate) frames: u16,
+    pub(crate) vid: Vid,
+    pub(crate) priority: Priority,
+    pub(crate) rank: Rank,
+}
+
+/// A stream entry that has its form; its talker is missing where there is no station of this name.
+#[derive(Drop)]
+pub(crate) struct StreamForm {
+    pub(crate) name: Seq<u8>,
+    pub(crate) talker: Option<NodeNo>,
+    pub(crate) values: StreamValues,
+}
+
+/// An event entry that has its form; what happens is missing where what it names isn't there.
 #[derive(Clone, Copy)]
 pub(crate) struct EventForm {
     pub(crate) tick: u64,
     pub(crate) kind: Option<EventKind>,
+}
+
+/// The moments of a frame's copies in ns.
+#[derive(Clone, Copy)]
+pub(crate) struct FrameTimes {
+    pub(crate) at: u64,
+    pub(crate) count: u32,
+    pub(crate) every: u64,
+}
+
+/// A frame entry that has its form; its route is missing where what it names isn't there.
+#[derive(Clone, Copy)]
+pub(crate) struct FrameForm {
+    pub(crate) route: Option<FrameRoute>,
+    pub(crate) octets: u16,
+    pub(crate) times: FrameTimes,
 }

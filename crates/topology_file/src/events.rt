@@ -3,138 +3,31 @@
 ghost use Rattle.std.specs.Prelude.{◌≡◌, ◌≤◌, map, length, Option};
 ghost use Rattle.toml.specs.View.{table_view};
 ghost use Rattle.toml_rules.specs.Rules.{Reads, each_entry as each_entry_spec, first_fall as first_fall_spec};
-ghost use Rattle.topology_file.specs.Entries.{joined_named, known_vlan, vlan_at, known_pdu, pdu_at, kind_form, known_event, event_form};
-ghost use Rattle.topology_file.specs.Scenario.{event_entry, form_ticks, events_of};
+ghost use Rattle.topology_file.specs.Events.{known_event, event_form, event_entry, form_ticks};
+ghost use Rattle.topology_file.specs.Scenario.{events_of};
 
-use crate::entries::{EventEntry, EventForm, EventKind, LinkEntry, NodeEntry};
-use crate::forms::{read_index, read_name, read_tick, read_vid};
-use crate::links::are_joined;
-use crate::nodes::{node_named, station_named};
-use srp_base::{NodeNo, Vid};
+use crate::entries::{EventEntry, EventForm, LinkEntry, NodeEntry, StreamEntry};
+use crate::forms::read_tick;
+use crate::kinds::read_kind;
 use std::alloc::Global;
 use toml::Table;
-use toml_rules::{RuleErr, each_entry, each_table, first_fall, has_only, no_entry, text};
-
-/// The nodes of these names, where a link joins them.
-fn joined_nodes(
-    nodes: &[NodeEntry],
-    links: &[LinkEntry],
-    from: &str,
-    to: &str,
-) -> Option<(NodeNo, NodeNo)>
-    requires { length nodes.now ≤ 64 }
-    ensures { result ≡ joined_named nodes.now links.now from.now to.now }
-{
-    let x = node_named(nodes, from)?;
-    let y = node_named(nodes, to)?;
-    if are_joined(links, x.0, y.0) {
-        Some((x, y))
-    } else {
-        None
-    }
-}
-
-/// A station, missing where there is none of this name, and a VID, at keys that are known.
-fn read_known_vlan(nodes: &[NodeEntry], table: &Table) -> Option<(Option<NodeNo>, Vid)>
-    requires { length nodes.now ≤ 64 }
-    ensures { result ≡ known_vlan nodes.now (table_view table.now) }
-{
-    let name = read_name(table, "station")?;
-    let vid = read_vid(table)?;
-    Some((station_named(nodes, name), vid))
-}
-
-const VLAN_KEYS: [&str; 4] = ["tick", "kind", "station", "vid"];
-
-fn read_vlan(nodes: &[NodeEntry], table: &Table) -> Option<(Option<NodeNo>, Vid)>
-    requires { length nodes.now ≤ 64 }
-    ensures { result ≡ vlan_at nodes.now (table_view table.now) }
-{
-    if has_only(table, &VLAN_KEYS) {
-        read_known_vlan(nodes, table)
-    } else {
-        None
-    }
-}
-
-/// Two nodes, missing where no link joins nodes of these names, and the index of a PDU, at keys that
-/// are known.
-fn read_known_pdu(
-    nodes: &[NodeEntry],
-    links: &[LinkEntry],
-    table: &Table,
-) -> Option<(Option<(NodeNo, NodeNo)>, u32)>
-    requires { length nodes.now ≤ 64 }
-    ensures { result ≡ known_pdu nodes.now links.now (table_view table.now) }
-{
-    let from = read_name(table, "from")?;
-    let to = read_name(table, "to")?;
-    let index = read_index(table)?;
-    Some((joined_nodes(nodes, links, from, to), index))
-}
-
-const PDU_KEYS: [&str; 5] = ["tick", "kind", "from", "to", "index"];
-
-fn read_pdu(
-    nodes: &[NodeEntry],
-    links: &[LinkEntry],
-    table: &Table,
-) -> Option<(Option<(NodeNo, NodeNo)>, u32)>
-    requires { length nodes.now ≤ 64 }
-    ensures { result ≡ pdu_at nodes.now links.now (table_view table.now) }
-{
-    if has_only(table, &PDU_KEYS) {
-        read_known_pdu(nodes, links, table)
-    } else {
-        None
-    }
-}
-
-/// What happens, by the word of its kind, each with exactly its keys; missing where it names no
-/// station, or no nodes that a link joins.
-fn read_kind(
-    nodes: &[NodeEntry],
-    links: &[LinkEntry],
-    table: &Table,
-    word: &str,
-) -> Option<Option<EventKind>>
-    requires { length nodes.now ≤ 64 }
-    ensures { result ≡ kind_form nodes.now links.now (table_view table.now) word.now }
-{
-    match word {
-        "declare" => {
-            let (station, vid) = read_vlan(nodes, table)?;
-            Some(station.map(|station| EventKind::Declare { station, vid }))
-        }
-        "withdraw" => {
-            let (station, vid) = read_vlan(nodes, table)?;
-            Some(station.map(|station| EventKind::Withdraw { station, vid }))
-        }
-        "lose" => {
-            let (ends, index) = read_pdu(nodes, links, table)?;
-            Some(ends.map(|(from, to)| EventKind::Lose { from, to, index }))
-        }
-        "repeat" => {
-            let (ends, index) = read_pdu(nodes, links, table)?;
-            Some(ends.map(|(from, to)| EventKind::Repeat { from, to, index }))
-        }
-        _ => None,
-    }
-}
+use toml_rules::{RuleErr, each_entry, each_table, first_fall, no_entry, text};
 
 /// The event of an entry among the first 10,000, where it has its form.
 fn read_known_event(
     ticks: u64,
     nodes: &[NodeEntry],
     links: &[LinkEntry],
+    streams: &[StreamEntry],
     table: &Table,
 ) -> Option<EventForm>
-    requires { length nodes.now ≤ 64 }
-    ensures { result ≡ known_event ticks nodes.now links.now (table_view table.now) }
+    requires nodes { length nodes.now ≤ 64 }
+    requires streams { length streams.now ≤ 128 }
+    ensures { result ≡ known_event ticks nodes.now links.now streams.now (table_view table.now) }
 {
     let tick = read_tick(ticks, table)?;
     let word = text(table, "kind")?;
-    let kind = read_kind(nodes, links, table, word)?;
+    let kind = read_kind(nodes, links, streams, table, word)?;
     Some(EventForm { tick, kind })
 }
 
@@ -146,14 +39,16 @@ fn read_event(
     ticks: u64,
     nodes: &[NodeEntry],
     links: &[LinkEntry],
+    streams: &[StreamEntry],
     number: usize,
     table: &Table,
 ) -> Option<EventForm>
-    requires { length nodes.now ≤ 64 }
-    ensures { result ≡ event_form ticks nodes.now links.now number (table_view table.now) }
+    requires nodes { length nodes.now ≤ 64 }
+    requires streams { length streams.now ≤ 128 }
+    ensures { result ≡ event_form ticks nodes.now links.now streams.now number (table_view table.now) }
 {
     if number <= MOST_EVENTS {
-        read_known_event(ticks, nodes, links, table)
+        read_known_event(ticks, nodes, links, streams, table)
     } else {
         None
     }
@@ -165,14 +60,16 @@ fn read_forms(
     ticks: u64,
     nodes: &[NodeEntry],
     links: &[LinkEntry],
+    streams: &[StreamEntry],
     entries: &[&Table],
 ) -> Result<Vec<EventForm>, RuleErr>
-    requires { length nodes.now ≤ 64 }
+    requires nodes { length nodes.now ≤ 64 }
+    requires streams { length streams.now ≤ 128 }
     ensures { Reads (λ v. v.items) result
-        (each_entry_spec 20 (event_form ticks nodes.now links.now) 1 (map (λ t. table_view t.now) entries.now)) }
+        (each_entry_spec 20 (event_form ticks nodes.now links.now streams.now) 1 (map (λ t. table_view t.now) entries.now)) }
 {
     each_table(alloc, 20, entries, |number, table| {
-        Ok(read_event(ticks, nodes, links, number, table))
+        Ok(read_event(ticks, nodes, links, streams, number, table))
     })
 }
 
@@ -207,12 +104,14 @@ pub(crate) fn read_events(
     ticks: u64,
     nodes: &[NodeEntry],
     links: &[LinkEntry],
+    streams: &[StreamEntry],
     entries: &[&Table],
 ) -> Result<Vec<EventEntry>, RuleErr>
-    requires { length nodes.now ≤ 64 }
-    ensures { Reads (λ v. v.items) result (events_of ticks nodes.now links.now (map (λ t. table_view t.now) entries.now)) }
+    requires nodes { length nodes.now ≤ 64 }
+    requires streams { length streams.now ≤ 128 }
+    ensures { Reads (λ v. v.items) result (events_of ticks nodes.now links.now streams.now (map (λ t. table_view t.now) entries.now)) }
 {
-    let forms = read_forms(alloc, ticks, nodes, links, entries)?;
+    let forms = read_forms(alloc, ticks, nodes, links, streams, entries)?;
     no_entry(21, falling_event(&forms))?;
     named_events(alloc, &forms)
 }

@@ -4,7 +4,9 @@
 //! table --> nodes      each with its form, few, of different names and ids     rules 1 to 7
 //!       --> links      each with its form, between nodes                       rules 8, 9
 //!       --> tree       of the nodes and links, each with at most 16 links      rules 10 to 15
+//!       --> streams    each with its form, of different names and ids          rules 16 to 19
 //!       --> events     each with its form, in order, of known names            rules 20 to 22
+//!       --> frames     each with its form, of known streams and stations       rules 23, 24
 //!       --> Scenario, or RuleErr::Rule { rule, entry }
 //! ```
 //!
@@ -16,21 +18,27 @@
 //! listed fails the form of its entry. An entry is read with the numbers of what it names at once; where
 //! it names nothing that is there, its form is whole and its value missing, which a later rule refuses.
 //!
-//! A new key of an entry is a reader in `forms`, a field in `entries`, and one line in the reader of that
-//! entry and in its definition (`specs/Entries.antt`). A new kind of event is a variant of `EventKind`, an
-//! arm of `read_kind` and of `kind_form`, and what every scenario keeps of it, a case of `IsKnownKind`.
+//! A new key of an entry is a reader, a field in `entries`, and one line in the reader of that entry and in
+//! its definition (`specs/Entries.antt`, `specs/Streams.antt`, `specs/Frames.antt`). A new kind of event is
+//! a variant of `EventKind`, an arm of `read_kind` (`src/kinds.rt`), and in `specs/Kinds.antt` a case of
+//! `kind_form`, by its word, and one of `IsKnownKind`, for what it names.
 #![tactic(auto)]
 
 mod entries;
 mod events;
 mod forms;
+mod frames;
+mod kinds;
 mod links;
 mod nodes;
 mod scenario;
+mod streams;
 #[cfg(test)]
 mod tests;
 mod tree;
 
-pub use entries::{EventEntry, EventKind, LinkEntry, NodeEntry};
+pub use entries::{
+    EventEntry, EventKind, FrameEntry, FrameRoute, LinkEntry, NodeEntry, StreamEntry,
+};
 pub use scenario::{Scenario, read_scenario, read_scenarios_keep_the_rules};
 pub use toml_rules::RuleErr;

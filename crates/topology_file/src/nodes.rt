@@ -17,11 +17,11 @@ use toml::Table;
 use toml_rules::{RuleErr, each_table, first_where, has_only, holds, no_entry};
 use tree_topology::NodeKind;
 
-/// A text as a list of its bytes.
-fn copy_text(alloc: Global, text: &str) -> Result<Seq<u8>, NoMemory>
-    ensures { IfOk result (λ bytes. bytes ≡ text.now) }
+/// A name as a list of its bytes.
+pub(crate) fn copy_name(alloc: Global, name: &[u8]) -> Result<Seq<u8>, NoMemory>
+    ensures { IfOk result (λ bytes. bytes ≡ name.now) }
 {
-    let bytes = text.as_bytes().to_vec(alloc)?;
+    let bytes = name.to_vec(alloc)?;
     Ok(Seq::from_vec(bytes))
 }
 
@@ -43,7 +43,7 @@ fn read_node(alloc: Global, number: usize, table: &Table) -> Result<Option<NodeE
     let Some(id) = read_id(number, table) else {
         return Ok(None);
     };
-    let name = copy_text(alloc, name)?;
+    let name = copy_name(alloc, name.as_bytes())?;
     Ok(Some(NodeEntry {
         name,
         kind,

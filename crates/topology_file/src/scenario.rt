@@ -4,13 +4,16 @@ ghost use Rattle.std.specs.Prelude.{◌≡◌, ◌≤◌, map, Ok};
 ghost use Rattle.toml.specs.Data.{Members};
 ghost use Rattle.toml.specs.View.{table_view};
 ghost use Rattle.toml_rules.specs.Rules.{Reads};
+ghost use Rattle.topology_file.specs.Frames.{frame_copies};
 ghost use Rattle.topology_file.specs.Plan.{Plan};
 ghost use Rattle.topology_file.specs.Scenario.{KeepsRules, ticks_at, leave_time_at, plan_of, scenario_of};
 
-use crate::entries::{EventEntry, LinkEntry, NodeEntry};
+use crate::entries::{EventEntry, FrameEntry, LinkEntry, NodeEntry, StreamEntry};
 use crate::events::read_events;
+use crate::frames::{copies_of, read_frames};
 use crate::links::read_links;
 use crate::nodes::read_nodes;
+use crate::streams::read_streams;
 use crate::tree::{crowded_node, make_tree};
 use srp_base::{Cs, Seq};
 use std::alloc::Global;
@@ -36,8 +39,12 @@ pub struct Scenario {
     pub nodes: Seq<NodeEntry>,
     /// The links in the order of the file.
     pub links: Seq<LinkEntry>,
+    /// The streams in the order of their numbers, 128 at most.
+    pub streams: Seq<StreamEntry>,
     /// The events in the order of the file, which their ticks ascend in: 10,000 at most.
     pub events: Seq<EventEntry>,
+    /// The frames in the order of the file, of 100,000 copies at most.
+    pub frames: Seq<FrameEntry>,
 }
 
 impl Model for Scenario {
@@ -53,7 +60,9 @@ impl Model for Scenario {
       tree = s.tree;
       nodes = s.nodes;
       links = s.links;
+      streams = s.streams;
       events = s.events;
+      frames = s.frames;
     } };
 
     ghost invariant = { λ s. KeepsRules (record {
@@ -63,7 +72,9 @@ impl Model for Scenario {
       tree = s.tree;
       nodes = s.nodes;
       links = s.links;
+      streams = s.streams;
       events = s.events;
+      frames = s.frames;
     }) };
 }
 
@@ -73,6 +84,14 @@ impl Scenario {
         ensures { KeepsRules self.now }
     {
         let _ = &self.nodes;
+    }
+
+    /// How many copies of frames it has, 100,000 at most.
+    pub fn copies(&self) -> u64
+        ensures { result ≡ frame_copies self.now.frames }
+    {
+        self.keeps_rules();
+        copies_of(self.frames.as_slice())
     }
 }
 
@@ -103,13 +122,15 @@ struct Times {
     periodic: bool,
 }
 
-/// The scenario of these times and entries: rules 4 to 15 and 20 to 22.
+/// The scenario of these times and entries: rules 4 to 24.
 fn read_plan(
     alloc: Global,
     times: Times,
     node_tables: &[&Table],
     link_tables: &[&Table],
+    stream_tables: &[&Table],
     event_tables: &[&Table],
+    frame_tables: &[&Table],
 ) -> Result<Scenario, RuleErr>
     requires some_ticks { 1 ≤ times.ticks }
     requires ticks { times.ticks ≤ 12000 }
@@ -117,19 +138,29 @@ fn read_plan(
     requires leave { times.leave_time ≤ 100 }
     ensures { Reads (λ s. s) result (plan_of times.ticks times.leave_time times.periodic
         (map (λ t. table_view t.now) node_tables.now) (map (λ t. table_view t.now) link_tables.now)
-        (map (λ t. table_view t.now) event_tables.now)) }
+        (map (λ t. table_view t.now) stream_tables.now) (map (λ t. table_view t.now) event_tables.now)
+        (map (λ t. table_view t.now) frame_tables.now)) }
 {
     laws::refusals();
     let nodes = Seq::from_vec(read_nodes(alloc, times.ticks, node_tables)?);
     let links = Seq::from_vec(read_links(alloc, nodes.as_slice(), link_tables)?);
     let tree = make_tree(alloc, nodes.as_slice(), links.as_slice())?;
     no_entry(15, crowded_node(nodes.as_slice(), &tree))?;
-    let events = read_events(
+    let streams = Seq::from_vec(read_streams(alloc, nodes.as_slice(), stream_tables)?);
+    let events = Seq::from_vec(read_events(
         alloc,
         times.ticks,
         nodes.as_slice(),
         links.as_slice(),
+        streams.as_slice(),
         event_tables,
+    )?);
+    let frames = read_frames(
+        alloc,
+        times.ticks,
+        nodes.as_slice(),
+        streams.as_slice(),
+        frame_tables,
     )?;
     Ok(Scenario {
         ticks: times.ticks,
@@ -138,14 +169,24 @@ fn read_plan(
         tree,
         nodes,
         links,
-        events: Seq::from_vec(events),
+        streams,
+        events,
+        frames: Seq::from_vec(frames),
     })
 }
 
-const FILE_KEYS: [&str; 6] = ["ticks", "leave_time", "periodic", "node", "link", "event"];
+const FILE_KEYS: [&str; 8] = [
+    "ticks",
+    "leave_time",
+    "periodic",
+    "node",
+    "link",
+    "stream",
+    "event",
+    "frame",
+];
 
-/// The scenario of a table, or the first rule that fails with its first failing entry: rules 1 to 15
-/// and 20 to 22.
+/// The scenario of a table, or the first rule that fails with its first failing entry: rules 1 to 24.
 ///
 /// # Errors
 ///
@@ -157,7 +198,9 @@ pub fn read_scenario(alloc: Global, table: &Table) -> Result<Scenario, RuleErr>
     holds(2, has_only(table, &FILE_KEYS))?;
     let node_tables = needs_tables(alloc, 2, table, "node")?;
     let link_tables = needs_tables(alloc, 2, table, "link")?;
+    let stream_tables = needs_tables(alloc, 2, table, "stream")?;
     let event_tables = needs_tables(alloc, 2, table, "event")?;
+    let frame_tables = needs_tables(alloc, 2, table, "frame")?;
     let leave_time = needs(3, read_leave_time(table))?;
     let periodic = needs(3, truth_or(table, "periodic", false))?;
     let times = Times {
@@ -165,5 +208,13 @@ pub fn read_scenario(alloc: Global, table: &Table) -> Result<Scenario, RuleErr>
         leave_time,
         periodic,
     };
-    read_plan(alloc, times, &node_tables, &link_tables, &event_tables)
+    read_plan(
+        alloc,
+        times,
+        &node_tables,
+        &link_tables,
+        &stream_tables,
+        &event_tables,
+        &frame_tables,
+    )
 }

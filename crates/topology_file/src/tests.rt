@@ -1,18 +1,24 @@
 //! A scenario that is read, and one that is refused. The rules one by one are the files of
 //! examples/rules/.
 
-use crate::{EventEntry, EventKind, LinkEntry, NodeEntry, RuleErr, Scenario, read_scenario};
-use srp_base::{BridgeId, Cs, NodeNo, Vid};
+use crate::{
+    EventEntry, EventKind, FrameEntry, FrameRoute, LinkEntry, NodeEntry, RuleErr, Scenario,
+    StreamEntry, read_scenario,
+};
+use srp_base::{BridgeId, Cs, NodeNo, Rank, StreamId};
 use std::process::Abort;
 use std::test::Fail;
 use tree_topology::NodeKind;
 
-/// Two stations with a link between them, and two events.
+/// Two stations with a link between them, a stream, two events, and a frame.
 const PAIR: &str = "ticks = 22\n\
     node = [{ name = 'a', kind = 'station' }, { name = 'b', kind = 'station' }]\n\
     link = [{ a = 'a', b = 'b' }]\n\
-    event = [{ tick = 3, kind = 'declare', station = 'b', vid = 7 }, \
-    { tick = 21, kind = 'lose', from = 'a', to = 'b', index = 2 }]\n";
+    stream = [{ name = 'k', id = '00000000000000aB', talker = 'a', dest = '91e0f0000001', \
+    octets = 80, frames = 1 }]\n\
+    event = [{ tick = 3, kind = 'listen', station = 'b', stream = 'k' }, \
+    { tick = 21, kind = 'lose', from = 'a', to = 'b', index = 2 }]\n\
+    frame = [{ stream = 'k', octets = 80, at = 1000, count = 3, every = 125000 }]\n";
 
 fn has_times(rt: &impl Abort, scenario: &Scenario) {
     assert_eq!(rt; scenario.ticks, 22);
@@ -36,6 +42,15 @@ fn has_defaults(rt: &impl Abort, link: &LinkEntry) {
     );
 }
 
+fn is_stream(rt: &impl Abort, stream: &StreamEntry) {
+    assert!(rt; stream.name.as_slice() == "k".as_bytes());
+    assert_eq!(rt; (stream.id, stream.talker), (StreamId(0xab), NodeNo(1)));
+    assert_eq!(rt; stream.dest.get(), 0x91e0_f000_0001);
+    assert_eq!(rt; (stream.octets, stream.frames), (80, 1));
+    assert_eq!(rt; (stream.vid.get(), stream.priority.get()), (2, 3));
+    assert_eq!(rt; stream.rank, Rank::Normal);
+}
+
 #[test]
 fn a_pair_is_read_with_its_defaults(rt: HostRuntime) -> Result<(), Fail> {
     let table = toml::table_from_str(rt.alloc(), PAIR)?;
@@ -51,25 +66,37 @@ fn a_pair_is_read_with_its_defaults(rt: HostRuntime) -> Result<(), Fail> {
     for link in scenario.links.as_slice() {
         has_defaults(&rt, link);
     }
+    assert_eq!(rt; scenario.streams.len(), 1);
+    for stream in scenario.streams.as_slice() {
+        is_stream(&rt, stream);
+    }
     Ok(())
 }
 
 #[test]
-fn events_are_read_by_number(rt: HostRuntime) -> Result<(), Fail> {
+fn events_and_frames_are_read_by_number(rt: HostRuntime) -> Result<(), Fail> {
     let table = toml::table_from_str(rt.alloc(), PAIR)?;
     let scenario = read_scenario(rt.alloc(), &table)?;
-    let vid = Vid::new(7).ok_or("a VID")?;
     let station = NodeNo(2);
-    let declared = EventEntry {
+    let heard = EventEntry {
         tick: 3,
-        kind: EventKind::Declare { station, vid },
+        kind: EventKind::Listen { station, stream: 1 },
     };
     let (from, to) = (NodeNo(1), NodeNo(2));
     let lost = EventEntry {
         tick: 21,
         kind: EventKind::Lose { from, to, index: 2 },
     };
-    assert!(rt; scenario.events.as_slice() == [declared, lost].as_slice());
+    assert!(rt; scenario.events.as_slice() == [heard, lost].as_slice());
+    let sent = FrameEntry {
+        route: FrameRoute::OfStream { stream: 1 },
+        octets: 80,
+        at: 1000,
+        count: 3,
+        every: 125_000,
+    };
+    assert!(rt; scenario.frames.as_slice() == [sent].as_slice());
+    assert_eq!(rt; scenario.copies(), 3);
     Ok(())
 }
 

@@ -1,7 +1,9 @@
-use Rattle.std.proofs.Common.{◌≡◌, ◌++◌, drop}
-use Rattle.msrp_codec.specs.Meaning.{events_from}
+use Rattle.std.proofs.Common.{◌≡◌, ◌++◌, ◌-◌}
+use Rattle.msrp_codec.specs.InPlace.{values_from}
 use Rattle.msrp_codec.proofs.reading.push_values.Given as goal
 
 abbrev pub invariant-loop-i : goal.invariant-loop-i
-invariant-loop-i l =
-    l.out.items ++ events_from l.first l.four_packed l.i (drop l.i l.events) ≡ l.initial.out.items ++ events_from l.first l.four_packed 0 l.events
+invariant-loop-i l = l.out.items ++ values_from l.first l.raw l.i ≡ l.initial.out.items ++ values_from l.first l.raw 0
+
+abbrev pub decreases-loop-i : goal.decreases-loop-i
+decreases-loop-i l = l.n - l.i

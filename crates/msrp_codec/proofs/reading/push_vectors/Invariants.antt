@@ -1,7 +1,7 @@
 use Rattle.std.proofs.Common.{◌≡◌, ◌++◌, take}
 use Rattle.std.specs.List.{flat_map}
-use Rattle.msrp_codec.specs.Meaning.{vector_events}
+use Rattle.msrp_codec.specs.InPlace.{events_in_place}
 use Rattle.msrp_codec.proofs.reading.push_vectors.Given as goal
 
-abbrev pub invariant-loop-v : goal.invariant-loop-v
-invariant-loop-v l = l.out.items ≡ l.initial.out.items ++ flat_map (vector_events l.t) (take l.v-index l.vs)
+abbrev pub invariant-loop-raw : goal.invariant-loop-raw
+invariant-loop-raw l = l.out.items ≡ l.initial.out.items ++ flat_map (events_in_place l.t) (take l.raw-index l.raws)

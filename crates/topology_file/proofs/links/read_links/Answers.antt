@@ -1,6 +1,6 @@
 use Rattle.std.proofs.Common.{rules, map}
 use Rattle.toml.specs.View.{table_view}
-use Rattle.topology_file.proofs.Kept.{links-known}
+use Rattle.topology_file.proofs.NetworkKept.{links-known}
 use Rattle.topology_file.proofs.links.read_links.Goals as goal
 
 pub returns-clause-known : goal.returns-clause-known

@@ -10,7 +10,9 @@ invariant_of-result c =
     let times = c.args.times in
     let nodes = map (λ t. table_view t.now) c.args.node_tables.now in
     let links = map (λ t. table_view t.now) c.args.link_tables.now in
+    let streams = map (λ t. table_view t.now) c.args.stream_tables.now in
     let events = map (λ t. table_view t.now) c.args.event_tables.now in
-    ok-says KeepsRules (plan_of times.ticks times.leave_time times.periodic nodes links events) _ (search rules)
-    (plan_of-keeps c.refusals.ensures.accepted times.ticks times.leave_time times.periodic nodes links events
+    let frames = map (λ t. table_view t.now) c.args.frame_tables.now in
+    ok-says KeepsRules (plan_of times.ticks times.leave_time times.periodic nodes links streams events frames) _ (search rules)
+    (plan_of-keeps c.refusals.ensures.accepted times.ticks times.leave_time times.periodic nodes links streams events frames
     (c.requires.some_ticks, c.requires.ticks) (c.requires.least_leave, c.requires.leave))

@@ -1,7 +1,7 @@
-use Rattle.std.proofs.Common.{rules, ◌≡◌, ◌-◌, ◌∙◌, ap, sym, ◌⊎◌, ℕ}
+use Rattle.std.proofs.Common.{◌≡◌, ◌-◌, ◌∙◌, ap}
 use Rattle.std.specs.Prelude.{slice_get, Some}
 use Rattle.std.specs.Ordering.{nat_cmp}
-use Rattle.mrp_participant.specs.State.{AreRows, declared_at, registered_at, due_state, left_keys}
+use Rattle.mrp_participant.specs.State.{AreRows, declared_at, due_state, left_keys}
 use Rattle.mvrp.specs.Part.{Part}
 use Rattle.mvrp.proofs.Places.{each-get}
 use Rattle.mvrp.proofs.Keeping.{one_some, tells_as}

@@ -1,11 +1,11 @@
-use Rattle.std.proofs.Common.{rules, ◌≡◌, ◌≢◌, ◌-◌, ◌∙◌, ◌∷◌, [], if◌then◌else◌, true, false, Bool, ap, sym, inl, inr, ◌⊎◌, ℕ}
-use Rattle.std.specs.Prelude.{slice_get, Some, Contains}
+use Rattle.std.proofs.Common.{◌≡◌, ◌-◌, ◌∙◌, ◌∷◌, [], if◌then◌else◌, ap, sym, ℕ}
+use Rattle.std.specs.Prelude.{slice_get, Some}
 use Rattle.std.specs.Ordering.{nat_cmp}
 use Rattle.mrp_participant.specs.Lookup.{find}
 use Rattle.mrp_participant.specs.OneRow.{is_leaving_in}
-use Rattle.mrp_participant.specs.State.{AreRows, declared_at, registered_at, left_state}
+use Rattle.mrp_participant.specs.State.{AreRows, declared_at, left_state}
 use Rattle.mvrp.specs.Part.{Part}
-use Rattle.mvrp.specs.Side.{Vlans, retold, left_vids, left_vlans, at_part}
+use Rattle.mvrp.specs.Side.{Vlans, retold, left_vids, left_vlans}
 use Rattle.mvrp.proofs.Places.{each-get}
 use Rattle.mvrp.proofs.Keeping.{one_some, tells_as, leaving_told, at_told, retold_as}
 use Rattle.mvrp.proofs.side.MvrpSide.leave_now.Goals as goal

@@ -1,6 +1,3 @@
-use Rattle.std.proofs.Common.{rules, ◌≡◌, [], map}
-use Rattle.mrp_participant.specs.State.{new_state}
-use Rattle.mvrp.specs.Side.{IsKept}
 use Rattle.mvrp.proofs.Keeping.{kept-new}
 use Rattle.mvrp.proofs.side.MvrpSide.new.Goals as goal
 

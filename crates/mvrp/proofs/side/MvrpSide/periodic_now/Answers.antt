@@ -1,8 +1,7 @@
-use Rattle.std.proofs.Common.{◌≡◌, ◌-◌, ◌<◌, ◌∙◌, ℕ, length, ap, arith}
+use Rattle.std.proofs.Common.{◌-◌, ◌<◌, ◌∙◌, ℕ, length, ap, arith}
 use Rattle.std.specs.Ordering.{nat_cmp}
-use Rattle.mrp_participant.specs.State.{AreRows, declared_at, registered_at, periodic_state}
-use Rattle.mvrp.specs.Part.{Part}
-use Rattle.mvrp.specs.Side.{Vlans, IsKept, periodic_vlans}
+use Rattle.mrp_participant.specs.State.{declared_at, registered_at, periodic_state}
+use Rattle.mvrp.specs.Side.{Vlans, periodic_vlans}
 use Rattle.mvrp.proofs.Keeping.{kept-changed, at_changed}
 use Rattle.mvrp.proofs.side.MvrpSide.periodic_now.Goals as goal
 use Rattle.mvrp.proofs.side.MvrpSide.periodic_now.Goals.{After-self-1}

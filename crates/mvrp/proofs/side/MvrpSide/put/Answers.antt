@@ -1,5 +1,5 @@
-use Rattle.std.proofs.Common.{rules, ◌≡◌, refl}
-use Rattle.mvrp.specs.Side.{Vlans, IsKept, retold}
+use Rattle.std.proofs.Common.{rules, ◌≡◌}
+use Rattle.mvrp.specs.Side.{retold}
 use Rattle.mvrp.proofs.Keeping.{kept-put}
 use Rattle.mvrp.proofs.side.MvrpSide.put.Goals as goal
 

@@ -1,7 +1,7 @@
-use Rattle.std.proofs.Common.{rules, ◌≡◌, ◌∷◌, [], if◌then◌else◌, ◌∙◌, ap}
+use Rattle.std.proofs.Common.{rules, ◌≡◌, ◌∷◌, []}
 use Rattle.std.specs.Ordering.{nat_cmp}
 use Rattle.attribute_propagation.specs.Ports.{marked_everywhere}
-use Rattle.mvrp.specs.Side.{Vlans, IsKept}
+use Rattle.mvrp.specs.Side.{Vlans}
 use Rattle.mvrp.proofs.Keeping.{kept-requested}
 use Rattle.mvrp.proofs.side.MvrpSide.request.Goals as goal
 

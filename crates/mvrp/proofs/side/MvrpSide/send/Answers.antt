@@ -1,9 +1,9 @@
-use Rattle.std.proofs.Common.{◌≡◌, ◌-◌, ◌<◌, ◌∙◌, ℕ, List, [], length, true, ap, sym, arith, refl}
-use Rattle.std.specs.Prelude.{slice_get, Some, IfSome}
+use Rattle.std.proofs.Common.{◌≡◌, ◌-◌, ◌<◌, ◌∙◌, length, true, ap, sym, arith, refl}
+use Rattle.std.specs.Prelude.{slice_get, Some}
 use Rattle.std.specs.Ordering.{nat_cmp}
-use Rattle.mrp_participant.specs.State.{AreRows, declared_at, registered_at, is_silent}
-use Rattle.mvrp.specs.Part.{Part, sent_part}
-use Rattle.mvrp.specs.Side.{Vlans, IsKept, place_of}
+use Rattle.mrp_participant.specs.State.{declared_at, registered_at, is_silent}
+use Rattle.mvrp.specs.Part.{sent_part}
+use Rattle.mvrp.specs.Side.{Vlans, place_of}
 use Rattle.mvrp.proofs.Keeping.{some_is, kept-changed, one_some, opened}
 use Rattle.std.proofs.lemmas.Option.{slice_get_read}
 use Rattle.mvrp.proofs.SendingLemmas.{still_is_silent}

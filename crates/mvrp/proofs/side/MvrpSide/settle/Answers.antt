@@ -1,7 +1,7 @@
-use Rattle.std.proofs.Common.{◌≡◌, ◌-◌, ◌<◌, ◌∙◌, ℕ, List, [], length, ap, sym, arith}
-use Rattle.std.specs.Prelude.{slice_get, slice_set, IfSome}
-use Rattle.mvrp.specs.Part.{Part, settled_part}
-use Rattle.mvrp.specs.Side.{Vlans, IsKept, rule_at, awaiting_at, settled_vlans, count_of}
+use Rattle.std.proofs.Common.{◌≡◌, ◌-◌, ◌<◌, ◌∙◌, ℕ, length, ap, sym, arith}
+use Rattle.std.specs.Prelude.{slice_get, IfSome}
+use Rattle.mvrp.specs.Part.{settled_part}
+use Rattle.mvrp.specs.Side.{Vlans, rule_at, awaiting_at, settled_vlans, count_of}
 use Rattle.mvrp.proofs.SettlingLemmas.{Laws, HasSettled, settle_is, awaiting_is}
 use Rattle.mvrp.proofs.side.MvrpSide.settle.Goals as goal
 use Rattle.mvrp.proofs.side.MvrpSide.settle.Goals.{After-drop-index_mut-2}

@@ -1,8 +1,8 @@
-use Rattle.std.proofs.Common.{◌≡◌, ◌-◌, ◌<◌, ◌∙◌, ℕ, length, false, ap, arith}
+use Rattle.std.proofs.Common.{◌-◌, ◌<◌, ◌∙◌, ℕ, length, false, ap, arith}
 use Rattle.std.specs.Ordering.{nat_cmp}
-use Rattle.mrp_participant.specs.State.{AreRows, declared_at, registered_at, State}
+use Rattle.mrp_participant.specs.State.{declared_at, registered_at}
 use Rattle.mvrp.specs.Part.{Part}
-use Rattle.mvrp.specs.Side.{Vlans, IsKept, spoilt_vlans}
+use Rattle.mvrp.specs.Side.{Vlans, spoilt_vlans}
 use Rattle.mvrp.proofs.Keeping.{kept-changed, at_changed}
 use Rattle.mvrp.proofs.side.MvrpSide.spoil.Goals as goal
 use Rattle.mvrp.proofs.side.MvrpSide.spoil.Goals.{After-self-1}

@@ -1,8 +1,8 @@
-use Rattle.std.proofs.Common.{rules, ◌≡◌, ◌∙◌, ap, sym, ◌⊎◌, ℕ}
+use Rattle.std.proofs.Common.{◌≡◌, ◌∙◌, ap}
 use Rattle.std.specs.Prelude.{slice_get, Some}
 use Rattle.std.specs.Ordering.{nat_cmp}
-use Rattle.mrp_participant.specs.State.{AreRows, declared_at, registered_at, received_state, changed_keys}
-use Rattle.mvrp.specs.Part.{Part, messages, same_content, received_part, told_by_receipt}
+use Rattle.mrp_participant.specs.State.{AreRows, declared_at, received_state, changed_keys}
+use Rattle.mvrp.specs.Part.{Part, messages, same_content, received_part}
 use Rattle.mvrp.proofs.Places.{each-get}
 use Rattle.mvrp.proofs.Keeping.{one_some, tells_as}
 use Rattle.mvrp.proofs.side.MvrpSide.take.Goals as goal

@@ -1,0 +1,292 @@
+-- The copies that arrive at a port: whose they are, and on which flows they depend.
+use Rattle.std.proofs.Common.{◌≡◌, ◌≢◌, ℕ, zero, suc, ◌+◌, ◌-◌, ◌<◌, ◌≤◌, ◌⊎◌, inl, inr, Bool, true, false, cond, List, [], ◌∷◌, ◌++◌, length, get_or, take, map, Option, Some, None, refl, sym, ◌∙◌, ap, subst, arith, append-nil}
+use Rattle.std.specs.Prelude.{All, AllPairs, find, filter, filter_map, flat_map, nat_lt, ◌==◌, ◌&&◌}
+use Rattle.std.specs.List.{cons_option, AllWithin, HoldsAt}
+use Rattle.std.specs.List.Sorted.{IsPermutation}
+use Rattle.std.proofs.lemmas.Bool.{cond_both, cond-true, cond-false, cases_Bool, cases_lt, cases_eq, eqb-true, eq-eqb, ne_eqb, ltb-true, and_parts, false≢true}
+use Rattle.std.proofs.lemmas.List.{get_or_default, take_more, map-append}
+use Rattle.std.proofs.lemmas.List.Elements.{filter-append, filter_map-append, All-nil, All-cons, All-head, All-tail, All-append, All-filter, All-map, All-weaker, All-same}
+use Rattle.srp_base.specs.declared.numbers.EgressPort.{EgressPort}
+use Rattle.srp_base.specs.declared.bandwidth.Rate.{Rate}
+use Rattle.tree_topology.specs.declared.graph.Link.{Link}
+use Rattle.tree_topology.specs.Ports.{peer_of}
+use Rattle.frame_flow.specs.declared.frame.Frame.{Frame}
+use Rattle.frame_flow.specs.declared.frame.FrameCopy.{FrameCopy}
+use Rattle.frame_flow.specs.declared.result.Fate.{Fate}
+use Rattle.frame_flow.specs.declared.result.Fate.TheVariants.{Unbooked, NoVlan, Departed, Left}
+use Rattle.frame_flow.specs.declared.result.PortFlow.{PortFlow}
+use Rattle.frame_flow.specs.declared.place.Place.{Place}
+use Rattle.frame_flow.specs.Moments.{bits_of_ticks, bit_from, moment_of}
+use Rattle.frame_flow.specs.Force.{is_port}
+use Rattle.frame_flow.specs.Copies.{Reached, sent_from, frame_of, reached_at, handed_on, handed_by, comes_over, flow_at, reached, ports_at, port_of, goes_by, copy_of, is_not_after, in_order, arriving}
+use Rattle.frame_flow.specs.Flow.{Setting}
+use Rattle.frame_flow.specs.Given.{IsInOrder, IsSetting, IsFrame, IsRoute}
+use Rattle.frame_flow.proofs.OrderLemmas.{IsKnown, IsKnownCopy, All-in_order, order-in_order, sorted-is}
+
+-- ---- lists
+
+pub All-find : {X : Type 0} (P : X → Type 0) (p : X → Bool) (xs : List X) (x : X) → All P xs → find p xs ≡ Some x → P x × (p x ≡ true)
+All-find P p [] x all e = absurd (let nay : None ≡ Some x = e in cc)
+All-find {X} P p (y ∷ ys) x all e =
+    elim (cases_Bool (p y)) [
+      | inl is ↦ (
+          let same : Some y ≡ Some x = sym (cond-true (p y) (Some y) (find p ys) is) ∙ e in
+          let one : y ≡ x = cc in
+          let Q : X → Type 0 = λ t. P t × (p t ≡ true) in
+          subst Q one (All-head P y ys all, is))
+      | inr nay ↦ All-find P p ys x (All-tail P y ys all) (sym (cond-false (p y) (Some y) (find p ys) nay) ∙ e)
+    ]
+
+pub All-flat_map : {X Y : Type 0} (P : X → Type 0) (Q : Y → Type 0) (f : X → List Y) → ((x : X) → P x → All Q (f x)) → (xs : List X) → All P xs → All Q (flat_map f xs)
+All-flat_map P Q f each [] all = All-nil Q
+All-flat_map P Q f each (x ∷ xs) all =
+    All-append Q (f x) (flat_map f xs) (each x (All-head P x xs all)) (All-flat_map P Q f each xs (All-tail P x xs all))
+
+pub All-any : {X : Type 0} (xs : List X) → All (λ x. Unit {0}) xs
+All-any xs k d below = tt
+
+pub flat_map-same : {X Y : Type 0} (f g : X → List Y) (xs : List X) → All (λ x. f x ≡ g x) xs → flat_map f xs ≡ flat_map g xs
+flat_map-same f g [] all = refl
+flat_map-same {X} {Y} f g (x ∷ xs) all =
+    let P : X → Type 0 = λ t. f t ≡ g t in
+    ap (λ (t : List Y). t ++ flat_map f xs) (All-head P x xs all) ∙ ap (λ (t : List Y). g x ++ t) (flat_map-same f g xs (All-tail P x xs all))
+
+-- what a filter_map gives
+All-with_some : {Y : Type 0} (Q : Y → Type 0) (o : Option Y) (rest : List Y) → ((y : Y) → o ≡ Some y → Q y) → All Q rest → All Q (cons_option o rest)
+All-with_some Q None rest each all = all
+All-with_some Q (Some y) rest each all = All-cons Q y rest (each y refl) all
+
+pub All-filter_map : {X Y : Type 0} (P : X → Type 0) (Q : Y → Type 0) (h : X → Option Y) → ((x : X) (y : Y) → P x → h x ≡ Some y → Q y)
+    → (xs : List X) → All P xs → All Q (filter_map h xs)
+All-filter_map P Q h each [] all = All-nil Q
+All-filter_map P Q h each (x ∷ xs) all =
+    All-with_some Q (h x) (filter_map h xs) (λ y s. each x y (All-head P x xs all) s) (All-filter_map P Q h each xs (All-tail P x xs all))
+
+-- ---- the frame of a number
+
+-- the first element that a test passes
+pub find-here : {X : Type 0} (p : X → Bool) (xs : List X) (i : ℕ) (d : X) → i < length xs → ((k : ℕ) → k < i → p (get_or xs k d) ≡ false)
+    → p (get_or xs i d) ≡ true → find p xs ≡ Some (get_or xs i d)
+find-here p [] i d below before is = absurd (omega (arith, below))
+find-here p (x ∷ xs) zero d below before is = cond-true (p x) (Some x) (find p xs) is
+find-here p (x ∷ xs) (suc i) d below before is =
+    cond-false (p x) (Some x) (find p xs) (before zero (omega arith))
+    ∙ find-here p xs i d (omega (arith, below)) (λ k lt. before (suc k) (omega (arith, lt))) is
+
+pub find-nowhere : {X : Type 0} (p : X → Bool) (xs : List X) → All (λ x. p x ≡ false) xs → find p xs ≡ None
+find-nowhere p [] all = refl
+find-nowhere {X} p (x ∷ xs) all =
+    let P : X → Type 0 = λ t. p t ≡ false in
+    cond-false (p x) (Some x) (find p xs) (All-head P x xs all) ∙ find-nowhere p xs (All-tail P x xs all)
+
+-- each frame is that of its number
+pub known-each : (frames : List Frame) → AllPairs (λ f g. f.number < g.number) frames → All (IsKnown frames) frames
+known-each frames up k d below =
+    find-here (λ f. f.number == (get_or frames k d).number) frames k d below
+    (λ j lt. ne_eqb (get_or frames j d).number (get_or frames k d).number (λ e. omega (arith, up j k d lt below, e)))
+    (eq-eqb (get_or frames k d).number (get_or frames k d).number refl)
+
+-- the first frame of a number or a higher one, where it is of that number and where it isn't
+pub found_at : (frames : List Frame) (number i : ℕ) (d : Frame) → i < length frames → AllWithin (λ f. f.number < number) frames 0 i
+    → (get_or frames i d).number ≡ number → frame_of frames number ≡ Some (get_or frames i d)
+found_at frames number i d below before is =
+    find-here (λ f. f.number == number) frames i d below
+    (λ k lt. ne_eqb (get_or frames k d).number number (λ e. omega (arith, before k d (omega arith) lt, e))) (eq-eqb (get_or frames i d).number number is)
+
+pub not_found : (frames : List Frame) (number i : ℕ) → AllPairs (λ f g. f.number < g.number) frames → AllWithin (λ f. f.number < number) frames 0 i
+    → AllWithin (λ f. number ≤ f.number) frames i (length frames) → ((d : Frame) → i < length frames → (get_or frames i d).number ≢ number)
+    → frame_of frames number ≡ None
+not_found frames number i up before after other =
+    find-nowhere (λ f. f.number == number) frames (λ k d below. ne_eqb (get_or frames k d).number number
+    (λ e. elim (cases_lt k i) [
+      | inl lt ↦ absurd (omega (arith, before k d (omega arith) lt, e))
+      | inr ge ↦ elim (cases_eq k i) [
+        | inl same ↦ absurd (let F : ℕ → Type 0 = λ j. (get_or frames j d).number ≡ number in other d (omega arith) (subst F same e))
+        | inr apart ↦ absurd (let lt : i < k = omega (arith, apart) in omega (arith, up i k d lt below, after i d (omega arith) (omega arith), e))
+      ]
+    ]))
+
+-- the frames up to one that is too low are, and those from one that isn't aren't
+pub before_upto : (frames : List Frame) (number m : ℕ) (d : Frame) → AllPairs (λ f g. f.number < g.number) frames → m < length frames
+    → (get_or frames m d).number < number → AllWithin (λ f. f.number < number) frames 0 (m + 1)
+before_upto frames number m d up below low k e zero_ lt =
+    let here : (get_or frames m e).number < number = subst (λ (f : Frame). f.number < number) (get_or_default frames m d e below) low in
+    elim (cases_lt k m) [
+      | inl less ↦ omega (arith, up k m e less below, here)
+      | inr more ↦ (let same : m ≡ k = omega (arith, lt, more) in subst (λ (j : ℕ). (get_or frames j e).number < number) same here)
+    ]
+
+pub after_from : (frames : List Frame) (number m : ℕ) (d : Frame) → AllPairs (λ f g. f.number < g.number) frames → m < length frames
+    → number ≤ (get_or frames m d).number → AllWithin (λ f. number ≤ f.number) frames m (length frames)
+after_from frames number m d up below high k e from lt =
+    let here : number ≤ (get_or frames m e).number = subst (λ (f : Frame). number ≤ f.number) (get_or_default frames m d e below) high in
+    elim (cases_lt m k) [
+      | inl less ↦ omega (arith, up m k e less lt, here)
+      | inr more ↦ (let same : m ≡ k = omega (arith, from, more) in subst (λ (j : ℕ). number ≤ (get_or frames j e).number) same here)
+    ]
+
+-- the frames around one of a number
+pub before_at : (frames : List Frame) (number m : ℕ) → AllPairs (λ f g. f.number < g.number) frames → (m < length frames) × HoldsAt (λ f. f.number ≡ number) frames m
+    → AllWithin (λ f. f.number < number) frames 0 m
+before_at frames number m up here k d zero_ lt = omega (arith, up k m d lt here.0, here.1 d)
+
+pub after_at : (frames : List Frame) (number m : ℕ) → AllPairs (λ f g. f.number < g.number) frames → (m < length frames) × HoldsAt (λ f. f.number ≡ number) frames m
+    → AllWithin (λ f. number ≤ f.number) frames m (length frames)
+after_at frames number m up here k d from lt =
+    elim (cases_lt m k) [
+      | inl less ↦ omega (arith, up m k d less lt, here.1 d)
+      | inr more ↦ (let same : m ≡ k = omega (arith, from, more) in omega (arith, subst (λ (j : ℕ). (get_or frames j d).number ≡ number) same (here.1 d)))
+    ]
+
+-- the frames of a station with one frame more
+pub sent_more : (frames : List Frame) (x i : ℕ) (d : Frame) → i < length frames
+    → sent_from (take (i + 1) frames) x ≡ sent_from (take i frames) x ++ sent_from (get_or frames i d ∷ []) x
+sent_more frames x i d below =
+    let test : Frame → Bool = λ f. f.from.0 == x in
+    let to : Frame → Reached = λ f. record { frame = f; moment = f.at.0 } in
+    ap (λ (t : List Frame). map to (filter test t)) (take_more frames i d below)
+    ∙ ap (λ (t : List Frame). map to t) (filter-append test (take i frames) (get_or frames i d ∷ []))
+    ∙ map-append to (filter test (take i frames)) (filter test (get_or frames i d ∷ []))
+
+pub copies_more : (links : List Link) (ticks : ℕ) (place : Place) (frames : List Frame) (x i : ℕ) (d : Frame) → i < length frames
+    → filter_map (copy_of links ticks place) (sent_from (take (i + 1) frames) x)
+    ≡ filter_map (copy_of links ticks place) (sent_from (take i frames) x) ++ filter_map (copy_of links ticks place) (sent_from (get_or frames i d ∷ []) x)
+copies_more links ticks place frames x i d below =
+    ap (λ (t : List Reached). filter_map (copy_of links ticks place) t) (sent_more frames x i d below)
+    ∙ filter_map-append (copy_of links ticks place) (sent_from (take i frames) x) (sent_from (get_or frames i d ∷ []) x)
+
+-- a frame that is found goes to a station of the tree
+pub known_route : (s : Setting) (number : ℕ) (f : Frame) → IsSetting s → frame_of s.frames number ≡ Some f → IsRoute s.tree f.route
+known_route s number f given e =
+    (All-find (IsFrame s.tree s.ticks) (λ g. g.number == number) s.frames f given.range.frames e).0.route
+
+-- ---- whose copies arrive
+
+All-reached_at : (P : Frame → Type 0) (moment : ℕ) (o : Option Frame) → ((f : Frame) → o ≡ Some f → P f) → All (λ r. P r.frame) (reached_at moment o)
+All-reached_at P moment None each = All-nil (λ r. P r.frame)
+All-reached_at P moment (Some f) each = All-cons (λ r. P r.frame) (record { frame = f; moment = moment }) [] (each f refl) (All-nil (λ r. P r.frame))
+
+All-handed_on : (P : Frame → Type 0) (frames : List Frame) → All P frames → (rate : Rate) (number : ℕ) (fate : Fate)
+    → All (λ r. P r.frame) (handed_on frames rate number fate)
+All-handed_on P frames all rate number Unbooked = All-nil (λ r. P r.frame)
+All-handed_on P frames all rate number NoVlan = All-nil (λ r. P r.frame)
+All-handed_on P frames all rate number Left = All-nil (λ r. P r.frame)
+All-handed_on P frames all rate number (Departed start end) =
+    All-reached_at P (moment_of rate end) (frame_of frames number) (λ f e. (All-find P (λ g. g.number == number) frames f all e).0)
+
+pub All-handed_by : (P : Frame → Type 0) (frames : List Frame) → All P frames → (x : Option PortFlow) → All (λ r. P r.frame) (handed_by frames x)
+All-handed_by P frames all None = All-nil (λ r. P r.frame)
+All-handed_by P frames all (Some x) =
+    All-flat_map (λ e. Unit {0}) (λ r. P r.frame) (λ e. handed_on frames x.input.rate e.0 e.1) (λ e h. All-handed_on P frames all x.input.rate e.0 e.1) x.fates (All-any x.fates)
+
+All-comes_over : (P : Frame → Type 0) (links : List Link) (frames : List Frame) (flows : List PortFlow) (p r : EgressPort) → All P frames
+    → All (λ t. P t.frame) (comes_over links frames flows p r)
+All-comes_over P links frames flows p r all =
+    cond_both (is_port r p) [] (handed_by frames (flow_at flows (peer_of links r))) (λ t. All (λ u. P u.frame) t)
+    (λ e. All-nil (λ u. P u.frame)) (λ e. All-handed_by P frames all (flow_at flows (peer_of links r)))
+
+pub All-sent_from : (P : Frame → Type 0) (frames : List Frame) (x : ℕ) → All P frames → All (λ r. P r.frame) (sent_from frames x)
+All-sent_from P frames x all =
+    All-map (λ r. P r.frame) (λ f. record { frame = f; moment = f.at.0 }) (filter (λ f. f.from.0 == x) frames) (All-filter (λ f. f.from.0 == x) P frames all)
+
+-- what holds of all frames holds of those that reach a port's node
+pub All-reached : (P : Frame → Type 0) (links : List Link) (frames : List Frame) (flows : List PortFlow) (p : EgressPort) → All P frames
+    → All (λ r. P r.frame) (reached links frames flows p)
+All-reached P links frames flows p all =
+    All-append (λ r. P r.frame) (sent_from frames p.node.0) (flat_map (comes_over links frames flows p) (ports_at links p.node.0))
+    (All-sent_from P frames p.node.0 all)
+    (All-flat_map (λ e. Unit {0}) (λ r. P r.frame) (comes_over links frames flows p) (λ r h. All-comes_over P links frames flows p r all) (ports_at links p.node.0) (All-any (ports_at links p.node.0)))
+
+-- a copy is of the frame, in its first bit time, which is before the run's end
+pub copy-is : (links : List Link) (ticks : ℕ) (place : Place) (r : Reached) (c : FrameCopy) → copy_of links ticks place r ≡ Some c
+    → (c.frame ≡ r.frame) × (c.bit < bits_of_ticks place.rate ticks)
+copy-is links ticks place r c e =
+    let bit = bit_from place.rate r.moment in
+    let made : FrameCopy = record { bit = bit; frame = r.frame } in
+    let goes = goes_by links place.at r.frame.route in
+    let early = nat_lt bit (bits_of_ticks place.rate ticks) in
+    elim (cases_Bool (goes && early)) [
+      | inl is ↦ (
+          let same : Some made ≡ Some c = sym (cond-true (goes && early) (Some made) None is) ∙ e in
+          let one : made ≡ c = cc in
+          let lt = ltb-true bit (bits_of_ticks place.rate ticks) (and_parts goes early is).1 in
+          let Q : FrameCopy → Type 0 = λ t. (t.frame ≡ r.frame) × (t.bit < bits_of_ticks place.rate ticks) in
+          subst Q one (refl, lt))
+      | inr nay ↦ (
+          let none : None ≡ Some c = sym (cond-false (goes && early) (Some made) None nay) ∙ e in
+          absurd (let nothing : None ≡ Some c = none in cc))
+    ]
+
+pub record IsArrived (P : Frame → Type 0) (place : Place) (ticks : ℕ) (c : FrameCopy) : Type 0 where
+  pub frame : P c.frame
+  pub early : c.bit < bits_of_ticks place.rate ticks
+
+pub All-copies : (P : Frame → Type 0) (links : List Link) (ticks : ℕ) (place : Place) (rs : List Reached) → All (λ r. P r.frame) rs
+    → All (IsArrived P place ticks) (filter_map (copy_of links ticks place) rs)
+All-copies P links ticks place rs all =
+    All-filter_map (λ r. P r.frame) (IsArrived P place ticks) (copy_of links ticks place)
+    (λ r c h e. let is = copy-is links ticks place r c e in record { frame = subst P (sym is.0) h; early = is.1 }) rs all
+
+-- what holds of all frames holds of the copies that arrive, each before the run's end
+pub All-arriving : (P : Frame → Type 0) (links : List Link) (frames : List Frame) (ticks : ℕ) (flows : List PortFlow) (place : Place) → All P frames
+    → All (IsArrived P place ticks) (arriving links frames ticks flows place)
+unfolding arriving
+All-arriving P links frames ticks flows place all =
+    All-in_order (IsArrived P place ticks) (filter_map (copy_of links ticks place) (reached links frames flows place.at))
+    (All-copies P links ticks place (reached links frames flows place.at) (All-reached P links frames flows place.at all))
+
+pub order-arriving : (links : List Link) (frames : List Frame) (ticks : ℕ) (flows : List PortFlow) (place : Place) → IsInOrder (arriving links frames ticks flows place)
+unfolding arriving
+order-arriving links frames ticks flows place = order-in_order (filter_map (copy_of links ticks place) (reached links frames flows place.at))
+
+-- ---- on which flows they depend
+
+comes_over-same : (links : List Link) (frames : List Frame) (one other : List PortFlow) (p r : EgressPort)
+    → (is_port r p ≡ false → flow_at one (peer_of links r) ≡ flow_at other (peer_of links r))
+    → comes_over links frames one p r ≡ comes_over links frames other p r
+comes_over-same links frames one other p r agree =
+    let from = λ (flows : List PortFlow). handed_by frames (flow_at flows (peer_of links r)) in
+    elim (cases_Bool (is_port r p)) [
+      | inl is ↦ cond-true (is_port r p) [] (from one) is ∙ sym (cond-true (is_port r p) [] (from other) is)
+      | inr nay ↦ cond-false (is_port r p) [] (from one) nay ∙ ap (λ (x : Option PortFlow). handed_by frames x) (agree nay) ∙ sym (cond-false (is_port r p) [] (from other) nay)
+    ]
+
+pub arriving-same : (links : List Link) (frames : List Frame) (ticks : ℕ) (one other : List PortFlow) (place : Place)
+    → All (λ r. is_port r place.at ≡ false → flow_at one (peer_of links r) ≡ flow_at other (peer_of links r)) (ports_at links place.at.node.0)
+    → arriving links frames ticks one place ≡ arriving links frames ticks other place
+unfolding arriving
+arriving-same links frames ticks one other place agree =
+    let p = place.at in
+    let A : EgressPort → Type 0 = λ r. is_port r p ≡ false → flow_at one (peer_of links r) ≡ flow_at other (peer_of links r) in
+    let E : EgressPort → Type 0 = λ r. comes_over links frames one p r ≡ comes_over links frames other p r in
+    let same = flat_map-same (comes_over links frames one p) (comes_over links frames other p) (ports_at links p.node.0)
+    (All-weaker A E (λ r h. comes_over-same links frames one other p r h) (ports_at links p.node.0) agree) in
+    ap (λ (t : List Reached). in_order (filter_map (copy_of links ticks place) (sent_from frames p.node.0 ++ t))) same
+
+-- ---- the code's list
+
+pub over-is : (links : List Link) (frames : List Frame) (flows : List PortFlow) (p r source : EgressPort) → is_port r p ≡ false → source ≡ peer_of links r
+    → handed_by frames (flow_at flows source) ≡ comes_over links frames flows p r
+over-is links frames flows p r source other is =
+    ap (λ (q : EgressPort). handed_by frames (flow_at flows q)) is ∙ sym (cond-false (is_port r p) [] (handed_by frames (flow_at flows (peer_of links r))) other)
+
+pub arriving-is : (s : Setting) → IsSetting s → (flows : List PortFlow) (place : Place) (first own all sorted : List FrameCopy) → first ≡ []
+    → own ≡ first ++ filter_map (copy_of s.tree.links s.ticks place) (sent_from s.frames place.at.node.0)
+    → all ≡ own ++ filter_map (copy_of s.tree.links s.ticks place) (flat_map (comes_over s.tree.links s.frames flows place.at) (ports_at s.tree.links place.at.node.0))
+    → IsPermutation all sorted → IsInOrder sorted → sorted ≡ arriving s.tree.links s.frames s.ticks flows place
+unfolding arriving
+arriving-is s given flows place first own all sorted none one two moved order =
+    let links = s.tree.links in
+    let to = copy_of links s.ticks place in
+    let here = sent_from s.frames place.at.node.0 in
+    let come = flat_map (comes_over links s.frames flows place.at) (ports_at links place.at.node.0) in
+    let whole : all ≡ filter_map to (reached links s.frames flows place.at) =
+    two ∙ ap (λ (t : List FrameCopy). t ++ filter_map to come) (one ∙ ap (λ (t : List FrameCopy). t ++ filter_map to here) none)
+    ∙ sym (filter_map-append to here come) in
+    let K : FrameCopy → Type 0 = IsKnownCopy s.frames in
+    let A : FrameCopy → Type 0 = IsArrived (IsKnown s.frames) place s.ticks in
+    let known = All-weaker A K (λ c h. h.frame) (filter_map to (reached links s.frames flows place.at))
+    (All-copies (IsKnown s.frames) links s.ticks place (reached links s.frames flows place.at)
+    (All-reached (IsKnown s.frames) links s.frames flows place.at (known-each s.frames given.range.numbers))) in
+    sorted-is s.frames all sorted (All-same K all (filter_map to (reached links s.frames flows place.at)) whole known) moved order
+    ∙ ap (λ (t : List FrameCopy). in_order t) whole

@@ -1,0 +1,158 @@
+-- The slopes that a port's shaper is given are those in force.
+use Rattle.std.proofs.Common.{◌≡◌, ◌≢◌, ℕ, zero, suc, ◌+◌, ◌-◌, ◌*◌, ◌/◌, ◌<◌, ◌≤◌, ◌⊎◌, inl, inr, Bool, true, false, cond, List, [], ◌∷◌, Option, Some, None, refl, sym, ◌∙◌, ap, subst, arith}
+use Rattle.std.specs.Prelude.{All, AllPairs, nat_lt, nat_le, ◌==◌, ◌&&◌, not}
+use Rattle.std.proofs.lemmas.Bool.{cond-true, cond-false, cases_Bool, cases_lt, eqb-true, ltb-true, leb-true, leb-false, le-leb, lt-leb, lt-ltb, le-ltb, and_left, and_parts, and_from, and_cases, not_from_false, false≢true, not_from_true}
+use Rattle.std.proofs.lemmas.List.Elements.{All-cons, All-head, All-tail, All-weaker}
+use Rattle.srp_base.specs.declared.bandwidth.Rate.{Rate}
+use Rattle.srp_base.specs.declared.bandwidth.Rate.TheVariants.{M100, G1, G10}
+use Rattle.srp_base.specs.declared.ports.PortChange.{PortChange}
+use Rattle.credit_shaper.specs.declared.port.SlopeChange.{SlopeChange}
+use Rattle.credit_shaper.specs.Port.{last_change, no_slopes}
+use Rattle.frame_flow.specs.Moments.{tick_bits_of, bits_of_ticks, tick_at}
+use Rattle.frame_flow.specs.Force.{in_force, last_upto, does_change, slopes_of_change, first_slopes, later_slopes, slopes_over}
+use Rattle.frame_flow.specs.Laws.{HasSlopes}
+use Rattle.frame_flow.proofs.OrderLemmas.{pairs-head, pairs-tail}
+use Rattle.frame_flow.proofs.SlopeLemmas.{IsBefore, slopes-after}
+
+-- a tick has begun by a bit time where its first bit time has
+begun : (rate : Rate) (c t : ℕ) → bits_of_ticks rate c ≤ t → c ≤ tick_at rate t
+begun M100 c t h = omega (arith, h)
+begun G1 c t h = omega (arith, h)
+begun G10 c t h = omega (arith, h)
+
+not-begun : (rate : Rate) (c t : ℕ) → t < bits_of_ticks rate c → tick_at rate t < c
+not-begun M100 c t h = omega (arith, h)
+not-begun G1 c t h = omega (arith, h)
+not-begun G10 c t h = omega (arith, h)
+
+-- none of some changes has come
+last-later : (t : ℕ) (last : SlopeChange) (es : List SlopeChange) → All (λ e. t < e.bit) es → last_change t last es ≡ last
+last-later t last [] all = refl
+last-later t last (e ∷ es) all =
+    let P : SlopeChange → Type 0 = λ x. t < x.bit in
+    let here = cond-false (nat_le e.bit t) e last (lt-leb e.bit t (All-head P e es all)) in
+    ap (λ (x : SlopeChange). last_change t x es) here ∙ last-later t last es (All-tail P e es all)
+
+upto-later : (tick : ℕ) (newest : Option PortChange) (cs : List PortChange) → All (λ c. tick < c.tick) cs → last_upto tick newest cs ≡ newest
+upto-later tick newest [] all = refl
+upto-later tick newest (c ∷ cs) all =
+    let P : PortChange → Type 0 = λ x. tick < x.tick in
+    let here = cond-false (nat_le c.tick tick) (Some c) newest (lt-leb c.tick tick (All-head P c cs all)) in
+    ap (λ (x : Option PortChange). last_upto tick x cs) here ∙ upto-later tick newest cs (All-tail P c cs all)
+
+-- slopes that aren't new are those that were
+same-slopes : (ticks : ℕ) (last : SlopeChange) (c : PortChange) → does_change ticks last c ≡ false → 0 < c.tick → c.tick < ticks
+    → (c.slope_a ≡ last.slope_a) × (c.slope_b ≡ last.slope_b)
+same-slopes ticks last c nay some few =
+    let a = c.slope_a == last.slope_a in
+    let b = c.slope_b == last.slope_b in
+    let within = and_from (nat_lt 0 c.tick) (nat_lt c.tick ticks) (lt-ltb 0 c.tick some) (lt-ltb c.tick ticks few) in
+    let both : (a && b) ≡ true =
+    elim (cases_Bool (a && b)) [
+      | inl is ↦ is
+      | inr other ↦ absurd (false≢true (sym nay ∙ and_from (nat_lt 0 c.tick && nat_lt c.tick ticks) (not (a && b)) within (not_from_false (a && b) other)))
+    ] in
+    let parts = and_parts a b both in
+    (eqb-true c.slope_a last.slope_a parts.0, eqb-true c.slope_b last.slope_b parts.1)
+
+slopes-on : (rate : Rate) (ticks t : ℕ) → tick_at rate t < ticks → (last : SlopeChange) (newest : Option PortChange) (cs : List PortChange)
+    → All (λ c. 0 < c.tick) cs → AllPairs IsBefore cs → HasSlopes last newest
+    → HasSlopes (last_change t last (later_slopes rate ticks last cs)) (last_upto (tick_at rate t) newest cs)
+slopes-on rate ticks t early last newest [] some up same = same
+slopes-on rate ticks t early last newest (c ∷ cs) some up same =
+    let tick = tick_at rate t in
+    let e = slopes_of_change rate c in
+    let rest = pairs-tail IsBefore c cs up in
+    let S : PortChange → Type 0 = λ x. 0 < x.tick in
+    let some_rest = All-tail S c cs some in
+    let L = later_slopes rate ticks in
+    let next = λ (o : Option PortChange). last_upto tick o cs in
+    let H : List SlopeChange → Option PortChange → Type 0 = λ es o. HasSlopes (last_change t last es) (next o) in
+    elim (cases_Bool (does_change ticks last c)) [
+      | inl is ↦ (
+          let entries = sym (cond-true (does_change ticks last c) (e ∷ L e cs) (L last cs) is) in
+          elim (cases_lt t e.bit) [
+            | inl ahead ↦ (
+                let later = not-begun rate c.tick t ahead in
+                let none = sym (cond-false (nat_le c.tick tick) (Some c) newest (lt-leb c.tick tick later)) in
+                let skip = cond-false (nat_le e.bit t) e last (lt-leb e.bit t ahead) in
+                let after = slopes-after rate ticks c.tick e cs (All-weaker (IsBefore c) (λ d. 0 < d.tick → c.tick < d.tick) (λ d lt any. lt) cs (pairs-head IsBefore c cs up)) in
+                let stays = ap (λ (x : SlopeChange). last_change t x (L e cs)) skip
+                ∙ last-later t last (L e cs) (All-weaker (λ x. e.bit < x.bit) (λ x. t < x.bit) (λ x lt. omega (arith, lt, ahead)) (L e cs) after) in
+                let keeps = upto-later tick newest cs (All-weaker (IsBefore c) (λ d. tick < d.tick) (λ d lt. omega (arith, lt, later)) cs (pairs-head IsBefore c cs up)) in
+                let now = subst (λ (x : SlopeChange). HasSlopes x (next newest)) (sym stays) (subst (λ (o : Option PortChange). HasSlopes last o) (sym keeps) same) in
+                subst (λ (es : List SlopeChange). HasSlopes (last_change t last es) (last_upto tick newest (c ∷ cs))) entries
+                (subst (λ (o : Option PortChange). HasSlopes (last_change t last (e ∷ L e cs)) (next o)) none now))
+            | inr come ↦ (
+                let begun_c = begun rate c.tick t come in
+                let newer = sym (cond-true (nat_le c.tick tick) (Some c) newest (le-leb c.tick tick begun_c)) in
+                let take = sym (cond-true (nat_le e.bit t) e last (le-leb e.bit t come)) in
+                let now = slopes-on rate ticks t early e (Some c) cs some_rest rest (refl, refl) in
+                subst (λ (es : List SlopeChange). HasSlopes (last_change t last es) (last_upto tick newest (c ∷ cs))) entries
+                (subst (λ (x : SlopeChange). HasSlopes (last_change t x (L e cs)) (last_upto tick newest (c ∷ cs))) take
+                (subst (λ (o : Option PortChange). HasSlopes (last_change t e (L e cs)) (next o)) newer now)))
+          ])
+      | inr nay ↦ (
+          let entries = sym (cond-false (does_change ticks last c) (e ∷ L e cs) (L last cs) nay) in
+          elim (cases_lt tick c.tick) [
+            | inl later ↦ (
+                let none = sym (cond-false (nat_le c.tick tick) (Some c) newest (lt-leb c.tick tick later)) in
+                let now = slopes-on rate ticks t early last newest cs some_rest rest same in
+                subst (λ (es : List SlopeChange). HasSlopes (last_change t last es) (last_upto tick newest (c ∷ cs))) entries
+                (subst (λ (o : Option PortChange). HasSlopes (last_change t last (L last cs)) (next o)) none now))
+            | inr come ↦ (
+                let newer = sym (cond-true (nat_le c.tick tick) (Some c) newest (le-leb c.tick tick come)) in
+                let equal = same-slopes ticks last c nay (All-head S c cs some) (omega (arith, come, early)) in
+                let now = slopes-on rate ticks t early last (Some c) cs some_rest rest (sym equal.0, sym equal.1) in
+                subst (λ (es : List SlopeChange). HasSlopes (last_change t last es) (last_upto tick newest (c ∷ cs))) entries
+                (subst (λ (o : Option PortChange). HasSlopes (last_change t last (L last cs)) (next o)) newer now))
+          ])
+    ]
+
+first-bit : (force : Option PortChange) → (first_slopes force).bit ≡ 0
+first-bit None = refl
+first-bit (Some c) = refl
+
+-- from what is in force in tick 0 on
+slopes-from : (rate : Rate) (ticks t : ℕ) → tick_at rate t < ticks → (zeroth : Option PortChange) (cs : List PortChange) → All (λ c. 0 < c.tick) cs → AllPairs IsBefore cs
+    → HasSlopes (last_change t no_slopes (first_slopes zeroth ∷ later_slopes rate ticks (first_slopes zeroth) cs)) (last_upto (tick_at rate t) zeroth cs)
+slopes-from rate ticks t early zeroth cs some up =
+    let first = first_slopes zeroth in
+    let L = later_slopes rate ticks first cs in
+    let begins : nat_le first.bit t ≡ true = le-leb first.bit t (omega (arith, first-bit zeroth)) in
+    subst (λ (x : SlopeChange). HasSlopes (last_change t x L) (last_upto (tick_at rate t) zeroth cs)) (sym (cond-true (nat_le first.bit t) first no_slopes begins))
+    (slopes-on rate ticks t early first zeroth cs some up (refl, refl))
+
+tick-early : (rate : Rate) (ticks t : ℕ) → t < bits_of_ticks rate ticks → tick_at rate t < ticks
+tick-early rate ticks t h = not-begun rate ticks t h
+
+pub slopes-in-force : (rate : Rate) (ticks t : ℕ) (cs : List PortChange) → AllPairs IsBefore cs → t < bits_of_ticks rate ticks
+    → HasSlopes (last_change t no_slopes (slopes_over rate ticks cs)) (in_force (tick_at rate t) cs)
+slopes-in-force rate ticks t [] up h = slopes-from rate ticks t (tick-early rate ticks t h) None [] (λ k d below. absurd (omega (arith, below))) up
+slopes-in-force rate ticks t (c ∷ cs) up h =
+    let tick = tick_at rate t in
+    let early = tick-early rate ticks t h in
+    let after = pairs-head IsBefore c cs up in
+    let L = later_slopes rate ticks in
+    elim (cases_lt 0 c.tick) [
+      | inl some ↦ (
+          let S : PortChange → Type 0 = λ x. 0 < x.tick in
+          let all = All-cons S c cs some (All-weaker (IsBefore c) S (λ d lt. omega (arith, some, lt)) cs after) in
+          let none = sym (upto-later 0 None (c ∷ cs) all) in
+          subst (λ (o : Option PortChange). HasSlopes (last_change t no_slopes (first_slopes o ∷ L (first_slopes o) (c ∷ cs))) (in_force tick (c ∷ cs))) none
+          (slopes-from rate ticks t early None (c ∷ cs) all up))
+      | inr zero_ ↦ (
+          let S : PortChange → Type 0 = λ x. 0 < x.tick in
+          let all = All-weaker (IsBefore c) S (λ d lt. omega (arith, lt)) cs after in
+          let first = first_slopes (Some c) in
+          let zeroth = sym (ap (λ (o : Option PortChange). last_upto 0 o cs) (cond-true (nat_le c.tick 0) (Some c) None (le-leb c.tick 0 zero_)) ∙ upto-later 0 (Some c) cs all) in
+          let now = sym (cond-true (nat_le c.tick tick) (Some c) None (le-leb c.tick tick (omega (arith, zero_)))) in
+          let same : does_change ticks first c ≡ false =
+          and_left (nat_lt 0 c.tick && nat_lt c.tick ticks) (not ((c.slope_a == first.slope_a) && (c.slope_b == first.slope_b)))
+          (and_left (nat_lt 0 c.tick) (nat_lt c.tick ticks) (le-ltb 0 c.tick zero_)) in
+          let entries = sym (cond-false (does_change ticks first c) (slopes_of_change rate c ∷ L (slopes_of_change rate c) cs) (L first cs) same) in
+          subst (λ (o : Option PortChange). HasSlopes (last_change t no_slopes (first_slopes o ∷ L (first_slopes o) (c ∷ cs))) (in_force tick (c ∷ cs))) zeroth
+          (subst (λ (es : List SlopeChange). HasSlopes (last_change t no_slopes (first ∷ es)) (in_force tick (c ∷ cs))) entries
+          (subst (λ (o : Option PortChange). HasSlopes (last_change t no_slopes (first ∷ L first cs)) (last_upto tick o cs)) now
+          (slopes-from rate ticks t early (Some c) cs all (pairs-tail IsBefore c cs up)))))
+    ]

@@ -1,0 +1,9 @@
+pub mod ListFacts
+pub mod OrderLemmas
+pub mod CopyLemmas
+pub mod SlopeLemmas
+pub mod TurnLemmas
+pub mod OnceLemmas
+pub mod DepartureFacts
+pub mod ForceLemmas
+pub mod LawLemmas

@@ -1,0 +1,9 @@
+use Rattle.std.proofs.Common.{◌≡◌, ℕ, ◌+◌, ◌-◌, ◌<◌, ◌≤◌, ◌++◌, ◌∷◌, [], length, map, take, drop, get_or, option_map, Some, None, arith}
+use Rattle.frame_flow.specs.Turns.{AreAt, AreDoneBelow}
+use Rattle.frame_flow.proofs.asked.Asked.add_level.Given as goal
+
+abbrev pub invariant-loop-k : goal.invariant-loop-k
+invariant-loop-k l = record {
+  at : AreAt l.places l.flows.items;
+  done : AreDoneBelow l.self l.level l.k l.places l.flows.items;
+}

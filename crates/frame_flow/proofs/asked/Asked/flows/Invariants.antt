@@ -1,0 +1,9 @@
+use Rattle.std.proofs.Common.{◌≡◌, ℕ, ◌+◌, ◌-◌, ◌<◌, ◌≤◌, ◌++◌, ◌∷◌, [], length, map, take, drop, get_or, option_map, Some, None, arith}
+use Rattle.frame_flow.specs.Turns.{AreAt, AreDoneBelow}
+use Rattle.frame_flow.proofs.asked.Asked.flows.Given as goal
+
+abbrev pub invariant-loop-level : goal.invariant-loop-level
+invariant-loop-level l = record {
+  at : AreAt l.places.items l.flows.items;
+  done : AreDoneBelow l.self l.level 0 l.places.items l.flows.items;
+}

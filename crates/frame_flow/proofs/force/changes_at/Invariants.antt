@@ -1,0 +1,7 @@
+use Rattle.std.proofs.Common.{◌≡◌, ℕ, ◌+◌, ◌-◌, ◌<◌, ◌≤◌, ◌++◌, ◌∷◌, [], length, map, take, drop, get_or, option_map, Some, None, arith}
+use Rattle.std.specs.Prelude.{filter}
+use Rattle.frame_flow.specs.Force.{is_port}
+use Rattle.frame_flow.proofs.force.changes_at.Given as goal
+
+abbrev pub invariant-loop-c : goal.invariant-loop-c
+invariant-loop-c l = map (λ c. c.now) l.found.items ≡ filter (λ c. is_port c.at l.at) (take l.c-index l.changes)

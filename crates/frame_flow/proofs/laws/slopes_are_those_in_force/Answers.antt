@@ -1,0 +1,8 @@
+use Rattle.frame_flow.specs.Force.{changes_at}
+use Rattle.frame_flow.proofs.SlopeLemmas.{changes-ascend}
+use Rattle.frame_flow.proofs.ForceLemmas.{slopes-in-force}
+use Rattle.frame_flow.proofs.laws.slopes_are_those_in_force.Goals as goal
+
+pub returns : goal.returns
+returns c s place copies t given h =
+    slopes-in-force place.rate s.ticks t (changes_at s.changes place.at) (changes-ascend s.changes place.at given.range.changes) h

@@ -1,0 +1,6 @@
+use Rattle.std.proofs.Common.{◌≡◌, ℕ, ◌+◌, ◌-◌, ◌<◌, ◌≤◌, ◌++◌, ◌∷◌, [], length, map, take, drop, get_or, option_map, Some, None, arith}
+use Rattle.frame_flow.specs.Turns.{level_of}
+use Rattle.frame_flow.proofs.turns.levels_of.Given as goal
+
+abbrev pub invariant-loop-place : goal.invariant-loop-place
+invariant-loop-place l = l.levels.items ≡ map (level_of l.tree) (take l.place-index l.places)

@@ -1,0 +1,56 @@
+-- What is true of every flow.
+use Rattle.std.specs.Prelude.{◌≡◌, ◌≢◌, ℕ, ◌==◌, List, [], ◌∷◌, map, filter, All, AllPairs}
+use Rattle.credit_shaper.specs.declared.shaper.Traffic.{Traffic}
+use Rattle.credit_shaper.specs.declared.port.Departure.{Departure}
+use Rattle.credit_shaper.specs.declared.port.PortInput.{PortInput}
+use Rattle.credit_shaper.specs.Port.{IsNotAfter, is_of}
+use Rattle.credit_shaper.specs.Departures.{sent_of, left_of, departs_as, DepartInOrder}
+use Rattle.frame_flow.specs.declared.result.Fate.{Fate}
+use Rattle.frame_flow.specs.declared.result.Fate.TheVariants.{Unbooked, NoVlan, Departed, Left}
+use Rattle.frame_flow.specs.declared.result.PortFlow.{PortFlow}
+use Rattle.frame_flow.specs.declared.place.Place.{Place}
+use Rattle.std.specs.Prelude.{Option}
+use Rattle.srp_base.specs.declared.ports.PortChange.{PortChange}
+use Rattle.credit_shaper.specs.declared.port.SlopeChange.{SlopeChange}
+use Rattle.frame_flow.specs.Force.{first_slopes}
+use Rattle.frame_flow.specs.Copies.{all_places, arriving}
+use Rattle.frame_flow.specs.Flow.{Setting}
+
+-- the numbers of the copies that arrive at a port, in order
+abbrev pub arriving_numbers : Setting → List PortFlow → Place → List ℕ
+arriving_numbers s flows place = map (λ c. c.frame.number) (arriving s.tree.links s.frames s.ticks flows place)
+
+-- the numbers of the copies that have a fate at a port, in order
+abbrev pub fate_numbers : PortFlow → List ℕ
+fate_numbers x = map (λ e. e.0) x.fates
+
+-- no number stands twice
+abbrev pub AreDifferent : List ℕ → Type 0
+AreDifferent = AllPairs (λ a b. a ≢ b)
+
+-- a port's departures of a frame's number
+abbrev pub departures_numbered : PortInput → ℕ → List Departure
+departures_numbered input number = filter (λ d. d.frame == number) (sent_of input)
+
+-- there is one departure of this number, with this start and this end
+abbrev pub DepartsOnce : PortInput → ℕ → ℕ → ℕ → Type 0
+DepartsOnce input number start end =
+    (d : Departure) × (departures_numbered input number ≡ d ∷ []) × (d.start ≡ start) × (d.end ≡ end)
+
+-- a copy departs once where that is its fate, and else never
+abbrev pub IsOutcome : PortInput → ℕ → Fate → Type 0
+IsOutcome input number (Departed start end) = DepartsOnce input number start end
+IsOutcome input number fate = departures_numbered input number ≡ []
+
+abbrev pub HasOutcomes : PortFlow → Type 0
+HasOutcomes x = All (λ e. IsOutcome x.input e.0 e.1) x.fates
+
+-- a port's copies of each traffic depart in order of arrival, ties by number, and those left follow
+pub record DepartsByArrival (x : PortFlow) : Type 0 where
+  pub arrivals : AllPairs IsNotAfter x.input.arrivals
+  pub departures : (traffic : Traffic) → DepartInOrder (filter (is_of traffic) x.input.arrivals)
+      (filter (departs_as traffic) (sent_of x.input)) (filter (is_of traffic) (left_of x.input))
+
+-- slopes are those of what is in force: none where nothing is
+abbrev pub HasSlopes : SlopeChange → Option PortChange → Type 0
+HasSlopes e force = (e.slope_a ≡ (first_slopes force).slope_a) × (e.slope_b ≡ (first_slopes force).slope_b)

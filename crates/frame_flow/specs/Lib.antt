@@ -1,0 +1,7 @@
+pub mod Moments
+pub mod Force
+pub mod Copies
+pub mod Flow
+pub mod Given
+pub mod Turns
+pub mod Laws

@@ -1,0 +1,37 @@
+-- In which order the code goes over the ports. No public contract names these words.
+use Rattle.std.specs.Prelude.{◌≡◌, ℕ, ◌<◌, ◌⊎◌, List, length, map, All}
+use Rattle.std.proofs.Common.{get_or}
+use Rattle.srp_base.specs.declared.numbers.EgressPort.{EgressPort}
+use Rattle.tree_topology.specs.Topology.{Topology, HasPort}
+use Rattle.tree_topology.specs.Ports.{peer_of}
+use Rattle.tree_topology.specs.Walk.{count_behind}
+use Rattle.frame_flow.specs.declared.place.Place.{Place}
+use Rattle.frame_flow.specs.declared.result.PortFlow.{PortFlow}
+use Rattle.frame_flow.specs.Flow.{Setting, port_flow}
+
+-- the number of nodes behind a port's peer
+abbrev pub level_at : Topology → EgressPort → ℕ
+level_at tree p = count_behind (length tree.kinds) tree.links (peer_of tree.links p)
+
+abbrev pub level_of : Topology → Place → ℕ
+level_of tree place = level_at tree place.at
+
+-- each is a port of the tree
+abbrev pub ArePorts : Topology → List Place → Type 0
+ArePorts tree places = All (λ x. HasPort tree x.at) places
+
+-- there is a flow at each port, in their order
+abbrev pub AreAt : List Place → List PortFlow → Type 0
+AreAt places flows = map (λ x. x.at) flows ≡ map (λ x. x.at) places
+
+-- the flow of this index is what the others give it
+abbrev pub IsDone : Setting → List Place → List PortFlow → ℕ → Type 0
+IsDone s places flows j =
+    (x : PortFlow) (place : Place) → get_or flows j x ≡ port_flow s flows (get_or places j place)
+
+-- the flows of lower levels are, and the first so many of this level
+abbrev pub AreDoneBelow : Setting → ℕ → ℕ → List Place → List PortFlow → Type 0
+AreDoneBelow s level k places flows =
+    (j : ℕ) (place : Place) → j < length places
+    → (level_of s.tree (get_or places j place) < level) ⊎ ((level_of s.tree (get_or places j place) ≡ level) × (j < k))
+    → IsDone s places flows j

@@ -1,0 +1,53 @@
+//! What a flow is asked of.
+
+use crate::frame::Frame;
+use srp_base::{PortChange, Rate};
+use std::marker::Model;
+use tree_topology::Tree;
+
+/// A tree, the rate of each of its links, what was in force at its ports, the frames, and the number of
+/// ticks. Contracts see a `Setting`.
+#[derive(Drop)]
+pub(crate) struct Asked<'a> {
+    pub(crate) tree: &'a Tree,
+    pub(crate) rates: &'a [Rate],
+    pub(crate) changes: &'a [PortChange],
+    pub(crate) frames: &'a [Frame],
+    pub(crate) ticks: u64,
+}
+
+impl<'a> Model for Asked<'a> {
+    ghost use Rattle.frame_flow.specs.Flow.{Setting};
+    ghost use Rattle.frame_flow.specs.Given.{IsSetting};
+
+    ghost Value = { Setting };
+
+    ghost view = { λ a. record {
+      tree = a.tree.now;
+      rates = a.rates.now;
+      changes = a.changes.now;
+      frames = a.frames.now;
+      ticks = a.ticks;
+    } };
+
+    ghost invariant = { λ a. IsSetting (record {
+      tree = a.tree.now;
+      rates = a.rates.now;
+      changes = a.changes.now;
+      frames = a.frames.now;
+      ticks = a.ticks;
+    }) };
+}
+
+impl Asked<'_> {
+    ghost use Rattle.tree_topology.specs.PortLaws.{HasPortLaws};
+    ghost use Rattle.frame_flow.specs.Given.{IsSetting};
+
+    /// What it is asked under, and the laws of the tree's ports.
+    pub(crate) fn keeps(&self)
+        ensures given { IsSetting self.now }
+        ensures ports { HasPortLaws self.now.tree }
+    {
+        self.tree.keeps();
+    }
+}

@@ -1,0 +1,81 @@
+//! What is true of every flow, over the definitions that the contract of `flow` cites. Each is a function
+//! that does nothing; calling it brings the law to a proof.
+
+ghost use Rattle.std.specs.Prelude.{◌≡◌, ℕ, ◌<◌, ◌≤◌, List, map, All};
+ghost use Rattle.tree_topology.specs.Topology.{IsSound};
+ghost use Rattle.credit_shaper.specs.Port.{IsPortInput, slopes_at};
+ghost use Rattle.credit_shaper.specs.Bounds.{greatest_slope_a, IsWindowAWithin};
+ghost use Rattle.frame_flow.specs.declared.result.PortFlow.{PortFlow};
+ghost use Rattle.frame_flow.specs.declared.place.Place.{Place};
+ghost use Rattle.frame_flow.specs.declared.frame.FrameCopy.{FrameCopy};
+ghost use Rattle.frame_flow.specs.Moments.{bits_of_ticks, tick_at};
+ghost use Rattle.frame_flow.specs.Force.{changes_at, in_force};
+ghost use Rattle.frame_flow.specs.Copies.{all_places};
+ghost use Rattle.frame_flow.specs.Flow.{Setting, IsFlow, input_of};
+ghost use Rattle.frame_flow.specs.Given.{IsSetting};
+ghost use Rattle.frame_flow.specs.Laws.{arriving_numbers, fate_numbers, AreDifferent, DepartsByArrival, HasOutcomes, HasSlopes};
+
+use credit_shaper::laws::{class_a_stays_within_in_every_run, frames_depart_in_order};
+use tree_topology::laws::ports;
+
+/// At most one flow fits what a flow is asked of, as what comes in over a port's own link never leaves by
+/// that port.
+pub fn one_flow()
+    ensures { (s : Setting) (one other : List PortFlow) → IsSound s.tree → IsFlow s one
+        → IsFlow s other → one ≡ other }
+{
+    ports();
+}
+
+/// Each copy that arrives at a port has one fate: the numbers of the fates are those of the copies, in
+/// order of arrival, and no number stands twice at a port.
+pub fn each_copy_has_one_fate()
+    ensures each { (s : Setting) (flows : List PortFlow) → IsFlow s flows
+        → map fate_numbers flows
+        ≡ map (arriving_numbers s flows) (all_places s.tree.links s.rates) }
+    ensures once { (s : Setting) (flows : List PortFlow) → IsSetting s → IsSound s.tree
+        → IsFlow s flows → All (λ x. AreDifferent (fate_numbers x)) flows }
+{
+    ports();
+}
+
+/// What each port's shaper is given is in order and in its ranges.
+pub fn each_input_is_valid()
+    ensures { (s : Setting) (flows : List PortFlow) → IsSetting s → IsFlow s flows
+        → All (λ x. IsPortInput x.input) flows }
+{}
+
+/// In each bit time of the run the slopes that a port's shaper is given are those in force in its tick.
+pub fn slopes_are_those_in_force()
+    ensures { (s : Setting) (place : Place) (copies : List FrameCopy) (t : ℕ) → IsSetting s
+        → t < bits_of_ticks place.rate s.ticks
+        → HasSlopes (slopes_at (input_of s.ticks place.rate (changes_at s.changes place.at) copies) t)
+        (in_force (tick_at place.rate t) (changes_at s.changes place.at)) }
+{}
+
+/// At each port the copies of one traffic depart in order of arrival, ties by frame number.
+pub fn copies_depart_in_order()
+    ensures { (s : Setting) (flows : List PortFlow) → IsSetting s → IsFlow s flows
+        → All DepartsByArrival flows }
+{
+    frames_depart_in_order();
+}
+
+/// A copy departs from a port once where that is its fate there, with that start and that end, and else
+/// never.
+pub fn departed_copies_depart_once()
+    ensures { (s : Setting) (flows : List PortFlow) → IsSetting s → IsSound s.tree → IsFlow s flows
+        → All HasOutcomes flows }
+{
+    ports();
+    frames_depart_in_order();
+}
+
+/// At each port every window stays within class A's bound (IEEE Std 802.1Q-2018, 8.6.8.2).
+pub fn class_a_windows_stay_within()
+    ensures { (s : Setting) (flows : List PortFlow) → IsSetting s → IsFlow s flows
+        → All (λ x. (a b : ℕ) → a ≤ b
+        → IsWindowAWithin x.input 0 (greatest_slope_a x.input.slopes) a b) flows }
+{
+    class_a_stays_within_in_every_run();
+}

@@ -1,0 +1,52 @@
+//! The flow of frames over a tree of stations and bridges: which copies of a frame reach which egress
+//! ports, what each port's shaper is given, and what becomes of each copy (IEEE Std 802.1Q-2018, 8.6, 34;
+//! that time goes by whole bits of each port's rate is this project's own).
+//!
+//! ```text
+//!   frames of the station ----------.
+//!                                   +--> copies, by bit time and number --> may be sent --> PortInput
+//!   departures of the peers of      |        |                                                 |
+//!   the node's other ports ---------'        '--> Unbooked, NoVlan                     credit_shaper
+//!                                                                                              |
+//!   the next nodes <-- when the last bit has gone -------------------------- Departed, Left <--'
+//! ```
+//!
+//! - `frame`: `Frame` with its `Route`, and `FrameCopy`, a frame at a port.
+//! - `result`: `Fate`, `PortFlow` and `FlowResult`.
+//! - `turns`: `flow`. `valid`: `is_valid`, whether it may be asked for.
+//! - `laws`: what is true of every flow.
+//!
+//! The contract of `flow` is one condition on all ports at once, `IsFlow` of `specs/Flow.antt`: the flow at
+//! each port is what the frames and the flows at the other ports give it. It speaks of no order. What comes
+//! in over a port's own link never leaves by that port, so in a tree at most one flow meets it, which is a
+//! law here. The code goes over the ports by how many nodes lie behind their peers (`specs/Turns.antt`):
+//! what sends into a port's node over another link has fewer. Above the condition stand, as laws: each copy
+//! has one fate; it departs once where that is its fate, and else never; the copies of one traffic depart in
+//! order of arrival, ties by number; and at every port every window stays within class A's bound.
+//!
+//! To extend it: another reason to drop a copy is a variant of `Fate`, a test in `may_send` and `fate_of` of
+//! `specs/Flow.antt`, and its twin in `fates`. Another way for a frame to go is a variant of `Route` and a
+//! case of `goes_by` in `specs/Copies.antt`. Another law is a function of `laws`, its words in
+//! `specs/Laws.antt`, and a lemma in `proofs/LawLemmas.antt`.
+#![tactic(auto)]
+
+mod asked;
+mod copies;
+mod fates;
+mod force;
+mod frame;
+pub mod laws;
+mod moments;
+mod place;
+mod result;
+mod turns;
+mod valid;
+
+pub use frame::{Frame, FrameCopy, Route};
+pub use place::Place;
+pub use result::{Fate, FlowResult, PortFlow};
+pub use turns::flow;
+pub use valid::is_valid;
+
+#[cfg(test)]
+mod tests;

@@ -1,0 +1,235 @@
+//! The flow of frames over a tree, port by port.
+
+ghost use Rattle.std.specs.Prelude.{◌≡◌, ◌+◌, ◌<◌, ◌≤◌, slice_set, IfOk, OnOk, length, map, Contains, if◌then◌else◌};
+ghost use Rattle.tree_topology.specs.Topology.{HasPort};
+ghost use Rattle.tree_topology.specs.Walk.{count_behind};
+ghost use Rattle.frame_flow.specs.Flow.{IsFlow, port_flow};
+ghost use Rattle.frame_flow.specs.Copies.{all_places};
+ghost use Rattle.frame_flow.specs.Force.{changes_at};
+ghost use Rattle.frame_flow.specs.Given.{IsSetting};
+ghost use Rattle.frame_flow.specs.Turns.{ArePorts, AreAt, AreDoneBelow, level_at, level_of};
+
+use crate::asked::Asked;
+use crate::fates::flow_of_copies;
+use crate::force::changes_at;
+use crate::frame::Frame;
+use crate::place::Place;
+use crate::result::{FlowResult, PortFlow};
+use credit_shaper::PortInput;
+use srp_base::{EgressPort, NoMemory, NodeNo, PortChange, Rate, Seq, Timeline};
+use std::alloc::Global;
+use tree_topology::Tree;
+
+/// The flow of frames over a tree in so many ticks of 10 ms: what each port's shaper is given, and what
+/// becomes of each copy of a frame.
+///
+/// There is one rate for each link. The frames ascend by number; each stands before the run's end, takes
+/// 336 to 12,336 bits, and names stations of the tree. The timeline's changes ascend by port and tick, and
+/// at each port both slopes together are below the rate. There are 1 to 12,000 ticks.
+pub fn flow(
+    alloc: Global,
+    tree: &Tree,
+    rates: &[Rate],
+    timeline: &Timeline,
+    frames: &[Frame],
+    ticks: u64,
+) -> Result<FlowResult, NoMemory>
+    requires { IsSetting (record {
+      tree = tree.now;
+      rates = rates.now;
+      changes = timeline.now.changes;
+      frames = frames.now;
+      ticks = ticks;
+    }) }
+    ensures { IfOk result (λ f. IsFlow (record {
+      tree = tree.now;
+      rates = rates.now;
+      changes = timeline.now.changes;
+      frames = frames.now;
+      ticks = ticks;
+    }) f.ports) }
+{
+    let asked = Asked {
+        tree,
+        rates,
+        changes: timeline.changes.as_slice(),
+        frames,
+        ticks,
+    };
+    let ports = asked.flows(alloc)?;
+    Ok(FlowResult {
+        ports: Seq::from_vec(ports),
+    })
+}
+
+impl Asked<'_> {
+    /// The flows at all ports: level by level, so that each comes after those that send into its node.
+    fn flows(&self, alloc: Global) -> Result<Vec<PortFlow>, NoMemory>
+        ensures { IfOk result (λ v. IsFlow self.now v.items) }
+    {
+        let places = self.places(alloc)?;
+        let levels = self.levels(alloc, &places)?;
+        let mut flows = no_flows(alloc, &places)?;
+        for level in 0..self.level_count() {
+            self.add_level(alloc, &places, &levels, level, &mut flows)?;
+        }
+        Ok(flows)
+    }
+
+    /// All ports, with the rates of their links.
+    fn places(&self, alloc: Global) -> Result<Vec<Place>, NoMemory>
+        ensures all { IfOk result (λ v. v.items ≡ all_places self.now.tree.links self.now.rates) }
+    {
+        Place::all(alloc, self.tree, self.rates)
+    }
+
+    /// The level of each port.
+    fn levels(&self, alloc: Global, places: &[Place]) -> Result<Vec<usize>, NoMemory>
+        requires { places.now ≡ all_places self.now.tree.links self.now.rates }
+        ensures { IfOk result (λ v. v.items ≡ map (level_of self.now.tree) places.now) }
+    {
+        self.keeps();
+        levels_of(alloc, self.tree, places)
+    }
+
+    /// One more than the highest level that a port may have.
+    fn level_count(&self) -> usize
+        ensures { result ≡ length self.now.tree.kinds + 1 }
+    {
+        usize::from(self.tree.nodes()) + 1
+    }
+
+    /// Puts in the flows at the ports of one level, where those of lower levels are there.
+    fn add_level(
+        &self,
+        alloc: Global,
+        places: &[Place],
+        levels: &[usize],
+        level: usize,
+        flows: &mut Vec<PortFlow>,
+    ) -> Result<(), NoMemory>
+        requires places { places.now ≡ all_places self.now.tree.links self.now.rates }
+        requires levels { levels.now ≡ map (level_of self.now.tree) places.now }
+        requires at { AreAt places.now flows.old.items }
+        requires done { AreDoneBelow self.now level 0 places.now flows.old.items }
+        ensures at { OnOk result (AreAt places.now flows.new.items) }
+        ensures done { OnOk result (AreDoneBelow self.now (level + 1) 0 places.now flows.new.items) }
+    {
+        self.keeps();
+        for k in 0..places.len() {
+            if levels[k] == level {
+                self.put_flow(alloc, places[k], k, flows)?;
+            }
+        }
+        Ok(())
+    }
+
+    /// Puts in the flow at the port of an index.
+    fn put_flow(
+        &self,
+        alloc: Global,
+        place: Place,
+        k: usize,
+        flows: &mut Vec<PortFlow>,
+    ) -> Result<(), NoMemory>
+        requires place { Contains (all_places self.now.tree.links self.now.rates) place }
+        requires k { k < length flows.old.items }
+        ensures { OnOk result (flows.new.items
+            ≡ slice_set flows.old.items k (port_flow self.now flows.old.items place)) }
+    {
+        let flow = self.port_flow(alloc, flows, place)?;
+        flows[k] = flow;
+        Ok(())
+    }
+
+    /// The flow at a port, by the flows at the ports that send into its node.
+    fn port_flow(
+        &self,
+        alloc: Global,
+        flows: &[PortFlow],
+        place: Place,
+    ) -> Result<PortFlow, NoMemory>
+        requires { Contains (all_places self.now.tree.links self.now.rates) place }
+        ensures { IfOk result (λ x. x ≡ port_flow self.now flows.now place) }
+    {
+        self.keeps();
+        let changes = self.changes_at(alloc, place.at)?;
+        let copies = self.arriving(alloc, flows, place)?;
+        flow_of_copies(alloc, self.ticks, place, &changes, &copies)
+    }
+
+    /// The changes at a port.
+    fn changes_at(&self, alloc: Global, at: EgressPort) -> Result<Vec<&PortChange>, NoMemory>
+        ensures { IfOk result (λ v. map (λ c. c.now) v.items ≡ changes_at self.now.changes at) }
+    {
+        changes_at(alloc, self.changes, at)
+    }
+}
+
+/// For each port how many nodes lie behind its peer: frames go from a lower number to a higher one.
+fn levels_of(alloc: Global, tree: &Tree, places: &[Place]) -> Result<Vec<usize>, NoMemory>
+    requires { ArePorts tree.now places.now }
+    ensures { IfOk result (λ v. v.items ≡ map (level_of tree.now) places.now) }
+{
+    let mut levels = Vec::new(alloc);
+    for place in places {
+        levels.push(level(tree, place.at))?;
+    }
+    Ok(levels)
+}
+
+/// How many nodes lie behind a port's peer.
+fn level(tree: &Tree, at: EgressPort) -> usize
+    requires { HasPort tree.now at }
+    ensures { result ≡ level_at tree.now at }
+{
+    tree.keeps();
+    count_behind(tree, tree.peer(at))
+}
+
+/// How many nodes lie behind a port.
+fn count_behind(tree: &Tree, at: EgressPort) -> usize
+    requires { HasPort tree.now at }
+    ensures { result ≡ count_behind (length tree.now.kinds) tree.now.links at }
+{
+    let mut count = 0;
+    for n in 0..tree.nodes() {
+        count += one_if(tree.behind(at, NodeNo(n + 1)));
+    }
+    count
+}
+
+/// One, or nothing.
+fn one_if(is: bool) -> usize
+    ensures value { result ≡ (if is then 1 else 0) }
+    ensures few { result ≤ 1 }
+{
+    if is { 1 } else { 0 }
+}
+
+/// For each port a flow of nothing.
+fn no_flows(alloc: Global, places: &[Place]) -> Result<Vec<PortFlow>, NoMemory>
+    ensures { IfOk result (λ v. AreAt places.now v.items) }
+{
+    let mut flows = Vec::new(alloc);
+    for place in places {
+        flows.push(no_flow(alloc, place))?;
+    }
+    Ok(flows)
+}
+
+/// A port's flow of nothing.
+fn no_flow(alloc: Global, place: &Place) -> PortFlow
+    ensures { result.at ≡ place.now.at }
+{
+    PortFlow {
+        at: place.at,
+        input: PortInput {
+            rate: place.rate,
+            slopes: Seq::new(alloc),
+            arrivals: Seq::new(alloc),
+            end: 0,
+        },
+        fates: Seq::new(alloc),
+    }
+}

@@ -1,0 +1,150 @@
+-- What every side keeps stays so when the clock goes on.
+use Rattle.std.proofs.Common.{◌≡◌, ℕ, zero, suc, ◌≤◌, Bool, true, false, ◌&&◌, if◌then◌else◌, List, [], ◌∷◌, length, map, refl, sym, ap, subst, ◌∙◌, arith, nat_lt}
+use Rattle.std.specs.Prelude.{slice_get, Option, Some, None, option_map, option_and_then, unwrap_or}
+use Rattle.std.specs.List.{AllByRecursion, list_any}
+use Rattle.srp_base.specs.declared.numbers.StreamId.{StreamId}
+use Rattle.srp_base.specs.declared.streams.TalkerReg.{TalkerReg}
+use Rattle.srp_base.specs.declared.streams.TalkerReg.TheVariants.{Absent}
+use Rattle.stream_importance.specs.declared.entry.Want.{Want}
+use Rattle.stream_importance.specs.declared.entry.Fit.{Fit}
+use Rattle.stream_importance.specs.declared.entry.Fit.TheVariants.{Fits}
+use Rattle.msrp_talker.specs.declared.port_config.PortConfig.{PortConfig}
+use Rattle.msrp_talker.specs.TalkerOut.{talker_in, talker_out}
+use Rattle.port_ledger.specs.Book.{Book, clocked_book, fit_for, has_new_booking, want_of, IsKept as IsKeptBook}
+use Rattle.attribute_propagation.specs.Dirty.{is_awaiting, all_marked}
+use Rattle.mrp_participant.specs.State.{declared_at}
+use Rattle.msrp_codec.specs.declared.pdu.MsrpKey.{MsrpKey}
+use Rattle.msrp_codec.specs.declared.pdu.MsrpKey.TheVariants as keys
+use Rattle.msrp_codec.specs.declared.pdu.MsrpContent.TheVariants as contents
+use Rattle.msrp.specs.declared.port.Port.{Port}
+use Rattle.msrp.specs.Part.{key_cmp, registered_talker, talker_content}
+use Rattle.msrp.specs.Stream.{Registrations, is_listened, is_talker_port, listener_at, listener_row, stated_at, talk_of, talker_at, talker_of, talkers_of, advertised, want_of_talker, wanted_at}
+use Rattle.msrp.specs.Settling.{talker_keys}
+use Rattle.msrp.specs.Side.{Streams, IsKept, IsPort, IsSettled, clocked_port, clocked_sets, clocked_streams, seen_by, shows_at}
+use Rattle.msrp.proofs.Places.{each-get, or_false}
+use Rattle.msrp.proofs.Telling.{Awaits, unmarked}
+use Rattle.msrp.proofs.Talkers.{HasRows, absent_stated, no_talker}
+
+-- the laws of a ledger that a clock rests on
+pub record Laws : Type 0 where
+  pub kept : (book : Book) (now : ℕ) → IsKeptBook book → book.moment ≤ now → IsKeptBook (clocked_book now book)
+  pub fits : (book : Book) (now : ℕ) (want : Want) → IsKeptBook book → book.moment ≤ now → (nat_lt book.moment now && has_new_booking book) ≡ false
+      → fit_for now book want ≡ fit_for book.moment book want
+
+map_twice : {X Y : Type 0} (f : X → Y) (g : X → X) (xs : List X) → ((x : X) → f (g x) ≡ f x) → map f (map g xs) ≡ map f xs
+map_twice f g [] same = refl
+map_twice f g (x ∷ xs) same = ap (λ y. y ∷ map f (map g xs)) (same x) ∙ ap (λ ys. f x ∷ ys) (map_twice f g xs same)
+
+-- the clock changes no registration and no booking
+seen_clocked : (now : ℕ) (side : Streams) (s : StreamId) → seen_by (clocked_streams now side) s ≡ seen_by side s
+seen_clocked now side s =
+    ap (λ ts. record { talkers = advertised (talk_of s side.talks) ∷ ts; listens = is_listened s side.listens; listeners = map (listener_row s) (map (clocked_port now) side.ports) })
+    (map_twice (λ (q : Port). registered_talker s q.part) (clocked_port now) side.ports (λ q. refl))
+    ∙ ap (λ ls. record { talkers = talkers_of side.talks side.ports s; listens = is_listened s side.listens; listeners = ls })
+    (map_twice (listener_row s) (clocked_port now) side.ports (λ q. refl))
+
+-- where every want's fit is the same, what is declared of a Talker is
+same_fit : (f g : Want → Fit) (o : Option Want) → ((w : Want) → f w ≡ g w) → option_map f o ≡ option_map g o
+same_fit f g None same = refl
+same_fit f g (Some w) same = ap (λ x. Some x) (same w)
+
+stated_clocked : (at : ℕ) (config : PortConfig) (book : Book) (now : ℕ) (talkers : List TalkerReg) → ((want : Want) → fit_for now book want ≡ fit_for book.moment book want)
+    → talker_at at config (clocked_book now book) talkers ≡ talker_at at config book talkers
+stated_clocked at config book now talkers same =
+    ap (λ (o : Option Fit). if is_talker_port (suc at) talkers then Absent else talker_out (talker_of talkers) config (unwrap_or (if is_talker_port (suc at) talkers then None else o) Fits))
+    (same_fit (fit_for now book) (fit_for book.moment book) (option_and_then want_of_talker (talker_in (talker_of talkers))) same)
+
+-- the port and the set at a place before
+pub record WasAt (now : ℕ) (ks : List MsrpKey) (ports : List Port) (sets : List (List MsrpKey)) (j : ℕ) (port : Port) (set : List MsrpKey) : Type 0 where
+  pub p : Port
+  pub old : List MsrpKey
+  pub there : slice_get ports j ≡ Some p
+  pub awaited : slice_get sets j ≡ Some old
+  pub is : clocked_port now p ≡ port
+  pub awaits : (if shows_at now p then all_marked key_cmp ks old else old) ≡ set
+
+was_at : (now : ℕ) (ks : List MsrpKey) (ports : List Port) (sets : List (List MsrpKey)) (j : ℕ) (port : Port) (set : List MsrpKey)
+    → slice_get (map (clocked_port now) ports) j ≡ Some port → slice_get (clocked_sets now ks ports sets) j ≡ Some set → WasAt now ks ports sets j port set
+was_at now ks [] sets j port set a b = cc
+was_at now ks (p ∷ ports) [] j port set a b = cc
+was_at now ks (p ∷ ports) (old ∷ sets) zero port set a b = record { p = p; old = old; there = refl; awaited = refl; is = cc; awaits = cc }
+was_at now ks (p ∷ ports) (old ∷ sets) (suc j) port set a b =
+    let rest = was_at now ks ports sets j port set a b in
+    record { p = rest.p; old = rest.old; there = rest.there; awaited = rest.awaited; is = rest.is; awaits = rest.awaits }
+
+clocked_length : (now : ℕ) (ks : List MsrpKey) (ports : List Port) (sets : List (List MsrpKey)) → length sets ≡ length ports → length (clocked_sets now ks ports sets) ≡ length (map (clocked_port now) ports)
+clocked_length now ks [] sets e = refl
+clocked_length now ks (p ∷ ports) [] e = absurd (omega (arith, e))
+clocked_length now ks (p ∷ ports) (set ∷ sets) e = ap suc (clocked_length now ks ports sets (omega (arith, e)))
+
+-- where the clock shows nothing, the sets are as they were
+pub none_shown : (now : ℕ) (ks : List MsrpKey) (ports : List Port) (sets : List (List MsrpKey)) → length sets ≡ length ports → list_any (shows_at now) ports ≡ false → clocked_sets now ks ports sets ≡ sets
+none_shown now ks [] [] e h = refl
+none_shown now ks [] (set ∷ sets) e h = absurd (omega (arith, e))
+none_shown now ks (p ∷ ports) [] e h = absurd (omega (arith, e))
+none_shown now ks (p ∷ ports) (set ∷ sets) e h =
+    let parts = or_false (shows_at now p) (list_any (shows_at now) ports) h in
+    ap (λ b. (if b then all_marked key_cmp ks set else set) ∷ clocked_sets now ks ports sets) parts.0 ∙ ap (λ ss. set ∷ ss) (none_shown now ks ports sets (omega (arith, e)) parts.1)
+
+clocked_ports : Laws → (moment now : ℕ) (ports : List Port) → moment ≤ now → AllByRecursion (IsPort moment) ports → AllByRecursion (IsPort now) (map (clocked_port now) ports)
+clocked_ports laws moment now [] up all = tt
+clocked_ports laws moment now (p ∷ ports) up all =
+    (record { rows = all.0.rows; contents = all.0.contents; ledger = laws.kept p.ledger now all.0.ledger (rw all.0.moment up); moment = refl }, clocked_ports laws moment now ports up all.1)
+
+module _ (laws : Laws) (awaits : Awaits) (rows : HasRows) (side : Streams) (kept : IsKept side) (now : ℕ) (up : side.moment ≤ now) where
+  abbrev talkers : List MsrpKey
+  talkers = talker_keys side.talks side.ports
+
+  settled_as : (j : ℕ) (p : Port) (old set : List MsrpKey) → IsPort side.moment p → IsSettled j p old (seen_by side) → (b : Bool) → shows_at now p ≡ b
+      → (if b then all_marked key_cmp talkers old else old) ≡ set → IsSettled j (clocked_port now p) set (seen_by (clocked_streams now side))
+  settled_as j p old set port before b shown is = record { declared = each; wanted = λ s one two. wants s (fewer b is (keys.Talker s) one) (fewer b is (keys.Listener s) two) }
+    where
+      -- what doesn't await now didn't before
+      fewer : (b : Bool) → (if b then all_marked key_cmp talkers old else old) ≡ set → (key : MsrpKey) → is_awaiting key_cmp key set ≡ false → is_awaiting key_cmp key old ≡ false
+      fewer true is key out = (unmarked awaits key talkers old (ap (is_awaiting key_cmp key) is ∙ out)).1
+      fewer false is key out = ap (is_awaiting key_cmp key) is ∙ out
+
+      wants : (s : StreamId) → is_awaiting key_cmp (keys.Talker s) old ≡ false → is_awaiting key_cmp (keys.Listener s) old ≡ false
+          → want_of p.ledger.entries s ≡ wanted_at j p.part (seen_by (clocked_streams now side) s).talkers s
+      wants s one two = before.wanted s one two ∙ ap (λ (r : Registrations). wanted_at j p.part r.talkers s) (sym (seen_clocked now side s))
+
+      talker : (b : Bool) → shows_at now p ≡ b → (if b then all_marked key_cmp talkers old else old) ≡ set → (s : StreamId) → is_awaiting key_cmp (keys.Talker s) set ≡ false
+          → talker_content (talker_at j p.config p.ledger (seen_by side s).talkers) ≡ talker_content (talker_at j p.config (clocked_book now p.ledger) (seen_by side s).talkers)
+      talker true shown is s out =
+          let none = no_talker rows side.talks side.ports s (unmarked awaits (keys.Talker s) talkers old (ap (is_awaiting key_cmp (keys.Talker s)) is ∙ out)).0 in
+          absent_stated j p.config p.ledger (talkers_of side.talks side.ports s) none ∙ sym (absent_stated j p.config (clocked_book now p.ledger) (talkers_of side.talks side.ports s) none)
+      talker false shown is s out =
+          ap talker_content (sym (stated_clocked j p.config p.ledger now (talkers_of side.talks side.ports s) (λ want. laws.fits p.ledger now want port.ledger (rw port.moment up) shown)))
+
+      each : (key : MsrpKey) → is_awaiting key_cmp key set ≡ false → declared_at key_cmp key p.part ≡ stated_at j p.config (clocked_book now p.ledger) (seen_by (clocked_streams now side)) key
+      each (keys.Talker s) out =
+          before.declared (keys.Talker s) (fewer b is (keys.Talker s) out)
+          ∙ (talker b shown is s out ∙ ap (λ (r : Registrations). talker_content (talker_at j p.config (clocked_book now p.ledger) r.talkers)) (sym (seen_clocked now side s)))
+      each (keys.Listener s) out =
+          before.declared (keys.Listener s) (fewer b is (keys.Listener s) out) ∙ ap (λ (r : Registrations). option_map contents.Listener (listener_at j r)) (sym (seen_clocked now side s))
+      each (keys.Domain c) out = before.declared (keys.Domain c) (fewer b is (keys.Domain c) out)
+
+  pub kept-clocked : IsKept (clocked_streams now side)
+  kept-clocked =
+      record {
+        ports = clocked_ports laws side.moment now side.ports up kept.ports;
+        sets = clocked_length now talkers side.ports side.awaiting kept.sets;
+        settled = λ j port set part sets.
+            let was = was_at now talkers side.ports side.awaiting j port set part sets in
+            let P : Port → Type 0 = λ q. IsSettled j q set (seen_by (clocked_streams now side)) in
+            subst P was.is
+            (settled_as j was.p was.old set (each-get (IsPort side.moment) side.ports j was.p kept.ports was.there) (kept.settled j was.p was.old was.there was.awaited) (shows_at now was.p) refl was.awaits);
+      }
+
+-- each port's ledger is of a moment that isn't later
+pub moments_before : (moment now : ℕ) (ports : List Port) → moment ≤ now → AllByRecursion (IsPort moment) ports → AllByRecursion (λ (p : Port). p.ledger.moment ≤ now) ports
+moments_before moment now [] up all = tt
+moments_before moment now (p ∷ ports) up all = (rw all.0.moment up, moments_before moment now ports up all.1)
+
+-- the side afterwards, where the clock shows nothing
+pub passed_is : (side : Streams) → IsKept side → (now : ℕ) (ports : List Port) → list_any (shows_at now) side.ports ≡ false → ports ≡ map (clocked_port now) side.ports
+    → record { ports = ports; awaiting = side.awaiting; talks = side.talks; listens = side.listens; moment = now } ≡ clocked_streams now side
+passed_is side kept now ports still is =
+    ap (λ ps. record { ports = ps; awaiting = side.awaiting; talks = side.talks; listens = side.listens; moment = now }) is
+    ∙ ap (λ sets. record { ports = map (clocked_port now) side.ports; awaiting = sets; talks = side.talks; listens = side.listens; moment = now })
+    (sym (none_shown now (talker_keys side.talks side.ports) side.ports side.awaiting kept.sets still))

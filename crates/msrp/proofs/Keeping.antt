@@ -1,0 +1,189 @@
+-- What every side keeps stays so: a participant takes the place of another, and the application asks for something.
+use Rattle.std.proofs.Common.{◌≡◌, ◌≢◌, ◌⊎◌, inl, inr, ℕ, suc, ◌<◌, Bool, false, if◌then◌else◌, List, [], ◌∷◌, length, map, refl, sym, ap, subst, ◌∙◌}
+use Rattle.std.specs.Prelude.{slice_get, slice_index_or, Option, Some, None, IfSome, option_map, ◌==◌}
+use Rattle.std.proofs.Math.ListN.{length-set}
+use Rattle.std.proofs.lemmas.Option.{slice_get_read}
+use Rattle.srp_base.specs.declared.numbers.StreamId.{StreamId}
+use Rattle.srp_base.specs.declared.streams.Talker.{Talker}
+use Rattle.srp_base.specs.declared.streams.ListenerKind.{ListenerKind}
+use Rattle.msrp_talker.specs.declared.port_config.PortConfig.{PortConfig}
+use Rattle.port_ledger.specs.Book.{Book, want_of}
+use Rattle.attribute_propagation.specs.Dirty.{is_awaiting, all_marked}
+use Rattle.attribute_propagation.specs.Ports.{marked_everywhere}
+use Rattle.mrp_participant.specs.State.{AreRows, declared_at, registered_at}
+use Rattle.msrp_codec.specs.declared.pdu.MsrpKey.{MsrpKey}
+use Rattle.msrp_codec.specs.declared.pdu.MsrpKey.TheVariants as keys
+use Rattle.msrp_codec.specs.declared.pdu.MsrpContent.TheVariants as contents
+use Rattle.msrp.specs.declared.port.Port.{Port}
+use Rattle.msrp.specs.Part.{Part, key_cmp, registered_talker, registered_listener, listener_kind_of, talker_content, HasOwnContents}
+use Rattle.msrp.specs.Stream.{Registrations, registrations_of, is_talker_port, is_ready, want_of_reg, talker_of, talker_at, listener_at, stated_at, talk_of, is_listened, talkers_of, advertised, listener_row}
+use Rattle.msrp.specs.Settling.{all_keys_with, keys_of}
+use Rattle.msrp.specs.Side.{Streams, IsKept, IsPort, IsSettled, IsSettledAt, seen_by, at_port, retold, replaced, reasked, with_part, SameDeclared, TellsEach}
+use Rattle.msrp.proofs.Places.{decide, get-set_same, get-set_other, each-set, each-get, mapped_length, opened}
+use Rattle.msrp.proofs.Telling.{IsUntold, talker_untold, listener_untold, registrations-same, untold, Awaits, unmarked, was_set, talker_other, listener_other}
+
+-- a port's configuration, its ledger and what is registered of a stream are the same
+stated_talker : (at : ℕ) (c d : PortConfig) (b e : Book) (r q : Registrations) → c ≡ d → b ≡ e → r ≡ q → talker_content (talker_at at c b r.talkers) ≡ talker_content (talker_at at d e q.talkers)
+stated_talker at c d b e r q x y z =
+    ap (λ (k : PortConfig). talker_content (talker_at at k b r.talkers)) x
+    ∙ (ap (λ (k : Book). talker_content (talker_at at d k r.talkers)) y ∙ ap (λ (k : Registrations). talker_content (talker_at at d e k.talkers)) z)
+
+wanted_same : (at : ℕ) (k l : Option ListenerKind) (r q : Registrations) → k ≡ l → r ≡ q
+    → (if is_talker_port (suc at) r.talkers then None else if is_ready k then want_of_reg (talker_of r.talkers) else None)
+    ≡ (if is_talker_port (suc at) q.talkers then None else if is_ready l then want_of_reg (talker_of q.talkers) else None)
+wanted_same at k l r q x z =
+    ap (λ (o : Option ListenerKind). if is_talker_port (suc at) r.talkers then None else if is_ready o then want_of_reg (talker_of r.talkers) else None) x
+    ∙ ap (λ (v : Registrations). if is_talker_port (suc at) v.talkers then None else if is_ready l then want_of_reg (talker_of v.talkers) else None) z
+
+-- of a stream that a key says is as it was, everything is
+pub record IsAsBefore (q p : Port) (regs now : StreamId → Registrations) (s : StreamId) : Type 0 where
+  pub seen : now s ≡ regs s
+  pub listener : registered_listener s p.part ≡ registered_listener s q.part
+
+-- a port stays settled where more keys await, its declarations, its configuration and its ledger are the same, and
+-- each stream is as it was of which a key doesn't await
+pub settled_changed : (at : ℕ) (q p : Port) (set more : List MsrpKey) (regs now : StreamId → Registrations)
+    → IsSettled at q set regs → p.config ≡ q.config → p.ledger ≡ q.ledger → SameDeclared q.part p.part
+    → ((key : MsrpKey) → is_awaiting key_cmp key more ≡ false → is_awaiting key_cmp key set ≡ false)
+    → ((s : StreamId) → is_awaiting key_cmp (keys.Talker s) more ≡ false → IsAsBefore q p regs now s)
+    → ((s : StreamId) → is_awaiting key_cmp (keys.Listener s) more ≡ false → IsAsBefore q p regs now s)
+    → IsSettled at p more now
+settled_changed at q p set more regs now old config ledger same fewer talker listener =
+    record {
+      declared = each;
+      wanted = λ s out none.
+          ap (λ (b : Book). want_of b.entries s) ledger
+          ∙ (old.wanted s (fewer (keys.Talker s) out) (fewer (keys.Listener s) none)
+          ∙ sym (wanted_same at (registered_listener s p.part) (registered_listener s q.part) (now s) (regs s) (talker s out).listener (talker s out).seen));
+    }
+  where
+    each : (key : MsrpKey) → is_awaiting key_cmp key more ≡ false → declared_at key_cmp key p.part ≡ stated_at at p.config p.ledger now key
+    each (keys.Talker s) out =
+        same (keys.Talker s) ∙ (old.declared (keys.Talker s) (fewer (keys.Talker s) out)
+        ∙ sym (stated_talker at p.config q.config p.ledger q.ledger (now s) (regs s) config ledger (talker s out).seen))
+    each (keys.Listener s) out =
+        same (keys.Listener s) ∙ (old.declared (keys.Listener s) (fewer (keys.Listener s) out)
+        ∙ sym (ap (λ (r : Registrations). option_map contents.Listener (listener_at at r)) (listener s out).seen))
+    each (keys.Domain c) out = same (keys.Domain c) ∙ old.declared (keys.Domain c) (fewer (keys.Domain c) out)
+
+-- ---- a participant takes the place of another
+
+module _ (awaits : Awaits) (side : Streams) (kept : IsKept side) (at : ℕ) (p : Port) (here : slice_get side.ports at ≡ Some p) (t : Part) (told : List MsrpKey) (same : SameDeclared p.part t) (tells : TellsEach told p.part t) where
+  abbrev after : Streams
+  after = retold at (with_part t p) told side
+
+  -- a stream that isn't told is as it was
+  seen_same : (s : StreamId) → IsUntold told s → seen_by after s ≡ seen_by side s
+  seen_same s out =
+      registrations-same side.talks side.listens side.ports at p t s here (untold told p.part t (keys.Talker s) tells out.talker) (untold told p.part t (keys.Listener s) tells out.listener)
+
+  here_same : (s : StreamId) → IsUntold told s → IsAsBefore p (with_part t p) (seen_by side) (seen_by after) s
+  here_same s out = record { seen = seen_same s out; listener = ap listener_kind_of (untold told p.part t (keys.Listener s) tells out.listener) }
+
+  there_same : (q : Port) (s : StreamId) → IsUntold told s → IsAsBefore q q (seen_by side) (seen_by after) s
+  there_same q s out = record { seen = seen_same s out; listener = refl }
+
+  settled_here : IsSettledAt after at
+  settled_here port set part sets =
+      let old = was_set (all_keys_with told) side.awaiting at set sets in
+      let P : Port → Type 0 = λ q. IsSettled at q set (seen_by after) in
+      subst P (get-set_same side.ports at (with_part t p) port part)
+      (settled_changed at p (with_part t p) old.set set (seen_by side) (seen_by after) (kept.settled at p old.set here old.there) refl refl same
+      (λ key out. (unmarked awaits key (all_keys_with told) old.set (ap (is_awaiting key_cmp key) old.is ∙ out)).1)
+      (λ s out. here_same s (talker_untold told s (unmarked awaits (keys.Talker s) (all_keys_with told) old.set (ap (is_awaiting key_cmp (keys.Talker s)) old.is ∙ out)).0))
+      (λ s out. here_same s (listener_untold told s (unmarked awaits (keys.Listener s) (all_keys_with told) old.set (ap (is_awaiting key_cmp (keys.Listener s)) old.is ∙ out)).0)))
+
+  settled_there : (j : ℕ) → at ≢ j → IsSettledAt after j
+  settled_there j ne port set part sets =
+      let old = was_set (all_keys_with told) side.awaiting j set sets in
+      settled_changed j port port old.set set (seen_by side) (seen_by after) (kept.settled j port old.set (sym (get-set_other side.ports at j (with_part t p) ne) ∙ part) old.there) refl refl (λ key. refl)
+      (λ key out. (unmarked awaits key (all_keys_with told) old.set (ap (is_awaiting key_cmp key) old.is ∙ out)).1)
+      (λ s out. there_same port s (talker_untold told s (unmarked awaits (keys.Talker s) (all_keys_with told) old.set (ap (is_awaiting key_cmp (keys.Talker s)) old.is ∙ out)).0))
+      (λ s out. there_same port s (listener_untold told s (unmarked awaits (keys.Listener s) (all_keys_with told) old.set (ap (is_awaiting key_cmp (keys.Listener s)) old.is ∙ out)).0))
+
+  settled_after : (j : ℕ) → (at ≡ j) ⊎ (at ≢ j) → IsSettledAt after j
+  settled_after j (inl e) = let P : ℕ → Type 0 = λ k. IsSettledAt after k in subst P e settled_here
+  settled_after j (inr ne) = settled_there j ne
+
+  port_after : AreRows key_cmp t.rows → HasOwnContents t → IsPort side.moment (with_part t p)
+  port_after rows contents =
+      let old = each-get (IsPort side.moment) side.ports at p kept.ports here in
+      record { rows = rows; contents = contents; ledger = old.ledger; moment = old.moment }
+
+  pub kept-retold : AreRows key_cmp t.rows → HasOwnContents t → IsKept after
+  kept-retold rows contents =
+      record {
+        ports = each-set (IsPort side.moment) side.ports at (with_part t p) (port_after rows contents) kept.ports;
+        sets = mapped_length (all_marked key_cmp (all_keys_with told)) side.awaiting ∙ (kept.sets ∙ sym (length-set side.ports at (with_part t p)));
+        settled = λ j. settled_after j (decide at j);
+      }
+
+pub kept-put : Awaits → (side : Streams) → IsKept side → (at : ℕ) → at < length side.ports → (p : Port) → p ≡ slice_index_or side.ports at p → (t : Part) (told : List MsrpKey)
+    → AreRows key_cmp t.rows → HasOwnContents t
+    → ((q : Port) → slice_get side.ports at ≡ Some q → SameDeclared q.part t)
+    → ((q : Port) → slice_get side.ports at ≡ Some q → TellsEach told q.part t)
+    → IsKept (retold at (with_part t p) told side)
+kept-put awaits side kept at below p is t told rows contents same tells =
+    let here : slice_get side.ports at ≡ Some p = slice_get_read side.ports (length side.ports) at p refl below is in
+    kept-retold awaits side kept at p here t told (same p here) (tells p here) rows contents
+
+-- ---- a participant changes in its place, and tells nothing
+
+none_marked : (sets : List (List MsrpKey)) → marked_everywhere key_cmp [] sets ≡ sets
+none_marked [] = refl
+none_marked (set ∷ sets) = ap (λ ss. set ∷ ss) (none_marked sets)
+
+pub kept-changed : Awaits → (side : Streams) → IsKept side → (at : ℕ) → at < length side.ports → (p : Port) → p ≡ slice_index_or side.ports at p → (t : Part)
+    → (AreRows key_cmp p.part.rows → AreRows key_cmp t.rows) → (AreRows key_cmp p.part.rows → HasOwnContents p.part → HasOwnContents t)
+    → (AreRows key_cmp p.part.rows → SameDeclared p.part t) → (AreRows key_cmp p.part.rows → (key : MsrpKey) → registered_at key_cmp key t ≡ registered_at key_cmp key p.part)
+    → IsKept (replaced at (with_part t p) side)
+kept-changed awaits side kept at below p is t rows contents same registered =
+    let here : slice_get side.ports at ≡ Some p = slice_get_read side.ports (length side.ports) at p refl below is in
+    let port = each-get (IsPort side.moment) side.ports at p kept.ports here in
+    let P : List (List MsrpKey) → Type 0 = λ sets. IsKept (record (replaced at (with_part t p) side) { awaiting = sets }) in
+    subst P (none_marked side.awaiting)
+    (kept-retold awaits side kept at p here t [] (same port.rows) (λ key. inr (registered port.rows key)) (rows port.rows) (contents port.rows port.contents))
+
+pub at_changed : (side : Streams) (at : ℕ) (p : Port) (t : Part) (f : Part → Part) → at < length side.ports → p ≡ slice_index_or side.ports at p → t ≡ f p.part
+    → replaced at (with_part t p) side ≡ at_port at (λ q. replaced at (with_part (f q.part) q) side) side
+at_changed side at p t f below is e =
+    let here : slice_get side.ports at ≡ Some p = slice_get_read side.ports (length side.ports) at p refl below is in
+    rw (here, e) refl
+
+-- the side once the port's participant was put there, by what the port had
+pub at_put : (side new : Streams) (at : ℕ) (p : Port) (t : Part) (told : List MsrpKey) (f : Part → Part) (g : Part → List MsrpKey) → slice_get side.ports at ≡ Some p
+    → IfSome (slice_get side.ports at) (λ q. new ≡ retold at (with_part t q) told side) → t ≡ f p.part → told ≡ g p.part
+    → new ≡ at_port at (λ q. retold at (with_part (f q.part) q) (g q.part) side) side
+at_put side new at p t told f g here is e h =
+    opened (λ q. new ≡ retold at (with_part t q) told side) (slice_get side.ports at) p here is ∙ rw (here, e, h) refl
+
+-- what every side keeps of the port at a place
+pub port_kept : (side : Streams) → IsKept side → (at : ℕ) (p : Port) → slice_get side.ports at ≡ Some p → IsPort side.moment p
+port_kept side kept at p here = each-get (IsPort side.moment) side.ports at p kept.ports here
+
+-- ---- the application asks
+
+same_seen : (talks more : List Talker) (listens less : List StreamId) (ports : List Port) (s : StreamId) → talk_of s more ≡ talk_of s talks → is_listened s less ≡ is_listened s listens
+    → registrations_of more less ports s ≡ registrations_of talks listens ports s
+same_seen talks more listens less ports s e f =
+    ap (λ (o : Option Talker). record { talkers = advertised o ∷ map (λ (q : Port). registered_talker s q.part) ports; listens = is_listened s less; listeners = map (listener_row s) ports }) e
+    ∙ ap (λ (b : Bool). record { talkers = talkers_of talks ports s; listens = b; listeners = map (listener_row s) ports }) f
+
+pub kept-asked : Awaits → (side : Streams) → IsKept side → (x : StreamId) (talks : List Talker) (listens : List StreamId)
+    → ((s : StreamId) → (s.0 == x.0) ≡ false → talk_of s talks ≡ talk_of s side.talks)
+    → ((s : StreamId) → (s.0 == x.0) ≡ false → is_listened s listens ≡ is_listened s side.listens)
+    → IsKept (reasked x talks listens side)
+kept-asked awaits side kept x talks listens talk_same listen_same =
+    record {
+      ports = kept.ports;
+      sets = mapped_length (all_marked key_cmp (keys_of x)) side.awaiting ∙ kept.sets;
+      settled = λ j port set part sets.
+          let old = was_set (keys_of x) side.awaiting j set sets in
+          settled_changed j port port old.set set (seen_by side) (seen_by (reasked x talks listens side)) (kept.settled j port old.set part old.there) refl refl (λ key. refl)
+          (λ key out. (unmarked awaits key (keys_of x) old.set (ap (is_awaiting key_cmp key) old.is ∙ out)).1)
+          (λ s out. as_before port s (talker_other x s (unmarked awaits (keys.Talker s) (keys_of x) old.set (ap (is_awaiting key_cmp (keys.Talker s)) old.is ∙ out)).0))
+          (λ s out. as_before port s (listener_other x s (unmarked awaits (keys.Listener s) (keys_of x) old.set (ap (is_awaiting key_cmp (keys.Listener s)) old.is ∙ out)).0));
+    }
+  where
+    as_before : (q : Port) (s : StreamId) → (s.0 == x.0) ≡ false → IsAsBefore q q (seen_by side) (seen_by (reasked x talks listens side)) s
+    as_before q s other = record { seen = same_seen side.talks talks side.listens listens side.ports s (talk_same s other) (listen_same s other); listener = refl }

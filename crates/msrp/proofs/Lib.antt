@@ -1,0 +1,15 @@
+pub mod Clocked
+pub mod Contents
+pub mod Keeping
+pub mod KeyLemmas
+pub mod Ledgers
+pub mod NewSide
+pub mod OneSettling
+pub mod OtherStreams
+pub mod Participants
+pub mod Places
+pub mod Rules
+pub mod Said
+pub mod Settled
+pub mod Talkers
+pub mod Telling

@@ -1,0 +1,62 @@
+-- What awaits at each port once one of them is settled.
+use Rattle.std.proofs.Common.{◌≡◌, ◌≢◌, ℕ, zero, suc, ◌+◌, ◌<◌, false, ◌||◌, ◌==◌, List, [], ◌∷◌, length, refl, sym, ap, ◌∙◌, arith}
+use Rattle.std.specs.Prelude.{slice_get, slice_set, Option, Some, None}
+use Rattle.std.proofs.lemmas.Bool.Decides.{nat_tests}
+use Rattle.attribute_propagation.specs.Dirty.{is_awaiting}
+use Rattle.attribute_propagation.specs.Ports.{marked_from, marked_elsewhere}
+use Rattle.msrp_codec.specs.declared.pdu.MsrpKey.{MsrpKey}
+use Rattle.msrp.specs.declared.port.Port.{Port}
+use Rattle.msrp.specs.Part.{key_cmp}
+use Rattle.msrp.specs.Settling.{listener_keys, moved_streams}
+use Rattle.msrp.specs.Side.{Streams, awaiting_at, keys_or_none, moved_keys, settled_at, settled_streams}
+use Rattle.msrp.proofs.Places.{get-set_same, get-set_other}
+use Rattle.msrp.proofs.Telling.{Awaits}
+
+emptied : (sets : List (List MsrpKey)) (at : ℕ) → keys_or_none (slice_get (slice_set sets at []) at) ≡ []
+emptied [] at = refl
+emptied (set ∷ sets) zero = refl
+emptied (set ∷ sets) (suc at) = emptied sets at
+
+marked_there : Awaits → (new : List MsrpKey) (sets : List (List MsrpKey)) (n at j : ℕ) (key : MsrpKey) → at ≢ n + j → j < length sets
+    → is_awaiting key_cmp key (keys_or_none (slice_get (marked_from n key_cmp at new sets) j)) ≡ (is_awaiting key_cmp key new || is_awaiting key_cmp key (keys_or_none (slice_get sets j)))
+marked_there awaits new [] n at j key ne below = absurd (omega arith)
+marked_there awaits new (set ∷ sets) n at zero key ne below =
+    let other : (n == at) ≡ false = grind (arith, nat_tests, ne) in
+    rw other (awaits key new set)
+marked_there awaits new (set ∷ sets) n at (suc j) key ne below = marked_there awaits new sets (n + 1) at j key (λ e. ne (omega (arith, e))) (omega arith)
+
+-- the side once a port is settled
+after_is : (at : ℕ) (side : Streams) (p : Port) → slice_get side.ports at ≡ Some p
+    → settled_streams at side
+    ≡ record side {
+      ports = slice_set side.ports at (settled_at at side p);
+      awaiting = slice_set (marked_elsewhere key_cmp at (moved_keys at side p) side.awaiting) at [];
+    }
+after_is at side p here = rw here refl
+
+pub none_awaits : (at : ℕ) (side : Streams) (p : Port) → slice_get side.ports at ≡ Some p → awaiting_at at (settled_streams at side) ≡ []
+none_awaits at side p here =
+    ap (λ (s : Streams). awaiting_at at s) (after_is at side p here)
+    ∙ emptied (marked_elsewhere key_cmp at (moved_keys at side p) side.awaiting) at
+
+pub others_await : Awaits → (at other : ℕ) (side : Streams) (before after : Port) (key : MsrpKey)
+    → slice_get side.ports at ≡ Some before → slice_get (settled_streams at side).ports at ≡ Some after
+    → at ≢ other → other < length side.awaiting
+    → is_awaiting key_cmp key (awaiting_at other (settled_streams at side))
+    ≡ (is_awaiting key_cmp key (listener_keys (moved_streams before.ledger after.ledger)) || is_awaiting key_cmp key (awaiting_at other side))
+others_await awaits at other side before after key here there ne below =
+    let sets : List (List MsrpKey) = marked_elsewhere key_cmp at (moved_keys at side before) side.awaiting in
+    let whole = after_is at side before here in
+    let port : settled_at at side before ≡ after =
+    get-set_same side.ports at (settled_at at side before) after (sym (ap (λ (s : Streams). slice_get s.ports at) whole) ∙ there) in
+    ap (λ (s : Streams). is_awaiting key_cmp key (awaiting_at other s)) whole
+    ∙ (ap (λ (o : Option (List MsrpKey)). is_awaiting key_cmp key (keys_or_none o)) (get-set_other sets at other [] ne)
+    ∙ (marked_there awaits (moved_keys at side before) side.awaiting 0 at other key (λ e. ne (omega (arith, e))) below
+    ∙ ap (λ (p : Port). is_awaiting key_cmp key (listener_keys (moved_streams before.ledger p.ledger)) || is_awaiting key_cmp key (awaiting_at other side)) port))
+
+pub others_stay : (at other : ℕ) (side : Streams) → at ≢ other → slice_get (settled_streams at side).ports other ≡ slice_get side.ports other
+others_stay at other side ne = by (slice_get side.ports at) refl
+  where
+    by : (o : Option Port) → slice_get side.ports at ≡ o → slice_get (settled_streams at side).ports other ≡ slice_get side.ports other
+    by None e = rw e refl
+    by (Some p) e = ap (λ (s : Streams). slice_get s.ports other) (after_is at side p e) ∙ get-set_other side.ports at other (settled_at at side p) ne

@@ -1,0 +1,318 @@
+-- What every side keeps stays so when a port is settled.
+use Rattle.std.proofs.Common.{◌≡◌, ◌≢◌, ◌⊎◌, ◌↔◌, inl, inr, ℕ, zero, suc, ◌+◌, ◌<◌, Bool, true, false, ◌==◌, if◌then◌else◌, List, [], ◌∷◌, ◌++◌, length, map, take, drop, refl, sym, ap, subst, ◌∙◌, arith}
+use Rattle.std.specs.Prelude.{slice_get, slice_set, slice_index_or, IfSome, Option, Some, None, is_some, option_map, option_and_then, unwrap_or}
+use Rattle.std.specs.List.{filter_map, list_any}
+use Rattle.std.proofs.Math.ListN.{length-set}
+use Rattle.std.proofs.lemmas.Option.{slice_get-get_or, slice_get_read}
+use Rattle.std.proofs.lemmas.Bool.Decides.{nat_tests}
+use Rattle.srp_base.specs.declared.numbers.StreamId.{StreamId}
+use Rattle.srp_base.specs.declared.streams.TalkerReg.{TalkerReg}
+use Rattle.srp_base.specs.declared.streams.TalkerReg.TheVariants.{Absent}
+use Rattle.srp_base.specs.declared.streams.ListenerKind.{ListenerKind}
+use Rattle.stream_importance.specs.declared.entry.Want.{Want}
+use Rattle.stream_importance.specs.declared.entry.Entry.{Entry}
+use Rattle.stream_importance.specs.declared.entry.Fit.{Fit}
+use Rattle.stream_importance.specs.declared.entry.Fit.TheVariants.{Fits}
+use Rattle.msrp_talker.specs.declared.port_config.PortConfig.{PortConfig}
+use Rattle.msrp_talker.specs.TalkerOut.{talker_in, talker_out}
+use Rattle.msrp_listener.specs.declared.port_listener.PortListener.{PortListener}
+use Rattle.msrp_listener.specs.Merging.{listener_out}
+use Rattle.port_ledger.specs.Decision.{booked_of, IsAscending}
+use Rattle.port_ledger.specs.Book.{Book, booked_only_in, fit_for, since_of, want_of}
+use Rattle.attribute_propagation.specs.Dirty.{is_awaiting, all_marked}
+use Rattle.attribute_propagation.specs.Ports.{marked_from, marked_elsewhere}
+use Rattle.mrp_participant.specs.State.{declared_at, registered_at}
+use Rattle.msrp_codec.specs.declared.pdu.MsrpKey.{MsrpKey}
+use Rattle.msrp_codec.specs.declared.pdu.MsrpKey.TheVariants as keys
+use Rattle.msrp_codec.specs.declared.pdu.MsrpContent.{MsrpContent}
+use Rattle.msrp_codec.specs.declared.pdu.MsrpContent.TheVariants as contents
+use Rattle.msrp.specs.declared.port.Port.{Port}
+use Rattle.msrp.specs.Part.{Part, key_cmp, stream_cmp, registered_listener, registered_talker, listener_kind_of, settled_part, talker_content, talker_reg_of}
+use Rattle.msrp.specs.Stream.{Registrations, advertised, is_listened, is_ready, is_talker_port, listener_at, listener_row, own_listener, stated_at, talk_of, talker_at, talker_of, talkers_of, want_of_reg, want_of_talker, wanted_at}
+use Rattle.msrp.specs.Settling.{listener_keys, moved_streams, next_book, settled_book, settled_port, settling_keys, streams_in, talker_keys}
+use Rattle.msrp.specs.Side.{Streams, IsKept, IsPort, IsSettled, IsSettledAt, awaiting_at, seen_by, settled_streams}
+use Rattle.msrp.proofs.Places.{decide, each-get, each-set, get-set_other, get-set_same, map-set, map-set_same, opened, or_false}
+use Rattle.msrp.proofs.Telling.{Awaits, unmarked}
+use Rattle.msrp.proofs.Talkers.{HasRows, absent_stated, no_talker}
+use Rattle.msrp.proofs.Participants.{PartLaws, declared-settled, own-settled, registered-settled, rows-settled}
+use Rattle.msrp.proofs.Ledgers.{BookLaws, IsLike, settled_like, settled_wants}
+use Rattle.msrp.proofs.Rules.{AwaitsStreams, among, among-append, of_talker, rule_own, stream_out, want_own}
+
+-- the laws of booked sets that settling rests on
+pub record MoveLaws : Type 0 where
+  pub empty : (before after : List Entry) → IsAscending before → IsAscending after
+      → ((booked_only_in after before ≡ []) × (booked_only_in before after ≡ [])) ↔ (booked_of after ≡ booked_of before)
+  pub fits : (book other : Book) (now : ℕ) (want : Want) → IsAscending book.entries → IsAscending other.entries
+      → book.caps ≡ other.caps → booked_of book.entries ≡ booked_of other.entries → fit_for now book want ≡ fit_for now other want
+  pub unmoved : (before after : List Entry) (s : StreamId) → IsAscending before → IsAscending after
+      → list_any (λ (x : StreamId). x.0 == s.0) (booked_only_in after before) ≡ false
+      → list_any (λ (x : StreamId). x.0 == s.0) (booked_only_in before after) ≡ false
+      → is_some (since_of after s) ≡ is_some (since_of before s)
+
+both_empty : (xs ys : List StreamId) → xs ++ ys ≡ [] → (xs ≡ []) × (ys ≡ [])
+both_empty [] ys h = (refl, h)
+both_empty (x ∷ xs) ys h = cc
+
+take-set : {X : Type 0} (xs : List X) (i : ℕ) (y : X) → take i (slice_set xs i y) ≡ take i xs
+take-set [] i y = refl
+take-set (x ∷ xs) zero y = refl
+take-set (x ∷ xs) (suc i) y = ap (λ ys. x ∷ ys) (take-set xs i y)
+
+drop-set : {X : Type 0} (xs : List X) (i : ℕ) (y : X) → drop (suc i) (slice_set xs i y) ≡ drop (suc i) xs
+drop-set [] i y = refl
+drop-set (x ∷ xs) zero y = refl
+drop-set (x ∷ xs) (suc i) y = drop-set xs i y
+
+-- what stands at a port itself doesn't count among the other Listeners
+others-set : (at : ℕ) (ts : List TalkerReg) (b : Bool) (ls : List (Option PortListener)) (x : Option PortListener)
+    → listener_at at (record { talkers = ts; listens = b; listeners = slice_set ls at x }) ≡ listener_at at (record { talkers = ts; listens = b; listeners = ls })
+others-set at ts b ls x =
+    let r : Registrations = record { talkers = ts; listens = b; listeners = ls } in
+    ap (λ (front : List (Option PortListener)). if is_talker_port (suc at) ts then listener_out (filter_map (λ row. row) (own_listener r ∷ (front ++ drop (suc at) (slice_set ls at x)))) else None) (take-set ls at x)
+    ∙ ap (λ (rest : List (Option PortListener)). if is_talker_port (suc at) ts then listener_out (filter_map (λ row. row) (own_listener r ∷ (take at ls ++ rest))) else None) (drop-set ls at x)
+
+-- the keys that await at another port were marked there
+pub record WasThere (new : List MsrpKey) (sets : List (List MsrpKey)) (j : ℕ) (now : List MsrpKey) : Type 0 where
+  pub set : List MsrpKey
+  pub there : slice_get sets j ≡ Some set
+  pub is : all_marked key_cmp new set ≡ now
+
+was_there : (new : List MsrpKey) (sets : List (List MsrpKey)) (n at j : ℕ) (now : List MsrpKey) → at ≢ n + j → slice_get (marked_from n key_cmp at new sets) j ≡ Some now → WasThere new sets j now
+was_there new [] n at j now ne h = cc
+was_there new (set ∷ sets) n at zero now ne h =
+    let other : (n == at) ≡ false = grind (arith, nat_tests, ne) in
+    record { set = set; there = refl; is = let k = rw other at h in cc }
+was_there new (set ∷ sets) n at (suc j) now ne h =
+    let rest = was_there new sets (n + 1) at j now (λ e. ne (omega (arith, e))) h in
+    record { set = rest.set; there = rest.there; is = rest.is }
+
+pub marked_length : (new : List MsrpKey) (sets : List (List MsrpKey)) (n at : ℕ) → length (marked_from n key_cmp at new sets) ≡ length sets
+marked_length new [] n at = refl
+marked_length new (set ∷ sets) n at = ap suc (marked_length new sets (n + 1) at)
+
+same_fit : (f g : Want → Fit) (o : Option Want) → ((w : Want) → f w ≡ g w) → option_map f o ≡ option_map g o
+same_fit f g None same = refl
+same_fit f g (Some w) same = ap (λ x. Some x) (same w)
+
+-- where the booked set is the same, what is declared of a Talker is
+talker_same : (laws : MoveLaws) (at : ℕ) (config : PortConfig) (book other : Book) (talkers : List TalkerReg) → IsAscending book.entries → IsAscending other.entries
+    → book.caps ≡ other.caps → book.moment ≡ other.moment → booked_of book.entries ≡ booked_of other.entries → talker_at at config book talkers ≡ talker_at at config other talkers
+talker_same laws at config book other talkers up down caps moment booked =
+    let w = option_and_then want_of_talker (talker_in (talker_of talkers)) in
+    ap (λ (o : Option Fit). if is_talker_port (suc at) talkers then Absent else talker_out (talker_of talkers) config (unwrap_or (if is_talker_port (suc at) talkers then None else o) Fits))
+    (same_fit (fit_for book.moment book) (fit_for book.moment other) w (λ want. laws.fits book other book.moment want up down caps booked)
+    ∙ ap (λ (n : ℕ). option_map (fit_for n other) w) moment)
+
+next_is : (at : ℕ) (regs : StreamId → Registrations) (ks : List MsrpKey) (p : Port) → next_book at regs ks p ≡ settled_book (λ s. wanted_at at p.part (regs s).talkers s) (streams_in ks) p.ledger
+unfolding next_book
+next_is at regs ks p = refl
+
+module _ (parts : PartLaws) (books : BookLaws) (moves : MoveLaws) (awaits : Awaits) (awaiting : AwaitsStreams) (has_rows : HasRows)
+    (side : Streams) (kept : IsKept side) (at : ℕ) (p : Port) (here : slice_get side.ports at ≡ Some p) (ks : List MsrpKey) (set : slice_get side.awaiting at ≡ Some ks) where
+  abbrev regs : StreamId → Registrations
+  regs s = seen_by side s
+
+  abbrev wants : StreamId → Option Want
+  wants s = wanted_at at p.part (regs s).talkers s
+
+  abbrev book : Book
+  book = next_book at (seen_by side) ks p
+
+  abbrev moved : List StreamId
+  moved = moved_streams p.ledger book
+
+  abbrev talkers : List MsrpKey
+  talkers = talker_keys side.talks side.ports
+
+  abbrev tried : List MsrpKey
+  tried = settling_keys moved talkers ks
+
+  abbrev rule : MsrpKey → Option MsrpContent
+  rule key = stated_at at p.config book (seen_by side) key
+
+  abbrev part : Part
+  part = settled_part (stated_at at p.config book (seen_by side)) tried p.part
+
+  abbrev next : Port
+  next = record p { part = part; ledger = book }
+
+  abbrev after : Streams
+  after = record side { ports = slice_set side.ports at next; awaiting = slice_set (marked_elsewhere key_cmp at (listener_keys moved) side.awaiting) at [] }
+
+  port : IsPort side.moment p
+  port = each-get (IsPort side.moment) side.ports at p kept.ports here
+
+  own_wants : (s : StreamId) (w : Want) → wants s ≡ Some w → w.stream ≡ s
+  own_wants s w e = want_own at p.part (talkers_of side.talks side.ports s) s w (of_talker side.moment side.talks side.ports s kept.ports) e
+
+  like : IsLike p.ledger book
+  like =
+      let P : Book → Type 0 = λ b. IsLike p.ledger b in
+      subst P (sym (next_is at (seen_by side) ks p)) (settled_like books wants own_wants (streams_in ks) p.ledger port.ledger)
+
+  book_wants : (s : StreamId) → want_of book.entries s ≡ (if is_awaiting stream_cmp s (streams_in ks) then wants s else want_of p.ledger.entries s)
+  book_wants s = ap (λ (b : Book). want_of b.entries s) (next_is at (seen_by side) ks p) ∙ settled_wants books wants own_wants (streams_in ks) p.ledger s
+
+  registered_same : (key : MsrpKey) → registered_at key_cmp key part ≡ registered_at key_cmp key p.part
+  registered_same key = registered-settled parts (stated_at at p.config book (seen_by side)) tried p.part key port.rows
+
+  talkers_same : (s : StreamId) → talkers_of side.talks (slice_set side.ports at next) s ≡ talkers_of side.talks side.ports s
+  talkers_same s =
+      ap (λ ts. advertised (talk_of s side.talks) ∷ ts) (map-set_same (λ (q : Port). registered_talker s q.part) side.ports at p next here (ap talker_reg_of (registered_same (keys.Talker s))))
+
+  listener_same : (s : StreamId) → registered_listener s part ≡ registered_listener s p.part
+  listener_same s = ap listener_kind_of (registered_same (keys.Listener s))
+
+  listener_here : (s : StreamId) → listener_at at (seen_by after s) ≡ listener_at at (regs s)
+  listener_here s =
+      ap (λ ts. listener_at at (record { talkers = ts; listens = is_listened s side.listens; listeners = map (listener_row s) (slice_set side.ports at next) })) (talkers_same s)
+      ∙ (ap (λ ls. listener_at at (record { talkers = talkers_of side.talks side.ports s; listens = is_listened s side.listens; listeners = ls })) (map-set (listener_row s) side.ports at next)
+      ∙ others-set at (talkers_of side.talks side.ports s) (is_listened s side.listens) (map (listener_row s) side.ports) (listener_row s next))
+
+  -- a stream that hasn't moved is seen as before
+  seen_same : (s : StreamId) → is_awaiting key_cmp (keys.Listener s) (listener_keys moved) ≡ false → seen_by after s ≡ regs s
+  seen_same s out =
+      let two = or_false (list_any (λ (x : StreamId). x.0 == s.0) (booked_only_in book.entries p.ledger.entries)) (list_any (λ (x : StreamId). x.0 == s.0) (booked_only_in p.ledger.entries book.entries))
+      (sym (among-append s (booked_only_in book.entries p.ledger.entries) (booked_only_in p.ledger.entries book.entries)) ∙ (sym (among s moved) ∙ out)) in
+      let booked : is_some (since_of book.entries s) ≡ is_some (since_of p.ledger.entries s) = moves.unmoved p.ledger.entries book.entries s port.ledger.ascending like.kept.ascending two.0 two.1 in
+      let row : listener_row s next ≡ listener_row s p =
+      ap (λ (b : Bool). option_map (λ (kind : ListenerKind). record { kind = kind; booked = b }) (registered_listener s part)) booked
+      ∙ ap (λ (o : Option ListenerKind). option_map (λ (kind : ListenerKind). record { kind = kind; booked = is_some (since_of p.ledger.entries s) }) o) (listener_same s) in
+      ap (λ ts. record { talkers = ts; listens = is_listened s side.listens; listeners = map (listener_row s) (slice_set side.ports at next) }) (talkers_same s)
+      ∙ ap (λ ls. record { talkers = talkers_of side.talks side.ports s; listens = is_listened s side.listens; listeners = ls }) (map-set_same (listener_row s) side.ports at p next here row)
+
+  -- ---- the port itself
+
+  old : IsSettled at p ks (seen_by side)
+  old = kept.settled at p ks here set
+
+  -- a key that isn't tried is stated as before
+  untried : (key : MsrpKey) → is_awaiting key_cmp key tried ≡ false → declared_at key_cmp key p.part ≡ rule key
+  untried key out = by moved refl out
+    where
+      same_booked : moved ≡ [] → booked_of book.entries ≡ booked_of p.ledger.entries
+      same_booked e = (moves.empty p.ledger.entries book.entries port.ledger.ascending like.kept.ascending).0 (both_empty (booked_only_in book.entries p.ledger.entries) (booked_only_in p.ledger.entries book.entries) e)
+
+      still : moved ≡ [] → (k : MsrpKey) → stated_at at p.config p.ledger (seen_by side) k ≡ rule k
+      still e (keys.Talker s) =
+          ap talker_content (sym (talker_same moves at p.config book p.ledger (talkers_of side.talks side.ports s) like.kept.ascending port.ledger.ascending like.caps like.moment (same_booked e)))
+      still e (keys.Listener s) = refl
+      still e (keys.Domain c) = refl
+
+      none : (k : MsrpKey) → is_awaiting key_cmp k talkers ≡ false → stated_at at p.config p.ledger (seen_by side) k ≡ rule k
+      none (keys.Talker s) h =
+          let absent = no_talker has_rows side.talks side.ports s h in
+          absent_stated at p.config p.ledger (talkers_of side.talks side.ports s) absent ∙ sym (absent_stated at p.config book (talkers_of side.talks side.ports s) absent)
+      none (keys.Listener s) h = refl
+      none (keys.Domain c) h = refl
+
+      by : (m : List StreamId) → moved ≡ m → is_awaiting key_cmp key (settling_keys m talkers ks) ≡ false → declared_at key_cmp key p.part ≡ rule key
+      by [] e h = old.declared key h ∙ still e key
+      by (x ∷ m) e h = let apart = unmarked awaits key talkers ks h in old.declared key apart.1 ∙ none key apart.0
+
+  by_rule : (key : MsrpKey) (b : Bool) → is_awaiting key_cmp key tried ≡ b → (if b then rule key else declared_at key_cmp key p.part) ≡ rule key
+  by_rule key true e = refl
+  by_rule key false e = untried key e
+
+  rule_after : (key : MsrpKey) → rule key ≡ stated_at at p.config book (seen_by after) key
+  rule_after (keys.Talker s) = ap (λ ts. talker_content (talker_at at p.config book ts)) (sym (talkers_same s))
+  rule_after (keys.Listener s) = ap (option_map contents.Listener) (sym (listener_here s))
+  rule_after (keys.Domain c) = refl
+
+  wanted_here : (s : StreamId) (b : Bool) → is_awaiting stream_cmp s (streams_in ks) ≡ b → (if b then wants s else want_of p.ledger.entries s) ≡ wants s
+  wanted_here s true e = refl
+  wanted_here s false e = let out = stream_out awaiting ks s e in old.wanted s out.talker out.listener
+
+  wants_after : (s : StreamId) → wants s ≡ wanted_at at part (talkers_of side.talks (slice_set side.ports at next) s) s
+  wants_after s =
+      ap (λ (o : Option ListenerKind). if is_talker_port (suc at) (talkers_of side.talks side.ports s) then None else if is_ready o then want_of_reg (talker_of (talkers_of side.talks side.ports s)) else None) (sym (listener_same s))
+      ∙ ap (λ ts. wanted_at at part ts s) (sym (talkers_same s))
+
+  settled_here : IsSettled at next [] (seen_by after)
+  settled_here =
+      record {
+        declared = λ key out.
+            declared-settled parts (stated_at at p.config book (seen_by side)) tried p.part key port.rows
+            ∙ (by_rule key (is_awaiting key_cmp key tried) refl ∙ rule_after key);
+        wanted = λ s one two. book_wants s ∙ (wanted_here s (is_awaiting stream_cmp s (streams_in ks)) refl ∙ wants_after s);
+      }
+
+  -- ---- the other ports
+
+  settled_there : (j : ℕ) → at ≢ j → IsSettledAt after j
+  settled_there j ne q more at_j sets =
+      let was = was_there (listener_keys moved) side.awaiting 0 at j more (λ e. ne (omega (arith, e))) (sym (get-set_other (marked_elsewhere key_cmp at (listener_keys moved) side.awaiting) at j [] ne) ∙ sets) in
+      let before = kept.settled j q was.set (sym (get-set_other side.ports at j next ne) ∙ at_j) was.there in
+      record { declared = each j q more was before; wanted = λ s one two. before.wanted s (fewer more was (keys.Talker s) one) (fewer more was (keys.Listener s) two) ∙ ap (λ ts. wanted_at j q.part ts s) (sym (talkers_same s)) }
+    where
+      fewer : (more : List MsrpKey) {j : ℕ} → (was : WasThere (listener_keys moved) side.awaiting j more) → (key : MsrpKey) → is_awaiting key_cmp key more ≡ false → is_awaiting key_cmp key was.set ≡ false
+      fewer more was key out = (unmarked awaits key (listener_keys moved) was.set (ap (is_awaiting key_cmp key) was.is ∙ out)).1
+
+      each : (j : ℕ) (q : Port) (more : List MsrpKey) → (was : WasThere (listener_keys moved) side.awaiting j more) → IsSettled j q was.set (seen_by side)
+          → (key : MsrpKey) → is_awaiting key_cmp key more ≡ false → declared_at key_cmp key q.part ≡ stated_at j q.config q.ledger (seen_by after) key
+      each j q more was before (keys.Talker s) out =
+          before.declared (keys.Talker s) (fewer more was (keys.Talker s) out) ∙ ap (λ ts. talker_content (talker_at j q.config q.ledger ts)) (sym (talkers_same s))
+      each j q more was before (keys.Listener s) out =
+          before.declared (keys.Listener s) (fewer more was (keys.Listener s) out)
+          ∙ ap (λ (r : Registrations). option_map contents.Listener (listener_at j r)) (sym (seen_same s (unmarked awaits (keys.Listener s) (listener_keys moved) was.set (ap (is_awaiting key_cmp (keys.Listener s)) was.is ∙ out)).0))
+      each j q more was before (keys.Domain c) out = before.declared (keys.Domain c) (fewer more was (keys.Domain c) out)
+
+  settled_each : (j : ℕ) → (at ≡ j) ⊎ (at ≢ j) → IsSettledAt after j
+  settled_each j (inl e) =
+      let P : ℕ → Type 0 = λ k. IsSettledAt after k in
+      subst P e (λ q more at_j sets.
+      let Q : Port → Type 0 = λ x. IsSettled at x more (seen_by after) in
+      subst Q (get-set_same side.ports at next q at_j)
+      (let R : List MsrpKey → Type 0 = λ x. IsSettled at next x (seen_by after) in
+      subst R (get-set_same (marked_elsewhere key_cmp at (listener_keys moved) side.awaiting) at [] more sets) settled_here))
+  settled_each j (inr ne) = settled_there j ne
+
+  next_port : IsPort side.moment next
+  next_port =
+      record {
+        rows = rows-settled parts (stated_at at p.config book (seen_by side)) tried p.part port.rows;
+        contents = own-settled parts (stated_at at p.config book (seen_by side)) (rule_own side kept.ports at p.config book) tried p.part port.rows port.contents;
+        ledger = like.kept;
+        moment = like.moment ∙ port.moment;
+      }
+
+  pub kept-settled : IsKept after
+  kept-settled =
+      record {
+        ports = each-set (IsPort side.moment) side.ports at next next_port kept.ports;
+        sets = length-set (marked_elsewhere key_cmp at (listener_keys moved) side.awaiting) at [] ∙ (marked_length (listener_keys moved) side.awaiting 0 at ∙ (kept.sets ∙ sym (length-set side.ports at next)));
+        settled = λ j. settled_each j (decide at j);
+      }
+
+-- what `settle` leaves is kept, and is what it should be
+pub record HasSettled (side : Streams) (at : ℕ) (next : Port) (sets : List (List MsrpKey)) : Type 0 where
+  pub kept : IsKept (record side { ports = slice_set side.ports at next; awaiting = slice_set sets at [] })
+  pub is : record side { ports = slice_set side.ports at next; awaiting = slice_set sets at [] } ≡ settled_streams at side
+
+pub settle_is : PartLaws → BookLaws → MoveLaws → Awaits → AwaitsStreams → HasRows → (side : Streams) → IsKept side → (at : ℕ) → at < length side.ports
+    → (ks : List MsrpKey) → ks ≡ slice_index_or side.awaiting at ks → (next : Port) (told : List MsrpKey) (sets : List (List MsrpKey))
+    → IfSome (slice_get side.ports at) (λ p. next ≡ settled_port at (seen_by side) (talker_keys side.talks side.ports) ks p)
+    → IfSome (slice_get side.ports at) (λ p. told ≡ listener_keys (moved_streams p.ledger (next_book at (seen_by side) ks p)))
+    → sets ≡ marked_elsewhere key_cmp at told side.awaiting → HasSettled side at next sets
+settle_is parts books moves awaits awaiting rows side kept at below ks ks_is next told sets next_is told_is sets_is =
+    let p : Port = slice_index_or side.ports at next in
+    let here : slice_get side.ports at ≡ Some p = slice_get-get_or side.ports at next below in
+    let count = kept.sets in
+    let set : slice_get side.awaiting at ≡ Some ks = slice_get_read side.awaiting (length side.awaiting) at ks refl (omega (arith, count)) ks_is in
+    let one = opened (λ (q : Port). next ≡ settled_port at (seen_by side) (talker_keys side.talks side.ports) ks q) (slice_get side.ports at) p here next_is in
+    let two = opened (λ (q : Port). told ≡ listener_keys (moved_streams q.ledger (next_book at (seen_by side) ks q))) (slice_get side.ports at) p here told_is in
+    let three : sets ≡ marked_elsewhere key_cmp at (listener_keys (moved_streams p.ledger (next_book at (seen_by side) ks p))) side.awaiting = sets_is ∙ ap (λ xs. marked_elsewhere key_cmp at xs side.awaiting) two in
+    let whole : record side { ports = slice_set side.ports at next; awaiting = slice_set sets at [] }
+    ≡ record side { ports = slice_set side.ports at (settled_port at (seen_by side) (talker_keys side.talks side.ports) ks p); awaiting = slice_set (marked_elsewhere key_cmp at (listener_keys (moved_streams p.ledger (next_book at (seen_by side) ks p))) side.awaiting) at [] } =
+    ap (λ (q : Port). record side { ports = slice_set side.ports at q; awaiting = slice_set sets at [] }) one
+    ∙ ap (λ (ss : List (List MsrpKey)). record side { ports = slice_set side.ports at (settled_port at (seen_by side) (talker_keys side.talks side.ports) ks p); awaiting = slice_set ss at [] }) three in
+    let P : Streams → Type 0 = λ s. IsKept s in
+    record {
+      kept = subst P (sym whole) (kept-settled parts books moves awaits awaiting rows side kept at p here ks set);
+      is = whole ∙ rw (here, set) refl;
+    }
+
+pub awaiting_is : (side : Streams) → IsKept side → (at : ℕ) → at < length side.ports → (ks : List MsrpKey) → ks ≡ slice_index_or side.awaiting at ks → awaiting_at at side ≡ ks
+awaiting_is side kept at below ks is =
+    let count = kept.sets in
+    rw (slice_get_read side.awaiting (length side.awaiting) at ks refl (omega (arith, count)) is) refl

@@ -1,0 +1,125 @@
+-- A stream without a Talker: what a port states and wants of it, and which Talker keys there are.
+use Rattle.std.proofs.Common.{◌≡◌, ℕ, zero, suc, ◌<◌, Bool, true, false, ◌||◌, ◌==◌, if◌then◌else◌, List, [], ◌∷◌, ◌++◌, length, map, refl, sym, ap, ◌∙◌, arith}
+use Rattle.std.specs.Prelude.{Option, Some, None, IsSome, find, position, Contains, slice_index_or}
+use Rattle.std.specs.List.{AllByRecursion, flat_map, list_any}
+use Rattle.std.specs.Ordering.{nat_cmp, is_eq}
+use Rattle.std.proofs.lemmas.List.Quantifiers.{position-Some}
+use Rattle.std.proofs.lemmas.Bool.Decides.{nat_tests}
+use Rattle.srp_base.specs.declared.numbers.StreamId.{StreamId}
+use Rattle.srp_base.specs.declared.streams.Talker.{Talker}
+use Rattle.srp_base.specs.declared.streams.TalkerReg.{TalkerReg}
+use Rattle.srp_base.specs.declared.streams.TalkerReg.TheVariants.{Absent}
+use Rattle.msrp_talker.specs.declared.port_config.PortConfig.{PortConfig}
+use Rattle.port_ledger.specs.Book.{Book}
+use Rattle.attribute_propagation.specs.Dirty.{is_awaiting}
+use Rattle.mrp_participant.specs.Lookup.{key_of}
+use Rattle.mrp_participant.specs.State.{registered_at}
+use Rattle.msrp_codec.specs.declared.pdu.MsrpKey.{MsrpKey}
+use Rattle.msrp_codec.specs.declared.pdu.MsrpKey.TheVariants as keys
+use Rattle.msrp_codec.specs.declared.pdu.MsrpContent.{MsrpContent}
+use Rattle.msrp.specs.declared.port.Port.{Port}
+use Rattle.msrp.proofs.KeyLemmas.{key_self}
+use Rattle.msrp.specs.Part.{Part, key_cmp, registered_talker, talker_content, talker_reg_of}
+use Rattle.msrp.specs.Stream.{is_present, is_talker_port, talk_of, talker_at, talker_of, talkers_of}
+use Rattle.msrp.specs.Settling.{talker_key_if, talker_keys, talker_keys_in}
+use Rattle.msrp.proofs.Places.{or_false}
+
+-- nothing is stated and nothing wanted of a stream without a Talker
+pub absent_stated : (at : ℕ) (config : PortConfig) (book : Book) (talkers : List TalkerReg) → talker_of talkers ≡ Absent → talker_content (talker_at at config book talkers) ≡ None
+absent_stated at config book talkers none = by (is_talker_port (suc at) talkers) refl
+  where
+    by : (b : Bool) → is_talker_port (suc at) talkers ≡ b → talker_content (talker_at at config book talkers) ≡ None
+    by true e = rw e refl
+    by false e = rw (e, none) refl
+
+-- where no Talker is registered there is no Talker's port
+get_absent : (xs : List TalkerReg) → AllByRecursion (λ x. x ≡ Absent) xs → (i : ℕ) → slice_index_or xs i Absent ≡ Absent
+get_absent [] all i = refl
+get_absent (x ∷ xs) all zero = all.0
+get_absent (x ∷ xs) all (suc i) = get_absent xs all.1 i
+
+pub no_port : (xs : List TalkerReg) → AllByRecursion (λ x. x ≡ Absent) xs → position is_present xs ≡ None
+no_port xs all = by (position is_present xs) refl
+  where
+    by : (o : Option ℕ) → position is_present xs ≡ o → o ≡ None
+    by None e = refl
+    by (Some i) e =
+        let found = position-Some is_present xs i Absent e in
+        let absent : is_present (slice_index_or xs i Absent) ≡ false = ap is_present (get_absent xs all i) in
+        let present : is_present (slice_index_or xs i Absent) ≡ true = found.1 in
+        cc
+
+-- ---- the Talker keys
+
+either : (a b : Bool) → a ≡ true → (a || b) ≡ true
+either true b h = refl
+either false b h = cc
+
+or_true : (a b : Bool) → b ≡ true → (a || b) ≡ true
+or_true true b h = refl
+or_true false b h = h
+
+-- a key is among the joined keys where it is among either
+any-append : (p : MsrpKey → Bool) (xs ys : List MsrpKey) → list_any p (xs ++ ys) ≡ (list_any p xs || list_any p ys)
+any-append p [] ys = refl
+any-append p (x ∷ xs) ys = ap (λ b. p x || b) (any-append p xs ys) ∙ joined (p x) (list_any p xs) (list_any p ys)
+  where
+    joined : (a b c : Bool) → (a || (b || c)) ≡ ((a || b) || c)
+    joined true b c = refl
+    joined false b c = refl
+
+not_in : (key : MsrpKey) (xs ys : List MsrpKey) → is_awaiting key_cmp key (xs ++ ys) ≡ false → (is_awaiting key_cmp key xs ≡ false) × (is_awaiting key_cmp key ys ≡ false)
+not_in key xs ys h = or_false (is_awaiting key_cmp key xs) (is_awaiting key_cmp key ys) (sym (any-append (λ x. is_eq (key_cmp x key)) xs ys) ∙ h)
+
+-- what a key that is there gives is among what all keys give
+from_flat : (key : MsrpKey) (f : MsrpKey → List MsrpKey) (ks : List MsrpKey) (i : ℕ) (k : MsrpKey) → i < length ks → slice_index_or ks i k ≡ k
+    → is_awaiting key_cmp key (flat_map f ks) ≡ false → is_awaiting key_cmp key (f k) ≡ false
+from_flat key f [] i k below at h = absurd (omega arith)
+from_flat key f (x ∷ ks) zero k below at h = let parts = not_in key (f x) (flat_map f ks) h in ap (λ y. is_awaiting key_cmp key (f y)) (sym at) ∙ parts.0
+from_flat key f (x ∷ ks) (suc i) k below at h = let parts = not_in key (f x) (flat_map f ks) h in from_flat key f ks i k (omega arith) at parts.1
+
+-- each key that is registered has a row
+abbrev pub HasRows : Type 0
+HasRows = (s : Part) (k : MsrpKey) → IsSome (registered_at key_cmp k s) → Contains (map key_of s.rows) k
+
+-- a Talker key that isn't among those of a participant: no Talker of the stream is registered there
+absent_in : HasRows → (s : Part) (x : StreamId) → is_awaiting key_cmp (keys.Talker x) (talker_keys_in s) ≡ false → is_present (registered_talker x s) ≡ false
+absent_in rows s x h = by (registered_at key_cmp (keys.Talker x) s) refl
+  where
+    here : (o : Option MsrpContent) → is_awaiting key_cmp (keys.Talker x) (talker_key_if (keys.Talker x) o) ≡ false → is_present (talker_reg_of o) ≡ false
+    here o k = test (is_present (talker_reg_of o)) k
+      where
+        test : (b : Bool) → is_awaiting key_cmp (keys.Talker x) (if b then keys.Talker x ∷ [] else []) ≡ false → b ≡ false
+        test true k = let self = key_self (keys.Talker x) in let none = (or_false (is_eq (key_cmp (keys.Talker x) (keys.Talker x))) false k).0 in cc
+        test false k = refl
+
+    by : (o : Option MsrpContent) → registered_at key_cmp (keys.Talker x) s ≡ o → is_present (talker_reg_of o) ≡ false
+    by None e = refl
+    by (Some c) e =
+        let some : IsSome (registered_at key_cmp (keys.Talker x) s) = rw e refl in
+        let at = rows s (keys.Talker x) some in
+        ap (λ o. is_present (talker_reg_of o)) (sym e)
+        ∙ here (registered_at key_cmp (keys.Talker x) s)
+        (from_flat (keys.Talker x) (λ key. talker_key_if key (registered_at key_cmp key s)) (map key_of s.rows) at.0 (keys.Talker x) at.1 at.2 h)
+
+own_absent : (talks : List Talker) (x : StreamId) → is_awaiting key_cmp (keys.Talker x) (map (λ (t : Talker). keys.Talker t.stream) talks) ≡ false → talk_of x talks ≡ None
+own_absent [] x h = refl
+own_absent (t ∷ talks) x h =
+    let parts = or_false (is_eq (nat_cmp t.stream.0 x.0)) (is_awaiting key_cmp (keys.Talker x) (map (λ (t : Talker). keys.Talker t.stream) talks)) h in
+    let other : (t.stream.0 == x.0) ≡ false = grind (arith, nat_tests, parts.0) in
+    rw other (own_absent talks x parts.1)
+
+ports_absent : HasRows → (ports : List Port) (x : StreamId) → is_awaiting key_cmp (keys.Talker x) (flat_map (λ (p : Port). talker_keys_in p.part) ports) ≡ false
+    → find is_present (map (λ (p : Port). registered_talker x p.part) ports) ≡ None
+ports_absent rows [] x h = refl
+ports_absent rows (p ∷ ports) x h =
+    let parts = not_in (keys.Talker x) (talker_keys_in p.part) (flat_map (λ (q : Port). talker_keys_in q.part) ports) h in
+    rw (absent_in rows p.part x parts.0) (ports_absent rows ports x parts.1)
+
+-- a stream whose Talker key isn't among those of all streams with a Talker has none
+pub no_talker : HasRows → (talks : List Talker) (ports : List Port) (x : StreamId) → is_awaiting key_cmp (keys.Talker x) (talker_keys talks ports) ≡ false → talker_of (talkers_of talks ports x) ≡ Absent
+no_talker rows talks ports x h =
+    let parts = not_in (keys.Talker x) (map (λ (t : Talker). keys.Talker t.stream) talks) (flat_map (λ (p : Port). talker_keys_in p.part) ports) h in
+    let one = own_absent talks x parts.0 in
+    let two = ports_absent rows ports x parts.1 in
+    rw (one, two) refl

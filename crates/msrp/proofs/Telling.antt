@@ -1,0 +1,129 @@
+-- Which keys are among those that are told, and what isn't told is registered as before.
+use Rattle.std.proofs.Common.{◌≡◌, ◌⊎◌, inl, inr, ℕ, zero, suc, ◌<◌, Bool, true, false, ◌||◌, ◌&&◌, ◌==◌, if◌then◌else◌, List, [], ◌∷◌, length, map, refl, sym, ap, ◌∙◌, arith}
+use Rattle.std.specs.Prelude.{slice_get, slice_set, slice_index_or, Some, None, Contains}
+use Rattle.std.specs.Ordering.{nat_cmp, is_eq}
+use Rattle.std.proofs.lemmas.List.Folds.{list_any_at}
+use Rattle.std.proofs.lemmas.Bool.Decides.{nat_tests}
+use Rattle.srp_base.specs.declared.numbers.StreamId.{StreamId}
+use Rattle.srp_base.specs.declared.streams.Talker.{Talker}
+use Rattle.attribute_propagation.specs.Dirty.{is_awaiting, all_marked}
+use Rattle.attribute_propagation.specs.Ports.{marked_everywhere}
+use Rattle.mrp_participant.specs.Lookup.{find, same}
+use Rattle.mrp_participant.specs.OneRow.{is_leaving_in}
+use Rattle.mrp_participant.specs.State.{registered_at, left_state}
+use Rattle.msrp_codec.specs.declared.pdu.MsrpKey.{MsrpKey}
+use Rattle.msrp_codec.specs.declared.pdu.MsrpKey.TheVariants as keys
+use Rattle.msrp.specs.declared.port.Port.{Port}
+use Rattle.msrp.proofs.KeyLemmas.{key_is, key_self}
+use Rattle.msrp.specs.Part.{Part, key_cmp, registered_talker, talker_reg_of}
+use Rattle.msrp.specs.Stream.{listener_row, registrations_of, talkers_of, advertised, talk_of, is_listened}
+use Rattle.msrp.specs.Settling.{all_keys_with, keys_of}
+use Rattle.msrp.specs.Side.{TellsEach, left_key, with_part}
+use Rattle.msrp.proofs.Places.{or_false, map-set_same}
+
+-- a key that is in a list is among its keys
+pub contained : (told : List MsrpKey) (k : ℕ) (key : MsrpKey) → k < length told → slice_index_or told k key ≡ key → is_awaiting key_cmp key told ≡ true
+contained told k key below at = list_any_at (λ x. is_eq (key_cmp x key)) told k key below (rw at (key_self key))
+
+-- a key that isn't told is registered as before
+pub untold : (told : List MsrpKey) (s t : Part) (key : MsrpKey) → TellsEach told s t → is_awaiting key_cmp key told ≡ false → registered_at key_cmp key t ≡ registered_at key_cmp key s
+untold told s t key tells out = by (tells key)
+  where
+    by : Contains told key ⊎ (registered_at key_cmp key t ≡ registered_at key_cmp key s) → registered_at key_cmp key t ≡ registered_at key_cmp key s
+    by (inl c) = let inside = contained told c.0 key c.1 c.2 in cc
+    by (inr e) = e
+
+-- what holds of equal participants and lists of keys
+pub tells_as : (key : MsrpKey) (told told' : List MsrpKey) (s t t' : Part) → told' ≡ told → t' ≡ t
+    → Contains told key ⊎ (registered_at key_cmp key t ≡ registered_at key_cmp key s)
+    → Contains told' key ⊎ (registered_at key_cmp key t' ≡ registered_at key_cmp key s)
+tells_as key told told' s t t' e f h = rw (e, f) h
+
+-- the key whose leave timer ended is told, or its registration is as before
+pub leaving_told : (s : Part) (x key : MsrpKey)
+    → registered_at key_cmp key (left_state key_cmp x s)
+    ≡ (if same key_cmp x key && is_leaving_in (find key_cmp x s.rows) then None else registered_at key_cmp key s)
+    → Contains (left_key x s) key ⊎ (registered_at key_cmp key (left_state key_cmp x s) ≡ registered_at key_cmp key s)
+leaving_told s x key law = by (same key_cmp x key) (is_leaving_in (find key_cmp x s.rows)) refl law
+  where
+    by : (one leaving : Bool) → same key_cmp x key ≡ one
+        → registered_at key_cmp key (left_state key_cmp x s) ≡ (if one && leaving then None else registered_at key_cmp key s)
+        → Contains (if leaving then x ∷ [] else []) key ⊎ (registered_at key_cmp key (left_state key_cmp x s) ≡ registered_at key_cmp key s)
+    by true true e h = inl (0, omega arith, key_is x key e)
+    by true false e h = inr h
+    by false true e h = inr h
+    by false false e h = inr h
+
+-- where a key of a stream isn't among both keys of the told streams, neither key of the stream is told
+pub record IsUntold (told : List MsrpKey) (stream : StreamId) : Type 0 where
+  pub talker : is_awaiting key_cmp (keys.Talker stream) told ≡ false
+  pub listener : is_awaiting key_cmp (keys.Listener stream) told ≡ false
+
+pub talker_untold : (told : List MsrpKey) (s : StreamId) → is_awaiting key_cmp (keys.Talker s) (all_keys_with told) ≡ false → IsUntold told s
+talker_untold [] s h = record { talker = refl; listener = refl }
+talker_untold (keys.Talker t ∷ told) s h =
+    let first = or_false (is_eq (nat_cmp t.0 s.0)) (is_awaiting key_cmp (keys.Talker s) (all_keys_with told)) h in
+    let rest = talker_untold told s first.1 in
+    record { talker = rw first.0 rest.talker; listener = rest.listener }
+talker_untold (keys.Listener t ∷ told) s h =
+    let first = or_false (is_eq (nat_cmp t.0 s.0)) (is_awaiting key_cmp (keys.Talker s) (all_keys_with told)) h in
+    let rest = talker_untold told s first.1 in
+    record { talker = rest.talker; listener = rw first.0 rest.listener }
+talker_untold (keys.Domain c ∷ told) s h =
+    let rest = talker_untold told s h in
+    record { talker = rest.talker; listener = rest.listener }
+
+pub listener_untold : (told : List MsrpKey) (s : StreamId) → is_awaiting key_cmp (keys.Listener s) (all_keys_with told) ≡ false → IsUntold told s
+listener_untold [] s h = record { talker = refl; listener = refl }
+listener_untold (keys.Talker t ∷ told) s h =
+    let first = or_false (is_eq (nat_cmp t.0 s.0)) (is_awaiting key_cmp (keys.Listener s) (all_keys_with told)) h in
+    let rest = listener_untold told s first.1 in
+    record { talker = rw first.0 rest.talker; listener = rest.listener }
+listener_untold (keys.Listener t ∷ told) s h =
+    let first = or_false (is_eq (nat_cmp t.0 s.0)) (is_awaiting key_cmp (keys.Listener s) (all_keys_with told)) h in
+    let rest = listener_untold told s first.1 in
+    record { talker = rest.talker; listener = rw first.0 rest.listener }
+listener_untold (keys.Domain c ∷ told) s h =
+    let rest = listener_untold told s h in
+    record { talker = rest.talker; listener = rest.listener }
+
+-- what is registered of a stream, once the participant at a place is another that has the stream's registrations
+pub registrations-same : (talks : List Talker) (listens : List StreamId) (ports : List Port) (at : ℕ) (p : Port) (t : Part) (s : StreamId)
+    → slice_get ports at ≡ Some p
+    → registered_at key_cmp (keys.Talker s) t ≡ registered_at key_cmp (keys.Talker s) p.part
+    → registered_at key_cmp (keys.Listener s) t ≡ registered_at key_cmp (keys.Listener s) p.part
+    → registrations_of talks listens (slice_set ports at (with_part t p)) s ≡ registrations_of talks listens ports s
+registrations-same talks listens ports at p t s here e f =
+    let g : listener_row s (with_part t p) ≡ listener_row s p = rw f refl in
+    let one = map-set_same (λ (q : Port). registered_talker s q.part) ports at p (with_part t p) here (ap talker_reg_of e) in
+    let two = map-set_same (listener_row s) ports at p (with_part t p) here g in
+    ap (λ ts. record { talkers = advertised (talk_of s talks) ∷ ts; listens = is_listened s listens; listeners = map (listener_row s) (slice_set ports at (with_part t p)) }) one
+    ∙ ap (λ ls. record { talkers = talkers_of talks ports s; listens = is_listened s listens; listeners = ls }) two
+
+-- what awaits once keys were put in
+abbrev pub Awaits : Type 0
+Awaits = (k : MsrpKey) (new keys : List MsrpKey) → is_awaiting key_cmp k (all_marked key_cmp new keys) ≡ (is_awaiting key_cmp k new || is_awaiting key_cmp k keys)
+
+pub unmarked : Awaits → (key : MsrpKey) (new set : List MsrpKey) → is_awaiting key_cmp key (all_marked key_cmp new set) ≡ false
+    → (is_awaiting key_cmp key new ≡ false) × (is_awaiting key_cmp key set ≡ false)
+unmarked awaits key new set out = or_false (is_awaiting key_cmp key new) (is_awaiting key_cmp key set) (sym (awaits key new set) ∙ out)
+
+-- the set at a place before keys were put in everywhere
+pub record WasSet (new : List MsrpKey) (sets : List (List MsrpKey)) (j : ℕ) (now : List MsrpKey) : Type 0 where
+  pub set : List MsrpKey
+  pub there : slice_get sets j ≡ Some set
+  pub is : all_marked key_cmp new set ≡ now
+
+pub was_set : (new : List MsrpKey) (sets : List (List MsrpKey)) (j : ℕ) (now : List MsrpKey) → slice_get (marked_everywhere key_cmp new sets) j ≡ Some now → WasSet new sets j now
+was_set new [] j now h = cc
+was_set new (set ∷ sets) zero now h = record { set = set; there = refl; is = cc }
+was_set new (set ∷ sets) (suc j) now h = let rest = was_set new sets j now h in record { set = rest.set; there = rest.there; is = rest.is }
+
+-- of the keys of a stream, none is one of another stream
+pub talker_other : (x s : StreamId) → is_awaiting key_cmp (keys.Talker s) (keys_of x) ≡ false → (s.0 == x.0) ≡ false
+talker_other x s h =
+    let first = or_false (is_eq (nat_cmp x.0 s.0)) false h in grind (arith, nat_tests, first.0)
+
+pub listener_other : (x s : StreamId) → is_awaiting key_cmp (keys.Listener s) (keys_of x) ≡ false → (s.0 == x.0) ≡ false
+listener_other x s h =
+    let first = or_false (is_eq (nat_cmp x.0 s.0)) false h in grind (arith, nat_tests, first.0)

@@ -1,0 +1,5 @@
+pub mod Part
+pub mod SameContent
+pub mod Stream
+pub mod Settling
+pub mod Side

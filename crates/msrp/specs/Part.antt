@@ -1,0 +1,94 @@
+-- The participant of MSRP at a port, with the keys and contents that MSRPDUs carry (IEEE Std 802.1Q-2018, 35.2.2).
+use Rattle.std.specs.Prelude.{◌≡◌, Bool, List, fold, Option, Some, None}
+use Rattle.std.specs.declared.cmp.Ordering.{Ordering}
+use Rattle.srp_base.specs.declared.numbers.Cs.{Cs}
+use Rattle.srp_base.specs.declared.numbers.StreamId.{StreamId}
+use Rattle.srp_base.specs.declared.streams.ListenerKind.{ListenerKind}
+use Rattle.srp_base.specs.declared.streams.TalkerReg.{TalkerReg}
+use Rattle.srp_base.specs.declared.streams.TalkerReg.TheVariants as regs
+use Rattle.mrp_participant.specs.declared.one_row.Row.{Row}
+use Rattle.mrp_participant.specs.Lookup.{find}
+use Rattle.mrp_participant.specs.State.{State, is_active, registered_at, declared_state, withdrawn_state, received_state, changed_keys, sent_events, sent_state}
+use Rattle.msrp_codec.specs.declared.pdu.MsrpKey.{MsrpKey}
+use Rattle.msrp_codec.specs.declared.pdu.MsrpKey.TheVariants as keys
+use Rattle.msrp_codec.specs.declared.pdu.MsrpContent.{MsrpContent}
+use Rattle.msrp_codec.specs.declared.pdu.MsrpContent.TheVariants.{Advertise, Failed, Listener, Domain}
+use Rattle.msrp_codec.specs.declared.pdu.MsrpPdu.{MsrpPdu}
+use Rattle.msrp_codec.specs.contracts.pdu.MsrpKeyOrd.TheImpl.{ghosts as key_order}
+use Rattle.msrp_codec.specs.contracts.pdu.MsrpContentPartialEq.TheImpl.{ghosts as content_equality}
+use Rattle.srp_base.specs.contracts.numbers.StreamIdOrd.TheImpl.{ghosts as stream_order}
+use Rattle.msrp_codec.specs.Content.{Belongs, octets_of, base_octets}
+
+abbrev pub Part : Type 0
+Part = State MsrpKey MsrpContent
+
+-- the order of keys, and whether two contents are one
+abbrev pub key_cmp : MsrpKey → MsrpKey → Ordering
+key_cmp = key_order.cmp
+
+abbrev pub same_content : MsrpContent → MsrpContent → Bool
+same_content = content_equality.eq
+
+-- the order of streams
+abbrev pub stream_cmp : StreamId → StreamId → Ordering
+stream_cmp = stream_order.cmp
+
+-- after a PDU was received, and the keys whose registration or registered content that changed
+abbrev pub received_part : Cs → MsrpPdu → Part → Part
+received_part now pdu s = received_state key_cmp now pdu.leave_all pdu.events s
+
+abbrev pub told_by_receipt : Cs → MsrpPdu → Part → List MsrpKey
+told_by_receipt now pdu s = changed_keys key_cmp same_content s.rows (received_part now pdu s).rows
+
+-- what is sent, and the participant afterwards
+abbrev pub pdu_sent : Cs → Part → MsrpPdu
+pdu_sent now s =
+    record {
+      leave_all = is_active s.leave_all;
+      events = sent_events base_octets octets_of key_cmp now s;
+    }
+
+abbrev pub sent_part : Cs → Part → Part
+sent_part now s = sent_state base_octets octets_of key_cmp now s
+
+-- what a content says of a Talker; no Listener and no Domain says anything
+abbrev pub talker_reg_of : Option MsrpContent → TalkerReg
+talker_reg_of None = regs.Absent
+talker_reg_of (Some (Advertise talker)) = regs.Advertise talker
+talker_reg_of (Some (Failed talker failure)) = regs.Failed talker failure
+talker_reg_of (Some (Listener kind)) = regs.Absent
+talker_reg_of (Some (Domain priority vid)) = regs.Absent
+
+-- what a content says of Listeners
+abbrev pub listener_kind_of : Option MsrpContent → Option ListenerKind
+listener_kind_of (Some (Listener kind)) = Some kind
+listener_kind_of _ = None
+
+-- what is registered of a stream's Talker, and of its Listeners
+abbrev pub registered_talker : StreamId → Part → TalkerReg
+registered_talker stream s = talker_reg_of (registered_at key_cmp (keys.Talker stream) s)
+
+abbrev pub registered_listener : StreamId → Part → Option ListenerKind
+registered_listener stream s = listener_kind_of (registered_at key_cmp (keys.Listener stream) s)
+
+-- the content by which a Talker is declared
+abbrev pub talker_content : TalkerReg → Option MsrpContent
+talker_content regs.Absent = None
+talker_content (regs.Advertise talker) = Some (Advertise talker)
+talker_content (regs.Failed talker failure) = Some (Failed talker failure)
+
+-- a key is declared with a content, or withdrawn where it has none
+abbrev pub settled_as : MsrpKey → Option MsrpContent → Part → Part
+settled_as key None s = withdrawn_state key_cmp key s
+settled_as key (Some content) s = declared_state key_cmp same_content key content s
+
+-- these keys are declared with what a rule gives them, or withdrawn, in this order
+abbrev pub settled_part : (MsrpKey → Option MsrpContent) → List MsrpKey → Part → Part
+settled_part rule keys s = fold (λ (t : Part) (key : MsrpKey). settled_as key (rule key) t) s keys
+
+-- of each key that has a row, the declared and the registered content are of that key
+pub record HasOwnContents (s : Part) : Type 0 where
+  pub declared : (key : MsrpKey) (r : Row MsrpKey MsrpContent)
+      → find key_cmp key s.rows ≡ Some r → Belongs key r.content
+  pub registered : (key : MsrpKey) (r : Row MsrpKey MsrpContent)
+      → find key_cmp key s.rows ≡ Some r → Belongs key r.heard

@@ -1,0 +1,122 @@
+-- Settling the keys that await at a link port: its ledger, and what it declares (IEEE Std 802.1Q-2018, 35.2.4).
+use Rattle.std.specs.Prelude.{ℕ, if◌then◌else◌, List, [], ◌∷◌, ◌++◌, map, drop, fold, Option, Some, None}
+use Rattle.std.specs.List.{filter_map, flat_map}
+use Rattle.srp_base.specs.declared.numbers.StreamId.{StreamId}
+use Rattle.srp_base.specs.declared.streams.Talker.{Talker}
+use Rattle.stream_importance.specs.declared.entry.Want.{Want}
+use Rattle.port_ledger.specs.Book.{Book, wanted_book, unwanted_book, booked_only_in}
+use Rattle.attribute_propagation.specs.Dirty.{all_marked}
+use Rattle.mrp_participant.specs.Lookup.{key_of}
+use Rattle.mrp_participant.specs.State.{registered_at}
+use Rattle.msrp_codec.specs.declared.pdu.MsrpKey.{MsrpKey}
+use Rattle.msrp_codec.specs.declared.pdu.MsrpKey.TheVariants.{Talker as TalkerKey, Listener as ListenerKey, Domain as DomainKey}
+use Rattle.msrp_codec.specs.declared.pdu.MsrpContent.{MsrpContent}
+use Rattle.msrp.specs.declared.port.Port.{Port}
+use Rattle.msrp.specs.Part.{Part, key_cmp, stream_cmp, settled_part, talker_reg_of}
+use Rattle.msrp.specs.Stream.{Registrations, is_present, wanted_at, stated_at}
+
+-- the stream of a key; a Domain has none
+abbrev pub stream_in : MsrpKey → Option StreamId
+stream_in (TalkerKey stream) = Some stream
+stream_in (ListenerKey stream) = Some stream
+stream_in (DomainKey class) = None
+
+-- the streams of which a key is among these, ascending
+abbrev pub streams_in : List MsrpKey → List StreamId
+streams_in keys = all_marked stream_cmp (filter_map stream_in keys) []
+
+-- the keys of a stream
+abbrev pub keys_of : StreamId → List MsrpKey
+keys_of stream = TalkerKey stream ∷ ListenerKey stream ∷ []
+
+-- both keys of the stream of a key; a Domain's change is nothing to any port
+abbrev pub keys_with : MsrpKey → List MsrpKey
+keys_with (TalkerKey stream) = keys_of stream
+keys_with (ListenerKey stream) = keys_of stream
+keys_with (DomainKey class) = []
+
+-- both keys of each stream of which a key is told
+abbrev pub all_keys_with : List MsrpKey → List MsrpKey
+all_keys_with told = flat_map keys_with told
+
+-- the Talker key, where this key is one and its content is a Talker's
+abbrev pub talker_key_if : MsrpKey → Option MsrpContent → List MsrpKey
+talker_key_if (TalkerKey stream) content =
+    if is_present (talker_reg_of content) then TalkerKey stream ∷ [] else []
+talker_key_if (ListenerKey stream) content = []
+talker_key_if (DomainKey class) content = []
+
+-- the Talker keys that a participant has registered
+abbrev pub talker_keys_in : Part → List MsrpKey
+talker_keys_in s =
+    flat_map (λ key. talker_key_if key (registered_at key_cmp key s)) (map key_of s.rows)
+
+-- those of the rows from a place on
+abbrev pub talker_keys_from : ℕ → Part → List MsrpKey
+talker_keys_from place s =
+    flat_map (λ key. talker_key_if key (registered_at key_cmp key s))
+    (drop place (map key_of s.rows))
+
+-- the Talker keys of all streams with a Talker, of the application or registered at a link port
+abbrev pub talker_keys : List Talker → List Port → List MsrpKey
+talker_keys talks ports =
+    map (λ (t : Talker). TalkerKey t.stream) talks
+    ++ flat_map (λ (p : Port). talker_keys_in p.part) ports
+
+-- ---- the ledger
+
+-- a stream that wants nothing is taken out, at the ledger's moment
+abbrev pub book_without : StreamId → Option Want → Book → Book
+book_without stream None book = unwanted_book book.moment stream book
+book_without stream (Some want) book = book
+
+-- a stream that wants bandwidth is entered, at the ledger's moment
+abbrev pub book_with : Option Want → Book → Book
+book_with None book = book
+book_with (Some want) book = wanted_book book.moment want book
+
+-- by what each of these streams wants: first those that want nothing are taken out, and then those that want are
+-- entered, in this order
+abbrev pub taken_out : (StreamId → Option Want) → List StreamId → Book → Book
+taken_out wants streams book =
+    fold (λ (b : Book) (s : StreamId). book_without s (wants s) b) book streams
+
+abbrev pub entered : (StreamId → Option Want) → List StreamId → Book → Book
+entered wants streams book = fold (λ (b : Book) (s : StreamId). book_with (wants s) b) book streams
+
+abbrev pub settled_book : (StreamId → Option Want) → List StreamId → Book → Book
+settled_book wants streams book = entered wants streams (taken_out wants streams book)
+
+-- the streams whose booking is another than before: those that are booked, and those that were
+abbrev pub moved_streams : Book → Book → List StreamId
+moved_streams before after =
+    booked_only_in after.entries before.entries ++ booked_only_in before.entries after.entries
+
+-- the Listener keys of streams
+abbrev pub listener_keys : List StreamId → List MsrpKey
+listener_keys streams = map (λ (s : StreamId). ListenerKey s) streams
+
+-- ---- the port
+
+-- the keys that are settled: those that await, and where the booked set changed the Talker keys of all streams with
+-- a Talker
+abbrev pub settling_keys : List StreamId → List MsrpKey → List MsrpKey → List MsrpKey
+settling_keys [] talkers awaiting = awaiting
+settling_keys (s ∷ moved) talkers awaiting = all_marked key_cmp talkers awaiting
+
+-- the port with another ledger, which declares these keys as that has it
+abbrev pub restated_port : ℕ → (StreamId → Registrations) → List MsrpKey → Port → Port
+restated_port at regs keys port =
+    record port { part = settled_part (stated_at at port.config port.ledger regs) keys port.part }
+
+-- the ledger of a port once its awaiting keys are settled
+unfoldable pub next_book : ℕ → (StreamId → Registrations) → List MsrpKey → Port → Book
+next_book at regs awaiting port =
+    settled_book (λ s. wanted_at at port.part (regs s).talkers s) (streams_in awaiting) port.ledger
+
+-- the port once its awaiting keys are settled, beside the Talker keys of all streams with a Talker
+abbrev pub settled_port : ℕ → (StreamId → Registrations) → List MsrpKey → List MsrpKey → Port → Port
+settled_port at regs talkers awaiting port =
+    restated_port at regs
+    (settling_keys (moved_streams port.ledger (next_book at regs awaiting port)) talkers awaiting)
+    (record port { ledger = next_book at regs awaiting port })

@@ -1,0 +1,341 @@
+-- MSRP at a node (IEEE Std 802.1Q-2018, clause 35): its state, and the state after each call.
+use Rattle.std.specs.Prelude.{◌≡◌, ◌⊎◌, ◌≤◌, ℕ, ◌-◌, ◌==◌, Bool, true, false, not, ◌&&◌, ◌||◌, nat_lt, if◌then◌else◌, List, [], ◌∷◌, length, map, filter, min, Option, Some, None, is_some, slice_get, slice_set, Contains, Result, Ok, Err, IfSome}
+use Rattle.std.specs.List.{AllByRecursion, list_all, list_any}
+use Rattle.srp_base.specs.declared.numbers.Cs.{Cs}
+use Rattle.srp_base.specs.declared.numbers.PortNo.{PortNo}
+use Rattle.srp_base.specs.declared.numbers.BridgeId.{BridgeId}
+use Rattle.srp_base.specs.declared.numbers.StreamId.{StreamId}
+use Rattle.srp_base.specs.declared.ports.PortSetup.{PortSetup}
+use Rattle.srp_base.specs.declared.streams.Talker.{Talker}
+use Rattle.srp_base.specs.declared.streams.TalkerReg.{TalkerReg}
+use Rattle.srp_base.specs.declared.streams.ListenerKind.{ListenerKind}
+use Rattle.srp_base.specs.declared.memory.NoMemory.{NoMemory}
+use Rattle.mrpdu_codec.specs.declared.error.DecodeErr.{DecodeErr}
+use Rattle.mrpdu_codec.specs.declared.error.DecodeErr.TheVariants as errors
+use Rattle.msrp_codec.specs.declared.pdu.MsrpPdu.{MsrpPdu}
+use Rattle.msrp_codec.specs.declared.pdu.MsrpKey.{MsrpKey}
+use Rattle.msrp_codec.specs.declared.pdu.MsrpKey.TheVariants.{Talker as TalkerKey, Listener as ListenerKey}
+use Rattle.msrp_codec.specs.Meaning.{msrp_reading}
+use Rattle.msrp_codec.specs.Writing.{msrp_spelling, as_written}
+use Rattle.mrp_participant.specs.Lookup.{find}
+use Rattle.mrp_participant.specs.OneRow.{is_leaving_in}
+use Rattle.mrp_participant.specs.State.{AreRows, is_silent, is_still, is_any_due, declared_at, registered_at, new_state, left_state, left_keys, due_state, leave_all_state, periodic_state}
+use Rattle.attribute_propagation.specs.Dirty.{is_awaiting, all_marked}
+use Rattle.attribute_propagation.specs.Ports.{marked_elsewhere, marked_everywhere}
+use Rattle.stream_importance.specs.Bandwidth.{caps_of}
+use Rattle.stream_importance.specs.Importance.{rank_number}
+use Rattle.port_ledger.specs.Book.{clocked_book, empty_book, has_new_booking, want_of, IsKept as IsKeptBook}
+use Rattle.msrp.specs.declared.port.Port.{Port}
+use Rattle.msrp.specs.declared.asking.SrpRequest.{SrpRequest}
+use Rattle.msrp.specs.declared.asking.SrpRequest.TheVariants.{Talk, Hush, Listen, Unlisten}
+use Rattle.msrp.specs.Part.{Part, key_cmp, received_part, told_by_receipt, pdu_sent, sent_part, HasOwnContents}
+use Rattle.msrp.specs.Stream.{Registrations, registrations_of, talkers_of, talk_of, is_listened, wanted_at, stated_at, heard_by, talker_of as talker_in}
+use Rattle.msrp.specs.Settling.{keys_of, all_keys_with, listener_keys, talker_keys, moved_streams, next_book, settled_port}
+
+-- the link ports in their order; the keys that await settling at each, ascending; the Talkers of the application,
+-- the latest first, and the streams that it listens to; and the moment of the clock in cs
+pub record Streams : Type 0 where
+  pub ports : List Port
+  pub awaiting : List (List MsrpKey)
+  pub talks : List Talker
+  pub listens : List StreamId
+  pub moment : ℕ
+
+-- the place of a link port in these lists, counted from 0
+abbrev pub place_of : PortNo → ℕ
+place_of port = port.0 - 1
+
+-- the port is one of the link ports
+pub record IsLinkPort (port : PortNo) (count : ℕ) : Type 0 where
+  pub some : 1 ≤ port.0
+  pub within : port.0 ≤ count
+
+-- what is registered of each stream, and where it is booked
+abbrev pub seen_by : Streams → StreamId → Registrations
+seen_by side stream = registrations_of side.talks side.listens side.ports stream
+
+-- ---- what a side shows
+
+-- what is registered of a stream at the Talker's port
+abbrev pub talker_of : StreamId → Streams → TalkerReg
+talker_of stream side = talker_in (talkers_of side.talks side.ports stream)
+
+-- whether the application talks a stream, and whether it listens to it
+abbrev pub has_talk : StreamId → Streams → Bool
+has_talk stream side = is_some (talk_of stream side.talks)
+
+abbrev pub has_listen : StreamId → Streams → Bool
+has_listen stream side = is_listened stream side.listens
+
+-- what the application hears of a stream
+abbrev pub heard_of : StreamId → Streams → Option ListenerKind
+heard_of stream side = heard_by (seen_by side stream)
+
+-- ---- the side after a call
+
+-- a new port
+abbrev pub new_port : BridgeId → Cs → Bool → PortSetup → Port
+new_port bridge leave_time periodic p =
+    record {
+      config = record { bridge = bridge; latency = p.latency };
+      part = new_state p.period leave_time periodic;
+      ledger = empty_book (caps_of p.rate p.delta_a p.delta_b);
+    }
+
+abbrev pub new_streams : BridgeId → Cs → Bool → List PortSetup → Streams
+new_streams bridge leave_time periodic ports =
+    record {
+      ports = map (new_port bridge leave_time periodic) ports;
+      awaiting = map (λ _. []) ports;
+      talks = [];
+      listens = [];
+      moment = 0;
+    }
+
+-- the port at a place has another participant, and both keys of each stream of which it told a key await everywhere
+abbrev pub retold : ℕ → Port → List MsrpKey → Streams → Streams
+retold at port told side =
+    record side {
+      ports = slice_set side.ports at port;
+      awaiting = marked_everywhere key_cmp (all_keys_with told) side.awaiting;
+    }
+
+-- the port at a place is another one, and nothing is told
+abbrev pub replaced : ℕ → Port → Streams → Streams
+replaced at port side = record side { ports = slice_set side.ports at port }
+
+-- the side that is made with the port at a place
+abbrev pub with_port : Option Port → (Port → Streams) → Streams → Streams
+with_port None make side = side
+with_port (Some port) make side = make port
+
+abbrev pub at_port : ℕ → (Port → Streams) → Streams → Streams
+at_port at make side = with_port (slice_get side.ports at) make side
+
+-- a port with another participant
+abbrev pub with_part : Part → Port → Port
+with_part s port = record port { part = s }
+
+abbrev pub received_streams : Cs → ℕ → MsrpPdu → Streams → Streams
+received_streams now at pdu side =
+    at_port at
+    (λ p. retold at (with_part (received_part now pdu p.part) p) (told_by_receipt now pdu p.part) side)
+    side
+
+abbrev pub due_streams : Cs → ℕ → Streams → Streams
+due_streams now at side =
+    at_port at
+    (λ p. retold at (with_part (due_state now p.part) p) (left_keys now p.part) side)
+    side
+
+-- the leave timer of one key ends: where its registrar was LV, the key leaves
+abbrev pub left_key : MsrpKey → Part → List MsrpKey
+left_key key s = if is_leaving_in (find key_cmp key s.rows) then key ∷ [] else []
+
+abbrev pub left_streams : ℕ → MsrpKey → Streams → Streams
+left_streams at key side =
+    at_port at
+    (λ p. retold at (with_part (left_state key_cmp key p.part) p) (left_key key p.part) side)
+    side
+
+abbrev pub leave_all_streams : Cs → ℕ → Streams → Streams
+leave_all_streams now at side =
+    at_port at (λ p. replaced at (with_part (leave_all_state now p.part) p) side) side
+
+abbrev pub periodic_streams : ℕ → Streams → Streams
+periodic_streams at side =
+    at_port at (λ p. replaced at (with_part (periodic_state p.part) p) side) side
+
+abbrev pub sent_streams : Cs → ℕ → Streams → Streams
+sent_streams now at side =
+    at_port at (λ p. replaced at (with_part (sent_part now p.part) p) side) side
+
+abbrev pub spoilt_streams : ℕ → Streams → Streams
+spoilt_streams at side =
+    at_port at
+    (λ p. let s : Part = p.part in replaced at (with_part (record s { sound = false }) p) side)
+    side
+
+abbrev pub keys_or_none : Option (List MsrpKey) → List MsrpKey
+keys_or_none None = []
+keys_or_none (Some keys) = keys
+
+-- the keys that await at a port
+abbrev pub awaiting_at : ℕ → Streams → List MsrpKey
+awaiting_at at side = keys_or_none (slice_get side.awaiting at)
+
+-- the port at a place once it is settled
+abbrev pub settled_at : ℕ → Streams → Port → Port
+settled_at at side port =
+    settled_port at (seen_by side) (talker_keys side.talks side.ports) (awaiting_at at side) port
+
+-- the Listener keys of the streams that settling books or drops there
+abbrev pub moved_keys : ℕ → Streams → Port → List MsrpKey
+moved_keys at side port =
+    listener_keys
+    (moved_streams port.ledger (next_book at (seen_by side) (awaiting_at at side) port))
+
+-- it is settled, and no key awaits there; the Listener keys of the streams that are booked or dropped there await at
+-- every other port
+abbrev pub settled_streams : ℕ → Streams → Streams
+settled_streams at side = at_port at (λ p. record side {
+  ports = slice_set side.ports at (settled_at at side p);
+  awaiting = slice_set (marked_elsewhere key_cmp at (moved_keys at side p) side.awaiting) at [];
+}) side
+
+-- whether a clock shows at a port that a want which isn't booked may fit otherwise than before
+abbrev pub shows_at : ℕ → Port → Bool
+shows_at now port = nat_lt port.ledger.moment now && has_new_booking port.ledger
+
+-- the awaiting keys of each port, with these keys at each where the clock shows
+abbrev pub clocked_sets : ℕ → List MsrpKey → List Port → List (List MsrpKey) → List (List MsrpKey)
+clocked_sets now keys [] sets = []
+clocked_sets now keys (p ∷ ports) [] = []
+clocked_sets now keys (p ∷ ports) (set ∷ sets) =
+    (if shows_at now p then all_marked key_cmp keys set else set) ∷ clocked_sets now keys ports sets
+
+-- the port with its ledger at another moment
+abbrev pub clocked_port : ℕ → Port → Port
+clocked_port now port = record port { ledger = clocked_book now port.ledger }
+
+-- the clock goes on, and the Talker keys of all streams with a Talker await where it shows
+abbrev pub clocked_streams : ℕ → Streams → Streams
+clocked_streams now side =
+    record side {
+      ports = map (clocked_port now) side.ports;
+      awaiting = clocked_sets now (talker_keys side.talks side.ports) side.ports side.awaiting;
+      moment = now;
+    }
+
+-- the application's Talkers without one of a stream, and its streams without one
+abbrev pub talks_without : StreamId → List Talker → List Talker
+talks_without stream talks = filter (λ (t : Talker). not (t.stream.0 == stream.0)) talks
+
+abbrev pub listens_without : StreamId → List StreamId → List StreamId
+listens_without stream listens = filter (λ (x : StreamId). not (x.0 == stream.0)) listens
+
+-- the application's Talkers and streams are other ones, which differ at one stream, whose keys await at every port
+abbrev pub reasked : StreamId → List Talker → List StreamId → Streams → Streams
+reasked stream talks listens side =
+    record side {
+      talks = talks;
+      listens = listens;
+      awaiting = marked_everywhere key_cmp (keys_of stream) side.awaiting;
+    }
+
+-- whether a Talker is one that states the same
+abbrev pub same_talker : Talker → Talker → Bool
+same_talker a b =
+    (a.stream.0 == b.stream.0) && (a.dest == b.dest) && (a.vid == b.vid)
+    && (a.max_frame == b.max_frame) && (a.frames == b.frames) && (a.priority == b.priority)
+    && (rank_number a.rank == rank_number b.rank)
+    && (a.latency == b.latency)
+
+abbrev pub is_talk : Option Talker → Talker → Bool
+is_talk None talker = false
+is_talk (Some was) talker = same_talker was talker
+
+-- what the application asks for: to talk with a Talker, which takes the place of its stream's, to talk a stream no
+-- more, to listen to one, or to listen no more; where that is so already, nothing changes
+abbrev pub requested_streams : SrpRequest → Streams → Streams
+requested_streams (Talk talker) side =
+    if is_talk (talk_of talker.stream side.talks) talker then side
+    else reasked talker.stream (talker ∷ talks_without talker.stream side.talks) side.listens side
+requested_streams (Hush stream) side =
+    if has_talk stream side then reasked stream (talks_without stream side.talks) side.listens side
+    else side
+requested_streams (Listen stream) side =
+    if has_listen stream side then side else reasked stream side.talks (stream ∷ side.listens) side
+requested_streams (Unlisten stream) side =
+    if has_listen stream side
+    then reasked stream side.talks (listens_without stream side.listens) side
+    else side
+
+-- ---- what a side has to do
+
+-- whether nothing is pending at any port: every participant is at rest, and no key awaits
+abbrev pub are_still : Streams → Bool
+are_still side =
+    list_all (λ (p : Port). is_still p.part) side.ports
+    && list_all (λ keys. length keys == 0) side.awaiting
+
+-- whether at some port a timer is due at a moment, or a key awaits
+abbrev pub is_busy : Cs → Streams → Bool
+is_busy now side =
+    list_any (λ (p : Port). is_any_due now p.part) side.ports
+    || list_any (λ keys. not (length keys == 0)) side.awaiting
+
+-- ---- what every side keeps
+
+-- a port's participant has a participant's rows, with contents of their keys, and its ledger is a ledger at the
+-- moment of the side
+pub record IsPort (now : ℕ) (port : Port) : Type 0 where
+  pub rows : AreRows key_cmp port.part.rows
+  pub contents : HasOwnContents port.part
+  pub ledger : IsKeptBook port.ledger
+  pub moment : port.ledger.moment ≡ now
+
+-- at a link port each key that doesn't await is declared exactly as the rules for Talkers and Listeners state it, and
+-- a stream of which neither key awaits is kept as wanting exactly where it wants bandwidth, with its class, rank and
+-- slope
+pub record IsSettled (at : ℕ) (port : Port) (awaiting : List MsrpKey) (regs : StreamId → Registrations) : Type 0 where
+  pub declared : (key : MsrpKey) → is_awaiting key_cmp key awaiting ≡ false
+      → declared_at key_cmp key port.part ≡ stated_at at port.config port.ledger regs key
+  pub wanted : (stream : StreamId) → is_awaiting key_cmp (TalkerKey stream) awaiting ≡ false
+      → is_awaiting key_cmp (ListenerKey stream) awaiting ≡ false
+      → want_of port.ledger.entries stream ≡ wanted_at at port.part (regs stream).talkers stream
+
+abbrev pub IsSettledAt : Streams → ℕ → Type 0
+IsSettledAt side at =
+    (port : Port) (keys : List MsrpKey)
+    → slice_get side.ports at ≡ Some port → slice_get side.awaiting at ≡ Some keys
+    → IsSettled at port keys (seen_by side)
+
+pub record IsKept (side : Streams) : Type 0 where
+  pub ports : AllByRecursion (IsPort side.moment) side.ports
+  pub sets : length side.awaiting ≡ length side.ports
+  pub settled : (at : ℕ) → IsSettledAt side at
+
+-- ---- what the calls answer
+
+-- a number as an answer of 32 bits, which stands still at its end
+abbrev pub count_of : ℕ → ℕ
+count_of n = min n 4294967295
+
+-- a PDU was received: its reading has acted, or it is malformed and nothing has
+abbrev pub HasReceived : Cs → ℕ → List ℕ → Streams → Result ℕ DecodeErr → Streams → Type 0
+HasReceived now at octets before (Ok n) after =
+    (pdu : MsrpPdu) × (msrp_reading octets ≡ Ok pdu) × (n ≡ count_of (length pdu.events))
+    × (after ≡ received_streams now at pdu before)
+HasReceived now at octets before (Err (errors.Malformed place)) after =
+    (msrp_reading octets ≡ Err place) × (after ≡ before)
+HasReceived now at octets before (Err errors.NoMemory) after = after ≡ before
+
+-- octets in which a PDU is written: they read as it, its events in the order of types, and fit into a frame
+pub record IsWritten (pdu : MsrpPdu) (octets : List ℕ) : Type 0 where
+  pub spelled : octets ≡ msrp_spelling pdu
+  pub reads : msrp_reading octets ≡ Ok (as_written pdu)
+  pub short : length octets ≤ 1500
+
+-- a port had nothing to say, and nothing changed; or it has said what it had in these octets
+abbrev pub HasSent : Cs → ℕ → Streams → Result (Option (List ℕ)) NoMemory → Streams → Type 0
+HasSent now at before (Ok None) after =
+    IfSome (slice_get before.ports at) (λ p. is_silent p.part ≡ true) × (after ≡ before)
+HasSent now at before (Ok (Some octets)) after =
+    IfSome (slice_get before.ports at)
+    (λ p. (is_silent p.part ≡ false) × IsWritten (pdu_sent now p.part) octets)
+    × (after ≡ sent_streams now at before)
+HasSent now at before (Err e) after = after ≡ before
+
+-- ---- what a participant that takes the place of another owes
+
+-- the same keys are declared, with the same contents
+abbrev pub SameDeclared : Part → Part → Type 0
+SameDeclared before after =
+    (key : MsrpKey) → declared_at key_cmp key after ≡ declared_at key_cmp key before
+
+-- each key whose registration differs is told
+abbrev pub TellsEach : List MsrpKey → Part → Part → Type 0
+TellsEach told before after =
+    (key : MsrpKey)
+    → Contains told key ⊎ (registered_at key_cmp key after ≡ registered_at key_cmp key before)

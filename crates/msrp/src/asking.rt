@@ -1,0 +1,193 @@
+//! What the application of a station asks for.
+
+ghost use Rattle.std.specs.Prelude.{◌≡◌, ◌∷◌, false, filter, not, ◌==◌, IfOk, OnOk, OnErr};
+ghost use Rattle.srp_base.specs.declared.numbers.StreamId.{StreamId};
+ghost use Rattle.msrp.specs.Stream.{talk_of, is_listened};
+ghost use Rattle.msrp.specs.Side.{IsKept, is_talk, same_talker, listens_without, reasked, requested_streams, talks_without};
+ghost use Rattle.msrp.specs.declared.asking.SrpRequest.TheVariants.{Talk, Hush, Listen, Unlisten};
+
+use crate::side::MsrpSide;
+use crate::stream::{is_listened, talk_of};
+use attribute_propagation::await_everywhere;
+use attribute_propagation::laws::each_key_awaits;
+use msrp_codec::MsrpKey;
+use srp_base::{NoMemory, StreamId, Talker};
+use std::alloc::{AllocError, Global};
+
+/// What the application of a station asks of MSRP (IEEE Std 802.1Q-2018, 35.2.3.1).
+#[derive(Clone, Copy, Debug, PartialEq, Eq)]
+pub enum SrpRequest {
+    /// To talk a stream, as this Talker states it. A Talker takes the place of another of its stream.
+    Talk(Talker),
+    /// To talk a stream no more.
+    Hush(StreamId),
+    /// To listen to a stream.
+    Listen(StreamId),
+    /// To listen to a stream no more.
+    Unlisten(StreamId),
+}
+
+impl MsrpSide {
+    /// Does what the application asks for: it talks a stream or not, and listens to one or not (IEEE Std
+    /// 802.1Q-2018, 35.2.3.1). Where that changes what the application has asked for, the Talker key and the
+    /// Listener key of the stream await at every link port.
+    pub fn request(&mut self, request: SrpRequest) -> Result<(), NoMemory>
+        ensures ok { OnOk result (self.new ≡ requested_streams request self.old) }
+        ensures err { OnErr result (self.new ≡ self.old) }
+    {
+        match request {
+            SrpRequest::Talk(talker) => self.talk(talker),
+            SrpRequest::Hush(stream) => self.hush(stream),
+            SrpRequest::Listen(stream) => self.listen(stream),
+            SrpRequest::Unlisten(stream) => self.unlisten(stream),
+        }
+    }
+
+    fn talk(&mut self, talker: Talker) -> Result<(), NoMemory>
+        ensures ok { OnOk result (self.new ≡ requested_streams (Talk talker) self.old) }
+        ensures err { OnErr result (self.new ≡ self.old) }
+    {
+        if is_talk(talk_of(self.talks.as_slice(), talker.stream), &talker) {
+            return Ok(());
+        }
+        let alloc = *self.ports.allocator();
+        let talks = talks_with(alloc, self.talks.as_slice(), talker)?;
+        let listens = Vec::from_slice(alloc, self.listens.as_slice())?;
+        self.reask(alloc, talker.stream, talks, listens)
+    }
+
+    fn hush(&mut self, stream: StreamId) -> Result<(), NoMemory>
+        ensures ok { OnOk result (self.new ≡ requested_streams (Hush stream) self.old) }
+        ensures err { OnErr result (self.new ≡ self.old) }
+    {
+        if talk_of(self.talks.as_slice(), stream).is_none() {
+            return Ok(());
+        }
+        let alloc = *self.ports.allocator();
+        let talks = talks_without(alloc, self.talks.as_slice(), stream)?;
+        let listens = Vec::from_slice(alloc, self.listens.as_slice())?;
+        self.reask(alloc, stream, talks, listens)
+    }
+
+    fn listen(&mut self, stream: StreamId) -> Result<(), NoMemory>
+        ensures ok { OnOk result (self.new ≡ requested_streams (Listen stream) self.old) }
+        ensures err { OnErr result (self.new ≡ self.old) }
+    {
+        if is_listened(self.listens.as_slice(), stream) {
+            return Ok(());
+        }
+        let alloc = *self.ports.allocator();
+        let talks = Vec::from_slice(alloc, self.talks.as_slice())?;
+        let listens = listens_with(alloc, self.listens.as_slice(), stream)?;
+        self.reask(alloc, stream, talks, listens)
+    }
+
+    fn unlisten(&mut self, stream: StreamId) -> Result<(), NoMemory>
+        ensures ok { OnOk result (self.new ≡ requested_streams (Unlisten stream) self.old) }
+        ensures err { OnErr result (self.new ≡ self.old) }
+    {
+        if !is_listened(self.listens.as_slice(), stream) {
+            return Ok(());
+        }
+        let alloc = *self.ports.allocator();
+        let talks = Vec::from_slice(alloc, self.talks.as_slice())?;
+        let listens = listens_without(alloc, self.listens.as_slice(), stream)?;
+        self.reask(alloc, stream, talks, listens)
+    }
+
+    // The application's Talkers and streams are these, which differ from before at one stream: its keys await at
+    // every link port.
+    fn reask(
+        &mut self,
+        alloc: Global,
+        stream: StreamId,
+        talks: Vec<Talker>,
+        listens: Vec<StreamId>,
+    ) -> Result<(), NoMemory>
+        requires talks { (s : StreamId) → (s.0 == stream.0) ≡ false
+            → talk_of s talks.items ≡ talk_of s self.old.talks }
+        requires listens { (s : StreamId) → (s.0 == stream.0) ≡ false
+            → is_listened s listens.items ≡ is_listened s self.old.listens }
+        ensures ok { OnOk result (self.new ≡ reasked stream talks.items listens.items self.old) }
+        ensures err { OnErr result (self.new ≡ self.old) }
+    {
+        each_key_awaits::<MsrpKey>();
+        let keys = [MsrpKey::Talker(stream), MsrpKey::Listener(stream)];
+        let awaiting = await_everywhere(alloc, self.awaiting.as_slice(), keys.as_slice())?;
+        self.awaiting = awaiting;
+        self.talks = talks;
+        self.listens = listens;
+        Ok(())
+    }
+}
+
+// Whether the application has this Talker already.
+fn is_talk(was: Option<Talker>, talker: &Talker) -> bool
+    ensures { result ≡ is_talk was talker.now }
+{
+    match was {
+        Some(was) => is_same(&was, talker),
+        None => false,
+    }
+}
+
+fn is_same(was: &Talker, talker: &Talker) -> bool
+    ensures { result ≡ same_talker was.now talker.now }
+{
+    *was == *talker
+}
+
+// The application's Talkers with one more, in the place of the one of its stream.
+fn talks_with(alloc: Global, talks: &[Talker], talker: Talker) -> Result<Vec<Talker>, NoMemory>
+    ensures { IfOk result (λ v. v.items ≡ talker ∷ talks_without talker.stream talks.now) }
+{
+    let others = talks_without(alloc, talks, talker.stream)?;
+    let mut all = Vec::with_capacity(alloc, 1)?;
+    all.push(talker)?;
+    all.extend_from_slice(others.as_slice())?;
+    Ok(all)
+}
+
+// The application's Talkers without that of a stream.
+fn talks_without(
+    alloc: Global,
+    talks: &[Talker],
+    stream: StreamId,
+) -> Result<Vec<Talker>, AllocError>
+    ensures { IfOk result (λ v. v.items ≡ talks_without stream talks.now) }
+{
+    talks
+        .iter()
+        .filter(|talker| talker.stream != stream)
+        .copied()
+        .collect(alloc)
+}
+
+// The streams that the application listens to with one more.
+fn listens_with(
+    alloc: Global,
+    listens: &[StreamId],
+    stream: StreamId,
+) -> Result<Vec<StreamId>, NoMemory>
+    ensures { IfOk result (λ v. v.items ≡ stream ∷ listens.now) }
+{
+    let mut all = Vec::with_capacity(alloc, 1)?;
+    all.push(stream)?;
+    all.extend_from_slice(listens)?;
+    Ok(all)
+}
+
+// The streams that the application listens to without one.
+fn listens_without(
+    alloc: Global,
+    listens: &[StreamId],
+    stream: StreamId,
+) -> Result<Vec<StreamId>, AllocError>
+    ensures { IfOk result (λ v. v.items ≡ listens_without stream listens.now) }
+{
+    listens
+        .iter()
+        .filter(|other| **other != stream)
+        .copied()
+        .collect(alloc)
+}

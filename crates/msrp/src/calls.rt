@@ -1,0 +1,245 @@
+//! What comes in at a link port, and its timers.
+
+ghost use Rattle.std.specs.Prelude.{◌≡◌, ◌⊎◌, ◌++◌, ◌<◌, ◌≤◌, ◌^◌, if◌then◌else◌, [], length, slice_get, slice_set, Some, Ok, IfOk, IfSome, OnOk, OnErr};
+ghost use Rattle.mrp_participant.specs.Lookup.{find};
+ghost use Rattle.mrp_participant.specs.OneRow.{is_leaving_in};
+ghost use Rattle.mrp_participant.specs.State.{AreRows, due_count};
+ghost use Rattle.std.specs.List.{AllByRecursion};
+ghost use Rattle.msrp_codec.specs.Content.{Belongs};
+ghost use Rattle.msrp_codec.specs.declared.pdu.MsrpKey.{MsrpKey};
+ghost use Rattle.msrp_codec.specs.declared.pdu.MsrpKey.TheVariants.{Talker as TalkerKey, Listener as ListenerKey};
+ghost use Rattle.msrp.specs.declared.port.Port.{Port};
+ghost use Rattle.msrp.specs.Part.{HasOwnContents, key_cmp};
+ghost use Rattle.msrp.specs.Settling.{all_keys_with, keys_with};
+ghost use Rattle.msrp.specs.Side.{IsKept, SameDeclared, TellsEach, HasReceived, IsLinkPort, place_of, retold, with_part, received_streams, due_streams, left_streams, leave_all_streams, periodic_streams, spoilt_streams, count_of};
+
+use crate::app::MsrpApp;
+use crate::port::Port;
+use crate::side::MsrpSide;
+use attribute_propagation::await_everywhere;
+use attribute_propagation::laws::each_key_awaits;
+use mrp_participant::laws::{
+    declarations_stay, due_tells_each_change, each_key_after_due, each_key_after_periodic,
+    each_key_after_receive, one_key_changes, receive_tells_each_change, registrations_stay,
+    rows_stay_rows, what_is_asked_holds,
+};
+use mrp_participant::{Msgs, Participant};
+use msrp_codec::laws::what_is_read_belongs_to_its_keys;
+use msrp_codec::{DecodeErr, MsrpKey, MsrpPdu, decode};
+use srp_base::{Cs, NoMemory, PortNo};
+use std::alloc::Global;
+
+impl MsrpSide {
+    /// Takes the octets of a PDU that came in at a link port at the moment `now`, in cs and below 2^62: its
+    /// LeaveAll first, then its events in order (IEEE Std 802.1Q-2018, 10.7.5). Answers the number of its
+    /// events. Where what is registered of a stream's Talker or Listeners changes, both keys of the stream await at
+    /// every link port.
+    ///
+    /// # Errors
+    ///
+    /// `Malformed` exactly where the octets are, with the offset; then nothing changes.
+    pub fn receive(&mut self, now: Cs, port: PortNo, octets: &[u8]) -> Result<u32, DecodeErr>
+        requires now { now.0 < 2 ^ 62 }
+        requires port { IsLinkPort port (length self.old.ports) }
+        requires short { length octets.now ≤ 1500 }
+        ensures { HasReceived now (place_of port) octets.now self.old result self.new }
+    {
+        what_is_read_belongs_to_its_keys();
+        let alloc = *self.ports.allocator();
+        let pdu = decode(alloc, octets)?;
+        let count = saturated(pdu.events.len());
+        match self.take(alloc, now, usize::from(port.0) - 1, pdu) {
+            Ok(()) => Ok(count),
+            Err(_) => Err(DecodeErr::NoMemory),
+        }
+    }
+
+    // What a PDU says acts on the participant at a place.
+    fn take(&mut self, alloc: Global, now: Cs, at: usize, pdu: MsrpPdu) -> Result<(), NoMemory>
+        requires now { now.0 < 2 ^ 62 }
+        requires place { at < length self.old.ports }
+        requires belong { AllByRecursion (λ e. Belongs e.1 e.2) pdu.events }
+        ensures ok { OnOk result (self.new ≡ received_streams now at pdu self.old) }
+        ensures err { OnErr result (self.new ≡ self.old) }
+    {
+        self.keeps();
+        declarations_stay::<MsrpApp>();
+        receive_tells_each_change::<MsrpApp>();
+        each_key_after_receive::<MsrpApp>();
+        let msgs = Msgs {
+            leave_all: pdu.leave_all,
+            events: pdu.events,
+        };
+        let mut part = port_at(self.ports.as_slice(), at).part.copy()?;
+        let told = part.receive(now, &msgs)?;
+        part.rows_ascend();
+        self.put(alloc, at, part, told.as_slice())
+    }
+
+    /// Fires the timers of a link port that are due at the moment `now`, in cs and below 2^62 (IEEE Std
+    /// 802.1Q-2018, 10.7.4). Answers their number. Where a Talker or a Listener leaves, both keys of its stream await
+    /// at every link port.
+    pub fn due(&mut self, now: Cs, port: PortNo) -> Result<u32, NoMemory>
+        requires now { now.0 < 2 ^ 62 }
+        requires port { IsLinkPort port (length self.old.ports) }
+        ensures after { OnOk result (self.new ≡ due_streams now (place_of port) self.old) }
+        ensures count { IfOk result (λ n. IfSome (slice_get self.old.ports (place_of port))
+            (λ p. n ≡ count_of (due_count now p.part))) }
+        ensures err { OnErr result (self.new ≡ self.old) }
+    {
+        self.keeps();
+        declarations_stay::<MsrpApp>();
+        due_tells_each_change::<MsrpApp>();
+        each_key_after_due::<MsrpApp>();
+        let alloc = *self.ports.allocator();
+        let at = usize::from(port.0) - 1;
+        let mut part = port_at(self.ports.as_slice(), at).part.copy()?;
+        let (fired, left) = part.due(now)?;
+        part.rows_ascend();
+        self.put(alloc, at, part, left.as_slice())?;
+        Ok(fired)
+    }
+
+    /// Ends the leave timer of one key at a link port, whatever the moment: LV becomes MT, and where it does both keys
+    /// of the key's stream await at every link port. True exactly where the registrar was LV; where it wasn't, nothing
+    /// changes.
+    pub fn leave_now(&mut self, port: PortNo, key: MsrpKey) -> Result<bool, NoMemory>
+        requires { IsLinkPort port (length self.old.ports) }
+        ensures after { OnOk result (self.new ≡ left_streams (place_of port) key self.old) }
+        ensures was { IfOk result (λ b. IfSome (slice_get self.old.ports (place_of port))
+            (λ p. b ≡ is_leaving_in (find key_cmp key p.part.rows))) }
+        ensures err { OnErr result (self.new ≡ self.old) }
+    {
+        self.keeps();
+        declarations_stay::<MsrpApp>();
+        what_is_asked_holds::<MsrpApp>();
+        one_key_changes::<MsrpApp>();
+        let alloc = *self.ports.allocator();
+        let at = usize::from(port.0) - 1;
+        let mut part = port_at(self.ports.as_slice(), at).part.copy()?;
+        let told = [key];
+        let was = part.leave_due(key);
+        part.rows_ascend();
+        self.put(alloc, at, part, told_where(was, told.as_slice()))?;
+        Ok(was)
+    }
+
+    /// Fires the LeaveAll timer of a link port at the moment `now`, in cs and below 2^62, whatever its own
+    /// moment: the machine is Active, and the timer starts anew (IEEE Std 802.1Q-2018, 10.7.9).
+    pub fn leaveall_now(&mut self, now: Cs, port: PortNo)
+        requires now { now.0 < 2 ^ 62 }
+        requires port { IsLinkPort port (length self.old.ports) }
+        ensures { self.new ≡ leave_all_streams now (place_of port) self.old }
+    {
+        each_key_awaits::<MsrpKey>();
+        let port = &mut self.ports[usize::from(port.0) - 1];
+        port.part.leaveall_due(now);
+    }
+
+    /// Gives the periodic event to each key of a link port, also where periodic transmission is off (IEEE Std
+    /// 802.1Q-2018, 10.7.10).
+    pub fn periodic_now(&mut self, port: PortNo)
+        requires { IsLinkPort port (length self.old.ports) }
+        ensures { self.new ≡ periodic_streams (place_of port) self.old }
+    {
+        each_key_awaits::<MsrpKey>();
+        declarations_stay::<MsrpApp>();
+        registrations_stay::<MsrpApp>();
+        rows_stay_rows::<MsrpApp>();
+        each_key_after_periodic::<MsrpApp>();
+        let port = &mut self.ports[usize::from(port.0) - 1];
+        port.part.periodic_due();
+    }
+
+    /// Ends the soundness of a link port's participant, as after a loss on its link.
+    pub fn spoil(&mut self, port: PortNo)
+        requires { IsLinkPort port (length self.old.ports) }
+        ensures { self.new ≡ spoilt_streams (place_of port) self.old }
+    {
+        each_key_awaits::<MsrpKey>();
+        let port = &mut self.ports[usize::from(port.0) - 1];
+        port.part.spoil();
+    }
+
+    // Puts a participant in the place of another, whose declarations it has; the keys whose registration differs are
+    // told, and both keys of their streams await at every port.
+    fn put(
+        &mut self,
+        alloc: Global,
+        at: usize,
+        part: Participant<MsrpApp>,
+        told: &[MsrpKey],
+    ) -> Result<(), NoMemory>
+        requires place { at < length self.old.ports }
+        requires kept { IsKept self.old }
+        requires rows { AreRows key_cmp part.rows }
+        requires contents { HasOwnContents part }
+        requires declared { (p : Port) → slice_get self.old.ports at ≡ Some p
+            → SameDeclared p.part part }
+        requires told { (p : Port) → slice_get self.old.ports at ≡ Some p
+            → TellsEach told.now p.part part }
+        ensures ok { OnOk result (IfSome (slice_get self.old.ports at)
+            (λ p. self.new ≡ retold at (with_part part p) told.now self.old)) }
+        ensures err { OnErr result (self.new ≡ self.old) }
+    {
+        each_key_awaits::<MsrpKey>();
+        let keys = all_keys_with(alloc, told)?;
+        let awaiting = await_everywhere(alloc, self.awaiting.as_slice(), keys.as_slice())?;
+        self.awaiting = awaiting;
+        let port = &mut self.ports[at];
+        port.part = part;
+        Ok(())
+    }
+}
+
+// A number of 32 bits, which stands still at its end.
+pub(crate) fn saturated(count: usize) -> u32
+    ensures { result ≡ count_of count }
+{
+    u32::try_from(count).unwrap_or(u32::MAX)
+}
+
+// The port at a place.
+pub(crate) fn port_at(ports: &[Port], at: usize) -> &Port
+    requires { at < length ports.now }
+    ensures { slice_get ports.now at ≡ Some result.now }
+{
+    &ports[at]
+}
+
+// These keys, or none.
+fn told_where(was: bool, keys: &[MsrpKey]) -> &[MsrpKey]
+    ensures { result.now ≡ (if was then keys.now else []) }
+{
+    if was { keys } else { &[] }
+}
+
+// Both keys of each stream of which a key is told.
+fn all_keys_with(alloc: Global, told: &[MsrpKey]) -> Result<Vec<MsrpKey>, NoMemory>
+    ensures { IfOk result (λ v. v.items ≡ all_keys_with told.now) }
+{
+    let mut keys = Vec::new(alloc);
+    for key in told {
+        push_keys_with(&mut keys, *key)?;
+    }
+    Ok(keys)
+}
+
+// Puts both keys of the stream of a key at the end.
+fn push_keys_with(out: &mut Vec<MsrpKey>, key: MsrpKey) -> Result<(), NoMemory>
+    ensures { OnOk result (out.new.items ≡ out.old.items ++ keys_with key) }
+{
+    match key {
+        MsrpKey::Talker(stream) => {
+            out.push(key)?;
+            out.push(MsrpKey::Listener(stream))?;
+            Ok(())
+        }
+        MsrpKey::Listener(stream) => {
+            out.push(MsrpKey::Talker(stream))?;
+            out.push(key)?;
+            Ok(())
+        }
+        MsrpKey::Domain(_) => Ok(()),
+    }
+}

@@ -1,0 +1,53 @@
+//! MSRP at a node (IEEE Std 802.1Q-2018, 35.2): a participant and a ledger at each link port, the keys that await
+//! settling there, and what the application of a station talks and listens to.
+//!
+//! ```text
+//!  link --octets--> receive --> participant of the port --keys that changed--> both keys of their streams
+//!                   due, leave_now                                             await at every link port
+//!  application --request--> Talkers, Listeners --their streams' keys---------------------^   |
+//!                                                                                            v
+//!  clock --moment--> ledger of each port --where it shows: the Talker keys-------------> settle
+//!                                                                                         |  |  |
+//!     ledger of the port: what no longer wants is taken out, what wants is entered <------+  |  |
+//!         what is booked or dropped: its Listener key awaits at every other port             |  |
+//!     participant of the port: Talkers and Listeners are declared or withdrawn <-------------+  |
+//!     nothing awaits at the port <--------------------------------------------------------------+
+//!  link <--octets-- send <--- participant of the port
+//! ```
+//!
+//! Contracts see a `Streams` (`specs/Side.antt`): the link ports, each a `Port` with its participant's state and
+//! its ledger's book, the awaiting keys, and what the application asked for, all as lists; each call's clause is
+//! the whole side after it. `specs/Stream.antt` says of one stream which port is the Talker's, what each link port
+//! declares of the Talker and of the Listeners, and what it wants, looking at all ports; `specs/Settling.antt` what
+//! settling a port does.
+//!
+//! What every side keeps, by its type, is `IsKept`: at each link port each Talker or Listener key that doesn't await
+//! is declared exactly as those rules state it, with its content; a stream of which neither key awaits is kept by the
+//! port's ledger as wanting exactly where it wants bandwidth, with its class, rank and slope; and each ledger is a
+//! ledger, so that its booked slopes keep to its caps. After want of memory a side is as it was.
+//!
+//! A call on a port copies at most that port's participant and ledger, and the awaiting keys where some stream
+//! changed.
+//!
+//! To add a key: its variants in msrp_codec; what it is declared as, a line of `stated_at`; which changes make it
+//! await, a line of `keys_with`. To add a reason for which a port wants nothing of a stream: `want_of_reg`, and
+//! msrp_talker for its code.
+#![tactic(auto)]
+
+mod app;
+mod asking;
+mod calls;
+mod clock;
+pub mod laws;
+mod port;
+mod sending;
+mod settling;
+mod side;
+mod stream;
+#[cfg(test)]
+mod tests;
+
+pub use app::MsrpApp;
+pub use asking::SrpRequest;
+pub use port::Port;
+pub use side::MsrpSide;

@@ -1,0 +1,313 @@
+//! The side of MSRP as contracts see it, and what it shows.
+
+ghost use Rattle.std.specs.Prelude.{◌≡◌, ◌≤◌, ◌+◌, ◌==◌, not, [], length, map, is_some, slice_get, Some, IfOk, IfSome};
+ghost use Rattle.std.specs.List.{AllByRecursion, list_all, list_any};
+ghost use Rattle.srp_base.specs.declared.ports.PortSetup.{PortSetup};
+ghost use Rattle.mrp_participant.specs.State.{IsTime, is_still, is_any_due};
+ghost use Rattle.msrp.specs.declared.port.Port.{Port};
+ghost use Rattle.msrp.specs.Stream.{fit_at, talkers_of};
+ghost use Rattle.msrp.specs.Side.{Streams, IsKept, IsLinkPort, are_still, has_listen, has_talk, heard_of, is_busy, new_port, new_streams, place_of, talker_of};
+
+use crate::app::MsrpApp;
+use crate::port::Port;
+use crate::stream::{fit_at, heard_of, is_listened, is_own, talk_of, talker_of};
+use attribute_propagation::Dirty;
+use mrp_participant::Participant;
+use msrp_codec::MsrpKey;
+use msrp_talker::PortConfig;
+use port_ledger::Ledger;
+use port_ledger::laws::every_step_keeps_a_book;
+use srp_base::{
+    BridgeId, Cs, ListenerKind, NoMemory, PortNo, PortSetup, StreamId, Talker, TalkerReg,
+};
+use std::alloc::Global;
+use std::marker::Model;
+use stream_importance::Fit;
+
+/// MSRP at a node (IEEE Std 802.1Q-2018, 35.2): a participant and a ledger at each link port, the keys that await
+/// settling there, and what the application talks and listens to. Contracts see a `Streams`.
+#[derive(Drop)]
+pub struct MsrpSide {
+    pub(crate) ports: Vec<Port>,
+    pub(crate) awaiting: Vec<Dirty<MsrpKey>>,
+    pub(crate) talks: Vec<Talker>,
+    pub(crate) listens: Vec<StreamId>,
+    pub(crate) moment: Cs,
+}
+
+impl Model for MsrpSide {
+    ghost use Rattle.msrp.specs.Side.{Streams, IsKept};
+
+    ghost Value = { Streams };
+
+    ghost view = { λ s. record { ports = s.ports.items; awaiting = s.awaiting.items; talks = s.talks.items; listens = s.listens.items; moment = s.moment.0 } };
+
+    ghost invariant = { λ s. IsKept (record { ports = s.ports.items; awaiting = s.awaiting.items; talks = s.talks.items; listens = s.listens.items; moment = s.moment.0 }) };
+}
+
+impl MsrpSide {
+    /// The side of a node with this BridgeID and these link ports: nothing is declared, registered or booked, and
+    /// nothing awaits. LeaveTime and each port's period are 1 to 10,000 cs, and the two shares of each port sum to
+    /// at most 90 percent.
+    pub fn new(
+        alloc: Global,
+        bridge: BridgeId,
+        leave_time: Cs,
+        periodic: bool,
+        ports: &[PortSetup],
+    ) -> Result<MsrpSide, NoMemory>
+        requires leave_time { IsTime leave_time }
+        requires periods { AllByRecursion (λ p. IsTime p.period) ports.now }
+        requires shares { AllByRecursion (λ p. p.delta_a + p.delta_b ≤ 90) ports.now }
+        ensures { IfOk result (λ side. side ≡ new_streams bridge leave_time periodic ports.now) }
+    {
+        every_step_keeps_a_book();
+        let awaiting = new_awaiting(alloc, ports)?;
+        let ports = new_ports(alloc, bridge, leave_time, periodic, ports)?;
+        Ok(MsrpSide {
+            ports,
+            awaiting,
+            talks: Vec::new(alloc),
+            listens: Vec::new(alloc),
+            moment: Cs(0),
+        })
+    }
+
+    /// What every side keeps: at each link port each key that doesn't await is declared exactly as the rules state it
+    /// of all ports, a stream of which neither key awaits is kept as wanting exactly where it wants bandwidth, and
+    /// each ledger is a ledger. It is a law, and does nothing.
+    pub fn keeps(&self)
+        ensures { IsKept self.now }
+    {
+        let _ = &self.ports;
+    }
+
+    /// Another side with the same state.
+    pub fn copy(&self) -> Result<MsrpSide, NoMemory>
+        ensures { IfOk result (λ side. side ≡ self.now) }
+    {
+        let alloc = *self.ports.allocator();
+        Ok(MsrpSide {
+            ports: copied_ports(alloc, self.ports.as_slice())?,
+            awaiting: copied_awaiting(alloc, self.awaiting.as_slice())?,
+            talks: Vec::from_slice(alloc, self.talks.as_slice())?,
+            listens: Vec::from_slice(alloc, self.listens.as_slice())?,
+            moment: self.moment,
+        })
+    }
+
+    /// The participant of a link port.
+    pub fn participant(&self, port: PortNo) -> &Participant<MsrpApp>
+        requires { IsLinkPort port (length self.now.ports) }
+        ensures { IfSome (slice_get self.now.ports (place_of port)) (λ p. result.now ≡ p.part) }
+    {
+        &self.ports[usize::from(port.0) - 1].part
+    }
+
+    /// The ledger of a link port.
+    pub fn ledger(&self, port: PortNo) -> &Ledger
+        requires { IsLinkPort port (length self.now.ports) }
+        ensures { IfSome (slice_get self.now.ports (place_of port)) (λ p. result.now ≡ p.ledger) }
+    {
+        &self.ports[usize::from(port.0) - 1].ledger
+    }
+
+    /// The number of keys that await settling at a link port.
+    pub fn awaiting(&self, port: PortNo) -> usize
+        requires { IsLinkPort port (length self.now.ports) }
+        ensures { slice_get (map length self.now.awaiting) (place_of port) ≡ Some result }
+    {
+        self.awaiting[usize::from(port.0) - 1].len()
+    }
+
+    /// The number of link ports.
+    pub fn ports(&self) -> usize
+        ensures { result ≡ length self.now.ports }
+    {
+        self.ports.len()
+    }
+
+    /// What is registered of a stream at the Talker's port, the lowest-numbered port where a Talker of it is
+    /// registered, the application first.
+    pub fn talker(&self, stream: StreamId) -> TalkerReg
+        ensures { result ≡ talker_of stream self.now }
+    {
+        talker_of(self.talks.as_slice(), self.ports.as_slice(), stream)
+    }
+
+    /// Whether the application talks a stream.
+    pub fn talks(&self, stream: StreamId) -> bool
+        ensures { result ≡ has_talk stream self.now }
+    {
+        talk_of(self.talks.as_slice(), stream).is_some()
+    }
+
+    /// Whether the application listens to a stream.
+    pub fn listens(&self, stream: StreamId) -> bool
+        ensures { result ≡ has_listen stream self.now }
+    {
+        is_listened(self.listens.as_slice(), stream)
+    }
+
+    /// What a listening application hears of a stream: Ready where the Talker at the Talker's port is advertised,
+    /// AskingFailed where it failed. None exactly where it doesn't listen, or where no link port is the Talker's
+    /// port.
+    pub fn heard(&self, stream: StreamId) -> Option<ListenerKind>
+        ensures { result ≡ heard_of stream self.now }
+    {
+        if !is_listened(self.listens.as_slice(), stream) {
+            return None;
+        }
+        if is_own(self.talks.as_slice(), stream) {
+            return None;
+        }
+        heard_of(talker_of(self.talks.as_slice(), self.ports.as_slice(), stream))
+    }
+
+    /// Whether what a stream's Talker asks for fits at a link port, by its ledger, at a moment in cs that isn't before
+    /// the last clock. None exactly where the stream has no Talker's port, where that is this port, or where the
+    /// Talker's priority has no SR class.
+    pub fn fit(&self, now: Cs, port: PortNo, stream: StreamId) -> Option<Fit>
+        requires now { self.now.moment ≤ now.0 }
+        requires port { IsLinkPort port (length self.now.ports) }
+        ensures { IfSome (slice_get self.now.ports (place_of port))
+            (λ p. result ≡ fit_at now.0 (place_of port) p.ledger
+            (talkers_of self.now.talks self.now.ports stream)) }
+    {
+        let at = usize::from(port.0) - 1;
+        let port = &self.ports[at];
+        fit_at(
+            self.talks.as_slice(),
+            self.ports.as_slice(),
+            at,
+            &port.ledger,
+            now,
+            stream,
+        )
+    }
+
+    /// Whether nothing is pending at any port: every participant is at rest, and no key awaits.
+    pub fn still(&self) -> bool
+        ensures { result ≡ are_still self.now }
+    {
+        all_still(self.ports.as_slice()) && none_awaits(self.awaiting.as_slice())
+    }
+
+    /// Whether at some port a timer is due at the moment `now`, in cs, or a key awaits.
+    pub fn is_busy(&self, now: Cs) -> bool
+        ensures { result ≡ is_busy now self.now }
+    {
+        any_due(self.ports.as_slice(), now) || some_awaits(self.awaiting.as_slice())
+    }
+}
+
+// The ports of a new side.
+fn new_ports(
+    alloc: Global,
+    bridge: BridgeId,
+    leave_time: Cs,
+    periodic: bool,
+    ports: &[PortSetup],
+) -> Result<Vec<Port>, NoMemory>
+    requires leave_time { IsTime leave_time }
+    requires periods { AllByRecursion (λ p. IsTime p.period) ports.now }
+    requires shares { AllByRecursion (λ p. p.delta_a + p.delta_b ≤ 90) ports.now }
+    ensures { IfOk result (λ v. v.items ≡ map (new_port bridge leave_time periodic) ports.now) }
+{
+    let mut all = Vec::with_capacity(alloc, ports.len())?;
+    for port in ports {
+        all.push(new_port(alloc, bridge, leave_time, periodic, port))?;
+    }
+    Ok(all)
+}
+
+// A new port.
+fn new_port(
+    alloc: Global,
+    bridge: BridgeId,
+    leave_time: Cs,
+    periodic: bool,
+    port: &PortSetup,
+) -> Port
+    requires leave_time { IsTime leave_time }
+    requires period { IsTime port.now.period }
+    requires shares { port.now.delta_a + port.now.delta_b ≤ 90 }
+    ensures { result ≡ new_port bridge leave_time periodic port.now }
+{
+    Port {
+        config: PortConfig {
+            bridge,
+            latency: port.latency,
+        },
+        part: Participant::new(alloc, port.period, leave_time, periodic),
+        ledger: Ledger::new(alloc, port.rate, port.delta_a, port.delta_b),
+    }
+}
+
+// No key awaits at any port.
+fn new_awaiting(alloc: Global, ports: &[PortSetup]) -> Result<Vec<Dirty<MsrpKey>>, NoMemory>
+    ensures { IfOk result (λ v. v.items ≡ map (λ _. []) ports.now) }
+{
+    let mut awaiting = Vec::with_capacity(alloc, ports.len())?;
+    for port in ports {
+        let _ = port;
+        awaiting.push(Dirty::new(alloc))?;
+    }
+    Ok(awaiting)
+}
+
+fn copied_port(port: &Port) -> Result<Port, NoMemory>
+    ensures { IfOk result (λ p. p ≡ port.now) }
+{
+    let part = port.part.copy()?;
+    let ledger = port.ledger.copy()?;
+    Ok(Port {
+        config: port.config,
+        part,
+        ledger,
+    })
+}
+
+fn copied_ports(alloc: Global, ports: &[Port]) -> Result<Vec<Port>, NoMemory>
+    ensures { IfOk result (λ v. v.items ≡ ports.now) }
+{
+    let mut copies = Vec::with_capacity(alloc, ports.len())?;
+    for port in ports {
+        copies.push(copied_port(port)?)?;
+    }
+    Ok(copies)
+}
+
+fn copied_awaiting(alloc: Global, sets: &[Dirty<MsrpKey>]) -> Result<Vec<Dirty<MsrpKey>>, NoMemory>
+    ensures { IfOk result (λ v. v.items ≡ sets.now) }
+{
+    let mut copies = Vec::with_capacity(alloc, sets.len())?;
+    for set in sets {
+        copies.push(set.copy()?)?;
+    }
+    Ok(copies)
+}
+
+fn all_still(ports: &[Port]) -> bool
+    ensures { result ≡ list_all (λ p. is_still p.part) ports.now }
+{
+    ports.iter().all(|port| port.part.still())
+}
+
+fn any_due(ports: &[Port], now: Cs) -> bool
+    ensures { result ≡ list_any (λ p. is_any_due now p.part) ports.now }
+{
+    ports.iter().any(|port| port.part.any_due(now))
+}
+
+fn none_awaits(sets: &[Dirty<MsrpKey>]) -> bool
+    ensures { result ≡ list_all (λ keys. length keys == 0) sets.now }
+{
+    sets.iter().all(|set| set.is_empty())
+}
+
+fn some_awaits(sets: &[Dirty<MsrpKey>]) -> bool
+    ensures { result ≡ list_any (λ keys. not (length keys == 0)) sets.now }
+{
+    sets.iter().any(|set| !set.is_empty())
+}

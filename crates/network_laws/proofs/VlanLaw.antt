@@ -1,0 +1,228 @@
+-- In a network at rest a VID is registered at a port exactly where the far node's application, or another port of the far
+-- node, has it; and so, by the tree, exactly where a station behind the port has declared it.
+use Rattle.std.proofs.Common.{◌≡◌, ◌≢◌, ◌⊎◌, inl, inr, ℕ, suc, ◌+◌, ◌-◌, ◌<◌, Bool, true, false, ◌&&◌, List, [], ◌∷◌, ◌++◌, length, map, refl, sym, ap, subst, ◌∙◌, arith}
+use Rattle.std.specs.Prelude.{slice_get, Option, Some, None, ◌↔◌, ◌==◌}
+use Rattle.std.specs.List.{list_all}
+use Rattle.std.specs.Option.{option_map_or, option_and_then, is_some}
+use Rattle.std.specs.Ordering.{nat_cmp}
+use Rattle.std.proofs.lemmas.Bool.{and_parts}
+use Rattle.srp_base.specs.declared.numbers.EgressPort.{EgressPort}
+use Rattle.tree_topology.specs.declared.graph.NodeKind.{NodeKind}
+use Rattle.tree_topology.specs.declared.graph.NodeKind.TheVariants.{Station, Bridge}
+use Rattle.tree_topology.specs.Topology.{HasNode, HasPort}
+use Rattle.tree_topology.specs.Ports.{neighbours, peer_of, far_node, LiesBehind}
+use Rattle.tree_topology.specs.Walk.{is_behind}
+use Rattle.tree_topology.specs.PortLaws.{HasPortLaws, IsPropagated, HasBeyond, HasBehind}
+use Rattle.attribute_propagation.specs.Dirty.{is_awaiting}
+use Rattle.attribute_propagation.specs.Flat.{elsewhere}
+use Rattle.mrp_participant.specs.Link.{Link, AreDutiesMet}
+use Rattle.mrp_participant.specs.State.{is_still, registered_at, declared_at}
+use Rattle.mvrp.specs.Part.{Part, registers, declares}
+use Rattle.mvrp.specs.Side.{Vlans, IsKept, place_of, has_own, is_flat, are_still}
+use Rattle.node_core.specs.State.{NodeState, box_at, are_empty, is_still_node, ports_of}
+use Rattle.world_core.specs.World.{WorldState, node_at, inbox, outbox, all_sound}
+use Rattle.world_core.specs.Duty.{messages_of, in_flight, vlan_part, link_with}
+use Rattle.world_core.specs.Kept.{IsKeptWorld, IsIdleBridge, AreBridgesIdle, FitsTree}
+use Rattle.network_laws.specs.Vlans.{is_registered, is_station, is_declared_at, is_declared_behind, HasDeclaredBehind, VlansMatch, IsAtRest}
+use Rattle.network_laws.proofs.Places.{each-get, get-some, get-within, get-all, get-empty, empty-box, is_other, other-at, other-from, flat-cases, flat-own, flat-other, get-map, map-get, range-from, range-at, one-test}
+
+-- what a still link registers at its near end
+abbrev pub StillLink : Type 0
+StillLink = (l : Link ℕ (Unit {0})) → AreDutiesMet nat_cmp l → l.sent ≡ [] → l.coming ≡ []
+    → is_still l.near ≡ true → is_still l.far ≡ true → l.far.sound ≡ true
+    → (k : ℕ) → registered_at nat_cmp k l.near ≡ declared_at nat_cmp k l.far
+
+-- an application that declares is a station's
+station-own : (vid : ℕ) (kind : NodeKind) (vlans : Vlans) → (kind ≡ Bridge → vlans.own ≡ []) → has_own vid vlans ≡ true → (is_station kind && has_own vid vlans) ≡ true
+station-own vid Station vlans h e = e
+station-own vid Bridge vlans h e = let none : has_own vid vlans ≡ false = ap (λ own. is_awaiting nat_cmp vid own) (h refl) in cc
+
+both : (a b : Bool) → a ≡ true → b ≡ true → (a && b) ≡ true
+both true b h k = k
+both false b h k = cc
+
+one : {X : Type 0} (o : Option X) (x y : X) → o ≡ Some x → o ≡ Some y → x ≡ y
+one o x y a b = cc
+
+module _ (w : WorldState) (kept : IsKeptWorld w) (idle : AreBridgesIdle w) (rest : IsAtRest w) (laws : HasPortLaws w.tree) (still : StillLink) where
+  -- a port's node, and its participant
+  record At (p : EgressPort) : Type 0 where
+    s : NodeState
+    node : node_at p.node w ≡ Some s
+    part : Part
+    has : slice_get s.vlans.parts (place_of p.port) ≡ Some part
+
+  fits : (p : EgressPort) (a : At p) → FitsTree w.tree (p.node.0 - 1) a.s
+  fits p a = kept.nodes (p.node.0 - 1) a.s a.node
+
+  ports-are : (p : EgressPort) (s : NodeState) → HasPort w.tree p → node_at p.node w ≡ Some s → length s.vlans.parts ≡ length (neighbours w.tree.links p.node.0)
+  ports-are p s h e =
+      let one : p.node.0 - 1 + 1 ≡ p.node.0 = omega (arith, h.0.0) in
+      (kept.nodes (p.node.0 - 1) s e).ports ∙ ap (λ n. length (neighbours w.tree.links n)) one
+
+  at-port : (p : EgressPort) → HasPort w.tree p → At p
+  at-port p h =
+      let lt : p.node.0 - 1 < length w.nodes = omega (arith, h.0.0, h.0.1, kept.many) in
+      let n = get-some w.nodes (p.node.0 - 1) lt in
+      let few : place_of p.port < length n.0.vlans.parts = omega (arith, h.1, h.2, ports-are p n.0 h n.1) in
+      let part = get-some n.0.vlans.parts (place_of p.port) few in
+      record { s = n.0; node = n.1; part = part.0; has = part.1 }
+
+  vlan-is : (p : EgressPort) (a : At p) → vlan_part p w ≡ Some a.part
+  vlan-is p a = ap (λ o. option_and_then (λ (s : NodeState). slice_get s.vlans.parts (place_of p.port)) o) a.node ∙ a.has
+
+  -- ---- what rest says of a node
+
+  still-node : (p : EgressPort) (a : At p) → is_still_node a.s ≡ true
+  still-node p a = get-all is_still_node w.nodes (p.node.0 - 1) a.s rest.quiet a.node
+
+  boxes : (p : EgressPort) (a : At p) → (are_empty a.s.inboxes ≡ true) × (are_empty a.s.outboxes ≡ true)
+  boxes p a = and_parts (are_empty a.s.inboxes) (are_empty a.s.outboxes) (and_parts (are_empty a.s.inboxes && are_empty a.s.outboxes) (are_still a.s.vlans) (still-node p a)).0
+
+  side-still : (p : EgressPort) (a : At p) → (list_all is_still a.s.vlans.parts ≡ true) × (list_all (λ (vids : List ℕ). length vids == 0) a.s.vlans.awaiting ≡ true)
+  side-still p a =
+      and_parts (list_all is_still a.s.vlans.parts) (list_all (λ (vids : List ℕ). length vids == 0) a.s.vlans.awaiting)
+      (and_parts (are_empty a.s.inboxes && are_empty a.s.outboxes) (are_still a.s.vlans) (still-node p a)).1
+
+  part-still : (p : EgressPort) (a : At p) → is_still a.part ≡ true
+  part-still p a = get-all is_still a.s.vlans.parts (place_of p.port) a.part (side-still p a).0 a.has
+
+  part-sound : (p : EgressPort) (a : At p) → a.part.sound ≡ true
+  part-sound p a =
+      get-all (λ (part : Part). part.sound) a.s.vlans.parts (place_of p.port) a.part
+      (get-all all_sound w.nodes (p.node.0 - 1) a.s rest.in_step a.node) a.has
+
+  -- ---- the link
+
+  inbox-empty : (p : EgressPort) (a : At p) → inbox p w ≡ []
+  inbox-empty p a =
+      ap (λ o. option_map_or (λ (s : NodeState). box_at (place_of p.port) s.inboxes) o []) a.node
+      ∙ empty-box a.s.inboxes (place_of p.port) (boxes p a).0
+
+  outbox-empty : (p : EgressPort) (a : At p) → outbox p w ≡ []
+  outbox-empty p a =
+      ap (λ o. option_map_or (λ (s : NodeState). box_at (place_of p.port) s.outboxes) o []) a.node
+      ∙ empty-box a.s.outboxes (place_of p.port) (boxes p a).1
+
+  none-in-flight : (p : EgressPort) → HasPort w.tree p → messages_of (in_flight p w) ≡ []
+  none-in-flight p h =
+      ap (λ xs. messages_of (xs ++ outbox p w)) (inbox-empty (peer_of w.tree.links p) (at-port (peer_of w.tree.links p) (laws.peer_port p h)))
+      ∙ ap messages_of (outbox-empty p (at-port p h))
+
+  -- what a port has registered is what its peer declares
+  linked : (p : EgressPort) → HasPort w.tree p → (a : At p) (b : At (peer_of w.tree.links p)) (vid : ℕ) → registers vid a.part ≡ declares vid b.part
+  linked p h a b vid =
+      let q = peer_of w.tree.links p in
+      ap is_some (still (link_with p w a.part b.part) (kept.duties p h a.part b.part (vlan-is p a) (vlan-is q b))
+      (none-in-flight p h) (none-in-flight q (laws.peer_port p h)) (part-still p a) (part-still q b) (part-sound q b) vid)
+
+  -- ---- the node
+
+  -- what a port declares is what the flat rule says, since nothing awaits
+  settled : (p : EgressPort) (a : At p) (vid : ℕ) → declares vid a.part ≡ is_flat a.s.vlans (place_of p.port) vid
+  settled p a vid =
+      let side = (fits p a).kept.kept.vlans in
+      let lt : place_of p.port < length a.s.vlans.awaiting = omega (arith, side.ports, get-within a.s.vlans.parts (place_of p.port) a.part a.has) in
+      let vids = get-some a.s.vlans.awaiting (place_of p.port) lt in
+      let none : vids.0 ≡ [] = get-empty a.s.vlans.awaiting (place_of p.port) vids.0 (side-still p a).1 vids.1 in
+      side.flat (place_of p.port) a.part vids.0 vid a.has vids.1 (ap (λ (ks : List ℕ). is_awaiting nat_cmp vid ks) none)
+
+  registered-is : (p : EgressPort) (a : At p) (vid : ℕ) → is_registered w vid p ≡ registers vid a.part
+  registered-is p a vid = ap (λ o. option_map_or (registers vid) o false) (vlan-is p a)
+
+  -- at a port: what its far node's port that leads back sees of the node
+  far-rule : (p : EgressPort) → HasPort w.tree p → (b : At (peer_of w.tree.links p)) (vid : ℕ)
+      → is_registered w vid p ≡ elsewhere (suc (place_of (peer_of w.tree.links p).port)) (has_own vid b.s.vlans ∷ map (registers vid) b.s.vlans.parts)
+  far-rule p h b vid =
+      let a = at-port p h in
+      registered-is p a vid ∙ (linked p h a b vid ∙ settled (peer_of w.tree.links p) b vid)
+
+  declared-is : (p : EgressPort) (b : At (peer_of w.tree.links p)) (vid : ℕ)
+      → is_declared_at w vid (far_node w.tree.links p) ≡ (is_station b.s.kind && has_own vid b.s.vlans)
+  declared-is p b vid = ap (λ o. option_map_or (λ (s : NodeState). is_station s.kind && has_own vid s.vlans) o false) b.node
+
+  -- another port of the far node that has the VID registered
+  to-beyond : (p : EgressPort) → HasPort w.tree p → (b : At (peer_of w.tree.links p)) (vid j : ℕ) (part : Part)
+      → j ≢ place_of (peer_of w.tree.links p).port → slice_get b.s.vlans.parts j ≡ Some part → registers vid part ≡ true
+      → HasBeyond w.tree (is_registered w vid) p
+  to-beyond p h b vid j part ne has t =
+      let q = peer_of w.tree.links p in
+      let hq = laws.peer_port p h in
+      let r : EgressPort = record { node = q.node; port = record { 0 = j + 1 } } in
+      let back : j + 1 - 1 ≡ j = omega arith in
+      let few : j < length (neighbours w.tree.links q.node.0) = omega (arith, get-within b.s.vlans.parts j part has, ports-are q b.s hq b.node) in
+      let c : At r = record { s = b.s; node = b.node; part = part; has = ap (λ n. slice_get b.s.vlans.parts n) back ∙ has } in
+      (r, (hq.0, omega arith, omega (arith, few)), refl, (λ e. ne (omega (arith, ap (λ (x : EgressPort). x.port.0) e, hq.1))), registered-is r c vid ∙ t)
+
+  forward : (p : EgressPort) → HasPort w.tree p → (b : At (peer_of w.tree.links p)) (vid : ℕ) → is_registered w vid p ≡ true
+      → (is_declared_at w vid (far_node w.tree.links p) ≡ true) ⊎ HasBeyond w.tree (is_registered w vid) p
+  forward p h b vid t = by (flat-cases (place_of q.port) (has_own vid b.s.vlans) (map (registers vid) b.s.vlans.parts) (sym (far-rule p h b vid) ∙ t))
+    where
+      q : EgressPort
+      q = peer_of w.tree.links p
+
+      by : (has_own vid b.s.vlans ≡ true) ⊎ (is_other (place_of (peer_of w.tree.links p).port) (map (registers vid) b.s.vlans.parts) ≡ true)
+          → (is_declared_at w vid (far_node w.tree.links p) ≡ true) ⊎ HasBeyond w.tree (is_registered w vid) p
+      by (inl o) = inl (declared-is p b vid ∙ station-own vid b.s.kind b.s.vlans (each-get IsIdleBridge w.nodes ((peer_of w.tree.links p).node.0 - 1) b.s idle b.node) o)
+      by (inr r) =
+          let j = other-at (place_of (peer_of w.tree.links p).port) (map (registers vid) b.s.vlans.parts) r in
+          let x = get-map (registers vid) b.s.vlans.parts j.0 j.2 in
+          inr (to-beyond p h b vid j.0 x.0 j.1 x.1 x.2)
+
+  same-port : (q r : EgressPort) → q.node.0 ≡ r.node.0 → q.port.0 ≡ r.port.0 → q ≡ r
+  same-port q r e f = ap (λ (n : ℕ). record { node = record { 0 = n }; port = q.port }) e ∙ ap (λ (n : ℕ). record { node = r.node; port = record { 0 = n } }) f
+
+  backward : (p : EgressPort) → HasPort w.tree p → (b : At (peer_of w.tree.links p)) (vid : ℕ)
+      → (is_declared_at w vid (far_node w.tree.links p) ≡ true) ⊎ HasBeyond w.tree (is_registered w vid) p → is_registered w vid p ≡ true
+  backward p h b vid (inl o) =
+      let own = (and_parts (is_station b.s.kind) (has_own vid b.s.vlans) (sym (declared-is p b vid) ∙ o)).1 in
+      far-rule p h b vid
+      ∙ (ap (λ t. elsewhere (suc (place_of (peer_of w.tree.links p).port)) (t ∷ map (registers vid) b.s.vlans.parts)) own
+      ∙ flat-own (place_of (peer_of w.tree.links p).port) (map (registers vid) b.s.vlans.parts))
+  backward p h b vid (inr r) =
+      let q = peer_of w.tree.links p in
+      let hq = laws.peer_port p h in
+      let c = at-port r.0 r.1 in
+      let same : c.s ≡ b.s = one (node_at q.node w) c.s b.s (ap (λ (n : ℕ). slice_get w.nodes (n - 1)) (sym r.2) ∙ c.node) b.node in
+      let has : slice_get b.s.vlans.parts (place_of r.0.port) ≡ Some c.part = ap (λ (s : NodeState). slice_get s.vlans.parts (place_of r.0.port)) (sym same) ∙ c.has in
+      let t : registers vid c.part ≡ true = sym (registered-is r.0 c vid) ∙ r.4 in
+      let other : place_of r.0.port ≢ place_of q.port = λ e. r.3 (same-port r.0 q r.2 (omega (arith, e, r.1.1, hq.1))) in
+      far-rule p h b vid
+      ∙ flat-other (place_of q.port) (has_own vid b.s.vlans) (map (registers vid) b.s.vlans.parts)
+      (other-from (place_of q.port) (map (registers vid) b.s.vlans.parts) (place_of r.0.port) other (map-get (registers vid) b.s.vlans.parts (place_of r.0.port) c.part has t))
+
+  propagated : (vid : ℕ) → IsPropagated w.tree (is_registered w vid) (is_declared_at w vid)
+  propagated vid p h =
+      let b = at-port (peer_of w.tree.links p) (laws.peer_port p h) in
+      (forward p h b vid, backward p h b vid)
+
+  abbrev WalkBehind : Type 0
+  WalkBehind = (p : EgressPort) (y : ℕ) → HasPort w.tree p → HasNode w.tree y → (LiesBehind w.tree.links p y ↔ (is_behind w.tree.links p y ≡ true))
+
+  pub vlans-match : WalkBehind → VlansMatch w
+  vlans-match walk p vid h =
+      let law = laws.propagation (is_registered w vid) (is_declared_at w vid) p (propagated vid) h in
+      ((λ t. to (law.0 t)), (λ d. law.1 (from d)))
+    where
+      to : HasBehind w.tree (is_declared_at w vid) p → HasDeclaredBehind w vid p
+      to b = (b.0, b.1, (walk p b.0 h b.1).1 b.2, b.3)
+
+      from : HasDeclaredBehind w vid p → HasBehind w.tree (is_declared_at w vid) p
+      from d = (d.0, d.1, (walk p d.0 h d.1).0 d.2, d.3)
+
+  pub sides-are-one : WalkBehind → (p : EgressPort) (vid : ℕ) → HasPort w.tree p → is_registered w vid p ≡ is_declared_behind w vid p
+  sides-are-one walk p vid h =
+      let match = vlans-match walk p vid h in
+      one-test (is_registered w vid p) (is_declared_behind w vid p) (λ t. to (match.0 t)) (λ t. match.1 (from t))
+    where
+      to : HasDeclaredBehind w vid p → is_declared_behind w vid p ≡ true
+      to d =
+          range-from (λ y. is_behind w.tree.links p y && is_declared_at w vid y) (length w.tree.kinds) 1 d.0 d.1.0 (omega (arith, d.1.1))
+          (both (is_behind w.tree.links p d.0) (is_declared_at w vid d.0) ((walk p d.0 h d.1).0 d.2) d.3)
+
+      from : is_declared_behind w vid p ≡ true → HasDeclaredBehind w vid p
+      from t =
+          let r = range-at (λ y. is_behind w.tree.links p y && is_declared_at w vid y) (length w.tree.kinds) 1 t in
+          let node : HasNode w.tree r.0 = (r.1, omega (arith, r.2)) in
+          let parts = and_parts (is_behind w.tree.links p r.0) (is_declared_at w vid r.0) r.3 in
+          (r.0, node, (walk p r.0 h node).1 parts.0, parts.1)

@@ -1,0 +1,24 @@
+//! The laws of a network at rest. Each is a function that does nothing; calling it brings the law to a proof.
+
+ghost use Rattle.std.specs.Prelude.{◌≡◌, ℕ};
+ghost use Rattle.srp_base.specs.declared.numbers.EgressPort.{EgressPort};
+ghost use Rattle.tree_topology.specs.Topology.{HasPort};
+ghost use Rattle.world_core.specs.World.{WorldState};
+ghost use Rattle.world_core.specs.Kept.{IsKeptWorld, AreBridgesIdle};
+ghost use Rattle.network_laws.specs.Vlans.{VlansMatch, IsAtRest, is_registered, is_declared_behind};
+
+use mrp_participant::link_laws::a_still_link_registers_what_is_declared;
+use mvrp::MvrpApp;
+use tree_topology::laws::{ports, the_walk};
+
+/// In every network at rest a VID is registered at a port exactly where a station behind the port, in the words of the
+/// tree's walks, has declared it (IEEE Std 802.1Q-2018, 11.2); so both sides that `vlans_match` answers are equal.
+pub fn vlans_are_those_declared_behind()
+    ensures law { (w : WorldState) → IsKeptWorld w → AreBridgesIdle w → IsAtRest w → VlansMatch w }
+    ensures sides { (w : WorldState) (p : EgressPort) (vid : ℕ) → IsKeptWorld w → AreBridgesIdle w → IsAtRest w → HasPort w.tree p
+        → is_registered w vid p ≡ is_declared_behind w vid p }
+{
+    a_still_link_registers_what_is_declared::<MvrpApp>();
+    ports();
+    the_walk();
+}

@@ -1,0 +1,17 @@
+//! The laws of a network at rest: what is registered and declared anywhere is what the tree and the stations say.
+//!
+//! ```text
+//!   duty on a link        where both ends are still, a VID is registered exactly where the neighbour declares it
+//!   settled at a node     a port declares it exactly where another port, or the application, has it registered
+//!   induction on a tree   so it is registered at a port exactly where a station behind the port has declared it
+//! ```
+//!
+//! A network is at rest where nothing is pending (`is_quiet`) and every port has sent a LeaveAll since the last loss on its
+//! link (`is_in_step`). `vlans_match` answers both sides of the law in every network, at rest or not, each by its own
+//! definition (`specs/Vlans.antt`); `laws` says that they are equal at rest.
+#![tactic(auto)]
+
+pub mod laws;
+mod vlans;
+
+pub use vlans::{Sides, vlans_match};

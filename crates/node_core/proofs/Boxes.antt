@@ -1,0 +1,107 @@
+-- One box of a node changes: the others stay, and all are short.
+use Rattle.std.proofs.Common.{◌≡◌, ◌≤◌, ◌^◌, sym, Bool, ℕ, zero, suc, ◌<◌, ◌++◌, List, [], ◌∷◌, length, map, take, drop, refl, ap, ◌∙◌, arith}
+use Rattle.std.specs.Prelude.{slice_set, slice_index_or}
+use Rattle.std.specs.List.{AllByRecursion, insert}
+use Rattle.mrp_participant.specs.Link.{repeated}
+use Rattle.std.proofs.lemmas.List.{length-map}
+use Rattle.std.proofs.Math.ListN.{length-set}
+use Rattle.srp_base.specs.declared.numbers.Cs.{Cs}
+use Rattle.srp_base.specs.declared.numbers.BridgeId.{BridgeId}
+use Rattle.srp_base.specs.declared.ports.PortSetup.{PortSetup}
+use Rattle.tree_topology.specs.declared.graph.NodeKind.{NodeKind}
+use Rattle.mrp_participant.specs.State.{new_state}
+use Rattle.mvrp.specs.Side.{Vlans, IsKept, new_vlans}
+use Rattle.node_core.specs.declared.types.Wire.{Wire}
+use Rattle.node_core.specs.Wires.{IsShort, AreShort, without}
+use Rattle.node_core.specs.State.{NodeState, box_at}
+use Rattle.node_core.specs.Links.{IsKeptNode}
+
+-- what stands at a place is set there twice, or is set to what it is
+pub set_set : {X : Type 0} (xs : List X) (i : ℕ) (x y : X) → slice_set (slice_set xs i x) i y ≡ slice_set xs i y
+set_set [] i x y = refl
+set_set (z ∷ xs) zero x y = refl
+set_set (z ∷ xs) (suc i) x y = ap (λ ys. z ∷ ys) (set_set xs i x y)
+
+pub set_same : (boxes : List (List Wire)) (i : ℕ) → slice_set boxes i (box_at i boxes) ≡ boxes
+set_same [] i = refl
+set_same (b ∷ boxes) zero = refl
+set_same (b ∷ boxes) (suc i) = ap (λ bs. b ∷ bs) (set_same boxes i)
+
+-- what holds of each element holds where one is set, and of each one that is read
+pub each_set : {X : Type 0} (P : X → Type 0) (xs : List X) (i : ℕ) (y : X) → P y → AllByRecursion P xs → AllByRecursion P (slice_set xs i y)
+each_set P [] i y h hs = tt
+each_set P (x ∷ xs) zero y h hs = (h, hs.1)
+each_set P (x ∷ xs) (suc i) y h hs = (hs.0, each_set P xs i y h hs.1)
+
+pub short_box : (boxes : List (List Wire)) (i : ℕ) → AllByRecursion AreShort boxes → AreShort (box_at i boxes)
+short_box [] i hs = tt
+short_box (b ∷ boxes) zero hs = hs.0
+short_box (b ∷ boxes) (suc i) hs = short_box boxes i hs.1
+
+pub short_append : (xs ys : List Wire) → AreShort xs → AreShort ys → AreShort (xs ++ ys)
+short_append [] ys h k = k
+short_append (x ∷ xs) ys h k = (h.0, short_append xs ys h.1 k)
+
+pub short_without : (i : ℕ) (xs : List Wire) → AreShort xs → AreShort (without i xs)
+short_without i [] h = nil i
+  where
+    nil : (j : ℕ) → AreShort (without j [])
+    nil zero = tt
+    nil (suc j) = tt
+short_without zero (x ∷ xs) h = h.1
+short_without (suc i) (x ∷ xs) h = (h.0, short_without i xs h.1)
+
+pub short_repeated : (i : ℕ) (xs : List Wire) → AreShort xs → AreShort (repeated i xs)
+short_repeated i [] h = nil i
+  where
+    nil : (j : ℕ) → AreShort (repeated j [])
+    nil j = tt
+short_repeated zero (x ∷ xs) h = (h.0, (h.0, h.1))
+short_repeated (suc i) (x ∷ xs) h = (h.0, short_repeated i xs h.1)
+
+-- a copy right before its original is one right behind it
+pub insert_repeated : (xs : List Wire) (i : ℕ) (d : Wire) → i < length xs → insert xs i (slice_index_or xs i d) ≡ repeated i xs
+insert_repeated [] i d h = absurd (omega arith)
+insert_repeated (x ∷ xs) zero d h = refl
+insert_repeated (x ∷ xs) (suc i) d h = let lt : i < length xs = omega arith in ap (λ ys. x ∷ ys) (insert_repeated xs i d lt)
+
+pub short_new : {X : Type 0} (xs : List X) → AllByRecursion AreShort (map (λ _. []) xs)
+short_new [] = tt
+short_new (x ∷ xs) = (tt, short_new xs)
+
+-- a copy of the PDU at a place is put in there
+pub repeated_of : (xs : List Wire) (i : ℕ) (x d : Wire) → i < length xs → x ≡ slice_index_or xs i d → insert xs i x ≡ repeated i xs
+repeated_of xs i x d h e = ap (λ y. insert xs i y) e ∙ insert_repeated xs i d h
+
+-- a new node keeps what every node keeps
+pub new_boxes_kept : (ports : List PortSetup) (kind : NodeKind) (bridge : BridgeId) (leave_time : Cs) (periodic : Bool)
+    (v : Vlans) (ins outs : List (List Wire))
+    → length ports ≤ 255 → IsKept v → v ≡ new_vlans leave_time periodic ports
+    → ins ≡ map (λ _. []) ports → outs ≡ map (λ _. []) ports
+    → IsKeptNode (record { kind = kind; bridge = bridge; clock = record { 0 = 0 }; vlans = v; inboxes = ins; outboxes = outs })
+new_boxes_kept ports kind bridge leave_time periodic v ins outs few kept is in_is out_is =
+    let none : PortSetup → List Wire = λ p. [] in
+    let parts : length v.parts ≡ length ports = ap (λ (w : Vlans). length w.parts) is ∙ length-map ports (λ (p : PortSetup). new_state p.period leave_time periodic) in
+    let boxes : length (map none ports) ≡ length ports = length-map ports none in
+    record {
+      vlans = kept;
+      inboxes = ap length in_is ∙ (boxes ∙ sym parts);
+      outboxes = ap length out_is ∙ (boxes ∙ sym parts);
+      few = omega arith;
+      short_in = rw in_is (short_new ports);
+      short_out = rw out_is (short_new ports);
+      clock = omega arith;
+    }
+
+-- a node with other short PDUs in an inbox keeps what it kept
+pub kept_inbox : (s : NodeState) (at : ℕ) (wires : List Wire) → IsKeptNode s → AreShort wires → IsKeptNode (record s { inboxes = slice_set s.inboxes at wires })
+kept_inbox s at wires kept short =
+    record {
+      vlans = kept.vlans;
+      inboxes = length-set s.inboxes at wires ∙ kept.inboxes;
+      outboxes = kept.outboxes;
+      few = kept.few;
+      short_in = each_set AreShort s.inboxes at wires short kept.short_in;
+      short_out = kept.short_out;
+      clock = kept.clock;
+    }

@@ -1,0 +1,5 @@
+pub mod Sizes
+pub mod Boxes
+pub mod Sending
+pub mod ProperSteps
+pub mod StepFacts

@@ -1,0 +1,5 @@
+pub mod Wires
+pub mod State
+pub mod Step
+pub mod Links
+pub mod Proper

@@ -1,0 +1,76 @@
+//! What a link port has to do in one tick.
+
+ghost use Rattle.std.specs.Prelude.{◌≡◌, ◌++◌, ◌∷◌, [], IfOk, if◌then◌else◌};
+ghost use Rattle.mvrp.specs.Side.{IsLinkPort, place_of};
+ghost use Rattle.node_core.specs.declared.types.PortStep.TheVariants.{Due, Settle, Send};
+ghost use Rattle.srp_base.specs.declared.mrp.App.TheVariants.{Mvrp};
+ghost use Rattle.node_core.specs.State.{ports_of, is_busy_node, works, job_list};
+
+use crate::node::{Node, all_empty};
+use crate::types::{PortStep, Wire};
+use srp_base::{App, NoMemory, PortNo, Seq};
+use std::alloc::{AllocError, Global};
+
+impl Node {
+    /// The steps of a link port in one tick. Where the node is busy, that is where a PDU came in at some port, a timer is
+    /// due or an attribute awaits: a Work for each PDU in the port's inbox, Due and Settle. At moments divisible by 20
+    /// (JoinTime; IEEE Std 802.1Q-2018, 10.7.11), of any node, a Send of each application follows.
+    pub fn jobs(&self, port: PortNo) -> Result<Seq<PortStep>, NoMemory>
+        requires { IsLinkPort port (ports_of self.now) }
+        ensures { IfOk result (λ steps. steps ≡ job_list (place_of port) self.now) }
+    {
+        let alloc = *self.inboxes.allocator();
+        let wires = self.inboxes[usize::from(port.0) - 1].as_slice();
+        let steps = steps_where(alloc, self.is_busy(), wires)?;
+        Ok(with_send(steps, self.clock.0 % 20 == 0)?)
+    }
+
+    /// Whether the node is busy: a PDU came in at some port, a timer is due there, or an attribute awaits.
+    pub fn is_busy(&self) -> bool
+        ensures { result ≡ is_busy_node self.now }
+    {
+        !all_empty(self.inboxes.as_slice()) || self.mvrp.is_busy(self.clock)
+    }
+}
+
+// Where the node is busy, a Work for each of these PDUs, Due and Settle.
+fn steps_where(alloc: Global, is_busy: bool, wires: &[Wire]) -> Result<Vec<PortStep>, AllocError>
+    ensures { IfOk result (λ v. v.items ≡ (if is_busy then works wires.now ++ (Due ∷ Settle ∷ []) else [])) }
+{
+    if is_busy {
+        busy_steps(alloc, wires)
+    } else {
+        Ok(Vec::new(alloc))
+    }
+}
+
+// A Work for each of these PDUs, Due and Settle.
+fn busy_steps(alloc: Global, wires: &[Wire]) -> Result<Vec<PortStep>, AllocError>
+    ensures { IfOk result (λ v. v.items ≡ works wires.now ++ (Due ∷ Settle ∷ [])) }
+{
+    // A list of steps needs a value of a key's type beside it, so that the check finds where that type stands.
+    let _ = PortStep::Due.key();
+    let mut steps = work_steps(alloc, wires)?;
+    steps.push(PortStep::Due)?;
+    steps.push(PortStep::Settle)?;
+    Ok(steps)
+}
+
+// A Work for each of these PDUs.
+fn work_steps(alloc: Global, wires: &[Wire]) -> Result<Vec<PortStep>, AllocError>
+    ensures { IfOk result (λ v. v.items ≡ works wires.now) }
+{
+    wires.iter().map(|_| PortStep::Work).collect(alloc)
+}
+
+// These steps, and at a moment of sending a Send of each application.
+fn with_send(steps: Vec<PortStep>, is_time: bool) -> Result<Seq<PortStep>, AllocError>
+    ensures { IfOk result (λ all. all ≡ steps.items ++ (if is_time then Send Mvrp ∷ [] else [])) }
+{
+    let _ = PortStep::Due.key();
+    let mut steps = steps;
+    if is_time {
+        steps.push(PortStep::Send(App::Mvrp))?;
+    }
+    Ok(Seq::from_vec(steps))
+}

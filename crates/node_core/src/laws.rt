@@ -1,0 +1,67 @@
+//! What every node keeps: laws over the states that contracts see. Each is a function that does nothing; calling it brings
+//! the law to a proof.
+
+ghost use Rattle.std.specs.Prelude.{◌≡◌, ◌≤◌, ℕ, Bool, List, [], length};
+ghost use Rattle.srp_base.specs.declared.numbers.Cs.{Cs};
+ghost use Rattle.srp_base.specs.declared.numbers.BridgeId.{BridgeId};
+ghost use Rattle.srp_base.specs.declared.mrp.App.{App};
+ghost use Rattle.srp_base.specs.declared.ports.PortSetup.{PortSetup};
+ghost use Rattle.tree_topology.specs.declared.graph.NodeKind.{NodeKind};
+ghost use Rattle.node_core.specs.declared.types.NodeEvent.{NodeEvent};
+ghost use Rattle.srp_base.specs.declared.numbers.PortNo.{PortNo};
+ghost use Rattle.node_core.specs.declared.types.AppRequest.{AppRequest};
+ghost use Rattle.node_core.specs.declared.types.PortStep.{PortStep};
+ghost use Rattle.node_core.specs.declared.types.Wire.{Wire};
+ghost use Rattle.node_core.specs.Wires.{AreShort};
+ghost use Rattle.node_core.specs.State.{NodeState, ports_of, new_node};
+ghost use Rattle.node_core.specs.Step.{CanStep, node_step};
+ghost use Rattle.node_core.specs.Links.{with_outbox, with_carried, lost_at, repeated_at, spoilt_at};
+ghost use Rattle.node_core.specs.Proper.{IsProperNode, NamesVids};
+
+use crate::types::NodeEvent;
+use mvrp::laws::{
+    a_new_side_is_proper, every_call_keeps_a_side_proper, settling_and_requests_keep_a_side_proper,
+    what_is_sent_is_read,
+};
+use mvrp_codec::what_is_read_has_vids;
+
+/// A new node keeps what every node keeps, of VIDs alone.
+pub fn a_new_node_is_proper()
+    ensures { (kind : NodeKind) (bridge : BridgeId) (leave_time : Cs) (periodic : Bool) (ports : List PortSetup)
+        → length ports ≤ 255 → IsProperNode (new_node kind bridge leave_time periodic ports) }
+{
+    a_new_side_is_proper();
+}
+
+/// Each step that may be made keeps it, where a request names a VID.
+pub fn every_step_keeps_a_node_proper()
+    ensures { (event : NodeEvent) (s : NodeState)
+        → CanStep event s → NamesVids event → IsProperNode s → IsProperNode (node_step event s).0 }
+{
+    every_call_keeps_a_side_proper();
+    settling_and_requests_keep_a_side_proper();
+    what_is_sent_is_read();
+    what_is_read_has_vids();
+}
+
+/// So does what happens to the PDUs that wait: an outbox is taken out, short PDUs come in, one is lost or there twice, and
+/// a participant is spoilt.
+pub fn links_keep_a_node_proper()
+    ensures taken { (at : ℕ) (s : NodeState) → IsProperNode s → IsProperNode (with_outbox at [] s) }
+    ensures carried { (at : ℕ) (wires : List Wire) (s : NodeState)
+        → AreShort wires → IsProperNode s → IsProperNode (with_carried at wires s) }
+    ensures lost { (at index : ℕ) (s : NodeState) → IsProperNode s → IsProperNode (lost_at at index s) }
+    ensures repeated { (at index : ℕ) (s : NodeState) → IsProperNode s → IsProperNode (repeated_at at index s) }
+    ensures spoilt { (app : App) (at : ℕ) (s : NodeState) → IsProperNode s → IsProperNode (spoilt_at app at s) }
+{
+    every_call_keeps_a_side_proper();
+}
+
+/// A step keeps what a node is, and how many link ports it has; and no step but the clock's moves the clock.
+pub fn steps_keep_what_a_node_is()
+    ensures kind { (event : NodeEvent) (s : NodeState) → (node_step event s).0.kind ≡ s.kind }
+    ensures ports { (event : NodeEvent) (s : NodeState) → ports_of (node_step event s).0 ≡ ports_of s }
+    ensures clock { (port : PortNo) (step : PortStep) (s : NodeState)
+        → (node_step (NodeEvent.Port port step) s).0.clock ≡ s.clock }
+    ensures asked { (request : AppRequest) (s : NodeState) → (node_step (NodeEvent.Request request) s).0.clock ≡ s.clock }
+{}

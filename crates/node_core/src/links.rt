@@ -1,0 +1,158 @@
+//! The PDUs that wait at a link port: what comes in, what goes out, what is lost, and what comes twice.
+
+ghost use Rattle.std.specs.Prelude.{◌≡◌, ◌<◌, ◌++◌, [], if◌then◌else◌, length, OnOk, OnErr, IfErr, IfOk};
+ghost use Rattle.mvrp.specs.Side.{IsKept, IsLinkPort, place_of, spoilt_vlans};
+ghost use Rattle.node_core.specs.State.{ports_of, box_at};
+ghost use Rattle.node_core.specs.Wires.{AreShort, without};
+ghost use Rattle.node_core.specs.Links.{with_outbox, with_carried, has_index, lost_at, repeated_at, spoilt_at};
+ghost use Rattle.mrp_participant.specs.Link.{repeated};
+
+use crate::node::{Node, copied_wire};
+use crate::types::Wire;
+use mvrp::MvrpSide;
+use srp_base::{App, NoMemory, PortNo, Seq};
+use std::alloc::Global;
+use std::mem;
+
+impl Node {
+    /// The PDUs of a port's outbox, which is empty afterwards. It takes no memory.
+    pub fn take_out(&mut self, port: PortNo) -> Seq<Wire>
+        requires { IsLinkPort port (ports_of self.old) }
+        ensures taken { result ≡ box_at (place_of port) self.old.outboxes }
+        ensures short { AreShort result }
+        ensures after { self.new ≡ with_outbox (place_of port) [] self.old }
+    {
+        let alloc = *self.inboxes.allocator();
+        let at = usize::from(port.0) - 1;
+        mem::replace(&mut self.outboxes[at], Seq::new(alloc))
+    }
+
+    /// Puts PDUs of at most 1,500 octets behind those of a port's inbox. After want of memory the node is as it was, and
+    /// the PDUs are handed back.
+    pub fn put_in(&mut self, port: PortNo, wires: Seq<Wire>) -> Result<(), (NoMemory, Seq<Wire>)>
+        requires port { IsLinkPort port (ports_of self.old) }
+        requires short { AreShort wires }
+        ensures ok { OnOk result (self.new ≡ with_carried (place_of port) wires self.old) }
+        ensures err { OnErr result (self.new ≡ self.old) }
+        ensures back { IfErr result (λ e. e.1 ≡ wires) }
+    {
+        let at = usize::from(port.0) - 1;
+        let alloc = *self.inboxes.allocator();
+        append(alloc, &mut self.inboxes[at], wires)
+    }
+
+    /// Makes these PDUs of at most 1,500 octets a port's outbox, which was empty. It takes no memory.
+    pub fn put_back(&mut self, port: PortNo, wires: Seq<Wire>)
+        requires port { IsLinkPort port (ports_of self.old) }
+        requires short { AreShort wires }
+        requires empty { box_at (place_of port) self.old.outboxes ≡ [] }
+        ensures { self.new ≡ with_outbox (place_of port) wires self.old }
+    {
+        let at = usize::from(port.0) - 1;
+        self.outboxes[at] = wires;
+    }
+
+    /// Loses the PDU with this index from a port's inbox, counted from 0. False exactly where no PDU has it; then nothing
+    /// changes.
+    pub fn lose(&mut self, port: PortNo, index: u32) -> bool
+        requires { IsLinkPort port (ports_of self.old) }
+        ensures done { result ≡ has_index (place_of port) index self.old }
+        ensures after { self.new ≡ (if result then lost_at (place_of port) index self.old else self.old) }
+    {
+        let at = usize::from(port.0) - 1;
+        if self.inboxes[at].len() <= index as usize {
+            return false;
+        }
+        let alloc = *self.inboxes.allocator();
+        remove(alloc, &mut self.inboxes[at], index as usize);
+        true
+    }
+
+    #[tactic(auto, using(crate::proofs::Boxes::kept_inbox))]
+    /// Puts a copy of the PDU with this index in a port's inbox right behind it. False exactly where no PDU has the index;
+    /// then nothing changes.
+    pub fn repeat(&mut self, port: PortNo, index: u32) -> Result<bool, NoMemory>
+        requires { IsLinkPort port (ports_of self.old) }
+        ensures done { IfOk result (λ done. done ≡ has_index (place_of port) index self.old) }
+        ensures after { IfOk result (λ done. self.new ≡ (if done then repeated_at (place_of port) index self.old else self.old)) }
+        ensures err { OnErr result (self.new ≡ self.old) }
+    {
+        let at = usize::from(port.0) - 1;
+        if self.inboxes[at].len() <= index as usize {
+            return Ok(false);
+        }
+        let alloc = *self.inboxes.allocator();
+        repeat_wire(alloc, &mut self.inboxes[at], index as usize)?;
+        Ok(true)
+    }
+
+    /// Ends the soundness of an application's participant at a port, as after a loss on its link. It takes no memory.
+    pub fn spoil(&mut self, port: PortNo, app: App)
+        requires { IsLinkPort port (ports_of self.old) }
+        ensures { self.new ≡ spoilt_at app (place_of port) self.old }
+    {
+        match app {
+            App::Mvrp => spoil_vlans(&mut self.mvrp, port),
+            App::Msrp => {}
+        }
+    }
+}
+
+// Puts PDUs behind those of an inbox.
+fn append(
+    alloc: Global,
+    inbox: &mut Seq<Wire>,
+    wires: Seq<Wire>,
+) -> Result<(), (NoMemory, Seq<Wire>)>
+    ensures ok { OnOk result (inbox.new ≡ inbox.old ++ wires) }
+    ensures err { OnErr result (inbox.new ≡ inbox.old) }
+    ensures back { IfErr result (λ e. e.1 ≡ wires) }
+{
+    let mut more = wires.into_vec();
+    let mut all = mem::replace(inbox, Seq::new(alloc)).into_vec();
+    let appended = all.append(&mut more);
+    *inbox = Seq::from_vec(all);
+    match appended {
+        Ok(()) => Ok(()),
+        Err(_) => Err((NoMemory, Seq::from_vec(more))),
+    }
+}
+
+// Takes the PDU of an index out of an inbox.
+pub(crate) fn remove(alloc: Global, inbox: &mut Seq<Wire>, index: usize)
+    requires { index < length inbox.old }
+    ensures { inbox.new ≡ without index inbox.old }
+{
+    let mut wires = mem::replace(inbox, Seq::new(alloc)).into_vec();
+    let _ = wires.remove(index);
+    *inbox = Seq::from_vec(wires);
+}
+
+// Puts a copy of the PDU of an index right behind it.
+#[tactic(auto, using(crate::proofs::Boxes::repeated_of, crate::proofs::Boxes::short_repeated))]
+fn repeat_wire(alloc: Global, inbox: &mut Seq<Wire>, index: usize) -> Result<(), NoMemory>
+    requires index { index < length inbox.old }
+    requires short { AreShort inbox.old }
+    ensures ok { OnOk result (inbox.new ≡ repeated index inbox.old) }
+    ensures err { OnErr result (inbox.new ≡ inbox.old) }
+    ensures short { AreShort inbox.new }
+{
+    let copy = copied_wire(alloc, &inbox.as_slice()[index])?;
+    let mut wires = mem::replace(inbox, Seq::new(alloc)).into_vec();
+    let inserted = wires.insert(index, copy);
+    *inbox = Seq::from_vec(wires);
+    inserted?;
+    Ok(())
+}
+
+// Ends the soundness of MVRP's participant at a port.
+#[tactic(auto, using(crate::proofs::Sizes::of_spoilt))]
+fn spoil_vlans(side: &mut MvrpSide, port: PortNo)
+    requires { IsLinkPort port (length side.old.parts) }
+    ensures after { side.new ≡ spoilt_vlans (place_of port) side.old }
+    ensures ports { length side.new.parts ≡ length side.old.parts }
+    ensures kept { IsKept side.new }
+{
+    side.spoil(port);
+    side.keeps();
+}

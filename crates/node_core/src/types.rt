@@ -1,0 +1,100 @@
+//! What happens at a node, and what it answers.
+
+use srp_base::{App, PortNo, Seq, Vid};
+
+/// A PDU on a link: the application that it belongs to, and its octets.
+#[derive(Debug, PartialEq, Eq, Drop)]
+pub struct Wire {
+    pub app: App,
+    pub octets: Seq<u8>,
+}
+
+/// What the application of a station asks for.
+#[derive(Clone, Copy, Debug, PartialEq, Eq)]
+pub enum AppRequest {
+    /// It declares a VID (IEEE Std 802.1Q-2018, 11.2.3.2).
+    Declare(Vid),
+    /// It withdraws a VID.
+    Withdraw(Vid),
+}
+
+/// An attribute of some application.
+#[derive(Clone, Copy, Debug, PartialEq, Eq)]
+pub enum NodeKey {
+    /// A VID, which MVRP registers.
+    Vlan(Vid),
+}
+
+/// One step of a link port.
+#[derive(Clone, Copy, Debug, PartialEq, Eq)]
+pub enum PortStep {
+    /// Takes the front PDU of the inbox.
+    Work,
+    /// Ends the leave timer of one attribute, whatever the moment.
+    LeaveNow(NodeKey),
+    /// Fires the LeaveAll timer of an application, whatever the moment.
+    LeaveAllNow(App),
+    /// Fires the periodic timer of an application, whatever the moment.
+    PeriodicNow(App),
+    /// Fires all timers that are due.
+    Due,
+    /// Settles what awaits at the port.
+    Settle,
+    /// Sends what an application has to say.
+    Send(App),
+}
+
+impl PortStep {
+    /// The attribute whose leave timer the step ends, if it is such a step.
+    pub fn key(self) -> Option<NodeKey> {
+        match self {
+            PortStep::LeaveNow(key) => Some(key),
+            PortStep::Work
+            | PortStep::LeaveAllNow(_)
+            | PortStep::PeriodicNow(_)
+            | PortStep::Due
+            | PortStep::Settle
+            | PortStep::Send(_) => None,
+        }
+    }
+}
+
+/// What happens at a node.
+#[derive(Clone, Copy, Debug, PartialEq, Eq)]
+pub enum NodeEvent {
+    /// The application of a station asks for something.
+    Request(AppRequest),
+    /// A link port makes a step.
+    Port(PortNo, PortStep),
+    /// The clock goes on by 1 cs.
+    Clock,
+}
+
+/// What a node answers. Each number is at most 4,294,967,295, and stands still there.
+#[derive(Clone, Copy, Debug, PartialEq, Eq)]
+pub enum StepReply {
+    /// The inbox was empty.
+    Nothing,
+    /// The front PDU was malformed at this offset; it was taken out.
+    Discarded(u32),
+    /// The front PDU had so many attribute events.
+    Received(u32),
+    /// So many timers fired.
+    Fired(u32),
+    /// So many attributes awaited.
+    Settled(u32),
+    /// There was nothing to say.
+    Silent,
+    /// A PDU of so many octets was sent.
+    Sent(u32),
+    /// The request was taken, or the clock went on.
+    Taken,
+}
+
+/// One step that a node made, with its answer.
+#[derive(Clone, Copy, Debug, PartialEq, Eq)]
+pub struct NodeStep {
+    pub port: PortNo,
+    pub step: PortStep,
+    pub reply: StepReply,
+}

@@ -1,0 +1,77 @@
+-- A stream whose booking isn't among what changed is booked as before, or not booked as before.
+use Rattle.std.proofs.Common.{◌≡◌, ℕ, ◌<◌, Bool, true, false, not, ◌&&◌, ◌||◌, ◌==◌, if◌then◌else◌, List, [], ◌∷◌, map, Option, Some, None, refl, sym, ◌∙◌, ap, subst, arith}
+use Rattle.std.specs.Prelude.{find, filter, is_some}
+use Rattle.std.specs.List.{AllByRecursion, list_any}
+use Rattle.std.proofs.lemmas.Bool.Decides.{nat_tests}
+use Rattle.srp_base.specs.declared.numbers.StreamId.{StreamId}
+use Rattle.stream_importance.specs.declared.entry.Entry.{Entry}
+use Rattle.port_ledger.specs.Decision.{is_booked, stream_of, IsAscending}
+use Rattle.port_ledger.specs.Book.{booked_only_in, entry_of, same_entry, since_of}
+use Rattle.port_ledger.proofs.PerStream.{same_entry-is}
+
+-- whether a stream is among streams
+abbrev pub is_among : StreamId → List StreamId → Bool
+is_among s streams = list_any (λ (x : StreamId). x.0 == s.0) streams
+
+or_false : (a b : Bool) → (a || b) ≡ false → (a ≡ false) × (b ≡ false)
+or_false true b h = cc
+or_false false b h = (refl, h)
+
+-- what holds of all holds of what is found
+all_found : (P : Entry → Type 0) (p : Entry → Bool) (xs : List Entry) (x : Entry) → AllByRecursion P xs → find p xs ≡ Some x → P x
+all_found P p [] x all h = cc
+all_found P p (y ∷ xs) x all h = by (p y) h (all_found P p xs x all.1)
+  where
+    by : (b : Bool) → (if b then Some y else find p xs) ≡ Some x → (find p xs ≡ Some x → P x) → P x
+    by true k rest = let same : y ≡ x = cc in subst P same all.0
+    by false k rest = rest k
+
+-- the entry that is one of some entries is the one of its stream
+found_in : (x : Entry) (those : List Entry) → IsAscending those → list_any (same_entry x) those ≡ true → entry_of those x.want.stream ≡ Some x
+found_in x [] up h = cc
+found_in x (y ∷ ys) up h = by (same_entry x y) refl h (found_in x ys up.1)
+  where
+    by : (b : Bool) → same_entry x y ≡ b → (b || list_any (same_entry x) ys) ≡ true → (list_any (same_entry x) ys ≡ true → entry_of ys x.want.stream ≡ Some x) → entry_of (y ∷ ys) x.want.stream ≡ Some x
+    by true e k rest =
+        let same : x ≡ y = same_entry-is x y e in
+        let own : (stream_of y == x.want.stream.0) ≡ true = subst (λ (z : Entry). (stream_of z == x.want.stream.0) ≡ true) same (grind (arith, nat_tests)) in
+        rw own (ap (λ z. Some z) (sym same))
+    by false e k rest =
+        let below : stream_of y < stream_of x = all_found (λ z. stream_of y < stream_of z) (λ z. stream_of z == x.want.stream.0) ys x up.0 (rest k) in
+        let other : (stream_of y == x.want.stream.0) ≡ false = grind (arith, nat_tests, below) in
+        rw other (rest k)
+
+-- a booked stream that isn't among those booked in these alone is booked in those
+still_booked : (these those : List Entry) (s : StreamId) → IsAscending those → is_among s (booked_only_in these those) ≡ false → is_some (since_of these s) ≡ true → is_some (since_of those s) ≡ true
+still_booked [] those s up out h = cc
+still_booked (x ∷ xs) those s up out h = by (stream_of x == s.0) refl (is_booked x) refl (list_any (same_entry x) those) refl out h (still_booked xs those s up)
+  where
+    by : (a : Bool) → (stream_of x == s.0) ≡ a → (b : Bool) → is_booked x ≡ b → (c : Bool) → list_any (same_entry x) those ≡ c
+        → is_among s (map (λ (y : Entry). y.want.stream) (if is_booked x && not (list_any (same_entry x) those) then x ∷ filter (λ y. is_booked y && not (list_any (same_entry y) those)) xs else filter (λ y. is_booked y && not (list_any (same_entry y) those)) xs)) ≡ false
+        → is_some (since_of (x ∷ xs) s) ≡ true
+        → (is_among s (booked_only_in xs those) ≡ false → is_some (since_of xs s) ≡ true → is_some (since_of those s) ≡ true) → is_some (since_of those s) ≡ true
+    by true e true f true g out h rest =
+        let same : s ≡ x.want.stream = let n : s.0 ≡ x.want.stream.0 = grind (arith, nat_tests, e) in ap (λ m. record { 0 = m }) n in
+        let there = found_in x those up g in
+        rw (same, there) f
+    by true e true f false g out h rest =
+        let now = rw (f, g) at out in
+        let parts = or_false (x.want.stream.0 == s.0) (is_among s (booked_only_in xs those)) now in
+        let yes : (x.want.stream.0 == s.0) ≡ true = e in
+        cc
+    by true e false f c g out h rest =
+        let now : is_some x.since ≡ true = rw e at h in
+        cc
+    by false e true f true g out h rest = rest (rw (f, g) at out) (rw e at h)
+    by false e true f false g out h rest = rest (or_false (x.want.stream.0 == s.0) (is_among s (booked_only_in xs those)) (rw (f, g) at out)).1 (rw e at h)
+    by false e false f c g out h rest = rest (rw f at out) (rw e at h)
+
+pub unmoved : (before after : List Entry) (s : StreamId) → IsAscending before → IsAscending after → is_among s (booked_only_in after before) ≡ false → is_among s (booked_only_in before after) ≡ false
+    → is_some (since_of after s) ≡ is_some (since_of before s)
+unmoved before after s up down one two = by (is_some (since_of after s)) refl (is_some (since_of before s)) refl
+  where
+    by : (a : Bool) → is_some (since_of after s) ≡ a → (b : Bool) → is_some (since_of before s) ≡ b → a ≡ b
+    by true e true f = refl
+    by false e false f = refl
+    by true e false f = let there = still_booked after before s up one e in cc
+    by false e true f = let there = still_booked before after s down two f in cc

@@ -1,0 +1,207 @@
+-- What every scenario keeps of its nodes, links and tree, from the rules that its table passed.
+use Rattle.std.proofs.Common.{◌≡◌, ◌≢◌, ℕ, suc, zero, ◌+◌, ◌-◌, ◌*◌, ◌^◌, ◌<◌, ◌≤◌, Bool, true, false, ◌&&◌, if◌then◌else◌, List, [], ◌∷◌, Option, Some, None, option_map, Result, Ok, Err, refl, sym, ap, subst, ◌∙◌, length, get_or, take, get_or-take, eqb, leb-true, ltb-true, ltb-false, IfSome, IfOk, arith}
+use Rattle.std.proofs.lemmas.Bool.{and_parts, false≢true}
+use Rattle.std.proofs.lemmas.Bool.Decides.{nat_tests}
+use Rattle.std.proofs.lemmas.List.{length-map, length-take-le}
+use Rattle.std.proofs.lemmas.List.Elements.{All-nil, All-cons, All-weaker, All-map}
+use Rattle.std.proofs.lemmas.List.Folds.{list_any_at}
+use Rattle.std.specs.Cmp.Lexicographic.{pointwise, bytes_decides}
+use Rattle.std.specs.List.{All, list_any}
+use Rattle.std.specs.Prelude.{AllPairs, ◌↔◌, nat_le, nat_lt, nat_eq, codes}
+use Rattle.srp_base.specs.declared.numbers.NodeNo.{NodeNo}
+use Rattle.srp_base.specs.Firsts.{first_where}
+use Rattle.srp_base.proofs.FirstLemmas.{where-some, where-none}
+use Rattle.toml.specs.Data.{Members}
+use Rattle.toml_rules.specs.declared.rules.RuleErr.{RuleErr}
+use Rattle.toml_rules.specs.Fields.{number, number_or, truth_or, tables, text, has_only}
+use Rattle.toml_rules.specs.Rules.{each_entry, first_fall}
+use Rattle.toml_rules.specs.Shares.{share_at, shares_at}
+use Rattle.tree_topology.specs.Topology.{Topology, IsSound}
+use Rattle.tree_topology.specs.declared.graph.Link.{Link}
+use Rattle.tree_topology.specs.declared.graph.TreeErr.{TreeErr}
+use Rattle.tree_topology.specs.Graph.{IsNode}
+use Rattle.tree_topology.specs.Ports.{neighbours}
+use Rattle.tree_topology.specs.Refusal.{refusal}
+use Rattle.topology_file.specs.declared.entries.NodeEntry.{NodeEntry}
+use Rattle.topology_file.specs.declared.entries.LinkEntry.{LinkEntry}
+use Rattle.topology_file.specs.Entries.{is_name, name_of_text, name_at, kind_at, id_at, node_keys, node_entry, is_station, has_name, node_no, node_named, station_named, link_keys, rate_at, latency_at, link_between, link_form}
+use Rattle.topology_file.specs.Kinds.{IsStationNumber}
+use Rattle.topology_file.specs.Scenario.{has_name_of, has_id_of, is_small, nodes_of, links_of, tree_links, node_kinds, topology_of, unless_refused, tree_of, is_crowded}
+use Rattle.topology_file.proofs.Chains.{and_then-if, map-if, when-if, either-if, some-says, within-range, chain-if, chain-needs, chain-holds, chain-none, ok-all, ok-says, each-all, each-map, each-count}
+
+-- no condition on an entry
+abbrev pub Any : {A : Type 0} → A → Type 0
+Any x = Unit {0}
+
+pub all-any : {A : Type 0} (xs : List A) → All (λ (x : A). Any x) xs
+all-any xs i d lt = tt
+
+-- ---- nodes
+
+pub name-form : (key : List ℕ) (ms : Members) → IfSome (name_at key ms) (λ name. is_name name ≡ true)
+name-form key ms =
+    and_then-if (λ name. is_name name ≡ true) name_of_text (text key ms) (λ word is.
+    when-if (λ name. is_name name ≡ true) (is_name word) (Some word) (λ e. e))
+
+node-form : (n : ℕ) (ms : Members) → IfSome (node_entry n ms) (λ x. is_name x.name ≡ true)
+node-form n ms =
+    let P : NodeEntry → Type 0 = λ x. is_name x.name ≡ true in
+    when-if P (has_only node_keys ms) _ (λ _.
+    and_then-if P _ (name_at (codes "name") ms) (λ name en.
+    and_then-if P _ (kind_at ms) (λ kind ek.
+    and_then-if P _ (id_at n ms) (λ id ei.
+    some-says (λ w. is_name w ≡ true) (name_at (codes "name") ms) name en (name-form (codes "name") ms)))))
+
+pub record NodesKeep (ticks : ℕ) (nodes : List NodeEntry) : Type 0 where
+  pub forms : All (λ x. is_name x.name ≡ true) nodes
+  pub small : is_small ticks nodes ≡ true
+  pub names : first_where has_name_of [] nodes ≡ None
+  pub ids : first_where has_id_of [] nodes ≡ None
+
+pub nodes-keep : (ticks : ℕ) (entries : List Members) → IfOk (nodes_of ticks entries) (NodesKeep ticks)
+nodes-keep ticks entries =
+    let P = NodesKeep ticks in
+    let F : NodeEntry → Type 0 = λ x. is_name x.name ≡ true in
+    chain-if P (All F) (each_entry 4 node_entry 1 entries) _ (each-all Any F 4 node_entry (λ n x _. node-form n x) 1 entries (all-any entries)) (λ nodes forms.
+    chain-holds P 5 (is_small ticks nodes) _ (λ small.
+    chain-none P 6 (first_where has_name_of [] nodes) _ (λ names.
+    chain-none P 7 (first_where has_id_of [] nodes) _ (λ ids. record { forms = forms; small = small; names = names; ids = ids }))))
+
+pub small-parts : (ticks : ℕ) (nodes : List NodeEntry) → is_small ticks nodes ≡ true
+    → (2 ≤ length nodes) × (length nodes ≤ 64) × (length nodes * ticks ≤ 400000)
+small-parts ticks nodes e =
+    let n = length nodes in
+    let p = and_parts (nat_le 2 n && nat_le n 64) (nat_le (n * ticks) 400000) e in
+    let q = and_parts (nat_le 2 n) (nat_le n 64) p.0 in
+    (leb-true 2 n q.0, leb-true n 64 q.1, leb-true (n * ticks) 400000 p.1)
+
+pub eqb-same : (a b : ℕ) → a ≡ b → eqb a b ≡ true
+eqb-same a b e = grind (arith, nat_tests)
+
+-- where no earlier element passes a test with an element, no two elements pass it
+pub pairs-none : {A : Type 0} (test : A → A → Bool) (xs : List A) → first_where (λ earlier x. list_any (λ y. test y x) earlier) [] xs ≡ None
+    → (i j : ℕ) (d : A) → i < j → j < length xs → test (get_or xs i d) (get_or xs j d) ≢ true
+pairs-none test xs e i j d lt inside t =
+    let x = get_or xs j d in
+    let none = where-none (λ earlier x. list_any (λ y. test y x) earlier) xs e j d inside in
+    let short : i < length (take j xs) = omega (arith, lt, length-take-le j xs (omega (arith, inside))) in
+    let at : get_or (take j xs) i d ≡ get_or xs i d = get_or-take j xs i d lt in
+    false≢true (sym none ∙ list_any_at (λ y. test y x) (take j xs) i d short (ap (λ y. test y x) at ∙ t))
+
+pub names-differ : (nodes : List NodeEntry) → first_where has_name_of [] nodes ≡ None → AllPairs (λ x y. x.name ≢ y.name) nodes
+names-differ nodes e i j d lt inside same =
+    pairs-none (λ (y x : NodeEntry). pointwise nat_eq y.name x.name) nodes e i j d lt inside ((bytes_decides (get_or nodes i d).name (get_or nodes j d).name).1 same)
+
+pub ids-differ : (nodes : List NodeEntry) → first_where has_id_of [] nodes ≡ None → AllPairs (λ x y. x.id.0 ≢ y.id.0) nodes
+ids-differ nodes e i j d lt inside same =
+    pairs-none (λ (y x : NodeEntry). eqb y.id.0 x.id.0) nodes e i j d lt inside (eqb-same (get_or nodes i d).id.0 (get_or nodes j d).id.0 same)
+
+-- ---- links
+
+shares-together : (ms : Members) → IfSome (shares_at ms) (λ s. s.0 + s.1 ≤ 90)
+shares-together ms =
+    let P : ℕ × ℕ → Type 0 = λ s. s.0 + s.1 ≤ 90 in
+    and_then-if P _ (share_at (codes "delta_a") 75 ms) (λ a ea.
+    and_then-if P _ (share_at (codes "delta_b") 0 ms) (λ b eb.
+    when-if P (nat_le (a + b) 90) (Some (a, b)) (λ e. leb-true (a + b) 90 e)))
+
+latency-range : (ms : Members) → IfSome (latency_at ms) (λ n. (0 ≤ n) × (n ≤ 4294967295))
+latency-range ms = within-range 0 4294967295 (number_or (codes "latency") 0 ms)
+
+-- the range of a link's numbers
+abbrev pub HasShares : LinkEntry → Type 0
+HasShares l = (l.delta_a + l.delta_b ≤ 90) × (l.latency < 2 ^ 32)
+
+-- the number of a name is a node of this name
+pub name-first : (test : NodeEntry → Bool) (nodes : List NodeEntry) (o : Option ℕ) → first_where (λ earlier x. test x) [] nodes ≡ o
+    → IfSome (option_map node_no o) (λ x. IsNode (length nodes) x.0 × ((d : NodeEntry) → test (get_or nodes (x.0 - 1) d) ≡ true))
+name-first test nodes None e = tt
+name-first test nodes (Some n) e =
+    let f = where-some (λ (earlier : List NodeEntry) (x : NodeEntry). test x) nodes n e in
+    let back : f.place ≡ n - 1 = omega (arith, f.number) in
+    ((omega (arith, f.number), omega (arith, f.number, f.inside)), (λ d. ap (λ (i : ℕ). test (get_or nodes i d)) (sym back) ∙ f.passes d))
+
+pub node-known : (name : List ℕ) (nodes : List NodeEntry) → IfSome (node_named nodes name) (λ x. IsNode (length nodes) x.0)
+node-known name nodes = first-part _ (name-first (has_name name) nodes (first_where (λ earlier x. has_name name x) [] nodes) refl)
+  where
+    first-part : (o : Option NodeNo) → IfSome o (λ x. IsNode (length nodes) x.0 × ((d : NodeEntry) → has_name name (get_or nodes (x.0 - 1) d) ≡ true)) → IfSome o (λ x. IsNode (length nodes) x.0)
+    first-part None h = tt
+    first-part (Some x) h = h.0
+
+pub station-known : (name : List ℕ) (nodes : List NodeEntry) → IfSome (station_named nodes name) (λ x. IsStationNumber nodes x.0)
+station-known name nodes = by _ (name-first (λ x. has_name name x && is_station x.kind) nodes (first_where (λ earlier x. has_name name x && is_station x.kind) [] nodes) refl)
+  where
+    by : (o : Option NodeNo) → IfSome o (λ x. IsNode (length nodes) x.0 × ((d : NodeEntry) → (has_name name (get_or nodes (x.0 - 1) d) && is_station (get_or nodes (x.0 - 1) d).kind) ≡ true)) → IfSome o (λ x. IsStationNumber nodes x.0)
+    by None h = tt
+    by (Some x) h = (h.0, (λ d. (and_parts (has_name name (get_or nodes (x.0 - 1) d)) (is_station (get_or nodes (x.0 - 1) d).kind) (h.1 d)).1))
+
+-- the facts of a link between nodes
+abbrev pub IsKnownLink : List NodeEntry → LinkEntry → Type 0
+IsKnownLink nodes l = HasShares l × IsNode (length nodes) l.a.0 × IsNode (length nodes) l.b.0
+
+link-between : (nodes : List NodeEntry) (from to : List ℕ) (rate : _) (shares : ℕ × ℕ) (latency : ℕ) → shares.0 + shares.1 ≤ 90 → latency < 2 ^ 32
+    → IfSome (link_between nodes from to rate shares latency) (IsKnownLink nodes)
+link-between nodes from to rate shares latency s l =
+    and_then-if (IsKnownLink nodes) _ (node_named nodes from) (λ a ea.
+    and_then-if (IsKnownLink nodes) _ (node_named nodes to) (λ b eb. (
+      (s, l),
+      some-says (λ x. IsNode (length nodes) x.0) (node_named nodes from) a ea (node-known from nodes),
+      some-says (λ x. IsNode (length nodes) x.0) (node_named nodes to) b eb (node-known to nodes),
+    )))
+
+link-form : (nodes : List NodeEntry) (n : ℕ) (ms : Members) → IfSome (link_form nodes n ms) (λ o. IfSome o (IsKnownLink nodes))
+link-form nodes n ms =
+    let P : Option LinkEntry → Type 0 = λ o. IfSome o (IsKnownLink nodes) in
+    when-if P (has_only link_keys ms) _ (λ _.
+    and_then-if P _ (name_at (codes "a") ms) (λ a ea.
+    and_then-if P _ (name_at (codes "b") ms) (λ b eb.
+    and_then-if P _ (rate_at ms) (λ rate er.
+    and_then-if P _ (shares_at ms) (λ shares es.
+    and_then-if P _ (latency_at ms) (λ latency el.
+    (let m = some-says (λ n. (0 ≤ n) × (n ≤ 4294967295)) (latency_at ms) latency el (latency-range ms) in
+    link-between nodes a b rate shares latency (some-says (λ s. s.0 + s.1 ≤ 90) (shares_at ms) shares es (shares-together ms)) (omega (arith, m.1)))))))))
+
+pub links-keep : (nodes : List NodeEntry) (entries : List Members) → IfOk (links_of nodes entries) (All (IsKnownLink nodes))
+links-keep nodes entries =
+    let P : List LinkEntry → Type 0 = λ ls. All (IsKnownLink nodes) ls in
+    let F : Option LinkEntry → Type 0 = λ o. IfSome o (IsKnownLink nodes) in
+    chain-if P (All F) (each_entry 8 (link_form nodes) 1 entries) _ (each-all Any F 8 (link_form nodes) (λ n x _. link-form nodes n x) 1 entries (all-any entries)) (λ forms known.
+    each-all F (IsKnownLink nodes) 9 (λ n form. form) (λ n form h. h) 1 forms known)
+
+-- the links that were read lead to nodes
+pub links-known : (nodes : List NodeEntry) (links : List LinkEntry) (entries : List Members) → links_of nodes entries ≡ Ok links
+    → All (λ l. IsNode (length nodes) l.a.0 × IsNode (length nodes) l.b.0) links
+links-known nodes links entries is =
+    let all = ok-says (All (IsKnownLink nodes)) (links_of nodes entries) links is (links-keep nodes entries) in
+    All-weaker (IsKnownLink nodes) (λ l. IsNode (length nodes) l.a.0 × IsNode (length nodes) l.b.0) (λ l h. (h.1, h.2)) links all
+
+-- ---- the tree
+
+-- what the tree's crate says of a tree that isn't refused
+abbrev pub AcceptedLaw : Type 0
+AcceptedLaw = (tree : Topology) → refusal tree.kinds tree.links ≡ None ↔ IsSound tree
+
+tree-passed : (tree : Topology) (o : Option TreeErr) → IfOk (unless_refused tree o) (λ t. (t ≡ tree) × (o ≡ None))
+tree-passed tree None = (refl, refl)
+tree-passed tree (Some e) = tt
+
+pub tree-keeps : (nodes : List NodeEntry) (links : List LinkEntry)
+    → IfOk (tree_of nodes links) (λ t. (t ≡ topology_of nodes links) × (refusal (node_kinds nodes) (tree_links links) ≡ None))
+tree-keeps nodes links = tree-passed (topology_of nodes links) (refusal (node_kinds nodes) (tree_links links))
+
+-- the number behind those before a node
+place-of : (nodes : List NodeEntry) (x : ℕ) → IsNode (length nodes) x → length (take (x - 1) nodes) + 1 ≡ x
+place-of nodes x k = let short : x - 1 ≤ length nodes = omega (arith, k.0, k.1) in omega (arith, length-take-le (x - 1) nodes short, k.0)
+
+a_node : (nodes : List NodeEntry) (i : ℕ) → i < length nodes → NodeEntry
+a_node [] i lt = absurd (omega (arith, lt))
+a_node (x ∷ nodes) i lt = x
+
+pub few-links : (nodes : List NodeEntry) (links : List Link) → first_where (is_crowded links) [] nodes ≡ None
+    → (x : ℕ) → IsNode (length nodes) x → length (neighbours links x) ≤ 16
+few-links nodes links e x k =
+    let i = x - 1 in
+    let inside : i < length nodes = omega (arith, k.0, k.1) in
+    let d = a_node nodes i inside in
+    let F : ℕ → Type 0 = λ t. length (neighbours links t) ≤ 16 in
+    subst F (place-of nodes x k) (ltb-false 16 (length (neighbours links (length (take i nodes) + 1))) (where-none (is_crowded links) nodes e i d inside))

@@ -1,0 +1,158 @@
+-- The network of a scenario keeps what every network keeps.
+use Rattle.std.proofs.Common.{◌≡◌, ℕ, zero, suc, ◌+◌, ◌-◌, ◌*◌, ◌<◌, ◌≤◌, Bool, true, false, if◌then◌else◌, List, [], ◌∷◌, ◌++◌, length, map, refl, sym, ap, subst, ◌∙◌, arith}
+use Rattle.std.specs.Prelude.{slice_get, Some, None, ◌==◌}
+use Rattle.std.specs.List.{cons_option}
+use Rattle.std.specs.Ordering.{nat_cmp}
+use Rattle.std.proofs.lemmas.Option.{slice_get_within}
+use Rattle.srp_base.specs.declared.numbers.Cs.{Cs}
+use Rattle.srp_base.specs.declared.numbers.EgressPort.{EgressPort}
+use Rattle.srp_base.specs.declared.numbers.BridgeId.{BridgeId}
+use Rattle.srp_base.specs.declared.ports.PortSetup.{PortSetup}
+use Rattle.tree_topology.specs.declared.graph.NodeKind.{NodeKind}
+use Rattle.tree_topology.specs.Topology.{Topology, HasPort, IsSound}
+use Rattle.tree_topology.specs.Ports.{peer_of, far_end, neighbours}
+use Rattle.tree_topology.specs.PortLaws.{HasPortLaws}
+use Rattle.topology_file.specs.declared.entries.NodeEntry.{NodeEntry}
+use Rattle.topology_file.specs.declared.entries.LinkEntry.{LinkEntry}
+use Rattle.topology_file.specs.Plan.{Plan}
+use Rattle.topology_file.specs.Scenario.{KeepsRules, tree_links, ends_of_entry}
+use Rattle.mrp_participant.specs.State.{new_state}
+use Rattle.mrp_participant.specs.Link.{AreDutiesMet, new_link}
+use Rattle.mvrp.specs.Part.{Part}
+use Rattle.mvrp.specs.Side.{place_of}
+use Rattle.node_core.specs.State.{NodeState, box_at, new_node}
+use Rattle.node_core.specs.Proper.{IsProperNode}
+use Rattle.world_core.specs.Start.{setup_of, end_setup, setups_from, nodes_from, world_of}
+use Rattle.world_core.specs.World.{inbox, outbox}
+use Rattle.world_core.specs.Duty.{vlan_part, AreVlanDutiesMet}
+use Rattle.world_core.specs.Kept.{FitsTree, IsKeptWorld}
+use Rattle.world_core.proofs.Nodes.{Base, node_there, part_is, inbox_is, outbox_is}
+use Rattle.world_core.proofs.Ends.{boxed, boxed_same}
+use Rattle.world_core.proofs.EventSteps.{whole}
+
+mapped_length : {X Y : Type 0} (f : X → Y) (xs : List X) → length (map f xs) ≡ length xs
+mapped_length f [] = refl
+mapped_length f (x ∷ xs) = ap suc (mapped_length f xs)
+
+-- a port for each link of the node
+one_end : (n x : ℕ) (l : LinkEntry) (rest : List PortSetup) (others : List ℕ) → length rest ≡ length others
+    → length (end_setup n x l ++ rest) ≡ length (cons_option (far_end x (ends_of_entry l)) others)
+one_end n x l rest others e = by (l.a.0 == x) (l.b.0 == x)
+  where
+    by : (a b : Bool)
+        → length ((if a then setup_of (2 * n - 1) l ∷ [] else if b then setup_of (2 * n) l ∷ [] else []) ++ rest)
+        ≡ length (cons_option (if a then Some l.b.0 else (if b then Some l.a.0 else None)) others)
+    by true b = ap suc e
+    by false true = ap suc e
+    by false false = e
+
+pub ports_length : (n x : ℕ) (links : List LinkEntry) → length (setups_from n x links) ≡ length (neighbours (tree_links links) x)
+ports_length n x [] = refl
+ports_length n x (l ∷ links) = one_end n x l (setups_from (n + 1) x links) (neighbours (tree_links links) x) (ports_length (n + 1) x links)
+
+-- the node at a place is a new one, of its entry
+pub record IsNewNode (plan : Plan) (entries : List NodeEntry) (first x : ℕ) (s : NodeState) : Type 0 where
+  pub entry : NodeEntry
+  pub at : slice_get (map (λ (n : NodeEntry). n.kind) entries) x ≡ Some entry.kind
+  pub number : ℕ
+  pub number_is : number ≡ first + x
+  pub is : s ≡ new_node entry.kind entry.id plan.leave_time plan.periodic (setups_from 1 number plan.links)
+
+pub new_at : (plan : Plan) (entries : List NodeEntry) (first x : ℕ) (s : NodeState) → slice_get (nodes_from plan first entries) x ≡ Some s → IsNewNode plan entries first x s
+new_at plan [] first x s get = cc
+new_at plan (n ∷ entries) first zero s get = record { entry = n; at = refl; number = first; number_is = omega arith; is = cc }
+new_at plan (n ∷ entries) first (suc x) s get =
+    let later = new_at plan entries (first + 1) x s get in
+    let place = later.number_is in
+    record { entry = later.entry; at = later.at; number = later.number; number_is = omega (arith, place); is = later.is }
+
+nodes_length : (plan : Plan) (first : ℕ) (entries : List NodeEntry) → length (nodes_from plan first entries) ≡ length (map (λ (n : NodeEntry). n.kind) entries)
+nodes_length plan first [] = refl
+nodes_length plan first (n ∷ entries) = ap suc (nodes_length plan (first + 1) entries)
+
+-- a new participant, with nothing in its boxes
+no_wires : (ports : List PortSetup) (at : ℕ) → box_at at (map (λ _. []) ports) ≡ []
+no_wires [] at = refl
+no_wires (p ∷ ports) zero = refl
+no_wires (p ∷ ports) (suc at) = no_wires ports at
+
+new_part : (leave_time : Cs) (periodic : Bool) (ports : List PortSetup) (at : ℕ) (x : Part) → slice_get (map (λ p. new_state p.period leave_time periodic) ports) at ≡ Some x
+    → (period : Cs) × (x ≡ new_state period leave_time periodic)
+new_part leave_time periodic [] at x get = cc
+new_part leave_time periodic (p ∷ ports) zero x get = (p.period, cc)
+new_part leave_time periodic (p ∷ ports) (suc at) x get = new_part leave_time periodic ports at x get
+
+module _ (plan : Plan) (rules : KeepsRules plan)
+    (laws : (tree : Topology) → IsSound tree → HasPortLaws tree)
+    (new_duties : (near far : Cs × Cs × Bool) → AreDutiesMet nat_cmp (new_link {K = ℕ} {C = Unit {0}} near far))
+    (proper : (kind : NodeKind) (bridge : BridgeId) (leave_time : Cs) (periodic : Bool) (ports : List PortSetup) → length ports ≤ 255 → IsProperNode (new_node kind bridge leave_time periodic ports)) where
+  sound : IsSound plan.tree
+  sound = subst IsSound (sym rules.tree) rules.accepted
+
+  fits : (x : ℕ) (s : NodeState) → IsNewNode plan plan.nodes 1 x s → x < length plan.nodes → FitsTree plan.tree x s
+  fits x s new below =
+      let setups : List PortSetup = setups_from 1 new.number plan.links in
+      let place : new.number ≡ x + 1 = (let is = new.number_is in omega (arith, is)) in
+      let count : length setups ≡ length (neighbours plan.tree.links (x + 1)) =
+      ports_length 1 new.number plan.links ∙ (ap (λ (k : ℕ). length (neighbours (tree_links plan.links) k)) place ∙ ap (λ (t : Topology). length (neighbours t.links (x + 1))) (sym rules.tree)) in
+      let few = rules.uncrowded (x + 1) (omega arith, omega (arith, below)) in
+      let same = ap (λ (t : Topology). length (neighbours t.links (x + 1))) rules.tree in
+      subst (FitsTree plan.tree x) (sym new.is)
+      (record {
+        kind = ap (λ (t : Topology). slice_get t.kinds x) rules.tree ∙ new.at;
+        ports = mapped_length _ setups ∙ count;
+        kept = proper new.entry.kind new.entry.id plan.leave_time plan.periodic setups (omega (arith, count, few, same));
+      })
+
+  base : Base (world_of plan)
+  base =
+      record {
+        tree = sound;
+        many = nodes_length plan 1 plan.nodes ∙ ap (λ (t : Topology). length t.kinds) (sym rules.tree);
+        nodes = λ x s get.
+            let inside = slice_get_within (nodes_from plan 1 plan.nodes) x s get in
+            let count = nodes_length plan 1 plan.nodes in
+            let kinds = mapped_length (λ (n : NodeEntry). n.kind) plan.nodes in
+            fits x s (new_at plan plan.nodes 1 x s get) (omega (arith, inside, count, kinds));
+        clock = λ x y s t gs gt. ap (λ (r : NodeState). r.clock) (new_at plan plan.nodes 1 x s gs).is ∙ ap (λ (r : NodeState). r.clock) (sym (new_at plan plan.nodes 1 y t gt).is);
+      }
+
+  -- what is at a port at the start
+  record AtStart (p : EgressPort) (x : Part) : Type 0 where
+    period : Cs
+    part : x ≡ new_state period plan.leave_time plan.periodic
+    in_none : inbox p (world_of plan) ≡ []
+    out_none : outbox p (world_of plan) ≡ []
+
+  at_start : (p : EgressPort) → HasPort plan.tree p → (x : Part) → vlan_part p (world_of plan) ≡ Some x → AtStart p x
+  at_start p has x get =
+      let there = node_there (world_of plan) base p has in
+      let s = there.0 in
+      let is = there.1 in
+      let new = new_at plan plan.nodes 1 (p.node.0 - 1) s is in
+      let setups : List PortSetup = setups_from 1 new.number plan.links in
+      let one = new_part plan.leave_time plan.periodic setups (place_of p.port) x
+      (ap (λ (r : NodeState). slice_get r.vlans.parts (place_of p.port)) (sym new.is) ∙ (sym (part_is p (world_of plan) s is) ∙ get)) in
+      record {
+        period = one.0;
+        part = one.1;
+        in_none = inbox_is p (world_of plan) s is ∙ (ap (λ (r : NodeState). box_at (place_of p.port) r.inboxes) new.is ∙ no_wires setups (place_of p.port));
+        out_none = outbox_is p (world_of plan) s is ∙ (ap (λ (r : NodeState). box_at (place_of p.port) r.outboxes) new.is ∙ no_wires setups (place_of p.port));
+      }
+
+  duties : AreVlanDutiesMet (world_of plan)
+  duties p has near far a b =
+      let w = world_of plan in
+      let q = peer_of plan.tree.links p in
+      let ports = laws plan.tree sound in
+      let here = at_start p has near a in
+      let there = at_start q (ports.peer_port p has) far b in
+      let back : inbox (peer_of plan.tree.links q) w ≡ [] = ap (λ (r : EgressPort). inbox r w) (ports.peer_twice p has) ∙ here.in_none in
+      subst (AreDutiesMet nat_cmp)
+      (sym (boxed_same near far (inbox q w) [] (outbox p w) [] (inbox (peer_of plan.tree.links q) w) [] (outbox q w) [] there.in_none here.out_none back there.out_none))
+      (subst (λ (x : Part). AreDutiesMet nat_cmp (boxed x far [] [] [] [])) (sym here.part)
+      (subst (λ (z : Part). AreDutiesMet nat_cmp (boxed (new_state here.period plan.leave_time plan.periodic) z [] [] [] [])) (sym there.part)
+      (new_duties (here.period, plan.leave_time, plan.periodic) (there.period, plan.leave_time, plan.periodic))))
+
+  pub begins : IsKeptWorld (world_of plan)
+  begins = whole (world_of plan) base duties

@@ -1,0 +1,180 @@
+-- One of a list of nodes becomes another: the list then, and where ports stand in it.
+use Rattle.std.proofs.Common.{◌≡◌, ℕ, zero, suc, ◌-◌, ◌∷◌, Bool, true, false, List, [], length, refl, sym, ap, subst, ◌∙◌, arith}
+use Rattle.std.specs.Prelude.{◌<◌, ◌≤◌, nat_lt, slice_get, slice_set, Option, Some, None, option_map, Result, Ok, Err, OnOk, OnErr, if◌then◌else◌}
+use Rattle.std.proofs.lemmas.Option.{slice_get_within, slice_get_read}
+use Rattle.std.proofs.lemmas.Bool.{lt-ltb}
+use Rattle.std.specs.Option.{option_map_or}
+use Rattle.std.proofs.Math.ListN.{length-set, get_or}
+use Rattle.srp_base.specs.declared.numbers.NodeNo.{NodeNo}
+use Rattle.srp_base.specs.declared.numbers.EgressPort.{EgressPort}
+use Rattle.srp_base.specs.declared.mrp.App.{App}
+use Rattle.srp_base.specs.declared.mrp.App.TheVariants.{Mvrp, Msrp}
+use Rattle.mvrp.specs.Part.{Part}
+use Rattle.tree_topology.specs.Topology.{Topology}
+use Rattle.tree_topology.specs.Ports.{peer_of}
+use Rattle.mvrp.specs.Side.{IsLinkPort, place_of, replaced, with_part}
+use Rattle.node_core.specs.declared.types.Wire.{Wire}
+use Rattle.node_core.specs.State.{NodeState, box_at, ports_of}
+use Rattle.node_core.proofs.Boxes.{set_set, set_same}
+use Rattle.node_core.specs.Links.{with_outbox, with_carried, has_index, lost_at, repeated_at, spoilt_at}
+use Rattle.world_core.specs.World.{WorldState, StandsAt, changed, with_changed, inbox, outbox, app_of, spoilt, carried}
+use Rattle.world_core.proofs.Lists.{set_each, get_set, get_set_same}
+
+-- ---- the node that was read at a port's place
+
+pub get_there : (p : EgressPort) (nodes : List NodeState) (i : ℕ) (s : NodeState) → StandsAt p nodes → i ≡ p.node.0 - 1 → s ≡ get_or nodes i s
+    → slice_get nodes (p.node.0 - 1) ≡ Some s
+get_there p nodes i s stands at value =
+    let some = stands.some in
+    let few = stands.few in
+    subst (λ (k : ℕ). slice_get nodes k ≡ Some s) at (slice_get_read nodes (length nodes) i s refl (omega (arith, at, some, few)) value)
+
+-- has the port
+pub port_there : (p : EgressPort) (nodes : List NodeState) (i : ℕ) (s : NodeState) → StandsAt p nodes → i ≡ p.node.0 - 1 → s ≡ get_or nodes i s
+    → IsLinkPort p.port (ports_of s)
+port_there p nodes i s stands at value = stands.port s (get_there p nodes i s stands at value)
+
+-- the list with another node at the place is the one where the node has changed
+pub changed_here : (p : EgressPort) (change : NodeState → NodeState) (nodes : List NodeState) (i : ℕ) (s : NodeState) → StandsAt p nodes → i ≡ p.node.0 - 1
+    → s ≡ get_or nodes i s → slice_set nodes i (change s) ≡ changed p.node change nodes
+changed_here p change nodes i s stands at value =
+    ap (λ (k : ℕ). slice_set nodes k (change s)) at
+    ∙ sym (ap (λ o. option_map_or (λ s. slice_set nodes (p.node.0 - 1) (change s)) o nodes) (get_there p nodes i s stands at value))
+
+-- where it keeps its ports, each port stands as before
+pub stands_still : (p : EgressPort) (nodes : List NodeState) (i : ℕ) (s t : NodeState) → StandsAt p nodes → i ≡ p.node.0 - 1 → s ≡ get_or nodes i s
+    → ports_of t ≡ ports_of s → (q : EgressPort) → StandsAt q nodes → StandsAt q (slice_set nodes i t)
+stands_still p nodes i s t stands at value ports q others =
+    let is : slice_get nodes i ≡ Some s = subst (λ (k : ℕ). slice_get nodes k ≡ Some s) (sym at) (get_there p nodes i s stands at value) in
+    record {
+      some = others.some;
+      few = subst (λ (k : ℕ). q.node.0 ≤ k) (sym (length-set nodes i t)) others.few;
+      port = λ u get. set_each (λ x u. (x ≡ q.node.0 - 1) → IsLinkPort q.port (ports_of u)) nodes i t
+          (λ e. subst (IsLinkPort q.port) (sym ports) (others.port s (subst (λ (k : ℕ). slice_get nodes k ≡ Some s) e is)))
+          (λ x u got e. others.port u (subst (λ (k : ℕ). slice_get nodes k ≡ Some u) e got)) (q.node.0 - 1) u get refl;
+    }
+
+-- spoiling keeps the ports
+pub ports_spoilt : (app : App) (at : ℕ) (s : NodeState) → ports_of (spoilt_at app at s) ≡ ports_of s
+ports_spoilt Mvrp at s = by (slice_get s.vlans.parts at)
+  where
+    by : (o : Option Part) → length (with_part o (λ p. replaced at (record p { sound = false }) s.vlans) s.vlans).parts ≡ length s.vlans.parts
+    by None = refl
+    by (Some p) = length-set s.vlans.parts at (record p { sound = false })
+ports_spoilt Msrp at s = refl
+
+-- a network with the list is the network where the node has changed
+pub changed_is : (n : NodeNo) (change : NodeState → NodeState) (w : WorldState) → with_changed n change w ≡ record w { nodes = changed n change w.nodes }
+changed_is n change w = by (slice_get w.nodes (n.0 - 1))
+  where
+    by : (o : Option NodeState) → option_map_or (λ s. record w { nodes = slice_set w.nodes (n.0 - 1) (change s) }) o w
+        ≡ record w { nodes = option_map_or (λ s. slice_set w.nodes (n.0 - 1) (change s)) o w.nodes }
+    by None = refl
+    by (Some s) = refl
+
+-- ---- the PDU of an index
+
+app_in : EgressPort → ℕ → Option NodeState → Option App
+app_in p index o = option_map (λ wire. wire.app) (slice_get (option_map_or (λ s. box_at (place_of p.port) s.inboxes) o []) index)
+
+pub app_is : (p : EgressPort) (index : ℕ) (tree : Topology) (nodes : List NodeState) (s : NodeState) → slice_get nodes (p.node.0 - 1) ≡ Some s
+    → option_map (λ wire. wire.app) (slice_get (box_at (place_of p.port) s.inboxes) index) ≡ app_of p index (record { tree = tree; nodes = nodes })
+unfolding app_in
+app_is p index tree nodes s is = sym (ap (app_in p index) is)
+
+some_within : (wires : List Wire) (index : ℕ) (app : App) → option_map (λ wire. wire.app) (slice_get wires index) ≡ Some app → index < length wires
+some_within wires index app e = by (slice_get wires index) refl e
+  where
+    by : (o : Option Wire) → slice_get wires index ≡ o → option_map (λ wire. wire.app) o ≡ Some app → index < length wires
+    by None is e = absurd (let none : None ≡ Some app = e in cc)
+    by (Some wire) is e = slice_get_within wires index wire is
+
+pub index_there : (p : EgressPort) (index : ℕ) (tree : Topology) (nodes : List NodeState) (app : App)
+    → app_of p index (record { tree = tree; nodes = nodes }) ≡ Some app
+    → (s : NodeState) → slice_get nodes (p.node.0 - 1) ≡ Some s → index < length (box_at (place_of p.port) s.inboxes)
+index_there p index tree nodes app e s is = some_within (box_at (place_of p.port) s.inboxes) index app (app_is p index tree nodes s is ∙ e)
+
+-- where there is a PDU of the index, what was done to it was done
+pub done_there : (s t : NodeState) (at index : ℕ) (change : NodeState → NodeState) (done : Bool) → index < length (box_at at s.inboxes)
+    → done ≡ has_index at index s → t ≡ (if done then change s else s) → t ≡ change s
+done_there s t at index change done less is e = e ∙ ap (λ (b : Bool). if b then change s else s) (is ∙ lt-ltb index (length (box_at at s.inboxes)) less)
+
+-- ---- what is done to lists of nodes is done to the network
+
+of_tree : Topology → List NodeState → WorldState
+of_tree tree nodes = record { tree = tree; nodes = nodes }
+
+-- a port's PDU is lost, and both ends of its link are spoilt
+pub lose_is : (p q : EgressPort) (index : ℕ) (app : App) (tree : Topology) (nodes a b c : List NodeState) → q ≡ peer_of tree.links p
+    → a ≡ changed p.node (lost_at (place_of p.port) index) nodes → b ≡ changed p.node (spoilt_at app (place_of p.port)) a
+    → c ≡ changed q.node (spoilt_at app (place_of q.port)) b
+    → spoilt app p (with_changed p.node (lost_at (place_of p.port) index) (record { tree = tree; nodes = nodes })) ≡ record { tree = tree; nodes = c }
+unfolding of_tree
+lose_is p q index app tree nodes a b c eq ea eb ec =
+    let r = peer_of tree.links p in
+    ap (spoilt app p) (changed_is p.node (lost_at (place_of p.port) index) (of_tree tree nodes) ∙ ap (of_tree tree) (sym ea))
+    ∙ (ap (with_changed r.node (spoilt_at app (place_of r.port))) (changed_is p.node (spoilt_at app (place_of p.port)) (of_tree tree a) ∙ ap (of_tree tree) (sym eb))
+    ∙ (changed_is r.node (spoilt_at app (place_of r.port)) (of_tree tree b)
+    ∙ ap (of_tree tree) (ap (λ (q : EgressPort). changed q.node (spoilt_at app (place_of q.port)) b) (sym eq) ∙ sym ec)))
+
+-- the PDUs of a port's outbox come in at its peer
+pub carry_is : (p q : EgressPort) (tree : Topology) (nodes a b : List NodeState) (wires : List Wire) → q ≡ peer_of tree.links p
+    → wires ≡ outbox p (record { tree = tree; nodes = nodes })
+    → a ≡ changed p.node (with_outbox (place_of p.port) []) nodes → b ≡ changed q.node (with_carried (place_of q.port) wires) a
+    → carried p (record { tree = tree; nodes = nodes }) ≡ record { tree = tree; nodes = b }
+unfolding of_tree
+carry_is p q tree nodes a b wires eq ew ea eb =
+    let r = peer_of tree.links p in
+    ap (with_changed r.node (with_carried (place_of r.port) (outbox p (of_tree tree nodes)))) (changed_is p.node (with_outbox (place_of p.port) []) (of_tree tree nodes) ∙ ap (of_tree tree) (sym ea))
+    ∙ (changed_is r.node (with_carried (place_of r.port) (outbox p (of_tree tree nodes))) (of_tree tree a)
+    ∙ ap (of_tree tree) (ap (λ (ws : List Wire). changed r.node (with_carried (place_of r.port) ws) a) (sym ew)
+    ∙ (ap (λ (q : EgressPort). changed q.node (with_carried (place_of q.port) wires) a) (sym eq) ∙ sym eb)))
+
+-- what stands at a place is set to what it is
+set_back : (nodes : List NodeState) (i : ℕ) (s : NodeState) → slice_get nodes i ≡ Some s → slice_set nodes i s ≡ nodes
+set_back [] i s is = refl
+set_back (t ∷ nodes) zero s is = let e : t ≡ s = cc in ap (λ x. x ∷ nodes) (sym e)
+set_back (t ∷ nodes) (suc i) s is = ap (λ xs. t ∷ xs) (set_back nodes i s is)
+
+-- a box that is emptied is empty
+emptied : (boxes : List (List Wire)) (i : ℕ) → box_at i (slice_set boxes i []) ≡ []
+emptied [] i = refl
+emptied (b ∷ boxes) zero = refl
+emptied (b ∷ boxes) (suc i) = emptied boxes i
+
+-- an outbox that was taken out is put back
+pub put_back_is : (p : EgressPort) (nodes a b : List NodeState) (wires : List Wire)
+    → wires ≡ option_map_or (λ s. box_at (place_of p.port) s.outboxes) (slice_get nodes (p.node.0 - 1)) []
+    → a ≡ changed p.node (with_outbox (place_of p.port) []) nodes → b ≡ changed p.node (with_outbox (place_of p.port) wires) a → b ≡ nodes
+put_back_is p nodes a b wires ew ea eb = eb ∙ (ap (changed p.node (with_outbox (place_of p.port) wires)) ea ∙ by (slice_get nodes (p.node.0 - 1)) refl ew)
+  where
+    by : (o : Option NodeState) → slice_get nodes (p.node.0 - 1) ≡ o → wires ≡ option_map_or (λ s. box_at (place_of p.port) s.outboxes) o []
+        → changed p.node (with_outbox (place_of p.port) wires) (option_map_or (λ s. slice_set nodes (p.node.0 - 1) (with_outbox (place_of p.port) [] s)) o nodes) ≡ nodes
+    by None is ew = ap (λ o. option_map_or (λ s. slice_set nodes (p.node.0 - 1) (with_outbox (place_of p.port) wires s)) o nodes) is
+    by (Some s) is ew =
+        let i = p.node.0 - 1 in
+        let k = place_of p.port in
+        let empty = with_outbox k [] s in
+        ap (λ o. option_map_or (λ s. slice_set (slice_set nodes i empty) i (with_outbox k wires s)) o (slice_set nodes i empty)) (get_set nodes i s empty is)
+        ∙ (set_set nodes i empty (with_outbox k wires empty)
+        ∙ (ap (λ boxes. slice_set nodes i (record s { outboxes = boxes })) (set_set s.outboxes k [] wires ∙ (ap (slice_set s.outboxes k) ew ∙ set_same s.outboxes k))
+        ∙ set_back nodes i s is))
+
+-- a port whose outbox was taken out has none
+pub empty_there : (p : EgressPort) (nodes a : List NodeState) → a ≡ changed p.node (with_outbox (place_of p.port) []) nodes
+    → (s : NodeState) → slice_get a (p.node.0 - 1) ≡ Some s → box_at (place_of p.port) s.outboxes ≡ []
+empty_there p nodes a ea s is = by (slice_get nodes (p.node.0 - 1)) refl (ap (λ xs. slice_get xs (p.node.0 - 1)) (sym ea) ∙ is)
+  where
+    by : (o : Option NodeState) → slice_get nodes (p.node.0 - 1) ≡ o
+        → slice_get (option_map_or (λ s. slice_set nodes (p.node.0 - 1) (with_outbox (place_of p.port) [] s)) o nodes) (p.node.0 - 1) ≡ Some s
+        → box_at (place_of p.port) s.outboxes ≡ []
+    by None is e = absurd (let none : None ≡ Some s = sym is ∙ e in cc)
+    by (Some t) is e =
+        ap (λ (s : NodeState). box_at (place_of p.port) s.outboxes) (sym (get_set_same nodes (p.node.0 - 1) (with_outbox (place_of p.port) [] t) s e))
+        ∙ emptied t.outboxes (place_of p.port)
+
+-- ---- what holds of a list's becoming another holds where it is so
+
+pub on_ok : {A E P Q : Type 0} (r : Result A E) → (P → Q) → OnOk r P → OnOk r Q
+on_ok (Ok a) f h = f h
+on_ok (Err e) f h = h

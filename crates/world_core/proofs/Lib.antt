@@ -1,0 +1,12 @@
+mod Lists
+mod Nodes
+mod Ends
+mod StepDuties
+mod EventSteps
+mod Beginnings
+mod Starting
+mod Runs
+mod EventLists
+mod Idle
+mod Happenings
+mod Standing

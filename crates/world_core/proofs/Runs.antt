@@ -1,0 +1,359 @@
+-- Each event of a legal run may happen in its turn.
+use Rattle.std.proofs.Common.{◌≡◌, ◌⊎◌, inl, inr, ℕ, zero, suc, ◌+◌, ◌-◌, ◌<◌, ◌≤◌, ◌^◌, Bool, true, false, ◌&&◌, ◌||◌, List, [], ◌∷◌, ◌++◌, length, map, take, get_or, refl, sym, ap, subst, ◌∙◌, arith}
+use Rattle.std.specs.Prelude.{slice_get, slice_set, Option, Some, None, IfSome, All, ◌==◌}
+use Rattle.std.specs.Option.{option_map_or}
+use Rattle.std.specs.List.{AllByRecursion, flat_map, list_any}
+use Rattle.std.proofs.lemmas.Bool.Decides.{nat_tests}
+use Rattle.std.proofs.lemmas.Option.{slice_get_within}
+use Rattle.srp_base.specs.declared.numbers.NodeNo.{NodeNo}
+use Rattle.srp_base.specs.declared.numbers.PortNo.{PortNo}
+use Rattle.srp_base.specs.declared.numbers.EgressPort.{EgressPort}
+use Rattle.srp_base.specs.declared.mrp.App.{App}
+use Rattle.srp_base.specs.declared.mrp.App.TheVariants.{Mvrp, Msrp}
+use Rattle.tree_topology.specs.declared.graph.Link.{Link}
+use Rattle.tree_topology.specs.declared.graph.NodeKind.{NodeKind}
+use Rattle.tree_topology.specs.declared.graph.NodeKind.TheVariants.{Station, Bridge}
+use Rattle.tree_topology.specs.Graph.{Joins, Joined}
+use Rattle.tree_topology.specs.Topology.{Topology, HasPort, IsSound}
+use Rattle.tree_topology.specs.Ports.{port_to, peer_of}
+use Rattle.tree_topology.specs.PortLaws.{HasPortLaws}
+use Rattle.topology_file.specs.declared.entries.NodeEntry.{NodeEntry}
+use Rattle.topology_file.specs.declared.entries.LinkEntry.{LinkEntry}
+use Rattle.topology_file.specs.declared.entries.EventEntry.{EventEntry}
+use Rattle.topology_file.specs.declared.entries.EventKind.{EventKind}
+use Rattle.topology_file.specs.declared.entries.EventKind.TheVariants as kinds
+use Rattle.topology_file.specs.Entries.{is_station, joins_both}
+use Rattle.topology_file.specs.Plan.{Plan}
+use Rattle.topology_file.specs.Scenario.{KeepsRules, node_kinds, tree_links}
+use Rattle.topology_file.specs.Kinds.{IsKnownKind}
+use Rattle.mvrp.specs.Side.{place_of}
+use Rattle.node_core.specs.declared.types.AppRequest.{AppRequest}
+use Rattle.node_core.specs.declared.types.NodeEvent.TheVariants as node_events
+use Rattle.node_core.specs.declared.types.NodeStep.{NodeStep}
+use Rattle.node_core.specs.declared.types.PortStep.{PortStep}
+use Rattle.node_core.specs.State.{NodeState}
+use Rattle.node_core.specs.Step.{node_step}
+use Rattle.node_core.specs.Links.{with_outbox, with_carried, lost_at, repeated_at, spoilt_at}
+use Rattle.node_core.specs.Proper.{AsksVids}
+use Rattle.world_core.specs.declared.events.WorldEvent.{WorldEvent}
+use Rattle.world_core.specs.declared.events.WorldEvent.TheVariants.{Request, Port, Lose, Repeat, Carry, Clock}
+use Rattle.world_core.specs.declared.journal.NodeSteps.{NodeSteps}
+use Rattle.world_core.specs.declared.journal.Tick.{Tick}
+use Rattle.world_core.specs.World.{WorldState, node_at, with_changed, outbox, app_of, spoilt, lost, repeated, carried, world_step, world_after, CanHappen, CanAllHappen, NamesVids}
+use Rattle.world_core.specs.Start.{world_of}
+use Rattle.world_core.specs.Ticks.{event_of, with_event, scripted_from, scripted, step_events, link_ports, tick_events, IsLegalTick, LeadTo}
+use Rattle.world_core.specs.Moments.{events_from}
+use Rattle.world_core.specs.Kept.{IsKeptWorld}
+use Rattle.world_core.proofs.Lists.{one_some, set_each, within}
+use Rattle.world_core.proofs.EventSteps.{stepped_is, ticked_get}
+
+-- ---- what stays at each event but the clock's: the tree, and every clock
+
+pub record IsSteady (w v : WorldState) : Type 0 where
+  pub tree : v.tree ≡ w.tree
+  pub clock : (c : ℕ) → ((x : ℕ) (s : NodeState) → slice_get w.nodes x ≡ Some s → s.clock.0 ≡ c) → (x : ℕ) (s : NodeState) → slice_get v.nodes x ≡ Some s → s.clock.0 ≡ c
+
+steady_same : (w : WorldState) → IsSteady w w
+steady_same w = record { tree = refl; clock = λ c h. h }
+
+steady_then : (u v w : WorldState) → IsSteady u v → IsSteady v w → IsSteady u w
+steady_then u v w a b = record { tree = b.tree ∙ a.tree; clock = λ c h. b.clock c (a.clock c h) }
+
+steady_changed : (n : NodeNo) (change : NodeState → NodeState) (w : WorldState) → ((s : NodeState) → (change s).clock ≡ s.clock) → IsSteady w (with_changed n change w)
+steady_changed n change w same = by (node_at n w) refl
+  where
+    by : (o : Option NodeState) → node_at n w ≡ o → IsSteady w (option_map_or (λ s. record w { nodes = slice_set w.nodes (n.0 - 1) (change s) }) o w)
+    by None is = record { tree = refl; clock = λ c h. h }
+    by (Some s) is =
+        record {
+          tree = refl;
+          clock = λ c h. set_each (λ x t. t.clock.0 ≡ c) w.nodes (n.0 - 1) (change s) (ap (λ (k : Rattle.srp_base.specs.declared.numbers.Cs.Cs). k.0) (same s) ∙ h (n.0 - 1) s is) h;
+        }
+
+spoilt_clock : (app : App) (at : ℕ) (s : NodeState) → (spoilt_at app at s).clock ≡ s.clock
+spoilt_clock Mvrp at s = refl
+spoilt_clock Msrp at s = refl
+
+steady_spoilt : (app : App) (p : EgressPort) (w : WorldState) → IsSteady w (spoilt app p w)
+steady_spoilt app p w =
+    let q = peer_of w.tree.links p in
+    let v = with_changed p.node (spoilt_at app (place_of p.port)) w in
+    steady_then w v (with_changed q.node (spoilt_at app (place_of q.port)) v)
+    (steady_changed p.node (spoilt_at app (place_of p.port)) w (spoilt_clock app (place_of p.port)))
+    (steady_changed q.node (spoilt_at app (place_of q.port)) v (spoilt_clock app (place_of q.port)))
+
+steady_lost : (p : EgressPort) (index : ℕ) (o : Option App) (w : WorldState) → IsSteady w (lost p index o w).0
+steady_lost p index None w = steady_same w
+steady_lost p index (Some app) w =
+    let v = with_changed p.node (lost_at (place_of p.port) index) w in
+    steady_then w v (spoilt app p v) (steady_changed p.node (lost_at (place_of p.port) index) w (λ s. refl)) (steady_spoilt app p v)
+
+steady_repeated : (p : EgressPort) (index : ℕ) (o : Option App) (w : WorldState) → IsSteady w (repeated p index o w).0
+steady_repeated p index None w = steady_same w
+steady_repeated p index (Some app) w = steady_changed p.node (repeated_at (place_of p.port) index) w (λ s. refl)
+
+steady_carried : (p : EgressPort) (w : WorldState) → IsSteady w (carried p w)
+steady_carried p w =
+    let q = peer_of w.tree.links p in
+    let v = with_changed p.node (with_outbox (place_of p.port) []) w in
+    steady_then w v (with_changed q.node (with_carried (place_of q.port) (outbox p w)) v)
+    (steady_changed p.node (with_outbox (place_of p.port) []) w (λ s. refl))
+    (steady_changed q.node (with_carried (place_of q.port) (outbox p w)) v (λ s. refl))
+
+-- ---- which events a scenario has
+
+-- what an event needs of the tree; the clock's is apart
+abbrev IsAllowed : Topology → WorldEvent → Type 0
+IsAllowed tree (Request n request) = (1 ≤ n.0) × (slice_get tree.kinds (n.0 - 1) ≡ Some Station) × AsksVids request
+IsAllowed tree (Port n port step) = HasPort tree (record { node = n; port = port })
+IsAllowed tree (Lose p index) = HasPort tree p
+IsAllowed tree (Repeat p index) = HasPort tree p
+IsAllowed tree (Carry p) = HasPort tree p
+IsAllowed tree Clock = ⊥
+
+-- a network within a run, at the beginning of a tick or before its clock
+record IsInRun (tree : Topology) (t : ℕ) (w : WorldState) : Type 0 where
+  kept : IsKeptWorld w
+  tree_is : w.tree ≡ tree
+  clock : (x : ℕ) (s : NodeState) → slice_get w.nodes x ≡ Some s → s.clock.0 ≡ t
+
+-- some events may happen in their turn, and lead to a network within a run
+record LeadOn (tree : Topology) (t : ℕ) (es : List WorldEvent) (w : WorldState) : Type 0 where
+  can : CanAllHappen es w
+  named : AllByRecursion NamesVids es
+  after : IsInRun tree t (world_after es w)
+
+can_append : (es fs : List WorldEvent) (w : WorldState) → CanAllHappen es w → CanAllHappen fs (world_after es w) → CanAllHappen (es ++ fs) w
+can_append [] fs w c d = d
+can_append (e ∷ es) fs w c d = (c.0, can_append es fs (world_step e w).0 c.1 d)
+
+each_append : {X : Type 0} (P : X → Type 0) (xs ys : List X) → AllByRecursion P xs → AllByRecursion P ys → AllByRecursion P (xs ++ ys)
+each_append P [] ys h k = k
+each_append P (x ∷ xs) ys h k = (h.0, each_append P xs ys h.1 k)
+
+pub after_append : (es fs : List WorldEvent) (w : WorldState) → world_after fs (world_after es w) ≡ world_after (es ++ fs) w
+after_append [] fs w = refl
+after_append (e ∷ es) fs w = after_append es fs (world_step e w).0
+
+lead_append : (tree : Topology) (t t' : ℕ) (es fs : List WorldEvent) (w : WorldState) → LeadOn tree t es w → LeadOn tree t' fs (world_after es w) → LeadOn tree t' (es ++ fs) w
+lead_append tree t t' es fs w a b =
+    record {
+      can = can_append es fs w a.can b.can;
+      named = each_append NamesVids es fs a.named b.named;
+      after = subst (IsInRun tree t') (after_append es fs w) b.after;
+    }
+
+-- the laws that this rests on, as the public laws say them
+pub record RunLaws : Type 0 where
+  pub keeps : (e : WorldEvent) (w : WorldState) → CanHappen e w → NamesVids e → IsKeptWorld w → IsKeptWorld (world_step e w).0
+  pub ports : (tree : Topology) → IsSound tree → HasPortLaws tree
+  pub clock : (port : PortNo) (step : PortStep) (s : NodeState) → (node_step (node_events.Port port step) s).0.clock ≡ s.clock
+  pub asked : (request : AppRequest) (s : NodeState) → (node_step (node_events.Request request) s).0.clock ≡ s.clock
+
+-- ---- the scenario's events
+
+all_each : {X : Type 0} (P : X → Type 0) (xs : List X) → All P xs → AllByRecursion P xs
+all_each P [] h = tt
+all_each P (x ∷ xs) h = (h 0 x (omega arith), all_each P xs (λ k d lt. h (suc k) d (omega (arith, lt))))
+
+a_station : (k : NodeKind) → is_station k ≡ true → k ≡ Station
+a_station Station h = refl
+a_station Bridge h = cc
+
+station_kind : (nodes : List NodeEntry) (i : ℕ) → i < length nodes → ((d : NodeEntry) → is_station (get_or nodes i d).kind ≡ true) → slice_get (node_kinds nodes) i ≡ Some Station
+station_kind [] i lt h = absurd (omega arith)
+station_kind (n ∷ nodes) zero lt h = ap Some (a_station n.kind (h n))
+station_kind (n ∷ nodes) (suc i) lt h = let less : i < length nodes = omega arith in station_kind nodes i less h
+
+or_true : (a b : Bool) → (a || b) ≡ true → (a ≡ true) ⊎ (b ≡ true)
+or_true true b h = inl refl
+or_true false b h = inr h
+
+and_true : (a b : Bool) → (a && b) ≡ true → (a ≡ true) × (b ≡ true)
+and_true true b h = (refl, h)
+and_true false b h = cc
+
+same_number : (x y : ℕ) → (x == y) ≡ true → x ≡ y
+same_number x y h = grind (arith, nat_tests, h)
+
+-- a link that joins two nodes joins them the other way round
+link_joins : (l : LinkEntry) (x y : ℕ) → joins_both x y l ≡ true → Joins (record { a = l.a; b = l.b }) y x
+link_joins l x y h = by (or_true (l.a.0 == x && l.b.0 == y) (l.a.0 == y && l.b.0 == x) h)
+  where
+    by : ((l.a.0 == x && l.b.0 == y) ≡ true) ⊎ ((l.a.0 == y && l.b.0 == x) ≡ true) → Joins (record { a = l.a; b = l.b }) y x
+    by (inl e) = let both = and_true _ _ e in inr (same_number l.a.0 x both.0, same_number l.b.0 y both.1)
+    by (inr e) = let both = and_true _ _ e in inl (same_number l.a.0 y both.0, same_number l.b.0 x both.1)
+
+some_joins : (ls : List LinkEntry) (x y : ℕ) → list_any (joins_both x y) ls ≡ true → Joined (tree_links ls) y x
+some_joins [] x y h = cc
+some_joins (l ∷ ls) x y h = by (or_true (joins_both x y l) (list_any (joins_both x y) ls) h) (some_joins ls x y)
+  where
+    by : (joins_both x y l ≡ true) ⊎ (list_any (joins_both x y) ls ≡ true) → (list_any (joins_both x y) ls ≡ true → Joined (tree_links ls) y x) → Joined (tree_links (l ∷ ls)) y x
+    by (inl e) later = inl (link_joins l x y e)
+    by (inr e) later = inr (later e)
+
+module _ (laws : RunLaws) where
+  steady : (tree : Topology) (e : WorldEvent) (w : WorldState) → IsAllowed tree e → IsSteady w (world_step e w).0
+  steady tree (Request n request) w ok = subst (IsSteady w) (stepped_is n (node_events.Request request) w) (steady_changed n (λ s. (node_step (node_events.Request request) s).0) w (laws.asked request))
+  steady tree (Port n port step) w ok = subst (IsSteady w) (stepped_is n (node_events.Port port step) w) (steady_changed n (λ s. (node_step (node_events.Port port step) s).0) w (laws.clock port step))
+  steady tree (Lose p index) w ok = steady_lost p index (app_of p index w) w
+  steady tree (Repeat p index) w ok = steady_repeated p index (app_of p index w) w
+  steady tree (Carry p) w ok = steady_carried p w
+  steady tree Clock w ok = absurd ok
+
+  on_tree : (tree : Topology) (w : WorldState) (p : EgressPort) → w.tree ≡ tree → HasPort tree p → HasPort w.tree p
+  on_tree tree w p is has = subst (λ (t : Topology). HasPort t p) (sym is) has
+
+  allowed_can : (tree : Topology) (t : ℕ) (e : WorldEvent) (w : WorldState) → IsAllowed tree e → IsInRun tree t w → CanHappen e w × NamesVids e
+  allowed_can tree t (Request n request) w ok run =
+      let kinds = ap (λ (r : Topology). slice_get r.kinds (n.0 - 1)) run.tree_is ∙ ok.1 in
+      let inside = slice_get_within w.tree.kinds (n.0 - 1) Station kinds in
+      let many = run.kept.many in
+      let there = within w.nodes (n.0 - 1) (omega (arith, inside, many)) in
+      let fits = (run.kept.nodes (n.0 - 1) there.0 there.1).kind in
+      ((ok.0, (there.0, there.1, one_some _ there.0.kind Station fits kinds)), ok.2)
+  allowed_can tree t (Port n port step) w ok run = (on_tree tree w (record { node = n; port = port }) run.tree_is ok, tt)
+  allowed_can tree t (Lose p index) w ok run = (on_tree tree w p run.tree_is ok, tt)
+  allowed_can tree t (Repeat p index) w ok run = (on_tree tree w p run.tree_is ok, tt)
+  allowed_can tree t (Carry p) w ok run = (on_tree tree w p run.tree_is ok, tt)
+  allowed_can tree t Clock w ok run = absurd ok
+
+  one_leads : (tree : Topology) (t : ℕ) (e : WorldEvent) (w : WorldState) → IsAllowed tree e → IsInRun tree t w → IsInRun tree t (world_step e w).0
+  one_leads tree t e w ok run =
+      let can = allowed_can tree t e w ok run in
+      let still = steady tree e w ok in
+      record { kept = laws.keeps e w can.0 can.1 run.kept; tree_is = still.tree ∙ run.tree_is; clock = still.clock t run.clock }
+
+  all_lead : (tree : Topology) (t : ℕ) (es : List WorldEvent) (w : WorldState) → AllByRecursion (IsAllowed tree) es → IsInRun tree t w → LeadOn tree t es w
+  all_lead tree t [] w ok run = record { can = tt; named = tt; after = run }
+  all_lead tree t (e ∷ es) w ok run =
+      let can = allowed_can tree t e w ok.0 run in
+      let later = all_lead tree t es (world_step e w).0 ok.1 (one_leads tree t e w ok.0 run) in
+      record { can = (can.0, later.can); named = (can.1, later.named); after = later.after }
+
+  clock_leads : (tree : Topology) (t : ℕ) (w : WorldState) → t < 2 ^ 61 → IsInRun tree t w → LeadOn tree (suc t) (Clock ∷ []) w
+  clock_leads tree t w below run =
+      let can : CanHappen Clock w = λ n s is. let now = run.clock (n.0 - 1) s is in omega (arith, now, below) in
+      record {
+        can = (can, tt);
+        named = (tt, tt);
+        after = record { kept = laws.keeps Clock w can tt run.kept; tree_is = run.tree_is; clock = λ x s get. later x s (ticked_get w.nodes x s get) };
+      }
+    where
+      later : (x : ℕ) (s : NodeState) → (r : NodeState) × (slice_get w.nodes x ≡ Some r) × ((node_step node_events.Clock r).0 ≡ s) → s.clock.0 ≡ suc t
+      later x s (r, is, become) =
+          let now = run.clock x r is in
+          let next = ap (λ (q : NodeState). q.clock.0) become in
+          omega (arith, now, next)
+
+  module _ (plan : Plan) (rules : KeepsRules plan) where
+    links_are : plan.tree.links ≡ tree_links plan.links
+    links_are = ap (λ (r : Topology). r.links) rules.tree
+
+    tree_ports : HasPortLaws plan.tree
+    tree_ports = laws.ports plan.tree (subst IsSound (sym rules.tree) rules.accepted)
+
+    joined_port : (x y : ℕ) → list_any (joins_both x y) plan.links ≡ true → HasPort plan.tree (port_to plan.tree.links y x)
+    joined_port x y h = tree_ports.joined_port y x (subst (λ (ls : List Link). Joined ls y x) (sym links_are) (some_joins plan.links x y h))
+
+    kind_at : (x : ℕ) → (1 ≤ x) × (x ≤ length plan.nodes) → ((d : NodeEntry) → is_station (get_or plan.nodes (x - 1) d).kind ≡ true) → slice_get plan.tree.kinds (x - 1) ≡ Some Station
+    kind_at x node station =
+        let first = node.0 in
+        let last = node.1 in
+        ap (λ (r : Topology). slice_get r.kinds (x - 1)) rules.tree ∙ station_kind plan.nodes (x - 1) (omega (arith, first, last)) station
+
+    known_allowed : (kind : EventKind) → IsKnownKind plan.nodes plan.links plan.streams kind → IfSome (event_of plan.tree.links kind) (IsAllowed plan.tree)
+    known_allowed (kinds.Declare station vid) known = (known.0.0.0, kind_at station.0 known.0.0 known.0.1, (known.1, known.2))
+    known_allowed (kinds.Withdraw station vid) known = (known.0.0.0, kind_at station.0 known.0.0 known.0.1, (known.1, known.2))
+    known_allowed (kinds.Talk stream) known = tt
+    known_allowed (kinds.Hush stream) known = tt
+    known_allowed (kinds.Listen station stream) known = tt
+    known_allowed (kinds.Unlisten station stream) known = tt
+    known_allowed (kinds.Lose from to index) known = joined_port from.0 to.0 known.0.2
+    known_allowed (kinds.Repeat from to index) known = joined_port from.0 to.0 known.0.2
+
+    with_allowed : (n : ℕ) (o : Option WorldEvent) (later : List (ℕ × WorldEvent)) → IfSome o (IsAllowed plan.tree)
+        → AllByRecursion (IsAllowed plan.tree) (map (λ (e : ℕ × WorldEvent). e.1) later) → AllByRecursion (IsAllowed plan.tree) (map (λ (e : ℕ × WorldEvent). e.1) (with_event n o later))
+    with_allowed n None later here rest = rest
+    with_allowed n (Some event) later here rest = (here, rest)
+
+    scripted_allowed : (t n : ℕ) (entries : List EventEntry) → AllByRecursion (λ (e : EventEntry). IsKnownKind plan.nodes plan.links plan.streams e.kind) entries
+        → AllByRecursion (IsAllowed plan.tree) (map (λ (e : ℕ × WorldEvent). e.1) (scripted_from plan.tree.links t n entries))
+    scripted_allowed t n [] known = tt
+    scripted_allowed t n (e ∷ entries) known = by (e.tick == t) (known_allowed e.kind known.0) (scripted_allowed t (n + 1) entries known.1)
+      where
+        by : (b : Bool) → IfSome (event_of plan.tree.links e.kind) (IsAllowed plan.tree) → AllByRecursion (IsAllowed plan.tree) (map (λ (e : ℕ × WorldEvent). e.1) (scripted_from plan.tree.links t (n + 1) entries))
+            → AllByRecursion (IsAllowed plan.tree) (map (λ (e : ℕ × WorldEvent). e.1) (Rattle.std.specs.Prelude.if◌then◌else◌ b (with_event n (event_of plan.tree.links e.kind) (scripted_from plan.tree.links t (n + 1) entries)) (scripted_from plan.tree.links t (n + 1) entries)))
+        by true here later = with_allowed n (event_of plan.tree.links e.kind) (scripted_from plan.tree.links t (n + 1) entries) here later
+        by false here later = later
+
+    made_allowed : (n : NodeNo) (made : List NodeStep) → AllByRecursion (λ (st : NodeStep). HasPort plan.tree (record { node = n; port = st.port })) made
+        → AllByRecursion (IsAllowed plan.tree) (map (λ (st : NodeStep). Port n st.port st.step) made)
+    made_allowed n [] known = tt
+    made_allowed n (st ∷ made) known = (known.0, made_allowed n made known.1)
+
+    steps_allowed : (nodes : List NodeSteps) → AllByRecursion (λ (ns : NodeSteps). AllByRecursion (λ (st : NodeStep). HasPort plan.tree (record { node = ns.node; port = st.port })) ns.steps) nodes
+        → AllByRecursion (IsAllowed plan.tree) (step_events nodes)
+    steps_allowed [] known = tt
+    steps_allowed (ns ∷ nodes) known =
+        each_append (IsAllowed plan.tree) (map (λ (st : NodeStep). Port ns.node st.port st.step) ns.steps) (step_events nodes) (made_allowed ns.node ns.steps known.0) (steps_allowed nodes known.1)
+
+    carries_allowed : (ls : List Link) → ((x y : ℕ) → Joined ls x y → Joined plan.tree.links x y)
+        → AllByRecursion (IsAllowed plan.tree) (map Carry (flat_map (λ (l : Link). port_to plan.tree.links l.a.0 l.b.0 ∷ port_to plan.tree.links l.b.0 l.a.0 ∷ []) ls))
+    carries_allowed [] inside = tt
+    carries_allowed (l ∷ ls) inside = (
+      tree_ports.joined_port l.a.0 l.b.0 (inside l.a.0 l.b.0 (inl (inl (refl, refl)))),
+      (tree_ports.joined_port l.b.0 l.a.0 (inside l.b.0 l.a.0 (inl (inr (refl, refl)))), carries_allowed ls (λ x y j. inside x y (inr j))),
+    )
+
+    tick_leads : (t : ℕ) (w : WorldState) (tick : Tick) → t < 2 ^ 61 → IsLegalTick plan t w tick → IsInRun plan.tree t w → LeadOn plan.tree (suc t) (tick_events plan t tick) w
+    tick_leads t w tick below legal run =
+        let script : List WorldEvent = map (λ e. e.1) (scripted plan t) in
+        let made : List WorldEvent = step_events tick.steps in
+        let carries : List WorldEvent = map Carry (link_ports plan.tree) in
+        let first = all_lead plan.tree t script w (scripted_allowed t 1 plan.events (all_each _ plan.events rules.events_known)) run in
+        let second = lead_append plan.tree t t script made w first (all_lead plan.tree t made (world_after script w) (steps_allowed tick.steps legal.known) first.after) in
+        let third = all_lead plan.tree t carries (world_after (script ++ made) w) (carries_allowed plan.tree.links (λ x y j. j)) second.after in
+        lead_append plan.tree t (suc t) (script ++ made) (carries ++ (Clock ∷ [])) w second
+        (lead_append plan.tree t (suc t) carries (Clock ∷ []) (world_after (script ++ made) w) third (clock_leads plan.tree t (world_after carries (world_after (script ++ made) w)) below third.after))
+
+    -- how many ticks there are
+    ticks_count : (ticks : List Tick) (t : ℕ) (w end : WorldState) → LeadTo (IsLegalTick plan) plan t w ticks plan.ticks end → t + length ticks ≡ plan.ticks
+    ticks_count [] t w end h = let last = h.0 in omega (arith, last)
+    ticks_count (tick ∷ ticks) t w end h = let later = ticks_count ticks (suc t) (world_after (tick_events plan t tick) w) end h.1 in omega (arith, later)
+
+    ticks_lead : (ticks : List Tick) (t : ℕ) (w end : WorldState) → LeadTo (IsLegalTick plan) plan t w ticks plan.ticks end → IsInRun plan.tree t w
+        → CanAllHappen (events_from plan t ticks) w × AllByRecursion NamesVids (events_from plan t ticks)
+    ticks_lead [] t w end h run = (tt, tt)
+    ticks_lead (tick ∷ ticks) t w end h run =
+        let count = ticks_count (tick ∷ ticks) t w end h in
+        let few = rules.ticks.1 in
+        let one = tick_leads t w tick (omega (arith, count, few)) h.0 run in
+        let later = ticks_lead ticks (suc t) (world_after (tick_events plan t tick) w) end h.1 one.after in
+        (can_append (tick_events plan t tick) (events_from plan (suc t) ticks) w one.can later.0, each_append NamesVids (tick_events plan t tick) (events_from plan (suc t) ticks) one.named later.1)
+
+    pub run_leads : (ticks : List Tick) (end : WorldState) → IsKeptWorld (world_of plan) → ((x : ℕ) (s : NodeState) → slice_get (world_of plan).nodes x ≡ Some s → s.clock.0 ≡ 0)
+        → LeadTo (IsLegalTick plan) plan 0 (world_of plan) ticks plan.ticks end
+        → CanAllHappen (events_from plan 0 ticks) (world_of plan) × AllByRecursion NamesVids (events_from plan 0 ticks)
+    run_leads ticks end kept clock h = ticks_lead ticks 0 (world_of plan) end h (record { kept = kept; tree_is = refl; clock = clock })
+
+-- ---- fronts of a list of events
+
+pub can_take : (n : ℕ) (es : List WorldEvent) (w : WorldState) → CanAllHappen es w → CanAllHappen (take n es) w
+can_take zero es w can = tt
+can_take (suc n) [] w can = tt
+can_take (suc n) (e ∷ es) w can = (can.0, can_take n es (world_step e w).0 can.1)
+
+pub each_take : {X : Type 0} (P : X → Type 0) (n : ℕ) (xs : List X) → AllByRecursion P xs → AllByRecursion P (take n xs)
+each_take P zero xs h = tt
+each_take P (suc n) [] h = tt
+each_take P (suc n) (x ∷ xs) h = (h.0, each_take P n xs h.1)
+
+-- ---- one tick more
+
+pub one_more : (IsTick : ℕ → WorldState → Tick → Type 0) (plan : Plan) (ticks : List Tick) (t t' : ℕ) (w v : WorldState) (tick : Tick)
+    → LeadTo IsTick plan t w ticks t' v → IsTick t' v tick → LeadTo IsTick plan t w (ticks ++ tick ∷ []) (suc t') (world_after (tick_events plan t' tick) v)
+one_more IsTick plan [] t t' w v tick h here =
+    let P : ℕ → WorldState → Type 0 = λ k u. IsTick k u tick × ((suc k ≡ suc t') × (world_after (tick_events plan t' tick) v ≡ world_after (tick_events plan k tick) u)) in
+    subst (λ (k : ℕ). P k w) (sym h.0) (subst (λ (u : WorldState). P t' u) h.1 (here, (refl, refl)))
+one_more IsTick plan (first ∷ ticks) t t' w v tick h here = (h.0, one_more IsTick plan ticks (suc t) t' (world_after (tick_events plan t first) w) v tick h.1 here)

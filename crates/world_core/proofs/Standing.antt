@@ -1,0 +1,78 @@
+-- Where the ports of a network's tree stand among its nodes.
+use Rattle.std.proofs.Common.{◌≡◌, ℕ, ◌-◌, ◌+◌, List, [], ◌∷◌, zero, suc, refl, sym, ap, subst, arith}
+use Rattle.std.specs.Prelude.{◌<◌, ◌≤◌, ◌^◌, length, slice_get, Some, Result, Ok, Err, IfOk, OnErr}
+use Rattle.std.specs.List.{AllByRecursion}
+use Rattle.std.proofs.lemmas.Option.{slice_get_within}
+use Rattle.srp_base.specs.declared.numbers.Cs.{Cs}
+use Rattle.srp_base.specs.declared.numbers.NodeNo.{NodeNo}
+use Rattle.srp_base.specs.declared.numbers.EgressPort.{EgressPort}
+use Rattle.tree_topology.specs.Topology.{Topology, HasPort}
+use Rattle.tree_topology.specs.Ports.{peer_of}
+use Rattle.tree_topology.specs.PortLaws.{HasPortLaws}
+use Rattle.mvrp.specs.Side.{place_of}
+use Rattle.node_core.specs.State.{NodeState}
+use Rattle.node_core.specs.declared.types.AppRequest.{AppRequest}
+use Rattle.world_core.specs.declared.events.WorldEvent.{WorldEvent}
+use Rattle.world_core.specs.declared.events.WorldEvent.TheVariants.{Request, Clock}
+use Rattle.world_core.specs.declared.events.WorldReply.{WorldReply}
+use Rattle.world_core.specs.World.{WorldState, Happened, StandsAt, node_at, CanHappen}
+use Rattle.world_core.specs.Kept.{IsKeptWorld}
+use Rattle.world_core.proofs.Nodes.{Base, node_there, part_there}
+use Rattle.world_core.proofs.EventSteps.{base_of}
+
+-- a port of the tree stands at its node
+pub stands : (w : WorldState) → IsKeptWorld w → (p : EgressPort) → HasPort w.tree p → StandsAt p w.nodes
+stands w kept p has =
+    let base = base_of w kept in
+    let there = node_there w base p has in
+    let first = has.1 in
+    let within = slice_get_within w.nodes (p.node.0 - 1) there.0 there.1 in
+    let some = has.0.0 in
+    record {
+      some = has.0.0;
+      few = omega (arith, within, some);
+      port = λ s is.
+          let part = part_there w base p has s is in
+          let below = slice_get_within s.vlans.parts (place_of p.port) part.0 part.1 in
+          record { some = first; within = omega (arith, first, below) };
+    }
+
+-- so does its peer
+pub peer_stands : (w : WorldState) → IsKeptWorld w → HasPortLaws w.tree → (p : EgressPort) → HasPort w.tree p → StandsAt (peer_of w.tree.links p) w.nodes
+peer_stands w kept laws p has = stands w kept (peer_of w.tree.links p) (laws.peer_port p has)
+
+-- what holds of the node of each number holds of each node
+pub each_node : (P : NodeState → Type 0) (nodes : List NodeState) → ((n : NodeNo) (s : NodeState) → slice_get nodes (n.0 - 1) ≡ Some s → P s)
+    → AllByRecursion P nodes
+each_node P nodes holds = by nodes (λ k s is. holds (record { 0 = k + 1 }) s (subst (λ (x : ℕ). slice_get nodes x ≡ Some s) (let number : k ≡ k + 1 - 1 = omega arith in number) is))
+  where
+    by : (xs : List NodeState) → ((k : ℕ) (s : NodeState) → slice_get xs k ≡ Some s → P s) → AllByRecursion P xs
+    by [] h = tt
+    by (x ∷ xs) h = (h zero x refl, by xs (λ k s is. h (suc k) s is))
+
+-- an event that may happen, in other words
+pub can_as : (e f : WorldEvent) (v w : WorldState) → e ≡ f → v ≡ w → CanHappen e v → CanHappen f w
+can_as e f v w same is can = subst (λ (x : WorldEvent). CanHappen x w) same (subst (CanHappen e) is can)
+
+-- a request is made at a node that there is
+pub asked_there : (n : NodeNo) (request : AppRequest) (w : WorldState) → CanHappen (Request n request) w → n.0 ≤ length w.nodes
+asked_there n request w can =
+    let some = can.0 in
+    let within = slice_get_within w.nodes (n.0 - 1) can.1.0 can.1.1 in
+    omega (arith, some, within)
+
+-- what holds of each answer that fits holds of the answer, where there is one
+pub if_ok : {A E : Type 0} (r : Result A E) (P Q : A → Type 0) → ((a : A) → P a → Q a) → IfOk r P → IfOk r Q
+if_ok (Ok a) P Q f h = f a h
+if_ok (Err e) P Q f h = h
+
+-- after an event that keeps what every network keeps, or after want of memory, it is kept
+pub kept_either : {E : Type 0} (r : Result WorldReply E) (h : Happened) (tree : Topology) (nodes new : List NodeState)
+    → IfOk r (λ reply. h ≡ (record { tree = tree; nodes = new }, reply)) → OnErr r (new ≡ nodes)
+    → IsKeptWorld h.0 → IsKeptWorld (record { tree = tree; nodes = nodes }) → IsKeptWorld (record { tree = tree; nodes = new })
+kept_either (Ok reply) h tree nodes new is err after before = subst IsKeptWorld (ap (λ (x : Happened). x.0) is) after
+kept_either (Err e) h tree nodes new ok is after before = subst (λ (xs : List NodeState). IsKeptWorld (record { tree = tree; nodes = xs })) (sym is) before
+
+-- where the clock of one node is below 2^61, the clock goes on: all nodes have one clock
+pub clock_goes_on : (w : WorldState) (t : NodeState) → IsKeptWorld w → node_at (record { 0 = 1 }) w ≡ Some t → t.clock.0 < 2 ^ 61 → CanHappen Clock w
+clock_goes_on w t kept there below n s is = subst (λ (c : Cs). c.0 < 2 ^ 61) (kept.clock 0 (n.0 - 1) t s there is) below

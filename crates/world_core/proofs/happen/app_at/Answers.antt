@@ -1,0 +1,13 @@
+use Rattle.std.proofs.Common.{sym, ap, ◌∙◌, refl}
+use Rattle.std.specs.Prelude.{slice_set}
+use Rattle.mvrp.specs.Side.{place_of}
+use Rattle.world_core.proofs.Happenings.{port_there, get_there, app_is}
+use Rattle.world_core.proofs.happen.app_at.Goals as goal
+
+pub app_at-requires : goal.app_at-requires
+app_at-requires c = port_there c.args.at c.args.nodes.now.items c.place.result c.index.result.now c.requires c.place.ensures c.index.ensures
+
+pub returns : goal.returns
+returns c = λ tree.
+    c.app_at.ensures ∙ app_is c.args.at c.args.index tree c.args.nodes.now.items c.index.result.now
+    (get_there c.args.at c.args.nodes.now.items c.place.result c.index.result.now c.requires c.place.ensures c.index.ensures)

@@ -1,0 +1,23 @@
+use Rattle.std.proofs.Common.{sym, ap, ◌∙◌, refl}
+use Rattle.std.specs.Prelude.{slice_set}
+use Rattle.mvrp.specs.Side.{place_of}
+use Rattle.node_core.specs.Links.{with_outbox, with_carried, lost_at, repeated_at, spoilt_at}
+use Rattle.node_core.specs.State.{NodeState, box_at, ports_of}
+use Rattle.world_core.proofs.Happenings.{port_there, get_there, changed_here, stands_still, done_there}
+use Rattle.world_core.proofs.happen.lose_at.Goals as goal
+
+pub lose-requires : goal.lose-requires
+lose-requires c = port_there c.args.at c.args.nodes.now.items c.place.result c.index_mut.result.now c.requires.here c.place.ensures c.index_mut.ensures.value
+
+pub returns-clause-after : goal.returns-clause-after
+returns-clause-after c =
+    ap (slice_set c.args.nodes.now.items c.place.result)
+    (done_there c.index_mut.result.now c.lose.new.self (place_of c.args.at.port) c.args.index (lost_at (place_of c.args.at.port) c.args.index) c.lose.result
+    (c.requires.there c.index_mut.result.now (get_there c.args.at c.args.nodes.now.items c.place.result c.index_mut.result.now c.requires.here c.place.ensures c.index_mut.ensures.value)) c.lose.ensures.done c.lose.ensures.after)
+    ∙ changed_here c.args.at (lost_at (place_of c.args.at.port) c.args.index) c.args.nodes.now.items c.place.result c.index_mut.result.now c.requires.here c.place.ensures c.index_mut.ensures.value
+
+pub returns-clause-stand : goal.returns-clause-stand
+returns-clause-stand c =
+    stands_still c.args.at c.args.nodes.now.items c.place.result c.index_mut.result.now c.lose.new.self c.requires.here c.place.ensures c.index_mut.ensures.value
+    (ap ports_of (done_there c.index_mut.result.now c.lose.new.self (place_of c.args.at.port) c.args.index (lost_at (place_of c.args.at.port) c.args.index) c.lose.result
+    (c.requires.there c.index_mut.result.now (get_there c.args.at c.args.nodes.now.items c.place.result c.index_mut.result.now c.requires.here c.place.ensures c.index_mut.ensures.value)) c.lose.ensures.done c.lose.ensures.after))

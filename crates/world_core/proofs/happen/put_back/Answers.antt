@@ -1,0 +1,18 @@
+use Rattle.std.proofs.Common.{sym, ap, ◌∙◌, refl}
+use Rattle.std.specs.Prelude.{slice_set}
+use Rattle.mvrp.specs.Side.{place_of}
+use Rattle.node_core.specs.Links.{with_outbox, with_carried, lost_at, repeated_at, spoilt_at}
+use Rattle.node_core.specs.State.{NodeState, box_at, ports_of}
+use Rattle.world_core.proofs.Happenings.{port_there, get_there, changed_here}
+use Rattle.world_core.proofs.happen.put_back.Goals as goal
+
+pub put_back-requires-clause-port : goal.put_back-requires-clause-port
+put_back-requires-clause-port c = port_there c.args.at c.args.nodes.now.items c.place.result c.index_mut.result.now c.requires.here c.place.ensures c.index_mut.ensures.value
+
+pub put_back-requires-clause-empty : goal.put_back-requires-clause-empty
+put_back-requires-clause-empty c = c.requires.empty c.index_mut.result.now (get_there c.args.at c.args.nodes.now.items c.place.result c.index_mut.result.now c.requires.here c.place.ensures c.index_mut.ensures.value)
+
+pub returns : goal.returns
+returns c =
+    ap (slice_set c.args.nodes.now.items c.place.result) c.put_back.ensures
+    ∙ changed_here c.args.at (with_outbox (place_of c.args.at.port) c.args.wires) c.args.nodes.now.items c.place.result c.index_mut.result.now c.requires.here c.place.ensures c.index_mut.ensures.value

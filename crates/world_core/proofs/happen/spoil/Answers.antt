@@ -1,0 +1,20 @@
+use Rattle.std.proofs.Common.{sym, ap, ◌∙◌, refl}
+use Rattle.std.specs.Prelude.{slice_set}
+use Rattle.mvrp.specs.Side.{place_of}
+use Rattle.node_core.specs.Links.{with_outbox, with_carried, lost_at, repeated_at, spoilt_at}
+use Rattle.node_core.specs.State.{NodeState, box_at, ports_of}
+use Rattle.world_core.proofs.Happenings.{port_there, changed_here, stands_still, ports_spoilt}
+use Rattle.world_core.proofs.happen.spoil.Goals as goal
+
+pub spoil-requires : goal.spoil-requires
+spoil-requires c = port_there c.args.at c.args.nodes.now.items c.place.result c.index_mut.result.now c.requires c.place.ensures c.index_mut.ensures.value
+
+pub returns-clause-after : goal.returns-clause-after
+returns-clause-after c =
+    ap (slice_set c.args.nodes.now.items c.place.result) c.spoil.ensures
+    ∙ changed_here c.args.at (spoilt_at c.args.app (place_of c.args.at.port)) c.args.nodes.now.items c.place.result c.index_mut.result.now c.requires c.place.ensures c.index_mut.ensures.value
+
+pub returns-clause-stand : goal.returns-clause-stand
+returns-clause-stand c =
+    stands_still c.args.at c.args.nodes.now.items c.place.result c.index_mut.result.now c.spoil.new.self c.requires c.place.ensures c.index_mut.ensures.value
+    (ap ports_of c.spoil.ensures ∙ ports_spoilt c.args.app (place_of c.args.at.port) c.index_mut.result.now)

@@ -1,0 +1,60 @@
+-- What is on each link, as messages: the octets in flight read as what they say, so that the duty of a link's two ends
+-- (mrp_participant) speaks of the network.
+use Rattle.std.specs.Prelude.{◌≡◌, ℕ, List, ◌++◌, filter_map, Option, Some, None, Result, Ok, Err, slice_get}
+use Rattle.std.specs.Option.{option_and_then}
+use Rattle.std.specs.Ordering.{nat_cmp}
+use Rattle.srp_base.specs.declared.numbers.EgressPort.{EgressPort}
+use Rattle.srp_base.specs.declared.mrp.App.{App}
+use Rattle.srp_base.specs.declared.mrp.App.TheVariants.{Mvrp, Msrp}
+use Rattle.tree_topology.specs.Topology.{HasPort}
+use Rattle.tree_topology.specs.Ports.{peer_of}
+use Rattle.mvrp_codec.specs.declared.pdu.MvrpPdu.{MvrpPdu}
+use Rattle.mvrp_codec.specs.Meaning.{mvrp_reading}
+use Rattle.mrp_participant.specs.State.{Messages}
+use Rattle.mrp_participant.specs.Link.{Link, AreDutiesMet}
+use Rattle.mvrp.specs.Part.{Part, messages}
+use Rattle.mvrp.specs.Side.{place_of}
+use Rattle.node_core.specs.declared.types.Wire.{Wire}
+use Rattle.world_core.specs.World.{WorldState, node_at, inbox, outbox}
+
+-- what the octets of a PDU of MVRP say to a participant; malformed octets say nothing
+abbrev pub said_by : Result MvrpPdu ℕ → Option (Messages ℕ (Unit {0}))
+said_by (Ok pdu) = Some (record { leave_all = pdu.leave_all; events = messages pdu })
+said_by (Err place) = None
+
+-- what a PDU says in MVRP
+abbrev pub vlans_said : App → List ℕ → Option (Messages ℕ (Unit {0}))
+vlans_said Mvrp octets = said_by (mvrp_reading octets)
+vlans_said Msrp octets = None
+
+abbrev pub message_of : Wire → Option (Messages ℕ (Unit {0}))
+message_of wire = vlans_said wire.app wire.octets
+
+-- what PDUs say, in order
+abbrev pub messages_of : List Wire → List (Messages ℕ (Unit {0}))
+messages_of wires = filter_map message_of wires
+
+-- the PDUs in flight from a port: those that came in at its peer, and then those that are to go out
+abbrev pub in_flight : EgressPort → WorldState → List Wire
+in_flight p w = inbox (peer_of w.tree.links p) w ++ outbox p w
+
+-- the participant of MVRP at a port
+abbrev pub vlan_part : EgressPort → WorldState → Option Part
+vlan_part p w = option_and_then (λ s. slice_get s.vlans.parts (place_of p.port)) (node_at p.node w)
+
+-- the link of a port with these participants at its ends
+abbrev pub link_with : EgressPort → WorldState → Part → Part → Link ℕ (Unit {0})
+link_with p w near far =
+    record {
+      near = near;
+      far = far;
+      sent = messages_of (in_flight p w);
+      coming = messages_of (in_flight (peer_of w.tree.links p) w);
+    }
+
+-- on every link both ends meet their duty
+abbrev pub AreVlanDutiesMet : WorldState → Type 0
+AreVlanDutiesMet w =
+    (p : EgressPort) → HasPort w.tree p → (near far : Part)
+    → vlan_part p w ≡ Some near → vlan_part (peer_of w.tree.links p) w ≡ Some far
+    → AreDutiesMet nat_cmp (link_with p w near far)

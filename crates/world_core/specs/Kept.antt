@@ -1,0 +1,31 @@
+-- What every network keeps.
+use Rattle.std.specs.Prelude.{◌≡◌, ◌+◌, ℕ, [], length, slice_get, Some}
+use Rattle.std.specs.List.{AllByRecursion}
+use Rattle.tree_topology.specs.Topology.{Topology, IsSound}
+use Rattle.tree_topology.specs.Ports.{neighbours}
+use Rattle.tree_topology.specs.declared.graph.NodeKind.TheVariants.{Bridge}
+use Rattle.node_core.specs.State.{NodeState, ports_of}
+use Rattle.node_core.specs.Proper.{IsProperNode}
+use Rattle.world_core.specs.World.{WorldState}
+use Rattle.world_core.specs.Duty.{AreVlanDutiesMet}
+
+-- a node is that of its place in the tree: its kind, a port for each of its links, and what every node keeps, of VIDs
+pub record FitsTree (tree : Topology) (x : ℕ) (s : NodeState) : Type 0 where
+  pub kind : slice_get tree.kinds x ≡ Some s.kind
+  pub ports : ports_of s ≡ length (neighbours tree.links (x + 1))
+  pub kept : IsProperNode s
+
+-- What every network keeps: a sound tree, the nodes of the tree, one clock, and both duties of each link.
+pub record IsKeptWorld (w : WorldState) : Type 0 where
+  pub tree : IsSound w.tree
+  pub many : length w.nodes ≡ length w.tree.kinds
+  pub nodes : (x : ℕ) (s : NodeState) → slice_get w.nodes x ≡ Some s → FitsTree w.tree x s
+  pub clock : (x y : ℕ) (s t : NodeState) → slice_get w.nodes x ≡ Some s → slice_get w.nodes y ≡ Some t → s.clock ≡ t.clock
+  pub duties : AreVlanDutiesMet w
+
+-- a bridge has no application that declares anything
+abbrev pub IsIdleBridge : NodeState → Type 0
+IsIdleBridge s = s.kind ≡ Bridge → s.vlans.own ≡ []
+
+abbrev pub AreBridgesIdle : WorldState → Type 0
+AreBridgesIdle w = AllByRecursion IsIdleBridge w.nodes

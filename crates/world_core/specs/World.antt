@@ -1,0 +1,161 @@
+-- A network as contracts see it, and one event of it: the network afterwards, and what it answers.
+use Rattle.std.specs.Prelude.{◌≡◌, ◌<◌, ◌≤◌, length, ◌^◌, ◌-◌, ℕ, Bool, List, [], ◌∷◌, map, fold, Option, Some, None, option_map, slice_get, slice_set}
+use Rattle.std.specs.Option.{option_map_or}
+use Rattle.std.specs.List.{list_all}
+use Rattle.srp_base.specs.declared.numbers.NodeNo.{NodeNo}
+use Rattle.srp_base.specs.declared.numbers.EgressPort.{EgressPort}
+use Rattle.srp_base.specs.declared.mrp.App.{App}
+use Rattle.tree_topology.specs.Topology.{Topology, HasPort}
+use Rattle.tree_topology.specs.Ports.{peer_of}
+use Rattle.tree_topology.specs.declared.graph.NodeKind.TheVariants.{Station}
+use Rattle.mvrp.specs.Side.{IsLinkPort, place_of}
+use Rattle.node_core.specs.declared.types.Wire.{Wire}
+use Rattle.node_core.specs.declared.types.NodeEvent.{NodeEvent}
+use Rattle.node_core.specs.declared.types.NodeEvent.TheVariants as node_events
+use Rattle.node_core.specs.State.{NodeState, ports_of, box_at, is_still_node}
+use Rattle.node_core.specs.Step.{Stepped, node_step}
+use Rattle.node_core.specs.Proper.{AsksVids}
+use Rattle.node_core.specs.Links.{with_outbox, with_carried, lost_at, repeated_at, spoilt_at}
+use Rattle.world_core.specs.declared.events.WorldEvent.{WorldEvent}
+use Rattle.world_core.specs.declared.events.WorldEvent.TheVariants.{Request, Port, Lose, Repeat, Carry, Clock}
+use Rattle.world_core.specs.declared.events.WorldReply.{WorldReply}
+use Rattle.world_core.specs.declared.events.WorldReply.TheVariants.{Step, Done, Missed}
+
+-- a tree, and a state for each of its nodes in the order of their numbers
+pub record WorldState : Type 0 where
+  pub tree : Topology
+  pub nodes : List NodeState
+
+-- the node of a number
+abbrev pub node_at : NodeNo → WorldState → Option NodeState
+node_at n w = slice_get w.nodes (n.0 - 1)
+
+-- the network with another state of a node
+abbrev pub with_node : NodeNo → NodeState → WorldState → WorldState
+with_node n s w = record w { nodes = slice_set w.nodes (n.0 - 1) s }
+
+-- the network after a node has become another
+abbrev pub with_changed : NodeNo → (NodeState → NodeState) → WorldState → WorldState
+with_changed n change w = option_map_or (λ s. with_node n (change s) w) (node_at n w) w
+
+-- a list of nodes after one of them has become another
+abbrev pub changed : NodeNo → (NodeState → NodeState) → List NodeState → List NodeState
+changed n change nodes = option_map_or (λ s. slice_set nodes (n.0 - 1) (change s)) (slice_get nodes (n.0 - 1)) nodes
+
+-- a node of a list stands where a port is, and has it
+pub record StandsAt (p : EgressPort) (nodes : List NodeState) : Type 0 where
+  pub some : 1 ≤ p.node.0
+  pub few : p.node.0 ≤ length nodes
+  pub port : (s : NodeState) → slice_get nodes (p.node.0 - 1) ≡ Some s → IsLinkPort p.port (ports_of s)
+
+-- ---- the PDUs at a port
+
+-- those that came in at it, and those that are to go out
+abbrev pub inbox : EgressPort → WorldState → List Wire
+inbox p w = option_map_or (λ s. box_at (place_of p.port) s.inboxes) (node_at p.node w) []
+
+abbrev pub outbox : EgressPort → WorldState → List Wire
+outbox p w = option_map_or (λ s. box_at (place_of p.port) s.outboxes) (node_at p.node w) []
+
+-- the application of the PDU of an index in the inbox
+abbrev pub app_of : EgressPort → ℕ → WorldState → Option App
+app_of p index w = option_map (λ wire. wire.app) (slice_get (inbox p w) index)
+
+-- ---- one event
+
+-- a network after an event, and its answer
+abbrev pub Happened : Type 0
+Happened = WorldState × WorldReply
+
+-- a node makes a step
+abbrev pub after_step : NodeNo → Stepped → WorldState → Happened
+after_step n made w = (with_node n made.0 w, Step made.1)
+
+abbrev pub stepped : NodeNo → NodeEvent → WorldState → Happened
+stepped n event w = option_map_or (λ s. after_step n (node_step event s) w) (node_at n w) (w, Missed)
+
+-- neither end of a port's link is sound any more for an application
+abbrev pub spoilt : App → EgressPort → WorldState → WorldState
+spoilt app p w =
+    let q = peer_of w.tree.links p in
+    with_changed q.node (spoilt_at app (place_of q.port)) (with_changed p.node (spoilt_at app (place_of p.port)) w)
+
+-- the PDU of an index in a port's inbox is lost, where there is one
+abbrev pub lost : EgressPort → ℕ → Option App → WorldState → Happened
+lost p index None w = (w, Missed)
+lost p index (Some app) w = (spoilt app p (with_changed p.node (lost_at (place_of p.port) index) w), Done)
+
+-- it is there twice
+abbrev pub repeated : EgressPort → ℕ → Option App → WorldState → Happened
+repeated p index None w = (w, Missed)
+repeated p index (Some app) w = (with_changed p.node (repeated_at (place_of p.port) index) w, Done)
+
+-- the PDUs of a port's outbox come in at its peer
+abbrev pub carried : EgressPort → WorldState → WorldState
+carried p w =
+    let q = peer_of w.tree.links p in
+    with_changed q.node (with_carried (place_of q.port) (outbox p w)) (with_changed p.node (with_outbox (place_of p.port) []) w)
+
+-- the clock of every node goes on
+abbrev pub ticked : WorldState → WorldState
+ticked w = record w { nodes = map (λ s. (node_step node_events.Clock s).0) w.nodes }
+
+-- one event: the network afterwards, and the answer
+abbrev pub world_step : WorldEvent → WorldState → Happened
+world_step (Request n request) w = stepped n (node_events.Request request) w
+world_step (Port n port step) w = stepped n (node_events.Port port step) w
+world_step (Lose p index) w = lost p index (app_of p index w) w
+world_step (Repeat p index) w = repeated p index (app_of p index w) w
+world_step (Carry p) w = (carried p w, Done)
+world_step Clock w = (ticked w, Done)
+
+-- ---- lists of events
+
+-- the network after a list of events
+abbrev pub world_after : List WorldEvent → WorldState → WorldState
+world_after events w = fold (λ v e. (world_step e v).0) w events
+
+-- what they answer, each at its place
+abbrev pub replies_to : List WorldEvent → WorldState → List WorldReply
+replies_to [] w = []
+replies_to (e ∷ events) w = (world_step e w).1 ∷ replies_to events (world_step e w).0
+
+-- ---- when an event may happen
+
+-- its nodes and ports exist, a request is made at a station, and the clock goes on from below 2^61
+abbrev pub CanHappen : WorldEvent → WorldState → Type 0
+CanHappen (Request n request) w = (1 ≤ n.0) × ((s : NodeState) × (node_at n w ≡ Some s) × (s.kind ≡ Station))
+CanHappen (Port n port step) w = HasPort w.tree (record { node = n; port = port })
+CanHappen (Lose p index) w = HasPort w.tree p
+CanHappen (Repeat p index) w = HasPort w.tree p
+CanHappen (Carry p) w = HasPort w.tree p
+CanHappen Clock w = (n : NodeNo) (s : NodeState) → node_at n w ≡ Some s → s.clock.0 < 2 ^ 61
+
+-- each of some events may happen in its turn
+abbrev pub CanAllHappen : List WorldEvent → WorldState → Type 0
+CanAllHappen [] w = Unit {0}
+CanAllHappen (e ∷ events) w = CanHappen e w × CanAllHappen events (world_step e w).0
+
+-- the request of an event is of a VID (IEEE Std 802.1Q-2018, 9.6), as the type of a request has it
+abbrev pub NamesVids : WorldEvent → Type 0
+NamesVids (Request n request) = AsksVids request
+NamesVids (Port n port step) = Unit {0}
+NamesVids (Lose p index) = Unit {0}
+NamesVids (Repeat p index) = Unit {0}
+NamesVids (Carry p) = Unit {0}
+NamesVids Clock = Unit {0}
+
+-- ---- what the readers say
+
+-- whether nothing is pending anywhere: no PDU is on its way, every Applicant is VO or QA, every Registrar IN or MT, every
+-- LeaveAll machine Passive, and no key awaits
+abbrev pub is_quiet : WorldState → Bool
+is_quiet w = list_all is_still_node w.nodes
+
+-- whether every port of a node is sound
+abbrev pub all_sound : NodeState → Bool
+all_sound s = list_all (λ part. part.sound) s.vlans.parts
+
+-- whether every port of the network is sound: it has sent a LeaveAll since the last loss on its link, if there was one
+abbrev pub is_in_step : WorldState → Bool
+is_in_step w = list_all all_sound w.nodes

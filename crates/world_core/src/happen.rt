@@ -1,0 +1,190 @@
+//! What one event does to the nodes of a network.
+
+ghost use Rattle.std.specs.Prelude.{◌≡◌, ◌<◌, ◌≤◌, ◌-◌, ◌^◌, [], map, length, slice_get, Some, option_map, IfOk, OnOk, OnErr, IfErr};
+ghost use Rattle.std.specs.Option.{option_map_or};
+ghost use Rattle.std.specs.List.{AllByRecursion};
+ghost use Rattle.tree_topology.specs.Topology.{Topology, HasPort};
+ghost use Rattle.tree_topology.specs.Ports.{peer_of};
+ghost use Rattle.mvrp.specs.Side.{place_of};
+ghost use Rattle.node_core.specs.State.{NodeState, box_at};
+ghost use Rattle.node_core.specs.Wires.{AreShort};
+ghost use Rattle.node_core.specs.Step.{CanStep, node_step};
+ghost use Rattle.node_core.specs.Links.{with_outbox, with_carried, lost_at, repeated_at, spoilt_at};
+ghost use Rattle.world_core.specs.World.{StandsAt, changed, stepped, app_of, lost, repeated, world_step};
+
+use crate::events::{WorldEvent, WorldReply};
+use node_core::{Node, NodeEvent, Wire};
+use srp_base::{App, EgressPort, NoMemory, NodeNo, Seq};
+use tree_topology::Tree;
+
+// The place of a node in a list of all.
+fn place(number: NodeNo) -> usize
+    requires { 1 ≤ number.0 }
+    ensures { result ≡ number.0 - 1 }
+{
+    usize::from(number.0) - 1
+}
+
+/// A node makes a step.
+pub(crate) fn make_step(
+    nodes: &mut Vec<Node>,
+    number: NodeNo,
+    event: NodeEvent,
+) -> Result<WorldReply, NoMemory>
+    requires some { 1 ≤ number.0 }
+    requires few { number.0 ≤ length nodes.old.items }
+    requires can { (s : NodeState) → slice_get nodes.old.items (number.0 - 1) ≡ Some s → CanStep event s }
+    ensures ok { IfOk result (λ reply. (tree : Topology) → stepped number event (record { tree = tree; nodes = nodes.old.items })
+        ≡ (record { tree = tree; nodes = nodes.new.items }, reply)) }
+    ensures err { OnErr result (nodes.new.items ≡ nodes.old.items) }
+{
+    let reply = nodes[place(number)].step(event)?;
+    Ok(WorldReply::Step(reply))
+}
+
+/// The clock of every node goes on.
+pub(crate) fn tick_all(nodes: &mut Vec<Node>)
+    requires { AllByRecursion (λ s. s.clock.0 < 2 ^ 61) nodes.old.items }
+    ensures { nodes.new.items ≡ map (λ s. (node_step NodeEvent.Clock s).0) nodes.old.items }
+{
+    for node in nodes.iter_mut() {
+        node.tick();
+    }
+}
+
+// The application of the PDU of an index in a port's inbox.
+fn app_at(nodes: &Vec<Node>, at: EgressPort, index: u32) -> Option<App>
+    requires { StandsAt at nodes.now.items }
+    ensures { (tree : Topology) → result ≡ app_of at index (record { tree = tree; nodes = nodes.now.items }) }
+{
+    nodes[place(at.node)].app_at(at.port, index)
+}
+
+// The participant of an application at a port is sound no more.
+fn spoil(nodes: &mut Vec<Node>, at: EgressPort, app: App)
+    requires { StandsAt at nodes.old.items }
+    ensures after { nodes.new.items ≡ changed at.node (spoilt_at app (place_of at.port)) nodes.old.items }
+    ensures stand { (p : EgressPort) → StandsAt p nodes.old.items → StandsAt p nodes.new.items }
+{
+    nodes[place(at.node)].spoil(at.port, app);
+}
+
+// The PDU of an index, which is there, is lost from a port's inbox.
+fn lose_at(nodes: &mut Vec<Node>, at: EgressPort, index: u32)
+    requires here { StandsAt at nodes.old.items }
+    requires there { (s : NodeState) → slice_get nodes.old.items (at.node.0 - 1) ≡ Some s → index < length (box_at (place_of at.port) s.inboxes) }
+    ensures after { nodes.new.items ≡ changed at.node (lost_at (place_of at.port) index) nodes.old.items }
+    ensures stand { (p : EgressPort) → StandsAt p nodes.old.items → StandsAt p nodes.new.items }
+{
+    let _ = nodes[place(at.node)].lose(at.port, index);
+}
+
+/// The PDU of an index in a port's inbox is lost, where there is one.
+pub(crate) fn lose(tree: &Tree, nodes: &mut Vec<Node>, at: EgressPort, index: u32) -> WorldReply
+    requires port { HasPort tree.now at }
+    requires here { StandsAt at nodes.old.items }
+    requires there { StandsAt (peer_of tree.now.links at) nodes.old.items }
+    ensures { lost at index (app_of at index (record { tree = tree.now; nodes = nodes.old.items })) (record { tree = tree.now; nodes = nodes.old.items })
+        ≡ (record { tree = tree.now; nodes = nodes.new.items }, result) }
+{
+    match app_at(nodes, at, index) {
+        None => WorldReply::Missed,
+        Some(app) => {
+            lose_at(nodes, at, index);
+            spoil(nodes, at, app);
+            spoil(nodes, tree.peer(at), app);
+            WorldReply::Done
+        }
+    }
+}
+
+// The PDU of an index, which is there, is in a port's inbox twice.
+fn repeat_at(nodes: &mut Vec<Node>, at: EgressPort, index: u32) -> Result<(), NoMemory>
+    requires here { StandsAt at nodes.old.items }
+    requires there { (s : NodeState) → slice_get nodes.old.items (at.node.0 - 1) ≡ Some s → index < length (box_at (place_of at.port) s.inboxes) }
+    ensures ok { OnOk result (nodes.new.items ≡ changed at.node (repeated_at (place_of at.port) index) nodes.old.items) }
+    ensures err { OnErr result (nodes.new.items ≡ nodes.old.items) }
+{
+    nodes[place(at.node)].repeat(at.port, index)?;
+    Ok(())
+}
+
+/// It is there twice.
+pub(crate) fn repeat(
+    nodes: &mut Vec<Node>,
+    at: EgressPort,
+    index: u32,
+) -> Result<WorldReply, NoMemory>
+    requires { StandsAt at nodes.old.items }
+    ensures ok { IfOk result (λ reply. (tree : Topology)
+        → repeated at index (app_of at index (record { tree = tree; nodes = nodes.old.items })) (record { tree = tree; nodes = nodes.old.items })
+        ≡ (record { tree = tree; nodes = nodes.new.items }, reply)) }
+    ensures err { OnErr result (nodes.new.items ≡ nodes.old.items) }
+{
+    match app_at(nodes, at, index) {
+        None => Ok(WorldReply::Missed),
+        Some(_) => {
+            repeat_at(nodes, at, index)?;
+            Ok(WorldReply::Done)
+        }
+    }
+}
+
+// Takes the PDUs of a port's outbox.
+fn take(nodes: &mut Vec<Node>, at: EgressPort) -> Seq<Wire>
+    requires { StandsAt at nodes.old.items }
+    ensures after { nodes.new.items ≡ changed at.node (with_outbox (place_of at.port) []) nodes.old.items }
+    ensures taken { result ≡ option_map_or (λ s. box_at (place_of at.port) s.outboxes) (slice_get nodes.old.items (at.node.0 - 1)) [] }
+    ensures short { AreShort result }
+    ensures stand { (p : EgressPort) → StandsAt p nodes.old.items → StandsAt p nodes.new.items }
+{
+    nodes[place(at.node)].take_out(at.port)
+}
+
+// Puts PDUs behind those of a port's inbox; hands them back where memory runs out.
+fn give(
+    nodes: &mut Vec<Node>,
+    at: EgressPort,
+    wires: Seq<Wire>,
+) -> Result<(), (NoMemory, Seq<Wire>)>
+    requires here { StandsAt at nodes.old.items }
+    requires short { AreShort wires }
+    ensures ok { OnOk result (nodes.new.items ≡ changed at.node (with_carried (place_of at.port) wires) nodes.old.items) }
+    ensures err { OnErr result (nodes.new.items ≡ nodes.old.items) }
+    ensures back { IfErr result (λ e. e.1 ≡ wires) }
+{
+    nodes[place(at.node)].put_in(at.port, wires)
+}
+
+// Puts PDUs back into a port's outbox, which is empty.
+fn put_back(nodes: &mut Vec<Node>, at: EgressPort, wires: Seq<Wire>)
+    requires here { StandsAt at nodes.old.items }
+    requires short { AreShort wires }
+    requires empty { (s : NodeState) → slice_get nodes.old.items (at.node.0 - 1) ≡ Some s → box_at (place_of at.port) s.outboxes ≡ [] }
+    ensures { nodes.new.items ≡ changed at.node (with_outbox (place_of at.port) wires) nodes.old.items }
+{
+    nodes[place(at.node)].put_back(at.port, wires);
+}
+
+/// The PDUs of a port's outbox come in at its peer.
+pub(crate) fn carry(
+    tree: &Tree,
+    nodes: &mut Vec<Node>,
+    at: EgressPort,
+) -> Result<WorldReply, NoMemory>
+    requires port { HasPort tree.now at }
+    requires here { StandsAt at nodes.old.items }
+    requires there { StandsAt (peer_of tree.now.links at) nodes.old.items }
+    ensures ok { IfOk result (λ reply. world_step (WorldEvent.Carry at) (record { tree = tree.now; nodes = nodes.old.items })
+        ≡ (record { tree = tree.now; nodes = nodes.new.items }, reply)) }
+    ensures err { OnErr result (nodes.new.items ≡ nodes.old.items) }
+{
+    let wires = take(nodes, at);
+    match give(nodes, tree.peer(at), wires) {
+        Ok(()) => Ok(WorldReply::Done),
+        Err((error, wires)) => {
+            put_back(nodes, at, wires);
+            Err(error)
+        }
+    }
+}

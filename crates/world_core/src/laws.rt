@@ -1,0 +1,98 @@
+//! What every network keeps, whatever happens in it: laws over the states that contracts see. Each is a function that does
+//! nothing; calling it brings the law to a proof.
+
+ghost use Rattle.std.specs.Prelude.{◌≡◌, ◌++◌, ◌∷◌, [], ℕ, suc, List};
+ghost use Rattle.std.specs.List.{AllByRecursion};
+ghost use Rattle.topology_file.specs.Plan.{Plan};
+ghost use Rattle.topology_file.specs.Scenario.{KeepsRules};
+ghost use Rattle.world_core.specs.declared.events.WorldEvent.{WorldEvent};
+ghost use Rattle.world_core.specs.declared.journal.Tick.{Tick};
+ghost use Rattle.world_core.specs.World.{WorldState, CanHappen, CanAllHappen, NamesVids, world_step, world_after};
+ghost use Rattle.world_core.specs.Start.{world_of};
+ghost use Rattle.world_core.specs.Kept.{IsKeptWorld, AreBridgesIdle};
+ghost use Rattle.world_core.specs.Ticks.{LeadTo, AreLegalTicks, AreCanonicalTicks, IsLegalTick, IsCanonicalTick, tick_events};
+ghost use Rattle.world_core.specs.Moments.{IsMoment, events_from};
+
+use mrp_participant::duty_laws::spoiling_keeps_duties;
+use mrp_participant::link_laws::{a_new_link_meets_both_duties, every_event_keeps_both_duties};
+use mvrp::MvrpApp;
+use mvrp::laws::what_is_sent_is_read;
+use node_core::laws::{
+    a_new_node_is_proper, every_step_keeps_a_node_proper, links_keep_a_node_proper,
+    steps_keep_what_a_node_is,
+};
+use tree_topology::laws::ports;
+
+/// The network of a scenario keeps what every network keeps.
+pub fn a_scenario_begins_well()
+    ensures { (plan : Plan) → KeepsRules plan → IsKeptWorld (world_of plan) }
+{
+    ports();
+    a_new_link_meets_both_duties::<MvrpApp>();
+    a_new_node_is_proper();
+}
+
+/// Each event that may happen keeps it, where a request is of a VID, and so does each list of such events.
+pub fn every_event_keeps_it()
+    ensures event { (e : WorldEvent) (w : WorldState) → CanHappen e w → NamesVids e → IsKeptWorld w → IsKeptWorld (world_step e w).0 }
+    ensures events { (es : List WorldEvent) (w : WorldState)
+        → CanAllHappen es w → AllByRecursion NamesVids es → IsKeptWorld w → IsKeptWorld (world_after es w) }
+{
+    ports();
+    a_new_link_meets_both_duties::<MvrpApp>();
+    every_event_keeps_both_duties::<MvrpApp>();
+    spoiling_keeps_duties::<MvrpApp>();
+    what_is_sent_is_read();
+    every_step_keeps_a_node_proper();
+    links_keep_a_node_proper();
+    steps_keep_what_a_node_is();
+}
+
+/// Each event of a legal run of a scenario may happen in its turn, and a request of it is of a VID.
+pub fn every_event_of_a_run_may_happen()
+    ensures can { (plan : Plan) (ticks : List Tick) (end : WorldState) → KeepsRules plan → AreLegalTicks plan ticks end
+        → CanAllHappen (events_from plan 0 ticks) (world_of plan) }
+    ensures named { (plan : Plan) (ticks : List Tick) (end : WorldState) → KeepsRules plan → AreLegalTicks plan ticks end
+        → AllByRecursion NamesVids (events_from plan 0 ticks) }
+{
+    a_scenario_begins_well();
+    every_event_keeps_it();
+    ports();
+    steps_keep_what_a_node_is();
+}
+
+/// Ticks that lead to a state go on by each legal tick from there, and in the canonical order by each canonical one.
+pub fn ticks_go_on()
+    ensures legal { (plan : Plan) (t t' : ℕ) (w v : WorldState) (ticks : List Tick) (tick : Tick)
+        → LeadTo (IsLegalTick plan) plan t w ticks t' v → IsLegalTick plan t' v tick
+        → LeadTo (IsLegalTick plan) plan t w (ticks ++ tick ∷ []) (suc t') (world_after (tick_events plan t' tick) v) }
+    ensures canonical { (plan : Plan) (t t' : ℕ) (w v : WorldState) (ticks : List Tick) (tick : Tick)
+        → LeadTo (IsCanonicalTick plan) plan t w ticks t' v → IsCanonicalTick plan t' v tick
+        → LeadTo (IsCanonicalTick plan) plan t w (ticks ++ tick ∷ []) (suc t') (world_after (tick_events plan t' tick) v) }
+{}
+
+/// Every moment of a legal run of a scenario keeps it.
+pub fn every_moment_keeps_it()
+    ensures { (plan : Plan) (ticks : List Tick) (end w : WorldState) → KeepsRules plan → AreLegalTicks plan ticks end
+        → IsMoment plan ticks w → IsKeptWorld w }
+{
+    a_scenario_begins_well();
+    every_event_keeps_it();
+    every_event_of_a_run_may_happen();
+}
+
+/// A bridge has no application, so nothing is declared there: not at the start of a scenario, not after an event that may
+/// happen, and at no moment of a legal run.
+pub fn bridges_declare_nothing()
+    ensures start { (plan : Plan) → AreBridgesIdle (world_of plan) }
+    ensures event { (e : WorldEvent) (w : WorldState) → CanHappen e w → AreBridgesIdle w → AreBridgesIdle (world_step e w).0 }
+    ensures moment { (plan : Plan) (ticks : List Tick) (end w : WorldState) → KeepsRules plan → AreLegalTicks plan ticks end
+        → IsMoment plan ticks w → AreBridgesIdle w }
+{
+    every_event_of_a_run_may_happen();
+}
+
+/// Ticks in the canonical order are legal.
+pub fn canonical_ticks_are_legal()
+    ensures { (plan : Plan) (ticks : List Tick) (end : WorldState) → AreCanonicalTicks plan ticks end → AreLegalTicks plan ticks end }
+{}

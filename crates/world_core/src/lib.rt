@@ -1,0 +1,33 @@
+//! A network of bridges and stations over a tree: one event at a time, the ticks of a scenario, and the journal of a run.
+//!
+//! ```text
+//!   a tick   the scenario's events of this tick, in file order
+//!            each node's ports make their jobs, in some interleaving     Work.. Due Settle Send
+//!            each port's outbox is carried to its peer's inbox, link by link
+//!            every clock goes on by 1 cs
+//! ```
+//!
+//! Contracts see a network as a `WorldState`, a tree with a state for each node (`specs/World.antt`), and one event is a
+//! function of it, `world_step`. A run is the fold of its events. Which runs are those of a scenario, in which each node's
+//! steps of a tick are some interleaving of its ports' jobs, is `specs/Ticks.antt`; the network after each event is a moment
+//! (`specs/Moments.antt`). What every network keeps by its type is `IsKeptWorld`: among it that on each link both ends meet
+//! their duty (`specs/Duty.antt`), so that it holds after every list of events, losses and repeats included.
+//!
+//! A further kind of event is a variant of `WorldEvent`, a line in `world_step` and `CanHappen`, an arm in `World::step`, and
+//! a lemma that it keeps the duties.
+#![tactic(auto)]
+
+mod events;
+mod happen;
+mod journal;
+pub mod laws;
+mod start;
+mod step;
+#[cfg(test)]
+mod tests;
+mod world;
+
+pub use events::{WorldEvent, WorldReply};
+pub use journal::{Journal, NodeSteps, Run, Tick};
+pub use step::RunErr;
+pub use world::World;

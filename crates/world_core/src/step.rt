@@ -1,0 +1,105 @@
+//! One event of a network, and lists of them.
+
+ghost use Rattle.std.specs.Prelude.{◌≡◌, take, IfOk, IfErr, OnErr};
+ghost use Rattle.mvrp.specs.Vids.{IsVid};
+ghost use Rattle.node_core.specs.Proper.{AsksVids};
+ghost use Rattle.world_core.specs.World.{CanHappen, NamesVids, CanAllHappen, world_step, world_after, replies_to};
+
+use crate::events::{WorldEvent, WorldReply};
+use crate::happen::{carry, lose, make_step, repeat, tick_all};
+use crate::laws::every_event_keeps_it;
+use crate::world::World;
+use node_core::{AppRequest, NodeEvent};
+use srp_base::{NoMemory, Seq, Vid};
+use std::alloc::Global;
+use tree_topology::laws::ports;
+
+/// Memory ran out after so many of the events were done.
+#[derive(Clone, Copy, Debug, PartialEq, Eq)]
+pub struct RunErr {
+    pub done: usize,
+}
+
+impl World {
+    /// Lets one event happen, and answers what came of it: `Step` with the node's answer for a request and a port's step,
+    /// `Missed` exactly where no PDU has the index, `Done` for all else. The nodes and ports that the event names exist, a
+    /// request is made at a station, and the clock goes on from below 2^61. After want of memory the network is as it was.
+    pub fn step(&mut self, event: WorldEvent) -> Result<WorldReply, NoMemory>
+        requires { CanHappen event self.old }
+        ensures ok { IfOk result (λ reply. world_step event self.old ≡ (self.new, reply)) }
+        ensures err { OnErr result (self.new ≡ self.old) }
+    {
+        ports();
+        every_event_keeps_it();
+        names_vids(&event);
+        match event {
+            WorldEvent::Request(node, request) => {
+                make_step(&mut self.nodes, node, NodeEvent::Request(request))
+            }
+            WorldEvent::Port(node, port, step) => {
+                make_step(&mut self.nodes, node, NodeEvent::Port(port, step))
+            }
+            WorldEvent::Lose(at, index) => Ok(lose(&self.tree, &mut self.nodes, at, index)),
+            WorldEvent::Repeat(at, index) => repeat(&mut self.nodes, at, index),
+            WorldEvent::Carry(at) => carry(&self.tree, &mut self.nodes, at),
+            WorldEvent::Clock => {
+                tick_all(&mut self.nodes);
+                Ok(WorldReply::Done)
+            }
+        }
+    }
+
+    /// Lets a list of events happen, one after the other, and answers what came of each. After want of memory the network is
+    /// that after the first `done` events.
+    pub fn run(&mut self, alloc: Global, events: &[WorldEvent]) -> Result<Seq<WorldReply>, RunErr>
+        requires { CanAllHappen events.now self.old }
+        ensures replies { IfOk result (λ replies. replies ≡ replies_to events.now self.old) }
+        ensures after { IfOk result (λ _. self.new ≡ world_after events.now self.old) }
+        ensures done { IfErr result (λ e. self.new ≡ world_after (take e.done events.now) self.old) }
+    {
+        let mut replies = match Vec::with_capacity(alloc, events.len()) {
+            Ok(replies) => replies,
+            Err(_) => return Err(RunErr { done: 0 }),
+        };
+        for i in 0..events.len() {
+            let Ok(reply) = self.step(events[i]) else {
+                return Err(RunErr { done: i });
+            };
+            if replies.push(reply).is_err() {
+                return Err(RunErr { done: i + 1 });
+            }
+        }
+        Ok(Seq::from_vec(replies))
+    }
+}
+
+// The type of a VID says its range.
+fn names_vids(event: &WorldEvent)
+    ensures { NamesVids event.now }
+{
+    match event {
+        WorldEvent::Request(_, request) => asks_vids(*request),
+        WorldEvent::Port(_, _, _)
+        | WorldEvent::Lose(_, _)
+        | WorldEvent::Repeat(_, _)
+        | WorldEvent::Carry(_)
+        | WorldEvent::Clock => {}
+    }
+}
+
+// It says it of that of a request.
+fn asks_vids(request: AppRequest)
+    ensures { AsksVids request }
+{
+    match request {
+        AppRequest::Declare(vid) => in_range(vid),
+        AppRequest::Withdraw(vid) => in_range(vid),
+    }
+}
+
+// It says it of that VID.
+fn in_range(vid: Vid)
+    ensures { IsVid vid }
+{
+    let _ = vid.get();
+}

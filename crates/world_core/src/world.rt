@@ -1,0 +1,85 @@
+//! A network, how it begins, and what it shows.
+
+ghost use Rattle.std.specs.Prelude.{◌≡◌, IfOk, Some};
+ghost use Rattle.tree_topology.specs.Topology.{HasNode};
+ghost use Rattle.world_core.specs.World.{node_at, is_quiet, is_in_step};
+ghost use Rattle.world_core.specs.Start.{world_of};
+ghost use Rattle.world_core.specs.Kept.{IsKeptWorld};
+
+use crate::laws::a_scenario_begins_well;
+use crate::start::new_nodes;
+use node_core::Node;
+use srp_base::{NoMemory, NodeNo};
+use std::alloc::Global;
+use std::marker::Model;
+use topology_file::Scenario;
+use tree_topology::Tree;
+
+/// A network: a tree, and a node for each of its nodes. Contracts see a `WorldState`.
+#[derive(Drop)]
+pub struct World {
+    pub(crate) tree: Tree,
+    pub(crate) nodes: Vec<Node>,
+}
+
+impl Model for World {
+    ghost use Rattle.world_core.specs.World.{WorldState};
+    ghost use Rattle.world_core.specs.Kept.{IsKeptWorld};
+
+    ghost Value = { WorldState };
+
+    ghost view = { λ w. record { tree = w.tree; nodes = w.nodes.items } };
+
+    ghost invariant = { λ w. IsKeptWorld (record { tree = w.tree; nodes = w.nodes.items }) };
+}
+
+impl World {
+    /// The network of a scenario at its start: nothing is declared, no PDU waits, the clock is at 0.
+    pub fn of(alloc: Global, scenario: &Scenario) -> Result<World, NoMemory>
+        ensures { IfOk result (λ world. world ≡ world_of scenario.now) }
+    {
+        a_scenario_begins_well();
+        scenario.keeps_rules();
+        let tree = scenario.tree.copy()?;
+        let nodes = new_nodes(alloc, scenario)?;
+        Ok(World { tree, nodes })
+    }
+
+    /// What every network keeps, whatever has happened in it: the nodes of its tree, one clock, and on each link both duties.
+    /// It is a law, and does nothing.
+    pub fn keeps(&self)
+        ensures { IsKeptWorld self.now }
+    {
+        let _ = &self.tree;
+    }
+
+    /// The node of a number.
+    pub fn node(&self, number: NodeNo) -> &Node
+        requires { HasNode self.now.tree number.0 }
+        ensures { node_at number self.now ≡ Some result.now }
+    {
+        &self.nodes[usize::from(number.0) - 1]
+    }
+
+    /// The tree of the nodes and links.
+    pub fn tree(&self) -> &Tree
+        ensures { result.now ≡ self.now.tree }
+    {
+        &self.tree
+    }
+
+    /// Whether nothing is pending: no PDU is on its way, every Applicant is VO or QA, every Registrar IN or MT, every LeaveAll
+    /// machine Passive, and no attribute awaits.
+    pub fn quiet(&self) -> bool
+        ensures { result ≡ is_quiet self.now }
+    {
+        self.nodes.iter().all(|node| node.still())
+    }
+
+    /// Whether every port is sound: it has sent a LeaveAll since the last loss on its link, if there was one.
+    pub fn in_step(&self) -> bool
+        ensures { result ≡ is_in_step self.now }
+    {
+        self.nodes.iter().all(|node| node.all_sound())
+    }
+}
