@@ -1,0 +1,2 @@
+pub mod LinkPorts
+pub mod TallyLemmas

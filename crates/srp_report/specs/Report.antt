@@ -1,6 +1,6 @@
 -- What is printed of a run: its length, each port with what it sent and what is registered there, and how the
 -- network is at the end.
-use Rattle.std.specs.Prelude.{ℕ, List, [], ◌∷◌, ◌++◌, flat_map}
+use Rattle.std.specs.Prelude.{ℕ, ◌+◌, ◌-◌, List, [], ◌∷◌, ◌++◌, flat_map}
 use Rattle.std.specs.Option.{option_map_or}
 use Rattle.std.specs.List.{range_with_len}
 use Rattle.srp_base.specs.Text.{joined}
@@ -9,7 +9,7 @@ use Rattle.registrar.specs.declared.Registrar.{Registrar}
 use Rattle.registrar.specs.declared.Registrar.TheVariants.{Empty}
 use Rattle.topology_file.specs.Plan.{Plan}
 use Rattle.mvrp.specs.Side.{place_of}
-use Rattle.node_core.specs.State.{NodeState, registrar_at}
+use Rattle.node_core.specs.State.{registrar_at}
 use Rattle.node_core.specs.declared.types.NodeKey.TheVariants.{Vlan}
 use Rattle.world_core.specs.declared.journal.Tick.{Tick}
 use Rattle.world_core.specs.World.{WorldState, node_at, is_quiet, is_in_step}
@@ -23,14 +23,17 @@ use Rattle.srp_report.specs.Lines.{port_name, ticks_line, port_line, vlan_line, 
 abbrev pub registrar_of : EgressPort → WorldState → ℕ → Registrar
 registrar_of p w vid = option_map_or (registrar_at (Vlan vid) (place_of p.port)) (node_at p.node w) Empty
 
--- so many VIDs from one on, ascending
-abbrev pub vlan_lines : List ℕ → (ℕ → Registrar) → ℕ → ℕ → List ℕ
-vlan_lines port registrar first count =
-    flat_map (λ vid. vlan_line port vid (registrar vid)) (range_with_len first count)
+-- the VIDs after a number, ascending: they are 1 to 4,094 (IEEE Std 802.1Q-2018, 9.6)
+unfoldable pub vids_after : ℕ → List ℕ
+vids_after n = range_with_len (n + 1) (4094 - n)
 
--- all that are registered at a port, of 1 to 4,094 (IEEE Std 802.1Q-2018, 9.6)
+-- the lines of these VIDs at a port
+abbrev pub vlan_lines : List ℕ → (ℕ → Registrar) → List ℕ → List ℕ
+vlan_lines port registrar vids = flat_map (λ vid. vlan_line port vid (registrar vid)) vids
+
+-- those of all VIDs
 abbrev pub port_vlans : List ℕ → EgressPort → WorldState → List ℕ
-port_vlans port p w = vlan_lines port (registrar_of p w) 1 4094
+port_vlans port p w = vlan_lines port (registrar_of p w) (vids_after 0)
 
 -- ---- the ports, link by link, end `a` first
 

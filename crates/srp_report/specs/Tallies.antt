@@ -1,6 +1,6 @@
 -- How the tallies of all ports are kept while the journal is read: a row for each node and a tally for each port,
 -- at the places of their numbers. No public contract names these words.
-use Rattle.std.specs.Prelude.{◌≡◌, ℕ, ◌+◌, List, fold, replicate, Option, Some, None, slice_get, slice_set}
+use Rattle.std.specs.Prelude.{◌≡◌, ℕ, ◌+◌, List, fold, replicate, Option, Some, slice_get, slice_set}
 use Rattle.std.specs.Option.{option_map_or, option_and_then}
 use Rattle.srp_base.specs.declared.numbers.EgressPort.{EgressPort}
 use Rattle.tree_topology.specs.Topology.{Topology, HasPort}

@@ -26,10 +26,10 @@
 
 mod lines;
 mod ports;
-mod report;
 mod tallies;
 mod tally;
 #[cfg(test)]
 mod tests;
+mod text;
 
-pub use report::report;
+pub use text::report;

@@ -9,7 +9,7 @@ ghost use Rattle.node_core.specs.declared.types.NodeKey.TheVariants.{Vlan};
 ghost use Rattle.world_core.specs.Ticks.{link_ports};
 ghost use Rattle.srp_report.specs.Counts.{replies_of, tally_of};
 ghost use Rattle.srp_report.specs.Lines.{name_of, vlan_line, port_name as port_name_spec};
-ghost use Rattle.srp_report.specs.Report.{port_part, port_parts, port_vlans, vlan_lines};
+ghost use Rattle.srp_report.specs.Report.{port_part, port_parts, port_vlans, vlan_lines, vids_after};
 ghost use Rattle.srp_report.specs.Tallies.{tally_at, AreTallies};
 
 use crate::lines::{put_tally, put_vlan};
@@ -31,6 +31,7 @@ pub(crate) fn put_ports(
 ) -> Result<(), NoMemory>
     ensures { OnOk result (out.new.items ≡ out.old.items ++ port_parts scenario.now world.now ticks.now) }
 {
+    world.keeps();
     let alloc = *out.allocator();
     let tallies = Tallies::of(alloc, world.tree().nodes(), ticks)?;
     let ports = ports_of_links(alloc, world.tree())?;
@@ -103,23 +104,16 @@ fn put_vlans(
     ensures { OnOk result (out.new.items ≡ out.old.items ++ port_vlans port.now at world.now) }
 {
     world.keeps();
-    put_vids(out, port, world.node(at.node), at.port, 4094)
+    put_vids(out, port, world.node(at.node), at.port)
 }
 
-// The lines of those from 1 to a number.
-fn put_vids(
-    out: &mut Vec<u8>,
-    port: &[u8],
-    node: &Node,
-    at: PortNo,
-    last: u16,
-) -> Result<(), AllocError>
-    requires few { last ≤ 4094 }
-    requires port { IsLinkPort at (ports_of node.now) }
+// The lines of those of a node's port.
+fn put_vids(out: &mut Vec<u8>, port: &[u8], node: &Node, at: PortNo) -> Result<(), AllocError>
+    requires { IsLinkPort at (ports_of node.now) }
     ensures { OnOk result (out.new.items ≡ out.old.items
-        ++ vlan_lines port.now (λ vid. registrar_at (Vlan vid) (place_of at) node.now) 1 last) }
+        ++ vlan_lines port.now (λ vid. registrar_at (Vlan vid) (place_of at) node.now) (vids_after 0)) }
 {
-    for i in 0..last {
+    for i in 0..4094 {
         put_vid(out, port, node, at, i + 1)?;
     }
     Ok(())
