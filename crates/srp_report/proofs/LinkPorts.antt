@@ -1,8 +1,8 @@
--- The ports of a tree's links: one link more, where they stand, and the numbers of their tallies.
+-- The ports of a tree's links: one link more, and where a node and the tallies have each of them.
 use Rattle.std.proofs.Common.{◌≡◌, ℕ, zero, suc, ◌+◌, ◌-◌, ◌<◌, ◌≤◌, List, [], ◌∷◌, ◌++◌, length, drop, refl, sym, ap, ◌∙◌, append_assoc, append-nil, arith}
 use Rattle.std.specs.Prelude.{flat_map, slice_index_or, Some}
 use Rattle.std.proofs.lemmas.List.{at_drop_more}
-use Rattle.std.specs.List.{AllByRecursion, range_with_len}
+use Rattle.std.specs.List.{AllByRecursion}
 use Rattle.srp_base.specs.declared.numbers.EgressPort.{EgressPort}
 use Rattle.tree_topology.specs.declared.graph.Link.{Link}
 use Rattle.tree_topology.specs.Topology.{Topology, HasPort, IsSound}
@@ -15,7 +15,6 @@ use Rattle.world_core.specs.Kept.{IsKeptWorld}
 use Rattle.srp_report.specs.declared.tally.Tally.{Tally}
 use Rattle.srp_report.specs.Counts.{replies_of, tally_of}
 use Rattle.srp_report.specs.Tallies.{tally_at, AreTallies}
-use Rattle.srp_report.specs.Report.{vids_after}
 
 -- the ports of a link's ends, `a` first
 abbrev pub both_ends : Topology → Link → List EgressPort
@@ -46,11 +45,6 @@ pub each-two : {X : Type 0} (P : X → Type 0) (xs : List X) (a b : X) → AllBy
 each-two P [] a b hs ha hb = (ha, (hb, tt))
 each-two P (x ∷ xs) a b hs ha hb = (hs.0, each-two P xs a b hs.1 ha hb)
 
-pub each-at : {X : Type 0} (P : X → Type 0) (xs : List X) (i : ℕ) (d : X) → AllByRecursion P xs → i < length xs → P (slice_index_or xs i d)
-each-at P [] i d hs h = absurd (omega arith)
-each-at P (x ∷ xs) zero d hs h = hs.0
-each-at P (x ∷ xs) (suc i) d hs h = let lt : i < length xs = omega arith in each-at P xs i d hs.1 lt
-
 -- the node of a port has it
 pub link-port : (w : WorldState) → IsKeptWorld w → (p : EgressPort) → HasPort w.tree p → (s : NodeState) → node_at p.node w ≡ Some s
     → IsLinkPort p.port (ports_of s)
@@ -69,30 +63,3 @@ ports-counted tree ticks rows sound each p h =
     let many : length (neighbours tree.links p.node.0) ≤ 255 = sound.counted_ports p.node.0 h.0 in
     let port : p.port.0 < 256 = omega (arith, h.2, many) in
     each p few port
-
-from : (last i : ℕ) → i < last → range_with_len (i + 1) (last - i) ≡ (i + 1) ∷ range_with_len (i + 1 + 1) (last - (i + 1))
-from last i h =
-    let one : last - i ≡ suc (last - (i + 1)) = omega arith in
-    ap (λ n. range_with_len (i + 1) n) one
-
--- the VIDs after a number are the next one and those after it, up to the last
-pub next-vid : (i : ℕ) → i < 4094 → vids_after i ≡ (i + 1) ∷ vids_after (i + 1)
-unfolding vids_after
-next-vid i h = from 4094 i h
-
-pub last-vid : (i : ℕ) → 4094 ≤ i → vids_after i ≡ []
-unfolding vids_after
-last-vid i h =
-    let none : 4094 - i ≡ 0 = omega arith in
-    ap (λ n. range_with_len (i + 1) n) none
-
--- a text with the lines of the next VID, and one with those of all
-pub lines-next : (f : ℕ → List ℕ) (old new whole : List ℕ) (i : ℕ) → i < 4094 → new ≡ old ++ f (i + 1)
-    → old ++ flat_map f (vids_after i) ≡ whole → new ++ flat_map f (vids_after (i + 1)) ≡ whole
-lines-next f old new whole i h line so_far =
-    ap (λ text. text ++ flat_map f (vids_after (i + 1))) line
-    ∙ (append_assoc old (f (i + 1)) (flat_map f (vids_after (i + 1)))
-    ∙ (ap (λ vids. old ++ flat_map f vids) (sym (next-vid i h)) ∙ so_far))
-
-pub lines-end : (f : ℕ → List ℕ) (text whole : List ℕ) (i : ℕ) → 4094 ≤ i → text ++ flat_map f (vids_after i) ≡ whole → text ≡ whole
-lines-end f text whole i h so_far = sym (append-nil text) ∙ (ap (λ vids. text ++ flat_map f vids) (sym (last-vid i h)) ∙ so_far)

@@ -4,7 +4,7 @@ use Rattle.node_core.specs.State.{registrar_at}
 use Rattle.node_core.specs.declared.types.NodeKey.TheVariants.{Vlan}
 use Rattle.srp_report.specs.Lines.{vlan_line}
 use Rattle.srp_report.specs.Report.{vlan_lines, vids_after}
-use Rattle.srp_report.proofs.LinkPorts.{lines-next, lines-end}
+use Rattle.srp_report.proofs.VidLines.{lines-next, lines-end}
 use Rattle.srp_report.proofs.ports.put_vids.Goals as goal
 
 pub loop-i-preserved : goal.loop-i-preserved
