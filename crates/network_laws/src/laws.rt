@@ -8,7 +8,7 @@ ghost use Rattle.topology_file.specs.Scenario.{KeepsRules};
 ghost use Rattle.world_core.specs.declared.journal.Tick.{Tick};
 ghost use Rattle.world_core.specs.World.{WorldState};
 ghost use Rattle.world_core.specs.Duty.{AreVlanDutiesMet};
-ghost use Rattle.world_core.specs.Kept.{IsKeptWorld, AreBridgesIdle};
+ghost use Rattle.world_core.specs.Kept.{IsKeptWorld};
 ghost use Rattle.world_core.specs.Moments.{IsMoment};
 ghost use Rattle.world_core.specs.Ticks.{AreLegalTicks};
 ghost use Rattle.network_laws.specs.Vlans.{VlansMatch, IsAtRest, is_registered, is_declared_behind};
@@ -16,13 +16,13 @@ ghost use Rattle.network_laws.specs.Vlans.{VlansMatch, IsAtRest, is_registered, 
 use mrp_participant::link_laws::a_still_link_registers_what_is_declared;
 use mvrp::MvrpApp;
 use tree_topology::laws::{ports, the_walk};
-use world_core::laws::{bridges_declare_nothing, every_moment_keeps_it};
+use world_core::laws::every_moment_keeps_it;
 
 /// In every network at rest a VID is registered at a port exactly where a station behind the port, in the words of the
 /// tree's walks, has declared it (IEEE Std 802.1Q-2018, 11.2); so both sides that `vlans_match` answers are equal.
 pub fn vlans_are_those_declared_behind()
-    ensures law { (w : WorldState) → IsKeptWorld w → AreBridgesIdle w → IsAtRest w → VlansMatch w }
-    ensures sides { (w : WorldState) (p : EgressPort) (vid : ℕ) → IsKeptWorld w → AreBridgesIdle w → IsAtRest w → HasPort w.tree p
+    ensures law { (w : WorldState) → IsKeptWorld w → IsAtRest w → VlansMatch w }
+    ensures sides { (w : WorldState) (p : EgressPort) (vid : ℕ) → IsKeptWorld w → IsAtRest w → HasPort w.tree p
         → is_registered w vid p ≡ is_declared_behind w vid p }
 {
     a_still_link_registers_what_is_declared::<MvrpApp>();
@@ -38,7 +38,6 @@ pub fn vlans_match_whenever_at_rest()
 {
     vlans_are_those_declared_behind();
     every_moment_keeps_it();
-    bridges_declare_nothing();
 }
 
 /// At every moment of every legal run of a scenario, at rest or not, both ends of each link meet their duty: what the

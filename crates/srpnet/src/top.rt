@@ -20,7 +20,11 @@ use std::alloc::Global;
 const MOST_OCTETS: usize = 1_048_576;
 
 /// Reads the input of a command to its end, where it reads one, and makes the command's output.
-fn read_output<I: Source>(alloc: Global, command: Command, source: &mut I) -> Result<CommandOutput, Cause>
+fn read_output<I: Source>(
+    alloc: Global,
+    command: Command,
+    source: &mut I,
+) -> Result<CommandOutput, Cause>
     ensures output { IfOk result (λ o. IsOutput command (I.left source.old) (I.left source.new) o.journal.ticks o.text) }
     ensures only { IfErr result LacksOutput }
 

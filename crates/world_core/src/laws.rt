@@ -9,7 +9,7 @@ ghost use Rattle.world_core.specs.declared.events.WorldEvent.{WorldEvent};
 ghost use Rattle.world_core.specs.declared.journal.Tick.{Tick};
 ghost use Rattle.world_core.specs.World.{WorldState, CanHappen, CanAllHappen, NamesVids, world_step, world_after};
 ghost use Rattle.world_core.specs.Start.{world_of};
-ghost use Rattle.world_core.specs.Kept.{IsKeptWorld, AreBridgesIdle};
+ghost use Rattle.world_core.specs.Kept.{IsKeptWorld};
 ghost use Rattle.world_core.specs.Ticks.{LeadTo, AreLegalTicks, AreCanonicalTicks, IsLegalTick, IsCanonicalTick, tick_events};
 ghost use Rattle.world_core.specs.Moments.{IsMoment, events_from};
 
@@ -78,17 +78,6 @@ pub fn every_moment_keeps_it()
 {
     a_scenario_begins_well();
     every_event_keeps_it();
-    every_event_of_a_run_may_happen();
-}
-
-/// A bridge has no application, so nothing is declared there: not at the start of a scenario, not after an event that may
-/// happen, and at no moment of a legal run.
-pub fn bridges_declare_nothing()
-    ensures start { (plan : Plan) → AreBridgesIdle (world_of plan) }
-    ensures event { (e : WorldEvent) (w : WorldState) → CanHappen e w → AreBridgesIdle w → AreBridgesIdle (world_step e w).0 }
-    ensures moment { (plan : Plan) (ticks : List Tick) (end w : WorldState) → KeepsRules plan → AreLegalTicks plan ticks end
-        → IsMoment plan ticks w → AreBridgesIdle w }
-{
     every_event_of_a_run_may_happen();
 }
 
