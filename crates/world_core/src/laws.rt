@@ -10,7 +10,10 @@ ghost use Rattle.node_core.specs.Step.{node_step};
 ghost use Rattle.std.specs.List.{AllByRecursion};
 ghost use Rattle.topology_file.specs.Plan.{Plan};
 ghost use Rattle.topology_file.specs.Scenario.{KeepsRules};
+ghost use Rattle.node_core.specs.declared.types.NodeEvent.TheVariants.{Port as port_step};
 ghost use Rattle.world_core.specs.declared.events.WorldEvent.{WorldEvent};
+ghost use Rattle.world_core.specs.declared.events.WorldEvent.TheVariants.{Port as port_event};
+ghost use Rattle.world_core.specs.declared.events.WorldReply.TheVariants.{Step as step_reply};
 ghost use Rattle.world_core.specs.declared.journal.Tick.{Tick};
 ghost use Rattle.world_core.specs.World.{WorldState, CanHappen, CanAllHappen, NamesVids, node_at, world_step, world_after};
 ghost use Rattle.world_core.specs.Start.{world_of};
@@ -96,9 +99,9 @@ pub fn canonical_ticks_are_legal()
 /// other.
 pub fn a_step_is_of_its_node_alone()
     ensures own { (n : NodeNo) (port : PortNo) (step : PortStep) (w : WorldState) (s : NodeState) → node_at n w ≡ Some s
-        → node_at n (world_step (WorldEvent.Port n port step) w).0 ≡ Some (node_step (NodeEvent.Port port step) s).0 }
+        → node_at n (world_step (port_event n port step) w).0 ≡ Some (node_step (port_step port step) s).0 }
     ensures answer { (n : NodeNo) (port : PortNo) (step : PortStep) (w : WorldState) (s : NodeState) → node_at n w ≡ Some s
-        → (world_step (WorldEvent.Port n port step) w).1 ≡ WorldReply.Step (node_step (NodeEvent.Port port step) s).1 }
+        → (world_step (port_event n port step) w).1 ≡ step_reply (node_step (port_step port step) s).1 }
     ensures others { (n m : NodeNo) (port : PortNo) (step : PortStep) (w : WorldState) → n.0 - 1 ≢ m.0 - 1
-        → node_at m (world_step (WorldEvent.Port n port step) w).0 ≡ node_at m w }
+        → node_at m (world_step (port_event n port step) w).0 ≡ node_at m w }
 {}
