@@ -1,6 +1,6 @@
 //! A node, how it is made, and what it shows.
 
-ghost use Rattle.std.specs.Prelude.{◌≡◌, ◌≤◌, ◌+◌, ◌++◌, ◌∷◌, false, [], length, map, slice_get, Some, option_map, option_and_then, IfOk, OnOk};
+ghost use Rattle.std.specs.Prelude.{◌≡◌, ◌≤◌, ◌+◌, ◌++◌, false, [], length, map, slice_get, Some, option_map, option_and_then, option_to_list, IfOk, OnOk};
 ghost use Rattle.std.specs.List.{AllByRecursion, list_all, filter_map};
 ghost use Rattle.mrp_participant.specs.State.{IsTime};
 ghost use Rattle.mvrp.specs.Side.{IsLinkPort, place_of, has_own};
@@ -274,7 +274,7 @@ fn push_registered(
     i: usize,
 ) -> Result<(), NoMemory>
     ensures { OnOk result (keys.new.items
-        ≡ keys.old.items ++ filter_map (λ row. option_and_then registered_key row) (slice_get part.now.rows i ∷ [])) }
+        ≡ keys.old.items ++ option_to_list (option_and_then registered_key (slice_get part.now.rows i))) }
 {
     a_place_for_each_key::<MvrpApp>();
     part.rows_ascend();
