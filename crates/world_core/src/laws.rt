@@ -1,8 +1,11 @@
 //! What every network keeps, whatever happens in it: laws over the states that contracts see. Each is a function that does
 //! nothing; calling it brings the law to a proof.
 
-ghost use Rattle.std.specs.Prelude.{◌≡◌, ◌++◌, ◌∷◌, [], ℕ, suc, List};
+ghost use Rattle.std.specs.Prelude.{◌≡◌, ◌<◌, ◌^◌, ◌++◌, ◌∷◌, [], ℕ, suc, List, map, IfSome};
 ghost use Rattle.std.specs.List.{AllByRecursion};
+ghost use Rattle.tree_topology.specs.Topology.{Topology};
+ghost use Rattle.topology_file.specs.declared.entries.EventKind.{EventKind};
+ghost use Rattle.topology_file.specs.Kinds.{IsKnownKind};
 ghost use Rattle.topology_file.specs.Plan.{Plan};
 ghost use Rattle.topology_file.specs.Scenario.{KeepsRules};
 ghost use Rattle.world_core.specs.declared.events.WorldEvent.{WorldEvent};
@@ -10,7 +13,8 @@ ghost use Rattle.world_core.specs.declared.journal.Tick.{Tick};
 ghost use Rattle.world_core.specs.World.{WorldState, CanHappen, CanAllHappen, NamesVids, world_step, world_after};
 ghost use Rattle.world_core.specs.Start.{world_of};
 ghost use Rattle.world_core.specs.Kept.{IsKeptWorld, AreBridgesIdle};
-ghost use Rattle.world_core.specs.Ticks.{LeadTo, AreLegalTicks, AreCanonicalTicks, IsLegalTick, IsCanonicalTick, tick_events};
+ghost use Rattle.world_core.specs.Ticks.{event_of, scripted, LeadTo, AreLegalTicks, AreCanonicalTicks, IsLegalTick, IsCanonicalTick, tick_events};
+ghost use Rattle.world_core.specs.During.{IsDuring, IsAllowed, NamesNeighbours};
 ghost use Rattle.world_core.specs.Moments.{IsMoment, events_from};
 
 use mrp_participant::duty_laws::spoiling_keeps_duties;
@@ -54,6 +58,34 @@ pub fn every_event_of_a_run_may_happen()
         → CanAllHappen (events_from plan 0 ticks) (world_of plan) }
     ensures named { (plan : Plan) (ticks : List Tick) (end : WorldState) → KeepsRules plan → AreLegalTicks plan ticks end
         → AllByRecursion NamesVids (events_from plan 0 ticks) }
+{
+    a_scenario_begins_well();
+    every_event_keeps_it();
+    ports();
+    steps_keep_what_a_node_is();
+}
+
+/// What a tick of a scenario may have can happen, whatever happened before in the tick, and doesn't end the tick: each event
+/// of the file, a loss and a repeat between neighbours, each step of a port, and the carrying of each port's PDUs. The clock
+/// can go on, and then the next tick begins.
+pub fn what_is_allowed_may_happen()
+    ensures begins { (plan : Plan) → KeepsRules plan → IsDuring plan.tree 0 (world_of plan) }
+    ensures can { (tree : Topology) (t : ℕ) (e : WorldEvent) (w : WorldState) → IsAllowed tree e → IsDuring tree t w → CanHappen e w }
+    ensures stays { (tree : Topology) (t : ℕ) (e : WorldEvent) (w : WorldState) → IsAllowed tree e → IsDuring tree t w
+        → IsDuring tree t (world_step e w).0 }
+    ensures all_can { (tree : Topology) (t : ℕ) (es : List WorldEvent) (w : WorldState)
+        → AllByRecursion (IsAllowed tree) es → IsDuring tree t w → CanAllHappen es w }
+    ensures all_stay { (tree : Topology) (t : ℕ) (es : List WorldEvent) (w : WorldState)
+        → AllByRecursion (IsAllowed tree) es → IsDuring tree t w → IsDuring tree t (world_after es w) }
+    ensures clock { (tree : Topology) (t : ℕ) (w : WorldState) → t < 2 ^ 61 → IsDuring tree t w → CanHappen WorldEvent.Clock w }
+    ensures next { (tree : Topology) (t : ℕ) (w : WorldState) → t < 2 ^ 61 → IsDuring tree t w
+        → IsDuring tree (suc t) (world_step WorldEvent.Clock w).0 }
+    ensures known { (plan : Plan) (kind : EventKind) → KeepsRules plan → IsKnownKind plan.nodes plan.links plan.streams kind
+        → IfSome (event_of plan.tree.links kind) (IsAllowed plan.tree) }
+    ensures neighbours { (plan : Plan) (kind : EventKind) → KeepsRules plan
+        → IsKnownKind plan.nodes plan.links plan.streams kind → NamesNeighbours plan.tree.links kind }
+    ensures scripted { (plan : Plan) (t : ℕ) → KeepsRules plan
+        → AllByRecursion (IsAllowed plan.tree) (map (λ e. e.1) (scripted plan t)) }
 {
     a_scenario_begins_well();
     every_event_keeps_it();
