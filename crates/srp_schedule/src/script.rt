@@ -38,11 +38,12 @@ pub(crate) fn make_events(
     let first = *cursor;
     let mut answers = Vec::new(alloc);
     for i in first..events.len() {
-        if events[i].tick != t {
+        let entry = events[i];
+        if entry.tick != t {
             *cursor = i;
             return Ok(answers);
         }
-        make_entry(scenario, i as u32 + 1, events[i].kind, world, &mut answers)?;
+        make_entry(scenario, i as u32 + 1, entry.kind, world, &mut answers)?;
     }
     *cursor = events.len();
     Ok(answers)

@@ -81,8 +81,8 @@ fn make_all(
     let _ = PortStep::Due.key();
     what_is_allowed_may_happen();
     let mut made = Vec::new(alloc);
-    for (port, step) in jobs {
-        made.push(make_one(world, node, *port, *step)?)?;
+    for job in jobs {
+        made.push(make_one(world, node, job)?)?;
     }
     Ok(made)
 }
@@ -91,20 +91,19 @@ fn make_all(
 fn make_one(
     world: &mut World,
     node: NodeNo,
-    port: PortNo,
-    step: PortStep,
+    job: &(PortNo, PortStep),
 ) -> Result<NodeStep, NoMemory>
-    requires { HasPort world.old.tree (record { node = node; port = port }) }
-    ensures port { IfOk result (λ st. st.port ≡ port) }
-    ensures step { IfOk result (λ st. st.step ≡ step) }
-    ensures made { IfOk result (λ st. world_step (WorldEvent.Port node port step) world.old ≡ (world.new, WorldReply.Step st.reply)) }
+    requires { HasPort world.old.tree (record { node = node; port = job.now.0 }) }
+    ensures job { IfOk result (λ st. (st.port, st.step) ≡ job.now) }
+    ensures made { IfOk result (λ st. world_step (WorldEvent.Port node st.port st.step) world.old ≡ (world.new, WorldReply.Step st.reply)) }
 {
     world.keeps();
-    let reply = world.step(WorldEvent::Port(node, port, step))?;
+    let answer = world.step(WorldEvent::Port(node, job.0, job.1))?;
+    let reply = step_reply(answer);
     Ok(NodeStep {
-        port,
-        step,
-        reply: step_reply(reply),
+        port: job.0,
+        step: job.1,
+        reply,
     })
 }
 

@@ -179,13 +179,32 @@ some_joins (l ∷ ls) x y h = by (or_true (joins_both x y l) (list_any (joins_bo
     by (inr e) later = inr (later e)
 
 module _ (laws : RunLaws) where
+  -- the tree stays in any case, the clocks at each event but the clock's
+  steady_but : (e : WorldEvent) (w : WorldState) → (e ≡ Clock) ⊎ IsSteady w (world_step e w).0
+  steady_but (Request n request) w = inr (subst (IsSteady w) (stepped_is n (node_events.Request request) w) (steady_changed n (λ s. (node_step (node_events.Request request) s).0) w (laws.asked request)))
+  steady_but (Port n port step) w = inr (subst (IsSteady w) (stepped_is n (node_events.Port port step) w) (steady_changed n (λ s. (node_step (node_events.Port port step) s).0) w (laws.clock port step)))
+  steady_but (Lose p index) w = inr (steady_lost p index (app_of p index w) w)
+  steady_but (Repeat p index) w = inr (steady_repeated p index (app_of p index w) w)
+  steady_but (Carry p) w = inr (steady_carried p w)
+  steady_but Clock w = inl refl
+
   steady : (tree : Topology) (e : WorldEvent) (w : WorldState) → IsAllowed tree e → IsSteady w (world_step e w).0
-  steady tree (Request n request) w ok = subst (IsSteady w) (stepped_is n (node_events.Request request) w) (steady_changed n (λ s. (node_step (node_events.Request request) s).0) w (laws.asked request))
-  steady tree (Port n port step) w ok = subst (IsSteady w) (stepped_is n (node_events.Port port step) w) (steady_changed n (λ s. (node_step (node_events.Port port step) s).0) w (laws.clock port step))
-  steady tree (Lose p index) w ok = steady_lost p index (app_of p index w) w
-  steady tree (Repeat p index) w ok = steady_repeated p index (app_of p index w) w
-  steady tree (Carry p) w ok = steady_carried p w
-  steady tree Clock w ok = absurd ok
+  steady tree e w ok = by (steady_but e w)
+    where
+      by : (e ≡ Clock) ⊎ IsSteady w (world_step e w).0 → IsSteady w (world_step e w).0
+      by (inl is) = absurd (subst (IsAllowed tree) is ok)
+      by (inr still) = still
+
+  pub tree_stays : (e : WorldEvent) (w : WorldState) → (world_step e w).0.tree ≡ w.tree
+  tree_stays e w = by (steady_but e w)
+    where
+      by : (e ≡ Clock) ⊎ IsSteady w (world_step e w).0 → (world_step e w).0.tree ≡ w.tree
+      by (inl is) = subst (λ (x : WorldEvent). (world_step x w).0.tree ≡ w.tree) (sym is) refl
+      by (inr still) = still.tree
+
+  pub trees_stay : (es : List WorldEvent) (w : WorldState) → (world_after es w).tree ≡ w.tree
+  trees_stay [] w = refl
+  trees_stay (e ∷ es) w = trees_stay es (world_step e w).0 ∙ tree_stays e w
 
   on_tree : (tree : Topology) (w : WorldState) (p : EgressPort) → w.tree ≡ tree → HasPort tree p → HasPort w.tree p
   on_tree tree w p is has = subst (λ (t : Topology). HasPort t p) (sym is) has
@@ -297,7 +316,7 @@ module _ (laws : RunLaws) where
     steps_allowed (ns ∷ nodes) known =
         each_append (IsAllowed plan.tree) (map (λ (st : NodeStep). Port ns.node st.port st.step) ns.steps) (step_events nodes) (made_allowed ns.node ns.steps known.0) (steps_allowed nodes known.1)
 
-    carries_allowed : (ls : List Link) → ((x y : ℕ) → Joined ls x y → Joined plan.tree.links x y)
+    pub carries_allowed : (ls : List Link) → ((x y : ℕ) → Joined ls x y → Joined plan.tree.links x y)
         → AllByRecursion (IsAllowed plan.tree) (map Carry (flat_map (λ (l : Link). port_to plan.tree.links l.a.0 l.b.0 ∷ port_to plan.tree.links l.b.0 l.a.0 ∷ []) ls))
     carries_allowed [] inside = tt
     carries_allowed (l ∷ ls) inside = (

@@ -13,7 +13,7 @@ ghost use Rattle.world_core.specs.declared.journal.Tick.{Tick};
 ghost use Rattle.world_core.specs.World.{WorldState, CanHappen, CanAllHappen, NamesVids, world_step, world_after};
 ghost use Rattle.world_core.specs.Start.{world_of};
 ghost use Rattle.world_core.specs.Kept.{IsKeptWorld, AreBridgesIdle};
-ghost use Rattle.world_core.specs.Ticks.{event_of, scripted, LeadTo, AreLegalTicks, AreCanonicalTicks, IsLegalTick, IsCanonicalTick, tick_events};
+ghost use Rattle.world_core.specs.Ticks.{event_of, scripted, link_ports, LeadTo, AreLegalTicks, AreCanonicalTicks, IsLegalTick, IsCanonicalTick, tick_events};
 ghost use Rattle.world_core.specs.During.{IsDuring, IsAllowed, NamesNeighbours};
 ghost use Rattle.world_core.specs.Moments.{IsMoment, events_from};
 
@@ -67,7 +67,7 @@ pub fn every_event_of_a_run_may_happen()
 
 /// What a tick of a scenario may have can happen, whatever happened before in the tick, and doesn't end the tick: each event
 /// of the file, a loss and a repeat between neighbours, each step of a port, and the carrying of each port's PDUs. The clock
-/// can go on, and then the next tick begins.
+/// can go on, and then the next tick begins. The tree stays in any case.
 pub fn what_is_allowed_may_happen()
     ensures begins { (plan : Plan) → KeepsRules plan → IsDuring plan.tree 0 (world_of plan) }
     ensures can { (tree : Topology) (t : ℕ) (e : WorldEvent) (w : WorldState) → IsAllowed tree e → IsDuring tree t w → CanHappen e w }
@@ -86,6 +86,9 @@ pub fn what_is_allowed_may_happen()
         → IsKnownKind plan.nodes plan.links plan.streams kind → NamesNeighbours plan.tree.links kind }
     ensures scripted { (plan : Plan) (t : ℕ) → KeepsRules plan
         → AllByRecursion (IsAllowed plan.tree) (map (λ e. e.1) (scripted plan t)) }
+    ensures carried { (plan : Plan) → KeepsRules plan → AllByRecursion (IsAllowed plan.tree) (map WorldEvent.Carry (link_ports plan.tree)) }
+    ensures tree { (e : WorldEvent) (w : WorldState) → (world_step e w).0.tree ≡ w.tree }
+    ensures trees { (es : List WorldEvent) (w : WorldState) → (world_after es w).tree ≡ w.tree }
 {
     a_scenario_begins_well();
     every_event_keeps_it();

@@ -4,7 +4,7 @@ use Rattle.topology_file.specs.Plan.{Plan}
 use Rattle.node_core.specs.State.{NodeState}
 use Rattle.world_core.specs.Start.{world_of}
 use Rattle.world_core.proofs.Beginnings.{new_at}
-use Rattle.world_core.proofs.Runs.{RunLaws, allowed_can, one_leads, all_lead, clock_leads, known_allowed, known_neighbours, scripted_allowed, all_each}
+use Rattle.world_core.proofs.Runs.{RunLaws, allowed_can, one_leads, all_lead, clock_leads, known_allowed, known_neighbours, scripted_allowed, carries_allowed, tree_stays, trees_stay, all_each}
 use Rattle.world_core.proofs.laws.what_is_allowed_may_happen.Goals as goal
 use Rattle.world_core.proofs.laws.what_is_allowed_may_happen.Goals.{After-steps_keep_what_a_node_is}
 
@@ -49,3 +49,12 @@ returns-clause-neighbours c = λ plan kind rules known. known_neighbours (laws c
 
 pub returns-clause-scripted : goal.returns-clause-scripted
 returns-clause-scripted c = λ plan t rules. scripted_allowed (laws c) plan rules t 1 plan.events (all_each _ plan.events rules.events_known)
+
+pub returns-clause-carried : goal.returns-clause-carried
+returns-clause-carried c = λ plan rules. carries_allowed (laws c) plan rules plan.tree.links (λ x y j. j)
+
+pub returns-clause-tree : goal.returns-clause-tree
+returns-clause-tree c = tree_stays (laws c)
+
+pub returns-clause-trees : goal.returns-clause-trees
+returns-clause-trees c = trees_stay (laws c)
