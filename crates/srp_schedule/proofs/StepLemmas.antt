@@ -2,7 +2,8 @@
 use Rattle.std.proofs.Common.{◌≡◌, ◌≢◌, ◌⊎◌, inl, inr, ℕ, zero, suc, ◌+◌, ◌-◌, ◌<◌, ◌≤◌, Bool, true, false, List, [], ◌∷◌, ◌++◌, length, map, take, get_or, refl, sym, ap, subst, ◌∙◌, append_assoc, arith}
 use Rattle.std.specs.Prelude.{slice_get, slice_set, Option, Some, None, ◌==◌, if◌then◌else◌, filter}
 use Rattle.std.specs.Option.{option_map_or}
-use Rattle.std.specs.List.{AllByRecursion, flat_map}
+use Rattle.std.specs.List.{AllByRecursion, flat_map, range_with_len}
+use Rattle.std.proofs.lemmas.List.FromFn.{length-map-range_with_len}
 use Rattle.std.proofs.Math.Seq.{take-suc}
 use Rattle.std.proofs.lemmas.Option.{slice_get_within}
 use Rattle.std.proofs.lemmas.Bool.Decides.{nat_tests}
@@ -12,6 +13,7 @@ use Rattle.srp_base.specs.declared.numbers.NodeNo.{NodeNo}
 use Rattle.srp_base.specs.declared.numbers.PortNo.{PortNo}
 use Rattle.srp_base.specs.declared.numbers.EgressPort.{EgressPort}
 use Rattle.tree_topology.specs.Topology.{Topology, HasNode, HasPort}
+use Rattle.tree_topology.specs.Ports.{neighbours}
 use Rattle.node_core.specs.declared.types.NodeEvent.{NodeEvent}
 use Rattle.node_core.specs.declared.types.NodeEvent.TheVariants as node_events
 use Rattle.node_core.specs.declared.types.NodeStep.{NodeStep}
@@ -302,3 +304,44 @@ module _ (n : NodeNo) (x : ℕ) (start w v : WorldState) (made : List NodeSteps)
           flat_map-append (λ (q : NodeSteps). if q.node.0 == p.node.0 then steps_at_port p.port q.steps else []) made (ns ∷ [])
           ∙ (ap (λ (b : Bool). steps_of p made ++ ((if b then steps_at_port p.port steps else []) ++ [])) (other_is n.0 p.node.0 ne)
           ∙ (append-nil (steps_of p made) ∙ so_far.steps.jobs p has (below p.node.0 n.0 x e number le)))
+
+-- ---- the ports of a node
+
+-- a node has as many ports as its place in the tree
+ports_are : (w : WorldState) → IsKeptWorld w → (n : NodeNo) → 1 ≤ n.0 → (s : NodeState) → node_at n w ≡ Some s → ports_of s ≡ length (neighbours w.tree.links n.0)
+ports_are w kept n first s is =
+    let number : n.0 - 1 + 1 ≡ n.0 = omega (arith, first) in
+    (kept.nodes (n.0 - 1) s is).ports ∙ ap (λ (k : ℕ). length (neighbours w.tree.links k)) number
+
+-- the canonical order is of ports that there are
+pub jobs_known : (w : WorldState) → IsKeptWorld w → (n : NodeNo) → HasNode w.tree n.0 → (jobs : List (PortNo × PortStep)) → jobs ≡ canonical_order n w
+    → AllByRecursion (λ (j : PortNo × PortStep). HasPort w.tree (record { node = n; port = j.0 })) jobs
+jobs_known w kept n has jobs are =
+    let there = node_there w kept n has in
+    let s : NodeState = there.0 in
+    let P : PortNo → Type 0 = λ port. HasPort w.tree (record { node = n; port = port }) in
+    let f : ℕ → List PortStep = λ at. job_list at s in
+    let count = ports_are w kept n has.0 s there.1 in
+    let all : length (map f (range_with_len 0 (ports_of s))) ≡ ports_of s = length-map-range_with_len f 0 (ports_of s) in
+    subst (λ (js : List (PortNo × PortStep)). AllByRecursion (λ j. P j.0) js) (sym (are ∙ canonical_is n w s there.1))
+    (order_ports P (map f (range_with_len 0 (ports_of s))) (λ i le lt. (has, le, omega (arith, lt, all, count))))
+
+-- one node more, as the loop has it
+pub next_node : (x : ℕ) (start w v : WorldState) (made next : List NodeSteps) (steps : List NodeStep) → IsKeptWorld start → x < length start.tree.kinds
+    → next ≡ with_steps (record { 0 = x + 1 }) steps made → NodeMade (record { 0 = x + 1 }) start w v steps → v.tree ≡ w.tree
+    → IsSteppedTo x start w made → IsSteppedTo (x + 1) start v next
+next_node x start w v made next steps kept lt push m tree so_far =
+    let n : NodeNo = record { 0 = x + 1 } in
+    let first : 1 ≤ x + 1 = omega arith in
+    let last : x + 1 ≤ length start.tree.kinds = omega (arith, lt) in
+    let there = node_there start kept n (first, last) in
+    let s : NodeState = there.0 in
+    let count = ports_are start kept n first s there.1 in
+    let ports : (p : EgressPort) → HasPort start.tree p → p.node.0 ≡ n.0 → p.port.0 ≤ ports_of s =
+        λ p has same. let few = has.2 in let own = ap (λ (k : ℕ). length (neighbours start.tree.links k)) same in omega (arith, few, own, count)
+    in
+    subst (IsSteppedTo (x + 1) start v) (sym push) (one_stepped n x start w v made refl s there.1 ports so_far steps m tree)
+
+-- an element that is read at a place, under another name
+pub read_as : {X : Type 0} (xs : List X) (i : ℕ) (x y : X) → x ≡ y → y ≡ get_or xs i y → x ≡ get_or xs i x
+read_as xs i x y e h = subst (λ z. z ≡ get_or xs i z) (sym e) h

@@ -74,6 +74,20 @@ pub record IsTickMade (plan : Plan) (t : ℕ) (w w1 w2 w3 w4 : WorldState) (tick
   pub carried : w3 ≡ world_after (map Carry (link_ports w2.tree)) w2
   pub clock : world_step Clock w3 ≡ (w4, reply)
 
+pub tick_made : (plan : Plan) (t : ℕ) (w w1 w2 w3 w4 : WorldState) (events : List (ℕ × WorldReply)) (steps : List NodeSteps) (tick : Tick) (reply : WorldReply)
+    → tick.events ≡ events → tick.steps ≡ steps → events ≡ answered (scripted plan t) w → w1 ≡ after_script plan t w → AreSteps (length w1.tree.kinds) w1 steps
+    → w2 ≡ world_after (step_events steps) w1 → w3 ≡ world_after (map Carry (link_ports w2.tree)) w2 → world_step Clock w3 ≡ (w4, reply)
+    → IsTickMade plan t w w1 w2 w3 w4 tick reply
+tick_made plan t w w1 w2 w3 w4 events steps tick reply e s answers script made stepped carried clock =
+    record {
+      answers = e ∙ answers;
+      script = script;
+      steps = subst (λ (x : List NodeSteps). AreSteps (length w1.tree.kinds) w1 x) (sym s) made;
+      stepped = stepped ∙ ap (λ (x : List NodeSteps). world_after (step_events x) w1) (sym s);
+      carried = carried;
+      clock = clock;
+    }
+
 -- what this rests on, as the public law says it
 pub record DuringLaws : Type 0 where
   pub all_stay : (tree : Topology) (t : ℕ) (es : List WorldEvent) (w : WorldState) → AllByRecursion (IsAllowed tree) es → IsDuring tree t w → IsDuring tree t (world_after es w)

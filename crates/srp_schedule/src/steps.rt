@@ -22,6 +22,7 @@ pub(crate) fn make_steps(alloc: Global, world: &mut World) -> Result<Vec<NodeSte
     ensures after { IfOk result (λ made. world.new ≡ world_after (step_events made.items) world.old) }
 {
     what_is_allowed_may_happen();
+    world.keeps();
     let mut made = Vec::new(alloc);
     for x in 0..world.tree().nodes() {
         let number = NodeNo(x + 1);
