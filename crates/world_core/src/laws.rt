@@ -1,18 +1,26 @@
 //! What every network keeps, whatever happens in it: laws over the states that contracts see. Each is a function that does
 //! nothing; calling it brings the law to a proof.
 
-ghost use Rattle.std.specs.Prelude.{◌≡◌, ◌<◌, ◌^◌, ◌++◌, ◌∷◌, [], ℕ, suc, List, map, IfSome};
+ghost use Rattle.std.specs.Prelude.{◌≡◌, ◌≢◌, ◌<◌, ◌-◌, ◌^◌, ◌++◌, ◌∷◌, [], ℕ, suc, List, map, Some, IfSome};
+ghost use Rattle.srp_base.specs.declared.numbers.NodeNo.{NodeNo};
+ghost use Rattle.srp_base.specs.declared.numbers.PortNo.{PortNo};
+ghost use Rattle.node_core.specs.declared.types.PortStep.{PortStep};
+ghost use Rattle.node_core.specs.State.{NodeState};
+ghost use Rattle.node_core.specs.Step.{node_step};
 ghost use Rattle.std.specs.List.{AllByRecursion};
 ghost use Rattle.tree_topology.specs.Topology.{Topology};
 ghost use Rattle.topology_file.specs.declared.entries.EventKind.{EventKind};
 ghost use Rattle.topology_file.specs.Kinds.{IsKnownKind};
 ghost use Rattle.topology_file.specs.Plan.{Plan};
 ghost use Rattle.topology_file.specs.Scenario.{KeepsRules};
+ghost use Rattle.node_core.specs.declared.types.NodeEvent.TheVariants.{Port as port_step};
 ghost use Rattle.world_core.specs.declared.events.WorldEvent.{WorldEvent};
+ghost use Rattle.world_core.specs.declared.events.WorldEvent.TheVariants.{Port as port_event};
+ghost use Rattle.world_core.specs.declared.events.WorldReply.TheVariants.{Step as step_reply};
 ghost use Rattle.world_core.specs.declared.journal.Tick.{Tick};
-ghost use Rattle.world_core.specs.World.{WorldState, CanHappen, CanAllHappen, NamesVids, world_step, world_after};
+ghost use Rattle.world_core.specs.World.{WorldState, CanHappen, CanAllHappen, NamesVids, node_at, world_step, world_after};
 ghost use Rattle.world_core.specs.Start.{world_of};
-ghost use Rattle.world_core.specs.Kept.{IsKeptWorld, AreBridgesIdle};
+ghost use Rattle.world_core.specs.Kept.{IsKeptWorld};
 ghost use Rattle.world_core.specs.Ticks.{event_of, scripted, link_ports, LeadTo, AreLegalTicks, AreCanonicalTicks, IsLegalTick, IsCanonicalTick, tick_events};
 ghost use Rattle.world_core.specs.During.{IsDuring, IsAllowed, NamesNeighbours};
 ghost use Rattle.world_core.specs.Moments.{IsMoment, events_from};
@@ -116,18 +124,19 @@ pub fn every_moment_keeps_it()
     every_event_of_a_run_may_happen();
 }
 
-/// A bridge has no application, so nothing is declared there: not at the start of a scenario, not after an event that may
-/// happen, and at no moment of a legal run.
-pub fn bridges_declare_nothing()
-    ensures start { (plan : Plan) → AreBridgesIdle (world_of plan) }
-    ensures event { (e : WorldEvent) (w : WorldState) → CanHappen e w → AreBridgesIdle w → AreBridgesIdle (world_step e w).0 }
-    ensures moment { (plan : Plan) (ticks : List Tick) (end w : WorldState) → KeepsRules plan → AreLegalTicks plan ticks end
-        → IsMoment plan ticks w → AreBridgesIdle w }
-{
-    every_event_of_a_run_may_happen();
-}
-
 /// Ticks in the canonical order are legal.
 pub fn canonical_ticks_are_legal()
     ensures { (plan : Plan) (ticks : List Tick) (end : WorldState) → AreCanonicalTicks plan ticks end → AreLegalTicks plan ticks end }
+{}
+
+/// A port's step is of its node alone: the node becomes, and answers, what its own step says, and each other node stays as it
+/// is. So steps of a node's ports each see the node that the steps before left, and steps of different nodes don't see each
+/// other.
+pub fn a_step_is_of_its_node_alone()
+    ensures own { (n : NodeNo) (port : PortNo) (step : PortStep) (w : WorldState) (s : NodeState) → node_at n w ≡ Some s
+        → node_at n (world_step (port_event n port step) w).0 ≡ Some (node_step (port_step port step) s).0 }
+    ensures answer { (n : NodeNo) (port : PortNo) (step : PortStep) (w : WorldState) (s : NodeState) → node_at n w ≡ Some s
+        → (world_step (port_event n port step) w).1 ≡ step_reply (node_step (port_step port step) s).1 }
+    ensures others { (n m : NodeNo) (port : PortNo) (step : PortStep) (w : WorldState) → n.0 - 1 ≢ m.0 - 1
+        → node_at m (world_step (port_event n port step) w).0 ≡ node_at m w }
 {}
