@@ -49,6 +49,7 @@ canonical_is n w s is = four _ _ _ _ _ _ _ _ (that Works) (that Dues) (that Sett
   where
     count : option_map_or ports_of (node_at n w) 0 ≡ ports_of s
     count = ap (λ o. option_map_or ports_of o 0) is
+
     that : (turn : Turn) → flat_map (λ p. map (λ step. (p.port, step)) (filter (is_in_turn turn) (jobs_of p w))) (node_ports n w) ≡ turn_from turn 1 (map (λ at. job_list at s) (range_with_len 0 (ports_of s)))
     that turn =
         ap (λ (c : ℕ). flat_map (λ p. map (λ step. (p.port, step)) (filter (is_in_turn turn) (jobs_of p w))) (map (λ k. record { node = n; port = record { 0 = k } }) (range_with_len 1 c))) count
@@ -254,7 +255,7 @@ pub turn_more : (turn : Turn) (i : ℕ) (jobs : List (List PortStep)) (own steps
 turn_more turn i jobs own steps order next all lt same here push so_far =
     let after : suc i ≡ i + 1 = omega arith in
     let cut : drop i jobs ≡ own ∷ drop (i + 1) jobs =
-        drop-cons jobs i steps lt ∙ (ap (λ x. x ∷ drop (suc i) jobs) (sym (same ∙ here)) ∙ ap (λ (k : ℕ). own ∷ drop k jobs) after)
+    drop-cons jobs i steps lt ∙ (ap (λ x. x ∷ drop (suc i) jobs) (sym (same ∙ here)) ∙ ap (λ (k : ℕ). own ∷ drop k jobs) after)
     in
     let made : List (PortNo × PortStep) = map (λ step. (record { 0 = i + 1 }, step)) (filter (is_in_turn turn) own) in
     ap (λ x. x ++ turn_from turn (i + 1 + 1) (drop (i + 1) jobs)) push

@@ -107,7 +107,7 @@ pub begins : (plan : Plan) (t i : ℕ) (w : WorldState) → IsDuring plan.tree t
 begins plan t i w during cursor =
     let number : 1 + i ≡ i + 1 = omega arith in
     let skip : (k : ℕ) (e : EventEntry) → slice_get plan.events k ≡ Some e → k < i → e.tick ≢ t =
-        λ k e get lt same. let below = cursor.past k e get lt in omega (arith, below, same)
+    λ k e get lt same. let below = cursor.past k e get lt in omega (arith, below, same)
     in
     let is = from_place plan.tree.links t 1 i plan.events skip ∙ ap (λ (m : ℕ). scripted_from plan.tree.links t m (drop i plan.events)) number in
     record {
@@ -133,7 +133,7 @@ next_entry plan t i w v u e done order lt here same step during s =
     let o : Option WorldEvent = event_of links e.kind in
     let rest : List (ℕ × WorldEvent) = scripted_from links t (i + 1 + 1) (drop (i + 1) plan.events) in
     let cut : scripted_from links t (i + 1) (drop i plan.events) ≡ with_event (i + 1) o rest =
-        ap (λ es. scripted_from links t (i + 1) es) (split plan.events i e lt here) ∙ this_tick links t (i + 1) e (drop (i + 1) plan.events) same
+    ap (λ es. scripted_from links t (i + 1) es) (split plan.events i e lt here) ∙ this_tick links t (i + 1) e (drop (i + 1) plan.events) same
     in
     record {
       answers =
@@ -155,8 +155,7 @@ pub ends : (plan : Plan) (t i : ℕ) (w v : WorldState) (done : List (ℕ × Wor
     → ((k : ℕ) (e : EventEntry) → slice_get plan.events k ≡ Some e → i ≤ k → suc t ≤ e.tick) → IsScripted plan t i w v done
     → (done ≡ answered (scripted plan t) w) × (v ≡ after_script plan t w) × IsCursor plan.events (suc t) i
 ends plan t i w v done few later s =
-    let none = none_from plan.tree.links t (i + 1) i plan.events (λ k e get le same. let more = later k e get le in omega (arith, more, same)) in
-    (
+    let none = none_from plan.tree.links t (i + 1) i plan.events (λ k e get le same. let more = later k e get le in omega (arith, more, same)) in (
       sym (append-nil done) ∙ (ap (λ x. done ++ answered x v) (sym none) ∙ s.answers),
       ap (λ (x : List (ℕ × WorldEvent)). world_after (map (λ q. q.1) x) v) (sym none) ∙ s.after,
       record { within = few; past = s.past; coming = later },

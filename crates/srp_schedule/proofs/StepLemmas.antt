@@ -215,7 +215,6 @@ ascend_more ns x (q ∷ made) lt within h =
 
 module _ (n : NodeNo) (x : ℕ) (start w v : WorldState) (made : List NodeSteps) (number : n.0 ≡ x + 1) (s : NodeState) (is : node_at n start ≡ Some s)
     (ports : (p : EgressPort) → HasPort start.tree p → p.node.0 ≡ n.0 → p.port.0 ≤ ports_of s) (so_far : IsSteppedTo x start w made) where
-
   -- the node is as it was
   same_node : node_at n w ≡ Some s
   same_node = so_far.others (n.0 - 1) (omega (arith, number)) ∙ is
@@ -261,7 +260,7 @@ module _ (n : NodeNo) (x : ℕ) (start w v : WorldState) (made : List NodeSteps)
       let steps : List NodeStep = st ∷ later in
       let ns : NodeSteps = record { node = n; steps = steps } in
       let events : step_events (made ++ (ns ∷ [])) ≡ step_events made ++ events_of n steps =
-          flat_map-append (λ (q : NodeSteps). map (λ r. Port q.node r.port r.step) q.steps) made (ns ∷ []) ∙ ap (λ es. step_events made ++ es) (append-nil (events_of n steps))
+      flat_map-append (λ (q : NodeSteps). map (λ r. Port q.node r.port r.step) q.steps) made (ns ∷ []) ∙ ap (λ es. step_events made ++ es) (append-nil (events_of n steps))
       in
       let order = m.order ∙ same_order in
       record {
@@ -338,7 +337,7 @@ next_node x start w v made next steps kept lt push m tree so_far =
     let s : NodeState = there.0 in
     let count = ports_are start kept n first s there.1 in
     let ports : (p : EgressPort) → HasPort start.tree p → p.node.0 ≡ n.0 → p.port.0 ≤ ports_of s =
-        λ p has same. let few = has.2 in let own = ap (λ (k : ℕ). length (neighbours start.tree.links k)) same in omega (arith, few, own, count)
+    λ p has same. let few = has.2 in let own = ap (λ (k : ℕ). length (neighbours start.tree.links k)) same in omega (arith, few, own, count)
     in
     subst (IsSteppedTo (x + 1) start v) (sym push) (one_stepped n x start w v made refl s there.1 ports so_far steps m tree)
 

@@ -43,7 +43,7 @@ one_carried n start w v lt after tree c =
     let less : n + 1 - 1 ≡ n = omega arith in
     let next : suc n ≡ n + 1 = omega arith in
     let cut : drop n links ≡ get_or links (n + 1 - 1) none ∷ drop (n + 1) links =
-        drop-cons links n none lt ∙ (ap (λ (k : ℕ). get_or links k none ∷ drop (suc n) links) (sym less) ∙ ap (λ (k : ℕ). get_or links (n + 1 - 1) none ∷ drop k links) next)
+    drop-cons links n none lt ∙ (ap (λ (k : ℕ). get_or links k none ∷ drop (suc n) links) (sym less) ∙ ap (λ (k : ℕ). get_or links (n + 1 - 1) none ∷ drop k links) next)
     in
     record {
       after =
@@ -151,7 +151,7 @@ module _ (laws : DuringLaws) (plan : Plan) (rules : KeepsRules plan) (t : ℕ) (
         let here : w2 ≡ world_after (script ++ steps) w = made.stepped ∙ (ap (λ (u : WorldState). world_after steps u) made.script ∙ sym (after_append script steps w)) in
         let third : w3 ≡ world_after carries w2 = made.carried ∙ ap (λ (tree : Topology). world_after (map Carry (link_ports tree)) w2) there.tree_is in
         let last : w4 ≡ world_after (carries ++ (Clock ∷ [])) w2 =
-            ap (λ (h : Happened). h.0) (sym made.clock) ∙ (ap (λ (u : WorldState). (world_step Clock u).0) third ∙ sym (after_append carries (Clock ∷ []) w2))
+        ap (λ (h : Happened). h.0) (sym made.clock) ∙ (ap (λ (u : WorldState). (world_step Clock u).0) third ∙ sym (after_append carries (Clock ∷ []) w2))
         in
         last ∙ (ap (λ (u : WorldState). world_after (carries ++ (Clock ∷ [])) u) here ∙ sym (after_append (script ++ steps) (carries ++ (Clock ∷ [])) w))
 

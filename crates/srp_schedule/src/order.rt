@@ -49,7 +49,8 @@ fn has_jobs(node: &Node) -> bool
 
 // The jobs of each of a node's ports, ports ascending.
 fn jobs_by_port(alloc: Global, node: &Node) -> Result<Vec<Seq<PortStep>>, NoMemory>
-    ensures jobs { IfOk result (λ v. v.items ≡ map (λ at. job_list at node.now) (range_with_len 0 (ports_of node.now))) }
+    ensures jobs { IfOk result
+        (λ v. v.items ≡ map (λ at. job_list at node.now) (range_with_len 0 (ports_of node.now))) }
     ensures few { IfOk result (λ v. length v.items ≤ 255) }
 {
     let _ = PortStep::Due.key();

@@ -48,7 +48,8 @@ fn make_tick(
     requires during { IsDuring scenario.now.tree t world.old }
     requires cursor { IsCursor scenario.now.events t cursor.old }
     ensures tick { IfOk result (λ tick. IsCanonicalTick scenario.now t world.old tick) }
-    ensures after { IfOk result (λ tick. world.new ≡ world_after (tick_events scenario.now t tick) world.old) }
+    ensures after { IfOk result
+        (λ tick. world.new ≡ world_after (tick_events scenario.now t tick) world.old) }
     ensures during { OnOk result (IsDuring scenario.now.tree (suc t) world.new) }
     ensures cursor { OnOk result (IsCursor scenario.now.events (suc t) cursor.new) }
 {

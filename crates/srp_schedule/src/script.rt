@@ -61,7 +61,8 @@ fn make_entry(
     requires can { IfSome (event_of scenario.now.tree.links kind) (λ e. CanHappen e world.old) }
     ensures answer { OnOk result (answers.new.items
         ≡ answers.old.items ++ answer_of number (event_of scenario.now.tree.links kind) world.old) }
-    ensures after { OnOk result (world.new ≡ after_entry (event_of scenario.now.tree.links kind) world.old) }
+    ensures after { OnOk result
+        (world.new ≡ after_entry (event_of scenario.now.tree.links kind) world.old) }
 {
     if let Some(event) = world_event(&scenario.tree, kind) {
         answers.push((number, world.step(event)?))?;

@@ -1,16 +1,14 @@
 //! The steps of all nodes in one tick.
 
-ghost use Rattle.std.specs.Prelude.{◌≡◌, ◌++◌, length, map, IfOk, OnOk};
-ghost use Rattle.std.specs.List.{AllByRecursion};
+ghost use Rattle.std.specs.Prelude.{◌≡◌, length, IfOk, OnOk};
 ghost use Rattle.tree_topology.specs.Topology.{HasNode, HasPort};
-ghost use Rattle.node_core.specs.declared.types.NodeStep.{NodeStep};
 ghost use Rattle.world_core.specs.Ticks.{canonical_order, step_events};
-ghost use Rattle.world_core.specs.World.{world_step, world_after, replies_to};
-ghost use Rattle.srp_schedule.specs.Made.{AreSteps, IsStepReply, events_of, replies_of, with_steps};
+ghost use Rattle.world_core.specs.World.{world_after, replies_to};
+ghost use Rattle.srp_schedule.specs.Made.{AreSteps, HavePorts, HaveJobPorts, IsDone, IsStepReply, jobs_done, events_of, replies_of, with_steps};
 
 use crate::order::jobs_in_order;
 use node_core::{NodeStep, PortStep, StepReply};
-use srp_base::{EgressPort, NoMemory, NodeNo, PortNo, Seq};
+use srp_base::{NoMemory, NodeNo, PortNo, Seq};
 use std::alloc::Global;
 use world_core::laws::what_is_allowed_may_happen;
 use world_core::{NodeSteps, World, WorldEvent, WorldReply};
@@ -18,8 +16,10 @@ use world_core::{NodeSteps, World, WorldEvent, WorldReply};
 /// Lets every node make its steps of one tick, and answers them: nodes ascending, those of each in the canonical order, and
 /// none of a node that has nothing to do.
 pub(crate) fn make_steps(alloc: Global, world: &mut World) -> Result<Vec<NodeSteps>, NoMemory>
-    ensures steps { IfOk result (λ made. AreSteps (length world.old.tree.kinds) world.old made.items) }
-    ensures after { IfOk result (λ made. world.new ≡ world_after (step_events made.items) world.old) }
+    ensures steps { IfOk result
+        (λ made. AreSteps (length world.old.tree.kinds) world.old made.items) }
+    ensures after { IfOk result
+        (λ made. world.new ≡ world_after (step_events made.items) world.old) }
 {
     what_is_allowed_may_happen();
     world.keeps();
@@ -33,11 +33,7 @@ pub(crate) fn make_steps(alloc: Global, world: &mut World) -> Result<Vec<NodeSte
 }
 
 // The steps of a node behind those of the nodes before it; none where it has none.
-fn push_steps(
-    made: &mut Vec<NodeSteps>,
-    node: NodeNo,
-    steps: Vec<NodeStep>,
-) -> Result<(), NoMemory>
+fn push_steps(made: &mut Vec<NodeSteps>, node: NodeNo, steps: Vec<NodeStep>) -> Result<(), NoMemory>
     ensures { OnOk result (made.new.items ≡ with_steps node steps.items made.old.items) }
 {
     let _ = PortStep::Due.key();
@@ -55,10 +51,12 @@ fn make_steps_of(
     number: NodeNo,
 ) -> Result<Vec<NodeStep>, NoMemory>
     requires { HasNode world.old.tree number.0 }
-    ensures order { IfOk result (λ made. map (λ st. (st.port, st.step)) made.items ≡ canonical_order number world.old) }
-    ensures known { IfOk result (λ made. AllByRecursion (λ (st : NodeStep). HasPort world.old.tree (record { node = number; port = st.port })) made.items) }
-    ensures replies { IfOk result (λ made. replies_of made.items ≡ replies_to (events_of number made.items) world.old) }
-    ensures after { IfOk result (λ made. world.new ≡ world_after (events_of number made.items) world.old) }
+    ensures order { IfOk result (λ made. jobs_done made.items ≡ canonical_order number world.old) }
+    ensures known { IfOk result (λ made. HavePorts world.old.tree number made.items) }
+    ensures replies { IfOk result
+        (λ made. replies_of made.items ≡ replies_to (events_of number made.items) world.old) }
+    ensures after { IfOk result
+        (λ made. world.new ≡ world_after (events_of number made.items) world.old) }
 {
     let _ = PortStep::Due.key();
     world.keeps();
@@ -73,11 +71,13 @@ fn make_all(
     node: NodeNo,
     jobs: &[(PortNo, PortStep)],
 ) -> Result<Vec<NodeStep>, NoMemory>
-    requires { AllByRecursion (λ job. HasPort world.old.tree (record { node = node; port = job.0 })) jobs.now }
-    ensures order { IfOk result (λ made. map (λ st. (st.port, st.step)) made.items ≡ jobs.now) }
-    ensures known { IfOk result (λ made. AllByRecursion (λ (st : NodeStep). HasPort world.old.tree (record { node = node; port = st.port })) made.items) }
-    ensures replies { IfOk result (λ made. replies_of made.items ≡ replies_to (events_of node made.items) world.old) }
-    ensures after { IfOk result (λ made. world.new ≡ world_after (events_of node made.items) world.old) }
+    requires { HaveJobPorts world.old.tree node jobs.now }
+    ensures order { IfOk result (λ made. jobs_done made.items ≡ jobs.now) }
+    ensures known { IfOk result (λ made. HavePorts world.old.tree node made.items) }
+    ensures replies { IfOk result
+        (λ made. replies_of made.items ≡ replies_to (events_of node made.items) world.old) }
+    ensures after { IfOk result
+        (λ made. world.new ≡ world_after (events_of node made.items) world.old) }
 {
     let _ = PortStep::Due.key();
     what_is_allowed_may_happen();
@@ -89,14 +89,10 @@ fn make_all(
 }
 
 // Lets a port make a step, and answers it.
-fn make_one(
-    world: &mut World,
-    node: NodeNo,
-    job: &(PortNo, PortStep),
-) -> Result<NodeStep, NoMemory>
+fn make_one(world: &mut World, node: NodeNo, job: &(PortNo, PortStep)) -> Result<NodeStep, NoMemory>
     requires { HasPort world.old.tree (record { node = node; port = job.now.0 }) }
     ensures job { IfOk result (λ st. (st.port, st.step) ≡ job.now) }
-    ensures made { IfOk result (λ st. world_step (WorldEvent.Port node st.port st.step) world.old ≡ (world.new, WorldReply.Step st.reply)) }
+    ensures made { IfOk result (λ st. IsDone node world.old world.new st) }
 {
     world.keeps();
     let answer = world.step(WorldEvent::Port(node, job.0, job.1))?;
