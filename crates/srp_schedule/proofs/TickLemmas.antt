@@ -28,6 +28,14 @@ use Rattle.srp_schedule.proofs.StepLemmas.{after_append}
 
 -- ---- the carrying, link by link
 
+-- both ends of a link, one after the other
+pub both_carried : (tree : Topology) (n : ℕ) (ends : EgressPort × EgressPort) (w v u : WorldState) (first second : WorldReply) → ends ≡ ends_of tree.links n
+    → world_step (Carry ends.0) w ≡ (v, first) → world_step (Carry ends.1) v ≡ (u, second) → u ≡ world_after (carried_ends tree n) w
+both_carried tree n ends w v u first second are one two =
+    ap (λ (h : Happened). h.0) (sym {A = Happened} two)
+    ∙ (ap (λ (h : Happened). (world_step (Carry ends.1) h.0).0) (sym {A = Happened} one)
+    ∙ ap (λ (e : EgressPort × EgressPort). (world_step (Carry e.1) (world_step (Carry e.0) w).0).0) are)
+
 -- the first n links have been carried
 pub record IsCarriedTo (n : ℕ) (start w : WorldState) : Type 0 where
   pub after : world_after (map Carry (flat_map (λ l. port_to start.tree.links l.a.0 l.b.0 ∷ port_to start.tree.links l.b.0 l.a.0 ∷ []) (drop n start.tree.links))) w
