@@ -27,7 +27,9 @@
 #![tactic(auto)]
 
 mod attribute_type;
+mod counts;
 mod first_value;
+mod fitting;
 pub mod laws;
 mod pdu;
 mod reading;
