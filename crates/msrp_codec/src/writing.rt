@@ -5,7 +5,9 @@ ghost use Rattle.std.specs.List.{AllByRecursion};
 ghost use Rattle.mrpdu_codec.specs.declared.form.AppForm.TheVariants.{Msrp};
 ghost use Rattle.mrpdu_codec.specs.Tree.{vector_octets, vectors_octets, messages_octets};
 ghost use Rattle.mrpdu_codec.specs.Canonical.{vector_for, vectors_for, message_for};
+ghost use Rattle.std.specs.Int.{bytes_high_first};
 ghost use Rattle.msrp_codec.specs.AttributeType.{number_of_type, length_of};
+ghost use Rattle.msrp_codec.specs.declared.first_value.FirstValue.TheVariants as firsts;
 ghost use Rattle.msrp_codec.specs.FirstValue.{IsFirst, rank_bit, talker_octets, failure_octets, first_octets};
 ghost use Rattle.msrp_codec.specs.Content.{type_of_content, value_of, kind_number, four_packed_for};
 ghost use Rattle.msrp_codec.specs.Meaning.{msrp_reading};
@@ -15,31 +17,64 @@ use crate::attribute_type::AttributeType;
 use crate::counts::counts_of;
 use crate::pdu::{MsrpContent, MsrpKey, MsrpPdu, class_of, stream_of};
 use mrpdu_codec::{put_number, put_vector};
-use srp_base::{Failure, ListenerKind, MrpEvent, NoMemory, Rank, Seq, Talker};
+use srp_base::{Failure, ListenerKind, MrpEvent, NoMemory, Rank, Seq, StreamId, Talker};
 use std::alloc::{AllocError, Global};
 
 /// PriorityAndRank.
-fn priority_and_rank(t: &Talker) -> u64
+fn priority_and_rank(t: &Talker) -> u8
     ensures { result ≡ t.now.priority * 32 + rank_bit t.now.rank * 16 }
 {
-    let priority = u64::from(t.priority.get()) * 32;
+    let priority = t.priority.get() * 32;
     match t.rank {
         Rank::Emergency => priority,
         Rank::Normal => priority + 16,
     }
 }
 
+/// Writes an octet.
+#[tactic(auto, using(crate::proofs::WritingLemmas::one_octet))]
+fn put_octet(out: &mut Vec<u8>, octet: u8) -> Result<(), NoMemory>
+    ensures { OnOk result (out.new.items ≡ out.old.items ++ bytes_high_first 1 octet) }
+{
+    out.push(octet)?;
+    Ok(())
+}
+
+/// Writes a number in two octets.
+fn put_two(out: &mut Vec<u8>, number: u16) -> Result<(), NoMemory>
+    ensures { OnOk result (out.new.items ≡ out.old.items ++ bytes_high_first 2 number) }
+{
+    out.extend_from_slice(&number.to_be_bytes())?;
+    Ok(())
+}
+
+/// Writes a number in four octets.
+fn put_four(out: &mut Vec<u8>, number: u32) -> Result<(), NoMemory>
+    ensures { OnOk result (out.new.items ≡ out.old.items ++ bytes_high_first 4 number) }
+{
+    out.extend_from_slice(&number.to_be_bytes())?;
+    Ok(())
+}
+
+/// Writes a number in eight octets.
+fn put_eight(out: &mut Vec<u8>, number: u64) -> Result<(), NoMemory>
+    ensures { OnOk result (out.new.items ≡ out.old.items ++ bytes_high_first 8 number) }
+{
+    out.extend_from_slice(&number.to_be_bytes())?;
+    Ok(())
+}
+
 /// Writes the fields of a Talker.
 fn put_talker(out: &mut Vec<u8>, t: &Talker) -> Result<(), NoMemory>
     ensures { OnOk result (out.new.items ≡ out.old.items ++ talker_octets t.now) }
 {
-    put_number(out, t.stream.0, 8)?;
+    put_eight(out, t.stream.0)?;
     put_number(out, t.dest.get(), 6)?;
-    put_number(out, u64::from(t.vid), 2)?;
-    put_number(out, u64::from(t.max_frame), 2)?;
-    put_number(out, u64::from(t.frames), 2)?;
-    put_number(out, priority_and_rank(t), 1)?;
-    put_number(out, u64::from(t.latency), 4)?;
+    put_two(out, t.vid)?;
+    put_two(out, t.max_frame)?;
+    put_two(out, t.frames)?;
+    put_octet(out, priority_and_rank(t))?;
+    put_four(out, t.latency)?;
     Ok(())
 }
 
@@ -48,25 +83,25 @@ fn put_failed(out: &mut Vec<u8>, t: &Talker, failure: &Failure) -> Result<(), No
     ensures { OnOk result (out.new.items ≡ out.old.items ++ (talker_octets t.now ++ failure_octets failure.now)) }
 {
     put_talker(out, t)?;
-    put_number(out, failure.bridge.0, 8)?;
-    put_number(out, u64::from(failure.code), 1)?;
+    put_eight(out, failure.bridge.0)?;
+    put_octet(out, failure.code)?;
     Ok(())
 }
 
-/// Writes a FirstValue.
-fn put_first(out: &mut Vec<u8>, key: MsrpKey, content: &MsrpContent) -> Result<(), NoMemory>
-    ensures { OnOk result (out.new.items ≡ out.old.items ++ first_octets (value_of key content.now)) }
+/// The FirstValue of a Listener.
+fn listener_octets(stream: StreamId) -> [u8; 8]
+    ensures { result ≡ first_octets (firsts.Listener stream) }
 {
-    match content {
-        MsrpContent::Advertise(t) => put_talker(out, t),
-        MsrpContent::Failed(t, failure) => put_failed(out, t, failure),
-        MsrpContent::Listener(_) => put_number(out, stream_of(key).0, 8),
-        MsrpContent::Domain { priority, vid } => {
-            put_number(out, u64::from(class_of(key)), 1)?;
-            put_number(out, u64::from(*priority), 1)?;
-            put_number(out, u64::from(*vid), 2)
-        }
-    }
+    stream.0.to_be_bytes()
+}
+
+/// The FirstValue of a Domain.
+#[tactic(auto, using(crate::proofs::WritingLemmas::domain_octets))]
+fn domain_octets(class: u8, priority: u8, vid: u16) -> [u8; 4]
+    ensures { result ≡ first_octets (firsts.Domain class priority vid) }
+{
+    let [high, low] = vid.to_be_bytes();
+    [class, priority, high, low]
 }
 
 /// The FourPackedEvent of what a Listener declares.
@@ -100,7 +135,7 @@ fn has_type(t: AttributeType, content: &MsrpContent) -> bool
     content.attribute_type().number() == t.number()
 }
 
-/// Writes the vector of an event alone. Its FirstValue is put together in a buffer.
+/// Writes the vector of an event alone. The FirstValue of a Talker is put together in a buffer.
 fn put_event(
     out: &mut Vec<u8>,
     first: &mut Vec<u8>,
@@ -110,12 +145,23 @@ fn put_event(
     ensures { OnOk result (out.new.items ≡ out.old.items ++ vector_octets (vector_for (event_vector leave_all event.now))) }
 {
     first.clear();
-    put_first(first, event.1, &event.2)?;
     match event.2 {
-        MsrpContent::Listener(kind) => {
-            put_vector(out, leave_all, first, &[event.0], &[kind_number(kind)])
+        MsrpContent::Advertise(t) => {
+            put_talker(first, &t)?;
+            put_vector(out, leave_all, first, &[event.0], &[])
         }
-        _ => put_vector(out, leave_all, first, &[event.0], &[]),
+        MsrpContent::Failed(t, failure) => {
+            put_failed(first, &t, &failure)?;
+            put_vector(out, leave_all, first, &[event.0], &[])
+        }
+        MsrpContent::Listener(kind) => {
+            let stream = listener_octets(stream_of(event.1));
+            put_vector(out, leave_all, &stream, &[event.0], &[kind_number(kind)])
+        }
+        MsrpContent::Domain { priority, vid } => {
+            let domain = domain_octets(class_of(event.1), priority, vid);
+            put_vector(out, leave_all, &domain, &[event.0], &[])
+        }
     }
 }
 
