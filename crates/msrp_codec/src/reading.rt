@@ -1,11 +1,10 @@
 //! Octets read as the events of keys.
 
-ghost use Rattle.std.specs.Prelude.{◌≡◌, ◌↔◌, List, ◌++◌, ◌≤◌, ◌<◌, ◌+◌, ◌^◌, ℕ, Ok, Err, length, get_or, nat_le, slice_index, map, OnOk, IfOk, IsTrue, option_map};
+ghost use Rattle.std.specs.Prelude.{◌≡◌, ◌++◌, ◌≤◌, ◌<◌, ◌+◌, ◌^◌, ℕ, Ok, Err, length, get_or, slice_index, map, OnOk, IfOk, IsTrue};
 ghost use Rattle.std.specs.List.{flat_map, list_all};
 ghost use Rattle.std.specs.Option.{unwrap_or};
 ghost use Rattle.mrpdu_codec.specs.declared.error.DecodeErr.TheVariants as errors;
 ghost use Rattle.mrpdu_codec.specs.declared.form.AppForm.TheVariants.{Msrp};
-ghost use Rattle.mrpdu_codec.specs.Grammar.{Breaks};
 ghost use Rattle.mrpdu_codec.specs.Octets.{four_params};
 ghost use Rattle.mrpdu_codec.specs.Reading.{Answers};
 ghost use Rattle.srp_base.specs.declared.mrp.MrpEvent.TheVariants.{New};
@@ -14,8 +13,7 @@ ghost use Rattle.mrpdu_codec.specs.Shape.{has_form};
 ghost use Rattle.msrp_codec.specs.InPlace.{fits_in_place, is_in_range_in_place, events_in_place, event_in_place, values_from, IsSilent};
 ghost use Rattle.msrp_codec.specs.declared.pdu.MsrpPdu.{MsrpPdu};
 ghost use Rattle.msrp_codec.specs.FirstValue.{first_value_of, talkers_fit, values_fit, talker_after};
-ghost use Rattle.msrp_codec.specs.AttributeType.{type_of};
-ghost use Rattle.msrp_codec.specs.Meaning.{kind_of, events_from, message_events, meaning, message_in_range, first_past_in, message_past, first_past, place_in, Reads, MsrpBreaks, msrp_reading};
+ghost use Rattle.msrp_codec.specs.Meaning.{kind_of, events_from, message_events, meaning, first_past_in, message_past, first_past, place_in, Reads, MsrpBreaks, msrp_reading};
 
 use crate::attribute_type::AttributeType;
 use crate::first_value::{FirstValue, first_value_of};

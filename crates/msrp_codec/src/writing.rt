@@ -1,6 +1,6 @@
 //! The events of keys written as octets.
 
-ghost use Rattle.std.specs.Prelude.{◌≡◌, ◌++◌, ◌∷◌, [], ◌<◌, ◌≤◌, ◌+◌, ◌*◌, ◌^◌, false, ℕ, Bool, List, Ok, ◌==◌, length, map, replicate, filter, OnOk, IfOk, if◌then◌else◌};
+ghost use Rattle.std.specs.Prelude.{◌≡◌, ◌++◌, ◌∷◌, [], ◌<◌, ◌≤◌, ◌+◌, ◌*◌, ◌^◌, false, ℕ, Bool, List, Ok, ◌==◌, length, map, OnOk, IfOk, if◌then◌else◌};
 ghost use Rattle.std.specs.List.{AllByRecursion};
 ghost use Rattle.mrpdu_codec.specs.declared.form.AppForm.TheVariants.{Msrp};
 ghost use Rattle.mrpdu_codec.specs.Tree.{vector_octets, vectors_octets, messages_octets};
@@ -9,7 +9,7 @@ ghost use Rattle.std.specs.Int.{bytes_high_first};
 ghost use Rattle.msrp_codec.specs.AttributeType.{number_of_type, length_of};
 ghost use Rattle.msrp_codec.specs.declared.first_value.FirstValue.TheVariants as firsts;
 ghost use Rattle.msrp_codec.specs.FirstValue.{IsFirst, rank_bit, talker_octets, failure_octets, first_octets};
-ghost use Rattle.msrp_codec.specs.Content.{type_of_content, value_of, kind_number, four_packed_for};
+ghost use Rattle.msrp_codec.specs.Content.{type_of_content, value_of, kind_number};
 ghost use Rattle.msrp_codec.specs.Meaning.{msrp_reading};
 ghost use Rattle.msrp_codec.specs.Writing.{has_type, of_type, event_vector, leave_vector, type_vectors, type_messages, list_size, stated_octets, msrp_spelling, as_written, IsWritable};
 
@@ -18,7 +18,7 @@ use crate::counts::counts_of;
 use crate::pdu::{MsrpContent, MsrpKey, MsrpPdu, class_of, stream_of};
 use mrpdu_codec::{put_number, put_vector};
 use srp_base::{Failure, ListenerKind, MrpEvent, NoMemory, Rank, Seq, StreamId, Talker};
-use std::alloc::{AllocError, Global};
+use std::alloc::Global;
 
 /// PriorityAndRank.
 fn priority_and_rank(t: &Talker) -> u8
