@@ -7,3 +7,4 @@ pub mod ReadBackLemmas
 pub mod WrittenPdu
 pub mod PlaceLemmas
 pub mod SilentLemmas
+pub mod CountLemmas

@@ -1,5 +1,5 @@
 -- What is written, piece by piece.
-use Rattle.std.proofs.Common.{◌≡◌, ℕ, ◌+◌, ◌<◌, Bool, true, false, List, [], ◌∷◌, ◌++◌, length, map, refl, append_assoc, append-nil, arith}
+use Rattle.std.proofs.Common.{◌≡◌, ℕ, ◌+◌, ◌%◌, ◌<◌, Bool, true, false, List, [], ◌∷◌, ◌++◌, length, map, refl, sym, ap, ◌∙◌, append_assoc, append-nil, arith}
 use Rattle.mrpdu_codec.specs.declared.pdu.VectorAttr.{VectorAttr}
 use Rattle.mrpdu_codec.specs.declared.form.AppForm.TheVariants.{Msrp}
 use Rattle.mrpdu_codec.specs.Tree.{vectors_octets, messages_octets}
@@ -7,6 +7,9 @@ use Rattle.mrpdu_codec.specs.Canonical.{two_octets, vectors_for, message_for}
 use Rattle.msrp_codec.specs.declared.attribute_type.AttributeType.{AttributeType}
 use Rattle.msrp_codec.specs.declared.attribute_type.AttributeType.TheVariants.{Advertise, Failed, Listener, Domain}
 use Rattle.msrp_codec.specs.AttributeType.{number_of_type, length_of}
+use Rattle.std.specs.Int.{bytes_high_first}
+use Rattle.msrp_codec.specs.declared.first_value.FirstValue.TheVariants as firsts
+use Rattle.msrp_codec.specs.FirstValue.{first_octets}
 use Rattle.msrp_codec.specs.Meaning.{KeyEvent}
 use Rattle.msrp_codec.specs.Writing.{of_type, event_vector, type_vectors, messages_for, type_messages}
 
@@ -17,6 +20,22 @@ three_pieces o a b c x y z p q r = rw (r, q, p) (simp append_assoc)
 
 pub seven_pieces : (o a b c d e f g s t u v w x y : List ℕ) → a ≡ o ++ s → b ≡ a ++ t → c ≡ b ++ u → d ≡ c ++ v → e ≡ d ++ w → f ≡ e ++ x → g ≡ f ++ y → g ≡ o ++ (s ++ (t ++ (u ++ (v ++ (w ++ (x ++ y))))))
 seven_pieces o a b c d e f g s t u v w x y p1 p2 p3 p4 p5 p6 p7 = rw (p7, p6, p5, p4, p3, p2, p1) (simp append_assoc)
+
+-- a number of one octet
+pub one_octet : (octet : ℕ) → octet < 256 → bytes_high_first 1 octet ≡ octet ∷ []
+one_octet octet lt =
+    let same : octet % 256 ≡ octet = omega arith in
+    ap (λ (n : ℕ). n ∷ []) same
+
+-- the FirstValue of a Domain
+pub domain_octets : (class priority vid high low : ℕ) → class < 256 → priority < 256 → high ∷ low ∷ [] ≡ bytes_high_first 2 vid
+    → class ∷ priority ∷ high ∷ low ∷ [] ≡ first_octets (firsts.Domain class priority vid)
+domain_octets class priority vid high low c p e =
+    let same_class : class % 256 ≡ class = omega arith in
+    let same_priority : priority % 256 ≡ priority = omega arith in
+    ap (λ (o : List ℕ). class ∷ priority ∷ o) e
+    ∙ ap (λ (n : ℕ). n ∷ priority ∷ bytes_high_first 2 vid) (sym same_class)
+    ∙ ap (λ (n : ℕ). class % 256 ∷ n ∷ bytes_high_first 2 vid) (sym same_priority)
 
 -- ---- the vectors of a type
 

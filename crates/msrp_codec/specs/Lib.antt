@@ -5,3 +5,4 @@ pub mod Key
 pub mod Meaning
 pub mod Writing
 pub mod InPlace
+pub mod Counts

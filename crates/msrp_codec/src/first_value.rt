@@ -4,6 +4,7 @@ ghost use Rattle.std.specs.Prelude.{◌≡◌, ◌≤◌, ◌<◌, ◌+◌, ◌/
 ghost use Rattle.mrpdu_codec.specs.declared.form.AppForm.TheVariants.{Msrp};
 ghost use Rattle.msrp_codec.specs.FirstValue.{field, rank_of, talker_of, failure_of, first_value_of, talkers_fit, values_fit};
 ghost use Rattle.msrp_codec.specs.AttributeType.{length_of};
+ghost use Rattle.msrp_codec.specs.declared.attribute_type.AttributeType.TheVariants.{Domain};
 
 use crate::attribute_type::AttributeType;
 use mrpdu_codec::number_in;
@@ -93,6 +94,19 @@ fn failure_of(first: &[u8]) -> Failure
     }
 }
 
+/// The values of a Domain.
+fn domain_of(first: &[u8]) -> FirstValue
+    requires { length first.now ≡ 4 }
+    ensures { result ≡ first_value_of Domain first.now }
+{
+    match first {
+        [class, priority, high, low] => {
+            FirstValue::Domain(*class, *priority, u16::from(*high) * 256 + u16::from(*low))
+        }
+        _ => unreachable!(),
+    }
+}
+
 /// A FirstValue of a type.
 pub(crate) fn first_value_of(kind: AttributeType, first: &[u8]) -> FirstValue
     requires { length first.now ≡ length_of kind }
@@ -102,11 +116,7 @@ pub(crate) fn first_value_of(kind: AttributeType, first: &[u8]) -> FirstValue
         AttributeType::Advertise => FirstValue::Advertise(talker_of(first)),
         AttributeType::Failed => FirstValue::Failed(talker_of(first), failure_of(first)),
         AttributeType::Listener => FirstValue::Listener(StreamId(field(first, 0, 8))),
-        AttributeType::Domain => FirstValue::Domain(
-            field(first, 0, 1) as u8,
-            field(first, 1, 1) as u8,
-            field(first, 2, 2) as u16,
-        ),
+        AttributeType::Domain => domain_of(first),
     }
 }
 

@@ -1,7 +1,7 @@
 //! What MSRP reads and writes.
 
 ghost use Rattle.std.specs.Prelude.{◌≡◌};
-ghost use Rattle.msrp_codec.specs.Content.{type_of_content, octets_of, base_octets};
+ghost use Rattle.msrp_codec.specs.Content.{type_of_content, octets_of, base_octets, stream_of, class_of};
 
 use crate::attribute_type::AttributeType;
 use srp_base::{Failure, ListenerKind, MrpEvent, Seq, StreamId, Talker};
@@ -55,6 +55,28 @@ impl MsrpContent {
             MsrpContent::Listener(_) => AttributeType::Listener,
             MsrpContent::Domain { .. } => AttributeType::Domain,
         }
+    }
+}
+
+/// The stream of a key; a Domain has none.
+pub(crate) fn stream_of(key: MsrpKey) -> StreamId
+    ensures { result ≡ stream_of key }
+{
+    match key {
+        MsrpKey::Talker(stream) => stream,
+        MsrpKey::Listener(stream) => stream,
+        MsrpKey::Domain(_) => StreamId(0),
+    }
+}
+
+/// The SRclassID of a key; a stream has none.
+pub(crate) fn class_of(key: MsrpKey) -> u8
+    ensures { result ≡ class_of key }
+{
+    match key {
+        MsrpKey::Talker(_) => 0,
+        MsrpKey::Listener(_) => 0,
+        MsrpKey::Domain(class) => class,
     }
 }
 

@@ -1,11 +1,10 @@
 //! Octets read as the events of keys.
 
-ghost use Rattle.std.specs.Prelude.{◌≡◌, ◌↔◌, List, ◌++◌, ◌≤◌, ◌<◌, ◌+◌, ◌^◌, ℕ, Ok, Err, length, get_or, nat_le, slice_index, map, OnOk, IfOk, IsTrue, option_map};
+ghost use Rattle.std.specs.Prelude.{◌≡◌, ◌++◌, ◌≤◌, ◌<◌, ◌+◌, ◌^◌, ℕ, Ok, Err, length, get_or, slice_index, map, OnOk, IfOk, IsTrue};
 ghost use Rattle.std.specs.List.{flat_map, list_all};
 ghost use Rattle.std.specs.Option.{unwrap_or};
 ghost use Rattle.mrpdu_codec.specs.declared.error.DecodeErr.TheVariants as errors;
 ghost use Rattle.mrpdu_codec.specs.declared.form.AppForm.TheVariants.{Msrp};
-ghost use Rattle.mrpdu_codec.specs.Grammar.{Breaks};
 ghost use Rattle.mrpdu_codec.specs.Octets.{four_params};
 ghost use Rattle.mrpdu_codec.specs.Reading.{Answers};
 ghost use Rattle.srp_base.specs.declared.mrp.MrpEvent.TheVariants.{New};
@@ -14,8 +13,7 @@ ghost use Rattle.mrpdu_codec.specs.Shape.{has_form};
 ghost use Rattle.msrp_codec.specs.InPlace.{fits_in_place, is_in_range_in_place, events_in_place, event_in_place, values_from, IsSilent};
 ghost use Rattle.msrp_codec.specs.declared.pdu.MsrpPdu.{MsrpPdu};
 ghost use Rattle.msrp_codec.specs.FirstValue.{first_value_of, talkers_fit, values_fit, talker_after};
-ghost use Rattle.msrp_codec.specs.AttributeType.{type_of};
-ghost use Rattle.msrp_codec.specs.Meaning.{kind_of, events_from, message_events, meaning, message_in_range, first_past_in, message_past, first_past, place_in, Reads, MsrpBreaks, msrp_reading};
+ghost use Rattle.msrp_codec.specs.Meaning.{kind_of, events_from, message_events, meaning, first_past_in, message_past, first_past, place_in, Reads, MsrpBreaks, msrp_reading};
 
 use crate::attribute_type::AttributeType;
 use crate::first_value::{FirstValue, first_value_of};
@@ -165,17 +163,18 @@ fn push_value(
     Ok(i + 1)
 }
 
-/// Puts the events of a vector's values at the end.
+/// Puts the events of a vector's n values at the end.
 fn push_values(
     out: &mut Vec<(MrpEvent, MsrpKey, MsrpContent)>,
     first: &FirstValue,
     raw: &RawVector<'_>,
+    n: usize,
 ) -> Result<(), AllocError>
-    requires { IsTrue (values_fit first.now (length (attr_in raw.now).events)) }
+    requires count { n ≡ length (attr_in raw.now).events }
+    requires fits { IsTrue (values_fit first.now (length (attr_in raw.now).events)) }
     ensures { OnOk result (out.new.items ≡ out.old.items
         ++ events_from first.now (attr_in raw.now).params 0 (attr_in raw.now).events) }
 {
-    let n = values_in(raw);
     let mut i = 0;
     while i < n {
         i = push_value(out, first, raw, i)?;
@@ -183,39 +182,82 @@ fn push_values(
     Ok(())
 }
 
-/// Puts the events of vectors of a type at the end.
+/// Puts the events of a vector at the end, where its values stay within the fields that are counted up. What is
+/// answered is whether they do.
+fn push_vector(
+    out: &mut Vec<(MrpEvent, MsrpKey, MsrpContent)>,
+    t: AttributeType,
+    raw: &RawVector<'_>,
+) -> Result<bool, AllocError>
+    requires { IsTrue (fits_in_place t raw.now) }
+    ensures fits { IfOk result (λ fits. fits ≡ is_in_range_in_place t raw.now) }
+    ensures events { IfOk result (λ fits. IsTrue fits
+        → out.new.items ≡ out.old.items ++ events_in_place t raw.now) }
+{
+    let first = first_value_of(t, raw.first);
+    let n = values_in(raw);
+    if !first.values_fit(n) {
+        return Ok(false);
+    }
+    push_values(out, &first, raw, n)?;
+    Ok(true)
+}
+
+/// Puts the events of vectors of a type at the end, up to the first whose values pass the end of a field. What
+/// is answered is its number.
 fn push_vectors(
     out: &mut Vec<(MrpEvent, MsrpKey, MsrpContent)>,
     t: AttributeType,
     raws: &[RawVector<'_>],
-) -> Result<(), AllocError>
-    requires form { IsTrue (list_all (fits_in_place t) raws.now) }
-    requires in_range { IsTrue (list_all (is_in_range_in_place t) raws.now) }
-    ensures { OnOk result (out.new.items
-        ≡ out.old.items ++ flat_map (events_in_place t) raws.now) }
+) -> Result<Option<usize>, AllocError>
+    requires { IsTrue (list_all (fits_in_place t) raws.now) }
+    ensures past { IfOk result (λ past. past ≡ first_past_in t 0 (attrs_in raws.now)) }
+    ensures events { IfOk result (λ past. past ≡ None
+        → out.new.items ≡ out.old.items ++ flat_map (events_in_place t) raws.now) }
 {
-    for raw in raws {
-        let first = first_value_of(t, raw.first);
-        push_values(out, &first, raw)?;
+    for (i, raw) in raws.iter().enumerate() {
+        if !push_vector(out, t, raw)? {
+            return Ok(Some(i));
+        }
     }
-    Ok(())
+    Ok(None)
 }
 
-/// Puts the events of a Message at the end.
-#[tactic(auto, using(crate::proofs::ReadingLemmas::typed_in_place, crate::proofs::ReadingLemmas::in_range_in_place, crate::proofs::ReadingLemmas::events_meant))]
+/// Puts the events of a Message at the end, up to the first vector whose values pass the end of a field. What
+/// is answered is its number.
+#[tactic(auto, using(crate::proofs::ReadingLemmas::typed_in_place, crate::proofs::ReadingLemmas::events_meant))]
 fn push_message(
     out: &mut Vec<(MrpEvent, MsrpKey, MsrpContent)>,
     raw: &RawMessage<'_>,
-) -> Result<(), AllocError>
-    requires form { IsTrue (has_form Msrp (message_in raw.now)) }
-    requires in_range { IsTrue (message_in_range (message_in raw.now)) }
-    ensures { OnOk result (out.new.items
-        ≡ out.old.items ++ message_events (message_in raw.now)) }
+) -> Result<Option<usize>, AllocError>
+    requires { IsTrue (has_form Msrp (message_in raw.now)) }
+    ensures past { IfOk result (λ past. past ≡ message_past (message_in raw.now)) }
+    ensures events { IfOk result (λ past. past ≡ None
+        → out.new.items ≡ out.old.items ++ message_events (message_in raw.now)) }
 {
     match AttributeType::of(raw.kind) {
-        None => Ok(()),
+        None => Ok(None),
         Some(t) => push_vectors(out, t, &raw.vectors),
     }
+}
+
+/// Puts the events of Messages at the end, in the order of their octets, up to the first vector whose values
+/// pass the end of a field. What is answered is the number of its Message and its own number there.
+fn push_messages(
+    out: &mut Vec<(MrpEvent, MsrpKey, MsrpContent)>,
+    raws: &[RawMessage<'_>],
+) -> Result<Option<(usize, usize)>, AllocError>
+    requires { IsTrue (list_all (λ m. has_form Msrp (message_in m)) raws.now) }
+    ensures past { IfOk result (λ past. past ≡ first_past 0 (map message_in raws.now)) }
+    ensures events { IfOk result (λ past. past ≡ None → out.new.items
+        ≡ out.old.items ++ flat_map (λ m. message_events (message_in m)) raws.now) }
+{
+    for (i, raw) in raws.iter().enumerate() {
+        if let Some(vector) = push_message(out, raw)? {
+            return Ok(Some((i, vector)));
+        }
+    }
+    Ok(None)
 }
 
 /// How many vectors Messages have: room for as many events spares most moves of what is read. No clause
@@ -228,82 +270,38 @@ fn room_for(raws: &[RawMessage<'_>]) -> usize {
     room
 }
 
-/// The events of Messages, in the order of their octets.
+/// The events of a PDU. Where the values of a vector pass the end of a field, the first such vector comes with
+/// those before it.
+#[tactic(auto, using(crate::proofs::ReadingLemmas::forms_in_place, crate::proofs::ReadingLemmas::messages_meant))]
 fn events_of(
     alloc: Global,
-    raws: &[RawMessage<'_>],
-) -> Result<Vec<(MrpEvent, MsrpKey, MsrpContent)>, AllocError>
-    requires form { IsTrue (list_all (λ m. has_form Msrp (message_in m)) raws.now) }
-    requires in_range { IsTrue (list_all (λ m. message_in_range (message_in m)) raws.now) }
-    ensures { IfOk result (λ v. v.items
-        ≡ flat_map (λ m. message_events (message_in m)) raws.now) }
+    raw: &RawPdu<'_>,
+) -> Result<
+    (
+        Vec<(MrpEvent, MsrpKey, MsrpContent)>,
+        Option<(usize, usize)>,
+    ),
+    NoMemory,
+>
+    requires { IsTrue (list_all (has_form Msrp) (pdu_in raw.now).messages) }
+    ensures past { IfOk result (λ x. x.1 ≡ first_past 0 (pdu_in raw.now).messages) }
+    ensures events { IfOk result (λ x. x.1 ≡ None
+        → x.0.items ≡ flat_map message_events (pdu_in raw.now).messages) }
 {
-    let mut out = Vec::with_capacity(alloc, room_for(raws))?;
-    for raw in raws {
-        push_message(&mut out, raw)?;
-    }
-    Ok(out)
+    let mut out = Vec::with_capacity(alloc, room_for(&raw.messages))?;
+    let past = push_messages(&mut out, &raw.messages)?;
+    Ok((out, past))
 }
 
-/// What a PDU says.
-#[tactic(auto, using(crate::proofs::ReadingLemmas::forms_in_place, crate::proofs::ReadingLemmas::ranges_in_place, crate::proofs::ReadingLemmas::messages_meant))]
-fn meaning(alloc: Global, raw: &RawPdu<'_>) -> Result<MsrpPdu, NoMemory>
-    requires form { IsTrue (list_all (has_form Msrp) (pdu_in raw.now).messages) }
-    requires in_range { IsTrue (list_all message_in_range (pdu_in raw.now).messages) }
-    ensures { IfOk result (λ read. read ≡ meaning (pdu_in raw.now)) }
+/// What a PDU says, of which these are the events.
+fn meaning(raw: &RawPdu<'_>, events: Vec<(MrpEvent, MsrpKey, MsrpContent)>) -> MsrpPdu
+    requires { events.items ≡ flat_map message_events (pdu_in raw.now).messages }
+    ensures { result ≡ meaning (pdu_in raw.now) }
 {
-    let leave_all = raw.has_leave_all();
-    let events = events_of(alloc, &raw.messages)?;
-    Ok(MsrpPdu {
-        leave_all,
+    MsrpPdu {
+        leave_all: raw.has_leave_all(),
         events: Seq::from_vec(events),
-    })
-}
-
-/// Whether the values of a vector stay within the fields that are counted up.
-fn is_in_range(t: AttributeType, raw: &RawVector<'_>) -> bool
-    requires { IsTrue (fits_in_place t raw.now) }
-    ensures { result ≡ is_in_range_in_place t raw.now }
-{
-    first_value_of(t, raw.first).values_fit(values_in(raw))
-}
-
-/// The first of vectors whose values don't.
-fn first_past_in(t: AttributeType, raws: &[RawVector<'_>]) -> Option<usize>
-    requires { IsTrue (list_all (fits_in_place t) raws.now) }
-    ensures { result ≡ first_past_in t 0 (attrs_in raws.now) }
-{
-    for (i, raw) in raws.iter().enumerate() {
-        if !is_in_range(t, raw) {
-            return Some(i);
-        }
     }
-    None
-}
-
-/// The first vector of a Message whose values don't.
-#[tactic(auto, using(crate::proofs::ReadingLemmas::typed_in_place))]
-fn message_past(raw: &RawMessage<'_>) -> Option<usize>
-    requires { IsTrue (has_form Msrp (message_in raw.now)) }
-    ensures { result ≡ message_past (message_in raw.now) }
-{
-    match AttributeType::of(raw.kind) {
-        None => None,
-        Some(t) => first_past_in(t, &raw.vectors),
-    }
-}
-
-/// The first vector of Messages whose values don't, by the number of its Message and its own number there.
-fn first_past(raws: &[RawMessage<'_>]) -> Option<(usize, usize)>
-    requires { IsTrue (list_all (λ m. has_form Msrp (message_in m)) raws.now) }
-    ensures { result ≡ first_past 0 (map message_in raws.now) }
-{
-    for (i, raw) in raws.iter().enumerate() {
-        if let Some(vector) = message_past(raw) {
-            return Some((i, vector));
-        }
-    }
-    None
 }
 
 /// The place of the FirstValue of a vector.
@@ -337,9 +335,9 @@ pub fn decode(alloc: Global, octets: &[u8]) -> Result<MsrpPdu, DecodeErr>
 {
     mrpdu_codec::first_values_have_places();
     let raw = mrpdu_codec::decode_in_place(alloc, AppForm::Msrp, octets)?;
-    if let Some(vector) = first_past(&raw.messages) {
+    let (events, past) = events_of(alloc, &raw)?;
+    if let Some(vector) = past {
         return Err(DecodeErr::Malformed(place_in(octets, vector)));
     }
-    let read = meaning(alloc, &raw)?;
-    Ok(read)
+    Ok(meaning(&raw, events))
 }

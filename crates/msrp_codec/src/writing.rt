@@ -1,44 +1,80 @@
 //! The events of keys written as octets.
 
-ghost use Rattle.std.specs.Prelude.{◌≡◌, ◌++◌, ◌∷◌, [], ◌<◌, ◌≤◌, ◌+◌, ◌*◌, ◌^◌, false, ℕ, Bool, List, Ok, ◌==◌, length, map, replicate, filter, OnOk, IfOk, if◌then◌else◌};
+ghost use Rattle.std.specs.Prelude.{◌≡◌, ◌++◌, ◌∷◌, [], ◌<◌, ◌≤◌, ◌+◌, ◌*◌, ◌^◌, false, ℕ, Bool, List, Ok, ◌==◌, length, map, OnOk, IfOk, if◌then◌else◌};
 ghost use Rattle.std.specs.List.{AllByRecursion};
 ghost use Rattle.mrpdu_codec.specs.declared.form.AppForm.TheVariants.{Msrp};
 ghost use Rattle.mrpdu_codec.specs.Tree.{vector_octets, vectors_octets, messages_octets};
 ghost use Rattle.mrpdu_codec.specs.Canonical.{vector_for, vectors_for, message_for};
+ghost use Rattle.std.specs.Int.{bytes_high_first};
 ghost use Rattle.msrp_codec.specs.AttributeType.{number_of_type, length_of};
-ghost use Rattle.msrp_codec.specs.FirstValue.{IsTalker, IsFailure, IsFirst, rank_bit, talker_octets, failure_octets, first_octets};
-ghost use Rattle.msrp_codec.specs.Content.{type_of_content, stream_of, class_of, value_of, octets_of, kind_number, four_packed_for};
+ghost use Rattle.msrp_codec.specs.declared.first_value.FirstValue.TheVariants as firsts;
+ghost use Rattle.msrp_codec.specs.FirstValue.{IsFirst, rank_bit, talker_octets, failure_octets, first_octets};
+ghost use Rattle.msrp_codec.specs.Content.{type_of_content, value_of, kind_number};
 ghost use Rattle.msrp_codec.specs.Meaning.{msrp_reading};
 ghost use Rattle.msrp_codec.specs.Writing.{has_type, of_type, event_vector, leave_vector, type_vectors, type_messages, list_size, stated_octets, msrp_spelling, as_written, IsWritable};
 
 use crate::attribute_type::AttributeType;
-use crate::pdu::{MsrpContent, MsrpKey, MsrpPdu, row_octets};
+use crate::counts::counts_of;
+use crate::pdu::{MsrpContent, MsrpKey, MsrpPdu, class_of, stream_of};
 use mrpdu_codec::{put_number, put_vector};
 use srp_base::{Failure, ListenerKind, MrpEvent, NoMemory, Rank, Seq, StreamId, Talker};
-use std::alloc::{AllocError, Global};
+use std::alloc::Global;
 
 /// PriorityAndRank.
-fn priority_and_rank(t: &Talker) -> u64
+fn priority_and_rank(t: &Talker) -> u8
     ensures { result ≡ t.now.priority * 32 + rank_bit t.now.rank * 16 }
 {
-    let priority = u64::from(t.priority.get()) * 32;
+    let priority = t.priority.get() * 32;
     match t.rank {
         Rank::Emergency => priority,
         Rank::Normal => priority + 16,
     }
 }
 
+/// Writes an octet.
+#[tactic(auto, using(crate::proofs::WritingLemmas::one_octet))]
+fn put_octet(out: &mut Vec<u8>, octet: u8) -> Result<(), NoMemory>
+    ensures { OnOk result (out.new.items ≡ out.old.items ++ bytes_high_first 1 octet) }
+{
+    out.push(octet)?;
+    Ok(())
+}
+
+/// Writes a number in two octets.
+fn put_two(out: &mut Vec<u8>, number: u16) -> Result<(), NoMemory>
+    ensures { OnOk result (out.new.items ≡ out.old.items ++ bytes_high_first 2 number) }
+{
+    out.extend_from_slice(&number.to_be_bytes())?;
+    Ok(())
+}
+
+/// Writes a number in four octets.
+fn put_four(out: &mut Vec<u8>, number: u32) -> Result<(), NoMemory>
+    ensures { OnOk result (out.new.items ≡ out.old.items ++ bytes_high_first 4 number) }
+{
+    out.extend_from_slice(&number.to_be_bytes())?;
+    Ok(())
+}
+
+/// Writes a number in eight octets.
+fn put_eight(out: &mut Vec<u8>, number: u64) -> Result<(), NoMemory>
+    ensures { OnOk result (out.new.items ≡ out.old.items ++ bytes_high_first 8 number) }
+{
+    out.extend_from_slice(&number.to_be_bytes())?;
+    Ok(())
+}
+
 /// Writes the fields of a Talker.
 fn put_talker(out: &mut Vec<u8>, t: &Talker) -> Result<(), NoMemory>
     ensures { OnOk result (out.new.items ≡ out.old.items ++ talker_octets t.now) }
 {
-    put_number(out, t.stream.0, 8)?;
+    put_eight(out, t.stream.0)?;
     put_number(out, t.dest.get(), 6)?;
-    put_number(out, u64::from(t.vid), 2)?;
-    put_number(out, u64::from(t.max_frame), 2)?;
-    put_number(out, u64::from(t.frames), 2)?;
-    put_number(out, priority_and_rank(t), 1)?;
-    put_number(out, u64::from(t.latency), 4)?;
+    put_two(out, t.vid)?;
+    put_two(out, t.max_frame)?;
+    put_two(out, t.frames)?;
+    put_octet(out, priority_and_rank(t))?;
+    put_four(out, t.latency)?;
     Ok(())
 }
 
@@ -47,47 +83,25 @@ fn put_failed(out: &mut Vec<u8>, t: &Talker, failure: &Failure) -> Result<(), No
     ensures { OnOk result (out.new.items ≡ out.old.items ++ (talker_octets t.now ++ failure_octets failure.now)) }
 {
     put_talker(out, t)?;
-    put_number(out, failure.bridge.0, 8)?;
-    put_number(out, u64::from(failure.code), 1)?;
+    put_eight(out, failure.bridge.0)?;
+    put_octet(out, failure.code)?;
     Ok(())
 }
 
-/// The stream of a key; a Domain has none.
-fn stream_of(key: MsrpKey) -> StreamId
-    ensures { result ≡ stream_of key }
+/// The FirstValue of a Listener.
+fn listener_octets(stream: StreamId) -> [u8; 8]
+    ensures { result ≡ first_octets (firsts.Listener stream) }
 {
-    match key {
-        MsrpKey::Talker(stream) => stream,
-        MsrpKey::Listener(stream) => stream,
-        MsrpKey::Domain(_) => StreamId(0),
-    }
+    stream.0.to_be_bytes()
 }
 
-/// The SRclassID of a key; a stream has none.
-fn class_of(key: MsrpKey) -> u8
-    ensures { result ≡ class_of key }
+/// The FirstValue of a Domain.
+#[tactic(auto, using(crate::proofs::WritingLemmas::domain_octets))]
+fn domain_octets(class: u8, priority: u8, vid: u16) -> [u8; 4]
+    ensures { result ≡ first_octets (firsts.Domain class priority vid) }
 {
-    match key {
-        MsrpKey::Talker(_) => 0,
-        MsrpKey::Listener(_) => 0,
-        MsrpKey::Domain(class) => class,
-    }
-}
-
-/// Writes a FirstValue.
-fn put_first(out: &mut Vec<u8>, key: MsrpKey, content: &MsrpContent) -> Result<(), NoMemory>
-    ensures { OnOk result (out.new.items ≡ out.old.items ++ first_octets (value_of key content.now)) }
-{
-    match content {
-        MsrpContent::Advertise(t) => put_talker(out, t),
-        MsrpContent::Failed(t, failure) => put_failed(out, t, failure),
-        MsrpContent::Listener(_) => put_number(out, stream_of(key).0, 8),
-        MsrpContent::Domain { priority, vid } => {
-            put_number(out, u64::from(class_of(key)), 1)?;
-            put_number(out, u64::from(*priority), 1)?;
-            put_number(out, u64::from(*vid), 2)
-        }
-    }
+    let [high, low] = vid.to_be_bytes();
+    [class, priority, high, low]
 }
 
 /// The FourPackedEvent of what a Listener declares.
@@ -121,7 +135,7 @@ fn has_type(t: AttributeType, content: &MsrpContent) -> bool
     content.attribute_type().number() == t.number()
 }
 
-/// Writes the vector of an event alone. Its FirstValue is put together in a buffer.
+/// Writes the vector of an event alone. The FirstValue of a Talker is put together in a buffer.
 fn put_event(
     out: &mut Vec<u8>,
     first: &mut Vec<u8>,
@@ -131,12 +145,23 @@ fn put_event(
     ensures { OnOk result (out.new.items ≡ out.old.items ++ vector_octets (vector_for (event_vector leave_all event.now))) }
 {
     first.clear();
-    put_first(first, event.1, &event.2)?;
     match event.2 {
-        MsrpContent::Listener(kind) => {
-            put_vector(out, leave_all, first, &[event.0], &[kind_number(kind)])
+        MsrpContent::Advertise(t) => {
+            put_talker(first, &t)?;
+            put_vector(out, leave_all, first, &[event.0], &[])
         }
-        _ => put_vector(out, leave_all, first, &[event.0], &[]),
+        MsrpContent::Failed(t, failure) => {
+            put_failed(first, &t, &failure)?;
+            put_vector(out, leave_all, first, &[event.0], &[])
+        }
+        MsrpContent::Listener(kind) => {
+            let stream = listener_octets(stream_of(event.1));
+            put_vector(out, leave_all, &stream, &[event.0], &[kind_number(kind)])
+        }
+        MsrpContent::Domain { priority, vid } => {
+            let domain = domain_octets(class_of(event.1), priority, vid);
+            put_vector(out, leave_all, &domain, &[event.0], &[])
+        }
     }
 }
 
@@ -191,18 +216,17 @@ fn put_vectors(
     Ok(())
 }
 
-/// How many events are of a type.
-fn count_of(t: AttributeType, events: &[(MrpEvent, MsrpKey, MsrpContent)]) -> usize
-    ensures count { result ≡ length (of_type t events.now) }
-    ensures within { result ≤ length events.now }
+/// The events to look through for those of a type, of which there are n.
+#[tactic(auto, using(crate::proofs::CountLemmas::none_typed))]
+fn where_typed<'a>(
+    t: AttributeType,
+    n: usize,
+    events: &'a [(MrpEvent, MsrpKey, MsrpContent)],
+) -> &'a [(MrpEvent, MsrpKey, MsrpContent)]
+    requires { n ≡ length (of_type t events.now) }
+    ensures { of_type t result.now ≡ of_type t events.now }
 {
-    let mut n = 0usize;
-    for event in events {
-        if has_type(t, &event.2) {
-            n += 1;
-        }
-    }
-    n
+    if n == 0 { &[] } else { events }
 }
 
 /// How many octets the vectors of a type's events take, where so many events are of the type.
@@ -222,81 +246,31 @@ fn list_size(leave_all: bool, t: AttributeType, n: usize) -> usize
     }
 }
 
-/// Writes the Message of a type, if it has one.
+/// Writes the Message of a type, of which there are n events, if it has one.
 fn put_type(
     out: &mut Vec<u8>,
     first: &mut Vec<u8>,
     leave_all: bool,
     t: AttributeType,
+    n: usize,
     events: &[(MrpEvent, MsrpKey, MsrpContent)],
 ) -> Result<(), NoMemory>
-    requires { length events.now ≤ 1500 }
+    requires count { n ≡ length (of_type t events.now) }
+    requires few { n ≤ 1500 }
     ensures { OnOk result (out.new.items ≡ out.old.items ++ messages_octets (map (message_for Msrp) (type_messages leave_all events.now t))) }
 {
     mrpdu_codec::written_list_size();
     mrpdu_codec::numbers_are_read_back();
-    let size = list_size(leave_all, t, count_of(t, events));
+    let size = list_size(leave_all, t, n);
     if size == 0 {
         return Ok(());
     }
     out.push(t.number())?;
     out.push(length_of(t) as u8)?;
     put_number(out, (size + 2) as u64, 2)?;
-    put_vectors(out, first, leave_all, t, events)?;
+    put_vectors(out, first, leave_all, t, where_typed(t, n, events))?;
     out.extend_from_slice(&[0, 0])?;
     Ok(())
-}
-
-/// The numbers of a Talker fit in its fields.
-fn talker_fits(_t: Talker)
-    ensures { IsTalker _t }
-{}
-
-/// The numbers of a Talker and of FailureInformation fit in their fields.
-fn failed_fits(t: Talker, _failure: Failure)
-    ensures { IsTalker t × IsFailure _failure }
-{
-    talker_fits(t);
-}
-
-/// A StreamID fits in its field.
-fn stream_fits(_stream: StreamId)
-    ensures { _stream.0 < 2 ^ 64 }
-{}
-
-/// The numbers of a Domain fit in its fields.
-fn domain_fits(_class: u8, _priority: u8, _vid: u16)
-    ensures { (_class < 2 ^ 8) × (_priority < 2 ^ 8) × (_vid < 2 ^ 16) }
-{}
-
-/// The numbers of a declaration fit in their fields, as their types have it. It is a law, and does nothing.
-fn numbers_fit(key: MsrpKey, content: &MsrpContent)
-    ensures { IsFirst (value_of key content.now) }
-{
-    match content {
-        MsrpContent::Advertise(t) => talker_fits(*t),
-        MsrpContent::Failed(t, failure) => failed_fits(*t, *failure),
-        MsrpContent::Listener(_) => stream_fits(stream_of(key)),
-        MsrpContent::Domain { priority, vid } => domain_fits(class_of(key), *priority, *vid),
-    }
-}
-
-/// The stated octets of events, with the base.
-#[tactic(auto, using(crate::proofs::SizeLemmas::few_events))]
-fn stated_octets(events: &[(MrpEvent, MsrpKey, MsrpContent)]) -> usize
-    requires { stated_octets events.now ≤ 1500 }
-    ensures octets { result ≡ stated_octets events.now }
-    ensures few { length events.now ≤ 1500 }
-
-    // Their numbers fit in their fields.
-    ensures in_range { AllByRecursion (λ x. IsFirst (value_of x.1 x.2)) events.now }
-{
-    let mut size = 106usize;
-    for event in events {
-        numbers_fit(event.1, &event.2);
-        size += row_octets(&event.2);
-    }
-    size
 }
 
 /// The octets of a PDU.
@@ -309,8 +283,8 @@ fn written(
     ensures octets { IfOk result (λ v. v.items ≡ msrp_spelling (record { leave_all = leave_all; events = events.now })) }
     ensures in_range { OnOk result (AllByRecursion (λ x. IsFirst (value_of x.1 x.2)) events.now) }
 {
-    let size = stated_octets(events);
-    let mut out = Vec::with_capacity(alloc, size)?;
+    let counts = counts_of(events);
+    let mut out = Vec::with_capacity(alloc, counts.room())?;
     let mut first = Vec::with_capacity(alloc, 34)?;
     out.push(0)?;
     put_type(
@@ -318,6 +292,7 @@ fn written(
         &mut first,
         leave_all,
         AttributeType::Advertise,
+        counts.advertised,
         events,
     )?;
     put_type(
@@ -325,6 +300,7 @@ fn written(
         &mut first,
         leave_all,
         AttributeType::Failed,
+        counts.failed,
         events,
     )?;
     put_type(
@@ -332,6 +308,7 @@ fn written(
         &mut first,
         leave_all,
         AttributeType::Listener,
+        counts.listeners,
         events,
     )?;
     put_type(
@@ -339,6 +316,7 @@ fn written(
         &mut first,
         leave_all,
         AttributeType::Domain,
+        counts.domains,
         events,
     )?;
     out.extend_from_slice(&[0, 0])?;

@@ -3,29 +3,22 @@ use Rattle.mrpdu_codec.specs.Raw.{pdu_in}
 use Rattle.msrp_codec.specs.Meaning.{PassesEnd}
 use Rattle.msrp_codec.specs.Meaning.MsrpBreaks.{value}
 use Rattle.msrp_codec.proofs.PastLemmas.{past_none, passes_end}
-use Rattle.msrp_codec.proofs.ReadingLemmas.{forms_in_place}
 use Rattle.msrp_codec.proofs.reading.decode.Goals as goal
-
-pub first_past-requires : goal.first_past-requires
-first_past-requires c = rw c.deref.ensures.value (forms_in_place c.in_ok-raw.raw.messages.items c.in_ok-raw.ensures.formed)
 
 pub returns-in-Some-clause-broken : goal.returns-in-Some-clause-broken
 returns-in-Some-clause-broken c = λ place e.
     let same : c.place_in.result ≡ place = cc in
     let spelled = c.in_ok-raw.ensures.spelled c.in_ok-raw.raw refl in
-    let found = rw c.deref.ensures.value at (sym c.first_past.ensures ∙ c.in-Some.is) in
+    let found = sym c.in_ok-events.ensures.past ∙ c.in-Some.is in
     value (subst (λ (p : ℕ). PassesEnd c.args.octets.now p) (sym c.place_in.ensures ∙ same)
     (passes_end c.args.octets.now (pdu_in c.in_ok-raw.raw) c.in-Some.vector spelled (c.first_values_have_places.ensures.one_each _ _ _ spelled) found))
 
-pub meaning-requires-clause-in_range : goal.meaning-requires-clause-in_range
-meaning-requires-clause-in_range c = past_none 0 (pdu_in c.in_ok-raw.raw).messages (rw c.deref.ensures.value at (sym c.first_past.ensures ∙ c.in_default.is))
-
 pub returns-clause-reads : goal.returns-clause-reads
 returns-clause-reads c = λ read e.
-    let same : c.in_ok-read.read ≡ read = cc in
+    let same : c.meaning.result ≡ read = cc in
     record {
       pdu = pdu_in c.in_ok-raw.raw;
       spelled = c.in_ok-raw.ensures.spelled c.in_ok-raw.raw refl;
-      in_range = past_none 0 (pdu_in c.in_ok-raw.raw).messages (rw c.deref.ensures.value at (sym c.first_past.ensures ∙ c.in_default.is));
-      meant = sym same ∙ c.in_ok-read.ensures;
+      in_range = past_none 0 (pdu_in c.in_ok-raw.raw).messages (sym c.in_ok-events.ensures.past ∙ c.in_default.is);
+      meant = sym same ∙ c.meaning.ensures;
     }

@@ -1,7 +1,12 @@
-use Rattle.std.proofs.Common.{◌≡◌, ◌++◌, take}
+use Rattle.std.proofs.Common.{◌≡◌, ◌++◌, take, drop}
 use Rattle.std.specs.List.{flat_map}
+use Rattle.mrpdu_codec.specs.Raw.{attrs_in}
 use Rattle.msrp_codec.specs.InPlace.{events_in_place}
+use Rattle.msrp_codec.specs.Meaning.{first_past_in}
 use Rattle.msrp_codec.proofs.reading.push_vectors.Given as goal
 
-abbrev pub invariant-loop-raw : goal.invariant-loop-raw
-invariant-loop-raw l = l.out.items ≡ l.initial.out.items ++ flat_map (events_in_place l.t) (take l.raw-index l.raws)
+abbrev pub invariant-loop-i : goal.invariant-loop-i
+invariant-loop-i l = record {
+  past : first_past_in l.t l.i (attrs_in (drop l.i l.raws)) ≡ first_past_in l.t 0 (attrs_in l.raws);
+  events : l.out.items ≡ l.initial.out.items ++ flat_map (events_in_place l.t) (take l.i l.raws);
+}

@@ -2,4 +2,4 @@ use Rattle.msrp_codec.proofs.WritingLemmas.{three_pieces}
 use Rattle.msrp_codec.proofs.writing.put_failed.Goals as goal
 
 pub returns : goal.returns
-returns c = rw (← c.from.ensures) (three_pieces _ _ _ _ _ _ _ c.in_ok-put_talker.ensures c.in_ok-put_number.ensures.ok c.in_ok-put_number-2.ensures.ok)
+returns c = three_pieces _ _ _ _ _ _ _ c.in_ok-put_talker.ensures c.in_ok-put_eight.ensures c.in_ok-put_octet.ensures

@@ -3,5 +3,5 @@ use Rattle.msrp_codec.proofs.writing.put_talker.Goals as goal
 
 pub returns : goal.returns
 returns c =
-    rw (← c.get.ensures.value, ← c.from.ensures, ← c.from-2.ensures, ← c.from-3.ensures, ← c.priority_and_rank.ensures, ← c.from-4.ensures) (
-    seven_pieces _ _ _ _ _ _ _ _ _ _ _ _ _ _ _ c.in_ok-put_number.ensures.ok c.in_ok-put_number-2.ensures.ok c.in_ok-put_number-3.ensures.ok c.in_ok-put_number-4.ensures.ok c.in_ok-put_number-5.ensures.ok c.in_ok-put_number-6.ensures.ok c.in_ok-put_number-7.ensures.ok)
+    rw (← c.get.ensures.value, ← c.priority_and_rank.ensures) (
+    seven_pieces _ _ _ _ _ _ _ _ _ _ _ _ _ _ _ c.in_ok-put_eight.ensures c.in_ok-put_number.ensures.ok c.in_ok-put_two.ensures c.in_ok-put_two-2.ensures c.in_ok-put_two-3.ensures c.in_ok-put_octet.ensures c.in_ok-put_four.ensures)
