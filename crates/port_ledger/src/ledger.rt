@@ -205,11 +205,7 @@ impl Ledger {
     {
         self.stands();
         before.stands();
-        changes(
-            *self.entries.allocator(),
-            &before.entries,
-            &self.entries,
-        )
+        changes(*self.entries.allocator(), &before.entries, &self.entries)
     }
 
     /// The stream's entry, booked or not; None exactly where none is kept.
