@@ -1,3 +1,2 @@
 pub mod LinkPorts
 pub mod TallyLemmas
-pub mod VidLines

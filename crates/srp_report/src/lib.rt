@@ -19,9 +19,11 @@
 //! The journal is read once, for all ports together: a tally for each port, at the place of its numbers, in
 //! `tallies.rt`. The report asks for the tally of a port when it comes to its line.
 //!
-//! A further line of a port is a definition in `specs/Lines.antt`, its piece at the end of `port_part`, and a writer in
-//! `ports.rt`; a further line of the network, as what a station hears, is a piece between the ports and the end in
-//! `report_text`. A further count is a field of `Tally`, of `tally_of`, and a line in `Tally::counted`.
+//! A further kind of attribute is a line in `specs/Lines.antt` with its case of `key_line`, and its writer in `lines.rt`
+//! with its arm of `put_key`. A further line of a port, as that of a booking, is a definition there and a piece at the end
+//! of `port_part`, with its writer in `ports.rt`; one of the network, as what a station hears, is a piece between the
+//! ports and the end in `report_text`. A further count is a field of `Tally`, a line of `tally_of` and one of
+//! `Tally::counted`.
 #![tactic(auto)]
 
 mod lines;

@@ -3,10 +3,12 @@
 ghost use Rattle.std.specs.Prelude.{◌≡◌, ◌++◌, IfOk, OnOk};
 ghost use Rattle.std.specs.Fmt.{decimal};
 ghost use Rattle.srp_base.specs.Text.{joined};
-ghost use Rattle.srp_report.specs.Lines.{ticks_line, port_line, vlan_line, registered_vlan, end_lines, yes_or_no as yes_or_no_spec};
+ghost use Rattle.srp_report.specs.Lines.{ticks_line, port_line, vlan_line, key_line, end_lines, state_name as state_name_spec, yes_or_no as yes_or_no_spec};
 
 use crate::tally::Tally;
+use node_core::NodeKey;
 use registrar::Registrar;
+use srp_base::Vid;
 use std::alloc::AllocError;
 
 // Puts a text at the end.
@@ -50,30 +52,41 @@ pub(crate) fn put_tally(out: &mut Vec<u8>, port: &[u8], tally: Tally) -> Result<
     put(out, &counts)
 }
 
-// The line of a VID that is registered.
-fn put_registered(out: &mut Vec<u8>, port: &[u8], vid: u16, word: &str) -> Result<(), AllocError>
-    ensures { OnOk result (out.new.items ≡ out.old.items ++ registered_vlan port.now vid word.now) }
-{
-    let alloc = *out.allocator();
-    let state = format!(in alloc; " {vid} {word}\n")?;
-    put(out, "vlan ")?;
-    out.extend_from_slice(port)?;
-    put(out, &state)
-}
-
-/// The line of a VID by its Registrar; none where it isn't registered.
-pub(crate) fn put_vlan(
-    out: &mut Vec<u8>,
-    port: &[u8],
-    vid: u16,
-    state: Registrar,
-) -> Result<(), AllocError>
-    ensures { OnOk result (out.new.items ≡ out.old.items ++ vlan_line port.now vid state) }
+// A Registrar's state by its name.
+fn state_name(state: Registrar) -> &'static str
+    ensures { result.now ≡ state_name_spec state }
 {
     match state {
-        Registrar::Held => put_registered(out, port, vid, "IN"),
-        Registrar::Leaving => put_registered(out, port, vid, "LV"),
-        Registrar::Empty => Ok(()),
+        Registrar::Held => "IN",
+        Registrar::Leaving => "LV",
+        Registrar::Empty => "MT",
+    }
+}
+
+// The line of a VID that is registered at a port.
+fn put_vlan(out: &mut Vec<u8>, port: &[u8], vid: Vid, state: Registrar) -> Result<(), AllocError>
+    ensures { OnOk result (out.new.items ≡ out.old.items ++ vlan_line port.now vid state) }
+{
+    let alloc = *out.allocator();
+    let number = vid.get();
+    let name = state_name(state);
+    let registered = format!(in alloc; " {number} {name}\n")?;
+    put(out, "vlan ")?;
+    out.extend_from_slice(port)?;
+    put(out, &registered)
+}
+
+/// The line of an attribute that is registered at a port, by its Registrar.
+pub(crate) fn put_key(
+    out: &mut Vec<u8>,
+    port: &[u8],
+    key: NodeKey,
+    state: Registrar,
+) -> Result<(), AllocError>
+    ensures { OnOk result (out.new.items ≡ out.old.items ++ key_line port.now key state) }
+{
+    match key {
+        NodeKey::Vlan(vid) => put_vlan(out, port, vid, state),
     }
 }
 

@@ -5,18 +5,17 @@ ghost use Rattle.std.specs.List.{AllByRecursion};
 ghost use Rattle.tree_topology.specs.Topology.{HasPort, HasNode};
 ghost use Rattle.mvrp.specs.Side.{IsLinkPort, place_of};
 ghost use Rattle.node_core.specs.State.{ports_of, registrar_at};
-ghost use Rattle.node_core.specs.declared.types.NodeKey.TheVariants.{Vlan};
 ghost use Rattle.world_core.specs.Ticks.{link_ports};
 ghost use Rattle.srp_report.specs.Counts.{replies_of, tally_of};
-ghost use Rattle.srp_report.specs.Lines.{name_of, vlan_line, port_name as port_name_spec};
-ghost use Rattle.srp_report.specs.Report.{port_part, port_parts, port_vlans, vlan_lines, vids_after};
+ghost use Rattle.srp_report.specs.Lines.{name_of, port_name as port_name_spec};
+ghost use Rattle.srp_report.specs.Report.{port_part, port_parts, registered_lines, key_lines};
 ghost use Rattle.srp_report.specs.Tallies.{tally_at, AreTallies};
 
-use crate::lines::{put_tally, put_vlan};
+use crate::lines::{put_key, put_tally};
 use crate::tallies::Tallies;
 use crate::tally::Tally;
 use node_core::{Node, NodeKey};
-use srp_base::{EgressPort, LinkNo, NoMemory, NodeNo, PortNo, Vid};
+use srp_base::{EgressPort, LinkNo, NoMemory, NodeNo, PortNo};
 use std::alloc::{AllocError, Global};
 use topology_file::{NodeEntry, Scenario};
 use tree_topology::Tree;
@@ -89,53 +88,42 @@ fn put_port(
     let port = port_name(alloc, scenario, world.tree(), at)?;
     let tally = tallies.at(at).unwrap_or(Tally::zero());
     put_tally(out, port.as_slice(), tally)?;
-    put_vlans(out, port.as_slice(), world, at)?;
-    Ok(())
+    put_registered(out, port.as_slice(), world, at)
 }
 
-// The lines of the VIDs that are registered at a port.
-fn put_vlans(
+// The lines of what is registered at a port.
+fn put_registered(
     out: &mut Vec<u8>,
     port: &[u8],
     world: &World,
     at: EgressPort,
-) -> Result<(), AllocError>
+) -> Result<(), NoMemory>
     requires { HasPort world.now.tree at }
-    ensures { OnOk result (out.new.items ≡ out.old.items ++ port_vlans port.now at world.now) }
+    ensures { OnOk result (out.new.items ≡ out.old.items ++ registered_lines port.now at world.now) }
 {
     world.keeps();
-    put_vids(out, port, world.node(at.node), at.port)
-}
-
-// The lines of those of a node's port.
-fn put_vids(out: &mut Vec<u8>, port: &[u8], node: &Node, at: PortNo) -> Result<(), AllocError>
-    requires { IsLinkPort at (ports_of node.now) }
-    ensures { OnOk result (out.new.items ≡ out.old.items
-        ++ vlan_lines port.now (λ vid. registrar_at (Vlan vid) (place_of at) node.now) (vids_after 0)) }
-{
-    for i in 0..4094 {
-        put_vid(out, port, node, at, i + 1)?;
-    }
+    let node = world.node(at.node);
+    let keys = node.keys(at.port)?;
+    put_keys(out, port, node, at.port, keys.as_slice())?;
     Ok(())
 }
 
-// The line of a VID by its Registrar at a port.
-fn put_vid(
+// The lines of these attributes at a port of a node.
+fn put_keys(
     out: &mut Vec<u8>,
     port: &[u8],
     node: &Node,
     at: PortNo,
-    number: u16,
+    keys: &[NodeKey],
 ) -> Result<(), AllocError>
-    requires few { (1 ≤ number) × (number ≤ 4094) }
-    requires port { IsLinkPort at (ports_of node.now) }
+    requires { IsLinkPort at (ports_of node.now) }
     ensures { OnOk result (out.new.items ≡ out.old.items
-        ++ vlan_line port.now number (registrar_at (Vlan number) (place_of at) node.now)) }
+        ++ key_lines port.now (λ key. registrar_at key (place_of at) node.now) keys.now) }
 {
-    match Vid::new(number) {
-        Some(vid) => put_vlan(out, port, number, node.registrar(at, NodeKey::Vlan(vid))),
-        None => Ok(()),
+    for key in keys {
+        put_key(out, port, *key, node.registrar(at, *key))?;
     }
+    Ok(())
 }
 
 // The name of a port: those of its node and of its peer's.

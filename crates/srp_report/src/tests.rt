@@ -16,7 +16,7 @@ use std::process::Abort;
 use std::test::Fail;
 use topology_file::{Scenario, read_scenario};
 use tree_topology::NodeKind;
-use world_core::WorldEvent::{Carry, Port, Request};
+use world_core::WorldEvent::{Carry, Clock, Lose, Port, Repeat, Request};
 use world_core::{Journal, NodeSteps, Run, Tick, World, WorldEvent};
 
 /// Stations 1 and 2 on a link.
@@ -61,43 +61,51 @@ fn is_station(world: &World, node: NodeNo, request: AppRequest) -> bool
     world.node(node).kind() == NodeKind::Station
 }
 
-// A station asks for something, where there is one.
-fn ask(world: &mut World, station: u16, request: AppRequest) -> Result<(), NoMemory> {
-    let node = NodeNo(station);
-    if is_station(world, node, request) {
-        world.step(Request(node, request))?;
+fn can_happen(world: &World, event: WorldEvent) -> bool
+    ensures { IsTrue result → CanHappen event world.now }
+{
+    match event {
+        Request(node, request) => is_station(world, node, request),
+        Port(node, port, _) => has_port(world, EgressPort { node, port }),
+        Lose(_, _) => false,
+        Repeat(_, _) => false,
+        Carry(at) => has_port(world, at),
+        Clock => false,
+    }
+}
+
+// Lets these events happen, one after the other.
+fn happen(world: &mut World, events: &[WorldEvent]) -> Result<(), NoMemory> {
+    for event in events {
+        if can_happen(world, *event) {
+            world.step(*event)?;
+        }
     }
     Ok(())
 }
 
-// The first port of a node makes a step, and what it sent is carried.
-fn make(world: &mut World, node: u16, step: PortStep) -> Result<(), NoMemory> {
-    let at = EgressPort {
-        node: NodeNo(node),
-        port: PortNo(1),
-    };
-    if has_port(world, at) {
-        world.step(Port(at.node, at.port, step))?;
-    }
-    if has_port(world, at) {
-        world.step(Carry(at))?;
-    }
-    Ok(())
-}
-
-// Station 1 has declared the VIDs 7 and 9, and withdrawn 9.
+// Station 1 has declared the VIDs 7 and 9, and withdrawn 9; station 2 has heard it.
 fn declare(rt: &impl Abort, world: &mut World) -> Result<(), NoMemory> {
     let seven = Vid::new(7).expect(rt, "a VID");
     let nine = Vid::new(9).expect(rt, "a VID");
-    ask(world, 1, AppRequest::Declare(seven))?;
-    ask(world, 1, AppRequest::Declare(nine))?;
-    make(world, 1, Settle)?;
-    make(world, 1, Send(App::Mvrp))?;
-    make(world, 2, Work)?;
-    ask(world, 1, AppRequest::Withdraw(nine))?;
-    make(world, 1, Settle)?;
-    make(world, 1, Send(App::Mvrp))?;
-    make(world, 2, Work)
+    let (first, second, port) = (NodeNo(1), NodeNo(2), PortNo(1));
+    let sends = [
+        Port(first, port, Settle),
+        Port(first, port, Send(App::Mvrp)),
+        Carry(EgressPort { node: first, port }),
+        Port(second, port, Work),
+    ];
+    let asks = [
+        Request(first, AppRequest::Declare(seven)),
+        Request(first, AppRequest::Declare(nine)),
+    ];
+    happen(world, asks.as_slice())?;
+    happen(world, sends.as_slice())?;
+    happen(
+        world,
+        [Request(first, AppRequest::Withdraw(nine))].as_slice(),
+    )?;
+    happen(world, sends.as_slice())
 }
 
 // The steps of a node at its first port.
