@@ -21,6 +21,7 @@ use Rattle.frame_flow.specs.Force.{is_port}
 use Rattle.frame_flow.specs.Copies.{Reached, sent_from, frame_of, reached_at, handed_on, handed_by, comes_over, flow_at, reached, ports_at, port_of, goes_by, copy_of, is_not_after, in_order, arriving}
 use Rattle.frame_flow.specs.Flow.{Setting}
 use Rattle.frame_flow.specs.Given.{IsInOrder, IsSetting, IsFrame, IsRoute}
+use Rattle.frame_flow.proofs.NumberLemmas.{find-here}
 use Rattle.frame_flow.proofs.OrderLemmas.{IsKnown, IsKnownCopy, All-in_order, order-in_order, sorted-is}
 
 -- ---- lists
@@ -64,79 +65,12 @@ All-filter_map P Q h each (x ∷ xs) all =
 
 -- ---- the frame of a number
 
--- the first element that a test passes
-pub find-here : {X : Type 0} (p : X → Bool) (xs : List X) (i : ℕ) (d : X) → i < length xs → ((k : ℕ) → k < i → p (get_or xs k d) ≡ false)
-    → p (get_or xs i d) ≡ true → find p xs ≡ Some (get_or xs i d)
-find-here p [] i d below before is = absurd (omega (arith, below))
-find-here p (x ∷ xs) zero d below before is = cond-true (p x) (Some x) (find p xs) is
-find-here p (x ∷ xs) (suc i) d below before is =
-    cond-false (p x) (Some x) (find p xs) (before zero (omega arith))
-    ∙ find-here p xs i d (omega (arith, below)) (λ k lt. before (suc k) (omega (arith, lt))) is
-
-pub find-nowhere : {X : Type 0} (p : X → Bool) (xs : List X) → All (λ x. p x ≡ false) xs → find p xs ≡ None
-find-nowhere p [] all = refl
-find-nowhere {X} p (x ∷ xs) all =
-    let P : X → Type 0 = λ t. p t ≡ false in
-    cond-false (p x) (Some x) (find p xs) (All-head P x xs all) ∙ find-nowhere p xs (All-tail P x xs all)
-
 -- each frame is that of its number
 pub known-each : (frames : List Frame) → AllPairs (λ f g. f.number < g.number) frames → All (IsKnown frames) frames
 known-each frames up k d below =
     find-here (λ f. f.number == (get_or frames k d).number) frames k d below
     (λ j lt. ne_eqb (get_or frames j d).number (get_or frames k d).number (λ e. omega (arith, up j k d lt below, e)))
     (eq-eqb (get_or frames k d).number (get_or frames k d).number refl)
-
--- the first frame of a number or a higher one, where it is of that number and where it isn't
-pub found_at : (frames : List Frame) (number i : ℕ) (d : Frame) → i < length frames → AllWithin (λ f. f.number < number) frames 0 i
-    → (get_or frames i d).number ≡ number → frame_of frames number ≡ Some (get_or frames i d)
-found_at frames number i d below before is =
-    find-here (λ f. f.number == number) frames i d below
-    (λ k lt. ne_eqb (get_or frames k d).number number (λ e. omega (arith, before k d (omega arith) lt, e))) (eq-eqb (get_or frames i d).number number is)
-
-pub not_found : (frames : List Frame) (number i : ℕ) → AllPairs (λ f g. f.number < g.number) frames → AllWithin (λ f. f.number < number) frames 0 i
-    → AllWithin (λ f. number ≤ f.number) frames i (length frames) → ((d : Frame) → i < length frames → (get_or frames i d).number ≢ number)
-    → frame_of frames number ≡ None
-not_found frames number i up before after other =
-    find-nowhere (λ f. f.number == number) frames (λ k d below. ne_eqb (get_or frames k d).number number
-    (λ e. elim (cases_lt k i) [
-      | inl lt ↦ absurd (omega (arith, before k d (omega arith) lt, e))
-      | inr ge ↦ elim (cases_eq k i) [
-        | inl same ↦ absurd (let F : ℕ → Type 0 = λ j. (get_or frames j d).number ≡ number in other d (omega arith) (subst F same e))
-        | inr apart ↦ absurd (let lt : i < k = omega (arith, apart) in omega (arith, up i k d lt below, after i d (omega arith) (omega arith), e))
-      ]
-    ]))
-
--- the frames up to one that is too low are, and those from one that isn't aren't
-pub before_upto : (frames : List Frame) (number m : ℕ) (d : Frame) → AllPairs (λ f g. f.number < g.number) frames → m < length frames
-    → (get_or frames m d).number < number → AllWithin (λ f. f.number < number) frames 0 (m + 1)
-before_upto frames number m d up below low k e zero_ lt =
-    let here : (get_or frames m e).number < number = subst (λ (f : Frame). f.number < number) (get_or_default frames m d e below) low in
-    elim (cases_lt k m) [
-      | inl less ↦ omega (arith, up k m e less below, here)
-      | inr more ↦ (let same : m ≡ k = omega (arith, lt, more) in subst (λ (j : ℕ). (get_or frames j e).number < number) same here)
-    ]
-
-pub after_from : (frames : List Frame) (number m : ℕ) (d : Frame) → AllPairs (λ f g. f.number < g.number) frames → m < length frames
-    → number ≤ (get_or frames m d).number → AllWithin (λ f. number ≤ f.number) frames m (length frames)
-after_from frames number m d up below high k e from lt =
-    let here : number ≤ (get_or frames m e).number = subst (λ (f : Frame). number ≤ f.number) (get_or_default frames m d e below) high in
-    elim (cases_lt m k) [
-      | inl less ↦ omega (arith, up m k e less lt, here)
-      | inr more ↦ (let same : m ≡ k = omega (arith, from, more) in subst (λ (j : ℕ). number ≤ (get_or frames j e).number) same here)
-    ]
-
--- the frames around one of a number
-pub before_at : (frames : List Frame) (number m : ℕ) → AllPairs (λ f g. f.number < g.number) frames → (m < length frames) × HoldsAt (λ f. f.number ≡ number) frames m
-    → AllWithin (λ f. f.number < number) frames 0 m
-before_at frames number m up here k d zero_ lt = omega (arith, up k m d lt here.0, here.1 d)
-
-pub after_at : (frames : List Frame) (number m : ℕ) → AllPairs (λ f g. f.number < g.number) frames → (m < length frames) × HoldsAt (λ f. f.number ≡ number) frames m
-    → AllWithin (λ f. number ≤ f.number) frames m (length frames)
-after_at frames number m up here k d from lt =
-    elim (cases_lt m k) [
-      | inl less ↦ omega (arith, up m k d less lt, here.1 d)
-      | inr more ↦ (let same : m ≡ k = omega (arith, from, more) in omega (arith, subst (λ (j : ℕ). (get_or frames j d).number ≡ number) same (here.1 d)))
-    ]
 
 -- the frames of a station with one frame more
 pub sent_more : (frames : List Frame) (x i : ℕ) (d : Frame) → i < length frames

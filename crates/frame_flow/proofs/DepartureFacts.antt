@@ -11,8 +11,15 @@ use Rattle.credit_shaper.specs.declared.port.Departure.{Departure}
 use Rattle.credit_shaper.specs.Credit.{traffic_number}
 use Rattle.credit_shaper.specs.Port.{is_of}
 use Rattle.credit_shaper.specs.Departures.{departs_as, IsDepartureOf, DepartInOrder}
+use Rattle.srp_base.specs.declared.bandwidth.Rate.{Rate}
+use Rattle.srp_base.specs.declared.ports.PortChange.{PortChange}
+use Rattle.frame_flow.specs.declared.frame.FrameCopy.{FrameCopy}
+use Rattle.frame_flow.specs.declared.result.Fate.{Fate}
+use Rattle.frame_flow.specs.declared.result.Fate.TheVariants.{Unbooked, NoVlan}
+use Rattle.frame_flow.specs.Force.{has_vid}
+use Rattle.frame_flow.specs.Flow.{is_unbooked, sent_fate, force_on, fate_of, fates_of}
 use Rattle.frame_flow.proofs.OrderLemmas.{pairs-head, pairs-tail, pairs-none}
-use Rattle.frame_flow.proofs.CopyLemmas.{find-here}
+use Rattle.frame_flow.proofs.NumberLemmas.{find-here}
 
 -- ---- what one list passes to another, in order
 
@@ -182,3 +189,15 @@ found-only n (x ∷ xs) d apart e =
       | inr nay ↦ cond-false (of_number n x) (x ∷ filter (of_number n) xs) (filter (of_number n) xs) nay
           ∙ found-only n xs d (pairs-tail DifferDepartures x xs apart) (sym (cond-false (of_number n x) (Some x) (find (of_number n) xs) nay) ∙ e)
     ]
+
+-- ---- fates by departures in another order
+
+-- the fates are the same where the same departure is found of each number
+pub fates-found : (rate : Rate) (changes : List PortChange) (ys xs : List Departure) (copies : List FrameCopy)
+    → ((q : ℕ) → find (λ d. d.frame == q) ys ≡ find (λ d. d.frame == q) xs) → fates_of rate changes ys copies ≡ fates_of rate changes xs copies
+fates-found rate changes ys xs [] same = refl
+fates-found rate changes ys xs (c ∷ cs) same =
+    let force = force_on rate changes c in
+    let by : Option Departure → Fate = λ o. cond (is_unbooked c.frame.route force) Unbooked (cond (has_vid c.frame.vid force) (sent_fate o) NoVlan) in
+    ap (λ (o : Option Departure). (c.frame.number, by o) ∷ fates_of rate changes ys cs) (same c.frame.number)
+    ∙ ap (λ (t : List (ℕ × Fate)). (c.frame.number, fate_of force xs c) ∷ t) (fates-found rate changes ys xs cs same)

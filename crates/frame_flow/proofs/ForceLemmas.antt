@@ -1,6 +1,7 @@
 -- The slopes that a port's shaper is given are those in force.
-use Rattle.std.proofs.Common.{◌≡◌, ◌≢◌, ℕ, zero, suc, ◌+◌, ◌-◌, ◌*◌, ◌/◌, ◌<◌, ◌≤◌, ◌⊎◌, inl, inr, Bool, true, false, cond, List, [], ◌∷◌, Option, Some, None, refl, sym, ◌∙◌, ap, subst, arith}
+use Rattle.std.proofs.Common.{◌≡◌, ◌≢◌, ℕ, zero, suc, ◌+◌, ◌-◌, ◌*◌, ◌/◌, ◌<◌, ◌≤◌, ◌⊎◌, inl, inr, Bool, true, false, cond, List, [], ◌∷◌, length, get_or, map, Option, Some, None, refl, sym, ◌∙◌, ap, subst, arith}
 use Rattle.std.specs.Prelude.{All, AllPairs, nat_lt, nat_le, ◌==◌, ◌&&◌, not}
+use Rattle.std.specs.List.{AllWithin}
 use Rattle.std.proofs.lemmas.Bool.{cond-true, cond-false, cases_Bool, cases_lt, eqb-true, ltb-true, leb-true, leb-false, le-leb, lt-leb, lt-ltb, le-ltb, and_left, and_parts, and_from, and_cases, not_from_false, false≢true, not_from_true}
 use Rattle.std.proofs.lemmas.List.Elements.{All-cons, All-head, All-tail, All-weaker}
 use Rattle.srp_base.specs.declared.bandwidth.Rate.{Rate}
@@ -39,6 +40,30 @@ upto-later tick newest (c ∷ cs) all =
     let P : PortChange → Type 0 = λ x. tick < x.tick in
     let here = cond-false (nat_le c.tick tick) (Some c) newest (lt-leb c.tick tick (All-head P c cs all)) in
     ap (λ (x : Option PortChange). last_upto tick x cs) here ∙ upto-later tick newest cs (All-tail P c cs all)
+
+-- none of some changes has come
+pub none-come : {X : Type 0} (to : X → PortChange) (tick : ℕ) (newest : Option PortChange) (xs : List X) → AllWithin (λ x. tick < (to x).tick) xs 0 (length xs)
+    → last_upto tick newest (map to xs) ≡ newest
+none-come to tick newest [] later = refl
+none-come to tick newest (x ∷ xs) later =
+    let c = to x in
+    ap (λ (o : Option PortChange). last_upto tick o (map to xs)) (cond-false (nat_le c.tick tick) (Some c) newest (lt-leb c.tick tick (later zero x (omega arith) (omega arith))))
+    ∙ none-come to tick newest xs (λ j e from lt. later (suc j) e (omega arith) (omega (arith, lt)))
+
+-- of changes that ascend, the last that has come
+pub last-come : {X : Type 0} (to : X → PortChange) (tick : ℕ) (newest : Option PortChange) (xs : List X) (k : ℕ) (d : X) → k < length xs
+    → AllWithin (λ x. (to x).tick ≤ tick) xs 0 (k + 1) → AllWithin (λ x. tick < (to x).tick) xs (k + 1) (length xs)
+    → last_upto tick newest (map to xs) ≡ Some (to (get_or xs k d))
+last-come to tick newest [] k d few come later = absurd (omega (arith, few))
+last-come to tick newest (x ∷ xs) zero d few come later =
+    let c = to x in
+    ap (λ (o : Option PortChange). last_upto tick o (map to xs)) (cond-true (nat_le c.tick tick) (Some c) newest (le-leb c.tick tick (come zero x (omega arith) (omega arith))))
+    ∙ none-come to tick (Some c) xs (λ j e from lt. later (suc j) e (omega arith) (omega (arith, lt)))
+last-come to tick newest (x ∷ xs) (suc k) d few come later =
+    let c = to x in
+    ap (λ (o : Option PortChange). last_upto tick o (map to xs)) (cond-true (nat_le c.tick tick) (Some c) newest (le-leb c.tick tick (come zero x (omega arith) (omega arith))))
+    ∙ last-come to tick (Some c) xs k d (omega (arith, few)) (λ j e from lt. come (suc j) e (omega arith) (omega (arith, lt)))
+    (λ j e from lt. later (suc j) e (omega (arith, from)) (omega (arith, lt)))
 
 -- slopes that aren't new are those that were
 same-slopes : (ticks : ℕ) (last : SlopeChange) (c : PortChange) → does_change ticks last c ≡ false → 0 < c.tick → c.tick < ticks

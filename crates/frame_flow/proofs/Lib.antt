@@ -1,4 +1,5 @@
 pub mod ListFacts
+pub mod NumberLemmas
 pub mod OrderLemmas
 pub mod CopyLemmas
 pub mod SlopeLemmas

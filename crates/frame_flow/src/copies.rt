@@ -11,6 +11,7 @@ ghost use Rattle.frame_flow.specs.Given.{IsRoute, IsInOrder};
 use crate::asked::Asked;
 use crate::frame::{Frame, FrameCopy, Route};
 use crate::moments::{bit_from, bits_of_ticks, moment_of};
+use crate::numbered::find_first;
 use crate::place::Place;
 use crate::result::{Fate, PortFlow};
 use srp_base::{EgressPort, NoMemory, PortNo, Rate};
@@ -148,6 +149,7 @@ impl Asked<'_> {
             (handed_by self.now.frames (Some flow.now))) }
     {
         let rate = flow.input.rate;
+        copies.reserve(flow.fates.len())?;
         for (number, fate) in flow.fates.as_slice() {
             self.add_departed(place, rate, *number, *fate, copies)?;
         }
@@ -247,34 +249,12 @@ fn put_in_order(copies: &mut Vec<FrameCopy>)
     copies.sort_unstable_by_key(|c| (c.bit, c.frame.number));
 }
 
-/// The frame of a number.
-#[tactic(auto, using(crate::proofs::CopyLemmas::found_at, crate::proofs::CopyLemmas::not_found))]
+/// The frame of a number. Frames that are numbered without a gap are found at once.
 fn frame_of(frames: &[Frame], number: u32) -> Option<Frame>
     requires { AllPairs (λ f g. f.number < g.number) frames.now }
     ensures { result ≡ frame_of frames.now number }
 {
-    let at = first_from(frames, number);
-    if at < frames.len() && frames[at].number == number {
-        Some(frames[at])
-    } else {
-        None
-    }
-}
-
-/// The index of the first frame with this number or a higher one. Frames that are numbered without a gap
-/// are found at once.
-#[tactic(auto, using(crate::proofs::CopyLemmas::before_at, crate::proofs::CopyLemmas::after_at))]
-fn first_from(frames: &[Frame], number: u32) -> usize
-    requires { AllPairs (λ f g. f.number < g.number) frames.now }
-    ensures within { result ≤ length frames.now }
-    ensures before { AllWithin (λ f. f.number < number) frames.now 0 result }
-    ensures after { AllWithin (λ f. number ≤ f.number) frames.now result (length frames.now) }
-{
-    let at = guess(frames, number);
-    if is_at(frames, number, at) {
-        return at;
-    }
-    search_from(frames, number)
+    find_first(frames, u64::from(number), guess(frames, number))
 }
 
 /// The index of a number where the frames are numbered without a gap.
@@ -283,36 +263,6 @@ fn guess(frames: &[Frame], number: u32) -> usize {
         [first, ..] => number.wrapping_sub(first.number) as usize,
         [] => 0,
     }
-}
-
-/// Whether the frame of this index has the number.
-fn is_at(frames: &[Frame], number: u32, at: usize) -> bool
-    ensures { IsTrue result → (at < length frames.now)
-        × HoldsAt (λ f. f.number ≡ number) frames.now at }
-{
-    match frames.get(at) {
-        Some(f) => f.number == number,
-        None => false,
-    }
-}
-
-/// The index of the first frame with this number or a higher one, by halves.
-fn search_from(frames: &[Frame], number: u32) -> usize
-    requires { AllPairs (λ f g. f.number < g.number) frames.now }
-    ensures within { result ≤ length frames.now }
-    ensures before { AllWithin (λ f. f.number < number) frames.now 0 result }
-    ensures after { AllWithin (λ f. number ≤ f.number) frames.now result (length frames.now) }
-{
-    let (mut low, mut high) = (0, frames.len());
-    while low < high {
-        let middle = low + (high - low) / 2;
-        if frames[middle].number < number {
-            low = middle + 1;
-        } else {
-            high = middle;
-        }
-    }
-    low
 }
 
 /// Whether a frame at a port's node goes on by the port.

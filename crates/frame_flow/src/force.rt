@@ -1,10 +1,12 @@
 //! What is in force at a port in a tick.
 
-ghost use Rattle.std.specs.Prelude.{◌≡◌, ◌≤◌, ◌==◌, map, option_map, IfOk};
+ghost use Rattle.std.specs.Prelude.{◌≡◌, ◌^◌, ◌<◌, ◌≤◌, ◌==◌, map, option_map, IfOk};
 ghost use Rattle.std.specs.List.{list_any};
+ghost use Rattle.std.specs.List.Sorted.{IsNonDecreasingBy};
 ghost use Rattle.frame_flow.specs.Force.{changes_at, in_force, has_booked, has_vid, first_slopes, does_change, slopes_of_change, slopes_over};
 
 use crate::moments::bits_of_ticks;
+use crate::numbered::count_below;
 use credit_shaper::SlopeChange;
 use srp_base::{EgressPort, NoMemory, PortChange, Rate, Seq, StreamId};
 use std::alloc::Global;
@@ -26,17 +28,18 @@ pub(crate) fn changes_at<'a>(
     Ok(found)
 }
 
-/// What is in force in a tick by a port's changes; None before the first of them.
+/// What is in force in a tick by a port's changes, which ascend; None before the first of them.
 pub(crate) fn in_force<'a>(tick: u64, changes: &[&'a PortChange]) -> Option<&'a PortChange>
+    requires tick { tick < 2 ^ 60 }
+    requires order { IsNonDecreasingBy (λ c. c.now.tick) changes.now }
     ensures { option_map (λ c. c.now) result ≡ in_force tick (map (λ c. c.now) changes.now) }
 {
-    let mut newest = None;
-    for c in changes {
-        if c.tick <= tick {
-            newest = Some(*c);
-        }
+    let come = count_below(changes, tick + 1);
+    if come == 0 {
+        None
+    } else {
+        Some(changes[come - 1])
     }
-    newest
 }
 
 /// Whether a stream is booked by what is in force.
@@ -117,7 +120,8 @@ pub(crate) fn slopes_over(
     ticks: u64,
     changes: &[&PortChange],
 ) -> Result<Seq<SlopeChange>, NoMemory>
-    requires { ticks ≤ 12000 }
+    requires ticks { ticks ≤ 12000 }
+    requires order { IsNonDecreasingBy (λ c. c.now.tick) changes.now }
     ensures { IfOk result (λ v. v ≡ slopes_over rate ticks (map (λ c. c.now) changes.now)) }
 {
     let mut last = first_slopes(in_force(0, changes));

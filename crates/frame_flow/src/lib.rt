@@ -13,7 +13,7 @@
 //!
 //! - `frame`: `Frame` with its `Route`, and `FrameCopy`, a frame at a port.
 //! - `result`: `Fate`, `PortFlow` and `FlowResult`.
-//! - `turns`: `flow`. `valid`: `is_valid`, whether it may be asked for.
+//! - `turns`: `flow`. `numbered`: what is found in a list that ascends by a number. `valid`: `is_valid`, whether it may be asked for.
 //! - `laws`: what is true of every flow.
 //!
 //! The contract of `flow` is one condition on all ports at once, `IsFlow` of `specs/Flow.antt`: the flow at
@@ -37,6 +37,7 @@ mod force;
 mod frame;
 pub mod laws;
 mod moments;
+mod numbered;
 mod place;
 mod result;
 mod turns;
@@ -47,6 +48,3 @@ pub use place::Place;
 pub use result::{Fate, FlowResult, PortFlow};
 pub use turns::flow;
 pub use valid::is_valid;
-
-#[cfg(test)]
-mod tests;

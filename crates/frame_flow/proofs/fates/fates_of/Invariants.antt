@@ -4,4 +4,4 @@ use Rattle.frame_flow.proofs.fates.fates_of.Given as goal
 
 abbrev pub invariant-loop-c : goal.invariant-loop-c
 invariant-loop-c l =
-    l.fates.items ≡ fates_of l.rate (map (λ c. c.now) l.changes) l.fn.sent (take l.c-index l.copies)
+    l.fates.items ≡ fates_of l.rate (map (λ c. c.now) l.changes) l.sent (take l.c-index l.copies)

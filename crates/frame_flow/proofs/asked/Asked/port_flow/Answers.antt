@@ -1,4 +1,5 @@
 use Rattle.std.proofs.Common.{◌≡◌, List, Bor, ap, map, subst, sym, ◌∙◌}
+use Rattle.std.specs.Prelude.{AllPairs}
 use Rattle.srp_base.specs.declared.ports.PortChange.{PortChange}
 use Rattle.frame_flow.specs.Force.{changes_at}
 use Rattle.frame_flow.specs.Flow.{Setting}
@@ -6,7 +7,8 @@ use Rattle.std.proofs.lemmas.List.Elements.{All-contains}
 use Rattle.tree_topology.specs.Topology.{HasPort}
 use Rattle.frame_flow.specs.Copies.{all_places}
 use Rattle.frame_flow.proofs.TurnLemmas.{places-are}
-use Rattle.frame_flow.proofs.SlopeLemmas.{port-input-at}
+use Rattle.frame_flow.proofs.NumberLemmas.{rises, unmapped}
+use Rattle.frame_flow.proofs.SlopeLemmas.{IsBefore, changes-ascend, port-input-at}
 use Rattle.frame_flow.proofs.asked.Asked.port_flow.Goals as goal
 
 pub arriving-requires : goal.arriving-requires
@@ -22,3 +24,11 @@ flow_of_copies-requires-clause-input c =
     let copies = c.deref-2.ensures.value ∙ c.in_ok-copies.ensures in
     port-input-at s c.keeps.ensures.given c.args.flows.now c.args.place c.requires c.self.inside.ticks
     (ap (λ (t : Setting). t.ticks) c.self.view_is) _ _ changes copies
+
+pub flow_of_copies-requires-clause-order : goal.flow_of_copies-requires-clause-order
+flow_of_copies-requires-clause-order c =
+    let s = c.args.self.now in
+    let at : List (Bor PortChange) → Type 0 = λ t. map (λ x. x.now) t ≡ changes_at s.changes c.args.place.at in
+    let changes = subst at (sym c.deref.ensures.value) c.in_ok-changes.ensures in
+    let up = subst (λ (t : List PortChange). AllPairs IsBefore t) (sym changes) (changes-ascend s.changes c.args.place.at c.keeps.ensures.given.range.changes) in
+    rises (λ (x : Bor PortChange). x.now.tick) _ (unmapped IsBefore (λ (x : Bor PortChange). x.now) _ up)
