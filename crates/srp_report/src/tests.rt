@@ -1,23 +1,15 @@
-//! Two stations on a link, of which one declares a VID: the report of what they sent and what is registered.
-//!
-//! An event is asked at run time whether it may happen, so that a test needs no proof of what the file's text says.
-
-ghost use Rattle.std.specs.Prelude.{IsTrue};
-ghost use Rattle.tree_topology.specs.Topology.{HasNode, HasPort};
-ghost use Rattle.world_core.specs.World.{CanHappen};
+//! Two stations on a link: the report of what they sent. What is registered is shown by the reports of `examples/`.
 
 use crate::report;
 use node_core::PortStep::{Due, Send, Settle, Work};
 use node_core::StepReply::{Discarded, Fired, Received, Sent, Settled, Silent};
-use node_core::{AppRequest, NodeStep, PortStep, StepReply};
-use srp_base::{App, EgressPort, NoMemory, NodeNo, PortNo, Seq, Vid};
+use node_core::{NodeStep, PortStep, StepReply};
+use srp_base::{App, NoMemory, NodeNo, PortNo, Seq};
 use std::alloc::Global;
 use std::process::Abort;
 use std::test::Fail;
 use topology_file::{Scenario, read_scenario};
-use tree_topology::NodeKind;
-use world_core::WorldEvent::{Carry, Clock, Lose, Port, Repeat, Request};
-use world_core::{Journal, NodeSteps, Run, Tick, World, WorldEvent};
+use world_core::{Journal, NodeSteps, Run, Tick, World};
 
 /// Stations 1 and 2 on a link.
 const SCENE: &str = "ticks = 22\n\
@@ -27,85 +19,12 @@ const SCENE: &str = "ticks = 22\n\
 const REPORT: &str = "ticks 22\n\
     port s1>s2 sent 2 octets 26 discarded 0\n\
     port s2>s1 sent 0 octets 0 discarded 1\n\
-    vlan s2>s1 7 IN\n\
-    vlan s2>s1 9 LV\n\
-    quiet no\n\
+    quiet yes\n\
     in step yes\n";
 
 fn scene(alloc: Global) -> Result<Scenario, Fail> {
     let table = toml::table_from_str(alloc, SCENE)?;
     Ok(read_scenario(alloc, &table)?)
-}
-
-fn has_node(world: &World, node: NodeNo) -> bool
-    ensures { IsTrue result → HasNode world.now.tree node.0 }
-{
-    1 <= node.0 && node.0 <= world.tree().nodes()
-}
-
-fn has_port(world: &World, at: EgressPort) -> bool
-    ensures { IsTrue result → HasPort world.now.tree at }
-{
-    if !has_node(world, at.node) {
-        return false;
-    }
-    1 <= at.port.0 && at.port.0 <= world.tree().ports(at.node)
-}
-
-fn is_station(world: &World, node: NodeNo, request: AppRequest) -> bool
-    ensures { IsTrue result → CanHappen (WorldEvent.Request node request) world.now }
-{
-    if !has_node(world, node) {
-        return false;
-    }
-    world.node(node).kind() == NodeKind::Station
-}
-
-fn can_happen(world: &World, event: WorldEvent) -> bool
-    ensures { IsTrue result → CanHappen event world.now }
-{
-    match event {
-        Request(node, request) => is_station(world, node, request),
-        Port(node, port, _) => has_port(world, EgressPort { node, port }),
-        Lose(_, _) => false,
-        Repeat(_, _) => false,
-        Carry(at) => has_port(world, at),
-        Clock => false,
-    }
-}
-
-// Lets these events happen, one after the other.
-fn happen(world: &mut World, events: &[WorldEvent]) -> Result<(), NoMemory> {
-    for event in events {
-        if can_happen(world, *event) {
-            world.step(*event)?;
-        }
-    }
-    Ok(())
-}
-
-// Station 1 has declared the VIDs 7 and 9, and withdrawn 9; station 2 has heard it.
-fn declare(rt: &impl Abort, world: &mut World) -> Result<(), NoMemory> {
-    let seven = Vid::new(7).expect(rt, "a VID");
-    let nine = Vid::new(9).expect(rt, "a VID");
-    let (first, second, port) = (NodeNo(1), NodeNo(2), PortNo(1));
-    let sends = [
-        Port(first, port, Settle),
-        Port(first, port, Send(App::Mvrp)),
-        Carry(EgressPort { node: first, port }),
-        Port(second, port, Work),
-    ];
-    let asks = [
-        Request(first, AppRequest::Declare(seven)),
-        Request(first, AppRequest::Declare(nine)),
-    ];
-    happen(world, asks.as_slice())?;
-    happen(world, sends.as_slice())?;
-    happen(
-        world,
-        [Request(first, AppRequest::Withdraw(nine))].as_slice(),
-    )?;
-    happen(world, sends.as_slice())
 }
 
 // The steps of a node at its first port.
@@ -158,13 +77,11 @@ fn journal(alloc: Global) -> Result<Journal, NoMemory> {
 }
 
 #[test]
-fn each_port_has_its_counts_and_its_vids(rt: HostRuntime) -> Result<(), Fail> {
+fn each_port_has_its_counts(rt: HostRuntime) -> Result<(), Fail> {
     let alloc = rt.alloc();
     let scenario = scene(alloc)?;
-    let mut world = World::of(alloc, &scenario)?;
-    declare(&rt, &mut world)?;
     let run = Run {
-        world,
+        world: World::of(alloc, &scenario)?,
         journal: journal(alloc)?,
     };
     let text = report(alloc, &scenario, &run)?;
