@@ -12,6 +12,8 @@
 #![tactic(auto)]
 
 pub mod laws;
+#[cfg(test)]
+mod tests;
 mod vlans;
 
 pub use vlans::{Sides, vlans_match};
