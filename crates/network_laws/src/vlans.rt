@@ -4,8 +4,9 @@ ghost use Rattle.std.specs.Prelude.{◌≡◌, ◌≤◌, ◌+◌, ℕ, ◌&&◌
 ghost use Rattle.std.specs.List.{list_any, range_with_len};
 ghost use Rattle.tree_topology.specs.Topology.{HasNode, HasPort};
 ghost use Rattle.tree_topology.specs.Walk.{is_behind};
-ghost use Rattle.network_laws.specs.Vlans.{is_registered, is_declared_at, is_declared_behind};
+ghost use Rattle.network_laws.specs.Vlans.{is_registered, is_declared_at, is_declared_behind, IsAtRest};
 
+use crate::laws::vlans_are_those_declared_behind;
 use node_core::NodeKey;
 use registrar::Registrar;
 use srp_base::{EgressPort, NoMemory, NodeNo, Vid};
@@ -26,7 +27,9 @@ pub fn vlans_match(world: &World, at: EgressPort, vid: Vid) -> Result<Sides, NoM
     requires { HasPort world.now.tree at }
     ensures found { IfOk result (λ s. s.found ≡ is_registered world.now vid at) }
     ensures expected { IfOk result (λ s. s.expected ≡ is_declared_behind world.now vid at) }
+    ensures at_rest { IsAtRest world.now → IfOk result (λ s. s.found ≡ s.expected) }
 {
+    vlans_are_those_declared_behind();
     world.keeps();
     Ok(Sides {
         found: is_registered_at(world, at, vid),

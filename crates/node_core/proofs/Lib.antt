@@ -3,3 +3,4 @@ pub mod Boxes
 pub mod Sending
 pub mod ProperSteps
 pub mod StepFacts
+mod Registered

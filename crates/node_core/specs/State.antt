@@ -1,7 +1,7 @@
 -- A node as contracts see it, and what its readers say of it.
 use Rattle.std.specs.Prelude.{◌≡◌, ◌≤◌, ◌^◌, ℕ, ◌==◌, ◌%◌, Bool, true, false, not, ◌&&◌, ◌||◌, if◌then◌else◌, List, [], ◌∷◌, ◌++◌, length, map, filter, Option, Some, None, slice_get}
 use Rattle.std.specs.Option.{option_map_or}
-use Rattle.std.specs.List.{list_all, list_any}
+use Rattle.std.specs.List.{list_all, list_any, filter_map}
 use Rattle.std.specs.Ordering.{nat_cmp}
 use Rattle.srp_base.specs.declared.numbers.Cs.{Cs}
 use Rattle.srp_base.specs.declared.numbers.BridgeId.{BridgeId}
@@ -11,6 +11,8 @@ use Rattle.srp_base.specs.declared.mrp.App.TheVariants.{Mvrp, Msrp}
 use Rattle.tree_topology.specs.declared.graph.NodeKind.{NodeKind}
 use Rattle.registrar.specs.declared.Registrar.{Registrar}
 use Rattle.registrar.specs.declared.Registrar.TheVariants.{Empty}
+use Rattle.registrar.specs.Table.{is_registered_in}
+use Rattle.mrp_participant.specs.declared.one_row.Row.{Row}
 use Rattle.mrp_participant.specs.Lookup.{find}
 use Rattle.mrp_participant.specs.OneRow.{registrar_of}
 use Rattle.mvrp.specs.Side.{Vlans, IsKept, are_still, is_busy as vlans_are_busy, new_vlans}
@@ -69,6 +71,15 @@ is_sound_at Msrp at s = true
 abbrev pub registrar_at : NodeKey → ℕ → NodeState → Registrar
 registrar_at (Vlan vid) at s =
     option_map_or (λ part. registrar_of (find nat_cmp vid part.rows)) (slice_get s.vlans.parts at) Empty
+
+-- the attribute of a row, where it is registered
+abbrev pub registered_key : Row ℕ (Unit {0}) → Option NodeKey
+registered_key row = if is_registered_in row.registrar then Some (Vlan row.key) else None
+
+-- the attributes that are registered at a place, ascending
+abbrev pub registered_keys : ℕ → NodeState → List NodeKey
+registered_keys at s =
+    option_map_or (λ part. filter_map registered_key part.rows) (slice_get s.vlans.parts at) []
 
 -- ---- what a port has to do
 

@@ -102,6 +102,11 @@ vlans_step Due now at vlans = fired_due now at vlans
 vlans_step Settle now at vlans = settled at vlans
 vlans_step (Send app) now at vlans = (vlans, Nothing)
 
+-- the attribute whose leave timer a step ends
+abbrev pub key_of_step : PortStep → Option NodeKey
+key_of_step (LeaveNow key) = Some key
+key_of_step _ = None
+
 -- ---- Send: what an application has to say goes to the end of an outbox
 
 -- the octets that the participant of MVRP at a place has to say, if any, in their one spelling

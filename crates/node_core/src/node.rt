@@ -1,14 +1,16 @@
 //! A node, how it is made, and what it shows.
 
-ghost use Rattle.std.specs.Prelude.{◌≡◌, ◌≤◌, ◌+◌, false, [], length, map, slice_get, Some, option_map, IfOk};
-ghost use Rattle.std.specs.List.{AllByRecursion, list_all};
+ghost use Rattle.std.specs.Prelude.{◌≡◌, ◌≤◌, ◌+◌, ◌++◌, false, [], length, map, slice_get, Some, option_map, option_and_then, option_to_list, IfOk, OnOk};
+ghost use Rattle.std.specs.List.{AllByRecursion, list_all, filter_map};
 ghost use Rattle.mrp_participant.specs.State.{IsTime};
 ghost use Rattle.mvrp.specs.Side.{IsLinkPort, place_of, has_own};
-ghost use Rattle.node_core.specs.State.{ports_of, new_node, box_at, are_empty, is_still_node, is_sound_at, registrar_at};
+ghost use Rattle.node_core.specs.State.{ports_of, new_node, box_at, are_empty, is_still_node, is_sound_at, registrar_at, registered_key, registered_keys};
 ghost use Rattle.node_core.specs.Links.{IsKeptNode};
 
 use crate::types::{NodeKey, Wire};
-use mvrp::MvrpSide;
+use mrp_participant::Participant;
+use mrp_participant::laws::a_place_for_each_key;
+use mvrp::{MvrpApp, MvrpSide};
 use registrar::Registrar;
 use srp_base::{App, BridgeId, Cs, NoMemory, PortNo, PortSetup, Seq, Vid};
 use std::alloc::{AllocError, Global};
@@ -159,6 +161,15 @@ impl Node {
         }
     }
 
+    /// The attributes that are registered at a port, VIDs first, each kind ascending.
+    pub fn keys(&self, port: PortNo) -> Result<Seq<NodeKey>, NoMemory>
+        requires { IsLinkPort port (ports_of self.now) }
+        ensures { IfOk result (λ keys. keys ≡ registered_keys (place_of port) self.now) }
+    {
+        let alloc = *self.inboxes.allocator();
+        registered_vids(alloc, self.mvrp.participant(port))
+    }
+
     /// Whether the application of the station declares a VID.
     pub fn declares(&self, vid: Vid) -> bool
         ensures { result ≡ has_own vid self.now.vlans }
@@ -243,6 +254,37 @@ fn wire_at(wires: &Seq<Wire>, index: usize) -> Option<&Wire>
     ensures { option_map (λ w. w.now) result ≡ slice_get wires.now index }
 {
     wires.as_slice().get(index)
+}
+
+// The VIDs that a participant of MVRP has registered.
+fn registered_vids(alloc: Global, part: &Participant<MvrpApp>) -> Result<Seq<NodeKey>, NoMemory>
+    ensures { IfOk result (λ keys. keys ≡ filter_map registered_key part.now.rows) }
+{
+    let mut keys = Vec::new(alloc);
+    for i in 0..part.rows() {
+        push_registered(&mut keys, part, i)?;
+    }
+    Ok(Seq::from_vec(keys))
+}
+
+// The VID of the row at a place goes to the end of a list, where it is registered.
+fn push_registered(
+    keys: &mut Vec<NodeKey>,
+    part: &Participant<MvrpApp>,
+    i: usize,
+) -> Result<(), NoMemory>
+    ensures { OnOk result (keys.new.items
+        ≡ keys.old.items ++ option_to_list (option_and_then registered_key (slice_get part.now.rows i))) }
+{
+    a_place_for_each_key::<MvrpApp>();
+    part.rows_ascend();
+    let Some(vid) = part.key_at(i) else {
+        return Ok(());
+    };
+    if part.registrar(vid).is_registered() {
+        keys.push(NodeKey::Vlan(vid))?;
+    }
+    Ok(())
 }
 
 // Whether no PDU waits in any of these boxes.

@@ -1,5 +1,8 @@
 //! What happens at a node, and what it answers.
 
+ghost use Rattle.std.specs.Prelude.{◌≡◌};
+ghost use Rattle.node_core.specs.Step.{key_of_step};
+
 use srp_base::{App, PortNo, Seq, Vid};
 
 /// A PDU on a link: the application that it belongs to, and its octets.
@@ -46,7 +49,9 @@ pub enum PortStep {
 
 impl PortStep {
     /// The attribute whose leave timer the step ends, if it is such a step.
-    pub fn key(self) -> Option<NodeKey> {
+    pub fn key(self) -> Option<NodeKey>
+        ensures { result ≡ key_of_step self }
+    {
         match self {
             PortStep::LeaveNow(key) => Some(key),
             PortStep::Work

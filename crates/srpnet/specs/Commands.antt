@@ -1,7 +1,8 @@
--- The commands. Each has a line in `reads_input`, `Output` and `ending_of`, and a row in the table of words.
+-- The commands. Each has a line in `reads_input`, `runs`, `Output` and `ending_of`, and a row in the table of words.
 use Rattle.std.specs.Prelude.{◌≡◌, ℕ, Bool, true, false, List}
+use Rattle.world_core.specs.declared.journal.Tick.{Tick}
 use Rattle.srpnet.specs.declared.words.Command.{Command}
-use Rattle.srpnet.specs.declared.words.Command.TheVariants.{Ledger, Check, Help, Version}
+use Rattle.srpnet.specs.declared.words.Command.TheVariants.{Ledger, Check, Run, Help, Version}
 use Rattle.srpnet.specs.declared.outcome.Cause.{Cause}
 use Rattle.srpnet.specs.declared.outcome.Cause.TheVariants.{Done}
 use Rattle.srpnet.specs.Input.{ending}
@@ -10,24 +11,40 @@ use Rattle.srpnet.specs.CheckText.{CheckOutput}
 use Rattle.srpnet.specs.LedgerInput.{ledger_input}
 use Rattle.srpnet.specs.LedgerText.{LedgerOutput}
 use Rattle.srpnet.specs.Pages.{help_page, version_page}
+use Rattle.srpnet.specs.RunInput.{run_input}
+use Rattle.srpnet.specs.RunText.{RunOutput}
 
 -- whether it reads an input; the pages read none
 abbrev pub reads_input : Command → Bool
 reads_input Ledger = true
 reads_input Check = true
+reads_input Run = true
 reads_input Help = false
 reads_input Version = false
 
--- what it prints for the octets of an input
-abbrev pub Output : Command → List ℕ → List ℕ → Type 0
-Output Ledger octets text = LedgerOutput octets text
-Output Check octets text = CheckOutput octets text
-Output Help octets text = text ≡ help_page
-Output Version octets text = text ≡ version_page
+-- whether it runs a network, so that there is a journal
+abbrev pub runs : Command → Bool
+runs Ledger = false
+runs Check = false
+runs Run = true
+runs Help = false
+runs Version = false
+
+abbrev pub RunsNothing : Command → Type 0
+RunsNothing command = runs command ≡ false
+
+-- what it prints for the octets of an input, where its run has these ticks
+abbrev pub Output : Command → List ℕ → List Tick → List ℕ → Type 0
+Output Ledger octets ticks text = LedgerOutput octets text
+Output Check octets ticks text = CheckOutput octets text
+Output Run octets ticks text = RunOutput octets ticks text
+Output Help octets ticks text = text ≡ help_page
+Output Version octets ticks text = text ≡ version_page
 
 -- how it ends for the octets of an input, where nothing fails and memory lasts
 abbrev pub ending_of : Command → List ℕ → Cause
 ending_of Ledger octets = ending (ledger_input octets)
 ending_of Check octets = ending (scenario_input octets)
+ending_of Run octets = ending (run_input octets)
 ending_of Help octets = Done
 ending_of Version octets = Done

@@ -1,29 +1,31 @@
 -- The top clause: everything that the top call promises of its ending.
-use Rattle.std.specs.Prelude.{◌≡◌, ℕ, ◌⊎◌, List, Option, Some, None}
+use Rattle.std.specs.Prelude.{◌≡◌, ℕ, ◌⊎◌, List, [], Option, Some, None}
 use Rattle.srp_io.specs.Faults.{Rose}
 use Rattle.srp_io.specs.Whole.{TookAtMost, TookPast}
 use Rattle.srpnet.specs.declared.words.Command.{Command}
 use Rattle.srpnet.specs.declared.outcome.Cause.{Cause}
 use Rattle.srpnet.specs.declared.outcome.Cause.TheVariants.{Done, BadWords, ReadFault, TooLong, WriteFault, NoMemory}
 use Rattle.srpnet.specs.Outcomes.{IsRefusal, IsWriteFault, WritesNothing}
-use Rattle.srpnet.specs.TopCall.{Wrote, WrotePart, WroteUntilNoMemory, Refuses, ReadsNothing, most_octets, expected}
+use Rattle.srpnet.specs.TopCall.{Wrote, WrotePart, WroteUntilNoMemory, WroteNothing, Refuses, ReadsNothing, most_octets, expected}
+use Rattle.world_core.specs.declared.journal.Tick.{Tick}
 
 -- A command is carried out on a source of the type I and an out sink of the type O, before the call
 -- and after it. What they tell of their octets and how many faults they count is `left`, `held` and the
--- two `faults`.
+-- two `faults`. The ticks are those of the journal that the call hands back.
 pub record CarriedOut {I O : Type 0} (left : I → Option (List ℕ)) (in_faults : I → ℕ)
     (held : O → Option (List ℕ)) (out_faults : O → ℕ)
-    (command : Command) (source source' : I) (out out' : O) (cause : Cause) : Type 0 where
+    (command : Command) (source source' : I) (out out' : O) (cause : Cause) (ticks : List Tick) : Type 0 where
   -- done: the input was read to its end, and the output that belongs to it went out whole
-  pub done : cause ≡ Done → Wrote command (left source) (left source') (held out) (held out')
+  pub done : cause ≡ Done → Wrote command (left source) (left source') (held out) (held out') ticks
   -- a write fault: exactly the first octets of that output went out, as many as the cause says
   pub part : (written : ℕ) → cause ≡ WriteFault written
-      → WrotePart command (left source) (left source') (held out) (held out') written
+      → WrotePart command (left source) (left source') (held out) (held out') ticks written
   -- want of memory: nothing was written, or a front of that output
   pub memory : cause ≡ NoMemory
-      → (out' ≡ out) ⊎ WroteUntilNoMemory command (left source) (left source') (held out) (held out')
-  -- with the causes of bad input nothing is written
+      → WroteNothing out out' ticks ⊎ WroteUntilNoMemory command (left source) (left source') (held out) (held out') ticks
+  -- with the causes of bad input nothing is written, and there is no journal
   pub nothing_written : WritesNothing cause → out' ≡ out
+  pub no_journal : WritesNothing cause → ticks ≡ []
   -- a fault of reading or writing comes only where the count of that object rose in this call
   pub read_fault : cause ≡ ReadFault → Rose (in_faults source) (in_faults source')
   pub write_fault : (written : ℕ) → cause ≡ WriteFault written → Rose (out_faults out) (out_faults out')
@@ -49,16 +51,17 @@ pub record CarriedOut {I O : Type 0} (left : I → Option (List ℕ)) (in_faults
       → (cause ≡ Done) ⊎ (cause ≡ NoMemory)
 
 -- the words match no row: nothing is read and nothing written
-pub record WordsRefused {I O : Type 0} (source source' : I) (out out' : O) (cause : Cause) : Type 0 where
+pub record WordsRefused {I O : Type 0} (source source' : I) (out out' : O) (cause : Cause) (ticks : List Tick) : Type 0 where
   pub bad_words : cause ≡ BadWords
+  pub no_journal : ticks ≡ []
   pub unread : source' ≡ source
   pub unwritten : out' ≡ out
 
 -- how the call ends for the command that its words were found to be, if any
 abbrev pub IsEnding : {I O : Type 0}
     → (I → Option (List ℕ)) → (I → ℕ) → (O → Option (List ℕ)) → (O → ℕ)
-    → Option Command → I → I → O → O → Cause → Type 0
-IsEnding left in_faults held out_faults (Some command) source source' out out' cause =
-    CarriedOut left in_faults held out_faults command source source' out out' cause
-IsEnding left in_faults held out_faults None source source' out out' cause =
-    WordsRefused source source' out out' cause
+    → Option Command → I → I → O → O → Cause → List Tick → Type 0
+IsEnding left in_faults held out_faults (Some command) source source' out out' cause ticks =
+    CarriedOut left in_faults held out_faults command source source' out out' cause ticks
+IsEnding left in_faults held out_faults None source source' out out' cause ticks =
+    WordsRefused source source' out out' cause ticks

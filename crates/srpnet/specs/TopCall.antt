@@ -1,10 +1,11 @@
 -- What the top call does: how a source is read and a text written, and how a command ends.
-use Rattle.std.specs.Prelude.{◌≡◌, ℕ, ◌<◌, ◌≤◌, nat_le, true, false, not, ◌&&◌, if◌then◌else◌, List, length, take, Option}
+use Rattle.std.specs.Prelude.{◌≡◌, ℕ, ◌<◌, ◌≤◌, nat_le, true, false, not, ◌&&◌, if◌then◌else◌, List, [], length, take, Option}
 use Rattle.std.specs.Io.KnownBytes.{Appends, Consumes, IsAtEnd}
 use Rattle.srpnet.specs.declared.words.Command.{Command}
 use Rattle.srpnet.specs.declared.outcome.Cause.{Cause}
 use Rattle.srpnet.specs.declared.outcome.Cause.TheVariants.{TooLong}
-use Rattle.srpnet.specs.Commands.{reads_input, Output, ending_of}
+use Rattle.srpnet.specs.Commands.{reads_input, Output, RunsNothing, ending_of}
+use Rattle.world_core.specs.declared.journal.Tick.{Tick}
 
 -- ---- Reading
 
@@ -28,24 +29,25 @@ pub record Refuses (command : Command) (before after : Option (List ℕ)) (cause
 -- ---- Writing
 
 -- a command's output: of the octets that the source gave, which are all that it had, for a command
--- that reads an input
-pub record IsOutput (command : Command) (before after : Option (List ℕ)) (text : List ℕ)
+-- that reads an input; with the ticks of its run, of which there are none for a command that runs nothing
+pub record IsOutput (command : Command) (before after : Option (List ℕ)) (ticks : List Tick) (text : List ℕ)
     : Type 0 where
   pub octets : List ℕ
   pub whole : reads_input command ≡ true → ReadWhole before after octets
-  pub output : Output command octets text
+  pub output : Output command octets ticks text
+  pub no_journal : RunsNothing command → ticks ≡ []
 
 -- the whole output of a command went out
-pub record Wrote (command : Command) (before after held now : Option (List ℕ)) : Type 0 where
+pub record Wrote (command : Command) (before after held now : Option (List ℕ)) (ticks : List Tick) : Type 0 where
   pub text : List ℕ
-  pub output : IsOutput command before after text
+  pub output : IsOutput command before after ticks text
   pub appended : Appends held now text
 
 -- exactly the first octets of a command's output went out, fewer than all
-pub record WrotePart (command : Command) (before after held now : Option (List ℕ)) (written : ℕ)
+pub record WrotePart (command : Command) (before after held now : Option (List ℕ)) (ticks : List Tick) (written : ℕ)
     : Type 0 where
   pub text : List ℕ
-  pub output : IsOutput command before after text
+  pub output : IsOutput command before after ticks text
   pub appended : Appends held now (take written text)
   pub short : written < length text
 
@@ -56,10 +58,16 @@ pub record PartOf (held now : Option (List ℕ)) (text : List ℕ) : Type 0 wher
   pub short : written < length text
 
 -- memory ran out while a command's output went out
-pub record WroteUntilNoMemory (command : Command) (before after held now : Option (List ℕ)) : Type 0 where
+pub record WroteUntilNoMemory (command : Command) (before after held now : Option (List ℕ)) (ticks : List Tick)
+    : Type 0 where
   pub text : List ℕ
-  pub output : IsOutput command before after text
+  pub output : IsOutput command before after ticks text
   pub part : PartOf held now text
+
+-- nothing went out, and there is no journal
+pub record WroteNothing {O : Type 0} (out out' : O) (ticks : List Tick) : Type 0 where
+  pub unwritten : out' ≡ out
+  pub no_journal : ticks ≡ []
 
 -- a sink gained a front of a text
 pub record GainsFront (held now : Option (List ℕ)) (text : List ℕ) : Type 0 where

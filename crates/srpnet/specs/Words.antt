@@ -2,13 +2,14 @@
 use Rattle.std.specs.Prelude.{ℕ, nat_eq, List, [], ◌∷◌, codes, if◌then◌else◌, Option, Some, None}
 use Rattle.std.specs.Cmp.Lexicographic.{pointwise}
 use Rattle.srpnet.specs.declared.words.Command.{Command}
-use Rattle.srpnet.specs.declared.words.Command.TheVariants.{Ledger, Check, Help, Version}
+use Rattle.srpnet.specs.declared.words.Command.TheVariants.{Ledger, Check, Run, Help, Version}
 
 -- the rows of one word
 abbrev pub command_of_word : List ℕ → Option Command
 command_of_word word =
     if pointwise nat_eq word (codes "ledger") then Some Ledger
     else if pointwise nat_eq word (codes "check") then Some Check
+    else if pointwise nat_eq word (codes "run") then Some Run
     else if pointwise nat_eq word (codes "--help") then Some Help
     else if pointwise nat_eq word (codes "--version") then Some Version
     else None

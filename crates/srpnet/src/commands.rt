@@ -1,36 +1,57 @@
 //! The commands: which of them read an input, and what each makes of its octets.
 
-ghost use Rattle.std.specs.Prelude.{◌≡◌, IfOk, IfErr};
-ghost use Rattle.srpnet.specs.Commands.{reads_input as reads_input_spec, ending_of, Output};
+ghost use Rattle.std.specs.Prelude.{◌≡◌, [], IfOk, IfErr};
+ghost use Rattle.srpnet.specs.Commands.{reads_input as reads_input_spec, ending_of, Output, RunsNothing};
 ghost use Rattle.srpnet.specs.Outcomes.{EndsAs};
 
-use crate::outcome::Cause;
+use crate::outcome::{Cause, no_journal};
 use crate::pages::{HELP, VERSION};
 use crate::words::Command;
-use crate::{check, ledger, pages};
+use crate::{check, ledger, pages, run};
 use srp_base::Seq;
 use std::alloc::Global;
+use world_core::Journal;
+
+/// What a command makes: the text that it prints, and the journal of the run that it made, empty where it made none.
+#[derive(Debug, PartialEq, Eq, Drop)]
+pub struct CommandOutput {
+    pub text: Seq<u8>,
+    pub journal: Journal,
+}
+
+// The output of a command that runs nothing.
+fn text_alone(alloc: Global, text: Seq<u8>) -> CommandOutput
+    ensures text { result.text ≡ text }
+    ensures journal { result.journal.ticks ≡ [] }
+{
+    CommandOutput {
+        text,
+        journal: no_journal(alloc),
+    }
+}
 
 /// Whether a command reads an input; the pages read none.
 pub fn reads_input(command: Command) -> bool
     ensures { result ≡ reads_input_spec command }
 {
     match command {
-        Command::Ledger | Command::Check => true,
+        Command::Ledger | Command::Check | Command::Run => true,
         Command::Help | Command::Version => false,
     }
 }
 
-/// What a command prints for the octets of its input, or why there is nothing to print.
-pub fn output(alloc: Global, command: Command, octets: &[u8]) -> Result<Seq<u8>, Cause>
-    ensures output { IfOk result (Output command octets.now) }
+/// What a command prints for the octets of its input, with the journal of its run, or why there is nothing to print.
+pub fn output(alloc: Global, command: Command, octets: &[u8]) -> Result<CommandOutput, Cause>
+    ensures output { IfOk result (λ o. Output command octets.now o.journal.ticks o.text) }
+    ensures no_journal { RunsNothing command → IfOk result (λ o. o.journal.ticks ≡ []) }
     ensures ends { EndsAs (ending_of command octets.now) result }
     ensures not_done { IfErr result (λ c. c ≡ Cause.Done → ⊥) }
 {
     match command {
-        Command::Ledger => ledger::output(alloc, octets),
-        Command::Check => check::output(alloc, octets),
-        Command::Help => pages::output(alloc, HELP),
-        Command::Version => pages::output(alloc, VERSION),
+        Command::Ledger => Ok(text_alone(alloc, ledger::output(alloc, octets)?)),
+        Command::Check => Ok(text_alone(alloc, check::output(alloc, octets)?)),
+        Command::Run => run::output(alloc, octets),
+        Command::Help => Ok(text_alone(alloc, pages::output(alloc, HELP)?)),
+        Command::Version => Ok(text_alone(alloc, pages::output(alloc, VERSION)?)),
     }
 }

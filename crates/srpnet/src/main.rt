@@ -6,6 +6,7 @@
 //! commands   what each command makes of the octets of an input: its arm
 //! |- ledger  bookings of one port: file, input, bookings, text
 //! |- check   what a scenario holds, by its counts: text
+//! |- run     a network through the ticks of a scenario: input
 //! '- pages   --help and --version
 //! scenario   the input of the commands that read a scenario
 //! input      octets to a TOML table
@@ -27,6 +28,7 @@ mod input;
 mod ledger;
 mod outcome;
 mod pages;
+mod run;
 mod scenario;
 #[cfg(test)]
 mod tests;

@@ -1,14 +1,15 @@
 //! How the program ends: a status, its cause, and the text of the cause.
 
-ghost use Rattle.std.specs.Prelude.{◌≡◌, ℕ, take, IfOk, string_bytes};
+ghost use Rattle.std.specs.Prelude.{◌≡◌, ℕ, [], take, IfOk, string_bytes};
 ghost use Rattle.std.specs.Io.KnownBytes.{Appends};
 ghost use Rattle.srpnet.specs.Outcomes.{status_of as status_of_spec, err_text as err_text_spec, fixed_text as fixed_text_spec, cause_of_rules, cause_of_reading};
 ghost use Rattle.srpnet.specs.declared.outcome.Cause.TheVariants.{BadScenario, NoMemory as no_memory};
 
-use srp_base::NoMemory;
+use srp_base::{NoMemory, Seq};
 use srp_io::{ReadErr, Sink, WriteErr, write_whole};
 use std::alloc::{AllocError, Global};
 use toml_rules::RuleErr;
+use world_core::Journal;
 
 /// Why the program ends.
 #[derive(Clone, Copy, Debug, PartialEq, Eq)]
@@ -73,11 +74,42 @@ impl From<ReadErr> for Cause {
 }
 
 /// How the top call ends.
-#[derive(Clone, Copy, Debug, PartialEq, Eq)]
+#[derive(Debug, PartialEq, Eq, Drop)]
 pub struct Outcome {
     /// The exit status.
     pub status: u8,
     pub cause: Cause,
+    /// What happened in the run whose output went out, whole or in part, tick by tick; else it is empty.
+    pub journal: Journal,
+}
+
+/// How a command ends: why, and the journal of the run whose output went out.
+#[derive(Debug, PartialEq, Eq, Drop)]
+pub struct Ended {
+    pub cause: Cause,
+    pub journal: Journal,
+}
+
+impl Ended {
+    /// An ending without a run.
+    pub fn without_run(alloc: Global, cause: Cause) -> Ended
+        ensures cause { result.cause ≡ cause }
+        ensures journal { result.journal.ticks ≡ [] }
+    {
+        Ended {
+            cause,
+            journal: no_journal(alloc),
+        }
+    }
+}
+
+/// The journal where nothing was run.
+pub fn no_journal(alloc: Global) -> Journal
+    ensures { result.ticks ≡ [] }
+{
+    Journal {
+        ticks: Seq::new(alloc),
+    }
 }
 
 /// The exit status of a cause.

@@ -16,6 +16,9 @@ srpnet: the Stream Reservation Protocol (IEEE Std 802.1Q-2018) over a file
                     the rest is refused
   srpnet check      reads a scenario file on standard input, a network and
                     what happens in it, and prints its counts
+  srpnet run        reads a scenario file without streams on standard input,
+                    runs its network through the ticks, and prints what is
+                    registered at each port
   srpnet --help     this page
   srpnet --version  the version
 

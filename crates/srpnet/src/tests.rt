@@ -18,13 +18,21 @@ const PAIR: &str = "ticks = 22
 [[link]]\na = 's1'\nb = 's2'
 ";
 
+const PAIR_RUN: &str = "ticks 22
+port s1>s2 sent 0 octets 0 discarded 0
+port s2>s1 sent 0 octets 0 discarded 0
+quiet yes
+in step yes
+";
+
 const PAIR_OUT: &str = "nodes 2\nlinks 1\nstreams 0\nevents 0\nframes 0\nticks 22\n";
 
 /// What a call ended with.
 #[derive(Drop)]
-struct Ended {
+struct Called {
     status: u8,
     cause: Cause,
+    ticks: usize,
     out: String,
     err: String,
 }
@@ -37,16 +45,17 @@ fn call(
     text: &[u8],
     read: (usize, u64),
     write: (usize, u64),
-) -> Result<Ended, AllocError> {
+) -> Result<Called, AllocError> {
     let octets = word.as_bytes().to_vec(alloc)?;
     let words = Seq::from_vec(vec![in alloc; Seq::from_vec(octets)]?);
     let mut source = MemSource::new(text.to_vec(alloc)?, read.0.max(1), vec![in alloc; read.1]?);
     let mut out = MemSink::new(alloc, write.0.max(1), vec![in alloc; write.1]?);
     let mut err = MemSink::new(alloc, 5, Vec::new(alloc));
     let outcome = srp_plain(alloc, &words, &mut source, &mut out, &mut err);
-    Ok(Ended {
+    Ok(Called {
         status: outcome.status,
         cause: outcome.cause,
+        ticks: outcome.journal.ticks.len(),
         out: text_of(alloc, out.bytes())?,
         err: text_of(alloc, err.bytes())?,
     })
@@ -60,14 +69,14 @@ fn text_of(alloc: Global, octets: &[u8]) -> Result<String, AllocError> {
 }
 
 /// A call in which nothing fails prints this.
-fn prints(rt: &impl Abort, ended: &Ended, page: &str) {
+fn prints(rt: &impl Abort, ended: &Called, page: &str) {
     assert_eq!(rt; ended.status, 0);
     assert_eq!(rt; ended.out.as_str(), page);
     assert_eq!(rt; ended.err.as_str(), "");
 }
 
 /// A call that prints nothing ends with this status and this text of its cause.
-fn ends_with(rt: &impl Abort, ended: &Ended, status: u8, err: &str) {
+fn ends_with(rt: &impl Abort, ended: &Called, status: u8, err: &str) {
     assert_eq!(rt; ended.status, status);
     assert_eq!(rt; ended.err.as_str(), err);
     assert_eq!(rt; ended.out.as_str(), "");
@@ -79,6 +88,7 @@ fn each_command_prints_its_text(rt: HostRuntime) -> Result<(), Fail> {
     for (word, text, page) in [
         ("ledger", PORT, PORT_OUT),
         ("check", PAIR, PAIR_OUT),
+        ("run", PAIR, PAIR_RUN),
         ("--help", "", HELP),
         ("--version", "", VERSION),
     ] {
@@ -92,10 +102,11 @@ fn each_command_prints_its_text(rt: HostRuntime) -> Result<(), Fail> {
 fn each_cause_has_its_status(rt: HostRuntime) -> Result<(), Fail> {
     let alloc = rt.alloc();
     for (word, text, fault, status, err) in [
-        ("run", PORT, (1, 1), 2, "srpnet: bad words\n"),
+        ("runs", PORT, (1, 1), 2, "srpnet: bad words\n"),
         ("ledger", PORT, (2, 1), 3, "srpnet: read fault\n"),
         ("ledger", "rate =", (0, 1), 5, "srpnet: not TOML\n"),
         ("ledger", "", (0, 1), 6, "srpnet: rule 31 entry 0\n"),
+        ("run", "", (0, 1), 6, "srpnet: rule 1 entry 0\n"),
         ("ledger", PORT, (0, 1), 7, "srpnet: write fault\n"),
     ] {
         let ended = call(alloc, word, text.as_bytes(), (10, fault.0), (10, fault.1))?;
@@ -109,5 +120,15 @@ fn a_failed_write_says_how_many_octets_went_out(rt: HostRuntime) -> Result<(), F
     let ended = call(rt.alloc(), "ledger", PORT.as_bytes(), (7, 0), (20, 2))?;
     assert!(rt; ended.cause == Cause::WriteFault { written: 20 });
     assert!(rt; ended.out.as_str() == PORT_OUT.get(0..20).unwrap_or(""));
+    Ok(())
+}
+
+#[test]
+fn a_run_hands_back_its_journal(rt: HostRuntime) -> Result<(), Fail> {
+    let alloc = rt.alloc();
+    let ended = call(alloc, "run", PAIR.as_bytes(), (100, 0), (100, 0))?;
+    assert_eq!(rt; ended.ticks, 22);
+    let ended = call(alloc, "check", PAIR.as_bytes(), (100, 0), (100, 0))?;
+    assert_eq!(rt; ended.ticks, 0);
     Ok(())
 }

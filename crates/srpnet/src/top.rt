@@ -1,6 +1,6 @@
 //! The top call: from the program's words and streams to its outcome.
 
-ghost use Rattle.std.specs.Prelude.{◌≡◌, ℕ, ◌<◌, List, length, take, Some, Err, IfOk, IfErr};
+ghost use Rattle.std.specs.Prelude.{◌≡◌, ℕ, ◌<◌, List, [], length, take, Some, Err, IfOk, IfErr};
 ghost use Rattle.std.specs.Io.KnownBytes.{Appends};
 ghost use Rattle.srp_io.specs.Faults.{Rose};
 ghost use Rattle.srp_io.specs.Whole.{TookAtMost, TookPast};
@@ -9,8 +9,8 @@ ghost use Rattle.srpnet.specs.Ending.{CarriedOut, IsEnding};
 ghost use Rattle.srpnet.specs.TopCall.{expected, IsOutput, Refuses, ReadsNothing, PartOf, GainsFront};
 ghost use Rattle.srpnet.specs.Words.{command_of as command_of_spec};
 
-use crate::commands::{output, reads_input};
-use crate::outcome::{Cause, Outcome, status_of, tell};
+use crate::commands::{CommandOutput, output, reads_input};
+use crate::outcome::{Cause, Ended, Outcome, status_of, tell};
 use crate::words::{Command, command_of};
 use srp_base::Seq;
 use srp_io::{Sink, Source, WriteErr, read_all, write_whole};
@@ -20,8 +20,12 @@ use std::alloc::Global;
 const MOST_OCTETS: usize = 1_048_576;
 
 /// Reads the input of a command to its end, where it reads one, and makes the command's output.
-fn read_output<I: Source>(alloc: Global, command: Command, source: &mut I) -> Result<Seq<u8>, Cause>
-    ensures output { IfOk result (IsOutput command (I.left source.old) (I.left source.new)) }
+fn read_output<I: Source>(
+    alloc: Global,
+    command: Command,
+    source: &mut I,
+) -> Result<CommandOutput, Cause>
+    ensures output { IfOk result (λ o. IsOutput command (I.left source.old) (I.left source.new) o.journal.ticks o.text) }
     ensures only { IfErr result LacksOutput }
 
     ensures read_fault { result ≡ Err Cause.ReadFault
@@ -72,12 +76,16 @@ fn carry_out<I: Source, O: Sink>(
     command: Command,
     source: &mut I,
     out: &mut O,
-) -> Cause
-    ensures { CarriedOut I.left I.faults O.held O.faults command source.old source.new out.old out.new result }
+) -> Ended
+    ensures { CarriedOut I.left I.faults O.held O.faults command source.old source.new out.old out.new
+        result.cause result.journal.ticks }
 {
     match read_output(alloc, command, source) {
-        Ok(text) => print(out, text.as_slice()),
-        Err(cause) => cause,
+        Ok(made) => Ended {
+            cause: print(out, made.text.as_slice()),
+            journal: made.journal,
+        },
+        Err(cause) => Ended::without_run(alloc, cause),
     }
 }
 
@@ -87,12 +95,13 @@ fn end_of<I: Source, O: Sink>(
     found: Option<Command>,
     source: &mut I,
     out: &mut O,
-) -> Cause
-    ensures { IsEnding I.left I.faults O.held O.faults found source.old source.new out.old out.new result }
+) -> Ended
+    ensures { IsEnding I.left I.faults O.held O.faults found source.old source.new out.old out.new
+        result.cause result.journal.ticks }
 {
     match found {
         Some(command) => carry_out(alloc, command, source, out),
-        None => Cause::BadWords,
+        None => Ended::without_run(alloc, Cause::BadWords),
     }
 }
 
@@ -108,14 +117,15 @@ pub fn srp_plain<I: Source, O: Sink, E: Sink>(
 ) -> Outcome
     ensures status { result.status ≡ status_of_spec result.cause }
     ensures ending { IsEnding I.left I.faults O.held O.faults (command_of_spec words.now)
-        source.old source.new out.old out.new result.cause }
+        source.old source.new out.old out.new result.cause result.journal.ticks }
     ensures told { GainsFront (E.held err.old) (E.held err.new) (err_text result.cause) }
 {
-    let cause = end_of(alloc, command_of(words), source, out);
-    tell(alloc, err, cause);
+    let ended = end_of(alloc, command_of(words), source, out);
+    tell(alloc, err, ended.cause);
     Outcome {
-        status: status_of(cause),
-        cause,
+        status: status_of(ended.cause),
+        cause: ended.cause,
+        journal: ended.journal,
     }
 }
 
@@ -129,7 +139,7 @@ pub fn srp_main<R: AllocGlobal, I: Source, O: Sink, E: Sink>(
 ) -> Outcome
     ensures status { result.status ≡ status_of_spec result.cause }
     ensures ending { IsEnding I.left I.faults O.held O.faults (command_of_spec words.now)
-        source.old source.new out.old out.new result.cause }
+        source.old source.new out.old out.new result.cause result.journal.ticks }
     ensures told { GainsFront (E.held err.old) (E.held err.new) (err_text result.cause) }
 {
     srp_plain(rt.alloc(), words, source, out, err)

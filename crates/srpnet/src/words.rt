@@ -12,6 +12,8 @@ pub enum Command {
     Ledger,
     /// `check`: reads a scenario and prints its counts.
     Check,
+    /// `run`: reads a scenario, runs the network through its ticks and prints the report.
+    Run,
     /// `--help`: prints a page of help.
     Help,
     /// `--version`: prints the version.
@@ -35,6 +37,8 @@ fn command_of_word(word: &[u8]) -> Option<Command>
         Some(Command::Ledger)
     } else if word == b"check".as_slice() {
         Some(Command::Check)
+    } else if word == b"run".as_slice() {
+        Some(Command::Run)
     } else if word == b"--help".as_slice() {
         Some(Command::Help)
     } else if word == b"--version".as_slice() {

@@ -26,9 +26,10 @@ use Rattle.world_core.specs.Start.{setup_of, end_setup, setups_from, nodes_from,
 use Rattle.world_core.specs.World.{inbox, outbox}
 use Rattle.world_core.specs.Duty.{vlan_part, AreVlanDutiesMet}
 use Rattle.world_core.specs.Kept.{FitsTree, IsKeptWorld}
+use Rattle.world_core.proofs.Idle.{idle_start}
 use Rattle.world_core.proofs.Nodes.{Base, node_there, part_is, inbox_is, outbox_is}
 use Rattle.world_core.proofs.Ends.{boxed, boxed_same}
-use Rattle.world_core.proofs.EventSteps.{whole}
+use Rattle.world_core.proofs.EventSteps.{kept_whole}
 
 mapped_length : {X Y : Type 0} (f : X → Y) (xs : List X) → length (map f xs) ≡ length xs
 mapped_length f [] = refl
@@ -155,4 +156,4 @@ module _ (plan : Plan) (rules : KeepsRules plan)
       (new_duties (here.period, plan.leave_time, plan.periodic) (there.period, plan.leave_time, plan.periodic))))
 
   pub begins : IsKeptWorld (world_of plan)
-  begins = whole (world_of plan) base duties
+  begins = kept_whole (world_of plan) base (idle_start plan) duties

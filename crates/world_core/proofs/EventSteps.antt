@@ -32,7 +32,8 @@ use Rattle.world_core.specs.declared.events.WorldEvent.{WorldEvent}
 use Rattle.world_core.specs.declared.events.WorldEvent.TheVariants.{Request, Port, Lose, Repeat, Carry, Clock}
 use Rattle.world_core.specs.World.{WorldState, node_at, with_changed, inbox, outbox, app_of, stepped, spoilt, lost, repeated, carried, ticked, world_step, world_after, CanHappen, CanAllHappen, NamesVids}
 use Rattle.world_core.specs.Duty.{vlans_said, message_of, messages_of, vlan_part, AreVlanDutiesMet}
-use Rattle.world_core.specs.Kept.{FitsTree, IsKeptWorld}
+use Rattle.world_core.specs.Kept.{FitsTree, AreBridgesIdle, IsKeptWorld}
+use Rattle.world_core.proofs.Idle.{idle_step}
 use Rattle.world_core.proofs.Lists.{one_some, get_set_same, get_set_other, nothing_lost, paired}
 use Rattle.world_core.proofs.Nodes.{Base, Stays, SameAt, SameAtPort, base_changed, same_then, same_port, by_states, by_node, node_same, node_other, same_tree, node_there, part_there, part_is, inbox_is, outbox_is}
 use Rattle.world_core.proofs.Ends.{boxed, boxed_same, MetOn, one_link, other_node, other_place, on_tree, nowhere, duties_changed}
@@ -51,11 +52,25 @@ pub record NodeLaws : Type 0 where
   pub repeated : (at index : ℕ) (s : NodeState) → IsProperNode s → IsProperNode (repeated_at at index s)
   pub spoilt : (app : App) (at : ℕ) (s : NodeState) → IsProperNode s → IsProperNode (spoilt_at app at s)
 
-pub base_of : (w : WorldState) → IsKeptWorld w → Base w
+-- what a network keeps but that its bridges are idle, which is kept by itself
+record IsDutiful (w : WorldState) : Type 0 where
+  tree : IsSound w.tree
+  many : length w.nodes ≡ length w.tree.kinds
+  nodes : (x : ℕ) (s : NodeState) → slice_get w.nodes x ≡ Some s → FitsTree w.tree x s
+  clock : (x y : ℕ) (s t : NodeState) → slice_get w.nodes x ≡ Some s → slice_get w.nodes y ≡ Some t → s.clock ≡ t.clock
+  duties : AreVlanDutiesMet w
+
+base_of : (w : WorldState) → IsDutiful w → Base w
 base_of w kept = record { tree = kept.tree; many = kept.many; nodes = kept.nodes; clock = kept.clock }
 
-pub whole : (w : WorldState) → Base w → AreVlanDutiesMet w → IsKeptWorld w
+pub base_kept : (w : WorldState) → IsKeptWorld w → Base w
+base_kept w kept = record { tree = kept.tree; many = kept.many; nodes = kept.nodes; clock = kept.clock }
+
+whole : (w : WorldState) → Base w → AreVlanDutiesMet w → IsDutiful w
 whole w base met = record { tree = base.tree; many = base.many; nodes = base.nodes; clock = base.clock; duties = met }
+
+pub kept_whole : (w : WorldState) → Base w → AreBridgesIdle w → AreVlanDutiesMet w → IsKeptWorld w
+kept_whole w base idle met = record { tree = base.tree; many = base.many; nodes = base.nodes; clock = base.clock; idle = idle; duties = met }
 
 -- a node that is in the network is one that every node is
 proper_at : (w : WorldState) → Base w → (n : NodeNo) (s : NodeState) → node_at n w ≡ Some s → IsProperNode s
@@ -102,12 +117,12 @@ module _ (links : LinkLaws) (nodes : NodeLaws) where
       either true x y h i = record { part = h; inbox = refl; outbox = refl }
       either false x y h i = record { part = i; inbox = refl; outbox = refl }
 
-  kept_request : (n : NodeNo) (request : AppRequest) (w : WorldState) → HasPortLaws w.tree → CanHappen (Request n request) w → NamesVids (Request n request) → IsKeptWorld w → IsKeptWorld (world_step (Request n request) w).0
+  kept_request : (n : NodeNo) (request : AppRequest) (w : WorldState) → HasPortLaws w.tree → CanHappen (Request n request) w → NamesVids (Request n request) → IsDutiful w → IsDutiful (world_step (Request n request) w).0
   kept_request n request w laws can named kept =
       let base = base_of w kept in
       let event : NodeEvent = node_events.Request request in
       let change : NodeState → NodeState = λ s. (node_step event s).0 in
-      subst IsKeptWorld (stepped_is n event w)
+      subst IsDutiful (stepped_is n event w)
       (whole (with_changed n change w)
       (base_changed n change w base (λ s is.
       let station = subst (λ (t : NodeState). t.kind ≡ _) (one_some (node_at n w) can.1.0 s can.1.1 is) can.1.2 in
@@ -122,12 +137,12 @@ module _ (links : LinkLaws) (nodes : NodeLaws) where
 
   -- ---- a step of a port
 
-  kept_port : (e : EgressPort) (step : PortStep) (w : WorldState) → HasPortLaws w.tree → HasPort w.tree e → IsKeptWorld w → IsKeptWorld (world_step (Port e.node e.port step) w).0
+  kept_port : (e : EgressPort) (step : PortStep) (w : WorldState) → HasPortLaws w.tree → HasPort w.tree e → IsDutiful w → IsDutiful (world_step (Port e.node e.port step) w).0
   kept_port e step w laws has kept =
       let base = base_of w kept in
       let event : NodeEvent = node_events.Port e.port step in
       let change : NodeState → NodeState = λ s. (node_step event s).0 in
-      subst IsKeptWorld (stepped_is e.node event w)
+      subst IsDutiful (stepped_is e.node event w)
       (whole (with_changed e.node change w)
       (base_changed e.node change w base (λ s is.
       let there = part_there w base e has s is in
@@ -146,10 +161,10 @@ module _ (links : LinkLaws) (nodes : NodeLaws) where
 
   -- ---- a copy
 
-  kept_repeat : (e : EgressPort) (index : ℕ) (w : WorldState) → HasPortLaws w.tree → HasPort w.tree e → IsKeptWorld w → IsKeptWorld (world_step (Repeat e index) w).0
+  kept_repeat : (e : EgressPort) (index : ℕ) (w : WorldState) → HasPortLaws w.tree → HasPort w.tree e → IsDutiful w → IsDutiful (world_step (Repeat e index) w).0
   kept_repeat e index w laws has kept = by (app_of e index w)
     where
-      by : (o : Option App) → IsKeptWorld (repeated e index o w).0
+      by : (o : Option App) → IsDutiful (repeated e index o w).0
       by None = kept
       by (Some app) =
           let base = base_of w kept in
@@ -162,7 +177,7 @@ module _ (links : LinkLaws) (nodes : NodeLaws) where
 
   -- ---- the clock
 
-  kept_clock : (w : WorldState) → HasPortLaws w.tree → CanHappen Clock w → IsKeptWorld w → IsKeptWorld (world_step Clock w).0
+  kept_clock : (w : WorldState) → HasPortLaws w.tree → CanHappen Clock w → IsDutiful w → IsDutiful (world_step Clock w).0
   kept_clock w laws can kept =
       record {
         tree = kept.tree;
@@ -195,7 +210,7 @@ module _ (links : LinkLaws) (nodes : NodeLaws) where
 
   -- ---- carrying
 
-  module _ (e : EgressPort) (w : WorldState) (laws : HasPortLaws w.tree) (has : HasPort w.tree e) (kept : IsKeptWorld w) where
+  module _ (e : EgressPort) (w : WorldState) (laws : HasPortLaws w.tree) (has : HasPort w.tree e) (kept : IsDutiful w) where
     abbrev q : EgressPort
     q = peer_of w.tree.links e
 
@@ -299,7 +314,7 @@ module _ (links : LinkLaws) (nodes : NodeLaws) where
         ∙ boxed_same near far _ _ _ _ _ _ _ _ (sym in_q) (sym out_e) (ap (λ (r : EgressPort). inbox r w) (laws.peer_twice e has) ∙ sym in_e) (sym out_q))
         before)
 
-    kept_carry : IsKeptWorld (world_step (Carry e) w).0
+    kept_carry : IsDutiful (world_step (Carry e) w).0
     kept_carry = whole filled base_filled (on_tree w filled tree_filled met_filled)
 
   -- ---- a loss
@@ -331,7 +346,7 @@ module _ (links : LinkLaws) (nodes : NodeLaws) where
       = ap (λ (o : Option Part). slice_get (with_part o (λ p. replaced at (record p { sound = false }) s.vlans) s.vlans).parts at) (sym old) ∙ new in
       get_set_same s.vlans.parts at (record x { sound = false }) y there
 
-  module _ (e : EgressPort) (index : ℕ) (app : App) (w : WorldState) (laws : HasPortLaws w.tree) (has : HasPort w.tree e) (kept : IsKeptWorld w) where
+  module _ (e : EgressPort) (index : ℕ) (app : App) (w : WorldState) (laws : HasPortLaws w.tree) (has : HasPort w.tree e) (kept : IsDutiful w) where
     abbrev o : EgressPort
     o = peer_of w.tree.links e
 
@@ -414,8 +429,8 @@ module _ (links : LinkLaws) (nodes : NodeLaws) where
         (boxed_same part_w.0 part_o.0 (inbox o w) (inbox o w) (outbox e w) (outbox e w) (inbox (peer_of w.tree.links o) w) (inbox e w) (outbox o w) (outbox o w) refl refl (ap (λ (r : EgressPort). inbox r w) (laws.peer_twice e has)) refl)
         (kept.duties e has part_w.0 part_o.0 (part_is e w at_e.0 at_e.1 ∙ part_w.1) (part_is o w at_o.0 at_o.1 ∙ part_o.1))
 
-    whole_loss : MetOn w.tree both_spoilt → IsKeptWorld (spoilt app e fewer)
-    whole_loss met = subst IsKeptWorld is_spoilt (whole both_spoilt base_both (on_tree w both_spoilt tree_both met))
+    whole_loss : MetOn w.tree both_spoilt → IsDutiful (spoilt app e fewer)
+    whole_loss met = subst IsDutiful is_spoilt (whole both_spoilt base_both (on_tree w both_spoilt tree_both met))
 
   unsound_link : (x z : Part) (a b c d a' b' c' d' : List Wire) → AreDutiesMet nat_cmp (boxed x z a b c d) → AreDutiesMet nat_cmp (boxed (record x { sound = false }) (record z { sound = false }) a' b' c' d')
   unsound_link x z a b c d a' b' c' d' met =
@@ -426,7 +441,7 @@ module _ (links : LinkLaws) (nodes : NodeLaws) where
         far_duty = links.unsound (record z { sound = false }) (record x { sound = false }) (messages_of (c' ++ d')) (messages_of (a' ++ b')) refl;
       }
 
-  mvrp_loss : (e : EgressPort) (index : ℕ) (w : WorldState) (laws : HasPortLaws w.tree) (has : HasPort w.tree e) (kept : IsKeptWorld w) → IsKeptWorld (spoilt Mvrp e (with_changed e.node (lost_at (place_of e.port) index) w))
+  mvrp_loss : (e : EgressPort) (index : ℕ) (w : WorldState) (laws : HasPortLaws w.tree) (has : HasPort w.tree e) (kept : IsDutiful w) → IsDutiful (spoilt Mvrp e (with_changed e.node (lost_at (place_of e.port) index) w))
   mvrp_loss e index w laws has kept =
       let q = peer_of w.tree.links e in
       let v = both_spoilt e index Mvrp w laws has kept in
@@ -443,8 +458,8 @@ module _ (links : LinkLaws) (nodes : NodeLaws) where
       (unsound_link xe.0 xo.0 (inbox q w) (outbox e w) (inbox e w) (outbox q w) (inbox q v) (outbox e v) (inbox e v) (outbox q v) (met_before e index Mvrp w laws has kept)))))
 
   -- a PDU of another application says nothing
-  msrp_loss : (e : EgressPort) (index : ℕ) (w : WorldState) (laws : HasPortLaws w.tree) (has : HasPort w.tree e) (kept : IsKeptWorld w) → app_of e index w ≡ Some Msrp
-      → IsKeptWorld (spoilt Msrp e (with_changed e.node (lost_at (place_of e.port) index) w))
+  msrp_loss : (e : EgressPort) (index : ℕ) (w : WorldState) (laws : HasPortLaws w.tree) (has : HasPort w.tree e) (kept : IsDutiful w) → app_of e index w ≡ Some Msrp
+      → IsDutiful (spoilt Msrp e (with_changed e.node (lost_at (place_of e.port) index) w))
   msrp_loss e index w laws has kept is =
       let q = peer_of w.tree.links e in
       let v = both_spoilt e index Msrp w laws has kept in
@@ -485,23 +500,28 @@ module _ (links : LinkLaws) (nodes : NodeLaws) where
       wire_at (wire ∷ wires) zero h = let app : wire.app ≡ Msrp = cc in (wire, refl, ap (λ (a : App). vlans_said a wire.octets) app)
       wire_at (wire ∷ wires) (suc i) h = wire_at wires i h
 
-  kept_lose : (e : EgressPort) (index : ℕ) (w : WorldState) → HasPortLaws w.tree → HasPort w.tree e → IsKeptWorld w → IsKeptWorld (world_step (Lose e index) w).0
+  kept_lose : (e : EgressPort) (index : ℕ) (w : WorldState) → HasPortLaws w.tree → HasPort w.tree e → IsDutiful w → IsDutiful (world_step (Lose e index) w).0
   kept_lose e index w laws has kept = by (app_of e index w) refl
     where
-      by : (a : Option App) → app_of e index w ≡ a → IsKeptWorld (lost e index a w).0
+      by : (a : Option App) → app_of e index w ≡ a → IsDutiful (lost e index a w).0
       by None is = kept
       by (Some Mvrp) is = mvrp_loss e index w laws has kept
       by (Some Msrp) is = msrp_loss e index w laws has kept is
 
   -- ---- every event, and every list of them
 
+  dutiful_event : ((tree : Topology) → IsSound tree → HasPortLaws tree) → (event : WorldEvent) (w : WorldState) → CanHappen event w → NamesVids event → IsDutiful w → IsDutiful (world_step event w).0
+  dutiful_event ports (Request n request) w can named kept = kept_request n request w (ports w.tree kept.tree) can named kept
+  dutiful_event ports (Port n port step) w can named kept = kept_port (record { node = n; port = port }) step w (ports w.tree kept.tree) can kept
+  dutiful_event ports (Lose p index) w can named kept = kept_lose p index w (ports w.tree kept.tree) can kept
+  dutiful_event ports (Repeat p index) w can named kept = kept_repeat p index w (ports w.tree kept.tree) can kept
+  dutiful_event ports (Carry p) w can named kept = kept_carry p w (ports w.tree kept.tree) can kept
+  dutiful_event ports Clock w can named kept = kept_clock w (ports w.tree kept.tree) can kept
+
   pub kept_event : ((tree : Topology) → IsSound tree → HasPortLaws tree) → (event : WorldEvent) (w : WorldState) → CanHappen event w → NamesVids event → IsKeptWorld w → IsKeptWorld (world_step event w).0
-  kept_event ports (Request n request) w can named kept = kept_request n request w (ports w.tree kept.tree) can named kept
-  kept_event ports (Port n port step) w can named kept = kept_port (record { node = n; port = port }) step w (ports w.tree kept.tree) can kept
-  kept_event ports (Lose p index) w can named kept = kept_lose p index w (ports w.tree kept.tree) can kept
-  kept_event ports (Repeat p index) w can named kept = kept_repeat p index w (ports w.tree kept.tree) can kept
-  kept_event ports (Carry p) w can named kept = kept_carry p w (ports w.tree kept.tree) can kept
-  kept_event ports Clock w can named kept = kept_clock w (ports w.tree kept.tree) can kept
+  kept_event ports e w can named kept =
+      let after = dutiful_event ports e w can named (record { tree = kept.tree; many = kept.many; nodes = kept.nodes; clock = kept.clock; duties = kept.duties }) in
+      kept_whole (world_step e w).0 (base_of (world_step e w).0 after) (idle_step e w can kept.idle) after.duties
 
   pub kept_events : ((tree : Topology) → IsSound tree → HasPortLaws tree) → (events : List WorldEvent) (w : WorldState) → CanAllHappen events w → AllByRecursion NamesVids events → IsKeptWorld w → IsKeptWorld (world_after events w)
   kept_events ports [] w can named kept = kept

@@ -28,7 +28,7 @@ use Rattle.node_core.specs.Links.{spoilt_at, with_outbox, with_carried, lost_at,
 use Rattle.world_core.specs.declared.events.WorldEvent.{WorldEvent}
 use Rattle.world_core.specs.declared.events.WorldEvent.TheVariants.{Request, Port, Lose, Repeat, Carry, Clock}
 use Rattle.world_core.specs.declared.events.WorldReply.TheVariants.{Missed}
-use Rattle.world_core.specs.World.{WorldState, node_at, with_node, with_changed, after_step, stepped, spoilt, lost, repeated, app_of, outbox, world_step, world_after, CanHappen, CanAllHappen}
+use Rattle.world_core.specs.World.{WorldState, node_at, with_node, with_changed, after_step, stepped, spoilt, lost, repeated, app_of, outbox, world_step, CanHappen}
 use Rattle.topology_file.specs.Plan.{Plan}
 use Rattle.topology_file.specs.declared.entries.NodeEntry.{NodeEntry}
 use Rattle.world_core.specs.Start.{world_of, nodes_from}
@@ -172,8 +172,3 @@ idle_from plan x (n ∷ entries) = ((λ k. refl), idle_from plan (x + 1) entries
 -- the bridges of a scenario are idle at its start
 pub idle_start : (plan : Plan) → AreBridgesIdle (world_of plan)
 idle_start plan = idle_from plan 1 plan.nodes
-
--- each of some events leaves them idle
-pub idle_after : (es : List WorldEvent) (w : WorldState) → CanAllHappen es w → AreBridgesIdle w → AreBridgesIdle (world_after es w)
-idle_after [] w can idle = idle
-idle_after (e ∷ es) w can idle = idle_after es (world_step e w).0 can.1 (idle_step e w can.0 idle)

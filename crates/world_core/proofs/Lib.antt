@@ -2,11 +2,11 @@ mod Lists
 mod Nodes
 mod Ends
 mod StepDuties
+mod Idle
 mod EventSteps
 mod Beginnings
 mod Starting
 mod Runs
 mod EventLists
-mod Idle
 mod Happenings
 mod Standing

@@ -42,6 +42,7 @@ use Rattle.world_core.specs.declared.journal.Tick.{Tick}
 use Rattle.world_core.specs.World.{WorldState, node_at, with_changed, outbox, app_of, spoilt, lost, repeated, carried, world_step, world_after, CanHappen, CanAllHappen, NamesVids}
 use Rattle.world_core.specs.Start.{world_of}
 use Rattle.world_core.specs.Ticks.{event_of, with_event, scripted_from, scripted, step_events, link_ports, tick_events, IsLegalTick, LeadTo}
+use Rattle.world_core.specs.During.{IsDuring, IsAllowed, NamesNeighbours}
 use Rattle.world_core.specs.Moments.{events_from}
 use Rattle.world_core.specs.Kept.{IsKeptWorld}
 use Rattle.world_core.proofs.Lists.{one_some, set_each, within}
@@ -102,26 +103,11 @@ steady_carried p w =
 
 -- ---- which events a scenario has
 
--- what an event needs of the tree; the clock's is apart
-abbrev IsAllowed : Topology → WorldEvent → Type 0
-IsAllowed tree (Request n request) = (1 ≤ n.0) × (slice_get tree.kinds (n.0 - 1) ≡ Some Station) × AsksVids request
-IsAllowed tree (Port n port step) = HasPort tree (record { node = n; port = port })
-IsAllowed tree (Lose p index) = HasPort tree p
-IsAllowed tree (Repeat p index) = HasPort tree p
-IsAllowed tree (Carry p) = HasPort tree p
-IsAllowed tree Clock = ⊥
-
--- a network within a run, at the beginning of a tick or before its clock
-record IsInRun (tree : Topology) (t : ℕ) (w : WorldState) : Type 0 where
-  kept : IsKeptWorld w
-  tree_is : w.tree ≡ tree
-  clock : (x : ℕ) (s : NodeState) → slice_get w.nodes x ≡ Some s → s.clock.0 ≡ t
-
--- some events may happen in their turn, and lead to a network within a run
-record LeadOn (tree : Topology) (t : ℕ) (es : List WorldEvent) (w : WorldState) : Type 0 where
-  can : CanAllHappen es w
-  named : AllByRecursion NamesVids es
-  after : IsInRun tree t (world_after es w)
+-- some events may happen in their turn, and lead to a network during a tick
+pub record LeadOn (tree : Topology) (t : ℕ) (es : List WorldEvent) (w : WorldState) : Type 0 where
+  pub can : CanAllHappen es w
+  pub named : AllByRecursion NamesVids es
+  pub after : IsDuring tree t (world_after es w)
 
 can_append : (es fs : List WorldEvent) (w : WorldState) → CanAllHappen es w → CanAllHappen fs (world_after es w) → CanAllHappen (es ++ fs) w
 can_append [] fs w c d = d
@@ -140,7 +126,7 @@ lead_append tree t t' es fs w a b =
     record {
       can = can_append es fs w a.can b.can;
       named = each_append NamesVids es fs a.named b.named;
-      after = subst (IsInRun tree t') (after_append es fs w) b.after;
+      after = subst (IsDuring tree t') (after_append es fs w) b.after;
     }
 
 -- the laws that this rests on, as the public laws say them
@@ -152,7 +138,7 @@ pub record RunLaws : Type 0 where
 
 -- ---- the scenario's events
 
-all_each : {X : Type 0} (P : X → Type 0) (xs : List X) → All P xs → AllByRecursion P xs
+pub all_each : {X : Type 0} (P : X → Type 0) (xs : List X) → All P xs → AllByRecursion P xs
 all_each P [] h = tt
 all_each P (x ∷ xs) h = (h 0 x (omega arith), all_each P xs (λ k d lt. h (suc k) d (omega (arith, lt))))
 
@@ -193,18 +179,37 @@ some_joins (l ∷ ls) x y h = by (or_true (joins_both x y l) (list_any (joins_bo
     by (inr e) later = inr (later e)
 
 module _ (laws : RunLaws) where
+  -- the tree stays in any case, the clocks at each event but the clock's
+  steady_but : (e : WorldEvent) (w : WorldState) → (e ≡ Clock) ⊎ IsSteady w (world_step e w).0
+  steady_but (Request n request) w = inr (subst (IsSteady w) (stepped_is n (node_events.Request request) w) (steady_changed n (λ s. (node_step (node_events.Request request) s).0) w (laws.asked request)))
+  steady_but (Port n port step) w = inr (subst (IsSteady w) (stepped_is n (node_events.Port port step) w) (steady_changed n (λ s. (node_step (node_events.Port port step) s).0) w (laws.clock port step)))
+  steady_but (Lose p index) w = inr (steady_lost p index (app_of p index w) w)
+  steady_but (Repeat p index) w = inr (steady_repeated p index (app_of p index w) w)
+  steady_but (Carry p) w = inr (steady_carried p w)
+  steady_but Clock w = inl refl
+
   steady : (tree : Topology) (e : WorldEvent) (w : WorldState) → IsAllowed tree e → IsSteady w (world_step e w).0
-  steady tree (Request n request) w ok = subst (IsSteady w) (stepped_is n (node_events.Request request) w) (steady_changed n (λ s. (node_step (node_events.Request request) s).0) w (laws.asked request))
-  steady tree (Port n port step) w ok = subst (IsSteady w) (stepped_is n (node_events.Port port step) w) (steady_changed n (λ s. (node_step (node_events.Port port step) s).0) w (laws.clock port step))
-  steady tree (Lose p index) w ok = steady_lost p index (app_of p index w) w
-  steady tree (Repeat p index) w ok = steady_repeated p index (app_of p index w) w
-  steady tree (Carry p) w ok = steady_carried p w
-  steady tree Clock w ok = absurd ok
+  steady tree e w ok = by (steady_but e w)
+    where
+      by : (e ≡ Clock) ⊎ IsSteady w (world_step e w).0 → IsSteady w (world_step e w).0
+      by (inl is) = absurd (subst (IsAllowed tree) is ok)
+      by (inr still) = still
+
+  pub tree_stays : (e : WorldEvent) (w : WorldState) → (world_step e w).0.tree ≡ w.tree
+  tree_stays e w = by (steady_but e w)
+    where
+      by : (e ≡ Clock) ⊎ IsSteady w (world_step e w).0 → (world_step e w).0.tree ≡ w.tree
+      by (inl is) = subst (λ (x : WorldEvent). (world_step x w).0.tree ≡ w.tree) (sym is) refl
+      by (inr still) = still.tree
+
+  pub trees_stay : (es : List WorldEvent) (w : WorldState) → (world_after es w).tree ≡ w.tree
+  trees_stay [] w = refl
+  trees_stay (e ∷ es) w = trees_stay es (world_step e w).0 ∙ tree_stays e w
 
   on_tree : (tree : Topology) (w : WorldState) (p : EgressPort) → w.tree ≡ tree → HasPort tree p → HasPort w.tree p
   on_tree tree w p is has = subst (λ (t : Topology). HasPort t p) (sym is) has
 
-  allowed_can : (tree : Topology) (t : ℕ) (e : WorldEvent) (w : WorldState) → IsAllowed tree e → IsInRun tree t w → CanHappen e w × NamesVids e
+  pub allowed_can : (tree : Topology) (t : ℕ) (e : WorldEvent) (w : WorldState) → IsAllowed tree e → IsDuring tree t w → CanHappen e w × NamesVids e
   allowed_can tree t (Request n request) w ok run =
       let kinds = ap (λ (r : Topology). slice_get r.kinds (n.0 - 1)) run.tree_is ∙ ok.1 in
       let inside = slice_get_within w.tree.kinds (n.0 - 1) Station kinds in
@@ -218,20 +223,20 @@ module _ (laws : RunLaws) where
   allowed_can tree t (Carry p) w ok run = (on_tree tree w p run.tree_is ok, tt)
   allowed_can tree t Clock w ok run = absurd ok
 
-  one_leads : (tree : Topology) (t : ℕ) (e : WorldEvent) (w : WorldState) → IsAllowed tree e → IsInRun tree t w → IsInRun tree t (world_step e w).0
+  pub one_leads : (tree : Topology) (t : ℕ) (e : WorldEvent) (w : WorldState) → IsAllowed tree e → IsDuring tree t w → IsDuring tree t (world_step e w).0
   one_leads tree t e w ok run =
       let can = allowed_can tree t e w ok run in
       let still = steady tree e w ok in
       record { kept = laws.keeps e w can.0 can.1 run.kept; tree_is = still.tree ∙ run.tree_is; clock = still.clock t run.clock }
 
-  all_lead : (tree : Topology) (t : ℕ) (es : List WorldEvent) (w : WorldState) → AllByRecursion (IsAllowed tree) es → IsInRun tree t w → LeadOn tree t es w
+  pub all_lead : (tree : Topology) (t : ℕ) (es : List WorldEvent) (w : WorldState) → AllByRecursion (IsAllowed tree) es → IsDuring tree t w → LeadOn tree t es w
   all_lead tree t [] w ok run = record { can = tt; named = tt; after = run }
   all_lead tree t (e ∷ es) w ok run =
       let can = allowed_can tree t e w ok.0 run in
       let later = all_lead tree t es (world_step e w).0 ok.1 (one_leads tree t e w ok.0 run) in
       record { can = (can.0, later.can); named = (can.1, later.named); after = later.after }
 
-  clock_leads : (tree : Topology) (t : ℕ) (w : WorldState) → t < 2 ^ 61 → IsInRun tree t w → LeadOn tree (suc t) (Clock ∷ []) w
+  pub clock_leads : (tree : Topology) (t : ℕ) (w : WorldState) → t < 2 ^ 61 → IsDuring tree t w → LeadOn tree (suc t) (Clock ∷ []) w
   clock_leads tree t w below run =
       let can : CanHappen Clock w = λ n s is. let now = run.clock (n.0 - 1) s is in omega (arith, now, below) in
       record {
@@ -253,8 +258,11 @@ module _ (laws : RunLaws) where
     tree_ports : HasPortLaws plan.tree
     tree_ports = laws.ports plan.tree (subst IsSound (sym rules.tree) rules.accepted)
 
+    joined_nodes : (x y : ℕ) → list_any (joins_both x y) plan.links ≡ true → Joined plan.tree.links y x
+    joined_nodes x y h = subst (λ (ls : List Link). Joined ls y x) (sym links_are) (some_joins plan.links x y h)
+
     joined_port : (x y : ℕ) → list_any (joins_both x y) plan.links ≡ true → HasPort plan.tree (port_to plan.tree.links y x)
-    joined_port x y h = tree_ports.joined_port y x (subst (λ (ls : List Link). Joined ls y x) (sym links_are) (some_joins plan.links x y h))
+    joined_port x y h = tree_ports.joined_port y x (joined_nodes x y h)
 
     kind_at : (x : ℕ) → (1 ≤ x) × (x ≤ length plan.nodes) → ((d : NodeEntry) → is_station (get_or plan.nodes (x - 1) d).kind ≡ true) → slice_get plan.tree.kinds (x - 1) ≡ Some Station
     kind_at x node station =
@@ -262,7 +270,7 @@ module _ (laws : RunLaws) where
         let last = node.1 in
         ap (λ (r : Topology). slice_get r.kinds (x - 1)) rules.tree ∙ station_kind plan.nodes (x - 1) (omega (arith, first, last)) station
 
-    known_allowed : (kind : EventKind) → IsKnownKind plan.nodes plan.links plan.streams kind → IfSome (event_of plan.tree.links kind) (IsAllowed plan.tree)
+    pub known_allowed : (kind : EventKind) → IsKnownKind plan.nodes plan.links plan.streams kind → IfSome (event_of plan.tree.links kind) (IsAllowed plan.tree)
     known_allowed (kinds.Declare station vid) known = (known.0.0.0, kind_at station.0 known.0.0 known.0.1, (known.1, known.2))
     known_allowed (kinds.Withdraw station vid) known = (known.0.0.0, kind_at station.0 known.0.0 known.0.1, (known.1, known.2))
     known_allowed (kinds.Talk stream) known = tt
@@ -272,12 +280,22 @@ module _ (laws : RunLaws) where
     known_allowed (kinds.Lose from to index) known = joined_port from.0 to.0 known.0.2
     known_allowed (kinds.Repeat from to index) known = joined_port from.0 to.0 known.0.2
 
+    pub known_neighbours : (kind : EventKind) → IsKnownKind plan.nodes plan.links plan.streams kind → NamesNeighbours plan.tree.links kind
+    known_neighbours (kinds.Declare station vid) known = tt
+    known_neighbours (kinds.Withdraw station vid) known = tt
+    known_neighbours (kinds.Talk stream) known = tt
+    known_neighbours (kinds.Hush stream) known = tt
+    known_neighbours (kinds.Listen station stream) known = tt
+    known_neighbours (kinds.Unlisten station stream) known = tt
+    known_neighbours (kinds.Lose from to index) known = joined_nodes from.0 to.0 known.0.2
+    known_neighbours (kinds.Repeat from to index) known = joined_nodes from.0 to.0 known.0.2
+
     with_allowed : (n : ℕ) (o : Option WorldEvent) (later : List (ℕ × WorldEvent)) → IfSome o (IsAllowed plan.tree)
         → AllByRecursion (IsAllowed plan.tree) (map (λ (e : ℕ × WorldEvent). e.1) later) → AllByRecursion (IsAllowed plan.tree) (map (λ (e : ℕ × WorldEvent). e.1) (with_event n o later))
     with_allowed n None later here rest = rest
     with_allowed n (Some event) later here rest = (here, rest)
 
-    scripted_allowed : (t n : ℕ) (entries : List EventEntry) → AllByRecursion (λ (e : EventEntry). IsKnownKind plan.nodes plan.links plan.streams e.kind) entries
+    pub scripted_allowed : (t n : ℕ) (entries : List EventEntry) → AllByRecursion (λ (e : EventEntry). IsKnownKind plan.nodes plan.links plan.streams e.kind) entries
         → AllByRecursion (IsAllowed plan.tree) (map (λ (e : ℕ × WorldEvent). e.1) (scripted_from plan.tree.links t n entries))
     scripted_allowed t n [] known = tt
     scripted_allowed t n (e ∷ entries) known = by (e.tick == t) (known_allowed e.kind known.0) (scripted_allowed t (n + 1) entries known.1)
@@ -298,7 +316,7 @@ module _ (laws : RunLaws) where
     steps_allowed (ns ∷ nodes) known =
         each_append (IsAllowed plan.tree) (map (λ (st : NodeStep). Port ns.node st.port st.step) ns.steps) (step_events nodes) (made_allowed ns.node ns.steps known.0) (steps_allowed nodes known.1)
 
-    carries_allowed : (ls : List Link) → ((x y : ℕ) → Joined ls x y → Joined plan.tree.links x y)
+    pub carries_allowed : (ls : List Link) → ((x y : ℕ) → Joined ls x y → Joined plan.tree.links x y)
         → AllByRecursion (IsAllowed plan.tree) (map Carry (flat_map (λ (l : Link). port_to plan.tree.links l.a.0 l.b.0 ∷ port_to plan.tree.links l.b.0 l.a.0 ∷ []) ls))
     carries_allowed [] inside = tt
     carries_allowed (l ∷ ls) inside = (
@@ -306,7 +324,7 @@ module _ (laws : RunLaws) where
       (tree_ports.joined_port l.b.0 l.a.0 (inside l.b.0 l.a.0 (inl (inr (refl, refl)))), carries_allowed ls (λ x y j. inside x y (inr j))),
     )
 
-    tick_leads : (t : ℕ) (w : WorldState) (tick : Tick) → t < 2 ^ 61 → IsLegalTick plan t w tick → IsInRun plan.tree t w → LeadOn plan.tree (suc t) (tick_events plan t tick) w
+    tick_leads : (t : ℕ) (w : WorldState) (tick : Tick) → t < 2 ^ 61 → IsLegalTick plan t w tick → IsDuring plan.tree t w → LeadOn plan.tree (suc t) (tick_events plan t tick) w
     tick_leads t w tick below legal run =
         let script : List WorldEvent = map (λ e. e.1) (scripted plan t) in
         let made : List WorldEvent = step_events tick.steps in
@@ -322,7 +340,7 @@ module _ (laws : RunLaws) where
     ticks_count [] t w end h = let last = h.0 in omega (arith, last)
     ticks_count (tick ∷ ticks) t w end h = let later = ticks_count ticks (suc t) (world_after (tick_events plan t tick) w) end h.1 in omega (arith, later)
 
-    ticks_lead : (ticks : List Tick) (t : ℕ) (w end : WorldState) → LeadTo (IsLegalTick plan) plan t w ticks plan.ticks end → IsInRun plan.tree t w
+    ticks_lead : (ticks : List Tick) (t : ℕ) (w end : WorldState) → LeadTo (IsLegalTick plan) plan t w ticks plan.ticks end → IsDuring plan.tree t w
         → CanAllHappen (events_from plan t ticks) w × AllByRecursion NamesVids (events_from plan t ticks)
     ticks_lead [] t w end h run = (tt, tt)
     ticks_lead (tick ∷ ticks) t w end h run =

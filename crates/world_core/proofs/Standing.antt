@@ -18,12 +18,12 @@ use Rattle.world_core.specs.declared.events.WorldReply.{WorldReply}
 use Rattle.world_core.specs.World.{WorldState, Happened, StandsAt, node_at, CanHappen}
 use Rattle.world_core.specs.Kept.{IsKeptWorld}
 use Rattle.world_core.proofs.Nodes.{Base, node_there, part_there}
-use Rattle.world_core.proofs.EventSteps.{base_of}
+use Rattle.world_core.proofs.EventSteps.{base_kept}
 
 -- a port of the tree stands at its node
 pub stands : (w : WorldState) → IsKeptWorld w → (p : EgressPort) → HasPort w.tree p → StandsAt p w.nodes
 stands w kept p has =
-    let base = base_of w kept in
+    let base = base_kept w kept in
     let there = node_there w base p has in
     let first = has.1 in
     let within = slice_get_within w.nodes (p.node.0 - 1) there.0 there.1 in

@@ -15,17 +15,19 @@ pub record FitsTree (tree : Topology) (x : ℕ) (s : NodeState) : Type 0 where
   pub ports : ports_of s ≡ length (neighbours tree.links (x + 1))
   pub kept : IsProperNode s
 
--- What every network keeps: a sound tree, the nodes of the tree, one clock, and both duties of each link.
-pub record IsKeptWorld (w : WorldState) : Type 0 where
-  pub tree : IsSound w.tree
-  pub many : length w.nodes ≡ length w.tree.kinds
-  pub nodes : (x : ℕ) (s : NodeState) → slice_get w.nodes x ≡ Some s → FitsTree w.tree x s
-  pub clock : (x y : ℕ) (s t : NodeState) → slice_get w.nodes x ≡ Some s → slice_get w.nodes y ≡ Some t → s.clock ≡ t.clock
-  pub duties : AreVlanDutiesMet w
-
 -- a bridge has no application that declares anything
 abbrev pub IsIdleBridge : NodeState → Type 0
 IsIdleBridge s = s.kind ≡ Bridge → s.vlans.own ≡ []
 
 abbrev pub AreBridgesIdle : WorldState → Type 0
 AreBridgesIdle w = AllByRecursion IsIdleBridge w.nodes
+
+-- What every network keeps: a sound tree, the nodes of the tree, one clock, bridges that declare nothing of their own, and
+-- both duties of each link.
+pub record IsKeptWorld (w : WorldState) : Type 0 where
+  pub tree : IsSound w.tree
+  pub many : length w.nodes ≡ length w.tree.kinds
+  pub nodes : (x : ℕ) (s : NodeState) → slice_get w.nodes x ≡ Some s → FitsTree w.tree x s
+  pub clock : (x y : ℕ) (s t : NodeState) → slice_get w.nodes x ≡ Some s → slice_get w.nodes y ≡ Some t → s.clock ≡ t.clock
+  pub idle : AreBridgesIdle w
+  pub duties : AreVlanDutiesMet w

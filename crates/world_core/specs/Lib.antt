@@ -4,3 +4,4 @@ pub mod Duty
 pub mod Kept
 pub mod Ticks
 pub mod Moments
+pub mod During

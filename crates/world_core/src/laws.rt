@@ -1,16 +1,28 @@
 //! What every network keeps, whatever happens in it: laws over the states that contracts see. Each is a function that does
 //! nothing; calling it brings the law to a proof.
 
-ghost use Rattle.std.specs.Prelude.{◌≡◌, ◌++◌, ◌∷◌, [], ℕ, suc, List};
+ghost use Rattle.std.specs.Prelude.{◌≡◌, ◌≢◌, ◌<◌, ◌-◌, ◌^◌, ◌++◌, ◌∷◌, [], ℕ, suc, List, map, Some, IfSome};
+ghost use Rattle.srp_base.specs.declared.numbers.NodeNo.{NodeNo};
+ghost use Rattle.srp_base.specs.declared.numbers.PortNo.{PortNo};
+ghost use Rattle.node_core.specs.declared.types.PortStep.{PortStep};
+ghost use Rattle.node_core.specs.State.{NodeState};
+ghost use Rattle.node_core.specs.Step.{node_step};
 ghost use Rattle.std.specs.List.{AllByRecursion};
+ghost use Rattle.tree_topology.specs.Topology.{Topology};
+ghost use Rattle.topology_file.specs.declared.entries.EventKind.{EventKind};
+ghost use Rattle.topology_file.specs.Kinds.{IsKnownKind};
 ghost use Rattle.topology_file.specs.Plan.{Plan};
 ghost use Rattle.topology_file.specs.Scenario.{KeepsRules};
+ghost use Rattle.node_core.specs.declared.types.NodeEvent.TheVariants.{Port as port_step};
 ghost use Rattle.world_core.specs.declared.events.WorldEvent.{WorldEvent};
+ghost use Rattle.world_core.specs.declared.events.WorldEvent.TheVariants.{Port as port_event};
+ghost use Rattle.world_core.specs.declared.events.WorldReply.TheVariants.{Step as step_reply};
 ghost use Rattle.world_core.specs.declared.journal.Tick.{Tick};
-ghost use Rattle.world_core.specs.World.{WorldState, CanHappen, CanAllHappen, NamesVids, world_step, world_after};
+ghost use Rattle.world_core.specs.World.{WorldState, CanHappen, CanAllHappen, NamesVids, node_at, world_step, world_after};
 ghost use Rattle.world_core.specs.Start.{world_of};
-ghost use Rattle.world_core.specs.Kept.{IsKeptWorld, AreBridgesIdle};
-ghost use Rattle.world_core.specs.Ticks.{LeadTo, AreLegalTicks, AreCanonicalTicks, IsLegalTick, IsCanonicalTick, tick_events};
+ghost use Rattle.world_core.specs.Kept.{IsKeptWorld};
+ghost use Rattle.world_core.specs.Ticks.{event_of, scripted, link_ports, LeadTo, AreLegalTicks, AreCanonicalTicks, IsLegalTick, IsCanonicalTick, tick_events};
+ghost use Rattle.world_core.specs.During.{IsDuring, IsAllowed, NamesNeighbours};
 ghost use Rattle.world_core.specs.Moments.{IsMoment, events_from};
 
 use mrp_participant::duty_laws::spoiling_keeps_duties;
@@ -61,6 +73,37 @@ pub fn every_event_of_a_run_may_happen()
     steps_keep_what_a_node_is();
 }
 
+/// What a tick of a scenario may have can happen, whatever happened before in the tick, and doesn't end the tick: each event
+/// of the file, a loss and a repeat between neighbours, each step of a port, and the carrying of each port's PDUs. The clock
+/// can go on, and then the next tick begins. The tree stays in any case.
+pub fn what_is_allowed_may_happen()
+    ensures begins { (plan : Plan) → KeepsRules plan → IsDuring plan.tree 0 (world_of plan) }
+    ensures can { (tree : Topology) (t : ℕ) (e : WorldEvent) (w : WorldState) → IsAllowed tree e → IsDuring tree t w → CanHappen e w }
+    ensures stays { (tree : Topology) (t : ℕ) (e : WorldEvent) (w : WorldState) → IsAllowed tree e → IsDuring tree t w
+        → IsDuring tree t (world_step e w).0 }
+    ensures all_can { (tree : Topology) (t : ℕ) (es : List WorldEvent) (w : WorldState)
+        → AllByRecursion (IsAllowed tree) es → IsDuring tree t w → CanAllHappen es w }
+    ensures all_stay { (tree : Topology) (t : ℕ) (es : List WorldEvent) (w : WorldState)
+        → AllByRecursion (IsAllowed tree) es → IsDuring tree t w → IsDuring tree t (world_after es w) }
+    ensures clock { (tree : Topology) (t : ℕ) (w : WorldState) → t < 2 ^ 61 → IsDuring tree t w → CanHappen WorldEvent.Clock w }
+    ensures next { (tree : Topology) (t : ℕ) (w : WorldState) → t < 2 ^ 61 → IsDuring tree t w
+        → IsDuring tree (suc t) (world_step WorldEvent.Clock w).0 }
+    ensures known { (plan : Plan) (kind : EventKind) → KeepsRules plan → IsKnownKind plan.nodes plan.links plan.streams kind
+        → IfSome (event_of plan.tree.links kind) (IsAllowed plan.tree) }
+    ensures neighbours { (plan : Plan) (kind : EventKind) → KeepsRules plan
+        → IsKnownKind plan.nodes plan.links plan.streams kind → NamesNeighbours plan.tree.links kind }
+    ensures scripted { (plan : Plan) (t : ℕ) → KeepsRules plan
+        → AllByRecursion (IsAllowed plan.tree) (map (λ e. e.1) (scripted plan t)) }
+    ensures carried { (plan : Plan) → KeepsRules plan → AllByRecursion (IsAllowed plan.tree) (map WorldEvent.Carry (link_ports plan.tree)) }
+    ensures tree { (e : WorldEvent) (w : WorldState) → (world_step e w).0.tree ≡ w.tree }
+    ensures trees { (es : List WorldEvent) (w : WorldState) → (world_after es w).tree ≡ w.tree }
+{
+    a_scenario_begins_well();
+    every_event_keeps_it();
+    ports();
+    steps_keep_what_a_node_is();
+}
+
 /// Ticks that lead to a state go on by each legal tick from there, and in the canonical order by each canonical one.
 pub fn ticks_go_on()
     ensures legal { (plan : Plan) (t t' : ℕ) (w v : WorldState) (ticks : List Tick) (tick : Tick)
@@ -81,18 +124,19 @@ pub fn every_moment_keeps_it()
     every_event_of_a_run_may_happen();
 }
 
-/// A bridge has no application, so nothing is declared there: not at the start of a scenario, not after an event that may
-/// happen, and at no moment of a legal run.
-pub fn bridges_declare_nothing()
-    ensures start { (plan : Plan) → AreBridgesIdle (world_of plan) }
-    ensures event { (e : WorldEvent) (w : WorldState) → CanHappen e w → AreBridgesIdle w → AreBridgesIdle (world_step e w).0 }
-    ensures moment { (plan : Plan) (ticks : List Tick) (end w : WorldState) → KeepsRules plan → AreLegalTicks plan ticks end
-        → IsMoment plan ticks w → AreBridgesIdle w }
-{
-    every_event_of_a_run_may_happen();
-}
-
 /// Ticks in the canonical order are legal.
 pub fn canonical_ticks_are_legal()
     ensures { (plan : Plan) (ticks : List Tick) (end : WorldState) → AreCanonicalTicks plan ticks end → AreLegalTicks plan ticks end }
+{}
+
+/// A port's step is of its node alone: the node becomes, and answers, what its own step says, and each other node stays as it
+/// is. So steps of a node's ports each see the node that the steps before left, and steps of different nodes don't see each
+/// other.
+pub fn a_step_is_of_its_node_alone()
+    ensures own { (n : NodeNo) (port : PortNo) (step : PortStep) (w : WorldState) (s : NodeState) → node_at n w ≡ Some s
+        → node_at n (world_step (port_event n port step) w).0 ≡ Some (node_step (port_step port step) s).0 }
+    ensures answer { (n : NodeNo) (port : PortNo) (step : PortStep) (w : WorldState) (s : NodeState) → node_at n w ≡ Some s
+        → (world_step (port_event n port step) w).1 ≡ step_reply (node_step (port_step port step) s).1 }
+    ensures others { (n m : NodeNo) (port : PortNo) (step : PortStep) (w : WorldState) → n.0 - 1 ≢ m.0 - 1
+        → node_at m (world_step (port_event n port step) w).0 ≡ node_at m w }
 {}

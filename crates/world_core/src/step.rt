@@ -1,6 +1,6 @@
 //! One event of a network, and lists of them.
 
-ghost use Rattle.std.specs.Prelude.{◌≡◌, take, IfOk, IfErr, OnErr};
+ghost use Rattle.std.specs.Prelude.{◌≡◌, ◌≤◌, length, take, IfOk, IfErr, OnErr};
 ghost use Rattle.mvrp.specs.Vids.{IsVid};
 ghost use Rattle.node_core.specs.Proper.{AsksVids};
 ghost use Rattle.world_core.specs.World.{CanHappen, NamesVids, CanAllHappen, world_step, world_after, replies_to};
@@ -56,6 +56,7 @@ impl World {
         ensures replies { IfOk result (λ replies. replies ≡ replies_to events.now self.old) }
         ensures after { IfOk result (λ _. self.new ≡ world_after events.now self.old) }
         ensures done { IfErr result (λ e. self.new ≡ world_after (take e.done events.now) self.old) }
+        ensures within { IfErr result (λ e. e.done ≤ length events.now) }
     {
         let mut replies = match Vec::with_capacity(alloc, events.len()) {
             Ok(replies) => replies,

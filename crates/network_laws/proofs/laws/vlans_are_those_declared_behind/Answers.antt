@@ -2,11 +2,11 @@ use Rattle.network_laws.proofs.VlanLaw.{vlans-match, sides-are-one}
 use Rattle.network_laws.proofs.laws.vlans_are_those_declared_behind.Goals as goal
 
 pub returns-clause-law : goal.returns-clause-law
-returns-clause-law c w kept idle rest =
-    vlans-match w kept idle rest (c.ports.ensures w.tree kept.tree) c.a_still_link_registers_what_is_declared.ensures.near
+returns-clause-law c w kept rest =
+    vlans-match w kept kept.idle rest (c.ports.ensures w.tree kept.tree) c.a_still_link_registers_what_is_declared.ensures.near
     (λ p y h n. c.the_walk.ensures.behind w.tree p y kept.tree h n)
 
 pub returns-clause-sides : goal.returns-clause-sides
-returns-clause-sides c w p vid kept idle rest h =
-    sides-are-one w kept idle rest (c.ports.ensures w.tree kept.tree) c.a_still_link_registers_what_is_declared.ensures.near
+returns-clause-sides c w p vid kept rest h =
+    sides-are-one w kept kept.idle rest (c.ports.ensures w.tree kept.tree) c.a_still_link_registers_what_is_declared.ensures.near
     (λ p y h n. c.the_walk.ensures.behind w.tree p y kept.tree h n) p vid h
