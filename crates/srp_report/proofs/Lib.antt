@@ -1,0 +1,3 @@
+pub mod LinkPorts
+pub mod TallyLemmas
+pub mod VidLines

@@ -1,0 +1,216 @@
+-- The tallies that are kept while the journal is read are the counts over each port's answers.
+use Rattle.std.proofs.Common.{◌≡◌, ◌≢◌, ℕ, zero, suc, ◌+◌, ◌<◌, ◌≤◌, Bool, true, false, List, [], ◌∷◌, ◌++◌, length, refl, sym, ap, subst, ◌∙◌, arith}
+use Rattle.std.specs.Prelude.{◌-◌, ◌^◌, ◌==◌, if◌then◌else◌, min, fold, filter, sum, replicate, slice_get, slice_set, Option, Some, None, option_map}
+use Rattle.std.specs.Option.{option_map_or, option_and_then}
+use Rattle.std.proofs.lemmas.Bool.{eqb-true, eqb-false}
+use Rattle.std.proofs.lemmas.List.Sums.{fold-append, sum_by-cons}
+use Rattle.srp_base.specs.declared.numbers.PortNo.{PortNo}
+use Rattle.srp_base.specs.declared.numbers.EgressPort.{EgressPort}
+use Rattle.node_core.specs.declared.types.NodeStep.{NodeStep}
+use Rattle.node_core.specs.declared.types.StepReply.{StepReply}
+use Rattle.node_core.specs.declared.types.StepReply.TheVariants.{Nothing, Discarded, Received, Fired, Settled, Silent, Sent, Taken}
+use Rattle.world_core.specs.declared.journal.NodeSteps.{NodeSteps}
+use Rattle.world_core.specs.declared.journal.Tick.{Tick}
+use Rattle.srp_report.specs.declared.tally.Tally.{Tally}
+use Rattle.srp_report.specs.Counts.{replies_at, replies_in, replies_of, sizes_sent, is_discarded, count_of, tally_of}
+use Rattle.srp_report.specs.Tallies.{zero_tally, zero_row, zero_rows, counted, step_counted, steps_counted, node_counted, nodes_counted, ticks_counted, tally_at}
+
+-- ---- one place of a list becomes what is made of it
+
+abbrev pub changed_at : {X : Type 0} → List X → ℕ → (X → X) → List X
+changed_at xs i f = option_map_or (λ x. slice_set xs i (f x)) (slice_get xs i) xs
+
+get-set : {X : Type 0} (xs : List X) (i : ℕ) (x y : X) → slice_get xs i ≡ Some x → slice_get (slice_set xs i y) i ≡ Some y
+get-set [] i x y h = cc
+get-set (z ∷ xs) zero x y h = refl
+get-set (z ∷ xs) (suc i) x y h = get-set xs i x y h
+
+get-other : {X : Type 0} (xs : List X) (i j : ℕ) (y : X) → i ≢ j → slice_get (slice_set xs i y) j ≡ slice_get xs j
+get-other [] i j y ne = refl
+get-other (x ∷ xs) zero zero y ne = absurd (ne refl)
+get-other (x ∷ xs) zero (suc j) y ne = refl
+get-other (x ∷ xs) (suc i) zero y ne = refl
+get-other (x ∷ xs) (suc i) (suc j) y ne = get-other xs i j y (λ e. ne (ap suc e))
+
+-- the place itself, and any other
+same-place : {X : Type 0} (xs : List X) (i : ℕ) (f : X → X) → slice_get (changed_at xs i f) i ≡ option_map f (slice_get xs i)
+same-place {X = X} xs i f = by (slice_get xs i) refl
+  where
+    by : (o : Option X) → slice_get xs i ≡ o → slice_get (option_map_or (λ x. slice_set xs i (f x)) o xs) i ≡ option_map f o
+    by None is = is
+    by (Some x) is = get-set xs i x (f x) is
+
+other-place : {X : Type 0} (xs : List X) (i j : ℕ) (f : X → X) → i ≢ j → slice_get (changed_at xs i f) j ≡ slice_get xs j
+other-place {X = X} xs i j f ne = by (slice_get xs i)
+  where
+    by : (o : Option X) → slice_get (option_map_or (λ x. slice_set xs i (f x)) o xs) j ≡ slice_get xs j
+    by None = refl
+    by (Some x) = get-other xs i j (f x) ne
+
+twice : {X : Type 0} (f g : X → X) (o : Option X) → option_map f (option_map g o) ≡ option_map (λ x. f (g x)) o
+twice f g None = refl
+twice f g (Some x) = refl
+
+-- ---- the answers of a port are counted in its place
+
+-- one list of answers after another
+more : (a b : List StepReply) (o : Option Tally)
+    → option_map (λ t. fold counted t b) (option_map (λ t. fold counted t a) o) ≡ option_map (λ t. fold counted t (a ++ b)) o
+more a b None = refl
+more a b (Some t) = ap Some (sym (fold-append counted t a b))
+
+none : (o : Option Tally) → o ≡ option_map (λ t. fold counted t []) o
+none None = refl
+none (Some t) = refl
+
+-- the answers of a port among one step of its node
+abbrev from_step : PortNo → NodeStep → List StepReply
+from_step port st = if st.port.0 == port.0 then st.reply ∷ [] else []
+
+one-more : (port : PortNo) (st : NodeStep) (made : List NodeStep) → from_step port st ++ replies_at port made ≡ replies_at port (st ∷ made)
+one-more port st made = by (st.port.0 == port.0) refl
+  where
+    by : (b : Bool) → (st.port.0 == port.0) ≡ b → from_step port st ++ replies_at port made ≡ replies_at port (st ∷ made)
+    by true is = rw is refl
+    by false is = rw is refl
+
+step-place : (port : PortNo) (st : NodeStep) (row : List Tally)
+    → slice_get (step_counted row st) port.0 ≡ option_map (λ t. fold counted t (from_step port st)) (slice_get row port.0)
+step-place port st row = by (st.port.0 == port.0) refl
+  where
+    by : (b : Bool) → (st.port.0 == port.0) ≡ b
+        → slice_get (step_counted row st) port.0 ≡ option_map (λ t. fold counted t (from_step port st)) (slice_get row port.0)
+    by true is =
+        let same : st.port.0 ≡ port.0 = eqb-true st.port.0 port.0 is in
+        rw is (subst (λ (i : ℕ). slice_get (step_counted row st) i ≡ option_map (λ t. counted t st.reply) (slice_get row i)) same
+        (same-place row st.port.0 (λ t. counted t st.reply)))
+    by false is =
+        rw is (other-place row st.port.0 port.0 (λ t. counted t st.reply) (eqb-false st.port.0 port.0 is) ∙ none (slice_get row port.0))
+
+-- those of all steps of a node
+row-place : (port : PortNo) (made : List NodeStep) (row : List Tally)
+    → slice_get (steps_counted row made) port.0 ≡ option_map (λ t. fold counted t (replies_at port made)) (slice_get row port.0)
+row-place port [] row = none (slice_get row port.0)
+row-place port (st ∷ made) row =
+    row-place port made (step_counted row st)
+    ∙ (ap (λ o. option_map (λ t. fold counted t (replies_at port made)) o) (step-place port st row)
+    ∙ (more (from_step port st) (replies_at port made) (slice_get row port.0)
+    ∙ ap (λ replies. option_map (λ t. fold counted t replies) (slice_get row port.0)) (one-more port st made)))
+
+in-row : (port : PortNo) (made : List NodeStep) (o : Option (List Tally))
+    → option_and_then (λ row. slice_get row port.0) (option_map (λ row. steps_counted row made) o)
+    ≡ option_map (λ t. fold counted t (replies_at port made)) (option_and_then (λ row. slice_get row port.0) o)
+in-row port made None = refl
+in-row port made (Some row) = row-place port made row
+
+-- the answers of a port among the steps of one node
+abbrev from_node : EgressPort → NodeSteps → List StepReply
+from_node p ns = if ns.node.0 == p.node.0 then replies_at p.port ns.steps else []
+
+node-place : (p : EgressPort) (ns : NodeSteps) (rows : List (List Tally))
+    → tally_at p (node_counted rows ns) ≡ option_map (λ t. fold counted t (from_node p ns)) (tally_at p rows)
+node-place p ns rows = by (ns.node.0 == p.node.0) refl
+  where
+    by : (b : Bool) → (ns.node.0 == p.node.0) ≡ b
+        → tally_at p (node_counted rows ns) ≡ option_map (λ t. fold counted t (from_node p ns)) (tally_at p rows)
+    by true is =
+        let same : ns.node.0 ≡ p.node.0 = eqb-true ns.node.0 p.node.0 is in
+        let here : slice_get (node_counted rows ns) p.node.0 ≡ option_map (λ row. steps_counted row ns.steps) (slice_get rows p.node.0)
+        = subst (λ (i : ℕ). slice_get (node_counted rows ns) i ≡ option_map (λ row. steps_counted row ns.steps) (slice_get rows i)) same
+        (same-place rows ns.node.0 (λ row. steps_counted row ns.steps)) in
+        rw is (ap (λ o. option_and_then (λ row. slice_get row p.port.0) o) here
+        ∙ in-row p.port ns.steps (slice_get rows p.node.0))
+    by false is =
+        rw is (ap (λ o. option_and_then (λ row. slice_get row p.port.0) o)
+        (other-place rows ns.node.0 p.node.0 (λ row. steps_counted row ns.steps) (eqb-false ns.node.0 p.node.0 is))
+        ∙ none (tally_at p rows))
+
+-- those of all nodes in a tick, and in all ticks
+nodes-place : (p : EgressPort) (nodes : List NodeSteps) (rows : List (List Tally))
+    → tally_at p (nodes_counted rows nodes) ≡ option_map (λ t. fold counted t (replies_in p nodes)) (tally_at p rows)
+nodes-place p [] rows = none (tally_at p rows)
+nodes-place p (ns ∷ nodes) rows =
+    nodes-place p nodes (node_counted rows ns)
+    ∙ (ap (λ o. option_map (λ t. fold counted t (replies_in p nodes)) o) (node-place p ns rows)
+    ∙ more (from_node p ns) (replies_in p nodes) (tally_at p rows))
+
+ticks-place : (p : EgressPort) (ticks : List Tick) (rows : List (List Tally))
+    → tally_at p (ticks_counted rows ticks) ≡ option_map (λ t. fold counted t (replies_of p ticks)) (tally_at p rows)
+ticks-place p [] rows = none (tally_at p rows)
+ticks-place p (tick ∷ ticks) rows =
+    ticks-place p ticks (nodes_counted rows tick.steps)
+    ∙ (ap (λ o. option_map (λ t. fold counted t (replies_of p ticks)) o) (nodes-place p tick.steps rows)
+    ∙ more (replies_in p tick.steps) (replies_of p ticks) (tally_at p rows))
+
+-- ---- what is counted one by one is the counts of all
+
+abbrev tally_with : ℕ → ℕ → ℕ → Tally
+tally_with sent octets discarded = record { sent = sent; octets = octets; discarded = discarded }
+
+abbrev tally : ℕ → ℕ → ℕ → Tally
+tally a b c = tally_with (count_of a) (count_of b) (count_of c)
+
+abbrev tally_after : ℕ → ℕ → ℕ → List StepReply → Tally
+tally_after a b c replies =
+    tally (a + length (sizes_sent replies)) (b + sum (sizes_sent replies)) (c + length (filter is_discarded replies))
+
+-- a count that stands still at m goes on alike
+stands : (m a k : ℕ) → min (min a m + k) m ≡ min (a + k) m
+stands m a k = omega arith
+
+same-counts : (a a' b b' c c' : ℕ) → a ≡ a' → b ≡ b' → c ≡ c' → tally a b c ≡ tally a' b' c'
+same-counts a a' b b' c c' ea eb ec = ap (λ x. tally x b c) ea ∙ (ap (λ x. tally a' x c) eb ∙ ap (λ x. tally a' b' x) ec)
+
+sent-once : (a b c k : ℕ) → counted (tally a b c) (Sent k) ≡ tally (a + 1) (b + k) c
+sent-once a b c k =
+    ap (λ x. tally_with x (count_of (count_of b + k)) (count_of c)) (stands (2 ^ 64 - 1) a 1)
+    ∙ ap (λ x. tally_with (count_of (a + 1)) x (count_of c)) (stands (2 ^ 64 - 1) b k)
+
+discarded-once : (a b c place : ℕ) → counted (tally a b c) (Discarded place) ≡ tally a b (c + 1)
+discarded-once a b c place = ap (λ x. tally_with (count_of a) (count_of b) x) (stands (2 ^ 64 - 1) c 1)
+
+counts : (a b c : ℕ) (replies : List StepReply) → fold counted (tally a b c) replies ≡ tally_after a b c replies
+counts a b c [] = same-counts a (a + 0) b (b + 0) c (c + 0) (omega arith) (omega arith) (omega arith)
+counts a b c (Nothing ∷ replies) = counts a b c replies
+counts a b c (Received n ∷ replies) = counts a b c replies
+counts a b c (Fired n ∷ replies) = counts a b c replies
+counts a b c (Settled n ∷ replies) = counts a b c replies
+counts a b c (Silent ∷ replies) = counts a b c replies
+counts a b c (Taken ∷ replies) = counts a b c replies
+counts a b c (Sent k ∷ replies) =
+    let many = length (sizes_sent replies) in
+    let all = sum (sizes_sent replies) in
+    let lost = length (filter is_discarded replies) in
+    ap (λ t. fold counted t replies) (sent-once a b c k)
+    ∙ (counts (a + 1) (b + k) c replies
+    ∙ same-counts (a + 1 + many) (a + (suc many)) (b + k + all) (b + sum (k ∷ sizes_sent replies)) (c + lost) (c + lost)
+    (omega arith) (omega (arith, sum_by-cons (λ (x : ℕ). x) k (sizes_sent replies))) refl)
+counts a b c (Discarded place ∷ replies) =
+    let many = length (sizes_sent replies) in
+    let all = sum (sizes_sent replies) in
+    let lost = length (filter is_discarded replies) in
+    ap (λ t. fold counted t replies) (discarded-once a b c place)
+    ∙ (counts a b (c + 1) replies
+    ∙ same-counts (a + many) (a + many) (b + all) (b + all) (c + 1 + lost) (c + (suc lost)) refl refl (omega arith))
+
+-- ---- from nothing
+
+get-replicate : {X : Type 0} (n i : ℕ) (x : X) → i < n → slice_get (replicate n x) i ≡ Some x
+get-replicate zero i x h = absurd (omega (arith, h))
+get-replicate (suc n) zero x h = refl
+get-replicate (suc n) (suc i) x h = let lt : i < n = omega (arith, h) in get-replicate n i x lt
+
+pub all-counted : (last : ℕ) (ticks : List Tick) (p : EgressPort) → p.node.0 ≤ last → p.port.0 < 256
+    → tally_at p (ticks_counted (zero_rows last) ticks) ≡ Some (tally_of (replies_of p ticks))
+all-counted last ticks p few port =
+    let some : p.node.0 < last + 1 = omega (arith, few) in
+    let replies = replies_of p ticks in
+    let many = length (sizes_sent replies) in
+    let all = sum (sizes_sent replies) in
+    let lost = length (filter is_discarded replies) in
+    let start : tally_at p (zero_rows last) ≡ Some zero_tally
+    = ap (λ o. option_and_then (λ row. slice_get row p.port.0) o) (get-replicate (last + 1) p.node.0 zero_row some)
+    ∙ get-replicate 256 p.port.0 zero_tally port in
+    ticks-place p ticks (zero_rows last)
+    ∙ (ap (λ o. option_map (λ t. fold counted t (replies_of p ticks)) o) start
+    ∙ ap Some (counts 0 0 0 replies ∙ same-counts (0 + many) many (0 + all) all (0 + lost) lost (omega arith) (omega arith) (omega arith)))

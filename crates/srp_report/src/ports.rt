@@ -1,0 +1,169 @@
+//! The lines of the ports.
+
+ghost use Rattle.std.specs.Prelude.{◌≡◌, ◌≤◌, ◌+◌, ◌++◌, [], length, flat_map, IfOk, OnOk, Some};
+ghost use Rattle.std.specs.List.{AllByRecursion};
+ghost use Rattle.tree_topology.specs.Topology.{HasPort, HasNode};
+ghost use Rattle.mvrp.specs.Side.{IsLinkPort, place_of};
+ghost use Rattle.node_core.specs.State.{ports_of, registrar_at};
+ghost use Rattle.node_core.specs.declared.types.NodeKey.TheVariants.{Vlan};
+ghost use Rattle.world_core.specs.Ticks.{link_ports};
+ghost use Rattle.srp_report.specs.Counts.{replies_of, tally_of};
+ghost use Rattle.srp_report.specs.Lines.{name_of, vlan_line, port_name as port_name_spec};
+ghost use Rattle.srp_report.specs.Report.{port_part, port_parts, port_vlans, vlan_lines, vids_after};
+ghost use Rattle.srp_report.specs.Tallies.{tally_at, AreTallies};
+
+use crate::lines::{put_tally, put_vlan};
+use crate::tallies::Tallies;
+use crate::tally::Tally;
+use node_core::{Node, NodeKey};
+use srp_base::{EgressPort, LinkNo, NoMemory, NodeNo, PortNo, Vid};
+use std::alloc::{AllocError, Global};
+use topology_file::{NodeEntry, Scenario};
+use tree_topology::Tree;
+use world_core::{Tick, World};
+
+/// The lines of all ports, in the order of the links, end `a` first.
+pub(crate) fn put_ports(
+    out: &mut Vec<u8>,
+    scenario: &Scenario,
+    world: &World,
+    ticks: &[Tick],
+) -> Result<(), NoMemory>
+    ensures { OnOk result (out.new.items ≡ out.old.items ++ port_parts scenario.now world.now ticks.now) }
+{
+    world.keeps();
+    let alloc = *out.allocator();
+    let tallies = Tallies::of(alloc, world.tree().nodes(), ticks)?;
+    let ports = ports_of_links(alloc, world.tree())?;
+    put_each(out, scenario, world, ticks, &tallies, ports.as_slice())
+}
+
+// The lines of these ports.
+fn put_each(
+    out: &mut Vec<u8>,
+    scenario: &Scenario,
+    world: &World,
+    ticks: &[Tick],
+    tallies: &Tallies,
+    ports: &[EgressPort],
+) -> Result<(), NoMemory>
+    requires tallies { AreTallies world.now.tree ticks.now tallies.now }
+    requires ports { AllByRecursion (HasPort world.now.tree) ports.now }
+    ensures { OnOk result (out.new.items ≡ out.old.items ++ flat_map (port_part scenario.now world.now ticks.now) ports.now) }
+{
+    for i in 0..ports.len() {
+        put_port(out, scenario, world, ticks, tallies, ports[i])?;
+    }
+    Ok(())
+}
+
+// The ports of all links, link by link, end `a` first.
+fn ports_of_links(alloc: Global, tree: &Tree) -> Result<Vec<EgressPort>, NoMemory>
+    ensures ports { IfOk result (λ v. v.items ≡ link_ports tree.now) }
+    ensures known { IfOk result (λ v. AllByRecursion (HasPort tree.now) v.items) }
+{
+    tree.keeps();
+    let mut ports = Vec::new(alloc);
+    for i in 0..tree.links() {
+        let (a, b) = tree.ends(LinkNo(i + 1));
+        ports.push(a)?;
+        ports.push(b)?;
+    }
+    Ok(ports)
+}
+
+// The lines of a port.
+fn put_port(
+    out: &mut Vec<u8>,
+    scenario: &Scenario,
+    world: &World,
+    ticks: &[Tick],
+    tallies: &Tallies,
+    at: EgressPort,
+) -> Result<(), NoMemory>
+    requires tallies { AreTallies world.now.tree ticks.now tallies.now }
+    requires port { HasPort world.now.tree at }
+    ensures { OnOk result (out.new.items ≡ out.old.items ++ port_part scenario.now world.now ticks.now at) }
+{
+    let alloc = *out.allocator();
+    let port = port_name(alloc, scenario, world.tree(), at)?;
+    let tally = tallies.at(at).unwrap_or(Tally::zero());
+    put_tally(out, port.as_slice(), tally)?;
+    put_vlans(out, port.as_slice(), world, at)?;
+    Ok(())
+}
+
+// The lines of the VIDs that are registered at a port.
+fn put_vlans(
+    out: &mut Vec<u8>,
+    port: &[u8],
+    world: &World,
+    at: EgressPort,
+) -> Result<(), AllocError>
+    requires { HasPort world.now.tree at }
+    ensures { OnOk result (out.new.items ≡ out.old.items ++ port_vlans port.now at world.now) }
+{
+    world.keeps();
+    put_vids(out, port, world.node(at.node), at.port)
+}
+
+// The lines of those of a node's port.
+fn put_vids(out: &mut Vec<u8>, port: &[u8], node: &Node, at: PortNo) -> Result<(), AllocError>
+    requires { IsLinkPort at (ports_of node.now) }
+    ensures { OnOk result (out.new.items ≡ out.old.items
+        ++ vlan_lines port.now (λ vid. registrar_at (Vlan vid) (place_of at) node.now) (vids_after 0)) }
+{
+    for i in 0..4094 {
+        put_vid(out, port, node, at, i + 1)?;
+    }
+    Ok(())
+}
+
+// The line of a VID by its Registrar at a port.
+fn put_vid(
+    out: &mut Vec<u8>,
+    port: &[u8],
+    node: &Node,
+    at: PortNo,
+    number: u16,
+) -> Result<(), AllocError>
+    requires few { (1 ≤ number) × (number ≤ 4094) }
+    requires port { IsLinkPort at (ports_of node.now) }
+    ensures { OnOk result (out.new.items ≡ out.old.items
+        ++ vlan_line port.now number (registrar_at (Vlan number) (place_of at) node.now)) }
+{
+    match Vid::new(number) {
+        Some(vid) => put_vlan(out, port, number, node.registrar(at, NodeKey::Vlan(vid))),
+        None => Ok(()),
+    }
+}
+
+// The name of a port: those of its node and of its peer's.
+fn port_name(
+    alloc: Global,
+    scenario: &Scenario,
+    tree: &Tree,
+    at: EgressPort,
+) -> Result<Vec<u8>, AllocError>
+    requires { HasPort tree.now at }
+    ensures { IfOk result (λ v. v.items ≡ port_name_spec scenario.now tree.now.links at) }
+{
+    tree.keeps();
+    let peer = tree.peer(at);
+    let mut name = Vec::new(alloc);
+    name.extend_from_slice(node_name(scenario.nodes.as_slice(), at.node))?;
+    name.push(b'>')?;
+    name.extend_from_slice(node_name(scenario.nodes.as_slice(), peer.node))?;
+    Ok(name)
+}
+
+// The name of a node.
+fn node_name(nodes: &[NodeEntry], number: NodeNo) -> &[u8]
+    requires { 1 ≤ number.0 }
+    ensures { result.now ≡ name_of nodes.now number }
+{
+    match nodes.get(usize::from(number.0) - 1) {
+        Some(node) => node.name.as_slice(),
+        None => [].as_slice(),
+    }
+}

@@ -1,0 +1,4 @@
+pub mod ScriptLemmas
+pub mod OrderLemmas
+pub mod StepLemmas
+pub mod TickLemmas

@@ -1,0 +1,205 @@
+-- One tick from its parts, and one tick more of a run.
+use Rattle.std.proofs.Common.{◌≡◌, ℕ, zero, suc, ◌+◌, ◌-◌, ◌<◌, ◌≤◌, ◌^◌, List, [], ◌∷◌, ◌++◌, length, map, drop, get_or, refl, sym, ap, subst, ◌∙◌, arith}
+use Rattle.std.specs.Prelude.{Option, Some, None, IfSome}
+use Rattle.std.specs.List.{AllByRecursion, flat_map}
+use Rattle.std.proofs.Math.Seq.{drop-cons}
+use Rattle.srp_base.specs.declared.numbers.EgressPort.{EgressPort}
+use Rattle.srp_base.specs.declared.numbers.NodeNo.{NodeNo}
+use Rattle.tree_topology.specs.declared.graph.Link.{Link}
+use Rattle.tree_topology.specs.Topology.{Topology, HasPort, HasLink}
+use Rattle.tree_topology.specs.Ports.{port_to, ends_of, link_at}
+use Rattle.topology_file.specs.Plan.{Plan}
+use Rattle.topology_file.specs.Scenario.{KeepsRules}
+use Rattle.node_core.specs.declared.types.NodeStep.{NodeStep}
+use Rattle.world_core.specs.declared.events.WorldEvent.{WorldEvent}
+use Rattle.world_core.specs.declared.events.WorldEvent.TheVariants.{Port, Carry, Clock}
+use Rattle.world_core.specs.declared.events.WorldReply.{WorldReply}
+use Rattle.world_core.specs.declared.journal.NodeSteps.{NodeSteps}
+use Rattle.world_core.specs.declared.journal.Tick.{Tick}
+use Rattle.world_core.specs.World.{WorldState, Happened, CanHappen, world_step, world_after}
+use Rattle.world_core.specs.Start.{world_of}
+use Rattle.world_core.specs.Ticks.{scripted, after_script, step_events, link_ports, closing_events, tick_events, steps_of, jobs_of, LeadTo, IsLegalTick, IsCanonicalTick}
+use Rattle.world_core.specs.During.{IsDuring, IsAllowed}
+use Rattle.srp_schedule.specs.Cursor.{IsCursor}
+use Rattle.srp_schedule.specs.Script.{answered}
+use Rattle.srp_schedule.specs.Made.{AreSteps, carried_ends}
+use Rattle.srp_schedule.proofs.ScriptLemmas.{numbers_are, answers_are}
+use Rattle.srp_schedule.proofs.StepLemmas.{after_append}
+
+-- ---- the carrying, link by link
+
+-- the first n links have been carried
+pub record IsCarriedTo (n : ℕ) (start w : WorldState) : Type 0 where
+  pub after : world_after (map Carry (flat_map (λ l. port_to start.tree.links l.a.0 l.b.0 ∷ port_to start.tree.links l.b.0 l.a.0 ∷ []) (drop n start.tree.links))) w
+      ≡ world_after (map Carry (link_ports start.tree)) start
+  pub tree : w.tree ≡ start.tree
+
+pub one_carried : (n : ℕ) (start w v : WorldState) → n < length start.tree.links → v ≡ world_after (carried_ends w.tree (n + 1)) w → v.tree ≡ w.tree
+    → IsCarriedTo n start w → IsCarriedTo (n + 1) start v
+one_carried n start w v lt after tree c =
+    let links : List Link = start.tree.links in
+    let none : Link = record { a = record { 0 = 0 }; b = record { 0 = 0 } } in
+    let ports : List Link → List EgressPort = λ ls. flat_map (λ l. port_to links l.a.0 l.b.0 ∷ port_to links l.b.0 l.a.0 ∷ []) ls in
+    let less : n + 1 - 1 ≡ n = omega arith in
+    let next : suc n ≡ n + 1 = omega arith in
+    let cut : drop n links ≡ get_or links (n + 1 - 1) none ∷ drop (n + 1) links =
+    drop-cons links n none lt ∙ (ap (λ (k : ℕ). get_or links k none ∷ drop (suc n) links) (sym less) ∙ ap (λ (k : ℕ). get_or links (n + 1 - 1) none ∷ drop k links) next)
+    in
+    record {
+      after =
+          ap (λ (u : WorldState). world_after (map Carry (ports (drop (n + 1) links))) u) (after ∙ ap (λ (t : Topology). world_after (carried_ends t (n + 1)) w) c.tree)
+          ∙ (ap (λ (ls : List Link). world_after (map Carry (ports ls)) w) (sym cut) ∙ c.after);
+      tree = tree ∙ c.tree;
+    }
+
+drop_all : {X : Type 0} (xs : List X) (i : ℕ) → length xs ≤ i → drop i xs ≡ []
+drop_all [] zero le = refl
+drop_all [] (suc i) le = refl
+drop_all (x ∷ xs) zero le = absurd (omega (arith, le))
+drop_all (x ∷ xs) (suc i) le = drop_all xs i (omega (arith, le))
+
+pub all_carried : (n : ℕ) (start w : WorldState) → length start.tree.links ≤ n → IsCarriedTo n start w → w ≡ world_after (map Carry (link_ports start.tree)) start
+all_carried n start w le c =
+    let links : List Link = start.tree.links in
+    ap (λ (ls : List Link). world_after (map Carry (flat_map (λ l. port_to links l.a.0 l.b.0 ∷ port_to links l.b.0 l.a.0 ∷ []) ls)) w) (sym (drop_all links n le)) ∙ c.after
+
+-- ---- one tick
+
+-- what the parts of a tick have made of a network, one after the other
+pub record IsTickMade (plan : Plan) (t : ℕ) (w w1 w2 w3 w4 : WorldState) (tick : Tick) (reply : WorldReply) : Type 0 where
+  pub answers : tick.events ≡ answered (scripted plan t) w
+  pub script : w1 ≡ after_script plan t w
+  pub steps : AreSteps (length w1.tree.kinds) w1 tick.steps
+  pub stepped : w2 ≡ world_after (step_events tick.steps) w1
+  pub carried : w3 ≡ world_after (map Carry (link_ports w2.tree)) w2
+  pub clock : world_step Clock w3 ≡ (w4, reply)
+
+pub tick_made : (plan : Plan) (t : ℕ) (w w1 w2 w3 w4 : WorldState) (events : List (ℕ × WorldReply)) (steps : List NodeSteps) (tick : Tick) (reply : WorldReply)
+    → tick.events ≡ events → tick.steps ≡ steps → events ≡ answered (scripted plan t) w → w1 ≡ after_script plan t w → AreSteps (length w1.tree.kinds) w1 steps
+    → w2 ≡ world_after (step_events steps) w1 → w3 ≡ world_after (map Carry (link_ports w2.tree)) w2 → world_step Clock w3 ≡ (w4, reply)
+    → IsTickMade plan t w w1 w2 w3 w4 tick reply
+tick_made plan t w w1 w2 w3 w4 events steps tick reply e s answers script made stepped carried clock =
+    record {
+      answers = e ∙ answers;
+      script = script;
+      steps = subst (λ (x : List NodeSteps). AreSteps (length w1.tree.kinds) w1 x) (sym s) made;
+      stepped = stepped ∙ ap (λ (x : List NodeSteps). world_after (step_events x) w1) (sym s);
+      carried = carried;
+      clock = clock;
+    }
+
+-- what this rests on, as the public law says it
+pub record DuringLaws : Type 0 where
+  pub all_stay : (tree : Topology) (t : ℕ) (es : List WorldEvent) (w : WorldState) → AllByRecursion (IsAllowed tree) es → IsDuring tree t w → IsDuring tree t (world_after es w)
+  pub clock : (tree : Topology) (t : ℕ) (w : WorldState) → t < 2 ^ 61 → IsDuring tree t w → CanHappen Clock w
+  pub next : (tree : Topology) (t : ℕ) (w : WorldState) → t < 2 ^ 61 → IsDuring tree t w → IsDuring tree (suc t) (world_step Clock w).0
+  pub scripted : (plan : Plan) (t : ℕ) → KeepsRules plan → AllByRecursion (IsAllowed plan.tree) (map (λ (e : ℕ × WorldEvent). e.1) (scripted plan t))
+  pub carried : (plan : Plan) → KeepsRules plan → AllByRecursion (IsAllowed plan.tree) (map Carry (link_ports plan.tree))
+
+each_append : {X : Type 0} (P : X → Type 0) (xs ys : List X) → AllByRecursion P xs → AllByRecursion P ys → AllByRecursion P (xs ++ ys)
+each_append P [] ys h k = k
+each_append P (x ∷ xs) ys h k = (h.0, each_append P xs ys h.1 k)
+
+made_allowed : (tree : Topology) (n : NodeNo) (made : List NodeStep) → AllByRecursion (λ st. HasPort tree (record { node = n; port = st.port })) made
+    → AllByRecursion (IsAllowed tree) (map (λ st. Port n st.port st.step) made)
+made_allowed tree n [] known = tt
+made_allowed tree n (st ∷ made) known = (known.0, made_allowed tree n made known.1)
+
+steps_allowed : (tree : Topology) (nodes : List NodeSteps) → AllByRecursion (λ ns. AllByRecursion (λ st. HasPort tree (record { node = ns.node; port = st.port })) ns.steps) nodes
+    → AllByRecursion (IsAllowed tree) (step_events nodes)
+steps_allowed tree [] known = tt
+steps_allowed tree (ns ∷ nodes) known =
+    each_append (IsAllowed tree) (map (λ st. Port ns.node st.port st.step) ns.steps) (step_events nodes) (made_allowed tree ns.node ns.steps known.0) (steps_allowed tree nodes known.1)
+
+module _ (laws : DuringLaws) (plan : Plan) (rules : KeepsRules plan) (t : ℕ) (within : t < plan.ticks) (w : WorldState) (during : IsDuring plan.tree t w) where
+  below : t < 2 ^ 61
+  below = let few = rules.ticks.1 in omega (arith, within, few)
+
+  pub scripted_stays : (w1 : WorldState) → w1 ≡ after_script plan t w → IsDuring plan.tree t w1
+  scripted_stays w1 is = subst (IsDuring plan.tree t) (sym is) (laws.all_stay plan.tree t (map (λ (e : ℕ × WorldEvent). e.1) (scripted plan t)) w (laws.scripted plan t rules) during)
+
+  pub stepped_stays : (w1 w2 : WorldState) (steps : List NodeSteps) → w1 ≡ after_script plan t w → AreSteps (length w1.tree.kinds) w1 steps → w2 ≡ world_after (step_events steps) w1 → IsDuring plan.tree t w2
+  stepped_stays w1 w2 steps is made after =
+      let here = scripted_stays w1 is in
+      let allowed = subst (λ (tree : Topology). AllByRecursion (IsAllowed tree) (step_events steps)) here.tree_is (steps_allowed w1.tree steps made.known) in
+      subst (IsDuring plan.tree t) (sym after) (laws.all_stay plan.tree t (step_events steps) w1 allowed here)
+
+  pub carried_stays : (w1 w2 w3 : WorldState) (steps : List NodeSteps) → w1 ≡ after_script plan t w → AreSteps (length w1.tree.kinds) w1 steps → w2 ≡ world_after (step_events steps) w1
+      → w3 ≡ world_after (map Carry (link_ports w2.tree)) w2 → IsDuring plan.tree t w3
+  carried_stays w1 w2 w3 steps is made after carried =
+      let here = stepped_stays w1 w2 steps is made after in
+      let same = carried ∙ ap (λ (tree : Topology). world_after (map Carry (link_ports tree)) w2) here.tree_is in
+      subst (IsDuring plan.tree t) (sym same) (laws.all_stay plan.tree t (map Carry (link_ports plan.tree)) w2 (laws.carried plan rules) here)
+
+  -- the clock may go on
+  pub clock_can : (w1 w2 w3 : WorldState) (steps : List NodeSteps) → w1 ≡ after_script plan t w → AreSteps (length w1.tree.kinds) w1 steps → w2 ≡ world_after (step_events steps) w1
+      → w3 ≡ world_after (map Carry (link_ports w2.tree)) w2 → CanHappen Clock w3
+  clock_can w1 w2 w3 steps is made after carried = laws.clock plan.tree t w3 below (carried_stays w1 w2 w3 steps is made after carried)
+
+  module _ (w1 w2 w3 w4 : WorldState) (tick : Tick) (reply : WorldReply) (made : IsTickMade plan t w w1 w2 w3 w4 tick reply) where
+    pub begins_next : IsDuring plan.tree (suc t) w4
+    begins_next =
+        subst (λ (h : Happened). IsDuring plan.tree (suc t) h.0) made.clock
+        (laws.next plan.tree t w3 below (carried_stays w1 w2 w3 tick.steps made.script made.steps made.stepped made.carried))
+
+    pub after_tick : w4 ≡ world_after (tick_events plan t tick) w
+    after_tick =
+        let script : List WorldEvent = map (λ (e : ℕ × WorldEvent). e.1) (scripted plan t) in
+        let steps : List WorldEvent = step_events tick.steps in
+        let carries : List WorldEvent = map Carry (link_ports plan.tree) in
+        let there = stepped_stays w1 w2 tick.steps made.script made.steps made.stepped in
+        let here : w2 ≡ world_after (script ++ steps) w = made.stepped ∙ (ap (λ (u : WorldState). world_after steps u) made.script ∙ sym (after_append script steps w)) in
+        let third : w3 ≡ world_after carries w2 = made.carried ∙ ap (λ (tree : Topology). world_after (map Carry (link_ports tree)) w2) there.tree_is in
+        let last : w4 ≡ world_after (carries ++ (Clock ∷ [])) w2 =
+        ap (λ (h : Happened). h.0) (sym made.clock) ∙ (ap (λ (u : WorldState). (world_step Clock u).0) third ∙ sym (after_append carries (Clock ∷ []) w2))
+        in
+        last ∙ (ap (λ (u : WorldState). world_after (carries ++ (Clock ∷ [])) u) here ∙ sym (after_append (script ++ steps) (carries ++ (Clock ∷ [])) w))
+
+    -- the tick is canonical
+    pub canonical_tick : IsCanonicalTick plan t w tick
+    canonical_tick =
+        let there : WorldState = after_script plan t w in
+        let steps = subst (λ (u : WorldState). AreSteps (length u.tree.kinds) u tick.steps) made.script made.steps in
+        let tree : there.tree ≡ plan.tree = (scripted_stays there refl).tree_is in
+        record {
+          legal = record {
+            numbers = ap (λ (es : List (ℕ × WorldReply)). map (λ e. e.0) es) made.answers ∙ numbers_are (scripted plan t) w;
+            answers = ap (λ (es : List (ℕ × WorldReply)). map (λ e. e.1) es) made.answers ∙ answers_are (scripted plan t) w;
+            nodes = steps.nodes;
+            some = steps.some;
+            known = subst (λ (r : Topology). AllByRecursion (λ ns. AllByRecursion (λ st. HasPort r (record { node = ns.node; port = st.port })) ns.steps) tick.steps) tree steps.known;
+            jobs = λ p has. let has' = subst (λ (r : Topology). HasPort r p) (sym tree) has in steps.jobs p has' has'.0.1;
+            replies = steps.replies;
+          };
+          canonical = steps.canonical;
+        }
+
+-- ---- the run so far
+
+-- the ticks before tick t lead to a network in the canonical order, and the cursor stands before tick t's events
+pub record IsRunTo (plan : Plan) (t : ℕ) (made : List Tick) (w : WorldState) (i : ℕ) : Type 0 where
+  pub ticks : LeadTo (IsCanonicalTick plan) plan 0 (world_of plan) made t w
+  pub during : IsDuring plan.tree t w
+  pub cursor : IsCursor plan.events t i
+
+pub one_tick : (plan : Plan) (t : ℕ) (ticks : List Tick) (w v : WorldState) (cursor next : ℕ) (tick : Tick)
+    → (LeadTo (IsCanonicalTick plan) plan 0 (world_of plan) ticks t w → IsCanonicalTick plan t w tick
+    → LeadTo (IsCanonicalTick plan) plan 0 (world_of plan) (ticks ++ tick ∷ []) (suc t) (world_after (tick_events plan t tick) w))
+    → IsCanonicalTick plan t w tick → v ≡ world_after (tick_events plan t tick) w → IsDuring plan.tree (suc t) v → IsCursor plan.events (suc t) next
+    → IsRunTo plan t ticks w cursor → IsRunTo plan (t + 1) (ticks ++ tick ∷ []) v next
+one_tick plan t ticks w v cursor next tick more here after during at run =
+    let later : suc t ≡ t + 1 = omega arith in
+    subst (λ (k : ℕ). IsRunTo plan k (ticks ++ tick ∷ []) v next) later
+    (record {
+      ticks = subst (λ (u : WorldState). LeadTo (IsCanonicalTick plan) plan 0 (world_of plan) (ticks ++ tick ∷ []) (suc t) u) (sym after) (more run.ticks here);
+      during = during;
+      cursor = at;
+    })
+
+pub no_tick : (plan : Plan) → IsDuring plan.tree 0 (world_of plan) → IsRunTo plan 0 [] (world_of plan) 0
+no_tick plan during =
+    record {
+      ticks = (refl, refl);
+      during = during;
+      cursor = record { within = omega arith; past = λ k e get lt. absurd (omega (arith, lt)); coming = λ k e get le. omega arith };
+    }

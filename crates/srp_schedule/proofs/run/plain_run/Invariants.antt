@@ -1,0 +1,5 @@
+use Rattle.srp_schedule.proofs.TickLemmas.{IsRunTo}
+use Rattle.srp_schedule.proofs.run.plain_run.Given as goal
+
+abbrev pub invariant-loop-t : goal.invariant-loop-t
+invariant-loop-t l = IsRunTo l.scenario l.t l.ticks.items l.world l.cursor

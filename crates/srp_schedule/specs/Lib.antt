@@ -1,0 +1,4 @@
+pub mod Cursor
+pub mod Script
+pub mod Order
+pub mod Made

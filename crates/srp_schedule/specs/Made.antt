@@ -1,0 +1,65 @@
+-- The steps that nodes have made in a tick, and the carrying of a link.
+use Rattle.std.specs.Prelude.{◌≡◌, ◌≢◌, ◌≤◌, ℕ, List, [], ◌∷◌, ◌++◌, map}
+use Rattle.std.specs.List.{AllByRecursion}
+use Rattle.srp_base.specs.declared.numbers.NodeNo.{NodeNo}
+use Rattle.srp_base.specs.declared.numbers.PortNo.{PortNo}
+use Rattle.srp_base.specs.declared.numbers.EgressPort.{EgressPort}
+use Rattle.tree_topology.specs.Topology.{Topology, HasPort}
+use Rattle.tree_topology.specs.Ports.{ends_of}
+use Rattle.node_core.specs.declared.types.NodeStep.{NodeStep}
+use Rattle.node_core.specs.declared.types.PortStep.{PortStep}
+use Rattle.world_core.specs.declared.events.WorldEvent.{WorldEvent}
+use Rattle.world_core.specs.declared.events.WorldEvent.TheVariants.{Port, Carry}
+use Rattle.world_core.specs.declared.events.WorldReply.{WorldReply}
+use Rattle.world_core.specs.declared.events.WorldReply.TheVariants.{Step, Done, Missed}
+use Rattle.world_core.specs.declared.journal.NodeSteps.{NodeSteps}
+use Rattle.world_core.specs.World.{WorldState, world_step, replies_to}
+use Rattle.world_core.specs.Ticks.{step_events, step_replies, steps_of, jobs_of, canonical_order, AscendByNode}
+
+-- a node's steps as events of the network, and their answers
+abbrev pub events_of : NodeNo → List NodeStep → List WorldEvent
+events_of n made = map (λ st. Port n st.port st.step) made
+
+abbrev pub replies_of : List NodeStep → List WorldReply
+replies_of made = map (λ st. Step st.reply) made
+
+-- the jobs that they were, each with its port
+abbrev pub jobs_done : List NodeStep → List (PortNo × PortStep)
+jobs_done made = map (λ st. (st.port, st.step)) made
+
+-- the tree has the ports of a node's steps, or of its jobs
+abbrev pub HavePorts : Topology → NodeNo → List NodeStep → Type 0
+HavePorts tree n made = AllByRecursion (λ st. HasPort tree (record { node = n; port = st.port })) made
+
+abbrev pub HaveJobPorts : Topology → NodeNo → List (PortNo × PortStep) → Type 0
+HaveJobPorts tree n jobs = AllByRecursion (λ job. HasPort tree (record { node = n; port = job.0 })) jobs
+
+-- a step of a port makes of one network another, and answers this
+abbrev pub IsDone : NodeNo → WorldState → WorldState → NodeStep → Type 0
+IsDone n w v st = world_step (Port n st.port st.step) w ≡ (v, Step st.reply)
+
+-- the answer is a node's
+abbrev pub IsStepReply : WorldReply → Type 0
+IsStepReply (Step reply) = Unit {0}
+IsStepReply Done = ⊥
+IsStepReply Missed = ⊥
+
+-- the steps of a node behind those of earlier nodes, where it has made some
+abbrev pub with_steps : NodeNo → List NodeStep → List NodeSteps → List NodeSteps
+with_steps n [] made = made
+with_steps n (st ∷ steps) made = made ++ (record { node = n; steps = st ∷ steps }) ∷ []
+
+-- The nodes up to number x have made their jobs of a tick, each in the canonical order: with their answers, nodes ascending,
+-- and no more than that.
+pub record AreSteps (x : ℕ) (w : WorldState) (made : List NodeSteps) : Type 0 where
+  pub within : AllByRecursion (λ ns. ns.node.0 ≤ x) made
+  pub nodes : AscendByNode made
+  pub some : AllByRecursion (λ ns. ns.steps ≢ []) made
+  pub known : AllByRecursion (λ ns. HavePorts w.tree ns.node ns.steps) made
+  pub jobs : (p : EgressPort) → HasPort w.tree p → p.node.0 ≤ x → steps_of p made ≡ jobs_of p w
+  pub replies : step_replies made ≡ replies_to (step_events made) w
+  pub canonical : AllByRecursion (λ ns. jobs_done ns.steps ≡ canonical_order ns.node w) made
+
+-- the carrying of a link's two ends, end `a` first
+abbrev pub carried_ends : Topology → ℕ → List WorldEvent
+carried_ends tree n = Carry (ends_of tree.links n).0 ∷ Carry (ends_of tree.links n).1 ∷ []

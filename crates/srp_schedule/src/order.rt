@@ -1,0 +1,123 @@
+//! The jobs of a node in one tick, in the canonical order.
+
+ghost use Rattle.std.specs.Prelude.{◌≡◌, ◌≤◌, ◌++◌, ◌||◌, length, map, filter, IfOk, OnOk};
+ghost use Rattle.std.specs.List.{range_with_len};
+ghost use Rattle.tree_topology.specs.Topology.{HasNode};
+ghost use Rattle.node_core.specs.State.{ports_of, job_list, is_busy_node, is_sending_time};
+ghost use Rattle.world_core.specs.Ticks.{canonical_order};
+ghost use Rattle.srp_schedule.specs.Order.{is_in_turn, turn_from, order_of};
+
+use node_core::{Node, PortStep};
+use srp_base::{NoMemory, NodeNo, PortNo, Seq};
+use std::alloc::Global;
+use world_core::World;
+
+/// The four turns of a node's ports in a tick.
+#[derive(Clone, Copy)]
+pub(crate) enum Turn {
+    Works,
+    Dues,
+    Settles,
+    Sends,
+}
+
+/// The jobs of a node in one tick, each with its port: all Works, then all Dues, then all Settles, then all Sends, ports
+/// ascending in each.
+pub(crate) fn jobs_in_order(
+    alloc: Global,
+    world: &World,
+    number: NodeNo,
+) -> Result<Vec<(PortNo, PortStep)>, NoMemory>
+    requires { HasNode world.now.tree number.0 }
+    ensures { IfOk result (λ jobs. jobs.items ≡ canonical_order number world.now) }
+{
+    let _ = PortStep::Due.key();
+    let node = world.node(number);
+    if !has_jobs(node) {
+        return Ok(Vec::new(alloc));
+    }
+    let jobs = jobs_by_port(alloc, node)?;
+    in_turns(alloc, jobs.as_slice())
+}
+
+// Whether a node has a job: it is busy, or it is time to send.
+fn has_jobs(node: &Node) -> bool
+    ensures { result ≡ (is_busy_node node.now || is_sending_time node.now.clock) }
+{
+    node.is_busy() || node.now().0 % 20 == 0
+}
+
+// The jobs of each of a node's ports, ports ascending.
+fn jobs_by_port(alloc: Global, node: &Node) -> Result<Vec<Seq<PortStep>>, NoMemory>
+    ensures jobs { IfOk result
+        (λ v. v.items ≡ map (λ at. job_list at node.now) (range_with_len 0 (ports_of node.now))) }
+    ensures few { IfOk result (λ v. length v.items ≤ 255) }
+{
+    let _ = PortStep::Due.key();
+    let mut jobs = Vec::new(alloc);
+    for at in 0..node.ports() {
+        jobs.push(node.jobs(PortNo(at + 1))?)?;
+    }
+    Ok(jobs)
+}
+
+// The jobs of all ports, turn by turn.
+fn in_turns(alloc: Global, jobs: &[Seq<PortStep>]) -> Result<Vec<(PortNo, PortStep)>, NoMemory>
+    requires { length jobs.now ≤ 255 }
+    ensures { IfOk result (λ v. v.items ≡ order_of jobs.now) }
+{
+    let _ = PortStep::Due.key();
+    let mut order = Vec::new(alloc);
+    push_turn(&mut order, jobs, Turn::Works)?;
+    push_turn(&mut order, jobs, Turn::Dues)?;
+    push_turn(&mut order, jobs, Turn::Settles)?;
+    push_turn(&mut order, jobs, Turn::Sends)?;
+    Ok(order)
+}
+
+// One turn of all ports.
+fn push_turn(
+    order: &mut Vec<(PortNo, PortStep)>,
+    jobs: &[Seq<PortStep>],
+    turn: Turn,
+) -> Result<(), NoMemory>
+    requires { length jobs.now ≤ 255 }
+    ensures { OnOk result (order.new.items ≡ order.old.items ++ turn_from turn 1 jobs.now) }
+{
+    let _ = PortStep::Due.key();
+    for (at, steps) in jobs.iter().enumerate() {
+        push_steps(order, PortNo(at as u8 + 1), steps.as_slice(), turn)?;
+    }
+    Ok(())
+}
+
+// One turn of a port.
+fn push_steps(
+    order: &mut Vec<(PortNo, PortStep)>,
+    port: PortNo,
+    steps: &[PortStep],
+    turn: Turn,
+) -> Result<(), NoMemory>
+    ensures { OnOk result (order.new.items
+        ≡ order.old.items ++ map (λ step. (port, step)) (filter (is_in_turn turn) steps.now)) }
+{
+    let _ = PortStep::Due.key();
+    for step in steps {
+        if is_of(turn, *step) {
+            order.push((port, *step))?;
+        }
+    }
+    Ok(())
+}
+
+// Whether a step is made in a turn.
+fn is_of(turn: Turn, step: PortStep) -> bool
+    ensures { result ≡ is_in_turn turn step }
+{
+    match turn {
+        Turn::Works => matches!(step, PortStep::Work),
+        Turn::Dues => matches!(step, PortStep::Due),
+        Turn::Settles => matches!(step, PortStep::Settle),
+        Turn::Sends => matches!(step, PortStep::Send(_)),
+    }
+}

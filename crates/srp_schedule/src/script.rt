@@ -1,0 +1,107 @@
+//! The scripted events of one tick.
+
+ghost use Rattle.std.specs.Prelude.{◌≡◌, ◌++◌, suc, IfSome, IfOk, OnOk};
+ghost use Rattle.tree_topology.specs.Graph.{Joined};
+ghost use Rattle.tree_topology.specs.Ports.{port_to};
+ghost use Rattle.world_core.specs.Ticks.{event_of, scripted, after_script};
+ghost use Rattle.world_core.specs.World.{CanHappen};
+ghost use Rattle.world_core.specs.During.{IsDuring, NamesNeighbours};
+ghost use Rattle.srp_schedule.specs.Cursor.{IsCursor};
+ghost use Rattle.srp_schedule.specs.Script.{answered, answer_of, after_entry};
+
+use node_core::AppRequest;
+use srp_base::{EgressPort, NoMemory, NodeNo};
+use std::alloc::Global;
+use topology_file::{EventKind, Scenario};
+use tree_topology::Tree;
+use world_core::laws::what_is_allowed_may_happen;
+use world_core::{World, WorldEvent, WorldReply};
+
+/// Lets the events of tick t happen, from the cursor on, and answers each with the number of its entry. The cursor then stands
+/// at the first event of a later tick.
+pub(crate) fn make_events(
+    alloc: Global,
+    scenario: &Scenario,
+    t: u64,
+    world: &mut World,
+    cursor: &mut usize,
+) -> Result<Vec<(u32, WorldReply)>, NoMemory>
+    requires during { IsDuring scenario.now.tree t world.old }
+    requires cursor { IsCursor scenario.now.events t cursor.old }
+    ensures answers { IfOk result (λ v. v.items ≡ answered (scripted scenario.now t) world.old) }
+    ensures after { OnOk result (world.new ≡ after_script scenario.now t world.old) }
+    ensures cursor { OnOk result (IsCursor scenario.now.events (suc t) cursor.new) }
+{
+    what_is_allowed_may_happen();
+    scenario.keeps_rules();
+    let events = scenario.events.as_slice();
+    let first = *cursor;
+    let mut answers = Vec::new(alloc);
+    for i in first..events.len() {
+        let entry = events[i];
+        if entry.tick != t {
+            *cursor = i;
+            return Ok(answers);
+        }
+        make_entry(scenario, i as u32 + 1, entry.kind, world, &mut answers)?;
+    }
+    *cursor = events.len();
+    Ok(answers)
+}
+
+// Lets the event of an entry happen, if it is one in the network, and answers it with the entry's number.
+fn make_entry(
+    scenario: &Scenario,
+    number: u32,
+    kind: EventKind,
+    world: &mut World,
+    answers: &mut Vec<(u32, WorldReply)>,
+) -> Result<(), NoMemory>
+    requires neighbours { NamesNeighbours scenario.now.tree.links kind }
+    requires can { IfSome (event_of scenario.now.tree.links kind) (λ e. CanHappen e world.old) }
+    ensures answer { OnOk result (answers.new.items
+        ≡ answers.old.items ++ answer_of number (event_of scenario.now.tree.links kind) world.old) }
+    ensures after { OnOk result
+        (world.new ≡ after_entry (event_of scenario.now.tree.links kind) world.old) }
+{
+    if let Some(event) = world_event(&scenario.tree, kind) {
+        answers.push((number, world.step(event)?))?;
+    }
+    Ok(())
+}
+
+// What the file's event is in the network, if it is one there.
+fn world_event(tree: &Tree, kind: EventKind) -> Option<WorldEvent>
+    requires { NamesNeighbours tree.now.links kind }
+    ensures { result ≡ event_of tree.now.links kind }
+{
+    match kind {
+        EventKind::Declare { station, vid } => {
+            Some(WorldEvent::Request(station, AppRequest::Declare(vid)))
+        }
+        EventKind::Withdraw { station, vid } => {
+            Some(WorldEvent::Request(station, AppRequest::Withdraw(vid)))
+        }
+        EventKind::Talk { .. }
+        | EventKind::Hush { .. }
+        | EventKind::Listen { .. }
+        | EventKind::Unlisten { .. } => None,
+        EventKind::Lose { from, to, index } => {
+            Some(WorldEvent::Lose(receiving_port(tree, to, from), index))
+        }
+        EventKind::Repeat { from, to, index } => {
+            Some(WorldEvent::Repeat(receiving_port(tree, to, from), index))
+        }
+    }
+}
+
+// The port of a node at which the PDUs of its neighbour come in.
+fn receiving_port(tree: &Tree, node: NodeNo, neighbour: NodeNo) -> EgressPort
+    requires { Joined tree.now.links node.0 neighbour.0 }
+    ensures { result ≡ port_to tree.now.links node.0 neighbour.0 }
+{
+    match tree.port_to(node, neighbour) {
+        Some(port) => port,
+        None => unreachable!(),
+    }
+}
