@@ -1,11 +1,10 @@
 -- The steps of one node after another: what has been made so far, and one node more.
-use Rattle.std.proofs.Common.{◌≡◌, ◌≢◌, ◌⊎◌, inl, inr, ℕ, zero, suc, ◌+◌, ◌-◌, ◌<◌, ◌≤◌, Bool, true, false, List, [], ◌∷◌, ◌++◌, length, map, take, get_or, refl, sym, ap, subst, ◌∙◌, append_assoc, arith}
+use Rattle.std.proofs.Common.{◌≡◌, ◌≢◌, ℕ, zero, suc, ◌+◌, ◌-◌, ◌<◌, ◌≤◌, Bool, true, false, List, [], ◌∷◌, ◌++◌, length, map, take, get_or, refl, sym, ap, subst, ◌∙◌, arith}
 use Rattle.std.specs.Prelude.{slice_get, slice_set, Option, Some, None, ◌==◌, if◌then◌else◌, filter}
 use Rattle.std.specs.Option.{option_map_or}
-use Rattle.std.specs.List.{AllByRecursion, flat_map, range_with_len}
+use Rattle.std.specs.List.{AllByRecursion, range_with_len}
 use Rattle.std.proofs.lemmas.List.FromFn.{length-map-range_with_len}
 use Rattle.std.proofs.Math.Seq.{take-suc}
-use Rattle.std.proofs.lemmas.Option.{slice_get_within}
 use Rattle.std.proofs.lemmas.Bool.Decides.{nat_tests}
 use Rattle.std.proofs.lemmas.List.{append-nil, map-append}
 use Rattle.std.proofs.lemmas.Grind.{flat_map-append}
@@ -14,7 +13,6 @@ use Rattle.srp_base.specs.declared.numbers.PortNo.{PortNo}
 use Rattle.srp_base.specs.declared.numbers.EgressPort.{EgressPort}
 use Rattle.tree_topology.specs.Topology.{Topology, HasNode, HasPort}
 use Rattle.tree_topology.specs.Ports.{neighbours}
-use Rattle.node_core.specs.declared.types.NodeEvent.{NodeEvent}
 use Rattle.node_core.specs.declared.types.NodeEvent.TheVariants as node_events
 use Rattle.node_core.specs.declared.types.NodeStep.{NodeStep}
 use Rattle.node_core.specs.declared.types.PortStep.{PortStep}
@@ -26,7 +24,7 @@ use Rattle.world_core.specs.declared.events.WorldReply.{WorldReply}
 use Rattle.world_core.specs.declared.events.WorldReply.TheVariants.{Step, Missed}
 use Rattle.world_core.specs.declared.journal.NodeSteps.{NodeSteps}
 use Rattle.world_core.specs.Kept.{IsKeptWorld}
-use Rattle.world_core.specs.World.{WorldState, Happened, node_at, after_step, stepped, world_step, world_after, replies_to}
+use Rattle.world_core.specs.World.{WorldState, Happened, node_at, after_step, world_step, world_after, replies_to}
 use Rattle.world_core.specs.Ticks.{step_events, step_replies, steps_at_port, steps_of, jobs_of, canonical_order, AscendByNode}
 use Rattle.srp_schedule.specs.Made.{AreSteps, IsStepReply, events_of, replies_of, with_steps}
 use Rattle.srp_schedule.proofs.ScriptLemmas.{same_is, other_is}

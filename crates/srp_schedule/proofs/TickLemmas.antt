@@ -1,13 +1,12 @@
 -- One tick from its parts, and one tick more of a run.
 use Rattle.std.proofs.Common.{◌≡◌, ℕ, zero, suc, ◌+◌, ◌-◌, ◌<◌, ◌≤◌, ◌^◌, List, [], ◌∷◌, ◌++◌, length, map, drop, get_or, refl, sym, ap, subst, ◌∙◌, arith}
-use Rattle.std.specs.Prelude.{Option, Some, None, IfSome}
 use Rattle.std.specs.List.{AllByRecursion, flat_map}
 use Rattle.std.proofs.Math.Seq.{drop-cons}
 use Rattle.srp_base.specs.declared.numbers.EgressPort.{EgressPort}
 use Rattle.srp_base.specs.declared.numbers.NodeNo.{NodeNo}
 use Rattle.tree_topology.specs.declared.graph.Link.{Link}
-use Rattle.tree_topology.specs.Topology.{Topology, HasPort, HasLink}
-use Rattle.tree_topology.specs.Ports.{port_to, ends_of, link_at}
+use Rattle.tree_topology.specs.Topology.{Topology, HasPort}
+use Rattle.tree_topology.specs.Ports.{port_to, ends_of}
 use Rattle.topology_file.specs.Plan.{Plan}
 use Rattle.topology_file.specs.Scenario.{KeepsRules}
 use Rattle.node_core.specs.declared.types.NodeStep.{NodeStep}
@@ -18,7 +17,7 @@ use Rattle.world_core.specs.declared.journal.NodeSteps.{NodeSteps}
 use Rattle.world_core.specs.declared.journal.Tick.{Tick}
 use Rattle.world_core.specs.World.{WorldState, Happened, CanHappen, world_step, world_after}
 use Rattle.world_core.specs.Start.{world_of}
-use Rattle.world_core.specs.Ticks.{scripted, after_script, step_events, link_ports, closing_events, tick_events, steps_of, jobs_of, LeadTo, IsLegalTick, IsCanonicalTick}
+use Rattle.world_core.specs.Ticks.{scripted, after_script, step_events, link_ports, tick_events, LeadTo, IsCanonicalTick}
 use Rattle.world_core.specs.During.{IsDuring, IsAllowed}
 use Rattle.srp_schedule.specs.Cursor.{IsCursor}
 use Rattle.srp_schedule.specs.Script.{answered}
@@ -27,6 +26,14 @@ use Rattle.srp_schedule.proofs.ScriptLemmas.{numbers_are, answers_are}
 use Rattle.srp_schedule.proofs.StepLemmas.{after_append}
 
 -- ---- the carrying, link by link
+
+-- both ends of a link, one after the other
+pub both_carried : (tree : Topology) (n : ℕ) (ends : EgressPort × EgressPort) (w v u : WorldState) (first second : WorldReply) → ends ≡ ends_of tree.links n
+    → world_step (Carry ends.0) w ≡ (v, first) → world_step (Carry ends.1) v ≡ (u, second) → u ≡ world_after (carried_ends tree n) w
+both_carried tree n ends w v u first second are one two =
+    ap (λ (h : Happened). h.0) (sym {A = Happened} two)
+    ∙ (ap (λ (h : Happened). (world_step (Carry ends.1) h.0).0) (sym {A = Happened} one)
+    ∙ ap (λ (e : EgressPort × EgressPort). (world_step (Carry e.1) (world_step (Carry e.0) w).0).0) are)
 
 -- the first n links have been carried
 pub record IsCarriedTo (n : ℕ) (start w : WorldState) : Type 0 where

@@ -23,7 +23,7 @@ fn without_streams(scenario: Scenario) -> Result<Scenario, Cause>
     ensures scenario { Gives (λ s. s) result (without_streams_spec scenario) }
     ensures not_done { IfErr result (λ c. c ≡ Cause.Done → ⊥) }
 {
-    if scenario.streams.is_empty() && scenario.frames.is_empty() {
+    if scenario.streams.len() == 0 && scenario.frames.len() == 0 {
         Ok(scenario)
     } else {
         Err(Cause::BadScenario { rule: 2, entry: 0 })

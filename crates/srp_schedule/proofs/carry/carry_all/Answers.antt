@@ -1,4 +1,4 @@
-use Rattle.std.proofs.Common.{◌≡◌, ◌<◌, ◌+◌, length, ap, ◌∙◌, arith}
+use Rattle.std.proofs.Common.{◌≡◌, ◌+◌, length, ap, ◌∙◌, arith}
 use Rattle.tree_topology.specs.Topology.{Topology}
 use Rattle.world_core.specs.World.{WorldState}
 use Rattle.srp_schedule.specs.Made.{carried_ends}

@@ -1,4 +1,4 @@
-use Rattle.std.proofs.Common.{◌≡◌, List, sym, ap, ◌∙◌}
+use Rattle.std.proofs.Common.{sym, ap, ◌∙◌}
 use Rattle.std.specs.Prelude.{Result, Ok, Err, IfOk}
 use Rattle.srp_schedule.specs.Order.{order_of}
 use Rattle.srp_schedule.proofs.OrderLemmas.{canonical_is, idle_order}

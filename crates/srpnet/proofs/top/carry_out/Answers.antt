@@ -7,6 +7,7 @@ returns-in-Ok g c = record {
   part = search rules;
   memory = search rules;
   nothing_written = search rules;
+  no_journal = search rules;
   read_fault = search rules;
   write_fault = search rules;
   read_counts = search rules;
