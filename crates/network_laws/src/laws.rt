@@ -1,12 +1,15 @@
 //! The laws of a network at rest. Each is a function that does nothing; calling it brings the law to a proof.
 
 ghost use Rattle.std.specs.Prelude.{◌≡◌, ℕ, List};
+ghost use Rattle.std.specs.List.{AllByRecursion};
 ghost use Rattle.srp_base.specs.declared.numbers.EgressPort.{EgressPort};
 ghost use Rattle.tree_topology.specs.Topology.{HasPort};
 ghost use Rattle.topology_file.specs.Plan.{Plan};
 ghost use Rattle.topology_file.specs.Scenario.{KeepsRules};
+ghost use Rattle.world_core.specs.declared.events.WorldEvent.{WorldEvent};
 ghost use Rattle.world_core.specs.declared.journal.Tick.{Tick};
-ghost use Rattle.world_core.specs.World.{WorldState};
+ghost use Rattle.world_core.specs.World.{WorldState, CanAllHappen, NamesVids, world_after};
+ghost use Rattle.world_core.specs.Start.{world_of};
 ghost use Rattle.world_core.specs.Duty.{AreVlanDutiesMet};
 ghost use Rattle.world_core.specs.Kept.{IsKeptWorld};
 ghost use Rattle.world_core.specs.Moments.{IsMoment};
@@ -16,7 +19,7 @@ ghost use Rattle.network_laws.specs.Vlans.{VlansMatch, IsAtRest, is_registered, 
 use mrp_participant::link_laws::a_still_link_registers_what_is_declared;
 use mvrp::MvrpApp;
 use tree_topology::laws::{ports, the_walk};
-use world_core::laws::every_moment_keeps_it;
+use world_core::laws::{a_scenario_begins_well, every_event_keeps_it, every_moment_keeps_it};
 
 /// In every network at rest a VID is registered at a port exactly where a station behind the port, in the words of the
 /// tree's walks, has declared it (IEEE Std 802.1Q-2018, 11.2); so both sides that `vlans_match` answers are equal.
@@ -47,4 +50,17 @@ pub fn duties_are_met_in_every_run()
         → IsMoment plan ticks w → AreVlanDutiesMet w }
 {
     every_moment_keeps_it();
+}
+
+/// From the start of a scenario on, after every list of events that may happen, whatever is lost or repeated and in whatever
+/// order the ports make their steps: where the network is then at rest, a VID is registered at a port exactly where a
+/// station behind the port has declared it.
+pub fn vlans_match_after_every_list_of_events()
+    ensures { (plan : Plan) (events : List WorldEvent) → KeepsRules plan → CanAllHappen events (world_of plan)
+        → AllByRecursion NamesVids events → IsAtRest (world_after events (world_of plan))
+        → VlansMatch (world_after events (world_of plan)) }
+{
+    vlans_are_those_declared_behind();
+    a_scenario_begins_well();
+    every_event_keeps_it();
 }
