@@ -211,6 +211,15 @@ fn has_jobs(node: &Node, port: PortNo) -> Result<bool, NoMemory> {
     Ok(jobs.as_slice() == all.as_slice())
 }
 
+// Whether these are the attributes that are registered at a link port.
+fn has_keys(node: &Node, port: PortNo, keys: &[NodeKey]) -> Result<bool, NoMemory> {
+    if !has(node, port) {
+        return Ok(false);
+    }
+    let found = node.keys(port)?;
+    Ok(found.as_slice() == keys)
+}
+
 // The clock goes on by 1 cs, by the call or by the event; the moment afterwards.
 fn goes_on(node: &mut Node, by_event: bool) -> Result<Cs, NoMemory> {
     if 1_000_000 < node.now().0 {
@@ -240,7 +249,8 @@ fn declaration(station: &mut Node, bridge: &mut Node, vid: Vid) -> Result<[bool;
         ONE,
         [(Work, Received(1)), (Work, Nothing)].as_slice(),
     )?;
-    let registered = shows(bridge, ONE, 0, None, (vid, Registrar::Held));
+    let registered = shows(bridge, ONE, 0, None, (vid, Registrar::Held))
+        && has_keys(bridge, ONE, [NodeKey::Vlan(vid)].as_slice())?;
     let said = says_at_two(bridge, &JOIN)?;
     Ok([asked, sent, carried, waits, worked, registered, said])
 }
