@@ -17,6 +17,8 @@ pub fn each_key_awaits<K: Copy + Ord>()
 
 /// Keys that ascend strictly do so after one was marked, and after one was cleared.
 pub fn keys_stay_ascending<K: Copy + Ord>()
-    ensures marked { (x : K) (keys : List K) → IsAscending K.cmp keys → IsAscending K.cmp (marked K.cmp x keys) }
-    ensures cleared { (x : K) (keys : List K) → IsAscending K.cmp keys → IsAscending K.cmp (cleared K.cmp x keys) }
+    ensures marked { (x : K) (keys : List K) → IsAscending K.cmp keys
+        → IsAscending K.cmp (marked K.cmp x keys) }
+    ensures cleared { (x : K) (keys : List K) → IsAscending K.cmp keys
+        → IsAscending K.cmp (cleared K.cmp x keys) }
 {}

@@ -47,7 +47,8 @@ fn marked_unless<K: Copy + Ord>(
     stays: bool,
     keys: &[K],
 ) -> Result<Dirty<K>, NoMemory>
-    ensures { IfOk result (λ d. d ≡ (if stays then set.now else all_marked K.cmp keys.now set.now)) }
+    ensures { IfOk result (λ d. d
+        ≡ (if stays then set.now else all_marked K.cmp keys.now set.now)) }
 {
     if stays {
         set.copy()

@@ -49,7 +49,8 @@ impl Heads {
         requires heads { AreWithin came self }
         requires came { came ≤ length arrivals.now }
         ensures heads { AreHeads arrivals.now came result }
-        ensures same { pending result 0 (take came arrivals.now) ≡ pending self 0 (take came arrivals.now) }
+        ensures same { pending result 0 (take came arrivals.now)
+            ≡ pending self 0 (take came arrivals.now) }
     {
         Heads {
             a: first_of(arrivals, Traffic::A, self.a, came),

@@ -108,7 +108,8 @@ impl PortTrace {
         requires input { IsPortInput input.now }
         requires bit { self.bit < input.now.end }
         requires reached { HasReached input.now self.bit self }
-        requires port { port_of input.now.arrivals sent.old.items self ≡ port_at input.now self.bit }
+        requires port { port_of input.now.arrivals sent.old.items self
+            ≡ port_at input.now self.bit }
         ensures later { IfOk result (λ t. self.bit < t.bit) }
         ensures within { IfOk result (λ t. t.bit ≤ input.now.end) }
         ensures reached { IfOk result (λ t. HasReached input.now t.bit t) }

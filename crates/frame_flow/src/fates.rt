@@ -28,7 +28,8 @@ pub(crate) fn flow_of_copies(
 ) -> Result<PortFlow, NoMemory>
     requires ticks { ticks ≤ 12000 }
     requires order { IsNonDecreasingBy (λ c. c.now.tick) changes.now }
-    requires input { IsPortInput (input_of ticks place.rate (map (λ c. c.now) changes.now) copies.now) }
+    requires input { IsPortInput (input_of ticks place.rate (map
+        (λ c. c.now) changes.now) copies.now) }
     ensures { IfOk result (λ x. x
         ≡ flow_of_copies ticks place (map (λ c. c.now) changes.now) copies.now) }
 {
@@ -141,7 +142,8 @@ fn fates_by(
 /// The departures by frame, those of one frame in order of departure: the fates by them are the same.
 fn by_frame(sent: Seq<Departure>) -> Result<Vec<Departure>, NoMemory>
     ensures order { IfOk result (λ v. IsNonDecreasingBy (λ d. d.frame) v.items) }
-    ensures fates { IfOk result (λ v. (rate : Rate) (changes : List PortChange) (copies : List FrameCopy)
+    ensures fates { IfOk result
+        (λ v. (rate : Rate) (changes : List PortChange) (copies : List FrameCopy)
         → fates_of rate changes v.items copies ≡ fates_of rate changes sent copies) }
 {
     let mut sent = sent.into_vec();
@@ -160,7 +162,8 @@ fn fates_of(
 ) -> Result<Seq<(u32, Fate)>, NoMemory>
     requires changes { IsNonDecreasingBy (λ c. c.now.tick) changes.now }
     requires sent { IsNonDecreasingBy (λ d. d.frame) sent.now }
-    ensures { IfOk result (λ v. v ≡ fates_of rate (map (λ c. c.now) changes.now) sent.now copies.now) }
+    ensures { IfOk result (λ v. v
+        ≡ fates_of rate (map (λ c. c.now) changes.now) sent.now copies.now) }
 {
     let mut fates = Vec::with_capacity(alloc, copies.len())?;
     let mut guess: usize = 0;

@@ -76,7 +76,8 @@ fn first_from<T: Numbered>(items: &[T], number: u64, guess: usize) -> usize
 fn begins_at<T: Numbered>(items: &[T], number: u64, at: usize) -> bool
     ensures here { IsTrue result
         → (at < length items.now) × HoldsAt (λ x. T.number x ≡ number) items.now at }
-    ensures before { IsTrue result → 0 < at → HoldsAt (λ x. T.number x < number) items.now (at - 1) }
+    ensures before { IsTrue result → 0 < at
+        → HoldsAt (λ x. T.number x < number) items.now (at - 1) }
 {
     is_at(items, number, at) && (at == 0 || is_below(items, number, at - 1))
 }

@@ -17,8 +17,10 @@ impl<A: MrpApp> Participant<A> {
     /// again changes nothing, another content is declared anew, by New!. After want of memory, which comes only
     /// for a key without a row, the participant is as it was.
     pub fn declare(&mut self, key: A::Key, content: A::Content) -> Result<(), NoMemory>
-        ensures ok { OnOk result (self.new ≡ declared_state A.Key.cmp A.Content.eq key content self.old) }
-        ensures same_content { declared_in (find A.Key.cmp key self.old.rows) ≡ Some content → self.new ≡ self.old }
+        ensures ok { OnOk result (self.new
+            ≡ declared_state A.Key.cmp A.Content.eq key content self.old) }
+        ensures same_content { declared_in (find A.Key.cmp key self.old.rows) ≡ Some content
+            → self.new ≡ self.old }
         ensures err { OnErr result (self.new ≡ self.old) }
         ensures room { OnErr result (find A.Key.cmp key self.old.rows ≡ None) }
         ensures each_key { OnOk result
@@ -33,7 +35,8 @@ impl<A: MrpApp> Participant<A> {
     /// stays as it is.
     pub fn withdraw(&mut self, key: A::Key)
         ensures after { self.new ≡ withdrawn_state A.Key.cmp key self.old }
-        ensures undeclared { declared_in (find A.Key.cmp key self.old.rows) ≡ None → self.new ≡ self.old }
+        ensures undeclared { declared_in (find A.Key.cmp key self.old.rows) ≡ None → self.new
+            ≡ self.old }
         ensures each_key { ChangesOnly A.Key.cmp key (after_withdraw (find A.Key.cmp key self.old.rows)) self.old.rows self.new.rows }
     {
         withdraw_in(&mut self.rows, key);
@@ -59,7 +62,8 @@ pub(crate) fn declare_in<K: Copy + Ord, C: Copy + Eq>(
     content: C,
 ) -> Result<(), NoMemory>
     requires { Ascends K.cmp key_of rows.old.items }
-    ensures ok { OnOk result (rows.new.items ≡ put K.cmp key (after_declare C.eq key content (find K.cmp key rows.old.items)) rows.old.items) }
+    ensures ok { OnOk result (rows.new.items
+        ≡ put K.cmp key (after_declare C.eq key content (find K.cmp key rows.old.items)) rows.old.items) }
     ensures err { OnErr result (rows.new.items ≡ rows.old.items) }
     ensures room { OnErr result (find K.cmp key rows.old.items ≡ None) }
 {
@@ -76,7 +80,8 @@ pub(crate) fn declare_in<K: Copy + Ord, C: Copy + Eq>(
 /// Withdraws a key; one without a row stays so.
 pub(crate) fn withdraw_in<K: Copy + Ord, C: Copy>(rows: &mut Vec<Row<K, C>>, key: K)
     requires { Ascends K.cmp key_of rows.old.items }
-    ensures { rows.new.items ≡ put K.cmp key (after_withdraw (find K.cmp key rows.old.items)) rows.old.items }
+    ensures { rows.new.items
+        ≡ put K.cmp key (after_withdraw (find K.cmp key rows.old.items)) rows.old.items }
 {
     if let Ok(at) = place(rows.as_slice(), &key) {
         let row = rows[at];
@@ -88,7 +93,8 @@ pub(crate) fn withdraw_in<K: Copy + Ord, C: Copy>(rows: &mut Vec<Row<K, C>>, key
 pub(crate) fn leave_in<K: Copy + Ord, C: Copy>(rows: &mut Vec<Row<K, C>>, key: K) -> bool
     requires { Ascends K.cmp key_of rows.old.items }
     ensures was { result ≡ is_leaving_in (find K.cmp key rows.old.items) }
-    ensures rows { rows.new.items ≡ put K.cmp key (after_leave (find K.cmp key rows.old.items)) rows.old.items }
+    ensures rows { rows.new.items
+        ≡ put K.cmp key (after_leave (find K.cmp key rows.old.items)) rows.old.items }
 {
     match place(rows.as_slice(), &key) {
         Ok(at) => {

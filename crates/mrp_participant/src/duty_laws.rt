@@ -162,7 +162,8 @@ pub fn saying_nothing_changes_nothing<A: MrpApp>()
     ensures far { (near far : State A.Key A.Content) (front back coming : List (Messages A.Key A.Content))
         → IsDutyMet A.Key.cmp far near coming (front ++ (record { leave_all = false; events = [] } ∷ back))
         ↔ IsDutyMet A.Key.cmp far near coming (front ++ back) }
-    ensures received { (s : State A.Key A.Content) (now : Cs) → received_state A.Key.cmp now false [] s ≡ s }
+    ensures received { (s : State A.Key A.Content) (now : Cs)
+        → received_state A.Key.cmp now false [] s ≡ s }
 {}
 
 /// Where a sound participant and its neighbour are still, and nothing is in flight, each key is registered at

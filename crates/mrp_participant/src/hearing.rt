@@ -25,7 +25,8 @@ pub(crate) fn rows_heard<K: Copy + Ord, C: Copy>(
     leave: Cs,
 ) -> Result<Vec<Row<K, C>>, NoMemory>
     requires { AreRows K.cmp rows.now }
-    ensures heard { IfOk result (λ v. v.items ≡ heard_rows K.cmp leave_all leave rows.now events.now) }
+    ensures heard { IfOk result (λ v. v.items
+        ≡ heard_rows K.cmp leave_all leave rows.now events.now) }
     ensures are_rows { IfOk result (λ v. AreRows K.cmp v.items) }
 {
     let mut heard = Vec::new(alloc);
@@ -49,7 +50,8 @@ fn hear_beside<K: Copy + Ord, C: Copy>(
 ) -> Result<(), NoMemory>
     requires heard { Ascends K.cmp key_of heard.old.items }
     requires rows { Ascends K.cmp key_of rows.now }
-    ensures { OnOk result (heard.new.items ≡ put K.cmp key (after_hear event key content leave (row_so_far K.cmp leave_all leave rows.now heard.old.items key)) heard.old.items) }
+    ensures { OnOk result (heard.new.items
+        ≡ put K.cmp key (after_hear event key content leave (row_so_far K.cmp leave_all leave rows.now heard.old.items key)) heard.old.items) }
 {
     match place(heard.as_slice(), &key) {
         Ok(at) => {
@@ -74,7 +76,8 @@ fn first_heard<K: Copy + Ord, C: Copy>(
     leave: Cs,
 ) -> Option<Row<K, C>>
     requires { Ascends K.cmp key_of rows.now }
-    ensures { result ≡ after_hear event key content leave (option_map (begun_row leave_all leave) (find K.cmp key rows.now)) }
+    ensures { result
+        ≡ after_hear event key content leave (option_map (begun_row leave_all leave) (find K.cmp key rows.now)) }
 {
     match find_row(rows, &key) {
         Some(row) => Some(row.begun(leave_all, leave).hears(event, content, leave)),
@@ -98,7 +101,8 @@ pub(crate) fn put_heard<K: Copy + Ord, C: Copy>(
 ) -> Result<(), NoMemory>
     requires rows { Ascends K.cmp key_of rows.old.items }
     requires heard { Ascends K.cmp key_of heard.now }
-    ensures each_key { OnOk result ((k : K) → find K.cmp k rows.new.items ≡ row_so_far K.cmp leave_all leave rows.old.items heard.now k) }
+    ensures each_key { OnOk result ((k : K) → find K.cmp k rows.new.items
+        ≡ row_so_far K.cmp leave_all leave rows.old.items heard.now k) }
     ensures ascends { OnOk result (Ascends K.cmp key_of rows.new.items) }
     ensures err { OnErr result (rows.new.items ≡ rows.old.items) }
 {
@@ -115,8 +119,10 @@ fn add_unknown<K: Copy + Ord, C: Copy>(
 ) -> Result<(), NoMemory>
     requires rows { Ascends K.cmp key_of rows.old.items }
     requires heard { Ascends K.cmp key_of heard.now }
-    ensures known { OnOk result (AllByRecursion (λ u. IsSome (find K.cmp u.key rows.new.items)) heard.now) }
-    ensures each_key { OnOk result ((k : K) → first_of (find K.cmp k heard.now) (find K.cmp k rows.new.items)
+    ensures known { OnOk result (AllByRecursion
+        (λ u. IsSome (find K.cmp u.key rows.new.items)) heard.now) }
+    ensures each_key { OnOk result ((k : K)
+        → first_of (find K.cmp k heard.now) (find K.cmp k rows.new.items)
         ≡ first_of (find K.cmp k heard.now) (find K.cmp k rows.old.items)) }
     ensures ascends { OnOk result (Ascends K.cmp key_of rows.new.items) }
     ensures err { OnErr result (rows.new.items ≡ rows.old.items) }
@@ -170,7 +176,8 @@ fn next_row<K: Copy + Ord, C: Copy>(
 ) -> (Row<K, C>, usize, usize)
     requires within { (i ≤ length rows.now) × (j ≤ length heard.now) }
     requires more { (i < length rows.now) ⊎ (j < length heard.now) }
-    ensures next { merged K.cmp (drop j heard.now) (drop i rows.now) ≡ result.0 ∷ merged K.cmp (drop result.2 heard.now) (drop result.1 rows.now) }
+    ensures next { merged K.cmp (drop j heard.now) (drop i rows.now)
+        ≡ result.0 ∷ merged K.cmp (drop result.2 heard.now) (drop result.1 rows.now) }
     ensures within { (result.1 ≤ length rows.now) × (result.2 ≤ length heard.now) }
     ensures further { i + j < result.1 + result.2 }
 {

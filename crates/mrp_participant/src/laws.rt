@@ -90,7 +90,8 @@ pub fn each_key_after_due<A: MrpApp>()
 
 /// `due` fires nothing exactly where no timer is due.
 pub fn none_due<A: MrpApp>()
-    ensures { (s : State A.Key A.Content) (now : Cs) → (due_count now s ≡ 0) ↔ (is_any_due now s ≡ false) }
+    ensures { (s : State A.Key A.Content) (now : Cs) → (due_count now s
+        ≡ 0) ↔ (is_any_due now s ≡ false) }
 {}
 
 /// What `send` says of a key is the one event of its row, or nothing.

@@ -20,8 +20,10 @@ use crate::application::MrpApp;
 
 /// A new link meets both duties, and so does what its other end sees.
 pub fn a_new_link_meets_both_duties<A: MrpApp>()
-    ensures new { (near far : Cs × Cs × Bool) → AreDutiesMet A.Key.cmp (new_link {K = A.Key} {C = A.Content} near far) }
-    ensures turned { (l : Link A.Key A.Content) → AreDutiesMet A.Key.cmp l → AreDutiesMet A.Key.cmp (turned l) }
+    ensures new { (near far : Cs × Cs × Bool)
+        → AreDutiesMet A.Key.cmp (new_link {K = A.Key} {C = A.Content} near far) }
+    ensures turned { (l : Link A.Key A.Content) → AreDutiesMet A.Key.cmp l
+        → AreDutiesMet A.Key.cmp (turned l) }
 {}
 
 /// Whatever happens on a link keeps both duties.

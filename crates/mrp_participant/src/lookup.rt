@@ -34,7 +34,8 @@ pub(crate) fn replace_at<K: Copy, C: Copy>(
     new: Option<Row<K, C>>,
 )
     requires { at < length rows.old.items }
-    ensures { rows.new.items ≡ take at rows.old.items ++ cons_option new (drop (suc at) rows.old.items) }
+    ensures { rows.new.items
+        ≡ take at rows.old.items ++ cons_option new (drop (suc at) rows.old.items) }
 {
     match new {
         Some(row) => {
@@ -53,7 +54,8 @@ pub(crate) fn fill_at<K: Copy, C: Copy>(
     new: Row<K, C>,
 ) -> Result<(), NoMemory>
     requires { at ≤ length rows.old.items }
-    ensures ok { OnOk result (rows.new.items ≡ take at rows.old.items ++ cons_option (Some new) (drop at rows.old.items)) }
+    ensures ok { OnOk result (rows.new.items
+        ≡ take at rows.old.items ++ cons_option (Some new) (drop at rows.old.items)) }
     ensures err { OnErr result (rows.new.items ≡ rows.old.items) }
 {
     rows.insert(at, new)?;

@@ -24,8 +24,10 @@ impl<A: MrpApp> Participant<A> {
     pub fn receive(&mut self, now: Cs, msgs: &Msgs<A>) -> Result<Seq<A::Key>, NoMemory>
         requires { now.0 < 2 ^ 62 }
 
-        ensures after { OnOk result (self.new ≡ received_state A.Key.cmp now msgs.now.leave_all msgs.now.events self.old) }
-        ensures keys { IfOk result (λ keys. keys ≡ changed_keys A.Key.cmp A.Content.eq self.old.rows self.new.rows) }
+        ensures after { OnOk result (self.new
+            ≡ received_state A.Key.cmp now msgs.now.leave_all msgs.now.events self.old) }
+        ensures keys { IfOk result (λ keys. keys
+            ≡ changed_keys A.Key.cmp A.Content.eq self.old.rows self.new.rows) }
         ensures err { OnErr result (self.new ≡ self.old) }
     {
         let alloc = *self.rows.allocator();
@@ -77,8 +79,10 @@ fn receive_in<K: Copy + Ord, C: Copy + Eq>(
     leave: Cs,
 ) -> Result<Seq<K>, NoMemory>
     requires { AreRows K.cmp rows.old.items }
-    ensures rows { OnOk result (rows.new.items ≡ rows_after_receive K.cmp leave leave_all events.now rows.old.items) }
-    ensures keys { IfOk result (λ keys. keys ≡ changed_keys K.cmp C.eq rows.old.items (rows_after_receive K.cmp leave leave_all events.now rows.old.items)) }
+    ensures rows { OnOk result (rows.new.items
+        ≡ rows_after_receive K.cmp leave leave_all events.now rows.old.items) }
+    ensures keys { IfOk result (λ keys. keys
+        ≡ changed_keys K.cmp C.eq rows.old.items (rows_after_receive K.cmp leave leave_all events.now rows.old.items)) }
     ensures are_rows { OnOk result (AreRows K.cmp rows.new.items) }
     ensures err { OnErr result (rows.new.items ≡ rows.old.items) }
 {

@@ -47,7 +47,11 @@ fn fill<A: MrpApp>(
 ) -> Result<usize, Cut<A::Key>>
     requires { used ≤ 1500 }
     ensures bound { MatchResult result (λ more. more ≤ 1500) (λ cut. Unit {0}) }
-    ensures filled { MatchResult result (λ more. (rest : List (Row A.Key A.Content)) → first_cut leave_all A.octets used (rows_of_round leave_all n rows.now ++ rest) ≡ first_cut leave_all A.octets more rest) (λ cut. (rest : List (Row A.Key A.Content)) → first_cut leave_all A.octets used (rows_of_round leave_all n rows.now ++ rest) ≡ Some cut) }
+    ensures filled { MatchResult result (λ more. (rest : List (Row A.Key A.Content))
+        → first_cut leave_all A.octets used (rows_of_round leave_all n rows.now ++ rest)
+        ≡ first_cut leave_all A.octets more rest) (λ cut. (rest : List (Row A.Key A.Content))
+        → first_cut leave_all A.octets used (rows_of_round leave_all n rows.now ++ rest)
+        ≡ Some cut) }
 {
     let mut total = used;
     for row in rows {

@@ -29,11 +29,16 @@ impl<A: MrpApp> Participant<A> {
         requires { now.0 < 2 ^ 62 }
 
         ensures silent { IfOk result (λ sent. is_none sent ≡ is_silent self.old) }
-        ensures leave_all { IfOk result (λ sent. IfSome sent (λ msgs. msgs.leave_all ≡ is_active self.old.leave_all)) }
-        ensures events { IfOk result (λ sent. IfSome sent (λ msgs. msgs.events ≡ sent_events A.base A.octets A.Key.cmp now self.old)) }
-        ensures ascending { IfOk result (λ sent. IfSome sent (λ msgs. Ascends A.Key.cmp (λ e. e.1) msgs.events)) }
-        ensures fits { IfOk result (λ sent. IfSome sent (λ msgs. A.base + sum_by (λ e. A.octets e.2) msgs.events ≤ 1500)) }
-        ensures says { IfOk result (λ sent. IfSome sent (λ msgs. msgs.leave_all ≡ false → msgs.events ≢ [])) }
+        ensures leave_all { IfOk result (λ sent. IfSome sent (λ msgs. msgs.leave_all
+            ≡ is_active self.old.leave_all)) }
+        ensures events { IfOk result (λ sent. IfSome sent (λ msgs. msgs.events
+            ≡ sent_events A.base A.octets A.Key.cmp now self.old)) }
+        ensures ascending { IfOk result (λ sent. IfSome sent (λ msgs. Ascends A.Key.cmp
+            (λ e. e.1) msgs.events)) }
+        ensures fits { IfOk result (λ sent. IfSome sent (λ msgs. A.base + sum_by
+            (λ e. A.octets e.2) msgs.events ≤ 1500)) }
+        ensures says { IfOk result (λ sent. IfSome sent (λ msgs. msgs.leave_all ≡ false
+            → msgs.events ≢ [])) }
         ensures after { OnOk result (self.new ≡ sent_state A.base A.octets A.Key.cmp now self.old) }
         ensures stays { IfOk result (λ sent. IfNone sent (self.new ≡ self.old)) }
         ensures err { OnErr result (self.new ≡ self.old) }
@@ -92,8 +97,12 @@ fn pdu_of<A: MrpApp>(
 >
     requires { AreRows A.Key.cmp rows.now }
 
-    ensures rows { IfOk result (λ p. p.0.items ≡ filter_map (λ r. sent_row leave_all (is_taken A.base A.octets A.Key.cmp leave_all rows.now r) leave r) rows.now) }
-    ensures events { IfOk result (λ p. p.1 ≡ filter_map (λ r. sent_event leave_all (is_taken A.base A.octets A.Key.cmp leave_all rows.now r) leave r) rows.now) }
+    ensures rows { IfOk result (λ p. p.0.items
+        ≡ filter_map
+        (λ r. sent_row leave_all (is_taken A.base A.octets A.Key.cmp leave_all rows.now r) leave r) rows.now) }
+    ensures events { IfOk result (λ p. p.1
+        ≡ filter_map
+        (λ r. sent_event leave_all (is_taken A.base A.octets A.Key.cmp leave_all rows.now r) leave r) rows.now) }
     ensures are_rows { IfOk result (λ p. AreRows A.Key.cmp p.0.items) }
 
     ensures ascending { IfOk result (λ p. Ascends A.Key.cmp (λ e. e.1) p.1) }
@@ -145,7 +154,9 @@ fn events_sent<K: Copy + Ord, C: Copy>(
     cut: &Option<Cut<K>>,
     leave: Cs,
 ) -> Result<Vec<(MrpEvent, K, C)>, AllocError>
-    ensures { IfOk result (λ v. v.items ≡ filter_map (λ r. sent_event leave_all (is_in_room K.cmp leave_all cut.now r) leave r) rows.now) }
+    ensures { IfOk result (λ v. v.items
+        ≡ filter_map
+        (λ r. sent_event leave_all (is_in_room K.cmp leave_all cut.now r) leave r) rows.now) }
 {
     rows.iter()
         .filter_map(|row| row.says(leave_all, is_in_room(row, leave_all, cut), leave))
@@ -160,7 +171,9 @@ fn rows_sent<K: Copy + Ord, C: Copy>(
     cut: &Option<Cut<K>>,
     leave: Cs,
 ) -> Result<Vec<Row<K, C>>, AllocError>
-    ensures { IfOk result (λ v. v.items ≡ filter_map (λ r. sent_row leave_all (is_in_room K.cmp leave_all cut.now r) leave r) rows.now) }
+    ensures { IfOk result (λ v. v.items
+        ≡ filter_map
+        (λ r. sent_row leave_all (is_in_room K.cmp leave_all cut.now r) leave r) rows.now) }
 {
     rows.iter()
         .filter_map(|row| row.sent(leave_all, is_in_room(row, leave_all, cut), leave))

@@ -104,8 +104,10 @@ fn fire_leave_timers<K: Copy, C: Copy>(
     rows: &mut Vec<Row<K, C>>,
     now: Cs,
 ) -> Result<Vec<K>, NoMemory>
-    ensures keys { IfOk result (λ v. v.items ≡ map key_of (filter (leave_is_due now.0) rows.old.items)) }
-    ensures rows { OnOk result (rows.new.items ≡ filter_map (after_leave_due now.0) rows.old.items) }
+    ensures keys { IfOk result (λ v. v.items
+        ≡ map key_of (filter (leave_is_due now.0) rows.old.items)) }
+    ensures rows { OnOk result (rows.new.items
+        ≡ filter_map (after_leave_due now.0) rows.old.items) }
     ensures err { OnErr result (rows.new.items ≡ rows.old.items) }
 {
     let alloc = *rows.allocator();
@@ -146,7 +148,8 @@ fn rows_that_stay<K: Copy, C: Copy>(
 
 /// How many timers fire: the leave timers, and the two others where they are due.
 fn count(left: usize, leave_all: bool, periodic: bool) -> u32
-    ensures { result ≡ min (left + ((if leave_all then 1 else 0) + (if periodic then 1 else 0))) 4294967295 }
+    ensures { result
+        ≡ min (left + ((if leave_all then 1 else 0) + (if periodic then 1 else 0))) 4294967295 }
 {
     let others = u128::from(leave_all) + u128::from(periodic);
     let fired = left as u128 + others;

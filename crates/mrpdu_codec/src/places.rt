@@ -217,7 +217,8 @@ fn place_from(
     vector: usize,
 ) -> Option<usize>
     requires { length octets.now ≤ end }
-    ensures place { result ≡ place_of (places_from (length octets.now) form end octets.now) message vector }
+    ensures place { result
+        ≡ place_of (places_from (length octets.now) form end octets.now) message vector }
     ensures within { IfSome result (λ p. p ≤ end) }
 {
     let mut rest = octets;
@@ -260,6 +261,8 @@ pub fn first_value_at(form: AppForm, octets: &[u8], message: usize, vector: usiz
 /// The law of the places. They are those of the syntax tree; and there is one for each vector of the PDU,
 /// in order, at which its FirstValue stands.
 pub fn first_values_have_places()
-    ensures of_tree { (form : AppForm) (tree : MrpduTree) → IsTree form tree → first_places form (tree_octets tree) ≡ tree_places form tree }
-    ensures one_each { (form : AppForm) (octets : List ℕ) (pdu : Pdu) → Spells form octets pdu → AllStandAt octets (first_places form octets) pdu.messages }
+    ensures of_tree { (form : AppForm) (tree : MrpduTree) → IsTree form tree
+        → first_places form (tree_octets tree) ≡ tree_places form tree }
+    ensures one_each { (form : AppForm) (octets : List ℕ) (pdu : Pdu) → Spells form octets pdu
+        → AllStandAt octets (first_places form octets) pdu.messages }
 {}

@@ -15,8 +15,10 @@ use crate::pdu::MsrpKey;
 /// that they spell says, where its values stay within their fields, or as exactly the place where they are
 /// malformed: where the grammar breaks, or else the first FirstValue whose values pass the end of a field.
 pub fn reading_is_the_grammar()
-    ensures reads { (octets : List ℕ) (read : MsrpPdu) → (msrp_reading octets ≡ Ok read) ↔ Reads octets read }
-    ensures broken { (octets : List ℕ) (place : ℕ) → (msrp_reading octets ≡ Err place) ↔ MsrpBreaks octets place }
+    ensures reads { (octets : List ℕ) (read : MsrpPdu) → (msrp_reading octets
+        ≡ Ok read) ↔ Reads octets read }
+    ensures broken { (octets : List ℕ) (place : ℕ) → (msrp_reading octets
+        ≡ Err place) ↔ MsrpBreaks octets place }
 {
     mrpdu_codec::reading_is_the_grammar();
     mrpdu_codec::first_values_have_places();
@@ -32,7 +34,9 @@ pub fn stated_octets_suffice()
 /// The order of types keeps what each key says: where at most one event is of a key, the events of that key
 /// are the same before and after. `is_key` tells the key from others.
 pub fn each_key_keeps_its_event()
-    ensures { (events : List KeyEvent) (is_key : MsrpKey → Bool) → length (of_key is_key events) ≤ 1 → of_key is_key (in_type_order events) ≡ of_key is_key events }
+    ensures { (events : List KeyEvent) (is_key : MsrpKey → Bool)
+        → length (of_key is_key events) ≤ 1 → of_key is_key (in_type_order events)
+        ≡ of_key is_key events }
 {}
 
 /// The order of types has all events, each as often as it was given.
@@ -47,5 +51,6 @@ pub fn keys_are_ordered()
 
 /// Of what octets say, each content belongs to its key: a Talker states the stream of its key.
 pub fn what_is_read_belongs_to_its_keys()
-    ensures { (octets : List ℕ) (read : MsrpPdu) → Reads octets read → AllByRecursion (λ e. Belongs e.1 e.2) read.events }
+    ensures { (octets : List ℕ) (read : MsrpPdu) → Reads octets read
+        → AllByRecursion (λ e. Belongs e.1 e.2) read.events }
 {}

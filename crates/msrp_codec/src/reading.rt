@@ -327,7 +327,8 @@ pub fn decode(alloc: Global, octets: &[u8]) -> Result<MsrpPdu, DecodeErr>
 
     // What it answers holds.
     ensures reads { (read : MsrpPdu) → result ≡ Ok read → Reads octets.now read }
-    ensures broken { (place : ℕ) → result ≡ Err (errors.Malformed place) → MsrpBreaks octets.now place }
+    ensures broken { (place : ℕ) → result ≡ Err (errors.Malformed place)
+        → MsrpBreaks octets.now place }
 
     // Want of memory alone is free: else the answer is the reading, which the law `reading_is_the_grammar`
     // says is all that the octets read as and each place where they are malformed.

@@ -80,7 +80,8 @@ fn put_talker(out: &mut Vec<u8>, t: &Talker) -> Result<(), NoMemory>
 
 /// Writes the fields of a Talker and FailureInformation.
 fn put_failed(out: &mut Vec<u8>, t: &Talker, failure: &Failure) -> Result<(), NoMemory>
-    ensures { OnOk result (out.new.items ≡ out.old.items ++ (talker_octets t.now ++ failure_octets failure.now)) }
+    ensures { OnOk result (out.new.items
+        ≡ out.old.items ++ (talker_octets t.now ++ failure_octets failure.now)) }
 {
     put_talker(out, t)?;
     put_eight(out, failure.bridge.0)?;
@@ -142,7 +143,8 @@ fn put_event(
     leave_all: bool,
     event: &(MrpEvent, MsrpKey, MsrpContent),
 ) -> Result<(), NoMemory>
-    ensures { OnOk result (out.new.items ≡ out.old.items ++ vector_octets (vector_for (event_vector leave_all event.now))) }
+    ensures { OnOk result (out.new.items
+        ≡ out.old.items ++ vector_octets (vector_for (event_vector leave_all event.now))) }
 {
     first.clear();
     match event.2 {
@@ -167,7 +169,8 @@ fn put_event(
 
 /// Writes the vector of a LeaveAll alone.
 fn put_leave(out: &mut Vec<u8>, t: AttributeType) -> Result<(), NoMemory>
-    ensures { OnOk result (out.new.items ≡ out.old.items ++ vector_octets (vector_for (leave_vector t))) }
+    ensures { OnOk result (out.new.items
+        ≡ out.old.items ++ vector_octets (vector_for (leave_vector t))) }
 {
     match t {
         AttributeType::Advertise => put_vector(out, true, &[0; 25], &[], &[]),
@@ -186,8 +189,10 @@ fn put_if_typed(
     t: AttributeType,
     event: &(MrpEvent, MsrpKey, MsrpContent),
 ) -> Result<bool, NoMemory>
-    ensures octets { OnOk result (out.new.items ≡ out.old.items ++ (if has_type t event.now then vector_octets (vector_for (event_vector leave_all event.now)) else [])) }
-    ensures leave { IfOk result (λ leave. leave ≡ if has_type t event.now then false else leave_all) }
+    ensures octets { OnOk result (out.new.items
+        ≡ out.old.items ++ (if has_type t event.now then vector_octets (vector_for (event_vector leave_all event.now)) else [])) }
+    ensures leave { IfOk result (λ leave. leave
+        ≡ if has_type t event.now then false else leave_all) }
 {
     if !has_type(t, &event.2) {
         return Ok(leave_all);
@@ -204,7 +209,8 @@ fn put_vectors(
     t: AttributeType,
     events: &[(MrpEvent, MsrpKey, MsrpContent)],
 ) -> Result<(), NoMemory>
-    ensures { OnOk result (out.new.items ≡ out.old.items ++ vectors_octets (vectors_for (type_vectors leave_all t (of_type t events.now)))) }
+    ensures { OnOk result (out.new.items
+        ≡ out.old.items ++ vectors_octets (vectors_for (type_vectors leave_all t (of_type t events.now)))) }
 {
     let mut leave = leave_all;
     for event in events {
@@ -257,7 +263,8 @@ fn put_type(
 ) -> Result<(), NoMemory>
     requires count { n ≡ length (of_type t events.now) }
     requires few { n ≤ 1500 }
-    ensures { OnOk result (out.new.items ≡ out.old.items ++ messages_octets (map (message_for Msrp) (type_messages leave_all events.now t))) }
+    ensures { OnOk result (out.new.items
+        ≡ out.old.items ++ messages_octets (map (message_for Msrp) (type_messages leave_all events.now t))) }
 {
     mrpdu_codec::written_list_size();
     mrpdu_codec::numbers_are_read_back();
@@ -280,7 +287,8 @@ fn written(
     events: &[(MrpEvent, MsrpKey, MsrpContent)],
 ) -> Result<Vec<u8>, NoMemory>
     requires { stated_octets events.now ≤ 1500 }
-    ensures octets { IfOk result (λ v. v.items ≡ msrp_spelling (record { leave_all = leave_all; events = events.now })) }
+    ensures octets { IfOk result (λ v. v.items
+        ≡ msrp_spelling (record { leave_all = leave_all; events = events.now })) }
     ensures in_range { OnOk result (AllByRecursion (λ x. IsFirst (value_of x.1 x.2)) events.now) }
 {
     let counts = counts_of(events);

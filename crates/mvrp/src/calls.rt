@@ -70,7 +70,8 @@ impl MvrpSide {
         requires now { now.0 < 2 ^ 62 }
         requires port { IsLinkPort port (length self.old.parts) }
         ensures after { OnOk result (self.new ≡ due_vlans now (place_of port) self.old) }
-        ensures count { IfOk result (λ n. IfSome (slice_get self.old.parts (place_of port)) (λ s. n ≡ count_of (due_count now s))) }
+        ensures count { IfOk result (λ n. IfSome (slice_get self.old.parts (place_of port))
+            (λ s. n ≡ count_of (due_count now s))) }
         ensures err { OnErr result (self.new ≡ self.old) }
     {
         self.keeps();
@@ -90,7 +91,8 @@ impl MvrpSide {
     pub fn leave_now(&mut self, port: PortNo, vid: Vid) -> Result<bool, NoMemory>
         requires { IsLinkPort port (length self.old.parts) }
         ensures after { OnOk result (self.new ≡ left_vlans (place_of port) vid self.old) }
-        ensures was { IfOk result (λ b. IfSome (slice_get self.old.parts (place_of port)) (λ s. b ≡ is_leaving_in (find nat_cmp vid s.rows))) }
+        ensures was { IfOk result (λ b. IfSome (slice_get self.old.parts (place_of port))
+            (λ s. b ≡ is_leaving_in (find nat_cmp vid s.rows))) }
         ensures err { OnErr result (self.new ≡ self.old) }
     {
         self.keeps();
@@ -172,8 +174,10 @@ impl MvrpSide {
         requires place { at < length self.old.parts }
         requires kept { IsKept self.old }
         requires rows { AreRows nat_cmp part.rows }
-        requires declared { (s : Part) → slice_get self.old.parts at ≡ Some s → SameDeclared s part }
-        requires told { (s : Part) → slice_get self.old.parts at ≡ Some s → TellsEach told.now s part }
+        requires declared { (s : Part) → slice_get self.old.parts at ≡ Some s
+            → SameDeclared s part }
+        requires told { (s : Part) → slice_get self.old.parts at ≡ Some s
+            → TellsEach told.now s part }
         ensures ok { OnOk result (self.new ≡ retold at part told.now self.old) }
         ensures err { OnErr result (self.new ≡ self.old) }
     {
@@ -234,7 +238,8 @@ fn told_where(was: bool, vids: &[Vid]) -> &[Vid]
 
 // The VIDs that the application declares after it has declared one or withdrawn it.
 fn own_after(own: &Dirty<Vid>, vid: Vid, declared: bool) -> Result<Dirty<Vid>, NoMemory>
-    ensures { IfOk result (λ d. d ≡ (if declared then marked nat_cmp vid own.now else cleared nat_cmp vid own.now)) }
+    ensures { IfOk result (λ d. d
+        ≡ (if declared then marked nat_cmp vid own.now else cleared nat_cmp vid own.now)) }
 {
     let mut after = own.copy()?;
     if declared {

@@ -25,19 +25,25 @@ use srp_base::Vid;
 
 /// A new side keeps what every side keeps, of VIDs alone.
 pub fn a_new_side_is_proper()
-    ensures { (leave_time : Cs) (periodic : Bool) (ports : List PortSetup) → IsProper (new_vlans leave_time periodic ports) }
+    ensures { (leave_time : Cs) (periodic : Bool) (ports : List PortSetup)
+        → IsProper (new_vlans leave_time periodic ports) }
 {}
 
 /// Each call on a port keeps it.
 pub fn every_call_keeps_a_side_proper()
     ensures receive { (now : Cs) (at : ℕ) (pdu : MvrpPdu) (side : Vlans)
         → AreVids pdu.events → IsProper side → IsProper (received_vlans now at pdu side) }
-    ensures due { (now : Cs) (at : ℕ) (side : Vlans) → IsProper side → IsProper (due_vlans now at side) }
-    ensures leave_now { (at vid : ℕ) (side : Vlans) → IsProper side → IsProper (left_vlans at vid side) }
-    ensures leaveall_now { (now : Cs) (at : ℕ) (side : Vlans) → IsProper side → IsProper (leave_all_vlans now at side) }
-    ensures periodic_now { (at : ℕ) (side : Vlans) → IsProper side → IsProper (periodic_vlans at side) }
+    ensures due { (now : Cs) (at : ℕ) (side : Vlans) → IsProper side
+        → IsProper (due_vlans now at side) }
+    ensures leave_now { (at vid : ℕ) (side : Vlans) → IsProper side
+        → IsProper (left_vlans at vid side) }
+    ensures leaveall_now { (now : Cs) (at : ℕ) (side : Vlans) → IsProper side
+        → IsProper (leave_all_vlans now at side) }
+    ensures periodic_now { (at : ℕ) (side : Vlans) → IsProper side
+        → IsProper (periodic_vlans at side) }
     ensures spoil { (at : ℕ) (side : Vlans) → IsProper side → IsProper (spoilt_vlans at side) }
-    ensures send { (now : Cs) (at : ℕ) (side : Vlans) → IsProper side → IsProper (sent_vlans now at side) }
+    ensures send { (now : Cs) (at : ℕ) (side : Vlans) → IsProper side
+        → IsProper (sent_vlans now at side) }
 {
     each_key_awaits::<Vid>();
     rows_stay_rows::<MvrpApp>();

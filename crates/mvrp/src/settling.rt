@@ -25,7 +25,8 @@ impl MvrpSide {
         requires now { now.0 < 2 ^ 62 }
         requires port { IsLinkPort port (length self.old.parts) }
         ensures after { OnOk result (self.new ≡ settled_vlans (place_of port) self.old) }
-        ensures count { IfOk result (λ n. n ≡ count_of (length (awaiting_at (place_of port) self.old))) }
+        ensures count { IfOk result (λ n. n
+            ≡ count_of (length (awaiting_at (place_of port) self.old))) }
         ensures err { OnErr result (self.new ≡ self.old) }
     {
         what_is_asked_holds::<MvrpApp>();
@@ -76,7 +77,8 @@ fn settle_all(
     vids: &[Vid],
 ) -> Result<(), NoMemory>
     requires { at < length parts.now }
-    ensures { OnOk result (part.new ≡ settled_part (rule_at at own.now parts.now) vids.now part.old) }
+    ensures { OnOk result (part.new
+        ≡ settled_part (rule_at at own.now parts.now) vids.now part.old) }
 {
     for vid in vids {
         let is_flat = is_flat_at(alloc, parts, own, at, *vid)?;
@@ -119,7 +121,8 @@ fn registered_places(
     own: &Dirty<Vid>,
     vid: Vid,
 ) -> Result<Vec<bool>, NoMemory>
-    ensures { IfOk result (λ v. v.items ≡ is_awaiting nat_cmp vid own.now ∷ map (registers vid) parts.now) }
+    ensures { IfOk result (λ v. v.items
+        ≡ is_awaiting nat_cmp vid own.now ∷ map (registers vid) parts.now) }
 {
     let mut places = Vec::with_capacity(alloc, parts.len() + 1)?;
     places.push(own.awaits(vid))?;

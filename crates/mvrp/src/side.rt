@@ -136,7 +136,8 @@ fn new_parts(
 ) -> Result<Vec<Participant<MvrpApp>>, NoMemory>
     requires leave_time { IsTime leave_time }
     requires periods { AllByRecursion (λ p. IsTime p.period) ports.now }
-    ensures { IfOk result (λ v. v.items ≡ map (λ p. new_state p.period leave_time periodic) ports.now) }
+    ensures { IfOk result (λ v. v.items
+        ≡ map (λ p. new_state p.period leave_time periodic) ports.now) }
 {
     let mut parts = Vec::with_capacity(alloc, ports.len())?;
     for port in ports {

@@ -30,7 +30,8 @@ pub fn runs_are_maximal()
 
 /// What is written of VIDs reads as what was written, and has at most 1,500 octets.
 pub fn what_is_written_is_read()
-    ensures reads { (read : MvrpPdu) → IsWritable read → AreVids read.events → mvrp_reading (mvrp_spelling read) ≡ Ok read }
+    ensures reads { (read : MvrpPdu) → IsWritable read → AreVids read.events
+        → mvrp_reading (mvrp_spelling read) ≡ Ok read }
     ensures few { (read : MvrpPdu) → IsWritable read → length (mvrp_spelling read) ≤ 1500 }
 {
     mrpdu_codec::written_is_read();
@@ -39,5 +40,6 @@ pub fn what_is_written_is_read()
 
 /// What octets say has events of VIDs alone, 1 to 4,094 (IEEE Std 802.1Q-2018, 9.6).
 pub fn what_is_read_has_vids()
-    ensures { (octets : List ℕ) (read : MvrpPdu) → mvrp_reading octets ≡ Ok read → AreVids read.events }
+    ensures { (octets : List ℕ) (read : MvrpPdu) → mvrp_reading octets ≡ Ok read
+        → AreVids read.events }
 {}

@@ -25,7 +25,8 @@ use world_core::laws::{a_scenario_begins_well, every_event_keeps_it, every_momen
 /// tree's walks, has declared it (IEEE Std 802.1Q-2018, 11.2); so both sides that `vlans_match` answers are equal.
 pub fn vlans_are_those_declared_behind()
     ensures law { (w : WorldState) → IsKeptWorld w → IsAtRest w → VlansMatch w }
-    ensures sides { (w : WorldState) (p : EgressPort) (vid : ℕ) → IsKeptWorld w → IsAtRest w → HasPort w.tree p
+    ensures sides { (w : WorldState) (p : EgressPort) (vid : ℕ) → IsKeptWorld w → IsAtRest w
+        → HasPort w.tree p
         → is_registered w vid p ≡ is_declared_behind w vid p }
 {
     a_still_link_registers_what_is_declared::<MvrpApp>();
@@ -36,7 +37,8 @@ pub fn vlans_are_those_declared_behind()
 /// At every moment of every legal run of a scenario at which the network is at rest, a VID is registered at a port exactly
 /// where a station behind the port has declared it.
 pub fn vlans_match_whenever_at_rest()
-    ensures { (plan : Plan) (ticks : List Tick) (end w : WorldState) → KeepsRules plan → AreLegalTicks plan ticks end
+    ensures { (plan : Plan) (ticks : List Tick) (end w : WorldState) → KeepsRules plan
+        → AreLegalTicks plan ticks end
         → IsMoment plan ticks w → IsAtRest w → VlansMatch w }
 {
     vlans_are_those_declared_behind();
@@ -46,7 +48,8 @@ pub fn vlans_match_whenever_at_rest()
 /// At every moment of every legal run of a scenario, at rest or not, both ends of each link meet their duty: what the
 /// neighbour's registrar will hold, once it has heard all that is in flight, is what this end declares.
 pub fn duties_are_met_in_every_run()
-    ensures { (plan : Plan) (ticks : List Tick) (end w : WorldState) → KeepsRules plan → AreLegalTicks plan ticks end
+    ensures { (plan : Plan) (ticks : List Tick) (end w : WorldState) → KeepsRules plan
+        → AreLegalTicks plan ticks end
         → IsMoment plan ticks w → AreVlanDutiesMet w }
 {
     every_moment_keeps_it();
@@ -56,7 +59,8 @@ pub fn duties_are_met_in_every_run()
 /// order the ports make their steps: where the network is then at rest, a VID is registered at a port exactly where a
 /// station behind the port has declared it.
 pub fn vlans_match_after_every_list_of_events()
-    ensures { (plan : Plan) (events : List WorldEvent) → KeepsRules plan → CanAllHappen events (world_of plan)
+    ensures { (plan : Plan) (events : List WorldEvent) → KeepsRules plan
+        → CanAllHappen events (world_of plan)
         → AllByRecursion NamesVids events → IsAtRest (world_after events (world_of plan))
         → VlansMatch (world_after events (world_of plan)) }
 {

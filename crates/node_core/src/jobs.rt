@@ -35,7 +35,8 @@ impl Node {
 
 // Where the node is busy, a Work for each of these PDUs, Due and Settle.
 fn steps_where(alloc: Global, is_busy: bool, wires: &[Wire]) -> Result<Vec<PortStep>, AllocError>
-    ensures { IfOk result (λ v. v.items ≡ (if is_busy then works wires.now ++ (Due ∷ Settle ∷ []) else [])) }
+    ensures { IfOk result (λ v. v.items
+        ≡ (if is_busy then works wires.now ++ (Due ∷ Settle ∷ []) else [])) }
 {
     if is_busy {
         busy_steps(alloc, wires)

@@ -50,9 +50,12 @@ pub fn links_keep_a_node_proper()
     ensures taken { (at : ℕ) (s : NodeState) → IsProperNode s → IsProperNode (with_outbox at [] s) }
     ensures carried { (at : ℕ) (wires : List Wire) (s : NodeState)
         → AreShort wires → IsProperNode s → IsProperNode (with_carried at wires s) }
-    ensures lost { (at index : ℕ) (s : NodeState) → IsProperNode s → IsProperNode (lost_at at index s) }
-    ensures repeated { (at index : ℕ) (s : NodeState) → IsProperNode s → IsProperNode (repeated_at at index s) }
-    ensures spoilt { (app : App) (at : ℕ) (s : NodeState) → IsProperNode s → IsProperNode (spoilt_at app at s) }
+    ensures lost { (at index : ℕ) (s : NodeState) → IsProperNode s
+        → IsProperNode (lost_at at index s) }
+    ensures repeated { (at index : ℕ) (s : NodeState) → IsProperNode s
+        → IsProperNode (repeated_at at index s) }
+    ensures spoilt { (app : App) (at : ℕ) (s : NodeState) → IsProperNode s
+        → IsProperNode (spoilt_at app at s) }
 {
     every_call_keeps_a_side_proper();
 }
@@ -60,8 +63,10 @@ pub fn links_keep_a_node_proper()
 /// A step keeps what a node is, and how many link ports it has; and no step but the clock's moves the clock.
 pub fn steps_keep_what_a_node_is()
     ensures kind { (event : NodeEvent) (s : NodeState) → (node_step event s).0.kind ≡ s.kind }
-    ensures ports { (event : NodeEvent) (s : NodeState) → ports_of (node_step event s).0 ≡ ports_of s }
+    ensures ports { (event : NodeEvent) (s : NodeState) → ports_of (node_step event s).0
+        ≡ ports_of s }
     ensures clock { (port : PortNo) (step : PortStep) (s : NodeState)
         → (node_step (NodeEvent.Port port step) s).0.clock ≡ s.clock }
-    ensures asked { (request : AppRequest) (s : NodeState) → (node_step (NodeEvent.Request request) s).0.clock ≡ s.clock }
+    ensures asked { (request : AppRequest) (s : NodeState)
+        → (node_step (NodeEvent.Request request) s).0.clock ≡ s.clock }
 {}

@@ -57,7 +57,8 @@ impl Node {
     pub fn lose(&mut self, port: PortNo, index: u32) -> bool
         requires { IsLinkPort port (ports_of self.old) }
         ensures done { result ≡ has_index (place_of port) index self.old }
-        ensures after { self.new ≡ (if result then lost_at (place_of port) index self.old else self.old) }
+        ensures after { self.new
+            ≡ (if result then lost_at (place_of port) index self.old else self.old) }
     {
         let at = usize::from(port.0) - 1;
         if self.inboxes[at].len() <= index as usize {
@@ -74,7 +75,8 @@ impl Node {
     pub fn repeat(&mut self, port: PortNo, index: u32) -> Result<bool, NoMemory>
         requires { IsLinkPort port (ports_of self.old) }
         ensures done { IfOk result (λ done. done ≡ has_index (place_of port) index self.old) }
-        ensures after { IfOk result (λ done. self.new ≡ (if done then repeated_at (place_of port) index self.old else self.old)) }
+        ensures after { IfOk result (λ done. self.new
+            ≡ (if done then repeated_at (place_of port) index self.old else self.old)) }
         ensures err { OnErr result (self.new ≡ self.old) }
     {
         let at = usize::from(port.0) - 1;

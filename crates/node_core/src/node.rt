@@ -138,7 +138,8 @@ impl Node {
     /// The application of the PDU with this index in a port's inbox, counted from 0; None exactly where no PDU has it.
     pub fn app_at(&self, port: PortNo, index: u32) -> Option<App>
         requires { IsLinkPort port (ports_of self.now) }
-        ensures { result ≡ option_map (λ w. w.app) (slice_get (box_at (place_of port) self.now.inboxes) index) }
+        ensures { result
+            ≡ option_map (λ w. w.app) (slice_get (box_at (place_of port) self.now.inboxes) index) }
     {
         wire_at(&self.inboxes[usize::from(port.0) - 1], index as usize).map(|wire| wire.app)
     }

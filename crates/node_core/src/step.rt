@@ -43,7 +43,8 @@ impl Node {
 
     // What the application asks for.
     fn request(&mut self, request: AppRequest) -> Result<StepReply, NoMemory>
-        ensures ok { IfOk result (λ reply. on_vlans self.old (requested request self.old.vlans) ≡ (self.new, reply)) }
+        ensures ok { IfOk result (λ reply. on_vlans self.old (requested request self.old.vlans)
+            ≡ (self.new, reply)) }
         ensures err { OnErr result (self.new ≡ self.old) }
     {
         requested_of(&mut self.mvrp, request)
@@ -52,7 +53,8 @@ impl Node {
     // A step of a link port.
     fn port_step(&mut self, port: PortNo, step: PortStep) -> Result<StepReply, NoMemory>
         requires { IsLinkPort port (ports_of self.old) }
-        ensures ok { IfOk result (λ reply. port_step step (place_of port) self.old ≡ (self.new, reply)) }
+        ensures ok { IfOk result (λ reply. port_step step (place_of port) self.old
+            ≡ (self.new, reply)) }
         ensures err { OnErr result (self.new ≡ self.old) }
     {
         match step {
@@ -79,7 +81,9 @@ impl Node {
     // Takes the front PDU of a port's inbox.
     fn work(&mut self, port: PortNo) -> Result<StepReply, NoMemory>
         requires { IsLinkPort port (ports_of self.old) }
-        ensures ok { IfOk result (λ reply. worked (place_of port) (box_at (place_of port) self.old.inboxes) self.old ≡ (self.new, reply)) }
+        ensures ok { IfOk result
+            (λ reply. worked (place_of port) (box_at (place_of port) self.old.inboxes) self.old
+            ≡ (self.new, reply)) }
         ensures err { OnErr result (self.new ≡ self.old) }
     {
         let at = usize::from(port.0) - 1;
@@ -266,7 +270,8 @@ fn stepped(
 ) -> Result<StepReply, NoMemory>
     requires now { now.0 < 2 ^ 62 }
     requires port { IsLinkPort port (length side.old.parts) }
-    ensures ok { IfOk result (λ reply. vlans_step step now (place_of port) side.old ≡ (side.new, reply)) }
+    ensures ok { IfOk result (λ reply. vlans_step step now (place_of port) side.old
+        ≡ (side.new, reply)) }
     ensures err { OnErr result (side.new ≡ side.old) }
     ensures ports { length side.new.parts ≡ length side.old.parts }
     ensures kept { IsKept side.new }

@@ -25,7 +25,8 @@ pub(crate) fn wanted(
 ) -> Result<(Vec<Entry>, Vec<Entry>), NoMemory>
     requires ascending { IsAscending entries.now }
     requires same { IsPermutation entries.now order.now }
-    ensures decided { IfOk result (λ r. r.0.items ≡ decided now.0 caps.now (with_want entries.now want)) }
+    ensures decided { IfOk result (λ r. r.0.items
+        ≡ decided now.0 caps.now (with_want entries.now want)) }
     ensures same { IfOk result (λ r. IsPermutation r.0.items r.1.items) }
 {
     let known = find_entry(entries, want.stream).is_some();
@@ -45,7 +46,8 @@ pub(crate) fn unwant(
 )
     requires ascending { IsAscending entries.old.items }
     requires same { IsPermutation entries.old.items order.old.items }
-    ensures decided { entries.new.items ≡ decided now.0 caps.now (without entries.old.items stream) }
+    ensures decided { entries.new.items
+        ≡ decided now.0 caps.now (without entries.old.items stream) }
     ensures same { IsPermutation entries.new.items order.new.items }
 {
     take_out(entries, stream);

@@ -31,7 +31,8 @@ pub fn one_decision()
 pub fn one_outcome()
     ensures decides { (now : ℕ) (caps : Caps) (entries : List Entry) → AreOfDifferentStreams entries
         → Decides now caps entries (decided now caps entries) }
-    ensures only { (now : ℕ) (caps : Caps) (before after : List Entry) → AreOfDifferentStreams before
+    ensures only { (now : ℕ) (caps : Caps) (before after : List Entry)
+        → AreOfDifferentStreams before
         → Decides now caps before after → after ≡ decided now caps before }
 {
     importance_is_an_order();
@@ -52,7 +53,8 @@ pub fn every_step_keeps_a_book()
 
 /// The booked slopes of every ledger stay within its caps, and so does what every fit carries.
 pub fn bookings_are_within_caps()
-    ensures class_a { (book : Book) → IsKept book → booked_slope book.entries A ≤ book.caps.class_a }
+    ensures class_a { (book : Book) → IsKept book
+        → booked_slope book.entries A ≤ book.caps.class_a }
     ensures both { (book : Book) → IsKept book
         → booked_slope book.entries A + booked_slope book.entries B ≤ book.caps.both }
     ensures fits { (book : Book) (now : ℕ) (want : Want) → IsKept book

@@ -48,7 +48,8 @@ impl Ledger {
     /// its moment is 0.
     pub fn new(alloc: Global, rate: Rate, delta_a: Percent, delta_b: Percent) -> Ledger
         requires { delta_a + delta_b ≤ 90 }
-        ensures { result ≡ record { caps = caps_of rate delta_a delta_b; moment = 0; entries = [] } }
+        ensures { result
+            ≡ record { caps = caps_of rate delta_a delta_b; moment = 0; entries = [] } }
     {
         Ledger {
             caps: Caps::new(rate, delta_a, delta_b),
@@ -66,10 +67,13 @@ impl Ledger {
 
         ensures decided { OnOk result (Decides now.0 self.old.caps (with_want self.old.entries want) self.new.entries) }
         ensures book { OnOk result (self.new ≡ wanted_book now.0 want self.old) }
-        ensures rest { OnOk result (self.new ≡ record self.old { moment = now.0; entries = self.new.entries }) }
+        ensures rest { OnOk result (self.new
+            ≡ record self.old { moment = now.0; entries = self.new.entries }) }
 
-        ensures booked { IfOk result (λ c. c.booked ≡ booked_only_in self.new.entries self.old.entries) }
-        ensures dropped { IfOk result (λ c. c.dropped ≡ booked_only_in self.old.entries self.new.entries) }
+        ensures booked { IfOk result (λ c. c.booked
+            ≡ booked_only_in self.new.entries self.old.entries) }
+        ensures dropped { IfOk result (λ c. c.dropped
+            ≡ booked_only_in self.old.entries self.new.entries) }
 
         // Of its own stream this want is kept, of each other stream the want that it had.
         ensures kept { OnOk result ((s : StreamId) → want_of self.new.entries s
@@ -189,7 +193,8 @@ impl Ledger {
     pub fn changes_since(&self, before: &[Entry]) -> Result<Changed, NoMemory>
         requires { IsAscending before.now }
         ensures booked { IfOk result (λ c. c.booked ≡ booked_only_in self.now.entries before.now) }
-        ensures dropped { IfOk result (λ c. c.dropped ≡ booked_only_in before.now self.now.entries) }
+        ensures dropped { IfOk result (λ c. c.dropped
+            ≡ booked_only_in before.now self.now.entries) }
         ensures same { IfOk result (λ c. ((c.booked ≡ []) × (c.dropped ≡ []))
             ↔ (booked_of self.now.entries ≡ booked_of before.now)) }
     {
@@ -200,8 +205,10 @@ impl Ledger {
 
     /// What changed in the booked set since it was that of this ledger.
     pub fn changes_after(&self, before: &Ledger) -> Result<Changed, NoMemory>
-        ensures booked { IfOk result (λ c. c.booked ≡ booked_only_in self.now.entries before.now.entries) }
-        ensures dropped { IfOk result (λ c. c.dropped ≡ booked_only_in before.now.entries self.now.entries) }
+        ensures booked { IfOk result (λ c. c.booked
+            ≡ booked_only_in self.now.entries before.now.entries) }
+        ensures dropped { IfOk result (λ c. c.dropped
+            ≡ booked_only_in before.now.entries self.now.entries) }
     {
         self.stands();
         before.stands();

@@ -32,5 +32,6 @@ pub fn leave_timer_starts()
     ensures starts { (event : RegEvent) (s : Registrar)
         → starts_leave_timer event s ≡ true
         → (s ≡ Held) × (next event s ≡ Leaving) }
-    ensures only { (event : RegEvent) → next event Held ≡ Leaving → starts_leave_timer event Held ≡ true }
+    ensures only { (event : RegEvent) → next event Held ≡ Leaving
+        → starts_leave_timer event Held ≡ true }
 {}

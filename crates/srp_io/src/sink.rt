@@ -76,7 +76,8 @@ impl MemSink {
     /// A sink that holds nothing yet. `step` is at least 1.
     pub fn new(alloc: Global, step: usize, fails: Vec<u64>) -> MemSink
         requires { 1 ≤ step }
-        ensures { result ≡ record { octets = []; step = step; fails = fails.items; calls = 0; faults = 0 } }
+        ensures { result
+            ≡ record { octets = []; step = step; fails = fails.items; calls = 0; faults = 0 } }
     {
         MemSink {
             bytes: Vec::new(alloc),

@@ -70,7 +70,8 @@ impl MemSource {
     /// A source of these octets. `step` is at least 1.
     pub fn new(bytes: Vec<u8>, step: usize, fails: Vec<u64>) -> MemSource
         requires { 1 ≤ step }
-        ensures { result ≡ record { octets = bytes.items; step = step; fails = fails.items; calls = 0; faults = 0 } }
+        ensures { result
+            ≡ record { octets = bytes.items; step = step; fails = fails.items; calls = 0; faults = 0 } }
     {
         MemSource {
             bytes,
@@ -157,7 +158,9 @@ impl Source for PlainSource {
         ensures never_falls { 0 ≤ 0 }
 
         ensures never_fails { IsOk result }
-        ensures gives { IfOk result (λ n. (n ≡ min (min self.old.step (length buf.old)) (length self.old.octets)) × (self.new ≡ record self.old { octets = drop n self.old.octets })) }
+        ensures gives { IfOk result (λ n. (n
+            ≡ min (min self.old.step (length buf.old)) (length self.old.octets)) × (self.new
+            ≡ record self.old { octets = drop n self.old.octets })) }
     {
         let count = give(&self.bytes[self.at..], self.step, buf);
         self.at += count;

@@ -95,7 +95,8 @@ pub fn read_all<S: Source>(alloc: Global, source: &mut S, limit: usize) -> Resul
 pub fn write_whole<K: Sink>(sink: &mut K, text: &[u8]) -> Result<(), WriteErr>
     ensures whole { OnOk result (Appends (K.held sink.old) (K.held sink.new) text.now) }
 
-    ensures part { IfErr result (λ e. Appends (K.held sink.old) (K.held sink.new) (take (written_of e) text.now)) }
+    ensures part { IfErr result
+        (λ e. Appends (K.held sink.old) (K.held sink.new) (take (written_of e) text.now)) }
     ensures short { IfErr result (λ e. written_of e < length text.now) }
     ensures fault { IfErr result (λ e. IsFault e → Rose (K.faults sink.old) (K.faults sink.new)) }
     // The count rises only with a fault.

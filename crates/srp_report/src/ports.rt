@@ -28,7 +28,8 @@ pub(crate) fn put_ports(
     world: &World,
     ticks: &[Tick],
 ) -> Result<(), NoMemory>
-    ensures { OnOk result (out.new.items ≡ out.old.items ++ port_parts scenario.now world.now ticks.now) }
+    ensures { OnOk result (out.new.items
+        ≡ out.old.items ++ port_parts scenario.now world.now ticks.now) }
 {
     world.keeps();
     let alloc = *out.allocator();
@@ -48,7 +49,8 @@ fn put_each(
 ) -> Result<(), NoMemory>
     requires tallies { AreTallies world.now.tree ticks.now tallies.now }
     requires ports { AllByRecursion (HasPort world.now.tree) ports.now }
-    ensures { OnOk result (out.new.items ≡ out.old.items ++ flat_map (port_part scenario.now world.now ticks.now) ports.now) }
+    ensures { OnOk result (out.new.items
+        ≡ out.old.items ++ flat_map (port_part scenario.now world.now ticks.now) ports.now) }
 {
     for i in 0..ports.len() {
         put_port(out, scenario, world, ticks, tallies, ports[i])?;
@@ -82,7 +84,8 @@ fn put_port(
 ) -> Result<(), NoMemory>
     requires tallies { AreTallies world.now.tree ticks.now tallies.now }
     requires port { HasPort world.now.tree at }
-    ensures { OnOk result (out.new.items ≡ out.old.items ++ port_part scenario.now world.now ticks.now at) }
+    ensures { OnOk result (out.new.items
+        ≡ out.old.items ++ port_part scenario.now world.now ticks.now at) }
 {
     let alloc = *out.allocator();
     let port = port_name(alloc, scenario, world.tree(), at)?;
@@ -99,7 +102,8 @@ fn put_registered(
     at: EgressPort,
 ) -> Result<(), NoMemory>
     requires { HasPort world.now.tree at }
-    ensures { OnOk result (out.new.items ≡ out.old.items ++ registered_lines port.now at world.now) }
+    ensures { OnOk result (out.new.items
+        ≡ out.old.items ++ registered_lines port.now at world.now) }
 {
     world.keeps();
     let node = world.node(at.node);

@@ -25,7 +25,8 @@ fn read_output<I: Source>(
     command: Command,
     source: &mut I,
 ) -> Result<CommandOutput, Cause>
-    ensures output { IfOk result (λ o. IsOutput command (I.left source.old) (I.left source.new) o.journal.ticks o.text) }
+    ensures output { IfOk result
+        (λ o. IsOutput command (I.left source.old) (I.left source.new) o.journal.ticks o.text) }
     ensures only { IfErr result LacksOutput }
 
     ensures read_fault { result ≡ Err Cause.ReadFault

@@ -25,7 +25,8 @@ pub fn more_important(now: Cs, x: &Entry, y: &Entry) -> bool
 
 /// Whether `x` was booked before `y`, or at one moment and has the lower StreamID.
 fn is_older(now: Cs, x: &Entry, y: &Entry) -> bool
-    ensures { result ≡ is_lt (ordering_then (nat_cmp (moment_or now.0 x.now.since) (moment_or now.0 y.now.since))
+    ensures { result
+        ≡ is_lt (ordering_then (nat_cmp (moment_or now.0 x.now.since) (moment_or now.0 y.now.since))
         (nat_cmp x.now.want.stream.0 y.now.want.stream.0)) }
 {
     let (mine, other) = (x.since.unwrap_or(now), y.since.unwrap_or(now));

@@ -105,7 +105,8 @@ pub fn each_within<T, B: Drop, W: Fn(&B) -> u64, F: Fn(usize, &T) -> Result<Opti
 ) -> Result<Vec<B>, RuleErr>
     requires weigh { W.IsAlwaysCallable weigh }
     requires read { F.IsAlwaysCallable read }
-    ensures { (weight : B → ℕ) (said : ℕ → T → Option B) → KeysAs (W.post weigh) weight → ReadsAs (λ x. x) (F.post read) said
+    ensures { (weight : B → ℕ) (said : ℕ → T → Option B) → KeysAs (W.post weigh) weight
+        → ReadsAs (λ x. x) (F.post read) said
         → Reads (λ v. v.items) result (each_within_spec rule weight said 1 most entries.now) }
 {
     let mut values = Vec::new(alloc);
@@ -144,7 +145,8 @@ pub fn each_table_within<
 ) -> Result<Vec<B>, RuleErr>
     requires weigh { W.IsAlwaysCallable weigh }
     requires read { F.IsAlwaysCallable read }
-    ensures { (weight : B → ℕ) (said : ℕ → Members → Option B) → KeysAs (W.post weigh) weight → ReadsAs table_view (F.post read) said
+    ensures { (weight : B → ℕ) (said : ℕ → Members → Option B) → KeysAs (W.post weigh) weight
+        → ReadsAs table_view (F.post read) said
         → Reads (λ v. v.items) result (each_within_spec rule weight said 1 most (map (λ t. table_view t.now) tables.now)) }
 {
     each_within(alloc, rule, most, tables, weigh, |n, table| read(n, table))

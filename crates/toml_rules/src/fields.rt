@@ -93,7 +93,9 @@ fn is_known(key: &str, known: &[&str]) -> bool
 
 /// Whether each key of a table passes.
 fn all_known(table: &Table, known: &[&str]) -> bool
-    ensures { result ≡ list_all (λ k. is_known_spec (map (λ w. w.now) known.now) (string_bytes k)) (keys table.now) }
+    ensures { result
+        ≡ list_all (λ k. is_known_spec (map
+        (λ w. w.now) known.now) (string_bytes k)) (keys table.now) }
 {
     table.keys().all(|key| is_known(key.as_str(), known))
 }
@@ -112,7 +114,8 @@ pub fn tables<'a>(
     table: &'a Table,
     key: &str,
 ) -> Result<Option<Vec<&'a Table>>, NoMemory>
-    ensures { IfOk result (λ found. option_map (λ v. map (λ t. table_view t.now) v.items) found ≡ tables_spec key.now (table_view table.now)) }
+    ensures { IfOk result (λ found. option_map (λ v. map (λ t. table_view t.now) v.items) found
+        ≡ tables_spec key.now (table_view table.now)) }
 {
     match value_at(table, key) {
         Some(value) => tables_of(alloc, value),
@@ -122,7 +125,8 @@ pub fn tables<'a>(
 
 /// The tables of a value that is an array of tables.
 fn tables_of(alloc: Global, value: &Value) -> Result<Option<Vec<&Table>>, NoMemory>
-    ensures { IfOk result (λ found. option_map (λ v. map (λ t. table_view t.now) v.items) found ≡ tables_of_spec (view value.now)) }
+    ensures { IfOk result (λ found. option_map (λ v. map (λ t. table_view t.now) v.items) found
+        ≡ tables_of_spec (view value.now)) }
 {
     match value {
         Value::Array(values) => all_tables(alloc, values.as_slice()),
@@ -132,7 +136,8 @@ fn tables_of(alloc: Global, value: &Value) -> Result<Option<Vec<&Table>>, NoMemo
 
 /// The values as tables, where each of them is one.
 fn all_tables(alloc: Global, values: &[Value]) -> Result<Option<Vec<&Table>>, NoMemory>
-    ensures { IfOk result (λ found. option_map (λ v. map (λ t. table_view t.now) v.items) found ≡ all_tables_spec (items_view values.now)) }
+    ensures { IfOk result (λ found. option_map (λ v. map (λ t. table_view t.now) v.items) found
+        ≡ all_tables_spec (items_view values.now)) }
 {
     let mut found = Vec::with_capacity(alloc, values.len())?;
     for value in values {

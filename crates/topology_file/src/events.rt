@@ -45,7 +45,8 @@ fn read_event(
 ) -> Option<EventForm>
     requires nodes { length nodes.now ≤ 64 }
     requires streams { length streams.now ≤ 128 }
-    ensures { result ≡ event_form ticks nodes.now links.now streams.now number (table_view table.now) }
+    ensures { result
+        ≡ event_form ticks nodes.now links.now streams.now number (table_view table.now) }
 {
     if number <= MOST_EVENTS {
         read_known_event(ticks, nodes, links, streams, table)

@@ -203,7 +203,8 @@ pub(crate) fn read_frames(
     requires ticks { ticks ≤ 12000 }
     requires nodes { length nodes.now ≤ 64 }
     requires streams { length streams.now ≤ 128 }
-    ensures { Reads (λ v. v.items) result (frames_of ticks nodes.now streams.now (map (λ t. table_view t.now) entries.now)) }
+    ensures { Reads (λ v. v.items) result (frames_of ticks nodes.now streams.now (map
+        (λ t. table_view t.now) entries.now)) }
 {
     let forms = read_forms(alloc, ticks, nodes, streams, entries)?;
     routed_frames(alloc, &forms)

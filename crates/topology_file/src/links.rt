@@ -75,7 +75,8 @@ fn read_forms(
     entries: &[&Table],
 ) -> Result<Vec<Option<LinkEntry>>, RuleErr>
     requires { length nodes.now ≤ 64 }
-    ensures { Reads (λ v. v.items) result (each_entry_spec 8 (link_form nodes.now) 1 (map (λ t. table_view t.now) entries.now)) }
+    ensures { Reads (λ v. v.items) result (each_entry_spec 8 (link_form nodes.now) 1 (map
+        (λ t. table_view t.now) entries.now)) }
 {
     each_table(alloc, 8, entries, |_, table| Ok(read_link(nodes, table)))
 }
@@ -94,8 +95,10 @@ pub(crate) fn read_links(
     entries: &[&Table],
 ) -> Result<Vec<LinkEntry>, RuleErr>
     requires { length nodes.now ≤ 64 }
-    ensures links { Reads (λ v. v.items) result (links_of nodes.now (map (λ t. table_view t.now) entries.now)) }
-    ensures known { IfOk result (λ v. All (λ l. IsNode (length nodes.now) l.a.0 × IsNode (length nodes.now) l.b.0) v.items) }
+    ensures links { Reads (λ v. v.items) result (links_of nodes.now (map
+        (λ t. table_view t.now) entries.now)) }
+    ensures known { IfOk result (λ v. All (λ l. IsNode (length nodes.now) l.a.0
+        × IsNode (length nodes.now) l.b.0) v.items) }
 {
     let forms = read_forms(alloc, nodes, entries)?;
     let links = named_links(alloc, &forms)?;

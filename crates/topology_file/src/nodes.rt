@@ -53,7 +53,8 @@ fn read_node(alloc: Global, number: usize, table: &Table) -> Result<Option<NodeE
 
 /// Rule 4: each node has its form.
 fn read_forms(alloc: Global, entries: &[&Table]) -> Result<Vec<NodeEntry>, RuleErr>
-    ensures { Reads (λ v. v.items) result (each_entry 4 node_entry 1 (map (λ t. table_view t.now) entries.now)) }
+    ensures { Reads (λ v. v.items) result (each_entry 4 node_entry 1 (map
+        (λ t. table_view t.now) entries.now)) }
 {
     each_table(
         alloc,
@@ -104,7 +105,8 @@ pub(crate) fn read_nodes(
     entries: &[&Table],
 ) -> Result<Vec<NodeEntry>, RuleErr>
     requires { ticks ≤ 12000 }
-    ensures { Reads (λ v. v.items) result (nodes_of ticks (map (λ t. table_view t.now) entries.now)) }
+    ensures { Reads (λ v. v.items) result (nodes_of ticks (map
+        (λ t. table_view t.now) entries.now)) }
 {
     let nodes = read_forms(alloc, entries)?;
     holds(5, is_small(ticks, &nodes))?;

@@ -170,7 +170,8 @@ fn read_forms(
     entries: &[&Table],
 ) -> Result<Vec<StreamForm>, RuleErr>
     requires { length nodes.now ≤ 64 }
-    ensures { Reads (λ v. v.items) result (each_entry_spec 16 (stream_form nodes.now) 1 (map (λ t. table_view t.now) entries.now)) }
+    ensures { Reads (λ v. v.items) result (each_entry_spec 16 (stream_form nodes.now) 1 (map
+        (λ t. table_view t.now) entries.now)) }
 {
     each_table(
         alloc,
@@ -244,7 +245,8 @@ pub(crate) fn read_streams(
     entries: &[&Table],
 ) -> Result<Vec<StreamEntry>, RuleErr>
     requires { length nodes.now ≤ 64 }
-    ensures streams { Reads (λ v. v.items) result (streams_of nodes.now (map (λ t. table_view t.now) entries.now)) }
+    ensures streams { Reads (λ v. v.items) result (streams_of nodes.now (map
+        (λ t. table_view t.now) entries.now)) }
     ensures few { IfOk result (λ v. length v.items ≤ 128) }
 {
     let forms = read_forms(alloc, nodes, entries)?;

@@ -114,7 +114,8 @@ pub(crate) fn make_tree(
     links: &[LinkEntry],
 ) -> Result<Tree, RuleErr>
     requires few { length nodes.now ≤ 64 }
-    requires known { All (λ l. IsNode (length nodes.now) l.a.0 × IsNode (length nodes.now) l.b.0) links.now }
+    requires known { All (λ l. IsNode (length nodes.now) l.a.0
+        × IsNode (length nodes.now) l.b.0) links.now }
     ensures tree { Reads (λ t. t) result (tree_of nodes.now links.now) }
     ensures size { IfOk result (λ t. length t.kinds ≡ length nodes.now) }
 {

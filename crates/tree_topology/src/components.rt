@@ -40,7 +40,8 @@ impl Components {
         requires node { node < vec_len self.now.leaders }
         ensures within { result < vec_len self.now.leaders }
         ensures leader { slice_index self.now.leaders.items result ≡ result }
-        ensures connected { (links : List Link) → LeadsAlong links self.now.leaders.items → Connected links node result }
+        ensures connected { (links : List Link) → LeadsAlong links self.now.leaders.items
+            → Connected links node result }
     {
         let mut at = node;
         let mut next = self.leaders[usize::from(at)];
@@ -57,7 +58,8 @@ impl Components {
         requires a { a < vec_len self.old.leaders }
         requires b { b < vec_len self.old.leaders }
         requires low { slice_index self.old.ranks.items b < 65535 }
-        ensures leaders { self.new.leaders.items ≡ joined_leaders self.old.leaders.items self.old.ranks.items a b }
+        ensures leaders { self.new.leaders.items
+            ≡ joined_leaders self.old.leaders.items self.old.ranks.items a b }
         ensures ranks { self.new.ranks.items ≡ joined_ranks self.old.ranks.items a b }
     {
         let rank_a = self.ranks[usize::from(a)];

@@ -179,7 +179,8 @@ impl Routes {
         requires node { IsNode (length self.now.kinds) node }
         requires top { IsNode (length self.now.kinds) top }
         requires not_first { top ≢ 1 }
-        ensures { result ≡ begins_with top (walk_between self.now.links (slice_index self.now.parents top) node) }
+        ensures { result
+            ≡ begins_with top (walk_between self.now.links (slice_index self.now.parents top) node) }
     {
         let depth = self.depth(top);
         let mut at = node;

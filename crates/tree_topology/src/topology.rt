@@ -49,7 +49,8 @@ impl Tree {
         ensures links { IfOk result (λ tree. tree.links ≡ links.now) }
         ensures accepted { OnOk result (IsAccepted nodes.now links.now) }
         ensures refused { IfErr result (λ e. IsRefusal nodes.now links.now e) }
-        ensures refusal { IfErr result (λ e. e ≢ TreeErr.NoMemory → refusal nodes.now links.now ≡ Some e) }
+        ensures refusal { IfErr result (λ e. e ≢ TreeErr.NoMemory → refusal nodes.now links.now
+            ≡ Some e) }
         ensures none { OnOk result (refusal nodes.now links.now ≡ None) }
         ensures accepts { IsAccepted nodes.now links.now → IsOkUnless result TreeErr.NoMemory }
     {

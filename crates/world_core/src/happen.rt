@@ -33,8 +33,10 @@ pub(crate) fn make_step(
 ) -> Result<WorldReply, NoMemory>
     requires some { 1 ≤ number.0 }
     requires few { number.0 ≤ length nodes.old.items }
-    requires can { (s : NodeState) → slice_get nodes.old.items (number.0 - 1) ≡ Some s → CanStep event s }
-    ensures ok { IfOk result (λ reply. (tree : Topology) → stepped number event (record { tree = tree; nodes = nodes.old.items })
+    requires can { (s : NodeState) → slice_get nodes.old.items (number.0 - 1) ≡ Some s
+        → CanStep event s }
+    ensures ok { IfOk result (λ reply. (tree : Topology)
+        → stepped number event (record { tree = tree; nodes = nodes.old.items })
         ≡ (record { tree = tree; nodes = nodes.new.items }, reply)) }
     ensures err { OnErr result (nodes.new.items ≡ nodes.old.items) }
 {
@@ -55,7 +57,8 @@ pub(crate) fn tick_all(nodes: &mut Vec<Node>)
 // The application of the PDU of an index in a port's inbox.
 fn app_at(nodes: &Vec<Node>, at: EgressPort, index: u32) -> Option<App>
     requires { StandsAt at nodes.now.items }
-    ensures { (tree : Topology) → result ≡ app_of at index (record { tree = tree; nodes = nodes.now.items }) }
+    ensures { (tree : Topology) → result
+        ≡ app_of at index (record { tree = tree; nodes = nodes.now.items }) }
 {
     nodes[place(at.node)].app_at(at.port, index)
 }
@@ -63,7 +66,8 @@ fn app_at(nodes: &Vec<Node>, at: EgressPort, index: u32) -> Option<App>
 // The participant of an application at a port is sound no more.
 fn spoil(nodes: &mut Vec<Node>, at: EgressPort, app: App)
     requires { StandsAt at nodes.old.items }
-    ensures after { nodes.new.items ≡ changed at.node (spoilt_at app (place_of at.port)) nodes.old.items }
+    ensures after { nodes.new.items
+        ≡ changed at.node (spoilt_at app (place_of at.port)) nodes.old.items }
     ensures stand { (p : EgressPort) → StandsAt p nodes.old.items → StandsAt p nodes.new.items }
 {
     nodes[place(at.node)].spoil(at.port, app);
@@ -72,8 +76,10 @@ fn spoil(nodes: &mut Vec<Node>, at: EgressPort, app: App)
 // The PDU of an index, which is there, is lost from a port's inbox.
 fn lose_at(nodes: &mut Vec<Node>, at: EgressPort, index: u32)
     requires here { StandsAt at nodes.old.items }
-    requires there { (s : NodeState) → slice_get nodes.old.items (at.node.0 - 1) ≡ Some s → index < length (box_at (place_of at.port) s.inboxes) }
-    ensures after { nodes.new.items ≡ changed at.node (lost_at (place_of at.port) index) nodes.old.items }
+    requires there { (s : NodeState) → slice_get nodes.old.items (at.node.0 - 1) ≡ Some s
+        → index < length (box_at (place_of at.port) s.inboxes) }
+    ensures after { nodes.new.items
+        ≡ changed at.node (lost_at (place_of at.port) index) nodes.old.items }
     ensures stand { (p : EgressPort) → StandsAt p nodes.old.items → StandsAt p nodes.new.items }
 {
     let _ = nodes[place(at.node)].lose(at.port, index);
@@ -101,8 +107,10 @@ pub(crate) fn lose(tree: &Tree, nodes: &mut Vec<Node>, at: EgressPort, index: u3
 // The PDU of an index, which is there, is in a port's inbox twice.
 fn repeat_at(nodes: &mut Vec<Node>, at: EgressPort, index: u32) -> Result<(), NoMemory>
     requires here { StandsAt at nodes.old.items }
-    requires there { (s : NodeState) → slice_get nodes.old.items (at.node.0 - 1) ≡ Some s → index < length (box_at (place_of at.port) s.inboxes) }
-    ensures ok { OnOk result (nodes.new.items ≡ changed at.node (repeated_at (place_of at.port) index) nodes.old.items) }
+    requires there { (s : NodeState) → slice_get nodes.old.items (at.node.0 - 1) ≡ Some s
+        → index < length (box_at (place_of at.port) s.inboxes) }
+    ensures ok { OnOk result (nodes.new.items
+        ≡ changed at.node (repeated_at (place_of at.port) index) nodes.old.items) }
     ensures err { OnErr result (nodes.new.items ≡ nodes.old.items) }
 {
     nodes[place(at.node)].repeat(at.port, index)?;
@@ -133,8 +141,11 @@ pub(crate) fn repeat(
 // Takes the PDUs of a port's outbox.
 fn take(nodes: &mut Vec<Node>, at: EgressPort) -> Seq<Wire>
     requires { StandsAt at nodes.old.items }
-    ensures after { nodes.new.items ≡ changed at.node (with_outbox (place_of at.port) []) nodes.old.items }
-    ensures taken { result ≡ option_map_or (λ s. box_at (place_of at.port) s.outboxes) (slice_get nodes.old.items (at.node.0 - 1)) [] }
+    ensures after { nodes.new.items
+        ≡ changed at.node (with_outbox (place_of at.port) []) nodes.old.items }
+    ensures taken { result
+        ≡ option_map_or
+        (λ s. box_at (place_of at.port) s.outboxes) (slice_get nodes.old.items (at.node.0 - 1)) [] }
     ensures short { AreShort result }
     ensures stand { (p : EgressPort) → StandsAt p nodes.old.items → StandsAt p nodes.new.items }
 {
@@ -149,7 +160,8 @@ fn give(
 ) -> Result<(), (NoMemory, Seq<Wire>)>
     requires here { StandsAt at nodes.old.items }
     requires short { AreShort wires }
-    ensures ok { OnOk result (nodes.new.items ≡ changed at.node (with_carried (place_of at.port) wires) nodes.old.items) }
+    ensures ok { OnOk result (nodes.new.items
+        ≡ changed at.node (with_carried (place_of at.port) wires) nodes.old.items) }
     ensures err { OnErr result (nodes.new.items ≡ nodes.old.items) }
     ensures back { IfErr result (λ e. e.1 ≡ wires) }
 {
@@ -160,8 +172,10 @@ fn give(
 fn put_back(nodes: &mut Vec<Node>, at: EgressPort, wires: Seq<Wire>)
     requires here { StandsAt at nodes.old.items }
     requires short { AreShort wires }
-    requires empty { (s : NodeState) → slice_get nodes.old.items (at.node.0 - 1) ≡ Some s → box_at (place_of at.port) s.outboxes ≡ [] }
-    ensures { nodes.new.items ≡ changed at.node (with_outbox (place_of at.port) wires) nodes.old.items }
+    requires empty { (s : NodeState) → slice_get nodes.old.items (at.node.0 - 1) ≡ Some s
+        → box_at (place_of at.port) s.outboxes ≡ [] }
+    ensures { nodes.new.items
+        ≡ changed at.node (with_outbox (place_of at.port) wires) nodes.old.items }
 {
     nodes[place(at.node)].put_back(at.port, wires);
 }
@@ -175,7 +189,8 @@ pub(crate) fn carry(
     requires port { HasPort tree.now at }
     requires here { StandsAt at nodes.old.items }
     requires there { StandsAt (peer_of tree.now.links at) nodes.old.items }
-    ensures ok { IfOk result (λ reply. world_step (WorldEvent.Carry at) (record { tree = tree.now; nodes = nodes.old.items })
+    ensures ok { IfOk result
+        (λ reply. world_step (WorldEvent.Carry at) (record { tree = tree.now; nodes = nodes.old.items })
         ≡ (record { tree = tree.now; nodes = nodes.new.items }, reply)) }
     ensures err { OnErr result (nodes.new.items ≡ nodes.old.items) }
 {

@@ -46,7 +46,8 @@ pub fn a_scenario_begins_well()
 
 /// Each event that may happen keeps it, where a request is of a VID, and so does each list of such events.
 pub fn every_event_keeps_it()
-    ensures event { (e : WorldEvent) (w : WorldState) → CanHappen e w → NamesVids e → IsKeptWorld w → IsKeptWorld (world_step e w).0 }
+    ensures event { (e : WorldEvent) (w : WorldState) → CanHappen e w → NamesVids e
+        → IsKeptWorld w → IsKeptWorld (world_step e w).0 }
     ensures events { (es : List WorldEvent) (w : WorldState)
         → CanAllHappen es w → AllByRecursion NamesVids es → IsKeptWorld w → IsKeptWorld (world_after es w) }
 {
@@ -62,9 +63,11 @@ pub fn every_event_keeps_it()
 
 /// Each event of a legal run of a scenario may happen in its turn, and a request of it is of a VID.
 pub fn every_event_of_a_run_may_happen()
-    ensures can { (plan : Plan) (ticks : List Tick) (end : WorldState) → KeepsRules plan → AreLegalTicks plan ticks end
+    ensures can { (plan : Plan) (ticks : List Tick) (end : WorldState) → KeepsRules plan
+        → AreLegalTicks plan ticks end
         → CanAllHappen (events_from plan 0 ticks) (world_of plan) }
-    ensures named { (plan : Plan) (ticks : List Tick) (end : WorldState) → KeepsRules plan → AreLegalTicks plan ticks end
+    ensures named { (plan : Plan) (ticks : List Tick) (end : WorldState) → KeepsRules plan
+        → AreLegalTicks plan ticks end
         → AllByRecursion NamesVids (events_from plan 0 ticks) }
 {
     a_scenario_begins_well();
@@ -78,23 +81,28 @@ pub fn every_event_of_a_run_may_happen()
 /// can go on, and then the next tick begins. The tree stays in any case.
 pub fn what_is_allowed_may_happen()
     ensures begins { (plan : Plan) → KeepsRules plan → IsDuring plan.tree 0 (world_of plan) }
-    ensures can { (tree : Topology) (t : ℕ) (e : WorldEvent) (w : WorldState) → IsAllowed tree e → IsDuring tree t w → CanHappen e w }
-    ensures stays { (tree : Topology) (t : ℕ) (e : WorldEvent) (w : WorldState) → IsAllowed tree e → IsDuring tree t w
+    ensures can { (tree : Topology) (t : ℕ) (e : WorldEvent) (w : WorldState)
+        → IsAllowed tree e → IsDuring tree t w → CanHappen e w }
+    ensures stays { (tree : Topology) (t : ℕ) (e : WorldEvent) (w : WorldState)
+        → IsAllowed tree e → IsDuring tree t w
         → IsDuring tree t (world_step e w).0 }
     ensures all_can { (tree : Topology) (t : ℕ) (es : List WorldEvent) (w : WorldState)
         → AllByRecursion (IsAllowed tree) es → IsDuring tree t w → CanAllHappen es w }
     ensures all_stay { (tree : Topology) (t : ℕ) (es : List WorldEvent) (w : WorldState)
         → AllByRecursion (IsAllowed tree) es → IsDuring tree t w → IsDuring tree t (world_after es w) }
-    ensures clock { (tree : Topology) (t : ℕ) (w : WorldState) → t < 2 ^ 61 → IsDuring tree t w → CanHappen WorldEvent.Clock w }
+    ensures clock { (tree : Topology) (t : ℕ) (w : WorldState) → t < 2 ^ 61 → IsDuring tree t w
+        → CanHappen WorldEvent.Clock w }
     ensures next { (tree : Topology) (t : ℕ) (w : WorldState) → t < 2 ^ 61 → IsDuring tree t w
         → IsDuring tree (suc t) (world_step WorldEvent.Clock w).0 }
-    ensures known { (plan : Plan) (kind : EventKind) → KeepsRules plan → IsKnownKind plan.nodes plan.links plan.streams kind
+    ensures known { (plan : Plan) (kind : EventKind) → KeepsRules plan
+        → IsKnownKind plan.nodes plan.links plan.streams kind
         → IfSome (event_of plan.tree.links kind) (IsAllowed plan.tree) }
     ensures neighbours { (plan : Plan) (kind : EventKind) → KeepsRules plan
         → IsKnownKind plan.nodes plan.links plan.streams kind → NamesNeighbours plan.tree.links kind }
     ensures scripted { (plan : Plan) (t : ℕ) → KeepsRules plan
         → AllByRecursion (IsAllowed plan.tree) (map (λ e. e.1) (scripted plan t)) }
-    ensures carried { (plan : Plan) → KeepsRules plan → AllByRecursion (IsAllowed plan.tree) (map WorldEvent.Carry (link_ports plan.tree)) }
+    ensures carried { (plan : Plan) → KeepsRules plan
+        → AllByRecursion (IsAllowed plan.tree) (map WorldEvent.Carry (link_ports plan.tree)) }
     ensures tree { (e : WorldEvent) (w : WorldState) → (world_step e w).0.tree ≡ w.tree }
     ensures trees { (es : List WorldEvent) (w : WorldState) → (world_after es w).tree ≡ w.tree }
 {
@@ -116,7 +124,8 @@ pub fn ticks_go_on()
 
 /// Every moment of a legal run of a scenario keeps it.
 pub fn every_moment_keeps_it()
-    ensures { (plan : Plan) (ticks : List Tick) (end w : WorldState) → KeepsRules plan → AreLegalTicks plan ticks end
+    ensures { (plan : Plan) (ticks : List Tick) (end w : WorldState) → KeepsRules plan
+        → AreLegalTicks plan ticks end
         → IsMoment plan ticks w → IsKeptWorld w }
 {
     a_scenario_begins_well();
@@ -126,7 +135,8 @@ pub fn every_moment_keeps_it()
 
 /// Ticks in the canonical order are legal.
 pub fn canonical_ticks_are_legal()
-    ensures { (plan : Plan) (ticks : List Tick) (end : WorldState) → AreCanonicalTicks plan ticks end → AreLegalTicks plan ticks end }
+    ensures { (plan : Plan) (ticks : List Tick) (end : WorldState)
+        → AreCanonicalTicks plan ticks end → AreLegalTicks plan ticks end }
 {}
 
 /// A port's step is of its node alone: the node becomes, and answers, what its own step says, and each other node stays as it
@@ -137,6 +147,7 @@ pub fn a_step_is_of_its_node_alone()
         → node_at n (world_step (port_event n port step) w).0 ≡ Some (node_step (port_step port step) s).0 }
     ensures answer { (n : NodeNo) (port : PortNo) (step : PortStep) (w : WorldState) (s : NodeState) → node_at n w ≡ Some s
         → (world_step (port_event n port step) w).1 ≡ step_reply (node_step (port_step port step) s).1 }
-    ensures others { (n m : NodeNo) (port : PortNo) (step : PortStep) (w : WorldState) → n.0 - 1 ≢ m.0 - 1
+    ensures others { (n m : NodeNo) (port : PortNo) (step : PortStep) (w : WorldState)
+        → n.0 - 1 ≢ m.0 - 1
         → node_at m (world_step (port_event n port step) w).0 ≡ node_at m w }
 {}

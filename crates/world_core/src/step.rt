@@ -55,7 +55,8 @@ impl World {
         requires { CanAllHappen events.now self.old }
         ensures replies { IfOk result (λ replies. replies ≡ replies_to events.now self.old) }
         ensures after { IfOk result (λ _. self.new ≡ world_after events.now self.old) }
-        ensures done { IfErr result (λ e. self.new ≡ world_after (take e.done events.now) self.old) }
+        ensures done { IfErr result (λ e. self.new
+            ≡ world_after (take e.done events.now) self.old) }
         ensures within { IfErr result (λ e. e.done ≤ length events.now) }
     {
         let mut replies = match Vec::with_capacity(alloc, events.len()) {

@@ -9,7 +9,8 @@ use topology_file::Scenario;
 
 /// The counts of the network.
 fn write_network(out: &mut String, scenario: &Scenario) -> Result<(), AllocError>
-    ensures { OnOk result (string_bytes out.new ≡ string_bytes out.old ++ network_lines scenario.now) }
+    ensures { OnOk result (string_bytes out.new
+        ≡ string_bytes out.old ++ network_lines scenario.now) }
 {
     let nodes = scenario.nodes.len();
     let links = scenario.links.len();

@@ -18,7 +18,8 @@ pub fn bookings(alloc: Global, file: &LedgerFile) -> Result<(Ledger, Cs), NoMemo
     requires shares { file.now.delta_a + file.now.delta_b ≤ 90 }
     requires ticks { first_fall 1 0 file.now.wants ≡ None }
     ensures applied { IfOk result (λ r. Leads (fresh file.now) file.now.wants r.0) }
-    ensures caps { IfOk result (λ r. r.0.caps ≡ caps_of file.now.rate file.now.delta_a file.now.delta_b) }
+    ensures caps { IfOk result (λ r. r.0.caps
+        ≡ caps_of file.now.rate file.now.delta_a file.now.delta_b) }
     ensures lines { IfOk result (λ r. HasLines r.0 file.now.wants) }
     ensures moment { IfOk result (λ r. r.1.0 ≡ r.0.moment) }
 {

@@ -142,7 +142,8 @@ fn read_want(number: usize, table: &Table) -> Option<LedgerWant>
 
 /// The wants of all entries, each with its form.
 fn read_wants(alloc: Global, entries: &[&Table]) -> Result<Vec<LedgerWant>, RuleErr>
-    ensures { Reads (λ v. v.items) result (each_entry 33 want_entry 1 (map (λ t. table_view t.now) entries.now)) }
+    ensures { Reads (λ v. v.items) result (each_entry 33 want_entry 1 (map
+        (λ t. table_view t.now) entries.now)) }
 {
     each_table(
         alloc,

@@ -14,7 +14,8 @@ use stream_importance::{Caps, Fit, Want};
 
 /// The line of a booked stream.
 fn write_booked(out: &mut String, want: &Want, since: Cs) -> Result<(), AllocError>
-    ensures { OnOk result (string_bytes out.new ≡ string_bytes out.old ++ booked_line want.now since) }
+    ensures { OnOk result (string_bytes out.new
+        ≡ string_bytes out.old ++ booked_line want.now since) }
 {
     let stream = want.stream;
     let slope = want.slope;
@@ -31,7 +32,8 @@ fn write_refused(
     cap: u64,
     code: u8,
 ) -> Result<(), AllocError>
-    ensures { OnOk result (string_bytes out.new ≡ string_bytes out.old ++ refused_line want.now more cap code) }
+    ensures { OnOk result (string_bytes out.new
+        ≡ string_bytes out.old ++ refused_line want.now more cap code) }
 {
     let stream = want.stream;
     let slope = want.slope;
@@ -43,7 +45,8 @@ fn write_refused(
 
 /// A line of sums.
 fn write_sum(out: &mut String, classes: &str, sum: u64, cap: u64) -> Result<(), AllocError>
-    ensures { OnOk result (string_bytes out.new ≡ string_bytes out.old ++ sum_line classes.now sum cap) }
+    ensures { OnOk result (string_bytes out.new
+        ≡ string_bytes out.old ++ sum_line classes.now sum cap) }
 {
     writeln!(out, "slope {classes} {sum} cap {cap}")
 }
@@ -68,7 +71,8 @@ fn write_unbooked(out: &mut String, ledger: &Ledger, now: Cs, want: &Want) -> Re
 /// The line of a stream's want.
 fn write_want(out: &mut String, ledger: &Ledger, now: Cs, want: &Want) -> Result<(), AllocError>
     requires now { now.0 ≡ ledger.now.moment }
-    ensures { OnOk result (string_bytes out.new ≡ string_bytes out.old ++ want_line ledger.now want.now) }
+    ensures { OnOk result (string_bytes out.new
+        ≡ string_bytes out.old ++ want_line ledger.now want.now) }
 {
     match ledger.booked(want.stream) {
         Some(since) => write_booked(out, want, since),
@@ -95,7 +99,8 @@ fn write_stream(
     stream: StreamId,
 ) -> Result<(), AllocError>
     requires now { now.0 ≡ ledger.now.moment }
-    ensures { OnOk result (string_bytes out.new ≡ string_bytes out.old ++ stream_line ledger.now wants.now stream) }
+    ensures { OnOk result (string_bytes out.new
+        ≡ string_bytes out.old ++ stream_line ledger.now wants.now stream) }
 {
     match last_want(wants, stream) {
         Some(want) => write_want(out, ledger, now, &want),
