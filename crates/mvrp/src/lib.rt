@@ -16,6 +16,9 @@
 //!
 //! A call on a port copies at most that port's participant, and the awaiting VIDs of the other ports where
 //! some VID changed.
+//!
+//! A further call on a port is a function of the side in `specs/Side.antt`, a method in `calls.rt`, and a lemma that it keeps
+//! `IsKept`: which declarations and registrations it leaves alone, and that it marks what changed.
 #![tactic(auto)]
 
 mod app;

@@ -9,6 +9,9 @@
 //! A network is at rest where nothing is pending (`is_quiet`) and every port has sent a LeaveAll since the last loss on its
 //! link (`is_in_step`). `vlans_match` answers both sides of the law in every network, at rest or not, each by its own
 //! definition (`specs/Vlans.antt`); `laws` says that they are equal at rest.
+//!
+//! A further law has its two sides in a file of `specs/`, a call that answers both, and its sentence in `laws`, over networks
+//! and over the moments of a run; the command that prints a run takes it into its record of what holds.
 #![tactic(auto)]
 
 pub mod laws;
