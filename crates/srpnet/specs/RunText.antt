@@ -10,15 +10,20 @@ use Rattle.network_laws.specs.Vlans.{IsAtRest, VlansMatch}
 use Rattle.srp_report.specs.Report.{report_text}
 use Rattle.srpnet.specs.RunInput.{run_input}
 
--- The output of the command `run` for an input of these octets, with the ticks of its run: they are a scenario, the ticks
--- lead from its start to some network in the canonical order, and the text is the report of just these.
-pub record RunOutput (octets : List ℕ) (ticks : List Tick) (text : List ℕ) : Type 0 where
-  pub plan : Plan
+-- What is printed of a run of a scenario, with the ticks of the run: they lead from its start to some network in the
+-- canonical order, and the text is the report of just these.
+pub record IsReported (plan : Plan) (ticks : List Tick) (text : List ℕ) : Type 0 where
   pub world : WorldState
-  pub read : run_input octets ≡ Ok plan
   pub canonical : AreCanonicalTicks plan ticks world
   pub printed : text ≡ report_text plan world ticks
   -- at every moment of the run both ends of each link meet their duty
   pub duties : (w : WorldState) → IsMoment plan ticks w → AreVlanDutiesMet w
   -- and whenever the network is at rest, a VID is registered at a port exactly where a station behind it has declared it
   pub vlans : (w : WorldState) → IsMoment plan ticks w → IsAtRest w → VlansMatch w
+
+-- The output of the command `run` for an input of these octets, with the ticks of its run: they are a scenario, and the text
+-- is what is printed of that run of it.
+pub record RunOutput (octets : List ℕ) (ticks : List Tick) (text : List ℕ) : Type 0 where
+  pub plan : Plan
+  pub read : run_input octets ≡ Ok plan
+  pub reported : IsReported plan ticks text
