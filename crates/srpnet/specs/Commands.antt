@@ -2,7 +2,7 @@
 use Rattle.std.specs.Prelude.{◌≡◌, ℕ, Bool, true, false, List}
 use Rattle.world_core.specs.declared.journal.Tick.{Tick}
 use Rattle.srpnet.specs.declared.words.Command.{Command}
-use Rattle.srpnet.specs.declared.words.Command.TheVariants.{Ledger, Check, Run, Help, Version}
+use Rattle.srpnet.specs.declared.words.Command.TheVariants.{Ledger, Check, Run, RunJournal, Help, Version}
 use Rattle.srpnet.specs.declared.outcome.Cause.{Cause}
 use Rattle.srpnet.specs.declared.outcome.Cause.TheVariants.{Done}
 use Rattle.srpnet.specs.Input.{ending}
@@ -11,14 +11,14 @@ use Rattle.srpnet.specs.CheckText.{CheckOutput}
 use Rattle.srpnet.specs.LedgerInput.{ledger_input}
 use Rattle.srpnet.specs.LedgerText.{LedgerOutput}
 use Rattle.srpnet.specs.Pages.{help_page, version_page}
-use Rattle.srpnet.specs.RunInput.{run_input}
-use Rattle.srpnet.specs.RunText.{RunOutput}
+use Rattle.srpnet.specs.RunText.{RunOutput, report_alone, report_and_journal}
 
 -- whether it reads an input; the pages read none
 abbrev pub reads_input : Command → Bool
 reads_input Ledger = true
 reads_input Check = true
 reads_input Run = true
+reads_input RunJournal = true
 reads_input Help = false
 reads_input Version = false
 
@@ -27,6 +27,7 @@ abbrev pub runs : Command → Bool
 runs Ledger = false
 runs Check = false
 runs Run = true
+runs RunJournal = true
 runs Help = false
 runs Version = false
 
@@ -37,7 +38,8 @@ RunsNothing command = runs command ≡ false
 abbrev pub Output : Command → List ℕ → List Tick → List ℕ → Type 0
 Output Ledger octets ticks text = LedgerOutput octets text
 Output Check octets ticks text = CheckOutput octets text
-Output Run octets ticks text = RunOutput octets ticks text
+Output Run octets ticks text = RunOutput report_alone octets ticks text
+Output RunJournal octets ticks text = RunOutput report_and_journal octets ticks text
 Output Help octets ticks text = text ≡ help_page
 Output Version octets ticks text = text ≡ version_page
 
@@ -45,6 +47,7 @@ Output Version octets ticks text = text ≡ version_page
 abbrev pub ending_of : Command → List ℕ → Cause
 ending_of Ledger octets = ending (ledger_input octets)
 ending_of Check octets = ending (scenario_input octets)
-ending_of Run octets = ending (run_input octets)
+ending_of Run octets = ending (scenario_input octets)
+ending_of RunJournal octets = ending (scenario_input octets)
 ending_of Help octets = Done
 ending_of Version octets = Done

@@ -8,7 +8,6 @@ pub mod LedgerRun
 pub mod LedgerText
 pub mod Outcomes
 pub mod Pages
-pub mod RunInput
 pub mod RunText
 pub mod ScenarioInput
 pub mod TopCall

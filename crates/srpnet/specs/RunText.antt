@@ -1,29 +1,78 @@
--- What `srpnet run` prints: the report of a run of the scenario, and what holds at each moment of that run.
-use Rattle.std.specs.Prelude.{◌≡◌, ℕ, List, Ok}
+-- What `srpnet run` and `srpnet run journal` print: the report of a run of the scenario, and behind it what happened; and
+-- what holds of that run.
+use Rattle.std.specs.Prelude.{◌≡◌, ℕ, List, ◌++◌, All, Ok}
+use Rattle.srp_base.specs.declared.numbers.StreamId.{StreamId}
+use Rattle.srp_base.specs.declared.ports.PortChange.{PortChange}
+use Rattle.frame_flow.specs.declared.result.PortFlow.{PortFlow}
+use Rattle.frame_flow.specs.Flow.{IsFlow}
 use Rattle.topology_file.specs.Plan.{Plan}
+use Rattle.scenario_frames.specs.Setting.{setting_of}
+use Rattle.scenario_frames.specs.Laws.{HasWindowsOfCap}
 use Rattle.world_core.specs.declared.journal.Tick.{Tick}
 use Rattle.world_core.specs.World.{WorldState}
-use Rattle.world_core.specs.Duty.{AreVlanDutiesMet}
+use Rattle.world_core.specs.Duty.{AreVlanDutiesMet, AreStreamDutiesMet}
+use Rattle.world_core.specs.Limits.{caps_at, IsWithinLimits}
 use Rattle.world_core.specs.Moments.{IsMoment}
 use Rattle.world_core.specs.Ticks.{AreCanonicalTicks}
+use Rattle.world_core.specs.Timeline.{IsTimelineOf}
 use Rattle.network_laws.specs.Vlans.{IsAtRest, VlansMatch}
+use Rattle.network_laws.specs.Streams.{KeepsStreamLaws}
 use Rattle.srp_report.specs.Report.{report_text}
-use Rattle.srpnet.specs.RunInput.{run_input}
+use Rattle.srp_report.specs.JournalText.{journal_text}
+use Rattle.srpnet.specs.ScenarioInput.{scenario_input}
 
--- What is printed of a run of a scenario, with the ticks of the run: they lead from its start to some network in the
--- canonical order, and the text is the report of just these.
-pub record IsReported (plan : Plan) (ticks : List Tick) (text : List ℕ) : Type 0 where
-  pub world : WorldState
+-- A run of a scenario with these ticks: they lead from its start to a network in the canonical order; what was in force at
+-- each port in each tick; and the flow of the scenario's frames through the shapers by what was in force.
+pub record IsRun (plan : Plan) (ticks : List Tick) (world : WorldState) (changes : List PortChange)
+    (flows : List PortFlow) : Type 0 where
   pub canonical : AreCanonicalTicks plan ticks world
-  pub printed : text ≡ report_text plan world ticks
-  -- at every moment of the run both ends of each link meet their duty
-  pub duties : (w : WorldState) → IsMoment plan ticks w → AreVlanDutiesMet w
-  -- and whenever the network is at rest, a VID is registered at a port exactly where a station behind it has declared it
-  pub vlans : (w : WorldState) → IsMoment plan ticks w → IsAtRest w → VlansMatch w
+  pub in_force : IsTimelineOf plan ticks changes
+  pub flow : IsFlow (setting_of plan changes) flows
 
--- The output of the command `run` for an input of these octets, with the ticks of its run: they are a scenario, and the text
--- is what is printed of that run of it.
-pub record RunOutput (octets : List ℕ) (ticks : List Tick) (text : List ℕ) : Type 0 where
+-- what holds at a moment of a run
+pub record HoldsAt (plan : Plan) (w : WorldState) : Type 0 where
+  -- both ends of each link meet their duty, in each application
+  pub vlan_duties : AreVlanDutiesMet w
+  pub stream_duties : AreStreamDutiesMet w
+  -- no port has booked past its limit
+  pub limits : IsWithinLimits plan w
+  -- and where the network is at rest, a VID is registered at a port exactly where a station behind it has declared it; a
+  -- station that listens hears Ready exactly where every port on the way has booked the stream; and a refusal for want of
+  -- bandwidth is due to the more important bookings of a port on the way
+  pub vlans : IsAtRest w → VlansMatch w
+  pub streams : IsAtRest w → (stream : StreamId) → KeepsStreamLaws w stream
+
+-- what holds of a run with these ticks and this flow of frames
+pub record HoldsThroughout (plan : Plan) (ticks : List Tick) (flows : List PortFlow) : Type 0 where
+  -- at every moment, losses and repeats included
+  pub moments : (w : WorldState) → IsMoment plan ticks w → HoldsAt plan w
+  -- at every port, over every window of its bit times, class A has the line for no more than its bound, with the credits of
+  -- the port's cap
+  pub windows : All (HasWindowsOfCap (λ p. (caps_at plan p).class_a)) flows
+
+-- what is printed of a run: the report, and what happened behind it
+abbrev pub Text : Type 0
+Text = Plan → List Tick → WorldState → List PortFlow → List ℕ
+
+abbrev pub report_alone : Text
+report_alone plan ticks world flows = report_text plan world ticks flows
+
+abbrev pub report_and_journal : Text
+report_and_journal plan ticks world flows =
+    report_text plan world ticks flows ++ journal_text plan ticks
+
+-- a run with these ticks, the text that is printed of just this run, and what holds of it
+pub record IsReported (text_of : Text) (plan : Plan) (ticks : List Tick) (text : List ℕ) : Type 0 where
+  pub world : WorldState
+  pub changes : List PortChange
+  pub flows : List PortFlow
+  pub run : IsRun plan ticks world changes flows
+  pub printed : text ≡ text_of plan ticks world flows
+  pub holds : HoldsThroughout plan ticks flows
+
+-- The output of a command that runs a network, for an input of these octets, with the ticks of its run: they are a scenario,
+-- and the text is what is printed of that run of it.
+pub record RunOutput (text_of : Text) (octets : List ℕ) (ticks : List Tick) (text : List ℕ) : Type 0 where
   pub plan : Plan
-  pub read : run_input octets ≡ Ok plan
-  pub reported : IsReported plan ticks text
+  pub read : scenario_input octets ≡ Ok plan
+  pub reported : IsReported text_of plan ticks text

@@ -1,8 +1,8 @@
 -- The table of the program's words.
-use Rattle.std.specs.Prelude.{ℕ, nat_eq, List, [], ◌∷◌, codes, if◌then◌else◌, Option, Some, None}
+use Rattle.std.specs.Prelude.{ℕ, nat_eq, ◌&&◌, List, [], ◌∷◌, codes, if◌then◌else◌, Option, Some, None}
 use Rattle.std.specs.Cmp.Lexicographic.{pointwise}
 use Rattle.srpnet.specs.declared.words.Command.{Command}
-use Rattle.srpnet.specs.declared.words.Command.TheVariants.{Ledger, Check, Run, Help, Version}
+use Rattle.srpnet.specs.declared.words.Command.TheVariants.{Ledger, Check, Run, RunJournal, Help, Version}
 
 -- the rows of one word
 abbrev pub command_of_word : List ℕ → Option Command
@@ -14,7 +14,15 @@ command_of_word word =
     else if pointwise nat_eq word (codes "--version") then Some Version
     else None
 
+-- the rows of two words
+abbrev pub command_of_pair : List ℕ → List ℕ → Option Command
+command_of_pair first second =
+    if pointwise nat_eq first (codes "run") && pointwise nat_eq second (codes "journal")
+    then Some RunJournal
+    else None
+
 -- the command of some words, where they match a row
 abbrev pub command_of : List (List ℕ) → Option Command
 command_of (word ∷ []) = command_of_word word
+command_of (first ∷ second ∷ []) = command_of_pair first second
 command_of _ = None

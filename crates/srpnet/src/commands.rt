@@ -35,7 +35,7 @@ pub fn reads_input(command: Command) -> bool
     ensures { result ≡ reads_input_spec command }
 {
     match command {
-        Command::Ledger | Command::Check | Command::Run => true,
+        Command::Ledger | Command::Check | Command::Run | Command::RunJournal => true,
         Command::Help | Command::Version => false,
     }
 }
@@ -50,7 +50,8 @@ pub fn output(alloc: Global, command: Command, octets: &[u8]) -> Result<CommandO
     match command {
         Command::Ledger => Ok(text_alone(alloc, ledger::output(alloc, octets)?)),
         Command::Check => Ok(text_alone(alloc, check::output(alloc, octets)?)),
-        Command::Run => run::output(alloc, octets),
+        Command::Run => run::report(alloc, octets),
+        Command::RunJournal => run::report_and_journal(alloc, octets),
         Command::Help => Ok(text_alone(alloc, pages::output(alloc, HELP)?)),
         Command::Version => Ok(text_alone(alloc, pages::output(alloc, VERSION)?)),
     }

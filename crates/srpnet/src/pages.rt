@@ -16,9 +16,12 @@ srpnet: the Stream Reservation Protocol (IEEE Std 802.1Q-2018) over a file
                     the rest is refused
   srpnet check      reads a scenario file on standard input, a network and
                     what happens in it, and prints its counts
-  srpnet run        reads a scenario file without streams on standard input,
-                    runs its network through the ticks, and prints what is
-                    registered at each port
+  srpnet run        reads a scenario file on standard input, runs its network
+                    through the ticks and its frames through the shapers, and
+                    prints what is registered and booked at each port, what
+                    the stations hear, and what became of the frames
+  srpnet run journal
+                    prints the same, and then what happened, step by step
   srpnet --help     this page
   srpnet --version  the version
 

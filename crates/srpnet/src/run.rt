@@ -1,47 +1,89 @@
-//! The command `run`: a network through the ticks of a scenario, and the report of its end.
-
-pub mod input;
+//! The commands `run` and `run journal`: a network through the ticks of a scenario, the frames through its shapers, the report
+//! of all that, and behind it what happened.
 
 ghost use Rattle.std.specs.Prelude.{◌≡◌, IfOk, IfErr};
 ghost use Rattle.srpnet.specs.Input.{ending};
 ghost use Rattle.srpnet.specs.Outcomes.{EndsAs};
-ghost use Rattle.srpnet.specs.RunInput.{run_input as run_input_spec};
-ghost use Rattle.srpnet.specs.RunText.{RunOutput, IsReported};
+ghost use Rattle.srpnet.specs.RunText.{RunOutput, IsReported, IsRun, HoldsThroughout, report_alone, report_and_journal};
+ghost use Rattle.srpnet.specs.ScenarioInput.{scenario_input as scenario_input_spec};
 
 use crate::commands::CommandOutput;
 use crate::outcome::Cause;
-use input::run_input;
-use network_laws::laws::{duties_are_met_in_every_run, vlans_match_whenever_at_rest};
-use srp_base::Seq;
-use srp_report::report;
+use crate::scenario::scenario_input;
+use frame_flow::FlowResult;
+use scenario_frames::flow_of;
+use srp_base::{NoMemory, Seq};
+use srp_report::{journal_text, report as report_text};
 use srp_schedule::plain_run;
 use std::alloc::Global;
 use topology_file::Scenario;
-use world_core::laws::canonical_ticks_are_legal;
+use world_core::Run;
 
-/// The report of a scenario's run with the run's journal, or why there is none.
-pub fn output(alloc: Global, octets: &[u8]) -> Result<CommandOutput, Cause>
-    ensures output { IfOk result (λ o. RunOutput octets.now o.journal.ticks o.text) }
-    ensures ends { EndsAs (ending (run_input_spec octets.now)) result }
+/// What `run` prints with its journal, or why there is none.
+pub fn report(alloc: Global, octets: &[u8]) -> Result<CommandOutput, Cause>
+    ensures output { IfOk result
+        (λ o. RunOutput report_alone octets.now o.journal.ticks o.text) }
+    ensures ends { EndsAs (ending (scenario_input_spec octets.now)) result }
     ensures not_done { IfErr result (λ c. c ≡ Cause.Done → ⊥) }
 {
-    let scenario = run_input(alloc, octets)?;
-    run_of(alloc, &scenario)
+    let scenario = scenario_input(alloc, octets)?;
+    Ok(reported(alloc, &scenario)?)
 }
 
-// The report of a scenario's run with the run's journal. The one failure is want of memory.
-fn run_of(alloc: Global, scenario: &Scenario) -> Result<CommandOutput, Cause>
-    ensures output { IfOk result (λ o. IsReported scenario.now o.journal.ticks o.text) }
-    ensures memory { IfErr result (λ c. c ≡ Cause.NoMemory) }
+/// What `run journal` prints with its journal, or why there is none.
+pub fn report_and_journal(alloc: Global, octets: &[u8]) -> Result<CommandOutput, Cause>
+    ensures output { IfOk result
+        (λ o. RunOutput report_and_journal octets.now o.journal.ticks o.text) }
+    ensures ends { EndsAs (ending (scenario_input_spec octets.now)) result }
+    ensures not_done { IfErr result (λ c. c ≡ Cause.Done → ⊥) }
 {
-    canonical_ticks_are_legal();
-    duties_are_met_in_every_run();
-    vlans_match_whenever_at_rest();
+    let scenario = scenario_input(alloc, octets)?;
+    Ok(reported_with_journal(alloc, &scenario)?)
+}
+
+/// A run of a scenario, with the flow of its frames.
+#[derive(Drop)]
+struct Ran {
+    run: Run,
+    flow: FlowResult,
+}
+
+// Runs a scenario, and its frames through the shapers by what was in force.
+fn run_of(alloc: Global, scenario: &Scenario) -> Result<Ran, NoMemory>
+    ensures run { IfOk result (λ r. IsRun scenario.now r.run.journal.ticks r.run.world
+        r.run.timeline.changes r.flow.ports) }
+    ensures holds { IfOk result
+        (λ r. HoldsThroughout scenario.now r.run.journal.ticks r.flow.ports) }
+{
     scenario.keeps_rules();
     let run = plain_run(alloc, scenario)?;
-    let text = report(alloc, scenario, &run)?;
+    let flow = flow_of(alloc, scenario, &run.timeline)?;
+    Ok(Ran { run, flow })
+}
+
+// The report of a scenario's run.
+fn reported(alloc: Global, scenario: &Scenario) -> Result<CommandOutput, NoMemory>
+    ensures { IfOk result (λ o. IsReported report_alone scenario.now o.journal.ticks o.text) }
+{
+    let ran = run_of(alloc, scenario)?;
+    let text = report_text(alloc, scenario, &ran.run, &ran.flow)?;
     Ok(CommandOutput {
         text: Seq::from_vec(text),
-        journal: run.journal,
+        journal: ran.run.journal,
+    })
+}
+
+// The report, and behind it the journal's text.
+fn reported_with_journal(alloc: Global, scenario: &Scenario) -> Result<CommandOutput, NoMemory>
+    ensures { IfOk result
+        (λ o. IsReported report_and_journal scenario.now o.journal.ticks o.text) }
+{
+    let ran = run_of(alloc, scenario)?;
+    let mut text = report_text(alloc, scenario, &ran.run, &ran.flow)?;
+    let journal = journal_text(alloc, scenario, &ran.run.journal)?;
+    text.extend_from_slice(journal.as_slice())?;
+    Ok(CommandOutput {
+        text: Seq::from_vec(text),
+        journal: ran.run.journal,
     })
 }

@@ -1,7 +1,7 @@
 //! The words of the command line.
 
 ghost use Rattle.std.specs.Prelude.{◌≡◌};
-ghost use Rattle.srpnet.specs.Words.{command_of as command_of_spec, command_of_word};
+ghost use Rattle.srpnet.specs.Words.{command_of as command_of_spec, command_of_pair, command_of_word};
 
 use srp_base::Seq;
 
@@ -14,6 +14,8 @@ pub enum Command {
     Check,
     /// `run`: reads a scenario, runs the network through its ticks and prints the report.
     Run,
+    /// `run journal`: does the same, and prints what happened behind the report.
+    RunJournal,
     /// `--help`: prints a page of help.
     Help,
     /// `--version`: prints the version.
@@ -26,6 +28,7 @@ pub fn command_of(words: &Seq<Seq<u8>>) -> Option<Command>
 {
     match words.as_slice() {
         [word] => command_of_word(word.as_slice()),
+        [first, second] => command_of_pair(first.as_slice(), second.as_slice()),
         _ => None,
     }
 }
@@ -43,6 +46,16 @@ fn command_of_word(word: &[u8]) -> Option<Command>
         Some(Command::Help)
     } else if word == b"--version".as_slice() {
         Some(Command::Version)
+    } else {
+        None
+    }
+}
+
+fn command_of_pair(first: &[u8], second: &[u8]) -> Option<Command>
+    ensures { result ≡ command_of_pair first.now second.now }
+{
+    if first == b"run".as_slice() && second == b"journal".as_slice() {
+        Some(Command::RunJournal)
     } else {
         None
     }
