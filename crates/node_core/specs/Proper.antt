@@ -1,6 +1,6 @@
 -- What every node keeps, of VIDs and of numbers that fit in their fields (IEEE Std 802.1Q-2018, 9.6, 35.2.2.8), and the
 -- steps that name none but such.
-use Rattle.std.specs.Prelude.{◌≡◌, List, map, Ok}
+use Rattle.std.specs.Prelude.{◌≡◌, ℕ, List, Ok}
 use Rattle.std.specs.List.{AllByRecursion}
 use Rattle.srp_base.specs.declared.mrp.App.{App}
 use Rattle.srp_base.specs.declared.mrp.App.TheVariants.{Mvrp, Msrp}
@@ -21,11 +21,14 @@ use Rattle.node_core.specs.declared.types.NodeEvent.TheVariants.{Request, Port, 
 use Rattle.node_core.specs.State.{NodeState}
 use Rattle.node_core.specs.Links.{IsKeptNode}
 
--- a PDU of an application says nothing that doesn't fit: one of MSRP, where it reads, reads as events that fit in their
--- fields
+-- the octets of a PDU of an application say nothing that doesn't fit: those of MSRP, where they read, read as events
+-- that fit in their fields
+abbrev pub SayWhatFits : App → List ℕ → Type 0
+SayWhatFits Mvrp octets = Unit {0}
+SayWhatFits Msrp octets = (pdu : MsrpPdu) → msrp_reading octets ≡ Ok pdu → AreInRange pdu.events
+
 abbrev pub IsProperWire : Wire → Type 0
-IsProperWire wire =
-    wire.app ≡ Msrp → (pdu : MsrpPdu) → msrp_reading wire.octets ≡ Ok pdu → AreInRange pdu.events
+IsProperWire wire = SayWhatFits wire.app wire.octets
 
 abbrev pub AreProperWires : List Wire → Type 0
 AreProperWires wires = AllByRecursion IsProperWire wires
