@@ -16,7 +16,7 @@ use Rattle.node_core.specs.State.{NodeState, box_at, ports_of}
 use Rattle.world_core.specs.World.{WorldState, node_at, with_changed, inbox, outbox}
 use Rattle.world_core.specs.Duty.{part_at}
 use Rattle.world_core.proofs.Lists.{decide_port, same_numbers}
-use Rattle.world_core.proofs.Views.{AppView, AreMet, boxed, KeepsLink}
+use Rattle.world_core.proofs.Views.{AppView, AreMet, KeepsLink, boxed, boxed_same}
 use Rattle.world_core.proofs.Nodes.{Base, SameAt, SameAtPort, same_port, node_same, same_tree, node_there, part_there, part_is, inbox_is, outbox_is}
 
 module _ (tree : Topology) (laws : HasPortLaws tree) where
@@ -56,17 +56,6 @@ module _ {K C : Type 0} (v : AppView K C) where
   abbrev pub Turns : Type 0
   Turns = (l : Link K C) → AreDutiesMet v.cmp l → AreDutiesMet v.cmp (turned l)
 
-  pub boxed_same : (near far : State K C) (a a' b b' c c' d d' : List Wire) → a ≡ a' → b ≡ b' → c ≡ c' → d ≡ d' → boxed v near far a b c d ≡ boxed v near far a' b' c' d'
-  boxed_same near far a a' b b' c c' d d' ea eb ec ed = rw (ea, eb, ec, ed) refl
-
-  -- a link whose participants and boxes are others that are the same
-  pub met_same : (x x' z z' : State K C) (a a' b b' c c' d d' : List Wire) → x ≡ x' → z ≡ z' → a ≡ a' → b ≡ b' → c ≡ c' → d ≡ d'
-      → AreDutiesMet v.cmp (boxed v x z a b c d) → AreDutiesMet v.cmp (boxed v x' z' a' b' c' d')
-  met_same x x' z z' a a' b b' c c' d d' ex ez ea eb ec ed met =
-      subst (λ (s : State K C). AreDutiesMet v.cmp (boxed v s z' a' b' c' d')) ex
-      (subst (λ (s : State K C). AreDutiesMet v.cmp (boxed v x s a' b' c' d')) ez
-      (subst (AreDutiesMet v.cmp) (boxed_same x z a a' b b' c c' d d' ea eb ec ed) met))
-
   module _ (tree : Topology) (laws : HasPortLaws tree) (turns : Turns) (w u : WorldState) (e : EgressPort) (has : HasPort tree e)
       (same : (p : EgressPort) → HasPort tree p → p ≢ e → p ≢ peer_of tree.links e → SameAtPort v p w u)
       (met : MetOn tree w)
@@ -94,7 +83,7 @@ module _ {K C : Type 0} (v : AppView K C) where
         (λ i. nq (sym back ∙ ap (peer_of tree.links) i))
         (λ i. ne (sym back ∙ (ap (peer_of tree.links) i ∙ laws.peer_twice e has))) in
         subst (AreDutiesMet v.cmp)
-        (sym (boxed_same near far _ _ _ _ _ _ _ _ sq.inbox sp.outbox
+        (sym (boxed_same v near far _ _ _ _ _ _ _ _ sq.inbox sp.outbox
         (ap (λ (r : EgressPort). inbox r u) back ∙ (sp.inbox ∙ ap (λ (r : EgressPort). inbox r w) (sym back))) sq.outbox))
         (met p here_too near far (sym sp.part ∙ a) (sym sq.part ∙ b))
 
@@ -117,7 +106,7 @@ module _ {K C : Type 0} (v : AppView K C) where
       let sp = same p has in
       let sq = same q (laws.peer_port p has) in
       let sr = same (peer_of w.tree.links q) (laws.peer_port q (laws.peer_port p has)) in
-      subst (AreDutiesMet v.cmp) (sym (boxed_same near far _ _ _ _ _ _ _ _ sq.inbox sp.outbox sr.inbox sq.outbox))
+      subst (AreDutiesMet v.cmp) (sym (boxed_same v near far _ _ _ _ _ _ _ _ sq.inbox sp.outbox sr.inbox sq.outbox))
       (met p has near far (sym sp.part ∙ a) (sym sq.part ∙ b)))
 
   -- ---- a node changes at the place of one port
@@ -152,10 +141,10 @@ module _ {K C : Type 0} (v : AppView K C) where
           let old = part_there v parts w base e has s is in
           let before : AreDutiesMet v.cmp (boxed v old.0 far (inbox q w) (box_at (place_of e.port) s.outboxes) (box_at (place_of e.port) s.inboxes) (outbox q w))
           = subst (AreDutiesMet v.cmp)
-          (boxed_same old.0 far (inbox q w) (inbox q w) (outbox e w) (box_at (place_of e.port) s.outboxes) (inbox (peer_of w.tree.links q) w) (box_at (place_of e.port) s.inboxes) (outbox q w) (outbox q w)
+          (boxed_same v old.0 far (inbox q w) (inbox q w) (outbox e w) (box_at (place_of e.port) s.outboxes) (inbox (peer_of w.tree.links q) w) (box_at (place_of e.port) s.inboxes) (outbox q w) (outbox q w)
           refl (outbox_is e w s is) (ap (λ (r : EgressPort). inbox r w) (laws.peer_twice e has) ∙ inbox_is e w s is) refl)
           (met e has old.0 far (part_is v e w s is ∙ old.1) (sym far_same.part ∙ b)) in
           subst (AreDutiesMet v.cmp)
-          (boxed_same near far (inbox q w) (inbox q u) (box_at (place_of e.port) (change s).outboxes) (outbox e u) (box_at (place_of e.port) (change s).inboxes) (inbox e u) (outbox q w) (outbox q u)
+          (boxed_same v near far (inbox q w) (inbox q u) (box_at (place_of e.port) (change s).outboxes) (outbox e u) (box_at (place_of e.port) (change s).inboxes) (inbox e u) (outbox q w) (outbox q u)
           (sym far_same.inbox) (sym (outbox_is e u (change s) new)) (sym (inbox_is e u (change s) new)) (sym far_same.outbox))
           (keeps s is old.0 near far (inbox q w) (outbox q w) old.1 (sym (part_is v e u (change s) new) ∙ a) before)

@@ -1,5 +1,5 @@
 -- A node of a network becomes another: which nodes there are then, and what every network keeps of them.
-use Rattle.std.proofs.Common.{◌≡◌, ◌≢◌, ◌⊎◌, inl, inr, ℕ, ◌+◌, ◌-◌, ◌<◌, List, [], length, refl, sym, ap, ◌∙◌, arith}
+use Rattle.std.proofs.Common.{◌≡◌, ◌≢◌, ◌⊎◌, inl, inr, ℕ, zero, suc, ◌+◌, ◌-◌, ◌<◌, List, [], ◌∷◌, length, map, refl, sym, ap, ◌∙◌, arith}
 use Rattle.std.specs.Prelude.{slice_get, slice_set, Option, Some, None, option_map}
 use Rattle.std.specs.Option.{option_map_or, option_and_then}
 use Rattle.std.proofs.Math.ListN.{length-set}
@@ -12,7 +12,11 @@ use Rattle.mvrp.specs.Side.{place_of}
 use Rattle.node_core.specs.declared.types.Wire.{Wire}
 use Rattle.node_core.specs.State.{NodeState, box_at, ports_of}
 use Rattle.node_core.specs.Proper.{IsProperNode}
-use Rattle.world_core.specs.World.{WorldState, node_at, with_changed, inbox, outbox}
+use Rattle.node_core.specs.Step.{node_step}
+use Rattle.node_core.specs.declared.types.NodeEvent.{NodeEvent}
+use Rattle.node_core.specs.declared.types.NodeEvent.TheVariants as node_events
+use Rattle.world_core.specs.declared.events.WorldReply.TheVariants.{Missed}
+use Rattle.world_core.specs.World.{WorldState, node_at, with_changed, after_step, stepped, inbox, outbox}
 use Rattle.world_core.specs.Duty.{part_at}
 use Rattle.world_core.specs.Kept.{FitsTree}
 use Rattle.world_core.proofs.Views.{AppView}
@@ -40,6 +44,30 @@ module _ (n : NodeNo) (change : NodeState → NodeState) (w : WorldState) where
       by : (o : Option NodeState) → (option_map_or (λ s. record w { nodes = slice_set w.nodes (n.0 - 1) (change s) }) o w).tree ≡ w.tree
       by None = refl
       by (Some s) = refl
+
+-- a node's step is its change in the network
+pub stepped_is : (n : NodeNo) (event : NodeEvent) (w : WorldState) → with_changed n (λ s. (node_step event s).0) w ≡ (stepped n event w).0
+stepped_is n event w = by (node_at n w)
+  where
+    by : (o : Option NodeState) → option_map_or (λ s. record w { nodes = slice_set w.nodes (n.0 - 1) (node_step event s).0 }) o w
+        ≡ (option_map_or (λ s. after_step n (node_step event s) w) o (w, Missed)).0
+    by None = refl
+    by (Some s) = refl
+
+pub ticked_get : (xs : List NodeState) (x : ℕ) (t : NodeState) → slice_get (map (λ s. (node_step node_events.Clock s).0) xs) x ≡ Some t
+    → (s : NodeState) × (slice_get xs x ≡ Some s) × ((node_step node_events.Clock s).0 ≡ t)
+ticked_get [] x t get = cc
+ticked_get (s ∷ xs) zero t get = (s, refl, cc)
+ticked_get (s ∷ xs) (suc x) t get = ticked_get xs x t get
+
+pub ticked_length : (xs : List NodeState) → length (map (λ s. (node_step node_events.Clock s).0) xs) ≡ length xs
+ticked_length [] = refl
+ticked_length (s ∷ xs) = ap suc (ticked_length xs)
+
+pub ticked_at : (xs : List NodeState) (x : ℕ) → slice_get (map (λ s. (node_step node_events.Clock s).0) xs) x ≡ option_map (λ s. (node_step node_events.Clock s).0) (slice_get xs x)
+ticked_at [] x = refl
+ticked_at (s ∷ xs) zero = refl
+ticked_at (s ∷ xs) (suc x) = ticked_at xs x
 
 -- ---- what every network keeps but for the duties
 

@@ -1,6 +1,6 @@
 -- An application as the proofs of a network see it, and what each application shows of itself: the laws of its links, and what
 -- a node's steps make of its participants. All else of the duties is proved once, for any application.
-use Rattle.std.proofs.Common.{◌≡◌, ◌≢◌, ℕ, ◌<◌, Bool, false, List, ◌++◌}
+use Rattle.std.proofs.Common.{◌≡◌, ◌≢◌, ℕ, ◌<◌, false, List, ◌++◌, refl, subst}
 use Rattle.std.specs.Prelude.{Option, Some, None, filter_map}
 use Rattle.std.specs.declared.cmp.Ordering.{Ordering}
 use Rattle.srp_base.specs.declared.numbers.Cs.{Cs}
@@ -41,6 +41,17 @@ module _ {K C : Type 0} (v : AppView K C) where
       (x y z : State K C) (far_in far_out : List Wire) → v.part at s ≡ Some x → v.part at t ≡ Some y
       → AreDutiesMet v.cmp (boxed x z far_in (box_at at s.outboxes) (box_at at s.inboxes) far_out)
       → AreDutiesMet v.cmp (boxed y z far_in (box_at at t.outboxes) (box_at at t.inboxes) far_out)
+
+  -- a link whose participants and boxes are others that are the same
+  pub boxed_same : (near far : State K C) (a a' b b' c c' d d' : List Wire) → a ≡ a' → b ≡ b' → c ≡ c' → d ≡ d' → boxed near far a b c d ≡ boxed near far a' b' c' d'
+  boxed_same near far a a' b b' c c' d d' ea eb ec ed = rw (ea, eb, ec, ed) refl
+
+  pub met_same : (x x' z z' : State K C) (a a' b b' c c' d d' : List Wire) → x ≡ x' → z ≡ z' → a ≡ a' → b ≡ b' → c ≡ c' → d ≡ d'
+      → AreDutiesMet v.cmp (boxed x z a b c d) → AreDutiesMet v.cmp (boxed x' z' a' b' c' d')
+  met_same x x' z z' a a' b b' c c' d d' ex ez ea eb ec ed met =
+      subst (λ (s : State K C). AreDutiesMet v.cmp (boxed s z' a' b' c' d')) ex
+      (subst (λ (s : State K C). AreDutiesMet v.cmp (boxed x s a' b' c' d')) ez
+      (subst (AreDutiesMet v.cmp) (boxed_same x z a a' b b' c c' d d' ea eb ec ed) met))
 
 -- the laws of a link, as the public laws say them
 pub record LinkLaws {K C : Type 0} (v : AppView K C) : Type 0 where

@@ -1,7 +1,7 @@
 -- What is on each link, as messages: the octets in flight read as what they say, so that the duty of a link's two ends
 -- (mrp_participant) speaks of the network. It is said of any application, by the order of its keys, its participant at a place
 -- of a node, and what a PDU says in it.
-use Rattle.std.specs.Prelude.{◌≡◌, ℕ, List, ◌++◌, filter_map, Option, Some, None, Result, Ok, Err, slice_get}
+use Rattle.std.specs.Prelude.{◌≡◌, ℕ, List, ◌++◌, filter_map, Option, Some, None, option_map, Result, Ok, Err, slice_get}
 use Rattle.std.specs.declared.cmp.Ordering.{Ordering}
 use Rattle.std.specs.Option.{option_and_then}
 use Rattle.std.specs.Ordering.{nat_cmp}
@@ -12,10 +12,15 @@ use Rattle.tree_topology.specs.Topology.{HasPort}
 use Rattle.tree_topology.specs.Ports.{peer_of}
 use Rattle.mvrp_codec.specs.declared.pdu.MvrpPdu.{MvrpPdu}
 use Rattle.mvrp_codec.specs.Meaning.{mvrp_reading}
+use Rattle.msrp_codec.specs.declared.pdu.MsrpKey.{MsrpKey}
+use Rattle.msrp_codec.specs.declared.pdu.MsrpContent.{MsrpContent}
+use Rattle.msrp_codec.specs.declared.pdu.MsrpPdu.{MsrpPdu}
+use Rattle.msrp_codec.specs.Meaning.{msrp_reading}
 use Rattle.mrp_participant.specs.State.{State, Messages}
 use Rattle.mrp_participant.specs.Link.{Link, AreDutiesMet}
 use Rattle.mvrp.specs.Part.{Part, messages}
 use Rattle.mvrp.specs.Side.{place_of}
+use Rattle.msrp.specs.Part.{Part as StreamPart, key_cmp}
 use Rattle.node_core.specs.declared.types.Wire.{Wire}
 use Rattle.node_core.specs.State.{NodeState}
 use Rattle.world_core.specs.World.{WorldState, node_at, inbox, outbox}
@@ -82,3 +87,33 @@ link_with p w near far = link_of message_of p w near far
 -- on every link both ends meet their duty in MVRP
 abbrev pub AreVlanDutiesMet : WorldState → Type 0
 AreVlanDutiesMet w = AreDutiesMetIn nat_cmp vlan_place message_of w
+
+-- ---- of MSRP
+
+-- what the octets of a PDU of MSRP say to a participant, in the order in which they stand; malformed octets say nothing
+abbrev pub said_of_streams : Result MsrpPdu ℕ → Option (Messages MsrpKey MsrpContent)
+said_of_streams (Ok pdu) = Some (record { leave_all = pdu.leave_all; events = pdu.events })
+said_of_streams (Err place) = None
+
+-- what a PDU says in MSRP
+abbrev pub octets_said : App → List ℕ → Option (Messages MsrpKey MsrpContent)
+octets_said Mvrp octets = None
+octets_said Msrp octets = said_of_streams (msrp_reading octets)
+
+abbrev pub streams_said : Wire → Option (Messages MsrpKey MsrpContent)
+streams_said wire = octets_said wire.app wire.octets
+
+-- the participant of MSRP at a place of a node, and at a port
+abbrev pub stream_place : ℕ → NodeState → Option StreamPart
+stream_place at s = option_map (λ port. port.part) (slice_get s.streams.ports at)
+
+abbrev pub stream_part : EgressPort → WorldState → Option StreamPart
+stream_part p w = part_at stream_place p w
+
+-- the link of a port with these participants of MSRP at its ends
+abbrev pub stream_link : EgressPort → WorldState → StreamPart → StreamPart → Link MsrpKey MsrpContent
+stream_link p w near far = link_of streams_said p w near far
+
+-- on every link both ends meet their duty in MSRP
+abbrev pub AreStreamDutiesMet : WorldState → Type 0
+AreStreamDutiesMet w = AreDutiesMetIn key_cmp stream_place streams_said w
