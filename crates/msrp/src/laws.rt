@@ -62,8 +62,7 @@ pub fn one_settling_is_enough()
 /// A new side keeps what every side keeps, and all of it fits in the fields in which it is sent.
 pub fn a_new_side_is_proper()
     ensures { (bridge : BridgeId) (leave_time : Cs) (periodic : Bool) (ports : List PortSetup)
-        → bridge.0 < 2 ^ 64 → AllByRecursion (λ p. p.latency < 2 ^ 32) ports
-        → IsProper (new_streams bridge leave_time periodic ports) }
+        → bridge.0 < 2 ^ 64 → IsProper (new_streams bridge leave_time periodic ports) }
 {
     every_step_keeps_a_book();
 }
