@@ -71,16 +71,17 @@ of_ports : (moment : ℕ) (ports : List Port) (s : StreamId) → AllByRecursion 
 of_ports moment [] s all = tt
 of_ports moment (p ∷ ports) s all = (of_content s (registered_at key_cmp (keys.Talker s) p.part) (λ c h. registered_holds Belongs p.part (own_row p.part all.0.contents) (keys.Talker s) c h), of_ports moment ports s all.1)
 
-of_found : (s : StreamId) (xs : List TalkerReg) → AllByRecursion (IsOf s) xs → IsOf s (unwrap_or (find is_present xs) Absent)
-of_found s [] all = tt
-of_found s (x ∷ xs) all = by (is_present x) (of_found s xs all.1)
+-- what holds of each Talker that is registered holds of the one at the Talker's port
+pub found_holds : (P : TalkerReg → Type 0) → P Absent → (xs : List TalkerReg) → AllByRecursion P xs → P (unwrap_or (find is_present xs) Absent)
+found_holds P absent [] all = absent
+found_holds P absent (x ∷ xs) all = by (is_present x) (found_holds P absent xs all.1)
   where
-    by : (b : Bool) → IsOf s (unwrap_or (find is_present xs) Absent) → IsOf s (unwrap_or (if b then Some x else find is_present xs) Absent)
+    by : (b : Bool) → P (unwrap_or (find is_present xs) Absent) → P (unwrap_or (if b then Some x else find is_present xs) Absent)
     by true rest = all.0
     by false rest = rest
 
 pub of_talker : (moment : ℕ) (talks : List Talker) (ports : List Port) (s : StreamId) → AllByRecursion (IsPort moment) ports → IsOf s (talker_of (talkers_of talks ports s))
-of_talker moment talks ports s all = of_found s (talkers_of talks ports s) (of_own talks s, of_ports moment ports s all)
+of_talker moment talks ports s all = found_holds (IsOf s) tt (talkers_of talks ports s) (of_own talks s, of_ports moment ports s all)
 
 of_declared : (s : StreamId) (config : PortConfig) (t : Talker) (o : Option ℕ) → s ≡ t.stream → IsOf s (declared_of config t o)
 of_declared s config t None h = h

@@ -30,8 +30,7 @@ use mrp_participant::laws::{
 };
 use msrp_codec::MsrpKey;
 use msrp_codec::laws::{
-    each_key_keeps_its_event, stated_octets_suffice, the_order_of_types_is_a_permutation,
-    what_is_written_is_read,
+    each_key_keeps_its_event, stated_octets_suffice, what_is_written_is_read,
 };
 use port_ledger::laws::{
     every_step_keeps_a_book, fits_stay, nothing_changed_where_both_lists_are_empty,
