@@ -3,6 +3,7 @@
 use Rattle.std.proofs.Common.{◌≡◌, Bool, false, if◌then◌else◌, ℕ, List, [], ◌∷◌, ◌++◌, fold, refl, sym, ap, subst, ◌∙◌, append_assoc}
 use Rattle.std.specs.Prelude.{Option, Some, None, option_map, filter_map}
 use Rattle.std.specs.List.{cons_option}
+use Rattle.std.proofs.lemmas.List.{append-nil}
 use Rattle.std.proofs.lemmas.List.Elements.{filter_map-append}
 use Rattle.srp_base.specs.declared.numbers.Cs.{Cs}
 use Rattle.mrp_participant.specs.State.{State, Messages, is_silent, declared_state, withdrawn_state, due_state, left_state, leave_all_state, periodic_state, received_state, sent_state, sent_messages}
@@ -104,6 +105,13 @@ module _ {K C : Type 0} (v : AppView K C) (laws : LinkLaws v) where
       ∙ (filter_map-append v.said (far_in ++ out) (wire ∷ [])
       ∙ ap (λ (o : Option (Messages K C)). filter_map v.said (far_in ++ out) ++ cons_option o []) is)
 
+  nothing_said : (far_in out : List Wire) (wire : Wire) → v.said wire ≡ None → filter_map v.said (far_in ++ (out ++ (wire ∷ []))) ≡ filter_map v.said (far_in ++ out)
+  nothing_said far_in out wire is =
+      ap (filter_map v.said) (sym (append_assoc far_in out (wire ∷ [])))
+      ∙ (filter_map-append v.said (far_in ++ out) (wire ∷ [])
+      ∙ (ap (λ (o : Option (Messages K C)). filter_map v.said (far_in ++ out) ++ cons_option o []) is
+      ∙ append-nil (filter_map v.said (far_in ++ out))))
+
   -- the participant has spoken, and its PDU, which says the same of each key, is the last in the outbox
   pub record HasSpoken (now : Cs) (at : ℕ) (s t : NodeState) (x : State K C) : Type 0 where
     pub loud : is_silent x ≡ false
@@ -128,6 +136,16 @@ module _ {K C : Type 0} (v : AppView K C) (laws : LinkLaws v) where
       became refl refl (sym h.outs) (sym h.ins) refl
       (subst (λ (ms : List (Messages K C)). AreDutiesMet v.cmp (record { near = sent_state laws.base laws.octets v.cmp now x; far = z; sent = ms; coming = coming }))
       (sym (more_said far_in out h.wire h.says h.read)) after)
+
+  -- a PDU that says nothing in the application
+  pub unheard : (at : ℕ) (s t : NodeState) → v.part at t ≡ v.part at s → box_at at t.inboxes ≡ box_at at s.inboxes
+      → (wire : Wire) → v.said wire ≡ None → box_at at t.outboxes ≡ box_at at s.outboxes ++ (wire ∷ []) → KeepsLink v at s t
+  unheard at s t same ins wire silent outs x y z far_in far_out old new met =
+      let is : x ≡ y = cc (same, old, new) in
+      met_same v x y z z far_in far_in (box_at at s.outboxes ++ (wire ∷ [])) (box_at at t.outboxes) (box_at at s.inboxes) (box_at at t.inboxes) far_out far_out
+      is refl refl (sym outs) (sym ins) refl
+      (subst (λ (ms : List (Messages K C)). AreDutiesMet v.cmp (record { near = x; far = z; sent = ms; coming = filter_map v.said (box_at at s.inboxes ++ far_out) }))
+      (sym (nothing_said far_in (box_at at s.outboxes) wire silent)) met)
 
   -- ---- a node that stays as it is
 

@@ -18,15 +18,15 @@ module _ {K C : Type 0} (cmp : K → K → Ordering) where
   -- only the events of a key count for it
   only_own : (k : K) (held : Option C) (es : List (MrpEvent × K × C)) → fold (held_hearing cmp k) held es ≡ fold (held_hearing cmp k) held (filter (λ e. same cmp e.1 k) es)
   only_own k held [] = refl
-  only_own k held (e ∷ es) = by (same cmp e.1 k) refl
+  only_own k held (e ∷ es) = by (same cmp e.1 k) refl (only_own k (held_after_event e.0 e.2 held) es) (only_own k held es)
     where
       by : (b : Bool) → same cmp e.1 k ≡ b
+          → fold (held_hearing cmp k) (held_after_event e.0 e.2 held) es ≡ fold (held_hearing cmp k) (held_after_event e.0 e.2 held) (filter (λ e. same cmp e.1 k) es)
+          → fold (held_hearing cmp k) held es ≡ fold (held_hearing cmp k) held (filter (λ e. same cmp e.1 k) es)
           → fold (held_hearing cmp k) (if b then held_after_event e.0 e.2 held else held) es
           ≡ fold (held_hearing cmp k) held (if b then e ∷ filter (λ e. same cmp e.1 k) es else filter (λ e. same cmp e.1 k) es)
-      by true is =
-          only_own k (held_after_event e.0 e.2 held) es
-          ∙ ap (λ (b : Bool). fold (held_hearing cmp k) (if b then held_after_event e.0 e.2 held else held) (filter (λ e. same cmp e.1 k) es)) (sym is)
-      by false is = only_own k held es
+      by true is counts other = counts ∙ ap (λ (b : Bool). fold (held_hearing cmp k) (if b then held_after_event e.0 e.2 held else held) (filter (λ e. same cmp e.1 k) es)) (sym is)
+      by false is counts other = other
 
   held_same : (m n : Messages K C) → SaysSame cmp m n → (k : K) (held : Option C) → held_after cmp k held m ≡ held_after cmp k held n
   held_same m n says k held =

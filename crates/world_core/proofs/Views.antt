@@ -1,6 +1,6 @@
 -- An application as the proofs of a network see it, and what each application shows of itself: the laws of its links, and what
 -- a node's steps make of its participants. All else of the duties is proved once, for any application.
-use Rattle.std.proofs.Common.{◌≡◌, ◌≢◌, ℕ, ◌<◌, false, List, ◌++◌, refl, subst}
+use Rattle.std.proofs.Common.{◌≡◌, ◌≢◌, ℕ, ◌<◌, Bool, false, List, ◌++◌, refl, subst}
 use Rattle.std.specs.Prelude.{Option, Some, None, filter_map}
 use Rattle.std.specs.declared.cmp.Ordering.{Ordering}
 use Rattle.srp_base.specs.declared.numbers.Cs.{Cs}

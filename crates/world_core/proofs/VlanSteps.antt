@@ -1,5 +1,6 @@
 -- What a node's steps make of the participants of MVRP.
 use Rattle.std.proofs.Common.{◌≡◌, ◌≢◌, ℕ, zero, suc, ◌<◌, Bool, true, false, if◌then◌else◌, List, [], ◌∷◌, ◌++◌, length, map, fold, refl, sym, ap, subst, ◌∙◌}
+use Rattle.std.proofs.lemmas.Option.{slice_get_within}
 use Rattle.std.specs.Prelude.{slice_get, slice_set, Option, Some, None, option_map, Result, Ok, Err}
 use Rattle.std.specs.Option.{option_map_or}
 use Rattle.std.specs.List.{AllByRecursion}
@@ -12,7 +13,7 @@ use Rattle.mvrp_codec.specs.declared.pdu.MvrpPdu.{MvrpPdu}
 use Rattle.mvrp_codec.specs.Meaning.{mvrp_reading}
 use Rattle.mvrp_codec.specs.Writing.{mvrp_spelling}
 use Rattle.mrp_participant.specs.Duty.{IsDutyMet}
-use Rattle.mrp_participant.specs.State.{Messages, AreRows, is_active, is_silent, due_state, left_keys, left_state, leave_all_state, periodic_state, sent_messages, sent_events}
+use Rattle.mrp_participant.specs.State.{Messages, AreRows, is_active, is_silent, declared_state, withdrawn_state, due_state, left_keys, left_state, leave_all_state, periodic_state, sent_messages, sent_events}
 use Rattle.mrp_participant.specs.Link.{Link, LinkEvent, AreDutiesMet, after_event, turned}
 use Rattle.mvrp.specs.Part.{Part, base, octets, same_content, pdu_sent, received_part, told_by_receipt, sent_part, settled_vid, settled_part}
 use Rattle.mvrp.specs.Side.{Vlans, IsWritten, with_part, at_part, retold, replaced, left_vids, has_own, is_flat, awaiting_at, received_vlans, due_vlans, left_vlans, leave_all_vlans, periodic_vlans, settled_vlans, sent_vlans, spoilt_vlans}
@@ -28,12 +29,12 @@ use Rattle.node_core.specs.State.{NodeState, box_at, ports_of}
 use Rattle.node_core.specs.Step.{node_step, port_step, worked, worked_app, worked_mvrp, said, said_mvrp, sent_octets}
 use Rattle.node_core.specs.Links.{spoilt_at}
 use Rattle.node_core.specs.Proper.{IsProperNode}
-use Rattle.world_core.specs.Duty.{said_by, message_of, vlan_place}
+use Rattle.world_core.specs.Duty.{said_by, vlans_said, message_of, vlan_place}
 use Rattle.world_core.proofs.Lists.{one_some, within, set_at, set_at_there, set_at_other}
 use Rattle.world_core.proofs.Boxes.{box_got, box_set}
 use Rattle.world_core.proofs.Views.{AppView, LinkLaws, StepFacts, KeepsLink, unsound}
 use Rattle.world_core.proofs.Nodes.{outbox_there}
-use Rattle.world_core.proofs.LinkSteps.{KeepsNear, HasSpoken, declares, withdraws, leaves, fires, fires_leave_all, fires_periodic, all_keep, by_call, called, hearing, taken, spoken, still}
+use Rattle.world_core.proofs.LinkSteps.{KeepsNear, HasSpoken, declares, withdraws, leaves, fires, fires_leave_all, fires_periodic, all_keep, by_call, called, hearing, taken, spoken, unheard, still}
 use Rattle.world_core.proofs.SameSaid.{SaysSame}
 
 -- MVRP as the network's proofs see it
@@ -173,7 +174,7 @@ module _ (laws : VlanLaws) where
   settles : (rule : ℕ → Bool) (x : Part) (vid : ℕ) → KeepsNear vlan_view links x (settled_vid rule x vid)
   settles rule x vid = by (rule vid)
     where
-      by : (b : Bool) → KeepsNear vlan_view links x (if b then Rattle.mrp_participant.specs.State.declared_state nat_cmp same_content vid tt x else Rattle.mrp_participant.specs.State.withdrawn_state nat_cmp vid x)
+      by : (b : Bool) → KeepsNear vlan_view links x (if b then declared_state nat_cmp same_content vid tt x else withdrawn_state nat_cmp vid x)
       by true = declares vlan_view links vid tt x
       by false = withdraws vlan_view links vid x
 
@@ -211,12 +212,12 @@ module _ (laws : VlanLaws) where
       by Mvrp e =
           subst (λ (a : App). KeepsLink vlan_view at s (worked_app a at wire.octets (record s { inboxes = slice_set s.inboxes at wires })).0) (sym e)
           (taken vlan_view links s.clock at s (worked_app Mvrp at wire.octets (record s { inboxes = slice_set s.inboxes at wires })).0 wire wires
-          (subst (λ (a : App). slice_get (worked_mvrp s.clock at (mvrp_reading wire.octets) s.vlans).0.parts at ≡ option_map (hearing vlan_view links s.clock (Rattle.world_core.specs.Duty.vlans_said a wire.octets)) (slice_get s.vlans.parts at)) (sym e) (heard (mvrp_reading wire.octets)))
+          (subst (λ (a : App). slice_get (worked_mvrp s.clock at (mvrp_reading wire.octets) s.vlans).0.parts at ≡ option_map (hearing vlan_view links s.clock (vlans_said a wire.octets)) (slice_get s.vlans.parts at)) (sym e) (heard (mvrp_reading wire.octets)))
           is left refl)
       by Msrp e =
           subst (λ (a : App). KeepsLink vlan_view at s (worked_app a at wire.octets (record s { inboxes = slice_set s.inboxes at wires })).0) (sym e)
           (taken vlan_view links s.clock at s (worked_app Msrp at wire.octets (record s { inboxes = slice_set s.inboxes at wires })).0 wire wires
-          (subst (λ (a : App). slice_get s.vlans.parts at ≡ option_map (hearing vlan_view links s.clock (Rattle.world_core.specs.Duty.vlans_said a wire.octets)) (slice_get s.vlans.parts at)) (sym e) (heard (Err 0)))
+          (subst (λ (a : App). slice_get s.vlans.parts at ≡ option_map (hearing vlan_view links s.clock (vlans_said a wire.octets)) (slice_get s.vlans.parts at)) (sym e) (heard (Err 0)))
           is left refl)
 
   -- events without their content, and with it again, are the same
@@ -234,7 +235,7 @@ module _ (laws : VlanLaws) where
   spoken_there : (at : ℕ) (s : NodeState) → IsProperNode s → (x : Part) → slice_get s.vlans.parts at ≡ Some x → is_silent x ≡ false
       → HasSpoken vlan_view links s.clock at s (sent_octets Mvrp at (Some (mvrp_spelling (pdu_sent s.clock x))) s).0 x
   spoken_there at s proper x old loud =
-      let below = Rattle.std.proofs.lemmas.Option.slice_get_within s.vlans.parts at x old in
+      let below = slice_get_within s.vlans.parts at x old in
       let there = outbox_there s proper at below in
       let wire : Wire = record { app = Mvrp; octets = mvrp_spelling (pdu_sent s.clock x) } in
       record {
@@ -260,8 +261,15 @@ module _ (laws : VlanLaws) where
           spoken vlan_view links s.clock at s (sent_octets Mvrp at (Some (mvrp_spelling (pdu_sent s.clock x))) s).0
           (λ y old. subst (λ (p : Part). HasSpoken vlan_view links s.clock at s (sent_octets Mvrp at (Some (mvrp_spelling (pdu_sent s.clock x))) s).0 p) (one_some _ x y is old) (spoken_there at s proper x is e))
 
+  -- what MSRP sends says nothing to it
   other_sent : (at : ℕ) (o : Option (List ℕ)) (s : NodeState) → IsProperNode s → KeepsLink vlan_view at s (sent_octets Msrp at o s).0
-  other_sent at o s proper = ?
+  other_sent at None s proper = still vlan_view links at s
+  other_sent at (Some os) s proper = λ x y z far_in far_out old new met.
+      let below = slice_get_within s.vlans.parts at x old in
+      let there = outbox_there s proper at below in
+      let wire : Wire = record { app = Msrp; octets = os } in
+      unheard vlan_view links at s (sent_octets Msrp at (Some os) s).0 refl refl wire refl (box_got s.outboxes at there.0 (box_at at s.outboxes ++ (wire ∷ [])) there.1)
+      x y z far_in far_out old new met
 
   step_kept : (step : PortStep) (at : ℕ) (s : NodeState) → IsProperNode s → KeepsLink vlan_view at s (port_step step at s).0
   step_kept Work at s proper = work_kept at (box_at at s.inboxes) s refl
