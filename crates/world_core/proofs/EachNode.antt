@@ -88,13 +88,3 @@ module _ (P : ℕ → NodeState → Type 0) where
         all_changed q.node (with_carried (place_of q.port) (outbox p w)) v (λ s is h. sides.boxes (q.node.0 - 1) s (with_carried (place_of q.port) (outbox p w) s).inboxes s.outboxes h)
         (all_changed p.node (with_outbox (place_of p.port) []) w (λ s is h. sides.boxes (p.node.0 - 1) s s.inboxes (slice_set s.outboxes (place_of p.port) []) h) all)
     all_keep Clock w keeps all = all_ticked w keeps all
-
--- what holds of each node by its place, and of each of the list
-pub each_of : (Q : NodeState → Type 0) (nodes : List NodeState) → ((x : ℕ) (s : NodeState) → slice_get nodes x ≡ Some s → Q s) → AllByRecursion Q nodes
-each_of Q [] h = tt
-each_of Q (s ∷ nodes) h = (h zero s refl, each_of Q nodes (λ x t get. h (suc x) t get))
-
-pub at_each : (Q : NodeState → Type 0) (nodes : List NodeState) → AllByRecursion Q nodes → (x : ℕ) (s : NodeState) → slice_get nodes x ≡ Some s → Q s
-at_each Q [] hs x s get = cc
-at_each Q (t ∷ nodes) hs zero s get = let same : t ≡ s = cc in subst Q same hs.0
-at_each Q (t ∷ nodes) hs (suc x) s get = at_each Q nodes hs.1 x s get

@@ -2,7 +2,7 @@
 use Rattle.std.proofs.Common.{◌≡◌, ◌≢◌, ◌⊎◌, inl, inr, ℕ, zero, suc, ◌<◌, List, [], ◌∷◌, ◌++◌, length, refl, sym, ap, subst, ◌∙◌, arith}
 use Rattle.std.specs.Prelude.{slice_get, slice_set, Option, Some, None, option_map, filter_map}
 use Rattle.std.specs.Option.{option_map_or}
-use Rattle.std.specs.List.{cons_option}
+use Rattle.std.specs.List.{cons_option, AllByRecursion}
 use Rattle.srp_base.specs.declared.numbers.EgressPort.{EgressPort}
 use Rattle.mrp_participant.specs.Link.{repeated}
 use Rattle.node_core.specs.declared.types.Wire.{Wire}
@@ -64,6 +64,16 @@ set_each {X = X} P xs at t h hs j p get = by (decide at j)
         let is : t ≡ p = get_set_same xs at t p (ap (λ k. slice_get (slice_set xs at t) k) e ∙ get) in
         subst (λ (k : ℕ). P k p) e (subst (λ (x : X). P at x) is h)
     by (inr ne) = hs j p (sym (get_set_other xs at j t ne) ∙ get)
+
+-- what holds of each by its place, and of each of the list
+pub each_of : {X : Type 0} (Q : X → Type 0) (xs : List X) → ((i : ℕ) (x : X) → slice_get xs i ≡ Some x → Q x) → AllByRecursion Q xs
+each_of Q [] h = tt
+each_of Q (x ∷ xs) h = (h zero x refl, each_of Q xs (λ i y get. h (suc i) y get))
+
+pub at_each : {X : Type 0} (Q : X → Type 0) (xs : List X) → AllByRecursion Q xs → (i : ℕ) (x : X) → slice_get xs i ≡ Some x → Q x
+at_each Q [] hs i x get = cc
+at_each Q (y ∷ xs) hs zero x get = let same : y ≡ x = cc in subst Q same hs.0
+at_each Q (y ∷ xs) hs (suc i) x get = at_each Q xs hs.1 i x get
 
 -- there is an element at each place below the length
 pub within : {X : Type 0} (xs : List X) (i : ℕ) → i < length xs → (x : X) × (slice_get xs i ≡ Some x)

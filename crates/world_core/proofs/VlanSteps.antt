@@ -30,7 +30,7 @@ use Rattle.node_core.specs.Step.{node_step, port_step, worked, worked_app, worke
 use Rattle.node_core.specs.Links.{spoilt_at}
 use Rattle.node_core.specs.Proper.{IsProperNode}
 use Rattle.world_core.specs.Duty.{said_by, vlans_said, message_of, vlan_place}
-use Rattle.world_core.proofs.Lists.{one_some, within, set_at, set_at_there, set_at_other}
+use Rattle.world_core.proofs.Lists.{one_some, at_each, within, set_at, set_at_there, set_at_other}
 use Rattle.world_core.proofs.Boxes.{box_got, box_set}
 use Rattle.world_core.proofs.Views.{AppView, LinkLaws, StepFacts, KeepsLink, unsound}
 use Rattle.world_core.proofs.Nodes.{outbox_there}
@@ -160,11 +160,6 @@ silent_app : (app : App) (os : List ℕ) → app ≢ Mvrp → message_of (record
 silent_app Mvrp os ne = absurd (ne refl)
 silent_app Msrp os ne = refl
 
-rows_at : (xs : List Part) (i : ℕ) (x : Part) → AllByRecursion (λ p. AreRows nat_cmp p.rows) xs → slice_get xs i ≡ Some x → AreRows nat_cmp x.rows
-rows_at [] i x hs at = cc
-rows_at (y ∷ xs) zero x hs at = let same : y ≡ x = cc in subst (λ (p : Part). AreRows nat_cmp p.rows) same hs.0
-rows_at (y ∷ xs) (suc i) x hs at = rows_at xs i x hs.1 at
-
 -- ---- at the place itself
 
 module _ (laws : VlanLaws) where
@@ -243,7 +238,7 @@ module _ (laws : VlanLaws) where
         part = made_there at (sent_part s.clock) s.vlans (sent_vlans s.clock at s.vlans) (sent_is s.clock at s.vlans) ∙ ap (option_map (sent_part s.clock)) old;
         wire = wire;
         says = sent_messages base octets nat_cmp s.clock x;
-        read = said_is s.clock x (rows_at s.vlans.parts at x proper.kept.vlans.rows old) (proper.vids.parts at x old) loud;
+        read = said_is s.clock x (at_each (λ (p : Part). AreRows nat_cmp p.rows) s.vlans.parts proper.kept.vlans.rows at x old) (proper.vids.parts at x old) loud;
         same = record { leave_all = refl; of_key = λ k. refl };
         ins = refl;
         outs = box_got s.outboxes at there.0 (box_at at s.outboxes ++ (wire ∷ [])) there.1;
