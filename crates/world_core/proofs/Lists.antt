@@ -1,6 +1,6 @@
 -- One place of a list is set; and what says something in a list of PDUs.
 use Rattle.std.proofs.Common.{◌≡◌, ◌≢◌, ◌⊎◌, inl, inr, ℕ, zero, suc, ◌<◌, List, [], ◌∷◌, ◌++◌, length, refl, sym, ap, subst, ◌∙◌, arith}
-use Rattle.std.specs.Prelude.{slice_get, slice_set, Option, Some, None, option_map, filter_map}
+use Rattle.std.specs.Prelude.{slice_get, slice_set, Option, Some, None, option_map, filter_map, All}
 use Rattle.std.specs.Option.{option_map_or}
 use Rattle.std.specs.List.{cons_option, AllByRecursion}
 use Rattle.srp_base.specs.declared.numbers.EgressPort.{EgressPort}
@@ -69,6 +69,10 @@ set_each {X = X} P xs at t h hs j p get = by (decide at j)
 pub each_of : {X : Type 0} (Q : X → Type 0) (xs : List X) → ((i : ℕ) (x : X) → slice_get xs i ≡ Some x → Q x) → AllByRecursion Q xs
 each_of Q [] h = tt
 each_of Q (x ∷ xs) h = (h zero x refl, each_of Q xs (λ i y get. h (suc i) y get))
+
+pub all_each : {X : Type 0} (P : X → Type 0) (xs : List X) → All P xs → AllByRecursion P xs
+all_each P [] h = tt
+all_each P (x ∷ xs) h = (h 0 x (omega arith), all_each P xs (λ k d lt. h (suc k) d (omega (arith, lt))))
 
 pub at_each : {X : Type 0} (Q : X → Type 0) (xs : List X) → AllByRecursion Q xs → (i : ℕ) (x : X) → slice_get xs i ≡ Some x → Q x
 at_each Q [] hs i x get = cc
