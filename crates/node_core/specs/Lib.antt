@@ -2,4 +2,3 @@ pub mod Wires
 pub mod State
 pub mod Step
 pub mod Links
-pub mod Proper
