@@ -2,3 +2,4 @@ pub mod Wires
 pub mod State
 pub mod Step
 pub mod Links
+pub mod Proper
