@@ -222,7 +222,14 @@ CanStep (Request request) s = s.kind ≡ Station
 CanStep (Port port step) s = IsLinkPort port (ports_of s)
 CanStep Clock s = s.clock.0 < 2 ^ 61
 
--- ---- what a port puts into its outbox
+-- ---- what the applications at a port become
+
+-- a PDU was taken by its application, and the other one is as it was
+abbrev pub HasWorked : App → Cs → ℕ → List ℕ → Vlans → Streams → StepReply → Vlans → Streams → Type 0
+HasWorked Mvrp now at octets v t reply v' t' =
+    (worked_mvrp now at (mvrp_reading octets) v ≡ (v', reply)) × (t' ≡ t)
+HasWorked Msrp now at octets v t reply v' t' =
+    (worked_msrp now at (msrp_reading octets) t ≡ (t', reply)) × (v' ≡ v)
 
 -- an application and an outbox after it has said something, or nothing, and what the port answers: the application as
 -- it was, and as it is once it has said it
@@ -237,3 +244,10 @@ HasPut app octets before after outbox (Ok reply) side outbox' =
     put_said app octets before after outbox ≡ (side, outbox', reply)
 HasPut app octets before after outbox (Err e) side outbox' =
     (side ≡ before) × (outbox' ≡ outbox)
+
+-- so with one of both applications, and the other one is as it was
+abbrev pub HasSaid : App → Cs → ℕ → Vlans → Streams → List Wire → Result StepReply NoMemory → Vlans → Streams → List Wire → Type 0
+HasSaid Mvrp now at v t outbox result v' t' outbox' =
+    HasPut Mvrp (said_mvrp now at v) v (sent_vlans now at v) outbox result v' outbox' × (t' ≡ t)
+HasSaid Msrp now at v t outbox result v' t' outbox' =
+    HasPut Msrp (said_msrp now at t) t (sent_streams now at t) outbox result t' outbox' × (v' ≡ v)
