@@ -1,0 +1,492 @@
+//! A station declares VID 10, and what it says goes through a bridge of two ports; a station talks a stream, and another
+//! listens; what happens to PDUs on the way; and timers.
+//!
+//! The calls stand in functions of their own without contracts, each of which asks first whether the node has the port,
+//! so that a test's own proof is short.
+
+ghost use Rattle.std.specs.Prelude.{◌≡◌, ◌≤◌, ◌+◌, true, IfSome};
+ghost use Rattle.mvrp.specs.Side.{IsLinkPort};
+ghost use Rattle.node_core.specs.State.{ports_of};
+
+use crate::PortStep::{Due, LeaveAllNow, LeaveNow, PeriodicNow, Send, Settle, Work};
+use crate::StepReply::{Discarded, Fired, Nothing, Received, Sent, Settled, Silent, Taken};
+use crate::{AppRequest, Node, NodeEvent, NodeKey, PortStep, StepReply, Wire};
+use msrp_codec::{MsrpContent, MsrpKey};
+use registrar::Registrar;
+use srp_base::{
+    App, BridgeId, Class, Cs, ListenerKind, Mac, NoMemory, Percent, PortNo, PortSetup, Priority,
+    Rank, Rate, Seq, StreamId, Talker, TalkerReg, Vid,
+};
+use std::alloc::Global;
+use std::test::Fail;
+use stream_importance::Fit;
+use tree_topology::NodeKind;
+
+const ONE: PortNo = PortNo(1);
+
+const TWO: PortNo = PortNo(2);
+
+// JoinMt of VID 10, Lv of it, and a PDU whose attribute length isn't that of a VID.
+const JOIN: [u8; 12] = [0, 1, 2, 0, 1, 0, 10, 0x6c, 0, 0, 0, 0];
+
+const LEAVE: [u8; 12] = [0, 1, 2, 0, 1, 0, 10, 0xb4, 0, 0, 0, 0];
+
+const BROKEN: [u8; 3] = [0, 1, 3];
+
+fn setup(period: u64) -> Option<PortSetup>
+    ensures period { IfSome result (λ s. s.period.0 ≡ period) }
+    ensures shares { IfSome result (λ s. s.delta_a + s.delta_b ≤ 90) }
+{
+    let delta_a = Percent::new(75)?;
+    let delta_b = Percent::new(0)?;
+    Some(PortSetup {
+        rate: Rate::M100,
+        delta_a,
+        delta_b,
+        latency: 0,
+        period: Cs(period),
+    })
+}
+
+// A station of one link port, whose LeaveAll timer is due at 1,008.
+fn station(alloc: Global) -> Result<Node, Fail> {
+    let port = setup(1_008).ok_or("shares of at most 90")?;
+    let ports = [port];
+    Ok(Node::new(
+        alloc,
+        NodeKind::Station,
+        BridgeId(17),
+        Cs(60),
+        false,
+        ports.as_slice(),
+    )?)
+}
+
+// A bridge of two link ports, whose LeaveAll timers are due at 3 and at 1,015.
+fn bridge(alloc: Global) -> Result<Node, Fail> {
+    let one = setup(3).ok_or("shares of at most 90")?;
+    let two = setup(1_015).ok_or("shares of at most 90")?;
+    let ports = [one, two];
+    Ok(Node::new(
+        alloc,
+        NodeKind::Bridge,
+        BridgeId(18),
+        Cs(60),
+        false,
+        ports.as_slice(),
+    )?)
+}
+
+fn has(node: &Node, port: PortNo) -> bool
+    ensures { result ≡ true → IsLinkPort port (ports_of node.now) }
+{
+    1 <= port.0 && port.0 <= node.ports()
+}
+
+// Whether the station's application may ask for this, and it is taken.
+fn asks(node: &mut Node, request: AppRequest) -> Result<bool, NoMemory> {
+    match node.kind() {
+        NodeKind::Station => Ok(node.step(NodeEvent::Request(request))? == Taken),
+        NodeKind::Bridge => Ok(false),
+    }
+}
+
+// Whether these steps of a link port have these answers.
+fn answers(
+    node: &mut Node,
+    port: PortNo,
+    steps: &[(PortStep, StepReply)],
+) -> Result<bool, NoMemory> {
+    for (step, reply) in steps {
+        if !has(node, port) || node.step(NodeEvent::Port(port, *step))? != *reply {
+            return Ok(false);
+        }
+    }
+    Ok(true)
+}
+
+// PDUs of an application with these octets, in order.
+fn wires(alloc: Global, list: &[(App, &[u8])]) -> Result<Seq<Wire>, NoMemory> {
+    let mut wires = Seq::new(alloc);
+    for (app, octets) in list {
+        let octets = Seq::from_vec(Vec::from_slice(alloc, octets)?);
+        wires.push(Wire { app: *app, octets })?;
+    }
+    Ok(wires)
+}
+
+// Whether these PDUs came in at a link port.
+fn comes_in(node: &mut Node, port: PortNo, wires: Seq<Wire>) -> Result<bool, NoMemory> {
+    if !has(node, port) || wires.as_slice().iter().any(|wire| 1500 < wire.octets.len()) {
+        return Ok(false);
+    }
+    match node.put_in(port, wires) {
+        Ok(()) => Ok(true),
+        Err((error, _)) => Err(error),
+    }
+}
+
+// What waits to go out at a link port comes in at one of another node; false where a port isn't there.
+fn carry(from: &mut Node, out: PortNo, to: &mut Node, into: PortNo) -> Result<bool, NoMemory> {
+    if !has(from, out) {
+        return Ok(false);
+    }
+    let wires = from.take_out(out);
+    comes_in(to, into, wires)
+}
+
+// Whether one PDU with these octets waited to go out at a link port; it is taken out.
+fn says(node: &mut Node, port: PortNo, octets: &[u8]) -> bool {
+    if !has(node, port) {
+        return false;
+    }
+    let wires = node.take_out(port);
+    match wires.as_slice() {
+        [wire] => wire.octets.as_slice() == octets,
+        _ => false,
+    }
+}
+
+// Whether so many PDUs wait at a link port, the front one of this application, and what the registrar of a VID is.
+fn shows(
+    node: &Node,
+    port: PortNo,
+    count: usize,
+    app: Option<App>,
+    (vid, registrar): (Vid, Registrar),
+) -> bool {
+    has(node, port)
+        && node.waiting(port) == count
+        && node.app_at(port, 0) == app
+        && node.registrar(port, NodeKey::Vlan(vid)) == registrar
+}
+
+// What waits to go out at a link port is taken out and put back; false where the port isn't there.
+fn puts_back(node: &mut Node, port: PortNo) -> bool {
+    if !has(node, port) {
+        return false;
+    }
+    let wires = node.take_out(port);
+    node.put_back(port, wires);
+    true
+}
+
+// Whether the PDU with this index in a link port's inbox is lost.
+fn loses(node: &mut Node, port: PortNo, index: u32) -> bool {
+    has(node, port) && node.lose(port, index)
+}
+
+// Whether the PDU with this index in a link port's inbox comes twice.
+fn repeats(node: &mut Node, port: PortNo, index: u32) -> Result<bool, NoMemory> {
+    if has(node, port) {
+        node.repeat(port, index)
+    } else {
+        Ok(false)
+    }
+}
+
+fn spoil(node: &mut Node, port: PortNo, app: App) {
+    if has(node, port) {
+        node.spoil(port, app);
+    }
+}
+
+// Whether MVRP's participant at a link port is sound, and MSRP's.
+fn soundness(node: &Node, port: PortNo) -> [bool; 2] {
+    if has(node, port) {
+        [node.sound(port, App::Mvrp), node.sound(port, App::Msrp)]
+    } else {
+        [false; 2]
+    }
+}
+
+// Whether a copy has nothing pending, and no port of it is sound.
+fn copy_is_spoilt(node: &Node) -> Result<bool, NoMemory> {
+    let copy = node.copy()?;
+    Ok(copy.still() && !copy.all_sound())
+}
+
+// Whether a link port has all kinds of jobs to do, for one PDU.
+fn has_jobs(node: &Node, port: PortNo) -> Result<bool, NoMemory> {
+    if !has(node, port) {
+        return Ok(false);
+    }
+    let jobs = node.jobs(port)?;
+    let all = [Work, Due, Settle, Send(App::Mvrp), Send(App::Msrp)];
+    Ok(jobs.as_slice() == all.as_slice())
+}
+
+// Whether these are the attributes that are registered at a link port.
+fn has_keys(node: &Node, port: PortNo, keys: &[NodeKey]) -> Result<bool, NoMemory> {
+    if !has(node, port) {
+        return Ok(false);
+    }
+    let found = node.keys(port)?;
+    Ok(found.as_slice() == keys)
+}
+
+// The clock goes on by 1 cs, by the call or by the event; the moment afterwards.
+fn goes_on(node: &mut Node, by_event: bool) -> Result<Cs, NoMemory> {
+    if 1_000_000 < node.now().0 {
+        return Ok(Cs(0));
+    }
+    if by_event {
+        node.step(NodeEvent::Clock)?;
+    } else {
+        let sets = node.prepare_clock()?;
+        node.tick(sets);
+    }
+    Ok(node.now())
+}
+
+// What is seen where a station declares a VID, and a bridge hears of it at one port and says it at the other.
+fn declaration(station: &mut Node, bridge: &mut Node, vid: Vid) -> Result<[bool; 7], NoMemory> {
+    let asked = asks(station, AppRequest::Declare(vid))? && station.declares(vid);
+    let list = [
+        (Settle, Settled(1)),
+        (Send(App::Msrp), Silent),
+        (Send(App::Mvrp), Sent(12)),
+    ];
+    let sent = answers(station, ONE, list.as_slice())?;
+    let carried = carry(station, ONE, bridge, ONE)?;
+    let waits = shows(bridge, ONE, 1, Some(App::Mvrp), (vid, Registrar::Empty));
+    let worked = answers(
+        bridge,
+        ONE,
+        [(Work, Received(1)), (Work, Nothing)].as_slice(),
+    )?;
+    let registered = shows(bridge, ONE, 0, None, (vid, Registrar::Held))
+        && has_keys(bridge, ONE, [NodeKey::Vlan(vid)].as_slice())?;
+    let said = says_at_two(bridge, &JOIN)?;
+    Ok([asked, sent, carried, waits, worked, registered, said])
+}
+
+// Whether one VID awaits at port 2, and what is said of it there are these octets.
+fn says_at_two(bridge: &mut Node, octets: &[u8]) -> Result<bool, NoMemory> {
+    let list = [(Settle, Settled(1)), (Send(App::Mvrp), Sent(12))];
+    Ok(
+        answers(bridge, TWO, list.as_slice())?
+            && puts_back(bridge, TWO)
+            && says(bridge, TWO, octets),
+    )
+}
+
+// What is seen where a PDU is lost and the one behind it comes twice, behind a malformed one.
+fn link_events(alloc: Global, bridge: &mut Node, vid: Vid) -> Result<[bool; 5], NoMemory> {
+    let list = [
+        (App::Mvrp, BROKEN.as_slice()),
+        (App::Msrp, &JOIN),
+        (App::Mvrp, &JOIN),
+    ];
+    let came = comes_in(bridge, ONE, wires(alloc, list.as_slice())?)?;
+    let kept = !loses(bridge, ONE, 3) && !repeats(bridge, ONE, 3)?;
+    let lost = loses(bridge, ONE, 1) && repeats(bridge, ONE, 1)?;
+    let waits = shows(bridge, ONE, 3, Some(App::Mvrp), (vid, Registrar::Empty));
+    let list = [
+        (Work, Discarded(2)),
+        (Work, Received(1)),
+        (Work, Received(1)),
+        (Work, Nothing),
+    ];
+    let worked = answers(bridge, ONE, list.as_slice())?;
+    Ok([came, kept, lost, waits, worked])
+}
+
+// What is seen where a port is spoilt, and a LeaveAll makes it sound.
+fn spoiling(station: &mut Node) -> Result<[bool; 8], NoMemory> {
+    let named = station.ports() == 1 && station.bridge() == BridgeId(17);
+    let still = station.still() && station.all_sound();
+    spoil(station, ONE, App::Mvrp);
+    let stays = soundness(station, ONE) == [false, true];
+    spoil(station, ONE, App::Msrp);
+    let spoilt = soundness(station, ONE) == [false, false] && copy_is_spoilt(station)?;
+    let list = [
+        (PeriodicNow(App::Msrp), Fired(1)),
+        (PeriodicNow(App::Mvrp), Fired(1)),
+    ];
+    let periodic = answers(station, ONE, list.as_slice())?;
+    let list = [
+        (LeaveAllNow(App::Msrp), Fired(1)),
+        (LeaveAllNow(App::Mvrp), Fired(1)),
+    ];
+    let fired = answers(station, ONE, list.as_slice())?;
+    let list = [(Send(App::Mvrp), Sent(11)), (Send(App::Msrp), Sent(106))];
+    let sent = answers(station, ONE, list.as_slice())?;
+    let sound = soundness(station, ONE) == [true, true];
+    Ok([named, still, stays, spoilt, periodic, fired, sent, sound])
+}
+
+// What is seen where the LeaveAll timers of the port that has a VID registered are due at 3, of both applications, and
+// nobody says it again.
+fn leaving(alloc: Global, bridge: &mut Node, vid: Vid) -> Result<[bool; 6], NoMemory> {
+    let came = comes_in(
+        bridge,
+        ONE,
+        wires(alloc, [(App::Mvrp, JOIN.as_slice())].as_slice())?,
+    )?;
+    let busy = has_jobs(bridge, ONE)? && bridge.is_busy();
+    let worked = answers(
+        bridge,
+        ONE,
+        [(Work, Received(1)), (Due, Fired(0))].as_slice(),
+    )?;
+    let said = says_at_two(bridge, &JOIN)?;
+    let moments = [
+        goes_on(bridge, true)?,
+        goes_on(bridge, false)?,
+        goes_on(bridge, true)?,
+    ];
+    let list = [(Due, Fired(2)), (Send(App::Mvrp), Sent(11))];
+    let due = moments == [Cs(1), Cs(2), Cs(3)] && answers(bridge, ONE, list.as_slice())?;
+    let left = shows(bridge, ONE, 0, None, (vid, Registrar::Leaving)) && leaves(bridge, vid)?;
+    Ok([came, busy, worked, said, due, left])
+}
+
+// Whether a VID that was leaving at port 1 has left, and is withdrawn at port 2.
+fn leaves(bridge: &mut Node, vid: Vid) -> Result<bool, NoMemory> {
+    let key = NodeKey::Vlan(vid);
+    let list = [(LeaveNow(key), Fired(1)), (LeaveNow(key), Fired(0))];
+    Ok(answers(bridge, ONE, list.as_slice())? && says_at_two(bridge, &LEAVE)?)
+}
+
+// A Talker of a stream: one frame of 200 octets in each interval of class A, so 15,488,000 bit/s.
+fn talker_of(stream: StreamId) -> Option<Talker> {
+    let dest = Mac::new(0x91e0_f000_fe01)?;
+    let priority = Priority::new(3)?;
+    Some(Talker {
+        stream,
+        dest,
+        vid: 2,
+        max_frame: 200,
+        frames: 1,
+        priority,
+        rank: Rank::Normal,
+        latency: 500,
+    })
+}
+
+// Whether a link port has booked a stream alone, for the Listener that is registered there.
+fn books(node: &Node, port: PortNo, stream: StreamId) -> Result<bool, NoMemory> {
+    if !has(node, port) {
+        return Ok(false);
+    }
+    let all = node.bookings(port)?;
+    let sums = all.len() == 1 && node.slope(port, Class::A) == 15_488_000;
+    let fits = node.fit(port, stream) == Some(Fit::Fits);
+    Ok(node.booked(port, stream).is_some() && sums && fits)
+}
+
+// Whether Listener Ready of a stream is all that is registered at a link port.
+fn is_listened(node: &Node, port: PortNo, stream: StreamId) -> Result<bool, NoMemory> {
+    if !has(node, port) {
+        return Ok(false);
+    }
+    let key = MsrpKey::Listener(stream);
+    let ready = node.content(port, key) == Some(MsrpContent::Listener(ListenerKind::Ready));
+    let held = node.registrar(port, NodeKey::Srp(key)) == Registrar::Held;
+    Ok(ready && held && has_keys(node, port, [NodeKey::Srp(key)].as_slice())?)
+}
+
+// What is seen where a station talks a stream and declares a VID, another listens, and the first books.
+fn reservation(
+    from: &mut Node,
+    to: &mut Node,
+    talker: Talker,
+    vid: Vid,
+) -> Result<[bool; 6], NoMemory> {
+    let stream = talker.stream;
+    let talks = asks(from, AppRequest::Talk(talker))?
+        && asks(from, AppRequest::Declare(vid))?
+        && from.talks(stream);
+    let listens = asks(to, AppRequest::Listen(stream))? && to.listens(stream);
+    let list = [(Settle, Settled(3)), (Send(App::Msrp), Sent(37))];
+    let sent = answers(from, ONE, list.as_slice())? && carry(from, ONE, to, ONE)?;
+    let list = [
+        (Work, Received(1)),
+        (Settle, Settled(2)),
+        (Send(App::Msrp), Sent(21)),
+    ];
+    let answered = answers(to, ONE, list.as_slice())? && carry(to, ONE, from, ONE)?;
+    let heard = to.heard(stream) == Some(ListenerKind::Ready)
+        && to.talker(stream) == TalkerReg::Advertise(talker);
+    let list = [
+        (Work, Received(1)),
+        (Settle, Settled(2)),
+        (LeaveNow(NodeKey::Srp(MsrpKey::Listener(stream))), Fired(0)),
+    ];
+    let booked = answers(from, ONE, list.as_slice())?
+        && books(from, ONE, stream)?
+        && is_listened(from, ONE, stream)?;
+    Ok([talks, listens, sent, answered, heard, booked])
+}
+
+// Whether a station talks a stream no more, and another doesn't listen to it any more.
+fn ends(from: &mut Node, to: &mut Node, stream: StreamId) -> Result<bool, NoMemory> {
+    let asked = asks(from, AppRequest::Hush(stream))? && asks(to, AppRequest::Unlisten(stream))?;
+    Ok(asked && !from.talks(stream) && !to.listens(stream))
+}
+
+// The scenes at new nodes.
+fn new_reservation(alloc: Global) -> Result<([bool; 6], bool), Fail> {
+    let vid = Vid::new(10).ok_or("a VID")?;
+    let stream = StreamId(0x0200_0000_0001_0001);
+    let talker = talker_of(stream).ok_or("a Talker")?;
+    let mut from = station(alloc)?;
+    let mut to = station(alloc)?;
+    let scene = reservation(&mut from, &mut to, talker, vid)?;
+    Ok((scene, ends(&mut from, &mut to, stream)?))
+}
+
+fn new_declaration(alloc: Global) -> Result<[bool; 7], Fail> {
+    let vid = Vid::new(10).ok_or("a VID")?;
+    let mut station = station(alloc)?;
+    let mut bridge = bridge(alloc)?;
+    Ok(declaration(&mut station, &mut bridge, vid)?)
+}
+
+fn new_link_events(alloc: Global) -> Result<[bool; 5], Fail> {
+    let vid = Vid::new(10).ok_or("a VID")?;
+    let mut bridge = bridge(alloc)?;
+    Ok(link_events(alloc, &mut bridge, vid)?)
+}
+
+fn new_spoiling(alloc: Global) -> Result<[bool; 8], Fail> {
+    let mut station = station(alloc)?;
+    Ok(spoiling(&mut station)?)
+}
+
+fn new_leaving(alloc: Global) -> Result<[bool; 6], Fail> {
+    let vid = Vid::new(10).ok_or("a VID")?;
+    let mut bridge = bridge(alloc)?;
+    Ok(leaving(alloc, &mut bridge, vid)?)
+}
+
+#[test]
+fn a_vid_goes_from_a_station_through_a_bridge(rt: HostRuntime) -> Result<(), Fail> {
+    assert_eq!(rt; new_declaration(rt.alloc())?, [true; 7]);
+    Ok(())
+}
+
+#[test]
+fn a_stream_is_booked_where_a_station_listens(rt: HostRuntime) -> Result<(), Fail> {
+    assert_eq!(rt; new_reservation(rt.alloc())?, ([true; 6], true));
+    Ok(())
+}
+
+#[test]
+fn pdus_are_lost_repeated_and_discarded(rt: HostRuntime) -> Result<(), Fail> {
+    assert_eq!(rt; new_link_events(rt.alloc())?, [true; 5]);
+    Ok(())
+}
+
+#[test]
+fn a_spoilt_port_is_sound_after_a_leave_all(rt: HostRuntime) -> Result<(), Fail> {
+    assert_eq!(rt; new_spoiling(rt.alloc())?, [true; 8]);
+    Ok(())
+}
+
+#[test]
+fn what_a_leave_all_leaves_is_withdrawn(rt: HostRuntime) -> Result<(), Fail> {
+    assert_eq!(rt; new_leaving(rt.alloc())?, [true; 6]);
+    Ok(())
+}
