@@ -1,0 +1,1 @@
+//! The frames of a scenario with both routes, and its flow.
