@@ -1,13 +1,11 @@
 -- The copies of entries, one after another.
-use Rattle.std.proofs.Common.{◌≡◌, ℕ, zero, suc, ◌+◌, ◌<◌, List, [], ◌∷◌, ◌++◌, map, length, get_or, drop, Option, Some, None, refl, sym, ap, ◌∙◌, append_assoc, arith}
+use Rattle.std.proofs.Common.{◌≡◌, ℕ, ◌+◌, List, [], ◌∷◌, ◌++◌, map, sym, ap, ◌∙◌, append_assoc, arith}
 use Rattle.std.specs.List.{range_with_len}
-use Rattle.std.proofs.Math.Seq.{drop-cons}
 use Rattle.std.proofs.lemmas.List.FromFn.{map-range_with_len_more}
 use Rattle.frame_flow.specs.declared.frame.Frame.{Frame}
-use Rattle.topology_file.specs.declared.entries.StreamEntry.{StreamEntry}
 use Rattle.topology_file.specs.declared.entries.FrameEntry.{FrameEntry}
 use Rattle.scenario_frames.specs.declared.way.Way.{Way}
-use Rattle.scenario_frames.specs.PlanFrames.{copy_of, copies_of, frames_from, way_of}
+use Rattle.scenario_frames.specs.PlanFrames.{copy_of}
 
 -- one copy more
 pub copies-more : (e : FrameEntry) (way : Way) (first i : ℕ) (old : List Frame)

@@ -1,18 +1,17 @@
 -- The frames of a scenario that keeps its rules: their numbers, and that a flow may be asked of them.
-use Rattle.std.proofs.Common.{◌≡◌, ℕ, zero, suc, ◌+◌, ◌-◌, ◌*◌, ◌<◌, ◌≤◌, List, [], ◌∷◌, ◌++◌, map, length, get_or, Option, Some, None, option_map, refl, sym, ap, subst, ◌∙◌, arith}
+use Rattle.std.proofs.Common.{◌≡◌, ℕ, zero, suc, ◌+◌, ◌-◌, ◌*◌, ◌<◌, ◌≤◌, List, [], ◌∷◌, ◌++◌, map, length, get_or, Option, Some, option_map, refl, sym, ap, subst, ◌∙◌, arith}
 use Rattle.std.specs.List.{range_with_len, All, AllPairs}
 use Rattle.std.specs.Prelude.{slice_get}
 use Rattle.std.proofs.Math.Nat.{mul-le-mul_right}
 use Rattle.std.proofs.lemmas.List.{map-append, length-map, get_or-map}
-use Rattle.std.proofs.lemmas.List.Elements.{All-nil, All-cons, All-head, All-tail, All-append, All-map, All-weaker}
+use Rattle.std.proofs.lemmas.List.Elements.{All-nil, All-head, All-tail, All-append, All-map, All-weaker}
 use Rattle.std.proofs.lemmas.List.FromFn.{length-range_with_len, get_or-range_with_len}
 use Rattle.std.proofs.lemmas.List.Sums.{sum_by-cons}
 use Rattle.std.proofs.lemmas.Option.{slice_get-get_or}
 use Rattle.srp_base.specs.declared.ports.PortChange.{PortChange}
 use Rattle.tree_topology.specs.Topology.{Topology, HasNode}
 use Rattle.frame_flow.specs.declared.frame.Frame.{Frame}
-use Rattle.frame_flow.specs.Flow.{Setting}
-use Rattle.frame_flow.specs.Given.{IsFrame, IsRoute, IsEarlier, IsInRange, IsSetting}
+use Rattle.frame_flow.specs.Given.{IsFrame, IsRoute, IsEarlier, IsSetting}
 use Rattle.topology_file.specs.declared.entries.NodeEntry.{NodeEntry}
 use Rattle.topology_file.specs.declared.entries.LinkEntry.{LinkEntry}
 use Rattle.topology_file.specs.declared.entries.StreamEntry.{StreamEntry}
@@ -22,7 +21,7 @@ use Rattle.topology_file.specs.declared.entries.FrameRoute.TheVariants as routes
 use Rattle.topology_file.specs.Frames.{HasFrameForm, IsKnownRoute, frame_copies}
 use Rattle.topology_file.specs.Kinds.{IsStationNumber}
 use Rattle.topology_file.specs.Plan.{Plan}
-use Rattle.topology_file.specs.Scenario.{KeepsRules, ends_of_entry, node_kinds, topology_of}
+use Rattle.topology_file.specs.Scenario.{KeepsRules, ends_of_entry}
 use Rattle.scenario_frames.specs.declared.way.Way.{Way}
 use Rattle.scenario_frames.specs.PlanFrames.{stream_way, way_of, copy_of, copies_of, frames_from, plan_frames}
 use Rattle.scenario_frames.specs.Setting.{AreBelowRates, setting_of}
@@ -40,7 +39,7 @@ record HasWay (tree : Topology) (o : Option Way) : Type 0 where
 station-node : (p : Plan) (x : ℕ) → KeepsRules p → IsStationNumber p.nodes x → HasNode p.tree x
 station-node p x kept station =
     let kinds : length p.tree.kinds ≡ length p.nodes =
-        ap (λ (t : Topology). length t.kinds) kept.tree ∙ length-map p.nodes (λ (n : NodeEntry). n.kind) in
+    ap (λ (t : Topology). length t.kinds) kept.tree ∙ length-map p.nodes (λ (n : NodeEntry). n.kind) in
     (station.0.0, omega (arith, station.0.1, kinds))
 
 -- an index below the length has an element, of which holds what holds of all
@@ -94,10 +93,10 @@ numbers-from p first (e ∷ es) ways =
     let W : FrameEntry → Type 0 = λ x. HasWay p.tree (way_of p.streams x.route) in
     let w = All-head W e es ways in
     let own : copies_of e (way_of p.streams e.route) first ≡ map (copy_of e w.way first) (range_with_len 0 e.count) =
-        ap (λ (o : Option Way). copies_of e o first) w.is in
+    ap (λ (o : Option Way). copies_of e o first) w.is in
     let same : first + 0 ≡ first = omega arith in
     let numbers : map (λ f. f.number) (copies_of e (way_of p.streams e.route) first) ≡ range_with_len first e.count =
-        ap (map (λ f. f.number)) own ∙ numbers-of-copies e w.way first 0 e.count ∙ ap (λ (n : ℕ). range_with_len n e.count) same in
+    ap (map (λ f. f.number)) own ∙ numbers-of-copies e w.way first 0 e.count ∙ ap (λ (n : ℕ). range_with_len n e.count) same in
     let rest = numbers-from p (first + e.count) es (All-tail W e es ways) in
     map-append (λ f. f.number) (copies_of e (way_of p.streams e.route) first) (frames_from p.streams (first + e.count) es)
     ∙ ap (λ (t : List ℕ). t ++ map (λ f. f.number) (frames_from p.streams (first + e.count) es)) numbers
@@ -118,8 +117,8 @@ ascending : (fs : List Frame) (a n : ℕ) → map (λ f. f.number) fs ≡ range_
 ascending fs a n is i j d lt below =
     let many : length fs ≡ n = sym (length-map fs (λ (f : Frame). f.number)) ∙ ap length is ∙ length-range_with_len a n in
     let at : (k : ℕ) → k < length fs → (get_or fs k d).number ≡ a + k =
-        λ k within. sym (get_or-map (λ (f : Frame). f.number) fs k d d.number within) ∙ ap (λ (t : List ℕ). get_or t k d.number) is
-        ∙ get_or-range_with_len a n k d.number (omega (arith, within, many)) in
+    λ k within. sym (get_or-map (λ (f : Frame). f.number) fs k d d.number within) ∙ ap (λ (t : List ℕ). get_or t k d.number) is
+    ∙ get_or-range_with_len a n k d.number (omega (arith, within, many)) in
     omega (arith, at i (omega (arith, lt, below)), at j below, lt)
 
 -- ---- each frame
@@ -140,9 +139,9 @@ copies-are : (tree : Topology) (ticks : ℕ) (e : FrameEntry) (o : Option Way) (
     → All (IsFrame tree ticks) (copies_of e o first)
 copies-are tree ticks e o first form w =
     let copies = All-map (IsFrame tree ticks) (copy_of e w.way first) (range_with_len 0 e.count) (λ k d below.
-        let within : k < e.count = omega (arith, below, length-range_with_len 0 e.count) in
-        copy-is tree ticks e w.way first (get_or (range_with_len 0 e.count) k d) form w.from w.route
-        (omega (arith, within, get_or-range_with_len 0 e.count k d within))) in
+    let within : k < e.count = omega (arith, below, length-range_with_len 0 e.count) in
+    copy-is tree ticks e w.way first (get_or (range_with_len 0 e.count) k d) form w.from w.route
+    (omega (arith, within, get_or-range_with_len 0 e.count k d within))) in
     subst (λ (t : Option Way). All (IsFrame tree ticks) (copies_of e t first)) (sym w.is) copies
 
 frames-are : (p : Plan) (first : ℕ) (es : List FrameEntry) → All (HasFrameForm p.ticks) es
@@ -162,7 +161,7 @@ pub valid-setting : (p : Plan) (changes : List PortChange) → KeepsRules p → 
     → IsSetting (setting_of p changes)
 valid-setting p changes kept order slopes =
     let links : length p.tree.links ≡ length p.links =
-        ap (λ (t : Topology). length t.links) kept.tree ∙ length-map p.links ends_of_entry in
+    ap (λ (t : Topology). length t.links) kept.tree ∙ length-map p.links ends_of_entry in
     record {
       rates = length-map p.links (λ (l : LinkEntry). l.rate) ∙ sym links;
       range = record {

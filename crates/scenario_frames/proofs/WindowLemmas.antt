@@ -1,6 +1,6 @@
 -- Windows with the hiCredit of a cap on the slopes.
-use Rattle.std.proofs.Common.{◌≡◌, ℕ, ◌+◌, ◌*◌, ◌<◌, ◌≤◌, Bool, true, false, ◌&&◌, List, [], ◌∷◌, map, length, get_or, max, Option, Some, None, cond, refl, sym, ap, subst, ◌∙◌, arith}
-use Rattle.std.specs.Prelude.{All, Contains, filter, nat_le, ◌==◌}
+use Rattle.std.proofs.Common.{◌≡◌, ℕ, ◌≤◌, Bool, true, false, List, [], ◌∷◌, get_or, Option, Some, None, cond, sym, ap, subst, ◌∙◌, arith}
+use Rattle.std.specs.Prelude.{All, nat_le, ◌==◌}
 use Rattle.std.proofs.lemmas.Bool.{and_parts, eqb-true}
 use Rattle.std.proofs.lemmas.Int.{ints}
 use Rattle.std.proofs.lemmas.List.Elements.{All-nil, All-cons, All-head, All-tail, All-filter, All-map, filter_passes}
@@ -10,7 +10,6 @@ use Rattle.srp_base.specs.declared.ports.PortChange.{PortChange}
 use Rattle.credit_shaper.specs.declared.port.SlopeChange.{SlopeChange}
 use Rattle.credit_shaper.specs.declared.port.PortInput.{PortInput}
 use Rattle.credit_shaper.specs.Bounds.{greatest_slope_a, IsWindowAWithin}
-use Rattle.frame_flow.specs.declared.place.Place.{Place}
 use Rattle.frame_flow.specs.declared.result.PortFlow.{PortFlow}
 use Rattle.frame_flow.specs.Copies.{all_places}
 use Rattle.frame_flow.specs.Flow.{Setting, IsFlow, port_flow}
@@ -103,9 +102,9 @@ greatest-at s flows cap keeps is =
     let places = all_places s.tree.links s.rates in
     subst (λ (t : List PortFlow). All P t) (sym is.each)
     (All-map P (port_flow s flows) places (λ k d below.
-      let place = get_or places k d in
-      greatest-upto (cap place.at) (slopes_over place.rate s.ticks (changes_at s.changes place.at))
-      (slopes-upto (cap place.at) place.rate s.ticks (changes_at s.changes place.at) (port-upto cap s.changes place.at keeps))))
+    let place = get_or places k d in
+    greatest-upto (cap place.at) (slopes_over place.rate s.ticks (changes_at s.changes place.at))
+    (slopes-upto (cap place.at) place.rate s.ticks (changes_at s.changes place.at) (port-upto cap s.changes place.at keeps))))
 
 pub windows-of-cap : (s : Setting) (flows : List PortFlow) (cap : EgressPort → ℕ) → KeepsCapsA cap s.changes → IsFlow s flows
     → All HasWindowsOfSlopes flows → All (HasWindowsOfCap cap) flows

@@ -1,4 +1,4 @@
-use Rattle.std.proofs.Common.{◌≡◌, ℕ, ◌+◌, ◌≤◌, ◌++◌, drop}
+use Rattle.std.proofs.Common.{◌≡◌, ◌+◌, ◌≤◌, ◌++◌, drop}
 use Rattle.topology_file.specs.Frames.{frame_copies}
 use Rattle.scenario_frames.specs.PlanFrames.{frames_from}
 use Rattle.scenario_frames.proofs.frames.add_entries.Given as goal
