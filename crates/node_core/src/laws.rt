@@ -83,7 +83,7 @@ pub fn steps_keep_what_a_node_is()
 /// A step keeps the node's BridgeID, and how each link port is set up: its BridgeID, its latency and the caps of its ledger.
 pub fn a_port_stays_set_up()
     ensures bridge { (event : NodeEvent) (s : NodeState) → (node_step event s).0.bridge ≡ s.bridge }
-    ensures setups { (event : NodeEvent) (s : NodeState) → port_setups (node_step event s).0
+    ensures ports { (event : NodeEvent) (s : NodeState) → port_setups (node_step event s).0
         ≡ port_setups s }
 {
     of_streams::calls_keep_the_ports();
