@@ -1,14 +1,15 @@
 //! The frames of a scenario's file as a flow is asked of them, and the flow of a run.
 //!
 //! ```text
-//!   entry k, an entry a frame:      route, octets, at, count, every
-//!        |
-//!        '--> copies 0, 1, .. of it, each at + i * every         way: where they start, as what they go
-//!                  |
-//!   Frame  n, n + 1, ..   <--------------------------------------'
-//!
-//!   frames, rates, tree, ticks of the scenario ----.
-//!   changes of the run's timeline -----------------+--> frame_flow::flow --> FlowResult
+//!   an entry of the file, with its route ---> its way: where its frames start, as what they go
+//!        |                                       |
+//!        '--> its copies: at + i * every         |
+//!                  |                             |
+//!                  '--> Frames, numbered on <----'
+//!                         |
+//!   tree, rates, ticks ---+--> Setting ---> frame_flow::flow ---> FlowResult
+//!                         |
+//!   a run's changes ------'
 //! ```
 //!
 //! - `way`: where the frames of a route start, which route a flow sends them on, and their VID.
