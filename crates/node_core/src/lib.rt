@@ -2,12 +2,13 @@
 //! clock, and one step at a time.
 //!
 //! ```text
-//!            application of a station                             Clock: 1 cs
-//!                  | Request                                           | of both: the moment of MSRP's ledgers
-//!                  v                                                   v
-//!   link --carry--> inbox --Work--> MVRP: VIDs        <--Due, Settle--> --Send--> outbox --carry--> link
-//!                      by the PDU's  MSRP: Talkers, Listeners, bookings
-//!                      application
+//!     application of a station          Clock: 1 cs, of the node and of MSRP's ledgers
+//!               | Request                 |
+//!               v                         v
+//!   link --> inbox --Work--> MVRP: VIDs                           --Send--> outbox --> link
+//!                            MSRP: Talkers, Listeners, bookings
+//!                                   ^
+//!                                   | Due, Settle: of both
 //! ```
 //!
 //! A node runs MVRP (IEEE Std 802.1Q-2018, 11.2) and MSRP (35.2) side by side: a participant of each at each link port.
