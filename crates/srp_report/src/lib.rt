@@ -26,7 +26,11 @@
 //! `Tally::counted`.
 #![tactic(auto)]
 
+mod departures;
+mod flows;
+mod journal;
 mod lines;
+mod names;
 mod ports;
 mod tallies;
 mod tally;
@@ -34,4 +38,6 @@ mod tally;
 mod tests;
 mod text;
 
+pub use departures::SentFrame;
+pub use journal::journal_text;
 pub use text::report;
