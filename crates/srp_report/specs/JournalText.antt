@@ -59,9 +59,14 @@ event_line t e = joined (
     decimal t ∷ codes " event " ∷ decimal e.0 ∷ codes " " ∷ event_name e.1 ∷ codes "\n" ∷ [])
 
 -- `T P STEP REPLY`
+abbrev pub place_text : ℕ → List ℕ → List ℕ
+place_text t port = joined (decimal t ∷ codes " " ∷ port ∷ codes " " ∷ [])
+
+abbrev pub made_text : NodeStep → List ℕ
+made_text st = joined (step_name st.step ∷ codes " " ∷ reply_name st.reply ∷ codes "\n" ∷ [])
+
 abbrev pub step_line : ℕ → List ℕ → NodeStep → List ℕ
-step_line t port st = joined (
-    decimal t ∷ codes " " ∷ port ∷ codes " " ∷ step_name st.step ∷ codes " " ∷ reply_name st.reply ∷ codes "\n" ∷ [])
+step_line t port st = place_text t port ++ made_text st
 
 -- a step of a node
 abbrev pub line_at : Plan → ℕ → NodeNo → NodeStep → List ℕ

@@ -3,7 +3,8 @@
 ghost use Rattle.std.specs.Prelude.{◌≡◌, ◌++◌, flat_map, IfOk, OnOk};
 ghost use Rattle.std.specs.Fmt.{decimal};
 ghost use Rattle.srp_base.specs.Text.{joined};
-ghost use Rattle.srp_report.specs.JournalText.{app_name as app_name_spec, step_name, reply_name, event_name as event_name_spec, event_line, line_at, step_lines, tick_lines, ticks_lines, journal_text as journal_text_spec};
+ghost use Rattle.srp_report.specs.Lines.{port_name};
+ghost use Rattle.srp_report.specs.JournalText.{app_name as app_name_spec, step_name, reply_name, event_name as event_name_spec, event_line, place_text, made_text, line_at, step_lines, tick_lines, ticks_lines, journal_text as journal_text_spec};
 
 use crate::lines::{put, put_number};
 use crate::names::put_port_name;
@@ -132,10 +133,30 @@ fn put_step(
         node,
         port: made.port,
     };
+    put_place(out, scenario, t, at)?;
+    put_made(out, made)
+}
+
+// The tick and the port of a step.
+fn put_place(
+    out: &mut Vec<u8>,
+    scenario: &Scenario,
+    t: u64,
+    at: EgressPort,
+) -> Result<(), AllocError>
+    ensures { OnOk result (out.new.items
+        ≡ out.old.items ++ place_text t (port_name scenario.now scenario.now.tree.links at)) }
+{
     put_number(out, t)?;
     put(out, " ")?;
     put_port_name(out, scenario, &scenario.tree, at)?;
-    put(out, " ")?;
+    put(out, " ")
+}
+
+// A step and its answer.
+fn put_made(out: &mut Vec<u8>, made: &NodeStep) -> Result<(), AllocError>
+    ensures { OnOk result (out.new.items ≡ out.old.items ++ made_text made.now) }
+{
     put_step_name(out, made.step)?;
     put(out, " ")?;
     put_reply(out, made.reply)?;
