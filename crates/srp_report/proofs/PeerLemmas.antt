@@ -26,12 +26,12 @@ no-far-node tree p sound some none =
     elim (cases_lt p.node.0 1) [
       | inl few ↦ nowhere (λ h. omega (arith, h.0, few))
       | inr one ↦ elim (cases_lt (length tree.kinds) p.node.0) [
-          | inl many ↦ nowhere (λ h. omega (arith, h.1, many))
-          | inr known ↦ elim (cases_lt (p.port.0 - 1) (length (neighbours tree.links p.node.0))) [
-              | inl lt ↦ absurd (none ((one, known), some, omega (arith, lt, some)))
-              | inr past ↦ get_or_past (neighbours tree.links p.node.0) (p.port.0 - 1) 0 past
-            ]
+        | inl many ↦ nowhere (λ h. omega (arith, h.1, many))
+        | inr known ↦ elim (cases_lt (p.port.0 - 1) (length (neighbours tree.links p.node.0))) [
+          | inl lt ↦ absurd (none ((one, known), some, omega (arith, lt, some)))
+          | inr past ↦ get_or_past (neighbours tree.links p.node.0) (p.port.0 - 1) 0 past
         ]
+      ]
     ]
   where
     nowhere : (IsNode (length tree.kinds) p.node.0 → ⊥) → far_node tree.links p ≡ 0

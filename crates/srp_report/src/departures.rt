@@ -19,10 +19,7 @@ pub struct SentFrame {
 }
 
 /// The copies of a port that depart, ascending by start.
-pub(crate) fn departures(
-    alloc: Global,
-    fates: &[(u32, Fate)],
-) -> Result<Vec<SentFrame>, NoMemory>
+pub(crate) fn departures(alloc: Global, fates: &[(u32, Fate)]) -> Result<Vec<SentFrame>, NoMemory>
     ensures { IfOk result (λ v. v.items ≡ by_start (sent_frames_spec fates.now)) }
 {
     let mut sent = sent_frames(alloc, fates)?;
@@ -34,10 +31,12 @@ pub(crate) fn departures(
 fn sent_frames(alloc: Global, fates: &[(u32, Fate)]) -> Result<Vec<SentFrame>, NoMemory>
     ensures { IfOk result (λ v. v.items ≡ sent_frames_spec fates.now) }
 {
-    Ok(fates
-        .iter()
-        .filter_map(|e| sent_frame(e.0, e.1))
-        .collect(alloc)?)
+    Ok(
+        fates
+            .iter()
+            .filter_map(|e| sent_frame(e.0, e.1))
+            .collect(alloc)?,
+    )
 }
 
 // A copy with its start and its end, where it departs.

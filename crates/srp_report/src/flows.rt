@@ -72,8 +72,7 @@ fn put_counts(out: &mut Vec<u8>, port: &[u8], fates: &[(u32, Fate)]) -> Result<(
     let unbooked = count_unbooked(fates);
     let novlan = count_novlan(fates);
     let left = count_left(fates);
-    let counts = format!(
-        in alloc;
+    let counts = format!(in alloc;
         " departed {departed} unbooked {unbooked} novlan {novlan} left {left}\n"
     )?;
     put(out, "frames ")?;

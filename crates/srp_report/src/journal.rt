@@ -41,12 +41,7 @@ fn put_ticks(out: &mut Vec<u8>, scenario: &Scenario, ticks: &[Tick]) -> Result<(
 }
 
 // The lines of a tick.
-fn put_tick(
-    out: &mut Vec<u8>,
-    scenario: &Scenario,
-    t: u64,
-    tick: &Tick,
-) -> Result<(), AllocError>
+fn put_tick(out: &mut Vec<u8>, scenario: &Scenario, t: u64, tick: &Tick) -> Result<(), AllocError>
     ensures { OnOk result (out.new.items ≡ out.old.items ++ tick_lines scenario.now t tick.now) }
 {
     put_events(out, t, tick.events.as_slice())?;
