@@ -19,14 +19,18 @@
 //! and an arm in the function of the same name.
 #![tactic(auto)]
 
+mod both;
 mod jobs;
 pub mod laws;
 mod links;
 mod node;
+mod outbox;
 mod step;
+mod streams;
 #[cfg(test)]
 mod tests;
 mod types;
+mod vlans;
 
 pub use node::Node;
 pub use types::{AppRequest, NodeEvent, NodeKey, NodeStep, PortStep, StepReply, Wire};
