@@ -1,6 +1,6 @@
 -- What has no peer: a port that a tree hasn't.
-use Rattle.std.proofs.Common.{◌≡◌, ◌≢◌, ℕ, ◌+◌, ◌-◌, ◌<◌, ◌≤◌, ◌⊎◌, inl, inr, List, [], ◌∷◌, length, refl, sym, ◌∙◌, ap, subst, arith}
-use Rattle.std.specs.Prelude.{All, filter_map, slice_index}
+use Rattle.std.proofs.Common.{◌≡◌, ℕ, ◌-◌, ◌≤◌, inl, inr, List, [], ◌∷◌, length, refl, ap, subst, arith}
+use Rattle.std.specs.Prelude.{slice_index}
 use Rattle.std.proofs.lemmas.Bool.{cases_lt, ne_eqb}
 use Rattle.std.proofs.lemmas.List.{get_or_past}
 use Rattle.std.proofs.lemmas.List.Elements.{All-head, All-tail}
@@ -8,7 +8,7 @@ use Rattle.srp_base.specs.declared.numbers.EgressPort.{EgressPort}
 use Rattle.tree_topology.specs.declared.graph.Link.{Link}
 use Rattle.tree_topology.specs.Graph.{IsNode, HasKnownEnds}
 use Rattle.tree_topology.specs.Topology.{Topology, HasPort, IsSound}
-use Rattle.tree_topology.specs.Ports.{far_end, far_node, neighbours}
+use Rattle.tree_topology.specs.Ports.{far_node, neighbours}
 
 -- what is no node has no neighbours
 no-neighbours : (count : ℕ) (links : List Link) (x : ℕ) → HasKnownEnds count links → (IsNode count x → ⊥) → neighbours links x ≡ []
