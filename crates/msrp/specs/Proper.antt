@@ -23,16 +23,12 @@ pub record HasRanges (s : Part) : Type 0 where
   pub registered : (key : MsrpKey) (r : Row MsrpKey MsrpContent)
       → find key_cmp key s.rows ≡ Some r → IsFirst (value_of key r.heard)
 
--- a port's BridgeID and the latency in ns that it adds fit in their fields
-pub record IsConfig (config : PortConfig) : Type 0 where
-  pub bridge : config.bridge.0 < 2 ^ 64
-  pub latency : config.latency < 2 ^ 32
-
--- all that a side keeps fits: the contents at its link ports, the Talkers of its application, and its ports' setups
+-- all that a side keeps fits: the contents at its link ports, the Talkers of its application, and the BridgeID of
+-- each port. Of the latency that a port adds nothing is asked, since the sum stands still at the field's end
 pub record AreOfRange (side : Streams) : Type 0 where
   pub parts : AllByRecursion (λ (p : Port). HasRanges p.part) side.ports
   pub talks : AllByRecursion IsTalker side.talks
-  pub configs : AllByRecursion (λ (p : Port). IsConfig p.config) side.ports
+  pub configs : AllByRecursion (λ (p : Port). p.config.bridge.0 < 2 ^ 64) side.ports
 
 -- what a side keeps, of contents that fit
 pub record IsProper (side : Streams) : Type 0 where

@@ -30,8 +30,7 @@ use mrp_participant::laws::{
 };
 use msrp_codec::MsrpKey;
 use msrp_codec::laws::{
-    each_key_keeps_its_event, stated_octets_suffice, the_order_of_types_is_a_permutation,
-    what_is_written_is_read,
+    each_key_keeps_its_event, stated_octets_suffice, what_is_written_is_read,
 };
 use port_ledger::laws::{
     every_step_keeps_a_book, fits_stay, nothing_changed_where_both_lists_are_empty,
@@ -62,8 +61,7 @@ pub fn one_settling_is_enough()
 /// A new side keeps what every side keeps, and all of it fits in the fields in which it is sent.
 pub fn a_new_side_is_proper()
     ensures { (bridge : BridgeId) (leave_time : Cs) (periodic : Bool) (ports : List PortSetup)
-        → bridge.0 < 2 ^ 64 → AllByRecursion (λ p. p.latency < 2 ^ 32) ports
-        → IsProper (new_streams bridge leave_time periodic ports) }
+        → bridge.0 < 2 ^ 64 → IsProper (new_streams bridge leave_time periodic ports) }
 {
     every_step_keeps_a_book();
 }

@@ -27,8 +27,6 @@ mod node;
 mod outbox;
 mod step;
 mod streams;
-#[cfg(test)]
-mod tests;
 mod types;
 mod vlans;
 

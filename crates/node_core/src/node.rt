@@ -1,8 +1,9 @@
 //! A node, how it is made, and what it shows.
 
-ghost use Rattle.std.specs.Prelude.{◌≡◌, ◌≤◌, ◌+◌, ◌++◌, [], length, map, slice_get, option_map, option_and_then, option_to_list, IfOk, OnOk};
+ghost use Rattle.std.specs.Prelude.{◌<◌, ◌^◌, ◌≡◌, ◌≤◌, ◌+◌, ◌++◌, [], length, map, slice_get, option_map, option_and_then, option_to_list, IfOk, OnOk};
 ghost use Rattle.std.specs.List.{AllByRecursion, filter_map};
 ghost use Rattle.mrp_participant.specs.State.{IsTime};
+ghost use Rattle.port_ledger.specs.Book.{entry_of};
 ghost use Rattle.mvrp.specs.Side.{IsLinkPort, place_of, has_own};
 ghost use Rattle.msrp.specs.Side.{has_listen, has_talk, heard_of, next_sets, talker_of};
 ghost use Rattle.node_core.specs.State.{ports_of, new_node, box_at, are_empty, are_all_sound, is_still_node, is_sound_at, registrar_at, content_at, registered_key, registered_in, registered_keys, if_booked, booked_at, bookings_at, slope_at, fit_of};

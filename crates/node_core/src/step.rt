@@ -1,6 +1,6 @@
 //! One step of a node.
 
-ghost use Rattle.std.specs.Prelude.{◌≡◌, ◌<◌, ◌≤◌, ◌^◌, length, vec_len, vec_capacity, IfOk, OnOk, OnErr};
+ghost use Rattle.std.specs.Prelude.{◌+◌, ◌≡◌, ◌<◌, ◌≤◌, ◌^◌, length, vec_len, vec_capacity, IfOk, OnOk, OnErr};
 ghost use Rattle.mvrp.specs.Side.{IsLinkPort, place_of, count_of};
 ghost use Rattle.msrp.specs.Side.{next_sets};
 ghost use Rattle.node_core.specs.State.{ports_of, box_at};
