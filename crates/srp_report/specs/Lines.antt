@@ -1,5 +1,5 @@
 -- The lines of a report, each by what it tells. A line ends with a line feed.
-use Rattle.std.specs.Prelude.{ℕ, ◌-◌, Bool, true, false, List, [], ◌∷◌, codes, Option, Some, None, slice_get}
+use Rattle.std.specs.Prelude.{ℕ, ◌-◌, Bool, true, false, List, [], ◌∷◌, ◌++◌, codes, Option, Some, None, slice_get}
 use Rattle.std.specs.Option.{option_map_or}
 use Rattle.std.specs.Fmt.{decimal}
 use Rattle.srp_base.specs.Hexadecimal.{hex16_text}
@@ -10,6 +10,7 @@ use Rattle.srp_base.specs.declared.numbers.Cs.{Cs}
 use Rattle.srp_base.specs.declared.numbers.NodeNo.{NodeNo}
 use Rattle.srp_base.specs.declared.numbers.EgressPort.{EgressPort}
 use Rattle.srp_base.specs.declared.numbers.StreamId.{StreamId}
+use Rattle.srp_base.specs.declared.streams.Failure.{Failure}
 use Rattle.srp_base.specs.declared.streams.ListenerKind.{ListenerKind}
 use Rattle.srp_base.specs.declared.streams.ListenerKind.TheVariants.{AskingFailed, Ready, ReadyFailed}
 use Rattle.stream_importance.specs.declared.entry.Entry.{Entry}
@@ -78,14 +79,21 @@ vlan_line port vid state = joined (
     codes "vlan " ∷ port ∷ codes " " ∷ decimal vid ∷ codes " " ∷ state_name state ∷ codes "\n" ∷ [])
 
 -- `talker P ID advertise latency L S`, or `talker P ID failed bridge B code C latency L S`; L in ns
+abbrev pub talker_start : List ℕ → StreamId → List ℕ
+talker_start port stream = codes "talker " ++ port ++ codes " " ++ hex16_text stream.0
+
+abbrev pub failure_text : Failure → List ℕ
+failure_text failure = joined (
+    codes " failed bridge " ∷ hex16_text failure.bridge.0 ∷ codes " code " ∷ decimal failure.code ∷ codes " latency " ∷ [])
+
+abbrev pub talker_end : ℕ → Registrar → List ℕ
+talker_end latency state = joined (decimal latency ∷ codes " " ∷ state_name state ∷ codes "\n" ∷ [])
+
 abbrev pub talker_line : List ℕ → StreamId → Option MsrpContent → Registrar → List ℕ
-talker_line port stream (Some (Advertise talker)) state = joined (
-    codes "talker " ∷ port ∷ codes " " ∷ hex16_text stream.0 ∷ codes " advertise latency " ∷ decimal talker.latency
-    ∷ codes " " ∷ state_name state ∷ codes "\n" ∷ [])
-talker_line port stream (Some (Failed talker failure)) state = joined (
-    codes "talker " ∷ port ∷ codes " " ∷ hex16_text stream.0 ∷ codes " failed bridge " ∷ hex16_text failure.bridge.0
-    ∷ codes " code " ∷ decimal failure.code ∷ codes " latency " ∷ decimal talker.latency
-    ∷ codes " " ∷ state_name state ∷ codes "\n" ∷ [])
+talker_line port stream (Some (Advertise talker)) state =
+    talker_start port stream ++ codes " advertise latency " ++ talker_end talker.latency state
+talker_line port stream (Some (Failed talker failure)) state =
+    talker_start port stream ++ failure_text failure ++ talker_end talker.latency state
 talker_line port stream _ state = []
 
 -- `listener P ID K S`

@@ -3,7 +3,7 @@
 ghost use Rattle.std.specs.Prelude.{◌≡◌, ◌++◌, IfOk, OnOk, Some};
 ghost use Rattle.std.specs.Fmt.{decimal};
 ghost use Rattle.srp_base.specs.Text.{joined};
-ghost use Rattle.srp_report.specs.Lines.{ticks_line, port_line, vlan_line, talker_line, listener_line, srp_line, want_line, booked_line, heard_line, end_lines, state_name as state_name_spec, kind_name as kind_name_spec, heard_name as heard_name_spec, class_name as class_name_spec, yes_or_no as yes_or_no_spec};
+ghost use Rattle.srp_report.specs.Lines.{ticks_line, port_line, vlan_line, talker_start, failure_text, talker_end, talker_line, listener_line, srp_line, want_line, booked_line, heard_line, end_lines, state_name as state_name_spec, kind_name as kind_name_spec, heard_name as heard_name_spec, class_name as class_name_spec, yes_or_no as yes_or_no_spec};
 
 use crate::tally::Tally;
 use msrp_codec::{MsrpContent, MsrpKey};
@@ -130,13 +130,9 @@ fn put_advertised(
     ensures { OnOk result (out.new.items
         ≡ out.old.items ++ talker_line port.now stream (Some (MsrpContent.Advertise talker)) state) }
 {
-    let alloc = *out.allocator();
-    let latency = talker.latency;
-    let name = state_name(state);
-    let registered = format!(in alloc; " {stream} advertise latency {latency} {name}\n")?;
-    put(out, "talker ")?;
-    out.extend_from_slice(port)?;
-    put(out, &registered)
+    put_talker_start(out, port, stream)?;
+    put(out, " advertise latency ")?;
+    put_talker_end(out, talker.latency, state)
 }
 
 // The line of a Talker Failed.
@@ -151,17 +147,40 @@ fn put_failed(
     ensures { OnOk result (out.new.items ≡ out.old.items
         ++ talker_line port.now stream (Some (MsrpContent.Failed talker failure)) state) }
 {
+    put_talker_start(out, port, stream)?;
+    put_failure(out, failure)?;
+    put_talker_end(out, talker.latency, state)
+}
+
+// The port and the stream of a Talker.
+fn put_talker_start(out: &mut Vec<u8>, port: &[u8], stream: StreamId) -> Result<(), AllocError>
+    ensures { OnOk result (out.new.items ≡ out.old.items ++ talker_start port.now stream) }
+{
     let alloc = *out.allocator();
-    let Failure { bridge, code } = failure;
-    let latency = talker.latency;
-    let name = state_name(state);
-    let registered = format!(
-        in alloc;
-        " {stream} failed bridge {bridge} code {code} latency {latency} {name}\n"
-    )?;
+    let id = format!(in alloc; " {stream}")?;
     put(out, "talker ")?;
     out.extend_from_slice(port)?;
-    put(out, &registered)
+    put(out, &id)
+}
+
+// Why a Talker failed, and where.
+fn put_failure(out: &mut Vec<u8>, failure: Failure) -> Result<(), AllocError>
+    ensures { OnOk result (out.new.items ≡ out.old.items ++ failure_text failure) }
+{
+    let alloc = *out.allocator();
+    let Failure { bridge, code } = failure;
+    let text = format!(in alloc; " failed bridge {bridge} code {code} latency ")?;
+    put(out, &text)
+}
+
+// The latency of a Talker in ns, and its Registrar.
+fn put_talker_end(out: &mut Vec<u8>, latency: u32, state: Registrar) -> Result<(), AllocError>
+    ensures { OnOk result (out.new.items ≡ out.old.items ++ talker_end latency state) }
+{
+    let alloc = *out.allocator();
+    let name = state_name(state);
+    let text = format!(in alloc; "{latency} {name}\n")?;
+    put(out, &text)
 }
 
 // What a Listener declares, in a word.
