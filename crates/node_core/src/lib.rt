@@ -19,14 +19,16 @@
 //! and an arm in the function of the same name.
 #![tactic(auto)]
 
+mod both;
 mod jobs;
 pub mod laws;
 mod links;
 mod node;
+mod outbox;
 mod step;
-#[cfg(test)]
-mod tests;
+mod streams;
 mod types;
+mod vlans;
 
 pub use node::Node;
 pub use types::{AppRequest, NodeEvent, NodeKey, NodeStep, PortStep, StepReply, Wire};

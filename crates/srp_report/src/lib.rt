@@ -37,10 +37,12 @@
 
 mod departures;
 mod flows;
+mod heard;
 mod journal;
 mod lines;
 mod names;
 mod ports;
+mod registered;
 mod tallies;
 mod tally;
 #[cfg(test)]

@@ -10,8 +10,9 @@ ghost use Rattle.srp_report.specs.Counts.{replies_of, tally_of};
 ghost use Rattle.srp_report.specs.Report.{port_part, port_parts, registered_lines, key_lines};
 ghost use Rattle.srp_report.specs.Tallies.{tally_at, AreTallies};
 
-use crate::lines::{put_key, put_tally};
+use crate::lines::put_tally;
 use crate::names::port_name;
+use crate::registered::put_place;
 use crate::tallies::Tallies;
 use crate::tally::Tally;
 use node_core::{Node, NodeKey};
@@ -91,41 +92,5 @@ fn put_port(
     let port = port_name(alloc, scenario, world.tree(), at)?;
     let tally = tallies.at(at).unwrap_or(Tally::zero());
     put_tally(out, port.as_slice(), tally)?;
-    put_registered(out, port.as_slice(), world, at)
-}
-
-// The lines of what is registered at a port.
-fn put_registered(
-    out: &mut Vec<u8>,
-    port: &[u8],
-    world: &World,
-    at: EgressPort,
-) -> Result<(), NoMemory>
-    requires { HasPort world.now.tree at }
-    ensures { OnOk result (out.new.items
-        ≡ out.old.items ++ registered_lines port.now at world.now) }
-{
-    world.keeps();
-    let node = world.node(at.node);
-    let keys = node.keys(at.port)?;
-    put_keys(out, port, node, at.port, keys.as_slice())?;
-    Ok(())
-}
-
-// The lines of these attributes at a port of a node.
-fn put_keys(
-    out: &mut Vec<u8>,
-    port: &[u8],
-    node: &Node,
-    at: PortNo,
-    keys: &[NodeKey],
-) -> Result<(), AllocError>
-    requires { IsLinkPort at (ports_of node.now) }
-    ensures { OnOk result (out.new.items ≡ out.old.items
-        ++ key_lines port.now (λ key. registrar_at key (place_of at) node.now) keys.now) }
-{
-    for key in keys {
-        put_key(out, port, *key, node.registrar(at, *key))?;
-    }
-    Ok(())
+    put_place(out, port.as_slice(), world, at)
 }

@@ -4,6 +4,7 @@ ghost use Rattle.std.specs.Prelude.{◌≡◌, IfOk};
 ghost use Rattle.srp_report.specs.Report.{report_text};
 
 use crate::flows::put_flows;
+use crate::heard::put_nodes;
 use crate::lines::{put_end, put_ticks};
 use crate::ports::put_ports;
 use frame_flow::FlowResult;
@@ -29,6 +30,7 @@ pub fn report(
     let mut out = Vec::new(alloc);
     put_ticks(&mut out, scenario.ticks)?;
     put_ports(&mut out, scenario, &run.world, run.journal.ticks.as_slice())?;
+    put_nodes(&mut out, scenario, &run.world)?;
     put_flows(&mut out, scenario, run.world.tree(), flow)?;
     put_end(&mut out, run.world.quiet(), run.world.in_step())?;
     Ok(out)
