@@ -1,23 +1,19 @@
 //! The lines of the ports.
 
-ghost use Rattle.std.specs.Prelude.{◌≡◌, ◌+◌, ◌++◌, [], length, flat_map, IfOk, OnOk, Some};
+ghost use Rattle.std.specs.Prelude.{◌≡◌, ◌++◌, flat_map, IfOk, OnOk};
 ghost use Rattle.std.specs.List.{AllByRecursion};
-ghost use Rattle.tree_topology.specs.Topology.{HasPort, HasNode};
-ghost use Rattle.mvrp.specs.Side.{IsLinkPort, place_of};
-ghost use Rattle.node_core.specs.State.{ports_of, registrar_at};
+ghost use Rattle.tree_topology.specs.Topology.{HasPort};
 ghost use Rattle.world_core.specs.Ticks.{link_ports};
-ghost use Rattle.srp_report.specs.Counts.{replies_of, tally_of};
-ghost use Rattle.srp_report.specs.Report.{port_part, port_parts, registered_lines, key_lines};
-ghost use Rattle.srp_report.specs.Tallies.{tally_at, AreTallies};
+ghost use Rattle.srp_report.specs.Report.{port_part, port_parts};
+ghost use Rattle.srp_report.specs.Tallies.{AreTallies};
 
 use crate::lines::put_tally;
 use crate::names::port_name;
 use crate::registered::put_place;
 use crate::tallies::Tallies;
 use crate::tally::Tally;
-use node_core::{Node, NodeKey};
-use srp_base::{EgressPort, LinkNo, NoMemory, PortNo};
-use std::alloc::{AllocError, Global};
+use srp_base::{EgressPort, LinkNo, NoMemory};
+use std::alloc::Global;
 use topology_file::Scenario;
 use tree_topology::Tree;
 use world_core::{Tick, World};

@@ -49,7 +49,7 @@ fn put_keys(
         ≡ out.old.items ++ flat_map (key_line port.now (place_of at) node.now) keys.now) }
 {
     for key in keys {
-        put_key(out, port, node, at, *key)?;
+        put_key(out, port, node, at, key)?;
     }
     Ok(())
 }
@@ -60,16 +60,16 @@ fn put_key(
     port: &[u8],
     node: &Node,
     at: PortNo,
-    key: NodeKey,
+    key: &NodeKey,
 ) -> Result<(), AllocError>
     requires { IsLinkPort at (ports_of node.now) }
     ensures { OnOk result (out.new.items
-        ≡ out.old.items ++ key_line port.now (place_of at) node.now key) }
+        ≡ out.old.items ++ key_line port.now (place_of at) node.now key.now) }
 {
-    let state = node.registrar(at, key);
+    let state = node.registrar(at, *key);
     match key {
-        NodeKey::Vlan(vid) => put_vlan(out, port, vid, state),
-        NodeKey::Srp(key) => put_srp(out, port, key, node.content(at, key), state),
+        NodeKey::Vlan(vid) => put_vlan(out, port, *vid, state),
+        NodeKey::Srp(key) => put_srp(out, port, *key, node.content(at, *key), state),
     }
 }
 
