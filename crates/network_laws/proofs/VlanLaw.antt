@@ -24,7 +24,8 @@ use Rattle.world_core.specs.World.{WorldState, node_at, inbox, outbox, all_sound
 use Rattle.world_core.specs.Duty.{messages_of, in_flight, vlan_part, link_with}
 use Rattle.world_core.specs.Kept.{IsKeptWorld, IsIdleBridge, AreBridgesIdle, FitsTree}
 use Rattle.network_laws.specs.Vlans.{is_registered, is_station, is_declared_at, is_declared_behind, HasDeclaredBehind, VlansMatch, IsAtRest}
-use Rattle.network_laws.proofs.Places.{each-get, get-some, get-within, get-all, get-empty, empty-box, is_other, other-at, other-from, flat-cases, flat-own, flat-other, get-map, map-get, range-from, range-at, one-test}
+use Rattle.network_laws.proofs.Lists.{each-get, get-some, get-within, get-all, get-empty}
+use Rattle.network_laws.proofs.Places.{empty-box, is_other, other-at, other-from, flat-cases, flat-own, flat-other, get-map, map-get, range-from, range-at, one-test}
 
 -- what a still link registers at its near end
 abbrev pub StillLink : Type 0
