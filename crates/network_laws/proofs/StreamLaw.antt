@@ -23,16 +23,20 @@ use Rattle.tree_topology.specs.Topology.{HasNode, HasPort}
 use Rattle.tree_topology.specs.Ports.{neighbours, peer_of, far_node, LiesBehind, IsPortPath}
 use Rattle.tree_topology.specs.Walk.{is_behind, path_between}
 use Rattle.tree_topology.specs.PortLaws.{HasPortLaws}
+use Rattle.mrp_participant.specs.State.{registered_at}
+use Rattle.msrp_codec.specs.declared.pdu.MsrpKey.TheVariants as keys
 use Rattle.msrp_talker.specs.TalkerOut.{talker_in}
 use Rattle.msrp.specs.declared.port.Port.{Port}
-use Rattle.msrp.specs.Part.{registered_talker, registered_listener}
+use Rattle.msrp.specs.Part.{registered_talker, registered_listener, key_cmp, talker_reg_of}
 use Rattle.msrp.specs.Stream.{Registrations, is_present, is_advertised, is_number, talker_port, is_talker_port, is_ready, talk_of, talkers_of, talker_of, talker_at, listener_at, fit_at, want_of_talker, heard_by, heard_of as heard_in}
 use Rattle.msrp.specs.Side.{Streams, place_of, seen_by, has_talk, has_listen, heard_of}
-use Rattle.network_laws.specs.Mock.{NodeState, WorldState, node_at}
-use Rattle.network_laws.specs.Streams.{stream_port, is_station, is_talker_registered, is_talked_at, IsTalkedOnce, HasTalkerBehind, TalkersMatch, talking_node, IsTalkersPath, has_booked, is_path_booked, IsPathBooked, is_ready_heard, hears_ready, is_listened_at, AreReadyOnPath, is_bandwidth_code, bandwidth_failure, port_of_station, failure_at, want_at, IsPushedOut, IsRefusedAt, IsOnPath, AreRefusalsShown}
+use Rattle.node_core.specs.State.{NodeState, content_at, of_port}
+use Rattle.world_core.specs.World.{WorldState, node_at}
+use Rattle.network_laws.specs.Vlans.{is_station}
+use Rattle.network_laws.specs.Streams.{talker_at_place, is_talker_registered, is_talked_at, IsTalkedOnce, HasTalkerBehind, TalkersMatch, talking_node, IsTalkersPath, has_booked, is_path_booked, IsPathBooked, is_ready_heard, hears_ready, is_listened_at, AreReadyOnPath, is_bandwidth_code, bandwidth_failure, failure_at, want_at, IsPushedOut, IsRefusedAt, IsOnPath, AreRefusalsShown}
 use Rattle.network_laws.proofs.Lists.{get-some, get-within}
 use Rattle.network_laws.proofs.StreamNode.{IsTalkers, port-of-present, is-port, same-port, other-port, KeptWants, booked-advertises, advertised-booked, fit_of_reg, IsOfBandwidth, Refuses, listens}
-use Rattle.network_laws.proofs.StreamNet.{AreStreamsStill, At, at-port, port-is, reg, reg-is, kind_at, regs, wanted, far-talker, far-listener, near-talker, test, own, Talks, registered-behind, Sibling, sibling, towards, other-side, behind-registered, booked-is, path-booked, path-last, path-start, port-kept, kind-is, Refusing, refused, TalkersAt, at-app, at-link, talkers-at, one-talker, get-map, are-both, is-not}
+use Rattle.network_laws.proofs.StreamNet.{stream_port, AreStreamsStill, At, at-port, port-is, reg, reg-is, kind_at, regs, wanted, far-talker, far-listener, near-talker, test, own, Talks, registered-behind, Sibling, sibling, towards, other-side, behind-registered, booked-is, path-booked, path-last, path-start, port-kept, kind-is, Refusing, refused, TalkersAt, at-app, at-link, talkers-at, one-talker, get-map, are-both, is-not}
 
 -- a node lies behind a port by its walk exactly where the test says so; the egress ports of the walk are the path
 abbrev pub WalkBehind : WorldState → Type 0
@@ -119,27 +123,34 @@ failure-parts (Failed u g) f h = by (g.code == 1) (g.code == 6) refl refl
     by false false e k = let off : bandwidth_failure (Failed u g) ≡ None = rw e (rw k refl) in cc
 
 -- what too little means
-pushed-out : (book : Book) (want : Want) (more cap code : ℕ) → fit_for book.moment book want ≡ TooLittle more cap code → IsPushedOut book want code
-pushed-out book want more cap code h = by (does_fit book.moment book.caps (booked_of book.entries) (tested_as book.entries want)) refl
+pushed-out : (now : ℕ) (book : Book) (want : Want) (more cap code : ℕ) → fit_for now book want ≡ TooLittle more cap code → IsPushedOut now book want code
+pushed-out now book want more cap code h = by (does_fit now book.caps (booked_of book.entries) (tested_as book.entries want)) refl
   where
     code_in : Fit → ℕ
     code_in Fits = 0
     code_in (TooLittle m c n) = n
 
-    by : (b : Bool) → does_fit book.moment book.caps (booked_of book.entries) (tested_as book.entries want) ≡ b → IsPushedOut book want code
-    by true e = let fits : fit_for book.moment book want ≡ Fits = rw e refl in cc
+    by : (b : Bool) → does_fit now book.caps (booked_of book.entries) (tested_as book.entries want) ≡ b → IsPushedOut now book want code
+    by true e = let fits : fit_for now book want ≡ Fits = rw e refl in cc
     by false e =
-        let not_ : fit_for book.moment book want ≡ TooLittle (above book.moment (tested_as book.entries want) (booked_of book.entries)) (cap_of book.caps want.class) (code_of book.moment book.caps (booked_of book.entries) (tested_as book.entries want)) = rw e refl in
+        let not_ : fit_for now book want ≡ TooLittle (above now (tested_as book.entries want) (booked_of book.entries)) (cap_of book.caps want.class) (code_of now book.caps (booked_of book.entries) (tested_as book.entries want)) = rw e refl in
         record { passes = grind (arith, nat_tests, e); code_is = ap code_in (sym h ∙ not_) }
+
+-- the failure of what stands at a station's port, or at a node
+abbrev registered_in : StreamId → Option Port → Option Failure
+registered_in stream o = bandwidth_failure (talker_reg_of (option_map_or (λ (x : Port). registered_at key_cmp (keys.Talker stream) x.part) o None))
+
+abbrev failure_in : StreamId → Option NodeState → Option Failure
+failure_in stream o = option_and_then (λ (s : NodeState). bandwidth_failure (talker_at_place stream 0 s)) o
 
 module _ (w : WorldState) (still : AreStreamsStill w) (stream : StreamId) (kept : KeptWants) where
 
   test-is : (p : EgressPort) → HasPort w.tree p → is_talker_registered w stream p ≡ test w still stream kept p
   test-is p h =
       let a = at-port w still stream kept p h in
-      let is = port-is w still stream kept p a in
-      ap (λ o. option_map_or (λ (x : Port). is_present (registered_talker stream x.part)) o false) is
-      ∙ sym (ap is_present (reg-is w still stream kept p a))
+      ap (λ o. option_map_or (λ (s : NodeState). is_present (talker_at_place stream (place_of p.port) s)) o false) a.node
+      ∙ (ap (λ o. is_present (talker_reg_of (option_map_or (λ (x : Port). registered_at key_cmp (keys.Talker stream) x.part) o None))) a.has
+      ∙ sym (ap is_present (reg-is w still stream kept p a)))
 
   module _ (once : IsTalkedOnce w stream) where
 
@@ -334,46 +345,54 @@ module _ (w : WorldState) (still : AreStreamsStill w) (stream : StreamId) (kept 
     node-of : (t : ℕ) → HasNode w.tree t → (s : NodeState) × (node_at (record { 0 = t }) w ≡ Some s)
     node-of t h = let lt : t - 1 < length w.nodes = omega (arith, h.0, h.1, still.many) in get-some w.nodes (t - 1) lt
 
-    station-port : (l : ℕ) → HasNode w.tree l → (f : Failure) → failure_at w stream l ≡ Some f → HasPort w.tree (port_of_station l)
-    station-port l node f h = by-node (node_at (record { 0 = l }) w) refl
+    -- a station's port with a failure, and what is registered there
+    record FailedAt (l : ℕ) (f : Failure) : Type 0 where
+      q : EgressPort
+      port : HasPort w.tree q
+      node_is : q.node.0 ≡ l
+      u : Talker
+      failed : reg w still stream kept q ≡ Failed u f
+      code : IsOfBandwidth f.code
+
+    failed-port : (l : ℕ) → HasNode w.tree l → (f : Failure) → failure_at w stream l ≡ Some f → FailedAt l f
+    failed-port l node f h = by-node (node_at (record { 0 = l }) w) refl
       where
-        by-port : (s : NodeState) → node_at (record { 0 = l }) w ≡ Some s → (o : Option Port) → slice_get s.streams.ports 0 ≡ o → HasPort w.tree (port_of_station l)
-        by-port s e None g =
-            let none : stream_port (port_of_station l) w ≡ None = ap (λ o. option_and_then (λ (x : NodeState). slice_get x.streams.ports 0) o) e ∙ g in
-            let off : failure_at w stream l ≡ None = ap (λ o. option_and_then (λ (x : Port). bandwidth_failure (registered_talker stream x.part)) o) none in
-            cc
+        by-port : (s : NodeState) → node_at (record { 0 = l }) w ≡ Some s → (o : Option Port) → slice_get s.streams.ports 0 ≡ o → FailedAt l f
+        by-port s e None g = let none : failure_at w stream l ≡ None = ap (failure_in stream) e ∙ ap (registered_in stream) g in cc
         by-port s e (Some x) g =
             let up : l - 1 + 1 ≡ l = omega (arith, node.0) in
             let ports : length s.streams.ports ≡ length (neighbours w.tree.links l) = still.ports (l - 1) s e ∙ ap (λ y. length (neighbours w.tree.links y)) up in
-            (node, omega arith, omega (arith, get-within s.streams.ports 0 x g, ports))
+            let q : EgressPort = record { node = record { 0 = l }; port = record { 0 = 1 } } in
+            let hq : HasPort w.tree q = (node, omega arith, omega (arith, get-within s.streams.ports 0 x g, ports)) in
+            let b : At w still stream kept q = record { s = s; node = e; port = x; has = g } in
+            let is : bandwidth_failure (registered_talker stream x.part) ≡ Some f = sym (ap (failure_in stream) e ∙ ap (registered_in stream) g) ∙ h in
+            let parts = failure-parts (registered_talker stream x.part) f is in
+            record { q = q; port = hq; node_is = refl; u = parts.0; failed = reg-is w still stream kept q b ∙ parts.1; code = parts.2 }
 
-        by-node : (o : Option NodeState) → node_at (record { 0 = l }) w ≡ o → HasPort w.tree (port_of_station l)
-        by-node None e =
-            let none : stream_port (port_of_station l) w ≡ None = ap (λ o. option_and_then (λ (x : NodeState). slice_get x.streams.ports 0) o) e in
-            let off : failure_at w stream l ≡ None = ap (λ o. option_and_then (λ (x : Port). bandwidth_failure (registered_talker stream x.part)) o) none in
-            cc
+        by-node : (o : Option NodeState) → node_at (record { 0 = l }) w ≡ o → FailedAt l f
+        by-node None e = let none : failure_at w stream l ≡ None = ap (failure_in stream) e in cc
         by-node (Some s) e = by-port s e (slice_get s.streams.ports 0) refl
 
     pub shown : (l : ℕ) (f : Failure) → HasNode w.tree l → failure_at w stream l ≡ Some f → Shown l f
     shown l f node h =
-        let q = port_of_station l in
-        let hq = station-port l node f h in
-        let b = at-port w still stream kept q hq in
-        let is : bandwidth_failure (registered_talker stream b.port.part) ≡ Some f =
-            sym (ap (λ o. option_and_then (λ (x : Port). bandwidth_failure (registered_talker stream x.part)) o) (port-is w still stream kept q b)) ∙ h in
-        let parts = failure-parts (registered_talker stream b.port.part) f is in
-        let failed : reg w still stream kept q ≡ Failed parts.0 f = reg-is w still stream kept q b ∙ parts.1 in
-        let y = registered-behind w still stream kept q hq (ap is_present failed) in
+        let d = failed-port l node f h in
+        let q = d.q in
+        let hq = d.port in
+        let y = registered-behind w still stream kept q hq (ap is_present d.failed) in
         let p = peer_of w.tree.links q in
         let hp = still.laws.peer_port q hq in
         let off = other-side w still stream kept once y.0 y.1 q hq y.2 in
         let s = node-of y.0 y.1.node in
-        let back : reg w still stream kept (peer_of w.tree.links p) ≡ Failed parts.0 f = ap (reg w still stream kept) (still.laws.peer_twice q hq) ∙ failed in
-        let r = refused w still stream kept once y.0 y.1 p hp off s.0 s.1 parts.0 f back parts.2 in
+        let back : reg w still stream kept (peer_of w.tree.links p) ≡ Failed d.u f = ap (reg w still stream kept) (still.laws.peer_twice q hq) ∙ d.failed in
+        let r = refused w still stream kept once y.0 y.1 p hp off s.0 s.1 d.u f back d.code in
         record {
           t = y.0; talks = y.1; lowest_is = lowest y.0 y.1; s = s.0; node = s.1;
-          refusing = subst (λ z. Refusing w still stream kept once y.0 y.1 z f s.0) (still.laws.peer_back q hq) r;
+          refusing = subst (λ z. Refusing w still stream kept once y.0 y.1 z f s.0) (still.laws.peer_back q hq ∙ d.node_is) r;
         }
+
+    -- a port's ledger stands at the moment of the node's clock
+    pub moment-is : (p : EgressPort) (a : At w still stream kept p) → a.port.ledger.moment ≡ a.s.clock.0
+    moment-is p a = (port-kept w still stream kept p a).moment ∙ still.moment (p.node.0 - 1) a.s a.node
 
     pub are-refusals-shown : WalkPath w → AreRefusalsShown w stream
     are-refusals-shown walk l f node mute h =
@@ -389,16 +408,18 @@ module _ (w : WorldState) (still : AreStreamsStill w) (stream : StreamId) (kept 
             let u = r.refuses in
             let asks : want_of_talker u.talker ≡ want_at w stream d.t =
                 ap (λ reg. option_and_then want_of_talker (talker_in reg)) (sym u.advertised)
-                ∙ (r.wants ∙ sym (ap (λ o. option_and_then want_of_talker (option_and_then (λ (s : NodeState). talk_of stream s.streams.talks) o)) d.node)) in
+                ∙ (r.wants ∙ sym (ap (λ o. option_and_then (λ (s : NodeState). option_and_then want_of_talker (talk_of stream s.streams.talks)) o) d.node)) in
+            let moment : r.a.port.ledger.moment ≡ r.a.s.clock.0 = moment-is r.p r.a in
+            let fit : fit_for r.a.s.clock.0 r.a.port.ledger u.want ≡ TooLittle u.more u.cap f.code = ap (λ m. fit_for m r.a.port.ledger u.want) (sym moment) ∙ u.fit in
             record {
               node = r.a.s;
               node_is = r.a.node;
               named = sym (still.named (r.p.node.0 - 1) r.a.s (place_of r.p.port) r.a.port r.a.node r.a.has) ∙ sym u.bridge;
               port = r.a.port;
-              port_is = port-is w still stream kept r.p r.a;
+              port_is = r.a.has;
               want = u.want;
               want_is = sym asks ∙ u.wants;
-              refused = pushed-out r.a.port.ledger u.want u.more u.cap f.code u.fit;
+              refused = pushed-out r.a.s.clock.0 r.a.port.ledger u.want u.more u.cap f.code fit;
             }
 
     -- what the node's own test of the fit says there

@@ -23,7 +23,8 @@ use Rattle.tree_topology.specs.Walk.{is_behind, path_between, count_behind}
 use Rattle.tree_topology.specs.PortLaws.{HasPortLaws, HasBeyond}
 use Rattle.attribute_propagation.specs.Dirty.{is_awaiting}
 use Rattle.mrp_participant.specs.State.{registered_at, declared_at}
-use Rattle.port_ledger.specs.Book.{Book, since_of, want_of, fit_for}
+use Rattle.stream_importance.specs.declared.entry.Entry.{Entry}
+use Rattle.port_ledger.specs.Book.{Book, entry_of, since_of, want_of, fit_for}
 use Rattle.msrp_codec.specs.declared.pdu.MsrpKey.{MsrpKey}
 use Rattle.msrp_codec.specs.declared.pdu.MsrpKey.TheVariants as keys
 use Rattle.msrp_listener.specs.declared.port_listener.PortListener.{PortListener}
@@ -32,10 +33,16 @@ use Rattle.msrp.specs.Part.{Part, key_cmp, registered_talker, registered_listene
 use Rattle.msrp.specs.Stream.{Registrations, advertised, talk_of, is_present, is_advertised, is_talker_port, is_ready, listener_row, talkers_of, talker_of, talker_at, listener_at, wanted_at, want_of_talker, heard_by}
 use Rattle.msrp_talker.specs.TalkerOut.{talker_in}
 use Rattle.msrp.specs.Side.{Streams, IsKept, IsPort, IsSettled, place_of, has_talk, has_listen, seen_by}
-use Rattle.network_laws.specs.Mock.{NodeState, WorldState, node_at}
-use Rattle.network_laws.specs.Streams.{stream_port, is_station, is_talker_registered, is_talked_at, IsTalkedOnce, has_booked}
+use Rattle.node_core.specs.State.{NodeState, if_booked, booked_at, of_port}
+use Rattle.world_core.specs.World.{WorldState, node_at}
+use Rattle.network_laws.specs.Vlans.{is_station}
+use Rattle.network_laws.specs.Streams.{is_talked_at, IsTalkedOnce, has_booked}
 use Rattle.network_laws.proofs.Lists.{each-get, get-some, get-within, get-all, get-empty}
 use Rattle.network_laws.proofs.StreamNode.{IsTalkers, first-is, talkers-port, port-of, port-of-present, is-port, same-port, other-port, declares, declared-present, present-declared, out-wants, reg-content, kind-content, KeptWants, Wants, booked-wants, booked-advertises, advertised-booked, fit_of_reg, IsOfBandwidth, Refuses, failed-at, can_have, forwards, listens}
+
+-- what MSRP keeps of a port
+abbrev pub stream_port : EgressPort → WorldState → Option Port
+stream_port p w = option_and_then (λ (s : NodeState). slice_get s.streams.ports (place_of p.port)) (node_at p.node w)
 
 -- what holds of the streams of a network at rest
 pub record AreStreamsStill (w : WorldState) : Type 0 where
@@ -44,6 +51,7 @@ pub record AreStreamsStill (w : WorldState) : Type 0 where
   pub kept : (x : ℕ) (s : NodeState) → slice_get w.nodes x ≡ Some s → IsKept s.streams
   pub ports : (x : ℕ) (s : NodeState) → slice_get w.nodes x ≡ Some s → length s.streams.ports ≡ length (neighbours w.tree.links (x + 1))
   pub none_await : (x : ℕ) (s : NodeState) → slice_get w.nodes x ≡ Some s → list_all (λ (keys : List MsrpKey). length keys == 0) s.streams.awaiting ≡ true
+  pub moment : (x : ℕ) (s : NodeState) → slice_get w.nodes x ≡ Some s → s.streams.moment ≡ s.clock.0
   pub named : (x : ℕ) (s : NodeState) (i : ℕ) (port : Port) → slice_get w.nodes x ≡ Some s → slice_get s.streams.ports i ≡ Some port → port.config.bridge ≡ s.bridge
   pub idle : (x : ℕ) (s : NodeState) → slice_get w.nodes x ≡ Some s → s.kind ≡ Bridge → s.streams.talks ≡ []
   pub linked : (p : EgressPort) → HasPort w.tree p → (a b : Port) → stream_port p w ≡ Some a → stream_port (peer_of w.tree.links p) w ≡ Some b
@@ -81,6 +89,15 @@ are-both false = inr refl
 talks-present : (o : Option Talker) → is_present (advertised o) ≡ is_some o
 talks-present None = refl
 talks-present (Some t) = refl
+
+-- an entry is a booked one exactly where it has a moment
+entry-booked : (o : Option Entry) → is_some (option_and_then if_booked o) ≡ is_some (option_and_then (λ (x : Entry). x.since) o)
+entry-booked None = refl
+entry-booked (Some x) = by (is_some x.since) refl
+  where
+    by : (b : Bool) → is_some x.since ≡ b → is_some (if_booked x) ≡ is_some x.since
+    by true e = rw e refl
+    by false e = rw e refl
 
 station-talk : (stream : StreamId) (kind : NodeKind) (side : Streams) → (kind ≡ Bridge → side.talks ≡ []) → has_talk stream side ≡ true → (is_station kind && has_talk stream side) ≡ true
 station-talk stream Station side h e = e
@@ -438,7 +455,10 @@ module _ (w : WorldState) (still : AreStreamsStill w) (stream : StreamId) (kept-
     booked p = has_booked w stream p
 
     pub booked-is : (p : EgressPort) (a : At p) → booked p ≡ is_some (since_of a.port.ledger.entries stream)
-    booked-is p a = ap (λ o. option_map_or (λ (x : Port). is_some (since_of x.ledger.entries stream)) o false) (port-is p a)
+    booked-is p a =
+        ap (λ o. option_map_or (λ (s : NodeState). is_some (booked_at stream (place_of p.port) s)) o false) a.node
+        ∙ (ap (λ o. is_some (option_map_or (λ (x : Port). option_and_then if_booked (entry_of x.ledger.entries stream)) o None)) a.has
+        ∙ entry-booked (entry_of a.port.ledger.entries stream))
 
     -- where a port away from the station has booked, so has the one before it
     booked-before : (p : EgressPort) (h : HasPort w.tree p) (a : At p) (r : EgressPort) → Towards p a r → booked p ≡ true → booked (q_of r) ≡ true
