@@ -7,6 +7,7 @@ use Rattle.std.specs.List.{AllByRecursion, list_all, range_with_len}
 use Rattle.srp_base.specs.declared.numbers.EgressPort.{EgressPort}
 use Rattle.srp_base.specs.declared.numbers.StreamId.{StreamId}
 use Rattle.srp_base.specs.declared.streams.Failure.{Failure}
+use Rattle.srp_base.specs.declared.streams.Talker.{Talker}
 use Rattle.srp_base.specs.declared.streams.TalkerReg.{TalkerReg}
 use Rattle.srp_base.specs.declared.streams.TalkerReg.TheVariants.{Absent, Advertise, Failed}
 use Rattle.srp_base.specs.declared.streams.ListenerKind.{ListenerKind}
@@ -179,11 +180,13 @@ AreRefusalsShown w stream =
 
 -- ---- which refusal a failure names
 
--- the slope that a stream's Talker asks at a node, by what is registered there; 0 where it asks for none
-abbrev pub slope_asked : StreamId → NodeState → ℕ
-slope_asked stream s =
-    option_map_or (λ (want : Want). want.slope)
-    (option_and_then want_of_talker (talker_in (talker_of stream s.streams))) 0
+-- the slope that a Talker asks; 0 where it asks for none
+abbrev pub slope_of_talker : Talker → ℕ
+slope_of_talker talker = option_map_or (λ (want : Want). want.slope) (want_of_talker talker) 0
+
+-- the slope that a registered Talker asks; 0 where there is none
+abbrev pub slope_of_reg : TalkerReg → ℕ
+slope_of_reg reg = option_map_or slope_of_talker (talker_in reg) 0
 
 -- what doesn't fit at a port, where it has this code
 abbrev pub refusal_of : EgressPort → ℕ → ℕ → Option Fit → Option Refusal
@@ -198,7 +201,7 @@ refusal_of p slope code (Some (TooLittle more cap given)) =
 abbrev pub refusal_in : StreamId → Failure → EgressPort → NodeState → Option Refusal
 refusal_in stream failure p s =
     if s.bridge.0 == failure.bridge.0
-    then refusal_of p (slope_asked stream s) failure.code (fit_of (place_of p.port) stream s)
+    then refusal_of p (slope_of_reg (talker_of stream s.streams)) failure.code (fit_of (place_of p.port) stream s)
     else None
 
 abbrev pub refusal_at : WorldState → StreamId → Failure → EgressPort → Option Refusal
