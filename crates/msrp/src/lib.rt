@@ -49,5 +49,6 @@ mod tests;
 
 pub use app::MsrpApp;
 pub use asking::SrpRequest;
+pub use clock::ClockSets;
 pub use port::Port;
 pub use side::MsrpSide;

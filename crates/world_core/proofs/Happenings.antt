@@ -18,6 +18,7 @@ use Rattle.node_core.specs.State.{NodeState, box_at, ports_of}
 use Rattle.node_core.proofs.Boxes.{set_set, set_same}
 use Rattle.node_core.specs.Links.{with_outbox, with_carried, has_index, lost_at, repeated_at, spoilt_at}
 use Rattle.world_core.specs.World.{WorldState, StandsAt, changed, with_changed, inbox, outbox, app_of, spoilt, carried}
+use Rattle.world_core.proofs.Boxes.{box_none}
 use Rattle.world_core.proofs.Lists.{set_each, get_set, get_set_same}
 
 -- ---- the node that was read at a port's place
@@ -136,12 +137,6 @@ set_back [] i s is = refl
 set_back (t ∷ nodes) zero s is = let e : t ≡ s = cc in ap (λ x. x ∷ nodes) (sym e)
 set_back (t ∷ nodes) (suc i) s is = ap (λ xs. t ∷ xs) (set_back nodes i s is)
 
--- a box that is emptied is empty
-emptied : (boxes : List (List Wire)) (i : ℕ) → box_at i (slice_set boxes i []) ≡ []
-emptied [] i = refl
-emptied (b ∷ boxes) zero = refl
-emptied (b ∷ boxes) (suc i) = emptied boxes i
-
 -- an outbox that was taken out is put back
 pub put_back_is : (p : EgressPort) (nodes a b : List NodeState) (wires : List Wire)
     → wires ≡ option_map_or (λ s. box_at (place_of p.port) s.outboxes) (slice_get nodes (p.node.0 - 1)) []
@@ -171,7 +166,7 @@ empty_there p nodes a ea s is = by (slice_get nodes (p.node.0 - 1)) refl (ap (λ
     by None is e = absurd (let none : None ≡ Some s = sym is ∙ e in cc)
     by (Some t) is e =
         ap (λ (s : NodeState). box_at (place_of p.port) s.outboxes) (sym (get_set_same nodes (p.node.0 - 1) (with_outbox (place_of p.port) [] t) s e))
-        ∙ emptied t.outboxes (place_of p.port)
+        ∙ box_none t.outboxes (place_of p.port)
 
 -- ---- what holds of a list's becoming another holds where it is so
 

@@ -5,3 +5,5 @@ pub mod Kept
 pub mod Ticks
 pub mod Moments
 pub mod During
+pub mod Limits
+pub mod Talks
