@@ -135,10 +135,12 @@ bandwidth_failure Absent = None
 bandwidth_failure (Advertise talker) = None
 bandwidth_failure (Failed talker failure) = if is_bandwidth_code failure.code then Some failure else None
 
--- the failure for want of bandwidth that is registered of a stream's Talker at a station's one port
+-- the failure for want of bandwidth that is registered of a stream's Talker at a node's first port, a station's only one
+abbrev pub failure_in : StreamId → NodeState → Option Failure
+failure_in stream s = bandwidth_failure (talker_at_place stream 0 s)
+
 abbrev pub failure_at : WorldState → StreamId → ℕ → Option Failure
-failure_at w stream l =
-    option_and_then (λ (s : NodeState). bandwidth_failure (talker_at_place stream 0 s)) (node_of l w)
+failure_at w stream l = option_and_then (failure_in stream) (node_of l w)
 
 -- what a stream's Talker at a node's application asks of a port
 abbrev pub want_at : WorldState → StreamId → ℕ → Option Want

@@ -15,8 +15,10 @@
 #![tactic(auto)]
 
 pub mod laws;
+mod streams;
 #[cfg(test)]
 mod tests;
 mod vlans;
 
+pub use streams::{Refusal, ready_on_path, refusal_shown};
 pub use vlans::{Sides, vlans_match};
