@@ -34,3 +34,10 @@ find-later test a (suc n) lt h =
     let less : n ≡ suc n - 1 = omega arith in
     let next : find test (range_with_len a (suc n)) ≡ find test (range_with_len (a + 1) n) = rw h refl in
     next ∙ ap (λ k. find test (range_with_len (a + 1) k)) less
+
+-- the ports of a path that was found in the same tree exist
+pub found-ports : (tree same : Topology) → same ≡ tree → HasPortLaws tree → (x y : ℕ) (path ports : List EgressPort)
+    → IsPortPath same.links x y path → ports ≡ path → AllByRecursion (HasPort tree) ports
+found-ports tree same e laws x y path ports h f =
+    subst (λ (ps : List EgressPort). AllByRecursion (HasPort tree) ps) (sym f)
+    (path-ports tree laws x y path (subst (λ (t : Topology). IsPortPath t.links x y path) e h))
