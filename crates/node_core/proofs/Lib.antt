@@ -3,3 +3,4 @@ pub mod StreamSizes
 pub mod Boxes
 pub mod Sending
 mod Registered
+pub mod ProperSteps

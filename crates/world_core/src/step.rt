@@ -94,7 +94,7 @@ fn asks_in_range(request: AppRequest)
     match request {
         AppRequest::Declare(vid) => in_range(vid),
         AppRequest::Withdraw(vid) => in_range(vid),
-        AppRequest::Talk(talker) => talker_in_range(&talker),
+        AppRequest::Talk(talker) => talker_in_range(talker),
         AppRequest::Hush(_) | AppRequest::Listen(_) | AppRequest::Unlisten(_) => {}
     }
 }
@@ -107,9 +107,8 @@ fn in_range(vid: Vid)
 }
 
 // They say it of each field of a Talker.
-fn talker_in_range(talker: &Talker)
-    ensures { IsTalker talker.now }
+fn talker_in_range(talker: Talker)
+    ensures { IsTalker talker }
 {
     let _ = (talker.dest.get(), talker.priority.get());
-    let _ = (talker.stream, talker.vid, talker.max_frame, talker.frames, talker.latency);
 }
