@@ -53,10 +53,14 @@ module _ (w : WorldState) (rest : IsAtRest w) where
       let streams = and_parts (list_all (λ (p : Port). is_still p.part) s.streams.ports) (list_all (λ (keys : List MsrpKey). length keys == 0) s.streams.awaiting) all.1 in
       let sound = and_parts (list_all (λ (part : Part). part.sound) s.vlans.parts) (list_all (λ (p : Port). p.part.sound) s.streams.ports) (get-all are_all_sound w.nodes x s rest.in_step e) in
       record {
-        inboxes = boxes.0; outboxes = boxes.1;
-        vlans = vlans.0; no_vids = vlans.1;
-        streams = streams.0; no_keys = streams.1;
-        vlans_sound = sound.0; streams_sound = sound.1;
+        inboxes = boxes.0;
+        outboxes = boxes.1;
+        vlans = vlans.0;
+        no_vids = vlans.1;
+        streams = streams.0;
+        no_keys = streams.1;
+        vlans_sound = sound.0;
+        streams_sound = sound.1;
       }
 
   module _ (kept : IsKeptWorld w) (laws : HasPortLaws w.tree) where

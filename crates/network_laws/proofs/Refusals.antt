@@ -85,7 +85,8 @@ too-little p slope code (Some (TooLittle more cap given)) r h = by (given == cod
         let some : refusal_of p slope code (Some (TooLittle more cap given)) ≡ Some made = rw e refl in
         let same : made ≡ r = cc in
         record {
-          more = more; cap = cap;
+          more = more;
+          cap = cap;
           fit_is = ap (λ n. Some (TooLittle more cap n)) (eqb-true given code e);
           at_is = ap (λ (x : Refusal). x.at) (sym same);
           more_is = ap (λ (x : Refusal). x.more_important) (sym same);
@@ -176,9 +177,11 @@ of-node w stream failure p r h = by (node_at p.node w) refl
             let slope = t.slope_is in
             let cap = t.cap_is in
             record {
-              node = s; node_is = e;
+              node = s;
+              node_is = e;
               named = ap (λ (n : ℕ). record { 0 = n }) (eqb-true s.bridge.0 failure.bridge.0 f);
-              at_is = t.at_is; code_is = t.code_is;
+              at_is = t.at_is;
+              code_is = t.code_is;
               over = omega arith;
             }
 
@@ -197,9 +200,16 @@ refusal-says w stream l r h = by (failure_at w stream l) refl
         let first = first-at (refusal_at w stream f) (path_between w.tree.links t l) r (sym is ∙ k) in
         let n = of-node w stream f first.1 r first.3 in
         record {
-          failure = f; failure_is = e; code_is = n.code_is;
-          node = n.node; node_is = ap (λ (p : EgressPort). node_at p.node w) n.at_is ∙ n.node_is; named = n.named;
-          t = t; talker = g; i = first.0; on_path = first.2 ∙ ap Some (sym n.at_is);
+          failure = f;
+          failure_is = e;
+          code_is = n.code_is;
+          node = n.node;
+          node_is = ap (λ (p : EgressPort). node_at p.node w) n.at_is ∙ n.node_is;
+          named = n.named;
+          t = t;
+          talker = g;
+          i = first.0;
+          on_path = first.2 ∙ ap Some (sym n.at_is);
           passes = n.over;
         }
 
@@ -210,7 +220,6 @@ refusal-says w stream l r h = by (failure_at w stream l) refl
 -- ---- at rest
 
 module _ (w : WorldState) (still : AreStreamsStill w) (stream : StreamId) (kept : KeptWants) (once : IsTalkedOnce w stream) where
-
   -- a failure for want of bandwidth names a refusal
   pub is-named : (l : ℕ) (f : Failure) → HasNode w.tree l → failure_at w stream l ≡ Some f → is_some (refusal_to w stream l) ≡ true
   is-named l f node h =
@@ -226,8 +235,8 @@ module _ (w : WorldState) (still : AreStreamsStill w) (stream : StreamId) (kept 
           let bridge : s.bridge ≡ f.bridge = sym (still.named (r.p.node.0 - 1) s (place_of r.p.port) r.a.port r.a.node r.a.has) ∙ sym r.refuses.bridge in
           let same_bridge : (s.bridge.0 == f.bridge.0) ≡ true = ap (λ (b : BridgeId). b.0 == f.bridge.0) bridge ∙ same f.bridge.0 in
           let fit : fit_of (place_of r.p.port) stream s ≡ Some (TooLittle r.refuses.more r.refuses.cap f.code) =
-              ap (λ o. option_map_or (λ (port : Port). fit_at s.clock.0 (place_of r.p.port) port.ledger (talkers_of s.streams.talks s.streams.ports stream)) o None) r.a.has
-              ∙ fit-there w still stream kept once l f d s.clock.0 (moment-is w still stream kept once r.p r.a) in
+          ap (λ o. option_map_or (λ (port : Port). fit_at s.clock.0 (place_of r.p.port) port.ledger (talkers_of s.streams.talks s.streams.ports stream)) o None) r.a.has
+          ∙ fit-there w still stream kept once l f d s.clock.0 (moment-is w still stream kept once r.p r.a) in
           let slope = slope_of_reg (talker_of stream s.streams) in
           let made : Refusal = record { at = r.p; more_important = r.refuses.more; slope = slope; cap = r.refuses.cap; code = f.code } in
           ap (λ o. is_some (option_and_then (refusal_in stream f r.p) o)) r.a.node

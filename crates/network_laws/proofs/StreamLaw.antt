@@ -144,7 +144,6 @@ abbrev failure_in : StreamId → Option NodeState → Option Failure
 failure_in stream o = option_and_then (λ (s : NodeState). bandwidth_failure (talker_at_place stream 0 s)) o
 
 module _ (w : WorldState) (still : AreStreamsStill w) (stream : StreamId) (kept : KeptWants) where
-
   test-is : (p : EgressPort) → HasPort w.tree p → is_talker_registered w stream p ≡ test w still stream kept p
   test-is p h =
       let a = at-port w still stream kept p h in
@@ -153,7 +152,6 @@ module _ (w : WorldState) (still : AreStreamsStill w) (stream : StreamId) (kept 
       ∙ sym (ap is_present (reg-is w still stream kept p a)))
 
   module _ (once : IsTalkedOnce w stream) where
-
     pub talkers-match : WalkBehind w → TalkersMatch w stream
     talkers-match walk p h = ((λ t. to (registered-behind w still stream kept p h (sym (test-is p h) ∙ t))), from)
       where
@@ -232,7 +230,7 @@ module _ (w : WorldState) (still : AreStreamsStill w) (stream : StreamId) (kept 
                 let away = not-zero (place_of r.0.port) (talker_port (regs w still stream kept b).talkers) r.3 in
                 let same : n.s ≡ b.s = one-some (node_at (record { 0 = l }) w) n.s b.s n.node (ap (λ (y : ℕ). node_at (record { 0 = y }) w) (sym q.2) ∙ b.node) in
                 let hears : is_ready_heard (heard_by (seen_by b.s.streams stream)) ≡ true =
-                    heard-from (seen_by b.s.streams stream) (ap (λ (s : NodeState). has_listen stream s.streams) (sym same) ∙ n.listens_to) away adv in
+                heard-from (seen_by b.s.streams stream) (ap (λ (s : NodeState). has_listen stream s.streams) (sym same) ∙ n.listens_to) away adv in
                 hears-is l n ∙ (ap (λ (s : NodeState). is_ready_heard (heard_by (seen_by s.streams stream))) same ∙ hears)
               where
                 one-some : {X : Type 0} (o : Option X) (x y : X) → o ≡ Some x → o ≡ Some y → x ≡ y
@@ -269,16 +267,16 @@ module _ (w : WorldState) (still : AreStreamsStill w) (stream : StreamId) (kept 
             let adv-r : is_advertised (reg w still stream kept r) ≡ true = ap is_advertised (sym is) ∙ (ap (λ (s : NodeState). is_advertised (talker_of (seen_by s.streams stream).talkers)) same ∙ parts.2) in
             let told = ap is_advertised (sym (near-talker w still stream kept r hr c)) ∙ adv-r in
             let port : is_talker_port (suc (place_of r.port)) (regs w still stream kept b).talkers ≡ true =
-                is-port (regs w still stream kept b).talkers (suc j) x (suc (place_of r.port)) m ∙ (ap (λ i. i == suc (place_of r.port)) e ∙ same-port (suc (place_of r.port))) in
+            is-port (regs w still stream kept b).talkers (suc j) x (suc (place_of r.port)) m ∙ (ap (λ i. i == suc (place_of r.port)) e ∙ same-port (suc (place_of r.port))) in
             let port-sib : is_talker_port (suc (place_of r.port)) (seen_by sib.at.s.streams stream).talkers ≡ true =
-                ap (λ (s : NodeState). is_talker_port (suc (place_of r.port)) (seen_by s.streams stream).talkers) sib.same ∙ port in
+            ap (λ (s : NodeState). is_talker_port (suc (place_of r.port)) (seen_by s.streams stream).talkers) sib.same ∙ port in
             let l-sib : (seen_by sib.at.s.streams stream).listens ≡ true = ap (λ (s : NodeState). (seen_by s.streams stream).listens) all-same ∙ parts.0 in
             let ready-there : is_ready (listener_at (place_of r.port) (seen_by sib.at.s.streams stream)) ≡ true =
-                listens (place_of r.port) (seen_by sib.at.s.streams stream) port-sib l-sib adv in
+            listens (place_of r.port) (seen_by sib.at.s.streams stream) port-sib l-sib adv in
             let ready : is_ready (registered_listener stream c.port.part) ≡ true =
-                ap is_ready (sym (kind-is w still stream kept p c) ∙ far-listener w still stream kept r hr sib.at) ∙ ready-there in
+            ap is_ready (sym (kind-is w still stream kept p c) ∙ far-listener w still stream kept r hr sib.at) ∙ ready-there in
             let booked = booked-is w still stream kept once y.0 k p c
-                ∙ advertised-booked kept (place_of p.port) c.port (regs w still stream kept c).talkers stream (port-kept w still stream kept p c).ledger (wanted w still stream kept p c) told ready in
+            ∙ advertised-booked kept (place_of p.port) c.port (regs w still stream kept c).talkers stream (port-kept w still stream kept p c).ledger (wanted w still stream kept p c) told ready in
             path-is l y.0 (lowest y.0 k)
             ∙ (ap (λ z. list_all (has_booked w stream) (path_between w.tree.links y.0 z)) (sym far)
             ∙ path-booked w still stream kept once y.0 k p hp off booked)
@@ -386,7 +384,11 @@ module _ (w : WorldState) (still : AreStreamsStill w) (stream : StreamId) (kept 
         let back : reg w still stream kept (peer_of w.tree.links p) ≡ Failed d.u f = ap (reg w still stream kept) (still.laws.peer_twice q hq) ∙ d.failed in
         let r = refused w still stream kept once y.0 y.1 p hp off s.0 s.1 d.u f back d.code in
         record {
-          t = y.0; talks = y.1; lowest_is = lowest y.0 y.1; s = s.0; node = s.1;
+          t = y.0;
+          talks = y.1;
+          lowest_is = lowest y.0 y.1;
+          s = s.0;
+          node = s.1;
           refusing = subst (λ z. Refusing w still stream kept once y.0 y.1 z f s.0) (still.laws.peer_back q hq ∙ d.node_is) r;
         }
 
@@ -407,8 +409,8 @@ module _ (w : WorldState) (still : AreStreamsStill w) (stream : StreamId) (kept 
             let r = d.refusing in
             let u = r.refuses in
             let asks : want_of_talker u.talker ≡ want_at w stream d.t =
-                ap (λ reg. option_and_then want_of_talker (talker_in reg)) (sym u.advertised)
-                ∙ (r.wants ∙ sym (ap (λ o. option_and_then (λ (s : NodeState). option_and_then want_of_talker (talk_of stream s.streams.talks)) o) d.node)) in
+            ap (λ reg. option_and_then want_of_talker (talker_in reg)) (sym u.advertised)
+            ∙ (r.wants ∙ sym (ap (λ o. option_and_then (λ (s : NodeState). option_and_then want_of_talker (talk_of stream s.streams.talks)) o) d.node)) in
             let moment : r.a.port.ledger.moment ≡ r.a.s.clock.0 = moment-is r.p r.a in
             let fit : fit_for r.a.s.clock.0 r.a.port.ledger u.want ≡ TooLittle u.more u.cap f.code = ap (λ m. fit_for m r.a.port.ledger u.want) (sym moment) ∙ u.fit in
             record {
@@ -429,7 +431,7 @@ module _ (w : WorldState) (still : AreStreamsStill w) (stream : StreamId) (kept 
         let r = d.refusing in
         let u = r.refuses in
         let wants : option_and_then want_of_talker (talker_in (talker_of (regs w still stream kept r.a).talkers)) ≡ Some u.want =
-            ap (λ reg. option_and_then want_of_talker (talker_in reg)) u.advertised ∙ u.wants in
+        ap (λ reg. option_and_then want_of_talker (talker_in reg)) u.advertised ∙ u.wants in
         let here : fit_at now (place_of r.p.port) r.a.port.ledger (regs w still stream kept r.a).talkers ≡ Some (fit_for now r.a.port.ledger u.want) =
-            rw r.elsewhere (rw wants refl) in
+        rw r.elsewhere (rw wants refl) in
         here ∙ (ap (λ m. Some (fit_for m r.a.port.ledger u.want)) (sym e) ∙ ap Some u.fit)

@@ -104,7 +104,6 @@ station-talk stream Station side h e = e
 station-talk stream Bridge side h e = let none : has_talk stream side ≡ false = ap (λ talks. is_some (talk_of stream talks)) (h refl) in cc
 
 module _ (w : WorldState) (still : AreStreamsStill w) (stream : StreamId) (kept-wants : KeptWants) where
-
   -- a port's node, and what MSRP keeps of the port
   pub record At (p : EgressPort) : Type 0 where
     pub s : NodeState
@@ -294,7 +293,7 @@ module _ (w : WorldState) (still : AreStreamsStill w) (stream : StreamId) (kept-
       let b = at-port q hq in
       let talk : is_present (advertised (talk_of stream b.s.streams.talks)) ≡ true = talks-present (talk_of stream b.s.streams.talks) ∙ own-talk q b t in
       let first : IsTalkers (regs b).talkers 0 (advertised (talk_of stream b.s.streams.talks)) =
-          first-is (advertised (talk_of stream b.s.streams.talks)) (map (λ (x : Port). registered_talker stream x.part) b.s.streams.ports) talk in
+      first-is (advertised (talk_of stream b.s.streams.talks)) (map (λ (x : Port). registered_talker stream x.part) b.s.streams.ports) talk in
       let away : is_talker_port (suc (place_of q.port)) (regs b).talkers ≡ false = is-port (regs b).talkers 0 (advertised (talk_of stream b.s.streams.talks)) (suc (place_of q.port)) first ∙ other-port 0 (suc (place_of q.port)) (λ e. absurd (omega arith)) in
       ap is_present (near-talker p h b)
       ∙ present-declared (place_of q.port) b.port.config b.port.ledger (regs b).talkers away (ap is_present first.is ∙ talk)
@@ -308,7 +307,7 @@ module _ (w : WorldState) (still : AreStreamsStill w) (stream : StreamId) (kept-
       let s = sibling q hq b r.0 r.1 (ap (λ (n : ℕ). record { 0 = n }) r.2) in
       let n = port-of (regs b).talkers (suc (place_of r.0.port)) (reg r.0) (sibling-at q b r.0 s) r.4 in
       let away : is_talker_port (suc (place_of q.port)) (regs b).talkers ≡ false =
-          is-port (regs b).talkers n.0 n.1 (suc (place_of q.port)) n.2 ∙ other-port n.0 (suc (place_of q.port)) (λ e. not-there b n.0 n.1 n.2 e) in
+      is-port (regs b).talkers n.0 n.1 (suc (place_of q.port)) n.2 ∙ other-port n.0 (suc (place_of q.port)) (λ e. not-there b n.0 n.1 n.2 e) in
       ap is_present (near-talker p h b)
       ∙ present-declared (place_of q.port) b.port.config b.port.ledger (regs b).talkers away (ap is_present n.2.is ∙ n.2.present)
     where
@@ -345,7 +344,6 @@ module _ (w : WorldState) (still : AreStreamsStill w) (stream : StreamId) (kept-
   registered-behind p h t = ahead (suc (count p)) p h (omega arith) t
 
   module _ (once : IsTalkedOnce w stream) (t : ℕ) (talks : Talks t) where
-
     pub one-talker : (y : ℕ) → Talks y → y ≡ t
     one-talker y k = once y t k.node talks.node k.talks talks.talks
 
@@ -430,7 +428,7 @@ module _ (w : WorldState) (still : AreStreamsStill w) (stream : StreamId) (kept-
     at-station : (p : EgressPort) (h : HasPort w.tree p) (a : At p) → p.node.0 ≡ t → talker_of (regs a).talkers ≡ advertised (talk_of stream a.s.streams.talks)
     at-station p h a e =
         let talk : is_present (advertised (talk_of stream a.s.streams.talks)) ≡ true =
-            talks-present (talk_of stream a.s.streams.talks) ∙ own-talk p a (ap own e ∙ talks.talks) in
+        talks-present (talk_of stream a.s.streams.talks) ∙ own-talk p a (ap own e ∙ talks.talks) in
         rw talk refl
 
     -- the path to a port's far node ends with the port
@@ -471,10 +469,10 @@ module _ (w : WorldState) (still : AreStreamsStill w) (stream : StreamId) (kept-
         let why = booked-wants kept-wants (place_of p.port) a.port (regs a).talkers stream kept (wanted p a) some in
         let advertised-r : reg r ≡ Advertise why.0 = sym b.is_reg ∙ why.2.advertised in
         let told : is_advertised (talker_at (place_of (q_of r).port) c.port.config c.port.ledger (regs c).talkers) ≡ true =
-            ap is_advertised (sym (near-talker r hr c) ∙ advertised-r) in
+        ap is_advertised (sym (near-talker r hr c) ∙ advertised-r) in
         let ready-r : is_ready (listener_at (place_of r.port) (regs b.sib.at)) ≡ true = ready-there why.0 why.1 why.2 some in
         let ready : is_ready (registered_listener stream c.port.part) ≡ true =
-            ap is_ready (sym (kind-is (q_of r) c) ∙ far-listener r hr b.sib.at) ∙ ready-r in
+        ap is_ready (sym (kind-is (q_of r) c) ∙ far-listener r hr b.sib.at) ∙ ready-r in
         booked-is (q_of r) c
         ∙ advertised-booked kept-wants (place_of (q_of r).port) c.port (regs c).talkers stream (port-kept (q_of r) c).ledger (wanted (q_of r) c) told ready
       where
@@ -487,12 +485,12 @@ module _ (w : WorldState) (still : AreStreamsStill w) (stream : StreamId) (kept-
             of (Some kind) e =
                 let row : PortListener = record { kind = kind; booked = is_some (since_of a.port.ledger.entries stream) } in
                 let listed : slice_get (regs a).listeners (place_of p.port) ≡ Some (Some row) =
-                    map-get (listener_row stream) a.s.streams.ports (place_of p.port) a.port a.has ∙ ap (λ k. Some (option_map (λ kind. record { kind = kind; booked = is_some (since_of a.port.ledger.entries stream) }) k)) e in
+                map-get (listener_row stream) a.s.streams.ports (place_of p.port) a.port a.has ∙ ap (λ k. Some (option_map (λ kind. record { kind = kind; booked = is_some (since_of a.port.ledger.entries stream) }) k)) e in
                 let kind-ready : is_ready (Some kind) ≡ true = ap is_ready (sym e) ∙ why.ready in
                 let can : can_have row ≡ true = rw some kind-ready in
                 let there_ : is_ready (listener_at (place_of r.port) (regs a)) ≡ true =
-                    forwards (place_of r.port) (regs a) (place_of p.port) row b.is_port
-                    (other-place p r h b.sib.port (sym b.sib.node) (λ f. b.differs (sym f))) listed can in
+                forwards (place_of r.port) (regs a) (place_of p.port) row b.is_port
+                (other-place p r h b.sib.port (sym b.sib.node) (λ f. b.differs (sym f))) listed can in
                 ap (λ (s : NodeState). is_ready (listener_at (place_of r.port) (seen_by s.streams stream))) b.sib.same ∙ there_
 
     all-snoc : (xs : List EgressPort) (p : EgressPort) → list_all booked xs ≡ true → booked p ≡ true → list_all booked (xs ++ p ∷ []) ≡ true
@@ -592,9 +590,14 @@ module _ (w : WorldState) (still : AreStreamsStill w) (stream : StreamId) (kept-
     later : (p : EgressPort) (h : HasPort w.tree p) (f : Failure) (s : NodeState) → behind p t ≡ false → Refusing p.node.0 f s → Refusing (far p) f s
     later p h f s off r =
         record {
-          p = r.p; port = r.port; a = r.a; i = r.i;
+          p = r.p;
+          port = r.port;
+          a = r.a;
+          i = r.i;
           on = ap (λ xs. slice_get xs r.i) (path-last p h off) ∙ get-front (path_between w.tree.links t p.node.0) (p ∷ []) r.i r.p r.on;
-          elsewhere = r.elsewhere; refuses = r.refuses; wants = r.wants;
+          elsewhere = r.elsewhere;
+          refuses = r.refuses;
+          wants = r.wants;
         }
 
     refusing : (n : ℕ) (p : EgressPort) (h : HasPort w.tree p) → count (q_of p) < n → behind p t ≡ false → (s : NodeState) → node_at (record { 0 = t }) w ≡ Some s
@@ -618,10 +621,14 @@ module _ (w : WorldState) (still : AreStreamsStill w) (stream : StreamId) (kept-
             → Refusing (far p) f s
         by a where_ (inr refuses) further =
             record {
-              p = p; port = h; a = a; i = length (path_between w.tree.links t p.node.0);
+              p = p;
+              port = h;
+              a = a;
+              i = length (path_between w.tree.links t p.node.0);
               on = ap (λ xs. slice_get xs (length (path_between w.tree.links t p.node.0))) (path-last p h off) ∙ get-end (path_between w.tree.links t p.node.0) p;
               elsewhere = elsewhere a (ap is_present (sym (far-talker p h a) ∙ k));
-              refuses = refuses; wants = wants-here a where_;
+              refuses = refuses;
+              wants = wants-here a where_;
             }
         by a (inl g) (inl v) further = absurd (never-failed (talk_of stream a.s.streams.talks) v.0 f (sym (at-station p h a g) ∙ v.1))
         by a (inr r) (inl v) further =

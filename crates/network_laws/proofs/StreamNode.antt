@@ -61,12 +61,16 @@ talkers-port (x ∷ xs) = by (is_present x) refl (talkers-port xs)
     by true e rest = inr (0, x, first-is x xs e)
     by false e (inl none) = inl (rw e none)
     by false e (inr r) =
-        inr (suc r.0, r.1, record {
-          at = r.2.at;
-          present = r.2.present;
-          port = rw e (shift (position_or_len is_present xs) (length xs) r.0 r.2.port);
-          is = rw e r.2.is;
-        })
+        inr (
+          suc r.0,
+          r.1,
+          record {
+            at = r.2.at;
+            present = r.2.present;
+            port = rw e (shift (position_or_len is_present xs) (length xs) r.0 r.2.port);
+            is = rw e r.2.is;
+          },
+        )
 
 -- where a Talker is registered somewhere there is one
 pub some-talker : (xs : List TalkerReg) (j : ℕ) (x : TalkerReg) → slice_get xs j ≡ Some x → is_present x ≡ true → is_present (talker_of xs) ≡ true
@@ -242,7 +246,6 @@ fit-is book xs t w a h = rw a (rw h refl)
 
 module _ (kept : KeptWants) (at : ℕ) (port : Port) (xs : List TalkerReg) (stream : StreamId)
     (book : IsKept port.ledger) (wanted : want_of port.ledger.entries stream ≡ wanted_at at port.part xs stream) where
-
   -- a stream that is booked at a port is wanted there
   pub booked-wants : is_some (since_of port.ledger.entries stream) ≡ true → (t : Talker) × (w : Want) × Wants at port.part xs stream t w
   booked-wants h =
@@ -258,7 +261,7 @@ module _ (kept : KeptWants) (at : ℕ) (port : Port) (xs : List TalkerReg) (stre
       let of : w.0.stream ≡ stream = want-stream port.ledger.entries stream w.0 w.1 in
       let own : want_of port.ledger.entries w.0.stream ≡ Some w.0 = ap (λ (s : StreamId). want_of port.ledger.entries s) of ∙ w.1 in
       let some : IsSome (since_of port.ledger.entries w.0.stream) =
-          ap (λ (s : StreamId). is_some (since_of port.ledger.entries s)) of ∙ h in
+      ap (λ (s : StreamId). is_some (since_of port.ledger.entries s)) of ∙ h in
       let fits : fit_for port.ledger.moment port.ledger w.0 ≡ Fits = (kept port.ledger port.ledger.moment w.0 book (omega arith) own).1 some in
       ap is_advertised (declares at port.config port.ledger xs r.1.elsewhere)
       ∙ (ap (λ f. is_advertised (talker_out (talker_of xs) port.config f)) (fit-is port.ledger xs r.0 w.0 r.1.advertised r.1.want ∙ fits)
@@ -367,7 +370,12 @@ failed-at at config book xs t f h code = by (is_talker_port (suc at) xs) refl
             let code-is : c ≡ f.code = ap (λ (g : Failure). g.code) failure in
             let r = want-is more cap c (want_of_talker u) refl k in
             record {
-              talker = u; want = r.0; more = more; cap = cap; advertised = a; wants = r.1;
+              talker = u;
+              want = r.0;
+              more = more;
+              cap = cap;
+              advertised = a;
+              wants = r.1;
               fit = r.2 ∙ ap (λ n. TooLittle more cap n) code-is;
               bridge = ap (λ (g : Failure). g.bridge) (sym failure);
             }
@@ -467,8 +475,8 @@ pub forwards : (at : ℕ) (r : Registrations) (j : ℕ) (row : PortListener) →
 forwards at r j row port ne h t =
     let here : listener_at at r ≡ listener_out (other_listeners at r) = rw port refl in
     let some : list_any can_have_if (own_listener r ∷ (take at r.listeners ++ drop (suc at) r.listeners)) ≡ true =
-        true-right (can_have_if (own_listener r)) (list_any can_have_if (take at r.listeners ++ drop (suc at) r.listeners))
-        (others-any can_have_if at r.listeners j (Some row) ne h t) in
+    true-right (can_have_if (own_listener r)) (list_any can_have_if (take at r.listeners ++ drop (suc at) r.listeners))
+    (others-any can_have_if at r.listeners j (Some row) ne h t) in
     ap is_ready here ∙ out-ready (other_listeners at r) (any-filter (own_listener r ∷ (take at r.listeners ++ drop (suc at) r.listeners)) some)
 
 -- or where the application listens and the Talker is advertised
@@ -478,5 +486,5 @@ listens at r port l a =
     let here : listener_at at r ≡ listener_out (other_listeners at r) = rw port refl in
     let own : can_have_if (own_listener r) ≡ true = rw l (rw a refl) in
     let some : list_any can_have_if (own_listener r ∷ (take at r.listeners ++ drop (suc at) r.listeners)) ≡ true =
-        ap (λ b. b || list_any can_have_if (take at r.listeners ++ drop (suc at) r.listeners)) own in
+    ap (λ b. b || list_any can_have_if (take at r.listeners ++ drop (suc at) r.listeners)) own in
     ap is_ready here ∙ out-ready (other_listeners at r) (any-filter (own_listener r ∷ (take at r.listeners ++ drop (suc at) r.listeners)) some)

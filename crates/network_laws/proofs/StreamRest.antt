@@ -26,7 +26,6 @@ use Rattle.network_laws.proofs.StreamNet.{stream_port, AreStreamsStill}
 use Rattle.network_laws.proofs.StreamLaw.{WalkBehind, WalkPath, talkers-match, are-ready-on-path, are-refusals-shown}
 
 module _ (w : WorldState) (kept : IsKeptWorld w) (rest : IsAtRest w) (laws : HasPortLaws w.tree) (still : StillLink MsrpKey MsrpContent key_cmp) where
-
   -- the node and the place of what MSRP keeps of a port
   record Held (p : EgressPort) (a : Port) : Type 0 where
     s : NodeState
@@ -36,7 +35,6 @@ module _ (w : WorldState) (kept : IsKeptWorld w) (rest : IsAtRest w) (laws : Has
   held : (p : EgressPort) (a : Port) → stream_port p w ≡ Some a → Held p a
   held p a h = by (node_at p.node w) refl
     where
-
       by : (o : Option NodeState) → node_at p.node w ≡ o → Held p a
       by None e = let none : stream_port p w ≡ None = ap (λ o. option_and_then (λ (s : NodeState). slice_get s.streams.ports (place_of p.port)) o) e in cc
       by (Some s) e = record { s = s; node = e; has = sym (ap (λ o. option_and_then (λ (s : NodeState). slice_get s.streams.ports (place_of p.port)) o) e) ∙ h }

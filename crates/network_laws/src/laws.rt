@@ -25,7 +25,8 @@ use mvrp::MvrpApp;
 use port_ledger::laws::decisions_stand;
 use tree_topology::laws::{ports, the_walk};
 use world_core::laws::{
-    a_scenario_begins_well, every_event_keeps_it, every_moment_keeps_it, every_moment_talks_by_the_plan,
+    a_scenario_begins_well, every_event_keeps_it, every_moment_keeps_it,
+    every_moment_talks_by_the_plan,
 };
 
 /// In every network at rest a VID is registered at a port exactly where a station behind the port, in the words of the

@@ -16,7 +16,9 @@ use crate::vlans::Sides;
 use msrp_codec::{MsrpContent, MsrpKey};
 use msrp_talker::class_of;
 use node_core::Node;
-use srp_base::{EgressPort, Failure, ListenerKind, NoMemory, NodeNo, PortNo, StreamId, Talker, TalkerReg};
+use srp_base::{
+    EgressPort, Failure, ListenerKind, NoMemory, NodeNo, PortNo, StreamId, Talker, TalkerReg,
+};
 use std::alloc::Global;
 use stream_importance::{Fit, slope_of};
 use tree_topology::NodeKind;
@@ -233,8 +235,8 @@ fn refusal_along(
     requires { AllByRecursion (HasPort world.now.tree) path.now }
     ensures { result ≡ first_refusal (refusal_at world.now stream failure) path.now }
 {
-    for at in path {
-        let refusal = refusal_by(world, *at, stream, failure);
+    for port in path {
+        let refusal = refusal_by(world, *port, stream, failure);
         if refusal.is_some() {
             return refusal;
         }
@@ -243,12 +245,7 @@ fn refusal_along(
 }
 
 // The refusal of a port, where its node has the failure's BridgeID.
-fn refusal_by(
-    world: &World,
-    at: EgressPort,
-    stream: StreamId,
-    failure: Failure,
-) -> Option<Refusal>
+fn refusal_by(world: &World, at: EgressPort, stream: StreamId, failure: Failure) -> Option<Refusal>
     requires { HasPort world.now.tree at }
     ensures { result ≡ refusal_at world.now stream failure at }
 {
@@ -281,11 +278,13 @@ fn refusal_with(at: EgressPort, slope: u64, code: u8, fit: Option<Fit>) -> Optio
     ensures { result ≡ refusal_of at slope code fit }
 {
     match fit {
-        Some(Fit::TooLittle {
-            more_important,
-            cap,
-            code: given,
-        }) => {
+        Some(
+            Fit::TooLittle {
+                more_important,
+                cap,
+                code: given,
+            },
+        ) => {
             if given == code {
                 Some(Refusal {
                     at,
