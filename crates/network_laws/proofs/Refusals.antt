@@ -1,6 +1,6 @@
 -- Which refusal a failure names: the first along the path; what it says; and that at rest there is one.
 use Rattle.std.proofs.Common.{◌≡◌, ◌⊎◌, inl, inr, ℕ, zero, suc, ◌+◌, ◌-◌, ◌<◌, Bool, true, false, ◌&&◌, ◌==◌, if◌then◌else◌, List, [], ◌∷◌, length, refl, sym, ap, subst, ◌∙◌, arith}
-use Rattle.std.specs.Prelude.{slice_get, Option, Some, None, IsSome, is_some, option_map, option_and_then}
+use Rattle.std.specs.Prelude.{slice_get, Option, Some, None, IsSome, is_some, option_map, option_and_then, ◌↔◌}
 use Rattle.std.specs.Option.{option_map_or, option_or}
 use Rattle.std.proofs.lemmas.Bool.{and_parts, eqb-true}
 use Rattle.std.proofs.lemmas.Bool.Decides.{nat_tests}
@@ -27,7 +27,7 @@ use Rattle.world_core.specs.World.{WorldState, node_at}
 use Rattle.world_core.specs.Talks.{HasOneTalker}
 use Rattle.network_laws.specs.Vlans.{is_station}
 use Rattle.network_laws.specs.declared.streams.Refusal.{Refusal}
-use Rattle.network_laws.specs.Streams.{IsTalkedOnce, is_talked_at, talking_node, failure_at, slope_of_talker, slope_of_reg, refusal_of, refusal_in, refusal_at, first_refusal, refusal_named, refusal_to, IsRefusalTo}
+use Rattle.network_laws.specs.Streams.{IsTalkedOnce, is_talked_at, talking_node, failure_at, slope_of_talker, slope_of_reg, refusal_of, refusal_in, refusal_at, first_refusal, refusal_named, refusal_to, IsNamedAt, IsRefusalTo}
 use Rattle.network_laws.proofs.StreamNode.{KeptWants}
 use Rattle.network_laws.proofs.StreamNet.{AreStreamsStill, Refusing}
 use Rattle.network_laws.proofs.StreamLaw.{Shown, shown, fit-there, moment-is}
@@ -157,9 +157,9 @@ record IsOfNode (w : WorldState) (stream : StreamId) (failure : Failure) (p : Eg
   node : NodeState
   node_is : node_at p.node w ≡ Some node
   named : node.bridge ≡ failure.bridge
-  at_is : r.at ≡ p
-  code_is : r.code ≡ failure.code
-  over : r.cap < r.more_important + r.slope
+  fit : Option Fit
+  fit_of_is : fit_of (place_of p.port) stream node ≡ fit
+  little : IsTooLittle fit p (slope_of_reg (talker_of stream node.streams)) failure.code r
 
 of-node : (w : WorldState) (stream : StreamId) (failure : Failure) (p : EgressPort) (r : Refusal) → refusal_at w stream failure p ≡ Some r → IsOfNode w stream failure p r
 of-node w stream failure p r h = by (node_at p.node w) refl
@@ -172,50 +172,90 @@ of-node w stream failure p r h = by (node_at p.node w) refl
         of true f =
             let is : refusal_in stream failure p s ≡ refusal_of p (slope_of_reg (talker_of stream s.streams)) failure.code (fit_of (place_of p.port) stream s) = rw f refl in
             let t = too-little p (slope_of_reg (talker_of stream s.streams)) failure.code (fit_of (place_of p.port) stream s) r (sym is ∙ k) in
-            let over = node-passes stream (place_of p.port) s t.more t.cap failure.code t.fit_is in
-            let same = t.more_is in
-            let slope = t.slope_is in
-            let cap = t.cap_is in
             record {
               node = s;
               node_is = e;
               named = ap (λ (n : ℕ). record { 0 = n }) (eqb-true s.bridge.0 failure.bridge.0 f);
-              at_is = t.at_is;
-              code_is = t.code_is;
-              over = omega arith;
+              fit = fit_of (place_of p.port) stream s;
+              fit_of_is = refl;
+              little = t;
             }
 
     by : (o : Option NodeState) → node_at p.node w ≡ o → IsOfNode w stream failure p r
     by None e = let none : refusal_at w stream failure p ≡ None = ap (λ o. option_and_then (refusal_in stream failure p) o) e in cc
     by (Some s) e = at-node s e (sym (ap (λ o. option_and_then (refusal_in stream failure p) o) e) ∙ h)
 
--- a refusal says where on the path the port is, whose bridge it has, and that the cap is passed
+-- a refusal that is shown is of a port that is named
 pub refusal-says : (w : WorldState) (stream : StreamId) (l : ℕ) (r : Refusal) → refusal_to w stream l ≡ Some r → IsRefusalTo w stream l r
 refusal-says w stream l r h = by (failure_at w stream l) refl
   where
+    says : (f : Failure) → failure_at w stream l ≡ Some f → (t : ℕ) → talking_node w stream ≡ Some t → (i : ℕ) (p : EgressPort) → slice_get (path_between w.tree.links t l) i ≡ Some p
+        → IsOfNode w stream f p r → IsRefusalTo w stream l r
+    says f e t g i p on n =
+        let little = n.little in
+        let at : p ≡ r.at = sym little.at_is in
+        let fit : fit_of (place_of p.port) stream n.node ≡ Some (TooLittle little.more little.cap f.code) = n.fit_of_is ∙ little.fit_is in
+        let named : IsNamedAt w stream l r.at = record {
+          failure = f;
+          failure_is = e;
+          t = t;
+          talker = g;
+          i = i;
+          on_path = on ∙ ap Some at;
+          node = n.node;
+          node_is = ap (λ (q : EgressPort). node_at q.node w) (sym at) ∙ n.node_is;
+          named = n.named;
+          more = little.more;
+          cap = little.cap;
+          fit = ap (λ (q : EgressPort). fit_of (place_of q.port) stream n.node) (sym at) ∙ fit;
+        } in
+        let over : little.cap < little.more + slope_of_reg (talker_of stream n.node.streams) = node-passes stream (place_of p.port) n.node little.more little.cap f.code fit in
+        let more_is : r.more_important ≡ little.more = little.more_is in
+        let slope_is : r.slope ≡ slope_of_reg (talker_of stream n.node.streams) = little.slope_is in
+        let cap_is : r.cap ≡ little.cap = little.cap_is in
+        record { port = named; more_is = more_is; cap_is = cap_is; code_is = little.code_is; passes = omega arith }
+
     at-talker : (f : Failure) → failure_at w stream l ≡ Some f → (o : Option ℕ) → talking_node w stream ≡ o → refusal_named w stream l f ≡ Some r → IsRefusalTo w stream l r
     at-talker f e None g k = let none : refusal_named w stream l f ≡ None = ap (λ o. option_and_then (λ t. first_refusal (refusal_at w stream f) (path_between w.tree.links t l)) o) g in cc
     at-talker f e (Some t) g k =
         let is : refusal_named w stream l f ≡ first_refusal (refusal_at w stream f) (path_between w.tree.links t l) = ap (λ o. option_and_then (λ t. first_refusal (refusal_at w stream f) (path_between w.tree.links t l)) o) g in
         let first = first-at (refusal_at w stream f) (path_between w.tree.links t l) r (sym is ∙ k) in
-        let n = of-node w stream f first.1 r first.3 in
-        record {
-          failure = f;
-          failure_is = e;
-          code_is = n.code_is;
-          node = n.node;
-          node_is = ap (λ (p : EgressPort). node_at p.node w) n.at_is ∙ n.node_is;
-          named = n.named;
-          t = t;
-          talker = g;
-          i = first.0;
-          on_path = first.2 ∙ ap Some (sym n.at_is);
-          passes = n.over;
-        }
+        says f e t g first.0 first.1 first.2 (of-node w stream f first.1 r first.3)
 
     by : (o : Option Failure) → failure_at w stream l ≡ o → IsRefusalTo w stream l r
     by None e = let none : refusal_to w stream l ≡ None = ap (λ o. option_and_then (refusal_named w stream l) o) e in cc
     by (Some f) e = at-talker f e (talking_node w stream) refl (sym (ap (λ o. option_and_then (refusal_named w stream l) o) e) ∙ h)
+
+-- where a port is named, a refusal is shown
+pub named-shown : (w : WorldState) (stream : StreamId) (l : ℕ) (p : EgressPort) → IsNamedAt w stream l p → is_some (refusal_to w stream l) ≡ true
+named-shown w stream l p n =
+    let f = n.failure in
+    let s = n.node in
+    let same_bridge : (s.bridge.0 == f.bridge.0) ≡ true = ap (λ (b : BridgeId). b.0 == f.bridge.0) n.named ∙ same f.bridge.0 in
+    let slope = slope_of_reg (talker_of stream s.streams) in
+    let made : Refusal = record { at = p; more_important = n.more; slope = slope; cap = n.cap; code = f.code } in
+    let refuses : is_some (refusal_at w stream f p) ≡ true =
+    ap (λ o. is_some (option_and_then (refusal_in stream f p) o)) n.node_is
+    ∙ (ap (λ b. is_some (if b then refusal_of p slope f.code (fit_of (place_of p.port) stream s) else None)) same_bridge
+    ∙ (ap (λ o. is_some (refusal_of p slope f.code o)) n.fit
+    ∙ ap (λ b. is_some (if b then Some made else None)) (same f.code))) in
+    ap (λ o. is_some (option_and_then (refusal_named w stream l) o)) n.failure_is
+    ∙ (ap (λ o. is_some (option_and_then (λ t. first_refusal (refusal_at w stream f) (path_between w.tree.links t l)) o)) n.talker
+    ∙ first-some (refusal_at w stream f) (path_between w.tree.links n.t l) n.i p n.on_path refuses)
+  where
+    same : (n : ℕ) → (n == n) ≡ true
+    same n = grind (arith, nat_tests)
+
+-- a refusal is shown exactly where some port is named
+pub shown-where-named : (w : WorldState) (stream : StreamId) (l : ℕ) → IsSome (refusal_to w stream l) ↔ ((p : EgressPort) × IsNamedAt w stream l p)
+shown-where-named w stream l = (to, (λ n. named-shown w stream l n.0 n.1))
+  where
+    to : IsSome (refusal_to w stream l) → (p : EgressPort) × IsNamedAt w stream l p
+    to some = by (refusal_to w stream l) refl
+      where
+        by : (o : Option Refusal) → refusal_to w stream l ≡ o → (p : EgressPort) × IsNamedAt w stream l p
+        by None e = let none : is_some (refusal_to w stream l) ≡ false = ap is_some e in let is : is_some (refusal_to w stream l) ≡ true = some in cc
+        by (Some r) e = (r.at, (refusal-says w stream l r e).port)
 
 -- ---- at rest
 
@@ -224,28 +264,22 @@ module _ (w : WorldState) (still : AreStreamsStill w) (stream : StreamId) (kept 
   pub is-named : (l : ℕ) (f : Failure) → HasNode w.tree l → failure_at w stream l ≡ Some f → is_some (refusal_to w stream l) ≡ true
   is-named l f node h =
       let d = shown w still stream kept once l f node h in
-      ap (λ o. is_some (option_and_then (refusal_named w stream l) o)) h
-      ∙ (ap (λ o. is_some (option_and_then (λ t. first_refusal (refusal_at w stream f) (path_between w.tree.links t l)) o)) d.lowest_is
-      ∙ first-some (refusal_at w stream f) (path_between w.tree.links d.t l) d.refusing.i d.refusing.p d.refusing.on (refuses d))
-    where
-      refuses : (d : Shown w still stream kept once l f) → is_some (refusal_at w stream f d.refusing.p) ≡ true
-      refuses d =
-          let r = d.refusing in
-          let s = r.a.s in
-          let bridge : s.bridge ≡ f.bridge = sym (still.named (r.p.node.0 - 1) s (place_of r.p.port) r.a.port r.a.node r.a.has) ∙ sym r.refuses.bridge in
-          let same_bridge : (s.bridge.0 == f.bridge.0) ≡ true = ap (λ (b : BridgeId). b.0 == f.bridge.0) bridge ∙ same f.bridge.0 in
-          let fit : fit_of (place_of r.p.port) stream s ≡ Some (TooLittle r.refuses.more r.refuses.cap f.code) =
-          ap (λ o. option_map_or (λ (port : Port). fit_at s.clock.0 (place_of r.p.port) port.ledger (talkers_of s.streams.talks s.streams.ports stream)) o None) r.a.has
-          ∙ fit-there w still stream kept once l f d s.clock.0 (moment-is w still stream kept once r.p r.a) in
-          let slope = slope_of_reg (talker_of stream s.streams) in
-          let made : Refusal = record { at = r.p; more_important = r.refuses.more; slope = slope; cap = r.refuses.cap; code = f.code } in
-          ap (λ o. is_some (option_and_then (refusal_in stream f r.p) o)) r.a.node
-          ∙ (ap (λ b. is_some (if b then refusal_of r.p slope f.code (fit_of (place_of r.p.port) stream s) else None)) same_bridge
-          ∙ (ap (λ o. is_some (refusal_of r.p slope f.code o)) fit
-          ∙ ap (λ b. is_some (if b then Some made else None)) (same f.code)))
-        where
-          same : (n : ℕ) → (n == n) ≡ true
-          same n = grind (arith, nat_tests)
+      let r = d.refusing in
+      named-shown w stream l r.p (record {
+        failure = f;
+        failure_is = h;
+        t = d.t;
+        talker = d.lowest_is;
+        i = r.i;
+        on_path = r.on;
+        node = r.a.s;
+        node_is = r.a.node;
+        named = sym (still.named (r.p.node.0 - 1) r.a.s (place_of r.p.port) r.a.port r.a.node r.a.has) ∙ sym r.refuses.bridge;
+        more = r.refuses.more;
+        cap = r.refuses.cap;
+        fit = ap (λ o. option_map_or (λ (port : Port). fit_at r.a.s.clock.0 (place_of r.p.port) port.ledger (talkers_of r.a.s.streams.talks r.a.s.streams.ports stream)) o None) r.a.has
+            ∙ fit-there w still stream kept once l f d r.a.s.clock.0 (moment-is w still stream kept once r.p r.a);
+      })
 
   pub some-shown : (l : ℕ) → HasNode w.tree l → IsSome (failure_at w stream l) → IsSome (refusal_to w stream l)
   some-shown l node some = by (failure_at w stream l) refl

@@ -171,8 +171,9 @@ abbrev pub IsOnPath : WorldState → ℕ → ℕ → EgressPort → Type 0
 IsOnPath w t l p =
     (ports : List EgressPort) × (i : ℕ) × IsPortPath w.tree.links t l ports × (slice_get ports i ≡ Some p)
 
--- where a station's port, other than the Talker's, has a Talker Failed for want of bandwidth, some station talks the
--- stream, and at a port of the named bridge on the path from there bookings leave no place for it
+-- Where a node's first port has a Talker Failed for want of bandwidth, and the node isn't the Talker's, some station talks
+-- the stream, and at a port of the named bridge on the path from there bookings leave no place for it. It is said of every
+-- node, bridges too; a station has that port alone.
 abbrev pub AreRefusalsShown : WorldState → StreamId → Type 0
 AreRefusalsShown w stream =
     (l : ℕ) (failure : Failure) → HasNode w.tree l → is_talked_at w stream l ≡ false
@@ -225,19 +226,29 @@ refusal_named w stream l failure =
 abbrev pub refusal_to : WorldState → StreamId → ℕ → Option Refusal
 refusal_to w stream l = option_and_then (refusal_named w stream l) (failure_at w stream l)
 
--- what a refusal says: the port is on the path from the Talker's station, its node has a failure's BridgeID, which is at the
--- station's port, and what is more important there, with the stream's own slope, passes the cap
-pub record IsRefusalTo (w : WorldState) (stream : StreamId) (l : ℕ) (refusal : Refusal) : Type 0 where
+-- A port is named: the station's port has a Talker Failed for want of bandwidth, the port is on the path from the Talker's
+-- station, its node has the BridgeID of the failure, and its ledger refuses the stream with the failure's code.
+pub record IsNamedAt (w : WorldState) (stream : StreamId) (l : ℕ) (p : EgressPort) : Type 0 where
   pub failure : Failure
   pub failure_is : failure_at w stream l ≡ Some failure
-  pub code_is : refusal.code ≡ failure.code
-  pub node : NodeState
-  pub node_is : node_at refusal.at.node w ≡ Some node
-  pub named : node.bridge ≡ failure.bridge
   pub t : ℕ
   pub talker : talking_node w stream ≡ Some t
   pub i : ℕ
-  pub on_path : slice_get (path_between w.tree.links t l) i ≡ Some refusal.at
+  pub on_path : slice_get (path_between w.tree.links t l) i ≡ Some p
+  pub node : NodeState
+  pub node_is : node_at p.node w ≡ Some node
+  pub named : node.bridge ≡ failure.bridge
+  pub more : ℕ
+  pub cap : ℕ
+  pub fit : fit_of (place_of p.port) stream node ≡ Some (TooLittle more cap failure.code)
+
+-- a refusal is of a port that is named, with what its ledger says; and what is more important there, with the stream's own
+-- slope, passes the cap
+pub record IsRefusalTo (w : WorldState) (stream : StreamId) (l : ℕ) (refusal : Refusal) : Type 0 where
+  pub port : IsNamedAt w stream l refusal.at
+  pub more_is : refusal.more_important ≡ port.more
+  pub cap_is : refusal.cap ≡ port.cap
+  pub code_is : refusal.code ≡ port.failure.code
   pub passes : refusal.cap < refusal.more_important + refusal.slope
 
 -- ---- all of them

@@ -1,6 +1,6 @@
 //! The laws of a network at rest. Each is a function that does nothing; calling it brings the law to a proof.
 
-ghost use Rattle.std.specs.Prelude.{◌≡◌, ℕ, true, false, List, Some, IsSome};
+ghost use Rattle.std.specs.Prelude.{◌≡◌, ◌↔◌, ℕ, true, false, List, Some, IsSome};
 ghost use Rattle.std.specs.List.{AllByRecursion};
 ghost use Rattle.srp_base.specs.declared.numbers.EgressPort.{EgressPort};
 ghost use Rattle.srp_base.specs.declared.numbers.StreamId.{StreamId};
@@ -17,7 +17,7 @@ ghost use Rattle.world_core.specs.Moments.{IsMoment};
 ghost use Rattle.world_core.specs.Ticks.{AreLegalTicks};
 ghost use Rattle.network_laws.specs.Vlans.{VlansMatch, IsAtRest, is_registered, is_declared_behind};
 ghost use Rattle.network_laws.specs.declared.streams.Refusal.{Refusal};
-ghost use Rattle.network_laws.specs.Streams.{failure_at, hears_ready, is_listened_at, is_path_booked, is_talked_at, refusal_to, IsRefusalTo, IsTalkedOnce, KeepsStreamLaws};
+ghost use Rattle.network_laws.specs.Streams.{failure_at, hears_ready, is_listened_at, is_path_booked, is_talked_at, refusal_to, IsNamedAt, IsRefusalTo, IsTalkedOnce, KeepsStreamLaws};
 
 use mrp_participant::link_laws::a_still_link_registers_what_is_declared;
 use msrp::MsrpApp;
@@ -100,11 +100,15 @@ pub fn streams_keep_their_laws()
     the_walk();
 }
 
-/// What a refusal says, in every network: its port is on the path from the Talker's station and has the BridgeID of the
-/// failure at the listener's port, and what is more important there, with the stream's own slope, passes the cap.
+/// In every network a refusal is shown exactly where a port is named: the listener's port has a Talker Failed with a code of
+/// bandwidth, the port is on the path from the Talker's station, its node has the failure's BridgeID, and its ledger refuses
+/// the stream with that code. What is shown is such a port with what its ledger says, and what is more important there, with
+/// the stream's own slope, passes the cap.
 pub fn a_refusal_says_why()
-    ensures { (w : WorldState) (stream : StreamId) (l : ℕ) (refusal : Refusal)
+    ensures says { (w : WorldState) (stream : StreamId) (l : ℕ) (refusal : Refusal)
         → refusal_to w stream l ≡ Some refusal → IsRefusalTo w stream l refusal }
+    ensures exactly { (w : WorldState) (stream : StreamId) (l : ℕ)
+        → IsSome (refusal_to w stream l) ↔ ((p : EgressPort) × IsNamedAt w stream l p) }
 {}
 
 /// At every moment of every legal run of a scenario at which the network is at rest, the laws of streams hold of each stream.
