@@ -23,6 +23,7 @@ mod jobs;
 pub mod laws;
 mod links;
 mod node;
+mod parts;
 mod step;
 #[cfg(test)]
 mod tests;
