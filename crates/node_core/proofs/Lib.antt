@@ -3,3 +3,7 @@ pub mod StreamSizes
 pub mod Boxes
 pub mod Sending
 mod Registered
+mod Waiting
+mod Setups
+mod StepFacts
+mod ProperSteps
