@@ -2,6 +2,7 @@
 use Rattle.std.proofs.Common.{◌≡◌, ◌≢◌, ◌≤◌, suc, Bool, true, false, not, ◌&&◌, ◌||◌, List, [], ◌∷◌, length, refl, subst, arith}
 use Rattle.std.specs.Prelude.{nat_lt, Option, Some, None, Contains, option_map, option_to_list}
 use Rattle.std.specs.List.{AllByRecursion, list_all}
+use Rattle.std.proofs.lemmas.Bool.Decides.{nat_tests}
 use Rattle.applicant.specs.declared.Applicant.{Applicant}
 use Rattle.applicant.specs.declared.Applicant.TheVariants.{Vo, Vp, Vn, An, Aa, Qa, La}
 use Rattle.mrp_participant.specs.Lookup.{find}
@@ -73,7 +74,7 @@ in_order P es all =
 pub says_some : {X : Type 0} (leave : Bool) (es : List X) → (leave ≡ false → es ≢ []) → (leave || nat_lt 0 (length es)) ≡ true
 says_some true es says = refl
 says_some false [] says = absurd (says refl refl)
-says_some false (e ∷ es) says = refl
+says_some false (e ∷ es) says = grind (arith, nat_tests)
 
 pub one_at_most : {X : Type 0} (xs : List X) (o : Option X) → xs ≡ option_to_list o → length xs ≤ 1
 one_at_most xs None e = rw e (omega arith)

@@ -11,6 +11,7 @@ use Rattle.srp_base.specs.declared.ports.PortSetup.{PortSetup}
 use Rattle.tree_topology.specs.declared.graph.NodeKind.{NodeKind}
 use Rattle.mrp_participant.specs.State.{new_state}
 use Rattle.mvrp.specs.Side.{Vlans, IsKept, new_vlans}
+use Rattle.msrp.specs.Side.{Streams, IsKept as IsKeptStreams, new_port, new_streams}
 use Rattle.node_core.specs.declared.types.Wire.{Wire}
 use Rattle.node_core.specs.Wires.{IsShort, AreShort, without}
 use Rattle.node_core.specs.State.{NodeState, box_at}
@@ -75,22 +76,27 @@ repeated_of xs i x d h e = ap (λ y. insert xs i y) e ∙ insert_repeated xs i d
 
 -- a new node keeps what every node keeps
 pub new_boxes_kept : (ports : List PortSetup) (kind : NodeKind) (bridge : BridgeId) (leave_time : Cs) (periodic : Bool)
-    (v : Vlans) (ins outs : List (List Wire))
+    (v : Vlans) (t : Streams) (ins outs : List (List Wire))
     → length ports ≤ 255 → IsKept v → v ≡ new_vlans leave_time periodic ports
+    → IsKeptStreams t → t ≡ new_streams bridge leave_time periodic ports
     → ins ≡ map (λ _. []) ports → outs ≡ map (λ _. []) ports
-    → IsKeptNode (record { kind = kind; bridge = bridge; clock = record { 0 = 0 }; vlans = v; inboxes = ins; outboxes = outs })
-new_boxes_kept ports kind bridge leave_time periodic v ins outs few kept is in_is out_is =
+    → IsKeptNode (record { kind = kind; bridge = bridge; clock = record { 0 = 0 }; vlans = v; streams = t; inboxes = ins; outboxes = outs })
+new_boxes_kept ports kind bridge leave_time periodic v t ins outs few kept is kept_streams streams_is in_is out_is =
     let none : PortSetup → List Wire = λ p. [] in
     let parts : length v.parts ≡ length ports = ap (λ (w : Vlans). length w.parts) is ∙ length-map ports (λ (p : PortSetup). new_state p.period leave_time periodic) in
+    let links : length t.ports ≡ length ports = ap (λ (u : Streams). length u.ports) streams_is ∙ length-map ports (new_port bridge leave_time periodic) in
     let boxes : length (map none ports) ≡ length ports = length-map ports none in
     record {
       vlans = kept;
+      streams = kept_streams;
+      same_ports = links ∙ sym parts;
       inboxes = ap length in_is ∙ (boxes ∙ sym parts);
       outboxes = ap length out_is ∙ (boxes ∙ sym parts);
       few = omega arith;
       short_in = rw in_is (short_new ports);
       short_out = rw out_is (short_new ports);
       clock = omega arith;
+      moment = ap (λ (u : Streams). u.moment) streams_is;
     }
 
 -- a node with other short PDUs in an inbox keeps what it kept
@@ -98,10 +104,13 @@ pub kept_inbox : (s : NodeState) (at : ℕ) (wires : List Wire) → IsKeptNode s
 kept_inbox s at wires kept short =
     record {
       vlans = kept.vlans;
+      streams = kept.streams;
+      same_ports = kept.same_ports;
       inboxes = length-set s.inboxes at wires ∙ kept.inboxes;
       outboxes = kept.outboxes;
       few = kept.few;
       short_in = each_set AreShort s.inboxes at wires short kept.short_in;
       short_out = kept.short_out;
       clock = kept.clock;
+      moment = kept.moment;
     }

@@ -1,6 +1,9 @@
 pub mod Sizes
+pub mod StreamSizes
 pub mod Boxes
 pub mod Sending
-pub mod ProperSteps
-pub mod StepFacts
 mod Registered
+mod Waiting
+mod Setups
+mod StepFacts
+mod ProperSteps

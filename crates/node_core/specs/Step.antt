@@ -114,11 +114,13 @@ all_due now at vlans streams =
 
 -- all timers of both applications that are due at a place fire
 abbrev pub fired_due : ℕ → NodeState → Stepped
-fired_due at s =
-    (record s {
-      vlans = due_vlans s.clock at s.vlans;
-      streams = due_streams s.clock at s.streams;
-    }, Fired (count_of (all_due s.clock at s.vlans s.streams)))
+fired_due at s = (
+  record s {
+    vlans = due_vlans s.clock at s.vlans;
+    streams = due_streams s.clock at s.streams;
+  },
+  Fired (count_of (all_due s.clock at s.vlans s.streams)),
+)
 
 -- how many attributes of both applications await at a place
 abbrev pub all_awaiting : ℕ → Vlans → Streams → ℕ
@@ -127,9 +129,10 @@ all_awaiting at vlans streams =
 
 -- what awaits at a place is settled, of both applications
 abbrev pub settled : ℕ → NodeState → Stepped
-settled at s =
-    (record s { vlans = settled_vlans at s.vlans; streams = settled_streams at s.streams },
-     Settled (count_of (all_awaiting at s.vlans s.streams)))
+settled at s = (
+  record s { vlans = settled_vlans at s.vlans; streams = settled_streams at s.streams },
+  Settled (count_of (all_awaiting at s.vlans s.streams)),
+)
 
 -- the attribute whose leave timer a step ends
 abbrev pub key_of_step : PortStep → Option NodeKey
@@ -148,7 +151,7 @@ abbrev pub said_msrp : Cs → ℕ → Streams → Option (List ℕ)
 said_msrp now at streams =
     of_port
     (λ port.
-      if is_silent port.part then None else Some (msrp_spelling (srp_pdu_sent now port.part)))
+    if is_silent port.part then None else Some (msrp_spelling (srp_pdu_sent now port.part)))
     None at streams
 
 -- what an application at a place has to say
@@ -222,7 +225,14 @@ CanStep (Request request) s = s.kind ≡ Station
 CanStep (Port port step) s = IsLinkPort port (ports_of s)
 CanStep Clock s = s.clock.0 < 2 ^ 61
 
--- ---- what a port puts into its outbox
+-- ---- what the applications at a port become
+
+-- a PDU was taken by its application, and the other one is as it was
+abbrev pub HasWorked : App → Cs → ℕ → List ℕ → Vlans → Streams → StepReply → Vlans → Streams → Type 0
+HasWorked Mvrp now at octets v t reply v' t' =
+    (worked_mvrp now at (mvrp_reading octets) v ≡ (v', reply)) × (t' ≡ t)
+HasWorked Msrp now at octets v t reply v' t' =
+    (worked_msrp now at (msrp_reading octets) t ≡ (t', reply)) × (v' ≡ v)
 
 -- an application and an outbox after it has said something, or nothing, and what the port answers: the application as
 -- it was, and as it is once it has said it
@@ -237,3 +247,10 @@ HasPut app octets before after outbox (Ok reply) side outbox' =
     put_said app octets before after outbox ≡ (side, outbox', reply)
 HasPut app octets before after outbox (Err e) side outbox' =
     (side ≡ before) × (outbox' ≡ outbox)
+
+-- so with one of both applications, and the other one is as it was
+abbrev pub HasSaid : App → Cs → ℕ → Vlans → Streams → List Wire → Result StepReply NoMemory → Vlans → Streams → List Wire → Type 0
+HasSaid Mvrp now at v t outbox result v' t' outbox' =
+    HasPut Mvrp (said_mvrp now at v) v (sent_vlans now at v) outbox result v' outbox' × (t' ≡ t)
+HasSaid Msrp now at v t outbox result v' t' outbox' =
+    HasPut Msrp (said_msrp now at t) t (sent_streams now at t) outbox result t' outbox' × (v' ≡ v)

@@ -1,8 +1,5 @@
-use Rattle.std.proofs.Common.{refl}
 use Rattle.mvrp.specs.Side.{place_of}
-use Rattle.node_core.specs.declared.types.AppRequest.{AppRequest}
-use Rattle.node_core.specs.declared.types.AppRequest.TheVariants.{Declare, Withdraw}
-use Rattle.node_core.proofs.StepFacts.{same_port, same_kind, same_ports}
+use Rattle.node_core.proofs.StepFacts.{same_port, same_asked, same_kind, same_ports}
 use Rattle.node_core.proofs.laws.steps_keep_what_a_node_is.Goals as goal
 
 pub returns-clause-kind : goal.returns-clause-kind
@@ -15,4 +12,4 @@ pub returns-clause-clock : goal.returns-clause-clock
 returns-clause-clock c = λ port step s. (same_port step (place_of port) s).clock
 
 pub returns-clause-asked : goal.returns-clause-asked
-returns-clause-asked c = λ request s. elim request [ Declare vid ↦ refl | Withdraw vid ↦ refl ]
+returns-clause-asked c = λ request s. (same_asked request s).clock
