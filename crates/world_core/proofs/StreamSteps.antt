@@ -75,11 +75,11 @@ ports_are at make g v is = by (slice_get v.ports at)
     by (Some p) = is p
 
 -- what a step makes of the ports: the one at its place is another
-abbrev MadeAt : ℕ → (Port → Port) → Streams → Streams → Type 0
+abbrev pub MadeAt : ℕ → (Port → Port) → Streams → Streams → Type 0
 MadeAt at g v u = u.ports ≡ set_at at g v.ports
 
 -- a port with what a call makes of its participant
-abbrev calling : (Part → Part) → Port → Port
+abbrev pub calling : (Part → Part) → Port → Port
 calling f p = with_part (f p.part) p
 
 received_is : (now : Cs) (at : ℕ) (pdu : MsrpPdu) (v : Streams) → MadeAt at (calling (received_part now pdu)) v (received_streams now at pdu v)
@@ -105,7 +105,7 @@ settled_is at v =
 sent_is : (now : Cs) (at : ℕ) (v : Streams) → MadeAt at (calling (sent_part now)) v (sent_streams now at v)
 sent_is now at v = ports_are at (λ p. replaced at (with_part (sent_part now p.part) p) v) (calling (sent_part now)) v (λ p. refl)
 
-spoilt_is : (at : ℕ) (v : Streams) → MadeAt at (calling unsound) v (spoilt_streams at v)
+pub spoilt_is : (at : ℕ) (v : Streams) → MadeAt at (calling unsound) v (spoilt_streams at v)
 spoilt_is at v = ports_are at (λ p. replaced at (with_part (unsound p.part) p) v) (calling unsound) v (λ p. refl)
 
 made_apart : (at k : ℕ) (g : Port → Port) (v u : Streams) → at ≢ k → MadeAt at g v u → option_map (λ (p : Port). p.part) (slice_get u.ports k) ≡ option_map (λ (p : Port). p.part) (slice_get v.ports k)

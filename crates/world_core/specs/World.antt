@@ -1,5 +1,5 @@
 -- A network as contracts see it, and one event of it: the network afterwards, and what it answers.
-use Rattle.std.specs.Prelude.{◌≡◌, ◌<◌, ◌≤◌, length, ◌^◌, ◌-◌, ℕ, Bool, List, [], ◌∷◌, map, fold, Option, Some, None, option_map, slice_get, slice_set}
+use Rattle.std.specs.Prelude.{◌≡◌, ◌<◌, ◌≤◌, length, ◌^◌, ◌+◌, ◌-◌, ℕ, Bool, List, [], ◌∷◌, map, fold, Option, Some, None, option_map, slice_get, slice_set}
 use Rattle.std.specs.Option.{option_map_or}
 use Rattle.std.specs.List.{list_all}
 use Rattle.srp_base.specs.declared.numbers.NodeNo.{NodeNo}
@@ -8,7 +8,9 @@ use Rattle.srp_base.specs.declared.mrp.App.{App}
 use Rattle.tree_topology.specs.Topology.{Topology, HasPort}
 use Rattle.tree_topology.specs.Ports.{peer_of}
 use Rattle.tree_topology.specs.declared.graph.NodeKind.TheVariants.{Station}
+use Rattle.msrp_codec.specs.declared.pdu.MsrpKey.{MsrpKey}
 use Rattle.mvrp.specs.Side.{IsLinkPort, place_of}
+use Rattle.msrp.specs.Side.{next_sets}
 use Rattle.node_core.specs.declared.types.Wire.{Wire}
 use Rattle.node_core.specs.declared.types.NodeEvent.{NodeEvent}
 use Rattle.node_core.specs.declared.types.NodeEvent.TheVariants as node_events
@@ -99,6 +101,10 @@ carried p w =
 -- the clock of every node goes on
 abbrev pub ticked : WorldState → WorldState
 ticked w = record w { nodes = map (λ s. (node_step node_events.Clock s).0) w.nodes }
+
+-- the keys that await at each node once its clock has gone on, where it shows anything
+abbrev pub sets_of : List NodeState → List (Option (List (List MsrpKey)))
+sets_of nodes = map (λ s. next_sets (s.clock.0 + 1) s.streams) nodes
 
 -- one event: the network afterwards, and the answer
 abbrev pub world_step : WorldEvent → WorldState → Happened

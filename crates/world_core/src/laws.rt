@@ -148,7 +148,6 @@ pub fn every_moment_is_within_limits()
         → IsMoment plan ticks w → IsWithinLimits plan w }
 {
     every_moment_keeps_it();
-    every_event_of_a_run_may_happen();
     a_port_stays_set_up();
     bookings_are_within_caps();
 }
@@ -161,9 +160,7 @@ pub fn every_moment_talks_by_the_plan()
     ensures one { (plan : Plan) (ticks : List Tick) (end w : WorldState) → KeepsRules plan
         → AreLegalTicks plan ticks end
         → IsMoment plan ticks w → HasOneTalker w }
-{
-    every_event_of_a_run_may_happen();
-}
+{}
 
 /// Ticks in the canonical order are legal.
 pub fn canonical_ticks_are_legal()
