@@ -1,6 +1,7 @@
 -- What is in force at a port is changed neither by the carrying of PDUs nor by the clock, and nothing is at the start.
-use Rattle.std.proofs.Common.{◌≡◌, ℕ, zero, suc, ◌+◌, ◌*◌, ◌-◌, List, [], ◌∷◌, ◌++◌, map, Option, Some, None, refl, sym, ap, ◌∙◌}
-use Rattle.std.specs.Prelude.{Bool, ◌==◌, slice_get, slice_set}
+use Rattle.std.proofs.Common.{◌≡◌, ℕ, zero, suc, ◌+◌, ◌*◌, ◌-◌, ◌<◌, ◌≢◌, List, [], ◌∷◌, ◌++◌, length, map, Option, Some, None, refl, sym, ap, ◌∙◌}
+use Rattle.std.specs.Prelude.{Bool, ◌==◌, slice_get, slice_set, IfSome}
+use Rattle.std.proofs.lemmas.Option.{none-some}
 use Rattle.std.specs.Option.{option_map_or}
 use Rattle.srp_base.specs.declared.numbers.EgressPort.{EgressPort}
 use Rattle.srp_base.specs.declared.numbers.NodeNo.{NodeNo}
@@ -12,7 +13,7 @@ use Rattle.srp_base.specs.declared.bandwidth.Class.{Class}
 use Rattle.srp_base.specs.declared.bandwidth.Class.TheVariants.{A, B}
 use Rattle.stream_importance.specs.declared.entry.Entry.{Entry}
 use Rattle.port_ledger.specs.Decision.{booked_of}
-use Rattle.port_ledger.specs.Book.{booked_slope}
+use Rattle.port_ledger.specs.Book.{Book, booked_slope}
 use Rattle.tree_topology.specs.declared.graph.NodeKind.{NodeKind}
 use Rattle.tree_topology.specs.Topology.{Topology}
 use Rattle.tree_topology.specs.Ports.{peer_of}
@@ -32,8 +33,9 @@ use Rattle.world_core.specs.declared.events.WorldEvent.TheVariants.{Carry, Clock
 use Rattle.world_core.specs.World.{WorldState, node_at, with_node, with_changed, outbox, carried, ticked, world_step, world_after}
 use Rattle.world_core.specs.Start.{world_of, nodes_from, setups_from}
 use Rattle.world_core.specs.Ticks.{link_ports, closing_events}
-use Rattle.world_core.specs.Force.{Force, no_force, registered_vids}
+use Rattle.world_core.specs.Force.{Force, no_force, booked_streams, registered_vids, force_of}
 use Rattle.world_core.specs.Timeline.{node_force, force_at}
+use Rattle.world_core.proofs.Lists.{within}
 
 -- ---- what is read at a place of a list
 
@@ -84,6 +86,23 @@ new_has_none kind bridge leave_time periodic ports at =
     (read_made (λ (p : SrpPort). booked_slope p.ledger.entries A) 0 (new_port bridge leave_time periodic) (λ s. refl) ports at)
     (read_made (λ (p : SrpPort). booked_slope p.ledger.entries B) 0 (new_port bridge leave_time periodic) (λ s. refl) ports at)
     (read_made (λ (p : Part). registered_vids p.rows) [] (λ (q : PortSetup). new_state q.period leave_time periodic) (λ s. refl) ports at)
+
+-- what a port has in force by its participant and its ledger
+port_force : (s : NodeState) (at : ℕ) (part : Part) (book : Book) (o : Option Part) (q : Option SrpPort) → o ≡ Some part → q ≢ None → IfSome q (λ p. book ≡ p.ledger)
+    → slice_get s.vlans.parts at ≡ o → slice_get s.streams.ports at ≡ q → node_force at s ≡ force_of part book
+port_force s at part book o None there some is e f = absurd (some refl)
+port_force s at part book o (Some p) there some is e f =
+    same_force (node_force at s) (force_of part book)
+    (ap (λ (r : Option SrpPort). map (λ (x : Entry). x.want.stream) (option_map_or (λ (y : SrpPort). booked_of y.ledger.entries) r [])) f ∙ ap (λ (b : Book). booked_streams b.entries) (sym is))
+    (ap (λ (r : Option SrpPort). option_map_or (λ (y : SrpPort). booked_slope y.ledger.entries A) r 0) f ∙ ap (λ (b : Book). booked_slope b.entries A) (sym is))
+    (ap (λ (r : Option SrpPort). option_map_or (λ (y : SrpPort). booked_slope y.ledger.entries B) r 0) f ∙ ap (λ (b : Book). booked_slope b.entries B) (sym is))
+    (ap (λ (r : Option Part). option_map_or (λ (y : Part). registered_vids y.rows) r []) (e ∙ there))
+
+pub force_is : (s : NodeState) (at : ℕ) (part : Part) (book : Book) → at < length s.streams.ports → slice_get s.vlans.parts at ≡ Some part → IfSome (slice_get s.streams.ports at) (λ p. book ≡ p.ledger)
+    → node_force at s ≡ force_of part book
+force_is s at part book lt there is =
+    port_force s at part book (slice_get s.vlans.parts at) (slice_get s.streams.ports at) there
+    (λ none. let w = within s.streams.ports at lt in none-some w.0 (sym none ∙ w.1)) is refl refl
 
 -- ---- in a network
 

@@ -1,9 +1,11 @@
 -- What the noting of a tick makes of changes: they stay in order, and say from that tick on what is in force.
-use Rattle.std.proofs.Common.{◌≡◌, ℕ, zero, suc, ◌+◌, ◌<◌, ◌≤◌, ◌⊎◌, inl, inr, Bool, true, false, cond, List, [], ◌∷◌, ◌++◌, length, map, Option, Some, None, refl, sym, ◌∙◌, ap, subst, arith, append-nil}
+use Rattle.std.proofs.Common.{◌≡◌, ℕ, zero, suc, ◌+◌, ◌<◌, ◌≤◌, ◌⊎◌, inl, inr, Bool, true, false, cond, List, [], ◌∷◌, ◌++◌, length, map, Option, Some, None, refl, sym, ◌∙◌, ap, subst, arith, append-nil, append_assoc}
 use Rattle.std.specs.Prelude.{All, AllPairs, flat_map, ◌==◌, ◌&&◌}
 use Rattle.std.specs.List.{AllByRecursion, range_with_len}
 use Rattle.std.specs.Cmp.Lexicographic.{pointwise_decides}
 use Rattle.std.proofs.lemmas.Bool.{cond-true, cond-false, cond_both, cases_Bool, eqb-true, eqb-false, eq-eqb, and_parts}
+use Rattle.std.proofs.lemmas.List.{map-append}
+use Rattle.std.proofs.lemmas.List.Concat.{flat_map-append}
 use Rattle.std.proofs.lemmas.List.Elements.{All-from_recursion, recursion_from_All}
 use Rattle.srp_base.specs.declared.numbers.EgressPort.{EgressPort}
 use Rattle.srp_base.specs.declared.numbers.StreamId.{StreamId}
@@ -130,6 +132,14 @@ pub lacking_at : (tick : ℕ) (p : EgressPort) (f : Force) (cs : List PortChange
 lacking_at tick p f cs =
     cond_both (is_same (said_by (in_force tick cs)) f) [] (change_of tick p f ∷ []) (AreAt p) (λ is. tt) (λ nay. (refl, tt))
 
+pub lacks_none : (tick : ℕ) (p : EgressPort) (f : Force) (cs items : List PortChange) → is_same (said_by (in_force tick cs)) f ≡ true → items ≡ items ++ lacking tick p f cs
+lacks_none tick p f cs items is =
+    sym (ap (λ (ds : List PortChange). items ++ ds) (cond-true (is_same (said_by (in_force tick cs)) f) [] (change_of tick p f ∷ []) is) ∙ append-nil items)
+
+pub lacks_one : (tick : ℕ) (p : EgressPort) (f : Force) (cs items : List PortChange) → is_same (said_by (in_force tick cs)) f ≡ false → items ++ change_of tick p f ∷ [] ≡ items ++ lacking tick p f cs
+lacks_one tick p f cs items nay =
+    sym (ap (λ (ds : List PortChange). items ++ ds) (cond-false (is_same (said_by (in_force tick cs)) f) [] (change_of tick p f ∷ []) nay))
+
 -- ---- the changes of one tick more
 
 abbrev pub noted_by : ℕ → (EgressPort → Force) → List EgressPort → List PortChange → List PortChange
@@ -240,3 +250,37 @@ module _ (tree : Topology) (tick : ℕ) (force : EgressPort → Force) (changes 
       merged_noted tick force changes (tree_ports tree) (tree_ports_ascend tree) order
       (each_weaker (λ (c : PortChange). HasPort tree c.at) (λ (c : PortChange). IsIn c.at (tree_ports tree)) (λ c has. has_port_in tree c.at has) changes
       (recursion_from_All (λ (c : PortChange). HasPort tree c.at) changes are.ports))
+
+-- ---- what is lacking, node by node and port by port
+
+range_pushed : (a n : ℕ) → range_with_len a (suc n) ≡ range_with_len a n ++ (a + n) ∷ []
+range_pushed a zero = ap (λ (k : ℕ). k ∷ []) (let e : a ≡ a + 0 = omega arith in e)
+range_pushed a (suc n) =
+    ap (λ (ks : List ℕ). a ∷ ks) (range_pushed (a + 1) n)
+    ∙ ap (λ (k : ℕ). (a ∷ range_with_len (a + 1) n) ++ k ∷ []) (let e : a + 1 + n ≡ a + suc n = omega arith in e)
+
+range_push : (a n : ℕ) → range_with_len a (n + 1) ≡ range_with_len a n ++ (a + n) ∷ []
+range_push a n = ap (range_with_len a) (let e : n + 1 ≡ suc n = omega arith in e) ∙ range_pushed a n
+
+flat_one : {X : Type 0} (f : X → List PortChange) (x : X) → flat_map f (x ∷ []) ≡ f x
+flat_one f x = append-nil (f x)
+
+module _ (f : EgressPort → List PortChange) where
+  pub more_of_port : (n k : ℕ) (start items more : List PortChange) → items ≡ start ++ flat_map f (map (port_of n) (range_with_len 1 k)) → more ≡ items ++ f (port_of n (k + 1))
+      → more ≡ start ++ flat_map f (map (port_of n) (range_with_len 1 (k + 1)))
+  more_of_port n k start items more before now =
+      let done = map (port_of n) (range_with_len 1 k) in
+      let q = port_of n (k + 1) in
+      let grown : map (port_of n) (range_with_len 1 (k + 1)) ≡ done ++ q ∷ [] =
+      ap (map (port_of n)) (range_push 1 k) ∙ map-append (port_of n) (range_with_len 1 k) ((1 + k) ∷ []) ∙ ap (λ (j : ℕ). done ++ port_of n j ∷ []) (let e : 1 + k ≡ k + 1 = omega arith in e) in
+      now ∙ ap (λ (cs : List PortChange). cs ++ f q) before ∙ append_assoc start (flat_map f done) (f q)
+      ∙ sym (ap (λ (ps : List EgressPort). start ++ flat_map f ps) grown ∙ ap (λ (cs : List PortChange). start ++ cs) (flat_map-append f done (q ∷ []) ∙ ap (λ (cs : List PortChange). flat_map f done ++ cs) (flat_one f q)))
+
+  pub more_of_node : (links : List Link) (x : ℕ) (items more : List PortChange) → items ≡ flat_map f (flat_map (ports_at links) (range_with_len 1 x)) → more ≡ items ++ flat_map f (ports_at links (x + 1))
+      → more ≡ flat_map f (flat_map (ports_at links) (range_with_len 1 (x + 1)))
+  more_of_node links x items more before now =
+      let P : ℕ → List EgressPort = ports_at links in
+      let done = range_with_len 1 x in
+      let grown : flat_map P (range_with_len 1 (x + 1)) ≡ flat_map P done ++ P (x + 1) =
+      ap (flat_map P) (range_push 1 x) ∙ flat_map-append P done ((1 + x) ∷ []) ∙ ap (λ (ps : List EgressPort). flat_map P done ++ ps) (append-nil (P (1 + x))) ∙ ap (λ (j : ℕ). flat_map P done ++ P j) (let e : 1 + x ≡ x + 1 = omega arith in e) in
+      now ∙ ap (λ (cs : List PortChange). cs ++ flat_map f (P (x + 1))) before ∙ sym (ap (flat_map f) grown ∙ flat_map-append f (flat_map P done) (P (x + 1)))

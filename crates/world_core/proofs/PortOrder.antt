@@ -303,6 +303,10 @@ front_nothing p [] h = (refl, refl)
 front_nothing p (c ∷ ms) h =
     (cond-false (precedes c.at p) (c ∷ front_before p ms) [] h.0, cond-false (precedes c.at p) (rest_from p ms) (c ∷ ms) h.0)
 
+pub merged_nothing : (cs : List PortChange) → merged cs [] ≡ cs
+merged_nothing [] = refl
+merged_nothing (c ∷ cs) = ap (λ (ds : List PortChange). c ∷ ds) (merged_nothing cs)
+
 -- what is put behind the changes of a port stands before those of later ports
 merged_later : (p : EgressPort) (ls fs ms : List PortChange) → AreAt p ls → AllByRecursion (λ c. IsBefore p c.at) fs → merged fs (ls ++ ms) ≡ ls ++ merged fs ms
 merged_later p ls [] ms own later = refl

@@ -1,6 +1,6 @@
 //! The changes of a tick, put among those before.
 
-ghost use Rattle.std.specs.Prelude.{◌≡◌, ◌≤◌, ◌<◌, ◌+◌, ◌++◌, ◌∷◌, [], true, false, length, HoldsAt, IfSome, IfNone, OnOk, OnErr, vec_len, vec_capacity};
+ghost use Rattle.std.specs.Prelude.{◌≡◌, ◌≤◌, ◌<◌, ◌+◌, ◌++◌, ◌∷◌, [], true, false, length, HoldsAt, IfSome, IfNone, IfOk, OnOk, OnErr, vec_len, vec_capacity};
 ghost use Rattle.std.specs.VecDeque.{deque_len};
 ghost use Rattle.world_core.specs.Merging.{precedes, front_before, rest_from, merged};
 
@@ -21,7 +21,7 @@ pub(crate) fn put_among(
     if lacking.is_empty() {
         return Ok(());
     }
-    let mut all = Vec::with_capacity(alloc, changes.len() + lacking.len())?;
+    let mut all = new_room(alloc, changes.as_slice(), &lacking)?;
     let old = mem::replace(changes, Seq::new(alloc)).into_vec();
     merge(VecDeque::from(old), lacking, &mut all);
     *changes = Seq::from_vec(all);
@@ -33,6 +33,19 @@ pub(crate) fn precedes(p: EgressPort, q: EgressPort) -> bool
     ensures { result ≡ precedes p q }
 {
     p.node.0 < q.node.0 || p.node.0 == q.node.0 && p.port.0 < q.port.0
+}
+
+// Room for changes and others.
+fn new_room(
+    alloc: Global,
+    changes: &[PortChange],
+    lacking: &VecDeque<PortChange>,
+) -> Result<Vec<PortChange>, NoMemory>
+    ensures empty { IfOk result (λ v. v.items ≡ []) }
+    ensures len { IfOk result (λ v. vec_len v ≡ 0) }
+    ensures room { IfOk result (λ v. vec_capacity v ≡ length changes.now + deque_len lacking.now) }
+{
+    Ok(Vec::with_capacity(alloc, changes.len() + lacking.len())?)
 }
 
 // Puts changes among others, both ascending by port, each behind those of its port. There is room for all of them.

@@ -29,13 +29,14 @@ impl World {
         ensures err { OnErr result (timeline.new ≡ timeline.old) }
     {
         let alloc = *self.nodes.allocator();
-        let lacking = lacking_changes(alloc, self, tick, timeline.changes.as_slice())?;
-        put_among(alloc, &mut timeline.changes, lacking)
+        let fresh = fresh_changes(alloc, self, tick, timeline.changes.as_slice())?;
+        put_among(alloc, &mut timeline.changes, fresh)?;
+        Ok(())
     }
 }
 
 // The changes that those of all ports lack, ports ascending.
-fn lacking_changes(
+fn fresh_changes(
     alloc: Global,
     world: &World,
     tick: u64,
@@ -46,11 +47,11 @@ fn lacking_changes(
         (λ p. lacking tick p (force_at p world.now) (changes_at changes.now p)) (tree_ports world.now.tree)) }
 {
     world.keeps();
-    let mut lacking = VecDeque::new(alloc);
+    let mut fresh = VecDeque::new(alloc);
     for x in 0..world.tree().nodes() {
-        add_of_node(alloc, world, NodeNo(x + 1), tick, changes, &mut lacking)?;
+        add_of_node(alloc, world, NodeNo(x + 1), tick, changes, &mut fresh)?;
     }
-    Ok(lacking)
+    Ok(fresh)
 }
 
 // Adds those that a node's ports lack.
@@ -60,11 +61,11 @@ fn add_of_node(
     number: NodeNo,
     tick: u64,
     changes: &[PortChange],
-    lacking: &mut VecDeque<PortChange>,
+    fresh: &mut VecDeque<PortChange>,
 ) -> Result<(), NoMemory>
     requires node { HasNode world.now.tree number.0 }
     requires changes { AreChanges world.now.tree tick changes.now }
-    ensures { OnOk result (lacking.new.items ≡ lacking.old.items ++ flat_map
+    ensures { OnOk result (fresh.new.items ≡ fresh.old.items ++ flat_map
         (λ p. lacking tick p (force_at p world.now) (changes_at changes.now p))
         (ports_at world.now.tree.links number.0)) }
 {
@@ -75,7 +76,7 @@ fn add_of_node(
             node: number,
             port: PortNo(k + 1),
         };
-        add_of_port(alloc, node, at, tick, changes, lacking)?;
+        add_of_port(alloc, node, at, tick, changes, fresh)?;
     }
     Ok(())
 }
@@ -87,19 +88,19 @@ fn add_of_port(
     at: EgressPort,
     tick: u64,
     changes: &[PortChange],
-    lacking: &mut VecDeque<PortChange>,
+    fresh: &mut VecDeque<PortChange>,
 ) -> Result<(), NoMemory>
     requires port { IsLinkPort at.port (ports_of node.now) }
     requires order { AllPairs IsEarlier changes.now }
     requires before { All (λ c. c.tick < tick) changes.now }
-    ensures { OnOk result (lacking.new.items ≡ lacking.old.items
+    ensures { OnOk result (fresh.new.items ≡ fresh.old.items
         ++ lacking tick at (node_force (place_of at.port) node.now) (changes_at changes.now at)) }
 {
     node.keeps();
     let part = node.vlan_part(at.port);
     let ledger = node.ledger(at.port);
     if !is_said(part, ledger, last_at(changes, at)) {
-        lacking.push_back(new_change(alloc, tick, at, part, ledger)?)?;
+        fresh.push_back(new_change(alloc, tick, at, part, ledger)?)?;
     }
     Ok(())
 }
