@@ -1,14 +1,12 @@
 -- What is kept, stated and declared fits in the fields in which it is sent.
-use Rattle.std.proofs.Common.{◌≡◌, ℕ, zero, suc, ◌+◌, ◌-◌, ◌^◌, ◌<◌, ◌≤◌, Bool, true, false, ◌&&◌, ◌==◌, if◌then◌else◌, List, [], ◌∷◌, map, refl, sym, ap, subst, ◌∙◌, arith}
+use Rattle.std.proofs.Common.{◌≡◌, ℕ, zero, suc, ◌+◌, ◌-◌, ◌^◌, ◌<◌, Bool, true, false, ◌&&◌, ◌==◌, if◌then◌else◌, List, [], ◌∷◌, map, refl, subst, arith}
 use Rattle.std.specs.Prelude.{Option, Some, None, find, filter, is_none, min, nat_lt, position, slice_index_or, option_map, option_and_then, unwrap_or}
 use Rattle.std.specs.Option.{option_or}
 use Rattle.std.proofs.Math.Nat.{min-le_right}
 use Rattle.std.proofs.lemmas.List.Quantifiers.{position-Some}
 use Rattle.std.specs.List.{AllByRecursion}
-use Rattle.std.proofs.lemmas.Bool.Decides.{nat_tests}
 use Rattle.srp_base.specs.declared.numbers.StreamId.{StreamId}
 use Rattle.srp_base.specs.declared.streams.Talker.{Talker}
-use Rattle.srp_base.specs.declared.streams.Failure.{Failure}
 use Rattle.srp_base.specs.declared.streams.ListenerKind.{ListenerKind}
 use Rattle.srp_base.specs.declared.streams.TalkerReg.{TalkerReg}
 use Rattle.srp_base.specs.declared.streams.TalkerReg.TheVariants.{Absent, Advertise, Failed}
@@ -20,7 +18,7 @@ use Rattle.stream_importance.specs.Bandwidth.{cap_of}
 use Rattle.port_ledger.specs.Decision.{above, booked_of, does_fit}
 use Rattle.port_ledger.specs.Book.{Book, fit_for, is_normal, tested_as}
 use Rattle.msrp_talker.specs.declared.port_config.PortConfig.{PortConfig}
-use Rattle.msrp_talker.specs.TalkerOut.{check_of, class_of_priority, code_of, declared_of, delayed_by, refusal_of, talker_in, talker_out}
+use Rattle.msrp_talker.specs.TalkerOut.{class_of_priority, code_of, declared_of, delayed_by, refusal_of, talker_in, talker_out}
 use Rattle.mrp_participant.specs.State.{registered_at}
 use Rattle.msrp_listener.specs.Merging.{listener_out}
 use Rattle.msrp_codec.specs.declared.pdu.MsrpKey.{MsrpKey}
@@ -31,7 +29,7 @@ use Rattle.msrp_codec.specs.Content.{value_of}
 use Rattle.msrp_codec.specs.FirstValue.{IsFailure, IsFirst, IsTalker}
 use Rattle.msrp.specs.declared.port.Port.{Port}
 use Rattle.msrp.specs.Part.{Part, key_cmp, registered_talker, talker_content, talker_reg_of}
-use Rattle.msrp.specs.Stream.{advertised, fit_at, is_number, is_present, is_talker_port, listener_at, stated_at, talk_of, other_listeners, talker_at, talker_of, talkers_of, want_of_talker}
+use Rattle.msrp.specs.Stream.{advertised, fit_at, is_number, is_present, is_talker_port, stated_at, talk_of, other_listeners, talker_at, talker_of, talkers_of, want_of_talker}
 use Rattle.msrp.specs.Side.{Streams, IsPort, seen_by}
 use Rattle.msrp.specs.Proper.{AreOfRange, HasRanges}
 use Rattle.msrp.proofs.Contents.{HoldsOfEach}

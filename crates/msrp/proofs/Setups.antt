@@ -1,5 +1,5 @@
 -- Each call keeps how the link ports are set up.
-use Rattle.std.proofs.Common.{◌≡◌, ℕ, suc, Bool, true, false, if◌then◌else◌, List, [], ◌∷◌, length, map, refl, sym, ap, ◌∙◌, arith}
+use Rattle.std.proofs.Common.{◌≡◌, ℕ, Bool, true, false, if◌then◌else◌, List, [], ◌∷◌, length, refl, sym, ap, ◌∙◌}
 use Rattle.std.specs.Prelude.{slice_get, slice_set, Option, Some, None}
 use Rattle.srp_base.specs.declared.numbers.StreamId.{StreamId}
 use Rattle.stream_importance.specs.declared.entry.Want.{Want}
@@ -13,7 +13,7 @@ use Rattle.msrp.specs.declared.asking.SrpRequest.TheVariants.{Talk, Hush, Listen
 use Rattle.msrp.specs.declared.port.Port.{Port}
 use Rattle.msrp.specs.Part.{Part, key_cmp}
 use Rattle.msrp.specs.Stream.{Registrations, talk_of, wanted_at}
-use Rattle.msrp.specs.Settling.{book_with, book_without, entered, next_book, settled_book, streams_in, taken_out}
+use Rattle.msrp.specs.Settling.{book_with, book_without, entered, next_book, streams_in, taken_out}
 use Rattle.msrp.specs.Side.{Streams, at_port, awaiting_at, clocked_port, clocked_streams, has_listen, has_talk, is_talk, moved_keys, replaced, requested_streams, retold, seen_by, settled_at, settled_streams, with_part, with_port}
 use Rattle.msrp.specs.Proper.{setups_of}
 use Rattle.msrp.proofs.Places.{map-set_same, mapped_length}

@@ -24,7 +24,7 @@ use std::marker::Model;
 /// Contracts see the keys of each port, or None where the clock shows nothing.
 #[derive(Drop)]
 pub struct ClockSets {
-    sets: Option<Vec<Dirty<MsrpKey>>>,
+    pub(crate) sets: Option<Vec<Dirty<MsrpKey>>>,
 }
 
 impl Model for ClockSets {

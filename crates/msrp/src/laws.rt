@@ -29,9 +29,7 @@ use mrp_participant::laws::{
     what_is_asked_holds, what_is_sent_is_a_pdu, what_is_sent_is_declared,
 };
 use msrp_codec::MsrpKey;
-use msrp_codec::laws::{
-    each_key_keeps_its_event, stated_octets_suffice, what_is_written_is_read,
-};
+use msrp_codec::laws::{each_key_keeps_its_event, stated_octets_suffice, what_is_written_is_read};
 use port_ledger::laws::{
     every_step_keeps_a_book, fits_stay, nothing_changed_where_both_lists_are_empty,
     other_wants_stay, what_has_not_moved_is_booked_as_before,

@@ -3,7 +3,4 @@ pub mod StreamSizes
 pub mod Boxes
 pub mod Sending
 mod Registered
-mod Waiting
-mod Setups
-mod StepFacts
-mod ProperSteps
+pub mod ProperSteps

@@ -4,12 +4,12 @@
 ghost use Rattle.std.specs.Prelude.{◌≡◌, ◌<◌, ◌≤◌, ◌^◌, ℕ, Bool, List, [], length};
 ghost use Rattle.srp_base.specs.declared.numbers.Cs.{Cs};
 ghost use Rattle.srp_base.specs.declared.numbers.BridgeId.{BridgeId};
+ghost use Rattle.srp_base.specs.declared.numbers.PortNo.{PortNo};
 ghost use Rattle.srp_base.specs.declared.mrp.App.{App};
 ghost use Rattle.srp_base.specs.declared.ports.PortSetup.{PortSetup};
 ghost use Rattle.tree_topology.specs.declared.graph.NodeKind.{NodeKind};
-ghost use Rattle.node_core.specs.declared.types.NodeEvent.{NodeEvent};
-ghost use Rattle.srp_base.specs.declared.numbers.PortNo.{PortNo};
 ghost use Rattle.node_core.specs.declared.types.AppRequest.{AppRequest};
+ghost use Rattle.node_core.specs.declared.types.NodeEvent.{NodeEvent};
 ghost use Rattle.node_core.specs.declared.types.PortStep.{PortStep};
 ghost use Rattle.node_core.specs.declared.types.Wire.{Wire};
 ghost use Rattle.node_core.specs.Wires.{AreShort};
@@ -19,44 +19,42 @@ ghost use Rattle.node_core.specs.Links.{with_outbox, with_carried, lost_at, repe
 ghost use Rattle.node_core.specs.Proper.{IsProperNode, AreProperWires, IsInRange, port_setups};
 
 use crate::types::NodeEvent;
-use msrp::laws as msrp_laws;
-use mvrp::laws as mvrp_laws;
-use mvrp_codec::what_is_read_has_vids;
+use msrp::laws as of_streams;
+use mvrp::laws as of_vlans;
 
-/// A new node keeps what every node keeps, of VIDs alone and of numbers that fit in their fields.
+/// A new node keeps what every node keeps, where its BridgeID is a number of 64 bits.
 pub fn a_new_node_is_proper()
     ensures { (kind : NodeKind) (bridge : BridgeId) (leave_time : Cs) (periodic : Bool) (ports : List PortSetup)
         → length ports ≤ 255 → bridge.0 < 2 ^ 64
         → IsProperNode (new_node kind bridge leave_time periodic ports) }
 {
-    mvrp_laws::a_new_side_is_proper();
-    msrp_laws::a_new_side_is_proper();
+    of_vlans::a_new_side_is_proper();
+    of_streams::a_new_side_is_proper();
 }
 
-/// Each step that may be made keeps it, where a request names a VID or a Talker that fits in its fields.
+/// Each step that may be made keeps it, where what a request asks for fits.
 pub fn every_step_keeps_a_node_proper()
     ensures { (event : NodeEvent) (s : NodeState)
         → CanStep event s → IsInRange event → IsProperNode s → IsProperNode (node_step event s).0 }
 {
-    mvrp_laws::every_call_keeps_a_side_proper();
-    mvrp_laws::settling_and_requests_keep_a_side_proper();
-    mvrp_laws::what_is_sent_is_read();
-    what_is_read_has_vids();
-    msrp_laws::every_call_keeps_a_side_proper();
-    msrp_laws::settling_and_requests_keep_a_side_proper();
-    msrp_laws::what_is_sent_is_read();
-    msrp_laws::calls_keep_the_ports();
+    of_vlans::every_call_keeps_a_side_proper();
+    of_vlans::settling_and_requests_keep_a_side_proper();
+    of_vlans::what_is_sent_is_read();
+    mvrp_codec::what_is_read_has_vids();
+    of_streams::every_call_keeps_a_side_proper();
+    of_streams::settling_and_requests_keep_a_side_proper();
+    of_streams::what_is_sent_is_read();
+    of_streams::calls_keep_the_ports();
     msrp_codec::laws::reading_is_the_grammar();
     msrp_codec::laws::what_is_read_belongs_to_its_keys();
 }
 
-/// So does what happens to the PDUs that wait: an outbox is taken out, short PDUs that say nothing but what fits come in,
-/// one is lost or there twice, and a participant is spoilt.
+/// So does what happens to the PDUs that wait: an outbox is taken out, short PDUs that say what fits come in, one is lost or
+/// there twice, and a participant is spoilt.
 pub fn links_keep_a_node_proper()
     ensures taken { (at : ℕ) (s : NodeState) → IsProperNode s → IsProperNode (with_outbox at [] s) }
-    ensures carried { (at : ℕ) (wires : List Wire) (s : NodeState)
-        → AreShort wires → AreProperWires wires → IsProperNode s
-        → IsProperNode (with_carried at wires s) }
+    ensures carried { (at : ℕ) (wires : List Wire) (s : NodeState) → AreShort wires
+        → AreProperWires wires → IsProperNode s → IsProperNode (with_carried at wires s) }
     ensures lost { (at index : ℕ) (s : NodeState) → IsProperNode s
         → IsProperNode (lost_at at index s) }
     ensures repeated { (at index : ℕ) (s : NodeState) → IsProperNode s
@@ -64,9 +62,9 @@ pub fn links_keep_a_node_proper()
     ensures spoilt { (app : App) (at : ℕ) (s : NodeState) → IsProperNode s
         → IsProperNode (spoilt_at app at s) }
 {
-    mvrp_laws::every_call_keeps_a_side_proper();
-    msrp_laws::every_call_keeps_a_side_proper();
-    msrp_laws::calls_keep_the_ports();
+    of_vlans::every_call_keeps_a_side_proper();
+    of_streams::every_call_keeps_a_side_proper();
+    of_streams::calls_keep_the_ports();
 }
 
 /// A step keeps what a node is, and how many link ports it has; and no step but the clock's moves the clock.
@@ -78,16 +76,15 @@ pub fn steps_keep_what_a_node_is()
         → (node_step (NodeEvent.Port port step) s).0.clock ≡ s.clock }
     ensures asked { (request : AppRequest) (s : NodeState)
         → (node_step (NodeEvent.Request request) s).0.clock ≡ s.clock }
-{}
+{
+    of_streams::calls_keep_the_ports();
+}
 
-/// A step keeps the node's BridgeID, and at each link port how it is set up: the BridgeID, the latency and the caps of its
-/// ledger. So does a spoilt participant.
+/// A step keeps the node's BridgeID, and how each link port is set up: its BridgeID, its latency and the caps of its ledger.
 pub fn a_port_stays_set_up()
-    ensures step { (event : NodeEvent) (s : NodeState) → port_setups (node_step event s).0
-        ≡ port_setups s }
     ensures bridge { (event : NodeEvent) (s : NodeState) → (node_step event s).0.bridge ≡ s.bridge }
-    ensures spoilt { (app : App) (at : ℕ) (s : NodeState) → port_setups (spoilt_at app at s)
+    ensures ports { (event : NodeEvent) (s : NodeState) → port_setups (node_step event s).0
         ≡ port_setups s }
 {
-    msrp_laws::calls_keep_the_ports();
+    of_streams::calls_keep_the_ports();
 }

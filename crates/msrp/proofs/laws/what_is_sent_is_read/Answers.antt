@@ -1,4 +1,4 @@
-use Rattle.std.proofs.Common.{◌≤◌, length, refl, arith}
+use Rattle.std.proofs.Common.{refl, arith}
 use Rattle.mrp_participant.specs.Lookup.{same}
 use Rattle.mrp_participant.specs.State.{is_active, sent_events}
 use Rattle.msrp_codec.specs.Content.{Belongs, base_octets, octets_of}
