@@ -114,13 +114,11 @@ all_due now at vlans streams =
 
 -- all timers of both applications that are due at a place fire
 abbrev pub fired_due : ℕ → NodeState → Stepped
-fired_due at s = (
-  record s {
-    vlans = due_vlans s.clock at s.vlans;
-    streams = due_streams s.clock at s.streams;
-  },
-  Fired (count_of (all_due s.clock at s.vlans s.streams)),
-)
+fired_due at s =
+    (record s {
+      vlans = due_vlans s.clock at s.vlans;
+      streams = due_streams s.clock at s.streams;
+    }, Fired (count_of (all_due s.clock at s.vlans s.streams)))
 
 -- how many attributes of both applications await at a place
 abbrev pub all_awaiting : ℕ → Vlans → Streams → ℕ
@@ -129,10 +127,9 @@ all_awaiting at vlans streams =
 
 -- what awaits at a place is settled, of both applications
 abbrev pub settled : ℕ → NodeState → Stepped
-settled at s = (
-  record s { vlans = settled_vlans at s.vlans; streams = settled_streams at s.streams },
-  Settled (count_of (all_awaiting at s.vlans s.streams)),
-)
+settled at s =
+    (record s { vlans = settled_vlans at s.vlans; streams = settled_streams at s.streams },
+     Settled (count_of (all_awaiting at s.vlans s.streams)))
 
 -- the attribute whose leave timer a step ends
 abbrev pub key_of_step : PortStep → Option NodeKey
@@ -151,7 +148,7 @@ abbrev pub said_msrp : Cs → ℕ → Streams → Option (List ℕ)
 said_msrp now at streams =
     of_port
     (λ port.
-    if is_silent port.part then None else Some (msrp_spelling (srp_pdu_sent now port.part)))
+      if is_silent port.part then None else Some (msrp_spelling (srp_pdu_sent now port.part)))
     None at streams
 
 -- what an application at a place has to say

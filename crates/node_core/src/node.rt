@@ -377,7 +377,11 @@ fn push_vids(keys: &mut Vec<NodeKey>, part: &Participant<MvrpApp>) -> Result<(),
 }
 
 // The VID of the row at a place goes to the end of a list, where it is registered.
-fn push_vid(keys: &mut Vec<NodeKey>, part: &Participant<MvrpApp>, i: usize) -> Result<(), NoMemory>
+fn push_vid(
+    keys: &mut Vec<NodeKey>,
+    part: &Participant<MvrpApp>,
+    i: usize,
+) -> Result<(), NoMemory>
     ensures { OnOk result (keys.new.items
         ≡ keys.old.items ++ option_to_list (option_and_then (registered_key Vlan) (slice_get part.now.rows i))) }
 {

@@ -387,56 +387,37 @@ fn is_listened(node: &Node, port: PortNo, stream: StreamId) -> Result<bool, NoMe
     Ok(ready && held && has_keys(node, port, [NodeKey::Srp(key)].as_slice())?)
 }
 
-// Whether a Talker of a stream is advertised as the station states it, and a listening application hears so.
-fn hears(node: &Node, stream: StreamId) -> bool {
-    let advertised = match node.talker(stream) {
-        TalkerReg::Advertise(talker) => talker.stream == stream && talker.latency == 500,
-        TalkerReg::Failed(_, _) | TalkerReg::Absent => false,
-    };
-    advertised && node.heard(stream) == Some(ListenerKind::Ready)
-}
-
-// Whether a station talks a stream and declares a VID, what awaits counts together, and another hears of the stream.
-fn talks(from: &mut Node, to: &mut Node, talker: Talker, vid: Vid) -> Result<bool, NoMemory> {
+// What is seen where a station talks a stream and declares a VID, another listens, and the first books.
+fn reservation(
+    from: &mut Node,
+    to: &mut Node,
+    talker: Talker,
+    vid: Vid,
+) -> Result<[bool; 6], NoMemory> {
     let stream = talker.stream;
+    let talks = asks(from, AppRequest::Talk(talker))?
+        && asks(from, AppRequest::Declare(vid))?
+        && from.talks(stream);
+    let listens = asks(to, AppRequest::Listen(stream))? && to.listens(stream);
     let list = [(Settle, Settled(3)), (Send(App::Msrp), Sent(37))];
-    Ok(
-        asks(from, AppRequest::Talk(talker))?
-            && asks(from, AppRequest::Declare(vid))?
-            && from.talks(stream)
-            && answers(from, ONE, list.as_slice())?
-            && carry(from, ONE, to, ONE)?,
-    )
-}
-
-// Whether a station listens to a stream of which it has heard, and what it says of it comes in at another.
-fn listens(from: &mut Node, to: &mut Node, stream: StreamId) -> Result<bool, NoMemory> {
+    let sent = answers(from, ONE, list.as_slice())? && carry(from, ONE, to, ONE)?;
     let list = [
         (Work, Received(1)),
         (Settle, Settled(2)),
         (Send(App::Msrp), Sent(21)),
     ];
-    Ok(
-        asks(to, AppRequest::Listen(stream))?
-            && to.listens(stream)
-            && answers(to, ONE, list.as_slice())?
-            && carry(to, ONE, from, ONE)?,
-    )
-}
-
-// Whether a station books a stream once it has heard of a Listener.
-fn reserves(from: &mut Node, stream: StreamId) -> Result<bool, NoMemory> {
-    let key = NodeKey::Srp(MsrpKey::Listener(stream));
+    let answered = answers(to, ONE, list.as_slice())? && carry(to, ONE, from, ONE)?;
+    let heard = to.heard(stream) == Some(ListenerKind::Ready)
+        && to.talker(stream) == TalkerReg::Advertise(talker);
     let list = [
         (Work, Received(1)),
         (Settle, Settled(2)),
-        (LeaveNow(key), Fired(0)),
+        (LeaveNow(NodeKey::Srp(MsrpKey::Listener(stream))), Fired(0)),
     ];
-    Ok(
-        answers(from, ONE, list.as_slice())?
-            && books(from, ONE, stream)?
-            && is_listened(from, ONE, stream)?,
-    )
+    let booked = answers(from, ONE, list.as_slice())?
+        && books(from, ONE, stream)?
+        && is_listened(from, ONE, stream)?;
+    Ok([talks, listens, sent, answered, heard, booked])
 }
 
 // Whether a station talks a stream no more, and another doesn't listen to it any more.
@@ -446,23 +427,14 @@ fn ends(from: &mut Node, to: &mut Node, stream: StreamId) -> Result<bool, NoMemo
 }
 
 // The scenes at new nodes.
-fn new_reservation(alloc: Global) -> Result<[bool; 5], Fail> {
+fn new_reservation(alloc: Global) -> Result<([bool; 6], bool), Fail> {
     let vid = Vid::new(10).ok_or("a VID")?;
     let stream = StreamId(0x0200_0000_0001_0001);
     let talker = talker_of(stream).ok_or("a Talker")?;
     let mut from = station(alloc)?;
     let mut to = station(alloc)?;
-    let said = talks(&mut from, &mut to, talker, vid)?;
-    let answered = listens(&mut from, &mut to, stream)?;
-    let heard = hears(&to, stream);
-    let booked = reserves(&mut from, stream)?;
-    Ok([
-        said,
-        answered,
-        heard,
-        booked,
-        ends(&mut from, &mut to, stream)?,
-    ])
+    let scene = reservation(&mut from, &mut to, talker, vid)?;
+    Ok((scene, ends(&mut from, &mut to, stream)?))
 }
 
 fn new_declaration(alloc: Global) -> Result<[bool; 7], Fail> {
@@ -497,7 +469,7 @@ fn a_vid_goes_from_a_station_through_a_bridge(rt: HostRuntime) -> Result<(), Fai
 
 #[test]
 fn a_stream_is_booked_where_a_station_listens(rt: HostRuntime) -> Result<(), Fail> {
-    assert_eq!(rt; new_reservation(rt.alloc())?, [true; 5]);
+    assert_eq!(rt; new_reservation(rt.alloc())?, ([true; 6], true));
     Ok(())
 }
 

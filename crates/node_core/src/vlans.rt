@@ -14,7 +14,11 @@ use srp_base::{App, Cs, NoMemory, PortNo, Vid};
 
 // A VID is declared or withdrawn.
 #[tactic(auto, using(crate::proofs::Sizes::of_requested))]
-pub(crate) fn ask_vlan(side: &mut MvrpSide, vid: Vid, declared: bool) -> Result<StepReply, NoMemory>
+pub(crate) fn ask_vlan(
+    side: &mut MvrpSide,
+    vid: Vid,
+    declared: bool,
+) -> Result<StepReply, NoMemory>
     ensures ok { OnOk result (side.new ≡ requested_vlans vid declared side.old) }
     ensures taken { IfOk result (λ reply. reply ≡ StepReply.Taken) }
     ensures err { OnErr result (side.new ≡ side.old) }
