@@ -37,6 +37,7 @@ pub mod laws;
 mod links;
 mod node;
 mod outbox;
+mod parts;
 mod step;
 mod streams;
 #[cfg(test)]

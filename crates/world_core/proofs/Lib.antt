@@ -21,3 +21,9 @@ mod Happenings
 mod Standing
 mod Limits
 mod Talks
+mod PortOrder
+mod Noting
+mod Picked
+mod LastChange
+mod Forces
+mod Timelines

@@ -7,3 +7,6 @@ pub mod Moments
 pub mod During
 pub mod Limits
 pub mod Talks
+pub mod Force
+pub mod Merging
+pub mod Timeline

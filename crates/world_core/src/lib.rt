@@ -21,13 +21,17 @@
 #![tactic(auto)]
 
 mod events;
+mod force;
 mod happen;
 mod journal;
 pub mod laws;
+mod merging;
 mod start;
 mod step;
 #[cfg(test)]
 mod tests;
+mod timeline;
+pub mod timeline_laws;
 mod world;
 
 pub use events::{WorldEvent, WorldReply};
