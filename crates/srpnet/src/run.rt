@@ -1,23 +1,36 @@
 //! The commands `run` and `run journal`: a network through the ticks of a scenario, the frames through its shapers, the report
 //! of all that, and behind it what happened.
 
-ghost use Rattle.std.specs.Prelude.{◌≡◌, IfOk, IfErr};
+ghost use Rattle.std.specs.Prelude.{◌≡◌, List, IfOk, IfErr};
+ghost use Rattle.topology_file.specs.Plan.{Plan};
+ghost use Rattle.topology_file.specs.Scenario.{KeepsRules};
+ghost use Rattle.world_core.specs.declared.journal.Tick.{Tick};
+ghost use Rattle.world_core.specs.World.{WorldState};
+ghost use Rattle.world_core.specs.Moments.{IsMoment};
+ghost use Rattle.world_core.specs.Ticks.{AreLegalTicks};
 ghost use Rattle.srpnet.specs.Input.{ending};
 ghost use Rattle.srpnet.specs.Outcomes.{EndsAs};
-ghost use Rattle.srpnet.specs.RunText.{RunOutput, IsReported, IsRun, HoldsThroughout, report_alone, report_and_journal};
+ghost use Rattle.srpnet.specs.RunText.{RunOutput, IsReported, IsRun, HoldsAt, HoldsThroughout, report_alone, report_and_journal};
 ghost use Rattle.srpnet.specs.ScenarioInput.{scenario_input as scenario_input_spec};
 
 use crate::commands::CommandOutput;
 use crate::outcome::Cause;
 use crate::scenario::scenario_input;
 use frame_flow::FlowResult;
+use network_laws::frame_laws::a_timeline_keeps_the_limits;
+use network_laws::laws::{
+    duties_are_met_in_every_run, stream_duties_are_met_in_every_run,
+    streams_keep_their_laws_whenever_at_rest, vlans_match_whenever_at_rest,
+};
 use scenario_frames::flow_of;
+use scenario_frames::laws::every_window_stays_within;
 use srp_base::{NoMemory, Seq};
 use srp_report::{journal_text, report as report_text};
 use srp_schedule::plain_run;
 use std::alloc::Global;
 use topology_file::Scenario;
 use world_core::Run;
+use world_core::laws::{canonical_ticks_are_legal, every_moment_is_within_limits};
 
 /// What `run` prints with its journal, or why there is none.
 pub fn report(alloc: Global, octets: &[u8]) -> Result<CommandOutput, Cause>
@@ -55,10 +68,27 @@ fn run_of(alloc: Global, scenario: &Scenario) -> Result<Ran, NoMemory>
     ensures holds { IfOk result
         (λ r. HoldsThroughout scenario.now r.run.journal.ticks r.flow.ports) }
 {
+    canonical_ticks_are_legal();
+    a_timeline_keeps_the_limits();
+    what_holds_of_every_run();
+    every_window_stays_within();
     scenario.keeps_rules();
     let run = plain_run(alloc, scenario)?;
     let flow = flow_of(alloc, scenario, &run.timeline)?;
     Ok(Ran { run, flow })
+}
+
+// What holds at every moment of every legal run of a scenario, as the laws of networks say it. It does nothing.
+fn what_holds_of_every_run()
+    ensures { (plan : Plan) (ticks : List Tick) (end w : WorldState) → KeepsRules plan
+        → AreLegalTicks plan ticks end
+        → IsMoment plan ticks w → HoldsAt plan w }
+{
+    duties_are_met_in_every_run();
+    stream_duties_are_met_in_every_run();
+    every_moment_is_within_limits();
+    vlans_match_whenever_at_rest();
+    streams_keep_their_laws_whenever_at_rest();
 }
 
 // The report of a scenario's run.

@@ -1,16 +1,28 @@
-use Rattle.std.proofs.Common.{◌∙◌}
 use Rattle.srpnet.proofs.run.run_of.Goals as goal
 
-pub returns-clause-output : goal.returns-clause-output
-returns-clause-output c =
+pub flow_of-requires-order : goal.flow_of-requires-order
+flow_of-requires-order c = c.in_ok-run.ensures.timeline.are.ascend
+
+pub flow_of-requires-slopes : goal.flow_of-requires-slopes
+flow_of-requires-slopes c =
+    let run = c.in_ok-run.run' in
+    c.a_timeline_keeps_the_limits.ensures.below c.args.scenario.now run.journal.ticks run.world run.timeline.changes c.keeps_rules.ensures
+    (c.canonical_ticks_are_legal.ensures c.args.scenario.now run.journal.ticks run.world c.in_ok-run.ensures.ticks) c.in_ok-run.ensures.timeline
+
+pub returns-clause-run : goal.returns-clause-run
+returns-clause-run c = record { canonical = c.in_ok-run.ensures.ticks; in_force = c.in_ok-run.ensures.timeline; flow = c.in_ok-flow.ensures }
+
+pub returns-clause-holds : goal.returns-clause-holds
+returns-clause-holds c =
     let plan = c.args.scenario.now in
-    let ticks = c.in_ok-run.run'.journal.ticks in
-    let end = c.in_ok-run.run'.world in
-    let legal = c.canonical_ticks_are_legal.ensures plan ticks end c.in_ok-run.ensures in
+    let run = c.in_ok-run.run' in
+    let legal = c.canonical_ticks_are_legal.ensures plan run.journal.ticks run.world c.in_ok-run.ensures.ticks in
+    let timeline = c.in_ok-run.ensures.timeline in
+    let rules = c.keeps_rules.ensures in
     record {
-      world = end;
-      canonical = c.in_ok-run.ensures;
-      printed = c.from_vec.ensures ∙ c.in_ok-text.ensures;
-      duties = λ w moment. c.duties_are_met_in_every_run.ensures plan ticks end w c.keeps_rules.ensures legal moment;
-      vlans = λ w moment rest. c.vlans_match_whenever_at_rest.ensures plan ticks end w c.keeps_rules.ensures legal moment rest;
+      moments = λ w moment. c.what_holds_of_every_run.ensures plan run.journal.ticks run.world w rules legal moment;
+      windows = c.every_window_stays_within.ensures.caps plan run.timeline.changes _ c.in_ok-flow.flow'.ports rules timeline.are.ascend
+          (c.a_timeline_keeps_the_limits.ensures.below plan run.journal.ticks run.world run.timeline.changes rules legal timeline)
+          (c.a_timeline_keeps_the_limits.ensures.cap plan run.journal.ticks run.world run.timeline.changes rules legal timeline)
+          c.in_ok-flow.ensures;
     }
