@@ -1,2 +1,4 @@
+pub mod DepartureLemmas
 pub mod LinkPorts
+pub mod PeerLemmas
 pub mod TallyLemmas

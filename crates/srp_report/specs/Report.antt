@@ -1,5 +1,5 @@
--- What is printed of a run: its length, each port with what it sent and what is registered there, and how the
--- network is at the end.
+-- What is printed of a run: its length, each port with what it sent and what is registered there, what became of the
+-- frames, and how the network is at the end.
 use Rattle.std.specs.Prelude.{ℕ, List, [], ◌∷◌, ◌++◌, flat_map}
 use Rattle.std.specs.Option.{option_map_or}
 use Rattle.srp_base.specs.Text.{joined}
@@ -7,6 +7,7 @@ use Rattle.srp_base.specs.declared.numbers.EgressPort.{EgressPort}
 use Rattle.registrar.specs.declared.Registrar.{Registrar}
 use Rattle.registrar.specs.declared.Registrar.TheVariants.{Empty}
 use Rattle.topology_file.specs.Plan.{Plan}
+use Rattle.frame_flow.specs.declared.result.PortFlow.{PortFlow}
 use Rattle.mvrp.specs.Side.{place_of}
 use Rattle.node_core.specs.State.{registered_keys, registrar_at}
 use Rattle.node_core.specs.declared.types.NodeKey.{NodeKey}
@@ -14,6 +15,7 @@ use Rattle.world_core.specs.declared.journal.Tick.{Tick}
 use Rattle.world_core.specs.World.{WorldState, node_at, is_quiet, is_in_step}
 use Rattle.world_core.specs.Ticks.{link_ports}
 use Rattle.srp_report.specs.Counts.{replies_of, tally_of}
+use Rattle.srp_report.specs.FrameLines.{flow_parts}
 use Rattle.srp_report.specs.Lines.{port_name, ticks_line, port_line, key_line, end_lines}
 
 -- ---- what is registered at a port
@@ -48,9 +50,10 @@ port_parts plan w ticks = flat_map (port_part plan w ticks) (link_ports w.tree)
 
 -- ---- the report
 
--- of a scenario, the network at the end of its run, and the ticks of the run
-abbrev pub report_text : Plan → WorldState → List Tick → List ℕ
-report_text plan w ticks = joined (
+-- of a scenario, the network at the end of its run, the ticks of the run, and the flow of its frames
+abbrev pub report_text : Plan → WorldState → List Tick → List PortFlow → List ℕ
+report_text plan w ticks flows = joined (
     ticks_line plan.ticks
     ∷ port_parts plan w ticks
+    ∷ flow_parts plan w.tree.links flows
     ∷ end_lines (is_quiet w) (is_in_step w) ∷ [])

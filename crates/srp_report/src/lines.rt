@@ -11,15 +11,15 @@ use registrar::Registrar;
 use srp_base::Vid;
 use std::alloc::AllocError;
 
-// Puts a text at the end.
-fn put(out: &mut Vec<u8>, text: &str) -> Result<(), AllocError>
+/// Puts a text at the end.
+pub(crate) fn put(out: &mut Vec<u8>, text: &str) -> Result<(), AllocError>
     ensures { OnOk result (out.new.items ≡ out.old.items ++ text.now) }
 {
     out.extend_from_slice(text.as_bytes())
 }
 
-// Puts a number at the end.
-fn put_number(out: &mut Vec<u8>, number: u64) -> Result<(), AllocError>
+/// Puts a number at the end.
+pub(crate) fn put_number(out: &mut Vec<u8>, number: u64) -> Result<(), AllocError>
     ensures { OnOk result (out.new.items ≡ out.old.items ++ decimal number) }
 {
     let alloc = *out.allocator();
