@@ -66,8 +66,8 @@ fn has_port(tree: &Tree, at: EgressPort) -> bool
         && at.port.0 <= tree.ports(at.node)
 }
 
-// The name of a node.
-fn node_name(nodes: &[NodeEntry], number: NodeNo) -> &[u8]
+/// The name of a node.
+pub(crate) fn node_name(nodes: &[NodeEntry], number: NodeNo) -> &[u8]
     ensures { result.now ≡ name_of nodes.now number }
 {
     match nodes.get(usize::from(number.0).saturating_sub(1)) {

@@ -4,6 +4,7 @@ ghost use Rattle.std.specs.Prelude.{◌≡◌, IfOk};
 ghost use Rattle.srp_report.specs.Report.{report_text};
 
 use crate::flows::put_flows;
+use crate::heard::put_nodes;
 use crate::lines::{put_end, put_ticks};
 use crate::ports::put_ports;
 use frame_flow::FlowResult;
@@ -13,10 +14,12 @@ use topology_file::Scenario;
 use world_core::Run;
 
 /// The report of a run of a scenario, in octets: its length in ticks; for each port, link by link, end `a` first, how many
-/// PDUs it sent, their octets, and how many malformed PDUs it discarded, then each VID that is registered there with its
-/// Registrar's state, IN or LV (IEEE Std 802.1Q-2018, 10.7.8); where the scenario has frames, for each port of their flow
-/// how many copies came to which fate, and each that departed, ascending by start, in bit times of the port from the run's
-/// start; and whether the network is quiet and in step at the end.
+/// PDUs it sent, their octets, and how many malformed PDUs it discarded, then each VID, Talker and Listener that is
+/// registered there with its Registrar's state, IN or LV (IEEE Std 802.1Q-2018, 10.7.8), and each stream that is booked
+/// there with its slope in bit/s and the tick since when; what each station hears of each stream that it listens to; where
+/// the scenario has frames, for each port of their flow how many copies came to which fate, and each that departed,
+/// ascending by start, in bit times of the port from the run's start; and whether the network is quiet and in step at the
+/// end.
 pub fn report(
     alloc: Global,
     scenario: &Scenario,
@@ -29,6 +32,7 @@ pub fn report(
     let mut out = Vec::new(alloc);
     put_ticks(&mut out, scenario.ticks)?;
     put_ports(&mut out, scenario, &run.world, run.journal.ticks.as_slice())?;
+    put_nodes(&mut out, scenario, &run.world)?;
     put_flows(&mut out, scenario, run.world.tree(), flow)?;
     put_end(&mut out, run.world.quiet(), run.world.in_step())?;
     Ok(out)
