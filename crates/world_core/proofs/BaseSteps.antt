@@ -9,9 +9,8 @@ use Rattle.srp_base.specs.declared.numbers.PortNo.{PortNo}
 use Rattle.srp_base.specs.declared.numbers.EgressPort.{EgressPort}
 use Rattle.srp_base.specs.declared.mrp.App.{App}
 use Rattle.srp_base.specs.declared.mrp.App.TheVariants.{Mvrp, Msrp}
-use Rattle.tree_topology.specs.Topology.{HasPort, IsSound}
+use Rattle.tree_topology.specs.Topology.{HasPort}
 use Rattle.tree_topology.specs.Ports.{peer_of}
-use Rattle.tree_topology.specs.PortLaws.{HasPortLaws}
 use Rattle.mvrp.specs.Part.{Part}
 use Rattle.mvrp.specs.Side.{IsLinkPort, place_of, with_part, replaced}
 use Rattle.node_core.specs.declared.types.Wire.{Wire}
@@ -26,7 +25,7 @@ use Rattle.node_core.specs.Links.{with_outbox, with_carried, lost_at, repeated_a
 use Rattle.node_core.specs.Proper.{IsProperNode, IsInRange, AreProperWires}
 use Rattle.world_core.specs.declared.events.WorldEvent.{WorldEvent}
 use Rattle.world_core.specs.declared.events.WorldEvent.TheVariants.{Request, Port, Lose, Repeat, Carry, Clock}
-use Rattle.world_core.specs.World.{WorldState, node_at, with_changed, outbox, app_of, spoilt, lost, repeated, world_step, CanHappen, IsEventInRange}
+use Rattle.world_core.specs.World.{WorldState, node_at, with_changed, outbox, app_of, lost, repeated, world_step, CanHappen, IsEventInRange}
 use Rattle.world_core.specs.Kept.{FitsTree}
 use Rattle.world_core.proofs.Lists.{one_some}
 use Rattle.world_core.proofs.Nodes.{Base, Stays, base_changed, stepped_is, ticked_get, ticked_length, node_there, place_within, proper_at, outbox_is}

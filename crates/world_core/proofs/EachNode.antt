@@ -1,9 +1,8 @@
 -- What holds of each node of a network holds after an event, where the steps of the nodes keep it, and what waits in their boxes
 -- and the marks of soundness are nothing to it.
-use Rattle.std.proofs.Common.{◌≡◌, ℕ, zero, suc, ◌-◌, List, [], ◌∷◌, map, refl, subst}
+use Rattle.std.proofs.Common.{◌≡◌, ℕ, ◌-◌, List, [], refl, subst}
 use Rattle.std.specs.Prelude.{slice_get, slice_set, Option, Some, None}
 use Rattle.std.specs.Option.{option_map_or}
-use Rattle.std.specs.List.{AllByRecursion}
 use Rattle.srp_base.specs.declared.numbers.NodeNo.{NodeNo}
 use Rattle.srp_base.specs.declared.numbers.EgressPort.{EgressPort}
 use Rattle.srp_base.specs.declared.mrp.App.{App}
@@ -13,11 +12,11 @@ use Rattle.node_core.specs.declared.types.NodeEvent.{NodeEvent}
 use Rattle.node_core.specs.declared.types.NodeEvent.TheVariants as node_events
 use Rattle.node_core.specs.declared.types.Wire.{Wire}
 use Rattle.node_core.specs.Links.{spoilt_at, with_outbox, with_carried, lost_at, repeated_at}
-use Rattle.node_core.specs.State.{NodeState, box_at}
+use Rattle.node_core.specs.State.{NodeState}
 use Rattle.node_core.specs.Step.{node_step}
 use Rattle.world_core.specs.declared.events.WorldEvent.{WorldEvent}
 use Rattle.world_core.specs.declared.events.WorldEvent.TheVariants.{Request, Port, Lose, Repeat, Carry, Clock}
-use Rattle.world_core.specs.World.{WorldState, node_at, with_changed, stepped, spoilt, lost, repeated, app_of, outbox, world_step, CanHappen}
+use Rattle.world_core.specs.World.{WorldState, node_at, with_changed, stepped, spoilt, lost, repeated, app_of, outbox, world_step}
 use Rattle.world_core.proofs.Lists.{set_each}
 use Rattle.world_core.proofs.Nodes.{stepped_is, ticked_get}
 

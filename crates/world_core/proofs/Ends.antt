@@ -1,7 +1,7 @@
 -- What changes at the two ends of one link, and nowhere else, keeps the duties of all links in an application if it keeps those
 -- of this one.
-use Rattle.std.proofs.Common.{◌≡◌, ◌≢◌, ◌⊎◌, inl, inr, ℕ, ◌-◌, ◌<◌, List, ◌++◌, refl, sym, ap, subst, ◌∙◌, arith}
-use Rattle.std.specs.Prelude.{Option, Some, option_map, IsTrue}
+use Rattle.std.proofs.Common.{◌≡◌, ◌≢◌, ◌⊎◌, inl, inr, ℕ, ◌-◌, ◌<◌, refl, sym, ap, subst, ◌∙◌, arith}
+use Rattle.std.specs.Prelude.{Some, option_map, IsTrue}
 use Rattle.srp_base.specs.declared.numbers.EgressPort.{EgressPort}
 use Rattle.tree_topology.specs.Topology.{Topology, HasPort}
 use Rattle.tree_topology.specs.Ports.{peer_of}
@@ -10,7 +10,6 @@ use Rattle.tree_topology.specs.Walk.{is_behind}
 use Rattle.mrp_participant.specs.Link.{Link, AreDutiesMet, turned}
 use Rattle.mrp_participant.specs.State.{State}
 use Rattle.mvrp.specs.Side.{place_of}
-use Rattle.node_core.specs.declared.types.Wire.{Wire}
 use Rattle.node_core.specs.Proper.{IsProperNode}
 use Rattle.node_core.specs.State.{NodeState, box_at, ports_of}
 use Rattle.world_core.specs.World.{WorldState, node_at, with_changed, inbox, outbox}

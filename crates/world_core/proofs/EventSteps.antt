@@ -1,5 +1,5 @@
 -- Each event of a network keeps the duties of all links in an application, whichever it is, from what the application shows.
-use Rattle.std.proofs.Common.{◌≡◌, ◌≢◌, ◌⊎◌, inl, inr, ℕ, zero, suc, ◌-◌, false, List, [], ◌∷◌, ◌++◌, refl, sym, ap, subst, ◌∙◌, arith}
+use Rattle.std.proofs.Common.{◌≡◌, ◌≢◌, ◌⊎◌, inl, inr, ℕ, zero, suc, ◌-◌, List, [], ◌∷◌, ◌++◌, refl, sym, ap, subst, ◌∙◌, arith}
 use Rattle.std.specs.Prelude.{slice_get, Option, Some, None, option_map, filter_map}
 use Rattle.std.proofs.lemmas.List.{append-nil}
 use Rattle.srp_base.specs.declared.numbers.NodeNo.{NodeNo}
@@ -20,10 +20,9 @@ use Rattle.node_core.specs.declared.types.NodeEvent.{NodeEvent}
 use Rattle.node_core.specs.declared.types.NodeEvent.TheVariants as node_events
 use Rattle.node_core.specs.declared.types.PortStep.{PortStep}
 use Rattle.node_core.specs.Wires.{without}
-use Rattle.node_core.specs.State.{NodeState, box_at, ports_of}
+use Rattle.node_core.specs.State.{NodeState, box_at}
 use Rattle.node_core.specs.Step.{node_step}
 use Rattle.node_core.specs.Links.{with_outbox, with_carried, lost_at, repeated_at, spoilt_at}
-use Rattle.node_core.specs.Proper.{IsProperNode}
 use Rattle.world_core.specs.declared.events.WorldEvent.{WorldEvent}
 use Rattle.world_core.specs.declared.events.WorldEvent.TheVariants.{Request, Port, Lose, Repeat, Carry, Clock}
 use Rattle.world_core.specs.World.{WorldState, node_at, with_changed, inbox, outbox, app_of, spoilt, lost, repeated, ticked, world_step, CanHappen}
@@ -32,7 +31,7 @@ use Rattle.world_core.proofs.Lists.{one_some, nothing_lost, said_twice}
 use Rattle.world_core.proofs.Boxes.{box_got, box_other, box_none}
 use Rattle.world_core.proofs.Views.{AppView, LinkLaws, StepFacts, AreMet, KeepsLink, boxed, boxed_same, met_same, unsound}
 use Rattle.world_core.proofs.StepBoxes.{asked_boxes, step_boxes, spoilt_boxes}
-use Rattle.world_core.proofs.Nodes.{Base, SameAt, SameAtPort, same_then, same_port, by_states, by_node, node_same, node_other, same_tree, stepped_is, ticked_at, node_there, place_within, inbox_there, part_there, part_is, inbox_is, outbox_is, proper_at}
+use Rattle.world_core.proofs.Nodes.{Base, SameAtPort, same_then, same_port, by_states, by_node, node_same, node_other, same_tree, stepped_is, ticked_at, node_there, place_within, inbox_there, part_there, part_is, inbox_is, outbox_is, proper_at}
 use Rattle.world_core.proofs.Ends.{MetOn, one_link, other_node, other_place, on_tree, nowhere, duties_changed}
 
 decide_app : (a b : App) → (a ≡ b) ⊎ (a ≢ b)

@@ -1,6 +1,6 @@
 -- One of a list of nodes becomes another: the list then, and where ports stand in it.
-use Rattle.std.proofs.Common.{◌≡◌, ℕ, zero, suc, ◌-◌, ◌∷◌, ◌++◌, Bool, true, false, List, [], length, map, take, drop, length-append, refl, sym, ap, subst, ◌∙◌, arith}
-use Rattle.std.specs.Prelude.{◌<◌, ◌≤◌, nat_lt, slice_get, slice_set, Option, Some, None, option_map, Result, Ok, Err, OnOk, OnErr, if◌then◌else◌}
+use Rattle.std.proofs.Common.{◌≡◌, ℕ, zero, suc, ◌-◌, ◌∷◌, ◌++◌, Bool, false, List, [], length, map, take, drop, length-append, refl, sym, ap, subst, ◌∙◌, arith}
+use Rattle.std.specs.Prelude.{◌<◌, ◌≤◌, slice_get, slice_set, Option, Some, None, option_map, Result, Ok, Err, OnOk, if◌then◌else◌}
 use Rattle.std.proofs.lemmas.Option.{slice_get_within, slice_get_read}
 use Rattle.std.proofs.lemmas.Bool.{lt-ltb}
 use Rattle.std.specs.Option.{option_map_or}
@@ -16,8 +16,8 @@ use Rattle.mvrp.specs.Side.{IsLinkPort, place_of, replaced, with_part}
 use Rattle.node_core.specs.declared.types.Wire.{Wire}
 use Rattle.node_core.specs.State.{NodeState, box_at, ports_of}
 use Rattle.node_core.proofs.Boxes.{set_set, set_same}
-use Rattle.node_core.specs.Links.{with_outbox, with_carried, has_index, lost_at, repeated_at, spoilt_at}
-use Rattle.world_core.specs.World.{WorldState, StandsAt, changed, with_changed, inbox, outbox, app_of, spoilt, carried}
+use Rattle.node_core.specs.Links.{with_outbox, with_carried, has_index, lost_at, spoilt_at}
+use Rattle.world_core.specs.World.{WorldState, StandsAt, changed, with_changed, outbox, app_of, spoilt, carried}
 use Rattle.world_core.proofs.Boxes.{box_none}
 use Rattle.world_core.proofs.Lists.{set_each, get_set, get_set_same}
 

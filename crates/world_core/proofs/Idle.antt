@@ -1,8 +1,7 @@
 -- What the application of a node asks for stays at each step of a port and of the clock. So nothing asks a bridge for anything.
-use Rattle.std.proofs.Common.{◌≡◌, ℕ, zero, suc, ◌+◌, ◌-◌, Bool, true, false, if◌then◌else◌, List, [], ◌∷◌, refl, sym, ap, ◌∙◌, subst}
+use Rattle.std.proofs.Common.{◌≡◌, ℕ, ◌+◌, List, [], ◌∷◌, refl, sym, ap, ◌∙◌}
 use Rattle.std.specs.Prelude.{slice_get, slice_set, Option, Some, None, Result, Ok, Err}
 use Rattle.std.specs.List.{AllByRecursion}
-use Rattle.srp_base.specs.declared.numbers.NodeNo.{NodeNo}
 use Rattle.srp_base.specs.declared.mrp.App.{App}
 use Rattle.srp_base.specs.declared.mrp.App.TheVariants.{Mvrp, Msrp}
 use Rattle.tree_topology.specs.declared.graph.NodeKind.TheVariants.{Station, Bridge}
@@ -30,9 +29,9 @@ use Rattle.world_core.specs.declared.events.WorldEvent.{WorldEvent}
 use Rattle.world_core.specs.declared.events.WorldEvent.TheVariants.{Request, Port as PortEvent, Lose, Repeat, Carry, Clock}
 use Rattle.world_core.specs.World.{WorldState, node_at, world_step, CanHappen}
 use Rattle.world_core.specs.Start.{world_of, nodes_from}
-use Rattle.world_core.specs.Kept.{AsksNothing, IsIdleBridge, AreBridgesIdle}
+use Rattle.world_core.specs.Kept.{IsIdleBridge, AreBridgesIdle}
 use Rattle.world_core.proofs.Lists.{one_some, each_of, at_each}
-use Rattle.world_core.proofs.EachNode.{AllNodes, IsOfSides, KeepsOwn, all_keep}
+use Rattle.world_core.proofs.EachNode.{IsOfSides, KeepsOwn, all_keep}
 
 -- ---- a node
 

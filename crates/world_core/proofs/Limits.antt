@@ -1,11 +1,9 @@
 -- Each port stays set up as its link's entry has it, so that what it books is within what the entry allows.
-use Rattle.std.proofs.Common.{◌≡◌, ◌≢◌, ℕ, zero, suc, ◌+◌, ◌-◌, ◌*◌, ◌<◌, ◌≤◌, Bool, true, false, ◌||◌, if◌then◌else◌, List, [], ◌∷◌, ◌++◌, length, map, filter, refl, sym, ap, subst, ◌∙◌, arith}
+use Rattle.std.proofs.Common.{◌≡◌, ℕ, zero, suc, ◌+◌, ◌-◌, ◌*◌, ◌≤◌, Bool, true, false, ◌||◌, if◌then◌else◌, List, [], ◌∷◌, ◌++◌, map, filter, refl, sym, ap, subst, ◌∙◌, arith}
 use Rattle.std.specs.Prelude.{slice_get, slice_set, Option, Some, None, option_map, ◌==◌}
 use Rattle.std.specs.Option.{option_map_or}
 use Rattle.srp_base.specs.declared.numbers.Cs.{Cs}
-use Rattle.srp_base.specs.declared.numbers.PortNo.{PortNo}
 use Rattle.srp_base.specs.declared.numbers.BridgeId.{BridgeId}
-use Rattle.srp_base.specs.declared.numbers.EgressPort.{EgressPort}
 use Rattle.srp_base.specs.declared.bandwidth.Class.{Class}
 use Rattle.srp_base.specs.declared.bandwidth.Class.TheVariants.{A, B}
 use Rattle.srp_base.specs.declared.ports.PortSetup.{PortSetup}
@@ -19,19 +17,19 @@ use Rattle.topology_file.specs.declared.entries.LinkEntry.{LinkEntry}
 use Rattle.topology_file.specs.Plan.{Plan}
 use Rattle.mvrp.specs.Side.{place_of}
 use Rattle.msrp.specs.declared.port.Port.{Port}
-use Rattle.msrp.specs.Side.{IsPort, new_port, spoilt_streams}
+use Rattle.msrp.specs.Side.{IsPort, new_port}
 use Rattle.node_core.specs.declared.types.NodeEvent.{NodeEvent}
 use Rattle.node_core.specs.declared.types.NodeEvent.TheVariants as node_events
 use Rattle.node_core.specs.Links.{spoilt_at}
-use Rattle.node_core.specs.Proper.{IsProperNode, port_setups}
+use Rattle.node_core.specs.Proper.{port_setups}
 use Rattle.node_core.specs.State.{NodeState, slope_at}
 use Rattle.node_core.specs.Step.{node_step}
 use Rattle.world_core.specs.declared.events.WorldEvent.{WorldEvent}
 use Rattle.world_core.specs.declared.events.WorldEvent.TheVariants.{Request, Port as PortEvent, Lose, Repeat, Carry, Clock}
 use Rattle.world_core.specs.Kept.{IsKeptWorld}
-use Rattle.world_core.specs.Limits.{is_link_of, links_of, caps_of_link, no_caps, caps_at, booked_at_port, IsWithinCaps, IsWithinLimits}
+use Rattle.world_core.specs.Limits.{is_link_of, links_of, caps_of_link, no_caps, caps_at, booked_at_port, IsWithinLimits}
 use Rattle.world_core.specs.Start.{setup_of, end_setup, setups_from, world_of}
-use Rattle.world_core.specs.World.{WorldState, node_at}
+use Rattle.world_core.specs.World.{WorldState}
 use Rattle.world_core.proofs.Lists.{at_each, within, set_at}
 use Rattle.world_core.proofs.Beginnings.{new_at}
 use Rattle.world_core.proofs.EachNode.{AllNodes, IsOfSides, KeepsOwn}

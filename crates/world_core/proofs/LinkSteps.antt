@@ -7,7 +7,7 @@ use Rattle.std.proofs.lemmas.List.{append-nil}
 use Rattle.std.proofs.lemmas.List.Elements.{filter_map-append}
 use Rattle.srp_base.specs.declared.numbers.Cs.{Cs}
 use Rattle.mrp_participant.specs.State.{State, Messages, is_silent, declared_state, withdrawn_state, due_state, left_state, leave_all_state, periodic_state, received_state, sent_state, sent_messages}
-use Rattle.mrp_participant.specs.Link.{Link, LinkEvent, AreDutiesMet}
+use Rattle.mrp_participant.specs.Link.{Link, AreDutiesMet}
 use Rattle.mrp_participant.specs.Link.EndEvent.{Declares, Withdraws, Leaves, Fires, FiresLeaveAll, FiresPeriodic, Sends, Receives}
 use Rattle.mrp_participant.specs.Link.LinkEvent.{AtNear}
 use Rattle.node_core.specs.declared.types.Wire.{Wire}

@@ -38,7 +38,6 @@ use Rattle.node_core.specs.declared.types.PortStep.{PortStep}
 use Rattle.node_core.specs.State.{NodeState}
 use Rattle.node_core.specs.Step.{node_step}
 use Rattle.node_core.specs.Links.{with_outbox, with_carried, lost_at, repeated_at, spoilt_at}
-use Rattle.node_core.specs.Proper.{AsksInRange}
 use Rattle.world_core.specs.declared.events.WorldEvent.{WorldEvent}
 use Rattle.world_core.specs.declared.events.WorldEvent.TheVariants.{Request, Port, Lose, Repeat, Carry, Clock}
 use Rattle.world_core.specs.declared.journal.NodeSteps.{NodeSteps}

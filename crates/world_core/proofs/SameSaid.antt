@@ -5,7 +5,7 @@ use Rattle.std.specs.Prelude.{Option, None}
 use Rattle.std.specs.declared.cmp.Ordering.{Ordering}
 use Rattle.srp_base.specs.declared.mrp.MrpEvent.{MrpEvent}
 use Rattle.mrp_participant.specs.Lookup.{find, same}
-use Rattle.mrp_participant.specs.Duty.{IsDutyMet, OwesOf, held_in, held_after_event, held_hearing, held_after, hears, has_leave_all}
+use Rattle.mrp_participant.specs.Duty.{OwesOf, held_in, held_after_event, held_hearing, held_after, hears, has_leave_all}
 use Rattle.mrp_participant.specs.State.{State, Messages}
 use Rattle.mrp_participant.specs.Link.{AreDutiesMet}
 

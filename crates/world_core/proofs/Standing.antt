@@ -9,7 +9,6 @@ use Rattle.srp_base.specs.declared.numbers.EgressPort.{EgressPort}
 use Rattle.tree_topology.specs.Topology.{Topology, HasPort}
 use Rattle.tree_topology.specs.Ports.{peer_of}
 use Rattle.tree_topology.specs.PortLaws.{HasPortLaws}
-use Rattle.mvrp.specs.Side.{place_of}
 use Rattle.node_core.specs.State.{NodeState}
 use Rattle.node_core.specs.declared.types.AppRequest.{AppRequest}
 use Rattle.world_core.specs.declared.events.WorldEvent.{WorldEvent}
@@ -17,7 +16,7 @@ use Rattle.world_core.specs.declared.events.WorldEvent.TheVariants.{Request, Clo
 use Rattle.world_core.specs.declared.events.WorldReply.{WorldReply}
 use Rattle.world_core.specs.World.{WorldState, Happened, StandsAt, node_at, CanHappen}
 use Rattle.world_core.specs.Kept.{IsKeptWorld}
-use Rattle.world_core.proofs.Nodes.{Base, node_there, place_within}
+use Rattle.world_core.proofs.Nodes.{node_there, place_within}
 use Rattle.world_core.proofs.Keeping.{base_kept}
 
 -- a port of the tree stands at its node

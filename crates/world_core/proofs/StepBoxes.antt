@@ -1,5 +1,5 @@
 -- Which PDUs wait at a node after a step: a step of a port changes the boxes of that port alone.
-use Rattle.std.proofs.Common.{◌≡◌, ◌≢◌, ℕ, List, [], ◌∷◌, refl}
+use Rattle.std.proofs.Common.{◌≢◌, ℕ, List, [], ◌∷◌, refl}
 use Rattle.std.specs.Prelude.{slice_set, Option, Some, None}
 use Rattle.srp_base.specs.declared.mrp.App.{App}
 use Rattle.srp_base.specs.declared.mrp.App.TheVariants.{Mvrp, Msrp}

@@ -1,13 +1,10 @@
 -- What a node's steps make of the participants of MSRP. A PDU of MSRP reads as its events in the order of types, which say the
 -- same of each key as what was sent.
-use Rattle.std.proofs.Common.{◌≡◌, ◌≢◌, ℕ, zero, suc, ◌<◌, Bool, true, false, if◌then◌else◌, List, [], ◌∷◌, ◌++◌, length, map, fold, refl, sym, ap, subst, ◌∙◌, arith}
+use Rattle.std.proofs.Common.{◌≡◌, ◌≢◌, ℕ, zero, suc, Bool, true, false, if◌then◌else◌, List, [], ◌∷◌, ◌++◌, map, refl, sym, ap, subst, ◌∙◌, arith}
 use Rattle.std.proofs.lemmas.Option.{slice_get_within}
 use Rattle.std.specs.Prelude.{slice_get, slice_set, Option, Some, None, option_map, Result, Ok, Err}
 use Rattle.std.specs.Option.{option_map_or}
-use Rattle.std.specs.List.{AllByRecursion}
 use Rattle.srp_base.specs.declared.numbers.Cs.{Cs}
-use Rattle.srp_base.specs.declared.numbers.StreamId.{StreamId}
-use Rattle.srp_base.specs.declared.streams.Talker.{Talker}
 use Rattle.srp_base.specs.declared.mrp.App.{App}
 use Rattle.srp_base.specs.declared.mrp.App.TheVariants.{Mvrp, Msrp}
 use Rattle.msrp_codec.specs.declared.pdu.MsrpKey.{MsrpKey}
@@ -18,7 +15,7 @@ use Rattle.msrp_codec.specs.Meaning.{msrp_reading}
 use Rattle.msrp_codec.specs.Writing.{msrp_spelling, as_written, of_key}
 use Rattle.mrp_participant.specs.Duty.{IsDutyMet}
 use Rattle.mrp_participant.specs.Lookup.{same}
-use Rattle.mrp_participant.specs.State.{Messages, AreRows, is_silent, due_state, left_keys, left_state, leave_all_state, periodic_state, sent_messages}
+use Rattle.mrp_participant.specs.State.{Messages, AreRows, is_silent, due_state, left_keys, left_state, leave_all_state, periodic_state}
 use Rattle.mrp_participant.specs.Link.{Link, LinkEvent, AreDutiesMet, after_event, turned}
 use Rattle.msrp.specs.declared.port.Port.{Port}
 use Rattle.msrp.specs.declared.asking.SrpRequest.{SrpRequest}
@@ -36,7 +33,7 @@ use Rattle.node_core.specs.declared.types.Wire.{Wire}
 use Rattle.node_core.specs.declared.types.NodeKey.TheVariants.{Vlan, Srp}
 use Rattle.node_core.specs.declared.types.PortStep.{PortStep}
 use Rattle.node_core.specs.declared.types.PortStep.TheVariants.{Work, LeaveNow, LeaveAllNow, PeriodicNow, Due, Settle, Send}
-use Rattle.node_core.specs.State.{NodeState, box_at, ports_of}
+use Rattle.node_core.specs.State.{NodeState, box_at}
 use Rattle.node_core.specs.Step.{node_step, port_step, worked, worked_app, worked_msrp, said, sent_octets}
 use Rattle.node_core.specs.Links.{spoilt_at}
 use Rattle.node_core.specs.Proper.{IsProperNode}
@@ -46,7 +43,6 @@ use Rattle.world_core.proofs.Boxes.{box_got, box_set}
 use Rattle.world_core.proofs.Views.{AppView, LinkLaws, StepFacts, KeepsLink, unsound}
 use Rattle.world_core.proofs.Nodes.{outbox_there}
 use Rattle.world_core.proofs.LinkSteps.{KeepsNear, HasSpoken, declares, withdraws, leaves, fires, fires_leave_all, fires_periodic, all_keep, called, hearing, taken, spoken, unheard, still}
-use Rattle.world_core.proofs.SameSaid.{SaysSame}
 
 -- MSRP as the network's proofs see it
 abbrev pub stream_view : AppView MsrpKey MsrpContent

@@ -1,15 +1,13 @@
 -- Stations talk only what the plan has them talk, since each request to talk is of an entry of the plan at its station; and entries
 -- have different StreamIDs, so that no two stations talk one stream.
-use Rattle.std.proofs.Common.{◌≡◌, ◌≢◌, ◌⊎◌, inl, inr, ℕ, zero, suc, ◌+◌, ◌-◌, ◌<◌, ◌≤◌, Bool, true, false, if◌then◌else◌, List, [], ◌∷◌, ◌++◌, length, map, filter, get_or, refl, sym, ap, subst, ◌∙◌, arith}
-use Rattle.std.specs.Prelude.{slice_get, Option, Some, None, option_map, IfSome, is_some, find, ◌==◌}
-use Rattle.std.specs.List.{AllByRecursion, flat_map}
-use Rattle.std.proofs.lemmas.Bool.Decides.{nat_tests}
+use Rattle.std.proofs.Common.{◌≡◌, ◌≢◌, ◌⊎◌, inl, inr, ℕ, zero, suc, ◌+◌, ◌-◌, ◌<◌, ◌≤◌, Bool, true, false, if◌then◌else◌, List, [], ◌∷◌, ◌++◌, map, filter, get_or, refl, sym, ap, subst, ◌∙◌, arith}
+use Rattle.std.specs.Prelude.{slice_get, Option, Some, None, option_map, IfSome, is_some, ◌==◌}
+use Rattle.std.specs.List.{AllByRecursion}
 use Rattle.std.proofs.lemmas.Option.{slice_get_within}
 use Rattle.srp_base.specs.declared.numbers.EgressPort.{EgressPort}
 use Rattle.srp_base.specs.declared.numbers.NodeNo.{NodeNo}
 use Rattle.srp_base.specs.declared.numbers.StreamId.{StreamId}
 use Rattle.srp_base.specs.declared.streams.Talker.{Talker}
-use Rattle.tree_topology.specs.Topology.{HasPort}
 use Rattle.topology_file.specs.declared.entries.StreamEntry.{StreamEntry}
 use Rattle.topology_file.specs.declared.entries.EventEntry.{EventEntry}
 use Rattle.topology_file.specs.declared.entries.EventKind.{EventKind}
@@ -18,17 +16,14 @@ use Rattle.topology_file.specs.Kinds.{IsStationNumber}
 use Rattle.topology_file.specs.Plan.{Plan}
 use Rattle.topology_file.specs.Scenario.{KeepsRules}
 use Rattle.mvrp.specs.Side.{place_of}
-use Rattle.msrp.specs.declared.asking.SrpRequest.{SrpRequest}
-use Rattle.msrp.specs.declared.asking.SrpRequest.TheVariants as asks
 use Rattle.msrp.specs.Stream.{talk_of}
-use Rattle.msrp.specs.Side.{Streams, is_talk, has_talk, has_listen, reasked, talks_without, listens_without, requested_streams}
+use Rattle.msrp.specs.Side.{Streams, is_talk, has_talk, has_listen, reasked, talks_without, listens_without}
 use Rattle.node_core.specs.declared.types.AppRequest.{AppRequest}
 use Rattle.node_core.specs.declared.types.AppRequest.TheVariants.{Declare, Withdraw, Talk, Hush, Listen, Unlisten}
 use Rattle.node_core.specs.declared.types.NodeEvent.TheVariants as node_events
 use Rattle.node_core.specs.declared.types.NodeStep.{NodeStep}
-use Rattle.node_core.specs.Links.{spoilt_at}
 use Rattle.node_core.specs.State.{NodeState}
-use Rattle.node_core.specs.Step.{node_step, port_step, clocked_node}
+use Rattle.node_core.specs.Step.{node_step}
 use Rattle.world_core.specs.declared.events.WorldEvent.{WorldEvent}
 use Rattle.world_core.specs.declared.events.WorldEvent.TheVariants.{Request, Port, Lose, Repeat, Carry, Clock}
 use Rattle.world_core.specs.declared.journal.NodeSteps.{NodeSteps}
@@ -37,7 +32,7 @@ use Rattle.world_core.specs.Moments.{events_from}
 use Rattle.world_core.specs.Start.{world_of}
 use Rattle.world_core.specs.Talks.{IsTalkOfPlan, AreTalksOfPlan, HasOneTalker}
 use Rattle.world_core.specs.Ticks.{talker_of_entry, stream_at, event_of, with_event, scripted_from, scripted, step_events, closing_events, link_ports, tick_events}
-use Rattle.world_core.specs.World.{WorldState, world_step, world_after}
+use Rattle.world_core.specs.World.{WorldState}
 use Rattle.world_core.proofs.Lists.{all_each, at_each, decide}
 use Rattle.world_core.proofs.Beginnings.{new_at}
 use Rattle.world_core.proofs.EachNode.{AllNodes, IsOfSides, KeepsOwn}

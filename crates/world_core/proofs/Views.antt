@@ -3,11 +3,10 @@
 use Rattle.std.proofs.Common.{◌≡◌, ◌≢◌, ℕ, ◌<◌, Bool, false, List, ◌++◌, refl, subst}
 use Rattle.std.specs.Prelude.{Option, Some, None, filter_map}
 use Rattle.std.specs.declared.cmp.Ordering.{Ordering}
-use Rattle.srp_base.specs.declared.numbers.Cs.{Cs}
 use Rattle.srp_base.specs.declared.mrp.App.{App}
 use Rattle.mrp_participant.specs.Duty.{IsDutyMet}
 use Rattle.mrp_participant.specs.State.{State, Messages}
-use Rattle.mrp_participant.specs.Link.{Link, LinkEvent, AreDutiesMet, after_event, new_link, turned}
+use Rattle.mrp_participant.specs.Link.{Link, LinkEvent, AreDutiesMet, after_event, turned}
 use Rattle.node_core.specs.declared.types.AppRequest.{AppRequest}
 use Rattle.node_core.specs.declared.types.NodeEvent.TheVariants as node_events
 use Rattle.node_core.specs.declared.types.PortStep.{PortStep}

@@ -1,9 +1,8 @@
 -- What a node's steps make of the participants of MVRP.
-use Rattle.std.proofs.Common.{◌≡◌, ◌≢◌, ℕ, zero, suc, ◌<◌, Bool, true, false, if◌then◌else◌, List, [], ◌∷◌, ◌++◌, length, map, fold, refl, sym, ap, subst, ◌∙◌}
+use Rattle.std.proofs.Common.{◌≡◌, ◌≢◌, ℕ, Bool, true, false, if◌then◌else◌, List, [], ◌∷◌, ◌++◌, map, refl, sym, ap, subst, ◌∙◌}
 use Rattle.std.proofs.lemmas.Option.{slice_get_within}
 use Rattle.std.specs.Prelude.{slice_get, slice_set, Option, Some, None, option_map, Result, Ok, Err}
 use Rattle.std.specs.Option.{option_map_or}
-use Rattle.std.specs.List.{AllByRecursion}
 use Rattle.std.specs.Ordering.{nat_cmp}
 use Rattle.srp_base.specs.declared.numbers.Cs.{Cs}
 use Rattle.srp_base.specs.declared.mrp.App.{App}
@@ -25,8 +24,8 @@ use Rattle.node_core.specs.declared.types.Wire.{Wire}
 use Rattle.node_core.specs.declared.types.NodeKey.TheVariants.{Vlan, Srp}
 use Rattle.node_core.specs.declared.types.PortStep.{PortStep}
 use Rattle.node_core.specs.declared.types.PortStep.TheVariants.{Work, LeaveNow, LeaveAllNow, PeriodicNow, Due, Settle, Send}
-use Rattle.node_core.specs.State.{NodeState, box_at, ports_of}
-use Rattle.node_core.specs.Step.{node_step, port_step, worked, worked_app, worked_mvrp, said, said_mvrp, sent_octets}
+use Rattle.node_core.specs.State.{NodeState, box_at}
+use Rattle.node_core.specs.Step.{node_step, port_step, worked, worked_app, worked_mvrp, said, sent_octets}
 use Rattle.node_core.specs.Links.{spoilt_at}
 use Rattle.node_core.specs.Proper.{IsProperNode}
 use Rattle.world_core.specs.Duty.{said_by, vlans_said, message_of, vlan_place}
@@ -35,7 +34,6 @@ use Rattle.world_core.proofs.Boxes.{box_got, box_set}
 use Rattle.world_core.proofs.Views.{AppView, LinkLaws, StepFacts, KeepsLink, unsound}
 use Rattle.world_core.proofs.Nodes.{outbox_there}
 use Rattle.world_core.proofs.LinkSteps.{KeepsNear, HasSpoken, declares, withdraws, leaves, fires, fires_leave_all, fires_periodic, all_keep, by_call, called, hearing, taken, spoken, unheard, still}
-use Rattle.world_core.proofs.SameSaid.{SaysSame}
 
 -- MVRP as the network's proofs see it
 abbrev pub vlan_view : AppView ℕ (Unit {0})

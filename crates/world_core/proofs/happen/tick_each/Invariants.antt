@@ -1,4 +1,4 @@
-use Rattle.std.specs.Prelude.{ℕ, ◌+◌, length}
+use Rattle.std.specs.Prelude.{◌+◌, length}
 use Rattle.msrp.specs.Side.{next_sets}
 use Rattle.node_core.specs.State.{NodeState}
 use Rattle.node_core.specs.Step.{clocked_node}

@@ -1,4 +1,4 @@
-use Rattle.std.proofs.Common.{sym, ap, take, ◌∙◌}
+use Rattle.std.proofs.Common.{ap, take, ◌∙◌}
 use Rattle.world_core.specs.Moments.{events_from}
 use Rattle.world_core.specs.Start.{world_of}
 use Rattle.world_core.specs.World.{WorldState}
