@@ -18,7 +18,7 @@ use Rattle.stream_importance.specs.declared.entry.Want.{Want}
 use Rattle.msrp_codec.specs.declared.pdu.MsrpKey.{MsrpKey}
 use Rattle.msrp_codec.specs.declared.pdu.MsrpKey.TheVariants as keys
 use Rattle.msrp_codec.specs.declared.pdu.MsrpContent.{MsrpContent}
-use Rattle.msrp_codec.specs.declared.pdu.MsrpContent.TheVariants.{Advertise, Failed, Listener, Domain}
+use Rattle.msrp_codec.specs.declared.pdu.MsrpContent.TheVariants.{Advertise, Failed, Listener}
 use Rattle.tree_topology.specs.declared.graph.Link.{Link}
 use Rattle.tree_topology.specs.Ports.{peer_of}
 use Rattle.registrar.specs.declared.Registrar.{Registrar}
@@ -78,7 +78,7 @@ abbrev pub vlan_line : List ℕ → ℕ → Registrar → List ℕ
 vlan_line port vid state = joined (
     codes "vlan " ∷ port ∷ codes " " ∷ decimal vid ∷ codes " " ∷ state_name state ∷ codes "\n" ∷ [])
 
--- `talker P ID advertise latency L S`, or `talker P ID failed bridge B code C latency L S`; L in ns
+-- the pieces of a Talker's line: the port and the stream; why it failed, and where; its latency in ns, and its Registrar
 abbrev pub talker_start : List ℕ → StreamId → List ℕ
 talker_start port stream = codes "talker " ++ port ++ codes " " ++ hex16_text stream.0
 
@@ -89,6 +89,8 @@ failure_text failure = joined (
 abbrev pub talker_end : ℕ → Registrar → List ℕ
 talker_end latency state = joined (decimal latency ∷ codes " " ∷ state_name state ∷ codes "\n" ∷ [])
 
+-- `talker P ID advertise latency L S`, or `talker P ID failed bridge B code C latency L S`; of a Talker nothing but what a
+-- Talker declares is registered, so that the last case doesn't occur
 abbrev pub talker_line : List ℕ → StreamId → Option MsrpContent → Registrar → List ℕ
 talker_line port stream (Some (Advertise talker)) state =
     talker_start port stream ++ codes " advertise latency " ++ talker_end talker.latency state
@@ -96,7 +98,7 @@ talker_line port stream (Some (Failed talker failure)) state =
     talker_start port stream ++ failure_text failure ++ talker_end talker.latency state
 talker_line port stream _ state = []
 
--- `listener P ID K S`
+-- `listener P ID K S`; of Listeners nothing but what a Listener declares is registered, as above
 abbrev pub listener_line : List ℕ → StreamId → Option MsrpContent → Registrar → List ℕ
 listener_line port stream (Some (Listener kind)) state = joined (
     codes "listener " ∷ port ∷ codes " " ∷ hex16_text stream.0 ∷ codes " " ∷ kind_name kind
@@ -109,7 +111,7 @@ srp_line port (keys.Talker stream) content state = talker_line port stream conte
 srp_line port (keys.Listener stream) content state = listener_line port stream content state
 srp_line port (keys.Domain class) content state = []
 
--- `booked P ID A slope S since T`, or with `B`; S in bit/s and T in cs
+-- `booked P ID A slope S since T`, or with `B`; S in bit/s and T in cs; what is booked has a moment
 abbrev pub want_line : List ℕ → Want → Option Cs → List ℕ
 want_line port want None = []
 want_line port want (Some since) = joined (

@@ -112,6 +112,13 @@ got_map f [] i = refl
 got_map f (x ∷ xs) zero = refl
 got_map f (x ∷ xs) (suc i) = got_map f xs i
 
+-- the caps of a port by how it is set up
+port_caps : (ports : List Port) (i : ℕ) (p : Port) → slice_get ports i ≡ Some p
+    → slice_get (map (λ (c : PortConfig × Caps). c.1) (map (λ (q : Port). (q.config, q.ledger.caps)) ports)) i ≡ Some p.ledger.caps
+port_caps [] i p is = cc
+port_caps (q ∷ ports) zero p is = let same : q ≡ p = cc in ap (λ (x : Port). Some x.ledger.caps) same
+port_caps (q ∷ ports) (suc i) p is = port_caps ports i p is
+
 -- a port's caps are those of its link
 caps_are : (o : Option LinkEntry) (c : Caps) → Some c ≡ option_map caps_of_link o → option_map_or caps_of_link o no_caps ≡ c
 caps_are None c e = cc
@@ -138,9 +145,7 @@ within_limits laws plan w tree kept set_up p has =
     let caps : caps_at plan p ≡ port.0.ledger.caps =
     ap (λ (k : ℕ). option_map_or caps_of_link (slice_get (links_of k plan) (place_of p.port)) no_caps) (sym number)
     ∙ caps_are (slice_get (links_of (p.node.0 - 1 + 1) plan) (place_of p.port)) port.0.ledger.caps
-    (sym (got_map (λ (c : PortConfig × Caps). c.1) (port_setups s) (place_of p.port)
-    ∙ (ap (option_map (λ (c : PortConfig × Caps). c.1)) (got_map (λ (q : Port). (q.config, q.ledger.caps)) s.streams.ports (place_of p.port))
-    ∙ ap (λ (o : Option Port). option_map (λ (c : PortConfig × Caps). c.1) (option_map (λ (q : Port). (q.config, q.ledger.caps)) o)) port.1))
+    (sym (port_caps s.streams.ports (place_of p.port) port.0 port.1)
     ∙ (ap (λ cs. slice_get cs (place_of p.port)) (set_up (p.node.0 - 1) s node.1)
     ∙ got_map caps_of_link (links_of (p.node.0 - 1 + 1) plan) (place_of p.port))) in
     let slope : (class : Class) → booked_at_port class p w ≡ booked_slope port.0.ledger.entries class =

@@ -141,15 +141,27 @@ pub fn every_moment_keeps_it()
     every_event_of_a_run_may_happen();
 }
 
-/// At every moment of a legal run no port has booked more than its link's entry allows.
+/// After every list of events that may happen, losses and repeats included, no port has booked more than its link's entry
+/// allows.
+pub fn every_list_of_events_keeps_limits()
+    ensures { (plan : Plan) (es : List WorldEvent) → KeepsRules plan
+        → CanAllHappen es (world_of plan) → AllByRecursion IsEventInRange es
+        → IsWithinLimits plan (world_after es (world_of plan)) }
+{
+    a_scenario_begins_well();
+    every_event_keeps_it();
+    a_port_stays_set_up();
+    bookings_are_within_caps();
+}
+
+/// So it is at every moment of a legal run.
 pub fn every_moment_is_within_limits()
     ensures { (plan : Plan) (ticks : List Tick) (end w : WorldState) → KeepsRules plan
         → AreLegalTicks plan ticks end
         → IsMoment plan ticks w → IsWithinLimits plan w }
 {
-    every_moment_keeps_it();
-    a_port_stays_set_up();
-    bookings_are_within_caps();
+    every_list_of_events_keeps_limits();
+    every_event_of_a_run_may_happen();
 }
 
 /// At every moment of a legal run the stations talk only what the scenario has them talk, so that no two talk one stream.

@@ -9,6 +9,7 @@ ghost use Rattle.world_core.specs.World.{CanHappen};
 use crate::WorldEvent::{Carry, Clock, Lose, Port, Repeat, Request};
 use crate::WorldReply::{Done, Missed, Step};
 use crate::{World, WorldEvent, WorldReply};
+use msrp_codec::MsrpKey;
 use node_core::PortStep::{Send, Settle, Work};
 use node_core::StepReply::{Nothing, Received, Sent, Settled, Silent, Taken};
 use node_core::{AppRequest, NodeKey};

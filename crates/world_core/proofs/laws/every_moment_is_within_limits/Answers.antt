@@ -1,15 +1,14 @@
-use Rattle.std.proofs.Common.{ap, take, ◌∙◌}
+use Rattle.std.proofs.Common.{sym, subst, take}
+use Rattle.world_core.specs.Limits.{IsWithinLimits}
 use Rattle.world_core.specs.Moments.{events_from}
 use Rattle.world_core.specs.Start.{world_of}
-use Rattle.world_core.specs.World.{WorldState}
-use Rattle.world_core.proofs.Limits.{IsSetUp, set_up_sides, set_up_own, set_up_start, within_limits}
-use Rattle.world_core.proofs.Runs.{at_moment, each_event, trees_stay}
+use Rattle.world_core.specs.World.{IsEventInRange}
+use Rattle.world_core.proofs.Runs.{can_take, each_take}
 use Rattle.world_core.proofs.laws.every_moment_is_within_limits.Goals as goal
 
 pub returns : goal.returns
 returns c = λ plan ticks end w rules legal moment.
-    within_limits (record { class_a = c.bookings_are_within_caps.ensures.class_a; both = c.bookings_are_within_caps.ensures.both }) plan w
-    (ap (λ (v : WorldState). v.tree) moment.reached ∙ trees_stay (take moment.count (events_from plan 0 ticks)) (world_of plan))
-    (c.every_moment_keeps_it.ensures plan ticks end w rules legal moment)
-    (at_moment (IsSetUp plan) (set_up_sides plan) _ (λ e v ok. set_up_own c.a_port_stays_set_up.ensures.ports plan e v) plan ticks w
-    (each_event (events_from plan 0 ticks)) (set_up_start plan) moment)
+    subst (IsWithinLimits plan) (sym moment.reached)
+    (c.every_list_of_events_keeps_limits.ensures plan (take moment.count (events_from plan 0 ticks)) rules
+    (can_take moment.count (events_from plan 0 ticks) (world_of plan) (c.every_event_of_a_run_may_happen.ensures.can plan ticks end rules legal))
+    (each_take IsEventInRange moment.count (events_from plan 0 ticks) (c.every_event_of_a_run_may_happen.ensures.named plan ticks end rules legal)))
