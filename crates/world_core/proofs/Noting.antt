@@ -23,7 +23,7 @@ use Rattle.world_core.proofs.PortOrder.{IsBefore, Ascend, IsIn, AreAt, AreInOrde
 
 -- ---- the ports of a tree
 
-each_of_range : (P : ℕ → Type 0) (a n : ℕ) → ((k : ℕ) → a ≤ k → k < a + n → P k) → AllByRecursion P (range_with_len a n)
+pub each_of_range : (P : ℕ → Type 0) (a n : ℕ) → ((k : ℕ) → a ≤ k → k < a + n → P k) → AllByRecursion P (range_with_len a n)
 each_of_range P a zero h = tt
 each_of_range P a (suc n) h = (h a (omega arith) (omega arith), each_of_range P (a + 1) n (λ k from below. h k (omega (arith, from)) (omega (arith, below))))
 

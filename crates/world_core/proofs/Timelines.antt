@@ -61,7 +61,7 @@ length_one_more (y ∷ xs) x = ap suc (length_one_more xs x)
 
 -- ---- one tick more
 
-after_both : (es fs : List WorldEvent) (w : WorldState) → world_after (es ++ fs) w ≡ world_after fs (world_after es w)
+pub after_both : (es fs : List WorldEvent) (w : WorldState) → world_after (es ++ fs) w ≡ world_after fs (world_after es w)
 after_both [] fs w = refl
 after_both (e ∷ es) fs w = after_both es fs (world_step e w).0
 
