@@ -48,15 +48,18 @@ module _ (laws : TimelineLaws) (plan : Plan) (t : ℕ) (ticks : List Tick) (w v 
   u = after_steps plan t tick w
 
   unfolding u
+
   u_reached : u ≡ after_steps plan (length ticks) tick (world_after_ticks plan ticks)
   u_reached =
       ap (λ (x : WorldState). after_steps plan t tick x) before.reached ∙ ap (λ (k : ℕ). after_steps plan k tick (world_after_ticks plan ticks)) (sym before.many)
 
   unfolding u
+
   u_tree : u.tree ≡ plan.tree
   u_tree = laws.trees (step_events tick.steps) (after_script plan t w) ∙ laws.trees (map (λ (e : ℕ × WorldEvent). e.1) (scripted plan t)) w ∙ before.run.during.tree_is
 
   unfolding u
+
   v_closes : v ≡ world_after (closing_events plan.tree) u
   v_closes =
       let script : List WorldEvent = map (λ (e : ℕ × WorldEvent). e.1) (scripted plan t) in
@@ -76,14 +79,16 @@ module _ (laws : TimelineLaws) (plan : Plan) (t : ℕ) (ticks : List Tick) (w v 
   both =
       elim is [
         | inl e ↦ (
-            subst (λ (cs : List PortChange). IsTimelineOf plan (ticks ++ tick ∷ []) cs) (ap (λ (k : ℕ). noted k u changes) before.many ∙ sym e)
-            (laws.noted plan ticks tick changes u before.timeline u_reached u_tree),
-            subst (λ (cs : List PortChange). SaysFrom (t + 1) cs v) (sym e) (says_later (noted t u changes) (laws.from t u changes are)))
+          subst (λ (cs : List PortChange). IsTimelineOf plan (ticks ++ tick ∷ []) cs) (ap (λ (k : ℕ). noted k u changes) before.many ∙ sym e)
+              (laws.noted plan ticks tick changes u before.timeline u_reached u_tree),
+          subst (λ (cs : List PortChange). SaysFrom (t + 1) cs v) (sym e) (says_later (noted t u changes) (laws.from t u changes are)),
+        )
         | inr h ↦ (
-            let here : SaysFrom t changes u = subst (SaysFrom t changes) (sym h.0) before.says in
-            (subst (λ (cs : List PortChange). IsTimelineOf plan (ticks ++ tick ∷ []) cs) (sym h.1)
-            (laws.same plan ticks tick changes u before.timeline u_reached u_tree (subst (λ (k : ℕ). SaysFrom k changes u) (sym before.many) here)),
-            subst (λ (cs : List PortChange). SaysFrom (t + 1) cs v) (sym h.1) (says_later changes here)))
+            let here : SaysFrom t changes u = subst (SaysFrom t changes) (sym h.0) before.says in (
+              subst (λ (cs : List PortChange). IsTimelineOf plan (ticks ++ tick ∷ []) cs) (sym h.1)
+                  (laws.same plan ticks tick changes u before.timeline u_reached u_tree (subst (λ (k : ℕ). SaysFrom k changes u) (sym before.many) here)),
+              subst (λ (cs : List PortChange). SaysFrom (t + 1) cs v) (sym h.1) (says_later changes here),
+            ))
       ]
 
   pub one_noted : IsRunTo plan (t + 1) (ticks ++ tick ∷ []) v next → IsNotedTo plan (t + 1) (ticks ++ tick ∷ []) v next after

@@ -184,8 +184,11 @@ module _ (laws : DuringLaws) (plan : Plan) (rules : KeepsRules plan) (t : ℕ) (
     is_noted before after (inl e) = inl (e ∙ ap (λ (u : WorldState). noted t u before) steps_reach)
     is_noted before after (inr h) =
         let script = nothing_scripted (scripted plan t) w (sym made.answers ∙ h.0) in
-        inr (ap (λ (nodes : List NodeSteps). world_after (step_events nodes) (after_script plan t w)) h.1
-        ∙ ap (λ (es : List (ℕ × WorldEvent)). world_after (map (λ e. e.1) es) w) script, h.2)
+        inr (
+          ap (λ (nodes : List NodeSteps). world_after (step_events nodes) (after_script plan t w)) h.1
+              ∙ ap (λ (es : List (ℕ × WorldEvent)). world_after (map (λ e. e.1) es) w) script,
+          h.2,
+        )
 
     -- the tick is canonical
     pub canonical_tick : IsCanonicalTick plan t w tick

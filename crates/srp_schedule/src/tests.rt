@@ -51,10 +51,7 @@ fn a_declaration_is_settled_and_sent_in_its_tick(rt: HostRuntime) -> Result<(), 
         made(Send(App::Mvrp), Sent(12)),
         made(Send(App::Msrp), Silent),
     ];
-    let silent = [
-        made(Send(App::Mvrp), Silent),
-        made(Send(App::Msrp), Silent),
-    ];
+    let silent = [made(Send(App::Mvrp), Silent), made(Send(App::Msrp), Silent)];
     let nodes = last.steps.as_slice();
     assert_eq!(rt; nodes.len(), 2);
     has_made(&rt, nodes.first(), NodeNo(1), declarer.as_slice());

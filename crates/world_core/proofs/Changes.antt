@@ -61,9 +61,10 @@ own_tick before c after h =
 
 each_own : (before after : List PortChange) → AreInOrder after → AllByRecursion (λ c. in_force c.tick (changes_at (before ++ after) c.at) ≡ Some c) after
 each_own before [] up = tt
-each_own before (c ∷ after) up =
-    (own_tick before c after up.0,
-    subst (λ (all : List PortChange). AllByRecursion (λ d. in_force d.tick (changes_at all d.at) ≡ Some d) after) (append_assoc before (c ∷ []) after) (each_own (before ++ c ∷ []) after up.1))
+each_own before (c ∷ after) up = (
+  own_tick before c after up.0,
+  subst (λ (all : List PortChange). AllByRecursion (λ d. in_force d.tick (changes_at all d.at) ≡ Some d) after) (append_assoc before (c ∷ []) after) (each_own (before ++ c ∷ []) after up.1),
+)
 
 -- ---- what is in force after a tick's steps is so at a moment
 

@@ -183,22 +183,26 @@ module _ (plan : Plan) (rules : KeepsRules plan) where
         let less : i + 1 - 1 ≡ i = omega arith in
         let link : link_at links (i + 1) ≡ ends_of_entry e = ap (λ (j : ℕ). get_or links j none) less ∙ get_link plan.links i e none is in
         let rates : List Rate = map (λ (l : LinkEntry). l.rate) plan.links in
-        let rate : get_or rates (i + 1 - 1) M100 ≡ e.rate = ap (λ (j : ℕ). get_or rates j M100) less ∙ get_rate plan.links i e M100 is in
-        (subst (λ (l : Link). (caps_at plan (port_to links l.a.0 l.b.0)).both < bits_of (get_or rates (i + 1 - 1) M100)) (sym link)
-        (subst (λ (r : Rate). (caps_at plan (port_to links e.a.0 e.b.0)).both < bits_of r) (sym rate) below_a),
-        (subst (λ (l : Link). (caps_at plan (port_to links l.b.0 l.a.0)).both < bits_of (get_or rates (i + 1 - 1) M100)) (sym link)
-        (subst (λ (r : Rate). (caps_at plan (port_to links e.b.0 e.a.0)).both < bits_of r) (sym rate) below_b), tt))
+        let rate : get_or rates (i + 1 - 1) M100 ≡ e.rate = ap (λ (j : ℕ). get_or rates j M100) less ∙ get_rate plan.links i e M100 is in (
+          subst (λ (l : Link). (caps_at plan (port_to links l.a.0 l.b.0)).both < bits_of (get_or rates (i + 1 - 1) M100)) (sym link)
+              (subst (λ (r : Rate). (caps_at plan (port_to links e.a.0 e.b.0)).both < bits_of r) (sym rate) below_a),
+          (
+            subst (λ (l : Link). (caps_at plan (port_to links l.b.0 l.a.0)).both < bits_of (get_or rates (i + 1 - 1) M100)) (sym link)
+                (subst (λ (r : Rate). (caps_at plan (port_to links e.b.0 e.a.0)).both < bits_of r) (sym rate) below_b),
+            tt,
+          ),
+        )
 
   each_below : AllByRecursion IsBelow (all_places links (map (λ (l : LinkEntry). l.rate) plan.links))
   each_below =
       let rates : List Rate = map (λ (l : LinkEntry). l.rate) plan.links in
       each_flat IsBelow (λ n. (1 ≤ n) × (n ≤ length links)) (places_of_link links rates)
       (λ n here.
-        let i = n - 1 in
-        let next : i + 1 ≡ n = omega arith in
-        let lt : i < length plan.links = omega (arith, here.0, here.1, length-map plan.links ends_of_entry) in
-        let entry = within plan.links i lt in
-        subst (λ (k : ℕ). AllByRecursion IsBelow (places_of_link links rates k)) next (below_both i entry.0 entry.1))
+      let i = n - 1 in
+      let next : i + 1 ≡ n = omega arith in
+      let lt : i < length plan.links = omega (arith, here.0, here.1, length-map plan.links ends_of_entry) in
+      let entry = within plan.links i lt in
+      subst (λ (k : ℕ). AllByRecursion IsBelow (places_of_link links rates k)) next (below_both i entry.0 entry.1))
       (range_with_len 1 (length links))
       (each_of_range (λ n. (1 ≤ n) × (n ≤ length links)) 1 (length links) (λ k from less. (from, omega (arith, less))))
 
