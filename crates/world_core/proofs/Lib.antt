@@ -27,3 +27,5 @@ mod Picked
 mod LastChange
 mod Forces
 mod Timelines
+mod Changes
+mod Places

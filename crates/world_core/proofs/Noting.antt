@@ -23,7 +23,7 @@ use Rattle.world_core.proofs.PortOrder.{IsBefore, Ascend, IsIn, AreAt, AreInOrde
 
 -- ---- the ports of a tree
 
-each_of_range : (P : ℕ → Type 0) (a n : ℕ) → ((k : ℕ) → a ≤ k → k < a + n → P k) → AllByRecursion P (range_with_len a n)
+pub each_of_range : (P : ℕ → Type 0) (a n : ℕ) → ((k : ℕ) → a ≤ k → k < a + n → P k) → AllByRecursion P (range_with_len a n)
 each_of_range P a zero h = tt
 each_of_range P a (suc n) h = (h a (omega arith) (omega arith), each_of_range P (a + 1) n (λ k from below. h k (omega (arith, from)) (omega (arith, below))))
 
@@ -33,9 +33,11 @@ each_of_map P f (x ∷ xs) h = (h.0, each_of_map P f xs h.1)
 
 ports_ascend : (x a n : ℕ) → Ascend (map (port_of x) (range_with_len a n))
 ports_ascend x a zero = tt
-ports_ascend x a (suc n) =
-    (each_of_map (IsBefore (port_of x a)) (port_of x) (range_with_len (a + 1) n)
-    (each_of_range (λ k. IsBefore (port_of x a) (port_of x k)) (a + 1) n (λ k from below. inr (refl, omega (arith, from)))), ports_ascend x (a + 1) n)
+ports_ascend x a (suc n) = (
+  each_of_map (IsBefore (port_of x a)) (port_of x) (range_with_len (a + 1) n)
+      (each_of_range (λ k. IsBefore (port_of x a) (port_of x k)) (a + 1) n (λ k from below. inr (refl, omega (arith, from)))),
+  ports_ascend x (a + 1) n,
+)
 
 ascend_joined : (ps qs : List EgressPort) → Ascend ps → Ascend qs → AllByRecursion (λ p. AllByRecursion (IsBefore p) qs) ps → Ascend (ps ++ qs)
 ascend_joined [] qs up later h = later
@@ -85,9 +87,9 @@ in_nodes links p a zero from below some few = absurd (omega (arith, from, below)
 in_nodes links p a (suc n) from below some few =
     elim (cases_Bool (a == p.node.0)) [
       | inl is ↦ in_left p (ports_at links a) (flat_map (ports_at links) (range_with_len (a + 1) n))
-      (subst (λ (x : ℕ). IsIn p (ports_at links x)) (sym (eqb-true a p.node.0 is)) (in_ports p 1 (length (neighbours links p.node.0)) some (omega arith)))
+          (subst (λ (x : ℕ). IsIn p (ports_at links x)) (sym (eqb-true a p.node.0 is)) (in_ports p 1 (length (neighbours links p.node.0)) some (omega arith)))
       | inr nay ↦ in_right p (ports_at links a) (flat_map (ports_at links) (range_with_len (a + 1) n))
-      (in_nodes links p (a + 1) n (let differ : a ≡ p.node.0 → ⊥ = eqb-false a p.node.0 nay in omega arith) (omega arith) some few)
+          (in_nodes links p (a + 1) n (let differ : a ≡ p.node.0 → ⊥ = eqb-false a p.node.0 nay in omega arith) (omega arith) some few)
     ]
 
 pub has_port_in : (tree : Topology) (p : EgressPort) → HasPort tree p → IsIn p (tree_ports tree)

@@ -114,9 +114,10 @@ order_filter t (x ∷ xs) h =
 -- between pairs of places and recursion
 pub order_from_pairs : (cs : List PortChange) → AllPairs IsEarlier cs → AreInOrder cs
 order_from_pairs [] h = tt
-order_from_pairs (c ∷ cs) h =
-    (recursion_from_All (IsEarlier c) cs (λ k d below. h zero (suc k) d (omega arith) (omega (arith, below))),
-    order_from_pairs cs (λ i j d lt below. h (suc i) (suc j) d (omega (arith, lt)) (omega (arith, below))))
+order_from_pairs (c ∷ cs) h = (
+  recursion_from_All (IsEarlier c) cs (λ k d below. h zero (suc k) d (omega arith) (omega (arith, below))),
+  order_from_pairs cs (λ i j d lt below. h (suc i) (suc j) d (omega (arith, lt)) (omega (arith, below))),
+)
 
 pub pairs_from_order : (cs : List PortChange) → AreInOrder cs → AllPairs IsEarlier cs
 pairs_from_order [] h = λ i j d lt below. absurd (omega (arith, below))
@@ -245,7 +246,7 @@ not_here p ps (c ∷ cs) h =
     elim (cases_Bool (is_port c.at p)) [
       | inl is ↦ subst (AllByRecursion (λ (d : PortChange). IsIn d.at ps)) (sym (cond-false (not (is_port c.at p)) (c ∷ others p cs) (others p cs) (not_from_true (is_port c.at p) is))) (not_here p ps cs h.1)
       | inr nay ↦ subst (AllByRecursion (λ (d : PortChange). IsIn d.at ps)) (sym (cond-true (not (is_port c.at p)) (c ∷ others p cs) (others p cs) (not_from_false (is_port c.at p) nay)))
-      (elim h.0 [ inl e ↦ absurd (false≢true (sym nay ∙ is_same_port c.at p (sym e))) | inr there ↦ there ], not_here p ps cs h.1)
+          (elim h.0 [ inl e ↦ absurd (false≢true (sym nay ∙ is_same_port c.at p (sym e))) | inr there ↦ there ], not_here p ps cs h.1)
     ]
 
 after_in : (p q : EgressPort) (qs : List EgressPort) → AllByRecursion (IsBefore p) qs → IsIn q qs → IsBefore p q

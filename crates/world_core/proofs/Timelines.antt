@@ -61,7 +61,7 @@ length_one_more (y ∷ xs) x = ap suc (length_one_more xs x)
 
 -- ---- one tick more
 
-after_both : (es fs : List WorldEvent) (w : WorldState) → world_after (es ++ fs) w ≡ world_after fs (world_after es w)
+pub after_both : (es fs : List WorldEvent) (w : WorldState) → world_after (es ++ fs) w ≡ world_after fs (world_after es w)
 after_both [] fs w = refl
 after_both (e ∷ es) fs w = after_both es fs (world_step e w).0
 
@@ -94,18 +94,23 @@ steps_push plan ticks tick t w h =
     elim (get_push ticks tick h.tick t h.at) [
       | inl k ↦ (
           let lt = k.0 in
-          inl (lt, record {
-            tick = h.tick;
-            at = k.1;
-            reached = h.reached ∙ ap (λ (xs : List Tick). after_steps plan t h.tick (world_after_ticks plan xs)) (take_push ticks tick t (omega arith));
-          }))
+          inl (
+            lt,
+            record {
+              tick = h.tick;
+              at = k.1;
+              reached = h.reached ∙ ap (λ (xs : List Tick). after_steps plan t h.tick (world_after_ticks plan xs)) (take_push ticks tick t (omega arith));
+            },
+          ))
       | inr k ↦ (
           let e = k.0 in
-          inr (e,
-          h.reached ∙ ap (λ (x : Tick). after_steps plan t x (world_after_ticks plan (take t (ticks ++ tick ∷ [])))) (sym k.1)
-          ∙ ap (λ (xs : List Tick). after_steps plan t tick (world_after_ticks plan xs)) (take_push ticks tick t (omega arith))
-          ∙ ap (λ (i : ℕ). after_steps plan i tick (world_after_ticks plan (take i ticks))) e
-          ∙ ap (λ (xs : List Tick). after_steps plan (length ticks) tick (world_after_ticks plan xs)) (take_length ticks)))
+          inr (
+            e,
+            h.reached ∙ ap (λ (x : Tick). after_steps plan t x (world_after_ticks plan (take t (ticks ++ tick ∷ [])))) (sym k.1)
+                ∙ ap (λ (xs : List Tick). after_steps plan t tick (world_after_ticks plan xs)) (take_push ticks tick t (omega arith))
+                ∙ ap (λ (i : ℕ). after_steps plan i tick (world_after_ticks plan (take i ticks))) e
+                ∙ ap (λ (xs : List Tick). after_steps plan (length ticks) tick (world_after_ticks plan xs)) (take_length ticks),
+          ))
     ]
 
 pub no_ticks : (plan : Plan) → IsTimelineOf plan [] []
@@ -125,7 +130,7 @@ module _ (plan : Plan) (ticks : List Tick) (tick : Tick) (changes : List PortCha
       let t' = length ticks in
       record {
         are = subst (λ (k : ℕ). AreChanges plan.tree k (noted t' w changes)) (sym (length_one_more ticks tick))
-        (subst (λ (r : Topology). AreChanges r (suc t') (noted t' w changes)) tree (noted_changes t' w changes are_there));
+            (subst (λ (r : Topology). AreChanges r (suc t') (noted t' w changes)) tree (noted_changes t' w changes are_there));
         gives = λ t v p h has. elim (steps_push plan ticks tick t v h) [
           | inl k ↦ ap said_by (noted_before t' t w changes p are_there (subst (λ (r : Topology). HasPort r p) (sym tree) has) k.0) ∙ so_far.gives t v p k.1 has
           | inr k ↦ (
@@ -140,7 +145,7 @@ module _ (plan : Plan) (ticks : List Tick) (tick : Tick) (changes : List PortCha
       let are = so_far.are in
       record {
         are = subst (λ (k : ℕ). AreChanges plan.tree k changes) (sym (length_one_more ticks tick))
-        (record { ascend = are.ascend; ports = are.ports; before = All-weaker (λ (c : PortChange). c.tick < t') (λ (c : PortChange). c.tick < suc t') (λ c lt. omega arith) changes are.before });
+            (record { ascend = are.ascend; ports = are.ports; before = All-weaker (λ (c : PortChange). c.tick < t') (λ (c : PortChange). c.tick < suc t') (λ c lt. omega arith) changes are.before });
         gives = λ t v p h has. elim (steps_push plan ticks tick t v h) [
           | inl k ↦ so_far.gives t v p k.1 has
           | inr k ↦ (

@@ -179,7 +179,10 @@ fn a_declaration_is_registered_over_the_link(rt: HostRuntime) -> Result<(), Fail
     let mut world = scene(rt.alloc())?;
     declare(&rt, &mut world, vid)?;
     let (at, other) = (port(2, 1), port(2, 2));
-    assert_eq!(rt; seen(&world, at, NodeKey::Vlan(vid)), Some((Registrar::Empty, 1, true)));
+    assert_eq!(rt;
+        seen(&world, at, NodeKey::Vlan(vid)),
+        Some((Registrar::Empty, 1, true))
+    );
     let cases = [
         (Repeat(at, 1), Missed),
         (Lose(at, 1), Missed),
@@ -188,8 +191,14 @@ fn a_declaration_is_registered_over_the_link(rt: HostRuntime) -> Result<(), Fail
         (Lose(at, 0), Missed),
     ];
     has_answers(&rt, &mut world, cases.as_slice())?;
-    assert_eq!(rt; seen(&world, at, NodeKey::Vlan(vid)), Some((Registrar::Held, 0, true)));
-    assert_eq!(rt; seen(&world, other, NodeKey::Vlan(vid)), Some((Registrar::Empty, 0, true)));
+    assert_eq!(rt;
+        seen(&world, at, NodeKey::Vlan(vid)),
+        Some((Registrar::Held, 0, true))
+    );
+    assert_eq!(rt;
+        seen(&world, other, NodeKey::Vlan(vid)),
+        Some((Registrar::Empty, 0, true))
+    );
     assert!(rt; !world.quiet() && world.in_step());
     Ok(())
 }
@@ -235,7 +244,10 @@ fn a_loss_spoils_both_ends_of_its_link(rt: HostRuntime) -> Result<(), Fail> {
     let at = port(2, 1);
     let cases = [(Repeat(at, 0), Done), (Lose(at, 0), Done)];
     has_answers(&rt, &mut world, cases.as_slice())?;
-    assert_eq!(rt; seen(&world, at, NodeKey::Vlan(vid)), Some((Registrar::Empty, 1, false)));
+    assert_eq!(rt;
+        seen(&world, at, NodeKey::Vlan(vid)),
+        Some((Registrar::Empty, 1, false))
+    );
     assert_eq!(rt;
         seen(&world, port(1, 1), NodeKey::Vlan(vid)),
         Some((Registrar::Empty, 0, false))

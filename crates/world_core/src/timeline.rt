@@ -128,4 +128,3 @@ fn count_upto(changes: &[PortChange], at: EgressPort) -> usize
 {
     changes.partition_point(|c| !precedes(at, c.at))
 }
-

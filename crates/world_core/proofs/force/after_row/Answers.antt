@@ -18,7 +18,7 @@ pub returns-else-next-vids-clause-other : goal.returns-else-next-vids-clause-oth
 returns-else-next-vids-clause-other c =
     elim c.else-next-vids.branch [
       | else-next-vids-via-then-next-vids+else-eq w ↦
-      pass_other is_registered_row key_of (λ x y. x == y) c.args.vids.now c.args.next c.args.i c.args.part.now.rows c.in-Some.vid w.index-vids-next.result c.requires.index w.if-next-vids.true c.in-Some.ensures w.index-vids-next.is (sym w.if-eq.ensures)
+          pass_other is_registered_row key_of (λ x y. x == y) c.args.vids.now c.args.next c.args.i c.args.part.now.rows c.in-Some.vid w.index-vids-next.result c.requires.index w.if-next-vids.true c.in-Some.ensures w.index-vids-next.is (sym w.if-eq.ensures)
       | else-next-vids-via-else-next-vids w ↦
-      pass_end is_registered_row key_of (λ x y. x == y) c.args.vids.now c.args.next c.args.i c.args.part.now.rows c.in-Some.vid c.requires.index w.if-next-vids.false c.in-Some.ensures
+          pass_end is_registered_row key_of (λ x y. x == y) c.args.vids.now c.args.next c.args.i c.args.part.now.rows c.in-Some.vid c.requires.index w.if-next-vids.false c.in-Some.ensures
     ]

@@ -11,8 +11,8 @@ loop-i-preserved c =
     let i = c.loop-i.i in
     elim c.match-registered_row.branch [
       | in-Some+in_ok-push w ↦ rw w.vids-is (rw w.in_ok-push.ensures.items
-      (append_assoc c.loop-i.vids.items (w.in-Some.vid ∷ []) (registered_vids (drop (i + 1) rows))
-      ∙ (ap (λ (vs : List ℕ). c.loop-i.vids.items ++ vs) (sym (pick_one is_registered_row key_of i rows w.in-Some.vid (omega arith) w.in-Some.ensures)) ∙ c.loop-i.invariant)))
+          (append_assoc c.loop-i.vids.items (w.in-Some.vid ∷ []) (registered_vids (drop (i + 1) rows))
+          ∙ (ap (λ (vs : List ℕ). c.loop-i.vids.items ++ vs) (sym (pick_one is_registered_row key_of i rows w.in-Some.vid (omega arith) w.in-Some.ensures)) ∙ c.loop-i.invariant)))
       | in_default w ↦ rw w.vids-is
-      (ap (λ (vs : List ℕ). c.loop-i.vids.items ++ vs) (sym (pick_none is_registered_row key_of i rows (omega arith) (λ d. w.in_default.ensures d))) ∙ c.loop-i.invariant)
+          (ap (λ (vs : List ℕ). c.loop-i.vids.items ++ vs) (sym (pick_none is_registered_row key_of i rows (omega arith) (λ d. w.in_default.ensures d))) ∙ c.loop-i.invariant)
     ]

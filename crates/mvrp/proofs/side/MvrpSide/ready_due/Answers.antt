@@ -58,5 +58,5 @@ returns-clause-kept c =
     let at = c.from-at.result - 1 in
     let below : at < length c.args.self.now.parts = omega (arith, c.from-at.ensures, c.requires.port.some, c.requires.port.within) in
     let sets : sets_with (option_map (λ v. v.items) c.in_ok-awaiting.awaiting) c.args.self.now.awaiting
-        ≡ marked_elsewhere nat_cmp at c.as_slice-3.result.now c.args.self.now.awaiting = search rules in
+    ≡ marked_elsewhere nat_cmp at c.as_slice-3.result.now c.args.self.now.awaiting = search rules in
     rw sets (kept-put c.each_key_awaits.ensures.all_marked c.args.self.now c.keeps.ensures at below c.due.new.self c.as_slice-3.result.now c.rows_ascend.ensures.rows (declared c) (told c))
