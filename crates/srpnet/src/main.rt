@@ -6,7 +6,7 @@
 //! commands   what each command makes of the octets of an input: its arm
 //! |- ledger  bookings of one port: file, input, bookings, text
 //! |- check   what a scenario holds, by its counts: text
-//! |- run     a network through the ticks of a scenario: input
+//! |- run     a network and its frames through the ticks of a scenario, with its journal or without
 //! '- pages   --help and --version
 //! scenario   the input of the commands that read a scenario
 //! input      octets to a TOML table

@@ -17,7 +17,6 @@ use crate::commands::CommandOutput;
 use crate::outcome::Cause;
 use crate::scenario::scenario_input;
 use frame_flow::FlowResult;
-use network_laws::frame_laws::a_timeline_keeps_the_limits;
 use network_laws::laws::{
     duties_are_met_in_every_run, stream_duties_are_met_in_every_run,
     streams_keep_their_laws_whenever_at_rest, vlans_match_whenever_at_rest,
@@ -31,6 +30,7 @@ use std::alloc::Global;
 use topology_file::Scenario;
 use world_core::Run;
 use world_core::laws::{canonical_ticks_are_legal, every_moment_is_within_limits};
+use world_core::timeline_laws::slopes_stay_within_limits;
 
 /// What `run` prints with its journal, or why there is none.
 pub fn report(alloc: Global, octets: &[u8]) -> Result<CommandOutput, Cause>
@@ -69,7 +69,7 @@ fn run_of(alloc: Global, scenario: &Scenario) -> Result<Ran, NoMemory>
         (λ r. HoldsThroughout scenario.now r.run.journal.ticks r.flow.ports) }
 {
     canonical_ticks_are_legal();
-    a_timeline_keeps_the_limits();
+    slopes_stay_within_limits();
     what_holds_of_every_run();
     every_window_stays_within();
     scenario.keeps_rules();

@@ -25,6 +25,45 @@ quiet yes
 in step yes
 ";
 
+/// What happened in them: each port sends nothing, once and again a LeaveAll time later.
+const PAIR_JOURNAL: &str = "journal
+0 s1>s2 send mvrp silent
+0 s1>s2 send msrp silent
+0 s2>s1 send mvrp silent
+0 s2>s1 send msrp silent
+20 s1>s2 send mvrp silent
+20 s1>s2 send msrp silent
+20 s2>s1 send mvrp silent
+20 s2>s1 send msrp silent
+";
+
+/// A Talker, a listener that has declared the stream's VID, and a frame of the stream once it is booked.
+const HALL: &str = "ticks = 70
+[[node]]\nname = 't'\nkind = 'station'\n[[node]]\nname = 'l'\nkind = 'station'
+[[link]]\na = 't'\nb = 'l'
+[[stream]]\nname = 'x'\nid = '0200000000010001'\ntalker = 't'\ndest = '91e0f0000001'
+octets = 200\nframes = 1
+[[event]]\ntick = 0\nkind = 'declare'\nstation = 'l'\nvid = 2
+[[event]]\ntick = 0\nkind = 'talk'\nstream = 'x'
+[[event]]\ntick = 0\nkind = 'listen'\nstation = 'l'\nstream = 'x'
+[[frame]]\nstream = 'x'\noctets = 58\nat = 650000000
+";
+
+const HALL_RUN: &str = "ticks 70
+port t>l sent 2 octets 74 discarded 0
+vlan t>l 2 IN
+listener t>l 0200000000010001 ready IN
+booked t>l 0200000000010001 A slope 15488000 since 21
+port l>t sent 4 octets 66 discarded 0
+talker l>t 0200000000010001 advertise latency 0 IN
+heard l 0200000000010001 ready
+frames t>l departed 1 unbooked 0 novlan 0 left 0
+depart t>l frame 1 start 65000000 end 65000800
+frames l>t departed 0 unbooked 0 novlan 0 left 0
+quiet yes
+in step yes
+";
+
 const PAIR_OUT: &str = "nodes 2\nlinks 1\nstreams 0\nevents 0\nframes 0\nticks 22\n";
 
 /// What a call ended with.
@@ -37,17 +76,16 @@ struct Called {
     err: String,
 }
 
-/// A call with one word, a source that gives the text in steps, and sinks; the calls with these numbers
+/// A call with these words, a source that gives the text in steps, and sinks; the calls with these numbers
 /// fail, 0 for none.
 fn call(
     alloc: Global,
-    word: &str,
+    words: &[&str],
     text: &[u8],
     read: (usize, u64),
     write: (usize, u64),
 ) -> Result<Called, AllocError> {
-    let octets = word.as_bytes().to_vec(alloc)?;
-    let words = Seq::from_vec(vec![in alloc; Seq::from_vec(octets)]?);
+    let words = words_of(alloc, words)?;
     let mut source = MemSource::new(text.to_vec(alloc)?, read.0.max(1), vec![in alloc; read.1]?);
     let mut out = MemSink::new(alloc, write.0.max(1), vec![in alloc; write.1]?);
     let mut err = MemSink::new(alloc, 5, Vec::new(alloc));
@@ -59,6 +97,14 @@ fn call(
         out: text_of(alloc, out.bytes())?,
         err: text_of(alloc, err.bytes())?,
     })
+}
+
+fn words_of(alloc: Global, words: &[&str]) -> Result<Seq<Seq<u8>>, AllocError> {
+    let mut all = Vec::new(alloc);
+    for word in words {
+        all.push(Seq::from_vec(word.as_bytes().to_vec(alloc)?))?;
+    }
+    Ok(Seq::from_vec(all))
 }
 
 fn text_of(alloc: Global, octets: &[u8]) -> Result<String, AllocError> {
@@ -89,18 +135,32 @@ fn each_command_prints_its_text(rt: HostRuntime) -> Result<(), Fail> {
         ("ledger", PORT, PORT_OUT),
         ("check", PAIR, PAIR_OUT),
         ("run", PAIR, PAIR_RUN),
+        ("run", HALL, HALL_RUN),
         ("--help", "", HELP),
         ("--version", "", VERSION),
     ] {
-        let ended = call(alloc, word, text.as_bytes(), (7, 0), (100, 0))?;
+        let ended = call(alloc, &[word], text.as_bytes(), (7, 0), (100, 0))?;
         prints(&rt, &ended, page);
     }
     Ok(())
 }
 
 #[test]
+fn a_journal_stands_behind_the_report(rt: HostRuntime) -> Result<(), Fail> {
+    let alloc = rt.alloc();
+    let ended = call(alloc, &["run", "journal"], PAIR.as_bytes(), (7, 0), (100, 0))?;
+    let mut page = String::from_str(alloc, PAIR_RUN)?;
+    page.push_str(PAIR_JOURNAL)?;
+    prints(&rt, &ended, page.as_str());
+    assert_eq!(rt; ended.ticks, 22);
+    Ok(())
+}
+
+#[test]
 fn each_cause_has_its_status(rt: HostRuntime) -> Result<(), Fail> {
     let alloc = rt.alloc();
+    let ended = call(alloc, &["check", "journal"], PAIR.as_bytes(), (7, 0), (100, 0))?;
+    ends_with(&rt, &ended, 2, "srpnet: bad words\n");
     for (word, text, fault, status, err) in [
         ("runs", PORT, (1, 1), 2, "srpnet: bad words\n"),
         ("ledger", PORT, (2, 1), 3, "srpnet: read fault\n"),
@@ -109,7 +169,7 @@ fn each_cause_has_its_status(rt: HostRuntime) -> Result<(), Fail> {
         ("run", "", (0, 1), 6, "srpnet: rule 1 entry 0\n"),
         ("ledger", PORT, (0, 1), 7, "srpnet: write fault\n"),
     ] {
-        let ended = call(alloc, word, text.as_bytes(), (10, fault.0), (10, fault.1))?;
+        let ended = call(alloc, &[word], text.as_bytes(), (10, fault.0), (10, fault.1))?;
         ends_with(&rt, &ended, status, err);
     }
     Ok(())
@@ -117,7 +177,7 @@ fn each_cause_has_its_status(rt: HostRuntime) -> Result<(), Fail> {
 
 #[test]
 fn a_failed_write_says_how_many_octets_went_out(rt: HostRuntime) -> Result<(), Fail> {
-    let ended = call(rt.alloc(), "ledger", PORT.as_bytes(), (7, 0), (20, 2))?;
+    let ended = call(rt.alloc(), &["ledger"], PORT.as_bytes(), (7, 0), (20, 2))?;
     assert!(rt; ended.cause == Cause::WriteFault { written: 20 });
     assert!(rt; ended.out.as_str() == PORT_OUT.get(0..20).unwrap_or(""));
     Ok(())
@@ -126,9 +186,9 @@ fn a_failed_write_says_how_many_octets_went_out(rt: HostRuntime) -> Result<(), F
 #[test]
 fn a_run_hands_back_its_journal(rt: HostRuntime) -> Result<(), Fail> {
     let alloc = rt.alloc();
-    let ended = call(alloc, "run", PAIR.as_bytes(), (100, 0), (100, 0))?;
+    let ended = call(alloc, &["run"], PAIR.as_bytes(), (100, 0), (100, 0))?;
     assert_eq!(rt; ended.ticks, 22);
-    let ended = call(alloc, "check", PAIR.as_bytes(), (100, 0), (100, 0))?;
+    let ended = call(alloc, &["check"], PAIR.as_bytes(), (100, 0), (100, 0))?;
     assert_eq!(rt; ended.ticks, 0);
     Ok(())
 }

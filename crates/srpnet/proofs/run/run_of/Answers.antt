@@ -6,7 +6,7 @@ flow_of-requires-order c = c.in_ok-run.ensures.timeline.are.ascend
 pub flow_of-requires-slopes : goal.flow_of-requires-slopes
 flow_of-requires-slopes c =
     let run = c.in_ok-run.run' in
-    c.a_timeline_keeps_the_limits.ensures.below c.args.scenario.now run.journal.ticks run.world run.timeline.changes c.keeps_rules.ensures
+    c.slopes_stay_within_limits.ensures.rates c.args.scenario.now run.journal.ticks run.world run.timeline.changes c.keeps_rules.ensures
     (c.canonical_ticks_are_legal.ensures c.args.scenario.now run.journal.ticks run.world c.in_ok-run.ensures.ticks) c.in_ok-run.ensures.timeline
 
 pub returns-clause-run : goal.returns-clause-run
@@ -22,7 +22,7 @@ returns-clause-holds c =
     record {
       moments = λ w moment. c.what_holds_of_every_run.ensures plan run.journal.ticks run.world w rules legal moment;
       windows = c.every_window_stays_within.ensures.caps plan run.timeline.changes _ c.in_ok-flow.flow'.ports rules timeline.are.ascend
-          (c.a_timeline_keeps_the_limits.ensures.below plan run.journal.ticks run.world run.timeline.changes rules legal timeline)
-          (c.a_timeline_keeps_the_limits.ensures.cap plan run.journal.ticks run.world run.timeline.changes rules legal timeline)
+          (c.slopes_stay_within_limits.ensures.rates plan run.journal.ticks run.world run.timeline.changes rules legal timeline)
+          (c.slopes_stay_within_limits.ensures.class_a plan run.journal.ticks run.world run.timeline.changes rules legal timeline)
           c.in_ok-flow.ensures;
     }
