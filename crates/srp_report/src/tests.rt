@@ -6,35 +6,24 @@ use credit_shaper::PortInput;
 use frame_flow::Fate::{Departed, Left, NoVlan, Unbooked};
 use frame_flow::{FlowResult, PortFlow};
 use node_core::PortStep::{Due, Send, Settle, Work};
-use node_core::StepReply::{Discarded, Fired, Nothing, Received, Sent, Settled, Silent};
+use node_core::StepReply::{Discarded, Fired, Received, Sent, Settled, Silent};
 use node_core::{NodeStep, PortStep, StepReply};
-use srp_base::{App, EgressPort, NoMemory, NodeNo, PortNo, Rate, Seq};
+use srp_base::{App, EgressPort, NoMemory, NodeNo, PortNo, Rate, Seq, Timeline};
 use std::alloc::Global;
 use std::process::Abort;
 use std::test::Fail;
 use topology_file::{Scenario, read_scenario};
 use world_core::{Journal, NodeSteps, Run, Tick, World, WorldReply};
 
-/// Stations 1 and 2 on a link.
+/// Stations 1 and 2 on a link, with frames from 1 to 2.
 const SCENE: &str = "ticks = 22\n\
-    node = [{ name = 's1', kind = 'station' }, { name = 's2', kind = 'station' }]\n\
-    link = [{ a = 's1', b = 's2' }]\n";
-
-const REPORT: &str = "ticks 22\n\
-    port s1>s2 sent 2 octets 26 discarded 0\n\
-    port s2>s1 sent 0 octets 0 discarded 1\n\
-    quiet yes\n\
-    in step yes\n";
-
-/// The same with frames from station 1 to station 2.
-const FRAMES: &str = "ticks = 22\n\
     node = [{ name = 's1', kind = 'station' }, { name = 's2', kind = 'station' }]\n\
     link = [{ a = 's1', b = 's2' }]\n\
     frame = [{ from = 's1', to = 's2', vid = 7, octets = 58, at = 0, count = 5 }]\n";
 
-const FRAMES_REPORT: &str = "ticks 22\n\
-    port s1>s2 sent 0 octets 0 discarded 0\n\
-    port s2>s1 sent 0 octets 0 discarded 0\n\
+const REPORT: &str = "ticks 22\n\
+    port s1>s2 sent 2 octets 26 discarded 0\n\
+    port s2>s1 sent 0 octets 0 discarded 1\n\
     frames s1>s2 departed 2 unbooked 1 novlan 1 left 1\n\
     depart s1>s2 frame 3 start 100 end 900\n\
     depart s1>s2 frame 1 start 900 end 1700\n\
@@ -48,12 +37,13 @@ const JOURNAL: &str = "journal\n\
     0 s1>s2 send mvrp sent 13\n\
     0 s2>s1 due fired 1\n\
     0 s2>s1 send msrp silent\n\
-    2 s1>s2 work nothing\n\
-    2 s2>s1 work received 2\n\
-    2 s2>s1 work discarded 3\n";
+    1 s1>s2 settle settled 2\n\
+    1 s1>s2 send mvrp sent 13\n\
+    1 s2>s1 work received 2\n\
+    1 s2>s1 work discarded 3\n";
 
-fn scene(alloc: Global, text: &str) -> Result<Scenario, Fail> {
-    let table = toml::table_from_str(alloc, text)?;
+fn scene(alloc: Global) -> Result<Scenario, Fail> {
+    let table = toml::table_from_str(alloc, SCENE)?;
     Ok(read_scenario(alloc, &table)?)
 }
 
@@ -90,14 +80,15 @@ fn tick_of(
     })
 }
 
-// Two ticks in which station 1 sends and station 2 hears it, and takes a malformed PDU.
-fn sending(alloc: Global) -> Result<Journal, NoMemory> {
+// Two ticks in which station 1 sends and station 2 hears it, and takes a malformed PDU. In the first two events happen.
+fn journal(alloc: Global) -> Result<Journal, NoMemory> {
+    let events = [(1, WorldReply::Done), (2, WorldReply::Missed)];
     let sends = [(Settle, Settled(2)), (Send(App::Mvrp), Sent(13))];
-    let silent = [(Due, Fired(1)), (Send(App::Mvrp), Silent)];
+    let silent = [(Due, Fired(1)), (Send(App::Msrp), Silent)];
     let hears = [(Work, Received(2)), (Work, Discarded(3))];
     let first = tick_of(
         alloc,
-        [].as_slice(),
+        events.as_slice(),
         steps_of(alloc, 1, sends.as_slice())?,
         steps_of(alloc, 2, silent.as_slice())?,
     )?;
@@ -109,33 +100,6 @@ fn sending(alloc: Global) -> Result<Journal, NoMemory> {
     )?;
     Ok(Journal {
         ticks: Seq::from_vec(vec![in alloc; first, second]?),
-    })
-}
-
-// A tick with two events, one in which nothing happens, and one without events.
-fn happening(alloc: Global) -> Result<Journal, NoMemory> {
-    let events = [(1, WorldReply::Done), (2, WorldReply::Missed)];
-    let sends = [(Settle, Settled(2)), (Send(App::Mvrp), Sent(13))];
-    let silent = [(Due, Fired(1)), (Send(App::Msrp), Silent)];
-    let hears = [(Work, Received(2)), (Work, Discarded(3))];
-    let first = tick_of(
-        alloc,
-        events.as_slice(),
-        steps_of(alloc, 1, sends.as_slice())?,
-        steps_of(alloc, 2, silent.as_slice())?,
-    )?;
-    let second = Tick {
-        events: Seq::new(alloc),
-        steps: Seq::new(alloc),
-    };
-    let third = tick_of(
-        alloc,
-        [].as_slice(),
-        steps_of(alloc, 1, [(Work, Nothing)].as_slice())?,
-        steps_of(alloc, 2, hears.as_slice())?,
-    )?;
-    Ok(Journal {
-        ticks: Seq::from_vec(vec![in alloc; first, second, third]?),
     })
 }
 
@@ -181,12 +145,15 @@ fn flow(alloc: Global) -> Result<FlowResult, NoMemory> {
 }
 
 #[test]
-fn each_port_has_its_counts(rt: HostRuntime) -> Result<(), Fail> {
+fn each_port_has_its_counts_and_departures(rt: HostRuntime) -> Result<(), Fail> {
     let alloc = rt.alloc();
-    let scenario = scene(alloc, SCENE)?;
+    let scenario = scene(alloc)?;
     let run = Run {
         world: World::of(alloc, &scenario)?,
-        journal: sending(alloc)?,
+        journal: journal(alloc)?,
+        timeline: Timeline {
+            changes: Seq::new(alloc),
+        },
     };
     let text = report(alloc, &scenario, &run, &flow(alloc)?)?;
     assert_eq!(rt; text.as_slice(), REPORT.as_bytes());
@@ -194,25 +161,10 @@ fn each_port_has_its_counts(rt: HostRuntime) -> Result<(), Fail> {
 }
 
 #[test]
-fn copies_depart_in_order_of_start(rt: HostRuntime) -> Result<(), Fail> {
-    let alloc = rt.alloc();
-    let scenario = scene(alloc, FRAMES)?;
-    let run = Run {
-        world: World::of(alloc, &scenario)?,
-        journal: Journal {
-            ticks: Seq::new(alloc),
-        },
-    };
-    let text = report(alloc, &scenario, &run, &flow(alloc)?)?;
-    assert_eq!(rt; text.as_slice(), FRAMES_REPORT.as_bytes());
-    Ok(())
-}
-
-#[test]
 fn a_journal_has_events_before_steps(rt: HostRuntime) -> Result<(), Fail> {
     let alloc = rt.alloc();
-    let scenario = scene(alloc, SCENE)?;
-    let text = journal_text(alloc, &scenario, &happening(alloc)?)?;
+    let scenario = scene(alloc)?;
+    let text = journal_text(alloc, &scenario, &journal(alloc)?)?;
     assert_eq!(rt; text.as_slice(), JOURNAL.as_bytes());
     Ok(())
 }
