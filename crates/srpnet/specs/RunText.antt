@@ -37,8 +37,8 @@ pub record HoldsAt (plan : Plan) (w : WorldState) : Type 0 where
   -- no port has booked past its limit
   pub limits : IsWithinLimits plan w
   -- and where the network is at rest, a VID is registered at a port exactly where a station behind it has declared it; a
-  -- station that listens hears Ready exactly where every port on the way has booked the stream; and a refusal for want of
-  -- bandwidth is due to the more important bookings of a port on the way
+  -- station that listens, other than the Talker's own, hears Ready exactly where every port on the way has booked the stream;
+  -- and a refusal for want of bandwidth is due to the more important bookings of a port on the way
   pub vlans : IsAtRest w → VlansMatch w
   pub streams : IsAtRest w → (stream : StreamId) → KeepsStreamLaws w stream
 
