@@ -148,7 +148,13 @@ fn each_command_prints_its_text(rt: HostRuntime) -> Result<(), Fail> {
 #[test]
 fn a_journal_stands_behind_the_report(rt: HostRuntime) -> Result<(), Fail> {
     let alloc = rt.alloc();
-    let ended = call(alloc, &["run", "journal"], PAIR.as_bytes(), (7, 0), (100, 0))?;
+    let ended = call(
+        alloc,
+        &["run", "journal"],
+        PAIR.as_bytes(),
+        (7, 0),
+        (100, 0),
+    )?;
     let mut page = String::from_str(alloc, PAIR_RUN)?;
     page.push_str(PAIR_JOURNAL)?;
     prints(&rt, &ended, page.as_str());
@@ -159,7 +165,13 @@ fn a_journal_stands_behind_the_report(rt: HostRuntime) -> Result<(), Fail> {
 #[test]
 fn each_cause_has_its_status(rt: HostRuntime) -> Result<(), Fail> {
     let alloc = rt.alloc();
-    let ended = call(alloc, &["check", "journal"], PAIR.as_bytes(), (7, 0), (100, 0))?;
+    let ended = call(
+        alloc,
+        &["check", "journal"],
+        PAIR.as_bytes(),
+        (7, 0),
+        (100, 0),
+    )?;
     ends_with(&rt, &ended, 2, "srpnet: bad words\n");
     for (word, text, fault, status, err) in [
         ("runs", PORT, (1, 1), 2, "srpnet: bad words\n"),
@@ -169,7 +181,13 @@ fn each_cause_has_its_status(rt: HostRuntime) -> Result<(), Fail> {
         ("run", "", (0, 1), 6, "srpnet: rule 1 entry 0\n"),
         ("ledger", PORT, (0, 1), 7, "srpnet: write fault\n"),
     ] {
-        let ended = call(alloc, &[word], text.as_bytes(), (10, fault.0), (10, fault.1))?;
+        let ended = call(
+            alloc,
+            &[word],
+            text.as_bytes(),
+            (10, fault.0),
+            (10, fault.1),
+        )?;
         ends_with(&rt, &ended, status, err);
     }
     Ok(())
