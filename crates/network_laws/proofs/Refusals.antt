@@ -213,7 +213,7 @@ refusal-says w stream l r h = by (failure_at w stream l) refl
         let more_is : r.more_important ≡ little.more = little.more_is in
         let slope_is : r.slope ≡ slope_of_reg (talker_of stream n.node.streams) = little.slope_is in
         let cap_is : r.cap ≡ little.cap = little.cap_is in
-        record { port = named; more_is = more_is; cap_is = cap_is; code_is = little.code_is; passes = omega arith }
+        record { port = named; more_is = more_is; slope_is = slope_is; cap_is = cap_is; code_is = little.code_is; passes = omega arith }
 
     at-talker : (f : Failure) → failure_at w stream l ≡ Some f → (o : Option ℕ) → talking_node w stream ≡ o → refusal_named w stream l f ≡ Some r → IsRefusalTo w stream l r
     at-talker f e None g k = let none : refusal_named w stream l f ≡ None = ap (λ o. option_and_then (λ t. first_refusal (refusal_at w stream f) (path_between w.tree.links t l)) o) g in cc

@@ -242,11 +242,12 @@ pub record IsNamedAt (w : WorldState) (stream : StreamId) (l : ℕ) (p : EgressP
   pub cap : ℕ
   pub fit : fit_of (place_of p.port) stream node ≡ Some (TooLittle more cap failure.code)
 
--- a refusal is of a port that is named, with what its ledger says; and what is more important there, with the stream's own
--- slope, passes the cap
+-- a refusal is of a port that is named, with what its ledger says and the slope that the stream's Talker asks there; and what is
+-- more important, with that slope, passes the cap
 pub record IsRefusalTo (w : WorldState) (stream : StreamId) (l : ℕ) (refusal : Refusal) : Type 0 where
   pub port : IsNamedAt w stream l refusal.at
   pub more_is : refusal.more_important ≡ port.more
+  pub slope_is : refusal.slope ≡ slope_of_reg (talker_of stream port.node.streams)
   pub cap_is : refusal.cap ≡ port.cap
   pub code_is : refusal.code ≡ port.failure.code
   pub passes : refusal.cap < refusal.more_important + refusal.slope
