@@ -25,7 +25,7 @@ quiet yes
 in step yes
 ";
 
-/// What happened in them: each port sends nothing, once and again a LeaveAll time later.
+/// What happened in it: each port has nothing to say, at the start and a JoinTime later.
 const PAIR_JOURNAL: &str = "journal
 0 s1>s2 send mvrp silent
 0 s1>s2 send msrp silent
