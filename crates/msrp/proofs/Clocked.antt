@@ -31,7 +31,7 @@ pub record Laws : Type 0 where
   pub fits : (book : Book) (now : ℕ) (want : Want) → IsKeptBook book → book.moment ≤ now → (nat_lt book.moment now && has_new_booking book) ≡ false
       → fit_for now book want ≡ fit_for book.moment book want
 
-map_twice : {X Y : Type 0} (f : X → Y) (g : X → X) (xs : List X) → ((x : X) → f (g x) ≡ f x) → map f (map g xs) ≡ map f xs
+pub map_twice : {X Y : Type 0} (f : X → Y) (g : X → X) (xs : List X) → ((x : X) → f (g x) ≡ f x) → map f (map g xs) ≡ map f xs
 map_twice f g [] same = refl
 map_twice f g (x ∷ xs) same = ap (λ y. y ∷ map f (map g xs)) (same x) ∙ ap (λ ys. f x ∷ ys) (map_twice f g xs same)
 

@@ -129,7 +129,7 @@ kept-put awaits side kept at below p is t told rows contents same tells =
 
 -- ---- a participant changes in its place, and tells nothing
 
-none_marked : (sets : List (List MsrpKey)) → marked_everywhere key_cmp [] sets ≡ sets
+pub none_marked : (sets : List (List MsrpKey)) → marked_everywhere key_cmp [] sets ≡ sets
 none_marked [] = refl
 none_marked (set ∷ sets) = ap (λ ss. set ∷ ss) (none_marked sets)
 

@@ -8,8 +8,11 @@ pub mod OneSettling
 pub mod OtherStreams
 pub mod Participants
 pub mod Places
+pub mod ProperLemmas
+pub mod Ranges
 pub mod Rules
 pub mod Said
 pub mod Settled
+pub mod Setups
 pub mod Talkers
 pub mod Telling

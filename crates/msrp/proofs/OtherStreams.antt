@@ -31,3 +31,6 @@ listens_other x s (t ∷ listens) ne = by (listens_other x s listens ne) (t.0 ==
     by rest true e false f = rest
     by rest false e true f = rw f refl
     by rest false e false f = rw f rest
+
+pub listens_more : (x s : StreamId) (listens : List StreamId) → (s.0 == x.0) ≡ false → is_listened s (x ∷ listens) ≡ is_listened s listens
+listens_more x s listens ne = let other : (x.0 == s.0) ≡ false = grind (arith, nat_tests, ne) in rw other refl

@@ -10,7 +10,7 @@ use Rattle.msrp_codec.specs.declared.pdu.MsrpContent.{MsrpContent}
 use Rattle.msrp_codec.specs.Content.{Belongs}
 use Rattle.msrp.proofs.KeyLemmas.{key_is}
 use Rattle.msrp.specs.Part.{Part, key_cmp, same_content, settled_as, settled_part, HasOwnContents}
-use Rattle.msrp.proofs.Contents.{own-changed, own_row, declared_own, withdrawn_own}
+use Rattle.msrp.proofs.Contents.{HoldsOfEach, each-changed, own_row, own_from, declared_own, withdrawn_own}
 
 -- the laws of a participant that settling rests on
 pub record PartLaws : Type 0 where
@@ -42,13 +42,14 @@ module _ (laws : PartLaws) where
   as_declared key None s k rows = laws.withdraw_asked s key rows k
   as_declared key (Some c) s k rows = laws.declare_asked s key c rows k
 
-  as_own : (key : MsrpKey) (o : Option MsrpContent) (s : Part) → AreRows key_cmp s.rows → ((c : MsrpContent) → o ≡ Some c → Belongs key c) → HasOwnContents s → HasOwnContents (settled_as key o s)
-  as_own key None s rows belongs own =
-      own-changed s (withdrawn_state key_cmp key s) key (after_withdraw (find key_cmp key s.rows)) own (laws.withdraw_only s key rows)
-      (withdrawn_own key (find key_cmp key s.rows) (own_row s own key))
-  as_own key (Some c) s rows belongs own =
-      own-changed s (declared_state key_cmp same_content key c s) key (after_declare same_content key c (find key_cmp key s.rows)) own (laws.declare_only s key c rows)
-      (declared_own key c (find key_cmp key s.rows) (belongs c refl) (own_row s own key))
+  -- what holds of both contents of each key that has a row, and of what a key is declared with, holds afterwards
+  as_each : (P : MsrpKey → MsrpContent → Type 0) (key : MsrpKey) (o : Option MsrpContent) (s : Part) → AreRows key_cmp s.rows → ((c : MsrpContent) → o ≡ Some c → P key c) → HoldsOfEach P s → HoldsOfEach P (settled_as key o s)
+  as_each P key None s rows holds own =
+      each-changed P s (withdrawn_state key_cmp key s) key (after_withdraw (find key_cmp key s.rows)) own (laws.withdraw_only s key rows)
+      (withdrawn_own P key (find key_cmp key s.rows) (own key))
+  as_each P key (Some c) s rows holds own =
+      each-changed P s (declared_state key_cmp same_content key c s) key (after_declare same_content key c (find key_cmp key s.rows)) own (laws.declare_only s key c rows)
+      (declared_own P key c (find key_cmp key s.rows) (holds c refl) (own key))
 
   module _ (rule : MsrpKey → Option MsrpContent) where
     pub rows-settled : (ks : List MsrpKey) (s : Part) → AreRows key_cmp s.rows → AreRows key_cmp (settled_part rule ks s).rows
@@ -80,6 +81,9 @@ module _ (laws : PartLaws) where
         ∙ (ap (λ (d : Option MsrpContent). if is_awaiting key_cmp k ks then rule k else d) (as_declared x (rule x) s k rows ∙ one_rule x k (declared_at key_cmp k s))
         ∙ either (is_awaiting key_cmp k ks) (same key_cmp x k) (rule k) (declared_at key_cmp k s))
 
+    pub each-settled : (P : MsrpKey → MsrpContent → Type 0) → ((key : MsrpKey) (c : MsrpContent) → rule key ≡ Some c → P key c) → (ks : List MsrpKey) (s : Part) → AreRows key_cmp s.rows → HoldsOfEach P s → HoldsOfEach P (settled_part rule ks s)
+    each-settled P holds [] s rows own = own
+    each-settled P holds (x ∷ ks) s rows own = each-settled P holds ks (settled_as x (rule x) s) (as_rows x (rule x) s rows) (as_each P x (rule x) s rows (holds x) own)
+
     pub own-settled : ((key : MsrpKey) (c : MsrpContent) → rule key ≡ Some c → Belongs key c) → (ks : List MsrpKey) (s : Part) → AreRows key_cmp s.rows → HasOwnContents s → HasOwnContents (settled_part rule ks s)
-    own-settled belongs [] s rows own = own
-    own-settled belongs (x ∷ ks) s rows own = own-settled belongs ks (settled_as x (rule x) s) (as_rows x (rule x) s rows) (as_own x (rule x) s rows (belongs x) own)
+    own-settled belongs ks s rows own = own_from (settled_part rule ks s) (each-settled Belongs belongs ks s rows (own_row s own))

@@ -27,12 +27,12 @@ use Rattle.msrp_codec.specs.declared.pdu.MsrpContent.{MsrpContent}
 use Rattle.msrp_codec.specs.declared.pdu.MsrpContent.TheVariants as contents
 use Rattle.msrp_codec.specs.Content.{Belongs}
 use Rattle.msrp.specs.declared.port.Port.{Port}
-use Rattle.msrp.specs.Part.{Part, key_cmp, stream_cmp, registered_listener, registered_talker, talker_content, talker_reg_of, HasOwnContents}
+use Rattle.msrp.specs.Part.{Part, key_cmp, stream_cmp, registered_listener, registered_talker, talker_content, talker_reg_of}
 use Rattle.msrp.specs.Stream.{advertised, fit_at, is_present, is_ready, is_talker_port, listener_at, stated_at, talk_of, talker_at, talker_of, talkers_of, want_in_class, want_of_reg, want_of_talker, wanted_at}
 use Rattle.msrp.specs.Settling.{listener_keys, stream_in, streams_in}
 use Rattle.msrp.specs.Side.{Streams, IsPort, seen_by}
 use Rattle.msrp.proofs.Places.{or_false}
-use Rattle.msrp.proofs.Contents.{MsrpRow}
+use Rattle.msrp.proofs.Contents.{HoldsOfEach, MsrpRow, own_row}
 
 -- a Talker that is registered or declared is of a stream
 abbrev pub IsOf : StreamId → TalkerReg → Type 0
@@ -40,16 +40,17 @@ IsOf s Absent = Unit {0}
 IsOf s (Advertise t) = s ≡ t.stream
 IsOf s (Failed t f) = s ≡ t.stream
 
-registered_own : (s : Part) → HasOwnContents s → (key : MsrpKey) (c : MsrpContent) → registered_at key_cmp key s ≡ Some c → Belongs key c
-registered_own s own key c h = by (row_of key_cmp key s.rows) refl h
+-- what holds of both contents of each key that has a row holds of what is registered of a key
+pub registered_holds : (P : MsrpKey → MsrpContent → Type 0) (s : Part) → HoldsOfEach P s → (key : MsrpKey) (c : MsrpContent) → registered_at key_cmp key s ≡ Some c → P key c
+registered_holds P s own key c h = by (row_of key_cmp key s.rows) refl h
   where
-    held : (b : Bool) (r : MsrpRow) → Belongs key r.heard → (if b then Some r.heard else None) ≡ Some c → Belongs key c
-    held true r belongs k = let is : r.heard ≡ c = cc in subst (λ (x : MsrpContent). Belongs key x) is belongs
-    held false r belongs k = cc
+    held : (b : Bool) (r : MsrpRow) → P key r.heard → (if b then Some r.heard else None) ≡ Some c → P key c
+    held true r holds k = let is : r.heard ≡ c = cc in subst (λ (x : MsrpContent). P key x) is holds
+    held false r holds k = cc
 
-    by : (o : Option MsrpRow) → row_of key_cmp key s.rows ≡ o → registered_in o ≡ Some c → Belongs key c
+    by : (o : Option MsrpRow) → row_of key_cmp key s.rows ≡ o → registered_in o ≡ Some c → P key c
     by None e k = cc
-    by (Some r) e k = held (registrar.is_registered_in r.registrar) r (own.registered key r e) k
+    by (Some r) e k = held (registrar.is_registered_in r.registrar) r (own key r e).heard k
 
 of_content : (s : StreamId) (o : Option MsrpContent) → ((c : MsrpContent) → o ≡ Some c → Belongs (keys.Talker s) c) → IsOf s (talker_reg_of o)
 of_content s None own = tt
@@ -68,18 +69,19 @@ of_own (t ∷ talks) s = by (t.stream.0 == s.0) refl (of_own talks s)
 
 of_ports : (moment : ℕ) (ports : List Port) (s : StreamId) → AllByRecursion (IsPort moment) ports → AllByRecursion (IsOf s) (map (λ (p : Port). registered_talker s p.part) ports)
 of_ports moment [] s all = tt
-of_ports moment (p ∷ ports) s all = (of_content s (registered_at key_cmp (keys.Talker s) p.part) (λ c h. registered_own p.part all.0.contents (keys.Talker s) c h), of_ports moment ports s all.1)
+of_ports moment (p ∷ ports) s all = (of_content s (registered_at key_cmp (keys.Talker s) p.part) (λ c h. registered_holds Belongs p.part (own_row p.part all.0.contents) (keys.Talker s) c h), of_ports moment ports s all.1)
 
-of_found : (s : StreamId) (xs : List TalkerReg) → AllByRecursion (IsOf s) xs → IsOf s (unwrap_or (find is_present xs) Absent)
-of_found s [] all = tt
-of_found s (x ∷ xs) all = by (is_present x) (of_found s xs all.1)
+-- what holds of each Talker that is registered holds of the one at the Talker's port
+pub found_holds : (P : TalkerReg → Type 0) → P Absent → (xs : List TalkerReg) → AllByRecursion P xs → P (unwrap_or (find is_present xs) Absent)
+found_holds P absent [] all = absent
+found_holds P absent (x ∷ xs) all = by (is_present x) (found_holds P absent xs all.1)
   where
-    by : (b : Bool) → IsOf s (unwrap_or (find is_present xs) Absent) → IsOf s (unwrap_or (if b then Some x else find is_present xs) Absent)
+    by : (b : Bool) → P (unwrap_or (find is_present xs) Absent) → P (unwrap_or (if b then Some x else find is_present xs) Absent)
     by true rest = all.0
     by false rest = rest
 
 pub of_talker : (moment : ℕ) (talks : List Talker) (ports : List Port) (s : StreamId) → AllByRecursion (IsPort moment) ports → IsOf s (talker_of (talkers_of talks ports s))
-of_talker moment talks ports s all = of_found s (talkers_of talks ports s) (of_own talks s, of_ports moment ports s all)
+of_talker moment talks ports s all = found_holds (IsOf s) tt (talkers_of talks ports s) (of_own talks s, of_ports moment ports s all)
 
 of_declared : (s : StreamId) (config : PortConfig) (t : Talker) (o : Option ℕ) → s ≡ t.stream → IsOf s (declared_of config t o)
 of_declared s config t None h = h

@@ -1,7 +1,8 @@
 -- What is sent is of its keys, and a participant at rest has nothing to say.
-use Rattle.std.proofs.Common.{◌≡◌, suc, Bool, true, false, not, ◌&&◌, List, [], ◌∷◌, refl, subst, arith}
-use Rattle.std.specs.Prelude.{Option, Some, None, Contains, option_map}
+use Rattle.std.proofs.Common.{◌≡◌, ◌≢◌, ◌≤◌, suc, Bool, true, false, not, ◌&&◌, ◌||◌, List, [], ◌∷◌, length, refl, subst, arith}
+use Rattle.std.specs.Prelude.{nat_lt, Option, Some, None, Contains, option_map, option_to_list}
 use Rattle.std.specs.List.{AllByRecursion, list_all}
+use Rattle.std.proofs.lemmas.Bool.Decides.{nat_tests}
 use Rattle.applicant.specs.declared.Applicant.{Applicant}
 use Rattle.applicant.specs.declared.Applicant.TheVariants.{Vo, Vp, Vn, An, Aa, Qa, La}
 use Rattle.mrp_participant.specs.Lookup.{find}
@@ -10,22 +11,25 @@ use Rattle.mrp_participant.specs.Sending.{is_tried}
 use Rattle.mrp_participant.specs.State.{is_active, is_still, is_silent}
 use Rattle.msrp_codec.specs.declared.pdu.MsrpKey.{MsrpKey}
 use Rattle.msrp_codec.specs.declared.pdu.MsrpContent.{MsrpContent}
-use Rattle.msrp_codec.specs.Content.{Belongs}
-use Rattle.msrp.specs.Part.{Part, key_cmp, HasOwnContents}
-use Rattle.msrp.proofs.Contents.{MsrpRow}
+use Rattle.msrp_codec.specs.declared.attribute_type.AttributeType.TheVariants.{Advertise, Failed, Listener, Domain}
+use Rattle.msrp_codec.specs.Meaning.{KeyEvent}
+use Rattle.msrp_codec.specs.Writing.{has_type, in_type_order, of_type}
+use Rattle.msrp.specs.Part.{Part, key_cmp}
+use Rattle.msrp.proofs.Contents.{HoldsOfEach, MsrpRow}
+use Rattle.msrp.proofs.Places.{all_filtered, all_joined}
 
 -- what holds of each element that a list contains
 pub of_each : {X : Type 0} (P : X → Type 0) (xs : List X) → ((x : X) → Contains xs x → P x) → AllByRecursion P xs
 of_each P [] all = tt
 of_each P (x ∷ xs) all = (all x (0, omega arith, refl), of_each P xs (λ y c. all y (suc c.0, omega (arith, c.1), c.2)))
 
--- the content of a key's row is of the key
-pub stated_own : (s : Part) → HasOwnContents s → (key : MsrpKey) (c : MsrpContent) → option_map (λ (r : MsrpRow). r.content) (find key_cmp key s.rows) ≡ Some c → Belongs key c
-stated_own s own key c h = by (find key_cmp key s.rows) refl h
+-- what holds of both contents of each key that has a row holds of the content of a key's row
+pub stated_holds : (P : MsrpKey → MsrpContent → Type 0) (s : Part) → HoldsOfEach P s → (key : MsrpKey) (c : MsrpContent) → option_map (λ (r : MsrpRow). r.content) (find key_cmp key s.rows) ≡ Some c → P key c
+stated_holds P s own key c h = by (find key_cmp key s.rows) refl h
   where
-    by : (o : Option MsrpRow) → find key_cmp key s.rows ≡ o → option_map (λ (r : MsrpRow). r.content) o ≡ Some c → Belongs key c
+    by : (o : Option MsrpRow) → find key_cmp key s.rows ≡ o → option_map (λ (r : MsrpRow). r.content) o ≡ Some c → P key c
     by None e k = cc
-    by (Some r) e k = let is : r.content ≡ c = cc in subst (λ (x : MsrpContent). Belongs key x) is (own.declared key r e)
+    by (Some r) e k = let is : r.content ≡ c = cc in subst (λ (x : MsrpContent). P key x) is (own key r e).content
 
 untried : (a : Applicant) (b : Bool) → (is_quiet a && b) ≡ true → (r : MsrpRow) → r.applicant ≡ a → not (is_tried false r) ≡ true
 untried Vo b h r e = rw e refl
@@ -50,3 +54,28 @@ pub still_is_silent : (s : Part) → is_still s ≡ true → is_silent s ≡ tru
 still_is_silent s h =
     let parts = both (not (is_active s.leave_all)) (list_all is_settled s.rows) h in
     rw (parts.0, none s.rows parts.1) refl
+
+-- ---- the events that are sent
+
+-- what holds of the contents of each key that has a row holds of each event with the content of its key's row
+pub all_said : (P : MsrpKey → MsrpContent → Type 0) (s : Part) → HoldsOfEach P s → (es : List KeyEvent)
+    → ((e : KeyEvent) → Contains es e → option_map (λ (r : MsrpRow). r.content) (find key_cmp e.1 s.rows) ≡ Some e.2) → AllByRecursion (λ e. P e.1 e.2) es
+all_said P s own es law = of_each (λ e. P e.1 e.2) es (λ e inside. stated_holds P s own e.1 e.2 (law e inside))
+
+-- in the order of types it holds of them, too
+pub in_order : (P : KeyEvent → Type 0) (es : List KeyEvent) → AllByRecursion P es → AllByRecursion P (in_type_order es)
+in_order P es all =
+    all_joined P (of_type Advertise es) _ (all_filtered P (has_type Advertise) es all)
+    (all_joined P (of_type Failed es) _ (all_filtered P (has_type Failed) es all)
+    (all_joined P (of_type Listener es) _ (all_filtered P (has_type Listener) es all)
+    (all_joined P (of_type Domain es) [] (all_filtered P (has_type Domain) es all) tt)))
+
+-- there is a LeaveAll or an event
+pub says_some : {X : Type 0} (leave : Bool) (es : List X) → (leave ≡ false → es ≢ []) → (leave || nat_lt 0 (length es)) ≡ true
+says_some true es says = refl
+says_some false [] says = absurd (says refl refl)
+says_some false (e ∷ es) says = grind (arith, nat_tests)
+
+pub one_at_most : {X : Type 0} (xs : List X) (o : Option X) → xs ≡ option_to_list o → length xs ≤ 1
+one_at_most xs None e = rw e (omega arith)
+one_at_most xs (Some x) e = rw e (omega arith)

@@ -3,3 +3,4 @@ pub mod SameContent
 pub mod Stream
 pub mod Settling
 pub mod Side
+pub mod Proper

@@ -5,7 +5,7 @@ ghost use Rattle.std.specs.List.{AllByRecursion, list_any};
 ghost use Rattle.attribute_propagation.specs.Dirty.{all_marked};
 ghost use Rattle.msrp.specs.Part.{key_cmp};
 ghost use Rattle.msrp.specs.Settling.{talker_keys};
-ghost use Rattle.msrp.specs.Side.{clocked_port, clocked_sets, clocked_streams, shows_at};
+ghost use Rattle.msrp.specs.Side.{clocked_port, clocked_sets, clocked_streams, next_sets, shows_at};
 
 use crate::app::MsrpApp;
 use crate::port::Port;
@@ -18,22 +18,77 @@ use msrp_codec::MsrpKey;
 use port_ledger::laws::{every_step_keeps_a_book, fits_stay};
 use srp_base::{Cs, NoMemory};
 use std::alloc::Global;
+use std::marker::Model;
+
+/// The awaiting keys of each link port once the clock has gone on, where it shows anything; their memory is taken.
+/// Contracts see the keys of each port, or None where the clock shows nothing.
+#[derive(Drop)]
+pub struct ClockSets {
+    pub(crate) sets: Option<Vec<Dirty<MsrpKey>>>,
+}
+
+impl Model for ClockSets {
+    ghost use Rattle.std.specs.Prelude.{List, Option, option_map};
+    ghost use Rattle.msrp_codec.specs.declared.pdu.MsrpKey.{MsrpKey};
+
+    ghost Value = { Option (List (List MsrpKey)) };
+
+    ghost view = { λ c. option_map (λ v. v.items) c.sets };
+}
 
 impl MsrpSide {
     /// Sets the moment of all ledgers, in cs, to one that isn't before the last. Where a booking is older now than
     /// what isn't booked, so that a want may fit otherwise than before, the Talker keys of all streams with a
-    /// registered Talker await.
+    /// registered Talker await. It is `prepare_clock` and `clock_by` in one.
     pub fn clock(&mut self, now: Cs) -> Result<(), NoMemory>
         requires { self.old.moment ≤ now.0 }
         ensures ok { OnOk result (self.new ≡ clocked_streams now.0 self.old) }
         ensures err { OnErr result (self.new ≡ self.old) }
     {
-        if any_shows(self.ports.as_slice(), now) {
-            self.show(now)
-        } else {
-            self.pass(now);
-            Ok(())
+        let sets = self.prepare_clock(now)?;
+        self.clock_by(now, sets);
+        Ok(())
+    }
+
+    /// Takes all memory that setting the clock to a moment in cs needs, so that the clocks of many nodes can be set
+    /// together or not at all. It takes none where the clock shows nothing at any port.
+    pub fn prepare_clock(&self, now: Cs) -> Result<ClockSets, NoMemory>
+        ensures { IfOk result (λ c. c ≡ next_sets now.0 self.now) }
+    {
+        if !any_shows(self.ports.as_slice(), now) {
+            return Ok(ClockSets { sets: None });
         }
+        let sets = self.sets_at(now)?;
+        Ok(ClockSets { sets: Some(sets) })
+    }
+
+    /// Sets the moment of all ledgers, in cs, to one that isn't before the last, as `clock` does, with what was
+    /// prepared for it. It takes no memory.
+    pub fn clock_by(&mut self, now: Cs, sets: ClockSets)
+        requires moment { self.old.moment ≤ now.0 }
+        requires sets { sets ≡ next_sets now.0 self.old }
+        ensures { self.new ≡ clocked_streams now.0 self.old }
+    {
+        match sets.sets {
+            None => self.pass(now),
+            Some(sets) => self.show(now, sets),
+        }
+    }
+
+    // The awaiting keys of each port, with the Talker keys of all streams with a Talker where the clock shows.
+    fn sets_at(&self, now: Cs) -> Result<Vec<Dirty<MsrpKey>>, NoMemory>
+        ensures { IfOk result (λ v. v.items ≡ clocked_sets now.0
+            (talker_keys self.now.talks self.now.ports) self.now.ports self.now.awaiting) }
+    {
+        let alloc = *self.ports.allocator();
+        let keys = talker_keys(alloc, self.talks.as_slice(), self.ports.as_slice())?;
+        clocked_sets(
+            alloc,
+            self.ports.as_slice(),
+            self.awaiting.as_slice(),
+            now,
+            keys.as_slice(),
+        )
     }
 
     // Sets the moment where the clock shows nothing at any port.
@@ -50,29 +105,20 @@ impl MsrpSide {
         self.moment = now;
     }
 
-    // Sets the moment, and the Talker keys of all streams with a Talker await where the clock shows.
-    fn show(&mut self, now: Cs) -> Result<(), NoMemory>
-        requires { self.old.moment ≤ now.0 }
-        ensures ok { OnOk result (self.new ≡ clocked_streams now.0 self.old) }
-        ensures err { OnErr result (self.new ≡ self.old) }
+    // Sets the moment, and the awaiting keys of each port as the clock has them.
+    fn show(&mut self, now: Cs, sets: Vec<Dirty<MsrpKey>>)
+        requires moment { self.old.moment ≤ now.0 }
+        requires sets { sets.items ≡ clocked_sets now.0
+            (talker_keys self.old.talks self.old.ports) self.old.ports self.old.awaiting }
+        ensures { self.new ≡ clocked_streams now.0 self.old }
     {
         each_key_awaits::<MsrpKey>();
         a_place_for_each_key::<MsrpApp>();
         every_step_keeps_a_book();
         fits_stay();
-        let alloc = *self.ports.allocator();
-        let keys = talker_keys(alloc, self.talks.as_slice(), self.ports.as_slice())?;
-        let awaiting = clocked_sets(
-            alloc,
-            self.ports.as_slice(),
-            self.awaiting.as_slice(),
-            now,
-            keys.as_slice(),
-        )?;
-        self.awaiting = awaiting;
+        self.awaiting = sets;
         clock_all(&mut self.ports, now);
         self.moment = now;
-        Ok(())
     }
 }
 

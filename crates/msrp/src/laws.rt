@@ -1,16 +1,40 @@
-//! What settling a port does to the keys that await: a law over the states that contracts see. It is a function that
-//! does nothing; calling it brings the law to a proof.
+//! What settling a port does to the keys that await, what MSRP at a node keeps at each call, and what it sends: laws
+//! over the states that contracts see. Each is a function that does nothing; calling it brings the law to a proof.
 
-ghost use Rattle.std.specs.Prelude.{◌≡◌, ◌≢◌, ◌||◌, ◌<◌, ℕ, [], length, slice_get, Some};
+ghost use Rattle.std.specs.Prelude.{◌≡◌, ◌≢◌, ◌||◌, ◌<◌, ◌≤◌, ◌^◌, ℕ, Bool, false, List, [], length, slice_get, Some};
+ghost use Rattle.std.specs.List.{AllByRecursion};
+ghost use Rattle.srp_base.specs.declared.numbers.BridgeId.{BridgeId};
+ghost use Rattle.srp_base.specs.declared.numbers.Cs.{Cs};
+ghost use Rattle.srp_base.specs.declared.ports.PortSetup.{PortSetup};
 ghost use Rattle.attribute_propagation.specs.Dirty.{is_awaiting};
+ghost use Rattle.mrp_participant.specs.Lookup.{Ascends, same};
+ghost use Rattle.mrp_participant.specs.State.{AreRows, is_silent};
 ghost use Rattle.msrp_codec.specs.declared.pdu.MsrpKey.{MsrpKey};
+ghost use Rattle.msrp_codec.specs.declared.pdu.MsrpPdu.{MsrpPdu};
+ghost use Rattle.msrp_codec.specs.Content.{Belongs};
+ghost use Rattle.msrp_codec.specs.Writing.{AreInRange, as_written, msrp_spelling, of_key};
+ghost use Rattle.msrp.specs.declared.asking.SrpRequest.{SrpRequest};
 ghost use Rattle.msrp.specs.declared.port.Port.{Port};
-ghost use Rattle.msrp.specs.Part.{key_cmp};
+ghost use Rattle.msrp.specs.Part.{HasOwnContents, Part, key_cmp, pdu_sent};
 ghost use Rattle.msrp.specs.Settling.{listener_keys, moved_streams};
-ghost use Rattle.msrp.specs.Side.{Streams, awaiting_at, settled_streams};
+ghost use Rattle.msrp.specs.Side.{IsWritten, Streams, awaiting_at, clocked_streams, due_streams, leave_all_streams, left_streams, new_streams, periodic_streams, received_streams, requested_streams, sent_streams, settled_streams, spoilt_streams};
+ghost use Rattle.msrp.specs.Proper.{HasRanges, IsProper, IsRequestInRange, setups_of};
 
+use crate::app::MsrpApp;
 use attribute_propagation::laws::each_key_awaits;
+use mrp_participant::laws::{
+    a_place_for_each_key, declarations_stay, due_tells_each_change, each_key_after_due,
+    each_key_after_periodic, each_key_after_receive, each_key_after_send, each_key_in_what_is_sent,
+    one_key_changes, receive_tells_each_change, registrations_stay, rows_stay_rows,
+    what_is_asked_holds, what_is_sent_is_a_pdu, what_is_sent_is_declared,
+};
 use msrp_codec::MsrpKey;
+use msrp_codec::laws::{each_key_keeps_its_event, stated_octets_suffice, what_is_written_is_read};
+use port_ledger::laws::{
+    every_step_keeps_a_book, fits_stay, nothing_changed_where_both_lists_are_empty,
+    other_wants_stay, what_has_not_moved_is_booked_as_before,
+};
+use srp_base::StreamId;
 
 /// Settling a port once leaves nothing awaiting there. At each other port it leaves what awaits, and adds exactly the
 /// Listener keys of the streams that it booked or dropped; of the ports it changes its own alone.
@@ -31,3 +55,115 @@ pub fn one_settling_is_enough()
 {
     each_key_awaits::<MsrpKey>();
 }
+
+/// A new side keeps what every side keeps, and all of it fits in the fields in which it is sent.
+pub fn a_new_side_is_proper()
+    ensures { (bridge : BridgeId) (leave_time : Cs) (periodic : Bool) (ports : List PortSetup)
+        → bridge.0 < 2 ^ 64 → IsProper (new_streams bridge leave_time periodic ports) }
+{
+    every_step_keeps_a_book();
+}
+
+/// Each call on a port keeps it, where what is received is of its keys and fits.
+pub fn every_call_keeps_a_side_proper()
+    ensures receive { (now : Cs) (at : ℕ) (pdu : MsrpPdu) (side : Streams)
+        → AllByRecursion (λ e. Belongs e.1 e.2) pdu.events → AreInRange pdu.events
+        → IsProper side → IsProper (received_streams now at pdu side) }
+    ensures due { (now : Cs) (at : ℕ) (side : Streams) → IsProper side
+        → IsProper (due_streams now at side) }
+    ensures leave_now { (at : ℕ) (key : MsrpKey) (side : Streams) → IsProper side
+        → IsProper (left_streams at key side) }
+    ensures leaveall_now { (now : Cs) (at : ℕ) (side : Streams) → IsProper side
+        → IsProper (leave_all_streams now at side) }
+    ensures periodic_now { (at : ℕ) (side : Streams) → IsProper side
+        → IsProper (periodic_streams at side) }
+    ensures spoil { (at : ℕ) (side : Streams) → IsProper side → IsProper (spoilt_streams at side) }
+    ensures send { (now : Cs) (at : ℕ) (side : Streams) → IsProper side
+        → IsProper (sent_streams now at side) }
+{
+    each_key_awaits::<MsrpKey>();
+    rows_stay_rows::<MsrpApp>();
+    declarations_stay::<MsrpApp>();
+    registrations_stay::<MsrpApp>();
+    receive_tells_each_change::<MsrpApp>();
+    due_tells_each_change::<MsrpApp>();
+    each_key_after_receive::<MsrpApp>();
+    each_key_after_due::<MsrpApp>();
+    each_key_after_periodic::<MsrpApp>();
+    each_key_after_send::<MsrpApp>();
+    one_key_changes::<MsrpApp>();
+    what_is_asked_holds::<MsrpApp>();
+}
+
+/// So do settling, a request of the application whose Talker fits, and a clock that doesn't go back.
+pub fn settling_and_requests_keep_a_side_proper()
+    ensures settle { (at : ℕ) (side : Streams) → IsProper side → IsProper (settled_streams at side) }
+    ensures request { (request : SrpRequest) (side : Streams) → IsRequestInRange request
+        → IsProper side → IsProper (requested_streams request side) }
+    ensures clock { (now : ℕ) (side : Streams) → side.moment ≤ now
+        → IsProper side → IsProper (clocked_streams now side) }
+{
+    each_key_awaits::<MsrpKey>();
+    each_key_awaits::<StreamId>();
+    a_place_for_each_key::<MsrpApp>();
+    rows_stay_rows::<MsrpApp>();
+    registrations_stay::<MsrpApp>();
+    one_key_changes::<MsrpApp>();
+    what_is_asked_holds::<MsrpApp>();
+    every_step_keeps_a_book();
+    other_wants_stay();
+    fits_stay();
+    nothing_changed_where_both_lists_are_empty();
+    what_has_not_moved_is_booked_as_before();
+}
+
+/// What a participant sends, where it isn't silent, is written in octets that read as it, its events in the order of
+/// types, at most 1,500. The keys of its events ascend strictly, and what is read has of each key the same one event,
+/// or none; each event is of its key and fits.
+pub fn what_is_sent_is_read()
+    ensures written { (now : Cs) (s : Part) → AreRows key_cmp s.rows → HasOwnContents s
+        → HasRanges s → is_silent s ≡ false
+        → IsWritten (pdu_sent now s) (msrp_spelling (pdu_sent now s)) }
+    ensures ascending { (now : Cs) (s : Part) → AreRows key_cmp s.rows
+        → Ascends key_cmp (λ e. e.1) (pdu_sent now s).events }
+    ensures one { (now : Cs) (s : Part) (key : MsrpKey) → AreRows key_cmp s.rows
+        → length (of_key (λ k. same key_cmp k key) (pdu_sent now s).events) ≤ 1 }
+    ensures each_key { (now : Cs) (s : Part) (key : MsrpKey) → AreRows key_cmp s.rows
+        → of_key (λ k. same key_cmp k key) (as_written (pdu_sent now s)).events
+        ≡ of_key (λ k. same key_cmp k key) (pdu_sent now s).events }
+    ensures belong { (now : Cs) (s : Part) → AreRows key_cmp s.rows → HasOwnContents s
+        → AllByRecursion (λ e. Belongs e.1 e.2) (as_written (pdu_sent now s)).events }
+    ensures in_range { (now : Cs) (s : Part) → AreRows key_cmp s.rows → HasRanges s
+        → AreInRange (as_written (pdu_sent now s)).events }
+{
+    what_is_sent_is_a_pdu::<MsrpApp>();
+    what_is_sent_is_declared::<MsrpApp>();
+    each_key_in_what_is_sent::<MsrpApp>();
+    each_key_keeps_its_event();
+    what_is_written_is_read();
+    stated_octets_suffice();
+}
+
+/// Every call keeps the link ports and how they are set up, so also their number.
+pub fn calls_keep_the_ports()
+    ensures receive { (now : Cs) (at : ℕ) (pdu : MsrpPdu) (side : Streams)
+        → setups_of (received_streams now at pdu side) ≡ setups_of side }
+    ensures due { (now : Cs) (at : ℕ) (side : Streams)
+        → setups_of (due_streams now at side) ≡ setups_of side }
+    ensures leave_now { (at : ℕ) (key : MsrpKey) (side : Streams)
+        → setups_of (left_streams at key side) ≡ setups_of side }
+    ensures leaveall_now { (now : Cs) (at : ℕ) (side : Streams)
+        → setups_of (leave_all_streams now at side) ≡ setups_of side }
+    ensures periodic_now { (at : ℕ) (side : Streams)
+        → setups_of (periodic_streams at side) ≡ setups_of side }
+    ensures spoil { (at : ℕ) (side : Streams) → setups_of (spoilt_streams at side) ≡ setups_of side }
+    ensures send { (now : Cs) (at : ℕ) (side : Streams)
+        → setups_of (sent_streams now at side) ≡ setups_of side }
+    ensures settle { (at : ℕ) (side : Streams)
+        → setups_of (settled_streams at side) ≡ setups_of side }
+    ensures request { (request : SrpRequest) (side : Streams)
+        → setups_of (requested_streams request side) ≡ setups_of side }
+    ensures clock { (now : ℕ) (side : Streams)
+        → setups_of (clocked_streams now side) ≡ setups_of side }
+    ensures count { (a b : Streams) → setups_of a ≡ setups_of b → length a.ports ≡ length b.ports }
+{}

@@ -27,7 +27,12 @@
 //! ledger, so that its booked slopes keep to its caps. After want of memory a side is as it was.
 //!
 //! A call on a port copies at most that port's participant and ledger, and the awaiting keys where some stream
-//! changed.
+//! changed. The clock stands in two parts: `prepare_clock` takes all memory, none where the clock shows nothing, and
+//! `clock_by` sets the clock without any, so that the clocks of a whole network are set together or not at all.
+//!
+//! `laws` has what a network's laws rest on, over these states alone: a side is proper (`specs/Proper.antt`) where it
+//! is kept and all that it keeps fits in the fields in which it is sent; every call keeps it so, and keeps how the
+//! ports are set up; and what a participant sends reads as what it said, at most one event of each key.
 //!
 //! To add a key: its variants in msrp_codec; what it is declared as, a line of `stated_at`; which changes make it
 //! await, a line of `keys_with`. To add a reason for which a port wants nothing of a stream: `want_of_reg`, and
@@ -49,5 +54,6 @@ mod tests;
 
 pub use app::MsrpApp;
 pub use asking::SrpRequest;
+pub use clock::ClockSets;
 pub use port::Port;
 pub use side::MsrpSide;

@@ -193,6 +193,13 @@ impl MsrpSide {
         all_still(self.ports.as_slice()) && none_awaits(self.awaiting.as_slice())
     }
 
+    /// Whether the participant of every port is sound.
+    pub fn all_sound(&self) -> bool
+        ensures { result ≡ list_all (λ p. p.part.sound) self.now.ports }
+    {
+        all_sound(self.ports.as_slice())
+    }
+
     /// Whether at some port a timer is due at the moment `now`, in cs, or a key awaits.
     pub fn is_busy(&self, now: Cs) -> bool
         ensures { result ≡ is_busy now self.now }
@@ -292,6 +299,12 @@ fn all_still(ports: &[Port]) -> bool
     ensures { result ≡ list_all (λ p. is_still p.part) ports.now }
 {
     ports.iter().all(|port| port.part.still())
+}
+
+fn all_sound(ports: &[Port]) -> bool
+    ensures { result ≡ list_all (λ p. p.part.sound) ports.now }
+{
+    ports.iter().all(|port| port.part.sound())
 }
 
 fn any_due(ports: &[Port], now: Cs) -> bool

@@ -239,6 +239,21 @@ fn clocks(side: &mut MsrpSide, now: u64) -> bool {
     now >= side.moment.0 && side.clock(Cs(now)).is_ok()
 }
 
+// Whether the clock was prepared, where it shows or not, and then set.
+fn clocks_prepared(side: &mut MsrpSide, now: u64, shows: bool) -> bool {
+    if now < side.moment.0 {
+        return false;
+    }
+    match side.prepare_clock(Cs(now)) {
+        Ok(sets) => {
+            let shown = sets.sets.is_some() == shows;
+            side.clock_by(Cs(now), sets);
+            shown
+        }
+        Err(_) => false,
+    }
+}
+
 // Whether the application asked.
 fn asks(side: &mut MsrpSide, request: SrpRequest) -> bool {
     side.request(request).is_ok()
@@ -357,6 +372,18 @@ fn an_emergency_stream_takes_anothers_place(rt: HostRuntime) -> Result<(), Fail>
     assert!(rt; settles(&mut side, 1, 3));
     assert!(rt; declares_listener(&side, 1, ONE, ListenerKind::ReadyFailed));
     assert!(rt; declares_listener(&side, 1, TWO, ListenerKind::Ready));
+    Ok(())
+}
+
+#[test]
+fn a_clock_is_prepared_and_then_set(rt: HostRuntime) -> Result<(), Fail> {
+    let mut side = wide_bridge(rt.alloc()).ok_or("a bridge")?;
+    assert!(rt; books_twice(&mut side));
+    assert!(rt; side.all_sound() && awaits(&side, 2, 0));
+    assert!(rt; clocks_prepared(&mut side, 5, true));
+    assert!(rt; awaits(&side, 2, 1));
+    assert!(rt; clocks_prepared(&mut side, 6, false));
+    assert!(rt; awaits(&side, 2, 1));
     Ok(())
 }
 

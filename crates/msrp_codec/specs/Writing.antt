@@ -12,7 +12,7 @@ use Rattle.msrp_codec.specs.declared.attribute_type.AttributeType.{AttributeType
 use Rattle.msrp_codec.specs.declared.pdu.MsrpKey.{MsrpKey}
 use Rattle.msrp_codec.specs.declared.pdu.MsrpPdu.{MsrpPdu}
 use Rattle.msrp_codec.specs.AttributeType.{number_of_type, length_of, all_types}
-use Rattle.msrp_codec.specs.FirstValue.{first_octets}
+use Rattle.msrp_codec.specs.FirstValue.{IsFirst, first_octets}
 use Rattle.msrp_codec.specs.Content.{type_of_content, value_of, four_packed_for, Belongs, octets_of_type, octets_of, base_octets}
 use Rattle.msrp_codec.specs.Meaning.{KeyEvent}
 
@@ -86,3 +86,7 @@ pub record IsWritable (read : MsrpPdu) : Type 0 where
   pub some : (read.leave_all || nat_lt 0 (length read.events)) ≡ true
   pub belong : AllByRecursion (λ x. Belongs x.1 x.2) read.events
   pub few : stated_octets read.events ≤ 1500
+
+-- the numbers of each event's value fit in their fields
+abbrev pub AreInRange : List KeyEvent → Type 0
+AreInRange events = AllByRecursion (λ x. IsFirst (value_of x.1 x.2)) events

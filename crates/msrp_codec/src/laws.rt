@@ -7,7 +7,7 @@ ghost use Rattle.std.specs.List.{AllByRecursion};
 ghost use Rattle.msrp_codec.specs.Content.{Belongs};
 ghost use Rattle.msrp_codec.specs.Key.{compare_keys};
 ghost use Rattle.msrp_codec.specs.Meaning.{KeyEvent, Reads, MsrpBreaks, msrp_reading};
-ghost use Rattle.msrp_codec.specs.Writing.{msrp_spelling, in_type_order, stated_octets, of_key};
+ghost use Rattle.msrp_codec.specs.Writing.{AreInRange, IsWritable, as_written, in_type_order, msrp_spelling, of_key, stated_octets};
 
 use crate::pdu::MsrpKey;
 
@@ -29,6 +29,17 @@ pub fn stated_octets_suffice()
     ensures { (pdu : MsrpPdu) → length (msrp_spelling pdu) ≤ stated_octets pdu.events }
 {
     mrpdu_codec::written_size();
+}
+
+/// What is written reads as what was written, its events in the order of types, where their values fit in their
+/// fields.
+pub fn what_is_written_is_read()
+    ensures { (pdu : MsrpPdu) → IsWritable pdu → AreInRange pdu.events
+        → msrp_reading (msrp_spelling pdu) ≡ Ok (as_written pdu) }
+{
+    mrpdu_codec::written_is_read();
+    mrpdu_codec::written_list_size();
+    mrpdu_codec::numbers_are_read_back();
 }
 
 /// The order of types keeps what each key says: where at most one event is of a key, the events of that key

@@ -31,7 +31,7 @@ decide (suc m) (suc n) = later (decide m n)
     later (inl e) = inl (ap suc e)
     later (inr ne) = inr (λ e. ne (omega arith))
 
-or_false : (a b : Bool) → (a || b) ≡ false → (a ≡ false) × (b ≡ false)
+pub or_false : (a b : Bool) → (a || b) ≡ false → (a ≡ false) × (b ≡ false)
 or_false true b h = cc
 or_false false b h = (refl, h)
 

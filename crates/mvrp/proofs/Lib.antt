@@ -4,3 +4,4 @@ mod SendingLemmas
 mod SettlingLemmas
 mod VidLemmas
 mod ProperLemmas
+mod ReadyLemmas

@@ -9,7 +9,7 @@ use Rattle.mrp_participant.specs.State.{AreRows, declared_at, registered_at, dec
 use Rattle.attribute_propagation.specs.Dirty.{is_awaiting}
 use Rattle.mvrp.specs.Part.{Part, same_content, declares, settled_vid, settled_part}
 use Rattle.mvrp.specs.Side.{Vlans, IsKept, IsFlatAt, is_flat, rule_at, awaiting_at, settled_vlans}
-use Rattle.std.proofs.lemmas.Option.{slice_get_read}
+use Rattle.std.proofs.lemmas.Option.{slice_get-get_or}
 use Rattle.mvrp.proofs.Places.{get-set_same, get-set_other, each-set, each-get}
 use Rattle.mvrp.proofs.Keeping.{decide, opened, flat_here, flat_there}
 
@@ -122,26 +122,18 @@ module _ (laws : Laws) (side : Vlans) (kept : IsKept side) (at : ℕ) (s : Part)
         flat = λ j. settled_flat j (decide at j);
       }
 
--- what `settle` leaves is kept, and is what it should be
-pub record HasSettled (side : Vlans) (at : ℕ) (t : Part) (none : List ℕ) : Type 0 where
-  pub kept : IsKept (record side { parts = slice_set side.parts at t; awaiting = slice_set side.awaiting at none })
-  pub is : record side { parts = slice_set side.parts at t; awaiting = slice_set side.awaiting at none } ≡ settled_vlans at side
+-- what settling leaves is kept, and is what it should be
+pub record HasSettled (side : Vlans) (at : ℕ) (t : Part) : Type 0 where
+  pub kept : IsKept (record side { parts = slice_set side.parts at t; awaiting = slice_set side.awaiting at [] })
+  pub is : record side { parts = slice_set side.parts at t; awaiting = slice_set side.awaiting at [] } ≡ settled_vlans at side
 
-pub settle_is : Laws → (side : Vlans) → IsKept side → (at : ℕ) → at < length side.parts → (x : Part) → x ≡ slice_index_or side.parts at x
-    → (vids : List ℕ) → vids ≡ slice_index_or side.awaiting at vids → (t : Part)
-    → IfSome (slice_get side.parts at) (λ s. t ≡ settled_part (rule_at at side.own side.parts) vids s)
-    → (none : List ℕ) → none ≡ [] → HasSettled side at t none
-settle_is laws side kept at below x x_is vids vids_is t t_is none none_is =
-    let here : slice_get side.parts at ≡ Some x = slice_get_read side.parts (length side.parts) at x refl below x_is in
-    let count = kept.ports in
-    let set : slice_get side.awaiting at ≡ Some vids = slice_get_read side.awaiting (length side.awaiting) at vids refl (omega (arith, count)) vids_is in
+pub settle_is : Laws → (side : Vlans) → IsKept side → (at : ℕ) → at < length side.parts → (vids : List ℕ) → slice_get side.awaiting at ≡ Some vids → (t : Part)
+    → IfSome (slice_get side.parts at) (λ s. t ≡ settled_part (rule_at at side.own side.parts) vids s) → HasSettled side at t
+settle_is laws side kept at below vids set t t_is =
+    let x : Part = slice_index_or side.parts at t in
+    let here : slice_get side.parts at ≡ Some x = slice_get-get_or side.parts at t below in
     let became : t ≡ settled_part (is_flat side at) vids x = opened (λ s. t ≡ settled_part (rule_at at side.own side.parts) vids s) (slice_get side.parts at) x here t_is in
     record {
-      kept = rw (became, none_is) (kept-settled laws side kept at x vids here set);
-      is = rw (became, none_is, here, set) refl;
+      kept = rw became (kept-settled laws side kept at x vids here set);
+      is = rw (became, here, set) refl;
     }
-
-pub awaiting_is : (side : Vlans) → IsKept side → (at : ℕ) → at < length side.parts → (vids : List ℕ) → vids ≡ slice_index_or side.awaiting at vids → awaiting_at at side ≡ vids
-awaiting_is side kept at below vids is =
-    let count = kept.ports in
-    rw (slice_get_read side.awaiting (length side.awaiting) at vids refl (omega (arith, count)) is) refl

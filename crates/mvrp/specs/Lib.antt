@@ -1,3 +1,4 @@
 pub mod Part
 pub mod Side
 pub mod Vids
+pub mod Ready

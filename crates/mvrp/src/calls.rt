@@ -17,8 +17,7 @@ use crate::side::MvrpSide;
 use attribute_propagation::laws::each_key_awaits;
 use attribute_propagation::{Dirty, await_elsewhere, await_everywhere};
 use mrp_participant::laws::{
-    declarations_stay, due_tells_each_change, receive_tells_each_change, registrations_stay,
-    what_is_asked_holds,
+    declarations_stay, receive_tells_each_change, registrations_stay, what_is_asked_holds,
 };
 use mrp_participant::{Msgs, Participant};
 use mvrp_codec::{DecodeErr, MvrpPdu, decode, encode};
@@ -74,15 +73,9 @@ impl MvrpSide {
             (λ s. n ≡ count_of (due_count now s))) }
         ensures err { OnErr result (self.new ≡ self.old) }
     {
-        self.keeps();
-        declarations_stay::<MvrpApp>();
-        due_tells_each_change::<MvrpApp>();
-        let alloc = *self.parts.allocator();
-        let at = usize::from(port.0) - 1;
-        let mut part = part_at(self.parts.as_slice(), at).copy()?;
-        let (fired, left) = part.due(now)?;
-        part.rows_ascend();
-        self.put(alloc, at, part, left.as_slice())?;
+        let ready = self.ready_due(now, port)?;
+        let fired = ready.count();
+        self.apply(ready);
         Ok(fired)
     }
 

@@ -24,6 +24,7 @@
 mod app;
 mod calls;
 pub mod laws;
+mod ready;
 mod sending;
 mod settling;
 mod side;
@@ -31,4 +32,5 @@ mod side;
 mod tests;
 
 pub use app::MvrpApp;
+pub use ready::Ready;
 pub use side::MvrpSide;

@@ -9,11 +9,10 @@ ghost use Rattle.mvrp.specs.Part.{settled_part, settled_vid, registers};
 ghost use Rattle.mvrp.specs.Side.{IsLinkPort, rule_at, place_of, count_of, awaiting_at, settled_vlans};
 
 use crate::app::MvrpApp;
-use crate::calls::{part_at, saturated};
+use crate::calls::part_at;
 use crate::side::MvrpSide;
 use attribute_propagation::{Dirty, flat_declares};
 use mrp_participant::Participant;
-use mrp_participant::laws::{registrations_stay, rows_stay_rows, what_is_asked_holds};
 use srp_base::{Cs, NoMemory, PortNo, Vid};
 use std::alloc::Global;
 
@@ -29,27 +28,15 @@ impl MvrpSide {
             ≡ count_of (length (awaiting_at (place_of port) self.old))) }
         ensures err { OnErr result (self.new ≡ self.old) }
     {
-        what_is_asked_holds::<MvrpApp>();
-        registrations_stay::<MvrpApp>();
-        rows_stay_rows::<MvrpApp>();
-        let alloc = *self.parts.allocator();
-        let at = usize::from(port.0) - 1;
-        let part = settled(
-            alloc,
-            self.parts.as_slice(),
-            &self.own,
-            at,
-            self.awaiting[at].as_slice(),
-        )?;
-        let count = saturated(self.awaiting[at].len());
-        self.parts[at] = part;
-        self.awaiting[at] = Dirty::new(alloc);
+        let ready = self.ready_settle(now, port)?;
+        let count = ready.count();
+        self.apply(ready);
         Ok(count)
     }
 }
 
 // The participant at a place with these VIDs settled.
-fn settled(
+pub(crate) fn settled(
     alloc: Global,
     parts: &[Participant<MvrpApp>],
     own: &Dirty<Vid>,

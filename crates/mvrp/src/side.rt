@@ -171,7 +171,10 @@ fn copied_parts(
     Ok(copies)
 }
 
-fn copied_awaiting(alloc: Global, sets: &[Dirty<Vid>]) -> Result<Vec<Dirty<Vid>>, NoMemory>
+pub(crate) fn copied_awaiting(
+    alloc: Global,
+    sets: &[Dirty<Vid>],
+) -> Result<Vec<Dirty<Vid>>, NoMemory>
     ensures { IfOk result (λ v. v.items ≡ sets.now) }
 {
     let mut copies = Vec::with_capacity(alloc, sets.len())?;

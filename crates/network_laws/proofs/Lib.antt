@@ -1,2 +1,10 @@
+pub mod Lists
 pub mod Places
+pub mod Paths
+pub mod AtRest
 pub mod VlanLaw
+pub mod StreamNode
+pub mod StreamNet
+pub mod StreamLaw
+pub mod StreamRest
+pub mod Refusals

@@ -3,7 +3,7 @@ use Rattle.std.proofs.Common.{◌≡◌, ◌≢◌, ◌⊎◌, inl, inr, ℕ, ze
 use Rattle.std.specs.Prelude.{slice_get, Option, Some, None, option_map, ◌==◌}
 use Rattle.std.specs.List.{list_all, list_any, range_with_len, AllByRecursion}
 use Rattle.std.specs.Option.{option_map_or}
-use Rattle.std.proofs.lemmas.Bool.{and_parts, eqb-true}
+use Rattle.std.proofs.lemmas.Bool.{and_parts}
 use Rattle.attribute_propagation.specs.Flat.{is_any, elsewhere}
 use Rattle.node_core.specs.declared.types.Wire.{Wire}
 use Rattle.node_core.specs.State.{NodeState, are_empty, box_at, ports_of}
@@ -13,34 +13,7 @@ use Rattle.tree_topology.specs.Ports.{neighbours}
 use Rattle.mvrp.specs.Side.{IsLinkPort}
 use Rattle.world_core.specs.World.{WorldState, node_at}
 use Rattle.world_core.specs.Kept.{IsKeptWorld}
-
--- a place of a list has an element
-pub get-some : {X : Type 0} (xs : List X) (i : ℕ) → i < length xs → (x : X) × (slice_get xs i ≡ Some x)
-get-some [] i h = absurd (omega arith)
-get-some (x ∷ xs) zero h = (x, refl)
-get-some (x ∷ xs) (suc i) h = let lt : i < length xs = omega arith in get-some xs i lt
-
-pub get-within : {X : Type 0} (xs : List X) (i : ℕ) (x : X) → slice_get xs i ≡ Some x → i < length xs
-get-within [] i x h = cc
-get-within (y ∷ xs) zero x h = omega arith
-get-within (y ∷ xs) (suc i) x h = omega (arith, get-within xs i x h)
-
-pub get-all : {X : Type 0} (test : X → Bool) (xs : List X) (i : ℕ) (x : X) → list_all test xs ≡ true → slice_get xs i ≡ Some x → test x ≡ true
-get-all test [] i x h e = cc
-get-all test (y ∷ xs) zero x h e = let same : y ≡ x = cc in ap test (sym same) ∙ (and_parts (test y) (list_all test xs) h).0
-get-all test (y ∷ xs) (suc i) x h e = get-all test xs i x (and_parts (test y) (list_all test xs) h).1 e
-
-pub each-get : {X : Type 0} (P : X → Type 0) (xs : List X) (i : ℕ) (x : X) → AllByRecursion P xs → slice_get xs i ≡ Some x → P x
-each-get P [] i x hs at = cc
-each-get P (y ∷ xs) zero x hs at = let same : y ≡ x = cc in subst P same hs.0
-each-get P (y ∷ xs) (suc i) x hs at = each-get P xs i x hs.1 at
-
-no-length : {X : Type 0} (xs : List X) → (length xs == 0) ≡ true → xs ≡ []
-no-length [] h = refl
-no-length (x ∷ xs) h = absurd (omega (arith, eqb-true (length (x ∷ xs)) 0 h))
-
-pub get-empty : {X : Type 0} (sets : List (List X)) (i : ℕ) (xs : List X) → list_all (λ ys. length ys == 0) sets ≡ true → slice_get sets i ≡ Some xs → xs ≡ []
-get-empty sets i xs h e = no-length xs (get-all (λ ys. length ys == 0) sets i xs h e)
+use Rattle.network_laws.proofs.Lists.{no-length}
 
 -- no PDU waits in any box
 pub empty-box : (boxes : List (List Wire)) (i : ℕ) → are_empty boxes ≡ true → box_at i boxes ≡ []

@@ -15,22 +15,17 @@ use Rattle.tree_topology.specs.Walk.{is_behind}
 use Rattle.tree_topology.specs.PortLaws.{HasPortLaws, IsPropagated, HasBeyond, HasBehind}
 use Rattle.attribute_propagation.specs.Dirty.{is_awaiting}
 use Rattle.attribute_propagation.specs.Flat.{elsewhere}
-use Rattle.mrp_participant.specs.Link.{Link, AreDutiesMet}
-use Rattle.mrp_participant.specs.State.{is_still, registered_at, declared_at}
+use Rattle.mrp_participant.specs.State.{is_still}
 use Rattle.mvrp.specs.Part.{Part, registers, declares}
 use Rattle.mvrp.specs.Side.{Vlans, IsKept, place_of, has_own, is_flat, are_still}
-use Rattle.node_core.specs.State.{NodeState, box_at, are_empty, is_still_node, ports_of}
-use Rattle.world_core.specs.World.{WorldState, node_at, inbox, outbox, all_sound}
-use Rattle.world_core.specs.Duty.{messages_of, in_flight, vlan_part, link_with}
-use Rattle.world_core.specs.Kept.{IsKeptWorld, IsIdleBridge, AreBridgesIdle, FitsTree}
+use Rattle.node_core.specs.State.{NodeState, ports_of}
+use Rattle.world_core.specs.World.{WorldState, node_at}
+use Rattle.world_core.specs.Duty.{message_of, vlan_place, vlan_part}
+use Rattle.world_core.specs.Kept.{IsKeptWorld, IsIdleBridge, FitsTree}
 use Rattle.network_laws.specs.Vlans.{is_registered, is_station, is_declared_at, is_declared_behind, HasDeclaredBehind, VlansMatch, IsAtRest}
-use Rattle.network_laws.proofs.Places.{each-get, get-some, get-within, get-all, get-empty, empty-box, is_other, other-at, other-from, flat-cases, flat-own, flat-other, get-map, map-get, range-from, range-at, one-test}
-
--- what a still link registers at its near end
-abbrev pub StillLink : Type 0
-StillLink = (l : Link ℕ (Unit {0})) → AreDutiesMet nat_cmp l → l.sent ≡ [] → l.coming ≡ []
-    → is_still l.near ≡ true → is_still l.far ≡ true → l.far.sound ≡ true
-    → (k : ℕ) → registered_at nat_cmp k l.near ≡ declared_at nat_cmp k l.far
+use Rattle.network_laws.proofs.AtRest.{StillLink, IsStillNode, still-at, registers-declared}
+use Rattle.network_laws.proofs.Lists.{each-get, get-some, get-within, get-all, get-empty}
+use Rattle.network_laws.proofs.Places.{empty-box, is_other, other-at, other-from, flat-cases, flat-own, flat-other, get-map, map-get, range-from, range-at, one-test}
 
 -- an application that declares is a station's
 station-own : (vid : ℕ) (kind : NodeKind) (vlans : Vlans) → (kind ≡ Bridge → vlans.own ≡ []) → has_own vid vlans ≡ true → (is_station kind && has_own vid vlans) ≡ true
@@ -44,7 +39,7 @@ both false b h k = cc
 one : {X : Type 0} (o : Option X) (x y : X) → o ≡ Some x → o ≡ Some y → x ≡ y
 one o x y a b = cc
 
-module _ (w : WorldState) (kept : IsKeptWorld w) (idle : AreBridgesIdle w) (rest : IsAtRest w) (laws : HasPortLaws w.tree) (still : StillLink) where
+module _ (w : WorldState) (kept : IsKeptWorld w) (rest : IsAtRest w) (laws : HasPortLaws w.tree) (still : StillLink ℕ (Unit {0}) nat_cmp) where
   -- a port's node, and its participant
   record At (p : EgressPort) : Type 0 where
     s : NodeState
@@ -71,50 +66,22 @@ module _ (w : WorldState) (kept : IsKeptWorld w) (idle : AreBridgesIdle w) (rest
   vlan-is : (p : EgressPort) (a : At p) → vlan_part p w ≡ Some a.part
   vlan-is p a = ap (λ o. option_and_then (λ (s : NodeState). slice_get s.vlans.parts (place_of p.port)) o) a.node ∙ a.has
 
-  -- ---- what rest says of a node
+  -- ---- what rest says
 
-  still-node : (p : EgressPort) (a : At p) → is_still_node a.s ≡ true
-  still-node p a = get-all is_still_node w.nodes (p.node.0 - 1) a.s rest.quiet a.node
-
-  boxes : (p : EgressPort) (a : At p) → (are_empty a.s.inboxes ≡ true) × (are_empty a.s.outboxes ≡ true)
-  boxes p a = and_parts (are_empty a.s.inboxes) (are_empty a.s.outboxes) (and_parts (are_empty a.s.inboxes && are_empty a.s.outboxes) (are_still a.s.vlans) (still-node p a)).0
-
-  side-still : (p : EgressPort) (a : At p) → (list_all is_still a.s.vlans.parts ≡ true) × (list_all (λ (vids : List ℕ). length vids == 0) a.s.vlans.awaiting ≡ true)
-  side-still p a =
-      and_parts (list_all is_still a.s.vlans.parts) (list_all (λ (vids : List ℕ). length vids == 0) a.s.vlans.awaiting)
-      (and_parts (are_empty a.s.inboxes && are_empty a.s.outboxes) (are_still a.s.vlans) (still-node p a)).1
+  still-node : (p : EgressPort) (a : At p) → IsStillNode a.s
+  still-node p a = still-at w rest (p.node.0 - 1) a.s a.node
 
   part-still : (p : EgressPort) (a : At p) → is_still a.part ≡ true
-  part-still p a = get-all is_still a.s.vlans.parts (place_of p.port) a.part (side-still p a).0 a.has
+  part-still p a = get-all is_still a.s.vlans.parts (place_of p.port) a.part (still-node p a).vlans a.has
 
   part-sound : (p : EgressPort) (a : At p) → a.part.sound ≡ true
-  part-sound p a =
-      get-all (λ (part : Part). part.sound) a.s.vlans.parts (place_of p.port) a.part
-      (get-all all_sound w.nodes (p.node.0 - 1) a.s rest.in_step a.node) a.has
-
-  -- ---- the link
-
-  inbox-empty : (p : EgressPort) (a : At p) → inbox p w ≡ []
-  inbox-empty p a =
-      ap (λ o. option_map_or (λ (s : NodeState). box_at (place_of p.port) s.inboxes) o []) a.node
-      ∙ empty-box a.s.inboxes (place_of p.port) (boxes p a).0
-
-  outbox-empty : (p : EgressPort) (a : At p) → outbox p w ≡ []
-  outbox-empty p a =
-      ap (λ o. option_map_or (λ (s : NodeState). box_at (place_of p.port) s.outboxes) o []) a.node
-      ∙ empty-box a.s.outboxes (place_of p.port) (boxes p a).1
-
-  none-in-flight : (p : EgressPort) → HasPort w.tree p → messages_of (in_flight p w) ≡ []
-  none-in-flight p h =
-      ap (λ xs. messages_of (xs ++ outbox p w)) (inbox-empty (peer_of w.tree.links p) (at-port (peer_of w.tree.links p) (laws.peer_port p h)))
-      ∙ ap messages_of (outbox-empty p (at-port p h))
+  part-sound p a = get-all (λ (part : Part). part.sound) a.s.vlans.parts (place_of p.port) a.part (still-node p a).vlans_sound a.has
 
   -- what a port has registered is what its peer declares
   linked : (p : EgressPort) → HasPort w.tree p → (a : At p) (b : At (peer_of w.tree.links p)) (vid : ℕ) → registers vid a.part ≡ declares vid b.part
   linked p h a b vid =
-      let q = peer_of w.tree.links p in
-      ap is_some (still (link_with p w a.part b.part) (kept.duties p h a.part b.part (vlan-is p a) (vlan-is q b))
-      (none-in-flight p h) (none-in-flight q (laws.peer_port p h)) (part-still p a) (part-still q b) (part-sound q b) vid)
+      ap is_some (registers-declared w rest kept laws nat_cmp vlan_place message_of kept.duties still p h a.part b.part (vlan-is p a) (vlan-is (peer_of w.tree.links p) b)
+      (part-still p a) (part-still (peer_of w.tree.links p) b) (part-sound (peer_of w.tree.links p) b) vid)
 
   -- ---- the node
 
@@ -124,7 +91,7 @@ module _ (w : WorldState) (kept : IsKeptWorld w) (idle : AreBridgesIdle w) (rest
       let side = (fits p a).kept.kept.vlans in
       let lt : place_of p.port < length a.s.vlans.awaiting = omega (arith, side.ports, get-within a.s.vlans.parts (place_of p.port) a.part a.has) in
       let vids = get-some a.s.vlans.awaiting (place_of p.port) lt in
-      let none : vids.0 ≡ [] = get-empty a.s.vlans.awaiting (place_of p.port) vids.0 (side-still p a).1 vids.1 in
+      let none : vids.0 ≡ [] = get-empty a.s.vlans.awaiting (place_of p.port) vids.0 (still-node p a).no_vids vids.1 in
       side.flat (place_of p.port) a.part vids.0 vid a.has vids.1 (ap (λ (ks : List ℕ). is_awaiting nat_cmp vid ks) none)
 
   registered-is : (p : EgressPort) (a : At p) (vid : ℕ) → is_registered w vid p ≡ registers vid a.part
@@ -163,7 +130,7 @@ module _ (w : WorldState) (kept : IsKeptWorld w) (idle : AreBridgesIdle w) (rest
 
       by : (has_own vid b.s.vlans ≡ true) ⊎ (is_other (place_of (peer_of w.tree.links p).port) (map (registers vid) b.s.vlans.parts) ≡ true)
           → (is_declared_at w vid (far_node w.tree.links p) ≡ true) ⊎ HasBeyond w.tree (is_registered w vid) p
-      by (inl o) = inl (declared-is p b vid ∙ station-own vid b.s.kind b.s.vlans (each-get IsIdleBridge w.nodes ((peer_of w.tree.links p).node.0 - 1) b.s idle b.node) o)
+      by (inl o) = inl (declared-is p b vid ∙ station-own vid b.s.kind b.s.vlans (λ k. (each-get IsIdleBridge w.nodes ((peer_of w.tree.links p).node.0 - 1) b.s kept.idle b.node k).own) o)
       by (inr r) =
           let j = other-at (place_of (peer_of w.tree.links p).port) (map (registers vid) b.s.vlans.parts) r in
           let x = get-map (registers vid) b.s.vlans.parts j.0 j.2 in

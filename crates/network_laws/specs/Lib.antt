@@ -1,1 +1,2 @@
 pub mod Vlans
+pub mod Streams

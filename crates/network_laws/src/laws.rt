@@ -1,25 +1,33 @@
 //! The laws of a network at rest. Each is a function that does nothing; calling it brings the law to a proof.
 
-ghost use Rattle.std.specs.Prelude.{◌≡◌, ℕ, List};
+ghost use Rattle.std.specs.Prelude.{◌≡◌, ◌↔◌, ℕ, true, false, List, Some, IsSome};
 ghost use Rattle.std.specs.List.{AllByRecursion};
 ghost use Rattle.srp_base.specs.declared.numbers.EgressPort.{EgressPort};
-ghost use Rattle.tree_topology.specs.Topology.{HasPort};
+ghost use Rattle.srp_base.specs.declared.numbers.StreamId.{StreamId};
+ghost use Rattle.tree_topology.specs.Topology.{HasNode, HasPort};
 ghost use Rattle.topology_file.specs.Plan.{Plan};
 ghost use Rattle.topology_file.specs.Scenario.{KeepsRules};
 ghost use Rattle.world_core.specs.declared.events.WorldEvent.{WorldEvent};
 ghost use Rattle.world_core.specs.declared.journal.Tick.{Tick};
-ghost use Rattle.world_core.specs.World.{WorldState, CanAllHappen, NamesVids, world_after};
+ghost use Rattle.world_core.specs.World.{WorldState, CanAllHappen, IsEventInRange, world_after};
 ghost use Rattle.world_core.specs.Start.{world_of};
-ghost use Rattle.world_core.specs.Duty.{AreVlanDutiesMet};
+ghost use Rattle.world_core.specs.Duty.{AreStreamDutiesMet, AreVlanDutiesMet};
 ghost use Rattle.world_core.specs.Kept.{IsKeptWorld};
 ghost use Rattle.world_core.specs.Moments.{IsMoment};
 ghost use Rattle.world_core.specs.Ticks.{AreLegalTicks};
 ghost use Rattle.network_laws.specs.Vlans.{VlansMatch, IsAtRest, is_registered, is_declared_behind};
+ghost use Rattle.network_laws.specs.declared.streams.Refusal.{Refusal};
+ghost use Rattle.network_laws.specs.Streams.{failure_at, hears_ready, is_listened_at, is_path_booked, is_talked_at, refusal_to, IsNamedAt, IsRefusalTo, IsTalkedOnce, KeepsStreamLaws};
 
 use mrp_participant::link_laws::a_still_link_registers_what_is_declared;
+use msrp::MsrpApp;
 use mvrp::MvrpApp;
+use port_ledger::laws::decisions_stand;
 use tree_topology::laws::{ports, the_walk};
-use world_core::laws::{a_scenario_begins_well, every_event_keeps_it, every_moment_keeps_it};
+use world_core::laws::{
+    a_scenario_begins_well, every_event_keeps_it, every_moment_keeps_it,
+    every_moment_talks_by_the_plan,
+};
 
 /// In every network at rest a VID is registered at a port exactly where a station behind the port, in the words of the
 /// tree's walks, has declared it (IEEE Std 802.1Q-2018, 11.2); so both sides that `vlans_match` answers are equal.
@@ -61,10 +69,78 @@ pub fn duties_are_met_in_every_run()
 pub fn vlans_match_after_every_list_of_events()
     ensures { (plan : Plan) (events : List WorldEvent) → KeepsRules plan
         → CanAllHappen events (world_of plan)
-        → AllByRecursion NamesVids events → IsAtRest (world_after events (world_of plan))
+        → AllByRecursion IsEventInRange events → IsAtRest (world_after events (world_of plan))
         → VlansMatch (world_after events (world_of plan)) }
 {
     vlans_are_those_declared_behind();
     a_scenario_begins_well();
     every_event_keeps_it();
+}
+
+/// In every network at rest, of each stream that at most one station talks: its Talker is registered at a port exactly where
+/// that station is behind the port; each other station that listens to it hears Ready exactly where every egress port on the
+/// path from there has booked it; and where a station's port has a Talker Failed for want of bandwidth, it is because more
+/// important bookings at a port of the named bridge on that path leave no place for it (IEEE Std 802.1Q-2018, 35.2.4). So both
+/// sides that `ready_on_path` answers are equal, and `refusal_shown` shows such a port.
+pub fn streams_keep_their_laws()
+    ensures law { (w : WorldState) (stream : StreamId) → IsKeptWorld w → IsAtRest w
+        → IsTalkedOnce w stream
+        → KeepsStreamLaws w stream }
+    ensures sides { (w : WorldState) (stream : StreamId) (l : ℕ) → IsKeptWorld w → IsAtRest w
+        → IsTalkedOnce w stream
+        → HasNode w.tree l → is_listened_at w stream l ≡ true → is_talked_at w stream l ≡ false
+        → hears_ready w stream l ≡ is_path_booked w stream l }
+    ensures shown { (w : WorldState) (stream : StreamId) (l : ℕ) → IsKeptWorld w → IsAtRest w
+        → IsTalkedOnce w stream
+        → HasNode w.tree l → IsSome (failure_at w stream l) → IsSome (refusal_to w stream l) }
+{
+    a_still_link_registers_what_is_declared::<MsrpApp>();
+    decisions_stand();
+    ports();
+    the_walk();
+}
+
+/// In every network a refusal is shown exactly where a port is named: the listener's port has a Talker Failed with a code of
+/// bandwidth, the port is on the path from the Talker's station, its node has the failure's BridgeID, and its ledger refuses
+/// the stream with that code. What is shown is such a port with what its ledger says, and what is more important there, with
+/// the stream's own slope, passes the cap.
+pub fn a_refusal_says_why()
+    ensures says { (w : WorldState) (stream : StreamId) (l : ℕ) (refusal : Refusal)
+        → refusal_to w stream l ≡ Some refusal → IsRefusalTo w stream l refusal }
+    ensures exactly { (w : WorldState) (stream : StreamId) (l : ℕ)
+        → IsSome (refusal_to w stream l) ↔ ((p : EgressPort) × IsNamedAt w stream l p) }
+{}
+
+/// At every moment of every legal run of a scenario at which the network is at rest, the laws of streams hold of each stream.
+pub fn streams_keep_their_laws_whenever_at_rest()
+    ensures { (plan : Plan) (ticks : List Tick) (end w : WorldState) (stream : StreamId)
+        → KeepsRules plan → AreLegalTicks plan ticks end
+        → IsMoment plan ticks w → IsAtRest w → KeepsStreamLaws w stream }
+{
+    streams_keep_their_laws();
+    every_moment_keeps_it();
+    every_moment_talks_by_the_plan();
+}
+
+/// From the start of a scenario on, after every list of events that may happen: where the network is then at rest, the laws of
+/// streams hold of each stream that at most one station then talks.
+pub fn streams_keep_their_laws_after_every_list_of_events()
+    ensures { (plan : Plan) (events : List WorldEvent) (stream : StreamId) → KeepsRules plan
+        → CanAllHappen events (world_of plan)
+        → AllByRecursion IsEventInRange events → IsAtRest (world_after events (world_of plan))
+        → IsTalkedOnce (world_after events (world_of plan)) stream
+        → KeepsStreamLaws (world_after events (world_of plan)) stream }
+{
+    streams_keep_their_laws();
+    a_scenario_begins_well();
+    every_event_keeps_it();
+}
+
+/// At every moment of every legal run of a scenario, at rest or not, both ends of each link meet their duty in MSRP too.
+pub fn stream_duties_are_met_in_every_run()
+    ensures { (plan : Plan) (ticks : List Tick) (end w : WorldState) → KeepsRules plan
+        → AreLegalTicks plan ticks end
+        → IsMoment plan ticks w → AreStreamDutiesMet w }
+{
+    every_moment_keeps_it();
 }

@@ -6,9 +6,22 @@
 //!   induction on a tree   so it is registered at a port exactly where a station behind the port has declared it
 //! ```
 //!
+//! Of a stream that at most one station talks:
+//!
+//! ```text
+//!   t1 --> b1 --> b2 --> l     the Talker's port of each node is the one that leads to t1
+//!                              a port has booked: the Talker is advertised there, and a Listener behind is Ready,
+//!                              so the port before it has the Talker advertised and a Ready Listener too, and has booked
+//! ```
+//!
+//! So the Talker is registered exactly where its station is behind, a listener hears Ready exactly where every egress port on
+//! the path has booked, and a failure for want of bandwidth comes of a port of the path at which more important bookings leave
+//! no place.
+//!
 //! A network is at rest where nothing is pending (`is_quiet`) and every port has sent a LeaveAll since the last loss on its
-//! link (`is_in_step`). `vlans_match` answers both sides of the law in every network, at rest or not, each by its own
-//! definition (`specs/Vlans.antt`); `laws` says that they are equal at rest.
+//! link (`is_in_step`). `vlans_match` and `ready_on_path` answer both sides of their laws in every network, at rest or not,
+//! each by its own definition (`specs/Vlans.antt`, `specs/Streams.antt`), and `refusal_shown` the port that refuses; `laws`
+//! says that the sides are equal at rest, and that there is such a port.
 //!
 //! A further law has its two sides in a file of `specs/`, a call that answers both, and its sentence in `laws`, over networks
 //! and over the moments of a run; the command that prints a run takes it into its record of what holds.
@@ -16,7 +29,11 @@
 
 pub mod laws;
 #[cfg(test)]
+mod stream_tests;
+mod streams;
+#[cfg(test)]
 mod tests;
 mod vlans;
 
+pub use streams::{Refusal, ready_on_path, refusal_shown};
 pub use vlans::{Sides, vlans_match};

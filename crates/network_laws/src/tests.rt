@@ -33,13 +33,13 @@ fn pair(alloc: Global) -> Result<World, Fail> {
     Ok(World::of(alloc, &scenario)?)
 }
 
-fn has_node(world: &World, node: NodeNo) -> bool
+pub(crate) fn has_node(world: &World, node: NodeNo) -> bool
     ensures { IsTrue result → HasNode world.now.tree node.0 }
 {
     1 <= node.0 && node.0 <= world.tree().nodes()
 }
 
-fn has_port(world: &World, at: EgressPort) -> bool
+pub(crate) fn has_port(world: &World, at: EgressPort) -> bool
     ensures { IsTrue result → HasPort world.now.tree at }
 {
     if !has_node(world, at.node) {
@@ -70,14 +70,14 @@ fn can_happen(world: &World, event: WorldEvent) -> bool
 }
 
 // What an event answers; None where it can't happen.
-fn answer(world: &mut World, event: WorldEvent) -> Result<Option<WorldReply>, NoMemory> {
+pub(crate) fn answer(world: &mut World, event: WorldEvent) -> Result<Option<WorldReply>, NoMemory> {
     if !can_happen(world, event) {
         return Ok(None);
     }
     Ok(Some(world.step(event)?))
 }
 
-fn has_answers(
+pub(crate) fn has_answers(
     rt: &impl Abort,
     world: &mut World,
     cases: &[(WorldEvent, WorldReply)],

@@ -11,6 +11,7 @@ use Rattle.srp_base.specs.declared.ports.PortSetup.{PortSetup}
 use Rattle.tree_topology.specs.declared.graph.NodeKind.{NodeKind}
 use Rattle.mrp_participant.specs.State.{new_state}
 use Rattle.mvrp.specs.Side.{Vlans, IsKept, new_vlans}
+use Rattle.msrp.specs.Side.{Streams, IsKept as IsKeptStreams, new_port, new_streams}
 use Rattle.node_core.specs.declared.types.Wire.{Wire}
 use Rattle.node_core.specs.Wires.{IsShort, AreShort, without}
 use Rattle.node_core.specs.State.{NodeState, box_at}
@@ -33,31 +34,39 @@ each_set P [] i y h hs = tt
 each_set P (x ∷ xs) zero y h hs = (h, hs.1)
 each_set P (x ∷ xs) (suc i) y h hs = (hs.0, each_set P xs i y h hs.1)
 
-pub short_box : (boxes : List (List Wire)) (i : ℕ) → AllByRecursion AreShort boxes → AreShort (box_at i boxes)
-short_box [] i hs = tt
-short_box (b ∷ boxes) zero hs = hs.0
-short_box (b ∷ boxes) (suc i) hs = short_box boxes i hs.1
+pub each_box : (P : Wire → Type 0) (boxes : List (List Wire)) (i : ℕ) → AllByRecursion (AllByRecursion P) boxes → AllByRecursion P (box_at i boxes)
+each_box P [] i hs = tt
+each_box P (b ∷ boxes) zero hs = hs.0
+each_box P (b ∷ boxes) (suc i) hs = each_box P boxes i hs.1
 
-pub short_append : (xs ys : List Wire) → AreShort xs → AreShort ys → AreShort (xs ++ ys)
-short_append [] ys h k = k
-short_append (x ∷ xs) ys h k = (h.0, short_append xs ys h.1 k)
+-- so it does of lists behind one another, of one without the PDU at a place, and of one with it twice
+pub each_append : {X : Type 0} (P : X → Type 0) (xs ys : List X) → AllByRecursion P xs → AllByRecursion P ys → AllByRecursion P (xs ++ ys)
+each_append P [] ys h k = k
+each_append P (x ∷ xs) ys h k = (h.0, each_append P xs ys h.1 k)
 
-pub short_without : (i : ℕ) (xs : List Wire) → AreShort xs → AreShort (without i xs)
-short_without i [] h = nil i
+pub each_without : (P : Wire → Type 0) (i : ℕ) (xs : List Wire) → AllByRecursion P xs → AllByRecursion P (without i xs)
+each_without P i [] h = nil i
   where
-    nil : (j : ℕ) → AreShort (without j [])
+    nil : (j : ℕ) → AllByRecursion P (without j [])
     nil zero = tt
     nil (suc j) = tt
-short_without zero (x ∷ xs) h = h.1
-short_without (suc i) (x ∷ xs) h = (h.0, short_without i xs h.1)
+each_without P zero (x ∷ xs) h = h.1
+each_without P (suc i) (x ∷ xs) h = (h.0, each_without P i xs h.1)
+
+pub each_repeated : (P : Wire → Type 0) (i : ℕ) (xs : List Wire) → AllByRecursion P xs → AllByRecursion P (repeated i xs)
+each_repeated P i [] h = nil i
+  where
+    nil : (j : ℕ) → AllByRecursion P (repeated j [])
+    nil j = tt
+each_repeated P zero (x ∷ xs) h = (h.0, (h.0, h.1))
+each_repeated P (suc i) (x ∷ xs) h = (h.0, each_repeated P i xs h.1)
+
+pub each_new : {X : Type 0} (P : Wire → Type 0) (xs : List X) → AllByRecursion (AllByRecursion P) (map (λ _. []) xs)
+each_new P [] = tt
+each_new P (x ∷ xs) = (tt, each_new P xs)
 
 pub short_repeated : (i : ℕ) (xs : List Wire) → AreShort xs → AreShort (repeated i xs)
-short_repeated i [] h = nil i
-  where
-    nil : (j : ℕ) → AreShort (repeated j [])
-    nil j = tt
-short_repeated zero (x ∷ xs) h = (h.0, (h.0, h.1))
-short_repeated (suc i) (x ∷ xs) h = (h.0, short_repeated i xs h.1)
+short_repeated i xs h = each_repeated IsShort i xs h
 
 -- a copy right before its original is one right behind it
 pub insert_repeated : (xs : List Wire) (i : ℕ) (d : Wire) → i < length xs → insert xs i (slice_index_or xs i d) ≡ repeated i xs
@@ -65,32 +74,33 @@ insert_repeated [] i d h = absurd (omega arith)
 insert_repeated (x ∷ xs) zero d h = refl
 insert_repeated (x ∷ xs) (suc i) d h = let lt : i < length xs = omega arith in ap (λ ys. x ∷ ys) (insert_repeated xs i d lt)
 
-pub short_new : {X : Type 0} (xs : List X) → AllByRecursion AreShort (map (λ _. []) xs)
-short_new [] = tt
-short_new (x ∷ xs) = (tt, short_new xs)
-
 -- a copy of the PDU at a place is put in there
 pub repeated_of : (xs : List Wire) (i : ℕ) (x d : Wire) → i < length xs → x ≡ slice_index_or xs i d → insert xs i x ≡ repeated i xs
 repeated_of xs i x d h e = ap (λ y. insert xs i y) e ∙ insert_repeated xs i d h
 
 -- a new node keeps what every node keeps
 pub new_boxes_kept : (ports : List PortSetup) (kind : NodeKind) (bridge : BridgeId) (leave_time : Cs) (periodic : Bool)
-    (v : Vlans) (ins outs : List (List Wire))
+    (v : Vlans) (t : Streams) (ins outs : List (List Wire))
     → length ports ≤ 255 → IsKept v → v ≡ new_vlans leave_time periodic ports
+    → IsKeptStreams t → t ≡ new_streams bridge leave_time periodic ports
     → ins ≡ map (λ _. []) ports → outs ≡ map (λ _. []) ports
-    → IsKeptNode (record { kind = kind; bridge = bridge; clock = record { 0 = 0 }; vlans = v; inboxes = ins; outboxes = outs })
-new_boxes_kept ports kind bridge leave_time periodic v ins outs few kept is in_is out_is =
+    → IsKeptNode (record { kind = kind; bridge = bridge; clock = record { 0 = 0 }; vlans = v; streams = t; inboxes = ins; outboxes = outs })
+new_boxes_kept ports kind bridge leave_time periodic v t ins outs few kept is kept_streams streams_is in_is out_is =
     let none : PortSetup → List Wire = λ p. [] in
     let parts : length v.parts ≡ length ports = ap (λ (w : Vlans). length w.parts) is ∙ length-map ports (λ (p : PortSetup). new_state p.period leave_time periodic) in
+    let links : length t.ports ≡ length ports = ap (λ (u : Streams). length u.ports) streams_is ∙ length-map ports (new_port bridge leave_time periodic) in
     let boxes : length (map none ports) ≡ length ports = length-map ports none in
     record {
       vlans = kept;
+      streams = kept_streams;
+      same_ports = links ∙ sym parts;
       inboxes = ap length in_is ∙ (boxes ∙ sym parts);
       outboxes = ap length out_is ∙ (boxes ∙ sym parts);
       few = omega arith;
-      short_in = rw in_is (short_new ports);
-      short_out = rw out_is (short_new ports);
+      short_in = rw in_is (each_new IsShort ports);
+      short_out = rw out_is (each_new IsShort ports);
       clock = omega arith;
+      moment = ap (λ (u : Streams). u.moment) streams_is;
     }
 
 -- a node with other short PDUs in an inbox keeps what it kept
@@ -98,10 +108,13 @@ pub kept_inbox : (s : NodeState) (at : ℕ) (wires : List Wire) → IsKeptNode s
 kept_inbox s at wires kept short =
     record {
       vlans = kept.vlans;
+      streams = kept.streams;
+      same_ports = kept.same_ports;
       inboxes = length-set s.inboxes at wires ∙ kept.inboxes;
       outboxes = kept.outboxes;
       few = kept.few;
       short_in = each_set AreShort s.inboxes at wires short kept.short_in;
       short_out = kept.short_out;
       clock = kept.clock;
+      moment = kept.moment;
     }

@@ -1,6 +1,6 @@
 pub mod Sizes
+pub mod StreamSizes
 pub mod Boxes
 pub mod Sending
-pub mod ProperSteps
-pub mod StepFacts
 mod Registered
+pub mod ProperSteps

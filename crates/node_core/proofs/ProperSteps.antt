@@ -1,6 +1,7 @@
 -- Each step of a node, and what happens to the PDUs that wait, keeps what every node keeps.
 use Rattle.std.proofs.Common.{◌≡◌, ℕ, zero, suc, ◌+◌, ◌<◌, ◌≤◌, ◌^◌, Bool, true, false, if◌then◌else◌, List, [], ◌∷◌, ◌++◌, length, map, refl, sym, ap, subst, ◌∙◌, arith}
 use Rattle.std.specs.Prelude.{slice_get, slice_set, Option, Some, None, Result, Ok, Err}
+use Rattle.std.proofs.lemmas.List.{length-map}
 use Rattle.std.proofs.Math.ListN.{length-set}
 use Rattle.std.specs.List.{AllByRecursion}
 use Rattle.std.specs.Option.{option_map_or}
@@ -10,29 +11,44 @@ use Rattle.srp_base.specs.declared.mrp.App.{App}
 use Rattle.srp_base.specs.declared.mrp.App.TheVariants.{Mvrp, Msrp}
 use Rattle.srp_base.specs.declared.numbers.BridgeId.{BridgeId}
 use Rattle.srp_base.specs.declared.ports.PortSetup.{PortSetup}
+use Rattle.stream_importance.specs.declared.slope.Caps.{Caps}
+use Rattle.msrp_talker.specs.declared.port_config.PortConfig.{PortConfig}
 use Rattle.tree_topology.specs.declared.graph.NodeKind.{NodeKind}
 use Rattle.mvrp_codec.specs.declared.pdu.MvrpPdu.{MvrpPdu}
 use Rattle.mvrp_codec.specs.Meaning.{mvrp_reading}
 use Rattle.mvrp_codec.specs.Writing.{AreVids, mvrp_spelling}
-use Rattle.mrp_participant.specs.State.{AreRows, is_silent}
+use Rattle.msrp_codec.specs.declared.pdu.MsrpKey.{MsrpKey}
+use Rattle.msrp_codec.specs.declared.pdu.MsrpPdu.{MsrpPdu}
+use Rattle.msrp_codec.specs.Content.{Belongs}
+use Rattle.msrp_codec.specs.FirstValue.{IsTalker}
+use Rattle.msrp_codec.specs.Meaning.{msrp_reading}
+use Rattle.msrp_codec.specs.Writing.{AreInRange, as_written, msrp_spelling}
+use Rattle.mrp_participant.specs.State.{AreRows, is_silent, new_state}
 use Rattle.mvrp.specs.Part.{Part, pdu_sent}
 use Rattle.mvrp.specs.Side.{Vlans, IsKept, IsWritten, place_of, new_vlans, received_vlans, due_vlans, left_vlans, leave_all_vlans, periodic_vlans, spoilt_vlans, settled_vlans, sent_vlans, requested_vlans}
 use Rattle.mvrp.specs.Vids.{IsVid, HasVidRows, AreOfVids, IsProper}
+use Rattle.msrp.specs.declared.port.Port.{Port as SrpPort}
+use Rattle.msrp.specs.declared.asking.SrpRequest.{SrpRequest}
+use Rattle.msrp.specs.declared.asking.SrpRequest.TheVariants as asks
+use Rattle.msrp.specs.Part.{Part as SrpPart, HasOwnContents, key_cmp, pdu_sent as srp_pdu_sent}
+use Rattle.msrp.specs.Side.{Streams, IsPort, IsWritten as IsSrpWritten, new_port, new_streams, received_streams, due_streams, left_streams, leave_all_streams, periodic_streams, spoilt_streams, settled_streams, sent_streams, requested_streams, clocked_streams}
+use Rattle.msrp.specs.Proper.{HasRanges, AreOfRange, IsProper as IsProperSrp, IsRequestInRange, setups_of}
 use Rattle.node_core.specs.declared.types.Wire.{Wire}
 use Rattle.node_core.specs.declared.types.AppRequest.{AppRequest}
-use Rattle.node_core.specs.declared.types.AppRequest.TheVariants.{Declare, Withdraw}
-use Rattle.node_core.specs.declared.types.NodeKey.TheVariants.{Vlan}
+use Rattle.node_core.specs.declared.types.AppRequest.TheVariants.{Declare, Withdraw, Talk, Hush, Listen, Unlisten}
+use Rattle.node_core.specs.declared.types.NodeKey.TheVariants.{Vlan, Srp}
 use Rattle.node_core.specs.declared.types.PortStep.{PortStep}
 use Rattle.node_core.specs.declared.types.PortStep.TheVariants.{Work, LeaveNow, LeaveAllNow, PeriodicNow, Due, Settle, Send}
 use Rattle.node_core.specs.declared.types.NodeEvent.{NodeEvent}
 use Rattle.node_core.specs.declared.types.NodeEvent.TheVariants.{Request, Port, Clock}
 use Rattle.node_core.specs.Wires.{IsShort, AreShort, without}
 use Rattle.node_core.specs.State.{NodeState, box_at, new_node}
-use Rattle.node_core.specs.Step.{CanStep, node_step, port_step, worked, worked_mvrp, worked_vlans, vlans_step, sent_octets, said_mvrp, after_saying}
+use Rattle.node_core.specs.Step.{CanStep, node_step, port_step, worked, worked_app, worked_mvrp, worked_msrp, sent_octets, said_mvrp, said_msrp, with_said, after_app}
 use Rattle.node_core.specs.Links.{IsKeptNode, with_outbox, with_inbox, with_carried, lost_at, repeated_at, spoilt_at}
-use Rattle.node_core.specs.Proper.{IsProperNode, AsksVids, NamesVids}
-use Rattle.node_core.proofs.Sizes.{of_received, of_due, of_left, of_leave_all, of_periodic, of_sent, of_spoilt, of_settled, of_requested, of_worked}
-use Rattle.node_core.proofs.Boxes.{each_set, short_box, short_append, short_without, short_repeated}
+use Rattle.node_core.specs.Proper.{IsProperNode, IsProperWire, AreProperWires, AsksInRange, IsInRange}
+use Rattle.node_core.proofs.Sizes.{of_received, of_due, of_left, of_leave_all, of_periodic, of_sent, of_spoilt, of_settled, of_requested}
+use Rattle.node_core.proofs.StreamSizes as sizes
+use Rattle.node_core.proofs.Boxes.{each_set, each_box, each_append, each_without, each_repeated, each_new}
 
 -- the laws of MVRP at a node, as its public laws say them
 pub record SideLaws : Type 0 where
@@ -47,8 +63,32 @@ pub record SideLaws : Type 0 where
   pub reads : (octets : List ℕ) (read : MvrpPdu) → mvrp_reading octets ≡ Ok read → AreVids read.events
   pub written : (now : Cs) (s : Part) → AreRows nat_cmp s.rows → HasVidRows s → is_silent s ≡ false → IsWritten (pdu_sent now s) (mvrp_spelling (pdu_sent now s))
 
+-- a call of MSRP at a node keeps what a side keeps, and how its ports are set up
+pub record Keeps (before after : Streams) : Type 0 where
+  pub proper : IsProperSrp after
+  pub setups : setups_of after ≡ setups_of before
+
+-- the laws of MSRP at a node, by its public laws
+pub record StreamLaws : Type 0 where
+  pub receive : (now : Cs) (at : ℕ) (pdu : MsrpPdu) (side : Streams) → AllByRecursion (λ e. Belongs e.1 e.2) pdu.events → AreInRange pdu.events → IsProperSrp side → Keeps side (received_streams now at pdu side)
+  pub due : (now : Cs) (at : ℕ) (side : Streams) → IsProperSrp side → Keeps side (due_streams now at side)
+  pub leave_now : (at : ℕ) (key : MsrpKey) (side : Streams) → IsProperSrp side → Keeps side (left_streams at key side)
+  pub leaveall_now : (now : Cs) (at : ℕ) (side : Streams) → IsProperSrp side → Keeps side (leave_all_streams now at side)
+  pub periodic_now : (at : ℕ) (side : Streams) → IsProperSrp side → Keeps side (periodic_streams at side)
+  pub send : (now : Cs) (at : ℕ) (side : Streams) → IsProperSrp side → Keeps side (sent_streams now at side)
+  pub settle : (at : ℕ) (side : Streams) → IsProperSrp side → Keeps side (settled_streams at side)
+  pub request : (request : SrpRequest) (side : Streams) → IsRequestInRange request → IsProperSrp side → Keeps side (requested_streams request side)
+  pub clock : (now : ℕ) (side : Streams) → side.moment ≤ now → IsProperSrp side → Keeps side (clocked_streams now side)
+  pub reads : (octets : List ℕ) (read : MsrpPdu) → msrp_reading octets ≡ Ok read → AllByRecursion (λ e. Belongs e.1 e.2) read.events
+  pub written : (now : Cs) (s : SrpPart) → AreRows key_cmp s.rows → HasOwnContents s → HasRanges s → is_silent s ≡ false → IsSrpWritten (srp_pdu_sent now s) (msrp_spelling (srp_pdu_sent now s))
+  pub in_range : (now : Cs) (s : SrpPart) → AreRows key_cmp s.rows → HasRanges s → AreInRange (as_written (srp_pdu_sent now s)).events
+  pub count : (a b : Streams) → setups_of a ≡ setups_of b → length a.ports ≡ length b.ports
+
 pub proper-side : (s : NodeState) → IsProperNode s → IsProper s.vlans
 proper-side s h = record { kept = h.kept.vlans; vids = h.vids }
+
+pub proper-streams : (s : NodeState) → IsProperNode s → IsProperSrp s.streams
+proper-streams s h = record { kept = h.kept.streams; ranges = h.ranges }
 
 -- MVRP has become another with as many ports
 pub with-vlans : (s : NodeState) (v : Vlans) → IsProper v → length v.parts ≡ length s.vlans.parts → IsProperNode s → IsProperNode (record s { vlans = v })
@@ -56,6 +96,9 @@ with-vlans s v proper same h =
     record {
       kept = record {
         vlans = proper.kept;
+        streams = h.kept.streams;
+        same_ports = h.kept.same_ports ∙ sym same;
+        moment = h.kept.moment;
         inboxes = h.kept.inboxes ∙ sym same;
         outboxes = h.kept.outboxes ∙ sym same;
         few = let count = h.kept.few in omega (arith, same, count);
@@ -64,14 +107,67 @@ with-vlans s v proper same h =
         clock = h.kept.clock;
       };
       vids = proper.vids;
+      ranges = h.ranges;
+      named = h.named;
+      readable_in = h.readable_in;
+      readable_out = h.readable_out;
     }
 
--- short PDUs are in a box
-pub with-inbox : (s : NodeState) (at : ℕ) (wires : List Wire) → AreShort wires → IsProperNode s → IsProperNode (with_inbox at wires s)
-with-inbox s at wires short h =
+-- how a port is set up; ports that are set up alike have the same BridgeIDs
+abbrev setup : SrpPort → PortConfig × Caps
+setup p = (p.config, p.ledger.caps)
+
+named-alike : (b : BridgeId) (xs ys : List SrpPort) → map setup xs ≡ map setup ys
+    → AllByRecursion (λ (p : SrpPort). p.config.bridge ≡ b) ys → AllByRecursion (λ (p : SrpPort). p.config.bridge ≡ b) xs
+named-alike b [] ys e h = tt
+named-alike b (x ∷ xs) [] e h = cc
+named-alike b (x ∷ xs) (y ∷ ys) e h =
+    let heads : setup x ≡ setup y = cc in
+    let first : x.config ≡ y.config = ap (λ (s : PortConfig × Caps). s.0) heads in
+    let rest : map setup xs ≡ map setup ys = cc in
+    (ap (λ (c : PortConfig). c.bridge) first ∙ h.0, named-alike b xs ys rest h.1)
+
+-- MSRP has become another at a moment, and the clock is there
+record IsNewMoment (s : NodeState) (v : Streams) (clock : Cs) : Type 0 where
+  moment : v.moment ≡ clock.0
+  end : clock.0 ≤ 2 ^ 61
+
+at-moment : (count : (a b : Streams) → setups_of a ≡ setups_of b → length a.ports ≡ length b.ports) (s : NodeState) (v : Streams) (clock : Cs)
+    → IsNewMoment s v clock → Keeps s.streams v → IsProperNode s → IsProperNode (record s { streams = v; clock = clock })
+at-moment count s v clock new kept h =
     record {
       kept = record {
         vlans = h.kept.vlans;
+        streams = kept.proper.kept;
+        same_ports = count v s.streams kept.setups ∙ h.kept.same_ports;
+        moment = new.moment;
+        inboxes = h.kept.inboxes;
+        outboxes = h.kept.outboxes;
+        few = h.kept.few;
+        short_in = h.kept.short_in;
+        short_out = h.kept.short_out;
+        clock = new.end;
+      };
+      vids = h.vids;
+      ranges = kept.proper.ranges;
+      named = named-alike s.bridge v.ports s.streams.ports kept.setups h.named;
+      readable_in = h.readable_in;
+      readable_out = h.readable_out;
+    }
+
+pub with-streams : (count : (a b : Streams) → setups_of a ≡ setups_of b → length a.ports ≡ length b.ports) (s : NodeState) (v : Streams)
+    → v.moment ≡ s.streams.moment → Keeps s.streams v → IsProperNode s → IsProperNode (record s { streams = v })
+with-streams count s v same kept h = at-moment count s v s.clock (record { moment = same ∙ h.kept.moment; end = h.kept.clock }) kept h
+
+-- proper and short PDUs are in a box
+pub with-inbox : (s : NodeState) (at : ℕ) (wires : List Wire) → AreShort wires → AreProperWires wires → IsProperNode s → IsProperNode (with_inbox at wires s)
+with-inbox s at wires short proper h =
+    record {
+      kept = record {
+        vlans = h.kept.vlans;
+        streams = h.kept.streams;
+        same_ports = h.kept.same_ports;
+        moment = h.kept.moment;
         inboxes = length-set s.inboxes at wires ∙ h.kept.inboxes;
         outboxes = h.kept.outboxes;
         few = h.kept.few;
@@ -80,13 +176,20 @@ with-inbox s at wires short h =
         clock = h.kept.clock;
       };
       vids = h.vids;
+      ranges = h.ranges;
+      named = h.named;
+      readable_in = each_set AreProperWires s.inboxes at wires proper h.readable_in;
+      readable_out = h.readable_out;
     }
 
-pub with-outbox : (s : NodeState) (at : ℕ) (wires : List Wire) → AreShort wires → IsProperNode s → IsProperNode (with_outbox at wires s)
-with-outbox s at wires short h =
+pub with-outbox : (s : NodeState) (at : ℕ) (wires : List Wire) → AreShort wires → AreProperWires wires → IsProperNode s → IsProperNode (with_outbox at wires s)
+with-outbox s at wires short proper h =
     record {
       kept = record {
         vlans = h.kept.vlans;
+        streams = h.kept.streams;
+        same_ports = h.kept.same_ports;
+        moment = h.kept.moment;
         inboxes = h.kept.inboxes;
         outboxes = length-set s.outboxes at wires ∙ h.kept.outboxes;
         few = h.kept.few;
@@ -95,133 +198,213 @@ with-outbox s at wires short h =
         clock = h.kept.clock;
       };
       vids = h.vids;
+      ranges = h.ranges;
+      named = h.named;
+      readable_in = h.readable_in;
+      readable_out = each_set AreProperWires s.outboxes at wires proper h.readable_out;
     }
 
-same-length : {X Y Z : Type 0} (f : X → Y) (g : X → Z) (xs : List X) → length (map f xs) ≡ length (map g xs)
-same-length f g [] = refl
-same-length f g (x ∷ xs) = ap suc (same-length f g xs)
-
-mapped-length : {X Y : Type 0} (f : X → Y) (xs : List X) → length (map f xs) ≡ length xs
-mapped-length f [] = refl
-mapped-length f (x ∷ xs) = ap suc (mapped-length f xs)
-
-none-short : {X : Type 0} (xs : List X) → AllByRecursion AreShort (map (λ _. []) xs)
-none-short [] = tt
-none-short (x ∷ xs) = (tt, none-short xs)
+new-named : (bridge : BridgeId) (leave_time : Cs) (periodic : Bool) (ports : List PortSetup) → AllByRecursion (λ (p : SrpPort). p.config.bridge ≡ bridge) (map (new_port bridge leave_time periodic) ports)
+new-named bridge leave_time periodic [] = tt
+new-named bridge leave_time periodic (p ∷ ports) = (refl, new-named bridge leave_time periodic ports)
 
 pub proper-new : (kind : NodeKind) (bridge : BridgeId) (leave_time : Cs) (periodic : Bool) (ports : List PortSetup)
-    → IsProper (new_vlans leave_time periodic ports) → length ports ≤ 255 → IsProperNode (new_node kind bridge leave_time periodic ports)
-proper-new kind bridge leave_time periodic ports side few =
+    → IsProper (new_vlans leave_time periodic ports) → IsProperSrp (new_streams bridge leave_time periodic ports) → length ports ≤ 255 → IsProperNode (new_node kind bridge leave_time periodic ports)
+proper-new kind bridge leave_time periodic ports side streams few =
+    let none : PortSetup → List Wire = λ p. [] in
+    let parts = length-map ports (λ (p : PortSetup). new_state {K = ℕ} {C = Unit {0}} p.period leave_time periodic) in
+    let links = length-map ports (new_port bridge leave_time periodic) in
+    let boxes = length-map ports none in
     record {
       kept = record {
         vlans = side.kept;
-        inboxes = same-length _ _ ports;
-        outboxes = same-length _ _ ports;
-        few = let count = mapped-length (λ p. Rattle.mrp_participant.specs.State.new_state {K = ℕ} {C = Unit {0}} p.period leave_time periodic) ports in omega (arith, few, count);
-        short_in = none-short ports;
-        short_out = none-short ports;
+        streams = streams.kept;
+        same_ports = links ∙ sym parts;
+        moment = refl;
+        inboxes = boxes ∙ sym parts;
+        outboxes = boxes ∙ sym parts;
+        few = omega (arith, few, parts);
+        short_in = each_new IsShort ports;
+        short_out = each_new IsShort ports;
         clock = omega arith;
       };
       vids = side.vids;
+      ranges = streams.ranges;
+      named = new-named bridge leave_time periodic ports;
+      readable_in = each_new IsProperWire ports;
+      readable_out = each_new IsProperWire ports;
     }
 
-module _ (laws : SideLaws) where
+-- what holds of each holds of the one at a place
+at-place : {X : Type 0} (P : X → Type 0) (xs : List X) (i : ℕ) (x : X) → AllByRecursion P xs → slice_get xs i ≡ Some x → P x
+at-place P [] i x hs at = cc
+at-place P (y ∷ xs) zero x hs at = let same : y ≡ x = cc in subst P same hs.0
+at-place P (y ∷ xs) (suc i) x hs at = at-place P xs i x hs.1 at
+
+-- octets that are said are short, and say nothing that doesn't fit
+record IsFitToSend (app : App) (octets : List ℕ) : Type 0 where
+  short : length octets ≤ 1500
+  proper : IsProperWire (record { app = app; octets = octets })
+
+module _ (laws : SideLaws) (streams : StreamLaws) where
   -- ---- Work
 
-  worked-mvrp : (now : Cs) (at : ℕ) (octets : List ℕ) (r : Result MvrpPdu ℕ) (v : Vlans) → mvrp_reading octets ≡ r → IsProper v → IsProper (worked_mvrp now at r v).0
-  worked-mvrp now at octets (Ok pdu) v is h = laws.receive now at pdu v (laws.reads octets pdu is) h
-  worked-mvrp now at octets (Err place) v is h = h
+  worked-vlans : (at : ℕ) (octets : List ℕ) (r : Result MvrpPdu ℕ) (s : NodeState) → mvrp_reading octets ≡ r → IsProperNode s
+      → IsProperNode (record s { vlans = (worked_mvrp s.clock at r s.vlans).0 })
+  worked-vlans at octets (Ok pdu) s is h =
+      with-vlans s (received_vlans s.clock at pdu s.vlans) (laws.receive s.clock at pdu s.vlans (laws.reads octets pdu is) (proper-side s h)) (of_received s.clock at pdu s.vlans) h
+  worked-vlans at octets (Err place) s is h = h
 
-  worked-vlans : (app : App) (now : Cs) (at : ℕ) (octets : List ℕ) (v : Vlans) → IsProper v → IsProper (worked_vlans app now at octets v).0
-  worked-vlans Mvrp now at octets v h = worked-mvrp now at octets (mvrp_reading octets) v refl h
-  worked-vlans Msrp now at octets v h = h
+  worked-streams : (at : ℕ) (octets : List ℕ) (r : Result MsrpPdu ℕ) (s : NodeState) → msrp_reading octets ≡ r → IsProperWire (record { app = Msrp; octets = octets }) → IsProperNode s
+      → IsProperNode (record s { streams = (worked_msrp s.clock at r s.streams).0 })
+  worked-streams at octets (Ok pdu) s is fits h =
+      with-streams streams.count s (received_streams s.clock at pdu s.streams) (sizes.moment_received s.clock at pdu s.streams)
+      (streams.receive s.clock at pdu s.streams (streams.reads octets pdu is) (fits pdu is) (proper-streams s h)) h
+  worked-streams at octets (Err place) s is fits h = h
 
-  worked-node : (at : ℕ) (wires : List Wire) (s : NodeState) → AreShort wires → IsProperNode s → IsProperNode (worked at wires s).0
-  worked-node at [] s short h = h
-  worked-node at (wire ∷ wires) s short h =
-      let taken : IsProperNode (with_inbox at wires s) = with-inbox s at wires short.1 h in
-      with-vlans (with_inbox at wires s) (worked_vlans wire.app s.clock at wire.octets s.vlans).0
-      (worked-vlans wire.app s.clock at wire.octets s.vlans (proper-side s h))
-      (of_worked wire.app s.clock at wire.octets s.vlans) taken
+  worked-wire : (at : ℕ) (app : App) (octets : List ℕ) (s : NodeState) → IsProperWire (record { app = app; octets = octets }) → IsProperNode s → IsProperNode (worked_app app at octets s).0
+  worked-wire at Mvrp octets s fits h = worked-vlans at octets (mvrp_reading octets) s refl h
+  worked-wire at Msrp octets s fits h = worked-streams at octets (msrp_reading octets) s refl fits h
+
+  worked-node : (at : ℕ) (wires : List Wire) (s : NodeState) → AreShort wires → AreProperWires wires → IsProperNode s → IsProperNode (worked at wires s).0
+  worked-node at [] s short proper h = h
+  worked-node at (wire ∷ wires) s short proper h =
+      worked-wire at wire.app wire.octets (with_inbox at wires s) proper.0 (with-inbox s at wires short.1 proper.1 h)
 
   -- ---- Send
 
-  -- what is said is short
-  said-short : (now : Cs) (s : Part) (octets : List ℕ) (b : Bool) → is_silent s ≡ b → AreRows nat_cmp s.rows → HasVidRows s
-      → (if b then None else Some (mvrp_spelling (pdu_sent now s))) ≡ Some octets → length octets ≤ 1500
-  said-short now s octets true is rows own e = cc
-  said-short now s octets false is rows own e =
+  said-vlans : (now : Cs) (s : Part) (octets : List ℕ) (b : Bool) → is_silent s ≡ b → AreRows nat_cmp s.rows → HasVidRows s
+      → (if b then None else Some (mvrp_spelling (pdu_sent now s))) ≡ Some octets → IsFitToSend Mvrp octets
+  said-vlans now s octets true is rows own e = cc
+  said-vlans now s octets false is rows own e =
       let same : mvrp_spelling (pdu_sent now s) ≡ octets = cc in
-      subst (λ (os : List ℕ). length os ≤ 1500) same (laws.written now s rows own is).short
+      subst (IsFitToSend Mvrp) same (record { short = (laws.written now s rows own is).short; proper = tt })
 
-  octets-short : (now : Cs) (at : ℕ) (v : Vlans) (octets : List ℕ) → IsProper v → said_mvrp now at v ≡ Some octets → length octets ≤ 1500
-  octets-short now at v octets h is = by (slice_get v.parts at) refl is
+  said-streams : (now : Cs) (s : SrpPart) (octets : List ℕ) (b : Bool) → is_silent s ≡ b → AreRows key_cmp s.rows → HasOwnContents s → HasRanges s
+      → (if b then None else Some (msrp_spelling (srp_pdu_sent now s))) ≡ Some octets → IsFitToSend Msrp octets
+  said-streams now s octets true is rows own ranges e = cc
+  said-streams now s octets false is rows own ranges e =
+      let same : msrp_spelling (srp_pdu_sent now s) ≡ octets = cc in
+      let written = streams.written now s rows own ranges is in
+      subst (IsFitToSend Msrp) same (record {
+        short = written.short;
+        proper = λ pdu reads.
+            let read : as_written (srp_pdu_sent now s) ≡ pdu = (let there = written.reads in cc) in
+            subst (λ (p : MsrpPdu). AreInRange p.events) read (streams.in_range now s rows ranges);
+      })
+
+  fit-vlans : (at : ℕ) (s : NodeState) (octets : List ℕ) → IsProperNode s → said_mvrp s.clock at s.vlans ≡ Some octets → IsFitToSend Mvrp octets
+  fit-vlans at s octets h is = by (slice_get s.vlans.parts at) refl is
     where
-      rows : (s : Part) → slice_get v.parts at ≡ Some s → AreRows nat_cmp s.rows
-      rows s here = get v.parts at s h.kept.rows here
-        where
-          get : (xs : List Part) (i : ℕ) (x : Part) → AllByRecursion (λ p. AreRows nat_cmp p.rows) xs → slice_get xs i ≡ Some x → AreRows nat_cmp x.rows
-          get [] i x hs at = cc
-          get (y ∷ xs) zero x hs at = let same : y ≡ x = cc in subst (λ (p : Part). AreRows nat_cmp p.rows) same hs.0
-          get (y ∷ xs) (suc i) x hs at = get xs i x hs.1 at
-
-      by : (o : Option Part) → slice_get v.parts at ≡ o
-          → option_map_or (λ (p : Part). if is_silent p then None else Some (mvrp_spelling (pdu_sent now p))) o None ≡ Some octets → length octets ≤ 1500
+      by : (o : Option Part) → slice_get s.vlans.parts at ≡ o
+          → option_map_or (λ (p : Part). if is_silent p then None else Some (mvrp_spelling (pdu_sent s.clock p))) o None ≡ Some octets → IsFitToSend Mvrp octets
       by None here e = cc
-      by (Some s) here e = said-short now s octets (is_silent s) refl (rows s here) (h.vids.parts at s here) e
+      by (Some p) here e =
+          said-vlans s.clock p octets (is_silent p) refl
+          (at-place (λ (q : Part). AreRows nat_cmp q.rows) s.vlans.parts at p h.kept.vlans.rows here) (h.vids.parts at p here) e
 
-  sent-node : (at : ℕ) (o : Option (List ℕ)) (s : NodeState) → said_mvrp s.clock at s.vlans ≡ o → IsProperNode s → IsProperNode (sent_octets Mvrp at o s).0
-  sent-node at None s is h = h
-  sent-node at (Some octets) s is h =
-      let side = proper-side s h in
-      let wires : List Wire = box_at at s.outboxes ++ (record { app = Mvrp; octets = octets } ∷ []) in
-      let short : AreShort wires = short_append (box_at at s.outboxes) (record { app = Mvrp; octets = octets } ∷ []) (short_box s.outboxes at h.kept.short_out) (octets-short s.clock at s.vlans octets side is, tt) in
-      with-outbox (record s { vlans = sent_vlans s.clock at s.vlans }) at wires short
-      (with-vlans s (sent_vlans s.clock at s.vlans) (laws.send s.clock at s.vlans side) (of_sent s.clock at s.vlans) h)
+  fit-streams : (at : ℕ) (s : NodeState) (octets : List ℕ) → IsProperNode s → said_msrp s.clock at s.streams ≡ Some octets → IsFitToSend Msrp octets
+  fit-streams at s octets h is = by (slice_get s.streams.ports at) refl is
+    where
+      by : (o : Option SrpPort) → slice_get s.streams.ports at ≡ o
+          → option_map_or (λ (p : SrpPort). if is_silent p.part then None else Some (msrp_spelling (srp_pdu_sent s.clock p.part))) o None ≡ Some octets → IsFitToSend Msrp octets
+      by None here e = cc
+      by (Some p) here e =
+          let port = at-place (IsPort s.streams.moment) s.streams.ports at p h.kept.streams.ports here in
+          said-streams s.clock p.part octets (is_silent p.part) refl port.rows port.contents
+          (at-place (λ (q : SrpPort). HasRanges q.part) s.streams.ports at p h.ranges.parts here) e
+
+  -- an outbox with a PDU more
+  with-said : (app : App) (at : ℕ) (octets : List ℕ) (s : NodeState) → IsFitToSend app octets → IsProperNode s → IsProperNode (with_said app at octets s)
+  with-said app at octets s fits h =
+      let one : List Wire = record { app = app; octets = octets } ∷ [] in
+      let box = box_at at s.outboxes in
+      with-outbox s at (box ++ one)
+      (each_append IsShort box one (each_box IsShort s.outboxes at h.kept.short_out) (fits.short, tt))
+      (each_append IsProperWire box one (each_box IsProperWire s.outboxes at h.readable_out) (fits.proper, tt)) h
+
+  sent-vlans : (at : ℕ) (o : Option (List ℕ)) (s : NodeState) → said_mvrp s.clock at s.vlans ≡ o → IsProperNode s → IsProperNode (sent_octets Mvrp at o s).0
+  sent-vlans at None s is h = h
+  sent-vlans at (Some octets) s is h =
+      with-said Mvrp at octets (after_app Mvrp at s) (fit-vlans at s octets h is)
+      (with-vlans s (sent_vlans s.clock at s.vlans) (laws.send s.clock at s.vlans (proper-side s h)) (of_sent s.clock at s.vlans) h)
+
+  sent-streams : (at : ℕ) (o : Option (List ℕ)) (s : NodeState) → said_msrp s.clock at s.streams ≡ o → IsProperNode s → IsProperNode (sent_octets Msrp at o s).0
+  sent-streams at None s is h = h
+  sent-streams at (Some octets) s is h =
+      with-said Msrp at octets (after_app Msrp at s) (fit-streams at s octets h is)
+      (with-streams streams.count s (sent_streams s.clock at s.streams) (sizes.moment_sent s.clock at s.streams) (streams.send s.clock at s.streams (proper-streams s h)) h)
 
   -- ---- all steps
 
-  step-node : (step : PortStep) (at : ℕ) (s : NodeState) → IsProperNode s → IsProperNode (port_step step at s).0
-  step-node Work at s h = worked-node at (box_at at s.inboxes) s (short_box s.inboxes at h.kept.short_in) h
-  step-node (LeaveNow (Vlan vid)) at s h = with-vlans s (left_vlans at vid s.vlans) (laws.leave_now at vid s.vlans (proper-side s h)) (of_left at vid s.vlans) h
-  step-node (LeaveAllNow Mvrp) at s h = with-vlans s (leave_all_vlans s.clock at s.vlans) (laws.leaveall_now s.clock at s.vlans (proper-side s h)) (of_leave_all s.clock at s.vlans) h
-  step-node (LeaveAllNow Msrp) at s h = h
-  step-node (PeriodicNow Mvrp) at s h = with-vlans s (periodic_vlans at s.vlans) (laws.periodic_now at s.vlans (proper-side s h)) (of_periodic at s.vlans) h
-  step-node (PeriodicNow Msrp) at s h = h
-  step-node Due at s h = with-vlans s (due_vlans s.clock at s.vlans) (laws.due s.clock at s.vlans (proper-side s h)) (of_due s.clock at s.vlans) h
-  step-node Settle at s h = with-vlans s (settled_vlans at s.vlans) (laws.settle at s.vlans (proper-side s h)) (of_settled at s.vlans) h
-  step-node (Send Mvrp) at s h = sent-node at (said_mvrp s.clock at s.vlans) s refl h
-  step-node (Send Msrp) at s h = h
+  -- MSRP has done its part of a step with the same moment
+  streams-node : (s : NodeState) (v : Streams) → v.moment ≡ s.streams.moment → (IsProperSrp s.streams → Keeps s.streams v) → IsProperNode s → IsProperNode (record s { streams = v })
+  streams-node s v same kept h = with-streams streams.count s v same (kept (proper-streams s h)) h
 
-  pub proper-step : (event : NodeEvent) (s : NodeState) → CanStep event s → NamesVids event → IsProperNode s → IsProperNode (node_step event s).0
-  proper-step (Request (Declare vid)) s can named h = with-vlans s (requested_vlans vid true s.vlans) (laws.request vid true s.vlans named (proper-side s h)) (of_requested vid true s.vlans) h
-  proper-step (Request (Withdraw vid)) s can named h = with-vlans s (requested_vlans vid false s.vlans) (laws.request vid false s.vlans named (proper-side s h)) (of_requested vid false s.vlans) h
-  proper-step (Port port step) s can named h = step-node step (place_of port) s h
-  proper-step Clock s can named h =
-      record {
-        kept = record {
-          vlans = h.kept.vlans;
-          inboxes = h.kept.inboxes;
-          outboxes = h.kept.outboxes;
-          few = h.kept.few;
-          short_in = h.kept.short_in;
-          short_out = h.kept.short_out;
-          clock = omega (arith, can);
-        };
-        vids = h.vids;
-      }
+  step-node : (step : PortStep) (at : ℕ) (s : NodeState) → IsProperNode s → IsProperNode (port_step step at s).0
+  step-node Work at s h = worked-node at (box_at at s.inboxes) s (each_box IsShort s.inboxes at h.kept.short_in) (each_box IsProperWire s.inboxes at h.readable_in) h
+  step-node (LeaveNow (Vlan vid)) at s h = with-vlans s (left_vlans at vid s.vlans) (laws.leave_now at vid s.vlans (proper-side s h)) (of_left at vid s.vlans) h
+  step-node (LeaveNow (Srp key)) at s h = streams-node s (left_streams at key s.streams) (sizes.moment_left at key s.streams) (streams.leave_now at key s.streams) h
+  step-node (LeaveAllNow Mvrp) at s h = with-vlans s (leave_all_vlans s.clock at s.vlans) (laws.leaveall_now s.clock at s.vlans (proper-side s h)) (of_leave_all s.clock at s.vlans) h
+  step-node (LeaveAllNow Msrp) at s h = streams-node s (leave_all_streams s.clock at s.streams) (sizes.moment_leave_all s.clock at s.streams) (streams.leaveall_now s.clock at s.streams) h
+  step-node (PeriodicNow Mvrp) at s h = with-vlans s (periodic_vlans at s.vlans) (laws.periodic_now at s.vlans (proper-side s h)) (of_periodic at s.vlans) h
+  step-node (PeriodicNow Msrp) at s h = streams-node s (periodic_streams at s.streams) (sizes.moment_periodic at s.streams) (streams.periodic_now at s.streams) h
+  step-node Due at s h =
+      streams-node (record s { vlans = due_vlans s.clock at s.vlans }) (due_streams s.clock at s.streams) (sizes.moment_due s.clock at s.streams) (streams.due s.clock at s.streams)
+      (with-vlans s (due_vlans s.clock at s.vlans) (laws.due s.clock at s.vlans (proper-side s h)) (of_due s.clock at s.vlans) h)
+  step-node Settle at s h =
+      streams-node (record s { vlans = settled_vlans at s.vlans }) (settled_streams at s.streams) (sizes.moment_settled at s.streams) (streams.settle at s.streams)
+      (with-vlans s (settled_vlans at s.vlans) (laws.settle at s.vlans (proper-side s h)) (of_settled at s.vlans) h)
+  step-node (Send Mvrp) at s h = sent-vlans at (said_mvrp s.clock at s.vlans) s refl h
+  step-node (Send Msrp) at s h = sent-streams at (said_msrp s.clock at s.streams) s refl h
+
+  asked-streams : (request : SrpRequest) (s : NodeState) → IsRequestInRange request → IsProperNode s → IsProperNode (record s { streams = requested_streams request s.streams })
+  asked-streams request s fits h = streams-node s (requested_streams request s.streams) (sizes.moment_requested request s.streams) (streams.request request s.streams fits) h
+
+  asked-vlans : (vid : ℕ) (declared : Bool) (s : NodeState) → IsVid vid → IsProperNode s → IsProperNode (record s { vlans = requested_vlans vid declared s.vlans })
+  asked-vlans vid declared s fits h = with-vlans s (requested_vlans vid declared s.vlans) (laws.request vid declared s.vlans fits (proper-side s h)) (of_requested vid declared s.vlans) h
+
+  pub proper-step : (event : NodeEvent) (s : NodeState) → CanStep event s → IsInRange event → IsProperNode s → IsProperNode (node_step event s).0
+  proper-step (Request (Declare vid)) s can fits h = asked-vlans vid true s fits h
+  proper-step (Request (Withdraw vid)) s can fits h = asked-vlans vid false s fits h
+  proper-step (Request (Talk talker)) s can fits h = asked-streams (asks.Talk talker) s fits h
+  proper-step (Request (Hush stream)) s can fits h = asked-streams (asks.Hush stream) s tt h
+  proper-step (Request (Listen stream)) s can fits h = asked-streams (asks.Listen stream) s tt h
+  proper-step (Request (Unlisten stream)) s can fits h = asked-streams (asks.Unlisten stream) s tt h
+  proper-step (Port port step) s can fits h = step-node step (place_of port) s h
+  proper-step Clock s can fits h =
+      let moment = h.kept.moment in
+      at-moment streams.count s (clocked_streams (s.clock.0 + 1) s.streams) (record { 0 = s.clock.0 + 1 })
+      (record { moment = refl; end = omega (arith, can) })
+      (streams.clock (s.clock.0 + 1) s.streams (omega (arith, moment)) (proper-streams s h)) h
 
 -- ---- the PDUs that wait
 
-pub proper-carried : (at : ℕ) (wires : List Wire) (s : NodeState) → AreShort wires → IsProperNode s → IsProperNode (with_carried at wires s)
-proper-carried at wires s short h = with-inbox s at (box_at at s.inboxes ++ wires) (short_append (box_at at s.inboxes) wires (short_box s.inboxes at h.kept.short_in) short) h
+-- a box has become another of which the same holds
+pub proper-carried : (at : ℕ) (wires : List Wire) (s : NodeState) → AreShort wires → AreProperWires wires → IsProperNode s → IsProperNode (with_carried at wires s)
+proper-carried at wires s short proper h =
+    let box = box_at at s.inboxes in
+    with-inbox s at (box ++ wires)
+    (each_append IsShort box wires (each_box IsShort s.inboxes at h.kept.short_in) short)
+    (each_append IsProperWire box wires (each_box IsProperWire s.inboxes at h.readable_in) proper) h
 
 pub proper-lost : (at index : ℕ) (s : NodeState) → IsProperNode s → IsProperNode (lost_at at index s)
-proper-lost at index s h = with-inbox s at (without index (box_at at s.inboxes)) (short_without index (box_at at s.inboxes) (short_box s.inboxes at h.kept.short_in)) h
+proper-lost at index s h =
+    let box = box_at at s.inboxes in
+    with-inbox s at (without index box)
+    (each_without IsShort index box (each_box IsShort s.inboxes at h.kept.short_in))
+    (each_without IsProperWire index box (each_box IsProperWire s.inboxes at h.readable_in)) h
 
 pub proper-repeated : (at index : ℕ) (s : NodeState) → IsProperNode s → IsProperNode (repeated_at at index s)
-proper-repeated at index s h = with-inbox s at _ (short_repeated index (box_at at s.inboxes) (short_box s.inboxes at h.kept.short_in)) h
+proper-repeated at index s h =
+    let box = box_at at s.inboxes in
+    with-inbox s at _
+    (each_repeated IsShort index box (each_box IsShort s.inboxes at h.kept.short_in))
+    (each_repeated IsProperWire index box (each_box IsProperWire s.inboxes at h.readable_in)) h
 
-pub proper-spoilt : ((at : ℕ) (side : Vlans) → IsProper side → IsProper (spoilt_vlans at side)) → (app : App) (at : ℕ) (s : NodeState) → IsProperNode s → IsProperNode (spoilt_at app at s)
-proper-spoilt law Mvrp at s h = with-vlans s (spoilt_vlans at s.vlans) (law at s.vlans (proper-side s h)) (of_spoilt at s.vlans) h
-proper-spoilt law Msrp at s h = h
+pub proper-spoilt : ((at : ℕ) (side : Vlans) → IsProper side → IsProper (spoilt_vlans at side))
+    → ((at : ℕ) (side : Streams) → IsProperSrp side → Keeps side (spoilt_streams at side))
+    → ((a b : Streams) → setups_of a ≡ setups_of b → length a.ports ≡ length b.ports)
+    → (app : App) (at : ℕ) (s : NodeState) → IsProperNode s → IsProperNode (spoilt_at app at s)
+proper-spoilt law streams count Mvrp at s h = with-vlans s (spoilt_vlans at s.vlans) (law at s.vlans (proper-side s h)) (of_spoilt at s.vlans) h
+proper-spoilt law streams count Msrp at s h = with-streams count s (spoilt_streams at s.streams) (sizes.moment_spoilt at s.streams) (streams at s.streams (proper-streams s h)) h

@@ -1,17 +1,13 @@
 -- What MVRP keeps at a node has as many ports after each call as before.
 use Rattle.std.proofs.Common.{◌≡◌, ℕ, Bool, true, false, if◌then◌else◌, List, [], ◌∷◌, length, refl}
-use Rattle.std.specs.Prelude.{slice_get, slice_set, Option, Some, None, Result, Ok, Err}
+use Rattle.std.specs.Prelude.{slice_get, slice_set, Option, Some, None}
 use Rattle.std.proofs.Math.ListN.{length-set}
 use Rattle.std.specs.Ordering.{nat_cmp}
 use Rattle.srp_base.specs.declared.numbers.Cs.{Cs}
-use Rattle.srp_base.specs.declared.mrp.App.{App}
-use Rattle.srp_base.specs.declared.mrp.App.TheVariants.{Mvrp, Msrp}
 use Rattle.mvrp_codec.specs.declared.pdu.MvrpPdu.{MvrpPdu}
-use Rattle.mvrp_codec.specs.Meaning.{mvrp_reading}
 use Rattle.mrp_participant.specs.State.{due_state, left_keys, left_state, leave_all_state, periodic_state}
 use Rattle.mvrp.specs.Part.{Part, received_part, told_by_receipt, sent_part, settled_part}
 use Rattle.mvrp.specs.Side.{Vlans, with_part, retold, replaced, has_own, left_vids, is_flat, awaiting_at, received_vlans, due_vlans, left_vlans, leave_all_vlans, periodic_vlans, sent_vlans, spoilt_vlans, settled_vlans, requested_vlans}
-use Rattle.node_core.specs.Step.{worked_mvrp, worked_vlans}
 
 sized : (o : Option Part) (make : Part → Vlans) (v : Vlans) → ((s : Part) → length (make s).parts ≡ length v.parts) → length (with_part o make v).parts ≡ length v.parts
 sized None make v h = refl
@@ -59,11 +55,3 @@ either false x y v h k = k
 pub of_requested : (vid : ℕ) (declared : Bool) (v : Vlans) → length (requested_vlans vid declared v).parts ≡ length v.parts
 of_requested vid true v = either (has_own vid v) _ _ v refl refl
 of_requested vid false v = either (has_own vid v) _ _ v refl refl
-
-pub of_worked : (app : App) (now : Cs) (at : ℕ) (octets : List ℕ) (v : Vlans) → length (worked_vlans app now at octets v).0.parts ≡ length v.parts
-of_worked Mvrp now at octets v = by (mvrp_reading octets)
-  where
-    by : (r : Result MvrpPdu ℕ) → length (worked_mvrp now at r v).0.parts ≡ length v.parts
-    by (Ok pdu) = of_received now at pdu v
-    by (Err place) = refl
-of_worked Msrp now at octets v = refl

@@ -5,6 +5,7 @@ use Rattle.srp_base.specs.declared.mrp.App.{App}
 use Rattle.srp_base.specs.declared.mrp.App.TheVariants.{Mvrp, Msrp}
 use Rattle.mrp_participant.specs.Link.{repeated}
 use Rattle.mvrp.specs.Side.{IsKept, spoilt_vlans}
+use Rattle.msrp.specs.Side.{IsKept as IsKeptStreams, spoilt_streams}
 use Rattle.node_core.specs.declared.types.Wire.{Wire}
 use Rattle.node_core.specs.Wires.{AreShort, without}
 use Rattle.node_core.specs.State.{NodeState, box_at}
@@ -36,15 +37,18 @@ repeated_at at index s = with_inbox at (repeated index (box_at at s.inboxes)) s
 -- the participant of an application at a place isn't sound any more
 abbrev pub spoilt_at : App → ℕ → NodeState → NodeState
 spoilt_at Mvrp at s = record s { vlans = spoilt_vlans at s.vlans }
-spoilt_at Msrp at s = s
+spoilt_at Msrp at s = record s { streams = spoilt_streams at s.streams }
 
--- What every node keeps: what MVRP keeps of it, an inbox and an outbox for each of at most 255 link ports, short
--- PDUs, and a clock that stands below the end of time.
+-- What every node keeps: what each application keeps of it, an inbox and an outbox for each of at most 255 link ports,
+-- short PDUs, a clock that stands below the end of time, and the same moment at the ledgers.
 pub record IsKeptNode (s : NodeState) : Type 0 where
   pub vlans : IsKept s.vlans
+  pub streams : IsKeptStreams s.streams
+  pub same_ports : length s.streams.ports ≡ length s.vlans.parts
   pub inboxes : length s.inboxes ≡ length s.vlans.parts
   pub outboxes : length s.outboxes ≡ length s.vlans.parts
   pub few : length s.vlans.parts ≤ 255
   pub short_in : AllByRecursion AreShort s.inboxes
   pub short_out : AllByRecursion AreShort s.outboxes
   pub clock : s.clock.0 ≤ 2 ^ 61
+  pub moment : s.streams.moment ≡ s.clock.0

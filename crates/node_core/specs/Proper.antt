@@ -1,24 +1,63 @@
--- What every node keeps, of VIDs alone, and the steps that name none but VIDs (IEEE Std 802.1Q-2018, 9.6).
+-- What every node keeps, of VIDs and of numbers that fit in their fields (IEEE Std 802.1Q-2018, 9.6, 35.2.2.8), and the
+-- steps that name none but such.
+use Rattle.std.specs.Prelude.{◌≡◌, ℕ, List, Ok}
+use Rattle.std.specs.List.{AllByRecursion}
+use Rattle.srp_base.specs.declared.mrp.App.{App}
+use Rattle.srp_base.specs.declared.mrp.App.TheVariants.{Mvrp, Msrp}
+use Rattle.stream_importance.specs.declared.slope.Caps.{Caps}
+use Rattle.msrp_talker.specs.declared.port_config.PortConfig.{PortConfig}
+use Rattle.msrp_codec.specs.declared.pdu.MsrpPdu.{MsrpPdu}
+use Rattle.msrp_codec.specs.FirstValue.{IsTalker}
+use Rattle.msrp_codec.specs.Meaning.{msrp_reading}
+use Rattle.msrp_codec.specs.Writing.{AreInRange}
 use Rattle.mvrp.specs.Vids.{IsVid, AreOfVids}
+use Rattle.msrp.specs.declared.port.Port.{Port as SrpPort}
+use Rattle.msrp.specs.Proper.{AreOfRange, setups_of}
+use Rattle.node_core.specs.declared.types.Wire.{Wire}
 use Rattle.node_core.specs.declared.types.AppRequest.{AppRequest}
-use Rattle.node_core.specs.declared.types.AppRequest.TheVariants.{Declare, Withdraw}
+use Rattle.node_core.specs.declared.types.AppRequest.TheVariants.{Declare, Withdraw, Talk, Hush, Listen, Unlisten}
 use Rattle.node_core.specs.declared.types.NodeEvent.{NodeEvent}
 use Rattle.node_core.specs.declared.types.NodeEvent.TheVariants.{Request, Port, Clock}
 use Rattle.node_core.specs.State.{NodeState}
 use Rattle.node_core.specs.Links.{IsKeptNode}
 
--- what a node keeps, and that each key of it is a VID
+-- the octets of a PDU of an application say nothing that doesn't fit: those of MSRP, where they read, read as events
+-- that fit in their fields
+abbrev pub SayWhatFits : App → List ℕ → Type 0
+SayWhatFits Mvrp octets = Unit {0}
+SayWhatFits Msrp octets = (pdu : MsrpPdu) → msrp_reading octets ≡ Ok pdu → AreInRange pdu.events
+
+abbrev pub IsProperWire : Wire → Type 0
+IsProperWire wire = SayWhatFits wire.app wire.octets
+
+abbrev pub AreProperWires : List Wire → Type 0
+AreProperWires wires = AllByRecursion IsProperWire wires
+
+-- What a node keeps: each key of MVRP is a VID, what MSRP keeps fits in its fields, its ports have the node's BridgeID,
+-- and so with the PDUs that wait.
 pub record IsProperNode (s : NodeState) : Type 0 where
   pub kept : IsKeptNode s
   pub vids : AreOfVids s.vlans
+  pub ranges : AreOfRange s.streams
+  pub named : AllByRecursion (λ (p : SrpPort). p.config.bridge ≡ s.bridge) s.streams.ports
+  pub readable_in : AllByRecursion AreProperWires s.inboxes
+  pub readable_out : AllByRecursion AreProperWires s.outboxes
 
--- what the application asks for is of a VID
-abbrev pub AsksVids : AppRequest → Type 0
-AsksVids (Declare vid) = IsVid vid
-AsksVids (Withdraw vid) = IsVid vid
+-- what the application asks for is of a VID, or of a Talker that fits in its fields
+abbrev pub AsksInRange : AppRequest → Type 0
+AsksInRange (Declare vid) = IsVid vid
+AsksInRange (Withdraw vid) = IsVid vid
+AsksInRange (Talk talker) = IsTalker talker
+AsksInRange (Hush stream) = Unit {0}
+AsksInRange (Listen stream) = Unit {0}
+AsksInRange (Unlisten stream) = Unit {0}
 
 -- so is what happens at a node, where it is a request
-abbrev pub NamesVids : NodeEvent → Type 0
-NamesVids (Request request) = AsksVids request
-NamesVids (Port port step) = Unit {0}
-NamesVids Clock = Unit {0}
+abbrev pub IsInRange : NodeEvent → Type 0
+IsInRange (Request request) = AsksInRange request
+IsInRange (Port port step) = Unit {0}
+IsInRange Clock = Unit {0}
+
+-- how each link port of a node is set up: its BridgeID and its latency, and the caps of its ledger
+abbrev pub port_setups : NodeState → List (PortConfig × Caps)
+port_setups s = setups_of s.streams

@@ -1,10 +1,12 @@
 -- A node as contracts see it, and what its readers say of it.
-use Rattle.std.specs.Prelude.{◌≡◌, ◌≤◌, ◌^◌, ℕ, ◌==◌, ◌%◌, Bool, true, false, not, ◌&&◌, ◌||◌, if◌then◌else◌, List, [], ◌∷◌, ◌++◌, length, map, filter, Option, Some, None, slice_get}
+use Rattle.std.specs.Prelude.{ℕ, ◌==◌, ◌%◌, Bool, false, not, ◌&&◌, ◌||◌, if◌then◌else◌, List, [], ◌∷◌, ◌++◌, length, map, Option, Some, None, option_and_then, slice_get}
 use Rattle.std.specs.Option.{option_map_or}
-use Rattle.std.specs.List.{list_all, list_any, filter_map}
+use Rattle.std.specs.List.{list_all, filter_map}
 use Rattle.std.specs.Ordering.{nat_cmp}
 use Rattle.srp_base.specs.declared.numbers.Cs.{Cs}
 use Rattle.srp_base.specs.declared.numbers.BridgeId.{BridgeId}
+use Rattle.srp_base.specs.declared.numbers.StreamId.{StreamId}
+use Rattle.srp_base.specs.declared.bandwidth.Class.{Class}
 use Rattle.srp_base.specs.declared.ports.PortSetup.{PortSetup}
 use Rattle.srp_base.specs.declared.mrp.App.{App}
 use Rattle.srp_base.specs.declared.mrp.App.TheVariants.{Mvrp, Msrp}
@@ -15,10 +17,22 @@ use Rattle.registrar.specs.Table.{is_registered_in}
 use Rattle.mrp_participant.specs.declared.one_row.Row.{Row}
 use Rattle.mrp_participant.specs.Lookup.{find}
 use Rattle.mrp_participant.specs.OneRow.{registrar_of}
-use Rattle.mvrp.specs.Side.{Vlans, IsKept, are_still, is_busy as vlans_are_busy, new_vlans}
+use Rattle.mrp_participant.specs.State.{State, registered_at}
+use Rattle.stream_importance.specs.declared.entry.Entry.{Entry}
+use Rattle.stream_importance.specs.declared.entry.Fit.{Fit}
+use Rattle.port_ledger.specs.Decision.{is_booked, booked_of}
+use Rattle.port_ledger.specs.Book.{entry_of, booked_slope}
+use Rattle.msrp_codec.specs.declared.pdu.MsrpKey.{MsrpKey}
+use Rattle.msrp_codec.specs.declared.pdu.MsrpContent.{MsrpContent}
+use Rattle.mvrp.specs.Part.{Part}
+use Rattle.mvrp.specs.Side.{Vlans, are_still, is_busy as vlans_are_busy, new_vlans}
+use Rattle.msrp.specs.declared.port.Port.{Port}
+use Rattle.msrp.specs.Part.{key_cmp}
+use Rattle.msrp.specs.Stream.{fit_at, talkers_of}
+use Rattle.msrp.specs.Side.{Streams, are_still as streams_are_still, is_busy as streams_are_busy, new_streams}
 use Rattle.node_core.specs.declared.types.Wire.{Wire}
 use Rattle.node_core.specs.declared.types.NodeKey.{NodeKey}
-use Rattle.node_core.specs.declared.types.NodeKey.TheVariants.{Vlan}
+use Rattle.node_core.specs.declared.types.NodeKey.TheVariants.{Vlan, Srp}
 use Rattle.node_core.specs.declared.types.PortStep.{PortStep}
 use Rattle.node_core.specs.declared.types.PortStep.TheVariants.{Work, Due, Settle, Send}
 
@@ -29,6 +43,7 @@ pub record NodeState : Type 0 where
   pub bridge : BridgeId
   pub clock : Cs
   pub vlans : Vlans
+  pub streams : Streams
   pub inboxes : List (List Wire)
   pub outboxes : List (List Wire)
 
@@ -36,7 +51,7 @@ pub record NodeState : Type 0 where
 abbrev pub ports_of : NodeState → ℕ
 ports_of s = length s.vlans.parts
 
--- a new node with these ports: nothing is declared or registered, and no PDU waits
+-- a new node with these ports: nothing is declared, registered or booked, and no PDU waits
 abbrev pub new_node : NodeKind → BridgeId → Cs → Bool → List PortSetup → NodeState
 new_node kind bridge leave_time periodic ports =
     record {
@@ -44,6 +59,7 @@ new_node kind bridge leave_time periodic ports =
       bridge = bridge;
       clock = record { 0 = 0 };
       vlans = new_vlans leave_time periodic ports;
+      streams = new_streams bridge leave_time periodic ports;
       inboxes = map (λ _. []) ports;
       outboxes = map (λ _. []) ports;
     }
@@ -51,6 +67,14 @@ new_node kind bridge leave_time periodic ports =
 -- the PDUs in a list of boxes at a place
 abbrev pub box_at : ℕ → List (List Wire) → List Wire
 box_at at boxes = option_map_or (λ wires. wires) (slice_get boxes at) []
+
+-- what of MVRP's participant at a place, or what there is for none
+abbrev pub of_part : {X : Type 0} → (Part → X) → X → ℕ → Vlans → X
+of_part f none at vlans = option_map_or f (slice_get vlans.parts at) none
+
+-- what of MSRP's port at a place, or what there is for none
+abbrev pub of_port : {X : Type 0} → (Port → X) → X → ℕ → Streams → X
+of_port f none at streams = option_map_or f (slice_get streams.ports at) none
 
 -- ---- what the readers say
 
@@ -60,32 +84,78 @@ are_empty boxes = list_all (λ wires. length wires == 0) boxes
 
 -- whether nothing is pending at a node: no PDU waits, and no application has anything to do
 abbrev pub is_still_node : NodeState → Bool
-is_still_node s = are_empty s.inboxes && are_empty s.outboxes && are_still s.vlans
+is_still_node s =
+    are_empty s.inboxes && are_empty s.outboxes && are_still s.vlans
+    && streams_are_still s.streams
 
--- whether the participant of an application at a place is sound; an application that nodes don't run yet is
+-- whether the participant of an application at a place is sound
 abbrev pub is_sound_at : App → ℕ → NodeState → Bool
-is_sound_at Mvrp at s = option_map_or (λ part. part.sound) (slice_get s.vlans.parts at) false
-is_sound_at Msrp at s = true
+is_sound_at Mvrp at s = of_part (λ part. part.sound) false at s.vlans
+is_sound_at Msrp at s = of_port (λ port. port.part.sound) false at s.streams
+
+-- whether every participant of both applications is sound
+abbrev pub are_all_sound : NodeState → Bool
+are_all_sound s =
+    list_all (λ part. part.sound) s.vlans.parts
+    && list_all (λ (port : Port). port.part.sound) s.streams.ports
 
 -- the state of the registrar of an attribute at a place
 abbrev pub registrar_at : NodeKey → ℕ → NodeState → Registrar
 registrar_at (Vlan vid) at s =
-    option_map_or (λ part. registrar_of (find nat_cmp vid part.rows)) (slice_get s.vlans.parts at) Empty
+    of_part (λ part. registrar_of (find nat_cmp vid part.rows)) Empty at s.vlans
+registrar_at (Srp key) at s =
+    of_port (λ port. registrar_of (find key_cmp key port.part.rows)) Empty at s.streams
+
+-- what is registered of an attribute of MSRP at a place
+abbrev pub content_at : MsrpKey → ℕ → NodeState → Option MsrpContent
+content_at key at s = of_port (λ port. registered_at key_cmp key port.part) None at s.streams
 
 -- the attribute of a row, where it is registered
-abbrev pub registered_key : Row ℕ (Unit {0}) → Option NodeKey
-registered_key row = if is_registered_in row.registrar then Some (Vlan row.key) else None
+abbrev pub registered_key : {K C : Type 0} → (K → NodeKey) → Row K C → Option NodeKey
+registered_key name row = if is_registered_in row.registrar then Some (name row.key) else None
 
--- the attributes that are registered at a place, ascending
+-- the attributes that a participant has registered, ascending
+abbrev pub registered_in : {K C : Type 0} → (K → NodeKey) → State K C → List NodeKey
+registered_in name part = filter_map (registered_key name) part.rows
+
+-- the attributes that are registered at a place: VIDs, and then those of MSRP, each ascending
 abbrev pub registered_keys : ℕ → NodeState → List NodeKey
 registered_keys at s =
-    option_map_or (λ part. filter_map registered_key part.rows) (slice_get s.vlans.parts at) []
+    of_part (λ part. registered_in Vlan part) [] at s.vlans
+    ++ of_port (λ port. registered_in Srp port.part) [] at s.streams
+
+-- an entry of a ledger where it is booked
+abbrev pub if_booked : Entry → Option Entry
+if_booked x = if is_booked x then Some x else None
+
+-- the booked entry of a stream in the ledger at a place
+abbrev pub booked_at : StreamId → ℕ → NodeState → Option Entry
+booked_at stream at s =
+    of_port (λ port. option_and_then if_booked (entry_of port.ledger.entries stream)) None at
+    s.streams
+
+-- the booked entries there, ascending by StreamID
+abbrev pub bookings_at : ℕ → NodeState → List Entry
+bookings_at at s = of_port (λ port. booked_of port.ledger.entries) [] at s.streams
+
+-- the slopes of the booked streams of a class there, together, in bit/s
+abbrev pub slope_at : Class → ℕ → NodeState → ℕ
+slope_at class at s = of_port (λ port. booked_slope port.ledger.entries class) 0 at s.streams
+
+-- whether what a stream's Talker asks for fits at a place, by the ledger there and at the moment of the clock
+abbrev pub fit_of : ℕ → StreamId → NodeState → Option Fit
+fit_of at stream s =
+    of_port
+    (λ port. fit_at s.clock.0 at port.ledger (talkers_of s.streams.talks s.streams.ports stream))
+    None at s.streams
 
 -- ---- what a port has to do
 
 -- whether a node is busy: a PDU came in at some port, a timer is due there, or an attribute awaits
 abbrev pub is_busy_node : NodeState → Bool
-is_busy_node s = not (are_empty s.inboxes) || vlans_are_busy s.clock s.vlans
+is_busy_node s =
+    not (are_empty s.inboxes) || vlans_are_busy s.clock s.vlans
+    || streams_are_busy s.clock s.streams
 
 -- a step for each of these PDUs
 abbrev pub works : List Wire → List PortStep
@@ -100,4 +170,4 @@ is_sending_time now = now.0 % 20 == 0
 abbrev pub job_list : ℕ → NodeState → List PortStep
 job_list at s =
     (if is_busy_node s then works (box_at at s.inboxes) ++ (Due ∷ Settle ∷ []) else [])
-    ++ (if is_sending_time s.clock then Send Mvrp ∷ [] else [])
+    ++ (if is_sending_time s.clock then Send Mvrp ∷ Send Msrp ∷ [] else [])

@@ -3,7 +3,7 @@
 ghost use Rattle.std.specs.Prelude.{◌≡◌, ◌++◌, ◌∷◌, [], IfOk, if◌then◌else◌};
 ghost use Rattle.mvrp.specs.Side.{IsLinkPort, place_of};
 ghost use Rattle.node_core.specs.declared.types.PortStep.TheVariants.{Due, Settle, Send};
-ghost use Rattle.srp_base.specs.declared.mrp.App.TheVariants.{Mvrp};
+ghost use Rattle.srp_base.specs.declared.mrp.App.TheVariants.{Mvrp, Msrp};
 ghost use Rattle.node_core.specs.State.{ports_of, is_busy_node, works, job_list};
 
 use crate::node::{Node, all_empty};
@@ -29,7 +29,9 @@ impl Node {
     pub fn is_busy(&self) -> bool
         ensures { result ≡ is_busy_node self.now }
     {
-        !all_empty(self.inboxes.as_slice()) || self.mvrp.is_busy(self.clock)
+        !all_empty(self.inboxes.as_slice())
+            || self.mvrp.is_busy(self.clock)
+            || self.msrp.is_busy(self.clock)
     }
 }
 
@@ -66,12 +68,13 @@ fn work_steps(alloc: Global, wires: &[Wire]) -> Result<Vec<PortStep>, AllocError
 
 // These steps, and at a moment of sending a Send of each application.
 fn with_send(steps: Vec<PortStep>, is_time: bool) -> Result<Seq<PortStep>, AllocError>
-    ensures { IfOk result (λ all. all ≡ steps.items ++ (if is_time then Send Mvrp ∷ [] else [])) }
+    ensures { IfOk result (λ all. all ≡ steps.items ++ (if is_time then Send Mvrp ∷ Send Msrp ∷ [] else [])) }
 {
     let _ = PortStep::Due.key();
     let mut steps = steps;
     if is_time {
         steps.push(PortStep::Send(App::Mvrp))?;
+        steps.push(PortStep::Send(App::Msrp))?;
     }
     Ok(Seq::from_vec(steps))
 }

@@ -1,55 +1,60 @@
 //! What every node keeps: laws over the states that contracts see. Each is a function that does nothing; calling it brings
 //! the law to a proof.
 
-ghost use Rattle.std.specs.Prelude.{◌≡◌, ◌≤◌, ℕ, Bool, List, [], length};
+ghost use Rattle.std.specs.Prelude.{◌≡◌, ◌<◌, ◌≤◌, ◌^◌, ℕ, Bool, List, [], length};
 ghost use Rattle.srp_base.specs.declared.numbers.Cs.{Cs};
 ghost use Rattle.srp_base.specs.declared.numbers.BridgeId.{BridgeId};
+ghost use Rattle.srp_base.specs.declared.numbers.PortNo.{PortNo};
 ghost use Rattle.srp_base.specs.declared.mrp.App.{App};
 ghost use Rattle.srp_base.specs.declared.ports.PortSetup.{PortSetup};
 ghost use Rattle.tree_topology.specs.declared.graph.NodeKind.{NodeKind};
-ghost use Rattle.node_core.specs.declared.types.NodeEvent.{NodeEvent};
-ghost use Rattle.srp_base.specs.declared.numbers.PortNo.{PortNo};
 ghost use Rattle.node_core.specs.declared.types.AppRequest.{AppRequest};
+ghost use Rattle.node_core.specs.declared.types.NodeEvent.{NodeEvent};
 ghost use Rattle.node_core.specs.declared.types.PortStep.{PortStep};
 ghost use Rattle.node_core.specs.declared.types.Wire.{Wire};
 ghost use Rattle.node_core.specs.Wires.{AreShort};
 ghost use Rattle.node_core.specs.State.{NodeState, ports_of, new_node};
 ghost use Rattle.node_core.specs.Step.{CanStep, node_step};
 ghost use Rattle.node_core.specs.Links.{with_outbox, with_carried, lost_at, repeated_at, spoilt_at};
-ghost use Rattle.node_core.specs.Proper.{IsProperNode, NamesVids};
+ghost use Rattle.node_core.specs.Proper.{IsProperNode, AreProperWires, IsInRange, port_setups};
 
 use crate::types::NodeEvent;
-use mvrp::laws::{
-    a_new_side_is_proper, every_call_keeps_a_side_proper, settling_and_requests_keep_a_side_proper,
-    what_is_sent_is_read,
-};
-use mvrp_codec::what_is_read_has_vids;
+use msrp::laws as of_streams;
+use mvrp::laws as of_vlans;
 
-/// A new node keeps what every node keeps, of VIDs alone.
+/// A new node keeps what every node keeps, where its BridgeID is a number of 64 bits.
 pub fn a_new_node_is_proper()
     ensures { (kind : NodeKind) (bridge : BridgeId) (leave_time : Cs) (periodic : Bool) (ports : List PortSetup)
-        → length ports ≤ 255 → IsProperNode (new_node kind bridge leave_time periodic ports) }
+        → length ports ≤ 255 → bridge.0 < 2 ^ 64
+        → IsProperNode (new_node kind bridge leave_time periodic ports) }
 {
-    a_new_side_is_proper();
+    of_vlans::a_new_side_is_proper();
+    of_streams::a_new_side_is_proper();
 }
 
-/// Each step that may be made keeps it, where a request names a VID.
+/// Each step that may be made keeps it, where what a request asks for fits.
 pub fn every_step_keeps_a_node_proper()
     ensures { (event : NodeEvent) (s : NodeState)
-        → CanStep event s → NamesVids event → IsProperNode s → IsProperNode (node_step event s).0 }
+        → CanStep event s → IsInRange event → IsProperNode s → IsProperNode (node_step event s).0 }
 {
-    every_call_keeps_a_side_proper();
-    settling_and_requests_keep_a_side_proper();
-    what_is_sent_is_read();
-    what_is_read_has_vids();
+    of_vlans::every_call_keeps_a_side_proper();
+    of_vlans::settling_and_requests_keep_a_side_proper();
+    of_vlans::what_is_sent_is_read();
+    mvrp_codec::what_is_read_has_vids();
+    of_streams::every_call_keeps_a_side_proper();
+    of_streams::settling_and_requests_keep_a_side_proper();
+    of_streams::what_is_sent_is_read();
+    of_streams::calls_keep_the_ports();
+    msrp_codec::laws::reading_is_the_grammar();
+    msrp_codec::laws::what_is_read_belongs_to_its_keys();
 }
 
-/// So does what happens to the PDUs that wait: an outbox is taken out, short PDUs come in, one is lost or there twice, and
-/// a participant is spoilt.
+/// So does what happens to the PDUs that wait: an outbox is taken out, short PDUs that say what fits come in, one is lost or
+/// there twice, and a participant is spoilt.
 pub fn links_keep_a_node_proper()
     ensures taken { (at : ℕ) (s : NodeState) → IsProperNode s → IsProperNode (with_outbox at [] s) }
-    ensures carried { (at : ℕ) (wires : List Wire) (s : NodeState)
-        → AreShort wires → IsProperNode s → IsProperNode (with_carried at wires s) }
+    ensures carried { (at : ℕ) (wires : List Wire) (s : NodeState) → AreShort wires
+        → AreProperWires wires → IsProperNode s → IsProperNode (with_carried at wires s) }
     ensures lost { (at index : ℕ) (s : NodeState) → IsProperNode s
         → IsProperNode (lost_at at index s) }
     ensures repeated { (at index : ℕ) (s : NodeState) → IsProperNode s
@@ -57,7 +62,9 @@ pub fn links_keep_a_node_proper()
     ensures spoilt { (app : App) (at : ℕ) (s : NodeState) → IsProperNode s
         → IsProperNode (spoilt_at app at s) }
 {
-    every_call_keeps_a_side_proper();
+    of_vlans::every_call_keeps_a_side_proper();
+    of_streams::every_call_keeps_a_side_proper();
+    of_streams::calls_keep_the_ports();
 }
 
 /// A step keeps what a node is, and how many link ports it has; and no step but the clock's moves the clock.
@@ -69,4 +76,15 @@ pub fn steps_keep_what_a_node_is()
         → (node_step (NodeEvent.Port port step) s).0.clock ≡ s.clock }
     ensures asked { (request : AppRequest) (s : NodeState)
         → (node_step (NodeEvent.Request request) s).0.clock ≡ s.clock }
-{}
+{
+    of_streams::calls_keep_the_ports();
+}
+
+/// A step keeps the node's BridgeID, and how each link port is set up: its BridgeID, its latency and the caps of its ledger.
+pub fn a_port_stays_set_up()
+    ensures bridge { (event : NodeEvent) (s : NodeState) → (node_step event s).0.bridge ≡ s.bridge }
+    ensures ports { (event : NodeEvent) (s : NodeState) → port_setups (node_step event s).0
+        ≡ port_setups s }
+{
+    of_streams::calls_keep_the_ports();
+}

@@ -2,31 +2,48 @@
 //! clock, and one step at a time.
 //!
 //! ```text
-//!            application of a station
-//!                  | Request
-//!                  v                                      Clock: 1 cs
-//!   link --carry--> inbox --Work--> what MVRP keeps --Send--> outbox --carry--> link
-//!                                   Due, Settle
+//!     application of a station          Clock: 1 cs, of the node and of MSRP's ledgers
+//!               | Request                 |
+//!               v                         v
+//!   link --> inbox --Work--> MVRP: VIDs                           --Send--> outbox --> link
+//!                            MSRP: Talkers, Listeners, bookings
+//!                                   ^
+//!                                   | Due, Settle: of both
 //! ```
+//!
+//! A node runs MVRP (IEEE Std 802.1Q-2018, 11.2) and MSRP (35.2) side by side: a participant of each at each link port.
+//! `Work` gives the front PDU to the application that it belongs to, and `Send` asks one application what it has to say.
+//! `Due`, `Settle` and the clock are of both at once: after want of memory neither has done anything, and the node is as
+//! it was. So that the clocks of many nodes go on together or not at all, `prepare_clock` takes the memory of the next
+//! one, and `tick` takes none.
 //!
 //! Contracts see a node as a `NodeState` (`specs/State.antt`), and each step is a function of it: `node_step`
 //! (`specs/Step.antt`) gives the node afterwards and the answer. `Work` acts by the reading of the front octets
 //! alone, and `Send` puts the one spelling of what the participant sends, so octets on a link are messages on a
 //! link. What happens to the PDUs that wait is `specs/Links.antt`. A step of a link port touches what is kept at that
-//! port, and the attributes that await at the others; after want of memory a node is as it was.
+//! port, and the attributes that await at the others.
 //!
-//! A further application is a field of `NodeState`, an arm in each definition that takes an `App` or a `NodeKey`,
-//! and an arm in the function of the same name.
+//! What every node keeps, by its type, is `IsKeptNode` (`specs/Links.antt`): what each application keeps, as many ports
+//! in both, short PDUs, and one moment. `specs/Proper.antt` adds that VIDs are VIDs and all numbers fit in their fields.
+//!
+//! To add an application: a field of `NodeState`, a file like `streams.rt` of what a step does at it, an arm in each
+//! definition that takes an `App` or a `NodeKey` and in the function of the same name, and its part in `both.rt`. To add
+//! a step: a variant of `PortStep`, a line of `port_step` in `specs/Step.antt`, and a method in `step.rt`.
 #![tactic(auto)]
 
+mod both;
 mod jobs;
 pub mod laws;
 mod links;
 mod node;
+mod outbox;
+mod parts;
 mod step;
+mod streams;
 #[cfg(test)]
 mod tests;
 mod types;
+mod vlans;
 
 pub use node::Node;
 pub use types::{AppRequest, NodeEvent, NodeKey, NodeStep, PortStep, StepReply, Wire};

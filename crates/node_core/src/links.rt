@@ -1,15 +1,16 @@
 //! The PDUs that wait at a link port: what comes in, what goes out, what is lost, and what comes twice.
 
 ghost use Rattle.std.specs.Prelude.{◌≡◌, ◌<◌, ◌++◌, [], if◌then◌else◌, length, OnOk, OnErr, IfErr, IfOk};
-ghost use Rattle.mvrp.specs.Side.{IsKept, IsLinkPort, place_of, spoilt_vlans};
+ghost use Rattle.mvrp.specs.Side.{IsLinkPort, place_of};
 ghost use Rattle.node_core.specs.State.{ports_of, box_at};
 ghost use Rattle.node_core.specs.Wires.{AreShort, without};
 ghost use Rattle.node_core.specs.Links.{with_outbox, with_carried, has_index, lost_at, repeated_at, spoilt_at};
 ghost use Rattle.mrp_participant.specs.Link.{repeated};
 
 use crate::node::{Node, copied_wire};
+use crate::streams::spoil_streams;
 use crate::types::Wire;
-use mvrp::MvrpSide;
+use crate::vlans::spoil_vlans;
 use srp_base::{App, NoMemory, PortNo, Seq};
 use std::alloc::Global;
 use std::mem;
@@ -95,7 +96,7 @@ impl Node {
     {
         match app {
             App::Mvrp => spoil_vlans(&mut self.mvrp, port),
-            App::Msrp => {}
+            App::Msrp => spoil_streams(&mut self.msrp, port),
         }
     }
 }
@@ -145,16 +146,4 @@ fn repeat_wire(alloc: Global, inbox: &mut Seq<Wire>, index: usize) -> Result<(),
     *inbox = Seq::from_vec(wires);
     inserted?;
     Ok(())
-}
-
-// Ends the soundness of MVRP's participant at a port.
-#[tactic(auto, using(crate::proofs::Sizes::of_spoilt))]
-fn spoil_vlans(side: &mut MvrpSide, port: PortNo)
-    requires { IsLinkPort port (length side.old.parts) }
-    ensures after { side.new ≡ spoilt_vlans (place_of port) side.old }
-    ensures ports { length side.new.parts ≡ length side.old.parts }
-    ensures kept { IsKept side.new }
-{
-    side.spoil(port);
-    side.keeps();
 }

@@ -1,20 +1,30 @@
 //! A node, how it is made, and what it shows.
 
-ghost use Rattle.std.specs.Prelude.{◌≡◌, ◌≤◌, ◌+◌, ◌++◌, false, [], length, map, slice_get, Some, option_map, option_and_then, option_to_list, IfOk, OnOk};
-ghost use Rattle.std.specs.List.{AllByRecursion, list_all, filter_map};
+ghost use Rattle.std.specs.Prelude.{◌<◌, ◌^◌, ◌≡◌, ◌≤◌, ◌+◌, ◌++◌, [], length, map, slice_get, option_map, option_and_then, option_to_list, IfOk, OnOk};
+ghost use Rattle.std.specs.List.{AllByRecursion, filter_map};
 ghost use Rattle.mrp_participant.specs.State.{IsTime};
+ghost use Rattle.port_ledger.specs.Book.{entry_of};
 ghost use Rattle.mvrp.specs.Side.{IsLinkPort, place_of, has_own};
-ghost use Rattle.node_core.specs.State.{ports_of, new_node, box_at, are_empty, is_still_node, is_sound_at, registrar_at, registered_key, registered_keys};
+ghost use Rattle.msrp.specs.Side.{has_listen, has_talk, heard_of, next_sets, talker_of};
+ghost use Rattle.node_core.specs.State.{ports_of, new_node, box_at, are_empty, are_all_sound, is_still_node, is_sound_at, registrar_at, content_at, registered_key, registered_in, registered_keys, if_booked, booked_at, bookings_at, slope_at, fit_of};
 ghost use Rattle.node_core.specs.Links.{IsKeptNode};
+ghost use Rattle.node_core.specs.declared.types.NodeKey.TheVariants.{Vlan, Srp};
 
 use crate::types::{NodeKey, Wire};
 use mrp_participant::Participant;
 use mrp_participant::laws::a_place_for_each_key;
+use msrp::{ClockSets, MsrpApp, MsrpSide};
+use msrp_codec::{MsrpContent, MsrpKey};
 use mvrp::{MvrpApp, MvrpSide};
+use port_ledger::Ledger;
 use registrar::Registrar;
-use srp_base::{App, BridgeId, Cs, NoMemory, PortNo, PortSetup, Seq, Vid};
+use srp_base::{
+    App, BridgeId, Class, Cs, ListenerKind, NoMemory, PortNo, PortSetup, Seq, StreamId, TalkerReg,
+    Vid,
+};
 use std::alloc::{AllocError, Global};
 use std::marker::Model;
+use stream_importance::{Entry, Fit};
 use tree_topology::NodeKind;
 
 /// A node, a bridge or a station. Contracts see a `NodeState`.
@@ -24,6 +34,7 @@ pub struct Node {
     pub(crate) bridge: BridgeId,
     pub(crate) clock: Cs,
     pub(crate) mvrp: MvrpSide,
+    pub(crate) msrp: MsrpSide,
     pub(crate) inboxes: Vec<Seq<Wire>>,
     pub(crate) outboxes: Vec<Seq<Wire>>,
 }
@@ -39,6 +50,7 @@ impl Model for Node {
       bridge = n.bridge;
       clock = n.clock;
       vlans = n.mvrp;
+      streams = n.msrp;
       inboxes = n.inboxes.items;
       outboxes = n.outboxes.items;
     } };
@@ -48,14 +60,15 @@ impl Model for Node {
       bridge = n.bridge;
       clock = n.clock;
       vlans = n.mvrp;
+      streams = n.msrp;
       inboxes = n.inboxes.items;
       outboxes = n.outboxes.items;
     }) };
 }
 
 impl Node {
-    /// A node with these link ports, at the moment 0: nothing is declared or registered, and no PDU waits. LeaveTime and
-    /// each port's period are 1 to 10,000 cs.
+    /// A node with these link ports, at the moment 0: nothing is declared, registered or booked, and no PDU waits.
+    /// LeaveTime and each port's period are 1 to 10,000 cs, and the two shares of each port sum to at most 90 percent.
     pub fn new(
         alloc: Global,
         kind: NodeKind,
@@ -72,6 +85,8 @@ impl Node {
     {
         let mvrp = MvrpSide::new(alloc, leave_time, periodic, ports)?;
         mvrp.keeps();
+        let msrp = MsrpSide::new(alloc, bridge, leave_time, periodic, ports)?;
+        msrp.keeps();
         let inboxes = new_boxes(alloc, ports)?;
         let outboxes = new_boxes(alloc, ports)?;
         Ok(Node {
@@ -79,13 +94,14 @@ impl Node {
             bridge,
             clock: Cs(0),
             mvrp,
+            msrp,
             inboxes,
             outboxes,
         })
     }
 
-    /// What every node keeps: its VIDs are settled but for those that await, and its ports have short PDUs alone. It is a
-    /// law, and does nothing.
+    /// What every node keeps: its VIDs, Talkers and Listeners are settled but for those that await, and its ports have
+    /// short PDUs alone. It is a law, and does nothing.
     pub fn keeps(&self)
         ensures { IsKeptNode self.now }
     {
@@ -102,6 +118,7 @@ impl Node {
             bridge: self.bridge,
             clock: self.clock,
             mvrp: self.mvrp.copy()?,
+            msrp: self.msrp.copy()?,
             inboxes: copied_boxes(alloc, self.inboxes.as_slice())?,
             outboxes: copied_boxes(alloc, self.outboxes.as_slice())?,
         })
@@ -159,16 +176,68 @@ impl Node {
     {
         match key {
             NodeKey::Vlan(vid) => self.mvrp.participant(port).registrar(vid),
+            NodeKey::Srp(key) => self.msrp.participant(port).registrar(key),
         }
     }
 
-    /// The attributes that are registered at a port, VIDs first, each kind ascending.
+    /// What is registered of an attribute of MSRP at a port. None exactly where its registrar is MT.
+    pub fn content(&self, port: PortNo, key: MsrpKey) -> Option<MsrpContent>
+        requires { IsLinkPort port (ports_of self.now) }
+        ensures { result ≡ content_at key (place_of port) self.now }
+    {
+        self.msrp.participant(port).registered(key)
+    }
+
+    /// The attributes that are registered at a port: VIDs, and then those of MSRP, each kind ascending.
     pub fn keys(&self, port: PortNo) -> Result<Seq<NodeKey>, NoMemory>
         requires { IsLinkPort port (ports_of self.now) }
         ensures { IfOk result (λ keys. keys ≡ registered_keys (place_of port) self.now) }
     {
-        let alloc = *self.inboxes.allocator();
-        registered_vids(alloc, self.mvrp.participant(port))
+        let mut keys = Vec::new(*self.inboxes.allocator());
+        push_vids(&mut keys, self.mvrp.participant(port))?;
+        push_srp_keys(&mut keys, self.msrp.participant(port))?;
+        Ok(Seq::from_vec(keys))
+    }
+
+    /// The booked entry of a stream in a port's ledger; None exactly where it isn't booked there.
+    pub fn booked(&self, port: PortNo, stream: StreamId) -> Option<Entry>
+        requires { IsLinkPort port (ports_of self.now) }
+        ensures { result ≡ booked_at stream (place_of port) self.now }
+    {
+        booked_entry(self.msrp.ledger(port), stream)
+    }
+
+    /// The booked entries of a port's ledger, ascending by StreamID.
+    pub fn bookings(&self, port: PortNo) -> Result<Seq<Entry>, NoMemory>
+        requires { IsLinkPort port (ports_of self.now) }
+        ensures { IfOk result (λ entries. entries ≡ bookings_at (place_of port) self.now) }
+    {
+        self.msrp.ledger(port).bookings()
+    }
+
+    /// The slopes of the streams of a class that are booked at a port together, in bit/s.
+    pub fn slope(&self, port: PortNo, class: Class) -> u128
+        requires { IsLinkPort port (ports_of self.now) }
+        ensures { result ≡ slope_at class (place_of port) self.now }
+    {
+        self.msrp.ledger(port).slope(class)
+    }
+
+    /// What is registered of a stream at the Talker's port, the lowest-numbered port where a Talker of it is
+    /// registered, the application first; Absent where there is none.
+    pub fn talker(&self, stream: StreamId) -> TalkerReg
+        ensures { result ≡ talker_of stream self.now.streams }
+    {
+        self.msrp.talker(stream)
+    }
+
+    /// Whether what a stream's Talker asks for fits at a port, by its ledger. None exactly where the stream has no
+    /// Talker's port, where that is this port, or where the Talker's priority has no SR class.
+    pub fn fit(&self, port: PortNo, stream: StreamId) -> Option<Fit>
+        requires { IsLinkPort port (ports_of self.now) }
+        ensures { result ≡ fit_of (place_of port) stream self.now }
+    {
+        self.msrp.fit(self.clock, port, stream)
     }
 
     /// Whether the application of the station declares a VID.
@@ -176,6 +245,28 @@ impl Node {
         ensures { result ≡ has_own vid self.now.vlans }
     {
         self.mvrp.declares(vid)
+    }
+
+    /// Whether it talks a stream.
+    pub fn talks(&self, stream: StreamId) -> bool
+        ensures { result ≡ has_talk stream self.now.streams }
+    {
+        self.msrp.talks(stream)
+    }
+
+    /// Whether it listens to a stream.
+    pub fn listens(&self, stream: StreamId) -> bool
+        ensures { result ≡ has_listen stream self.now.streams }
+    {
+        self.msrp.listens(stream)
+    }
+
+    /// What a listening application hears of a stream: Ready where the Talker at the Talker's port is advertised,
+    /// AskingFailed where it failed. None exactly where it doesn't listen, or where no link port is the Talker's port.
+    pub fn heard(&self, stream: StreamId) -> Option<ListenerKind>
+        ensures { result ≡ heard_of stream self.now.streams }
+    {
+        self.msrp.heard(stream)
     }
 
     /// Whether nothing is pending at the node: no PDU waits in an inbox or an outbox, every participant is at rest, and
@@ -186,13 +277,14 @@ impl Node {
         all_empty(self.inboxes.as_slice())
             && all_empty(self.outboxes.as_slice())
             && self.mvrp.still()
+            && self.msrp.still()
     }
 
     /// Whether every port is sound, in each application.
     pub fn all_sound(&self) -> bool
-        ensures { result ≡ list_all (λ part. part.sound) self.now.vlans.parts }
+        ensures { result ≡ are_all_sound self.now }
     {
-        self.mvrp.all_sound()
+        self.mvrp.all_sound() && self.msrp.all_sound()
     }
 
     /// Whether the participant of an application at a port is sound: it was never spoilt, or has sent a LeaveAll since.
@@ -202,8 +294,18 @@ impl Node {
     {
         match app {
             App::Mvrp => self.mvrp.participant(port).sound(),
-            App::Msrp => true,
+            App::Msrp => self.msrp.participant(port).sound(),
         }
+    }
+
+    /// Takes all memory that the next clock needs, so that the clocks of many nodes go on together or not at all; what
+    /// it is taken for is `tick`. It takes none where the clock shows nothing of any ledger.
+    pub fn prepare_clock(&self) -> Result<ClockSets, NoMemory>
+        requires { self.now.clock.0 < 2 ^ 61 }
+        ensures { IfOk result (λ sets. sets
+            ≡ next_sets (self.now.clock.0 + 1) self.now.streams) }
+    {
+        self.msrp.prepare_clock(Cs(self.clock.0 + 1))
     }
 }
 
@@ -257,25 +359,27 @@ fn wire_at(wires: &Seq<Wire>, index: usize) -> Option<&Wire>
     wires.as_slice().get(index)
 }
 
-// The VIDs that a participant of MVRP has registered.
-fn registered_vids(alloc: Global, part: &Participant<MvrpApp>) -> Result<Seq<NodeKey>, NoMemory>
-    ensures { IfOk result (λ keys. keys ≡ filter_map registered_key part.now.rows) }
+// An entry of a stream in a ledger, where it is booked.
+fn booked_entry(ledger: &Ledger, stream: StreamId) -> Option<Entry>
+    ensures { result ≡ option_and_then if_booked (entry_of ledger.now.entries stream) }
 {
-    let mut keys = Vec::new(alloc);
+    ledger.entry(stream).filter(|entry| entry.since.is_some())
+}
+
+// The VIDs that a participant of MVRP has registered go to the end of a list.
+fn push_vids(keys: &mut Vec<NodeKey>, part: &Participant<MvrpApp>) -> Result<(), NoMemory>
+    ensures { OnOk result (keys.new.items ≡ keys.old.items ++ registered_in Vlan part.now) }
+{
     for i in 0..part.rows() {
-        push_registered(&mut keys, part, i)?;
+        push_vid(keys, part, i)?;
     }
-    Ok(Seq::from_vec(keys))
+    Ok(())
 }
 
 // The VID of the row at a place goes to the end of a list, where it is registered.
-fn push_registered(
-    keys: &mut Vec<NodeKey>,
-    part: &Participant<MvrpApp>,
-    i: usize,
-) -> Result<(), NoMemory>
+fn push_vid(keys: &mut Vec<NodeKey>, part: &Participant<MvrpApp>, i: usize) -> Result<(), NoMemory>
     ensures { OnOk result (keys.new.items
-        ≡ keys.old.items ++ option_to_list (option_and_then registered_key (slice_get part.now.rows i))) }
+        ≡ keys.old.items ++ option_to_list (option_and_then (registered_key Vlan) (slice_get part.now.rows i))) }
 {
     a_place_for_each_key::<MvrpApp>();
     part.rows_ascend();
@@ -284,6 +388,36 @@ fn push_registered(
     };
     if part.registrar(vid).is_registered() {
         keys.push(NodeKey::Vlan(vid))?;
+    }
+    Ok(())
+}
+
+// The attributes that a participant of MSRP has registered go to the end of a list.
+fn push_srp_keys(keys: &mut Vec<NodeKey>, part: &Participant<MsrpApp>) -> Result<(), NoMemory>
+    ensures { OnOk result (keys.new.items ≡ keys.old.items ++ registered_in Srp part.now) }
+{
+    for i in 0..part.rows() {
+        push_srp_key(keys, part, i)?;
+    }
+    Ok(())
+}
+
+// The attribute of the row at a place goes to the end of a list, where it is registered.
+fn push_srp_key(
+    keys: &mut Vec<NodeKey>,
+    part: &Participant<MsrpApp>,
+    i: usize,
+) -> Result<(), NoMemory>
+    ensures { OnOk result (keys.new.items
+        ≡ keys.old.items ++ option_to_list (option_and_then (registered_key Srp) (slice_get part.now.rows i))) }
+{
+    a_place_for_each_key::<MsrpApp>();
+    part.rows_ascend();
+    let Some(key) = part.key_at(i) else {
+        return Ok(());
+    };
+    if part.registrar(key).is_registered() {
+        keys.push(NodeKey::Srp(key))?;
     }
     Ok(())
 }

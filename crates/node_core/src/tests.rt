@@ -1,5 +1,5 @@
-//! A station declares VID 10, and what it says goes through a bridge of two ports; what happens to PDUs on the way; and
-//! timers.
+//! A station declares VID 10, and what it says goes through a bridge of two ports; a station talks a stream, and another
+//! listens; what happens to PDUs on the way; and timers.
 //!
 //! The calls stand in functions of their own without contracts, each of which asks first whether the node has the port,
 //! so that a test's own proof is short.
@@ -11,10 +11,15 @@ ghost use Rattle.node_core.specs.State.{ports_of};
 use crate::PortStep::{Due, LeaveAllNow, LeaveNow, PeriodicNow, Send, Settle, Work};
 use crate::StepReply::{Discarded, Fired, Nothing, Received, Sent, Settled, Silent, Taken};
 use crate::{AppRequest, Node, NodeEvent, NodeKey, PortStep, StepReply, Wire};
+use msrp_codec::{MsrpContent, MsrpKey};
 use registrar::Registrar;
-use srp_base::{App, BridgeId, Cs, NoMemory, Percent, PortNo, PortSetup, Rate, Seq, Vid};
+use srp_base::{
+    App, BridgeId, Class, Cs, ListenerKind, Mac, NoMemory, Percent, PortNo, PortSetup, Priority,
+    Rank, Rate, Seq, StreamId, Talker, TalkerReg, Vid,
+};
 use std::alloc::Global;
 use std::test::Fail;
+use stream_importance::Fit;
 use tree_topology::NodeKind;
 
 const ONE: PortNo = PortNo(1);
@@ -201,13 +206,13 @@ fn copy_is_spoilt(node: &Node) -> Result<bool, NoMemory> {
     Ok(copy.still() && !copy.all_sound())
 }
 
-// Whether a link port has all four kinds of jobs to do, for one PDU.
+// Whether a link port has all kinds of jobs to do, for one PDU.
 fn has_jobs(node: &Node, port: PortNo) -> Result<bool, NoMemory> {
     if !has(node, port) {
         return Ok(false);
     }
     let jobs = node.jobs(port)?;
-    let all = [Work, Due, Settle, Send(App::Mvrp)];
+    let all = [Work, Due, Settle, Send(App::Mvrp), Send(App::Msrp)];
     Ok(jobs.as_slice() == all.as_slice())
 }
 
@@ -228,7 +233,8 @@ fn goes_on(node: &mut Node, by_event: bool) -> Result<Cs, NoMemory> {
     if by_event {
         node.step(NodeEvent::Clock)?;
     } else {
-        node.tick();
+        let sets = node.prepare_clock()?;
+        node.tick(sets);
     }
     Ok(node.now())
 }
@@ -290,26 +296,28 @@ fn link_events(alloc: Global, bridge: &mut Node, vid: Vid) -> Result<[bool; 5], 
 fn spoiling(station: &mut Node) -> Result<[bool; 8], NoMemory> {
     let named = station.ports() == 1 && station.bridge() == BridgeId(17);
     let still = station.still() && station.all_sound();
-    spoil(station, ONE, App::Msrp);
-    let stays = soundness(station, ONE) == [true, true];
     spoil(station, ONE, App::Mvrp);
-    let spoilt = soundness(station, ONE) == [false, true] && copy_is_spoilt(station)?;
+    let stays = soundness(station, ONE) == [false, true];
+    spoil(station, ONE, App::Msrp);
+    let spoilt = soundness(station, ONE) == [false, false] && copy_is_spoilt(station)?;
     let list = [
-        (PeriodicNow(App::Msrp), Fired(0)),
+        (PeriodicNow(App::Msrp), Fired(1)),
         (PeriodicNow(App::Mvrp), Fired(1)),
     ];
     let periodic = answers(station, ONE, list.as_slice())?;
     let list = [
-        (LeaveAllNow(App::Msrp), Fired(0)),
+        (LeaveAllNow(App::Msrp), Fired(1)),
         (LeaveAllNow(App::Mvrp), Fired(1)),
     ];
     let fired = answers(station, ONE, list.as_slice())?;
-    let sent = answers(station, ONE, [(Send(App::Mvrp), Sent(11))].as_slice())?;
+    let list = [(Send(App::Mvrp), Sent(11)), (Send(App::Msrp), Sent(106))];
+    let sent = answers(station, ONE, list.as_slice())?;
     let sound = soundness(station, ONE) == [true, true];
     Ok([named, still, stays, spoilt, periodic, fired, sent, sound])
 }
 
-// What is seen where the LeaveAll timer of the port that has a VID registered is due at 3, and nobody says it again.
+// What is seen where the LeaveAll timers of the port that has a VID registered are due at 3, of both applications, and
+// nobody says it again.
 fn leaving(alloc: Global, bridge: &mut Node, vid: Vid) -> Result<[bool; 6], NoMemory> {
     let came = comes_in(
         bridge,
@@ -328,7 +336,7 @@ fn leaving(alloc: Global, bridge: &mut Node, vid: Vid) -> Result<[bool; 6], NoMe
         goes_on(bridge, false)?,
         goes_on(bridge, true)?,
     ];
-    let list = [(Due, Fired(1)), (Send(App::Mvrp), Sent(11))];
+    let list = [(Due, Fired(2)), (Send(App::Mvrp), Sent(11))];
     let due = moments == [Cs(1), Cs(2), Cs(3)] && answers(bridge, ONE, list.as_slice())?;
     let left = shows(bridge, ONE, 0, None, (vid, Registrar::Leaving)) && leaves(bridge, vid)?;
     Ok([came, busy, worked, said, due, left])
@@ -341,7 +349,122 @@ fn leaves(bridge: &mut Node, vid: Vid) -> Result<bool, NoMemory> {
     Ok(answers(bridge, ONE, list.as_slice())? && says_at_two(bridge, &LEAVE)?)
 }
 
+// A Talker of a stream: one frame of 200 octets in each interval of class A, so 15,488,000 bit/s.
+fn talker_of(stream: StreamId) -> Option<Talker> {
+    let dest = Mac::new(0x91e0_f000_fe01)?;
+    let priority = Priority::new(3)?;
+    Some(Talker {
+        stream,
+        dest,
+        vid: 2,
+        max_frame: 200,
+        frames: 1,
+        priority,
+        rank: Rank::Normal,
+        latency: 500,
+    })
+}
+
+// Whether a link port has booked a stream alone, for the Listener that is registered there.
+fn books(node: &Node, port: PortNo, stream: StreamId) -> Result<bool, NoMemory> {
+    if !has(node, port) {
+        return Ok(false);
+    }
+    let all = node.bookings(port)?;
+    let sums = all.len() == 1 && node.slope(port, Class::A) == 15_488_000;
+    let fits = node.fit(port, stream) == Some(Fit::Fits);
+    Ok(node.booked(port, stream).is_some() && sums && fits)
+}
+
+// Whether Listener Ready of a stream is all that is registered at a link port.
+fn is_listened(node: &Node, port: PortNo, stream: StreamId) -> Result<bool, NoMemory> {
+    if !has(node, port) {
+        return Ok(false);
+    }
+    let key = MsrpKey::Listener(stream);
+    let ready = node.content(port, key) == Some(MsrpContent::Listener(ListenerKind::Ready));
+    let held = node.registrar(port, NodeKey::Srp(key)) == Registrar::Held;
+    Ok(ready && held && has_keys(node, port, [NodeKey::Srp(key)].as_slice())?)
+}
+
+// Whether a Talker of a stream is advertised as the station states it, and a listening application hears so.
+fn hears(node: &Node, stream: StreamId) -> bool {
+    let advertised = match node.talker(stream) {
+        TalkerReg::Advertise(talker) => talker.stream == stream && talker.latency == 500,
+        TalkerReg::Failed(_, _) | TalkerReg::Absent => false,
+    };
+    advertised && node.heard(stream) == Some(ListenerKind::Ready)
+}
+
+// Whether a station talks a stream and declares a VID, what awaits counts together, and another hears of the stream.
+fn talks(from: &mut Node, to: &mut Node, talker: Talker, vid: Vid) -> Result<bool, NoMemory> {
+    let stream = talker.stream;
+    let list = [(Settle, Settled(3)), (Send(App::Msrp), Sent(37))];
+    Ok(
+        asks(from, AppRequest::Talk(talker))?
+            && asks(from, AppRequest::Declare(vid))?
+            && from.talks(stream)
+            && answers(from, ONE, list.as_slice())?
+            && carry(from, ONE, to, ONE)?,
+    )
+}
+
+// Whether a station listens to a stream of which it has heard, and what it says of it comes in at another.
+fn listens(from: &mut Node, to: &mut Node, stream: StreamId) -> Result<bool, NoMemory> {
+    let list = [
+        (Work, Received(1)),
+        (Settle, Settled(2)),
+        (Send(App::Msrp), Sent(21)),
+    ];
+    Ok(
+        asks(to, AppRequest::Listen(stream))?
+            && to.listens(stream)
+            && answers(to, ONE, list.as_slice())?
+            && carry(to, ONE, from, ONE)?,
+    )
+}
+
+// Whether a station books a stream once it has heard of a Listener.
+fn reserves(from: &mut Node, stream: StreamId) -> Result<bool, NoMemory> {
+    let key = NodeKey::Srp(MsrpKey::Listener(stream));
+    let list = [
+        (Work, Received(1)),
+        (Settle, Settled(2)),
+        (LeaveNow(key), Fired(0)),
+    ];
+    Ok(
+        answers(from, ONE, list.as_slice())?
+            && books(from, ONE, stream)?
+            && is_listened(from, ONE, stream)?,
+    )
+}
+
+// Whether a station talks a stream no more, and another doesn't listen to it any more.
+fn ends(from: &mut Node, to: &mut Node, stream: StreamId) -> Result<bool, NoMemory> {
+    let asked = asks(from, AppRequest::Hush(stream))? && asks(to, AppRequest::Unlisten(stream))?;
+    Ok(asked && !from.talks(stream) && !to.listens(stream))
+}
+
 // The scenes at new nodes.
+fn new_reservation(alloc: Global) -> Result<[bool; 5], Fail> {
+    let vid = Vid::new(10).ok_or("a VID")?;
+    let stream = StreamId(0x0200_0000_0001_0001);
+    let talker = talker_of(stream).ok_or("a Talker")?;
+    let mut from = station(alloc)?;
+    let mut to = station(alloc)?;
+    let said = talks(&mut from, &mut to, talker, vid)?;
+    let answered = listens(&mut from, &mut to, stream)?;
+    let heard = hears(&to, stream);
+    let booked = reserves(&mut from, stream)?;
+    Ok([
+        said,
+        answered,
+        heard,
+        booked,
+        ends(&mut from, &mut to, stream)?,
+    ])
+}
+
 fn new_declaration(alloc: Global) -> Result<[bool; 7], Fail> {
     let vid = Vid::new(10).ok_or("a VID")?;
     let mut station = station(alloc)?;
@@ -369,6 +492,12 @@ fn new_leaving(alloc: Global) -> Result<[bool; 6], Fail> {
 #[test]
 fn a_vid_goes_from_a_station_through_a_bridge(rt: HostRuntime) -> Result<(), Fail> {
     assert_eq!(rt; new_declaration(rt.alloc())?, [true; 7]);
+    Ok(())
+}
+
+#[test]
+fn a_stream_is_booked_where_a_station_listens(rt: HostRuntime) -> Result<(), Fail> {
+    assert_eq!(rt; new_reservation(rt.alloc())?, [true; 5]);
     Ok(())
 }
 

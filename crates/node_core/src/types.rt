@@ -3,7 +3,8 @@
 ghost use Rattle.std.specs.Prelude.{◌≡◌};
 ghost use Rattle.node_core.specs.Step.{key_of_step};
 
-use srp_base::{App, PortNo, Seq, Vid};
+use msrp_codec::MsrpKey;
+use srp_base::{App, PortNo, Seq, StreamId, Talker, Vid};
 
 /// A PDU on a link: the application that it belongs to, and its octets.
 #[derive(Debug, PartialEq, Eq, Drop)]
@@ -19,6 +20,15 @@ pub enum AppRequest {
     Declare(Vid),
     /// It withdraws a VID.
     Withdraw(Vid),
+    /// It talks a stream, as this Talker states it (IEEE Std 802.1Q-2018, 35.2.3.1). A Talker takes the place of another
+    /// of its stream.
+    Talk(Talker),
+    /// It talks a stream no more.
+    Hush(StreamId),
+    /// It listens to a stream.
+    Listen(StreamId),
+    /// It listens to a stream no more.
+    Unlisten(StreamId),
 }
 
 /// An attribute of some application.
@@ -26,6 +36,8 @@ pub enum AppRequest {
 pub enum NodeKey {
     /// A VID, which MVRP registers.
     Vlan(Vid),
+    /// A Talker, Listeners or a Domain, which MSRP registers.
+    Srp(MsrpKey),
 }
 
 /// One step of a link port.
@@ -39,9 +51,9 @@ pub enum PortStep {
     LeaveAllNow(App),
     /// Fires the periodic timer of an application, whatever the moment.
     PeriodicNow(App),
-    /// Fires all timers that are due.
+    /// Fires all timers of both applications that are due.
     Due,
-    /// Settles what awaits at the port.
+    /// Settles what awaits at the port, of both applications.
     Settle,
     /// Sends what an application has to say.
     Send(App),

@@ -1,2 +1,5 @@
+pub mod DepartureLemmas
+pub mod HeardLemmas
 pub mod LinkPorts
+pub mod PeerLemmas
 pub mod TallyLemmas

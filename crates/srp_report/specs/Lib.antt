@@ -1,4 +1,6 @@
 pub mod Counts
+pub mod FrameLines
+pub mod JournalText
 pub mod Lines
 pub mod Report
 pub mod Tallies

@@ -1,16 +1,28 @@
 -- The lines of a report, each by what it tells. A line ends with a line feed.
-use Rattle.std.specs.Prelude.{ℕ, ◌-◌, Bool, true, false, List, [], ◌∷◌, codes, slice_get}
+use Rattle.std.specs.Prelude.{ℕ, ◌-◌, Bool, true, false, List, [], ◌∷◌, ◌++◌, codes, Option, Some, None, slice_get}
 use Rattle.std.specs.Option.{option_map_or}
 use Rattle.std.specs.Fmt.{decimal}
+use Rattle.srp_base.specs.Hexadecimal.{hex16_text}
 use Rattle.srp_base.specs.Text.{joined}
+use Rattle.srp_base.specs.declared.bandwidth.Class.{Class}
+use Rattle.srp_base.specs.declared.bandwidth.Class.TheVariants.{A, B}
+use Rattle.srp_base.specs.declared.numbers.Cs.{Cs}
 use Rattle.srp_base.specs.declared.numbers.NodeNo.{NodeNo}
 use Rattle.srp_base.specs.declared.numbers.EgressPort.{EgressPort}
+use Rattle.srp_base.specs.declared.numbers.StreamId.{StreamId}
+use Rattle.srp_base.specs.declared.streams.Failure.{Failure}
+use Rattle.srp_base.specs.declared.streams.ListenerKind.{ListenerKind}
+use Rattle.srp_base.specs.declared.streams.ListenerKind.TheVariants.{AskingFailed, Ready, ReadyFailed}
+use Rattle.stream_importance.specs.declared.entry.Entry.{Entry}
+use Rattle.stream_importance.specs.declared.entry.Want.{Want}
+use Rattle.msrp_codec.specs.declared.pdu.MsrpKey.{MsrpKey}
+use Rattle.msrp_codec.specs.declared.pdu.MsrpKey.TheVariants as keys
+use Rattle.msrp_codec.specs.declared.pdu.MsrpContent.{MsrpContent}
+use Rattle.msrp_codec.specs.declared.pdu.MsrpContent.TheVariants.{Advertise, Failed, Listener}
 use Rattle.tree_topology.specs.declared.graph.Link.{Link}
 use Rattle.tree_topology.specs.Ports.{peer_of}
 use Rattle.registrar.specs.declared.Registrar.{Registrar}
 use Rattle.registrar.specs.declared.Registrar.TheVariants.{Held, Leaving, Empty}
-use Rattle.node_core.specs.declared.types.NodeKey.{NodeKey}
-use Rattle.node_core.specs.declared.types.NodeKey.TheVariants.{Vlan}
 use Rattle.topology_file.specs.Plan.{Plan}
 use Rattle.topology_file.specs.declared.entries.NodeEntry.{NodeEntry}
 use Rattle.srp_report.specs.declared.tally.Tally.{Tally}
@@ -33,6 +45,22 @@ abbrev pub yes_or_no : Bool → List ℕ
 yes_or_no true = codes "yes"
 yes_or_no false = codes "no"
 
+-- what a Listener declares, by its FourPackedEvent (IEEE Std 802.1Q-2018, 35.2.2.7.2)
+abbrev pub kind_name : ListenerKind → List ℕ
+kind_name AskingFailed = codes "asking-failed"
+kind_name Ready = codes "ready"
+kind_name ReadyFailed = codes "ready-failed"
+
+-- what a listening application hears; nothing where no Talker is registered at its port
+abbrev pub heard_name : Option ListenerKind → List ℕ
+heard_name None = codes "nothing"
+heard_name (Some kind) = kind_name kind
+
+-- an SR class by its letter
+abbrev pub class_name : Class → List ℕ
+class_name A = codes "A"
+class_name B = codes "B"
+
 -- ---- the lines
 
 -- `ticks T`
@@ -50,9 +78,53 @@ abbrev pub vlan_line : List ℕ → ℕ → Registrar → List ℕ
 vlan_line port vid state = joined (
     codes "vlan " ∷ port ∷ codes " " ∷ decimal vid ∷ codes " " ∷ state_name state ∷ codes "\n" ∷ [])
 
--- the line of an attribute that is registered at a port
-abbrev pub key_line : List ℕ → NodeKey → Registrar → List ℕ
-key_line port (Vlan vid) state = vlan_line port vid state
+-- the pieces of a Talker's line: the port and the stream; why it failed, and where; its latency in ns, and its Registrar
+abbrev pub talker_start : List ℕ → StreamId → List ℕ
+talker_start port stream = codes "talker " ++ port ++ codes " " ++ hex16_text stream.0
+
+abbrev pub failure_text : Failure → List ℕ
+failure_text failure = joined (
+    codes " failed bridge " ∷ hex16_text failure.bridge.0 ∷ codes " code " ∷ decimal failure.code ∷ codes " latency " ∷ [])
+
+abbrev pub talker_end : ℕ → Registrar → List ℕ
+talker_end latency state = joined (decimal latency ∷ codes " " ∷ state_name state ∷ codes "\n" ∷ [])
+
+-- `talker P ID advertise latency L S`, or `talker P ID failed bridge B code C latency L S`; of a Talker nothing but what a
+-- Talker declares is registered, so that the last case doesn't occur
+abbrev pub talker_line : List ℕ → StreamId → Option MsrpContent → Registrar → List ℕ
+talker_line port stream (Some (Advertise talker)) state =
+    talker_start port stream ++ codes " advertise latency " ++ talker_end talker.latency state
+talker_line port stream (Some (Failed talker failure)) state =
+    talker_start port stream ++ failure_text failure ++ talker_end talker.latency state
+talker_line port stream _ state = []
+
+-- `listener P ID K S`; of Listeners nothing but what a Listener declares is registered, as above
+abbrev pub listener_line : List ℕ → StreamId → Option MsrpContent → Registrar → List ℕ
+listener_line port stream (Some (Listener kind)) state = joined (
+    codes "listener " ∷ port ∷ codes " " ∷ hex16_text stream.0 ∷ codes " " ∷ kind_name kind
+    ∷ codes " " ∷ state_name state ∷ codes "\n" ∷ [])
+listener_line port stream _ state = []
+
+-- the line of an attribute of MSRP that is registered with this content; a Domain has none
+abbrev pub srp_line : List ℕ → MsrpKey → Option MsrpContent → Registrar → List ℕ
+srp_line port (keys.Talker stream) content state = talker_line port stream content state
+srp_line port (keys.Listener stream) content state = listener_line port stream content state
+srp_line port (keys.Domain class) content state = []
+
+-- `booked P ID A slope S since T`, or with `B`; S in bit/s and T in cs; what is booked has a moment
+abbrev pub want_line : List ℕ → Want → Option Cs → List ℕ
+want_line port want None = []
+want_line port want (Some since) = joined (
+    codes "booked " ∷ port ∷ codes " " ∷ hex16_text want.stream.0 ∷ codes " " ∷ class_name want.class
+    ∷ codes " slope " ∷ decimal want.slope ∷ codes " since " ∷ decimal since.0 ∷ codes "\n" ∷ [])
+
+abbrev pub booked_line : List ℕ → Entry → List ℕ
+booked_line port x = want_line port x.want x.since
+
+-- `heard X ID ready`, `heard X ID asking-failed` or `heard X ID nothing`
+abbrev pub heard_line : List ℕ → StreamId → Option ListenerKind → List ℕ
+heard_line name stream heard = joined (
+    codes "heard " ∷ name ∷ codes " " ∷ hex16_text stream.0 ∷ codes " " ∷ heard_name heard ∷ codes "\n" ∷ [])
 
 -- `quiet yes` or `quiet no`, then `in step yes` or `in step no`
 abbrev pub end_lines : Bool → Bool → List ℕ

@@ -1,38 +1,44 @@
--- What is printed of a run: its length, each port with what it sent and what is registered there, and how the
--- network is at the end.
-use Rattle.std.specs.Prelude.{ℕ, List, [], ◌∷◌, ◌++◌, flat_map}
+-- What is printed of a run: its length, each port with what it sent, what is registered there and which streams are booked,
+-- what each station hears of the streams that it listens to, what became of the frames, and how the network is at the end.
+use Rattle.std.specs.Prelude.{ℕ, ◌+◌, if◌then◌else◌, List, [], ◌∷◌, ◌++◌, flat_map}
 use Rattle.std.specs.Option.{option_map_or}
 use Rattle.srp_base.specs.Text.{joined}
 use Rattle.srp_base.specs.declared.numbers.EgressPort.{EgressPort}
-use Rattle.registrar.specs.declared.Registrar.{Registrar}
-use Rattle.registrar.specs.declared.Registrar.TheVariants.{Empty}
+use Rattle.srp_base.specs.declared.numbers.NodeNo.{NodeNo}
+use Rattle.tree_topology.specs.declared.graph.NodeKind.{NodeKind}
+use Rattle.tree_topology.specs.declared.graph.NodeKind.TheVariants.{Station, Bridge}
 use Rattle.topology_file.specs.Plan.{Plan}
+use Rattle.topology_file.specs.declared.entries.StreamEntry.{StreamEntry}
+use Rattle.frame_flow.specs.declared.result.PortFlow.{PortFlow}
 use Rattle.mvrp.specs.Side.{place_of}
-use Rattle.node_core.specs.State.{registered_keys, registrar_at}
+use Rattle.msrp.specs.Side.{has_listen, heard_of}
+use Rattle.node_core.specs.State.{NodeState, registered_keys, registrar_at, content_at, bookings_at}
 use Rattle.node_core.specs.declared.types.NodeKey.{NodeKey}
+use Rattle.node_core.specs.declared.types.NodeKey.TheVariants.{Vlan, Srp}
 use Rattle.world_core.specs.declared.journal.Tick.{Tick}
 use Rattle.world_core.specs.World.{WorldState, node_at, is_quiet, is_in_step}
 use Rattle.world_core.specs.Ticks.{link_ports}
 use Rattle.srp_report.specs.Counts.{replies_of, tally_of}
-use Rattle.srp_report.specs.Lines.{port_name, ticks_line, port_line, key_line, end_lines}
+use Rattle.srp_report.specs.FrameLines.{flow_parts}
+use Rattle.srp_report.specs.Lines.{name_of, port_name, ticks_line, port_line, vlan_line, srp_line, booked_line, heard_line, end_lines}
 
--- ---- what is registered at a port
+-- ---- what is registered and booked at a place of a node
 
--- the attributes that are registered at a port, ascending
-abbrev pub keys_at : EgressPort → WorldState → List NodeKey
-keys_at p w = option_map_or (registered_keys (place_of p.port)) (node_at p.node w) []
+-- the line of an attribute there, by its Registrar and what is registered of it
+abbrev pub key_line : List ℕ → ℕ → NodeState → NodeKey → List ℕ
+key_line port at s (Vlan vid) = vlan_line port vid (registrar_at (Vlan vid) at s)
+key_line port at s (Srp key) = srp_line port key (content_at key at s) (registrar_at (Srp key) at s)
 
--- the state of the Registrar of an attribute at a port
-abbrev pub registrar_of : EgressPort → WorldState → NodeKey → Registrar
-registrar_of p w key = option_map_or (registrar_at key (place_of p.port)) (node_at p.node w) Empty
+-- VIDs, then Talkers, then Listeners, each ascending
+abbrev pub registered_lines : List ℕ → ℕ → NodeState → List ℕ
+registered_lines port at s = flat_map (key_line port at s) (registered_keys at s)
 
--- the lines of these attributes, each by its Registrar
-abbrev pub key_lines : List ℕ → (NodeKey → Registrar) → List NodeKey → List ℕ
-key_lines port registrar keys = flat_map (λ key. key_line port key (registrar key)) keys
+-- ascending by StreamID
+abbrev pub booked_lines : List ℕ → ℕ → NodeState → List ℕ
+booked_lines port at s = flat_map (booked_line port) (bookings_at at s)
 
--- those of all that are registered
-abbrev pub registered_lines : List ℕ → EgressPort → WorldState → List ℕ
-registered_lines port p w = key_lines port (registrar_of p w) (keys_at p w)
+abbrev pub place_lines : List ℕ → ℕ → NodeState → List ℕ
+place_lines port at s = registered_lines port at s ++ booked_lines port at s
 
 -- ---- the ports, link by link, end `a` first
 
@@ -40,17 +46,40 @@ registered_lines port p w = key_lines port (registrar_of p w) (keys_at p w)
 abbrev pub port_part : Plan → WorldState → List Tick → EgressPort → List ℕ
 port_part plan w ticks p =
     let port = port_name plan w.tree.links p in
-    port_line port (tally_of (replies_of p ticks)) ++ registered_lines port p w
+    port_line port (tally_of (replies_of p ticks))
+    ++ option_map_or (place_lines port (place_of p.port)) (node_at p.node w) []
 
 -- those of all ports
 abbrev pub port_parts : Plan → WorldState → List Tick → List ℕ
 port_parts plan w ticks = flat_map (port_part plan w ticks) (link_ports w.tree)
 
+-- ---- what the stations hear
+
+-- the line of a stream at a node of this name, where its application listens to the stream
+abbrev pub stream_heard : List ℕ → NodeState → StreamEntry → List ℕ
+stream_heard name s e =
+    if has_listen e.id s.streams then heard_line name e.id (heard_of e.id s.streams) else []
+
+-- the streams in file order, at a station
+abbrev pub heard_by_kind : NodeKind → List ℕ → NodeState → List StreamEntry → List ℕ
+heard_by_kind Bridge name s streams = []
+heard_by_kind Station name s streams = flat_map (stream_heard name s) streams
+
+abbrev pub node_heard : Plan → NodeNo → NodeState → List ℕ
+node_heard plan x s = heard_by_kind s.kind (name_of plan.nodes x) s plan.streams
+
+-- those of some nodes, of which the first has number n
+abbrev pub nodes_heard : Plan → ℕ → List NodeState → List ℕ
+nodes_heard plan n [] = []
+nodes_heard plan n (s ∷ nodes) = node_heard plan (record { 0 = n }) s ++ nodes_heard plan (n + 1) nodes
+
 -- ---- the report
 
--- of a scenario, the network at the end of its run, and the ticks of the run
-abbrev pub report_text : Plan → WorldState → List Tick → List ℕ
-report_text plan w ticks = joined (
+-- of a scenario, the network at the end of its run, the ticks of the run, and the flow of its frames
+abbrev pub report_text : Plan → WorldState → List Tick → List PortFlow → List ℕ
+report_text plan w ticks flows = joined (
     ticks_line plan.ticks
     ∷ port_parts plan w ticks
+    ∷ nodes_heard plan 1 w.nodes
+    ∷ flow_parts plan w.tree.links flows
     ∷ end_lines (is_quiet w) (is_in_step w) ∷ [])

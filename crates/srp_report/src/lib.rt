@@ -1,37 +1,58 @@
-//! The report of a run: what each port of the network sent, what is registered there at the end, and how the network
-//! is then.
+//! The texts of a run: its report, which tells what each port of the network sent, what is registered and booked there at
+//! the end, what the stations hear, what became of the frames, and how the network is then; and its journal.
 //!
 //! ```text
 //!   ticks 1062
 //!   port s1>s2 sent 5 octets 60 discarded 0      each port, link by link, end `a` first
+//!   listener s1>s2 0200000000010001 ready IN     what is registered there: VIDs, Talkers, Listeners, each ascending
+//!   booked s1>s2 0200000000010001 A slope 15488000 since 41     the booked streams, in bit/s and cs, ascending
 //!   port s2>s1 sent 1 octets 11 discarded 0
-//!   vlan s2>s1 7 IN                              the VIDs that are registered there, ascending
+//!   vlan s2>s1 7 IN
+//!   talker s2>s1 0200000000010001 advertise latency 0 IN
+//!   heard s2 0200000000010001 ready              each station, each stream that it listens to, in file order
+//!   frames s1>s2 departed 1 unbooked 0 novlan 0 left 0     where there are frames: how many came to which fate
+//!   depart s1>s2 frame 1 start 100 end 900       each that departed, in order, in bit times of its port
 //!   quiet yes                                    nothing is pending
 //!   in step yes                                  each port has sent a LeaveAll since the last loss on its link
+//!
+//!   journal
+//!   0 event 1 done                               in tick 0: an event of the file, by its number
+//!   0 s1>s2 send mvrp sent 12                    and then each step, with its port and its answer
 //! ```
 //!
-//! `report_text` (`specs/Report.antt`) is the text as a function of the scenario, the network at the end of its run and
-//! the ticks of the journal. It is made of the lines of `specs/Lines.antt`, one definition each. What a port sent is
-//! counted over the answers of the port's own steps in the journal (`specs/Counts.antt`); what is registered is asked of
-//! the port's Registrars. So the report tells what happened, and none of it is what the tree or the stations would have
-//! one expect.
+//! `report_text` (`specs/Report.antt`) is the text as a function of the scenario, the network at the end of its run,
+//! the ticks of the journal and the flow of the frames. It is made of the lines of `specs/Lines.antt` and
+//! `specs/FrameLines.antt`, one definition each. What a port sent is counted over the answers of the port's own steps
+//! in the journal (`specs/Counts.antt`); what is registered is asked of the port's Registrars, what is booked of its
+//! ledger, and what a station hears of the station; what became of the frames is the fates of the port's flow. So the
+//! report tells what happened, and none of it is what the tree or the stations would have one expect. `journal_text`
+//! (`specs/JournalText.antt`) is a function of the scenario and any ticks.
 //!
-//! The journal is read once, for all ports together: a tally for each port, at the place of its numbers, in
-//! `tallies.rt`. The report asks for the tally of a port when it comes to its line.
+//! The journal is read once for the report, for all ports together: a tally for each port, at the place of its numbers,
+//! in `tallies.rt`. The report asks for the tally of a port when it comes to its line. The departures of a port are
+//! sorted by start at once; the definition puts each in its place.
 //!
-//! A further kind of attribute is a line in `specs/Lines.antt` with its case of `key_line`, and its writer in `lines.rt`
-//! with its arm of `put_key`. A further line of a port, as that of a booking, is a definition there and a piece at the end
-//! of `port_part`, with its writer in `ports.rt`; one of the network, as what a station hears, is a piece between the
-//! ports and the end in `report_text`. A further count is a field of `Tally`, a line of `tally_of` and one of
-//! `Tally::counted`.
+//! A further kind of attribute is a line in `specs/Lines.antt` with its case of `key_line` or `srp_line`, and its writer
+//! in `lines.rt` with its arm of `put_key` or `put_srp`. A further line of a port is a definition there and a piece at the
+//! end of `place_lines`, with its writer in `registered.rt`; one of the network is a piece between the ports and the end
+//! in `report_text`. A further count is a field of `Tally`, a line of `tally_of` and one of `Tally::counted`. A further
+//! step or answer is a case of `step_name` or `reply_name` with its arm in `journal.rt`.
 #![tactic(auto)]
 
+mod departures;
+mod flows;
+mod heard;
+mod journal;
 mod lines;
+mod names;
 mod ports;
+mod registered;
 mod tallies;
 mod tally;
 #[cfg(test)]
 mod tests;
 mod text;
 
+pub use departures::SentFrame;
+pub use journal::journal_text;
 pub use text::report;

@@ -1,25 +1,26 @@
 //! The lines of a report. Each is put at the end of a text.
 
-ghost use Rattle.std.specs.Prelude.{◌≡◌, ◌++◌, IfOk, OnOk};
+ghost use Rattle.std.specs.Prelude.{◌≡◌, ◌++◌, IfOk, OnOk, Some};
 ghost use Rattle.std.specs.Fmt.{decimal};
 ghost use Rattle.srp_base.specs.Text.{joined};
-ghost use Rattle.srp_report.specs.Lines.{ticks_line, port_line, vlan_line, key_line, end_lines, state_name as state_name_spec, yes_or_no as yes_or_no_spec};
+ghost use Rattle.srp_report.specs.Lines.{ticks_line, port_line, vlan_line, talker_start, failure_text, talker_end, talker_line, listener_line, srp_line, want_line, booked_line, heard_line, end_lines, state_name as state_name_spec, kind_name as kind_name_spec, heard_name as heard_name_spec, class_name as class_name_spec, yes_or_no as yes_or_no_spec};
 
 use crate::tally::Tally;
-use node_core::NodeKey;
+use msrp_codec::{MsrpContent, MsrpKey};
 use registrar::Registrar;
-use srp_base::Vid;
+use srp_base::{Class, Cs, Failure, ListenerKind, StreamId, Talker, Vid};
 use std::alloc::AllocError;
+use stream_importance::{Entry, Want};
 
-// Puts a text at the end.
-fn put(out: &mut Vec<u8>, text: &str) -> Result<(), AllocError>
+/// Puts a text at the end.
+pub(crate) fn put(out: &mut Vec<u8>, text: &str) -> Result<(), AllocError>
     ensures { OnOk result (out.new.items ≡ out.old.items ++ text.now) }
 {
     out.extend_from_slice(text.as_bytes())
 }
 
-// Puts a number at the end.
-fn put_number(out: &mut Vec<u8>, number: u64) -> Result<(), AllocError>
+/// Puts a number at the end.
+pub(crate) fn put_number(out: &mut Vec<u8>, number: u64) -> Result<(), AllocError>
     ensures { OnOk result (out.new.items ≡ out.old.items ++ decimal number) }
 {
     let alloc = *out.allocator();
@@ -63,8 +64,13 @@ fn state_name(state: Registrar) -> &'static str
     }
 }
 
-// The line of a VID that is registered at a port.
-fn put_vlan(out: &mut Vec<u8>, port: &[u8], vid: Vid, state: Registrar) -> Result<(), AllocError>
+/// The line of a VID that is registered at a port.
+pub(crate) fn put_vlan(
+    out: &mut Vec<u8>,
+    port: &[u8],
+    vid: Vid,
+    state: Registrar,
+) -> Result<(), AllocError>
     ensures { OnOk result (out.new.items ≡ out.old.items ++ vlan_line port.now vid state) }
 {
     let alloc = *out.allocator();
@@ -76,18 +82,223 @@ fn put_vlan(out: &mut Vec<u8>, port: &[u8], vid: Vid, state: Registrar) -> Resul
     put(out, &registered)
 }
 
-/// The line of an attribute that is registered at a port, by its Registrar.
-pub(crate) fn put_key(
+/// The line of an attribute of MSRP that is registered at a port with this content; a Domain has none.
+pub(crate) fn put_srp(
     out: &mut Vec<u8>,
     port: &[u8],
-    key: NodeKey,
+    key: MsrpKey,
+    content: Option<MsrpContent>,
     state: Registrar,
 ) -> Result<(), AllocError>
-    ensures { OnOk result (out.new.items ≡ out.old.items ++ key_line port.now key state) }
+    ensures { OnOk result (out.new.items ≡ out.old.items ++ srp_line port.now key content state) }
 {
     match key {
-        NodeKey::Vlan(vid) => put_vlan(out, port, vid, state),
+        MsrpKey::Talker(stream) => put_talker(out, port, stream, content, state),
+        MsrpKey::Listener(stream) => put_listener(out, port, stream, content, state),
+        MsrpKey::Domain(_) => Ok(()),
     }
+}
+
+// The line of a Talker.
+fn put_talker(
+    out: &mut Vec<u8>,
+    port: &[u8],
+    stream: StreamId,
+    content: Option<MsrpContent>,
+    state: Registrar,
+) -> Result<(), AllocError>
+    ensures { OnOk result (out.new.items
+        ≡ out.old.items ++ talker_line port.now stream content state) }
+{
+    match content {
+        Some(MsrpContent::Advertise(talker)) => put_advertised(out, port, stream, talker, state),
+        Some(MsrpContent::Failed(talker, failure)) => {
+            put_failed(out, port, stream, talker, failure, state)
+        }
+        Some(MsrpContent::Listener(_)) | Some(MsrpContent::Domain { .. }) | None => Ok(()),
+    }
+}
+
+// The line of a Talker Advertise.
+fn put_advertised(
+    out: &mut Vec<u8>,
+    port: &[u8],
+    stream: StreamId,
+    talker: Talker,
+    state: Registrar,
+) -> Result<(), AllocError>
+    ensures { OnOk result (out.new.items
+        ≡ out.old.items ++ talker_line port.now stream (Some (MsrpContent.Advertise talker)) state) }
+{
+    put_talker_start(out, port, stream)?;
+    put(out, " advertise latency ")?;
+    put_talker_end(out, talker.latency, state)
+}
+
+// The line of a Talker Failed.
+fn put_failed(
+    out: &mut Vec<u8>,
+    port: &[u8],
+    stream: StreamId,
+    talker: Talker,
+    failure: Failure,
+    state: Registrar,
+) -> Result<(), AllocError>
+    ensures { OnOk result (out.new.items ≡ out.old.items
+        ++ talker_line port.now stream (Some (MsrpContent.Failed talker failure)) state) }
+{
+    put_talker_start(out, port, stream)?;
+    put_failure(out, failure)?;
+    put_talker_end(out, talker.latency, state)
+}
+
+// The port and the stream of a Talker.
+fn put_talker_start(out: &mut Vec<u8>, port: &[u8], stream: StreamId) -> Result<(), AllocError>
+    ensures { OnOk result (out.new.items ≡ out.old.items ++ talker_start port.now stream) }
+{
+    let alloc = *out.allocator();
+    let id = format!(in alloc; " {stream}")?;
+    put(out, "talker ")?;
+    out.extend_from_slice(port)?;
+    put(out, &id)
+}
+
+// Why a Talker failed, and where.
+fn put_failure(out: &mut Vec<u8>, failure: Failure) -> Result<(), AllocError>
+    ensures { OnOk result (out.new.items ≡ out.old.items ++ failure_text failure) }
+{
+    let alloc = *out.allocator();
+    let Failure { bridge, code } = failure;
+    let text = format!(in alloc; " failed bridge {bridge} code {code} latency ")?;
+    put(out, &text)
+}
+
+// The latency of a Talker in ns, and its Registrar.
+fn put_talker_end(out: &mut Vec<u8>, latency: u32, state: Registrar) -> Result<(), AllocError>
+    ensures { OnOk result (out.new.items ≡ out.old.items ++ talker_end latency state) }
+{
+    let alloc = *out.allocator();
+    let name = state_name(state);
+    let text = format!(in alloc; "{latency} {name}\n")?;
+    put(out, &text)
+}
+
+// What a Listener declares, in a word.
+fn kind_name(kind: ListenerKind) -> &'static str
+    ensures { result.now ≡ kind_name_spec kind }
+{
+    match kind {
+        ListenerKind::AskingFailed => "asking-failed",
+        ListenerKind::Ready => "ready",
+        ListenerKind::ReadyFailed => "ready-failed",
+    }
+}
+
+// The line of the Listeners of a stream.
+fn put_listener(
+    out: &mut Vec<u8>,
+    port: &[u8],
+    stream: StreamId,
+    content: Option<MsrpContent>,
+    state: Registrar,
+) -> Result<(), AllocError>
+    ensures { OnOk result (out.new.items
+        ≡ out.old.items ++ listener_line port.now stream content state) }
+{
+    match content {
+        Some(MsrpContent::Listener(kind)) => put_listening(out, port, stream, kind, state),
+        Some(MsrpContent::Advertise(_))
+        | Some(MsrpContent::Failed(_, _))
+        | Some(MsrpContent::Domain { .. })
+        | None => Ok(()),
+    }
+}
+
+// The line of Listeners of this kind.
+fn put_listening(
+    out: &mut Vec<u8>,
+    port: &[u8],
+    stream: StreamId,
+    kind: ListenerKind,
+    state: Registrar,
+) -> Result<(), AllocError>
+    ensures { OnOk result (out.new.items
+        ≡ out.old.items ++ listener_line port.now stream (Some (MsrpContent.Listener kind)) state) }
+{
+    let alloc = *out.allocator();
+    let word = kind_name(kind);
+    let name = state_name(state);
+    let registered = format!(in alloc; " {stream} {word} {name}\n")?;
+    put(out, "listener ")?;
+    out.extend_from_slice(port)?;
+    put(out, &registered)
+}
+
+// An SR class by its letter.
+fn class_name(class: Class) -> &'static str
+    ensures { result.now ≡ class_name_spec class }
+{
+    match class {
+        Class::A => "A",
+        Class::B => "B",
+    }
+}
+
+/// The line of a stream that is booked at a port.
+pub(crate) fn put_booked(out: &mut Vec<u8>, port: &[u8], entry: Entry) -> Result<(), AllocError>
+    ensures { OnOk result (out.new.items ≡ out.old.items ++ booked_line port.now entry) }
+{
+    match entry.since {
+        Some(since) => put_want(out, port, entry.want, since),
+        None => Ok(()),
+    }
+}
+
+// The line of a want that is booked since a moment.
+fn put_want(out: &mut Vec<u8>, port: &[u8], want: Want, since: Cs) -> Result<(), AllocError>
+    ensures { OnOk result (out.new.items
+        ≡ out.old.items ++ want_line port.now want (Some since)) }
+{
+    let alloc = *out.allocator();
+    let Want {
+        stream,
+        class,
+        slope,
+        ..
+    } = want;
+    let letter = class_name(class);
+    let moment = since.0;
+    let booked = format!(in alloc; " {stream} {letter} slope {slope} since {moment}\n")?;
+    put(out, "booked ")?;
+    out.extend_from_slice(port)?;
+    put(out, &booked)
+}
+
+// What an application hears, in a word.
+fn heard_name(heard: Option<ListenerKind>) -> &'static str
+    ensures { result.now ≡ heard_name_spec heard }
+{
+    match heard {
+        Some(kind) => kind_name(kind),
+        None => "nothing",
+    }
+}
+
+/// The line of what a station of this name hears of a stream.
+pub(crate) fn put_heard(
+    out: &mut Vec<u8>,
+    name: &[u8],
+    stream: StreamId,
+    heard: Option<ListenerKind>,
+) -> Result<(), AllocError>
+    ensures { OnOk result (out.new.items ≡ out.old.items ++ heard_line name.now stream heard) }
+{
+    let alloc = *out.allocator();
+    let word = heard_name(heard);
+    let line = format!(in alloc; " {stream} {word}\n")?;
+    put(out, "heard ")?;
+    out.extend_from_slice(name)?;
+    put(out, &line)
 }
 
 // The word of an answer.

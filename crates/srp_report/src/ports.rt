@@ -1,23 +1,20 @@
 //! The lines of the ports.
 
-ghost use Rattle.std.specs.Prelude.{◌≡◌, ◌≤◌, ◌+◌, ◌++◌, [], length, flat_map, IfOk, OnOk, Some};
+ghost use Rattle.std.specs.Prelude.{◌≡◌, ◌++◌, flat_map, IfOk, OnOk};
 ghost use Rattle.std.specs.List.{AllByRecursion};
-ghost use Rattle.tree_topology.specs.Topology.{HasPort, HasNode};
-ghost use Rattle.mvrp.specs.Side.{IsLinkPort, place_of};
-ghost use Rattle.node_core.specs.State.{ports_of, registrar_at};
+ghost use Rattle.tree_topology.specs.Topology.{HasPort};
 ghost use Rattle.world_core.specs.Ticks.{link_ports};
-ghost use Rattle.srp_report.specs.Counts.{replies_of, tally_of};
-ghost use Rattle.srp_report.specs.Lines.{name_of, port_name as port_name_spec};
-ghost use Rattle.srp_report.specs.Report.{port_part, port_parts, registered_lines, key_lines};
-ghost use Rattle.srp_report.specs.Tallies.{tally_at, AreTallies};
+ghost use Rattle.srp_report.specs.Report.{port_part, port_parts};
+ghost use Rattle.srp_report.specs.Tallies.{AreTallies};
 
-use crate::lines::{put_key, put_tally};
+use crate::lines::put_tally;
+use crate::names::port_name;
+use crate::registered::put_place;
 use crate::tallies::Tallies;
 use crate::tally::Tally;
-use node_core::{Node, NodeKey};
-use srp_base::{EgressPort, LinkNo, NoMemory, NodeNo, PortNo};
-use std::alloc::{AllocError, Global};
-use topology_file::{NodeEntry, Scenario};
+use srp_base::{EgressPort, LinkNo, NoMemory};
+use std::alloc::Global;
+use topology_file::Scenario;
 use tree_topology::Tree;
 use world_core::{Tick, World};
 
@@ -91,71 +88,5 @@ fn put_port(
     let port = port_name(alloc, scenario, world.tree(), at)?;
     let tally = tallies.at(at).unwrap_or(Tally::zero());
     put_tally(out, port.as_slice(), tally)?;
-    put_registered(out, port.as_slice(), world, at)
-}
-
-// The lines of what is registered at a port.
-fn put_registered(
-    out: &mut Vec<u8>,
-    port: &[u8],
-    world: &World,
-    at: EgressPort,
-) -> Result<(), NoMemory>
-    requires { HasPort world.now.tree at }
-    ensures { OnOk result (out.new.items
-        ≡ out.old.items ++ registered_lines port.now at world.now) }
-{
-    world.keeps();
-    let node = world.node(at.node);
-    let keys = node.keys(at.port)?;
-    put_keys(out, port, node, at.port, keys.as_slice())?;
-    Ok(())
-}
-
-// The lines of these attributes at a port of a node.
-fn put_keys(
-    out: &mut Vec<u8>,
-    port: &[u8],
-    node: &Node,
-    at: PortNo,
-    keys: &[NodeKey],
-) -> Result<(), AllocError>
-    requires { IsLinkPort at (ports_of node.now) }
-    ensures { OnOk result (out.new.items ≡ out.old.items
-        ++ key_lines port.now (λ key. registrar_at key (place_of at) node.now) keys.now) }
-{
-    for key in keys {
-        put_key(out, port, *key, node.registrar(at, *key))?;
-    }
-    Ok(())
-}
-
-// The name of a port: those of its node and of its peer's.
-fn port_name(
-    alloc: Global,
-    scenario: &Scenario,
-    tree: &Tree,
-    at: EgressPort,
-) -> Result<Vec<u8>, AllocError>
-    requires { HasPort tree.now at }
-    ensures { IfOk result (λ v. v.items ≡ port_name_spec scenario.now tree.now.links at) }
-{
-    tree.keeps();
-    let peer = tree.peer(at);
-    let mut name = Vec::new(alloc);
-    name.extend_from_slice(node_name(scenario.nodes.as_slice(), at.node))?;
-    name.push(b'>')?;
-    name.extend_from_slice(node_name(scenario.nodes.as_slice(), peer.node))?;
-    Ok(name)
-}
-
-// The name of a node.
-fn node_name(nodes: &[NodeEntry], number: NodeNo) -> &[u8]
-    requires { 1 ≤ number.0 }
-    ensures { result.now ≡ name_of nodes.now number }
-{
-    match nodes.get(usize::from(number.0) - 1) {
-        Some(node) => node.name.as_slice(),
-        None => [].as_slice(),
-    }
+    put_place(out, port.as_slice(), world, at)
 }

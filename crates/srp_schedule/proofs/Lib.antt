@@ -2,3 +2,4 @@ pub mod ScriptLemmas
 pub mod OrderLemmas
 pub mod StepLemmas
 pub mod TickLemmas
+mod NotedLemmas

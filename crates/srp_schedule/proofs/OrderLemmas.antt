@@ -9,7 +9,7 @@ use Rattle.std.proofs.lemmas.List.Elements.{filter-append}
 use Rattle.srp_base.specs.declared.numbers.NodeNo.{NodeNo}
 use Rattle.srp_base.specs.declared.numbers.PortNo.{PortNo}
 use Rattle.srp_base.specs.declared.numbers.EgressPort.{EgressPort}
-use Rattle.srp_base.specs.declared.mrp.App.TheVariants.{Mvrp}
+use Rattle.srp_base.specs.declared.mrp.App.TheVariants.{Mvrp, Msrp}
 use Rattle.mvrp.specs.Side.{place_of}
 use Rattle.node_core.specs.declared.types.PortStep.{PortStep}
 use Rattle.node_core.specs.declared.types.PortStep.TheVariants.{Work, Due, Settle, Send}
@@ -188,21 +188,21 @@ joined : (ws s : List PortStep) → ws ++ [] ++ (Due ∷ []) ++ (Settle ∷ []) 
 joined [] s = refl
 joined (w ∷ ws) s = ap (λ x. w ∷ x) (joined ws s)
 
-busy_turns : {X : Type 0} (ws : List X) (c : Bool) → turns (map (λ _. Work) ws ++ (Due ∷ Settle ∷ (if c then Send Mvrp ∷ [] else []))) ≡ map (λ _. Work) ws ++ (Due ∷ Settle ∷ (if c then Send Mvrp ∷ [] else []))
+busy_turns : {X : Type 0} (ws : List X) (c : Bool) → turns (map (λ _. Work) ws ++ (Due ∷ Settle ∷ (if c then Send Mvrp ∷ Send Msrp ∷ [] else []))) ≡ map (λ _. Work) ws ++ (Due ∷ Settle ∷ (if c then Send Mvrp ∷ Send Msrp ∷ [] else []))
 busy_turns ws true =
-    let r : List PortStep = Due ∷ Settle ∷ Send Mvrp ∷ [] in
-    four _ _ _ _ _ _ _ _ (works_in ws r) (dues_out ws r) (settles_out ws r) (sends_out ws r) ∙ joined (map (λ _. Work) ws) (Send Mvrp ∷ [])
+    let r : List PortStep = Due ∷ Settle ∷ Send Mvrp ∷ Send Msrp ∷ [] in
+    four _ _ _ _ _ _ _ _ (works_in ws r) (dues_out ws r) (settles_out ws r) (sends_out ws r) ∙ joined (map (λ _. Work) ws) (Send Mvrp ∷ Send Msrp ∷ [])
 busy_turns ws false =
     let r : List PortStep = Due ∷ Settle ∷ [] in
     four _ _ _ _ _ _ _ _ (works_in ws r) (dues_out ws r) (settles_out ws r) (sends_out ws r) ∙ joined (map (λ _. Work) ws) []
 
 job_turns : {X : Type 0} (b c : Bool) (ws : List X)
-    → turns ((if b then map (λ _. Work) ws ++ (Due ∷ Settle ∷ []) else []) ++ (if c then Send Mvrp ∷ [] else []))
-    ≡ (if b then map (λ _. Work) ws ++ (Due ∷ Settle ∷ []) else []) ++ (if c then Send Mvrp ∷ [] else [])
+    → turns ((if b then map (λ _. Work) ws ++ (Due ∷ Settle ∷ []) else []) ++ (if c then Send Mvrp ∷ Send Msrp ∷ [] else []))
+    ≡ (if b then map (λ _. Work) ws ++ (Due ∷ Settle ∷ []) else []) ++ (if c then Send Mvrp ∷ Send Msrp ∷ [] else [])
 job_turns false false ws = refl
 job_turns false true ws = refl
 job_turns true c ws =
-    let s : List PortStep = if c then Send Mvrp ∷ [] else [] in
+    let s : List PortStep = if c then Send Mvrp ∷ Send Msrp ∷ [] else [] in
     let e = append_assoc (map (λ _. Work) ws) (Due ∷ Settle ∷ []) s in
     ap turns e ∙ (busy_turns ws c ∙ sym e)
 

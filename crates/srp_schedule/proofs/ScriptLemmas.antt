@@ -8,6 +8,7 @@ use Rattle.std.proofs.lemmas.List.{append-nil, length-map}
 use Rattle.std.proofs.lemmas.Option.{slice_get_within, slice_get_read}
 use Rattle.tree_topology.specs.declared.graph.Link.{Link}
 use Rattle.topology_file.specs.declared.entries.EventEntry.{EventEntry}
+use Rattle.topology_file.specs.declared.entries.StreamEntry.{StreamEntry}
 use Rattle.tree_topology.specs.Topology.{Topology}
 use Rattle.topology_file.specs.declared.entries.EventKind.{EventKind}
 use Rattle.topology_file.specs.Plan.{Plan}
@@ -27,34 +28,34 @@ other_is x y ne = grind (arith, nat_tests, ne)
 
 -- ---- entries of one tick
 
-this_tick : (links : List Link) (t n : ℕ) (e : EventEntry) (es : List EventEntry) → e.tick ≡ t
-    → scripted_from links t n (e ∷ es) ≡ with_event n (event_of links e.kind) (scripted_from links t (n + 1) es)
-this_tick links t n e es is =
-    ap (λ (b : Bool). if b then with_event n (event_of links e.kind) (scripted_from links t (n + 1) es) else scripted_from links t (n + 1) es) (same_is e.tick t is)
+this_tick : (links : List Link) (streams : List StreamEntry) (t n : ℕ) (e : EventEntry) (es : List EventEntry) → e.tick ≡ t
+    → scripted_from links streams t n (e ∷ es) ≡ with_event n (event_of links streams e.kind) (scripted_from links streams t (n + 1) es)
+this_tick links streams t n e es is =
+    ap (λ (b : Bool). if b then with_event n (event_of links streams e.kind) (scripted_from links streams t (n + 1) es) else scripted_from links streams t (n + 1) es) (same_is e.tick t is)
 
-other_tick : (links : List Link) (t n : ℕ) (e : EventEntry) (es : List EventEntry) → e.tick ≢ t → scripted_from links t n (e ∷ es) ≡ scripted_from links t (n + 1) es
-other_tick links t n e es ne =
-    ap (λ (b : Bool). if b then with_event n (event_of links e.kind) (scripted_from links t (n + 1) es) else scripted_from links t (n + 1) es) (other_is e.tick t ne)
+other_tick : (links : List Link) (streams : List StreamEntry) (t n : ℕ) (e : EventEntry) (es : List EventEntry) → e.tick ≢ t → scripted_from links streams t n (e ∷ es) ≡ scripted_from links streams t (n + 1) es
+other_tick links streams t n e es ne =
+    ap (λ (b : Bool). if b then with_event n (event_of links streams e.kind) (scripted_from links streams t (n + 1) es) else scripted_from links streams t (n + 1) es) (other_is e.tick t ne)
 
 -- those before a place are of other ticks
-from_place : (links : List Link) (t n i : ℕ) (es : List EventEntry) → ((k : ℕ) (e : EventEntry) → slice_get es k ≡ Some e → k < i → e.tick ≢ t)
-    → scripted_from links t n es ≡ scripted_from links t (n + i) (drop i es)
-from_place links t n zero es h = ap (λ (m : ℕ). scripted_from links t m es) (let none : n ≡ n + 0 = omega arith in none)
-from_place links t n (suc i) [] h = refl
-from_place links t n (suc i) (e ∷ es) h =
+from_place : (links : List Link) (streams : List StreamEntry) (t n i : ℕ) (es : List EventEntry) → ((k : ℕ) (e : EventEntry) → slice_get es k ≡ Some e → k < i → e.tick ≢ t)
+    → scripted_from links streams t n es ≡ scripted_from links streams t (n + i) (drop i es)
+from_place links streams t n zero es h = ap (λ (m : ℕ). scripted_from links streams t m es) (let none : n ≡ n + 0 = omega arith in none)
+from_place links streams t n (suc i) [] h = refl
+from_place links streams t n (suc i) (e ∷ es) h =
     let next : n + 1 + i ≡ n + suc i = omega arith in
-    other_tick links t n e es (h 0 e refl (omega arith))
-    ∙ (from_place links t (n + 1) i es (λ k d get lt. h (suc k) d get (omega (arith, lt)))
-    ∙ ap (λ (m : ℕ). scripted_from links t m (drop i es)) next)
+    other_tick links streams t n e es (h 0 e refl (omega arith))
+    ∙ (from_place links streams t (n + 1) i es (λ k d get lt. h (suc k) d get (omega (arith, lt)))
+    ∙ ap (λ (m : ℕ). scripted_from links streams t m (drop i es)) next)
 
 -- those from a place on are
-none_from : (links : List Link) (t n i : ℕ) (es : List EventEntry) → ((k : ℕ) (e : EventEntry) → slice_get es k ≡ Some e → i ≤ k → e.tick ≢ t)
-    → scripted_from links t n (drop i es) ≡ []
-none_from links t n zero [] h = refl
-none_from links t n zero (e ∷ es) h =
-    other_tick links t n e es (h 0 e refl (omega arith)) ∙ none_from links t (n + 1) zero es (λ k d get le. h (suc k) d get (omega arith))
-none_from links t n (suc i) [] h = refl
-none_from links t n (suc i) (e ∷ es) h = none_from links t n i es (λ k d get le. h (suc k) d get (omega (arith, le)))
+none_from : (links : List Link) (streams : List StreamEntry) (t n i : ℕ) (es : List EventEntry) → ((k : ℕ) (e : EventEntry) → slice_get es k ≡ Some e → i ≤ k → e.tick ≢ t)
+    → scripted_from links streams t n (drop i es) ≡ []
+none_from links streams t n zero [] h = refl
+none_from links streams t n zero (e ∷ es) h =
+    other_tick links streams t n e es (h 0 e refl (omega arith)) ∙ none_from links streams t (n + 1) zero es (λ k d get le. h (suc k) d get (omega arith))
+none_from links streams t n (suc i) [] h = refl
+none_from links streams t n (suc i) (e ∷ es) h = none_from links streams t n i es (λ k d get le. h (suc k) d get (omega (arith, le)))
 
 -- ---- ticks don't fall
 
@@ -97,8 +98,8 @@ answers_are (e ∷ script) w = ap (λ rs. (world_step e.1 w).1 ∷ rs) (answers_
 
 -- the entries before place i have had their turn in tick t
 pub record IsScripted (plan : Plan) (t i : ℕ) (w v : WorldState) (done : List (ℕ × WorldReply)) : Type 0 where
-  pub answers : done ++ answered (scripted_from plan.tree.links t (i + 1) (drop i plan.events)) v ≡ answered (scripted plan t) w
-  pub after : world_after (map (λ e. e.1) (scripted_from plan.tree.links t (i + 1) (drop i plan.events))) v ≡ after_script plan t w
+  pub answers : done ++ answered (scripted_from plan.tree.links plan.streams t (i + 1) (drop i plan.events)) v ≡ answered (scripted plan t) w
+  pub after : world_after (map (λ e. e.1) (scripted_from plan.tree.links plan.streams t (i + 1) (drop i plan.events))) v ≡ after_script plan t w
   pub during : IsDuring plan.tree t v
   pub past : (k : ℕ) (e : EventEntry) → slice_get plan.events k ≡ Some e → k < i → e.tick < suc t
   pub coming : (k : ℕ) (e : EventEntry) → slice_get plan.events k ≡ Some e → i ≤ k → t ≤ e.tick
@@ -109,7 +110,7 @@ begins plan t i w during cursor =
     let skip : (k : ℕ) (e : EventEntry) → slice_get plan.events k ≡ Some e → k < i → e.tick ≢ t =
     λ k e get lt same. let below = cursor.past k e get lt in omega (arith, below, same)
     in
-    let is = from_place plan.tree.links t 1 i plan.events skip ∙ ap (λ (m : ℕ). scripted_from plan.tree.links t m (drop i plan.events)) number in
+    let is = from_place plan.tree.links plan.streams t 1 i plan.events skip ∙ ap (λ (m : ℕ). scripted_from plan.tree.links plan.streams t m (drop i plan.events)) number in
     record {
       answers = ap (λ s. answered s w) (sym is);
       after = ap (λ (s : List (ℕ × WorldEvent)). world_after (map (λ e. e.1) s) w) (sym is);
@@ -125,15 +126,16 @@ split events i e lt is =
 
 pub next_entry : (plan : Plan) (t i : ℕ) (w v u : WorldState) (e : EventEntry) (done : List (ℕ × WorldReply))
     → IsNonDecreasing (map (λ x. x.tick) plan.events) → i < length plan.events → e ≡ get_or plan.events i e → e.tick ≡ t
-    → u ≡ after_entry (event_of plan.tree.links e.kind) v → IsDuring plan.tree t u → IsScripted plan t i w v done
-    → IsScripted plan t (i + 1) w u (done ++ answer_of (i + 1) (event_of plan.tree.links e.kind) v)
+    → u ≡ after_entry (event_of plan.tree.links plan.streams e.kind) v → IsDuring plan.tree t u → IsScripted plan t i w v done
+    → IsScripted plan t (i + 1) w u (done ++ answer_of (i + 1) (event_of plan.tree.links plan.streams e.kind) v)
 next_entry plan t i w v u e done order lt here same step during s =
     let at_i = slice_get_read plan.events (length plan.events) i e refl lt here in
     let links : List Link = plan.tree.links in
-    let o : Option WorldEvent = event_of links e.kind in
-    let rest : List (ℕ × WorldEvent) = scripted_from links t (i + 1 + 1) (drop (i + 1) plan.events) in
-    let cut : scripted_from links t (i + 1) (drop i plan.events) ≡ with_event (i + 1) o rest =
-    ap (λ es. scripted_from links t (i + 1) es) (split plan.events i e lt here) ∙ this_tick links t (i + 1) e (drop (i + 1) plan.events) same
+    let streams : List StreamEntry = plan.streams in
+    let o : Option WorldEvent = event_of links streams e.kind in
+    let rest : List (ℕ × WorldEvent) = scripted_from links streams t (i + 1 + 1) (drop (i + 1) plan.events) in
+    let cut : scripted_from links streams t (i + 1) (drop i plan.events) ≡ with_event (i + 1) o rest =
+    ap (λ es. scripted_from links streams t (i + 1) es) (split plan.events i e lt here) ∙ this_tick links streams t (i + 1) e (drop (i + 1) plan.events) same
     in
     record {
       answers =
@@ -155,7 +157,7 @@ pub ends : (plan : Plan) (t i : ℕ) (w v : WorldState) (done : List (ℕ × Wor
     → ((k : ℕ) (e : EventEntry) → slice_get plan.events k ≡ Some e → i ≤ k → suc t ≤ e.tick) → IsScripted plan t i w v done
     → (done ≡ answered (scripted plan t) w) × (v ≡ after_script plan t w) × IsCursor plan.events (suc t) i
 ends plan t i w v done few later s =
-    let none = none_from plan.tree.links t (i + 1) i plan.events (λ k e get le same. let more = later k e get le in omega (arith, more, same)) in (
+    let none = none_from plan.tree.links plan.streams t (i + 1) i plan.events (λ k e get le same. let more = later k e get le in omega (arith, more, same)) in (
       sym (append-nil done) ∙ (ap (λ x. done ++ answered x v) (sym none) ∙ s.answers),
       ap (λ (x : List (ℕ × WorldEvent)). world_after (map (λ q. q.1) x) v) (sym none) ∙ s.after,
       record { within = few; past = s.past; coming = later },
@@ -186,12 +188,13 @@ stays_entry tree t (Some e) v ok stays here = stays e ok
 -- one entry more, as the loop has it
 pub one_entry : (plan : Plan) (t i : ℕ) (w v u : WorldState) (e : EventEntry) (kind : EventKind) (done next : List (ℕ × WorldReply))
     → IsNonDecreasing (map (λ x. x.tick) plan.events) → i < length plan.events → e ≡ get_or plan.events i e → e.tick ≡ t → kind ≡ e.kind
-    → IfSome (event_of plan.tree.links kind) (IsAllowed plan.tree) → ((r : WorldEvent) → IsAllowed plan.tree r → IsDuring plan.tree t (world_step r v).0)
-    → u ≡ after_entry (event_of plan.tree.links kind) v → next ≡ done ++ answer_of (i + 1) (event_of plan.tree.links kind) v
+    → IfSome (event_of plan.tree.links plan.streams kind) (IsAllowed plan.tree) → ((r : WorldEvent) → IsAllowed plan.tree r → IsDuring plan.tree t (world_step r v).0)
+    → u ≡ after_entry (event_of plan.tree.links plan.streams kind) v → next ≡ done ++ answer_of (i + 1) (event_of plan.tree.links plan.streams kind) v
     → IsScripted plan t i w v done → IsScripted plan t (i + 1) w u next
 one_entry plan t i w v u e kind done next order lt here same is ok stays after answer s =
     let links : List Link = plan.tree.links in
-    let during : IsDuring plan.tree t u = subst (IsDuring plan.tree t) (sym after) (stays_entry plan.tree t (event_of links kind) v ok stays s.during) in
-    let step : u ≡ after_entry (event_of links e.kind) v = after ∙ ap (λ (k : EventKind). after_entry (event_of links k) v) is in
-    let made : next ≡ done ++ answer_of (i + 1) (event_of links e.kind) v = answer ∙ ap (λ (k : EventKind). done ++ answer_of (i + 1) (event_of links k) v) is in
+    let streams : List StreamEntry = plan.streams in
+    let during : IsDuring plan.tree t u = subst (IsDuring plan.tree t) (sym after) (stays_entry plan.tree t (event_of links streams kind) v ok stays s.during) in
+    let step : u ≡ after_entry (event_of links streams e.kind) v = after ∙ ap (λ (k : EventKind). after_entry (event_of links streams k) v) is in
+    let made : next ≡ done ++ answer_of (i + 1) (event_of links streams e.kind) v = answer ∙ ap (λ (k : EventKind). done ++ answer_of (i + 1) (event_of links streams k) v) is in
     subst (IsScripted plan t (i + 1) w u) (sym made) (next_entry plan t i w v u e done order lt here same step during s)

@@ -1,9 +1,10 @@
 -- One tick from its parts, and one tick more of a run.
-use Rattle.std.proofs.Common.{◌≡◌, ℕ, zero, suc, ◌+◌, ◌-◌, ◌<◌, ◌≤◌, ◌^◌, List, [], ◌∷◌, ◌++◌, length, map, drop, get_or, refl, sym, ap, subst, ◌∙◌, arith}
+use Rattle.std.proofs.Common.{◌≡◌, ℕ, zero, suc, ◌+◌, ◌-◌, ◌<◌, ◌≤◌, ◌⊎◌, inl, inr, ◌^◌, List, [], ◌∷◌, ◌++◌, length, map, drop, get_or, refl, sym, ap, subst, ◌∙◌, arith}
 use Rattle.std.specs.List.{AllByRecursion, flat_map}
 use Rattle.std.proofs.Math.Seq.{drop-cons}
 use Rattle.srp_base.specs.declared.numbers.EgressPort.{EgressPort}
 use Rattle.srp_base.specs.declared.numbers.NodeNo.{NodeNo}
+use Rattle.srp_base.specs.declared.ports.PortChange.{PortChange}
 use Rattle.tree_topology.specs.declared.graph.Link.{Link}
 use Rattle.tree_topology.specs.Topology.{Topology, HasPort}
 use Rattle.tree_topology.specs.Ports.{port_to, ends_of}
@@ -17,9 +18,11 @@ use Rattle.world_core.specs.declared.journal.NodeSteps.{NodeSteps}
 use Rattle.world_core.specs.declared.journal.Tick.{Tick}
 use Rattle.world_core.specs.World.{WorldState, Happened, CanHappen, world_step, world_after}
 use Rattle.world_core.specs.Start.{world_of}
-use Rattle.world_core.specs.Ticks.{scripted, after_script, step_events, link_ports, tick_events, LeadTo, IsCanonicalTick}
+use Rattle.world_core.specs.Ticks.{scripted, after_script, after_steps, step_events, link_ports, tick_events, LeadTo, IsCanonicalTick}
 use Rattle.world_core.specs.During.{IsDuring, IsAllowed}
+use Rattle.world_core.specs.Timeline.{noted}
 use Rattle.srp_schedule.specs.Cursor.{IsCursor}
+use Rattle.srp_schedule.specs.Noted.{HasNoted, IsNoted}
 use Rattle.srp_schedule.specs.Script.{answered}
 use Rattle.srp_schedule.specs.Made.{AreSteps, carried_ends}
 use Rattle.srp_schedule.proofs.ScriptLemmas.{numbers_are, answers_are}
@@ -118,6 +121,17 @@ steps_allowed tree [] known = tt
 steps_allowed tree (ns ∷ nodes) known =
     each_append (IsAllowed tree) (map (λ st. Port ns.node st.port st.step) ns.steps) (step_events nodes) (made_allowed tree ns.node ns.steps known.0) (steps_allowed tree nodes known.1)
 
+-- the lists of a tick are those that were noted
+pub noted_alike : (t : ℕ) (w : WorldState) (events : List (ℕ × WorldReply)) (steps : List NodeSteps) (tick : Tick) (before after : List PortChange) → tick.events ≡ events → tick.steps ≡ steps
+    → HasNoted t w events steps before after → HasNoted t w tick.events tick.steps before after
+noted_alike t w events steps tick before after e s (inl is) = inl is
+noted_alike t w events steps tick before after e s (inr h) = inr (e ∙ h.0, s ∙ h.1, h.2)
+
+-- where nothing was answered nothing was to happen
+nothing_scripted : (script : List (ℕ × WorldEvent)) (w : WorldState) → answered script w ≡ [] → script ≡ []
+nothing_scripted [] w is = refl
+nothing_scripted (e ∷ script) w is = cc
+
 module _ (laws : DuringLaws) (plan : Plan) (rules : KeepsRules plan) (t : ℕ) (within : t < plan.ticks) (w : WorldState) (during : IsDuring plan.tree t w) where
   below : t < 2 ^ 61
   below = let few = rules.ticks.1 in omega (arith, within, few)
@@ -161,6 +175,20 @@ module _ (laws : DuringLaws) (plan : Plan) (rules : KeepsRules plan) (t : ℕ) (
         ap (λ (h : Happened). h.0) (sym made.clock) ∙ (ap (λ (u : WorldState). (world_step Clock u).0) third ∙ sym (after_append carries (Clock ∷ []) w2))
         in
         last ∙ (ap (λ (u : WorldState). world_after (carries ++ (Clock ∷ [])) u) here ∙ sym (after_append (script ++ steps) (carries ++ (Clock ∷ [])) w))
+
+    -- the network after the tick's steps, and the changes once it is noted
+    pub steps_reach : w2 ≡ after_steps plan t tick w
+    steps_reach = made.stepped ∙ ap (λ (u : WorldState). world_after (step_events tick.steps) u) made.script
+
+    pub is_noted : (before after : List PortChange) → HasNoted t w2 tick.events tick.steps before after → IsNoted plan t w tick before after
+    is_noted before after (inl e) = inl (e ∙ ap (λ (u : WorldState). noted t u before) steps_reach)
+    is_noted before after (inr h) =
+        let script = nothing_scripted (scripted plan t) w (sym made.answers ∙ h.0) in
+        inr (
+          ap (λ (nodes : List NodeSteps). world_after (step_events nodes) (after_script plan t w)) h.1
+              ∙ ap (λ (es : List (ℕ × WorldEvent)). world_after (map (λ e. e.1) es) w) script,
+          h.2,
+        )
 
     -- the tick is canonical
     pub canonical_tick : IsCanonicalTick plan t w tick

@@ -2,3 +2,4 @@ pub mod Cursor
 pub mod Script
 pub mod Order
 pub mod Made
+pub mod Noted

@@ -4,18 +4,20 @@
 //!   a tick      script   the file's events of this tick, in file order, from where the last tick stopped
 //!               steps    node by node: the jobs of its ports, as the script left the node,
 //!                          Work of port 1, of port 2, ..   Due of port 1, ..   Settle ..   Send ..
+//!               noting   what is in force at each port, entered in the timeline where it differs
 //!               carry    link by link, the PDUs of end a and then of end b
 //!               clock    every clock goes on by 1 cs
 //! ```
 //!
 //! The contract of `plain_run` is the definition of world_core: the ticks of the journal lead from the scenario's start to the
-//! network that is handed out, each of them legal, and each node's steps in the canonical order (`AreCanonicalTicks`). It has
-//! no condition, and its one failure is want of memory.
+//! network that is handed out, each of them legal, and each node's steps in the canonical order (`AreCanonicalTicks`); and the
+//! timeline is that of these ticks (`IsTimelineOf`). It has no condition, and its one failure is want of memory.
 //!
 //! A node's jobs may be asked for when its turn comes, after the steps of other nodes, since a step of a port changes its own
 //! node alone. The events of a file don't fall in their ticks, so a place in the list of events, `IsCursor` of
 //! `specs/Cursor.antt`, stands between those of earlier ticks and the others: no tick goes over all of them. A node that has
-//! nothing to do in a tick takes no memory.
+//! nothing to do in a tick takes no memory, and a tick without events and steps isn't noted, since nothing that is in force has
+//! changed then.
 //!
 //! A further kind of event is an arm of `world_event` (`src/script.rt`), a further kind of step a turn in `src/order.rt` with
 //! its place in `order_of` (`specs/Order.antt`).

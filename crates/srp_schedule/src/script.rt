@@ -1,18 +1,18 @@
 //! The scripted events of one tick.
 
-ghost use Rattle.std.specs.Prelude.{◌≡◌, ◌++◌, suc, IfSome, IfOk, OnOk};
+ghost use Rattle.std.specs.Prelude.{◌≡◌, ◌++◌, suc, Some, option_map, IfSome, IfOk, OnOk};
 ghost use Rattle.tree_topology.specs.Graph.{Joined};
 ghost use Rattle.tree_topology.specs.Ports.{port_to};
-ghost use Rattle.world_core.specs.Ticks.{event_of, scripted, after_script};
+ghost use Rattle.world_core.specs.Ticks.{event_of, scripted, after_script, stream_at, talker_of_entry};
 ghost use Rattle.world_core.specs.World.{CanHappen};
 ghost use Rattle.world_core.specs.During.{IsDuring, NamesNeighbours};
 ghost use Rattle.srp_schedule.specs.Cursor.{IsCursor};
 ghost use Rattle.srp_schedule.specs.Script.{answered, answer_of, after_entry};
 
 use node_core::AppRequest;
-use srp_base::{EgressPort, NoMemory, NodeNo};
+use srp_base::{EgressPort, NoMemory, NodeNo, Talker};
 use std::alloc::Global;
-use topology_file::{EventKind, Scenario};
+use topology_file::{EventKind, Scenario, StreamEntry};
 use tree_topology::Tree;
 use world_core::laws::what_is_allowed_may_happen;
 use world_core::{World, WorldEvent, WorldReply};
@@ -58,23 +58,24 @@ fn make_entry(
     answers: &mut Vec<(u32, WorldReply)>,
 ) -> Result<(), NoMemory>
     requires neighbours { NamesNeighbours scenario.now.tree.links kind }
-    requires can { IfSome (event_of scenario.now.tree.links kind) (λ e. CanHappen e world.old) }
+    requires can { IfSome (event_of scenario.now.tree.links scenario.now.streams kind) (λ e. CanHappen e world.old) }
     ensures answer { OnOk result (answers.new.items
-        ≡ answers.old.items ++ answer_of number (event_of scenario.now.tree.links kind) world.old) }
+        ≡ answers.old.items ++ answer_of number (event_of scenario.now.tree.links scenario.now.streams kind) world.old) }
     ensures after { OnOk result
-        (world.new ≡ after_entry (event_of scenario.now.tree.links kind) world.old) }
+        (world.new ≡ after_entry (event_of scenario.now.tree.links scenario.now.streams kind) world.old) }
 {
-    if let Some(event) = world_event(&scenario.tree, kind) {
+    if let Some(event) = world_event(scenario, kind) {
         answers.push((number, world.step(event)?))?;
     }
     Ok(())
 }
 
 // What the file's event is in the network, if it is one there.
-fn world_event(tree: &Tree, kind: EventKind) -> Option<WorldEvent>
-    requires { NamesNeighbours tree.now.links kind }
-    ensures { result ≡ event_of tree.now.links kind }
+fn world_event(scenario: &Scenario, kind: EventKind) -> Option<WorldEvent>
+    requires { NamesNeighbours scenario.now.tree.links kind }
+    ensures { result ≡ event_of scenario.now.tree.links scenario.now.streams kind }
 {
+    let (tree, streams) = (&scenario.tree, scenario.streams.as_slice());
     match kind {
         EventKind::Declare { station, vid } => {
             Some(WorldEvent::Request(station, AppRequest::Declare(vid)))
@@ -82,10 +83,16 @@ fn world_event(tree: &Tree, kind: EventKind) -> Option<WorldEvent>
         EventKind::Withdraw { station, vid } => {
             Some(WorldEvent::Request(station, AppRequest::Withdraw(vid)))
         }
-        EventKind::Talk { .. }
-        | EventKind::Hush { .. }
-        | EventKind::Listen { .. }
-        | EventKind::Unlisten { .. } => None,
+        EventKind::Talk { stream } => talk(entry_of(streams, stream)?),
+        EventKind::Hush { stream } => hush(entry_of(streams, stream)?),
+        EventKind::Listen { station, stream } => {
+            let stream = entry_of(streams, stream)?.id;
+            Some(WorldEvent::Request(station, AppRequest::Listen(stream)))
+        }
+        EventKind::Unlisten { station, stream } => {
+            let stream = entry_of(streams, stream)?.id;
+            Some(WorldEvent::Request(station, AppRequest::Unlisten(stream)))
+        }
         EventKind::Lose { from, to, index } => {
             Some(WorldEvent::Lose(receiving_port(tree, to, from), index))
         }
@@ -93,6 +100,36 @@ fn world_event(tree: &Tree, kind: EventKind) -> Option<WorldEvent>
             Some(WorldEvent::Repeat(receiving_port(tree, to, from), index))
         }
     }
+}
+
+// The request of a stream's station that it talks, and that it talks no more.
+fn talk(entry: &StreamEntry) -> Option<WorldEvent>
+    ensures { result ≡ Some (WorldEvent.Request entry.now.talker (AppRequest.Talk (talker_of_entry entry.now))) }
+{
+    let talker = Talker {
+        stream: entry.id,
+        dest: entry.dest,
+        vid: entry.vid.get(),
+        max_frame: entry.octets,
+        frames: entry.frames,
+        priority: entry.priority,
+        rank: entry.rank,
+        latency: 0,
+    };
+    Some(WorldEvent::Request(entry.talker, AppRequest::Talk(talker)))
+}
+
+fn hush(entry: &StreamEntry) -> Option<WorldEvent>
+    ensures { result ≡ Some (WorldEvent.Request entry.now.talker (AppRequest.Hush entry.now.id)) }
+{
+    Some(WorldEvent::Request(entry.talker, AppRequest::Hush(entry.id)))
+}
+
+// The entry of a stream's number, counted from 1.
+fn entry_of(streams: &[StreamEntry], number: u16) -> Option<&StreamEntry>
+    ensures { option_map (λ e. e.now) result ≡ stream_at streams.now number }
+{
+    streams.get(usize::from(number).saturating_sub(1))
 }
 
 // The port of a node at which the PDUs of its neighbour come in.

@@ -1,10 +1,11 @@
-//! A pair of stations, of which one declares a VID in the last tick: what the journal has of it.
+//! A pair of stations. One declares a VID in the last tick: what the journal has of it. One talks a stream and the other listens:
+//! what the timeline has of it.
 
 use crate::plain_run;
 use node_core::PortStep::{Due, Send, Settle};
 use node_core::StepReply::{Fired, Sent, Settled, Silent, Taken};
 use node_core::{NodeStep, PortStep, StepReply};
-use srp_base::{App, NodeNo, PortNo};
+use srp_base::{App, EgressPort, NodeNo, PortChange, PortNo, StreamId, Vid};
 use std::process::Abort;
 use std::test::Fail;
 use topology_file::read_scenario;
@@ -48,15 +49,51 @@ fn a_declaration_is_settled_and_sent_in_its_tick(rt: HostRuntime) -> Result<(), 
         made(Due, Fired(0)),
         made(Settle, Settled(1)),
         made(Send(App::Mvrp), Sent(12)),
+        made(Send(App::Msrp), Silent),
     ];
+    let silent = [made(Send(App::Mvrp), Silent), made(Send(App::Msrp), Silent)];
     let nodes = last.steps.as_slice();
     assert_eq!(rt; nodes.len(), 2);
     has_made(&rt, nodes.first(), NodeNo(1), declarer.as_slice());
-    has_made(
-        &rt,
-        nodes.last(),
-        NodeNo(2),
-        [made(Send(App::Mvrp), Silent)].as_slice(),
-    );
+    has_made(&rt, nodes.last(), NodeNo(2), silent.as_slice());
+    Ok(())
+}
+
+// VID 2 comes to a's port in tick 1, and the listener's declaration in tick 21.
+const STREAM: &str = "ticks = 22\n\
+    node = [{ name = 'a', kind = 'station' }, { name = 'b', kind = 'station' }]\n\
+    link = [{ a = 'a', b = 'b' }]\n\
+    stream = [{ name = 'k', id = '00000000000000ab', talker = 'a', dest = '91e0f0000001', \
+    octets = 80, frames = 1 }]\n\
+    event = [{ tick = 0, kind = 'talk', stream = 'k' }, \
+    { tick = 0, kind = 'listen', station = 'b', stream = 'k' }, \
+    { tick = 0, kind = 'declare', station = 'b', vid = 2 }]\n";
+
+// Whether the one port of station a has a change in a tick, to these streams, this slope of class A, and VID 2.
+fn says(found: Option<&PortChange>, tick: u64, booked: &[StreamId], slope_a: u64) -> bool {
+    let at = EgressPort {
+        node: NodeNo(1),
+        port: PortNo(1),
+    };
+    let (Some(c), Some(vid)) = (found, Vid::new(2)) else {
+        return false;
+    };
+    c.at == at
+        && c.tick == tick
+        && c.booked.as_slice() == booked
+        && c.slope_a == slope_a
+        && c.slope_b == 0
+        && c.vids.as_slice() == [vid].as_slice()
+}
+
+#[test]
+fn what_is_booked_and_registered_is_in_the_timeline(rt: HostRuntime) -> Result<(), Fail> {
+    let table = toml::table_from_str(rt.alloc(), STREAM)?;
+    let scenario = read_scenario(rt.alloc(), &table)?;
+    let run = plain_run(rt.alloc(), &scenario)?;
+    let changes = run.timeline.changes.as_slice();
+    assert_eq!(rt; changes.len(), 2);
+    assert!(rt; says(changes.first(), 1, [].as_slice(), 0));
+    assert!(rt; says(changes.last(), 21, [StreamId(0xab)].as_slice(), 7_808_000));
     Ok(())
 }

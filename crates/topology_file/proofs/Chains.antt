@@ -2,7 +2,7 @@
 use Rattle.std.proofs.Common.{◌≡◌, ◌≢◌, ℕ, zero, suc, ◌+◌, ◌≤◌, ◌<◌, Bool, true, false, ◌&&◌, if◌then◌else◌, List, [], ◌∷◌, map, length, get_or, Option, Some, None, option_map, option_and_then, Result, Ok, Err, refl, sym, ap, subst, ◌∙◌, leb-true, IfSome, IfOk, arith}
 use Rattle.std.proofs.lemmas.Bool.{and_parts}
 use Rattle.std.proofs.lemmas.List.{length-map}
-use Rattle.std.proofs.lemmas.List.Elements.{All-nil, All-cons, All-head, All-tail}
+use Rattle.std.proofs.lemmas.List.Elements.{All-nil, All-cons, All-head, All-tail, All-weaker}
 use Rattle.std.specs.List.{All}
 use Rattle.std.specs.Prelude.{AllPairs, nat_le}
 use Rattle.toml_rules.specs.declared.rules.RuleErr.{RuleErr}
@@ -194,3 +194,23 @@ each-keeps {A} {B} P high rule read keeps xs =
     last-part : (n : ℕ) (o : Option B) → IfSome o (λ y. P y × (n ≤ high)) → IfSome o (λ _. n ≤ high)
     last-part n None h = tt
     last-part n (Some x) h = h.1
+
+-- what a value keeps by its entry's number, and by each greater one, all keep by that after the last
+pub each-numbered : {A B : Type 0} (F : ℕ → B → Type 0) (rule : ℕ) (read : ℕ → A → Option B)
+    → ((j k : ℕ) (y : B) → j ≤ k → F j y → F k y) → ((n : ℕ) (x : A) → IfSome (read n x) (F (n + 1))) → (n : ℕ) (xs : List A)
+    → IfOk (each_entry rule read n xs) (λ ys. All (F (n + length ys)) ys)
+each-numbered F rule read up h n [] = All-nil (F (n + 0))
+each-numbered {A = A} {B = B} F rule read up h n (x ∷ xs) = one (read n x) (each_entry rule read (n + 1) xs) (h n x) (each-numbered F rule read up h (n + 1) xs)
+  where
+    one : (o : Option B) (rest : Result (List B) RuleErr) → IfSome o (F (n + 1)) → IfOk rest (λ ys. All (F (n + 1 + length ys)) ys)
+        → IfOk (entry_then rule n o rest) (λ ys. All (F (n + length ys)) ys)
+    one None rest p ps = tt
+    one (Some y) (Err e) p ps = tt
+    one (Some y) (Ok ys) p ps =
+        All-cons (F (n + length (y ∷ ys))) y ys (up (n + 1) (n + length (y ∷ ys)) y (omega arith) p)
+        (All-weaker (F (n + 1 + length ys)) (F (n + length (y ∷ ys))) (λ z f. up (n + 1 + length ys) (n + length (y ∷ ys)) z (omega arith) f) ys ps)
+
+-- an answer has both
+pub ok-both : {A : Type 0} (P Q : A → Type 0) (r : Result A RuleErr) → IfOk r P → IfOk r Q → IfOk r (λ x. P x × Q x)
+ok-both P Q (Ok x) p q = (p, q)
+ok-both P Q (Err e) p q = tt

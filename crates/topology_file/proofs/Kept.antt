@@ -15,7 +15,7 @@ use Rattle.topology_file.specs.declared.entries.EventEntry.{EventEntry}
 use Rattle.topology_file.specs.declared.entries.FrameEntry.{FrameEntry}
 use Rattle.topology_file.specs.Scenario.{nodes_of, links_of, tree_links, node_kinds, topology_of, tree_of, is_crowded, streams_of, events_of, frames_of, file_keys, ticks_at, leave_time_at, plan_of, scenario_of, KeepsRules}
 use Rattle.topology_file.proofs.Chains.{some-says, within-range, chain-if, chain-needs, chain-holds, chain-none}
-use Rattle.topology_file.proofs.NetworkKept.{NodesKeep, nodes-keep, small-parts, names-differ, ids-differ, HasShares, IsKnownLink, links-keep, AcceptedLaw, tree-keeps, few-links}
+use Rattle.topology_file.proofs.NetworkKept.{NodesKeep, nodes-keep, small-parts, ids-fit, names-differ, ids-differ, HasShares, IsKnownLink, links-keep, AcceptedLaw, tree-keeps, few-links}
 use Rattle.topology_file.proofs.StreamsKept.{StreamsKeep, streams-keep}
 use Rattle.topology_file.proofs.EventsKept.{EventsKeep, events-keep}
 use Rattle.topology_file.proofs.FramesKept.{FramesKeep, frames-keep}
@@ -33,6 +33,7 @@ plan-keeps law ticks leave_time periodic tree nodes links streams events frames 
       ticks = t;
       leave_time = l;
       node_forms = n.forms;
+      node_ids = ids-fit ticks nodes n;
       node_count = (small.0, small.1);
       size = small.2;
       names = names-differ nodes n.names;

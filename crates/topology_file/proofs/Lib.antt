@@ -1,4 +1,5 @@
 pub mod Chains
+pub mod HexRanges
 pub mod TreeRules
 pub mod NetworkKept
 pub mod StreamsKept

@@ -1,5 +1,5 @@
 -- What every scenario keeps of its nodes, links and tree, from the rules that its table passed.
-use Rattle.std.proofs.Common.{◌≡◌, ◌≢◌, ℕ, suc, zero, ◌+◌, ◌-◌, ◌*◌, ◌^◌, ◌<◌, ◌≤◌, Bool, true, false, ◌&&◌, if◌then◌else◌, List, [], ◌∷◌, Option, Some, None, option_map, Result, Ok, Err, refl, sym, ap, subst, ◌∙◌, length, get_or, take, get_or-take, eqb, leb-true, ltb-true, ltb-false, IfSome, IfOk, arith}
+use Rattle.std.proofs.Common.{◌≡◌, ◌≢◌, ◌⊎◌, inl, inr, ℕ, suc, zero, ◌+◌, ◌-◌, ◌*◌, ◌^◌, ◌<◌, ◌≤◌, Bool, true, false, ◌&&◌, if◌then◌else◌, List, [], ◌∷◌, Option, Some, None, option_map, Result, Ok, Err, refl, sym, ap, subst, ◌∙◌, length, get_or, take, get_or-take, eqb, leb-true, ltb-true, ltb-false, IfSome, IfOk, arith}
 use Rattle.std.proofs.lemmas.Bool.{and_parts, false≢true}
 use Rattle.std.proofs.lemmas.Bool.Decides.{nat_tests}
 use Rattle.std.proofs.lemmas.List.{length-map, length-take-le}
@@ -10,10 +10,11 @@ use Rattle.std.specs.List.{All, list_any}
 use Rattle.std.specs.Prelude.{AllPairs, ◌↔◌, nat_le, nat_lt, nat_eq, codes}
 use Rattle.srp_base.specs.declared.numbers.NodeNo.{NodeNo}
 use Rattle.srp_base.specs.Firsts.{first_where}
+use Rattle.srp_base.specs.Hexadecimal.{hex16}
 use Rattle.srp_base.proofs.FirstLemmas.{where-some, where-none}
-use Rattle.toml.specs.Data.{Members}
+use Rattle.toml.specs.Data.{Data, Members, get_member, as_str}
 use Rattle.toml_rules.specs.declared.rules.RuleErr.{RuleErr}
-use Rattle.toml_rules.specs.Fields.{number, number_or, truth_or, tables, text, has_only}
+use Rattle.toml_rules.specs.Fields.{or_default, number, number_or, truth_or, tables, text, has_only}
 use Rattle.toml_rules.specs.Rules.{each_entry, first_fall}
 use Rattle.toml_rules.specs.Shares.{share_at, shares_at}
 use Rattle.tree_topology.specs.Topology.{Topology, IsSound}
@@ -24,10 +25,11 @@ use Rattle.tree_topology.specs.Ports.{neighbours}
 use Rattle.tree_topology.specs.Refusal.{refusal}
 use Rattle.topology_file.specs.declared.entries.NodeEntry.{NodeEntry}
 use Rattle.topology_file.specs.declared.entries.LinkEntry.{LinkEntry}
-use Rattle.topology_file.specs.Entries.{is_name, name_of_text, name_at, kind_at, id_at, node_keys, node_entry, is_station, has_name, node_no, node_named, station_named, link_keys, rate_at, latency_at, link_between, link_form}
+use Rattle.topology_file.specs.Entries.{is_name, name_of_text, name_at, kind_at, id_of_data, id_at, node_keys, node_entry, is_station, has_name, node_no, node_named, station_named, link_keys, rate_at, latency_at, link_between, link_form}
 use Rattle.topology_file.specs.Kinds.{IsStationNumber}
 use Rattle.topology_file.specs.Scenario.{has_name_of, has_id_of, is_small, nodes_of, links_of, tree_links, node_kinds, topology_of, unless_refused, tree_of, is_crowded}
-use Rattle.topology_file.proofs.Chains.{and_then-if, map-if, when-if, either-if, some-says, within-range, chain-if, chain-needs, chain-holds, chain-none, ok-all, ok-says, each-all, each-map, each-count}
+use Rattle.topology_file.proofs.Chains.{and_then-if, map-if, when-if, either-if, some-says, within-range, chain-if, chain-needs, chain-holds, chain-none, ok-all, ok-says, ok-both, each-all, each-map, each-numbered, each-count}
+use Rattle.topology_file.proofs.HexRanges.{hex16-range}
 
 -- no condition on an entry
 abbrev pub Any : {A : Type 0} → A → Type 0
@@ -52,8 +54,36 @@ node-form n ms =
     and_then-if P _ (id_at n ms) (λ id ei.
     some-says (λ w. is_name w ≡ true) (name_at (codes "name") ms) name en (name-form (codes "name") ms)))))
 
+-- an id is that of its digits, or the entry's number
+abbrev IsIdOf : ℕ → NodeEntry → Type 0
+IsIdOf n x = (x.id.0 < 2 ^ 64) ⊎ (x.id.0 < n)
+
+id-later : (j k : ℕ) (x : NodeEntry) → j ≤ k → IsIdOf j x → IsIdOf k x
+id-later j k x le (inl small) = inl small
+id-later j k x le (inr below) = inr (omega (arith, le, below))
+
+node-id : (n : ℕ) (ms : Members) → IfSome (node_entry n ms) (IsIdOf (n + 1))
+node-id n ms =
+    when-if (IsIdOf (n + 1)) (has_only node_keys ms) _ (λ _.
+    and_then-if (IsIdOf (n + 1)) _ (name_at (codes "name") ms) (λ name en.
+    and_then-if (IsIdOf (n + 1)) _ (kind_at ms) (λ kind ek.
+    and_then-if (IsIdOf (n + 1)) _ (id_at n ms) (λ id ei. some-says (λ i. (i < 2 ^ 64) ⊎ (i < n + 1)) (id_at n ms) id ei (by (get_member (codes "id") ms))))))
+  where
+    by : (o : Option Data) → IfSome (or_default n id_of_data o) (λ i. (i < 2 ^ 64) ⊎ (i < n + 1))
+    by None = inr (omega arith)
+    by (Some d) = and_then-if (λ i. (i < 2 ^ 64) ⊎ (i < n + 1)) hex16 (as_str d) (λ digits e. below (hex16 digits) (hex16-range digits))
+      where
+        below : (o : Option ℕ) → IfSome o (λ i. i < 2 ^ 64) → IfSome o (λ i. (i < 2 ^ 64) ⊎ (i < n + 1))
+        below None h = tt
+        below (Some i) h = inl h
+
+id-fits : (n : ℕ) (x : NodeEntry) → n ≤ 65 → IsIdOf n x → x.id.0 < 2 ^ 64
+id-fits n x few (inl small) = small
+id-fits n x few (inr below) = omega (arith, few, below)
+
 pub record NodesKeep (ticks : ℕ) (nodes : List NodeEntry) : Type 0 where
   pub forms : All (λ x. is_name x.name ≡ true) nodes
+  pub numbers : All (IsIdOf (1 + length nodes)) nodes
   pub small : is_small ticks nodes ≡ true
   pub names : first_where has_name_of [] nodes ≡ None
   pub ids : first_where has_id_of [] nodes ≡ None
@@ -62,10 +92,14 @@ pub nodes-keep : (ticks : ℕ) (entries : List Members) → IfOk (nodes_of ticks
 nodes-keep ticks entries =
     let P = NodesKeep ticks in
     let F : NodeEntry → Type 0 = λ x. is_name x.name ≡ true in
-    chain-if P (All F) (each_entry 4 node_entry 1 entries) _ (each-all Any F 4 node_entry (λ n x _. node-form n x) 1 entries (all-any entries)) (λ nodes forms.
+    let N : List NodeEntry → Type 0 = λ nodes. All (IsIdOf (1 + length nodes)) nodes in
+    chain-if P (λ nodes. All F nodes × N nodes) (each_entry 4 node_entry 1 entries) _
+    (ok-both (All F) N (each_entry 4 node_entry 1 entries)
+    (each-all Any F 4 node_entry (λ n x _. node-form n x) 1 entries (all-any entries))
+    (each-numbered IsIdOf 4 node_entry id-later node-id 1 entries)) (λ nodes forms.
     chain-holds P 5 (is_small ticks nodes) _ (λ small.
     chain-none P 6 (first_where has_name_of [] nodes) _ (λ names.
-    chain-none P 7 (first_where has_id_of [] nodes) _ (λ ids. record { forms = forms; small = small; names = names; ids = ids }))))
+    chain-none P 7 (first_where has_id_of [] nodes) _ (λ ids. record { forms = forms.0; numbers = forms.1; small = small; names = names; ids = ids }))))
 
 pub small-parts : (ticks : ℕ) (nodes : List NodeEntry) → is_small ticks nodes ≡ true
     → (2 ≤ length nodes) × (length nodes ≤ 64) × (length nodes * ticks ≤ 400000)
@@ -74,6 +108,12 @@ small-parts ticks nodes e =
     let p = and_parts (nat_le 2 n && nat_le n 64) (nat_le (n * ticks) 400000) e in
     let q = and_parts (nat_le 2 n) (nat_le n 64) p.0 in
     (leb-true 2 n q.0, leb-true n 64 q.1, leb-true (n * ticks) 400000 p.1)
+
+-- few nodes have ids of 64 bits
+pub ids-fit : (ticks : ℕ) (nodes : List NodeEntry) → NodesKeep ticks nodes → All (λ x. x.id.0 < 2 ^ 64) nodes
+ids-fit ticks nodes n =
+    let few = (small-parts ticks nodes n.small).1 in
+    All-weaker (IsIdOf (1 + length nodes)) (λ x. x.id.0 < 2 ^ 64) (λ x h. id-fits (1 + length nodes) x (omega (arith, few)) h) nodes n.numbers
 
 pub eqb-same : (a b : ℕ) → a ≡ b → eqb a b ≡ true
 eqb-same a b e = grind (arith, nat_tests)

@@ -1,5 +1,5 @@
 -- What every scenario keeps of its streams.
-use Rattle.std.proofs.Common.{◌≡◌, ◌≢◌, ℕ, ◌-◌, ◌<◌, ◌≤◌, Bool, true, false, ◌&&◌, List, [], length, get_or, Option, Some, None, option_map, Result, Ok, Err, refl, sym, ap, ◌∙◌, eqb, leb-true, IfSome, IfOk, map, arith}
+use Rattle.std.proofs.Common.{◌≡◌, ◌≢◌, ℕ, ◌-◌, ◌<◌, ◌≤◌, ◌^◌, Bool, true, false, ◌&&◌, List, [], length, get_or, Option, Some, None, option_map, Result, Ok, Err, refl, sym, ap, ◌∙◌, eqb, leb-true, IfSome, IfOk, map, arith}
 use Rattle.std.proofs.lemmas.Bool.{and_parts, false≢true}
 use Rattle.std.proofs.lemmas.List.Elements.{All-weaker}
 use Rattle.std.proofs.lemmas.List.Folds.{list_any_at}
@@ -8,10 +8,11 @@ use Rattle.std.specs.List.{All, list_any}
 use Rattle.std.specs.Prelude.{AllPairs, nat_le, nat_eq, codes}
 use Rattle.srp_base.specs.declared.numbers.NodeNo.{NodeNo}
 use Rattle.srp_base.specs.Firsts.{first_where}
+use Rattle.srp_base.specs.Hexadecimal.{hex12, hex16}
 use Rattle.srp_base.proofs.FirstLemmas.{where-some}
 use Rattle.toml.specs.Data.{Members}
 use Rattle.toml_rules.specs.declared.rules.RuleErr.{RuleErr}
-use Rattle.toml_rules.specs.Fields.{number, number_or, has_only}
+use Rattle.toml_rules.specs.Fields.{number, number_or, text, has_only}
 use Rattle.toml_rules.specs.Rules.{each_entry}
 use Rattle.topology_file.specs.declared.entries.NodeEntry.{NodeEntry}
 use Rattle.topology_file.specs.declared.entries.StreamEntry.{StreamEntry}
@@ -22,12 +23,15 @@ use Rattle.topology_file.specs.Kinds.{IsStationNumber, IsStreamNumber, IsNotTalk
 use Rattle.topology_file.specs.Scenario.{has_stream_name_of, has_stream_id_of, streams_of, HasStreamForm}
 use Rattle.topology_file.specs.Streams.{stream_keys, stream_id_at, dest_at, octets_at, frames_at, stream_vid_at, priority_at, rank_at, values_at, stream_form, stream_entry, is_stream_named, stream_named, is_talker_of}
 use Rattle.topology_file.proofs.Chains.{and_then-if, map-if, made-if, when-if, some-says, within-range, chain-if, chain-none, ok-all, ok-says, each-all, each-map, each-keeps, alike-length, pairs-alike}
+use Rattle.topology_file.proofs.HexRanges.{hex12-range, hex16-range}
 use Rattle.topology_file.proofs.NetworkKept.{name-form, eqb-same, pairs-none, station-known}
 
 -- ---- forms
 
 -- the ranges of what a Talker declares
 record HasRanges (v : StreamValues) : Type 0 where
+  id : v.id.0 < 2 ^ 64
+  dest : v.dest < 2 ^ 48
   octets : v.octets ≤ 65535
   frames : v.frames ≤ 65535
   vid : (1 ≤ v.vid) × (v.vid ≤ 4094)
@@ -42,6 +46,8 @@ values-ranges ms =
     and_then-if HasRanges _ (stream_vid_at ms) (λ vid ev.
     and_then-if HasRanges _ (priority_at ms) (λ priority ep.
     and_then-if HasRanges _ (rank_at ms) (λ rank er. record {
+      id = some-says (λ n. n < 2 ^ 64) (stream_id_at ms) id ei (and_then-if (λ n. n < 2 ^ 64) hex16 (text (codes "id") ms) (λ digits e. hex16-range digits));
+      dest = some-says (λ n. n < 2 ^ 48) (dest_at ms) dest ed (and_then-if (λ n. n < 2 ^ 48) hex12 (text (codes "dest") ms) (λ digits e. hex12-range digits));
       octets = (some-says (λ n. (0 ≤ n) × (n ≤ 65535)) (octets_at ms) octets eo (within-range 0 65535 (number (codes "octets") ms))).1;
       frames = (some-says (λ n. (0 ≤ n) × (n ≤ 65535)) (frames_at ms) frames ef (within-range 0 65535 (number (codes "frames") ms))).1;
       vid = some-says (λ n. (1 ≤ n) × (n ≤ 4094)) (stream_vid_at ms) vid ev (within-range 1 4094 (number_or (codes "vid") 2 ms));
@@ -85,7 +91,7 @@ EntryKeeps nodes s = HasStreamForm s × IsStationNumber nodes s.talker.0
 
 entry-keeps : (nodes : List NodeEntry) (n : ℕ) (form : StreamForm) → FormKeeps nodes form → IfSome (stream_entry n form) (EntryKeeps nodes)
 entry-keeps nodes n form k =
-    made-if (λ x. IsStationNumber nodes x.0) (EntryKeeps nodes) _ form.talker (λ x station. (record { name = k.0; octets = k.2.octets; frames = k.2.frames; vid = k.2.vid; priority = k.2.priority }, station)) k.1
+    made-if (λ x. IsStationNumber nodes x.0) (EntryKeeps nodes) _ form.talker (λ x station. (record { name = k.0; id = k.2.id; dest = k.2.dest; octets = k.2.octets; frames = k.2.frames; vid = k.2.vid; priority = k.2.priority }, station)) k.1
 
 entry-name : (n : ℕ) (form : StreamForm) → IfSome (stream_entry n form) (λ s. s.name ≡ form.name)
 entry-name n form = map-if _ _ form.talker (λ x e. refl)

@@ -194,6 +194,8 @@ scenario_of ms = do
 -- a stream's values have their form
 pub record HasStreamForm (s : StreamEntry) : Type 0 where
   pub name : is_name s.name ≡ true
+  pub id : s.id.0 < 2 ^ 64
+  pub dest : s.dest < 2 ^ 48
   pub octets : s.octets ≤ 65535
   pub frames : s.frames ≤ 65535
   pub vid : (1 ≤ s.vid) × (s.vid ≤ 4094)
@@ -206,6 +208,7 @@ pub record KeepsRules (p : Plan) : Type 0 where
   pub ticks : (1 ≤ p.ticks) × (p.ticks ≤ 12000)
   pub leave_time : (60 ≤ p.leave_time.0) × (p.leave_time.0 ≤ 100)
   pub node_forms : All (λ x. is_name x.name ≡ true) p.nodes
+  pub node_ids : All (λ x. x.id.0 < 2 ^ 64) p.nodes
   pub node_count : (2 ≤ length p.nodes) × (length p.nodes ≤ 64)
   pub size : length p.nodes * p.ticks ≤ 400000
   pub names : AllPairs (λ x y. x.name ≢ y.name) p.nodes

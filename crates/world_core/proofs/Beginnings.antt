@@ -1,6 +1,6 @@
 -- The network of a scenario keeps what every network keeps.
-use Rattle.std.proofs.Common.{◌≡◌, ℕ, zero, suc, ◌+◌, ◌-◌, ◌*◌, ◌<◌, ◌≤◌, Bool, true, false, if◌then◌else◌, List, [], ◌∷◌, ◌++◌, length, map, refl, sym, ap, subst, ◌∙◌, arith}
-use Rattle.std.specs.Prelude.{slice_get, Some, None, ◌==◌}
+use Rattle.std.proofs.Common.{◌≡◌, ℕ, zero, suc, ◌+◌, ◌-◌, ◌*◌, ◌<◌, ◌≤◌, ◌^◌, Bool, true, false, if◌then◌else◌, List, [], ◌∷◌, ◌++◌, length, map, refl, sym, ap, subst, ◌∙◌, arith}
+use Rattle.std.specs.Prelude.{slice_get, Some, None, option_map, ◌==◌}
 use Rattle.std.specs.List.{cons_option}
 use Rattle.std.specs.Ordering.{nat_cmp}
 use Rattle.std.proofs.lemmas.Option.{slice_get_within}
@@ -16,20 +16,28 @@ use Rattle.topology_file.specs.declared.entries.NodeEntry.{NodeEntry}
 use Rattle.topology_file.specs.declared.entries.LinkEntry.{LinkEntry}
 use Rattle.topology_file.specs.Plan.{Plan}
 use Rattle.topology_file.specs.Scenario.{KeepsRules, tree_links, ends_of_entry}
-use Rattle.mrp_participant.specs.State.{new_state}
+use Rattle.mrp_participant.specs.State.{State, new_state}
 use Rattle.mrp_participant.specs.Link.{AreDutiesMet, new_link}
+use Rattle.msrp_codec.specs.declared.pdu.MsrpKey.{MsrpKey}
+use Rattle.msrp_codec.specs.declared.pdu.MsrpContent.{MsrpContent}
+use Rattle.msrp.specs.declared.port.Port.{Port}
+use Rattle.msrp.specs.Part.{Part as StreamPart, key_cmp}
+use Rattle.msrp.specs.Side.{new_port}
 use Rattle.mvrp.specs.Part.{Part}
 use Rattle.mvrp.specs.Side.{place_of}
 use Rattle.node_core.specs.State.{NodeState, box_at, new_node}
 use Rattle.node_core.specs.Proper.{IsProperNode}
 use Rattle.world_core.specs.Start.{setup_of, end_setup, setups_from, nodes_from, world_of}
 use Rattle.world_core.specs.World.{inbox, outbox}
-use Rattle.world_core.specs.Duty.{vlan_part, AreVlanDutiesMet}
+use Rattle.world_core.specs.Duty.{part_at}
 use Rattle.world_core.specs.Kept.{FitsTree, IsKeptWorld}
 use Rattle.world_core.proofs.Idle.{idle_start}
 use Rattle.world_core.proofs.Nodes.{Base, node_there, part_is, inbox_is, outbox_is}
-use Rattle.world_core.proofs.Ends.{boxed, boxed_same}
-use Rattle.world_core.proofs.EventSteps.{kept_whole}
+use Rattle.world_core.proofs.Lists.{all_each, at_each}
+use Rattle.world_core.proofs.Views.{AppView, AreMet, met_same}
+use Rattle.world_core.proofs.VlanSteps.{vlan_view}
+use Rattle.world_core.proofs.StreamSteps.{stream_view}
+use Rattle.world_core.proofs.Keeping.{kept_whole}
 
 mapped_length : {X Y : Type 0} (f : X → Y) (xs : List X) → length (map f xs) ≡ length xs
 mapped_length f [] = refl
@@ -54,18 +62,19 @@ ports_length n x (l ∷ links) = one_end n x l (setups_from (n + 1) x links) (ne
 -- the node at a place is a new one, of its entry
 pub record IsNewNode (plan : Plan) (entries : List NodeEntry) (first x : ℕ) (s : NodeState) : Type 0 where
   pub entry : NodeEntry
-  pub at : slice_get (map (λ (n : NodeEntry). n.kind) entries) x ≡ Some entry.kind
+  pub at : slice_get entries x ≡ Some entry
+  pub kind_at : slice_get (map (λ (n : NodeEntry). n.kind) entries) x ≡ Some entry.kind
   pub number : ℕ
   pub number_is : number ≡ first + x
   pub is : s ≡ new_node entry.kind entry.id plan.leave_time plan.periodic (setups_from 1 number plan.links)
 
 pub new_at : (plan : Plan) (entries : List NodeEntry) (first x : ℕ) (s : NodeState) → slice_get (nodes_from plan first entries) x ≡ Some s → IsNewNode plan entries first x s
 new_at plan [] first x s get = cc
-new_at plan (n ∷ entries) first zero s get = record { entry = n; at = refl; number = first; number_is = omega arith; is = cc }
+new_at plan (n ∷ entries) first zero s get = record { entry = n; at = refl; kind_at = refl; number = first; number_is = omega arith; is = cc }
 new_at plan (n ∷ entries) first (suc x) s get =
     let later = new_at plan entries (first + 1) x s get in
     let place = later.number_is in
-    record { entry = later.entry; at = later.at; number = later.number; number_is = omega (arith, place); is = later.is }
+    record { entry = later.entry; at = later.at; kind_at = later.kind_at; number = later.number; number_is = omega (arith, place); is = later.is }
 
 nodes_length : (plan : Plan) (first : ℕ) (entries : List NodeEntry) → length (nodes_from plan first entries) ≡ length (map (λ (n : NodeEntry). n.kind) entries)
 nodes_length plan first [] = refl
@@ -77,16 +86,33 @@ no_wires [] at = refl
 no_wires (p ∷ ports) zero = refl
 no_wires (p ∷ ports) (suc at) = no_wires ports at
 
+-- a participant of an application at a place of a new node is a new one
+abbrev pub IsNewThere : {K C : Type 0} → AppView K C → Type 0
+IsNewThere {K = K} {C = C} v =
+    (kind : NodeKind) (bridge : BridgeId) (leave_time : Cs) (periodic : Bool) (ports : List PortSetup) (at : ℕ) (x : State K C)
+    → v.part at (new_node kind bridge leave_time periodic ports) ≡ Some x → (period : Cs) × (x ≡ new_state period leave_time periodic)
+
 new_part : (leave_time : Cs) (periodic : Bool) (ports : List PortSetup) (at : ℕ) (x : Part) → slice_get (map (λ p. new_state p.period leave_time periodic) ports) at ≡ Some x
     → (period : Cs) × (x ≡ new_state period leave_time periodic)
 new_part leave_time periodic [] at x get = cc
 new_part leave_time periodic (p ∷ ports) zero x get = (p.period, cc)
 new_part leave_time periodic (p ∷ ports) (suc at) x get = new_part leave_time periodic ports at x get
 
+new_stream_part : (bridge : BridgeId) (leave_time : Cs) (periodic : Bool) (ports : List PortSetup) (at : ℕ) (x : StreamPart)
+    → option_map (λ (p : Port). p.part) (slice_get (map (new_port bridge leave_time periodic) ports) at) ≡ Some x → (period : Cs) × (x ≡ new_state period leave_time periodic)
+new_stream_part bridge leave_time periodic [] at x get = cc
+new_stream_part bridge leave_time periodic (p ∷ ports) zero x get = (p.period, cc)
+new_stream_part bridge leave_time periodic (p ∷ ports) (suc at) x get = new_stream_part bridge leave_time periodic ports at x get
+
+pub new_vlans_there : IsNewThere vlan_view
+new_vlans_there kind bridge leave_time periodic ports at x get = new_part leave_time periodic ports at x get
+
+pub new_streams_there : IsNewThere stream_view
+new_streams_there kind bridge leave_time periodic ports at x get = new_stream_part bridge leave_time periodic ports at x get
+
 module _ (plan : Plan) (rules : KeepsRules plan)
     (laws : (tree : Topology) → IsSound tree → HasPortLaws tree)
-    (new_duties : (near far : Cs × Cs × Bool) → AreDutiesMet nat_cmp (new_link {K = ℕ} {C = Unit {0}} near far))
-    (proper : (kind : NodeKind) (bridge : BridgeId) (leave_time : Cs) (periodic : Bool) (ports : List PortSetup) → length ports ≤ 255 → IsProperNode (new_node kind bridge leave_time periodic ports)) where
+    (proper : (kind : NodeKind) (bridge : BridgeId) (leave_time : Cs) (periodic : Bool) (ports : List PortSetup) → length ports ≤ 255 → bridge.0 < 2 ^ 64 → IsProperNode (new_node kind bridge leave_time periodic ports)) where
   sound : IsSound plan.tree
   sound = subst IsSound (sym rules.tree) rules.accepted
 
@@ -100,12 +126,13 @@ module _ (plan : Plan) (rules : KeepsRules plan)
       let same = ap (λ (t : Topology). length (neighbours t.links (x + 1))) rules.tree in
       subst (FitsTree plan.tree x) (sym new.is)
       (record {
-        kind = ap (λ (t : Topology). slice_get t.kinds x) rules.tree ∙ new.at;
+        kind = ap (λ (t : Topology). slice_get t.kinds x) rules.tree ∙ new.kind_at;
         ports = mapped_length _ setups ∙ count;
-        kept = proper new.entry.kind new.entry.id plan.leave_time plan.periodic setups (omega (arith, count, few, same));
+        kept = proper new.entry.kind new.entry.id plan.leave_time plan.periodic setups (omega (arith, count, few, same))
+            (at_each (λ (n : NodeEntry). n.id.0 < 2 ^ 64) plan.nodes (all_each _ plan.nodes rules.node_ids) x new.entry new.at);
       })
 
-  base : Base (world_of plan)
+  pub base : Base (world_of plan)
   base =
       record {
         tree = sound;
@@ -118,42 +145,47 @@ module _ (plan : Plan) (rules : KeepsRules plan)
         clock = λ x y s t gs gt. ap (λ (r : NodeState). r.clock) (new_at plan plan.nodes 1 x s gs).is ∙ ap (λ (r : NodeState). r.clock) (sym (new_at plan plan.nodes 1 y t gt).is);
       }
 
-  -- what is at a port at the start
-  record AtStart (p : EgressPort) (x : Part) : Type 0 where
-    period : Cs
-    part : x ≡ new_state period plan.leave_time plan.periodic
-    in_none : inbox p (world_of plan) ≡ []
-    out_none : outbox p (world_of plan) ≡ []
+  -- what is at a port at the start, in an application
+  module _ {K C : Type 0} (v : AppView K C) (there : IsNewThere v)
+      (new_duties : (near far : Cs × Cs × Bool) → AreDutiesMet v.cmp (new_link {K = K} {C = C} near far)) where
+    record AtStart (p : EgressPort) (x : State K C) : Type 0 where
+      period : Cs
+      part : x ≡ new_state period plan.leave_time plan.periodic
+      in_none : inbox p (world_of plan) ≡ []
+      out_none : outbox p (world_of plan) ≡ []
 
-  at_start : (p : EgressPort) → HasPort plan.tree p → (x : Part) → vlan_part p (world_of plan) ≡ Some x → AtStart p x
-  at_start p has x get =
-      let there = node_there (world_of plan) base p has in
-      let s = there.0 in
-      let is = there.1 in
-      let new = new_at plan plan.nodes 1 (p.node.0 - 1) s is in
-      let setups : List PortSetup = setups_from 1 new.number plan.links in
-      let one = new_part plan.leave_time plan.periodic setups (place_of p.port) x
-      (ap (λ (r : NodeState). slice_get r.vlans.parts (place_of p.port)) (sym new.is) ∙ (sym (part_is p (world_of plan) s is) ∙ get)) in
-      record {
-        period = one.0;
-        part = one.1;
-        in_none = inbox_is p (world_of plan) s is ∙ (ap (λ (r : NodeState). box_at (place_of p.port) r.inboxes) new.is ∙ no_wires setups (place_of p.port));
-        out_none = outbox_is p (world_of plan) s is ∙ (ap (λ (r : NodeState). box_at (place_of p.port) r.outboxes) new.is ∙ no_wires setups (place_of p.port));
-      }
+    at_start : (p : EgressPort) → HasPort plan.tree p → (x : State K C) → part_at v.part p (world_of plan) ≡ Some x → AtStart p x
+    at_start p has x get =
+        let node = node_there (world_of plan) base p has in
+        let s = node.0 in
+        let is = node.1 in
+        let new = new_at plan plan.nodes 1 (p.node.0 - 1) s is in
+        let setups : List PortSetup = setups_from 1 new.number plan.links in
+        let one = there new.entry.kind new.entry.id plan.leave_time plan.periodic setups (place_of p.port) x
+        (ap (v.part (place_of p.port)) (sym new.is) ∙ (sym (part_is v p (world_of plan) s is) ∙ get)) in
+        record {
+          period = one.0;
+          part = one.1;
+          in_none = inbox_is p (world_of plan) s is ∙ (ap (λ (r : NodeState). box_at (place_of p.port) r.inboxes) new.is ∙ no_wires setups (place_of p.port));
+          out_none = outbox_is p (world_of plan) s is ∙ (ap (λ (r : NodeState). box_at (place_of p.port) r.outboxes) new.is ∙ no_wires setups (place_of p.port));
+        }
 
-  duties : AreVlanDutiesMet (world_of plan)
-  duties p has near far a b =
-      let w = world_of plan in
-      let q = peer_of plan.tree.links p in
-      let ports = laws plan.tree sound in
-      let here = at_start p has near a in
-      let there = at_start q (ports.peer_port p has) far b in
-      let back : inbox (peer_of plan.tree.links q) w ≡ [] = ap (λ (r : EgressPort). inbox r w) (ports.peer_twice p has) ∙ here.in_none in
-      subst (AreDutiesMet nat_cmp)
-      (sym (boxed_same near far (inbox q w) [] (outbox p w) [] (inbox (peer_of plan.tree.links q) w) [] (outbox q w) [] there.in_none here.out_none back there.out_none))
-      (subst (λ (x : Part). AreDutiesMet nat_cmp (boxed x far [] [] [] [])) (sym here.part)
-      (subst (λ (z : Part). AreDutiesMet nat_cmp (boxed (new_state here.period plan.leave_time plan.periodic) z [] [] [] [])) (sym there.part)
-      (new_duties (here.period, plan.leave_time, plan.periodic) (there.period, plan.leave_time, plan.periodic))))
+    pub met_start : AreMet v (world_of plan)
+    met_start p has near far a b =
+        let w = world_of plan in
+        let q = peer_of plan.tree.links p in
+        let ports = laws plan.tree sound in
+        let here = at_start p has near a in
+        let far_start = at_start q (ports.peer_port p has) far b in
+        let back : inbox (peer_of plan.tree.links q) w ≡ [] = ap (λ (r : EgressPort). inbox r w) (ports.peer_twice p has) ∙ here.in_none in
+        met_same v (new_state here.period plan.leave_time plan.periodic) near (new_state far_start.period plan.leave_time plan.periodic) far
+        [] (inbox q w) [] (outbox p w) [] (inbox (peer_of plan.tree.links q) w) [] (outbox q w)
+        (sym here.part) (sym far_start.part) (sym far_start.in_none) (sym here.out_none) (sym back) (sym far_start.out_none)
+        (new_duties (here.period, plan.leave_time, plan.periodic) (far_start.period, plan.leave_time, plan.periodic))
 
-  pub begins : IsKeptWorld (world_of plan)
-  begins = kept_whole (world_of plan) base (idle_start plan) duties
+  pub begins : ((near far : Cs × Cs × Bool) → AreDutiesMet nat_cmp (new_link {K = ℕ} {C = Unit {0}} near far))
+      → ((near far : Cs × Cs × Bool) → AreDutiesMet key_cmp (new_link {K = MsrpKey} {C = MsrpContent} near far)) → IsKeptWorld (world_of plan)
+  begins vlans streams =
+      kept_whole (world_of plan) base (idle_start plan)
+      (met_start vlan_view new_vlans_there vlans)
+      (met_start stream_view new_streams_there streams)

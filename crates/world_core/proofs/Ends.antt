@@ -1,47 +1,22 @@
--- What changes at the two ends of one link, and nowhere else, keeps the duties of all links if it keeps those of this one.
-use Rattle.std.proofs.Common.{◌≡◌, ◌≢◌, ◌⊎◌, inl, inr, ℕ, ◌-◌, List, ◌++◌, refl, sym, ap, subst, ◌∙◌, arith}
-use Rattle.std.specs.Prelude.{slice_get, Some, option_map, IsTrue}
-use Rattle.std.specs.Ordering.{nat_cmp}
+-- What changes at the two ends of one link, and nowhere else, keeps the duties of all links in an application if it keeps those
+-- of this one.
+use Rattle.std.proofs.Common.{◌≡◌, ◌≢◌, ◌⊎◌, inl, inr, ℕ, ◌-◌, ◌<◌, refl, sym, ap, subst, ◌∙◌, arith}
+use Rattle.std.specs.Prelude.{Some, option_map, IsTrue}
 use Rattle.srp_base.specs.declared.numbers.EgressPort.{EgressPort}
 use Rattle.tree_topology.specs.Topology.{Topology, HasPort}
 use Rattle.tree_topology.specs.Ports.{peer_of}
 use Rattle.tree_topology.specs.PortLaws.{HasPortLaws}
 use Rattle.tree_topology.specs.Walk.{is_behind}
 use Rattle.mrp_participant.specs.Link.{Link, AreDutiesMet, turned}
-use Rattle.mvrp.specs.Part.{Part}
+use Rattle.mrp_participant.specs.State.{State}
 use Rattle.mvrp.specs.Side.{place_of}
-use Rattle.node_core.specs.declared.types.Wire.{Wire}
-use Rattle.node_core.specs.State.{NodeState, box_at}
+use Rattle.node_core.specs.Proper.{IsProperNode}
+use Rattle.node_core.specs.State.{NodeState, box_at, ports_of}
 use Rattle.world_core.specs.World.{WorldState, node_at, with_changed, inbox, outbox}
-use Rattle.world_core.specs.Duty.{messages_of, vlan_part, AreVlanDutiesMet}
+use Rattle.world_core.specs.Duty.{part_at}
 use Rattle.world_core.proofs.Lists.{decide_port, same_numbers}
+use Rattle.world_core.proofs.Views.{AppView, AreMet, KeepsLink, boxed, boxed_same}
 use Rattle.world_core.proofs.Nodes.{Base, SameAt, SameAtPort, same_port, node_same, same_tree, node_there, part_there, part_is, inbox_is, outbox_is}
-
--- a link with these participants, and the boxes at its far end and at its near end
-abbrev pub boxed : Part → Part → List Wire → List Wire → List Wire → List Wire → Link ℕ (Unit {0})
-boxed near far far_in near_out near_in far_out =
-    record { near = near; far = far; sent = messages_of (far_in ++ near_out); coming = messages_of (near_in ++ far_out) }
-
--- the link of a port of a tree in a network
-abbrev pub link_on : Topology → WorldState → EgressPort → Part → Part → Link ℕ (Unit {0})
-link_on tree w p near far =
-    boxed near far (inbox (peer_of tree.links p) w) (outbox p w)
-    (inbox (peer_of tree.links (peer_of tree.links p)) w) (outbox (peer_of tree.links p) w)
-
--- the duties of a port's link
-abbrev pub MetAt : Topology → WorldState → EgressPort → Type 0
-MetAt tree w p =
-    (near far : Part) → vlan_part p w ≡ Some near → vlan_part (peer_of tree.links p) w ≡ Some far → AreDutiesMet nat_cmp (link_on tree w p near far)
-
-abbrev pub MetOn : Topology → WorldState → Type 0
-MetOn tree w = (p : EgressPort) → HasPort tree p → MetAt tree w p
-
--- the other end of a link keeps the same
-abbrev pub Turns : Type 0
-Turns = (l : Link ℕ (Unit {0})) → AreDutiesMet nat_cmp l → AreDutiesMet nat_cmp (turned l)
-
-pub boxed_same : (near far : Part) (a a' b b' c c' d d' : List Wire) → a ≡ a' → b ≡ b' → c ≡ c' → d ≡ d' → boxed near far a b c d ≡ boxed near far a' b' c' d'
-boxed_same near far a a' b b' c c' d d' ea eb ec ed = rw (ea, eb, ec, ed) refl
 
 module _ (tree : Topology) (laws : HasPortLaws tree) where
   -- a port's peer is at another node
@@ -50,69 +25,6 @@ module _ (tree : Topology) (laws : HasPortLaws tree) where
 
   pub other_end : (p : EgressPort) → HasPort tree p → peer_of tree.links p ≢ p
   other_end p has e = other_node p has (ap (λ (r : EgressPort). r.node.0) e)
-
-  module _ (turns : Turns) (w v : WorldState) (e : EgressPort) (has : HasPort tree e)
-      (same : (p : EgressPort) → HasPort tree p → p ≢ e → p ≢ peer_of tree.links e → SameAtPort p w v)
-      (met : MetOn tree w)
-      (here : (near far : Part) → vlan_part e v ≡ Some near → vlan_part (peer_of tree.links e) v ≡ Some far
-      → AreDutiesMet nat_cmp (boxed near far (inbox (peer_of tree.links e) v) (outbox e v) (inbox e v) (outbox (peer_of tree.links e) v))) where
-    at_end : MetAt tree v e
-    at_end near far a b =
-        subst (AreDutiesMet nat_cmp)
-        (ap (λ (r : EgressPort). boxed near far (inbox (peer_of tree.links e) v) (outbox e v) (inbox r v) (outbox (peer_of tree.links e) v)) (sym (laws.peer_twice e has)))
-        (here near far a b)
-
-    at_peer : MetAt tree v (peer_of tree.links e)
-    at_peer near far a b =
-        let back : vlan_part e v ≡ Some far = ap (λ (r : EgressPort). vlan_part r v) (sym (laws.peer_twice e has)) ∙ b in
-        subst (AreDutiesMet nat_cmp)
-        (ap (λ (r : EgressPort). boxed near far (inbox (peer_of tree.links (peer_of tree.links e)) v) (outbox (peer_of tree.links e) v) (inbox (peer_of tree.links r) v) (outbox r v)) (sym (laws.peer_twice e has)))
-        (turns (link_on tree v e far near) (at_end far near back a))
-
-    elsewhere : (p : EgressPort) → HasPort tree p → p ≢ e → p ≢ peer_of tree.links e → MetAt tree v p
-    elsewhere p here_too ne nq near far a b =
-        let q = peer_of tree.links p in
-        let back = laws.peer_twice p here_too in
-        let sp = same p here_too ne nq in
-        let sq = same q (laws.peer_port p here_too)
-        (λ i. nq (sym back ∙ ap (peer_of tree.links) i))
-        (λ i. ne (sym back ∙ (ap (peer_of tree.links) i ∙ laws.peer_twice e has))) in
-        subst (AreDutiesMet nat_cmp)
-        (sym (boxed_same near far _ _ _ _ _ _ _ _ sq.inbox sp.outbox
-        (ap (λ (r : EgressPort). inbox r v) back ∙ (sp.inbox ∙ ap (λ (r : EgressPort). inbox r w) (sym back))) sq.outbox))
-        (met p here_too near far (sym sp.part ∙ a) (sym sq.part ∙ b))
-
-    pub one_link : MetOn tree v
-    one_link p has_p = by (decide_port p e) (decide_port p (peer_of tree.links e))
-      where
-        by : (p ≡ e) ⊎ (p ≢ e) → (p ≡ peer_of tree.links e) ⊎ (p ≢ peer_of tree.links e) → MetAt tree v p
-        by (inl i) other = subst (MetAt tree v) (sym i) at_end
-        by (inr ne) (inl i) = subst (MetAt tree v) (sym i) at_peer
-        by (inr ne) (inr nq) = elsewhere p has_p ne nq
-
--- the duties in a network over the same tree
-pub on_tree : (w v : WorldState) → v.tree ≡ w.tree → MetOn w.tree v → AreVlanDutiesMet v
-on_tree w v e met = subst (λ (t : Topology). MetOn t v) (sym e) met
-
--- where nothing changes at any port
-pub nowhere : (w v : WorldState) → HasPortLaws w.tree → v.tree ≡ w.tree → ((p : EgressPort) → HasPort w.tree p → SameAtPort p w v) → AreVlanDutiesMet w → AreVlanDutiesMet v
-nowhere w v laws e same met = on_tree w v e (λ p has near far a b.
-    let q = peer_of w.tree.links p in
-    let back = laws.peer_twice p has in
-    let sp = same p has in
-    let sq = same q (laws.peer_port p has) in
-    let sr = same (peer_of w.tree.links q) (laws.peer_port q (laws.peer_port p has)) in
-    subst (AreDutiesMet nat_cmp) (sym (boxed_same near far _ _ _ _ _ _ _ _ sq.inbox sp.outbox sr.inbox sq.outbox))
-    (met p has near far (sym sp.part ∙ a) (sym sq.part ∙ b)))
-
--- ---- a node changes at the place of one port
-
--- what a change of a node makes of the link of its port at a place keeps its duties
-abbrev pub KeepsLink : ℕ → NodeState → NodeState → Type 0
-KeepsLink at s t =
-    (x y z : Part) (far_in far_out : List Wire) → slice_get s.vlans.parts at ≡ Some x → slice_get t.vlans.parts at ≡ Some y
-    → AreDutiesMet nat_cmp (boxed x z far_in (box_at at s.outboxes) (box_at at s.inboxes) far_out)
-    → AreDutiesMet nat_cmp (boxed y z far_in (box_at at t.outboxes) (box_at at t.inboxes) far_out)
 
 -- ports of one node that differ have other places
 pub other_place : (tree : Topology) (p e : EgressPort) → HasPort tree p → HasPort tree e → e.node.0 - 1 ≡ p.node.0 - 1 → p ≢ e → place_of e.port ≢ place_of p.port
@@ -123,39 +35,115 @@ other_place tree p e hp he same ne is =
     let e2 = he.1 in
     ne (same_numbers p e (omega (arith, same, p1, e1)) (omega (arith, is, p2, e2)))
 
-pub duties_changed : Turns → (w : WorldState) → HasPortLaws w.tree → Base w → AreVlanDutiesMet w → (e : EgressPort) → HasPort w.tree e → (change : NodeState → NodeState)
-    → ((s : NodeState) → node_at e.node w ≡ Some s → (k : ℕ) → place_of e.port ≢ k → SameAt k s (change s))
-    → ((s : NodeState) → node_at e.node w ≡ Some s → KeepsLink (place_of e.port) s (change s))
-    → AreVlanDutiesMet (with_changed e.node change w)
-duties_changed turns w laws base met e has change others keeps =
-    on_tree w (with_changed e.node change w) (same_tree e.node change w) (one_link w.tree laws turns w (with_changed e.node change w) e has same met here)
-  where
-    same : (p : EgressPort) → HasPort w.tree p → p ≢ e → p ≢ peer_of w.tree.links e → SameAtPort p w (with_changed e.node change w)
-    same p hp ne nq = same_port e.node change w p (λ s is nodes. others s is (place_of p.port) (other_place w.tree p e hp has nodes ne))
+module _ {K C : Type 0} (v : AppView K C) where
+  -- the link of a port of a tree in a network
+  abbrev pub link_on : Topology → WorldState → EgressPort → State K C → State K C → Link K C
+  link_on tree w p near far =
+      boxed v near far (inbox (peer_of tree.links p) w) (outbox p w)
+      (inbox (peer_of tree.links (peer_of tree.links p)) w) (outbox (peer_of tree.links p) w)
 
-    far_same : SameAtPort (peer_of w.tree.links e) w (with_changed e.node change w)
-    far_same = same_port e.node change w (peer_of w.tree.links e) (λ s is nodes.
-        let some = has.0.0 in
-        let peer = laws.peer_port e has in
-        let first = peer.0.0 in
-        absurd (other_node w.tree laws e has (omega (arith, nodes, some, first))))
+  -- the duties of a port's link
+  abbrev pub MetAt : Topology → WorldState → EgressPort → Type 0
+  MetAt tree w p =
+      (near far : State K C) → part_at v.part p w ≡ Some near → part_at v.part (peer_of tree.links p) w ≡ Some far
+      → AreDutiesMet v.cmp (link_on tree w p near far)
 
-    here : (near far : Part) → vlan_part e (with_changed e.node change w) ≡ Some near → vlan_part (peer_of w.tree.links e) (with_changed e.node change w) ≡ Some far
-        → AreDutiesMet nat_cmp (boxed near far (inbox (peer_of w.tree.links e) (with_changed e.node change w)) (outbox e (with_changed e.node change w)) (inbox e (with_changed e.node change w)) (outbox (peer_of w.tree.links e) (with_changed e.node change w)))
-    here near far a b =
-        let v = with_changed e.node change w in
-        let q = peer_of w.tree.links e in
-        let there = node_there w base e has in
-        let s = there.0 in
-        let is = there.1 in
-        let new : node_at e.node v ≡ Some (change s) = node_same e.node change w ∙ ap (option_map change) is in
-        let old = part_there w base e has s is in
-        let before : AreDutiesMet nat_cmp (boxed old.0 far (inbox q w) (box_at (place_of e.port) s.outboxes) (box_at (place_of e.port) s.inboxes) (outbox q w))
-        = subst (AreDutiesMet nat_cmp)
-        (boxed_same old.0 far (inbox q w) (inbox q w) (outbox e w) (box_at (place_of e.port) s.outboxes) (inbox (peer_of w.tree.links q) w) (box_at (place_of e.port) s.inboxes) (outbox q w) (outbox q w)
-        refl (outbox_is e w s is) (ap (λ (r : EgressPort). inbox r w) (laws.peer_twice e has) ∙ inbox_is e w s is) refl)
-        (met e has old.0 far (part_is e w s is ∙ old.1) (sym far_same.part ∙ b)) in
-        subst (AreDutiesMet nat_cmp)
-        (boxed_same near far (inbox q w) (inbox q v) (box_at (place_of e.port) (change s).outboxes) (outbox e v) (box_at (place_of e.port) (change s).inboxes) (inbox e v) (outbox q w) (outbox q v)
-        (sym far_same.inbox) (sym (outbox_is e v (change s) new)) (sym (inbox_is e v (change s) new)) (sym far_same.outbox))
-        (keeps s is old.0 near far (inbox q w) (outbox q w) old.1 (sym (part_is e v (change s) new) ∙ a) before)
+  abbrev pub MetOn : Topology → WorldState → Type 0
+  MetOn tree w = (p : EgressPort) → HasPort tree p → MetAt tree w p
+
+  -- the other end of a link keeps the same
+  abbrev pub Turns : Type 0
+  Turns = (l : Link K C) → AreDutiesMet v.cmp l → AreDutiesMet v.cmp (turned l)
+
+  module _ (tree : Topology) (laws : HasPortLaws tree) (turns : Turns) (w u : WorldState) (e : EgressPort) (has : HasPort tree e)
+      (same : (p : EgressPort) → HasPort tree p → p ≢ e → p ≢ peer_of tree.links e → SameAtPort v p w u)
+      (met : MetOn tree w)
+      (here : (near far : State K C) → part_at v.part e u ≡ Some near → part_at v.part (peer_of tree.links e) u ≡ Some far
+      → AreDutiesMet v.cmp (boxed v near far (inbox (peer_of tree.links e) u) (outbox e u) (inbox e u) (outbox (peer_of tree.links e) u))) where
+    at_end : MetAt tree u e
+    at_end near far a b =
+        subst (AreDutiesMet v.cmp)
+        (ap (λ (r : EgressPort). boxed v near far (inbox (peer_of tree.links e) u) (outbox e u) (inbox r u) (outbox (peer_of tree.links e) u)) (sym (laws.peer_twice e has)))
+        (here near far a b)
+
+    at_peer : MetAt tree u (peer_of tree.links e)
+    at_peer near far a b =
+        let back : part_at v.part e u ≡ Some far = ap (λ (r : EgressPort). part_at v.part r u) (sym (laws.peer_twice e has)) ∙ b in
+        subst (AreDutiesMet v.cmp)
+        (ap (λ (r : EgressPort). boxed v near far (inbox (peer_of tree.links (peer_of tree.links e)) u) (outbox (peer_of tree.links e) u) (inbox (peer_of tree.links r) u) (outbox r u)) (sym (laws.peer_twice e has)))
+        (turns (link_on tree u e far near) (at_end far near back a))
+
+    elsewhere : (p : EgressPort) → HasPort tree p → p ≢ e → p ≢ peer_of tree.links e → MetAt tree u p
+    elsewhere p here_too ne nq near far a b =
+        let q = peer_of tree.links p in
+        let back = laws.peer_twice p here_too in
+        let sp = same p here_too ne nq in
+        let sq = same q (laws.peer_port p here_too)
+        (λ i. nq (sym back ∙ ap (peer_of tree.links) i))
+        (λ i. ne (sym back ∙ (ap (peer_of tree.links) i ∙ laws.peer_twice e has))) in
+        subst (AreDutiesMet v.cmp)
+        (sym (boxed_same v near far _ _ _ _ _ _ _ _ sq.inbox sp.outbox
+        (ap (λ (r : EgressPort). inbox r u) back ∙ (sp.inbox ∙ ap (λ (r : EgressPort). inbox r w) (sym back))) sq.outbox))
+        (met p here_too near far (sym sp.part ∙ a) (sym sq.part ∙ b))
+
+    pub one_link : MetOn tree u
+    one_link p has_p = by (decide_port p e) (decide_port p (peer_of tree.links e))
+      where
+        by : (p ≡ e) ⊎ (p ≢ e) → (p ≡ peer_of tree.links e) ⊎ (p ≢ peer_of tree.links e) → MetAt tree u p
+        by (inl i) other = subst (MetAt tree u) (sym i) at_end
+        by (inr ne) (inl i) = subst (MetAt tree u) (sym i) at_peer
+        by (inr ne) (inr nq) = elsewhere p has_p ne nq
+
+  -- the duties in a network over the same tree
+  pub on_tree : (w u : WorldState) → u.tree ≡ w.tree → MetOn w.tree u → AreMet v u
+  on_tree w u e met = subst (λ (t : Topology). MetOn t u) (sym e) met
+
+  -- where nothing changes at any port
+  pub nowhere : (w u : WorldState) → HasPortLaws w.tree → u.tree ≡ w.tree → ((p : EgressPort) → HasPort w.tree p → SameAtPort v p w u) → AreMet v w → AreMet v u
+  nowhere w u laws e same met = on_tree w u e (λ p has near far a b.
+      let q = peer_of w.tree.links p in
+      let sp = same p has in
+      let sq = same q (laws.peer_port p has) in
+      let sr = same (peer_of w.tree.links q) (laws.peer_port q (laws.peer_port p has)) in
+      subst (AreDutiesMet v.cmp) (sym (boxed_same v near far _ _ _ _ _ _ _ _ sq.inbox sp.outbox sr.inbox sq.outbox))
+      (met p has near far (sym sp.part ∙ a) (sym sq.part ∙ b)))
+
+  -- ---- a node changes at the place of one port
+
+  pub duties_changed : Turns → ((at : ℕ) (s : NodeState) → IsProperNode s → at < ports_of s → (x : State K C) × (v.part at s ≡ Some x))
+      → (w : WorldState) → HasPortLaws w.tree → Base w → AreMet v w → (e : EgressPort) → HasPort w.tree e → (change : NodeState → NodeState)
+      → ((s : NodeState) → node_at e.node w ≡ Some s → (k : ℕ) → place_of e.port ≢ k → SameAt v k s (change s))
+      → ((s : NodeState) → node_at e.node w ≡ Some s → KeepsLink v (place_of e.port) s (change s))
+      → AreMet v (with_changed e.node change w)
+  duties_changed turns parts w laws base met e has change others keeps =
+      on_tree w (with_changed e.node change w) (same_tree e.node change w) (one_link w.tree laws turns w (with_changed e.node change w) e has same met here)
+    where
+      same : (p : EgressPort) → HasPort w.tree p → p ≢ e → p ≢ peer_of w.tree.links e → SameAtPort v p w (with_changed e.node change w)
+      same p hp ne nq = same_port v e.node change w p (λ s is nodes. others s is (place_of p.port) (other_place w.tree p e hp has nodes ne))
+
+      far_same : SameAtPort v (peer_of w.tree.links e) w (with_changed e.node change w)
+      far_same = same_port v e.node change w (peer_of w.tree.links e) (λ s is nodes.
+          let some = has.0.0 in
+          let peer = laws.peer_port e has in
+          let first = peer.0.0 in
+          absurd (other_node w.tree laws e has (omega (arith, nodes, some, first))))
+
+      here : (near far : State K C) → part_at v.part e (with_changed e.node change w) ≡ Some near → part_at v.part (peer_of w.tree.links e) (with_changed e.node change w) ≡ Some far
+          → AreDutiesMet v.cmp (boxed v near far (inbox (peer_of w.tree.links e) (with_changed e.node change w)) (outbox e (with_changed e.node change w)) (inbox e (with_changed e.node change w)) (outbox (peer_of w.tree.links e) (with_changed e.node change w)))
+      here near far a b =
+          let u = with_changed e.node change w in
+          let q = peer_of w.tree.links e in
+          let there = node_there w base e has in
+          let s = there.0 in
+          let is = there.1 in
+          let new : node_at e.node u ≡ Some (change s) = node_same e.node change w ∙ ap (option_map change) is in
+          let old = part_there v parts w base e has s is in
+          let before : AreDutiesMet v.cmp (boxed v old.0 far (inbox q w) (box_at (place_of e.port) s.outboxes) (box_at (place_of e.port) s.inboxes) (outbox q w))
+          = subst (AreDutiesMet v.cmp)
+          (boxed_same v old.0 far (inbox q w) (inbox q w) (outbox e w) (box_at (place_of e.port) s.outboxes) (inbox (peer_of w.tree.links q) w) (box_at (place_of e.port) s.inboxes) (outbox q w) (outbox q w)
+          refl (outbox_is e w s is) (ap (λ (r : EgressPort). inbox r w) (laws.peer_twice e has) ∙ inbox_is e w s is) refl)
+          (met e has old.0 far (part_is v e w s is ∙ old.1) (sym far_same.part ∙ b)) in
+          subst (AreDutiesMet v.cmp)
+          (boxed_same v near far (inbox q w) (inbox q u) (box_at (place_of e.port) (change s).outboxes) (outbox e u) (box_at (place_of e.port) (change s).inboxes) (inbox e u) (outbox q w) (outbox q u)
+          (sym far_same.inbox) (sym (outbox_is e u (change s) new)) (sym (inbox_is e u (change s) new)) (sym far_same.outbox))
+          (keeps s is old.0 near far (inbox q w) (outbox q w) old.1 (sym (part_is v e u (change s) new) ∙ a) before)

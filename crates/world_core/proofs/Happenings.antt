@@ -1,6 +1,6 @@
 -- One of a list of nodes becomes another: the list then, and where ports stand in it.
-use Rattle.std.proofs.Common.{◌≡◌, ℕ, zero, suc, ◌-◌, ◌∷◌, Bool, true, false, List, [], length, refl, sym, ap, subst, ◌∙◌, arith}
-use Rattle.std.specs.Prelude.{◌<◌, ◌≤◌, nat_lt, slice_get, slice_set, Option, Some, None, option_map, Result, Ok, Err, OnOk, OnErr, if◌then◌else◌}
+use Rattle.std.proofs.Common.{◌≡◌, ℕ, zero, suc, ◌-◌, ◌∷◌, ◌++◌, Bool, false, List, [], length, map, take, drop, length-append, refl, sym, ap, subst, ◌∙◌, arith}
+use Rattle.std.specs.Prelude.{◌<◌, ◌≤◌, slice_get, slice_set, Option, Some, None, option_map, Result, Ok, Err, OnOk, if◌then◌else◌}
 use Rattle.std.proofs.lemmas.Option.{slice_get_within, slice_get_read}
 use Rattle.std.proofs.lemmas.Bool.{lt-ltb}
 use Rattle.std.specs.Option.{option_map_or}
@@ -16,8 +16,9 @@ use Rattle.mvrp.specs.Side.{IsLinkPort, place_of, replaced, with_part}
 use Rattle.node_core.specs.declared.types.Wire.{Wire}
 use Rattle.node_core.specs.State.{NodeState, box_at, ports_of}
 use Rattle.node_core.proofs.Boxes.{set_set, set_same}
-use Rattle.node_core.specs.Links.{with_outbox, with_carried, has_index, lost_at, repeated_at, spoilt_at}
-use Rattle.world_core.specs.World.{WorldState, StandsAt, changed, with_changed, inbox, outbox, app_of, spoilt, carried}
+use Rattle.node_core.specs.Links.{with_outbox, with_carried, has_index, lost_at, spoilt_at}
+use Rattle.world_core.specs.World.{WorldState, StandsAt, changed, with_changed, outbox, app_of, spoilt, carried}
+use Rattle.world_core.proofs.Boxes.{box_none}
 use Rattle.world_core.proofs.Lists.{set_each, get_set, get_set_same}
 
 -- ---- the node that was read at a port's place
@@ -136,12 +137,6 @@ set_back [] i s is = refl
 set_back (t ∷ nodes) zero s is = let e : t ≡ s = cc in ap (λ x. x ∷ nodes) (sym e)
 set_back (t ∷ nodes) (suc i) s is = ap (λ xs. t ∷ xs) (set_back nodes i s is)
 
--- a box that is emptied is empty
-emptied : (boxes : List (List Wire)) (i : ℕ) → box_at i (slice_set boxes i []) ≡ []
-emptied [] i = refl
-emptied (b ∷ boxes) zero = refl
-emptied (b ∷ boxes) (suc i) = emptied boxes i
-
 -- an outbox that was taken out is put back
 pub put_back_is : (p : EgressPort) (nodes a b : List NodeState) (wires : List Wire)
     → wires ≡ option_map_or (λ s. box_at (place_of p.port) s.outboxes) (slice_get nodes (p.node.0 - 1)) []
@@ -171,10 +166,51 @@ empty_there p nodes a ea s is = by (slice_get nodes (p.node.0 - 1)) refl (ap (λ
     by None is e = absurd (let none : None ≡ Some s = sym is ∙ e in cc)
     by (Some t) is e =
         ap (λ (s : NodeState). box_at (place_of p.port) s.outboxes) (sym (get_set_same nodes (p.node.0 - 1) (with_outbox (place_of p.port) [] t) s e))
-        ∙ emptied t.outboxes (place_of p.port)
+        ∙ box_none t.outboxes (place_of p.port)
 
 -- ---- what holds of a list's becoming another holds where it is so
 
 pub on_ok : {A E P Q : Type 0} (r : Result A E) → (P → Q) → OnOk r P → OnOk r Q
 on_ok (Ok a) f h = f h
 on_ok (Err e) f h = h
+
+-- ---- the clocks of all nodes, the last first
+
+less_left : {X Y : Type 0} (g : X → Y) (sets : List Y) (next : Y) (xs : List X) → sets ++ (next ∷ []) ≡ map g (take (suc (length sets)) xs) → sets ≡ map g (take (length sets) xs)
+less_left g [] next xs e = refl
+less_left g (y ∷ sets) next [] e = cc
+less_left g (y ∷ sets) next (x ∷ xs) e =
+    let here : y ≡ g x = cc in
+    let rest : sets ++ (next ∷ []) ≡ map g (take (suc (length sets)) xs) = cc in
+    ap (λ z. z ∷ sets) here ∙ ap (λ zs. g x ∷ zs) (less_left g sets next xs rest)
+
+one_more_done : {X : Type 0} (f : X → X) (k : ℕ) (xs : List X) (s t : X) → k < length xs
+    → s ≡ get_or (take (suc k) xs ++ map f (drop (suc k) xs)) k s → t ≡ f s
+    → slice_set (take (suc k) xs ++ map f (drop (suc k) xs)) k t ≡ take k xs ++ map f (drop k xs)
+one_more_done f k [] s t lt is made = absurd (omega arith)
+one_more_done f zero (x ∷ xs) s t lt is made = ap (λ y. y ∷ map f xs) (made ∙ ap f is)
+one_more_done f (suc k) (x ∷ xs) s t lt is made = let less : k < length xs = omega (arith, lt) in ap (λ ys. x ∷ ys) (one_more_done f k xs s t less is made)
+
+-- the sets that are left are those of the first nodes, and the clocks of the others have gone on
+pub record AreTicked {X Y : Type 0} (f : X → X) (g : X → Y) (before after : List X) (sets : List Y) : Type 0 where
+  pub few : length sets ≤ length before
+  pub left : sets ≡ map g (take (length sets) before)
+  pub nodes : after ≡ take (length sets) before ++ map f (drop (length sets) before)
+
+pub ticked_more : {X Y : Type 0} (f : X → X) (g : X → Y) (before after : List X) (sets fewer : List Y) (next : Y) (k : ℕ) (s t : X)
+    → AreTicked f g before after sets → sets ≡ fewer ++ (next ∷ []) → k ≡ length fewer → s ≡ get_or after k s → t ≡ f s
+    → AreTicked f g before (slice_set after k t) fewer
+ticked_more {X = X} {Y = Y} f g before after sets fewer next k s t was popped at is made =
+    let count : length sets ≡ suc (length fewer) = omega (arith, ap length popped, length-append fewer (next ∷ [])) in
+    let few = was.few in
+    let below : length fewer < length before = omega (arith, count, few) in
+    let nodes : after ≡ take (suc (length fewer)) before ++ map f (drop (suc (length fewer)) before) = was.nodes ∙ ap (λ (n : ℕ). take n before ++ map f (drop n before)) count in
+    record {
+      few = omega (arith, below);
+      left = less_left g fewer next before (sym popped ∙ (was.left ∙ ap (λ (n : ℕ). map g (take n before)) count));
+      nodes =
+          ap (λ (n : ℕ). slice_set after n t) at
+          ∙ (ap (λ (xs : List X). slice_set xs (length fewer) t) nodes
+          ∙ one_more_done f (length fewer) before s t below
+          (is ∙ (ap (λ (n : ℕ). get_or after n s) at ∙ ap (λ (xs : List X). get_or xs (length fewer) s) nodes)) made);
+    }

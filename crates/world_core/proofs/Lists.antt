@@ -1,7 +1,8 @@
 -- One place of a list is set; and what says something in a list of PDUs.
 use Rattle.std.proofs.Common.{◌≡◌, ◌≢◌, ◌⊎◌, inl, inr, ℕ, zero, suc, ◌<◌, List, [], ◌∷◌, ◌++◌, length, refl, sym, ap, subst, ◌∙◌, arith}
-use Rattle.std.specs.Prelude.{slice_get, slice_set, Option, Some, None, filter_map}
-use Rattle.std.specs.List.{cons_option}
+use Rattle.std.specs.Prelude.{slice_get, slice_set, Option, Some, None, option_map, filter_map, All}
+use Rattle.std.specs.Option.{option_map_or}
+use Rattle.std.specs.List.{cons_option, AllByRecursion}
 use Rattle.srp_base.specs.declared.numbers.EgressPort.{EgressPort}
 use Rattle.mrp_participant.specs.Link.{repeated}
 use Rattle.node_core.specs.declared.types.Wire.{Wire}
@@ -64,6 +65,20 @@ set_each {X = X} P xs at t h hs j p get = by (decide at j)
         subst (λ (k : ℕ). P k p) e (subst (λ (x : X). P at x) is h)
     by (inr ne) = hs j p (sym (get_set_other xs at j t ne) ∙ get)
 
+-- what holds of each by its place, and of each of the list
+pub each_of : {X : Type 0} (Q : X → Type 0) (xs : List X) → ((i : ℕ) (x : X) → slice_get xs i ≡ Some x → Q x) → AllByRecursion Q xs
+each_of Q [] h = tt
+each_of Q (x ∷ xs) h = (h zero x refl, each_of Q xs (λ i y get. h (suc i) y get))
+
+pub all_each : {X : Type 0} (P : X → Type 0) (xs : List X) → All P xs → AllByRecursion P xs
+all_each P [] h = tt
+all_each P (x ∷ xs) h = (h 0 x (omega arith), all_each P xs (λ k d lt. h (suc k) d (omega (arith, lt))))
+
+pub at_each : {X : Type 0} (Q : X → Type 0) (xs : List X) → AllByRecursion Q xs → (i : ℕ) (x : X) → slice_get xs i ≡ Some x → Q x
+at_each Q [] hs i x get = cc
+at_each Q (y ∷ xs) hs zero x get = let same : y ≡ x = cc in subst Q same hs.0
+at_each Q (y ∷ xs) hs (suc i) x get = at_each Q xs hs.1 i x get
+
 -- there is an element at each place below the length
 pub within : {X : Type 0} (xs : List X) (i : ℕ) → i < length xs → (x : X) × (slice_get xs i ≡ Some x)
 within [] i h = absurd (omega arith)
@@ -107,3 +122,22 @@ nothing_lost f i [] ys x at none = cc
 nothing_lost f zero (z ∷ xs) ys x at none =
     let is : z ≡ x = cc in sym (ap (λ o. cons_option o (filter_map f (xs ++ ys))) (ap f is ∙ none))
 nothing_lost f (suc i) (z ∷ xs) ys x at none = ap (cons_option (f z)) (nothing_lost f i xs ys x at none)
+
+-- ---- an element at a place becomes another, where there is one
+
+abbrev pub set_at : {X : Type 0} → ℕ → (X → X) → List X → List X
+set_at at f xs = option_map_or (λ x. slice_set xs at (f x)) (slice_get xs at) xs
+
+pub set_at_there : {X : Type 0} (at : ℕ) (f : X → X) (xs : List X) → slice_get (set_at at f xs) at ≡ option_map f (slice_get xs at)
+set_at_there {X = X} at f xs = by (slice_get xs at) refl
+  where
+    by : (o : Option X) → slice_get xs at ≡ o → slice_get (option_map_or (λ x. slice_set xs at (f x)) o xs) at ≡ option_map f o
+    by None is = is
+    by (Some x) is = get_set xs at x (f x) is
+
+pub set_at_other : {X : Type 0} (at k : ℕ) (f : X → X) (xs : List X) → at ≢ k → slice_get (set_at at f xs) k ≡ slice_get xs k
+set_at_other {X = X} at k f xs ne = by (slice_get xs at)
+  where
+    by : (o : Option X) → slice_get (option_map_or (λ x. slice_set xs at (f x)) o xs) k ≡ slice_get xs k
+    by None = refl
+    by (Some x) = get_set_other xs at k (f x) ne

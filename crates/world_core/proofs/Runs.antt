@@ -1,10 +1,10 @@
 -- Each event of a legal run may happen in its turn.
 use Rattle.std.proofs.Common.{◌≡◌, ◌⊎◌, inl, inr, ℕ, zero, suc, ◌+◌, ◌-◌, ◌<◌, ◌≤◌, ◌^◌, Bool, true, false, ◌&&◌, ◌||◌, List, [], ◌∷◌, ◌++◌, length, map, take, get_or, refl, sym, ap, subst, ◌∙◌, arith}
-use Rattle.std.specs.Prelude.{slice_get, slice_set, Option, Some, None, IfSome, All, ◌==◌}
-use Rattle.std.specs.Option.{option_map_or}
+use Rattle.std.specs.Prelude.{slice_get, Option, Some, None, option_map, IfSome, ◌==◌}
 use Rattle.std.specs.List.{AllByRecursion, flat_map, list_any}
 use Rattle.std.proofs.lemmas.Bool.Decides.{nat_tests}
 use Rattle.std.proofs.lemmas.Option.{slice_get_within}
+use Rattle.srp_base.specs.declared.numbers.Cs.{Cs}
 use Rattle.srp_base.specs.declared.numbers.NodeNo.{NodeNo}
 use Rattle.srp_base.specs.declared.numbers.PortNo.{PortNo}
 use Rattle.srp_base.specs.declared.numbers.EgressPort.{EgressPort}
@@ -19,101 +19,96 @@ use Rattle.tree_topology.specs.Ports.{port_to, peer_of}
 use Rattle.tree_topology.specs.PortLaws.{HasPortLaws}
 use Rattle.topology_file.specs.declared.entries.NodeEntry.{NodeEntry}
 use Rattle.topology_file.specs.declared.entries.LinkEntry.{LinkEntry}
+use Rattle.topology_file.specs.declared.entries.StreamEntry.{StreamEntry}
 use Rattle.topology_file.specs.declared.entries.EventEntry.{EventEntry}
 use Rattle.topology_file.specs.declared.entries.EventKind.{EventKind}
 use Rattle.topology_file.specs.declared.entries.EventKind.TheVariants as kinds
 use Rattle.topology_file.specs.Entries.{is_station, joins_both}
 use Rattle.topology_file.specs.Plan.{Plan}
-use Rattle.topology_file.specs.Scenario.{KeepsRules, node_kinds, tree_links}
-use Rattle.topology_file.specs.Kinds.{IsKnownKind}
+use Rattle.topology_file.specs.Scenario.{KeepsRules, HasStreamForm, node_kinds, tree_links}
+use Rattle.topology_file.specs.Kinds.{IsKnownKind, IsStationNumber, IsStreamNumber}
 use Rattle.mvrp.specs.Side.{place_of}
+use Rattle.msrp_codec.specs.FirstValue.{IsTalker}
 use Rattle.node_core.specs.declared.types.AppRequest.{AppRequest}
+use Rattle.node_core.specs.declared.types.AppRequest.TheVariants.{Talk, Hush, Listen, Unlisten}
+use Rattle.node_core.specs.declared.types.NodeEvent.{NodeEvent}
 use Rattle.node_core.specs.declared.types.NodeEvent.TheVariants as node_events
 use Rattle.node_core.specs.declared.types.NodeStep.{NodeStep}
 use Rattle.node_core.specs.declared.types.PortStep.{PortStep}
 use Rattle.node_core.specs.State.{NodeState}
 use Rattle.node_core.specs.Step.{node_step}
 use Rattle.node_core.specs.Links.{with_outbox, with_carried, lost_at, repeated_at, spoilt_at}
-use Rattle.node_core.specs.Proper.{AsksVids}
 use Rattle.world_core.specs.declared.events.WorldEvent.{WorldEvent}
 use Rattle.world_core.specs.declared.events.WorldEvent.TheVariants.{Request, Port, Lose, Repeat, Carry, Clock}
 use Rattle.world_core.specs.declared.journal.NodeSteps.{NodeSteps}
 use Rattle.world_core.specs.declared.journal.Tick.{Tick}
-use Rattle.world_core.specs.World.{WorldState, node_at, with_changed, outbox, app_of, spoilt, lost, repeated, carried, world_step, world_after, CanHappen, CanAllHappen, NamesVids}
+use Rattle.world_core.specs.World.{WorldState, with_changed, stepped, outbox, app_of, spoilt, lost, repeated, world_step, world_after, CanHappen, CanAllHappen, IsEventInRange}
 use Rattle.world_core.specs.Start.{world_of}
-use Rattle.world_core.specs.Ticks.{event_of, with_event, scripted_from, scripted, step_events, link_ports, tick_events, IsLegalTick, LeadTo}
+use Rattle.world_core.specs.Ticks.{talker_of_entry, stream_at, event_of, with_event, scripted_from, scripted, step_events, link_ports, tick_events, IsLegalTick, LeadTo}
 use Rattle.world_core.specs.During.{IsDuring, IsAllowed, NamesNeighbours}
-use Rattle.world_core.specs.Moments.{events_from}
+use Rattle.world_core.specs.Moments.{IsMoment, events_from}
 use Rattle.world_core.specs.Kept.{IsKeptWorld}
-use Rattle.world_core.proofs.Lists.{one_some, set_each, within}
-use Rattle.world_core.proofs.EventSteps.{stepped_is, ticked_get}
+use Rattle.world_core.proofs.Lists.{one_some, all_each, at_each, within}
+use Rattle.world_core.proofs.Nodes.{same_tree, stepped_is, ticked_get}
+use Rattle.world_core.proofs.EachNode.{AllNodes, IsOfSides, KeepsOwn, all_keep}
 
--- ---- what stays at each event but the clock's: the tree, and every clock
+-- ---- the tree stays, and every clock at each event but the clock's
 
-pub record IsSteady (w v : WorldState) : Type 0 where
-  pub tree : v.tree ≡ w.tree
-  pub clock : (c : ℕ) → ((x : ℕ) (s : NodeState) → slice_get w.nodes x ≡ Some s → s.clock.0 ≡ c) → (x : ℕ) (s : NodeState) → slice_get v.nodes x ≡ Some s → s.clock.0 ≡ c
+tree_stepped : (n : NodeNo) (event : NodeEvent) (w : WorldState) → (stepped n event w).0.tree ≡ w.tree
+tree_stepped n event w = ap (λ (v : WorldState). v.tree) (sym (stepped_is n event w)) ∙ same_tree n (λ s. (node_step event s).0) w
 
-steady_same : (w : WorldState) → IsSteady w w
-steady_same w = record { tree = refl; clock = λ c h. h }
+tree_spoilt : (app : App) (p : EgressPort) (w : WorldState) → (spoilt app p w).tree ≡ w.tree
+tree_spoilt app p w =
+    let q = peer_of w.tree.links p in
+    same_tree q.node (spoilt_at app (place_of q.port)) (with_changed p.node (spoilt_at app (place_of p.port)) w) ∙ same_tree p.node (spoilt_at app (place_of p.port)) w
 
-steady_then : (u v w : WorldState) → IsSteady u v → IsSteady v w → IsSteady u w
-steady_then u v w a b = record { tree = b.tree ∙ a.tree; clock = λ c h. b.clock c (a.clock c h) }
+tree_lost : (p : EgressPort) (index : ℕ) (o : Option App) (w : WorldState) → (lost p index o w).0.tree ≡ w.tree
+tree_lost p index None w = refl
+tree_lost p index (Some app) w =
+    tree_spoilt app p (with_changed p.node (lost_at (place_of p.port) index) w) ∙ same_tree p.node (lost_at (place_of p.port) index) w
 
-steady_changed : (n : NodeNo) (change : NodeState → NodeState) (w : WorldState) → ((s : NodeState) → (change s).clock ≡ s.clock) → IsSteady w (with_changed n change w)
-steady_changed n change w same = by (node_at n w) refl
-  where
-    by : (o : Option NodeState) → node_at n w ≡ o → IsSteady w (option_map_or (λ s. record w { nodes = slice_set w.nodes (n.0 - 1) (change s) }) o w)
-    by None is = record { tree = refl; clock = λ c h. h }
-    by (Some s) is =
-        record {
-          tree = refl;
-          clock = λ c h. set_each (λ x t. t.clock.0 ≡ c) w.nodes (n.0 - 1) (change s) (ap (λ (k : Rattle.srp_base.specs.declared.numbers.Cs.Cs). k.0) (same s) ∙ h (n.0 - 1) s is) h;
-        }
+tree_repeated : (p : EgressPort) (index : ℕ) (o : Option App) (w : WorldState) → (repeated p index o w).0.tree ≡ w.tree
+tree_repeated p index None w = refl
+tree_repeated p index (Some app) w = same_tree p.node (repeated_at (place_of p.port) index) w
+
+pub tree_stays : (e : WorldEvent) (w : WorldState) → (world_step e w).0.tree ≡ w.tree
+tree_stays (Request n request) w = tree_stepped n (node_events.Request request) w
+tree_stays (Port n port step) w = tree_stepped n (node_events.Port port step) w
+tree_stays (Lose p index) w = tree_lost p index (app_of p index w) w
+tree_stays (Repeat p index) w = tree_repeated p index (app_of p index w) w
+tree_stays (Carry p) w =
+    let q = peer_of w.tree.links p in
+    same_tree q.node (with_carried (place_of q.port) (outbox p w)) (with_changed p.node (with_outbox (place_of p.port) []) w) ∙ same_tree p.node (with_outbox (place_of p.port) []) w
+tree_stays Clock w = refl
+
+pub trees_stay : (es : List WorldEvent) (w : WorldState) → (world_after es w).tree ≡ w.tree
+trees_stay [] w = refl
+trees_stay (e ∷ es) w = trees_stay es (world_step e w).0 ∙ tree_stays e w
+
+-- the clock of a node is at c
+abbrev IsAt : ℕ → ℕ → NodeState → Type 0
+IsAt c x s = s.clock.0 ≡ c
 
 spoilt_clock : (app : App) (at : ℕ) (s : NodeState) → (spoilt_at app at s).clock ≡ s.clock
 spoilt_clock Mvrp at s = refl
 spoilt_clock Msrp at s = refl
 
-steady_spoilt : (app : App) (p : EgressPort) (w : WorldState) → IsSteady w (spoilt app p w)
-steady_spoilt app p w =
-    let q = peer_of w.tree.links p in
-    let v = with_changed p.node (spoilt_at app (place_of p.port)) w in
-    steady_then w v (with_changed q.node (spoilt_at app (place_of q.port)) v)
-    (steady_changed p.node (spoilt_at app (place_of p.port)) w (spoilt_clock app (place_of p.port)))
-    (steady_changed q.node (spoilt_at app (place_of q.port)) v (spoilt_clock app (place_of q.port)))
-
-steady_lost : (p : EgressPort) (index : ℕ) (o : Option App) (w : WorldState) → IsSteady w (lost p index o w).0
-steady_lost p index None w = steady_same w
-steady_lost p index (Some app) w =
-    let v = with_changed p.node (lost_at (place_of p.port) index) w in
-    steady_then w v (spoilt app p v) (steady_changed p.node (lost_at (place_of p.port) index) w (λ s. refl)) (steady_spoilt app p v)
-
-steady_repeated : (p : EgressPort) (index : ℕ) (o : Option App) (w : WorldState) → IsSteady w (repeated p index o w).0
-steady_repeated p index None w = steady_same w
-steady_repeated p index (Some app) w = steady_changed p.node (repeated_at (place_of p.port) index) w (λ s. refl)
-
-steady_carried : (p : EgressPort) (w : WorldState) → IsSteady w (carried p w)
-steady_carried p w =
-    let q = peer_of w.tree.links p in
-    let v = with_changed p.node (with_outbox (place_of p.port) []) w in
-    steady_then w v (with_changed q.node (with_carried (place_of q.port) (outbox p w)) v)
-    (steady_changed p.node (with_outbox (place_of p.port) []) w (λ s. refl))
-    (steady_changed q.node (with_carried (place_of q.port) (outbox p w)) v (λ s. refl))
+clock_sides : (c : ℕ) → IsOfSides (IsAt c)
+clock_sides c = record { boxes = λ x s ins outs h. h; marks = λ app at x s h. ap (λ (k : Cs). k.0) (spoilt_clock app at s) ∙ h }
 
 -- ---- which events a scenario has
 
 -- some events may happen in their turn, and lead to a network during a tick
 pub record LeadOn (tree : Topology) (t : ℕ) (es : List WorldEvent) (w : WorldState) : Type 0 where
   pub can : CanAllHappen es w
-  pub named : AllByRecursion NamesVids es
+  pub named : AllByRecursion IsEventInRange es
   pub after : IsDuring tree t (world_after es w)
 
 can_append : (es fs : List WorldEvent) (w : WorldState) → CanAllHappen es w → CanAllHappen fs (world_after es w) → CanAllHappen (es ++ fs) w
 can_append [] fs w c d = d
 can_append (e ∷ es) fs w c d = (c.0, can_append es fs (world_step e w).0 c.1 d)
 
-each_append : {X : Type 0} (P : X → Type 0) (xs ys : List X) → AllByRecursion P xs → AllByRecursion P ys → AllByRecursion P (xs ++ ys)
+pub each_append : {X : Type 0} (P : X → Type 0) (xs ys : List X) → AllByRecursion P xs → AllByRecursion P ys → AllByRecursion P (xs ++ ys)
 each_append P [] ys h k = k
 each_append P (x ∷ xs) ys h k = (h.0, each_append P xs ys h.1 k)
 
@@ -125,22 +120,18 @@ lead_append : (tree : Topology) (t t' : ℕ) (es fs : List WorldEvent) (w : Worl
 lead_append tree t t' es fs w a b =
     record {
       can = can_append es fs w a.can b.can;
-      named = each_append NamesVids es fs a.named b.named;
+      named = each_append IsEventInRange es fs a.named b.named;
       after = subst (IsDuring tree t') (after_append es fs w) b.after;
     }
 
 -- the laws that this rests on, as the public laws say them
 pub record RunLaws : Type 0 where
-  pub keeps : (e : WorldEvent) (w : WorldState) → CanHappen e w → NamesVids e → IsKeptWorld w → IsKeptWorld (world_step e w).0
+  pub keeps : (e : WorldEvent) (w : WorldState) → CanHappen e w → IsEventInRange e → IsKeptWorld w → IsKeptWorld (world_step e w).0
   pub ports : (tree : Topology) → IsSound tree → HasPortLaws tree
   pub clock : (port : PortNo) (step : PortStep) (s : NodeState) → (node_step (node_events.Port port step) s).0.clock ≡ s.clock
   pub asked : (request : AppRequest) (s : NodeState) → (node_step (node_events.Request request) s).0.clock ≡ s.clock
 
 -- ---- the scenario's events
-
-pub all_each : {X : Type 0} (P : X → Type 0) (xs : List X) → All P xs → AllByRecursion P xs
-all_each P [] h = tt
-all_each P (x ∷ xs) h = (h 0 x (omega arith), all_each P xs (λ k d lt. h (suc k) d (omega (arith, lt))))
 
 a_station : (k : NodeKind) → is_station k ≡ true → k ≡ Station
 a_station Station h = refl
@@ -159,7 +150,7 @@ and_true : (a b : Bool) → (a && b) ≡ true → (a ≡ true) × (b ≡ true)
 and_true true b h = (refl, h)
 and_true false b h = cc
 
-same_number : (x y : ℕ) → (x == y) ≡ true → x ≡ y
+pub same_number : (x y : ℕ) → (x == y) ≡ true → x ≡ y
 same_number x y h = grind (arith, nat_tests, h)
 
 -- a link that joins two nodes joins them the other way round
@@ -179,37 +170,19 @@ some_joins (l ∷ ls) x y h = by (or_true (joins_both x y l) (list_any (joins_bo
     by (inr e) later = inr (later e)
 
 module _ (laws : RunLaws) where
-  -- the tree stays in any case, the clocks at each event but the clock's
-  steady_but : (e : WorldEvent) (w : WorldState) → (e ≡ Clock) ⊎ IsSteady w (world_step e w).0
-  steady_but (Request n request) w = inr (subst (IsSteady w) (stepped_is n (node_events.Request request) w) (steady_changed n (λ s. (node_step (node_events.Request request) s).0) w (laws.asked request)))
-  steady_but (Port n port step) w = inr (subst (IsSteady w) (stepped_is n (node_events.Port port step) w) (steady_changed n (λ s. (node_step (node_events.Port port step) s).0) w (laws.clock port step)))
-  steady_but (Lose p index) w = inr (steady_lost p index (app_of p index w) w)
-  steady_but (Repeat p index) w = inr (steady_repeated p index (app_of p index w) w)
-  steady_but (Carry p) w = inr (steady_carried p w)
-  steady_but Clock w = inl refl
-
-  steady : (tree : Topology) (e : WorldEvent) (w : WorldState) → IsAllowed tree e → IsSteady w (world_step e w).0
-  steady tree e w ok = by (steady_but e w)
-    where
-      by : (e ≡ Clock) ⊎ IsSteady w (world_step e w).0 → IsSteady w (world_step e w).0
-      by (inl is) = absurd (subst (IsAllowed tree) is ok)
-      by (inr still) = still
-
-  pub tree_stays : (e : WorldEvent) (w : WorldState) → (world_step e w).0.tree ≡ w.tree
-  tree_stays e w = by (steady_but e w)
-    where
-      by : (e ≡ Clock) ⊎ IsSteady w (world_step e w).0 → (world_step e w).0.tree ≡ w.tree
-      by (inl is) = subst (λ (x : WorldEvent). (world_step x w).0.tree ≡ w.tree) (sym is) refl
-      by (inr still) = still.tree
-
-  pub trees_stay : (es : List WorldEvent) (w : WorldState) → (world_after es w).tree ≡ w.tree
-  trees_stay [] w = refl
-  trees_stay (e ∷ es) w = trees_stay es (world_step e w).0 ∙ tree_stays e w
+  -- each event but the clock's leaves the clocks
+  clock_own : (tree : Topology) (c : ℕ) (e : WorldEvent) (w : WorldState) → IsAllowed tree e → KeepsOwn (IsAt c) e w
+  clock_own tree c (Request n request) w ok = λ s is h. ap (λ (k : Cs). k.0) (laws.asked request s) ∙ h
+  clock_own tree c (Port n port step) w ok = λ s is h. ap (λ (k : Cs). k.0) (laws.clock port step s) ∙ h
+  clock_own tree c (Lose p index) w ok = tt
+  clock_own tree c (Repeat p index) w ok = tt
+  clock_own tree c (Carry p) w ok = tt
+  clock_own tree c Clock w ok = absurd ok
 
   on_tree : (tree : Topology) (w : WorldState) (p : EgressPort) → w.tree ≡ tree → HasPort tree p → HasPort w.tree p
   on_tree tree w p is has = subst (λ (t : Topology). HasPort t p) (sym is) has
 
-  pub allowed_can : (tree : Topology) (t : ℕ) (e : WorldEvent) (w : WorldState) → IsAllowed tree e → IsDuring tree t w → CanHappen e w × NamesVids e
+  pub allowed_can : (tree : Topology) (t : ℕ) (e : WorldEvent) (w : WorldState) → IsAllowed tree e → IsDuring tree t w → CanHappen e w × IsEventInRange e
   allowed_can tree t (Request n request) w ok run =
       let kinds = ap (λ (r : Topology). slice_get r.kinds (n.0 - 1)) run.tree_is ∙ ok.1 in
       let inside = slice_get_within w.tree.kinds (n.0 - 1) Station kinds in
@@ -226,8 +199,7 @@ module _ (laws : RunLaws) where
   pub one_leads : (tree : Topology) (t : ℕ) (e : WorldEvent) (w : WorldState) → IsAllowed tree e → IsDuring tree t w → IsDuring tree t (world_step e w).0
   one_leads tree t e w ok run =
       let can = allowed_can tree t e w ok run in
-      let still = steady tree e w ok in
-      record { kept = laws.keeps e w can.0 can.1 run.kept; tree_is = still.tree ∙ run.tree_is; clock = still.clock t run.clock }
+      record { kept = laws.keeps e w can.0 can.1 run.kept; tree_is = tree_stays e w ∙ run.tree_is; clock = all_keep (IsAt t) (clock_sides t) e w (clock_own tree t e w ok) run.clock }
 
   pub all_lead : (tree : Topology) (t : ℕ) (es : List WorldEvent) (w : WorldState) → AllByRecursion (IsAllowed tree) es → IsDuring tree t w → LeadOn tree t es w
   all_lead tree t [] w ok run = record { can = tt; named = tt; after = run }
@@ -270,13 +242,51 @@ module _ (laws : RunLaws) where
         let last = node.1 in
         ap (λ (r : Topology). slice_get r.kinds (x - 1)) rules.tree ∙ station_kind plan.nodes (x - 1) (omega (arith, first, last)) station
 
-    pub known_allowed : (kind : EventKind) → IsKnownKind plan.nodes plan.links plan.streams kind → IfSome (event_of plan.tree.links kind) (IsAllowed plan.tree)
+    -- the entry of a known stream's number
+    stream_there : (n : ℕ) → IsStreamNumber plan.streams n → (e : StreamEntry) × (stream_at plan.streams n ≡ Some e)
+    stream_there n known = within plan.streams (n - 1) (omega (arith, known.0, known.1))
+
+    -- its talker is a station, and what it states fits
+    talker_station : (n : ℕ) (e : StreamEntry) → stream_at plan.streams n ≡ Some e → (1 ≤ e.talker.0) × (slice_get plan.tree.kinds (e.talker.0 - 1) ≡ Some Station)
+    talker_station n e is =
+        let station = at_each (λ (s : StreamEntry). IsStationNumber plan.nodes s.talker.0) plan.streams (all_each _ plan.streams rules.talkers) (n - 1) e is in
+        (station.0.0, kind_at e.talker.0 station.0 station.1)
+
+    talker_fits : (n : ℕ) (e : StreamEntry) → stream_at plan.streams n ≡ Some e → IsTalker (talker_of_entry e)
+    talker_fits n e is =
+        let form = at_each HasStreamForm plan.streams (all_each _ plan.streams rules.stream_forms) (n - 1) e is in
+        let vid = form.vid.1 in
+        let octets = form.octets in
+        let frames = form.frames in
+        record {
+          stream = form.id;
+          dest = form.dest;
+          vid = omega (arith, vid);
+          max_frame = omega (arith, octets);
+          frames = omega (arith, frames);
+          priority = form.priority;
+          latency = omega arith;
+        }
+
+    -- what is asked of a known stream may be, where that of its entry may
+    asked_allowed : (asked : StreamEntry → WorldEvent) (n : ℕ) → IsStreamNumber plan.streams n
+        → ((e : StreamEntry) → stream_at plan.streams n ≡ Some e → IsAllowed plan.tree (asked e)) → IfSome (option_map asked (stream_at plan.streams n)) (IsAllowed plan.tree)
+    asked_allowed asked n known each =
+        let there = stream_there n known in
+        let F : Option StreamEntry → Type 0 = λ o. IfSome (option_map asked o) (IsAllowed plan.tree) in
+        subst F (sym there.1) (each there.0 there.1)
+
+    pub known_allowed : (kind : EventKind) → IsKnownKind plan.nodes plan.links plan.streams kind → IfSome (event_of plan.tree.links plan.streams kind) (IsAllowed plan.tree)
     known_allowed (kinds.Declare station vid) known = (known.0.0.0, kind_at station.0 known.0.0 known.0.1, (known.1, known.2))
     known_allowed (kinds.Withdraw station vid) known = (known.0.0.0, kind_at station.0 known.0.0 known.0.1, (known.1, known.2))
-    known_allowed (kinds.Talk stream) known = tt
-    known_allowed (kinds.Hush stream) known = tt
-    known_allowed (kinds.Listen station stream) known = tt
-    known_allowed (kinds.Unlisten station stream) known = tt
+    known_allowed (kinds.Talk stream) known =
+        asked_allowed (λ e. Request e.talker (Talk (talker_of_entry e))) stream known (λ e is. let at = talker_station stream e is in (at.0, at.1, talker_fits stream e is))
+    known_allowed (kinds.Hush stream) known =
+        asked_allowed (λ e. Request e.talker (Hush e.id)) stream known (λ e is. let at = talker_station stream e is in (at.0, at.1, tt))
+    known_allowed (kinds.Listen station stream) known =
+        asked_allowed (λ e. Request station (Listen e.id)) stream known.1 (λ e is. (known.0.0.0, kind_at station.0 known.0.0 known.0.1, tt))
+    known_allowed (kinds.Unlisten station stream) known =
+        asked_allowed (λ e. Request station (Unlisten e.id)) stream known.1 (λ e is. (known.0.0.0, kind_at station.0 known.0.0 known.0.1, tt))
     known_allowed (kinds.Lose from to index) known = joined_port from.0 to.0 known.0.2
     known_allowed (kinds.Repeat from to index) known = joined_port from.0 to.0 known.0.2
 
@@ -296,13 +306,13 @@ module _ (laws : RunLaws) where
     with_allowed n (Some event) later here rest = (here, rest)
 
     pub scripted_allowed : (t n : ℕ) (entries : List EventEntry) → AllByRecursion (λ (e : EventEntry). IsKnownKind plan.nodes plan.links plan.streams e.kind) entries
-        → AllByRecursion (IsAllowed plan.tree) (map (λ (e : ℕ × WorldEvent). e.1) (scripted_from plan.tree.links t n entries))
+        → AllByRecursion (IsAllowed plan.tree) (map (λ (e : ℕ × WorldEvent). e.1) (scripted_from plan.tree.links plan.streams t n entries))
     scripted_allowed t n [] known = tt
     scripted_allowed t n (e ∷ entries) known = by (e.tick == t) (known_allowed e.kind known.0) (scripted_allowed t (n + 1) entries known.1)
       where
-        by : (b : Bool) → IfSome (event_of plan.tree.links e.kind) (IsAllowed plan.tree) → AllByRecursion (IsAllowed plan.tree) (map (λ (e : ℕ × WorldEvent). e.1) (scripted_from plan.tree.links t (n + 1) entries))
-            → AllByRecursion (IsAllowed plan.tree) (map (λ (e : ℕ × WorldEvent). e.1) (Rattle.std.specs.Prelude.if◌then◌else◌ b (with_event n (event_of plan.tree.links e.kind) (scripted_from plan.tree.links t (n + 1) entries)) (scripted_from plan.tree.links t (n + 1) entries)))
-        by true here later = with_allowed n (event_of plan.tree.links e.kind) (scripted_from plan.tree.links t (n + 1) entries) here later
+        by : (b : Bool) → IfSome (event_of plan.tree.links plan.streams e.kind) (IsAllowed plan.tree) → AllByRecursion (IsAllowed plan.tree) (map (λ (e : ℕ × WorldEvent). e.1) (scripted_from plan.tree.links plan.streams t (n + 1) entries))
+            → AllByRecursion (IsAllowed plan.tree) (map (λ (e : ℕ × WorldEvent). e.1) (Rattle.std.specs.Prelude.if◌then◌else◌ b (with_event n (event_of plan.tree.links plan.streams e.kind) (scripted_from plan.tree.links plan.streams t (n + 1) entries)) (scripted_from plan.tree.links plan.streams t (n + 1) entries)))
+        by true here later = with_allowed n (event_of plan.tree.links plan.streams e.kind) (scripted_from plan.tree.links plan.streams t (n + 1) entries) here later
         by false here later = later
 
     made_allowed : (n : NodeNo) (made : List NodeStep) → AllByRecursion (λ (st : NodeStep). HasPort plan.tree (record { node = n; port = st.port })) made
@@ -341,18 +351,18 @@ module _ (laws : RunLaws) where
     ticks_count (tick ∷ ticks) t w end h = let later = ticks_count ticks (suc t) (world_after (tick_events plan t tick) w) end h.1 in omega (arith, later)
 
     ticks_lead : (ticks : List Tick) (t : ℕ) (w end : WorldState) → LeadTo (IsLegalTick plan) plan t w ticks plan.ticks end → IsDuring plan.tree t w
-        → CanAllHappen (events_from plan t ticks) w × AllByRecursion NamesVids (events_from plan t ticks)
+        → CanAllHappen (events_from plan t ticks) w × AllByRecursion IsEventInRange (events_from plan t ticks)
     ticks_lead [] t w end h run = (tt, tt)
     ticks_lead (tick ∷ ticks) t w end h run =
         let count = ticks_count (tick ∷ ticks) t w end h in
         let few = rules.ticks.1 in
         let one = tick_leads t w tick (omega (arith, count, few)) h.0 run in
         let later = ticks_lead ticks (suc t) (world_after (tick_events plan t tick) w) end h.1 one.after in
-        (can_append (tick_events plan t tick) (events_from plan (suc t) ticks) w one.can later.0, each_append NamesVids (tick_events plan t tick) (events_from plan (suc t) ticks) one.named later.1)
+        (can_append (tick_events plan t tick) (events_from plan (suc t) ticks) w one.can later.0, each_append IsEventInRange (tick_events plan t tick) (events_from plan (suc t) ticks) one.named later.1)
 
     pub run_leads : (ticks : List Tick) (end : WorldState) → IsKeptWorld (world_of plan) → ((x : ℕ) (s : NodeState) → slice_get (world_of plan).nodes x ≡ Some s → s.clock.0 ≡ 0)
         → LeadTo (IsLegalTick plan) plan 0 (world_of plan) ticks plan.ticks end
-        → CanAllHappen (events_from plan 0 ticks) (world_of plan) × AllByRecursion NamesVids (events_from plan 0 ticks)
+        → CanAllHappen (events_from plan 0 ticks) (world_of plan) × AllByRecursion IsEventInRange (events_from plan 0 ticks)
     run_leads ticks end kept clock h = ticks_lead ticks 0 (world_of plan) end h (record { kept = kept; tree_is = refl; clock = clock })
 
 -- ---- fronts of a list of events
@@ -375,3 +385,21 @@ one_more IsTick plan [] t t' w v tick h here =
     let P : ℕ → WorldState → Type 0 = λ k u. IsTick k u tick × ((suc k ≡ suc t') × (world_after (tick_events plan t' tick) v ≡ world_after (tick_events plan k tick) u)) in
     subst (λ (k : ℕ). P k w) (sym h.0) (subst (λ (u : WorldState). P t' u) h.1 (here, (refl, refl)))
 one_more IsTick plan (first ∷ ticks) t t' w v tick h here = (h.0, one_more IsTick plan ticks (suc t) t' (world_after (tick_events plan t first) w) v tick h.1 here)
+
+-- ---- what holds of each node holds at each moment of a run
+
+pub all_along : (P : ℕ → NodeState → Type 0) → IsOfSides P → (R : WorldEvent → Type 0) → ((e : WorldEvent) (w : WorldState) → R e → KeepsOwn P e w)
+    → (es : List WorldEvent) (w : WorldState) → AllByRecursion R es → AllNodes P w → AllNodes P (world_after es w)
+all_along P sides R own [] w ok all = all
+all_along P sides R own (e ∷ es) w ok all = all_along P sides R own es (world_step e w).0 ok.1 (all_keep P sides e w (own e w ok.0) all)
+
+pub at_moment : (P : ℕ → NodeState → Type 0) → IsOfSides P → (R : WorldEvent → Type 0) → ((e : WorldEvent) (w : WorldState) → R e → KeepsOwn P e w)
+    → (plan : Plan) (ticks : List Tick) (w : WorldState) → AllByRecursion R (events_from plan 0 ticks) → AllNodes P (world_of plan) → IsMoment plan ticks w → AllNodes P w
+at_moment P sides R own plan ticks w ok start moment =
+    subst (AllNodes P) (sym moment.reached)
+    (all_along P sides R own (take moment.count (events_from plan 0 ticks)) (world_of plan) (each_take R moment.count (events_from plan 0 ticks) ok) start)
+
+-- no condition on events
+pub each_event : (es : List WorldEvent) → AllByRecursion (λ (e : WorldEvent). Unit {0}) es
+each_event [] = tt
+each_event (e ∷ es) = (tt, each_event es)

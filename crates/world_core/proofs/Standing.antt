@@ -9,7 +9,6 @@ use Rattle.srp_base.specs.declared.numbers.EgressPort.{EgressPort}
 use Rattle.tree_topology.specs.Topology.{Topology, HasPort}
 use Rattle.tree_topology.specs.Ports.{peer_of}
 use Rattle.tree_topology.specs.PortLaws.{HasPortLaws}
-use Rattle.mvrp.specs.Side.{place_of}
 use Rattle.node_core.specs.State.{NodeState}
 use Rattle.node_core.specs.declared.types.AppRequest.{AppRequest}
 use Rattle.world_core.specs.declared.events.WorldEvent.{WorldEvent}
@@ -17,8 +16,8 @@ use Rattle.world_core.specs.declared.events.WorldEvent.TheVariants.{Request, Clo
 use Rattle.world_core.specs.declared.events.WorldReply.{WorldReply}
 use Rattle.world_core.specs.World.{WorldState, Happened, StandsAt, node_at, CanHappen}
 use Rattle.world_core.specs.Kept.{IsKeptWorld}
-use Rattle.world_core.proofs.Nodes.{Base, node_there, part_there}
-use Rattle.world_core.proofs.EventSteps.{base_kept}
+use Rattle.world_core.proofs.Nodes.{node_there, place_within}
+use Rattle.world_core.proofs.Keeping.{base_kept}
 
 -- a port of the tree stands at its node
 pub stands : (w : WorldState) → IsKeptWorld w → (p : EgressPort) → HasPort w.tree p → StandsAt p w.nodes
@@ -32,8 +31,7 @@ stands w kept p has =
       some = has.0.0;
       few = omega (arith, within, some);
       port = λ s is.
-          let part = part_there w base p has s is in
-          let below = slice_get_within s.vlans.parts (place_of p.port) part.0 part.1 in
+          let below = place_within w base p has s is in
           record { some = first; within = omega (arith, first, below) };
     }
 

@@ -7,7 +7,7 @@ use Rattle.tree_topology.specs.Topology.{Topology, HasPort}
 use Rattle.topology_file.specs.declared.entries.EventKind.{EventKind}
 use Rattle.topology_file.specs.declared.entries.EventKind.TheVariants as kinds
 use Rattle.node_core.specs.State.{NodeState}
-use Rattle.node_core.specs.Proper.{AsksVids}
+use Rattle.node_core.specs.Proper.{AsksInRange}
 use Rattle.world_core.specs.declared.events.WorldEvent.{WorldEvent}
 use Rattle.world_core.specs.declared.events.WorldEvent.TheVariants.{Request, Port, Lose, Repeat, Carry, Clock}
 use Rattle.world_core.specs.World.{WorldState}
@@ -20,9 +20,9 @@ pub record IsDuring (tree : Topology) (t : ℕ) (w : WorldState) : Type 0 where
   pub clock : (x : ℕ) (s : NodeState) → slice_get w.nodes x ≡ Some s → s.clock.0 ≡ t
 
 -- an event that a tick over this tree may have, whatever happened before in the tick: its port exists, or it is the request
--- of a VID at a station; the clock's ends the tick
+-- of a VID or of a stream at a station; the clock's ends the tick
 abbrev pub IsAllowed : Topology → WorldEvent → Type 0
-IsAllowed tree (Request n request) = (1 ≤ n.0) × (slice_get tree.kinds (n.0 - 1) ≡ Some Station) × AsksVids request
+IsAllowed tree (Request n request) = (1 ≤ n.0) × (slice_get tree.kinds (n.0 - 1) ≡ Some Station) × AsksInRange request
 IsAllowed tree (Port n port step) = HasPort tree (record { node = n; port = port })
 IsAllowed tree (Lose p index) = HasPort tree p
 IsAllowed tree (Repeat p index) = HasPort tree p

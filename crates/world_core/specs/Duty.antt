@@ -1,6 +1,8 @@
 -- What is on each link, as messages: the octets in flight read as what they say, so that the duty of a link's two ends
--- (mrp_participant) speaks of the network.
-use Rattle.std.specs.Prelude.{◌≡◌, ℕ, List, ◌++◌, filter_map, Option, Some, None, Result, Ok, Err, slice_get}
+-- (mrp_participant) speaks of the network. It is said of any application, by the order of its keys, its participant at a place
+-- of a node, and what a PDU says in it.
+use Rattle.std.specs.Prelude.{◌≡◌, ℕ, List, ◌++◌, filter_map, Option, Some, None, option_map, Result, Ok, Err, slice_get}
+use Rattle.std.specs.declared.cmp.Ordering.{Ordering}
 use Rattle.std.specs.Option.{option_and_then}
 use Rattle.std.specs.Ordering.{nat_cmp}
 use Rattle.srp_base.specs.declared.numbers.EgressPort.{EgressPort}
@@ -10,12 +12,49 @@ use Rattle.tree_topology.specs.Topology.{HasPort}
 use Rattle.tree_topology.specs.Ports.{peer_of}
 use Rattle.mvrp_codec.specs.declared.pdu.MvrpPdu.{MvrpPdu}
 use Rattle.mvrp_codec.specs.Meaning.{mvrp_reading}
-use Rattle.mrp_participant.specs.State.{Messages}
+use Rattle.msrp_codec.specs.declared.pdu.MsrpKey.{MsrpKey}
+use Rattle.msrp_codec.specs.declared.pdu.MsrpContent.{MsrpContent}
+use Rattle.msrp_codec.specs.declared.pdu.MsrpPdu.{MsrpPdu}
+use Rattle.msrp_codec.specs.Meaning.{msrp_reading}
+use Rattle.mrp_participant.specs.State.{State, Messages}
 use Rattle.mrp_participant.specs.Link.{Link, AreDutiesMet}
 use Rattle.mvrp.specs.Part.{Part, messages}
 use Rattle.mvrp.specs.Side.{place_of}
+use Rattle.msrp.specs.Part.{Part as StreamPart, key_cmp}
 use Rattle.node_core.specs.declared.types.Wire.{Wire}
+use Rattle.node_core.specs.State.{NodeState}
 use Rattle.world_core.specs.World.{WorldState, node_at, inbox, outbox}
+
+-- the PDUs in flight from a port: those that came in at its peer, and then those that are to go out
+abbrev pub in_flight : EgressPort → WorldState → List Wire
+in_flight p w = inbox (peer_of w.tree.links p) w ++ outbox p w
+
+-- ---- of any application
+
+-- the participant at a port, by that at a place of a node
+abbrev pub part_at : {S : Type 0} → (ℕ → NodeState → Option S) → EgressPort → WorldState → Option S
+part_at part p w = option_and_then (λ s. part (place_of p.port) s) (node_at p.node w)
+
+-- the link of a port with these participants at its ends
+abbrev pub link_of : {K C : Type 0} → (Wire → Option (Messages K C)) → EgressPort → WorldState
+    → State K C → State K C → Link K C
+link_of said p w near far =
+    record {
+      near = near;
+      far = far;
+      sent = filter_map said (in_flight p w);
+      coming = filter_map said (in_flight (peer_of w.tree.links p) w);
+    }
+
+-- on every link both ends meet their duty in an application
+abbrev pub AreDutiesMetIn : {K C : Type 0} → (K → K → Ordering) → (ℕ → NodeState → Option (State K C))
+    → (Wire → Option (Messages K C)) → WorldState → Type 0
+AreDutiesMetIn {K = K} {C = C} cmp part said w =
+    (p : EgressPort) → HasPort w.tree p → (near far : State K C)
+    → part_at part p w ≡ Some near → part_at part (peer_of w.tree.links p) w ≡ Some far
+    → AreDutiesMet cmp (link_of said p w near far)
+
+-- ---- of MVRP
 
 -- what the octets of a PDU of MVRP say to a participant; malformed octets say nothing
 abbrev pub said_by : Result MvrpPdu ℕ → Option (Messages ℕ (Unit {0}))
@@ -34,27 +73,47 @@ message_of wire = vlans_said wire.app wire.octets
 abbrev pub messages_of : List Wire → List (Messages ℕ (Unit {0}))
 messages_of wires = filter_map message_of wires
 
--- the PDUs in flight from a port: those that came in at its peer, and then those that are to go out
-abbrev pub in_flight : EgressPort → WorldState → List Wire
-in_flight p w = inbox (peer_of w.tree.links p) w ++ outbox p w
+-- the participant of MVRP at a place of a node, and at a port
+abbrev pub vlan_place : ℕ → NodeState → Option Part
+vlan_place at s = slice_get s.vlans.parts at
 
--- the participant of MVRP at a port
 abbrev pub vlan_part : EgressPort → WorldState → Option Part
-vlan_part p w = option_and_then (λ s. slice_get s.vlans.parts (place_of p.port)) (node_at p.node w)
+vlan_part p w = part_at vlan_place p w
 
--- the link of a port with these participants at its ends
+-- the link of a port with these participants of MVRP at its ends
 abbrev pub link_with : EgressPort → WorldState → Part → Part → Link ℕ (Unit {0})
-link_with p w near far =
-    record {
-      near = near;
-      far = far;
-      sent = messages_of (in_flight p w);
-      coming = messages_of (in_flight (peer_of w.tree.links p) w);
-    }
+link_with p w near far = link_of message_of p w near far
 
--- on every link both ends meet their duty
+-- on every link both ends meet their duty in MVRP
 abbrev pub AreVlanDutiesMet : WorldState → Type 0
-AreVlanDutiesMet w =
-    (p : EgressPort) → HasPort w.tree p → (near far : Part)
-    → vlan_part p w ≡ Some near → vlan_part (peer_of w.tree.links p) w ≡ Some far
-    → AreDutiesMet nat_cmp (link_with p w near far)
+AreVlanDutiesMet w = AreDutiesMetIn nat_cmp vlan_place message_of w
+
+-- ---- of MSRP
+
+-- what the octets of a PDU of MSRP say to a participant, in the order in which they stand; malformed octets say nothing
+abbrev pub said_of_streams : Result MsrpPdu ℕ → Option (Messages MsrpKey MsrpContent)
+said_of_streams (Ok pdu) = Some (record { leave_all = pdu.leave_all; events = pdu.events })
+said_of_streams (Err place) = None
+
+-- what a PDU says in MSRP
+abbrev pub octets_said : App → List ℕ → Option (Messages MsrpKey MsrpContent)
+octets_said Mvrp octets = None
+octets_said Msrp octets = said_of_streams (msrp_reading octets)
+
+abbrev pub streams_said : Wire → Option (Messages MsrpKey MsrpContent)
+streams_said wire = octets_said wire.app wire.octets
+
+-- the participant of MSRP at a place of a node, and at a port
+abbrev pub stream_place : ℕ → NodeState → Option StreamPart
+stream_place at s = option_map (λ port. port.part) (slice_get s.streams.ports at)
+
+abbrev pub stream_part : EgressPort → WorldState → Option StreamPart
+stream_part p w = part_at stream_place p w
+
+-- the link of a port with these participants of MSRP at its ends
+abbrev pub stream_link : EgressPort → WorldState → StreamPart → StreamPart → Link MsrpKey MsrpContent
+stream_link p w near far = link_of streams_said p w near far
+
+-- on every link both ends meet their duty in MSRP
+abbrev pub AreStreamDutiesMet : WorldState → Type 0
+AreStreamDutiesMet w = AreDutiesMetIn key_cmp stream_place streams_said w

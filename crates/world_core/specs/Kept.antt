@@ -7,23 +7,29 @@ use Rattle.tree_topology.specs.declared.graph.NodeKind.TheVariants.{Bridge}
 use Rattle.node_core.specs.State.{NodeState, ports_of}
 use Rattle.node_core.specs.Proper.{IsProperNode}
 use Rattle.world_core.specs.World.{WorldState}
-use Rattle.world_core.specs.Duty.{AreVlanDutiesMet}
+use Rattle.world_core.specs.Duty.{AreVlanDutiesMet, AreStreamDutiesMet}
 
--- a node is that of its place in the tree: its kind, a port for each of its links, and what every node keeps, of VIDs
+-- a node is that of its place in the tree: its kind, a port for each of its links, and what every node keeps
 pub record FitsTree (tree : Topology) (x : ℕ) (s : NodeState) : Type 0 where
   pub kind : slice_get tree.kinds x ≡ Some s.kind
   pub ports : ports_of s ≡ length (neighbours tree.links (x + 1))
   pub kept : IsProperNode s
 
--- a bridge has no application that declares anything
+-- an application that asks for nothing: it declares no VID, talks no stream and listens to none
+pub record AsksNothing (s : NodeState) : Type 0 where
+  pub own : s.vlans.own ≡ []
+  pub talks : s.streams.talks ≡ []
+  pub listens : s.streams.listens ≡ []
+
+-- a bridge has no application that asks for anything
 abbrev pub IsIdleBridge : NodeState → Type 0
-IsIdleBridge s = s.kind ≡ Bridge → s.vlans.own ≡ []
+IsIdleBridge s = s.kind ≡ Bridge → AsksNothing s
 
 abbrev pub AreBridgesIdle : WorldState → Type 0
 AreBridgesIdle w = AllByRecursion IsIdleBridge w.nodes
 
--- What every network keeps: a sound tree, the nodes of the tree, one clock, bridges that declare nothing of their own, and
--- both duties of each link.
+-- What every network keeps: a sound tree, the nodes of the tree, one clock, bridges that ask for nothing of their own, and
+-- both duties of each link in MVRP and in MSRP.
 pub record IsKeptWorld (w : WorldState) : Type 0 where
   pub tree : IsSound w.tree
   pub many : length w.nodes ≡ length w.tree.kinds
@@ -31,3 +37,4 @@ pub record IsKeptWorld (w : WorldState) : Type 0 where
   pub clock : (x y : ℕ) (s t : NodeState) → slice_get w.nodes x ≡ Some s → slice_get w.nodes y ≡ Some t → s.clock ≡ t.clock
   pub idle : AreBridgesIdle w
   pub duties : AreVlanDutiesMet w
+  pub streams : AreStreamDutiesMet w

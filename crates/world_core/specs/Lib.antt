@@ -5,3 +5,8 @@ pub mod Kept
 pub mod Ticks
 pub mod Moments
 pub mod During
+pub mod Limits
+pub mod Talks
+pub mod Force
+pub mod Merging
+pub mod Timeline

@@ -1,19 +1,21 @@
 -- The ticks of a run: which steps are made in a tick and in which order, and when a journal tells a run of a scenario.
-use Rattle.std.specs.Prelude.{◌≡◌, ◌≢◌, ◌<◌, ℕ, suc, ◌+◌, ◌==◌, Bool, true, false, if◌then◌else◌, List, [], ◌∷◌, ◌++◌, map, filter, Option, Some, None}
+use Rattle.std.specs.Prelude.{◌≡◌, ◌≢◌, ◌<◌, ℕ, suc, ◌+◌, ◌-◌, ◌==◌, Bool, true, false, if◌then◌else◌, List, [], ◌∷◌, ◌++◌, map, filter, Option, Some, None, option_map, slice_get}
 use Rattle.std.specs.Option.{option_map_or}
 use Rattle.std.specs.List.{flat_map, range_with_len, AllByRecursion}
 use Rattle.srp_base.specs.declared.numbers.NodeNo.{NodeNo}
 use Rattle.srp_base.specs.declared.numbers.PortNo.{PortNo}
 use Rattle.srp_base.specs.declared.numbers.EgressPort.{EgressPort}
+use Rattle.srp_base.specs.declared.streams.Talker.{Talker}
 use Rattle.tree_topology.specs.declared.graph.Link.{Link}
 use Rattle.tree_topology.specs.Topology.{Topology, HasPort}
 use Rattle.tree_topology.specs.Ports.{port_to}
+use Rattle.topology_file.specs.declared.entries.StreamEntry.{StreamEntry}
 use Rattle.topology_file.specs.declared.entries.EventEntry.{EventEntry}
 use Rattle.topology_file.specs.declared.entries.EventKind.{EventKind}
 use Rattle.topology_file.specs.declared.entries.EventKind.TheVariants as kinds
 use Rattle.topology_file.specs.Plan.{Plan}
 use Rattle.mvrp.specs.Side.{place_of}
-use Rattle.node_core.specs.declared.types.AppRequest.TheVariants.{Declare, Withdraw}
+use Rattle.node_core.specs.declared.types.AppRequest.TheVariants.{Declare, Withdraw, Talk, Hush, Listen, Unlisten}
 use Rattle.node_core.specs.declared.types.NodeStep.{NodeStep}
 use Rattle.node_core.specs.declared.types.PortStep.{PortStep}
 use Rattle.node_core.specs.declared.types.PortStep.TheVariants as steps
@@ -29,17 +31,39 @@ use Rattle.world_core.specs.Start.{world_of}
 
 -- ---- what the scenario's events are in the network
 
--- a loss and a repeat act on the PDUs that wait at `to` and come from `from`; what happens to a stream at a station is
--- nothing to the network, as nodes don't run MSRP yet, and `run` takes no scenario with streams
-abbrev pub event_of : List Link → EventKind → Option WorldEvent
-event_of links (kinds.Declare station vid) = Some (Request station (Declare vid))
-event_of links (kinds.Withdraw station vid) = Some (Request station (Withdraw vid))
-event_of links (kinds.Talk stream) = None
-event_of links (kinds.Hush stream) = None
-event_of links (kinds.Listen station stream) = None
-event_of links (kinds.Unlisten station stream) = None
-event_of links (kinds.Lose from to index) = Some (Lose (port_to links to.0 from.0) index)
-event_of links (kinds.Repeat from to index) = Some (Repeat (port_to links to.0 from.0) index)
+-- what the Talker of a stream states (IEEE Std 802.1Q-2018, 35.2.2.8): the entry's values, and no latency so far
+abbrev pub talker_of_entry : StreamEntry → Talker
+talker_of_entry e =
+    record {
+      stream = e.id;
+      dest = e.dest;
+      vid = e.vid;
+      max_frame = e.octets;
+      frames = e.frames;
+      priority = e.priority;
+      rank = e.rank;
+      latency = 0;
+    }
+
+-- the entry of a stream's number, counted from 1
+abbrev pub stream_at : List StreamEntry → ℕ → Option StreamEntry
+stream_at streams n = slice_get streams (n - 1)
+
+-- What happens to a stream is asked of its Talker's station, or of the listening one. A loss and a repeat act on the PDUs that
+-- wait at `to` and come from `from`.
+abbrev pub event_of : List Link → List StreamEntry → EventKind → Option WorldEvent
+event_of links streams (kinds.Declare station vid) = Some (Request station (Declare vid))
+event_of links streams (kinds.Withdraw station vid) = Some (Request station (Withdraw vid))
+event_of links streams (kinds.Talk stream) =
+    option_map (λ e. Request e.talker (Talk (talker_of_entry e))) (stream_at streams stream)
+event_of links streams (kinds.Hush stream) =
+    option_map (λ e. Request e.talker (Hush e.id)) (stream_at streams stream)
+event_of links streams (kinds.Listen station stream) =
+    option_map (λ e. Request station (Listen e.id)) (stream_at streams stream)
+event_of links streams (kinds.Unlisten station stream) =
+    option_map (λ e. Request station (Unlisten e.id)) (stream_at streams stream)
+event_of links streams (kinds.Lose from to index) = Some (Lose (port_to links to.0 from.0) index)
+event_of links streams (kinds.Repeat from to index) = Some (Repeat (port_to links to.0 from.0) index)
 
 -- an event with the number of its entry, before others
 abbrev pub with_event : ℕ → Option WorldEvent → List (ℕ × WorldEvent) → List (ℕ × WorldEvent)
@@ -47,15 +71,15 @@ with_event n None later = later
 with_event n (Some event) later = (n, event) ∷ later
 
 -- the events of a tick with the numbers of their entries, of which the first has number n
-abbrev pub scripted_from : List Link → ℕ → ℕ → List EventEntry → List (ℕ × WorldEvent)
-scripted_from links t n [] = []
-scripted_from links t n (e ∷ entries) =
+abbrev pub scripted_from : List Link → List StreamEntry → ℕ → ℕ → List EventEntry → List (ℕ × WorldEvent)
+scripted_from links streams t n [] = []
+scripted_from links streams t n (e ∷ entries) =
     if e.tick == t
-    then with_event n (event_of links e.kind) (scripted_from links t (n + 1) entries)
-    else scripted_from links t (n + 1) entries
+    then with_event n (event_of links streams e.kind) (scripted_from links streams t (n + 1) entries)
+    else scripted_from links streams t (n + 1) entries
 
 abbrev pub scripted : Plan → ℕ → List (ℕ × WorldEvent)
-scripted plan t = scripted_from plan.tree.links t 1 plan.events
+scripted plan t = scripted_from plan.tree.links plan.streams t 1 plan.events
 
 -- ---- what happens in a tick
 

@@ -1,5 +1,5 @@
 -- A network as contracts see it, and one event of it: the network afterwards, and what it answers.
-use Rattle.std.specs.Prelude.{◌≡◌, ◌<◌, ◌≤◌, length, ◌^◌, ◌-◌, ℕ, Bool, List, [], ◌∷◌, map, fold, Option, Some, None, option_map, slice_get, slice_set}
+use Rattle.std.specs.Prelude.{◌≡◌, ◌<◌, ◌≤◌, length, ◌^◌, ◌+◌, ◌-◌, ℕ, Bool, List, [], ◌∷◌, map, fold, Option, Some, None, option_map, slice_get, slice_set}
 use Rattle.std.specs.Option.{option_map_or}
 use Rattle.std.specs.List.{list_all}
 use Rattle.srp_base.specs.declared.numbers.NodeNo.{NodeNo}
@@ -8,13 +8,15 @@ use Rattle.srp_base.specs.declared.mrp.App.{App}
 use Rattle.tree_topology.specs.Topology.{Topology, HasPort}
 use Rattle.tree_topology.specs.Ports.{peer_of}
 use Rattle.tree_topology.specs.declared.graph.NodeKind.TheVariants.{Station}
+use Rattle.msrp_codec.specs.declared.pdu.MsrpKey.{MsrpKey}
 use Rattle.mvrp.specs.Side.{IsLinkPort, place_of}
+use Rattle.msrp.specs.Side.{next_sets}
 use Rattle.node_core.specs.declared.types.Wire.{Wire}
 use Rattle.node_core.specs.declared.types.NodeEvent.{NodeEvent}
 use Rattle.node_core.specs.declared.types.NodeEvent.TheVariants as node_events
-use Rattle.node_core.specs.State.{NodeState, ports_of, box_at, is_still_node}
+use Rattle.node_core.specs.State.{NodeState, ports_of, box_at, is_still_node, are_all_sound}
 use Rattle.node_core.specs.Step.{Stepped, node_step}
-use Rattle.node_core.specs.Proper.{AsksVids}
+use Rattle.node_core.specs.Proper.{AsksInRange}
 use Rattle.node_core.specs.Links.{with_outbox, with_carried, lost_at, repeated_at, spoilt_at}
 use Rattle.world_core.specs.declared.events.WorldEvent.{WorldEvent}
 use Rattle.world_core.specs.declared.events.WorldEvent.TheVariants.{Request, Port, Lose, Repeat, Carry, Clock}
@@ -100,6 +102,10 @@ carried p w =
 abbrev pub ticked : WorldState → WorldState
 ticked w = record w { nodes = map (λ s. (node_step node_events.Clock s).0) w.nodes }
 
+-- the keys that await at each node once its clock has gone on, where it shows anything
+abbrev pub sets_of : List NodeState → List (Option (List (List MsrpKey)))
+sets_of nodes = map (λ s. next_sets (s.clock.0 + 1) s.streams) nodes
+
 -- one event: the network afterwards, and the answer
 abbrev pub world_step : WorldEvent → WorldState → Happened
 world_step (Request n request) w = stepped n (node_events.Request request) w
@@ -136,14 +142,15 @@ abbrev pub CanAllHappen : List WorldEvent → WorldState → Type 0
 CanAllHappen [] w = Unit {0}
 CanAllHappen (e ∷ events) w = CanHappen e w × CanAllHappen events (world_step e w).0
 
--- the request of an event is of a VID (IEEE Std 802.1Q-2018, 9.6), as the type of a request has it
-abbrev pub NamesVids : WorldEvent → Type 0
-NamesVids (Request n request) = AsksVids request
-NamesVids (Port n port step) = Unit {0}
-NamesVids (Lose p index) = Unit {0}
-NamesVids (Repeat p index) = Unit {0}
-NamesVids (Carry p) = Unit {0}
-NamesVids Clock = Unit {0}
+-- the request of an event is of what fits: of a VID (IEEE Std 802.1Q-2018, 9.6), or of a Talker whose numbers fit in their fields
+-- (35.2.2.8), as the type of a request has it
+abbrev pub IsEventInRange : WorldEvent → Type 0
+IsEventInRange (Request n request) = AsksInRange request
+IsEventInRange (Port n port step) = Unit {0}
+IsEventInRange (Lose p index) = Unit {0}
+IsEventInRange (Repeat p index) = Unit {0}
+IsEventInRange (Carry p) = Unit {0}
+IsEventInRange Clock = Unit {0}
 
 -- ---- what the readers say
 
@@ -152,10 +159,7 @@ NamesVids Clock = Unit {0}
 abbrev pub is_quiet : WorldState → Bool
 is_quiet w = list_all is_still_node w.nodes
 
--- whether every port of a node is sound
-abbrev pub all_sound : NodeState → Bool
-all_sound s = list_all (λ part. part.sound) s.vlans.parts
-
--- whether every port of the network is sound: it has sent a LeaveAll since the last loss on its link, if there was one
+-- whether both applications of every port of the network are sound: each has sent a LeaveAll since the last loss of one of its
+-- PDUs on its link, if there was one
 abbrev pub is_in_step : WorldState → Bool
-is_in_step w = list_all all_sound w.nodes
+is_in_step w = list_all are_all_sound w.nodes

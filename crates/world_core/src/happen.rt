@@ -10,9 +10,10 @@ ghost use Rattle.node_core.specs.State.{NodeState, box_at};
 ghost use Rattle.node_core.specs.Wires.{AreShort};
 ghost use Rattle.node_core.specs.Step.{CanStep, node_step};
 ghost use Rattle.node_core.specs.Links.{with_outbox, with_carried, lost_at, repeated_at, spoilt_at};
-ghost use Rattle.world_core.specs.World.{StandsAt, changed, stepped, app_of, lost, repeated, world_step};
+ghost use Rattle.world_core.specs.World.{StandsAt, sets_of, changed, stepped, app_of, lost, repeated, world_step};
 
 use crate::events::{WorldEvent, WorldReply};
+use msrp::ClockSets;
 use node_core::{Node, NodeEvent, Wire};
 use srp_base::{App, EgressPort, NoMemory, NodeNo, Seq};
 use tree_topology::Tree;
@@ -44,14 +45,41 @@ pub(crate) fn make_step(
     Ok(WorldReply::Step(reply))
 }
 
-/// The clock of every node goes on.
-pub(crate) fn tick_all(nodes: &mut Vec<Node>)
-    requires { AllByRecursion (λ s. s.clock.0 < 2 ^ 61) nodes.old.items }
+// Takes all memory that the next clock of every node needs.
+fn prepare_all(nodes: &Vec<Node>) -> Result<Vec<ClockSets>, NoMemory>
+    requires { AllByRecursion (λ s. s.clock.0 < 2 ^ 61) nodes.now.items }
+    ensures { IfOk result (λ sets. sets.items ≡ sets_of nodes.now.items) }
+{
+    let mut sets = Vec::with_capacity(*nodes.allocator(), nodes.len())?;
+    for node in nodes.iter() {
+        sets.push(node.prepare_clock()?)?;
+    }
+    Ok(sets)
+}
+
+// The clock of every node goes on, with what was prepared for it.
+fn tick_each(nodes: &mut Vec<Node>, sets: Vec<ClockSets>)
+    requires clock { AllByRecursion (λ s. s.clock.0 < 2 ^ 61) nodes.old.items }
+    requires sets { sets.items ≡ sets_of nodes.old.items }
     ensures { nodes.new.items ≡ map (λ s. (node_step NodeEvent.Clock s).0) nodes.old.items }
 {
-    for node in nodes.iter_mut() {
-        node.tick();
+    let mut sets = sets;
+    while let Some(next) = sets.pop() {
+        nodes[sets.len()].tick(next);
     }
+}
+
+/// The clock of every node goes on, or that of none where memory runs out.
+pub(crate) fn tick_all(nodes: &mut Vec<Node>) -> Result<WorldReply, NoMemory>
+    requires { AllByRecursion (λ s. s.clock.0 < 2 ^ 61) nodes.old.items }
+    ensures ok { IfOk result (λ reply. (tree : Topology)
+        → world_step WorldEvent.Clock (record { tree = tree; nodes = nodes.old.items })
+        ≡ (record { tree = tree; nodes = nodes.new.items }, reply)) }
+    ensures err { OnErr result (nodes.new.items ≡ nodes.old.items) }
+{
+    let sets = prepare_all(nodes)?;
+    tick_each(nodes, sets);
+    Ok(WorldReply::Done)
 }
 
 // The application of the PDU of an index in a port's inbox.

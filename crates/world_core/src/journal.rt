@@ -3,7 +3,7 @@
 use crate::events::WorldReply;
 use crate::world::World;
 use node_core::NodeStep;
-use srp_base::{NodeNo, Seq};
+use srp_base::{NodeNo, Seq, Timeline};
 
 /// The steps that a node made in a tick, in order.
 #[derive(Debug, PartialEq, Eq, Drop)]
@@ -26,9 +26,10 @@ pub struct Journal {
     pub ticks: Seq<Tick>,
 }
 
-/// A run of a scenario: the network at its end, and what happened.
+/// A run of a scenario: the network at its end, what happened, and what was in force at the ports after each tick's steps.
 #[derive(Drop)]
 pub struct Run {
     pub world: World,
     pub journal: Journal,
+    pub timeline: Timeline,
 }

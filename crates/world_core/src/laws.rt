@@ -18,21 +18,24 @@ ghost use Rattle.world_core.specs.declared.events.WorldEvent.{WorldEvent};
 ghost use Rattle.world_core.specs.declared.events.WorldEvent.TheVariants.{Port as port_event};
 ghost use Rattle.world_core.specs.declared.events.WorldReply.TheVariants.{Step as step_reply};
 ghost use Rattle.world_core.specs.declared.journal.Tick.{Tick};
-ghost use Rattle.world_core.specs.World.{WorldState, CanHappen, CanAllHappen, NamesVids, node_at, world_step, world_after};
+ghost use Rattle.world_core.specs.World.{WorldState, CanHappen, CanAllHappen, IsEventInRange, node_at, world_step, world_after};
 ghost use Rattle.world_core.specs.Start.{world_of};
 ghost use Rattle.world_core.specs.Kept.{IsKeptWorld};
 ghost use Rattle.world_core.specs.Ticks.{event_of, scripted, link_ports, LeadTo, AreLegalTicks, AreCanonicalTicks, IsLegalTick, IsCanonicalTick, tick_events};
 ghost use Rattle.world_core.specs.During.{IsDuring, IsAllowed, NamesNeighbours};
 ghost use Rattle.world_core.specs.Moments.{IsMoment, events_from};
+ghost use Rattle.world_core.specs.Limits.{IsWithinLimits};
+ghost use Rattle.world_core.specs.Talks.{AreTalksOfPlan, HasOneTalker};
 
 use mrp_participant::duty_laws::spoiling_keeps_duties;
 use mrp_participant::link_laws::{a_new_link_meets_both_duties, every_event_keeps_both_duties};
+use msrp::MsrpApp;
 use mvrp::MvrpApp;
-use mvrp::laws::what_is_sent_is_read;
 use node_core::laws::{
-    a_new_node_is_proper, every_step_keeps_a_node_proper, links_keep_a_node_proper,
-    steps_keep_what_a_node_is,
+    a_new_node_is_proper, a_port_stays_set_up, every_step_keeps_a_node_proper,
+    links_keep_a_node_proper, steps_keep_what_a_node_is,
 };
+use port_ledger::laws::bookings_are_within_caps;
 use tree_topology::laws::ports;
 
 /// The network of a scenario keeps what every network keeps.
@@ -41,34 +44,39 @@ pub fn a_scenario_begins_well()
 {
     ports();
     a_new_link_meets_both_duties::<MvrpApp>();
+    a_new_link_meets_both_duties::<MsrpApp>();
     a_new_node_is_proper();
 }
 
-/// Each event that may happen keeps it, where a request is of a VID, and so does each list of such events.
+/// Each event that may happen keeps it, where what a request asks for fits, and so does each list of such events.
 pub fn every_event_keeps_it()
-    ensures event { (e : WorldEvent) (w : WorldState) → CanHappen e w → NamesVids e
+    ensures event { (e : WorldEvent) (w : WorldState) → CanHappen e w → IsEventInRange e
         → IsKeptWorld w → IsKeptWorld (world_step e w).0 }
     ensures events { (es : List WorldEvent) (w : WorldState)
-        → CanAllHappen es w → AllByRecursion NamesVids es → IsKeptWorld w → IsKeptWorld (world_after es w) }
+        → CanAllHappen es w → AllByRecursion IsEventInRange es → IsKeptWorld w → IsKeptWorld (world_after es w) }
 {
     ports();
     a_new_link_meets_both_duties::<MvrpApp>();
     every_event_keeps_both_duties::<MvrpApp>();
     spoiling_keeps_duties::<MvrpApp>();
-    what_is_sent_is_read();
+    mvrp::laws::what_is_sent_is_read();
+    a_new_link_meets_both_duties::<MsrpApp>();
+    every_event_keeps_both_duties::<MsrpApp>();
+    spoiling_keeps_duties::<MsrpApp>();
+    msrp::laws::what_is_sent_is_read();
     every_step_keeps_a_node_proper();
     links_keep_a_node_proper();
     steps_keep_what_a_node_is();
 }
 
-/// Each event of a legal run of a scenario may happen in its turn, and a request of it is of a VID.
+/// Each event of a legal run of a scenario may happen in its turn, and what a request of it asks for fits.
 pub fn every_event_of_a_run_may_happen()
     ensures can { (plan : Plan) (ticks : List Tick) (end : WorldState) → KeepsRules plan
         → AreLegalTicks plan ticks end
         → CanAllHappen (events_from plan 0 ticks) (world_of plan) }
     ensures named { (plan : Plan) (ticks : List Tick) (end : WorldState) → KeepsRules plan
         → AreLegalTicks plan ticks end
-        → AllByRecursion NamesVids (events_from plan 0 ticks) }
+        → AllByRecursion IsEventInRange (events_from plan 0 ticks) }
 {
     a_scenario_begins_well();
     every_event_keeps_it();
@@ -96,7 +104,7 @@ pub fn what_is_allowed_may_happen()
         → IsDuring tree (suc t) (world_step WorldEvent.Clock w).0 }
     ensures known { (plan : Plan) (kind : EventKind) → KeepsRules plan
         → IsKnownKind plan.nodes plan.links plan.streams kind
-        → IfSome (event_of plan.tree.links kind) (IsAllowed plan.tree) }
+        → IfSome (event_of plan.tree.links plan.streams kind) (IsAllowed plan.tree) }
     ensures neighbours { (plan : Plan) (kind : EventKind) → KeepsRules plan
         → IsKnownKind plan.nodes plan.links plan.streams kind → NamesNeighbours plan.tree.links kind }
     ensures scripted { (plan : Plan) (t : ℕ) → KeepsRules plan
@@ -132,6 +140,39 @@ pub fn every_moment_keeps_it()
     every_event_keeps_it();
     every_event_of_a_run_may_happen();
 }
+
+/// After every list of events that may happen, losses and repeats included, no port has booked more than its link's entry
+/// allows.
+pub fn every_list_of_events_keeps_limits()
+    ensures { (plan : Plan) (es : List WorldEvent) → KeepsRules plan
+        → CanAllHappen es (world_of plan) → AllByRecursion IsEventInRange es
+        → IsWithinLimits plan (world_after es (world_of plan)) }
+{
+    a_scenario_begins_well();
+    every_event_keeps_it();
+    a_port_stays_set_up();
+    bookings_are_within_caps();
+}
+
+/// So it is at every moment of a legal run.
+pub fn every_moment_is_within_limits()
+    ensures { (plan : Plan) (ticks : List Tick) (end w : WorldState) → KeepsRules plan
+        → AreLegalTicks plan ticks end
+        → IsMoment plan ticks w → IsWithinLimits plan w }
+{
+    every_list_of_events_keeps_limits();
+    every_event_of_a_run_may_happen();
+}
+
+/// At every moment of a legal run the stations talk only what the scenario has them talk, so that no two talk one stream.
+pub fn every_moment_talks_by_the_plan()
+    ensures talks { (plan : Plan) (ticks : List Tick) (end w : WorldState) → KeepsRules plan
+        → AreLegalTicks plan ticks end
+        → IsMoment plan ticks w → AreTalksOfPlan plan w }
+    ensures one { (plan : Plan) (ticks : List Tick) (end w : WorldState) → KeepsRules plan
+        → AreLegalTicks plan ticks end
+        → IsMoment plan ticks w → HasOneTalker w }
+{}
 
 /// Ticks in the canonical order are legal.
 pub fn canonical_ticks_are_legal()

@@ -11,20 +11,27 @@
 //! function of it, `world_step`. A run is the fold of its events. Which runs are those of a scenario, in which each node's
 //! steps of a tick are some interleaving of its ports' jobs, is `specs/Ticks.antt`; the network after each event is a moment
 //! (`specs/Moments.antt`). What every network keeps by its type is `IsKeptWorld`: among it that on each link both ends meet
-//! their duty (`specs/Duty.antt`), so that it holds after every list of events, losses and repeats included.
+//! their duty (`specs/Duty.antt`), in MVRP and in MSRP, so that it holds after every list of events, losses and repeats
+//! included. At each moment of a run no port has booked more than its link's entry allows (`specs/Limits.antt`), and the
+//! stations talk what the scenario has them talk (`specs/Talks.antt`).
 //!
 //! A further kind of event is a variant of `WorldEvent`, a line in `world_step` and `CanHappen`, an arm in `World::step`, and
-//! a lemma that it keeps the duties.
+//! a lemma that it keeps the duties of any application (`proofs/EventSteps.antt`). A further application is a use of
+//! `AreDutiesMetIn` in `IsKeptWorld`, and a file like `proofs/StreamSteps.antt` of what a node's steps make of its participants.
 #![tactic(auto)]
 
 mod events;
+mod force;
 mod happen;
 mod journal;
 pub mod laws;
+mod merging;
 mod start;
 mod step;
 #[cfg(test)]
 mod tests;
+mod timeline;
+pub mod timeline_laws;
 mod world;
 
 pub use events::{WorldEvent, WorldReply};

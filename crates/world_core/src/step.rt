@@ -1,16 +1,17 @@
 //! One event of a network, and lists of them.
 
 ghost use Rattle.std.specs.Prelude.{◌≡◌, ◌≤◌, length, take, IfOk, IfErr, OnErr};
+ghost use Rattle.msrp_codec.specs.FirstValue.{IsTalker};
 ghost use Rattle.mvrp.specs.Vids.{IsVid};
-ghost use Rattle.node_core.specs.Proper.{AsksVids};
-ghost use Rattle.world_core.specs.World.{CanHappen, NamesVids, CanAllHappen, world_step, world_after, replies_to};
+ghost use Rattle.node_core.specs.Proper.{AsksInRange};
+ghost use Rattle.world_core.specs.World.{CanHappen, IsEventInRange, CanAllHappen, world_step, world_after, replies_to};
 
 use crate::events::{WorldEvent, WorldReply};
 use crate::happen::{carry, lose, make_step, repeat, tick_all};
 use crate::laws::every_event_keeps_it;
 use crate::world::World;
 use node_core::{AppRequest, NodeEvent};
-use srp_base::{NoMemory, Seq, Vid};
+use srp_base::{NoMemory, Seq, Talker, Vid};
 use std::alloc::Global;
 use tree_topology::laws::ports;
 
@@ -31,7 +32,7 @@ impl World {
     {
         ports();
         every_event_keeps_it();
-        names_vids(&event);
+        fits(&event);
         match event {
             WorldEvent::Request(node, request) => {
                 make_step(&mut self.nodes, node, NodeEvent::Request(request))
@@ -42,10 +43,7 @@ impl World {
             WorldEvent::Lose(at, index) => Ok(lose(&self.tree, &mut self.nodes, at, index)),
             WorldEvent::Repeat(at, index) => repeat(&mut self.nodes, at, index),
             WorldEvent::Carry(at) => carry(&self.tree, &mut self.nodes, at),
-            WorldEvent::Clock => {
-                tick_all(&mut self.nodes);
-                Ok(WorldReply::Done)
-            }
+            WorldEvent::Clock => tick_all(&mut self.nodes),
         }
     }
 
@@ -75,12 +73,12 @@ impl World {
     }
 }
 
-// The type of a VID says its range.
-fn names_vids(event: &WorldEvent)
-    ensures { NamesVids event.now }
+// The types of what an event asks for say that it fits.
+fn fits(event: &WorldEvent)
+    ensures { IsEventInRange event.now }
 {
     match event {
-        WorldEvent::Request(_, request) => asks_vids(*request),
+        WorldEvent::Request(_, request) => asks_in_range(*request),
         WorldEvent::Port(_, _, _)
         | WorldEvent::Lose(_, _)
         | WorldEvent::Repeat(_, _)
@@ -89,19 +87,28 @@ fn names_vids(event: &WorldEvent)
     }
 }
 
-// It says it of that of a request.
-fn asks_vids(request: AppRequest)
-    ensures { AsksVids request }
+// They say it of a request.
+fn asks_in_range(request: AppRequest)
+    ensures { AsksInRange request }
 {
     match request {
         AppRequest::Declare(vid) => in_range(vid),
         AppRequest::Withdraw(vid) => in_range(vid),
+        AppRequest::Talk(talker) => talker_in_range(talker),
+        AppRequest::Hush(_) | AppRequest::Listen(_) | AppRequest::Unlisten(_) => {}
     }
 }
 
-// It says it of that VID.
+// They say it of a VID.
 fn in_range(vid: Vid)
     ensures { IsVid vid }
 {
     let _ = vid.get();
+}
+
+// They say it of each field of a Talker.
+fn talker_in_range(talker: Talker)
+    ensures { IsTalker talker }
+{
+    let _ = (talker.dest.get(), talker.priority.get());
 }

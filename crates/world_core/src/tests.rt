@@ -1,4 +1,4 @@
-//! A bridge between two stations: a declaration goes over a link, a PDU is repeated and lost, the clocks go on.
+//! A bridge between two stations: a declaration and a Talker go over a link, a PDU is repeated and lost, the clocks go on.
 //!
 //! An event is asked at run time whether it may happen, so that a test needs no proof of what the file's text says.
 
@@ -9,11 +9,14 @@ ghost use Rattle.world_core.specs.World.{CanHappen};
 use crate::WorldEvent::{Carry, Clock, Lose, Port, Repeat, Request};
 use crate::WorldReply::{Done, Missed, Step};
 use crate::{World, WorldEvent, WorldReply};
+use msrp_codec::MsrpKey;
 use node_core::PortStep::{Send, Settle, Work};
 use node_core::StepReply::{Nothing, Received, Sent, Settled, Silent, Taken};
 use node_core::{AppRequest, NodeKey};
 use registrar::Registrar;
-use srp_base::{App, Cs, EgressPort, NoMemory, NodeNo, PortNo, Vid};
+use srp_base::{
+    App, Cs, EgressPort, Mac, NoMemory, NodeNo, PortNo, Priority, Rank, StreamId, Talker, Vid,
+};
 use std::alloc::Global;
 use std::process::Abort;
 use std::test::Fail;
@@ -116,8 +119,8 @@ fn run_clock(alloc: Global, world: &mut World) -> Option<bool> {
     Some(replies.as_slice() == [Done].as_slice())
 }
 
-// The registrar of a VID at a port, how many PDUs wait there, and whether it is sound.
-fn seen(world: &World, at: EgressPort, vid: Vid) -> Option<(Registrar, usize, bool)> {
+// The registrar of an attribute at a port, how many PDUs wait there, and whether it is sound in MVRP.
+fn seen(world: &World, at: EgressPort, key: NodeKey) -> Option<(Registrar, usize, bool)> {
     if !has_node(world, at.node) {
         return None;
     }
@@ -125,7 +128,7 @@ fn seen(world: &World, at: EgressPort, vid: Vid) -> Option<(Registrar, usize, bo
     if at.port.0 == 0 || node.ports() < at.port.0 {
         return None;
     }
-    let registrar = node.registrar(at.port, NodeKey::Vlan(vid));
+    let registrar = node.registrar(at.port, key);
     Some((
         registrar,
         node.waiting(at.port),
@@ -176,7 +179,10 @@ fn a_declaration_is_registered_over_the_link(rt: HostRuntime) -> Result<(), Fail
     let mut world = scene(rt.alloc())?;
     declare(&rt, &mut world, vid)?;
     let (at, other) = (port(2, 1), port(2, 2));
-    assert_eq!(rt; seen(&world, at, vid), Some((Registrar::Empty, 1, true)));
+    assert_eq!(rt;
+        seen(&world, at, NodeKey::Vlan(vid)),
+        Some((Registrar::Empty, 1, true))
+    );
     let cases = [
         (Repeat(at, 1), Missed),
         (Lose(at, 1), Missed),
@@ -185,8 +191,47 @@ fn a_declaration_is_registered_over_the_link(rt: HostRuntime) -> Result<(), Fail
         (Lose(at, 0), Missed),
     ];
     has_answers(&rt, &mut world, cases.as_slice())?;
-    assert_eq!(rt; seen(&world, at, vid), Some((Registrar::Held, 0, true)));
-    assert_eq!(rt; seen(&world, other, vid), Some((Registrar::Empty, 0, true)));
+    assert_eq!(rt;
+        seen(&world, at, NodeKey::Vlan(vid)),
+        Some((Registrar::Held, 0, true))
+    );
+    assert_eq!(rt;
+        seen(&world, other, NodeKey::Vlan(vid)),
+        Some((Registrar::Empty, 0, true))
+    );
+    assert!(rt; !world.quiet() && world.in_step());
+    Ok(())
+}
+
+// A Talker of stream 7 in class A.
+fn talker() -> Option<Talker> {
+    Some(Talker {
+        stream: StreamId(7),
+        dest: Mac::new(1)?,
+        vid: 2,
+        max_frame: 100,
+        frames: 1,
+        priority: Priority::new(3)?,
+        rank: Rank::Normal,
+        latency: 0,
+    })
+}
+
+#[test]
+fn a_talker_is_registered_over_the_link(rt: HostRuntime) -> Result<(), Fail> {
+    let talker = talker().expect(&rt, "a Talker");
+    let mut world = scene(rt.alloc())?;
+    let (a, bridge) = (port(1, 1), port(2, 1));
+    let cases = [
+        (Request(a.node, AppRequest::Talk(talker)), Step(Taken)),
+        (Port(a.node, a.port, Settle), Step(Settled(2))),
+        (Port(a.node, a.port, Send(App::Msrp)), Step(Sent(37))),
+        (Carry(a), Done),
+        (Port(bridge.node, bridge.port, Work), Step(Received(1))),
+    ];
+    has_answers(&rt, &mut world, cases.as_slice())?;
+    let key = NodeKey::Srp(MsrpKey::Talker(talker.stream));
+    assert_eq!(rt; seen(&world, bridge, key), Some((Registrar::Held, 0, true)));
     assert!(rt; !world.quiet() && world.in_step());
     Ok(())
 }
@@ -199,17 +244,20 @@ fn a_loss_spoils_both_ends_of_its_link(rt: HostRuntime) -> Result<(), Fail> {
     let at = port(2, 1);
     let cases = [(Repeat(at, 0), Done), (Lose(at, 0), Done)];
     has_answers(&rt, &mut world, cases.as_slice())?;
-    assert_eq!(rt; seen(&world, at, vid), Some((Registrar::Empty, 1, false)));
     assert_eq!(rt;
-        seen(&world, port(1, 1), vid),
+        seen(&world, at, NodeKey::Vlan(vid)),
+        Some((Registrar::Empty, 1, false))
+    );
+    assert_eq!(rt;
+        seen(&world, port(1, 1), NodeKey::Vlan(vid)),
         Some((Registrar::Empty, 0, false))
     );
     assert_eq!(rt;
-        seen(&world, port(2, 2), vid),
+        seen(&world, port(2, 2), NodeKey::Vlan(vid)),
         Some((Registrar::Empty, 0, true))
     );
     assert_eq!(rt;
-        seen(&world, port(3, 1), vid),
+        seen(&world, port(3, 1), NodeKey::Vlan(vid)),
         Some((Registrar::Empty, 0, true))
     );
     assert!(rt; !world.quiet() && !world.in_step());

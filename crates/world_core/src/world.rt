@@ -45,8 +45,8 @@ impl World {
         Ok(World { tree, nodes })
     }
 
-    /// What every network keeps, whatever has happened in it: the nodes of its tree, one clock, and on each link both duties.
-    /// It is a law, and does nothing.
+    /// What every network keeps, whatever has happened in it: the nodes of its tree, one clock, and on each link both duties
+    /// in each application. It is a law, and does nothing.
     pub fn keeps(&self)
         ensures { IsKeptWorld self.now }
     {
@@ -76,7 +76,8 @@ impl World {
         self.nodes.iter().all(|node| node.still())
     }
 
-    /// Whether every port is sound: it has sent a LeaveAll since the last loss on its link, if there was one.
+    /// Whether both applications of every port are sound: each has sent a LeaveAll since the last loss of one of its PDUs on
+    /// the port's link, if there was one.
     pub fn in_step(&self) -> bool
         ensures { result ≡ is_in_step self.now }
     {

@@ -3,12 +3,13 @@ use Rattle.msrp_codec.specs.Content.{Belongs, base_octets, octets_of}
 use Rattle.mrp_participant.specs.State.{sent_events}
 use Rattle.msrp.specs.Part.{key_cmp}
 use Rattle.msrp.proofs.Places.{opened}
-use Rattle.msrp.proofs.Said.{of_each, stated_own}
+use Rattle.msrp.proofs.Contents.{own_row}
+use Rattle.msrp.proofs.Said.{all_said}
 use Rattle.msrp.proofs.sending.said_by.Goals as goal
 
 pub octets_of-requires-clause-belong : goal.octets_of-requires-clause-belong
 octets_of-requires-clause-belong c =
     let es : c.in-Some.msgs.events ≡ sent_events base_octets octets_of key_cmp c.args.now c.args.part =
     opened (λ m. m.events ≡ sent_events base_octets octets_of key_cmp c.args.now c.args.part) c.in_ok-msgs.field-0 c.in-Some.msgs c.in-Some.is c.in_ok-msgs.ensures.events in
-    rw es (of_each (λ e. Belongs e.1 e.2) (sent_events base_octets octets_of key_cmp c.args.now c.args.part)
-    (λ e h. stated_own c.args.part c.requires.contents e.1 e.2 (c.what_is_sent_is_declared.ensures.content c.args.part c.args.now e c.requires.rows h)))
+    rw es (all_said Belongs c.args.part (own_row c.args.part c.requires.contents) (sent_events base_octets octets_of key_cmp c.args.now c.args.part)
+    (λ e h. c.what_is_sent_is_declared.ensures.content c.args.part c.args.now e c.requires.rows h))

@@ -1,5 +1,5 @@
-use Rattle.srp_schedule.proofs.TickLemmas.{IsRunTo}
+use Rattle.srp_schedule.proofs.NotedLemmas.{IsNotedTo}
 use Rattle.srp_schedule.proofs.run.plain_run.Given as goal
 
 abbrev pub invariant-loop-t : goal.invariant-loop-t
-invariant-loop-t l = IsRunTo l.scenario l.t l.ticks.items l.world l.cursor
+invariant-loop-t l = IsNotedTo l.scenario l.t l.ticks.items l.world l.cursor l.timeline.changes

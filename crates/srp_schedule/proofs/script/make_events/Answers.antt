@@ -52,7 +52,7 @@ make_entry-requires-clause-can c =
     let lt : c.loop-i.i < length plan.events = omega (arith, test, ap length events) in
     let here : e ≡ get_or plan.events c.loop-i.i e = c.index-events-i.is ∙ ap (λ (es : List EventEntry). get_or es c.loop-i.i e) events in
     let known = subst (λ (x : EventEntry). IsKnownKind plan.nodes plan.links plan.streams x.kind) (sym here) (c.keeps_rules.ensures.events_known c.loop-i.i e lt) in
-    IfSome_then (event_of plan.tree.links e.kind) (c.what_is_allowed_may_happen.ensures.known plan e.kind c.keeps_rules.ensures known)
+    IfSome_then (event_of plan.tree.links plan.streams e.kind) (c.what_is_allowed_may_happen.ensures.known plan e.kind c.keeps_rules.ensures known)
     (λ r ok. c.what_is_allowed_may_happen.ensures.can plan.tree c.args.t r c.loop-i.world ok c.loop-i.invariant.during)
 
 pub loop-i-preserved : goal.loop-i-preserved

@@ -1,6 +1,4 @@
-use Rattle.std.proofs.Common.{sym, ap, ◌∙◌, refl}
-use Rattle.std.specs.Prelude.{slice_set}
-use Rattle.mvrp.specs.Side.{place_of}
+use Rattle.std.proofs.Common.{◌∙◌}
 use Rattle.world_core.proofs.Happenings.{port_there, get_there, app_is}
 use Rattle.world_core.proofs.happen.app_at.Goals as goal
 

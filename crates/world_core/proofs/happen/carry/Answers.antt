@@ -1,4 +1,4 @@
-use Rattle.std.proofs.Common.{◌≡◌, sym, ap, ◌∙◌}
+use Rattle.std.proofs.Common.{◌≡◌, ap, ◌∙◌}
 use Rattle.mvrp.specs.Side.{place_of}
 use Rattle.node_core.specs.Links.{with_outbox}
 use Rattle.world_core.specs.World.{changed}

@@ -1,4 +1,4 @@
-use Rattle.std.proofs.Common.{sym, ap, ◌∙◌, refl}
+use Rattle.std.proofs.Common.{sym, ap, ◌∙◌}
 use Rattle.world_core.specs.World.{WorldState, lost}
 use Rattle.world_core.specs.declared.events.WorldReply.TheVariants.{Done}
 use Rattle.world_core.proofs.Happenings.{index_there, lose_is}

@@ -1,8 +1,7 @@
-use Rattle.std.proofs.Common.{sym, ap, ◌∙◌, refl}
+use Rattle.std.proofs.Common.{ap, ◌∙◌}
 use Rattle.std.specs.Prelude.{slice_set}
 use Rattle.mvrp.specs.Side.{place_of}
-use Rattle.node_core.specs.Links.{with_outbox, with_carried, lost_at, repeated_at, spoilt_at}
-use Rattle.node_core.specs.State.{NodeState, box_at, ports_of}
+use Rattle.node_core.specs.Links.{repeated_at}
 use Rattle.world_core.proofs.Happenings.{port_there, get_there, changed_here, done_there}
 use Rattle.world_core.proofs.happen.repeat_at.Goals as goal
 

@@ -1,9 +1,9 @@
-use Rattle.std.proofs.Common.{sym, ap, ◌∙◌, refl}
+use Rattle.std.proofs.Common.{sym, ap, ◌∙◌}
 use Rattle.std.specs.Prelude.{slice_set}
 use Rattle.mvrp.specs.Side.{place_of}
 use Rattle.std.specs.Prelude.{[]}
 use Rattle.std.specs.Option.{option_map_or}
-use Rattle.node_core.specs.Links.{with_outbox, with_carried, lost_at, repeated_at, spoilt_at}
+use Rattle.node_core.specs.Links.{with_outbox}
 use Rattle.node_core.specs.State.{NodeState, box_at, ports_of}
 use Rattle.world_core.proofs.Happenings.{port_there, get_there, changed_here, stands_still}
 use Rattle.world_core.proofs.happen.take.Goals as goal

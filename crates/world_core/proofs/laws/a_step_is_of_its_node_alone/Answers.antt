@@ -6,8 +6,7 @@ use Rattle.node_core.specs.State.{NodeState}
 use Rattle.node_core.specs.Step.{node_step}
 use Rattle.world_core.specs.declared.events.WorldReply.TheVariants.{Missed}
 use Rattle.world_core.specs.World.{node_at, after_step}
-use Rattle.world_core.proofs.Nodes.{node_same, node_other}
-use Rattle.world_core.proofs.EventSteps.{stepped_is}
+use Rattle.world_core.proofs.Nodes.{node_same, node_other, stepped_is}
 use Rattle.world_core.proofs.laws.a_step_is_of_its_node_alone.Goals as goal
 
 pub returns-clause-own : goal.returns-clause-own

@@ -1,15 +1,27 @@
-use Rattle.world_core.proofs.StepDuties.{LinkLaws}
-use Rattle.world_core.proofs.EventSteps.{NodeLaws, kept_event, kept_events}
+use Rattle.world_core.proofs.BaseSteps.{NodeLaws}
+use Rattle.world_core.proofs.VlanSteps.{VlanLaws}
+use Rattle.world_core.proofs.StreamSteps.{StreamLaws}
+use Rattle.world_core.proofs.Keeping.{KeepingLaws, kept_event, kept_events}
 use Rattle.world_core.proofs.laws.every_event_keeps_it.Goals as goal
 use Rattle.world_core.proofs.laws.every_event_keeps_it.Goals.{After-steps_keep_what_a_node_is}
 
-links : After-steps_keep_what_a_node_is → LinkLaws
-links c =
+vlans : After-steps_keep_what_a_node_is → VlanLaws
+vlans c =
     record {
       event = c.every_event_keeps_both_duties.ensures.event;
       turns = c.a_new_link_meets_both_duties.ensures.turned;
       unsound = c.spoiling_keeps_duties.ensures.own;
       written = c.what_is_sent_is_read.ensures;
+    }
+
+streams : After-steps_keep_what_a_node_is → StreamLaws
+streams c =
+    record {
+      event = c.every_event_keeps_both_duties-2.ensures.event;
+      turns = c.a_new_link_meets_both_duties-2.ensures.turned;
+      unsound = c.spoiling_keeps_duties-2.ensures.own;
+      written = c.what_is_sent_is_read-2.ensures.written;
+      each_key = c.what_is_sent_is_read-2.ensures.each_key;
     }
 
 nodes : After-steps_keep_what_a_node_is → NodeLaws
@@ -27,8 +39,11 @@ nodes c =
       spoilt = c.links_keep_a_node_proper.ensures.spoilt;
     }
 
+laws : After-steps_keep_what_a_node_is → KeepingLaws
+laws c = record { nodes = nodes c; vlans = vlans c; streams = streams c; ports = c.ports.ensures }
+
 pub returns-clause-event : goal.returns-clause-event
-returns-clause-event c = λ e w can named kept. kept_event (links c) (nodes c) c.ports.ensures e w can named kept
+returns-clause-event c = λ e w can fits kept. kept_event (laws c) e w can fits kept
 
 pub returns-clause-events : goal.returns-clause-events
-returns-clause-events c = λ es w can named kept. kept_events (links c) (nodes c) c.ports.ensures es w can named kept
+returns-clause-events c = λ es w can fits kept. kept_events (laws c) es w can fits kept

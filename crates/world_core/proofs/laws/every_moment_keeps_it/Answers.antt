@@ -1,5 +1,5 @@
 use Rattle.std.proofs.Common.{sym, subst, take}
-use Rattle.world_core.specs.World.{NamesVids}
+use Rattle.world_core.specs.World.{IsEventInRange}
 use Rattle.world_core.specs.Start.{world_of}
 use Rattle.world_core.specs.Moments.{events_from}
 use Rattle.world_core.specs.Kept.{IsKeptWorld}
@@ -11,5 +11,5 @@ returns c = λ plan ticks end w rules legal moment.
     subst IsKeptWorld (sym moment.reached)
     (c.every_event_keeps_it.ensures.events (take moment.count (events_from plan 0 ticks)) (world_of plan)
     (can_take moment.count (events_from plan 0 ticks) (world_of plan) (c.every_event_of_a_run_may_happen.ensures.can plan ticks end rules legal))
-    (each_take NamesVids moment.count (events_from plan 0 ticks) (c.every_event_of_a_run_may_happen.ensures.named plan ticks end rules legal))
+    (each_take IsEventInRange moment.count (events_from plan 0 ticks) (c.every_event_of_a_run_may_happen.ensures.named plan ticks end rules legal))
     (c.a_scenario_begins_well.ensures plan rules))

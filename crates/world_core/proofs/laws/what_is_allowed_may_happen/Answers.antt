@@ -4,7 +4,8 @@ use Rattle.topology_file.specs.Plan.{Plan}
 use Rattle.node_core.specs.State.{NodeState}
 use Rattle.world_core.specs.Start.{world_of}
 use Rattle.world_core.proofs.Beginnings.{new_at}
-use Rattle.world_core.proofs.Runs.{RunLaws, allowed_can, one_leads, all_lead, clock_leads, known_allowed, known_neighbours, scripted_allowed, carries_allowed, tree_stays, trees_stay, all_each}
+use Rattle.world_core.proofs.Runs.{RunLaws, allowed_can, one_leads, all_lead, clock_leads, known_allowed, known_neighbours, scripted_allowed, carries_allowed, tree_stays, trees_stay}
+use Rattle.world_core.proofs.Lists.{all_each}
 use Rattle.world_core.proofs.laws.what_is_allowed_may_happen.Goals as goal
 use Rattle.world_core.proofs.laws.what_is_allowed_may_happen.Goals.{After-steps_keep_what_a_node_is}
 
@@ -54,7 +55,7 @@ pub returns-clause-carried : goal.returns-clause-carried
 returns-clause-carried c = λ plan rules. carries_allowed (laws c) plan rules plan.tree.links (λ x y j. j)
 
 pub returns-clause-tree : goal.returns-clause-tree
-returns-clause-tree c = tree_stays (laws c)
+returns-clause-tree c = tree_stays
 
 pub returns-clause-trees : goal.returns-clause-trees
-returns-clause-trees c = trees_stay (laws c)
+returns-clause-trees c = trees_stay

@@ -3,6 +3,7 @@ use Rattle.std.specs.Prelude.{slice_get, Some}
 use Rattle.mrp_participant.specs.Lookup.{find}
 use Rattle.mrp_participant.specs.OneRow.{is_leaving_in, after_leave}
 use Rattle.mrp_participant.specs.State.{left_state}
+use Rattle.msrp_codec.specs.Content.{Belongs}
 use Rattle.msrp.specs.declared.port.Port.{Port}
 use Rattle.msrp.specs.Part.{Part, key_cmp}
 use Rattle.msrp.specs.Side.{Streams, left_key}
@@ -28,7 +29,7 @@ put-requires-clause-contents c =
     let port = port_kept c.args.self.now c.keeps.ensures (c.from-at.result - 1) p (here c) in
     own-changed p.part _ c.args.key (after_leave (find key_cmp c.args.key p.part.rows)) port.contents
     (λ k. ap (λ (t : Part). find key_cmp k t.rows) (became c) ∙ c.one_key_changes.ensures.leave_due p.part c.args.key port.rows k)
-    (left_own c.args.key (find key_cmp c.args.key p.part.rows) (own_row p.part port.contents c.args.key))
+    (left_own Belongs c.args.key (find key_cmp c.args.key p.part.rows) (own_row p.part port.contents c.args.key))
 
 pub put-requires-clause-told : goal.put-requires-clause-told
 put-requires-clause-told c q at key =

@@ -5,7 +5,7 @@ use Rattle.std.proofs.lemmas.Option.{slice_get_read}
 use Rattle.mvrp.specs.Side.{place_of}
 use Rattle.node_core.specs.declared.types.Wire.{Wire}
 use Rattle.node_core.specs.State.{NodeState, box_at}
-use Rattle.node_core.specs.Step.{HasPut, sent}
+use Rattle.node_core.specs.Step.{HasSaid, sent}
 use Rattle.node_core.proofs.Boxes.{set_set}
 use Rattle.node_core.proofs.Sending.{with_both, put_ok, put_err}
 use Rattle.node_core.proofs.node.Node.send.Goals as goal
@@ -19,6 +19,7 @@ before c =
       bridge = c.self.inside.bridge;
       clock = c.self.inside.clock;
       vlans = c.self.inside.mvrp;
+      streams = c.self.inside.msrp;
       inboxes = c.self.inside.inboxes.items;
       outboxes = c.self.inside.outboxes.items;
     }
@@ -30,7 +31,8 @@ at c = c.from-at.result - 1
 abbrev after : After-drop-index_mut → NodeState
 after c =
     record (before c) {
-      vlans = c.put_out-reply.new.side;
+      vlans = c.put_out-reply.new.mvrp;
+      streams = c.put_out-reply.new.msrp;
       outboxes = slice_set (slice_set (before c).outboxes (at c) c.replace.new.dest) (at c) c.from_vec.result;
     }
 
@@ -45,14 +47,14 @@ here c =
     (slice_get_read (before c).outboxes (length (before c).outboxes) (at c) c.index_mut.result.now refl (below c) c.index_mut.ensures.value)
     ∙ (sym c.replace.ensures.value ∙ sym c.into_vec-outbox.ensures))
 
-put : (c : After-drop-index_mut) → HasPut c.args.app (before c).clock (place_of c.args.port) (before c).vlans (box_at (place_of c.args.port) (before c).outboxes) c.put_out-reply.result c.put_out-reply.new.side c.put_out-reply.new.outbox.items
+put : (c : After-drop-index_mut) → HasSaid c.args.app (before c).clock (place_of c.args.port) (before c).vlans (before c).streams (box_at (place_of c.args.port) (before c).outboxes) c.put_out-reply.result c.put_out-reply.new.mvrp c.put_out-reply.new.msrp c.put_out-reply.new.outbox.items
 put c =
-    let P : List Wire → Type 0 = λ b. HasPut c.args.app (before c).clock (place_of c.args.port) (before c).vlans b c.put_out-reply.result c.put_out-reply.new.side c.put_out-reply.new.outbox.items in
+    let P : List Wire → Type 0 = λ b. HasSaid c.args.app (before c).clock (place_of c.args.port) (before c).vlans (before c).streams b c.put_out-reply.result c.put_out-reply.new.mvrp c.put_out-reply.new.msrp c.put_out-reply.new.outbox.items in
     subst P (sym (here c)) c.put_out-reply.ensures.put
 
-changed : (c : After-drop-index_mut) → after c ≡ with_both (before c) (place_of c.args.port) c.put_out-reply.new.side c.put_out-reply.new.outbox.items
+changed : (c : After-drop-index_mut) → after c ≡ with_both (before c) (place_of c.args.port) c.put_out-reply.new.mvrp c.put_out-reply.new.msrp c.put_out-reply.new.outbox.items
 changed c =
-    ap (λ (bs : List (List Wire)). record (before c) { vlans = c.put_out-reply.new.side; outboxes = bs })
+    ap (λ (bs : List (List Wire)). record (before c) { vlans = c.put_out-reply.new.mvrp; streams = c.put_out-reply.new.msrp; outboxes = bs })
     (set_set (before c).outboxes (at c) c.replace.new.dest c.from_vec.result
     ∙ (ap (λ (b : List Wire). slice_set (before c).outboxes (at c) b) c.from_vec.ensures
     ∙ ap (λ (n : ℕ). slice_set (before c).outboxes (n - 1) c.put_out-reply.new.outbox.items) c.from-at.ensures))
@@ -61,10 +63,10 @@ pub returns-clause-ok : goal.returns-clause-ok
 returns-clause-ok c =
     let P : NodeState → Type 0 = λ s. IfOk c.put_out-reply.result (λ reply. sent c.args.app (place_of c.args.port) s ≡ (after c, reply)) in
     subst P c.self.view_is
-    (put_ok (before c) (after c) c.args.app (place_of c.args.port) c.put_out-reply.result c.put_out-reply.new.side c.put_out-reply.new.outbox.items (put c) (changed c))
+    (put_ok (before c) (after c) c.args.app (place_of c.args.port) c.put_out-reply.result c.put_out-reply.new.mvrp c.put_out-reply.new.msrp c.put_out-reply.new.outbox.items (put c) (changed c))
 
 pub returns-clause-err : goal.returns-clause-err
 returns-clause-err c =
     let P : NodeState → Type 0 = λ s. OnErr c.put_out-reply.result (after c ≡ s) in
     subst P c.self.view_is
-    (put_err (before c) (after c) c.args.app (place_of c.args.port) c.put_out-reply.result c.put_out-reply.new.side c.put_out-reply.new.outbox.items (put c) (changed c))
+    (put_err (before c) (after c) c.args.app (place_of c.args.port) c.put_out-reply.result c.put_out-reply.new.mvrp c.put_out-reply.new.msrp c.put_out-reply.new.outbox.items (put c) (changed c))

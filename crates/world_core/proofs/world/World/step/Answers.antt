@@ -48,3 +48,16 @@ pub returns-in-Carry-clause-ok : goal.returns-in-Carry-clause-ok
 returns-in-Carry-clause-ok c =
     if_ok c.carry.result _ _
     (λ reply h. ap (λ (e : WorldEvent). world_step e c.args.self.now) c.in-Carry.is ∙ (ap (world_step (Carry c.in-Carry.at)) (sym c.self.view_is) ∙ h)) c.carry.ensures.ok
+
+pub invariant_of-self-in-Clock : goal.invariant_of-self-in-Clock
+invariant_of-self-in-Clock c =
+    kept_either c.tick_all.result (world_step Clock (record { tree = c.self.inside.tree; nodes = c.self.inside.nodes.items })) c.self.inside.tree c.self.inside.nodes.items c.tick_all.new.nodes.items
+    (if_ok c.tick_all.result _ _ (λ reply h. h c.self.inside.tree) c.tick_all.ensures.ok) c.tick_all.ensures.err
+    (c.every_event_keeps_it.ensures.event Clock (record { tree = c.self.inside.tree; nodes = c.self.inside.nodes.items })
+    (can_as c.args.event Clock c.args.self.now (record { tree = c.self.inside.tree; nodes = c.self.inside.nodes.items }) c.in-Clock.is (sym c.self.view_is) c.requires) tt c.self.invariant)
+    c.self.invariant
+
+pub returns-in-Clock-clause-ok : goal.returns-in-Clock-clause-ok
+returns-in-Clock-clause-ok c =
+    if_ok c.tick_all.result _ _
+    (λ reply h. ap (λ (e : WorldEvent). world_step e c.args.self.now) c.in-Clock.is ∙ (ap (world_step Clock) (sym c.self.view_is) ∙ h c.self.inside.tree)) c.tick_all.ensures.ok

@@ -1,0 +1,39 @@
+use Rattle.msrp.proofs.Clocked.{Laws}
+use Rattle.msrp.proofs.Ledgers.{BookLaws}
+use Rattle.msrp.proofs.Participants.{PartLaws}
+use Rattle.msrp.proofs.Settled.{MoveLaws}
+use Rattle.msrp.proofs.ProperLemmas.{proper-clocked, proper-requested, proper-settled}
+use Rattle.msrp.proofs.laws.settling_and_requests_keep_a_side_proper.Goals as goal
+
+pub returns-clause-settle : goal.returns-clause-settle
+returns-clause-settle c = λ at side proper.
+    let parts : PartLaws = record {
+      declare_rows = c.rows_stay_rows.ensures.declare;
+      withdraw_rows = c.rows_stay_rows.ensures.withdraw;
+      declare_asked = c.what_is_asked_holds.ensures.declare;
+      withdraw_asked = c.what_is_asked_holds.ensures.withdraw;
+      declare_stays = c.registrations_stay.ensures.declare;
+      withdraw_stays = c.registrations_stay.ensures.withdraw;
+      declare_only = c.one_key_changes.ensures.declare;
+      withdraw_only = c.one_key_changes.ensures.withdraw;
+    } in
+    let books : BookLaws = record {
+      wanted_kept = c.every_step_keeps_a_book.ensures.wanted;
+      unwanted_kept = c.every_step_keeps_a_book.ensures.unwanted;
+      wanted = c.other_wants_stay.ensures.wanted;
+      unwanted = c.other_wants_stay.ensures.unwanted;
+    } in
+    let moves : MoveLaws = record {
+      empty = c.nothing_changed_where_both_lists_are_empty.ensures.empty;
+      fits = c.fits_stay.ensures.booked;
+      unmoved = c.what_has_not_moved_is_booked_as_before.ensures;
+    } in
+    proper-settled parts books moves c.each_key_awaits.ensures.all_marked c.each_key_awaits-2.ensures.all_marked c.a_place_for_each_key.ensures.registered side proper at
+
+pub returns-clause-request : goal.returns-clause-request
+returns-clause-request c = λ request side fit proper. proper-requested c.each_key_awaits.ensures.all_marked side proper request fit
+
+pub returns-clause-clock : goal.returns-clause-clock
+returns-clause-clock c = λ now side up proper.
+    let laws : Laws = record { kept = c.every_step_keeps_a_book.ensures.clocked; fits = c.fits_stay.ensures.clocked } in
+    proper-clocked laws c.each_key_awaits.ensures.all_marked c.a_place_for_each_key.ensures.registered side proper now up

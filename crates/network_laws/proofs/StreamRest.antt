@@ -1,0 +1,84 @@
+-- In a network at rest the streams are still; so the laws of streams hold of it.
+use Rattle.std.proofs.Common.{◌≡◌, ℕ, ◌+◌, ◌-◌, ◌<◌, Bool, true, false, ◌&&◌, List, [], ◌∷◌, length, refl, sym, ap, ◌∙◌, arith}
+use Rattle.std.specs.Prelude.{slice_get, Option, Some, None, option_map, option_and_then}
+use Rattle.std.specs.List.{AllByRecursion}
+use Rattle.srp_base.specs.declared.numbers.EgressPort.{EgressPort}
+use Rattle.srp_base.specs.declared.numbers.StreamId.{StreamId}
+use Rattle.tree_topology.specs.Topology.{HasPort}
+use Rattle.tree_topology.specs.Ports.{neighbours, peer_of}
+use Rattle.tree_topology.specs.PortLaws.{HasPortLaws}
+use Rattle.mrp_participant.specs.State.{is_still, registered_at, declared_at}
+use Rattle.msrp_codec.specs.declared.pdu.MsrpKey.{MsrpKey}
+use Rattle.msrp_codec.specs.declared.pdu.MsrpContent.{MsrpContent}
+use Rattle.msrp.specs.declared.port.Port.{Port}
+use Rattle.msrp.specs.Part.{Part, key_cmp}
+use Rattle.msrp.specs.Side.{place_of}
+use Rattle.node_core.specs.State.{NodeState}
+use Rattle.world_core.specs.World.{WorldState, node_at}
+use Rattle.world_core.specs.Duty.{streams_said, stream_place, stream_part}
+use Rattle.world_core.specs.Kept.{IsKeptWorld, IsIdleBridge, FitsTree}
+use Rattle.network_laws.specs.Vlans.{IsAtRest}
+use Rattle.network_laws.specs.Streams.{IsTalkedOnce, KeepsStreamLaws}
+use Rattle.network_laws.proofs.Lists.{each-get, get-all}
+use Rattle.network_laws.proofs.AtRest.{StillLink, still-at, registers-declared}
+use Rattle.network_laws.proofs.StreamNode.{KeptWants}
+use Rattle.network_laws.proofs.StreamNet.{stream_port, AreStreamsStill}
+use Rattle.network_laws.proofs.StreamLaw.{WalkBehind, WalkPath, talkers-match, are-ready-on-path, are-refusals-shown}
+
+module _ (w : WorldState) (kept : IsKeptWorld w) (rest : IsAtRest w) (laws : HasPortLaws w.tree) (still : StillLink MsrpKey MsrpContent key_cmp) where
+  -- the node and the place of what MSRP keeps of a port
+  record Held (p : EgressPort) (a : Port) : Type 0 where
+    s : NodeState
+    node : node_at p.node w ≡ Some s
+    has : slice_get s.streams.ports (place_of p.port) ≡ Some a
+
+  held : (p : EgressPort) (a : Port) → stream_port p w ≡ Some a → Held p a
+  held p a h = by (node_at p.node w) refl
+    where
+      by : (o : Option NodeState) → node_at p.node w ≡ o → Held p a
+      by None e = let none : stream_port p w ≡ None = ap (λ o. option_and_then (λ (s : NodeState). slice_get s.streams.ports (place_of p.port)) o) e in cc
+      by (Some s) e = record { s = s; node = e; has = sym (ap (λ o. option_and_then (λ (s : NodeState). slice_get s.streams.ports (place_of p.port)) o) e) ∙ h }
+
+  part-of : (p : EgressPort) (a : Port) → Held p a → stream_part p w ≡ Some a.part
+  part-of p a h =
+      ap (λ o. option_and_then (stream_place (place_of p.port)) o) h.node ∙ ap (λ o. option_map (λ (x : Port). x.part) o) h.has
+
+  part-still : (p : EgressPort) (a : Port) → Held p a → is_still a.part ≡ true
+  part-still p a h = get-all (λ (x : Port). is_still x.part) h.s.streams.ports (place_of p.port) a (still-at w rest (p.node.0 - 1) h.s h.node).streams h.has
+
+  part-sound : (p : EgressPort) (a : Port) → Held p a → a.part.sound ≡ true
+  part-sound p a h = get-all (λ (x : Port). x.part.sound) h.s.streams.ports (place_of p.port) a (still-at w rest (p.node.0 - 1) h.s h.node).streams_sound h.has
+
+  linked : (p : EgressPort) → HasPort w.tree p → (a b : Port) → stream_port p w ≡ Some a → stream_port (peer_of w.tree.links p) w ≡ Some b
+      → (key : MsrpKey) → registered_at key_cmp key a.part ≡ declared_at key_cmp key b.part
+  linked p h a b x y key =
+      let q = peer_of w.tree.links p in
+      let near = held p a x in
+      let far = held q b y in
+      registers-declared w rest kept laws key_cmp stream_place streams_said kept.streams still p h a.part b.part (part-of p a near) (part-of q b far)
+      (part-still p a near) (part-still q b far) (part-sound q b far) key
+
+  fits : (x : ℕ) (s : NodeState) → slice_get w.nodes x ≡ Some s → FitsTree w.tree x s
+  fits x s e = kept.nodes x s e
+
+  pub are-still : AreStreamsStill w
+  are-still =
+      record {
+        laws = laws;
+        many = kept.many;
+        kept = λ x s e. (fits x s e).kept.kept.streams;
+        ports = λ x s e. (fits x s e).kept.kept.same_ports ∙ (fits x s e).ports;
+        none_await = λ x s e. (still-at w rest x s e).no_keys;
+        moment = λ x s e. (fits x s e).kept.kept.moment;
+        named = λ x s i port e g. each-get (λ (p : Port). p.config.bridge ≡ s.bridge) s.streams.ports i port (fits x s e).kept.named g;
+        idle = λ x s e k. (each-get IsIdleBridge w.nodes x s kept.idle e k).talks;
+        linked = linked;
+      }
+
+  pub keeps-stream-laws : KeptWants → WalkBehind w → WalkPath w → (stream : StreamId) → IsTalkedOnce w stream → KeepsStreamLaws w stream
+  keeps-stream-laws wants behind path stream once =
+      record {
+        talkers = talkers-match w are-still stream wants once behind;
+        ready = are-ready-on-path w are-still stream wants once path;
+        refusals = are-refusals-shown w are-still stream wants once path;
+      }

@@ -1,0 +1,9 @@
+use Rattle.world_core.specs.World.{world_after}
+use Rattle.world_core.specs.Start.{world_of}
+use Rattle.network_laws.proofs.laws.streams_keep_their_laws_after_every_list_of_events.Goals as goal
+
+pub returns : goal.returns
+returns c = λ plan events stream rules can named rest once.
+    c.streams_keep_their_laws.ensures.law (world_after events (world_of plan)) stream
+    (c.every_event_keeps_it.ensures.events events (world_of plan) can named (c.a_scenario_begins_well.ensures plan rules))
+    rest once

@@ -1,0 +1,29 @@
+//! The parts of a node that say what is in force at a port.
+
+ghost use Rattle.std.specs.Prelude.{◌≡◌, slice_get, Some, IfSome};
+ghost use Rattle.mvrp.specs.Side.{IsLinkPort, place_of};
+ghost use Rattle.node_core.specs.State.{ports_of};
+
+use crate::node::Node;
+use mrp_participant::Participant;
+use mvrp::MvrpApp;
+use port_ledger::Ledger;
+use srp_base::PortNo;
+
+impl Node {
+    /// The participant of MVRP at a port.
+    pub fn vlan_part(&self, port: PortNo) -> &Participant<MvrpApp>
+        requires { IsLinkPort port (ports_of self.now) }
+        ensures { slice_get self.now.vlans.parts (place_of port) ≡ Some result.now }
+    {
+        self.mvrp.participant(port)
+    }
+
+    /// The ledger of a port.
+    pub fn ledger(&self, port: PortNo) -> &Ledger
+        requires { IsLinkPort port (ports_of self.now) }
+        ensures { IfSome (slice_get self.now.streams.ports (place_of port)) (λ p. result.now ≡ p.ledger) }
+    {
+        self.msrp.ledger(port)
+    }
+}

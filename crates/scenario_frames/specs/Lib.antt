@@ -1,0 +1,4 @@
+pub mod PlanFrames
+pub mod Setting
+pub mod Laws
+pub mod Times

@@ -1,8 +1,0 @@
-use Rattle.srp_report.proofs.LinkPorts.{link-port}
-use Rattle.srp_report.proofs.ports.put_registered.Goals as goal
-
-pub keys-requires : goal.keys-requires
-keys-requires c = link-port c.args.world.now c.keeps.ensures c.args.at c.requires c.node-node.result.now c.node-node.ensures
-
-pub put_keys-requires : goal.put_keys-requires
-put_keys-requires c = link-port c.args.world.now c.keeps.ensures c.args.at c.requires c.node-node.result.now c.node-node.ensures

@@ -1,0 +1,11 @@
+use Rattle.std.proofs.Common.{◌≡◌, ◌++◌, drop}
+use Rattle.std.specs.Prelude.{flat_map}
+use Rattle.mvrp.specs.Side.{place_of}
+use Rattle.srp_report.specs.Report.{key_line}
+use Rattle.srp_report.proofs.registered.put_keys.Given as goal
+
+-- the text so far with the lines of the attributes that are left is the whole
+abbrev pub invariant-loop-key : goal.invariant-loop-key
+invariant-loop-key l =
+    l.out.items ++ flat_map (key_line l.port (place_of l.at) l.node) (drop l.key-index l.keys)
+    ≡ l.fn.out.items ++ flat_map (key_line l.port (place_of l.at) l.node) l.keys

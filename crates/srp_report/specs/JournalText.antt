@@ -1,0 +1,92 @@
+-- What is printed of a run's journal: in each tick the scripted events with what became of them, and then the steps
+-- in the journal's order. A tick in which nothing happened prints nothing.
+use Rattle.std.specs.Prelude.{ℕ, ◌+◌, List, [], ◌∷◌, ◌++◌, codes, flat_map}
+use Rattle.std.specs.Fmt.{decimal}
+use Rattle.srp_base.specs.Text.{joined}
+use Rattle.srp_base.specs.declared.numbers.NodeNo.{NodeNo}
+use Rattle.srp_base.specs.declared.mrp.App.{App}
+use Rattle.srp_base.specs.declared.mrp.App.TheVariants.{Mvrp, Msrp}
+use Rattle.topology_file.specs.Plan.{Plan}
+use Rattle.node_core.specs.declared.types.NodeStep.{NodeStep}
+use Rattle.node_core.specs.declared.types.PortStep.{PortStep}
+use Rattle.node_core.specs.declared.types.PortStep.TheVariants.{Work, LeaveNow, LeaveAllNow, PeriodicNow, Due, Settle, Send}
+use Rattle.node_core.specs.declared.types.StepReply.{StepReply}
+use Rattle.node_core.specs.declared.types.StepReply.TheVariants.{Nothing, Discarded, Received, Fired, Settled, Silent, Sent, Taken}
+use Rattle.world_core.specs.declared.events.WorldReply.{WorldReply}
+use Rattle.world_core.specs.declared.events.WorldReply.TheVariants.{Step, Done, Missed}
+use Rattle.world_core.specs.declared.journal.NodeSteps.{NodeSteps}
+use Rattle.world_core.specs.declared.journal.Tick.{Tick}
+use Rattle.srp_report.specs.Lines.{port_name}
+
+-- ---- the words
+
+abbrev pub app_name : App → List ℕ
+app_name Mvrp = codes "mvrp"
+app_name Msrp = codes "msrp"
+
+-- a step; those that fire one timer whatever the moment are in no tick
+abbrev pub step_name : PortStep → List ℕ
+step_name Work = codes "work"
+step_name (LeaveNow key) = codes "leave"
+step_name (LeaveAllNow app) = joined (codes "leaveall " ∷ app_name app ∷ [])
+step_name (PeriodicNow app) = joined (codes "periodic " ∷ app_name app ∷ [])
+step_name Due = codes "due"
+step_name Settle = codes "settle"
+step_name (Send app) = joined (codes "send " ∷ app_name app ∷ [])
+
+-- a step's answer; no step of a port is answered by `taken`
+abbrev pub reply_name : StepReply → List ℕ
+reply_name Nothing = codes "nothing"
+reply_name (Discarded place) = joined (codes "discarded " ∷ decimal place ∷ [])
+reply_name (Received count) = joined (codes "received " ∷ decimal count ∷ [])
+reply_name (Fired count) = joined (codes "fired " ∷ decimal count ∷ [])
+reply_name (Settled count) = joined (codes "settled " ∷ decimal count ∷ [])
+reply_name Silent = codes "silent"
+reply_name (Sent octets) = joined (codes "sent " ∷ decimal octets ∷ [])
+reply_name Taken = codes "taken"
+
+-- what became of a scripted event
+abbrev pub event_name : WorldReply → List ℕ
+event_name (Step reply) = codes "done"
+event_name Done = codes "done"
+event_name Missed = codes "missed"
+
+-- ---- the lines of a tick
+
+-- `T event E done` or `T event E missed`
+abbrev pub event_line : ℕ → ℕ × WorldReply → List ℕ
+event_line t e = joined (
+    decimal t ∷ codes " event " ∷ decimal e.0 ∷ codes " " ∷ event_name e.1 ∷ codes "\n" ∷ [])
+
+-- `T P STEP REPLY`
+abbrev pub place_text : ℕ → List ℕ → List ℕ
+place_text t port = joined (decimal t ∷ codes " " ∷ port ∷ codes " " ∷ [])
+
+abbrev pub made_text : NodeStep → List ℕ
+made_text st = joined (step_name st.step ∷ codes " " ∷ reply_name st.reply ∷ codes "\n" ∷ [])
+
+abbrev pub step_line : ℕ → List ℕ → NodeStep → List ℕ
+step_line t port st = place_text t port ++ made_text st
+
+-- a step of a node
+abbrev pub line_at : Plan → ℕ → NodeNo → NodeStep → List ℕ
+line_at plan t node st = step_line t (port_name plan plan.tree.links (record { node = node; port = st.port })) st
+
+-- the steps of a node
+abbrev pub step_lines : Plan → ℕ → NodeSteps → List ℕ
+step_lines plan t ns = flat_map (line_at plan t ns.node) ns.steps
+
+-- a tick
+abbrev pub tick_lines : Plan → ℕ → Tick → List ℕ
+tick_lines plan t tick = flat_map (event_line t) tick.events ++ flat_map (step_lines plan t) tick.steps
+
+-- ---- the text
+
+-- those of some ticks, of which the first has number t
+abbrev pub ticks_lines : Plan → ℕ → List Tick → List ℕ
+ticks_lines plan t [] = []
+ticks_lines plan t (tick ∷ ticks) = tick_lines plan t tick ++ ticks_lines plan (t + 1) ticks
+
+-- of a scenario and the ticks of a run
+abbrev pub journal_text : Plan → List Tick → List ℕ
+journal_text plan ticks = codes "journal\n" ++ ticks_lines plan 0 ticks

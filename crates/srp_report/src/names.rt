@@ -1,0 +1,77 @@
+//! The names of ports.
+
+ghost use Rattle.std.specs.Prelude.{◌≡◌, ◌++◌, ◌↔◌, IfOk, OnOk, IsTrue};
+ghost use Rattle.tree_topology.specs.Topology.{HasPort};
+ghost use Rattle.tree_topology.specs.Ports.{peer_of};
+ghost use Rattle.srp_report.specs.Lines.{name_of, port_name as port_name_spec};
+
+use srp_base::{EgressPort, NodeNo, PortNo};
+use std::alloc::{AllocError, Global};
+use topology_file::{NodeEntry, Scenario};
+use tree_topology::Tree;
+
+/// The name of a port: those of its node and of its peer's.
+pub(crate) fn port_name(
+    alloc: Global,
+    scenario: &Scenario,
+    tree: &Tree,
+    at: EgressPort,
+) -> Result<Vec<u8>, AllocError>
+    ensures { IfOk result (λ v. v.items ≡ port_name_spec scenario.now tree.now.links at) }
+{
+    let mut name = Vec::new(alloc);
+    put_port_name(&mut name, scenario, tree, at)?;
+    Ok(name)
+}
+
+/// Puts the name of a port at the end of a text.
+pub(crate) fn put_port_name(
+    out: &mut Vec<u8>,
+    scenario: &Scenario,
+    tree: &Tree,
+    at: EgressPort,
+) -> Result<(), AllocError>
+    ensures { OnOk result (out.new.items
+        ≡ out.old.items ++ port_name_spec scenario.now tree.now.links at) }
+{
+    let nodes = scenario.nodes.as_slice();
+    out.extend_from_slice(node_name(nodes, at.node))?;
+    out.push(b'>')?;
+    out.extend_from_slice(node_name(nodes, peer_node(tree, at)))
+}
+
+// The node of a port's peer. A port that the tree hasn't has node 0, and port 0 of a node has that of port 1.
+fn peer_node(tree: &Tree, at: EgressPort) -> NodeNo
+    ensures { result ≡ (peer_of tree.now.links at).node }
+{
+    tree.keeps();
+    let port = EgressPort {
+        node: at.node,
+        port: PortNo(at.port.0.max(1)),
+    };
+    if has_port(tree, port) {
+        tree.peer(port).node
+    } else {
+        NodeNo(0)
+    }
+}
+
+// Whether the tree has a port.
+fn has_port(tree: &Tree, at: EgressPort) -> bool
+    ensures { IsTrue result ↔ HasPort tree.now at }
+{
+    1 <= at.node.0
+        && at.node.0 <= tree.nodes()
+        && 1 <= at.port.0
+        && at.port.0 <= tree.ports(at.node)
+}
+
+/// The name of a node.
+pub(crate) fn node_name(nodes: &[NodeEntry], number: NodeNo) -> &[u8]
+    ensures { result.now ≡ name_of nodes.now number }
+{
+    match nodes.get(usize::from(number.0).saturating_sub(1)) {
+        Some(node) => node.name.as_slice(),
+        None => [].as_slice(),
+    }
+}

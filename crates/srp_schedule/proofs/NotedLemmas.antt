@@ -1,0 +1,102 @@
+-- The timeline of the run so far, and one tick more.
+use Rattle.std.proofs.Common.{◌≡◌, ℕ, suc, ◌+◌, ◌<◌, ◌≤◌, ◌⊎◌, inl, inr, List, [], ◌∷◌, ◌++◌, length, map, refl, sym, ap, subst, ◌∙◌, arith}
+use Rattle.std.proofs.lemmas.List.{length_push}
+use Rattle.srp_base.specs.declared.numbers.EgressPort.{EgressPort}
+use Rattle.srp_base.specs.declared.ports.PortChange.{PortChange}
+use Rattle.tree_topology.specs.Topology.{Topology, HasPort}
+use Rattle.topology_file.specs.Plan.{Plan}
+use Rattle.world_core.specs.declared.events.WorldEvent.{WorldEvent}
+use Rattle.world_core.specs.declared.journal.Tick.{Tick}
+use Rattle.world_core.specs.World.{WorldState, world_after}
+use Rattle.world_core.specs.Start.{world_of}
+use Rattle.world_core.specs.Ticks.{scripted, step_events, after_script, after_steps, closing_events, tick_events}
+use Rattle.world_core.specs.During.{IsDuring}
+use Rattle.world_core.specs.Timeline.{force_at, noted, AreChanges, Says, SaysFrom, world_after_ticks, IsTimelineOf}
+use Rattle.srp_schedule.specs.Noted.{IsNoted}
+use Rattle.srp_schedule.proofs.StepLemmas.{after_append}
+use Rattle.srp_schedule.proofs.TickLemmas.{IsRunTo, no_tick}
+
+-- what this rests on, as the public laws say it
+pub record TimelineLaws : Type 0 where
+  pub noted : (plan : Plan) (ticks : List Tick) (tick : Tick) (changes : List PortChange) (w : WorldState) → IsTimelineOf plan ticks changes
+      → w ≡ after_steps plan (length ticks) tick (world_after_ticks plan ticks) → w.tree ≡ plan.tree → IsTimelineOf plan (ticks ++ tick ∷ []) (noted (length ticks) w changes)
+  pub same : (plan : Plan) (ticks : List Tick) (tick : Tick) (changes : List PortChange) (w : WorldState) → IsTimelineOf plan ticks changes
+      → w ≡ after_steps plan (length ticks) tick (world_after_ticks plan ticks) → w.tree ≡ plan.tree → SaysFrom (length ticks) changes w → IsTimelineOf plan (ticks ++ tick ∷ []) changes
+  pub next : (plan : Plan) (ticks : List Tick) (tick : Tick)
+      → world_after_ticks plan (ticks ++ tick ∷ []) ≡ world_after (closing_events plan.tree) (after_steps plan (length ticks) tick (world_after_ticks plan ticks))
+  pub from : (tick : ℕ) (w : WorldState) (changes : List PortChange) → AreChanges w.tree tick changes → SaysFrom tick (noted tick w changes) w
+  pub closing : (tree : Topology) (w : WorldState) (p : EgressPort) → force_at p (world_after (closing_events tree) w) ≡ force_at p w
+  pub trees : (es : List WorldEvent) (w : WorldState) → (world_after es w).tree ≡ w.tree
+
+-- the ticks before tick t have their timeline, which says what is in force now
+pub record IsNotedTo (plan : Plan) (t : ℕ) (made : List Tick) (w : WorldState) (i : ℕ) (changes : List PortChange) : Type 0 where
+  pub run : IsRunTo plan t made w i
+  pub many : length made ≡ t
+  pub reached : w ≡ world_after_ticks plan made
+  pub timeline : IsTimelineOf plan made changes
+  pub says : SaysFrom t changes w
+
+pub changes_are : (plan : Plan) (t : ℕ) (made : List Tick) (w : WorldState) (i : ℕ) (changes : List PortChange) → IsNotedTo plan t made w i changes → AreChanges plan.tree t changes
+changes_are plan t made w i changes h = subst (λ (k : ℕ). AreChanges plan.tree k changes) h.many h.timeline.are
+
+pub none_noted : (plan : Plan) → IsDuring plan.tree 0 (world_of plan) → IsTimelineOf plan [] [] → SaysFrom 0 [] (world_of plan) → IsNotedTo plan 0 [] (world_of plan) 0 []
+none_noted plan during timeline says = record { run = no_tick plan during; many = refl; reached = refl; timeline = timeline; says = says }
+
+module _ (laws : TimelineLaws) (plan : Plan) (t : ℕ) (ticks : List Tick) (w v : WorldState) (cursor next : ℕ) (tick : Tick) (changes after : List PortChange) (before : IsNotedTo plan t ticks w cursor changes)
+    (made : v ≡ world_after (tick_events plan t tick) w) (is : IsNoted plan t w tick changes after) where
+  u : WorldState
+  u = after_steps plan t tick w
+
+  unfolding u
+
+  u_reached : u ≡ after_steps plan (length ticks) tick (world_after_ticks plan ticks)
+  u_reached =
+      ap (λ (x : WorldState). after_steps plan t tick x) before.reached ∙ ap (λ (k : ℕ). after_steps plan k tick (world_after_ticks plan ticks)) (sym before.many)
+
+  unfolding u
+
+  u_tree : u.tree ≡ plan.tree
+  u_tree = laws.trees (step_events tick.steps) (after_script plan t w) ∙ laws.trees (map (λ (e : ℕ × WorldEvent). e.1) (scripted plan t)) w ∙ before.run.during.tree_is
+
+  unfolding u
+
+  v_closes : v ≡ world_after (closing_events plan.tree) u
+  v_closes =
+      let script : List WorldEvent = map (λ (e : ℕ × WorldEvent). e.1) (scripted plan t) in
+      let steps : List WorldEvent = step_events tick.steps in
+      made ∙ after_append (script ++ steps) (closing_events plan.tree) w ∙ ap (λ (x : WorldState). world_after (closing_events plan.tree) x) (after_append script steps w)
+
+  says_later : (cs : List PortChange) → SaysFrom t cs u → SaysFrom (t + 1) cs v
+  says_later cs says p has k le =
+      let tree : v.tree ≡ u.tree = ap (λ (x : WorldState). x.tree) v_closes ∙ laws.trees (closing_events plan.tree) u in
+      says p (subst (λ (r : Topology). HasPort r p) tree has) k (omega (arith, le)) ∙ sym (ap (force_at p) v_closes ∙ laws.closing plan.tree u p)
+
+  are : AreChanges u.tree t changes
+  are = subst (λ (r : Topology). AreChanges r t changes) (sym u_tree) (changes_are plan t ticks w cursor changes before)
+
+  both : IsTimelineOf plan (ticks ++ tick ∷ []) after × SaysFrom (t + 1) after v
+  unfolding u
+  both =
+      elim is [
+        | inl e ↦ (
+          subst (λ (cs : List PortChange). IsTimelineOf plan (ticks ++ tick ∷ []) cs) (ap (λ (k : ℕ). noted k u changes) before.many ∙ sym e)
+              (laws.noted plan ticks tick changes u before.timeline u_reached u_tree),
+          subst (λ (cs : List PortChange). SaysFrom (t + 1) cs v) (sym e) (says_later (noted t u changes) (laws.from t u changes are)),
+        )
+        | inr h ↦ (
+            let here : SaysFrom t changes u = subst (SaysFrom t changes) (sym h.0) before.says in (
+              subst (λ (cs : List PortChange). IsTimelineOf plan (ticks ++ tick ∷ []) cs) (sym h.1)
+                  (laws.same plan ticks tick changes u before.timeline u_reached u_tree (subst (λ (k : ℕ). SaysFrom k changes u) (sym before.many) here)),
+              subst (λ (cs : List PortChange). SaysFrom (t + 1) cs v) (sym h.1) (says_later changes here),
+            ))
+      ]
+
+  pub one_noted : IsRunTo plan (t + 1) (ticks ++ tick ∷ []) v next → IsNotedTo plan (t + 1) (ticks ++ tick ∷ []) v next after
+  one_noted run =
+      record {
+        run = run;
+        many = length_push ticks tick ∙ ap (λ (k : ℕ). k + 1) before.many;
+        reached = v_closes ∙ ap (λ (x : WorldState). world_after (closing_events plan.tree) x) u_reached ∙ sym (laws.next plan ticks tick);
+        timeline = both.0;
+        says = both.1;
+      }

@@ -1,0 +1,143 @@
+-- What is in force at a port is changed neither by the carrying of PDUs nor by the clock, and nothing is at the start.
+use Rattle.std.proofs.Common.{◌≡◌, ℕ, zero, suc, ◌+◌, ◌*◌, ◌-◌, ◌<◌, ◌≢◌, List, [], ◌∷◌, ◌++◌, length, map, Option, Some, None, refl, sym, ap, ◌∙◌}
+use Rattle.std.specs.Prelude.{Bool, ◌==◌, slice_get, slice_set, IfSome}
+use Rattle.std.proofs.lemmas.Option.{none-some}
+use Rattle.std.specs.Option.{option_map_or}
+use Rattle.srp_base.specs.declared.numbers.EgressPort.{EgressPort}
+use Rattle.srp_base.specs.declared.numbers.NodeNo.{NodeNo}
+use Rattle.srp_base.specs.declared.numbers.StreamId.{StreamId}
+use Rattle.srp_base.specs.declared.numbers.BridgeId.{BridgeId}
+use Rattle.srp_base.specs.declared.numbers.Cs.{Cs}
+use Rattle.srp_base.specs.declared.ports.PortSetup.{PortSetup}
+use Rattle.srp_base.specs.declared.bandwidth.Class.{Class}
+use Rattle.srp_base.specs.declared.bandwidth.Class.TheVariants.{A, B}
+use Rattle.stream_importance.specs.declared.entry.Entry.{Entry}
+use Rattle.port_ledger.specs.Decision.{booked_of}
+use Rattle.port_ledger.specs.Book.{Book, booked_slope}
+use Rattle.tree_topology.specs.declared.graph.NodeKind.{NodeKind}
+use Rattle.tree_topology.specs.Topology.{Topology}
+use Rattle.tree_topology.specs.Ports.{peer_of}
+use Rattle.topology_file.specs.declared.entries.NodeEntry.{NodeEntry}
+use Rattle.topology_file.specs.Plan.{Plan}
+use Rattle.mvrp.specs.Part.{Part}
+use Rattle.mvrp.specs.Side.{place_of}
+use Rattle.mrp_participant.specs.State.{new_state}
+use Rattle.msrp.specs.declared.port.Port.{Port as SrpPort}
+use Rattle.msrp.specs.Side.{new_port, clocked_port}
+use Rattle.node_core.specs.State.{NodeState, new_node}
+use Rattle.node_core.specs.Step.{clocked_node, node_step}
+use Rattle.node_core.specs.declared.types.NodeEvent.TheVariants as node_events
+use Rattle.node_core.specs.Links.{with_outbox, with_carried}
+use Rattle.world_core.specs.declared.events.WorldEvent.{WorldEvent}
+use Rattle.world_core.specs.declared.events.WorldEvent.TheVariants.{Carry, Clock}
+use Rattle.world_core.specs.World.{WorldState, node_at, with_node, with_changed, outbox, carried, ticked, world_step, world_after}
+use Rattle.world_core.specs.Start.{world_of, nodes_from, setups_from}
+use Rattle.world_core.specs.Ticks.{link_ports, closing_events}
+use Rattle.world_core.specs.Force.{Force, no_force, booked_streams, registered_vids, force_of}
+use Rattle.world_core.specs.Timeline.{node_force, force_at}
+use Rattle.world_core.proofs.Lists.{within}
+
+-- ---- what is read at a place of a list
+
+-- of a list whose elements have become others that read the same
+read_map : {X Y : Type 0} (f : X → Y) (none : Y) (g : X → X) → ((x : X) → f (g x) ≡ f x) → (xs : List X) (i : ℕ) → option_map_or f (slice_get (map g xs) i) none ≡ option_map_or f (slice_get xs i) none
+read_map f none g same [] i = refl
+read_map f none g same (x ∷ xs) zero = same x
+read_map f none g same (x ∷ xs) (suc i) = read_map f none g same xs i
+
+-- of elements that all read as nothing
+read_made : {S X Y : Type 0} (f : X → Y) (none : Y) (g : S → X) → ((s : S) → f (g s) ≡ none) → (ss : List S) (i : ℕ) → option_map_or f (slice_get (map g ss) i) none ≡ none
+read_made f none g nothing [] i = refl
+read_made f none g nothing (s ∷ ss) zero = nothing s
+read_made f none g nothing (s ∷ ss) (suc i) = read_made f none g nothing ss i
+
+-- of a list in which one element has become another that reads the same
+read_set : {X Y : Type 0} (f : X → Y) (none : Y) (xs : List X) (i j : ℕ) (x y : X) → slice_get xs i ≡ Some x → f y ≡ f x → option_map_or f (slice_get (slice_set xs i y) j) none ≡ option_map_or f (slice_get xs j) none
+read_set f none [] i j x y is same = refl
+read_set f none (z ∷ xs) zero zero x y is same = same ∙ ap (λ o. option_map_or f o none) (sym is)
+read_set f none (z ∷ xs) zero (suc j) x y is same = refl
+read_set f none (z ∷ xs) (suc i) zero x y is same = refl
+read_set f none (z ∷ xs) (suc i) (suc j) x y is same = read_set f none xs i j x y is same
+
+-- ---- at a node
+
+same_force : (f g : Force) → f.booked ≡ g.booked → f.slope_a ≡ g.slope_a → f.slope_b ≡ g.slope_b → f.vids ≡ g.vids → f ≡ g
+same_force f g booked a b vids =
+    ap (λ (x : List StreamId). record { booked = x; slope_a = f.slope_a; slope_b = f.slope_b; vids = f.vids }) booked
+    ∙ ap (λ (x : ℕ). record { booked = g.booked; slope_a = x; slope_b = f.slope_b; vids = f.vids }) a
+    ∙ ap (λ (x : ℕ). record { booked = g.booked; slope_a = g.slope_a; slope_b = x; vids = f.vids }) b
+    ∙ ap (λ (x : List ℕ). record { booked = g.booked; slope_a = g.slope_a; slope_b = g.slope_b; vids = x }) vids
+
+-- the clock leaves the bookings
+clock_keeps : (at : ℕ) (s : NodeState) → node_force at (node_step node_events.Clock s).0 ≡ node_force at s
+clock_keeps at s =
+    let t = clocked_node s in
+    same_force (node_force at t) (node_force at s)
+    (ap (map (λ (x : Entry). x.want.stream)) (read_map (λ (p : SrpPort). booked_of p.ledger.entries) [] (clocked_port (s.clock.0 + 1)) (λ p. refl) s.streams.ports at))
+    (read_map (λ (p : SrpPort). booked_slope p.ledger.entries A) 0 (clocked_port (s.clock.0 + 1)) (λ p. refl) s.streams.ports at)
+    (read_map (λ (p : SrpPort). booked_slope p.ledger.entries B) 0 (clocked_port (s.clock.0 + 1)) (λ p. refl) s.streams.ports at)
+    refl
+
+-- nothing is in force at a new node
+new_has_none : (kind : NodeKind) (bridge : BridgeId) (leave_time : Cs) (periodic : Bool) (ports : List PortSetup) (at : ℕ) → node_force at (new_node kind bridge leave_time periodic ports) ≡ no_force
+new_has_none kind bridge leave_time periodic ports at =
+    same_force (node_force at (new_node kind bridge leave_time periodic ports)) no_force
+    (ap (map (λ (x : Entry). x.want.stream)) (read_made (λ (p : SrpPort). booked_of p.ledger.entries) [] (new_port bridge leave_time periodic) (λ s. refl) ports at))
+    (read_made (λ (p : SrpPort). booked_slope p.ledger.entries A) 0 (new_port bridge leave_time periodic) (λ s. refl) ports at)
+    (read_made (λ (p : SrpPort). booked_slope p.ledger.entries B) 0 (new_port bridge leave_time periodic) (λ s. refl) ports at)
+    (read_made (λ (p : Part). registered_vids p.rows) [] (λ (q : PortSetup). new_state q.period leave_time periodic) (λ s. refl) ports at)
+
+-- what a port has in force by its participant and its ledger
+port_force : (s : NodeState) (at : ℕ) (part : Part) (book : Book) (o : Option Part) (q : Option SrpPort) → o ≡ Some part → q ≢ None → IfSome q (λ p. book ≡ p.ledger)
+    → slice_get s.vlans.parts at ≡ o → slice_get s.streams.ports at ≡ q → node_force at s ≡ force_of part book
+port_force s at part book o None there some is e f = absurd (some refl)
+port_force s at part book o (Some p) there some is e f =
+    same_force (node_force at s) (force_of part book)
+    (ap (λ (r : Option SrpPort). map (λ (x : Entry). x.want.stream) (option_map_or (λ (y : SrpPort). booked_of y.ledger.entries) r [])) f ∙ ap (λ (b : Book). booked_streams b.entries) (sym is))
+    (ap (λ (r : Option SrpPort). option_map_or (λ (y : SrpPort). booked_slope y.ledger.entries A) r 0) f ∙ ap (λ (b : Book). booked_slope b.entries A) (sym is))
+    (ap (λ (r : Option SrpPort). option_map_or (λ (y : SrpPort). booked_slope y.ledger.entries B) r 0) f ∙ ap (λ (b : Book). booked_slope b.entries B) (sym is))
+    (ap (λ (r : Option Part). option_map_or (λ (y : Part). registered_vids y.rows) r []) (e ∙ there))
+
+pub force_is : (s : NodeState) (at : ℕ) (part : Part) (book : Book) → at < length s.streams.ports → slice_get s.vlans.parts at ≡ Some part → IfSome (slice_get s.streams.ports at) (λ p. book ≡ p.ledger)
+    → node_force at s ≡ force_of part book
+force_is s at part book lt there is =
+    port_force s at part book (slice_get s.vlans.parts at) (slice_get s.streams.ports at) there
+    (λ none. let w = within s.streams.ports at lt in none-some w.0 (sym none ∙ w.1)) is refl refl
+
+-- ---- in a network
+
+-- a node has become one with the same in force
+found_changed : (n : NodeNo) (change : NodeState → NodeState) (p : EgressPort) → ((s : NodeState) → node_force (place_of p.port) (change s) ≡ node_force (place_of p.port) s) → (w : WorldState)
+    (o : Option NodeState) → node_at n w ≡ o → force_at p (option_map_or (λ s. with_node n (change s) w) o w) ≡ force_at p w
+found_changed n change p same w None is = refl
+found_changed n change p same w (Some s) is = read_set (node_force (place_of p.port)) no_force w.nodes (n.0 - 1) (p.node.0 - 1) s (change s) is (same s)
+
+force_changed : (n : NodeNo) (change : NodeState → NodeState) (p : EgressPort) → ((s : NodeState) → node_force (place_of p.port) (change s) ≡ node_force (place_of p.port) s) → (w : WorldState)
+    → force_at p (with_changed n change w) ≡ force_at p w
+force_changed n change p same w = found_changed n change p same w (node_at n w) refl
+
+carry_keeps : (q p : EgressPort) (w : WorldState) → force_at p (carried q w) ≡ force_at p w
+carry_keeps q p w =
+    let r = peer_of w.tree.links q in
+    let taken = with_changed q.node (with_outbox (place_of q.port) []) w in
+    force_changed r.node (with_carried (place_of r.port) (outbox q w)) p (λ s. refl) taken ∙ force_changed q.node (with_outbox (place_of q.port) []) p (λ s. refl) w
+
+tick_keeps : (p : EgressPort) (w : WorldState) → force_at p (ticked w) ≡ force_at p w
+tick_keeps p w = read_map (node_force (place_of p.port)) no_force (λ s. (node_step node_events.Clock s).0) (clock_keeps (place_of p.port)) w.nodes (p.node.0 - 1)
+
+ports_keep : (qs : List EgressPort) (p : EgressPort) (w : WorldState) → force_at p (world_after (map Carry qs ++ (Clock ∷ [])) w) ≡ force_at p w
+ports_keep [] p w = tick_keeps p w
+ports_keep (q ∷ qs) p w = ports_keep qs p (carried q w) ∙ carry_keeps q p w
+
+-- what ends a tick changes nothing that is in force
+pub closing_keeps : (tree : Topology) (w : WorldState) (p : EgressPort) → force_at p (world_after (closing_events tree) w) ≡ force_at p w
+closing_keeps tree w p = ports_keep (link_ports tree) p w
+
+nodes_have_none : (plan : Plan) (x : ℕ) (entries : List NodeEntry) (i at : ℕ) → option_map_or (node_force at) (slice_get (nodes_from plan x entries) i) no_force ≡ no_force
+nodes_have_none plan x [] i at = refl
+nodes_have_none plan x (n ∷ entries) zero at = new_has_none n.kind n.id plan.leave_time plan.periodic (setups_from 1 x plan.links) at
+nodes_have_none plan x (n ∷ entries) (suc i) at = nodes_have_none plan (x + 1) entries i at
+
+-- nothing is in force at the start
+pub start_has_none : (plan : Plan) (p : EgressPort) → force_at p (world_of plan) ≡ no_force
+start_has_none plan p = nodes_have_none plan 1 plan.nodes (p.node.0 - 1) (place_of p.port)

@@ -1,0 +1,8 @@
+use Rattle.std.proofs.Common.{◌≡◌, ◌≤◌, length, drop}
+use Rattle.world_core.specs.Force.{registered_vids, are_same_vids}
+use Rattle.world_core.proofs.force.registers_just.Given as goal
+
+abbrev pub invariant-loop-i : goal.invariant-loop-i
+invariant-loop-i l =
+    (l.next ≤ length l.vids)
+    × (are_same_vids l.vids (registered_vids l.part.rows) ≡ are_same_vids (drop l.next l.vids) (registered_vids (drop l.i l.part.rows)))

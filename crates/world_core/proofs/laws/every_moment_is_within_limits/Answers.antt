@@ -1,0 +1,14 @@
+use Rattle.std.proofs.Common.{sym, subst, take}
+use Rattle.world_core.specs.Limits.{IsWithinLimits}
+use Rattle.world_core.specs.Moments.{events_from}
+use Rattle.world_core.specs.Start.{world_of}
+use Rattle.world_core.specs.World.{IsEventInRange}
+use Rattle.world_core.proofs.Runs.{can_take, each_take}
+use Rattle.world_core.proofs.laws.every_moment_is_within_limits.Goals as goal
+
+pub returns : goal.returns
+returns c = λ plan ticks end w rules legal moment.
+    subst (IsWithinLimits plan) (sym moment.reached)
+    (c.every_list_of_events_keeps_limits.ensures plan (take moment.count (events_from plan 0 ticks)) rules
+    (can_take moment.count (events_from plan 0 ticks) (world_of plan) (c.every_event_of_a_run_may_happen.ensures.can plan ticks end rules legal))
+    (each_take IsEventInRange moment.count (events_from plan 0 ticks) (c.every_event_of_a_run_may_happen.ensures.named plan ticks end rules legal)))
