@@ -65,9 +65,9 @@ fn talker(dest: Mac, priority: Priority) -> Talker {
 }
 
 // Each port makes a step.
-fn make(world: &mut World, step: PortStep) -> Result<(), NoMemory> {
+fn make(world: &mut World, step: &PortStep) -> Result<(), NoMemory> {
     for at in PORTS.as_slice() {
-        let _ = answer(world, Port(NodeNo(at.0), PortNo(at.1), step))?;
+        let _ = answer(world, Port(NodeNo(at.0), PortNo(at.1), *step))?;
     }
     Ok(())
 }
@@ -82,10 +82,10 @@ fn carry(world: &mut World) -> Result<(), NoMemory> {
 
 // What came in acts, what awaits is settled, and what there is to say comes in at the other end.
 fn exchange(world: &mut World) -> Result<(), NoMemory> {
-    make(world, Work)?;
-    make(world, Work)?;
-    make(world, Settle)?;
-    make(world, Send(App::Msrp))?;
+    make(world, &Work)?;
+    make(world, &Work)?;
+    make(world, &Settle)?;
+    make(world, &Send(App::Msrp))?;
     carry(world)
 }
 

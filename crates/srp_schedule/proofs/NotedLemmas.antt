@@ -18,7 +18,7 @@ use Rattle.srp_schedule.proofs.TickLemmas.{IsRunTo, no_tick}
 
 -- what this rests on, as the public laws say it
 pub record TimelineLaws : Type 0 where
-  pub noted : (plan : Plan) (ticks : List Tick) (tick : Tick) (changes : List PortChange) (w : WorldState) → IsTimelineOf plan ticks changes
+  pub goes_on : (plan : Plan) (ticks : List Tick) (tick : Tick) (changes : List PortChange) (w : WorldState) → IsTimelineOf plan ticks changes
       → w ≡ after_steps plan (length ticks) tick (world_after_ticks plan ticks) → w.tree ≡ plan.tree → IsTimelineOf plan (ticks ++ tick ∷ []) (noted (length ticks) w changes)
   pub same : (plan : Plan) (ticks : List Tick) (tick : Tick) (changes : List PortChange) (w : WorldState) → IsTimelineOf plan ticks changes
       → w ≡ after_steps plan (length ticks) tick (world_after_ticks plan ticks) → w.tree ≡ plan.tree → SaysFrom (length ticks) changes w → IsTimelineOf plan (ticks ++ tick ∷ []) changes
@@ -44,15 +44,19 @@ none_noted plan during timeline says = record { run = no_tick plan during; many 
 
 module _ (laws : TimelineLaws) (plan : Plan) (t : ℕ) (ticks : List Tick) (w v : WorldState) (cursor next : ℕ) (tick : Tick) (changes after : List PortChange) (before : IsNotedTo plan t ticks w cursor changes)
     (made : v ≡ world_after (tick_events plan t tick) w) (is : IsNoted plan t w tick changes after) where
-  u : WorldState
+  abbrev u : WorldState
   u = after_steps plan t tick w
 
+<<<<<<< HEAD
   unfolding u
 
+=======
+>>>>>>> 4dcffea8d2f7754dd973a7a2ad95598dcd23ca1f
   u_reached : u ≡ after_steps plan (length ticks) tick (world_after_ticks plan ticks)
   u_reached =
       ap (λ (x : WorldState). after_steps plan t tick x) before.reached ∙ ap (λ (k : ℕ). after_steps plan k tick (world_after_ticks plan ticks)) (sym before.many)
 
+<<<<<<< HEAD
   unfolding u
 
   u_tree : u.tree ≡ plan.tree
@@ -60,6 +64,11 @@ module _ (laws : TimelineLaws) (plan : Plan) (t : ℕ) (ticks : List Tick) (w v 
 
   unfolding u
 
+=======
+  u_tree : u.tree ≡ plan.tree
+  u_tree = laws.trees (step_events tick.steps) (after_script plan t w) ∙ laws.trees (map (λ (e : ℕ × WorldEvent). e.1) (scripted plan t)) w ∙ before.run.during.tree_is
+
+>>>>>>> 4dcffea8d2f7754dd973a7a2ad95598dcd23ca1f
   v_closes : v ≡ world_after (closing_events plan.tree) u
   v_closes =
       let script : List WorldEvent = map (λ (e : ℕ × WorldEvent). e.1) (scripted plan t) in
@@ -75,14 +84,19 @@ module _ (laws : TimelineLaws) (plan : Plan) (t : ℕ) (ticks : List Tick) (w v 
   are = subst (λ (r : Topology). AreChanges r t changes) (sym u_tree) (changes_are plan t ticks w cursor changes before)
 
   both : IsTimelineOf plan (ticks ++ tick ∷ []) after × SaysFrom (t + 1) after v
-  unfolding u
   both =
       elim is [
         | inl e ↦ (
+<<<<<<< HEAD
           subst (λ (cs : List PortChange). IsTimelineOf plan (ticks ++ tick ∷ []) cs) (ap (λ (k : ℕ). noted k u changes) before.many ∙ sym e)
               (laws.noted plan ticks tick changes u before.timeline u_reached u_tree),
           subst (λ (cs : List PortChange). SaysFrom (t + 1) cs v) (sym e) (says_later (noted t u changes) (laws.from t u changes are)),
         )
+=======
+            subst (λ (cs : List PortChange). IsTimelineOf plan (ticks ++ tick ∷ []) cs) (ap (λ (k : ℕ). noted k u changes) before.many ∙ sym e)
+            (laws.goes_on plan ticks tick changes u before.timeline u_reached u_tree),
+            subst (λ (cs : List PortChange). SaysFrom (t + 1) cs v) (sym e) (says_later (noted t u changes) (laws.from t u changes are)))
+>>>>>>> 4dcffea8d2f7754dd973a7a2ad95598dcd23ca1f
         | inr h ↦ (
             let here : SaysFrom t changes u = subst (SaysFrom t changes) (sym h.0) before.says in (
               subst (λ (cs : List PortChange). IsTimelineOf plan (ticks ++ tick ∷ []) cs) (sym h.1)

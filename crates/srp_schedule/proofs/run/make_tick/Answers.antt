@@ -1,4 +1,4 @@
-use Rattle.std.proofs.Common.{List, sym, subst}
+use Rattle.std.proofs.Common.{List, sym, subst, ◌∙◌}
 use Rattle.srp_base.specs.declared.ports.PortChange.{PortChange}
 use Rattle.tree_topology.specs.Topology.{Topology}
 use Rattle.world_core.specs.Timeline.{AreChanges}
@@ -87,5 +87,5 @@ returns-clause-noted c =
     c.in_ok-events.events.items c.in_ok-steps.steps.items (record { events = c.from_vec.result; steps = c.from_vec-2.result }) c.in_ok-step.field-0 c.from_vec.ensures c.from_vec-2.ensures
     c.in_ok-events.ensures.answers c.in_ok-events.ensures.after c.in_ok-steps.ensures.steps c.in_ok-steps.ensures.after c.in_ok-carry_all.ensures c.in_ok-step.ensures.ok)
     c.args.timeline.now.changes c.note.new.timeline.changes
-    (noted_alike c.args.t c.make_steps.new.world c.in_ok-events.events.items c.in_ok-steps.steps.items (record { events = c.from_vec.result; steps = c.from_vec-2.result })
-    c.args.timeline.now.changes c.note.new.timeline.changes c.from_vec.ensures c.from_vec-2.ensures ?)
+    (noted_alike c.args.t c.make_steps.new.world c.as_slice.result.now c.as_slice-2.result.now (record { events = c.from_vec.result; steps = c.from_vec-2.result })
+    c.args.timeline.now.changes c.note.new.timeline.changes (c.from_vec.ensures ∙ sym c.as_slice.ensures.value) (c.from_vec-2.ensures ∙ sym c.as_slice-2.ensures.value) c.in_ok-note.ensures)
