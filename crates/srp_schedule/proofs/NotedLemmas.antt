@@ -47,28 +47,13 @@ module _ (laws : TimelineLaws) (plan : Plan) (t : ℕ) (ticks : List Tick) (w v 
   abbrev u : WorldState
   u = after_steps plan t tick w
 
-<<<<<<< HEAD
-  unfolding u
-
-=======
->>>>>>> 4dcffea8d2f7754dd973a7a2ad95598dcd23ca1f
   u_reached : u ≡ after_steps plan (length ticks) tick (world_after_ticks plan ticks)
   u_reached =
       ap (λ (x : WorldState). after_steps plan t tick x) before.reached ∙ ap (λ (k : ℕ). after_steps plan k tick (world_after_ticks plan ticks)) (sym before.many)
 
-<<<<<<< HEAD
-  unfolding u
-
   u_tree : u.tree ≡ plan.tree
   u_tree = laws.trees (step_events tick.steps) (after_script plan t w) ∙ laws.trees (map (λ (e : ℕ × WorldEvent). e.1) (scripted plan t)) w ∙ before.run.during.tree_is
 
-  unfolding u
-
-=======
-  u_tree : u.tree ≡ plan.tree
-  u_tree = laws.trees (step_events tick.steps) (after_script plan t w) ∙ laws.trees (map (λ (e : ℕ × WorldEvent). e.1) (scripted plan t)) w ∙ before.run.during.tree_is
-
->>>>>>> 4dcffea8d2f7754dd973a7a2ad95598dcd23ca1f
   v_closes : v ≡ world_after (closing_events plan.tree) u
   v_closes =
       let script : List WorldEvent = map (λ (e : ℕ × WorldEvent). e.1) (scripted plan t) in
@@ -87,16 +72,10 @@ module _ (laws : TimelineLaws) (plan : Plan) (t : ℕ) (ticks : List Tick) (w v 
   both =
       elim is [
         | inl e ↦ (
-<<<<<<< HEAD
           subst (λ (cs : List PortChange). IsTimelineOf plan (ticks ++ tick ∷ []) cs) (ap (λ (k : ℕ). noted k u changes) before.many ∙ sym e)
-              (laws.noted plan ticks tick changes u before.timeline u_reached u_tree),
+              (laws.goes_on plan ticks tick changes u before.timeline u_reached u_tree),
           subst (λ (cs : List PortChange). SaysFrom (t + 1) cs v) (sym e) (says_later (noted t u changes) (laws.from t u changes are)),
         )
-=======
-            subst (λ (cs : List PortChange). IsTimelineOf plan (ticks ++ tick ∷ []) cs) (ap (λ (k : ℕ). noted k u changes) before.many ∙ sym e)
-            (laws.goes_on plan ticks tick changes u before.timeline u_reached u_tree),
-            subst (λ (cs : List PortChange). SaysFrom (t + 1) cs v) (sym e) (says_later (noted t u changes) (laws.from t u changes are)))
->>>>>>> 4dcffea8d2f7754dd973a7a2ad95598dcd23ca1f
         | inr h ↦ (
             let here : SaysFrom t changes u = subst (SaysFrom t changes) (sym h.0) before.says in (
               subst (λ (cs : List PortChange). IsTimelineOf plan (ticks ++ tick ∷ []) cs) (sym h.1)
