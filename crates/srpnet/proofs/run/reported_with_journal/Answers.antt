@@ -1,5 +1,4 @@
-use Rattle.std.proofs.Common.{◌≡◌, ℕ, ◌++◌, List, ap, ◌∙◌}
-use Rattle.srp_report.specs.Report.{report_text}
+use Rattle.std.proofs.Common.{ℕ, ◌++◌, List, ap, ◌∙◌}
 use Rattle.srp_report.specs.JournalText.{journal_text}
 use Rattle.srpnet.proofs.run.reported_with_journal.Goals as goal
 
@@ -15,7 +14,7 @@ returns c =
       run = c.in_ok-ran.ensures.run;
       printed =
           c.from_vec.ensures ∙ c.in_ok-extend_from_slice.ensures.items
-          ∙ ap (λ (xs : List ℕ). xs ++ c.in_ok-journal.journal.items) c.in_ok-text.ensures
-          ∙ ap (λ (ys : List ℕ). report_text plan ran.run.world ran.run.journal.ticks ran.flow.ports ++ ys) c.in_ok-journal.ensures;
+          ∙ ap (λ (ys : List ℕ). c.in_ok-text.text.items ++ ys) (c.as_slice.ensures.value ∙ c.in_ok-journal.ensures)
+          ∙ ap (λ (xs : List ℕ). xs ++ journal) c.in_ok-text.ensures;
       holds = c.in_ok-ran.ensures.holds;
     }

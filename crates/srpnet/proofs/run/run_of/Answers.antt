@@ -1,10 +1,11 @@
+use Rattle.world_core.specs.Limits.{caps_at}
 use Rattle.srpnet.proofs.run.run_of.Goals as goal
 
-pub flow_of-requires-order : goal.flow_of-requires-order
-flow_of-requires-order c = c.in_ok-run.ensures.timeline.are.ascend
+pub flow_of-requires-clause-order : goal.flow_of-requires-clause-order
+flow_of-requires-clause-order c = c.in_ok-run.ensures.timeline.are.ascend
 
-pub flow_of-requires-slopes : goal.flow_of-requires-slopes
-flow_of-requires-slopes c =
+pub flow_of-requires-clause-slopes : goal.flow_of-requires-clause-slopes
+flow_of-requires-clause-slopes c =
     let run = c.in_ok-run.run' in
     c.slopes_stay_within_limits.ensures.rates c.args.scenario.now run.journal.ticks run.world run.timeline.changes c.keeps_rules.ensures
     (c.canonical_ticks_are_legal.ensures c.args.scenario.now run.journal.ticks run.world c.in_ok-run.ensures.ticks) c.in_ok-run.ensures.timeline
@@ -21,7 +22,7 @@ returns-clause-holds c =
     let rules = c.keeps_rules.ensures in
     record {
       moments = λ w moment. c.what_holds_of_every_run.ensures plan run.journal.ticks run.world w rules legal moment;
-      windows = c.every_window_stays_within.ensures.caps plan run.timeline.changes _ c.in_ok-flow.flow'.ports rules timeline.are.ascend
+      windows = c.every_window_stays_within.ensures.caps plan run.timeline.changes (λ p. (caps_at plan p).class_a) c.in_ok-flow.flow.ports rules timeline.are.ascend
           (c.slopes_stay_within_limits.ensures.rates plan run.journal.ticks run.world run.timeline.changes rules legal timeline)
           (c.slopes_stay_within_limits.ensures.class_a plan run.journal.ticks run.world run.timeline.changes rules legal timeline)
           c.in_ok-flow.ensures;
