@@ -164,6 +164,14 @@ impl<A: MrpApp> Participant<A> {
     {
         row_key(self.rows.as_slice(), index)
     }
+
+    /// The state of the Registrar of the row at a place, counted as for `key_at`, without a search for its
+    /// key; None exactly where the index isn't below the number of rows.
+    pub fn registrar_at(&self, index: usize) -> Option<Registrar>
+        ensures { result ≡ slice_get (map (λ r. r.registrar) self.now.rows) index }
+    {
+        row_registrar(self.rows.as_slice(), index)
+    }
 }
 
 // Whether every row's machines are at rest.
@@ -178,4 +186,11 @@ fn row_key<K: Copy, C: Copy>(rows: &[Row<K, C>], index: usize) -> Option<K>
     ensures { result ≡ slice_get (map key_of rows.now) index }
 {
     rows.get(index).map(|row| row.key)
+}
+
+// The state of the Registrar of the row at a place.
+fn row_registrar<K: Copy, C: Copy>(rows: &[Row<K, C>], index: usize) -> Option<Registrar>
+    ensures { result ≡ slice_get (map (λ r. r.registrar) rows.now) index }
+{
+    rows.get(index).map(|row| row.registrar)
 }

@@ -6,7 +6,6 @@ ghost use Rattle.port_ledger.specs.Decision.{is_booked};
 ghost use Rattle.world_core.specs.Force.{said_by, booked_streams, is_registered_row, registered_vids, force_of, are_same_streams, are_same_vids, is_same, change_of};
 
 use mrp_participant::Participant;
-use mrp_participant::laws::a_place_for_each_key;
 use mvrp::MvrpApp;
 use port_ledger::Ledger;
 use srp_base::{Class, EgressPort, NoMemory, PortChange, Seq, StreamId, Vid};
@@ -134,10 +133,8 @@ fn registered_row(part: &Participant<MvrpApp>, i: usize) -> Option<Vid>
     ensures { MatchOption result (HoldsAt (λ r. is_registered_row r ≡ false) part.now.rows i)
         (λ v. HoldsAt (λ r. (is_registered_row r ≡ true) × (v ≡ r.key)) part.now.rows i) }
 {
-    a_place_for_each_key::<MvrpApp>();
-    part.rows_ascend();
     let vid = part.key_at(i)?;
-    if part.registrar(vid).is_registered() {
+    if part.registrar_at(i)?.is_registered() {
         Some(vid)
     } else {
         None
