@@ -6,7 +6,8 @@ use Rattle.mrpdu_codec.specs.declared.pdu.VectorAttr.{VectorAttr}
 use Rattle.mrpdu_codec.specs.declared.pdu.Message.{Message}
 use Rattle.mrpdu_codec.specs.Types.{row_of}
 use Rattle.mrpdu_codec.specs.Tree.{messages_from}
-use Rattle.mrpdu_codec.specs.Reading.{◌>>=◌, vectors_of, mark_at, list_at, length_at, body_at, message_at}
+use Rattle.srp_base.specs.Results.{◌>>=◌}
+use Rattle.mrpdu_codec.specs.Reading.{vectors_of, mark_at, list_at, length_at, body_at, message_at}
 use Rattle.mrpdu_codec.specs.ReadErr.{kept}
 
 -- all of a known type

@@ -7,7 +7,8 @@ use Rattle.mrpdu_codec.specs.declared.form.AppForm.{AppForm}
 use Rattle.mrpdu_codec.specs.declared.error.ReadErr.{ReadErr}
 use Rattle.mrpdu_codec.specs.declared.error.ReadErr.TheVariants as errors
 use Rattle.mrpdu_codec.specs.declared.pdu.Message.{Message}
-use Rattle.mrpdu_codec.specs.Reading.{◌>>=◌, message_at, end_at, type_at, messages_at, messages_of}
+use Rattle.srp_base.specs.Results.{◌>>=◌}
+use Rattle.mrpdu_codec.specs.Reading.{message_at, end_at, type_at, messages_at, messages_of}
 use Rattle.mrpdu_codec.specs.ReadErr.{Fails}
 use Rattle.mrpdu_codec.proofs.Steps.{same_after, same_choice}
 use Rattle.mrpdu_codec.proofs.ReadMessages.{TookMessage, message_match}

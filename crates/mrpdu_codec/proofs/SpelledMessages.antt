@@ -17,7 +17,8 @@ use Rattle.mrpdu_codec.specs.Grammar.RegionBreaks.{vector as region_vector, end_
 use Rattle.mrpdu_codec.specs.Grammar.CountedBreaks.{list_length as counted_length, region as counted_region, end_mark as counted_mark, skipped as counted_skipped}
 use Rattle.mrpdu_codec.specs.Grammar.MessageBreaks.{len as length_breaks, body as body_breaks_at}
 use Rattle.mrpdu_codec.specs.Grammar.PduBreaks.{version as version_breaks, first_type, later_type, message as message_breaks_at}
-use Rattle.mrpdu_codec.specs.Reading.{◌>>=◌, ends_list, vectors_of, mark_at, list_at, region_at, known_at, skip_at, size_at, sized_at, counted_at, body_at, length_at, message_at, end_at, messages_at, messages_of, version_at, first_type_at, pdu_at}
+use Rattle.srp_base.specs.Results.{◌>>=◌}
+use Rattle.mrpdu_codec.specs.Reading.{ends_list, vectors_of, mark_at, list_at, region_at, known_at, skip_at, size_at, sized_at, counted_at, body_at, length_at, message_at, end_at, messages_at, messages_of, version_at, first_type_at, pdu_at}
 use Rattle.mrpdu_codec.proofs.Longer.{message_longer}
 use Rattle.mrpdu_codec.proofs.SpelledVectors.{of_reads, of_breaks}
 

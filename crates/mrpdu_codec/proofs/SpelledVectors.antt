@@ -8,7 +8,8 @@ use Rattle.mrpdu_codec.specs.Tree.{Vector, count, packed_limit, leave_all_limit,
 use Rattle.mrpdu_codec.specs.Grammar.{OctetBreaks, HeaderBreaks, VectorBreaks, ListBreaks}
 use Rattle.mrpdu_codec.specs.Grammar.ListBreaks.{vector as list_vector}
 use Rattle.mrpdu_codec.specs.Grammar.VectorBreaks.{header as header_breaks, first_value, packed as packed_breaks, four_packed}
-use Rattle.mrpdu_codec.specs.Reading.{◌>>=◌, run_at, header_at, first_at, vector_at, ends_list, vectors_at, vectors_of}
+use Rattle.srp_base.specs.Results.{◌>>=◌}
+use Rattle.mrpdu_codec.specs.Reading.{run_at, header_at, first_at, vector_at, ends_list, vectors_at, vectors_of}
 use Rattle.mrpdu_codec.proofs.Longer.{vector_longer}
 
 module _ (limit : ℕ) where

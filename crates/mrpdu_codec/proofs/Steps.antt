@@ -1,6 +1,6 @@
 -- One reader after another: what holds of each step holds of the chain.
 use Rattle.std.proofs.Common.{◌≡◌, ℕ, Bool, true, false, cond, List, ◌++◌, length, Result, Ok, Err, MatchResult, refl}
-use Rattle.mrpdu_codec.specs.Reading.{◌>>=◌}
+use Rattle.srp_base.specs.Results.{◌>>=◌}
 
 pub then_match : {A B : Type 0} (r : Result A ℕ) (f : A → Result B ℕ) (P : A → Type 0) (Q : ℕ → Type 0) (P' : B → Type 0) (Q' : ℕ → Type 0)
     → MatchResult r P Q → ((x : A) → P x → MatchResult (f x) P' Q') → ((left : ℕ) → Q left → Q' left) → MatchResult (r >>= f) P' Q'

@@ -6,7 +6,8 @@ use Rattle.mrpdu_codec.specs.declared.error.ReadErr.{ReadErr}
 use Rattle.mrpdu_codec.specs.declared.error.ReadErr.TheVariants as errors
 use Rattle.mrpdu_codec.specs.declared.pdu.VectorAttr.{VectorAttr}
 use Rattle.mrpdu_codec.specs.Tree.{Vector, attr_of, IsVector, vector_octets}
-use Rattle.mrpdu_codec.specs.Reading.{◌>>=◌, vector_at, ends_list, vectors_at, vectors_of}
+use Rattle.srp_base.specs.Results.{◌>>=◌}
+use Rattle.mrpdu_codec.specs.Reading.{vector_at, ends_list, vectors_at, vectors_of}
 use Rattle.mrpdu_codec.specs.ReadErr.{Fails, kept, kept_attr}
 use Rattle.std.proofs.lemmas.Result.{MatchResult-at_ok}
 use Rattle.std.proofs.lemmas.Bool.{false≢true}

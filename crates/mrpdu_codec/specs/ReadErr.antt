@@ -1,5 +1,5 @@
 -- What the private readers answer: a value as the reading has it, or how many octets were left.
-use Rattle.std.specs.Prelude.{◌≡◌, ℕ, ◌+◌, ◌-◌, ◌≤◌, List, [], ◌∷◌, Option, Some, None, Result, Ok, Err}
+use Rattle.std.specs.Prelude.{◌≡◌, ℕ, ◌+◌, ◌-◌, ◌≤◌, List, [], ◌∷◌, Option, Some, None, Result, Ok, Err, IfSome}
 use Rattle.mrpdu_codec.specs.declared.error.DecodeErr.{DecodeErr}
 use Rattle.mrpdu_codec.specs.declared.error.DecodeErr.TheVariants as decode_errors
 use Rattle.mrpdu_codec.specs.declared.error.ReadErr.{ReadErr}
@@ -7,15 +7,14 @@ use Rattle.mrpdu_codec.specs.declared.error.ReadErr.TheVariants as errors
 use Rattle.mrpdu_codec.specs.declared.form.TypeForm.{TypeForm}
 use Rattle.mrpdu_codec.specs.declared.pdu.VectorAttr.{VectorAttr}
 
+-- how many octets a reading says were left, which want of memory doesn't
+abbrev pub left_of : ReadErr → Option ℕ
+left_of errors.NoMemory = None
+left_of (errors.Left left) = Some left
+
 -- an error is the reading's, unless memory ran out
 abbrev pub Fails : {Y : Type 0} → ReadErr → Result Y ℕ → Type 0
-Fails errors.NoMemory read = Unit {0}
-Fails (errors.Left left) read = read ≡ Err left
-
--- what a reader returned, seen by view, is what reading gives, unless memory ran out
-abbrev pub Gives : {X Y : Type 0} → (X → Y) → Result X ReadErr → Result Y ℕ → Type 0
-Gives view (Ok x) read = read ≡ Ok (view x)
-Gives view (Err e) read = Fails e read
+Fails e read = IfSome (left_of e) (λ left. read ≡ Err left)
 
 -- no more octets are left than there are
 abbrev pub IsWithin : ReadErr → ℕ → Type 0

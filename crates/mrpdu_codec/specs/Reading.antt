@@ -1,6 +1,7 @@
 -- Reading from left to right: each reader answers a value and the octets after it, or how many octets are
 -- left from the first field on that breaks. That this is the grammar is proved of `decode`.
 use Rattle.std.specs.Prelude.{◌≡◌, ℕ, zero, suc, ◌+◌, ◌-◌, ◌%◌, Bool, true, false, List, [], ◌∷◌, ◌++◌, length, take, drop, Option, Some, None, Result, Ok, Err, nat_lt, nat_le, ◌==◌, if◌then◌else◌}
+use Rattle.srp_base.specs.Results.{◌>>=◌}
 use Rattle.mrpdu_codec.specs.declared.error.DecodeErr.{DecodeErr}
 use Rattle.mrpdu_codec.specs.declared.error.DecodeErr.TheVariants as decode_errors
 use Rattle.mrpdu_codec.specs.declared.form.AppForm.{AppForm}
@@ -12,12 +13,6 @@ use Rattle.mrpdu_codec.specs.declared.pdu.Pdu.{Pdu}
 use Rattle.mrpdu_codec.specs.Octets.{number, thirds}
 use Rattle.mrpdu_codec.specs.Types.{row_of}
 use Rattle.mrpdu_codec.specs.Tree.{Vector, packed_limit, fours_for, header_fits, attr_of, length_fits, messages_from}
-
--- one reader after another
-infixl 10 ◌>>=◌
-abbrev pub ◌>>=◌ : {A B : Type 0} → Result A ℕ → (A → Result B ℕ) → Result B ℕ
-(Ok x) >>= f = f x
-(Err left) >>= f = Err left
 
 -- n octets, each at most limit and each a field of its own
 unfoldable pub run_at : ℕ → ℕ → List ℕ → Result (List ℕ × List ℕ) ℕ

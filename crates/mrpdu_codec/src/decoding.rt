@@ -2,12 +2,13 @@
 
 ghost use Rattle.std.specs.Prelude.{◌≡◌, ◌<◌, ◌^◌, ℕ, length, Ok, Err, IfOk, IsTrue};
 ghost use Rattle.std.specs.List.{list_all};
+ghost use Rattle.srp_base.specs.Results.{Gives};
 ghost use Rattle.mrpdu_codec.specs.declared.form.AppForm.{AppForm};
 ghost use Rattle.mrpdu_codec.specs.declared.pdu.Pdu.{Pdu};
 ghost use Rattle.mrpdu_codec.specs.declared.raw.RawPdu.{RawPdu};
 ghost use Rattle.mrpdu_codec.specs.Grammar.{Spells, Breaks};
 ghost use Rattle.mrpdu_codec.specs.Raw.{pdu_in};
-ghost use Rattle.mrpdu_codec.specs.ReadErr.{Gives};
+ghost use Rattle.mrpdu_codec.specs.ReadErr.{left_of};
 ghost use Rattle.mrpdu_codec.specs.Reading.{version_at, first_type_at, pdu_at, reading};
 ghost use Rattle.mrpdu_codec.specs.Reading.{Answers, AnswersAs};
 ghost use Rattle.mrpdu_codec.specs.Shape.{has_form};
@@ -22,7 +23,7 @@ use std::alloc::Global;
 /// ProtocolVersion.
 #[tactic(auto, unfolding(crate::specs::Reading::version_at))]
 fn version(octets: &[u8]) -> Result<(u8, &[u8]), ReadErr>
-    ensures { Gives (λ x. (x.0, x.1.now)) result (version_at octets.now) }
+    ensures { Gives (λ x. (x.0, x.1.now)) left_of result (version_at octets.now) }
 {
     match octets {
         [] => Err(ReadErr::Left(0)),
@@ -33,7 +34,7 @@ fn version(octets: &[u8]) -> Result<(u8, &[u8]), ReadErr>
 /// A first Message has an AttributeType.
 #[tactic(auto, unfolding(crate::specs::Reading::first_type_at))]
 fn first_type(octets: &[u8]) -> Result<(), ReadErr>
-    ensures { Gives (λ _. tt) result (first_type_at octets.now) }
+    ensures { Gives (λ _. tt) left_of result (first_type_at octets.now) }
 {
     match octets {
         [] => Err(ReadErr::Left(0)),
@@ -50,7 +51,7 @@ fn first_type(octets: &[u8]) -> Result<(), ReadErr>
 /// A PDU, or how many octets are left from the first field on that breaks.
 #[tactic(auto, unfolding(crate::specs::Reading::pdu_at))]
 fn pdu(alloc: Global, form: AppForm, octets: &[u8]) -> Result<RawPdu<'_>, ReadErr>
-    ensures { Gives pdu_in result (pdu_at form octets.now) }
+    ensures { Gives pdu_in left_of result (pdu_at form octets.now) }
 {
     let (version, rest) = version(octets)?;
     first_type(rest)?;

@@ -1,9 +1,10 @@
 //! The fields of a vector, read one after another. Nothing here takes memory.
 
 ghost use Rattle.std.specs.Prelude.{◌≡◌, ◌*◌, ◌/◌, ◌%◌, ◌<◌};
+ghost use Rattle.srp_base.specs.Results.{Gives};
 ghost use Rattle.mrpdu_codec.specs.Octets.{number, thirds, quarters};
 ghost use Rattle.mrpdu_codec.specs.Tree.{packed_limit, leave_all_limit, fours_for};
-ghost use Rattle.mrpdu_codec.specs.ReadErr.{Gives};
+ghost use Rattle.mrpdu_codec.specs.ReadErr.{left_of};
 ghost use Rattle.mrpdu_codec.specs.Reading.{run_at, header_at, first_at, vector_at, ends_list};
 ghost use Rattle.mrpdu_codec.specs.Raw.{vector_in};
 
@@ -66,7 +67,7 @@ fn fours_for(row: Option<TypeForm>, n: usize) -> usize
 /// A header's two octets, if its LeaveAllEvent is allowed.
 #[tactic(auto, unfolding(crate::specs::Reading::header_at))]
 fn header(octets: &[u8], row: Option<TypeForm>) -> Result<(u8, u8, &[u8]), ReadErr>
-    ensures { Gives (λ x. (x.0, x.1, x.2.now)) result (header_at row octets.now) }
+    ensures { Gives (λ x. (x.0, x.1, x.2.now)) left_of result (header_at row octets.now) }
 {
     match octets {
         [] => Err(ReadErr::Left(0)),
@@ -84,7 +85,7 @@ fn header(octets: &[u8], row: Option<TypeForm>) -> Result<(u8, u8, &[u8]), ReadE
 /// A FirstValue.
 #[tactic(auto, unfolding(crate::specs::Reading::first_at))]
 fn first(octets: &[u8], len: usize) -> Result<(&[u8], &[u8]), ReadErr>
-    ensures { Gives (λ x. (x.0.now, x.1.now)) result (first_at len octets.now) }
+    ensures { Gives (λ x. (x.0.now, x.1.now)) left_of result (first_at len octets.now) }
 {
     if octets.len() < len {
         return Err(ReadErr::Left(octets.len()));
@@ -94,7 +95,7 @@ fn first(octets: &[u8], len: usize) -> Result<(&[u8], &[u8]), ReadErr>
 
 /// So many octets, each at most the limit.
 fn run(octets: &[u8], limit: u8, n: usize) -> Result<(&[u8], &[u8]), ReadErr>
-    ensures { Gives (λ x. (x.0.now, x.1.now)) result (run_at limit n octets.now) }
+    ensures { Gives (λ x. (x.0.now, x.1.now)) left_of result (run_at limit n octets.now) }
 {
     for i in 0..n {
         if i == octets.len() {
@@ -114,7 +115,7 @@ pub(crate) fn raw_vector(
     row: Option<TypeForm>,
     len: u8,
 ) -> Result<(RawVector<'_>, &[u8]), ReadErr>
-    ensures { Gives (λ x. (vector_in x.0, x.1.now)) result (vector_at row len octets.now) }
+    ensures { Gives (λ x. (vector_in x.0, x.1.now)) left_of result (vector_at row len octets.now) }
 {
     let (high, low, rest) = header(octets, row)?;
     let n = count(high, low);

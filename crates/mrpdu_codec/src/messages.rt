@@ -1,9 +1,10 @@
 //! Messages as they stand in the octets.
 
 ghost use Rattle.std.specs.Prelude.{◌≡◌, ◌<◌, ◌++◌, ◌+◌, [], length, take, drop, map, IfOk, OnOk, Some, None, option_map};
+ghost use Rattle.srp_base.specs.Results.{Gives};
 ghost use Rattle.mrpdu_codec.specs.Tree.{length_fits};
 ghost use Rattle.mrpdu_codec.specs.Raw.{attrs_in, message_in, messages_in};
-ghost use Rattle.mrpdu_codec.specs.ReadErr.{Gives, kept};
+ghost use Rattle.mrpdu_codec.specs.ReadErr.{left_of, kept};
 ghost use Rattle.mrpdu_codec.specs.Reading.{region_at, known_at, skip_at, size_at, sized_at, counted_at, body_at, length_at, message_at, type_at, end_at, messages_of};
 
 use crate::error::ReadErr;
@@ -22,7 +23,7 @@ fn region(
     len: u8,
     size: usize,
 ) -> Result<Vec<RawVector<'_>>, ReadErr>
-    ensures { Gives (λ v. attrs_in v.items) result (region_at (Some row) len size octets.now) }
+    ensures { Gives (λ v. attrs_in v.items) left_of result (region_at (Some row) len size octets.now) }
 {
     let (found, rest) = vectors(alloc, octets, Some(row), len)?;
     if rest.len() != 0 {
@@ -51,7 +52,7 @@ fn known(
     len: u8,
     size: usize,
 ) -> Result<(Vec<RawVector<'_>>, &[u8]), ReadErr>
-    ensures { Gives (λ x. (attrs_in x.0.items, x.1.now)) result
+    ensures { Gives (λ x. (attrs_in x.0.items, x.1.now)) left_of result
         (known_at (Some row) len size octets.now) }
 {
     let (here, beyond) = cut(octets, size);
@@ -68,7 +69,7 @@ fn known(
 #[tactic(auto, unfolding(crate::specs::Reading::skip_at))]
 fn skip(octets: &[u8], size: usize) -> Result<&[u8], ReadErr>
     requires { size < 65536 }
-    ensures { Gives (λ x. x.now) result (skip_at size octets.now) }
+    ensures { Gives (λ x. x.now) left_of result (skip_at size octets.now) }
 {
     if size + 2 <= octets.len() {
         return Ok(&octets[size + 2..]);
@@ -82,7 +83,7 @@ fn skip(octets: &[u8], size: usize) -> Result<&[u8], ReadErr>
 /// MSRP's AttributeListLength without the EndMark that it counts.
 #[tactic(auto, unfolding(crate::specs::Reading::size_at))]
 fn size(octets: &[u8]) -> Result<(usize, &[u8]), ReadErr>
-    ensures size { Gives (λ x. (x.0, x.1.now)) result (size_at octets.now) }
+    ensures size { Gives (λ x. (x.0, x.1.now)) left_of result (size_at octets.now) }
     ensures small { IfOk result (λ x. x.0 < 65536) }
 {
     match octets {
@@ -108,7 +109,7 @@ fn sized(
     size: usize,
 ) -> Result<(Vec<RawVector<'_>>, &[u8]), ReadErr>
     requires { size < 65536 }
-    ensures { Gives (λ x. (attrs_in x.0.items, x.1.now)) result
+    ensures { Gives (λ x. (attrs_in x.0.items, x.1.now)) left_of result
         (kept row (sized_at row len size octets.now)) }
 {
     match row {
@@ -128,7 +129,7 @@ fn counted(
     row: Option<TypeForm>,
     len: u8,
 ) -> Result<(Vec<RawVector<'_>>, &[u8]), ReadErr>
-    ensures { Gives (λ x. (attrs_in x.0.items, x.1.now)) result
+    ensures { Gives (λ x. (attrs_in x.0.items, x.1.now)) left_of result
         (kept row (counted_at row len octets.now)) }
 {
     let (size, rest) = size(octets)?;
@@ -144,7 +145,7 @@ fn body(
     row: Option<TypeForm>,
     len: u8,
 ) -> Result<(Vec<RawVector<'_>>, &[u8]), ReadErr>
-    ensures { Gives (λ x. (attrs_in x.0.items, x.1.now)) result
+    ensures { Gives (λ x. (attrs_in x.0.items, x.1.now)) left_of result
         (kept row (body_at form row len octets.now)) }
 {
     match form {
@@ -167,7 +168,7 @@ fn length_fits(row: Option<TypeForm>, len: u8) -> bool
 /// AttributeLength.
 #[tactic(auto, unfolding(crate::specs::Reading::length_at))]
 fn attribute_length(octets: &[u8], row: Option<TypeForm>) -> Result<(u8, &[u8]), ReadErr>
-    ensures { Gives (λ x. (x.0, x.1.now)) result (length_at row octets.now) }
+    ensures { Gives (λ x. (x.0, x.1.now)) left_of result (length_at row octets.now) }
 {
     match octets {
         [] => Err(ReadErr::Left(0)),
@@ -189,7 +190,7 @@ fn message(
     kind: u8,
     octets: &[u8],
 ) -> Result<(Option<RawMessage<'_>>, &[u8]), ReadErr>
-    ensures { Gives (λ x. (messages_in x.0, x.1.now)) result (message_at form kind octets.now) }
+    ensures { Gives (λ x. (messages_in x.0, x.1.now)) left_of result (message_at form kind octets.now) }
 {
     let row = form.known(kind);
     let (len, rest) = attribute_length(octets, row)?;
@@ -201,7 +202,7 @@ fn message(
 /// The octet behind a 0 in the place of a later Message, which is 0 too in an EndMark.
 #[tactic(auto, unfolding(crate::specs::Reading::end_at))]
 fn end_mark(octets: &[u8]) -> Result<(), ReadErr>
-    ensures { Gives (λ _. []) result (end_at octets.now) }
+    ensures { Gives (λ _. []) left_of result (end_at octets.now) }
 {
     match octets {
         [] => Err(ReadErr::Left(1)),
@@ -218,7 +219,7 @@ fn end_mark(octets: &[u8]) -> Result<(), ReadErr>
 /// The AttributeType of a later Message; none at the PDU's EndMark and at the octets' end.
 #[tactic(auto, unfolding(crate::specs::Reading::type_at))]
 fn next_type(octets: &[u8]) -> Result<Option<(u8, &[u8])>, ReadErr>
-    ensures { Gives (option_map (λ x. (x.0, x.1.now))) result (type_at octets.now) }
+    ensures { Gives (option_map (λ x. (x.0, x.1.now))) left_of result (type_at octets.now) }
 {
     match octets {
         [] => Ok(None),
@@ -253,7 +254,7 @@ pub(crate) fn messages(
     form: AppForm,
     octets: &[u8],
 ) -> Result<Vec<RawMessage<'_>>, ReadErr>
-    ensures { Gives (λ v. map message_in v.items) result (messages_of form octets.now) }
+    ensures { Gives (λ v. map message_in v.items) left_of result (messages_of form octets.now) }
 {
     let mut found = Vec::new(alloc);
     let mut rest = octets;

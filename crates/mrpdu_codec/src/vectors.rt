@@ -1,8 +1,9 @@
 //! Lists of vectors.
 
 ghost use Rattle.std.specs.Prelude.{◌≡◌, ◌++◌, OnOk};
+ghost use Rattle.srp_base.specs.Results.{Gives};
 ghost use Rattle.mrpdu_codec.specs.Raw.{attr_in, attrs_in};
-ghost use Rattle.mrpdu_codec.specs.ReadErr.{Gives, kept, kept_attr};
+ghost use Rattle.mrpdu_codec.specs.ReadErr.{left_of, kept, kept_attr};
 ghost use Rattle.mrpdu_codec.specs.Reading.{vectors_of, mark_at, list_at};
 
 use crate::error::ReadErr;
@@ -35,7 +36,7 @@ pub(crate) fn vectors(
     row: Option<TypeForm>,
     len: u8,
 ) -> Result<(Vec<RawVector<'_>>, &[u8]), ReadErr>
-    ensures { Gives (λ x. (attrs_in x.0.items, x.1.now)) result
+    ensures { Gives (λ x. (attrs_in x.0.items, x.1.now)) left_of result
         (kept row (vectors_of row len octets.now)) }
 {
     let mut found = Vec::new(alloc);
@@ -51,7 +52,7 @@ pub(crate) fn vectors(
 /// The octets behind an EndMark. Where the octets end in its place, none are.
 #[tactic(auto, unfolding(crate::specs::Reading::mark_at))]
 pub(crate) fn mark(octets: &[u8]) -> Result<&[u8], ReadErr>
-    ensures { Gives (λ x. x.now) result (mark_at octets.now) }
+    ensures { Gives (λ x. x.now) left_of result (mark_at octets.now) }
 {
     match octets {
         [] => Ok(octets),
@@ -74,7 +75,7 @@ pub(crate) fn list(
     row: Option<TypeForm>,
     len: u8,
 ) -> Result<(Vec<RawVector<'_>>, &[u8]), ReadErr>
-    ensures { Gives (λ x. (attrs_in x.0.items, x.1.now)) result
+    ensures { Gives (λ x. (attrs_in x.0.items, x.1.now)) left_of result
         (kept row (list_at row len octets.now)) }
 {
     let (found, rest) = vectors(alloc, octets, row, len)?;
