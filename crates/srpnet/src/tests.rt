@@ -37,6 +37,24 @@ const PAIR_JOURNAL: &str = "journal
 20 s2>s1 send msrp silent
 ";
 
+/// Two stations of which one declares a VID; both PDUs that say so are lost, and the next LeaveAll mends it.
+const MENDED: &str = "ticks = 1062
+[[node]]\nname = 's1'\nkind = 'station'\n[[node]]\nname = 's2'\nkind = 'station'
+[[link]]\na = 's1'\nb = 's2'
+[[event]]\ntick = 0\nkind = 'declare'\nstation = 's1'\nvid = 7
+[[event]]\ntick = 1\nkind = 'lose'\nfrom = 's1'\nto = 's2'\nindex = 0
+[[event]]\ntick = 21\nkind = 'lose'\nfrom = 's1'\nto = 's2'\nindex = 0
+";
+
+/// Its report, of 131 octets.
+const MENDED_RUN: &str = "ticks 1062
+port s1>s2 sent 6 octets 166 discarded 0
+port s2>s1 sent 2 octets 117 discarded 0
+vlan s2>s1 7 IN
+quiet yes
+in step yes
+";
+
 /// A Talker, a listener that has declared the stream's VID, and a frame of the stream once it is booked.
 const HALL: &str = "ticks = 70
 [[node]]\nname = 't'\nkind = 'station'\n[[node]]\nname = 'l'\nkind = 'station'
@@ -195,9 +213,16 @@ fn each_cause_has_its_status(rt: HostRuntime) -> Result<(), Fail> {
 
 #[test]
 fn a_failed_write_says_how_many_octets_went_out(rt: HostRuntime) -> Result<(), Fail> {
-    let ended = call(rt.alloc(), &["ledger"], PORT.as_bytes(), (7, 0), (20, 2))?;
-    assert!(rt; ended.cause == Cause::WriteFault { written: 20 });
-    assert!(rt; ended.out.as_str() == PORT_OUT.get(0..20).unwrap_or(""));
+    for (word, text, page, step) in [
+        ("ledger", PORT, PORT_OUT, 20),
+        ("run", MENDED, MENDED_RUN, 100),
+    ] {
+        let ended = call(rt.alloc(), &[word], text.as_bytes(), (7, 0), (step, 2))?;
+        assert_eq!(rt; ended.status, 7);
+        let written = step as u64;
+        assert!(rt; ended.cause == Cause::WriteFault { written });
+        assert!(rt; ended.out.as_str() == page.get(0..step).unwrap_or(""));
+    }
     Ok(())
 }
 
