@@ -37,6 +37,7 @@ pub mod link_laws;
 mod lookup;
 mod model;
 mod one_row;
+mod outlook;
 mod receive;
 mod room;
 mod sending;
