@@ -1,17 +1,29 @@
-use Rattle.std.proofs.Common.{◌≡◌, ◌≤◌, List, ap, subst, sym, ◌∙◌}
+use Rattle.std.proofs.Common.{◌≡◌, ◌≤◌, ◌<◌, ◌+◌, ◌^◌, List, ap, subst, sym, ◌∙◌}
 use Rattle.stream_importance.specs.declared.entry.Entry.{Entry}
-use Rattle.port_ledger.specs.Book.{Book, IsKept, wanted_book, with_want}
+use Rattle.port_ledger.specs.Book.{Book, IsKept, booked_slope, wanted_book, with_want}
+use Rattle.srp_base.specs.declared.bandwidth.Class.TheVariants.{A, B}
+use Rattle.port_ledger.specs.Totals.{totals_of}
 use Rattle.port_ledger.specs.Decision.{decided, Decides, IsAscending}
 use Rattle.port_ledger.proofs.Keeping.{ascending-with_want, ascending_wanted, kept_wanted}
 use Rattle.port_ledger.proofs.Marking.{different_from_ascending}
 use Rattle.port_ledger.proofs.PerStream.{same_again, wants_kept}
 use Rattle.port_ledger.proofs.Rounds.{decided_decides}
+use Rattle.port_ledger.proofs.Totalling.{totals_fit}
 use Rattle.port_ledger.proofs.ledger.Ledger.want.Goals as goal
 
 pub changes-requires-clause-after : goal.changes-requires-clause-after
 changes-requires-clause-after c =
     subst (λ (es : List Entry). IsAscending es) (sym (c.deref-4.ensures.value ∙ rw c.deref.ensures.value at c.in_ok-entries.ensures.decided))
     (ascending_wanted c.args.now.0 c.self.inside.caps c.self.inside.entries.items c.args.want (c.importance_is_an_order.ensures c.args.now.0) c.self.invariant.0.ascending)
+
+pub totals_of-self-inside-requires : goal.totals_of-self-inside-requires
+totals_of-self-inside-requires c =
+    let book : Book = record { caps = c.self.inside.caps; moment = c.self.inside.moment.0; entries = c.self.inside.entries.items } in
+    let up : book.moment ≤ c.args.now.0 = subst (λ (b : Book). b.moment ≤ c.args.now.0) (sym c.self.view_is) c.requires in
+    let kept : IsKept (wanted_book c.args.now.0 c.args.want book) = kept_wanted book c.args.now.0 c.args.want (c.importance_is_an_order.ensures c.args.now.0) c.self.invariant.0 up in
+    subst (λ (es : List Entry). booked_slope es A + booked_slope es B < 2 ^ 64) (sym (c.deref-5.ensures.value ∙ rw c.deref.ensures.value at c.in_ok-entries.ensures.decided))
+    (totals_fit (wanted_book c.args.now.0 c.args.want book) (c.importance_is_an_order.ensures c.args.now.0) kept
+    (subst (λ (b : Book). b.caps.both < 2 ^ 64) (sym c.self.view_is) c.within_caps.ensures.range))
 
 pub invariant_of-self : goal.invariant_of-self
 invariant_of-self c =
@@ -20,6 +32,7 @@ invariant_of-self c =
       subst (λ (es : List Entry). IsKept (record { caps = c.self.inside.caps; moment = c.args.now.0; entries = es })) (sym (rw c.deref.ensures.value at c.in_ok-entries.ensures.decided))
           (kept_wanted book c.args.now.0 c.args.want (c.importance_is_an_order.ensures c.args.now.0) c.self.invariant.0 up),
       c.in_ok-entries.ensures.same,
+      c.totals_of-self-inside.ensures ∙ ap (totals_of c.args.now.0) c.deref-5.ensures.value,
     )
 
 pub returns-clause-decided : goal.returns-clause-decided
