@@ -82,7 +82,7 @@ fn earlier(first: Option<Cs>, leave: Cs) -> Cs
 }
 
 /// The outlook for some rows: one walk over them.
-#[tactic(auto, using(crate::proofs::Outlooks::holds_of_all))]
+#[tactic(auto, using(crate::proofs::OutlookLemmas::holds_of_all))]
 pub(crate) fn outlook_of<K: Copy, C: Copy>(rows: &[Row<K, C>]) -> Outlook
     ensures is { result ≡ outlook_of rows.now }
     ensures holds { HoldsOfAll result rows.now }
@@ -95,7 +95,7 @@ pub(crate) fn outlook_of<K: Copy, C: Copy>(rows: &[Row<K, C>]) -> Outlook
 }
 
 /// Whether a leave timer of some rows is due. No row is looked at where it is known that none is.
-#[tactic(auto, using(crate::proofs::Outlooks::none_may_leave))]
+#[tactic(auto, using(crate::proofs::OutlookLemmas::none_may_leave))]
 pub(crate) fn is_leave_due<K: Copy, C: Copy>(rows: &[Row<K, C>], outlook: Outlook, now: Cs) -> bool
     requires { HoldsOfAll outlook rows.now }
     ensures { result ≡ list_any (leave_is_due now.0) rows.now }
@@ -107,7 +107,7 @@ pub(crate) fn is_leave_due<K: Copy, C: Copy>(rows: &[Row<K, C>], outlook: Outloo
 }
 
 /// Whether no row is tried without LeaveAll. No row is looked at where that is known.
-#[tactic(auto, using(crate::proofs::Outlooks::untried_all))]
+#[tactic(auto, using(crate::proofs::OutlookLemmas::untried_all))]
 pub(crate) fn is_none_tried<K: Copy, C: Copy>(rows: &[Row<K, C>], outlook: Outlook) -> bool
     requires { HoldsOfAll outlook rows.now }
     ensures { result ≡ none_tried rows.now }
@@ -119,7 +119,7 @@ pub(crate) fn is_none_tried<K: Copy, C: Copy>(rows: &[Row<K, C>], outlook: Outlo
 }
 
 /// Whether every row's machines are at rest. No row is looked at where that is known.
-#[tactic(auto, using(crate::proofs::Outlooks::settled_all))]
+#[tactic(auto, using(crate::proofs::OutlookLemmas::settled_all))]
 pub(crate) fn are_settled<K: Copy, C: Copy>(rows: &[Row<K, C>], outlook: Outlook) -> bool
     requires { HoldsOfAll outlook rows.now }
     ensures { result ≡ all_settled rows.now }

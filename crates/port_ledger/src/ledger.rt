@@ -7,6 +7,7 @@ ghost use Rattle.stream_importance.specs.declared.entry.Fit.TheVariants.{Fits};
 ghost use Rattle.stream_importance.specs.declared.entry.Want.{Want};
 ghost use Rattle.stream_importance.specs.Bandwidth.{caps_of};
 ghost use Rattle.port_ledger.specs.Book.{booked_only_in, booked_slope, clocked_book, entry_of, fit_for, has_new_booking, IsFitWithin, IsKept, since_of, unwanted_book, want_of, wanted_book, with_want};
+ghost use Rattle.port_ledger.specs.Pass.{has_want};
 ghost use Rattle.port_ledger.specs.Decision.{booked_of, Decides, does_fit, is_booked, IsAscending, IsDecision, marks_of};
 
 use crate::changed::{Changed, changes};
@@ -94,6 +95,10 @@ impl Ledger {
         self.within_caps();
         importance_is_an_order();
         let alloc = *self.entries.allocator();
+        if self.has_want(&want) {
+            self.clock(now);
+            return Ok(Changed::nothing(alloc));
+        }
         let (entries, order) = wanted(alloc, now, &self.caps, &self.entries, &self.order, want)?;
         let changed = changes(alloc, &self.entries, &entries)?;
         self.totals = totals_of(&entries, now);
@@ -119,6 +124,10 @@ impl Ledger {
         self.stands();
         self.within_caps();
         importance_is_an_order();
+        if !self.wants(stream) {
+            self.clock(now);
+            return false;
+        }
         let was_booked = self.booked(stream).is_some();
         unwant(now, &self.caps, &mut self.entries, &mut self.order, stream);
         self.totals = totals_of(&self.entries, now);
@@ -232,6 +241,16 @@ impl Ledger {
         ensures { result ≡ entry_of self.now.entries stream }
     {
         find_entry(&self.entries, stream)
+    }
+
+    /// Whether this want is kept of its stream.
+    fn has_want(&self, want: &Want) -> bool
+        ensures { result ≡ has_want self.now.entries want.now }
+    {
+        match self.entry(want.stream) {
+            Some(x) => x.want == *want,
+            None => false,
+        }
     }
 
     /// The number of entries, booked or not.

@@ -1,4 +1,4 @@
-use Rattle.mrp_participant.proofs.Outlooks.{holds-at_row, holds-at_gap}
+use Rattle.mrp_participant.proofs.OutlookLemmas.{holds-at_row, holds-at_gap}
 use Rattle.mrp_participant.proofs.calls.declare_in.Goals as goal
 
 pub returns-in-Ok-clause-holds : goal.returns-in-Ok-clause-holds

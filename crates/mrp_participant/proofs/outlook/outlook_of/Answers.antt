@@ -2,7 +2,7 @@ use Rattle.std.proofs.Common.{◌+◌, fold, drop, ap, sym, ◌∙◌, arith}
 use Rattle.std.proofs.lemmas.List.{drop_all}
 use Rattle.mrp_participant.specs.Outlook.{empty_outlook, outlook_with}
 use Rattle.mrp_participant.proofs.Lookups.{fold-step}
-use Rattle.mrp_participant.proofs.Outlooks.{holds_of_all}
+use Rattle.mrp_participant.proofs.OutlookLemmas.{holds_of_all}
 use Rattle.mrp_participant.proofs.outlook.outlook_of.Goals as goal
 
 pub loop-row-preserved : goal.loop-row-preserved

@@ -1,4 +1,4 @@
-use Rattle.port_ledger.proofs.Totalling.{WalksAt}
+use Rattle.port_ledger.proofs.TotalsLemmas.{WalksAt}
 use Rattle.port_ledger.proofs.totals.totals_of.Given as goal
 
 abbrev pub invariant-loop-x : goal.invariant-loop-x

@@ -1,7 +1,7 @@
 use Rattle.std.proofs.Common.{◌≤◌, refl, subst, sym, ◌∙◌}
 use Rattle.port_ledger.specs.Book.{Book}
 use Rattle.port_ledger.proofs.Keeping.{kept_clocked}
-use Rattle.port_ledger.proofs.Totalling.{totals_later}
+use Rattle.port_ledger.proofs.TotalsLemmas.{totals_later}
 use Rattle.port_ledger.proofs.ledger.Ledger.clock.Goals as goal
 
 pub invariant_of-self : goal.invariant_of-self

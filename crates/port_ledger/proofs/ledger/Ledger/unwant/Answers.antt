@@ -5,8 +5,8 @@ use Rattle.srp_base.specs.declared.bandwidth.Class.TheVariants.{A, B}
 use Rattle.port_ledger.specs.Totals.{totals_of}
 use Rattle.port_ledger.specs.Decision.{booked_of, decided}
 use Rattle.port_ledger.proofs.Keeping.{kept_unwanted}
-use Rattle.port_ledger.proofs.Unwanting.{unwanted_changes, wants_left}
-use Rattle.port_ledger.proofs.Totalling.{totals_fit}
+use Rattle.port_ledger.proofs.Unwanting.{missing-is, missing_out, unwanted_changes, wants_left}
+use Rattle.port_ledger.proofs.TotalsLemmas.{totals_fit}
 use Rattle.port_ledger.proofs.ledger.Ledger.unwant.Goals as goal
 
 pub totals_of-self-inside-requires : goal.totals_of-self-inside-requires
@@ -43,3 +43,10 @@ returns-clause-changed c =
 pub returns-clause-kept : goal.returns-clause-kept
 returns-clause-kept c = λ s.
     ap (λ (es : List Entry). want_of es s) (left c) ∙ wants_left c.args.now.0 c.args.self.now.caps c.args.self.now.entries c.args.stream s
+
+-- a stream that has no entry
+pub returns-then-not-wants-clause-book : goal.returns-then-not-wants-clause-book
+returns-then-not-wants-clause-book c =
+    c.clock.ensures.book
+    ∙ sym (missing_out c.args.self.now c.args.now.0 c.args.stream (c.importance_is_an_order.ensures c.args.now.0) (subst (λ (b : Book). IsKept b) c.self.view_is c.self.invariant.0) c.requires
+    (missing-is c.args.self.now.entries c.args.stream (sym c.wants.ensures ∙ c.if-not-wants.true)))
