@@ -8,6 +8,7 @@ pub mod Hearings
 pub mod Links
 pub mod Lookups
 pub mod Octets
+pub mod OutlookLemmas
 pub mod Rooms
 pub mod Sendings
 pub mod SentEvents

@@ -3,6 +3,7 @@ pub mod Hearing
 pub mod Link
 pub mod Lookup
 pub mod OneRow
+pub mod Outlook
 pub mod Room
 pub mod Sending
 pub mod State

@@ -3,12 +3,14 @@
 ghost use Rattle.std.specs.Prelude.{◌≡◌, false, Some, None, OnOk, OnErr};
 ghost use Rattle.mrp_participant.specs.Lookup.{Ascends, ChangesOnly, key_of, find, put};
 ghost use Rattle.mrp_participant.specs.OneRow.{after_declare, after_withdraw, after_leave, is_leaving_in, declared_in};
+ghost use Rattle.mrp_participant.specs.Outlook.{HoldsOfAll};
 ghost use Rattle.mrp_participant.specs.State.{declared_state, withdrawn_state, left_state};
 
 use crate::application::MrpApp;
 use crate::lookup::{fill_at, place, replace_at};
 use crate::model::Participant;
 use crate::one_row::Row;
+use crate::outlook::{Outlook, outlook_of};
 use registrar::Registrar;
 use srp_base::NoMemory;
 
@@ -27,7 +29,7 @@ impl<A: MrpApp> Participant<A> {
             (ChangesOnly A.Key.cmp key (after_declare A.Content.eq key content (find A.Key.cmp key self.old.rows))
             self.old.rows self.new.rows) }
     {
-        declare_in(&mut self.rows, key, content)
+        declare_in(&mut self.rows, &mut self.outlook, key, content)
     }
 
     /// Withdraws a key: New! and then Lv! in VP, nothing in VO and LA, Lv! in the others
@@ -39,7 +41,7 @@ impl<A: MrpApp> Participant<A> {
             ≡ self.old }
         ensures each_key { ChangesOnly A.Key.cmp key (after_withdraw (find A.Key.cmp key self.old.rows)) self.old.rows self.new.rows }
     {
-        withdraw_in(&mut self.rows, key);
+        withdraw_in(&mut self.rows, &mut self.outlook, key);
     }
 
     /// Ends a key's leave timer: LV becomes MT (IEEE Std 802.1Q-2018, 10.7.8). True exactly where the Registrar
@@ -50,7 +52,9 @@ impl<A: MrpApp> Participant<A> {
         ensures stays { result ≡ false → self.new ≡ self.old }
         ensures each_key { ChangesOnly A.Key.cmp key (after_leave (find A.Key.cmp key self.old.rows)) self.old.rows self.new.rows }
     {
-        leave_in(&mut self.rows, key)
+        let was = leave_in(&mut self.rows, key);
+        self.outlook = outlook_of(self.rows.as_slice());
+        was
     }
 }
 
@@ -58,34 +62,49 @@ impl<A: MrpApp> Participant<A> {
 /// were.
 pub(crate) fn declare_in<K: Copy + Ord, C: Copy + Eq>(
     rows: &mut Vec<Row<K, C>>,
+    outlook: &mut Outlook,
     key: K,
     content: C,
 ) -> Result<(), NoMemory>
-    requires { Ascends K.cmp key_of rows.old.items }
+    requires ascend { Ascends K.cmp key_of rows.old.items }
+    requires holds { HoldsOfAll outlook.old rows.old.items }
     ensures ok { OnOk result (rows.new.items
         ≡ put K.cmp key (after_declare C.eq key content (find K.cmp key rows.old.items)) rows.old.items) }
     ensures err { OnErr result (rows.new.items ≡ rows.old.items) }
     ensures room { OnErr result (find K.cmp key rows.old.items ≡ None) }
+    ensures holds { HoldsOfAll outlook.new rows.new.items }
 {
     match place(rows.as_slice(), &key) {
         Ok(at) => {
-            let row = rows[at];
-            replace_at(rows, at, Some(row.declared(content)));
-            Ok(())
+            let row = rows[at].declared(content);
+            replace_at(rows, at, Some(row));
+            *outlook = outlook.with(&row);
         }
-        Err(at) => fill_at(rows, at, Row::fresh(key, content).declared(content)),
+        Err(at) => {
+            let row = Row::fresh(key, content).declared(content);
+            fill_at(rows, at, row)?;
+            *outlook = outlook.with(&row);
+        }
     }
+    Ok(())
 }
 
 /// Withdraws a key; one without a row stays so.
-pub(crate) fn withdraw_in<K: Copy + Ord, C: Copy>(rows: &mut Vec<Row<K, C>>, key: K)
-    requires { Ascends K.cmp key_of rows.old.items }
-    ensures { rows.new.items
+pub(crate) fn withdraw_in<K: Copy + Ord, C: Copy>(
+    rows: &mut Vec<Row<K, C>>,
+    outlook: &mut Outlook,
+    key: K,
+)
+    requires ascend { Ascends K.cmp key_of rows.old.items }
+    requires holds { HoldsOfAll outlook.old rows.old.items }
+    ensures rows { rows.new.items
         ≡ put K.cmp key (after_withdraw (find K.cmp key rows.old.items)) rows.old.items }
+    ensures holds { HoldsOfAll outlook.new rows.new.items }
 {
     if let Ok(at) = place(rows.as_slice(), &key) {
-        let row = rows[at];
-        replace_at(rows, at, Some(row.withdrawn()));
+        let row = rows[at].withdrawn();
+        replace_at(rows, at, Some(row));
+        *outlook = outlook.with(&row);
     }
 }
 

@@ -21,6 +21,9 @@
 //!   row alone;
 //! - `due` fires the timers that are due: the leave timers, LeaveAll, periodic.
 //!
+//! Beside the rows stands what is known of all of them (`Outlook`): where nothing is due and nothing is to be said,
+//! `any_due`, `due`, `still` and `send` look at no row.
+//!
 //! `laws` says of the calls that touch every row what each single key has afterwards; `duty_laws` what two
 //! participants on a link owe one another, call by call; `link_laws` the same of every history of a link. After
 //! want of memory a participant is as it was.
@@ -37,6 +40,7 @@ pub mod link_laws;
 mod lookup;
 mod model;
 mod one_row;
+mod outlook;
 mod receive;
 mod room;
 mod sending;

@@ -3,11 +3,12 @@
 ghost use Rattle.std.specs.Prelude.{◌≡◌, length, map, slice_get, false, IfOk};
 ghost use Rattle.mrp_participant.specs.Lookup.{find, key_of};
 ghost use Rattle.mrp_participant.specs.OneRow.{applicant_of, registrar_of, registered_in, declared_in};
-ghost use Rattle.mrp_participant.specs.State.{IsTime, AreRows, new_state, is_still, all_settled};
+ghost use Rattle.mrp_participant.specs.State.{IsTime, AreRows, new_state, is_still};
 
 use crate::application::MrpApp;
 use crate::lookup::find_row;
 use crate::one_row::Row;
+use crate::outlook::{Outlook, are_settled};
 use applicant::Applicant;
 use leaveall::{LeaveAll, Periodic};
 use registrar::Registrar;
@@ -21,6 +22,8 @@ use std::marker::Model;
 #[derive(Drop)]
 pub struct Participant<A: MrpApp> {
     pub(crate) rows: Vec<Row<A::Key, A::Content>>,
+    // What is known of all rows.
+    pub(crate) outlook: Outlook,
     pub(crate) leave_all: LeaveAll,
     pub(crate) next_leave_all: Cs,
     pub(crate) period: Cs,
@@ -30,13 +33,14 @@ pub struct Participant<A: MrpApp> {
 }
 
 impl<A: MrpApp> Model for Participant<A> {
+    ghost use Rattle.mrp_participant.specs.Outlook.{HoldsOfAll};
     ghost use Rattle.mrp_participant.specs.State.{State, AreRows, IsTime};
 
     ghost Value = { State A.Key A.Content };
 
     ghost view = { λ p. record { rows = p.rows.items; leave_all = p.leave_all; next_leave_all = p.next_leave_all; period = p.period; leave_time = p.leave_time; periodic = p.periodic; sound = p.sound } };
 
-    ghost invariant = { λ p. AreRows A.Key.cmp p.rows.items × IsTime p.period × IsTime p.leave_time };
+    ghost invariant = { λ p. AreRows A.Key.cmp p.rows.items × IsTime p.period × IsTime p.leave_time × HoldsOfAll p.outlook p.rows.items };
 }
 
 impl<A: MrpApp> Participant<A> {
@@ -50,6 +54,7 @@ impl<A: MrpApp> Participant<A> {
     {
         Participant {
             rows: Vec::new(alloc),
+            outlook: Outlook::empty(),
             leave_all: LeaveAll::Passive,
             next_leave_all: period,
             period,
@@ -79,6 +84,7 @@ impl<A: MrpApp> Participant<A> {
         let rows = Vec::from_slice(*self.rows.allocator(), self.rows.as_slice())?;
         Ok(Participant {
             rows,
+            outlook: self.outlook,
             leave_all: self.leave_all,
             next_leave_all: self.next_leave_all,
             period: self.period,
@@ -147,7 +153,7 @@ impl<A: MrpApp> Participant<A> {
     pub fn still(&self) -> bool
         ensures { result ≡ is_still self.now }
     {
-        self.leave_all == LeaveAll::Passive && all_settled(self.rows.as_slice())
+        self.leave_all == LeaveAll::Passive && are_settled(self.rows.as_slice(), self.outlook)
     }
 
     /// The number of rows: of keys whose Applicant isn't VO or whose Registrar isn't MT.
@@ -172,13 +178,6 @@ impl<A: MrpApp> Participant<A> {
     {
         row_registrar(self.rows.as_slice(), index)
     }
-}
-
-// Whether every row's machines are at rest.
-fn all_settled<K: Copy, C: Copy>(rows: &[Row<K, C>]) -> bool
-    ensures { result ≡ all_settled rows.now }
-{
-    rows.iter().all(|row| row.is_settled())
 }
 
 // The key of the row at a place.

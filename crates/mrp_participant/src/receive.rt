@@ -13,6 +13,7 @@ use crate::hearing::{put_heard, rows_heard};
 use crate::lookup::find_row;
 use crate::model::Participant;
 use crate::one_row::Row;
+use crate::outlook::outlook_of;
 use leaveall::{LaEvent, LeaveAll};
 use srp_base::{Cs, MrpEvent, NoMemory, Seq};
 use std::alloc::Global;
@@ -39,6 +40,7 @@ impl<A: MrpApp> Participant<A> {
             msgs.events.as_slice(),
             leave,
         )?;
+        self.outlook = outlook_of(self.rows.as_slice());
         self.leave_all = machine_after(self.leave_all, msgs.leave_all);
         self.next_leave_all = timer_after(self.next_leave_all, msgs.leave_all, now, self.period);
         Ok(keys)

@@ -10,6 +10,7 @@ ghost use Rattle.mrp_participant.specs.State.{AreRows, is_active, is_silent, non
 use crate::application::{MrpApp, Msgs};
 use crate::model::Participant;
 use crate::one_row::{Row, round};
+use crate::outlook::{is_none_tried, outlook_of};
 use crate::room::{Cut, find_cut};
 use leaveall::{LaEvent, LeaveAll};
 use srp_base::{Cs, MrpEvent, NoMemory, Seq};
@@ -54,6 +55,7 @@ impl<A: MrpApp> Participant<A> {
             leave_all,
             leave,
         )?;
+        self.outlook = outlook_of(rows.as_slice());
         self.rows = rows;
         self.leave_all = self.leave_all.step(LaEvent::Tx);
         self.sound = sound_after(self.sound, leave_all);
@@ -64,7 +66,7 @@ impl<A: MrpApp> Participant<A> {
     fn has_nothing_to_say(&self) -> bool
         ensures { result ≡ is_silent self.now }
     {
-        self.leave_all == LeaveAll::Passive && none_tried(self.rows.as_slice())
+        self.leave_all == LeaveAll::Passive && is_none_tried(self.rows.as_slice(), self.outlook)
     }
 }
 
@@ -113,13 +115,6 @@ fn pdu_of<A: MrpApp>(
     let events = events_sent(alloc, rows, leave_all, &cut, leave)?;
     let after = rows_sent(alloc, rows, leave_all, &cut, leave)?;
     Ok((after, Seq::from_vec(events)))
-}
-
-/// Whether no row is tried without LeaveAll.
-fn none_tried<K: Copy, C: Copy>(rows: &[Row<K, C>]) -> bool
-    ensures { result ≡ none_tried rows.now }
-{
-    rows.iter().all(|row| !row.is_tried(false))
 }
 
 /// Whether a row is tried, and before the first one that finds no room.

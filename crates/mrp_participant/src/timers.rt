@@ -5,11 +5,13 @@ ghost use Rattle.std.specs.Prelude.{◌≡◌, ◌<◌, ◌+◌, ◌^◌, map, f
 ghost use Rattle.std.specs.List.{filter_map, list_any};
 ghost use Rattle.mrp_participant.specs.Lookup.{key_of};
 ghost use Rattle.mrp_participant.specs.OneRow.{leave_is_due, after_leave_due, periodic_row};
+ghost use Rattle.mrp_participant.specs.Outlook.{HoldsOfAll};
 ghost use Rattle.mrp_participant.specs.State.{leave_all_state, periodic_state, is_any_due, due_leave_all_state, due_periodic_state, due_state, due_count, left_keys};
 
 use crate::application::MrpApp;
 use crate::model::Participant;
 use crate::one_row::Row;
+use crate::outlook::{Outlook, any_leave_due, is_leave_due, outlook_of};
 use leaveall::LaEvent;
 use srp_base::{Cs, NoMemory, Seq};
 use std::alloc::{AllocError, Global};
@@ -30,13 +32,14 @@ impl<A: MrpApp> Participant<A> {
         ensures { self.new ≡ periodic_state self.old }
     {
         all_periodic(&mut self.rows);
+        self.outlook = outlook_of(self.rows.as_slice());
     }
 
     /// Whether a timer's moment is at or before `now`, in cs.
     pub fn any_due(&self, now: Cs) -> bool
         ensures { result ≡ is_any_due now self.now }
     {
-        any_leave_due(self.rows.as_slice(), now)
+        is_leave_due(self.rows.as_slice(), self.outlook, now)
             || (self.next_leave_all.0 <= now.0 || self.periodic.due(now))
     }
 
@@ -51,7 +54,7 @@ impl<A: MrpApp> Participant<A> {
         ensures keys { IfOk result (λ r. r.1 ≡ left_keys now self.old) }
         ensures err { OnErr result (self.new ≡ self.old) }
     {
-        let keys = Seq::from_vec(fire_leave_timers(&mut self.rows, now)?);
+        let keys = Seq::from_vec(fire_leaves(&mut self.rows, &mut self.outlook, now)?);
         let leave_all = self.next_leave_all.0 <= now.0;
         let periodic = self.periodic.due(now);
         let fired = count(keys.len(), leave_all, periodic);
@@ -77,6 +80,7 @@ impl<A: MrpApp> Participant<A> {
     {
         if self.periodic.due(now) {
             all_periodic(&mut self.rows);
+            self.outlook = outlook_of(self.rows.as_slice());
             self.periodic.fire(now);
         }
     }
@@ -91,11 +95,27 @@ fn all_periodic<K: Copy, C: Copy>(rows: &mut Vec<Row<K, C>>)
     }
 }
 
-/// Whether a leave timer is due.
-fn any_leave_due<K: Copy, C: Copy>(rows: &[Row<K, C>], now: Cs) -> bool
-    ensures { result ≡ list_any (leave_is_due now.0) rows.now }
+/// Fires the leave timers that are due, and answers their keys. Where it is known that none is due no row is looked
+/// at. After want of memory the rows are as they were.
+fn fire_leaves<K: Copy, C: Copy>(
+    rows: &mut Vec<Row<K, C>>,
+    outlook: &mut Outlook,
+    now: Cs,
+) -> Result<Vec<K>, NoMemory>
+    requires { HoldsOfAll outlook.old rows.old.items }
+    ensures keys { IfOk result (λ v. v.items
+        ≡ map key_of (filter (leave_is_due now.0) rows.old.items)) }
+    ensures rows { OnOk result (rows.new.items
+        ≡ filter_map (after_leave_due now.0) rows.old.items) }
+    ensures err { OnErr result (rows.new.items ≡ rows.old.items) }
+    ensures holds { HoldsOfAll outlook.new rows.new.items }
 {
-    rows.iter().any(|row| row.leave_is_due(now))
+    if !outlook.may_leave(now) {
+        return Ok(Vec::new(*rows.allocator()));
+    }
+    let keys = fire_leave_timers(rows, now)?;
+    *outlook = outlook_of(rows.as_slice());
+    Ok(keys)
 }
 
 /// Fires the leave timers that are due, and answers their keys. Where none is due nothing is copied. After want

@@ -170,3 +170,7 @@ pub bookings_ascend : {F : Type 0} (xs : List Entry) (r : Result (List Entry) F)
     → IfOk r (λ s. IsAscending s)
 bookings_ascend xs (Ok s) e up = subst (λ (ys : List Entry). IsAscending ys) (sym e) (ascending-booked xs up)
 bookings_ascend xs (Err f) e up = tt
+
+-- between entries and themselves nothing changed
+pub nothing_new : (xs ys : List Entry) → IsAscending xs → ys ≡ xs → (booked_only_in ys xs ≡ []) × (booked_only_in xs ys ≡ [])
+nothing_new xs ys up is = subst (λ (zs : List Entry). (booked_only_in zs xs ≡ []) × (booked_only_in xs zs ≡ [])) (sym is) ((nothing_changed xs xs up up).1 refl)

@@ -15,5 +15,6 @@ pub mod Sinking
 pub mod Standing
 pub mod Taken
 pub mod TakingOut
+pub mod TotalsLemmas
 pub mod Unmoved
 pub mod Unwanting

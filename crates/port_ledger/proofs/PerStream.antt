@@ -62,7 +62,7 @@ same_want-refl a =
     (eq-eqb (rank_number a.rank) (rank_number a.rank) refl))
     (eq-eqb a.slope a.slope refl)
 
-same_want-is : (a b : Want) → same_want a b ≡ true → a ≡ b
+pub same_want-is : (a b : Want) → same_want a b ≡ true → a ≡ b
 same_want-is a b h =
     let streams : Bool = a.stream.0 == b.stream.0 in
     let classes : Bool = class_number a.class == class_number b.class in

@@ -1,5 +1,5 @@
 -- What a stream leaves that wants nothing more.
-use Rattle.std.proofs.Common.{◌≡◌, ◌≢◌, ◌↔◌, ℕ, ◌<◌, ◌≤◌, Bool, true, false, not, ◌==◌, ◌||◌, cond, List, [], ◌∷◌, map, Option, Some, None, option_and_then, is_some, IsTrue, refl, sym, ◌∙◌, ap, subst, arith, inl, inr, true≢false}
+use Rattle.std.proofs.Common.{◌≡◌, ◌≢◌, ◌↔◌, ℕ, ◌<◌, ◌≤◌, Bool, true, false, not, ◌==◌, ◌||◌, cond, List, [], ◌∷◌, map, Option, Some, None, option_map, option_and_then, is_some, IsTrue, refl, sym, ◌∙◌, ap, subst, arith, inl, inr, true≢false}
 use Rattle.std.specs.List.{AllByRecursion, list_any}
 use Rattle.std.proofs.lemmas.Bool.{eq-eqb, ne_eqb, eqb-true, cases_Bool, or_from}
 use Rattle.srp_base.specs.declared.numbers.Cs.{Cs}
@@ -10,9 +10,10 @@ use Rattle.stream_importance.specs.declared.slope.Caps.{Caps}
 use Rattle.stream_importance.specs.Importance.{IsImportanceOrder}
 use Rattle.port_ledger.specs.Decision.{stream_of, does_fit, decided, decided_set, is_booked, booked_of, marks_of, settled, IsAscending, IsDecision}
 use Rattle.port_ledger.specs.Book.{Book, IsKept, clocked_book, entry_of, since_of, unwanted_book, want_of, wanted_book, without}
+use Rattle.port_ledger.specs.Pass.{has_same, has_want}
 use Rattle.port_ledger.proofs.Keeping.{ascending-without}
 use Rattle.port_ledger.proofs.Marking.{marked-map, different_from_ascending}
-use Rattle.port_ledger.proofs.PerStream.{decided_again, want_of-settled, want_of-here, want_of-past, with_want-again}
+use Rattle.port_ledger.proofs.PerStream.{decided_again, same_want-is, want_of-settled, want_of-here, want_of-past, with_want-again}
 use Rattle.port_ledger.proofs.Rounds.{decided_decides, decided_only}
 use Rattle.port_ledger.proofs.Standing.{book_stands, settled-own}
 
@@ -206,3 +207,21 @@ unbooked_stays book now s o kept up = (
         → since ≡ None
     by_since None e h = refl
     by_since (Some c) e h = absurd (h (subst (λ (v : Bool). IsTrue v) (sym (ap is_some e)) refl))
+
+-- ---- from what the code asks
+
+same-kept : (o : Option Entry) (want : Want) → has_same o want ≡ true → option_map (λ x. x.want) o ≡ Some want
+same-kept None want h = cc
+same-kept (Some x) want h = ap Some (same_want-is x.want want h)
+
+-- a want that is found is kept
+pub has_want-is : (xs : List Entry) (want : Want) → has_want xs want ≡ true → want_of xs want.stream ≡ Some want
+has_want-is xs want h = same-kept (entry_of xs want.stream) want h
+
+none-kept : (o : Option Entry) → is_some o ≡ false → option_map (λ x. x.want) o ≡ None
+none-kept None h = refl
+none-kept (Some x) h = cc
+
+-- of a stream without an entry no want is kept
+pub missing-is : (xs : List Entry) (stream : StreamId) → is_some (entry_of xs stream) ≡ false → want_of xs stream ≡ None
+missing-is xs stream h = none-kept (entry_of xs stream) h

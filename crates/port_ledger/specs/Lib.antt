@@ -1,3 +1,4 @@
 pub mod Book
 pub mod Decision
 pub mod Pass
+pub mod Totals

@@ -1,7 +1,7 @@
 -- How the code finds the decided set: it keeps the entries in the order of importance, puts them back into
 -- that order at each decision, and goes through them once with a running sum; and how it compares two lists
 -- in one walk. No public contract names it; what is promised is the condition on a set in `Decision`.
-use Rattle.std.specs.Prelude.{◌≡◌, ℕ, ◌+◌, Bool, false, nat_le, nat_lt, List, [], ◌∷◌, ◌++◌, map, Option, if◌then◌else◌, ◌==◌}
+use Rattle.std.specs.Prelude.{◌≡◌, ℕ, ◌+◌, Bool, false, nat_le, nat_lt, List, [], ◌∷◌, ◌++◌, map, Option, Some, None, if◌then◌else◌, ◌==◌}
 use Rattle.std.specs.List.{AllByRecursion}
 use Rattle.srp_base.specs.declared.numbers.Cs.{Cs}
 use Rattle.srp_base.specs.declared.numbers.StreamId.{StreamId}
@@ -10,7 +10,7 @@ use Rattle.stream_importance.specs.declared.entry.Want.{Want}
 use Rattle.stream_importance.specs.declared.slope.Caps.{Caps}
 use Rattle.stream_importance.specs.Bandwidth.{cap_of}
 use Rattle.port_ledger.specs.Decision.{stream_of, entry_slope, is_preceded_by, since_after}
-use Rattle.port_ledger.specs.Book.{entry_with, same_entry, unbooked}
+use Rattle.port_ledger.specs.Book.{entry_of, entry_with, same_entry, same_want, unbooked}
 
 -- an entry among entries in the order of importance: before the first that it precedes
 abbrev pub place : ℕ → Entry → List Entry → List Entry
@@ -62,6 +62,14 @@ IsOnlyIn entries x = AllByRecursion (λ e. stream_of e ≡ stream_of x → e ≡
 abbrev pub rewanted : List Entry → Want → List Entry
 rewanted entries want =
     map (λ x. if stream_of x == want.stream.0 then entry_with x want else x) entries
+
+-- whether this want is kept of its stream
+abbrev pub has_same : Option Entry → Want → Bool
+has_same None want = false
+has_same (Some x) want = same_want x.want want
+
+abbrev pub has_want : List Entry → Want → Bool
+has_want entries want = has_same (entry_of entries want.stream) want
 
 -- the order once a want has come, of a stream that has an entry in it or is new and goes last
 abbrev pub order_with : List Entry → Want → Bool → List Entry

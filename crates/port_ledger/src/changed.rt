@@ -1,6 +1,6 @@
 //! What a call changed in the booked set.
 
-ghost use Rattle.std.specs.Prelude.{◌≡◌, IfOk};
+ghost use Rattle.std.specs.Prelude.{◌≡◌, [], IfOk};
 ghost use Rattle.port_ledger.specs.Book.{booked_only_in, same_entry};
 ghost use Rattle.port_ledger.specs.Decision.{IsAscending};
 ghost use Rattle.port_ledger.specs.Pass.{begins_with, from_stream};
@@ -17,6 +17,18 @@ pub struct Changed {
     /// The streams whose earlier booking is gone. A stream that is booked anew with another want stands
     /// in both.
     pub dropped: Seq<StreamId>,
+}
+
+impl Changed {
+    /// Nothing changed.
+    pub(crate) fn nothing(alloc: Global) -> Changed
+        ensures { result ≡ record { booked = []; dropped = [] } }
+    {
+        Changed {
+            booked: Seq::new(alloc),
+            dropped: Seq::new(alloc),
+        }
+    }
 }
 
 /// What changed in the booked set between two lists of entries.

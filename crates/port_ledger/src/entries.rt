@@ -1,11 +1,11 @@
 //! The wanting streams as a list that ascends by StreamID.
 
 ghost use Rattle.std.specs.Prelude.{◌≡◌, ◌==◌, position, ◌<◌, ◌≤◌, length, IfOk, IfErr, OnOk};
-ghost use Rattle.std.specs.List.{AllWithin, HoldsAt, list_any};
-ghost use Rattle.port_ledger.specs.Book.{entry_of, entry_with, is_since, with_want, without};
+ghost use Rattle.std.specs.List.{AllWithin, HoldsAt};
+ghost use Rattle.port_ledger.specs.Book.{entry_of, entry_with, with_want, without};
 ghost use Rattle.port_ledger.specs.Decision.{AreOfDifferentStreams, booked_of, IsAscending, stream_of};
 
-use srp_base::{Cs, NoMemory, Seq, StreamId};
+use srp_base::{NoMemory, Seq, StreamId};
 use std::alloc::Global;
 use stream_importance::{Entry, Want};
 
@@ -95,20 +95,4 @@ pub(crate) fn bookings(alloc: Global, entries: &[Entry]) -> Result<Seq<Entry>, N
         }
     }
     Ok(Seq::from_vec(booked))
-}
-
-/// Whether one of the entries is booked since this moment.
-pub(crate) fn has_new_booking(entries: &[Entry], moment: Cs) -> bool
-    ensures { result ≡ list_any (λ x. is_since moment.0 x.since) entries.now }
-{
-    entries.iter().any(|x| is_since(x.since, moment))
-}
-
-fn is_since(since: Option<Cs>, moment: Cs) -> bool
-    ensures { result ≡ is_since moment.0 since }
-{
-    match since {
-        Some(since) => since == moment,
-        None => false,
-    }
 }

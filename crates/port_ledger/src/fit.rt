@@ -1,24 +1,12 @@
 //! What of a port is taken, and whether a want fits beside it.
 
 ghost use Rattle.std.specs.Prelude.{◌≡◌, ◌+◌, nat_le, filter};
-ghost use Rattle.port_ledger.specs.Book.{booked_slope, code_of, fit_in, is_normal, since_if_same, tested_as};
+ghost use Rattle.port_ledger.specs.Book.{code_of, fit_in, is_normal, since_if_same, tested_as};
 ghost use Rattle.port_ledger.specs.Decision.{above, booked_of, is_preceded_by, IsAscending};
 
 use crate::entries::find_entry;
-use srp_base::{Class, Cs, Rank};
+use srp_base::{Cs, Rank};
 use stream_importance::{Caps, Entry, Fit, Want, more_important};
-
-/// The slopes of the booked entries of a class together, in bit/s.
-pub(crate) fn booked_slope(entries: &[Entry], class: Class) -> u128
-    ensures { result ≡ booked_slope entries.now class }
-{
-    entries
-        .iter()
-        .filter(|x| x.since.is_some())
-        .filter(|x| x.want.class == class)
-        .map(|x| u128::from(x.want.slope))
-        .sum()
-}
 
 /// The entry as which a want is tested.
 pub(crate) fn tested_as(entries: &[Entry], want: &Want) -> Entry

@@ -7,13 +7,15 @@ ghost use Rattle.stream_importance.specs.declared.entry.Fit.TheVariants.{Fits};
 ghost use Rattle.stream_importance.specs.declared.entry.Want.{Want};
 ghost use Rattle.stream_importance.specs.Bandwidth.{caps_of};
 ghost use Rattle.port_ledger.specs.Book.{booked_only_in, booked_slope, clocked_book, entry_of, fit_for, has_new_booking, IsFitWithin, IsKept, since_of, unwanted_book, want_of, wanted_book, with_want};
+ghost use Rattle.port_ledger.specs.Pass.{has_want};
 ghost use Rattle.port_ledger.specs.Decision.{booked_of, Decides, does_fit, is_booked, IsAscending, IsDecision, marks_of};
 
 use crate::changed::{Changed, changes};
 use crate::decide::{unwant, wanted};
-use crate::entries::{bookings, find_entry, has_new_booking};
-use crate::fit::{booked_slope, fit_of, tested_as};
+use crate::entries::{bookings, find_entry};
+use crate::fit::{fit_of, tested_as};
 use crate::laws::nothing_changed_where_both_lists_are_empty;
+use crate::totals::{Totals, totals_of};
 use srp_base::{Class, Cs, NoMemory, Percent, Rate, Seq, StreamId};
 use std::alloc::Global;
 use std::marker::Model;
@@ -28,18 +30,22 @@ pub struct Ledger {
     entries: Vec<Entry>,
     // The same entries, in the order of importance of the last decision.
     order: Vec<Entry>,
+    // What a walk over the entries would find at the moment.
+    totals: Totals,
 }
 
 impl Model for Ledger {
-    ghost use Rattle.std.specs.Prelude.{IsPermutation};
+    ghost use Rattle.std.specs.Prelude.{IsPermutation, ◌≡◌};
     ghost use Rattle.port_ledger.specs.Book.{Book, IsKept};
+    ghost use Rattle.port_ledger.specs.Totals.{totals_of};
 
     ghost Value = { Book };
 
     ghost view = { λ l. record { caps = l.caps; moment = l.moment.0; entries = l.entries.items } };
 
     ghost invariant = { λ l. IsKept (record { caps = l.caps; moment = l.moment.0; entries = l.entries.items })
-        × IsPermutation l.entries.items l.order.items };
+        × IsPermutation l.entries.items l.order.items
+        × (l.totals ≡ totals_of l.moment.0 l.entries.items) };
 }
 
 impl Ledger {
@@ -56,6 +62,7 @@ impl Ledger {
             moment: Cs(0),
             entries: Vec::new(alloc),
             order: Vec::new(alloc),
+            totals: Totals::empty(),
         }
     }
 
@@ -85,10 +92,16 @@ impl Ledger {
         ensures err { OnErr result (self.new ≡ self.old) }
     {
         self.stands();
+        self.within_caps();
         importance_is_an_order();
         let alloc = *self.entries.allocator();
+        if self.has_want(&want) {
+            self.clock(now);
+            return Ok(Changed::nothing(alloc));
+        }
         let (entries, order) = wanted(alloc, now, &self.caps, &self.entries, &self.order, want)?;
         let changed = changes(alloc, &self.entries, &entries)?;
+        self.totals = totals_of(&entries, now);
         self.entries = entries;
         self.order = order;
         self.moment = now;
@@ -109,9 +122,15 @@ impl Ledger {
             ≡ (if s.0 == stream.0 then None else want_of self.old.entries s) }
     {
         self.stands();
+        self.within_caps();
         importance_is_an_order();
+        if !self.wants(stream) {
+            self.clock(now);
+            return false;
+        }
         let was_booked = self.booked(stream).is_some();
         unwant(now, &self.caps, &mut self.entries, &mut self.order, stream);
+        self.totals = totals_of(&self.entries, now);
         self.moment = now;
         was_booked
     }
@@ -125,16 +144,18 @@ impl Ledger {
         ensures shown { result ≡ (nat_lt self.old.moment now.0 && has_new_booking self.old) }
     {
         self.stands();
-        let moved = self.moment < now && has_new_booking(&self.entries, self.moment);
+        let moved = self.moment.0 < now.0;
+        let shown = moved && self.totals.is_new;
+        self.totals = self.totals.later(moved);
         self.moment = now;
-        moved
+        shown
     }
 
     /// What `clock` would answer at this moment, in cs: whether a want that isn't booked may fit otherwise then.
     pub fn shows_at(&self, now: Cs) -> bool
         ensures { result ≡ (nat_lt self.now.moment now.0 && has_new_booking self.now) }
     {
-        self.moment < now && has_new_booking(&self.entries, self.moment)
+        self.moment < now && self.totals.is_new
     }
 
     /// The ledger's moment, in cs: the last one that was handed to it, and 0 at the start.
@@ -222,6 +243,16 @@ impl Ledger {
         find_entry(&self.entries, stream)
     }
 
+    /// Whether this want is kept of its stream.
+    fn has_want(&self, want: &Want) -> bool
+        ensures { result ≡ has_want self.now.entries want.now }
+    {
+        match self.entry(want.stream) {
+            Some(x) => x.want == *want,
+            None => false,
+        }
+    }
+
     /// The number of entries, booked or not.
     pub fn len(&self) -> usize
         ensures { result ≡ length self.now.entries }
@@ -251,6 +282,7 @@ impl Ledger {
             moment: self.moment,
             entries,
             order,
+            totals: self.totals,
         })
     }
 
@@ -258,7 +290,7 @@ impl Ledger {
     pub fn slope(&self, class: Class) -> u128
         ensures { result ≡ booked_slope self.now.entries class }
     {
-        booked_slope(&self.entries, class)
+        self.totals.slope(class)
     }
 
     /// What holds of every ledger.

@@ -26,13 +26,14 @@
 //! What a caller needs of one stream stands on the calls: a want is kept as it came and changes no other
 //! stream's (`Ledger::want`, `Ledger::unwant`), a stream is booked exactly where its entry fits among the
 //! booked ones, and a want that is kept fits exactly where it is booked (`Ledger::stands`,
-//! `Ledger::fits`). No order of the entries but that of StreamIDs stands in a contract. A call that takes
-//! no memory (`unwant`, `clock`, the readers but `bookings`, `changes_since` and `copy`) can't fail.
+//! `Ledger::fits`). `clock`, `shows_at` and `slope` go over no entry. No order of the entries but that of
+//! StreamIDs stands in a contract. A call that takes no memory (`unwant`, `clock`, the readers but
+//! `bookings`, `changes_since` and `copy`) can't fail.
 //!
 //! To extend it: a new way to judge who goes first is a line of `compare_importance` in stream_importance,
 //! and nothing here changes but what time does to it (`proofs/Standing.antt`). A new step is a function of
 //! the book beside `wanted_book`, a clause of `every_step_keeps_a_book`, and a method whose body changes
-//! the entries and the order alike and then calls `decide`.
+//! the entries and the order alike, calls `decide`, and finds the totals anew.
 #![tactic(auto)]
 
 mod changed;
@@ -42,6 +43,7 @@ mod fit;
 pub mod laws;
 mod ledger;
 mod order;
+mod totals;
 
 pub use changed::Changed;
 pub use laws::one_decision;

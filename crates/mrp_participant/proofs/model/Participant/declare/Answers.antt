@@ -15,6 +15,7 @@ invariant_of-self g c = (
       (AreRows-declare g.met.A.Key.Ord.total g.A.Content.PartialEq.eq _ _ _ c.self.invariant.0) c.self.invariant.0,
   c.self.invariant.1,
   c.self.invariant.2,
+  c.declare_in.ensures.holds,
 )
 
 on_ok : {X E : Type 0} (r : Result X E) (P Q : Type 0) → (P → Q) → OnOk r P → OnOk r Q

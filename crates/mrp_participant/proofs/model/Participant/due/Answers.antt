@@ -5,7 +5,8 @@ use Rattle.mrp_participant.proofs.model.Participant.due.Goals as goal
 
 pub invariant_of-self-2 : goal.invariant_of-self-2
 invariant_of-self-2 g c = (
-  subst (AreRows g.A.Key.Ord.cmp) (sym c.in_ok-fire_leave_timers.ensures.rows) (AreRows-filter_mapped g.A.Key.Ord.cmp _ (due-keeps c.args.now.0) _ c.self.invariant.0),
+  subst (AreRows g.A.Key.Ord.cmp) (sym c.in_ok-fire_leaves.ensures.rows) (AreRows-filter_mapped g.A.Key.Ord.cmp _ (due-keeps c.args.now.0) _ c.self.invariant.0),
   c.self.invariant.1,
   c.self.invariant.2,
+  c.in_ok-fire_leaves.ensures.holds,
 )

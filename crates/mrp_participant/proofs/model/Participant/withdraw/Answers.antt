@@ -9,14 +9,15 @@ use Rattle.mrp_participant.proofs.model.Participant.withdraw.Goals as goal
 
 pub invariant_of-self : goal.invariant_of-self
 invariant_of-self g c = (
-  subst (AreRows g.A.Key.Ord.cmp) (sym c.withdraw_in.ensures) (AreRows-withdraw g.met.A.Key.Ord.total _ _ c.self.invariant.0),
+  subst (AreRows g.A.Key.Ord.cmp) (sym c.withdraw_in.ensures.rows) (AreRows-withdraw g.met.A.Key.Ord.total _ _ c.self.invariant.0),
   c.self.invariant.1,
   c.self.invariant.2,
+  c.withdraw_in.ensures.holds,
 )
 
 pub returns-clause-each_key : goal.returns-clause-each_key
 returns-clause-each_key g c k =
-    ap (find g.A.Key.Ord.cmp k) c.withdraw_in.ensures
+    ap (find g.A.Key.Ord.cmp k) c.withdraw_in.ensures.rows
     ∙ each-withdraw g.met.A.Key.Ord.total c.args.key c.self.inside.rows.items c.self.invariant.0 k
     ∙ ap
     (λ (s : State g.row.A-Key.Denot g.row.A-Content.Denot). if same g.A.Key.Ord.cmp c.args.key k then after_withdraw (find g.A.Key.Ord.cmp c.args.key s.rows) else find g.A.Key.Ord.cmp k s.rows)
@@ -25,6 +26,6 @@ returns-clause-each_key g c k =
 pub returns-clause-undeclared : goal.returns-clause-undeclared
 returns-clause-undeclared g c h =
     unchanged _ _ _ c.self.view_is
-    (c.withdraw_in.ensures
+    (c.withdraw_in.ensures.rows
     ∙ withdraw-undeclared g.met.A.Key.Ord.total c.args.key c.self.inside.rows.items c.self.invariant.0
     (ap (λ (s : State g.row.A-Key.Denot g.row.A-Content.Denot). declared_in (find g.A.Key.Ord.cmp c.args.key s.rows)) c.self.view_is ∙ h))

@@ -1,17 +1,32 @@
-use Rattle.std.proofs.Common.{◌≡◌, ◌≤◌, List, ap, subst, sym, ◌∙◌}
+use Rattle.std.proofs.Common.{◌≡◌, ◌≤◌, ◌<◌, ◌+◌, ◌^◌, List, ap, subst, sym, ◌∙◌}
 use Rattle.stream_importance.specs.declared.entry.Entry.{Entry}
-use Rattle.port_ledger.specs.Book.{Book, IsKept, wanted_book, with_want}
+use Rattle.port_ledger.specs.Book.{Book, IsKept, booked_slope, wanted_book, with_want}
+use Rattle.srp_base.specs.declared.bandwidth.Class.TheVariants.{A, B}
+use Rattle.port_ledger.specs.Totals.{totals_of}
 use Rattle.port_ledger.specs.Decision.{decided, Decides, IsAscending}
+use Rattle.port_ledger.specs.declared.changed.Changed.{Changed}
+use Rattle.port_ledger.proofs.Comparing.{nothing_new}
+use Rattle.port_ledger.proofs.Unwanting.{has_want-is, wanted_again}
 use Rattle.port_ledger.proofs.Keeping.{ascending-with_want, ascending_wanted, kept_wanted}
 use Rattle.port_ledger.proofs.Marking.{different_from_ascending}
 use Rattle.port_ledger.proofs.PerStream.{same_again, wants_kept}
 use Rattle.port_ledger.proofs.Rounds.{decided_decides}
+use Rattle.port_ledger.proofs.TotalsLemmas.{totals_fit}
 use Rattle.port_ledger.proofs.ledger.Ledger.want.Goals as goal
 
 pub changes-requires-clause-after : goal.changes-requires-clause-after
 changes-requires-clause-after c =
     subst (λ (es : List Entry). IsAscending es) (sym (c.deref-4.ensures.value ∙ rw c.deref.ensures.value at c.in_ok-entries.ensures.decided))
     (ascending_wanted c.args.now.0 c.self.inside.caps c.self.inside.entries.items c.args.want (c.importance_is_an_order.ensures c.args.now.0) c.self.invariant.0.ascending)
+
+pub totals_of-self-inside-requires : goal.totals_of-self-inside-requires
+totals_of-self-inside-requires c =
+    let book : Book = record { caps = c.self.inside.caps; moment = c.self.inside.moment.0; entries = c.self.inside.entries.items } in
+    let up : book.moment ≤ c.args.now.0 = subst (λ (b : Book). b.moment ≤ c.args.now.0) (sym c.self.view_is) c.requires in
+    let kept : IsKept (wanted_book c.args.now.0 c.args.want book) = kept_wanted book c.args.now.0 c.args.want (c.importance_is_an_order.ensures c.args.now.0) c.self.invariant.0 up in
+    subst (λ (es : List Entry). booked_slope es A + booked_slope es B < 2 ^ 64) (sym (c.deref-5.ensures.value ∙ rw c.deref.ensures.value at c.in_ok-entries.ensures.decided))
+    (totals_fit (wanted_book c.args.now.0 c.args.want book) (c.importance_is_an_order.ensures c.args.now.0) kept
+    (subst (λ (b : Book). b.caps.both < 2 ^ 64) (sym c.self.view_is) c.within_caps.ensures.range))
 
 pub invariant_of-self : goal.invariant_of-self
 invariant_of-self c =
@@ -20,6 +35,7 @@ invariant_of-self c =
       subst (λ (es : List Entry). IsKept (record { caps = c.self.inside.caps; moment = c.args.now.0; entries = es })) (sym (rw c.deref.ensures.value at c.in_ok-entries.ensures.decided))
           (kept_wanted book c.args.now.0 c.args.want (c.importance_is_an_order.ensures c.args.now.0) c.self.invariant.0 up),
       c.in_ok-entries.ensures.same,
+      c.totals_of-self-inside.ensures ∙ ap (totals_of c.args.now.0) c.deref-5.ensures.value,
     )
 
 pub returns-clause-decided : goal.returns-clause-decided
@@ -40,3 +56,25 @@ returns-clause-again c =
     same_again c.args.now.0 (c.importance_is_an_order.ensures c.args.now.0)
     c.args.self.now.caps c.args.self.now.entries c.in_ok-entries.entries.items c.args.want
     c.stands.ensures.ascending (c.stands.ensures.decided c.args.now.0 c.requires) (returns-clause-decided c)
+
+-- ---- a want that is kept already
+
+pub returns-then-has_want-clause-book : goal.returns-then-has_want-clause-book
+returns-then-has_want-clause-book c =
+    c.clock.ensures.book
+    ∙ sym (wanted_again c.args.self.now c.args.now.0 c.args.want (c.importance_is_an_order.ensures c.args.now.0) (subst (λ (b : Book). IsKept b) c.self.view_is c.self.invariant.0) c.requires
+    (has_want-is c.args.self.now.entries c.args.want (sym c.has_want.ensures ∙ c.if-has_want.true)))
+
+pub returns-then-has_want-clause-decided : goal.returns-then-has_want-clause-decided
+returns-then-has_want-clause-decided c =
+    subst (λ (es : List Entry). Decides c.args.now.0 c.args.self.now.caps (with_want c.args.self.now.entries c.args.want) es) (ap (λ (b : Book). b.entries) (sym (returns-then-has_want-clause-book c)))
+    (decided_decides c.args.now.0 (c.importance_is_an_order.ensures c.args.now.0) c.args.self.now.caps (with_want c.args.self.now.entries c.args.want)
+    (different_from_ascending _ (ascending-with_want c.args.want c.args.self.now.entries c.stands.ensures.ascending)))
+
+pub returns-then-has_want-clause-booked : goal.returns-then-has_want-clause-booked
+returns-then-has_want-clause-booked c =
+    ap (λ (x : Changed). x.booked) c.nothing.ensures ∙ sym (nothing_new c.args.self.now.entries c.clock.new.self.entries c.stands.ensures.ascending (ap (λ (b : Book). b.entries) c.clock.ensures.book)).0
+
+pub returns-then-has_want-clause-dropped : goal.returns-then-has_want-clause-dropped
+returns-then-has_want-clause-dropped c =
+    ap (λ (x : Changed). x.dropped) c.nothing.ensures ∙ sym (nothing_new c.args.self.now.entries c.clock.new.self.entries c.stands.ensures.ascending (ap (λ (b : Book). b.entries) c.clock.ensures.book)).1
