@@ -40,8 +40,10 @@ mod moments;
 mod numbered;
 mod place;
 mod result;
+mod sent;
 mod turns;
 mod valid;
+mod verdicts;
 
 pub use frame::{Frame, FrameCopy, Route};
 pub use place::Place;
