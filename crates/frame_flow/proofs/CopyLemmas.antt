@@ -1,10 +1,10 @@
 -- The copies that arrive at a port: whose they are, and on which flows they depend.
-use Rattle.std.proofs.Common.{◌≡◌, ◌≢◌, ℕ, zero, suc, ◌+◌, ◌-◌, ◌<◌, ◌≤◌, ◌⊎◌, inl, inr, Bool, true, false, cond, List, [], ◌∷◌, ◌++◌, length, get_or, take, map, Option, Some, None, refl, sym, ◌∙◌, ap, subst, arith, append-nil}
+use Rattle.std.proofs.Common.{◌≡◌, ℕ, ◌+◌, ◌<◌, inl, inr, Bool, true, false, List, [], ◌∷◌, ◌++◌, length, get_or, take, map, Option, Some, None, refl, sym, ◌∙◌, ap, subst, arith}
 use Rattle.std.specs.Prelude.{All, AllPairs, find, filter, filter_map, flat_map, nat_lt, ◌==◌, ◌&&◌}
-use Rattle.std.specs.List.{cons_option, AllWithin, HoldsAt}
+use Rattle.std.specs.List.{cons_option}
 use Rattle.std.specs.List.Sorted.{IsPermutation}
-use Rattle.std.proofs.lemmas.Bool.{cond_both, cond-true, cond-false, cases_Bool, cases_lt, cases_eq, eqb-true, eq-eqb, ne_eqb, ltb-true, and_parts, false≢true}
-use Rattle.std.proofs.lemmas.List.{get_or_default, take_more, map-append}
+use Rattle.std.proofs.lemmas.Bool.{cond_both, cond-true, cond-false, cases_Bool, eq-eqb, ne_eqb, ltb-true, and_parts}
+use Rattle.std.proofs.lemmas.List.{take_more, map-append}
 use Rattle.std.proofs.lemmas.List.Elements.{filter-append, filter_map-append, All-nil, All-cons, All-head, All-tail, All-append, All-filter, All-map, All-weaker, All-same}
 use Rattle.srp_base.specs.declared.numbers.EgressPort.{EgressPort}
 use Rattle.srp_base.specs.declared.bandwidth.Rate.{Rate}
@@ -18,7 +18,7 @@ use Rattle.frame_flow.specs.declared.result.PortFlow.{PortFlow}
 use Rattle.frame_flow.specs.declared.place.Place.{Place}
 use Rattle.frame_flow.specs.Moments.{bits_of_ticks, bit_from, moment_of}
 use Rattle.frame_flow.specs.Force.{is_port}
-use Rattle.frame_flow.specs.Copies.{Reached, sent_from, frame_of, reached_at, handed_on, handed_by, comes_over, flow_at, reached, ports_at, port_of, goes_by, copy_of, is_not_after, in_order, arriving}
+use Rattle.frame_flow.specs.Copies.{Reached, sent_from, frame_of, reached_at, handed_on, handed_by, comes_over, flow_at, reached, ports_at, goes_by, copy_of, in_order, arriving}
 use Rattle.frame_flow.specs.Flow.{Setting}
 use Rattle.frame_flow.specs.Given.{IsInOrder, IsSetting, IsFrame, IsRoute}
 use Rattle.frame_flow.proofs.NumberLemmas.{find-here}

@@ -1,4 +1,3 @@
-use Rattle.std.proofs.Common.{arith}
 use Rattle.frame_flow.proofs.ListFacts.{grown}
 use Rattle.frame_flow.proofs.CopyLemmas.{copies_more}
 use Rattle.frame_flow.proofs.asked.Asked.own_copies.Goals as goal
