@@ -34,7 +34,7 @@ impl Asked<'_> {
         let mut copies = Vec::new(alloc);
         self.own_copies(place, &mut copies)?;
         self.onward_copies(flows, place, &mut copies)?;
-        put_in_order(&mut copies);
+        put_in_order(&mut copies)?;
         Ok(copies)
     }
 
@@ -241,12 +241,14 @@ impl Asked<'_> {
     }
 }
 
-/// Puts copies in order of bit time, ties by number.
-fn put_in_order(copies: &mut Vec<FrameCopy>)
+/// Puts copies in order of bit time, ties by number. Those that come over one link mostly are in order, which
+/// the sort that keeps ties in place makes use of.
+fn put_in_order(copies: &mut Vec<FrameCopy>) -> Result<(), NoMemory>
     ensures same { IsPermutation copies.old.items copies.new.items }
-    ensures order { IsInOrder copies.new.items }
+    ensures order { OnOk result (IsInOrder copies.new.items) }
 {
-    copies.sort_unstable_by_key(|c| (c.bit, c.frame.number));
+    copies.sort_by_key(|c| (c.bit, c.frame.number))?;
+    Ok(())
 }
 
 /// The frame of a number. Frames that are numbered without a gap are found at once.
