@@ -1,11 +1,12 @@
 -- What the code keeps as it goes over a port's copies. No public contract names these words.
-use Rattle.std.specs.Prelude.{◌≡◌, ℕ, ◌-◌, ◌<◌, ◌≤◌, ◌==◌, nat_lt, List, length, map, filter, find, slice_get, slice_index_or, Option, None, if◌then◌else◌}
+use Rattle.std.specs.Prelude.{◌≡◌, ℕ, ◌+◌, ◌-◌, ◌<◌, ◌≤◌, ◌==◌, nat_lt, List, [], length, map, filter, find, slice_get, slice_index_or, Option, None, if◌then◌else◌}
 use Rattle.std.specs.Borrow.{Bor}
 use Rattle.std.specs.List.{AllWithin}
 use Rattle.srp_base.specs.declared.bandwidth.Rate.{Rate}
 use Rattle.srp_base.specs.declared.ports.PortChange.{PortChange}
 use Rattle.credit_shaper.specs.declared.port.Arrival.{Arrival}
 use Rattle.credit_shaper.specs.declared.port.Departure.{Departure}
+use Rattle.frame_flow.specs.declared.frame.Frame.{Frame}
 use Rattle.frame_flow.specs.declared.frame.FrameCopy.{FrameCopy}
 use Rattle.frame_flow.specs.declared.force.InForce.{InForce}
 use Rattle.frame_flow.specs.declared.result.Fate.{Fate}
@@ -15,6 +16,11 @@ use Rattle.frame_flow.specs.declared.verdicts.Verdict.TheVariants.{NotBooked, No
 use Rattle.frame_flow.specs.Moments.{tick_at}
 use Rattle.frame_flow.specs.Force.{has_vid}
 use Rattle.frame_flow.specs.Flow.{is_unbooked, may_send, force_on, arrival_of, sent_fate}
+
+-- the frames of each node of 0 to this number, in order
+pub record AreByNode (last : ℕ) (frames : List Frame) (lists : List (List Frame)) : Type 0 where
+  pub size : length lists ≡ last + 1
+  pub each : (x : ℕ) → x ≤ last → slice_index_or lists x [] ≡ filter (λ f. f.from.0 == x) frames
 
 -- of a port's changes just the first so many have come by a tick
 pub record HaveCome (changes : List (Bor PortChange)) (tick come : ℕ) : Type 0 where
