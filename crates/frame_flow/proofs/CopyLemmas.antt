@@ -1,12 +1,13 @@
 -- The copies that arrive at a port: whose they are, and on which flows they depend.
-use Rattle.std.proofs.Common.{◌≡◌, ◌≢◌, ℕ, zero, suc, ◌+◌, ◌-◌, ◌<◌, ◌≤◌, ◌⊎◌, inl, inr, Bool, true, false, cond, List, [], ◌∷◌, ◌++◌, length, get_or, take, map, Option, Some, None, refl, sym, ◌∙◌, ap, subst, arith, append-nil}
+use Rattle.std.proofs.Common.{◌≡◌, ℕ, ◌+◌, ◌<◌, set, replicate, append-nil, inl, inr, Bool, true, false, List, [], ◌∷◌, ◌++◌, length, get_or, take, Option, Some, None, refl, sym, ◌∙◌, ap, subst, arith}
 use Rattle.std.specs.Prelude.{All, AllPairs, find, filter, filter_map, flat_map, nat_lt, ◌==◌, ◌&&◌}
-use Rattle.std.specs.List.{cons_option, AllWithin, HoldsAt}
+use Rattle.std.specs.List.{cons_option}
 use Rattle.std.specs.List.Sorted.{IsPermutation}
-use Rattle.std.proofs.lemmas.Bool.{cond_both, cond-true, cond-false, cases_Bool, cases_lt, cases_eq, eqb-true, eq-eqb, ne_eqb, ltb-true, and_parts, false≢true}
-use Rattle.std.proofs.lemmas.List.{get_or_default, take_more, map-append}
+use Rattle.std.proofs.lemmas.Bool.{cond_both, cond-true, cond-false, cases_Bool, cases_eq, eq-eqb, ne_eqb, ltb-true, and_parts}
+use Rattle.std.proofs.lemmas.List.{get_or-replicate, length-replicate, length-set, get_or-set_same, get_or-set_other, take_more}
 use Rattle.std.proofs.lemmas.List.Elements.{filter-append, filter_map-append, All-nil, All-cons, All-head, All-tail, All-append, All-filter, All-map, All-weaker, All-same}
 use Rattle.srp_base.specs.declared.numbers.EgressPort.{EgressPort}
+use Rattle.tree_topology.specs.Topology.{HasPort}
 use Rattle.srp_base.specs.declared.bandwidth.Rate.{Rate}
 use Rattle.tree_topology.specs.declared.graph.Link.{Link}
 use Rattle.tree_topology.specs.Ports.{peer_of}
@@ -18,8 +19,9 @@ use Rattle.frame_flow.specs.declared.result.PortFlow.{PortFlow}
 use Rattle.frame_flow.specs.declared.place.Place.{Place}
 use Rattle.frame_flow.specs.Moments.{bits_of_ticks, bit_from, moment_of}
 use Rattle.frame_flow.specs.Force.{is_port}
-use Rattle.frame_flow.specs.Copies.{Reached, sent_from, frame_of, reached_at, handed_on, handed_by, comes_over, flow_at, reached, ports_at, port_of, goes_by, copy_of, is_not_after, in_order, arriving}
+use Rattle.frame_flow.specs.Copies.{Reached, sent_from, frame_of, reached_at, handed_on, handed_by, comes_over, flow_at, reached, ports_at, goes_by, copy_of, in_order, arriving}
 use Rattle.frame_flow.specs.Flow.{Setting}
+use Rattle.frame_flow.specs.Steps.{AreByNode}
 use Rattle.frame_flow.specs.Given.{IsInOrder, IsSetting, IsFrame, IsRoute}
 use Rattle.frame_flow.proofs.NumberLemmas.{find-here}
 use Rattle.frame_flow.proofs.OrderLemmas.{IsKnown, IsKnownCopy, All-in_order, order-in_order, sorted-is}
@@ -71,23 +73,6 @@ known-each frames up k d below =
     find-here (λ f. f.number == (get_or frames k d).number) frames k d below
     (λ j lt. ne_eqb (get_or frames j d).number (get_or frames k d).number (λ e. omega (arith, up j k d lt below, e)))
     (eq-eqb (get_or frames k d).number (get_or frames k d).number refl)
-
--- the frames of a station with one frame more
-pub sent_more : (frames : List Frame) (x i : ℕ) (d : Frame) → i < length frames
-    → sent_from (take (i + 1) frames) x ≡ sent_from (take i frames) x ++ sent_from (get_or frames i d ∷ []) x
-sent_more frames x i d below =
-    let test : Frame → Bool = λ f. f.from.0 == x in
-    let to : Frame → Reached = λ f. record { frame = f; moment = f.at.0 } in
-    ap (λ (t : List Frame). map to (filter test t)) (take_more frames i d below)
-    ∙ ap (λ (t : List Frame). map to t) (filter-append test (take i frames) (get_or frames i d ∷ []))
-    ∙ map-append to (filter test (take i frames)) (filter test (get_or frames i d ∷ []))
-
-pub copies_more : (links : List Link) (ticks : ℕ) (place : Place) (frames : List Frame) (x i : ℕ) (d : Frame) → i < length frames
-    → filter_map (copy_of links ticks place) (sent_from (take (i + 1) frames) x)
-    ≡ filter_map (copy_of links ticks place) (sent_from (take i frames) x) ++ filter_map (copy_of links ticks place) (sent_from (get_or frames i d ∷ []) x)
-copies_more links ticks place frames x i d below =
-    ap (λ (t : List Reached). filter_map (copy_of links ticks place) t) (sent_more frames x i d below)
-    ∙ filter_map-append (copy_of links ticks place) (sent_from (take i frames) x) (sent_from (get_or frames i d ∷ []) x)
 
 -- a frame that is found goes to a station of the tree
 pub known_route : (s : Setting) (number : ℕ) (f : Frame) → IsSetting s → frame_of s.frames number ≡ Some f → IsRoute s.tree f.route
@@ -224,3 +209,48 @@ arriving-is s given flows place first own all sorted none one two moved order =
     (All-reached (IsKnown s.frames) links s.frames flows place.at (known-each s.frames given.range.numbers))) in
     sorted-is s.frames all sorted (All-same K all (filter_map to (reached links s.frames flows place.at)) whole known) moved order
     ∙ ap (λ (t : List FrameCopy). in_order t) whole
+
+-- ---- the frames of each node
+
+pub none-by-node : (last : ℕ) (lists : List (List Frame)) → lists ≡ replicate (last + 1) [] → AreByNode last [] lists
+none-by-node last lists none = record {
+  size = ap length none ∙ length-replicate (last + 1) [];
+  each = λ x few. ap (λ (t : List (List Frame)). get_or t x []) none ∙ get_or-replicate (last + 1) x [] [] (omega (arith, few));
+}
+
+pub more-by-node : (last : ℕ) (frames : List Frame) (i : ℕ) (d : Frame) (lists after : List (List Frame)) → i < length frames
+    → after ≡ set lists (get_or frames i d).from.0 (get_or lists (get_or frames i d).from.0 [] ++ get_or frames i d ∷ [])
+    → AreByNode last (take i frames) lists → AreByNode last (take (i + 1) frames) after
+more-by-node last frames i d lists after below made by =
+    let f = get_or frames i d in
+    let k = f.from.0 in
+    let more = get_or lists k [] ++ f ∷ [] in
+    record {
+      size = ap length made ∙ length-set lists k more ∙ by.size;
+      each = λ x few.
+          let p : Frame → Bool = λ g. g.from.0 == x in
+          let rest = filter p (take i frames) in
+          ap (λ (t : List (List Frame)). get_or t x []) made
+          ∙ elim (cases_eq k x) [
+            | inl same ↦ (
+                let there : get_or (set lists k more) k [] ≡ more = get_or-set_same lists k more [] (omega (arith, same, few, by.size)) in
+                subst (λ (n : ℕ). get_or (set lists k more) n [] ≡ get_or lists n [] ++ f ∷ []) same there
+                ∙ ap (λ (t : List Frame). t ++ f ∷ []) (by.each x few)
+                ∙ ap (λ (t : List Frame). rest ++ t) (sym (cond-true (p f) (f ∷ []) [] (eq-eqb k x same))))
+            | inr ne ↦ get_or-set_other lists k x more [] (λ e. ne (sym e)) ∙ by.each x few
+                ∙ sym (append-nil rest) ∙ ap (λ (t : List Frame). rest ++ t) (sym (cond-false (p f) (f ∷ []) [] (ne_eqb k x ne)))
+          ]
+          ∙ sym (filter-append p (take i frames) (f ∷ [])) ∙ ap (λ (t : List Frame). filter p t) (sym (take_more frames i d below));
+    }
+
+-- those of a node, as they are kept
+pub own-are : (s : Setting) (lists : List (List Frame)) (p : EgressPort) (own : List Frame) → AreByNode (length s.tree.kinds) s.frames lists
+    → HasPort s.tree p → own ≡ get_or lists p.node.0 [] → own ≡ filter (λ f. f.from.0 == p.node.0) s.frames
+own-are s lists p own by port is = is ∙ by.each p.node.0 port.0.1
+
+pub own-routes : (s : Setting) (p : EgressPort) (own : List Frame) → IsSetting s → own ≡ filter (λ f. f.from.0 == p.node.0) s.frames
+    → All (λ f. IsRoute s.tree f.route) own
+own-routes s p own given is =
+    let P : Frame → Type 0 = λ f. IsRoute s.tree f.route in
+    All-same P own (filter (λ f. f.from.0 == p.node.0) s.frames) is
+    (All-filter (λ f. f.from.0 == p.node.0) P s.frames (All-weaker (IsFrame s.tree s.ticks) P (λ f h. h.route) s.frames given.range.frames))

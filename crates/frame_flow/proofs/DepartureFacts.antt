@@ -1,8 +1,8 @@
 -- A copy departs from a port once where that is its fate, and else never.
-use Rattle.std.proofs.Common.{◌≡◌, ◌≢◌, ℕ, zero, suc, ◌+◌, ◌<◌, ◌≤◌, ◌⊎◌, inl, inr, Bool, true, false, cond, List, [], ◌∷◌, ◌++◌, length, get_or, map, Option, Some, None, refl, sym, ◌∙◌, ap, subst, arith}
+use Rattle.std.proofs.Common.{◌≡◌, ◌≢◌, ℕ, inl, inr, Bool, true, false, List, [], ◌∷◌, get_or, Some, None, refl, sym, ◌∙◌, ap, subst, arith}
 use Rattle.std.specs.Prelude.{All, AllPairs, filter, find, ◌==◌}
-use Rattle.std.proofs.lemmas.Bool.{cond_both, cond-true, cond-false, cases_Bool, cases_eq, eqb-true, eq-eqb, ne_eqb, false≢true}
-use Rattle.std.proofs.lemmas.List.Elements.{All-nil, All-cons, All-head, All-tail, All-weaker, All-filter, All-map, filter_passes}
+use Rattle.std.proofs.lemmas.Bool.{cond-true, cond-false, cases_Bool, eqb-true, eq-eqb, ne_eqb, false≢true}
+use Rattle.std.proofs.lemmas.List.Elements.{All-nil, All-cons, All-head, All-tail, All-weaker, All-filter}
 use Rattle.std.proofs.lemmas.List.Kept.{AllPairs-cons, AllPairs-filter}
 use Rattle.credit_shaper.specs.declared.shaper.Traffic.{Traffic}
 use Rattle.credit_shaper.specs.declared.shaper.Traffic.TheVariants.{A, B, Other}
@@ -10,14 +10,7 @@ use Rattle.credit_shaper.specs.declared.port.Arrival.{Arrival}
 use Rattle.credit_shaper.specs.declared.port.Departure.{Departure}
 use Rattle.credit_shaper.specs.Credit.{traffic_number}
 use Rattle.credit_shaper.specs.Port.{is_of}
-use Rattle.credit_shaper.specs.Departures.{departs_as, IsDepartureOf, DepartInOrder}
-use Rattle.srp_base.specs.declared.bandwidth.Rate.{Rate}
-use Rattle.srp_base.specs.declared.ports.PortChange.{PortChange}
-use Rattle.frame_flow.specs.declared.frame.FrameCopy.{FrameCopy}
-use Rattle.frame_flow.specs.declared.result.Fate.{Fate}
-use Rattle.frame_flow.specs.declared.result.Fate.TheVariants.{Unbooked, NoVlan}
-use Rattle.frame_flow.specs.Force.{has_vid}
-use Rattle.frame_flow.specs.Flow.{is_unbooked, sent_fate, force_on, fate_of, fates_of}
+use Rattle.credit_shaper.specs.Departures.{departs_as, DepartInOrder}
 use Rattle.frame_flow.proofs.OrderLemmas.{pairs-head, pairs-tail, pairs-none}
 use Rattle.frame_flow.proofs.NumberLemmas.{find-here}
 
@@ -189,15 +182,3 @@ found-only n (x ∷ xs) d apart e =
       | inr nay ↦ cond-false (of_number n x) (x ∷ filter (of_number n) xs) (filter (of_number n) xs) nay
           ∙ found-only n xs d (pairs-tail DifferDepartures x xs apart) (sym (cond-false (of_number n x) (Some x) (find (of_number n) xs) nay) ∙ e)
     ]
-
--- ---- fates by departures in another order
-
--- the fates are the same where the same departure is found of each number
-pub fates-found : (rate : Rate) (changes : List PortChange) (ys xs : List Departure) (copies : List FrameCopy)
-    → ((q : ℕ) → find (λ d. d.frame == q) ys ≡ find (λ d. d.frame == q) xs) → fates_of rate changes ys copies ≡ fates_of rate changes xs copies
-fates-found rate changes ys xs [] same = refl
-fates-found rate changes ys xs (c ∷ cs) same =
-    let force = force_on rate changes c in
-    let by : Option Departure → Fate = λ o. cond (is_unbooked c.frame.route force) Unbooked (cond (has_vid c.frame.vid force) (sent_fate o) NoVlan) in
-    ap (λ (o : Option Departure). (c.frame.number, by o) ∷ fates_of rate changes ys cs) (same c.frame.number)
-    ∙ ap (λ (t : List (ℕ × Fate)). (c.frame.number, fate_of force xs c) ∷ t) (fates-found rate changes ys xs cs same)

@@ -1,15 +1,17 @@
 -- The slopes that a port's shaper is given are those in force.
-use Rattle.std.proofs.Common.{◌≡◌, ◌≢◌, ℕ, zero, suc, ◌+◌, ◌-◌, ◌*◌, ◌/◌, ◌<◌, ◌≤◌, ◌⊎◌, inl, inr, Bool, true, false, cond, List, [], ◌∷◌, length, get_or, map, Option, Some, None, refl, sym, ◌∙◌, ap, subst, arith}
+use Rattle.std.proofs.Common.{◌≡◌, ℕ, zero, suc, ◌+◌, ◌<◌, ◌≤◌, inl, inr, true, false, List, [], ◌∷◌, length, get_or, map, Option, Some, None, refl, sym, ◌∙◌, ap, subst, arith}
 use Rattle.std.specs.Prelude.{All, AllPairs, nat_lt, nat_le, ◌==◌, ◌&&◌, not}
 use Rattle.std.specs.List.{AllWithin}
-use Rattle.std.proofs.lemmas.Bool.{cond-true, cond-false, cases_Bool, cases_lt, eqb-true, ltb-true, leb-true, leb-false, le-leb, lt-leb, lt-ltb, le-ltb, and_left, and_parts, and_from, and_cases, not_from_false, false≢true, not_from_true}
+use Rattle.std.specs.List.Sorted.{IsNonDecreasingBy}
+use Rattle.std.proofs.lemmas.List.{get_or_default}
+use Rattle.std.proofs.lemmas.Bool.{cond-true, cond-false, cases_Bool, cases_lt, eqb-true, le-leb, lt-leb, lt-ltb, le-ltb, and_left, and_parts, and_from, not_from_false, false≢true}
 use Rattle.std.proofs.lemmas.List.Elements.{All-cons, All-head, All-tail, All-weaker}
 use Rattle.srp_base.specs.declared.bandwidth.Rate.{Rate}
 use Rattle.srp_base.specs.declared.bandwidth.Rate.TheVariants.{M100, G1, G10}
 use Rattle.srp_base.specs.declared.ports.PortChange.{PortChange}
 use Rattle.credit_shaper.specs.declared.port.SlopeChange.{SlopeChange}
 use Rattle.credit_shaper.specs.Port.{last_change, no_slopes}
-use Rattle.frame_flow.specs.Moments.{tick_bits_of, bits_of_ticks, tick_at}
+use Rattle.frame_flow.specs.Moments.{bits_of_ticks, tick_at}
 use Rattle.frame_flow.specs.Force.{in_force, last_upto, does_change, slopes_of_change, first_slopes, later_slopes, slopes_over}
 use Rattle.frame_flow.specs.Laws.{HasSlopes}
 use Rattle.frame_flow.proofs.OrderLemmas.{pairs-head, pairs-tail}
@@ -21,10 +23,17 @@ begun M100 c t h = omega (arith, h)
 begun G1 c t h = omega (arith, h)
 begun G10 c t h = omega (arith, h)
 
-not-begun : (rate : Rate) (c t : ℕ) → t < bits_of_ticks rate c → tick_at rate t < c
+pub not-begun : (rate : Rate) (c t : ℕ) → t < bits_of_ticks rate c → tick_at rate t < c
 not-begun M100 c t h = omega (arith, h)
 not-begun G1 c t h = omega (arith, h)
 not-begun G10 c t h = omega (arith, h)
+
+-- before a change's first bit time neither it nor a later one has come
+pub none-begun : {X : Type 0} (tick : X → ℕ) (rate : Rate) (xs : List X) (at t few : ℕ) (d : X) → IsNonDecreasingBy tick xs
+    → few ≤ tick (get_or xs at d) → at < length xs → t < bits_of_ticks rate few → AllWithin (λ x. tick_at rate t < tick x) xs at (length xs)
+none-begun tick rate xs at t few d up le below early k e from lt =
+    let same : tick (get_or xs at d) ≡ tick (get_or xs at e) = ap tick (get_or_default xs at d e below) in
+    omega (arith, not-begun rate few t early, le, same, up at k e from lt)
 
 -- none of some changes has come
 last-later : (t : ℕ) (last : SlopeChange) (es : List SlopeChange) → All (λ e. t < e.bit) es → last_change t last es ≡ last

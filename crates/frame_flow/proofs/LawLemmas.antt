@@ -1,6 +1,6 @@
 -- What is true of every flow.
-use Rattle.std.proofs.Common.{◌≡◌, ◌≢◌, ℕ, zero, suc, ◌+◌, ◌<◌, ◌≤◌, Bool, true, false, cond, Option, Some, None, List, [], ◌∷◌, length, get_or, map, refl, sym, ◌∙◌, ap, subst, arith}
-use Rattle.std.specs.Prelude.{All, AllPairs, Contains, filter, find, ◌==◌, ◌&&◌, not}
+use Rattle.std.proofs.Common.{◌≡◌, ◌≢◌, ℕ, zero, suc, ◌<◌, Bool, false, cond, Option, Some, None, List, [], ◌∷◌, length, get_or, map, refl, sym, ◌∙◌, ap, subst, arith}
+use Rattle.std.specs.Prelude.{All, AllPairs, Contains, filter, find, ◌==◌, not}
 use Rattle.std.proofs.lemmas.Bool.{cond_both, cond-false, eqb-true, ne_eqb, and_left, and_right, not_from_true}
 use Rattle.std.proofs.lemmas.List.Kept.{AllPairs-filter}
 use Rattle.credit_shaper.specs.declared.shaper.Traffic.{Traffic}
@@ -8,14 +8,13 @@ use Rattle.credit_shaper.specs.declared.port.Arrival.{Arrival}
 use Rattle.credit_shaper.specs.declared.port.Departure.{Departure}
 use Rattle.credit_shaper.specs.declared.port.PortInput.{PortInput}
 use Rattle.srp_base.specs.declared.ports.PortChange.{PortChange}
-use Rattle.std.proofs.lemmas.List.{get_or-map}
 use Rattle.std.proofs.lemmas.List.Elements.{All-map, All-cons, All-filter, All-weaker, All-contains, Contains-get_or}
 use Rattle.tree_topology.specs.PortLaws.{HasPortLaws}
 use Rattle.credit_shaper.specs.Port.{IsPortInput, is_of}
 use Rattle.credit_shaper.specs.Departures.{sent_of, left_of, departs_as, DepartInOrder}
 use Rattle.tree_topology.specs.Topology.{HasPort}
 use Rattle.frame_flow.specs.declared.result.Fate.{Fate}
-use Rattle.frame_flow.specs.declared.result.Fate.TheVariants.{Unbooked, NoVlan, Departed, Left}
+use Rattle.frame_flow.specs.declared.result.Fate.TheVariants.{Unbooked, NoVlan}
 use Rattle.frame_flow.specs.declared.frame.FrameCopy.{FrameCopy}
 use Rattle.frame_flow.specs.declared.result.PortFlow.{PortFlow}
 use Rattle.frame_flow.specs.declared.place.Place.{Place}
@@ -26,7 +25,7 @@ use Rattle.frame_flow.specs.Given.{IsSetting}
 use Rattle.frame_flow.specs.Laws.{arriving_numbers, fate_numbers, AreDifferent, departures_numbered, IsOutcome, HasOutcomes}
 use Rattle.frame_flow.proofs.SlopeLemmas.{AllPairs-map, port-input}
 use Rattle.frame_flow.proofs.TurnLemmas.{places-are}
-use Rattle.frame_flow.proofs.OnceLemmas.{DifferFates, DifferCopies, IsOnce, once-each, once-copies}
+use Rattle.frame_flow.proofs.OnceLemmas.{DifferFates, DifferCopies, once-each, once-copies}
 use Rattle.frame_flow.proofs.OrderLemmas.{pairs-head, pairs-tail}
 use Rattle.frame_flow.proofs.CopyLemmas.{All-find}
 use Rattle.frame_flow.proofs.DepartureFacts.{HasTraffic, DifferDepartures, sent-known, sent-apart, none-of, unfound, found-only}

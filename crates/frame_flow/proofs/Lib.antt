@@ -6,5 +6,6 @@ pub mod SlopeLemmas
 pub mod TurnLemmas
 pub mod OnceLemmas
 pub mod DepartureFacts
+pub mod FateLemmas
 pub mod ForceLemmas
 pub mod LawLemmas

@@ -1,6 +1,6 @@
 -- Lists that grow at their end.
-use Rattle.std.proofs.Common.{◌≡◌, ℕ, zero, suc, ◌+◌, ◌<◌, ◌≤◌, Bool, true, false, cond, List, [], ◌∷◌, ◌++◌, length, get_or, take, drop, ◌-◌, map, Option, Some, None, refl, sym, ◌∙◌, ap, subst, arith, append-nil, append_assoc}
-use Rattle.std.specs.Prelude.{find, filter, filter_map, flat_map, count_by, ◌==◌}
+use Rattle.std.proofs.Common.{◌≡◌, ℕ, ◌+◌, ◌<◌, Bool, cond, List, [], ◌∷◌, ◌++◌, length, get_or, take, drop, ◌-◌, map, Option, Some, refl, sym, ◌∙◌, ap, arith, append-nil, append_assoc}
+use Rattle.std.specs.Prelude.{find, filter_map, flat_map, count_by}
 use Rattle.std.specs.List.{range_with_len}
 use Rattle.std.proofs.lemmas.List.{map-id, map_more, take_more, at_drop_more}
 use Rattle.std.proofs.lemmas.List.Sums.{sum_by_push}
@@ -60,3 +60,9 @@ pub pushed-map : {X Y : Type 0} (f : X → Y) (xs : List X) (i : ℕ) (d : X) (b
     → after ≡ before ++ y ∷ [] → y ≡ f (get_or xs i d) → after ≡ map f (take (i + 1) xs)
 pushed-map {X} {Y} f xs i d before after y below one two is =
     two ∙ ap (λ (t : List Y). t ++ y ∷ []) one ∙ ap (λ (t : Y). map f (take i xs) ++ t ∷ []) is ∙ sym (map_more f xs i d below)
+
+-- what a map gives with one element more, through another function
+pub mapped-more : {X Y Z : Type 0} (g : Y → Option Z) (h : X → Y) (xs : List X) (i : ℕ) (d : X) → i < length xs
+    → filter_map g (map h (take (i + 1) xs)) ≡ filter_map g (map h (take i xs)) ++ filter_map g (h (get_or xs i d) ∷ [])
+mapped-more {X} {Y} {Z} g h xs i d below =
+    ap (λ (t : List Y). filter_map g t) (map_more h xs i d below) ∙ filter_map-append g (map h (take i xs)) (h (get_or xs i d) ∷ [])

@@ -1,9 +1,9 @@
 -- Why a frame reaches a port at most once: its station lies behind one port of each other node.
-use Rattle.std.proofs.Common.{◌≡◌, ◌≢◌, ℕ, zero, suc, ◌+◌, ◌-◌, ◌<◌, ◌≤◌, ◌⊎◌, inl, inr, Bool, true, false, not, cond, List, [], ◌∷◌, ◌++◌, length, get_or, map, Option, Some, None, refl, sym, ◌∙◌, ap, subst, arith}
+use Rattle.std.proofs.Common.{◌≡◌, ◌≢◌, ℕ, zero, suc, ◌+◌, ◌<◌, inl, inr, Bool, true, false, not, List, [], ◌∷◌, ◌++◌, length, get_or, map, Option, Some, None, refl, sym, ◌∙◌, ap, subst, arith}
 use Rattle.std.specs.Prelude.{All, AllPairs, filter, filter_map, flat_map, ◌==◌}
-use Rattle.std.specs.List.{range_with_len, cons_option}
-use Rattle.std.proofs.lemmas.Bool.{cond_both, cond-true, cond-false, cases_Bool, eqb-true, false≢true}
-use Rattle.std.proofs.lemmas.List.Elements.{All-nil, All-cons, All-head, All-tail, All-append, All-map, All-filter, All-weaker, filter_passes}
+use Rattle.std.specs.List.{cons_option}
+use Rattle.std.proofs.lemmas.Bool.{cond_both, cases_Bool, eqb-true, false≢true}
+use Rattle.std.proofs.lemmas.List.Elements.{All-nil, All-cons, All-head, All-tail, All-append, All-map, All-weaker, filter_passes}
 use Rattle.std.proofs.lemmas.List.Kept.{AllPairs-cons, AllPairs-filter}
 use Rattle.std.proofs.lemmas.List.FromFn.{get_or-map-range_with_len, length-map-range_with_len}
 use Rattle.srp_base.specs.declared.numbers.EgressPort.{EgressPort}
@@ -24,11 +24,11 @@ use Rattle.frame_flow.specs.Force.{is_port, changes_at}
 use Rattle.frame_flow.specs.Copies.{Reached, all_places, sent_from, frame_of, reached_at, handed_on, handed_by, comes_over, flow_at, reached, ports_at, port_of, copy_of, is_not_after, with_copy, in_order, arriving}
 use Rattle.frame_flow.specs.Flow.{Setting, IsFlow, port_flow, force_on, fate_of, input_of}
 use Rattle.credit_shaper.specs.Departures.{sent_of}
-use Rattle.frame_flow.specs.Turns.{level_at, level_of}
+use Rattle.frame_flow.specs.Turns.{level_at}
 use Rattle.frame_flow.specs.Given.{IsSetting, IsFrame}
-use Rattle.frame_flow.proofs.OrderLemmas.{IsKnown, IsKnownCopy, All-with_copy, All-in_order, pairs-head, pairs-tail, pairs-none}
-use Rattle.frame_flow.proofs.CopyLemmas.{All-find, All-flat_map, All-filter_map, All-any, All-reached, All-sent_from, All-handed_by, All-arriving, IsArrived, known-each, copy-is}
-use Rattle.frame_flow.proofs.SlopeLemmas.{AllPairs-map, AllPairs-weaker}
+use Rattle.frame_flow.proofs.OrderLemmas.{IsKnown, All-with_copy, All-in_order, pairs-head, pairs-tail, pairs-none}
+use Rattle.frame_flow.proofs.CopyLemmas.{All-find, All-flat_map, All-filter_map, All-any, All-sent_from, All-handed_by, All-arriving, known-each, copy-is}
+use Rattle.frame_flow.proofs.SlopeLemmas.{AllPairs-map}
 use Rattle.frame_flow.proofs.TurnLemmas.{same-port, port-itself, IsPortOf, source-below, ports-are, places-are}
 
 -- ---- pairs of a list's elements

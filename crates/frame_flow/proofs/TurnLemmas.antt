@@ -1,10 +1,10 @@
 -- Why one order over the ports serves: what comes in over a port's own link never leaves by it, so the
 -- flow at a port depends on those of lower levels alone.
-use Rattle.std.proofs.Common.{◌≡◌, ◌≢◌, ℕ, zero, suc, ◌+◌, ◌-◌, ◌<◌, ◌≤◌, ◌⊎◌, inl, inr, Bool, true, false, cond, List, [], ◌∷◌, length, get_or, set, map, Option, Some, None, refl, sym, ◌∙◌, ap, subst, arith}
-use Rattle.std.specs.Prelude.{All, find, ◌==◌}
+use Rattle.std.proofs.Common.{◌≡◌, ◌≢◌, ℕ, zero, suc, ◌+◌, ◌-◌, ◌<◌, ◌≤◌, ◌⊎◌, inl, inr, true, false, List, [], ◌∷◌, length, get_or, set, map, Some, refl, sym, ◌∙◌, ap, subst, arith}
+use Rattle.std.specs.Prelude.{All, ◌==◌}
 use Rattle.std.specs.List.{range_with_len}
 use Rattle.std.proofs.lemmas.Bool.{cond-true, cond-false, cases_Bool, cases_lt, cases_eq, eq-eqb, eqb-true, and_from, and_parts, false≢true}
-use Rattle.std.proofs.lemmas.List.{get_or-map, get_or-set_same, get_or-set_other, get_or_default, length-map, length-set, map-set, set-get_or, same_lists, set_past}
+use Rattle.std.proofs.lemmas.List.{get_or-map, get_or-set_same, get_or-set_other, get_or_default, length-map, map-set, set-get_or, same_lists, set_past}
 use Rattle.std.proofs.lemmas.List.Elements.{All-nil, All-cons, All-head, All-tail, All-map, All-weaker}
 use Rattle.std.proofs.lemmas.List.Folds.{find_past}
 use Rattle.std.proofs.lemmas.List.FromFn.{get_or-range_with_len, length-range_with_len}
@@ -12,18 +12,17 @@ use Rattle.std.proofs.lemmas.List.Sums.{count_by-le-length}
 use Rattle.srp_base.specs.declared.numbers.EgressPort.{EgressPort}
 use Rattle.srp_base.specs.declared.bandwidth.Rate.{Rate}
 use Rattle.srp_base.specs.declared.bandwidth.Rate.TheVariants.{M100}
-use Rattle.tree_topology.specs.declared.graph.Link.{Link}
 use Rattle.tree_topology.specs.Topology.{Topology, HasNode, HasLink, HasPort}
 use Rattle.tree_topology.specs.Ports.{neighbours, far_node, peer_of, ends_of}
-use Rattle.tree_topology.specs.Walk.{is_behind, count_behind}
+use Rattle.tree_topology.specs.Walk.{is_behind}
 use Rattle.tree_topology.specs.PortLaws.{HasPortLaws}
 use Rattle.frame_flow.specs.declared.result.PortFlow.{PortFlow}
 use Rattle.frame_flow.specs.declared.place.Place.{Place}
 use Rattle.frame_flow.specs.declared.frame.FrameCopy.{FrameCopy}
 use Rattle.frame_flow.specs.Force.{is_port, changes_at}
-use Rattle.frame_flow.specs.Copies.{all_places, places_of_link, ports_at, port_of, flow_at, arriving}
+use Rattle.frame_flow.specs.Copies.{all_places, places_of_link, ports_at, port_of, flow_at}
 use Rattle.frame_flow.specs.Flow.{Setting, IsFlow, port_flow, flow_of_copies}
-use Rattle.frame_flow.specs.Turns.{level_at, level_of, ArePorts, AreAt, IsDone, AreDoneBelow}
+use Rattle.frame_flow.specs.Turns.{level_at, level_of, ArePorts, AreAt, AreDoneBelow}
 use Rattle.frame_flow.proofs.CopyLemmas.{All-flat_map, arriving-same}
 
 -- ---- ports

@@ -15,7 +15,7 @@ use Rattle.frame_flow.specs.declared.frame.Route.{Route}
 use Rattle.frame_flow.specs.declared.frame.Route.TheVariants.{Stream, To}
 use Rattle.frame_flow.specs.declared.frame.FrameCopy.{FrameCopy}
 use Rattle.frame_flow.specs.declared.result.Fate.{Fate}
-use Rattle.frame_flow.specs.declared.result.Fate.TheVariants.{Unbooked, NoVlan, Departed, Left}
+use Rattle.frame_flow.specs.declared.result.Fate.TheVariants.{Departed}
 use Rattle.frame_flow.specs.declared.result.PortFlow.{PortFlow}
 use Rattle.frame_flow.specs.declared.place.Place.{Place}
 use Rattle.frame_flow.specs.Moments.{bits_of_ticks, bit_from, moment_of}

@@ -1,7 +1,7 @@
 -- The flow of frames over a tree: one condition on all ports at once. Each port's copies are those that
 -- the frames and the other ports' departures give it; its shaper is given those that it may send, and
 -- their fates are what the shaper makes of them.
-use Rattle.std.specs.Prelude.{◌≡◌, ℕ, Bool, true, false, not, ◌==◌, ◌&&◌, List, map, filter, find, Option, Some, None, if◌then◌else◌}
+use Rattle.std.specs.Prelude.{◌≡◌, ℕ, Bool, false, not, ◌==◌, ◌&&◌, List, map, filter, find, Option, Some, None, if◌then◌else◌}
 use Rattle.srp_base.specs.declared.bandwidth.Rate.{Rate}
 use Rattle.srp_base.specs.declared.ports.PortChange.{PortChange}
 use Rattle.credit_shaper.specs.declared.shaper.Traffic.{Traffic}

@@ -2,7 +2,6 @@
 use Rattle.std.specs.Prelude.{◌≡◌, ℕ, ◌+◌, ◌*◌, ◌<◌, ◌≤◌, ◌⊎◌, true, List, length, All, AllPairs}
 use Rattle.srp_base.specs.Bandwidth.{bits_of}
 use Rattle.srp_base.specs.declared.ports.PortChange.{PortChange}
-use Rattle.srp_base.specs.declared.bandwidth.Rate.{Rate}
 use Rattle.credit_shaper.specs.Port.{IsFrameSize}
 use Rattle.tree_topology.specs.Topology.{Topology, HasNode}
 use Rattle.frame_flow.specs.declared.frame.Frame.{Frame}

@@ -6,14 +6,14 @@ use Rattle.credit_shaper.specs.declared.port.PortInput.{PortInput}
 use Rattle.credit_shaper.specs.Port.{IsNotAfter, is_of}
 use Rattle.credit_shaper.specs.Departures.{sent_of, left_of, departs_as, DepartInOrder}
 use Rattle.frame_flow.specs.declared.result.Fate.{Fate}
-use Rattle.frame_flow.specs.declared.result.Fate.TheVariants.{Unbooked, NoVlan, Departed, Left}
+use Rattle.frame_flow.specs.declared.result.Fate.TheVariants.{Departed}
 use Rattle.frame_flow.specs.declared.result.PortFlow.{PortFlow}
 use Rattle.frame_flow.specs.declared.place.Place.{Place}
 use Rattle.std.specs.Prelude.{Option}
 use Rattle.srp_base.specs.declared.ports.PortChange.{PortChange}
 use Rattle.credit_shaper.specs.declared.port.SlopeChange.{SlopeChange}
 use Rattle.frame_flow.specs.Force.{first_slopes}
-use Rattle.frame_flow.specs.Copies.{all_places, arriving}
+use Rattle.frame_flow.specs.Copies.{arriving}
 use Rattle.frame_flow.specs.Flow.{Setting}
 
 -- the numbers of the copies that arrive at a port, in order

@@ -4,4 +4,5 @@ pub mod Copies
 pub mod Flow
 pub mod Given
 pub mod Turns
+pub mod Steps
 pub mod Laws

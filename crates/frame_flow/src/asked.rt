@@ -1,12 +1,13 @@
 //! What a flow is asked of.
 
+use crate::by_node::FramesByNode;
 use crate::frame::Frame;
 use srp_base::{PortChange, Rate};
 use std::marker::Model;
 use tree_topology::Tree;
 
 /// A tree, the rate of each of its links, what was in force at its ports, the frames, and the number of
-/// ticks. Contracts see a `Setting`.
+/// ticks, with the frames by node. Contracts see a `Setting`.
 #[derive(Drop)]
 pub(crate) struct Asked<'a> {
     pub(crate) tree: &'a Tree,
@@ -14,11 +15,14 @@ pub(crate) struct Asked<'a> {
     pub(crate) changes: &'a [PortChange],
     pub(crate) frames: &'a [Frame],
     pub(crate) ticks: u64,
+    pub(crate) own: &'a FramesByNode,
 }
 
 impl<'a> Model for Asked<'a> {
     ghost use Rattle.frame_flow.specs.Flow.{Setting};
+    ghost use Rattle.std.specs.Prelude.{length};
     ghost use Rattle.frame_flow.specs.Given.{IsSetting};
+    ghost use Rattle.frame_flow.specs.Steps.{AreByNode};
 
     ghost Value = { Setting };
 
@@ -36,7 +40,7 @@ impl<'a> Model for Asked<'a> {
       changes = a.changes.now;
       frames = a.frames.now;
       ticks = a.ticks;
-    }) };
+    }) × AreByNode (length a.tree.now.kinds) a.frames.now a.own.now };
 }
 
 impl Asked<'_> {

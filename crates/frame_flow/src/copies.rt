@@ -34,7 +34,7 @@ impl Asked<'_> {
         let mut copies = Vec::new(alloc);
         self.own_copies(place, &mut copies)?;
         self.onward_copies(flows, place, &mut copies)?;
-        put_in_order(&mut copies);
+        put_in_order(&mut copies)?;
         Ok(copies)
     }
 
@@ -45,13 +45,14 @@ impl Asked<'_> {
             ++ filter_map (copy_of self.now.tree.links self.now.ticks place)
             (sent_from self.now.frames place.at.node.0)) }
     {
-        for f in self.frames {
+        let own = self.own;
+        for f in own.at(place.at.node) {
             self.add_own(place, f, copies)?;
         }
         Ok(())
     }
 
-    /// Adds the copy of a frame at its own station's port.
+    /// Adds the copy that a frame of a port's station gives at the port.
     fn add_own(
         &self,
         place: Place,
@@ -62,13 +63,9 @@ impl Asked<'_> {
         requires route { IsRoute self.now.tree frame.now.route }
         ensures { OnOk result (copies.new.items ≡ copies.old.items
             ++ filter_map (copy_of self.now.tree.links self.now.ticks place)
-            (sent_from (frame.now ∷ []) place.at.node.0)) }
+            (record { frame = frame.now; moment = frame.now.at.0 } ∷ [])) }
     {
-        if frame.from.0 == place.at.node.0 {
-            self.add_copy(place, frame, u128::from(frame.at.0), copies)
-        } else {
-            Ok(())
-        }
+        self.add_copy(place, frame, u128::from(frame.at.0), copies)
     }
 
     /// Adds the copies of what comes to a port's node over its other links.
@@ -241,12 +238,14 @@ impl Asked<'_> {
     }
 }
 
-/// Puts copies in order of bit time, ties by number.
-fn put_in_order(copies: &mut Vec<FrameCopy>)
+/// Puts copies in order of bit time, ties by number. Those that come over one link mostly are in order, which
+/// the sort that keeps ties in place makes use of.
+fn put_in_order(copies: &mut Vec<FrameCopy>) -> Result<(), NoMemory>
     ensures same { IsPermutation copies.old.items copies.new.items }
-    ensures order { IsInOrder copies.new.items }
+    ensures order { OnOk result (IsInOrder copies.new.items) }
 {
-    copies.sort_unstable_by_key(|c| (c.bit, c.frame.number));
+    copies.sort_by_key(|c| (c.bit, c.frame.number))?;
+    Ok(())
 }
 
 /// The frame of a number. Frames that are numbered without a gap are found at once.

@@ -1,15 +1,101 @@
 //! What is in force at a port in a tick.
 
-ghost use Rattle.std.specs.Prelude.{◌≡◌, ◌^◌, ◌<◌, ◌≤◌, ◌==◌, map, option_map, IfOk};
-ghost use Rattle.std.specs.List.{list_any};
+ghost use Rattle.std.specs.Prelude.{◌≡◌, ◌^◌, ◌<◌, ◌≤◌, ◌==◌, ℕ, length, map, option_map, IfOk};
+ghost use Rattle.std.specs.List.{AllWithin, list_any};
 ghost use Rattle.std.specs.List.Sorted.{IsNonDecreasingBy};
+ghost use Rattle.frame_flow.specs.Moments.{tick_at};
+ghost use Rattle.frame_flow.specs.Steps.{HaveCome};
 ghost use Rattle.frame_flow.specs.Force.{changes_at, in_force, has_booked, has_vid, first_slopes, does_change, slopes_of_change, slopes_over};
 
-use crate::moments::bits_of_ticks;
+use crate::moments::{bits_of_ticks, tick_at};
 use crate::numbered::count_below;
 use credit_shaper::SlopeChange;
 use srp_base::{EgressPort, NoMemory, PortChange, Rate, Seq, StreamId};
 use std::alloc::Global;
+
+/// How many of a port's changes have come over a stretch of bit times, so that it needn't be counted again
+/// for each copy.
+#[derive(Clone, Copy)]
+pub(crate) struct InForce {
+    /// How many have come.
+    pub(crate) come: usize,
+    /// The stretch's first bit time.
+    from: u64,
+    /// The bit time after its last.
+    until: u64,
+}
+
+impl InForce {
+    ghost use Rattle.std.specs.Prelude.{List};
+    ghost use Rattle.std.specs.Borrow.{Bor};
+    ghost use Rattle.srp_base.specs.declared.bandwidth.Rate.{Rate};
+    ghost use Rattle.srp_base.specs.declared.ports.PortChange.{PortChange};
+    ghost use Rattle.frame_flow.specs.Steps.{HaveCome, IsInForce};
+
+    /// None has come over no bit time.
+    pub(crate) fn nowhere() -> InForce
+        ensures { (rate : Rate) (changes : List (Bor PortChange)) → IsInForce rate changes result }
+    {
+        InForce {
+            come: 0,
+            from: 0,
+            until: 0,
+        }
+    }
+
+    /// What has come by a bit time of a port's changes, which ascend: what has come so far, or what comes now.
+    pub(crate) fn moved(self, rate: Rate, changes: &[&PortChange], bit: u64) -> InForce
+        requires order { IsNonDecreasingBy (λ c. c.now.tick) changes.now }
+        requires stretch { IsInForce rate changes.now self }
+        ensures stretch { IsInForce rate changes.now result }
+        ensures here { HaveCome changes.now (tick_at rate bit) result.come }
+    {
+        if self.from <= bit && bit < self.until {
+            self
+        } else {
+            InForce::at(rate, changes, bit)
+        }
+    }
+
+    /// What has come from a bit time on of a port's changes, which ascend.
+    fn at(rate: Rate, changes: &[&PortChange], bit: u64) -> InForce
+        requires { IsNonDecreasingBy (λ c. c.now.tick) changes.now }
+        ensures stretch { IsInForce rate changes.now result }
+        ensures here { HaveCome changes.now (tick_at rate bit) result.come }
+    {
+        let come = count_below(changes, tick_at(rate, bit) + 1);
+        InForce {
+            come,
+            from: bit,
+            until: quiet_until(rate, changes, come),
+        }
+    }
+}
+
+/// The last of so many changes: it is in force in each tick by which just these have come.
+pub(crate) fn newest<'a>(changes: &[&'a PortChange], come: usize) -> Option<&'a PortChange>
+    requires { come ≤ length changes.now }
+    ensures { (tick : ℕ) → HaveCome changes.now tick come
+        → option_map (λ c. c.now) result ≡ in_force tick (map (λ c. c.now) changes.now) }
+{
+    if come == 0 {
+        None
+    } else {
+        Some(changes[come - 1])
+    }
+}
+
+/// A bit time up to which no change from this index on comes.
+fn quiet_until(rate: Rate, changes: &[&PortChange], at: usize) -> u64
+    requires { IsNonDecreasingBy (λ c. c.now.tick) changes.now }
+    ensures { (t : ℕ) → t < result
+        → AllWithin (λ c. tick_at rate t < c.now.tick) changes.now at (length changes.now) }
+{
+    match changes.get(at) {
+        Some(c) => bits_of_ticks(rate, c.tick.min(12_000)),
+        None => u64::MAX,
+    }
+}
 
 /// The changes at a port.
 pub(crate) fn changes_at<'a>(
@@ -34,12 +120,7 @@ pub(crate) fn in_force<'a>(tick: u64, changes: &[&'a PortChange]) -> Option<&'a 
     requires order { IsNonDecreasingBy (λ c. c.now.tick) changes.now }
     ensures { option_map (λ c. c.now) result ≡ in_force tick (map (λ c. c.now) changes.now) }
 {
-    let come = count_below(changes, tick + 1);
-    if come == 0 {
-        None
-    } else {
-        Some(changes[come - 1])
-    }
+    newest(changes, count_below(changes, tick + 1))
 }
 
 /// Whether a stream is booked by what is in force.

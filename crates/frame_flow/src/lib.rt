@@ -13,7 +13,10 @@
 //!
 //! - `frame`: `Frame` with its `Route`, and `FrameCopy`, a frame at a port.
 //! - `result`: `Fate`, `PortFlow` and `FlowResult`.
-//! - `turns`: `flow`. `numbered`: what is found in a list that ascends by a number. `valid`: `is_valid`, whether it may be asked for.
+//! - `turns`: `flow`. `valid`: `is_valid`, whether it may be asked for.
+//! - `copies`: the copies that arrive at a port. `by_node`: the frames of each node.
+//! - `fates`: the flow at a port. `verdicts`: which copies may be sent, by what is in `force`. `sent`: how the departure
+//!   of a frame is found. `numbered`: what is found in a list that ascends by a number.
 //! - `laws`: what is true of every flow.
 //!
 //! The contract of `flow` is one condition on all ports at once, `IsFlow` of `specs/Flow.antt`: the flow at
@@ -25,12 +28,13 @@
 //! order of arrival, ties by number; and at every port every window stays within class A's bound.
 //!
 //! To extend it: another reason to drop a copy is a variant of `Fate`, a test in `may_send` and `fate_of` of
-//! `specs/Flow.antt`, and its twin in `fates`. Another way for a frame to go is a variant of `Route` and a
+//! `specs/Flow.antt`, and a variant of `Verdict` with its arm in `fates`. Another way for a frame to go is a variant of `Route` and a
 //! case of `goes_by` in `specs/Copies.antt`. Another law is a function of `laws`, its words in
 //! `specs/Laws.antt`, and a lemma in `proofs/LawLemmas.antt`.
 #![tactic(auto)]
 
 mod asked;
+mod by_node;
 mod copies;
 mod fates;
 mod force;
@@ -40,8 +44,10 @@ mod moments;
 mod numbered;
 mod place;
 mod result;
+mod sent;
 mod turns;
 mod valid;
+mod verdicts;
 
 pub use frame::{Frame, FrameCopy, Route};
 pub use place::Place;

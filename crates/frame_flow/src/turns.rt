@@ -10,6 +10,7 @@ ghost use Rattle.frame_flow.specs.Given.{IsSetting};
 ghost use Rattle.frame_flow.specs.Turns.{ArePorts, AreAt, AreDoneBelow, level_at, level_of};
 
 use crate::asked::Asked;
+use crate::by_node::FramesByNode;
 use crate::fates::flow_of_copies;
 use crate::force::changes_at;
 use crate::frame::Frame;
@@ -49,12 +50,14 @@ pub fn flow(
       ticks = ticks;
     }) f.ports) }
 {
+    let own = FramesByNode::of(alloc, tree.nodes(), frames)?;
     let asked = Asked {
         tree,
         rates,
         changes: timeline.changes.as_slice(),
         frames,
         ticks,
+        own: &own,
     };
     let ports = asked.flows(alloc)?;
     Ok(FlowResult {

@@ -5,4 +5,4 @@ use Rattle.frame_flow.proofs.copies.put_in_order.Goals as goal
 
 pub returns-clause-order : goal.returns-clause-order
 returns-clause-order c =
-    order-from_sort _ (c.sort_unstable_by_key.ensures.sorted copy_key (answers_always _ _ _ (λ f a r g h. search rules)))
+    order-from_sort _ (c.in_ok-sort_by_key.ensures.sorted copy_key (answers_always _ _ _ (λ f a r g h. search rules)))

@@ -1,4 +1,4 @@
-use Rattle.std.proofs.Common.{◌≡◌, ℕ, ◌+◌, ◌-◌, ◌<◌, ◌≤◌, ◌++◌, ◌∷◌, [], length, map, take, drop, get_or, option_map, Some, None, arith}
+use Rattle.std.proofs.Common.{◌≡◌, ◌++◌, map, drop}
 use Rattle.frame_flow.specs.Force.{later_slopes, slopes_over}
 use Rattle.frame_flow.proofs.force.slopes_over.Given as goal
 

@@ -1,4 +1,4 @@
-use Rattle.std.proofs.Common.{◌≡◌, ℕ, ◌+◌, ◌-◌, ◌<◌, ◌≤◌, ◌++◌, ◌∷◌, [], length, map, take, drop, get_or, option_map, Some, None, arith}
+use Rattle.std.proofs.Common.{◌≡◌, map, take}
 use Rattle.frame_flow.specs.Turns.{level_of}
 use Rattle.frame_flow.proofs.turns.levels_of.Given as goal
 

@@ -1,4 +1,3 @@
-use Rattle.std.proofs.Common.{arith}
 use Rattle.frame_flow.proofs.ListFacts.{grown, added-more}
 use Rattle.frame_flow.specs.Copies.{copy_of, handed_on}
 use Rattle.frame_flow.proofs.asked.Asked.copies_of_flow.Goals as goal

@@ -1,4 +1,4 @@
-use Rattle.std.proofs.Common.{◌≡◌, ℕ, ◌+◌, ◌-◌, ◌<◌, ◌≤◌, ◌++◌, ◌∷◌, [], length, map, take, drop, get_or, option_map, Some, None, arith}
+use Rattle.std.proofs.Common.{◌≡◌, ◌++◌, take}
 use Rattle.std.specs.Prelude.{filter_map, flat_map}
 use Rattle.frame_flow.specs.Copies.{copy_of, handed_on}
 use Rattle.frame_flow.proofs.asked.Asked.copies_of_flow.Given as goal

@@ -1,4 +1,4 @@
-use Rattle.std.proofs.Common.{List, sym, subst, ◌∙◌, ◌≡◌, ◌+◌, length, arith}
+use Rattle.std.proofs.Common.{List, sym, subst, ◌≡◌, ◌+◌, length, arith}
 use Rattle.frame_flow.specs.declared.place.Place.{Place}
 use Rattle.frame_flow.specs.Turns.{AreAt, AreDoneBelow}
 use Rattle.frame_flow.proofs.TurnLemmas.{all-done}

@@ -1,4 +1,3 @@
-use Rattle.std.proofs.Common.{◌≡◌, ℕ, ◌+◌, ◌-◌, ◌<◌, ◌≤◌, ◌++◌, ◌∷◌, [], length, map, take, drop, get_or, option_map, Some, None, arith}
 use Rattle.frame_flow.specs.Turns.{AreAt, AreDoneBelow}
 use Rattle.frame_flow.proofs.asked.Asked.flows.Given as goal
 

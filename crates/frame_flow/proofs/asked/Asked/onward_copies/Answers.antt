@@ -1,4 +1,3 @@
-use Rattle.std.proofs.Common.{arith}
 use Rattle.frame_flow.proofs.ListFacts.{grown, ported-more}
 use Rattle.frame_flow.specs.Copies.{copy_of, comes_over, port_of}
 use Rattle.frame_flow.proofs.asked.Asked.onward_copies.Goals as goal

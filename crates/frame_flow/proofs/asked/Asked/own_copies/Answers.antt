@@ -1,8 +1,33 @@
-use Rattle.std.proofs.Common.{arith}
-use Rattle.frame_flow.proofs.ListFacts.{grown}
-use Rattle.frame_flow.proofs.CopyLemmas.{copies_more}
+use Rattle.std.proofs.Common.{◌∙◌, ◌++◌, List, length, ap, subst, map}
+use Rattle.std.specs.Prelude.{filter_map}
+use Rattle.std.proofs.lemmas.List.{take_all}
+use Rattle.frame_flow.specs.declared.frame.Frame.{Frame}
+use Rattle.frame_flow.specs.Copies.{Reached, copy_of}
+use Rattle.frame_flow.specs.Flow.{Setting}
+use Rattle.frame_flow.specs.Given.{IsSetting}
+use Rattle.frame_flow.specs.Steps.{AreByNode}
+use Rattle.frame_flow.proofs.ListFacts.{grown, mapped-more}
+use Rattle.frame_flow.proofs.CopyLemmas.{own-are, own-routes}
 use Rattle.frame_flow.proofs.asked.Asked.own_copies.Goals as goal
+
+pub add_own-requires-clause-route : goal.add_own-requires-clause-route
+add_own-requires-clause-route c =
+    let s = c.args.self.now in
+    let P : Setting → Type 0 = λ t. AreByNode (length t.tree.kinds) t.frames c.self.inside.own.now in
+    let own = own-are s c.self.inside.own.now c.args.place.at c.at-f-items.result.now (subst P c.self.view_is c.self.invariant.1) c.requires c.at-f-items.ensures in
+    own-routes s c.args.place.at c.at-f-items.result.now (subst IsSetting c.self.view_is c.self.invariant.0) own c.loop-f.f-index _ c.loop-f-test.true
 
 pub loop-f-preserved : goal.loop-f-preserved
 loop-f-preserved c =
-    grown _ _ _ _ _ _ c.loop-f.invariant c.in_ok-add_own.ensures (copies_more c.args.self.now.tree.links c.args.self.now.ticks c.args.place c.self.inside.frames.now c.args.place.at.node.0 c.loop-f.f-index _ c.loop-f-test.true)
+    grown _ _ _ _ _ _ c.loop-f.invariant c.in_ok-add_own.ensures
+    (mapped-more (copy_of c.args.self.now.tree.links c.args.self.now.ticks c.args.place)
+    (λ (f : Frame). record { frame = f; moment = f.at.0 }) c.at-f-items.result.now c.loop-f.f-index _ c.loop-f-test.true)
+
+pub returns : goal.returns
+returns c =
+    let s = c.args.self.now in
+    let P : Setting → Type 0 = λ t. AreByNode (length t.tree.kinds) t.frames c.self.inside.own.now in
+    let to : Frame → Reached = λ f. record { frame = f; moment = f.at.0 } in
+    let own = own-are s c.self.inside.own.now c.args.place.at c.at-f-items.result.now (subst P c.self.view_is c.self.invariant.1) c.requires c.at-f-items.ensures in
+    c.loop-f.invariant ∙ ap (λ (t : List Frame). c.args.copies.now.items ++ filter_map (copy_of s.tree.links s.ticks c.args.place) (map to t))
+    (take_all _ c.at-f-items.result.now c.loop-f-test.false ∙ own)

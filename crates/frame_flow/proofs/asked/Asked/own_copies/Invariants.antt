@@ -1,8 +1,9 @@
-use Rattle.std.proofs.Common.{◌≡◌, ℕ, ◌+◌, ◌-◌, ◌<◌, ◌≤◌, ◌++◌, ◌∷◌, [], length, map, take, drop, get_or, option_map, Some, None, arith}
+use Rattle.std.proofs.Common.{◌≡◌, ◌++◌, map, take}
 use Rattle.std.specs.Prelude.{filter_map}
-use Rattle.frame_flow.specs.Copies.{copy_of, sent_from}
+use Rattle.frame_flow.specs.Copies.{copy_of}
 use Rattle.frame_flow.proofs.asked.Asked.own_copies.Given as goal
 
 abbrev pub invariant-loop-f : goal.invariant-loop-f
 invariant-loop-f l =
-    l.copies.items ≡ l.initial.copies.items ++ filter_map (copy_of l.self.tree.links l.self.ticks l.place) (sent_from (take l.f-index l.f-items) l.place.at.node.0)
+    l.copies.items ≡ l.initial.copies.items ++ filter_map (copy_of l.self.tree.links l.self.ticks l.place)
+    (map (λ f. record { frame = f; moment = f.at.0 }) (take l.f-index l.f-items))
