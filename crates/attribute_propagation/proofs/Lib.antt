@@ -1,3 +1,4 @@
 mod AwaitingLemmas
 mod DirtyLemmas
 mod FlatLemmas
+mod PortsLemmas

@@ -53,7 +53,7 @@ impl<K: Copy + Ord> Dirty<K> {
     pub fn with_all(&self, keys: &[K]) -> Result<Dirty<K>, NoMemory>
         ensures { IfOk result (λ d. d ≡ all_marked K.cmp keys.now self.now) }
     {
-        let mut all = self.copy()?;
+        let mut all = self.with_room(keys.len())?;
         for key in keys {
             all.mark(*key)?;
         }
@@ -106,7 +106,16 @@ impl<K: Copy + Ord> Dirty<K> {
     pub fn copy(&self) -> Result<Dirty<K>, NoMemory>
         ensures { IfOk result (λ d. d ≡ self.now) }
     {
-        let keys = Vec::from_slice(*self.keys.allocator(), self.keys.as_slice())?;
+        self.with_room(0)
+    }
+
+    // Another set with the same keys, and room for this many more.
+    fn with_room(&self, more: usize) -> Result<Dirty<K>, NoMemory>
+        ensures { IfOk result (λ d. d ≡ self.now) }
+    {
+        let count = self.keys.len().saturating_add(more);
+        let mut keys = Vec::with_capacity(*self.keys.allocator(), count)?;
+        keys.extend_from_slice(self.keys.as_slice())?;
         Ok(Dirty { keys })
     }
 }

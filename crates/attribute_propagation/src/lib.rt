@@ -25,4 +25,4 @@ mod tests;
 
 pub use dirty::Dirty;
 pub use flat::flat_declares;
-pub use ports::{await_elsewhere, await_everywhere};
+pub use ports::{await_elsewhere, await_everywhere, put_sets};

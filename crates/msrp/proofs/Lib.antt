@@ -1,5 +1,6 @@
 pub mod Clocked
 pub mod Contents
+pub mod Idle
 pub mod Keeping
 pub mod KeyLemmas
 pub mod Ledgers

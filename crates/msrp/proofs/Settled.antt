@@ -103,7 +103,7 @@ talker_same laws at config book other talkers up down caps moment booked =
     (same_fit (fit_for book.moment book) (fit_for book.moment other) w (λ want. laws.fits book other book.moment want up down caps booked)
     ∙ ap (λ (n : ℕ). option_map (fit_for n other) w) moment)
 
-next_is : (at : ℕ) (regs : StreamId → Registrations) (ks : List MsrpKey) (p : Port) → next_book at regs ks p ≡ settled_book (λ s. wanted_at at p.part (regs s).talkers s) (streams_in ks) p.ledger
+pub next_is : (at : ℕ) (regs : StreamId → Registrations) (ks : List MsrpKey) (p : Port) → next_book at regs ks p ≡ settled_book (λ s. wanted_at at p.part (regs s).talkers s) (streams_in ks) p.ledger
 unfolding next_book
 next_is at regs ks p = refl
 

@@ -1,15 +1,18 @@
 //! What the application of a station asks for.
 
-ghost use Rattle.std.specs.Prelude.{◌≡◌, ◌∷◌, false, filter, not, ◌==◌, IfOk, OnOk, OnErr};
+ghost use Rattle.std.specs.Prelude.{◌≡◌, ◌∷◌, false, filter, not, ◌==◌, option_map, IfOk, OnOk, OnErr};
 ghost use Rattle.srp_base.specs.declared.numbers.StreamId.{StreamId};
+ghost use Rattle.attribute_propagation.specs.Ports.{marked_everywhere, sets_with};
+ghost use Rattle.msrp.specs.Part.{key_cmp};
+ghost use Rattle.msrp.specs.Settling.{keys_of};
 ghost use Rattle.msrp.specs.Stream.{talk_of, is_listened};
 ghost use Rattle.msrp.specs.Side.{IsKept, is_talk, same_talker, listens_without, reasked, requested_streams, talks_without};
 ghost use Rattle.msrp.specs.declared.asking.SrpRequest.TheVariants.{Talk, Hush, Listen, Unlisten};
 
 use crate::side::MsrpSide;
 use crate::stream::{is_listened, talk_of};
-use attribute_propagation::await_everywhere;
 use attribute_propagation::laws::each_key_awaits;
+use attribute_propagation::{Dirty, await_everywhere, put_sets};
 use msrp_codec::MsrpKey;
 use srp_base::{NoMemory, StreamId, Talker};
 use std::alloc::{AllocError, Global};
@@ -52,8 +55,7 @@ impl MsrpSide {
         }
         let alloc = *self.ports.allocator();
         let talks = talks_with(alloc, self.talks.as_slice(), talker)?;
-        let listens = Vec::from_slice(alloc, self.listens.as_slice())?;
-        self.reask(alloc, talker.stream, talks, listens)
+        self.put_talks(alloc, talker.stream, talks)
     }
 
     fn hush(&mut self, stream: StreamId) -> Result<(), NoMemory>
@@ -65,8 +67,7 @@ impl MsrpSide {
         }
         let alloc = *self.ports.allocator();
         let talks = talks_without(alloc, self.talks.as_slice(), stream)?;
-        let listens = Vec::from_slice(alloc, self.listens.as_slice())?;
-        self.reask(alloc, stream, talks, listens)
+        self.put_talks(alloc, stream, talks)
     }
 
     fn listen(&mut self, stream: StreamId) -> Result<(), NoMemory>
@@ -77,9 +78,8 @@ impl MsrpSide {
             return Ok(());
         }
         let alloc = *self.ports.allocator();
-        let talks = Vec::from_slice(alloc, self.talks.as_slice())?;
         let listens = listens_with(alloc, self.listens.as_slice(), stream)?;
-        self.reask(alloc, stream, talks, listens)
+        self.put_listens(alloc, stream, listens)
     }
 
     fn unlisten(&mut self, stream: StreamId) -> Result<(), NoMemory>
@@ -90,35 +90,60 @@ impl MsrpSide {
             return Ok(());
         }
         let alloc = *self.ports.allocator();
-        let talks = Vec::from_slice(alloc, self.talks.as_slice())?;
         let listens = listens_without(alloc, self.listens.as_slice(), stream)?;
-        self.reask(alloc, stream, talks, listens)
+        self.put_listens(alloc, stream, listens)
     }
 
-    // The application's Talkers and streams are these, which differ from before at one stream: its keys await at
-    // every link port.
-    fn reask(
+    // The application's Talkers are these, which differ from before at one stream: its keys await at every link port.
+    fn put_talks(
         &mut self,
         alloc: Global,
         stream: StreamId,
         talks: Vec<Talker>,
-        listens: Vec<StreamId>,
     ) -> Result<(), NoMemory>
-        requires talks { (s : StreamId) → (s.0 == stream.0) ≡ false
+        requires { (s : StreamId) → (s.0 == stream.0) ≡ false
             → talk_of s talks.items ≡ talk_of s self.old.talks }
-        requires listens { (s : StreamId) → (s.0 == stream.0) ≡ false
-            → is_listened s listens.items ≡ is_listened s self.old.listens }
-        ensures ok { OnOk result (self.new ≡ reasked stream talks.items listens.items self.old) }
+        ensures ok { OnOk result (self.new ≡ reasked stream talks.items self.old.listens self.old) }
         ensures err { OnErr result (self.new ≡ self.old) }
     {
         each_key_awaits::<MsrpKey>();
-        let keys = [MsrpKey::Talker(stream), MsrpKey::Listener(stream)];
-        let awaiting = await_everywhere(alloc, self.awaiting.as_slice(), keys.as_slice())?;
-        self.awaiting = awaiting;
+        let awaiting = both_await(alloc, self.awaiting.as_slice(), stream)?;
+        put_sets(&mut self.awaiting, awaiting);
         self.talks = talks;
+        Ok(())
+    }
+
+    // The application listens to these streams, which differ from before at one: its keys await at every link port.
+    fn put_listens(
+        &mut self,
+        alloc: Global,
+        stream: StreamId,
+        listens: Vec<StreamId>,
+    ) -> Result<(), NoMemory>
+        requires { (s : StreamId) → (s.0 == stream.0) ≡ false
+            → is_listened s listens.items ≡ is_listened s self.old.listens }
+        ensures ok { OnOk result (self.new ≡ reasked stream self.old.talks listens.items self.old) }
+        ensures err { OnErr result (self.new ≡ self.old) }
+    {
+        each_key_awaits::<MsrpKey>();
+        let awaiting = both_await(alloc, self.awaiting.as_slice(), stream)?;
+        put_sets(&mut self.awaiting, awaiting);
         self.listens = listens;
         Ok(())
     }
+}
+
+// The awaiting keys of each port once both keys of a stream await there.
+fn both_await(
+    alloc: Global,
+    sets: &[Dirty<MsrpKey>],
+    stream: StreamId,
+) -> Result<Option<Vec<Dirty<MsrpKey>>>, NoMemory>
+    ensures { IfOk result (λ o. sets_with (option_map (λ v. v.items) o) sets.now
+        ≡ marked_everywhere key_cmp (keys_of stream) sets.now) }
+{
+    let keys = [MsrpKey::Talker(stream), MsrpKey::Listener(stream)];
+    await_everywhere(alloc, sets, keys.as_slice())
 }
 
 // Whether the application has this Talker already.

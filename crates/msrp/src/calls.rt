@@ -16,8 +16,8 @@ ghost use Rattle.msrp.specs.Side.{IsKept, SameDeclared, TellsEach, HasReceived, 
 use crate::app::MsrpApp;
 use crate::port::Port;
 use crate::side::MsrpSide;
-use attribute_propagation::await_everywhere;
 use attribute_propagation::laws::each_key_awaits;
+use attribute_propagation::{await_everywhere, put_sets};
 use mrp_participant::laws::{
     declarations_stay, due_tells_each_change, each_key_after_due, each_key_after_periodic,
     each_key_after_receive, one_key_changes, receive_tells_each_change, registrations_stay,
@@ -87,12 +87,27 @@ impl MsrpSide {
             (λ p. n ≡ count_of (due_count now p.part))) }
         ensures err { OnErr result (self.new ≡ self.old) }
     {
+        let at = usize::from(port.0) - 1;
+        if !port_at(self.ports.as_slice(), at).part.any_due(now) {
+            return Ok(0);
+        }
+        self.fire(now, at)
+    }
+
+    // Fires the timers of the link port at a place that are due.
+    fn fire(&mut self, now: Cs, at: usize) -> Result<u32, NoMemory>
+        requires now { now.0 < 2 ^ 62 }
+        requires place { at < length self.old.ports }
+        ensures after { OnOk result (self.new ≡ due_streams now at self.old) }
+        ensures count { IfOk result (λ n. IfSome (slice_get self.old.ports at)
+            (λ p. n ≡ count_of (due_count now p.part))) }
+        ensures err { OnErr result (self.new ≡ self.old) }
+    {
         self.keeps();
         declarations_stay::<MsrpApp>();
         due_tells_each_change::<MsrpApp>();
         each_key_after_due::<MsrpApp>();
         let alloc = *self.ports.allocator();
-        let at = usize::from(port.0) - 1;
         let mut part = port_at(self.ports.as_slice(), at).part.copy()?;
         let (fired, left) = part.due(now)?;
         part.rows_ascend();
@@ -185,7 +200,7 @@ impl MsrpSide {
         each_key_awaits::<MsrpKey>();
         let keys = all_keys_with(alloc, told)?;
         let awaiting = await_everywhere(alloc, self.awaiting.as_slice(), keys.as_slice())?;
-        self.awaiting = awaiting;
+        put_sets(&mut self.awaiting, awaiting);
         let port = &mut self.ports[at];
         port.part = part;
         Ok(())
@@ -218,7 +233,7 @@ fn told_where(was: bool, keys: &[MsrpKey]) -> &[MsrpKey]
 fn all_keys_with(alloc: Global, told: &[MsrpKey]) -> Result<Vec<MsrpKey>, NoMemory>
     ensures { IfOk result (λ v. v.items ≡ all_keys_with told.now) }
 {
-    let mut keys = Vec::new(alloc);
+    let mut keys = Vec::with_capacity(alloc, told.len().saturating_mul(2))?;
     for key in told {
         push_keys_with(&mut keys, *key)?;
     }

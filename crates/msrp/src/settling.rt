@@ -1,6 +1,6 @@
 //! Settling the keys that await at a link port.
 
-ghost use Rattle.std.specs.Prelude.{◌≡◌, ◌++◌, ◌+◌, ◌<◌, [], map, length, slice_get, IfOk, IfSome, OnOk, OnErr};
+ghost use Rattle.std.specs.Prelude.{◌≡◌, ◌++◌, ◌+◌, ◌<◌, [], map, length, slice_get, Some, IfOk, IfSome, OnOk, OnErr};
 ghost use Rattle.std.specs.List.{flat_map, filter_map};
 ghost use Rattle.srp_base.specs.declared.numbers.StreamId.{StreamId};
 ghost use Rattle.srp_base.specs.declared.streams.Talker.{Talker};
@@ -17,7 +17,7 @@ use crate::port::Port;
 use crate::side::MsrpSide;
 use crate::stream::{is_talker_content, stated_at, wanted_at};
 use attribute_propagation::laws::each_key_awaits;
-use attribute_propagation::{Dirty, await_elsewhere};
+use attribute_propagation::{Dirty, await_elsewhere, put_sets};
 use mrp_participant::Participant;
 use mrp_participant::laws::{
     a_place_for_each_key, one_key_changes, registrations_stay, rows_stay_rows, what_is_asked_holds,
@@ -48,6 +48,22 @@ impl MsrpSide {
             ≡ count_of (length (awaiting_at (place_of port) self.old))) }
         ensures err { OnErr result (self.new ≡ self.old) }
     {
+        self.keeps();
+        nothing_changed_where_both_lists_are_empty();
+        let at = usize::from(port.0) - 1;
+        if set_at(self.awaiting.as_slice(), at).is_empty() {
+            return Ok(0);
+        }
+        self.settle_keys(at)
+    }
+
+    // Settles the keys that await at the link port at a place.
+    fn settle_keys(&mut self, at: usize) -> Result<u32, NoMemory>
+        requires { at < length self.old.ports }
+        ensures after { OnOk result (self.new ≡ settled_streams at self.old) }
+        ensures count { IfOk result (λ n. n ≡ count_of (length (awaiting_at at self.old))) }
+        ensures err { OnErr result (self.new ≡ self.old) }
+    {
         each_key_awaits::<MsrpKey>();
         each_key_awaits::<StreamId>();
         what_is_asked_holds::<MsrpApp>();
@@ -61,7 +77,6 @@ impl MsrpSide {
         what_has_not_moved_is_booked_as_before();
         nothing_changed_where_both_lists_are_empty();
         let alloc = *self.ports.allocator();
-        let at = usize::from(port.0) - 1;
         let (port, told) = settled(
             alloc,
             self.talks.as_slice(),
@@ -70,13 +85,21 @@ impl MsrpSide {
             at,
             &self.awaiting[at],
         )?;
-        let mut awaiting = await_elsewhere(alloc, self.awaiting.as_slice(), at, told.as_slice())?;
+        let others = await_elsewhere(alloc, self.awaiting.as_slice(), at, told.as_slice())?;
         let count = saturated(self.awaiting[at].len());
-        awaiting[at] = Dirty::new(alloc);
+        put_sets(&mut self.awaiting, others);
+        self.awaiting[at] = Dirty::new(alloc);
         self.ports[at] = port;
-        self.awaiting = awaiting;
         Ok(count)
     }
+}
+
+// The keys that await at a place.
+fn set_at(sets: &[Dirty<MsrpKey>], at: usize) -> &Dirty<MsrpKey>
+    requires { at < length sets.now }
+    ensures { slice_get sets.now at ≡ Some result.now }
+{
+    &sets[at]
 }
 
 // The port at a place once the keys that await there are settled, and the Listener keys of the streams whose booking

@@ -1,16 +1,18 @@
 //! One stream at a node: its Talker's port, and what each link port declares of it and wants for it.
 
-ghost use Rattle.std.specs.Prelude.{◌≡◌, ◌++◌, ◌<◌, ◌≤◌, suc, List, length, map, take, drop, find, position, option_map, option_and_then, IfOk, OnOk};
+ghost use Rattle.std.specs.Prelude.{◌≡◌, ◌++◌, ◌∷◌, ◌<◌, ◌≤◌, suc, List, [], Some, None, if◌then◌else◌, length, map, take, drop, find, position, option_map, option_and_then, IfOk, OnOk};
 ghost use Rattle.std.specs.List.{filter_map};
 ghost use Rattle.std.specs.Option.{unwrap_or};
 ghost use Rattle.srp_base.specs.declared.numbers.StreamId.{StreamId};
+ghost use Rattle.srp_base.specs.declared.streams.Talker.{Talker};
 ghost use Rattle.srp_base.specs.declared.streams.TalkerReg.TheVariants.{Absent};
+ghost use Rattle.srp_base.specs.declared.streams.ListenerKind.TheVariants.{Ready};
 ghost use Rattle.port_ledger.specs.Book.{fit_for};
 ghost use Rattle.msrp_talker.specs.TalkerOut.{talker_in};
 ghost use Rattle.msrp_codec.specs.declared.pdu.MsrpContent.TheVariants as contents;
 ghost use Rattle.msrp.specs.declared.port.Port.{Port};
 ghost use Rattle.msrp.specs.Part.{talker_reg_of, listener_kind_of, registered_talker, registered_listener, talker_content};
-ghost use Rattle.msrp.specs.Stream.{advertised, talk_of, is_listened, listener_row, registrations_of, talkers_of, want_in_class, is_present, talker_of, is_talker_port, want_of_talker, want_of_reg, is_ready, wanted_at, fit_at, talker_at, is_advertised, own_listener, other_listeners, heard_of, listener_at, stated_at};
+ghost use Rattle.msrp.specs.Stream.{advertised, talk_of, is_listened, listener_row, registrations_of, talkers_of, want_in_class, is_number, is_present, talker_of, is_talker_port, want_of_talker, want_of_reg, is_ready, wanted_at, fit_at, talker_at, is_advertised, own_listener, other_listeners, heard_of, listener_at, stated_at};
 
 use crate::app::MsrpApp;
 use crate::port::Port;
@@ -20,7 +22,7 @@ use msrp_listener::{PortListener, listener_out};
 use msrp_talker::{PortConfig, check, class_of, talker_out};
 use port_ledger::Ledger;
 use srp_base::{Class, Cs, ListenerKind, NoMemory, StreamId, Talker, TalkerReg};
-use std::alloc::{AllocError, Global};
+use std::alloc::Global;
 use stream_importance::{Fit, Want, slope_of};
 
 // ---- what is registered
@@ -92,16 +94,6 @@ pub(crate) fn is_listened(listens: &[StreamId], stream: StreamId) -> bool
     listens.iter().any(|other| *other == stream)
 }
 
-// What the application has of a stream's Talker.
-fn own_talker(talks: &[Talker], stream: StreamId) -> TalkerReg
-    ensures { result ≡ advertised (talk_of stream talks.now) }
-{
-    match talk_of(talks, stream) {
-        Some(talker) => TalkerReg::Advertise(talker),
-        None => TalkerReg::Absent,
-    }
-}
-
 // The Listeners of a stream at a port, with whether it has the stream booked.
 fn listener_row(port: &Port, stream: StreamId) -> Option<PortListener>
     ensures { result ≡ listener_row stream port.now }
@@ -134,39 +126,34 @@ fn is_advertised(reg: &TalkerReg) -> bool
 
 // ---- the Talker's port
 
-// The lowest of these link ports where a stream's Talker is registered, by its place.
-fn first_place(ports: &[Port], stream: StreamId) -> Option<usize>
-    ensures { result ≡ position is_present (map (λ p. registered_talker stream p.part) ports.now) }
-{
-    ports
-        .iter()
-        .map(|port| registered_talker(&port.part, stream))
-        .position(|reg| is_present(&reg))
+// A link port where a stream's Talker is registered, by its place, and what is registered there.
+#[derive(Clone, Copy)]
+struct TalkerPort {
+    place: usize,
+    reg: TalkerReg,
 }
 
-// What is registered of a stream's Talker there.
-fn first_talker(ports: &[Port], stream: StreamId) -> TalkerReg
-    ensures { result
-        ≡ unwrap_or (find is_present (map (λ p. registered_talker stream p.part) ports.now)) Absent }
+// The lowest of these link ports where a stream's Talker is registered.
+fn talker_port(ports: &[Port], stream: StreamId) -> Option<TalkerPort>
+    ensures place { option_map (λ r. r.place) result
+        ≡ position is_present (map (λ p. registered_talker stream p.part) ports.now) }
+    ensures reg { option_map (λ r. r.reg) result
+        ≡ find is_present (map (λ p. registered_talker stream p.part) ports.now) }
 {
-    for port in ports {
+    for (place, port) in ports.iter().enumerate() {
         let reg = registered_talker(&port.part, stream);
         if is_present(&reg) {
-            return reg;
+            return Some(TalkerPort { place, reg });
         }
     }
-    TalkerReg::Absent
+    None
 }
 
 // What is registered of a stream at its Talker's port.
 pub(crate) fn talker_of(talks: &[Talker], ports: &[Port], stream: StreamId) -> TalkerReg
     ensures { result ≡ talker_of (talkers_of talks.now ports.now stream) }
 {
-    let own = own_talker(talks, stream);
-    if is_present(&own) {
-        return own;
-    }
-    first_talker(ports, stream)
+    seen_from(talks, ports, 0, stream).reg
 }
 
 // Whether the application is a stream's Talker's port.
@@ -176,11 +163,42 @@ pub(crate) fn is_own(talks: &[Talker], stream: StreamId) -> bool
     talk_of(talks, stream).is_some()
 }
 
-// Whether the link port at a place is a stream's Talker's port.
-pub(crate) fn is_talker_at(talks: &[Talker], ports: &[Port], at: usize, stream: StreamId) -> bool
-    ensures { result ≡ is_talker_port (suc at) (talkers_of talks.now ports.now stream) }
+// A stream's Talker as a link port sees it: whether the Talker's port is that port, and what is registered there.
+#[derive(Clone, Copy)]
+struct TalkerSeen {
+    is_here: bool,
+    reg: TalkerReg,
+}
+
+// A stream's Talker as the link port at a place sees it.
+fn seen_from(talks: &[Talker], ports: &[Port], at: usize, stream: StreamId) -> TalkerSeen
+    ensures here { result.is_here ≡ is_talker_port (suc at) (talkers_of talks.now ports.now stream) }
+    ensures reg { result.reg ≡ talker_of (talkers_of talks.now ports.now stream) }
 {
-    talk_of(talks, stream).is_none() && first_place(ports, stream) == Some(at)
+    match talk_of(talks, stream) {
+        Some(talker) => TalkerSeen {
+            is_here: false,
+            reg: TalkerReg::Advertise(talker),
+        },
+        None => seen_at(talker_port(ports, stream), at),
+    }
+}
+
+// A Talker that is registered at a link port, or nowhere, as the link port at a place sees it.
+fn seen_at(port: Option<TalkerPort>, at: usize) -> TalkerSeen
+    ensures here { result.is_here ≡ is_number at (option_map (λ r. r.place) port) }
+    ensures reg { result.reg ≡ unwrap_or (option_map (λ r. r.reg) port) Absent }
+{
+    match port {
+        Some(port) => TalkerSeen {
+            is_here: port.place == at,
+            reg: port.reg,
+        },
+        None => TalkerSeen {
+            is_here: false,
+            reg: TalkerReg::Absent,
+        },
+    }
 }
 
 // ---- what a link port wants
@@ -243,13 +261,14 @@ pub(crate) fn wanted_at(
 ) -> Option<Want>
     ensures { result ≡ wanted_at at part.now (talkers_of talks.now ports.now stream) stream }
 {
-    if is_talker_at(talks, ports, at, stream) {
-        return None;
-    }
     if !is_ready(registered_listener(part, stream)) {
         return None;
     }
-    want_of_reg(talker_of(talks, ports, stream))
+    let seen = seen_from(talks, ports, at, stream);
+    if seen.is_here {
+        return None;
+    }
+    want_of_reg(seen.reg)
 }
 
 // ---- what a link port declares
@@ -290,10 +309,11 @@ pub(crate) fn fit_at(
     requires { ledger.now.moment ≤ now.0 }
     ensures { result ≡ fit_at now.0 at ledger.now (talkers_of talks.now ports.now stream) }
 {
-    if is_talker_at(talks, ports, at, stream) {
+    let seen = seen_from(talks, ports, at, stream);
+    if seen.is_here {
         return None;
     }
-    fit_of(talker_of(talks, ports, stream), ledger, now)
+    fit_of(seen.reg, ledger, now)
 }
 
 // What the link port at a place declares of a stream's Talker, with its configuration and by a ledger.
@@ -307,92 +327,83 @@ fn talker_at(
 ) -> TalkerReg
     ensures { result ≡ talker_at at config.now ledger.now (talkers_of talks.now ports.now stream) }
 {
-    if is_talker_at(talks, ports, at, stream) {
+    let seen = seen_from(talks, ports, at, stream);
+    if seen.is_here {
         return TalkerReg::Absent;
     }
-    let fit = fit_at(talks, ports, at, ledger, ledger.moment(), stream).unwrap_or(Fit::Fits);
-    talker_out(talker_of(talks, ports, stream), config, fit)
+    let fit = fit_of(seen.reg, ledger, ledger.moment()).unwrap_or(Fit::Fits);
+    talker_out(seen.reg, config, fit)
 }
 
-// The application as a port with a Listener.
-fn own_listener(
-    talks: &[Talker],
-    listens: &[StreamId],
-    ports: &[Port],
-    stream: StreamId,
-) -> Option<PortListener>
-    ensures { result ≡ own_listener (registrations_of talks.now listens.now ports.now stream) }
+// The application as a port with a Listener, by what is registered at the Talker's port.
+fn own_listener(listens: &[StreamId], stream: StreamId, talker: &TalkerReg) -> Option<PortListener>
+    ensures { result ≡ (if is_listened stream listens.now
+        then Some (record { kind = Ready; booked = is_advertised talker.now }) else None) }
 {
-    if !is_listened(listens, stream) {
-        return None;
+    if is_listened(listens, stream) {
+        Some(PortListener {
+            kind: ListenerKind::Ready,
+            booked: is_advertised(talker),
+        })
+    } else {
+        None
     }
-    let talker = talker_of(talks, ports, stream);
-    Some(PortListener {
-        kind: ListenerKind::Ready,
-        booked: is_advertised(&talker),
-    })
 }
 
-// The Listeners of a stream at each of these ports.
-fn listener_rows(
-    alloc: Global,
-    ports: &[Port],
-    stream: StreamId,
-) -> Result<Vec<Option<PortListener>>, AllocError>
-    ensures { IfOk result (λ v. v.items ≡ map (listener_row stream) ports.now) }
+// Puts a row that is there at the end.
+fn push_row(out: &mut Vec<PortListener>, row: Option<PortListener>) -> Result<(), NoMemory>
+    ensures { OnOk result (out.new.items ≡ out.old.items ++ filter_map (λ row. row) (row ∷ [])) }
 {
-    ports
-        .iter()
-        .map(|port| listener_row(port, stream))
-        .collect(alloc)
-}
-
-// Puts those of these rows that are there at the end.
-fn push_rows(out: &mut Vec<PortListener>, rows: &[Option<PortListener>]) -> Result<(), NoMemory>
-    ensures { OnOk result (out.new.items ≡ out.old.items ++ filter_map (λ row. row) rows.now) }
-{
-    for row in rows {
-        if let Some(row) = row {
-            out.push(*row)?;
-        }
+    if let Some(row) = row {
+        out.push(row)?;
     }
     Ok(())
 }
 
-// The rows before a place, and those after it.
-fn before(rows: &[Option<PortListener>], at: usize) -> &[Option<PortListener>]
-    requires { at < length rows.now }
-    ensures { result.now ≡ take at rows.now }
+// Puts the Listeners of a stream at each of these ports at the end.
+fn push_rows(out: &mut Vec<PortListener>, ports: &[Port], stream: StreamId) -> Result<(), NoMemory>
+    ensures { OnOk result (out.new.items
+        ≡ out.old.items ++ filter_map (λ row. row) (map (listener_row stream) ports.now)) }
 {
-    &rows[..at]
+    for port in ports {
+        push_row(out, listener_row(port, stream))?;
+    }
+    Ok(())
 }
 
-fn after(rows: &[Option<PortListener>], at: usize) -> &[Option<PortListener>]
-    requires { at < length rows.now }
-    ensures { result.now ≡ drop (suc at) rows.now }
+// The ports before a place, and those after it.
+fn before(ports: &[Port], at: usize) -> &[Port]
+    requires { at < length ports.now }
+    ensures { result.now ≡ take at ports.now }
 {
-    &rows[at + 1..]
+    &ports[..at]
 }
 
-// The Listeners of a stream at all ports but the link port at a place.
+fn after(ports: &[Port], at: usize) -> &[Port]
+    requires { at < length ports.now }
+    ensures { result.now ≡ drop (suc at) ports.now }
+{
+    &ports[at + 1..]
+}
+
+// The Listeners of a stream at all ports but the link port at a place, by what is registered at the Talker's port.
 fn other_listeners(
     alloc: Global,
-    talks: &[Talker],
     listens: &[StreamId],
     ports: &[Port],
     at: usize,
     stream: StreamId,
+    talker: &TalkerReg,
 ) -> Result<Vec<PortListener>, NoMemory>
     requires { at < length ports.now }
-    ensures { IfOk result (λ v. v.items
-        ≡ other_listeners at (registrations_of talks.now listens.now ports.now stream)) }
+    ensures { (talks : List Talker) → talker.now ≡ talker_of (talkers_of talks ports.now stream)
+        → IfOk result (λ v. v.items
+        ≡ other_listeners at (registrations_of talks listens.now ports.now stream)) }
 {
-    let own = own_listener(talks, listens, ports, stream);
-    let rows = listener_rows(alloc, ports, stream)?;
-    let mut others = Vec::new(alloc);
-    push_rows(&mut others, [own].as_slice())?;
-    push_rows(&mut others, before(rows.as_slice(), at))?;
-    push_rows(&mut others, after(rows.as_slice(), at))?;
+    let mut others = Vec::with_capacity(alloc, ports.len())?;
+    push_row(&mut others, own_listener(listens, stream, talker))?;
+    push_rows(&mut others, before(ports, at), stream)?;
+    push_rows(&mut others, after(ports, at), stream)?;
     Ok(others)
 }
 
@@ -409,10 +420,11 @@ fn listener_at(
     ensures { IfOk result (λ kind. kind
         ≡ listener_at at (registrations_of talks.now listens.now ports.now stream)) }
 {
-    if !is_talker_at(talks, ports, at, stream) {
+    let seen = seen_from(talks, ports, at, stream);
+    if !seen.is_here {
         return Ok(None);
     }
-    let rows = other_listeners(alloc, talks, listens, ports, at, stream)?;
+    let rows = other_listeners(alloc, listens, ports, at, stream, &seen.reg)?;
     Ok(listener_out(rows.as_slice()))
 }
 

@@ -1,7 +1,6 @@
 -- Where no timer is due a participant stays, and where no VID awaits the side does.
 use Rattle.std.proofs.Common.{◌≡◌, ◌⊎◌, inl, inr, ℕ, zero, suc, ◌+◌, ◌<◌, Bool, true, false, not, ◌&&◌, ◌||◌, if◌then◌else◌, List, [], ◌∷◌, length, map, refl, sym, ap, subst, ◌∙◌, arith}
-use Rattle.std.specs.Prelude.{slice_get, slice_set, Option, Some, None, filter, ◌==◌}
-use Rattle.std.proofs.lemmas.Bool.Decides.{nat_tests}
+use Rattle.std.specs.Prelude.{slice_get, slice_set, Option, Some, None, filter}
 use Rattle.std.specs.List.{list_any, filter_map}
 use Rattle.srp_base.specs.declared.numbers.Cs.{Cs}
 use Rattle.mrp_participant.specs.declared.one_row.Row.{Row}
@@ -50,11 +49,6 @@ module _ (now : Cs) (s : Part) (none : is_any_due now s ≡ false) where
 
   pub count-none : due_count now s ≡ 0
   count-none = rw (left-none, others.0, others.1) refl
-
--- a list without length has nothing in it
-pub none-in : {X : Type 0} (xs : List X) → (length xs == 0) ≡ true → xs ≡ []
-none-in [] h = refl
-none-in (x ∷ xs) h = absurd (grind (arith, nat_tests, h))
 
 -- what is put in the place where it is changes nothing
 pub set-same : {X : Type 0} (xs : List X) (i : ℕ) (x : X) → slice_get xs i ≡ Some x → slice_set xs i x ≡ xs

@@ -1,5 +1,6 @@
 -- A step of MVRP at a port, made ready: what takes the place of what is there, and what is answered.
 use Rattle.std.specs.Prelude.{ℕ, List, Option, Some, None, slice_set}
+use Rattle.attribute_propagation.specs.Ports.{sets_with}
 use Rattle.mvrp.specs.Part.{Part}
 use Rattle.mvrp.specs.Side.{Vlans}
 
@@ -15,11 +16,6 @@ pub record ReadyPort : Type 0 where
 abbrev pub parts_with : ℕ → Option Part → List Part → List Part
 parts_with at None parts = parts
 parts_with at (Some s) parts = slice_set parts at s
-
--- the sets once all have been replaced, or none
-abbrev pub sets_with : Option (List (List ℕ)) → List (List ℕ) → List (List ℕ)
-sets_with None sets = sets
-sets_with (Some new) sets = new
 
 -- the side once the step is done
 abbrev pub applied : ReadyPort → Vlans → Vlans

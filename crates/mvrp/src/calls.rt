@@ -15,7 +15,7 @@ ghost use Rattle.mvrp.specs.Side.{IsKept, SameDeclared, TellsEach, HasReceived, 
 use crate::app::MvrpApp;
 use crate::side::MvrpSide;
 use attribute_propagation::laws::each_key_awaits;
-use attribute_propagation::{Dirty, await_elsewhere, await_everywhere};
+use attribute_propagation::{Dirty, await_elsewhere, await_everywhere, put_sets};
 use mrp_participant::laws::{
     declarations_stay, receive_tells_each_change, registrations_stay, what_is_asked_holds,
 };
@@ -150,7 +150,7 @@ impl MvrpSide {
         let awaiting = await_everywhere(alloc, self.awaiting.as_slice(), [vid].as_slice())?;
         let own = own_after(&self.own, vid, declared)?;
         own.ascends();
-        self.awaiting = awaiting;
+        put_sets(&mut self.awaiting, awaiting);
         self.own = own;
         Ok(())
     }
@@ -176,7 +176,7 @@ impl MvrpSide {
     {
         each_key_awaits::<Vid>();
         let awaiting = await_elsewhere(alloc, self.awaiting.as_slice(), at, told)?;
-        self.awaiting = awaiting;
+        put_sets(&mut self.awaiting, awaiting);
         self.parts[at] = part;
         Ok(())
     }

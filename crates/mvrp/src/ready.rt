@@ -4,16 +4,15 @@
 ghost use Rattle.std.specs.Prelude.{◌≡◌, ◌<◌, ◌^◌, [], length, slice_get, slice_set, option_map, Some, None, IfOk, IfSome};
 ghost use Rattle.std.specs.Ordering.{nat_cmp};
 ghost use Rattle.mrp_participant.specs.State.{due_count};
-ghost use Rattle.attribute_propagation.specs.Ports.{marked_elsewhere};
 ghost use Rattle.mvrp.specs.Side.{IsKept, IsLinkPort, place_of, awaiting_at, due_vlans, settled_vlans, count_of};
-ghost use Rattle.mvrp.specs.Ready.{applied, parts_with, sets_with};
+ghost use Rattle.mvrp.specs.Ready.{applied, parts_with};
 
 use crate::app::MvrpApp;
 use crate::calls::{part_at, saturated};
 use crate::settling::settled;
 use crate::side::{MvrpSide, copied_awaiting};
 use attribute_propagation::laws::each_key_awaits;
-use attribute_propagation::{Dirty, await_elsewhere};
+use attribute_propagation::{Dirty, await_elsewhere, put_sets};
 use mrp_participant::Participant;
 use mrp_participant::laws::{
     declarations_stay, due_tells_each_change, registrations_stay, rows_stay_rows,
@@ -75,7 +74,7 @@ impl MvrpSide {
         let mut part = part.copy()?;
         let (count, left) = part.due(now)?;
         part.rows_ascend();
-        let awaiting = told_elsewhere(alloc, self.awaiting.as_slice(), at, left.as_slice())?;
+        let awaiting = await_elsewhere(alloc, self.awaiting.as_slice(), at, left.as_slice())?;
         Ok(Ready {
             at,
             part: Some(part),
@@ -144,23 +143,6 @@ fn set_at(sets: &[Dirty<Vid>], at: usize) -> &Dirty<Vid>
     &sets[at]
 }
 
-// What awaits once these VIDs do at every place but one; None where there is no VID.
-fn told_elsewhere(
-    alloc: Global,
-    sets: &[Dirty<Vid>],
-    at: usize,
-    told: &[Vid],
-) -> Result<Option<Vec<Dirty<Vid>>>, NoMemory>
-    ensures { IfOk result (λ o. sets_with (option_map (λ v. v.items) o) sets.now
-        ≡ marked_elsewhere nat_cmp at told.now sets.now) }
-{
-    if told.is_empty() {
-        return Ok(None);
-    }
-    let all = await_elsewhere(alloc, sets, at, told)?;
-    Ok(Some(all))
-}
-
 // What awaits once nothing does at a place.
 fn emptied(alloc: Global, sets: &[Dirty<Vid>], at: usize) -> Result<Vec<Dirty<Vid>>, NoMemory>
     requires { at < length sets.now }
@@ -186,14 +168,5 @@ fn set_part(parts: &mut Vec<Participant<MvrpApp>>, at: usize, part: Participant<
 {
     if at < parts.len() {
         parts[at] = part;
-    }
-}
-
-// All sets are replaced, or none.
-fn put_sets(sets: &mut Vec<Dirty<Vid>>, new: Option<Vec<Dirty<Vid>>>)
-    ensures { sets.new.items ≡ sets_with (option_map (λ v. v.items) new) sets.old.items }
-{
-    if let Some(new) = new {
-        *sets = new;
     }
 }

@@ -1,8 +1,13 @@
-use Rattle.std.proofs.Common.{◌≡◌, ◌∙◌, ℕ, suc, List, [], ◌∷◌, ◌++◌, take, drop, Option, sym, ap, rules, append_assoc}
+use Rattle.std.proofs.Common.{rules, ◌≡◌, ◌∙◌, ℕ, suc, List, [], ◌∷◌, ◌++◌, map, take, drop, if◌then◌else◌, sym, ap, append_assoc}
+use Rattle.std.specs.Prelude.{Option, Some, None}
 use Rattle.std.specs.List.{filter_map}
+use Rattle.std.proofs.lemmas.List.{drop-map, take-map}
 use Rattle.std.proofs.lemmas.List.Elements.{filter_map-append}
+use Rattle.srp_base.specs.declared.streams.TalkerReg.{TalkerReg}
+use Rattle.srp_base.specs.declared.streams.ListenerKind.TheVariants.{Ready}
 use Rattle.msrp_listener.specs.declared.port_listener.PortListener.{PortListener}
-use Rattle.msrp.specs.Stream.{own_listener, registrations_of}
+use Rattle.msrp.specs.declared.port.Port.{Port}
+use Rattle.msrp.specs.Stream.{is_advertised, is_listened, listener_row, own_listener, registrations_of}
 use Rattle.msrp.proofs.stream.other_listeners.Goals as goal
 
 abbrev there : List (Option PortListener) → List PortListener
@@ -19,12 +24,15 @@ joined own rows at a b c d ea eb ec ed =
     ∙ sym (filter_map-append (λ (row : Option PortListener). row) (own ∷ []) (take at rows ++ drop (suc at) rows)))))
 
 pub returns : goal.returns
-returns c =
-    let own = c.own_listener-own.result in
-    let rows = c.in_ok-rows.rows.items in
-    let b : c.push_rows.new.out.items ≡ c.new-others.result.items ++ there (own ∷ []) = search rules in
-    let d : c.push_rows-2.new.out.items ≡ c.push_rows.new.out.items ++ there (take c.args.at rows) = search rules in
-    let e : c.push_rows-3.new.out.items ≡ c.push_rows-2.new.out.items ++ there (drop (suc c.args.at) rows) = search rules in
-    joined own rows c.args.at c.new-others.result.items c.push_rows.new.out.items c.push_rows-2.new.out.items c.push_rows-3.new.out.items c.new-others.ensures.items b d e
-    ∙ (ap (λ x. there (x ∷ (take c.args.at rows ++ drop (suc c.args.at) rows))) c.own_listener-own.ensures
-    ∙ ap (λ xs. there (own_listener (registrations_of c.args.talks.now c.args.listens.now c.args.ports.now c.args.stream) ∷ (take c.args.at xs ++ drop (suc c.args.at) xs))) c.in_ok-rows.ensures)
+returns c talks e =
+    let rows : List (Option PortListener) = map (listener_row c.args.stream) c.args.ports.now in
+    let own = c.own_listener.result in
+    let a : c.in_ok-others.others.items ≡ [] = c.in_ok-others.ensures.items in
+    let b : c.push_row.new.out.items ≡ c.in_ok-others.others.items ++ there (own ∷ []) = search rules in
+    let front : c.push_rows.new.out.items ≡ c.push_row.new.out.items ++ there (map (listener_row c.args.stream) (take c.args.at c.args.ports.now)) = search rules in
+    let back : c.push_rows-2.new.out.items ≡ c.push_rows.new.out.items ++ there (map (listener_row c.args.stream) (drop (suc c.args.at) c.args.ports.now)) = search rules in
+    joined own rows c.args.at c.in_ok-others.others.items c.push_row.new.out.items c.push_rows.new.out.items c.push_rows-2.new.out.items a b
+    (front ∙ ap (λ xs. c.push_row.new.out.items ++ there xs) (sym (take-map (listener_row c.args.stream) c.args.at c.args.ports.now)))
+    (back ∙ ap (λ xs. c.push_rows.new.out.items ++ there xs) (sym (drop-map (listener_row c.args.stream) (suc c.args.at) c.args.ports.now)))
+    ∙ ap (λ x. there (x ∷ (take c.args.at rows ++ drop (suc c.args.at) rows)))
+    (c.own_listener.ensures ∙ ap (λ (reg : TalkerReg). if is_listened c.args.stream c.args.listens.now then Some (record { kind = Ready; booked = is_advertised reg }) else None) e)

@@ -1,36 +1,27 @@
-use Rattle.std.proofs.Common.{◌≡◌, ◌-◌, ◌∙◌, ℕ, ap, sym}
+use Rattle.std.proofs.Common.{◌≡◌, ◌-◌, ◌∙◌, false, ap, sym}
 use Rattle.std.specs.Prelude.{slice_get, Some}
-use Rattle.mrp_participant.specs.Lookup.{find}
-use Rattle.mrp_participant.specs.State.{due_state, left_keys, is_periodic_due}
-use Rattle.msrp.specs.declared.port.Port.{Port}
-use Rattle.msrp.specs.Part.{Part, key_cmp}
-use Rattle.msrp.specs.Side.{Streams, due_streams}
-use Rattle.msrp.proofs.Contents.{own-due}
-use Rattle.msrp.proofs.Keeping.{at_put, port_kept}
+use Rattle.mrp_participant.specs.State.{due_count, is_any_due}
+use Rattle.msrp.specs.Side.{Streams, count_of, place_of}
+use Rattle.msrp.proofs.Idle.{count-none, none-due}
+use Rattle.msrp.proofs.Places.{some_is}
 use Rattle.msrp.proofs.side.MsrpSide.due.Goals as goal
-use Rattle.msrp.proofs.side.MsrpSide.due.Goals.{After-as_slice-2}
+use Rattle.msrp.proofs.side.MsrpSide.due.Goals.{Then-not-any_due}
 
--- the port that was copied is the one at the place
-here : (c : After-as_slice-2) → slice_get c.args.self.now.ports (c.from-at.result - 1) ≡ Some c.port_at.result.now
+-- the port that was looked at is the one of the port's number
+here : (c : Then-not-any_due) → slice_get c.args.self.now.ports (place_of c.args.port) ≡ Some c.port_at.result.now
 here c =
-    ap (λ (v : Streams). slice_get v.ports (c.from-at.result - 1)) (sym c.self.view_is)
-    ∙ (ap (λ xs. slice_get xs (c.from-at.result - 1)) (sym c.as_slice.ensures.value) ∙ c.port_at.ensures)
+    ap (λ (v : Streams). slice_get v.ports (place_of c.args.port)) (sym c.self.view_is)
+    ∙ (ap (λ xs. slice_get xs (place_of c.args.port)) (sym c.as_slice.ensures.value)
+    ∙ (ap (λ n. slice_get c.as_slice.result.now (n - 1)) (sym c.from-at.ensures) ∙ c.port_at.ensures))
 
-pub put-requires-clause-contents : goal.put-requires-clause-contents
-put-requires-clause-contents c =
-    let p : Port = c.port_at.result.now in
-    let port = port_kept c.args.self.now c.keeps.ensures (c.from-at.result - 1) p (here c) in
-    own-due p.part _ c.args.now.0 (is_periodic_due c.args.now p.part) port.contents
-    (λ k. ap (λ (t : Part). find key_cmp k t.rows) (c.in_ok-fired.ensures.after ∙ ap (due_state c.args.now) c.in_ok-part.ensures)
-    ∙ c.each_key_after_due.ensures p.part c.args.now port.rows k)
+none : (c : Then-not-any_due) → is_any_due c.args.now c.port_at.result.now.part ≡ false
+none c = sym c.any_due.ensures ∙ c.if-not-any_due.true
 
-pub returns-clause-after : goal.returns-clause-after
-returns-clause-after c =
-    let p : Port = c.port_at.result.now in
-    let found : slice_get c.args.self.now.ports (c.from-at.result - 1) ≡ Some p =
-    ap (λ (v : Streams). slice_get v.ports (c.from-at.result - 1)) (sym c.self.view_is)
-    ∙ (ap (λ xs. slice_get xs (c.from-at.result - 1)) (sym c.as_slice.ensures.value) ∙ c.port_at.ensures) in
-    at_put c.args.self.now c.put.new.self (c.from-at.result - 1) p _ _ (due_state c.args.now) (left_keys c.args.now) found c.in_ok-put.ensures.ok
-    (c.in_ok-fired.ensures.after ∙ ap (due_state c.args.now) c.in_ok-part.ensures)
-    (c.as_slice-2.ensures ∙ (c.in_ok-fired.ensures.keys ∙ ap (left_keys c.args.now) c.in_ok-part.ensures))
-    ∙ ap (λ (n : ℕ). due_streams c.args.now (n - 1) c.args.self.now) c.from-at.ensures
+pub returns-then-not-any_due-clause-after : goal.returns-then-not-any_due-clause-after
+returns-then-not-any_due-clause-after c =
+    sym (none-due c.args.self.now (place_of c.args.port) c.port_at.result.now (here c) c.args.now (none c))
+
+pub returns-then-not-any_due-clause-count : goal.returns-then-not-any_due-clause-count
+returns-then-not-any_due-clause-count c =
+    some_is (λ p. 0 ≡ count_of (due_count c.args.now p.part)) _ c.port_at.result.now (here c)
+    (ap count_of (sym (count-none c.args.now c.port_at.result.now.part (none c))))

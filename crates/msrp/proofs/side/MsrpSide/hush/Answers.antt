@@ -4,7 +4,7 @@ use Rattle.msrp.specs.Side.{talks_without}
 use Rattle.msrp.proofs.OtherStreams.{talks_other}
 use Rattle.msrp.proofs.side.MsrpSide.hush.Goals as goal
 
-pub reask-requires-clause-talks : goal.reask-requires-clause-talks
-reask-requires-clause-talks c s e =
+pub put_talks-requires : goal.put_talks-requires
+put_talks-requires c s e =
     let is : c.in_ok-talks.talks.items ≡ talks_without c.args.stream c.args.self.now.talks = search rules in
     ap (talk_of s) is ∙ talks_other c.args.stream s c.args.self.now.talks e

@@ -1,90 +1,17 @@
-use Rattle.std.proofs.Common.{rules, ◌≡◌, ◌-◌, ◌<◌, ◌∙◌, ℕ, List, length, ap, sym, arith}
-use Rattle.std.specs.Prelude.{slice_get, slice_set, IfSome}
-use Rattle.attribute_propagation.specs.Ports.{marked_elsewhere}
-use Rattle.msrp_codec.specs.declared.pdu.MsrpKey.{MsrpKey}
-use Rattle.msrp.specs.declared.port.Port.{Port}
-use Rattle.msrp.specs.Part.{key_cmp}
-use Rattle.msrp.specs.Settling.{listener_keys, moved_streams, next_book, settled_port, talker_keys}
-use Rattle.msrp.specs.Side.{Streams, awaiting_at, count_of, seen_by, settled_streams}
-use Rattle.msrp.proofs.Ledgers.{BookLaws}
-use Rattle.msrp.proofs.Participants.{PartLaws}
-use Rattle.msrp.proofs.Settled.{HasSettled, MoveLaws, awaiting_is, marked_length, settle_is}
+use Rattle.std.proofs.Common.{◌≡◌, ◌-◌, ◌∙◌, [], length, ap, sym}
+use Rattle.std.specs.Prelude.{slice_get, Some}
+use Rattle.std.proofs.lemmas.Bool.{eqb-true}
+use Rattle.std.proofs.lemmas.List.{nil_from_length}
+use Rattle.msrp.specs.Side.{Streams, place_of}
+use Rattle.msrp.proofs.Idle.{none-awaits}
 use Rattle.msrp.proofs.side.MsrpSide.settle.Goals as goal
-use Rattle.msrp.proofs.side.MsrpSide.settle.Goals.{After-drop-told-2}
 
--- the side as it was, and the place of the port in it
-abbrev before : After-drop-told-2 → Streams
-before c = record { ports = c.self.inside.ports.items; awaiting = c.self.inside.awaiting.items; talks = c.self.inside.talks.items; listens = c.self.inside.listens.items; moment = c.self.inside.moment.0 }
-
-below : (c : After-drop-told-2) → c.from-at.result - 1 < length (before c).ports
-below c = omega (arith, c.from-at.ensures, c.requires.port.some, c.requires.port.within, ap (λ (v : Streams). length v.ports) c.self.view_is)
-
-parts : After-drop-told-2 → PartLaws
-parts c =
-    record {
-      declare_rows = c.rows_stay_rows.ensures.declare;
-      withdraw_rows = c.rows_stay_rows.ensures.withdraw;
-      declare_asked = c.what_is_asked_holds.ensures.declare;
-      withdraw_asked = c.what_is_asked_holds.ensures.withdraw;
-      declare_stays = c.registrations_stay.ensures.declare;
-      withdraw_stays = c.registrations_stay.ensures.withdraw;
-      declare_only = c.one_key_changes.ensures.declare;
-      withdraw_only = c.one_key_changes.ensures.withdraw;
-    }
-
-books : After-drop-told-2 → BookLaws
-books c =
-    record {
-      wanted_kept = c.every_step_keeps_a_book.ensures.wanted;
-      unwanted_kept = c.every_step_keeps_a_book.ensures.unwanted;
-      wanted = c.other_wants_stay.ensures.wanted;
-      unwanted = c.other_wants_stay.ensures.unwanted;
-    }
-
-moves : After-drop-told-2 → MoveLaws
-moves c =
-    record {
-      empty = c.nothing_changed_where_both_lists_are_empty.ensures.empty;
-      fits = c.fits_stay.ensures.booked;
-      unmoved = c.what_has_not_moved_is_booked_as_before.ensures;
-    }
-
-sets : (c : After-drop-told-2) → c.in_ok-awaiting.awaiting.items ≡ marked_elsewhere key_cmp (c.from-at.result - 1) c.in_ok-port.told.items (before c).awaiting
-sets c = search rules
-
-next : (c : After-drop-told-2) → IfSome (slice_get (before c).ports (c.from-at.result - 1)) (λ (p : Port). c.in_ok-port.port ≡ settled_port (c.from-at.result - 1) (seen_by (before c)) (talker_keys (before c).talks (before c).ports) c.index.result.now p)
-next c = rw (c.as_slice.ensures.value, c.as_slice-2.ensures.value, c.as_slice-3.ensures.value) at c.in_ok-port.ensures.port
-
-told : (c : After-drop-told-2) → IfSome (slice_get (before c).ports (c.from-at.result - 1)) (λ (p : Port). c.in_ok-port.told.items ≡ listener_keys (moved_streams p.ledger (next_book (c.from-at.result - 1) (seen_by (before c)) c.index.result.now p)))
-told c = rw (c.as_slice.ensures.value, c.as_slice-2.ensures.value, c.as_slice-3.ensures.value) at c.in_ok-port.ensures.told
-
-done : (c : After-drop-told-2) → HasSettled (before c) (c.from-at.result - 1) c.in_ok-port.port c.in_ok-awaiting.awaiting.items
-done c =
-    settle_is (parts c) (books c) (moves c) c.each_key_awaits.ensures.all_marked c.each_key_awaits-2.ensures.all_marked c.a_place_for_each_key.ensures.registered
-    (before c) c.self.invariant (c.from-at.result - 1) (below c) c.index.result.now c.index.ensures c.in_ok-port.port c.in_ok-port.told.items c.in_ok-awaiting.awaiting.items (next c) (told c) (sets c)
-
-pub index_mut-requires : goal.index_mut-requires
-index_mut-requires c =
-    let count : length c.in_ok-awaiting.awaiting.items ≡ length c.self.inside.awaiting.items =
-    let is : c.in_ok-awaiting.awaiting.items ≡ marked_elsewhere key_cmp (c.from-at.result - 1) c.in_ok-port.told.items c.self.inside.awaiting.items = search rules in
-    ap (λ (xs : List (List MsrpKey)). length xs) is ∙ marked_length c.in_ok-port.told.items c.self.inside.awaiting.items 0 (c.from-at.result - 1) in
-    let same = c.self.invariant.sets in
-    omega (arith, count, same, c.from-at.ensures, c.requires.port.some, c.requires.port.within, ap (λ (v : Streams). length v.ports) c.self.view_is)
-
-pub invariant_of-self : goal.invariant_of-self
-invariant_of-self c = rw c.new.ensures (done c).kept
-
-pub returns-clause-after : goal.returns-clause-after
-returns-clause-after c =
-    ap (λ (none : List MsrpKey). record { ports = slice_set (before c).ports (c.from-at.result - 1) c.in_ok-port.port; awaiting = slice_set c.in_ok-awaiting.awaiting.items (c.from-at.result - 1) none; talks = (before c).talks; listens = (before c).listens; moment = (before c).moment }) c.new.ensures
-    ∙ ((done c).is
-    ∙ (ap (λ (v : Streams). settled_streams (c.from-at.result - 1) v) c.self.view_is
-    ∙ ap (λ (n : ℕ). settled_streams (n - 1) c.args.self.now) c.from-at.ensures))
-
-pub returns-clause-count : goal.returns-clause-count
-returns-clause-count c =
-    c.saturated-count.ensures
-    ∙ ap count_of (c.len.ensures
-    ∙ ap length (sym (awaiting_is (before c) c.self.invariant (c.from-at.result - 1) (below c) c.index-2.result.now c.index-2.ensures)
-    ∙ (ap (λ (v : Streams). awaiting_at (c.from-at.result - 1) v) c.self.view_is
-    ∙ ap (λ (n : ℕ). awaiting_at (n - 1) c.args.self.now) c.from-at.ensures)))
+-- no key awaits at the port
+pub returns-then-is_empty-clause-after : goal.returns-then-is_empty-clause-after
+returns-then-is_empty-clause-after c =
+    let none : c.set_at.result.now ≡ [] = nil_from_length c.set_at.result.now (eqb-true (length c.set_at.result.now) 0 (sym c.is_empty.ensures ∙ c.if-is_empty.true)) in
+    let set : slice_get c.args.self.now.awaiting (place_of c.args.port) ≡ Some [] =
+    ap (λ (v : Streams). slice_get v.awaiting (place_of c.args.port)) (sym c.self.view_is)
+    ∙ (ap (λ xs. slice_get xs (place_of c.args.port)) (sym c.as_slice.ensures.value)
+    ∙ (ap (λ n. slice_get c.as_slice.result.now (n - 1)) (sym c.from-at.ensures) ∙ (c.set_at.ensures ∙ ap Some none))) in
+    sym (none-awaits c.nothing_changed_where_both_lists_are_empty.ensures.empty c.args.self.now c.keeps.ensures (place_of c.args.port) set)

@@ -4,7 +4,7 @@ use Rattle.msrp.specs.Side.{listens_without}
 use Rattle.msrp.proofs.OtherStreams.{listens_other}
 use Rattle.msrp.proofs.side.MsrpSide.unlisten.Goals as goal
 
-pub reask-requires-clause-listens : goal.reask-requires-clause-listens
-reask-requires-clause-listens c s e =
+pub put_listens-requires : goal.put_listens-requires
+put_listens-requires c s e =
     let is : c.in_ok-listens.listens.items ≡ listens_without c.args.stream c.args.self.now.listens = search rules in
     ap (is_listened s) is ∙ listens_other c.args.stream s c.args.self.now.listens e

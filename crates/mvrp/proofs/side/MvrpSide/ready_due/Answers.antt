@@ -2,10 +2,10 @@ use Rattle.std.proofs.Common.{rules, ◌≡◌, ◌-◌, ◌<◌, ◌∙◌, len
 use Rattle.std.specs.Prelude.{slice_get, option_map, Some}
 use Rattle.std.specs.Ordering.{nat_cmp}
 use Rattle.mrp_participant.specs.State.{AreRows, declared_at, due_state, due_count, left_keys, is_any_due}
-use Rattle.attribute_propagation.specs.Ports.{marked_elsewhere}
+use Rattle.attribute_propagation.specs.Ports.{marked_elsewhere, sets_with}
 use Rattle.mvrp.specs.Part.{Part}
 use Rattle.mvrp.specs.Side.{Vlans, SameDeclared, TellsEach, place_of, count_of}
-use Rattle.mvrp.specs.Ready.{applied, sets_with}
+use Rattle.mvrp.specs.Ready.{applied}
 use Rattle.mvrp.proofs.Places.{each-get}
 use Rattle.mvrp.proofs.Keeping.{one_some, some_is, tells_as, kept-put}
 use Rattle.mvrp.proofs.ReadyLemmas.{none-due, count-none}

@@ -1,17 +1,19 @@
 use Rattle.std.proofs.Common.{rules, ◌≡◌, ◌-◌, ◌<◌, ◌∙◌, [], ℕ, length, ap, sym, subst, arith}
 use Rattle.std.specs.Prelude.{slice_get, slice_set, IfSome, Some}
+use Rattle.std.proofs.lemmas.Bool.{eqb-true}
+use Rattle.std.proofs.lemmas.List.{nil_from_length}
 use Rattle.mvrp.specs.Part.{settled_part}
 use Rattle.mvrp.specs.Side.{Vlans, place_of, rule_at, settled_vlans}
 use Rattle.mvrp.specs.Ready.{applied}
 use Rattle.mvrp.proofs.SettlingLemmas.{Laws, HasSettled, settle_is}
-use Rattle.mvrp.proofs.ReadyLemmas.{none-in, none-awaits}
+use Rattle.mvrp.proofs.ReadyLemmas.{none-awaits}
 use Rattle.mvrp.proofs.side.MvrpSide.ready_settle.Goals as goal
 use Rattle.mvrp.proofs.side.MvrpSide.ready_settle.Goals.{After-nothing, After-saturated}
 
 -- no VID awaits at the port
 pub returns-then-is_empty-clause-after : goal.returns-then-is_empty-clause-after
 returns-then-is_empty-clause-after c =
-    let none : c.set_at-vids.result.now ≡ [] = none-in c.set_at-vids.result.now (sym c.is_empty.ensures ∙ c.if-is_empty.true) in
+    let none : c.set_at-vids.result.now ≡ [] = nil_from_length c.set_at-vids.result.now (eqb-true (length c.set_at-vids.result.now) 0 (sym c.is_empty.ensures ∙ c.if-is_empty.true)) in
     let set : slice_get c.args.self.now.awaiting (place_of c.args.port) ≡ Some [] =
     ap (λ (v : Vlans). slice_get v.awaiting (place_of c.args.port)) (sym c.self.view_is)
     ∙ (ap (λ xs. slice_get xs (place_of c.args.port)) (sym c.as_slice.ensures.value)

@@ -1,6 +1,6 @@
 use Rattle.std.proofs.Common.{◌≡◌, ◌++◌, drop}
 use Rattle.attribute_propagation.specs.Ports.{marked_from}
-use Rattle.attribute_propagation.proofs.ports.await_elsewhere.Given as goal
+use Rattle.attribute_propagation.proofs.ports.marked_elsewhere.Given as goal
 
 -- the sets so far, and what the sets that are left become, are what all become
 abbrev pub invariant-loop-place : goal.invariant-loop-place

@@ -1,0 +1,35 @@
+use Rattle.std.proofs.Common.{◌≡◌, ◌-◌, ◌∙◌, ℕ, ap, sym}
+use Rattle.std.specs.Prelude.{slice_get, Some}
+use Rattle.mrp_participant.specs.Lookup.{find}
+use Rattle.mrp_participant.specs.State.{due_state, left_keys, is_periodic_due}
+use Rattle.msrp.specs.declared.port.Port.{Port}
+use Rattle.msrp.specs.Part.{Part, key_cmp}
+use Rattle.msrp.specs.Side.{Streams, due_streams}
+use Rattle.msrp.proofs.Contents.{own-due}
+use Rattle.msrp.proofs.Keeping.{at_put, port_kept}
+use Rattle.msrp.proofs.side.MsrpSide.fire.Goals as goal
+use Rattle.msrp.proofs.side.MsrpSide.fire.Goals.{After-as_slice-2}
+
+-- the port that was copied is the one at the place
+here : (c : After-as_slice-2) → slice_get c.args.self.now.ports c.args.at ≡ Some c.port_at.result.now
+here c =
+    ap (λ (v : Streams). slice_get v.ports c.args.at) (sym c.self.view_is)
+    ∙ (ap (λ xs. slice_get xs c.args.at) (sym c.as_slice.ensures.value) ∙ c.port_at.ensures)
+
+pub put-requires-clause-contents : goal.put-requires-clause-contents
+put-requires-clause-contents c =
+    let p : Port = c.port_at.result.now in
+    let port = port_kept c.args.self.now c.keeps.ensures c.args.at p (here c) in
+    own-due p.part _ c.args.now.0 (is_periodic_due c.args.now p.part) port.contents
+    (λ k. ap (λ (t : Part). find key_cmp k t.rows) (c.in_ok-fired.ensures.after ∙ ap (due_state c.args.now) c.in_ok-part.ensures)
+    ∙ c.each_key_after_due.ensures p.part c.args.now port.rows k)
+
+pub returns-clause-after : goal.returns-clause-after
+returns-clause-after c =
+    let p : Port = c.port_at.result.now in
+    let found : slice_get c.args.self.now.ports c.args.at ≡ Some p =
+    ap (λ (v : Streams). slice_get v.ports c.args.at) (sym c.self.view_is)
+    ∙ (ap (λ xs. slice_get xs c.args.at) (sym c.as_slice.ensures.value) ∙ c.port_at.ensures) in
+    at_put c.args.self.now c.put.new.self c.args.at p _ _ (due_state c.args.now) (left_keys c.args.now) found c.in_ok-put.ensures.ok
+    (c.in_ok-fired.ensures.after ∙ ap (due_state c.args.now) c.in_ok-part.ensures)
+    (c.as_slice-2.ensures ∙ (c.in_ok-fired.ensures.keys ∙ ap (left_keys c.args.now) c.in_ok-part.ensures))

@@ -1,9 +1,0 @@
-use Rattle.node_core.proofs.Registered.{next_place}
-use Rattle.node_core.specs.declared.types.NodeKey.TheVariants.{Srp}
-use Rattle.std.proofs.Common.{arith}
-use Rattle.node_core.proofs.node.push_srp_keys.Goals as goal
-
-pub loop-i-preserved : goal.loop-i-preserved
-loop-i-preserved c =
-    next_place Srp c.args.part.now.rows c.loop-i.i _ _ _ (omega (arith, c.loop-i-test.true, c.rows-i-end.ensures))
-    c.in_ok-push_srp_key.ensures c.loop-i.invariant
