@@ -1,18 +1,19 @@
 -- The timeline of the run so far, and one tick more.
-use Rattle.std.proofs.Common.{◌≡◌, ℕ, suc, ◌+◌, ◌<◌, ◌≤◌, ◌⊎◌, inl, inr, List, [], ◌∷◌, ◌++◌, length, map, refl, sym, ap, subst, ◌∙◌, arith}
+use Rattle.std.proofs.Common.{◌≡◌, ℕ, suc, ◌+◌, ◌<◌, ◌≤◌, false, List, [], ◌∷◌, ◌++◌, length, map, refl, sym, ap, subst, ◌∙◌, arith}
 use Rattle.std.proofs.lemmas.List.{length_push}
 use Rattle.srp_base.specs.declared.numbers.EgressPort.{EgressPort}
 use Rattle.srp_base.specs.declared.ports.PortChange.{PortChange}
 use Rattle.tree_topology.specs.Topology.{Topology, HasPort}
 use Rattle.topology_file.specs.Plan.{Plan}
 use Rattle.world_core.specs.declared.events.WorldEvent.{WorldEvent}
+use Rattle.world_core.specs.declared.journal.NodeSteps.{NodeSteps}
 use Rattle.world_core.specs.declared.journal.Tick.{Tick}
 use Rattle.world_core.specs.World.{WorldState, world_after}
 use Rattle.world_core.specs.Start.{world_of}
-use Rattle.world_core.specs.Ticks.{scripted, step_events, after_script, after_steps, closing_events, tick_events}
+use Rattle.world_core.specs.Ticks.{scripted, step_events, after_script, after_steps, closing_events, tick_events, IsLegalTick}
 use Rattle.world_core.specs.During.{IsDuring}
 use Rattle.world_core.specs.Timeline.{force_at, noted, AreChanges, Says, SaysFrom, world_after_ticks, IsTimelineOf}
-use Rattle.srp_schedule.specs.Noted.{IsNoted}
+use Rattle.world_core.specs.History.{has_acted, acts_noted}
 use Rattle.srp_schedule.proofs.StepLemmas.{after_append}
 use Rattle.srp_schedule.proofs.TickLemmas.{IsRunTo, no_tick}
 
@@ -20,13 +21,15 @@ use Rattle.srp_schedule.proofs.TickLemmas.{IsRunTo, no_tick}
 pub record TimelineLaws : Type 0 where
   pub goes_on : (plan : Plan) (ticks : List Tick) (tick : Tick) (changes : List PortChange) (w : WorldState) → IsTimelineOf plan ticks changes
       → w ≡ after_steps plan (length ticks) tick (world_after_ticks plan ticks) → w.tree ≡ plan.tree → IsTimelineOf plan (ticks ++ tick ∷ []) (noted (length ticks) w changes)
-  pub same : (plan : Plan) (ticks : List Tick) (tick : Tick) (changes : List PortChange) (w : WorldState) → IsTimelineOf plan ticks changes
-      → w ≡ after_steps plan (length ticks) tick (world_after_ticks plan ticks) → w.tree ≡ plan.tree → SaysFrom (length ticks) changes w → IsTimelineOf plan (ticks ++ tick ∷ []) changes
   pub next : (plan : Plan) (ticks : List Tick) (tick : Tick)
       → world_after_ticks plan (ticks ++ tick ∷ []) ≡ world_after (closing_events plan.tree) (after_steps plan (length ticks) tick (world_after_ticks plan ticks))
   pub from : (tick : ℕ) (w : WorldState) (changes : List PortChange) → AreChanges w.tree tick changes → SaysFrom tick (noted tick w changes) w
   pub closing : (tree : Topology) (w : WorldState) (p : EgressPort) → force_at p (world_after (closing_events tree) w) ≡ force_at p w
   pub trees : (es : List WorldEvent) (w : WorldState) → (world_after es w).tree ≡ w.tree
+  pub quiet : (plan : Plan) (t : ℕ) (w : WorldState) (tick : Tick) (p : EgressPort) → IsLegalTick plan t w tick → HasPort plan.tree p → has_acted p.node tick.steps ≡ false
+      → force_at p (after_steps plan t tick w) ≡ force_at p w
+  pub all : (tick : ℕ) (steps : List NodeSteps) (w : WorldState) (changes : List PortChange)
+      → ((p : EgressPort) → HasPort w.tree p → has_acted p.node steps ≡ false → Says tick changes p (force_at p w)) → acts_noted tick steps w changes ≡ noted tick w changes
 
 -- the ticks before tick t have their timeline, which says what is in force now
 pub record IsNotedTo (plan : Plan) (t : ℕ) (made : List Tick) (w : WorldState) (i : ℕ) (changes : List PortChange) : Type 0 where
@@ -43,7 +46,7 @@ pub none_noted : (plan : Plan) → IsDuring plan.tree 0 (world_of plan) → IsTi
 none_noted plan during timeline says = record { run = no_tick plan during; many = refl; reached = refl; timeline = timeline; says = says }
 
 module _ (laws : TimelineLaws) (plan : Plan) (t : ℕ) (ticks : List Tick) (w v : WorldState) (cursor next : ℕ) (tick : Tick) (changes after : List PortChange) (before : IsNotedTo plan t ticks w cursor changes)
-    (made : v ≡ world_after (tick_events plan t tick) w) (is : IsNoted plan t w tick changes after) where
+    (legal : IsLegalTick plan t w tick) (made : v ≡ world_after (tick_events plan t tick) w) (is : after ≡ acts_noted t tick.steps (after_steps plan t tick w) changes) where
   abbrev u : WorldState
   u = after_steps plan t tick w
 
@@ -68,21 +71,13 @@ module _ (laws : TimelineLaws) (plan : Plan) (t : ℕ) (ticks : List Tick) (w v 
   are : AreChanges u.tree t changes
   are = subst (λ (r : Topology). AreChanges r t changes) (sym u_tree) (changes_are plan t ticks w cursor changes before)
 
-  both : IsTimelineOf plan (ticks ++ tick ∷ []) after × SaysFrom (t + 1) after v
-  both =
-      elim is [
-        | inl e ↦ (
-          subst (λ (cs : List PortChange). IsTimelineOf plan (ticks ++ tick ∷ []) cs) (ap (λ (k : ℕ). noted k u changes) before.many ∙ sym e)
-              (laws.goes_on plan ticks tick changes u before.timeline u_reached u_tree),
-          subst (λ (cs : List PortChange). SaysFrom (t + 1) cs v) (sym e) (says_later (noted t u changes) (laws.from t u changes are)),
-        )
-        | inr h ↦ (
-            let here : SaysFrom t changes u = subst (SaysFrom t changes) (sym h.0) before.says in (
-              subst (λ (cs : List PortChange). IsTimelineOf plan (ticks ++ tick ∷ []) cs) (sym h.1)
-                  (laws.same plan ticks tick changes u before.timeline u_reached u_tree (subst (λ (k : ℕ). SaysFrom k changes u) (sym before.many) here)),
-              subst (λ (cs : List PortChange). SaysFrom (t + 1) cs v) (sym h.1) (says_later changes here),
-            ))
-      ]
+  -- the nodes that have acted are all that have anything to note
+  is_noted : after ≡ noted t u changes
+  is_noted =
+      is ∙ laws.all t tick.steps u changes
+      (λ p has none.
+      let here = subst (λ (r : Topology). HasPort r p) u_tree has in
+      before.says p (subst (λ (r : Topology). HasPort r p) (sym before.run.during.tree_is) here) t (omega arith) ∙ sym (laws.quiet plan t w tick p legal here none))
 
   pub one_noted : IsRunTo plan (t + 1) (ticks ++ tick ∷ []) v next → IsNotedTo plan (t + 1) (ticks ++ tick ∷ []) v next after
   one_noted run =
@@ -90,6 +85,7 @@ module _ (laws : TimelineLaws) (plan : Plan) (t : ℕ) (ticks : List Tick) (w v 
         run = run;
         many = length_push ticks tick ∙ ap (λ (k : ℕ). k + 1) before.many;
         reached = v_closes ∙ ap (λ (x : WorldState). world_after (closing_events plan.tree) x) u_reached ∙ sym (laws.next plan ticks tick);
-        timeline = both.0;
-        says = both.1;
+        timeline = subst (λ (cs : List PortChange). IsTimelineOf plan (ticks ++ tick ∷ []) cs) (ap (λ (k : ℕ). noted k u changes) before.many ∙ sym is_noted)
+            (laws.goes_on plan ticks tick changes u before.timeline u_reached u_tree);
+        says = subst (λ (cs : List PortChange). SaysFrom (t + 1) cs v) (sym is_noted) (says_later (noted t u changes) (laws.from t u changes are));
       }

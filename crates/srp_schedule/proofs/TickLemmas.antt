@@ -1,5 +1,5 @@
 -- One tick from its parts, and one tick more of a run.
-use Rattle.std.proofs.Common.{◌≡◌, ℕ, zero, suc, ◌+◌, ◌-◌, ◌<◌, ◌≤◌, ◌⊎◌, inl, inr, ◌^◌, List, [], ◌∷◌, ◌++◌, length, map, drop, get_or, refl, sym, ap, subst, ◌∙◌, arith}
+use Rattle.std.proofs.Common.{◌≡◌, ℕ, zero, suc, ◌+◌, ◌-◌, ◌<◌, ◌≤◌, ◌^◌, List, [], ◌∷◌, ◌++◌, length, map, drop, get_or, refl, sym, ap, subst, ◌∙◌, arith}
 use Rattle.std.specs.List.{AllByRecursion, flat_map}
 use Rattle.std.proofs.Math.Seq.{drop-cons}
 use Rattle.srp_base.specs.declared.numbers.EgressPort.{EgressPort}
@@ -20,9 +20,8 @@ use Rattle.world_core.specs.World.{WorldState, Happened, CanHappen, world_step, 
 use Rattle.world_core.specs.Start.{world_of}
 use Rattle.world_core.specs.Ticks.{scripted, after_script, after_steps, step_events, link_ports, tick_events, LeadTo, IsCanonicalTick}
 use Rattle.world_core.specs.During.{IsDuring, IsAllowed}
-use Rattle.world_core.specs.Timeline.{noted}
+use Rattle.world_core.specs.History.{HasPortsOf, acts_noted}
 use Rattle.srp_schedule.specs.Cursor.{IsCursor}
-use Rattle.srp_schedule.specs.Noted.{HasNoted, IsNoted}
 use Rattle.srp_schedule.specs.Script.{answered}
 use Rattle.srp_schedule.specs.Made.{AreSteps, carried_ends}
 use Rattle.srp_schedule.proofs.ScriptLemmas.{numbers_are, answers_are}
@@ -121,17 +120,6 @@ steps_allowed tree [] known = tt
 steps_allowed tree (ns ∷ nodes) known =
     each_append (IsAllowed tree) (map (λ st. Port ns.node st.port st.step) ns.steps) (step_events nodes) (made_allowed tree ns.node ns.steps known.0) (steps_allowed tree nodes known.1)
 
--- the lists of a tick are those that were noted
-pub noted_alike : (t : ℕ) (w : WorldState) (events : List (ℕ × WorldReply)) (steps : List NodeSteps) (tick : Tick) (before after : List PortChange) → tick.events ≡ events → tick.steps ≡ steps
-    → HasNoted t w events steps before after → HasNoted t w tick.events tick.steps before after
-noted_alike t w events steps tick before after e s (inl is) = inl is
-noted_alike t w events steps tick before after e s (inr h) = inr (e ∙ h.0, s ∙ h.1, h.2)
-
--- where nothing was answered nothing was to happen
-nothing_scripted : (script : List (ℕ × WorldEvent)) (w : WorldState) → answered script w ≡ [] → script ≡ []
-nothing_scripted [] w is = refl
-nothing_scripted (e ∷ script) w is = cc
-
 module _ (laws : DuringLaws) (plan : Plan) (rules : KeepsRules plan) (t : ℕ) (within : t < plan.ticks) (w : WorldState) (during : IsDuring plan.tree t w) where
   below : t < 2 ^ 61
   below = let few = rules.ticks.1 in omega (arith, within, few)
@@ -144,6 +132,10 @@ module _ (laws : DuringLaws) (plan : Plan) (rules : KeepsRules plan) (t : ℕ) (
       let here = scripted_stays w1 is in
       let allowed = subst (λ (tree : Topology). AllByRecursion (IsAllowed tree) (step_events steps)) here.tree_is (steps_allowed w1.tree steps made.known) in
       subst (IsDuring plan.tree t) (sym after) (laws.all_stay plan.tree t (step_events steps) w1 allowed here)
+
+  -- the tree has the ports of the steps
+  pub steps_known : (w1 : WorldState) (steps : List NodeSteps) → w1 ≡ after_script plan t w → AreSteps (length w1.tree.kinds) w1 steps → AllByRecursion (HasPortsOf plan.tree) steps
+  steps_known w1 steps is made = subst (λ (r : Topology). AllByRecursion (HasPortsOf r) steps) (scripted_stays w1 is).tree_is made.known
 
   pub carried_stays : (w1 w2 w3 : WorldState) (steps : List NodeSteps) → w1 ≡ after_script plan t w → AreSteps (length w1.tree.kinds) w1 steps → w2 ≡ world_after (step_events steps) w1
       → w3 ≡ world_after (map Carry (link_ports w2.tree)) w2 → IsDuring plan.tree t w3
@@ -177,18 +169,12 @@ module _ (laws : DuringLaws) (plan : Plan) (rules : KeepsRules plan) (t : ℕ) (
         last ∙ (ap (λ (u : WorldState). world_after (carries ++ (Clock ∷ [])) u) here ∙ sym (after_append (script ++ steps) (carries ++ (Clock ∷ [])) w))
 
     -- the network after the tick's steps, and the changes once it is noted
-    pub steps_reach : w2 ≡ after_steps plan t tick w
+    steps_reach : w2 ≡ after_steps plan t tick w
     steps_reach = made.stepped ∙ ap (λ (u : WorldState). world_after (step_events tick.steps) u) made.script
 
-    pub is_noted : (before after : List PortChange) → HasNoted t w2 tick.events tick.steps before after → IsNoted plan t w tick before after
-    is_noted before after (inl e) = inl (e ∙ ap (λ (u : WorldState). noted t u before) steps_reach)
-    is_noted before after (inr h) =
-        let script = nothing_scripted (scripted plan t) w (sym made.answers ∙ h.0) in
-        inr (
-          ap (λ (nodes : List NodeSteps). world_after (step_events nodes) (after_script plan t w)) h.1
-              ∙ ap (λ (es : List (ℕ × WorldEvent)). world_after (map (λ e. e.1) es) w) script,
-          h.2,
-        )
+    pub steps_noted : (steps : List NodeSteps) (before after : List PortChange) → tick.steps ≡ steps → after ≡ acts_noted t steps w2 before → after ≡ acts_noted t tick.steps (after_steps plan t tick w) before
+    steps_noted steps before after same is =
+        is ∙ ap (λ (nodes : List NodeSteps). acts_noted t nodes w2 before) (sym same) ∙ ap (λ (u : WorldState). acts_noted t tick.steps u before) steps_reach
 
     -- the tick is canonical
     pub canonical_tick : IsCanonicalTick plan t w tick

@@ -4,7 +4,7 @@
 //!   a tick      script   the file's events of this tick, in file order, from where the last tick stopped
 //!               steps    node by node: the jobs of its ports, as the script left the node,
 //!                          Work of port 1, of port 2, ..   Due of port 1, ..   Settle ..   Send ..
-//!               noting   what is in force at each port, entered in the timeline where it differs
+//!               noting   what is in force at each port of a node that did more than send, entered where it differs
 //!               carry    link by link, the PDUs of end a and then of end b
 //!               clock    every clock goes on by 1 cs
 //! ```
@@ -16,8 +16,9 @@
 //! A node's jobs may be asked for when its turn comes, after the steps of other nodes, since a step of a port changes its own
 //! node alone. The events of a file don't fall in their ticks, so a place in the list of events, `IsCursor` of
 //! `specs/Cursor.antt`, stands between those of earlier ticks and the others: no tick goes over all of them. A node that has
-//! nothing to do in a tick takes no memory, and a tick without events and steps isn't noted, since nothing that is in force has
-//! changed then.
+//! nothing to do in a tick takes no memory, and one that only sends isn't noted, since nothing that is in force at its ports has
+//! changed then; so the changes stand in a list for each port while the run goes on (`History` of world_core), and become one
+//! timeline at its end.
 //!
 //! A further kind of event is an arm of `world_event` (`src/script.rt`), a further kind of step a turn in `src/order.rt` with
 //! its place in `order_of` (`specs/Order.antt`).

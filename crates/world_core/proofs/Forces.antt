@@ -52,7 +52,7 @@ read_made f none g nothing (s ∷ ss) zero = nothing s
 read_made f none g nothing (s ∷ ss) (suc i) = read_made f none g nothing ss i
 
 -- of a list in which one element has become another that reads the same
-read_set : {X Y : Type 0} (f : X → Y) (none : Y) (xs : List X) (i j : ℕ) (x y : X) → slice_get xs i ≡ Some x → f y ≡ f x → option_map_or f (slice_get (slice_set xs i y) j) none ≡ option_map_or f (slice_get xs j) none
+pub read_set : {X Y : Type 0} (f : X → Y) (none : Y) (xs : List X) (i j : ℕ) (x y : X) → slice_get xs i ≡ Some x → f y ≡ f x → option_map_or f (slice_get (slice_set xs i y) j) none ≡ option_map_or f (slice_get xs j) none
 read_set f none [] i j x y is same = refl
 read_set f none (z ∷ xs) zero zero x y is same = same ∙ ap (λ o. option_map_or f o none) (sym is)
 read_set f none (z ∷ xs) zero (suc j) x y is same = refl
@@ -61,7 +61,7 @@ read_set f none (z ∷ xs) (suc i) (suc j) x y is same = read_set f none xs i j 
 
 -- ---- at a node
 
-same_force : (f g : Force) → f.booked ≡ g.booked → f.slope_a ≡ g.slope_a → f.slope_b ≡ g.slope_b → f.vids ≡ g.vids → f ≡ g
+pub same_force : (f g : Force) → f.booked ≡ g.booked → f.slope_a ≡ g.slope_a → f.slope_b ≡ g.slope_b → f.vids ≡ g.vids → f ≡ g
 same_force f g booked a b vids =
     ap (λ (x : List StreamId). record { booked = x; slope_a = f.slope_a; slope_b = f.slope_b; vids = f.vids }) booked
     ∙ ap (λ (x : ℕ). record { booked = g.booked; slope_a = x; slope_b = f.slope_b; vids = f.vids }) a
@@ -112,7 +112,7 @@ found_changed : (n : NodeNo) (change : NodeState → NodeState) (p : EgressPort)
 found_changed n change p same w None is = refl
 found_changed n change p same w (Some s) is = read_set (node_force (place_of p.port)) no_force w.nodes (n.0 - 1) (p.node.0 - 1) s (change s) is (same s)
 
-force_changed : (n : NodeNo) (change : NodeState → NodeState) (p : EgressPort) → ((s : NodeState) → node_force (place_of p.port) (change s) ≡ node_force (place_of p.port) s) → (w : WorldState)
+pub force_changed : (n : NodeNo) (change : NodeState → NodeState) (p : EgressPort) → ((s : NodeState) → node_force (place_of p.port) (change s) ≡ node_force (place_of p.port) s) → (w : WorldState)
     → force_at p (with_changed n change w) ≡ force_at p w
 force_changed n change p same w = found_changed n change p same w (node_at n w) refl
 

@@ -29,3 +29,5 @@ mod Forces
 mod Timelines
 mod Changes
 mod Places
+mod Acting
+mod Histories

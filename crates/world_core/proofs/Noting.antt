@@ -107,11 +107,11 @@ each_port_has tree =
 
 -- ---- what changes lack
 
-same_stream : (x y : StreamId) → ((x.0 == y.0) ≡ true → x ≡ y) × (x ≡ y → (x.0 == y.0) ≡ true)
+pub same_stream : (x y : StreamId) → ((x.0 == y.0) ≡ true → x ≡ y) × (x ≡ y → (x.0 == y.0) ≡ true)
 same_stream x y =
     (λ is. ap (λ (n : ℕ). record { 0 = n }) (eqb-true x.0 y.0 is), λ e. eq-eqb x.0 y.0 (ap (λ (s : StreamId). s.0) e))
 
-same_vid : (x y : ℕ) → ((x == y) ≡ true → x ≡ y) × (x ≡ y → (x == y) ≡ true)
+pub same_vid : (x y : ℕ) → ((x == y) ≡ true → x ≡ y) × (x ≡ y → (x == y) ≡ true)
 same_vid x y = (eqb-true x y, eq-eqb x y)
 
 pub same_is : (f g : Force) → is_same f g ≡ true → f ≡ g
@@ -261,7 +261,7 @@ range_pushed a (suc n) =
     ap (λ (ks : List ℕ). a ∷ ks) (range_pushed (a + 1) n)
     ∙ ap (λ (k : ℕ). (a ∷ range_with_len (a + 1) n) ++ k ∷ []) (let e : a + 1 + n ≡ a + suc n = omega arith in e)
 
-range_push : (a n : ℕ) → range_with_len a (n + 1) ≡ range_with_len a n ++ (a + n) ∷ []
+pub range_push : (a n : ℕ) → range_with_len a (n + 1) ≡ range_with_len a n ++ (a + n) ∷ []
 range_push a n = ap (range_with_len a) (let e : n + 1 ≡ suc n = omega arith in e) ∙ range_pushed a n
 
 flat_one : {X : Type 0} (f : X → List PortChange) (x : X) → flat_map f (x ∷ []) ≡ f x

@@ -236,7 +236,7 @@ others_at p q (c ∷ cs) lt =
           ap (λ (ds : List PortChange). changes_at ds q) stays ∙ ap (λ (ds : List PortChange). cond (is_port c.at q) (c ∷ ds) ds) (others_at p q cs lt))
     ]
 
-same_flat : {X Y : Type 0} (g h : X → List Y) (xs : List X) → AllByRecursion (λ x. g x ≡ h x) xs → flat_map g xs ≡ flat_map h xs
+pub same_flat : {X Y : Type 0} (g h : X → List Y) (xs : List X) → AllByRecursion (λ x. g x ≡ h x) xs → flat_map g xs ≡ flat_map h xs
 same_flat g h [] e = refl
 same_flat {X} {Y} g h (x ∷ xs) e = ap (λ (ys : List Y). ys ++ flat_map g xs) e.0 ∙ ap (λ (ys : List Y). h x ++ ys) (same_flat g h xs e.1)
 

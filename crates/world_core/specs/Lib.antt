@@ -10,3 +10,4 @@ pub mod Talks
 pub mod Force
 pub mod Merging
 pub mod Timeline
+pub mod History

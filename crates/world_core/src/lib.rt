@@ -13,7 +13,9 @@
 //! (`specs/Moments.antt`). What every network keeps by its type is `IsKeptWorld`: among it that on each link both ends meet
 //! their duty (`specs/Duty.antt`), in MVRP and in MSRP, so that it holds after every list of events, losses and repeats
 //! included. At each moment of a run no port has booked more than its link's entry allows (`specs/Limits.antt`), and the
-//! stations talk what the scenario has them talk (`specs/Talks.antt`).
+//! stations talk what the scenario has them talk (`specs/Talks.antt`). What is in force at each port after each tick's steps is
+//! the timeline of a run (`specs/Timeline.antt`): `World::note_tick` enters a tick by going over all ports, and a `History`
+//! (`specs/History.antt`) by going over those of the nodes that made a step other than Send.
 //!
 //! A further kind of event is a variant of `WorldEvent`, a line in `world_step` and `CanHappen`, an arm in `World::step`, and
 //! a lemma that it keeps the duties of any application (`proofs/EventSteps.antt`). A further application is a use of
@@ -23,6 +25,7 @@
 mod events;
 mod force;
 mod happen;
+mod history;
 mod journal;
 pub mod laws;
 mod merging;
@@ -35,6 +38,7 @@ pub mod timeline_laws;
 mod world;
 
 pub use events::{WorldEvent, WorldReply};
+pub use history::History;
 pub use journal::{Journal, NodeSteps, Run, Tick};
 pub use step::RunErr;
 pub use world::World;

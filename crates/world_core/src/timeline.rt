@@ -1,7 +1,8 @@
 //! The timeline: what is in force at each port, entered where it differs from what was.
 
-ghost use Rattle.std.specs.Prelude.{◌≡◌, ◌≤◌, ◌<◌, ◌++◌, ℕ, true, false, length, option_map, All, AllPairs, flat_map, IfOk, OnOk, OnErr};
+ghost use Rattle.std.specs.Prelude.{◌≡◌, ◌≤◌, ◌<◌, ◌++◌, ℕ, List, true, false, length, option_map, option_to_list, All, AllPairs, flat_map, IfOk, OnOk, OnErr};
 ghost use Rattle.std.specs.List.{AllWithin};
+ghost use Rattle.srp_base.specs.declared.ports.PortChange.{PortChange};
 ghost use Rattle.tree_topology.specs.Topology.{HasNode};
 ghost use Rattle.frame_flow.specs.Force.{changes_at, in_force};
 ghost use Rattle.frame_flow.specs.Copies.{ports_at};
@@ -96,13 +97,32 @@ fn add_of_port(
     ensures { OnOk result (fresh.new.items ≡ fresh.old.items
         ++ lacking tick at (node_force (place_of at.port) node.now) (changes_at changes.now at)) }
 {
+    if let Some(change) = lacking_change(alloc, node, at, tick, last_at(changes, at))? {
+        fresh.push_back(change)?;
+    }
+    Ok(())
+}
+
+/// The change that the changes of a node's port lack in a tick, if they do, by the last of them.
+pub(crate) fn lacking_change(
+    alloc: Global,
+    node: &Node,
+    at: EgressPort,
+    tick: u64,
+    last: Option<&PortChange>,
+) -> Result<Option<PortChange>, NoMemory>
+    requires { IsLinkPort at.port (ports_of node.now) }
+    ensures { IfOk result (λ o. (changes : List PortChange)
+        → option_map (λ c. c.now) last.entry ≡ in_force tick changes
+        → option_to_list o ≡ lacking tick at (node_force (place_of at.port) node.now) changes) }
+{
     node.keeps();
     let part = node.vlan_part(at.port);
     let ledger = node.ledger(at.port);
-    if !is_said(part, ledger, last_at(changes, at)) {
-        fresh.push_back(new_change(alloc, tick, at, part, ledger)?)?;
+    if is_said(part, ledger, last) {
+        return Ok(None);
     }
-    Ok(())
+    Ok(Some(new_change(alloc, tick, at, part, ledger)?))
 }
 
 // The last of the changes at a port: what is in force there in each tick after all of them.

@@ -1,7 +1,7 @@
 //! What noting a tick makes of a timeline, and what a timeline says of a run: laws over the states that contracts see. Each is a
 //! function that does nothing; calling it brings the law to a proof.
 
-ghost use Rattle.std.specs.Prelude.{◌≡◌, ◌<◌, ◌≤◌, ◌+◌, ◌++◌, ◌∷◌, [], ℕ, suc, List, length, map, All};
+ghost use Rattle.std.specs.Prelude.{◌≡◌, ◌<◌, ◌≤◌, ◌+◌, ◌++◌, ◌∷◌, [], ℕ, suc, false, List, length, map, All};
 ghost use Rattle.srp_base.specs.declared.numbers.EgressPort.{EgressPort};
 ghost use Rattle.srp_base.specs.declared.ports.PortChange.{PortChange};
 ghost use Rattle.tree_topology.specs.Topology.{Topology, HasPort};
@@ -10,13 +10,15 @@ ghost use Rattle.frame_flow.specs.Copies.{all_places};
 ghost use Rattle.frame_flow.specs.Given.{HasSlopesBelow};
 ghost use Rattle.topology_file.specs.Plan.{Plan};
 ghost use Rattle.topology_file.specs.Scenario.{KeepsRules};
+ghost use Rattle.world_core.specs.declared.journal.NodeSteps.{NodeSteps};
 ghost use Rattle.world_core.specs.declared.journal.Tick.{Tick};
 ghost use Rattle.world_core.specs.World.{WorldState, world_after};
 ghost use Rattle.world_core.specs.Start.{world_of};
-ghost use Rattle.world_core.specs.Ticks.{after_steps, closing_events, AreLegalTicks};
+ghost use Rattle.world_core.specs.Ticks.{after_steps, closing_events, IsLegalTick, AreLegalTicks};
 ghost use Rattle.world_core.specs.Moments.{IsMoment};
 ghost use Rattle.world_core.specs.Limits.{caps_at};
-ghost use Rattle.world_core.specs.Timeline.{force_at, noted, AreChanges, SaysFrom, world_after_ticks, IsAfterSteps, IsTimelineOf};
+ghost use Rattle.world_core.specs.Timeline.{force_at, noted, AreChanges, Says, SaysFrom, world_after_ticks, IsAfterSteps, IsTimelineOf};
+ghost use Rattle.world_core.specs.History.{has_acted, acts_noted};
 
 use crate::laws::every_moment_is_within_limits;
 
@@ -42,6 +44,22 @@ pub fn what_ends_a_tick_changes_nothing_in_force()
     ensures start { (plan : Plan) → SaysFrom 0 [] (world_of plan) }
     ensures closing { (tree : Topology) (w : WorldState) (p : EgressPort)
         → force_at p (world_after (closing_events tree) w) ≡ force_at p w }
+{}
+
+/// In a legal tick, what is in force at a port changes only where the port's node makes a step other than Send: requests, losses
+/// and repeats change nothing in force, a step is of its node alone, and what a node sends leaves its ledgers and what is
+/// registered of each VID.
+pub fn only_a_node_that_acts_changes_what_is_in_force()
+    ensures { (plan : Plan) (t : ℕ) (w : WorldState) (tick : Tick) (p : EgressPort) → IsLegalTick plan t w tick
+        → HasPort plan.tree p → has_acted p.node tick.steps ≡ false
+        → force_at p (after_steps plan t tick w) ≡ force_at p w }
+{}
+
+/// Noting the nodes that have acted in a tick notes the tick, where the changes say already what is in force at the others.
+pub fn noting_who_has_acted_notes_a_tick()
+    ensures { (tick : ℕ) (steps : List NodeSteps) (w : WorldState) (changes : List PortChange)
+        → ((p : EgressPort) → HasPort w.tree p → has_acted p.node steps ≡ false → Says tick changes p (force_at p w))
+        → acts_noted tick steps w changes ≡ noted tick w changes }
 {}
 
 /// A timeline begins with no change. It goes on by a tick: its changes and what is noted of the network after the tick's steps; or

@@ -1,14 +1,15 @@
 use Rattle.std.proofs.Common.{List, sym, subst, ◌∙◌}
-use Rattle.srp_base.specs.declared.ports.PortChange.{PortChange}
+use Rattle.std.specs.List.{AllByRecursion}
 use Rattle.tree_topology.specs.Topology.{Topology}
+use Rattle.world_core.specs.declared.journal.NodeSteps.{NodeSteps}
 use Rattle.world_core.specs.Timeline.{AreChanges}
-use Rattle.srp_schedule.proofs.TickLemmas.{tick_made, clock_can, canonical_tick, after_tick, begins_next, stepped_stays, is_noted, noted_alike}
+use Rattle.world_core.specs.History.{HasPortsOf}
+use Rattle.srp_schedule.proofs.TickLemmas.{tick_made, clock_can, canonical_tick, after_tick, begins_next, stepped_stays, steps_known, steps_noted}
 use Rattle.srp_schedule.proofs.run.make_tick.Goals as goal
 
-pub note-requires : goal.note-requires
-note-requires c =
-    subst (λ (r : Topology). AreChanges r c.args.t c.args.timeline.now.changes)
-    (sym (stepped_stays (record {
+pub note_steps-requires-clause-tree : goal.note_steps-requires-clause-tree
+note_steps-requires-clause-tree c =
+    c.requires.tree ∙ sym (stepped_stays (record {
       all_stay = c.what_is_allowed_may_happen.ensures.all_stay;
       clock = c.what_is_allowed_may_happen.ensures.clock;
       next = c.what_is_allowed_may_happen.ensures.next;
@@ -16,8 +17,25 @@ note-requires c =
       carried = c.what_is_allowed_may_happen.ensures.carried;
     }) c.args.scenario.now c.keeps_rules.ensures c.args.t c.requires.within c.args.world.now c.requires.during
     c.make_events.new.world c.make_steps.new.world c.in_ok-steps.steps.items
-    c.in_ok-events.ensures.after c.in_ok-steps.ensures.steps c.in_ok-steps.ensures.after).tree_is)
-    c.requires.changes
+    c.in_ok-events.ensures.after c.in_ok-steps.ensures.steps c.in_ok-steps.ensures.after).tree_is
+
+pub note_steps-requires-clause-changes : goal.note_steps-requires-clause-changes
+note_steps-requires-clause-changes c =
+    subst (λ (r : Topology). AreChanges r c.args.t c.args.history.changes) (sym c.requires.tree) c.requires.changes
+
+pub note_steps-requires-clause-ports : goal.note_steps-requires-clause-ports
+note_steps-requires-clause-ports c =
+    let steps = c.in_ok-steps.steps.items in
+    subst (λ (nodes : List NodeSteps). AllByRecursion (HasPortsOf c.args.history.tree) nodes) (sym c.as_slice.ensures.value)
+    (subst (λ (r : Topology). AllByRecursion (HasPortsOf r) steps) (sym c.requires.tree)
+    (steps_known (record {
+      all_stay = c.what_is_allowed_may_happen.ensures.all_stay;
+      clock = c.what_is_allowed_may_happen.ensures.clock;
+      next = c.what_is_allowed_may_happen.ensures.next;
+      scripted = c.what_is_allowed_may_happen.ensures.scripted;
+      carried = c.what_is_allowed_may_happen.ensures.carried;
+    }) c.args.scenario.now c.keeps_rules.ensures c.args.t c.requires.within c.args.world.now c.requires.during
+    c.make_events.new.world steps c.in_ok-events.ensures.after c.in_ok-steps.ensures.steps))
 
 pub step-requires : goal.step-requires
 step-requires c =
@@ -75,7 +93,7 @@ returns-clause-during c =
 
 pub returns-clause-noted : goal.returns-clause-noted
 returns-clause-noted c =
-    is_noted (record {
+    steps_noted (record {
       all_stay = c.what_is_allowed_may_happen.ensures.all_stay;
       clock = c.what_is_allowed_may_happen.ensures.clock;
       next = c.what_is_allowed_may_happen.ensures.next;
@@ -86,6 +104,4 @@ returns-clause-noted c =
     (tick_made c.args.scenario.now c.args.t c.args.world.now c.make_events.new.world c.make_steps.new.world c.carry_all.new.world c.step.new.self
     c.in_ok-events.events.items c.in_ok-steps.steps.items (record { events = c.from_vec.result; steps = c.from_vec-2.result }) c.in_ok-step.field-0 c.from_vec.ensures c.from_vec-2.ensures
     c.in_ok-events.ensures.answers c.in_ok-events.ensures.after c.in_ok-steps.ensures.steps c.in_ok-steps.ensures.after c.in_ok-carry_all.ensures c.in_ok-step.ensures.ok)
-    c.args.timeline.now.changes c.note.new.timeline.changes
-    (noted_alike c.args.t c.make_steps.new.world c.as_slice.result.now c.as_slice-2.result.now (record { events = c.from_vec.result; steps = c.from_vec-2.result })
-    c.args.timeline.now.changes c.note.new.timeline.changes (c.from_vec.ensures ∙ sym c.as_slice.ensures.value) (c.from_vec-2.ensures ∙ sym c.as_slice-2.ensures.value) c.in_ok-note.ensures)
+    c.as_slice.result.now c.args.history.changes c.in_ok-noted.noted.changes (c.from_vec-2.ensures ∙ sym c.as_slice.ensures.value) c.in_ok-noted.ensures.noted
