@@ -1,15 +1,16 @@
--- One walk along two ascending lists finds what the one has booked and the other hasn't.
+-- One walk along two ascending lists finds what each has booked and the other hasn't.
 use Rattle.std.proofs.Common.{◌≡◌, ℕ, suc, ◌+◌, ◌<◌, ◌≤◌, Bool, true, false, not, ◌||◌, ◌&&◌, cond, List, [], ◌∷◌, ◌++◌, map, length, get_or, drop, refl, sym, ◌∙◌, ap, subst, arith, inl, inr, append_assoc, drop-cons}
-use Rattle.std.specs.Prelude.{nat_lt}
+use Rattle.std.specs.Prelude.{◌⊎◌, nat_lt}
 use Rattle.std.specs.List.{AllByRecursion, list_any}
 use Rattle.std.proofs.lemmas.Bool.{cases_Bool, ltb-true, ltb-false}
 use Rattle.srp_base.specs.declared.numbers.StreamId.{StreamId}
 use Rattle.stream_importance.specs.declared.entry.Entry.{Entry}
 use Rattle.port_ledger.specs.Decision.{stream_of, is_booked, IsAscending}
 use Rattle.port_ledger.specs.Book.{booked_only_in, same_entry}
-use Rattle.port_ledger.specs.Pass.{begins_with, from_stream}
+use Rattle.port_ledger.specs.Pass.{begins_with, from_stream, noted, noted_below}
 use Rattle.port_ledger.proofs.Comparing.{only_in}
 use Rattle.port_ledger.proofs.Finding.{differ, others_differ}
+use Rattle.port_ledger.proofs.PerStream.{same_entry-is, same_entry-refl}
 use Rattle.port_ledger.proofs.Running.{all_with}
 
 -- what lies below a stream is none of an entry that doesn't
@@ -56,69 +57,152 @@ ascending_from s [] up = tt
 ascending_from s (y ∷ ys) up =
     elim (nat_lt (stream_of y) s.0) as (λ v. IsAscending (cond v (from_stream ys s) (y ∷ ys))) [ true ↦ ascending_from s ys up.1 | false ↦ up ]
 
--- the first of these, booked, beside those from its stream on
-merge_first : (x : Entry) (xs ys : List Entry) → is_booked x ≡ true → IsAscending (x ∷ xs) → IsAscending ys
-    → booked_only_in (x ∷ xs) ys
-    ≡ cond (begins_with (from_stream ys x.want.stream) x) (booked_only_in xs (from_stream ys x.want.stream)) (x.want.stream ∷ booked_only_in xs (from_stream ys x.want.stream))
-merge_first x xs ys booked up down =
-    let rest : List Entry = from_stream ys x.want.stream in
-    ap (map (λ (y : Entry). y.want.stream)) (sym (only_from x.want.stream (x ∷ xs) ys (omega arith, all_with xs up.0 up.0 (λ y l _. omega (arith, l)))))
-    ∙ (ap (λ v. map (λ (y : Entry). y.want.stream) (cond (is_booked x && not v) (x ∷ only_in xs rest) (only_in xs rest))) (first_found x ys down)
-    ∙ (ap (λ v. map (λ (y : Entry). y.want.stream) (cond (v && not (begins_with rest x)) (x ∷ only_in xs rest) (only_in xs rest))) booked
-    ∙ by_test (begins_with rest x) (only_in xs rest)))
+-- ---- the head of one list
+
+-- an entry that isn't among those
+head-noted : (x : Entry) (xs ys : List Entry) → list_any (same_entry x) ys ≡ false → booked_only_in (x ∷ xs) ys ≡ noted x ++ booked_only_in xs ys
+head-noted x xs ys none =
+    ap (λ v. map (λ (y : Entry). y.want.stream) (cond (is_booked x && not v) (x ∷ only_in xs ys) (only_in xs ys))) none ∙ by_test (is_booked x) (only_in xs ys)
   where
-    by_test : (v : Bool) (zs : List Entry) → map (λ (y : Entry). y.want.stream) (cond (not v) (x ∷ zs) zs)
-        ≡ cond v (map (λ (y : Entry). y.want.stream) zs) (x.want.stream ∷ map (λ (y : Entry). y.want.stream) zs)
+    by_test : (v : Bool) (zs : List Entry) → map (λ (y : Entry). y.want.stream) (cond (v && true) (x ∷ zs) zs)
+        ≡ cond v (x.want.stream ∷ []) [] ++ map (λ (y : Entry). y.want.stream) zs
     by_test true zs = refl
     by_test false zs = refl
 
--- what a walk keeps
-pub record MergesAt (these those : List Entry) (i : ℕ) (streams : List StreamId) (rest : List Entry) : Type 0 where
-  pub found : booked_only_in these those ≡ streams ++ booked_only_in (drop i these) rest
-  pub ascending : IsAscending (drop i these)
-  pub rest_ascends : IsAscending rest
+-- an entry that none of these is
+only_skip : (y : Entry) (xs ys : List Entry) → AllByRecursion (λ x. same_entry x y ≡ false) xs → only_in xs (y ∷ ys) ≡ only_in xs ys
+only_skip y [] ys h = refl
+only_skip y (x ∷ xs) ys h =
+    ap (λ v. cond (is_booked x && not (v || list_any (same_entry x) ys)) (x ∷ only_in xs (y ∷ ys)) (only_in xs (y ∷ ys))) h.0
+    ∙ ap (λ zs. cond (is_booked x && not (list_any (same_entry x) ys)) (x ∷ zs) zs) (only_skip y xs ys h.1)
 
--- an entry that isn't booked is passed over
-pub merge_skip : (these those : List Entry) (i : ℕ) (d : Entry) (streams : List StreamId) (rest : List Entry)
-    → i < length these → is_booked (get_or these i d) ≡ false → MergesAt these those i streams rest
-    → MergesAt these those (i + 1) streams rest
-merge_skip these those i d streams rest l unbooked at =
-    let x : Entry = get_or these i d in
-    let left : drop i these ≡ x ∷ drop (suc i) these = drop-cons these i d l in
-    let up : IsAscending (x ∷ drop (suc i) these) = subst (λ (zs : List Entry). IsAscending zs) left at.ascending in
-    let on : suc i ≡ i + 1 = omega arith in
-    subst (λ (n : ℕ). MergesAt these those n streams rest) on
-    (record {
-      found =
-          at.found
-          ∙ (ap (λ zs. streams ++ booked_only_in zs rest) left
-          ∙ ap (λ v. streams ++ map (λ (y : Entry). y.want.stream) (cond (v && not (list_any (same_entry x) rest)) (x ∷ only_in (drop (suc i) these) rest) (only_in (drop (suc i) these) rest))) unbooked);
-      ascending = up.1;
-      rest_ascends = at.rest_ascends;
-    })
+head-skipped : (y : Entry) (xs ys : List Entry) → AllByRecursion (λ x. same_entry x y ≡ false) xs → booked_only_in xs (y ∷ ys) ≡ booked_only_in xs ys
+head-skipped y xs ys h = ap (map (λ (z : Entry). z.want.stream)) (only_skip y xs ys h)
 
--- a booked one is missing where it doesn't stand first from its stream on
-pub merge_more : (these those : List Entry) (i : ℕ) (d : Entry) (streams : List StreamId) (rest next : List Entry) (first : Bool)
-    → i < length these → is_booked (get_or these i d) ≡ true → next ≡ from_stream rest (get_or these i d).want.stream
-    → begins_with next (get_or these i d) ≡ first → MergesAt these those i streams rest
-    → MergesAt these those (i + 1) (cond first streams (streams ++ (get_or these i d).want.stream ∷ [])) next
-merge_more these those i d streams rest next first l booked e h at =
-    let x : Entry = get_or these i d in
-    let left : drop i these ≡ x ∷ drop (suc i) these = drop-cons these i d l in
-    let up : IsAscending (x ∷ drop (suc i) these) = subst (λ (zs : List Entry). IsAscending zs) left at.ascending in
-    let on : suc i ≡ i + 1 = omega arith in
-    let step : booked_only_in (drop i these) rest ≡ cond first (booked_only_in (drop (suc i) these) next) (x.want.stream ∷ booked_only_in (drop (suc i) these) next) =
-    ap (λ zs. booked_only_in zs rest) left
-    ∙ (merge_first x (drop (suc i) these) rest booked up at.rest_ascends
-    ∙ (ap (λ zs. cond (begins_with zs x) (booked_only_in (drop (suc i) these) zs) (x.want.stream ∷ booked_only_in (drop (suc i) these) zs)) (sym e)
-    ∙ ap (λ v. cond v (booked_only_in (drop (suc i) these) next) (x.want.stream ∷ booked_only_in (drop (suc i) these) next)) h)) in
-    subst (λ (n : ℕ). MergesAt these those n (cond first streams (streams ++ x.want.stream ∷ [])) next) on
-    (record {
-      found = at.found ∙ (ap (λ zs. streams ++ zs) step ∙ by_test first x.want.stream (booked_only_in (drop (suc i) these) next));
-      ascending = up.1;
-      rest_ascends = subst (λ (zs : List Entry). IsAscending zs) (sym e) (ascending_from x.want.stream rest at.rest_ascends);
-    })
+above_differ : (x : Entry) (ys : List Entry) → AllByRecursion (λ y. stream_of x < stream_of y) ys → AllByRecursion (λ y. same_entry y x ≡ false) ys
+above_differ x [] h = tt
+above_differ x (y ∷ ys) h = (differ y x (λ e. let l : stream_of x < stream_of y = h.0 in omega (arith, e, l)), above_differ x ys h.1)
+
+-- an entry that both lists begin with
+head-shared : (x : Entry) (xs ys : List Entry) → AllByRecursion (λ y. stream_of x < stream_of y) xs → booked_only_in (x ∷ xs) (x ∷ ys) ≡ booked_only_in xs ys
+head-shared x xs ys up =
+    ap (λ v. map (λ (y : Entry). y.want.stream) (cond (is_booked x && not (v || list_any (same_entry x) ys)) (x ∷ only_in xs (x ∷ ys)) (only_in xs (x ∷ ys)))) (same_entry-refl x)
+    ∙ by_test (is_booked x) (only_in xs (x ∷ ys))
+    ∙ head-skipped x xs ys (above_differ x xs up)
   where
-    by_test : (v : Bool) (s : StreamId) (zs : List StreamId) → streams ++ cond v zs (s ∷ zs) ≡ cond v streams (streams ++ s ∷ []) ++ zs
-    by_test true s zs = refl
-    by_test false s zs = sym (append_assoc streams (s ∷ []) zs)
+    by_test : (v : Bool) (zs : List Entry) → map (λ (y : Entry). y.want.stream) (cond (v && false) (x ∷ zs) zs) ≡ map (λ (y : Entry). y.want.stream) zs
+    by_test true zs = refl
+    by_test false zs = refl
+
+-- the entries of a list that are below a stream, where those aren't
+below-noted : (s : StreamId) (ys xs : List Entry) → AllByRecursion (λ x. s.0 ≤ stream_of x) xs
+    → booked_only_in ys xs ≡ noted_below ys s ++ booked_only_in (from_stream ys s) xs
+below-noted s [] xs l = refl
+below-noted s (y ∷ ys) xs l =
+    elim (cases_Bool (nat_lt (stream_of y) s.0)) [
+      | inl h ↦
+          (let under : stream_of y < s.0 = ltb-true (stream_of y) s.0 h in
+          head-noted y ys xs (others_differ y xs (all_with xs l l (λ z k _. omega (arith, k, under))))
+          ∙ (ap (λ zs. noted y ++ zs) (below-noted s ys xs l)
+          ∙ (sym (append_assoc (noted y) (noted_below ys s) (booked_only_in (from_stream ys s) xs))
+          ∙ ap (λ v. cond v (noted y ++ noted_below ys s) [] ++ booked_only_in (cond v (from_stream ys s) (y ∷ ys)) xs) (sym h))))
+      | inr h ↦ ap (λ v. cond v (noted y ++ noted_below ys s) [] ++ booked_only_in (cond v (from_stream ys s) (y ∷ ys)) xs) (sym h)
+    ]
+
+none-same : (x : Entry) (ys : List Entry) → list_any (same_entry x) ys ≡ false → AllByRecursion (λ y. same_entry y x ≡ false) ys
+none-same x [] h = tt
+none-same x (y ∷ ys) h = (flipped (cases_Bool (same_entry y x)), none-same x ys (or_right (same_entry x y) (list_any (same_entry x) ys) h))
+  where
+    or_right : (a b : Bool) → (a || b) ≡ false → b ≡ false
+    or_right true b e = cc
+    or_right false b e = e
+
+    or_first : (a b : Bool) → (a || b) ≡ false → a ≡ false
+    or_first true b e = cc
+    or_first false b e = refl
+
+    flipped : (same_entry y x ≡ true) ⊎ (same_entry y x ≡ false) → same_entry y x ≡ false
+    flipped (inl e) =
+        let one : y ≡ x = same_entry-is y x e in
+        let itself : same_entry x y ≡ true = subst (λ (z : Entry). same_entry z y ≡ true) one (same_entry-refl y) in
+        let other : same_entry x y ≡ false = or_first (same_entry x y) (list_any (same_entry x) ys) h in
+        cc
+    flipped (inr e) = e
+
+-- ---- what a walk along both keeps
+
+pub record WalksBoth (before after : List Entry) (i : ℕ) (booked dropped : List StreamId) (rest : List Entry) : Type 0 where
+  pub new : booked_only_in after before ≡ booked ++ booked_only_in (drop i after) rest
+  pub old : booked_only_in before after ≡ dropped ++ booked_only_in rest (drop i after)
+  pub up : IsAscending (drop i after)
+  pub down : IsAscending rest
+
+-- it stands before the entry x of `after`: the front of `rest` that is below x is noted, and `next` is what is left
+module _ (before after : List Entry) (i : ℕ) (x d : Entry) (booked dropped : List StreamId) (rest next : List Entry) (below : i < length after) (at : x ≡ get_or after i d) (is : next ≡ from_stream rest x.want.stream) (h : WalksBoth before after i booked dropped rest) where
+  left_is : drop i after ≡ x ∷ drop (i + 1) after
+  left_is =
+      let on : suc i ≡ i + 1 = omega arith in
+      drop-cons after i d below ∙ (ap (λ y. y ∷ drop (suc i) after) (sym at) ∙ ap (λ n. x ∷ drop n after) on)
+
+  ascends : IsAscending (x ∷ drop (i + 1) after)
+  ascends = subst (λ (zs : List Entry). IsAscending zs) left_is h.up
+
+  above : AllByRecursion (λ y. stream_of x ≤ stream_of y) (x ∷ drop (i + 1) after)
+  above = (omega arith, all_with (drop (i + 1) after) ascends.0 ascends.0 (λ y l _. omega (arith, l)))
+
+  goes_down : IsAscending next
+  goes_down = subst (λ (zs : List Entry). IsAscending zs) (sym is) (ascending_from x.want.stream rest h.down)
+
+  new_before : booked_only_in after before ≡ booked ++ booked_only_in (x ∷ drop (i + 1) after) next
+  new_before =
+      h.new
+      ∙ ap (λ zs. booked ++ booked_only_in zs rest) left_is
+      ∙ ap (λ zs. booked ++ map (λ (y : Entry). y.want.stream) zs) (sym (only_from x.want.stream (x ∷ drop (i + 1) after) rest above))
+      ∙ ap (λ ys. booked ++ booked_only_in (x ∷ drop (i + 1) after) ys) (sym is)
+
+  old_before : (later : List StreamId) → later ≡ dropped ++ noted_below rest x.want.stream → booked_only_in before after ≡ later ++ booked_only_in next (x ∷ drop (i + 1) after)
+  old_before later e =
+      h.old
+      ∙ ap (λ zs. dropped ++ booked_only_in rest zs) left_is
+      ∙ ap (λ zs. dropped ++ zs) (below-noted x.want.stream rest (x ∷ drop (i + 1) after) above)
+      ∙ sym (append_assoc dropped (noted_below rest x.want.stream) (booked_only_in (from_stream rest x.want.stream) (x ∷ drop (i + 1) after)))
+      ∙ ap (λ zs. zs ++ booked_only_in (from_stream rest x.want.stream) (x ∷ drop (i + 1) after)) (sym e)
+      ∙ ap (λ ys. later ++ booked_only_in ys (x ∷ drop (i + 1) after)) (sym is)
+
+  any_is : list_any (same_entry x) next ≡ begins_with next x
+  any_is = subst (λ (ys : List Entry). list_any (same_entry x) ys ≡ begins_with ys x) (sym is) (first_found x rest h.down)
+
+  -- x isn't first in what is left, so it is in none of it
+  pub walk-notes : (later more : List StreamId) → later ≡ dropped ++ noted_below rest x.want.stream → more ≡ booked ++ noted x → begins_with next x ≡ false → WalksBoth before after (i + 1) more later next
+  walk-notes later more e m none = record {
+    new =
+        new_before
+        ∙ ap (λ zs. booked ++ zs) (head-noted x (drop (i + 1) after) next (any_is ∙ none))
+        ∙ sym (append_assoc booked (noted x) (booked_only_in (drop (i + 1) after) next))
+        ∙ ap (λ zs. zs ++ booked_only_in (drop (i + 1) after) next) (sym m);
+    old = old_before later e ∙ ap (λ zs. later ++ zs) (head-skipped x next (drop (i + 1) after) (none-same x next (any_is ∙ none)));
+    up = ascends.1;
+    down = goes_down;
+  }
+
+  shared_by : (later : List StreamId) (ys tail : List Entry) → next ≡ ys → begins_with ys x ≡ true → tail ≡ drop 1 ys → later ≡ dropped ++ noted_below rest x.want.stream → WalksBoth before after (i + 1) booked later tail
+  shared_by later [] tail n first t e = cc
+  shared_by later (y ∷ ys) tail n first t e =
+      let one : next ≡ x ∷ ys = n ∙ ap (λ z. z ∷ ys) (sym (same_entry-is x y first)) in
+      let down : IsAscending (x ∷ ys) = subst (λ (zs : List Entry). IsAscending zs) one goes_down in
+      subst (λ (zs : List Entry). WalksBoth before after (i + 1) booked later zs) (sym t)
+      (record {
+        new = new_before ∙ ap (λ zs. booked ++ booked_only_in (x ∷ drop (i + 1) after) zs) one ∙ ap (λ zs. booked ++ zs) (head-shared x (drop (i + 1) after) ys ascends.0);
+        old = old_before later e ∙ ap (λ zs. later ++ booked_only_in zs (x ∷ drop (i + 1) after)) one ∙ ap (λ zs. later ++ zs) (head-shared x ys (drop (i + 1) after) down.0);
+        up = ascends.1;
+        down = down.1;
+      })
+
+  -- both lists have x
+  pub walk-shares : (later : List StreamId) (tail : List Entry) → begins_with next x ≡ true → tail ≡ drop 1 next → later ≡ dropped ++ noted_below rest x.want.stream → WalksBoth before after (i + 1) booked later tail
+  walk-shares later tail first t e = shared_by later next tail refl first t e
+
+-- what begins with an entry isn't empty
+pub begins-some : (ys : List Entry) (x : Entry) → begins_with ys x ≡ true → 0 < length ys
+begins-some [] x h = cc
+begins-some (y ∷ ys) x h = omega arith

@@ -9,7 +9,7 @@ use Rattle.stream_importance.specs.declared.entry.Entry.{Entry}
 use Rattle.stream_importance.specs.declared.entry.Want.{Want}
 use Rattle.stream_importance.specs.declared.slope.Caps.{Caps}
 use Rattle.stream_importance.specs.Bandwidth.{cap_of}
-use Rattle.port_ledger.specs.Decision.{stream_of, entry_slope, is_preceded_by, since_after}
+use Rattle.port_ledger.specs.Decision.{stream_of, entry_slope, is_booked, is_preceded_by, since_after}
 use Rattle.port_ledger.specs.Book.{entry_of, entry_with, same_entry, same_want, unbooked}
 
 -- an entry among entries in the order of importance: before the first that it precedes
@@ -74,6 +74,15 @@ has_want entries want = has_same (entry_of entries want.stream) want
 -- the order once a want has come, of a stream that has an entry in it or is new and goes last
 abbrev pub order_with : List Entry → Want → Bool → List Entry
 order_with order want known = if known then rewanted order want else order ++ unbooked want ∷ []
+
+-- the stream of an entry that is booked
+abbrev pub noted : Entry → List StreamId
+noted x = if is_booked x then x.want.stream ∷ [] else []
+
+-- the streams of the booked entries up to the first entry that isn't below a stream
+abbrev pub noted_below : List Entry → StreamId → List StreamId
+noted_below [] stream = []
+noted_below (x ∷ xs) stream = if nat_lt (stream_of x) stream.0 then noted x ++ noted_below xs stream else []
 
 -- the entries from the first on that isn't below a stream
 abbrev pub from_stream : List Entry → StreamId → List Entry

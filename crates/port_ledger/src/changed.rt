@@ -1,9 +1,9 @@
 //! What a call changed in the booked set.
 
-ghost use Rattle.std.specs.Prelude.{◌≡◌, [], IfOk};
+ghost use Rattle.std.specs.Prelude.{◌≡◌, ◌<◌, ◌++◌, [], length, drop, IfOk, OnOk};
 ghost use Rattle.port_ledger.specs.Book.{booked_only_in, same_entry};
 ghost use Rattle.port_ledger.specs.Decision.{IsAscending};
-ghost use Rattle.port_ledger.specs.Pass.{begins_with, from_stream};
+ghost use Rattle.port_ledger.specs.Pass.{begins_with, from_stream, noted, noted_below};
 
 use srp_base::{NoMemory, Seq, StreamId};
 use std::alloc::Global;
@@ -31,41 +31,77 @@ impl Changed {
     }
 }
 
-/// What changed in the booked set between two lists of entries.
+/// What changed in the booked set between two lists of entries: one walk along both.
 pub(crate) fn changes(alloc: Global, before: &[Entry], after: &[Entry]) -> Result<Changed, NoMemory>
     requires before { IsAscending before.now }
     requires after { IsAscending after.now }
     ensures booked { IfOk result (λ c. c.booked ≡ booked_only_in after.now before.now) }
     ensures dropped { IfOk result (λ c. c.dropped ≡ booked_only_in before.now after.now) }
 {
-    let booked = booked_only_in(alloc, after, before)?;
-    let dropped = booked_only_in(alloc, before, after)?;
-    Ok(Changed { booked, dropped })
-}
-
-/// The streams, ascending, whose booked entry is in these and not in those: one walk along both.
-fn booked_only_in(
-    alloc: Global,
-    these: &[Entry],
-    those: &[Entry],
-) -> Result<Seq<StreamId>, NoMemory>
-    requires these { IsAscending these.now }
-    requires those { IsAscending those.now }
-    ensures { IfOk result (λ s. s ≡ booked_only_in these.now those.now) }
-{
-    let mut streams = Vec::new(alloc);
-    let mut rest = those;
-    for x in these {
-        if x.since.is_none() {
-            continue;
-        }
+    let mut booked = Vec::new(alloc);
+    let mut dropped = Vec::new(alloc);
+    let mut rest = before;
+    for x in after {
+        note_below(&mut dropped, rest, x.want.stream)?;
         rest = from_stream(rest, x.want.stream);
         if begins_with(rest, x) {
+            rest = tail(rest);
             continue;
         }
+        note(&mut booked, x)?;
+    }
+    note_all(&mut dropped, rest)?;
+    Ok(Changed {
+        booked: Seq::from_vec(booked),
+        dropped: Seq::from_vec(dropped),
+    })
+}
+
+/// Adds the stream of an entry that is booked.
+fn note(streams: &mut Vec<StreamId>, x: &Entry) -> Result<(), NoMemory>
+    ensures { OnOk result (streams.new.items ≡ streams.old.items ++ noted x.now) }
+{
+    if x.since.is_some() {
         streams.push(x.want.stream)?;
     }
-    Ok(Seq::from_vec(streams))
+    Ok(())
+}
+
+/// Adds the streams of the booked entries up to the first that isn't below a stream.
+fn note_below(
+    streams: &mut Vec<StreamId>,
+    entries: &[Entry],
+    stream: StreamId,
+) -> Result<(), NoMemory>
+    ensures { OnOk result (streams.new.items
+        ≡ streams.old.items ++ noted_below entries.now stream) }
+{
+    for x in entries {
+        if x.want.stream.0 >= stream.0 {
+            return Ok(());
+        }
+        note(streams, x)?;
+    }
+    Ok(())
+}
+
+/// Adds the streams of all booked entries.
+fn note_all(streams: &mut Vec<StreamId>, entries: &[Entry]) -> Result<(), NoMemory>
+    ensures { OnOk result (streams.new.items
+        ≡ streams.old.items ++ booked_only_in entries.now []) }
+{
+    for x in entries {
+        note(streams, x)?;
+    }
+    Ok(())
+}
+
+/// The entries behind the first.
+fn tail(entries: &[Entry]) -> &[Entry]
+    requires { 0 < length entries.now }
+    ensures { result.now ≡ drop 1 entries.now }
+{
+    &entries[1..]
 }
 
 /// The entries from the first on that isn't below the stream.
