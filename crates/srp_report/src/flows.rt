@@ -1,10 +1,11 @@
 //! The lines of the frames.
 
-ghost use Rattle.std.specs.Prelude.{◌≡◌, ◌++◌, flat_map, OnOk};
+ghost use Rattle.std.specs.Prelude.{◌≡◌, ◌++◌, codes, flat_map, OnOk};
+ghost use Rattle.std.specs.Fmt.{decimal};
 ghost use Rattle.srp_report.specs.FrameLines.{is_departed as is_departed_spec, is_unbooked as is_unbooked_spec, is_novlan as is_novlan_spec, is_left as is_left_spec, fates_count, frames_line, depart_line, fates_lines, flow_part, flow_parts};
 
 use crate::departures::{SentFrame, departures};
-use crate::lines::put;
+use crate::lines::{put, put_number};
 use crate::names::port_name;
 use frame_flow::{Fate, FlowResult, PortFlow};
 use srp_base::NoMemory;
@@ -147,10 +148,26 @@ fn put_departures(out: &mut Vec<u8>, port: &[u8], sent: &[SentFrame]) -> Result<
 fn put_departure(out: &mut Vec<u8>, port: &[u8], d: SentFrame) -> Result<(), AllocError>
     ensures { OnOk result (out.new.items ≡ out.old.items ++ depart_line port.now d) }
 {
-    let alloc = *out.allocator();
-    let SentFrame { frame, start, end } = d;
-    let times = format!(in alloc; " frame {frame} start {start} end {end}\n")?;
     put(out, "depart ")?;
     out.extend_from_slice(port)?;
-    put(out, &times)
+    put_times(out, d)
+}
+
+// A copy's frame, and from when to when it departs.
+fn put_times(out: &mut Vec<u8>, d: SentFrame) -> Result<(), AllocError>
+    ensures { OnOk result (out.new.items ≡ out.old.items ++ codes " frame " ++ decimal d.frame
+        ++ codes " start " ++ decimal d.start ++ codes " end " ++ decimal d.end ++ codes "\n") }
+{
+    put_labelled(out, " frame ", u64::from(d.frame))?;
+    put_labelled(out, " start ", d.start)?;
+    put_labelled(out, " end ", d.end)?;
+    put(out, "\n")
+}
+
+// A number behind its label.
+fn put_labelled(out: &mut Vec<u8>, label: &str, number: u64) -> Result<(), AllocError>
+    ensures { OnOk result (out.new.items ≡ out.old.items ++ label.now ++ decimal number) }
+{
+    put(out, label)?;
+    put_number(out, number)
 }

@@ -6,6 +6,7 @@ ghost use Rattle.srp_base.specs.Text.{joined};
 ghost use Rattle.srp_report.specs.Lines.{ticks_line, port_line, vlan_line, talker_start, failure_text, talker_end, talker_line, listener_line, srp_line, want_line, booked_line, heard_line, end_lines, state_name as state_name_spec, kind_name as kind_name_spec, heard_name as heard_name_spec, class_name as class_name_spec, yes_or_no as yes_or_no_spec};
 
 use crate::tally::Tally;
+use itoa::Buffer;
 use msrp_codec::{MsrpContent, MsrpKey};
 use registrar::Registrar;
 use srp_base::{Class, Cs, Failure, ListenerKind, StreamId, Talker, Vid};
@@ -23,9 +24,8 @@ pub(crate) fn put(out: &mut Vec<u8>, text: &str) -> Result<(), AllocError>
 pub(crate) fn put_number(out: &mut Vec<u8>, number: u64) -> Result<(), AllocError>
     ensures { OnOk result (out.new.items ≡ out.old.items ++ decimal number) }
 {
-    let alloc = *out.allocator();
-    let digits = format!(in alloc; "{number}")?;
-    put(out, &digits)
+    let mut digits = Buffer::new();
+    out.extend_from_slice(digits.format(number).as_bytes())
 }
 
 /// The line of a run's length.
