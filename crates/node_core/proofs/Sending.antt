@@ -10,7 +10,7 @@ use Rattle.node_core.specs.declared.types.StepReply.{StepReply}
 use Rattle.node_core.specs.declared.types.StepReply.TheVariants.{Silent, Sent}
 use Rattle.node_core.specs.State.{NodeState, box_at}
 use Rattle.srp_base.specs.declared.memory.NoMemory.{NoMemory}
-use Rattle.node_core.specs.Step.{sent, sent_octets, said_mvrp, said_msrp, with_wire, with_said, after_app, put_said, HasSaid}
+use Rattle.node_core.specs.Step.{sent, sent_octets, said_mvrp, said_msrp, with_wire, with_said, after_app, outcome_of_saying, HasOneSaid}
 use Rattle.node_core.proofs.Boxes.{set_same}
 
 -- the node that has these VLANs and streams and, at a place, this outbox
@@ -22,7 +22,7 @@ put_by : {S : Type 0} (s : NodeState) (app : App) (at : ℕ) (o : Option (List �
     (into : S → List Wire → NodeState)
     → into before (box_at at s.outboxes) ≡ s
     → ((octets : List ℕ) → into after (with_wire app octets (box_at at s.outboxes)) ≡ with_said app at octets (after_app app at s))
-    → put_said app o before after (box_at at s.outboxes) ≡ (side, box, reply)
+    → outcome_of_saying app o before after (box_at at s.outboxes) ≡ (side, box, reply)
     → sent_octets app at o s ≡ (into side box, reply)
 put_by {S} s app at None before after side box reply into same said e =
     ap (λ (n : NodeState). (n, Silent)) (sym same)
@@ -37,7 +37,7 @@ stays s at = ap (λ (bs : List (List Wire)). record s { outboxes = bs }) (set_sa
 
 -- what was put, by what the call answered
 pub put_ok : (s n : NodeState) (app : App) (at : ℕ) (r : Result StepReply NoMemory) (v : Vlans) (t : Streams) (box : List Wire)
-    → HasSaid app s.clock at s.vlans s.streams (box_at at s.outboxes) r v t box → n ≡ with_both s at v t box
+    → HasOneSaid app s.clock at s.vlans s.streams (box_at at s.outboxes) r v t box → n ≡ with_both s at v t box
     → IfOk r (λ reply. sent app at s ≡ (n, reply))
 put_ok s n Mvrp at (Ok reply) v t box h e =
     put_by s Mvrp at (said_mvrp s.clock at s.vlans) s.vlans (sent_vlans s.clock at s.vlans) v box reply
@@ -60,7 +60,7 @@ none_put s at v t box vlans streams same =
     ∙ (ap (λ (b : List Wire). with_both s at s.vlans s.streams b) same ∙ stays s at))
 
 pub put_err : (s n : NodeState) (app : App) (at : ℕ) (r : Result StepReply NoMemory) (v : Vlans) (t : Streams) (box : List Wire)
-    → HasSaid app s.clock at s.vlans s.streams (box_at at s.outboxes) r v t box → n ≡ with_both s at v t box
+    → HasOneSaid app s.clock at s.vlans s.streams (box_at at s.outboxes) r v t box → n ≡ with_both s at v t box
     → OnErr r (n ≡ s)
 put_err s n app at (Ok reply) v t box h e = tt
 put_err s n Mvrp at (Err x) v t box h e = e ∙ none_put s at v t box h.0.0 h.1 h.0.1

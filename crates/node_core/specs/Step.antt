@@ -227,30 +227,29 @@ CanStep Clock s = s.clock.0 < 2 ^ 61
 
 -- ---- what the applications at a port become
 
--- a PDU was taken by its application, and the other one is as it was
-abbrev pub HasWorked : App → Cs → ℕ → List ℕ → Vlans → Streams → StepReply → Vlans → Streams → Type 0
-HasWorked Mvrp now at octets v t reply v' t' =
+-- one of both applications has taken a PDU, and the other one is as it was
+abbrev pub HasOneTaken : App → Cs → ℕ → List ℕ → Vlans → Streams → StepReply → Vlans → Streams → Type 0
+HasOneTaken Mvrp now at octets v t reply v' t' =
     (worked_mvrp now at (mvrp_reading octets) v ≡ (v', reply)) × (t' ≡ t)
-HasWorked Msrp now at octets v t reply v' t' =
+HasOneTaken Msrp now at octets v t reply v' t' =
     (worked_msrp now at (msrp_reading octets) t ≡ (t', reply)) × (v' ≡ v)
 
--- an application and an outbox after it has said something, or nothing, and what the port answers: the application as
--- it was, and as it is once it has said it
-abbrev pub put_said : {S : Type 0} → App → Option (List ℕ) → S → S → List Wire → S × List Wire × StepReply
-put_said app None before after outbox = (before, outbox, Silent)
-put_said app (Some octets) before after outbox =
+-- an application and its outbox once these octets are said, or nothing, and what the port answers
+abbrev pub outcome_of_saying : {S : Type 0} → App → Option (List ℕ) → S → S → List Wire → S × List Wire × StepReply
+outcome_of_saying app None before after outbox = (before, outbox, Silent)
+outcome_of_saying app (Some octets) before after outbox =
     (after, with_wire app octets outbox, Sent (count_of (length octets)))
 
--- what an application has to say was put into an outbox, or nothing has changed for want of memory
-abbrev pub HasPut : {S : Type 0} → App → Option (List ℕ) → S → S → List Wire → Result StepReply NoMemory → S → List Wire → Type 0
-HasPut app octets before after outbox (Ok reply) side outbox' =
-    put_said app octets before after outbox ≡ (side, outbox', reply)
-HasPut app octets before after outbox (Err e) side outbox' =
+-- what an application has to say is said into its outbox; after want of memory both are as they were
+abbrev pub IsSaying : {S : Type 0} → App → Option (List ℕ) → S → S → List Wire → Result StepReply NoMemory → S → List Wire → Type 0
+IsSaying app octets before after outbox (Ok reply) side outbox' =
+    outcome_of_saying app octets before after outbox ≡ (side, outbox', reply)
+IsSaying app octets before after outbox (Err e) side outbox' =
     (side ≡ before) × (outbox' ≡ outbox)
 
--- so with one of both applications, and the other one is as it was
-abbrev pub HasSaid : App → Cs → ℕ → Vlans → Streams → List Wire → Result StepReply NoMemory → Vlans → Streams → List Wire → Type 0
-HasSaid Mvrp now at v t outbox result v' t' outbox' =
-    HasPut Mvrp (said_mvrp now at v) v (sent_vlans now at v) outbox result v' outbox' × (t' ≡ t)
-HasSaid Msrp now at v t outbox result v' t' outbox' =
-    HasPut Msrp (said_msrp now at t) t (sent_streams now at t) outbox result t' outbox' × (v' ≡ v)
+-- one of both applications has said what it has to say so, and the other one is as it was
+abbrev pub HasOneSaid : App → Cs → ℕ → Vlans → Streams → List Wire → Result StepReply NoMemory → Vlans → Streams → List Wire → Type 0
+HasOneSaid Mvrp now at v t outbox result v' t' outbox' =
+    IsSaying Mvrp (said_mvrp now at v) v (sent_vlans now at v) outbox result v' outbox' × (t' ≡ t)
+HasOneSaid Msrp now at v t outbox result v' t' outbox' =
+    IsSaying Msrp (said_msrp now at t) t (sent_streams now at t) outbox result t' outbox' × (v' ≡ v)

@@ -4,7 +4,7 @@
 ghost use Rattle.std.specs.Prelude.{◌≡◌, ◌<◌, ◌+◌, ◌^◌, length, min, IfOk, OnOk, OnErr};
 ghost use Rattle.mvrp.specs.Side.{IsKept, IsLinkPort, place_of, count_of, due_vlans, settled_vlans};
 ghost use Rattle.msrp.specs.Side.{IsKept as IsKeptStreams, due_streams, settled_streams};
-ghost use Rattle.node_core.specs.Step.{HasWorked, HasSaid, all_due, all_awaiting};
+ghost use Rattle.node_core.specs.Step.{HasOneTaken, HasOneSaid, all_due, all_awaiting};
 ghost use Rattle.node_core.specs.Wires.{IsShort, AreShort};
 
 use crate::streams::{put_streams, receive_streams};
@@ -27,7 +27,7 @@ pub(crate) fn worked_on(
     requires same { length msrp.old.ports ≡ length mvrp.old.parts }
     requires short { IsShort wire.now }
     ensures ok { IfOk result (λ reply.
-        HasWorked wire.now.app now (place_of port) wire.now.octets mvrp.old msrp.old reply mvrp.new msrp.new) }
+        HasOneTaken wire.now.app now (place_of port) wire.now.octets mvrp.old msrp.old reply mvrp.new msrp.new) }
     ensures err_vlans { OnErr result (mvrp.new ≡ mvrp.old) }
     ensures err_streams { OnErr result (msrp.new ≡ msrp.old) }
     ensures parts { length mvrp.new.parts ≡ length mvrp.old.parts }
@@ -57,7 +57,7 @@ pub(crate) fn put_out(
     requires port { IsLinkPort port (length mvrp.old.parts) }
     requires same { length msrp.old.ports ≡ length mvrp.old.parts }
     requires short { AreShort outbox.old.items }
-    ensures put { HasSaid app now (place_of port) mvrp.old msrp.old outbox.old.items result mvrp.new msrp.new outbox.new.items }
+    ensures put { HasOneSaid app now (place_of port) mvrp.old msrp.old outbox.old.items result mvrp.new msrp.new outbox.new.items }
     ensures short { AreShort outbox.new.items }
     ensures parts { length mvrp.new.parts ≡ length mvrp.old.parts }
     ensures ports { length msrp.new.ports ≡ length msrp.old.ports }

@@ -35,6 +35,7 @@ mod both;
 mod jobs;
 pub mod laws;
 mod links;
+mod naming;
 mod node;
 mod outbox;
 mod parts;

@@ -1,21 +1,19 @@
 //! A node, how it is made, and what it shows.
 
-ghost use Rattle.std.specs.Prelude.{◌<◌, ◌^◌, ◌≡◌, ◌≤◌, ◌+◌, ◌++◌, [], length, map, slice_get, option_map, option_and_then, option_to_list, IfOk, OnOk};
+ghost use Rattle.std.specs.Prelude.{◌<◌, ◌^◌, ◌≡◌, ◌≤◌, ◌+◌, ◌++◌, [], length, map, slice_get, option_map, option_and_then, IfOk};
 ghost use Rattle.std.specs.List.{AllByRecursion, filter_map};
 ghost use Rattle.mrp_participant.specs.State.{IsTime};
 ghost use Rattle.port_ledger.specs.Book.{entry_of};
 ghost use Rattle.mvrp.specs.Side.{IsLinkPort, place_of, has_own};
 ghost use Rattle.msrp.specs.Side.{has_listen, has_talk, heard_of, next_sets, talker_of};
-ghost use Rattle.node_core.specs.State.{ports_of, new_node, box_at, are_empty, are_all_sound, is_still_node, is_sound_at, registrar_at, content_at, registered_key, registered_in, registered_keys, if_booked, booked_at, bookings_at, slope_at, fit_of};
+ghost use Rattle.node_core.specs.State.{ports_of, new_node, box_at, are_empty, are_all_sound, is_still_node, is_sound_at, registrar_at, content_at, registered_keys, if_booked, booked_at, bookings_at, slope_at, fit_of};
 ghost use Rattle.node_core.specs.Links.{IsKeptNode};
-ghost use Rattle.node_core.specs.declared.types.NodeKey.TheVariants.{Vlan, Srp};
 
+use crate::naming::push_keys;
 use crate::types::{NodeKey, Wire};
-use mrp_participant::Participant;
-use mrp_participant::laws::a_place_for_each_key;
-use msrp::{ClockSets, MsrpApp, MsrpSide};
+use msrp::{ClockSets, MsrpSide};
 use msrp_codec::{MsrpContent, MsrpKey};
-use mvrp::{MvrpApp, MvrpSide};
+use mvrp::MvrpSide;
 use port_ledger::Ledger;
 use registrar::Registrar;
 use srp_base::{
@@ -194,8 +192,8 @@ impl Node {
         ensures { IfOk result (λ keys. keys ≡ registered_keys (place_of port) self.now) }
     {
         let mut keys = Vec::new(*self.inboxes.allocator());
-        push_vids(&mut keys, self.mvrp.participant(port))?;
-        push_srp_keys(&mut keys, self.msrp.participant(port))?;
+        push_keys(&mut keys, self.mvrp.participant(port))?;
+        push_keys(&mut keys, self.msrp.participant(port))?;
         Ok(Seq::from_vec(keys))
     }
 
@@ -364,62 +362,6 @@ fn booked_entry(ledger: &Ledger, stream: StreamId) -> Option<Entry>
     ensures { result ≡ option_and_then if_booked (entry_of ledger.now.entries stream) }
 {
     ledger.entry(stream).filter(|entry| entry.since.is_some())
-}
-
-// The VIDs that a participant of MVRP has registered go to the end of a list.
-fn push_vids(keys: &mut Vec<NodeKey>, part: &Participant<MvrpApp>) -> Result<(), NoMemory>
-    ensures { OnOk result (keys.new.items ≡ keys.old.items ++ registered_in Vlan part.now) }
-{
-    for i in 0..part.rows() {
-        push_vid(keys, part, i)?;
-    }
-    Ok(())
-}
-
-// The VID of the row at a place goes to the end of a list, where it is registered.
-fn push_vid(keys: &mut Vec<NodeKey>, part: &Participant<MvrpApp>, i: usize) -> Result<(), NoMemory>
-    ensures { OnOk result (keys.new.items
-        ≡ keys.old.items ++ option_to_list (option_and_then (registered_key Vlan) (slice_get part.now.rows i))) }
-{
-    a_place_for_each_key::<MvrpApp>();
-    part.rows_ascend();
-    let Some(vid) = part.key_at(i) else {
-        return Ok(());
-    };
-    if part.registrar(vid).is_registered() {
-        keys.push(NodeKey::Vlan(vid))?;
-    }
-    Ok(())
-}
-
-// The attributes that a participant of MSRP has registered go to the end of a list.
-fn push_srp_keys(keys: &mut Vec<NodeKey>, part: &Participant<MsrpApp>) -> Result<(), NoMemory>
-    ensures { OnOk result (keys.new.items ≡ keys.old.items ++ registered_in Srp part.now) }
-{
-    for i in 0..part.rows() {
-        push_srp_key(keys, part, i)?;
-    }
-    Ok(())
-}
-
-// The attribute of the row at a place goes to the end of a list, where it is registered.
-fn push_srp_key(
-    keys: &mut Vec<NodeKey>,
-    part: &Participant<MsrpApp>,
-    i: usize,
-) -> Result<(), NoMemory>
-    ensures { OnOk result (keys.new.items
-        ≡ keys.old.items ++ option_to_list (option_and_then (registered_key Srp) (slice_get part.now.rows i))) }
-{
-    a_place_for_each_key::<MsrpApp>();
-    part.rows_ascend();
-    let Some(key) = part.key_at(i) else {
-        return Ok(());
-    };
-    if part.registrar(key).is_registered() {
-        keys.push(NodeKey::Srp(key))?;
-    }
-    Ok(())
 }
 
 // Whether no PDU waits in any of these boxes.

@@ -5,7 +5,7 @@ ghost use Rattle.std.specs.Prelude.{◌≡◌, ◌<◌, ◌≤◌, ◌^◌, leng
 ghost use Rattle.mvrp.specs.Side.{IsLinkPort, place_of};
 ghost use Rattle.msrp.specs.Side.{IsKept, next_sets, clocked_streams, requested_streams, leave_all_streams, periodic_streams, spoilt_streams, sent_streams};
 ghost use Rattle.msrp_codec.specs.Meaning.{msrp_reading};
-ghost use Rattle.node_core.specs.Step.{HasPut, left_key_now, said_msrp, worked_msrp};
+ghost use Rattle.node_core.specs.Step.{IsSaying, left_key_now, said_msrp, worked_msrp};
 ghost use Rattle.node_core.specs.Wires.{IsShort, AreShort};
 
 use crate::outbox::put_last;
@@ -120,7 +120,7 @@ pub(crate) fn put_streams(
     requires now { now.0 < 2 ^ 62 }
     requires port { IsLinkPort port (length side.old.ports) }
     requires short { AreShort outbox.old.items }
-    ensures put { HasPut App.Msrp (said_msrp now (place_of port) side.old) side.old
+    ensures put { IsSaying App.Msrp (said_msrp now (place_of port) side.old) side.old
         (sent_streams now (place_of port) side.old) outbox.old.items result side.new outbox.new.items }
     ensures short { AreShort outbox.new.items }
     ensures ports { length side.new.ports ≡ length side.old.ports }

@@ -3,7 +3,7 @@
 ghost use Rattle.std.specs.Prelude.{◌≡◌, ◌<◌, ◌^◌, length, IfOk, OnOk, OnErr};
 ghost use Rattle.mvrp.specs.Side.{IsKept, IsLinkPort, place_of, requested_vlans, leave_all_vlans, periodic_vlans, spoilt_vlans, sent_vlans};
 ghost use Rattle.mvrp_codec.specs.Meaning.{mvrp_reading};
-ghost use Rattle.node_core.specs.Step.{HasPut, left_vid_now, said_mvrp, worked_mvrp};
+ghost use Rattle.node_core.specs.Step.{IsSaying, left_vid_now, said_mvrp, worked_mvrp};
 ghost use Rattle.node_core.specs.Wires.{IsShort, AreShort};
 
 use crate::outbox::put_last;
@@ -109,7 +109,7 @@ pub(crate) fn put_vlans(
     requires now { now.0 < 2 ^ 62 }
     requires port { IsLinkPort port (length side.old.parts) }
     requires short { AreShort outbox.old.items }
-    ensures put { HasPut App.Mvrp (said_mvrp now (place_of port) side.old) side.old
+    ensures put { IsSaying App.Mvrp (said_mvrp now (place_of port) side.old) side.old
         (sent_vlans now (place_of port) side.old) outbox.old.items result side.new outbox.new.items }
     ensures short { AreShort outbox.new.items }
     ensures ports { length side.new.parts ≡ length side.old.parts }

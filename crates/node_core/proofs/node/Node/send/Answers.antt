@@ -5,7 +5,7 @@ use Rattle.std.proofs.lemmas.Option.{slice_get_read}
 use Rattle.mvrp.specs.Side.{place_of}
 use Rattle.node_core.specs.declared.types.Wire.{Wire}
 use Rattle.node_core.specs.State.{NodeState, box_at}
-use Rattle.node_core.specs.Step.{HasSaid, sent}
+use Rattle.node_core.specs.Step.{HasOneSaid, sent}
 use Rattle.node_core.proofs.Boxes.{set_set}
 use Rattle.node_core.proofs.Sending.{with_both, put_ok, put_err}
 use Rattle.node_core.proofs.node.Node.send.Goals as goal
@@ -47,9 +47,9 @@ here c =
     (slice_get_read (before c).outboxes (length (before c).outboxes) (at c) c.index_mut.result.now refl (below c) c.index_mut.ensures.value)
     ∙ (sym c.replace.ensures.value ∙ sym c.into_vec-outbox.ensures))
 
-put : (c : After-drop-index_mut) → HasSaid c.args.app (before c).clock (place_of c.args.port) (before c).vlans (before c).streams (box_at (place_of c.args.port) (before c).outboxes) c.put_out-reply.result c.put_out-reply.new.mvrp c.put_out-reply.new.msrp c.put_out-reply.new.outbox.items
+put : (c : After-drop-index_mut) → HasOneSaid c.args.app (before c).clock (place_of c.args.port) (before c).vlans (before c).streams (box_at (place_of c.args.port) (before c).outboxes) c.put_out-reply.result c.put_out-reply.new.mvrp c.put_out-reply.new.msrp c.put_out-reply.new.outbox.items
 put c =
-    let P : List Wire → Type 0 = λ b. HasSaid c.args.app (before c).clock (place_of c.args.port) (before c).vlans (before c).streams b c.put_out-reply.result c.put_out-reply.new.mvrp c.put_out-reply.new.msrp c.put_out-reply.new.outbox.items in
+    let P : List Wire → Type 0 = λ b. HasOneSaid c.args.app (before c).clock (place_of c.args.port) (before c).vlans (before c).streams b c.put_out-reply.result c.put_out-reply.new.mvrp c.put_out-reply.new.msrp c.put_out-reply.new.outbox.items in
     subst P (sym (here c)) c.put_out-reply.ensures.put
 
 changed : (c : After-drop-index_mut) → after c ≡ with_both (before c) (place_of c.args.port) c.put_out-reply.new.mvrp c.put_out-reply.new.msrp c.put_out-reply.new.outbox.items
