@@ -1,11 +1,10 @@
 //! The changes of a run that goes on, in a list for each port: a tick costs only the ports of the nodes that acted.
 
-ghost use Rattle.std.specs.Prelude.{◌≡◌, ◌≤◌, ◌+◌, ◌++◌, [], ℕ, List, length, map, option_map, flat_map, IfOk, OnOk};
+ghost use Rattle.std.specs.Prelude.{◌≡◌, ◌++◌, [], ℕ, List, length, map, option_map, IfOk, OnOk};
 ghost use Rattle.std.specs.List.{AllByRecursion, range_with_len};
 ghost use Rattle.srp_base.specs.declared.numbers.EgressPort.{EgressPort};
 ghost use Rattle.srp_base.specs.declared.ports.PortChange.{PortChange};
 ghost use Rattle.tree_topology.specs.Topology.{HasNode};
-ghost use Rattle.tree_topology.specs.Ports.{neighbours};
 ghost use Rattle.frame_flow.specs.Force.{changes_at, in_force};
 ghost use Rattle.frame_flow.specs.Copies.{port_of};
 ghost use Rattle.mvrp.specs.Side.{IsLinkPort, place_of};
