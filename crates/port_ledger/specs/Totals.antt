@@ -1,5 +1,5 @@
 -- What a walk over the entries of a ledger finds, which the ledger keeps. No public contract names it.
-use Rattle.std.specs.Prelude.{ℕ, Bool, true, false, not, ◌&&◌, ◌==◌, List, [], if◌then◌else◌}
+use Rattle.std.specs.Prelude.{ℕ, Bool, not, ◌&&◌, ◌==◌, List, if◌then◌else◌}
 use Rattle.std.specs.List.{list_any}
 use Rattle.srp_base.specs.declared.bandwidth.Class.{Class}
 use Rattle.srp_base.specs.declared.bandwidth.Class.TheVariants.{A, B}
