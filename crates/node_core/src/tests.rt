@@ -1,5 +1,5 @@
 //! A station declares VID 10, and what it says goes through a bridge of two ports; a station talks a stream, and another
-//! listens; what happens to PDUs on the way; and timers.
+//! listens; and a PDU is lost, another comes twice, and the timers of a port that is spoilt are due.
 //!
 //! The calls stand in functions of their own without contracts, each of which asks first whether the node has the port,
 //! so that a test's own proof is short.
@@ -105,13 +105,14 @@ fn answers(
     Ok(true)
 }
 
-// PDUs of an application with these octets, in order.
-fn wires(alloc: Global, list: &[(App, &[u8])]) -> Result<Seq<Wire>, NoMemory> {
+// One PDU of MVRP with these octets.
+fn pdu(alloc: Global, octets: &[u8]) -> Result<Seq<Wire>, NoMemory> {
+    let octets = Seq::from_vec(Vec::from_slice(alloc, octets)?);
     let mut wires = Seq::new(alloc);
-    for (app, octets) in list {
-        let octets = Seq::from_vec(Vec::from_slice(alloc, octets)?);
-        wires.push(Wire { app: *app, octets })?;
-    }
+    wires.push(Wire {
+        app: App::Mvrp,
+        octets,
+    })?;
     Ok(wires)
 }
 
@@ -171,23 +172,23 @@ fn puts_back(node: &mut Node, port: PortNo) -> bool {
     true
 }
 
-// Whether the PDU with this index in a link port's inbox is lost.
-fn loses(node: &mut Node, port: PortNo, index: u32) -> bool {
-    has(node, port) && node.lose(port, index)
+// Whether the second PDU in a link port's inbox is lost, and whether the first comes twice.
+fn loses(node: &mut Node, port: PortNo) -> bool {
+    has(node, port) && node.lose(port, 1)
 }
 
-// Whether the PDU with this index in a link port's inbox comes twice.
-fn repeats(node: &mut Node, port: PortNo, index: u32) -> Result<bool, NoMemory> {
+fn repeats(node: &mut Node, port: PortNo) -> Result<bool, NoMemory> {
     if has(node, port) {
-        node.repeat(port, index)
+        node.repeat(port, 0)
     } else {
         Ok(false)
     }
 }
 
-fn spoil(node: &mut Node, port: PortNo, app: App) {
+// MVRP's participant at a link port isn't sound any more.
+fn spoil(node: &mut Node, port: PortNo) {
     if has(node, port) {
-        node.spoil(port, app);
+        node.spoil(port, App::Mvrp);
     }
 }
 
@@ -198,12 +199,6 @@ fn soundness(node: &Node, port: PortNo) -> [bool; 2] {
     } else {
         [false; 2]
     }
-}
-
-// Whether a copy has nothing pending, and no port of it is sound.
-fn copy_is_spoilt(node: &Node) -> Result<bool, NoMemory> {
-    let copy = node.copy()?;
-    Ok(copy.still() && !copy.all_sound())
 }
 
 // Whether a link port has all kinds of jobs to do, for one PDU.
@@ -241,7 +236,8 @@ fn goes_on(node: &mut Node, by_event: bool) -> Result<Cs, NoMemory> {
 
 // What is seen where a station declares a VID, and a bridge hears of it at one port and says it at the other.
 fn declaration(station: &mut Node, bridge: &mut Node, vid: Vid) -> Result<[bool; 7], NoMemory> {
-    let asked = asks(station, AppRequest::Declare(vid))? && station.declares(vid);
+    let named = station.ports() == 1 && station.bridge() == BridgeId(17) && station.still();
+    let asked = named && asks(station, AppRequest::Declare(vid))? && station.declares(vid);
     let list = [
         (Settle, Settled(1)),
         (Send(App::Msrp), Silent),
@@ -250,11 +246,7 @@ fn declaration(station: &mut Node, bridge: &mut Node, vid: Vid) -> Result<[bool;
     let sent = answers(station, ONE, list.as_slice())?;
     let carried = carry(station, ONE, bridge, ONE)?;
     let waits = shows(bridge, ONE, 1, Some(App::Mvrp), (vid, Registrar::Empty));
-    let worked = answers(
-        bridge,
-        ONE,
-        [(Work, Received(1)), (Work, Nothing)].as_slice(),
-    )?;
+    let worked = answers(bridge, ONE, [(Work, Received(1))].as_slice())?;
     let registered = shows(bridge, ONE, 0, None, (vid, Registrar::Held))
         && has_keys(bridge, ONE, [NodeKey::Vlan(vid)].as_slice())?;
     let said = says_at_two(bridge, &JOIN)?;
@@ -271,66 +263,23 @@ fn says_at_two(bridge: &mut Node, octets: &[u8]) -> Result<bool, NoMemory> {
     )
 }
 
-// What is seen where a PDU is lost and the one behind it comes twice, behind a malformed one.
-fn link_events(alloc: Global, bridge: &mut Node, vid: Vid) -> Result<[bool; 5], NoMemory> {
-    let list = [
-        (App::Mvrp, BROKEN.as_slice()),
-        (App::Msrp, &JOIN),
-        (App::Mvrp, &JOIN),
-    ];
-    let came = comes_in(bridge, ONE, wires(alloc, list.as_slice())?)?;
-    let kept = !loses(bridge, ONE, 3) && !repeats(bridge, ONE, 3)?;
-    let lost = loses(bridge, ONE, 1) && repeats(bridge, ONE, 1)?;
-    let waits = shows(bridge, ONE, 3, Some(App::Mvrp), (vid, Registrar::Empty));
-    let list = [
-        (Work, Discarded(2)),
-        (Work, Received(1)),
-        (Work, Received(1)),
-        (Work, Nothing),
-    ];
-    let worked = answers(bridge, ONE, list.as_slice())?;
-    Ok([came, kept, lost, waits, worked])
+// What is seen where a malformed PDU comes in at port 1 of a bridge, and then one that comes twice and is lost once.
+fn incidents(alloc: Global, bridge: &mut Node) -> Result<[bool; 3], NoMemory> {
+    let broken = comes_in(bridge, ONE, pdu(alloc, &BROKEN)?)?
+        && answers(bridge, ONE, [(Work, Discarded(2))].as_slice())?;
+    let came = comes_in(bridge, ONE, pdu(alloc, &JOIN)?)?;
+    let once = repeats(bridge, ONE)? && loses(bridge, ONE);
+    Ok([broken, came, once])
 }
 
-// What is seen where a port is spoilt, and a LeaveAll makes it sound.
-fn spoiling(station: &mut Node) -> Result<[bool; 8], NoMemory> {
-    let named = station.ports() == 1 && station.bridge() == BridgeId(17);
-    let still = station.still() && station.all_sound();
-    spoil(station, ONE, App::Mvrp);
-    let stays = soundness(station, ONE) == [false, true];
-    spoil(station, ONE, App::Msrp);
-    let spoilt = soundness(station, ONE) == [false, false] && copy_is_spoilt(station)?;
-    let list = [
-        (PeriodicNow(App::Msrp), Fired(1)),
-        (PeriodicNow(App::Mvrp), Fired(1)),
-    ];
-    let periodic = answers(station, ONE, list.as_slice())?;
-    let list = [
-        (LeaveAllNow(App::Msrp), Fired(1)),
-        (LeaveAllNow(App::Mvrp), Fired(1)),
-    ];
-    let fired = answers(station, ONE, list.as_slice())?;
-    let list = [(Send(App::Mvrp), Sent(11)), (Send(App::Msrp), Sent(106))];
-    let sent = answers(station, ONE, list.as_slice())?;
-    let sound = soundness(station, ONE) == [true, true];
-    Ok([named, still, stays, spoilt, periodic, fired, sent, sound])
-}
-
-// What is seen where the LeaveAll timers of the port that has a VID registered are due at 3, of both applications, and
-// nobody says it again.
-fn leaving(alloc: Global, bridge: &mut Node, vid: Vid) -> Result<[bool; 6], NoMemory> {
-    let came = comes_in(
-        bridge,
-        ONE,
-        wires(alloc, [(App::Mvrp, JOIN.as_slice())].as_slice())?,
-    )?;
+// What is seen where that PDU is worked on, the port is spoilt, and the LeaveAll timers of the port are due at 3, of both
+// applications, and nobody says the VID again.
+fn leaving(bridge: &mut Node, vid: Vid) -> Result<[bool; 5], NoMemory> {
     let busy = has_jobs(bridge, ONE)? && bridge.is_busy();
-    let worked = answers(
-        bridge,
-        ONE,
-        [(Work, Received(1)), (Due, Fired(0))].as_slice(),
-    )?;
-    let said = says_at_two(bridge, &JOIN)?;
+    let list = [(Work, Received(1)), (Work, Nothing), (Due, Fired(0))];
+    let worked = answers(bridge, ONE, list.as_slice())? && says_at_two(bridge, &JOIN)?;
+    spoil(bridge, ONE);
+    let spoilt = soundness(bridge, ONE) == [false, true] && !bridge.copy()?.all_sound();
     let moments = [
         goes_on(bridge, true)?,
         goes_on(bridge, false)?,
@@ -338,8 +287,8 @@ fn leaving(alloc: Global, bridge: &mut Node, vid: Vid) -> Result<[bool; 6], NoMe
     ];
     let list = [(Due, Fired(2)), (Send(App::Mvrp), Sent(11))];
     let due = moments == [Cs(1), Cs(2), Cs(3)] && answers(bridge, ONE, list.as_slice())?;
-    let left = shows(bridge, ONE, 0, None, (vid, Registrar::Leaving)) && leaves(bridge, vid)?;
-    Ok([came, busy, worked, said, due, left])
+    let left = soundness(bridge, ONE) == [true, true] && leaves(bridge, vid)?;
+    Ok([busy, worked, spoilt, due, left])
 }
 
 // Whether a VID that was leaving at port 1 has left, and is withdrawn at port 2.
@@ -439,10 +388,15 @@ fn reserves(from: &mut Node, stream: StreamId) -> Result<bool, NoMemory> {
     )
 }
 
-// Whether a station talks a stream no more, and another doesn't listen to it any more.
+// Whether a station talks a stream no more, another doesn't listen to it any more, and two timers are fired by hand.
 fn ends(from: &mut Node, to: &mut Node, stream: StreamId) -> Result<bool, NoMemory> {
     let asked = asks(from, AppRequest::Hush(stream))? && asks(to, AppRequest::Unlisten(stream))?;
-    Ok(asked && !from.talks(stream) && !to.listens(stream))
+    let list = [
+        (PeriodicNow(App::Msrp), Fired(1)),
+        (LeaveAllNow(App::Msrp), Fired(1)),
+    ];
+    let fired = answers(from, ONE, list.as_slice())?;
+    Ok(asked && fired && !from.talks(stream) && !to.listens(stream))
 }
 
 // The scenes at new nodes.
@@ -472,21 +426,10 @@ fn new_declaration(alloc: Global) -> Result<[bool; 7], Fail> {
     Ok(declaration(&mut station, &mut bridge, vid)?)
 }
 
-fn new_link_events(alloc: Global) -> Result<[bool; 5], Fail> {
+fn new_leaving(alloc: Global) -> Result<([bool; 3], [bool; 5]), Fail> {
     let vid = Vid::new(10).ok_or("a VID")?;
     let mut bridge = bridge(alloc)?;
-    Ok(link_events(alloc, &mut bridge, vid)?)
-}
-
-fn new_spoiling(alloc: Global) -> Result<[bool; 8], Fail> {
-    let mut station = station(alloc)?;
-    Ok(spoiling(&mut station)?)
-}
-
-fn new_leaving(alloc: Global) -> Result<[bool; 6], Fail> {
-    let vid = Vid::new(10).ok_or("a VID")?;
-    let mut bridge = bridge(alloc)?;
-    Ok(leaving(alloc, &mut bridge, vid)?)
+    Ok((incidents(alloc, &mut bridge)?, leaving(&mut bridge, vid)?))
 }
 
 #[test]
@@ -502,19 +445,7 @@ fn a_stream_is_booked_where_a_station_listens(rt: HostRuntime) -> Result<(), Fai
 }
 
 #[test]
-fn pdus_are_lost_repeated_and_discarded(rt: HostRuntime) -> Result<(), Fail> {
-    assert_eq!(rt; new_link_events(rt.alloc())?, [true; 5]);
-    Ok(())
-}
-
-#[test]
-fn a_spoilt_port_is_sound_after_a_leave_all(rt: HostRuntime) -> Result<(), Fail> {
-    assert_eq!(rt; new_spoiling(rt.alloc())?, [true; 8]);
-    Ok(())
-}
-
-#[test]
 fn what_a_leave_all_leaves_is_withdrawn(rt: HostRuntime) -> Result<(), Fail> {
-    assert_eq!(rt; new_leaving(rt.alloc())?, [true; 6]);
+    assert_eq!(rt; new_leaving(rt.alloc())?, ([true; 3], [true; 5]));
     Ok(())
 }
