@@ -102,3 +102,14 @@ abbrev pub is_declared_in : Applicant → Bool
 is_declared_in Vo = false
 is_declared_in La = false
 is_declared_in _ = true
+
+-- whether an applicant is VO
+abbrev pub is_observer : Applicant → Bool
+is_observer Vo = true
+is_observer _ = false
+
+-- whether an applicant has nothing to say until something happens
+abbrev pub is_quiet : Applicant → Bool
+is_quiet Vo = true
+is_quiet Qa = true
+is_quiet _ = false

@@ -10,14 +10,15 @@ use Rattle.registrar.specs.declared.Registrar.{Registrar}
 use Rattle.registrar.specs.declared.Registrar.TheVariants.{Held, Leaving, Empty}
 use Rattle.srp_base.specs.declared.numbers.Cs.{Cs}
 use Rattle.srp_base.specs.declared.mrp.MrpEvent.{MrpEvent}
-use Rattle.mrp_participant.specs.declared.one_row.Row.{Row}
+use Rattle.mrp_participant.specs.declared.row.Row.{Row}
 use Rattle.mrp_participant.specs.Lookup.{Ascends, key_of, same, find}
 use Rattle.std.specs.List.{AllByRecursion, filter_map, cons_option, list_any}
 use Rattle.std.specs.Option.{option_eq}
-use Rattle.mrp_participant.specs.OneRow.{is_leaving, is_live, registered_in, row_hearing, row_after_receive, after_hear, leave_all_row, leave_is_due, after_leave_due, left_row, periodic_row}
+use Rattle.registrar.specs.Table.{is_leaving}
+use Rattle.mrp_participant.specs.Row.{is_live, registered_in, row_hearing, row_after_receive, after_hear, leave_all_row, leave_is_due, after_leave_due, left_row, periodic_row}
 use Rattle.mrp_participant.specs.State.{State, AreRows, changed_keys, rows_after_receive, left_keys, leave_timers_state, leave_all_state, periodic_fired_state, due_leave_all_state, due_state, is_leave_all_due, is_periodic_due}
 use Rattle.mrp_participant.proofs.Lookups.{same_is, Each-mapped}
-use Rattle.mrp_participant.proofs.Rooms.{In, In-filter, In-filtered, Each-filtered, find-in}
+use Rattle.mrp_participant.proofs.CutLemmas.{In, In-filter, In-filtered, Each-filtered, find-in}
 use Rattle.mrp_participant.proofs.EachKey.{each-receive, each-mapped, each-kept}
 use Rattle.mrp_participant.proofs.Transitions.{due-keeps}
 

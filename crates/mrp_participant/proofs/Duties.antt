@@ -8,16 +8,16 @@ use Rattle.std.specs.Cmp.{IsTotalOrder}
 use Rattle.srp_base.specs.declared.numbers.Cs.{Cs}
 use Rattle.leaveall.specs.declared.LeaveAll.{LeaveAll}
 use Rattle.leaveall.specs.declared.LeaveAll.TheVariants.{Active, Passive}
-use Rattle.mrp_participant.specs.declared.one_row.Row.{Row}
+use Rattle.mrp_participant.specs.declared.row.Row.{Row}
 use Rattle.mrp_participant.specs.Lookup.{same, find}
-use Rattle.mrp_participant.specs.OneRow.{registered_in, declared_in, periodic_row, after_declare, after_withdraw, after_leave, after_leave_due}
+use Rattle.mrp_participant.specs.Row.{registered_in, declared_in, periodic_row, after_declare, after_withdraw, after_leave, after_leave_due}
 use Rattle.mrp_participant.specs.Sending.{sent_row, sent_event}
 use Rattle.mrp_participant.specs.Duty.{held_in, held_after, hears, has_leave_all, OwesOf, IsDutyMet}
 use Rattle.mrp_participant.specs.State.{State, Messages, AreRows, after, is_active, takes, leave_timers_state, leave_all_state, periodic_fired_state, due_leave_all_state, due_state, is_leave_all_due, is_periodic_due, declared_state, withdrawn_state, left_state, received_state, periodic_state, sent_state, sent_messages, is_still}
 use Rattle.mrp_participant.proofs.Lookups.{find-same, same_is}
 use Rattle.mrp_participant.proofs.EachKey.{each-declare, each-withdraw, each-leave, each-mapped, each-receive, each-kept}
 use Rattle.mrp_participant.proofs.Sendings.{sent-keeps}
-use Rattle.mrp_participant.proofs.Shows.{each-due, one-sent, still-rows, settled-at}
+use Rattle.mrp_participant.proofs.StateLemmas.{each-due, one-sent, still-rows, settled-at}
 use Rattle.mrp_participant.proofs.DutyRows.{owes-same, owes-asked, declare-owes, withdraw-owes, leave-owes, leave_due-owes, periodic-owes, periodic_if-owes, receive-owes, declare-held, withdraw-held, leave-held, leave_due-held, periodic-held, periodic_if-held, receive-held, held_after_all, events-alone, sent-owes, sent-held, not_leaving-held, quiet-held}
 use Rattle.mrp_participant.proofs.Flying.{nothing-stays, hears-append, hears-twice, hears-nothing, leave_all-stays, leave_all-added, leave_all-twice, leave_all-nothing}
 

@@ -16,9 +16,11 @@ use Rattle.registrar.specs.declared.Registrar.{Registrar}
 use Rattle.registrar.specs.declared.Registrar.TheVariants.{Held, Leaving, Empty}
 use Rattle.registrar.specs.declared.RegEvent.TheVariants.{TxLeaveAll as RegTxLeaveAll, LeaveTimer}
 use Rattle.registrar.specs.Table as registrar
-use Rattle.mrp_participant.specs.declared.one_row.Row.{Row}
+use Rattle.mrp_participant.specs.declared.row.Row.{Row}
 use Rattle.mrp_participant.specs.Lookup.{same}
-use Rattle.mrp_participant.specs.OneRow.{is_in, is_observer, is_leaving_in, is_quiet, applicant_of, kept_row, with_applicant, applicant_takes, registrar_takes, declared_row, after_declare, after_withdraw, left_row, after_leave, leave_all_row, heard_row, after_hear, row_hearing, row_after_receive, registered_in, declared_in, leave_is_due, after_leave_due, periodic_row}
+use Rattle.registrar.specs.Table.{is_in}
+use Rattle.applicant.specs.Table.{is_observer, is_quiet}
+use Rattle.mrp_participant.specs.Row.{is_leaving_in, applicant_of, kept_row, with_applicant, applicant_takes, registrar_takes, declared_row, after_declare, after_withdraw, left_row, after_leave, leave_all_row, heard_row, after_hear, row_hearing, row_after_receive, registered_in, declared_in, leave_is_due, after_leave_due, periodic_row}
 use Rattle.mrp_participant.specs.Sending.{is_tried, sent_row, sent_event}
 use Rattle.mrp_participant.specs.Duty.{held_in, held_after_event, held_hearing, held_after, Owes, OwesOf}
 

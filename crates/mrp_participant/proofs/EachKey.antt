@@ -7,9 +7,9 @@ use Rattle.std.specs.Cmp.{IsTotalOrder}
 use Rattle.std.specs.List.{filter_map, cons_option}
 use Rattle.srp_base.specs.declared.numbers.Cs.{Cs}
 use Rattle.srp_base.specs.declared.mrp.MrpEvent.{MrpEvent}
-use Rattle.mrp_participant.specs.declared.one_row.Row.{Row}
+use Rattle.mrp_participant.specs.declared.row.Row.{Row}
 use Rattle.mrp_participant.specs.Lookup.{Ascends, key_of, same, find, put}
-use Rattle.mrp_participant.specs.OneRow.{leave_all_row, after_declare, after_withdraw, after_leave, after_hear, row_hearing, row_after_receive}
+use Rattle.mrp_participant.specs.Row.{leave_all_row, after_declare, after_withdraw, after_leave, after_hear, row_hearing, row_after_receive}
 use Rattle.mrp_participant.specs.State.{AreRows, rows_hearing, rows_after_receive}
 use Rattle.mrp_participant.proofs.Lookups.{find-put, find-fits, find-same, none_above, same_is}
 use Rattle.mrp_participant.proofs.Transitions.{Keeps, declare-fits, withdraw-fits, leave-fits, hear-fits, AreRows-hear, AreRows-leave_all}

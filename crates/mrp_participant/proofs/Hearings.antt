@@ -14,13 +14,13 @@ use Rattle.srp_base.specs.declared.numbers.Cs.{Cs}
 use Rattle.srp_base.specs.declared.mrp.MrpEvent.{MrpEvent}
 use Rattle.registrar.specs.declared.Registrar.{Registrar}
 use Rattle.registrar.specs.declared.Registrar.TheVariants.{Held, Leaving, Empty}
-use Rattle.mrp_participant.specs.declared.one_row.Row.{Row}
+use Rattle.mrp_participant.specs.declared.row.Row.{Row}
 use Rattle.mrp_participant.specs.Lookup.{Ascends, key_of, same, find, put}
-use Rattle.mrp_participant.specs.OneRow.{is_live, leave_all_row, after_hear, row_hearing, row_after_receive, registered_in}
+use Rattle.mrp_participant.specs.Row.{is_live, leave_all_row, after_hear, row_hearing, row_after_receive, registered_in}
 use Rattle.mrp_participant.specs.State.{AreRows, rows_after_receive, changed_keys}
 use Rattle.mrp_participant.specs.Hearing.{first_of, begun_row, row_so_far, heard_with, heard_rows, merged, put_over}
 use Rattle.mrp_participant.proofs.Lookups.{Fits, Each-map, AreRows-put, Ascends-put, find-fits, find-above, above_all, above_same, none_above, find-put, find-same, same_is, same_left}
-use Rattle.mrp_participant.proofs.Rooms.{In, Each-from_in, same_refl, find-in}
+use Rattle.mrp_participant.proofs.CutLemmas.{In, Each-from_in, same_refl, find-in}
 use Rattle.mrp_participant.proofs.Transitions.{hear-fits, leave_all-live, Ascends-mapped, AreRows-mapped, AreRows-receive}
 use Rattle.mrp_participant.proofs.EachKey.{each-mapped, each-receive}
 use Rattle.mrp_participant.proofs.Changes.{option_eq-refl}

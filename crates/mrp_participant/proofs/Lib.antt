@@ -1,5 +1,7 @@
 pub mod Changed
 pub mod Changes
+pub mod CutLemmas
+pub mod DeclarationLemmas
 pub mod Duties
 pub mod DutyRows
 pub mod EachKey
@@ -9,10 +11,8 @@ pub mod Links
 pub mod Lookups
 pub mod Octets
 pub mod OutlookLemmas
-pub mod Rooms
 pub mod Sendings
 pub mod SentEvents
-pub mod Shows
-pub mod Stays
+pub mod StateLemmas
 pub mod Transitions
 pub mod Unchanged

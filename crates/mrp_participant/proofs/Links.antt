@@ -4,7 +4,7 @@ use Rattle.std.specs.declared.cmp.Ordering.{Ordering}
 use Rattle.std.specs.Cmp.{IsTotalOrder}
 use Rattle.srp_base.specs.declared.numbers.Cs.{Cs}
 use Rattle.mrp_participant.specs.Lookup.{find}
-use Rattle.mrp_participant.specs.OneRow.{registered_in, declared_in}
+use Rattle.mrp_participant.specs.Row.{registered_in, declared_in}
 use Rattle.mrp_participant.specs.Duty.{IsDutyMet}
 use Rattle.mrp_participant.specs.Link.{Link, EndEvent, LinkEvent, AreDutiesMet, is_loss, end_event_of, repeated, turned, with_near, spoilt, after_receiving, after_sending, after_end_event, after_event, after_events}
 use Rattle.mrp_participant.specs.Link.EndEvent.{Declares, Withdraws, Leaves, Fires, FiresLeaveAll, FiresPeriodic, Sends, Receives, Loses, Repeats}

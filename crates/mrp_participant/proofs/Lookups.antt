@@ -10,10 +10,10 @@ use Rattle.std.proofs.lemmas.Cmp.{alike_right, tied_back}
 use Rattle.std.specs.List.{cons_option, filter_map}
 use Rattle.std.specs.List.Sorted.{IsPartitionPoint, IsNonDecreasingBy, IsSortedBy}
 use Rattle.std.proofs.lemmas.List.Sorted.{searchable_from_sorted}
-use Rattle.mrp_participant.specs.declared.one_row.Row.{Row}
+use Rattle.mrp_participant.specs.declared.row.Row.{Row}
 use Rattle.std.specs.List.{AllByRecursion}
 use Rattle.mrp_participant.specs.Lookup.{Ascends, key_of, same, find, put, put_at, IsRowAt, IsGapAt}
-use Rattle.mrp_participant.specs.OneRow.{is_live}
+use Rattle.mrp_participant.specs.Row.{is_live}
 use Rattle.mrp_participant.specs.State.{AreRows}
 
 -- ---- a fact of each element

@@ -14,16 +14,16 @@ use Rattle.applicant.specs.declared.AppEvent.{AppEvent}
 use Rattle.applicant.specs.declared.Applicant.{Applicant}
 use Rattle.applicant.specs.declared.Applicant.TheVariants.{Vo, Vp, Vn, An, Aa, Qa, La}
 use Rattle.registrar.specs.declared.RegEvent.TheVariants.{TxLeaveAll as RegTxLeaveAll}
-use Rattle.mrp_participant.specs.declared.one_row.Row.{Row}
-use Rattle.mrp_participant.specs.declared.room.Cut.{Cut}
+use Rattle.mrp_participant.specs.declared.row.Row.{Row}
+use Rattle.mrp_participant.specs.declared.cut.Cut.{Cut}
 use Rattle.std.specs.List.{AllByRecursion}
 use Rattle.mrp_participant.specs.Lookup.{Ascends, key_of}
-use Rattle.mrp_participant.specs.OneRow.{with_applicant, registrar_takes}
+use Rattle.mrp_participant.specs.Row.{with_applicant, registrar_takes}
 use Rattle.mrp_participant.specs.Sending.{IsSplit, round, is_tried, rows_of_round, order, opportunity, said_at, event_of, sent_event, is_taken}
-use Rattle.mrp_participant.specs.Room.{cut_at, is_before, is_in_room, first_cut}
+use Rattle.mrp_participant.specs.Cut.{cut_at, is_before, is_in_room, first_cut}
 use Rattle.mrp_participant.specs.State.{none_tried}
 use Rattle.mrp_participant.proofs.Lookups.{Ascends-kept, Each-map}
-use Rattle.mrp_participant.proofs.Rooms.{In, In-append, Lined, Ahead, first_is_before, lined_order, of_round, ahead_once, not_ahead_of_itself, in_order, in_room, filter_map-same}
+use Rattle.mrp_participant.proofs.CutLemmas.{In, In-append, Lined, Ahead, first_is_before, lined_order, of_round, ahead_once, not_ahead_of_itself, in_order, in_room, filter_map-same}
 
 -- ---- sums
 

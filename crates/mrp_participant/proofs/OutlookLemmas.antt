@@ -9,10 +9,12 @@ use Rattle.std.specs.List.{list_any, cons_option}
 use Rattle.srp_base.specs.declared.numbers.Cs.{Cs}
 use Rattle.applicant.specs.declared.Applicant.{Applicant}
 use Rattle.applicant.specs.declared.Applicant.TheVariants.{Vo, Vp, Vn, An, Aa, Qa, La}
-use Rattle.mrp_participant.specs.declared.one_row.Row.{Row}
+use Rattle.mrp_participant.specs.declared.row.Row.{Row}
 use Rattle.mrp_participant.specs.declared.outlook.Outlook.{Outlook}
 use Rattle.mrp_participant.specs.Lookup.{put, IsRowAt, IsGapAt}
-use Rattle.mrp_participant.specs.OneRow.{is_leaving, is_quiet, is_settled, leave_is_due}
+use Rattle.registrar.specs.Table.{is_leaving}
+use Rattle.applicant.specs.Table.{is_quiet}
+use Rattle.mrp_participant.specs.Row.{is_settled, leave_is_due}
 use Rattle.mrp_participant.specs.Outlook.{IsFrom, HoldsOf, HoldsOfAll, is_by, may_leave, is_at_rest, earlier, outlook_with, empty_outlook}
 use Rattle.mrp_participant.specs.Sending.{round, is_tried}
 use Rattle.mrp_participant.specs.State.{none_tried, all_settled}

@@ -13,15 +13,15 @@ use Rattle.leaveall.specs.declared.LeaveAll.{LeaveAll}
 use Rattle.leaveall.specs.declared.LeaveAll.TheVariants.{Active, Passive}
 use Rattle.leaveall.specs.declared.LaEvent.TheVariants.{Tx as LaTx}
 use Rattle.leaveall.specs.Table as leaveall
-use Rattle.mrp_participant.specs.declared.one_row.Row.{Row}
-use Rattle.mrp_participant.specs.declared.room.Cut.{Cut}
+use Rattle.mrp_participant.specs.declared.row.Row.{Row}
+use Rattle.mrp_participant.specs.declared.cut.Cut.{Cut}
 use Rattle.mrp_participant.specs.Lookup.{key_of}
-use Rattle.mrp_participant.specs.OneRow.{is_live, applicant_takes, registrar_takes}
+use Rattle.mrp_participant.specs.Row.{is_live, applicant_takes, registrar_takes}
 use Rattle.mrp_participant.specs.Sending.{is_tried, is_taken, opportunity, row_after, sent_row, sent_event, order, octets_of, up_to}
-use Rattle.mrp_participant.specs.Room.{is_in_room, first_cut}
+use Rattle.mrp_participant.specs.Cut.{is_in_room, first_cut}
 use Rattle.mrp_participant.specs.State.{State, AreRows, after, is_active, is_silent, none_tried, sent_events, sent_state}
 use Rattle.mrp_participant.proofs.Transitions.{Keeps, kept-is, registrar-lives, sent_leave_all-registers}
-use Rattle.mrp_participant.proofs.Rooms.{in_room, filter_map-same}
+use Rattle.mrp_participant.proofs.CutLemmas.{in_room, filter_map-same}
 
 -- ---- rows stay rows
 

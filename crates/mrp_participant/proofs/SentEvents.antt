@@ -15,12 +15,13 @@ use Rattle.registrar.specs.declared.Registrar.{Registrar}
 use Rattle.registrar.specs.declared.Registrar.TheVariants.{Held, Leaving, Empty}
 use Rattle.leaveall.specs.declared.LeaveAll.{LeaveAll}
 use Rattle.leaveall.specs.declared.LeaveAll.TheVariants.{Active, Passive}
-use Rattle.mrp_participant.specs.declared.one_row.Row.{Row}
+use Rattle.mrp_participant.specs.declared.row.Row.{Row}
 use Rattle.mrp_participant.specs.Lookup.{Ascends, key_of, find}
-use Rattle.mrp_participant.specs.OneRow.{is_in, declared_in}
+use Rattle.registrar.specs.Table.{is_in}
+use Rattle.mrp_participant.specs.Row.{declared_in}
 use Rattle.mrp_participant.specs.Sending.{round, is_tried, is_leave, word_of, sent_event}
 use Rattle.mrp_participant.specs.State.{State, is_active, is_silent, none_tried}
-use Rattle.mrp_participant.proofs.Rooms.{In, find-in}
+use Rattle.mrp_participant.proofs.CutLemmas.{In, find-in}
 use Rattle.mrp_participant.proofs.Octets.{sent_is}
 use Rattle.mrp_participant.proofs.Changes.{In-contains}
 

@@ -20,8 +20,10 @@ use Rattle.registrar.specs.declared.RegEvent.{RegEvent}
 use Rattle.registrar.specs.declared.RegEvent.TheVariants.{RxNew, RxJoin, RxLv as RegRxLv, RxLeaveAll as RegRxLeaveAll, TxLeaveAll, LeaveTimer}
 use Rattle.registrar.specs.Table as registrar
 use Rattle.std.specs.List.{filter_map}
-use Rattle.mrp_participant.specs.declared.one_row.Row.{Row}
-use Rattle.mrp_participant.specs.OneRow.{is_live, leave_is_due, after_leave_due, is_in, applicant_takes, registrar_takes, with_heard, leave_all_row, periodic_row, kept_row, fresh_row, declared_row, with_applicant, left_row, heard_row, after_declare, after_withdraw, after_leave, after_hear, is_observer}
+use Rattle.mrp_participant.specs.declared.row.Row.{Row}
+use Rattle.registrar.specs.Table.{is_in}
+use Rattle.applicant.specs.Table.{is_observer}
+use Rattle.mrp_participant.specs.Row.{is_live, leave_is_due, after_leave_due, applicant_takes, registrar_takes, with_heard, leave_all_row, periodic_row, kept_row, fresh_row, declared_row, with_applicant, left_row, heard_row, after_declare, after_withdraw, after_leave, after_hear}
 use Rattle.std.specs.declared.result.Result.{Result}
 use Rattle.std.specs.declared.result.Result.TheVariants.{Ok, Err}
 use Rattle.mrp_participant.specs.Lookup.{Ascends, key_of, find, put}

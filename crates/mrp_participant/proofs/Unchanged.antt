@@ -14,9 +14,10 @@ use Rattle.applicant.specs.declared.Applicant.TheVariants.{Vo, Vp, Vn, An, Aa, Q
 use Rattle.applicant.specs.Table as applicant
 use Rattle.registrar.specs.declared.Registrar.{Registrar}
 use Rattle.registrar.specs.declared.Registrar.TheVariants.{Held, Leaving, Empty}
-use Rattle.mrp_participant.specs.declared.one_row.Row.{Row}
+use Rattle.mrp_participant.specs.declared.row.Row.{Row}
 use Rattle.mrp_participant.specs.Lookup.{Ascends, key_of, find, put, put_at}
-use Rattle.mrp_participant.specs.OneRow.{is_live, is_leaving, with_applicant, left_row, after_declare, after_withdraw, after_leave, is_leaving_in, declared_in}
+use Rattle.registrar.specs.Table.{is_leaving}
+use Rattle.mrp_participant.specs.Row.{is_live, with_applicant, left_row, after_declare, after_withdraw, after_leave, is_leaving_in, declared_in}
 use Rattle.mrp_participant.specs.State.{State, AreRows, with_rows}
 use Rattle.mrp_participant.proofs.Lookups.{find-above, above_all, find-fits}
 

@@ -10,9 +10,9 @@ use Rattle.srp_base.specs.declared.mrp.MrpEvent.{MrpEvent}
 use Rattle.srp_base.specs.declared.mrp.MrpEvent.TheVariants.{New, JoinIn, OnlyIn, JoinMt, OnlyMt, Lv}
 use Rattle.applicant.specs.declared.Applicant.{Applicant}
 use Rattle.applicant.specs.declared.Applicant.TheVariants.{Vo, Vp, Vn, An, Aa, Qa, La}
-use Rattle.mrp_participant.specs.declared.one_row.Row.{Row}
+use Rattle.mrp_participant.specs.declared.row.Row.{Row}
 use Rattle.mrp_participant.specs.Lookup.{same, find}
-use Rattle.mrp_participant.specs.OneRow.{is_in}
+use Rattle.registrar.specs.Table.{is_in}
 use Rattle.mrp_participant.specs.State.{State, Messages}
 
 -- what a registrar holds of its key: the content that it heard last where it is IN, and else nothing

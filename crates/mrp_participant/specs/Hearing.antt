@@ -7,9 +7,9 @@ use Rattle.std.specs.declared.cmp.Ordering.{Ordering}
 use Rattle.std.specs.Set.{sorted_merge}
 use Rattle.srp_base.specs.declared.numbers.Cs.{Cs}
 use Rattle.srp_base.specs.declared.mrp.MrpEvent.{MrpEvent}
-use Rattle.mrp_participant.specs.declared.one_row.Row.{Row}
+use Rattle.mrp_participant.specs.declared.row.Row.{Row}
 use Rattle.mrp_participant.specs.Lookup.{find, put}
-use Rattle.mrp_participant.specs.OneRow.{leave_all_row, after_hear}
+use Rattle.mrp_participant.specs.Row.{leave_all_row, after_hear}
 
 -- the first, or else the second
 abbrev pub first_of : {X : Type 0} → Option X → Option X → Option X

@@ -1,9 +1,9 @@
+pub mod Cut
 pub mod Duty
 pub mod Hearing
 pub mod Link
 pub mod Lookup
-pub mod OneRow
 pub mod Outlook
-pub mod Room
+pub mod Row
 pub mod Sending
 pub mod State

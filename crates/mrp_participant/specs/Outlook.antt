@@ -6,9 +6,9 @@ use Rattle.std.specs.List.{AllByRecursion}
 use Rattle.std.specs.declared.option.Option.{Option}
 use Rattle.std.specs.declared.option.Option.TheVariants.{None, Some}
 use Rattle.srp_base.specs.declared.numbers.Cs.{Cs}
-use Rattle.mrp_participant.specs.declared.one_row.Row.{Row}
+use Rattle.mrp_participant.specs.declared.row.Row.{Row}
 use Rattle.mrp_participant.specs.declared.outlook.Outlook.{Outlook}
-use Rattle.mrp_participant.specs.OneRow.{is_leaving}
+use Rattle.registrar.specs.Table.{is_leaving}
 use Rattle.mrp_participant.specs.Sending.{is_tried}
 
 -- a moment isn't before the first one, where there is a first one at all

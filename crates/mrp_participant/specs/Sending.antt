@@ -15,9 +15,10 @@ use Rattle.applicant.specs.declared.Say.{Say}
 use Rattle.applicant.specs.declared.Say.TheVariants.{Quiet, New as SayNew, Join as SayJoin, Lv as SayLv}
 use Rattle.applicant.specs.Table as applicant
 use Rattle.registrar.specs.declared.RegEvent.TheVariants.{TxLeaveAll as RegTxLeaveAll}
-use Rattle.mrp_participant.specs.declared.one_row.Row.{Row}
+use Rattle.mrp_participant.specs.declared.row.Row.{Row}
 use Rattle.mrp_participant.specs.Lookup.{same}
-use Rattle.mrp_participant.specs.OneRow.{is_in, kept_row, applicant_takes, registrar_takes}
+use Rattle.registrar.specs.Table.{is_in}
+use Rattle.mrp_participant.specs.Row.{kept_row, applicant_takes, registrar_takes}
 
 -- the round in which an applicant's row is tried, or 0: without LeaveAll those in VP, VN and LA first,
 -- then those in AN and AA

@@ -12,11 +12,11 @@ use Rattle.leaveall.specs.declared.LaEvent.{LaEvent}
 use Rattle.leaveall.specs.declared.LaEvent.TheVariants.{Timer, Rx, Tx}
 use Rattle.leaveall.specs.declared.Periodic.{Periodic}
 use Rattle.leaveall.specs.Table as leaveall
-use Rattle.mrp_participant.specs.declared.one_row.Row.{Row}
+use Rattle.mrp_participant.specs.declared.row.Row.{Row}
 use Rattle.std.specs.List.{AllByRecursion}
 use Rattle.mrp_participant.specs.Lookup.{Ascends, key_of, find, put}
 use Rattle.std.specs.Option.{option_eq}
-use Rattle.mrp_participant.specs.OneRow.{is_live, after_declare, after_withdraw, after_leave, after_hear, leave_all_row, declared_in, registered_in, leave_is_due, after_leave_due, periodic_row, is_settled}
+use Rattle.mrp_participant.specs.Row.{is_live, after_declare, after_withdraw, after_leave, after_hear, leave_all_row, declared_in, registered_in, leave_is_due, after_leave_due, periodic_row, is_settled}
 use Rattle.mrp_participant.specs.Sending.{is_taken, is_tried, sent_row, sent_event}
 
 -- the rows ascending by key, the LeaveAll machine with the moment of its timer and its period, the time

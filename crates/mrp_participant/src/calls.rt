@@ -2,15 +2,15 @@
 
 ghost use Rattle.std.specs.Prelude.{◌≡◌, false, Some, None, OnOk, OnErr};
 ghost use Rattle.mrp_participant.specs.Lookup.{Ascends, ChangesOnly, key_of, find, put};
-ghost use Rattle.mrp_participant.specs.OneRow.{after_declare, after_withdraw, after_leave, is_leaving_in, declared_in};
+ghost use Rattle.mrp_participant.specs.Row.{after_declare, after_withdraw, after_leave, is_leaving_in, declared_in};
 ghost use Rattle.mrp_participant.specs.Outlook.{HoldsOfAll};
 ghost use Rattle.mrp_participant.specs.State.{declared_state, withdrawn_state, left_state};
 
 use crate::application::MrpApp;
 use crate::lookup::{fill_at, place, replace_at};
 use crate::model::Participant;
-use crate::one_row::Row;
 use crate::outlook::{Outlook, outlook_of};
+use crate::row::Row;
 use registrar::Registrar;
 use srp_base::NoMemory;
 

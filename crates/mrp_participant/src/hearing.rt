@@ -6,12 +6,12 @@ ghost use Rattle.std.specs.Prelude.{◌≡◌, ◌<◌, ◌≤◌, ◌+◌, ◌�
 ghost use Rattle.std.specs.Option.{is_some};
 ghost use Rattle.std.specs.List.{AllByRecursion, list_all};
 ghost use Rattle.mrp_participant.specs.Lookup.{Ascends, key_of, find, put};
-ghost use Rattle.mrp_participant.specs.OneRow.{after_hear};
+ghost use Rattle.mrp_participant.specs.Row.{after_hear};
 ghost use Rattle.mrp_participant.specs.State.{AreRows};
 ghost use Rattle.mrp_participant.specs.Hearing.{first_of, begun_row, row_so_far, heard_with, heard_rows, merged, put_over};
 
 use crate::lookup::{fill_at, find_row, place, replace_at};
-use crate::one_row::{Row, makes_row};
+use crate::row::{Row, makes_row};
 use srp_base::{Cs, MrpEvent, NoMemory};
 use std::alloc::Global;
 use std::cmp::Ordering;

@@ -7,9 +7,11 @@ ghost use Rattle.srp_base.specs.declared.mrp.MrpEvent.{MrpEvent};
 ghost use Rattle.leaveall.specs.declared.LeaveAll.TheVariants.{Passive};
 ghost use Rattle.applicant.specs.declared.Applicant.TheVariants.{Vo};
 ghost use Rattle.registrar.specs.declared.Registrar.TheVariants.{Empty};
-ghost use Rattle.mrp_participant.specs.declared.one_row.Row.{Row};
+ghost use Rattle.mrp_participant.specs.declared.row.Row.{Row};
 ghost use Rattle.mrp_participant.specs.Lookup.{Ascends, ChangesOnly, key_of, same, find};
-ghost use Rattle.mrp_participant.specs.OneRow.{after_declare, after_withdraw, after_leave, row_after_receive, after_leave_due, periodic_row, applicant_of, registrar_of, is_in, is_leaving_in, is_quiet};
+ghost use Rattle.registrar.specs.Table.{is_in};
+ghost use Rattle.applicant.specs.Table.{is_quiet};
+ghost use Rattle.mrp_participant.specs.Row.{after_declare, after_withdraw, after_leave, row_after_receive, after_leave_due, periodic_row, applicant_of, registrar_of, is_leaving_in};
 ghost use Rattle.mrp_participant.specs.Sending.{IsSplit, order, is_taken, is_leave, word_of};
 ghost use Rattle.mrp_participant.specs.State.{State, AreRows, after, is_active, is_silent, takes, row_sent, event_sent, declared_at, registered_at, declared_state, withdrawn_state, left_state, received_state, leave_all_state, periodic_state, sent_events, sent_state, changed_keys, left_keys, due_state, due_count, is_any_due, is_periodic_due, is_still};
 

@@ -14,7 +14,7 @@
 //! participant as one `State` (`specs/State.antt`), and each call's clause is the whole state after it:
 //!
 //! - `declare`, `withdraw` and `leave_due` change the row of one key, by the tables of the machines
-//!   (`specs/OneRow.antt`), and no other;
+//!   (`specs/Row.antt`), and no other;
 //! - `receive` is LeaveAll at every row, and then the events in order;
 //! - `send` takes the rows, in the order in which they are tried, that fit into a PDU
 //!   (`specs/Sending.antt`); what each row says, and what becomes of it, depends on that test and on the
@@ -33,22 +33,22 @@
 
 mod application;
 mod calls;
+mod cut;
 pub mod duty_laws;
 mod hearing;
 pub mod laws;
 pub mod link_laws;
 mod lookup;
 mod model;
-mod one_row;
 mod outlook;
 mod receive;
-mod room;
+mod row;
 mod sending;
 mod timers;
 
 pub use application::{MrpApp, Msgs};
 pub use model::Participant;
-pub use one_row::Row;
+pub use row::Row;
 
 #[cfg(test)]
 mod tests;

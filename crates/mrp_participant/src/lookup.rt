@@ -4,7 +4,7 @@ ghost use Rattle.std.specs.Prelude.{◌≡◌, suc, ◌<◌, ◌≤◌, ◌++◌
 ghost use Rattle.std.specs.List.{cons_option};
 ghost use Rattle.mrp_participant.specs.Lookup.{Ascends, key_of, find, IsRowAt, IsGapAt};
 
-use crate::one_row::Row;
+use crate::row::Row;
 use srp_base::NoMemory;
 
 /// The place of a key's row, or the place at which a row of it would stand.

@@ -2,13 +2,13 @@
 
 ghost use Rattle.std.specs.Prelude.{◌≡◌, length, map, slice_get, false, IfOk};
 ghost use Rattle.mrp_participant.specs.Lookup.{find, key_of};
-ghost use Rattle.mrp_participant.specs.OneRow.{applicant_of, registrar_of, registered_in, declared_in};
+ghost use Rattle.mrp_participant.specs.Row.{applicant_of, registrar_of, registered_in, declared_in};
 ghost use Rattle.mrp_participant.specs.State.{IsTime, AreRows, new_state, is_still};
 
 use crate::application::MrpApp;
 use crate::lookup::find_row;
-use crate::one_row::Row;
 use crate::outlook::{Outlook, are_settled};
+use crate::row::Row;
 use applicant::Applicant;
 use leaveall::{LeaveAll, Periodic};
 use registrar::Registrar;

@@ -3,11 +3,11 @@
 
 ghost use Rattle.std.specs.Prelude.{◌≡◌, not, if◌then◌else◌, Some};
 ghost use Rattle.std.specs.List.{list_any};
-ghost use Rattle.mrp_participant.specs.OneRow.{leave_is_due};
+ghost use Rattle.mrp_participant.specs.Row.{leave_is_due};
 ghost use Rattle.mrp_participant.specs.Outlook.{HoldsOfAll, earlier, empty_outlook, is_at_rest, is_by, may_leave, outlook_of, outlook_with};
 ghost use Rattle.mrp_participant.specs.State.{all_settled, none_tried};
 
-use crate::one_row::Row;
+use crate::row::Row;
 use registrar::Registrar;
 use srp_base::Cs;
 

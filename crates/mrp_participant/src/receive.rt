@@ -5,15 +5,15 @@ ghost use Rattle.std.specs.Option.{option_eq};
 ghost use Rattle.leaveall.specs.Table.{table};
 ghost use Rattle.leaveall.specs.declared.LaEvent.TheVariants.{Rx};
 ghost use Rattle.mrp_participant.specs.Lookup.{Ascends, key_of, find};
-ghost use Rattle.mrp_participant.specs.OneRow.{registered_in};
+ghost use Rattle.mrp_participant.specs.Row.{registered_in};
 ghost use Rattle.mrp_participant.specs.State.{AreRows, after, rows_after_receive, changed_keys, received_state};
 
 use crate::application::{MrpApp, Msgs};
 use crate::hearing::{put_heard, rows_heard};
 use crate::lookup::find_row;
 use crate::model::Participant;
-use crate::one_row::Row;
 use crate::outlook::outlook_of;
+use crate::row::Row;
 use leaveall::{LaEvent, LeaveAll};
 use srp_base::{Cs, MrpEvent, NoMemory, Seq};
 use std::alloc::Global;

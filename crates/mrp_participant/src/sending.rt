@@ -4,14 +4,14 @@ ghost use Rattle.std.specs.Prelude.{◌≡◌, ◌<◌, ◌^◌, ◌+◌, ◌≤
 ghost use Rattle.std.specs.List.{filter_map};
 ghost use Rattle.mrp_participant.specs.Lookup.{Ascends};
 ghost use Rattle.mrp_participant.specs.Sending.{sent_row, sent_event, is_taken};
-ghost use Rattle.mrp_participant.specs.Room.{is_before, is_in_room};
+ghost use Rattle.mrp_participant.specs.Cut.{is_before, is_in_room};
 ghost use Rattle.mrp_participant.specs.State.{AreRows, is_active, is_silent, none_tried, sent_events, sent_state};
 
 use crate::application::{MrpApp, Msgs};
+use crate::cut::{Cut, find_cut};
 use crate::model::Participant;
-use crate::one_row::{Row, round};
 use crate::outlook::{is_none_tried, outlook_of};
-use crate::room::{Cut, find_cut};
+use crate::row::{Row, round};
 use leaveall::{LaEvent, LeaveAll};
 use srp_base::{Cs, MrpEvent, NoMemory, Seq};
 use std::alloc::{AllocError, Global};

@@ -4,14 +4,14 @@
 ghost use Rattle.std.specs.Prelude.{◌≡◌, ◌<◌, ◌+◌, ◌^◌, map, filter, min, length, if◌then◌else◌, OnOk, OnErr, IfOk};
 ghost use Rattle.std.specs.List.{filter_map, list_any};
 ghost use Rattle.mrp_participant.specs.Lookup.{key_of};
-ghost use Rattle.mrp_participant.specs.OneRow.{leave_is_due, after_leave_due, periodic_row};
+ghost use Rattle.mrp_participant.specs.Row.{leave_is_due, after_leave_due, periodic_row};
 ghost use Rattle.mrp_participant.specs.Outlook.{HoldsOfAll};
 ghost use Rattle.mrp_participant.specs.State.{leave_all_state, periodic_state, is_any_due, due_leave_all_state, due_periodic_state, due_state, due_count, left_keys};
 
 use crate::application::MrpApp;
 use crate::model::Participant;
-use crate::one_row::Row;
 use crate::outlook::{Outlook, any_leave_due, is_leave_due, outlook_of};
+use crate::row::Row;
 use leaveall::LaEvent;
 use srp_base::{Cs, NoMemory, Seq};
 use std::alloc::{AllocError, Global};

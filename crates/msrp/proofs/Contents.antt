@@ -5,9 +5,9 @@ use Rattle.std.specs.List.{AllByRecursion}
 use Rattle.srp_base.specs.declared.numbers.Cs.{Cs}
 use Rattle.srp_base.specs.declared.mrp.MrpEvent.{MrpEvent}
 use Rattle.srp_base.specs.declared.mrp.MrpEvent.TheVariants.{New, JoinIn, OnlyIn, JoinMt, OnlyMt, Lv}
-use Rattle.mrp_participant.specs.declared.one_row.Row.{Row}
+use Rattle.mrp_participant.specs.declared.row.Row.{Row}
 use Rattle.mrp_participant.specs.Lookup.{ChangesOnly, find, same}
-use Rattle.mrp_participant.specs.OneRow.{is_live, kept_row, declared_row, after_declare, after_withdraw, after_leave, left_row, leave_all_row, heard_row, makes_row, after_hear, row_hearing, row_after_receive, after_leave_due, leave_is_due, periodic_row, fresh_row}
+use Rattle.mrp_participant.specs.Row.{is_live, kept_row, declared_row, after_declare, after_withdraw, after_leave, left_row, leave_all_row, heard_row, makes_row, after_hear, row_hearing, row_after_receive, after_leave_due, leave_is_due, periodic_row, fresh_row}
 use Rattle.mrp_participant.specs.Sending.{sent_row}
 use Rattle.applicant.specs.Table as applicant
 use Rattle.msrp_codec.specs.declared.pdu.MsrpKey.{MsrpKey}

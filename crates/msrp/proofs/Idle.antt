@@ -8,9 +8,9 @@ use Rattle.stream_importance.specs.declared.entry.Entry.{Entry}
 use Rattle.port_ledger.specs.Book.{Book, booked_only_in}
 use Rattle.port_ledger.specs.Decision.{IsAscending, booked_of}
 use Rattle.attribute_propagation.specs.Ports.{marked_from, marked_elsewhere}
-use Rattle.mrp_participant.specs.declared.one_row.Row.{Row}
+use Rattle.mrp_participant.specs.declared.row.Row.{Row}
 use Rattle.mrp_participant.specs.Lookup.{key_of}
-use Rattle.mrp_participant.specs.OneRow.{leave_is_due, after_leave_due}
+use Rattle.mrp_participant.specs.Row.{leave_is_due, after_leave_due}
 use Rattle.mrp_participant.specs.State.{State, is_any_due, is_leave_all_due, is_periodic_due, leave_all_state, periodic_fired_state, due_leave_all_state, due_periodic_state, due_state, due_count, left_keys}
 use Rattle.msrp_codec.specs.declared.pdu.MsrpKey.{MsrpKey}
 use Rattle.msrp.specs.declared.port.Port.{Port}

@@ -2,7 +2,7 @@
 use Rattle.std.proofs.Common.{◌≡◌, Bool, true, false, ◌||◌, if◌then◌else◌, List, [], ◌∷◌, refl, ap, ◌∙◌}
 use Rattle.std.specs.Prelude.{Option, Some, None}
 use Rattle.mrp_participant.specs.Lookup.{ChangesOnly, find, same}
-use Rattle.mrp_participant.specs.OneRow.{after_declare, after_withdraw}
+use Rattle.mrp_participant.specs.Row.{after_declare, after_withdraw}
 use Rattle.mrp_participant.specs.State.{AreRows, declared_at, registered_at, declared_state, withdrawn_state}
 use Rattle.attribute_propagation.specs.Dirty.{is_awaiting}
 use Rattle.msrp_codec.specs.declared.pdu.MsrpKey.{MsrpKey}

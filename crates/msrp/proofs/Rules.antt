@@ -19,7 +19,7 @@ use Rattle.msrp_talker.specs.declared.port_config.PortConfig.{PortConfig}
 use Rattle.msrp_talker.specs.TalkerOut.{check_of, class_of_priority, declared_of, delayed_by, refusal_of, talker_out}
 use Rattle.attribute_propagation.specs.Dirty.{is_awaiting, all_marked}
 use Rattle.mrp_participant.specs.Lookup.{find as row_of}
-use Rattle.mrp_participant.specs.OneRow.{registered_in}
+use Rattle.mrp_participant.specs.Row.{registered_in}
 use Rattle.mrp_participant.specs.State.{registered_at}
 use Rattle.msrp_codec.specs.declared.pdu.MsrpKey.{MsrpKey}
 use Rattle.msrp_codec.specs.declared.pdu.MsrpKey.TheVariants as keys

@@ -6,7 +6,9 @@ use Rattle.std.proofs.lemmas.Bool.Decides.{nat_tests}
 use Rattle.applicant.specs.declared.Applicant.{Applicant}
 use Rattle.applicant.specs.declared.Applicant.TheVariants.{Vo, Vp, Vn, An, Aa, Qa, La}
 use Rattle.mrp_participant.specs.Lookup.{find}
-use Rattle.mrp_participant.specs.OneRow.{is_quiet, is_settled, is_leaving}
+use Rattle.registrar.specs.Table.{is_leaving}
+use Rattle.applicant.specs.Table.{is_quiet}
+use Rattle.mrp_participant.specs.Row.{is_settled}
 use Rattle.mrp_participant.specs.Sending.{is_tried}
 use Rattle.mrp_participant.specs.State.{is_active, is_still, is_silent}
 use Rattle.msrp_codec.specs.declared.pdu.MsrpKey.{MsrpKey}

@@ -9,7 +9,7 @@ use Rattle.srp_base.specs.declared.streams.Talker.{Talker}
 use Rattle.attribute_propagation.specs.Dirty.{is_awaiting, all_marked}
 use Rattle.attribute_propagation.specs.Ports.{marked_everywhere}
 use Rattle.mrp_participant.specs.Lookup.{find, same}
-use Rattle.mrp_participant.specs.OneRow.{is_leaving_in}
+use Rattle.mrp_participant.specs.Row.{is_leaving_in}
 use Rattle.mrp_participant.specs.State.{registered_at, left_state}
 use Rattle.msrp_codec.specs.declared.pdu.MsrpKey.{MsrpKey}
 use Rattle.msrp_codec.specs.declared.pdu.MsrpKey.TheVariants as keys

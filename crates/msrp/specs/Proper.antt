@@ -4,7 +4,7 @@ use Rattle.std.specs.Prelude.{◌≡◌, ◌<◌, ◌^◌, List, map, Some}
 use Rattle.std.specs.List.{AllByRecursion}
 use Rattle.stream_importance.specs.declared.slope.Caps.{Caps}
 use Rattle.msrp_talker.specs.declared.port_config.PortConfig.{PortConfig}
-use Rattle.mrp_participant.specs.declared.one_row.Row.{Row}
+use Rattle.mrp_participant.specs.declared.row.Row.{Row}
 use Rattle.mrp_participant.specs.Lookup.{find}
 use Rattle.msrp_codec.specs.declared.pdu.MsrpKey.{MsrpKey}
 use Rattle.msrp_codec.specs.declared.pdu.MsrpContent.{MsrpContent}

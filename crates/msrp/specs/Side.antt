@@ -18,7 +18,7 @@ use Rattle.msrp_codec.specs.declared.pdu.MsrpKey.TheVariants.{Talker as TalkerKe
 use Rattle.msrp_codec.specs.Meaning.{msrp_reading}
 use Rattle.msrp_codec.specs.Writing.{msrp_spelling, as_written}
 use Rattle.mrp_participant.specs.Lookup.{find}
-use Rattle.mrp_participant.specs.OneRow.{is_leaving_in}
+use Rattle.mrp_participant.specs.Row.{is_leaving_in}
 use Rattle.mrp_participant.specs.State.{AreRows, is_silent, is_still, is_any_due, declared_at, registered_at, new_state, left_state, left_keys, due_state, leave_all_state, periodic_state}
 use Rattle.attribute_propagation.specs.Dirty.{is_awaiting, all_marked}
 use Rattle.attribute_propagation.specs.Ports.{marked_elsewhere, marked_everywhere}

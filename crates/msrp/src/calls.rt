@@ -2,7 +2,7 @@
 
 ghost use Rattle.std.specs.Prelude.{◌≡◌, ◌⊎◌, ◌++◌, ◌<◌, ◌≤◌, ◌^◌, if◌then◌else◌, [], length, slice_get, slice_set, Some, Ok, IfOk, IfSome, OnOk, OnErr};
 ghost use Rattle.mrp_participant.specs.Lookup.{find};
-ghost use Rattle.mrp_participant.specs.OneRow.{is_leaving_in};
+ghost use Rattle.mrp_participant.specs.Row.{is_leaving_in};
 ghost use Rattle.mrp_participant.specs.State.{AreRows, due_count};
 ghost use Rattle.std.specs.List.{AllByRecursion};
 ghost use Rattle.msrp_codec.specs.Content.{Belongs};

@@ -10,7 +10,7 @@ use Rattle.std.specs.Ordering.{nat_cmp, is_eq}
 use Rattle.srp_base.specs.declared.numbers.Cs.{Cs}
 use Rattle.srp_base.specs.declared.ports.PortSetup.{PortSetup}
 use Rattle.mrp_participant.specs.Lookup.{find, same}
-use Rattle.mrp_participant.specs.OneRow.{is_leaving_in}
+use Rattle.mrp_participant.specs.Row.{is_leaving_in}
 use Rattle.mrp_participant.specs.State.{AreRows, new_state, left_state, registered_at}
 use Rattle.attribute_propagation.specs.Dirty.{is_awaiting, all_marked, marked, cleared, IsAscending}
 use Rattle.attribute_propagation.specs.Flat.{is_any, elsewhere}

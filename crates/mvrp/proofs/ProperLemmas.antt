@@ -5,9 +5,9 @@ use Rattle.std.specs.Ordering.{nat_cmp, is_eq}
 use Rattle.srp_base.specs.declared.numbers.Cs.{Cs}
 use Rattle.srp_base.specs.declared.ports.PortSetup.{PortSetup}
 use Rattle.srp_base.specs.declared.mrp.MrpEvent.{MrpEvent}
-use Rattle.mrp_participant.specs.declared.one_row.Row.{Row}
+use Rattle.mrp_participant.specs.declared.row.Row.{Row}
 use Rattle.mrp_participant.specs.Lookup.{find, ChangesOnly}
-use Rattle.mrp_participant.specs.OneRow.{after_declare, after_withdraw}
+use Rattle.mrp_participant.specs.Row.{after_declare, after_withdraw}
 use Rattle.mrp_participant.specs.State.{AreRows, new_state, declared_state, withdrawn_state}
 use Rattle.attribute_propagation.specs.Dirty.{IsAscending, is_awaiting, marked, cleared}
 use Rattle.attribute_propagation.specs.Ports.{marked_everywhere}

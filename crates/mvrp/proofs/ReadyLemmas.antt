@@ -3,9 +3,9 @@ use Rattle.std.proofs.Common.{◌≡◌, ◌⊎◌, inl, inr, ℕ, zero, suc, �
 use Rattle.std.specs.Prelude.{slice_get, slice_set, Option, Some, None, filter}
 use Rattle.std.specs.List.{list_any, filter_map}
 use Rattle.srp_base.specs.declared.numbers.Cs.{Cs}
-use Rattle.mrp_participant.specs.declared.one_row.Row.{Row}
+use Rattle.mrp_participant.specs.declared.row.Row.{Row}
 use Rattle.mrp_participant.specs.Lookup.{key_of}
-use Rattle.mrp_participant.specs.OneRow.{leave_is_due, after_leave_due}
+use Rattle.mrp_participant.specs.Row.{leave_is_due, after_leave_due}
 use Rattle.mrp_participant.specs.State.{is_any_due, is_leave_all_due, is_periodic_due, leave_all_state, periodic_fired_state, due_leave_all_state, due_periodic_state, due_state, due_count, left_keys}
 use Rattle.mvrp.specs.Part.{Part}
 use Rattle.mvrp.specs.Side.{Vlans, retold, at_part, due_vlans, settled_vlans, awaiting_at, is_flat}

@@ -5,8 +5,10 @@ use Rattle.std.specs.List.{list_all}
 use Rattle.srp_base.specs.declared.mrp.MrpEvent.{MrpEvent}
 use Rattle.applicant.specs.declared.Applicant.{Applicant}
 use Rattle.applicant.specs.declared.Applicant.TheVariants.{Vo, Vp, Vn, An, Aa, Qa, La}
-use Rattle.mrp_participant.specs.declared.one_row.Row.{Row}
-use Rattle.mrp_participant.specs.OneRow.{is_quiet, is_settled, is_leaving}
+use Rattle.mrp_participant.specs.declared.row.Row.{Row}
+use Rattle.registrar.specs.Table.{is_leaving}
+use Rattle.applicant.specs.Table.{is_quiet}
+use Rattle.mrp_participant.specs.Row.{is_settled}
 use Rattle.mrp_participant.specs.Sending.{is_tried}
 use Rattle.mrp_participant.specs.State.{is_active, is_still, is_silent}
 use Rattle.std.proofs.lemmas.List.Sums.{sum_by-cons}

@@ -5,9 +5,9 @@ use Rattle.std.specs.Ordering.{nat_cmp, is_eq}
 use Rattle.std.proofs.lemmas.Bool.Decides.{nat_tests}
 use Rattle.srp_base.specs.declared.numbers.Cs.{Cs}
 use Rattle.srp_base.specs.declared.mrp.MrpEvent.{MrpEvent}
-use Rattle.mrp_participant.specs.declared.one_row.Row.{Row}
+use Rattle.mrp_participant.specs.declared.row.Row.{Row}
 use Rattle.mrp_participant.specs.Lookup.{find, same, ChangesOnly}
-use Rattle.mrp_participant.specs.OneRow.{is_leaving_in, after_leave, after_hear, leave_all_row, row_hearing}
+use Rattle.mrp_participant.specs.Row.{is_leaving_in, after_leave, after_hear, leave_all_row, row_hearing}
 use Rattle.mrp_participant.specs.State.{AreRows, registered_at}
 use Rattle.attribute_propagation.specs.Dirty.{is_awaiting, all_marked}
 use Rattle.attribute_propagation.specs.Ports.{marked_elsewhere, marked_everywhere}

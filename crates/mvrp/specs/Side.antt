@@ -12,7 +12,7 @@ use Rattle.srp_base.specs.declared.memory.NoMemory.{NoMemory}
 use Rattle.mrpdu_codec.specs.declared.error.DecodeErr.{DecodeErr}
 use Rattle.mrpdu_codec.specs.declared.error.DecodeErr.TheVariants as errors
 use Rattle.mrp_participant.specs.Lookup.{find}
-use Rattle.mrp_participant.specs.OneRow.{is_leaving_in}
+use Rattle.mrp_participant.specs.Row.{is_leaving_in}
 use Rattle.mrp_participant.specs.State.{AreRows, is_silent, is_still, is_any_due, declared_at, registered_at, new_state, left_state, left_keys, due_state, leave_all_state, periodic_state}
 use Rattle.attribute_propagation.specs.Dirty.{IsAscending, is_awaiting, marked, cleared}
 use Rattle.attribute_propagation.specs.Flat.{elsewhere}

@@ -5,7 +5,7 @@ ghost use Rattle.std.specs.Ordering.{nat_cmp};
 ghost use Rattle.mvrp_codec.specs.declared.pdu.MvrpPdu.{MvrpPdu};
 ghost use Rattle.mvrp_codec.specs.Writing.{mvrp_spelling};
 ghost use Rattle.mrp_participant.specs.Lookup.{find};
-ghost use Rattle.mrp_participant.specs.OneRow.{is_leaving_in};
+ghost use Rattle.mrp_participant.specs.Row.{is_leaving_in};
 ghost use Rattle.mrp_participant.specs.State.{AreRows, due_state, due_count, left_keys, left_state, leave_all_state, periodic_state, is_silent};
 ghost use Rattle.attribute_propagation.specs.Dirty.{marked, cleared};
 ghost use Rattle.attribute_propagation.specs.Ports.{marked_elsewhere};

@@ -4,7 +4,7 @@ use Rattle.std.specs.Prelude.{Option, Some, None, slice_get, filter_map, option_
 use Rattle.std.specs.List.{cons_option}
 use Rattle.registrar.specs.declared.Registrar.{Registrar}
 use Rattle.registrar.specs.Table.{is_registered_in}
-use Rattle.mrp_participant.specs.declared.one_row.Row.{Row}
+use Rattle.mrp_participant.specs.declared.row.Row.{Row}
 use Rattle.mrp_participant.specs.Lookup.{key_of}
 use Rattle.node_core.specs.declared.types.NodeKey.{NodeKey}
 use Rattle.node_core.specs.State.{registered_key}

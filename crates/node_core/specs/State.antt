@@ -14,9 +14,9 @@ use Rattle.tree_topology.specs.declared.graph.NodeKind.{NodeKind}
 use Rattle.registrar.specs.declared.Registrar.{Registrar}
 use Rattle.registrar.specs.declared.Registrar.TheVariants.{Empty}
 use Rattle.registrar.specs.Table.{is_registered_in}
-use Rattle.mrp_participant.specs.declared.one_row.Row.{Row}
+use Rattle.mrp_participant.specs.declared.row.Row.{Row}
 use Rattle.mrp_participant.specs.Lookup.{find}
-use Rattle.mrp_participant.specs.OneRow.{registrar_of}
+use Rattle.mrp_participant.specs.Row.{registrar_of}
 use Rattle.mrp_participant.specs.State.{State, registered_at}
 use Rattle.stream_importance.specs.declared.entry.Entry.{Entry}
 use Rattle.stream_importance.specs.declared.entry.Fit.{Fit}

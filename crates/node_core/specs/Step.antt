@@ -12,7 +12,7 @@ use Rattle.msrp_codec.specs.declared.pdu.MsrpPdu.{MsrpPdu}
 use Rattle.msrp_codec.specs.Meaning.{msrp_reading}
 use Rattle.msrp_codec.specs.Writing.{msrp_spelling}
 use Rattle.mrp_participant.specs.Lookup.{find}
-use Rattle.mrp_participant.specs.OneRow.{is_leaving_in}
+use Rattle.mrp_participant.specs.Row.{is_leaving_in}
 use Rattle.mrp_participant.specs.State.{is_silent, due_count}
 use Rattle.mvrp.specs.Part.{pdu_sent}
 use Rattle.mvrp.specs.Side.{Vlans, IsLinkPort, place_of, count_of, awaiting_at, received_vlans, due_vlans, left_vlans, leave_all_vlans, periodic_vlans, settled_vlans, sent_vlans, requested_vlans}

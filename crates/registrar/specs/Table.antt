@@ -65,3 +65,15 @@ abbrev pub is_registered_in : Registrar → Bool
 is_registered_in Held = true
 is_registered_in Leaving = true
 is_registered_in Empty = false
+
+-- whether a registrar is IN
+abbrev pub is_in : Registrar → Bool
+is_in Held = true
+is_in Leaving = false
+is_in Empty = false
+
+-- whether a registrar is LV
+abbrev pub is_leaving : Registrar → Bool
+is_leaving Held = false
+is_leaving Leaving = true
+is_leaving Empty = false

@@ -20,9 +20,10 @@ use Rattle.registrar.specs.Table.{next, is_registered_in}
 use Rattle.stream_importance.specs.declared.entry.Entry.{Entry}
 use Rattle.port_ledger.specs.Decision.{booked_of}
 use Rattle.port_ledger.specs.Book.{Book, booked_slope}
-use Rattle.mrp_participant.specs.declared.one_row.Row.{Row}
+use Rattle.mrp_participant.specs.declared.row.Row.{Row}
 use Rattle.mrp_participant.specs.Lookup.{key_of}
-use Rattle.mrp_participant.specs.OneRow.{is_live, is_observer, applicant_takes}
+use Rattle.applicant.specs.Table.{is_observer}
+use Rattle.mrp_participant.specs.Row.{is_live, applicant_takes}
 use Rattle.mrp_participant.specs.Sending.{opportunity, before_opportunity, row_after, sent_row}
 use Rattle.mrp_participant.specs.State.{is_active, after, takes, row_sent}
 use Rattle.mvrp.specs.Part.{Part, base, octets, sent_part}

@@ -10,7 +10,7 @@ use Rattle.stream_importance.specs.declared.entry.Entry.{Entry}
 use Rattle.port_ledger.specs.Decision.{booked_of}
 use Rattle.port_ledger.specs.Book.{Book, booked_slope}
 use Rattle.registrar.specs.Table.{is_registered_in}
-use Rattle.mrp_participant.specs.declared.one_row.Row.{Row}
+use Rattle.mrp_participant.specs.declared.row.Row.{Row}
 use Rattle.mrp_participant.specs.Lookup.{key_of}
 use Rattle.mvrp.specs.Part.{Part}
 

@@ -1,4 +1,4 @@
-use Rattle.mrp_participant.proofs.Shows.{found-at, declared-place, registered-place}
+use Rattle.mrp_participant.proofs.StateLemmas.{found-at, declared-place, registered-place}
 use Rattle.mrp_participant.proofs.laws.a_place_for_each_key.Goals as goal
 
 pub returns-clause-found : goal.returns-clause-found

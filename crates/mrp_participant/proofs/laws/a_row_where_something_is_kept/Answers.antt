@@ -1,4 +1,4 @@
-use Rattle.mrp_participant.proofs.Shows.{row-kept, row-place}
+use Rattle.mrp_participant.proofs.StateLemmas.{row-kept, row-place}
 use Rattle.mrp_participant.proofs.laws.a_row_where_something_is_kept.Goals as goal
 
 pub returns-clause-row : goal.returns-clause-row

@@ -1,4 +1,4 @@
-use Rattle.mrp_participant.proofs.Shows.{each-due}
+use Rattle.mrp_participant.proofs.StateLemmas.{each-due}
 use Rattle.mrp_participant.proofs.laws.each_key_after_due.Goals as goal
 
 pub returns : goal.returns

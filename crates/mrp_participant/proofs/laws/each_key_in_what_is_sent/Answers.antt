@@ -1,5 +1,5 @@
 use Rattle.mrp_participant.specs.State.{after, is_active, takes}
-use Rattle.mrp_participant.proofs.Shows.{one-sent}
+use Rattle.mrp_participant.proofs.StateLemmas.{one-sent}
 use Rattle.mrp_participant.proofs.laws.each_key_in_what_is_sent.Goals as goal
 
 pub returns : goal.returns

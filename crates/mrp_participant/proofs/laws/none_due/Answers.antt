@@ -1,4 +1,4 @@
-use Rattle.mrp_participant.proofs.Shows.{none-due}
+use Rattle.mrp_participant.proofs.StateLemmas.{none-due}
 use Rattle.mrp_participant.proofs.laws.none_due.Goals as goal
 
 pub returns : goal.returns

@@ -1,4 +1,4 @@
-use Rattle.mrp_participant.proofs.Shows.{still-passive, still-rows, settled-at, at_rest-still}
+use Rattle.mrp_participant.proofs.StateLemmas.{still-passive, still-rows, settled-at, at_rest-still}
 use Rattle.mrp_participant.proofs.laws.still_at_each_key.Goals as goal
 
 pub returns-clause-passive : goal.returns-clause-passive

@@ -6,7 +6,7 @@ use Rattle.std.specs.declared.cmp.Ordering.{Ordering}
 use Rattle.std.specs.Cmp.{IsTotalOrder}
 use Rattle.std.proofs.lemmas.List.Sorted.{answers_always}
 use Rattle.std.proofs.Common.{List}
-use Rattle.mrp_participant.specs.declared.one_row.Row.{Row}
+use Rattle.mrp_participant.specs.declared.row.Row.{Row}
 use Rattle.mrp_participant.specs.Lookup.{Ascends, key_of, IsRowAt, IsGapAt}
 use Rattle.mrp_participant.proofs.Lookups.{row_at, gap_at, rises}
 use Rattle.mrp_participant.proofs.lookup.place.Goals as goal

@@ -1,4 +1,4 @@
-use Rattle.mrp_participant.specs.OneRow.{periodic_row}
+use Rattle.mrp_participant.specs.Row.{periodic_row}
 use Rattle.mrp_participant.proofs.Changed.{changed-in_place}
 use Rattle.mrp_participant.proofs.timers.all_periodic.Goals as goal
 

@@ -1,6 +1,6 @@
 use Rattle.std.proofs.Common.{◌≡◌, ◌∙◌, false, refl, sym}
 use Rattle.std.specs.List.{list_any}
-use Rattle.mrp_participant.specs.OneRow.{leave_is_due}
+use Rattle.mrp_participant.specs.Row.{leave_is_due}
 use Rattle.mrp_participant.proofs.Changes.{none-leave}
 use Rattle.mrp_participant.proofs.OutlookLemmas.{none_may_leave}
 use Rattle.mrp_participant.proofs.timers.fire_leaves.Goals as goal

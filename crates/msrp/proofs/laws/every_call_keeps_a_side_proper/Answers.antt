@@ -1,7 +1,7 @@
 use Rattle.std.proofs.Common.{false, refl}
 use Rattle.std.specs.Prelude.{slice_get}
 use Rattle.mrp_participant.specs.Lookup.{find}
-use Rattle.mrp_participant.specs.OneRow.{after_leave}
+use Rattle.mrp_participant.specs.Row.{after_leave}
 use Rattle.mrp_participant.specs.State.{after, due_state, is_active, is_periodic_due, leave_all_state, left_keys, left_state, periodic_state, takes}
 use Rattle.msrp_codec.specs.Content.{Belongs, base_octets, octets_of}
 use Rattle.msrp.specs.Part.{Part, key_cmp, received_part, sent_part, told_by_receipt}

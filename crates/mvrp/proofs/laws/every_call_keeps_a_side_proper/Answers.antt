@@ -1,7 +1,7 @@
 use Rattle.std.proofs.Common.{◌≡◌, ℕ, false, refl}
 use Rattle.std.specs.Prelude.{slice_get, Some}
 use Rattle.std.specs.Ordering.{nat_cmp}
-use Rattle.mrp_participant.specs.OneRow.{after_leave_due, periodic_row}
+use Rattle.mrp_participant.specs.Row.{after_leave_due, periodic_row}
 use Rattle.mrp_participant.specs.State.{AreRows, after, is_periodic_due, row_sent, due_state, left_keys, left_state, leave_all_state, periodic_state}
 use Rattle.std.specs.Prelude.{if◌then◌else◌, map}
 use Rattle.mrp_participant.specs.Lookup.{key_of}

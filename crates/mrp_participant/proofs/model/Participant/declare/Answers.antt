@@ -2,7 +2,7 @@ use Rattle.std.proofs.Common.{ap, ◌∙◌, if◌then◌else◌, OnOk}
 use Rattle.std.specs.declared.result.Result.{Result}
 use Rattle.std.specs.declared.result.Result.TheVariants.{Ok, Err}
 use Rattle.mrp_participant.specs.Lookup.{find, same}
-use Rattle.mrp_participant.specs.OneRow.{after_declare, declared_in}
+use Rattle.mrp_participant.specs.Row.{after_declare, declared_in}
 use Rattle.mrp_participant.specs.State.{State}
 use Rattle.mrp_participant.proofs.EachKey.{each-declare}
 use Rattle.mrp_participant.proofs.Transitions.{AreRows-declare, AreRows-either}

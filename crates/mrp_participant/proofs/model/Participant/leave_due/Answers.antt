@@ -1,6 +1,6 @@
 use Rattle.std.proofs.Common.{subst, sym, ap, ◌∙◌, if◌then◌else◌}
 use Rattle.mrp_participant.specs.Lookup.{find, same}
-use Rattle.mrp_participant.specs.OneRow.{after_leave}
+use Rattle.mrp_participant.specs.Row.{after_leave}
 use Rattle.mrp_participant.specs.Outlook.{HoldsOfAll}
 use Rattle.mrp_participant.specs.State.{State, AreRows}
 use Rattle.mrp_participant.proofs.EachKey.{each-leave}

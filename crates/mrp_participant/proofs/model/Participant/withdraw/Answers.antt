@@ -1,6 +1,6 @@
 use Rattle.std.proofs.Common.{subst, sym, ap, ◌∙◌, if◌then◌else◌}
 use Rattle.mrp_participant.specs.Lookup.{find, same}
-use Rattle.mrp_participant.specs.OneRow.{after_withdraw, declared_in}
+use Rattle.mrp_participant.specs.Row.{after_withdraw, declared_in}
 use Rattle.mrp_participant.specs.State.{State, AreRows}
 use Rattle.mrp_participant.proofs.EachKey.{each-withdraw}
 use Rattle.mrp_participant.proofs.Transitions.{AreRows-withdraw}

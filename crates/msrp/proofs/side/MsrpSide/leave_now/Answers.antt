@@ -1,7 +1,7 @@
 use Rattle.std.proofs.Common.{◌≡◌, ◌-◌, ◌∙◌, [], ◌∷◌, if◌then◌else◌, ap, sym}
 use Rattle.std.specs.Prelude.{slice_get, Some}
 use Rattle.mrp_participant.specs.Lookup.{find}
-use Rattle.mrp_participant.specs.OneRow.{is_leaving_in, after_leave}
+use Rattle.mrp_participant.specs.Row.{is_leaving_in, after_leave}
 use Rattle.mrp_participant.specs.State.{left_state}
 use Rattle.msrp_codec.specs.Content.{Belongs}
 use Rattle.msrp.specs.declared.port.Port.{Port}

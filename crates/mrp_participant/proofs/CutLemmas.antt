@@ -15,11 +15,11 @@ use Rattle.std.proofs.lemmas.Bool.Decides.{nat_tests}
 use Rattle.std.specs.List.{filter_map, cons_option}
 use Rattle.applicant.specs.declared.Applicant.{Applicant}
 use Rattle.applicant.specs.declared.Applicant.TheVariants.{Vo, Vp, Vn, An, Aa, Qa, La}
-use Rattle.mrp_participant.specs.declared.one_row.Row.{Row}
+use Rattle.mrp_participant.specs.declared.row.Row.{Row}
 use Rattle.std.specs.List.{AllByRecursion}
 use Rattle.mrp_participant.specs.Lookup.{Ascends, key_of, same, find}
 use Rattle.mrp_participant.specs.Sending.{round, is_tried, rows_of_round, order, octets_of, up_to, is_taken}
-use Rattle.mrp_participant.specs.Room.{cut_at, is_ahead, is_before, is_in_room, first_cut}
+use Rattle.mrp_participant.specs.Cut.{cut_at, is_ahead, is_before, is_in_room, first_cut}
 use Rattle.mrp_participant.proofs.Lookups.{same_is, find-same}
 
 -- ---- membership

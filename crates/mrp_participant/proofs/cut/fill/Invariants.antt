@@ -1,8 +1,8 @@
 use Rattle.std.proofs.Common.{◌≡◌, ◌≤◌, ◌++◌, List, drop}
-use Rattle.mrp_participant.specs.declared.one_row.Row.{Row}
+use Rattle.mrp_participant.specs.declared.row.Row.{Row}
 use Rattle.mrp_participant.specs.Sending.{rows_of_round}
-use Rattle.mrp_participant.specs.Room.{first_cut}
-use Rattle.mrp_participant.proofs.room.fill.Given as goal
+use Rattle.mrp_participant.specs.Cut.{first_cut}
+use Rattle.mrp_participant.proofs.cut.fill.Given as goal
 
 abbrev pub invariant-loop-row : goal.invariant-loop-row
 invariant-loop-row g l =

@@ -17,25 +17,10 @@ use Rattle.registrar.specs.declared.Registrar.TheVariants.{Held, Leaving, Empty}
 use Rattle.registrar.specs.declared.RegEvent.{RegEvent}
 use Rattle.registrar.specs.declared.RegEvent.TheVariants.{RxNew, RxJoin, RxLv, RxLeaveAll, LeaveTimer}
 use Rattle.registrar.specs.Table as registrar
-use Rattle.mrp_participant.specs.declared.one_row.Row.{Row}
+use Rattle.registrar.specs.Table.{is_in, is_leaving}
+use Rattle.applicant.specs.Table.{is_observer, is_quiet}
+use Rattle.mrp_participant.specs.declared.row.Row.{Row}
 use Rattle.mrp_participant.specs.Lookup.{same}
-
--- whether a registrar is IN
-abbrev pub is_in : Registrar → Bool
-is_in Held = true
-is_in Leaving = false
-is_in Empty = false
-
--- whether a registrar is LV
-abbrev pub is_leaving : Registrar → Bool
-is_leaving Held = false
-is_leaving Leaving = true
-is_leaving Empty = false
-
--- whether an applicant is VO
-abbrev pub is_observer : Applicant → Bool
-is_observer Vo = true
-is_observer _ = false
 
 -- whether anything is kept of a key: its applicant isn't VO, or its registrar isn't MT
 abbrev pub is_live : {K C : Type 0} → Row K C → Bool
@@ -166,12 +151,6 @@ after_leave_due now r = if leave_is_due now r then left_row r else Some r
 -- the periodic event
 abbrev pub periodic_row : {K C : Type 0} → Row K C → Row K C
 periodic_row r = applicant_takes Periodic r
-
--- whether an applicant has nothing to say until something happens
-abbrev pub is_quiet : Applicant → Bool
-is_quiet Vo = true
-is_quiet Qa = true
-is_quiet _ = false
 
 -- whether a row's machines are at rest: the applicant is VO or QA, the registrar IN or MT
 abbrev pub is_settled : {K C : Type 0} → Row K C → Bool

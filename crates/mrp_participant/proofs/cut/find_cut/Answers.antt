@@ -1,11 +1,11 @@
 use Rattle.std.proofs.Common.{◌≡◌, ℕ, Bool, List, [], ◌++◌, ap, sym, ◌∙◌}
 use Rattle.std.proofs.lemmas.List.{append-nil}
 use Rattle.std.specs.declared.option.Option.{Option}
-use Rattle.mrp_participant.specs.declared.one_row.Row.{Row}
-use Rattle.mrp_participant.specs.declared.room.Cut.{Cut}
+use Rattle.mrp_participant.specs.declared.row.Row.{Row}
+use Rattle.mrp_participant.specs.declared.cut.Cut.{Cut}
 use Rattle.mrp_participant.specs.Sending.{rows_of_round}
-use Rattle.mrp_participant.specs.Room.{first_cut}
-use Rattle.mrp_participant.proofs.room.find_cut.Goals as goal
+use Rattle.mrp_participant.specs.Cut.{first_cut}
+use Rattle.mrp_participant.proofs.cut.find_cut.Goals as goal
 
 -- three rounds, one after the other
 rounds : {K C : Type 0} (leave_all : Bool) (octets : C → ℕ) (start base used more : ℕ) (x y z : List (Row K C)) (cut : Option (Cut K)) → start ≡ base → ((rest : List (Row K C)) → first_cut leave_all octets start (x ++ rest) ≡ first_cut leave_all octets used rest) → ((rest : List (Row K C)) → first_cut leave_all octets used (y ++ rest) ≡ first_cut leave_all octets more rest) → first_cut leave_all octets more (z ++ []) ≡ cut → cut ≡ first_cut leave_all octets base (x ++ (y ++ z))

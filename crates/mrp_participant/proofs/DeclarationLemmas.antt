@@ -17,9 +17,11 @@ use Rattle.registrar.specs.declared.Registrar.{Registrar}
 use Rattle.registrar.specs.declared.Registrar.TheVariants.{Held, Leaving, Empty}
 use Rattle.registrar.specs.declared.RegEvent.TheVariants.{RxJoin, RxLv as RegRxLv, RxLeaveAll as RegRxLeaveAll, TxLeaveAll as RegTxLeaveAll, LeaveTimer}
 use Rattle.registrar.specs.Table as registrar
-use Rattle.mrp_participant.specs.declared.one_row.Row.{Row}
+use Rattle.mrp_participant.specs.declared.row.Row.{Row}
 use Rattle.mrp_participant.specs.Lookup.{same, find}
-use Rattle.mrp_participant.specs.OneRow.{is_in, is_leaving, is_observer, kept_row, with_applicant, with_heard, applicant_takes, registrar_takes, after_declare, after_withdraw, left_row, after_leave, is_leaving_in, leave_all_row, heard_row, after_hear, row_hearing, row_after_receive, registered_in, declared_in, leave_is_due, after_leave_due, periodic_row}
+use Rattle.registrar.specs.Table.{is_in, is_leaving}
+use Rattle.applicant.specs.Table.{is_observer}
+use Rattle.mrp_participant.specs.Row.{kept_row, with_applicant, with_heard, applicant_takes, registrar_takes, after_declare, after_withdraw, left_row, after_leave, is_leaving_in, leave_all_row, heard_row, after_hear, row_hearing, row_after_receive, registered_in, declared_in, leave_is_due, after_leave_due, periodic_row}
 use Rattle.mrp_participant.specs.Sending.{is_tried, sent_row}
 use Rattle.mrp_participant.proofs.Lookups.{find-same, same_is}
 

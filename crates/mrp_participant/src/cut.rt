@@ -2,12 +2,12 @@
 
 ghost use Rattle.std.specs.Prelude.{◌≡◌, List, ◌++◌, ◌≤◌, Some};
 ghost use Rattle.std.specs.Result.{MatchResult};
-ghost use Rattle.mrp_participant.specs.declared.one_row.Row.{Row};
+ghost use Rattle.mrp_participant.specs.declared.row.Row.{Row};
 ghost use Rattle.mrp_participant.specs.Sending.{order, rows_of_round};
-ghost use Rattle.mrp_participant.specs.Room.{cut_at, first_cut, is_in_room};
+ghost use Rattle.mrp_participant.specs.Cut.{cut_at, first_cut, is_in_room};
 
 use crate::application::MrpApp;
-use crate::one_row::{Row, round};
+use crate::row::{Row, round};
 
 /// A place in the order in which rows are tried: a round, and a key in it.
 #[derive(Clone, Copy, Debug)]

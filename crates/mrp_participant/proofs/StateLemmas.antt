@@ -17,13 +17,15 @@ use Rattle.leaveall.specs.declared.LeaveAll.{LeaveAll}
 use Rattle.leaveall.specs.declared.LeaveAll.TheVariants.{Active, Passive}
 use Rattle.srp_base.specs.declared.numbers.Cs.{Cs}
 use Rattle.srp_base.specs.declared.mrp.MrpEvent.{MrpEvent}
-use Rattle.mrp_participant.specs.declared.one_row.Row.{Row}
+use Rattle.mrp_participant.specs.declared.row.Row.{Row}
 use Rattle.mrp_participant.specs.Lookup.{Ascends, key_of, same, find}
-use Rattle.mrp_participant.specs.OneRow.{after_leave_due, leave_is_due, periodic_row, is_settled, is_quiet, is_leaving, is_leaving_in, is_live, is_observer, applicant_of, registrar_of, declared_in, registered_in}
+use Rattle.registrar.specs.Table.{is_leaving}
+use Rattle.applicant.specs.Table.{is_quiet, is_observer}
+use Rattle.mrp_participant.specs.Row.{after_leave_due, leave_is_due, periodic_row, is_settled, is_leaving_in, is_live, applicant_of, registrar_of, declared_in, registered_in}
 use Rattle.mrp_participant.specs.Sending.{sent_event}
 use Rattle.mrp_participant.specs.State.{State, leave_timers_state, leave_all_state, periodic_fired_state, due_leave_all_state, due_state, due_count, is_any_due, is_leave_all_due, is_periodic_due, is_active, is_still, all_settled}
 use Rattle.mrp_participant.proofs.Lookups.{none_above, same_is, find-fits}
-use Rattle.mrp_participant.proofs.Rooms.{In, find-in}
+use Rattle.mrp_participant.proofs.CutLemmas.{In, find-in}
 use Rattle.mrp_participant.proofs.EachKey.{each-mapped, each-kept}
 use Rattle.mrp_participant.proofs.Transitions.{due-keeps}
 use Rattle.mrp_participant.proofs.Changes.{due_rows_by, find-found, In-map, In-mapped, In-contains, Contains-in}
