@@ -6,11 +6,12 @@ use node_core::PortStep::{Due, Send, Settle};
 use node_core::StepReply::{Fired, Sent, Settled, Silent, Taken};
 use node_core::{NodeStep, PortStep, StepReply};
 use srp_base::{App, EgressPort, NodeNo, PortChange, PortNo, StreamId, Vid};
+use std::alloc::Global;
 use std::process::Abort;
 use std::test::Fail;
 use topology_file::read_scenario;
-use world_core::NodeSteps;
 use world_core::WorldReply::Step;
+use world_core::{NodeSteps, Run, Tick};
 
 const SCENE: &str = "ticks = 21\n\
     node = [{ name = 'a', kind = 'station' }, { name = 'b', kind = 'station' }]\n\
@@ -33,29 +34,47 @@ fn has_made(rt: &impl Abort, found: Option<&NodeSteps>, node: NodeNo, steps: &[N
     assert!(rt; found.steps.as_slice() == steps);
 }
 
-#[test]
-fn a_declaration_is_settled_and_sent_in_its_tick(rt: HostRuntime) -> Result<(), Fail> {
-    let table = toml::table_from_str(rt.alloc(), SCENE)?;
-    let scenario = read_scenario(rt.alloc(), &table)?;
-    let run = plain_run(rt.alloc(), &scenario)?;
-    assert!(rt; !run.world.quiet());
-    let ticks = run.journal.ticks.as_slice();
-    assert_eq!(rt; ticks.len(), 21);
-    let idle = ticks.get(1).expect(&rt, "the second tick");
-    assert!(rt; idle.events.is_empty() && idle.steps.is_empty());
-    let last = ticks.last().expect(&rt, "the last tick");
-    assert!(rt; last.events.as_slice() == [(1, Step(Taken))].as_slice());
-    let declarer = [
+// What the station that declares makes, and what the other makes.
+fn has_declared(rt: &impl Abort, found: Option<&NodeSteps>) {
+    let steps = [
         made(Due, Fired(0)),
         made(Settle, Settled(1)),
         made(Send(App::Mvrp), Sent(12)),
         made(Send(App::Msrp), Silent),
     ];
-    let silent = [made(Send(App::Mvrp), Silent), made(Send(App::Msrp), Silent)];
+    has_made(rt, found, NodeNo(1), steps.as_slice());
+}
+
+fn has_been_silent(rt: &impl Abort, found: Option<&NodeSteps>) {
+    let steps = [made(Send(App::Mvrp), Silent), made(Send(App::Msrp), Silent)];
+    has_made(rt, found, NodeNo(2), steps.as_slice());
+}
+
+fn has_idle_and_last(rt: &impl Abort, ticks: &[Tick]) {
+    let _ = Due.key();
+    assert_eq!(rt; ticks.len(), 21);
+    let idle = ticks.get(1).expect(rt, "the second tick");
+    assert!(rt; idle.events.is_empty() && idle.steps.is_empty());
+    let last = ticks.last().expect(rt, "the last tick");
+    assert!(rt; last.events.as_slice() == [(1, Step(Taken))].as_slice());
     let nodes = last.steps.as_slice();
     assert_eq!(rt; nodes.len(), 2);
-    has_made(&rt, nodes.first(), NodeNo(1), declarer.as_slice());
-    has_made(&rt, nodes.last(), NodeNo(2), silent.as_slice());
+    has_declared(rt, nodes.first());
+    has_been_silent(rt, nodes.last());
+}
+
+// The run of a file.
+fn run_of(alloc: Global, text: &str) -> Result<Run, Fail> {
+    let table = toml::table_from_str(alloc, text)?;
+    let scenario = read_scenario(alloc, &table)?;
+    Ok(plain_run(alloc, &scenario)?)
+}
+
+#[test]
+fn a_declaration_is_settled_and_sent_in_its_tick(rt: HostRuntime) -> Result<(), Fail> {
+    let run = run_of(rt.alloc(), SCENE)?;
+    assert!(rt; !run.world.quiet());
+    has_idle_and_last(&rt, run.journal.ticks.as_slice());
     Ok(())
 }
 
@@ -88,9 +107,7 @@ fn says(found: Option<&PortChange>, tick: u64, booked: &[StreamId], slope_a: u64
 
 #[test]
 fn what_is_booked_and_registered_is_in_the_timeline(rt: HostRuntime) -> Result<(), Fail> {
-    let table = toml::table_from_str(rt.alloc(), STREAM)?;
-    let scenario = read_scenario(rt.alloc(), &table)?;
-    let run = plain_run(rt.alloc(), &scenario)?;
+    let run = run_of(rt.alloc(), STREAM)?;
     let changes = run.timeline.changes.as_slice();
     assert_eq!(rt; changes.len(), 2);
     assert!(rt; says(changes.first(), 1, [].as_slice(), 0));
