@@ -49,8 +49,6 @@ mod ports;
 mod registered;
 mod tallies;
 mod tally;
-#[cfg(test)]
-mod tests;
 mod text;
 
 pub use departures::SentFrame;

@@ -1,7 +1,6 @@
 //! Two stations on a link: the report of what they sent and of their frames, and the text of a journal. What is registered
 //! is shown by the reports of `examples/`.
 
-use crate::{journal_text, report};
 use credit_shaper::PortInput;
 use frame_flow::Fate::{Departed, Left, NoVlan, Unbooked};
 use frame_flow::{FlowResult, PortFlow};
@@ -9,6 +8,7 @@ use node_core::PortStep::{Due, Send, Settle, Work};
 use node_core::StepReply::{Discarded, Fired, Received, Sent, Settled, Silent};
 use node_core::{NodeStep, PortStep, StepReply};
 use srp_base::{App, EgressPort, NoMemory, NodeNo, PortNo, Rate, Seq, Timeline};
+use srp_report::{journal_text, report};
 use std::alloc::Global;
 use std::process::Abort;
 use std::test::Fail;
