@@ -1,7 +1,6 @@
 -- A place other than one is true: as a test, and as a fact.
-use Rattle.std.proofs.Common.{◌≡◌, ◌≢◌, ◌↔◌, ◌+◌, ◌<◌, ℕ, zero, suc, Bool, true, false, ◌||◌, if◌then◌else◌, List, [], ◌∷◌, length, take, drop, refl, sym, ap, ◌∙◌, IsTrue, arith}
+use Rattle.std.proofs.Common.{◌≡◌, ◌≢◌, ◌↔◌, ℕ, zero, suc, Bool, true, false, ◌||◌, List, [], ◌∷◌, refl, IsTrue, arith}
 use Rattle.std.specs.Prelude.{slice_get, Some}
-use Rattle.std.specs.List.{list_any}
 use Rattle.attribute_propagation.specs.Flat.{is_any, elsewhere, IsElsewhere}
 
 any_at : (places : List Bool) → is_any places ≡ true → (i : ℕ) × (slice_get places i ≡ Some true)

@@ -1,5 +1,5 @@
 -- Where no timer is due a participant stays, and where no VID awaits the side does.
-use Rattle.std.proofs.Common.{◌≡◌, ◌⊎◌, inl, inr, ℕ, zero, suc, ◌+◌, ◌<◌, Bool, true, false, not, ◌&&◌, ◌||◌, if◌then◌else◌, List, [], ◌∷◌, length, map, refl, sym, ap, subst, ◌∙◌, arith}
+use Rattle.std.proofs.Common.{◌≡◌, ℕ, zero, suc, Bool, true, false, if◌then◌else◌, List, [], ◌∷◌, map, refl, sym, ap, ◌∙◌}
 use Rattle.std.specs.Prelude.{slice_get, slice_set, Option, Some, None, filter}
 use Rattle.std.specs.List.{list_any, filter_map}
 use Rattle.srp_base.specs.declared.numbers.Cs.{Cs}
@@ -8,8 +8,7 @@ use Rattle.mrp_participant.specs.Lookup.{key_of}
 use Rattle.mrp_participant.specs.Row.{leave_is_due, after_leave_due}
 use Rattle.mrp_participant.specs.State.{is_any_due, is_leave_all_due, is_periodic_due, leave_all_state, periodic_fired_state, due_leave_all_state, due_periodic_state, due_state, due_count, left_keys}
 use Rattle.mvrp.specs.Part.{Part}
-use Rattle.mvrp.specs.Side.{Vlans, retold, at_part, due_vlans, settled_vlans, awaiting_at, is_flat}
-use Rattle.mvrp.specs.Part.{settled_part}
+use Rattle.mvrp.specs.Side.{Vlans, retold, due_vlans, settled_vlans}
 use Rattle.mvrp.proofs.Keeping.{or_false, marked-none}
 
 abbrev R : Type 0

@@ -8,7 +8,7 @@ use Rattle.mrp_participant.specs.Lookup.{same}
 use Rattle.mrp_participant.specs.State.{AreRows, declared_at, registered_at, declared_state, withdrawn_state}
 use Rattle.attribute_propagation.specs.Dirty.{is_awaiting}
 use Rattle.mvrp.specs.Part.{Part, same_content, declares, settled_vid, settled_part}
-use Rattle.mvrp.specs.Side.{Vlans, IsKept, IsFlatAt, is_flat, rule_at, awaiting_at, settled_vlans}
+use Rattle.mvrp.specs.Side.{Vlans, IsKept, IsFlatAt, is_flat, rule_at, settled_vlans}
 use Rattle.std.proofs.lemmas.Option.{slice_get-get_or}
 use Rattle.mvrp.proofs.Places.{get-set_same, get-set_other, each-set, each-get}
 use Rattle.mvrp.proofs.Keeping.{decide, opened, flat_here, flat_there}
