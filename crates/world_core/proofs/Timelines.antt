@@ -113,12 +113,14 @@ steps_push plan ticks tick t w h =
           ))
     ]
 
+-- no change is in order, in every tree and before every tick
+pub none_are : (tree : Topology) (tick : ℕ) (changes : List PortChange) → changes ≡ [] → AreChanges tree tick changes
+none_are tree tick changes none =
+    subst (AreChanges tree tick) (sym none)
+    (record { ascend = λ i j d lt below. absurd (omega (arith, below)); ports = λ k d below. absurd (omega (arith, below)); before = λ k d below. absurd (omega (arith, below)) })
+
 pub no_ticks : (plan : Plan) → IsTimelineOf plan [] []
-no_ticks plan =
-    record {
-      are = record { ascend = λ i j d lt below. absurd (omega (arith, below)); ports = λ k d below. absurd (omega (arith, below)); before = λ k d below. absurd (omega (arith, below)) };
-      gives = λ t w p h has. absurd (none-some h.tick h.at);
-    }
+no_ticks plan = record { are = none_are plan.tree 0 [] refl; gives = λ t w p h has. absurd (none-some h.tick h.at) }
 
 module _ (plan : Plan) (ticks : List Tick) (tick : Tick) (changes : List PortChange) (w : WorldState) (so_far : IsTimelineOf plan ticks changes)
     (reached : w ≡ after_steps plan (length ticks) tick (world_after_ticks plan ticks)) (tree : w.tree ≡ plan.tree) where

@@ -8,14 +8,15 @@ ghost use Rattle.world_core.specs.World.{CanHappen};
 
 use crate::WorldEvent::{Carry, Clock, Lose, Port, Repeat, Request};
 use crate::WorldReply::{Done, Missed, Step};
-use crate::{World, WorldEvent, WorldReply};
+use crate::{History, NodeSteps, World, WorldEvent, WorldReply};
 use msrp_codec::MsrpKey;
 use node_core::PortStep::{Send, Settle, Work};
 use node_core::StepReply::{Nothing, Received, Sent, Settled, Silent, Taken};
-use node_core::{AppRequest, NodeKey};
+use node_core::{AppRequest, NodeKey, NodeStep};
 use registrar::Registrar;
 use srp_base::{
-    App, Cs, EgressPort, Mac, NoMemory, NodeNo, PortNo, Priority, Rank, StreamId, Talker, Vid,
+    App, Cs, EgressPort, Mac, NoMemory, NodeNo, PortNo, Priority, Rank, Seq, StreamId, Talker,
+    Timeline, Vid,
 };
 use std::alloc::Global;
 use std::process::Abort;
@@ -200,6 +201,58 @@ fn a_declaration_is_registered_over_the_link(rt: HostRuntime) -> Result<(), Fail
         Some((Registrar::Empty, 0, true))
     );
     assert!(rt; !world.quiet() && world.in_step());
+    Ok(())
+}
+
+// What is noted in tick 7 of a port that has worked: by going over its node alone, and over all.
+#[tactic(auto, using(crate::proofs::Timelines::none_are))]
+fn noted_of_node(alloc: Global, world: &World, at: EgressPort) -> Result<Timeline, NoMemory>
+    requires { HasPort world.now.tree at }
+{
+    let mut made = Vec::new(alloc);
+    made.push(NodeStep {
+        port: at.port,
+        step: Work,
+        reply: Received(1),
+    })?;
+    let mut steps = Vec::new(alloc);
+    steps.push(NodeSteps {
+        node: at.node,
+        steps: Seq::from_vec(made),
+    })?;
+    let history = History::of(alloc, world)?;
+    history
+        .note_steps(world, 7, steps.as_slice())?
+        .into_timeline()
+}
+
+#[tactic(auto, using(crate::proofs::Timelines::none_are))]
+fn noted_of_all(alloc: Global, world: &World) -> Result<Timeline, NoMemory> {
+    let mut timeline = Timeline {
+        changes: Seq::new(alloc),
+    };
+    world.note_tick(7, &mut timeline)?;
+    Ok(timeline)
+}
+
+// Whether both note the same change and no other; None where the tree hasn't the port.
+fn noted_alike(alloc: Global, world: &World, at: EgressPort) -> Result<Option<bool>, NoMemory> {
+    if !has_port(world, at) {
+        return Ok(None);
+    }
+    let noted = noted_of_node(alloc, world, at)?;
+    Ok(Some(noted.changes.len() == 1 && noted == noted_of_all(alloc, world)?))
+}
+
+#[test]
+fn a_registration_is_noted_at_its_node_as_among_all(rt: HostRuntime) -> Result<(), Fail> {
+    let vid = Vid::new(10).expect(&rt, "a VID");
+    let mut world = scene(rt.alloc())?;
+    declare(&rt, &mut world, vid)?;
+    let at = port(2, 1);
+    let cases = [(Port(at.node, at.port, Work), Step(Received(1)))];
+    has_answers(&rt, &mut world, cases.as_slice())?;
+    assert_eq!(rt; noted_alike(rt.alloc(), &world, at)?, Some(true));
     Ok(())
 }
 
