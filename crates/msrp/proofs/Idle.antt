@@ -1,5 +1,5 @@
 -- Where no timer is due a participant stays, and where no key awaits at a port the side does.
-use Rattle.std.proofs.Common.{◌≡◌, ◌↔◌, ℕ, ◌+◌, Bool, true, false, ◌||◌, if◌then◌else◌, List, [], ◌∷◌, ◌++◌, length, map, refl, sym, ap, ◌∙◌}
+use Rattle.std.proofs.Common.{◌≡◌, ◌↔◌, ℕ, ◌+◌, Bool, true, false, if◌then◌else◌, List, [], ◌∷◌, ◌++◌, map, refl, ap, ◌∙◌}
 use Rattle.std.specs.Prelude.{slice_get, slice_set, ◌==◌, Option, Some, None, filter}
 use Rattle.std.specs.List.{list_any, filter_map}
 use Rattle.srp_base.specs.declared.numbers.Cs.{Cs}
@@ -15,8 +15,8 @@ use Rattle.mrp_participant.specs.State.{State, is_any_due, is_leave_all_due, is_
 use Rattle.msrp_codec.specs.declared.pdu.MsrpKey.{MsrpKey}
 use Rattle.msrp.specs.declared.port.Port.{Port}
 use Rattle.msrp.specs.Part.{Part, key_cmp}
-use Rattle.msrp.specs.Settling.{all_keys_with, listener_keys, moved_streams, next_book, settling_keys, talker_keys, restated_port}
-use Rattle.msrp.specs.Side.{Streams, IsKept, IsPort, at_port, awaiting_at, due_streams, retold, seen_by, settled_streams, with_part}
+use Rattle.msrp.specs.Settling.{moved_streams, next_book}
+use Rattle.msrp.specs.Side.{Streams, IsKept, awaiting_at, due_streams, retold, seen_by, settled_streams, with_part}
 use Rattle.msrp.proofs.Keeping.{none_marked, port_kept}
 use Rattle.msrp.proofs.Places.{or_false, set-same}
 use Rattle.msrp.proofs.Settled.{next_is}

@@ -6,8 +6,7 @@ use Rattle.std.proofs.lemmas.List.Elements.{filter_map-append}
 use Rattle.srp_base.specs.declared.streams.TalkerReg.{TalkerReg}
 use Rattle.srp_base.specs.declared.streams.ListenerKind.TheVariants.{Ready}
 use Rattle.msrp_listener.specs.declared.port_listener.PortListener.{PortListener}
-use Rattle.msrp.specs.declared.port.Port.{Port}
-use Rattle.msrp.specs.Stream.{is_advertised, is_listened, listener_row, own_listener, registrations_of}
+use Rattle.msrp.specs.Stream.{is_advertised, is_listened, listener_row}
 use Rattle.msrp.proofs.stream.other_listeners.Goals as goal
 
 abbrev there : List (Option PortListener) → List PortListener

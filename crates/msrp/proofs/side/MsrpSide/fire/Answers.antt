@@ -1,10 +1,10 @@
-use Rattle.std.proofs.Common.{◌≡◌, ◌-◌, ◌∙◌, ℕ, ap, sym}
+use Rattle.std.proofs.Common.{◌≡◌, ◌∙◌, ap, sym}
 use Rattle.std.specs.Prelude.{slice_get, Some}
 use Rattle.mrp_participant.specs.Lookup.{find}
 use Rattle.mrp_participant.specs.State.{due_state, left_keys, is_periodic_due}
 use Rattle.msrp.specs.declared.port.Port.{Port}
 use Rattle.msrp.specs.Part.{Part, key_cmp}
-use Rattle.msrp.specs.Side.{Streams, due_streams}
+use Rattle.msrp.specs.Side.{Streams}
 use Rattle.msrp.proofs.Contents.{own-due}
 use Rattle.msrp.proofs.Keeping.{at_put, port_kept}
 use Rattle.msrp.proofs.side.MsrpSide.fire.Goals as goal

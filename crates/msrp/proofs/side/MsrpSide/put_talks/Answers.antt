@@ -1,7 +1,7 @@
 use Rattle.std.proofs.Common.{rules, ◌≡◌, ◌∙◌, ap, sym, refl}
 use Rattle.attribute_propagation.specs.Ports.{marked_everywhere}
 use Rattle.msrp.specs.Part.{key_cmp}
-use Rattle.msrp.specs.Stream.{talk_of, is_listened}
+use Rattle.msrp.specs.Stream.{talk_of}
 use Rattle.msrp.specs.Settling.{keys_of}
 use Rattle.msrp.specs.Side.{Streams}
 use Rattle.msrp.proofs.Keeping.{kept-asked}
