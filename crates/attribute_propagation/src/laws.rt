@@ -8,11 +8,14 @@ ghost use Rattle.attribute_propagation.specs.Dirty.{IsAscending, is_awaiting, ma
 /// A key awaits once it, or a key that is the same, was marked; others await as before.
 pub fn each_key_awaits<K: Copy + Ord>()
     ensures marked { (k x : K) (keys : List K)
-        → is_awaiting K.cmp k (marked K.cmp x keys) ≡ (is_eq (K.cmp x k) || is_awaiting K.cmp k keys) }
+        → is_awaiting K.cmp k (marked K.cmp x keys)
+        ≡ (is_eq (K.cmp x k) || is_awaiting K.cmp k keys) }
     ensures all_marked { (k : K) (new keys : List K)
-        → is_awaiting K.cmp k (all_marked K.cmp new keys) ≡ (is_awaiting K.cmp k new || is_awaiting K.cmp k keys) }
+        → is_awaiting K.cmp k (all_marked K.cmp new keys)
+        ≡ (is_awaiting K.cmp k new || is_awaiting K.cmp k keys) }
     ensures cleared { (k x : K) (keys : List K)
-        → is_awaiting K.cmp k (cleared K.cmp x keys) ≡ (not (is_eq (K.cmp x k)) && is_awaiting K.cmp k keys) }
+        → is_awaiting K.cmp k (cleared K.cmp x keys)
+        ≡ (not (is_eq (K.cmp x k)) && is_awaiting K.cmp k keys) }
 {}
 
 /// Keys that ascend strictly do so after one was marked, and after one was cleared.

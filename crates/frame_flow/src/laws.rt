@@ -49,7 +49,8 @@ pub fn each_input_is_valid()
 pub fn slopes_are_those_in_force()
     ensures { (s : Setting) (place : Place) (copies : List FrameCopy) (t : ℕ) → IsSetting s
         → t < bits_of_ticks place.rate s.ticks
-        → HasSlopes (slopes_at (input_of s.ticks place.rate (changes_at s.changes place.at) copies) t)
+        → HasSlopes (slopes_at (input_of s.ticks place.rate (changes_at s.changes place.at) copies)
+        t)
         (in_force (tick_at place.rate t) (changes_at s.changes place.at)) }
 {}
 

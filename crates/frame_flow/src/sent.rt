@@ -114,7 +114,8 @@ impl ByOrder {
 fn by_frame(sent: Seq<Departure>) -> Result<Vec<Departure>, NoMemory>
     ensures order { IfOk result (λ v. IsNonDecreasingBy (λ d. d.frame) v.items) }
     ensures fates { IfOk result
-        (λ v. (verdicts : List (ℕ × Verdict)) → fates_by v.items verdicts ≡ fates_by sent verdicts) }
+        (λ v. (verdicts : List (ℕ × Verdict)) → fates_by v.items verdicts
+        ≡ fates_by sent verdicts) }
 {
     let mut sent = sent.into_vec();
     sent.sort_by_key(|d| d.frame)?;

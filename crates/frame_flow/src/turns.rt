@@ -116,7 +116,8 @@ impl Asked<'_> {
         requires at { AreAt places.now flows.old.items }
         requires done { AreDoneBelow self.now level 0 places.now flows.old.items }
         ensures at { OnOk result (AreAt places.now flows.new.items) }
-        ensures done { OnOk result (AreDoneBelow self.now (level + 1) 0 places.now flows.new.items) }
+        ensures done { OnOk result (AreDoneBelow self.now (level + 1) 0 places.now
+            flows.new.items) }
     {
         self.keeps();
         for k in 0..places.len() {

@@ -61,7 +61,8 @@ impl Verdicts {
         ensures all { OnOk result (self.new.all.items ≡ self.old.all.items
             ++ (c.now.frame.number, verdict_of (option_map (λ c. c.now) force.entry) c.now) ∷ []) }
         ensures arrivals { OnOk result (self.new.arrivals.items ≡ self.old.arrivals.items
-            ++ map arrival_of (filter (λ c. may_send c (option_map (λ c. c.now) force.entry)) (c.now ∷ []))) }
+            ++ map arrival_of
+            (filter (λ c. may_send c (option_map (λ c. c.now) force.entry)) (c.now ∷ []))) }
     {
         let verdict = verdict_of(c, force);
         self.all.push((c.frame.number, verdict))?;

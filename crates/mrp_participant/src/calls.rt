@@ -39,7 +39,8 @@ impl<A: MrpApp> Participant<A> {
         ensures after { self.new ≡ withdrawn_state A.Key.cmp key self.old }
         ensures undeclared { declared_in (find A.Key.cmp key self.old.rows) ≡ None → self.new
             ≡ self.old }
-        ensures each_key { ChangesOnly A.Key.cmp key (after_withdraw (find A.Key.cmp key self.old.rows)) self.old.rows self.new.rows }
+        ensures each_key { ChangesOnly A.Key.cmp key
+            (after_withdraw (find A.Key.cmp key self.old.rows)) self.old.rows self.new.rows }
     {
         withdraw_in(&mut self.rows, &mut self.outlook, key);
     }
@@ -50,7 +51,8 @@ impl<A: MrpApp> Participant<A> {
         ensures was { result ≡ is_leaving_in (find A.Key.cmp key self.old.rows) }
         ensures after { self.new ≡ left_state A.Key.cmp key self.old }
         ensures stays { result ≡ false → self.new ≡ self.old }
-        ensures each_key { ChangesOnly A.Key.cmp key (after_leave (find A.Key.cmp key self.old.rows)) self.old.rows self.new.rows }
+        ensures each_key { ChangesOnly A.Key.cmp key
+            (after_leave (find A.Key.cmp key self.old.rows)) self.old.rows self.new.rows }
     {
         let was = leave_in(&mut self.rows, key);
         self.outlook = outlook_of(self.rows.as_slice());
@@ -69,7 +71,8 @@ pub(crate) fn declare_in<K: Copy + Ord, C: Copy + Eq>(
     requires ascend { Ascends K.cmp key_of rows.old.items }
     requires holds { HoldsOfAll outlook.old rows.old.items }
     ensures ok { OnOk result (rows.new.items
-        ≡ put K.cmp key (after_declare C.eq key content (find K.cmp key rows.old.items)) rows.old.items) }
+        ≡ put K.cmp key (after_declare C.eq key content (find K.cmp key rows.old.items))
+        rows.old.items) }
     ensures err { OnErr result (rows.new.items ≡ rows.old.items) }
     ensures room { OnErr result (find K.cmp key rows.old.items ≡ None) }
     ensures holds { HoldsOfAll outlook.new rows.new.items }

@@ -27,17 +27,21 @@ use crate::application::MrpApp;
 
 /// Two new participants with nothing in flight between them meet their duties.
 pub fn a_new_link_meets_its_duties<A: MrpApp>()
-    ensures { (period leave_time : Cs) (periodic : Bool) (period' leave_time' : Cs) (periodic' : Bool)
-        → IsDutyMet A.Key.cmp (new_state {K = A.Key} {C = A.Content} period leave_time periodic) (new_state period' leave_time' periodic') [] [] }
+    ensures { (period leave_time : Cs) (periodic : Bool) (period' leave_time' : Cs)
+        (periodic' : Bool)
+        → IsDutyMet A.Key.cmp (new_state {K = A.Key} {C = A.Content} period leave_time periodic)
+        (new_state period' leave_time' periodic') [] [] }
 {}
 
 /// `declare` keeps both duties.
 pub fn declaring_keeps_duties<A: MrpApp>()
-    ensures own { (near far : State A.Key A.Content) (sent coming : List (Messages A.Key A.Content)) (key : A.Key) (c : A.Content)
+    ensures own { (near far : State A.Key A.Content) (sent coming : List (Messages A.Key A.Content))
+        (key : A.Key) (c : A.Content)
         → AreRows A.Key.cmp near.rows
         → IsDutyMet A.Key.cmp near far sent coming
         → IsDutyMet A.Key.cmp (declared_state A.Key.cmp A.Content.eq key c near) far sent coming }
-    ensures far { (near far : State A.Key A.Content) (sent coming : List (Messages A.Key A.Content)) (key : A.Key) (c : A.Content)
+    ensures far { (near far : State A.Key A.Content) (sent coming : List (Messages A.Key A.Content))
+        (key : A.Key) (c : A.Content)
         → AreRows A.Key.cmp near.rows
         → IsDutyMet A.Key.cmp far near coming sent
         → IsDutyMet A.Key.cmp far (declared_state A.Key.cmp A.Content.eq key c near) coming sent }
@@ -46,11 +50,13 @@ pub fn declaring_keeps_duties<A: MrpApp>()
 /// `withdraw` keeps both duties: an attribute that was declared goes to LA, and so is left only where Lv is said
 /// or a LeaveAll is sent.
 pub fn withdrawing_keeps_duties<A: MrpApp>()
-    ensures own { (near far : State A.Key A.Content) (sent coming : List (Messages A.Key A.Content)) (key : A.Key)
+    ensures own { (near far : State A.Key A.Content) (sent coming : List (Messages A.Key A.Content))
+        (key : A.Key)
         → AreRows A.Key.cmp near.rows
         → IsDutyMet A.Key.cmp near far sent coming
         → IsDutyMet A.Key.cmp (withdrawn_state A.Key.cmp key near) far sent coming }
-    ensures far { (near far : State A.Key A.Content) (sent coming : List (Messages A.Key A.Content)) (key : A.Key)
+    ensures far { (near far : State A.Key A.Content) (sent coming : List (Messages A.Key A.Content))
+        (key : A.Key)
         → AreRows A.Key.cmp near.rows
         → IsDutyMet A.Key.cmp far near coming sent
         → IsDutyMet A.Key.cmp far (withdrawn_state A.Key.cmp key near) coming sent }
@@ -58,11 +64,13 @@ pub fn withdrawing_keeps_duties<A: MrpApp>()
 
 /// `leave_due` keeps both duties.
 pub fn leaving_keeps_duties<A: MrpApp>()
-    ensures own { (near far : State A.Key A.Content) (sent coming : List (Messages A.Key A.Content)) (key : A.Key)
+    ensures own { (near far : State A.Key A.Content) (sent coming : List (Messages A.Key A.Content))
+        (key : A.Key)
         → AreRows A.Key.cmp near.rows
         → IsDutyMet A.Key.cmp near far sent coming
         → IsDutyMet A.Key.cmp (left_state A.Key.cmp key near) far sent coming }
-    ensures far { (near far : State A.Key A.Content) (sent coming : List (Messages A.Key A.Content)) (key : A.Key)
+    ensures far { (near far : State A.Key A.Content) (sent coming : List (Messages A.Key A.Content))
+        (key : A.Key)
         → AreRows A.Key.cmp near.rows
         → IsDutyMet A.Key.cmp far near coming sent
         → IsDutyMet A.Key.cmp far (left_state A.Key.cmp key near) coming sent }
@@ -70,11 +78,13 @@ pub fn leaving_keeps_duties<A: MrpApp>()
 
 /// `due` keeps both duties: the leave timers, the LeaveAll timer and periodic transmission.
 pub fn timers_keep_duties<A: MrpApp>()
-    ensures own { (near far : State A.Key A.Content) (sent coming : List (Messages A.Key A.Content)) (now : Cs)
+    ensures own { (near far : State A.Key A.Content) (sent coming : List (Messages A.Key A.Content))
+        (now : Cs)
         → AreRows A.Key.cmp near.rows
         → IsDutyMet A.Key.cmp near far sent coming
         → IsDutyMet A.Key.cmp (due_state now near) far sent coming }
-    ensures far { (near far : State A.Key A.Content) (sent coming : List (Messages A.Key A.Content)) (now : Cs)
+    ensures far { (near far : State A.Key A.Content) (sent coming : List (Messages A.Key A.Content))
+        (now : Cs)
         → AreRows A.Key.cmp near.rows
         → IsDutyMet A.Key.cmp far near coming sent
         → IsDutyMet A.Key.cmp far (due_state now near) coming sent }
@@ -82,10 +92,12 @@ pub fn timers_keep_duties<A: MrpApp>()
 
 /// `leaveall_due` keeps both duties.
 pub fn the_leave_all_timer_keeps_duties<A: MrpApp>()
-    ensures own { (near far : State A.Key A.Content) (sent coming : List (Messages A.Key A.Content)) (now : Cs)
+    ensures own { (near far : State A.Key A.Content) (sent coming : List (Messages A.Key A.Content))
+        (now : Cs)
         → IsDutyMet A.Key.cmp near far sent coming
         → IsDutyMet A.Key.cmp (leave_all_state now near) far sent coming }
-    ensures far { (near far : State A.Key A.Content) (sent coming : List (Messages A.Key A.Content)) (now : Cs)
+    ensures far { (near far : State A.Key A.Content) (sent coming : List (Messages A.Key A.Content))
+        (now : Cs)
         → IsDutyMet A.Key.cmp far near coming sent
         → IsDutyMet A.Key.cmp far (leave_all_state now near) coming sent }
 {}
@@ -103,30 +115,37 @@ pub fn periodic_transmission_keeps_duties<A: MrpApp>()
 /// `receive` keeps both duties, where it takes the front of what is coming: what it makes of each registrar is
 /// what was to be held, and after a LeaveAll the applicants have yet to speak.
 pub fn receiving_keeps_duties<A: MrpApp>()
-    ensures own { (near far : State A.Key A.Content) (sent coming : List (Messages A.Key A.Content)) (now : Cs) (m : Messages A.Key A.Content)
+    ensures own { (near far : State A.Key A.Content) (sent coming : List (Messages A.Key A.Content))
+        (now : Cs) (m : Messages A.Key A.Content)
         → AreRows A.Key.cmp near.rows
         → IsDutyMet A.Key.cmp near far sent (m ∷ coming)
-        → IsDutyMet A.Key.cmp (received_state A.Key.cmp now m.leave_all m.events near) far sent coming }
-    ensures far { (near far : State A.Key A.Content) (sent coming : List (Messages A.Key A.Content)) (now : Cs) (m : Messages A.Key A.Content)
+        → IsDutyMet A.Key.cmp (received_state A.Key.cmp now m.leave_all m.events near) far sent
+        coming }
+    ensures far { (near far : State A.Key A.Content) (sent coming : List (Messages A.Key A.Content))
+        (now : Cs) (m : Messages A.Key A.Content)
         → AreRows A.Key.cmp near.rows
         → IsDutyMet A.Key.cmp far near (m ∷ coming) sent
-        → IsDutyMet A.Key.cmp far (received_state A.Key.cmp now m.leave_all m.events near) coming sent }
+        → IsDutyMet A.Key.cmp far (received_state A.Key.cmp now m.leave_all m.events near) coming
+        sent }
 {}
 
 /// `send` keeps both duties, where what it sends is put at the end of what is in flight. A participant that has
 /// sent a LeaveAll meets its duty, whatever was before.
 pub fn sending_keeps_duties<A: MrpApp>()
-    ensures own { (near far : State A.Key A.Content) (sent coming : List (Messages A.Key A.Content)) (now : Cs)
+    ensures own { (near far : State A.Key A.Content) (sent coming : List (Messages A.Key A.Content))
+        (now : Cs)
         → AreRows A.Key.cmp near.rows
         → IsDutyMet A.Key.cmp near far sent coming
         → IsDutyMet A.Key.cmp (sent_state A.base A.octets A.Key.cmp now near) far
         (sent ++ (sent_messages A.base A.octets A.Key.cmp now near ∷ [])) coming }
-    ensures leave_all { (near far : State A.Key A.Content) (sent coming : List (Messages A.Key A.Content)) (now : Cs)
+    ensures leave_all { (near far : State A.Key A.Content)
+        (sent coming : List (Messages A.Key A.Content)) (now : Cs)
         → AreRows A.Key.cmp near.rows
         → is_active near.leave_all ≡ true
         → IsDutyMet A.Key.cmp (sent_state A.base A.octets A.Key.cmp now near) far
         (sent ++ (sent_messages A.base A.octets A.Key.cmp now near ∷ [])) coming }
-    ensures far { (near far : State A.Key A.Content) (sent coming : List (Messages A.Key A.Content)) (now : Cs)
+    ensures far { (near far : State A.Key A.Content) (sent coming : List (Messages A.Key A.Content))
+        (now : Cs)
         → AreRows A.Key.cmp near.rows
         → IsDutyMet A.Key.cmp far near coming sent
         → IsDutyMet A.Key.cmp far (sent_state A.base A.octets A.Key.cmp now near) coming
@@ -135,10 +154,12 @@ pub fn sending_keeps_duties<A: MrpApp>()
 
 /// A repeat right behind its original keeps both duties.
 pub fn repeating_in_place_keeps_duties<A: MrpApp>()
-    ensures own { (near far : State A.Key A.Content) (front back coming : List (Messages A.Key A.Content)) (m : Messages A.Key A.Content)
+    ensures own { (near far : State A.Key A.Content)
+        (front back coming : List (Messages A.Key A.Content)) (m : Messages A.Key A.Content)
         → IsDutyMet A.Key.cmp near far (front ++ (m ∷ back)) coming
         → IsDutyMet A.Key.cmp near far (front ++ (m ∷ (m ∷ back))) coming }
-    ensures far { (near far : State A.Key A.Content) (front back coming : List (Messages A.Key A.Content)) (m : Messages A.Key A.Content)
+    ensures far { (near far : State A.Key A.Content)
+        (front back coming : List (Messages A.Key A.Content)) (m : Messages A.Key A.Content)
         → IsDutyMet A.Key.cmp far near coming (front ++ (m ∷ back))
         → IsDutyMet A.Key.cmp far near coming (front ++ (m ∷ (m ∷ back))) }
 {}
@@ -156,11 +177,15 @@ pub fn spoiling_keeps_duties<A: MrpApp>()
 
 /// A list of messages in flight that says nothing counts for nothing, and receiving it changes nothing.
 pub fn saying_nothing_changes_nothing<A: MrpApp>()
-    ensures own { (near far : State A.Key A.Content) (front back coming : List (Messages A.Key A.Content))
-        → IsDutyMet A.Key.cmp near far (front ++ (record { leave_all = false; events = [] } ∷ back)) coming
+    ensures own { (near far : State A.Key A.Content)
+        (front back coming : List (Messages A.Key A.Content))
+        → IsDutyMet A.Key.cmp near far (front ++ (record { leave_all = false; events = [] } ∷ back))
+        coming
         ↔ IsDutyMet A.Key.cmp near far (front ++ back) coming }
-    ensures far { (near far : State A.Key A.Content) (front back coming : List (Messages A.Key A.Content))
-        → IsDutyMet A.Key.cmp far near coming (front ++ (record { leave_all = false; events = [] } ∷ back))
+    ensures far { (near far : State A.Key A.Content)
+        (front back coming : List (Messages A.Key A.Content))
+        → IsDutyMet A.Key.cmp far near coming
+        (front ++ (record { leave_all = false; events = [] } ∷ back))
         ↔ IsDutyMet A.Key.cmp far near coming (front ++ back) }
     ensures received { (s : State A.Key A.Content) (now : Cs)
         → received_state A.Key.cmp now false [] s ≡ s }

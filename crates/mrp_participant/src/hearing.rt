@@ -51,7 +51,8 @@ fn hear_beside<K: Copy + Ord, C: Copy>(
     requires heard { Ascends K.cmp key_of heard.old.items }
     requires rows { Ascends K.cmp key_of rows.now }
     ensures { OnOk result (heard.new.items
-        ≡ put K.cmp key (after_hear event key content leave (row_so_far K.cmp leave_all leave rows.now heard.old.items key)) heard.old.items) }
+        ≡ put K.cmp key (after_hear event key content leave
+        (row_so_far K.cmp leave_all leave rows.now heard.old.items key)) heard.old.items) }
 {
     match place(heard.as_slice(), &key) {
         Ok(at) => {
@@ -77,7 +78,8 @@ fn first_heard<K: Copy + Ord, C: Copy>(
 ) -> Option<Row<K, C>>
     requires { Ascends K.cmp key_of rows.now }
     ensures { result
-        ≡ after_hear event key content leave (option_map (begun_row leave_all leave) (find K.cmp key rows.now)) }
+        ≡ after_hear event key content leave
+        (option_map (begun_row leave_all leave) (find K.cmp key rows.now)) }
 {
     match find_row(rows, &key) {
         Some(row) => Some(row.begun(leave_all, leave).hears(event, content, leave)),

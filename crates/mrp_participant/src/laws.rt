@@ -27,10 +27,12 @@ pub fn one_key_changes<A: MrpApp>()
         s.rows (declared_state A.Key.cmp A.Content.eq key c s).rows }
     ensures withdraw { (s : State A.Key A.Content) (key : A.Key)
         → AreRows A.Key.cmp s.rows
-        → ChangesOnly A.Key.cmp key (after_withdraw (find A.Key.cmp key s.rows)) s.rows (withdrawn_state A.Key.cmp key s).rows }
+        → ChangesOnly A.Key.cmp key (after_withdraw (find A.Key.cmp key s.rows)) s.rows
+        (withdrawn_state A.Key.cmp key s).rows }
     ensures leave_due { (s : State A.Key A.Content) (key : A.Key)
         → AreRows A.Key.cmp s.rows
-        → ChangesOnly A.Key.cmp key (after_leave (find A.Key.cmp key s.rows)) s.rows (left_state A.Key.cmp key s).rows }
+        → ChangesOnly A.Key.cmp key (after_leave (find A.Key.cmp key s.rows)) s.rows
+        (left_state A.Key.cmp key s).rows }
 {}
 
 /// The rows of a participant stay such rows at each call: they ascend strictly by key, and each keeps something.
@@ -44,7 +46,8 @@ pub fn rows_stay_rows<A: MrpApp>()
     ensures leave_due { (s : State A.Key A.Content) (key : A.Key)
         → AreRows A.Key.cmp s.rows
         → AreRows A.Key.cmp (left_state A.Key.cmp key s).rows }
-    ensures receive { (s : State A.Key A.Content) (now : Cs) (leave_all : Bool) (events : List (MrpEvent × A.Key × A.Content))
+    ensures receive { (s : State A.Key A.Content) (now : Cs) (leave_all : Bool)
+        (events : List (MrpEvent × A.Key × A.Content))
         → AreRows A.Key.cmp s.rows
         → AreRows A.Key.cmp (received_state A.Key.cmp now leave_all events s).rows }
     ensures due { (s : State A.Key A.Content) (now : Cs)
@@ -63,11 +66,13 @@ pub fn rows_stay_rows<A: MrpApp>()
 
 /// After `receive` each key has what LeaveAll, and then the events of this key in order, made of its row.
 pub fn each_key_after_receive<A: MrpApp>()
-    ensures { (s : State A.Key A.Content) (now : Cs) (leave_all : Bool) (events : List (MrpEvent × A.Key × A.Content))
+    ensures { (s : State A.Key A.Content) (now : Cs) (leave_all : Bool)
+        (events : List (MrpEvent × A.Key × A.Content))
         → AreRows A.Key.cmp s.rows
         → (k : A.Key)
         → find A.Key.cmp k (received_state A.Key.cmp now leave_all events s).rows
-        ≡ row_after_receive A.Key.cmp (after now s.leave_time) leave_all events k (find A.Key.cmp k s.rows) }
+        ≡ row_after_receive A.Key.cmp (after now s.leave_time) leave_all events k
+        (find A.Key.cmp k s.rows) }
 {}
 
 /// After `send` each key has what its own opportunity made of its row.
@@ -76,7 +81,8 @@ pub fn each_key_after_send<A: MrpApp>()
         → AreRows A.Key.cmp s.rows
         → (k : A.Key)
         → find A.Key.cmp k (sent_state A.base A.octets A.Key.cmp now s).rows
-        ≡ option_and_then (λ r. row_sent A.base A.octets A.Key.cmp now s r) (find A.Key.cmp k s.rows) }
+        ≡ option_and_then (λ r. row_sent A.base A.octets A.Key.cmp now s r)
+        (find A.Key.cmp k s.rows) }
 {}
 
 /// After `due` each key has what its own leave timer, and then the periodic event where that is due, left of its
@@ -102,7 +108,9 @@ pub fn each_key_in_what_is_sent<A: MrpApp>()
         → AreRows A.Key.cmp s.rows
         → (k : A.Key)
         → filter (λ e. same A.Key.cmp e.1 k) (sent_events A.base A.octets A.Key.cmp now s)
-        ≡ option_to_list (option_and_then (λ r. event_sent A.base A.octets A.Key.cmp now s r) (find A.Key.cmp k s.rows)) }
+        ≡ option_to_list
+        (option_and_then (λ r. event_sent A.base A.octets A.Key.cmp now s r)
+        (find A.Key.cmp k s.rows)) }
 {}
 
 /// A row that is taken says one event with its key and its content: VN and AN say New, LA says Lv, each other
@@ -140,7 +148,8 @@ pub fn what_is_sent_is_declared<A: MrpApp>()
     ensures event { (s : State A.Key A.Content) (now : Cs) (e : MrpEvent × A.Key × A.Content)
         → AreRows A.Key.cmp s.rows
         → Contains (sent_events A.base A.octets A.Key.cmp now s) e
-        → option_and_then (λ r. event_sent A.base A.octets A.Key.cmp now s r) (find A.Key.cmp e.1 s.rows) ≡ Some e }
+        → option_and_then (λ r. event_sent A.base A.octets A.Key.cmp now s r)
+        (find A.Key.cmp e.1 s.rows) ≡ Some e }
     ensures content { (s : State A.Key A.Content) (now : Cs) (e : MrpEvent × A.Key × A.Content)
         → AreRows A.Key.cmp s.rows
         → Contains (sent_events A.base A.octets A.Key.cmp now s) e
@@ -154,7 +163,8 @@ pub fn what_is_sent_is_declared<A: MrpApp>()
 /// After the periodic event each key has what it made of its row.
 pub fn each_key_after_periodic<A: MrpApp>()
     ensures { (s : State A.Key A.Content) (k : A.Key)
-        → find A.Key.cmp k (periodic_state s).rows ≡ option_map periodic_row (find A.Key.cmp k s.rows) }
+        → find A.Key.cmp k (periodic_state s).rows
+        ≡ option_map periodic_row (find A.Key.cmp k s.rows) }
 {}
 
 /// The rows that `send` takes are the front, of the rows in the order in which they are tried, that fits
@@ -164,21 +174,28 @@ pub fn taken_rows_are_a_split<A: MrpApp>()
         → AreRows A.Key.cmp rows
         → IsSplit A.base A.octets (order leave_all rows)
         (filter (is_taken A.base A.octets A.Key.cmp leave_all rows) (order leave_all rows))
-        (filter (λ r. not (is_taken A.base A.octets A.Key.cmp leave_all rows r)) (order leave_all rows)) }
+        (filter (λ r. not (is_taken A.base A.octets A.Key.cmp leave_all rows r))
+        (order leave_all rows)) }
 {}
 
 /// `receive` tells each key whose registration or registered content changed, and no other.
 pub fn receive_tells_each_change<A: MrpApp>()
-    ensures told { (s : State A.Key A.Content) (now : Cs) (leave_all : Bool) (events : List (MrpEvent × A.Key × A.Content))
+    ensures told { (s : State A.Key A.Content) (now : Cs) (leave_all : Bool)
+        (events : List (MrpEvent × A.Key × A.Content))
         → AreRows A.Key.cmp s.rows
         → (k : A.Key)
-        → Contains (changed_keys A.Key.cmp A.Content.eq s.rows (received_state A.Key.cmp now leave_all events s).rows) k
-        ⊎ (registered_at A.Key.cmp k (received_state A.Key.cmp now leave_all events s) ≡ registered_at A.Key.cmp k s) }
-    ensures only { (s : State A.Key A.Content) (now : Cs) (leave_all : Bool) (events : List (MrpEvent × A.Key × A.Content))
+        → Contains (changed_keys A.Key.cmp A.Content.eq s.rows
+        (received_state A.Key.cmp now leave_all events s).rows) k
+        ⊎ (registered_at A.Key.cmp k (received_state A.Key.cmp now leave_all events s)
+        ≡ registered_at A.Key.cmp k s) }
+    ensures only { (s : State A.Key A.Content) (now : Cs) (leave_all : Bool)
+        (events : List (MrpEvent × A.Key × A.Content))
         → AreRows A.Key.cmp s.rows
         → (k : A.Key)
-        → Contains (changed_keys A.Key.cmp A.Content.eq s.rows (received_state A.Key.cmp now leave_all events s).rows) k
-        → registered_at A.Key.cmp k (received_state A.Key.cmp now leave_all events s) ≢ registered_at A.Key.cmp k s }
+        → Contains (changed_keys A.Key.cmp A.Content.eq s.rows
+        (received_state A.Key.cmp now leave_all events s).rows) k
+        → registered_at A.Key.cmp k (received_state A.Key.cmp now leave_all events s)
+        ≢ registered_at A.Key.cmp k s }
 {}
 
 /// `due` tells each key that left: it was registered, and isn't any more. What is registered of each other
@@ -187,7 +204,8 @@ pub fn due_tells_each_change<A: MrpApp>()
     ensures told { (s : State A.Key A.Content) (now : Cs)
         → AreRows A.Key.cmp s.rows
         → (k : A.Key)
-        → Contains (left_keys now s) k ⊎ (registered_at A.Key.cmp k (due_state now s) ≡ registered_at A.Key.cmp k s) }
+        → Contains (left_keys now s) k
+        ⊎ (registered_at A.Key.cmp k (due_state now s) ≡ registered_at A.Key.cmp k s) }
     ensures was { (s : State A.Key A.Content) (now : Cs)
         → AreRows A.Key.cmp s.rows
         → (k : A.Key)
@@ -218,10 +236,12 @@ pub fn told_keys_ascend<A: MrpApp>()
 
 /// A declaration stays as it was at each call but `declare` and `withdraw`.
 pub fn declarations_stay<A: MrpApp>()
-    ensures receive { (s : State A.Key A.Content) (now : Cs) (leave_all : Bool) (events : List (MrpEvent × A.Key × A.Content))
+    ensures receive { (s : State A.Key A.Content) (now : Cs) (leave_all : Bool)
+        (events : List (MrpEvent × A.Key × A.Content))
         → AreRows A.Key.cmp s.rows
         → (k : A.Key)
-        → declared_at A.Key.cmp k (received_state A.Key.cmp now leave_all events s) ≡ declared_at A.Key.cmp k s }
+        → declared_at A.Key.cmp k (received_state A.Key.cmp now leave_all events s)
+        ≡ declared_at A.Key.cmp k s }
     ensures leave_due { (s : State A.Key A.Content) (key : A.Key)
         → AreRows A.Key.cmp s.rows
         → (k : A.Key)
@@ -235,7 +255,8 @@ pub fn declarations_stay<A: MrpApp>()
     ensures send { (s : State A.Key A.Content) (now : Cs)
         → AreRows A.Key.cmp s.rows
         → (k : A.Key)
-        → declared_at A.Key.cmp k (sent_state A.base A.octets A.Key.cmp now s) ≡ declared_at A.Key.cmp k s }
+        → declared_at A.Key.cmp k (sent_state A.base A.octets A.Key.cmp now s)
+        ≡ declared_at A.Key.cmp k s }
 {
     events_keep_declarations();
 }
@@ -245,17 +266,20 @@ pub fn registrations_stay<A: MrpApp>()
     ensures declare { (s : State A.Key A.Content) (key : A.Key) (c : A.Content)
         → AreRows A.Key.cmp s.rows
         → (k : A.Key)
-        → registered_at A.Key.cmp k (declared_state A.Key.cmp A.Content.eq key c s) ≡ registered_at A.Key.cmp k s }
+        → registered_at A.Key.cmp k (declared_state A.Key.cmp A.Content.eq key c s)
+        ≡ registered_at A.Key.cmp k s }
     ensures withdraw { (s : State A.Key A.Content) (key : A.Key)
         → AreRows A.Key.cmp s.rows
         → (k : A.Key)
-        → registered_at A.Key.cmp k (withdrawn_state A.Key.cmp key s) ≡ registered_at A.Key.cmp k s }
+        → registered_at A.Key.cmp k (withdrawn_state A.Key.cmp key s)
+        ≡ registered_at A.Key.cmp k s }
     ensures periodic_due { (s : State A.Key A.Content) (k : A.Key)
         → registered_at A.Key.cmp k (periodic_state s) ≡ registered_at A.Key.cmp k s }
     ensures send { (s : State A.Key A.Content) (now : Cs)
         → AreRows A.Key.cmp s.rows
         → (k : A.Key)
-        → registered_at A.Key.cmp k (sent_state A.base A.octets A.Key.cmp now s) ≡ registered_at A.Key.cmp k s }
+        → registered_at A.Key.cmp k (sent_state A.base A.octets A.Key.cmp now s)
+        ≡ registered_at A.Key.cmp k s }
 {}
 
 /// What is declared is declared with its content, what is withdrawn isn't declared, and what was LV when its
@@ -275,7 +299,8 @@ pub fn what_is_asked_holds<A: MrpApp>()
         → AreRows A.Key.cmp s.rows
         → (k : A.Key)
         → registered_at A.Key.cmp k (left_state A.Key.cmp key s)
-        ≡ (if same A.Key.cmp key k && is_leaving_in (find A.Key.cmp key s.rows) then None else registered_at A.Key.cmp k s) }
+        ≡ (if same A.Key.cmp key k && is_leaving_in (find A.Key.cmp key s.rows) then None
+        else registered_at A.Key.cmp k s) }
 {
     uses();
 }

@@ -52,10 +52,12 @@ pub fn only_a_loss_ends_soundness<A: MrpApp>()
 pub fn a_leave_all_makes_sound<A: MrpApp>()
     ensures near { (l : Link A.Key A.Content) (now : Cs)
         → is_active l.near.leave_all ≡ true
-        → (after_event A.base A.octets A.Key.cmp A.Content.eq l (AtNear (Sends now))).near.sound ≡ true }
+        → (after_event A.base A.octets A.Key.cmp A.Content.eq l (AtNear (Sends now))).near.sound
+        ≡ true }
     ensures far { (l : Link A.Key A.Content) (now : Cs)
         → is_active l.far.leave_all ≡ true
-        → (after_event A.base A.octets A.Key.cmp A.Content.eq l (AtFar (Sends now))).far.sound ≡ true }
+        → (after_event A.base A.octets A.Key.cmp A.Content.eq l (AtFar (Sends now))).far.sound
+        ≡ true }
 {}
 
 /// After every history of a link: where its near end is sound, both ends are still and nothing is in flight, each key

@@ -84,7 +84,8 @@ fn receive_in<K: Copy + Ord, C: Copy + Eq>(
     ensures rows { OnOk result (rows.new.items
         ≡ rows_after_receive K.cmp leave leave_all events.now rows.old.items) }
     ensures keys { IfOk result (λ keys. keys
-        ≡ changed_keys K.cmp C.eq rows.old.items (rows_after_receive K.cmp leave leave_all events.now rows.old.items)) }
+        ≡ changed_keys K.cmp C.eq rows.old.items
+        (rows_after_receive K.cmp leave leave_all events.now rows.old.items)) }
     ensures are_rows { OnOk result (AreRows K.cmp rows.new.items) }
     ensures err { OnErr result (rows.new.items ≡ rows.old.items) }
 {
@@ -116,7 +117,8 @@ fn changed<K: Copy + Ord, C: Copy + Eq>(
 fn differs<K: Copy + Ord, C: Copy + Eq>(old: &[Row<K, C>], row: &Row<K, C>) -> bool
     requires { Ascends K.cmp key_of old.now }
     ensures { result
-        ≡ not (option_eq C.eq (registered_in (find K.cmp row.now.key old.now)) (registered_in (Some row.now))) }
+        ≡ not (option_eq C.eq (registered_in (find K.cmp row.now.key old.now))
+        (registered_in (Some row.now))) }
 {
     let before = match find_row(old, &row.key) {
         Some(row) => row.registered(),

@@ -101,10 +101,12 @@ fn pdu_of<A: MrpApp>(
 
     ensures rows { IfOk result (λ p. p.0.items
         ≡ filter_map
-        (λ r. sent_row leave_all (is_taken A.base A.octets A.Key.cmp leave_all rows.now r) leave r) rows.now) }
+        (λ r. sent_row leave_all (is_taken A.base A.octets A.Key.cmp leave_all rows.now r) leave r)
+        rows.now) }
     ensures events { IfOk result (λ p. p.1
         ≡ filter_map
-        (λ r. sent_event leave_all (is_taken A.base A.octets A.Key.cmp leave_all rows.now r) leave r) rows.now) }
+        (λ r. sent_event leave_all (is_taken A.base A.octets A.Key.cmp leave_all rows.now r) leave
+        r) rows.now) }
     ensures are_rows { IfOk result (λ p. AreRows A.Key.cmp p.0.items) }
 
     ensures ascending { IfOk result (λ p. Ascends A.Key.cmp (λ e. e.1) p.1) }

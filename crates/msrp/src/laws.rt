@@ -97,7 +97,8 @@ pub fn every_call_keeps_a_side_proper()
 
 /// So do settling, a request of the application whose Talker fits, and a clock that doesn't go back.
 pub fn settling_and_requests_keep_a_side_proper()
-    ensures settle { (at : ℕ) (side : Streams) → IsProper side → IsProper (settled_streams at side) }
+    ensures settle { (at : ℕ) (side : Streams) → IsProper side
+        → IsProper (settled_streams at side) }
     ensures request { (request : SrpRequest) (side : Streams) → IsRequestInRange request
         → IsProper side → IsProper (requested_streams request side) }
     ensures clock { (now : ℕ) (side : Streams) → side.moment ≤ now
@@ -156,7 +157,8 @@ pub fn calls_keep_the_ports()
         → setups_of (leave_all_streams now at side) ≡ setups_of side }
     ensures periodic_now { (at : ℕ) (side : Streams)
         → setups_of (periodic_streams at side) ≡ setups_of side }
-    ensures spoil { (at : ℕ) (side : Streams) → setups_of (spoilt_streams at side) ≡ setups_of side }
+    ensures spoil { (at : ℕ) (side : Streams) → setups_of (spoilt_streams at side)
+        ≡ setups_of side }
     ensures send { (now : Cs) (at : ℕ) (side : Streams)
         → setups_of (sent_streams now at side) ≡ setups_of side }
     ensures settle { (at : ℕ) (side : Streams)

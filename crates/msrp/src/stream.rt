@@ -172,7 +172,8 @@ struct TalkerSeen {
 
 // A stream's Talker as the link port at a place sees it.
 fn seen_from(talks: &[Talker], ports: &[Port], at: usize, stream: StreamId) -> TalkerSeen
-    ensures here { result.is_here ≡ is_talker_port (suc at) (talkers_of talks.now ports.now stream) }
+    ensures here { result.is_here ≡ is_talker_port (suc at)
+        (talkers_of talks.now ports.now stream) }
     ensures reg { result.reg ≡ talker_of (talkers_of talks.now ports.now stream) }
 {
     match talk_of(talks, stream) {

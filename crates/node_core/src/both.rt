@@ -57,7 +57,8 @@ pub(crate) fn put_out(
     requires port { IsLinkPort port (length mvrp.old.parts) }
     requires same { length msrp.old.ports ≡ length mvrp.old.parts }
     requires short { AreShort outbox.old.items }
-    ensures put { HasOneSaid app now (place_of port) mvrp.old msrp.old outbox.old.items result mvrp.new msrp.new outbox.new.items }
+    ensures put { HasOneSaid app now (place_of port) mvrp.old msrp.old outbox.old.items result
+        mvrp.new msrp.new outbox.new.items }
     ensures short { AreShort outbox.new.items }
     ensures parts { length mvrp.new.parts ≡ length mvrp.old.parts }
     ensures ports { length msrp.new.ports ≡ length msrp.old.ports }

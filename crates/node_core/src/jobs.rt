@@ -68,7 +68,8 @@ fn work_steps(alloc: Global, wires: &[Wire]) -> Result<Vec<PortStep>, AllocError
 
 // These steps, and at a moment of sending a Send of each application.
 fn with_send(steps: Vec<PortStep>, is_time: bool) -> Result<Seq<PortStep>, AllocError>
-    ensures { IfOk result (λ all. all ≡ steps.items ++ (if is_time then Send Mvrp ∷ Send Msrp ∷ [] else [])) }
+    ensures { IfOk result (λ all. all ≡ steps.items
+        ++ (if is_time then Send Mvrp ∷ Send Msrp ∷ [] else [])) }
 {
     let _ = PortStep::Due.key();
     let mut steps = steps;

@@ -24,7 +24,8 @@ use mvrp::laws as of_vlans;
 
 /// A new node keeps what every node keeps, where its BridgeID is a number of 64 bits.
 pub fn a_new_node_is_proper()
-    ensures { (kind : NodeKind) (bridge : BridgeId) (leave_time : Cs) (periodic : Bool) (ports : List PortSetup)
+    ensures { (kind : NodeKind) (bridge : BridgeId) (leave_time : Cs) (periodic : Bool)
+        (ports : List PortSetup)
         → length ports ≤ 255 → bridge.0 < 2 ^ 64
         → IsProperNode (new_node kind bridge leave_time periodic ports) }
 {

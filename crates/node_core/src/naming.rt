@@ -57,7 +57,8 @@ fn push_key<A: NodeApp>(
     i: usize,
 ) -> Result<(), NoMemory>
     ensures { OnOk result (keys.new.items
-        ≡ keys.old.items ++ option_to_list (option_and_then (registered_key A.name) (slice_get part.now.rows i))) }
+        ≡ keys.old.items
+        ++ option_to_list (option_and_then (registered_key A.name) (slice_get part.now.rows i))) }
 {
     if let Some(key) = key_at(part, i) {
         keys.push(key)?;

@@ -22,7 +22,8 @@ impl Node {
     /// The ledger of a port.
     pub fn ledger(&self, port: PortNo) -> &Ledger
         requires { IsLinkPort port (ports_of self.now) }
-        ensures { IfSome (slice_get self.now.streams.ports (place_of port)) (λ p. result.now ≡ p.ledger) }
+        ensures { IfSome (slice_get self.now.streams.ports (place_of port))
+            (λ p. result.now ≡ p.ledger) }
     {
         self.msrp.ledger(port)
     }

@@ -42,7 +42,8 @@ pub(crate) fn receive_streams(
     requires port { IsLinkPort port (length side.old.ports) }
     requires short { IsShort wire.now }
     ensures ok { IfOk result (λ reply.
-        worked_msrp now (place_of port) (msrp_reading wire.now.octets) side.old ≡ (side.new, reply)) }
+        worked_msrp now (place_of port) (msrp_reading wire.now.octets) side.old
+        ≡ (side.new, reply)) }
     ensures err { OnErr result (side.new ≡ side.old) }
     ensures ports { length side.new.ports ≡ length side.old.ports }
     ensures moment { side.new.moment ≡ side.old.moment }

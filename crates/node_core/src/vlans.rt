@@ -39,7 +39,8 @@ pub(crate) fn receive_vlans(
     requires port { IsLinkPort port (length side.old.parts) }
     requires short { IsShort wire.now }
     ensures ok { IfOk result (λ reply.
-        worked_mvrp now (place_of port) (mvrp_reading wire.now.octets) side.old ≡ (side.new, reply)) }
+        worked_mvrp now (place_of port) (mvrp_reading wire.now.octets) side.old
+        ≡ (side.new, reply)) }
     ensures err { OnErr result (side.new ≡ side.old) }
     ensures ports { length side.new.parts ≡ length side.old.parts }
     ensures kept { IsKept side.new }

@@ -128,7 +128,8 @@ fn put_advertised(
     state: Registrar,
 ) -> Result<(), AllocError>
     ensures { OnOk result (out.new.items
-        ≡ out.old.items ++ talker_line port.now stream (Some (MsrpContent.Advertise talker)) state) }
+        ≡ out.old.items ++ talker_line port.now stream (Some (MsrpContent.Advertise talker))
+        state) }
 {
     put_talker_start(out, port, stream)?;
     put(out, " advertise latency ")?;

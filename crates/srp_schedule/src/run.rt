@@ -26,7 +26,8 @@ use world_core::{History, Journal, Run, Tick, World, WorldEvent};
 /// then all Settles, then all Sends, ports ascending in each), the carrying of each port's PDUs, and the clock. Answers the
 /// network at the end, the journal of all ticks, and the timeline of what was in force at each port after each tick's steps.
 pub fn plain_run(alloc: Global, scenario: &Scenario) -> Result<Run, NoMemory>
-    ensures ticks { IfOk result (λ run. AreCanonicalTicks scenario.now run.journal.ticks run.world) }
+    ensures ticks { IfOk result (λ run. AreCanonicalTicks scenario.now run.journal.ticks
+        run.world) }
     ensures timeline { IfOk result
         (λ run. IsTimelineOf scenario.now run.journal.ticks run.timeline.changes) }
 {

@@ -58,11 +58,14 @@ fn make_entry(
     answers: &mut Vec<(u32, WorldReply)>,
 ) -> Result<(), NoMemory>
     requires neighbours { NamesNeighbours scenario.now.tree.links kind }
-    requires can { IfSome (event_of scenario.now.tree.links scenario.now.streams kind) (λ e. CanHappen e world.old) }
+    requires can { IfSome (event_of scenario.now.tree.links scenario.now.streams kind)
+        (λ e. CanHappen e world.old) }
     ensures answer { OnOk result (answers.new.items
-        ≡ answers.old.items ++ answer_of number (event_of scenario.now.tree.links scenario.now.streams kind) world.old) }
+        ≡ answers.old.items
+        ++ answer_of number (event_of scenario.now.tree.links scenario.now.streams kind) world.old) }
     ensures after { OnOk result
-        (world.new ≡ after_entry (event_of scenario.now.tree.links scenario.now.streams kind) world.old) }
+        (world.new ≡ after_entry (event_of scenario.now.tree.links scenario.now.streams kind)
+        world.old) }
 {
     if let Some(event) = world_event(scenario, kind) {
         answers.push((number, world.step(event)?))?;
@@ -104,7 +107,8 @@ fn world_event(scenario: &Scenario, kind: EventKind) -> Option<WorldEvent>
 
 // The request of a stream's station that it talks, and that it talks no more.
 fn talk(entry: &StreamEntry) -> Option<WorldEvent>
-    ensures { result ≡ Some (WorldEvent.Request entry.now.talker (AppRequest.Talk (talker_of_entry entry.now))) }
+    ensures { result ≡ Some (WorldEvent.Request entry.now.talker
+        (AppRequest.Talk (talker_of_entry entry.now))) }
 {
     let talker = Talker {
         stream: entry.id,

@@ -78,7 +78,8 @@ fn carry_out<I: Source, O: Sink>(
     source: &mut I,
     out: &mut O,
 ) -> Ended
-    ensures { CarriedOut I.left I.faults O.held O.faults command source.old source.new out.old out.new
+    ensures { CarriedOut I.left I.faults O.held O.faults command source.old source.new out.old
+        out.new
         result.cause result.journal.ticks }
 {
     match read_output(alloc, command, source) {

@@ -18,7 +18,8 @@ pub(crate) fn is_said(
     ledger: &Ledger,
     force: Option<&PortChange>,
 ) -> bool
-    ensures { result ≡ is_same (said_by (option_map (λ c. c.now) force.entry)) (force_of part.now ledger.now) }
+    ensures { result ≡ is_same (said_by (option_map (λ c. c.now) force.entry))
+        (force_of part.now ledger.now) }
 {
     match force {
         Some(c) => is_said_by(part, ledger, c),
@@ -66,9 +67,12 @@ fn after_entry(ledger: &Ledger, i: usize, streams: &[StreamId], next: usize) -> 
     requires index { i < length ledger.now.entries }
     requires place { next ≤ length streams.now }
     ensures within { IfSome result (λ n. n ≤ length streams.now) }
-    ensures same { IfSome result (λ n. are_same_streams (drop next streams.now) (booked_streams (drop i ledger.now.entries))
-        ≡ are_same_streams (drop n streams.now) (booked_streams (drop (i + 1) ledger.now.entries))) }
-    ensures other { IfNone result (are_same_streams (drop next streams.now) (booked_streams (drop i ledger.now.entries)) ≡ false) }
+    ensures same { IfSome result (λ n. are_same_streams (drop next streams.now)
+        (booked_streams (drop i ledger.now.entries))
+        ≡ are_same_streams (drop n streams.now)
+        (booked_streams (drop (i + 1) ledger.now.entries))) }
+    ensures other { IfNone result (are_same_streams (drop next streams.now)
+        (booked_streams (drop i ledger.now.entries)) ≡ false) }
 {
     let Some(stream) = booked_entry(ledger, i) else {
         return Some(next);
@@ -113,9 +117,11 @@ fn after_row(part: &Participant<MvrpApp>, i: usize, vids: &[Vid], next: usize) -
     requires index { i < length part.now.rows }
     requires place { next ≤ length vids.now }
     ensures within { IfSome result (λ n. n ≤ length vids.now) }
-    ensures same { IfSome result (λ n. are_same_vids (drop next vids.now) (registered_vids (drop i part.now.rows))
+    ensures same { IfSome result (λ n. are_same_vids (drop next vids.now)
+        (registered_vids (drop i part.now.rows))
         ≡ are_same_vids (drop n vids.now) (registered_vids (drop (i + 1) part.now.rows))) }
-    ensures other { IfNone result (are_same_vids (drop next vids.now) (registered_vids (drop i part.now.rows)) ≡ false) }
+    ensures other { IfNone result (are_same_vids (drop next vids.now)
+        (registered_vids (drop i part.now.rows)) ≡ false) }
 {
     let Some(vid) = registered_row(part, i) else {
         return Some(next);

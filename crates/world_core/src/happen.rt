@@ -118,7 +118,8 @@ pub(crate) fn lose(tree: &Tree, nodes: &mut Vec<Node>, at: EgressPort, index: u3
     requires port { HasPort tree.now at }
     requires here { StandsAt at nodes.old.items }
     requires there { StandsAt (peer_of tree.now.links at) nodes.old.items }
-    ensures { lost at index (app_of at index (record { tree = tree.now; nodes = nodes.old.items })) (record { tree = tree.now; nodes = nodes.old.items })
+    ensures { lost at index (app_of at index (record { tree = tree.now; nodes = nodes.old.items }))
+        (record { tree = tree.now; nodes = nodes.old.items })
         ≡ (record { tree = tree.now; nodes = nodes.new.items }, result) }
 {
     match app_at(nodes, at, index) {
@@ -153,7 +154,8 @@ pub(crate) fn repeat(
 ) -> Result<WorldReply, NoMemory>
     requires { StandsAt at nodes.old.items }
     ensures ok { IfOk result (λ reply. (tree : Topology)
-        → repeated at index (app_of at index (record { tree = tree; nodes = nodes.old.items })) (record { tree = tree; nodes = nodes.old.items })
+        → repeated at index (app_of at index (record { tree = tree; nodes = nodes.old.items }))
+        (record { tree = tree; nodes = nodes.old.items })
         ≡ (record { tree = tree; nodes = nodes.new.items }, reply)) }
     ensures err { OnErr result (nodes.new.items ≡ nodes.old.items) }
 {
@@ -218,7 +220,8 @@ pub(crate) fn carry(
     requires here { StandsAt at nodes.old.items }
     requires there { StandsAt (peer_of tree.now.links at) nodes.old.items }
     ensures ok { IfOk result
-        (λ reply. world_step (WorldEvent.Carry at) (record { tree = tree.now; nodes = nodes.old.items })
+        (λ reply. world_step (WorldEvent.Carry at)
+        (record { tree = tree.now; nodes = nodes.old.items })
         ≡ (record { tree = tree.now; nodes = nodes.new.items }, reply)) }
     ensures err { OnErr result (nodes.new.items ≡ nodes.old.items) }
 {

@@ -110,7 +110,8 @@ fn empty_nodes(alloc: Global, tree: &Tree) -> Result<Vec<NodeChanges>, NoMemory>
 
 // No change at each of so many ports.
 fn empty_ports(alloc: Global, count: u8) -> Result<NodeChanges, NoMemory>
-    ensures { IfOk result (λ node. (x : ℕ) → node ≡ map (λ _. []) (map (port_of x) (range_with_len 1 count))) }
+    ensures { IfOk result (λ node. (x : ℕ) → node
+        ≡ map (λ _. []) (map (port_of x) (range_with_len 1 count))) }
 {
     let mut ports = Vec::with_capacity(alloc, usize::from(count))?;
     for _ in 0..count {
@@ -160,9 +161,12 @@ fn note_node(
 ) -> Result<(), NoMemory>
     requires node { HasNode world.now.tree number.0 }
     requires upto { AllByRecursion (AllByRecursion (ComeUpTo tick)) nodes.old.items }
-    requires shape { (own : EgressPort → List PortChange) × (nodes.old.items ≡ by_port world.now.tree own) }
-    ensures { OnOk result ((own : EgressPort → List PortChange) → nodes.old.items ≡ by_port world.now.tree own
-        → nodes.new.items ≡ by_port world.now.tree (λ p. node_noted tick number world.now p (own p))) }
+    requires shape { (own : EgressPort → List PortChange)
+        × (nodes.old.items ≡ by_port world.now.tree own) }
+    ensures { OnOk result ((own : EgressPort → List PortChange) → nodes.old.items
+        ≡ by_port world.now.tree own
+        → nodes.new.items
+        ≡ by_port world.now.tree (λ p. node_noted tick number world.now p (own p))) }
 {
     world.keeps();
     let alloc = *world.nodes.allocator();
@@ -181,7 +185,8 @@ impl NodeChanges {
     ) -> Result<(), NoMemory>
         requires ports { length self.old ≡ ports_of node.now }
         requires upto { AllByRecursion (ComeUpTo tick) self.old }
-        ensures { OnOk result (self.new ≡ ports_noted tick node.now number 1 (length self.old) self.old) }
+        ensures { OnOk result (self.new
+            ≡ ports_noted tick node.now number 1 (length self.old) self.old) }
     {
         for k in 0..node.ports() {
             let at = EgressPort {
@@ -216,7 +221,8 @@ fn note_port(
 
 // The last of a port's changes: what is in force there in each tick from then on.
 fn last_of(changes: &[PortChange]) -> Option<&PortChange>
-    ensures { (tick : ℕ) → ComeUpTo tick changes.now → option_map (λ c. c.now) result ≡ in_force tick changes.now }
+    ensures { (tick : ℕ) → ComeUpTo tick changes.now → option_map (λ c. c.now) result
+        ≡ in_force tick changes.now }
 {
     let count = changes.len();
     if count == 0 {

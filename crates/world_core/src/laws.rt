@@ -53,7 +53,8 @@ pub fn every_event_keeps_it()
     ensures event { (e : WorldEvent) (w : WorldState) → CanHappen e w → IsEventInRange e
         → IsKeptWorld w → IsKeptWorld (world_step e w).0 }
     ensures events { (es : List WorldEvent) (w : WorldState)
-        → CanAllHappen es w → AllByRecursion IsEventInRange es → IsKeptWorld w → IsKeptWorld (world_after es w) }
+        → CanAllHappen es w → AllByRecursion IsEventInRange es → IsKeptWorld w
+        → IsKeptWorld (world_after es w) }
 {
     ports();
     a_new_link_meets_both_duties::<MvrpApp>();
@@ -97,7 +98,8 @@ pub fn what_is_allowed_may_happen()
     ensures all_can { (tree : Topology) (t : ℕ) (es : List WorldEvent) (w : WorldState)
         → AllByRecursion (IsAllowed tree) es → IsDuring tree t w → CanAllHappen es w }
     ensures all_stay { (tree : Topology) (t : ℕ) (es : List WorldEvent) (w : WorldState)
-        → AllByRecursion (IsAllowed tree) es → IsDuring tree t w → IsDuring tree t (world_after es w) }
+        → AllByRecursion (IsAllowed tree) es → IsDuring tree t w
+        → IsDuring tree t (world_after es w) }
     ensures clock { (tree : Topology) (t : ℕ) (w : WorldState) → t < 2 ^ 61 → IsDuring tree t w
         → CanHappen WorldEvent.Clock w }
     ensures next { (tree : Topology) (t : ℕ) (w : WorldState) → t < 2 ^ 61 → IsDuring tree t w
@@ -106,7 +108,8 @@ pub fn what_is_allowed_may_happen()
         → IsKnownKind plan.nodes plan.links plan.streams kind
         → IfSome (event_of plan.tree.links plan.streams kind) (IsAllowed plan.tree) }
     ensures neighbours { (plan : Plan) (kind : EventKind) → KeepsRules plan
-        → IsKnownKind plan.nodes plan.links plan.streams kind → NamesNeighbours plan.tree.links kind }
+        → IsKnownKind plan.nodes plan.links plan.streams kind
+        → NamesNeighbours plan.tree.links kind }
     ensures scripted { (plan : Plan) (t : ℕ) → KeepsRules plan
         → AllByRecursion (IsAllowed plan.tree) (map (λ e. e.1) (scripted plan t)) }
     ensures carried { (plan : Plan) → KeepsRules plan
@@ -124,10 +127,13 @@ pub fn what_is_allowed_may_happen()
 pub fn ticks_go_on()
     ensures legal { (plan : Plan) (t t' : ℕ) (w v : WorldState) (ticks : List Tick) (tick : Tick)
         → LeadTo (IsLegalTick plan) plan t w ticks t' v → IsLegalTick plan t' v tick
-        → LeadTo (IsLegalTick plan) plan t w (ticks ++ tick ∷ []) (suc t') (world_after (tick_events plan t' tick) v) }
-    ensures canonical { (plan : Plan) (t t' : ℕ) (w v : WorldState) (ticks : List Tick) (tick : Tick)
+        → LeadTo (IsLegalTick plan) plan t w (ticks ++ tick ∷ []) (suc t')
+        (world_after (tick_events plan t' tick) v) }
+    ensures canonical { (plan : Plan) (t t' : ℕ) (w v : WorldState) (ticks : List Tick)
+        (tick : Tick)
         → LeadTo (IsCanonicalTick plan) plan t w ticks t' v → IsCanonicalTick plan t' v tick
-        → LeadTo (IsCanonicalTick plan) plan t w (ticks ++ tick ∷ []) (suc t') (world_after (tick_events plan t' tick) v) }
+        → LeadTo (IsCanonicalTick plan) plan t w (ticks ++ tick ∷ []) (suc t')
+        (world_after (tick_events plan t' tick) v) }
 {}
 
 /// Every moment of a legal run of a scenario keeps it.
@@ -184,10 +190,14 @@ pub fn canonical_ticks_are_legal()
 /// is. So steps of a node's ports each see the node that the steps before left, and steps of different nodes don't see each
 /// other.
 pub fn a_step_is_of_its_node_alone()
-    ensures own { (n : NodeNo) (port : PortNo) (step : PortStep) (w : WorldState) (s : NodeState) → node_at n w ≡ Some s
-        → node_at n (world_step (port_event n port step) w).0 ≡ Some (node_step (port_step port step) s).0 }
-    ensures answer { (n : NodeNo) (port : PortNo) (step : PortStep) (w : WorldState) (s : NodeState) → node_at n w ≡ Some s
-        → (world_step (port_event n port step) w).1 ≡ step_reply (node_step (port_step port step) s).1 }
+    ensures own { (n : NodeNo) (port : PortNo) (step : PortStep) (w : WorldState) (s : NodeState)
+        → node_at n w ≡ Some s
+        → node_at n (world_step (port_event n port step) w).0
+        ≡ Some (node_step (port_step port step) s).0 }
+    ensures answer { (n : NodeNo) (port : PortNo) (step : PortStep) (w : WorldState) (s : NodeState)
+        → node_at n w ≡ Some s
+        → (world_step (port_event n port step) w).1
+        ≡ step_reply (node_step (port_step port step) s).1 }
     ensures others { (n m : NodeNo) (port : PortNo) (step : PortStep) (w : WorldState)
         → n.0 - 1 ≢ m.0 - 1
         → node_at m (world_step (port_event n port step) w).0 ≡ node_at m w }

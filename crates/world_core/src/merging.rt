@@ -70,7 +70,8 @@ fn move_before(lacking: &mut VecDeque<PortChange>, at: EgressPort, all: &mut Vec
     ensures moved { all.new.items ≡ all.old.items ++ front_before at lacking.old.items }
     ensures rest { lacking.new.items ≡ rest_from at lacking.old.items }
     ensures room { vec_capacity all.old ≤ vec_capacity all.new }
-    ensures count { deque_len lacking.new + vec_len all.new ≡ deque_len lacking.old + vec_len all.old }
+    ensures count { deque_len lacking.new + vec_len all.new
+        ≡ deque_len lacking.old + vec_len all.old }
 {
     while let Some(change) = take_before(lacking, at) {
         push_last(all, change);
@@ -82,7 +83,8 @@ fn take_before(lacking: &mut VecDeque<PortChange>, at: EgressPort) -> Option<Por
     ensures one { IfSome result (λ c. (lacking.old.items ≡ c ∷ lacking.new.items)
         × (precedes c.at at ≡ true)) }
     ensures none { IfNone result ((lacking.new.items ≡ lacking.old.items)
-        × (front_before at lacking.old.items ≡ []) × (rest_from at lacking.old.items ≡ lacking.old.items)) }
+        × (front_before at lacking.old.items ≡ [])
+        × (rest_from at lacking.old.items ≡ lacking.old.items)) }
     ensures less { IfSome result (λ c. deque_len lacking.new + 1 ≡ deque_len lacking.old) }
     ensures same { IfNone result (deque_len lacking.new ≡ deque_len lacking.old) }
 {

@@ -45,7 +45,8 @@ fn fresh_changes(
 ) -> Result<VecDeque<PortChange>, NoMemory>
     requires { AreChanges world.now.tree tick changes.now }
     ensures { IfOk result (λ v. v.items ≡ flat_map
-        (λ p. lacking tick p (force_at p world.now) (changes_at changes.now p)) (tree_ports world.now.tree)) }
+        (λ p. lacking tick p (force_at p world.now) (changes_at changes.now p))
+        (tree_ports world.now.tree)) }
 {
     world.keeps();
     let mut fresh = VecDeque::new(alloc);
@@ -144,7 +145,8 @@ fn count_upto(changes: &[PortChange], at: EgressPort) -> usize
     requires { AllPairs IsEarlier changes.now }
     ensures within { result ≤ length changes.now }
     ensures upto { AllWithin (λ c. precedes at c.at ≡ false) changes.now 0 result }
-    ensures after { AllWithin (λ c. precedes at c.at ≡ true) changes.now result (length changes.now) }
+    ensures after { AllWithin (λ c. precedes at c.at ≡ true) changes.now result
+        (length changes.now) }
 {
     changes.partition_point(|c| !precedes(at, c.at))
 }

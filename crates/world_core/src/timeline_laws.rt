@@ -24,7 +24,8 @@ use crate::laws::every_moment_is_within_limits;
 
 /// Once a tick is noted, the changes are again in order and of the tree's ports, and none is after that tick.
 pub fn noting_keeps_changes()
-    ensures { (tick : ℕ) (w : WorldState) (changes : List PortChange) → AreChanges w.tree tick changes
+    ensures { (tick : ℕ) (w : WorldState) (changes : List PortChange)
+        → AreChanges w.tree tick changes
         → AreChanges w.tree (suc tick) (noted tick w changes) }
 {}
 
@@ -34,7 +35,8 @@ pub fn what_is_noted_is_in_force()
     ensures before { (tick t : ℕ) (w : WorldState) (changes : List PortChange) (p : EgressPort)
         → AreChanges w.tree tick changes → HasPort w.tree p → t < tick
         → in_force t (changes_at (noted tick w changes) p) ≡ in_force t (changes_at changes p) }
-    ensures from { (tick : ℕ) (w : WorldState) (changes : List PortChange) → AreChanges w.tree tick changes
+    ensures from { (tick : ℕ) (w : WorldState) (changes : List PortChange)
+        → AreChanges w.tree tick changes
         → SaysFrom tick (noted tick w changes) w }
 {}
 
@@ -50,7 +52,8 @@ pub fn what_ends_a_tick_changes_nothing_in_force()
 /// and repeats change nothing in force, a step is of its node alone, and what a node sends leaves its ledgers and what is
 /// registered of each VID.
 pub fn only_a_node_that_acts_changes_what_is_in_force()
-    ensures { (plan : Plan) (t : ℕ) (w : WorldState) (tick : Tick) (p : EgressPort) → IsLegalTick plan t w tick
+    ensures { (plan : Plan) (t : ℕ) (w : WorldState) (tick : Tick) (p : EgressPort)
+        → IsLegalTick plan t w tick
         → HasPort plan.tree p → has_acted p.node tick.steps ≡ false
         → force_at p (after_steps plan t tick w) ≡ force_at p w }
 {}
@@ -58,7 +61,8 @@ pub fn only_a_node_that_acts_changes_what_is_in_force()
 /// Noting the nodes that have acted in a tick notes the tick, where the changes say already what is in force at the others.
 pub fn noting_who_has_acted_notes_a_tick()
     ensures { (tick : ℕ) (steps : List NodeSteps) (w : WorldState) (changes : List PortChange)
-        → ((p : EgressPort) → HasPort w.tree p → has_acted p.node steps ≡ false → Says tick changes p (force_at p w))
+        → ((p : EgressPort) → HasPort w.tree p → has_acted p.node steps ≡ false
+        → Says tick changes p (force_at p w))
         → acts_noted tick steps w changes ≡ noted tick w changes }
 {}
 
@@ -66,30 +70,37 @@ pub fn noting_who_has_acted_notes_a_tick()
 /// the same changes, where these say already what that network has.
 pub fn a_timeline_goes_on()
     ensures begins { (plan : Plan) → IsTimelineOf plan [] [] }
-    ensures noted { (plan : Plan) (ticks : List Tick) (tick : Tick) (changes : List PortChange) (w : WorldState)
+    ensures noted { (plan : Plan) (ticks : List Tick) (tick : Tick) (changes : List PortChange)
+        (w : WorldState)
         → IsTimelineOf plan ticks changes
-        → w ≡ after_steps plan (length ticks) tick (world_after_ticks plan ticks) → w.tree ≡ plan.tree
+        → w ≡ after_steps plan (length ticks) tick (world_after_ticks plan ticks) → w.tree
+        ≡ plan.tree
         → IsTimelineOf plan (ticks ++ tick ∷ []) (noted (length ticks) w changes) }
-    ensures same { (plan : Plan) (ticks : List Tick) (tick : Tick) (changes : List PortChange) (w : WorldState)
+    ensures same { (plan : Plan) (ticks : List Tick) (tick : Tick) (changes : List PortChange)
+        (w : WorldState)
         → IsTimelineOf plan ticks changes
-        → w ≡ after_steps plan (length ticks) tick (world_after_ticks plan ticks) → w.tree ≡ plan.tree
+        → w ≡ after_steps plan (length ticks) tick (world_after_ticks plan ticks) → w.tree
+        ≡ plan.tree
         → SaysFrom (length ticks) changes w
         → IsTimelineOf plan (ticks ++ tick ∷ []) changes }
     ensures next { (plan : Plan) (ticks : List Tick) (tick : Tick)
         → world_after_ticks plan (ticks ++ tick ∷ [])
-        ≡ world_after (closing_events plan.tree) (after_steps plan (length ticks) tick (world_after_ticks plan ticks)) }
+        ≡ world_after (closing_events plan.tree)
+        (after_steps plan (length ticks) tick (world_after_ticks plan ticks)) }
 {}
 
 /// The network after a tick's steps is a moment of the run.
 pub fn a_moment_follows_each_ticks_steps()
-    ensures { (plan : Plan) (ticks : List Tick) (t : ℕ) (w : WorldState) → IsAfterSteps plan ticks t w
+    ensures { (plan : Plan) (ticks : List Tick) (t : ℕ) (w : WorldState)
+        → IsAfterSteps plan ticks t w
         → IsMoment plan ticks w }
 {}
 
 /// In the timeline of a legal run the slopes of each change are within what its port may give away, to class A and to both classes,
 /// so that at each port both together are below the link's rate.
 pub fn slopes_stay_within_limits()
-    ensures class_a { (plan : Plan) (ticks : List Tick) (end : WorldState) (changes : List PortChange)
+    ensures class_a { (plan : Plan) (ticks : List Tick) (end : WorldState)
+        (changes : List PortChange)
         → KeepsRules plan → AreLegalTicks plan ticks end → IsTimelineOf plan ticks changes
         → All (λ c. c.slope_a ≤ (caps_at plan c.at).class_a) changes }
     ensures both { (plan : Plan) (ticks : List Tick) (end : WorldState) (changes : List PortChange)

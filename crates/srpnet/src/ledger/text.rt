@@ -55,7 +55,8 @@ fn write_sum(out: &mut String, classes: &str, sum: u64, cap: u64) -> Result<(), 
 fn write_unbooked(out: &mut String, ledger: &Ledger, now: Cs, want: &Want) -> Result<(), AllocError>
     requires now { now.0 ≡ ledger.now.moment }
     ensures { OnOk result (string_bytes out.new
-        ≡ string_bytes out.old ++ line_by want.now (fit_for ledger.now.moment ledger.now want.now) None) }
+        ≡ string_bytes out.old
+        ++ line_by want.now (fit_for ledger.now.moment ledger.now want.now) None) }
 {
     ledger.within_caps();
     match ledger.fits(now, want) {
