@@ -1,9 +1,9 @@
 -- Lemmas on the lines of the streams of a ledger file.
-use Rattle.std.proofs.Common.{◌≡◌, ◌≢◌, ◌↔◌, ℕ, ◌+◌, ◌<◌, ◌≤◌, Bool, true, false, ◌==◌, cond, List, [], ◌∷◌, ◌++◌, length, get_or, take, reverse, Option, Some, None, option_map, IsSome, refl, sym, ◌∙◌, ap, arith, inl, inr, Result, Ok, Err, append_assoc}
+use Rattle.std.proofs.Common.{◌≡◌, ◌≢◌, ◌↔◌, ℕ, ◌+◌, ◌<◌, ◌≤◌, Bool, true, false, ◌==◌, cond, List, [], ◌∷◌, ◌++◌, length, get_or, take, drop, reverse, Option, Some, None, option_map, IsSome, refl, sym, subst, ◌∙◌, ap, arith, nat_lt, inl, inr, Result, Ok, Err, append_assoc}
 use Rattle.std.specs.Prelude.{find}
 use Rattle.std.specs.Option.{option_map_or}
 use Rattle.std.proofs.lemmas.Bool.{eqb-true, eqb-false, eq-eqb, ne_eqb, cases_Bool}
-use Rattle.std.proofs.lemmas.List.{take_all, take_more, reverse-append}
+use Rattle.std.proofs.lemmas.List.{drop_more, take_all, take_more, reverse-append}
 use Rattle.srp_base.specs.declared.numbers.Cs.{Cs}
 use Rattle.srp_base.specs.declared.numbers.StreamId.{StreamId}
 use Rattle.srp_base.specs.Hexadecimal.{hex16_text}
@@ -12,6 +12,8 @@ use Rattle.stream_importance.specs.declared.entry.Want.{Want}
 use Rattle.stream_importance.specs.declared.entry.Fit.{Fit}
 use Rattle.stream_importance.specs.declared.entry.Fit.TheVariants.{Fits, TooLittle}
 use Rattle.port_ledger.specs.Book.{Book, fit_for, since_of, want_of}
+use Rattle.srpnet.specs.LedgerFile.{first_fall}
+use Rattle.srpnet.specs.LedgerRun.{Applies, Leads}
 use Rattle.srpnet.specs.LedgerText.{HasLines, last_want, line_by, want_line}
 use Rattle.toml_rules.specs.declared.rules.RuleErr.{RuleErr}
 use Rattle.toml_rules.specs.Rules.{with_front}
@@ -52,6 +54,27 @@ kept_step old new ws i d l after before s =
     after s
     ∙ (ap (cond (s.0 == (get_or ws i d).want.stream.0) (Some (get_or ws i d).want)) (before s)
     ∙ sym (last_want-more ws i d s l))
+
+-- where no tick falls from one want on, none falls from the next one on
+pub none_falls_next : (n before : ℕ) (ws : List LedgerWant) (i : ℕ) (d : LedgerWant) → i < length ws
+    → first_fall n before (drop i ws) ≡ None
+    → first_fall (n + 1) (get_or ws i d).tick.0 (drop (i + 1) ws) ≡ None
+none_falls_next n before ws i d l none =
+    by_test (nat_lt (get_or ws i d).tick.0 before) (sym (ap (first_fall n before) (drop_more ws i d l)) ∙ none)
+  where
+    by_test : (b : Bool)
+        → cond b (Some n) (first_fall (n + 1) (get_or ws i d).tick.0 (drop (i + 1) ws)) ≡ None
+        → first_fall (n + 1) (get_or ws i d).tick.0 (drop (i + 1) ws) ≡ None
+    by_test true e = absurd (let fall : Some n ≡ None = e in cc)
+    by_test false e = e
+
+-- what the wants from one on lead to is what those from the next one on lead to, once it is applied
+pub leads_on : (start old new : Book) (ws : List LedgerWant) (i : ℕ) (d : LedgerWant) → i < length ws
+    → Applies old (get_or ws i d) new
+    → ((end : Book) → Leads old (drop i ws) end → Leads start ws end)
+    → (end : Book) → Leads new (drop (i + 1) ws) end → Leads start ws end
+leads_on start old new ws i d l applies before end rest =
+    before end (subst (λ (l : List LedgerWant). Leads old l end) (sym (drop_more ws i d l)) (new, applies, rest))
 
 -- the last want of a stream is of that stream
 found_stream : (ws : List LedgerWant) (s : StreamId) (want : Want)

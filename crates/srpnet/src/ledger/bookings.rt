@@ -13,7 +13,6 @@ use std::alloc::Global;
 
 /// The ledger once the wants are applied in file order at their ticks, and the moment of the last one
 /// in cs, 0 where there is none. Each stream that the file mentions has its line in the text.
-#[tactic(auto, using(crate::proofs::LedgerLemmas::kept_step))]
 pub fn bookings(alloc: Global, file: &LedgerFile) -> Result<(Ledger, Cs), NoMemory>
     requires shares { file.now.delta_a + file.now.delta_b ≤ 90 }
     requires ticks { first_fall 1 0 file.now.wants ≡ None }

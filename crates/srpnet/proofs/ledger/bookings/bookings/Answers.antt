@@ -1,5 +1,5 @@
-use Rattle.std.proofs.Common.{◌≤◌, length, arith}
-use Rattle.srpnet.proofs.LedgerLemmas.{lines_at_end}
+use Rattle.std.proofs.Common.{◌+◌, ◌<◌, ◌≤◌, length, arith, rules}
+use Rattle.srpnet.proofs.LedgerLemmas.{kept_step, leads_on, lines_at_end, none_falls_next}
 use Rattle.srpnet.proofs.ledger.bookings.bookings.Goals as goal
 
 pub returns-clause-lines : goal.returns-clause-lines
@@ -7,3 +7,16 @@ returns-clause-lines c =
     let end : length c.as_slice-wants.result.now ≤ c.loop-want.want-index = omega (arith, c.loop-want-test.false) in
     lines_at_end c.loop-want.ledger c.as_slice-wants.result.now _ c.loop-want.want-index c.as_slice-wants.ensures
     end c.stands.ensures.kept c.loop-want.invariant.kept
+
+pub loop-want-preserved : goal.loop-want-preserved
+loop-want-preserved c =
+    let more : c.loop-want.want-index < length c.as_slice-wants.result.now = c.loop-want-test.true in
+    record {
+      caps = search rules;
+      moment = search rules;
+      ticks = none_falls_next (c.loop-want.want-index + 1) c.loop-want.now.0 c.as_slice-wants.result.now c.loop-want.want-index _ more c.loop-want.invariant.ticks;
+      kept = kept_step c.loop-want.ledger.entries c.want.new.self.entries c.as_slice-wants.result.now c.loop-want.want-index _ more
+          c.in_ok-want.ensures.kept c.loop-want.invariant.kept;
+      leads = leads_on c.new-ledger.result c.loop-want.ledger c.want.new.self c.as_slice-wants.result.now c.loop-want.want-index _ more
+          (record { caps = search rules; moment = search rules; decided = c.in_ok-want.ensures.decided }) c.loop-want.invariant.leads;
+    }
