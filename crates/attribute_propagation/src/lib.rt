@@ -20,8 +20,6 @@ mod dirty;
 mod flat;
 pub mod laws;
 mod ports;
-#[cfg(test)]
-mod tests;
 
 pub use dirty::Dirty;
 pub use flat::flat_declares;

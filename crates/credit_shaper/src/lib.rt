@@ -44,6 +44,3 @@ mod trace;
 pub use port::{Arrival, Departure, Departures, PortInput, SlopeChange};
 pub use shaper::{Line, Shaper, Traffic};
 pub use trace::PortTrace;
-
-#[cfg(test)]
-mod tests;

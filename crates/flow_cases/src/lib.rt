@@ -1,8 +1,10 @@
-//! Worked flows of frames: what `frame_flow` answers, called as its users call it. The crate has tests
-//! alone, apart from `frame_flow`, since a crate with tests is proved once more with them.
+//! Worked runs of frames: at one port through its shaper (`credit_shaper`), and over a tree (`frame_flow`). The crate has tests alone, called as a user calls, since a crate
+//! with tests beside its code is proved once more with them.
 //!
-//! To add one: a test in `tests`, with the fates that the shaper's rules give by hand.
+//! To add one: a test in `shaper` or `flow`, with the fates that the shaper's rules give by hand.
 #![tactic(auto)]
 
 #[cfg(test)]
-mod tests;
+mod flow;
+#[cfg(test)]
+mod shaper;

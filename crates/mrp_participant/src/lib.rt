@@ -49,6 +49,3 @@ mod timers;
 pub use application::{MrpApp, Msgs};
 pub use model::Participant;
 pub use row::Row;
-
-#[cfg(test)]
-mod tests;

@@ -70,6 +70,3 @@ pub use pdu::{Message, Pdu, VectorAttr};
 pub use places::{first_value_at, first_values_have_places};
 pub use raw::{RawMessage, RawPdu, RawVector, events_in};
 pub use writable::{size_of, well_formed};
-
-#[cfg(test)]
-mod tests;

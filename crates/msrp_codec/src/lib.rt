@@ -41,6 +41,3 @@ pub use mrpdu_codec::DecodeErr;
 pub use pdu::{MsrpContent, MsrpKey, MsrpPdu, base_octets, row_octets};
 pub use reading::decode;
 pub use writing::encode;
-
-#[cfg(test)]
-mod tests;

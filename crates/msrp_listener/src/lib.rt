@@ -25,6 +25,3 @@ mod port_listener;
 
 pub use merging::merge;
 pub use port_listener::{PortListener, listener_out};
-
-#[cfg(test)]
-mod tests;

@@ -24,6 +24,3 @@ mod port_config;
 
 pub use class::{check, class_of};
 pub use port_config::{PortConfig, talker_out};
-
-#[cfg(test)]
-mod tests;

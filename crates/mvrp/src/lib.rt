@@ -28,8 +28,6 @@ mod ready;
 mod sending;
 mod settling;
 mod side;
-#[cfg(test)]
-mod tests;
 
 pub use app::MvrpApp;
 pub use ready::Ready;

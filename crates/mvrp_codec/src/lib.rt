@@ -34,6 +34,3 @@ pub use mrpdu_codec::DecodeErr;
 pub use pdu::MvrpPdu;
 pub use reading::decode;
 pub use writing::encode;
-
-#[cfg(test)]
-mod tests;

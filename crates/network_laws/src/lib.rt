@@ -28,11 +28,7 @@
 #![tactic(auto)]
 
 pub mod laws;
-#[cfg(test)]
-mod stream_tests;
 mod streams;
-#[cfg(test)]
-mod tests;
 mod vlans;
 
 pub use streams::{Refusal, ready_on_path, refusal_shown};

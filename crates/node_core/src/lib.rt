@@ -41,8 +41,6 @@ mod outbox;
 mod parts;
 mod step;
 mod streams;
-#[cfg(test)]
-mod tests;
 mod types;
 mod vlans;
 

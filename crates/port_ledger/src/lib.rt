@@ -48,6 +48,3 @@ mod totals;
 pub use changed::Changed;
 pub use laws::one_decision;
 pub use ledger::Ledger;
-
-#[cfg(test)]
-mod tests;

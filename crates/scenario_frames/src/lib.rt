@@ -32,8 +32,6 @@
 mod frames;
 pub mod laws;
 mod setting;
-#[cfg(test)]
-mod tests;
 mod way;
 
 pub use frames::frames_of;

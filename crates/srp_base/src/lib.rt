@@ -25,8 +25,6 @@ pub mod mrp;
 pub mod numbers;
 pub mod ports;
 pub mod streams;
-#[cfg(test)]
-mod tests;
 
 pub use bandwidth::{Class, Percent, Rank, Rate};
 pub use hexadecimal::{read_hex12, read_hex16};

@@ -22,8 +22,6 @@
 mod sink;
 mod source;
 mod standard;
-#[cfg(test)]
-mod tests;
 mod whole;
 
 pub use sink::{MemSink, PlainSink, Sink, SinkErr};

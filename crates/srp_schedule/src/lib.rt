@@ -29,7 +29,5 @@ mod order;
 mod run;
 mod script;
 mod steps;
-#[cfg(test)]
-mod tests;
 
 pub use run::plain_run;

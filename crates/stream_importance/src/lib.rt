@@ -29,6 +29,3 @@ pub use entry::{Entry, Fit, Want};
 pub use laws::importance_is_an_order;
 pub use order::{compare_importance, more_important};
 pub use slope::{Caps, slope_of};
-
-#[cfg(test)]
-mod tests;

@@ -29,8 +29,6 @@ mod fields;
 pub mod laws;
 mod rules;
 mod shares;
-#[cfg(test)]
-mod tests;
 
 pub use entries::{
     each_entry, each_table, each_table_within, each_within, first_fall, first_where,

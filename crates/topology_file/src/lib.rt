@@ -33,8 +33,6 @@ mod links;
 mod nodes;
 mod scenario;
 mod streams;
-#[cfg(test)]
-mod tests;
 mod tree;
 
 pub use entries::{

@@ -34,8 +34,6 @@ pub mod graph;
 pub mod laws;
 mod routes;
 mod span;
-#[cfg(test)]
-mod tests;
 pub mod topology;
 
 pub use graph::{Link, NodeKind, TreeErr};

@@ -31,8 +31,6 @@ pub mod laws;
 mod merging;
 mod start;
 mod step;
-#[cfg(test)]
-mod tests;
 mod timeline;
 pub mod timeline_laws;
 mod world;

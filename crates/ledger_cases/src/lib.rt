@@ -1,0 +1,13 @@
+//! Worked cases of bandwidth at one port: which of two streams goes first (`stream_importance`), what is booked
+//! (`port_ledger`), and what a port declares of Talkers (`msrp_talker`) and Listeners (`msrp_listener`). The crate has tests alone, called as a user calls, since a crate
+//! with tests beside its code is proved once more with them.
+#![tactic(auto)]
+
+#[cfg(test)]
+mod importance;
+#[cfg(test)]
+mod ledger;
+#[cfg(test)]
+mod listener;
+#[cfg(test)]
+mod talker;

@@ -1,0 +1,273 @@
+//! Full PDUs, requests, registrations and timers, over an application whose keys and contents are numbers: a
+//! PDU's base is 11 octets, a row takes 5, so that 297 rows fill a PDU. Contents are ten times the key.
+//!
+//! The calls stand in functions of their own without contracts, so that a test's own proof is short.
+
+use applicant::Applicant;
+use mrp_participant::{MrpApp, Msgs, Participant};
+use registrar::Registrar;
+use srp_base::{Cs, MrpEvent, NoMemory, Seq};
+use std::alloc::Global;
+use std::test::Fail;
+
+struct Numbers;
+
+impl MrpApp for Numbers {
+    ghost use Rattle.std.proofs.Common.{arith};
+    ghost use Rattle.std.proofs.lemmas.Bool.Decides.{nat_tests};
+
+    type Key = u32;
+
+    type Content = u32;
+
+    ghost base = { 11 };
+
+    ghost octets = { λ _. 5 };
+
+    fn base_octets() -> usize {
+        11
+    }
+
+    fn row_octets(_content: &u32) -> usize {
+        5
+    }
+
+    ghost one_key = { λ a b h. Prim.grind (arith, nat_tests) };
+
+    ghost one_content = { λ a b h. Prim.grind (arith, nat_tests) };
+
+    ghost base_fits = { Prim.omega arith };
+
+    ghost row_fits = { λ c. Prim.omega arith };
+}
+
+// A participant whose first LeaveAll is at 100 with periodic transmission, or at 1,001 without.
+fn new_participant(alloc: Global, often: bool) -> Participant<Numbers> {
+    if often {
+        Participant::new(alloc, Cs(100), Cs(60), true)
+    } else {
+        Participant::new(alloc, Cs(1001), Cs(60), false)
+    }
+}
+
+fn declare(participant: &mut Participant<Numbers>, first: u32, last: u32) -> Result<(), NoMemory> {
+    for key in first..=last {
+        participant.declare(key, key.wrapping_mul(10))?;
+    }
+    Ok(())
+}
+
+// Whether a send at a moment gives so many events, with LeaveAll or not, and which the first and the last are.
+fn sends(
+    participant: &mut Participant<Numbers>,
+    now: u32,
+    leave_all: bool,
+    count: usize,
+    ends: (MrpEvent, u32, u32),
+) -> Result<bool, NoMemory> {
+    match participant.send(Cs(u64::from(now)))? {
+        Some(msgs) => {
+            let (event, first, last) = ends;
+            let events = msgs.events.as_slice();
+            let begins = events.first().copied() == Some((event, first, first.wrapping_mul(10)));
+            let ends = events.last().copied() == Some((event, last, last.wrapping_mul(10)));
+            Ok(msgs.leave_all == leave_all && events.len() == count && begins && ends)
+        }
+        None => Ok(false),
+    }
+}
+
+fn is_silent(participant: &mut Participant<Numbers>, now: u32) -> Result<bool, NoMemory> {
+    Ok(participant.send(Cs(u64::from(now)))?.is_none())
+}
+
+// Whether a list of events tells, at a moment, these keys in this order.
+fn tells(
+    alloc: Global,
+    participant: &mut Participant<Numbers>,
+    now: u32,
+    leave_all: bool,
+    list: &[(MrpEvent, u32, u32)],
+    keys: &[u32],
+) -> Result<bool, NoMemory> {
+    let mut events = Seq::new(alloc);
+    for event in list {
+        events.push(*event)?;
+    }
+    let told = participant.receive(Cs(u64::from(now)), &Msgs { leave_all, events })?;
+    Ok(told.as_slice() == keys)
+}
+
+// Whether so many timers fire at a moment, and these keys leave in this order.
+fn fires(
+    participant: &mut Participant<Numbers>,
+    now: u32,
+    fired: u32,
+    keys: &[u32],
+) -> Result<bool, NoMemory> {
+    let (number, left) = participant.due(Cs(u64::from(now)))?;
+    Ok(number == fired && left.as_slice() == keys)
+}
+
+fn is_declared(
+    participant: &Participant<Numbers>,
+    key: u32,
+    content: Option<u32>,
+    applicant: Applicant,
+) -> bool {
+    participant.declared(key) == content && participant.applicant(key) == applicant
+}
+
+fn is_registered(
+    participant: &Participant<Numbers>,
+    key: u32,
+    content: Option<u32>,
+    registrar: Registrar,
+) -> bool {
+    participant.registered(key) == content && participant.registrar(key) == registrar
+}
+
+// 300 keys take three PDUs.
+#[test]
+fn full_pdus(rt: HostRuntime) -> Result<(), Fail> {
+    let mut participant = new_participant(rt.alloc(), false);
+    declare(&mut participant, 1, 300)?;
+    for (now, count, first, last) in [(20, 297, 1, 297), (40, 297, 1, 300), (60, 6, 295, 300)] {
+        let ends = (MrpEvent::JoinMt, first, last);
+        assert!(rt; sends(&mut participant, now, false, count, ends)?);
+    }
+    assert!(rt; is_silent(&mut participant, 80)?);
+    Ok(())
+}
+
+// A LeaveAll leaves three keys of 300 very anxious, and makes the participant sound.
+#[test]
+fn leave_all_without_room(rt: HostRuntime) -> Result<(), Fail> {
+    let mut participant = new_participant(rt.alloc(), false);
+    declare(&mut participant, 1, 300)?;
+    participant.spoil();
+    participant.leaveall_due(Cs(1001));
+    for (now, leave_all, count, last) in [(20, true, 297, 297), (40, false, 297, 300)] {
+        let ends = (MrpEvent::JoinMt, 1, last);
+        assert!(rt; sends(&mut participant, now, leave_all, count, ends)?);
+    }
+    assert!(rt; participant.sound() && !participant.still());
+    Ok(())
+}
+
+// A key that is declared and withdrawn with nothing sent between still says Lv, once; its copy goes its own way.
+#[test]
+fn withdrawn_in_time(rt: HostRuntime) -> Result<(), Fail> {
+    let mut participant = new_participant(rt.alloc(), false);
+    declare(&mut participant, 7, 7)?;
+    let copy = participant.copy()?;
+    participant.withdraw(7);
+    assert!(rt; is_declared(&participant, 7, None, Applicant::La));
+    assert!(rt; sends(&mut participant, 20, false, 1, (MrpEvent::Lv, 7, 7))?);
+    assert!(rt; participant.rows() == 0 && is_silent(&mut participant, 40)?);
+    assert!(rt; copy.key_at(0) == Some(7) && copy.key_at(1).is_none());
+    assert!(rt; is_declared(&copy, 7, Some(70), Applicant::Vp));
+    Ok(())
+}
+
+// Receiving tells the keys whose registration or content changed, in ascending order, and acts on LeaveAll first.
+#[test]
+fn registrations(rt: HostRuntime) -> Result<(), Fail> {
+    use MrpEvent::*;
+    let mut participant = new_participant(rt.alloc(), false);
+    let joins = [(JoinIn, 9, 90), (OnlyMt, 8, 80), (JoinMt, 5, 50)];
+    assert!(rt; tells(rt.alloc(), &mut participant, 6, false, &joins, &[5, 9])?);
+    let news = [(JoinIn, 5, 50), (New, 9, 91), (Lv, 7, 70), (New, 3, 30)];
+    assert!(rt; tells(rt.alloc(), &mut participant, 6, true, &news, &[3, 9])?);
+    assert!(rt; is_registered(&participant, 9, Some(91), Registrar::Held));
+    Ok(())
+}
+
+// What a LeaveAll left leaves 60 cs later, or when the user says so.
+#[test]
+fn leave_timers(rt: HostRuntime) -> Result<(), Fail> {
+    use MrpEvent::*;
+    let mut participant = new_participant(rt.alloc(), false);
+    let joins = [(JoinIn, 9, 90), (JoinIn, 3, 30), (JoinIn, 5, 50)];
+    assert!(rt; tells(rt.alloc(), &mut participant, 6, false, &joins, &[3, 5, 9])?);
+    assert!(rt;
+        tells(
+            rt.alloc(),
+            &mut participant,
+            7,
+            true,
+            &[(OnlyIn, 5, 51)],
+            &[]
+        )?
+    );
+    assert!(rt; is_registered(&participant, 5, Some(50), Registrar::Leaving));
+    assert!(rt; participant.leave_due(5) && !participant.leave_due(5));
+    assert!(rt; !participant.any_due(Cs(66)) && participant.any_due(Cs(67)));
+    assert!(rt; fires(&mut participant, 67, 2, &[3, 9])?);
+    Ok(())
+}
+
+// Whether at a moment no timer is due, none fires, nothing is said and the participant is still.
+fn is_idle(participant: &mut Participant<Numbers>, now: u32) -> Result<bool, NoMemory> {
+    let due = participant.any_due(Cs(u64::from(now)));
+    let fired = !fires(participant, now, 0, &[])?;
+    let says = !is_silent(participant, now)?;
+    Ok(!(due || fired || says) && participant.still())
+}
+
+// Whether every moment of these is idle.
+fn are_idle(
+    participant: &mut Participant<Numbers>,
+    first: u32,
+    last: u32,
+) -> Result<bool, NoMemory> {
+    for now in first..=last {
+        if !is_idle(participant, now)? {
+            return Ok(false);
+        }
+    }
+    Ok(true)
+}
+
+// After many idle moments a participant acts as after one: what was withdrawn leaves when its timer ends.
+#[test]
+fn idle_moments(rt: HostRuntime) -> Result<(), Fail> {
+    use MrpEvent::*;
+    let mut participant = new_participant(rt.alloc(), false);
+    let joins = [(JoinIn, 9, 90), (JoinIn, 3, 30)];
+    assert!(rt; tells(rt.alloc(), &mut participant, 6, false, &joins, &[3, 9])?);
+    assert!(rt; are_idle(&mut participant, 7, 400)?);
+    assert!(rt;
+        tells(
+            rt.alloc(),
+            &mut participant,
+            401,
+            false,
+            &[(Lv, 9, 90)],
+            &[]
+        )?
+    );
+    assert!(rt; !participant.still() && !participant.any_due(Cs(460)));
+    assert!(rt; participant.any_due(Cs(461)) && fires(&mut participant, 461, 1, &[9])?);
+    assert!(rt; are_idle(&mut participant, 462, 800)?);
+    Ok(())
+}
+
+// The timers fire together, and the periodic event makes what is quiet anxious.
+#[test]
+fn timers(rt: HostRuntime) -> Result<(), Fail> {
+    let mut participant = new_participant(rt.alloc(), true);
+    declare(&mut participant, 1, 1)?;
+    let join = (MrpEvent::JoinMt, 1, 1);
+    for now in [20, 40] {
+        assert!(rt; sends(&mut participant, now, false, 1, join)?);
+    }
+    assert!(rt; is_declared(&participant, 1, Some(10), Applicant::Qa));
+    participant.periodic_due();
+    assert!(rt; is_declared(&participant, 1, Some(10), Applicant::Aa));
+    for (now, fired) in [(100, 2), (199, 0), (200, 2)] {
+        assert!(rt; fires(&mut participant, now, fired, &[])?);
+    }
+    assert!(rt; sends(&mut participant, 200, true, 1, join)?);
+    Ok(())
+}

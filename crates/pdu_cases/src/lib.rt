@@ -1,0 +1,11 @@
+//! Worked PDUs: of the grammar that all applications share (`mrpdu_codec`), of MVRP (`mvrp_codec`) and of MSRP
+//! (`msrp_codec`). The crate has tests alone, called as a user calls, since a crate
+//! with tests beside its code is proved once more with them.
+#![tactic(auto)]
+
+#[cfg(test)]
+mod grammar;
+#[cfg(test)]
+mod msrp;
+#[cfg(test)]
+mod mvrp;
