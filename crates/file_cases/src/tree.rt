@@ -1,4 +1,5 @@
-//! Worked networks: the refusals, a path over two bridges, and the largest ones.
+//! Worked networks: refusals, ports and a path over two bridges, and the largest ones. Each refusal by itself is a file of
+//! examples/rules/.
 
 ghost use Rattle.std.specs.Prelude.{◌≡◌};
 
@@ -7,9 +8,7 @@ use std::alloc::Global;
 use std::process::Abort;
 use std::test::Fail;
 use tree_topology::NodeKind::{Bridge, Station};
-use tree_topology::TreeErr::{
-    Loop, SecondLink, SelfLink, StationWithLinks, TooManyLinks, Unconnected, UnknownNode,
-};
+use tree_topology::TreeErr::{Loop, TooManyLinks, Unconnected};
 use tree_topology::{Link, NodeKind, Tree, TreeErr};
 
 /// The tree of these nodes and of links given by the numbers of their ends.
@@ -39,101 +38,26 @@ fn port(node: u16, port: u8) -> EgressPort
     }
 }
 
-/// Each of these lists of nodes and links is refused as said, or taken.
-fn answers(
-    rt: &impl Abort,
-    alloc: Global,
-    cases: &[(&[NodeKind], &[(u16, u16)], Option<TreeErr>)],
-) {
-    for (nodes, ends, refusal) in cases {
-        assert_eq!(rt; tree_of(alloc, nodes, ends).err(), *refusal);
-    }
+#[test]
+fn the_first_refused_link_or_node_is_named(rt: HostRuntime) {
+    let square = [(1, 2), (3, 4), (2, 3), (4, 1)];
+    let refusal = tree_of(rt.alloc(), &[Bridge, Bridge, Bridge, Bridge], &square).err();
+    assert_eq!(rt; refusal, Some(Loop(LinkNo(4))));
+    let refusal = tree_of(rt.alloc(), &[Bridge, Bridge, Bridge], &[(2, 3)]).err();
+    assert_eq!(rt; refusal, Some(Unconnected(NodeNo(2))));
+    assert!(rt; tree_of(rt.alloc(), &[], &[]).is_ok());
 }
 
-#[test]
-fn trees_are_taken(rt: HostRuntime) -> Result<(), Fail> {
-    let cases: [(&[NodeKind], &[(u16, u16)], Option<TreeErr>); 4] = [
-        (&[], &[], None),
-        (&[Bridge], &[], None),
-        (&[Station, Station], &[(1, 2)], None),
-        (&[Bridge, Station, Station], &[(2, 1), (1, 3)], None),
-    ];
-    answers(&rt, rt.alloc(), &cases);
-    Ok(())
-}
-
-#[test]
-fn the_first_refused_link_is_named(rt: HostRuntime) -> Result<(), Fail> {
-    let cases: [(&[NodeKind], &[(u16, u16)], Option<TreeErr>); 6] = [
-        (
-            &[Station, Station],
-            &[(1, 2), (0, 1)],
-            Some(UnknownNode(LinkNo(2))),
-        ),
-        (
-            &[Station, Station],
-            &[(2, 2), (1, 3)],
-            Some(UnknownNode(LinkNo(2))),
-        ),
-        (
-            &[Station, Station],
-            &[(1, 2), (2, 2)],
-            Some(SelfLink(LinkNo(2))),
-        ),
-        (
-            &[Bridge, Bridge, Bridge],
-            &[(1, 2), (2, 3), (3, 1), (2, 1)],
-            Some(SecondLink(LinkNo(4))),
-        ),
-        (
-            &[Bridge, Station, Station],
-            &[(1, 2), (2, 3), (3, 1)],
-            Some(Loop(LinkNo(3))),
-        ),
-        (
-            &[Bridge, Bridge, Bridge, Bridge],
-            &[(1, 2), (3, 4), (2, 3), (4, 1)],
-            Some(Loop(LinkNo(4))),
-        ),
-    ];
-    answers(&rt, rt.alloc(), &cases);
-    Ok(())
-}
-
-#[test]
-fn the_first_refused_node_is_named(rt: HostRuntime) -> Result<(), Fail> {
-    let cases: [(&[NodeKind], &[(u16, u16)], Option<TreeErr>); 4] = [
-        (
-            &[Bridge, Station, Station],
-            &[(1, 3)],
-            Some(Unconnected(NodeNo(2))),
-        ),
-        (
-            &[Bridge, Bridge, Bridge],
-            &[(2, 3)],
-            Some(Unconnected(NodeNo(2))),
-        ),
-        (&[Station], &[], Some(StationWithLinks(NodeNo(1)))),
-        (
-            &[Station, Station, Station],
-            &[(1, 3), (3, 2)],
-            Some(StationWithLinks(NodeNo(3))),
-        ),
-    ];
-    answers(&rt, rt.alloc(), &cases);
-    Ok(())
-}
-
-#[test]
-fn a_path_goes_over_two_bridges(rt: HostRuntime) -> Result<(), Fail> {
+/// Two bridges, of which the first has two stations and the second two.
+fn two_bridges(alloc: Global) -> Result<Tree, TreeErr> {
     let nodes = [Station, Bridge, Bridge, Station, Station, Station];
-    let tree = tree_of(
-        rt.alloc(),
-        &nodes,
-        &[(1, 2), (2, 3), (2, 4), (3, 5), (3, 6)],
-    )?;
-    assert_eq!(rt; tree.nodes(), 6);
-    assert_eq!(rt; tree.links(), 5);
+    tree_of(alloc, &nodes, &[(1, 2), (2, 3), (2, 4), (3, 5), (3, 6)])
+}
+
+#[test]
+fn ports_lead_over_links(rt: HostRuntime) -> Result<(), Fail> {
+    let tree = two_bridges(rt.alloc())?;
+    assert!(rt; tree.nodes() == 6 && tree.links() == 5);
     assert_eq!(rt; tree.ports(NodeNo(2)), 3);
     assert_eq!(rt; tree.ends(LinkNo(4)), (port(3, 2), port(5, 1)));
     assert_eq!(rt; tree.peer(port(2, 2)), port(3, 1));
@@ -141,21 +65,19 @@ fn a_path_goes_over_two_bridges(rt: HostRuntime) -> Result<(), Fail> {
     assert_eq!(rt; tree.port_to(NodeNo(1), NodeNo(6)), None);
     assert_eq!(rt; tree.port_to(NodeNo(7), NodeNo(0)), None);
     assert_eq!(rt; tree.copy()?.ends(LinkNo(4)), (port(3, 2), port(5, 1)));
-    for (node, far) in [
-        (1, false),
-        (2, false),
-        (3, true),
-        (4, false),
-        (5, true),
-        (6, true),
-    ] {
+    Ok(())
+}
+
+#[test]
+fn a_path_goes_over_two_bridges(rt: HostRuntime) -> Result<(), Fail> {
+    let tree = two_bridges(rt.alloc())?;
+    let far = [false, false, true, false, true, true];
+    for (node, far) in (1..7u16).zip(far) {
         assert_eq!(rt; tree.behind(port(2, 2), NodeNo(node)), far, "at {node}");
     }
     let path = tree.path(rt.alloc(), NodeNo(1), NodeNo(6))?;
-    assert_eq!(rt;
-        path.as_slice(),
-        [port(1, 1), port(2, 2), port(3, 3)].as_slice()
-    );
+    let wanted = [port(1, 1), port(2, 2), port(3, 3)];
+    assert_eq!(rt; path.as_slice(), wanted.as_slice());
     assert_eq!(rt; tree.path(rt.alloc(), NodeNo(4), NodeNo(4))?.len(), 0);
     Ok(())
 }

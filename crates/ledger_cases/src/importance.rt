@@ -1,3 +1,5 @@
+//! Slopes and caps, and pairs of entries of which the first is more important.
+
 use srp_base::{Class, Cs, Percent, Rank, Rate, StreamId};
 use std::cmp::Ordering;
 use std::process::Abort;

@@ -1,3 +1,5 @@
+//! Streams that come to a port and leave. More of them, by what is printed, are the files of examples/.
+
 ghost use Rattle.std.specs.Prelude.{◌≡◌, ◌≤◌, IfSome, OnOk};
 
 use port_ledger::Ledger;
@@ -118,112 +120,5 @@ fn entries_and_bookings_ascend(rt: HostRuntime) -> Result<(), Fail> {
     let changed = ledger.changes_since(before.as_slice())?;
     assert_eq!(rt; changed.booked.as_slice(), [StreamId(3)].as_slice());
     assert_eq!(rt; changed.dropped.as_slice(), [StreamId(9)].as_slice());
-    Ok(())
-}
-
-#[test]
-fn rank_0_drops_the_newest(rt: HostRuntime) -> Result<(), Fail> {
-    let mut ledger = ledger(rt.alloc(), 75, 0).ok_or("percentages")?;
-    for stream in 1..6u64 {
-        let want = want_of(stream, Class::A, Rank::Normal, SMALL);
-        let new = [StreamId(stream)];
-        let booked: &[StreamId] = if stream < 5 { &new } else { &[] };
-        take(&rt, &mut ledger, Cs(stream - 1), want, booked, &[])?;
-    }
-    let urgent = want_of(6, Class::A, Rank::Emergency, SMALL);
-    take(
-        &rt,
-        &mut ledger,
-        Cs(5),
-        urgent,
-        &[StreamId(6)],
-        &[StreamId(4)],
-    )?;
-    let since = [Some(0), Some(1), Some(2), None, None, Some(5)];
-    for (stream, moment) in (1..7u64).zip(since) {
-        assert_eq!(rt; ledger.booked(StreamId(stream)), moment.map(Cs));
-    }
-    let refused = Fit::TooLittle {
-        more_important: 61_952_000,
-        cap: 75_000_000,
-        code: 6,
-    };
-    for stream in 4..6u64 {
-        let want = want_of(stream, Class::A, Rank::Normal, SMALL);
-        assert_eq!(rt; ledger.fits(Cs(5), &want), refused);
-    }
-    Ok(())
-}
-
-#[test]
-fn the_lower_stream_of_one_moment(rt: HostRuntime) -> Result<(), Fail> {
-    let mut ledger = ledger(rt.alloc(), 20, 0).ok_or("percentages")?;
-    let low = want_of(3, Class::A, Rank::Normal, SMALL);
-    let high = want_of(9, Class::A, Rank::Normal, SMALL);
-    take(&rt, &mut ledger, Cs(0), high, &[StreamId(9)], &[])?;
-    take(&rt, &mut ledger, Cs(0), low, &[StreamId(3)], &[StreamId(9)])?;
-    let refused = Fit::TooLittle {
-        more_important: SMALL as u128,
-        cap: 20_000_000,
-        code: 1,
-    };
-    assert_eq!(rt; ledger.fits(Cs(0), &high), refused);
-    assert_eq!(rt; ledger.fits(Cs(0), &low), Fit::Fits);
-    Ok(())
-}
-
-#[test]
-fn another_want_of_a_stream_loses_its_booking(rt: HostRuntime) -> Result<(), Fail> {
-    let mut ledger = ledger(rt.alloc(), 50, 25).ok_or("percentages")?;
-    let first = want_of(1, Class::A, Rank::Normal, SMALL);
-    let class_b = want_of(4, Class::B, Rank::Normal, 14_144_000);
-    let larger = want_of(1, Class::A, Rank::Normal, 2 * SMALL);
-    take(&rt, &mut ledger, Cs(0), first, &[StreamId(1)], &[])?;
-    take(&rt, &mut ledger, Cs(1), class_b, &[StreamId(4)], &[])?;
-    take(&rt, &mut ledger, Cs(2), first, &[], &[])?;
-    assert_eq!(rt; ledger.booked(StreamId(1)), Some(Cs(0)));
-    take(
-        &rt,
-        &mut ledger,
-        Cs(3),
-        larger,
-        &[StreamId(1)],
-        &[StreamId(1)],
-    )?;
-    assert_eq!(rt; ledger.booked(StreamId(1)), Some(Cs(3)));
-    assert_eq!(rt; ledger.booked(StreamId(4)), Some(Cs(1)));
-    let second = want_of(2, Class::A, Rank::Normal, 2 * SMALL);
-    let refused = Fit::TooLittle {
-        more_important: 30_976_000,
-        cap: 50_000_000,
-        code: 1,
-    };
-    assert_eq!(rt; ledger.fits(Cs(3), &second), refused);
-    assert_eq!(rt; ledger.slope(Class::B), 14_144_000);
-    Ok(())
-}
-
-#[test]
-fn fits_up_to_the_cap(rt: HostRuntime) -> Result<(), Fail> {
-    let rows = [
-        (64, 64_000_000, None),
-        (64, 64_064_000, Some(64_000_000)),
-        (75, 98_688_000, Some(75_000_000)),
-    ];
-    for (delta_a, slope, refused_under) in rows {
-        let ledger = ledger(rt.alloc(), delta_a, 0).ok_or("percentages")?;
-        let fit = ledger.fits(Cs(0), &want_of(7, Class::A, Rank::Normal, slope));
-        match refused_under {
-            None => assert_eq!(rt; fit, Fit::Fits),
-            Some(cap) => assert_eq!(rt;
-                fit,
-                Fit::TooLittle {
-                    more_important: 0,
-                    cap,
-                    code: 1
-                }
-            ),
-        }
-    }
     Ok(())
 }

@@ -1,3 +1,5 @@
+//! Kinds of Listener, merged two by two, and those of a bridge's ports.
+
 use msrp_listener::{PortListener, listener_out, merge};
 use srp_base::ListenerKind::{AskingFailed, Ready, ReadyFailed};
 

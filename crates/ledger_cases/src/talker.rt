@@ -1,3 +1,5 @@
+//! What a port declares of a Talker, and the failure that it names.
+
 use msrp_talker::{PortConfig, check, class_of, talker_out};
 use srp_base::{BridgeId, Class, Failure, Mac, Priority, Rank, StreamId, Talker, TalkerReg};
 use std::test::Fail;

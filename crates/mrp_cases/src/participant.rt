@@ -207,52 +207,6 @@ fn leave_timers(rt: HostRuntime) -> Result<(), Fail> {
     Ok(())
 }
 
-// Whether at a moment no timer is due, none fires, nothing is said and the participant is still.
-fn is_idle(participant: &mut Participant<Numbers>, now: u32) -> Result<bool, NoMemory> {
-    let due = participant.any_due(Cs(u64::from(now)));
-    let fired = !fires(participant, now, 0, &[])?;
-    let says = !is_silent(participant, now)?;
-    Ok(!(due || fired || says) && participant.still())
-}
-
-// Whether every moment of these is idle.
-fn are_idle(
-    participant: &mut Participant<Numbers>,
-    first: u32,
-    last: u32,
-) -> Result<bool, NoMemory> {
-    for now in first..=last {
-        if !is_idle(participant, now)? {
-            return Ok(false);
-        }
-    }
-    Ok(true)
-}
-
-// After many idle moments a participant acts as after one: what was withdrawn leaves when its timer ends.
-#[test]
-fn idle_moments(rt: HostRuntime) -> Result<(), Fail> {
-    use MrpEvent::*;
-    let mut participant = new_participant(rt.alloc(), false);
-    let joins = [(JoinIn, 9, 90), (JoinIn, 3, 30)];
-    assert!(rt; tells(rt.alloc(), &mut participant, 6, false, &joins, &[3, 9])?);
-    assert!(rt; are_idle(&mut participant, 7, 400)?);
-    assert!(rt;
-        tells(
-            rt.alloc(),
-            &mut participant,
-            401,
-            false,
-            &[(Lv, 9, 90)],
-            &[]
-        )?
-    );
-    assert!(rt; !participant.still() && !participant.any_due(Cs(460)));
-    assert!(rt; participant.any_due(Cs(461)) && fires(&mut participant, 461, 1, &[9])?);
-    assert!(rt; are_idle(&mut participant, 462, 800)?);
-    Ok(())
-}
-
 // The timers fire together, and the periodic event makes what is quiet anxious.
 #[test]
 fn timers(rt: HostRuntime) -> Result<(), Fail> {

@@ -1,3 +1,5 @@
+//! Keys that await settling, and the flat rule of declarations.
+
 use attribute_propagation::{Dirty, flat_declares};
 use std::test::Fail;
 

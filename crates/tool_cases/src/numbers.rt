@@ -1,3 +1,5 @@
+//! Identifiers as digits, numbers at the ends of their ranges, and lists.
+
 use srp_base::{
     BridgeId, Mac, Percent, Priority, Rate, Seq, StreamId, Vid, read_hex12, read_hex16,
 };

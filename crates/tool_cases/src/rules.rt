@@ -1,3 +1,5 @@
+//! Fields of a table, entries one by one, and rules that fail with an entry.
+
 use srp_base::NoMemory;
 use std::alloc::Global;
 use std::test::Fail;
@@ -39,6 +41,8 @@ fn a_truth_value_is_no_number(rt: HostRuntime) -> Result<(), Fail> {
     assert_eq!(rt; truth_or(&table, "b", false), None, "a number");
     assert!(rt; value_at(&table, "b").is_some());
     assert!(rt; value_at(&table, "z").is_none());
+    let shares = read_shares(&table).map(|(a, b)| (a.get(), b.get()));
+    assert_eq!(rt; shares, Some((75, 0)), "missing");
     Ok(())
 }
 
@@ -98,25 +102,6 @@ fn tables_are_read_one_by_one(rt: HostRuntime) -> Result<(), Fail> {
     assert!(rt; taken.as_slice() == [7, 8].as_slice());
     let refused = each_table(alloc, 4, &entries, |_, table| Ok(number(table, "m"))).err();
     assert_eq!(rt; refused, Some(RuleErr::Rule { rule: 4, entry: 2 }));
-    Ok(())
-}
-
-#[test]
-fn shares_are_ninety_together_at_most(rt: HostRuntime) -> Result<(), Fail> {
-    let cases = [
-        ("", Some((75, 0))),
-        ("delta_a = 90\n", Some((90, 0))),
-        ("delta_a = 91\n", None),
-        ("delta_b = 15\n", Some((75, 15))),
-        ("delta_b = 16\n", None),
-        ("delta_a = 0\ndelta_b = 90\n", Some((0, 90))),
-        ("delta_a = '1'\n", None),
-    ];
-    for (text, shares) in cases {
-        let table = toml::table_from_str(rt.alloc(), text)?;
-        let answer = read_shares(&table).map(|(a, b)| (a.get(), b.get()));
-        assert_eq!(rt; answer, shares, "{text}");
-    }
     Ok(())
 }
 

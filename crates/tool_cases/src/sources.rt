@@ -1,3 +1,5 @@
+//! Sources that are read to their end, sinks that are written, and both with a fault at each place.
+
 use srp_io::{
     MemSink, MemSource, PlainSink, PlainSource, ReadErr, Sink, Source, StdSink, StdSource,
     WriteErr, read_all, write_whole,
