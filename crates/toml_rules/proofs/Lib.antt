@@ -1,3 +1,4 @@
 pub mod EntryLemmas
 pub mod FieldLemmas
+pub mod SearchLemmas
 pub mod WeightLemmas

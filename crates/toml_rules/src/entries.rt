@@ -84,7 +84,8 @@ pub fn each_table<B: Drop, F: Fn(usize, &Table) -> Result<Option<B>, NoMemory>>(
 ) -> Result<Vec<B>, RuleErr>
     requires { F.IsAlwaysCallable read }
     ensures { (said : ℕ → Members → Option B) → ReadsAs table_view (F.post read) said
-        → Reads (λ v. v.items) result (each_entry_spec rule said 1 (map (λ t. table_view t.now) tables.now)) }
+        → Reads (λ v. v.items) result (each_entry_spec rule said 1
+        (map (λ t. table_view t.now) tables.now)) }
 {
     each_entry(alloc, rule, tables, |n, table| read(n, table))
 }
@@ -147,7 +148,8 @@ pub fn each_table_within<
     requires read { F.IsAlwaysCallable read }
     ensures { (weight : B → ℕ) (said : ℕ → Members → Option B) → KeysAs (W.post weigh) weight
         → ReadsAs table_view (F.post read) said
-        → Reads (λ v. v.items) result (each_within_spec rule weight said 1 most (map (λ t. table_view t.now) tables.now)) }
+        → Reads (λ v. v.items) result (each_within_spec rule weight said 1 most
+        (map (λ t. table_view t.now) tables.now)) }
 {
     each_within(alloc, rule, most, tables, weigh, |n, table| read(n, table))
 }

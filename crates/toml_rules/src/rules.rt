@@ -80,8 +80,8 @@ pub fn needs_tables<'a>(
     table: &'a Table,
     key: &str,
 ) -> Result<Vec<&'a Table>, RuleErr>
-    ensures { Reads (λ v. map
-        (λ t. table_view t.now) v.items) result (needs_spec rule (tables_spec key.now (table_view table.now))) }
+    ensures { Reads (λ v. map (λ t. table_view t.now) v.items) result
+        (needs_spec rule (tables_spec key.now (table_view table.now))) }
 {
     match tables(alloc, table, key) {
         Ok(Some(entries)) => Ok(entries),

@@ -1,5 +1,5 @@
 -- What every scenario keeps of its events.
-use Rattle.std.proofs.Common.{◌≡◌, ℕ, suc, zero, ◌+◌, ◌<◌, ◌≤◌, Bool, true, false, if◌then◌else◌, List, [], ◌∷◌, map, Option, Some, None, option_map, Result, Ok, Err, refl, sym, subst, length, leb-true, ltb-true, ltb-false, IfSome, IfOk, arith}
+use Rattle.std.proofs.Common.{◌≡◌, ℕ, suc, zero, ◌+◌, ◌<◌, ◌≤◌, Bool, true, false, if◌then◌else◌, List, [], ◌∷◌, Option, Some, None, option_map, refl, sym, subst, length, leb-true, ltb-true, ltb-false, IfSome, IfOk, arith}
 use Rattle.std.proofs.lemmas.List.Elements.{All-nil, All-cons, All-weaker, All-map}
 use Rattle.std.specs.Cmp.Lexicographic.{pointwise}
 use Rattle.std.specs.List.{All, list_any}
@@ -7,7 +7,6 @@ use Rattle.std.specs.List.Sorted.{IsNonDecreasing}
 use Rattle.std.specs.Prelude.{nat_le, nat_lt, nat_eq, codes}
 use Rattle.srp_base.specs.declared.numbers.NodeNo.{NodeNo}
 use Rattle.toml.specs.Data.{Members}
-use Rattle.toml_rules.specs.declared.rules.RuleErr.{RuleErr}
 use Rattle.toml_rules.specs.Fields.{number, text, has_only}
 use Rattle.toml_rules.specs.Rules.{each_entry, first_fall}
 use Rattle.tree_topology.specs.Graph.{IsNode}

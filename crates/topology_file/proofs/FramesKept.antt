@@ -1,10 +1,10 @@
 -- What every scenario keeps of its frames.
-use Rattle.std.proofs.Common.{◌≡◌, ◌≢◌, ℕ, ◌<◌, ◌≤◌, Bool, true, false, ◌==◌, List, [], map, Option, Some, None, option_map, Result, Ok, Err, refl, sym, ap, ◌∙◌, eqb, ltb-true, IfSome, IfOk, arith}
+use Rattle.std.proofs.Common.{◌≡◌, ◌≢◌, ℕ, ◌<◌, ◌≤◌, ◌==◌, List, map, Option, Some, Result, Ok, Err, refl, sym, ap, ◌∙◌, ltb-true, IfSome, IfOk, arith}
 use Rattle.std.proofs.lemmas.Bool.{false≢true}
 use Rattle.std.proofs.lemmas.List.Elements.{All-weaker}
 use Rattle.std.proofs.lemmas.List.Sums.{sum-map}
 use Rattle.std.specs.List.{All, sum, sum_by}
-use Rattle.std.specs.Prelude.{nat_lt, codes}
+use Rattle.std.specs.Prelude.{codes}
 use Rattle.srp_base.specs.declared.numbers.NodeNo.{NodeNo}
 use Rattle.toml.specs.Data.{Members}
 use Rattle.toml_rules.specs.declared.rules.RuleErr.{RuleErr}
@@ -19,7 +19,7 @@ use Rattle.topology_file.specs.declared.entries.FrameTimes.{FrameTimes}
 use Rattle.topology_file.specs.declared.entries.FrameRoute.{FrameRoute}
 use Rattle.topology_file.specs.declared.entries.FrameRoute.TheVariants as routes
 use Rattle.topology_file.specs.Entries.{name_at, station_named}
-use Rattle.topology_file.specs.Frames.{stream_frame_keys, stream_route, apart_named, pair_frame_keys, pair_route, route_at, count_at, times_at, last_copy, run_end, ends_in, times_in, frame_octets_at, frame_form, form_copies, frame_entry, frame_copies, IsKnownRoute, HasFrameForm}
+use Rattle.topology_file.specs.Frames.{stream_frame_keys, apart_named, pair_frame_keys, route_at, count_at, times_at, last_copy, run_end, ends_in, times_in, frame_octets_at, frame_form, form_copies, frame_entry, frame_copies, IsKnownRoute, HasFrameForm}
 use Rattle.topology_file.specs.Kinds.{IsStationNumber, IsStreamNumber}
 use Rattle.topology_file.specs.Scenario.{frames_of}
 use Rattle.topology_file.specs.Streams.{stream_named, stream_vid_at}

@@ -1,21 +1,20 @@
 -- What every scenario keeps of its nodes, links and tree, from the rules that its table passed.
-use Rattle.std.proofs.Common.{◌≡◌, ◌≢◌, ◌⊎◌, inl, inr, ℕ, suc, zero, ◌+◌, ◌-◌, ◌*◌, ◌^◌, ◌<◌, ◌≤◌, Bool, true, false, ◌&&◌, if◌then◌else◌, List, [], ◌∷◌, Option, Some, None, option_map, Result, Ok, Err, refl, sym, ap, subst, ◌∙◌, length, get_or, take, get_or-take, eqb, leb-true, ltb-true, ltb-false, IfSome, IfOk, arith}
+use Rattle.std.proofs.Common.{◌≡◌, ◌≢◌, ◌⊎◌, inl, inr, ℕ, ◌+◌, ◌-◌, ◌*◌, ◌^◌, ◌<◌, ◌≤◌, Bool, true, ◌&&◌, List, [], ◌∷◌, Option, Some, None, option_map, Ok, refl, sym, ap, subst, ◌∙◌, length, get_or, take, get_or-take, eqb, leb-true, ltb-false, IfSome, IfOk, arith}
 use Rattle.std.proofs.lemmas.Bool.{and_parts, false≢true}
 use Rattle.std.proofs.lemmas.Bool.Decides.{nat_tests}
-use Rattle.std.proofs.lemmas.List.{length-map, length-take-le}
-use Rattle.std.proofs.lemmas.List.Elements.{All-nil, All-cons, All-weaker, All-map}
+use Rattle.std.proofs.lemmas.List.{length-take-le}
+use Rattle.std.proofs.lemmas.List.Elements.{All-weaker}
 use Rattle.std.proofs.lemmas.List.Folds.{list_any_at}
 use Rattle.std.specs.Cmp.Lexicographic.{pointwise, bytes_decides}
 use Rattle.std.specs.List.{All, list_any}
-use Rattle.std.specs.Prelude.{AllPairs, ◌↔◌, nat_le, nat_lt, nat_eq, codes}
+use Rattle.std.specs.Prelude.{AllPairs, ◌↔◌, nat_le, nat_eq, codes}
 use Rattle.srp_base.specs.declared.numbers.NodeNo.{NodeNo}
 use Rattle.srp_base.specs.Firsts.{first_where}
 use Rattle.srp_base.specs.Hexadecimal.{hex16}
 use Rattle.srp_base.proofs.FirstLemmas.{where-some, where-none}
 use Rattle.toml.specs.Data.{Data, Members, get_member, as_str}
-use Rattle.toml_rules.specs.declared.rules.RuleErr.{RuleErr}
-use Rattle.toml_rules.specs.Fields.{or_default, number, number_or, truth_or, tables, text, has_only}
-use Rattle.toml_rules.specs.Rules.{each_entry, first_fall}
+use Rattle.toml_rules.specs.Fields.{or_default, number_or, text, has_only}
+use Rattle.toml_rules.specs.Rules.{each_entry}
 use Rattle.toml_rules.specs.Shares.{share_at, shares_at}
 use Rattle.tree_topology.specs.Topology.{Topology, IsSound}
 use Rattle.tree_topology.specs.declared.graph.Link.{Link}
@@ -28,7 +27,7 @@ use Rattle.topology_file.specs.declared.entries.LinkEntry.{LinkEntry}
 use Rattle.topology_file.specs.Entries.{is_name, name_of_text, name_at, kind_at, id_of_data, id_at, node_keys, node_entry, is_station, has_name, node_no, node_named, station_named, link_keys, rate_at, latency_at, link_between, link_form}
 use Rattle.topology_file.specs.Kinds.{IsStationNumber}
 use Rattle.topology_file.specs.Scenario.{has_name_of, has_id_of, is_small, nodes_of, links_of, tree_links, node_kinds, topology_of, unless_refused, tree_of, is_crowded}
-use Rattle.topology_file.proofs.Chains.{and_then-if, map-if, when-if, either-if, some-says, within-range, chain-if, chain-needs, chain-holds, chain-none, ok-all, ok-says, ok-both, each-all, each-map, each-numbered, each-count}
+use Rattle.topology_file.proofs.Chains.{and_then-if, when-if, some-says, within-range, chain-if, chain-holds, chain-none, ok-says, ok-both, each-all, each-numbered}
 use Rattle.topology_file.proofs.HexRanges.{hex16-range}
 
 -- no condition on an entry

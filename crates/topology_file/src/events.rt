@@ -67,7 +67,8 @@ fn read_forms(
     requires nodes { length nodes.now ≤ 64 }
     requires streams { length streams.now ≤ 128 }
     ensures { Reads (λ v. v.items) result
-        (each_entry_spec 20 (event_form ticks nodes.now links.now streams.now) 1 (map (λ t. table_view t.now) entries.now)) }
+        (each_entry_spec 20 (event_form ticks nodes.now links.now streams.now) 1
+        (map (λ t. table_view t.now) entries.now)) }
 {
     each_table(alloc, 20, entries, |number, table| {
         Ok(read_event(ticks, nodes, links, streams, number, table))
@@ -110,7 +111,8 @@ pub(crate) fn read_events(
 ) -> Result<Vec<EventEntry>, RuleErr>
     requires nodes { length nodes.now ≤ 64 }
     requires streams { length streams.now ≤ 128 }
-    ensures { Reads (λ v. v.items) result (events_of ticks nodes.now links.now streams.now (map (λ t. table_view t.now) entries.now)) }
+    ensures { Reads (λ v. v.items) result
+        (events_of ticks nodes.now links.now streams.now (map (λ t. table_view t.now) entries.now)) }
 {
     let forms = read_forms(alloc, ticks, nodes, links, streams, entries)?;
     no_entry(21, falling_event(&forms))?;

@@ -157,7 +157,8 @@ fn read_forms(
     requires ticks { ticks ≤ 12000 }
     requires nodes { length nodes.now ≤ 64 }
     requires streams { length streams.now ≤ 128 }
-    ensures { Reads (λ v. v.items) result (each_within_spec 23 form_copies (frame_form ticks nodes.now streams.now) 1 100000
+    ensures { Reads (λ v. v.items) result
+        (each_within_spec 23 form_copies (frame_form ticks nodes.now streams.now) 1 100000
         (map (λ t. table_view t.now) entries.now)) }
 {
     each_table_within(

@@ -138,7 +138,8 @@ fn read_plan(
     requires leave { times.leave_time ≤ 100 }
     ensures { Reads (λ s. s) result (plan_of times.ticks times.leave_time times.periodic
         (map (λ t. table_view t.now) node_tables.now) (map (λ t. table_view t.now) link_tables.now)
-        (map (λ t. table_view t.now) stream_tables.now) (map (λ t. table_view t.now) event_tables.now)
+        (map (λ t. table_view t.now) stream_tables.now)
+        (map (λ t. table_view t.now) event_tables.now)
         (map (λ t. table_view t.now) frame_tables.now)) }
 {
     laws::refusals();

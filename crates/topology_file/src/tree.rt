@@ -96,7 +96,8 @@ fn tree_of_ends(alloc: Global, kinds: &[NodeKind], ends: &[Link]) -> Result<Tree
     requires few { length kinds.now ≤ 64 }
     requires known { first_where_spec (has_unknown_end (length kinds.now)) [] ends.now ≡ None }
     ensures { Reads (λ t. t) result
-        (unless_refused (record { kinds = kinds.now; links = ends.now }) (refusal kinds.now ends.now)) }
+        (unless_refused (record { kinds = kinds.now; links = ends.now })
+        (refusal kinds.now ends.now)) }
 {
     laws::refusals();
     laws::few_links();

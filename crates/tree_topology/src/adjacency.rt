@@ -87,7 +87,8 @@ impl Graph {
     /// Whether the node at this place is a station that hasn't exactly one link.
     fn is_stray_station(&self, place: usize) -> bool
         requires { place < length self.now.kinds.items }
-        ensures { IsTrue result ↔ IsStationWithLinks self.now.kinds.items self.now.links.items (place + 1) }
+        ensures { IsTrue result ↔ IsStationWithLinks
+            self.now.kinds.items self.now.links.items (place + 1) }
     {
         self.kinds[place] == NodeKind::Station && self.neighbours((place + 1) as u16).len() != 1
     }

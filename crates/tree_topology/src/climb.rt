@@ -27,11 +27,15 @@ impl Climb {
         ensures here { OnOk result (IsNode (length routes.now.kinds) self.new.here) }
         ensures there { OnOk result (IsNode (length routes.now.kinds) self.new.there) }
         ensures path { OnOk result (
-            ports_made routes.now.links self.new.here self.new.there self.new.ups.items self.new.downs.items
-            ≡ ports_made routes.now.links self.old.here self.old.there self.old.ups.items self.old.downs.items) }
+            ports_made routes.now.links self.new.here self.new.there
+            self.new.ups.items self.new.downs.items
+            ≡ ports_made routes.now.links self.old.here self.old.there
+            self.old.ups.items self.old.downs.items) }
         ensures nearer { OnOk result (
-            slice_index routes.now.depths self.new.here + slice_index routes.now.depths self.new.there
-            < slice_index routes.now.depths self.old.here + slice_index routes.now.depths self.old.there) }
+            slice_index routes.now.depths self.new.here
+            + slice_index routes.now.depths self.new.there
+            < slice_index routes.now.depths self.old.here
+            + slice_index routes.now.depths self.old.there) }
     {
         if routes.depth(self.there) <= routes.depth(self.here) {
             self.go_up(routes)
@@ -45,15 +49,19 @@ impl Climb {
         requires here { IsNode (length routes.now.kinds) self.old.here }
         requires there { IsNode (length routes.now.kinds) self.old.there }
         requires apart { self.old.here ≢ self.old.there }
-        requires deeper { slice_index routes.now.depths self.old.there ≤ slice_index routes.now.depths self.old.here }
+        requires deeper { slice_index routes.now.depths self.old.there
+            ≤ slice_index routes.now.depths self.old.here }
         requires not_first { self.old.here ≢ 1 }
         ensures here { OnOk result (IsNode (length routes.now.kinds) self.new.here) }
         ensures there { OnOk result (self.new.there ≡ self.old.there) }
         ensures path { OnOk result (
-            ports_made routes.now.links self.new.here self.new.there self.new.ups.items self.new.downs.items
-            ≡ ports_made routes.now.links self.old.here self.old.there self.old.ups.items self.old.downs.items) }
+            ports_made routes.now.links self.new.here self.new.there
+            self.new.ups.items self.new.downs.items
+            ≡ ports_made routes.now.links self.old.here self.old.there
+            self.old.ups.items self.old.downs.items) }
         ensures nearer { OnOk result (
-            slice_index routes.now.depths self.new.here < slice_index routes.now.depths self.old.here) }
+            slice_index routes.now.depths self.new.here
+            < slice_index routes.now.depths self.old.here) }
     {
         let next = routes.parent(self.here);
         let port = routes.port_to(self.here, next);
@@ -67,15 +75,19 @@ impl Climb {
         requires here { IsNode (length routes.now.kinds) self.old.here }
         requires there { IsNode (length routes.now.kinds) self.old.there }
         requires apart { self.old.here ≢ self.old.there }
-        requires deeper { slice_index routes.now.depths self.old.here ≤ slice_index routes.now.depths self.old.there }
+        requires deeper { slice_index routes.now.depths self.old.here
+            ≤ slice_index routes.now.depths self.old.there }
         requires not_first { self.old.there ≢ 1 }
         ensures here { OnOk result (self.new.here ≡ self.old.here) }
         ensures there { OnOk result (IsNode (length routes.now.kinds) self.new.there) }
         ensures path { OnOk result (
-            ports_made routes.now.links self.new.here self.new.there self.new.ups.items self.new.downs.items
-            ≡ ports_made routes.now.links self.old.here self.old.there self.old.ups.items self.old.downs.items) }
+            ports_made routes.now.links self.new.here self.new.there
+            self.new.ups.items self.new.downs.items
+            ≡ ports_made routes.now.links self.old.here self.old.there
+            self.old.ups.items self.old.downs.items) }
         ensures nearer { OnOk result (
-            slice_index routes.now.depths self.new.there < slice_index routes.now.depths self.old.there) }
+            slice_index routes.now.depths self.new.there
+            < slice_index routes.now.depths self.old.there) }
     {
         let next = routes.parent(self.there);
         let port = routes.port_to(next, self.there);

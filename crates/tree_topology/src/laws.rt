@@ -33,7 +33,8 @@ pub fn refusals()
     ensures accepted { (tree : Topology) → refusal tree.kinds tree.links ≡ None ↔ IsSound tree }
     ensures graph { (tree : Topology)
         → first_where (has_unknown_end (length tree.kinds)) [] tree.links ≡ None
-        → first_where is_self_link [] tree.links ≡ None → first_where is_second_link [] tree.links ≡ None
+        → first_where is_self_link [] tree.links ≡ None
+        → first_where is_second_link [] tree.links ≡ None
         → IsGraph (length tree.kinds) tree.links }
 {}
 

@@ -34,7 +34,8 @@ impl Model for Routes {
       depths = r.depths.items;
     } };
 
-    ghost invariant = { λ r. IsRouted r.graph.kinds.items r.graph.links.items r.parents.items r.depths.items };
+    ghost invariant = { λ r. IsRouted r.graph.kinds.items r.graph.links.items
+        r.parents.items r.depths.items };
 }
 
 impl Routes {
@@ -180,7 +181,8 @@ impl Routes {
         requires top { IsNode (length self.now.kinds) top }
         requires not_first { top ≢ 1 }
         ensures { result
-            ≡ begins_with top (walk_between self.now.links (slice_index self.now.parents top) node) }
+            ≡ begins_with top
+            (walk_between self.now.links (slice_index self.now.parents top) node) }
     {
         let depth = self.depth(top);
         let mut at = node;

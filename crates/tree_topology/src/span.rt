@@ -22,7 +22,8 @@ impl Span {
     /// All that can be reached.
     pub(crate) fn new(alloc: Global, graph: &Graph) -> Result<Span, NoMemory>
         ensures span { IfOk result (λ s.
-            IsSpan (length graph.now.kinds.items) graph.now.links.items s.parents.items s.depths.items s.order.items) }
+            IsSpan (length graph.now.kinds.items) graph.now.links.items
+            s.parents.items s.depths.items s.order.items) }
         ensures closed { IfOk result (λ s.
             IsClosed (length graph.now.kinds.items) graph.now.links.items s.parents.items) }
     {
@@ -40,10 +41,12 @@ impl Span {
     pub(crate) fn check_connected(&self, graph: &Graph) -> Result<(), TreeErr>
         requires span { IsSpan (length graph.now.kinds.items) graph.now.links.items
             self.now.parents.items self.now.depths.items self.now.order.items }
-        requires closed { IsClosed (length graph.now.kinds.items) graph.now.links.items self.now.parents.items }
+        requires closed { IsClosed (length graph.now.kinds.items) graph.now.links.items
+            self.now.parents.items }
         requires no_loop { HasNoLoop graph.now.links.items }
         ensures tree { OnOk result (IsTree (length graph.now.kinds.items) graph.now.links.items) }
-        ensures reached { OnOk result (HasReachedAll (length graph.now.kinds.items) self.now.parents.items) }
+        ensures reached { OnOk result
+            (HasReachedAll (length graph.now.kinds.items) self.now.parents.items) }
         ensures err { IfErr result (λ e. IsRefusal graph.now.kinds.items graph.now.links.items e) }
     {
         for i in 0..graph.kinds.len() {
@@ -57,7 +60,8 @@ impl Span {
     /// Node 1 alone, where there is a node.
     fn start(alloc: Global, graph: &Graph) -> Result<Span, NoMemory>
         ensures { IfOk result (λ s.
-            IsSpan (length graph.now.kinds.items) graph.now.links.items s.parents.items s.depths.items s.order.items) }
+            IsSpan (length graph.now.kinds.items) graph.now.links.items
+            s.parents.items s.depths.items s.order.items) }
     {
         let count = graph.kinds.len();
         let mut parents = vec![in alloc; 0; count + 1]?;
@@ -104,7 +108,8 @@ impl Span {
             then slice_set self.old.parents.items neighbour node else self.old.parents.items)) }
         ensures depths { OnOk result (self.new.depths.items ≡
             (if slice_index self.old.parents.items neighbour == 0
-            then slice_set self.old.depths.items neighbour (slice_index self.old.depths.items node + 1)
+            then slice_set self.old.depths.items neighbour
+            (slice_index self.old.depths.items node + 1)
             else self.old.depths.items)) }
         ensures order { OnOk result (self.new.order.items ≡
             (if slice_index self.old.parents.items neighbour == 0
