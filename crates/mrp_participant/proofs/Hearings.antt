@@ -8,6 +8,7 @@ use Rattle.std.specs.declared.cmp.Ordering.TheVariants.{Less, Equal, Greater}
 use Rattle.std.specs.Ordering.{ordering_reverse, match_ordering}
 use Rattle.std.specs.Cmp.{IsTotalOrder, IsEquivalence}
 use Rattle.std.proofs.lemmas.Cmp.{tied_itself, tied_back}
+use Rattle.std.proofs.lemmas.List.{drop_more, get_or_read}
 use Rattle.std.specs.List.{AllByRecursion, list_all}
 use Rattle.std.specs.Option.{is_some, option_eq}
 use Rattle.srp_base.specs.declared.numbers.Cs.{Cs}
@@ -363,6 +364,31 @@ module _ {K C : Type 0} (cmp : K → K → Ordering) where
       (merged-alone (drop j xs)
       ∙ (drop-cons xs j x below
       ∙ (ap (λ y. y ∷ drop (suc j) xs) (sym is) ∙ ap (λ l. x ∷ l) (sym (merged-alone (drop (suc j) xs)) ∙ ap (λ n. merged cmp (drop n xs) []) (sym (add-one j))))))
+
+-- the next of two lists, of which neither is at its end, or the first is
+module _ {K C : Type 0} (cmp : K → K → Ordering) (xs ys : List (Row K C)) (i j : ℕ) (within : i < length ys) where
+  pub next-of_second : (y : Row K C) → j ≡ length xs → y ≡ get_or ys i y → merged cmp (drop j xs) (drop i ys) ≡ y ∷ merged cmp (drop j xs) (drop (i + 1) ys)
+  next-of_second y end is = rw (drop_all xs j end) (drop_more ys i y within ∙ ap (λ z. z ∷ drop (i + 1) ys) (sym is))
+
+  next-of_both : (c : Ordering) (x y : Row K C) → j < length xs → x ≡ get_or xs j x → y ≡ get_or ys i y → cmp x.key y.key ≡ c → merged cmp (drop j xs) (drop i ys) ≡ match_ordering c (x ∷ merged cmp (drop (j + 1) xs) (drop i ys)) (x ∷ merged cmp (drop (j + 1) xs) (drop (i + 1) ys)) (y ∷ merged cmp (drop j xs) (drop (i + 1) ys))
+  next-of_both c x y below is is' at =
+      ap (λ l. merged cmp l (drop i ys)) first
+      ∙ ap (λ l. merged cmp (x ∷ drop (j + 1) xs) l) second
+      ∙ ap (λ c. match_ordering c (x ∷ merged cmp (drop (j + 1) xs) (y ∷ drop (i + 1) ys)) (x ∷ merged cmp (drop (j + 1) xs) (drop (i + 1) ys)) (y ∷ merged cmp (x ∷ drop (j + 1) xs) (drop (i + 1) ys))) at
+      ∙ ap (λ l. match_ordering c (x ∷ merged cmp (drop (j + 1) xs) l) (x ∷ merged cmp (drop (j + 1) xs) (drop (i + 1) ys)) (y ∷ merged cmp (x ∷ drop (j + 1) xs) (drop (i + 1) ys))) (sym second)
+      ∙ ap (λ l. match_ordering c (x ∷ merged cmp (drop (j + 1) xs) (drop i ys)) (x ∷ merged cmp (drop (j + 1) xs) (drop (i + 1) ys)) (y ∷ merged cmp l (drop (i + 1) ys))) (sym first)
+    where
+      first : drop j xs ≡ x ∷ drop (j + 1) xs
+      first = drop_more xs j x below ∙ ap (λ z. z ∷ drop (j + 1) xs) (sym is)
+
+      second : drop i ys ≡ y ∷ drop (i + 1) ys
+      second = drop_more ys i y within ∙ ap (λ z. z ∷ drop (i + 1) ys) (sym is')
+
+  -- by how their first rows compare
+  pub next-by : (c : Ordering) (x y d e : Row K C) → j < length xs → x ≡ get_or xs j x → y ≡ get_or ys i y → c ≡ cmp (get_or xs j d).key (get_or ys i e).key → merged cmp (drop j xs) (drop i ys) ≡ match_ordering c (x ∷ merged cmp (drop (j + 1) xs) (drop i ys)) (x ∷ merged cmp (drop (j + 1) xs) (drop (i + 1) ys)) (y ∷ merged cmp (drop j xs) (drop (i + 1) ys))
+  next-by c x y d e below is is' at =
+      next-of_both c x y below is is'
+      (ap (λ (z : Row K C). cmp z.key y.key) (get_or_read xs j x below is d) ∙ ap (λ (z : Row K C). cmp (get_or xs j d).key z.key) (get_or_read ys i y within is' e) ∙ sym at)
 
 -- ---- what the code has at hand
 

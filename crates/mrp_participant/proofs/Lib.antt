@@ -11,6 +11,7 @@ pub mod Links
 pub mod Lookups
 pub mod Octets
 pub mod OutlookLemmas
+pub mod Places
 pub mod Sendings
 pub mod SentEvents
 pub mod StateLemmas

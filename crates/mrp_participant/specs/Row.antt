@@ -8,12 +8,12 @@ use Rattle.srp_base.specs.declared.numbers.Cs.{Cs}
 use Rattle.srp_base.specs.declared.mrp.MrpEvent.{MrpEvent}
 use Rattle.srp_base.specs.declared.mrp.MrpEvent.TheVariants.{New, JoinIn, OnlyIn, JoinMt, OnlyMt, Lv}
 use Rattle.applicant.specs.declared.Applicant.{Applicant}
-use Rattle.applicant.specs.declared.Applicant.TheVariants.{Vo, Qa}
+use Rattle.applicant.specs.declared.Applicant.TheVariants.{Vo}
 use Rattle.applicant.specs.declared.AppEvent.{AppEvent}
 use Rattle.applicant.specs.declared.AppEvent.TheVariants.{RxIn, RxMt, RxLv as AppRxLv, RxLeaveAll as AppRxLeaveAll, Periodic}
 use Rattle.applicant.specs.Table as applicant
 use Rattle.registrar.specs.declared.Registrar.{Registrar}
-use Rattle.registrar.specs.declared.Registrar.TheVariants.{Held, Leaving, Empty}
+use Rattle.registrar.specs.declared.Registrar.TheVariants.{Empty}
 use Rattle.registrar.specs.declared.RegEvent.{RegEvent}
 use Rattle.registrar.specs.declared.RegEvent.TheVariants.{RxNew, RxJoin, RxLv, RxLeaveAll, LeaveTimer}
 use Rattle.registrar.specs.Table as registrar

@@ -10,7 +10,7 @@ use crate::application::MrpApp;
 use crate::row::{Row, round};
 
 /// A place in the order in which rows are tried: a round, and a key in it.
-#[derive(Clone, Copy, Debug)]
+#[derive(Clone, Copy)]
 pub(crate) struct Cut<K> {
     pub round: u8,
     pub key: K,
@@ -55,16 +55,17 @@ fn fill<A: MrpApp>(
 {
     let mut total = used;
     for row in rows {
-        if round(leave_all, row.applicant) == n {
-            let more = total + A::row_octets(&row.content);
-            if more > 1500 {
-                return Err(Cut {
-                    round: n,
-                    key: row.key,
-                });
-            }
-            total = more;
+        if round(leave_all, row.applicant) != n {
+            continue;
         }
+        let more = total + A::row_octets(&row.content);
+        if more > 1500 {
+            return Err(Cut {
+                round: n,
+                key: row.key,
+            });
+        }
+        total = more;
     }
     Ok(total)
 }

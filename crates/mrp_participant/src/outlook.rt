@@ -12,7 +12,7 @@ use registrar::Registrar;
 use srp_base::Cs;
 
 /// What is known of all rows. Where nothing is known, the first leave is at 0 and a row may be tried.
-#[derive(Clone, Copy, Debug)]
+#[derive(Clone, Copy)]
 pub(crate) struct Outlook {
     /// No leave timer ends before this moment, in cs; None where no leave timer runs.
     pub first_leave: Option<Cs>,

@@ -106,9 +106,10 @@ fn changed<K: Copy + Ord, C: Copy + Eq>(
 {
     let mut keys = Vec::new(alloc);
     for row in new {
-        if differs(old, row) {
-            keys.push(row.key)?;
+        if !differs(old, row) {
+            continue;
         }
+        keys.push(row.key)?;
     }
     Ok(Seq::from_vec(keys))
 }

@@ -1,6 +1,6 @@
 //! What a participant keeps of one key, and what each event makes of it.
 
-ghost use Rattle.std.specs.Prelude.{◌≡◌};
+ghost use Rattle.std.specs.Prelude.{◌≡◌, if◌then◌else◌, Some, None};
 ghost use Rattle.applicant.specs.Table.{withdraw_of};
 ghost use Rattle.mrp_participant.specs.Row.{is_live, kept_row, applicant_takes, registrar_takes, with_applicant, fresh_row, declared_row, left_row, leave_all_row, with_heard, heard_row, makes_row, registered_in, declared_in, leave_is_due, after_leave_due, periodic_row, is_settled};
 ghost use Rattle.mrp_participant.specs.Hearing.{begun_row};
@@ -197,6 +197,17 @@ impl<K: Copy, C: Copy> Row<K, C> {
         ensures { result ≡ leave_is_due now.0 self.now }
     {
         self.registrar == Registrar::Leaving && self.leave.0 <= now.0
+    }
+
+    /// The row's key, if its leave timer has its end at or before `now`.
+    pub(crate) fn key_that_leaves(&self, now: Cs) -> Option<K>
+        ensures { result ≡ (if leave_is_due now.0 self.now then Some self.now.key else None) }
+    {
+        if self.leave_is_due(now) {
+            Some(self.key)
+        } else {
+            None
+        }
     }
 
     /// The row after the leave timers that are due have fired.

@@ -1,7 +1,7 @@
 //! The timers of a participant (IEEE Std 802.1Q-2018, 10.7.4): the leave timers of its rows, the LeaveAll
 //! timer, and periodic transmission.
 
-ghost use Rattle.std.specs.Prelude.{◌≡◌, ◌<◌, ◌+◌, ◌^◌, map, filter, min, length, if◌then◌else◌, OnOk, OnErr, IfOk};
+ghost use Rattle.std.specs.Prelude.{◌≡◌, ◌<◌, ◌+◌, ◌^◌, map, filter, min, length, if◌then◌else◌, Some, None, OnOk, OnErr, IfOk};
 ghost use Rattle.std.specs.List.{filter_map, list_any};
 ghost use Rattle.mrp_participant.specs.Lookup.{key_of};
 ghost use Rattle.mrp_participant.specs.Row.{leave_is_due, after_leave_due, periodic_row};
@@ -145,11 +145,11 @@ fn keys_that_leave<K: Copy, C: Copy>(
     rows: &[Row<K, C>],
     now: Cs,
 ) -> Result<Vec<K>, AllocError>
-    ensures { IfOk result (λ v. v.items ≡ map key_of (filter (leave_is_due now.0) rows.now)) }
+    ensures { IfOk result (λ v. v.items ≡ filter_map
+        (λ r. if leave_is_due now.0 r then Some r.key else None) rows.now) }
 {
     rows.iter()
-        .filter(|row| row.leave_is_due(now))
-        .map(|row| row.key)
+        .filter_map(|row| row.key_that_leaves(now))
         .collect(alloc)
 }
 

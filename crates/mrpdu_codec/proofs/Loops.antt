@@ -1,6 +1,6 @@
 -- What loops over octets have at their ends.
-use Rattle.std.proofs.Common.{◌≡◌, ℕ, zero, suc, ◌+◌, ◌-◌, ◌<◌, ◌≤◌, List, [], ◌∷◌, ◌++◌, length, get_or, take, drop, Result, Ok, Err, refl, sym, ap, subst, ◌∙◌, append_assoc, arith}
-use Rattle.std.proofs.lemmas.List.{take-append-drop, length-take-le, length-drop, drop_all, drop_more, take_more, flat_map_more}
+use Rattle.std.proofs.Common.{◌≡◌, ℕ, zero, suc, ◌+◌, ◌-◌, ◌<◌, ◌≤◌, List, [], ◌∷◌, ◌++◌, length, get_or, take, drop, map, Result, Ok, Err, refl, sym, ap, subst, ◌∙◌, append_assoc, arith}
+use Rattle.std.proofs.lemmas.List.{take-append-drop, length-take-le, length-drop, drop_all, drop_more, take_more, flat_map_more, map_push}
 use Rattle.std.specs.List.{flat_map}
 use Rattle.mrpdu_codec.specs.Tree.{AllUpTo}
 use Rattle.mrpdu_codec.specs.Grammar.{OctetBreaks}
@@ -44,3 +44,9 @@ pub unpacked_more : {A : Type 0} (f : ℕ → List A) (n i : ℕ) (octets : List
 unpacked_more {A = A} f n i octets items more lt e g =
     g ∙ ap (λ (zs : List A). take n (zs ++ f (get_or octets i 0))) e ∙ take-take-append n (flat_map f (take i octets)) (f (get_or octets i 0))
     ∙ ap (λ (zs : List A). take n zs) (flat_map_more f [] (take i octets) (get_or octets i 0) ∙ ap (λ (os : List ℕ). flat_map f os) (sym (take_more octets i 0 lt)))
+
+-- one item more is spelled
+pub spelled_more : {X Y : Type 0} (f : Y → List ℕ) (g : X → Y) (front : List ℕ) (xs : List X) (i : ℕ) (x : X) (out new : List ℕ) → i < length xs → x ≡ get_or xs i x → out ≡ front ++ flat_map f (map g (take i xs)) → new ≡ out ++ f (g x) → new ≡ front ++ flat_map f (map g (take (i + 1) xs))
+spelled_more f g front xs i x out new below is so_far more =
+    more ∙ ap (λ o. o ++ f (g x)) so_far ∙ flat_map_more f front (map g (take i xs)) (g x)
+    ∙ ap (λ l. front ++ flat_map f l) (sym (ap (map g) (take_more xs i x below ∙ ap (λ y. take i xs ++ y ∷ []) (sym is)) ∙ map_push g (take i xs) x))

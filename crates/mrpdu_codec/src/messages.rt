@@ -23,7 +23,8 @@ fn region(
     len: u8,
     size: usize,
 ) -> Result<Vec<RawVector<'_>>, ReadErr>
-    ensures { Gives (λ v. attrs_in v.items) left_of result (region_at (Some row) len size octets.now) }
+    ensures { Gives (λ v. attrs_in v.items) left_of result
+        (region_at (Some row) len size octets.now) }
 {
     let (found, rest) = vectors(alloc, octets, Some(row), len)?;
     if rest.len() != 0 {
@@ -190,7 +191,8 @@ fn message(
     kind: u8,
     octets: &[u8],
 ) -> Result<(Option<RawMessage<'_>>, &[u8]), ReadErr>
-    ensures { Gives (λ x. (messages_in x.0, x.1.now)) left_of result (message_at form kind octets.now) }
+    ensures { Gives (λ x. (messages_in x.0, x.1.now)) left_of result
+        (message_at form kind octets.now) }
 {
     let row = form.known(kind);
     let (len, rest) = attribute_length(octets, row)?;

@@ -18,3 +18,4 @@ pub mod TakingOut
 pub mod TotalsLemmas
 pub mod Unmoved
 pub mod Unwanting
+pub mod Walks

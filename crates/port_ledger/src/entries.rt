@@ -90,9 +90,10 @@ pub(crate) fn bookings(alloc: Global, entries: &[Entry]) -> Result<Seq<Entry>, N
 {
     let mut booked = Vec::new(alloc);
     for x in entries {
-        if x.since.is_some() {
-            booked.push(*x)?;
+        if x.since.is_none() {
+            continue;
         }
+        booked.push(*x)?;
     }
     Ok(Seq::from_vec(booked))
 }

@@ -20,8 +20,8 @@ pub fn one_decision()
     ensures exists { (now : ℕ) (caps : Caps) (entries : List Entry) → AreOfDifferentStreams entries
         → (marks : List Bool) × IsDecision now caps entries marks }
     ensures unique { (now : ℕ) (caps : Caps) (entries : List Entry) (marks others : List Bool)
-        → AreOfDifferentStreams entries → IsDecision now caps entries marks → IsDecision now caps entries others
-        → marks ≡ others }
+        → AreOfDifferentStreams entries → IsDecision now caps entries marks
+        → IsDecision now caps entries others → marks ≡ others }
 {
     importance_is_an_order();
 }

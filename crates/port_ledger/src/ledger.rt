@@ -43,7 +43,8 @@ impl Model for Ledger {
 
     ghost view = { λ l. record { caps = l.caps; moment = l.moment.0; entries = l.entries.items } };
 
-    ghost invariant = { λ l. IsKept (record { caps = l.caps; moment = l.moment.0; entries = l.entries.items })
+    ghost invariant = { λ l.
+        IsKept (record { caps = l.caps; moment = l.moment.0; entries = l.entries.items })
         × IsPermutation l.entries.items l.order.items
         × (l.totals ≡ totals_of l.moment.0 l.entries.items) };
 }
@@ -72,7 +73,8 @@ impl Ledger {
     pub fn want(&mut self, now: Cs, want: Want) -> Result<Changed, NoMemory>
         requires { self.old.moment ≤ now.0 }
 
-        ensures decided { OnOk result (Decides now.0 self.old.caps (with_want self.old.entries want) self.new.entries) }
+        ensures decided { OnOk result
+            (Decides now.0 self.old.caps (with_want self.old.entries want) self.new.entries) }
         ensures book { OnOk result (self.new ≡ wanted_book now.0 want self.old) }
         ensures rest { OnOk result (self.new
             ≡ record self.old { moment = now.0; entries = self.new.entries }) }
@@ -114,7 +116,8 @@ impl Ledger {
     pub fn unwant(&mut self, now: Cs, stream: StreamId) -> bool
         requires { self.old.moment ≤ now.0 }
         ensures book { self.new ≡ unwanted_book now.0 stream self.old }
-        ensures changed { IsTrue result ↔ (booked_of self.new.entries ≢ booked_of self.old.entries) }
+        ensures changed { IsTrue result
+            ↔ (booked_of self.new.entries ≢ booked_of self.old.entries) }
         ensures was_booked { result ≡ is_some (since_of self.old.entries stream) }
 
         // No want is kept of this stream, and of each other stream the want that it had.
@@ -313,7 +316,8 @@ impl Ledger {
         // A want that is kept fits exactly where it is booked.
         ensures kept { (later : ℕ) → self.now.moment ≤ later → (want : Want)
             → want_of self.now.entries want.stream ≡ Some want
-            → (fit_for later self.now want ≡ Fits) ↔ IsSome (since_of self.now.entries want.stream) }
+            → (fit_for later self.now want ≡ Fits)
+            ↔ IsSome (since_of self.now.entries want.stream) }
     {
         let _ = &self.entries;
     }
@@ -322,7 +326,8 @@ impl Ledger {
     /// both classes, and both have 64 bits.
     pub fn within_caps(&self)
         ensures class_a { booked_slope self.now.entries A ≤ self.now.caps.class_a }
-        ensures both { booked_slope self.now.entries A + booked_slope self.now.entries B ≤ self.now.caps.both }
+        ensures both { booked_slope self.now.entries A + booked_slope self.now.entries B
+            ≤ self.now.caps.both }
         ensures shares { self.now.caps.class_a ≤ self.now.caps.both }
         ensures range { self.now.caps.both < 2 ^ 64 }
     {

@@ -1,5 +1,8 @@
-use Rattle.std.proofs.Common.{◌∙◌, sym}
+use Rattle.std.proofs.Common.{◌∙◌, ap, sym, map, filter}
+use Rattle.mrp_participant.specs.Lookup.{key_of}
+use Rattle.mrp_participant.specs.Row.{leave_is_due}
 use Rattle.mrp_participant.proofs.Changes.{none-leave}
+use Rattle.mrp_participant.proofs.Places.{keys_of_leaving}
 use Rattle.mrp_participant.proofs.timers.fire_leave_timers.Goals as goal
 
 pub returns-then-not-any_leave_due-clause-keys : goal.returns-then-not-any_leave_due-clause-keys
@@ -9,3 +12,7 @@ returns-then-not-any_leave_due-clause-keys g c =
 pub returns-then-not-any_leave_due-clause-rows : goal.returns-then-not-any_leave_due-clause-rows
 returns-then-not-any_leave_due-clause-rows g c =
     sym (none-leave c.args.now.0 c.args.rows.now.items _ _ c.as_slice.ensures.value c.any_leave_due.ensures c.if-not-any_leave_due.true).1
+
+pub returns-clause-keys : goal.returns-clause-keys
+returns-clause-keys g c =
+    c.in_ok-keys.ensures ∙ keys_of_leaving c.args.now.0 c.as_slice-2.result.now ∙ ap (λ l. map key_of (filter (leave_is_due c.args.now.0) l)) c.as_slice-2.ensures.value

@@ -1,0 +1,16 @@
+use Rattle.std.proofs.Common.{◌&&◌, ◌+◌, drop, sym, ap, ◌∙◌}
+use Rattle.std.specs.List.{list_all}
+use Rattle.std.specs.Option.{is_some}
+use Rattle.mrp_participant.specs.Lookup.{find}
+use Rattle.mrp_participant.proofs.Places.{all-front}
+use Rattle.mrp_participant.proofs.hearing.are_known.Goals as goal
+
+pub returns-then-is_none : goal.returns-then-is_none
+returns-then-is_none g c =
+    sym (c.loop-row.invariant ∙ all-front (λ u. is_some (find g.K.Ord.cmp u.key c.args.rows.now)) c.args.heard.now _ _ c.loop-row-test.true c.row-item.is
+    ∙ ap (λ b. b && list_all (λ u. is_some (find g.K.Ord.cmp u.key c.args.rows.now)) (drop (c.loop-row.row-index + 1) c.args.heard.now)) (ap is_some (sym c.find_row.ensures) ∙ c.if-is_none.ensures))
+
+pub loop-row-preserved : goal.loop-row-preserved
+loop-row-preserved g c =
+    c.loop-row.invariant ∙ all-front (λ u. is_some (find g.K.Ord.cmp u.key c.args.rows.now)) c.args.heard.now _ _ c.loop-row-test.true c.row-item.is
+    ∙ ap (λ b. b && list_all (λ u. is_some (find g.K.Ord.cmp u.key c.args.rows.now)) (drop (c.loop-row.row-index + 1) c.args.heard.now)) (ap is_some (sym c.find_row.ensures) ∙ c.if-is_none.ensures)
