@@ -1,7 +1,8 @@
 -- One place of a list is changed: what stands there, and what a function makes of the list.
-use Rattle.std.proofs.Common.{◌≡◌, ◌≢◌, ◌⊎◌, inl, inr, ℕ, zero, suc, Bool, true, false, ◌||◌, if◌then◌else◌, List, [], ◌∷◌, ◌++◌, length, map, refl, sym, ap, subst, ◌∙◌, arith}
+use Rattle.std.proofs.Common.{◌≡◌, ◌≢◌, ◌⊎◌, inl, inr, ℕ, zero, suc, Bool, true, false, ◌||◌, if◌then◌else◌, List, [], ◌∷◌, ◌++◌, length, map, drop, get_or, refl, sym, ap, subst, ◌∙◌, ◌+◌, ◌<◌, append_assoc, arith}
 use Rattle.std.specs.Prelude.{filter, slice_get, slice_set, Option, Some, None, IfSome, Result, Ok, Err, OnOk}
 use Rattle.std.specs.List.{AllByRecursion}
+use Rattle.std.proofs.lemmas.List.{drop_more}
 
 -- one number is another, or not
 pub decide : (m n : ℕ) → (m ≡ n) ⊎ (m ≢ n)
@@ -69,6 +70,21 @@ all_filtered P test (x ∷ xs) all = by (test x) (all_filtered P test xs all.1)
 pub all_joined : {X : Type 0} (P : X → Type 0) (xs ys : List X) → AllByRecursion P xs → AllByRecursion P ys → AllByRecursion P (xs ++ ys)
 all_joined P [] ys one two = two
 all_joined P (x ∷ xs) ys one two = (one.0, all_joined P xs ys one.1 two)
+
+-- what holds of each element holds of the one at a place
+pub each-at : {X : Type 0} (P : X → Type 0) (xs : List X) (i : ℕ) (x : X) → i < length xs → x ≡ get_or xs i x → AllByRecursion P xs → P x
+each-at P [] i x below is all = absurd (omega arith)
+each-at P (y ∷ xs) zero x below is all = subst P (sym is) all.0
+each-at P (y ∷ xs) (suc i) x below is all = each-at P xs i x (omega arith) is all.1
+
+-- a list that is put together piece by piece, with the piece of one element more
+pub one_more : {X Y : Type 0} (f : List X → List Y) (piece : X → List Y) (xs : List X) (i : ℕ) (d : X) (old new whole : List Y)
+    → ((x : X) (ys : List X) → f (x ∷ ys) ≡ piece x ++ f ys) → i < length xs → new ≡ old ++ piece (get_or xs i d)
+    → old ++ f (drop i xs) ≡ whole → new ++ f (drop (i + 1) xs) ≡ whole
+one_more f piece xs i d old new whole step below is done =
+    ap (λ ys. ys ++ f (drop (i + 1) xs)) is
+    ∙ (append_assoc old (piece (get_or xs i d)) (f (drop (i + 1) xs))
+    ∙ (ap (λ ys. old ++ ys) (sym (ap f (drop_more xs i d below) ∙ step (get_or xs i d) (drop (i + 1) xs))) ∙ done))
 
 -- one option has one value
 pub one_some : {X : Type 0} (o : Option X) (x y : X) → o ≡ Some x → o ≡ Some y → x ≡ y

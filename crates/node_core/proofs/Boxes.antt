@@ -1,5 +1,5 @@
 -- One box of a node changes: the others stay, and all are short.
-use Rattle.std.proofs.Common.{◌≡◌, ◌≤◌, ◌^◌, sym, Bool, ℕ, zero, suc, ◌<◌, ◌++◌, List, [], ◌∷◌, length, map, take, drop, refl, ap, ◌∙◌, arith}
+use Rattle.std.proofs.Common.{◌≡◌, ◌≤◌, ◌^◌, sym, Bool, ℕ, zero, suc, ◌<◌, ◌++◌, List, [], ◌∷◌, length, map, take, drop, refl, ap, subst, ◌∙◌, arith}
 use Rattle.std.specs.Prelude.{slice_set, slice_index_or}
 use Rattle.std.specs.List.{AllByRecursion, insert}
 use Rattle.mrp_participant.specs.Link.{repeated}
@@ -102,6 +102,18 @@ new_boxes_kept ports kind bridge leave_time periodic v t ins outs few kept is ke
       clock = omega arith;
       moment = ap (λ (u : Streams). u.moment) streams_is;
     }
+
+-- a box that is read is the one at its place
+pub box_read : (boxes : List (List Wire)) (i : ℕ) (b : List Wire) → i < length boxes → b ≡ slice_index_or boxes i b → b ≡ box_at i boxes
+box_read [] i b h e = absurd (omega arith)
+box_read (x ∷ boxes) zero b h e = e
+box_read (x ∷ boxes) (suc i) b h e = box_read boxes i b (omega arith) e
+
+-- what holds of each PDU of each box holds of one that is read
+pub each_read : (P : Wire → Type 0) (ws : List Wire) (i : ℕ) (w : Wire) → i < length ws → w ≡ slice_index_or ws i w → AllByRecursion P ws → P w
+each_read P [] i w below is hs = absurd (omega arith)
+each_read P (x ∷ ws) zero w below is hs = subst P (sym is) hs.0
+each_read P (x ∷ ws) (suc i) w below is hs = each_read P ws i w (omega arith) is hs.1
 
 -- a node with other short PDUs in an inbox keeps what it kept
 pub kept_inbox : (s : NodeState) (at : ℕ) (wires : List Wire) → IsKeptNode s → AreShort wires → IsKeptNode (record s { inboxes = slice_set s.inboxes at wires })

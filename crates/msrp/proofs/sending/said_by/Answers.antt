@@ -1,4 +1,8 @@
-use Rattle.std.proofs.Common.{◌≡◌}
+use Rattle.std.proofs.Common.{◌≡◌, List, sym, subst}
+use Rattle.std.specs.List.{AllByRecursion}
+use Rattle.srp_base.specs.declared.mrp.MrpEvent.{MrpEvent}
+use Rattle.msrp_codec.specs.declared.pdu.MsrpKey.{MsrpKey}
+use Rattle.msrp_codec.specs.declared.pdu.MsrpContent.{MsrpContent}
 use Rattle.msrp_codec.specs.Content.{Belongs, base_octets, octets_of}
 use Rattle.mrp_participant.specs.State.{sent_events}
 use Rattle.msrp.specs.Part.{key_cmp}
@@ -11,5 +15,6 @@ pub octets_of-requires-clause-belong : goal.octets_of-requires-clause-belong
 octets_of-requires-clause-belong c =
     let es : c.in-Some.msgs.events ≡ sent_events base_octets octets_of key_cmp c.args.now c.args.part =
     opened (λ m. m.events ≡ sent_events base_octets octets_of key_cmp c.args.now c.args.part) c.in_ok-msgs.field-0 c.in-Some.msgs c.in-Some.is c.in_ok-msgs.ensures.events in
-    rw es (all_said Belongs c.args.part (own_row c.args.part c.requires.contents) (sent_events base_octets octets_of key_cmp c.args.now c.args.part)
+    let P : List (MrpEvent × MsrpKey × MsrpContent) → Type 0 = λ xs. AllByRecursion (λ e. Belongs e.1 e.2) xs in
+    subst P (sym es) (all_said Belongs c.args.part (own_row c.args.part c.requires.contents) (sent_events base_octets octets_of key_cmp c.args.now c.args.part)
     (λ e h. c.what_is_sent_is_declared.ensures.content c.args.part c.args.now e c.requires.rows h))

@@ -1,10 +1,12 @@
 use Rattle.std.proofs.Common.{◌≡◌, ◌∙◌, ap, sym}
 use Rattle.std.specs.Prelude.{slice_get, Some}
 use Rattle.mrp_participant.specs.Lookup.{find}
-use Rattle.mrp_participant.specs.State.{due_state, left_keys, is_periodic_due}
+use Rattle.mrp_participant.specs.State.{declared_at, due_state, left_keys, is_periodic_due}
 use Rattle.msrp.specs.declared.port.Port.{Port}
 use Rattle.msrp.specs.Part.{Part, key_cmp}
 use Rattle.msrp.specs.Side.{Streams}
+use Rattle.msrp.proofs.Places.{one_some}
+use Rattle.msrp.proofs.Telling.{tells_as}
 use Rattle.msrp.proofs.Contents.{own-due}
 use Rattle.msrp.proofs.Keeping.{at_put, port_kept}
 use Rattle.msrp.proofs.side.MsrpSide.fire.Goals as goal
@@ -33,3 +35,21 @@ returns-clause-after c =
     at_put c.args.self.now c.put.new.self c.args.at p _ _ (due_state c.args.now) (left_keys c.args.now) found c.in_ok-put.ensures.ok
     (c.in_ok-fired.ensures.after ∙ ap (due_state c.args.now) c.in_ok-part.ensures)
     (c.as_slice-2.ensures ∙ (c.in_ok-fired.ensures.keys ∙ ap (left_keys c.args.now) c.in_ok-part.ensures))
+
+pub put-requires-clause-declared : goal.put-requires-clause-declared
+put-requires-clause-declared c q at key =
+    ap (declared_at key_cmp key) (c.in_ok-fired.ensures.after ∙ ap (due_state c.args.now) (c.in_ok-part.ensures ∙ ap (λ (x : Port). x.part) (one_some _ _ _ (here c) at)))
+    ∙ c.declarations_stay.ensures.due q.part c.args.now (port_kept c.args.self.now c.keeps.ensures c.args.at q at).rows key
+
+pub put-requires-clause-told : goal.put-requires-clause-told
+put-requires-clause-told c q at key =
+    let was : c.in_ok-part.part ≡ q.part = c.in_ok-part.ensures ∙ ap (λ (x : Port). x.part) (one_some _ _ _ (here c) at) in
+    tells_as key (left_keys c.args.now q.part) _ q.part (due_state c.args.now q.part) _
+    (c.as_slice-2.ensures ∙ (c.in_ok-fired.ensures.keys ∙ ap (left_keys c.args.now) was)) (c.in_ok-fired.ensures.after ∙ ap (due_state c.args.now) was)
+    (c.due_tells_each_change.ensures.told q.part c.args.now (port_kept c.args.self.now c.keeps.ensures c.args.at q at).rows key)
+
+pub put-requires-clause-kept : goal.put-requires-clause-kept
+put-requires-clause-kept c = c.keeps.ensures
+
+pub put-requires-clause-rows : goal.put-requires-clause-rows
+put-requires-clause-rows c = c.rows_ascend.ensures.rows

@@ -1,9 +1,10 @@
-use Rattle.std.proofs.Common.{rules, ◌≡◌, ◌∙◌, ap, sym, refl}
+use Rattle.std.proofs.Common.{rules, ◌≡◌, ◌∙◌, List, ap, sym, refl}
+use Rattle.msrp_codec.specs.declared.pdu.MsrpKey.{MsrpKey}
 use Rattle.attribute_propagation.specs.Ports.{marked_everywhere}
 use Rattle.msrp.specs.Part.{key_cmp}
 use Rattle.msrp.specs.Stream.{talk_of}
 use Rattle.msrp.specs.Settling.{keys_of}
-use Rattle.msrp.specs.Side.{Streams}
+use Rattle.msrp.specs.Side.{Streams, reasked}
 use Rattle.msrp.proofs.Keeping.{kept-asked}
 use Rattle.msrp.proofs.side.MsrpSide.put_talks.Goals as goal
 
@@ -14,3 +15,10 @@ invariant_of-self c =
     rw sets (kept-asked c.each_key_awaits.ensures.all_marked before c.self.invariant c.args.stream c.args.talks.items c.self.inside.listens.items
     (λ s e. c.requires s e ∙ ap (λ (v : Streams). talk_of s v.talks) (sym c.self.view_is))
     (λ s e. refl))
+
+pub returns-clause-ok : goal.returns-clause-ok
+returns-clause-ok c =
+    let before : Streams = record { ports = c.self.inside.ports.items; awaiting = c.self.inside.awaiting.items; talks = c.self.inside.talks.items; listens = c.self.inside.listens.items; moment = c.self.inside.moment.0 } in
+    let sets : c.put_sets.new.sets.items ≡ marked_everywhere key_cmp (keys_of c.args.stream) c.self.inside.awaiting.items = search rules in
+    ap (λ (xs : List (List MsrpKey)). record before { talks = c.args.talks.items; awaiting = xs }) sets
+    ∙ ap (λ (v : Streams). reasked c.args.stream c.args.talks.items v.listens v) c.self.view_is

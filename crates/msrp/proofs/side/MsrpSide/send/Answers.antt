@@ -1,11 +1,11 @@
-use Rattle.std.proofs.Common.{◌≡◌, ◌-◌, ◌<◌, ◌∙◌, ℕ, length, true, false, ap, sym, arith, refl}
+use Rattle.std.proofs.Common.{◌≡◌, ◌-◌, ◌<◌, ◌∙◌, ℕ, length, true, false, ap, sym, subst, arith, refl}
 use Rattle.std.specs.Prelude.{slice_get, Some, is_none}
 use Rattle.std.proofs.lemmas.Option.{slice_get_read}
-use Rattle.mrp_participant.specs.State.{declared_at, registered_at, is_silent, is_active, takes, after}
+use Rattle.mrp_participant.specs.State.{AreRows, declared_at, registered_at, is_silent, is_active, takes, after}
 use Rattle.mrp_participant.specs.Lookup.{find}
 use Rattle.msrp_codec.specs.Content.{base_octets, octets_of}
 use Rattle.msrp.specs.declared.port.Port.{Port}
-use Rattle.msrp.specs.Part.{Part, key_cmp, pdu_sent, sent_part}
+use Rattle.msrp.specs.Part.{HasOwnContents, Part, key_cmp, pdu_sent, sent_part}
 use Rattle.msrp.specs.Side.{Streams, IsWritten, place_of, sent_streams}
 use Rattle.msrp.proofs.Places.{one_some, opened, some_is}
 use Rattle.msrp.proofs.Contents.{own-sent}
@@ -32,7 +32,8 @@ said_by-requires-clause-contents c =
     ap (λ (v : Streams). slice_get v.ports (place_of c.args.port)) (sym c.self.view_is)
     ∙ (ap (λ xs. slice_get xs (place_of c.args.port)) (sym c.as_slice.ensures.value)
     ∙ (ap (λ n. slice_get c.as_slice.result.now (n - 1)) (sym c.from-at.ensures) ∙ c.port_at-before.ensures)) in
-    rw c.in_ok-copy.ensures (port_kept c.args.self.now c.keeps.ensures (place_of c.args.port) p found).contents
+    let P : Part → Type 0 = λ s. HasOwnContents s in
+    subst P (sym c.in_ok-copy.ensures) (port_kept c.args.self.now c.keeps.ensures (place_of c.args.port) p found).contents
 
 -- the side as it was, and the place of the port in it
 abbrev before : After-drop-port → Streams
@@ -59,7 +60,7 @@ pub invariant_of-self : goal.invariant_of-self
 invariant_of-self c =
     let p : Port = c.index_mut-port.result.now in
     kept-changed c.each_key_awaits.ensures.all_marked (before c) c.self.invariant (c.from-at.result - 1) (below c) p c.index_mut-port.ensures.value c.in-Some.said.0
-    (λ rows. rw (became c) (c.rows_stay_rows.ensures.send p.part c.args.now rows))
+    (λ rows. let P : Part → Type 0 = λ s. AreRows key_cmp s.rows in subst P (sym (became c)) (c.rows_stay_rows.ensures.send p.part c.args.now rows))
     (λ rows own. own-sent p.part c.in-Some.said.0 (is_active p.part.leave_all) (takes base_octets octets_of key_cmp p.part) (after c.args.now p.part.leave_time) own
     (λ k. ap (λ (t : Part). find key_cmp k t.rows) (became c) ∙ c.each_key_after_send.ensures p.part c.args.now rows k))
     (λ rows key. ap (declared_at key_cmp key) (became c) ∙ c.declarations_stay.ensures.send p.part c.args.now rows key)
@@ -75,7 +76,8 @@ returns-in-Some c =
     let loud : is_silent q.part ≡ false =
     ap (λ (s : Part). is_silent s) (sym c.in_ok-copy.ensures) ∙ (sym c.in_ok-said.ensures.silent ∙ ap is_none c.in-Some.is) in
     let written : IsWritten (pdu_sent c.args.now q.part) c.in-Some.said.1 =
-    rw (sym c.in_ok-copy.ensures) (opened (λ r. IsWritten (pdu_sent c.args.now c.in_ok-copy.field-0) r.1) _ _ c.in-Some.is c.in_ok-said.ensures.written) in (
+    let P : Part → Type 0 = λ s. IsWritten (pdu_sent c.args.now s) c.in-Some.said.1 in
+    subst P c.in_ok-copy.ensures (opened (λ r. IsWritten (pdu_sent c.args.now c.in_ok-copy.field-0) r.1) _ _ c.in-Some.is c.in_ok-said.ensures.written) in (
       some_is (λ p. (is_silent p.part ≡ false) × IsWritten (pdu_sent c.args.now p.part) c.in-Some.said.1) _ q found (loud, written),
       at_changed (before c) (c.from-at.result - 1) c.index_mut-port.result.now c.in-Some.said.0 (sent_part c.args.now) (below c) c.index_mut-port.ensures.value (became c)
           ∙ (ap (λ (v : Streams). sent_streams c.args.now (c.from-at.result - 1) v) c.self.view_is ∙ ap (λ (n : ℕ). sent_streams c.args.now (n - 1) c.args.self.now) c.from-at.ensures),

@@ -85,3 +85,6 @@ returns-clause-count c =
     ∙ ap count_of (c.len.ensures
     ∙ ap length (sym (awaiting_is (before c) c.self.invariant c.args.at (below c) c.index-2.result.now c.index-2.ensures)
     ∙ ap (λ (v : Streams). awaiting_at c.args.at v) c.self.view_is))
+
+pub settled-requires : goal.settled-requires
+settled-requires c = omega (arith, c.requires, ap (λ (v : Streams). length v.ports) c.self.view_is, ap (λ (ps : List Port). length ps) c.as_slice-3.ensures.value)

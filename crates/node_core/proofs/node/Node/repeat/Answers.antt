@@ -1,0 +1,34 @@
+use Rattle.std.proofs.Common.{◌≡◌, ◌<◌, ◌-◌, ℕ, List, length, ap, ◌∙◌, arith}
+use Rattle.std.specs.Prelude.{slice_set}
+use Rattle.mrp_participant.specs.Link.{repeated}
+use Rattle.node_core.specs.declared.types.Wire.{Wire}
+use Rattle.node_core.specs.State.{NodeState}
+use Rattle.node_core.specs.Links.{repeated_at}
+use Rattle.node_core.proofs.Boxes.{box_read, kept_inbox}
+use Rattle.node_core.proofs.node.Node.repeat.Goals as goal
+use Rattle.node_core.proofs.node.Node.repeat.Goals.{In_ok-repeat_wire}
+
+-- the node as it was, and the place of the port
+abbrev before : In_ok-repeat_wire → NodeState
+before c =
+    record {
+      kind = c.self.inside.kind;
+      bridge = c.self.inside.bridge;
+      clock = c.self.inside.clock;
+      vlans = c.self.inside.mvrp;
+      streams = c.self.inside.msrp;
+      inboxes = c.self.inside.inboxes.items;
+      outboxes = c.self.inside.outboxes.items;
+    }
+
+abbrev at : In_ok-repeat_wire → ℕ
+at c = c.from-at.result - 1
+
+below : (c : In_ok-repeat_wire) → at c < length (before c).inboxes
+below c = omega (arith, c.from-at.ensures, c.requires.some, c.requires.within, c.self.invariant.inboxes, ap (λ (v : NodeState). length v.vlans.parts) c.self.view_is)
+
+pub returns-clause-after : goal.returns-clause-after
+returns-clause-after c =
+    ap (λ (b : List Wire). record (before c) { inboxes = slice_set (before c).inboxes (at c) b })
+    (c.in_ok-repeat_wire.ensures.ok ∙ ap (repeated c.args.index) (box_read (before c).inboxes (at c) c.index_mut.result.now (below c) c.index_mut.ensures.value))
+    ∙ (ap (λ (v : NodeState). repeated_at (at c) c.args.index v) c.self.view_is ∙ ap (λ (n : ℕ). repeated_at (n - 1) c.args.index c.args.self.now) c.from-at.ensures)
