@@ -13,7 +13,7 @@ use std::alloc::Global;
 use world_core::Journal;
 
 /// What a command makes: the text that it prints, and the journal of the run that it made, empty where it made none.
-#[derive(Debug, PartialEq, Eq, Drop)]
+#[derive(Drop)]
 pub struct CommandOutput {
     pub text: Seq<u8>,
     pub journal: Journal,

@@ -74,7 +74,7 @@ impl From<ReadErr> for Cause {
 }
 
 /// How the top call ends.
-#[derive(Debug, PartialEq, Eq, Drop)]
+#[derive(Drop)]
 pub struct Outcome {
     /// The exit status.
     pub status: u8,
@@ -84,7 +84,7 @@ pub struct Outcome {
 }
 
 /// How a command ends: why, and the journal of the run whose output went out.
-#[derive(Debug, PartialEq, Eq, Drop)]
+#[derive(Drop)]
 pub struct Ended {
     pub cause: Cause,
     pub journal: Journal,

@@ -6,7 +6,7 @@ ghost use Rattle.srpnet.specs.Words.{command_of as command_of_spec, command_of_p
 use srp_base::Seq;
 
 /// What the program can be asked to do, by a row of the table of words each.
-#[derive(Clone, Copy, Debug, PartialEq, Eq)]
+#[derive(Clone, Copy)]
 pub enum Command {
     /// `ledger`: reads a ledger file and prints its bookings.
     Ledger,

@@ -18,14 +18,14 @@ use toml_rules::{
 };
 
 /// A want of the file with its moment in cs.
-#[derive(Clone, Copy, Debug, PartialEq, Eq)]
+#[derive(Clone, Copy)]
 pub struct LedgerWant {
     pub tick: Cs,
     pub want: Want,
 }
 
 /// A ledger file: a port, and the wants in file order.
-#[derive(Debug, PartialEq, Eq, Drop)]
+#[derive(Drop)]
 pub struct LedgerFile {
     pub rate: Rate,
     pub delta_a: Percent,
