@@ -145,7 +145,8 @@ impl<'a> Asked<'a> {
             (handed_by self.now.frames (Some flow.now))) }
     {
         let rate = flow.input.rate;
-        copies.reserve(flow.fates.len())?;
+        // No more copies depart than the shaper was given.
+        copies.reserve(flow.input.arrivals.len())?;
         for (number, fate) in flow.fates.as_slice() {
             self.add_departed(place, rate, *number, *fate, copies)?;
         }

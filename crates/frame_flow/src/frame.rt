@@ -15,21 +15,21 @@ pub enum Route {
     To(NodeNo),
 }
 
-/// A frame that a station sends.
+/// A frame that a station sends. The wider fields stand first, so that a list of many frames stays small.
 #[derive(Clone, Copy, Debug, PartialEq, Eq)]
 pub struct Frame {
-    /// Its number; no two frames have one.
-    pub number: u32,
     /// The moment at which it reaches the station's own port, in ps from the run's start.
     pub at: Ps,
-    /// The station.
-    pub from: NodeNo,
     /// Where it goes.
     pub route: Route,
-    /// Its VID.
-    pub vid: u16,
+    /// Its number; no two frames have one.
+    pub number: u32,
     /// Its length on the line in bits, with preamble and gap: 336 to 12,336.
     pub bits: u32,
+    /// The station.
+    pub from: NodeNo,
+    /// Its VID.
+    pub vid: u16,
 }
 
 /// A copy of a frame at a port.
