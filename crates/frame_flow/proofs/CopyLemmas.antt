@@ -1,10 +1,10 @@
 -- The copies that arrive at a port: whose they are, and on which flows they depend.
-use Rattle.std.proofs.Common.{◌≡◌, ℕ, ◌+◌, ◌<◌, set, replicate, append-nil, inl, inr, Bool, true, false, List, [], ◌∷◌, ◌++◌, length, get_or, take, Option, Some, None, refl, sym, ◌∙◌, ap, subst, arith}
+use Rattle.std.proofs.Common.{◌≡◌, ℕ, ◌+◌, ◌<◌, set, replicate, append-nil, inl, inr, Bool, true, false, List, [], ◌∷◌, ◌++◌, length, get_or, take, map, Bor, Option, Some, None, refl, sym, ◌∙◌, ap, subst, arith}
 use Rattle.std.specs.Prelude.{All, AllPairs, find, filter, filter_map, flat_map, nat_lt, ◌==◌, ◌&&◌}
 use Rattle.std.specs.List.{cons_option}
 use Rattle.std.specs.List.Sorted.{IsPermutation}
 use Rattle.std.proofs.lemmas.Bool.{cond_both, cond-true, cond-false, cases_Bool, cases_eq, eq-eqb, ne_eqb, ltb-true, and_parts}
-use Rattle.std.proofs.lemmas.List.{get_or-replicate, length-replicate, length-set, get_or-set_same, get_or-set_other, take_more}
+use Rattle.std.proofs.lemmas.List.{get_or-map, length-map, get_or-replicate, length-replicate, length-set, get_or-set_same, get_or-set_other, take_more}
 use Rattle.std.proofs.lemmas.List.Elements.{filter-append, filter_map-append, All-nil, All-cons, All-head, All-tail, All-append, All-filter, All-map, All-weaker, All-same}
 use Rattle.srp_base.specs.declared.numbers.EgressPort.{EgressPort}
 use Rattle.tree_topology.specs.Topology.{HasPort}
@@ -47,6 +47,14 @@ All-flat_map P Q f each (x ∷ xs) all =
 
 pub All-any : {X : Type 0} (xs : List X) → All (λ x. Unit {0}) xs
 All-any xs k d below = tt
+
+pub All-unmapped : {X Y : Type 0} (P : Y → Type 0) (to : X → Y) (xs : List X) → All P (map to xs) → All (λ x. P (to x)) xs
+All-unmapped P to xs all k d below =
+    subst P (get_or-map to xs k d (to d) below) (all k (to d) (omega (arith, below, length-map xs to)))
+
+pub map-twice : {X Y Z : Type 0} (g : Y → Z) (f : X → Y) (xs : List X) → map g (map f xs) ≡ map (λ x. g (f x)) xs
+map-twice g f [] = refl
+map-twice {X} {Y} {Z} g f (x ∷ xs) = ap (λ (t : List Z). g (f x) ∷ t) (map-twice g f xs)
 
 pub flat_map-same : {X Y : Type 0} (f g : X → List Y) (xs : List X) → All (λ x. f x ≡ g x) xs → flat_map f xs ≡ flat_map g xs
 flat_map-same f g [] all = refl
@@ -248,9 +256,10 @@ pub own-are : (s : Setting) (lists : List (List Frame)) (p : EgressPort) (own : 
     → HasPort s.tree p → own ≡ get_or lists p.node.0 [] → own ≡ filter (λ f. f.from.0 == p.node.0) s.frames
 own-are s lists p own by port is = is ∙ by.each p.node.0 port.0.1
 
-pub own-routes : (s : Setting) (p : EgressPort) (own : List Frame) → IsSetting s → own ≡ filter (λ f. f.from.0 == p.node.0) s.frames
-    → All (λ f. IsRoute s.tree f.route) own
+pub own-routes : (s : Setting) (p : EgressPort) (own : List (Bor Frame)) → IsSetting s → map (λ f. f.now) own ≡ filter (λ f. f.from.0 == p.node.0) s.frames
+    → All (λ f. IsRoute s.tree f.now.route) own
 own-routes s p own given is =
     let P : Frame → Type 0 = λ f. IsRoute s.tree f.route in
-    All-same P own (filter (λ f. f.from.0 == p.node.0) s.frames) is
-    (All-filter (λ f. f.from.0 == p.node.0) P s.frames (All-weaker (IsFrame s.tree s.ticks) P (λ f h. h.route) s.frames given.range.frames))
+    All-unmapped P (λ f. f.now) own
+    (All-same P (map (λ f. f.now) own) (filter (λ f. f.from.0 == p.node.0) s.frames) is
+    (All-filter (λ f. f.from.0 == p.node.0) P s.frames (All-weaker (IsFrame s.tree s.ticks) P (λ f h. h.route) s.frames given.range.frames)))

@@ -109,25 +109,28 @@ more-places least sent places at frame d below is from few number =
 
 -- ---- one copy more
 
-pub verdicts-more : (rate : Rate) (changes : List PortChange) (copies : List FrameCopy) (i : ℕ) (d : FrameCopy) (force : Option PortChange) (before after : List (ℕ × Verdict))
-    → i < length copies → force ≡ force_on rate changes (get_or copies i d) → before ≡ verdicts_of rate changes (take i copies)
-    → after ≡ before ++ ((get_or copies i d).frame.number, verdict_of force (get_or copies i d)) ∷ [] → after ≡ verdicts_of rate changes (take (i + 1) copies)
-verdicts-more rate changes copies i d force before after below is one two =
-    let c = get_or copies i d in
-    pushed-map (λ c. (c.frame.number, verdict_of (force_on rate changes c) c)) copies i d before after _ below one two
-    (ap (λ (o : Option PortChange). (c.frame.number, verdict_of o c)) is)
+pub verdicts-more : (rate : Rate) (changes : List PortChange) (copies : List FrameCopy) (i : ℕ) (d c : FrameCopy) (force : Option PortChange) (before after : List (ℕ × Verdict))
+    → i < length copies → c ≡ get_or copies i d → force ≡ force_on rate changes c → before ≡ verdicts_of rate changes (take i copies)
+    → after ≡ before ++ (c.frame.number, verdict_of force c) ∷ [] → after ≡ verdicts_of rate changes (take (i + 1) copies)
+verdicts-more rate changes copies i d c force before after below item is one two =
+    let to : FrameCopy → ℕ × Verdict = λ t. (t.frame.number, verdict_of (force_on rate changes t) t) in
+    pushed-map to copies i d before after _ below one two
+    (ap (λ (o : Option PortChange). (c.frame.number, verdict_of o c)) is ∙ ap to item)
 
-pub arrivals-more : (rate : Rate) (changes : List PortChange) (copies : List FrameCopy) (i : ℕ) (d : FrameCopy) (force : Option PortChange) (before after : List Arrival)
-    → i < length copies → force ≡ force_on rate changes (get_or copies i d) → before ≡ arrivals_of rate changes (take i copies)
-    → after ≡ before ++ map arrival_of (filter (λ c. may_send c force) (get_or copies i d ∷ [])) → after ≡ arrivals_of rate changes (take (i + 1) copies)
-arrivals-more rate changes copies i d force before after below is one two =
-    let c = get_or copies i d in
-    let p : FrameCopy → Bool = λ c. may_send c (force_on rate changes c) in
-    two ∙ ap (λ (t : List Arrival). t ++ map arrival_of (filter (λ c. may_send c force) (c ∷ []))) one
-    ∙ ap (λ (o : Option PortChange). arrivals_of rate changes (take i copies) ++ map arrival_of (cond (may_send c o) (c ∷ []) [])) is
+pub arrivals-more : (rate : Rate) (changes : List PortChange) (copies : List FrameCopy) (i : ℕ) (d c : FrameCopy) (force : Option PortChange) (before after : List Arrival)
+    → i < length copies → c ≡ get_or copies i d → force ≡ force_on rate changes c → before ≡ arrivals_of rate changes (take i copies)
+    → after ≡ before ++ map arrival_of (filter (λ c. may_send c force) (c ∷ [])) → after ≡ arrivals_of rate changes (take (i + 1) copies)
+arrivals-more rate changes copies i d c force before after below item is one two =
+    let p : FrameCopy → Bool = λ t. may_send t (force_on rate changes t) in
+    let so_far = arrivals_of rate changes (take i copies) in
+    let last : FrameCopy → Option PortChange → List Arrival = λ t o. map arrival_of (cond (may_send t o) (t ∷ []) []) in
+    let here = get_or copies i d in
+    two ∙ ap (λ (t : List Arrival). t ++ last c force) one
+    ∙ ap (λ (o : Option PortChange). so_far ++ last c o) is
+    ∙ ap (λ (t : FrameCopy). so_far ++ last t (force_on rate changes t)) item
     ∙ sym (ap (λ (t : List FrameCopy). map arrival_of (filter p t)) (take_more copies i d below)
-    ∙ ap (λ (t : List FrameCopy). map arrival_of t) (filter-append p (take i copies) (c ∷ []))
-    ∙ map-append arrival_of (filter p (take i copies)) (filter p (c ∷ [])))
+    ∙ ap (λ (t : List FrameCopy). map arrival_of t) (filter-append p (take i copies) (here ∷ []))
+    ∙ map-append arrival_of (filter p (take i copies)) (filter p (here ∷ [])))
 
 -- ---- the flow at a port
 

@@ -15,7 +15,7 @@ pub(crate) struct Asked<'a> {
     pub(crate) changes: &'a [PortChange],
     pub(crate) frames: &'a [Frame],
     pub(crate) ticks: u64,
-    pub(crate) own: &'a FramesByNode,
+    pub(crate) own: FramesByNode<'a>,
 }
 
 impl<'a> Model for Asked<'a> {
@@ -40,7 +40,7 @@ impl<'a> Model for Asked<'a> {
       changes = a.changes.now;
       frames = a.frames.now;
       ticks = a.ticks;
-    }) × AreByNode (length a.tree.now.kinds) a.frames.now a.own.now };
+    }) × AreByNode (length a.tree.now.kinds) a.frames.now a.own };
 }
 
 impl Asked<'_> {

@@ -1,6 +1,6 @@
 //! The copies of frames that arrive at a port.
 
-ghost use Rattle.std.specs.Prelude.{◌≡◌, ◌<◌, ◌≤◌, ◌^◌, ◌++◌, ◌∷◌, [], Some, AllPairs, HoldsAt, IsTrue, filter_map, flat_map, length, OnOk, IfOk};
+ghost use Rattle.std.specs.Prelude.{◌≡◌, ◌<◌, ◌≤◌, ◌^◌, ◌++◌, ◌∷◌, [], Some, AllPairs, HoldsAt, IsTrue, filter_map, flat_map, length, option_map, OnOk, IfOk};
 ghost use Rattle.std.specs.List.{AllWithin};
 ghost use Rattle.std.specs.List.Sorted.{IsPermutation};
 ghost use Rattle.tree_topology.specs.Topology.{HasPort};
@@ -9,7 +9,7 @@ ghost use Rattle.frame_flow.specs.Copies.{arriving, copy_of, comes_over, flow_at
 ghost use Rattle.frame_flow.specs.Given.{IsRoute, IsInOrder};
 
 use crate::asked::Asked;
-use crate::frame::{Frame, FrameCopy, Route};
+use crate::frame::{CopyOf, Frame, Route};
 use crate::moments::{bit_from, bits_of_ticks, moment_of};
 use crate::numbered::find_first;
 use crate::place::Place;
@@ -18,14 +18,14 @@ use srp_base::{EgressPort, NoMemory, PortNo, Rate};
 use std::alloc::Global;
 use tree_topology::Tree;
 
-impl Asked<'_> {
+impl<'a> Asked<'a> {
     /// The copies that arrive at a port, in order, by the flows at the ports that send into its node.
     pub(crate) fn arriving(
         &self,
         alloc: Global,
         flows: &[PortFlow],
         place: Place,
-    ) -> Result<Vec<FrameCopy>, NoMemory>
+    ) -> Result<Vec<CopyOf<'a>>, NoMemory>
         requires { HasPort self.now.tree place.at }
         ensures { IfOk result (λ v. v.items
             ≡ arriving self.now.tree.links self.now.frames self.now.ticks flows.now place) }
@@ -39,14 +39,13 @@ impl Asked<'_> {
     }
 
     /// Adds the copies of the frames of a port's station.
-    fn own_copies(&self, place: Place, copies: &mut Vec<FrameCopy>) -> Result<(), NoMemory>
+    fn own_copies(&self, place: Place, copies: &mut Vec<CopyOf<'a>>) -> Result<(), NoMemory>
         requires { HasPort self.now.tree place.at }
         ensures { OnOk result (copies.new.items ≡ copies.old.items
             ++ filter_map (copy_of self.now.tree.links self.now.ticks place)
             (sent_from self.now.frames place.at.node.0)) }
     {
-        let own = self.own;
-        for f in own.at(place.at.node) {
+        for f in self.own.at(place.at.node) {
             self.add_own(place, f, copies)?;
         }
         Ok(())
@@ -56,8 +55,8 @@ impl Asked<'_> {
     fn add_own(
         &self,
         place: Place,
-        frame: &Frame,
-        copies: &mut Vec<FrameCopy>,
+        frame: &'a Frame,
+        copies: &mut Vec<CopyOf<'a>>,
     ) -> Result<(), NoMemory>
         requires port { HasPort self.now.tree place.at }
         requires route { IsRoute self.now.tree frame.now.route }
@@ -73,7 +72,7 @@ impl Asked<'_> {
         &self,
         flows: &[PortFlow],
         place: Place,
-        copies: &mut Vec<FrameCopy>,
+        copies: &mut Vec<CopyOf<'a>>,
     ) -> Result<(), NoMemory>
         requires { HasPort self.now.tree place.at }
         ensures { OnOk result (copies.new.items ≡ copies.old.items
@@ -98,7 +97,7 @@ impl Asked<'_> {
         flows: &[PortFlow],
         over: EgressPort,
         place: Place,
-        copies: &mut Vec<FrameCopy>,
+        copies: &mut Vec<CopyOf<'a>>,
     ) -> Result<(), NoMemory>
         requires over { HasPort self.now.tree over }
         requires port { HasPort self.now.tree place.at }
@@ -118,7 +117,7 @@ impl Asked<'_> {
         flows: &[PortFlow],
         source: EgressPort,
         place: Place,
-        copies: &mut Vec<FrameCopy>,
+        copies: &mut Vec<CopyOf<'a>>,
     ) -> Result<(), NoMemory>
         requires { HasPort self.now.tree place.at }
         ensures { OnOk result (copies.new.items ≡ copies.old.items
@@ -138,7 +137,7 @@ impl Asked<'_> {
         &self,
         flow: &PortFlow,
         place: Place,
-        copies: &mut Vec<FrameCopy>,
+        copies: &mut Vec<CopyOf<'a>>,
     ) -> Result<(), NoMemory>
         requires { HasPort self.now.tree place.at }
         ensures { OnOk result (copies.new.items ≡ copies.old.items
@@ -146,7 +145,8 @@ impl Asked<'_> {
             (handed_by self.now.frames (Some flow.now))) }
     {
         let rate = flow.input.rate;
-        copies.reserve(flow.fates.len())?;
+        // No more copies depart than the shaper was given.
+        copies.reserve(flow.input.arrivals.len())?;
         for (number, fate) in flow.fates.as_slice() {
             self.add_departed(place, rate, *number, *fate, copies)?;
         }
@@ -160,7 +160,7 @@ impl Asked<'_> {
         rate: Rate,
         number: u32,
         fate: Fate,
-        copies: &mut Vec<FrameCopy>,
+        copies: &mut Vec<CopyOf<'a>>,
     ) -> Result<(), NoMemory>
         requires { HasPort self.now.tree place.at }
         ensures { OnOk result (copies.new.items ≡ copies.old.items
@@ -181,7 +181,7 @@ impl Asked<'_> {
         place: Place,
         number: u32,
         moment: u128,
-        copies: &mut Vec<FrameCopy>,
+        copies: &mut Vec<CopyOf<'a>>,
     ) -> Result<(), NoMemory>
         requires moment { moment ≤ 2 ^ 80 }
         requires port { HasPort self.now.tree place.at }
@@ -191,7 +191,7 @@ impl Asked<'_> {
     {
         self.keeps();
         match self.frame(number) {
-            Some(f) => self.add_copy(place, &f, moment, copies),
+            Some(f) => self.add_copy(place, f, moment, copies),
             None => Ok(()),
         }
     }
@@ -205,8 +205,8 @@ impl Asked<'_> {
     }
 
     /// The frame of a number.
-    fn frame(&self, number: u32) -> Option<Frame>
-        ensures { result ≡ frame_of self.now.frames number }
+    fn frame(&self, number: u32) -> Option<&'a Frame>
+        ensures { option_map (λ f. f.now) result ≡ frame_of self.now.frames number }
     {
         frame_of(self.frames, number)
     }
@@ -215,9 +215,9 @@ impl Asked<'_> {
     fn add_copy(
         &self,
         place: Place,
-        frame: &Frame,
+        frame: &'a Frame,
         moment: u128,
-        copies: &mut Vec<FrameCopy>,
+        copies: &mut Vec<CopyOf<'a>>,
     ) -> Result<(), NoMemory>
         requires moment { moment ≤ 2 ^ 80 }
         requires route { IsRoute self.now.tree frame.now.route }
@@ -229,10 +229,7 @@ impl Asked<'_> {
         let bit = bit_from(place.rate, moment);
         let end = bits_of_ticks(place.rate, self.ticks);
         if bit < u128::from(end) && goes_by(self.tree, place.at, frame.route) {
-            copies.push(FrameCopy {
-                bit: bit as u64,
-                frame: *frame,
-            })?;
+            copies.push(CopyOf::new(bit as u64, frame))?;
         }
         Ok(())
     }
@@ -240,18 +237,18 @@ impl Asked<'_> {
 
 /// Puts copies in order of bit time, ties by number. Those that come over one link mostly are in order, which
 /// the sort that keeps ties in place makes use of.
-fn put_in_order(copies: &mut Vec<FrameCopy>) -> Result<(), NoMemory>
+fn put_in_order(copies: &mut Vec<CopyOf>) -> Result<(), NoMemory>
     ensures same { IsPermutation copies.old.items copies.new.items }
     ensures order { OnOk result (IsInOrder copies.new.items) }
 {
-    copies.sort_by_key(|c| (c.bit, c.frame.number))?;
+    copies.sort_by_key(|c| (c.bit(), c.frame().number))?;
     Ok(())
 }
 
 /// The frame of a number. Frames that are numbered without a gap are found at once.
-fn frame_of(frames: &[Frame], number: u32) -> Option<Frame>
+fn frame_of(frames: &[Frame], number: u32) -> Option<&Frame>
     requires { AllPairs (λ f g. f.number < g.number) frames.now }
-    ensures { result ≡ frame_of frames.now number }
+    ensures { option_map (λ f. f.now) result ≡ frame_of frames.now number }
 {
     find_first(frames, u64::from(number), guess(frames, number))
 }

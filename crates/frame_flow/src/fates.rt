@@ -7,7 +7,7 @@ ghost use Rattle.frame_flow.specs.Flow.{input_of, flow_of_copies, sent_fate};
 ghost use Rattle.frame_flow.specs.Steps.{fate_by, fates_by};
 
 use crate::force::slopes_over;
-use crate::frame::FrameCopy;
+use crate::frame::CopyOf;
 use crate::moments::bits_of_ticks;
 use crate::place::Place;
 use crate::result::{Fate, PortFlow};
@@ -23,7 +23,7 @@ pub(crate) fn flow_of_copies(
     ticks: u64,
     place: Place,
     changes: &[&PortChange],
-    copies: &[FrameCopy],
+    copies: &[CopyOf],
 ) -> Result<PortFlow, NoMemory>
     requires ticks { ticks ≤ 12000 }
     requires order { IsNonDecreasingBy (λ c. c.now.tick) changes.now }

@@ -1,7 +1,7 @@
 //! Lists whose elements ascend by a number of theirs, and what is found in them: at once where the
 //! caller's guess is right, and else by halves.
 
-ghost use Rattle.std.specs.Prelude.{◌≡◌, ◌-◌, ◌<◌, ◌≤◌, ◌==◌, ◌↔◌, HoldsAt, IsTrue, find, length};
+ghost use Rattle.std.specs.Prelude.{◌≡◌, ◌-◌, ◌<◌, ◌≤◌, ◌==◌, ◌↔◌, HoldsAt, IsTrue, find, length, option_map};
 ghost use Rattle.std.specs.List.{AllWithin};
 ghost use Rattle.std.specs.List.Sorted.{IsNonDecreasingBy};
 
@@ -46,13 +46,13 @@ impl Numbered for &PortChange {
 }
 
 /// The first element of a number.
-pub(crate) fn find_first<T: Numbered + Copy>(items: &[T], number: u64, guess: usize) -> Option<T>
+pub(crate) fn find_first<T: Numbered>(items: &[T], number: u64, guess: usize) -> Option<&T>
     requires { IsNonDecreasingBy T.number items.now }
-    ensures { result ≡ find (λ x. T.number x == number) items.now }
+    ensures { option_map (λ x. x.now) result ≡ find (λ x. T.number x == number) items.now }
 {
     let at = first_from(items, number, guess);
     if is_at(items, number, at) {
-        Some(items[at])
+        Some(&items[at])
     } else {
         None
     }

@@ -95,7 +95,7 @@ impl Sent for ByOrder {
     ghost departures = { λ s. s };
 
     fn first(&self, number: u32) -> Option<Departure> {
-        find_first(self.sent.as_slice(), u64::from(number), 0)
+        find_first(self.sent.as_slice(), u64::from(number), 0).copied()
     }
 }
 

@@ -57,7 +57,7 @@ pub fn flow(
         changes: timeline.changes.as_slice(),
         frames,
         ticks,
-        own: &own,
+        own,
     };
     let ports = asked.flows(alloc)?;
     Ok(FlowResult {

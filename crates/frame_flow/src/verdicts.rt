@@ -6,7 +6,7 @@ ghost use Rattle.frame_flow.specs.Flow.{is_unbooked, traffic_of, arrival_of, may
 ghost use Rattle.frame_flow.specs.Steps.{IsInForce, verdict_of, verdicts_of, arrivals_of};
 
 use crate::force::{InForce, has_booked, has_vid, newest};
-use crate::frame::{FrameCopy, Route};
+use crate::frame::{CopyOf, Route};
 use credit_shaper::{Arrival, Traffic};
 use srp_base::{NoMemory, PortChange, Rate};
 use std::alloc::Global;
@@ -35,7 +35,7 @@ impl Verdicts {
         alloc: Global,
         rate: Rate,
         changes: &[&PortChange],
-        copies: &[FrameCopy],
+        copies: &[CopyOf],
     ) -> Result<Verdicts, NoMemory>
         requires { IsNonDecreasingBy (λ c. c.now.tick) changes.now }
         ensures all { IfOk result (λ v. v.all.items
@@ -50,14 +50,14 @@ impl Verdicts {
         verdicts.all.reserve(copies.len())?;
         let mut force = InForce::nowhere();
         for c in copies {
-            force = force.moved(rate, changes, c.bit);
+            force = force.moved(rate, changes, c.bit());
             verdicts.add(c, newest(changes, force.come))?;
         }
         Ok(verdicts)
     }
 
     /// Adds the verdict on a copy, by what is in force.
-    fn add(&mut self, c: &FrameCopy, force: Option<&PortChange>) -> Result<(), NoMemory>
+    fn add(&mut self, c: &CopyOf, force: Option<&PortChange>) -> Result<(), NoMemory>
         ensures all { OnOk result (self.new.all.items ≡ self.old.all.items
             ++ (c.now.frame.number, verdict_of (option_map (λ c. c.now) force.entry) c.now) ∷ []) }
         ensures arrivals { OnOk result (self.new.arrivals.items ≡ self.old.arrivals.items
@@ -65,7 +65,7 @@ impl Verdicts {
             (filter (λ c. may_send c (option_map (λ c. c.now) force.entry)) (c.now ∷ []))) }
     {
         let verdict = verdict_of(c, force);
-        self.all.push((c.frame.number, verdict))?;
+        self.all.push((c.frame().number, verdict))?;
         match verdict {
             Verdict::MaySend => Ok(self.arrivals.push(arrival_of(c))?),
             Verdict::NotBooked | Verdict::NotInVlan => Ok(()),
@@ -74,12 +74,12 @@ impl Verdicts {
 }
 
 /// The verdict on a copy, by what is in force.
-fn verdict_of(c: &FrameCopy, force: Option<&PortChange>) -> Verdict
+fn verdict_of(c: &CopyOf, force: Option<&PortChange>) -> Verdict
     ensures { result ≡ verdict_of (option_map (λ c. c.now) force.entry) c.now }
 {
-    if is_unbooked(c.frame.route, force) {
+    if is_unbooked(c.frame().route, force) {
         Verdict::NotBooked
-    } else if has_vid(c.frame.vid, force) {
+    } else if has_vid(c.frame().vid, force) {
         Verdict::MaySend
     } else {
         Verdict::NotInVlan
@@ -97,14 +97,15 @@ fn is_unbooked(route: Route, force: Option<&PortChange>) -> bool
 }
 
 /// A copy as the shaper is given it.
-fn arrival_of(c: &FrameCopy) -> Arrival
+fn arrival_of(c: &CopyOf) -> Arrival
     ensures { result ≡ arrival_of c.now }
 {
+    let frame = c.frame();
     Arrival {
-        bit: c.bit,
-        traffic: traffic_of(c.frame.route),
-        bits: c.frame.bits,
-        frame: c.frame.number,
+        bit: c.bit(),
+        traffic: traffic_of(frame.route),
+        bits: frame.bits,
+        frame: frame.number,
     }
 }
 

@@ -1,4 +1,5 @@
 pub mod DepartureLemmas
+pub mod FateLemmas
 pub mod HeardLemmas
 pub mod LinkPorts
 pub mod PeerLemmas

@@ -1,4 +1,5 @@
 pub mod Counts
+pub mod Fates
 pub mod FrameLines
 pub mod JournalText
 pub mod Lines

@@ -1,17 +1,22 @@
 //! The lines of the frames.
 
-ghost use Rattle.std.specs.Prelude.{◌≡◌, ◌++◌, codes, flat_map, OnOk};
+ghost use Rattle.std.specs.Prelude.{◌≡◌, ◌++◌, ℕ, List, codes, flat_map, IfOk, OnOk};
 ghost use Rattle.std.specs.Fmt.{decimal};
-ghost use Rattle.srp_report.specs.FrameLines.{is_departed as is_departed_spec, is_unbooked as is_unbooked_spec, is_novlan as is_novlan_spec, is_left as is_left_spec, fates_count, frames_line, depart_line, fates_lines, flow_part, flow_parts};
+ghost use Rattle.frame_flow.specs.declared.result.Fate.{Fate};
+ghost use Rattle.srp_report.specs.FrameLines.{frames_line, depart_line, fates_lines, flow_part, flow_parts};
+ghost use Rattle.srp_report.specs.Fates.{fate_counts, line_start as line_start_spec, line_from};
 
-use crate::departures::{SentFrame, departures};
+use crate::departures::{FateCounts, Outcomes, SentFrame};
 use crate::lines::{put, put_number};
 use crate::names::port_name;
-use frame_flow::{Fate, FlowResult, PortFlow};
+use frame_flow::{FlowResult, PortFlow};
 use srp_base::NoMemory;
-use std::alloc::AllocError;
+use std::alloc::{AllocError, Global};
 use topology_file::Scenario;
 use tree_topology::Tree;
+
+// About how many octets the line of a departure takes.
+const LINE: usize = 80;
 
 /// The lines of the frames at all ports, where the scenario has frames.
 pub(crate) fn put_flows(
@@ -26,7 +31,23 @@ pub(crate) fn put_flows(
     if scenario.frames.len() == 0 {
         return Ok(());
     }
+    reserve_lines(out, flow.ports.as_slice());
     put_each(out, scenario, tree, flow.ports.as_slice())
+}
+
+// Takes the memory for the lines of the departures at these ports at once, where it is there: a text that grows
+// little by little is moved again and again.
+fn reserve_lines(out: &mut Vec<u8>, flows: &[PortFlow])
+    ensures { out.new.items ≡ out.old.items }
+{
+    let mut count = 0usize;
+    for flow in flows {
+        count = count.saturating_add(flow.input.arrivals.len());
+    }
+    // The lines may take less, so that a refusal is no want of memory yet.
+    match out.reserve(count.saturating_mul(LINE)) {
+        Ok(()) | Err(_) => {}
+    }
 }
 
 // The lines of the frames at these ports.
@@ -57,80 +78,39 @@ fn put_flow(
 {
     let alloc = *out.allocator();
     let port = port_name(alloc, scenario, tree, flow.at)?;
-    let fates = flow.fates.as_slice();
-    put_counts(out, port.as_slice(), fates)?;
-    let sent = departures(alloc, fates)?;
-    put_departures(out, port.as_slice(), sent.as_slice())?;
+    put_fates(out, port.as_slice(), flow)
+}
+
+// The lines of what became of the copies at a port of this name.
+fn put_fates(out: &mut Vec<u8>, port: &[u8], flow: &PortFlow) -> Result<(), NoMemory>
+    ensures { OnOk result (out.new.items
+        ≡ out.old.items ++ fates_lines port.now flow.now.fates) }
+{
+    let alloc = *out.allocator();
+    let Outcomes { counts, sent } = Outcomes::of(alloc, flow)?;
+    put_counts(out, port, counts)?;
+    put_departures(out, port, sent.as_slice())?;
     Ok(())
 }
 
 // The line of how many copies came to which fate.
-fn put_counts(out: &mut Vec<u8>, port: &[u8], fates: &[(u32, Fate)]) -> Result<(), AllocError>
-    ensures { OnOk result (out.new.items ≡ out.old.items ++ frames_line port.now fates.now) }
+fn put_counts(out: &mut Vec<u8>, port: &[u8], counts: FateCounts) -> Result<(), AllocError>
+    ensures { (fates : List (ℕ × Fate)) → counts ≡ fate_counts fates
+        → OnOk result (out.new.items ≡ out.old.items ++ frames_line port.now fates) }
 {
     let alloc = *out.allocator();
-    let departed = count_departed(fates);
-    let unbooked = count_unbooked(fates);
-    let novlan = count_novlan(fates);
-    let left = count_left(fates);
-    let counts = format!(in alloc;
+    let FateCounts {
+        departed,
+        unbooked,
+        novlan,
+        left,
+    } = counts;
+    let text = format!(in alloc;
         " departed {departed} unbooked {unbooked} novlan {novlan} left {left}\n"
     )?;
     put(out, "frames ")?;
     out.extend_from_slice(port)?;
-    put(out, &counts)
-}
-
-// How many copies depart.
-fn count_departed(fates: &[(u32, Fate)]) -> usize
-    ensures { result ≡ fates_count is_departed_spec fates.now }
-{
-    fates.iter().filter(|e| is_departed(e.1)).count()
-}
-
-// How many are dropped for want of a booking.
-fn count_unbooked(fates: &[(u32, Fate)]) -> usize
-    ensures { result ≡ fates_count is_unbooked_spec fates.now }
-{
-    fates.iter().filter(|e| is_unbooked(e.1)).count()
-}
-
-// How many are dropped for want of a VID.
-fn count_novlan(fates: &[(u32, Fate)]) -> usize
-    ensures { result ≡ fates_count is_novlan_spec fates.now }
-{
-    fates.iter().filter(|e| is_novlan(e.1)).count()
-}
-
-// How many are left at the end.
-fn count_left(fates: &[(u32, Fate)]) -> usize
-    ensures { result ≡ fates_count is_left_spec fates.now }
-{
-    fates.iter().filter(|e| is_left(e.1)).count()
-}
-
-fn is_departed(fate: Fate) -> bool
-    ensures { result ≡ is_departed_spec fate }
-{
-    matches!(fate, Fate::Departed { .. })
-}
-
-fn is_unbooked(fate: Fate) -> bool
-    ensures { result ≡ is_unbooked_spec fate }
-{
-    matches!(fate, Fate::Unbooked)
-}
-
-fn is_novlan(fate: Fate) -> bool
-    ensures { result ≡ is_novlan_spec fate }
-{
-    matches!(fate, Fate::NoVlan)
-}
-
-fn is_left(fate: Fate) -> bool
-    ensures { result ≡ is_left_spec fate }
-{
-    matches!(fate, Fate::Left)
+    put(out, &text)
 }
 
 // The lines of the copies that depart.
@@ -138,27 +118,47 @@ fn put_departures(out: &mut Vec<u8>, port: &[u8], sent: &[SentFrame]) -> Result<
     ensures { OnOk result (out.new.items
         ≡ out.old.items ++ flat_map (depart_line port.now) sent.now) }
 {
+    let alloc = *out.allocator();
+    let start = line_start(alloc, port)?;
+    put_lines(out, start.as_slice(), sent)
+}
+
+// How the line of a departure from a port begins.
+fn line_start(alloc: Global, port: &[u8]) -> Result<Vec<u8>, AllocError>
+    ensures { IfOk result (λ v. v.items ≡ line_start_spec port.now) }
+{
+    let mut start = Vec::new(alloc);
+    put(&mut start, "depart ")?;
+    start.extend_from_slice(port)?;
+    put(&mut start, " frame ")?;
+    Ok(start)
+}
+
+// The lines of the copies that depart, each beginning so.
+fn put_lines(out: &mut Vec<u8>, start: &[u8], sent: &[SentFrame]) -> Result<(), AllocError>
+    ensures { OnOk result (out.new.items
+        ≡ out.old.items ++ flat_map (line_from start.now) sent.now) }
+{
     for d in sent {
-        put_departure(out, port, *d)?;
+        put_line(out, start, *d)?;
     }
     Ok(())
 }
 
 // The line of a copy that departs.
-fn put_departure(out: &mut Vec<u8>, port: &[u8], d: SentFrame) -> Result<(), AllocError>
-    ensures { OnOk result (out.new.items ≡ out.old.items ++ depart_line port.now d) }
+fn put_line(out: &mut Vec<u8>, start: &[u8], d: SentFrame) -> Result<(), AllocError>
+    ensures { OnOk result (out.new.items ≡ out.old.items ++ line_from start.now d) }
 {
-    put(out, "depart ")?;
-    out.extend_from_slice(port)?;
+    out.extend_from_slice(start)?;
     put_times(out, d)
 }
 
 // A copy's frame, and from when to when it departs.
 fn put_times(out: &mut Vec<u8>, d: SentFrame) -> Result<(), AllocError>
-    ensures { OnOk result (out.new.items ≡ out.old.items ++ codes " frame " ++ decimal d.frame
+    ensures { OnOk result (out.new.items ≡ out.old.items ++ decimal d.frame
         ++ codes " start " ++ decimal d.start ++ codes " end " ++ decimal d.end ++ codes "\n") }
 {
-    put_labelled(out, " frame ", u64::from(d.frame))?;
+    put_number(out, u64::from(d.frame))?;
     put_labelled(out, " start ", d.start)?;
     put_labelled(out, " end ", d.end)?;
     put(out, "\n")

@@ -29,8 +29,8 @@
 //! (`specs/JournalText.antt`) is a function of the scenario and any ticks.
 //!
 //! The journal is read once for the report, for all ports together: a tally for each port, at the place of its numbers,
-//! in `tallies.rt`. The report asks for the tally of a port when it comes to its line. The departures of a port are
-//! sorted by start at once; the definition puts each in its place.
+//! in `tallies.rt`. The report asks for the tally of a port when it comes to its line. The fates of a port are read once
+//! too, in `departures.rt`; its departures are then sorted by start at once, where the definition puts each in its place.
 //!
 //! A further kind of attribute is a line in `specs/Lines.antt` with its case of `key_line` or `srp_line`, and its writer
 //! in `lines.rt` with its arm of `put_key` or `put_srp`. A further line of a port is a definition there and a piece at the
