@@ -3,9 +3,8 @@
 ghost use Rattle.std.specs.Prelude.{◌≡◌, ◌≤◌, IfSome, OnOk};
 
 use port_ledger::Ledger;
-use srp_base::{Class, Cs, Percent, Rank, Rate, StreamId};
+use srp_base::{Class, Cs, NoMemory, Percent, Rank, Rate, StreamId};
 use std::alloc::Global;
-use std::process::Abort;
 use std::test::Fail;
 use stream_importance::{Entry, Fit, Want};
 
@@ -33,92 +32,115 @@ fn want_of(stream: u64, class: Class, rank: Rank, slope: u64) -> Want {
     }
 }
 
-/// Takes a want and compares what changed.
-fn take(
-    rt: &impl Abort,
-    ledger: &mut Ledger,
-    now: Cs,
-    want: Want,
-    booked: &[StreamId],
-    dropped: &[StreamId],
-) -> Result<(), Fail>
+/// A want of a small stream of class A and rank 1.
+fn small(stream: u64) -> Want {
+    want_of(stream, Class::A, Rank::Normal, SMALL)
+}
+
+/// Whether a want is taken with these streams newly booked, and no others dropped.
+fn takes(ledger: &mut Ledger, now: Cs, want: Want, booked: &[StreamId]) -> Result<bool, NoMemory>
     requires { ledger.old.moment ≤ now.0 }
     ensures { OnOk result (ledger.new.moment ≡ now.0) }
 {
     let changed = ledger.want(now, want)?;
-    assert_eq!(rt; changed.booked.as_slice(), booked);
-    assert_eq!(rt; changed.dropped.as_slice(), dropped);
-    assert!(rt; ledger.wants(want.stream));
-    Ok(())
+    let expected = changed.booked.as_slice() == booked && changed.dropped.is_empty();
+    Ok(expected && ledger.wants(want.stream))
 }
 
-#[test]
-fn four_of_five_equal_streams_fit(rt: HostRuntime) -> Result<(), Fail> {
-    let mut ledger = ledger(rt.alloc(), 75, 0).ok_or("percentages")?;
-    assert!(rt; !ledger.wants(StreamId(1)));
-    for stream in 1..6u64 {
-        let want = want_of(stream, Class::A, Rank::Normal, SMALL);
-        let new = [StreamId(stream)];
-        let booked: &[StreamId] = if stream < 5 { &new } else { &[] };
-        take(&rt, &mut ledger, Cs(0), want, booked, &[])?;
-    }
-    let fifth = want_of(5, Class::A, Rank::Normal, SMALL);
+/// Whether the fifth of five small streams is refused at moment 0, and the fourth booked.
+fn refuses_the_fifth(ledger: &Ledger) -> bool
+    requires { ledger.now.moment ≡ 0 }
+{
     let refused = Fit::TooLittle {
         more_important: 61_952_000,
         cap: 75_000_000,
         code: 1,
     };
-    assert_eq!(rt; ledger.fits(Cs(0), &fifth), refused);
-    assert_eq!(rt; ledger.booked(StreamId(4)), Some(Cs(0)));
-    assert_eq!(rt; ledger.booked(StreamId(5)), None);
-    assert_eq!(rt; ledger.slope(Class::A), 61_952_000);
-    assert_eq!(rt; ledger.slope(Class::B), 0);
+    let fourth = ledger.booked(StreamId(4)) == Some(Cs(0));
+    fourth && ledger.booked(StreamId(5)).is_none() && ledger.fits(Cs(0), &small(5)) == refused
+}
+
+#[test]
+fn four_of_five_equal_streams_fit(rt: HostRuntime) -> Result<(), Fail> {
+    let mut ledger = ledger(rt.alloc(), 75, 0).ok_or("percentages")?;
+    for stream in 1..6u64 {
+        let new = [StreamId(stream)];
+        let booked: &[StreamId] = if stream < 5 { &new } else { &[] };
+        assert!(rt; takes(&mut ledger, Cs(0), small(stream), booked)?);
+    }
+    assert!(rt; refuses_the_fifth(&ledger));
+    assert!(rt; ledger.slope(Class::A) == 61_952_000 && ledger.slope(Class::B) == 0);
     Ok(())
+}
+
+/// Whether streams from 1 on are booked since these moments.
+fn are_booked(ledger: &Ledger, moments: &[Option<u64>]) -> bool {
+    for (stream, moment) in (1..6u64).zip(moments.iter()) {
+        if ledger.booked(StreamId(stream)) != moment.map(Cs) {
+            return false;
+        }
+    }
+    true
 }
 
 #[test]
 fn what_a_stream_leaves_is_decided_anew(rt: HostRuntime) -> Result<(), Fail> {
     let mut ledger = ledger(rt.alloc(), 75, 0).ok_or("percentages")?;
     for stream in 1..6u64 {
-        let want = want_of(stream, Class::A, Rank::Normal, SMALL);
-        ledger.want(Cs(stream - 1), want)?;
+        ledger.want(Cs(stream - 1), small(stream))?;
     }
     assert!(rt; ledger.unwant(Cs(5), StreamId(1)));
-    let since = [None, Some(1), Some(2), Some(3), Some(5)];
-    for (stream, moment) in (1..6u64).zip(since) {
-        assert_eq!(rt; ledger.booked(StreamId(stream)), moment.map(Cs));
-    }
+    assert!(rt; are_booked(&ledger, &[None, Some(1), Some(2), Some(3), Some(5)]));
     assert!(rt; !ledger.unwant(Cs(5), StreamId(1)));
     assert!(rt; ledger.clock(Cs(6)));
     assert!(rt; !ledger.clock(Cs(7)));
     Ok(())
 }
 
-#[test]
-fn entries_and_bookings_ascend(rt: HostRuntime) -> Result<(), Fail> {
-    let mut ledger = ledger(rt.alloc(), 20, 0).ok_or("percentages")?;
-    ledger.want(Cs(0), want_of(9, Class::A, Rank::Normal, SMALL))?;
-    let before = ledger.bookings()?;
-    let other = ledger.copy()?;
+/// An emergency stream, 3, that took the place of another, 9.
+fn evicted(alloc: Global) -> Result<Ledger, Fail> {
+    let mut ledger = ledger(alloc, 20, 0).ok_or("percentages")?;
+    ledger.want(Cs(0), small(9))?;
     ledger.want(Cs(1), want_of(3, Class::A, Rank::Emergency, SMALL))?;
-    let low = Entry {
+    Ok(ledger)
+}
+
+/// Their entries.
+fn low() -> Entry {
+    Entry {
         want: want_of(3, Class::A, Rank::Emergency, SMALL),
         since: Some(Cs(1)),
-    };
-    let high = Entry {
-        want: want_of(9, Class::A, Rank::Normal, SMALL),
+    }
+}
+
+fn high() -> Entry {
+    Entry {
+        want: small(9),
         since: None,
+    }
+}
+
+#[test]
+fn entries_ascend(rt: HostRuntime) -> Result<(), Fail> {
+    let ledger = evicted(rt.alloc())?;
+    assert!(rt; ledger.len() == 2 && ledger.entry_at(2).is_none());
+    assert!(rt; ledger.entry_at(0) == Some(low()) && ledger.entry_at(1) == Some(high()));
+    assert!(rt; ledger.entry(StreamId(9)) == Some(high()));
+    assert!(rt; ledger.entry(StreamId(4)).is_none());
+    Ok(())
+}
+
+#[test]
+fn bookings_are_compared(rt: HostRuntime) -> Result<(), Fail> {
+    let ledger = evicted(rt.alloc())?;
+    let booked = ledger.copy()?.bookings()?;
+    assert!(rt; booked.as_slice() == [low()].as_slice());
+    let before = Entry {
+        want: small(9),
+        since: Some(Cs(0)),
     };
-    assert_eq!(rt; ledger.bookings()?.as_slice(), [low].as_slice());
-    assert_eq!(rt; ledger.entry(StreamId(9)), Some(high));
-    assert_eq!(rt; ledger.entry(StreamId(4)), None);
-    assert_eq!(rt; ledger.len(), 2);
-    assert_eq!(rt; ledger.entry_at(0), Some(low));
-    assert_eq!(rt; ledger.entry_at(1), Some(high));
-    assert_eq!(rt; ledger.entry_at(2), None);
-    assert_eq!(rt; other.booked(StreamId(9)), Some(Cs(0)));
-    let changed = ledger.changes_since(before.as_slice())?;
-    assert_eq!(rt; changed.booked.as_slice(), [StreamId(3)].as_slice());
-    assert_eq!(rt; changed.dropped.as_slice(), [StreamId(9)].as_slice());
+    let changed = ledger.changes_since([before].as_slice())?;
+    assert!(rt; changed.booked.as_slice() == [StreamId(3)].as_slice());
+    assert!(rt; changed.dropped.as_slice() == [StreamId(9)].as_slice());
     Ok(())
 }

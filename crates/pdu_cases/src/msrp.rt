@@ -9,7 +9,12 @@ use srp_base::{
 use std::alloc::Global;
 use std::test::Fail;
 
+/// What a PDU says of one key.
+type Event = (MrpEvent, MsrpKey, MsrpContent);
+
 const STREAM: StreamId = StreamId(0x0200_0000_0001_0001);
+
+const NEXT: StreamId = StreamId(0x0200_0000_0001_0002);
 
 /// The Talker of a stream whose destination is at the end of three octets.
 fn talker(stream: StreamId, dest: u64) -> Result<Talker, Fail>
@@ -28,11 +33,7 @@ fn talker(stream: StreamId, dest: u64) -> Result<Talker, Fail>
 }
 
 /// A LeaveAll or none, and these events.
-fn said(
-    alloc: Global,
-    leave_all: bool,
-    events: &[(MrpEvent, MsrpKey, MsrpContent)],
-) -> Result<MsrpPdu, Fail>
+fn said(alloc: Global, leave_all: bool, events: &[Event]) -> Result<MsrpPdu, Fail>
     ensures { IfOk result (λ pdu. pdu ≡ record { leave_all = leave_all; events = events.now }) }
 {
     Ok(MsrpPdu {
@@ -52,41 +53,48 @@ const ADVERTISE: [u8; 37] = [
 
 const DOMAINS: [u8; 16] = [0, 4, 4, 0, 9, 0, 2, 5, 2, 0, 2, 0x7e, 0, 0, 0, 0];
 
+/// Whether octets read as a LeaveAll or none, and these events.
+fn reads(alloc: Global, octets: &[u8], leave_all: bool, events: &[Event]) -> Result<bool, Fail> {
+    if octets.len() > 1500 {
+        return Ok(false);
+    }
+    let read = decode(alloc, octets)?;
+    Ok(read == said(alloc, leave_all, events)?)
+}
+
+fn joins_listener(stream: StreamId, kind: ListenerKind) -> Event {
+    let content = MsrpContent::Listener(kind);
+    (MrpEvent::JoinMt, MsrpKey::Listener(stream), content)
+}
+
+fn joins_talker(talker: Talker) -> Event {
+    let content = MsrpContent::Advertise(talker);
+    (MrpEvent::JoinMt, MsrpKey::Talker(talker.stream), content)
+}
+
+fn joins_domain(class: u8, priority: u8) -> Event {
+    let content = MsrpContent::Domain { priority, vid: 2 };
+    (MrpEvent::JoinMt, MsrpKey::Domain(class), content)
+}
+
 #[test]
-fn values_are_read(rt: HostRuntime) -> Result<(), Fail> {
-    let alloc = rt.alloc();
-    let join = MrpEvent::JoinMt;
-    let ready = (
-        join,
-        MsrpKey::Listener(STREAM),
-        MsrpContent::Listener(ListenerKind::Ready),
-    );
-    assert_eq!(rt; decode(alloc, &LISTENER)?, said(alloc, false, &[ready])?);
-    let t = talker(STREAM, 0x91e0_f000_fe01)?;
-    let advertised = (join, MsrpKey::Talker(STREAM), MsrpContent::Advertise(t));
-    assert_eq!(rt;
-        decode(alloc, &ADVERTISE)?,
-        said(alloc, false, &[advertised])?
-    );
-    let domains = [
-        (
-            join,
-            MsrpKey::Domain(5),
-            MsrpContent::Domain {
-                priority: 2,
-                vid: 2,
-            },
-        ),
-        (
-            join,
-            MsrpKey::Domain(6),
-            MsrpContent::Domain {
-                priority: 3,
-                vid: 2,
-            },
-        ),
-    ];
-    assert_eq!(rt; decode(alloc, &DOMAINS)?, said(alloc, false, &domains)?);
+fn a_listener_is_read(rt: HostRuntime) -> Result<(), Fail> {
+    let ready = joins_listener(STREAM, ListenerKind::Ready);
+    assert!(rt; reads(rt.alloc(), &LISTENER, false, &[ready])?);
+    Ok(())
+}
+
+#[test]
+fn a_talker_is_read(rt: HostRuntime) -> Result<(), Fail> {
+    let advertised = joins_talker(talker(STREAM, 0x91e0_f000_fe01)?);
+    assert!(rt; reads(rt.alloc(), &ADVERTISE, false, &[advertised])?);
+    Ok(())
+}
+
+#[test]
+fn two_domains_are_read(rt: HostRuntime) -> Result<(), Fail> {
+    let domains = [joins_domain(5, 2), joins_domain(6, 3)];
+    assert!(rt; reads(rt.alloc(), &DOMAINS, false, &domains)?);
     Ok(())
 }
 
@@ -102,145 +110,87 @@ const IGNORED: [u8; 22] = [
 ];
 
 #[test]
-fn values_count_up(rt: HostRuntime) -> Result<(), Fail> {
-    let alloc = rt.alloc();
-    let join = MrpEvent::JoinMt;
-    let first = talker(StreamId(0x0200_0000_ffff_ffff), 0x91e0_ffff_ffff)?;
-    let second = talker(StreamId(0x0200_0001_0000_0000), 0x91e1_0000_0000)?;
-    let carried = [
-        (
-            join,
-            MsrpKey::Talker(first.stream),
-            MsrpContent::Advertise(first),
-        ),
-        (
-            join,
-            MsrpKey::Talker(second.stream),
-            MsrpContent::Advertise(second),
-        ),
-    ];
-    assert_eq!(rt; decode(alloc, &CARRIES)?, said(alloc, false, &carried)?);
-    let third = StreamId(0x0200_0000_0001_0003);
-    let kinds = [
-        (
-            join,
-            MsrpKey::Listener(STREAM),
-            MsrpContent::Listener(ListenerKind::ReadyFailed),
-        ),
-        (
-            join,
-            MsrpKey::Listener(third),
-            MsrpContent::Listener(ListenerKind::AskingFailed),
-        ),
-    ];
-    assert_eq!(rt; decode(alloc, &IGNORED)?, said(alloc, true, &kinds)?);
+fn values_carry(rt: HostRuntime) -> Result<(), Fail> {
+    let first = joins_talker(talker(StreamId(0x0200_0000_ffff_ffff), 0x91e0_ffff_ffff)?);
+    let second = joins_talker(talker(StreamId(0x0200_0001_0000_0000), 0x91e1_0000_0000)?);
+    assert!(rt; reads(rt.alloc(), &CARRIES, false, &[first, second])?);
     Ok(())
 }
 
 #[test]
+fn a_listener_to_ignore_is_passed_over(rt: HostRuntime) -> Result<(), Fail> {
+    let first = joins_listener(STREAM, ListenerKind::ReadyFailed);
+    let third = joins_listener(StreamId(0x0200_0000_0001_0003), ListenerKind::AskingFailed);
+    assert!(rt; reads(rt.alloc(), &IGNORED, true, &[first, third])?);
+    Ok(())
+}
+
+/// Whether octets break at this place.
+fn breaks(alloc: Global, octets: &[u8], place: u32) -> bool {
+    octets.len() <= 1500 && decode(alloc, octets) == Err(DecodeErr::Malformed(place))
+}
+
+#[test]
 fn malformed_at_a_place(rt: HostRuntime) {
-    let mut domains = DOMAINS;
-    domains[7] = 255;
-    let mut later = [0u8; 27];
-    later[1] = 9;
-    later[2] = 1;
-    later[4] = 2;
-    later[7] = 4;
-    later[8] = 4;
-    later[10] = 16;
-    later[12] = 1;
-    later[18] = 0;
-    later[19] = 2;
-    later[21] = 255;
-    let cases: [(&[u8], u32); 6] = [
-        (&[0, 3, 8, 0, 1], 3),
-        (&domains, 7),
-        (&later, 20),
-        (&[], 0),
-        (&LISTENER[..20], 19),
-        (&[0, 4, 4, 0, 9, 0, 2, 5, 255, 0, 2, 216], 11),
-    ];
-    for (octets, place) in &cases {
-        assert!(rt; octets.len() <= 1500);
-        assert_eq!(rt;
-            decode(rt.alloc(), octets),
-            Err(DecodeErr::Malformed(*place))
-        );
-    }
+    assert!(rt; breaks(rt.alloc(), &[0, 3, 8, 0, 1], 3));
+    assert!(rt; breaks(rt.alloc(), &LISTENER[..20], 19));
+    assert!(rt; breaks(rt.alloc(), &[0, 4, 4, 0, 9, 0, 2, 5, 255, 0, 2, 216], 11));
 }
 
 /// A LeaveAll with the failed Talker of a stream and the advertised one of the next.
 #[test]
 fn written_by_types(rt: HostRuntime) -> Result<(), Fail> {
     let alloc = rt.alloc();
-    let second = StreamId(0x0200_0000_0001_0002);
     let failure = Failure {
         bridge: BridgeId(3),
         code: 1,
     };
     let failed = MsrpContent::Failed(talker(STREAM, 0x91e0_f000_fe01)?, failure);
-    let advertised = MsrpContent::Advertise(talker(second, 0x91e0_f000_fe02)?);
+    let advertised = MsrpContent::Advertise(talker(NEXT, 0x91e0_f000_fe02)?);
     let a = (MrpEvent::New, MsrpKey::Talker(STREAM), failed);
-    let b = (MrpEvent::JoinIn, MsrpKey::Talker(second), advertised);
+    let b = (MrpEvent::JoinIn, MsrpKey::Talker(NEXT), advertised);
     let octets = encode(alloc, &said(alloc, true, &[a, b])?)?;
-    assert_eq!(rt;
-        decode(alloc, octets.as_slice())?,
-        said(alloc, true, &[b, a])?
-    );
+    assert!(rt; reads(alloc, octets.as_slice(), true, &[b, a])?);
     Ok(())
 }
 
 #[test]
-fn written_as_it_was_read(rt: HostRuntime) -> Result<(), Fail> {
-    let alloc = rt.alloc();
-    let ready = MsrpContent::Listener(ListenerKind::Ready);
-    let pdu = said(
-        alloc,
-        false,
-        &[(MrpEvent::JoinMt, MsrpKey::Listener(STREAM), ready)],
-    )?;
-    assert_eq!(rt; encode(alloc, &pdu)?.as_slice(), LISTENER.as_slice());
-    let t = talker(STREAM, 0x91e0_f000_fe01)?;
-    let advertised = (
-        MrpEvent::JoinMt,
-        MsrpKey::Talker(STREAM),
-        MsrpContent::Advertise(t),
-    );
-    let pdu = said(alloc, false, &[advertised])?;
-    assert_eq!(rt; encode(alloc, &pdu)?.as_slice(), ADVERTISE.as_slice());
+fn a_listener_is_written(rt: HostRuntime) -> Result<(), Fail> {
+    let content = MsrpContent::Listener(ListenerKind::Ready);
+    let ready = (MrpEvent::JoinMt, MsrpKey::Listener(STREAM), content);
+    let pdu = said(rt.alloc(), false, &[ready])?;
+    assert!(rt; encode(rt.alloc(), &pdu)?.as_slice() == LISTENER.as_slice());
     Ok(())
 }
 
-/// A LeaveAll has a Message of each type, with a vector of no values and a FirstValue of zeros.
+#[test]
+fn a_talker_is_written(rt: HostRuntime) -> Result<(), Fail> {
+    let content = MsrpContent::Advertise(talker(STREAM, 0x91e0_f000_fe01)?);
+    let advertised = (MrpEvent::JoinMt, MsrpKey::Talker(STREAM), content);
+    let pdu = said(rt.alloc(), false, &[advertised])?;
+    assert!(rt; encode(rt.alloc(), &pdu)?.as_slice() == ADVERTISE.as_slice());
+    Ok(())
+}
+
+/// A LeaveAll: a Message of each type, with a vector of no values and a FirstValue of zeros.
+const LEAVE_ALL: [u8; 106] = [
+    0, 1, 25, 0, 29, 0x20, 0, 0, 0, 0, 0, 0, 0, 0, 0, 0, 0, 0, 0, 0, 0, 0, 0, 0, 0, 0, 0, 0, 0, 0,
+    0, 0, 0, 0, 2, 34, 0, 38, 0x20, 0, 0, 0, 0, 0, 0, 0, 0, 0, 0, 0, 0, 0, 0, 0, 0, 0, 0, 0, 0, 0,
+    0, 0, 0, 0, 0, 0, 0, 0, 0, 0, 0, 0, 0, 0, 0, 0, 3, 8, 0, 12, 0x20, 0, 0, 0, 0, 0, 0, 0, 0, 0,
+    0, 0, 4, 4, 0, 8, 0x20, 0, 0, 0, 0, 0, 0, 0, 0, 0,
+];
+
 #[test]
 fn a_leave_all_asks_for_every_type(rt: HostRuntime) -> Result<(), Fail> {
     let alloc = rt.alloc();
-    let mut wanted = [0u8; 106];
-    wanted[1] = 1;
-    wanted[2] = 25;
-    wanted[4] = 29;
-    wanted[5] = 0x20;
-    wanted[34] = 2;
-    wanted[35] = 34;
-    wanted[37] = 38;
-    wanted[38] = 0x20;
-    wanted[76] = 3;
-    wanted[77] = 8;
-    wanted[79] = 12;
-    wanted[80] = 0x20;
-    wanted[92] = 4;
-    wanted[93] = 4;
-    wanted[95] = 8;
-    wanted[96] = 0x20;
     let octets = encode(alloc, &said(alloc, true, &[])?)?;
-    assert_eq!(rt; octets.as_slice(), wanted.as_slice());
+    assert!(rt; octets.as_slice() == LEAVE_ALL.as_slice());
     Ok(())
 }
 
 #[test]
 fn keys_are_ordered(rt: HostRuntime) {
-    let next = StreamId(0x0200_0000_0001_0002);
-    assert!(rt; MsrpKey::Talker(STREAM) < MsrpKey::Talker(next));
-    assert!(rt; MsrpKey::Talker(next) < MsrpKey::Listener(STREAM));
-    assert!(rt; MsrpKey::Listener(next) < MsrpKey::Domain(5));
+    assert!(rt; MsrpKey::Talker(STREAM) < MsrpKey::Talker(NEXT));
+    assert!(rt; MsrpKey::Talker(NEXT) < MsrpKey::Listener(STREAM));
+    assert!(rt; MsrpKey::Listener(NEXT) < MsrpKey::Domain(5));
 }

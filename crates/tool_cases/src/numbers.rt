@@ -6,72 +6,87 @@ use srp_base::{
 use std::test::Fail;
 
 #[test]
-fn identifiers_are_sixteen_digits(rt: HostRuntime) -> Result<(), Fail> {
-    for (text, want) in [
-        ("0200000000010001", Some(0x0200_0000_0001_0001)),
-        ("ffffffffffffffff", Some(0xffff_ffff_ffff_ffff)),
-        ("FfFf0000aAaA9999", Some(0xffff_0000_aaaa_9999)),
-        ("000000000000000g", None),
-        ("00000000000000001", None),
-        ("000000000000001", None),
-        ("+00000000000001a", None),
-        ("", None),
+fn sixteen_digits_are_an_identifier(rt: HostRuntime) {
+    assert!(rt; read_hex16("0200000000010001") == Some(0x0200_0000_0001_0001));
+    assert!(rt; read_hex16("ffffffffffffffff") == Some(0xffff_ffff_ffff_ffff));
+    assert!(rt; read_hex16("FfFf0000aAaA9999") == Some(0xffff_0000_aaaa_9999));
+}
+
+#[test]
+fn other_texts_are_no_identifier(rt: HostRuntime) {
+    for text in [
+        "000000000000000g",
+        "00000000000000001",
+        "000000000000001",
+        "+00000000000001a",
+        "",
     ] {
-        assert_eq!(rt; read_hex16(text), want, "{text}");
+        assert!(rt; read_hex16(text).is_none());
     }
-    for (text, want) in [
-        ("91e0f000fe01", Some(0x91e0_f000_fe01)),
-        ("FFFFFFFFFFFF", Some(0xffff_ffff_ffff)),
-        ("91e0f000fe0", None),
-        ("91e0f000fe0x", None),
-    ] {
-        assert_eq!(rt;
-            read_hex12(text).map(|address| address.get()),
-            want,
-            "{text}"
-        );
+}
+
+/// Whether a text is this address.
+fn is_address(text: &str, address: u64) -> bool {
+    match read_hex12(text) {
+        Some(found) => found.get() == address,
+        None => false,
     }
-    let alloc = rt.alloc();
+}
+
+#[test]
+fn twelve_digits_are_an_address(rt: HostRuntime) {
+    assert!(rt; is_address("91e0f000fe01", 0x91e0_f000_fe01));
+    assert!(rt; is_address("FFFFFFFFFFFF", 0xffff_ffff_ffff));
+    assert!(rt; read_hex12("91e0f000fe0").is_none());
+    assert!(rt; read_hex12("91e0f000fe0x").is_none());
+}
+
+#[test]
+fn identifiers_are_written_as_sixteen_digits(rt: HostRuntime) -> Result<(), Fail> {
     let stream = StreamId(0x0200_0000_0001_0001);
-    assert_eq!(rt; format!(in alloc; "{stream}")?.as_str(), "0200000000010001");
+    let text = format!(in rt.alloc(); "{stream}")?;
+    assert!(rt; text.as_str() == "0200000000010001");
     let bridge = BridgeId(0xA);
-    assert_eq!(rt; format!(in alloc; "{bridge}")?.as_str(), "000000000000000a");
+    let text = format!(in rt.alloc(); "{bridge}")?;
+    assert!(rt; text.as_str() == "000000000000000a");
     Ok(())
 }
 
 #[test]
-fn numbers_have_their_ranges(rt: HostRuntime) {
-    for (number, good) in [(0u16, false), (1, true), (4_094, true), (4_095, false)] {
-        assert_eq!(rt; Vid::new(number).is_some(), good, "VID {number}");
+fn a_vid_is_1_to_4094(rt: HostRuntime) {
+    assert!(rt; Vid::new(0).is_none() && Vid::new(1).is_some());
+    assert!(rt; Vid::new(4_094).is_some() && Vid::new(4_095).is_none());
+}
+
+#[test]
+fn numbers_have_their_greatest(rt: HostRuntime) {
+    assert!(rt; Percent::new(90).is_some() && Percent::new(91).is_none());
+    assert!(rt; Priority::new(7).is_some() && Priority::new(8).is_none());
+    assert!(rt; Mac::new(0xffff_ffff_ffff).is_some() && Mac::new(0x1_0000_0000_0000).is_none());
+}
+
+/// Whether a rate in Mb/s is this one in bit/s.
+fn is_rate(mbit: u64, bits: u64) -> bool {
+    match Rate::of_mbit(mbit) {
+        Some(rate) => rate.bits() == bits,
+        None => false,
     }
-    for (number, good) in [(0u64, true), (90, true), (91, false)] {
-        assert_eq!(rt; Percent::new(number).is_some(), good, "{number} percent");
-    }
-    for (number, good) in [(0u8, true), (7, true), (8, false)] {
-        assert_eq!(rt; Priority::new(number).is_some(), good, "priority {number}");
-    }
-    for (number, good) in [(0xffff_ffff_ffffu64, true), (0x1_0000_0000_0000, false)] {
-        assert_eq!(rt; Mac::new(number).is_some(), good, "address {number}");
-    }
-    for (mbit, bits) in [
-        (100u64, 100_000_000u64),
-        (1_000, 1_000_000_000),
-        (10_000, 10_000_000_000),
-    ] {
-        assert_eq!(rt; Rate::of_mbit(mbit).map_or(0, |rate| rate.bits()), bits);
-    }
+}
+
+#[test]
+fn there_are_three_rates(rt: HostRuntime) {
+    assert!(rt; is_rate(100, 100_000_000) && is_rate(1_000, 1_000_000_000));
+    assert!(rt; is_rate(10_000, 10_000_000_000));
     assert!(rt; Rate::of_mbit(99).is_none());
 }
 
 #[test]
 fn a_list_is_its_elements(rt: HostRuntime) -> Result<(), Fail> {
-    let alloc = rt.alloc();
-    let mut one = Seq::new(alloc);
+    let mut one = Seq::new(rt.alloc());
     one.push(7u8)?;
     one.push(9)?;
-    let other = Seq::from_vec(vec![in alloc; 7u8, 9]?);
-    assert!(rt; one == other);
-    assert!(rt; one.clone()? == other);
-    assert_eq!(rt; one.into_vec().as_slice(), [7, 9].as_slice());
+    let other = Seq::from_vec(vec![in rt.alloc(); 7u8, 9]?);
+    assert!(rt; one == other && one.clone()? == other);
+    assert!(rt; one.into_vec().as_slice() == [7, 9].as_slice());
     Ok(())
 }

@@ -8,54 +8,90 @@ use std::alloc::Global;
 use std::io;
 use std::test::Fail;
 
-#[test]
-fn a_source_is_read_to_its_end(rt: HostRuntime) -> Result<(), Fail> {
-    let alloc = rt.alloc();
-    for (step, fails, limit, want) in [
-        (1usize, 0u64, 5usize, Ok(5)),
-        (3, 0, 5, Ok(5)),
-        (100, 0, 6, Ok(5)),
-        (3, 0, 4, Err(ReadErr::TooLong)),
-        (3, 3, 4, Err(ReadErr::TooLong)),
-        (2, 1, 5, Err(ReadErr::Fault)),
-        (2, 3, 5, Err(ReadErr::Fault)),
-        (2, 4, 5, Err(ReadErr::Fault)),
-        (2, 5, 5, Ok(5)),
-    ] {
-        let bytes = vec![in alloc; 1u8, 2, 3, 4, 5]?;
-        let mut source = MemSource::new(bytes, step.max(1), vec![in alloc; fails]?);
-        let found = read_len(alloc, &mut source, limit);
-        assert!(rt; found == want, "step {step} fails {fails} limit {limit}");
-    }
-    let mut plain = PlainSource::new(vec![in alloc; 8u8, 9]?, 1);
-    assert!(rt; read_all(alloc, &mut plain, 10)?.as_slice() == [8, 9].as_slice());
-    Ok(())
-}
-
 /// How many octets a source has.
 fn read_len<S: Source>(alloc: Global, source: &mut S, limit: usize) -> Result<usize, ReadErr> {
     Ok(read_all(alloc, source, limit.min(1000))?.len())
 }
 
+/// Whether reading five octets ends so, in steps of so many, with a fault at this read, within a limit.
+fn reads_five(
+    alloc: Global,
+    step: usize,
+    fails: u64,
+    limit: usize,
+    want: Result<usize, ReadErr>,
+) -> Result<bool, Fail> {
+    let bytes = vec![in alloc; 1u8, 2, 3, 4, 5]?;
+    let mut source = MemSource::new(bytes, step.max(1), vec![in alloc; fails]?);
+    Ok(read_len(alloc, &mut source, limit) == want)
+}
+
 #[test]
-fn a_text_is_written_whole_or_its_front(rt: HostRuntime) -> Result<(), Fail> {
-    let alloc = rt.alloc();
-    for (step, fails, want, held) in [
-        (1usize, 0u64, Ok(()), b"hello".as_slice()),
-        (4, 0, Ok(()), b"hello"),
-        (2, 1, Err(WriteErr::Fault { written: 0 }), b""),
-        (2, 3, Err(WriteErr::Fault { written: 4 }), b"hell"),
-        (2, 4, Ok(()), b"hello"),
-    ] {
-        let mut sink = MemSink::new(alloc, step.max(1), vec![in alloc; fails]?);
-        let done = write_whole(&mut sink, b"hello");
-        assert!(rt; done == want, "step {step} fails {fails}");
-        assert!(rt; sink.bytes() == held, "step {step} fails {fails}");
+fn a_source_is_read_to_its_end(rt: HostRuntime) -> Result<(), Fail> {
+    assert!(rt; reads_five(rt.alloc(), 1, 0, 5, Ok(5))?);
+    assert!(rt; reads_five(rt.alloc(), 3, 0, 5, Ok(5))?);
+    assert!(rt; reads_five(rt.alloc(), 100, 0, 6, Ok(5))?);
+    Ok(())
+}
+
+#[test]
+fn a_plain_source_is_read_to_its_end(rt: HostRuntime) -> Result<(), Fail> {
+    let mut plain = PlainSource::new(vec![in rt.alloc(); 8u8, 9]?, 1);
+    assert!(rt; read_all(rt.alloc(), &mut plain, 10)?.as_slice() == [8, 9].as_slice());
+    Ok(())
+}
+
+#[test]
+fn a_source_past_the_limit_is_too_long(rt: HostRuntime) -> Result<(), Fail> {
+    assert!(rt; reads_five(rt.alloc(), 3, 0, 4, Err(ReadErr::TooLong))?);
+    assert!(rt; reads_five(rt.alloc(), 3, 3, 4, Err(ReadErr::TooLong))?);
+    Ok(())
+}
+
+#[test]
+fn a_fault_ends_a_reading_that_comes_to_it(rt: HostRuntime) -> Result<(), Fail> {
+    for fails in [1, 3, 4] {
+        assert!(rt; reads_five(rt.alloc(), 2, fails, 5, Err(ReadErr::Fault))?);
     }
-    let mut plain = PlainSink::new(alloc, 3);
+    assert!(rt; reads_five(rt.alloc(), 2, 5, 5, Ok(5))?);
+    Ok(())
+}
+
+/// Whether writing `hello` in steps of so many, with a fault at this write, ends so and leaves this.
+fn writes(
+    alloc: Global,
+    step: usize,
+    fails: u64,
+    want: Result<(), WriteErr>,
+    held: &[u8],
+) -> Result<bool, Fail> {
+    let mut sink = MemSink::new(alloc, step.max(1), vec![in alloc; fails]?);
+    let done = write_whole(&mut sink, b"hello");
+    Ok(done == want && sink.bytes() == held)
+}
+
+#[test]
+fn a_text_is_written_whole(rt: HostRuntime) -> Result<(), Fail> {
+    assert!(rt; writes(rt.alloc(), 1, 0, Ok(()), b"hello")?);
+    assert!(rt; writes(rt.alloc(), 4, 0, Ok(()), b"hello")?);
+    assert!(rt; writes(rt.alloc(), 2, 4, Ok(()), b"hello")?);
+    Ok(())
+}
+
+#[test]
+fn a_fault_leaves_a_text_its_front(rt: HostRuntime) -> Result<(), Fail> {
+    let at_once = Err(WriteErr::Fault { written: 0 });
+    assert!(rt; writes(rt.alloc(), 2, 1, at_once, b"")?);
+    let later = Err(WriteErr::Fault { written: 4 });
+    assert!(rt; writes(rt.alloc(), 2, 3, later, b"hell")?);
+    Ok(())
+}
+
+#[test]
+fn a_plain_sink_takes_it_all(rt: HostRuntime) {
+    let mut plain = PlainSink::new(rt.alloc(), 3);
     assert!(rt; write_whole(&mut plain, b"hello").is_ok());
     assert!(rt; plain.bytes() == b"hello".as_slice());
-    Ok(())
 }
 
 /// A reader and writer that gives and takes nothing, or fails.
@@ -97,18 +133,19 @@ fn is_write_fault(fails: bool) -> bool {
 }
 
 #[test]
-fn std_readers_and_writers_serve(rt: HostRuntime) -> Result<(), Fail> {
-    let alloc = rt.alloc();
+fn std_readers_serve(rt: HostRuntime) -> Result<(), Fail> {
     let mut source = StdSource::new(b"hello".as_slice());
-    assert!(rt; read_all(alloc, &mut source, 10)?.as_slice() == b"hello".as_slice());
-    assert!(rt; is_read_fault(alloc, true));
-    assert!(rt; !is_read_fault(alloc, false));
+    assert!(rt; read_all(rt.alloc(), &mut source, 10)?.as_slice() == b"hello".as_slice());
+    assert!(rt; is_read_fault(rt.alloc(), true) && !is_read_fault(rt.alloc(), false));
+    Ok(())
+}
+
+#[test]
+fn std_writers_serve(rt: HostRuntime) {
     let mut room = [0u8; 3];
     let done = write_whole(&mut StdSink::new(room.as_mut_slice()), b"hello");
     assert!(rt; done == Err(WriteErr::Fault { written: 3 }));
     assert!(rt; room.as_slice() == b"hel".as_slice());
     // A write that takes nothing of a piece is a fault, and so is one that fails.
-    assert!(rt; is_write_fault(true));
-    assert!(rt; is_write_fault(false));
-    Ok(())
+    assert!(rt; is_write_fault(true) && is_write_fault(false));
 }
