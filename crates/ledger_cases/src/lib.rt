@@ -1,5 +1,6 @@
-//! Worked cases of bandwidth at one port: which of two streams goes first (`stream_importance`), what is booked
-//! (`port_ledger`), and what a port declares of Talkers (`msrp_talker`) and Listeners (`msrp_listener`). The crate has tests alone, called as a user calls, since a crate
+//! Worked cases of bandwidth at one port: which of two streams goes first (`stream_importance`),
+//! what is booked (`port_ledger`), and what a port declares of Talkers (`msrp_talker`) and
+//! Listeners (`msrp_listener`). The crate has tests alone, called as a user calls, since a crate
 //! with tests beside its code is proved once more with them.
 #![tactic(auto)]
 

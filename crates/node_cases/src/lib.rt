@@ -1,6 +1,6 @@
-//! Worked cases of a node: what a port declares of others' registrations (`attribute_propagation`), its MVRP (`mvrp`), and
-//! MVRP and MSRP together (`node_core`). The crate has tests alone, called as a user calls, since a crate
-//! with tests beside its code is proved once more with them.
+//! Worked cases of a node: what a port declares of others' registrations (`attribute_propagation`),
+//! its MVRP (`mvrp`), and MVRP and MSRP together (`node_core`). The crate has tests alone, called
+//! as a user calls, since a crate with tests beside its code is proved once more with them.
 #![tactic(auto)]
 
 #[cfg(test)]

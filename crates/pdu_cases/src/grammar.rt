@@ -1,5 +1,5 @@
-//! PDUs of the grammar that all applications share (IEEE Std 802.1Q-2018, 10.8), written and read. Many broken ones, cut at
-//! every length, are the files of examples/pdus/.
+//! PDUs of the grammar that all applications share (IEEE Std 802.1Q-2018, 10.8), written and read.
+//! Many broken ones, cut at every length, are the files of examples/pdus/.
 
 use mrpdu_codec::{
     AppForm, DecodeErr, Message, Pdu, VectorAttr, decode, encode, number_in, put_number, size_of,

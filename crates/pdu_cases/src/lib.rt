@@ -1,5 +1,5 @@
-//! Worked PDUs: of the grammar that all applications share (`mrpdu_codec`), of MVRP (`mvrp_codec`) and of MSRP
-//! (`msrp_codec`). The crate has tests alone, called as a user calls, since a crate
+//! Worked PDUs: of the grammar that all applications share (`mrpdu_codec`), of MVRP (`mvrp_codec`)
+//! and of MSRP (`msrp_codec`). The crate has tests alone, called as a user calls, since a crate
 //! with tests beside its code is proved once more with them.
 #![tactic(auto)]
 

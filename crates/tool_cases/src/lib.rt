@@ -1,6 +1,6 @@
-//! Worked cases of the words and tools of all: numbers and lists (`srp_base`), sources and sinks that fail (`srp_io`), and rules
-//! on TOML (`toml_rules`). The crate has tests alone, called as a user calls, since a crate
-//! with tests beside its code is proved once more with them.
+//! Worked cases of the words and tools of all: numbers and lists (`srp_base`), sources and sinks
+//! that fail (`srp_io`), and rules on TOML (`toml_rules`). The crate has tests alone, called as a
+//! user calls, since a crate with tests beside its code is proved once more with them.
 #![tactic(auto)]
 
 #[cfg(test)]
