@@ -1,6 +1,7 @@
 //! The frames of a scenario of both routes, its rates, and its flow.
 //!
-//! The calls stand in functions of their own without contracts, so that a test's own proof is short.
+//! The calls stand in functions of their own without contracts, so that a test's own proof is
+//! short.
 
 use credit_shaper::Traffic;
 use frame_flow::{Fate, FlowResult, Frame, Route};
@@ -10,8 +11,8 @@ use std::alloc::Global;
 use std::test::Fail;
 use topology_file::{Scenario, read_scenario};
 
-/// Two stations with a link between them, two streams, of class A and of class B, and frames of both,
-/// and between the stations.
+/// Two stations with a link between them, two streams, of class A and of class B, and frames of
+/// both, and between the stations.
 const PAIR: &str = "ticks = 22\n\
     node = [{ name = 'a', kind = 'station' }, { name = 'b', kind = 'station' }]\n\
     link = [{ a = 'a', b = 'b', rate = 1000 }]\n\
@@ -19,7 +20,8 @@ const PAIR: &str = "ticks = 22\n\
     octets = 80, frames = 1 }, { name = 'm', id = '00000000000000cd', talker = 'b', \
     dest = '91e0f0000002', octets = 80, frames = 1, vid = 5, priority = 2 }]\n\
     frame = [{ stream = 'k', octets = 80, at = 1000, count = 3, every = 125000 }, \
-    { from = 'b', to = 'a', vid = 7, octets = 0, at = 5 }, { stream = 'm', octets = 1500, at = 9 }]\n";
+    { from = 'b', to = 'a', vid = 7, octets = 0, at = 5 }, \
+    { stream = 'm', octets = 1500, at = 9 }]\n";
 
 fn pair(alloc: Global) -> Result<Scenario, Fail> {
     let table = toml::table_from_str(alloc, PAIR)?;

@@ -1,8 +1,8 @@
 //! A scenario that is read, and one that is refused. The rules one by one are the files of
 //! examples/rules/.
 //!
-//! What a scenario has is asked by functions of their own without contracts, so that a test's own proof is
-//! short.
+//! What a scenario has is asked by functions of their own without contracts, so that a test's own
+//! proof is short.
 
 use srp_base::{NodeNo, Rank};
 use std::alloc::Global;

@@ -1,8 +1,8 @@
-//! Worked networks: refusals, ports and a path over two bridges, and the largest ones. Each refusal by
-//! itself is a file of examples/rules/.
+//! Worked networks: refusals, ports and a path over two bridges, and the largest ones. Each refusal
+//! by itself is a file of examples/rules/.
 //!
-//! The calls stand in functions of their own, each of which asks first whether the tree has the node, the
-//! port or the link, so that a test's own proof is short.
+//! The calls stand in functions of their own, each of which asks first whether the tree has the
+//! node, the port or the link, so that a test's own proof is short.
 
 ghost use Rattle.std.specs.Prelude.{◌≡◌, true};
 ghost use Rattle.tree_topology.specs.Topology.{HasNode, HasLink, HasPort};

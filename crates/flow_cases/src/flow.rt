@@ -1,6 +1,7 @@
 //! Worked flows: two stations on one link, and a bridge between them.
 //!
-//! The calls stand in functions of their own without contracts, so that a test's own proof is short.
+//! The calls stand in functions of their own without contracts, so that a test's own proof is
+//! short.
 
 use credit_shaper::Traffic;
 use frame_flow::{Fate, FlowResult, Frame, Route, flow, is_valid};
@@ -157,7 +158,8 @@ fn a_copy_departs_by_its_credit_or_is_dropped_or_left(rt: HostRuntime) -> Result
     Ok(())
 }
 
-/// The flow of frames over a bridge between two stations, with the stream booked but at the last port.
+/// The flow of frames over a bridge between two stations, with the stream booked but at the last
+/// port.
 fn over_a_bridge(alloc: Global, frames: &[Frame]) -> Result<FlowResult, Fail> {
     let tree = Tree::new(
         alloc,

@@ -86,7 +86,8 @@ fn a_credit_steps_by_its_slope(rt: HostRuntime) {
     }
 }
 
-/// Whether class A jumps from one credit to another in so many bit times while class B doesn't wait.
+/// Whether class A jumps from one credit to another in so many bit times while class B doesn't
+/// wait.
 fn jumps(line: Line, waits: bool, bits: u32, before: i128, after: i128) -> bool {
     let shaper = at_100(50_000_000, before);
     if !shaper.is_in_range() {
@@ -102,7 +103,8 @@ fn a_credit_jumps(rt: HostRuntime) {
     assert!(rt; jumps(SENDS_A, false, 800, 0, -40_000_000_000));
 }
 
-/// What a port at 100 Mbit/s, where class A has half of the rate, makes of frames in 20,000 bit times.
+/// What a port at 100 Mbit/s, where class A has half of the rate, makes of frames in 20,000 bit
+/// times.
 fn half(alloc: Global, arrivals: Vec<Arrival>) -> Result<Option<Departures>, NoMemory> {
     let input = PortInput {
         rate: Rate::M100,

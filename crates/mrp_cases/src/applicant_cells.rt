@@ -1,4 +1,5 @@
-//! The cells of the Applicant's table (IEEE Std 802.1Q-2018, 10.7.7), row by row, and its user's requests.
+//! The cells of the Applicant's table (IEEE Std 802.1Q-2018, 10.7.7), row by row, and its user's
+//! requests.
 
 use applicant::Applicant::*;
 use applicant::{AppEvent, Applicant, Say};
@@ -21,7 +22,8 @@ fn has_row(event: AppEvent, held: bool, cells: &[(Applicant, Say); 7]) -> bool {
     true
 }
 
-// Whether the cells are these, and nothing is said, with the attribute held at the port and without.
+// Whether the cells are these, and nothing is said, with the attribute held at the port and
+// without.
 fn has_quiet_row(event: AppEvent, cells: &[Applicant; 7]) -> bool {
     for (state, cell) in STATES.iter().zip(cells.iter()) {
         if !is_quiet(*state, event, *cell) {

@@ -1,4 +1,5 @@
-//! The cells of LeaveAll's table (IEEE Std 802.1Q-2018, 10.7.9), and the moments of periodic transmission (10.7.10).
+//! The cells of LeaveAll's table (IEEE Std 802.1Q-2018, 10.7.9), and the moments of periodic
+//! transmission (10.7.10).
 
 use leaveall::LeaveAll::{Active, Passive};
 use leaveall::{LaEvent, LeaveAll, Periodic};

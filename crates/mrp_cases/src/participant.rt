@@ -1,7 +1,9 @@
-//! Full PDUs, requests, registrations and timers, over an application whose keys and contents are numbers: a
-//! PDU's base is 11 octets, a row takes 5, so that 297 rows fill a PDU. Contents are ten times the key.
+//! Full PDUs, requests, registrations and timers, over an application whose keys and contents are
+//! numbers: a PDU's base is 11 octets, a row takes 5, so that 297 rows fill a PDU. Contents are ten
+//! times the key.
 //!
-//! The calls stand in functions of their own without contracts, so that a test's own proof is short.
+//! The calls stand in functions of their own without contracts, so that a test's own proof is
+//! short.
 
 use applicant::Applicant;
 use mrp_participant::{MrpApp, Msgs, Participant};
@@ -57,7 +59,8 @@ fn declare(participant: &mut Participant<Numbers>, first: u32, last: u32) -> Res
     Ok(())
 }
 
-// Whether a send at a moment gives so many events, with LeaveAll or not, and which the first and the last are.
+// Whether a send at a moment gives so many events, with LeaveAll or not, and which the first and
+// the last are.
 fn sends(
     participant: &mut Participant<Numbers>,
     now: u32,
@@ -155,7 +158,8 @@ fn leave_all_without_room(rt: HostRuntime) -> Result<(), Fail> {
     Ok(())
 }
 
-// A key that is declared and withdrawn with nothing sent between still says Lv, once; its copy goes its own way.
+// A key that is declared and withdrawn with nothing sent between still says Lv, once; its copy goes
+// its own way.
 #[test]
 fn withdrawn_in_time(rt: HostRuntime) -> Result<(), Fail> {
     let mut participant = new_participant(rt.alloc(), false);
@@ -170,7 +174,8 @@ fn withdrawn_in_time(rt: HostRuntime) -> Result<(), Fail> {
     Ok(())
 }
 
-// Receiving tells the keys whose registration or content changed, in ascending order, and acts on LeaveAll first.
+// Receiving tells the keys whose registration or content changed, in ascending order, and acts on
+// LeaveAll first.
 #[test]
 fn registrations(rt: HostRuntime) -> Result<(), Fail> {
     use MrpEvent::*;
