@@ -1,14 +1,18 @@
 //! The frames of a scenario of both routes, its rates, and its flow.
+//!
+//! The calls stand in functions of their own without contracts, so that a test's own proof is
+//! short.
 
 use credit_shaper::Traffic;
-use frame_flow::{Fate, Frame, Route};
+use frame_flow::{Fate, FlowResult, Frame, Route};
 use scenario_frames::{flow_of, frames_of, rates_of};
-use srp_base::{NodeNo, Ps, Rate, Seq, StreamId, Timeline};
+use srp_base::{NoMemory, NodeNo, Ps, Rate, Seq, StreamId, Timeline};
+use std::alloc::Global;
 use std::test::Fail;
-use topology_file::read_scenario;
+use topology_file::{Scenario, read_scenario};
 
-/// Two stations with a link between them, two streams, of class A and of class B, and frames of both, and
-/// between the stations.
+/// Two stations with a link between them, two streams, of class A and of class B, and frames of
+/// both, and between the stations.
 const PAIR: &str = "ticks = 22\n\
     node = [{ name = 'a', kind = 'station' }, { name = 'b', kind = 'station' }]\n\
     link = [{ a = 'a', b = 'b', rate = 1000 }]\n\
@@ -16,7 +20,13 @@ const PAIR: &str = "ticks = 22\n\
     octets = 80, frames = 1 }, { name = 'm', id = '00000000000000cd', talker = 'b', \
     dest = '91e0f0000002', octets = 80, frames = 1, vid = 5, priority = 2 }]\n\
     frame = [{ stream = 'k', octets = 80, at = 1000, count = 3, every = 125000 }, \
-    { from = 'b', to = 'a', vid = 7, octets = 0, at = 5 }, { stream = 'm', octets = 1500, at = 9 }]\n";
+    { from = 'b', to = 'a', vid = 7, octets = 0, at = 5 }, \
+    { stream = 'm', octets = 1500, at = 9 }]\n";
+
+fn pair(alloc: Global) -> Result<Scenario, Fail> {
+    let table = toml::table_from_str(alloc, PAIR)?;
+    Ok(read_scenario(alloc, &table)?)
+}
 
 fn frame(number: u32, at: u64, from: u16, route: Route, vid: u16, bits: u32) -> Frame {
     Frame {
@@ -29,31 +39,69 @@ fn frame(number: u32, at: u64, from: u16, route: Route, vid: u16, bits: u32) -> 
     }
 }
 
-#[test]
-fn frames_are_the_copies_of_the_entries_in_order(rt: HostRuntime) -> Result<(), Fail> {
-    let alloc = rt.alloc();
-    let table = toml::table_from_str(alloc, PAIR)?;
-    let scenario = read_scenario(alloc, &table)?;
-    let of_k = Route::Stream(StreamId(0xab), Traffic::A);
-    let of_m = Route::Stream(StreamId(0xcd), Traffic::B);
-    let wanted = [
-        frame(1, 1_000_000, 1, of_k, 2, 976),
-        frame(2, 126_000_000, 1, of_k, 2, 976),
-        frame(3, 251_000_000, 1, of_k, 2, 976),
-        frame(4, 5_000, 2, Route::To(NodeNo(1)), 7, 336),
-        frame(5, 9_000, 2, of_m, 5, 12_336),
-    ];
-    let frames = frames_of(alloc, &scenario)?;
-    assert!(rt; frames.as_slice() == wanted.as_slice());
-    let rates = rates_of(alloc, &scenario)?;
-    assert!(rt; rates.as_slice() == [Rate::G1].as_slice());
+/// A frame of the first stream.
+fn of_k(number: u32, at: u64) -> Frame {
+    let route = Route::Stream(StreamId(0xab), Traffic::A);
+    frame(number, at, 1, route, 2, 976)
+}
+
+/// The frame of the second stream.
+fn of_m() -> Frame {
+    let route = Route::Stream(StreamId(0xcd), Traffic::B);
+    frame(5, 9_000, 2, route, 5, 12_336)
+}
+
+/// Whether a scenario has these frames.
+fn has_frames(alloc: Global, scenario: &Scenario, wanted: &[Frame]) -> Result<bool, NoMemory> {
+    let frames = frames_of(alloc, scenario)?;
+    Ok(frames.as_slice() == wanted)
+}
+
+/// Whether a scenario has one link, with a rate of 1 Gbit/s.
+fn has_rate(alloc: Global, scenario: &Scenario) -> Result<bool, NoMemory> {
+    let rates = rates_of(alloc, scenario)?;
+    match rates.as_slice() {
+        [rate] => Ok(*rate == Rate::G1),
+        _ => Ok(false),
+    }
+}
+
+/// The flow of a scenario where nothing is booked.
+fn unbooked_flow(alloc: Global, scenario: &Scenario) -> Result<FlowResult, NoMemory> {
     let timeline = Timeline {
         changes: Seq::new(alloc),
     };
-    let flow = flow_of(alloc, &scenario, &timeline)?;
-    let ports = flow.ports.as_slice();
-    assert_eq!(rt; ports.len(), 2);
-    let fates = [(4, Fate::NoVlan), (5, Fate::Unbooked)];
-    assert!(rt; ports[1].fates.as_slice() == fates.as_slice());
+    flow_of(alloc, scenario, &timeline)
+}
+
+/// Whether a flow has two ports, and what was given to the second has these fates.
+fn has_fates(flow: &FlowResult, fates: &[(u32, Fate)]) -> bool {
+    match flow.ports.as_slice() {
+        [_, port] => port.fates.as_slice() == fates,
+        _ => false,
+    }
+}
+
+#[test]
+fn frames_are_the_copies_of_the_entries_in_order(rt: HostRuntime) -> Result<(), Fail> {
+    let scenario = pair(rt.alloc())?;
+    let between = frame(4, 5_000, 2, Route::To(NodeNo(1)), 7, 336);
+    let wanted = [
+        of_k(1, 1_000_000),
+        of_k(2, 126_000_000),
+        of_k(3, 251_000_000),
+        between,
+        of_m(),
+    ];
+    assert!(rt; has_frames(rt.alloc(), &scenario, &wanted)?);
+    Ok(())
+}
+
+#[test]
+fn frames_of_a_scenario_flow(rt: HostRuntime) -> Result<(), Fail> {
+    let scenario = pair(rt.alloc())?;
+    assert!(rt; has_rate(rt.alloc(), &scenario)?);
+    let flow = unbooked_flow(rt.alloc(), &scenario)?;
+    assert!(rt; has_fates(&flow, &[(4, Fate::NoVlan), (5, Fate::Unbooked)]));
     Ok(())
 }

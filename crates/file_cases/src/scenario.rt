@@ -1,8 +1,11 @@
 //! A scenario that is read, and one that is refused. The rules one by one are the files of
 //! examples/rules/.
+//!
+//! What a scenario has is asked by functions of their own without contracts, so that a test's own
+//! proof is short.
 
-use srp_base::{BridgeId, Cs, NodeNo, Rank, StreamId};
-use std::process::Abort;
+use srp_base::{NodeNo, Rank};
+use std::alloc::Global;
 use std::test::Fail;
 use topology_file::{
     EventEntry, EventKind, FrameEntry, FrameRoute, LinkEntry, NodeEntry, RuleErr, Scenario,
@@ -20,92 +23,128 @@ const PAIR: &str = "ticks = 22\n\
     { tick = 21, kind = 'lose', from = 'a', to = 'b', index = 2 }]\n\
     frame = [{ stream = 'k', octets = 80, at = 1000, count = 3, every = 125000 }]\n";
 
-fn has_times(rt: &impl Abort, scenario: &Scenario) {
-    assert_eq!(rt; scenario.ticks, 22);
-    assert_eq!(rt; scenario.leave_time, Cs(60));
-    assert!(rt; !scenario.periodic);
-    assert_eq!(rt; (scenario.tree.nodes(), scenario.tree.links()), (2, 1));
+/// Two bridges of one name.
+const TWINS: &str = "ticks = 1\nlink = [{ a = 'a', b = 'b' }]\n\
+    node = [{ name = 'a', kind = 'bridge' }, { name = 'a', kind = 'bridge' }]\n";
+
+fn pair(alloc: Global) -> Result<Scenario, Fail> {
+    let table = toml::table_from_str(alloc, PAIR)?;
+    Ok(read_scenario(alloc, &table)?)
 }
 
-fn is_station(rt: &impl Abort, node: &NodeEntry, name: &str, id: u64) {
-    assert!(rt; node.name.as_slice() == name.as_bytes());
-    assert_eq!(rt; node.kind, NodeKind::Station);
-    assert_eq!(rt; node.id, BridgeId(id));
+fn has_times(scenario: &Scenario) -> bool {
+    scenario.ticks == 22 && scenario.leave_time.0 == 60 && !scenario.periodic
 }
 
-fn has_defaults(rt: &impl Abort, link: &LinkEntry) {
-    assert_eq!(rt; (link.a, link.b), (NodeNo(1), NodeNo(2)));
-    assert_eq!(rt; link.rate.bits(), 100_000_000);
-    assert_eq!(rt;
-        (link.delta_a.get(), link.delta_b.get(), link.latency),
-        (75, 0, 0)
-    );
+fn is_station(node: &NodeEntry, name: &str, id: u64) -> bool {
+    node.name.as_slice() == name.as_bytes() && node.kind == NodeKind::Station && node.id.0 == id
 }
 
-fn is_stream(rt: &impl Abort, stream: &StreamEntry) {
-    assert!(rt; stream.name.as_slice() == "k".as_bytes());
-    assert_eq!(rt; (stream.id, stream.talker), (StreamId(0xab), NodeNo(1)));
-    assert_eq!(rt; stream.dest.get(), 0x91e0_f000_0001);
-    assert_eq!(rt; (stream.octets, stream.frames), (80, 1));
-    assert_eq!(rt; (stream.vid.get(), stream.priority.get()), (2, 3));
-    assert_eq!(rt; stream.rank, Rank::Normal);
+fn has_stations(scenario: &Scenario) -> bool {
+    match scenario.nodes.as_slice() {
+        [a, b] => is_station(a, "a", 1) && is_station(b, "b", 2),
+        _ => false,
+    }
+}
+
+fn has_defaults(link: &LinkEntry) -> bool {
+    link.rate.bits() == 100_000_000
+        && link.delta_a.get() == 75
+        && link.delta_b.get() == 0
+        && link.latency == 0
+}
+
+/// Whether one link with its defaults joins the two stations.
+fn has_link(scenario: &Scenario) -> bool {
+    match scenario.links.as_slice() {
+        [link] => link.a.0 == 1 && link.b.0 == 2 && has_defaults(link),
+        _ => false,
+    }
+}
+
+fn is_stream(stream: &StreamEntry) -> bool {
+    stream.name.as_slice() == "k".as_bytes()
+        && stream.id.0 == 0xab
+        && stream.talker.0 == 1
+        && stream.dest.get() == 0x91e0_f000_0001
+}
+
+/// Whether a stream has its size, and the VID, the priority and the rank that are given by default.
+fn has_quality(stream: &StreamEntry) -> bool {
+    let sized = stream.octets == 80 && stream.frames == 1;
+    sized && stream.vid.get() == 2 && stream.priority.get() == 3 && stream.rank == Rank::Normal
+}
+
+fn has_stream(scenario: &Scenario) -> bool {
+    match scenario.streams.as_slice() {
+        [stream] => is_stream(stream) && has_quality(stream),
+        _ => false,
+    }
 }
 
 #[test]
 fn a_pair_is_read_with_its_defaults(rt: HostRuntime) -> Result<(), Fail> {
-    let table = toml::table_from_str(rt.alloc(), PAIR)?;
-    let scenario = read_scenario(rt.alloc(), &table)?;
+    let scenario = pair(rt.alloc())?;
     scenario.keeps_rules();
-    has_times(&rt, &scenario);
-    assert_eq!(rt; scenario.nodes.len(), 2);
-    let nodes = scenario.nodes.as_slice().iter().zip([("a", 1), ("b", 2)]);
-    for (node, (name, id)) in nodes {
-        is_station(&rt, node, name, id);
-    }
-    assert_eq!(rt; scenario.links.len(), 1);
-    for link in scenario.links.as_slice() {
-        has_defaults(&rt, link);
-    }
-    assert_eq!(rt; scenario.streams.len(), 1);
-    for stream in scenario.streams.as_slice() {
-        is_stream(&rt, stream);
-    }
+    assert!(rt; has_times(&scenario) && has_stations(&scenario));
+    assert!(rt; has_link(&scenario) && has_stream(&scenario));
+    assert!(rt; scenario.tree.nodes() == 2 && scenario.tree.links() == 1);
     Ok(())
+}
+
+/// Whether station 2 listens at tick 3, and the second PDU from node 1 to it is lost at tick 21.
+fn has_events(scenario: &Scenario) -> bool {
+    let (a, b) = (NodeNo(1), NodeNo(2));
+    let heard = EventKind::Listen {
+        station: b,
+        stream: 1,
+    };
+    let lost = EventKind::Lose {
+        from: a,
+        to: b,
+        index: 2,
+    };
+    match scenario.events.as_slice() {
+        [one, two] => is_event(one, 3, heard) && is_event(two, 21, lost),
+        _ => false,
+    }
+}
+
+fn is_event(event: &EventEntry, tick: u64, kind: EventKind) -> bool {
+    event.tick == tick && event.kind == kind
+}
+
+fn is_frame(frame: &FrameEntry) -> bool {
+    let timed = frame.at == 1000 && frame.count == 3 && frame.every == 125_000;
+    timed && frame.octets == 80 && frame.route == FrameRoute::OfStream { stream: 1 }
+}
+
+fn has_frame(scenario: &Scenario) -> bool {
+    match scenario.frames.as_slice() {
+        [frame] => is_frame(frame),
+        _ => false,
+    }
 }
 
 #[test]
 fn events_and_frames_are_read_by_number(rt: HostRuntime) -> Result<(), Fail> {
-    let table = toml::table_from_str(rt.alloc(), PAIR)?;
-    let scenario = read_scenario(rt.alloc(), &table)?;
-    let station = NodeNo(2);
-    let heard = EventEntry {
-        tick: 3,
-        kind: EventKind::Listen { station, stream: 1 },
-    };
-    let (from, to) = (NodeNo(1), NodeNo(2));
-    let lost = EventEntry {
-        tick: 21,
-        kind: EventKind::Lose { from, to, index: 2 },
-    };
-    assert!(rt; scenario.events.as_slice() == [heard, lost].as_slice());
-    let sent = FrameEntry {
-        route: FrameRoute::OfStream { stream: 1 },
-        octets: 80,
-        at: 1000,
-        count: 3,
-        every: 125_000,
-    };
-    assert!(rt; scenario.frames.as_slice() == [sent].as_slice());
-    assert_eq!(rt; scenario.copies(), 3);
+    let scenario = pair(rt.alloc())?;
+    assert!(rt; has_events(&scenario));
+    assert!(rt; has_frame(&scenario) && scenario.copies() == 3);
     Ok(())
+}
+
+/// Whether the reading fails with a rule, at an entry.
+fn is_broken(reading: Result<Scenario, RuleErr>, rule: u8, entry: u32) -> bool {
+    match reading {
+        Ok(_) => false,
+        Err(error) => error == RuleErr::Rule { rule, entry },
+    }
 }
 
 #[test]
 fn the_first_broken_rule_is_named(rt: HostRuntime) -> Result<(), Fail> {
-    let text = "ticks = 1\nlink = [{ a = 'a', b = 'b' }]\n\
-        node = [{ name = 'a', kind = 'bridge' }, { name = 'a', kind = 'bridge' }]\n";
-    let table = toml::table_from_str(rt.alloc(), text)?;
-    let refusal = read_scenario(rt.alloc(), &table).err();
-    assert_eq!(rt; refusal, Some(RuleErr::Rule { rule: 6, entry: 2 }));
+    let table = toml::table_from_str(rt.alloc(), TWINS)?;
+    assert!(rt; is_broken(read_scenario(rt.alloc(), &table), 6, 2));
     Ok(())
 }

@@ -1,26 +1,33 @@
-//! Worked networks: refusals, ports and a path over two bridges, and the largest ones. Each refusal by itself is a file of
-//! examples/rules/.
+//! Worked networks: refusals, ports and a path over two bridges, and the largest ones. Each refusal
+//! by itself is a file of examples/rules/.
+//!
+//! The calls stand in functions of their own, each of which asks first whether the tree has the
+//! node, the port or the link, so that a test's own proof is short.
 
-ghost use Rattle.std.specs.Prelude.{◌≡◌};
+ghost use Rattle.std.specs.Prelude.{◌≡◌, true};
+ghost use Rattle.tree_topology.specs.Topology.{HasNode, HasLink, HasPort};
 
-use srp_base::{EgressPort, LinkNo, NodeNo, PortNo};
+use srp_base::{EgressPort, LinkNo, NoMemory, NodeNo, PortNo};
 use std::alloc::Global;
-use std::process::Abort;
 use std::test::Fail;
 use tree_topology::NodeKind::{Bridge, Station};
 use tree_topology::TreeErr::{Loop, TooManyLinks, Unconnected};
 use tree_topology::{Link, NodeKind, Tree, TreeErr};
 
-/// The tree of these nodes and of links given by the numbers of their ends.
-fn tree_of(alloc: Global, nodes: &[NodeKind], ends: &[(u16, u16)]) -> Result<Tree, TreeErr> {
+fn links_of(alloc: Global, ends: &[(u16, u16)]) -> Result<Vec<Link>, NoMemory> {
     let mut links = Vec::new(alloc);
     for (a, b) in ends {
-        let link = Link {
+        links.push(Link {
             a: NodeNo(*a),
             b: NodeNo(*b),
-        };
-        links.push(link).map_err(|_| TreeErr::NoMemory)?;
+        })?;
     }
+    Ok(links)
+}
+
+/// The tree of these nodes and of links given by the numbers of their ends.
+fn tree_of(alloc: Global, nodes: &[NodeKind], ends: &[(u16, u16)]) -> Result<Tree, TreeErr> {
+    let links = links_of(alloc, ends)?;
     if nodes.len() < 65_536 && links.len() < 65_536 {
         Tree::new(alloc, nodes, &links)
     } else {
@@ -28,23 +35,19 @@ fn tree_of(alloc: Global, nodes: &[NodeKind], ends: &[(u16, u16)]) -> Result<Tre
     }
 }
 
-fn port(node: u16, port: u8) -> EgressPort
-    ensures node { result.node.0 ≡ node }
-    ensures port { result.port.0 ≡ port }
-{
-    EgressPort {
-        node: NodeNo(node),
-        port: PortNo(port),
+/// Whether these nodes and links are refused, with this refusal.
+fn is_refused(alloc: Global, nodes: &[NodeKind], ends: &[(u16, u16)], refusal: TreeErr) -> bool {
+    match tree_of(alloc, nodes, ends) {
+        Ok(_) => false,
+        Err(error) => error == refusal,
     }
 }
 
 #[test]
 fn the_first_refused_link_or_node_is_named(rt: HostRuntime) {
     let square = [(1, 2), (3, 4), (2, 3), (4, 1)];
-    let refusal = tree_of(rt.alloc(), &[Bridge, Bridge, Bridge, Bridge], &square).err();
-    assert_eq!(rt; refusal, Some(Loop(LinkNo(4))));
-    let refusal = tree_of(rt.alloc(), &[Bridge, Bridge, Bridge], &[(2, 3)]).err();
-    assert_eq!(rt; refusal, Some(Unconnected(NodeNo(2))));
+    assert!(rt; is_refused(rt.alloc(), &[Bridge; 4], &square, Loop(LinkNo(4))));
+    assert!(rt; is_refused(rt.alloc(), &[Bridge; 3], &[(2, 3)], Unconnected(NodeNo(2))));
     assert!(rt; tree_of(rt.alloc(), &[], &[]).is_ok());
 }
 
@@ -54,68 +57,187 @@ fn two_bridges(alloc: Global) -> Result<Tree, TreeErr> {
     tree_of(alloc, &nodes, &[(1, 2), (2, 3), (2, 4), (3, 5), (3, 6)])
 }
 
+fn port(node: u16, port: u8) -> EgressPort {
+    EgressPort {
+        node: NodeNo(node),
+        port: PortNo(port),
+    }
+}
+
+fn has_node(tree: &Tree, node: NodeNo) -> bool
+    ensures { result ≡ true → HasNode tree.now node.0 }
+{
+    1 <= node.0 && node.0 <= tree.nodes()
+}
+
+fn has_link(tree: &Tree, link: LinkNo) -> bool
+    ensures { result ≡ true → HasLink tree.now link.0 }
+{
+    1 <= link.0 && link.0 <= tree.links()
+}
+
+fn has_port(tree: &Tree, at: EgressPort) -> bool
+    ensures { result ≡ true → HasPort tree.now at }
+{
+    has_node(tree, at.node) && 1 <= at.port.0 && at.port.0 <= tree.ports(at.node)
+}
+
+/// Whether a node has so many ports.
+fn has_ports(tree: &Tree, node: NodeNo, count: u8) -> bool {
+    has_node(tree, node) && tree.ports(node) == count
+}
+
+/// Whether a link joins these two ports.
+fn joins(tree: &Tree, link: LinkNo, ends: (EgressPort, EgressPort)) -> bool {
+    has_link(tree, link) && tree.ends(link) == ends
+}
+
+/// Whether a port's link ends at another port.
+fn ends_at(tree: &Tree, at: EgressPort, peer: EgressPort) -> bool {
+    has_port(tree, at) && tree.peer(at) == peer
+}
+
+/// Whether one node's port leads to another node.
+fn leads_to(tree: &Tree, from: NodeNo, to: NodeNo, at: EgressPort) -> bool {
+    tree.port_to(from, to) == Some(at)
+}
+
+/// Whether no port leads from one node to another.
+fn is_apart(tree: &Tree, from: NodeNo, to: NodeNo) -> bool {
+    tree.port_to(from, to).is_none()
+}
+
+/// Whether nothing but the far nodes, of nodes numbered from 1 on, lies behind a port.
+fn parts(tree: &Tree, at: EgressPort, far: &[bool]) -> bool {
+    let mut node: u16 = 0;
+    for far in far {
+        node = node.saturating_add(1);
+        if !is_there(tree, at, NodeNo(node), *far) {
+            return false;
+        }
+    }
+    true
+}
+
+/// Whether a node lies behind a port, where it is far, and not, where it is near.
+fn is_there(tree: &Tree, at: EgressPort, node: NodeNo, far: bool) -> bool {
+    has_port(tree, at) && has_node(tree, node) && tree.behind(at, node) == far
+}
+
+/// Whether the path between two nodes has these ports.
+fn goes_over(
+    alloc: Global,
+    tree: &Tree,
+    from: NodeNo,
+    to: NodeNo,
+    ports: &[EgressPort],
+) -> Result<bool, NoMemory> {
+    if !has_node(tree, from) || !has_node(tree, to) {
+        return Ok(false);
+    }
+    let path = tree.path(alloc, from, to)?;
+    Ok(path.as_slice() == ports)
+}
+
 #[test]
 fn ports_lead_over_links(rt: HostRuntime) -> Result<(), Fail> {
     let tree = two_bridges(rt.alloc())?;
     assert!(rt; tree.nodes() == 6 && tree.links() == 5);
-    assert_eq!(rt; tree.ports(NodeNo(2)), 3);
-    assert_eq!(rt; tree.ends(LinkNo(4)), (port(3, 2), port(5, 1)));
-    assert_eq!(rt; tree.peer(port(2, 2)), port(3, 1));
-    assert_eq!(rt; tree.port_to(NodeNo(3), NodeNo(6)), Some(port(3, 3)));
-    assert_eq!(rt; tree.port_to(NodeNo(1), NodeNo(6)), None);
-    assert_eq!(rt; tree.port_to(NodeNo(7), NodeNo(0)), None);
-    assert_eq!(rt; tree.copy()?.ends(LinkNo(4)), (port(3, 2), port(5, 1)));
+    assert!(rt; has_ports(&tree, NodeNo(2), 3));
+    assert!(rt; ends_at(&tree, port(2, 2), port(3, 1)));
+    Ok(())
+}
+
+#[test]
+fn a_copy_has_the_same_ends(rt: HostRuntime) -> Result<(), Fail> {
+    let tree = two_bridges(rt.alloc())?;
+    let copy = tree.copy()?;
+    let ends = (port(3, 2), port(5, 1));
+    assert!(rt; joins(&tree, LinkNo(4), ends) && joins(&copy, LinkNo(4), ends));
+    Ok(())
+}
+
+#[test]
+fn a_port_leads_to_a_neighbour(rt: HostRuntime) -> Result<(), Fail> {
+    let tree = two_bridges(rt.alloc())?;
+    assert!(rt; leads_to(&tree, NodeNo(3), NodeNo(6), port(3, 3)));
+    assert!(rt; is_apart(&tree, NodeNo(1), NodeNo(6)) && is_apart(&tree, NodeNo(7), NodeNo(0)));
     Ok(())
 }
 
 #[test]
 fn a_path_goes_over_two_bridges(rt: HostRuntime) -> Result<(), Fail> {
     let tree = two_bridges(rt.alloc())?;
-    let far = [false, false, true, false, true, true];
-    for (node, far) in (1..7u16).zip(far) {
-        assert_eq!(rt; tree.behind(port(2, 2), NodeNo(node)), far, "at {node}");
-    }
-    let path = tree.path(rt.alloc(), NodeNo(1), NodeNo(6))?;
-    let wanted = [port(1, 1), port(2, 2), port(3, 3)];
-    assert_eq!(rt; path.as_slice(), wanted.as_slice());
-    assert_eq!(rt; tree.path(rt.alloc(), NodeNo(4), NodeNo(4))?.len(), 0);
+    let ports = [port(1, 1), port(2, 2), port(3, 3)];
+    assert!(rt; goes_over(rt.alloc(), &tree, NodeNo(1), NodeNo(6), &ports)?);
+    assert!(rt; goes_over(rt.alloc(), &tree, NodeNo(4), NodeNo(4), &[])?);
     Ok(())
 }
 
 #[test]
-fn a_bridge_with_256_stations_has_too_many_links(rt: HostRuntime) -> Result<(), Fail> {
-    let mut nodes = Vec::new(rt.alloc());
-    let mut ends = Vec::new(rt.alloc());
-    nodes.push(Bridge)?;
-    for i in 0..256u16 {
-        nodes.push(Station)?;
-        ends.push((1, i + 2))?;
-    }
-    assert_eq!(rt;
-        tree_of(rt.alloc(), &nodes, &ends).err(),
-        Some(TooManyLinks(NodeNo(1)))
-    );
+fn what_lies_behind_a_port(rt: HostRuntime) -> Result<(), Fail> {
+    let tree = two_bridges(rt.alloc())?;
+    assert!(rt; parts(&tree, port(2, 2), &[false, false, true, false, true, true]));
     Ok(())
+}
+
+/// Links from node 1 to each other node up to the last.
+fn star(alloc: Global, last: u16) -> Result<Vec<(u16, u16)>, NoMemory> {
+    let mut ends = Vec::new(alloc);
+    for i in 1..last {
+        ends.push((1, i + 1))?;
+    }
+    Ok(ends)
+}
+
+/// Links from each node up to the last to the one before it.
+fn chain(alloc: Global, last: u16) -> Result<Vec<(u16, u16)>, NoMemory> {
+    let mut ends = Vec::new(alloc);
+    for i in 1..last {
+        ends.push((i + 1, i))?;
+    }
+    Ok(ends)
+}
+
+/// Node 1 is a bridge, and so many stations follow.
+fn bridge_with_stations(alloc: Global, count: u16) -> Result<Vec<NodeKind>, NoMemory> {
+    let mut nodes = Vec::new(alloc);
+    nodes.push(Bridge)?;
+    for _ in 0..count {
+        nodes.push(Station)?;
+    }
+    Ok(nodes)
+}
+
+/// Whether a star of these nodes up to the last is refused, since node 1 has too many links.
+fn is_too_large(alloc: Global, nodes: &[NodeKind], last: u16) -> Result<bool, NoMemory> {
+    let ends = star(alloc, last)?;
+    Ok(is_refused(alloc, nodes, &ends, TooManyLinks(NodeNo(1))))
+}
+
+#[test]
+fn a_bridge_with_256_stations_has_too_many_links(rt: HostRuntime) -> Result<(), Fail> {
+    let nodes = bridge_with_stations(rt.alloc(), 256)?;
+    assert!(rt; is_too_large(rt.alloc(), &nodes, 257)?);
+    Ok(())
+}
+
+/// How many ports the path between two nodes has, where the tree has both.
+fn path_len(alloc: Global, tree: &Tree, from: NodeNo, to: NodeNo) -> Result<usize, NoMemory> {
+    if !has_node(tree, from) || !has_node(tree, to) {
+        return Ok(0);
+    }
+    let path = tree.path(alloc, from, to)?;
+    Ok(path.len())
 }
 
 #[test]
 fn a_chain_and_a_star_of_65535_bridges_are_judged_soon(rt: HostRuntime) -> Result<(), Fail> {
     let nodes = vec![in rt.alloc(); Bridge; 65_535]?;
-    let mut chain = Vec::new(rt.alloc());
-    let mut star = Vec::new(rt.alloc());
-    for i in 1..65_535u16 {
-        chain.push((i + 1, i))?;
-        star.push((1, i + 1))?;
-    }
-    assert_eq!(rt;
-        tree_of(rt.alloc(), &nodes, &star).err(),
-        Some(TooManyLinks(NodeNo(1)))
-    );
-    let tree = tree_of(rt.alloc(), &nodes, &chain)?;
-    assert_eq!(rt; tree.nodes(), 65_535);
-    assert_eq!(rt;
-        tree.path(rt.alloc(), NodeNo(1), NodeNo(65_535))?.len(),
-        65_534
-    );
+    assert!(rt; is_too_large(rt.alloc(), &nodes, 65_535)?);
+    let ends = chain(rt.alloc(), 65_535)?;
+    let tree = tree_of(rt.alloc(), &nodes, &ends)?;
+    assert!(rt; tree.nodes() == 65_535);
+    assert!(rt; path_len(rt.alloc(), &tree, NodeNo(1), NodeNo(65_535))? == 65_534);
     Ok(())
 }

@@ -1,14 +1,21 @@
 //! Worked flows: two stations on one link, and a bridge between them.
+//!
+//! The calls stand in functions of their own without contracts, so that a test's own proof is
+//! short.
 
 use credit_shaper::Traffic;
 use frame_flow::{Fate, FlowResult, Frame, Route, flow, is_valid};
-use srp_base::{EgressPort, NodeNo, PortChange, PortNo, Ps, Rate, Seq, StreamId, Timeline, Vid};
+use srp_base::{
+    EgressPort, NoMemory, NodeNo, PortChange, PortNo, Ps, Rate, Seq, StreamId, Timeline, Vid,
+};
 use std::alloc::Global;
-use std::process::Abort;
 use std::test::Fail;
+use tree_topology::NodeKind::{Bridge, Station};
 use tree_topology::{Link, NodeKind, Tree};
 
 const STREAM: StreamId = StreamId(0x0200_0000_0001_0001);
+
+const OF_STREAM: Route = Route::Stream(STREAM, Traffic::A);
 
 fn link(a: u16, b: u16) -> Link {
     Link {
@@ -37,6 +44,17 @@ fn change(alloc: Global, at: EgressPort) -> Result<PortChange, Fail> {
     })
 }
 
+/// The stream is booked at these ports from tick 21 on.
+fn timeline(alloc: Global, booked: &[EgressPort]) -> Result<Timeline, Fail> {
+    let mut changes = Vec::new(alloc);
+    for at in booked {
+        changes.push(change(alloc, *at)?)?;
+    }
+    Ok(Timeline {
+        changes: Seq::from_vec(changes),
+    })
+}
+
 /// A frame of 800 bits of node 1, at a moment in ps.
 fn frame(number: u32, at: u64, route: Route, vid: u16) -> Frame {
     Frame {
@@ -49,9 +67,40 @@ fn frame(number: u32, at: u64, route: Route, vid: u16) -> Frame {
     }
 }
 
-/// A frame of the stream.
-fn of_stream(number: u32, at: u64) -> Frame {
-    frame(number, at, Route::Stream(STREAM, Traffic::A), 2)
+/// Frames numbered from 1 on, each by its moment in ps, its route and its VID.
+fn frames_of(alloc: Global, rows: &[(u64, Route, u16)]) -> Result<Vec<Frame>, NoMemory> {
+    let mut frames = Vec::new(alloc);
+    let mut number: u32 = 0;
+    for (at, route, vid) in rows {
+        number = number.saturating_add(1);
+        frames.push(frame(number, *at, *route, *vid))?;
+    }
+    Ok(frames)
+}
+
+/// The flow of frames over a tree; None where it can't be asked for.
+fn run(
+    alloc: Global,
+    tree: &Tree,
+    rates: &[Rate],
+    timeline: &Timeline,
+    frames: &[Frame],
+    ticks: u64,
+) -> Result<Option<FlowResult>, NoMemory> {
+    if is_valid(alloc, tree, rates, timeline, frames, ticks)? {
+        let flow = flow(alloc, tree, rates, timeline, frames, ticks)?;
+        Ok(Some(flow))
+    } else {
+        Ok(None)
+    }
+}
+
+/// Whether the fates at the port of this place are these.
+fn has_fates(flow: &FlowResult, place: usize, fates: &[(u32, Fate)]) -> bool {
+    match flow.ports.as_slice().get(place) {
+        Some(port) => port.fates.as_slice() == fates,
+        None => false,
+    }
 }
 
 /// A port sends 800 bits from a bit time on.
@@ -62,62 +111,26 @@ fn departed(start: u64) -> Fate {
     }
 }
 
-fn run(
-    rt: &impl Abort,
-    alloc: Global,
-    tree: &Tree,
-    rates: &[Rate],
-    booked: &[EgressPort],
-    frames: &[Frame],
-    ticks: u64,
-) -> Result<FlowResult, Fail> {
-    let mut changes = Vec::new(alloc);
-    for at in booked {
-        changes.push(change(alloc, *at)?)?;
-    }
-    let timeline = Timeline {
-        changes: Seq::from_vec(changes),
-    };
-    assert!(rt; is_valid(alloc, tree, rates, &timeline, frames, ticks)?);
-    Ok(flow(alloc, tree, rates, &timeline, frames, ticks)?)
-}
+// When the stream has been booked, and near the end of the second, in ps.
+const AT: u64 = 900_000_000_000;
 
-/// The fates at the port of this place are these.
-fn has_fates(rt: &impl Abort, flow: &FlowResult, place: usize, fates: &[(u32, Fate)]) {
-    let ports = flow.ports.as_slice();
-    assert!(rt; place < ports.len());
-    assert_eq!(rt; ports[place].fates.as_slice(), fates);
-}
+const LATE: u64 = 999_990_000_000;
 
-#[test]
-fn a_copy_departs_by_its_credit_or_is_dropped_or_left(rt: HostRuntime) -> Result<(), Fail> {
-    let alloc = rt.alloc();
-    let tree = Tree::new(
-        alloc,
-        &[NodeKind::Station, NodeKind::Station],
-        &[link(1, 2)],
-    )?;
-    let at = 900_000_000_000;
-    let frames = [
-        of_stream(1, 0),
-        of_stream(2, at),
-        frame(3, at, Route::Stream(StreamId(1), Traffic::A), 2),
-        frame(4, at, Route::To(NodeNo(2)), 3),
-        of_stream(5, at),
-        of_stream(6, at),
-        of_stream(7, 999_990_000_000),
-        of_stream(8, 999_990_000_000),
-    ];
-    let flow = run(
-        &rt,
-        alloc,
-        &tree,
-        &[Rate::M100],
-        &[port(1, 1)],
-        &frames,
-        100,
-    )?;
-    let fates = [
+/// Frames of the stream, and two others.
+const ROWS: [(u64, Route, u16); 8] = [
+    (0, OF_STREAM, 2),
+    (AT, OF_STREAM, 2),
+    (AT, Route::Stream(StreamId(1), Traffic::A), 2),
+    (AT, Route::To(NodeNo(2)), 3),
+    (AT, OF_STREAM, 2),
+    (AT, OF_STREAM, 2),
+    (LATE, OF_STREAM, 2),
+    (LATE, OF_STREAM, 2),
+];
+
+/// What becomes of those frames at the port of the first of two stations.
+fn wanted() -> [(u32, Fate); 8] {
+    [
         (1, Fate::Unbooked),
         (2, departed(90_000_000)),
         (3, Fate::Unbooked),
@@ -126,24 +139,52 @@ fn a_copy_departs_by_its_credit_or_is_dropped_or_left(rt: HostRuntime) -> Result
         (6, departed(90_025_000)),
         (7, departed(99_999_000)),
         (8, Fate::Left),
-    ];
-    has_fates(&rt, &flow, 0, &fates);
-    has_fates(&rt, &flow, 1, &[]);
+    ]
+}
+
+/// The flow of frames between two stations, of which the first has the stream booked.
+fn between_stations(alloc: Global, frames: &[Frame]) -> Result<FlowResult, Fail> {
+    let tree = Tree::new(alloc, &[Station, Station], &[link(1, 2)])?;
+    let timeline = timeline(alloc, &[port(1, 1)])?;
+    let flow = run(alloc, &tree, &[Rate::M100], &timeline, frames, 100)?;
+    Ok(flow.ok_or("a valid flow")?)
+}
+
+#[test]
+fn a_copy_departs_by_its_credit_or_is_dropped_or_left(rt: HostRuntime) -> Result<(), Fail> {
+    let frames = frames_of(rt.alloc(), &ROWS)?;
+    let flow = between_stations(rt.alloc(), &frames)?;
+    assert!(rt; has_fates(&flow, 0, &wanted()) && has_fates(&flow, 1, &[]));
     Ok(())
+}
+
+/// The flow of frames over a bridge between two stations, with the stream booked but at the last
+/// port.
+fn over_a_bridge(alloc: Global, frames: &[Frame]) -> Result<FlowResult, Fail> {
+    let tree = Tree::new(
+        alloc,
+        &[Station, Bridge, Station],
+        &[link(1, 2), link(2, 3)],
+    )?;
+    let timeline = timeline(alloc, &[port(1, 1), port(2, 1), port(2, 2)])?;
+    let flow = run(
+        alloc,
+        &tree,
+        &[Rate::G10, Rate::M100],
+        &timeline,
+        frames,
+        12_000,
+    )?;
+    Ok(flow.ok_or("a valid flow")?)
 }
 
 #[test]
 fn copies_go_on_and_never_back_in_a_long_run(rt: HostRuntime) -> Result<(), Fail> {
-    let alloc = rt.alloc();
-    let kinds = [NodeKind::Station, NodeKind::Bridge, NodeKind::Station];
-    let tree = Tree::new(alloc, &kinds, &[link(1, 2), link(2, 3)])?;
-    let frames = [of_stream(7, 119_000_000_005_000)];
-    let rates = [Rate::G10, Rate::M100];
-    let booked = [port(1, 1), port(2, 1), port(2, 2)];
-    let flow = run(&rt, alloc, &tree, &rates, &booked, &frames, 12_000)?;
-    has_fates(&rt, &flow, 0, &[(7, departed(1_190_000_000_050))]);
-    has_fates(&rt, &flow, 1, &[]);
-    has_fates(&rt, &flow, 2, &[(7, departed(11_900_000_009))]);
-    has_fates(&rt, &flow, 3, &[]);
+    let frames = [frame(7, 119_000_000_005_000, OF_STREAM, 2)];
+    let flow = over_a_bridge(rt.alloc(), &frames)?;
+    let sent = (7, departed(1_190_000_000_050));
+    let passed = (7, departed(11_900_000_009));
+    assert!(rt; has_fates(&flow, 0, &[sent]) && has_fates(&flow, 2, &[passed]));
+    assert!(rt; has_fates(&flow, 1, &[]) && has_fates(&flow, 3, &[]));
     Ok(())
 }

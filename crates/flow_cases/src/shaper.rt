@@ -1,22 +1,25 @@
 //! Worked runs, and the run compared with the definition taken bit time by bit time.
+//!
+//! The calls stand in functions of their own, so that a test's own proof is short.
 
 ghost use Rattle.std.specs.Prelude.{◌<◌};
 
 use credit_shaper::{
     Arrival, Departure, Departures, Line, PortInput, PortTrace, Shaper, SlopeChange, Traffic,
 };
-use srp_base::{Rate, Seq};
+use srp_base::{NoMemory, Rate, Seq};
 use std::alloc::Global;
-use std::process::Abort;
 use std::test::Fail;
 
-fn slopes(alloc: Global, slope_a: u64, slope_b: u64) -> Result<Seq<SlopeChange>, Fail> {
-    let change = SlopeChange {
+/// The slope of class A from the beginning on; class B has none.
+fn slopes(alloc: Global, slope_a: u64) -> Result<Seq<SlopeChange>, NoMemory> {
+    let mut changes = Seq::new(alloc);
+    changes.push(SlopeChange {
         bit: 0,
         slope_a,
-        slope_b,
-    };
-    Ok(Seq::from_vec([change].to_vec(alloc)?))
+        slope_b: 0,
+    })?;
+    Ok(changes)
 }
 
 fn frame(bit: u64, traffic: Traffic, bits: u32, frame: u32) -> Arrival {
@@ -29,7 +32,7 @@ fn frame(bit: u64, traffic: Traffic, bits: u32, frame: u32) -> Arrival {
 }
 
 /// So many frames of class A with 800 bits, numbered from 1 on.
-fn frames(alloc: Global, count: u32, bit: u64) -> Result<Vec<Arrival>, Fail> {
+fn frames(alloc: Global, count: u32, bit: u64) -> Result<Vec<Arrival>, NoMemory> {
     let mut frames = Vec::new(alloc);
     for number in 1..=count {
         frames.push(frame(bit, Traffic::A, 800, number))?;
@@ -37,11 +40,17 @@ fn frames(alloc: Global, count: u32, bit: u64) -> Result<Vec<Arrival>, Fail> {
     Ok(frames)
 }
 
-fn run(rt: &impl Abort, alloc: Global, input: &PortInput) -> Result<Departures, Fail> {
-    assert!(rt; input.is_valid());
-    Ok(PortTrace::run(alloc, input)?)
+/// What becomes of a port's frames; None where it can't be asked.
+fn run(alloc: Global, input: &PortInput) -> Result<Option<Departures>, NoMemory> {
+    if input.is_valid() {
+        let departures = PortTrace::run(alloc, input)?;
+        Ok(Some(departures))
+    } else {
+        Ok(None)
+    }
 }
 
+/// Class A with this slope and credit at 100 Mbit/s, class B with none.
 fn at_100(slope_a: u64, credit_a: i128) -> Shaper {
     Shaper {
         rate: Rate::M100,
@@ -52,114 +61,149 @@ fn at_100(slope_a: u64, credit_a: i128) -> Shaper {
     }
 }
 
-/// Class A steps from one credit to another while class B waits with no slope.
-fn steps(rt: &impl Abort, line: Line, waits: bool, before: i128, after: i128) {
+/// Whether class A steps from one credit to another while class B waits with no slope.
+fn steps(line: Line, waits: bool, before: i128, after: i128) -> bool {
     let shaper = at_100(60_000_000, before);
-    assert!(rt; shaper.is_in_range());
-    assert_eq!(rt;
-        shaper.bit_step(line, waits, true).credit_a,
-        after,
-        "from {before}"
-    );
+    shaper.is_in_range() && shaper.bit_step(line, waits, true).credit_a == after
 }
+
+const SENDS_A: Line = Line::Sends(Traffic::A);
+
+const STEPS: [(Line, bool, i128, i128); 7] = [
+    (SENDS_A, false, 0, -40_000_000),
+    (SENDS_A, true, 100_000_000, 60_000_000),
+    (Line::Sends(Traffic::Other), true, 100_000_000, 160_000_000),
+    (Line::Free, true, -100_000_000, -40_000_000),
+    (Line::Free, false, -100_000_000, -40_000_000),
+    (Line::Sends(Traffic::B), false, -20_000_000, 0),
+    (Line::Free, false, 100_000_000, 0),
+];
 
 #[test]
 fn a_credit_steps_by_its_slope(rt: HostRuntime) {
-    steps(&rt, Line::Sends(Traffic::A), false, 0, -40_000_000);
-    steps(&rt, Line::Sends(Traffic::A), true, 100_000_000, 60_000_000);
-    steps(
-        &rt,
-        Line::Sends(Traffic::Other),
-        true,
-        100_000_000,
-        160_000_000,
-    );
-    steps(&rt, Line::Free, true, -100_000_000, -40_000_000);
-    steps(&rt, Line::Free, false, -100_000_000, -40_000_000);
-    steps(&rt, Line::Sends(Traffic::B), false, -20_000_000, 0);
-    steps(&rt, Line::Free, false, 100_000_000, 0);
+    for (line, waits, before, after) in STEPS {
+        assert!(rt; steps(line, waits, before, after));
+    }
+}
+
+/// Whether class A jumps from one credit to another in so many bit times while class B doesn't
+/// wait.
+fn jumps(line: Line, waits: bool, bits: u32, before: i128, after: i128) -> bool {
+    let shaper = at_100(50_000_000, before);
+    if !shaper.is_in_range() {
+        return false;
+    }
+    shaper.jump(line, waits, false, u64::from(bits)).credit_a == after
 }
 
 #[test]
 fn a_credit_jumps(rt: HostRuntime) {
-    let short = at_100(50_000_000, -1_000_000_000);
-    assert!(rt; short.is_in_range());
-    assert_eq!(rt;
-        short.jump(Line::Free, true, false, 30).credit_a,
-        500_000_000
-    );
-    assert_eq!(rt; short.jump(Line::Free, false, false, 30).credit_a, 0);
-    let even = at_100(50_000_000, 0);
-    assert!(rt; even.is_in_range());
-    let sent = even.jump(Line::Sends(Traffic::A), false, false, 800);
-    assert_eq!(rt; sent.credit_a, -40_000_000_000);
+    assert!(rt; jumps(Line::Free, true, 30, -1_000_000_000, 500_000_000));
+    assert!(rt; jumps(Line::Free, false, 30, -1_000_000_000, 0));
+    assert!(rt; jumps(SENDS_A, false, 800, 0, -40_000_000_000));
+}
+
+/// What a port at 100 Mbit/s, where class A has half of the rate, makes of frames in 20,000 bit
+/// times.
+fn half(alloc: Global, arrivals: Vec<Arrival>) -> Result<Option<Departures>, NoMemory> {
+    let input = PortInput {
+        rate: Rate::M100,
+        slopes: slopes(alloc, 50_000_000)?,
+        arrivals: Seq::from_vec(arrivals),
+        end: 20_000,
+    };
+    run(alloc, &input)
+}
+
+/// Whether departures are those of these frames of 800 bits, each with its start.
+fn are_short(sent: &[Departure], wanted: &[(u32, u64)]) -> bool {
+    for (x, (frame, start)) in sent.iter().zip(wanted.iter()) {
+        if x.frame != *frame || x.start != *start || x.end != start.wrapping_add(800) {
+            return false;
+        }
+    }
+    sent.len() == wanted.len()
+}
+
+/// Whether all is sent, and as these frames.
+fn sends(departures: Option<Departures>, wanted: &[(u32, u64)]) -> bool {
+    match departures {
+        Some(departures) => {
+            departures.left.is_empty() && are_short(departures.sent.as_slice(), wanted)
+        }
+        None => false,
+    }
 }
 
 #[test]
 fn class_a_waits_for_credit(rt: HostRuntime) -> Result<(), Fail> {
-    let alloc = rt.alloc();
-    let input = PortInput {
-        rate: Rate::M100,
-        slopes: slopes(alloc, 50_000_000, 0)?,
-        arrivals: Seq::from_vec(frames(alloc, 3, 0)?),
-        end: 20_000,
-    };
-    let result = run(&rt, alloc, &input)?;
-    let starts: [(u32, u64); 3] = [(1, 0), (2, 1_600), (3, 3_200)];
-    assert_eq!(rt; result.sent.len(), 3);
-    for (sent, (frame, start)) in result.sent.as_slice().iter().zip(starts) {
-        assert_eq!(rt; sent.frame, frame);
-        assert_eq!(rt; sent.start, start);
-        assert_eq!(rt; sent.end, start.wrapping_add(800));
-    }
-    assert!(rt; result.left.is_empty());
+    let departures = half(rt.alloc(), frames(rt.alloc(), 3, 0)?)?;
+    assert!(rt; sends(departures, &[(1, 0), (2, 1_600), (3, 3_200)]));
     Ok(())
+}
+
+/// One long frame of no class, then three of class A.
+fn behind_another(alloc: Global) -> Result<Vec<Arrival>, NoMemory> {
+    let mut arrivals = Vec::new(alloc);
+    arrivals.push(frame(0, Traffic::Other, 12_336, 0))?;
+    for number in 1..=3 {
+        arrivals.push(frame(1, Traffic::A, 800, number))?;
+    }
+    Ok(arrivals)
+}
+
+/// Whether all is sent, with these starts.
+fn starts(departures: Option<Departures>, wanted: &[u64]) -> bool {
+    match departures {
+        Some(departures) => {
+            departures.left.is_empty() && begin_at(departures.sent.as_slice(), wanted)
+        }
+        None => false,
+    }
+}
+
+fn begin_at(sent: &[Departure], wanted: &[u64]) -> bool {
+    for (x, start) in sent.iter().zip(wanted.iter()) {
+        if x.start != *start {
+            return false;
+        }
+    }
+    sent.len() == wanted.len()
 }
 
 #[test]
 fn class_a_saves_credit_behind_another_frame(rt: HostRuntime) -> Result<(), Fail> {
-    let alloc = rt.alloc();
-    let mut arrivals = [frame(0, Traffic::Other, 12_336, 0)].to_vec(alloc)?;
-    arrivals.extend_from_slice(&frames(alloc, 3, 1)?)?;
-    let input = PortInput {
-        rate: Rate::M100,
-        slopes: slopes(alloc, 50_000_000, 0)?,
-        arrivals: Seq::from_vec(arrivals),
-        end: 20_000,
-    };
-    let result = run(&rt, alloc, &input)?;
-    assert_eq!(rt; result.sent.len(), 4);
-    for (sent, start) in result
-        .sent
-        .as_slice()
-        .iter()
-        .zip([0, 12_336, 13_136, 13_936])
-    {
-        assert_eq!(rt; sent.start, start);
-    }
-    assert!(rt; result.left.is_empty());
+    let departures = half(rt.alloc(), behind_another(rt.alloc())?)?;
+    assert!(rt; starts(departures, &[0, 12_336, 13_136, 13_936]));
     Ok(())
 }
 
-// The run takes 2^41 bit times.
-#[test]
-fn a_long_run_takes_few_steps(rt: HostRuntime) -> Result<(), Fail> {
-    let alloc = rt.alloc();
+/// What a port at 10 Gbit/s makes of 200 frames in 2^41 bit times, where class A has 1,000 bit/s.
+fn long_run(alloc: Global) -> Result<Option<Departures>, NoMemory> {
     let input = PortInput {
         rate: Rate::G10,
-        slopes: slopes(alloc, 1_000, 0)?,
+        slopes: slopes(alloc, 1_000)?,
         arrivals: Seq::from_vec(frames(alloc, 200, 0)?),
         end: 2_199_023_255_552,
     };
-    let result = run(&rt, alloc, &input)?;
-    assert_eq!(rt; result.sent.len(), 200);
+    run(alloc, &input)
+}
+
+/// The starts that are wanted there, with the frames' numbers.
+fn long_starts(alloc: Global) -> Result<Vec<(u32, u64)>, NoMemory> {
+    let mut starts = Vec::new(alloc);
     let mut start: u64 = 0;
-    for sent in result.sent.as_slice() {
-        assert_eq!(rt; sent.start, start);
-        assert_eq!(rt; sent.end, start.wrapping_add(800));
+    for number in 1..=200u32 {
+        starts.push((number, start))?;
         start = start.wrapping_add(8_000_000_000);
     }
-    assert!(rt; result.left.is_empty());
+    Ok(starts)
+}
+
+#[test]
+fn a_long_run_takes_few_steps(rt: HostRuntime) -> Result<(), Fail> {
+    let departures = long_run(rt.alloc())?;
+    assert!(rt; sends(departures, &long_starts(rt.alloc())?));
     Ok(())
 }
 
@@ -188,7 +232,7 @@ impl Plain {
         }
     }
 
-    fn start(&mut self, bit: u64) -> Result<(), Fail> {
+    fn start(&mut self, bit: u64) -> Result<(), NoMemory> {
         self.line = Line::Free;
         let turn = self.turn();
         let Some(place) = self.waiting.iter().position(|x| x.traffic == turn) else {
@@ -206,34 +250,50 @@ impl Plain {
         Ok(())
     }
 
-    fn bit(&mut self, rt: &impl Abort, input: &PortInput, bit: u64) -> Result<(), Fail> {
-        for x in input.arrivals.as_slice() {
+    fn arrive(&mut self, arrivals: &[Arrival], bit: u64) -> Result<(), NoMemory> {
+        for x in arrivals {
             if x.bit == bit {
                 self.waiting.push(*x)?;
             }
         }
-        for change in input.slopes.as_slice() {
+        Ok(())
+    }
+
+    fn change(&mut self, slopes: &[SlopeChange], bit: u64) {
+        for change in slopes {
             if change.bit == bit {
                 self.shaper.slope_a = change.slope_a;
                 self.shaper.slope_b = change.slope_b;
             }
         }
+    }
+
+    /// The credits after the bit time; whether they are in range before.
+    fn step(&mut self) -> bool {
+        if !self.shaper.is_in_range() {
+            return false;
+        }
+        let (waits_a, waits_b) = (self.waits(Traffic::A), self.waits(Traffic::B));
+        self.shaper = self.shaper.bit_step(self.line, waits_a, waits_b);
+        true
+    }
+
+    fn bit(&mut self, input: &PortInput, bit: u64) -> Result<bool, NoMemory> {
+        self.arrive(input.arrivals.as_slice(), bit)?;
+        self.change(input.slopes.as_slice(), bit);
         if self.free_from <= bit {
             self.start(bit)?;
         }
-        assert!(rt; self.shaper.is_in_range());
-        let (waits_a, waits_b) = (self.waits(Traffic::A), self.waits(Traffic::B));
-        self.shaper = self.shaper.bit_step(self.line, waits_a, waits_b);
-        Ok(())
+        Ok(self.step())
     }
 }
 
-fn plain_run(rt: &impl Abort, alloc: Global, input: &PortInput) -> Result<Departures, Fail> {
-    let mut port = Plain {
+fn fresh(alloc: Global, rate: Rate) -> Plain {
+    Plain {
         waiting: Vec::new(alloc),
         sent: Vec::new(alloc),
         shaper: Shaper {
-            rate: input.rate,
+            rate,
             slope_a: 0,
             slope_b: 0,
             credit_a: 0,
@@ -241,18 +301,25 @@ fn plain_run(rt: &impl Abort, alloc: Global, input: &PortInput) -> Result<Depart
         },
         line: Line::Free,
         free_from: 0,
-    };
+    }
+}
+
+/// What becomes of a port's frames, bit time after bit time; None where a credit leaves its range.
+fn plain_run(alloc: Global, input: &PortInput) -> Result<Option<Departures>, NoMemory> {
+    let mut port = fresh(alloc, input.rate);
     for bit in 0..input.end {
-        port.bit(rt, input, bit)?;
+        if !port.bit(input, bit)? {
+            return Ok(None);
+        }
     }
     let mut left = Vec::new(alloc);
     for x in &port.waiting {
         left.push(x.frame)?;
     }
-    Ok(Departures {
+    Ok(Some(Departures {
         sent: Seq::from_vec(port.sent),
         left: Seq::from_vec(left),
-    })
+    }))
 }
 
 /// Numbers that look drawn, below a limit.
@@ -284,7 +351,7 @@ impl Draws {
         }
     }
 
-    fn arrivals(&mut self, alloc: Global, count: u32, end: u32) -> Result<Vec<Arrival>, Fail> {
+    fn arrivals(&mut self, alloc: Global, count: u32, end: u32) -> Result<Vec<Arrival>, NoMemory> {
         let mut arrivals = Vec::new(alloc);
         for number in 0..count {
             let bit = u64::from(self.below(end));
@@ -295,7 +362,7 @@ impl Draws {
         Ok(arrivals)
     }
 
-    fn slopes(&mut self, alloc: Global, end: u32) -> Result<Vec<SlopeChange>, Fail> {
+    fn slopes(&mut self, alloc: Global, end: u32) -> Result<Vec<SlopeChange>, NoMemory> {
         let mut changes = Vec::new(alloc);
         for bit in [0, end / 3, end / 2] {
             changes.push(SlopeChange {
@@ -306,23 +373,36 @@ impl Draws {
         }
         Ok(changes)
     }
+
+    /// At most 13 frames at a port, in 6,000 bit times.
+    fn input(&mut self, alloc: Global) -> Result<PortInput, NoMemory> {
+        let count = self.below(14);
+        let arrivals = self.arrivals(alloc, count, 6_000)?;
+        let slopes = self.slopes(alloc, 6_000)?;
+        Ok(PortInput {
+            rate: Rate::M100,
+            slopes: Seq::from_vec(slopes),
+            arrivals: Seq::from_vec(arrivals),
+            end: 6_000,
+        })
+    }
+}
+
+/// Whether the run of an input is that of the definition, bit time after bit time.
+fn is_exact(alloc: Global, input: &PortInput) -> Result<bool, NoMemory> {
+    let wanted = plain_run(alloc, input)?;
+    match run(alloc, input)? {
+        Some(departures) => Ok(wanted == Some(departures)),
+        None => Ok(false),
+    }
 }
 
 #[test]
 fn moments_answer_as_bit_times(rt: HostRuntime) -> Result<(), Fail> {
-    let alloc = rt.alloc();
     let mut draws = Draws { state: 1 };
     for _ in 0..60 {
-        let count = draws.below(14);
-        let arrivals = draws.arrivals(alloc, count, 6_000)?;
-        let input = PortInput {
-            rate: Rate::M100,
-            slopes: Seq::from_vec(draws.slopes(alloc, 6_000)?),
-            arrivals: Seq::from_vec(arrivals),
-            end: 6_000,
-        };
-        let wanted = plain_run(&rt, alloc, &input)?;
-        assert_eq!(rt; run(&rt, alloc, &input)?, wanted, "of {input:?}");
+        let input = draws.input(rt.alloc())?;
+        assert!(rt; is_exact(rt.alloc(), &input)?);
     }
     Ok(())
 }

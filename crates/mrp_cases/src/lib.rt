@@ -1,6 +1,6 @@
-//! Worked cases of MRP: each cell of its machines (`applicant`, `registrar`, `leaveall`), and a participant at one port
-//! (`mrp_participant`). The crate has tests alone, called as a user calls, since a crate
-//! with tests beside its code is proved once more with them.
+//! Worked cases of MRP: each cell of its machines (`applicant`, `registrar`, `leaveall`), and a
+//! participant at one port (`mrp_participant`). The crate has tests alone, called as a user calls,
+//! since a crate with tests beside its code is proved once more with them.
 #![tactic(auto)]
 
 #[cfg(test)]

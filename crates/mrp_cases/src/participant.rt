@@ -1,7 +1,9 @@
-//! Full PDUs, requests, registrations and timers, over an application whose keys and contents are numbers: a
-//! PDU's base is 11 octets, a row takes 5, so that 297 rows fill a PDU. Contents are ten times the key.
+//! Full PDUs, requests, registrations and timers, over an application whose keys and contents are
+//! numbers: a PDU's base is 11 octets, a row takes 5, so that 297 rows fill a PDU. Contents are ten
+//! times the key.
 //!
-//! The calls stand in functions of their own without contracts, so that a test's own proof is short.
+//! The calls stand in functions of their own without contracts, so that a test's own proof is
+//! short.
 
 use applicant::Applicant;
 use mrp_participant::{MrpApp, Msgs, Participant};
@@ -57,7 +59,8 @@ fn declare(participant: &mut Participant<Numbers>, first: u32, last: u32) -> Res
     Ok(())
 }
 
-// Whether a send at a moment gives so many events, with LeaveAll or not, and which the first and the last are.
+// Whether a send at a moment gives so many events, with LeaveAll or not, and which the first and
+// the last are.
 fn sends(
     participant: &mut Participant<Numbers>,
     now: u32,
@@ -67,14 +70,18 @@ fn sends(
 ) -> Result<bool, NoMemory> {
     match participant.send(Cs(u64::from(now)))? {
         Some(msgs) => {
-            let (event, first, last) = ends;
             let events = msgs.events.as_slice();
-            let begins = events.first().copied() == Some((event, first, first.wrapping_mul(10)));
-            let ends = events.last().copied() == Some((event, last, last.wrapping_mul(10)));
-            Ok(msgs.leave_all == leave_all && events.len() == count && begins && ends)
+            Ok(msgs.leave_all == leave_all && events.len() == count && has_ends(events, ends))
         }
         None => Ok(false),
     }
+}
+
+// Whether the first event and the last one are of this kind and of these keys.
+fn has_ends(events: &[(MrpEvent, u32, u32)], ends: (MrpEvent, u32, u32)) -> bool {
+    let (event, first, last) = ends;
+    events.first().copied() == Some((event, first, first.wrapping_mul(10)))
+        && events.last().copied() == Some((event, last, last.wrapping_mul(10)))
 }
 
 fn is_silent(participant: &mut Participant<Numbers>, now: u32) -> Result<bool, NoMemory> {
@@ -140,6 +147,10 @@ fn full_pdus(rt: HostRuntime) -> Result<(), Fail> {
     Ok(())
 }
 
+fn is_sound_and_busy(participant: &Participant<Numbers>) -> bool {
+    participant.sound() && !participant.still()
+}
+
 // A LeaveAll leaves three keys of 300 very anxious, and makes the participant sound.
 #[test]
 fn leave_all_without_room(rt: HostRuntime) -> Result<(), Fail> {
@@ -151,26 +162,39 @@ fn leave_all_without_room(rt: HostRuntime) -> Result<(), Fail> {
         let ends = (MrpEvent::JoinMt, 1, last);
         assert!(rt; sends(&mut participant, now, leave_all, count, ends)?);
     }
-    assert!(rt; participant.sound() && !participant.still());
+    assert!(rt; is_sound_and_busy(&participant));
     Ok(())
 }
 
-// A key that is declared and withdrawn with nothing sent between still says Lv, once; its copy goes its own way.
+// Whether a key that is withdrawn is said to leave, once, and is then forgotten.
+fn leaves_once(participant: &mut Participant<Numbers>, key: u32) -> Result<bool, NoMemory> {
+    participant.withdraw(key);
+    let leaving = is_declared(participant, key, None, Applicant::La);
+    let said = sends(participant, 20, false, 1, (MrpEvent::Lv, key, key))?;
+    Ok(leaving && said && participant.rows() == 0 && is_silent(participant, 40)?)
+}
+
+// Whether a key is the only one, and has just been declared.
+fn is_alone(participant: &Participant<Numbers>, key: u32) -> bool {
+    participant.key_at(0) == Some(key)
+        && participant.key_at(1).is_none()
+        && is_declared(participant, key, Some(key.wrapping_mul(10)), Applicant::Vp)
+}
+
+// A key that is declared and withdrawn with nothing sent between still says Lv, once; its copy goes
+// its own way.
 #[test]
 fn withdrawn_in_time(rt: HostRuntime) -> Result<(), Fail> {
     let mut participant = new_participant(rt.alloc(), false);
     declare(&mut participant, 7, 7)?;
     let copy = participant.copy()?;
-    participant.withdraw(7);
-    assert!(rt; is_declared(&participant, 7, None, Applicant::La));
-    assert!(rt; sends(&mut participant, 20, false, 1, (MrpEvent::Lv, 7, 7))?);
-    assert!(rt; participant.rows() == 0 && is_silent(&mut participant, 40)?);
-    assert!(rt; copy.key_at(0) == Some(7) && copy.key_at(1).is_none());
-    assert!(rt; is_declared(&copy, 7, Some(70), Applicant::Vp));
+    assert!(rt; leaves_once(&mut participant, 7)?);
+    assert!(rt; is_alone(&copy, 7));
     Ok(())
 }
 
-// Receiving tells the keys whose registration or content changed, in ascending order, and acts on LeaveAll first.
+// Receiving tells the keys whose registration or content changed, in ascending order, and acts on
+// LeaveAll first.
 #[test]
 fn registrations(rt: HostRuntime) -> Result<(), Fail> {
     use MrpEvent::*;
@@ -183,28 +207,53 @@ fn registrations(rt: HostRuntime) -> Result<(), Fail> {
     Ok(())
 }
 
+// Whether three keys join, and a LeaveAll with one key that is declared elsewhere tells nothing.
+fn hears_leave_all(
+    alloc: Global,
+    participant: &mut Participant<Numbers>,
+) -> Result<bool, NoMemory> {
+    use MrpEvent::*;
+    let joins = [(JoinIn, 9, 90), (JoinIn, 3, 30), (JoinIn, 5, 50)];
+    let joined = tells(alloc, participant, 6, false, &joins, &[3, 5, 9])?;
+    Ok(joined && tells(alloc, participant, 7, true, &[(OnlyIn, 5, 51)], &[])?)
+}
+
+// Whether a key's leave timer is made to end, once.
+fn is_let_go(participant: &mut Participant<Numbers>, key: u32) -> bool {
+    participant.leave_due(key) && !participant.leave_due(key)
+}
+
+// Whether some timer is due at a moment, and none the moment before.
+fn is_due_at(participant: &Participant<Numbers>, before: u32, now: u32) -> bool {
+    !participant.any_due(Cs(u64::from(before))) && participant.any_due(Cs(u64::from(now)))
+}
+
 // What a LeaveAll left leaves 60 cs later, or when the user says so.
 #[test]
 fn leave_timers(rt: HostRuntime) -> Result<(), Fail> {
-    use MrpEvent::*;
     let mut participant = new_participant(rt.alloc(), false);
-    let joins = [(JoinIn, 9, 90), (JoinIn, 3, 30), (JoinIn, 5, 50)];
-    assert!(rt; tells(rt.alloc(), &mut participant, 6, false, &joins, &[3, 5, 9])?);
-    assert!(rt;
-        tells(
-            rt.alloc(),
-            &mut participant,
-            7,
-            true,
-            &[(OnlyIn, 5, 51)],
-            &[]
-        )?
-    );
+    assert!(rt; hears_leave_all(rt.alloc(), &mut participant)?);
     assert!(rt; is_registered(&participant, 5, Some(50), Registrar::Leaving));
-    assert!(rt; participant.leave_due(5) && !participant.leave_due(5));
-    assert!(rt; !participant.any_due(Cs(66)) && participant.any_due(Cs(67)));
+    assert!(rt; is_let_go(&mut participant, 5) && is_due_at(&participant, 66, 67));
     assert!(rt; fires(&mut participant, 67, 2, &[3, 9])?);
     Ok(())
+}
+
+// Whether a key that is quiet is anxious after the periodic event.
+fn turns_anxious(participant: &mut Participant<Numbers>, key: u32) -> bool {
+    let content = Some(key.wrapping_mul(10));
+    let quiet = is_declared(participant, key, content, Applicant::Qa);
+    participant.periodic_due();
+    quiet && is_declared(participant, key, content, Applicant::Aa)
+}
+
+// Whether both timers fire at 100 and at 200, and none just before.
+fn fires_each_second(participant: &mut Participant<Numbers>) -> Result<bool, NoMemory> {
+    Ok(
+        fires(participant, 100, 2, &[])?
+            && fires(participant, 199, 0, &[])?
+            && fires(participant, 200, 2, &[])?,
+    )
 }
 
 // The timers fire together, and the periodic event makes what is quiet anxious.
@@ -213,15 +262,11 @@ fn timers(rt: HostRuntime) -> Result<(), Fail> {
     let mut participant = new_participant(rt.alloc(), true);
     declare(&mut participant, 1, 1)?;
     let join = (MrpEvent::JoinMt, 1, 1);
-    for now in [20, 40] {
-        assert!(rt; sends(&mut participant, now, false, 1, join)?);
-    }
-    assert!(rt; is_declared(&participant, 1, Some(10), Applicant::Qa));
-    participant.periodic_due();
-    assert!(rt; is_declared(&participant, 1, Some(10), Applicant::Aa));
-    for (now, fired) in [(100, 2), (199, 0), (200, 2)] {
-        assert!(rt; fires(&mut participant, now, fired, &[])?);
-    }
-    assert!(rt; sends(&mut participant, 200, true, 1, join)?);
+    assert!(rt; sends(&mut participant, 20, false, 1, join)?);
+    assert!(rt; sends(&mut participant, 40, false, 1, join)?);
+    assert!(rt; turns_anxious(&mut participant, 1));
+    assert!(rt;
+        fires_each_second(&mut participant)? && sends(&mut participant, 200, true, 1, join)?
+    );
     Ok(())
 }

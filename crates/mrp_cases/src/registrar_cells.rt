@@ -2,47 +2,48 @@
 
 use registrar::RegEvent::*;
 use registrar::Registrar::*;
+use registrar::Tell::{Joined, Left, Nothing};
 use registrar::{RegEvent, Registrar, Tell};
+
+// Whether the cell of a state and an event names this state, and tells this.
+fn has_cell(state: Registrar, event: RegEvent, cell: (Registrar, Tell)) -> bool {
+    let (next, told) = state.step(event);
+    next == cell.0 && told == cell.1
+}
+
+// Whether the cells of IN, LV and MT at an event are these.
+fn has_row(event: RegEvent, cells: [(Registrar, Tell); 3]) -> bool {
+    let [held, leaving, empty] = cells;
+    has_cell(Held, event, held)
+        && has_cell(Leaving, event, leaving)
+        && has_cell(Empty, event, empty)
+}
+
+// Whether an event starts the leave timer of IN just where it makes IN leave, and no other.
+fn starts_in_time(event: RegEvent, makes_leave: bool) -> bool {
+    Held.starts_leave_timer(event) == makes_leave
+        && !Leaving.starts_leave_timer(event)
+        && !Empty.starts_leave_timer(event)
+}
+
+const HEARD: [(Registrar, Tell); 3] = [(Held, Nothing), (Held, Nothing), (Held, Joined)];
+
+const LEFT: [(Registrar, Tell); 3] = [(Leaving, Nothing), (Leaving, Nothing), (Empty, Nothing)];
+
+const TIMED: [(Registrar, Tell); 3] = [(Held, Nothing), (Empty, Left), (Empty, Nothing)];
 
 #[test]
 fn cells_of_the_table(rt: HostRuntime) {
-    let (nothing, joined, left) = (Tell::Nothing, Tell::Joined, Tell::Left);
-    let rows = [
-        (RxNew, (Held, nothing), (Held, nothing), (Held, joined)),
-        (RxJoin, (Held, nothing), (Held, nothing), (Held, joined)),
-        (
-            RxLv,
-            (Leaving, nothing),
-            (Leaving, nothing),
-            (Empty, nothing),
-        ),
-        (
-            RxLeaveAll,
-            (Leaving, nothing),
-            (Leaving, nothing),
-            (Empty, nothing),
-        ),
-        (
-            TxLeaveAll,
-            (Leaving, nothing),
-            (Leaving, nothing),
-            (Empty, nothing),
-        ),
-        (LeaveTimer, (Held, nothing), (Empty, left), (Empty, nothing)),
-    ];
-    for (event, held, leaving, empty) in rows {
-        assert_eq!(rt; Held.step(event), held, "IN at {event:?}");
-        assert_eq!(rt;
-            Held.starts_leave_timer(event),
-            held.0 == Leaving,
-            "IN at {event:?}"
-        );
-        assert_eq!(rt; Leaving.starts_leave_timer(event), false, "LV at {event:?}");
-        assert_eq!(rt; Empty.starts_leave_timer(event), false, "MT at {event:?}");
-        assert_eq!(rt; Leaving.step(event), leaving, "LV at {event:?}");
-        assert_eq!(rt; Empty.step(event), empty, "MT at {event:?}");
+    for event in [RxNew, RxJoin] {
+        assert!(rt; has_row(event, HEARD) && starts_in_time(event, false));
     }
-    assert_eq!(rt; Held.is_registered(), true);
-    assert_eq!(rt; Leaving.is_registered(), true);
-    assert_eq!(rt; Empty.is_registered(), false);
+    for event in [RxLv, RxLeaveAll, TxLeaveAll] {
+        assert!(rt; has_row(event, LEFT) && starts_in_time(event, true));
+    }
+    assert!(rt; has_row(LeaveTimer, TIMED) && starts_in_time(LeaveTimer, false));
+}
+
+#[test]
+fn held_and_leaving_are_registered(rt: HostRuntime) {
+    assert!(rt; Held.is_registered() && Leaving.is_registered() && !Empty.is_registered());
 }
