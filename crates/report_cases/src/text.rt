@@ -1,16 +1,15 @@
-//! Two stations on a link: the report of what they sent and of their frames, and the text of a journal. What is registered
-//! is shown by the reports of `examples/`.
+//! Two stations on a link: the report of what they sent and of their frames, and the text of a
+//! journal. What is registered is shown by the reports of `examples/`.
 
 use credit_shaper::PortInput;
 use frame_flow::Fate::{Departed, Left, NoVlan, Unbooked};
-use frame_flow::{FlowResult, PortFlow};
+use frame_flow::{Fate, FlowResult, PortFlow};
 use node_core::PortStep::{Due, Send, Settle, Work};
 use node_core::StepReply::{Discarded, Fired, Received, Sent, Settled, Silent};
 use node_core::{NodeStep, PortStep, StepReply};
 use srp_base::{App, EgressPort, NoMemory, NodeNo, PortNo, Rate, Seq, Timeline};
 use srp_report::{journal_text, report};
 use std::alloc::Global;
-use std::process::Abort;
 use std::test::Fail;
 use topology_file::{Scenario, read_scenario};
 use world_core::{Journal, NodeSteps, Run, Tick, World, WorldReply};
@@ -47,7 +46,15 @@ fn scene(alloc: Global) -> Result<Scenario, Fail> {
     Ok(read_scenario(alloc, &table)?)
 }
 
-// The steps of a node at its first port.
+// A step at the first port of a node, and its steps there.
+fn made(step: PortStep, reply: StepReply) -> NodeStep {
+    NodeStep {
+        port: PortNo(1),
+        step,
+        reply,
+    }
+}
+
 fn steps_of(
     alloc: Global,
     node: u16,
@@ -55,11 +62,7 @@ fn steps_of(
 ) -> Result<NodeSteps, NoMemory> {
     let mut steps = Vec::new(alloc);
     for (step, reply) in answers {
-        steps.push(NodeStep {
-            port: PortNo(1),
-            step: *step,
-            reply: *reply,
-        })?;
+        steps.push(made(*step, *reply))?;
     }
     Ok(NodeSteps {
         node: NodeNo(node),
@@ -74,97 +77,140 @@ fn tick_of(
     first: NodeSteps,
     second: NodeSteps,
 ) -> Result<Tick, NoMemory> {
+    let events = Vec::from_slice(alloc, events)?;
+    let steps = vec![in alloc; first, second]?;
     Ok(Tick {
-        events: Seq::from_vec(Vec::from_slice(alloc, events)?),
-        steps: Seq::from_vec(vec![in alloc; first, second]?),
+        events: Seq::from_vec(events),
+        steps: Seq::from_vec(steps),
     })
 }
 
-// Two ticks in which station 1 sends and station 2 hears it, and takes a malformed PDU. In the first two events happen.
+// The events of the first tick.
+fn events() -> [(u32, WorldReply); 2] {
+    [(1, WorldReply::Done), (2, WorldReply::Missed)]
+}
+
+// The steps of a station that sends, of one that has nothing to send, and of one that hears a PDU
+// and takes a malformed one.
+fn sending() -> [(PortStep, StepReply); 2] {
+    [(Settle, Settled(2)), (Send(App::Mvrp), Sent(13))]
+}
+
+fn silent() -> [(PortStep, StepReply); 2] {
+    [(Due, Fired(1)), (Send(App::Msrp), Silent)]
+}
+
+fn hearing() -> [(PortStep, StepReply); 2] {
+    [(Work, Received(2)), (Work, Discarded(3))]
+}
+
+// Two ticks in which station 1 sends. In the first two events happen, and in the second station 2
+// hears it.
+fn first_tick(alloc: Global) -> Result<Tick, NoMemory> {
+    let one = steps_of(alloc, 1, sending().as_slice())?;
+    let two = steps_of(alloc, 2, silent().as_slice())?;
+    tick_of(alloc, events().as_slice(), one, two)
+}
+
+fn second_tick(alloc: Global) -> Result<Tick, NoMemory> {
+    let one = steps_of(alloc, 1, sending().as_slice())?;
+    let two = steps_of(alloc, 2, hearing().as_slice())?;
+    tick_of(alloc, [].as_slice(), one, two)
+}
+
 fn journal(alloc: Global) -> Result<Journal, NoMemory> {
-    let events = [(1, WorldReply::Done), (2, WorldReply::Missed)];
-    let sends = [(Settle, Settled(2)), (Send(App::Mvrp), Sent(13))];
-    let silent = [(Due, Fired(1)), (Send(App::Msrp), Silent)];
-    let hears = [(Work, Received(2)), (Work, Discarded(3))];
-    let first = tick_of(
-        alloc,
-        events.as_slice(),
-        steps_of(alloc, 1, sends.as_slice())?,
-        steps_of(alloc, 2, silent.as_slice())?,
-    )?;
-    let second = tick_of(
-        alloc,
-        [].as_slice(),
-        steps_of(alloc, 1, sends.as_slice())?,
-        steps_of(alloc, 2, hears.as_slice())?,
-    )?;
+    let first = first_tick(alloc)?;
+    let second = second_tick(alloc)?;
+    let ticks = vec![in alloc; first, second]?;
     Ok(Journal {
-        ticks: Seq::from_vec(vec![in alloc; first, second]?),
+        ticks: Seq::from_vec(ticks),
     })
 }
 
-// Five copies at the port of station 1: the third departs before the first, and each of the others has another fate.
-fn flow(alloc: Global) -> Result<FlowResult, NoMemory> {
-    let fates = vec![in alloc;
-        (
-            1,
-            Departed {
-                start: 900,
-                end: 1700
-            }
-        ),
+// The fates of five copies: the third departs before the first, and each of the others has another.
+fn departed(start: u64, end: u64) -> Fate {
+    Departed { start, end }
+}
+
+fn fates() -> [(u32, Fate); 5] {
+    [
+        (1, departed(900, 1700)),
         (2, Unbooked),
-        (
-            3,
-            Departed {
-                start: 100,
-                end: 900
-            }
-        ),
+        (3, departed(100, 900)),
         (4, NoVlan),
         (5, Left),
-    ]?;
-    let input = PortInput {
+    ]
+}
+
+// A port without slopes and arrivals; its frames are counted by their fates.
+fn input(alloc: Global) -> PortInput {
+    PortInput {
         rate: Rate::M100,
         slopes: Seq::new(alloc),
         arrivals: Seq::new(alloc),
         end: 22_000_000,
-    };
-    let at = EgressPort {
-        node: NodeNo(1),
-        port: PortNo(1),
-    };
-    let port = PortFlow {
-        at,
-        input,
+    }
+}
+
+// Those copies at the port of station 1.
+fn port_flow(alloc: Global) -> Result<PortFlow, NoMemory> {
+    let fates = Vec::from_slice(alloc, fates().as_slice())?;
+    Ok(PortFlow {
+        at: EgressPort {
+            node: NodeNo(1),
+            port: PortNo(1),
+        },
+        input: input(alloc),
         fates: Seq::from_vec(fates),
-    };
-    Ok(FlowResult {
-        ports: Seq::from_vec(vec![in alloc; port]?),
     })
+}
+
+fn flow(alloc: Global) -> Result<FlowResult, NoMemory> {
+    let port = port_flow(alloc)?;
+    let ports = vec![in alloc; port]?;
+    Ok(FlowResult {
+        ports: Seq::from_vec(ports),
+    })
+}
+
+// The run of the scene with that journal, and no change at a port.
+fn run(alloc: Global, scenario: &Scenario) -> Result<Run, NoMemory> {
+    let world = World::of(alloc, scenario)?;
+    let journal = journal(alloc)?;
+    Ok(Run {
+        world,
+        journal,
+        timeline: Timeline {
+            changes: Seq::new(alloc),
+        },
+    })
+}
+
+// Whether the report of that run and those frames is this text.
+fn reports(alloc: Global, scenario: &Scenario, text: &str) -> Result<bool, NoMemory> {
+    let run = run(alloc, scenario)?;
+    let flow = flow(alloc)?;
+    let said = report(alloc, scenario, &run, &flow)?;
+    Ok(said.as_slice() == text.as_bytes())
+}
+
+// Whether the text of that journal is this one.
+fn tells(alloc: Global, scenario: &Scenario, text: &str) -> Result<bool, NoMemory> {
+    let journal = journal(alloc)?;
+    let said = journal_text(alloc, scenario, &journal)?;
+    Ok(said.as_slice() == text.as_bytes())
 }
 
 #[test]
 fn each_port_has_its_counts_and_departures(rt: HostRuntime) -> Result<(), Fail> {
-    let alloc = rt.alloc();
-    let scenario = scene(alloc)?;
-    let run = Run {
-        world: World::of(alloc, &scenario)?,
-        journal: journal(alloc)?,
-        timeline: Timeline {
-            changes: Seq::new(alloc),
-        },
-    };
-    let text = report(alloc, &scenario, &run, &flow(alloc)?)?;
-    assert_eq!(rt; text.as_slice(), REPORT.as_bytes());
+    let scenario = scene(rt.alloc())?;
+    assert!(rt; reports(rt.alloc(), &scenario, REPORT)?);
     Ok(())
 }
 
 #[test]
 fn a_journal_has_events_before_steps(rt: HostRuntime) -> Result<(), Fail> {
-    let alloc = rt.alloc();
-    let scenario = scene(alloc)?;
-    let text = journal_text(alloc, &scenario, &journal(alloc)?)?;
-    assert_eq!(rt; text.as_slice(), JOURNAL.as_bytes());
+    let scenario = scene(rt.alloc())?;
+    assert!(rt; tells(rt.alloc(), &scenario, JOURNAL)?);
     Ok(())
 }

@@ -1,5 +1,5 @@
-//! A pair of stations. One declares a VID in the last tick: what the journal has of it. One talks a stream and the other listens:
-//! what the timeline has of it.
+//! A pair of stations. One declares a VID in the last tick: what the journal has of it. One talks a
+//! stream and the other listens: what the timeline has of it.
 
 use node_core::PortStep::{Due, Send, Settle};
 use node_core::StepReply::{Fired, Sent, Settled, Silent, Taken};
@@ -7,7 +7,6 @@ use node_core::{NodeStep, PortStep, StepReply};
 use srp_base::{App, EgressPort, NodeNo, PortChange, PortNo, StreamId, Vid};
 use srp_schedule::plain_run;
 use std::alloc::Global;
-use std::process::Abort;
 use std::test::Fail;
 use topology_file::read_scenario;
 use world_core::WorldReply::Step;
@@ -27,40 +26,60 @@ fn made(step: PortStep, reply: StepReply) -> NodeStep {
     }
 }
 
-fn has_made(rt: &impl Abort, found: Option<&NodeSteps>, node: NodeNo, steps: &[NodeStep]) {
-    let _ = Due.key();
-    let found = found.expect(rt, "the steps of a node");
-    assert_eq!(rt; found.node, node);
-    assert!(rt; found.steps.as_slice() == steps);
-}
-
 // What the station that declares makes, and what the other makes.
-fn has_declared(rt: &impl Abort, found: Option<&NodeSteps>) {
-    let steps = [
+fn declaring() -> [NodeStep; 4] {
+    [
         made(Due, Fired(0)),
         made(Settle, Settled(1)),
         made(Send(App::Mvrp), Sent(12)),
         made(Send(App::Msrp), Silent),
-    ];
-    has_made(rt, found, NodeNo(1), steps.as_slice());
+    ]
 }
 
-fn has_been_silent(rt: &impl Abort, found: Option<&NodeSteps>) {
-    let steps = [made(Send(App::Mvrp), Silent), made(Send(App::Msrp), Silent)];
-    has_made(rt, found, NodeNo(2), steps.as_slice());
+fn silent() -> [NodeStep; 2] {
+    [made(Send(App::Mvrp), Silent), made(Send(App::Msrp), Silent)]
 }
 
-fn has_idle_and_last(rt: &impl Abort, ticks: &[Tick]) {
+// Whether these are the steps of this node.
+fn has_made(found: Option<&NodeSteps>, node: NodeNo, steps: &[NodeStep]) -> bool {
     let _ = Due.key();
-    assert_eq!(rt; ticks.len(), 21);
-    let idle = ticks.get(1).expect(rt, "the second tick");
-    assert!(rt; idle.events.is_empty() && idle.steps.is_empty());
-    let last = ticks.last().expect(rt, "the last tick");
-    assert!(rt; last.events.as_slice() == [(1, Step(Taken))].as_slice());
-    let nodes = last.steps.as_slice();
-    assert_eq!(rt; nodes.len(), 2);
-    has_declared(rt, nodes.first());
-    has_been_silent(rt, nodes.last());
+    match found {
+        Some(found) => found.node == node && found.steps.as_slice() == steps,
+        None => false,
+    }
+}
+
+// Whether the nodes have made all that, and no others are there.
+fn have_made(nodes: &[NodeSteps]) -> bool {
+    nodes.len() == 2
+        && has_made(nodes.first(), NodeNo(1), declaring().as_slice())
+        && has_made(nodes.last(), NodeNo(2), silent().as_slice())
+}
+
+// Whether nothing happens in a tick.
+fn is_idle(found: Option<&Tick>) -> bool {
+    let _ = Due.key();
+    match found {
+        Some(tick) => tick.events.is_empty() && tick.steps.is_empty(),
+        None => false,
+    }
+}
+
+// Whether the first event is taken in a tick, and the nodes act.
+fn is_taken(found: Option<&Tick>) -> bool {
+    let _ = Due.key();
+    match found {
+        Some(tick) => {
+            tick.events.as_slice() == [(1, Step(Taken))].as_slice()
+                && have_made(tick.steps.as_slice())
+        }
+        None => false,
+    }
+}
+
+// Whether the second tick is idle, and the VID is declared in the last.
+fn declares_last(ticks: &[Tick]) -> bool {
+    ticks.len() == 21 && is_idle(ticks.get(1)) && is_taken(ticks.last())
 }
 
 // The run of a file.
@@ -74,7 +93,7 @@ fn run_of(alloc: Global, text: &str) -> Result<Run, Fail> {
 fn a_declaration_is_settled_and_sent_in_its_tick(rt: HostRuntime) -> Result<(), Fail> {
     let run = run_of(rt.alloc(), SCENE)?;
     assert!(rt; !run.world.quiet());
-    has_idle_and_last(&rt, run.journal.ticks.as_slice());
+    assert!(rt; declares_last(run.journal.ticks.as_slice()));
     Ok(())
 }
 
@@ -88,29 +107,44 @@ const STREAM: &str = "ticks = 22\n\
     { tick = 0, kind = 'listen', station = 'b', stream = 'k' }, \
     { tick = 0, kind = 'declare', station = 'b', vid = 2 }]\n";
 
-// Whether the one port of station a has a change in a tick, to these streams, this slope of class A, and VID 2.
-fn says(found: Option<&PortChange>, tick: u64, booked: &[StreamId], slope_a: u64) -> bool {
+// Whether a change is in a tick at the one port of station a, with this slope of class A and none
+// of class B.
+fn is_in(change: &PortChange, tick: u64, slope_a: u64) -> bool {
     let at = EgressPort {
         node: NodeNo(1),
         port: PortNo(1),
     };
-    let (Some(c), Some(vid)) = (found, Vid::new(2)) else {
-        return false;
-    };
-    c.at == at
-        && c.tick == tick
-        && c.booked.as_slice() == booked
-        && c.slope_a == slope_a
-        && c.slope_b == 0
-        && c.vids.as_slice() == [vid].as_slice()
+    change.at == at && change.tick == tick && change.slope_a == slope_a && change.slope_b == 0
+}
+
+// Whether a change is to these streams and VID 2.
+fn is_to(change: &PortChange, booked: &[StreamId]) -> bool {
+    match Vid::new(2) {
+        Some(vid) => {
+            change.booked.as_slice() == booked && change.vids.as_slice() == [vid].as_slice()
+        }
+        None => false,
+    }
+}
+
+// Whether there is a change that says all this.
+fn says(found: Option<&PortChange>, tick: u64, booked: &[StreamId], slope_a: u64) -> bool {
+    match found {
+        Some(change) => is_in(change, tick, slope_a) && is_to(change, booked),
+        None => false,
+    }
+}
+
+// Whether the VID comes first, and then the stream with its slope.
+fn books_second(changes: &[PortChange]) -> bool {
+    changes.len() == 2
+        && says(changes.first(), 1, [].as_slice(), 0)
+        && says(changes.last(), 21, [StreamId(0xab)].as_slice(), 7_808_000)
 }
 
 #[test]
 fn what_is_booked_and_registered_is_in_the_timeline(rt: HostRuntime) -> Result<(), Fail> {
     let run = run_of(rt.alloc(), STREAM)?;
-    let changes = run.timeline.changes.as_slice();
-    assert_eq!(rt; changes.len(), 2);
-    assert!(rt; says(changes.first(), 1, [].as_slice(), 0));
-    assert!(rt; says(changes.last(), 21, [StreamId(0xab)].as_slice(), 7_808_000));
+    assert!(rt; books_second(run.timeline.changes.as_slice()));
     Ok(())
 }

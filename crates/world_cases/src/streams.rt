@@ -1,19 +1,19 @@
-//! A Talker, two bridges and three listeners, the third behind a link of little bandwidth: the first two hear Ready, and why
-//! the third doesn't is shown.
+//! A Talker, two bridges and three listeners, the third behind a link of little bandwidth: the
+//! first two hear Ready, and why the third doesn't is shown.
 
-use crate::vlans::{answer, has_node};
-use network_laws::{Refusal, Sides, ready_on_path, refusal_shown};
+use crate::world::{answer, has_node};
+use network_laws::{Refusal, ready_on_path, refusal_shown};
 use node_core::PortStep::{Send, Settle, Work};
 use node_core::{AppRequest, PortStep};
 use srp_base::{App, EgressPort, Mac, NoMemory, NodeNo, PortNo, Priority, Rank, StreamId, Talker};
 use std::alloc::Global;
-use std::process::Abort;
 use std::test::Fail;
 use topology_file::read_scenario;
 use world_core::World;
 use world_core::WorldEvent::{Carry, Port, Request};
 
-/// Station 1 talks; bridges 2 and 3; stations 4, 5 and 6 listen, the last behind port 3 of bridge 3.
+/// Station 1 talks; bridges 2 and 3; stations 4, 5 and 6 listen, the last behind port 3 of bridge
+/// 3.
 const HALL: &str = "ticks = 1\n\
     node = [{ name = 't1', kind = 'station' }, { name = 'b1', kind = 'bridge' }, \
     { name = 'b2', kind = 'bridge' }, { name = 'l1', kind = 'station' }, \
@@ -51,8 +51,10 @@ fn egress(at: (u16, u8)) -> EgressPort {
 }
 
 // A Talker of one frame of 200 octets in 125 microseconds.
-fn talker(dest: Mac, priority: Priority) -> Talker {
-    Talker {
+fn talker() -> Option<Talker> {
+    let dest = Mac::new(0x91e0_f000_fe01)?;
+    let priority = Priority::new(3)?;
+    Some(Talker {
         stream: STREAM,
         dest,
         vid: 2,
@@ -61,7 +63,7 @@ fn talker(dest: Mac, priority: Priority) -> Talker {
         priority,
         rank: Rank::Normal,
         latency: 0,
-    }
+    })
 }
 
 // Each port makes a step.
@@ -97,47 +99,55 @@ fn come_to_rest(world: &mut World) -> Result<(), NoMemory> {
     Ok(())
 }
 
-// Station 1 talks, and stations 4 to 6 listen.
-fn ask(world: &mut World, talker: Talker) -> Result<(), NoMemory> {
-    let _ = answer(world, Request(NodeNo(1), AppRequest::Talk(talker)))?;
-    let _ = answer(world, Request(NodeNo(4), AppRequest::Listen(STREAM)))?;
-    let _ = answer(world, Request(NodeNo(5), AppRequest::Listen(STREAM)))?;
-    let _ = answer(world, Request(NodeNo(6), AppRequest::Listen(STREAM)))?;
+// A station listens.
+fn listen(world: &mut World, node: NodeNo) -> Result<(), NoMemory> {
+    let _ = answer(world, Request(node, AppRequest::Listen(STREAM)))?;
     Ok(())
 }
 
-// What is found at a listener, and the refusal that is shown; None where there is no such node.
-fn shown(
+// Station 1 talks, and stations 4 to 6 listen.
+fn ask(world: &mut World, talker: Talker) -> Result<(), NoMemory> {
+    let _ = answer(world, Request(NodeNo(1), AppRequest::Talk(talker)))?;
+    listen(world, NodeNo(4))?;
+    listen(world, NodeNo(5))?;
+    listen(world, NodeNo(6))
+}
+
+// Whether both sides of the law are so at a listener.
+fn is_ready(alloc: Global, world: &World, listener: NodeNo, ready: bool) -> Result<bool, NoMemory> {
+    if !has_node(world, listener) {
+        return Ok(false);
+    }
+    let sides = ready_on_path(alloc, world, listener, STREAM)?;
+    Ok(sides.found == ready && sides.expected == ready)
+}
+
+// Whether this refusal is shown for a listener.
+fn is_refused(
     alloc: Global,
     world: &World,
     listener: NodeNo,
-) -> Result<Option<(Sides, Option<Refusal>)>, NoMemory> {
+    refusal: Option<Refusal>,
+) -> Result<bool, NoMemory> {
     if !has_node(world, listener) {
-        return Ok(None);
+        return Ok(false);
     }
-    let sides = ready_on_path(alloc, world, listener, STREAM)?;
-    let refusal = refusal_shown(alloc, world, listener, STREAM)?;
-    Ok(Some((sides, refusal)))
+    Ok(refusal_shown(alloc, world, listener, STREAM)? == refusal)
 }
 
-// At a listener both sides are so, and this refusal is shown.
+// Whether at a listener both sides are so, and this refusal is shown.
 fn shows(
-    rt: &impl Abort,
     alloc: Global,
     world: &World,
     listener: NodeNo,
     ready: bool,
     refusal: Option<Refusal>,
-) -> Result<(), NoMemory> {
-    let sides = Sides {
-        found: ready,
-        expected: ready,
-    };
-    assert_eq!(rt; shown(alloc, world, listener)?, Some((sides, refusal)));
-    Ok(())
+) -> Result<bool, NoMemory> {
+    Ok(is_ready(alloc, world, listener, ready)? && is_refused(alloc, world, listener, refusal)?)
 }
 
-// The port of bridge 3 that leads to station 6 has 10 percent of 100 Mb/s for class A, and the stream takes 15,488,000 bit/s.
+// The port of bridge 3 that leads to station 6 has 10 percent of 100 Mb/s for class A, and the
+// stream takes 15,488,000 bit/s.
 fn too_little() -> Refusal {
     Refusal {
         at: egress((3, 3)),
@@ -148,26 +158,30 @@ fn too_little() -> Refusal {
     }
 }
 
+// Whether the hall comes to rest once all have asked.
+fn rests(world: &mut World, talker: Talker) -> Result<bool, NoMemory> {
+    ask(world, talker)?;
+    come_to_rest(world)?;
+    Ok(world.quiet() && world.in_step())
+}
+
+// Whether the first two listeners are ready then, and for the third the refusal is shown.
+fn is_shown(alloc: Global, world: &World) -> Result<bool, NoMemory> {
+    Ok(
+        shows(alloc, world, NodeNo(4), true, None)?
+            && shows(alloc, world, NodeNo(5), true, None)?
+            && shows(alloc, world, NodeNo(6), false, Some(too_little()))?,
+    )
+}
+
 #[test]
 fn ready_comes_where_the_path_has_booked_and_a_refusal_is_shown(
     rt: HostRuntime,
 ) -> Result<(), Fail> {
-    let dest = Mac::new(0x91e0_f000_fe01).expect(&rt, "an address");
-    let priority = Priority::new(3).expect(&rt, "a priority");
+    let talker = talker().ok_or("a Talker")?;
     let mut world = hall(rt.alloc())?;
-    shows(&rt, rt.alloc(), &world, NodeNo(4), false, None)?;
-    ask(&mut world, talker(dest, priority))?;
-    come_to_rest(&mut world)?;
-    assert!(rt; world.quiet() && world.in_step());
-    shows(&rt, rt.alloc(), &world, NodeNo(4), true, None)?;
-    shows(&rt, rt.alloc(), &world, NodeNo(5), true, None)?;
-    shows(
-        &rt,
-        rt.alloc(),
-        &world,
-        NodeNo(6),
-        false,
-        Some(too_little()),
-    )?;
+    assert!(rt; shows(rt.alloc(), &world, NodeNo(4), false, None)?);
+    assert!(rt; rests(&mut world, talker)?);
+    assert!(rt; is_shown(rt.alloc(), &world)?);
     Ok(())
 }

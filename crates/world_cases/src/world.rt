@@ -1,6 +1,8 @@
-//! A bridge between two stations: a declaration and a Talker go over a link, a PDU is repeated and lost, the clocks go on.
+//! A bridge between two stations: a declaration and a Talker go over a link, a PDU is repeated and
+//! lost, the clocks go on.
 //!
-//! An event is asked at run time whether it may happen, so that a test needs no proof of what the file's text says.
+//! An event is asked at run time whether it may happen, so that a test needs no proof of what the
+//! file's text says.
 
 ghost use Rattle.std.specs.Prelude.{IsTrue};
 ghost use Rattle.tree_topology.specs.Topology.{HasNode, HasPort};
@@ -9,14 +11,13 @@ ghost use Rattle.world_core.specs.World.{CanHappen};
 use msrp_codec::MsrpKey;
 use node_core::PortStep::{Send, Settle, Work};
 use node_core::StepReply::{Nothing, Received, Sent, Settled, Silent, Taken};
-use node_core::{AppRequest, NodeKey, NodeStep};
+use node_core::{AppRequest, NodeKey, NodeStep, PortStep, StepReply};
 use registrar::Registrar;
 use srp_base::{
     App, Cs, EgressPort, Mac, NoMemory, NodeNo, PortNo, Priority, Rank, Seq, StreamId, Talker,
     Timeline, Vid,
 };
 use std::alloc::Global;
-use std::process::Abort;
 use std::test::Fail;
 use topology_file::read_scenario;
 use tree_topology::NodeKind;
@@ -24,7 +25,8 @@ use world_core::WorldEvent::{Carry, Clock, Lose, Port, Repeat, Request};
 use world_core::WorldReply::{Done, Missed, Step};
 use world_core::{History, NodeSteps, World, WorldEvent, WorldReply};
 
-/// Station 1, bridge 2 and station 3; port 1 of the bridge leads to station 1, and port 2 to station 3.
+/// Station 1, bridge 2 and station 3; port 1 of the bridge leads to station 1, and port 2 to
+/// station 3.
 const SCENE: &str = "ticks = 60\n\
     node = [{ name = 'a', kind = 'station' }, { name = 'm', kind = 'bridge' }, \
     { name = 'b', kind = 'station' }]\n\
@@ -43,13 +45,13 @@ fn port(node: u16, port: u8) -> EgressPort {
     }
 }
 
-fn has_node(world: &World, node: NodeNo) -> bool
+pub(crate) fn has_node(world: &World, node: NodeNo) -> bool
     ensures { IsTrue result → HasNode world.now.tree node.0 }
 {
     1 <= node.0 && node.0 <= world.tree().nodes()
 }
 
-fn has_port(world: &World, at: EgressPort) -> bool
+pub(crate) fn has_port(world: &World, at: EgressPort) -> bool
     ensures { IsTrue result → HasPort world.now.tree at }
 {
     if !has_node(world, at.node) {
@@ -93,114 +95,168 @@ fn can_happen(world: &World, event: WorldEvent) -> bool
 }
 
 // What an event answers; None where it can't happen.
-fn answer(world: &mut World, event: WorldEvent) -> Result<Option<WorldReply>, NoMemory> {
+pub(crate) fn answer(world: &mut World, event: WorldEvent) -> Result<Option<WorldReply>, NoMemory> {
     if !can_happen(world, event) {
         return Ok(None);
     }
     Ok(Some(world.step(event)?))
 }
 
-fn has_answers(
-    rt: &impl Abort,
+// Whether these events have these answers.
+pub(crate) fn has_answers(
     world: &mut World,
     cases: &[(WorldEvent, WorldReply)],
-) -> Result<(), NoMemory> {
+) -> Result<bool, NoMemory> {
     for (event, reply) in cases {
-        assert_eq!(rt; answer(world, *event)?, Some(*reply));
+        if answer(world, *event)? != Some(*reply) {
+            return Ok(false);
+        }
     }
-    Ok(())
+    Ok(true)
 }
 
-// Whether a run of one event, the clock's, answers as it should; None where the clock stands.
-fn run_clock(alloc: Global, world: &mut World) -> Option<bool> {
+// Whether a run of one event, the clock's, answers as it should; false where the clock stands.
+fn runs_clock(alloc: Global, world: &mut World) -> bool {
     if !goes_on(world) {
-        return None;
+        return false;
     }
-    let replies = world.run(alloc, [Clock].as_slice()).ok()?;
-    Some(replies.as_slice() == [Done].as_slice())
+    match world.run(alloc, [Clock].as_slice()) {
+        Ok(replies) => replies.as_slice() == [Done].as_slice(),
+        Err(_) => false,
+    }
 }
 
-// The registrar of an attribute at a port, how many PDUs wait there, and whether it is sound in MVRP.
-fn seen(world: &World, at: EgressPort, key: NodeKey) -> Option<(Registrar, usize, bool)> {
+// Whether this is the registrar of an attribute at a port, this many PDUs wait there, and it is
+// sound in MVRP or not.
+fn sees(
+    world: &World,
+    at: EgressPort,
+    key: NodeKey,
+    (registrar, count, sound): (Registrar, usize, bool),
+) -> bool {
     if !has_node(world, at.node) {
-        return None;
+        return false;
     }
     let node = world.node(at.node);
     if at.port.0 == 0 || node.ports() < at.port.0 {
-        return None;
+        return false;
     }
-    let registrar = node.registrar(at.port, key);
-    Some((
-        registrar,
-        node.waiting(at.port),
-        node.sound(at.port, App::Mvrp),
-    ))
+    node.registrar(at.port, key) == registrar
+        && node.waiting(at.port) == count
+        && node.sound(at.port, App::Mvrp) == sound
 }
 
-// The clock of a node.
-fn now(world: &World, node: NodeNo) -> Option<Cs> {
-    if !has_node(world, node) {
-        return None;
-    }
-    Some(world.node(node).now())
+// Whether a node's clock is at this moment, and whether all are.
+fn is_at(world: &World, node: NodeNo, moment: Cs) -> bool {
+    has_node(world, node) && world.node(node).now() == moment
+}
+
+fn are_at(world: &World, moment: Cs) -> bool {
+    is_at(world, NodeNo(1), moment)
+        && is_at(world, NodeNo(2), moment)
+        && is_at(world, NodeNo(3), moment)
+}
+
+// Whether nothing is pending anywhere, and all that is registered is as it should be.
+fn is_at_rest(world: &World) -> bool {
+    world.quiet() && world.in_step()
+}
+
+// A step of a port with its answer.
+fn makes(at: EgressPort, step: PortStep, reply: StepReply) -> (WorldEvent, WorldReply) {
+    (Port(at.node, at.port, step), Step(reply))
+}
+
+// Station 1 is asked for something, and takes it.
+fn takes(request: AppRequest) -> (WorldEvent, WorldReply) {
+    (Request(NodeNo(1), request), Step(Taken))
+}
+
+// The ports of the first link: that of station 1, and the bridge's.
+fn ours() -> EgressPort {
+    port(1, 1)
+}
+
+fn theirs() -> EgressPort {
+    port(2, 1)
 }
 
 // A station's declaration of a VID is carried to the bridge, and waits there.
-fn declare(rt: &impl Abort, world: &mut World, vid: Vid) -> Result<(), NoMemory> {
-    let (a, bridge) = (port(1, 1), port(2, 1));
-    let cases = [
-        (Request(a.node, AppRequest::Declare(vid)), Step(Taken)),
-        (Port(a.node, a.port, Settle), Step(Settled(1))),
-        (Port(a.node, a.port, Send(App::Mvrp)), Step(Sent(12))),
-        (Port(a.node, a.port, Send(App::Msrp)), Step(Silent)),
-        (Port(bridge.node, bridge.port, Work), Step(Nothing)),
-        (Carry(a), Done),
-    ];
-    has_answers(rt, world, cases.as_slice())
+fn declaring(vid: Vid) -> [(WorldEvent, WorldReply); 6] {
+    [
+        takes(AppRequest::Declare(vid)),
+        makes(ours(), Settle, Settled(1)),
+        makes(ours(), Send(App::Mvrp), Sent(12)),
+        makes(ours(), Send(App::Msrp), Silent),
+        makes(theirs(), Work, Nothing),
+        (Carry(ours()), Done),
+    ]
+}
+
+fn declares(world: &mut World, vid: Vid) -> Result<bool, NoMemory> {
+    has_answers(world, declaring(vid).as_slice())
+}
+
+// Whether the network has three nodes and two links, and is at rest.
+fn begins(world: &World) -> bool {
+    let tree = world.tree();
+    tree.nodes() == 3 && tree.links() == 2 && is_at_rest(world)
+}
+
+// Whether all clocks go on by 1 cs with the event, and once more with a run of it.
+fn clocks_go_on(alloc: Global, world: &mut World) -> Result<bool, NoMemory> {
+    let gone = has_answers(world, [(Clock, Done)].as_slice())? && are_at(world, Cs(1));
+    Ok(gone && runs_clock(alloc, world) && are_at(world, Cs(2)))
 }
 
 #[test]
 fn a_network_begins_quiet_and_its_clock_goes_on(rt: HostRuntime) -> Result<(), Fail> {
     let mut world = scene(rt.alloc())?;
-    assert!(rt; world.quiet() && world.in_step());
-    assert_eq!(rt; (world.tree().nodes(), world.tree().links()), (3, 2));
-    has_answers(&rt, &mut world, [(Clock, Done)].as_slice())?;
-    for node in 1..4 {
-        assert_eq!(rt; now(&world, NodeNo(node)), Some(Cs(1)));
-    }
-    assert_eq!(rt; run_clock(rt.alloc(), &mut world), Some(true));
-    assert_eq!(rt; now(&world, NodeNo(3)), Some(Cs(2)));
-    assert!(rt; world.quiet() && world.in_step());
+    assert!(rt; begins(&world));
+    assert!(rt; clocks_go_on(rt.alloc(), &mut world)?);
+    assert!(rt; is_at_rest(&world));
     Ok(())
+}
+
+// Where nothing is repeated or lost, and the one PDU is worked on.
+fn registering() -> [(WorldEvent, WorldReply); 5] {
+    [
+        (Repeat(theirs(), 1), Missed),
+        (Lose(theirs(), 1), Missed),
+        (Lose(port(2, 2), 0), Missed),
+        makes(theirs(), Work, Received(1)),
+        (Lose(theirs(), 0), Missed),
+    ]
+}
+
+// Whether a VID waits at the bridge, and whether it is registered there, at the one port alone.
+fn waits(world: &World, vid: Vid) -> bool {
+    sees(
+        world,
+        theirs(),
+        NodeKey::Vlan(vid),
+        (Registrar::Empty, 1, true),
+    )
+}
+
+fn is_registered(world: &World, vid: Vid) -> bool {
+    let key = NodeKey::Vlan(vid);
+    sees(world, theirs(), key, (Registrar::Held, 0, true))
+        && sees(world, port(2, 2), key, (Registrar::Empty, 0, true))
+}
+
+// Whether it comes to be registered, and the bridge has something to say of it.
+fn registers(world: &mut World, vid: Vid) -> Result<bool, NoMemory> {
+    let worked = waits(world, vid) && has_answers(world, registering().as_slice())?;
+    Ok(worked && is_registered(world, vid) && !world.quiet() && world.in_step())
 }
 
 #[test]
 fn a_declaration_is_registered_over_the_link(rt: HostRuntime) -> Result<(), Fail> {
-    let vid = Vid::new(10).expect(&rt, "a VID");
+    let vid = Vid::new(10).ok_or("a VID")?;
     let mut world = scene(rt.alloc())?;
-    declare(&rt, &mut world, vid)?;
-    let (at, other) = (port(2, 1), port(2, 2));
-    assert_eq!(rt;
-        seen(&world, at, NodeKey::Vlan(vid)),
-        Some((Registrar::Empty, 1, true))
-    );
-    let cases = [
-        (Repeat(at, 1), Missed),
-        (Lose(at, 1), Missed),
-        (Lose(other, 0), Missed),
-        (Port(at.node, at.port, Work), Step(Received(1))),
-        (Lose(at, 0), Missed),
-    ];
-    has_answers(&rt, &mut world, cases.as_slice())?;
-    assert_eq!(rt;
-        seen(&world, at, NodeKey::Vlan(vid)),
-        Some((Registrar::Held, 0, true))
-    );
-    assert_eq!(rt;
-        seen(&world, other, NodeKey::Vlan(vid)),
-        Some((Registrar::Empty, 0, true))
-    );
-    assert!(rt; !world.quiet() && world.in_step());
+    assert!(rt; declares(&mut world, vid)?);
+    assert!(rt; registers(&mut world, vid)?);
     Ok(())
 }
 
@@ -235,24 +291,26 @@ fn noted_of_all(alloc: Global, world: &World) -> Result<Timeline, NoMemory> {
     Ok(timeline)
 }
 
-// Whether both note the same change and no other; None where the tree hasn't the port.
-fn noted_alike(alloc: Global, world: &World, at: EgressPort) -> Result<Option<bool>, NoMemory> {
+// Whether both note the same change and no other; false where the tree hasn't the port.
+fn notes_alike(alloc: Global, world: &World, at: EgressPort) -> Result<bool, NoMemory> {
     if !has_port(world, at) {
-        return Ok(None);
+        return Ok(false);
     }
     let noted = noted_of_node(alloc, world, at)?;
-    Ok(Some(noted.changes.len() == 1 && noted == noted_of_all(alloc, world)?))
+    Ok(noted.changes.len() == 1 && noted == noted_of_all(alloc, world)?)
+}
+
+// Whether the bridge works on what came in.
+fn works(world: &mut World) -> Result<bool, NoMemory> {
+    has_answers(world, [makes(theirs(), Work, Received(1))].as_slice())
 }
 
 #[test]
 fn a_registration_is_noted_at_its_node_as_among_all(rt: HostRuntime) -> Result<(), Fail> {
-    let vid = Vid::new(10).expect(&rt, "a VID");
+    let vid = Vid::new(10).ok_or("a VID")?;
     let mut world = scene(rt.alloc())?;
-    declare(&rt, &mut world, vid)?;
-    let at = port(2, 1);
-    let cases = [(Port(at.node, at.port, Work), Step(Received(1)))];
-    has_answers(&rt, &mut world, cases.as_slice())?;
-    assert_eq!(rt; noted_alike(rt.alloc(), &world, at)?, Some(true));
+    assert!(rt; declares(&mut world, vid)? && works(&mut world)?);
+    assert!(rt; notes_alike(rt.alloc(), &world, theirs())?);
     Ok(())
 }
 
@@ -270,49 +328,56 @@ fn talker() -> Option<Talker> {
     })
 }
 
+// It is carried to the bridge, which works on it.
+fn talking(talker: Talker) -> [(WorldEvent, WorldReply); 5] {
+    [
+        takes(AppRequest::Talk(talker)),
+        makes(ours(), Settle, Settled(2)),
+        makes(ours(), Send(App::Msrp), Sent(37)),
+        (Carry(ours()), Done),
+        makes(theirs(), Work, Received(1)),
+    ]
+}
+
+// Whether it is registered there then, and the bridge has something to say of it.
+fn talks(world: &mut World, talker: Talker) -> Result<bool, NoMemory> {
+    let key = NodeKey::Srp(MsrpKey::Talker(talker.stream));
+    let talked = has_answers(world, talking(talker).as_slice())?;
+    let seen = sees(world, theirs(), key, (Registrar::Held, 0, true));
+    Ok(talked && seen && !world.quiet() && world.in_step())
+}
+
 #[test]
 fn a_talker_is_registered_over_the_link(rt: HostRuntime) -> Result<(), Fail> {
-    let talker = talker().expect(&rt, "a Talker");
+    let talker = talker().ok_or("a Talker")?;
     let mut world = scene(rt.alloc())?;
-    let (a, bridge) = (port(1, 1), port(2, 1));
-    let cases = [
-        (Request(a.node, AppRequest::Talk(talker)), Step(Taken)),
-        (Port(a.node, a.port, Settle), Step(Settled(2))),
-        (Port(a.node, a.port, Send(App::Msrp)), Step(Sent(37))),
-        (Carry(a), Done),
-        (Port(bridge.node, bridge.port, Work), Step(Received(1))),
-    ];
-    has_answers(&rt, &mut world, cases.as_slice())?;
-    let key = NodeKey::Srp(MsrpKey::Talker(talker.stream));
-    assert_eq!(rt; seen(&world, bridge, key), Some((Registrar::Held, 0, true)));
-    assert!(rt; !world.quiet() && world.in_step());
+    assert!(rt; talks(&mut world, talker)?);
     Ok(())
+}
+
+// Whether the PDU that waits at the bridge is repeated, and one of the two is lost.
+fn loses(world: &mut World) -> Result<bool, NoMemory> {
+    let cases = [(Repeat(theirs(), 0), Done), (Lose(theirs(), 0), Done)];
+    Ok(has_answers(world, cases.as_slice())? && !world.quiet() && !world.in_step())
+}
+
+// Whether the ends of the first link are spoilt, and whether those of the second aren't.
+fn is_spoilt(world: &World, key: NodeKey) -> bool {
+    sees(world, theirs(), key, (Registrar::Empty, 1, false))
+        && sees(world, ours(), key, (Registrar::Empty, 0, false))
+}
+
+fn is_sound_elsewhere(world: &World, key: NodeKey) -> bool {
+    sees(world, port(2, 2), key, (Registrar::Empty, 0, true))
+        && sees(world, port(3, 1), key, (Registrar::Empty, 0, true))
 }
 
 #[test]
 fn a_loss_spoils_both_ends_of_its_link(rt: HostRuntime) -> Result<(), Fail> {
-    let vid = Vid::new(10).expect(&rt, "a VID");
+    let vid = Vid::new(10).ok_or("a VID")?;
     let mut world = scene(rt.alloc())?;
-    declare(&rt, &mut world, vid)?;
-    let at = port(2, 1);
-    let cases = [(Repeat(at, 0), Done), (Lose(at, 0), Done)];
-    has_answers(&rt, &mut world, cases.as_slice())?;
-    assert_eq!(rt;
-        seen(&world, at, NodeKey::Vlan(vid)),
-        Some((Registrar::Empty, 1, false))
-    );
-    assert_eq!(rt;
-        seen(&world, port(1, 1), NodeKey::Vlan(vid)),
-        Some((Registrar::Empty, 0, false))
-    );
-    assert_eq!(rt;
-        seen(&world, port(2, 2), NodeKey::Vlan(vid)),
-        Some((Registrar::Empty, 0, true))
-    );
-    assert_eq!(rt;
-        seen(&world, port(3, 1), NodeKey::Vlan(vid)),
-        Some((Registrar::Empty, 0, true))
-    );
-    assert!(rt; !world.quiet() && !world.in_step());
+    assert!(rt; declares(&mut world, vid)? && loses(&mut world)?);
+    assert!(rt; is_spoilt(&world, NodeKey::Vlan(vid)));
+    assert!(rt; is_sound_elsewhere(&world, NodeKey::Vlan(vid)));
     Ok(())
 }
