@@ -1,8 +1,9 @@
-//! A station declares VID 10, and what it says goes through a bridge of two ports; a station talks a stream, and another
-//! listens; and a PDU is lost, another comes twice, and the timers of a port that is spoilt are due.
+//! A station declares VID 10, and what it says goes through a bridge of two ports; a station talks
+//! a stream, and another listens; and a PDU is lost, another comes twice, and the timers of a port
+//! that is spoilt are due.
 //!
-//! The calls stand in functions of their own without contracts, each of which asks first whether the node has the port,
-//! so that a test's own proof is short.
+//! The calls stand in functions of their own without contracts, each of which asks first whether
+//! the node has the port, so that a test's own proof is short.
 
 ghost use Rattle.std.specs.Prelude.{◌≡◌, ◌≤◌, ◌+◌, true, IfSome};
 ghost use Rattle.mvrp.specs.Side.{IsLinkPort};
@@ -127,7 +128,8 @@ fn comes_in(node: &mut Node, port: PortNo, wires: Seq<Wire>) -> Result<bool, NoM
     }
 }
 
-// What waits to go out at a link port comes in at one of another node; false where a port isn't there.
+// What waits to go out at a link port comes in at one of another node; false where a port isn't
+// there.
 fn carry(from: &mut Node, out: PortNo, to: &mut Node, into: PortNo) -> Result<bool, NoMemory> {
     if !has(from, out) {
         return Ok(false);
@@ -148,7 +150,8 @@ fn says(node: &mut Node, port: PortNo, octets: &[u8]) -> bool {
     }
 }
 
-// Whether so many PDUs wait at a link port, the front one of this application, and what the registrar of a VID is.
+// Whether so many PDUs wait at a link port, the front one of this application, and what the
+// registrar of a VID is.
 fn shows(
     node: &Node,
     port: PortNo,
@@ -192,13 +195,9 @@ fn spoil(node: &mut Node, port: PortNo) {
     }
 }
 
-// Whether MVRP's participant at a link port is sound, and MSRP's.
-fn soundness(node: &Node, port: PortNo) -> [bool; 2] {
-    if has(node, port) {
-        [node.sound(port, App::Mvrp), node.sound(port, App::Msrp)]
-    } else {
-        [false; 2]
-    }
+// Whether MVRP's participant at a link port is sound or not, and MSRP's.
+fn is_sound(node: &Node, port: PortNo, mvrp: bool, msrp: bool) -> bool {
+    has(node, port) && node.sound(port, App::Mvrp) == mvrp && node.sound(port, App::Msrp) == msrp
 }
 
 // Whether a link port has all kinds of jobs to do, for one PDU.
@@ -220,83 +219,179 @@ fn has_keys(node: &Node, port: PortNo, keys: &[NodeKey]) -> Result<bool, NoMemor
     Ok(found.as_slice() == keys)
 }
 
-// The clock goes on by 1 cs, by the call or by the event; the moment afterwards.
-fn goes_on(node: &mut Node, by_event: bool) -> Result<Cs, NoMemory> {
+// The clock goes on by 1 cs by the event, and by the call; whether it shows this moment afterwards.
+fn steps_to(node: &mut Node, moment: u64) -> Result<bool, NoMemory> {
     if 1_000_000 < node.now().0 {
-        return Ok(Cs(0));
+        return Ok(false);
     }
-    if by_event {
-        node.step(NodeEvent::Clock)?;
-    } else {
-        let sets = node.prepare_clock()?;
-        node.tick(sets);
-    }
-    Ok(node.now())
+    node.step(NodeEvent::Clock)?;
+    Ok(node.now() == Cs(moment))
 }
 
-// What is seen where a station declares a VID, and a bridge hears of it at one port and says it at the other.
-fn declaration(station: &mut Node, bridge: &mut Node, vid: Vid) -> Result<[bool; 7], NoMemory> {
-    let named = station.ports() == 1 && station.bridge() == BridgeId(17) && station.still();
-    let asked = named && asks(station, AppRequest::Declare(vid))? && station.declares(vid);
-    let list = [
+fn ticks_to(node: &mut Node, moment: u64) -> Result<bool, NoMemory> {
+    if 1_000_000 < node.now().0 {
+        return Ok(false);
+    }
+    let sets = node.prepare_clock()?;
+    node.tick(sets);
+    Ok(node.now() == Cs(moment))
+}
+
+// Whether port 1 of a node makes these steps, and what it says comes in at port 1 of another.
+fn says_to(
+    from: &mut Node,
+    steps: &[(PortStep, StepReply)],
+    to: &mut Node,
+) -> Result<bool, NoMemory> {
+    Ok(answers(from, ONE, steps)? && carry(from, ONE, to, ONE)?)
+}
+
+// ---- a VID that a station declares
+
+// The steps in which a station says that it declares a VID, and in which a port of a bridge does.
+fn declaring() -> [(PortStep, StepReply); 3] {
+    [
         (Settle, Settled(1)),
         (Send(App::Msrp), Silent),
         (Send(App::Mvrp), Sent(12)),
-    ];
-    let sent = answers(station, ONE, list.as_slice())?;
-    let carried = carry(station, ONE, bridge, ONE)?;
-    let waits = shows(bridge, ONE, 1, Some(App::Mvrp), (vid, Registrar::Empty));
+    ]
+}
+
+fn passing_on() -> [(PortStep, StepReply); 2] {
+    [(Settle, Settled(1)), (Send(App::Mvrp), Sent(12))]
+}
+
+// Whether this is the station of one port, and nothing is pending in it.
+fn is_new(station: &Node) -> bool {
+    station.ports() == 1 && station.bridge() == BridgeId(17) && station.still()
+}
+
+// Whether its application declares a VID.
+fn declares(station: &mut Node, vid: Vid) -> Result<bool, NoMemory> {
+    Ok(asks(station, AppRequest::Declare(vid))? && station.declares(vid))
+}
+
+// Whether what it says of the VID waits at port 1 of a bridge.
+fn is_carried(station: &mut Node, bridge: &mut Node, vid: Vid) -> Result<bool, NoMemory> {
+    let carried = says_to(station, declaring().as_slice(), bridge)?;
+    Ok(carried && shows(bridge, ONE, 1, Some(App::Mvrp), (vid, Registrar::Empty)))
+}
+
+// Whether the VID is registered there, once the PDU is worked on, and nothing else.
+fn is_registered(bridge: &mut Node, vid: Vid) -> Result<bool, NoMemory> {
     let worked = answers(bridge, ONE, [(Work, Received(1))].as_slice())?;
-    let registered = shows(bridge, ONE, 0, None, (vid, Registrar::Held))
-        && has_keys(bridge, ONE, [NodeKey::Vlan(vid)].as_slice())?;
-    let said = says_at_two(bridge, &JOIN)?;
-    Ok([asked, sent, carried, waits, worked, registered, said])
+    let held = shows(bridge, ONE, 0, None, (vid, Registrar::Held));
+    Ok(worked && held && has_keys(bridge, ONE, [NodeKey::Vlan(vid)].as_slice())?)
 }
 
 // Whether one VID awaits at port 2, and what is said of it there are these octets.
 fn says_at_two(bridge: &mut Node, octets: &[u8]) -> Result<bool, NoMemory> {
-    let list = [(Settle, Settled(1)), (Send(App::Mvrp), Sent(12))];
     Ok(
-        answers(bridge, TWO, list.as_slice())?
+        answers(bridge, TWO, passing_on().as_slice())?
             && puts_back(bridge, TWO)
             && says(bridge, TWO, octets),
     )
 }
 
-// What is seen where a malformed PDU comes in at port 1 of a bridge, and then one that comes twice and is lost once.
-fn incidents(alloc: Global, bridge: &mut Node) -> Result<[bool; 3], NoMemory> {
-    let broken = comes_in(bridge, ONE, pdu(alloc, &BROKEN)?)?
-        && answers(bridge, ONE, [(Work, Discarded(2))].as_slice())?;
-    let came = comes_in(bridge, ONE, pdu(alloc, &JOIN)?)?;
-    let once = repeats(bridge, ONE)? && loses(bridge, ONE);
-    Ok([broken, came, once])
+// Whether a bridge hears of the VID at one port and says it at the other.
+fn goes_through(station: &mut Node, bridge: &mut Node, vid: Vid) -> Result<bool, NoMemory> {
+    Ok(
+        is_new(station)
+            && declares(station, vid)?
+            && is_carried(station, bridge, vid)?
+            && is_registered(bridge, vid)?
+            && says_at_two(bridge, &JOIN)?,
+    )
 }
 
-// What is seen where that PDU is worked on, the port is spoilt, and the LeaveAll timers of the port are due at 3, of both
-// applications, and nobody says the VID again.
-fn leaving(bridge: &mut Node, vid: Vid) -> Result<[bool; 5], NoMemory> {
-    let busy = has_jobs(bridge, ONE)? && bridge.is_busy();
-    let list = [(Work, Received(1)), (Work, Nothing), (Due, Fired(0))];
-    let worked = answers(bridge, ONE, list.as_slice())? && says_at_two(bridge, &JOIN)?;
+fn goes_through_new(alloc: Global) -> Result<bool, Fail> {
+    let vid = Vid::new(10).ok_or("a VID")?;
+    let mut station = station(alloc)?;
+    let mut bridge = bridge(alloc)?;
+    Ok(goes_through(&mut station, &mut bridge, vid)?)
+}
+
+// ---- a VID that a LeaveAll leaves
+
+// The steps at port 1 of a bridge before the LeaveAll timers of both applications are due, then,
+// and at the end of the leave timer of a VID.
+fn working() -> [(PortStep, StepReply); 3] {
+    [(Work, Received(1)), (Work, Nothing), (Due, Fired(0))]
+}
+
+fn leaving_all() -> [(PortStep, StepReply); 2] {
+    [(Due, Fired(2)), (Send(App::Mvrp), Sent(11))]
+}
+
+fn leaving(vid: Vid, count: u32) -> [(PortStep, StepReply); 1] {
+    [(LeaveNow(NodeKey::Vlan(vid)), Fired(count))]
+}
+
+// Whether a malformed PDU that comes in at port 1 is discarded.
+fn discards(alloc: Global, bridge: &mut Node) -> Result<bool, NoMemory> {
+    let wires = pdu(alloc, &BROKEN)?;
+    Ok(comes_in(bridge, ONE, wires)? && answers(bridge, ONE, [(Work, Discarded(2))].as_slice())?)
+}
+
+// Whether a PDU comes in there twice and is lost once.
+fn comes_once(alloc: Global, bridge: &mut Node) -> Result<bool, NoMemory> {
+    let wires = pdu(alloc, &JOIN)?;
+    Ok(comes_in(bridge, ONE, wires)? && repeats(bridge, ONE)? && loses(bridge, ONE))
+}
+
+// Whether that PDU is worked on, and its VID is said at port 2.
+fn is_worked_on(bridge: &mut Node) -> Result<bool, NoMemory> {
+    Ok(
+        has_jobs(bridge, ONE)?
+            && bridge.is_busy()
+            && answers(bridge, ONE, working().as_slice())?
+            && says_at_two(bridge, &JOIN)?,
+    )
+}
+
+// Whether MVRP at port 1 isn't sound once it is spoilt, and MSRP is.
+fn is_spoilt(bridge: &mut Node) -> Result<bool, NoMemory> {
     spoil(bridge, ONE);
-    let spoilt = soundness(bridge, ONE) == [false, true] && !bridge.copy()?.all_sound();
-    let moments = [
-        goes_on(bridge, true)?,
-        goes_on(bridge, false)?,
-        goes_on(bridge, true)?,
-    ];
-    let list = [(Due, Fired(2)), (Send(App::Mvrp), Sent(11))];
-    let due = moments == [Cs(1), Cs(2), Cs(3)] && answers(bridge, ONE, list.as_slice())?;
-    let left = soundness(bridge, ONE) == [true, true] && leaves(bridge, vid)?;
-    Ok([busy, worked, spoilt, due, left])
+    let copy = bridge.copy()?;
+    Ok(is_sound(bridge, ONE, false, true) && !copy.all_sound())
+}
+
+// Whether a LeaveAll of both applications is due at port 1 after 3 cs, which makes it sound.
+fn leaves_all(bridge: &mut Node) -> Result<bool, NoMemory> {
+    let moved = steps_to(bridge, 1)? && ticks_to(bridge, 2)? && steps_to(bridge, 3)?;
+    Ok(
+        moved
+            && answers(bridge, ONE, leaving_all().as_slice())?
+            && is_sound(bridge, ONE, true, true),
+    )
 }
 
 // Whether a VID that was leaving at port 1 has left, and is withdrawn at port 2.
 fn leaves(bridge: &mut Node, vid: Vid) -> Result<bool, NoMemory> {
-    let key = NodeKey::Vlan(vid);
-    let list = [(LeaveNow(key), Fired(1)), (LeaveNow(key), Fired(0))];
-    Ok(answers(bridge, ONE, list.as_slice())? && says_at_two(bridge, &LEAVE)?)
+    Ok(
+        answers(bridge, ONE, leaving(vid, 1).as_slice())?
+            && answers(bridge, ONE, leaving(vid, 0).as_slice())?
+            && says_at_two(bridge, &LEAVE)?,
+    )
 }
+
+// Whether a VID comes in once after a malformed PDU, and leaves where nobody says it again after
+// the LeaveAll.
+fn comes_at(alloc: Global, bridge: &mut Node) -> Result<bool, NoMemory> {
+    Ok(discards(alloc, bridge)? && comes_once(alloc, bridge)? && is_worked_on(bridge)?)
+}
+
+fn leaves_at(bridge: &mut Node, vid: Vid) -> Result<bool, NoMemory> {
+    Ok(is_spoilt(bridge)? && leaves_all(bridge)? && leaves(bridge, vid)?)
+}
+
+fn leaves_new(alloc: Global) -> Result<bool, Fail> {
+    let vid = Vid::new(10).ok_or("a VID")?;
+    let mut bridge = bridge(alloc)?;
+    Ok(comes_at(alloc, &mut bridge)? && leaves_at(&mut bridge, vid)?)
+}
+
+// ---- a stream from one station to another
 
 // A Talker of a stream: one frame of 200 octets in each interval of class A, so 15,488,000 bit/s.
 fn talker_of(stream: StreamId) -> Option<Talker> {
@@ -314,138 +409,165 @@ fn talker_of(stream: StreamId) -> Option<Talker> {
     })
 }
 
-// Whether a link port has booked a stream alone, for the Listener that is registered there.
+// The steps in which a station says that it talks and declares, another that it listens, and the
+// first works on that.
+fn talking() -> [(PortStep, StepReply); 2] {
+    [(Settle, Settled(3)), (Send(App::Msrp), Sent(37))]
+}
+
+fn listening() -> [(PortStep, StepReply); 3] {
+    [
+        (Work, Received(1)),
+        (Settle, Settled(2)),
+        (Send(App::Msrp), Sent(21)),
+    ]
+}
+
+fn reserving(stream: StreamId) -> [(PortStep, StepReply); 3] {
+    let key = NodeKey::Srp(MsrpKey::Listener(stream));
+    [
+        (Work, Received(1)),
+        (Settle, Settled(2)),
+        (LeaveNow(key), Fired(0)),
+    ]
+}
+
+// The steps in which two timers are fired by hand.
+fn firing() -> [(PortStep, StepReply); 2] {
+    [
+        (PeriodicNow(App::Msrp), Fired(1)),
+        (LeaveAllNow(App::Msrp), Fired(1)),
+    ]
+}
+
+// Whether a station's application talks the stream, and whether another's listens to it.
+fn talks(from: &mut Node, talker: Talker) -> Result<bool, NoMemory> {
+    Ok(asks(from, AppRequest::Talk(talker))? && from.talks(talker.stream))
+}
+
+fn listens(to: &mut Node, stream: StreamId) -> Result<bool, NoMemory> {
+    Ok(asks(to, AppRequest::Listen(stream))? && to.listens(stream))
+}
+
+// Whether a station talks the stream and declares a VID, what awaits counts together, and another
+// hears of the stream.
+fn is_advertised(
+    from: &mut Node,
+    to: &mut Node,
+    talker: Talker,
+    vid: Vid,
+) -> Result<bool, NoMemory> {
+    Ok(talks(from, talker)? && declares(from, vid)? && says_to(from, talking().as_slice(), to)?)
+}
+
+// Whether a station listens to the stream of which it has heard, and what it says of it comes in at
+// another.
+fn is_answered(from: &mut Node, to: &mut Node, stream: StreamId) -> Result<bool, NoMemory> {
+    Ok(listens(to, stream)? && says_to(to, listening().as_slice(), from)?)
+}
+
+// Whether the Talker is advertised as the station states it, and whether a listening application
+// hears that it is ready.
+fn has_talker(node: &Node, stream: StreamId) -> bool {
+    match node.talker(stream) {
+        TalkerReg::Advertise(talker) => talker.stream == stream && talker.latency == 500,
+        TalkerReg::Failed(_, _) | TalkerReg::Absent => false,
+    }
+}
+
+fn hears(node: &Node, stream: StreamId) -> bool {
+    node.heard(stream) == Some(ListenerKind::Ready)
+}
+
+// Whether a link port has booked the stream alone, and whether it takes its share there.
 fn books(node: &Node, port: PortNo, stream: StreamId) -> Result<bool, NoMemory> {
     if !has(node, port) {
         return Ok(false);
     }
     let all = node.bookings(port)?;
-    let sums = all.len() == 1 && node.slope(port, Class::A) == 15_488_000;
-    let fits = node.fit(port, stream) == Some(Fit::Fits);
-    Ok(node.booked(port, stream).is_some() && sums && fits)
+    Ok(all.len() == 1 && node.booked(port, stream).is_some())
 }
 
-// Whether Listener Ready of a stream is all that is registered at a link port.
-fn is_listened(node: &Node, port: PortNo, stream: StreamId) -> Result<bool, NoMemory> {
-    if !has(node, port) {
-        return Ok(false);
-    }
+fn fits(node: &Node, port: PortNo, stream: StreamId) -> bool {
+    has(node, port)
+        && node.slope(port, Class::A) == 15_488_000
+        && node.fit(port, stream) == Some(Fit::Fits)
+}
+
+// Whether Listener Ready of the stream is registered at a link port, and whether nothing else is.
+fn has_listener(node: &Node, port: PortNo, stream: StreamId) -> bool {
     let key = MsrpKey::Listener(stream);
-    let ready = node.content(port, key) == Some(MsrpContent::Listener(ListenerKind::Ready));
-    let held = node.registrar(port, NodeKey::Srp(key)) == Registrar::Held;
-    Ok(ready && held && has_keys(node, port, [NodeKey::Srp(key)].as_slice())?)
+    let ready = MsrpContent::Listener(ListenerKind::Ready);
+    has(node, port)
+        && node.content(port, key) == Some(ready)
+        && node.registrar(port, NodeKey::Srp(key)) == Registrar::Held
 }
 
-// Whether a Talker of a stream is advertised as the station states it, and a listening application hears so.
-fn hears(node: &Node, stream: StreamId) -> bool {
-    let advertised = match node.talker(stream) {
-        TalkerReg::Advertise(talker) => talker.stream == stream && talker.latency == 500,
-        TalkerReg::Failed(_, _) | TalkerReg::Absent => false,
-    };
-    advertised && node.heard(stream) == Some(ListenerKind::Ready)
+fn has_listener_alone(node: &Node, port: PortNo, stream: StreamId) -> Result<bool, NoMemory> {
+    let keys = [NodeKey::Srp(MsrpKey::Listener(stream))];
+    Ok(has_listener(node, port, stream) && has_keys(node, port, keys.as_slice())?)
 }
 
-// Whether a station talks a stream and declares a VID, what awaits counts together, and another hears of the stream.
-fn talks(from: &mut Node, to: &mut Node, talker: Talker, vid: Vid) -> Result<bool, NoMemory> {
-    let stream = talker.stream;
-    let list = [(Settle, Settled(3)), (Send(App::Msrp), Sent(37))];
-    Ok(
-        asks(from, AppRequest::Talk(talker))?
-            && asks(from, AppRequest::Declare(vid))?
-            && from.talks(stream)
-            && answers(from, ONE, list.as_slice())?
-            && carry(from, ONE, to, ONE)?,
-    )
-}
-
-// Whether a station listens to a stream of which it has heard, and what it says of it comes in at another.
-fn listens(from: &mut Node, to: &mut Node, stream: StreamId) -> Result<bool, NoMemory> {
-    let list = [
-        (Work, Received(1)),
-        (Settle, Settled(2)),
-        (Send(App::Msrp), Sent(21)),
-    ];
-    Ok(
-        asks(to, AppRequest::Listen(stream))?
-            && to.listens(stream)
-            && answers(to, ONE, list.as_slice())?
-            && carry(to, ONE, from, ONE)?,
-    )
-}
-
-// Whether a station books a stream once it has heard of a Listener.
+// Whether a station books the stream once it has heard of a Listener.
 fn reserves(from: &mut Node, stream: StreamId) -> Result<bool, NoMemory> {
-    let key = NodeKey::Srp(MsrpKey::Listener(stream));
-    let list = [
-        (Work, Received(1)),
-        (Settle, Settled(2)),
-        (LeaveNow(key), Fired(0)),
-    ];
     Ok(
-        answers(from, ONE, list.as_slice())?
+        answers(from, ONE, reserving(stream).as_slice())?
             && books(from, ONE, stream)?
-            && is_listened(from, ONE, stream)?,
+            && fits(from, ONE, stream)
+            && has_listener_alone(from, ONE, stream)?,
     )
 }
 
-// Whether a station talks a stream no more, another doesn't listen to it any more, and two timers are fired by hand.
-fn ends(from: &mut Node, to: &mut Node, stream: StreamId) -> Result<bool, NoMemory> {
-    let asked = asks(from, AppRequest::Hush(stream))? && asks(to, AppRequest::Unlisten(stream))?;
-    let list = [
-        (PeriodicNow(App::Msrp), Fired(1)),
-        (LeaveAllNow(App::Msrp), Fired(1)),
-    ];
-    let fired = answers(from, ONE, list.as_slice())?;
-    Ok(asked && fired && !from.talks(stream) && !to.listens(stream))
+// Whether a station talks the stream no more, and whether another doesn't listen to it any more.
+fn hushes(from: &mut Node, stream: StreamId) -> Result<bool, NoMemory> {
+    Ok(asks(from, AppRequest::Hush(stream))? && !from.talks(stream))
 }
 
-// The scenes at new nodes.
-fn new_reservation(alloc: Global) -> Result<[bool; 5], Fail> {
+fn unlistens(to: &mut Node, stream: StreamId) -> Result<bool, NoMemory> {
+    Ok(asks(to, AppRequest::Unlisten(stream))? && !to.listens(stream))
+}
+
+// Whether both have ended, and two timers are fired.
+fn ends(from: &mut Node, to: &mut Node, stream: StreamId) -> Result<bool, NoMemory> {
+    Ok(hushes(from, stream)? && unlistens(to, stream)? && answers(from, ONE, firing().as_slice())?)
+}
+
+// Whether the stream is booked, and its stations end it.
+fn is_booked(from: &mut Node, to: &mut Node, stream: StreamId) -> Result<bool, NoMemory> {
+    Ok(
+        is_answered(from, to, stream)?
+            && has_talker(to, stream)
+            && hears(to, stream)
+            && reserves(from, stream)?
+            && ends(from, to, stream)?,
+    )
+}
+
+fn books_new(alloc: Global) -> Result<bool, Fail> {
     let vid = Vid::new(10).ok_or("a VID")?;
     let stream = StreamId(0x0200_0000_0001_0001);
     let talker = talker_of(stream).ok_or("a Talker")?;
     let mut from = station(alloc)?;
     let mut to = station(alloc)?;
-    let said = talks(&mut from, &mut to, talker, vid)?;
-    let answered = listens(&mut from, &mut to, stream)?;
-    let heard = hears(&to, stream);
-    let booked = reserves(&mut from, stream)?;
-    Ok([
-        said,
-        answered,
-        heard,
-        booked,
-        ends(&mut from, &mut to, stream)?,
-    ])
+    Ok(is_advertised(&mut from, &mut to, talker, vid)? && is_booked(&mut from, &mut to, stream)?)
 }
 
-fn new_declaration(alloc: Global) -> Result<[bool; 7], Fail> {
-    let vid = Vid::new(10).ok_or("a VID")?;
-    let mut station = station(alloc)?;
-    let mut bridge = bridge(alloc)?;
-    Ok(declaration(&mut station, &mut bridge, vid)?)
-}
-
-fn new_leaving(alloc: Global) -> Result<([bool; 3], [bool; 5]), Fail> {
-    let vid = Vid::new(10).ok_or("a VID")?;
-    let mut bridge = bridge(alloc)?;
-    Ok((incidents(alloc, &mut bridge)?, leaving(&mut bridge, vid)?))
-}
+// ---- the tests
 
 #[test]
 fn a_vid_goes_from_a_station_through_a_bridge(rt: HostRuntime) -> Result<(), Fail> {
-    assert_eq!(rt; new_declaration(rt.alloc())?, [true; 7]);
+    assert!(rt; goes_through_new(rt.alloc())?);
     Ok(())
 }
 
 #[test]
 fn a_stream_is_booked_where_a_station_listens(rt: HostRuntime) -> Result<(), Fail> {
-    assert_eq!(rt; new_reservation(rt.alloc())?, [true; 5]);
+    assert!(rt; books_new(rt.alloc())?);
     Ok(())
 }
 
 #[test]
 fn what_a_leave_all_leaves_is_withdrawn(rt: HostRuntime) -> Result<(), Fail> {
-    assert_eq!(rt; new_leaving(rt.alloc())?, ([true; 3], [true; 5]));
+    assert!(rt; leaves_new(rt.alloc())?);
     Ok(())
 }
