@@ -70,7 +70,7 @@ fn is_station(world: &World, node: NodeNo, request: AppRequest) -> bool
 }
 
 // Whether the clock, which is one for all nodes, goes on.
-#[tactic(auto, using(world_core::proofs::Standing::clock_goes_on))]
+#[tactic(auto, using(crate::proofs::Worlds::clock_goes_on))]
 fn goes_on(world: &World) -> bool
     ensures { IsTrue result → CanHappen WorldEvent.Clock world.now }
 {
@@ -261,7 +261,7 @@ fn a_declaration_is_registered_over_the_link(rt: HostRuntime) -> Result<(), Fail
 }
 
 // What is noted in tick 7 of a port that has worked: by going over its node alone, and over all.
-#[tactic(auto, using(world_core::proofs::Timelines::none_are))]
+#[tactic(auto, using(crate::proofs::Worlds::none_are))]
 fn noted_of_node(alloc: Global, world: &World, at: EgressPort) -> Result<Timeline, NoMemory>
     requires { HasPort world.now.tree at }
 {
@@ -282,7 +282,7 @@ fn noted_of_node(alloc: Global, world: &World, at: EgressPort) -> Result<Timelin
         .into_timeline()
 }
 
-#[tactic(auto, using(world_core::proofs::Timelines::none_are))]
+#[tactic(auto, using(crate::proofs::Worlds::none_are))]
 fn noted_of_all(alloc: Global, world: &World) -> Result<Timeline, NoMemory> {
     let mut timeline = Timeline {
         changes: Seq::new(alloc),
