@@ -68,8 +68,8 @@ fn joins_listener(stream: StreamId, kind: ListenerKind) -> Event {
 }
 
 fn joins_talker(talker: Talker) -> Event {
-    let content = MsrpContent::Advertise(talker);
-    (MrpEvent::JoinMt, MsrpKey::Talker(talker.stream), content)
+    let key = MsrpKey::Talker(talker.stream);
+    (MrpEvent::JoinMt, key, MsrpContent::Advertise(talker))
 }
 
 fn joins_domain(class: u8, priority: u8) -> Event {
