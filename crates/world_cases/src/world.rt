@@ -229,20 +229,25 @@ fn registering() -> [(WorldEvent, WorldReply); 5] {
     ]
 }
 
+// Whether a VID isn't registered at a port, so many PDUs wait there, and the port is sound or not.
+fn is_empty(world: &World, at: EgressPort, vid: Vid, waiting: usize, sound: bool) -> bool {
+    let seen = (Registrar::Empty, waiting, sound);
+    sees(world, at, NodeKey::Vlan(vid), seen)
+}
+
+// Whether it is registered at a sound port at which nothing waits.
+fn is_held(world: &World, at: EgressPort, vid: Vid) -> bool {
+    let seen = (Registrar::Held, 0, true);
+    sees(world, at, NodeKey::Vlan(vid), seen)
+}
+
 // Whether a VID waits at the bridge, and whether it is registered there, at the one port alone.
 fn waits(world: &World, vid: Vid) -> bool {
-    sees(
-        world,
-        theirs(),
-        NodeKey::Vlan(vid),
-        (Registrar::Empty, 1, true),
-    )
+    is_empty(world, theirs(), vid, 1, true)
 }
 
 fn is_registered(world: &World, vid: Vid) -> bool {
-    let key = NodeKey::Vlan(vid);
-    sees(world, theirs(), key, (Registrar::Held, 0, true))
-        && sees(world, port(2, 2), key, (Registrar::Empty, 0, true))
+    is_held(world, theirs(), vid) && is_empty(world, port(2, 2), vid, 0, true)
 }
 
 // Whether it comes to be registered, and the bridge has something to say of it.
@@ -362,14 +367,12 @@ fn loses(world: &mut World) -> Result<bool, NoMemory> {
 }
 
 // Whether the ends of the first link are spoilt, and whether those of the second aren't.
-fn is_spoilt(world: &World, key: NodeKey) -> bool {
-    sees(world, theirs(), key, (Registrar::Empty, 1, false))
-        && sees(world, ours(), key, (Registrar::Empty, 0, false))
+fn is_spoilt(world: &World, vid: Vid) -> bool {
+    is_empty(world, theirs(), vid, 1, false) && is_empty(world, ours(), vid, 0, false)
 }
 
-fn is_sound_elsewhere(world: &World, key: NodeKey) -> bool {
-    sees(world, port(2, 2), key, (Registrar::Empty, 0, true))
-        && sees(world, port(3, 1), key, (Registrar::Empty, 0, true))
+fn is_sound_elsewhere(world: &World, vid: Vid) -> bool {
+    is_empty(world, port(2, 2), vid, 0, true) && is_empty(world, port(3, 1), vid, 0, true)
 }
 
 #[test]
@@ -377,7 +380,7 @@ fn a_loss_spoils_both_ends_of_its_link(rt: HostRuntime) -> Result<(), Fail> {
     let vid = Vid::new(10).ok_or("a VID")?;
     let mut world = scene(rt.alloc())?;
     assert!(rt; declares(&mut world, vid)? && loses(&mut world)?);
-    assert!(rt; is_spoilt(&world, NodeKey::Vlan(vid)));
-    assert!(rt; is_sound_elsewhere(&world, NodeKey::Vlan(vid)));
+    assert!(rt; is_spoilt(&world, vid));
+    assert!(rt; is_sound_elsewhere(&world, vid));
     Ok(())
 }
