@@ -1,6 +1,6 @@
 //! The ledger of one egress port.
 
-ghost use Rattle.std.specs.Prelude.{◌≡◌, ◌≢◌, ◌↔◌, ◌+◌, ◌≤◌, ◌<◌, ◌^◌, ◌==◌, ◌&&◌, nat_lt, ℕ, [], length, slice_get, Some, None, IsTrue, if◌then◌else◌, IfOk, IfSome, IsSome, OnOk, OnErr, is_some};
+ghost use Rattle.std.specs.Prelude.{◌≡◌, ◌≢◌, ◌↔◌, ◌+◌, ◌≤◌, ◌<◌, ◌^◌, ◌==◌, ◌&&◌, nat_lt, ℕ, [], length, slice_get, Some, None, IsTrue, if◌then◌else◌, IfOk, IfSome, IsSome, IsPermutation, OnOk, OnErr, is_some};
 ghost use Rattle.srp_base.specs.declared.bandwidth.Class.TheVariants.{A, B};
 ghost use Rattle.srp_base.specs.declared.numbers.StreamId.{StreamId};
 ghost use Rattle.stream_importance.specs.declared.entry.Fit.TheVariants.{Fits};
@@ -12,7 +12,7 @@ ghost use Rattle.port_ledger.specs.Decision.{booked_of, Decides, does_fit, is_bo
 
 use crate::changed::{Changed, changes};
 use crate::decide::{unwant, wanted};
-use crate::entries::{bookings, find_entry};
+use crate::entries::{bookings, copy_of, find_entry};
 use crate::fit::{fit_of, tested_as};
 use crate::laws::nothing_changed_where_both_lists_are_empty;
 use crate::totals::{Totals, totals_of};
@@ -94,7 +94,6 @@ impl Ledger {
         ensures err { OnErr result (self.new ≡ self.old) }
     {
         self.stands();
-        self.within_caps();
         importance_is_an_order();
         let alloc = *self.entries.allocator();
         if self.has_want(&want) {
@@ -102,7 +101,31 @@ impl Ledger {
             return Ok(Changed::nothing(alloc));
         }
         let (entries, order) = wanted(alloc, now, &self.caps, &self.entries, &self.order, want)?;
-        let changed = changes(alloc, &self.entries, &entries)?;
+        self.replace(now, entries, order)
+    }
+
+    /// Keeps these entries and their order, as they were decided at this moment in cs. What changed in the
+    /// booked set is answered. After want of memory the ledger is as it was.
+    fn replace(
+        &mut self,
+        now: Cs,
+        entries: Vec<Entry>,
+        order: Vec<Entry>,
+    ) -> Result<Changed, NoMemory>
+        requires kept { IsKept (record self.old { moment = now.0; entries = entries.items }) }
+        requires same { IsPermutation entries.items order.items }
+        ensures book { OnOk result (self.new
+            ≡ record self.old { moment = now.0; entries = entries.items }) }
+        ensures booked { IfOk result (λ c. c.booked
+            ≡ booked_only_in self.new.entries self.old.entries) }
+        ensures dropped { IfOk result (λ c. c.dropped
+            ≡ booked_only_in self.old.entries self.new.entries) }
+        ensures err { OnErr result (self.new ≡ self.old) }
+    {
+        self.stands();
+        self.within_caps();
+        importance_is_an_order();
+        let changed = changes(*self.entries.allocator(), &self.entries, &entries)?;
         self.totals = totals_of(&entries, now);
         self.entries = entries;
         self.order = order;
@@ -276,10 +299,8 @@ impl Ledger {
         ensures { IfOk result (λ l. l ≡ self.now) }
     {
         let alloc = *self.entries.allocator();
-        let mut entries = Vec::with_capacity(alloc, self.entries.len())?;
-        entries.extend_from_slice(&self.entries)?;
-        let mut order = Vec::with_capacity(alloc, self.order.len())?;
-        order.extend_from_slice(&self.order)?;
+        let entries = copy_of(alloc, &self.entries)?;
+        let order = copy_of(alloc, &self.order)?;
         Ok(Ledger {
             caps: self.caps,
             moment: self.moment,
