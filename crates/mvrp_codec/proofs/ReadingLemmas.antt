@@ -79,6 +79,14 @@ events_go_on done more total vid n i packed lt so_far e =
     ∙ octet_more vid n (event_of (octet / 36)) (event_of (octet / 6 % 6)) (event_of (octet % 6)) (flat_map three_events (drop (i + 1) packed)) in
     ap (λ (es : List (MrpEvent × ℕ)). es ++ later) e ∙ append_assoc done here later ∙ ap (λ (es : List (MrpEvent × ℕ)). done ++ es) (sym split) ∙ so_far
 
+-- no octet is left
+pub events_end : (done total : List (MrpEvent × ℕ)) (vid n i : ℕ) (packed : List ℕ) → length packed ≤ i
+    → done ++ events_from vid (take n (flat_map three_events (drop i packed))) ≡ total → done ≡ total
+events_end done total vid n i packed le so_far =
+    sym (append-nil done)
+    ∙ ap (λ (es : List MrpEvent). done ++ events_from vid es) (sym (ap (λ (os : List ℕ). take n (flat_map three_events os)) (drop_all i packed le) ∙ take_nil n))
+    ∙ so_far
+
 pub events_stop : (done total : List (MrpEvent × ℕ)) (vid : ℕ) (events : List MrpEvent) → 4094 < vid → done ++ events_from vid events ≡ total → done ≡ total
 events_stop done total vid events h so_far = sym (append-nil done) ∙ ap (λ (x : List (MrpEvent × ℕ)). done ++ x) (sym (none_past vid events h)) ∙ so_far
 
