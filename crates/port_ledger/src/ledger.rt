@@ -1,6 +1,6 @@
 //! The ledger of one egress port.
 
-ghost use Rattle.std.specs.Prelude.{◌≡◌, ◌≢◌, ◌↔◌, ◌+◌, ◌≤◌, ◌<◌, ◌^◌, ◌==◌, ◌&&◌, nat_lt, ℕ, [], length, slice_get, Some, None, IsTrue, if◌then◌else◌, IfOk, IfSome, IsSome, IsPermutation, OnOk, OnErr, is_some};
+ghost use Rattle.std.specs.Prelude.{◌≡◌, ◌≢◌, ◌↔◌, ◌+◌, ◌≤◌, ◌<◌, ◌^◌, ◌==◌, ◌&&◌, nat_lt, ℕ, [], length, slice_get, Some, None, IsTrue, if◌then◌else◌, IfOk, IfSome, IsSome, OnOk, OnErr, is_some};
 ghost use Rattle.srp_base.specs.declared.bandwidth.Class.TheVariants.{A, B};
 ghost use Rattle.srp_base.specs.declared.numbers.StreamId.{StreamId};
 ghost use Rattle.stream_importance.specs.declared.entry.Fit.TheVariants.{Fits};
@@ -94,6 +94,7 @@ impl Ledger {
         ensures err { OnErr result (self.new ≡ self.old) }
     {
         self.stands();
+        self.within_caps();
         importance_is_an_order();
         let alloc = *self.entries.allocator();
         if self.has_want(&want) {
@@ -101,31 +102,7 @@ impl Ledger {
             return Ok(Changed::nothing(alloc));
         }
         let (entries, order) = wanted(alloc, now, &self.caps, &self.entries, &self.order, want)?;
-        self.replace(now, entries, order)
-    }
-
-    /// Keeps these entries and their order, as they were decided at this moment in cs. What changed in the
-    /// booked set is answered. After want of memory the ledger is as it was.
-    fn replace(
-        &mut self,
-        now: Cs,
-        entries: Vec<Entry>,
-        order: Vec<Entry>,
-    ) -> Result<Changed, NoMemory>
-        requires kept { IsKept (record self.old { moment = now.0; entries = entries.items }) }
-        requires same { IsPermutation entries.items order.items }
-        ensures book { OnOk result (self.new
-            ≡ record self.old { moment = now.0; entries = entries.items }) }
-        ensures booked { IfOk result (λ c. c.booked
-            ≡ booked_only_in self.new.entries self.old.entries) }
-        ensures dropped { IfOk result (λ c. c.dropped
-            ≡ booked_only_in self.old.entries self.new.entries) }
-        ensures err { OnErr result (self.new ≡ self.old) }
-    {
-        self.stands();
-        self.within_caps();
-        importance_is_an_order();
-        let changed = changes(*self.entries.allocator(), &self.entries, &entries)?;
+        let changed = changes(alloc, &self.entries, &entries)?;
         self.totals = totals_of(&entries, now);
         self.entries = entries;
         self.order = order;
