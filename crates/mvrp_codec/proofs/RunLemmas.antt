@@ -1,7 +1,7 @@
 -- Runs of consecutive VIDs.
 use Rattle.std.proofs.Common.{◌≡◌, ℕ, suc, ◌+◌, ◌<◌, ◌≤◌, Bool, true, false, eqb, inl, inr, List, [], ◌∷◌, ◌++◌, length, get_or, take, drop, refl, sym, ap, subst, ◌∙◌, append_assoc, arith}
 use Rattle.std.proofs.lemmas.Bool.{cases_Bool, eq-eqb, ne_eqb}
-use Rattle.std.proofs.lemmas.List.{take-append-drop, drop_more, drop_all, take_more}
+use Rattle.std.proofs.lemmas.List.{append-nil, take-append-drop, drop_more, drop_all, take_more}
 use Rattle.srp_base.specs.declared.mrp.MrpEvent.{MrpEvent}
 use Rattle.mrpdu_codec.specs.declared.pdu.VectorAttr.{VectorAttr}
 use Rattle.mrpdu_codec.specs.Tree.{vector_octets, vectors_octets}
@@ -93,6 +93,22 @@ octets_go_on out new total leave (x ∷ xs) n some e so_far new-is =
     let all : runs_octets leave (runs (x ∷ xs)) ≡ vector_octets (vector_for (run_vector leave run)) ++ runs_octets false after =
     ap (runs_octets leave) cut ∙ ap (λ (vs : List VectorAttr). vectors_octets (vectors_for vs)) (vectors_more leave run after) in
     ap (λ (os : List ℕ). os ++ runs_octets false after) new-is ∙ append_assoc out (vector_octets (vector_for (run_vector leave run))) (runs_octets false after) ∙ ap (λ (os : List ℕ). out ++ os) (sym all) ∙ so_far
+
+-- no event is left
+pub octets_end : (out total : List ℕ) (leave : Bool) (rest : List (MrpEvent × ℕ)) → length rest ≡ 0 → leave ≡ false → out ++ runs_octets leave (runs rest) ≡ total → out ≡ total
+octets_end out total leave [] none said so_far = sym (append-nil out) ∙ ap (λ (v : Bool). out ++ runs_octets v []) (sym said) ∙ so_far
+octets_end out total leave (x ∷ xs) none said so_far = absurd (omega (arith, none))
+
+-- and a LeaveAll that no run has said
+pub octets_alone : (out new total : List ℕ) (leave : Bool) (rest : List (MrpEvent × ℕ)) → length rest ≡ 0 → leave ≡ true → new ≡ out ++ vector_octets (vector_for (run_vector true []))
+    → out ++ runs_octets leave (runs rest) ≡ total → new ≡ total
+octets_alone out new total leave [] none unsaid new-is so_far =
+    new-is ∙ ap (λ (os : List ℕ). out ++ os) (sym (append-nil (vector_octets (vector_for (run_vector true []))))) ∙ ap (λ (v : Bool). out ++ runs_octets v []) (sym unsaid) ∙ so_far
+octets_alone out new total leave (x ∷ xs) none unsaid new-is so_far = absurd (omega (arith, none))
+
+pub vids_none : (rest events : List (MrpEvent × ℕ)) → length rest ≡ 0 → (AreVids rest → AreVids events) → AreVids events
+vids_none [] events none h = h tt
+vids_none (x ∷ xs) events none h = absurd (omega (arith, none))
 
 vids_append : (xs ys : List (MrpEvent × ℕ)) → AreVids xs → AreVids ys → AreVids (xs ++ ys)
 vids_append [] ys h k = k

@@ -51,15 +51,11 @@ fn push_octet(
     ensures { OnOk result (out.new.items
         ≡ out.old.items ++ events_from first (take n (three_events octet))) }
 {
-    let [a, b, c] = events_in(octet);
-    if 0 < n {
-        push_event(out, a, first)?;
-    }
-    if 1 < n {
-        push_event(out, b, first + 1)?;
-    }
-    if 2 < n {
-        push_event(out, c, first + 2)?;
+    let events = events_in(octet);
+    let mut number = first;
+    for event in &events[..n.min(3)] {
+        push_event(out, *event, number)?;
+        number += 1;
     }
     Ok(())
 }

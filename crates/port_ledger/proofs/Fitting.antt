@@ -1,9 +1,10 @@
 -- What leaves a fit as it was.
-use Rattle.std.proofs.Common.{◌≡◌, ◌≢◌, ℕ, ◌+◌, ◌<◌, ◌≤◌, Bool, true, false, not, ◌==◌, ◌||◌, ◌&&◌, cond, List, [], ◌∷◌, filter, sum_by, Option, Some, None, option_and_then, is_some, IfSome, refl, sym, ◌∙◌, ap, subst, arith, inl, inr}
+use Rattle.std.proofs.Common.{◌≡◌, ◌≢◌, ℕ, ◌+◌, ◌<◌, ◌≤◌, Bool, true, false, not, ◌==◌, ◌||◌, ◌&&◌, cond, if◌then◌else◌, List, [], ◌∷◌, filter, sum_by, Option, Some, None, option_and_then, is_some, IfSome, refl, sym, ◌∙◌, ap, subst, arith, inl, inr, zero-add}
 use Rattle.std.specs.Prelude.{nat_le, nat_lt}
 use Rattle.std.specs.Ordering.{nat_cmp, is_lt, ordering_then}
 use Rattle.std.specs.List.{AllByRecursion, list_any}
 use Rattle.std.proofs.lemmas.Bool.{cases_Bool, cases_order, cases_lt, eqb-true, eqb-false, ne_eqb, lt-ltb}
+use Rattle.std.proofs.lemmas.List.Sums.{sum_by-cons}
 use Rattle.srp_base.specs.declared.numbers.Cs.{Cs}
 use Rattle.srp_base.specs.declared.numbers.StreamId.{StreamId}
 use Rattle.stream_importance.specs.declared.entry.Entry.{Entry}
@@ -14,6 +15,7 @@ use Rattle.stream_importance.specs.Bandwidth.{cap_of}
 use Rattle.stream_importance.specs.Importance.{class_number, rank_number, moment_or}
 use Rattle.port_ledger.specs.Decision.{stream_of, entry_slope, above, booked_of, does_fit, is_booked, is_preceded_by, IsAscending}
 use Rattle.port_ledger.specs.Book.{Book, IsKept, code_of, entry_of, fit_for, fit_in, has_new_booking, is_normal, is_since, since_if_same, since_of, same_want, tested_as}
+use Rattle.port_ledger.specs.Pass.{normal_slope_before, slope_before}
 use Rattle.port_ledger.proofs.Comparing.{all_booked}
 use Rattle.port_ledger.proofs.Rounds.{filter_agree}
 use Rattle.port_ledger.proofs.Running.{all_with}
@@ -158,3 +160,38 @@ none_ahead moment (x ∷ xs) s h =
     own : (o : Option Cs) → moment_or moment o ≤ moment → IfSome o (λ since. since.0 ≤ moment)
     own None l = tt
     own (Some c) l = l
+
+-- ---- what precedes an entry, as a sum over all entries
+
+-- what a filter leaves out takes nothing
+sum-kept : (f g : Entry → ℕ) (q : Entry → Bool) → ((y : Entry) → f y ≡ cond (q y) (g y) 0) → (xs : List Entry) → sum_by f xs ≡ sum_by g (filter q xs)
+sum-kept f g q h [] = refl
+sum-kept f g q h (y ∷ ys) =
+    sum_by-cons f y ys ∙ ap (λ n. f y + n) (sum-kept f g q h ys) ∙ ap (λ n. n + sum_by g (filter q ys)) (h y) ∙ by_test (q y)
+  where
+    by_test : (v : Bool) → cond v (g y) 0 + sum_by g (filter q ys) ≡ sum_by g (cond v (y ∷ filter q ys) (filter q ys))
+    by_test true = sym (sum_by-cons g y (filter q ys))
+    by_test false = zero-add (sum_by g (filter q ys))
+
+module _ (now : ℕ) (x : Entry) where
+  abbrev preceding : Entry → ℕ
+  preceding y = if is_preceded_by now x y then entry_slope y else 0
+
+  abbrev normal_preceding : Entry → ℕ
+  normal_preceding y = if is_normal y then preceding y else 0
+
+  pub above-summed : (xs : List Entry) → sum_by (slope_before now x) xs ≡ above now x (booked_of xs)
+  above-summed xs =
+      sum-kept (slope_before now x) preceding is_booked (λ y. refl) xs
+      ∙ sum-kept preceding entry_slope (is_preceded_by now x) (λ y. refl) (booked_of xs)
+
+  either_first : (a b : Bool) (n : ℕ) → cond a (cond b n 0) 0 ≡ cond b (cond a n 0) 0
+  either_first true b n = refl
+  either_first false true n = refl
+  either_first false false n = refl
+
+  pub normal-summed : (xs : List Entry) → sum_by (normal_slope_before now x) xs ≡ above now x (filter is_normal (booked_of xs))
+  normal-summed xs =
+      sum-kept (normal_slope_before now x) normal_preceding is_booked (λ y. either_first (is_normal y) (is_booked y) (preceding y)) xs
+      ∙ sum-kept normal_preceding preceding is_normal (λ y. refl) (booked_of xs)
+      ∙ sum-kept preceding entry_slope (is_preceded_by now x) (λ y. refl) (filter is_normal (booked_of xs))

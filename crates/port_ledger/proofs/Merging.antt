@@ -2,6 +2,7 @@
 use Rattle.std.proofs.Common.{◌≡◌, ℕ, suc, ◌+◌, ◌<◌, ◌≤◌, Bool, true, false, not, ◌||◌, ◌&&◌, cond, List, [], ◌∷◌, ◌++◌, map, length, get_or, drop, refl, sym, ◌∙◌, ap, subst, arith, inl, inr, append_assoc, drop-cons}
 use Rattle.std.specs.Prelude.{◌⊎◌, nat_lt}
 use Rattle.std.specs.List.{AllByRecursion, list_any}
+use Rattle.std.proofs.lemmas.List.{append-nil, drop_all}
 use Rattle.std.proofs.lemmas.Bool.{cases_Bool, ltb-true, ltb-false}
 use Rattle.srp_base.specs.declared.numbers.StreamId.{StreamId}
 use Rattle.stream_importance.specs.declared.entry.Entry.{Entry}
@@ -206,3 +207,24 @@ module _ (before after : List Entry) (i : ℕ) (x d : Entry) (booked dropped : L
 pub begins-some : (ys : List Entry) (x : Entry) → begins_with ys x ≡ true → 0 < length ys
 begins-some [] x h = cc
 begins-some (y ∷ ys) x h = omega arith
+
+-- before the first entry of `after`
+pub walk-starts : (before after : List Entry) (booked dropped : List StreamId) → booked ≡ [] → dropped ≡ [] → IsAscending before → IsAscending after
+    → WalksBoth before after 0 booked dropped before
+walk-starts before after booked dropped b d down up = record {
+  new = ap (λ zs. zs ++ booked_only_in after before) (sym b);
+  old = ap (λ zs. zs ++ booked_only_in before after) (sym d);
+  up = up;
+  down = down;
+}
+
+-- behind the last one
+module _ (before after : List Entry) (i : ℕ) (booked dropped : List StreamId) (rest : List Entry) (le : length after ≤ i) (h : WalksBoth before after i booked dropped rest) where
+  none_left : drop i after ≡ []
+  none_left = drop_all i after le
+
+  pub walk-booked : booked ≡ booked_only_in after before
+  walk-booked = sym (h.new ∙ ap (λ zs. booked ++ booked_only_in zs rest) none_left ∙ append-nil booked)
+
+  pub walk-dropped : (later : List StreamId) → later ≡ dropped ++ booked_only_in rest [] → later ≡ booked_only_in before after
+  walk-dropped later e = e ∙ sym (h.old ∙ ap (λ zs. dropped ++ booked_only_in rest zs) none_left)

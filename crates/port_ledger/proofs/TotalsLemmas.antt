@@ -3,6 +3,7 @@ use Rattle.std.proofs.Common.{◌≡◌, ℕ, suc, ◌+◌, ◌<◌, ◌≤◌, 
 use Rattle.std.specs.Prelude.{nat_lt}
 use Rattle.std.specs.List.{AllByRecursion, list_any}
 use Rattle.std.proofs.lemmas.Bool.Decides.{nat_tests}
+use Rattle.std.proofs.lemmas.List.{drop_all}
 use Rattle.std.proofs.lemmas.List.Sums.{sum_by-cons}
 use Rattle.srp_base.specs.declared.numbers.Cs.{Cs}
 use Rattle.srp_base.specs.declared.bandwidth.Class.{Class}
@@ -57,6 +58,22 @@ module _ (xs : List Entry) (i : ℕ) (x : Entry) (below : i < length xs) (at : x
     slopes_b = slope-step B class_b h.slopes_b;
     new = h.new ∙ ap (λ ys. is_new || list_any (λ x. is_since moment x.since) ys) rest_is ∙ or-assoc is_new (is_since moment x.since) (list_any (λ x. is_since moment x.since) (drop (i + 1) xs));
   }
+
+-- no entry is left
+pub walks-end : (moment : ℕ) (xs : List Entry) (class_a class_b : ℕ) (is_new : Bool) (i : ℕ) → length xs ≤ i → WalksAt moment xs class_a class_b is_new i
+    → record { class_a = class_a; class_b = class_b; is_new = is_new } ≡ totals_of moment xs
+walks-end moment xs class_a class_b is_new i le h =
+    let none : drop i xs ≡ [] = drop_all i xs le in
+    let all_a : booked_slope xs A ≡ class_a + 0 = h.slopes_a ∙ ap (λ ys. class_a + booked_slope ys A) none in
+    let all_b : booked_slope xs B ≡ class_b + 0 = h.slopes_b ∙ ap (λ ys. class_b + booked_slope ys B) none in
+    let a : class_a ≡ booked_slope xs A = omega (arith, all_a) in
+    let b : class_b ≡ booked_slope xs B = omega (arith, all_b) in
+    let new : is_new ≡ list_any (λ x. is_since moment x.since) xs = or-false is_new ∙ sym (h.new ∙ ap (λ ys. is_new || list_any (λ x. is_since moment x.since) ys) none) in
+    cc
+  where
+    or-false : (v : Bool) → v ≡ (v || false)
+    or-false true = refl
+    or-false false = refl
 
 -- what is booked in both classes has 64 bits
 pub totals_fit : (book : Book) → IsImportanceOrder book.moment → IsKept book → book.caps.both < 2 ^ 64 → booked_slope book.entries A + booked_slope book.entries B < 2 ^ 64

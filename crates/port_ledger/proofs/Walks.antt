@@ -1,7 +1,7 @@
 -- Walks along entries: one entry more, of what is still to come.
 use Rattle.std.proofs.Common.{◌≡◌, ℕ, ◌+◌, ◌<◌, ◌≤◌, Bool, true, false, if◌then◌else◌, List, [], ◌∷◌, ◌++◌, length, get_or, drop, refl, sym, ap, ◌∙◌, append_assoc}
 use Rattle.std.proofs.lemmas.Bool.{lt-ltb, le-ltb}
-use Rattle.std.proofs.lemmas.List.{append-nil, at_drop_more}
+use Rattle.std.proofs.lemmas.List.{append-nil, at_drop_more, drop_all}
 use Rattle.srp_base.specs.declared.numbers.StreamId.{StreamId}
 use Rattle.stream_importance.specs.declared.entry.Entry.{Entry}
 use Rattle.port_ledger.specs.Decision.{stream_of, is_booked, booked_of}
@@ -57,3 +57,7 @@ module _ (entries : List Entry) (i : ℕ) (d : Entry) (below : i < length entrie
   pub below-ends : (stream : StreamId) (whole done : List StreamId) → whole ≡ done ++ noted_below (drop i entries) stream → stream.0 ≤ stream_of (get_or entries i d) → done ≡ whole
   below-ends stream whole done so_far past =
       sym (so_far ∙ ap (λ l. done ++ l) (at_drop_more (λ l. noted_below l stream) entries i d below ∙ below-end (get_or entries i d) stream past) ∙ append-nil done)
+
+-- behind the last one
+pub booked-ends : (entries : List Entry) (i : ℕ) → length entries ≤ i → (whole done : List Entry) → whole ≡ done ++ booked_of (drop i entries) → done ≡ whole
+booked-ends entries i le whole done so_far = sym (so_far ∙ ap (λ l. done ++ booked_of l) (drop_all i entries le) ∙ append-nil done)

@@ -1,6 +1,7 @@
 -- How the code finds the decided set: it keeps the entries in the order of importance, puts them back into
 -- that order at each decision, and goes through them once with a running sum; and how it compares two lists
--- in one walk. No public contract names it; what is promised is the condition on a set in `Decision`.
+-- in one walk, and sums what precedes an entry. No public contract names it; what is promised is the condition
+-- on a set in `Decision`.
 use Rattle.std.specs.Prelude.{◌≡◌, ℕ, ◌+◌, Bool, false, nat_le, nat_lt, List, [], ◌∷◌, ◌++◌, map, Option, Some, None, if◌then◌else◌, ◌==◌}
 use Rattle.std.specs.List.{AllByRecursion}
 use Rattle.srp_base.specs.declared.numbers.Cs.{Cs}
@@ -10,7 +11,7 @@ use Rattle.stream_importance.specs.declared.entry.Want.{Want}
 use Rattle.stream_importance.specs.declared.slope.Caps.{Caps}
 use Rattle.stream_importance.specs.Bandwidth.{cap_of}
 use Rattle.port_ledger.specs.Decision.{stream_of, entry_slope, is_booked, is_preceded_by, since_after}
-use Rattle.port_ledger.specs.Book.{entry_of, entry_with, same_entry, same_want, unbooked}
+use Rattle.port_ledger.specs.Book.{entry_of, entry_with, is_normal, same_entry, same_want, unbooked}
 
 -- an entry among entries in the order of importance: before the first that it precedes
 abbrev pub place : ℕ → Entry → List Entry → List Entry
@@ -93,3 +94,11 @@ from_stream (x ∷ xs) stream = if nat_lt (stream_of x) stream.0 then from_strea
 abbrev pub begins_with : List Entry → Entry → Bool
 begins_with [] x = false
 begins_with (y ∷ ys) x = same_entry x y
+
+-- the slope of y in bit/s, where it is booked and precedes x, else 0
+abbrev pub slope_before : ℕ → Entry → Entry → ℕ
+slope_before now x y = if is_booked y then (if is_preceded_by now x y then entry_slope y else 0) else 0
+
+-- the same, where y is of rank 1 too
+abbrev pub normal_slope_before : ℕ → Entry → Entry → ℕ
+normal_slope_before now x y = if is_normal y then slope_before now x y else 0

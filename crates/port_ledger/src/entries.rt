@@ -58,10 +58,18 @@ pub(crate) fn entries_with(
     requires { IsAscending entries.now }
     ensures { IfOk result (λ v. v.items ≡ with_want entries.now want) }
 {
-    let mut next = Vec::with_capacity(alloc, entries.len() + 1)?;
-    next.extend_from_slice(entries)?;
+    let mut next = copy_of(alloc, entries)?;
     put(&mut next, want)?;
     Ok(next)
+}
+
+/// The same entries again, with room for one more.
+pub(crate) fn copy_of(alloc: Global, entries: &[Entry]) -> Result<Vec<Entry>, NoMemory>
+    ensures { IfOk result (λ v. v.items ≡ entries.now) }
+{
+    let mut copy = Vec::with_capacity(alloc, entries.len() + 1)?;
+    copy.extend_from_slice(entries)?;
+    Ok(copy)
 }
 
 fn put(entries: &mut Vec<Entry>, want: Want) -> Result<(), NoMemory>

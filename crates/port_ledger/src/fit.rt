@@ -2,6 +2,7 @@
 
 ghost use Rattle.std.specs.Prelude.{◌≡◌, ◌+◌, nat_le, filter};
 ghost use Rattle.port_ledger.specs.Book.{code_of, fit_in, is_normal, since_if_same, tested_as};
+ghost use Rattle.port_ledger.specs.Pass.{normal_slope_before, slope_before};
 ghost use Rattle.port_ledger.specs.Decision.{above, booked_of, is_preceded_by, IsAscending};
 
 use crate::entries::find_entry;
@@ -62,27 +63,46 @@ fn leaves_room(taken: u128, slope: u64, cap: u64) -> bool
     taken <= u128::from(cap) && u128::from(slope) <= u128::from(cap) - taken
 }
 
+/// What the booked entries that precede x take together, in bit/s.
 fn above(now: Cs, x: &Entry, entries: &[Entry]) -> u128
     ensures { result ≡ above now.0 x.now (booked_of entries.now) }
 {
     entries
         .iter()
-        .filter(|y| y.since.is_some())
-        .filter(|y| is_preceded_by(now, x, y))
-        .map(|y| u128::from(y.want.slope))
+        .map(|y| u128::from(slope_before(now, x, y)))
         .sum()
 }
 
+/// What those of them take that are of rank 1, in bit/s.
 fn above_of_rank_1(now: Cs, x: &Entry, entries: &[Entry]) -> u128
     ensures { result ≡ above now.0 x.now (filter is_normal (booked_of entries.now)) }
 {
     entries
         .iter()
-        .filter(|y| y.since.is_some())
-        .filter(|y| y.want.rank == Rank::Normal)
-        .filter(|y| is_preceded_by(now, x, y))
-        .map(|y| u128::from(y.want.slope))
+        .map(|y| u128::from(normal_slope_before(now, x, y)))
         .sum()
+}
+
+/// The slope of y in bit/s, where it is booked and precedes x, else 0.
+fn slope_before(now: Cs, x: &Entry, y: &Entry) -> u64
+    ensures { result ≡ slope_before now.0 x.now y.now }
+{
+    if y.since.is_some() && is_preceded_by(now, x, y) {
+        y.want.slope
+    } else {
+        0
+    }
+}
+
+/// The slope of y in bit/s, where it is booked, of rank 1 and precedes x, else 0.
+fn normal_slope_before(now: Cs, x: &Entry, y: &Entry) -> u64
+    ensures { result ≡ normal_slope_before now.0 x.now y.now }
+{
+    if y.want.rank == Rank::Normal {
+        slope_before(now, x, y)
+    } else {
+        0
+    }
 }
 
 pub(crate) fn is_preceded_by(now: Cs, x: &Entry, y: &Entry) -> bool

@@ -12,7 +12,7 @@ ghost use Rattle.port_ledger.specs.Decision.{booked_of, Decides, does_fit, is_bo
 
 use crate::changed::{Changed, changes};
 use crate::decide::{unwant, wanted};
-use crate::entries::{bookings, find_entry};
+use crate::entries::{bookings, copy_of, find_entry};
 use crate::fit::{fit_of, tested_as};
 use crate::laws::nothing_changed_where_both_lists_are_empty;
 use crate::totals::{Totals, totals_of};
@@ -276,10 +276,8 @@ impl Ledger {
         ensures { IfOk result (λ l. l ≡ self.now) }
     {
         let alloc = *self.entries.allocator();
-        let mut entries = Vec::with_capacity(alloc, self.entries.len())?;
-        entries.extend_from_slice(&self.entries)?;
-        let mut order = Vec::with_capacity(alloc, self.order.len())?;
-        order.extend_from_slice(&self.order)?;
+        let entries = copy_of(alloc, &self.entries)?;
+        let order = copy_of(alloc, &self.order)?;
         Ok(Ledger {
             caps: self.caps,
             moment: self.moment,

@@ -3,7 +3,7 @@
 ghost use Rattle.std.specs.Prelude.{◌≡◌, IfOk};
 ghost use Rattle.port_ledger.specs.Pass.{order_with, place_first, ranked, rewanted};
 
-use crate::entries::entry_with;
+use crate::entries::{copy_of, entry_with};
 use crate::fit::is_preceded_by;
 use srp_base::{Cs, NoMemory};
 use std::alloc::Global;
@@ -18,8 +18,7 @@ pub(crate) fn order_with(
 ) -> Result<Vec<Entry>, NoMemory>
     ensures { IfOk result (λ v. v.items ≡ order_with order.now want known) }
 {
-    let mut next = Vec::with_capacity(alloc, order.len() + 1)?;
-    next.extend_from_slice(order)?;
+    let mut next = copy_of(alloc, order)?;
     if known {
         rewant(&mut next, want);
     } else {

@@ -1,5 +1,6 @@
+use Rattle.std.proofs.Common.{◌∙◌}
 use Rattle.port_ledger.proofs.Finding.{blank}
-use Rattle.port_ledger.proofs.Walks.{booked-more, booked-over}
+use Rattle.port_ledger.proofs.Walks.{booked-ends, booked-more, booked-over}
 use Rattle.port_ledger.proofs.entries.bookings.Goals as goal
 
 pub loop-x-preserved-then-is_none : goal.loop-x-preserved-then-is_none
@@ -7,3 +8,6 @@ loop-x-preserved-then-is_none c = booked-over c.args.entries.now c.loop-x.x-inde
 
 pub loop-x-preserved : goal.loop-x-preserved
 loop-x-preserved c = booked-more c.args.entries.now c.loop-x.x-index blank c.loop-x-test.true _ _ _ c.loop-x.invariant c.if-is_none.ensures c.in_ok-push.ensures.items
+
+pub returns : goal.returns
+returns c = c.from_vec.ensures ∙ booked-ends c.args.entries.now c.loop-x.x-index c.loop-x-test.false _ _ c.loop-x.invariant
