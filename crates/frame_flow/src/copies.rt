@@ -45,7 +45,9 @@ impl<'a> Asked<'a> {
             ++ filter_map (copy_of self.now.tree.links self.now.ticks place)
             (sent_from self.now.frames place.at.node.0)) }
     {
-        for f in self.own.at(place.at.node) {
+        let own = self.own.at(place.at.node);
+        copies.reserve(own.len())?;
+        for f in own {
             self.add_own(place, f, copies)?;
         }
         Ok(())
