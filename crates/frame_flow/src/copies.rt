@@ -214,6 +214,7 @@ impl<'a> Asked<'a> {
     }
 
     /// Adds the copy that a frame at a port's node gives at the port, where there is one.
+    #[inline(always)]
     fn add_copy(
         &self,
         place: Place,
