@@ -63,7 +63,7 @@ impl PortTrace {
         requires { IsPortInput input.now }
         ensures { IfOk result (λ d. d ≡ departures_of input.now) }
     {
-        let mut sent = Vec::with_capacity(alloc, input.arrivals.len())?;
+        let mut sent = Vec::new(alloc);
         let mut trace = PortTrace::new(input.rate);
         while trace.bit < input.end {
             trace = trace.turn(input, &mut sent)?;

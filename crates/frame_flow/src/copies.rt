@@ -45,9 +45,7 @@ impl<'a> Asked<'a> {
             ++ filter_map (copy_of self.now.tree.links self.now.ticks place)
             (sent_from self.now.frames place.at.node.0)) }
     {
-        let own = self.own.at(place.at.node);
-        copies.reserve(own.len())?;
-        for f in own {
+        for f in self.own.at(place.at.node) {
             self.add_own(place, f, copies)?;
         }
         Ok(())
@@ -214,7 +212,6 @@ impl<'a> Asked<'a> {
     }
 
     /// Adds the copy that a frame at a port's node gives at the port, where there is one.
-    #[inline(always)]
     fn add_copy(
         &self,
         place: Place,

@@ -43,24 +43,17 @@ impl Verdicts {
         ensures arrivals { IfOk result (λ v. v.arrivals.items
             ≡ arrivals_of rate (map (λ c. c.now) changes.now) copies.now) }
     {
-        let mut verdicts = Verdicts::with_room(alloc, copies.len())?;
+        let mut verdicts = Verdicts {
+            all: Vec::new(alloc),
+            arrivals: Vec::new(alloc),
+        };
+        verdicts.all.reserve(copies.len())?;
         let mut force = InForce::nowhere();
         for c in copies {
             force = force.moved(rate, changes, c.bit());
             verdicts.add(c, newest(changes, force.come))?;
         }
         Ok(verdicts)
-    }
-
-    /// None yet, with the memory for those on so many copies.
-    fn with_room(alloc: Global, copies: usize) -> Result<Verdicts, NoMemory>
-        ensures all { IfOk result (λ v. v.all.items ≡ []) }
-        ensures arrivals { IfOk result (λ v. v.arrivals.items ≡ []) }
-    {
-        Ok(Verdicts {
-            all: Vec::with_capacity(alloc, copies)?,
-            arrivals: Vec::with_capacity(alloc, copies)?,
-        })
     }
 
     /// Adds the verdict on a copy, by what is in force.

@@ -18,7 +18,7 @@ loop-trace-init c =
     record {
       within = omega (arith, zero);
       reached = subst (λ (t : ℕ). HasReached input t trace) (sym zero) reached;
-      port = ap (λ ds. port_of input.arrivals ds trace) c.in_ok-sent.ensures.items ∙ (port ∙ ap (port_at input) (sym zero));
+      port = ap (λ ds. port_of input.arrivals ds trace) c.new-sent.ensures.items ∙ (port ∙ ap (port_at input) (sym zero));
     }
 
 pub returns : goal.returns

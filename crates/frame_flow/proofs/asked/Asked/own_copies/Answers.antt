@@ -1,4 +1,4 @@
-use Rattle.std.proofs.Common.{◌∙◌, ◌++◌, List, Bor, length, ap, sym, subst, map, take, arith}
+use Rattle.std.proofs.Common.{◌∙◌, ◌++◌, List, Bor, length, ap, sym, subst, map, arith}
 use Rattle.std.specs.Prelude.{filter_map}
 use Rattle.std.proofs.lemmas.List.{take_all}
 use Rattle.frame_flow.specs.declared.frame.Frame.{Frame}
@@ -10,8 +10,8 @@ use Rattle.frame_flow.proofs.ListFacts.{grown, mapped-more}
 use Rattle.frame_flow.proofs.CopyLemmas.{map-twice, own-are, own-routes}
 use Rattle.frame_flow.proofs.asked.Asked.own_copies.Goals as goal
 
-pub at-own-requires : goal.at-own-requires
-at-own-requires c =
+pub at-f-items-requires : goal.at-f-items-requires
+at-f-items-requires c =
     let P : Setting → Type 0 = λ t. AreByNode (length t.tree.kinds) t.frames c.self.inside.own in
     omega (arith, (subst P c.self.view_is c.self.invariant.1).size, c.requires.0.1)
 
@@ -19,14 +19,14 @@ pub add_own-requires-clause-route : goal.add_own-requires-clause-route
 add_own-requires-clause-route c =
     let s = c.args.self.now in
     let P : Setting → Type 0 = λ t. AreByNode (length t.tree.kinds) t.frames c.self.inside.own in
-    let own = own-are s c.self.inside.own c.args.place.at (map (λ f. f.now) c.at-own.result.now) (subst P c.self.view_is c.self.invariant.1) c.requires c.at-own.ensures in
-    own-routes s c.args.place.at c.at-own.result.now (subst IsSetting c.self.view_is c.self.invariant.0) own c.loop-f.f-index _ c.loop-f-test.true
+    let own = own-are s c.self.inside.own c.args.place.at (map (λ f. f.now) c.at-f-items.result.now) (subst P c.self.view_is c.self.invariant.1) c.requires c.at-f-items.ensures in
+    own-routes s c.args.place.at c.at-f-items.result.now (subst IsSetting c.self.view_is c.self.invariant.0) own c.loop-f.f-index _ c.loop-f-test.true
 
 pub loop-f-preserved : goal.loop-f-preserved
 loop-f-preserved c =
     grown _ _ _ _ _ _ c.loop-f.invariant c.in_ok-add_own.ensures
     (mapped-more (copy_of c.args.self.now.tree.links c.args.self.now.ticks c.args.place)
-    (λ (f : Bor Frame). record { frame = f.now; moment = f.now.at.0 }) c.at-own.result.now c.loop-f.f-index _ c.loop-f-test.true)
+    (λ (f : Bor Frame). record { frame = f.now; moment = f.now.at.0 }) c.at-f-items.result.now c.loop-f.f-index _ c.loop-f-test.true)
 
 pub returns : goal.returns
 returns c =
@@ -34,10 +34,8 @@ returns c =
     let P : Setting → Type 0 = λ t. AreByNode (length t.tree.kinds) t.frames c.self.inside.own in
     let now : Bor Frame → Frame = λ f. f.now in
     let to : Frame → Reached = λ f. record { frame = f; moment = f.at.0 } in
-    let items = c.at-own.result.now in
-    let own = own-are s c.self.inside.own c.args.place.at (map now items) (subst P c.self.view_is c.self.invariant.1) c.requires c.at-own.ensures in
+    let items = c.at-f-items.result.now in
+    let own = own-are s c.self.inside.own c.args.place.at (map now items) (subst P c.self.view_is c.self.invariant.1) c.requires c.at-f-items.ensures in
     let add = λ (t : List Reached). c.args.copies.now.items ++ filter_map (copy_of s.tree.links s.ticks c.args.place) t in
-    let reach = copy_of s.tree.links s.ticks c.args.place in
-    let reserved = ap (λ xs. xs ++ filter_map reach (map (λ f. to f.now) (take c.loop-f.f-index items))) c.in_ok-reserve.ensures.items in
-    c.loop-f.invariant ∙ reserved ∙ ap (λ (t : List (Bor Frame)). add (map (λ f. to f.now) t)) (take_all _ items c.loop-f-test.false)
+    c.loop-f.invariant ∙ ap (λ (t : List (Bor Frame)). add (map (λ f. to f.now) t)) (take_all _ items c.loop-f-test.false)
     ∙ sym (ap add (map-twice to now items)) ∙ ap (λ (t : List Frame). add (map to t)) own

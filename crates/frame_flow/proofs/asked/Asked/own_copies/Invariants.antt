@@ -6,4 +6,4 @@ use Rattle.frame_flow.proofs.asked.Asked.own_copies.Given as goal
 abbrev pub invariant-loop-f : goal.invariant-loop-f
 invariant-loop-f l =
     l.copies.items ≡ l.initial.copies.items ++ filter_map (copy_of l.self.tree.links l.self.ticks l.place)
-    (map (λ f. record { frame = f.now; moment = f.now.at.0 }) (take l.f-index l.own))
+    (map (λ f. record { frame = f.now; moment = f.now.at.0 }) (take l.f-index l.f-items))

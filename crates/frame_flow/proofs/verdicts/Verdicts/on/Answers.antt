@@ -6,8 +6,8 @@ use Rattle.frame_flow.proofs.verdicts.Verdicts.on.Goals as goal
 
 pub loop-c-init : goal.loop-c-init
 loop-c-init c = record {
-  all = c.in_ok-verdicts.ensures.all;
-  arrivals = c.in_ok-verdicts.ensures.arrivals;
+  all = c.in_ok-reserve.ensures.items ∙ c.new.ensures.items;
+  arrivals = c.new-2.ensures.items;
   force = c.nowhere-force.ensures c.args.rate c.args.changes.now;
 }
 
