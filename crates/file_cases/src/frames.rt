@@ -82,9 +82,8 @@ fn has_fates(flow: &FlowResult, fates: &[(u32, Fate)]) -> bool {
     }
 }
 
-#[test]
-fn frames_are_the_copies_of_the_entries_in_order(rt: HostRuntime) -> Result<(), Fail> {
-    let scenario = pair(rt.alloc())?;
+/// Whether a scenario's frames are the copies of its entries, in order.
+fn has_copies(alloc: Global, scenario: &Scenario) -> Result<bool, NoMemory> {
     let between = frame(4, 5_000, 2, Route::To(NodeNo(1)), 7, 336);
     let wanted = [
         of_k(1, 1_000_000),
@@ -93,15 +92,35 @@ fn frames_are_the_copies_of_the_entries_in_order(rt: HostRuntime) -> Result<(), 
         between,
         of_m(),
     ];
-    assert!(rt; has_frames(rt.alloc(), &scenario, &wanted)?);
+    has_frames(alloc, scenario, &wanted)
+}
+
+/// Whether they flow over its link, where nothing is booked.
+fn flows(alloc: Global, scenario: &Scenario) -> Result<bool, NoMemory> {
+    let flow = unbooked_flow(alloc, scenario)?;
+    let is_dropped = has_fates(&flow, &[(4, Fate::NoVlan), (5, Fate::Unbooked)]);
+    Ok(is_dropped && has_rate(alloc, scenario)?)
+}
+
+// Who owns a scenario does nothing else, so that its proof is short.
+fn pair_has_copies(alloc: Global) -> Result<bool, Fail> {
+    let scenario = pair(alloc)?;
+    Ok(has_copies(alloc, &scenario)?)
+}
+
+fn pair_flows(alloc: Global) -> Result<bool, Fail> {
+    let scenario = pair(alloc)?;
+    Ok(flows(alloc, &scenario)?)
+}
+
+#[test]
+fn frames_are_the_copies_of_the_entries_in_order(rt: HostRuntime) -> Result<(), Fail> {
+    assert!(rt; pair_has_copies(rt.alloc())?);
     Ok(())
 }
 
 #[test]
 fn frames_of_a_scenario_flow(rt: HostRuntime) -> Result<(), Fail> {
-    let scenario = pair(rt.alloc())?;
-    assert!(rt; has_rate(rt.alloc(), &scenario)?);
-    let flow = unbooked_flow(rt.alloc(), &scenario)?;
-    assert!(rt; has_fates(&flow, &[(4, Fate::NoVlan), (5, Fate::Unbooked)]));
+    assert!(rt; pair_flows(rt.alloc())?);
     Ok(())
 }

@@ -82,13 +82,21 @@ fn has_stream(scenario: &Scenario) -> bool {
     }
 }
 
+/// Whether a scenario is a pair of stations with all that is given by default.
+fn is_pair(scenario: &Scenario) -> bool {
+    scenario.keeps_rules();
+    has_times(scenario)
+        && has_stations(scenario)
+        && has_link(scenario)
+        && has_stream(scenario)
+        && scenario.tree.nodes() == 2
+        && scenario.tree.links() == 1
+}
+
 #[test]
 fn a_pair_is_read_with_its_defaults(rt: HostRuntime) -> Result<(), Fail> {
     let scenario = pair(rt.alloc())?;
-    scenario.keeps_rules();
-    assert!(rt; has_times(&scenario) && has_stations(&scenario));
-    assert!(rt; has_link(&scenario) && has_stream(&scenario));
-    assert!(rt; scenario.tree.nodes() == 2 && scenario.tree.links() == 1);
+    assert!(rt; is_pair(&scenario));
     Ok(())
 }
 

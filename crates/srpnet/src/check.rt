@@ -3,7 +3,7 @@
 pub mod text;
 
 ghost use Rattle.std.specs.Prelude.{◌≡◌, IfOk, IfErr};
-ghost use Rattle.srpnet.specs.CheckText.{CheckOutput};
+ghost use Rattle.srpnet.specs.CheckText.{CheckOutput, check_text as check_text_spec};
 ghost use Rattle.srpnet.specs.Input.{ending};
 ghost use Rattle.srpnet.specs.Outcomes.{EndsAs};
 ghost use Rattle.srpnet.specs.ScenarioInput.{scenario_input as scenario_input_spec};
@@ -13,6 +13,7 @@ use crate::scenario::scenario_input;
 use srp_base::Seq;
 use std::alloc::Global;
 use text::check_text;
+use topology_file::Scenario;
 
 /// The text of a scenario's counts, or why there is none.
 pub fn output(alloc: Global, octets: &[u8]) -> Result<Seq<u8>, Cause>
@@ -21,6 +22,14 @@ pub fn output(alloc: Global, octets: &[u8]) -> Result<Seq<u8>, Cause>
     ensures not_done { IfErr result (λ c. c ≡ Cause.Done → ⊥) }
 {
     let scenario = scenario_input(alloc, octets)?;
-    let text = check_text(alloc, &scenario)?;
+    counted(alloc, &scenario)
+}
+
+// The text of a scenario's counts.
+fn counted(alloc: Global, scenario: &Scenario) -> Result<Seq<u8>, Cause>
+    ensures text { IfOk result (λ text. text ≡ check_text_spec scenario.now) }
+    ensures memory { IfErr result (λ c. c ≡ Cause.NoMemory) }
+{
+    let text = check_text(alloc, scenario)?;
     Ok(Seq::from_vec(text.into_bytes()))
 }

@@ -40,7 +40,7 @@ pub fn report(alloc: Global, octets: &[u8]) -> Result<CommandOutput, Cause>
     ensures not_done { IfErr result (λ c. c ≡ Cause.Done → ⊥) }
 {
     let scenario = scenario_input(alloc, octets)?;
-    Ok(reported(alloc, &scenario)?)
+    reported(alloc, &scenario)
 }
 
 /// What `run journal` prints with its journal, or why there is none.
@@ -51,7 +51,7 @@ pub fn report_and_journal(alloc: Global, octets: &[u8]) -> Result<CommandOutput,
     ensures not_done { IfErr result (λ c. c ≡ Cause.Done → ⊥) }
 {
     let scenario = scenario_input(alloc, octets)?;
-    Ok(reported_with_journal(alloc, &scenario)?)
+    reported_with_journal(alloc, &scenario)
 }
 
 /// A run of a scenario, with the flow of its frames.
@@ -91,29 +91,49 @@ fn what_holds_of_every_run()
     streams_keep_their_laws_whenever_at_rest();
 }
 
+impl Ran {
+    // The output of a command that prints this text of it.
+    fn into_output(self, text: Vec<u8>) -> CommandOutput
+        ensures text { result.text ≡ text.items }
+        ensures journal { result.journal.ticks ≡ self.run.journal.ticks }
+    {
+        CommandOutput {
+            text: Seq::from_vec(text),
+            journal: self.run.journal,
+        }
+    }
+}
+
 // The report of a scenario's run.
-fn reported(alloc: Global, scenario: &Scenario) -> Result<CommandOutput, NoMemory>
-    ensures { IfOk result (λ o. IsReported report_alone scenario.now o.journal.ticks o.text) }
+fn reported(alloc: Global, scenario: &Scenario) -> Result<CommandOutput, Cause>
+    ensures output { IfOk result
+        (λ o. IsReported report_alone scenario.now o.journal.ticks o.text) }
+    ensures memory { IfErr result (λ c. c ≡ Cause.NoMemory) }
 {
     let ran = run_of(alloc, scenario)?;
     let text = report_text(alloc, scenario, &ran.run, &ran.flow)?;
-    Ok(CommandOutput {
-        text: Seq::from_vec(text),
-        journal: ran.run.journal,
-    })
+    Ok(ran.into_output(text))
 }
 
 // The report, and behind it the journal's text.
-fn reported_with_journal(alloc: Global, scenario: &Scenario) -> Result<CommandOutput, NoMemory>
-    ensures { IfOk result
+fn reported_with_journal(alloc: Global, scenario: &Scenario) -> Result<CommandOutput, Cause>
+    ensures output { IfOk result
         (λ o. IsReported report_and_journal scenario.now o.journal.ticks o.text) }
+    ensures memory { IfErr result (λ c. c ≡ Cause.NoMemory) }
 {
     let ran = run_of(alloc, scenario)?;
+    let text = text_with_journal(alloc, scenario, &ran)?;
+    Ok(ran.into_output(text))
+}
+
+// The text of a run with its journal's behind it.
+fn text_with_journal(alloc: Global, scenario: &Scenario, ran: &Ran) -> Result<Vec<u8>, NoMemory>
+    ensures { IfOk result (λ text. text.items
+        ≡ report_and_journal scenario.now ran.now.run.journal.ticks ran.now.run.world
+        ran.now.flow.ports) }
+{
     let mut text = report_text(alloc, scenario, &ran.run, &ran.flow)?;
     let journal = journal_text(alloc, scenario, &ran.run.journal)?;
     text.extend_from_slice(journal.as_slice())?;
-    Ok(CommandOutput {
-        text: Seq::from_vec(text),
-        journal: ran.run.journal,
-    })
+    Ok(text)
 }

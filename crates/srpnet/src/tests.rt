@@ -4,7 +4,6 @@ use crate::top::srp_plain;
 use srp_base::Seq;
 use srp_io::{MemSink, MemSource};
 use std::alloc::{AllocError, Global};
-use std::process::Abort;
 use std::test::Fail;
 
 /// A port that no stream wants.
@@ -106,8 +105,17 @@ fn call(
     let words = words_of(alloc, words)?;
     let mut source = MemSource::new(text.to_vec(alloc)?, read.0.max(1), vec![in alloc; read.1]?);
     let mut out = MemSink::new(alloc, write.0.max(1), vec![in alloc; write.1]?);
+    call_with(alloc, &words, &mut source, &mut out)
+}
+
+fn call_with(
+    alloc: Global,
+    words: &Seq<Seq<u8>>,
+    source: &mut MemSource,
+    out: &mut MemSink,
+) -> Result<Called, AllocError> {
     let mut err = MemSink::new(alloc, 5, Vec::new(alloc));
-    let outcome = srp_plain(alloc, &words, &mut source, &mut out, &mut err);
+    let outcome = srp_plain(alloc, words, source, out, &mut err);
     Ok(Called {
         status: outcome.status,
         cause: outcome.cause,
@@ -132,18 +140,14 @@ fn text_of(alloc: Global, octets: &[u8]) -> Result<String, AllocError> {
     }
 }
 
-/// A call in which nothing fails prints this.
-fn prints(rt: &impl Abort, ended: &Called, page: &str) {
-    assert_eq!(rt; ended.status, 0);
-    assert_eq!(rt; ended.out.as_str(), page);
-    assert_eq!(rt; ended.err.as_str(), "");
+/// Whether a call in which nothing failed printed this.
+fn prints(ended: &Called, page: &str) -> bool {
+    ended.status == 0 && ended.out.as_str() == page && ended.err.is_empty()
 }
 
-/// A call that prints nothing ends with this status and this text of its cause.
-fn ends_with(rt: &impl Abort, ended: &Called, status: u8, err: &str) {
-    assert_eq!(rt; ended.status, status);
-    assert_eq!(rt; ended.err.as_str(), err);
-    assert_eq!(rt; ended.out.as_str(), "");
+/// Whether a call that prints nothing ended with this status and this text of its cause.
+fn ends_with(ended: &Called, status: u8, err: &str) -> bool {
+    ended.status == status && ended.err.as_str() == err && ended.out.is_empty()
 }
 
 #[test]
@@ -158,7 +162,7 @@ fn each_command_prints_its_text(rt: HostRuntime) -> Result<(), Fail> {
         ("--version", "", VERSION),
     ] {
         let ended = call(alloc, &[word], text.as_bytes(), (7, 0), (100, 0))?;
-        prints(&rt, &ended, page);
+        assert!(rt; prints(&ended, page));
     }
     Ok(())
 }
@@ -175,8 +179,8 @@ fn a_journal_stands_behind_the_report(rt: HostRuntime) -> Result<(), Fail> {
     )?;
     let mut page = String::from_str(alloc, PAIR_RUN)?;
     page.push_str(PAIR_JOURNAL)?;
-    prints(&rt, &ended, page.as_str());
-    assert_eq!(rt; ended.ticks, 22);
+    assert!(rt; prints(&ended, page.as_str()));
+    assert!(rt; ended.ticks == 22);
     Ok(())
 }
 
@@ -190,7 +194,7 @@ fn each_cause_has_its_status(rt: HostRuntime) -> Result<(), Fail> {
         (7, 0),
         (100, 0),
     )?;
-    ends_with(&rt, &ended, 2, "srpnet: bad words\n");
+    assert!(rt; ends_with(&ended, 2, "srpnet: bad words\n"));
     for (word, text, fault, status, err) in [
         ("runs", PORT, (1, 1), 2, "srpnet: bad words\n"),
         ("ledger", PORT, (2, 1), 3, "srpnet: read fault\n"),
@@ -206,7 +210,7 @@ fn each_cause_has_its_status(rt: HostRuntime) -> Result<(), Fail> {
             (10, fault.0),
             (10, fault.1),
         )?;
-        ends_with(&rt, &ended, status, err);
+        assert!(rt; ends_with(&ended, status, err));
     }
     Ok(())
 }
@@ -218,7 +222,7 @@ fn a_failed_write_says_how_many_octets_went_out(rt: HostRuntime) -> Result<(), F
         ("run", MENDED, MENDED_RUN, 100),
     ] {
         let ended = call(rt.alloc(), &[word], text.as_bytes(), (7, 0), (step, 2))?;
-        assert_eq!(rt; ended.status, 7);
+        assert!(rt; ended.status == 7);
         let written = step as u64;
         assert!(rt; ended.cause == Cause::WriteFault { written });
         assert!(rt; ended.out.as_str() == page.get(0..step).unwrap_or(""));
@@ -230,8 +234,8 @@ fn a_failed_write_says_how_many_octets_went_out(rt: HostRuntime) -> Result<(), F
 fn a_run_hands_back_its_journal(rt: HostRuntime) -> Result<(), Fail> {
     let alloc = rt.alloc();
     let ended = call(alloc, &["run"], PAIR.as_bytes(), (100, 0), (100, 0))?;
-    assert_eq!(rt; ended.ticks, 22);
+    assert!(rt; ended.ticks == 22);
     let ended = call(alloc, &["check"], PAIR.as_bytes(), (100, 0), (100, 0))?;
-    assert_eq!(rt; ended.ticks, 0);
+    assert!(rt; ended.ticks == 0);
     Ok(())
 }

@@ -3,6 +3,7 @@ use Rattle.std.proofs.Common.{◌≡◌, ℕ, zero, suc, ◌-◌, ◌∷◌, ◌
 use Rattle.std.specs.Prelude.{◌<◌, ◌≤◌, slice_get, slice_set, Option, Some, None, option_map, Result, Ok, Err, OnOk, if◌then◌else◌}
 use Rattle.std.proofs.lemmas.Option.{slice_get_within, slice_get_read}
 use Rattle.std.proofs.lemmas.Bool.{lt-ltb}
+use Rattle.std.proofs.lemmas.List.{append-nil}
 use Rattle.std.specs.Option.{option_map_or}
 use Rattle.std.proofs.Math.ListN.{length-set, get_or}
 use Rattle.srp_base.specs.declared.numbers.NodeNo.{NodeNo}
@@ -136,6 +137,26 @@ set_back : (nodes : List NodeState) (i : ℕ) (s : NodeState) → slice_get node
 set_back [] i s is = refl
 set_back (t ∷ nodes) zero s is = let e : t ≡ s = cc in ap (λ x. x ∷ nodes) (sym e)
 set_back (t ∷ nodes) (suc i) s is = ap (λ xs. t ∷ xs) (set_back nodes i s is)
+
+-- no PDUs behind those of an inbox leave all as it is
+none_carried : (q : EgressPort) (nodes : List NodeState) → changed q.node (with_carried (place_of q.port) []) nodes ≡ nodes
+none_carried q nodes = by (slice_get nodes (q.node.0 - 1)) refl
+  where
+    by : (o : Option NodeState) → slice_get nodes (q.node.0 - 1) ≡ o
+        → option_map_or (λ s. slice_set nodes (q.node.0 - 1) (with_carried (place_of q.port) [] s)) o nodes ≡ nodes
+    by None is = refl
+    by (Some s) is =
+        let k = place_of q.port in
+        ap (λ boxes. slice_set nodes (q.node.0 - 1) (record s { inboxes = boxes })) (ap (slice_set s.inboxes k) (append-nil (box_at k s.inboxes)) ∙ set_same s.inboxes k)
+        ∙ set_back nodes (q.node.0 - 1) s is
+
+-- where a port's outbox is empty, nothing else happens than that it is taken
+pub carry_nothing : (p : EgressPort) (tree : Topology) (nodes a : List NodeState) (wires : List Wire) → wires ≡ outbox p (record { tree = tree; nodes = nodes })
+    → wires ≡ [] → a ≡ changed p.node (with_outbox (place_of p.port) []) nodes → carried p (record { tree = tree; nodes = nodes }) ≡ record { tree = tree; nodes = a }
+carry_nothing p tree nodes a wires ew none ea =
+    let q = peer_of tree.links p in
+    carry_is p q tree nodes a a wires refl ew ea
+    (sym (ap (λ ws. changed q.node (with_carried (place_of q.port) ws) a) none ∙ none_carried q a))
 
 -- an outbox that was taken out is put back
 pub put_back_is : (p : EgressPort) (nodes a b : List NodeState) (wires : List Wire)

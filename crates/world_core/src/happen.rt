@@ -226,6 +226,9 @@ pub(crate) fn carry(
     ensures err { OnErr result (nodes.new.items ≡ nodes.old.items) }
 {
     let wires = take(nodes, at);
+    if wires.is_empty() {
+        return Ok(WorldReply::Done);
+    }
     match give(nodes, tree.peer(at), wires) {
         Ok(()) => Ok(WorldReply::Done),
         Err((error, wires)) => {

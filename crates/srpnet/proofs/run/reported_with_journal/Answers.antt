@@ -1,20 +1,17 @@
-use Rattle.std.proofs.Common.{ℕ, ◌++◌, List, ap, ◌∙◌}
-use Rattle.srp_report.specs.JournalText.{journal_text}
+use Rattle.std.proofs.Common.{◌≡◌, sym, subst, ◌∙◌}
+use Rattle.srpnet.specs.RunText.{IsReported, report_and_journal}
 use Rattle.srpnet.proofs.run.reported_with_journal.Goals as goal
 
-pub returns : goal.returns
-returns c =
+pub returns-clause-output : goal.returns-clause-output
+returns-clause-output c =
     let ran = c.in_ok-ran.ran in
-    let plan = c.args.scenario.now in
-    let journal = journal_text plan ran.run.journal.ticks in
-    record {
+    let made = c.into_output.result in
+    subst (λ ticks. IsReported report_and_journal c.args.scenario.now ticks made.text) (sym c.into_output.ensures.journal)
+    (record {
       world = ran.run.world;
       changes = ran.run.timeline.changes;
       flows = ran.flow.ports;
       run = c.in_ok-ran.ensures.run;
-      printed =
-          c.from_vec.ensures ∙ c.in_ok-extend_from_slice.ensures.items
-          ∙ ap (λ (ys : List ℕ). c.in_ok-text.text.items ++ ys) (c.as_slice.ensures.value ∙ c.in_ok-journal.ensures)
-          ∙ ap (λ (xs : List ℕ). xs ++ journal) c.in_ok-text.ensures;
+      printed = c.into_output.ensures.text ∙ c.in_ok-text.ensures;
       holds = c.in_ok-ran.ensures.holds;
-    }
+    })

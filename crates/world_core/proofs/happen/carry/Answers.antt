@@ -1,9 +1,19 @@
-use Rattle.std.proofs.Common.{◌≡◌, ap, ◌∙◌}
+use Rattle.std.proofs.Common.{◌≡◌, refl, ap, ◌∙◌}
 use Rattle.mvrp.specs.Side.{place_of}
 use Rattle.node_core.specs.Links.{with_outbox}
+use Rattle.world_core.specs.declared.events.WorldReply.TheVariants.{Done}
 use Rattle.world_core.specs.World.{changed}
-use Rattle.world_core.proofs.Happenings.{put_back_is}
+use Rattle.world_core.proofs.Happenings.{carry_nothing, empty_there, put_back_is}
 use Rattle.world_core.proofs.happen.carry.Goals as goal
+
+pub returns-then-is_empty-clause-ok : goal.returns-then-is_empty-clause-ok
+returns-then-is_empty-clause-ok c =
+    ap (λ w. (w, Done))
+    (carry_nothing c.args.at c.args.tree.now c.args.nodes.now.items c.take-wires.new.nodes.items c.take-wires.result c.take-wires.ensures.taken (c.if-is_empty.ensures.0 refl)
+    c.take-wires.ensures.after)
+
+pub put_back-requires-clause-empty : goal.put_back-requires-clause-empty
+put_back-requires-clause-empty c = empty_there c.args.at c.args.nodes.now.items c.give.new.nodes.items (c.in-Err.ensures.err ∙ c.take-wires.ensures.after)
 
 pub returns-in-Err-clause-err : goal.returns-in-Err-clause-err
 returns-in-Err-clause-err c =
