@@ -1,4 +1,4 @@
-use Rattle.std.proofs.Common.{refl, sym, subst}
+use Rattle.std.proofs.Common.{◌∙◌, refl, sym, subst}
 use Rattle.mrp_participant.specs.Lookup.{Ascends, key_of}
 use Rattle.mrp_participant.specs.State.{AreRows}
 use Rattle.mrp_participant.proofs.Exits.{of_error, on_error}
@@ -55,4 +55,5 @@ returns-clause-are_rows g c =
 
 pub returns-clause-keys : goal.returns-clause-keys
 returns-clause-keys g c =
-    keys-told g.met.K.Ord.total c.args.leave_all c.args.leave c.args.events.now c.args.rows.now.items _ _ _ c.as_slice.ensures.value c.in_ok-heard.ensures.heard c.as_slice-3.ensures.value c.requires g.C.PartialEq.eq g.met.C.Eq.laws _ _ c.as_slice-2.ensures.value c.in_ok-keys.ensures
+    c.from_vec.ensures
+    ∙ keys-told g.met.K.Ord.total c.args.leave_all c.args.leave c.args.events.now c.args.rows.now.items _ _ _ c.as_slice.ensures.value c.in_ok-heard.ensures.heard c.as_slice-3.ensures.value c.requires g.C.PartialEq.eq g.met.C.Eq.laws _ _ c.as_slice-2.ensures.value c.in_ok-keys.ensures
