@@ -1,5 +1,5 @@
 -- Rows found beside others and put over them are what the events make of the rows one after the other.
-use Rattle.std.proofs.Common.{◌≡◌, ℕ, zero, suc, ◌+◌, ◌<◌, Bool, true, false, not, ◌&&◌, if◌then◌else◌, List, [], ◌∷◌, length, map, filter, fold, drop, drop-cons, get_or, refl, sym, ap, ◌∙◌, subst, arith, add-one, inl, inr, option_map}
+use Rattle.std.proofs.Common.{◌≡◌, ℕ, zero, suc, ◌+◌, ◌<◌, Bool, true, false, not, ◌&&◌, if◌then◌else◌, List, [], ◌∷◌, ◌++◌, append_assoc, length, map, filter, fold, drop, drop-cons, get_or, refl, sym, ap, ◌∙◌, subst, arith, add-one, inl, inr, option_map}
 use Rattle.std.specs.Prelude.{IsSome}
 use Rattle.std.specs.declared.option.Option.{Option}
 use Rattle.std.specs.declared.option.Option.TheVariants.{None, Some}
@@ -8,7 +8,7 @@ use Rattle.std.specs.declared.cmp.Ordering.TheVariants.{Less, Equal, Greater}
 use Rattle.std.specs.Ordering.{ordering_reverse, match_ordering}
 use Rattle.std.specs.Cmp.{IsTotalOrder, IsEquivalence}
 use Rattle.std.proofs.lemmas.Cmp.{tied_itself, tied_back}
-use Rattle.std.proofs.lemmas.List.{drop_more, get_or_read}
+use Rattle.std.proofs.lemmas.List.{append-nil, drop_more, get_or_read}
 use Rattle.std.specs.List.{AllByRecursion, list_all}
 use Rattle.std.specs.Option.{is_some, option_eq}
 use Rattle.srp_base.specs.declared.numbers.Cs.{Cs}
@@ -452,3 +452,15 @@ module _ {K C : Type 0} {cmp : K → K → Ordering} (o : IsTotalOrder cmp) (lea
       told
       ∙ (ap (λ l. changed_keys cmp eq l heard_slice) other_is
       ∙ (ap (changed_keys cmp eq rows) what_was_heard ∙ changed-heard o eq laws leave_all leave events rows are))
+
+-- ---- two lists of rows are merged
+
+module _ {K C : Type 0} (cmp : K → K → Ordering) (xs ys all : List (Row K C)) (i j : ℕ) (so_far : merged cmp xs ys ≡ all ++ merged cmp (drop j xs) (drop i ys)) where
+  -- one row more
+  pub merged-more : (x : Row K C) (i' j' : ℕ) (new : List (Row K C)) → merged cmp (drop j xs) (drop i ys) ≡ x ∷ merged cmp (drop j' xs) (drop i' ys) → new ≡ all ++ x ∷ [] → merged cmp xs ys ≡ new ++ merged cmp (drop j' xs) (drop i' ys)
+  merged-more x i' j' new next pushed =
+      so_far ∙ ap (λ l. all ++ l) next ∙ sym (append_assoc all (x ∷ []) (merged cmp (drop j' xs) (drop i' ys))) ∙ ap (λ l. l ++ merged cmp (drop j' xs) (drop i' ys)) (sym pushed)
+
+  -- none is left
+  pub merged-all : j ≡ length xs → i ≡ length ys → all ≡ merged cmp xs ys
+  merged-all end end' = sym (so_far ∙ ap (λ l. all ++ l) (merged-end cmp xs ys i j end end') ∙ append-nil all)

@@ -5,6 +5,7 @@ pub mod DeclarationLemmas
 pub mod Duties
 pub mod DutyRows
 pub mod EachKey
+pub mod Exits
 pub mod Flying
 pub mod Hearings
 pub mod Links

@@ -1,13 +1,13 @@
 -- What is made of a key's row at its place, or of the gap where it has none, is what `put` makes of it; and loops
 -- over rows that keep something of some.
-use Rattle.std.proofs.Common.{◌≡◌, ◌≢◌, ℕ, suc, ◌+◌, ◌<◌, ◌≤◌, ◌==◌, ◌&&◌, nat_le, Bool, true, false, if◌then◌else◌, List, [], ◌∷◌, ◌++◌, length, map, filter, get_or, take, drop, sym, ap, refl, ◌∙◌, append_assoc, arith}
+use Rattle.std.proofs.Common.{◌≡◌, ◌≢◌, ℕ, zero, suc, ◌+◌, ◌<◌, ◌≤◌, ◌==◌, ◌&&◌, nat_le, Bool, true, false, if◌then◌else◌, List, [], ◌∷◌, ◌++◌, length, map, filter, get_or, take, drop, sym, ap, refl, ◌∙◌, append_assoc, arith}
 use Rattle.std.proofs.lemmas.Bool.{eq-eqb, ne_eqb}
 use Rattle.std.proofs.lemmas.Bool.Decides.{nat_tests}
 use Rattle.std.proofs.lemmas.List.{append-nil, drop_all, take-append-drop, at_drop_more}
 use Rattle.std.specs.declared.option.Option.{Option}
 use Rattle.std.specs.declared.option.Option.TheVariants.{None, Some}
 use Rattle.std.specs.declared.cmp.Ordering.{Ordering}
-use Rattle.std.specs.List.{cons_option, filter_map, list_all}
+use Rattle.std.specs.List.{cons_option, filter_map, list_all, slice_get}
 use Rattle.mrp_participant.specs.declared.row.Row.{Row}
 use Rattle.mrp_participant.specs.Lookup.{key_of, find, put, IsRowAt, IsGapAt}
 use Rattle.mrp_participant.specs.Row.{leave_is_due}
@@ -43,6 +43,19 @@ module _ {K C : Type 0} {cmp : K → K → Ordering} {k : K} (rows slice : List 
   -- nothing is made of a key without a row
   pub put-none : (f : Option (Row K C) → Option (Row K C)) → IsGapAt cmp k slice i → None ≡ f None → rows ≡ put cmp k (f (find cmp k rows)) rows
   put-none f at made = put-at_gap f rows None at made (sym (take-append-drop i rows))
+
+-- ---- what stands at a place
+
+module _ {X Y : Type 0} (f : X → Y) where
+  pub at-place : (xs : List X) (i : ℕ) (x : X) → i < length xs → x ≡ get_or xs i x → Some (f x) ≡ slice_get (map f xs) i
+  at-place [] i x below is = absurd (omega arith)
+  at-place (y ∷ ys) zero x below is = ap (λ z. Some (f z)) is
+  at-place (y ∷ ys) (suc i) x below is = at-place ys i x (omega arith) is
+
+  pub past-last : (xs : List X) (i : ℕ) → length xs ≤ i → None ≡ slice_get (map f xs) i
+  past-last [] i past = refl
+  past-last (y ∷ ys) zero past = absurd (omega arith)
+  past-last (y ∷ ys) (suc i) past = past-last ys i (omega arith)
 
 -- ---- loops
 

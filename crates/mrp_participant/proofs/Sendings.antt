@@ -106,3 +106,8 @@ sent-parts cmp base octets now s leave_all leave rows new machine sound active m
     ∙ ap (λ l. filter_map (λ r. sent_row (is_active s.leave_all) (is_taken base octets cmp (is_active s.leave_all) l r) (after now s.leave_time) r) l) is)
     ∙ ap (λ m. record s { rows = filter_map (λ r. sent_row (is_active s.leave_all) (is_taken base octets cmp (is_active s.leave_all) s.rows r) (after now s.leave_time) r) s.rows; leave_all = m; sound = sound }) next
     ∙ ap (λ b. record s { rows = filter_map (λ r. sent_row (is_active s.leave_all) (is_taken base octets cmp (is_active s.leave_all) s.rows r) (after now s.leave_time) r) s.rows; leave_all = leaveall.table LaTx s.leave_all; sound = b }) (sound_is ∙ ap (λ a. a || s.sound) active)
+
+-- what is not silent has a row that is tried, or a LeaveAll to say
+pub tried-one : {K C : Type 0} (s : State K C) (leave_all : Bool) (rows : List (Row K C)) → leave_all ≡ is_active s.leave_all → rows ≡ s.rows → is_silent s ≡ false → leave_all ≡ false → none_tried rows ≡ false
+tried-one s leave_all rows active is loud none =
+    ap none_tried is ∙ (ap (λ a. not a && none_tried s.rows) (sym (sym active ∙ none)) ∙ loud)

@@ -31,9 +31,7 @@ pub(crate) fn rows_heard<K: Copy + Ord, C: Copy>(
 {
     let mut heard = Vec::new(alloc);
     for event in events {
-        hear_beside(
-            &mut heard, rows, leave_all, event.0, event.1, event.2, leave,
-        )?;
+        hear_beside(&mut heard, rows, leave_all, *event, leave)?;
     }
     Ok(heard)
 }
@@ -43,17 +41,15 @@ fn hear_beside<K: Copy + Ord, C: Copy>(
     heard: &mut Vec<Row<K, C>>,
     rows: &[Row<K, C>],
     leave_all: bool,
-    event: MrpEvent,
-    key: K,
-    content: C,
+    said: (MrpEvent, K, C),
     leave: Cs,
 ) -> Result<(), NoMemory>
     requires heard { Ascends K.cmp key_of heard.old.items }
     requires rows { Ascends K.cmp key_of rows.now }
     ensures { OnOk result (heard.new.items
-        ≡ put K.cmp key (after_hear event key content leave
-        (row_so_far K.cmp leave_all leave rows.now heard.old.items key)) heard.old.items) }
+        ≡ heard_with K.cmp leave_all leave rows.now heard.old.items said) }
 {
+    let (event, key, content) = said;
     match place(heard.as_slice(), &key) {
         Ok(at) => {
             let row = heard[at];

@@ -184,12 +184,14 @@ impl<A: MrpApp> Participant<A> {
 fn row_key<K: Copy, C: Copy>(rows: &[Row<K, C>], index: usize) -> Option<K>
     ensures { result ≡ slice_get (map key_of rows.now) index }
 {
-    rows.get(index).map(|row| row.key)
+    let row = rows.get(index)?;
+    Some(row.key)
 }
 
 // The state of the Registrar of the row at a place.
 fn row_registrar<K: Copy, C: Copy>(rows: &[Row<K, C>], index: usize) -> Option<Registrar>
     ensures { result ≡ slice_get (map (λ r. r.registrar) rows.now) index }
 {
-    rows.get(index).map(|row| row.registrar)
+    let row = rows.get(index)?;
+    Some(row.registrar)
 }

@@ -92,7 +92,7 @@ fn receive_in<K: Copy + Ord, C: Copy + Eq>(
     let heard = rows_heard(alloc, rows.as_slice(), leave_all, events, leave)?;
     let keys = changed(alloc, rows.as_slice(), heard.as_slice())?;
     put_heard(rows, leave_all, heard.as_slice(), leave)?;
-    Ok(keys)
+    Ok(Seq::from_vec(keys))
 }
 
 /// The keys whose registration or registered content differs between two lists of rows.
@@ -100,9 +100,9 @@ fn changed<K: Copy + Ord, C: Copy + Eq>(
     alloc: Global,
     old: &[Row<K, C>],
     new: &[Row<K, C>],
-) -> Result<Seq<K>, NoMemory>
+) -> Result<Vec<K>, NoMemory>
     requires { Ascends K.cmp key_of old.now }
-    ensures { IfOk result (λ keys. keys ≡ changed_keys K.cmp C.eq old.now new.now) }
+    ensures { IfOk result (λ keys. keys.items ≡ changed_keys K.cmp C.eq old.now new.now) }
 {
     let mut keys = Vec::new(alloc);
     for row in new {
@@ -111,7 +111,7 @@ fn changed<K: Copy + Ord, C: Copy + Eq>(
         }
         keys.push(row.key)?;
     }
-    Ok(Seq::from_vec(keys))
+    Ok(keys)
 }
 
 /// Whether what is registered in a row differs from what was registered of its key.

@@ -1,7 +1,9 @@
 -- What loops over octets have at their ends.
-use Rattle.std.proofs.Common.{◌≡◌, ℕ, zero, suc, ◌+◌, ◌-◌, ◌<◌, ◌≤◌, List, [], ◌∷◌, ◌++◌, length, get_or, take, drop, map, Result, Ok, Err, refl, sym, ap, subst, ◌∙◌, append_assoc, arith}
+use Rattle.std.proofs.Common.{◌≡◌, ℕ, zero, suc, ◌+◌, ◌-◌, ◌<◌, ◌≤◌, Bool, true, List, [], ◌∷◌, ◌++◌, length, get_or, take, drop, map, Result, Ok, Err, refl, sym, ap, subst, ◌∙◌, append_assoc, arith}
 use Rattle.std.proofs.lemmas.List.{take-append-drop, length-take-le, length-drop, drop_all, drop_more, take_more, flat_map_more, map_push}
-use Rattle.std.specs.List.{flat_map}
+use Rattle.std.proofs.lemmas.Bool.{and_parts}
+use Rattle.std.specs.List.{flat_map, list_all}
+use Rattle.std.specs.Prelude.{IsErrAnd, IfOk}
 use Rattle.mrpdu_codec.specs.Tree.{AllUpTo}
 use Rattle.mrpdu_codec.specs.Grammar.{OctetBreaks}
 use Rattle.mrpdu_codec.specs.Reading.{run_at}
@@ -50,3 +52,22 @@ pub spelled_more : {X Y : Type 0} (f : Y → List ℕ) (g : X → Y) (front : Li
 spelled_more f g front xs i x out new below is so_far more =
     more ∙ ap (λ o. o ++ f (g x)) so_far ∙ flat_map_more f front (map g (take i xs)) (g x)
     ∙ ap (λ l. front ++ flat_map f l) (sym (ap (map g) (take_more xs i x below ∙ ap (λ y. take i xs ++ y ∷ []) (sym is)) ∙ map_push g (take i xs) x))
+
+-- one item more is mapped
+pub mapped_more : {X Y : Type 0} (f : X → Y) (xs : List X) (i : ℕ) (d : X) (done new : List Y) (y : Y) → i < length xs → done ≡ map f (take i xs) → y ≡ f (get_or xs i d) → new ≡ done ++ y ∷ [] → new ≡ map f (take (i + 1) xs)
+mapped_more f xs i d done new y below so_far one pushed =
+    pushed ∙ ap (λ l. l ++ y ∷ []) so_far ∙ ap (λ z. map f (take i xs) ++ z ∷ []) one
+    ∙ sym (ap (map f) (take_more xs i d below) ∙ map_push f (take i xs) (get_or xs i d))
+
+-- what holds of all items holds of the one at hand
+pub all-at : {X : Type 0} (p : X → Bool) (xs : List X) (i : ℕ) (x : X) → list_all p xs ≡ true → i < length xs → x ≡ get_or xs i x → p x ≡ true
+all-at p [] i x h below is = absurd (omega arith)
+all-at p (y ∷ ys) zero x h below is = ap p is ∙ (and_parts (p y) (list_all p ys) h).0
+all-at p (y ∷ ys) (suc i) x h below is = all-at p ys i x (and_parts (p y) (list_all p ys) h).1 (omega arith) is
+
+-- ---- a call that fails
+
+-- what is promised of an answer that isn't an error
+pub of_error : {T E : Type 0} (r : Result T E) (P : T → Type 0) (Q : E → Type 0) → IsErrAnd r Q → IfOk r P
+of_error (Ok x) P Q h = absurd h
+of_error (Err y) P Q h = tt

@@ -1,6 +1,6 @@
 //! A PDU written as octets.
 
-ghost use Rattle.std.specs.Prelude.{◌≡◌, ◌++◌, ◌∷◌, [], ◌≤◌, ◌<◌, ◌+◌, length, drop, map, nat_le, if◌then◌else◌, IsTrue, IfOk, OnOk, OnErr};
+ghost use Rattle.std.specs.Prelude.{◌≡◌, ◌++◌, ◌∷◌, [], ◌≤◌, ◌<◌, ◌+◌, length, drop, map, nat_le, slice_index, slice_index_or, if◌then◌else◌, IsTrue, IfOk, OnOk, OnErr};
 ghost use Rattle.std.specs.List.{list_all, AllByRecursion};
 ghost use Rattle.mrpdu_codec.specs.Types.{row_of};
 ghost use Rattle.mrpdu_codec.specs.Grammar.{Spells};
@@ -38,18 +38,25 @@ fn three(a: MrpEvent, b: MrpEvent, c: MrpEvent) -> u8
     (number_of(a) * 6 + number_of(b)) * 6 + number_of(c)
 }
 
+/// The event at a place; New past the last.
+fn event_at(events: &[MrpEvent], place: usize) -> MrpEvent
+    ensures { result ≡ slice_index_or events.now place New }
+{
+    events.get(place).copied().unwrap_or(MrpEvent::New)
+}
+
 /// The octet of the first three events, and the events after them.
 fn first_three(events: &[MrpEvent]) -> (u8, &[MrpEvent])
     requires { 0 < length events.now }
     ensures packed { pack_events events.now ≡ result.0 ∷ pack_events result.1.now }
     ensures fewer { length result.1.now < length events.now }
 {
-    match events {
-        [a, b, c, rest @ ..] => (three(*a, *b, *c), rest),
-        [a, b] => (three(*a, *b, MrpEvent::New), &[]),
-        [a] => (three(*a, MrpEvent::New, MrpEvent::New), &[]),
-        [] => (0, &[]),
-    }
+    let octet = three(
+        event_at(events, 0),
+        event_at(events, 1),
+        event_at(events, 2),
+    );
+    (octet, &events[events.len().min(3)..])
 }
 
 /// Writes the packed events of a vector.
@@ -76,6 +83,13 @@ fn four(a: u8, b: u8, c: u8, d: u8) -> u8
     a * 64 + b * 16 + c * 4 + d
 }
 
+/// The parameter at a place; 0 past the last.
+fn param_at(params: &[u8], place: usize) -> u8
+    ensures { result ≡ slice_index params.now place }
+{
+    params.get(place).copied().unwrap_or(0)
+}
+
 /// The octet of the first four parameters, and the parameters after them.
 fn first_four(params: &[u8]) -> (u8, &[u8])
     requires some { 0 < length params.now }
@@ -84,13 +98,13 @@ fn first_four(params: &[u8]) -> (u8, &[u8])
     ensures fewer { length result.1.now < length params.now }
     ensures small { IsTrue (list_all (λ p. nat_le p 3) result.1.now) }
 {
-    match params {
-        [a, b, c, d, rest @ ..] => (four(*a, *b, *c, *d), rest),
-        [a, b, c] => (four(*a, *b, *c, 0), &[]),
-        [a, b] => (four(*a, *b, 0, 0), &[]),
-        [a] => (four(*a, 0, 0, 0), &[]),
-        [] => (0, &[]),
-    }
+    let octet = four(
+        param_at(params, 0),
+        param_at(params, 1),
+        param_at(params, 2),
+        param_at(params, 3),
+    );
+    (octet, &params[params.len().min(4)..])
 }
 
 /// Writes the FourPackedEvents of a vector.

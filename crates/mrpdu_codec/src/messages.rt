@@ -197,7 +197,7 @@ fn message(
     let row = form.known(kind);
     let (len, rest) = attribute_length(octets, row)?;
     let (vectors, rest) = body(alloc, form, rest, row, len)?;
-    let message = row.map(|_| RawMessage { kind, vectors });
+    let message = row.and(Some(RawMessage { kind, vectors }));
     Ok((message, rest))
 }
 

@@ -169,7 +169,8 @@ fn attrs_of(alloc: Global, raws: &[RawVector<'_>]) -> Result<Vec<VectorAttr>, Al
 {
     let mut attrs = Vec::with_capacity(alloc, raws.len())?;
     for raw in raws {
-        attrs.push(attr_of(alloc, raw)?)?;
+        let attr = attr_of(alloc, raw)?;
+        attrs.push(attr)?;
     }
     Ok(attrs)
 }
@@ -191,7 +192,8 @@ fn messages_of(alloc: Global, raws: &[RawMessage<'_>]) -> Result<Vec<Message>, A
 {
     let mut messages = Vec::with_capacity(alloc, raws.len())?;
     for raw in raws {
-        messages.push(message_of(alloc, raw)?)?;
+        let message = message_of(alloc, raw)?;
+        messages.push(message)?;
     }
     Ok(messages)
 }

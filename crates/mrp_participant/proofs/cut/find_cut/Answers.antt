@@ -3,7 +3,7 @@ use Rattle.std.proofs.lemmas.List.{append-nil}
 use Rattle.std.specs.declared.option.Option.{Option}
 use Rattle.mrp_participant.specs.declared.row.Row.{Row}
 use Rattle.mrp_participant.specs.declared.cut.Cut.{Cut}
-use Rattle.mrp_participant.specs.Sending.{rows_of_round}
+use Rattle.mrp_participant.specs.Sending.{rows_of_round, order}
 use Rattle.mrp_participant.specs.Cut.{first_cut}
 use Rattle.mrp_participant.proofs.cut.find_cut.Goals as goal
 
@@ -23,3 +23,22 @@ returns-in-Err-fill-2 g c =
     rounds c.args.leave_all g.A.MrpApp.octets _ _ _ _
     (rows_of_round c.args.leave_all 1 c.args.rows.now) (rows_of_round c.args.leave_all 2 c.args.rows.now) (rows_of_round c.args.leave_all 3 c.args.rows.now) _
     c.base_octets.ensures c.in-Ok.ensures.filled c.in-Ok-fill.ensures.filled (c.in-Err-fill-2.ensures.filled [])
+
+pub fill-requires-2 : goal.fill-requires-2
+fill-requires-2 g c = c.in-Ok.ensures.bound
+
+pub fill-requires-3 : goal.fill-requires-3
+fill-requires-3 g c = c.in-Ok-fill.ensures.bound
+
+pub returns-in-Err : goal.returns-in-Err
+returns-in-Err g c =
+    sym
+    (ap (λ base. first_cut c.args.leave_all g.A.MrpApp.octets base (order c.args.leave_all c.args.rows.now)) (sym c.base_octets.ensures)
+    ∙ c.in-Err.ensures.filled (rows_of_round c.args.leave_all 2 c.args.rows.now ++ rows_of_round c.args.leave_all 3 c.args.rows.now))
+
+pub returns-in-Err-fill : goal.returns-in-Err-fill
+returns-in-Err-fill g c =
+    sym
+    (ap (λ base. first_cut c.args.leave_all g.A.MrpApp.octets base (order c.args.leave_all c.args.rows.now)) (sym c.base_octets.ensures)
+    ∙ c.in-Ok.ensures.filled (rows_of_round c.args.leave_all 2 c.args.rows.now ++ rows_of_round c.args.leave_all 3 c.args.rows.now)
+    ∙ c.in-Err-fill.ensures.filled (rows_of_round c.args.leave_all 3 c.args.rows.now))

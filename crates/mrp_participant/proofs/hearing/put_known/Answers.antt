@@ -1,4 +1,5 @@
-use Rattle.std.proofs.Common.{ap, sym, ◌∙◌, ◌+◌, subst, drop}
+use Rattle.std.proofs.Common.{refl, ap, sym, ◌∙◌, ◌+◌, subst, drop}
+use Rattle.std.proofs.lemmas.List.{drop_all}
 use Rattle.std.specs.List.{AllByRecursion}
 use Rattle.std.specs.Prelude.{IsSome}
 use Rattle.std.specs.declared.option.Option.TheVariants.{Some}
@@ -25,3 +26,12 @@ loop-row-preserved g c =
           subst (λ rows. AllByRecursion (λ u. IsSome (find g.K.Ord.cmp u.key rows)) (drop (c.loop-row.row-index + 1) c.args.heard.now)) (sym c.put_in.ensures)
           (known-put g.met.K.Ord.total _ _ _ c.loop-row.invariant.ascends (each-at_drop _ c.args.heard.now _ _ c.loop-row-test.true c.row-item.is c.loop-row.invariant.known).1);
     }
+
+pub loop-row-init : goal.loop-row-init
+loop-row-init g c = record { put = refl; ascends = c.requires.rows; known = c.requires.known }
+
+pub offset_bounds-heard-row-index : goal.offset_bounds-heard-row-index
+offset_bounds-heard-row-index g c = c.loop-row.auto.row-index-end
+
+pub returns : goal.returns
+returns g c = sym (c.loop-row.invariant.put ∙ ap (λ over. put_over g.K.Ord.cmp over c.loop-row.rows.items) (drop_all _ c.args.heard.now c.loop-row-test.false))

@@ -1,4 +1,4 @@
-use Rattle.std.proofs.Common.{not, ◌∙◌}
+use Rattle.std.proofs.Common.{not}
 use Rattle.std.specs.Option.{option_eq}
 use Rattle.std.specs.declared.option.Option.TheVariants.{Some}
 use Rattle.mrp_participant.specs.Lookup.{key_of, find}
@@ -18,6 +18,5 @@ loop-row-preserved g c =
 
 pub returns : goal.returns
 returns g c =
-    c.from_vec.ensures
-    ∙ all_kept key_of (λ r. not (option_eq g.C.PartialEq.eq (registered_in (find g.K.Ord.cmp r.key c.args.old.now)) (registered_in (Some r))))
+    all_kept key_of (λ r. not (option_eq g.C.PartialEq.eq (registered_in (find g.K.Ord.cmp r.key c.args.old.now)) (registered_in (Some r))))
     c.args.new.now _ _ _ c.loop-row-test.false c.loop-row.invariant
