@@ -1,5 +1,5 @@
-//! The kinds of events: the keys of each, and what it names. A kind is a
-//! reader, and an arm of `read_kind`.
+//! The kinds of events: the keys of each, and what it names. A kind is a reader and its arm of
+//! `read_kind`.
 
 ghost use Rattle.std.specs.Prelude.{◌≡◌, ◌≤◌, length, Option, option_map};
 ghost use Rattle.toml.specs.View.{table_view};
