@@ -1,15 +1,17 @@
 -- A scenario is made of its parts.
-use Rattle.std.proofs.Common.{◌≡◌, ℕ, Bool, List, [], Option, Some, None, Result, Ok, Err, IfSome, refl, sym, ap, ◌∙◌}
+use Rattle.std.proofs.Common.{◌≡◌, ℕ, Bool, false, codes, List, [], Option, Some, None, Result, Ok, Err, IfSome, refl, sym, ap, ◌∙◌}
 use Rattle.srp_base.specs.Firsts.{first_where}
 use Rattle.srp_base.specs.Results.{◌>>=◌}
 use Rattle.toml.specs.Data.{Members}
 use Rattle.toml_rules.specs.declared.rules.RuleErr.{RuleErr}
-use Rattle.toml_rules.specs.Rules.{no_entry}
+use Rattle.toml_rules.specs.Fields.{truth_or, tables, has_only}
+use Rattle.toml_rules.specs.Rules.{needs, holds, no_entry}
 use Rattle.topology_file.specs.declared.scenario.Network.{Network}
 use Rattle.topology_file.specs.declared.scenario.Traffic.{Traffic}
-use Rattle.topology_file.specs.Parts.{network_of, traffic_of}
+use Rattle.topology_file.specs.declared.scenario.Times.{Times}
+use Rattle.topology_file.specs.Parts.{network_of, traffic_of, entries_plan}
 use Rattle.topology_file.specs.Plan.{Plan}
-use Rattle.topology_file.specs.Scenario.{nodes_of, links_of, tree_of, is_crowded, streams_of, events_of, frames_of, plan_of}
+use Rattle.topology_file.specs.Scenario.{nodes_of, links_of, tree_of, is_crowded, streams_of, events_of, frames_of, file_keys, ticks_at, leave_time_at, plan_of, scenario_of}
 
 then-assoc : {A B C : Type 0} (r : Result A RuleErr) (f : A → Result B RuleErr) (g : B → Result C RuleErr)
     → ((r >>= f) >>= g) ≡ (r >>= (λ x. f x >>= g))
@@ -91,3 +93,35 @@ parts-make ticks leave_time periodic node_tables link_tables stream_tables event
     sym (parts-plan ticks leave_time periodic node_tables link_tables stream_tables event_tables frame_tables)
     ∙ ap (λ (r : Result Network RuleErr). r >>= rest_of ticks leave_time periodic stream_tables event_tables frame_tables) h
     ∙ ap (λ (r : Result Traffic RuleErr). r >>= (λ t. Ok (plan_with ticks leave_time periodic n t))) k
+
+in-twos : {A B Z Y : Type 0} (a : Result A RuleErr) (b : Result B RuleErr) (e : A → B → Z) (g : Z → Result Y RuleErr)
+    → ((a >>= (λ x. b >>= (λ y. Ok (e x y)))) >>= g) ≡ (a >>= (λ x. b >>= (λ y. g (e x y))))
+in-twos a b e g =
+    then-assoc a (λ x. b >>= (λ y. Ok (e x y))) g ∙ then-same a _ _ (λ x. then-assoc b (λ y. Ok (e x y)) g)
+
+-- what follows the rule on a file's keys
+abbrev after_keys : ℕ → Members → Result Plan RuleErr
+after_keys ticks ms = do
+  node_tables ← needs 2 (tables (codes "node") ms)
+  link_tables ← needs 2 (tables (codes "link") ms)
+  stream_tables ← needs 2 (tables (codes "stream") ms)
+  event_tables ← needs 2 (tables (codes "event") ms)
+  frame_tables ← needs 2 (tables (codes "frame") ms)
+  leave_time ← needs 3 (leave_time_at ms)
+  periodic ← needs 3 (truth_or (codes "periodic") false ms)
+  plan_of ticks leave_time periodic node_tables link_tables stream_tables event_tables frame_tables
+
+entries-after : (ticks : ℕ) (ms : Members) → entries_plan ticks ms ≡ after_keys ticks ms
+entries-after ticks ms =
+    then-same (needs 2 (tables (codes "node") ms)) _ _ (λ node_tables. then-same (needs 2 (tables (codes "link") ms)) _ _ (λ link_tables.
+    then-same (needs 2 (tables (codes "stream") ms)) _ _ (λ stream_tables. then-same (needs 2 (tables (codes "event") ms)) _ _ (λ event_tables.
+    then-same (needs 2 (tables (codes "frame") ms)) _ _ (λ frame_tables.
+    in-twos (needs 3 (leave_time_at ms)) (needs 3 (truth_or (codes "periodic") false ms)) (λ leave_time periodic. record { ticks = ticks; leave_time = leave_time; periodic = periodic }) (λ times. plan_of times.ticks times.leave_time times.periodic node_tables link_tables stream_tables event_tables frame_tables))))))
+
+-- where the ticks are read and the keys are known, the scenario is that of the entries
+pub scenario-entries : (ticks : ℕ) (ms : Members) → needs 1 (ticks_at ms) ≡ Ok ticks → holds 2 (has_only file_keys ms) ≡ Ok tt
+    → entries_plan ticks ms ≡ scenario_of ms
+scenario-entries ticks ms e f =
+    entries-after ticks ms
+    ∙ sym (ap (λ (r : Result (Unit {0}) RuleErr). r >>= (λ _. after_keys ticks ms)) f)
+    ∙ sym (ap (λ (r : Result ℕ RuleErr). r >>= (λ t. holds 2 (has_only file_keys ms) >>= (λ _. after_keys t ms))) e)

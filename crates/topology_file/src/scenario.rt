@@ -5,7 +5,7 @@ ghost use Rattle.toml.specs.Data.{Members};
 ghost use Rattle.toml.specs.View.{table_view};
 ghost use Rattle.toml_rules.specs.Rules.{Reads};
 ghost use Rattle.topology_file.specs.Frames.{frame_copies};
-ghost use Rattle.topology_file.specs.Parts.{network_of, traffic_of};
+ghost use Rattle.topology_file.specs.Parts.{network_of, traffic_of, times_of, entries_plan};
 ghost use Rattle.topology_file.specs.Plan.{Plan};
 ghost use Rattle.topology_file.specs.Scenario.{KeepsRules, ticks_at, leave_time_at, plan_of, scenario_of};
 
@@ -242,6 +242,45 @@ const FILE_KEYS: [&str; 8] = [
     "frame",
 ];
 
+/// The times of a scenario of so many ticks: rule 3.
+fn read_times(ticks: u64, table: &Table) -> Result<Times, RuleErr>
+    ensures times { result ≡ times_of ticks (table_view table.now) }
+    ensures ticks { IfOk result (λ t. t.ticks ≡ ticks) }
+    ensures least_leave { IfOk result (λ t. 60 ≤ t.leave_time) }
+    ensures leave { IfOk result (λ t. t.leave_time ≤ 100) }
+{
+    let leave_time = needs(3, read_leave_time(table))?;
+    let periodic = needs(3, truth_or(table, "periodic", false))?;
+    Ok(Times {
+        ticks,
+        leave_time,
+        periodic,
+    })
+}
+
+/// The scenario of so many ticks, of a table whose keys are known: rules 2 to 24.
+fn read_entries(alloc: Global, ticks: u64, table: &Table) -> Result<Scenario, RuleErr>
+    requires some_ticks { 1 ≤ ticks }
+    requires ticks { ticks ≤ 12000 }
+    ensures { Reads (λ s. s) result (entries_plan ticks (table_view table.now)) }
+{
+    let node_tables = needs_tables(alloc, 2, table, "node")?;
+    let link_tables = needs_tables(alloc, 2, table, "link")?;
+    let stream_tables = needs_tables(alloc, 2, table, "stream")?;
+    let event_tables = needs_tables(alloc, 2, table, "event")?;
+    let frame_tables = needs_tables(alloc, 2, table, "frame")?;
+    let times = read_times(ticks, table)?;
+    read_plan(
+        alloc,
+        times,
+        &node_tables,
+        &link_tables,
+        &stream_tables,
+        &event_tables,
+        &frame_tables,
+    )
+}
+
 /// The scenario of a table, or the first rule that fails with its first failing entry: rules 1 to 24.
 ///
 /// # Errors
@@ -252,25 +291,5 @@ pub fn read_scenario(alloc: Global, table: &Table) -> Result<Scenario, RuleErr>
 {
     let ticks = needs(1, read_ticks(table))?;
     holds(2, has_only(table, &FILE_KEYS))?;
-    let node_tables = needs_tables(alloc, 2, table, "node")?;
-    let link_tables = needs_tables(alloc, 2, table, "link")?;
-    let stream_tables = needs_tables(alloc, 2, table, "stream")?;
-    let event_tables = needs_tables(alloc, 2, table, "event")?;
-    let frame_tables = needs_tables(alloc, 2, table, "frame")?;
-    let leave_time = needs(3, read_leave_time(table))?;
-    let periodic = needs(3, truth_or(table, "periodic", false))?;
-    let times = Times {
-        ticks,
-        leave_time,
-        periodic,
-    };
-    read_plan(
-        alloc,
-        times,
-        &node_tables,
-        &link_tables,
-        &stream_tables,
-        &event_tables,
-        &frame_tables,
-    )
+    read_entries(alloc, ticks, table)
 }
