@@ -237,11 +237,7 @@ fn read_unlisten(
 }
 
 /// A PDU is lost.
-fn read_lose(
-    nodes: &[NodeEntry],
-    links: &[LinkEntry],
-    table: &Table,
-) -> Option<Option<EventKind>>
+fn read_lose(nodes: &[NodeEntry], links: &[LinkEntry], table: &Table) -> Option<Option<EventKind>>
     requires { length nodes.now ≤ 64 }
     ensures { result ≡ pdu_form Lose nodes.now links.now (table_view table.now) }
 {
@@ -250,11 +246,7 @@ fn read_lose(
 }
 
 /// A PDU comes twice.
-fn read_repeat(
-    nodes: &[NodeEntry],
-    links: &[LinkEntry],
-    table: &Table,
-) -> Option<Option<EventKind>>
+fn read_repeat(nodes: &[NodeEntry], links: &[LinkEntry], table: &Table) -> Option<Option<EventKind>>
     requires { length nodes.now ≤ 64 }
     ensures { result ≡ pdu_form Repeat nodes.now links.now (table_view table.now) }
 {
