@@ -8,7 +8,6 @@ use Rattle.toml_rules.specs.Fields.{truth_or, tables, has_only}
 use Rattle.toml_rules.specs.Rules.{needs, holds, no_entry}
 use Rattle.topology_file.specs.declared.scenario.Network.{Network}
 use Rattle.topology_file.specs.declared.scenario.Traffic.{Traffic}
-use Rattle.topology_file.specs.declared.scenario.Times.{Times}
 use Rattle.topology_file.specs.Parts.{network_of, traffic_of, entries_plan}
 use Rattle.topology_file.specs.Plan.{Plan}
 use Rattle.topology_file.specs.Scenario.{nodes_of, links_of, tree_of, is_crowded, streams_of, events_of, frames_of, file_keys, ticks_at, leave_time_at, plan_of, scenario_of}

@@ -1,4 +1,4 @@
-use Rattle.std.proofs.Common.{◌≡◌, ◌<◌, ◌∙◌, ℕ, List, length, sym, subst, arith}
+use Rattle.std.proofs.Common.{◌≡◌, ◌<◌, ◌∙◌, ℕ, sym, subst}
 use Rattle.std.proofs.lemmas.List.Elements.{same_from_all_zip}
 use Rattle.tree_topology.proofs.RowFacts.{graph-as, rows-as}
 use Rattle.tree_topology.proofs.adjacency.Graph.copy.Goals as goal
