@@ -1,4 +1,5 @@
 pub mod Chains
+pub mod Parts
 pub mod HexRanges
 pub mod TreeRules
 pub mod NetworkKept

@@ -4,4 +4,5 @@ pub mod Frames
 pub mod Kinds
 pub mod Plan
 pub mod Scenario
+pub mod Parts
 pub mod Streams

@@ -1,8 +1,10 @@
-//! The kinds of events: the keys of each, and what it names. A kind is an arm of `read_kind`.
+//! The kinds of events: the keys of each, and what it names. A kind is a reader and its arm of
+//! `read_kind`.
 
 ghost use Rattle.std.specs.Prelude.{◌≡◌, ◌≤◌, length, Option, option_map};
 ghost use Rattle.toml.specs.View.{table_view};
-ghost use Rattle.topology_file.specs.Kinds.{known_vlan, vlan_at, known_talker, talker_at, known_listener, listener_at, both_named as both_named_spec, listener_named as listener_named_spec, joined_named, known_pdu, pdu_at, kind_form};
+ghost use Rattle.topology_file.specs.Kinds.{known_vlan, vlan_at, known_talker, talker_at, known_listener, listener_at, both_named as both_named_spec, listener_named as listener_named_spec, joined_named, known_pdu, pdu_at, vlan_form, talker_form, listener_form, pdu_form, kind_form};
+ghost use Rattle.topology_file.specs.declared.entries.EventKind.TheVariants.{Declare, Withdraw, Talk, Hush, Listen, Unlisten, Lose, Repeat};
 
 use crate::entries::{EventKind, LinkEntry, NodeEntry, StreamEntry};
 use crate::forms::{read_index, read_name, read_vid};
@@ -166,6 +168,92 @@ fn read_pdu(
     }
 }
 
+/// A station declares a VID.
+fn read_declare(nodes: &[NodeEntry], table: &Table) -> Option<Option<EventKind>>
+    requires { length nodes.now ≤ 64 }
+    ensures { result ≡ vlan_form Declare nodes.now (table_view table.now) }
+{
+    let (station, vid) = read_vlan(nodes, table)?;
+    Some(station.map(|station| EventKind::Declare { station, vid }))
+}
+
+/// A station withdraws a VID.
+fn read_withdraw(nodes: &[NodeEntry], table: &Table) -> Option<Option<EventKind>>
+    requires { length nodes.now ≤ 64 }
+    ensures { result ≡ vlan_form Withdraw nodes.now (table_view table.now) }
+{
+    let (station, vid) = read_vlan(nodes, table)?;
+    Some(station.map(|station| EventKind::Withdraw { station, vid }))
+}
+
+/// A stream's station declares its Talker.
+fn read_talk(streams: &[StreamEntry], table: &Table) -> Option<Option<EventKind>>
+    requires { length streams.now ≤ 128 }
+    ensures { result ≡ talker_form Talk streams.now (table_view table.now) }
+{
+    let stream = read_talker(streams, table)?;
+    Some(stream.map(|stream| EventKind::Talk { stream }))
+}
+
+/// A stream's station withdraws its Talker.
+fn read_hush(streams: &[StreamEntry], table: &Table) -> Option<Option<EventKind>>
+    requires { length streams.now ≤ 128 }
+    ensures { result ≡ talker_form Hush streams.now (table_view table.now) }
+{
+    let stream = read_talker(streams, table)?;
+    Some(stream.map(|stream| EventKind::Hush { stream }))
+}
+
+/// A station listens to a stream.
+fn read_listen(
+    nodes: &[NodeEntry],
+    streams: &[StreamEntry],
+    table: &Table,
+) -> Option<Option<EventKind>>
+    requires nodes { length nodes.now ≤ 64 }
+    requires streams { length streams.now ≤ 128 }
+    ensures { result ≡ listener_form Listen (listener_named_spec nodes.now streams.now)
+        (table_view table.now) }
+{
+    let (station, stream) = read_listener(table)?;
+    let named = listener_named(nodes, streams, station, stream);
+    Some(named.map(|(station, stream)| EventKind::Listen { station, stream }))
+}
+
+/// A station stops listening to a stream.
+fn read_unlisten(
+    nodes: &[NodeEntry],
+    streams: &[StreamEntry],
+    table: &Table,
+) -> Option<Option<EventKind>>
+    requires nodes { length nodes.now ≤ 64 }
+    requires streams { length streams.now ≤ 128 }
+    ensures { result ≡ listener_form Unlisten (both_named_spec nodes.now streams.now)
+        (table_view table.now) }
+{
+    let (station, stream) = read_listener(table)?;
+    let named = both_named(nodes, streams, station, stream);
+    Some(named.map(|(station, stream)| EventKind::Unlisten { station, stream }))
+}
+
+/// A PDU is lost.
+fn read_lose(nodes: &[NodeEntry], links: &[LinkEntry], table: &Table) -> Option<Option<EventKind>>
+    requires { length nodes.now ≤ 64 }
+    ensures { result ≡ pdu_form Lose nodes.now links.now (table_view table.now) }
+{
+    let (ends, index) = read_pdu(nodes, links, table)?;
+    Some(ends.map(|(from, to)| EventKind::Lose { from, to, index }))
+}
+
+/// A PDU comes twice.
+fn read_repeat(nodes: &[NodeEntry], links: &[LinkEntry], table: &Table) -> Option<Option<EventKind>>
+    requires { length nodes.now ≤ 64 }
+    ensures { result ≡ pdu_form Repeat nodes.now links.now (table_view table.now) }
+{
+    let (ends, index) = read_pdu(nodes, links, table)?;
+    Some(ends.map(|(from, to)| EventKind::Repeat { from, to, index }))
+}
+
 /// What happens, by the word of its kind, each with exactly its keys; missing where what it names
 /// isn't there.
 pub(crate) fn read_kind(
@@ -180,40 +268,14 @@ pub(crate) fn read_kind(
     ensures { result ≡ kind_form nodes.now links.now streams.now (table_view table.now) word.now }
 {
     match word {
-        "declare" => {
-            let (station, vid) = read_vlan(nodes, table)?;
-            Some(station.map(|station| EventKind::Declare { station, vid }))
-        }
-        "withdraw" => {
-            let (station, vid) = read_vlan(nodes, table)?;
-            Some(station.map(|station| EventKind::Withdraw { station, vid }))
-        }
-        "talk" => {
-            let stream = read_talker(streams, table)?;
-            Some(stream.map(|stream| EventKind::Talk { stream }))
-        }
-        "hush" => {
-            let stream = read_talker(streams, table)?;
-            Some(stream.map(|stream| EventKind::Hush { stream }))
-        }
-        "listen" => {
-            let (station, stream) = read_listener(table)?;
-            let named = listener_named(nodes, streams, station, stream);
-            Some(named.map(|(station, stream)| EventKind::Listen { station, stream }))
-        }
-        "unlisten" => {
-            let (station, stream) = read_listener(table)?;
-            let named = both_named(nodes, streams, station, stream);
-            Some(named.map(|(station, stream)| EventKind::Unlisten { station, stream }))
-        }
-        "lose" => {
-            let (ends, index) = read_pdu(nodes, links, table)?;
-            Some(ends.map(|(from, to)| EventKind::Lose { from, to, index }))
-        }
-        "repeat" => {
-            let (ends, index) = read_pdu(nodes, links, table)?;
-            Some(ends.map(|(from, to)| EventKind::Repeat { from, to, index }))
-        }
+        "declare" => read_declare(nodes, table),
+        "withdraw" => read_withdraw(nodes, table),
+        "talk" => read_talk(streams, table),
+        "hush" => read_hush(streams, table),
+        "listen" => read_listen(nodes, streams, table),
+        "unlisten" => read_unlisten(nodes, streams, table),
+        "lose" => read_lose(nodes, links, table),
+        "repeat" => read_repeat(nodes, links, table),
         _ => None,
     }
 }

@@ -1,10 +1,11 @@
 //! A scenario: a network, its times, and what happens in it.
 
-ghost use Rattle.std.specs.Prelude.{◌≡◌, ◌≤◌, map, Ok};
+ghost use Rattle.std.specs.Prelude.{◌≡◌, ◌≤◌, map, length, Ok, IfOk};
 ghost use Rattle.toml.specs.Data.{Members};
 ghost use Rattle.toml.specs.View.{table_view};
 ghost use Rattle.toml_rules.specs.Rules.{Reads};
 ghost use Rattle.topology_file.specs.Frames.{frame_copies};
+ghost use Rattle.topology_file.specs.Parts.{network_of, traffic_of, times_of, entries_plan};
 ghost use Rattle.topology_file.specs.Plan.{Plan};
 ghost use Rattle.topology_file.specs.Scenario.{KeepsRules, ticks_at, leave_time_at, plan_of, scenario_of};
 
@@ -122,6 +123,71 @@ struct Times {
     periodic: bool,
 }
 
+/// The nodes and links of a scenario, and their tree.
+#[derive(Drop)]
+struct Network {
+    tree: Tree,
+    nodes: Seq<NodeEntry>,
+    links: Seq<LinkEntry>,
+}
+
+/// What happens in a network.
+#[derive(Drop)]
+struct Traffic {
+    streams: Seq<StreamEntry>,
+    events: Seq<EventEntry>,
+    frames: Seq<FrameEntry>,
+}
+
+/// The network of these entries: rules 4 to 15.
+fn read_network(
+    alloc: Global,
+    ticks: u64,
+    node_tables: &[&Table],
+    link_tables: &[&Table],
+) -> Result<Network, RuleErr>
+    requires { ticks ≤ 12000 }
+    ensures reads { Reads (λ n. n) result (network_of ticks
+        (map (λ t. table_view t.now) node_tables.now)
+        (map (λ t. table_view t.now) link_tables.now)) }
+    ensures few_nodes { IfOk result (λ n. length n.nodes ≤ 64) }
+{
+    let nodes = Seq::from_vec(read_nodes(alloc, ticks, node_tables)?);
+    let links = Seq::from_vec(read_links(alloc, nodes.as_slice(), link_tables)?);
+    let tree = make_tree(alloc, nodes.as_slice(), links.as_slice())?;
+    no_entry(15, crowded_node(nodes.as_slice(), &tree))?;
+    Ok(Network { tree, nodes, links })
+}
+
+/// What happens in a network, by these entries: rules 16 to 24.
+fn read_traffic(
+    alloc: Global,
+    ticks: u64,
+    network: &Network,
+    stream_tables: &[&Table],
+    event_tables: &[&Table],
+    frame_tables: &[&Table],
+) -> Result<Traffic, RuleErr>
+    requires ticks { ticks ≤ 12000 }
+    requires few_nodes { length network.now.nodes ≤ 64 }
+    ensures { Reads (λ t. t) result (traffic_of ticks network.now.nodes network.now.links
+        (map (λ t. table_view t.now) stream_tables.now)
+        (map (λ t. table_view t.now) event_tables.now)
+        (map (λ t. table_view t.now) frame_tables.now)) }
+{
+    let nodes = network.nodes.as_slice();
+    let links = network.links.as_slice();
+    let streams = Seq::from_vec(read_streams(alloc, nodes, stream_tables)?);
+    let known = streams.as_slice();
+    let events = Seq::from_vec(read_events(alloc, ticks, nodes, links, known, event_tables)?);
+    let frames = Seq::from_vec(read_frames(alloc, ticks, nodes, known, frame_tables)?);
+    Ok(Traffic {
+        streams,
+        events,
+        frames,
+    })
+}
+
 /// The scenario of these times and entries: rules 4 to 24.
 fn read_plan(
     alloc: Global,
@@ -143,36 +209,25 @@ fn read_plan(
         (map (λ t. table_view t.now) frame_tables.now)) }
 {
     laws::refusals();
-    let nodes = Seq::from_vec(read_nodes(alloc, times.ticks, node_tables)?);
-    let links = Seq::from_vec(read_links(alloc, nodes.as_slice(), link_tables)?);
-    let tree = make_tree(alloc, nodes.as_slice(), links.as_slice())?;
-    no_entry(15, crowded_node(nodes.as_slice(), &tree))?;
-    let streams = Seq::from_vec(read_streams(alloc, nodes.as_slice(), stream_tables)?);
-    let events = Seq::from_vec(read_events(
+    let network = read_network(alloc, times.ticks, node_tables, link_tables)?;
+    let traffic = read_traffic(
         alloc,
         times.ticks,
-        nodes.as_slice(),
-        links.as_slice(),
-        streams.as_slice(),
+        &network,
+        stream_tables,
         event_tables,
-    )?);
-    let frames = read_frames(
-        alloc,
-        times.ticks,
-        nodes.as_slice(),
-        streams.as_slice(),
         frame_tables,
     )?;
     Ok(Scenario {
         ticks: times.ticks,
         leave_time: Cs(times.leave_time),
         periodic: times.periodic,
-        tree,
-        nodes,
-        links,
-        streams,
-        events,
-        frames: Seq::from_vec(frames),
+        tree: network.tree,
+        nodes: network.nodes,
+        links: network.links,
+        streams: traffic.streams,
+        events: traffic.events,
+        frames: traffic.frames,
     })
 }
 
@@ -187,6 +242,45 @@ const FILE_KEYS: [&str; 8] = [
     "frame",
 ];
 
+/// The times of a scenario of so many ticks: rule 3.
+fn read_times(ticks: u64, table: &Table) -> Result<Times, RuleErr>
+    ensures times { result ≡ times_of ticks (table_view table.now) }
+    ensures ticks { IfOk result (λ t. t.ticks ≡ ticks) }
+    ensures least_leave { IfOk result (λ t. 60 ≤ t.leave_time) }
+    ensures leave { IfOk result (λ t. t.leave_time ≤ 100) }
+{
+    let leave_time = needs(3, read_leave_time(table))?;
+    let periodic = needs(3, truth_or(table, "periodic", false))?;
+    Ok(Times {
+        ticks,
+        leave_time,
+        periodic,
+    })
+}
+
+/// The scenario of so many ticks, of a table whose keys are known: rules 2 to 24.
+fn read_entries(alloc: Global, ticks: u64, table: &Table) -> Result<Scenario, RuleErr>
+    requires some_ticks { 1 ≤ ticks }
+    requires ticks { ticks ≤ 12000 }
+    ensures { Reads (λ s. s) result (entries_plan ticks (table_view table.now)) }
+{
+    let node_tables = needs_tables(alloc, 2, table, "node")?;
+    let link_tables = needs_tables(alloc, 2, table, "link")?;
+    let stream_tables = needs_tables(alloc, 2, table, "stream")?;
+    let event_tables = needs_tables(alloc, 2, table, "event")?;
+    let frame_tables = needs_tables(alloc, 2, table, "frame")?;
+    let times = read_times(ticks, table)?;
+    read_plan(
+        alloc,
+        times,
+        &node_tables,
+        &link_tables,
+        &stream_tables,
+        &event_tables,
+        &frame_tables,
+    )
+}
+
 /// The scenario of a table, or the first rule that fails with its first failing entry: rules 1 to 24.
 ///
 /// # Errors
@@ -197,25 +291,5 @@ pub fn read_scenario(alloc: Global, table: &Table) -> Result<Scenario, RuleErr>
 {
     let ticks = needs(1, read_ticks(table))?;
     holds(2, has_only(table, &FILE_KEYS))?;
-    let node_tables = needs_tables(alloc, 2, table, "node")?;
-    let link_tables = needs_tables(alloc, 2, table, "link")?;
-    let stream_tables = needs_tables(alloc, 2, table, "stream")?;
-    let event_tables = needs_tables(alloc, 2, table, "event")?;
-    let frame_tables = needs_tables(alloc, 2, table, "frame")?;
-    let leave_time = needs(3, read_leave_time(table))?;
-    let periodic = needs(3, truth_or(table, "periodic", false))?;
-    let times = Times {
-        ticks,
-        leave_time,
-        periodic,
-    };
-    read_plan(
-        alloc,
-        times,
-        &node_tables,
-        &link_tables,
-        &stream_tables,
-        &event_tables,
-        &frame_tables,
-    )
+    read_entries(alloc, ticks, table)
 }

@@ -10,7 +10,7 @@ use Rattle.tree_topology.specs.declared.graph.NodeKind.{NodeKind}
 use Rattle.tree_topology.specs.Graph.{IsNode, Joined, IsWalk, IsTree}
 use Rattle.tree_topology.specs.Ports.{neighbours, place_of, port_to, IsPort, far_node, egress_ports, link_at}
 use Rattle.tree_topology.specs.Walk.{walk_between, path_between, begins_with, is_behind}
-use Rattle.tree_topology.specs.Routes.{IsRooted, IsRouted, ports_made}
+use Rattle.tree_topology.specs.Routes.{Routed, IsRooted, IsRouted, ports_made}
 use Rattle.tree_topology.proofs.Climbs as climbs
 use Rattle.tree_topology.proofs.Climbs.{walk-up, walk-down, not-top, parent-joined}
 use Rattle.tree_topology.proofs.Links.{joined-sym, joined-known}
@@ -212,3 +212,19 @@ pub step-down : (kinds : List NodeKind) (links : List Link) (parents depths : Li
 step-down kinds links parents depths x y up port ups downs downs' h m n ne le eu ep e =
     let whole : downs' ≡ downs ++ port_to links (get_or parents y 0) y ∷ [] = e ∙ ap (λ (t : EgressPort). downs ++ t ∷ []) (ep ∙ ap (λ (t : ℕ). port_to links t y) eu) in
     ap (λ (t : ℕ). ports_made links x t ups downs') eu ∙ made-down (length kinds) links parents depths ups downs downs' h.accepted.tree h.rooted x y m n ne le whole
+
+-- the tables of a tree as one
+abbrev routed : List NodeKind → List Link → List ℕ → List ℕ → Routed
+routed kinds links parents depths = record {
+  kinds = kinds;
+  links = links;
+  parents = parents;
+  depths = depths;
+}
+
+-- equal tables make the same tree
+pub routed-as : (kinds kinds' : List NodeKind) (links links' : List Link) (parents parents' depths depths' : List ℕ) → kinds' ≡ kinds → links' ≡ links → parents' ≡ parents → depths' ≡ depths → IsRouted kinds links parents depths → IsRouted kinds' links' parents' depths'
+routed-as kinds kinds' links links' parents parents' depths depths' e f g i h = rw (e, f, g, i) h
+
+pub routed-same : (kinds kinds' : List NodeKind) (links links' : List Link) (parents parents' depths depths' : List ℕ) → kinds' ≡ kinds → links' ≡ links → parents' ≡ parents → depths' ≡ depths → routed kinds' links' parents' depths' ≡ routed kinds links parents depths
+routed-same kinds kinds' links links' parents parents' depths depths' e f g i = rw (e, f, g, i) refl

@@ -6,7 +6,8 @@ use Rattle.std.proofs.lemmas.List.{append-nil, take_more, length-set, get_or-set
 use Rattle.std.proofs.lemmas.List.Elements.{filter_map-append, All-take}
 use Rattle.std.specs.List.{list_any, cons_option}
 use Rattle.tree_topology.specs.declared.graph.Link.{Link}
-use Rattle.tree_topology.specs.Graph.{IsNode, Joins, Joined, HasKnownEnds, HasNoSelfLink}
+use Rattle.tree_topology.specs.declared.graph.NodeKind.{NodeKind}
+use Rattle.tree_topology.specs.Graph.{IsNode, Joins, Joined, HasKnownEnds, HasNoSelfLink, IsGraph}
 use Rattle.tree_topology.specs.Ports.{far_end, neighbours}
 use Rattle.tree_topology.specs.Refusal.{IsFirstLink, IsSecondLink}
 use Rattle.tree_topology.specs.Tables.{HasRows, with_neighbour, with_link}
@@ -123,3 +124,10 @@ rows-step count links rows rows' more i l r known other h apart lt same s e new 
     let M : List (List ℕ) → Type 0 = λ t. HasRows count (take (i + 1) links) t in
     let linked = rows-link count (take i links) (get_or links i l) rows ends.0 ends.1 (other i l lt) h in
     (subst M (sym new) (subst T (sym (take_more links i l lt)) linked), (λ k d less. below_more (λ k. (d : Link) → ¬ Joined (take k links) (get_or links k d).a.0 (get_or links k d).b.0) i (λ k less d. apart k d less) (λ d. subst F (get_or_default links i l d lt) n) k less d))
+
+-- equal lists make the same graph, with the same rows
+pub graph-as : (kinds kinds' : List NodeKind) (links links' : List Link) → kinds' ≡ kinds → links' ≡ links → IsGraph (length kinds) links → IsGraph (length kinds') links'
+graph-as kinds kinds' links links' e f h = rw (e, f) h
+
+pub rows-as : (kinds kinds' : List NodeKind) (links links' : List Link) (rows rows' : List (List ℕ)) → kinds' ≡ kinds → links' ≡ links → rows' ≡ rows → HasRows (length kinds) links rows → HasRows (length kinds') links' rows'
+rows-as kinds kinds' links links' rows rows' e f g h = rw (e, f, g) h

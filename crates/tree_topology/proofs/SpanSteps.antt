@@ -1,8 +1,9 @@
 -- The search from node 1, step by step.
-use Rattle.std.proofs.Common.{◌≡◌, ◌≢◌, ℕ, ◌+◌, ◌-◌, ◌<◌, ◌≤◌, ◌==◌, nat_lt, if◌then◌else◌, Bool, true, false, cond, List, [], ◌∷◌, ◌++◌, inl, inr, refl, sym, ap, subst, ◌∙◌, length, get_or, set, below_more, arith}
+use Rattle.std.proofs.Common.{◌≡◌, ◌≢◌, ℕ, zero, suc, ◌+◌, ◌-◌, ◌<◌, ◌≤◌, ◌==◌, nat_lt, if◌then◌else◌, Bool, true, false, cond, List, [], ◌∷◌, ◌++◌, inl, inr, refl, sym, ap, subst, ◌∙◌, length, get_or, set, replicate, below_more, arith}
 use Rattle.std.proofs.lemmas.Bool.{cases_eq, cases_lt}
 use Rattle.std.proofs.lemmas.Bool.Decides.{nat_tests}
-use Rattle.std.proofs.lemmas.List.{length-set, get_or-set_same, get_or-set_other, length_push, get_or_append_left, get_or_push}
+use Rattle.std.proofs.lemmas.List.{length-set, length-replicate, get_or-set_same, get_or-set_other, length_push, get_or_append_left, get_or_push}
+use Rattle.std.proofs.lemmas.List.Folds.{sum_by-replicate}
 use Rattle.std.proofs.lemmas.List.Sums.{sum_by-set}
 use Rattle.tree_topology.specs.declared.graph.Link.{Link}
 use Rattle.tree_topology.specs.Graph.{IsNode, Joined, IsWalk, Connected, HasKnownEnds, HasNoSelfLink, IsGraph, IsTree}
@@ -27,6 +28,70 @@ grows-through p1 o1 p2 o2 p3 o3 g h = record {
   at_least = omega (arith, g.at_least, h.at_least);
   same = (λ k lt. h.same k (omega (arith, lt, g.at_least)) ∙ g.same k lt);
 }
+
+-- a list of zeros has 0 at each place
+zeros-read : (n x : ℕ) → get_or (replicate {A = ℕ} n 0) x 0 ≡ 0
+zeros-read zero x = refl
+zeros-read (suc n) zero = refl
+zeros-read (suc n) (suc x) = zeros-read n x
+
+-- a search of no nodes
+span-none : (links : List Link) → IsSpan 0 links (0 ∷ []) (0 ∷ []) []
+span-none links = record {
+  parents_size = refl;
+  depths_size = refl;
+  none = refl;
+  first = (λ some. absurd (omega (arith, some)));
+  top = refl;
+  listed = (λ k lt. absurd (omega (arith, lt)));
+  found = (λ x m q. absurd (omega (arith, m.0, m.1)));
+  connected = (λ x m q. absurd (omega (arith, m.0, m.1)));
+  joined = (λ x m q o. absurd (omega (arith, m.0, m.1)));
+  above = (λ x m q o. absurd (omega (arith, m.0, m.1)));
+  falls = (λ x m q o. absurd (omega (arith, m.0, m.1)));
+  shallow = (λ x le. (let F : ℕ → Type 0 = λ t. get_or (0 ∷ []) t 0 ≤ 0 in let z : x ≡ 0 = omega (arith, le) in subst F (sym z) (omega arith)));
+  counted = refl;
+}
+
+-- a search that has reached node 1
+span-one : (count : ℕ) (links : List Link) → 0 < count → IsSpan count links (set (replicate (count + 1) 0) 1 1) (replicate (count + 1) 0) (1 ∷ [])
+span-one count links some =
+    let zeros : List ℕ = replicate (count + 1) 0 in
+    let p : List ℕ = set zeros 1 1 in
+    let size : length zeros ≡ count + 1 = length-replicate (count + 1) 0 in
+    let one : 1 < length zeros = omega (arith, some, size) in
+    let at : get_or p 1 0 ≡ 1 = get_or-set_same zeros 1 1 0 one in
+    let p_x : (x : ℕ) → x ≢ 1 → get_or p x 0 ≡ 0 = λ x ne. get_or-set_other zeros 1 x 1 0 ne ∙ zeros-read (count + 1) x in
+    let only : (x : ℕ) → get_or p x 0 ≢ 0 → x ≡ 1 = λ x q. elim (cases_eq x 1) [ inl e ↦ e | inr ne ↦ absurd (q (p_x x ne)) ] in
+    let at1 : get_or p 1 0 ≢ 0 = λ e. absurd (omega (arith, at, e)) in
+    record {
+      parents_size = length-set zeros 1 1 ∙ size;
+      depths_size = size;
+      none = p_x 0 (λ e. absurd (omega (arith, e)));
+      first = (λ _. at1);
+      top = zeros-read (count + 1) 1;
+      listed = (λ k lt. (let F : ℕ → Type 0 = λ t. IsNode count (get_or (1 ∷ []) t 0) × (get_or p (get_or (1 ∷ []) t 0) 0 ≢ 0) in let z : k ≡ 0 = omega (arith, lt) in subst F (sym z) ((omega arith, omega (arith, some)), at1)));
+      found = (λ x m q. (0, omega arith, sym (only x q)));
+      connected = (λ x m q. (let F : ℕ → Type 0 = λ t. Connected links 1 t in subst F (sym (only x q)) ([], refl)));
+      joined = (λ x m q o. absurd (o (only x q)));
+      above = (λ x m q o. absurd (o (only x q)));
+      falls = (λ x m q o. absurd (o (only x q)));
+      shallow = (λ x le. omega (arith, zeros-read (count + 1) x));
+      counted = (
+          let g : ℕ → ℕ = λ p. cond (nat_lt 0 p) 1 0 in
+          let s = sum_by-set g zeros 1 1 0 one in
+          let zero_1 : g (get_or zeros 1 0) ≡ 0 = ap g (zeros-read (count + 1) 1) in
+          let none = sum_by-replicate g (count + 1) 0 in
+          omega (arith, s, zero_1, none));
+    }
+
+pub span-start_none : (count n : ℕ) (links : List Link) (parents depths order : List ℕ) → n ≡ count → n ≤ 0 → parents ≡ replicate (n + 1) 0 → depths ≡ replicate (n + 1) 0 → order ≡ [] → IsSpan count links parents depths order
+span-start_none count n links parents depths order e none p d o =
+    let zero : n ≡ 0 = omega (arith, none) in
+    rw (← e, p, d, o, zero) (span-none links)
+
+pub span-start_one : (count n : ℕ) (links : List Link) (parents depths order : List ℕ) → n ≡ count → 0 < n → parents ≡ set (replicate (n + 1) 0) 1 1 → depths ≡ replicate (n + 1) 0 → order ≡ 1 ∷ [] → IsSpan count links parents depths order
+span-start_one count n links parents depths order e some p d o = rw (← e, p, d, o) (span-one n links some)
 
 push-old : (order : List ℕ) (v k : ℕ) → k < length order → get_or (order ++ v ∷ []) k 0 ≡ get_or order k 0
 push-old order v k lt = get_or_append_left order (v ∷ []) 0 k lt

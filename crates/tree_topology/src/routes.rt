@@ -7,7 +7,6 @@ ghost use Rattle.tree_topology.specs.Walk.{begins_with, walk_between, is_behind}
 ghost use Rattle.tree_topology.specs.Refusal.{IsAccepted, IsRefusal};
 
 use crate::adjacency::Graph;
-use crate::components::check_loops;
 use crate::graph::{Link, NodeKind, TreeErr};
 use crate::span::Span;
 use srp_base::{EgressPort, LinkNo, NoMemory, NodeNo, PortNo};
@@ -51,16 +50,11 @@ impl Routes {
         ensures err { IfErr result (λ e. IsRefusal nodes.now links.now e) }
     {
         let graph = Graph::new(alloc, nodes, links)?;
-        check_loops(alloc, nodes, links)?;
-        let span = Span::new(alloc, &graph)?;
-        span.check_connected(&graph)?;
-        graph.check_stations()?;
-        graph.check_port_counts()?;
         let Span {
             parents,
             depths,
             ..
-        } = span;
+        } = Span::of_tree(alloc, &graph)?;
         Ok(Routes {
             graph,
             parents,

@@ -3,9 +3,10 @@
 ghost use Rattle.std.specs.Prelude.{◌≡◌, ◌≢◌, ◌==◌, ◌+◌, ◌<◌, ◌≤◌, ℕ, length, OnOk, IfOk, IfErr, slice_index, slice_set, [], ◌∷◌, ◌++◌, if◌then◌else◌};
 ghost use Rattle.tree_topology.specs.Graph.{IsNode, Joined, IsTree};
 ghost use Rattle.tree_topology.specs.Tables.{IsSpan, Grows, IsClosed, HasReachedAll};
-ghost use Rattle.tree_topology.specs.Refusal.{HasNoLoop, IsRefusal};
+ghost use Rattle.tree_topology.specs.Refusal.{HasNoLoop, IsAccepted, IsRefusal};
 
 use crate::adjacency::Graph;
+use crate::components::check_loops;
 use crate::graph::TreeErr;
 use srp_base::{NoMemory, NodeNo};
 use std::alloc::Global;
@@ -19,8 +20,24 @@ pub(crate) struct Span {
 }
 
 impl Span {
+    /// All nodes of an accepted tree, or why the graph is none.
+    pub(crate) fn of_tree(alloc: Global, graph: &Graph) -> Result<Span, TreeErr>
+        ensures span { IfOk result (λ s.
+            IsSpan (length graph.now.kinds.items) graph.now.links.items
+            s.parents.items s.depths.items s.order.items) }
+        ensures reached { IfOk result (λ s.
+            HasReachedAll (length graph.now.kinds.items) s.parents.items) }
+        ensures accepted { OnOk result (IsAccepted graph.now.kinds.items graph.now.links.items) }
+        ensures err { IfErr result (λ e. IsRefusal graph.now.kinds.items graph.now.links.items e) }
+    {
+        check_loops(alloc, &graph.kinds, &graph.links)?;
+        let span = Span::new(alloc, graph)?;
+        span.check_tree(graph)?;
+        Ok(span)
+    }
+
     /// All that can be reached.
-    pub(crate) fn new(alloc: Global, graph: &Graph) -> Result<Span, NoMemory>
+    fn new(alloc: Global, graph: &Graph) -> Result<Span, NoMemory>
         ensures span { IfOk result (λ s.
             IsSpan (length graph.now.kinds.items) graph.now.links.items
             s.parents.items s.depths.items s.order.items) }
@@ -37,8 +54,25 @@ impl Span {
         Ok(span)
     }
 
+    /// A graph without loops is a tree that is accepted.
+    fn check_tree(&self, graph: &Graph) -> Result<(), TreeErr>
+        requires span { IsSpan (length graph.now.kinds.items) graph.now.links.items
+            self.now.parents.items self.now.depths.items self.now.order.items }
+        requires closed { IsClosed (length graph.now.kinds.items) graph.now.links.items
+            self.now.parents.items }
+        requires no_loop { HasNoLoop graph.now.links.items }
+        ensures reached { OnOk result
+            (HasReachedAll (length graph.now.kinds.items) self.now.parents.items) }
+        ensures accepted { OnOk result (IsAccepted graph.now.kinds.items graph.now.links.items) }
+        ensures err { IfErr result (λ e. IsRefusal graph.now.kinds.items graph.now.links.items e) }
+    {
+        self.check_connected(graph)?;
+        graph.check_stations()?;
+        graph.check_port_counts()
+    }
+
     /// Each node is connected with node 1.
-    pub(crate) fn check_connected(&self, graph: &Graph) -> Result<(), TreeErr>
+    fn check_connected(&self, graph: &Graph) -> Result<(), TreeErr>
         requires span { IsSpan (length graph.now.kinds.items) graph.now.links.items
             self.now.parents.items self.now.depths.items self.now.order.items }
         requires closed { IsClosed (length graph.now.kinds.items) graph.now.links.items
