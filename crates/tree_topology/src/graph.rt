@@ -5,7 +5,8 @@ ghost use Rattle.tree_topology.specs.declared.graph.TreeErr.TheVariants.{NoMemor
 
 use srp_base::{LinkNo, NoMemory, NodeNo};
 use std::alloc::AllocError;
-use thiserror::Error;
+use std::error::Error;
+use std::fmt::{self, Display, Formatter, Write};
 
 /// What a node is: an end station, or a bridge that relays between its ports.
 #[derive(Clone, Copy, Debug, PartialEq, Eq)]
@@ -23,25 +24,50 @@ pub struct Link {
 
 /// Why nodes and links are no tree, in the order in which this is judged: each variant over all
 /// links or nodes before the next. It names the first link or node at fault, counted from 1.
-#[derive(Clone, Copy, Debug, PartialEq, Eq, Error)]
+#[derive(Clone, Copy, Debug, PartialEq, Eq)]
 pub enum TreeErr {
-    #[error("link {0:?} has an end that is no node")]
     UnknownNode(LinkNo),
-    #[error("link {0:?} joins a node with itself")]
     SelfLink(LinkNo),
-    #[error("link {0:?} joins two nodes that an earlier link joins")]
     SecondLink(LinkNo),
-    #[error("link {0:?} joins two nodes that earlier links connect")]
     Loop(LinkNo),
-    #[error("node {0:?} isn't connected with node 1")]
     Unconnected(NodeNo),
-    #[error("station {0:?} hasn't exactly one link")]
     StationWithLinks(NodeNo),
-    #[error("node {0:?} has more than 255 links")]
     TooManyLinks(NodeNo),
-    #[error("no memory")]
     NoMemory,
 }
+
+impl TreeErr {
+    /// What is at fault, its number, and what is wrong with it; None for want of memory.
+    fn fault(self) -> Option<(&'static str, u16, &'static str)> {
+        match self {
+            TreeErr::UnknownNode(link) => Some(("link", link.0, "has an end that is no node")),
+            TreeErr::SelfLink(link) => Some(("link", link.0, "joins a node with itself")),
+            TreeErr::SecondLink(link) => {
+                Some(("link", link.0, "joins two nodes that an earlier link joins"))
+            }
+            TreeErr::Loop(link) => {
+                Some(("link", link.0, "joins two nodes that earlier links connect"))
+            }
+            TreeErr::Unconnected(node) => Some(("node", node.0, "isn't connected with node 1")),
+            TreeErr::StationWithLinks(node) => {
+                Some(("station", node.0, "hasn't exactly one link"))
+            }
+            TreeErr::TooManyLinks(node) => Some(("node", node.0, "has more than 255 links")),
+            TreeErr::NoMemory => None,
+        }
+    }
+}
+
+impl Display for TreeErr {
+    fn fmt<W: Write>(&self, f: &mut Formatter<W>) -> fmt::Result {
+        match self.fault() {
+            Some((what, number, wrong)) => write!(f, "{what} {number} {wrong}"),
+            None => f.write_str("no memory"),
+        }
+    }
+}
+
+impl Error for TreeErr {}
 
 impl From<NoMemory> for TreeErr {
     ghost from_gives = { λ _ e. e ≡ NoMemory };
