@@ -1,7 +1,6 @@
 -- The rows of neighbours, link by link.
-use Rattle.std.proofs.Common.{◌≡◌, ◌≢◌, ℕ, suc, zero, ◌+◌, ◌<◌, Bool, true, false, ◌==◌, Option, None, List, [], ◌∷◌, ◌++◌, ◌⊎◌, inl, inr, refl, sym, ap, subst, ◌∙◌, length, get_or, take, below_more, arith}
-use Rattle.std.proofs.lemmas.Bool.{cases_eq, false≢true}
-use Rattle.std.proofs.lemmas.Bool.Decides.{nat_tests}
+use Rattle.std.proofs.Common.{◌≡◌, ◌≢◌, ℕ, suc, zero, ◌+◌, ◌<◌, Bool, true, false, ◌==◌, ◌||◌, if◌then◌else◌, Option, Some, None, List, [], ◌∷◌, ◌++◌, ◌⊎◌, inl, inr, refl, sym, ap, subst, ◌∙◌, length, get_or, take, below_more, arith}
+use Rattle.std.proofs.lemmas.Bool.{cases_eq, eq-eqb, ne_eqb, false≢true}
 use Rattle.std.proofs.lemmas.List.{append-nil, take_more, length-set, get_or-set_same, get_or-set_other, get_or_default}
 use Rattle.std.proofs.lemmas.List.Elements.{filter_map-append, All-take}
 use Rattle.std.specs.List.{list_any, cons_option}
@@ -24,7 +23,7 @@ neighbours-push links l x = filter_map-append (far_end x) links (l ∷ [])
 
 row-other : (links : List Link) (l : Link) (x : ℕ) → l.a.0 ≢ x → l.b.0 ≢ x → neighbours (links ++ l ∷ []) x ≡ neighbours links x
 row-other links l x n k =
-    let none : far_end x l ≡ None = grind (arith, nat_tests) in
+    let none : far_end x l ≡ None = ap (λ b. if b then Some l.b.0 else (if l.b.0 == x then Some l.a.0 else None)) (ne_eqb l.a.0 x n) ∙ ap (λ b. if b then Some l.a.0 else None) (ne_eqb l.b.0 x k) in
     neighbours-push links l x ∙ ap (λ (o : Option ℕ). neighbours links x ++ cons_option o []) none ∙ append-nil (neighbours links x)
 
 row-end : (links : List Link) (l : Link) (x v : ℕ) → l.a.0 ≢ l.b.0 → Joins l x v → neighbours (links ++ l ∷ []) x ≡ neighbours links x ++ v ∷ []
@@ -57,15 +56,15 @@ any-at v [] e = absurd (false≢true e)
 any-at v (x ∷ xs) e =
     elim (cases_eq x v) [
       | inl q ↦ (0, omega arith, q)
-      | inr n ↦ (let rest : list_any (λ u. u == v) xs ≡ true = grind (arith, nat_tests) in let h = any-at v xs rest in (suc h.0, omega (arith, h.1), h.2))
+      | inr n ↦ (let rest : list_any (λ u. u == v) xs ≡ true = sym (ap (λ b. b || list_any (λ u. u == v) xs) (ne_eqb x v n)) ∙ e in let h = any-at v xs rest in (suc h.0, omega (arith, h.1), h.2))
     ]
 
 at-any : (v : ℕ) (xs : List ℕ) (k : ℕ) → k < length xs → get_or xs k 0 ≡ v → list_any (λ u. u == v) xs ≡ true
 at-any v [] k lt e = absurd (omega (arith, lt))
-at-any v (x ∷ xs) zero lt e = grind (arith, nat_tests)
+at-any v (x ∷ xs) zero lt e = ap (λ b. b || list_any (λ u. u == v) xs) (eq-eqb x v e)
 at-any v (x ∷ xs) (suc k) lt e =
     let rest = at-any v xs k (omega (arith, lt)) e in
-    elim (cases_eq x v) [ inl q ↦ grind (arith, nat_tests) | inr n ↦ grind (arith, nat_tests) ]
+    elim (cases_eq x v) [ inl q ↦ ap (λ b. b || list_any (λ u. u == v) xs) (eq-eqb x v q) | inr n ↦ ap (λ b. b || list_any (λ u. u == v) xs) (ne_eqb x v n) ∙ rest ]
 
 -- a row has a neighbour exactly where links join the two
 pub joined-any : (links : List Link) (x v : ℕ) (row : List ℕ) → row ≡ neighbours links x → list_any (λ u. u == v) row ≡ true → Joined links x v
