@@ -108,6 +108,12 @@ small-parts ticks nodes e =
     let q = and_parts (nat_le 2 n) (nat_le n 64) p.0 in
     (leb-true 2 n q.0, leb-true n 64 q.1, leb-true (n * ticks) 400000 p.1)
 
+-- no more nodes are read than a scenario may have
+pub few-nodes : (ticks : ℕ) (nodes : List NodeEntry) (entries : List Members) → nodes_of ticks entries ≡ Ok nodes → length nodes ≤ 64
+few-nodes ticks nodes entries is =
+    let keep = ok-says (NodesKeep ticks) (nodes_of ticks entries) nodes is (nodes-keep ticks entries) in
+    (small-parts ticks nodes keep.small).1
+
 -- few nodes have ids of 64 bits
 pub ids-fit : (ticks : ℕ) (nodes : List NodeEntry) → NodesKeep ticks nodes → All (λ x. x.id.0 < 2 ^ 64) nodes
 ids-fit ticks nodes n =

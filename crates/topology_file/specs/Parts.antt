@@ -38,13 +38,19 @@ times_of ticks ms = do
   periodic ← needs 3 (truth_or (codes "periodic") false ms)
   Ok (record { ticks = ticks; leave_time = leave_time; periodic = periodic })
 
+-- the scenario of so many ticks, of these nodes, links and streams, and of the times, events and frames
+-- of a table
+abbrev pub rest_plan : ℕ → Members → List Members → List Members → List Members → Result Plan RuleErr
+rest_plan ticks ms node_tables link_tables stream_tables = do
+  event_tables ← needs 2 (tables (codes "event") ms)
+  frame_tables ← needs 2 (tables (codes "frame") ms)
+  times ← times_of ticks ms
+  plan_of times.ticks times.leave_time times.periodic node_tables link_tables stream_tables event_tables frame_tables
+
 -- the scenario of so many ticks, of a table whose keys are known
 abbrev pub entries_plan : ℕ → Members → Result Plan RuleErr
 entries_plan ticks ms = do
   node_tables ← needs 2 (tables (codes "node") ms)
   link_tables ← needs 2 (tables (codes "link") ms)
   stream_tables ← needs 2 (tables (codes "stream") ms)
-  event_tables ← needs 2 (tables (codes "event") ms)
-  frame_tables ← needs 2 (tables (codes "frame") ms)
-  times ← times_of ticks ms
-  plan_of times.ticks times.leave_time times.periodic node_tables link_tables stream_tables event_tables frame_tables
+  rest_plan ticks ms node_tables link_tables stream_tables

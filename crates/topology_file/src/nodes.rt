@@ -105,8 +105,9 @@ pub(crate) fn read_nodes(
     entries: &[&Table],
 ) -> Result<Vec<NodeEntry>, RuleErr>
     requires { ticks ≤ 12000 }
-    ensures { Reads (λ v. v.items) result (nodes_of ticks (map
+    ensures nodes { Reads (λ v. v.items) result (nodes_of ticks (map
         (λ t. table_view t.now) entries.now)) }
+    ensures few { IfOk result (λ v. length v.items ≤ 64) }
 {
     let nodes = read_forms(alloc, entries)?;
     holds(5, is_small(ticks, &nodes))?;

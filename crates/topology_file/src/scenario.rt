@@ -5,7 +5,7 @@ ghost use Rattle.toml.specs.Data.{Members};
 ghost use Rattle.toml.specs.View.{table_view};
 ghost use Rattle.toml_rules.specs.Rules.{Reads};
 ghost use Rattle.topology_file.specs.Frames.{frame_copies};
-ghost use Rattle.topology_file.specs.Parts.{network_of, traffic_of, times_of, entries_plan};
+ghost use Rattle.topology_file.specs.Parts.{network_of, traffic_of, times_of, rest_plan, entries_plan};
 ghost use Rattle.topology_file.specs.Plan.{Plan};
 ghost use Rattle.topology_file.specs.Scenario.{KeepsRules, ticks_at, leave_time_at, plan_of, scenario_of};
 
@@ -258,27 +258,46 @@ fn read_times(ticks: u64, table: &Table) -> Result<Times, RuleErr>
     })
 }
 
-/// The scenario of so many ticks, of a table whose keys are known: rules 2 to 24.
-fn read_entries(alloc: Global, ticks: u64, table: &Table) -> Result<Scenario, RuleErr>
+/// The scenario of these nodes, links and streams, and of the times, events and frames of a table: rules
+/// 2 to 24.
+fn read_events_and_frames(
+    alloc: Global,
+    ticks: u64,
+    table: &Table,
+    node_tables: &[&Table],
+    link_tables: &[&Table],
+    stream_tables: &[&Table],
+) -> Result<Scenario, RuleErr>
     requires some_ticks { 1 ≤ ticks }
     requires ticks { ticks ≤ 12000 }
-    ensures { Reads (λ s. s) result (entries_plan ticks (table_view table.now)) }
+    ensures { Reads (λ s. s) result (rest_plan ticks (table_view table.now)
+        (map (λ t. table_view t.now) node_tables.now) (map (λ t. table_view t.now) link_tables.now)
+        (map (λ t. table_view t.now) stream_tables.now)) }
 {
-    let node_tables = needs_tables(alloc, 2, table, "node")?;
-    let link_tables = needs_tables(alloc, 2, table, "link")?;
-    let stream_tables = needs_tables(alloc, 2, table, "stream")?;
     let event_tables = needs_tables(alloc, 2, table, "event")?;
     let frame_tables = needs_tables(alloc, 2, table, "frame")?;
     let times = read_times(ticks, table)?;
     read_plan(
         alloc,
         times,
-        &node_tables,
-        &link_tables,
-        &stream_tables,
+        node_tables,
+        link_tables,
+        stream_tables,
         &event_tables,
         &frame_tables,
     )
+}
+
+/// The scenario of so many ticks, of a table whose keys are known: rules 2 to 24.
+fn read_entries(alloc: Global, ticks: u64, table: &Table) -> Result<Scenario, RuleErr>
+    requires some_ticks { 1 ≤ ticks }
+    requires ticks { ticks ≤ 12000 }
+    ensures { Reads (λ s. s) result (entries_plan ticks (table_view table.now)) }
+{
+    let nodes = needs_tables(alloc, 2, table, "node")?;
+    let links = needs_tables(alloc, 2, table, "link")?;
+    let streams = needs_tables(alloc, 2, table, "stream")?;
+    read_events_and_frames(alloc, ticks, table, &nodes, &links, &streams)
 }
 
 /// The scenario of a table, or the first rule that fails with its first failing entry: rules 1 to 24.
