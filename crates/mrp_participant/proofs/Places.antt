@@ -90,6 +90,24 @@ pub all_kept : {X Y : Type 0} (f : X → Y) (p : X → Bool) (xs : List X) (whol
 all_kept f p xs whole done i past so_far =
     sym (so_far ∙ ap (λ l. done ++ map f (filter p l)) (drop_all i xs past) ∙ append-nil done)
 
+-- a loop that keeps what is made of each element, if anything is
+module _ {Y : Type 0} where
+  append-cons_option : (xs : List Y) (o : Option Y) (ys : List Y) → (xs ++ cons_option o []) ++ ys ≡ xs ++ cons_option o ys
+  append-cons_option xs None ys = ap (λ l. l ++ ys) (append-nil xs)
+  append-cons_option xs (Some y) ys = append_assoc xs (y ∷ []) ys
+
+module _ {X Y : Type 0} (f : X → Option Y) (xs : List X) (whole done : List Y) (i : ℕ) where
+  pub made_more : (x : X) → i < length xs → x ≡ get_or xs i x → whole ≡ done ++ filter_map f (drop i xs) → (made : Option Y) → made ≡ f x → (new : List Y) → new ≡ done ++ cons_option made [] → whole ≡ new ++ filter_map f (drop (i + 1) xs)
+  made_more x below is so_far made by new pushed =
+      so_far
+      ∙ ap (λ l. done ++ l) (at_drop_more (filter_map f) xs i x below ∙ ap (λ y. filter_map f (y ∷ drop (i + 1) xs)) (sym is))
+      ∙ ap (λ o. done ++ cons_option o (filter_map f (drop (i + 1) xs))) (sym by)
+      ∙ sym (append-cons_option done made (filter_map f (drop (i + 1) xs)))
+      ∙ ap (λ l. l ++ filter_map f (drop (i + 1) xs)) (sym pushed)
+
+  pub all_made : length xs ≤ i → whole ≡ done ++ filter_map f (drop i xs) → done ≡ whole
+  all_made past so_far = sym (so_far ∙ ap (λ l. done ++ filter_map f l) (drop_all i xs past) ∙ append-nil done)
+
 -- ---- a row that is tried finds room, or none
 
 module _ {K C : Type 0} (leave_all : Bool) (octets : C → ℕ) (n total : ℕ) (rows : List (Row K C)) (i : ℕ) (r : Row K C) (below : i < length rows) (is : r ≡ get_or rows i r) where

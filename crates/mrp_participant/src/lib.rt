@@ -36,6 +36,7 @@ mod calls;
 mod cut;
 pub mod duty_laws;
 mod hearing;
+mod kept;
 pub mod laws;
 pub mod link_laws;
 mod lookup;

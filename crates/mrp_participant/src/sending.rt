@@ -1,6 +1,6 @@
 //! What a participant sends (IEEE Std 802.1Q-2018, 10.7.6 and 10.8).
 
-ghost use Rattle.std.specs.Prelude.{◌≡◌, ◌<◌, ◌^◌, ◌+◌, ◌≤◌, ◌≢◌, ◌||◌, false, [], sum_by, OnOk, OnErr, IfOk, IfSome, IfNone, is_none};
+ghost use Rattle.std.specs.Prelude.{◌≡◌, ◌<◌, ◌^◌, ◌+◌, ◌++◌, ◌≤◌, ◌≢◌, ◌||◌, false, [], sum_by, OnOk, OnErr, IfOk, IfSome, IfNone, is_none};
 ghost use Rattle.std.specs.List.{filter_map};
 ghost use Rattle.mrp_participant.specs.Lookup.{Ascends};
 ghost use Rattle.mrp_participant.specs.Sending.{sent_row, sent_event, is_taken};
@@ -9,12 +9,13 @@ ghost use Rattle.mrp_participant.specs.State.{AreRows, is_active, is_silent, non
 
 use crate::application::{MrpApp, Msgs};
 use crate::cut::{Cut, find_cut};
+use crate::kept::push_some;
 use crate::model::Participant;
 use crate::outlook::{is_none_tried, outlook_of};
 use crate::row::{Row, round};
 use leaveall::{LaEvent, LeaveAll};
 use srp_base::{Cs, MrpEvent, NoMemory, Seq};
-use std::alloc::{AllocError, Global};
+use std::alloc::Global;
 
 impl<A: MrpApp> Participant<A> {
     /// What the participant sends at the moment `now`, in cs and below 2^62 (IEEE Std 802.1Q-2018, 10.7.6).
@@ -114,8 +115,9 @@ fn pdu_of<A: MrpApp>(
     ensures says { IfOk result (λ p. leave_all ≡ false → none_tried rows.now ≡ false → p.1 ≢ []) }
 {
     let cut = find_cut::<A>(rows, leave_all);
-    let events = events_sent(alloc, rows, leave_all, &cut, leave)?;
-    let after = rows_sent(alloc, rows, leave_all, &cut, leave)?;
+    let mut events = Vec::new(alloc);
+    let mut after = Vec::new(alloc);
+    send_each(rows, leave_all, &cut, leave, &mut events, &mut after)?;
     Ok((after, Seq::from_vec(events)))
 }
 
@@ -143,36 +145,25 @@ fn is_before<K: Copy + Ord, C: Copy>(row: &Row<K, C>, leave_all: bool, cut: &Opt
     }
 }
 
-/// What the rows say, ascending by key.
-fn events_sent<K: Copy + Ord, C: Copy>(
-    alloc: Global,
+/// Sends row by row: puts what the rows say, ascending by key, at the end of a list, and the rows after it at the
+/// end of another.
+fn send_each<K: Copy + Ord, C: Copy>(
     rows: &[Row<K, C>],
     leave_all: bool,
     cut: &Option<Cut<K>>,
     leave: Cs,
-) -> Result<Vec<(MrpEvent, K, C)>, AllocError>
-    ensures { IfOk result (λ v. v.items
-        ≡ filter_map
+    events: &mut Vec<(MrpEvent, K, C)>,
+    after: &mut Vec<Row<K, C>>,
+) -> Result<(), NoMemory>
+    ensures events { OnOk result (events.new.items ≡ events.old.items ++ filter_map
         (λ r. sent_event leave_all (is_in_room K.cmp leave_all cut.now r) leave r) rows.now) }
-{
-    rows.iter()
-        .filter_map(|row| row.says(leave_all, is_in_room(row, leave_all, cut), leave))
-        .collect(alloc)
-}
-
-/// The rows after sending.
-fn rows_sent<K: Copy + Ord, C: Copy>(
-    alloc: Global,
-    rows: &[Row<K, C>],
-    leave_all: bool,
-    cut: &Option<Cut<K>>,
-    leave: Cs,
-) -> Result<Vec<Row<K, C>>, AllocError>
-    ensures { IfOk result (λ v. v.items
-        ≡ filter_map
+    ensures rows { OnOk result (after.new.items ≡ after.old.items ++ filter_map
         (λ r. sent_row leave_all (is_in_room K.cmp leave_all cut.now r) leave r) rows.now) }
 {
-    rows.iter()
-        .filter_map(|row| row.sent(leave_all, is_in_room(row, leave_all, cut), leave))
-        .collect(alloc)
+    for row in rows {
+        let taken = is_in_room(row, leave_all, cut);
+        push_some(events, row.says(leave_all, taken, leave))?;
+        push_some(after, row.sent(leave_all, taken, leave))?;
+    }
+    Ok(())
 }

@@ -1,7 +1,7 @@
 //! The timers of a participant (IEEE Std 802.1Q-2018, 10.7.4): the leave timers of its rows, the LeaveAll
 //! timer, and periodic transmission.
 
-ghost use Rattle.std.specs.Prelude.{◌≡◌, ◌<◌, ◌+◌, ◌^◌, map, filter, min, length, if◌then◌else◌, Some, None, OnOk, OnErr, IfOk};
+ghost use Rattle.std.specs.Prelude.{◌≡◌, ◌<◌, ◌+◌, ◌^◌, ◌++◌, map, filter, min, length, if◌then◌else◌, Some, None, OnOk, OnErr, IfOk};
 ghost use Rattle.std.specs.List.{filter_map, list_any};
 ghost use Rattle.mrp_participant.specs.Lookup.{key_of};
 ghost use Rattle.mrp_participant.specs.Row.{leave_is_due, after_leave_due, periodic_row};
@@ -9,12 +9,12 @@ ghost use Rattle.mrp_participant.specs.Outlook.{HoldsOfAll};
 ghost use Rattle.mrp_participant.specs.State.{leave_all_state, periodic_state, is_any_due, due_leave_all_state, due_periodic_state, due_state, due_count, left_keys};
 
 use crate::application::MrpApp;
+use crate::kept::push_some;
 use crate::model::Participant;
 use crate::outlook::{Outlook, any_leave_due, is_leave_due, outlook_of};
 use crate::row::Row;
 use leaveall::LaEvent;
 use srp_base::{Cs, NoMemory, Seq};
-use std::alloc::{AllocError, Global};
 
 impl<A: MrpApp> Participant<A> {
     /// Fires the LeaveAll timer at the moment `now`, in cs and below 2^62: the machine is Active, and the timer
@@ -134,36 +134,31 @@ fn fire_leave_timers<K: Copy, C: Copy>(
     if !any_leave_due(rows.as_slice(), now) {
         return Ok(Vec::new(alloc));
     }
-    let keys = keys_that_leave(alloc, rows.as_slice(), now)?;
-    *rows = rows_that_stay(alloc, rows.as_slice(), now)?;
+    let mut keys = Vec::new(alloc);
+    let mut after = Vec::new(alloc);
+    fire_each(rows.as_slice(), now, &mut keys, &mut after)?;
+    *rows = after;
     Ok(keys)
 }
 
-/// The keys whose leave timers are due.
-fn keys_that_leave<K: Copy, C: Copy>(
-    alloc: Global,
+/// Fires the leave timers that are due, row by row: puts their keys at the end of a list, and the rows that stay
+/// at the end of another.
+fn fire_each<K: Copy, C: Copy>(
     rows: &[Row<K, C>],
     now: Cs,
-) -> Result<Vec<K>, AllocError>
-    ensures { IfOk result (λ v. v.items ≡ filter_map
+    keys: &mut Vec<K>,
+    after: &mut Vec<Row<K, C>>,
+) -> Result<(), NoMemory>
+    ensures keys { OnOk result (keys.new.items ≡ keys.old.items ++ filter_map
         (λ r. if leave_is_due now.0 r then Some r.key else None) rows.now) }
+    ensures rows { OnOk result (after.new.items
+        ≡ after.old.items ++ filter_map (after_leave_due now.0) rows.now) }
 {
-    rows.iter()
-        .filter_map(|row| row.key_that_leaves(now))
-        .collect(alloc)
-}
-
-/// The rows once the leave timers that are due have fired.
-fn rows_that_stay<K: Copy, C: Copy>(
-    alloc: Global,
-    rows: &[Row<K, C>],
-    now: Cs,
-) -> Result<Vec<Row<K, C>>, AllocError>
-    ensures { IfOk result (λ v. v.items ≡ filter_map (after_leave_due now.0) rows.now) }
-{
-    rows.iter()
-        .filter_map(|row| row.after_leave_due(now))
-        .collect(alloc)
+    for row in rows {
+        push_some(keys, row.key_that_leaves(now))?;
+        push_some(after, row.after_leave_due(now))?;
+    }
+    Ok(())
 }
 
 /// How many timers fire: the leave timers, and the two others where they are due.

@@ -1,13 +1,14 @@
-use Rattle.std.proofs.Common.{◌≡◌, ℕ, ◌+◌, ◌≤◌, Bool, true, false, List, [], sum_by, ◌∙◌, sym, subst}
+use Rattle.std.proofs.Common.{◌≡◌, ℕ, ◌+◌, ◌≤◌, Bool, true, false, List, [], ◌++◌, sum_by, ap, ◌∙◌, sym, subst}
 use Rattle.std.specs.declared.cmp.Ordering.{Ordering}
 use Rattle.std.specs.Cmp.{IsTotalOrder}
 use Rattle.std.specs.List.{filter_map}
 use Rattle.srp_base.specs.declared.numbers.Cs.{Cs}
 use Rattle.srp_base.specs.declared.mrp.MrpEvent.{MrpEvent}
 use Rattle.mrp_participant.specs.declared.row.Row.{Row}
+use Rattle.mrp_participant.specs.Cut.{is_in_room}
 use Rattle.mrp_participant.specs.Lookup.{Ascends, key_of}
 use Rattle.mrp_participant.specs.State.{AreRows, none_tried}
-use Rattle.mrp_participant.specs.Sending.{is_taken, sent_event}
+use Rattle.mrp_participant.specs.Sending.{is_taken, sent_event, sent_row}
 use Rattle.mrp_participant.proofs.Transitions.{AreRows-filter_mapped}
 use Rattle.mrp_participant.proofs.Octets.{events-ascend, events-fit, events-are_some}
 use Rattle.mrp_participant.proofs.Sendings.{rows-by_cut, events-by_cut, sent-keeps}
@@ -15,13 +16,15 @@ use Rattle.mrp_participant.proofs.sending.pdu_of.Goals as goal
 
 pub returns-clause-rows : goal.returns-clause-rows
 returns-clause-rows g c =
-    c.in_ok-after.ensures
+    c.in_ok-send_each.ensures.rows
+    ∙ ap (λ l. l ++ filter_map (λ r. sent_row c.args.leave_all (is_in_room g.A.Key.Ord.cmp c.args.leave_all c.find_cut-cut.result r) c.args.leave r) c.args.rows.now) c.new-after.ensures.items
     ∙ rows-by_cut g.met.A.Key.Ord.total g.A.MrpApp.base g.A.MrpApp.octets c.args.leave_all c.args.leave c.args.rows.now _ c.requires c.find_cut-cut.ensures
 
 pub returns-clause-events : goal.returns-clause-events
 returns-clause-events g c =
     c.from_vec.ensures
-    ∙ c.in_ok-events.ensures
+    ∙ c.in_ok-send_each.ensures.events
+    ∙ ap (λ l. l ++ filter_map (λ r. sent_event c.args.leave_all (is_in_room g.A.Key.Ord.cmp c.args.leave_all c.find_cut-cut.result r) c.args.leave r) c.args.rows.now) c.new-events.ensures.items
     ∙ events-by_cut g.met.A.Key.Ord.total g.A.MrpApp.base g.A.MrpApp.octets c.args.leave_all c.args.leave c.args.rows.now _ c.requires c.find_cut-cut.ensures
 
 pub returns-clause-are_rows : goal.returns-clause-are_rows

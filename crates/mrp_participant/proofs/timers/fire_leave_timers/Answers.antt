@@ -1,6 +1,8 @@
-use Rattle.std.proofs.Common.{◌∙◌, ap, sym, map, filter}
+use Rattle.std.proofs.Common.{◌∙◌, ◌++◌, if◌then◌else◌, ap, sym, map, filter}
+use Rattle.std.specs.List.{filter_map}
+use Rattle.std.specs.declared.option.Option.TheVariants.{Some, None}
 use Rattle.mrp_participant.specs.Lookup.{key_of}
-use Rattle.mrp_participant.specs.Row.{leave_is_due}
+use Rattle.mrp_participant.specs.Row.{leave_is_due, after_leave_due}
 use Rattle.mrp_participant.proofs.Changes.{none-leave}
 use Rattle.mrp_participant.proofs.Places.{keys_of_leaving}
 use Rattle.mrp_participant.proofs.timers.fire_leave_timers.Goals as goal
@@ -15,4 +17,12 @@ returns-then-not-any_leave_due-clause-rows g c =
 
 pub returns-clause-keys : goal.returns-clause-keys
 returns-clause-keys g c =
-    c.in_ok-keys.ensures ∙ keys_of_leaving c.args.now.0 c.as_slice-2.result.now ∙ ap (λ l. map key_of (filter (leave_is_due c.args.now.0) l)) c.as_slice-2.ensures.value
+    c.in_ok-fire_each.ensures.keys
+    ∙ ap (λ l. l ++ filter_map (λ r. if leave_is_due c.args.now.0 r then Some r.key else None) c.as_slice-2.result.now) c.new-keys.ensures.items
+    ∙ keys_of_leaving c.args.now.0 c.as_slice-2.result.now ∙ ap (λ l. map key_of (filter (leave_is_due c.args.now.0) l)) c.as_slice-2.ensures.value
+
+pub returns-clause-rows : goal.returns-clause-rows
+returns-clause-rows g c =
+    c.in_ok-fire_each.ensures.rows
+    ∙ ap (λ l. l ++ filter_map (after_leave_due c.args.now.0) c.as_slice-2.result.now) c.new-after.ensures.items
+    ∙ ap (filter_map (after_leave_due c.args.now.0)) c.as_slice-2.ensures.value
