@@ -40,6 +40,20 @@ fn message_of(kind: u8, vectors: Vec<VectorAttr>) -> Message {
     }
 }
 
+/// A Message of one vector.
+fn one_vector_of(
+    alloc: Global,
+    kind: u8,
+    leave_all: bool,
+    first: &[u8],
+    events: &[MrpEvent],
+    params: &[u8],
+) -> Result<Message, NoMemory> {
+    let mut vectors = Vec::new(alloc);
+    vectors.push(vector(alloc, leave_all, first, events, params)?)?;
+    Ok(message_of(kind, vectors))
+}
+
 /// A PDU of one Message with one vector.
 fn one_vector(
     alloc: Global,
@@ -49,10 +63,8 @@ fn one_vector(
     events: &[MrpEvent],
     params: &[u8],
 ) -> Result<Pdu, NoMemory> {
-    let mut vectors = Vec::new(alloc);
-    vectors.push(vector(alloc, leave_all, first, events, params)?)?;
     let mut messages = Vec::new(alloc);
-    messages.push(message_of(kind, vectors))?;
+    messages.push(one_vector_of(alloc, kind, leave_all, first, events, params)?)?;
     Ok(pdu_of(messages))
 }
 
@@ -174,14 +186,10 @@ fn two_vectors(alloc: Global) -> Result<Pdu, NoMemory> {
 
 /// Two Messages, of a service requirement and of an address.
 fn two_messages(alloc: Global) -> Result<Pdu, NoMemory> {
-    let mut service = Vec::new(alloc);
-    service.push(vector(alloc, false, &[1], &[MrpEvent::JoinIn], &[])?)?;
-    let mut mac = Vec::new(alloc);
     let address = [1, 0x80, 0xc2, 0, 0, 0x21];
-    mac.push(vector(alloc, false, &address, &[MrpEvent::JoinMt], &[])?)?;
     let mut messages = Vec::new(alloc);
-    messages.push(message_of(1, service))?;
-    messages.push(message_of(2, mac))?;
+    messages.push(one_vector_of(alloc, 1, false, &[1], &[MrpEvent::JoinIn], &[])?)?;
+    messages.push(one_vector_of(alloc, 2, false, &address, &[MrpEvent::JoinMt], &[])?)?;
     Ok(pdu_of(messages))
 }
 
