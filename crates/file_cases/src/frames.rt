@@ -3,13 +3,14 @@
 //! The calls stand in functions of their own without contracts, so that a test's own proof is
 //! short.
 
+use crate::scenario::scenario_of;
 use credit_shaper::Traffic;
 use frame_flow::{Fate, FlowResult, Frame, Route};
 use scenario_frames::{flow_of, frames_of, rates_of};
 use srp_base::{NoMemory, NodeNo, Ps, Rate, Seq, StreamId, Timeline};
 use std::alloc::Global;
 use std::test::Fail;
-use topology_file::{Scenario, read_scenario};
+use topology_file::Scenario;
 
 /// Two stations with a link between them, two streams, of class A and of class B, and frames of
 /// both, and between the stations.
@@ -22,11 +23,6 @@ const PAIR: &str = "ticks = 22\n\
     frame = [{ stream = 'k', octets = 80, at = 1000, count = 3, every = 125000 }, \
     { from = 'b', to = 'a', vid = 7, octets = 0, at = 5 }, \
     { stream = 'm', octets = 1500, at = 9 }]\n";
-
-fn pair(alloc: Global) -> Result<Scenario, Fail> {
-    let table = toml::table_from_str(alloc, PAIR)?;
-    Ok(read_scenario(alloc, &table)?)
-}
 
 fn frame(number: u32, at: u64, from: u16, route: Route, vid: u16, bits: u32) -> Frame {
     Frame {
@@ -103,24 +99,13 @@ fn flows(alloc: Global, scenario: &Scenario) -> Result<bool, NoMemory> {
 }
 
 // Who owns a scenario does nothing else, so that its proof is short.
-fn pair_has_copies(alloc: Global) -> Result<bool, Fail> {
-    let scenario = pair(alloc)?;
-    Ok(has_copies(alloc, &scenario)?)
-}
-
 fn pair_flows(alloc: Global) -> Result<bool, Fail> {
-    let scenario = pair(alloc)?;
-    Ok(flows(alloc, &scenario)?)
+    let scenario = scenario_of(alloc, PAIR)?;
+    Ok(has_copies(alloc, &scenario) == Ok(true) && flows(alloc, &scenario) == Ok(true))
 }
 
 #[test]
-fn frames_are_the_copies_of_the_entries_in_order(rt: HostRuntime) -> Result<(), Fail> {
-    assert!(rt; pair_has_copies(rt.alloc())?);
-    Ok(())
-}
-
-#[test]
-fn frames_of_a_scenario_flow(rt: HostRuntime) -> Result<(), Fail> {
+fn frames_are_the_copies_of_the_entries_in_order_and_flow(rt: HostRuntime) -> Result<(), Fail> {
     assert!(rt; pair_flows(rt.alloc())?);
     Ok(())
 }

@@ -27,8 +27,9 @@ const PAIR: &str = "ticks = 22\n\
 const TWINS: &str = "ticks = 1\nlink = [{ a = 'a', b = 'b' }]\n\
     node = [{ name = 'a', kind = 'bridge' }, { name = 'a', kind = 'bridge' }]\n";
 
-fn pair(alloc: Global) -> Result<Scenario, Fail> {
-    let table = toml::table_from_str(alloc, PAIR)?;
+/// The scenario that a text is.
+pub(crate) fn scenario_of(alloc: Global, text: &str) -> Result<Scenario, Fail> {
+    let table = toml::table_from_str(alloc, text)?;
     Ok(read_scenario(alloc, &table)?)
 }
 
@@ -93,13 +94,6 @@ fn is_pair(scenario: &Scenario) -> bool {
         && scenario.tree.links() == 1
 }
 
-#[test]
-fn a_pair_is_read_with_its_defaults(rt: HostRuntime) -> Result<(), Fail> {
-    let scenario = pair(rt.alloc())?;
-    assert!(rt; is_pair(&scenario));
-    Ok(())
-}
-
 /// Whether station 2 listens at tick 3, and the second PDU from node 1 to it is lost at tick 21.
 fn has_events(scenario: &Scenario) -> bool {
     let (a, b) = (NodeNo(1), NodeNo(2));
@@ -135,8 +129,9 @@ fn has_frame(scenario: &Scenario) -> bool {
 }
 
 #[test]
-fn events_and_frames_are_read_by_number(rt: HostRuntime) -> Result<(), Fail> {
-    let scenario = pair(rt.alloc())?;
+fn a_pair_is_read_with_its_defaults_its_events_and_its_frame(rt: HostRuntime) -> Result<(), Fail> {
+    let scenario = scenario_of(rt.alloc(), PAIR)?;
+    assert!(rt; is_pair(&scenario));
     assert!(rt; has_events(&scenario));
     assert!(rt; has_frame(&scenario) && scenario.copies() == 3);
     Ok(())

@@ -139,45 +139,40 @@ fn goes_over(
     Ok(path.as_slice() == ports)
 }
 
-#[test]
-fn ports_lead_over_links(rt: HostRuntime) -> Result<(), Fail> {
-    let tree = two_bridges(rt.alloc())?;
-    assert!(rt; tree.nodes() == 6 && tree.links() == 5);
-    assert!(rt; has_ports(&tree, NodeNo(2), 3));
-    assert!(rt; ends_at(&tree, port(2, 2), port(3, 1)));
-    Ok(())
+fn has_ports_over_links(tree: &Tree) -> bool {
+    tree.nodes() == 6
+        && tree.links() == 5
+        && has_ports(tree, NodeNo(2), 3)
+        && ends_at(tree, port(2, 2), port(3, 1))
 }
 
-#[test]
-fn a_copy_has_the_same_ends(rt: HostRuntime) -> Result<(), Fail> {
-    let tree = two_bridges(rt.alloc())?;
+/// Whether the tree and its copy have the same ends of a link.
+fn has_copy(tree: &Tree) -> Result<bool, NoMemory> {
     let copy = tree.copy()?;
     let ends = (port(3, 2), port(5, 1));
-    assert!(rt; joins(&tree, LinkNo(4), ends) && joins(&copy, LinkNo(4), ends));
-    Ok(())
+    Ok(joins(tree, LinkNo(4), ends) && joins(&copy, LinkNo(4), ends))
 }
 
-#[test]
-fn a_port_leads_to_a_neighbour(rt: HostRuntime) -> Result<(), Fail> {
-    let tree = two_bridges(rt.alloc())?;
-    assert!(rt; leads_to(&tree, NodeNo(3), NodeNo(6), port(3, 3)));
-    assert!(rt; is_apart(&tree, NodeNo(1), NodeNo(6)) && is_apart(&tree, NodeNo(7), NodeNo(0)));
-    Ok(())
+fn leads_to_neighbours(tree: &Tree) -> bool {
+    leads_to(tree, NodeNo(3), NodeNo(6), port(3, 3))
+        && is_apart(tree, NodeNo(1), NodeNo(6))
+        && is_apart(tree, NodeNo(7), NodeNo(0))
 }
 
-#[test]
-fn a_path_goes_over_two_bridges(rt: HostRuntime) -> Result<(), Fail> {
-    let tree = two_bridges(rt.alloc())?;
+/// Whether a path goes over both bridges, and one from a node to itself over none.
+fn has_paths(alloc: Global, tree: &Tree) -> Result<bool, NoMemory> {
     let ports = [port(1, 1), port(2, 2), port(3, 3)];
-    assert!(rt; goes_over(rt.alloc(), &tree, NodeNo(1), NodeNo(6), &ports)?);
-    assert!(rt; goes_over(rt.alloc(), &tree, NodeNo(4), NodeNo(4), &[])?);
-    Ok(())
+    let over = goes_over(alloc, tree, NodeNo(1), NodeNo(6), &ports)?;
+    Ok(over && goes_over(alloc, tree, NodeNo(4), NodeNo(4), &[])?)
 }
 
 #[test]
-fn what_lies_behind_a_port(rt: HostRuntime) -> Result<(), Fail> {
+fn two_bridges_have_their_ports_neighbours_and_paths(rt: HostRuntime) -> Result<(), TreeErr> {
     let tree = two_bridges(rt.alloc())?;
+    assert!(rt; has_ports_over_links(&tree) && leads_to_neighbours(&tree));
     assert!(rt; parts(&tree, port(2, 2), &[false, false, true, false, true, true]));
+    assert!(rt; has_copy(&tree) == Ok(true));
+    assert!(rt; has_paths(rt.alloc(), &tree) == Ok(true));
     Ok(())
 }
 
@@ -216,9 +211,9 @@ fn is_too_large(alloc: Global, nodes: &[NodeKind], last: u16) -> Result<bool, No
 }
 
 #[test]
-fn a_bridge_with_256_stations_has_too_many_links(rt: HostRuntime) -> Result<(), Fail> {
+fn a_bridge_with_256_stations_has_too_many_links(rt: HostRuntime) -> Result<(), NoMemory> {
     let nodes = bridge_with_stations(rt.alloc(), 256)?;
-    assert!(rt; is_too_large(rt.alloc(), &nodes, 257)?);
+    assert!(rt; is_too_large(rt.alloc(), &nodes, 257) == Ok(true));
     Ok(())
 }
 
@@ -231,13 +226,18 @@ fn path_len(alloc: Global, tree: &Tree, from: NodeNo, to: NodeNo) -> Result<usiz
     Ok(path.len())
 }
 
+/// Whether a chain of all 65,535 nodes is a tree, with a path from the first to the last.
+fn has_chain(alloc: Global, nodes: &[NodeKind]) -> Result<bool, TreeErr> {
+    let ends = chain(alloc, 65_535)?;
+    let tree = tree_of(alloc, nodes, &ends)?;
+    let len = path_len(alloc, &tree, NodeNo(1), NodeNo(65_535));
+    Ok(tree.nodes() == 65_535 && len == Ok(65_534))
+}
+
 #[test]
 fn a_chain_and_a_star_of_65535_bridges_are_judged_soon(rt: HostRuntime) -> Result<(), Fail> {
     let nodes = vec![in rt.alloc(); Bridge; 65_535]?;
-    assert!(rt; is_too_large(rt.alloc(), &nodes, 65_535)?);
-    let ends = chain(rt.alloc(), 65_535)?;
-    let tree = tree_of(rt.alloc(), &nodes, &ends)?;
-    assert!(rt; tree.nodes() == 65_535);
-    assert!(rt; path_len(rt.alloc(), &tree, NodeNo(1), NodeNo(65_535))? == 65_534);
+    assert!(rt; is_too_large(rt.alloc(), &nodes, 65_535) == Ok(true));
+    assert!(rt; has_chain(rt.alloc(), &nodes) == Ok(true));
     Ok(())
 }

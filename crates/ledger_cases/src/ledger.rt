@@ -60,16 +60,25 @@ fn refuses_the_fifth(ledger: &Ledger) -> bool
     fourth && ledger.booked(StreamId(5)).is_none() && ledger.fits(Cs(0), &small(5)) == refused
 }
 
-#[test]
-fn four_of_five_equal_streams_fit(rt: HostRuntime) -> Result<(), Fail> {
-    let mut ledger = ledger(rt.alloc(), 75, 0).ok_or("percentages")?;
+/// Whether four of five small streams are taken, and no more.
+fn takes_four_of_five(ledger: &mut Ledger) -> Result<bool, NoMemory>
+    requires { ledger.old.moment ≡ 0 }
+{
     for stream in 1..6u64 {
         let new = [StreamId(stream)];
         let booked: &[StreamId] = if stream < 5 { &new } else { &[] };
-        assert!(rt; takes(&mut ledger, Cs(0), small(stream), booked)?);
+        if !takes(ledger, Cs(0), small(stream), booked)? {
+            return Ok(false);
+        }
     }
-    assert!(rt; refuses_the_fifth(&ledger));
-    assert!(rt; ledger.slope(Class::A) == 61_952_000 && ledger.slope(Class::B) == 0);
+    let slopes = (ledger.slope(Class::A), ledger.slope(Class::B));
+    Ok(refuses_the_fifth(ledger) && slopes == (61_952_000, 0))
+}
+
+#[test]
+fn four_of_five_equal_streams_fit(rt: HostRuntime) -> Result<(), Fail> {
+    let mut ledger = ledger(rt.alloc(), 75, 0).ok_or("percentages")?;
+    assert!(rt; takes_four_of_five(&mut ledger) == Ok(true));
     Ok(())
 }
 
@@ -83,26 +92,35 @@ fn are_booked(ledger: &Ledger, moments: &[Option<u64>]) -> bool {
     true
 }
 
-#[test]
-fn what_a_stream_leaves_is_decided_anew(rt: HostRuntime) -> Result<(), Fail> {
-    let mut ledger = ledger(rt.alloc(), 75, 0).ok_or("percentages")?;
+/// Whether the fifth of five small streams is booked once the first has left, which it does once, and
+/// time shows something then and not again.
+fn decides_anew(ledger: &mut Ledger) -> Result<bool, NoMemory>
+    requires { ledger.old.moment ≡ 0 }
+{
     for stream in 1..6u64 {
         ledger.want(Cs(stream - 1), small(stream))?;
     }
-    assert!(rt; ledger.unwant(Cs(5), StreamId(1)));
-    assert!(rt; are_booked(&ledger, &[None, Some(1), Some(2), Some(3), Some(5)]));
-    assert!(rt; !ledger.unwant(Cs(5), StreamId(1)));
-    assert!(rt; ledger.clock(Cs(6)));
-    assert!(rt; !ledger.clock(Cs(7)));
+    let left = ledger.unwant(Cs(5), StreamId(1));
+    let anew = are_booked(ledger, &[None, Some(1), Some(2), Some(3), Some(5)]);
+    let again = ledger.unwant(Cs(5), StreamId(1));
+    let shown = ledger.clock(Cs(6));
+    Ok(left && anew && !again && shown && !ledger.clock(Cs(7)))
+}
+
+#[test]
+fn what_a_stream_leaves_is_decided_anew(rt: HostRuntime) -> Result<(), Fail> {
+    let mut ledger = ledger(rt.alloc(), 75, 0).ok_or("percentages")?;
+    assert!(rt; decides_anew(&mut ledger) == Ok(true));
     Ok(())
 }
 
-/// An emergency stream, 3, that took the place of another, 9.
-fn evicted(alloc: Global) -> Result<Ledger, Fail> {
-    let mut ledger = ledger(alloc, 20, 0).ok_or("percentages")?;
+/// An emergency stream, 3, takes the place of another, 9.
+fn evict(ledger: &mut Ledger) -> Result<(), NoMemory>
+    requires { ledger.old.moment ≡ 0 }
+{
     ledger.want(Cs(0), small(9))?;
     ledger.want(Cs(1), want_of(3, Class::A, Rank::Emergency, SMALL))?;
-    Ok(ledger)
+    Ok(())
 }
 
 /// Their entries.
@@ -120,27 +138,40 @@ fn high() -> Entry {
     }
 }
 
-#[test]
-fn entries_ascend(rt: HostRuntime) -> Result<(), Fail> {
-    let ledger = evicted(rt.alloc())?;
-    assert!(rt; ledger.len() == 2 && ledger.entry_at(2).is_none());
-    assert!(rt; ledger.entry_at(0) == Some(low()) && ledger.entry_at(1) == Some(high()));
-    assert!(rt; ledger.entry(StreamId(9)) == Some(high()));
-    assert!(rt; ledger.entry(StreamId(4)).is_none());
-    Ok(())
+fn has_entries(ledger: &Ledger) -> bool {
+    ledger.len() == 2
+        && ledger.entry_at(0) == Some(low())
+        && ledger.entry_at(1) == Some(high())
+        && ledger.entry_at(2).is_none()
+        && ledger.entry(StreamId(9)) == Some(high())
+        && ledger.entry(StreamId(4)).is_none()
 }
 
-#[test]
-fn bookings_are_compared(rt: HostRuntime) -> Result<(), Fail> {
-    let ledger = evicted(rt.alloc())?;
-    let booked = ledger.copy()?.bookings()?;
-    assert!(rt; booked.as_slice() == [low()].as_slice());
+/// Whether the emergency stream alone is booked.
+fn has_booking(ledger: &Ledger) -> Result<bool, NoMemory> {
+    Ok(ledger.bookings()?.as_slice() == [low()].as_slice())
+}
+
+fn has_booking_in_copy(ledger: &Ledger) -> Result<bool, NoMemory> {
+    let copy = ledger.copy()?;
+    has_booking(&copy)
+}
+
+/// Whether the emergency stream was booked and the other dropped since this one alone was booked.
+fn has_changed(ledger: &Ledger) -> Result<bool, NoMemory> {
     let before = Entry {
         want: small(9),
         since: Some(Cs(0)),
     };
     let changed = ledger.changes_since([before].as_slice())?;
-    assert!(rt; changed.booked.as_slice() == [StreamId(3)].as_slice());
-    assert!(rt; changed.dropped.as_slice() == [StreamId(9)].as_slice());
+    let is_booked = changed.booked.as_slice() == [StreamId(3)].as_slice();
+    Ok(is_booked && changed.dropped.as_slice() == [StreamId(9)].as_slice())
+}
+
+#[test]
+fn entries_ascend_and_bookings_are_compared(rt: HostRuntime) -> Result<(), Fail> {
+    let mut ledger = ledger(rt.alloc(), 20, 0).ok_or("percentages")?;
+    assert!(rt; evict(&mut ledger).is_ok() && has_entries(&ledger));
+    assert!(rt; has_booking_in_copy(&ledger) == Ok(true) && has_changed(&ledger) == Ok(true));
     Ok(())
 }

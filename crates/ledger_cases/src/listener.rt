@@ -5,16 +5,18 @@ use srp_base::ListenerKind::{AskingFailed, Ready, ReadyFailed};
 
 #[test]
 fn two_kinds_are_merged(rt: HostRuntime) {
-    let kinds = [AskingFailed, Ready, ReadyFailed];
-    let rows = [
-        [AskingFailed, ReadyFailed, ReadyFailed],
-        [ReadyFailed, Ready, ReadyFailed],
-        [ReadyFailed, ReadyFailed, ReadyFailed],
-    ];
-    for (x, row) in kinds.iter().zip(rows.iter()) {
-        for (y, merged) in kinds.iter().zip(row.iter()) {
-            assert_eq!(rt; merge(*x, *y), *merged);
-        }
+    for (x, y, merged) in [
+        (AskingFailed, AskingFailed, AskingFailed),
+        (AskingFailed, Ready, ReadyFailed),
+        (AskingFailed, ReadyFailed, ReadyFailed),
+        (Ready, AskingFailed, ReadyFailed),
+        (Ready, Ready, Ready),
+        (Ready, ReadyFailed, ReadyFailed),
+        (ReadyFailed, AskingFailed, ReadyFailed),
+        (ReadyFailed, Ready, ReadyFailed),
+        (ReadyFailed, ReadyFailed, ReadyFailed),
+    ] {
+        assert!(rt; merge(x, y) == merged);
     }
 }
 
@@ -28,8 +30,8 @@ fn a_port_without_a_booking_counts_as_asking_failed(rt: HostRuntime) {
         kind: Ready,
         booked: false,
     };
-    assert_eq!(rt; listener_out(&[]), None);
-    assert_eq!(rt; listener_out(&[waits]), Some(AskingFailed));
-    assert_eq!(rt; listener_out(&[ready, ready]), Some(Ready));
-    assert_eq!(rt; listener_out(&[ready, waits, ready]), Some(ReadyFailed));
+    assert!(rt; listener_out(&[]) == None);
+    assert!(rt; listener_out(&[waits]) == Some(AskingFailed));
+    assert!(rt; listener_out(&[ready, ready]) == Some(Ready));
+    assert!(rt; listener_out(&[ready, waits, ready]) == Some(ReadyFailed));
 }

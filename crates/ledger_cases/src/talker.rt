@@ -2,17 +2,16 @@
 
 use msrp_talker::{PortConfig, check, class_of, talker_out};
 use srp_base::{BridgeId, Class, Failure, Mac, Priority, Rank, StreamId, Talker, TalkerReg};
-use std::test::Fail;
 use stream_importance::Fit;
 
-fn talker(priority: u8, max_frame: u16, latency: u32) -> Result<Talker, Fail> {
-    Ok(Talker {
+fn talker(priority: u8, max_frame: u16, latency: u32) -> Option<Talker> {
+    Some(Talker {
         stream: StreamId(0x0200_0000_0001_0001),
-        dest: Mac::new(0x91e0_f000_fe01).ok_or("an address")?,
+        dest: Mac::new(0x91e0_f000_fe01)?,
         vid: 2,
         max_frame,
         frames: 1,
-        priority: Priority::new(priority).ok_or("a priority")?,
+        priority: Priority::new(priority)?,
         rank: Rank::Normal,
         latency,
     })
@@ -37,52 +36,71 @@ fn only_priorities_3_and_2_have_a_class(rt: HostRuntime) {
             2 => Some(Class::B),
             _ => None,
         };
-        assert_eq!(rt; class_of(priority), class);
+        assert!(rt; class_of(priority) == class);
+    }
+}
+
+fn is_checked(priority: u8, max_frame: u16, code: Option<u8>) -> bool {
+    match talker(priority, max_frame, 0) {
+        Some(talker) => check(&talker) == code,
+        None => false,
     }
 }
 
 #[test]
-fn the_priority_is_checked_before_the_size(rt: HostRuntime) -> Result<(), Fail> {
-    assert_eq!(rt; check(&talker(3, 1_501, 0)?), Some(14));
-    assert_eq!(rt; check(&talker(4, 1_501, 0)?), Some(13));
-    assert_eq!(rt; check(&talker(2, 1_500, 0)?), None);
-    Ok(())
+fn the_priority_is_checked_before_the_size(rt: HostRuntime) {
+    for (priority, max_frame, code) in [
+        (3, 1_501, Some(14)),
+        (4, 1_501, Some(13)),
+        (2, 1_500, None),
+    ] {
+        assert!(rt; is_checked(priority, max_frame, code));
+    }
 }
 
-#[test]
-fn latency_stands_still_at_its_greatest(rt: HostRuntime) -> Result<(), Fail> {
+/// Whether a latency near its greatest is declared as the greatest, and no Talker as none.
+fn stands_still() -> Option<bool> {
     let near = TalkerReg::Advertise(talker(3, 200, 4_294_967_290)?);
     let greatest = TalkerReg::Advertise(talker(3, 200, 4_294_967_295)?);
-    assert_eq!(rt; talker_out(near, &PORT, Fit::Fits), greatest);
-    assert_eq!(rt;
-        talker_out(TalkerReg::Absent, &PORT, Fit::Fits),
-        TalkerReg::Absent
-    );
-    Ok(())
+    let declared = talker_out(near, &PORT, Fit::Fits);
+    let none = talker_out(TalkerReg::Absent, &PORT, Fit::Fits);
+    Some(declared == greatest && none == TalkerReg::Absent)
 }
 
 #[test]
-fn a_failure_names_where_it_was_found(rt: HostRuntime) -> Result<(), Fail> {
-    let code = |bridge: u64, code: u8| Failure {
+fn latency_stands_still_at_its_greatest(rt: HostRuntime) {
+    assert!(rt; stands_still() == Some(true));
+}
+
+fn failure(bridge: u64, code: u8) -> Failure {
+    Failure {
         bridge: BridgeId(bridge),
         code,
-    };
-    let rows = [
-        (
-            TalkerReg::Advertise(talker(3, 200, 0)?),
-            TalkerReg::Failed(talker(3, 200, 500)?, code(3, 1)),
-        ),
-        (
-            TalkerReg::Advertise(talker(3, 1_501, 0)?),
-            TalkerReg::Failed(talker(3, 1_501, 500)?, code(3, 14)),
-        ),
-        (
-            TalkerReg::Failed(talker(4, 200, 0)?, code(9, 8)),
-            TalkerReg::Failed(talker(4, 200, 500)?, code(9, 8)),
-        ),
-    ];
-    for (registered, declared) in rows {
-        assert_eq!(rt; talker_out(registered, &PORT, TOO_LITTLE), declared);
     }
-    Ok(())
+}
+
+/// A Talker as it is registered, with a failure or none.
+fn registered(talker: Talker, failure: Option<Failure>) -> TalkerReg {
+    match failure {
+        Some(failure) => TalkerReg::Failed(talker, failure),
+        None => TalkerReg::Advertise(talker),
+    }
+}
+
+/// Whether a Talker, registered with a failure or none, is declared with one where too little is free.
+fn fails(priority: u8, max_frame: u16, before: Option<Failure>, after: Failure) -> Option<bool> {
+    let heard = registered(talker(priority, max_frame, 0)?, before);
+    let said = TalkerReg::Failed(talker(priority, max_frame, 500)?, after);
+    Some(talker_out(heard, &PORT, TOO_LITTLE) == said)
+}
+
+#[test]
+fn a_failure_names_where_it_was_found(rt: HostRuntime) {
+    for (priority, max_frame, before, after) in [
+        (3, 200, None, failure(3, 1)),
+        (3, 1_501, None, failure(3, 14)),
+        (4, 200, Some(failure(9, 8)), failure(9, 8)),
+    ] {
+        assert!(rt; fails(priority, max_frame, before, after) == Some(true));
+    }
 }

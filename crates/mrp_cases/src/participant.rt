@@ -10,7 +10,6 @@ use mrp_participant::{MrpApp, Msgs, Participant};
 use registrar::Registrar;
 use srp_base::{Cs, MrpEvent, NoMemory, Seq};
 use std::alloc::Global;
-use std::test::Fail;
 
 struct Numbers;
 
@@ -97,10 +96,7 @@ fn tells(
     list: &[(MrpEvent, u32, u32)],
     keys: &[u32],
 ) -> Result<bool, NoMemory> {
-    let mut events = Seq::new(alloc);
-    for event in list {
-        events.push(*event)?;
-    }
+    let events = Seq::from_vec(Vec::from_slice(alloc, list)?);
     let told = participant.receive(Cs(u64::from(now)), &Msgs { leave_all, events })?;
     Ok(told.as_slice() == keys)
 }
@@ -134,36 +130,48 @@ fn is_registered(
     participant.registered(key) == content && participant.registrar(key) == registrar
 }
 
-// 300 keys take three PDUs.
-#[test]
-fn full_pdus(rt: HostRuntime) -> Result<(), Fail> {
-    let mut participant = new_participant(rt.alloc(), false);
-    declare(&mut participant, 1, 300)?;
+// Whether three PDUs say 300 keys.
+fn fills_three(participant: &mut Participant<Numbers>) -> Result<bool, NoMemory> {
+    declare(participant, 1, 300)?;
     for (now, count, first, last) in [(20, 297, 1, 297), (40, 297, 1, 300), (60, 6, 295, 300)] {
         let ends = (MrpEvent::JoinMt, first, last);
-        assert!(rt; sends(&mut participant, now, false, count, ends)?);
+        if !sends(participant, now, false, count, ends)? {
+            return Ok(false);
+        }
     }
-    assert!(rt; is_silent(&mut participant, 80)?);
-    Ok(())
+    is_silent(participant, 80)
+}
+
+// 300 keys take three PDUs.
+#[test]
+fn full_pdus(rt: HostRuntime) {
+    let mut participant = new_participant(rt.alloc(), false);
+    assert!(rt; fills_three(&mut participant) == Ok(true));
 }
 
 fn is_sound_and_busy(participant: &Participant<Numbers>) -> bool {
     participant.sound() && !participant.still()
 }
 
-// A LeaveAll leaves three keys of 300 very anxious, and makes the participant sound.
-#[test]
-fn leave_all_without_room(rt: HostRuntime) -> Result<(), Fail> {
-    let mut participant = new_participant(rt.alloc(), false);
-    declare(&mut participant, 1, 300)?;
+// Whether a LeaveAll is said before 297 keys of 300, and the other three by the next PDU.
+fn says_leave_all(participant: &mut Participant<Numbers>) -> Result<bool, NoMemory> {
+    declare(participant, 1, 300)?;
     participant.spoil();
     participant.leaveall_due(Cs(1001));
     for (now, leave_all, count, last) in [(20, true, 297, 297), (40, false, 297, 300)] {
         let ends = (MrpEvent::JoinMt, 1, last);
-        assert!(rt; sends(&mut participant, now, leave_all, count, ends)?);
+        if !sends(participant, now, leave_all, count, ends)? {
+            return Ok(false);
+        }
     }
-    assert!(rt; is_sound_and_busy(&participant));
-    Ok(())
+    Ok(is_sound_and_busy(participant))
+}
+
+// A LeaveAll leaves three keys of 300 very anxious, and makes the participant sound.
+#[test]
+fn leave_all_without_room(rt: HostRuntime) {
+    let mut participant = new_participant(rt.alloc(), false);
+    assert!(rt; says_leave_all(&mut participant) == Ok(true));
 }
 
 // Whether a key that is withdrawn is said to leave, once, and is then forgotten.
@@ -181,30 +189,37 @@ fn is_alone(participant: &Participant<Numbers>, key: u32) -> bool {
         && is_declared(participant, key, Some(key.wrapping_mul(10)), Applicant::Vp)
 }
 
+// Whether a key leaves once, and its copy stays.
+fn leaves_its_copy(participant: &mut Participant<Numbers>, key: u32) -> Result<bool, NoMemory> {
+    declare(participant, key, key)?;
+    let copy = participant.copy()?;
+    Ok(leaves_once(participant, key) == Ok(true) && is_alone(&copy, key))
+}
+
 // A key that is declared and withdrawn with nothing sent between still says Lv, once; its copy goes
 // its own way.
 #[test]
-fn withdrawn_in_time(rt: HostRuntime) -> Result<(), Fail> {
+fn withdrawn_in_time(rt: HostRuntime) {
     let mut participant = new_participant(rt.alloc(), false);
-    declare(&mut participant, 7, 7)?;
-    let copy = participant.copy()?;
-    assert!(rt; leaves_once(&mut participant, 7)?);
-    assert!(rt; is_alone(&copy, 7));
-    Ok(())
+    assert!(rt; leaves_its_copy(&mut participant, 7) == Ok(true));
+}
+
+// Whether two lists of events tell the keys that they change.
+fn tells_changes(alloc: Global, participant: &mut Participant<Numbers>) -> Result<bool, NoMemory> {
+    use MrpEvent::*;
+    let joins = [(JoinIn, 9, 90), (OnlyMt, 8, 80), (JoinMt, 5, 50)];
+    let news = [(JoinIn, 5, 50), (New, 9, 91), (Lv, 7, 70), (New, 3, 30)];
+    let joined = tells(alloc, participant, 6, false, &joins, &[5, 9])?;
+    Ok(joined && tells(alloc, participant, 6, true, &news, &[3, 9])?)
 }
 
 // Receiving tells the keys whose registration or content changed, in ascending order, and acts on
 // LeaveAll first.
 #[test]
-fn registrations(rt: HostRuntime) -> Result<(), Fail> {
-    use MrpEvent::*;
+fn registrations(rt: HostRuntime) {
     let mut participant = new_participant(rt.alloc(), false);
-    let joins = [(JoinIn, 9, 90), (OnlyMt, 8, 80), (JoinMt, 5, 50)];
-    assert!(rt; tells(rt.alloc(), &mut participant, 6, false, &joins, &[5, 9])?);
-    let news = [(JoinIn, 5, 50), (New, 9, 91), (Lv, 7, 70), (New, 3, 30)];
-    assert!(rt; tells(rt.alloc(), &mut participant, 6, true, &news, &[3, 9])?);
+    assert!(rt; tells_changes(rt.alloc(), &mut participant) == Ok(true));
     assert!(rt; is_registered(&participant, 9, Some(91), Registrar::Held));
-    Ok(())
 }
 
 // Whether three keys join, and a LeaveAll with one key that is declared elsewhere tells nothing.
@@ -230,13 +245,12 @@ fn is_due_at(participant: &Participant<Numbers>, before: u32, now: u32) -> bool 
 
 // What a LeaveAll left leaves 60 cs later, or when the user says so.
 #[test]
-fn leave_timers(rt: HostRuntime) -> Result<(), Fail> {
+fn leave_timers(rt: HostRuntime) {
     let mut participant = new_participant(rt.alloc(), false);
-    assert!(rt; hears_leave_all(rt.alloc(), &mut participant)?);
+    assert!(rt; hears_leave_all(rt.alloc(), &mut participant) == Ok(true));
     assert!(rt; is_registered(&participant, 5, Some(50), Registrar::Leaving));
     assert!(rt; is_let_go(&mut participant, 5) && is_due_at(&participant, 66, 67));
-    assert!(rt; fires(&mut participant, 67, 2, &[3, 9])?);
-    Ok(())
+    assert!(rt; fires(&mut participant, 67, 2, &[3, 9]) == Ok(true));
 }
 
 // Whether a key that is quiet is anxious after the periodic event.
@@ -256,17 +270,22 @@ fn fires_each_second(participant: &mut Participant<Numbers>) -> Result<bool, NoM
     )
 }
 
+// Whether a key is said twice, and then by the LeaveAll that the timers make.
+fn says_at_each_timer(participant: &mut Participant<Numbers>, key: u32) -> Result<bool, NoMemory> {
+    declare(participant, key, key)?;
+    let join = (MrpEvent::JoinMt, key, key);
+    Ok(
+        sends(participant, 20, false, 1, join)?
+            && sends(participant, 40, false, 1, join)?
+            && turns_anxious(participant, key)
+            && fires_each_second(participant)?
+            && sends(participant, 200, true, 1, join)?,
+    )
+}
+
 // The timers fire together, and the periodic event makes what is quiet anxious.
 #[test]
-fn timers(rt: HostRuntime) -> Result<(), Fail> {
+fn timers(rt: HostRuntime) {
     let mut participant = new_participant(rt.alloc(), true);
-    declare(&mut participant, 1, 1)?;
-    let join = (MrpEvent::JoinMt, 1, 1);
-    assert!(rt; sends(&mut participant, 20, false, 1, join)?);
-    assert!(rt; sends(&mut participant, 40, false, 1, join)?);
-    assert!(rt; turns_anxious(&mut participant, 1));
-    assert!(rt;
-        fires_each_second(&mut participant)? && sends(&mut participant, 200, true, 1, join)?
-    );
-    Ok(())
+    assert!(rt; says_at_each_timer(&mut participant, 1) == Ok(true));
 }

@@ -5,9 +5,8 @@ use mrpdu_codec::{
     AppForm, DecodeErr, Message, Pdu, VectorAttr, decode, encode, number_in, put_number, size_of,
     well_formed,
 };
-use srp_base::{MrpEvent, Seq};
+use srp_base::{MrpEvent, NoMemory, Seq};
 use std::alloc::Global;
-use std::test::Fail;
 
 /// A vector.
 fn vector(
@@ -16,7 +15,7 @@ fn vector(
     first: &[u8],
     events: &[MrpEvent],
     params: &[u8],
-) -> Result<VectorAttr, Fail> {
+) -> Result<VectorAttr, NoMemory> {
     Ok(VectorAttr {
         leave_all,
         first: Seq::from_vec(first.to_vec(alloc)?),
@@ -41,6 +40,20 @@ fn message_of(kind: u8, vectors: Vec<VectorAttr>) -> Message {
     }
 }
 
+/// A Message of one vector.
+fn one_vector_of(
+    alloc: Global,
+    kind: u8,
+    leave_all: bool,
+    first: &[u8],
+    events: &[MrpEvent],
+    params: &[u8],
+) -> Result<Message, NoMemory> {
+    let mut vectors = Vec::new(alloc);
+    vectors.push(vector(alloc, leave_all, first, events, params)?)?;
+    Ok(message_of(kind, vectors))
+}
+
 /// A PDU of one Message with one vector.
 fn one_vector(
     alloc: Global,
@@ -49,11 +62,9 @@ fn one_vector(
     first: &[u8],
     events: &[MrpEvent],
     params: &[u8],
-) -> Result<Pdu, Fail> {
-    let mut vectors = Vec::new(alloc);
-    vectors.push(vector(alloc, leave_all, first, events, params)?)?;
+) -> Result<Pdu, NoMemory> {
     let mut messages = Vec::new(alloc);
-    messages.push(message_of(kind, vectors))?;
+    messages.push(one_vector_of(alloc, kind, leave_all, first, events, params)?)?;
     Ok(pdu_of(messages))
 }
 
@@ -72,27 +83,59 @@ const TWO_MESSAGES: [u8; 24] = [
 ];
 
 /// Whether octets read as this.
-fn reads(alloc: Global, form: AppForm, octets: &[u8], want: &Pdu) -> Result<bool, Fail> {
-    if octets.len() > 1500 {
-        return Ok(false);
+fn reads(alloc: Global, form: AppForm, octets: &[u8], want: &Pdu) -> bool {
+    octets.len() <= 1500
+        && match decode(alloc, form, octets) {
+            Ok(read) => read == *want,
+            Err(_) => false,
+        }
+}
+
+/// Whether octets are a 9 and these.
+fn are_behind_9(written: &[u8], octets: &[u8]) -> bool {
+    match written {
+        [9, rest @ ..] => rest == octets,
+        _ => false,
     }
-    Ok(decode(alloc, form, octets)? == *want)
 }
 
 /// Whether it is written as these octets, behind what was there.
-fn writes(alloc: Global, form: AppForm, pdu: &Pdu, octets: &[u8]) -> Result<bool, Fail> {
+fn writes(alloc: Global, form: AppForm, pdu: &Pdu, octets: &[u8]) -> Result<bool, NoMemory> {
     if !well_formed(form, pdu) {
         return Ok(false);
     }
     let mut out = [9].to_vec(alloc)?;
     encode(form, pdu, &mut out)?;
-    Ok(out.as_slice() == [&[9], octets].concat(alloc)?.as_slice())
+    Ok(are_behind_9(out.as_slice(), octets))
 }
 
 /// Whether it is written as these octets, and they read as it.
-fn is_spelled(alloc: Global, form: AppForm, pdu: &Pdu, octets: &[u8]) -> Result<bool, Fail> {
-    let written = size_of(form, pdu) == octets.len() && writes(alloc, form, pdu, octets)?;
-    Ok(written && reads(alloc, form, octets, pdu)?)
+fn is_spelled(alloc: Global, form: AppForm, pdu: &Pdu, octets: &[u8]) -> bool {
+    size_of(form, pdu) == octets.len()
+        && writes(alloc, form, pdu, octets) == Ok(true)
+        && reads(alloc, form, octets, pdu)
+}
+
+/// Whether a PDU was made, has a LeaveAll or none, and is written as these octets, which read as it.
+fn spells(
+    alloc: Global,
+    form: AppForm,
+    made: Result<Pdu, NoMemory>,
+    leave_all: bool,
+    octets: &[u8],
+) -> bool {
+    match made {
+        Ok(pdu) => pdu.has_leave_all() == leave_all && is_spelled(alloc, form, &pdu, octets),
+        Err(_) => false,
+    }
+}
+
+/// Whether a PDU was made, and cannot be written in a form.
+fn is_refused(form: AppForm, made: Result<Pdu, NoMemory>) -> bool {
+    match made {
+        Ok(pdu) => !well_formed(form, &pdu),
+        Err(_) => false,
+    }
 }
 
 /// Whether octets break at this place.
@@ -109,40 +152,29 @@ fn malformed_at_a_place(rt: HostRuntime) {
 }
 
 #[test]
-fn a_vid_is_written_and_read(rt: HostRuntime) -> Result<(), Fail> {
-    let pdu = one_vector(rt.alloc(), 1, false, &[0, 2], &[MrpEvent::JoinMt], &[])?;
-    assert!(rt; is_spelled(rt.alloc(), AppForm::Mvrp, &pdu, &VID)?);
-    Ok(())
-}
-
-#[test]
-fn a_listener_is_written_and_read(rt: HostRuntime) -> Result<(), Fail> {
+fn one_vector_is_written_and_read(rt: HostRuntime) {
+    use MrpEvent::{JoinMt, Lv, New, OnlyIn, OnlyMt};
+    let alloc = rt.alloc();
+    let vid = one_vector(alloc, 1, false, &[0, 2], &[JoinMt], &[]);
+    assert!(rt; spells(alloc, AppForm::Mvrp, vid, false, &VID));
     let stream = [2, 0, 0, 0, 0, 1, 0, 1];
-    let pdu = one_vector(rt.alloc(), 3, false, &stream, &[MrpEvent::JoinMt], &[2])?;
-    assert!(rt; is_spelled(rt.alloc(), AppForm::Msrp, &pdu, &LISTENER)?);
-    Ok(())
-}
-
-#[test]
-fn addresses_are_written_and_read(rt: HostRuntime) -> Result<(), Fail> {
-    use MrpEvent::{Lv, New, OnlyIn, OnlyMt};
+    let listener = one_vector(alloc, 3, false, &stream, &[JoinMt], &[2]);
+    assert!(rt; spells(alloc, AppForm::Msrp, listener, false, &LISTENER));
     let events = [New, Lv, OnlyIn, OnlyMt];
-    let pdu = one_vector(rt.alloc(), 2, true, &[1, 2, 3, 4, 5, 6], &events, &[])?;
-    assert!(rt; is_spelled(rt.alloc(), AppForm::Mmrp, &pdu, &ADDRESSES)?);
-    Ok(())
+    let addresses = one_vector(alloc, 2, true, &[1, 2, 3, 4, 5, 6], &events, &[]);
+    assert!(rt; spells(alloc, AppForm::Mmrp, addresses, true, &ADDRESSES));
 }
 
 #[test]
-fn a_pdu_that_cannot_be_written(rt: HostRuntime) -> Result<(), Fail> {
-    let vid = one_vector(rt.alloc(), 1, false, &[0, 2], &[MrpEvent::JoinMt], &[])?;
-    assert!(rt; !well_formed(AppForm::Mmrp, &vid));
-    let empty = one_vector(rt.alloc(), 1, false, &[0, 2], &[], &[])?;
-    assert!(rt; !well_formed(AppForm::Mvrp, &empty));
-    Ok(())
+fn a_pdu_that_cannot_be_written(rt: HostRuntime) {
+    let vid = one_vector(rt.alloc(), 1, false, &[0, 2], &[MrpEvent::JoinMt], &[]);
+    assert!(rt; is_refused(AppForm::Mmrp, vid));
+    let empty = one_vector(rt.alloc(), 1, false, &[0, 2], &[], &[]);
+    assert!(rt; is_refused(AppForm::Mvrp, empty));
 }
 
 /// A Message of one vector with a LeaveAll, and one without.
-fn two_vectors(alloc: Global) -> Result<Pdu, Fail> {
+fn two_vectors(alloc: Global) -> Result<Pdu, NoMemory> {
     let join = MrpEvent::JoinMt;
     let mut vectors = Vec::new(alloc);
     vectors.push(vector(alloc, true, &[0, 5], &[join], &[])?)?;
@@ -152,42 +184,43 @@ fn two_vectors(alloc: Global) -> Result<Pdu, Fail> {
     Ok(pdu_of(messages))
 }
 
-#[test]
-fn two_vectors_are_written_and_read(rt: HostRuntime) -> Result<(), Fail> {
-    let pdu = two_vectors(rt.alloc())?;
-    assert!(rt; pdu.has_leave_all());
-    assert!(rt; is_spelled(rt.alloc(), AppForm::Mvrp, &pdu, &TWO_VECTORS)?);
-    Ok(())
-}
-
 /// Two Messages, of a service requirement and of an address.
-fn two_messages(alloc: Global) -> Result<Pdu, Fail> {
-    let mut service = Vec::new(alloc);
-    service.push(vector(alloc, false, &[1], &[MrpEvent::JoinIn], &[])?)?;
-    let mut mac = Vec::new(alloc);
+fn two_messages(alloc: Global) -> Result<Pdu, NoMemory> {
     let address = [1, 0x80, 0xc2, 0, 0, 0x21];
-    mac.push(vector(alloc, false, &address, &[MrpEvent::JoinMt], &[])?)?;
     let mut messages = Vec::new(alloc);
-    messages.push(message_of(1, service))?;
-    messages.push(message_of(2, mac))?;
+    messages.push(one_vector_of(alloc, 1, false, &[1], &[MrpEvent::JoinIn], &[])?)?;
+    messages.push(one_vector_of(alloc, 2, false, &address, &[MrpEvent::JoinMt], &[])?)?;
     Ok(pdu_of(messages))
 }
 
-#[test]
-fn two_messages_are_written_and_read(rt: HostRuntime) -> Result<(), Fail> {
-    let pdu = two_messages(rt.alloc())?;
-    assert!(rt; !pdu.has_leave_all());
-    assert!(rt; is_spelled(rt.alloc(), AppForm::Mmrp, &pdu, &TWO_MESSAGES)?);
-    // and without the last EndMark
-    assert!(rt; reads(rt.alloc(), AppForm::Mmrp, &TWO_MESSAGES[..22], &pdu)?);
-    Ok(())
+/// Whether octets read as the two Messages.
+fn are_two_messages(alloc: Global, octets: &[u8]) -> bool {
+    match two_messages(alloc) {
+        Ok(pdu) => reads(alloc, AppForm::Mmrp, octets, &pdu),
+        Err(_) => false,
+    }
 }
 
 #[test]
-fn numbers_in_octets(rt: HostRuntime) -> Result<(), Fail> {
-    let mut out = [9].to_vec(rt.alloc())?;
+fn two_vectors_and_two_messages_are_written_and_read(rt: HostRuntime) {
+    let alloc = rt.alloc();
+    let vectors = two_vectors(alloc);
+    assert!(rt; spells(alloc, AppForm::Mvrp, vectors, true, &TWO_VECTORS));
+    let messages = two_messages(alloc);
+    assert!(rt; spells(alloc, AppForm::Mmrp, messages, false, &TWO_MESSAGES));
+    // and without the last EndMark
+    assert!(rt; are_two_messages(alloc, &TWO_MESSAGES[..22]));
+}
+
+/// Whether a number is put behind a 9 as its four octets.
+fn puts_four_octets(alloc: Global) -> Result<bool, NoMemory> {
+    let mut out = [9].to_vec(alloc)?;
     put_number(&mut out, 0x0102_0304, 4)?;
-    assert!(rt; out.as_slice() == [9, 1, 2, 3, 4].as_slice());
+    Ok(are_behind_9(out.as_slice(), &[1, 2, 3, 4]))
+}
+
+#[test]
+fn numbers_in_octets(rt: HostRuntime) {
+    assert!(rt; puts_four_octets(rt.alloc()) == Ok(true));
     assert!(rt; number_in(&[1, 2, 3, 4]) == 0x0102_0304);
-    Ok(())
 }

@@ -3,15 +3,14 @@
 use mvrp_codec::{DecodeErr, MvrpPdu, decode, encode};
 use srp_base::{MrpEvent, Seq, Vid};
 use std::alloc::Global;
-use std::test::Fail;
 
-/// A LeaveAll or none, and JoinMt of each VID from one number up to another.
-fn joined(alloc: Global, leave_all: bool, from: u16, to: u16) -> Result<MvrpPdu, Fail> {
+/// A LeaveAll or none, and JoinMt of each of these VIDs.
+fn joined(alloc: Global, leave_all: bool, numbers: &[u16]) -> Option<MvrpPdu> {
     let mut events = Vec::new(alloc);
-    for number in from..to {
-        events.push((MrpEvent::JoinMt, Vid::new(number).ok_or("a VID")?))?;
+    for number in numbers {
+        events.push((MrpEvent::JoinMt, Vid::new(*number)?)).ok()?;
     }
-    Ok(MvrpPdu {
+    Some(MvrpPdu {
         leave_all,
         events: Seq::from_vec(events),
     })
@@ -32,73 +31,66 @@ const SKIPPED: [u8; 20] = [
 ];
 
 /// Whether octets read as this.
-fn reads(alloc: Global, octets: &[u8], want: &MvrpPdu) -> Result<bool, Fail> {
-    if octets.len() > 1500 {
-        return Ok(false);
-    }
-    Ok(decode(alloc, octets)? == *want)
+fn reads(alloc: Global, octets: &[u8], want: &MvrpPdu) -> bool {
+    octets.len() <= 1500
+        && match decode(alloc, octets) {
+            Ok(read) => read == *want,
+            Err(_) => false,
+        }
 }
 
 /// Whether it is written as these octets.
-fn writes(alloc: Global, pdu: &MvrpPdu, octets: &[u8]) -> Result<bool, Fail> {
+fn writes(alloc: Global, pdu: &MvrpPdu, octets: &[u8]) -> bool {
     let n = pdu.events.len();
     if n > 297 || n == 0 && !pdu.leave_all {
-        return Ok(false);
+        return false;
     }
-    Ok(encode(alloc, pdu)?.as_slice() == octets)
-}
-
-/// Whether it is written as these octets, and they read as it.
-fn is_spelled(alloc: Global, pdu: &MvrpPdu, octets: &[u8]) -> Result<bool, Fail> {
-    let written = writes(alloc, pdu, octets)?;
-    Ok(written && reads(alloc, octets, pdu)?)
-}
-
-#[test]
-fn one_vid_and_four_consecutive_ones(rt: HostRuntime) -> Result<(), Fail> {
-    let one = joined(rt.alloc(), false, 2, 3)?;
-    assert!(rt; is_spelled(rt.alloc(), &one, &ONE)?);
-    let four = joined(rt.alloc(), false, 5, 9)?;
-    assert!(rt; is_spelled(rt.alloc(), &four, &FOUR)?);
-    Ok(())
-}
-
-#[test]
-fn missing_end_marks_and_an_unknown_type(rt: HostRuntime) -> Result<(), Fail> {
-    let one = joined(rt.alloc(), false, 2, 3)?;
-    assert!(rt; reads(rt.alloc(), &ONE[..10], &one)?);
-    assert!(rt; reads(rt.alloc(), &ONE[..8], &one)?);
-    assert!(rt; reads(rt.alloc(), &SKIPPED, &one)?);
-    Ok(())
-}
-
-#[test]
-fn leave_all_alone_and_with_a_vid(rt: HostRuntime) -> Result<(), Fail> {
-    let alone = joined(rt.alloc(), true, 5, 5)?;
-    assert!(rt; is_spelled(rt.alloc(), &alone, &LEAVE_ALL)?);
-    let both = joined(rt.alloc(), true, 5, 6)?;
-    assert!(rt; is_spelled(rt.alloc(), &both, &BOTH)?);
-    Ok(())
-}
-
-#[test]
-fn numbers_that_are_no_vid(rt: HostRuntime) -> Result<(), Fail> {
-    let first = joined(rt.alloc(), false, 1, 2)?;
-    assert!(rt; reads(rt.alloc(), &[0, 1, 2, 0, 2, 0, 0, 0x7e], &first)?);
-    let last = joined(rt.alloc(), false, 4094, 4095)?;
-    assert!(rt; reads(rt.alloc(), &[0, 1, 2, 0, 2, 0x0f, 0xfe, 0x7e], &last)?);
-    Ok(())
-}
-
-#[test]
-fn two_runs(rt: HostRuntime) -> Result<(), Fail> {
-    let mut runs = joined(rt.alloc(), true, 5, 6)?;
-    for number in 9..11u16 {
-        let vid = Vid::new(number).ok_or("a VID")?;
-        runs.events.push((MrpEvent::JoinMt, vid))?;
+    match encode(alloc, pdu) {
+        Ok(written) => written.as_slice() == octets,
+        Err(_) => false,
     }
-    assert!(rt; is_spelled(rt.alloc(), &runs, &TWO_RUNS)?);
-    Ok(())
+}
+
+/// Whether a LeaveAll or none and these VIDs are written as these octets, and they read as it.
+fn is_spelled(alloc: Global, leave_all: bool, numbers: &[u16], octets: &[u8]) -> bool {
+    match joined(alloc, leave_all, numbers) {
+        Some(pdu) => writes(alloc, &pdu, octets) && reads(alloc, octets, &pdu),
+        None => false,
+    }
+}
+
+#[test]
+fn vids_are_written_and_read(rt: HostRuntime) {
+    for (leave_all, numbers, octets) in [
+        (false, [2].as_slice(), ONE.as_slice()),
+        (false, [5, 6, 7, 8].as_slice(), FOUR.as_slice()),
+        (true, [].as_slice(), LEAVE_ALL.as_slice()),
+        (true, [5].as_slice(), BOTH.as_slice()),
+        (true, [5, 9, 10].as_slice(), TWO_RUNS.as_slice()),
+    ] {
+        assert!(rt; is_spelled(rt.alloc(), leave_all, numbers, octets));
+    }
+}
+
+/// Whether octets read as no LeaveAll and one VID.
+fn is_vid(alloc: Global, octets: &[u8], number: u16) -> bool {
+    match joined(alloc, false, &[number]) {
+        Some(pdu) => reads(alloc, octets, &pdu),
+        None => false,
+    }
+}
+
+#[test]
+fn missing_end_marks_and_an_unknown_type(rt: HostRuntime) {
+    for octets in [&ONE[..10], &ONE[..8], SKIPPED.as_slice()] {
+        assert!(rt; is_vid(rt.alloc(), octets, 2));
+    }
+}
+
+#[test]
+fn numbers_that_are_no_vid(rt: HostRuntime) {
+    assert!(rt; is_vid(rt.alloc(), &[0, 1, 2, 0, 2, 0, 0, 0x7e], 1));
+    assert!(rt; is_vid(rt.alloc(), &[0, 1, 2, 0, 2, 0x0f, 0xfe, 0x7e], 4094));
 }
 
 /// Whether octets break at this place.

@@ -10,40 +10,50 @@ use toml_rules::{
     value_at, within,
 };
 
-/// A table of a number, one below 0, a text, one that is no integer, and an array of two tables.
-fn fields(alloc: Global) -> Result<Table, Fail> {
-    let file = "a = 7\nb = -1\nc = 'x'\nd = 1.5\n[[e]]\nf = 1\n[[e]]\n";
-    Ok(toml::table_from_str(alloc, file)?)
+/// A number, one below 0, a text, one that is no integer, a truth value, and two arrays of two
+/// tables.
+const FIELDS: &str = "a = 7\nb = -1\nc = 'x'\nd = 1.5\nt = true\n\
+    i = [{ n = 7, m = 1 }, { n = 8 }]\n[[e]]\nf = 1\n[[e]]\n";
+
+fn has_numbers(table: &Table) -> bool {
+    number(table, "a") == Some(7)
+        && number(table, "b").is_none()
+        && number(table, "d").is_none()
+        && number(table, "z").is_none()
+        && number_or(table, "z", 3) == Some(3)
+        && number_or(table, "c", 3).is_none()
+}
+
+fn has_texts(table: &Table) -> bool {
+    text(table, "c") == Some("x") && text(table, "a").is_none()
+}
+
+fn has_truths(table: &Table) -> bool {
+    truth_or(table, "t", false) == Some(true)
+        && truth_or(table, "z", false) == Some(false)
+        && truth_or(table, "a", false).is_none()
+}
+
+fn has_values(table: &Table) -> bool {
+    value_at(table, "a").is_some() && value_at(table, "z").is_none()
+}
+
+fn has_only_its_keys(table: &Table) -> bool {
+    has_only(table, &["a", "b", "c", "d", "t", "i", "e", "y"])
+        && !has_only(table, &["a", "b", "c", "d", "t", "i"])
 }
 
 #[test]
-fn a_number_is_no_other_value(rt: HostRuntime) -> Result<(), Fail> {
-    let table = fields(rt.alloc())?;
-    assert!(rt; number(&table, "a") == Some(7) && number(&table, "b").is_none());
-    assert!(rt; number(&table, "d").is_none() && number(&table, "z").is_none());
-    assert!(rt; number_or(&table, "z", 3) == Some(3) && number_or(&table, "c", 3).is_none());
+fn a_field_is_of_one_kind(rt: HostRuntime) -> Result<(), Fail> {
+    let table = toml::table_from_str(rt.alloc(), FIELDS)?;
+    assert!(rt; has_numbers(&table) && has_texts(&table) && has_truths(&table));
+    assert!(rt; has_values(&table) && has_only_its_keys(&table));
     Ok(())
 }
 
 #[test]
 fn a_number_lies_within_its_range(rt: HostRuntime) {
     assert!(rt; within(7, 8, Some(7)) == Some(7) && within(8, 9, Some(7)).is_none());
-}
-
-#[test]
-fn a_text_is_no_number(rt: HostRuntime) -> Result<(), Fail> {
-    let table = fields(rt.alloc())?;
-    assert!(rt; text(&table, "c") == Some("x"));
-    assert!(rt; text(&table, "a").is_none());
-    Ok(())
-}
-
-#[test]
-fn a_table_has_only_its_keys(rt: HostRuntime) -> Result<(), Fail> {
-    let table = fields(rt.alloc())?;
-    assert!(rt; has_only(&table, &["a", "b", "c", "d", "e", "y"]));
-    assert!(rt; !has_only(&table, &["a", "b", "c", "d"]));
-    Ok(())
 }
 
 /// How many tables an array of tables has.
@@ -54,22 +64,50 @@ fn count(alloc: Global, table: &Table, key: &str) -> Result<Option<usize>, NoMem
     }
 }
 
-#[test]
-fn an_array_of_tables_may_be_missing(rt: HostRuntime) -> Result<(), Fail> {
-    let table = fields(rt.alloc())?;
-    assert!(rt; count(rt.alloc(), &table, "e")? == Some(2));
-    assert!(rt; count(rt.alloc(), &table, "z")? == Some(0));
-    assert!(rt; count(rt.alloc(), &table, "a")?.is_none());
-    Ok(())
+const WHOLE: RuleErr = RuleErr::Rule { rule: 3, entry: 0 };
+
+/// How many tables an array has that rule 3 needs.
+fn needed(alloc: Global, table: &Table, key: &str) -> Result<usize, RuleErr> {
+    Ok(needs_tables(alloc, 3, table, key)?.len())
+}
+
+/// Whether an array of tables may be missing, and may be nothing else.
+fn has_arrays(alloc: Global, table: &Table) -> bool {
+    count(alloc, table, "e") == Ok(Some(2))
+        && count(alloc, table, "z") == Ok(Some(0))
+        && count(alloc, table, "a") == Ok(None)
+}
+
+fn has_needed_arrays(alloc: Global, table: &Table) -> bool {
+    needed(alloc, table, "e") == Ok(2)
+        && needed(alloc, table, "z") == Ok(0)
+        && needed(alloc, table, "a") == Err(WHOLE)
+}
+
+/// Whether the numbers at a key of two tables are read as these.
+fn reads_tables(alloc: Global, entries: &[&Table], key: &str, wanted: &[u64]) -> bool {
+    match each_table(alloc, 4, entries, |_, table| Ok(number(table, key))) {
+        Ok(found) => found.as_slice() == wanted,
+        Err(_) => false,
+    }
+}
+
+/// Whether the second of two tables lacks the number at a key.
+fn lacks_second(alloc: Global, entries: &[&Table], key: &str) -> bool {
+    let read = each_table(alloc, 4, entries, |_, table| Ok(number(table, key)));
+    read.err() == Some(RuleErr::Rule { rule: 4, entry: 2 })
+}
+
+fn has_entries(alloc: Global, table: &Table) -> Result<bool, RuleErr> {
+    let entries = needs_tables(alloc, 3, table, "i")?;
+    Ok(reads_tables(alloc, &entries, "n", &[7, 8]) && lacks_second(alloc, &entries, "m"))
 }
 
 #[test]
-fn a_truth_value_is_no_number(rt: HostRuntime) -> Result<(), Fail> {
-    let table = toml::table_from_str(rt.alloc(), "a = true\nb = 1\n")?;
-    assert!(rt; truth_or(&table, "a", false) == Some(true));
-    assert!(rt; truth_or(&table, "z", false) == Some(false));
-    assert!(rt; truth_or(&table, "b", false).is_none());
-    assert!(rt; value_at(&table, "b").is_some() && value_at(&table, "z").is_none());
+fn an_array_of_tables_is_counted_and_read(rt: HostRuntime) -> Result<(), Fail> {
+    let table = toml::table_from_str(rt.alloc(), FIELDS)?;
+    assert!(rt; has_arrays(rt.alloc(), &table) && has_needed_arrays(rt.alloc(), &table));
+    assert!(rt; has_entries(rt.alloc(), &table) == Ok(true));
     Ok(())
 }
 
@@ -90,31 +128,26 @@ fn shares_have_their_defaults(rt: HostRuntime) -> Result<(), Fail> {
     Ok(())
 }
 
-const WHOLE: RuleErr = RuleErr::Rule { rule: 3, entry: 0 };
+const LAST: RuleErr = RuleErr::Rule {
+    rule: 3,
+    entry: 4_294_967_295,
+};
 
-#[test]
-fn a_rule_needs_a_value_or_a_truth(rt: HostRuntime) {
-    assert!(rt; needs(3, Some(7u64)) == Ok(7) && needs::<u64>(3, None) == Err(WHOLE));
-    assert!(rt; holds(3, true).is_ok() && holds(3, false) == Err(WHOLE));
+fn values_are_needed() -> bool {
+    needs(3, Some(7u64)) == Ok(7) && needs::<u64>(3, None) == Err(WHOLE)
+}
+
+fn truths_hold() -> bool {
+    holds(3, true).is_ok() && holds(3, false) == Err(WHOLE)
+}
+
+fn entries_fail() -> bool {
+    no_entry(3, None).is_ok() && no_entry(3, Some(2)).is_err() && fails_at(3, 4_294_967_296) == LAST
 }
 
 #[test]
-fn a_rule_fails_with_its_entry(rt: HostRuntime) {
-    let last = RuleErr::Rule {
-        rule: 3,
-        entry: 4_294_967_295,
-    };
-    assert!(rt; no_entry(3, None).is_ok() && no_entry(3, Some(2)).is_err());
-    assert!(rt; fails_at(3, 4_294_967_296) == last);
-}
-
-#[test]
-fn a_rule_needs_an_array_of_tables(rt: HostRuntime) -> Result<(), Fail> {
-    let table = toml::table_from_str(rt.alloc(), "a = 1\n[[e]]\n[[e]]\n")?;
-    assert!(rt; needs_tables(rt.alloc(), 3, &table, "e")?.len() == 2);
-    assert!(rt; needs_tables(rt.alloc(), 3, &table, "z")?.is_empty());
-    assert!(rt; needs_tables(rt.alloc(), 3, &table, "a").err() == Some(WHOLE));
-    Ok(())
+fn a_rule_fails_as_a_whole_or_with_its_entry(rt: HostRuntime) {
+    assert!(rt; values_are_needed() && truths_hold() && entries_fail());
 }
 
 const NUMBERS: [u64; 5] = [3, 1, 5, 1, 4];
@@ -130,31 +163,37 @@ fn the_first_entry_of_a_kind_is_named(rt: HostRuntime) {
     assert!(rt; first_fall(&NUMBERS, |n| *n) == Some(2));
 }
 
-#[test]
-fn entries_are_read_one_by_one(rt: HostRuntime) -> Result<(), Fail> {
-    let refused = each_entry(rt.alloc(), 9, &NUMBERS, |_, n| Ok(odd(*n))).err();
-    assert!(rt; refused == Some(RuleErr::Rule { rule: 9, entry: 5 }));
-    let taken = each_entry(rt.alloc(), 9, &NUMBERS[..4], |_, n| Ok(odd(*n)))?;
-    assert!(rt; taken.as_slice() == &NUMBERS[..4]);
-    Ok(())
+/// The numbers, of which each has to be odd.
+fn odd_ones(alloc: Global, numbers: &[u64]) -> Result<Vec<u64>, RuleErr> {
+    each_entry(alloc, 9, numbers, |_, n| Ok(odd(*n)))
+}
+
+/// The numbers, of which each has to be odd, and whose sum is bounded.
+fn light_ones(alloc: Global, most: u64, numbers: &[u64]) -> Result<Vec<u64>, RuleErr> {
+    each_within(alloc, 9, most, numbers, |n| *n, |_, n| Ok(odd(*n)))
+}
+
+/// Whether the first four numbers were read.
+fn are_four(read: Result<Vec<u64>, RuleErr>) -> bool {
+    match read {
+        Ok(found) => found.as_slice() == &NUMBERS[..4],
+        Err(_) => false,
+    }
+}
+
+/// Whether rule 9 failed at an entry.
+fn fails_with(read: Result<Vec<u64>, RuleErr>, entry: u32) -> bool {
+    read.err() == Some(RuleErr::Rule { rule: 9, entry })
 }
 
 #[test]
-fn entries_weigh_no_more_than_allowed(rt: HostRuntime) -> Result<(), Fail> {
-    let heavy = each_within(rt.alloc(), 9, 9, &NUMBERS, |n| *n, |_, n| Ok(odd(*n))).err();
-    assert!(rt; heavy == Some(RuleErr::Rule { rule: 9, entry: 4 }));
-    let light = each_within(rt.alloc(), 9, 10, &NUMBERS[..4], |n| *n, |_, n| Ok(odd(*n)))?;
-    assert!(rt; light.as_slice() == &NUMBERS[..4]);
-    Ok(())
+fn entries_are_read_one_by_one(rt: HostRuntime) {
+    assert!(rt; fails_with(odd_ones(rt.alloc(), &NUMBERS), 5));
+    assert!(rt; are_four(odd_ones(rt.alloc(), &NUMBERS[..4])));
 }
 
 #[test]
-fn tables_are_read_one_by_one(rt: HostRuntime) -> Result<(), Fail> {
-    let file = toml::table_from_str(rt.alloc(), "e = [{ n = 7, m = 1 }, { n = 8 }]\n")?;
-    let entries = needs_tables(rt.alloc(), 3, &file, "e")?;
-    let taken = each_table(rt.alloc(), 4, &entries, |_, table| Ok(number(table, "n")))?;
-    assert!(rt; taken.as_slice() == [7, 8].as_slice());
-    let refused = each_table(rt.alloc(), 4, &entries, |_, table| Ok(number(table, "m"))).err();
-    assert!(rt; refused == Some(RuleErr::Rule { rule: 4, entry: 2 }));
-    Ok(())
+fn entries_weigh_no_more_than_allowed(rt: HostRuntime) {
+    assert!(rt; fails_with(light_ones(rt.alloc(), 9, &NUMBERS), 4));
+    assert!(rt; are_four(light_ones(rt.alloc(), 10, &NUMBERS[..4])));
 }
