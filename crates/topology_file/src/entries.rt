@@ -5,7 +5,7 @@ use srp_base::{BridgeId, Mac, NodeNo, Percent, Priority, Rank, Rate, Seq, Stream
 use tree_topology::NodeKind;
 
 /// A node.
-#[derive(Drop)]
+#[derive(Debug, PartialEq, Eq, Drop)]
 pub struct NodeEntry {
     /// The bytes of its name: 1 to 32 characters a to z, 0 to 9, `-` and `_`.
     pub name: Seq<u8>,
@@ -15,7 +15,7 @@ pub struct NodeEntry {
 }
 
 /// A link, with values that hold in both its directions.
-#[derive(Clone, Copy)]
+#[derive(Clone, Copy, Debug, PartialEq, Eq)]
 pub struct LinkEntry {
     pub a: NodeNo,
     pub b: NodeNo,
@@ -31,7 +31,7 @@ pub struct LinkEntry {
 }
 
 /// A stream: who talks in it, and what its Talker declares (IEEE Std 802.1Q-2018, 35.2.2.8).
-#[derive(Drop)]
+#[derive(Debug, PartialEq, Eq, Drop)]
 pub struct StreamEntry {
     /// The bytes of its name: 1 to 32 characters a to z, 0 to 9, `-` and `_`.
     pub name: Seq<u8>,
@@ -50,7 +50,7 @@ pub struct StreamEntry {
 }
 
 /// An event of a tick.
-#[derive(Clone, Copy)]
+#[derive(Clone, Copy, Debug, PartialEq, Eq)]
 pub struct EventEntry {
     /// The tick in cs from the start, below the scenario's ticks.
     pub tick: u64,
@@ -58,7 +58,7 @@ pub struct EventEntry {
 }
 
 /// What happens. A stream is named by its entry's number, from 1.
-#[derive(Clone, Copy, PartialEq, Eq)]
+#[derive(Clone, Copy, Debug, PartialEq, Eq)]
 pub enum EventKind {
     /// A station's application declares a VID.
     Declare {
@@ -103,7 +103,7 @@ pub enum EventKind {
 }
 
 /// A frame with its copies. The i-th copy, from 0, stands at `at + i * every`.
-#[derive(Clone, Copy)]
+#[derive(Clone, Copy, Debug, PartialEq, Eq)]
 pub struct FrameEntry {
     pub route: FrameRoute,
     /// The octets of its data, without the 42 octets of overhead: 0 to 1,500.
@@ -117,7 +117,7 @@ pub struct FrameEntry {
 }
 
 /// Where a frame goes, and as what.
-#[derive(Clone, Copy, PartialEq, Eq)]
+#[derive(Clone, Copy, Debug, PartialEq, Eq)]
 pub enum FrameRoute {
     /// From a stream's talker, with the stream's VID and the traffic of its priority's class.
     OfStream { stream: u16 },
