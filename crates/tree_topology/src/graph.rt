@@ -5,8 +5,7 @@ ghost use Rattle.tree_topology.specs.declared.graph.TreeErr.TheVariants.{NoMemor
 
 use srp_base::{LinkNo, NoMemory, NodeNo};
 use std::alloc::AllocError;
-use std::error::Error;
-use std::fmt::{self, Display, Formatter, Write};
+use thiserror::Error;
 
 /// What a node is: an end station, or a bridge that relays between its ports.
 #[derive(Clone, Copy, Debug, PartialEq, Eq)]
@@ -24,50 +23,25 @@ pub struct Link {
 
 /// Why nodes and links are no tree, in the order in which this is judged: each variant over all
 /// links or nodes before the next. It names the first link or node at fault, counted from 1.
-#[derive(Clone, Copy, Debug, PartialEq, Eq)]
+#[derive(Clone, Copy, Debug, PartialEq, Eq, Error)]
 pub enum TreeErr {
+    #[error("link {} has an end that is no node", .0.0)]
     UnknownNode(LinkNo),
+    #[error("link {} joins a node with itself", .0.0)]
     SelfLink(LinkNo),
+    #[error("link {} joins two nodes that an earlier link joins", .0.0)]
     SecondLink(LinkNo),
+    #[error("link {} joins two nodes that earlier links connect", .0.0)]
     Loop(LinkNo),
+    #[error("node {} isn't connected with node 1", .0.0)]
     Unconnected(NodeNo),
+    #[error("station {} hasn't exactly one link", .0.0)]
     StationWithLinks(NodeNo),
+    #[error("node {} has more than 255 links", .0.0)]
     TooManyLinks(NodeNo),
+    #[error("no memory")]
     NoMemory,
 }
-
-impl TreeErr {
-    /// What is at fault, its number, and what is wrong with it; None for want of memory.
-    fn fault(self) -> Option<(&'static str, u16, &'static str)> {
-        match self {
-            TreeErr::UnknownNode(link) => Some(("link", link.0, "has an end that is no node")),
-            TreeErr::SelfLink(link) => Some(("link", link.0, "joins a node with itself")),
-            TreeErr::SecondLink(link) => {
-                Some(("link", link.0, "joins two nodes that an earlier link joins"))
-            }
-            TreeErr::Loop(link) => {
-                Some(("link", link.0, "joins two nodes that earlier links connect"))
-            }
-            TreeErr::Unconnected(node) => Some(("node", node.0, "isn't connected with node 1")),
-            TreeErr::StationWithLinks(node) => {
-                Some(("station", node.0, "hasn't exactly one link"))
-            }
-            TreeErr::TooManyLinks(node) => Some(("node", node.0, "has more than 255 links")),
-            TreeErr::NoMemory => None,
-        }
-    }
-}
-
-impl Display for TreeErr {
-    fn fmt<W: Write>(&self, f: &mut Formatter<W>) -> fmt::Result {
-        match self.fault() {
-            Some((what, number, wrong)) => write!(f, "{what} {number} {wrong}"),
-            None => f.write_str("no memory"),
-        }
-    }
-}
-
-impl Error for TreeErr {}
 
 impl From<NoMemory> for TreeErr {
     ghost from_gives = { λ _ e. e ≡ NoMemory };
