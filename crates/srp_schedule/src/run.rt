@@ -15,9 +15,7 @@ use crate::steps::make_steps;
 use srp_base::{NoMemory, Seq};
 use std::alloc::Global;
 use topology_file::Scenario;
-use world_core::laws::{
-    a_tick_carries_what_it_has_sent, ticks_go_on, what_is_allowed_may_happen,
-};
+use world_core::laws::{a_tick_carries_what_it_has_sent, ticks_go_on, what_is_allowed_may_happen};
 use world_core::timeline_laws::{
     a_timeline_goes_on, noting_who_has_acted_notes_a_tick,
     only_a_node_that_acts_changes_what_is_in_force, what_ends_a_tick_changes_nothing_in_force,
