@@ -3,4 +3,5 @@ pub mod FateLemmas
 pub mod HeardLemmas
 pub mod LinkPorts
 pub mod PeerLemmas
+pub mod PrintoutLemmas
 pub mod TallyLemmas

@@ -31,23 +31,7 @@ pub(crate) fn put_flows(
     if scenario.frames.len() == 0 {
         return Ok(());
     }
-    reserve_lines(out, flow.ports.as_slice());
     put_each(out, scenario, tree, flow.ports.as_slice())
-}
-
-// Takes the memory for the lines of the departures at these ports at once, where it is there: a text that grows
-// little by little is moved again and again.
-fn reserve_lines(out: &mut Vec<u8>, flows: &[PortFlow])
-    ensures { out.new.items ≡ out.old.items }
-{
-    let mut count = 0usize;
-    for flow in flows {
-        count = count.saturating_add(flow.input.arrivals.len());
-    }
-    // The lines may take less, so that a refusal is no want of memory yet.
-    match out.reserve(count.saturating_mul(LINE)) {
-        Ok(()) | Err(_) => {}
-    }
 }
 
 // The lines of the frames at these ports.
@@ -81,16 +65,28 @@ fn put_flow(
     put_fates(out, port.as_slice(), flow)
 }
 
-// The lines of what became of the copies at a port of this name.
-fn put_fates(out: &mut Vec<u8>, port: &[u8], flow: &PortFlow) -> Result<(), NoMemory>
+/// The lines of what became of the copies at a port of this name.
+pub(crate) fn put_fates(out: &mut Vec<u8>, port: &[u8], flow: &PortFlow) -> Result<(), NoMemory>
     ensures { OnOk result (out.new.items
         ≡ out.old.items ++ fates_lines port.now flow.now.fates) }
 {
     let alloc = *out.allocator();
     let Outcomes { counts, sent } = Outcomes::of(alloc, flow)?;
+    reserve_lines(out, sent.len());
     put_counts(out, port, counts)?;
     put_departures(out, port, sent.as_slice())?;
     Ok(())
+}
+
+// Takes the memory for the lines of so many departures at once, where it is there: a text that grows little by little is moved
+// again and again.
+fn reserve_lines(out: &mut Vec<u8>, count: usize)
+    ensures { out.new.items ≡ out.old.items }
+{
+    // The lines may take less, so that a refusal is no want of memory yet.
+    match out.reserve(count.saturating_mul(LINE)) {
+        Ok(()) | Err(_) => {}
+    }
 }
 
 // The line of how many copies came to which fate.

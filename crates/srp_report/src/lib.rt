@@ -28,6 +28,9 @@
 //! report tells what happened, and none of it is what the tree or the stations would have one expect. `journal_text`
 //! (`specs/JournalText.antt`) is a function of the scenario and any ticks.
 //!
+//! The report can be made whole (`report`), or piece by piece as it goes out (`Printout` of `printout.rt`): the lines of a port's
+//! frames are then made when they are asked for, so that only one port's are kept at a time.
+//!
 //! The journal is read once for the report, for all ports together: a tally for each port, at the place of its numbers,
 //! in `tallies.rt`. The report asks for the tally of a port when it comes to its line. The fates of a port are read once
 //! too, in `departures.rt`; its departures are then sorted by start at once, where the definition puts each in its place.
@@ -35,7 +38,7 @@
 //! A further kind of attribute is a line in `specs/Lines.antt` with its case of `key_line` or `srp_line`, and its writer
 //! in `lines.rt` with its arm of `put_key` or `put_srp`. A further line of a port is a definition there and a piece at the
 //! end of `place_lines`, with its writer in `registered.rt`; one of the network is a piece between the ports and the end
-//! in `report_text`. A further count is a field of `Tally`, a line of `tally_of` and one of `Tally::counted`. A further
+//! in `report_text`, and in `before_frames` or `behind_frames` of `specs/Printout.antt`. A further count is a field of `Tally`, a line of `tally_of` and one of `Tally::counted`. A further
 //! step or answer is a case of `step_name` or `reply_name` with its arm in `journal.rt`.
 #![tactic(auto)]
 
@@ -46,6 +49,7 @@ mod journal;
 mod lines;
 mod names;
 mod ports;
+mod printout;
 mod registered;
 mod tallies;
 mod tally;
@@ -53,4 +57,5 @@ mod text;
 
 pub use departures::SentFrame;
 pub use journal::journal_text;
+pub use printout::Printout;
 pub use text::report;

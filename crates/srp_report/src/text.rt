@@ -2,6 +2,7 @@
 
 ghost use Rattle.std.specs.Prelude.{◌≡◌, IfOk};
 ghost use Rattle.srp_report.specs.Report.{report_text};
+ghost use Rattle.srp_report.specs.Printout.{before_frames, behind_frames};
 
 use crate::flows::put_flows;
 use crate::heard::put_nodes;
@@ -30,11 +31,33 @@ pub fn report(
     ensures { IfOk result (λ text. text.items
         ≡ report_text scenario.now run.now.world run.now.journal.ticks flow.now.ports) }
 {
+    let mut out = text_before(alloc, scenario, run)?;
+    put_flows(&mut out, scenario, run.world.tree(), flow)?;
+    put_end(&mut out, run.world.quiet(), run.world.in_step())?;
+    Ok(out)
+}
+
+/// What stands before the lines of the frames.
+pub(crate) fn text_before(
+    alloc: Global,
+    scenario: &Scenario,
+    run: &Run,
+) -> Result<Vec<u8>, NoMemory>
+    ensures { IfOk result (λ text. text.items
+        ≡ before_frames scenario.now run.now.world run.now.journal.ticks) }
+{
     let mut out = Vec::new(alloc);
     put_ticks(&mut out, scenario.ticks)?;
     put_ports(&mut out, scenario, &run.world, run.journal.ticks.as_slice())?;
     put_nodes(&mut out, scenario, &run.world)?;
-    put_flows(&mut out, scenario, run.world.tree(), flow)?;
+    Ok(out)
+}
+
+/// What stands behind them.
+pub(crate) fn text_behind(alloc: Global, run: &Run) -> Result<Vec<u8>, NoMemory>
+    ensures { IfOk result (λ text. text.items ≡ behind_frames run.now.world) }
+{
+    let mut out = Vec::new(alloc);
     put_end(&mut out, run.world.quiet(), run.world.in_step())?;
     Ok(out)
 }

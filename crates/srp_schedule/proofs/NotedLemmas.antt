@@ -12,6 +12,7 @@ use Rattle.world_core.specs.World.{WorldState, world_after}
 use Rattle.world_core.specs.Start.{world_of}
 use Rattle.world_core.specs.Ticks.{scripted, step_events, after_script, after_steps, closing_events, tick_events, IsLegalTick}
 use Rattle.world_core.specs.During.{IsDuring}
+use Rattle.world_core.specs.Carrying.{NothingWaits}
 use Rattle.world_core.specs.Timeline.{force_at, noted, AreChanges, Says, SaysFrom, world_after_ticks, IsTimelineOf}
 use Rattle.world_core.specs.History.{has_acted, acts_noted}
 use Rattle.srp_schedule.proofs.StepLemmas.{after_append}
@@ -38,12 +39,13 @@ pub record IsNotedTo (plan : Plan) (t : ℕ) (made : List Tick) (w : WorldState)
   pub reached : w ≡ world_after_ticks plan made
   pub timeline : IsTimelineOf plan made changes
   pub says : SaysFrom t changes w
+  pub waits : NothingWaits w
 
 pub changes_are : (plan : Plan) (t : ℕ) (made : List Tick) (w : WorldState) (i : ℕ) (changes : List PortChange) → IsNotedTo plan t made w i changes → AreChanges plan.tree t changes
 changes_are plan t made w i changes h = subst (λ (k : ℕ). AreChanges plan.tree k changes) h.many h.timeline.are
 
-pub none_noted : (plan : Plan) → IsDuring plan.tree 0 (world_of plan) → IsTimelineOf plan [] [] → SaysFrom 0 [] (world_of plan) → IsNotedTo plan 0 [] (world_of plan) 0 []
-none_noted plan during timeline says = record { run = no_tick plan during; many = refl; reached = refl; timeline = timeline; says = says }
+pub none_noted : (plan : Plan) → IsDuring plan.tree 0 (world_of plan) → NothingWaits (world_of plan) → IsTimelineOf plan [] [] → SaysFrom 0 [] (world_of plan) → IsNotedTo plan 0 [] (world_of plan) 0 []
+none_noted plan during waits timeline says = record { run = no_tick plan during; many = refl; reached = refl; timeline = timeline; says = says; waits = waits }
 
 module _ (laws : TimelineLaws) (plan : Plan) (t : ℕ) (ticks : List Tick) (w v : WorldState) (cursor next : ℕ) (tick : Tick) (changes after : List PortChange) (before : IsNotedTo plan t ticks w cursor changes)
     (legal : IsLegalTick plan t w tick) (made : v ≡ world_after (tick_events plan t tick) w) (is : after ≡ acts_noted t tick.steps (after_steps plan t tick w) changes) where
@@ -79,8 +81,8 @@ module _ (laws : TimelineLaws) (plan : Plan) (t : ℕ) (ticks : List Tick) (w v 
       let here = subst (λ (r : Topology). HasPort r p) u_tree has in
       before.says p (subst (λ (r : Topology). HasPort r p) (sym before.run.during.tree_is) here) t (omega arith) ∙ sym (laws.quiet plan t w tick p legal here none))
 
-  pub one_noted : IsRunTo plan (t + 1) (ticks ++ tick ∷ []) v next → IsNotedTo plan (t + 1) (ticks ++ tick ∷ []) v next after
-  one_noted run =
+  pub one_noted : IsRunTo plan (t + 1) (ticks ++ tick ∷ []) v next → NothingWaits v → IsNotedTo plan (t + 1) (ticks ++ tick ∷ []) v next after
+  one_noted run waits =
       record {
         run = run;
         many = length_push ticks tick ∙ ap (λ (k : ℕ). k + 1) before.many;
@@ -88,4 +90,5 @@ module _ (laws : TimelineLaws) (plan : Plan) (t : ℕ) (ticks : List Tick) (w v 
         timeline = subst (λ (cs : List PortChange). IsTimelineOf plan (ticks ++ tick ∷ []) cs) (ap (λ (k : ℕ). noted k u changes) before.many ∙ sym is_noted)
             (laws.goes_on plan ticks tick changes u before.timeline u_reached u_tree);
         says = subst (λ (cs : List PortChange). SaysFrom (t + 1) cs v) (sym is_noted) (says_later (noted t u changes) (laws.from t u changes are));
+        waits = waits;
       }

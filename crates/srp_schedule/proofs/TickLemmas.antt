@@ -1,5 +1,5 @@
 -- One tick from its parts, and one tick more of a run.
-use Rattle.std.proofs.Common.{◌≡◌, ℕ, zero, suc, ◌+◌, ◌-◌, ◌<◌, ◌≤◌, ◌^◌, List, [], ◌∷◌, ◌++◌, length, map, drop, get_or, refl, sym, ap, subst, ◌∙◌, arith}
+use Rattle.std.proofs.Common.{◌≡◌, ℕ, zero, suc, ◌+◌, ◌-◌, ◌<◌, ◌≤◌, ◌^◌, false, List, [], ◌∷◌, ◌++◌, length, map, drop, get_or, refl, sym, ap, subst, ◌∙◌, arith}
 use Rattle.std.specs.List.{AllByRecursion, flat_map}
 use Rattle.std.proofs.Math.Seq.{drop-cons}
 use Rattle.srp_base.specs.declared.numbers.EgressPort.{EgressPort}
@@ -20,6 +20,7 @@ use Rattle.world_core.specs.World.{WorldState, Happened, CanHappen, world_step, 
 use Rattle.world_core.specs.Start.{world_of}
 use Rattle.world_core.specs.Ticks.{scripted, after_script, after_steps, step_events, link_ports, tick_events, LeadTo, IsCanonicalTick}
 use Rattle.world_core.specs.During.{IsDuring, IsAllowed}
+use Rattle.world_core.specs.Carrying.{NothingWaits, has_send}
 use Rattle.world_core.specs.History.{HasPortsOf, acts_noted}
 use Rattle.srp_schedule.specs.Cursor.{IsCursor}
 use Rattle.srp_schedule.specs.Script.{answered}
@@ -71,6 +72,14 @@ pub all_carried : (n : ℕ) (start w : WorldState) → length start.tree.links �
 all_carried n start w le c =
     let links : List Link = start.tree.links in
     ap (λ (ls : List Link). world_after (map Carry (flat_map (λ l. port_to links l.a.0 l.b.0 ∷ port_to links l.b.0 l.a.0 ∷ []) ls)) w) (sym (drop_all links n le)) ∙ c.after
+
+-- nothing is carried where the steps sent nothing
+pub nothing_carried : ((plan : Plan) (t : ℕ) (w : WorldState) (tick : Tick) → IsDuring plan.tree t w → NothingWaits w → has_send tick.steps ≡ false
+    → world_after (map Carry (link_ports plan.tree)) (after_steps plan t tick w) ≡ after_steps plan t tick w)
+    → (plan : Plan) (t : ℕ) (w : WorldState) → IsDuring plan.tree t w → NothingWaits w → (v : WorldState) (tick : Tick) → v ≡ after_steps plan t tick w → v.tree ≡ plan.tree → has_send tick.steps ≡ false
+    → world_after (map Carry (link_ports v.tree)) v ≡ v
+nothing_carried law plan t w during waits v tick is tree isnt =
+    ap (λ (r : Topology). world_after (map Carry (link_ports r)) v) tree ∙ (ap (λ (u : WorldState). world_after (map Carry (link_ports plan.tree)) u) is ∙ (law plan t w tick during waits isnt ∙ sym is))
 
 -- ---- one tick
 

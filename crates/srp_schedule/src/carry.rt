@@ -1,17 +1,50 @@
 //! The carrying at the end of one tick.
 
-ghost use Rattle.std.specs.Prelude.{◌≡◌, map, OnOk};
+ghost use Rattle.std.specs.Prelude.{◌≡◌, false, map, OnOk};
+ghost use Rattle.std.specs.List.{list_any};
 ghost use Rattle.tree_topology.specs.Topology.{HasLink};
-ghost use Rattle.world_core.specs.Ticks.{link_ports};
+ghost use Rattle.world_core.specs.Ticks.{link_ports, is_send};
 ghost use Rattle.world_core.specs.World.{world_after};
+ghost use Rattle.world_core.specs.Carrying.{has_send};
 ghost use Rattle.srp_schedule.specs.Made.{carried_ends};
 
+use node_core::PortStep;
 use srp_base::{LinkNo, NoMemory};
 use world_core::laws::what_is_allowed_may_happen;
-use world_core::{World, WorldEvent};
+use world_core::{NodeSteps, World, WorldEvent};
 
-/// Lets the PDUs of every port be carried to its peer, link by link, those of end `a` first.
-pub(crate) fn carry_all(world: &mut World) -> Result<(), NoMemory>
+/// Lets the PDUs of every port be carried, where a step of the tick was Send; else there are none.
+pub(crate) fn carry_sent(world: &mut World, steps: &[NodeSteps]) -> Result<(), NoMemory>
+    requires { has_send steps.now ≡ false
+        → world_after (map WorldEvent.Carry (link_ports world.old.tree)) world.old ≡ world.old }
+    ensures { OnOk result
+        (world.new ≡ world_after (map WorldEvent.Carry (link_ports world.old.tree)) world.old) }
+{
+    if has_send(steps) {
+        carry_all(world)?;
+    }
+    Ok(())
+}
+
+// Whether a step among these is Send.
+fn has_send(steps: &[NodeSteps]) -> bool
+    ensures { result ≡ has_send steps.now }
+{
+    steps.iter().any(sends)
+}
+
+// Whether a node's step among these is.
+fn sends(made: &NodeSteps) -> bool
+    ensures { result ≡ list_any (λ st. is_send st.step) made.now.steps }
+{
+    made.steps
+        .as_slice()
+        .iter()
+        .any(|st| matches!(st.step, PortStep::Send(_)))
+}
+
+// Lets the PDUs of every port be carried to its peer, link by link, those of end `a` first.
+fn carry_all(world: &mut World) -> Result<(), NoMemory>
     ensures { OnOk result
         (world.new ≡ world_after (map WorldEvent.Carry (link_ports world.old.tree)) world.old) }
 {

@@ -4,17 +4,18 @@ ghost use Rattle.std.specs.Prelude.{◌≡◌, ◌<◌, suc, IfOk, OnOk};
 ghost use Rattle.world_core.specs.Ticks.{AreCanonicalTicks, IsCanonicalTick, after_steps, tick_events};
 ghost use Rattle.world_core.specs.World.{world_after};
 ghost use Rattle.world_core.specs.During.{IsDuring};
+ghost use Rattle.world_core.specs.Carrying.{NothingWaits};
 ghost use Rattle.world_core.specs.Timeline.{AreChanges, IsTimelineOf};
 ghost use Rattle.world_core.specs.History.{acts_noted};
 ghost use Rattle.srp_schedule.specs.Cursor.{IsCursor};
 
-use crate::carry::carry_all;
+use crate::carry::carry_sent;
 use crate::script::make_events;
 use crate::steps::make_steps;
 use srp_base::{NoMemory, Seq};
 use std::alloc::Global;
 use topology_file::Scenario;
-use world_core::laws::{ticks_go_on, what_is_allowed_may_happen};
+use world_core::laws::{a_tick_carries_what_it_has_sent, ticks_go_on, what_is_allowed_may_happen};
 use world_core::timeline_laws::{
     a_timeline_goes_on, noting_who_has_acted_notes_a_tick,
     only_a_node_that_acts_changes_what_is_in_force, what_ends_a_tick_changes_nothing_in_force,
@@ -32,6 +33,7 @@ pub fn plain_run(alloc: Global, scenario: &Scenario) -> Result<Run, NoMemory>
         (λ run. IsTimelineOf scenario.now run.journal.ticks run.timeline.changes) }
 {
     what_is_allowed_may_happen();
+    a_tick_carries_what_it_has_sent();
     ticks_go_on();
     a_timeline_goes_on();
     what_ends_a_tick_changes_nothing_in_force();
@@ -71,6 +73,7 @@ fn make_tick(
     requires within { t < scenario.now.ticks }
     requires during { IsDuring scenario.now.tree t world.old }
     requires cursor { IsCursor scenario.now.events t cursor.old }
+    requires waits { NothingWaits world.old }
     requires tree { history.tree ≡ scenario.now.tree }
     requires changes { AreChanges scenario.now.tree t history.changes }
     ensures tick { IfOk result (λ made. IsCanonicalTick scenario.now t world.old made.0) }
@@ -78,16 +81,18 @@ fn make_tick(
         (λ made. world.new ≡ world_after (tick_events scenario.now t made.0) world.old) }
     ensures during { OnOk result (IsDuring scenario.now.tree (suc t) world.new) }
     ensures cursor { OnOk result (IsCursor scenario.now.events (suc t) cursor.new) }
+    ensures next { OnOk result (NothingWaits world.new) }
     ensures tree { IfOk result (λ made. made.1.tree ≡ scenario.now.tree) }
     ensures noted { IfOk result (λ made. made.1.changes
         ≡ acts_noted t made.0.steps (after_steps scenario.now t made.0 world.old) history.changes) }
 {
     what_is_allowed_may_happen();
+    a_tick_carries_what_it_has_sent();
     scenario.keeps_rules();
     let events = make_events(alloc, scenario, t, world, cursor)?;
     let steps = make_steps(alloc, world)?;
     let noted = history.note_steps(world, t, steps.as_slice())?;
-    carry_all(world)?;
+    carry_sent(world, steps.as_slice())?;
     world.step(WorldEvent::Clock)?;
     let tick = Tick {
         events: Seq::from_vec(events),

@@ -1,5 +1,5 @@
 -- Lemmas on the lines of the streams of a ledger file.
-use Rattle.std.proofs.Common.{◌≡◌, ◌≢◌, ◌↔◌, ℕ, ◌+◌, ◌<◌, ◌≤◌, Bool, true, false, ◌==◌, cond, List, [], ◌∷◌, ◌++◌, length, get_or, take, drop, reverse, Option, Some, None, option_map, IsSome, refl, sym, subst, ◌∙◌, ap, arith, nat_lt, inl, inr, Result, Ok, Err, append_assoc}
+use Rattle.std.proofs.Common.{◌≡◌, ◌≢◌, ◌↔◌, ℕ, ◌+◌, ◌<◌, ◌≤◌, Bool, true, false, ◌==◌, cond, List, [], ◌∷◌, ◌++◌, length, get_or, take, drop, reverse, Option, Some, None, option_map, IsSome, refl, sym, subst, ◌∙◌, ap, arith, nat_lt, inl, inr}
 use Rattle.std.specs.Prelude.{find}
 use Rattle.std.specs.Option.{option_map_or}
 use Rattle.std.proofs.lemmas.Bool.{eqb-true, eqb-false, eq-eqb, ne_eqb, cases_Bool}
@@ -15,8 +15,6 @@ use Rattle.port_ledger.specs.Book.{Book, fit_for, since_of, want_of}
 use Rattle.srpnet.specs.LedgerFile.{first_fall}
 use Rattle.srpnet.specs.LedgerRun.{Applies, Leads}
 use Rattle.srpnet.specs.LedgerText.{HasLines, last_want, line_by, want_line}
-use Rattle.toml_rules.specs.declared.rules.RuleErr.{RuleErr}
-use Rattle.toml_rules.specs.Rules.{with_front}
 use Rattle.srpnet.specs.declared.ledger.file.LedgerWant.{LedgerWant}
 
 -- ---- the lines of the streams

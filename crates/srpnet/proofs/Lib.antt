@@ -1,3 +1,4 @@
 pub mod LedgerLemmas
 pub mod Different
 pub mod Documents
+pub mod PrintLemmas

@@ -1,9 +1,10 @@
 -- What the top call does: how a source is read and a text written, and how a command ends.
-use Rattle.std.specs.Prelude.{◌≡◌, ℕ, ◌<◌, ◌≤◌, nat_le, true, false, not, ◌&&◌, if◌then◌else◌, List, [], length, take, Option}
+use Rattle.std.specs.Prelude.{◌≡◌, ℕ, ◌<◌, ◌≤◌, ◌+◌, nat_le, true, false, not, ◌&&◌, if◌then◌else◌, List, [], length, take, Option}
 use Rattle.std.specs.Io.KnownBytes.{Appends, Consumes, IsAtEnd}
 use Rattle.srpnet.specs.declared.words.Command.{Command}
 use Rattle.srpnet.specs.declared.outcome.Cause.{Cause}
-use Rattle.srpnet.specs.declared.outcome.Cause.TheVariants.{TooLong}
+use Rattle.srpnet.specs.declared.outcome.Cause.TheVariants.{Done, TooLong}
+use Rattle.srpnet.specs.Outcomes.{EndsWriting}
 use Rattle.srpnet.specs.Commands.{reads_input, Output, RunsNothing, ending_of}
 use Rattle.world_core.specs.declared.journal.Tick.{Tick}
 
@@ -56,6 +57,17 @@ pub record PartOf (held now : Option (List ℕ)) (text : List ℕ) : Type 0 wher
   pub written : ℕ
   pub appended : Appends held now (take written text)
   pub short : written < length text
+
+-- writing stopped in a piece of a text, behind so many octets of it: of the piece a front went out, up to this octet of the text
+pub record StoppedIn (held now : Option (List ℕ)) (piece : List ℕ) (before written : ℕ) : Type 0 where
+  pub front : ℕ
+  pub sum : written ≡ before + front
+  pub short : front < length piece
+  pub appended : Appends held now (take front piece)
+
+-- the causes for which it stops
+abbrev pub StopsWriting : Cause → Type 0
+StopsWriting cause = EndsWriting cause × (cause ≡ Done → ⊥)
 
 -- memory ran out while a command's output went out
 pub record WroteUntilNoMemory (command : Command) (before after held now : Option (List ℕ)) (ticks : List Tick)

@@ -9,13 +9,14 @@ use crate::pages::{HELP, VERSION};
 use crate::words::Command;
 use crate::{check, ledger, pages, run};
 use srp_base::Seq;
+use srp_report::Printout;
 use std::alloc::Global;
 use world_core::Journal;
 
-/// What a command makes: the text that it prints, and the journal of the run that it made, empty where it made none.
+/// What a command makes: the text that it prints, made piece by piece, and the journal of the run that it made, empty where it made none.
 #[derive(Drop)]
 pub struct CommandOutput {
-    pub text: Seq<u8>,
+    pub text: Printout,
     pub journal: Journal,
 }
 
@@ -25,7 +26,7 @@ fn text_alone(alloc: Global, text: Seq<u8>) -> CommandOutput
     ensures journal { result.journal.ticks ≡ [] }
 {
     CommandOutput {
-        text,
+        text: Printout::of(text.into_vec()),
         journal: no_journal(alloc),
     }
 }

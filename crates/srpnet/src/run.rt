@@ -23,8 +23,8 @@ use network_laws::laws::{
 };
 use scenario_frames::flow_of;
 use scenario_frames::laws::every_window_stays_within;
-use srp_base::{NoMemory, Seq};
-use srp_report::{journal_text, report as report_text};
+use srp_base::NoMemory;
+use srp_report::{Printout, journal_text};
 use srp_schedule::plain_run;
 use std::alloc::Global;
 use topology_file::Scenario;
@@ -91,16 +91,14 @@ fn what_holds_of_every_run()
     streams_keep_their_laws_whenever_at_rest();
 }
 
-impl Ran {
-    // The output of a command that prints this text of it.
-    fn into_output(self, text: Vec<u8>) -> CommandOutput
-        ensures text { result.text ≡ text.items }
-        ensures journal { result.journal.ticks ≡ self.run.journal.ticks }
-    {
-        CommandOutput {
-            text: Seq::from_vec(text),
-            journal: self.run.journal,
-        }
+// The output of a run that prints this text.
+fn output_of(run: Run, text: Printout) -> CommandOutput
+    ensures text { result.text ≡ text }
+    ensures journal { result.journal.ticks ≡ run.journal.ticks }
+{
+    CommandOutput {
+        text,
+        journal: run.journal,
     }
 }
 
@@ -111,8 +109,9 @@ fn reported(alloc: Global, scenario: &Scenario) -> Result<CommandOutput, Cause>
     ensures memory { IfErr result (λ c. c ≡ Cause.NoMemory) }
 {
     let ran = run_of(alloc, scenario)?;
-    let text = report_text(alloc, scenario, &ran.run, &ran.flow)?;
-    Ok(ran.into_output(text))
+    let flow = ran.flow;
+    let text = Printout::of_run(alloc, scenario, &ran.run, flow)?;
+    Ok(output_of(ran.run, text))
 }
 
 // The report, and behind it the journal's text.
@@ -122,18 +121,23 @@ fn reported_with_journal(alloc: Global, scenario: &Scenario) -> Result<CommandOu
     ensures memory { IfErr result (λ c. c ≡ Cause.NoMemory) }
 {
     let ran = run_of(alloc, scenario)?;
-    let text = text_with_journal(alloc, scenario, &ran)?;
-    Ok(ran.into_output(text))
+    let flow = ran.flow;
+    let text = text_with_journal(alloc, scenario, &ran.run, flow)?;
+    Ok(output_of(ran.run, text))
 }
 
 // The text of a run with its journal's behind it.
-fn text_with_journal(alloc: Global, scenario: &Scenario, ran: &Ran) -> Result<Vec<u8>, NoMemory>
-    ensures { IfOk result (λ text. text.items
-        ≡ report_and_journal scenario.now ran.now.run.journal.ticks ran.now.run.world
-        ran.now.flow.ports) }
+fn text_with_journal(
+    alloc: Global,
+    scenario: &Scenario,
+    run: &Run,
+    flow: FlowResult,
+) -> Result<Printout, NoMemory>
+    ensures { IfOk result (λ text. text
+        ≡ report_and_journal scenario.now run.now.journal.ticks run.now.world flow.ports) }
 {
-    let mut text = report_text(alloc, scenario, &ran.run, &ran.flow)?;
-    let journal = journal_text(alloc, scenario, &ran.run.journal)?;
-    text.extend_from_slice(journal.as_slice())?;
+    let journal = journal_text(alloc, scenario, &run.journal)?;
+    let mut text = Printout::of_run(alloc, scenario, run, flow)?;
+    text.add(journal.as_slice())?;
     Ok(text)
 }

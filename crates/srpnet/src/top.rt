@@ -1,12 +1,12 @@
 //! The top call: from the program's words and streams to its outcome.
 
-ghost use Rattle.std.specs.Prelude.{◌≡◌, ℕ, ◌<◌, List, [], length, take, Some, Err, IfOk, IfErr};
+ghost use Rattle.std.specs.Prelude.{◌≡◌, ℕ, ◌<◌, ◌+◌, List, [], length, take, Some, Err, IfOk, IfErr, OnOk};
 ghost use Rattle.std.specs.Io.KnownBytes.{Appends};
 ghost use Rattle.srp_io.specs.Faults.{Rose};
 ghost use Rattle.srp_io.specs.Whole.{TookAtMost, TookPast};
 ghost use Rattle.srpnet.specs.Outcomes.{status_of as status_of_spec, err_text, EndsAs, EndsWriting, IsRefusal, IsWriteFault, LacksOutput};
 ghost use Rattle.srpnet.specs.Ending.{CarriedOut, IsEnding};
-ghost use Rattle.srpnet.specs.TopCall.{expected, IsOutput, Refuses, ReadsNothing, PartOf, GainsFront};
+ghost use Rattle.srpnet.specs.TopCall.{expected, IsOutput, Refuses, ReadsNothing, PartOf, StoppedIn, StopsWriting, GainsFront};
 ghost use Rattle.srpnet.specs.Words.{command_of as command_of_spec};
 
 use crate::commands::{CommandOutput, output, reads_input};
@@ -14,6 +14,7 @@ use crate::outcome::{Cause, Ended, Outcome, status_of, tell};
 use crate::words::{Command, command_of};
 use srp_base::Seq;
 use srp_io::{Sink, Source, WriteErr, read_all, write_whole};
+use srp_report::Printout;
 use std::alloc::Global;
 
 /// The most octets of an input.
@@ -52,22 +53,58 @@ fn read_output<I: Source>(
     output(alloc, command, octets.as_slice())
 }
 
-/// Writes a text to the out sink.
-fn print<O: Sink>(out: &mut O, text: &[u8]) -> Cause
-    ensures done { result ≡ Cause.Done → Appends (O.held out.old) (O.held out.new) text.now }
+/// Writes a text to the out sink, piece by piece.
+fn print<O: Sink>(out: &mut O, text: Printout) -> Cause
+    ensures done { result ≡ Cause.Done → Appends (O.held out.old) (O.held out.new) text }
     ensures part { (written : ℕ) → result ≡ Cause.WriteFault written
-        → Appends (O.held out.old) (O.held out.new) (take written text.now) }
-    ensures short { (written : ℕ) → result ≡ Cause.WriteFault written → written < length text.now }
+        → Appends (O.held out.old) (O.held out.new) (take written text) }
+    ensures short { (written : ℕ) → result ≡ Cause.WriteFault written → written < length text }
     ensures fault { (written : ℕ) → result ≡ Cause.WriteFault written
         → Rose (O.faults out.old) (O.faults out.new) }
     ensures counts { (IsWriteFault result → ⊥) → O.faults out.new ≡ O.faults out.old }
-    ensures memory { result ≡ Cause.NoMemory → PartOf (O.held out.old) (O.held out.new) text.now }
+    ensures memory { result ≡ Cause.NoMemory → PartOf (O.held out.old) (O.held out.new) text }
     ensures only { EndsWriting result }
 {
-    match write_whole(out, text) {
-        Ok(()) => Cause::Done,
-        Err(WriteErr::Fault { written }) => Cause::WriteFault { written },
-        Err(WriteErr::NoMemory { .. }) => Cause::NoMemory,
+    let mut rest = text;
+    let mut written = 0;
+    loop {
+        match rest.next_piece() {
+            Ok(Some(piece)) => match print_piece(out, written, piece.as_slice()) {
+                Ok(now) => written = now,
+                Err(cause) => return cause,
+            },
+            Ok(None) => return Cause::Done,
+            Err(_) => return Cause::NoMemory,
+        }
+    }
+}
+
+/// Writes a piece of a text, which isn't empty, behind so many octets of it, and answers how many have gone out then. A text
+/// of 2^64 octets or more, which no memory holds, ends as one for which there is none.
+fn print_piece<O: Sink>(out: &mut O, written: u64, piece: &[u8]) -> Result<u64, Cause>
+    requires { 0 < length piece.now }
+    ensures whole { OnOk result (Appends (O.held out.old) (O.held out.new) piece.now) }
+    ensures count { IfOk result (λ now. now ≡ written + length piece.now) }
+    ensures part { (now : ℕ) → result ≡ Err (Cause.WriteFault now)
+        → StoppedIn (O.held out.old) (O.held out.new) piece.now written now }
+    ensures fault { (now : ℕ) → result ≡ Err (Cause.WriteFault now)
+        → Rose (O.faults out.old) (O.faults out.new) }
+    ensures counts { OnOk result (O.faults out.new ≡ O.faults out.old) }
+    ensures no_count { IfErr result (λ cause. (IsWriteFault cause → ⊥)
+        → O.faults out.new ≡ O.faults out.old) }
+    ensures memory { result ≡ Err Cause.NoMemory
+        → PartOf (O.held out.old) (O.held out.new) piece.now }
+    ensures only { IfErr result StopsWriting }
+{
+    let Some(all) = written.checked_add(piece.len() as u64) else {
+        return Err(Cause::NoMemory);
+    };
+    match write_whole(out, piece) {
+        Ok(()) => Ok(all),
+        Err(WriteErr::Fault { written: front }) => Err(Cause::WriteFault {
+            written: written + front,
+        }),
+        Err(WriteErr::NoMemory { .. }) => Err(Cause::NoMemory),
     }
 }
 
@@ -84,7 +121,7 @@ fn carry_out<I: Source, O: Sink>(
 {
     match read_output(alloc, command, source) {
         Ok(made) => Ended {
-            cause: print(out, made.text.as_slice()),
+            cause: print(out, made.text),
             journal: made.journal,
         },
         Err(cause) => Ended::without_run(alloc, cause),

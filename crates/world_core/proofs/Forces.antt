@@ -1,6 +1,6 @@
 -- What is in force at a port is changed neither by the carrying of PDUs nor by the clock, and nothing is at the start.
-use Rattle.std.proofs.Common.{◌≡◌, ℕ, zero, suc, ◌+◌, ◌*◌, ◌-◌, ◌<◌, ◌≢◌, List, [], ◌∷◌, ◌++◌, length, map, Option, Some, None, refl, sym, ap, ◌∙◌}
-use Rattle.std.specs.Prelude.{Bool, ◌==◌, slice_get, slice_set, IfSome}
+use Rattle.std.proofs.Common.{◌≡◌, ℕ, zero, suc, ◌+◌, ◌-◌, ◌<◌, ◌≢◌, List, [], ◌∷◌, ◌++◌, length, map, Option, Some, None, refl, sym, ap, ◌∙◌}
+use Rattle.std.specs.Prelude.{Bool, slice_get, slice_set, IfSome}
 use Rattle.std.proofs.lemmas.Option.{none-some}
 use Rattle.std.specs.Option.{option_map_or}
 use Rattle.srp_base.specs.declared.numbers.EgressPort.{EgressPort}
@@ -9,7 +9,6 @@ use Rattle.srp_base.specs.declared.numbers.StreamId.{StreamId}
 use Rattle.srp_base.specs.declared.numbers.BridgeId.{BridgeId}
 use Rattle.srp_base.specs.declared.numbers.Cs.{Cs}
 use Rattle.srp_base.specs.declared.ports.PortSetup.{PortSetup}
-use Rattle.srp_base.specs.declared.bandwidth.Class.{Class}
 use Rattle.srp_base.specs.declared.bandwidth.Class.TheVariants.{A, B}
 use Rattle.stream_importance.specs.declared.entry.Entry.{Entry}
 use Rattle.port_ledger.specs.Decision.{booked_of}
@@ -28,9 +27,8 @@ use Rattle.node_core.specs.State.{NodeState, new_node}
 use Rattle.node_core.specs.Step.{clocked_node, node_step}
 use Rattle.node_core.specs.declared.types.NodeEvent.TheVariants as node_events
 use Rattle.node_core.specs.Links.{with_outbox, with_carried}
-use Rattle.world_core.specs.declared.events.WorldEvent.{WorldEvent}
 use Rattle.world_core.specs.declared.events.WorldEvent.TheVariants.{Carry, Clock}
-use Rattle.world_core.specs.World.{WorldState, node_at, with_node, with_changed, outbox, carried, ticked, world_step, world_after}
+use Rattle.world_core.specs.World.{WorldState, node_at, with_node, with_changed, outbox, carried, ticked, world_after}
 use Rattle.world_core.specs.Start.{world_of, nodes_from, setups_from}
 use Rattle.world_core.specs.Ticks.{link_ports, closing_events}
 use Rattle.world_core.specs.Force.{Force, no_force, booked_streams, registered_vids, force_of}
@@ -40,13 +38,13 @@ use Rattle.world_core.proofs.Lists.{within}
 -- ---- what is read at a place of a list
 
 -- of a list whose elements have become others that read the same
-read_map : {X Y : Type 0} (f : X → Y) (none : Y) (g : X → X) → ((x : X) → f (g x) ≡ f x) → (xs : List X) (i : ℕ) → option_map_or f (slice_get (map g xs) i) none ≡ option_map_or f (slice_get xs i) none
+pub read_map : {X Y : Type 0} (f : X → Y) (none : Y) (g : X → X) → ((x : X) → f (g x) ≡ f x) → (xs : List X) (i : ℕ) → option_map_or f (slice_get (map g xs) i) none ≡ option_map_or f (slice_get xs i) none
 read_map f none g same [] i = refl
 read_map f none g same (x ∷ xs) zero = same x
 read_map f none g same (x ∷ xs) (suc i) = read_map f none g same xs i
 
 -- of elements that all read as nothing
-read_made : {S X Y : Type 0} (f : X → Y) (none : Y) (g : S → X) → ((s : S) → f (g s) ≡ none) → (ss : List S) (i : ℕ) → option_map_or f (slice_get (map g ss) i) none ≡ none
+pub read_made : {S X Y : Type 0} (f : X → Y) (none : Y) (g : S → X) → ((s : S) → f (g s) ≡ none) → (ss : List S) (i : ℕ) → option_map_or f (slice_get (map g ss) i) none ≡ none
 read_made f none g nothing [] i = refl
 read_made f none g nothing (s ∷ ss) zero = nothing s
 read_made f none g nothing (s ∷ ss) (suc i) = read_made f none g nothing ss i

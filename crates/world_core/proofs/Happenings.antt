@@ -150,6 +150,19 @@ none_carried q nodes = by (slice_get nodes (q.node.0 - 1)) refl
         ap (λ boxes. slice_set nodes (q.node.0 - 1) (record s { inboxes = boxes })) (ap (slice_set s.inboxes k) (append-nil (box_at k s.inboxes)) ∙ set_same s.inboxes k)
         ∙ set_back nodes (q.node.0 - 1) s is
 
+-- an empty outbox is taken and leaves all as it is
+none_taken : (p : EgressPort) (nodes : List NodeState) → option_map_or (λ s. box_at (place_of p.port) s.outboxes) (slice_get nodes (p.node.0 - 1)) [] ≡ []
+    → changed p.node (with_outbox (place_of p.port) []) nodes ≡ nodes
+none_taken p nodes none = by (slice_get nodes (p.node.0 - 1)) refl none
+  where
+    by : (o : Option NodeState) → slice_get nodes (p.node.0 - 1) ≡ o → option_map_or (λ s. box_at (place_of p.port) s.outboxes) o [] ≡ []
+        → option_map_or (λ s. slice_set nodes (p.node.0 - 1) (with_outbox (place_of p.port) [] s)) o nodes ≡ nodes
+    by None is empty = refl
+    by (Some s) is empty =
+        let k = place_of p.port in
+        ap (λ boxes. slice_set nodes (p.node.0 - 1) (record s { outboxes = boxes })) (ap (slice_set s.outboxes k) (sym empty) ∙ set_same s.outboxes k)
+        ∙ set_back nodes (p.node.0 - 1) s is
+
 -- where a port's outbox is empty, nothing else happens than that it is taken
 pub carry_nothing : (p : EgressPort) (tree : Topology) (nodes a : List NodeState) (wires : List Wire) → wires ≡ outbox p (record { tree = tree; nodes = nodes })
     → wires ≡ [] → a ≡ changed p.node (with_outbox (place_of p.port) []) nodes → carried p (record { tree = tree; nodes = nodes }) ≡ record { tree = tree; nodes = a }
@@ -157,6 +170,10 @@ carry_nothing p tree nodes a wires ew none ea =
     let q = peer_of tree.links p in
     carry_is p q tree nodes a a wires refl ew ea
     (sym (ap (λ ws. changed q.node (with_carried (place_of q.port) ws) a) none ∙ none_carried q a))
+
+-- so nothing happens at all
+pub carried_none : (p : EgressPort) (w : WorldState) → outbox p w ≡ [] → carried p w ≡ w
+carried_none p w none = carry_nothing p w.tree w.nodes w.nodes [] (sym none) refl (sym (none_taken p w.nodes none))
 
 -- an outbox that was taken out is put back
 pub put_back_is : (p : EgressPort) (nodes a b : List NodeState) (wires : List Wire)

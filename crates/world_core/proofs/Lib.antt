@@ -18,6 +18,7 @@ mod Starting
 mod Runs
 mod EventLists
 mod Happenings
+mod Carrying
 mod Standing
 mod Limits
 mod Talks

@@ -5,6 +5,7 @@ pub mod Kept
 pub mod Ticks
 pub mod Moments
 pub mod During
+pub mod Carrying
 pub mod Limits
 pub mod Talks
 pub mod Force

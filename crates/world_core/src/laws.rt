@@ -1,7 +1,7 @@
 //! What every network keeps, whatever happens in it: laws over the states that contracts see. Each is a function that does
 //! nothing; calling it brings the law to a proof.
 
-ghost use Rattle.std.specs.Prelude.{◌≡◌, ◌≢◌, ◌<◌, ◌-◌, ◌^◌, ◌++◌, ◌∷◌, [], ℕ, suc, List, map, Some, IfSome};
+ghost use Rattle.std.specs.Prelude.{◌≡◌, ◌≢◌, ◌<◌, ◌-◌, ◌^◌, ◌++◌, ◌∷◌, [], ℕ, suc, List, map, Some, IfSome, false};
 ghost use Rattle.srp_base.specs.declared.numbers.NodeNo.{NodeNo};
 ghost use Rattle.srp_base.specs.declared.numbers.PortNo.{PortNo};
 ghost use Rattle.node_core.specs.declared.types.PortStep.{PortStep};
@@ -21,8 +21,9 @@ ghost use Rattle.world_core.specs.declared.journal.Tick.{Tick};
 ghost use Rattle.world_core.specs.World.{WorldState, CanHappen, CanAllHappen, IsEventInRange, node_at, world_step, world_after};
 ghost use Rattle.world_core.specs.Start.{world_of};
 ghost use Rattle.world_core.specs.Kept.{IsKeptWorld};
-ghost use Rattle.world_core.specs.Ticks.{event_of, scripted, link_ports, LeadTo, AreLegalTicks, AreCanonicalTicks, IsLegalTick, IsCanonicalTick, tick_events};
+ghost use Rattle.world_core.specs.Ticks.{event_of, scripted, link_ports, after_steps, LeadTo, AreLegalTicks, AreCanonicalTicks, IsLegalTick, IsCanonicalTick, tick_events};
 ghost use Rattle.world_core.specs.During.{IsDuring, IsAllowed, NamesNeighbours};
+ghost use Rattle.world_core.specs.Carrying.{NothingWaits, has_send};
 ghost use Rattle.world_core.specs.Moments.{IsMoment, events_from};
 ghost use Rattle.world_core.specs.Limits.{IsWithinLimits};
 ghost use Rattle.world_core.specs.Talks.{AreTalksOfPlan, HasOneTalker};
@@ -202,3 +203,17 @@ pub fn a_step_is_of_its_node_alone()
         → n.0 - 1 ≢ m.0 - 1
         → node_at m (world_step (port_event n port step) w).0 ≡ node_at m w }
 {}
+
+/// Only a Send puts a PDU in an outbox, and the carrying at the end of a tick empties each. So nothing waits to be carried when a
+/// tick begins, and where no step of it was Send, the carrying at its end changes nothing.
+pub fn a_tick_carries_what_it_has_sent()
+    ensures begins { (plan : Plan) → NothingWaits (world_of plan) }
+    ensures nothing { (plan : Plan) (t : ℕ) (w : WorldState) (tick : Tick)
+        → IsDuring plan.tree t w → NothingWaits w → has_send tick.steps ≡ false
+        → world_after (map WorldEvent.Carry (link_ports plan.tree)) (after_steps plan t tick w)
+        ≡ after_steps plan t tick w }
+    ensures next { (plan : Plan) (t : ℕ) (w : WorldState) (tick : Tick)
+        → IsDuring plan.tree t w → NothingWaits (world_after (tick_events plan t tick) w) }
+{
+    ports();
+}

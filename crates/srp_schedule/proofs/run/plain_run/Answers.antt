@@ -14,7 +14,7 @@ loop-t-init c =
       subst (λ (ts : List Tick). IsNotedTo plan 0 ts c.in_ok-world.world 0 c.in_ok-history.history.changes) (sym {A = List Tick} c.new-ticks.ensures.items)
           (subst (λ (w : WorldState). IsNotedTo plan 0 [] w 0 c.in_ok-history.history.changes) (sym c.in_ok-world.ensures)
           (subst (λ (cs : List PortChange). IsNotedTo plan 0 [] (world_of plan) 0 cs) (sym {A = List PortChange} c.in_ok-history.ensures.none)
-          (none_noted plan (c.what_is_allowed_may_happen.ensures.begins plan c.keeps_rules.ensures) (c.a_timeline_goes_on.ensures.begins plan)
+          (none_noted plan (c.what_is_allowed_may_happen.ensures.begins plan c.keeps_rules.ensures) (c.a_tick_carries_what_it_has_sent.ensures.begins plan) (c.a_timeline_goes_on.ensures.begins plan)
           (c.what_ends_a_tick_changes_nothing_in_force.ensures.start plan)))),
       c.in_ok-history.ensures.tree ∙ ap (λ (w : WorldState). w.tree) c.in_ok-world.ensures,
     )
@@ -22,6 +22,9 @@ loop-t-init c =
 pub make_tick-requires-clause-changes : goal.make_tick-requires-clause-changes
 make_tick-requires-clause-changes c =
     changes_are c.args.scenario.now c.loop-t.t c.loop-t.ticks.items c.loop-t.world c.loop-t.cursor c.loop-t.history.changes c.loop-t.invariant.0
+
+pub make_tick-requires-clause-waits : goal.make_tick-requires-clause-waits
+make_tick-requires-clause-waits c = c.loop-t.invariant.0.waits
 
 pub loop-t-preserved : goal.loop-t-preserved
 loop-t-preserved c =
@@ -41,6 +44,6 @@ loop-t-preserved c =
           c.loop-t.history.changes c.in_ok-tick.noted.changes c.loop-t.invariant.0 made.tick.legal made.after made.noted
           (one_tick plan c.loop-t.t c.loop-t.ticks.items c.loop-t.world c.make_tick.new.world c.loop-t.cursor c.make_tick.new.cursor tick
           (c.ticks_go_on.ensures.canonical plan 0 c.loop-t.t (world_of plan) c.loop-t.world c.loop-t.ticks.items tick)
-          made.tick made.after made.during made.cursor c.loop-t.invariant.0.run)),
+          made.tick made.after made.during made.cursor c.loop-t.invariant.0.run) made.next),
       made.tree,
     )

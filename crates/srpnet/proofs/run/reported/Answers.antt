@@ -1,17 +1,16 @@
-use Rattle.std.proofs.Common.{◌≡◌, sym, subst, ◌∙◌}
+use Rattle.std.proofs.Common.{sym, subst, ◌∙◌}
 use Rattle.srpnet.specs.RunText.{IsReported, report_alone}
 use Rattle.srpnet.proofs.run.reported.Goals as goal
 
 pub returns-clause-output : goal.returns-clause-output
 returns-clause-output c =
-    let ran = c.in_ok-ran.ran in
-    let made = c.into_output.result in
-    subst (λ ticks. IsReported report_alone c.args.scenario.now ticks made.text) (sym c.into_output.ensures.journal)
+    let made = c.output_of.result in
+    subst (λ ticks. IsReported report_alone c.args.scenario.now ticks made.text) (sym c.output_of.ensures.journal)
     (record {
-      world = ran.run.world;
-      changes = ran.run.timeline.changes;
-      flows = ran.flow.ports;
+      world = c.in_ok-ran.ran.run.world;
+      changes = c.in_ok-ran.ran.run.timeline.changes;
+      flows = c.in_ok-ran.ran.flow.ports;
       run = c.in_ok-ran.ensures.run;
-      printed = c.into_output.ensures.text ∙ c.in_ok-text.ensures;
+      printed = c.output_of.ensures.text ∙ c.in_ok-text.ensures;
       holds = c.in_ok-ran.ensures.holds;
     })

@@ -4,7 +4,7 @@ use Rattle.srpnet.proofs.run.text_with_journal.Goals as goal
 
 pub returns : goal.returns
 returns c =
-    let journal = journal_text c.args.scenario.now c.args.ran.now.run.journal.ticks in
-    c.in_ok-extend_from_slice.ensures.items
-    ∙ ap (λ (ys : List ℕ). c.in_ok-text.text.items ++ ys) (c.as_slice.ensures.value ∙ c.in_ok-journal.ensures)
+    let journal = journal_text c.args.scenario.now c.args.run.now.journal.ticks in
+    c.in_ok-add.ensures.ok
+    ∙ ap (λ (ys : List ℕ). c.in_ok-text.text ++ ys) (c.as_slice.ensures.value ∙ c.in_ok-journal.ensures)
     ∙ ap (λ (xs : List ℕ). xs ++ journal) c.in_ok-text.ensures

@@ -1,0 +1,16 @@
+-- What waits to be carried at the end of a tick.
+use Rattle.std.specs.Prelude.{◌≡◌, Bool, List, []}
+use Rattle.std.specs.List.{list_any}
+use Rattle.srp_base.specs.declared.numbers.EgressPort.{EgressPort}
+use Rattle.tree_topology.specs.Topology.{HasPort}
+use Rattle.world_core.specs.declared.journal.NodeSteps.{NodeSteps}
+use Rattle.world_core.specs.World.{WorldState, outbox}
+use Rattle.world_core.specs.Ticks.{is_send}
+
+-- no PDU waits in the outbox of any port
+abbrev pub NothingWaits : WorldState → Type 0
+NothingWaits w = (p : EgressPort) → HasPort w.tree p → outbox p w ≡ []
+
+-- whether a step among these is Send
+abbrev pub has_send : List NodeSteps → Bool
+has_send steps = list_any (λ ns. list_any (λ st. is_send st.step) ns.steps) steps
