@@ -8,7 +8,7 @@ use node_core::PortStep::{Due, Send, Settle, Work};
 use node_core::StepReply::{Discarded, Fired, Received, Sent, Settled, Silent};
 use node_core::{NodeStep, PortStep, StepReply};
 use srp_base::{App, EgressPort, NoMemory, NodeNo, PortNo, Rate, Seq, Timeline};
-use srp_report::{journal_text, report};
+use srp_report::{Printout, journal_text, report};
 use std::alloc::Global;
 use std::test::Fail;
 use topology_file::{Scenario, read_scenario};
@@ -194,6 +194,33 @@ fn reports(alloc: Global, scenario: &Scenario, text: &str) -> Result<bool, NoMem
     Ok(said.as_slice() == text.as_bytes())
 }
 
+// All pieces of a printout of a few, one after the other.
+fn all_of(alloc: Global, printout: &mut Printout) -> Result<Vec<u8>, NoMemory> {
+    let mut all = Vec::new(alloc);
+    for _ in 0..9 {
+        if let Some(piece) = printout.next_piece()? {
+            all.extend_from_slice(piece.as_slice())?;
+        }
+    }
+    Ok(all)
+}
+
+// That report, to be handed out piece by piece, with more behind it.
+fn printout(alloc: Global, scenario: &Scenario, more: &str) -> Result<Printout, NoMemory> {
+    let run = run(alloc, scenario)?;
+    let flow = flow(alloc)?;
+    let mut printout = Printout::of_run(alloc, scenario, &run, flow)?;
+    printout.add(more.as_bytes())?;
+    Ok(printout)
+}
+
+// Whether its pieces are these two texts.
+fn hands_out(alloc: Global, scenario: &Scenario, text: &str, more: &str) -> Result<bool, NoMemory> {
+    let mut printout = printout(alloc, scenario, more)?;
+    let said = all_of(alloc, &mut printout)?;
+    Ok(said.as_slice().strip_prefix(text.as_bytes()) == Some(more.as_bytes()))
+}
+
 // Whether the text of that journal is this one.
 fn tells(alloc: Global, scenario: &Scenario, text: &str) -> Result<bool, NoMemory> {
     let journal = journal(alloc)?;
@@ -205,6 +232,13 @@ fn tells(alloc: Global, scenario: &Scenario, text: &str) -> Result<bool, NoMemor
 fn each_port_has_its_counts_and_departures(rt: HostRuntime) -> Result<(), Fail> {
     let scenario = scene(rt.alloc())?;
     assert!(rt; reports(rt.alloc(), &scenario, REPORT)?);
+    Ok(())
+}
+
+#[test]
+fn a_report_is_handed_out_with_what_is_added(rt: HostRuntime) -> Result<(), Fail> {
+    let scenario = scene(rt.alloc())?;
+    assert!(rt; hands_out(rt.alloc(), &scenario, REPORT, "\njournal\n")?);
     Ok(())
 }
 

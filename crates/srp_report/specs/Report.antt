@@ -75,11 +75,14 @@ nodes_heard plan n (s ∷ nodes) = node_heard plan (record { 0 = n }) s ++ nodes
 
 -- ---- the report
 
+-- what it has before the lines of the frames, and behind them
+abbrev pub before_frames : Plan → WorldState → List Tick → List ℕ
+before_frames plan w ticks = joined (ticks_line plan.ticks ∷ port_parts plan w ticks ∷ nodes_heard plan 1 w.nodes ∷ [])
+
+abbrev pub behind_frames : WorldState → List ℕ
+behind_frames w = end_lines (is_quiet w) (is_in_step w)
+
 -- of a scenario, the network at the end of its run, the ticks of the run, and the flow of its frames
 abbrev pub report_text : Plan → WorldState → List Tick → List PortFlow → List ℕ
-report_text plan w ticks flows = joined (
-    ticks_line plan.ticks
-    ∷ port_parts plan w ticks
-    ∷ nodes_heard plan 1 w.nodes
-    ∷ flow_parts plan w.tree.links flows
-    ∷ end_lines (is_quiet w) (is_in_step w) ∷ [])
+report_text plan w ticks flows =
+    joined (before_frames plan w ticks ∷ flow_parts plan w.tree.links flows ∷ behind_frames w ∷ [])

@@ -37,9 +37,10 @@
 //!
 //! A further kind of attribute is a line in `specs/Lines.antt` with its case of `key_line` or `srp_line`, and its writer
 //! in `lines.rt` with its arm of `put_key` or `put_srp`. A further line of a port is a definition there and a piece at the
-//! end of `place_lines`, with its writer in `registered.rt`; one of the network is a piece between the ports and the end
-//! in `report_text`, and in `before_frames` or `behind_frames` of `specs/Printout.antt`. A further count is a field of `Tally`, a line of `tally_of` and one of `Tally::counted`. A further
-//! step or answer is a case of `step_name` or `reply_name` with its arm in `journal.rt`.
+//! end of `place_lines`, with its writer in `registered.rt`; one of the network is a piece of
+//! `before_frames` or `behind_frames`, which `report_text` is made of, with its writer in `text.rt`. A further count is a field of
+//! `Tally`, a line of `tally_of` and one of `Tally::counted`. A further step or answer is a case of `step_name` or `reply_name`
+//! with its arm in `journal.rt`.
 #![tactic(auto)]
 
 mod departures;

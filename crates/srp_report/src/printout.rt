@@ -8,7 +8,7 @@ ghost use Rattle.srp_report.specs.Report.{report_text};
 
 use crate::flows::put_fates;
 use crate::names::port_name;
-use crate::text::{text_before, text_behind};
+use crate::text::{put_behind, text_before};
 use frame_flow::{FlowResult, PortFlow};
 use srp_base::NoMemory;
 use std::alloc::Global;
@@ -19,7 +19,7 @@ use topology_file::Scenario;
 use tree_topology::Tree;
 use world_core::Run;
 
-// The lines of the frames at a port, which aren't made so far. Contracts see their octets.
+// The lines of the frames at a port, which aren't made yet. Contracts see their octets.
 #[derive(Drop)]
 struct PortLines {
     port: Vec<u8>,
@@ -76,7 +76,8 @@ impl Printout {
             ≡ report_text scenario.now run.now.world run.now.journal.ticks flow.ports) }
     {
         let before = text_before(alloc, scenario, run)?;
-        let behind = text_behind(alloc, run)?;
+        let mut behind = Vec::new(alloc);
+        put_behind(&mut behind, run)?;
         let ports = lines_of(alloc, scenario, run.world.tree(), flow)?;
         Ok(Printout {
             before,
@@ -94,20 +95,24 @@ impl Printout {
         Ok(())
     }
 
-    /// Hands out the next piece of the text, or None at its end. Where memory runs out, some of the text is left.
+    /// Hands out the next piece of the text, or None at its end. After want of memory the text is as it was, and isn't at its
+    /// end.
     pub fn next_piece(&mut self) -> Result<Option<Vec<u8>>, NoMemory>
         ensures piece { IfOk result
             (λ o. IfSome o (λ piece. IsFront piece.items self.old self.new)) }
         ensures end { IfOk result (λ o. o ≡ None → self.old ≡ []) }
+        ensures err { OnErr result (self.new ≡ self.old) }
         ensures left { OnErr result (0 < length self.old) }
     {
         if let Some(piece) = take_piece(&mut self.before) {
             return Ok(Some(piece));
         }
-        match self.ports.pop_front() {
-            Some(lines) => Ok(Some(lines.made()?)),
-            None => Ok(take_piece(&mut self.behind)),
-        }
+        let Some(lines) = self.ports.front() else {
+            return Ok(take_piece(&mut self.behind));
+        };
+        let piece = lines.made()?;
+        let _ = self.ports.pop_front();
+        Ok(Some(piece))
     }
 }
 

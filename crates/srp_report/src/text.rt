@@ -1,8 +1,7 @@
 //! The report of a run.
 
-ghost use Rattle.std.specs.Prelude.{◌≡◌, IfOk};
-ghost use Rattle.srp_report.specs.Report.{report_text};
-ghost use Rattle.srp_report.specs.Printout.{before_frames, behind_frames};
+ghost use Rattle.std.specs.Prelude.{◌≡◌, ◌++◌, IfOk, OnOk};
+ghost use Rattle.srp_report.specs.Report.{before_frames, behind_frames, report_text};
 
 use crate::flows::put_flows;
 use crate::heard::put_nodes;
@@ -33,7 +32,7 @@ pub fn report(
 {
     let mut out = text_before(alloc, scenario, run)?;
     put_flows(&mut out, scenario, run.world.tree(), flow)?;
-    put_end(&mut out, run.world.quiet(), run.world.in_step())?;
+    put_behind(&mut out, run)?;
     Ok(out)
 }
 
@@ -53,11 +52,10 @@ pub(crate) fn text_before(
     Ok(out)
 }
 
-/// What stands behind them.
-pub(crate) fn text_behind(alloc: Global, run: &Run) -> Result<Vec<u8>, NoMemory>
-    ensures { IfOk result (λ text. text.items ≡ behind_frames run.now.world) }
+/// Puts down what stands behind them.
+pub(crate) fn put_behind(out: &mut Vec<u8>, run: &Run) -> Result<(), NoMemory>
+    ensures { OnOk result (out.new.items ≡ out.old.items ++ behind_frames run.now.world) }
 {
-    let mut out = Vec::new(alloc);
-    put_end(&mut out, run.world.quiet(), run.world.in_step())?;
-    Ok(out)
+    put_end(out, run.world.quiet(), run.world.in_step())?;
+    Ok(())
 }

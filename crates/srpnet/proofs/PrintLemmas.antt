@@ -57,7 +57,7 @@ module _ (a b : Option (List ℕ)) (text rest : List ℕ) (written : ℕ) (so_fa
     pub stopped_out : (now : ℕ) → StoppedIn b c piece written now → Appends a c (take now text)
     stopped_out now s =
         let short = s.short in
-        subst (λ (n : ℕ). Appends a c (take n text)) (sym s.sum) (front_out s.front (omega (arith, short)) s.appended)
+        subst (λ (n : ℕ). Appends a c (take n text)) (sym s.sum) (front_out s.count (omega (arith, short)) s.appended)
 
     pub stopped_short : (now : ℕ) → StoppedIn b c piece written now → now < length text
     stopped_short now s =

@@ -58,14 +58,15 @@ pub record PartOf (held now : Option (List ℕ)) (text : List ℕ) : Type 0 wher
   pub appended : Appends held now (take written text)
   pub short : written < length text
 
--- writing stopped in a piece of a text, behind so many octets of it: of the piece a front went out, up to this octet of the text
+-- writing stopped in a piece of a text, before which so many octets of the text had gone out: some octets of the piece went out,
+-- fewer than all, and with them so many of the text
 pub record StoppedIn (held now : Option (List ℕ)) (piece : List ℕ) (before written : ℕ) : Type 0 where
-  pub front : ℕ
-  pub sum : written ≡ before + front
-  pub short : front < length piece
-  pub appended : Appends held now (take front piece)
+  pub count : ℕ
+  pub sum : written ≡ before + count
+  pub short : count < length piece
+  pub appended : Appends held now (take count piece)
 
--- the causes for which it stops
+-- the causes for which writing stops
 abbrev pub StopsWriting : Cause → Type 0
 StopsWriting cause = EndsWriting cause × (cause ≡ Done → ⊥)
 

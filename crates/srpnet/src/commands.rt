@@ -13,7 +13,8 @@ use srp_report::Printout;
 use std::alloc::Global;
 use world_core::Journal;
 
-/// What a command makes: the text that it prints, made piece by piece, and the journal of the run that it made, empty where it made none.
+/// What a command makes: the text that it prints, which is made piece by piece, and the journal of the run that it made,
+/// empty where it made none.
 #[derive(Drop)]
 pub struct CommandOutput {
     pub text: Printout,

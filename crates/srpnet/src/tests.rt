@@ -217,15 +217,22 @@ fn each_cause_has_its_status(rt: HostRuntime) -> Result<(), Fail> {
 
 #[test]
 fn a_failed_write_says_how_many_octets_went_out(rt: HostRuntime) -> Result<(), Fail> {
-    for (word, text, page, step) in [
-        ("ledger", PORT, PORT_OUT, 20),
-        ("run", MENDED, MENDED_RUN, 100),
+    // The third write of the last is that of its third piece.
+    for (word, text, page, step, failing, written) in [
+        ("ledger", PORT, PORT_OUT, 20, 2, 20),
+        ("run", MENDED, MENDED_RUN, 100, 2, 100),
+        ("run", HALL, HALL_RUN, 1000, 3, 370),
     ] {
-        let ended = call(rt.alloc(), &[word], text.as_bytes(), (7, 0), (step, 2))?;
+        let ended = call(
+            rt.alloc(),
+            &[word],
+            text.as_bytes(),
+            (7, 0),
+            (step, failing),
+        )?;
         assert!(rt; ended.status == 7);
-        let written = step as u64;
         assert!(rt; ended.cause == Cause::WriteFault { written });
-        assert!(rt; ended.out.as_str() == page.get(0..step).unwrap_or(""));
+        assert!(rt; ended.out.as_str() == page.get(0..written as usize).unwrap_or(""));
     }
     Ok(())
 }

@@ -79,18 +79,18 @@ fn print<O: Sink>(out: &mut O, text: Printout) -> Cause
     }
 }
 
-/// Writes a piece of a text, which isn't empty, behind so many octets of it, and answers how many have gone out then. A text
-/// of 2^64 octets or more, which no memory holds, ends as one for which there is none.
+/// Writes a piece of a text, which isn't empty, behind so many octets of it, and answers how many have gone out then. No text of
+/// a scenario that keeps the rules comes near 2^64 octets; one that passed them would end as where memory runs out.
 fn print_piece<O: Sink>(out: &mut O, written: u64, piece: &[u8]) -> Result<u64, Cause>
     requires { 0 < length piece.now }
     ensures whole { OnOk result (Appends (O.held out.old) (O.held out.new) piece.now) }
-    ensures count { IfOk result (λ now. now ≡ written + length piece.now) }
+    ensures written { IfOk result (λ now. now ≡ written + length piece.now) }
     ensures part { (now : ℕ) → result ≡ Err (Cause.WriteFault now)
         → StoppedIn (O.held out.old) (O.held out.new) piece.now written now }
     ensures fault { (now : ℕ) → result ≡ Err (Cause.WriteFault now)
         → Rose (O.faults out.old) (O.faults out.new) }
     ensures counts { OnOk result (O.faults out.new ≡ O.faults out.old) }
-    ensures no_count { IfErr result (λ cause. (IsWriteFault cause → ⊥)
+    ensures counts_without_fault { IfErr result (λ cause. (IsWriteFault cause → ⊥)
         → O.faults out.new ≡ O.faults out.old) }
     ensures memory { result ≡ Err Cause.NoMemory
         → PartOf (O.held out.old) (O.held out.new) piece.now }

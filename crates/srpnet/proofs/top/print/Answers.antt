@@ -31,6 +31,6 @@ loop-piece-preserved g c =
       piece_out _ _ c.args.text _ _ c.loop-piece.invariant.0 _ c.as_slice.result.now c.next_piece.new.self
           (front.front ∙ ap (λ (p : List ℕ). p ++ c.next_piece.new.self) (sym c.as_slice.ensures.value))
           (subst (λ (p : List ℕ). 0 < length p) (sym c.as_slice.ensures.value) front.some)
-          c.in-Ok.ensures.whole c.in-Ok.now c.in-Ok.ensures.count,
+          c.in-Ok.ensures.whole c.in-Ok.now c.in-Ok.ensures.written,
       c.in-Ok.ensures.counts ∙ c.loop-piece.invariant.1,
     )
