@@ -7,7 +7,8 @@ use Rattle.std.proofs.lemmas.Bool.{cond_both, cond-true, cond-false, cases_Bool,
 use Rattle.std.proofs.lemmas.List.{get_or-map, length-map, get_or-replicate, length-replicate, length-set, get_or-set_same, get_or-set_other, take_more}
 use Rattle.std.proofs.lemmas.List.Elements.{filter-append, filter_map-append, All-nil, All-cons, All-head, All-tail, All-append, All-filter, All-map, All-weaker, All-same}
 use Rattle.srp_base.specs.declared.numbers.EgressPort.{EgressPort}
-use Rattle.tree_topology.specs.Topology.{HasPort}
+use Rattle.srp_base.specs.declared.numbers.NodeNo.{NodeNo}
+use Rattle.tree_topology.specs.Topology.{HasNode}
 use Rattle.srp_base.specs.declared.bandwidth.Rate.{Rate}
 use Rattle.tree_topology.specs.declared.graph.Link.{Link}
 use Rattle.tree_topology.specs.Ports.{peer_of}
@@ -190,34 +191,6 @@ arriving-same links frames ticks one other place agree =
     (All-weaker A E (λ r h. comes_over-same links frames one other p r h) (ports_at links p.node.0) agree) in
     ap (λ (t : List Reached). in_order (filter_map (copy_of links ticks place) (sent_from frames p.node.0 ++ t))) same
 
--- ---- the code's list
-
-pub over-is : (links : List Link) (frames : List Frame) (flows : List PortFlow) (p r source : EgressPort) → is_port r p ≡ false → source ≡ peer_of links r
-    → handed_by frames (flow_at flows source) ≡ comes_over links frames flows p r
-over-is links frames flows p r source other is =
-    ap (λ (q : EgressPort). handed_by frames (flow_at flows q)) is ∙ sym (cond-false (is_port r p) [] (handed_by frames (flow_at flows (peer_of links r))) other)
-
-pub arriving-is : (s : Setting) → IsSetting s → (flows : List PortFlow) (place : Place) (first own all sorted : List FrameCopy) → first ≡ []
-    → own ≡ first ++ filter_map (copy_of s.tree.links s.ticks place) (sent_from s.frames place.at.node.0)
-    → all ≡ own ++ filter_map (copy_of s.tree.links s.ticks place) (flat_map (comes_over s.tree.links s.frames flows place.at) (ports_at s.tree.links place.at.node.0))
-    → IsPermutation all sorted → IsInOrder sorted → sorted ≡ arriving s.tree.links s.frames s.ticks flows place
-unfolding arriving
-arriving-is s given flows place first own all sorted none one two moved order =
-    let links = s.tree.links in
-    let to = copy_of links s.ticks place in
-    let here = sent_from s.frames place.at.node.0 in
-    let come = flat_map (comes_over links s.frames flows place.at) (ports_at links place.at.node.0) in
-    let whole : all ≡ filter_map to (reached links s.frames flows place.at) =
-    two ∙ ap (λ (t : List FrameCopy). t ++ filter_map to come) (one ∙ ap (λ (t : List FrameCopy). t ++ filter_map to here) none)
-    ∙ sym (filter_map-append to here come) in
-    let K : FrameCopy → Type 0 = IsKnownCopy s.frames in
-    let A : FrameCopy → Type 0 = IsArrived (IsKnown s.frames) place s.ticks in
-    let known = All-weaker A K (λ c h. h.frame) (filter_map to (reached links s.frames flows place.at))
-    (All-copies (IsKnown s.frames) links s.ticks place (reached links s.frames flows place.at)
-    (All-reached (IsKnown s.frames) links s.frames flows place.at (known-each s.frames given.range.numbers))) in
-    sorted-is s.frames all sorted (All-same K all (filter_map to (reached links s.frames flows place.at)) whole known) moved order
-    ∙ ap (λ (t : List FrameCopy). in_order t) whole
-
 -- ---- the frames of each node
 
 pub none-by-node : (last : ℕ) (lists : List (List Frame)) → lists ≡ replicate (last + 1) [] → AreByNode last [] lists
@@ -252,14 +225,6 @@ more-by-node last frames i d lists after below made by =
     }
 
 -- those of a node, as they are kept
-pub own-are : (s : Setting) (lists : List (List Frame)) (p : EgressPort) (own : List Frame) → AreByNode (length s.tree.kinds) s.frames lists
-    → HasPort s.tree p → own ≡ get_or lists p.node.0 [] → own ≡ filter (λ f. f.from.0 == p.node.0) s.frames
-own-are s lists p own by port is = is ∙ by.each p.node.0 port.0.1
-
-pub own-routes : (s : Setting) (p : EgressPort) (own : List (Bor Frame)) → IsSetting s → map (λ f. f.now) own ≡ filter (λ f. f.from.0 == p.node.0) s.frames
-    → All (λ f. IsRoute s.tree f.now.route) own
-own-routes s p own given is =
-    let P : Frame → Type 0 = λ f. IsRoute s.tree f.route in
-    All-unmapped P (λ f. f.now) own
-    (All-same P (map (λ f. f.now) own) (filter (λ f. f.from.0 == p.node.0) s.frames) is
-    (All-filter (λ f. f.from.0 == p.node.0) P s.frames (All-weaker (IsFrame s.tree s.ticks) P (λ f h. h.route) s.frames given.range.frames)))
+pub own-are : (s : Setting) (lists : List (List Frame)) (node : NodeNo) (own : List Frame) → AreByNode (length s.tree.kinds) s.frames lists
+    → HasNode s.tree node.0 → own ≡ get_or lists node.0 [] → own ≡ filter (λ f. f.from.0 == node.0) s.frames
+own-are s lists node own by there is = is ∙ by.each node.0 there.1

@@ -4,6 +4,7 @@ pub mod OrderLemmas
 pub mod CopyLemmas
 pub mod SlopeLemmas
 pub mod TurnLemmas
+pub mod IncomingLemmas
 pub mod OnceLemmas
 pub mod DepartureFacts
 pub mod FateLemmas

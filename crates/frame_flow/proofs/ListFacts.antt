@@ -18,6 +18,9 @@ pub flat-range-push : {X : Type 0} (f : ℕ → List X) (a n : ℕ) → flat_map
 flat-range-push f a n =
     ap (λ (t : List ℕ). flat_map f t) (range-push a n) ∙ flat_map-append f (range_with_len a n) ((a + n) ∷ []) ∙ ap (λ t. flat_map f (range_with_len a n) ++ t) (append-nil (f (a + n)))
 
+pub flat-range-next : {X : Type 0} (f : ℕ → List X) (n : ℕ) → flat_map f (range_with_len 1 (n + 1)) ≡ flat_map f (range_with_len 1 n) ++ f (n + 1)
+flat-range-next f n = flat-range-push f 1 n ∙ ap (λ (k : ℕ). flat_map f (range_with_len 1 n) ++ f k) (omega arith)
+
 -- a count with one number more
 pub count-range-push : (p : ℕ → Bool) (n : ℕ) → count_by p (range_with_len 1 (n + 1)) ≡ count_by p (range_with_len 1 n) + cond (p (n + 1)) 1 0
 count-range-push p n =

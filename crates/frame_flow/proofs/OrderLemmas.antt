@@ -112,7 +112,7 @@ copy_key c = (c.bit, c.frame.number)
 abbrev pub key_cmp : ℕ × ℕ → ℕ × ℕ → Ordering
 key_cmp x y = ordering_then (nat_cmp x.0 y.0) (nat_cmp x.1 y.1)
 
-key-total : IsTotalOrder key_cmp
+pub key-total : IsTotalOrder key_cmp
 key-total = then_total (on_total (λ (p : ℕ × ℕ). p.0) nat_cmp_total) (on_total (λ (p : ℕ × ℕ). p.1) nat_cmp_total)
 
 cmp-less : (a b : ℕ) → a < b → nat_cmp a b ≡ Less
@@ -122,7 +122,7 @@ cmp-equal : (a b : ℕ) → a ≡ b → nat_cmp a b ≡ Equal
 cmp-equal a b e =
     cond-false (nat_lt a b) Less (cond (a == b) Equal Greater) (le-ltb a b (omega arith)) ∙ cond-true (a == b) Equal Greater (eq-eqb a b e)
 
-lex-from_cmp : (a b c d : ℕ) → is_lt (ordering_then (nat_cmp c a) (nat_cmp d b)) ≡ false → lex a b c d ≡ true
+pub lex-from_cmp : (a b c d : ℕ) → is_lt (ordering_then (nat_cmp c a) (nat_cmp d b)) ≡ false → lex a b c d ≡ true
 lex-from_cmp a b c d nay =
     elim (cases_order a c) [
       | inl e ↦ elim (cases_lt d b) [
@@ -179,7 +179,7 @@ sum-with_copy f x (y ∷ ys) =
     (λ e. sum_by-cons f x (y ∷ ys))
     (λ e. omega (arith, sum_by-cons f y (with_copy x ys), sum_by-cons f y ys, sum-with_copy f x ys))
 
-sum-in_order : (f : FrameCopy → ℕ) (xs : List FrameCopy) → sum_by f (in_order xs) ≡ sum_by f xs
+pub sum-in_order : (f : FrameCopy → ℕ) (xs : List FrameCopy) → sum_by f (in_order xs) ≡ sum_by f xs
 sum-in_order f [] = refl
 sum-in_order f (x ∷ xs) =
     omega (arith, sum-with_copy f x (in_order xs), sum-in_order f xs, sum_by-cons f x xs)
@@ -232,7 +232,7 @@ same-copy frames x y known_x known_y one two =
     let to : ℕ → Frame → FrameCopy = λ b f. record { bit = b; frame = f } in
     ap (λ (b : ℕ). to b x.frame) both.0 ∙ ap (λ (f : Frame). to y.bit f) frame
 
-ordered-one : (frames : List Frame) (xs ys : List FrameCopy) → SameSums xs ys → IsInOrder xs → IsInOrder ys → All (IsKnownCopy frames) xs → All (IsKnownCopy frames) ys → xs ≡ ys
+pub ordered-one : (frames : List Frame) (xs ys : List FrameCopy) → SameSums xs ys → IsInOrder xs → IsInOrder ys → All (IsKnownCopy frames) xs → All (IsKnownCopy frames) ys → xs ≡ ys
 ordered-one frames [] [] same one two kx ky = refl
 ordered-one frames [] (y ∷ ys) same one two kx ky =
     absurd (omega (arith, same (λ c. 1), sum_by-cons (λ c. 1) y ys))

@@ -119,12 +119,16 @@ pub size-at : (places : List Place) (flows : List PortFlow) → AreAt places flo
 size-at places flows at = sym (length-map flows (λ y. y.at)) ∙ ap length at ∙ length-map places (λ y. y.at)
 
 -- a flow that is put in at its port leaves the lower levels
-set-agrees : (tree : Topology) (flows : List PortFlow) (k : ℕ) (x : PortFlow) (p : EgressPort) → (get_or flows k x).at ≡ p → x.at ≡ p
-    → AgreeBelow tree (level_at tree p) flows (set flows k x)
-set-agrees tree flows k x p old new q port lt =
+pub set-apart : (tree : Topology) (flows : List PortFlow) (k : ℕ) (x : PortFlow) (p : EgressPort) → (get_or flows k x).at ≡ p → x.at ≡ p
+    → (q : EgressPort) → level_at tree q < level_at tree p → flow_at flows q ≡ flow_at (set flows k x) q
+set-apart tree flows k x p old new q lt =
     let apart_q = apart tree p q lt in
     let N : EgressPort → Type 0 = λ t. is_port t q ≡ false in
     sym (find_past (λ y. is_port y.at q) flows k x x (subst N (sym old) apart_q) (subst N (sym new) apart_q))
+
+set-agrees : (tree : Topology) (flows : List PortFlow) (k : ℕ) (x : PortFlow) (p : EgressPort) → (get_or flows k x).at ≡ p → x.at ≡ p
+    → AgreeBelow tree (level_at tree p) flows (set flows k x)
+set-agrees tree flows k x p old new q port lt = set-apart tree flows k x p old new q lt
 
 pub set-at : (places : List Place) (flows : List PortFlow) (k : ℕ) (x : PortFlow) → (get_or flows k x).at ≡ x.at → AreAt places flows → AreAt places (set flows k x)
 set-at places flows k x same at =
@@ -210,7 +214,7 @@ done-all s flows at done =
 
 -- ---- the code's steps
 
-level-read : (tree : Topology) (places : List Place) (levels : List ℕ) (k : ℕ) (place : Place) → levels ≡ map (level_of tree) places → k < length places
+pub level-read : (tree : Topology) (places : List Place) (levels : List ℕ) (k : ℕ) (place : Place) → levels ≡ map (level_of tree) places → k < length places
     → get_or levels k 0 ≡ level_of tree (get_or places k place)
 level-read tree places levels k place are below =
     ap (λ (t : List ℕ). get_or t k 0) are ∙ get_or-map (level_of tree) places k place 0 below

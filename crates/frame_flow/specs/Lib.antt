@@ -4,5 +4,6 @@ pub mod Copies
 pub mod Flow
 pub mod Given
 pub mod Turns
+pub mod Incoming
 pub mod Steps
 pub mod Laws

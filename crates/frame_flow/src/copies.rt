@@ -1,114 +1,113 @@
-//! The copies of frames that arrive at a port.
+//! The copies of frames that come to a node, in order, and those of them that leave by a port.
 
-ghost use Rattle.std.specs.Prelude.{◌≡◌, ◌<◌, ◌≤◌, ◌^◌, ◌++◌, ◌∷◌, [], Some, AllPairs, HoldsAt, IsTrue, filter_map, flat_map, length, option_map, OnOk, IfOk};
-ghost use Rattle.std.specs.List.{AllWithin};
+ghost use Rattle.std.specs.Prelude.{◌≡◌, ◌<◌, ◌≤◌, ◌^◌, ◌++◌, ◌∷◌, ◌==◌, ◌&&◌, [], not, Some, All, AllPairs, filter_map, flat_map, length, option_map, IfOk, OnOk};
+ghost use Rattle.std.specs.List.{range_with_len};
 ghost use Rattle.std.specs.List.Sorted.{IsPermutation};
-ghost use Rattle.tree_topology.specs.Topology.{HasPort};
-ghost use Rattle.tree_topology.specs.Ports.{peer_of};
-ghost use Rattle.frame_flow.specs.Copies.{arriving, copy_of, comes_over, flow_at, frame_of, goes_by, handed_by, handed_on, ports_at, reached_at, sent_from};
-ghost use Rattle.frame_flow.specs.Given.{IsRoute, IsInOrder};
+ghost use Rattle.tree_topology.specs.Topology.{HasNode, HasPort};
+ghost use Rattle.tree_topology.specs.Ports.{neighbours, peer_of};
+ghost use Rattle.frame_flow.specs.Copies.{flow_at, frame_of, goes_by, handed_by, handed_on, port_of, reached_at, sent_from};
+ghost use Rattle.frame_flow.specs.Given.{IsRoute};
+ghost use Rattle.frame_flow.specs.Incoming.{AreInOrder, DoServe, incoming_by, incoming_of, leaving, leaving_by};
 
 use crate::asked::Asked;
 use crate::frame::{CopyOf, Frame, Route};
+use crate::incoming::{AtNode, IncomingOf};
 use crate::moments::{bit_from, bits_of_ticks, moment_of};
 use crate::numbered::find_first;
-use crate::place::Place;
 use crate::result::{Fate, PortFlow};
 use srp_base::{EgressPort, NoMemory, PortNo, Rate};
 use std::alloc::Global;
 use tree_topology::Tree;
 
 impl<'a> Asked<'a> {
-    /// The copies that arrive at a port, in order, by the flows at the ports that send into its node.
-    pub(crate) fn arriving(
+    /// The copies at a node, in order, by the flows at the ports that send into it. They take the memory of others.
+    pub(crate) fn copies_at(
         &self,
-        alloc: Global,
         flows: &[PortFlow],
-        place: Place,
-    ) -> Result<Vec<CopyOf<'a>>, NoMemory>
-        requires { HasPort self.now.tree place.at }
-        ensures { IfOk result (λ v. v.items
-            ≡ arriving self.now.tree.links self.now.frames self.now.ticks flows.now place) }
+        at: AtNode,
+        old: Vec<IncomingOf<'a>>,
+    ) -> Result<Vec<IncomingOf<'a>>, NoMemory>
+        requires { HasNode self.now.tree at.node.0 }
+        ensures serve { IfOk result (λ v. DoServe self.now flows.now at v.items) }
+        ensures routes { IfOk result
+            (λ v. All (λ c. IsRoute self.now.tree c.copy.frame.route) v.items) }
     {
         self.keeps();
-        let mut copies = Vec::new(alloc);
-        self.own_copies(place, &mut copies)?;
-        self.onward_copies(flows, place, &mut copies)?;
+        let mut copies = old;
+        copies.clear();
+        self.own_copies(at, &mut copies)?;
+        self.onward_copies(flows, at, &mut copies)?;
         put_in_order(&mut copies)?;
         Ok(copies)
     }
 
-    /// Adds the copies of the frames of a port's station.
-    fn own_copies(&self, place: Place, copies: &mut Vec<CopyOf<'a>>) -> Result<(), NoMemory>
-        requires { HasPort self.now.tree place.at }
+    /// Adds the copies of the frames of a node's station.
+    fn own_copies(&self, at: AtNode, copies: &mut Vec<IncomingOf<'a>>) -> Result<(), NoMemory>
+        requires { HasNode self.now.tree at.node.0 }
         ensures { OnOk result (copies.new.items ≡ copies.old.items
-            ++ filter_map (copy_of self.now.tree.links self.now.ticks place)
-            (sent_from self.now.frames place.at.node.0)) }
+            ++ filter_map (incoming_of self.now.ticks at.rate 0)
+            (sent_from self.now.frames at.node.0)) }
     {
-        for f in self.own.at(place.at.node) {
-            self.add_own(place, f, copies)?;
+        for f in self.own.at(at.node) {
+            self.add_own(at.rate, f, copies)?;
         }
         Ok(())
     }
 
-    /// Adds the copy that a frame of a port's station gives at the port.
+    /// Adds the copy of a frame of a node's station.
     fn add_own(
         &self,
-        place: Place,
+        rate: Rate,
         frame: &'a Frame,
-        copies: &mut Vec<CopyOf<'a>>,
+        copies: &mut Vec<IncomingOf<'a>>,
     ) -> Result<(), NoMemory>
-        requires port { HasPort self.now.tree place.at }
-        requires route { IsRoute self.now.tree frame.now.route }
         ensures { OnOk result (copies.new.items ≡ copies.old.items
-            ++ filter_map (copy_of self.now.tree.links self.now.ticks place)
+            ++ filter_map (incoming_of self.now.ticks rate 0)
             (record { frame = frame.now; moment = frame.now.at.0 } ∷ [])) }
     {
-        self.add_copy(place, frame, u128::from(frame.at.0), copies)
+        self.add_copy(rate, PortNo(0), frame, u128::from(frame.at.0), copies)
     }
 
-    /// Adds the copies of what comes to a port's node over its other links.
+    /// Adds the copies that come to a node over its links.
     fn onward_copies(
         &self,
         flows: &[PortFlow],
-        place: Place,
-        copies: &mut Vec<CopyOf<'a>>,
+        at: AtNode,
+        copies: &mut Vec<IncomingOf<'a>>,
     ) -> Result<(), NoMemory>
-        requires { HasPort self.now.tree place.at }
+        requires { HasNode self.now.tree at.node.0 }
         ensures { OnOk result (copies.new.items ≡ copies.old.items
-            ++ filter_map (copy_of self.now.tree.links self.now.ticks place)
-            (flat_map (comes_over self.now.tree.links self.now.frames flows.now place.at)
-            (ports_at self.now.tree.links place.at.node.0))) }
+            ++ flat_map (incoming_by self.now.tree.links self.now.frames self.now.ticks flows.now at)
+            (range_with_len 1 (length (neighbours self.now.tree.links at.node.0)))) }
     {
-        let node = place.at.node;
-        for k in 0..self.tree.ports(node) {
-            let port = EgressPort {
-                node,
-                port: PortNo(k + 1),
-            };
-            self.copies_over(flows, port, place, copies)?;
+        self.keeps();
+        for k in 0..self.tree.ports(at.node) {
+            self.copies_by(flows, at, PortNo(k + 1), copies)?;
         }
         Ok(())
     }
 
-    /// Adds the copies of what comes to a port's node over the link of one of its ports.
-    fn copies_over(
+    /// Adds the copies that come in by a node's port, unless these are left out.
+    fn copies_by(
         &self,
         flows: &[PortFlow],
-        over: EgressPort,
-        place: Place,
-        copies: &mut Vec<CopyOf<'a>>,
+        at: AtNode,
+        ingress: PortNo,
+        copies: &mut Vec<IncomingOf<'a>>,
     ) -> Result<(), NoMemory>
-        requires over { HasPort self.now.tree over }
-        requires port { HasPort self.now.tree place.at }
+        requires { HasPort self.now.tree (record { node = at.node; port = ingress }) }
         ensures { OnOk result (copies.new.items ≡ copies.old.items
-            ++ filter_map (copy_of self.now.tree.links self.now.ticks place)
-            (comes_over self.now.tree.links self.now.frames flows.now place.at over)) }
+            ++ incoming_by self.now.tree.links self.now.frames self.now.ticks flows.now at
+            ingress.0) }
     {
-        if over == place.at {
+        if ingress == at.without {
             return Ok(());
         }
-        self.copies_from(flows, self.source(over), place, copies)
+        let port = EgressPort {
+            node: at.node,
+            port: ingress,
+        };
+        self.copies_from(flows, self.source(port), at.rate, ingress, copies)
     }
 
     /// Adds the copies of what a port hands on.
@@ -116,17 +115,17 @@ impl<'a> Asked<'a> {
         &self,
         flows: &[PortFlow],
         source: EgressPort,
-        place: Place,
-        copies: &mut Vec<CopyOf<'a>>,
+        rate: Rate,
+        ingress: PortNo,
+        copies: &mut Vec<IncomingOf<'a>>,
     ) -> Result<(), NoMemory>
-        requires { HasPort self.now.tree place.at }
         ensures { OnOk result (copies.new.items ≡ copies.old.items
-            ++ filter_map (copy_of self.now.tree.links self.now.ticks place)
+            ++ filter_map (incoming_of self.now.ticks rate ingress.0)
             (handed_by self.now.frames (flow_at flows.now source))) }
     {
         for x in flows {
             if x.at == source {
-                return self.copies_of_flow(x, place, copies);
+                return self.copies_of_flow(x, rate, ingress, copies);
             }
         }
         Ok(())
@@ -136,62 +135,61 @@ impl<'a> Asked<'a> {
     fn copies_of_flow(
         &self,
         flow: &PortFlow,
-        place: Place,
-        copies: &mut Vec<CopyOf<'a>>,
+        rate: Rate,
+        ingress: PortNo,
+        copies: &mut Vec<IncomingOf<'a>>,
     ) -> Result<(), NoMemory>
-        requires { HasPort self.now.tree place.at }
         ensures { OnOk result (copies.new.items ≡ copies.old.items
-            ++ filter_map (copy_of self.now.tree.links self.now.ticks place)
+            ++ filter_map (incoming_of self.now.ticks rate ingress.0)
             (handed_by self.now.frames (Some flow.now))) }
     {
-        let rate = flow.input.rate;
+        let sent_at = flow.input.rate;
         // No more copies depart than the shaper was given.
         copies.reserve(flow.input.arrivals.len())?;
         for (number, fate) in flow.fates.as_slice() {
-            self.add_departed(place, rate, *number, *fate, copies)?;
+            self.add_departed(rate, ingress, sent_at, *number, *fate, copies)?;
         }
         Ok(())
     }
 
-    /// Adds the copy that a frame with this fate at a port of this rate gives, where it has departed.
+    /// Adds the copy of what a frame with this fate at a port of the rate `sent_at` hands on, where it has departed.
     fn add_departed(
         &self,
-        place: Place,
         rate: Rate,
+        ingress: PortNo,
+        sent_at: Rate,
         number: u32,
         fate: Fate,
-        copies: &mut Vec<CopyOf<'a>>,
+        copies: &mut Vec<IncomingOf<'a>>,
     ) -> Result<(), NoMemory>
-        requires { HasPort self.now.tree place.at }
         ensures { OnOk result (copies.new.items ≡ copies.old.items
-            ++ filter_map (copy_of self.now.tree.links self.now.ticks place)
-            (handed_on self.now.frames rate number fate)) }
+            ++ filter_map (incoming_of self.now.ticks rate ingress.0)
+            (handed_on self.now.frames sent_at number fate)) }
     {
         match fate {
             Fate::Departed { end, .. } => {
-                self.add_numbered(place, number, moment_of(rate, end), copies)
+                self.add_numbered(rate, ingress, number, moment_of(sent_at, end), copies)
             }
             Fate::Unbooked | Fate::NoVlan | Fate::Left => Ok(()),
         }
     }
 
-    /// Adds the copy that the frame of a number gives at the port, where there is one.
+    /// Adds the copy of the frame of a number, where there is one.
     fn add_numbered(
         &self,
-        place: Place,
+        rate: Rate,
+        ingress: PortNo,
         number: u32,
         moment: u128,
-        copies: &mut Vec<CopyOf<'a>>,
+        copies: &mut Vec<IncomingOf<'a>>,
     ) -> Result<(), NoMemory>
-        requires moment { moment ≤ 2 ^ 80 }
-        requires port { HasPort self.now.tree place.at }
+        requires { moment ≤ 2 ^ 80 }
         ensures { OnOk result (copies.new.items ≡ copies.old.items
-            ++ filter_map (copy_of self.now.tree.links self.now.ticks place)
+            ++ filter_map (incoming_of self.now.ticks rate ingress.0)
             (reached_at moment (frame_of self.now.frames number))) }
     {
-        self.keeps();
         match self.frame(number) {
-            Some(f) => self.add_copy(place, f, moment, copies),
+            Some(f) => self.add_copy(rate, ingress, f, moment, copies),
             None => Ok(()),
         }
     }
@@ -211,37 +209,56 @@ impl<'a> Asked<'a> {
         frame_of(self.frames, number)
     }
 
-    /// Adds the copy that a frame at a port's node gives at the port, where there is one.
+    /// Adds the copy of a frame that came in by a port, where its bit time is before the run's end.
     fn add_copy(
         &self,
-        place: Place,
+        rate: Rate,
+        ingress: PortNo,
         frame: &'a Frame,
         moment: u128,
-        copies: &mut Vec<CopyOf<'a>>,
+        copies: &mut Vec<IncomingOf<'a>>,
     ) -> Result<(), NoMemory>
-        requires moment { moment ≤ 2 ^ 80 }
-        requires route { IsRoute self.now.tree frame.now.route }
-        requires port { HasPort self.now.tree place.at }
+        requires { moment ≤ 2 ^ 80 }
         ensures { OnOk result (copies.new.items ≡ copies.old.items
-            ++ filter_map (copy_of self.now.tree.links self.now.ticks place)
+            ++ filter_map (incoming_of self.now.ticks rate ingress.0)
             (record { frame = frame.now; moment = moment } ∷ [])) }
     {
-        let bit = bit_from(place.rate, moment);
-        let end = bits_of_ticks(place.rate, self.ticks);
-        if bit < u128::from(end) && goes_by(self.tree, place.at, frame.route) {
-            copies.push(CopyOf::new(bit as u64, frame))?;
+        let bit = bit_from(rate, moment);
+        let end = bits_of_ticks(rate, self.ticks);
+        if bit < u128::from(end) {
+            copies.push(IncomingOf::new(ingress, bit as u64, frame))?;
         }
         Ok(())
+    }
+
+    /// Of a node's copies those that leave by a port of it, in order.
+    pub(crate) fn leaving(
+        &self,
+        alloc: Global,
+        port: EgressPort,
+        copies: &[IncomingOf<'a>],
+    ) -> Result<Vec<CopyOf<'a>>, NoMemory>
+        requires port { HasPort self.now.tree port }
+        requires routes { All (λ c. IsRoute self.now.tree c.copy.frame.route) copies.now }
+        ensures { IfOk result (λ v. v.items ≡ leaving self.now.tree.links port copies.now) }
+    {
+        let mut left = Vec::with_capacity(alloc, copies.len())?;
+        for c in copies {
+            if leaves_by(self.tree, port, c) {
+                left.push(CopyOf::new(c.bit(), c.frame()))?;
+            }
+        }
+        Ok(left)
     }
 }
 
 /// Puts copies in order of bit time, ties by number. Those that come over one link mostly are in order, which
 /// the sort that keeps ties in place makes use of.
-fn put_in_order(copies: &mut Vec<CopyOf>) -> Result<(), NoMemory>
+fn put_in_order(copies: &mut Vec<IncomingOf>) -> Result<(), NoMemory>
     ensures same { IsPermutation copies.old.items copies.new.items }
-    ensures order { OnOk result (IsInOrder copies.new.items) }
+    ensures order { OnOk result (AreInOrder copies.new.items) }
 {
-    copies.sort_by_key(|c| (c.bit(), c.frame().number))?;
+    copies.sort_by_key(|c| (c.bit(), c.number()))?;
     Ok(())
 }
 
@@ -259,6 +276,16 @@ fn guess(frames: &[Frame], number: u32) -> usize {
         [first, ..] => number.wrapping_sub(first.number) as usize,
         [] => 0,
     }
+}
+
+/// Whether a copy at a port's node leaves by the port: not by the one that it came in by.
+fn leaves_by(tree: &Tree, port: EgressPort, c: &IncomingOf) -> bool
+    requires port { HasPort tree.now port }
+    requires route { IsRoute tree.now c.now.copy.frame.route }
+    ensures { result ≡ (not (c.now.ingress == port.port.0)
+        && goes_by tree.now.links port c.now.copy.frame.route) }
+{
+    c.ingress() != port.port && goes_by(tree, port, c.frame().route)
 }
 
 /// Whether a frame at a port's node goes on by the port.

@@ -39,6 +39,7 @@ mod copies;
 mod fates;
 mod force;
 mod frame;
+mod incoming;
 pub mod laws;
 mod moments;
 mod numbered;

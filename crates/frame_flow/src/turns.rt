@@ -1,12 +1,14 @@
 //! The flow of frames over a tree, port by port.
 
-ghost use Rattle.std.specs.Prelude.{◌≡◌, ◌+◌, ◌<◌, ◌≤◌, slice_set, IfOk, OnOk, length, map, Contains, if◌then◌else◌};
-ghost use Rattle.tree_topology.specs.Topology.{HasPort};
+ghost use Rattle.std.specs.Prelude.{◌≡◌, ◌+◌, ◌<◌, ◌≤◌, true, slice_set, All, IfOk, OnOk, length, map, Contains, if◌then◌else◌};
+ghost use Rattle.tree_topology.specs.Topology.{HasNode, HasPort};
+ghost use Rattle.tree_topology.specs.Ports.{peer_of};
 ghost use Rattle.tree_topology.specs.Walk.{count_behind};
 ghost use Rattle.frame_flow.specs.Flow.{IsFlow, port_flow};
-ghost use Rattle.frame_flow.specs.Copies.{all_places};
+ghost use Rattle.frame_flow.specs.Copies.{all_places, arriving};
 ghost use Rattle.frame_flow.specs.Force.{changes_at};
-ghost use Rattle.frame_flow.specs.Given.{IsSetting};
+ghost use Rattle.frame_flow.specs.Given.{IsRoute, IsSetting};
+ghost use Rattle.frame_flow.specs.Incoming.{AreKept, AreSourcesBelow, IsServed, leaving};
 ghost use Rattle.frame_flow.specs.Turns.{ArePorts, AreAt, AreDoneBelow, level_at, level_of};
 
 use crate::asked::Asked;
@@ -14,10 +16,11 @@ use crate::by_node::FramesByNode;
 use crate::fates::flow_of_copies;
 use crate::force::changes_at;
 use crate::frame::Frame;
+use crate::incoming::{AtNode, IncomingOf, NodeCopies};
 use crate::place::Place;
 use crate::result::{FlowResult, PortFlow};
 use credit_shaper::PortInput;
-use srp_base::{EgressPort, NoMemory, NodeNo, PortChange, Rate, Seq, Timeline};
+use srp_base::{EgressPort, NoMemory, NodeNo, PortChange, PortNo, Rate, Seq, Timeline};
 use std::alloc::Global;
 use tree_topology::Tree;
 
@@ -65,7 +68,7 @@ pub fn flow(
     })
 }
 
-impl Asked<'_> {
+impl<'a> Asked<'a> {
     /// The flows at all ports: level by level, so that each comes after those that send into its node.
     fn flows(&self, alloc: Global) -> Result<Vec<PortFlow>, NoMemory>
         ensures { IfOk result (λ v. IsFlow self.now v.items) }
@@ -120,46 +123,107 @@ impl Asked<'_> {
             flows.new.items) }
     {
         self.keeps();
+        let mut kept = NodeCopies::none(alloc);
         for k in 0..places.len() {
             if levels[k] == level {
-                self.put_flow(alloc, places[k], k, flows)?;
+                let is_shared = has_another(places, levels, k);
+                kept = self.copies_for(flows, places[k], level, is_shared, kept)?;
+                self.put_flow(alloc, places[k], k, kept.copies.as_slice(), flows)?;
             }
         }
         Ok(())
     }
 
-    /// Puts in the flow at the port of an index.
+    /// The copies at a node that serve a port of a level: those that are kept where they serve it, and else new ones. Where
+    /// these are shared they are all that come to the node, so that they serve its other ports of the level as well.
+    fn copies_for(
+        &self,
+        flows: &[PortFlow],
+        place: Place,
+        level: usize,
+        is_shared: bool,
+        kept: NodeCopies<'a>,
+    ) -> Result<NodeCopies<'a>, NoMemory>
+        requires port { HasPort self.now.tree place.at }
+        requires kept { AreKept self.now level flows.now kept.at kept.copies.items }
+        ensures kept { IfOk result (λ c. AreKept self.now level flows.now c.at c.copies.items) }
+        ensures served { IfOk result (λ c. leaving self.now.tree.links place.at c.copies.items
+            ≡ arriving self.now.tree.links self.now.frames self.now.ticks flows.now place) }
+    {
+        if kept.at.serves_all(place) {
+            return Ok(kept);
+        }
+        let at = self.at_node(place, level, is_shared);
+        let copies = self.copies_at(flows, at, kept.copies)?;
+        Ok(NodeCopies { at, copies })
+    }
+
+    /// The node of a port of a level: without the copies over the port's own link, or, where it is shared and nothing that
+    /// sends into it is of this level, with all.
+    fn at_node(&self, place: Place, level: usize, is_shared: bool) -> AtNode
+        requires { HasPort self.now.tree place.at }
+        ensures served { IsServed result place }
+        ensures node { result.node ≡ place.at.node }
+        ensures below { result.without.0 ≡ 0
+            → AreSourcesBelow self.now.tree level place.at.node.0 }
+    {
+        let with_all = is_shared && self.are_sources_below(level, place.at.node);
+        AtNode {
+            node: place.at.node,
+            rate: place.rate,
+            without: if with_all { PortNo(0) } else { place.at.port },
+        }
+    }
+
+    /// Whether each port that sends into a node is of a level below this one.
+    fn are_sources_below(&self, level: usize, node: NodeNo) -> bool
+        requires { HasNode self.now.tree node.0 }
+        ensures { result ≡ true → AreSourcesBelow self.now.tree level node.0 }
+    {
+        for k in 0..self.tree.ports(node) {
+            let port = EgressPort {
+                node,
+                port: PortNo(k + 1),
+            };
+            if level <= self.source_level(port) {
+                return false;
+            }
+        }
+        true
+    }
+
+    /// The level of the port that sends over the link of a port into its node.
+    fn source_level(&self, port: EgressPort) -> usize
+        requires { HasPort self.now.tree port }
+        ensures { result ≡ level_at self.now.tree (peer_of self.now.tree.links port) }
+    {
+        self.keeps();
+        level(self.tree, self.tree.peer(port))
+    }
+
+    /// Puts in the flow at the port of an index, by copies at its node that serve it.
     fn put_flow(
         &self,
         alloc: Global,
         place: Place,
         k: usize,
+        copies: &[IncomingOf<'a>],
         flows: &mut Vec<PortFlow>,
     ) -> Result<(), NoMemory>
         requires place { Contains (all_places self.now.tree.links self.now.rates) place }
         requires k { k < length flows.old.items }
+        requires routes { All (λ c. IsRoute self.now.tree c.copy.frame.route) copies.now }
+        requires served { leaving self.now.tree.links place.at copies.now
+            ≡ arriving self.now.tree.links self.now.frames self.now.ticks flows.old.items place }
         ensures { OnOk result (flows.new.items
             ≡ slice_set flows.old.items k (port_flow self.now flows.old.items place)) }
     {
-        let flow = self.port_flow(alloc, flows, place)?;
-        flows[k] = flow;
-        Ok(())
-    }
-
-    /// The flow at a port, by the flows at the ports that send into its node.
-    fn port_flow(
-        &self,
-        alloc: Global,
-        flows: &[PortFlow],
-        place: Place,
-    ) -> Result<PortFlow, NoMemory>
-        requires { Contains (all_places self.now.tree.links self.now.rates) place }
-        ensures { IfOk result (λ x. x ≡ port_flow self.now flows.now place) }
-    {
         self.keeps();
         let changes = self.changes_at(alloc, place.at)?;
-        let copies = self.arriving(alloc, flows, place)?;
-        flow_of_copies(alloc, self.ticks, place, &changes, &copies)
+        let left = self.leaving(alloc, place.at, copies)?;
+        let flow = flow_of_copies(alloc, self.ticks, place, &changes, &left)?;
+        flows[k] = flow;
+        Ok(())
     }
 
     /// The changes at a port.
@@ -189,6 +253,19 @@ fn level(tree: &Tree, at: EgressPort) -> usize
 {
     tree.keeps();
     count_behind(tree, tree.peer(at))
+}
+
+/// Whether another port than that of an index is of its node and its level. It is asked for the sake of speed alone.
+fn has_another(places: &[Place], levels: &[usize], k: usize) -> bool
+    requires { k < length places.now }
+{
+    let node = places[k].at.node;
+    for (j, place) in places.iter().enumerate() {
+        if j != k && place.at.node == node && levels.get(j) == levels.get(k) {
+            return true;
+        }
+    }
+    false
 }
 
 /// How many nodes lie behind a port.

@@ -9,20 +9,20 @@ use Rattle.frame_flow.specs.Copies.{all_places}
 use Rattle.frame_flow.proofs.TurnLemmas.{places-are}
 use Rattle.frame_flow.proofs.NumberLemmas.{rises, unmapped}
 use Rattle.frame_flow.proofs.SlopeLemmas.{IsBefore, changes-ascend, port-input-at}
-use Rattle.frame_flow.proofs.asked.Asked.port_flow.Goals as goal
+use Rattle.frame_flow.proofs.asked.Asked.put_flow.Goals as goal
 
-pub arriving-requires : goal.arriving-requires
-arriving-requires c =
+pub leaving-requires-clause-port : goal.leaving-requires-clause-port
+leaving-requires-clause-port c =
     let s = c.args.self.now in
-    All-contains (λ x. HasPort s.tree x.at) (all_places s.tree.links s.rates) c.args.place (places-are s.tree s.rates c.keeps.ensures.ports) c.requires
+    All-contains (λ x. HasPort s.tree x.at) (all_places s.tree.links s.rates) c.args.place (places-are s.tree s.rates c.keeps.ensures.ports) c.requires.place
 
 pub flow_of_copies-requires-clause-input : goal.flow_of_copies-requires-clause-input
 flow_of_copies-requires-clause-input c =
     let s = c.args.self.now in
     let at : List (Bor PortChange) → Type 0 = λ t. map (λ x. x.now) t ≡ changes_at s.changes c.args.place.at in
     let changes = subst at (sym c.deref.ensures.value) c.in_ok-changes.ensures in
-    let copies = c.deref-2.ensures.value ∙ c.in_ok-copies.ensures in
-    port-input-at s c.keeps.ensures.given c.args.flows.now c.args.place c.requires c.self.inside.ticks
+    let copies = c.deref-2.ensures.value ∙ c.in_ok-left.ensures ∙ c.requires.served in
+    port-input-at s c.keeps.ensures.given c.args.flows.now.items c.args.place c.requires.place c.self.inside.ticks
     (ap (λ (t : Setting). t.ticks) c.self.view_is) _ _ changes copies
 
 pub flow_of_copies-requires-clause-order : goal.flow_of_copies-requires-clause-order

@@ -1,0 +1,82 @@
+-- The copies that come to a node, each with the port that it came in by, and those of them that leave by a
+-- port. No public contract names these words.
+--
+--   frames of the station x, by port 0 --.
+--   what each port's peer sends, by k ---+--> x: in order of bit time, ties by number --> all but those by p --> p
+use Rattle.std.specs.Prelude.{◌≡◌, ℕ, ◌<◌, ◌⊎◌, true, not, ◌==◌, ◌&&◌, nat_lt, List, [], ◌++◌, length, filter_map, flat_map, Option, Some, None, All, AllPairs, if◌then◌else◌}
+use Rattle.std.specs.List.{range_with_len}
+use Rattle.srp_base.specs.declared.numbers.EgressPort.{EgressPort}
+use Rattle.srp_base.specs.declared.bandwidth.Rate.{Rate}
+use Rattle.tree_topology.specs.declared.graph.Link.{Link}
+use Rattle.tree_topology.specs.Topology.{Topology, HasPort}
+use Rattle.tree_topology.specs.Ports.{neighbours, peer_of}
+use Rattle.frame_flow.specs.declared.frame.Frame.{Frame}
+use Rattle.frame_flow.specs.declared.frame.FrameCopy.{FrameCopy}
+use Rattle.frame_flow.specs.declared.incoming.AtNode.{AtNode}
+use Rattle.frame_flow.specs.declared.place.Place.{Place}
+use Rattle.frame_flow.specs.declared.result.PortFlow.{PortFlow}
+use Rattle.frame_flow.specs.Moments.{bits_of_ticks, bit_from}
+use Rattle.frame_flow.specs.Copies.{Reached, arriving, flow_at, goes_by, handed_by, is_not_after, port_of, ports_at, sent_from}
+use Rattle.frame_flow.specs.Flow.{Setting}
+use Rattle.frame_flow.specs.Given.{IsRoute}
+use Rattle.frame_flow.specs.Turns.{level_at}
+
+-- a copy at a node, and the number of the port that it came in by; 0 is none of a node's ports
+pub record Incoming : Type 0 where
+  pub ingress : ℕ
+  pub copy : FrameCopy
+
+-- the copy that a frame at a node gives, where its bit time is before the run's end
+abbrev pub incoming_of : ℕ → Rate → ℕ → Reached → Option Incoming
+incoming_of ticks rate k r =
+    let bit = bit_from rate r.moment in
+    if nat_lt bit (bits_of_ticks rate ticks)
+    then Some (record { ingress = k; copy = record { bit = bit; frame = r.frame } })
+    else None
+
+-- the copies that come in by a node's port of a number
+abbrev pub incoming_by : List Link → List Frame → ℕ → List PortFlow → AtNode → ℕ → List Incoming
+incoming_by links frames ticks flows at k =
+    if k == at.without.0
+    then []
+    else filter_map (incoming_of ticks at.rate k) (handed_by frames (flow_at flows (peer_of links (port_of at.node.0 k))))
+
+-- the copies at a node, port by port
+abbrev pub incoming_at : List Link → List Frame → ℕ → List PortFlow → AtNode → List Incoming
+incoming_at links frames ticks flows at =
+    filter_map (incoming_of ticks at.rate 0) (sent_from frames at.node.0)
+    ++ flat_map (incoming_by links frames ticks flows at) (range_with_len 1 (length (neighbours links at.node.0)))
+
+-- the copy that leaves by a port where one has come to its node
+abbrev pub leaving_by : List Link → EgressPort → Incoming → Option FrameCopy
+leaving_by links p c =
+    if not (c.ingress == p.port.0) && goes_by links p c.copy.frame.route then Some c.copy else None
+
+abbrev pub leaving : List Link → EgressPort → List Incoming → List FrameCopy
+leaving links p copies = filter_map (leaving_by links p) copies
+
+-- they are in order of bit time, ties by number
+abbrev pub AreInOrder : List Incoming → Type 0
+AreInOrder copies = AllPairs (λ x y. is_not_after x.copy y.copy ≡ true) copies
+
+-- a node's copies serve a port of it: all that came are there but those over its own link
+abbrev pub IsServed : AtNode → Place → Type 0
+IsServed at place =
+    (place.at.node ≡ at.node) × (place.rate ≡ at.rate) × ((at.without.0 ≡ 0) ⊎ (at.without ≡ place.at.port))
+
+-- of a node's copies those that leave by a port are those that arrive at it, for each port that they serve
+abbrev pub DoServe : Setting → List PortFlow → AtNode → List Incoming → Type 0
+DoServe s flows at copies =
+    (place : Place) → HasPort s.tree place.at → IsServed at place
+    → leaving s.tree.links place.at copies ≡ arriving s.tree.links s.frames s.ticks flows place
+
+-- what sends into a node is of lower levels
+abbrev pub AreSourcesBelow : Topology → ℕ → ℕ → Type 0
+AreSourcesBelow tree level x = All (λ r. level_at tree (peer_of tree.links r) < level) (ports_at tree.links x)
+
+-- the copies at a node that are kept: frames to stations of the tree; and where they are of all that came, they serve
+-- its ports as long as nothing that sends into it is of this level
+pub record AreKept (s : Setting) (level : ℕ) (flows : List PortFlow) (at : AtNode) (copies : List Incoming) : Type 0 where
+  pub routes : All (λ c. IsRoute s.tree c.copy.frame.route) copies
+  pub below : at.without.0 ≡ 0 → AreSourcesBelow s.tree level at.node.0
+  pub serve : at.without.0 ≡ 0 → DoServe s flows at copies

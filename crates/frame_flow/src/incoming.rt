@@ -1,0 +1,117 @@
+//! The copies of frames that come to a node, each with the port that it came in by.
+
+ghost use Rattle.std.specs.Prelude.{◌≡◌, [], true};
+ghost use Rattle.frame_flow.specs.Incoming.{IsServed};
+
+use crate::frame::Frame;
+use crate::place::Place;
+use srp_base::{NodeNo, PortNo, Rate};
+use std::alloc::Global;
+use std::marker::Model;
+
+/// A node whose copies are asked for, in bit times of a rate, without those that came in by one port. Port 0 is none of its
+/// ports.
+#[derive(Clone, Copy)]
+pub(crate) struct AtNode {
+    pub(crate) node: NodeNo,
+    pub(crate) rate: Rate,
+    pub(crate) without: PortNo,
+}
+
+impl AtNode {
+    /// Whether all copies at the node are asked for, and they serve a port.
+    pub(crate) fn serves_all(self, place: Place) -> bool
+        ensures all { result ≡ true → self.without.0 ≡ 0 }
+        ensures served { result ≡ true → IsServed self place }
+    {
+        self.without.0 == 0 && self.node == place.at.node && self.rate == place.rate
+    }
+}
+
+/// A copy of a frame at a node, with the port that it came in by; a frame of the node's own station came in by port 0. Its
+/// number stands beside it, so that copies are put in order without a look at each frame. Contracts see an `Incoming`.
+#[derive(Drop)]
+pub(crate) struct IncomingOf<'a> {
+    frame: &'a Frame,
+    bit: u64,
+    number: u32,
+    ingress: PortNo,
+}
+
+impl<'a> Model for IncomingOf<'a> {
+    ghost use Rattle.std.specs.Prelude.{◌≡◌};
+    ghost use Rattle.frame_flow.specs.Incoming.{Incoming};
+
+    ghost Value = { Incoming };
+
+    ghost view = { λ c. record { ingress = c.ingress.0; copy = record { bit = c.bit; frame = c.frame.now } } };
+
+    ghost invariant = { λ c. c.number ≡ c.frame.now.number };
+}
+
+impl<'a> IncomingOf<'a> {
+    /// The copy of a frame that came in by this port, in this bit time.
+    pub(crate) fn new(ingress: PortNo, bit: u64, frame: &'a Frame) -> IncomingOf<'a>
+        ensures { result
+            ≡ record { ingress = ingress.0; copy = record { bit = bit; frame = frame.now } } }
+    {
+        IncomingOf {
+            frame,
+            bit,
+            number: frame.number,
+            ingress,
+        }
+    }
+
+    /// The port that it came in by.
+    pub(crate) fn ingress(&self) -> PortNo
+        ensures { result.0 ≡ self.now.ingress }
+    {
+        self.ingress
+    }
+
+    /// The bit time in which it came.
+    pub(crate) fn bit(&self) -> u64
+        ensures { result ≡ self.now.copy.bit }
+    {
+        self.bit
+    }
+
+    /// The number of the frame.
+    pub(crate) fn number(&self) -> u32
+        ensures { result ≡ self.now.copy.frame.number }
+    {
+        self.number
+    }
+
+    /// The frame.
+    pub(crate) fn frame(&self) -> &'a Frame
+        ensures { result.now ≡ self.now.copy.frame }
+    {
+        self.frame
+    }
+}
+
+/// The copies at a node, in order.
+#[derive(Drop)]
+pub(crate) struct NodeCopies<'a> {
+    pub(crate) at: AtNode,
+    pub(crate) copies: Vec<IncomingOf<'a>>,
+}
+
+impl<'a> NodeCopies<'a> {
+    /// No copies, of no node.
+    pub(crate) fn none(alloc: Global) -> NodeCopies<'a>
+        ensures without { result.at.without.0 ≡ 1 }
+        ensures copies { result.copies.items ≡ [] }
+    {
+        NodeCopies {
+            at: AtNode {
+                node: NodeNo(0),
+                rate: Rate::M100,
+                without: PortNo(1),
+            },
+            copies: Vec::new(alloc),
+        }
+    }
+}
