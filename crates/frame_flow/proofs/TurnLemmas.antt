@@ -22,7 +22,7 @@ use Rattle.frame_flow.specs.declared.frame.FrameCopy.{FrameCopy}
 use Rattle.frame_flow.specs.Force.{is_port, changes_at}
 use Rattle.frame_flow.specs.Copies.{all_places, places_of_link, ports_at, port_of, flow_at}
 use Rattle.frame_flow.specs.Flow.{Setting, IsFlow, port_flow, flow_of_copies}
-use Rattle.frame_flow.specs.Turns.{level_at, level_of, ArePorts, AreAt, AreDoneBelow}
+use Rattle.frame_flow.specs.Turns.{level_at, level_of, ArePorts, AreAt, AreDoneBelow, IsEarlier}
 use Rattle.frame_flow.proofs.CopyLemmas.{All-flat_map, arriving-same}
 
 -- ---- ports
@@ -140,10 +140,27 @@ set-at places flows k x same at =
       | inr past ↦ ap (λ (t : List PortFlow). map to t) (set_past flows k x past) ∙ at
     ]
 
-pub done-more : (s : Setting) → HasPortLaws s.tree → (places : List Place) (flows : List PortFlow) (level k : ℕ) (place : Place) (x : PortFlow)
+-- one that is earlier stays so whichever number of it is left open
+earlier-same : (tree : Topology) (level node k : ℕ) (places : List Place) (j : ℕ) (one other : Place) → j < length places
+    → IsEarlier tree level node k (get_or places j one) j → IsEarlier tree level node k (get_or places j other) j
+earlier-same tree level node k places j one other few is =
+    subst (λ (t : Place). IsEarlier tree level node k t j) (get_or_default places j one other few) is
+
+-- what is earlier is of no higher level
+earlier-level : (tree : Topology) (level node k : ℕ) (place : Place) (j : ℕ) → IsEarlier tree level node k place j → level_of tree place ≤ level
+earlier-level tree level node k place j (inl lower) = omega (arith, lower)
+earlier-level tree level node k place j (inr tied) = omega (arith, tied.0)
+
+-- one more of a node's ports: the others were earlier before
+earlier-before : (tree : Topology) (level node k : ℕ) (place : Place) (j : ℕ) → j ≢ k → IsEarlier tree level node (k + 1) place j → IsEarlier tree level node k place j
+earlier-before tree level node k place j ne (inl lower) = inl lower
+earlier-before tree level node k place j ne (inr tied) =
+    elim tied.1 [ inl below ↦ inr (tied.0, inl below) | inr here ↦ inr (tied.0, inr (here.0, omega (arith, here.1, ne))) ]
+
+pub done-more : (s : Setting) → HasPortLaws s.tree → (places : List Place) (flows : List PortFlow) (level node k : ℕ) (place : Place) (x : PortFlow)
     → ArePorts s.tree places → AreAt places flows → k < length places → level_of s.tree (get_or places k place) ≡ level
-    → x ≡ port_flow s flows (get_or places k place) → AreDoneBelow s level k places flows → AreDoneBelow s level (k + 1) places (set flows k x)
-done-more s laws places flows level k place x ports at below lvl is done j other few upto y e =
+    → x ≡ port_flow s flows (get_or places k place) → AreDoneBelow s level node k places flows → AreDoneBelow s level node (k + 1) places (set flows k x)
+done-more s laws places flows level node k place x ports at below lvl is done j other few upto y e =
     let here = get_or places k place in
     let size = size-at places flows at in
     let new : x.at ≡ here.at = ap (λ (t : PortFlow). t.at) is in
@@ -158,39 +175,62 @@ done-more s laws places flows level k place x ports at below lvl is done j other
           ∙ ap (λ (t : Place). port_flow s (set flows k x) t) (get_or_default places k place e below)))
       | inr ne ↦ (
           let there = get_or places j e in
-          let level_there : level_of s.tree (get_or places j other) ≡ level_of s.tree there = ap (λ (t : Place). level_of s.tree t) (get_or_default places j other e few) in
-          let before : (level_of s.tree (get_or places j other) < level) ⊎ ((level_of s.tree (get_or places j other) ≡ level) × (j < k)) =
-          elim upto [ inl lower ↦ inl lower | inr tied ↦ inr (tied.0, omega (arith, tied.1, ne)) ] in
-          let low : level_of s.tree there ≤ level = elim upto [ inl lower ↦ omega (arith, lower, level_there) | inr tied ↦ omega (arith, tied.0, level_there) ] in
+          let before = earlier-before s.tree level node k (get_or places j other) j ne upto in
+          let low : level_of s.tree there ≤ level = earlier-level s.tree level node k there j (earlier-same s.tree level node k places j other e few before) in
           let agree_there : AgreeBelow s.tree (level_of s.tree there) flows (set flows k x) =
           λ q port lt. agree q port (omega (arith, lt, low, lvl)) in
           get_or-set_other flows k j x y ne ∙ done j other few before y e
           ∙ port_flow-same s laws there flows (set flows k x) (ports j e few) agree_there)
     ]
 
-pub done-skip : (s : Setting) (places : List Place) (flows : List PortFlow) (level k : ℕ) (place : Place) → level_of s.tree (get_or places k place) ≢ level
-    → AreDoneBelow s level k places flows → AreDoneBelow s level (k + 1) places flows
-done-skip s places flows level k place ne done j other few (inl lower) = done j other few (inl lower)
-done-skip s places flows level k place ne done j other few (inr tied) =
+-- it is of another level, or of another node
+pub done-skip : (s : Setting) (places : List Place) (flows : List PortFlow) (level node k : ℕ) (place : Place)
+    → (level_of s.tree (get_or places k place) ≡ level → (get_or places k place).at.node.0 ≢ node)
+    → AreDoneBelow s level node k places flows → AreDoneBelow s level node (k + 1) places flows
+done-skip s places flows level node k place unlike done j other few upto =
     elim (cases_eq j k) [
-      | inl same ↦ absurd (
-          let F : ℕ → Type 0 = λ i. level_of s.tree (get_or places i other) ≡ level in
-          let here : level_of s.tree (get_or places k other) ≡ level = subst F same tied.0 in
-          ne (ap (λ (t : Place). level_of s.tree t) (get_or_default places k place other (omega (arith, same, few))) ∙ here))
-      | inr apart_j ↦ done j other few (inr (tied.0, omega (arith, tied.1, apart_j)))
+      | inr ne ↦ done j other few (earlier-before s.tree level node k (get_or places j other) j ne upto)
+      | inl same ↦ elim upto [
+        | inl lower ↦ done j other few (inl lower)
+        | inr tied ↦ elim tied.1 [
+          | inl below ↦ done j other few (inr (tied.0, inl below))
+          | inr here ↦ (
+              let F : ℕ → Type 0 = λ i. (level_of s.tree (get_or places i other) ≡ level) × ((get_or places i other).at.node.0 ≡ node) in
+              let G : Place → Type 0 = λ t. (level_of s.tree t ≡ level) × (t.at.node.0 ≡ node) in
+              let both : F k = subst F same (tied.0, here.0) in
+              let now : G (get_or places k place) = subst G (get_or_default places k other place (omega (arith, same, few))) both in absurd (unlike now.0 now.1))
+        ]
+      ]
     ]
 
-pub done-level : (s : Setting) (places : List Place) (flows : List PortFlow) (level : ℕ) → AreDoneBelow s level (length places) places flows → AreDoneBelow s (level + 1) 0 places flows
-done-level s places flows level done j other few (inl lower) =
+-- all ports of a node are done, and the next node's follow
+pub done-node : (s : Setting) (places : List Place) (flows : List PortFlow) (level node : ℕ) → AreDoneBelow s level node (length places) places flows
+    → AreDoneBelow s level (node + 1) 0 places flows
+done-node s places flows level node done j other few (inl lower) = done j other few (inl lower)
+done-node s places flows level node done j other few (inr tied) =
+    elim tied.1 [
+      | inr none ↦ absurd (omega (arith, none.1))
+      | inl upto ↦ elim (cases_lt (get_or places j other).at.node.0 node) [
+        | inl below ↦ done j other few (inr (tied.0, inl below))
+        | inr here ↦ done j other few (inr (tied.0, inr (omega (arith, upto, here), few)))
+      ]
+    ]
+
+-- all nodes are done, and the next level follows
+pub done-level : (s : Setting) (places : List Place) (flows : List PortFlow) (level node : ℕ) → ArePorts s.tree places → length s.tree.kinds < node
+    → AreDoneBelow s level node 0 places flows → AreDoneBelow s (level + 1) 0 0 places flows
+done-level s places flows level node ports all done j other few (inl lower) =
     elim (cases_lt (level_of s.tree (get_or places j other)) level) [
       | inl less ↦ done j other few (inl less)
-      | inr more ↦ done j other few (inr (omega (arith, lower, more), few))
+      | inr more ↦ done j other few (inr (omega (arith, lower, more), inl (omega (arith, all, (ports j other few).0.1))))
     ]
-done-level s places flows level done j other few (inr tied) = absurd (omega (arith, tied.1))
+done-level s places flows level node ports all done j other few (inr tied) =
+    elim tied.1 [ inl below ↦ absurd (omega (arith, below)) | inr none ↦ absurd (omega (arith, none.1)) ]
 
-pub done-none : (s : Setting) (places : List Place) (flows : List PortFlow) → AreDoneBelow s 0 0 places flows
+pub done-none : (s : Setting) (places : List Place) (flows : List PortFlow) → AreDoneBelow s 0 0 0 places flows
 done-none s places flows j other few (inl lower) = absurd (omega (arith, lower))
-done-none s places flows j other few (inr tied) = absurd (omega (arith, tied.1))
+done-none s places flows j other few (inr tied) =
+    elim tied.1 [ inl below ↦ absurd (omega (arith, below)) | inr none ↦ absurd (omega (arith, none.1)) ]
 
 -- a port's level is at most the number of nodes
 level-few : (tree : Topology) (p : EgressPort) → level_at tree p ≤ length tree.kinds
@@ -199,7 +239,7 @@ level-few tree p =
     omega (arith, count_by-le-length (λ y. is_behind tree.links (peer_of tree.links p) y) (range_with_len 1 n), length-range_with_len 1 n)
 
 pub done-all : (s : Setting) (flows : List PortFlow) → AreAt (all_places s.tree.links s.rates) flows
-    → AreDoneBelow s (length s.tree.kinds + 1) 0 (all_places s.tree.links s.rates) flows → IsFlow s flows
+    → AreDoneBelow s (length s.tree.kinds + 1) 0 0 (all_places s.tree.links s.rates) flows → IsFlow s flows
 done-all s flows at done =
     let places = all_places s.tree.links s.rates in
     let size = size-at places flows at in
@@ -220,33 +260,32 @@ level-read tree places levels k place are below =
     ap (λ (t : List ℕ). get_or t k 0) are ∙ get_or-map (level_of tree) places k place 0 below
 
 -- the flow of this index is put in, which is of the level
-pub step-done : (s : Setting) → HasPortLaws s.tree → (places : List Place) (levels : List ℕ) (flows after : List PortFlow) (level k : ℕ) (place : Place)
+pub step-done : (s : Setting) → HasPortLaws s.tree → (places : List Place) (levels : List ℕ) (flows after : List PortFlow) (level node k : ℕ) (place : Place)
     → places ≡ all_places s.tree.links s.rates → levels ≡ map (level_of s.tree) places → AreAt places flows → k < length places → get_or levels k 0 ≡ level
-    → after ≡ set flows k (port_flow s flows (get_or places k place)) → AreDoneBelow s level k places flows
-    → AreAt places after × AreDoneBelow s level (k + 1) places after
-step-done s laws places levels flows after level k place all are at below is made done =
+    → after ≡ set flows k (port_flow s flows (get_or places k place)) → AreDoneBelow s level node k places flows
+    → AreAt places after × AreDoneBelow s level node (k + 1) places after
+step-done s laws places levels flows after level node k place all are at below is made done =
     let x = port_flow s flows (get_or places k place) in
     let ports = subst (λ (t : List Place). ArePorts s.tree t) (sym all) (places-are s.tree s.rates laws) in
     let lvl = sym (level-read s.tree places levels k place are below) ∙ is in
     let put_at = set-at places flows k x (at-index places flows k place x at below) at in
-    let put_done = done-more s laws places flows level k place x ports at below lvl refl done in (
+    let put_done = done-more s laws places flows level node k place x ports at below lvl refl done in (
       subst (λ (t : List PortFlow). AreAt places t) (sym made) put_at,
-      subst (λ (t : List PortFlow). AreDoneBelow s level (k + 1) places t) (sym made) put_done,
+      subst (λ (t : List PortFlow). AreDoneBelow s level node (k + 1) places t) (sym made) put_done,
     )
 
--- it is of another level
-pub step-skip : (s : Setting) (places : List Place) (levels : List ℕ) (flows : List PortFlow) (level k : ℕ) → levels ≡ map (level_of s.tree) places
-    → k < length places → get_or levels k 0 ≢ level → AreDoneBelow s level k places flows → AreDoneBelow s level (k + 1) places flows
-step-skip s places levels flows level k are below other done =
-    let p : EgressPort = record { node = record { 0 = 0 }; port = record { 0 = 0 } } in
-    let place : Place = record { at = p; rate = M100 } in
-    done-skip s places flows level k place (λ e. other (level-read s.tree places levels k place are below ∙ e)) done
+-- it is of another level or node
+pub step-skip : (s : Setting) (places : List Place) (levels : List ℕ) (flows : List PortFlow) (level node k : ℕ) (place : Place) → levels ≡ map (level_of s.tree) places
+    → k < length places → (get_or levels k 0 ≡ level → (get_or places k place).at.node.0 ≢ node)
+    → AreDoneBelow s level node k places flows → AreDoneBelow s level node (k + 1) places flows
+step-skip s places levels flows level node k place are below other done =
+    done-skip s places flows level node k place (λ e. other (level-read s.tree places levels k place are below ∙ e)) done
 
 pub all-done : (s : Setting) (places : List Place) (flows : List PortFlow) (level : ℕ) → places ≡ all_places s.tree.links s.rates
-    → level ≡ length s.tree.kinds + 1 → AreAt places flows → AreDoneBelow s level 0 places flows → IsFlow s flows
+    → level ≡ length s.tree.kinds + 1 → AreAt places flows → AreDoneBelow s level 0 0 places flows → IsFlow s flows
 all-done s places flows level all last at done =
     done-all s flows (subst (λ (t : List Place). AreAt t flows) all at)
-    (subst (λ (n : ℕ). AreDoneBelow s n 0 (all_places s.tree.links s.rates) flows) last (subst (λ (t : List Place). AreDoneBelow s level 0 t flows) all done))
+    (subst (λ (n : ℕ). AreDoneBelow s n 0 0 (all_places s.tree.links s.rates) flows) last (subst (λ (t : List Place). AreDoneBelow s level 0 0 t flows) all done))
 
 -- ---- two flows are one
 

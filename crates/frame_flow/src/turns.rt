@@ -1,6 +1,6 @@
 //! The flow of frames over a tree, port by port.
 
-ghost use Rattle.std.specs.Prelude.{◌≡◌, ◌+◌, ◌<◌, ◌≤◌, true, slice_set, All, IfOk, OnOk, length, map, Contains, if◌then◌else◌};
+ghost use Rattle.std.specs.Prelude.{◌≡◌, ◌+◌, ◌<◌, ◌≤◌, ◌≢◌, true, false, slice_set, All, IfOk, OnOk, length, map, Contains, if◌then◌else◌};
 ghost use Rattle.tree_topology.specs.Topology.{HasNode, HasPort};
 ghost use Rattle.tree_topology.specs.Ports.{peer_of};
 ghost use Rattle.tree_topology.specs.Walk.{count_behind};
@@ -76,7 +76,7 @@ impl<'a> Asked<'a> {
         let places = self.places(alloc)?;
         let levels = self.levels(alloc, &places)?;
         let mut flows = no_flows(alloc, &places)?;
-        for level in 0..self.level_count() {
+        for level in 0..self.count() {
             self.add_level(alloc, &places, &levels, level, &mut flows)?;
         }
         Ok(flows)
@@ -98,14 +98,14 @@ impl<'a> Asked<'a> {
         levels_of(alloc, self.tree, places)
     }
 
-    /// One more than the highest level that a port may have.
-    fn level_count(&self) -> usize
+    /// One more than the highest level that a port may have, and than the highest number of a node.
+    fn count(&self) -> usize
         ensures { result ≡ length self.now.tree.kinds + 1 }
     {
         usize::from(self.tree.nodes()) + 1
     }
 
-    /// Puts in the flows at the ports of one level, where those of lower levels are there.
+    /// Puts in the flows at the ports of one level, node by node, where those of lower levels are there.
     fn add_level(
         &self,
         alloc: Global,
@@ -117,15 +117,40 @@ impl<'a> Asked<'a> {
         requires places { places.now ≡ all_places self.now.tree.links self.now.rates }
         requires levels { levels.now ≡ map (level_of self.now.tree) places.now }
         requires at { AreAt places.now flows.old.items }
-        requires done { AreDoneBelow self.now level 0 places.now flows.old.items }
+        requires done { AreDoneBelow self.now level 0 0 places.now flows.old.items }
         ensures at { OnOk result (AreAt places.now flows.new.items) }
-        ensures done { OnOk result (AreDoneBelow self.now (level + 1) 0 places.now
+        ensures done { OnOk result (AreDoneBelow self.now (level + 1) 0 0 places.now
+            flows.new.items) }
+    {
+        self.keeps();
+        for node in 0..self.count() {
+            self.add_node(alloc, places, levels, level, node, flows)?;
+        }
+        Ok(())
+    }
+
+    /// Puts in the flows at a node's ports of one level, where those of lower levels and of lower nodes are there.
+    fn add_node(
+        &self,
+        alloc: Global,
+        places: &[Place],
+        levels: &[usize],
+        level: usize,
+        node: usize,
+        flows: &mut Vec<PortFlow>,
+    ) -> Result<(), NoMemory>
+        requires places { places.now ≡ all_places self.now.tree.links self.now.rates }
+        requires levels { levels.now ≡ map (level_of self.now.tree) places.now }
+        requires at { AreAt places.now flows.old.items }
+        requires done { AreDoneBelow self.now level node 0 places.now flows.old.items }
+        ensures at { OnOk result (AreAt places.now flows.new.items) }
+        ensures done { OnOk result (AreDoneBelow self.now level (node + 1) 0 places.now
             flows.new.items) }
     {
         self.keeps();
         let mut kept = NodeCopies::none(alloc);
         for k in 0..places.len() {
-            if levels[k] == level {
+            if is_of(&places[k], levels[k], level, node) {
                 let is_shared = has_another(places, levels, k);
                 kept = self.copies_for(flows, places[k], level, is_shared, kept)?;
                 self.put_flow(alloc, places[k], k, kept.copies.as_slice(), flows)?;
@@ -253,6 +278,14 @@ fn level(tree: &Tree, at: EgressPort) -> usize
 {
     tree.keeps();
     count_behind(tree, tree.peer(at))
+}
+
+/// Whether a port with its level is of this level and this node.
+fn is_of(place: &Place, its_level: usize, level: usize, node: usize) -> bool
+    ensures is { result ≡ true → (its_level ≡ level) × (place.now.at.node.0 ≡ node) }
+    ensures not { result ≡ false → its_level ≡ level → place.now.at.node.0 ≢ node }
+{
+    its_level == level && usize::from(place.at.node.0) == node
 }
 
 /// Whether another port than that of an index is of its node and its level. It is asked for the sake of speed alone.
