@@ -1,11 +1,10 @@
 -- The copies that arrive at a port: whose they are, and on which flows they depend.
-use Rattle.std.proofs.Common.{◌≡◌, ℕ, ◌+◌, ◌<◌, set, replicate, append-nil, inl, inr, Bool, true, false, List, [], ◌∷◌, ◌++◌, length, get_or, take, map, Bor, Option, Some, None, refl, sym, ◌∙◌, ap, subst, arith}
+use Rattle.std.proofs.Common.{◌≡◌, ℕ, ◌+◌, ◌<◌, set, replicate, append-nil, inl, inr, Bool, true, false, List, [], ◌∷◌, ◌++◌, length, get_or, take, map, Option, Some, None, refl, sym, ◌∙◌, ap, subst, arith}
 use Rattle.std.specs.Prelude.{All, AllPairs, find, filter, filter_map, flat_map, nat_lt, ◌==◌, ◌&&◌}
 use Rattle.std.specs.List.{cons_option}
-use Rattle.std.specs.List.Sorted.{IsPermutation}
 use Rattle.std.proofs.lemmas.Bool.{cond_both, cond-true, cond-false, cases_Bool, cases_eq, eq-eqb, ne_eqb, ltb-true, and_parts}
-use Rattle.std.proofs.lemmas.List.{get_or-map, length-map, get_or-replicate, length-replicate, length-set, get_or-set_same, get_or-set_other, take_more}
-use Rattle.std.proofs.lemmas.List.Elements.{filter-append, filter_map-append, All-nil, All-cons, All-head, All-tail, All-append, All-filter, All-map, All-weaker, All-same}
+use Rattle.std.proofs.lemmas.List.{get_or-replicate, length-replicate, length-set, get_or-set_same, get_or-set_other, take_more}
+use Rattle.std.proofs.lemmas.List.Elements.{filter-append, All-nil, All-cons, All-head, All-tail, All-append, All-filter, All-map, All-weaker}
 use Rattle.srp_base.specs.declared.numbers.EgressPort.{EgressPort}
 use Rattle.srp_base.specs.declared.numbers.NodeNo.{NodeNo}
 use Rattle.tree_topology.specs.Topology.{HasNode}
@@ -23,9 +22,9 @@ use Rattle.frame_flow.specs.Force.{is_port}
 use Rattle.frame_flow.specs.Copies.{Reached, sent_from, frame_of, reached_at, handed_on, handed_by, comes_over, flow_at, reached, ports_at, goes_by, copy_of, in_order, arriving}
 use Rattle.frame_flow.specs.Flow.{Setting}
 use Rattle.frame_flow.specs.Steps.{AreByNode}
-use Rattle.frame_flow.specs.Given.{IsInOrder, IsSetting, IsFrame, IsRoute}
+use Rattle.frame_flow.specs.Given.{IsInOrder}
 use Rattle.frame_flow.proofs.NumberLemmas.{find-here}
-use Rattle.frame_flow.proofs.OrderLemmas.{IsKnown, IsKnownCopy, All-in_order, order-in_order, sorted-is}
+use Rattle.frame_flow.proofs.OrderLemmas.{IsKnown, All-in_order, order-in_order}
 
 -- ---- lists
 
@@ -48,10 +47,6 @@ All-flat_map P Q f each (x ∷ xs) all =
 
 pub All-any : {X : Type 0} (xs : List X) → All (λ x. Unit {0}) xs
 All-any xs k d below = tt
-
-pub All-unmapped : {X Y : Type 0} (P : Y → Type 0) (to : X → Y) (xs : List X) → All P (map to xs) → All (λ x. P (to x)) xs
-All-unmapped P to xs all k d below =
-    subst P (get_or-map to xs k d (to d) below) (all k (to d) (omega (arith, below, length-map xs to)))
 
 pub map-twice : {X Y Z : Type 0} (g : Y → Z) (f : X → Y) (xs : List X) → map g (map f xs) ≡ map (λ x. g (f x)) xs
 map-twice g f [] = refl
@@ -82,11 +77,6 @@ known-each frames up k d below =
     find-here (λ f. f.number == (get_or frames k d).number) frames k d below
     (λ j lt. ne_eqb (get_or frames j d).number (get_or frames k d).number (λ e. omega (arith, up j k d lt below, e)))
     (eq-eqb (get_or frames k d).number (get_or frames k d).number refl)
-
--- a frame that is found goes to a station of the tree
-pub known_route : (s : Setting) (number : ℕ) (f : Frame) → IsSetting s → frame_of s.frames number ≡ Some f → IsRoute s.tree f.route
-known_route s number f given e =
-    (All-find (IsFrame s.tree s.ticks) (λ g. g.number == number) s.frames f given.range.frames e).0.route
 
 -- ---- whose copies arrive
 

@@ -1,11 +1,11 @@
 -- The copies at a node: those of them that leave by a port are those that arrive at it, and they stay so while
 -- ports of the same level get their flows.
-use Rattle.std.proofs.Common.{◌≡◌, ◌≢◌, ℕ, ◌+◌, ◌<◌, ◌≤◌, ◌⊎◌, inl, inr, Bool, true, false, cond, List, [], ◌∷◌, ◌++◌, length, get_or, set, take, map, append-nil, Option, Some, None, refl, sym, ◌∙◌, ap, subst, arith}
-use Rattle.std.specs.Prelude.{All, AllPairs, not, filter, filter_map, flat_map, sum_by, nat_lt, ◌==◌, ◌&&◌}
+use Rattle.std.proofs.Common.{◌≡◌, ℕ, ◌+◌, ◌<◌, ◌≤◌, ◌⊎◌, inl, inr, true, false, List, [], ◌∷◌, ◌++◌, length, get_or, set, take, map, append-nil, Option, Some, None, refl, sym, ◌∙◌, ap, subst, arith}
+use Rattle.std.specs.Prelude.{All, AllPairs, not, filter_map, flat_map, sum_by, nat_lt, ◌==◌, ◌&&◌}
 use Rattle.std.specs.List.{cons_option, range_with_len}
 use Rattle.std.specs.List.Sorted.{IsPermutation, IsSortedByKey}
 use Rattle.std.specs.Ordering.{is_lt}
-use Rattle.std.proofs.lemmas.Bool.{cond_both, cond-true, cond-false, cases_Bool, cases_eq, eq-eqb, ne_eqb, eqb-true, and_from, and_left, and_right, false≢true}
+use Rattle.std.proofs.lemmas.Bool.{cond_both, cond-true, cond-false, cases_Bool, eq-eqb, ne_eqb, eqb-true, and_from, and_left, and_right, false≢true}
 use Rattle.std.proofs.lemmas.List.{take_more}
 use Rattle.std.proofs.lemmas.List.Elements.{filter_map-append, All-nil, All-cons, All-head, All-tail, All-append, All-weaker, All-same}
 use Rattle.std.proofs.lemmas.List.FromFn.{get_or-range_with_len, length-range_with_len, map-range_with_len_more}
@@ -17,9 +17,7 @@ use Rattle.srp_base.specs.declared.numbers.NodeNo.{NodeNo}
 use Rattle.srp_base.specs.declared.numbers.PortNo.{PortNo}
 use Rattle.srp_base.specs.declared.bandwidth.Rate.{Rate}
 use Rattle.tree_topology.specs.declared.graph.Link.{Link}
-use Rattle.tree_topology.specs.Topology.{Topology, HasNode, HasPort}
 use Rattle.tree_topology.specs.Ports.{neighbours, peer_of}
-use Rattle.tree_topology.specs.PortLaws.{HasPortLaws}
 use Rattle.frame_flow.specs.declared.frame.Frame.{Frame}
 use Rattle.frame_flow.specs.declared.frame.FrameCopy.{FrameCopy}
 use Rattle.frame_flow.specs.declared.incoming.AtNode.{AtNode}
@@ -31,7 +29,7 @@ use Rattle.frame_flow.specs.Copies.{Reached, arriving, comes_over, copy_of, flow
 use Rattle.frame_flow.specs.Flow.{Setting, port_flow}
 use Rattle.frame_flow.specs.Given.{IsFrame, IsInOrder, IsRoute, IsSetting}
 use Rattle.frame_flow.specs.Turns.{AreAt, level_at, level_of}
-use Rattle.frame_flow.specs.Incoming.{Incoming, AreInOrder, AreKept, AreSourcesBelow, DoServe, IsServed, incoming_at, incoming_by, incoming_of, leaving, leaving_by}
+use Rattle.frame_flow.specs.Incoming.{Incoming, AreInOrder, AreKept, DoServe, incoming_at, incoming_by, incoming_of, leaving, leaving_by}
 use Rattle.frame_flow.proofs.CopyLemmas.{All-any, All-filter_map, All-flat_map, All-handed_by, All-sent_from, arriving-same, known-each}
 use Rattle.frame_flow.proofs.OrderLemmas.{IsKnown, IsKnownCopy, copy_key, key_cmp, key-total, lex-from_cmp, All-in_order, order-in_order, ordered-one, pairs-head, pairs-none, pairs-tail, sum-in_order}
 use Rattle.frame_flow.proofs.TurnLemmas.{at-index, level-read, set-apart}

@@ -45,14 +45,6 @@ added-more {X} {Y} {Z} g h xs i d below =
     ∙ ap (λ (t : List Y). filter_map g t) (flat_map-append h (take i xs) (get_or xs i d ∷ []) ∙ ap (λ (t : List Y). flat_map h (take i xs) ++ t) (append-nil (h (get_or xs i d))))
     ∙ filter_map-append g (flat_map h (take i xs)) (h (get_or xs i d))
 
--- what a list of lists gives with one number more, through two functions
-pub ported-more : {Y Z W : Type 0} (g : Z → Option W) (h : Y → List Z) (f : ℕ → Y) (n : ℕ)
-    → filter_map g (flat_map h (map f (range_with_len 1 (n + 1)))) ≡ filter_map g (flat_map h (map f (range_with_len 1 n))) ++ filter_map g (h (f (n + 1)))
-ported-more {Y} {Z} {W} g h f n =
-    ap (λ (t : List Y). filter_map g (flat_map h t)) (map-range_with_len_more f 1 n (n + 1) (omega arith))
-    ∙ ap (λ (t : List Z). filter_map g t) (flat_map-append h (map f (range_with_len 1 n)) (f (n + 1) ∷ []) ∙ ap (λ (t : List Z). flat_map h (map f (range_with_len 1 n)) ++ t) (append-nil (h (f (n + 1)))))
-    ∙ filter_map-append g (flat_map h (map f (range_with_len 1 n))) (h (f (n + 1)))
-
 -- a list that has grown twice
 pub grown : {X : Type 0} (first mid last ys zs more : List X) → mid ≡ first ++ ys → last ≡ mid ++ zs → more ≡ ys ++ zs → last ≡ first ++ more
 grown {X} first mid last ys zs more one two three =

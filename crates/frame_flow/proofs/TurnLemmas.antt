@@ -1,6 +1,6 @@
 -- Why one order over the ports serves: what comes in over a port's own link never leaves by it, so the
 -- flow at a port depends on those of lower levels alone.
-use Rattle.std.proofs.Common.{◌≡◌, ◌≢◌, ℕ, zero, suc, ◌+◌, ◌-◌, ◌<◌, ◌≤◌, ◌⊎◌, inl, inr, true, false, List, [], ◌∷◌, length, get_or, set, map, Some, refl, sym, ◌∙◌, ap, subst, arith}
+use Rattle.std.proofs.Common.{◌≡◌, ◌≢◌, ℕ, zero, suc, ◌+◌, ◌-◌, ◌<◌, ◌≤◌, inl, inr, true, false, List, [], ◌∷◌, length, get_or, set, map, Some, refl, sym, ◌∙◌, ap, subst, arith}
 use Rattle.std.specs.Prelude.{All, ◌==◌}
 use Rattle.std.specs.List.{range_with_len}
 use Rattle.std.proofs.lemmas.Bool.{cond-true, cond-false, cases_Bool, cases_lt, cases_eq, eq-eqb, eqb-true, and_from, and_parts, false≢true}
@@ -225,11 +225,6 @@ done-level s places flows level node ports all done j other few (inl lower) =
       | inr more ↦ done j other few (inr (omega (arith, lower, more), inl (omega (arith, all, (ports j other few).0.1))))
     ]
 done-level s places flows level node ports all done j other few (inr tied) =
-    elim tied.1 [ inl below ↦ absurd (omega (arith, below)) | inr none ↦ absurd (omega (arith, none.1)) ]
-
-pub done-none : (s : Setting) (places : List Place) (flows : List PortFlow) → AreDoneBelow s 0 0 0 places flows
-done-none s places flows j other few (inl lower) = absurd (omega (arith, lower))
-done-none s places flows j other few (inr tied) =
     elim tied.1 [ inl below ↦ absurd (omega (arith, below)) | inr none ↦ absurd (omega (arith, none.1)) ]
 
 -- a port's level is at most the number of nodes

@@ -1,4 +1,5 @@
--- In which order the code goes over the ports. No public contract names these words.
+-- In which order the code goes over the ports: level by level, in each level node by node, and in the order of the links at
+-- each node. No public contract names these words.
 use Rattle.std.specs.Prelude.{◌≡◌, ℕ, ◌<◌, ◌⊎◌, List, length, map, All}
 use Rattle.std.proofs.Common.{get_or}
 use Rattle.srp_base.specs.declared.numbers.EgressPort.{EgressPort}

@@ -26,14 +26,14 @@ pub(crate) fn carry_sent(world: &mut World, steps: &[NodeSteps]) -> Result<(), N
     Ok(())
 }
 
-// Whether a step among these is Send.
+// Whether a step of some node among these is Send.
 fn has_send(steps: &[NodeSteps]) -> bool
     ensures { result ≡ has_send steps.now }
 {
     steps.iter().any(sends)
 }
 
-// Whether a node's step among these is.
+// Whether a step of a node is Send.
 fn sends(made: &NodeSteps) -> bool
     ensures { result ≡ list_any (λ st. is_send st.step) made.now.steps }
 {

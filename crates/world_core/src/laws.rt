@@ -204,8 +204,8 @@ pub fn a_step_is_of_its_node_alone()
         → node_at m (world_step (port_event n port step) w).0 ≡ node_at m w }
 {}
 
-/// Only a Send puts a PDU in an outbox, and the carrying at the end of a tick empties each. So nothing waits to be carried when a
-/// tick begins, and where no step of it was Send, the carrying at its end changes nothing.
+/// Nothing waits to be carried when a network begins, nor at the end of a tick at whose beginning nothing did. Where no step of such
+/// a tick was Send, the carrying at its end changes nothing, since a Send alone puts a PDU in an outbox.
 pub fn a_tick_carries_what_it_has_sent()
     ensures begins { (plan : Plan) → NothingWaits (world_of plan) }
     ensures nothing { (plan : Plan) (t : ℕ) (w : WorldState) (tick : Tick)

@@ -1,4 +1,4 @@
-use Rattle.std.proofs.Common.{◌≡◌, ◌∙◌, Bool, true, false, sym}
+use Rattle.std.proofs.Common.{◌∙◌, sym}
 use Rattle.std.proofs.lemmas.Bool.{false≢true}
 use Rattle.frame_flow.proofs.asked.Asked.at_node.Goals as goal
 use Rattle.frame_flow.proofs.asked.Asked.at_node.Goals.{then-is_shared, else-is_shared}

@@ -1,5 +1,3 @@
-use Rattle.std.proofs.Common.{◌≡◌, ◌++◌, ◌∙◌, List, [], ap}
-use Rattle.frame_flow.specs.Incoming.{Incoming, incoming_at}
 use Rattle.frame_flow.proofs.IncomingLemmas.{do-serve, gathered, routes-at}
 use Rattle.frame_flow.proofs.asked.Asked.copies_at.Goals as goal
 

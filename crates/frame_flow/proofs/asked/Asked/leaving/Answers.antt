@@ -1,4 +1,4 @@
-use Rattle.std.proofs.Common.{◌≡◌, ◌∙◌, ℕ, List, Vec, Global, ap, sym}
+use Rattle.std.proofs.Common.{◌∙◌, ℕ, List, Vec, Global, ap, sym}
 use Rattle.std.specs.Prelude.{not, ◌==◌, ◌&&◌}
 use Rattle.frame_flow.specs.declared.frame.CopyOf.{CopyOf}
 use Rattle.frame_flow.specs.declared.frame.Frame.{Frame}

@@ -1,6 +1,5 @@
 use Rattle.std.proofs.Common.{◌∙◌, ap}
 use Rattle.srp_base.specs.declared.numbers.EgressPort.{EgressPort}
-use Rattle.tree_topology.specs.Topology.{Topology}
 use Rattle.tree_topology.specs.Ports.{peer_of}
 use Rattle.frame_flow.specs.Flow.{Setting}
 use Rattle.frame_flow.specs.Turns.{level_at}
