@@ -22,7 +22,7 @@ use Rattle.frame_flow.specs.declared.frame.FrameCopy.{FrameCopy}
 use Rattle.frame_flow.specs.Force.{is_port, changes_at}
 use Rattle.frame_flow.specs.Copies.{all_places, places_of_link, ports_at, port_of, flow_at}
 use Rattle.frame_flow.specs.Flow.{Setting, IsFlow, port_flow, flow_of_copies}
-use Rattle.frame_flow.specs.Turns.{level_at, level_of, ArePorts, AreAt, AreDoneBelow, IsEarlier}
+use Rattle.frame_flow.specs.Turns.{level_at, level_of, ArePorts, AreAt, AreDoneBelow, ComesBefore}
 use Rattle.frame_flow.proofs.CopyLemmas.{All-flat_map, arriving-same}
 
 -- ---- ports
@@ -140,21 +140,21 @@ set-at places flows k x same at =
       | inr past ↦ ap (λ (t : List PortFlow). map to t) (set_past flows k x past) ∙ at
     ]
 
--- one that is earlier stays so whichever number of it is left open
-earlier-same : (tree : Topology) (level node k : ℕ) (places : List Place) (j : ℕ) (one other : Place) → j < length places
-    → IsEarlier tree level node k (get_or places j one) j → IsEarlier tree level node k (get_or places j other) j
-earlier-same tree level node k places j one other few is =
-    subst (λ (t : Place). IsEarlier tree level node k t j) (get_or_default places j one other few) is
+-- which place stands for one past the end doesn't matter
+before-same : (tree : Topology) (level node k : ℕ) (places : List Place) (j : ℕ) (one other : Place) → j < length places
+    → ComesBefore tree level node k (get_or places j one) j → ComesBefore tree level node k (get_or places j other) j
+before-same tree level node k places j one other few is =
+    subst (λ (t : Place). ComesBefore tree level node k t j) (get_or_default places j one other few) is
 
--- what is earlier is of no higher level
-earlier-level : (tree : Topology) (level node k : ℕ) (place : Place) (j : ℕ) → IsEarlier tree level node k place j → level_of tree place ≤ level
-earlier-level tree level node k place j (inl lower) = omega (arith, lower)
-earlier-level tree level node k place j (inr tied) = omega (arith, tied.0)
+-- what is gone over before is of no higher level
+before-level : (tree : Topology) (level node k : ℕ) (place : Place) (j : ℕ) → ComesBefore tree level node k place j → level_of tree place ≤ level
+before-level tree level node k place j (inl lower) = omega (arith, lower)
+before-level tree level node k place j (inr tied) = omega (arith, tied.0)
 
--- one more of a node's ports: the others were earlier before
-earlier-before : (tree : Topology) (level node k : ℕ) (place : Place) (j : ℕ) → j ≢ k → IsEarlier tree level node (k + 1) place j → IsEarlier tree level node k place j
-earlier-before tree level node k place j ne (inl lower) = inl lower
-earlier-before tree level node k place j ne (inr tied) =
+-- one more of a node's ports: the others that are gone over before it were so before
+before-one-more : (tree : Topology) (level node k : ℕ) (place : Place) (j : ℕ) → j ≢ k → ComesBefore tree level node (k + 1) place j → ComesBefore tree level node k place j
+before-one-more tree level node k place j ne (inl lower) = inl lower
+before-one-more tree level node k place j ne (inr tied) =
     elim tied.1 [ inl below ↦ inr (tied.0, inl below) | inr here ↦ inr (tied.0, inr (here.0, omega (arith, here.1, ne))) ]
 
 pub done-more : (s : Setting) → HasPortLaws s.tree → (places : List Place) (flows : List PortFlow) (level node k : ℕ) (place : Place) (x : PortFlow)
@@ -175,8 +175,8 @@ done-more s laws places flows level node k place x ports at below lvl is done j 
           ∙ ap (λ (t : Place). port_flow s (set flows k x) t) (get_or_default places k place e below)))
       | inr ne ↦ (
           let there = get_or places j e in
-          let before = earlier-before s.tree level node k (get_or places j other) j ne upto in
-          let low : level_of s.tree there ≤ level = earlier-level s.tree level node k there j (earlier-same s.tree level node k places j other e few before) in
+          let before = before-one-more s.tree level node k (get_or places j other) j ne upto in
+          let low : level_of s.tree there ≤ level = before-level s.tree level node k there j (before-same s.tree level node k places j other e few before) in
           let agree_there : AgreeBelow s.tree (level_of s.tree there) flows (set flows k x) =
           λ q port lt. agree q port (omega (arith, lt, low, lvl)) in
           get_or-set_other flows k j x y ne ∙ done j other few before y e
@@ -189,7 +189,7 @@ pub done-skip : (s : Setting) (places : List Place) (flows : List PortFlow) (lev
     → AreDoneBelow s level node k places flows → AreDoneBelow s level node (k + 1) places flows
 done-skip s places flows level node k place unlike done j other few upto =
     elim (cases_eq j k) [
-      | inr ne ↦ done j other few (earlier-before s.tree level node k (get_or places j other) j ne upto)
+      | inr ne ↦ done j other few (before-one-more s.tree level node k (get_or places j other) j ne upto)
       | inl same ↦ elim upto [
         | inl lower ↦ done j other few (inl lower)
         | inr tied ↦ elim tied.1 [

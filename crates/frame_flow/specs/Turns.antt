@@ -30,15 +30,15 @@ abbrev pub IsDone : Setting → List Place → List PortFlow → ℕ → Type 0
 IsDone s places flows j =
     (x : PortFlow) (place : Place) → get_or flows j x ≡ port_flow s flows (get_or places j place)
 
--- a port comes before others: it is of a lower level; or of this one and of a lower node; or also of this node, and among
--- the first so many
-abbrev pub IsEarlier : Topology → ℕ → ℕ → ℕ → Place → ℕ → Type 0
-IsEarlier tree level node k place j =
+-- a port, the one of index j, is gone over before: it is of a lower level; or of this level and a lower node; or of this node
+-- too, and among the first so many
+abbrev pub ComesBefore : Topology → ℕ → ℕ → ℕ → Place → ℕ → Type 0
+ComesBefore tree level node k place j =
     (level_of tree place < level)
     ⊎ ((level_of tree place ≡ level) × ((place.at.node.0 < node) ⊎ ((place.at.node.0 ≡ node) × (j < k))))
 
--- the flows at all earlier ports are
+-- the flows at all ports that are gone over before are what the others give them
 abbrev pub AreDoneBelow : Setting → ℕ → ℕ → ℕ → List Place → List PortFlow → Type 0
 AreDoneBelow s level node k places flows =
     (j : ℕ) (place : Place) → j < length places
-    → IsEarlier s.tree level node k (get_or places j place) j → IsDone s places flows j
+    → ComesBefore s.tree level node k (get_or places j place) j → IsDone s places flows j

@@ -283,7 +283,7 @@ fn level(tree: &Tree, at: EgressPort) -> usize
 /// Whether a port with its level is of this level and this node.
 fn is_of(place: &Place, its_level: usize, level: usize, node: usize) -> bool
     ensures is { result ≡ true → (its_level ≡ level) × (place.now.at.node.0 ≡ node) }
-    ensures not { result ≡ false → its_level ≡ level → place.now.at.node.0 ≢ node }
+    ensures other { result ≡ false → its_level ≡ level → place.now.at.node.0 ≢ node }
 {
     its_level == level && usize::from(place.at.node.0) == node
 }
