@@ -30,8 +30,6 @@ mod outcome;
 mod pages;
 mod run;
 mod scenario;
-#[cfg(test)]
-mod tests;
 mod top;
 mod words;
 
