@@ -1,11 +1,10 @@
 -- A copy departs from a port once where that is its fate, and else never.
-use Rattle.std.proofs.Common.{◌≡◌, ◌≢◌, ℕ, inl, inr, Bool, true, false, List, [], ◌∷◌, get_or, Some, None, refl, sym, ◌∙◌, ap, subst, arith}
+use Rattle.std.proofs.Common.{◌≡◌, ◌≢◌, ℕ, inl, inr, Bool, true, false, List, [], ◌∷◌, get_or, Some, None, refl, sym, ◌∙◌, ap, subst}
 use Rattle.std.specs.Prelude.{All, AllPairs, filter, find, ◌==◌}
 use Rattle.std.proofs.lemmas.Bool.{cond-true, cond-false, cases_Bool, eqb-true, eq-eqb, ne_eqb, false≢true}
 use Rattle.std.proofs.lemmas.List.Elements.{All-nil, All-cons, All-head, All-tail, All-weaker, All-filter}
 use Rattle.std.proofs.lemmas.List.Kept.{AllPairs-cons, AllPairs-filter}
 use Rattle.credit_shaper.specs.declared.shaper.Traffic.{Traffic}
-use Rattle.credit_shaper.specs.declared.shaper.Traffic.TheVariants.{A, B, Other}
 use Rattle.credit_shaper.specs.declared.port.Arrival.{Arrival}
 use Rattle.credit_shaper.specs.declared.port.Departure.{Departure}
 use Rattle.credit_shaper.specs.Credit.{traffic_number}
@@ -46,17 +45,6 @@ departed-pairs (x ∷ xs) (d ∷ ds) left order h =
     (departed-pairs xs ds left order.1 (pairs-tail DifferArrivals x xs h))
 
 -- ---- over all traffics
-
-same-traffic : (x y : Traffic) → traffic_number x ≡ traffic_number y → x ≡ y
-same-traffic A A e = refl
-same-traffic A B e = absurd (omega (arith, e))
-same-traffic A Other e = absurd (omega (arith, e))
-same-traffic B A e = absurd (omega (arith, e))
-same-traffic B B e = refl
-same-traffic B Other e = absurd (omega (arith, e))
-same-traffic Other A e = absurd (omega (arith, e))
-same-traffic Other B e = absurd (omega (arith, e))
-same-traffic Other Other e = refl
 
 rest-passes : (P : Departure → Type 0) (u : Traffic) (d : Departure) (ds : List Departure) → All P (filter (departs_as u) (d ∷ ds)) → All P (filter (departs_as u) ds)
 rest-passes P u d ds all =

@@ -1,14 +1,14 @@
 -- The copies at a node: those of them that leave by a port are those that arrive at it, and they stay so while
 -- ports of the same level get their flows.
-use Rattle.std.proofs.Common.{◌≡◌, ℕ, ◌+◌, ◌<◌, ◌≤◌, ◌⊎◌, inl, inr, true, false, List, [], ◌∷◌, ◌++◌, length, get_or, set, take, map, append-nil, Option, Some, None, refl, sym, ◌∙◌, ap, subst, arith}
+use Rattle.std.proofs.Common.{◌≡◌, ◌≢◌, ℕ, ◌+◌, ◌<◌, ◌≤◌, ◌⊎◌, inl, inr, true, false, List, [], ◌∷◌, ◌++◌, length, get_or, set, take, map, append-nil, Option, Some, None, refl, sym, ◌∙◌, ap, subst, arith}
 use Rattle.std.specs.Prelude.{All, AllPairs, not, filter_map, flat_map, sum_by, nat_lt, ◌==◌, ◌&&◌}
 use Rattle.std.specs.List.{cons_option, range_with_len}
 use Rattle.std.specs.List.Sorted.{IsPermutation, IsSortedByKey}
 use Rattle.std.specs.Ordering.{is_lt}
 use Rattle.std.proofs.lemmas.Bool.{cond_both, cond-true, cond-false, cases_Bool, eq-eqb, ne_eqb, eqb-true, and_from, and_left, and_right, false≢true}
 use Rattle.std.proofs.lemmas.List.{take_more}
-use Rattle.std.proofs.lemmas.List.Elements.{filter_map-append, All-nil, All-cons, All-head, All-tail, All-append, All-weaker, All-same}
-use Rattle.std.proofs.lemmas.List.FromFn.{get_or-range_with_len, length-range_with_len, map-range_with_len_more}
+use Rattle.std.proofs.lemmas.List.Elements.{filter_map-append, All-nil, All-head, All-tail, All-append, All-weaker, All-same}
+use Rattle.std.proofs.lemmas.List.FromFn.{get_or-range_with_len, length-range_with_len}
 use Rattle.std.proofs.lemmas.List.Kept.{AllPairs-cons}
 use Rattle.std.proofs.lemmas.List.Sums.{sum_by-cons}
 use Rattle.std.proofs.lemmas.List.Sorted.{sum_by-IsPermutation, All-permutation, sorted_far, ranks_by}
@@ -17,7 +17,9 @@ use Rattle.srp_base.specs.declared.numbers.NodeNo.{NodeNo}
 use Rattle.srp_base.specs.declared.numbers.PortNo.{PortNo}
 use Rattle.srp_base.specs.declared.bandwidth.Rate.{Rate}
 use Rattle.tree_topology.specs.declared.graph.Link.{Link}
+use Rattle.tree_topology.specs.Topology.{Topology, HasPort}
 use Rattle.tree_topology.specs.Ports.{neighbours, peer_of}
+use Rattle.tree_topology.specs.PortLaws.{HasPortLaws}
 use Rattle.frame_flow.specs.declared.frame.Frame.{Frame}
 use Rattle.frame_flow.specs.declared.frame.FrameCopy.{FrameCopy}
 use Rattle.frame_flow.specs.declared.incoming.AtNode.{AtNode}
@@ -25,17 +27,18 @@ use Rattle.frame_flow.specs.declared.place.Place.{Place}
 use Rattle.frame_flow.specs.declared.result.PortFlow.{PortFlow}
 use Rattle.frame_flow.specs.Moments.{bits_of_ticks, bit_from}
 use Rattle.frame_flow.specs.Force.{is_port}
-use Rattle.frame_flow.specs.Copies.{Reached, arriving, comes_over, copy_of, flow_at, goes_by, handed_by, in_order, is_not_after, port_of, ports_at, reached, sent_from}
+use Rattle.frame_flow.specs.Copies.{Reached, all_places, arriving, comes_over, copy_of, flow_at, goes_by, handed_by, in_order, is_not_after, port_of, ports_at, reached, sent_from}
 use Rattle.frame_flow.specs.Flow.{Setting, port_flow}
 use Rattle.frame_flow.specs.Given.{IsFrame, IsInOrder, IsRoute, IsSetting}
 use Rattle.frame_flow.specs.Turns.{AreAt, level_at, level_of}
-use Rattle.frame_flow.specs.Incoming.{Incoming, AreInOrder, AreKept, DoServe, incoming_at, incoming_by, incoming_of, leaving, leaving_by}
+use Rattle.frame_flow.specs.Incoming.{AreSourcesBelow, Incoming, AreInOrder, AreKept, HasArriving, incoming_at, incoming_by, incoming_of, leaving, leaving_by}
 use Rattle.frame_flow.proofs.CopyLemmas.{All-any, All-filter_map, All-flat_map, All-handed_by, All-sent_from, arriving-same, known-each}
 use Rattle.frame_flow.proofs.OrderLemmas.{IsKnown, IsKnownCopy, copy_key, key_cmp, key-total, lex-from_cmp, All-in_order, order-in_order, ordered-one, pairs-head, pairs-none, pairs-tail, sum-in_order}
-use Rattle.frame_flow.proofs.TurnLemmas.{at-index, level-read, set-apart}
+use Rattle.frame_flow.proofs.TurnLemmas.{IsPortOf, at-index, level-read, places-are, ports-are, same-port, set-apart, source-below}
 
 -- ---- what a filter_map keeps of a list
 
+-- what a function gives of an element where there is one, and else 0
 abbrev value_of : {Y : Type 0} → (Y → ℕ) → Option Y → ℕ
 value_of f None = 0
 value_of f (Some y) = f y
@@ -64,9 +67,11 @@ pairs-kept R Q g each (x ∷ xs) pairs =
 
 -- ---- the order
 
+-- one copy isn't after another
 abbrev NotAfter : Incoming → Incoming → Type 0
 NotAfter x y = is_not_after x.copy y.copy ≡ true
 
+-- by what copies are sorted
 abbrev pub incoming_key : Incoming → ℕ × ℕ
 incoming_key c = copy_key c.copy
 
@@ -203,6 +208,7 @@ back links ticks place k same (r ∷ rs) =
 abbrev around : Place → PortNo → AtNode
 around place without = record { node = place.at.node; rate = place.rate; without = without }
 
+-- no port is left out, or just this one
 abbrev IsNoneOrOwn : PortNo → Place → Type 0
 IsNoneOrOwn without place = (without.0 ≡ 0) ⊎ (without ≡ place.at.port)
 
@@ -326,7 +332,7 @@ gathered s flows at first own all none one two =
     two ∙ ap (λ (t : List Incoming). t ++ come) (one ∙ ap (λ (t : List Incoming). t ++ here) none)
 
 pub do-serve : (s : Setting) → IsSetting s → (flows : List PortFlow) (at : AtNode) (all sorted : List Incoming)
-    → all ≡ incoming_at s.tree.links s.frames s.ticks flows at → IsPermutation all sorted → AreInOrder sorted → DoServe s flows at sorted
+    → all ≡ incoming_at s.tree.links s.frames s.ticks flows at → IsPermutation all sorted → AreInOrder sorted → HasArriving s flows at sorted
 unfolding arriving
 do-serve s given flows at all sorted is moved order place port served =
     let links = s.tree.links in
@@ -350,14 +356,33 @@ routes-at s given flows at all sorted is moved =
     (All-same R all (incoming_at s.tree.links s.frames s.ticks flows at) is
     (All-at P s.tree.links s.frames s.ticks flows at (All-weaker (IsFrame s.tree s.ticks) P (λ f h. h.route) s.frames given.range.frames)))
 
--- ---- what holds of all ports of a node
+-- ---- what sends into a node
 
-pub All-port-more : (P : EgressPort → Type 0) (x k : ℕ) → All P (map (port_of x) (range_with_len 1 k)) → P (port_of x (k + 1))
-    → All P (map (port_of x) (range_with_len 1 (k + 1)))
-All-port-more P x k all one =
-    All-same P (map (port_of x) (range_with_len 1 (k + 1))) (map (port_of x) (range_with_len 1 k) ++ port_of x (k + 1) ∷ [])
-    (map-range_with_len_more (port_of x) 1 k (k + 1) (omega arith))
-    (All-append P (map (port_of x) (range_with_len 1 k)) (port_of x (k + 1) ∷ []) all (All-cons P (port_of x (k + 1)) [] one (All-nil P)))
+-- where two ports of a node are of one level, what sends into the node is of lower levels
+sources-below : (tree : Topology) → HasPortLaws tree → (p q : EgressPort) → HasPort tree p → HasPort tree q → q.node.0 ≡ p.node.0 → is_port p q ≡ false
+    → level_at tree q ≡ level_at tree p → AreSourcesBelow tree (level_at tree p) p.node.0
+sources-below tree laws p q here there node other lvl =
+    let B : EgressPort → Type 0 = λ r. level_at tree (peer_of tree.links r) < level_at tree p in
+    let N : EgressPort → Type 0 = λ t. is_port t q ≡ false in
+    All-weaker (IsPortOf tree p.node.0) B
+    (λ r h. elim (cases_Bool (is_port r p)) [
+      | inl is ↦ (let lt = (source-below tree laws q r there h.0 (h.1 ∙ sym node) (subst N (sym (same-port r p is)) other)).1 in omega (arith, lt, lvl))
+      | inr nay ↦ (source-below tree laws p r here h.0 h.1 nay).1
+    ])
+    (ports_at tree.links p.node.0) (ports-are tree p.node.0 here.0)
+
+-- where there is such a port in the list
+pub fellow-below : (s : Setting) → HasPortLaws s.tree → (places : List Place) (levels : List ℕ) (level j : ℕ) (d place : Place) → places ≡ all_places s.tree.links s.rates
+    → levels ≡ map (level_of s.tree) places → HasPort s.tree place.at → level_of s.tree place ≡ level → j < length places → get_or levels j 0 ≡ level
+    → (get_or places j d).at.node ≡ place.at.node → (get_or places j d).at.port ≢ place.at.port → AreSourcesBelow s.tree level place.at.node.0
+fellow-below s laws places levels level j d place all are here lvl below its node other =
+    let q = get_or places j d in
+    let there = subst (λ (t : List Place). All (λ x. HasPort s.tree x.at) t) (sym all) (places-are s.tree s.rates laws) j d below in
+    let same = sym (level-read s.tree places levels j d are below) ∙ its ∙ sym lvl in
+    let apart_ports : place.at.port.0 == q.at.port.0 ≡ false = ne_eqb place.at.port.0 q.at.port.0 (λ e. other (ap (λ (k : ℕ). record { 0 = k }) (sym e))) in
+    let two = and_right (place.at.node.0 == q.at.node.0) (place.at.port.0 == q.at.port.0) apart_ports in
+    subst (λ (n : ℕ). AreSourcesBelow s.tree n place.at.node.0) lvl
+    (sources-below s.tree laws place.at q.at here there (ap (λ (t : NodeNo). t.0) node) two same)
 
 -- ---- they stay as they are while ports of the level get their flows
 

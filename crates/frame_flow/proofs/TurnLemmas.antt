@@ -22,7 +22,7 @@ use Rattle.frame_flow.specs.declared.frame.FrameCopy.{FrameCopy}
 use Rattle.frame_flow.specs.Force.{is_port, changes_at}
 use Rattle.frame_flow.specs.Copies.{all_places, places_of_link, ports_at, port_of, flow_at}
 use Rattle.frame_flow.specs.Flow.{Setting, IsFlow, port_flow, flow_of_copies}
-use Rattle.frame_flow.specs.Turns.{level_at, level_of, ArePorts, AreAt, AreDoneBelow, ComesBefore}
+use Rattle.frame_flow.specs.Turns.{level_at, level_of, ArePorts, AreAt, AreDoneBefore, IsGoneOverBefore}
 use Rattle.frame_flow.proofs.CopyLemmas.{All-flat_map, arriving-same}
 
 -- ---- ports
@@ -142,24 +142,24 @@ set-at places flows k x same at =
 
 -- which place stands for one past the end doesn't matter
 before-same : (tree : Topology) (level node k : ℕ) (places : List Place) (j : ℕ) (one other : Place) → j < length places
-    → ComesBefore tree level node k (get_or places j one) j → ComesBefore tree level node k (get_or places j other) j
+    → IsGoneOverBefore tree level node k (get_or places j one) j → IsGoneOverBefore tree level node k (get_or places j other) j
 before-same tree level node k places j one other few is =
-    subst (λ (t : Place). ComesBefore tree level node k t j) (get_or_default places j one other few) is
+    subst (λ (t : Place). IsGoneOverBefore tree level node k t j) (get_or_default places j one other few) is
 
 -- what is gone over before is of no higher level
-before-level : (tree : Topology) (level node k : ℕ) (place : Place) (j : ℕ) → ComesBefore tree level node k place j → level_of tree place ≤ level
+before-level : (tree : Topology) (level node k : ℕ) (place : Place) (j : ℕ) → IsGoneOverBefore tree level node k place j → level_of tree place ≤ level
 before-level tree level node k place j (inl lower) = omega (arith, lower)
 before-level tree level node k place j (inr tied) = omega (arith, tied.0)
 
 -- one more of a node's ports: the others that are gone over before it were so before
-before-one-more : (tree : Topology) (level node k : ℕ) (place : Place) (j : ℕ) → j ≢ k → ComesBefore tree level node (k + 1) place j → ComesBefore tree level node k place j
+before-one-more : (tree : Topology) (level node k : ℕ) (place : Place) (j : ℕ) → j ≢ k → IsGoneOverBefore tree level node (k + 1) place j → IsGoneOverBefore tree level node k place j
 before-one-more tree level node k place j ne (inl lower) = inl lower
 before-one-more tree level node k place j ne (inr tied) =
     elim tied.1 [ inl below ↦ inr (tied.0, inl below) | inr here ↦ inr (tied.0, inr (here.0, omega (arith, here.1, ne))) ]
 
 pub done-more : (s : Setting) → HasPortLaws s.tree → (places : List Place) (flows : List PortFlow) (level node k : ℕ) (place : Place) (x : PortFlow)
     → ArePorts s.tree places → AreAt places flows → k < length places → level_of s.tree (get_or places k place) ≡ level
-    → x ≡ port_flow s flows (get_or places k place) → AreDoneBelow s level node k places flows → AreDoneBelow s level node (k + 1) places (set flows k x)
+    → x ≡ port_flow s flows (get_or places k place) → AreDoneBefore s level node k places flows → AreDoneBefore s level node (k + 1) places (set flows k x)
 done-more s laws places flows level node k place x ports at below lvl is done j other few upto y e =
     let here = get_or places k place in
     let size = size-at places flows at in
@@ -186,7 +186,7 @@ done-more s laws places flows level node k place x ports at below lvl is done j 
 -- it is of another level, or of another node
 pub done-skip : (s : Setting) (places : List Place) (flows : List PortFlow) (level node k : ℕ) (place : Place)
     → (level_of s.tree (get_or places k place) ≡ level → (get_or places k place).at.node.0 ≢ node)
-    → AreDoneBelow s level node k places flows → AreDoneBelow s level node (k + 1) places flows
+    → AreDoneBefore s level node k places flows → AreDoneBefore s level node (k + 1) places flows
 done-skip s places flows level node k place unlike done j other few upto =
     elim (cases_eq j k) [
       | inr ne ↦ done j other few (before-one-more s.tree level node k (get_or places j other) j ne upto)
@@ -204,8 +204,8 @@ done-skip s places flows level node k place unlike done j other few upto =
     ]
 
 -- all ports of a node are done, and the next node's follow
-pub done-node : (s : Setting) (places : List Place) (flows : List PortFlow) (level node : ℕ) → AreDoneBelow s level node (length places) places flows
-    → AreDoneBelow s level (node + 1) 0 places flows
+pub done-node : (s : Setting) (places : List Place) (flows : List PortFlow) (level node : ℕ) → AreDoneBefore s level node (length places) places flows
+    → AreDoneBefore s level (node + 1) 0 places flows
 done-node s places flows level node done j other few (inl lower) = done j other few (inl lower)
 done-node s places flows level node done j other few (inr tied) =
     elim tied.1 [
@@ -218,7 +218,7 @@ done-node s places flows level node done j other few (inr tied) =
 
 -- all nodes are done, and the next level follows
 pub done-level : (s : Setting) (places : List Place) (flows : List PortFlow) (level node : ℕ) → ArePorts s.tree places → length s.tree.kinds < node
-    → AreDoneBelow s level node 0 places flows → AreDoneBelow s (level + 1) 0 0 places flows
+    → AreDoneBefore s level node 0 places flows → AreDoneBefore s (level + 1) 0 0 places flows
 done-level s places flows level node ports all done j other few (inl lower) =
     elim (cases_lt (level_of s.tree (get_or places j other)) level) [
       | inl less ↦ done j other few (inl less)
@@ -234,7 +234,7 @@ level-few tree p =
     omega (arith, count_by-le-length (λ y. is_behind tree.links (peer_of tree.links p) y) (range_with_len 1 n), length-range_with_len 1 n)
 
 pub done-all : (s : Setting) (flows : List PortFlow) → AreAt (all_places s.tree.links s.rates) flows
-    → AreDoneBelow s (length s.tree.kinds + 1) 0 0 (all_places s.tree.links s.rates) flows → IsFlow s flows
+    → AreDoneBefore s (length s.tree.kinds + 1) 0 0 (all_places s.tree.links s.rates) flows → IsFlow s flows
 done-all s flows at done =
     let places = all_places s.tree.links s.rates in
     let size = size-at places flows at in
@@ -257,8 +257,8 @@ level-read tree places levels k place are below =
 -- the flow of this index is put in, which is of the level
 pub step-done : (s : Setting) → HasPortLaws s.tree → (places : List Place) (levels : List ℕ) (flows after : List PortFlow) (level node k : ℕ) (place : Place)
     → places ≡ all_places s.tree.links s.rates → levels ≡ map (level_of s.tree) places → AreAt places flows → k < length places → get_or levels k 0 ≡ level
-    → after ≡ set flows k (port_flow s flows (get_or places k place)) → AreDoneBelow s level node k places flows
-    → AreAt places after × AreDoneBelow s level node (k + 1) places after
+    → after ≡ set flows k (port_flow s flows (get_or places k place)) → AreDoneBefore s level node k places flows
+    → AreAt places after × AreDoneBefore s level node (k + 1) places after
 step-done s laws places levels flows after level node k place all are at below is made done =
     let x = port_flow s flows (get_or places k place) in
     let ports = subst (λ (t : List Place). ArePorts s.tree t) (sym all) (places-are s.tree s.rates laws) in
@@ -266,21 +266,21 @@ step-done s laws places levels flows after level node k place all are at below i
     let put_at = set-at places flows k x (at-index places flows k place x at below) at in
     let put_done = done-more s laws places flows level node k place x ports at below lvl refl done in (
       subst (λ (t : List PortFlow). AreAt places t) (sym made) put_at,
-      subst (λ (t : List PortFlow). AreDoneBelow s level node (k + 1) places t) (sym made) put_done,
+      subst (λ (t : List PortFlow). AreDoneBefore s level node (k + 1) places t) (sym made) put_done,
     )
 
 -- it is of another level or node
 pub step-skip : (s : Setting) (places : List Place) (levels : List ℕ) (flows : List PortFlow) (level node k : ℕ) (place : Place) → levels ≡ map (level_of s.tree) places
     → k < length places → (get_or levels k 0 ≡ level → (get_or places k place).at.node.0 ≢ node)
-    → AreDoneBelow s level node k places flows → AreDoneBelow s level node (k + 1) places flows
+    → AreDoneBefore s level node k places flows → AreDoneBefore s level node (k + 1) places flows
 step-skip s places levels flows level node k place are below other done =
     done-skip s places flows level node k place (λ e. other (level-read s.tree places levels k place are below ∙ e)) done
 
 pub all-done : (s : Setting) (places : List Place) (flows : List PortFlow) (level : ℕ) → places ≡ all_places s.tree.links s.rates
-    → level ≡ length s.tree.kinds + 1 → AreAt places flows → AreDoneBelow s level 0 0 places flows → IsFlow s flows
+    → level ≡ length s.tree.kinds + 1 → AreAt places flows → AreDoneBefore s level 0 0 places flows → IsFlow s flows
 all-done s places flows level all last at done =
     done-all s flows (subst (λ (t : List Place). AreAt t flows) all at)
-    (subst (λ (n : ℕ). AreDoneBelow s n 0 0 (all_places s.tree.links s.rates) flows) last (subst (λ (t : List Place). AreDoneBelow s level 0 0 t flows) all done))
+    (subst (λ (n : ℕ). AreDoneBefore s n 0 0 (all_places s.tree.links s.rates) flows) last (subst (λ (t : List Place). AreDoneBefore s level 0 0 t flows) all done))
 
 -- ---- two flows are one
 

@@ -2,7 +2,7 @@
 -- port. No public contract names these words.
 --
 --   frames of the station x, by port 0 --.
---   what each port's peer sends, by k ---+--> x: in order of bit time, ties by number --> all but those by p --> p
+--   what each port's peer sends, by k ---+--> x: in order of bit time --> those that go by p and didn't come in by p --> p
 use Rattle.std.specs.Prelude.{◌≡◌, ℕ, ◌<◌, ◌⊎◌, true, not, ◌==◌, ◌&&◌, nat_lt, List, [], ◌++◌, length, filter_map, flat_map, Option, Some, None, All, AllPairs, if◌then◌else◌}
 use Rattle.std.specs.List.{range_with_len}
 use Rattle.srp_base.specs.declared.numbers.EgressPort.{EgressPort}
@@ -34,7 +34,7 @@ incoming_of ticks rate k r =
     then Some (record { ingress = k; copy = record { bit = bit; frame = r.frame } })
     else None
 
--- the copies that come in by a node's port of a number
+-- the copies that come in by a node's port of a number; none where that port is left out
 abbrev pub incoming_by : List Link → List Frame → ℕ → List PortFlow → AtNode → ℕ → List Incoming
 incoming_by links frames ticks flows at k =
     if k == at.without.0
@@ -52,31 +52,33 @@ abbrev pub leaving_by : List Link → EgressPort → Incoming → Option FrameCo
 leaving_by links p c =
     if not (c.ingress == p.port.0) && goes_by links p c.copy.frame.route then Some c.copy else None
 
+-- of a node's copies those that leave by a port
 abbrev pub leaving : List Link → EgressPort → List Incoming → List FrameCopy
 leaving links p copies = filter_map (leaving_by links p) copies
 
--- they are in order of bit time, ties by number
+-- copies at a node are in order of bit time, ties by number
 abbrev pub AreInOrder : List Incoming → Type 0
 AreInOrder copies = AllPairs (λ x y. is_not_after x.copy y.copy ≡ true) copies
 
--- a node's copies serve a port of it: all that came are there but those over its own link
-abbrev pub IsServed : AtNode → Place → Type 0
-IsServed at place =
+-- what is gathered at a node serves a port: it is of the port's node and rate, and nothing is left out but what came in by
+-- the port itself
+abbrev pub IsGatheredFor : AtNode → Place → Type 0
+IsGatheredFor at place =
     (place.at.node ≡ at.node) × (place.rate ≡ at.rate) × ((at.without.0 ≡ 0) ⊎ (at.without ≡ place.at.port))
 
--- of a node's copies those that leave by a port are those that arrive at it, for each port that they serve
-abbrev pub DoServe : Setting → List PortFlow → AtNode → List Incoming → Type 0
-DoServe s flows at copies =
-    (place : Place) → HasPort s.tree place.at → IsServed at place
+-- of a node's copies those that leave by a port are those that arrive at it, for each port that they are gathered for
+abbrev pub HasArriving : Setting → List PortFlow → AtNode → List Incoming → Type 0
+HasArriving s flows at copies =
+    (place : Place) → HasPort s.tree place.at → IsGatheredFor at place
     → leaving s.tree.links place.at copies ≡ arriving s.tree.links s.frames s.ticks flows place
 
 -- what sends into a node is of lower levels
 abbrev pub AreSourcesBelow : Topology → ℕ → ℕ → Type 0
 AreSourcesBelow tree level x = All (λ r. level_at tree (peer_of tree.links r) < level) (ports_at tree.links x)
 
--- the copies at a node that are kept: frames to stations of the tree; and where they are of all that came, they serve
--- its ports as long as nothing that sends into it is of this level
+-- a list that is kept for further ports of its node and level: its frames go to nodes of the tree; and where no port is left
+-- out, what sends into the node is of lower levels, so that the list still serves when flows of this level are put in
 pub record AreKept (s : Setting) (level : ℕ) (flows : List PortFlow) (at : AtNode) (copies : List Incoming) : Type 0 where
   pub routes : All (λ c. IsRoute s.tree c.copy.frame.route) copies
   pub below : at.without.0 ≡ 0 → AreSourcesBelow s.tree level at.node.0
-  pub serve : at.without.0 ≡ 0 → DoServe s flows at copies
+  pub serve : at.without.0 ≡ 0 → HasArriving s flows at copies

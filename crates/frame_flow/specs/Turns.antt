@@ -14,6 +14,7 @@ use Rattle.frame_flow.specs.Flow.{Setting, port_flow}
 abbrev pub level_at : Topology → EgressPort → ℕ
 level_at tree p = count_behind (length tree.kinds) tree.links (peer_of tree.links p)
 
+-- the level of a port with its rate
 abbrev pub level_of : Topology → Place → ℕ
 level_of tree place = level_at tree place.at
 
@@ -30,15 +31,15 @@ abbrev pub IsDone : Setting → List Place → List PortFlow → ℕ → Type 0
 IsDone s places flows j =
     (x : PortFlow) (place : Place) → get_or flows j x ≡ port_flow s flows (get_or places j place)
 
--- a port, the one of index j, is gone over before: it is of a lower level; or of this level and a lower node; or of this node
--- too, and among the first so many
-abbrev pub ComesBefore : Topology → ℕ → ℕ → ℕ → Place → ℕ → Type 0
-ComesBefore tree level node k place j =
+-- a port is gone over before the one of index k at this node and level: its level is lower, or the same with a lower node, or
+-- both are the same with an index j below k
+abbrev pub IsGoneOverBefore : Topology → ℕ → ℕ → ℕ → Place → ℕ → Type 0
+IsGoneOverBefore tree level node k place j =
     (level_of tree place < level)
     ⊎ ((level_of tree place ≡ level) × ((place.at.node.0 < node) ⊎ ((place.at.node.0 ≡ node) × (j < k))))
 
 -- the flows at all ports that are gone over before are what the others give them
-abbrev pub AreDoneBelow : Setting → ℕ → ℕ → ℕ → List Place → List PortFlow → Type 0
-AreDoneBelow s level node k places flows =
+abbrev pub AreDoneBefore : Setting → ℕ → ℕ → ℕ → List Place → List PortFlow → Type 0
+AreDoneBefore s level node k places flows =
     (j : ℕ) (place : Place) → j < length places
-    → ComesBefore s.tree level node k (get_or places j place) j → IsDone s places flows j
+    → IsGoneOverBefore s.tree level node k (get_or places j place) j → IsDone s places flows j

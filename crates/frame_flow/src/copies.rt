@@ -5,9 +5,9 @@ ghost use Rattle.std.specs.List.{range_with_len};
 ghost use Rattle.std.specs.List.Sorted.{IsPermutation};
 ghost use Rattle.tree_topology.specs.Topology.{HasNode, HasPort};
 ghost use Rattle.tree_topology.specs.Ports.{neighbours, peer_of};
-ghost use Rattle.frame_flow.specs.Copies.{flow_at, frame_of, goes_by, handed_by, handed_on, port_of, reached_at, sent_from};
+ghost use Rattle.frame_flow.specs.Copies.{flow_at, frame_of, goes_by, handed_by, handed_on, reached_at, sent_from};
 ghost use Rattle.frame_flow.specs.Given.{IsRoute};
-ghost use Rattle.frame_flow.specs.Incoming.{AreInOrder, DoServe, incoming_by, incoming_of, leaving, leaving_by};
+ghost use Rattle.frame_flow.specs.Incoming.{AreInOrder, HasArriving, incoming_by, incoming_of, leaving};
 
 use crate::asked::Asked;
 use crate::frame::{CopyOf, Frame, Route};
@@ -20,7 +20,8 @@ use std::alloc::Global;
 use tree_topology::Tree;
 
 impl<'a> Asked<'a> {
-    /// The copies at a node, in order, by the flows at the ports that send into it. They take the memory of others.
+    /// The copies at a node, in order, by the flows at the ports that send into it. The list `old` is emptied and
+    /// filled anew, for the sake of its memory.
     pub(crate) fn copies_at(
         &self,
         flows: &[PortFlow],
@@ -28,7 +29,7 @@ impl<'a> Asked<'a> {
         old: Vec<IncomingOf<'a>>,
     ) -> Result<Vec<IncomingOf<'a>>, NoMemory>
         requires { HasNode self.now.tree at.node.0 }
-        ensures serve { IfOk result (λ v. DoServe self.now flows.now at v.items) }
+        ensures serve { IfOk result (λ v. HasArriving self.now flows.now at v.items) }
         ensures routes { IfOk result
             (λ v. All (λ c. IsRoute self.now.tree c.copy.frame.route) v.items) }
     {
@@ -152,7 +153,8 @@ impl<'a> Asked<'a> {
         Ok(())
     }
 
-    /// Adds the copy of what a frame with this fate at a port of the rate `sent_at` hands on, where it has departed.
+    /// Adds the copy of what a frame with this fate at a port of the rate `sent_at` hands on, where it has
+    /// departed.
     fn add_departed(
         &self,
         rate: Rate,

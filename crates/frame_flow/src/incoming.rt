@@ -1,7 +1,7 @@
 //! The copies of frames that come to a node, each with the port that it came in by.
 
-ghost use Rattle.std.specs.Prelude.{◌≡◌, [], true};
-ghost use Rattle.frame_flow.specs.Incoming.{IsServed};
+ghost use Rattle.std.specs.Prelude.{◌≡◌, [], false, true};
+ghost use Rattle.frame_flow.specs.Incoming.{IsGatheredFor};
 
 use crate::frame::Frame;
 use crate::place::Place;
@@ -9,8 +9,8 @@ use srp_base::{NodeNo, PortNo, Rate};
 use std::alloc::Global;
 use std::marker::Model;
 
-/// A node whose copies are asked for, in bit times of a rate, without those that came in by one port. Port 0 is none of its
-/// ports.
+/// Which copies are gathered: those at a node, in bit times of a rate, without those that came in by one port.
+/// Port 0 is none of its ports, so that then it is all.
 #[derive(Clone, Copy)]
 pub(crate) struct AtNode {
     pub(crate) node: NodeNo,
@@ -19,17 +19,31 @@ pub(crate) struct AtNode {
 }
 
 impl AtNode {
-    /// Whether all copies at the node are asked for, and they serve a port.
+    /// Which copies to gather for a port: all that come to its node where they are shared with other ports, and
+    /// else all but those that came in by itself.
+    pub(crate) fn of_port(place: Place, is_shared: bool) -> AtNode
+        ensures served { IsGatheredFor result place }
+        ensures own { is_shared ≡ false → result.without ≡ place.at.port }
+    {
+        AtNode {
+            node: place.at.node,
+            rate: place.rate,
+            without: if is_shared { PortNo(0) } else { place.at.port },
+        }
+    }
+
+    /// Whether all copies at the node are gathered, and they serve a port.
     pub(crate) fn serves_all(self, place: Place) -> bool
         ensures all { result ≡ true → self.without.0 ≡ 0 }
-        ensures served { result ≡ true → IsServed self place }
+        ensures served { result ≡ true → IsGatheredFor self place }
     {
         self.without.0 == 0 && self.node == place.at.node && self.rate == place.rate
     }
 }
 
-/// A copy of a frame at a node, with the port that it came in by; a frame of the node's own station came in by port 0. Its
-/// number stands beside it, so that copies are put in order without a look at each frame. Contracts see an `Incoming`.
+/// A copy of a frame at a node, with the port that it came in by; a frame of the node's own station came in by
+/// port 0. Its number stands beside it, so that copies are put in order without a look at each frame. Contracts
+/// see an `Incoming`.
 #[derive(Drop)]
 pub(crate) struct IncomingOf<'a> {
     frame: &'a Frame,
@@ -100,7 +114,7 @@ pub(crate) struct NodeCopies<'a> {
 }
 
 impl<'a> NodeCopies<'a> {
-    /// No copies, of no node.
+    /// No copies. Port 1 is left out, so that they serve no port.
     pub(crate) fn none(alloc: Global) -> NodeCopies<'a>
         ensures without { result.at.without.0 ≡ 1 }
         ensures copies { result.copies.items ≡ [] }

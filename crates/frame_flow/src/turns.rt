@@ -1,15 +1,14 @@
 //! The flow of frames over a tree, port by port.
 
 ghost use Rattle.std.specs.Prelude.{◌≡◌, ◌+◌, ◌<◌, ◌≤◌, ◌≢◌, true, false, slice_set, All, IfOk, OnOk, length, map, Contains, if◌then◌else◌};
-ghost use Rattle.tree_topology.specs.Topology.{HasNode, HasPort};
-ghost use Rattle.tree_topology.specs.Ports.{peer_of};
+ghost use Rattle.tree_topology.specs.Topology.{HasPort};
 ghost use Rattle.tree_topology.specs.Walk.{count_behind};
 ghost use Rattle.frame_flow.specs.Flow.{IsFlow, port_flow};
 ghost use Rattle.frame_flow.specs.Copies.{all_places, arriving};
 ghost use Rattle.frame_flow.specs.Force.{changes_at};
 ghost use Rattle.frame_flow.specs.Given.{IsRoute, IsSetting};
-ghost use Rattle.frame_flow.specs.Incoming.{AreKept, AreSourcesBelow, IsServed, leaving};
-ghost use Rattle.frame_flow.specs.Turns.{ArePorts, AreAt, AreDoneBelow, level_at, level_of};
+ghost use Rattle.frame_flow.specs.Incoming.{AreKept, AreSourcesBelow, leaving};
+ghost use Rattle.frame_flow.specs.Turns.{ArePorts, AreAt, AreDoneBefore, level_at, level_of};
 
 use crate::asked::Asked;
 use crate::by_node::FramesByNode;
@@ -20,7 +19,7 @@ use crate::incoming::{AtNode, IncomingOf, NodeCopies};
 use crate::place::Place;
 use crate::result::{FlowResult, PortFlow};
 use credit_shaper::PortInput;
-use srp_base::{EgressPort, NoMemory, NodeNo, PortChange, PortNo, Rate, Seq, Timeline};
+use srp_base::{EgressPort, NoMemory, NodeNo, PortChange, Rate, Seq, Timeline};
 use std::alloc::Global;
 use tree_topology::Tree;
 
@@ -69,7 +68,8 @@ pub fn flow(
 }
 
 impl<'a> Asked<'a> {
-    /// The flows at all ports: level by level, so that each comes after those that send into its node.
+    /// The flows at all ports: level by level, so that each comes after those that send into its node over its
+    /// other links.
     fn flows(&self, alloc: Global) -> Result<Vec<PortFlow>, NoMemory>
         ensures { IfOk result (λ v. IsFlow self.now v.items) }
     {
@@ -117,9 +117,9 @@ impl<'a> Asked<'a> {
         requires places { places.now ≡ all_places self.now.tree.links self.now.rates }
         requires levels { levels.now ≡ map (level_of self.now.tree) places.now }
         requires at { AreAt places.now flows.old.items }
-        requires done { AreDoneBelow self.now level 0 0 places.now flows.old.items }
+        requires done { AreDoneBefore self.now level 0 0 places.now flows.old.items }
         ensures at { OnOk result (AreAt places.now flows.new.items) }
-        ensures done { OnOk result (AreDoneBelow self.now (level + 1) 0 0 places.now
+        ensures done { OnOk result (AreDoneBefore self.now (level + 1) 0 0 places.now
             flows.new.items) }
     {
         self.keeps();
@@ -142,16 +142,16 @@ impl<'a> Asked<'a> {
         requires places { places.now ≡ all_places self.now.tree.links self.now.rates }
         requires levels { levels.now ≡ map (level_of self.now.tree) places.now }
         requires at { AreAt places.now flows.old.items }
-        requires done { AreDoneBelow self.now level node 0 places.now flows.old.items }
+        requires done { AreDoneBefore self.now level node 0 places.now flows.old.items }
         ensures at { OnOk result (AreAt places.now flows.new.items) }
-        ensures done { OnOk result (AreDoneBelow self.now level (node + 1) 0 places.now
+        ensures done { OnOk result (AreDoneBefore self.now level (node + 1) 0 places.now
             flows.new.items) }
     {
         self.keeps();
         let mut kept = NodeCopies::none(alloc);
         for k in 0..places.len() {
             if is_of(&places[k], levels[k], level, node) {
-                let is_shared = has_another(places, levels, k);
+                let is_shared = self.has_fellow(places, levels, level, places[k]);
                 kept = self.copies_for(flows, places[k], level, is_shared, kept)?;
                 self.put_flow(alloc, places[k], k, kept.copies.as_slice(), flows)?;
             }
@@ -159,8 +159,27 @@ impl<'a> Asked<'a> {
         Ok(())
     }
 
-    /// The copies at a node that serve a port of a level: those that are kept where they serve it, and else new ones. Where
-    /// these are shared they are all that come to the node, so that they serve its other ports of the level as well.
+    /// Whether another port of a port's node is of its level and rate. Where there is one, all that sends into the node is of
+    /// lower levels: each of the two is of a higher level than what sends into the node over another link than its own.
+    fn has_fellow(&self, places: &[Place], levels: &[usize], level: usize, place: Place) -> bool
+        requires places { places.now ≡ all_places self.now.tree.links self.now.rates }
+        requires levels { levels.now ≡ map (level_of self.now.tree) places.now }
+        requires port { HasPort self.now.tree place.at }
+        requires level { level_of self.now.tree place ≡ level }
+        ensures { result ≡ true → AreSourcesBelow self.now.tree level place.at.node.0 }
+    {
+        self.keeps();
+        for j in 0..places.len() {
+            if levels[j] == level && are_fellows(&places[j], place) {
+                return true;
+            }
+        }
+        false
+    }
+
+    /// The copies to take a port's from, in a level: those that are kept where they serve the port, and else new ones. Where
+    /// these are shared they are all that come to its node, so that they serve the node's other ports of the level and rate
+    /// as well.
     fn copies_for(
         &self,
         flows: &[PortFlow],
@@ -170,6 +189,8 @@ impl<'a> Asked<'a> {
         kept: NodeCopies<'a>,
     ) -> Result<NodeCopies<'a>, NoMemory>
         requires port { HasPort self.now.tree place.at }
+        requires shared { is_shared ≡ true
+            → AreSourcesBelow self.now.tree level place.at.node.0 }
         requires kept { AreKept self.now level flows.now kept.at kept.copies.items }
         ensures kept { IfOk result (λ c. AreKept self.now level flows.now c.at c.copies.items) }
         ensures served { IfOk result (λ c. leaving self.now.tree.links place.at c.copies.items
@@ -178,55 +199,12 @@ impl<'a> Asked<'a> {
         if kept.at.serves_all(place) {
             return Ok(kept);
         }
-        let at = self.at_node(place, level, is_shared);
+        let at = AtNode::of_port(place, is_shared);
         let copies = self.copies_at(flows, at, kept.copies)?;
         Ok(NodeCopies { at, copies })
     }
 
-    /// The node of a port of a level: without the copies over the port's own link, or, where it is shared and nothing that
-    /// sends into it is of this level, with all.
-    fn at_node(&self, place: Place, level: usize, is_shared: bool) -> AtNode
-        requires { HasPort self.now.tree place.at }
-        ensures served { IsServed result place }
-        ensures node { result.node ≡ place.at.node }
-        ensures below { result.without.0 ≡ 0
-            → AreSourcesBelow self.now.tree level place.at.node.0 }
-    {
-        let with_all = is_shared && self.are_sources_below(level, place.at.node);
-        AtNode {
-            node: place.at.node,
-            rate: place.rate,
-            without: if with_all { PortNo(0) } else { place.at.port },
-        }
-    }
-
-    /// Whether each port that sends into a node is of a level below this one.
-    fn are_sources_below(&self, level: usize, node: NodeNo) -> bool
-        requires { HasNode self.now.tree node.0 }
-        ensures { result ≡ true → AreSourcesBelow self.now.tree level node.0 }
-    {
-        for k in 0..self.tree.ports(node) {
-            let port = EgressPort {
-                node,
-                port: PortNo(k + 1),
-            };
-            if level <= self.source_level(port) {
-                return false;
-            }
-        }
-        true
-    }
-
-    /// The level of the port that sends over the link of a port into its node.
-    fn source_level(&self, port: EgressPort) -> usize
-        requires { HasPort self.now.tree port }
-        ensures { result ≡ level_at self.now.tree (peer_of self.now.tree.links port) }
-    {
-        self.keeps();
-        level(self.tree, self.tree.peer(port))
-    }
-
-    /// Puts in the flow at the port of an index, by copies at its node that serve it.
+    /// Puts in the flow at the port of an index, of copies at its node that serve it.
     fn put_flow(
         &self,
         alloc: Global,
@@ -288,17 +266,12 @@ fn is_of(place: &Place, its_level: usize, level: usize, node: usize) -> bool
     its_level == level && usize::from(place.at.node.0) == node
 }
 
-/// Whether another port than that of an index is of its node and its level. It is asked for the sake of speed alone.
-fn has_another(places: &[Place], levels: &[usize], k: usize) -> bool
-    requires { k < length places.now }
+/// Whether two ports of one rate are two of one node.
+fn are_fellows(other: &Place, place: Place) -> bool
+    ensures { result ≡ true → (other.now.at.node ≡ place.at.node)
+        × (other.now.at.port ≢ place.at.port) }
 {
-    let node = places[k].at.node;
-    for (j, place) in places.iter().enumerate() {
-        if j != k && place.at.node == node && levels.get(j) == levels.get(k) {
-            return true;
-        }
-    }
-    false
+    other.at.node == place.at.node && other.at.port != place.at.port && other.rate == place.rate
 }
 
 /// How many nodes lie behind a port.

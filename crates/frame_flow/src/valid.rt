@@ -1,6 +1,6 @@
 //! Whether a flow may be asked for.
 
-ghost use Rattle.std.specs.Prelude.{◌≡◌, ◌<◌, ◌↔◌, ◌+◌, ◌*◌, IsTrue, All, AllPairs, IfOk, length};
+ghost use Rattle.std.specs.Prelude.{◌≡◌, ◌<◌, ◌↔◌, ◌+◌, IsTrue, All, AllPairs, IfOk, length};
 ghost use Rattle.srp_base.specs.Bandwidth.{bits_of};
 ghost use Rattle.tree_topology.specs.Topology.{HasNode};
 ghost use Rattle.frame_flow.specs.Given.{IsSetting, IsFrame, IsRoute, IsEarlier, IsInRange, HasSlopesBelow};

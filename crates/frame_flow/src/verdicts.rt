@@ -3,7 +3,7 @@
 ghost use Rattle.std.specs.Prelude.{◌≡◌, ◌++◌, ◌∷◌, [], map, filter, option_map, IfOk, OnOk};
 ghost use Rattle.std.specs.List.Sorted.{IsNonDecreasingBy};
 ghost use Rattle.frame_flow.specs.Flow.{is_unbooked, traffic_of, arrival_of, may_send};
-ghost use Rattle.frame_flow.specs.Steps.{IsInForce, verdict_of, verdicts_of, arrivals_of};
+ghost use Rattle.frame_flow.specs.Steps.{verdict_of, verdicts_of, arrivals_of};
 
 use crate::force::{InForce, has_booked, has_vid, newest};
 use crate::frame::{CopyOf, Route};

@@ -3,11 +3,16 @@ use Rattle.frame_flow.specs.declared.incoming.NodeCopies.{NodeCopies}
 use Rattle.frame_flow.specs.declared.place.Place.{Place}
 use Rattle.frame_flow.specs.declared.result.PortFlow.{PortFlow}
 use Rattle.frame_flow.specs.Incoming.{AreKept}
-use Rattle.frame_flow.specs.Turns.{ArePorts, AreAt, AreDoneBelow}
+use Rattle.frame_flow.specs.Turns.{ArePorts, AreAt, AreDoneBefore}
 use Rattle.frame_flow.proofs.IncomingLemmas.{step-kept}
 use Rattle.frame_flow.proofs.TurnLemmas.{places-are, step-done, step-skip, done-node}
 use Rattle.frame_flow.proofs.asked.Asked.add_node.Goals as goal
 use Rattle.frame_flow.proofs.asked.Asked.add_node.Goals.{then-is_of+in_ok-kept+in_ok-put_flow, else-is_of}
+
+pub has_fellow-is_shared-requires-clause-port : goal.has_fellow-is_shared-requires-clause-port
+has_fellow-is_shared-requires-clause-port c =
+    let s = c.args.self.now in
+    subst (λ (t : List Place). ArePorts s.tree t) (sym c.requires.places) (places-are s.tree s.rates c.keeps.ensures.ports) c.loop-k.k _ c.loop-k-test.true
 
 pub copies_for-requires-clause-port : goal.copies_for-requires-clause-port
 copies_for-requires-clause-port c =
@@ -34,7 +39,7 @@ loop-k-preserved c =
           let skipped = step-skip s places c.args.levels.now c.loop-k.flows.items c.args.level c.args.node c.loop-k.k _ c.requires.levels c.loop-k-test.true (c.is_of.ensures.other w.if-is_of.false) c.loop-k.invariant.done in
           record {
             at = subst (λ (t : List PortFlow). AreAt places t) same c.loop-k.invariant.at;
-            done = subst (λ (t : List PortFlow). AreDoneBelow s c.args.level c.args.node (c.loop-k.k + 1) places t) same skipped;
+            done = subst (λ (t : List PortFlow). AreDoneBefore s c.args.level c.args.node (c.loop-k.k + 1) places t) same skipped;
             kept = subst (λ (t : List PortFlow). Kept t c.if-is_of.kept) same (subst (λ (t : NodeCopies). Kept c.loop-k.flows.items t) (sym w.kept-is) c.loop-k.invariant.kept);
           })
     ]
@@ -45,4 +50,4 @@ returns-clause-done c =
     let places = c.args.places.now in
     let all : c.loop-k.k ≡ length places = omega arith in
     done-node s places c.loop-k.flows.items c.args.level c.args.node
-    (subst (λ (k : ℕ). AreDoneBelow s c.args.level c.args.node k places c.loop-k.flows.items) all c.loop-k.invariant.done)
+    (subst (λ (k : ℕ). AreDoneBefore s c.args.level c.args.node k places c.loop-k.flows.items) all c.loop-k.invariant.done)

@@ -1,10 +1,10 @@
 use Rattle.frame_flow.specs.Incoming.{AreKept}
-use Rattle.frame_flow.specs.Turns.{AreAt, AreDoneBelow}
+use Rattle.frame_flow.specs.Turns.{AreAt, AreDoneBefore}
 use Rattle.frame_flow.proofs.asked.Asked.add_node.Given as goal
 
 abbrev pub invariant-loop-k : goal.invariant-loop-k
 invariant-loop-k l = record {
   at : AreAt l.places l.flows.items;
-  done : AreDoneBelow l.self l.level l.node l.k l.places l.flows.items;
+  done : AreDoneBefore l.self l.level l.node l.k l.places l.flows.items;
   kept : AreKept l.self l.level l.flows.items l.kept.at l.kept.copies.items;
 }

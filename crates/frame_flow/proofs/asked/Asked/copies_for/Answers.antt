@@ -1,11 +1,18 @@
-use Rattle.std.proofs.Common.{subst, sym}
+use Rattle.std.proofs.Common.{inl, inr, subst, ap, arith}
+use Rattle.std.proofs.lemmas.Bool.{cases_Bool}
 use Rattle.srp_base.specs.declared.numbers.NodeNo.{NodeNo}
+use Rattle.srp_base.specs.declared.numbers.PortNo.{PortNo}
 use Rattle.frame_flow.specs.Incoming.{AreSourcesBelow}
 use Rattle.frame_flow.proofs.asked.Asked.copies_for.Goals as goal
 
 pub returns-clause-kept : goal.returns-clause-kept
-returns-clause-kept c = record {
-  routes = c.in_ok-copies.ensures.routes;
-  below = λ all. subst (λ (x : NodeNo). AreSourcesBelow c.args.self.now.tree c.args.level x.0) (sym c.at_node-at.ensures.node) (c.at_node-at.ensures.below all);
-  serve = λ all. c.in_ok-copies.ensures.serve;
-}
+returns-clause-kept c =
+    let B : NodeNo → Type 0 = λ x. AreSourcesBelow c.args.self.now.tree c.args.level x.0 in
+    record {
+      routes = c.in_ok-copies.ensures.routes;
+      below = λ all. subst B c.of_port-at.ensures.served.0 (elim (cases_Bool c.args.is_shared) [
+        | inl is ↦ c.requires.shared is
+        | inr nay ↦ absurd (omega (arith, all, c.requires.port.1, ap (λ (k : PortNo). k.0) (c.of_port-at.ensures.own nay)))
+      ]);
+      serve = λ all. c.in_ok-copies.ensures.serve;
+    }

@@ -1,17 +1,17 @@
 use Rattle.std.proofs.Common.{List, sym, subst, ◌≡◌, ◌+◌, length, arith}
 use Rattle.frame_flow.specs.declared.place.Place.{Place}
-use Rattle.frame_flow.specs.Turns.{AreAt, AreDoneBelow}
+use Rattle.frame_flow.specs.Turns.{AreAt, AreDoneBefore}
 use Rattle.frame_flow.proofs.TurnLemmas.{all-done}
 use Rattle.frame_flow.proofs.asked.Asked.flows.Goals as goal
 
 pub add_level-requires-clause-done : goal.add_level-requires-clause-done
 add_level-requires-clause-done c =
-    subst (λ (t : List Place). AreDoneBelow c.args.self.now c.loop-level.level 0 0 t c.loop-level.flows.items) (sym c.deref-in-loop-level.ensures.value) c.loop-level.invariant.done
+    subst (λ (t : List Place). AreDoneBefore c.args.self.now c.loop-level.level 0 0 t c.loop-level.flows.items) (sym c.deref-in-loop-level.ensures.value) c.loop-level.invariant.done
 
 pub loop-level-preserved : goal.loop-level-preserved
 loop-level-preserved c = record {
   at = subst (λ (t : List Place). AreAt t c.add_level.new.flows.items) c.deref-in-loop-level.ensures.value c.in_ok-add_level.ensures.at;
-  done = subst (λ (t : List Place). AreDoneBelow c.args.self.now (c.loop-level.level + 1) 0 0 t c.add_level.new.flows.items) c.deref-in-loop-level.ensures.value c.in_ok-add_level.ensures.done;
+  done = subst (λ (t : List Place). AreDoneBefore c.args.self.now (c.loop-level.level + 1) 0 0 t c.add_level.new.flows.items) c.deref-in-loop-level.ensures.value c.in_ok-add_level.ensures.done;
 }
 
 pub returns : goal.returns
