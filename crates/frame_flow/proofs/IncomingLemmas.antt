@@ -1,39 +1,40 @@
 -- The copies at a node: those of them that leave by a port are those that arrive at it, and they stay so while
 -- ports of the same level get their flows.
-use Rattle.std.proofs.Common.{◌≡◌, ◌≢◌, ℕ, ◌+◌, ◌<◌, ◌≤◌, ◌⊎◌, inl, inr, true, false, List, [], ◌∷◌, ◌++◌, length, get_or, set, take, map, append-nil, Option, Some, None, refl, sym, ◌∙◌, ap, subst, arith}
-use Rattle.std.specs.Prelude.{All, AllPairs, not, filter_map, flat_map, sum_by, nat_lt, ◌==◌, ◌&&◌}
+use Rattle.std.proofs.Common.{◌≡◌, ◌≢◌, ℕ, ◌+◌, ◌<◌, ◌≤◌, ◌⊎◌, inl, inr, Bool, true, false, List, [], ◌∷◌, ◌++◌, length, get_or, set, take, map, append-nil, Option, Some, None, refl, sym, ◌∙◌, ap, subst, arith}
+use Rattle.std.specs.Prelude.{All, not, filter_map, flat_map, sum_by, nat_lt, ◌==◌, ◌&&◌}
 use Rattle.std.specs.List.{cons_option, range_with_len}
-use Rattle.std.specs.List.Sorted.{IsPermutation, IsSortedByKey}
-use Rattle.std.specs.Ordering.{is_lt}
+use Rattle.std.specs.List.Sorted.{IsPermutation}
 use Rattle.std.proofs.lemmas.Bool.{cond_both, cond-true, cond-false, cases_Bool, eq-eqb, ne_eqb, eqb-true, and_from, and_left, and_right, false≢true}
 use Rattle.std.proofs.lemmas.List.{take_more}
 use Rattle.std.proofs.lemmas.List.Elements.{filter_map-append, All-nil, All-head, All-tail, All-append, All-weaker, All-same}
 use Rattle.std.proofs.lemmas.List.FromFn.{get_or-range_with_len, length-range_with_len}
-use Rattle.std.proofs.lemmas.List.Kept.{AllPairs-cons}
 use Rattle.std.proofs.lemmas.List.Sums.{sum_by-cons}
-use Rattle.std.proofs.lemmas.List.Sorted.{sum_by-IsPermutation, All-permutation, sorted_far, ranks_by}
+use Rattle.std.proofs.lemmas.List.Sorted.{sum_by-IsPermutation, All-permutation}
 use Rattle.srp_base.specs.declared.numbers.EgressPort.{EgressPort}
 use Rattle.srp_base.specs.declared.numbers.NodeNo.{NodeNo}
 use Rattle.srp_base.specs.declared.numbers.PortNo.{PortNo}
 use Rattle.srp_base.specs.declared.bandwidth.Rate.{Rate}
 use Rattle.tree_topology.specs.declared.graph.Link.{Link}
-use Rattle.tree_topology.specs.Topology.{Topology, HasPort}
+use Rattle.tree_topology.specs.Topology.{Topology, HasNode, HasPort}
 use Rattle.tree_topology.specs.Ports.{neighbours, peer_of}
+use Rattle.tree_topology.specs.Walk.{is_behind}
 use Rattle.tree_topology.specs.PortLaws.{HasPortLaws}
 use Rattle.frame_flow.specs.declared.frame.Frame.{Frame}
 use Rattle.frame_flow.specs.declared.frame.FrameCopy.{FrameCopy}
+use Rattle.frame_flow.specs.declared.frame.Route.{Route}
+use Rattle.frame_flow.specs.declared.frame.Route.TheVariants.{Stream, To}
 use Rattle.frame_flow.specs.declared.incoming.AtNode.{AtNode}
 use Rattle.frame_flow.specs.declared.place.Place.{Place}
 use Rattle.frame_flow.specs.declared.result.PortFlow.{PortFlow}
 use Rattle.frame_flow.specs.Moments.{bits_of_ticks, bit_from}
 use Rattle.frame_flow.specs.Force.{is_port}
-use Rattle.frame_flow.specs.Copies.{Reached, all_places, arriving, comes_over, copy_of, flow_at, goes_by, handed_by, in_order, is_not_after, port_of, ports_at, reached, sent_from}
+use Rattle.frame_flow.specs.Copies.{Reached, all_places, arriving, comes_over, copy_of, flow_at, goes_by, handed_by, in_order, port_of, ports_at, reached, sent_from}
 use Rattle.frame_flow.specs.Flow.{Setting, port_flow}
-use Rattle.frame_flow.specs.Given.{IsFrame, IsInOrder, IsRoute, IsSetting}
+use Rattle.frame_flow.specs.Given.{IsInOrder, IsRoute, IsSetting}
 use Rattle.frame_flow.specs.Turns.{AreAt, level_at, level_of}
-use Rattle.frame_flow.specs.Incoming.{AreSourcesBelow, Incoming, AreInOrder, AreKept, HasArriving, incoming_at, incoming_by, incoming_of, leaving, leaving_by}
+use Rattle.frame_flow.specs.Incoming.{AreSourcesBelow, Incoming, AreKept, AreOfSetting, HasArriving, incoming_at, incoming_by, incoming_of, leaving, leaving_by, station_of}
 use Rattle.frame_flow.proofs.CopyLemmas.{All-any, All-filter_map, All-flat_map, All-handed_by, All-sent_from, arriving-same, known-each}
-use Rattle.frame_flow.proofs.OrderLemmas.{IsKnown, IsKnownCopy, copy_key, key_cmp, key-total, lex-from_cmp, All-in_order, order-in_order, ordered-one, pairs-head, pairs-none, pairs-tail, sum-in_order}
+use Rattle.frame_flow.proofs.OrderLemmas.{IsKnown, IsKnownCopy, All-in_order, order-in_order, ordered-one, sorted-is, sum-in_order}
 use Rattle.frame_flow.proofs.TurnLemmas.{IsPortOf, at-index, level-read, places-are, ports-are, same-port, set-apart, source-below}
 
 -- ---- what a filter_map keeps of a list
@@ -52,35 +53,6 @@ sum-kept f g [] = refl
 sum-kept f g (x ∷ xs) =
     sum-kept-one f (g x) (filter_map g xs) ∙ ap (λ (n : ℕ). value_of f (g x) + n) (sum-kept f g xs) ∙ sym (sum_by-cons (λ t. value_of f (g t)) x xs)
 
-pairs-kept-one : {Y : Type 0} (Q : Y → Y → Type 0) (o : Option Y) (rest : List Y) → ((y : Y) → o ≡ Some y → All (Q y) rest) → AllPairs Q rest
-    → AllPairs Q (cons_option o rest)
-pairs-kept-one Q None rest each pairs = pairs
-pairs-kept-one Q (Some y) rest each pairs = AllPairs-cons Q y rest (each y refl) pairs
-
-pairs-kept : {X Y : Type 0} (R : X → X → Type 0) (Q : Y → Y → Type 0) (g : X → Option Y)
-    → ((x z : X) (a b : Y) → R x z → g x ≡ Some a → g z ≡ Some b → Q a b) → (xs : List X) → AllPairs R xs → AllPairs Q (filter_map g xs)
-pairs-kept R Q g each [] pairs = pairs-none Q
-pairs-kept R Q g each (x ∷ xs) pairs =
-    pairs-kept-one Q (g x) (filter_map g xs)
-    (λ a is. All-filter_map (R x) (Q a) g (λ z b r e. each x z a b r is e) xs (pairs-head R x xs pairs))
-    (pairs-kept R Q g each xs (pairs-tail R x xs pairs))
-
--- ---- the order
-
--- one copy isn't after another
-abbrev NotAfter : Incoming → Incoming → Type 0
-NotAfter x y = is_not_after x.copy y.copy ≡ true
-
--- by what copies are sorted
-abbrev pub incoming_key : Incoming → ℕ × ℕ
-incoming_key c = copy_key c.copy
-
--- what a sort by bit time and number gives
-pub incoming-order : (xs : List Incoming) → IsSortedByKey incoming_key key_cmp xs → AreInOrder xs
-incoming-order xs up i j d lt below =
-    lex-from_cmp (get_or xs i d).copy.bit (get_or xs i d).copy.frame.number (get_or xs j d).copy.bit (get_or xs j d).copy.frame.number
-    (sorted_far (λ x y. is_lt (key_cmp (incoming_key x) (incoming_key y))) (ranks_by key-total incoming_key) xs up i j d (omega (arith, lt)) below)
-
 -- ---- the copy that leaves
 
 leaves-as : (links : List Link) (p : EgressPort) (c : Incoming) (y : FrameCopy) → leaving_by links p c ≡ Some y → c.copy ≡ y
@@ -91,22 +63,46 @@ leaves-as links p c y e =
       | inr nay ↦ absurd (let nothing : None ≡ Some y = sym (cond-false test (Some c.copy) None nay) ∙ e in cc)
     ]
 
--- what leaves of a node's copies in order is in order
-leaving-is : (frames : List Frame) (links : List Link) (p : EgressPort) (all sorted : List Incoming) → All (λ c. IsKnown frames c.copy.frame) all
-    → IsPermutation all sorted → AreInOrder sorted → leaving links p sorted ≡ in_order (leaving links p all)
-leaving-is frames links p all sorted known moved order =
+-- the frames of what leaves are those of their numbers
+known-left : (frames : List Frame) (links : List Link) (p : EgressPort) (copies : List Incoming) → All (λ c. IsKnown frames c.copy.frame) copies
+    → All (IsKnownCopy frames) (leaving links p copies)
+known-left frames links p copies known =
+    All-filter_map (λ c. IsKnown frames c.copy.frame) (IsKnownCopy frames) (leaving_by links p)
+    (λ c y k e. subst (λ (t : FrameCopy). IsKnownCopy frames t) (leaves-as links p c y e) k) copies known
+
+-- the order of a node's copies doesn't matter to what leaves of them, in order
+leaving-is : (frames : List Frame) (links : List Link) (p : EgressPort) (all moved : List Incoming) → All (λ c. IsKnown frames c.copy.frame) all
+    → IsPermutation all moved → in_order (leaving links p moved) ≡ in_order (leaving links p all)
+leaving-is frames links p all moved known same =
     let g = leaving_by links p in
     let K : Incoming → Type 0 = λ c. IsKnown frames c.copy.frame in
-    let keep : (c : Incoming) (y : FrameCopy) → K c → g c ≡ Some y → IsKnownCopy frames y = λ c y k e. subst (λ (t : FrameCopy). IsKnownCopy frames t) (leaves-as links p c y e) k in
-    let known_left = All-filter_map K (IsKnownCopy frames) g keep sorted (All-permutation K all sorted moved known) in
-    let known_all = All-filter_map K (IsKnownCopy frames) g keep all known in
-    let Q : FrameCopy → FrameCopy → Type 0 = λ x y. is_not_after x y ≡ true in
-    let up : IsInOrder (leaving links p sorted) =
-    pairs-kept NotAfter Q g
-    (λ x z a b r e h. subst (λ (t : FrameCopy). Q t b) (leaves-as links p x a e) (subst (λ (t : FrameCopy). Q x.copy t) (leaves-as links p z b h) r)) sorted order in
-    ordered-one frames (leaving links p sorted) (in_order (leaving links p all))
-    (λ f. sum-kept f g sorted ∙ sum_by-IsPermutation (λ c. value_of f (g c)) all sorted moved ∙ sym (sum-kept f g all) ∙ sym (sum-in_order f (leaving links p all)))
-    up (order-in_order (leaving links p all)) known_left (All-in_order (IsKnownCopy frames) (leaving links p all) known_all)
+    let one = leaving links p moved in
+    let two = leaving links p all in
+    ordered-one frames (in_order one) (in_order two)
+    (λ f. sum-in_order f one ∙ sum-kept f g moved ∙ sum_by-IsPermutation (λ c. value_of f (g c)) all moved same ∙ sym (sum-kept f g all) ∙ sym (sum-in_order f two))
+    (order-in_order one) (order-in_order two)
+    (All-in_order (IsKnownCopy frames) one (known-left frames links p moved (All-permutation K all moved same known)))
+    (All-in_order (IsKnownCopy frames) two (known-left frames links p all known))
+
+-- what a sort makes of what leaves
+pub left-in-order : (s : Setting) (links : List Link) (p : EgressPort) (copies : List Incoming) (left sorted : List FrameCopy) → AreOfSetting s copies
+    → left ≡ leaving links p copies → IsPermutation left sorted → IsInOrder sorted → sorted ≡ in_order (leaving links p copies)
+left-in-order s links p copies left sorted of_ is moved order =
+    let K : Incoming → Type 0 = λ c. IsKnown s.frames c.copy.frame in
+    let known = known-left s.frames links p copies (All-weaker (λ c. K c × IsRoute s.tree c.copy.frame.route) K (λ c h. h.0) copies of_) in
+    sorted-is s.frames left sorted (All-same (IsKnownCopy s.frames) left (leaving links p copies) is known) moved order
+    ∙ ap (λ (t : List FrameCopy). in_order t) is
+
+-- a frame goes by a port as its station tells
+pub station-node : (tree : Topology) (route : Route) → IsRoute tree route → station_of route ≢ 0 → HasNode tree (station_of route)
+station-node tree (Stream stream traffic) is ne = absurd (ne refl)
+station-node tree (To station) is ne = is
+
+pub goes-as : (tree : Topology) (p : EgressPort) (to : ℕ) (goes : Bool) (route : Route) → IsRoute tree route → to ≡ station_of route
+    → (to ≡ 0 → goes ≡ true) → (to ≢ 0 → goes ≡ is_behind tree.links p to) → goes ≡ goes_by tree.links p route
+goes-as tree p to goes (Stream stream traffic) is e each behind = each e
+goes-as tree p to goes (To station) is e each behind =
+    behind (λ none. omega (arith, none, e, is.0)) ∙ ap (λ (x : ℕ). is_behind tree.links p x) e
 
 -- what leaves of a node's copies with one copy more
 left-take : (links : List Link) (p : EgressPort) (copies : List Incoming) (i : ℕ) (d : Incoming) → i < length copies
@@ -331,10 +327,10 @@ gathered s flows at first own all none one two =
     let come = flat_map (incoming_by s.tree.links s.frames s.ticks flows at) (range_with_len 1 (length (neighbours s.tree.links at.node.0))) in
     two ∙ ap (λ (t : List Incoming). t ++ come) (one ∙ ap (λ (t : List Incoming). t ++ here) none)
 
-pub do-serve : (s : Setting) → IsSetting s → (flows : List PortFlow) (at : AtNode) (all sorted : List Incoming)
-    → all ≡ incoming_at s.tree.links s.frames s.ticks flows at → IsPermutation all sorted → AreInOrder sorted → HasArriving s flows at sorted
+pub has-arriving : (s : Setting) → IsSetting s → (flows : List PortFlow) (at : AtNode) (all moved : List Incoming)
+    → all ≡ incoming_at s.tree.links s.frames s.ticks flows at → IsPermutation all moved → HasArriving s flows at moved
 unfolding arriving
-do-serve s given flows at all sorted is moved order place port served =
+has-arriving s given flows at all moved is same place port served =
     let links = s.tree.links in
     let K : Incoming → Type 0 = λ c. IsKnown s.frames c.copy.frame in
     let known = All-same K all (incoming_at links s.frames s.ticks flows at) is
@@ -342,19 +338,19 @@ do-serve s given flows at all sorted is moved order place port served =
     let make : NodeNo → Rate → AtNode = λ x r. record { node = x; rate = r; without = at.without } in
     let here : around place at.without ≡ at = ap (λ (x : NodeNo). make x place.rate) served.0 ∙ ap (λ (r : Rate). make at.node r) served.1 in
     let from : 1 ≤ place.at.port.0 = port.1 in
-    leaving-is s.frames links place.at all sorted known moved order
+    leaving-is s.frames links place.at all moved known same
     ∙ ap (λ (t : List Incoming). in_order (leaving links place.at t)) is
     ∙ sym (ap (λ (t : AtNode). in_order (leaving links place.at (incoming_at links s.frames s.ticks flows t))) here)
     ∙ ap (λ (t : List FrameCopy). in_order t) (leaving-all links s.frames s.ticks flows place at.without from served.2)
 
-pub routes-at : (s : Setting) → IsSetting s → (flows : List PortFlow) (at : AtNode) (all sorted : List Incoming)
-    → all ≡ incoming_at s.tree.links s.frames s.ticks flows at → IsPermutation all sorted → All (λ c. IsRoute s.tree c.copy.frame.route) sorted
-routes-at s given flows at all sorted is moved =
-    let P : Frame → Type 0 = λ f. IsRoute s.tree f.route in
+pub of-setting : (s : Setting) → IsSetting s → (flows : List PortFlow) (at : AtNode) (all moved : List Incoming)
+    → all ≡ incoming_at s.tree.links s.frames s.ticks flows at → IsPermutation all moved → AreOfSetting s moved
+of-setting s given flows at all moved is same =
+    let P : Frame → Type 0 = λ f. IsKnown s.frames f × IsRoute s.tree f.route in
     let R : Incoming → Type 0 = λ c. P c.copy.frame in
-    All-permutation R all sorted moved
-    (All-same R all (incoming_at s.tree.links s.frames s.ticks flows at) is
-    (All-at P s.tree.links s.frames s.ticks flows at (All-weaker (IsFrame s.tree s.ticks) P (λ f h. h.route) s.frames given.range.frames)))
+    let each : All P s.frames = λ k d below. (known-each s.frames given.range.numbers k d below, (given.range.frames k d below).route) in
+    All-permutation R all moved same
+    (All-same R all (incoming_at s.tree.links s.frames s.ticks flows at) is (All-at P s.tree.links s.frames s.ticks flows at each))
 
 -- ---- what sends into a node
 
@@ -391,7 +387,7 @@ pub still-kept : (s : Setting) (level : ℕ) (flows : List PortFlow) (at : AtNod
 still-kept s level flows at copies k x p old new lvl kept =
     let links = s.tree.links in
     record {
-      routes = kept.routes;
+      of = kept.of;
       below = kept.below;
       serve = λ all place port served.
           let B : EgressPort → Type 0 = λ r. level_at s.tree (peer_of links r) < level in

@@ -1,12 +1,14 @@
 -- Copies in order: there is one list of the same copies that is, `in_order` of them.
-use Rattle.std.proofs.Common.{◌≡◌, ℕ, zero, suc, ◌+◌, ◌<◌, ◌≤◌, ◌⊎◌, inl, inr, Bool, true, false, cond, List, [], ◌∷◌, Some, refl, sym, ◌∙◌, ap, arith}
+use Rattle.std.proofs.Common.{◌≡◌, ℕ, zero, suc, ◌+◌, ◌<◌, ◌≤◌, ◌⊎◌, inl, inr, Bool, true, false, cond, List, [], ◌∷◌, get_or, Some, refl, sym, ◌∙◌, ap, arith}
 use Rattle.std.specs.Prelude.{All, AllPairs, sum_by, nat_lt, nat_le, ◌==◌, ◌&&◌, ◌||◌}
+use Rattle.std.specs.List.Sorted.{IsPermutation, IsSortedByKey}
 use Rattle.std.specs.Cmp.{IsTotalOrder, nat_cmp_total, on_total, then_total}
 use Rattle.std.specs.Ordering.{nat_cmp, ordering_then, is_lt}
 use Rattle.std.specs.declared.cmp.Ordering.{Ordering}
 use Rattle.std.specs.declared.cmp.Ordering.TheVariants.{Less, Equal, Greater}
 use Rattle.std.proofs.lemmas.Bool.{cond_both, cond-true, cond-false, cases_Bool, cases_lt, cases_order, lt-ltb, le-ltb, eq-eqb, ne_eqb, le-leb, lt-leb, or_left, or_right, or_from, and_from, and_left, and_right, false≢true}
 use Rattle.std.proofs.lemmas.List.Sums.{sum_by-cons}
+use Rattle.std.proofs.lemmas.List.Sorted.{sum_by-IsPermutation, All-permutation, sorted_far, ranks_by}
 use Rattle.std.proofs.lemmas.List.Elements.{All-nil, All-cons, All-head, All-tail, All-weaker}
 use Rattle.std.proofs.lemmas.List.Kept.{AllPairs-cons}
 use Rattle.frame_flow.specs.declared.frame.Frame.{Frame}
@@ -130,6 +132,11 @@ lex-from_cmp a b c d nay =
       | inr (inr h) ↦ absurd (false≢true (sym nay ∙ ap (λ (o : Ordering). is_lt (ordering_then o (nat_cmp d b))) (cmp-less c a h)))
     ]
 
+pub order-from_sort : (xs : List FrameCopy) → IsSortedByKey copy_key key_cmp xs → IsInOrder xs
+order-from_sort xs up i j d lt below =
+    lex-from_cmp (get_or xs i d).bit (get_or xs i d).frame.number (get_or xs j d).bit (get_or xs j d).frame.number
+    (sorted_far (λ x y. is_lt (key_cmp (copy_key x) (copy_key y))) (ranks_by key-total copy_key) xs up i j d (omega (arith, lt)) below)
+
 -- ---- a copy more, and all of them
 
 pub All-with_copy : (P : FrameCopy → Type 0) (x : FrameCopy) (ys : List FrameCopy) → P x → All P ys → All P (with_copy x ys)
@@ -234,3 +241,10 @@ ordered-one frames (x ∷ xs) (y ∷ ys) same one two kx ky =
     let rest : SameSums xs ys = λ f. omega (arith, same f, sum_by-cons f x xs, sum_by-cons f y ys, ap f first) in
     ap (λ (c : FrameCopy). c ∷ xs) first
     ∙ ap (λ (cs : List FrameCopy). y ∷ cs) (ordered-one frames xs ys rest (pairs-tail NotAfter x xs one) (pairs-tail NotAfter y ys two) (All-tail K x xs kx) (All-tail K y ys ky))
+
+-- what a sort gives
+pub sorted-is : (frames : List Frame) (xs ys : List FrameCopy) → All (IsKnownCopy frames) xs → IsPermutation xs ys → IsInOrder ys → ys ≡ in_order xs
+sorted-is frames xs ys known moved o =
+    let K : FrameCopy → Type 0 = IsKnownCopy frames in
+    ordered-one frames ys (in_order xs) (λ f. sum_by-IsPermutation f xs ys moved ∙ sym (sum-in_order f xs)) o (order-in_order xs)
+    (All-permutation K xs ys moved known) (All-in_order K xs known)

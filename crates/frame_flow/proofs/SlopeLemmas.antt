@@ -20,10 +20,10 @@ use Rattle.frame_flow.specs.declared.place.Place.{Place}
 use Rattle.frame_flow.specs.Moments.{tick_bits_of, bits_of_ticks}
 use Rattle.frame_flow.specs.Force.{is_port, changes_at, in_force, last_upto, does_change, slopes_of_change, first_slopes, later_slopes, slopes_over}
 use Rattle.frame_flow.specs.declared.result.PortFlow.{PortFlow}
-use Rattle.frame_flow.specs.Copies.{is_not_after, all_places, arriving}
+use Rattle.frame_flow.specs.Copies.{is_not_after, is_not_after, all_places, arriving}
 use Rattle.frame_flow.specs.Flow.{Setting, arrival_of, may_send, force_on, input_of}
 use Rattle.frame_flow.specs.Given.{IsInOrder, IsEarlier, IsFrame, IsSetting, HasSlopesBelow}
-use Rattle.frame_flow.proofs.OrderLemmas.{lex-is, pairs-head, pairs-tail, pairs-none}
+use Rattle.frame_flow.proofs.OrderLemmas.{after-along, lex-is, pairs-head, pairs-tail, pairs-none}
 use Rattle.frame_flow.proofs.CopyLemmas.{IsArrived, All-arriving, order-arriving}
 
 -- ---- lists
@@ -273,3 +273,6 @@ numbers-ascend frames next = adjacent-pairs (λ f g. f.number < g.number) number
 
 pub changes-earlier : (changes : List PortChange) → AllAdjacentBelow IsEarlier changes (length changes) → AllPairs IsEarlier changes
 changes-earlier changes next = adjacent-pairs IsEarlier earlier_along changes next
+
+pub order-from-next : (copies : List FrameCopy) → AllAdjacentBelow (λ x y. is_not_after x y ≡ true) copies (length copies) → IsInOrder copies
+order-from-next copies next = adjacent-pairs (λ x y. is_not_after x y ≡ true) (λ x y z one two. after-along x y z one two) copies next

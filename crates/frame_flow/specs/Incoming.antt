@@ -3,7 +3,7 @@
 --
 --   frames of the station x, by port 0 --.
 --   what each port's peer sends, by k ---+--> x: in order of bit time --> those that go by p and didn't come in by p --> p
-use Rattle.std.specs.Prelude.{◌≡◌, ℕ, ◌<◌, ◌⊎◌, true, not, ◌==◌, ◌&&◌, nat_lt, List, [], ◌++◌, length, filter_map, flat_map, Option, Some, None, All, AllPairs, if◌then◌else◌}
+use Rattle.std.specs.Prelude.{◌≡◌, ℕ, ◌<◌, ◌⊎◌, not, ◌==◌, ◌&&◌, nat_lt, List, [], ◌++◌, length, filter_map, flat_map, Option, Some, None, All, if◌then◌else◌}
 use Rattle.std.specs.List.{range_with_len}
 use Rattle.srp_base.specs.declared.numbers.EgressPort.{EgressPort}
 use Rattle.srp_base.specs.declared.bandwidth.Rate.{Rate}
@@ -12,11 +12,13 @@ use Rattle.tree_topology.specs.Topology.{Topology, HasPort}
 use Rattle.tree_topology.specs.Ports.{neighbours, peer_of}
 use Rattle.frame_flow.specs.declared.frame.Frame.{Frame}
 use Rattle.frame_flow.specs.declared.frame.FrameCopy.{FrameCopy}
+use Rattle.frame_flow.specs.declared.frame.Route.{Route}
+use Rattle.frame_flow.specs.declared.frame.Route.TheVariants.{Stream, To}
 use Rattle.frame_flow.specs.declared.incoming.AtNode.{AtNode}
 use Rattle.frame_flow.specs.declared.place.Place.{Place}
 use Rattle.frame_flow.specs.declared.result.PortFlow.{PortFlow}
 use Rattle.frame_flow.specs.Moments.{bits_of_ticks, bit_from}
-use Rattle.frame_flow.specs.Copies.{Reached, arriving, flow_at, goes_by, handed_by, is_not_after, port_of, ports_at, sent_from}
+use Rattle.frame_flow.specs.Copies.{Reached, arriving, flow_at, frame_of, goes_by, handed_by, in_order, port_of, ports_at, sent_from}
 use Rattle.frame_flow.specs.Flow.{Setting}
 use Rattle.frame_flow.specs.Given.{IsRoute}
 use Rattle.frame_flow.specs.Turns.{level_at}
@@ -56,9 +58,15 @@ leaving_by links p c =
 abbrev pub leaving : List Link → EgressPort → List Incoming → List FrameCopy
 leaving links p copies = filter_map (leaving_by links p) copies
 
--- copies at a node are in order of bit time, ties by number
-abbrev pub AreInOrder : List Incoming → Type 0
-AreInOrder copies = AllPairs (λ x y. is_not_after x.copy y.copy ≡ true) copies
+-- the station that a frame goes to; 0 where it goes wherever its stream is booked
+abbrev pub station_of : Route → ℕ
+station_of (Stream stream traffic) = 0
+station_of (To station) = station.0
+
+-- copies of frames of a setting, each of which goes to a node of the tree
+abbrev pub AreOfSetting : Setting → List Incoming → Type 0
+AreOfSetting s copies =
+    All (λ c. (frame_of s.frames c.copy.frame.number ≡ Some c.copy.frame) × IsRoute s.tree c.copy.frame.route) copies
 
 -- what is gathered at a node serves a port: it is of the port's node and rate, and nothing is left out but what came in by
 -- the port itself
@@ -66,19 +74,20 @@ abbrev pub IsGatheredFor : AtNode → Place → Type 0
 IsGatheredFor at place =
     (place.at.node ≡ at.node) × (place.rate ≡ at.rate) × ((at.without.0 ≡ 0) ⊎ (at.without ≡ place.at.port))
 
--- of a node's copies those that leave by a port are those that arrive at it, for each port that they are gathered for
+-- of a node's copies those that leave by a port are, in order, those that arrive at it, for each port that they are gathered
+-- for
 abbrev pub HasArriving : Setting → List PortFlow → AtNode → List Incoming → Type 0
 HasArriving s flows at copies =
     (place : Place) → HasPort s.tree place.at → IsGatheredFor at place
-    → leaving s.tree.links place.at copies ≡ arriving s.tree.links s.frames s.ticks flows place
+    → in_order (leaving s.tree.links place.at copies) ≡ arriving s.tree.links s.frames s.ticks flows place
 
 -- what sends into a node is of lower levels
 abbrev pub AreSourcesBelow : Topology → ℕ → ℕ → Type 0
 AreSourcesBelow tree level x = All (λ r. level_at tree (peer_of tree.links r) < level) (ports_at tree.links x)
 
--- a list that is kept for further ports of its node and level: its frames go to nodes of the tree; and where no port is left
--- out, what sends into the node is of lower levels, so that the list still serves when flows of this level are put in
+-- a list that is kept for further ports of its node and level: it is of frames of the setting; and where no port is left out,
+-- what sends into the node is of lower levels, so that the list still serves when flows of this level are put in
 pub record AreKept (s : Setting) (level : ℕ) (flows : List PortFlow) (at : AtNode) (copies : List Incoming) : Type 0 where
-  pub routes : All (λ c. IsRoute s.tree c.copy.frame.route) copies
+  pub of : AreOfSetting s copies
   pub below : at.without.0 ≡ 0 → AreSourcesBelow s.tree level at.node.0
   pub serve : at.without.0 ≡ 0 → HasArriving s flows at copies

@@ -1,27 +1,28 @@
 //! The copies of frames that come to a node, in order, and those of them that leave by a port.
 
-ghost use Rattle.std.specs.Prelude.{◌≡◌, ◌<◌, ◌≤◌, ◌^◌, ◌++◌, ◌∷◌, ◌==◌, ◌&&◌, [], not, Some, All, AllPairs, filter_map, flat_map, length, option_map, IfOk, OnOk};
+ghost use Rattle.std.specs.Prelude.{◌≡◌, ◌≢◌, ◌<◌, ◌≤◌, ◌^◌, ◌++◌, ◌∷◌, ◌==◌, ◌&&◌, [], not, true, Some, AllPairs, filter_map, flat_map, length, option_map, IfOk, OnOk};
 ghost use Rattle.std.specs.List.{range_with_len};
 ghost use Rattle.std.specs.List.Sorted.{IsPermutation};
 ghost use Rattle.tree_topology.specs.Topology.{HasNode, HasPort};
 ghost use Rattle.tree_topology.specs.Ports.{neighbours, peer_of};
-ghost use Rattle.frame_flow.specs.Copies.{flow_at, frame_of, goes_by, handed_by, handed_on, reached_at, sent_from};
-ghost use Rattle.frame_flow.specs.Given.{IsRoute};
-ghost use Rattle.frame_flow.specs.Incoming.{AreInOrder, HasArriving, incoming_by, incoming_of, leaving};
+ghost use Rattle.frame_flow.specs.Copies.{flow_at, frame_of, goes_by, handed_by, handed_on, in_order, is_not_after, reached_at, sent_from};
+ghost use Rattle.frame_flow.specs.declared.frame.Route.{Route};
+ghost use Rattle.frame_flow.specs.Given.{IsInOrder, IsRoute};
+ghost use Rattle.frame_flow.specs.Incoming.{AreOfSetting, HasArriving, incoming_by, incoming_of, leaving, station_of};
 
 use crate::asked::Asked;
-use crate::frame::{CopyOf, Frame, Route};
+use crate::frame::{CopyOf, Frame};
 use crate::incoming::{AtNode, IncomingOf};
 use crate::moments::{bit_from, bits_of_ticks, moment_of};
 use crate::numbered::find_first;
 use crate::result::{Fate, PortFlow};
-use srp_base::{EgressPort, NoMemory, PortNo, Rate};
+use srp_base::{EgressPort, NoMemory, NodeNo, PortNo, Rate};
 use std::alloc::Global;
 use tree_topology::Tree;
 
 impl<'a> Asked<'a> {
-    /// The copies at a node, in order, by the flows at the ports that send into it. The list `old` is emptied and
-    /// filled anew, for the sake of its memory.
+    /// The copies at a node, by the flows at the ports that send into it, in order where several ports take theirs
+    /// from them. The list `old` is emptied and filled anew, for the sake of its memory.
     pub(crate) fn copies_at(
         &self,
         flows: &[PortFlow],
@@ -30,15 +31,14 @@ impl<'a> Asked<'a> {
     ) -> Result<Vec<IncomingOf<'a>>, NoMemory>
         requires { HasNode self.now.tree at.node.0 }
         ensures serve { IfOk result (λ v. HasArriving self.now flows.now at v.items) }
-        ensures routes { IfOk result
-            (λ v. All (λ c. IsRoute self.now.tree c.copy.frame.route) v.items) }
+        ensures of { IfOk result (λ v. AreOfSetting self.now v.items) }
     {
         self.keeps();
         let mut copies = old;
         copies.clear();
         self.own_copies(at, &mut copies)?;
         self.onward_copies(flows, at, &mut copies)?;
-        put_in_order(&mut copies)?;
+        put_in_order(&mut copies, at.without.0 == 0)?;
         Ok(copies)
     }
 
@@ -241,7 +241,24 @@ impl<'a> Asked<'a> {
         copies: &[IncomingOf<'a>],
     ) -> Result<Vec<CopyOf<'a>>, NoMemory>
         requires port { HasPort self.now.tree port }
-        requires routes { All (λ c. IsRoute self.now.tree c.copy.frame.route) copies.now }
+        requires of { AreOfSetting self.now copies.now }
+        ensures { IfOk result
+            (λ v. v.items ≡ in_order (leaving self.now.tree.links port copies.now)) }
+    {
+        let mut left = self.left_by(alloc, port, copies)?;
+        put_copies_in_order(&mut left)?;
+        Ok(left)
+    }
+
+    /// The same, as they stand in the list.
+    fn left_by(
+        &self,
+        alloc: Global,
+        port: EgressPort,
+        copies: &[IncomingOf<'a>],
+    ) -> Result<Vec<CopyOf<'a>>, NoMemory>
+        requires port { HasPort self.now.tree port }
+        requires of { AreOfSetting self.now copies.now }
         ensures { IfOk result (λ v. v.items ≡ leaving self.now.tree.links port copies.now) }
     {
         let mut left = Vec::with_capacity(alloc, copies.len())?;
@@ -254,14 +271,46 @@ impl<'a> Asked<'a> {
     }
 }
 
-/// Puts copies in order of bit time, ties by number. Those that come over one link mostly are in order, which
-/// the sort that keeps ties in place makes use of.
-fn put_in_order(copies: &mut Vec<IncomingOf>) -> Result<(), NoMemory>
-    ensures same { IsPermutation copies.old.items copies.new.items }
-    ensures order { OnOk result (AreInOrder copies.new.items) }
+/// Puts a node's copies in order of bit time, ties by number, where they are shared: what leaves by a port of them
+/// stands in order then. Those that come over one link mostly are in order, which the sort that keeps ties in place
+/// makes use of. It is done for the sake of speed alone.
+fn put_in_order(copies: &mut Vec<IncomingOf>, are_shared: bool) -> Result<(), NoMemory>
+    ensures { IsPermutation copies.old.items copies.new.items }
 {
-    copies.sort_by_key(|c| (c.bit(), c.number()))?;
+    if are_shared {
+        copies.sort_by_key(|c| (c.bit(), c.number()))?;
+    }
     Ok(())
+}
+
+/// Puts copies in order of bit time, ties by number, unless they are.
+fn put_copies_in_order(copies: &mut Vec<CopyOf>) -> Result<(), NoMemory>
+    ensures same { IsPermutation copies.old.items copies.new.items }
+    ensures order { OnOk result (IsInOrder copies.new.items) }
+{
+    if !are_in_order(copies.as_slice()) {
+        copies.sort_by_key(|c| (c.bit(), c.frame().number))?;
+    }
+    Ok(())
+}
+
+/// Whether copies are in order of bit time, ties by number.
+fn are_in_order(copies: &[CopyOf]) -> bool
+    ensures { result ≡ true → IsInOrder copies.now }
+{
+    for i in 1..copies.len() {
+        if !is_not_after(&copies[i - 1], &copies[i]) {
+            return false;
+        }
+    }
+    true
+}
+
+/// Whether one copy isn't after another.
+fn is_not_after(x: &CopyOf, y: &CopyOf) -> bool
+    ensures { result ≡ is_not_after x.now y.now }
+{
+    x.bit() < y.bit() || x.bit() == y.bit() && x.frame().number <= y.frame().number
 }
 
 /// The frame of a number. Frames that are numbered without a gap are found at once.
@@ -287,17 +336,16 @@ fn leaves_by(tree: &Tree, port: EgressPort, c: &IncomingOf) -> bool
     ensures { result ≡ (not (c.now.ingress == port.port.0)
         && goes_by tree.now.links port c.now.copy.frame.route) }
 {
-    c.ingress() != port.port && goes_by(tree, port, c.frame().route)
+    c.ingress() != port.port && goes_by(tree, port, c.to())
 }
 
-/// Whether a frame at a port's node goes on by the port.
-fn goes_by(tree: &Tree, at: EgressPort, route: Route) -> bool
+/// Whether a frame at a port's node goes on by the port: one that goes to a station by that with which the path to the
+/// station begins, another, whose station is 0, by each.
+fn goes_by(tree: &Tree, at: EgressPort, to: NodeNo) -> bool
     requires port { HasPort tree.now at }
-    requires route { IsRoute tree.now route }
-    ensures { result ≡ goes_by tree.now.links at route }
+    requires station { to.0 ≢ 0 → HasNode tree.now to.0 }
+    ensures { (route : Route) → IsRoute tree.now route → to.0 ≡ station_of route
+        → result ≡ goes_by tree.now.links at route }
 {
-    match route {
-        Route::Stream(_, _) => true,
-        Route::To(station) => tree.behind(at, station),
-    }
+    to.0 == 0 || tree.behind(at, to)
 }

@@ -1,9 +1,9 @@
 //! The copies of frames that come to a node, each with the port that it came in by.
 
 ghost use Rattle.std.specs.Prelude.{◌≡◌, [], false, true};
-ghost use Rattle.frame_flow.specs.Incoming.{IsGatheredFor};
+ghost use Rattle.frame_flow.specs.Incoming.{IsGatheredFor, station_of};
 
-use crate::frame::Frame;
+use crate::frame::{Frame, Route};
 use crate::place::Place;
 use srp_base::{NodeNo, PortNo, Rate};
 use std::alloc::Global;
@@ -42,25 +42,26 @@ impl AtNode {
 }
 
 /// A copy of a frame at a node, with the port that it came in by; a frame of the node's own station came in by
-/// port 0. Its number stands beside it, so that copies are put in order without a look at each frame. Contracts
-/// see an `Incoming`.
+/// port 0. The frame's number and its station stand beside it, so that copies are put in order and chosen without
+/// a look at each frame. Contracts see an `Incoming`.
 #[derive(Drop)]
 pub(crate) struct IncomingOf<'a> {
     frame: &'a Frame,
     bit: u64,
     number: u32,
+    to: NodeNo,
     ingress: PortNo,
 }
 
 impl<'a> Model for IncomingOf<'a> {
     ghost use Rattle.std.specs.Prelude.{◌≡◌};
-    ghost use Rattle.frame_flow.specs.Incoming.{Incoming};
+    ghost use Rattle.frame_flow.specs.Incoming.{Incoming, station_of};
 
     ghost Value = { Incoming };
 
     ghost view = { λ c. record { ingress = c.ingress.0; copy = record { bit = c.bit; frame = c.frame.now } } };
 
-    ghost invariant = { λ c. c.number ≡ c.frame.now.number };
+    ghost invariant = { λ c. (c.number ≡ c.frame.now.number) × (c.to.0 ≡ station_of c.frame.now.route) };
 }
 
 impl<'a> IncomingOf<'a> {
@@ -73,6 +74,7 @@ impl<'a> IncomingOf<'a> {
             frame,
             bit,
             number: frame.number,
+            to: station_of(frame.route),
             ingress,
         }
     }
@@ -98,6 +100,13 @@ impl<'a> IncomingOf<'a> {
         self.number
     }
 
+    /// The station that the frame goes to; 0 where it goes wherever its stream is booked.
+    pub(crate) fn to(&self) -> NodeNo
+        ensures { result.0 ≡ station_of self.now.copy.frame.route }
+    {
+        self.to
+    }
+
     /// The frame.
     pub(crate) fn frame(&self) -> &'a Frame
         ensures { result.now ≡ self.now.copy.frame }
@@ -106,7 +115,17 @@ impl<'a> IncomingOf<'a> {
     }
 }
 
-/// The copies at a node, in order.
+/// The station that a frame of a route goes to; 0 where it goes wherever its stream is booked.
+fn station_of(route: Route) -> NodeNo
+    ensures { result.0 ≡ station_of route }
+{
+    match route {
+        Route::Stream(_, _) => NodeNo(0),
+        Route::To(station) => station,
+    }
+}
+
+/// The copies at a node.
 #[derive(Drop)]
 pub(crate) struct NodeCopies<'a> {
     pub(crate) at: AtNode,

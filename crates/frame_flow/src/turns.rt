@@ -1,13 +1,13 @@
 //! The flow of frames over a tree, port by port.
 
-ghost use Rattle.std.specs.Prelude.{◌≡◌, ◌+◌, ◌<◌, ◌≤◌, ◌≢◌, true, false, slice_set, All, IfOk, OnOk, length, map, Contains, if◌then◌else◌};
+ghost use Rattle.std.specs.Prelude.{◌≡◌, ◌+◌, ◌<◌, ◌≤◌, ◌≢◌, true, false, slice_set, IfOk, OnOk, length, map, Contains, if◌then◌else◌};
 ghost use Rattle.tree_topology.specs.Topology.{HasPort};
 ghost use Rattle.tree_topology.specs.Walk.{count_behind};
 ghost use Rattle.frame_flow.specs.Flow.{IsFlow, port_flow};
-ghost use Rattle.frame_flow.specs.Copies.{all_places, arriving};
+ghost use Rattle.frame_flow.specs.Copies.{all_places, arriving, in_order};
 ghost use Rattle.frame_flow.specs.Force.{changes_at};
-ghost use Rattle.frame_flow.specs.Given.{IsRoute, IsSetting};
-ghost use Rattle.frame_flow.specs.Incoming.{AreKept, AreSourcesBelow, leaving};
+ghost use Rattle.frame_flow.specs.Given.{IsSetting};
+ghost use Rattle.frame_flow.specs.Incoming.{AreKept, AreOfSetting, AreSourcesBelow, leaving};
 ghost use Rattle.frame_flow.specs.Turns.{ArePorts, AreAt, AreDoneBefore, level_at, level_of};
 
 use crate::asked::Asked;
@@ -193,7 +193,7 @@ impl<'a> Asked<'a> {
             → AreSourcesBelow self.now.tree level place.at.node.0 }
         requires kept { AreKept self.now level flows.now kept.at kept.copies.items }
         ensures kept { IfOk result (λ c. AreKept self.now level flows.now c.at c.copies.items) }
-        ensures served { IfOk result (λ c. leaving self.now.tree.links place.at c.copies.items
+        ensures served { IfOk result (λ c. in_order (leaving self.now.tree.links place.at c.copies.items)
             ≡ arriving self.now.tree.links self.now.frames self.now.ticks flows.now place) }
     {
         if kept.at.serves_all(place) {
@@ -215,8 +215,8 @@ impl<'a> Asked<'a> {
     ) -> Result<(), NoMemory>
         requires place { Contains (all_places self.now.tree.links self.now.rates) place }
         requires k { k < length flows.old.items }
-        requires routes { All (λ c. IsRoute self.now.tree c.copy.frame.route) copies.now }
-        requires served { leaving self.now.tree.links place.at copies.now
+        requires of { AreOfSetting self.now copies.now }
+        requires served { in_order (leaving self.now.tree.links place.at copies.now)
             ≡ arriving self.now.tree.links self.now.frames self.now.ticks flows.old.items place }
         ensures { OnOk result (flows.new.items
             ≡ slice_set flows.old.items k (port_flow self.now flows.old.items place)) }
