@@ -5,7 +5,7 @@ use Rattle.std.specs.List.{list_any}
 use Rattle.std.proofs.lemmas.Bool.{cases_Bool, cases_lt, cases_eq, cases_order, cond-true, cond-false, le-leb, lt-leb, lt-ltb, le-ltb, eqb-true, ne_eqb, eq-eqb, and_left, and_right}
 use Rattle.std.proofs.lemmas.List.Folds.{list_any-append}
 use Rattle.std.proofs.lemmas.List.Elements.{All-head, All-tail, All-append, All-push, filter-append, filter_passes}
-use Rattle.std.proofs.lemmas.List.Kept.{AllPairs-filter}
+use Rattle.std.proofs.lemmas.List.Kept.{AllPairs-cons, AllPairs-filter}
 use Rattle.std.proofs.lemmas.List.Quantifiers.{all_pairs_push}
 use Rattle.credit_shaper.specs.declared.shaper.Traffic.{Traffic}
 use Rattle.credit_shaper.specs.declared.shaper.Line.TheVariants.{Free, Sends}
@@ -18,6 +18,7 @@ use Rattle.credit_shaper.specs.Port.{IsPortInput, IsNotAfter, IsFrameSize, is_of
 use Rattle.credit_shaper.specs.Trace.{Port, head_of, turn_of, without_head, departure_at, starts, sends_frame, with_start, with_arrivals, with_credits, port_at, port_in}
 use Rattle.credit_shaper.specs.Bounds.{is_on_line}
 use Rattle.credit_shaper.specs.Departures.{sent_of, left_of, departs_as, IsDepartureOf, DepartInOrder, is_sending, AgreeBefore, arrivals_before, started_before}
+use Rattle.credit_shaper.proofs.PairLemmas.{pairs-head, pairs-tail, pairs-append}
 use Rattle.credit_shaper.proofs.MomentLemmas.{not_after, filter_nothing}
 use Rattle.credit_shaper.proofs.QueueLemmas.{same_traffic}
 use Rattle.credit_shaper.proofs.BoundLemmas.{head_traffic, head_within, All-without_head, with_arrivals_sizes, sizes_at}
@@ -57,27 +58,7 @@ with_start_cases P t q busy rest begin =
     started (Some x) e free =
         begin x free (ap (λ traffic. head_of traffic q.waiting) (head_traffic (turn_of q.shaper q.waiting) q.waiting x e) ∙ e)
 
--- ---- lists in which each element stands in a relation to each later one
-
-pairs-cons : {X : Type 0} (R : X → X → Type 0) (x : X) (xs : List X) → All (R x) xs → AllPairs R xs → AllPairs R (x ∷ xs)
-pairs-cons R x xs first rest zero zero d l h = absurd (omega (arith, l))
-pairs-cons R x xs first rest zero (suc j) d l h = first j d (omega (arith, h))
-pairs-cons R x xs first rest (suc i) zero d l h = absurd (omega (arith, l))
-pairs-cons R x xs first rest (suc i) (suc j) d l h = rest i j d (omega (arith, l)) (omega (arith, h))
-
-pairs-tail : {X : Type 0} (R : X → X → Type 0) (x : X) (xs : List X) → AllPairs R (x ∷ xs) → AllPairs R xs
-pairs-tail R x xs pairs i j d l h = pairs (suc i) (suc j) d (omega (arith, l)) (omega (arith, h))
-
-pairs-head : {X : Type 0} (R : X → X → Type 0) (x : X) (xs : List X) → AllPairs R (x ∷ xs) → All (R x) xs
-pairs-head R x xs pairs j d h = pairs 0 (suc j) d (omega arith) (omega (arith, h))
-
-pairs-append : {X : Type 0} (R : X → X → Type 0) (xs ys : List X) → AllPairs R xs → AllPairs R ys → All (λ x. All (R x) ys) xs
-    → AllPairs R (xs ++ ys)
-pairs-append R [] ys one other cross = other
-pairs-append R (x ∷ xs) ys one other cross =
-    pairs-cons R x (xs ++ ys)
-    (All-append (R x) xs ys (pairs-head R x xs one) (All-head (λ z. All (R z) ys) x xs cross))
-    (pairs-append R xs ys (pairs-tail R x xs one) other (All-tail (λ z. All (R z) ys) x xs cross))
+-- ---- the frames that wait, without one
 
 pairs-without_head : (R : Arrival → Arrival → Type 0) (traffic : Traffic) (w : List Arrival) → AllPairs R w → AllPairs R (without_head traffic w)
 pairs-without_head R traffic [] pairs = pairs
@@ -85,7 +66,7 @@ pairs-without_head R traffic (x ∷ xs) pairs =
     let rest : AllPairs R xs = pairs-tail R x xs pairs in
     elim (is_of traffic x) as (λ b. AllPairs R (cond b xs (x ∷ without_head traffic xs))) [
       | true ↦ rest
-      | false ↦ pairs-cons R x (without_head traffic xs) (All-without_head (R x) traffic xs (pairs-head R x xs pairs)) (pairs-without_head R traffic xs rest)
+      | false ↦ AllPairs-cons R x (without_head traffic xs) (All-without_head (R x) traffic xs (pairs-head R x xs pairs)) (pairs-without_head R traffic xs rest)
     ]
 
 -- ---- departures follow one another

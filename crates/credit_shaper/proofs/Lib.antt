@@ -1,3 +1,4 @@
+pub mod PairLemmas
 pub mod CreditLemmas
 pub mod MomentLemmas
 pub mod QueueLemmas

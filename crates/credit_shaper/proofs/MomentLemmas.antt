@@ -10,6 +10,7 @@ use Rattle.credit_shaper.specs.declared.port.Arrival.{Arrival}
 use Rattle.credit_shaper.specs.declared.shaper.Traffic.TheVariants.{A}
 use Rattle.credit_shaper.specs.Port.{IsNotAfter, no_slopes, last_change, arrivals_at}
 use Rattle.credit_shaper.specs.Walk.{IsReached, arrival_bit, change_bit, newest}
+use Rattle.credit_shaper.proofs.PairLemmas.{pairs-from-adjacent}
 
 -- no element is before an earlier one
 abbrev pub IsNonDescending : {X : Type 0} → (X → ℕ) → List X → Type 0
@@ -146,24 +147,13 @@ slopes_reached xs s t n k low high from to =
     (λ i d a b. let f : (get_or xs i d).bit < s = low.before i d a b in omega (arith, f, from))
     (λ i d a b. let f : t ≤ (get_or xs i d).bit = high.later i d a b in omega (arith, f, to))
 
--- where each is in order with the next, each is with each later one
-pairs_from_adjacent : {X : Type 0} (R : X → X → Type 0) → ((x y z : X) → R x y → R y z → R x z) → (xs : List X)
-    → AllAdjacentBelow R xs (length xs) → AllPairs R xs
-pairs_from_adjacent R trans xs next i zero d l h = absurd (omega (arith, l))
-pairs_from_adjacent R trans xs next i (suc j) d l h =
-    let step : R (get_or xs j d) (get_or xs (suc j) d) = subst (λ (k : ℕ). R (get_or xs j d) (get_or xs k d)) (omega arith) (next j d (omega (arith, h))) in
-    elim (cases_eq i j) [
-      | inl e ↦ subst (λ (k : ℕ). R (get_or xs k d) (get_or xs (suc j) d)) (sym e) step
-      | inr ne ↦ trans (get_or xs i d) (get_or xs j d) (get_or xs (suc j) d) (pairs_from_adjacent R trans xs next i j d (omega arith) (omega (arith, h))) step
-    ]
-
 not_after_trans : (x y z : Arrival) → IsNotAfter x y → IsNotAfter y z → IsNotAfter x z
 not_after_trans x y z (inl f) g = inl (omega (arith, f, not_after y z g))
 not_after_trans x y z (inr f) (inl g) = inl (omega (arith, f, g))
 not_after_trans x y z (inr f) (inr g) = inr (omega (arith, f, g), omega (arith, f, g))
 
 pub arrivals_ascend : (xs : List Arrival) → AllAdjacentBelow IsNotAfter xs (length xs) → AllPairs IsNotAfter xs
-arrivals_ascend = pairs_from_adjacent IsNotAfter not_after_trans
+arrivals_ascend = pairs-from-adjacent IsNotAfter not_after_trans
 
 pub changes_ascend : (xs : List SlopeChange) → AllAdjacentBelow (λ x y. x.bit < y.bit) xs (length xs) → AllPairs (λ x y. x.bit < y.bit) xs
-changes_ascend = pairs_from_adjacent (λ x y. x.bit < y.bit) (λ x y z f g. omega (arith, f, g))
+changes_ascend = pairs-from-adjacent (λ x y. x.bit < y.bit) (λ x y z f g. omega (arith, f, g))

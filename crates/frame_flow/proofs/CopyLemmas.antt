@@ -19,12 +19,12 @@ use Rattle.frame_flow.specs.declared.result.PortFlow.{PortFlow}
 use Rattle.frame_flow.specs.declared.place.Place.{Place}
 use Rattle.frame_flow.specs.Moments.{bits_of_ticks, bit_from, moment_of}
 use Rattle.frame_flow.specs.Force.{is_port}
-use Rattle.frame_flow.specs.Copies.{Reached, sent_from, frame_of, reached_at, handed_on, handed_by, comes_over, flow_at, reached, ports_at, goes_by, copy_of, in_order, arriving}
+use Rattle.frame_flow.specs.Copies.{IsKnown, Reached, sent_from, frame_of, reached_at, handed_on, handed_by, comes_over, flow_at, reached, ports_at, goes_by, copy_of, in_order, arriving}
 use Rattle.frame_flow.specs.Flow.{Setting}
 use Rattle.frame_flow.specs.Steps.{AreByNode}
 use Rattle.frame_flow.specs.Given.{IsInOrder}
 use Rattle.frame_flow.proofs.NumberLemmas.{find-here}
-use Rattle.frame_flow.proofs.OrderLemmas.{IsKnown, All-in_order, order-in_order}
+use Rattle.frame_flow.proofs.OrderLemmas.{All-in_order, order-in_order}
 
 -- ---- lists
 

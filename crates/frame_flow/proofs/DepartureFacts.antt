@@ -10,7 +10,7 @@ use Rattle.credit_shaper.specs.declared.port.Departure.{Departure}
 use Rattle.credit_shaper.specs.Credit.{traffic_number}
 use Rattle.credit_shaper.specs.Port.{is_of}
 use Rattle.credit_shaper.specs.Departures.{departs_as, DepartInOrder}
-use Rattle.frame_flow.proofs.OrderLemmas.{pairs-head, pairs-tail, pairs-none}
+use Rattle.credit_shaper.proofs.PairLemmas.{pairs-head, pairs-tail, pairs-none}
 use Rattle.frame_flow.proofs.NumberLemmas.{find-here}
 
 -- ---- what one list passes to another, in order

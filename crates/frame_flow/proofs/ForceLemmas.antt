@@ -14,7 +14,7 @@ use Rattle.credit_shaper.specs.Port.{last_change, no_slopes}
 use Rattle.frame_flow.specs.Moments.{bits_of_ticks, tick_at}
 use Rattle.frame_flow.specs.Force.{in_force, last_upto, does_change, slopes_of_change, first_slopes, later_slopes, slopes_over}
 use Rattle.frame_flow.specs.Laws.{HasSlopes}
-use Rattle.frame_flow.proofs.OrderLemmas.{pairs-head, pairs-tail}
+use Rattle.credit_shaper.proofs.PairLemmas.{pairs-head, pairs-tail}
 use Rattle.frame_flow.proofs.SlopeLemmas.{IsBefore, slopes-after}
 
 -- a tick has begun by a bit time where its first bit time has

@@ -1,5 +1,5 @@
--- The copies at a node: those of them that leave by a port are those that arrive at it, and they stay so while
--- ports of the same level get their flows.
+-- The copies at a node: those of them that leave by a port are, in order, those that arrive at it, and they stay so
+-- while ports of the same level get their flows.
 use Rattle.std.proofs.Common.{◌≡◌, ◌≢◌, ℕ, ◌+◌, ◌<◌, ◌≤◌, ◌⊎◌, inl, inr, Bool, true, false, List, [], ◌∷◌, ◌++◌, length, get_or, set, take, map, append-nil, Option, Some, None, refl, sym, ◌∙◌, ap, subst, arith}
 use Rattle.std.specs.Prelude.{All, not, filter_map, flat_map, sum_by, nat_lt, ◌==◌, ◌&&◌}
 use Rattle.std.specs.List.{cons_option, range_with_len}
@@ -28,13 +28,13 @@ use Rattle.frame_flow.specs.declared.place.Place.{Place}
 use Rattle.frame_flow.specs.declared.result.PortFlow.{PortFlow}
 use Rattle.frame_flow.specs.Moments.{bits_of_ticks, bit_from}
 use Rattle.frame_flow.specs.Force.{is_port}
-use Rattle.frame_flow.specs.Copies.{Reached, all_places, arriving, comes_over, copy_of, flow_at, goes_by, handed_by, in_order, port_of, ports_at, reached, sent_from}
+use Rattle.frame_flow.specs.Copies.{IsKnown, Reached, all_places, arriving, comes_over, copy_of, flow_at, goes_by, handed_by, in_order, port_of, ports_at, reached, sent_from}
 use Rattle.frame_flow.specs.Flow.{Setting, port_flow}
 use Rattle.frame_flow.specs.Given.{IsInOrder, IsRoute, IsSetting}
 use Rattle.frame_flow.specs.Turns.{AreAt, level_at, level_of}
 use Rattle.frame_flow.specs.Incoming.{AreSourcesBelow, Incoming, AreKept, AreOfSetting, HasArriving, incoming_at, incoming_by, incoming_of, leaving, leaving_by, station_of}
 use Rattle.frame_flow.proofs.CopyLemmas.{All-any, All-filter_map, All-flat_map, All-handed_by, All-sent_from, arriving-same, known-each}
-use Rattle.frame_flow.proofs.OrderLemmas.{IsKnown, IsKnownCopy, All-in_order, order-in_order, ordered-one, sorted-is, sum-in_order}
+use Rattle.frame_flow.proofs.OrderLemmas.{IsKnownCopy, All-in_order, order-in_order, ordered-one, sorted-is, sum-in_order}
 use Rattle.frame_flow.proofs.TurnLemmas.{IsPortOf, at-index, level-read, places-are, ports-are, same-port, set-apart, source-below}
 
 -- ---- what a filter_map keeps of a list
@@ -387,7 +387,7 @@ pub still-kept : (s : Setting) (level : ℕ) (flows : List PortFlow) (at : AtNod
 still-kept s level flows at copies k x p old new lvl kept =
     let links = s.tree.links in
     record {
-      of = kept.of;
+      frames = kept.frames;
       below = kept.below;
       serve = λ all place port served.
           let B : EgressPort → Type 0 = λ r. level_at s.tree (peer_of links r) < level in

@@ -23,10 +23,10 @@ use Rattle.frame_flow.specs.Copies.{all_places, arriving}
 use Rattle.frame_flow.specs.Flow.{Setting, IsFlow, port_flow, force_on, fate_of, input_of, is_unbooked, may_send, sent_fate, arrival_of}
 use Rattle.frame_flow.specs.Given.{IsSetting}
 use Rattle.frame_flow.specs.Laws.{arriving_numbers, fate_numbers, AreDifferent, departures_numbered, IsOutcome, HasOutcomes}
-use Rattle.frame_flow.proofs.SlopeLemmas.{AllPairs-map, port-input}
+use Rattle.frame_flow.proofs.SlopeLemmas.{port-input}
 use Rattle.frame_flow.proofs.TurnLemmas.{places-are}
 use Rattle.frame_flow.proofs.OnceLemmas.{DifferFates, DifferCopies, once-each, once-copies}
-use Rattle.frame_flow.proofs.OrderLemmas.{pairs-head, pairs-tail}
+use Rattle.credit_shaper.proofs.PairLemmas.{AllPairs-map, pairs-head, pairs-tail}
 use Rattle.frame_flow.proofs.CopyLemmas.{All-find}
 use Rattle.frame_flow.proofs.DepartureFacts.{HasTraffic, DifferDepartures, sent-known, sent-apart, none-of, unfound, found-only}
 

@@ -21,24 +21,17 @@ use Rattle.frame_flow.specs.declared.result.PortFlow.{PortFlow}
 use Rattle.frame_flow.specs.declared.place.Place.{Place}
 use Rattle.frame_flow.specs.Moments.{moment_of}
 use Rattle.frame_flow.specs.Force.{is_port, changes_at}
-use Rattle.frame_flow.specs.Copies.{Reached, all_places, sent_from, frame_of, reached_at, handed_on, handed_by, comes_over, flow_at, reached, ports_at, port_of, copy_of, is_not_after, with_copy, in_order, arriving}
+use Rattle.frame_flow.specs.Copies.{IsKnown, Reached, all_places, sent_from, frame_of, reached_at, handed_on, handed_by, comes_over, flow_at, reached, ports_at, port_of, copy_of, is_not_after, with_copy, in_order, arriving}
 use Rattle.frame_flow.specs.Flow.{Setting, IsFlow, port_flow, force_on, fate_of, input_of}
 use Rattle.credit_shaper.specs.Departures.{sent_of}
+use Rattle.credit_shaper.proofs.PairLemmas.{AllPairs-map, pairs-append, pairs-head, pairs-none, pairs-tail}
 use Rattle.frame_flow.specs.Turns.{level_at}
 use Rattle.frame_flow.specs.Given.{IsSetting, IsFrame}
-use Rattle.frame_flow.proofs.OrderLemmas.{IsKnown, All-with_copy, All-in_order, pairs-head, pairs-tail, pairs-none}
+use Rattle.frame_flow.proofs.OrderLemmas.{All-with_copy, All-in_order}
 use Rattle.frame_flow.proofs.CopyLemmas.{All-find, All-flat_map, All-filter_map, All-any, All-sent_from, All-handed_by, All-arriving, known-each, copy-is}
-use Rattle.frame_flow.proofs.SlopeLemmas.{AllPairs-map}
 use Rattle.frame_flow.proofs.TurnLemmas.{same-port, port-itself, IsPortOf, source-below, ports-are, places-are}
 
 -- ---- pairs of a list's elements
-
-pub pairs-append : {X : Type 0} (R : X → X → Type 0) (xs ys : List X) → AllPairs R xs → AllPairs R ys → All (λ x. All (R x) ys) xs → AllPairs R (xs ++ ys)
-pairs-append R [] ys one two cross = two
-pairs-append {X} R (x ∷ xs) ys one two cross =
-    let C : X → Type 0 = λ z. All (R z) ys in
-    AllPairs-cons R x (xs ++ ys) (All-append (R x) xs ys (pairs-head R x xs one) (All-head C x xs cross))
-    (pairs-append R xs ys (pairs-tail R x xs one) two (All-tail C x xs cross))
 
 pub pairs-flat_map : {X Y : Type 0} (R : X → X → Type 0) (S : Y → Y → Type 0) (P : X → Type 0) (f : X → List Y) → ((x : X) → P x → AllPairs S (f x))
     → ((x y : X) → P x → P y → R x y → All (λ u. All (S u) (f y)) (f x)) → (xs : List X) → All P xs → AllPairs R xs → AllPairs S (flat_map f xs)

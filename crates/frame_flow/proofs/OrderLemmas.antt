@@ -1,6 +1,7 @@
 -- Copies in order: there is one list of the same copies that is, `in_order` of them.
-use Rattle.std.proofs.Common.{◌≡◌, ℕ, zero, suc, ◌+◌, ◌<◌, ◌≤◌, ◌⊎◌, inl, inr, Bool, true, false, cond, List, [], ◌∷◌, get_or, Some, refl, sym, ◌∙◌, ap, arith}
+use Rattle.std.proofs.Common.{◌≡◌, ℕ, zero, suc, ◌+◌, ◌<◌, ◌≤◌, ◌⊎◌, inl, inr, Bool, true, false, cond, List, [], ◌∷◌, length, get_or, Some, refl, sym, ◌∙◌, ap, arith}
 use Rattle.std.specs.Prelude.{All, AllPairs, sum_by, nat_lt, nat_le, ◌==◌, ◌&&◌, ◌||◌}
+use Rattle.std.specs.List.{AllAdjacentBelow}
 use Rattle.std.specs.List.Sorted.{IsPermutation, IsSortedByKey}
 use Rattle.std.specs.Cmp.{IsTotalOrder, nat_cmp_total, on_total, then_total}
 use Rattle.std.specs.Ordering.{nat_cmp, ordering_then, is_lt}
@@ -11,9 +12,10 @@ use Rattle.std.proofs.lemmas.List.Sums.{sum_by-cons}
 use Rattle.std.proofs.lemmas.List.Sorted.{sum_by-IsPermutation, All-permutation, sorted_far, ranks_by}
 use Rattle.std.proofs.lemmas.List.Elements.{All-nil, All-cons, All-head, All-tail, All-weaker}
 use Rattle.std.proofs.lemmas.List.Kept.{AllPairs-cons}
+use Rattle.credit_shaper.proofs.PairLemmas.{pairs-head, pairs-tail, pairs-none, pairs-from-adjacent}
 use Rattle.frame_flow.specs.declared.frame.Frame.{Frame}
 use Rattle.frame_flow.specs.declared.frame.FrameCopy.{FrameCopy}
-use Rattle.frame_flow.specs.Copies.{is_not_after, with_copy, in_order, frame_of}
+use Rattle.frame_flow.specs.Copies.{IsKnown, is_not_after, with_copy, in_order, frame_of}
 use Rattle.frame_flow.specs.Given.{IsInOrder}
 
 -- ---- pairs of numbers, by the first and then by the second
@@ -90,16 +92,6 @@ after-along x y z one two =
 pub after-itself : (x : FrameCopy) → is_not_after x x ≡ true
 after-itself x = lex-tied x.bit x.frame.number x.bit x.frame.number refl (omega arith)
 
--- the first of a list of pairs, and the rest
-pub pairs-head : {X : Type 0} (R : X → X → Type 0) (x : X) (xs : List X) → AllPairs R (x ∷ xs) → All (R x) xs
-pairs-head R x xs h k d below = h zero (suc k) d (omega arith) (omega (arith, below))
-
-pub pairs-tail : {X : Type 0} (R : X → X → Type 0) (x : X) (xs : List X) → AllPairs R (x ∷ xs) → AllPairs R xs
-pairs-tail R x xs h i j d lt below = h (suc i) (suc j) d (omega (arith, lt)) (omega (arith, below))
-
-pub pairs-none : {X : Type 0} (R : X → X → Type 0) → AllPairs R []
-pairs-none R i j d lt below = absurd (omega (arith, below))
-
 -- ---- what a sort by bit time and number gives
 
 abbrev pub copy_key : FrameCopy → ℕ × ℕ
@@ -132,10 +124,15 @@ lex-from_cmp a b c d nay =
       | inr (inr h) ↦ absurd (false≢true (sym nay ∙ ap (λ (o : Ordering). is_lt (ordering_then o (nat_cmp d b))) (cmp-less c a h)))
     ]
 
+-- sorted by these keys is in order
 pub order-from_sort : (xs : List FrameCopy) → IsSortedByKey copy_key key_cmp xs → IsInOrder xs
 order-from_sort xs up i j d lt below =
     lex-from_cmp (get_or xs i d).bit (get_or xs i d).frame.number (get_or xs j d).bit (get_or xs j d).frame.number
     (sorted_far (λ x y. is_lt (key_cmp (copy_key x) (copy_key y))) (ranks_by key-total copy_key) xs up i j d (omega (arith, lt)) below)
+
+-- each is in order with the next
+pub order-from-next : (copies : List FrameCopy) → AllAdjacentBelow (λ x y. is_not_after x y ≡ true) copies (length copies) → IsInOrder copies
+order-from-next copies next = pairs-from-adjacent (λ x y. is_not_after x y ≡ true) (λ x y z one two. after-along x y z one two) copies next
 
 -- ---- a copy more, and all of them
 
@@ -214,9 +211,6 @@ first-upto x xs y ys same o =
     ]
 
 -- the frame of a copy is the one of its number
-abbrev pub IsKnown : List Frame → Frame → Type 0
-IsKnown frames f = frame_of frames f.number ≡ Some f
-
 abbrev pub IsKnownCopy : List Frame → FrameCopy → Type 0
 IsKnownCopy frames c = IsKnown frames c.frame
 

@@ -14,30 +14,18 @@ use Rattle.srp_base.specs.declared.ports.PortChange.{PortChange}
 use Rattle.srp_base.specs.Bandwidth.{bits_of}
 use Rattle.credit_shaper.specs.declared.port.SlopeChange.{SlopeChange}
 use Rattle.credit_shaper.specs.Port.{IsPortInput, AreSlopes, AreArrivals, IsNotAfter, IsFrameSize}
+use Rattle.credit_shaper.proofs.PairLemmas.{AllPairs-map, AllPairs-weaker, pairs-from-adjacent, pairs-head, pairs-none, pairs-tail}
 use Rattle.frame_flow.specs.declared.frame.Frame.{Frame}
 use Rattle.frame_flow.specs.declared.frame.FrameCopy.{FrameCopy}
 use Rattle.frame_flow.specs.declared.place.Place.{Place}
 use Rattle.frame_flow.specs.Moments.{tick_bits_of, bits_of_ticks}
 use Rattle.frame_flow.specs.Force.{is_port, changes_at, in_force, last_upto, does_change, slopes_of_change, first_slopes, later_slopes, slopes_over}
 use Rattle.frame_flow.specs.declared.result.PortFlow.{PortFlow}
-use Rattle.frame_flow.specs.Copies.{is_not_after, is_not_after, all_places, arriving}
+use Rattle.frame_flow.specs.Copies.{is_not_after, all_places, arriving}
 use Rattle.frame_flow.specs.Flow.{Setting, arrival_of, may_send, force_on, input_of}
 use Rattle.frame_flow.specs.Given.{IsInOrder, IsEarlier, IsFrame, IsSetting, HasSlopesBelow}
-use Rattle.frame_flow.proofs.OrderLemmas.{after-along, lex-is, pairs-head, pairs-tail, pairs-none}
+use Rattle.frame_flow.proofs.OrderLemmas.{lex-is}
 use Rattle.frame_flow.proofs.CopyLemmas.{IsArrived, All-arriving, order-arriving}
-
--- ---- lists
-
-pub AllPairs-map : {X Y : Type 0} (R : X → X → Type 0) (S : Y → Y → Type 0) (f : X → Y) → ((x y : X) → R x y → S (f x) (f y)) → (xs : List X) → AllPairs R xs → AllPairs S (map f xs)
-AllPairs-map R S f each [] h = pairs-none S
-AllPairs-map {X} R S f each (x ∷ xs) h =
-    let Q : X → Type 0 = λ y. S (f x) (f y) in
-    AllPairs-cons S (f x) (map f xs) (All-map (S (f x)) f xs (All-weaker (R x) Q (λ y r. each x y r) xs (pairs-head R x xs h)))
-    (AllPairs-map R S f each xs (pairs-tail R x xs h))
-
-pub AllPairs-weaker : {X : Type 0} (R S : X → X → Type 0) (P : X → Type 0) → ((x y : X) → P x → P y → R x y → S x y) → (xs : List X) → All P xs → AllPairs R xs → AllPairs S xs
-AllPairs-weaker R S P each xs all h i j d lt below =
-    each (get_or xs i d) (get_or xs j d) (all i d (omega (arith, lt, below))) (all j d below) (h i j d lt below)
 
 -- ---- slopes
 
@@ -253,26 +241,8 @@ earlier_along c d e (inr one) (inr two) =
       ],
     )
 
-adjacent-far : {X : Type 0} (R : X → X → Type 0) → ((x y z : X) → R x y → R y z → R x z) → (xs : List X) → AllAdjacentBelow R xs (length xs)
-    → (n i : ℕ) (d : X) → i + suc n < length xs → R (get_or xs i d) (get_or xs (i + suc n) d)
-adjacent-far {X} R along xs next zero i d below = next i d (omega (arith, below))
-adjacent-far {X} R along xs next (suc n) i d below =
-    let far = adjacent-far R along xs next n i d (omega (arith, below)) in
-    let step = next (i + suc n) d (omega (arith, below)) in
-    let same : i + suc n + 1 ≡ i + suc (suc n) = omega arith in
-    subst (λ (j : ℕ). R (get_or xs i d) (get_or xs j d)) same (along (get_or xs i d) (get_or xs (i + suc n) d) (get_or xs (i + suc n + 1) d) far step)
-
-pub adjacent-pairs : {X : Type 0} (R : X → X → Type 0) → ((x y z : X) → R x y → R y z → R x z) → (xs : List X) → AllAdjacentBelow R xs (length xs) → AllPairs R xs
-adjacent-pairs {X} R along xs next i j d lt below =
-    let n = j - i - 1 in
-    let same : i + suc n ≡ j = omega (arith, lt) in
-    subst (λ (k : ℕ). R (get_or xs i d) (get_or xs k d)) same (adjacent-far R along xs next n i d (omega (arith, same, below)))
-
 pub numbers-ascend : (frames : List Frame) → AllAdjacentBelow (λ f g. f.number < g.number) frames (length frames) → AllPairs (λ f g. f.number < g.number) frames
-numbers-ascend frames next = adjacent-pairs (λ f g. f.number < g.number) number_along frames next
+numbers-ascend frames next = pairs-from-adjacent (λ f g. f.number < g.number) number_along frames next
 
 pub changes-earlier : (changes : List PortChange) → AllAdjacentBelow IsEarlier changes (length changes) → AllPairs IsEarlier changes
-changes-earlier changes next = adjacent-pairs IsEarlier earlier_along changes next
-
-pub order-from-next : (copies : List FrameCopy) → AllAdjacentBelow (λ x y. is_not_after x y ≡ true) copies (length copies) → IsInOrder copies
-order-from-next copies next = adjacent-pairs (λ x y. is_not_after x y ≡ true) (λ x y z one two. after-along x y z one two) copies next
+changes-earlier changes next = pairs-from-adjacent IsEarlier earlier_along changes next

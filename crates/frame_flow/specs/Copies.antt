@@ -2,7 +2,7 @@
 --
 --   frames of the station p.node --------------------.
 --   what leaves q, the peer of another port of p.node -+--> p: in order of bit time, ties by number
-use Rattle.std.specs.Prelude.{ℕ, ◌-◌, Bool, true, ◌==◌, ◌&&◌, ◌||◌, nat_le, nat_lt, List, [], ◌∷◌, ◌++◌, length, map, filter, filter_map, find, flat_map, Option, Some, None, if◌then◌else◌, slice_index_or}
+use Rattle.std.specs.Prelude.{◌≡◌, ℕ, ◌-◌, Bool, true, ◌==◌, ◌&&◌, ◌||◌, nat_le, nat_lt, List, [], ◌∷◌, ◌++◌, length, map, filter, filter_map, find, flat_map, Option, Some, None, if◌then◌else◌, slice_index_or}
 use Rattle.std.specs.List.{range_with_len}
 use Rattle.srp_base.specs.declared.numbers.EgressPort.{EgressPort}
 use Rattle.srp_base.specs.declared.bandwidth.Rate.{Rate}
@@ -57,6 +57,10 @@ sent_from frames x =
 -- the frame of a number
 abbrev pub frame_of : List Frame → ℕ → Option Frame
 frame_of frames number = find (λ f. f.number == number) frames
+
+-- a frame is the one of its number
+abbrev pub IsKnown : List Frame → Frame → Type 0
+IsKnown frames f = frame_of frames f.number ≡ Some f
 
 -- a frame that there is, in a list with a moment
 abbrev pub reached_at : ℕ → Option Frame → List Reached

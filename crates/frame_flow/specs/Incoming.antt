@@ -2,7 +2,7 @@
 -- port. No public contract names these words.
 --
 --   frames of the station x, by port 0 --.
---   what each port's peer sends, by k ---+--> x: in order of bit time --> those that go by p and didn't come in by p --> p
+--   what each port's peer sends, by k ---+--> x --> those that go by p and didn't come in by p --> in order of bit time --> p
 use Rattle.std.specs.Prelude.{◌≡◌, ℕ, ◌<◌, ◌⊎◌, not, ◌==◌, ◌&&◌, nat_lt, List, [], ◌++◌, length, filter_map, flat_map, Option, Some, None, All, if◌then◌else◌}
 use Rattle.std.specs.List.{range_with_len}
 use Rattle.srp_base.specs.declared.numbers.EgressPort.{EgressPort}
@@ -18,7 +18,7 @@ use Rattle.frame_flow.specs.declared.incoming.AtNode.{AtNode}
 use Rattle.frame_flow.specs.declared.place.Place.{Place}
 use Rattle.frame_flow.specs.declared.result.PortFlow.{PortFlow}
 use Rattle.frame_flow.specs.Moments.{bits_of_ticks, bit_from}
-use Rattle.frame_flow.specs.Copies.{Reached, arriving, flow_at, frame_of, goes_by, handed_by, in_order, port_of, ports_at, sent_from}
+use Rattle.frame_flow.specs.Copies.{IsKnown, Reached, arriving, flow_at, goes_by, handed_by, in_order, port_of, ports_at, sent_from}
 use Rattle.frame_flow.specs.Flow.{Setting}
 use Rattle.frame_flow.specs.Given.{IsRoute}
 use Rattle.frame_flow.specs.Turns.{level_at}
@@ -63,10 +63,10 @@ abbrev pub station_of : Route → ℕ
 station_of (Stream stream traffic) = 0
 station_of (To station) = station.0
 
--- copies of frames of a setting, each of which goes to a node of the tree
+-- copies of frames of a setting; one that goes to a station goes to a node of the tree
 abbrev pub AreOfSetting : Setting → List Incoming → Type 0
 AreOfSetting s copies =
-    All (λ c. (frame_of s.frames c.copy.frame.number ≡ Some c.copy.frame) × IsRoute s.tree c.copy.frame.route) copies
+    All (λ c. IsKnown s.frames c.copy.frame × IsRoute s.tree c.copy.frame.route) copies
 
 -- what is gathered at a node serves a port: it is of the port's node and rate, and nothing is left out but what came in by
 -- the port itself
@@ -88,6 +88,6 @@ AreSourcesBelow tree level x = All (λ r. level_at tree (peer_of tree.links r) <
 -- a list that is kept for further ports of its node and level: it is of frames of the setting; and where no port is left out,
 -- what sends into the node is of lower levels, so that the list still serves when flows of this level are put in
 pub record AreKept (s : Setting) (level : ℕ) (flows : List PortFlow) (at : AtNode) (copies : List Incoming) : Type 0 where
-  pub of : AreOfSetting s copies
+  pub frames : AreOfSetting s copies
   pub below : at.without.0 ≡ 0 → AreSourcesBelow s.tree level at.node.0
   pub serve : at.without.0 ≡ 0 → HasArriving s flows at copies

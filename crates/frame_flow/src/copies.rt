@@ -1,4 +1,4 @@
-//! The copies of frames that come to a node, in order, and those of them that leave by a port.
+//! The copies of frames that come to a node, and those of them that leave by a port, in order.
 
 ghost use Rattle.std.specs.Prelude.{◌≡◌, ◌≢◌, ◌<◌, ◌≤◌, ◌^◌, ◌++◌, ◌∷◌, ◌==◌, ◌&&◌, [], not, true, Some, AllPairs, filter_map, flat_map, length, option_map, IfOk, OnOk};
 ghost use Rattle.std.specs.List.{range_with_len};
@@ -21,8 +21,8 @@ use std::alloc::Global;
 use tree_topology::Tree;
 
 impl<'a> Asked<'a> {
-    /// The copies at a node, by the flows at the ports that send into it, in order where several ports take theirs
-    /// from them. The list `old` is emptied and filled anew, for the sake of its memory.
+    /// The copies at a node, by the flows at the ports that send into it. The list `old` is emptied and filled anew,
+    /// for the sake of its memory.
     pub(crate) fn copies_at(
         &self,
         flows: &[PortFlow],
@@ -31,14 +31,14 @@ impl<'a> Asked<'a> {
     ) -> Result<Vec<IncomingOf<'a>>, NoMemory>
         requires { HasNode self.now.tree at.node.0 }
         ensures serve { IfOk result (λ v. HasArriving self.now flows.now at v.items) }
-        ensures of { IfOk result (λ v. AreOfSetting self.now v.items) }
+        ensures frames { IfOk result (λ v. AreOfSetting self.now v.items) }
     {
         self.keeps();
         let mut copies = old;
         copies.clear();
         self.own_copies(at, &mut copies)?;
         self.onward_copies(flows, at, &mut copies)?;
-        put_in_order(&mut copies, at.without.0 == 0)?;
+        sort_shared(at, &mut copies)?;
         Ok(copies)
     }
 
@@ -241,16 +241,16 @@ impl<'a> Asked<'a> {
         copies: &[IncomingOf<'a>],
     ) -> Result<Vec<CopyOf<'a>>, NoMemory>
         requires port { HasPort self.now.tree port }
-        requires of { AreOfSetting self.now copies.now }
+        requires frames { AreOfSetting self.now copies.now }
         ensures { IfOk result
             (λ v. v.items ≡ in_order (leaving self.now.tree.links port copies.now)) }
     {
         let mut left = self.left_by(alloc, port, copies)?;
-        put_copies_in_order(&mut left)?;
+        put_in_order(&mut left)?;
         Ok(left)
     }
 
-    /// The same, as they stand in the list.
+    /// Of a node's copies those that leave by a port of it, as they stand in the list.
     fn left_by(
         &self,
         alloc: Global,
@@ -258,7 +258,7 @@ impl<'a> Asked<'a> {
         copies: &[IncomingOf<'a>],
     ) -> Result<Vec<CopyOf<'a>>, NoMemory>
         requires port { HasPort self.now.tree port }
-        requires of { AreOfSetting self.now copies.now }
+        requires frames { AreOfSetting self.now copies.now }
         ensures { IfOk result (λ v. v.items ≡ leaving self.now.tree.links port copies.now) }
     {
         let mut left = Vec::with_capacity(alloc, copies.len())?;
@@ -271,20 +271,20 @@ impl<'a> Asked<'a> {
     }
 }
 
-/// Puts a node's copies in order of bit time, ties by number, where they are shared: what leaves by a port of them
-/// stands in order then. Those that come over one link mostly are in order, which the sort that keeps ties in place
-/// makes use of. It is done for the sake of speed alone.
-fn put_in_order(copies: &mut Vec<IncomingOf>, are_shared: bool) -> Result<(), NoMemory>
+/// Sorts a node's copies by bit time, ties by number, where several ports take theirs from them, for the sake of speed
+/// alone: what leaves by a port is in order then, so that none of the ports sorts it again. Those that come over one
+/// link mostly are in order, which the sort that keeps ties in place makes use of.
+fn sort_shared(at: AtNode, copies: &mut Vec<IncomingOf>) -> Result<(), NoMemory>
     ensures { IsPermutation copies.old.items copies.new.items }
 {
-    if are_shared {
+    if at.is_all() {
         copies.sort_by_key(|c| (c.bit(), c.number()))?;
     }
     Ok(())
 }
 
-/// Puts copies in order of bit time, ties by number, unless they are.
-fn put_copies_in_order(copies: &mut Vec<CopyOf>) -> Result<(), NoMemory>
+/// Puts copies in order of bit time, ties by number; those that are in order already are left as they stand.
+fn put_in_order(copies: &mut Vec<CopyOf>) -> Result<(), NoMemory>
     ensures same { IsPermutation copies.old.items copies.new.items }
     ensures order { OnOk result (IsInOrder copies.new.items) }
 {

@@ -32,12 +32,19 @@ impl AtNode {
         }
     }
 
+    /// Whether all copies at the node are gathered.
+    pub(crate) fn is_all(self) -> bool
+        ensures { result ≡ true → self.without.0 ≡ 0 }
+    {
+        self.without.0 == 0
+    }
+
     /// Whether all copies at the node are gathered, and they serve a port.
     pub(crate) fn serves_all(self, place: Place) -> bool
         ensures all { result ≡ true → self.without.0 ≡ 0 }
         ensures served { result ≡ true → IsGatheredFor self place }
     {
-        self.without.0 == 0 && self.node == place.at.node && self.rate == place.rate
+        self.is_all() && self.node == place.at.node && self.rate == place.rate
     }
 }
 

@@ -14,7 +14,7 @@
 //! - `frame`: `Frame` with its `Route`, and `FrameCopy`, a frame at a port.
 //! - `result`: `Fate`, `PortFlow` and `FlowResult`.
 //! - `turns`: `flow`. `valid`: `is_valid`, whether it may be asked for.
-//! - `copies`: the copies that come to a node, in order, and those of them that leave by a port. `incoming`: a copy
+//! - `copies`: the copies that come to a node, and those of them that leave by a port, in order. `incoming`: a copy
 //!   with the port that it came in by. `by_node`: the frames of each node.
 //! - `fates`: the flow at a port. `verdicts`: which copies may be sent, by what is in `force`. `sent`: how the departure
 //!   of a frame is found. `numbered`: what is found in a list that ascends by a number.
@@ -25,8 +25,8 @@
 //! in over a port's own link never leaves by that port, so in a tree at most one flow meets it, which is a
 //! law here. The code goes over the ports by how many nodes lie behind their peers (`specs/Turns.antt`):
 //! what sends into a port's node over another link has fewer. A node's ports that have as many follow one
-//! another, and those of one rate among them share one list, in order, of all copies that come to the node: each
-//! leaves out those that came in by itself (`specs/Incoming.antt`).
+//! another, and those of one rate among them share one list of all copies that come to the node: each leaves out
+//! those that came in by itself, and puts what is left in order (`specs/Incoming.antt`).
 //!
 //! Above the condition stand, as laws: each copy has one fate; it departs once where that is its fate, and
 //! else never; the copies of one traffic depart in order of arrival, ties by number; and at every port every

@@ -1,5 +1,5 @@
 use Rattle.std.proofs.Common.{arith}
-use Rattle.frame_flow.proofs.SlopeLemmas.{order-from-next}
+use Rattle.frame_flow.proofs.OrderLemmas.{order-from-next}
 use Rattle.frame_flow.proofs.copies.are_in_order.Goals as goal
 
 pub returns : goal.returns

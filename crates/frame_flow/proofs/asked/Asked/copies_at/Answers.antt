@@ -6,11 +6,11 @@ returns-clause-serve c =
     let s = c.args.self.now in
     has-arriving s c.keeps.ensures.given c.args.flows.now c.args.at _ _
     (gathered s c.args.flows.now c.args.at _ _ _ c.clear.ensures.items c.in_ok-own_copies.ensures c.in_ok-onward_copies.ensures)
-    c.in_ok-put_in_order.ensures
+    c.in_ok-sort_shared.ensures
 
-pub returns-clause-of : goal.returns-clause-of
-returns-clause-of c =
+pub returns-clause-frames : goal.returns-clause-frames
+returns-clause-frames c =
     let s = c.args.self.now in
     of-setting s c.keeps.ensures.given c.args.flows.now c.args.at _ _
     (gathered s c.args.flows.now c.args.at _ _ _ c.clear.ensures.items c.in_ok-own_copies.ensures c.in_ok-onward_copies.ensures)
-    c.in_ok-put_in_order.ensures
+    c.in_ok-sort_shared.ensures

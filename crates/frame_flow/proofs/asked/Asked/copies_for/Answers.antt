@@ -9,7 +9,7 @@ pub returns-clause-kept : goal.returns-clause-kept
 returns-clause-kept c =
     let B : NodeNo → Type 0 = λ x. AreSourcesBelow c.args.self.now.tree c.args.level x.0 in
     record {
-      of = c.in_ok-copies.ensures.of;
+      frames = c.in_ok-copies.ensures.frames;
       below = λ all. subst B c.of_port-at.ensures.served.0 (elim (cases_Bool c.args.is_shared) [
         | inl is ↦ c.requires.shared is
         | inr nay ↦ absurd (omega (arith, all, c.requires.port.1, ap (λ (k : PortNo). k.0) (c.of_port-at.ensures.own nay)))
