@@ -50,12 +50,20 @@ impl MsrpSide {
         Ok(())
     }
 
+    /// Whether a clock that is set to a moment, in cs, shows at some port that a want which isn't booked may fit otherwise
+    /// than before.
+    pub fn shows(&self, now: Cs) -> bool
+        ensures { result ≡ list_any (shows_at now.0) self.now.ports }
+    {
+        self.ports.iter().any(|port| port.ledger.shows_at(now))
+    }
+
     /// Takes all memory that setting the clock to a moment in cs needs, so that the clocks of many nodes can be set
     /// together or not at all. It takes none where the clock shows nothing at any port.
     pub fn prepare_clock(&self, now: Cs) -> Result<ClockSets, NoMemory>
         ensures { IfOk result (λ c. c ≡ next_sets now.0 self.now) }
     {
-        if !any_shows(self.ports.as_slice(), now) {
+        if !self.shows(now) {
             return Ok(ClockSets { sets: None });
         }
         let sets = self.sets_at(now)?;
@@ -120,13 +128,6 @@ impl MsrpSide {
         clock_all(&mut self.ports, now);
         self.moment = now;
     }
-}
-
-// Whether the clock shows anything at a port.
-fn any_shows(ports: &[Port], now: Cs) -> bool
-    ensures { result ≡ list_any (shows_at now.0) ports.now }
-{
-    ports.iter().any(|port| port.ledger.shows_at(now))
 }
 
 // The awaiting keys of each port, with these keys where the clock shows.
