@@ -1,5 +1,5 @@
 -- One box of a node changes: the others stay, and all are short.
-use Rattle.std.proofs.Common.{◌≡◌, ◌≤◌, ◌^◌, sym, Bool, ℕ, zero, suc, ◌<◌, ◌++◌, List, [], ◌∷◌, length, map, take, drop, refl, ap, subst, ◌∙◌, arith}
+use Rattle.std.proofs.Common.{◌≡◌, ◌≤◌, sym, Bool, ℕ, zero, suc, ◌<◌, ◌++◌, List, [], ◌∷◌, length, map, refl, ap, subst, ◌∙◌, arith}
 use Rattle.std.specs.Prelude.{slice_set, slice_index_or}
 use Rattle.std.specs.List.{AllByRecursion, insert}
 use Rattle.mrp_participant.specs.Link.{repeated}

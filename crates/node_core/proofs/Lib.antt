@@ -4,3 +4,4 @@ pub mod Boxes
 pub mod Sending
 mod Registered
 pub mod ProperSteps
+pub mod Rest

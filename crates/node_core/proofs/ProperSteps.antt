@@ -1,6 +1,6 @@
 -- Each step of a node, and what happens to the PDUs that wait, keeps what every node keeps.
-use Rattle.std.proofs.Common.{◌≡◌, ℕ, zero, suc, ◌+◌, ◌<◌, ◌≤◌, ◌^◌, Bool, true, false, if◌then◌else◌, List, [], ◌∷◌, ◌++◌, length, map, refl, sym, ap, subst, ◌∙◌, arith}
-use Rattle.std.specs.Prelude.{slice_get, slice_set, Option, Some, None, Result, Ok, Err}
+use Rattle.std.proofs.Common.{◌≡◌, ℕ, zero, suc, ◌+◌, ◌≤◌, ◌^◌, Bool, true, false, if◌then◌else◌, List, [], ◌∷◌, ◌++◌, length, map, refl, sym, ap, subst, ◌∙◌, arith}
+use Rattle.std.specs.Prelude.{slice_get, Option, Some, None, Result, Ok, Err}
 use Rattle.std.proofs.lemmas.List.{length-map}
 use Rattle.std.proofs.Math.ListN.{length-set}
 use Rattle.std.specs.List.{AllByRecursion}
@@ -20,21 +20,19 @@ use Rattle.mvrp_codec.specs.Writing.{AreVids, mvrp_spelling}
 use Rattle.msrp_codec.specs.declared.pdu.MsrpKey.{MsrpKey}
 use Rattle.msrp_codec.specs.declared.pdu.MsrpPdu.{MsrpPdu}
 use Rattle.msrp_codec.specs.Content.{Belongs}
-use Rattle.msrp_codec.specs.FirstValue.{IsTalker}
 use Rattle.msrp_codec.specs.Meaning.{msrp_reading}
 use Rattle.msrp_codec.specs.Writing.{AreInRange, as_written, msrp_spelling}
 use Rattle.mrp_participant.specs.State.{AreRows, is_silent, new_state}
 use Rattle.mvrp.specs.Part.{Part, pdu_sent}
-use Rattle.mvrp.specs.Side.{Vlans, IsKept, IsWritten, place_of, new_vlans, received_vlans, due_vlans, left_vlans, leave_all_vlans, periodic_vlans, spoilt_vlans, settled_vlans, sent_vlans, requested_vlans}
-use Rattle.mvrp.specs.Vids.{IsVid, HasVidRows, AreOfVids, IsProper}
+use Rattle.mvrp.specs.Side.{Vlans, IsWritten, place_of, new_vlans, received_vlans, due_vlans, left_vlans, leave_all_vlans, periodic_vlans, spoilt_vlans, settled_vlans, sent_vlans, requested_vlans}
+use Rattle.mvrp.specs.Vids.{IsVid, HasVidRows, IsProper}
 use Rattle.msrp.specs.declared.port.Port.{Port as SrpPort}
 use Rattle.msrp.specs.declared.asking.SrpRequest.{SrpRequest}
 use Rattle.msrp.specs.declared.asking.SrpRequest.TheVariants as asks
 use Rattle.msrp.specs.Part.{Part as SrpPart, HasOwnContents, key_cmp, pdu_sent as srp_pdu_sent}
 use Rattle.msrp.specs.Side.{Streams, IsPort, IsWritten as IsSrpWritten, new_port, new_streams, received_streams, due_streams, left_streams, leave_all_streams, periodic_streams, spoilt_streams, settled_streams, sent_streams, requested_streams, clocked_streams}
-use Rattle.msrp.specs.Proper.{HasRanges, AreOfRange, IsProper as IsProperSrp, IsRequestInRange, setups_of}
+use Rattle.msrp.specs.Proper.{HasRanges, IsProper as IsProperSrp, IsRequestInRange, setups_of}
 use Rattle.node_core.specs.declared.types.Wire.{Wire}
-use Rattle.node_core.specs.declared.types.AppRequest.{AppRequest}
 use Rattle.node_core.specs.declared.types.AppRequest.TheVariants.{Declare, Withdraw, Talk, Hush, Listen, Unlisten}
 use Rattle.node_core.specs.declared.types.NodeKey.TheVariants.{Vlan, Srp}
 use Rattle.node_core.specs.declared.types.PortStep.{PortStep}
@@ -44,8 +42,8 @@ use Rattle.node_core.specs.declared.types.NodeEvent.TheVariants.{Request, Port, 
 use Rattle.node_core.specs.Wires.{IsShort, AreShort, without}
 use Rattle.node_core.specs.State.{NodeState, box_at, new_node}
 use Rattle.node_core.specs.Step.{CanStep, node_step, port_step, worked, worked_app, worked_mvrp, worked_msrp, sent_octets, said_mvrp, said_msrp, with_said, after_app}
-use Rattle.node_core.specs.Links.{IsKeptNode, with_outbox, with_inbox, with_carried, lost_at, repeated_at, spoilt_at}
-use Rattle.node_core.specs.Proper.{IsProperNode, IsProperWire, AreProperWires, AsksInRange, IsInRange}
+use Rattle.node_core.specs.Links.{with_outbox, with_inbox, with_carried, lost_at, repeated_at, spoilt_at}
+use Rattle.node_core.specs.Proper.{IsProperNode, IsProperWire, AreProperWires, IsInRange}
 use Rattle.node_core.proofs.Sizes.{of_received, of_due, of_left, of_leave_all, of_periodic, of_sent, of_spoilt, of_settled, of_requested}
 use Rattle.node_core.proofs.StreamSizes as sizes
 use Rattle.node_core.proofs.Boxes.{each_set, each_box, each_append, each_without, each_repeated, each_new}

@@ -1,11 +1,8 @@
 -- The attributes that are registered of some rows, from a place on.
-use Rattle.std.proofs.Common.{◌≡◌, ◌<◌, ◌+◌, append_assoc, ℕ, zero, suc, Bool, true, false, if◌then◌else◌, List, [], ◌∷◌, ◌++◌, length, map, drop, refl, sym, ap, subst, ◌∙◌, arith}
+use Rattle.std.proofs.Common.{◌≡◌, ◌<◌, ◌+◌, append_assoc, ℕ, zero, suc, List, [], ◌∷◌, ◌++◌, length, drop, refl, sym, ap, ◌∙◌, arith}
 use Rattle.std.specs.Prelude.{Option, Some, None, slice_get, filter_map, option_and_then, option_to_list}
 use Rattle.std.specs.List.{cons_option}
-use Rattle.registrar.specs.declared.Registrar.{Registrar}
-use Rattle.registrar.specs.Table.{is_registered_in}
 use Rattle.mrp_participant.specs.declared.row.Row.{Row}
-use Rattle.mrp_participant.specs.Lookup.{key_of}
 use Rattle.node_core.specs.declared.types.NodeKey.{NodeKey}
 use Rattle.node_core.specs.State.{registered_key}
 

@@ -1,5 +1,5 @@
 -- What was put into an outbox makes the step Send of the node.
-use Rattle.std.proofs.Common.{◌≡◌, ℕ, ◌++◌, List, [], ◌∷◌, sym, ap, refl, ◌∙◌}
+use Rattle.std.proofs.Common.{◌≡◌, ℕ, List, sym, ap, refl, ◌∙◌}
 use Rattle.std.specs.Prelude.{slice_set, length, Option, Some, None, Result, Ok, Err, IfOk, OnErr}
 use Rattle.srp_base.specs.declared.mrp.App.{App}
 use Rattle.srp_base.specs.declared.mrp.App.TheVariants.{Mvrp, Msrp}

@@ -1,5 +1,5 @@
 -- What MVRP keeps at a node has as many ports after each call as before.
-use Rattle.std.proofs.Common.{◌≡◌, ℕ, Bool, true, false, if◌then◌else◌, List, [], ◌∷◌, length, refl}
+use Rattle.std.proofs.Common.{◌≡◌, ℕ, Bool, true, false, if◌then◌else◌, [], length, refl}
 use Rattle.std.specs.Prelude.{slice_get, slice_set, Option, Some, None}
 use Rattle.std.proofs.Math.ListN.{length-set}
 use Rattle.std.specs.Ordering.{nat_cmp}

@@ -1,19 +1,18 @@
 -- What MSRP keeps at a node has as many ports after each call as before, and the same moment.
-use Rattle.std.proofs.Common.{◌≡◌, ℕ, Bool, true, false, if◌then◌else◌, List, [], ◌∷◌, length, refl}
+use Rattle.std.proofs.Common.{◌≡◌, ℕ, Bool, true, false, if◌then◌else◌, length, refl}
 use Rattle.std.specs.Prelude.{slice_get, slice_set, Option, Some, None}
 use Rattle.std.proofs.lemmas.List.{length-map}
 use Rattle.std.proofs.Math.ListN.{length-set}
 use Rattle.srp_base.specs.declared.numbers.Cs.{Cs}
-use Rattle.srp_base.specs.declared.numbers.StreamId.{StreamId}
-use Rattle.mrp_participant.specs.State.{due_state, left_keys, left_state, leave_all_state, periodic_state}
+use Rattle.mrp_participant.specs.State.{due_state, left_state, leave_all_state, periodic_state}
 use Rattle.msrp_codec.specs.declared.pdu.MsrpKey.{MsrpKey}
 use Rattle.msrp_codec.specs.declared.pdu.MsrpPdu.{MsrpPdu}
 use Rattle.msrp.specs.declared.asking.SrpRequest.{SrpRequest}
 use Rattle.msrp.specs.declared.asking.SrpRequest.TheVariants.{Talk, Hush, Listen, Unlisten}
 use Rattle.msrp.specs.declared.port.Port.{Port}
-use Rattle.msrp.specs.Part.{Part, key_cmp, received_part, told_by_receipt, sent_part}
+use Rattle.msrp.specs.Part.{Part, key_cmp, received_part, sent_part}
 use Rattle.msrp.specs.Stream.{talk_of}
-use Rattle.msrp.specs.Side.{Streams, with_port, with_part, left_key, settled_at, clocked_port, is_talk, has_talk, has_listen, received_streams, due_streams, left_streams, leave_all_streams, periodic_streams, sent_streams, spoilt_streams, settled_streams, requested_streams, clocked_streams}
+use Rattle.msrp.specs.Side.{Streams, with_port, with_part, settled_at, clocked_port, is_talk, has_talk, has_listen, received_streams, due_streams, left_streams, leave_all_streams, periodic_streams, sent_streams, spoilt_streams, settled_streams, requested_streams, clocked_streams}
 
 -- as many ports, and the same moment
 pub record IsSame (a b : Streams) : Type 0 where

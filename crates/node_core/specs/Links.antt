@@ -1,5 +1,5 @@
 -- What happens to the PDUs that wait at a node's link ports, and what every node keeps.
-use Rattle.std.specs.Prelude.{◌≡◌, ◌≤◌, ◌^◌, ℕ, ◌∷◌, Bool, nat_lt, List, [], ◌++◌, length, slice_set}
+use Rattle.std.specs.Prelude.{◌≡◌, ◌≤◌, ◌^◌, ℕ, Bool, nat_lt, List, ◌++◌, length, slice_set}
 use Rattle.std.specs.List.{AllByRecursion}
 use Rattle.srp_base.specs.declared.mrp.App.{App}
 use Rattle.srp_base.specs.declared.mrp.App.TheVariants.{Mvrp, Msrp}

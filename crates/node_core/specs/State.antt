@@ -1,7 +1,7 @@
 -- A node as contracts see it, and what its readers say of it.
-use Rattle.std.specs.Prelude.{ℕ, ◌==◌, ◌%◌, Bool, false, not, ◌&&◌, ◌||◌, if◌then◌else◌, List, [], ◌∷◌, ◌++◌, length, map, Option, Some, None, option_and_then, slice_get}
+use Rattle.std.specs.Prelude.{ℕ, ◌+◌, ◌==◌, ◌%◌, Bool, false, not, ◌&&◌, ◌||◌, if◌then◌else◌, List, [], ◌∷◌, ◌++◌, length, map, Option, Some, None, option_and_then, slice_get}
 use Rattle.std.specs.Option.{option_map_or}
-use Rattle.std.specs.List.{list_all, filter_map}
+use Rattle.std.specs.List.{list_all, list_any, filter_map}
 use Rattle.std.specs.Ordering.{nat_cmp}
 use Rattle.srp_base.specs.declared.numbers.Cs.{Cs}
 use Rattle.srp_base.specs.declared.numbers.BridgeId.{BridgeId}
@@ -29,7 +29,7 @@ use Rattle.mvrp.specs.Side.{Vlans, are_still, is_busy as vlans_are_busy, new_vla
 use Rattle.msrp.specs.declared.port.Port.{Port}
 use Rattle.msrp.specs.Part.{key_cmp}
 use Rattle.msrp.specs.Stream.{fit_at, talkers_of}
-use Rattle.msrp.specs.Side.{Streams, are_still as streams_are_still, is_busy as streams_are_busy, new_streams}
+use Rattle.msrp.specs.Side.{Streams, are_still as streams_are_still, is_busy as streams_are_busy, new_streams, shows_at}
 use Rattle.node_core.specs.declared.types.Wire.{Wire}
 use Rattle.node_core.specs.declared.types.NodeKey.{NodeKey}
 use Rattle.node_core.specs.declared.types.NodeKey.TheVariants.{Vlan, Srp}
@@ -151,11 +151,18 @@ fit_of at stream s =
 
 -- ---- what a port has to do
 
--- whether a node is busy: a PDU came in at some port, a timer is due there, or an attribute awaits
+-- whether a node is busy at a moment: a PDU came in at some port, a timer is due there, or an attribute awaits
+abbrev pub is_busy_at : Cs → NodeState → Bool
+is_busy_at now s =
+    not (are_empty s.inboxes) || vlans_are_busy now s.vlans
+    || streams_are_busy now s.streams
+
 abbrev pub is_busy_node : NodeState → Bool
-is_busy_node s =
-    not (are_empty s.inboxes) || vlans_are_busy s.clock s.vlans
-    || streams_are_busy s.clock s.streams
+is_busy_node s = is_busy_at s.clock s
+
+-- whether a node is at rest up to a moment: it isn't busy then, and the clock shows nothing of a ledger when it goes on
+abbrev pub is_at_rest : Cs → NodeState → Bool
+is_at_rest until s = not (is_busy_at until s) && not (list_any (shows_at (s.clock.0 + 1)) s.streams.ports)
 
 -- a step for each of these PDUs
 abbrev pub works : List Wire → List PortStep

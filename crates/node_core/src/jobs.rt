@@ -4,11 +4,11 @@ ghost use Rattle.std.specs.Prelude.{◌≡◌, ◌++◌, ◌∷◌, [], IfOk, if
 ghost use Rattle.mvrp.specs.Side.{IsLinkPort, place_of};
 ghost use Rattle.node_core.specs.declared.types.PortStep.TheVariants.{Due, Settle, Send};
 ghost use Rattle.srp_base.specs.declared.mrp.App.TheVariants.{Mvrp, Msrp};
-ghost use Rattle.node_core.specs.State.{ports_of, is_busy_node, works, job_list};
+ghost use Rattle.node_core.specs.State.{ports_of, is_at_rest, is_busy_at, is_busy_node, works, job_list};
 
 use crate::node::{Node, all_empty};
 use crate::types::{PortStep, Wire};
-use srp_base::{App, NoMemory, PortNo, Seq};
+use srp_base::{App, Cs, NoMemory, PortNo, Seq};
 use std::alloc::{AllocError, Global};
 
 impl Node {
@@ -29,9 +29,23 @@ impl Node {
     pub fn is_busy(&self) -> bool
         ensures { result ≡ is_busy_node self.now }
     {
-        !all_empty(self.inboxes.as_slice())
-            || self.mvrp.is_busy(self.clock)
-            || self.msrp.is_busy(self.clock)
+        self.is_busy_at(self.clock)
+    }
+
+    /// Whether the node is at rest up to a moment, in cs: it isn't busy then, and the clock shows nothing of a ledger when it
+    /// goes on. So it has nothing to do but send up to then, unless something happens to it.
+    pub fn is_at_rest(&self, until: Cs) -> bool
+        ensures { result ≡ is_at_rest until self.now }
+    {
+        self.keeps();
+        !self.is_busy_at(until) && !self.msrp.shows(Cs(self.clock.0 + 1))
+    }
+
+    // Whether the node is busy at a moment.
+    fn is_busy_at(&self, now: Cs) -> bool
+        ensures { result ≡ is_busy_at now self.now }
+    {
+        !all_empty(self.inboxes.as_slice()) || self.mvrp.is_busy(now) || self.msrp.is_busy(now)
     }
 }
 

@@ -1,7 +1,7 @@
 //! What every node keeps: laws over the states that contracts see. Each is a function that does nothing; calling it brings
 //! the law to a proof.
 
-ghost use Rattle.std.specs.Prelude.{◌≡◌, ◌<◌, ◌≤◌, ◌^◌, ℕ, Bool, List, [], length};
+ghost use Rattle.std.specs.Prelude.{◌≡◌, ◌<◌, ◌≤◌, ◌^◌, ℕ, Bool, true, false, List, [], length};
 ghost use Rattle.srp_base.specs.declared.numbers.Cs.{Cs};
 ghost use Rattle.srp_base.specs.declared.numbers.BridgeId.{BridgeId};
 ghost use Rattle.srp_base.specs.declared.numbers.PortNo.{PortNo};
@@ -13,9 +13,9 @@ ghost use Rattle.node_core.specs.declared.types.NodeEvent.{NodeEvent};
 ghost use Rattle.node_core.specs.declared.types.PortStep.{PortStep};
 ghost use Rattle.node_core.specs.declared.types.Wire.{Wire};
 ghost use Rattle.node_core.specs.Wires.{AreShort};
-ghost use Rattle.node_core.specs.State.{NodeState, ports_of, new_node};
+ghost use Rattle.node_core.specs.State.{NodeState, ports_of, new_node, is_at_rest, is_busy_node};
 ghost use Rattle.node_core.specs.Step.{CanStep, node_step};
-ghost use Rattle.node_core.specs.Links.{with_outbox, with_carried, lost_at, repeated_at, spoilt_at};
+ghost use Rattle.node_core.specs.Links.{IsKeptNode, with_outbox, with_carried, lost_at, repeated_at, spoilt_at};
 ghost use Rattle.node_core.specs.Proper.{IsProperNode, AreProperWires, IsInRange, port_setups};
 
 use crate::types::NodeEvent;
@@ -89,3 +89,12 @@ pub fn a_port_stays_set_up()
 {
     of_streams::calls_keep_the_ports();
 }
+
+/// A node that is at rest up to a moment is so up to an earlier one, isn't busy then, and stays at rest while the clock goes on.
+pub fn a_node_at_rest_stays_so()
+    ensures idle { (s : NodeState) → is_at_rest s.clock s ≡ true → is_busy_node s ≡ false }
+    ensures sooner { (soon late : Cs) (s : NodeState) → soon.0 ≤ late.0 → is_at_rest late s ≡ true
+        → is_at_rest soon s ≡ true }
+    ensures clock { (until : Cs) (s : NodeState) → IsKeptNode s → is_at_rest until s ≡ true
+        → is_at_rest until (node_step NodeEvent.Clock s).0 ≡ true }
+{}

@@ -1,5 +1,4 @@
-use Rattle.std.proofs.Common.{◌≡◌}
-use Rattle.node_core.proofs.ProperSteps.{SideLaws, StreamLaws, Keeps, proper-step}
+use Rattle.node_core.proofs.ProperSteps.{SideLaws, StreamLaws, proper-step}
 use Rattle.node_core.proofs.laws.every_step_keeps_a_node_proper.Goals as goal
 use Rattle.node_core.proofs.laws.every_step_keeps_a_node_proper.Goals.{After-what_is_read_belongs_to_its_keys}
 

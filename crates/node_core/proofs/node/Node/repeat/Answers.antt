@@ -1,10 +1,10 @@
-use Rattle.std.proofs.Common.{◌≡◌, ◌<◌, ◌-◌, ℕ, List, length, ap, ◌∙◌, arith}
+use Rattle.std.proofs.Common.{◌<◌, ◌-◌, ℕ, List, length, ap, ◌∙◌, arith}
 use Rattle.std.specs.Prelude.{slice_set}
 use Rattle.mrp_participant.specs.Link.{repeated}
 use Rattle.node_core.specs.declared.types.Wire.{Wire}
 use Rattle.node_core.specs.State.{NodeState}
 use Rattle.node_core.specs.Links.{repeated_at}
-use Rattle.node_core.proofs.Boxes.{box_read, kept_inbox}
+use Rattle.node_core.proofs.Boxes.{box_read}
 use Rattle.node_core.proofs.node.Node.repeat.Goals as goal
 use Rattle.node_core.proofs.node.Node.repeat.Goals.{In_ok-repeat_wire}
 
