@@ -1,5 +1,6 @@
 pub mod ScriptLemmas
 pub mod OrderLemmas
 pub mod StepLemmas
+pub mod RestLemmas
 pub mod TickLemmas
 mod NotedLemmas

@@ -26,7 +26,7 @@ use Rattle.world_core.specs.declared.journal.NodeSteps.{NodeSteps}
 use Rattle.world_core.specs.Kept.{IsKeptWorld}
 use Rattle.world_core.specs.World.{WorldState, Happened, node_at, after_step, world_step, world_after, replies_to}
 use Rattle.world_core.specs.Ticks.{step_events, step_replies, steps_at_port, steps_of, jobs_of, canonical_order, AscendByNode}
-use Rattle.srp_schedule.specs.Made.{AreSteps, IsStepReply, events_of, replies_of, with_steps}
+use Rattle.srp_schedule.specs.Made.{AreSteps, IsNodeMade, IsStepReply, events_of, replies_of, with_steps}
 use Rattle.srp_schedule.proofs.ScriptLemmas.{same_is, other_is}
 use Rattle.srp_schedule.proofs.OrderLemmas.{at_port, canonical_is, order_of_port, order_ports}
 
@@ -71,7 +71,7 @@ node_there w kept n has =
     let many = kept.many in
     within w.nodes (n.0 - 1) (omega (arith, first, last, many))
 
-get_set_other : {X : Type 0} (xs : List X) (i j : ℕ) (y : X) → i ≢ j → slice_get (slice_set xs i y) j ≡ slice_get xs j
+pub get_set_other : {X : Type 0} (xs : List X) (i j : ℕ) (y : X) → i ≢ j → slice_get (slice_set xs i y) j ≡ slice_get xs j
 get_set_other [] i j y ne = refl
 get_set_other (x ∷ xs) zero zero y ne = absurd (ne refl)
 get_set_other (x ∷ xs) zero (suc j) y ne = refl
@@ -93,7 +93,7 @@ step_other n port step w m ne = by (node_at n w)
     by None = refl
     by (Some s) = get_set_other w.nodes (n.0 - 1) m (node_step (node_events.Port port step) s).0 ne
 
-steps_other : (n : NodeNo) (made : List NodeStep) (w : WorldState) (m : ℕ) → n.0 - 1 ≢ m → slice_get (world_after (events_of n made) w).nodes m ≡ slice_get w.nodes m
+pub steps_other : (n : NodeNo) (made : List NodeStep) (w : WorldState) (m : ℕ) → n.0 - 1 ≢ m → slice_get (world_after (events_of n made) w).nodes m ≡ slice_get w.nodes m
 steps_other n [] w m ne = refl
 steps_other n (st ∷ made) w m ne = steps_other n made (world_step (Port n st.port st.step) w).0 m ne ∙ step_other n st.port st.step w m ne
 
@@ -179,13 +179,6 @@ none_stepped w =
       tree = refl;
     }
 
--- what a node has made, as seen from the network in which it began
-pub record NodeMade (n : NodeNo) (start w v : WorldState) (made : List NodeStep) : Type 0 where
-  pub order : map (λ st. (st.port, st.step)) made ≡ canonical_order n w
-  pub known : AllByRecursion (λ st. HasPort w.tree (record { node = n; port = st.port })) made
-  pub replies : replies_of made ≡ replies_to (events_of n made) w
-  pub after : v ≡ world_after (events_of n made) w
-
 -- the steps at a port among a node's
 at_pairs : (port : PortNo) (made : List NodeStep) → steps_at_port port made ≡ at_port port.0 (map (λ st. (st.port, st.step)) made)
 at_pairs port [] = refl
@@ -232,8 +225,8 @@ module _ (n : NodeNo) (x : ℕ) (start w v : WorldState) (made : List NodeSteps)
       ∙ (order_of_port n start s p.port is has.1 (ports p has same)
       ∙ ap (λ (k : ℕ). jobs_of (record { node = record { 0 = k }; port = p.port }) start) (sym same)))
 
-  pub one_stepped : (steps : List NodeStep) → NodeMade n start w v steps → v.tree ≡ w.tree → IsSteppedTo (x + 1) start v (with_steps n steps made)
-  one_stepped [] m tree =
+  pub one_stepped : (steps : List NodeStep) → IsNodeMade n w v steps → IsSteppedTo (x + 1) start v (with_steps n steps made)
+  one_stepped [] m =
       record {
         steps = record {
           within = each_more (λ ns. ns.node.0 ≤ x) (λ ns. ns.node.0 ≤ x + 1) made (λ ns le. omega (arith, le)) so_far.steps.within;
@@ -246,7 +239,7 @@ module _ (n : NodeNo) (x : ℕ) (start w v : WorldState) (made : List NodeSteps)
         };
         after = m.after ∙ so_far.after;
         others = others_later [] m.after;
-        tree = tree ∙ so_far.tree;
+        tree = m.tree ∙ so_far.tree;
       }
     where
       by : (p : EgressPort) → HasPort start.tree p → (b : Bool) → (p.node.0 == n.0) ≡ b → p.node.0 ≤ x + 1 → steps_of p made ≡ jobs_of p start
@@ -254,7 +247,7 @@ module _ (n : NodeNo) (x : ℕ) (start w v : WorldState) (made : List NodeSteps)
           let same : p.node.0 ≡ n.0 = same_number p.node.0 n.0 e in
           steps_none p x made (omega (arith, same, number)) so_far.steps.within ∙ own_jobs [] (m.order ∙ same_order) p has same
       by p has false e le = so_far.steps.jobs p has (below p.node.0 n.0 x e number le)
-  one_stepped (st ∷ later) m tree =
+  one_stepped (st ∷ later) m =
       let steps : List NodeStep = st ∷ later in
       let ns : NodeSteps = record { node = n; steps = steps } in
       let events : step_events (made ++ (ns ∷ [])) ≡ step_events made ++ events_of n steps =
@@ -282,7 +275,7 @@ module _ (n : NodeNo) (x : ℕ) (start w v : WorldState) (made : List NodeSteps)
             ∙ (ap (λ u. world_after (events_of n steps) u) so_far.after
             ∙ (sym (after_append (step_events made) (events_of n steps) start) ∙ ap (λ es. world_after es start) (sym events)));
         others = others_later steps m.after;
-        tree = tree ∙ so_far.tree;
+        tree = m.tree ∙ so_far.tree;
       }
     where
       by : (p : EgressPort) → HasPort start.tree p → (b : Bool) → (p.node.0 == n.0) ≡ b → p.node.0 ≤ x + 1 → steps_of p (made ++ ((record { node = n; steps = st ∷ later }) ∷ [])) ≡ jobs_of p start
@@ -325,9 +318,9 @@ jobs_known w kept n has jobs are =
 
 -- one node more, as the loop has it
 pub next_node : (x : ℕ) (start w v : WorldState) (made next : List NodeSteps) (steps : List NodeStep) → IsKeptWorld start → x < length start.tree.kinds
-    → next ≡ with_steps (record { 0 = x + 1 }) steps made → NodeMade (record { 0 = x + 1 }) start w v steps → v.tree ≡ w.tree
+    → next ≡ with_steps (record { 0 = x + 1 }) steps made → IsNodeMade (record { 0 = x + 1 }) w v steps
     → IsSteppedTo x start w made → IsSteppedTo (x + 1) start v next
-next_node x start w v made next steps kept lt push m tree so_far =
+next_node x start w v made next steps kept lt push m so_far =
     let n : NodeNo = record { 0 = x + 1 } in
     let first : 1 ≤ x + 1 = omega arith in
     let last : x + 1 ≤ length start.tree.kinds = omega (arith, lt) in
@@ -337,7 +330,7 @@ next_node x start w v made next steps kept lt push m tree so_far =
     let ports : (p : EgressPort) → HasPort start.tree p → p.node.0 ≡ n.0 → p.port.0 ≤ ports_of s =
     λ p has same. let few = has.2 in let own = ap (λ (k : ℕ). length (neighbours start.tree.links k)) same in omega (arith, few, own, count)
     in
-    subst (IsSteppedTo (x + 1) start v) (sym push) (one_stepped n x start w v made refl s there.1 ports so_far steps m tree)
+    subst (IsSteppedTo (x + 1) start v) (sym push) (one_stepped n x start w v made refl s there.1 ports so_far steps m)
 
 -- an element that is read at a place, under another name
 pub read_as : {X : Type 0} (xs : List X) (i : ℕ) (x y : X) → x ≡ y → y ≡ get_or xs i y → x ≡ get_or xs i x

@@ -25,6 +25,7 @@ use Rattle.world_core.specs.History.{HasPortsOf, acts_noted}
 use Rattle.srp_schedule.specs.Cursor.{IsCursor}
 use Rattle.srp_schedule.specs.Script.{answered}
 use Rattle.srp_schedule.specs.Made.{AreSteps, carried_ends}
+use Rattle.srp_schedule.specs.Tick.{DuringLaws}
 use Rattle.srp_schedule.proofs.ScriptLemmas.{numbers_are, answers_are}
 use Rattle.srp_schedule.proofs.StepLemmas.{after_append}
 
@@ -83,20 +84,20 @@ nothing_carried law plan t w during waits v tick is tree isnt =
 
 -- ---- one tick
 
--- what the parts of a tick have made of a network, one after the other
-pub record IsTickMade (plan : Plan) (t : ℕ) (w w1 w2 w3 w4 : WorldState) (tick : Tick) (reply : WorldReply) : Type 0 where
+-- what the parts of a tick have made of a network, one after the other: the script, the steps, the carrying and the clock
+pub record AreTickParts (plan : Plan) (t : ℕ) (w w1 w2 w3 w4 : WorldState) (tick : Tick) : Type 0 where
   pub answers : tick.events ≡ answered (scripted plan t) w
   pub script : w1 ≡ after_script plan t w
   pub steps : AreSteps (length w1.tree.kinds) w1 tick.steps
   pub stepped : w2 ≡ world_after (step_events tick.steps) w1
   pub carried : w3 ≡ world_after (map Carry (link_ports w2.tree)) w2
-  pub clock : world_step Clock w3 ≡ (w4, reply)
+  pub clock : w4 ≡ (world_step Clock w3).0
 
-pub tick_made : (plan : Plan) (t : ℕ) (w w1 w2 w3 w4 : WorldState) (events : List (ℕ × WorldReply)) (steps : List NodeSteps) (tick : Tick) (reply : WorldReply)
+pub tick_parts : (plan : Plan) (t : ℕ) (w w1 w2 w3 w4 : WorldState) (events : List (ℕ × WorldReply)) (steps : List NodeSteps) (tick : Tick)
     → tick.events ≡ events → tick.steps ≡ steps → events ≡ answered (scripted plan t) w → w1 ≡ after_script plan t w → AreSteps (length w1.tree.kinds) w1 steps
-    → w2 ≡ world_after (step_events steps) w1 → w3 ≡ world_after (map Carry (link_ports w2.tree)) w2 → world_step Clock w3 ≡ (w4, reply)
-    → IsTickMade plan t w w1 w2 w3 w4 tick reply
-tick_made plan t w w1 w2 w3 w4 events steps tick reply e s answers script made stepped carried clock =
+    → w2 ≡ world_after (step_events steps) w1 → w3 ≡ world_after (map Carry (link_ports w2.tree)) w2 → w4 ≡ (world_step Clock w3).0
+    → AreTickParts plan t w w1 w2 w3 w4 tick
+tick_parts plan t w w1 w2 w3 w4 events steps tick e s answers script made stepped carried clock =
     record {
       answers = e ∙ answers;
       script = script;
@@ -105,14 +106,6 @@ tick_made plan t w w1 w2 w3 w4 events steps tick reply e s answers script made s
       carried = carried;
       clock = clock;
     }
-
--- what this rests on, as the public law says it
-pub record DuringLaws : Type 0 where
-  pub all_stay : (tree : Topology) (t : ℕ) (es : List WorldEvent) (w : WorldState) → AllByRecursion (IsAllowed tree) es → IsDuring tree t w → IsDuring tree t (world_after es w)
-  pub clock : (tree : Topology) (t : ℕ) (w : WorldState) → t < 2 ^ 61 → IsDuring tree t w → CanHappen Clock w
-  pub next : (tree : Topology) (t : ℕ) (w : WorldState) → t < 2 ^ 61 → IsDuring tree t w → IsDuring tree (suc t) (world_step Clock w).0
-  pub scripted : (plan : Plan) (t : ℕ) → KeepsRules plan → AllByRecursion (IsAllowed plan.tree) (map (λ (e : ℕ × WorldEvent). e.1) (scripted plan t))
-  pub carried : (plan : Plan) → KeepsRules plan → AllByRecursion (IsAllowed plan.tree) (map Carry (link_ports plan.tree))
 
 each_append : {X : Type 0} (P : X → Type 0) (xs ys : List X) → AllByRecursion P xs → AllByRecursion P ys → AllByRecursion P (xs ++ ys)
 each_append P [] ys h k = k
@@ -158,10 +151,10 @@ module _ (laws : DuringLaws) (plan : Plan) (rules : KeepsRules plan) (t : ℕ) (
       → w3 ≡ world_after (map Carry (link_ports w2.tree)) w2 → CanHappen Clock w3
   clock_can w1 w2 w3 steps is made after carried = laws.clock plan.tree t w3 below (carried_stays w1 w2 w3 steps is made after carried)
 
-  module _ (w1 w2 w3 w4 : WorldState) (tick : Tick) (reply : WorldReply) (made : IsTickMade plan t w w1 w2 w3 w4 tick reply) where
+  module _ (w1 w2 w3 w4 : WorldState) (tick : Tick) (made : AreTickParts plan t w w1 w2 w3 w4 tick) where
     pub begins_next : IsDuring plan.tree (suc t) w4
     begins_next =
-        subst (λ (h : Happened). IsDuring plan.tree (suc t) h.0) made.clock
+        subst (IsDuring plan.tree (suc t)) (sym made.clock)
         (laws.next plan.tree t w3 below (carried_stays w1 w2 w3 tick.steps made.script made.steps made.stepped made.carried))
 
     pub after_tick : w4 ≡ world_after (tick_events plan t tick) w
@@ -173,7 +166,7 @@ module _ (laws : DuringLaws) (plan : Plan) (rules : KeepsRules plan) (t : ℕ) (
         let here : w2 ≡ world_after (script ++ steps) w = made.stepped ∙ (ap (λ (u : WorldState). world_after steps u) made.script ∙ sym (after_append script steps w)) in
         let third : w3 ≡ world_after carries w2 = made.carried ∙ ap (λ (tree : Topology). world_after (map Carry (link_ports tree)) w2) there.tree_is in
         let last : w4 ≡ world_after (carries ++ (Clock ∷ [])) w2 =
-        ap (λ (h : Happened). h.0) (sym made.clock) ∙ (ap (λ (u : WorldState). (world_step Clock u).0) third ∙ sym (after_append carries (Clock ∷ []) w2))
+        made.clock ∙ (ap (λ (u : WorldState). (world_step Clock u).0) third ∙ sym (after_append carries (Clock ∷ []) w2))
         in
         last ∙ (ap (λ (u : WorldState). world_after (carries ++ (Clock ∷ [])) u) here ∙ sym (after_append (script ++ steps) (carries ++ (Clock ∷ [])) w))
 

@@ -2,3 +2,5 @@ pub mod Cursor
 pub mod Script
 pub mod Order
 pub mod Made
+pub mod Rest
+pub mod Tick

@@ -13,7 +13,7 @@ use Rattle.world_core.specs.declared.events.WorldEvent.TheVariants.{Port, Carry}
 use Rattle.world_core.specs.declared.events.WorldReply.{WorldReply}
 use Rattle.world_core.specs.declared.events.WorldReply.TheVariants.{Step, Done, Missed}
 use Rattle.world_core.specs.declared.journal.NodeSteps.{NodeSteps}
-use Rattle.world_core.specs.World.{WorldState, world_step, replies_to}
+use Rattle.world_core.specs.World.{WorldState, world_step, world_after, replies_to}
 use Rattle.world_core.specs.Ticks.{step_events, step_replies, steps_of, jobs_of, canonical_order, AscendByNode}
 
 -- a node's steps as events of the network, and their answers
@@ -37,6 +37,14 @@ HaveJobPorts tree n jobs = AllByRecursion (λ job. HasPort tree (record { node =
 -- a step of a port makes of one network another, and answers this
 abbrev pub IsDone : NodeNo → WorldState → WorldState → NodeStep → Type 0
 IsDone n w v st = world_step (Port n st.port st.step) w ≡ (v, Step st.reply)
+
+-- a node has made its jobs of a tick in the canonical order, and nothing else has happened
+pub record IsNodeMade (n : NodeNo) (w v : WorldState) (made : List NodeStep) : Type 0 where
+  pub order : jobs_done made ≡ canonical_order n w
+  pub known : HavePorts w.tree n made
+  pub replies : replies_of made ≡ replies_to (events_of n made) w
+  pub after : v ≡ world_after (events_of n made) w
+  pub tree : v.tree ≡ w.tree
 
 -- the answer is a node's
 abbrev pub IsStepReply : WorldReply → Type 0

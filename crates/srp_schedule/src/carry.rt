@@ -1,6 +1,6 @@
 //! The carrying at the end of one tick.
 
-ghost use Rattle.std.specs.Prelude.{◌≡◌, false, map, OnOk};
+ghost use Rattle.std.specs.Prelude.{◌≡◌, false, map, IfOk, OnOk};
 ghost use Rattle.std.specs.List.{list_any};
 ghost use Rattle.tree_topology.specs.Topology.{HasLink};
 ghost use Rattle.world_core.specs.Ticks.{link_ports, is_send};
@@ -13,17 +13,19 @@ use srp_base::{LinkNo, NoMemory};
 use world_core::laws::what_is_allowed_may_happen;
 use world_core::{NodeSteps, World, WorldEvent};
 
-/// Lets the PDUs of every port be carried, where a step of the tick was Send; else there are none.
-pub(crate) fn carry_sent(world: &mut World, steps: &[NodeSteps]) -> Result<(), NoMemory>
+/// Lets the PDUs of every port be carried, where a step of the tick was Send, and answers whether it was; else there are none.
+pub(crate) fn carry_sent(world: &mut World, steps: &[NodeSteps]) -> Result<bool, NoMemory>
     requires { has_send steps.now ≡ false
         → world_after (map WorldEvent.Carry (link_ports world.old.tree)) world.old ≡ world.old }
-    ensures { OnOk result
+    ensures carried { OnOk result
         (world.new ≡ world_after (map WorldEvent.Carry (link_ports world.old.tree)) world.old) }
+    ensures none { IfOk result (λ has_carried. has_carried ≡ false → world.new ≡ world.old) }
 {
-    if has_send(steps) {
+    let has_sent = has_send(steps);
+    if has_sent {
         carry_all(world)?;
     }
-    Ok(())
+    Ok(has_sent)
 }
 
 // Whether a step of some node among these is Send.

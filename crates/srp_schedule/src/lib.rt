@@ -15,10 +15,10 @@
 //!
 //! A node's jobs may be asked for when its turn comes, after the steps of other nodes, since a step of a port changes its own
 //! node alone. The events of a file don't fall in their ticks, so a place in the list of events, `IsCursor` of
-//! `specs/Cursor.antt`, stands between those of earlier ticks and the others: no tick goes over all of them. A node that has
-//! nothing to do in a tick takes no memory, and one that only sends isn't noted, since nothing that is in force at its ports has
-//! changed then; so the changes stand in a list for each port while the run goes on (`History` of world_core), and become one
-//! timeline at its end.
+//! `specs/Cursor.antt`, stands between those of earlier ticks and the others: no tick goes over all of them. A node that is
+//! known to rest isn't asked for its jobs (`rest`). One that has nothing to do in a tick takes no memory, and one that only
+//! sends isn't noted, since nothing that is in force at its ports has changed then; so the changes stand in a list for each
+//! port while the run goes on (`History` of world_core), and become one timeline at its end.
 //!
 //! A further kind of event is an arm of `world_event` (`src/script.rt`), a further kind of step a turn in `src/order.rt` with
 //! its place in `order_of` (`specs/Order.antt`).
@@ -26,6 +26,7 @@
 
 mod carry;
 mod order;
+mod rest;
 mod run;
 mod script;
 mod steps;

@@ -1,17 +1,20 @@
 //! The run of a scenario, tick by tick.
 
-ghost use Rattle.std.specs.Prelude.{◌≡◌, ◌<◌, suc, IfOk, OnOk};
-ghost use Rattle.world_core.specs.Ticks.{AreCanonicalTicks, IsCanonicalTick, after_steps, tick_events};
-ghost use Rattle.world_core.specs.World.{world_after};
+ghost use Rattle.std.specs.Prelude.{◌≡◌, ◌<◌, IfOk, OnOk};
+ghost use Rattle.world_core.specs.Ticks.{AreCanonicalTicks};
+ghost use Rattle.world_core.specs.World.{CanHappen, world_step};
 ghost use Rattle.world_core.specs.During.{IsDuring};
 ghost use Rattle.world_core.specs.Carrying.{NothingWaits};
 ghost use Rattle.world_core.specs.Timeline.{AreChanges, IsTimelineOf};
-ghost use Rattle.world_core.specs.History.{acts_noted};
 ghost use Rattle.srp_schedule.specs.Cursor.{IsCursor};
+ghost use Rattle.srp_schedule.specs.Rest.{AreRests};
+ghost use Rattle.srp_schedule.specs.Tick.{DuringLaws, IsTickMade};
 
 use crate::carry::carry_sent;
+use crate::rest::{Rest, forget_if, nothing_known};
 use crate::script::make_events;
 use crate::steps::make_steps;
+use node_core::laws::a_node_at_rest_stays_so;
 use srp_base::{NoMemory, Seq};
 use std::alloc::Global;
 use topology_file::Scenario;
@@ -44,9 +47,18 @@ pub fn plain_run(alloc: Global, scenario: &Scenario) -> Result<Run, NoMemory>
     let mut world = World::of(alloc, scenario)?;
     let mut history = History::of(alloc, &world)?;
     let mut ticks = Vec::new(alloc);
+    let mut rests = nothing_known(alloc, &world)?;
     let mut cursor = 0;
     for t in 0..scenario.ticks {
-        let (tick, noted) = make_tick(alloc, scenario, t, &mut world, &mut cursor, history)?;
+        let (tick, noted) = make_tick(
+            alloc,
+            scenario,
+            t,
+            &mut world,
+            &mut cursor,
+            &mut rests,
+            history,
+        )?;
         history = noted;
         ticks.push(tick)?;
     }
@@ -68,35 +80,54 @@ fn make_tick(
     t: u64,
     world: &mut World,
     cursor: &mut usize,
+    rests: &mut Vec<Rest>,
     history: History,
 ) -> Result<(Tick, History), NoMemory>
     requires within { t < scenario.now.ticks }
     requires during { IsDuring scenario.now.tree t world.old }
     requires cursor { IsCursor scenario.now.events t cursor.old }
     requires waits { NothingWaits world.old }
+    requires rests { AreRests world.old rests.old.items }
     requires tree { history.tree ≡ scenario.now.tree }
     requires changes { AreChanges scenario.now.tree t history.changes }
-    ensures tick { IfOk result (λ made. IsCanonicalTick scenario.now t world.old made.0) }
-    ensures after { IfOk result
-        (λ made. world.new ≡ world_after (tick_events scenario.now t made.0) world.old) }
-    ensures during { OnOk result (IsDuring scenario.now.tree (suc t) world.new) }
-    ensures cursor { OnOk result (IsCursor scenario.now.events (suc t) cursor.new) }
-    ensures next { OnOk result (NothingWaits world.new) }
-    ensures tree { IfOk result (λ made. made.1.tree ≡ scenario.now.tree) }
-    ensures noted { IfOk result (λ made. made.1.changes
-        ≡ acts_noted t made.0.steps (after_steps scenario.now t made.0 world.old) history.changes) }
+    ensures made { IfOk result
+        (λ made. IsTickMade scenario.now t world.old world.new cursor.new history made) }
+    ensures rests { OnOk result (AreRests world.new rests.new.items) }
 {
-    what_is_allowed_may_happen();
+    laws_of_a_tick();
     a_tick_carries_what_it_has_sent();
     scenario.keeps_rules();
     let events = make_events(alloc, scenario, t, world, cursor)?;
-    let steps = make_steps(alloc, world)?;
+    forget_if(!events.is_empty(), Rest::Awake, rests);
+    let steps = make_steps(alloc, world, rests)?;
     let noted = history.note_steps(world, t, steps.as_slice())?;
-    carry_sent(world, steps.as_slice())?;
-    world.step(WorldEvent::Clock)?;
+    let has_carried = carry_sent(world, steps.as_slice())?;
+    forget_if(has_carried, Rest::Unknown, rests);
+    let_clocks_go_on(world, rests.as_slice())?;
     let tick = Tick {
         events: Seq::from_vec(events),
         steps: Seq::from_vec(steps),
     };
     Ok((tick, noted))
+}
+
+// Lets the clock of every node go on. What is known of nodes that rest stays so.
+fn let_clocks_go_on(world: &mut World, rests: &[Rest]) -> Result<(), NoMemory>
+    requires can { CanHappen WorldEvent.Clock world.old }
+    requires rests { AreRests world.old rests.now }
+    ensures after { OnOk result (world.new ≡ (world_step WorldEvent.Clock world.old).0) }
+    ensures rests { OnOk result (AreRests world.new rests.now) }
+{
+    let _ = rests;
+    a_node_at_rest_stays_so();
+    world.keeps();
+    world.step(WorldEvent::Clock)?;
+    Ok(())
+}
+
+// What happens in a tick leaves it as it is until the clock goes on. It does nothing.
+fn laws_of_a_tick()
+    ensures { DuringLaws }
+{
+    what_is_allowed_may_happen();
 }

@@ -2,11 +2,13 @@
 
 ghost use Rattle.std.specs.Prelude.{◌≡◌, length, IfOk, OnOk};
 ghost use Rattle.tree_topology.specs.Topology.{HasNode, HasPort};
-ghost use Rattle.world_core.specs.Ticks.{canonical_order, step_events};
+ghost use Rattle.world_core.specs.Ticks.{step_events};
 ghost use Rattle.world_core.specs.World.{world_after, replies_to};
-ghost use Rattle.srp_schedule.specs.Made.{AreSteps, HavePorts, HaveJobPorts, IsDone, IsStepReply, jobs_done, events_of, replies_of, with_steps};
+ghost use Rattle.srp_schedule.specs.Made.{AreSteps, HavePorts, HaveJobPorts, IsDone, IsNodeMade, IsStepReply, jobs_done, events_of, replies_of, with_steps};
+ghost use Rattle.srp_schedule.specs.Rest.{AreRests, IsRestAt};
 
 use crate::order::jobs_in_order;
+use crate::rest::{Rest, rest_after, rests_now};
 use node_core::{NodeStep, PortStep, StepReply};
 use srp_base::{NoMemory, NodeNo, PortNo, Seq};
 use std::alloc::Global;
@@ -14,19 +16,24 @@ use world_core::laws::what_is_allowed_may_happen;
 use world_core::{NodeSteps, World, WorldEvent, WorldReply};
 
 /// Lets every node make its steps of one tick, and answers them: nodes ascending, those of each in the canonical order, and
-/// none of a node that has nothing to do.
-pub(crate) fn make_steps(alloc: Global, world: &mut World) -> Result<Vec<NodeSteps>, NoMemory>
+/// none of a node that has nothing to do. A node that is known to rest isn't asked.
+pub(crate) fn make_steps(
+    alloc: Global,
+    world: &mut World,
+    rests: &mut Vec<Rest>,
+) -> Result<Vec<NodeSteps>, NoMemory>
+    requires { AreRests world.old rests.old.items }
     ensures steps { IfOk result
         (λ made. AreSteps (length world.old.tree.kinds) world.old made.items) }
     ensures after { IfOk result
         (λ made. world.new ≡ world_after (step_events made.items) world.old) }
+    ensures rests { OnOk result (AreRests world.new rests.new.items) }
 {
-    what_is_allowed_may_happen();
     world.keeps();
     let mut made = Vec::new(alloc);
     for x in 0..world.tree().nodes() {
         let number = NodeNo(x + 1);
-        let steps = make_steps_of(alloc, world, number)?;
+        let steps = make_or_rest(alloc, world, number, &mut rests[usize::from(x)])?;
         push_steps(&mut made, number, steps)?;
     }
     Ok(made)
@@ -44,6 +51,26 @@ fn push_steps(made: &mut Vec<NodeSteps>, node: NodeNo, steps: Vec<NodeStep>) -> 
     Ok(())
 }
 
+// Lets a node make its steps of one tick, none where it is known to rest, and keeps what is known of it behind them.
+fn make_or_rest(
+    alloc: Global,
+    world: &mut World,
+    number: NodeNo,
+    rest: &mut Rest,
+) -> Result<Vec<NodeStep>, NoMemory>
+    requires node { HasNode world.old.tree number.0 }
+    requires rest { IsRestAt number world.old rest.old }
+    ensures made { IfOk result (λ made. IsNodeMade number world.old world.new made.items) }
+    ensures rest { OnOk result (IsRestAt number world.new rest.new) }
+{
+    if rests_now(world.node(number), *rest) {
+        return Ok(Vec::new(alloc));
+    }
+    let made = make_steps_of(alloc, world, number)?;
+    *rest = rest_after(world.node(number), *rest, !made.is_empty());
+    Ok(made)
+}
+
 // Lets a node make its steps of one tick, in the canonical order.
 fn make_steps_of(
     alloc: Global,
@@ -51,12 +78,7 @@ fn make_steps_of(
     number: NodeNo,
 ) -> Result<Vec<NodeStep>, NoMemory>
     requires { HasNode world.old.tree number.0 }
-    ensures order { IfOk result (λ made. jobs_done made.items ≡ canonical_order number world.old) }
-    ensures known { IfOk result (λ made. HavePorts world.old.tree number made.items) }
-    ensures replies { IfOk result
-        (λ made. replies_of made.items ≡ replies_to (events_of number made.items) world.old) }
-    ensures after { IfOk result
-        (λ made. world.new ≡ world_after (events_of number made.items) world.old) }
+    ensures { IfOk result (λ made. IsNodeMade number world.old world.new made.items) }
 {
     let _ = PortStep::Due.key();
     world.keeps();
@@ -78,6 +100,7 @@ fn make_all(
         (λ made. replies_of made.items ≡ replies_to (events_of node made.items) world.old) }
     ensures after { IfOk result
         (λ made. world.new ≡ world_after (events_of node made.items) world.old) }
+    ensures tree { OnOk result (world.new.tree ≡ world.old.tree) }
 {
     let _ = PortStep::Due.key();
     what_is_allowed_may_happen();

@@ -1,10 +1,9 @@
 use Rattle.std.proofs.Common.{◌+◌, sym, ap, subst, ◌∙◌, List, []}
 use Rattle.srp_base.specs.declared.ports.PortChange.{PortChange}
-use Rattle.tree_topology.specs.Topology.{Topology}
 use Rattle.world_core.specs.declared.journal.Tick.{Tick}
 use Rattle.world_core.specs.World.{WorldState}
 use Rattle.world_core.specs.Start.{world_of}
-use Rattle.srp_schedule.proofs.TickLemmas.{IsRunTo, one_tick}
+use Rattle.srp_schedule.proofs.TickLemmas.{one_tick}
 use Rattle.srp_schedule.proofs.NotedLemmas.{IsNotedTo, none_noted, one_noted, changes_are}
 use Rattle.srp_schedule.proofs.run.plain_run.Goals as goal
 
@@ -17,6 +16,7 @@ loop-t-init c =
           (none_noted plan (c.what_is_allowed_may_happen.ensures.begins plan c.keeps_rules.ensures) (c.a_tick_carries_what_it_has_sent.ensures.begins plan) (c.a_timeline_goes_on.ensures.begins plan)
           (c.what_ends_a_tick_changes_nothing_in_force.ensures.start plan)))),
       c.in_ok-history.ensures.tree ∙ ap (λ (w : WorldState). w.tree) c.in_ok-world.ensures,
+      c.in_ok-rests.ensures,
     )
 
 pub make_tick-requires-clause-changes : goal.make_tick-requires-clause-changes
@@ -29,7 +29,7 @@ make_tick-requires-clause-waits c = c.loop-t.invariant.0.waits
 pub loop-t-preserved : goal.loop-t-preserved
 loop-t-preserved c =
     let plan = c.args.scenario.now in
-    let made = c.in_ok-tick.ensures in
+    let made = c.in_ok-tick.ensures.made in
     let tick = c.in_ok-tick.tick in (
       subst (λ (ts : List Tick). IsNotedTo plan (c.loop-t.t + 1) ts c.make_tick.new.world c.make_tick.new.cursor c.in_ok-tick.noted.changes) (sym {A = List Tick} c.in_ok-push.ensures.items)
           (one_noted (record {
@@ -46,4 +46,5 @@ loop-t-preserved c =
           (c.ticks_go_on.ensures.canonical plan 0 c.loop-t.t (world_of plan) c.loop-t.world c.loop-t.ticks.items tick)
           made.tick made.after made.during made.cursor c.loop-t.invariant.0.run) made.next),
       made.tree,
+      c.in_ok-tick.ensures.rests,
     )

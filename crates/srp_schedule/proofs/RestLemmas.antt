@@ -1,0 +1,175 @@
+-- The nodes that rest: what is known of them stays while others make steps and while the clock goes on.
+use Rattle.std.proofs.Common.{◌≡◌, ℕ, zero, suc, ◌+◌, ◌-◌, ◌<◌, Bool, true, false, ◌||◌, List, [], ◌∷◌, ◌++◌, length, get_or, take, drop, map, Option, Some, None, inl, inr, refl, sym, ap, subst, ◌∙◌, arith}
+use Rattle.std.specs.Prelude.{not, ◌==◌, slice_get, slice_set, option_map}
+use Rattle.std.specs.List.{AllByRecursion}
+use Rattle.std.proofs.lemmas.Bool.{cases_eq, ne_eqb, true≢false}
+use Rattle.std.proofs.lemmas.List.{get_or_default, length-append, length-drop, length-map, length-take}
+use Rattle.std.proofs.lemmas.List.Edits.{map_over_more}
+use Rattle.std.proofs.lemmas.Option.{slice_get-map}
+use Rattle.srp_base.specs.declared.numbers.Cs.{Cs}
+use Rattle.srp_base.specs.declared.numbers.NodeNo.{NodeNo}
+use Rattle.tree_topology.specs.Topology.{Topology}
+use Rattle.node_core.specs.declared.types.NodeEvent.TheVariants as node_events
+use Rattle.node_core.specs.declared.types.NodeStep.{NodeStep}
+use Rattle.node_core.specs.Links.{IsKeptNode}
+use Rattle.node_core.specs.State.{NodeState, is_at_rest, is_busy_node, is_sending_time}
+use Rattle.node_core.specs.Step.{node_step}
+use Rattle.topology_file.specs.Plan.{Plan}
+use Rattle.world_core.specs.declared.events.WorldEvent.{WorldEvent}
+use Rattle.world_core.specs.declared.events.WorldEvent.TheVariants.{Clock}
+use Rattle.world_core.specs.declared.events.WorldReply.{WorldReply}
+use Rattle.world_core.specs.Kept.{IsKeptWorld}
+use Rattle.world_core.specs.World.{WorldState, node_at, world_after, world_step}
+use Rattle.world_core.specs.Ticks.{after_script, scripted}
+use Rattle.srp_schedule.specs.Made.{IsNodeMade, events_of}
+use Rattle.srp_schedule.specs.declared.rest.Rest.{Rest}
+use Rattle.srp_schedule.specs.declared.rest.Rest.TheVariants.{Unknown, Awake, Before}
+use Rattle.srp_schedule.specs.Script.{answered}
+use Rattle.srp_schedule.specs.Rest.{AreRests, IsRestAt, IsRestOf, SaysNothing}
+use Rattle.srp_schedule.proofs.OrderLemmas.{idle_order}
+use Rattle.srp_schedule.proofs.StepLemmas.{steps_other, get_set_other}
+
+-- ---- nothing is known
+
+nothing_says : (rest : Rest) (s : NodeState) → SaysNothing rest → IsRestOf rest s
+nothing_says Unknown s says = tt
+nothing_says Awake s says = tt
+nothing_says (Before wakes) s says = absurd says
+
+rest_in : (rests : List Rest) (x : ℕ) (rest : Rest) (s : NodeState) → AllByRecursion SaysNothing rests → slice_get rests x ≡ Some rest → IsRestOf rest s
+rest_in [] x rest s none is = absurd (let nay : None ≡ Some rest = is in cc)
+rest_in (r ∷ rests) zero rest s none is =
+    let same : r ≡ rest = cc in
+    subst (λ (t : Rest). IsRestOf t s) same (nothing_says r s none.0)
+rest_in (r ∷ rests) (suc x) rest s none is = rest_in rests x rest s none.1 is
+
+pub rests_none : (w : WorldState) (rests : List Rest) → length rests ≡ length w.tree.kinds → AllByRecursion SaysNothing rests → AreRests w rests
+rests_none w rests count none = record { count = count; each = λ x rest s is here. rest_in rests x rest s none is }
+
+all_one : (rest : Rest) → SaysNothing rest → (rests : List Rest) → AllByRecursion SaysNothing (map (λ (r : Rest). rest) rests)
+all_one rest says [] = tt
+all_one rest says (r ∷ rests) = (says, all_one rest says rests)
+
+pub rests_forgotten : (w : WorldState) (rest : Rest) (before after : List Rest) → SaysNothing rest → after ≡ map (λ (r : Rest). rest) before
+    → length before ≡ length w.tree.kinds → AreRests w after
+rests_forgotten w rest before after says is count =
+    let none : List Rest = map (λ (r : Rest). rest) before in
+    subst (λ (rs : List Rest). AreRests w rs) (sym is) (rests_none w none (length-map before (λ (r : Rest). rest) ∙ count) (all_one rest says before))
+
+pub none_more : (rests : List Rest) → AllByRecursion SaysNothing rests → AllByRecursion SaysNothing (rests ++ Unknown ∷ [])
+none_more [] none = (tt, tt)
+none_more (r ∷ rests) none = (none.0, none_more rests none.1)
+
+-- one more of them is set
+pub set_more : (rest : Rest) (before now : List Rest) (i : ℕ) → i < length before → now ≡ map (λ (r : Rest). rest) (take i before) ++ drop i before
+    → slice_set now i rest ≡ map (λ (r : Rest). rest) (take (i + 1) before) ++ drop (i + 1) before
+set_more rest before now i below is =
+    let front = map (λ (r : Rest). rest) (take i before) in
+    let long : i < length now =
+    omega (arith, below, ap (λ (rs : List Rest). length rs) is, length-append front (drop i before), length-map (take i before) (λ (r : Rest). rest), length-take i before, length-drop i before)
+    in
+    map_over_more (λ (r : Rest). rest) before now i (get_or now i rest) below is (get_or_default now i rest (get_or now i rest) long)
+
+-- ---- a node in its turn
+
+-- one that is known to have nothing to do makes no step
+pub rest_made : (n : NodeNo) (w : WorldState) (s : NodeState) → node_at n w ≡ Some s → (is_busy_node s || is_sending_time s.clock) ≡ false → IsNodeMade n w w []
+rest_made n w s is idle = record { order = idle_order n w s is idle; known = tt; replies = refl; after = refl; tree = refl }
+
+-- where it has made no step it is as it was
+pub still_rests : (n : NodeNo) (w v : WorldState) (made : List NodeStep) (rest : Rest) → IsNodeMade n w v made → made ≡ [] → IsRestAt n w rest → IsRestAt n v rest
+still_rests n w v made rest m none is =
+    let same : v ≡ w = m.after ∙ ap (λ (steps : List NodeStep). world_after (events_of n steps) w) none in
+    subst (λ (u : WorldState). IsRestAt n u rest) (sym same) is
+
+set_here : {X : Type 0} (xs : List X) (i : ℕ) (y z : X) → slice_get (slice_set xs i y) i ≡ Some z → y ≡ z
+set_here [] i y z is = absurd (let nay : None ≡ Some z = is in cc)
+set_here (x ∷ xs) zero y z is = cc
+set_here (x ∷ xs) (suc i) y z is = set_here xs i y z is
+
+length_set : {X : Type 0} (xs : List X) (i : ℕ) (y : X) → length (slice_set xs i y) ≡ length xs
+length_set [] i y = refl
+length_set (x ∷ xs) zero y = refl
+length_set (x ∷ xs) (suc i) y = ap suc (length_set xs i y)
+
+-- what is known of a node in its turn, read from the list
+rest_at : (w : WorldState) (rests : List Rest) (x : ℕ) (rest : Rest) → AreRests w rests → slice_get rests x ≡ Some rest → IsRestAt (record { 0 = x + 1 }) w rest
+rest_at w rests x rest are is s here =
+    let number : x + 1 - 1 ≡ x = omega arith in
+    are.each x rest s is (ap (λ (k : ℕ). slice_get w.nodes k) (sym number) ∙ here)
+
+get_there : {X : Type 0} (xs : List X) (i : ℕ) (x : X) → i < length xs → x ≡ get_or xs i x → slice_get xs i ≡ Some x
+get_there [] i x lt is = absurd (omega (arith, lt))
+get_there (y ∷ xs) zero x lt is = ap (λ z. Some z) (sym is)
+get_there (y ∷ xs) (suc i) x lt is = get_there xs i x (omega (arith, lt)) is
+
+pub rest_read : (w : WorldState) (rests : List Rest) (x i : ℕ) (rest : Rest) → AreRests w rests → x < length rests → i ≡ x → rest ≡ get_or rests i rest
+    → IsRestAt (record { 0 = x + 1 }) w rest
+rest_read w rests x i rest are below at value =
+    rest_at w rests x rest are (get_there rests x rest below (value ∙ ap (λ (k : ℕ). get_or rests k rest) at))
+
+-- its steps change no other node
+pub one_rest : (x : ℕ) (w v : WorldState) (rests : List Rest) (rest : Rest) (made : List NodeStep) → AreRests w rests → IsNodeMade (record { 0 = x + 1 }) w v made
+    → IsRestAt (record { 0 = x + 1 }) v rest → AreRests v (slice_set rests x rest)
+one_rest x w v rests rest made are m own =
+    let n : NodeNo = record { 0 = x + 1 } in
+    let number : n.0 - 1 ≡ x = omega arith in
+    record {
+      count = length_set rests x rest ∙ are.count ∙ ap (λ (t : Topology). length t.kinds) (sym m.tree);
+      each = λ y r s is here. elim (cases_eq x y) [
+        | inl same ↦ (
+            let is_here : slice_get (slice_set rests x rest) x ≡ Some r = ap (λ (k : ℕ). slice_get (slice_set rests x rest) k) same ∙ is in
+            let at : node_at n v ≡ Some s = ap (λ (k : ℕ). slice_get v.nodes k) (number ∙ same) ∙ here in
+            subst (λ (t : Rest). IsRestOf t s) (set_here rests x rest r is_here) (own s at))
+        | inr ne ↦ (
+            let before : slice_get rests y ≡ Some r = sym (get_set_other rests x y rest ne) ∙ is in
+            let as_was : slice_get v.nodes y ≡ slice_get w.nodes y =
+            ap (λ (u : WorldState). slice_get u.nodes y) m.after ∙ steps_other n made w y (λ e. ne (sym number ∙ e)) in
+            are.each y r s before (sym as_was ∙ here))
+      ];
+    }
+
+-- ---- the clock
+
+mapped : {X Y : Type 0} (f : X → Y) (o : Option X) (y : Y) → option_map f o ≡ Some y → (x : X) × ((o ≡ Some x) × (f x ≡ y))
+mapped f None y is = absurd (let nay : None ≡ Some y = is in cc)
+mapped f (Some x) y is = (x, (refl, cc))
+
+clocked_rest : ((until : Cs) (s : NodeState) → IsKeptNode s → is_at_rest until s ≡ true → is_at_rest until (node_step node_events.Clock s).0 ≡ true)
+    → (rest : Rest) (s : NodeState) → IsKeptNode s → IsRestOf rest s → IsRestOf rest (node_step node_events.Clock s).0
+clocked_rest law Unknown s kept is = tt
+clocked_rest law Awake s kept is = tt
+clocked_rest law (Before wakes) s kept is = λ m lt. law m s kept (is m lt)
+
+pub clocked_rests : ((until : Cs) (s : NodeState) → IsKeptNode s → is_at_rest until s ≡ true → is_at_rest until (node_step node_events.Clock s).0 ≡ true)
+    → (w : WorldState) (rests : List Rest) → IsKeptWorld w → AreRests w rests → AreRests (world_step Clock w).0 rests
+clocked_rests law w rests kept are =
+    let on : NodeState → NodeState = λ s. (node_step node_events.Clock s).0 in
+    record {
+      count = are.count;
+      each = λ x rest t is here.
+          let was = mapped on (slice_get w.nodes x) t (sym (slice_get-map on w.nodes x) ∙ here) in
+          let s = was.0 in
+          subst (λ (u : NodeState). IsRestOf rest u) was.1.1
+          (clocked_rest law rest s (kept.nodes x s was.1.0).kept.kept (are.each x rest s is was.1.0));
+    }
+
+-- ---- a tick
+
+-- where a test says so a list is empty
+pub empty_as : {X : Type 0} (xs : List X) (b : Bool) → b ≡ (length xs == 0) → not b ≡ false → xs ≡ []
+empty_as [] b e nay = refl
+empty_as (x ∷ xs) b e nay =
+    let some = ne_eqb (length (x ∷ xs)) 0 (λ none. omega (arith, none)) in absurd (true≢false (sym (ap not (e ∙ some)) ∙ nay))
+
+-- nothing has happened where no event has an answer
+script_none : (es : List (ℕ × WorldEvent)) (w : WorldState) → answered es w ≡ [] → es ≡ []
+script_none [] w none = refl
+script_none (e ∷ es) w none = absurd (cc)
+
+pub script_rests : (plan : Plan) (t : ℕ) (w v : WorldState) (answers : List (ℕ × WorldReply)) (rests : List Rest) → answers ≡ answered (scripted plan t) w
+    → v ≡ after_script plan t w → answers ≡ [] → AreRests w rests → AreRests v rests
+script_rests plan t w v answers rests are after none rest =
+    let empty = script_none (scripted plan t) w (sym are ∙ none) in
+    let same : v ≡ w = after ∙ ap (λ (es : List (ℕ × WorldEvent)). world_after (map (λ (e : ℕ × WorldEvent). e.1) es) w) empty in
+    subst (λ (u : WorldState). AreRests u rests) (sym same) rest
