@@ -1,5 +1,5 @@
 -- What the first element that a test passes tells of the elements, one after the other.
-use Rattle.std.proofs.Common.{◌≡◌, ℕ, suc, zero, ◌+◌, ◌<◌, ◌≤◌, Bool, true, false, cond, if◌then◌else◌, List, [], ◌∷◌, ◌++◌, Option, Some, None, refl, sym, ap, subst, ◌∙◌, length, get_or, take, drop, append-nil, append_assoc, arith}
+use Rattle.std.proofs.Common.{◌≡◌, ℕ, suc, zero, ◌+◌, ◌<◌, ◌≤◌, Bool, true, false, cond, if◌then◌else◌, List, [], ◌∷◌, ◌++◌, Option, Some, None, refl, sym, ap, ◌∙◌, length, get_or, take, drop, append-nil, append_assoc, arith}
 use Rattle.std.proofs.lemmas.List.{take_more, drop_more, drop_all, length-take-le, length_push}
 use Rattle.srp_base.specs.Firsts.{first_where}
 
@@ -89,16 +89,3 @@ where-none-from test front (x ∷ xs) e (suc i) d lt =
 -- where none is answered, no element passes
 pub where-none : {A : Type 0} (test : List A → A → Bool) (xs : List A) → first_where test [] xs ≡ None → (i : ℕ) (d : A) → i < length xs → test (take i xs) (get_or xs i d) ≡ false
 where-none test xs e i d lt = where-none-from test [] xs e i d lt
-
--- ---- and the other way round
-
-where-upto : {A : Type 0} (test : List A → A → Bool) (xs : List A) (d : A) (i : ℕ) → i ≤ length xs → ((j : ℕ) → j < i → test (take j xs) (get_or xs j d) ≡ false) → first_where test [] xs ≡ first_where test (take i xs) (drop i xs)
-where-upto test xs d zero le h = refl
-where-upto test xs d (suc i) le h =
-    let step = where-later test xs i d (omega (arith, le)) (h i (omega arith)) in
-    where-upto test xs d i (omega (arith, le)) (λ j lt. h j (omega (arith, lt))) ∙ step ∙ ap (λ n. first_where test (take n xs) (drop n xs)) (let e : i + 1 ≡ suc i = omega arith in e)
-
-pub where-not_found : {A : Type 0} (test : List A → A → Bool) (xs : List A) → ((j : ℕ) (d : A) → j < length xs → test (take j xs) (get_or xs j d) ≡ false) → first_where test [] xs ≡ None
-where-not_found test [] none = refl
-where-not_found test (x ∷ xs) none =
-    where-upto test (x ∷ xs) x (length (x ∷ xs)) (omega arith) (λ j lt. none j x lt) ∙ where-end test (x ∷ xs) (length (x ∷ xs)) (omega arith)

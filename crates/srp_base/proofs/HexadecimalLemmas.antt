@@ -1,5 +1,5 @@
 -- What a padded hexadecimal hole writes, and which texts spell a number.
-use Rattle.std.proofs.Common.{◌≡◌, ℕ, ◌+◌, ◌-◌, ◌*◌, ◌^◌, List, [], ◌∷◌, ◌++◌, arith, get_or, length, false, refl, append-nil, ap, ◌↔◌, Option, Result, Ok, Err}
+use Rattle.std.proofs.Common.{◌≡◌, ℕ, ◌+◌, ◌-◌, ◌^◌, List, [], ◌++◌, length, false, refl, append-nil, ap, ◌↔◌, Option, Result, Ok, Err}
 use Rattle.std.proofs.Math.Nat.{sub-zero}
 use Rattle.std.specs.Prelude.{replicate, IsOk, IsSome, IfSome, Some, None}
 use Rattle.std.specs.List.{AllPass}
@@ -7,7 +7,7 @@ use Rattle.std.specs.Fmt.{padded_integral, format_spec, char_count}
 use Rattle.hex.specs.Hex.{decode_sized, is_hex_digit}
 use Rattle.hex.specs.declared.error.FromHexError.{FromHexError}
 use Rattle.hex.proofs.HexLemmas.{IsOk-decode_sized}
-use Rattle.srp_base.specs.Hexadecimal.{hex12, hex16, number_of, number_of_decoded, number_of_octets}
+use Rattle.srp_base.specs.Hexadecimal.{hex12, hex16, number_of_decoded, number_of_octets}
 
 -- what `{:016x}` writes of a number
 pub padded_hex16 : (ds : List ℕ)
@@ -36,19 +36,6 @@ IsSome-hex16 text =
 pub IsSome-as_hex16 : (text : List ℕ) (o : Option ℕ) → o ≡ hex16 text
     → IsSome o ↔ ((length text ≡ 16) × AllPass is_hex_digit text)
 IsSome-as_hex16 text o e = rw e (IsSome-hex16 text)
-
--- six octets as two halves of three
-pub number_of-six : (octets : List ℕ) → length octets ≡ 6
-    → number_of octets ≡ ((get_or octets 0 0 * 256 + get_or octets 1 0) * 256 + get_or octets 2 0) * 16777216
-    + ((get_or octets 3 0 * 256 + get_or octets 4 0) * 256 + get_or octets 5 0)
-number_of-six (a ∷ b ∷ c ∷ d ∷ e ∷ f ∷ []) six = omega arith
-number_of-six [] six = absurd (omega arith)
-number_of-six (a ∷ []) six = absurd (omega arith)
-number_of-six (a ∷ b ∷ []) six = absurd (omega arith)
-number_of-six (a ∷ b ∷ c ∷ []) six = absurd (omega arith)
-number_of-six (a ∷ b ∷ c ∷ d ∷ []) six = absurd (omega arith)
-number_of-six (a ∷ b ∷ c ∷ d ∷ e ∷ []) six = absurd (omega arith)
-number_of-six (a ∷ b ∷ c ∷ d ∷ e ∷ f ∷ g ∷ more) six = absurd (omega arith)
 
 -- what twelve digits decode to is the number
 pub hex12-decoded : (text : List ℕ) (r : Result (List ℕ) FromHexError) → r ≡ decode_sized text 6

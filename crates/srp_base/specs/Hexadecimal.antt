@@ -19,6 +19,7 @@ hex16 text = number_of_octets (decode_sized text 8)
 abbrev pub number_of : List ℕ → ℕ
 number_of octets = fold (λ n octet. n * 256 + octet) 0 octets
 
+-- the number of the octets that digits spell, if they spell some
 abbrev pub number_of_decoded : Result (List ℕ) FromHexError → Option ℕ
 number_of_decoded (Ok octets) = Some (number_of octets)
 number_of_decoded (Err e) = None

@@ -6,7 +6,7 @@ ghost use Rattle.srp_base.specs.Bandwidth.{bits_of, bit_ps_of, rate_of_mbit};
 use std::marker::Model;
 
 /// The rate of a link.
-#[derive(Clone, Copy, Debug, PartialEq, Eq)]
+#[derive(Clone, Copy, PartialEq, Eq)]
 pub enum Rate {
     /// 100 Mb/s.
     M100,
@@ -57,7 +57,7 @@ impl Rate {
 }
 
 /// A whole percentage of a link's rate, 0 to 90. Contracts see the number.
-#[derive(Clone, Copy, Debug, PartialEq, Eq, PartialOrd, Ord)]
+#[derive(Clone, Copy, PartialEq, Eq, PartialOrd, Ord)]
 pub struct Percent {
     number: u64,
 }
@@ -98,7 +98,7 @@ impl Percent {
 
 /// A stream reservation class (IEEE Std 802.1Q-2018, clause 34). Where a port can't book every stream,
 /// those of class A come before those of class B: this project's own rule.
-#[derive(Clone, Copy, Debug, PartialEq, Eq, PartialOrd, Ord)]
+#[derive(Clone, Copy, PartialEq, Eq, PartialOrd, Ord)]
 pub enum Class {
     /// Class A, measured over intervals of 125 us.
     A,
@@ -107,7 +107,7 @@ pub enum Class {
 }
 
 /// The rank of a stream, the Rank bit of PriorityAndRank (IEEE Std 802.1Q-2018, 35.2.2.8.5).
-#[derive(Clone, Copy, Debug, PartialEq, Eq, PartialOrd, Ord)]
+#[derive(Clone, Copy, PartialEq, Eq, PartialOrd, Ord)]
 pub enum Rank {
     /// Rank 0: emergency traffic.
     Emergency,

@@ -15,16 +15,19 @@
 //!
 //! Contracts see a `Vid`, a `Mac`, a `Percent` and a `Priority` as the number, a `Seq` as the list of its elements,
 //! and each other type as its fields.
+//!
+//! A word that two crates speak stands here, in the module of its kind; one that a single crate speaks stands
+//! there. A number of a stated range is a type with `new`, `get` and its `Model`, as `Vid` is.
 #![tactic(auto)]
 
-pub mod bandwidth;
-pub mod hexadecimal;
-pub mod list;
-pub mod memory;
-pub mod mrp;
-pub mod numbers;
-pub mod ports;
-pub mod streams;
+mod bandwidth;
+mod hexadecimal;
+mod list;
+mod memory;
+mod mrp;
+mod numbers;
+mod ports;
+mod streams;
 
 pub use bandwidth::{Class, Percent, Rank, Rate};
 pub use hexadecimal::{read_hex12, read_hex16};

@@ -8,7 +8,7 @@ use std::marker::Model;
 
 /// A list over a vector. Contracts see the list of its elements, so two lists with the same elements
 /// are one value, wherever they lie in memory.
-#[derive(Clone, Debug, Drop)]
+#[derive(Clone, Drop)]
 pub struct Seq<T> {
     items: Vec<T>,
 }

@@ -7,7 +7,7 @@ use std::marker::Model;
 
 /// A StreamID: the 48-bit address of the Talker's station and a 16-bit number, as one number
 /// (IEEE Std 802.1Q-2018, 35.2.2.8.2).
-#[derive(Clone, Copy, Debug, PartialEq, Eq, PartialOrd, Ord, Hash)]
+#[derive(Clone, Copy, PartialEq, Eq, PartialOrd, Ord)]
 pub struct StreamId(pub u64);
 
 impl fmt::Display for StreamId {
@@ -23,7 +23,7 @@ impl fmt::Display for StreamId {
 }
 
 /// A bridge's identifier as a Talker Failed carries it (IEEE Std 802.1Q-2018, 35.2.2.8.7).
-#[derive(Clone, Copy, Debug, PartialEq, Eq, PartialOrd, Ord, Hash)]
+#[derive(Clone, Copy, PartialEq, Eq, PartialOrd, Ord)]
 pub struct BridgeId(pub u64);
 
 impl fmt::Display for BridgeId {
@@ -39,20 +39,20 @@ impl fmt::Display for BridgeId {
 }
 
 /// A node's number, from 1 in file order.
-#[derive(Clone, Copy, Debug, PartialEq, Eq, PartialOrd, Ord, Hash)]
+#[derive(Clone, Copy, Debug, PartialEq, Eq, PartialOrd, Ord)]
 pub struct NodeNo(pub u16);
 
 /// A link's number, from 1 in file order.
-#[derive(Clone, Copy, Debug, PartialEq, Eq, PartialOrd, Ord, Hash)]
+#[derive(Clone, Copy, Debug, PartialEq, Eq, PartialOrd, Ord)]
 pub struct LinkNo(pub u16);
 
 /// A port's number at its node, from 1 in the order of the node's links. Port 0 is the application
 /// side of a station.
-#[derive(Clone, Copy, Debug, PartialEq, Eq, PartialOrd, Ord, Hash)]
+#[derive(Clone, Copy, PartialEq, Eq, PartialOrd, Ord)]
 pub struct PortNo(pub u8);
 
 /// An egress port: a node with one of its ports.
-#[derive(Clone, Copy, Debug, PartialEq, Eq, PartialOrd, Ord, Hash)]
+#[derive(Clone, Copy, PartialEq, Eq, PartialOrd, Ord)]
 pub struct EgressPort {
     /// The node that it belongs to.
     pub node: NodeNo,
@@ -61,16 +61,16 @@ pub struct EgressPort {
 }
 
 /// A moment or a time in centiseconds.
-#[derive(Clone, Copy, Debug, PartialEq, Eq, PartialOrd, Ord, Hash)]
+#[derive(Clone, Copy, PartialEq, Eq, PartialOrd, Ord)]
 pub struct Cs(pub u64);
 
 /// A moment or a time in picoseconds.
-#[derive(Clone, Copy, Debug, PartialEq, Eq, PartialOrd, Ord, Hash)]
+#[derive(Clone, Copy, PartialEq, Eq, PartialOrd, Ord)]
 pub struct Ps(pub u64);
 
 /// A VLAN identifier that a VLAN may have, 1 to 4,094 (IEEE Std 802.1Q-2018, 9.6). Contracts see the
 /// number.
-#[derive(Clone, Copy, Debug, PartialEq, Eq, PartialOrd, Ord, Hash)]
+#[derive(Clone, Copy, PartialEq, Eq, PartialOrd, Ord)]
 pub struct Vid {
     number: u16,
 }
@@ -110,7 +110,7 @@ impl Vid {
 }
 
 /// A 48-bit MAC address as one number. Contracts see the number.
-#[derive(Clone, Copy, Debug, PartialEq, Eq, PartialOrd, Ord, Hash)]
+#[derive(Clone, Copy, PartialEq, Eq, PartialOrd, Ord)]
 pub struct Mac {
     number: u64,
 }

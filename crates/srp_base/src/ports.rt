@@ -5,7 +5,7 @@ use crate::list::Seq;
 use crate::numbers::{Cs, EgressPort, StreamId, Vid};
 
 /// What a port of a node is set up with.
-#[derive(Clone, Copy, Debug, PartialEq, Eq)]
+#[derive(Clone, Copy, PartialEq, Eq)]
 pub struct PortSetup {
     /// The rate of the port's link.
     pub rate: Rate,
@@ -21,7 +21,7 @@ pub struct PortSetup {
 
 /// What is in force at a port from one tick's steps on: the streams that are booked there, their slopes,
 /// and the VIDs that are registered there.
-#[derive(Clone, Debug, PartialEq, Eq, Drop)]
+#[derive(Clone, PartialEq, Eq, Drop)]
 pub struct PortChange {
     /// The port.
     pub at: EgressPort,
@@ -39,7 +39,7 @@ pub struct PortChange {
 
 /// The changes of all ports over a run, ascending by port and tick. A port without a change so far has
 /// nothing booked and no VID.
-#[derive(Clone, Debug, PartialEq, Eq, Drop)]
+#[derive(Clone, PartialEq, Eq, Drop)]
 pub struct Timeline {
     /// The changes.
     pub changes: Seq<PortChange>,

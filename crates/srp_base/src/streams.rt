@@ -8,7 +8,7 @@ use std::marker::Model;
 
 /// A priority, 0 to 7: the three high bits of PriorityAndRank (IEEE Std 802.1Q-2018, 35.2.2.8.5).
 /// Contracts see the number.
-#[derive(Clone, Copy, Debug, PartialEq, Eq, PartialOrd, Ord, Hash)]
+#[derive(Clone, Copy, PartialEq, Eq, PartialOrd, Ord)]
 pub struct Priority {
     number: u8,
 }
@@ -48,7 +48,7 @@ impl Priority {
 }
 
 /// What a Listener declares of a stream: FourPackedEvents 1 to 3 (IEEE Std 802.1Q-2018, 35.2.2.7.2).
-#[derive(Clone, Copy, Debug, PartialEq, Eq, PartialOrd, Ord)]
+#[derive(Clone, Copy, PartialEq, Eq, PartialOrd, Ord)]
 pub enum ListenerKind {
     /// No Listener behind can have the stream.
     AskingFailed,
@@ -59,7 +59,7 @@ pub enum ListenerKind {
 }
 
 /// What a Talker declares of its stream (IEEE Std 802.1Q-2018, 35.2.2.8.2 to 35.2.2.8.6).
-#[derive(Clone, Copy, Debug, PartialEq, Eq)]
+#[derive(Clone, Copy, PartialEq, Eq)]
 pub struct Talker {
     /// The StreamID.
     pub stream: StreamId,
@@ -80,7 +80,7 @@ pub struct Talker {
 }
 
 /// Why a Talker failed, and where (IEEE Std 802.1Q-2018, 35.2.2.8.7).
-#[derive(Clone, Copy, Debug, PartialEq, Eq)]
+#[derive(Clone, Copy, PartialEq, Eq)]
 pub struct Failure {
     /// The bridge that refused.
     pub bridge: BridgeId,
@@ -89,7 +89,7 @@ pub struct Failure {
 }
 
 /// What is registered, or declared, of a Talker at a port.
-#[derive(Clone, Copy, Debug, PartialEq, Eq)]
+#[derive(Clone, Copy, PartialEq, Eq)]
 pub enum TalkerReg {
     /// No Talker.
     Absent,
