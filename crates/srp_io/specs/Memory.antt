@@ -3,8 +3,8 @@ use Rattle.std.specs.Prelude.{ℕ, ◌+◌, ◌-◌, ◌^◌, min, Bool, List, �
 use Rattle.std.specs.List.{list_any}
 
 -- a count one higher, up to the last value of its type
-abbrev pub counted : ℕ → ℕ
-counted n = min (n + 1) (2 ^ 64 - 1)
+abbrev pub one_more : ℕ → ℕ
+one_more n = min (n + 1) (2 ^ 64 - 1)
 
 -- a list of octets at one end, and the most octets that one call moves
 pub record Pipe : Type 0 where
@@ -21,16 +21,16 @@ pub record FailingPipe : Type 0 where
 
 -- whether the next call fails
 abbrev pub next_fails : FailingPipe → Bool
-next_fails p = list_any (nat_eq (counted p.calls)) p.fails
+next_fails p = list_any (nat_eq (one_more p.calls)) p.fails
 
 -- the pipe after a call that fails: one more call, one more fault
-abbrev pub failed : FailingPipe → FailingPipe
-failed p = record p { calls = counted p.calls; faults = counted p.faults }
+abbrev pub pipe_that_failed : FailingPipe → FailingPipe
+pipe_that_failed p = record p { calls = one_more p.calls; faults = one_more p.faults }
 
 -- a source's pipe after a call that gave n octets
-abbrev pub given : ℕ → FailingPipe → FailingPipe
-given n p = record p { octets = drop n p.octets; calls = counted p.calls }
+abbrev pub pipe_that_gave : ℕ → FailingPipe → FailingPipe
+pipe_that_gave n p = record p { octets = drop n p.octets; calls = one_more p.calls }
 
 -- a sink's pipe after a call that took these octets
-abbrev pub taken : List ℕ → FailingPipe → FailingPipe
-taken piece p = record p { octets = p.octets ++ piece; calls = counted p.calls }
+abbrev pub pipe_that_took : List ℕ → FailingPipe → FailingPipe
+pipe_that_took piece p = record p { octets = p.octets ++ piece; calls = one_more p.calls }

@@ -4,7 +4,7 @@ ghost use Rattle.std.specs.Prelude.{◌≡◌, ◌≤◌, ◌<◌, Option, List,
 ghost use Rattle.std.specs.Io.{WritesAtMost};
 ghost use Rattle.std.specs.Io.KnownBytes.{WriteAppends};
 ghost use Rattle.srp_io.specs.Faults.{Rose};
-ghost use Rattle.srp_io.specs.Memory.{next_fails, failed, taken};
+ghost use Rattle.srp_io.specs.Memory.{next_fails, pipe_that_failed, pipe_that_took};
 ghost use Rattle.srp_io.specs.declared.sink.SinkErr.TheVariants.{NoMemory};
 
 use std::alloc::{AllocError, Global};
@@ -103,7 +103,8 @@ impl Sink for MemSink {
 
     fn write(&mut self, piece: &[u8]) -> Result<usize, SinkErr>
         ensures bound { WritesAtMost result piece.now }
-        ensures octets { WriteAppends (Some self.old.octets) (Some self.new.octets) result piece.now }
+        ensures octets { WriteAppends (Some self.old.octets) (Some self.new.octets)
+            result piece.now }
         ensures progress { IfOk result (λ n. 0 < length piece.now → 0 < n) }
         ensures fault { result ≡ Err SinkErr.Failed → Rose self.old.faults self.new.faults }
         ensures counts { (result ≡ Err SinkErr.Failed → ⊥) → self.new.faults ≡ self.old.faults }
@@ -111,9 +112,9 @@ impl Sink for MemSink {
 
         // It fails exactly at the stated calls.
         ensures fails { result ≡ Err SinkErr.Failed
-            → (next_fails self.old ≡ true) × (self.new ≡ failed self.old) }
+            → (next_fails self.old ≡ true) × (self.new ≡ pipe_that_failed self.old) }
         ensures takes { IfOk result (λ n. (next_fails self.old ≡ false)
-            × (self.new ≡ taken (take n piece.now) self.old)
+            × (self.new ≡ pipe_that_took (take n piece.now) self.old)
             × (n ≡ min self.old.step (length piece.now))) }
         ensures memory { result ≡ Err SinkErr.NoMemory → self.new ≡ self.old }
     {
@@ -176,7 +177,8 @@ impl Sink for PlainSink {
     fn write(&mut self, piece: &[u8]) -> Result<usize, SinkErr>
         // The trait's clauses; the count is the constant 0.
         ensures bound { WritesAtMost result piece.now }
-        ensures octets { WriteAppends (Some self.old.octets) (Some self.new.octets) result piece.now }
+        ensures octets { WriteAppends (Some self.old.octets) (Some self.new.octets)
+            result piece.now }
         ensures progress { IfOk result (λ n. 0 < length piece.now → 0 < n) }
         ensures fault { result ≡ Err SinkErr.Failed → Rose 0 0 }
         ensures counts { (result ≡ Err SinkErr.Failed → ⊥) → ◌≡◌ {A = ℕ} 0 0 }

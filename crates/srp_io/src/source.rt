@@ -4,7 +4,7 @@ ghost use Rattle.std.specs.Prelude.{◌≡◌, ◌≤◌, Option, Some, List, �
 ghost use Rattle.std.specs.Io.{ReadsAtMost};
 ghost use Rattle.std.specs.Io.KnownBytes.{ReadConsumes};
 ghost use Rattle.srp_io.specs.Faults.{Rose};
-ghost use Rattle.srp_io.specs.Memory.{next_fails, failed, given};
+ghost use Rattle.srp_io.specs.Memory.{next_fails, pipe_that_failed, pipe_that_gave};
 
 use std::marker::Model;
 use thiserror::Error;
@@ -98,9 +98,10 @@ impl Source for MemSource {
         ensures never_falls { self.old.faults ≤ self.new.faults }
 
         // It fails exactly at the stated calls.
-        ensures fails { OnErr result ((next_fails self.old ≡ true) × (self.new ≡ failed self.old)) }
+        ensures fails { OnErr result
+            ((next_fails self.old ≡ true) × (self.new ≡ pipe_that_failed self.old)) }
         ensures gives { IfOk result (λ n. (next_fails self.old ≡ false)
-            × (self.new ≡ given n self.old)
+            × (self.new ≡ pipe_that_gave n self.old)
             × (n ≡ min (min self.old.step (length buf.old)) (length self.old.octets))) }
     {
         self.calls = self.calls.saturating_add(1);
