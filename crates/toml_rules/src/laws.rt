@@ -1,6 +1,6 @@
 //! Laws of the words of rules. Each is a function that does nothing and whose clauses are the law.
 
-ghost use Rattle.std.specs.Prelude.{◌≡◌, ◌≤◌, ℕ, List, Option, Result, Ok, IfOk, sum_by};
+ghost use Rattle.std.specs.Prelude.{◌≡◌, ◌≤◌, ℕ, List, Option, Ok, IfOk, sum_by};
 ghost use Rattle.toml_rules.specs.Rules.{each_entry, each_within};
 
 /// A rule with weights lets through what the rule on each entry lets through, where the values weigh

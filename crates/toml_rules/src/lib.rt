@@ -13,7 +13,7 @@
 //! crate `toml`), and each function here answers what the word of the same name says of them. Those of
 //! `entries` take a closure for what a rule makes of one entry: where each call of the closure answers
 //! what a definition says of an entry (`TestsAs`, `KeysAs`, `ReadsAs`), the whole answers what the word
-//! says of all. So a reader of a file is a list of calls, with no loop of its own:
+//! says of all. So a reader of a file is a list of calls:
 //!
 //! ```text
 //! nodes ← each_entry 4 node_entry 1 tables       let nodes = each_table(alloc, 4, tables, read_node)?;
