@@ -13,7 +13,7 @@ use Rattle.stream_importance.specs.declared.entry.Fit.TheVariants.{Fits, TooLitt
 use Rattle.stream_importance.specs.declared.slope.Caps.{Caps}
 use Rattle.stream_importance.specs.Bandwidth.{cap_of}
 use Rattle.stream_importance.specs.Importance.{class_number, rank_number, moment_or}
-use Rattle.port_ledger.specs.Decision.{stream_of, entry_slope, above, booked_of, does_fit, is_booked, is_preceded_by, IsAscending}
+use Rattle.port_ledger.specs.Decision.{stream_of, entry_slope, above, booked_of, does_fit, is_booked, comes_after, IsAscending}
 use Rattle.port_ledger.specs.Book.{Book, IsKept, code_of, entry_of, fit_for, fit_in, has_new_booking, is_normal, is_since, since_if_same, since_of, same_want, tested_as}
 use Rattle.port_ledger.specs.Pass.{normal_slope_before, slope_before}
 use Rattle.port_ledger.proofs.Comparing.{all_booked}
@@ -105,7 +105,7 @@ all_before moment (x ∷ xs) h none =
 
 -- such a booking goes before a want alike at every later moment
 same_preceded : (moment now : ℕ) (x y : Entry) → moment ≤ now → IsBefore moment y.since
-    → is_preceded_by now x y ≡ is_preceded_by moment x y
+    → comes_after now x y ≡ comes_after moment x y
 same_preceded moment now x y up before =
     ap (λ o. not (stream_of y == stream_of x) && is_lt (ordering_then (nat_cmp (class_number y.want.class) (class_number x.want.class)) (ordering_then (nat_cmp (rank_number y.want.rank) (rank_number x.want.rank)) (ordering_then o (nat_cmp (stream_of y) (stream_of x))))))
     (by_since y.since x.since before)
@@ -118,7 +118,7 @@ same_preceded moment now x y up before =
 same_above : (moment now : ℕ) (x : Entry) (set : List Entry) → moment ≤ now
     → AllByRecursion (λ y. IsBefore moment y.since) set → above now x set ≡ above moment x set
 same_above moment now x set up h =
-    ap (sum_by entry_slope) (filter_agree (is_preceded_by now x) (is_preceded_by moment x) set (all_with set h h (λ y k _. same_preceded moment now x y up k)))
+    ap (sum_by entry_slope) (filter_agree (comes_after now x) (comes_after moment x) set (all_with set h h (λ y k _. same_preceded moment now x y up k)))
 
 all_filtered : (P : Entry → Type 0) (p : Entry → Bool) (xs : List Entry) → AllByRecursion P xs → AllByRecursion P (filter p xs)
 all_filtered P p [] h = tt
@@ -175,7 +175,7 @@ sum-kept f g q h (y ∷ ys) =
 
 module _ (now : ℕ) (x : Entry) where
   abbrev preceding : Entry → ℕ
-  preceding y = if is_preceded_by now x y then entry_slope y else 0
+  preceding y = if comes_after now x y then entry_slope y else 0
 
   abbrev normal_preceding : Entry → ℕ
   normal_preceding y = if is_normal y then preceding y else 0
@@ -183,7 +183,7 @@ module _ (now : ℕ) (x : Entry) where
   pub above-summed : (xs : List Entry) → sum_by (slope_before now x) xs ≡ above now x (booked_of xs)
   above-summed xs =
       sum-kept (slope_before now x) preceding is_booked (λ y. refl) xs
-      ∙ sum-kept preceding entry_slope (is_preceded_by now x) (λ y. refl) (booked_of xs)
+      ∙ sum-kept preceding entry_slope (comes_after now x) (λ y. refl) (booked_of xs)
 
   either_first : (a b : Bool) (n : ℕ) → cond a (cond b n 0) 0 ≡ cond b (cond a n 0) 0
   either_first true b n = refl
@@ -194,4 +194,4 @@ module _ (now : ℕ) (x : Entry) where
   normal-summed xs =
       sum-kept (normal_slope_before now x) normal_preceding is_booked (λ y. either_first (is_normal y) (is_booked y) (preceding y)) xs
       ∙ sum-kept normal_preceding preceding is_normal (λ y. refl) (booked_of xs)
-      ∙ sum-kept preceding entry_slope (is_preceded_by now x) (λ y. refl) (filter is_normal (booked_of xs))
+      ∙ sum-kept preceding entry_slope (comes_after now x) (λ y. refl) (filter is_normal (booked_of xs))

@@ -1,32 +1,21 @@
 -- What holds of every ledger is kept by a call that decides.
-use Rattle.std.proofs.Common.{◌≡◌, ℕ, ◌<◌, ◌≤◌, Bool, true, false, not, ◌==◌, cond, List, [], ◌∷◌, ◌++◌, take, drop, length, Option, Some, None, refl, sym, ◌∙◌, ap, subst, arith, inl, inr}
+use Rattle.std.proofs.Common.{◌≡◌, ℕ, ◌<◌, ◌≤◌, Bool, true, false, not, ◌==◌, cond, List, [], ◌∷◌, Option, Some, None, refl, sym, ◌∙◌, ap, subst, arith, inl, inr}
 use Rattle.std.specs.List.{AllByRecursion}
-use Rattle.std.proofs.Math.Seq.{take-append_seam}
 use Rattle.std.proofs.lemmas.Bool.{cases_order}
 use Rattle.srp_base.specs.declared.numbers.Cs.{Cs}
 use Rattle.srp_base.specs.declared.numbers.StreamId.{StreamId}
-use Rattle.srp_base.specs.declared.bandwidth.Rate.{Rate}
-use Rattle.srp_base.specs.Bandwidth.{bits_of}
 use Rattle.stream_importance.specs.declared.entry.Entry.{Entry}
 use Rattle.stream_importance.specs.declared.entry.Fit.{Fit}
 use Rattle.stream_importance.specs.declared.entry.Want.{Want}
 use Rattle.stream_importance.specs.declared.slope.Caps.{Caps}
-use Rattle.stream_importance.specs.Bandwidth.{caps_of}
 use Rattle.stream_importance.specs.Importance.{moment_or, IsImportanceOrder}
-use Rattle.port_ledger.specs.Decision.{booked_of, stream_of, IsAscending, decided, Decides, marks_of, settled, since_after}
+use Rattle.port_ledger.specs.Decision.{booked_of, stream_of, IsAscending, decided, Decides, marks_of, with_moments, since_after}
 use Rattle.port_ledger.specs.Book.{Book, IsKept, clocked_book, fit_in, tested_as, same_want, unbooked, unwanted_book, wanted_book, entry_with, with_want, without}
 use Rattle.port_ledger.proofs.Running.{all_with}
 use Rattle.port_ledger.proofs.Finding.{with_want-lower, with_want-same, with_want-higher}
 use Rattle.port_ledger.proofs.Marking.{different_from_ascending}
 use Rattle.port_ledger.proofs.Rounds.{decided_decides}
 use Rattle.port_ledger.proofs.Standing.{book_stands, decision_settled}
-
--- class A has no more than both classes
-pub caps_share : (rate : Rate) (delta_a delta_b : ℕ)
-    → (caps_of rate delta_a delta_b).class_a ≤ (caps_of rate delta_a delta_b).both
-caps_share rate delta_a delta_b =
-    let n : ℕ = bits_of rate in
-    grind arith
 
 -- a moment that isn't past its ledger's isn't past a later one
 moment_later : (since : Option Cs) (moment now : ℕ) → moment ≤ now → moment_or moment since ≤ moment
@@ -86,13 +75,13 @@ moments-with_want now want xs h =
 
 -- moments that are set change no stream, and none is past the decision's
 above-settled : (n now : ℕ) (xs : List Entry) (marks : List Bool) → AllByRecursion (λ y. n < stream_of y) xs
-    → AllByRecursion (λ y. n < stream_of y) (settled now xs marks)
+    → AllByRecursion (λ y. n < stream_of y) (with_moments now xs marks)
 above-settled n now [] marks h = tt
 above-settled n now (x ∷ xs) [] h = tt
 above-settled n now (x ∷ xs) (mark ∷ marks) h = (h.0, above-settled n now xs marks h.1)
 
 ascending-settled : (now : ℕ) (xs : List Entry) (marks : List Bool) → IsAscending xs
-    → IsAscending (settled now xs marks)
+    → IsAscending (with_moments now xs marks)
 ascending-settled now [] marks up = tt
 ascending-settled now (x ∷ xs) [] up = tt
 ascending-settled now (x ∷ xs) (mark ∷ marks) up = (above-settled (stream_of x) now xs marks up.0, ascending-settled now xs marks up.1)
@@ -104,7 +93,7 @@ moment-since_after now since false h = omega arith
 
 moments-settled : (now : ℕ) (xs : List Entry) (marks : List Bool)
     → AllByRecursion (λ x. moment_or now x.since ≤ now) xs
-    → AllByRecursion (λ x. moment_or now x.since ≤ now) (settled now xs marks)
+    → AllByRecursion (λ x. moment_or now x.since ≤ now) (with_moments now xs marks)
 moments-settled now [] marks h = tt
 moments-settled now (x ∷ xs) [] h = tt
 moments-settled now (x ∷ xs) (mark ∷ marks) h = (moment-since_after now x.since mark h.0, moments-settled now xs marks h.1)
@@ -128,11 +117,6 @@ pub kept_with_want : (book : Book) (now : ℕ) (want : Want) (after : List Entry
 kept_with_want book now want after kept up d =
     kept_after book.caps now (with_want book.entries want) after kept.shares (ascending-with_want want book.entries kept.ascending)
     (moments-with_want now want book.entries (moments_later book.moment now book.entries up kept.moments)) d
-
--- what was written through a slice of all of a vector
-pub written_back : (n : ℕ) (xs ys : List Entry) → n ≡ length xs → length ys ≡ length xs
-    → take n (ys ++ drop (length ys) xs) ≡ ys
-written_back n xs ys e f = ap (λ k. take k (ys ++ drop (length ys) xs)) (e ∙ sym f) ∙ take-append_seam ys (drop (length ys) xs)
 
 -- a want is tested against the entries that the book has
 pub fit_in_book : (now moment : ℕ) (caps : Caps) (entries one two : List Entry) (want : Want) (x : Entry) (fit : Fit) (book : Book) → fit ≡ fit_in now caps (booked_of two) x → x ≡ tested_as one want → one ≡ entries → two ≡ entries → record { caps = caps; moment = moment; entries = entries } ≡ book → fit ≡ fit_in now book.caps (booked_of book.entries) (tested_as book.entries want)

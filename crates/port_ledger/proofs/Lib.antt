@@ -13,7 +13,7 @@ pub mod Running
 pub mod Shares
 pub mod Sinking
 pub mod Standing
-pub mod Taken
+pub mod LettingIn
 pub mod TakingOut
 pub mod TotalsLemmas
 pub mod Unmoved

@@ -9,13 +9,13 @@ use Rattle.stream_importance.specs.declared.entry.Entry.{Entry}
 use Rattle.stream_importance.specs.Importance.{IsImportanceOrder}
 use Rattle.stream_importance.specs.declared.slope.Caps.{Caps}
 use Rattle.stream_importance.specs.Bandwidth.{cap_of}
-use Rattle.port_ledger.specs.Decision.{stream_of, entry_slope, does_fit, marked, IsDecision, IsAscending, AreOfDifferentStreams, marks_of, settled, since_after}
-use Rattle.port_ledger.specs.Pass.{ranked}
+use Rattle.port_ledger.specs.Decision.{stream_of, entry_slope, does_fit, marked_set, IsDecision, IsAscending, AreOfDifferentStreams, marks_of, with_moments, since_after}
+use Rattle.port_ledger.specs.Pass.{importance_order}
 use Rattle.port_ledger.proofs.Running.{total, above-filter, Holds, Runs, IsRanked, holds_from_runs, runs_from_holds, runs_agree, all_with}
 use Rattle.port_ledger.proofs.Ranking.{IsPermutation-ranked, ranked_is_ranked, holds_permuted, all_permuted, different_permuted}
-use Rattle.port_ledger.proofs.Taken.{is_among, taken, taken_runs}
+use Rattle.port_ledger.proofs.LettingIn.{is_among, streams_let_in, taken_runs}
 
-pub marked-map : (b : Entry → Bool) (xs : List Entry) → marked xs (map b xs) ≡ filter b xs
+pub marked-map : (b : Entry → Bool) (xs : List Entry) → marked_set xs (map b xs) ≡ filter b xs
 marked-map b [] = refl
 marked-map b (x ∷ xs) = ap (λ ys. cond (b x) (x ∷ ys) ys) (marked-map b xs)
 
@@ -40,11 +40,11 @@ decision_from_holds now caps b xs h =
 
 -- the choice that a marking stands for
 abbrev pub choice : ℕ → Caps → List Entry → List Bool → Entry → Bool
-choice now caps xs marks = does_fit now caps (marked xs marks)
+choice now caps xs marks = does_fit now caps (marked_set xs marks)
 
 pub marked-choice : (now : ℕ) (caps : Caps) (xs : List Entry) (marks : List Bool) → IsDecision now caps xs marks
-    → marked xs marks ≡ filter (choice now caps xs marks) xs
-marked-choice now caps xs marks d = ap (marked xs) d ∙ marked-map (choice now caps xs marks) xs
+    → marked_set xs marks ≡ filter (choice now caps xs marks) xs
+marked-choice now caps xs marks d = ap (marked_set xs) d ∙ marked-map (choice now caps xs marks) xs
 
 pub holds_from_decision : (now : ℕ) (caps : Caps) (xs : List Entry) (marks : List Bool)
     → IsDecision now caps xs marks → AllByRecursion (Holds now caps 0 (choice now caps xs marks) xs) xs
@@ -53,10 +53,10 @@ holds_from_decision now caps xs marks d =
 
 -- a choice that holds, run in the order of importance
 pub ranked_runs : (now : ℕ) (o : IsImportanceOrder now) (caps : Caps) (b : Entry → Bool) (xs : List Entry)
-    → AreOfDifferentStreams xs → AllByRecursion (Holds now caps 0 b xs) xs → Runs caps 0 b (ranked now xs)
+    → AreOfDifferentStreams xs → AllByRecursion (Holds now caps 0 b xs) xs → Runs caps 0 b (importance_order now xs)
 ranked_runs now o caps b xs different h =
-    runs_from_holds now o caps 0 b (ranked now xs) (ranked_is_ranked now o xs different)
-    (holds_permuted now caps 0 b xs (ranked now xs) (IsPermutation-ranked now xs) h)
+    runs_from_holds now o caps 0 b (importance_order now xs) (ranked_is_ranked now o xs different)
+    (holds_permuted now caps 0 b xs (importance_order now xs) (IsPermutation-ranked now xs) h)
 
 pub decision_unique : (now : ℕ) (o : IsImportanceOrder now) (caps : Caps) (xs : List Entry)
     → AreOfDifferentStreams xs → (marks others : List Bool) → IsDecision now caps xs marks
@@ -64,18 +64,18 @@ pub decision_unique : (now : ℕ) (o : IsImportanceOrder now) (caps : Caps) (xs 
 decision_unique now o caps xs different marks others d e =
     let b : Entry → Bool = choice now caps xs marks in
     let c : Entry → Bool = choice now caps xs others in
-    let agree : AllByRecursion (λ x. b x ≡ c x) (ranked now xs) =
-    runs_agree caps 0 0 b c (ranked now xs) refl (ranked_runs now o caps b xs different (holds_from_decision now caps xs marks d))
+    let agree : AllByRecursion (λ x. b x ≡ c x) (importance_order now xs) =
+    runs_agree caps 0 0 b c (importance_order now xs) refl (ranked_runs now o caps b xs different (holds_from_decision now caps xs marks d))
     (ranked_runs now o caps c xs different (holds_from_decision now caps xs others e)) in
-    let back : AllByRecursion (λ x. b x ≡ c x) xs = all_permuted (λ x. b x ≡ c x) (ranked now xs) xs (IsPermutation-sym xs (ranked now xs) (IsPermutation-ranked now xs)) agree in
+    let back : AllByRecursion (λ x. b x ≡ c x) xs = all_permuted (λ x. b x ≡ c x) (importance_order now xs) xs (IsPermutation-sym xs (importance_order now xs) (IsPermutation-ranked now xs)) agree in
     d ∙ (map_agree b c xs back ∙ sym e)
 
 -- what a pass in the order of importance lets in is decided
 pub decision_from_pass : (now : ℕ) (o : IsImportanceOrder now) (caps : Caps) (xs order : List Entry)
     → IsPermutation xs order → IsRanked now order → AreOfDifferentStreams order
-    → IsDecision now caps xs (map (λ x. is_among (taken caps 0 order) (stream_of x)) xs)
+    → IsDecision now caps xs (map (λ x. is_among (streams_let_in caps 0 order) (stream_of x)) xs)
 decision_from_pass now o caps xs order p r different =
-    let b : Entry → Bool = λ x. is_among (taken caps 0 order) (stream_of x) in
+    let b : Entry → Bool = λ x. is_among (streams_let_in caps 0 order) (stream_of x) in
     decision_from_holds now caps b xs
     (holds_permuted now caps 0 b order xs (IsPermutation-sym xs order p) (holds_from_runs now o caps 0 b order r (taken_runs caps 0 order different)))
 
@@ -85,10 +85,10 @@ different_from_ascending [] up = tt
 different_from_ascending (x ∷ xs) up = (all_with xs up.0 up.0 (λ y l _ e. omega (arith, l, e)), different_from_ascending xs up.1)
 
 -- a choice is what its settled entries show
-pub marks_of-settled : (now : ℕ) (b : Entry → Bool) (xs : List Entry) → marks_of (settled now xs (map b xs)) ≡ map b xs
+pub marks_of-settled : (now : ℕ) (b : Entry → Bool) (xs : List Entry) → marks_of (with_moments now xs (map b xs)) ≡ map b xs
 marks_of-settled now b [] = refl
 marks_of-settled now b (x ∷ xs) =
-    ap (λ m. m ∷ marks_of (settled now xs (map b xs))) (shown (b x) x.since) ∙ ap (λ ms. b x ∷ ms) (marks_of-settled now b xs)
+    ap (λ m. m ∷ marks_of (with_moments now xs (map b xs))) (shown (b x) x.since) ∙ ap (λ ms. b x ∷ ms) (marks_of-settled now b xs)
   where
     shown : (mark : Bool) (since : Option Cs) → is_some (since_after now since mark) ≡ mark
     shown true since = refl
@@ -97,6 +97,6 @@ marks_of-settled now b (x ∷ xs) =
 pub decision_exists : (now : ℕ) (o : IsImportanceOrder now) (caps : Caps) (xs : List Entry)
     → AreOfDifferentStreams xs → (marks : List Bool) × IsDecision now caps xs marks
 decision_exists now o caps xs different = (
-  map (λ x. is_among (taken caps 0 (ranked now xs)) (stream_of x)) xs,
-  decision_from_pass now o caps xs (ranked now xs) (IsPermutation-ranked now xs) (ranked_is_ranked now o xs different) (different_permuted xs (ranked now xs) (IsPermutation-ranked now xs) different),
+  map (λ x. is_among (streams_let_in caps 0 (importance_order now xs)) (stream_of x)) xs,
+  decision_from_pass now o caps xs (importance_order now xs) (IsPermutation-ranked now xs) (ranked_is_ranked now o xs different) (different_permuted xs (importance_order now xs) (IsPermutation-ranked now xs) different),
 )

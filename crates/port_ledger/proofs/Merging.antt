@@ -8,7 +8,7 @@ use Rattle.srp_base.specs.declared.numbers.StreamId.{StreamId}
 use Rattle.stream_importance.specs.declared.entry.Entry.{Entry}
 use Rattle.port_ledger.specs.Decision.{stream_of, is_booked, IsAscending}
 use Rattle.port_ledger.specs.Book.{booked_only_in, same_entry}
-use Rattle.port_ledger.specs.Pass.{begins_with, from_stream, noted, noted_below}
+use Rattle.port_ledger.specs.Pass.{begins_with, from_stream, booked_stream, noted_below}
 use Rattle.port_ledger.proofs.Comparing.{only_in}
 use Rattle.port_ledger.proofs.Finding.{differ, others_differ}
 use Rattle.port_ledger.proofs.PerStream.{same_entry-is, same_entry-refl}
@@ -61,7 +61,7 @@ ascending_from s (y ∷ ys) up =
 -- ---- the head of one list
 
 -- an entry that isn't among those
-head-noted : (x : Entry) (xs ys : List Entry) → list_any (same_entry x) ys ≡ false → booked_only_in (x ∷ xs) ys ≡ noted x ++ booked_only_in xs ys
+head-noted : (x : Entry) (xs ys : List Entry) → list_any (same_entry x) ys ≡ false → booked_only_in (x ∷ xs) ys ≡ booked_stream x ++ booked_only_in xs ys
 head-noted x xs ys none =
     ap (λ v. map (λ (y : Entry). y.want.stream) (cond (is_booked x && not v) (x ∷ only_in xs ys) (only_in xs ys))) none ∙ by_test (is_booked x) (only_in xs ys)
   where
@@ -104,10 +104,10 @@ below-noted s (y ∷ ys) xs l =
       | inl h ↦
           (let under : stream_of y < s.0 = ltb-true (stream_of y) s.0 h in
           head-noted y ys xs (others_differ y xs (all_with xs l l (λ z k _. omega (arith, k, under))))
-          ∙ (ap (λ zs. noted y ++ zs) (below-noted s ys xs l)
-          ∙ (sym (append_assoc (noted y) (noted_below ys s) (booked_only_in (from_stream ys s) xs))
-          ∙ ap (λ v. cond v (noted y ++ noted_below ys s) [] ++ booked_only_in (cond v (from_stream ys s) (y ∷ ys)) xs) (sym h))))
-      | inr h ↦ ap (λ v. cond v (noted y ++ noted_below ys s) [] ++ booked_only_in (cond v (from_stream ys s) (y ∷ ys)) xs) (sym h)
+          ∙ (ap (λ zs. booked_stream y ++ zs) (below-noted s ys xs l)
+          ∙ (sym (append_assoc (booked_stream y) (noted_below ys s) (booked_only_in (from_stream ys s) xs))
+          ∙ ap (λ v. cond v (booked_stream y ++ noted_below ys s) [] ++ booked_only_in (cond v (from_stream ys s) (y ∷ ys)) xs) (sym h))))
+      | inr h ↦ ap (λ v. cond v (booked_stream y ++ noted_below ys s) [] ++ booked_only_in (cond v (from_stream ys s) (y ∷ ys)) xs) (sym h)
     ]
 
 none-same : (x : Entry) (ys : List Entry) → list_any (same_entry x) ys ≡ false → AllByRecursion (λ y. same_entry y x ≡ false) ys
@@ -174,12 +174,12 @@ module _ (before after : List Entry) (i : ℕ) (x d : Entry) (booked dropped : L
   any_is = subst (λ (ys : List Entry). list_any (same_entry x) ys ≡ begins_with ys x) (sym is) (first_found x rest h.down)
 
   -- x isn't first in what is left, so it is in none of it
-  pub walk-notes : (later more : List StreamId) → later ≡ dropped ++ noted_below rest x.want.stream → more ≡ booked ++ noted x → begins_with next x ≡ false → WalksBoth before after (i + 1) more later next
+  pub walk-notes : (later more : List StreamId) → later ≡ dropped ++ noted_below rest x.want.stream → more ≡ booked ++ booked_stream x → begins_with next x ≡ false → WalksBoth before after (i + 1) more later next
   walk-notes later more e m none = record {
     new =
         new_before
         ∙ ap (λ zs. booked ++ zs) (head-noted x (drop (i + 1) after) next (any_is ∙ none))
-        ∙ sym (append_assoc booked (noted x) (booked_only_in (drop (i + 1) after) next))
+        ∙ sym (append_assoc booked (booked_stream x) (booked_only_in (drop (i + 1) after) next))
         ∙ ap (λ zs. zs ++ booked_only_in (drop (i + 1) after) next) (sym m);
     old = old_before later e ∙ ap (λ zs. later ++ zs) (head-skipped x next (drop (i + 1) after) (none-same x next (any_is ∙ none)));
     up = ascends.1;

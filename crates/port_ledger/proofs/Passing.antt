@@ -9,11 +9,11 @@ use Rattle.srp_base.specs.declared.numbers.Cs.{Cs}
 use Rattle.stream_importance.specs.declared.entry.Entry.{Entry}
 use Rattle.stream_importance.specs.declared.slope.Caps.{Caps}
 use Rattle.stream_importance.specs.Importance.{IsImportanceOrder}
-use Rattle.port_ledger.specs.Decision.{stream_of, entry_slope, settled, since_after, decided, IsAscending, AreOfDifferentStreams}
-use Rattle.port_ledger.specs.Pass.{ranked, has_room, sum_with, passed, passed_in, with_since, IsOnlyIn}
+use Rattle.port_ledger.specs.Decision.{stream_of, entry_slope, with_moments, since_after, decided, IsAscending, AreOfDifferentStreams}
+use Rattle.port_ledger.specs.Pass.{importance_order, has_room, sum_with, entries_passed, passed_in, with_since, IsOnlyIn}
 use Rattle.port_ledger.proofs.Running.{Holds, Runs, all_with, holds_from_runs}
 use Rattle.port_ledger.proofs.Ranking.{IsPermutation-ranked, ranked_is_ranked, holds_permuted, all_permuted, different_permuted}
-use Rattle.port_ledger.proofs.Taken.{is_among, taken, taken_runs}
+use Rattle.port_ledger.proofs.LettingIn.{is_among, streams_let_in, taken_runs}
 use Rattle.port_ledger.proofs.Marking.{different_from_ascending}
 use Rattle.port_ledger.proofs.Rounds.{decided_by_choice}
 
@@ -21,7 +21,7 @@ use Rattle.port_ledger.proofs.Rounds.{decided_by_choice}
 abbrev settled_at : ℕ → (Entry → Bool) → Entry → Entry
 settled_at now b x = record x { since = since_after now x.since (b x) }
 
-settled-map : (now : ℕ) (b : Entry → Bool) (xs : List Entry) → settled now xs (map b xs) ≡ map (settled_at now b) xs
+settled-map : (now : ℕ) (b : Entry → Bool) (xs : List Entry) → with_moments now xs (map b xs) ≡ map (settled_at now b) xs
 settled-map now b [] = refl
 settled-map now b (x ∷ xs) = ap (λ ys. settled_at now b x ∷ ys) (settled-map now b xs)
 
@@ -36,10 +36,10 @@ runs_on caps sum b x xs runs =
     subst (λ (n : ℕ). Runs caps n b xs) (sym (sum_with-cond sum x (has_room caps sum x) ∙ ap (λ v. sum + cond v (entry_slope x) 0) (sym runs.0))) runs.1
 
 passed_is : (now : ℕ) (caps : Caps) (sum : ℕ) (b : Entry → Bool) (xs : List Entry) → Runs caps sum b xs
-    → passed now caps sum xs ≡ map (settled_at now b) xs
+    → entries_passed now caps sum xs ≡ map (settled_at now b) xs
 passed_is now caps sum b [] runs = refl
 passed_is now caps sum b (x ∷ xs) runs =
-    ap (λ v. record x { since = since_after now x.since v } ∷ passed now caps (sum_with sum x (has_room caps sum x)) xs) (sym runs.0)
+    ap (λ v. record x { since = since_after now x.since v } ∷ entries_passed now caps (sum_with sum x (has_room caps sum x)) xs) (sym runs.0)
     ∙ ap (λ ys. settled_at now b x ∷ ys) (passed_is now caps (sum_with sum x (has_room caps sum x)) b xs (runs_on caps sum b x xs runs))
 
 -- whether an entry is of one of these streams
@@ -126,32 +126,32 @@ in_own (x ∷ xs) = (
 
 -- the choice that a pass makes
 abbrev choice_of : ℕ → Caps → List Entry → Entry → Bool
-choice_of now caps order e = is_among (taken caps 0 (ranked now order)) (stream_of e)
+choice_of now caps order e = is_among (streams_let_in caps 0 (importance_order now order)) (stream_of e)
 
-ranked_permuted : (now : ℕ) (es order : List Entry) → IsPermutation es order → IsPermutation es (ranked now order)
-ranked_permuted now es order p = IsPermutation-trans es order (ranked now order) p (IsPermutation-ranked now order)
+ranked_permuted : (now : ℕ) (es order : List Entry) → IsPermutation es order → IsPermutation es (importance_order now order)
+ranked_permuted now es order p = IsPermutation-trans es order (importance_order now order) p (IsPermutation-ranked now order)
 
 pub ranked_only : (now : ℕ) (es order : List Entry) → IsAscending es → IsPermutation es order
-    → AllByRecursion (IsOnlyIn es) (ranked now order)
+    → AllByRecursion (IsOnlyIn es) (importance_order now order)
 ranked_only now es order up p =
-    all_permuted (IsOnlyIn es) es (ranked now order) (ranked_permuted now es order p) (only_own es (different_from_ascending es up))
+    all_permuted (IsOnlyIn es) es (importance_order now order) (ranked_permuted now es order p) (only_own es (different_from_ascending es up))
 
 choice_runs : (now : ℕ) (caps : Caps) (es order : List Entry) → IsAscending es → IsPermutation es order
-    → Runs caps 0 (choice_of now caps order) (ranked now order)
+    → Runs caps 0 (choice_of now caps order) (importance_order now order)
 choice_runs now caps es order up p =
-    taken_runs caps 0 (ranked now order) (different_permuted es (ranked now order) (ranked_permuted now es order p) (different_from_ascending es up))
+    taken_runs caps 0 (importance_order now order) (different_permuted es (importance_order now order) (ranked_permuted now es order p) (different_from_ascending es up))
 
 entries_after : (now : ℕ) (caps : Caps) (es order : List Entry) → IsAscending es → IsPermutation es order
-    → passed_in now caps 0 (ranked now order) es ≡ map (settled_at now (choice_of now caps order)) es
+    → passed_in now caps 0 (importance_order now order) es ≡ map (settled_at now (choice_of now caps order)) es
 entries_after now caps es order up p =
     let b : Entry → Bool = choice_of now caps order in
-    let q : IsPermutation es (ranked now order) = ranked_permuted now es order p in
-    passed_in_is now caps 0 b (ranked now order) es (choice_runs now caps es order up p)
-    (different_permuted es (ranked now order) q (different_from_ascending es up)) (ranked_only now es order up p)
-    ∙ entry_map (settled_in now b (ranked now order)) (settled_at now b) es
+    let q : IsPermutation es (importance_order now order) = ranked_permuted now es order p in
+    passed_in_is now caps 0 b (importance_order now order) es (choice_runs now caps es order up p)
+    (different_permuted es (importance_order now order) q (different_from_ascending es up)) (ranked_only now es order up p)
+    ∙ entry_map (settled_in now b (importance_order now order)) (settled_at now b) es
     (all_with es (in_own es) (in_own es)
-    (λ e h _. cond-true (is_stream_in (ranked now order) e) (settled_at now b e) e
-    (sym (list_any-IsPermutation (λ x. stream_of x == stream_of e) es (ranked now order) q) ∙ h)))
+    (λ e h _. cond-true (is_stream_in (importance_order now order) e) (settled_at now b e) e
+    (sym (list_any-IsPermutation (λ x. stream_of x == stream_of e) es (importance_order now order) q) ∙ h)))
   where
     entry_map : (f g : Entry → Entry) (xs : List Entry) → AllByRecursion (λ x. f x ≡ g x) xs → map f xs ≡ map g xs
     entry_map f g [] h = refl
@@ -159,24 +159,24 @@ entries_after now caps es order up p =
 
 -- a pass in the order of importance decides
 pub pass_decides : (now : ℕ) (o : IsImportanceOrder now) (caps : Caps) (es order : List Entry) → IsAscending es
-    → IsPermutation es order → passed_in now caps 0 (ranked now order) es ≡ decided now caps es
+    → IsPermutation es order → passed_in now caps 0 (importance_order now order) es ≡ decided now caps es
 pass_decides now o caps es order up p =
     let b : Entry → Bool = choice_of now caps order in
     let different : AreOfDifferentStreams es = different_from_ascending es up in
-    let q : IsPermutation es (ranked now order) = ranked_permuted now es order p in
-    let in_order = holds_from_runs now o caps 0 b (ranked now order) (ranked_is_ranked now o order (different_permuted es order p different)) (choice_runs now caps es order up p) in
-    let holds : AllByRecursion (Holds now caps 0 b es) es = holds_permuted now caps 0 b (ranked now order) es (IsPermutation-sym es (ranked now order) q) in_order in
+    let q : IsPermutation es (importance_order now order) = ranked_permuted now es order p in
+    let in_order = holds_from_runs now o caps 0 b (importance_order now order) (ranked_is_ranked now o order (different_permuted es order p different)) (choice_runs now caps es order up p) in
+    let holds : AllByRecursion (Holds now caps 0 b es) es = holds_permuted now caps 0 b (importance_order now order) es (IsPermutation-sym es (importance_order now order) q) in_order in
     entries_after now caps es order up p ∙ (sym (settled-map now b es) ∙ sym (decided_by_choice now o caps b es different holds))
 
 -- and leaves the same entries in the order
 pub pass_keeps : (now : ℕ) (o : IsImportanceOrder now) (caps : Caps) (es order : List Entry) → IsAscending es
-    → IsPermutation es order → IsPermutation (decided now caps es) (passed now caps 0 (ranked now order))
+    → IsPermutation es order → IsPermutation (decided now caps es) (entries_passed now caps 0 (importance_order now order))
 pass_keeps now o caps es order up p =
     let b : Entry → Bool = choice_of now caps order in
-    let q : IsPermutation es (ranked now order) = ranked_permuted now es order p in
-    subst (λ (ys : List Entry). IsPermutation (decided now caps es) ys) (sym (passed_is now caps 0 b (ranked now order) (choice_runs now caps es order up p)))
-    (subst (λ (ys : List Entry). IsPermutation ys (map (settled_at now b) (ranked now order))) (sym (entries_after now caps es order up p) ∙ pass_decides now o caps es order up p)
-    (IsPermutation-map (settled_at now b) es (ranked now order) q))
+    let q : IsPermutation es (importance_order now order) = ranked_permuted now es order p in
+    subst (λ (ys : List Entry). IsPermutation (decided now caps es) ys) (sym (passed_is now caps 0 b (importance_order now order) (choice_runs now caps es order up p)))
+    (subst (λ (ys : List Entry). IsPermutation ys (map (settled_at now b) (importance_order now order))) (sym (entries_after now caps es order up p) ∙ pass_decides now o caps es order up p)
+    (IsPermutation-map (settled_at now b) es (importance_order now order) q))
 
 -- how the moment of one entry is set among these
 with_since-above : (es : List Entry) (x : Entry) (since : Option Cs) → AllByRecursion (λ y. stream_of x < stream_of y) es
@@ -225,7 +225,7 @@ with_since-own (e ∷ es) x since same only =
 
 -- what a pass keeps, at its i-th entry
 pub record PassesAt (now : ℕ) (caps : Caps) (first before : List Entry) (sum i : ℕ) (order es : List Entry) : Type 0 where
-  pub order_is : passed now caps 0 first ≡ take i order ++ passed now caps sum (drop i order)
+  pub order_is : entries_passed now caps 0 first ≡ take i order ++ entries_passed now caps sum (drop i order)
   pub entries_is : passed_in now caps 0 first before ≡ passed_in now caps sum (drop i order) es
   pub ascending : IsAscending es
   pub different : AreOfDifferentStreams (drop i order)
@@ -261,10 +261,10 @@ pass_head now caps first before sum i order es x since l rest set_to at =
     record {
       order_is =
           at.order_is
-          ∙ (ap (λ ys. take i order ++ passed now caps sum ys) rest
-          ∙ (ap (λ s. take i order ++ record x { since = s } ∷ passed now caps sum' (drop (suc i) order)) (sym set_to)
-          ∙ (sym (append_assoc (take i order) (y ∷ []) (passed now caps sum' (drop (suc i) order)))
-          ∙ (ap (λ ys. ys ++ passed now caps sum' (drop (suc i) order)) (sym done) ∙ ap (λ ys. take (suc i) (set order i y) ++ passed now caps sum' ys) (sym kept)))));
+          ∙ (ap (λ ys. take i order ++ entries_passed now caps sum ys) rest
+          ∙ (ap (λ s. take i order ++ record x { since = s } ∷ entries_passed now caps sum' (drop (suc i) order)) (sym set_to)
+          ∙ (sym (append_assoc (take i order) (y ∷ []) (entries_passed now caps sum' (drop (suc i) order)))
+          ∙ (ap (λ ys. ys ++ entries_passed now caps sum' (drop (suc i) order)) (sym done) ∙ ap (λ ys. take (suc i) (set order i y) ++ entries_passed now caps sum' ys) (sym kept)))));
       entries_is =
           at.entries_is
           ∙ (ap (λ ys. passed_in now caps sum ys es) rest
@@ -294,9 +294,9 @@ passes_first now caps order es up different only =
     record { order_is = refl; entries_is = refl; ascending = up; different = different; only = only }
 
 pub ranked_different : (now : ℕ) (es order : List Entry) → IsAscending es → IsPermutation es order
-    → AreOfDifferentStreams (ranked now order)
+    → AreOfDifferentStreams (importance_order now order)
 ranked_different now es order up p =
-    different_permuted es (ranked now order) (ranked_permuted now es order p) (different_from_ascending es up)
+    different_permuted es (importance_order now order) (ranked_permuted now es order p) (different_from_ascending es up)
 
 -- an entry that isn't booked and finds no room is passed over
 pub pass_skip : (now : ℕ) (caps : Caps) (first before : List Entry) (sum i : ℕ) (order es : List Entry) (d : Entry)

@@ -16,7 +16,7 @@ use Rattle.stream_importance.specs.declared.entry.Fit.TheVariants.{Fits, TooLitt
 use Rattle.stream_importance.specs.declared.slope.Caps.{Caps}
 use Rattle.stream_importance.specs.Bandwidth.{cap_of}
 use Rattle.stream_importance.specs.Importance.{class_number, rank_number, IsImportanceOrder}
-use Rattle.port_ledger.specs.Decision.{stream_of, decided, decided_set, booked_of, is_booked, does_fit, above, marks_of, settled, since_after, IsAscending, IsDecision, Decides}
+use Rattle.port_ledger.specs.Decision.{stream_of, decided, decided_set, booked_of, is_booked, does_fit, above, marks_of, with_moments, since_after, IsAscending, IsDecision, Decides}
 use Rattle.port_ledger.specs.Book.{entry_of, entry_with, want_of, since_of, since_if_same, same_entry, same_since, same_want, unbooked, with_want, tested_as, fit_in, code_of}
 use Rattle.port_ledger.proofs.Finding.{with_want-lower, with_want-same, with_want-higher}
 use Rattle.port_ledger.proofs.Marking.{marked-map, decision_unique, different_from_ascending}
@@ -164,17 +164,17 @@ want_of-other want (x ∷ xs) s ne =
 
 -- a decision changes no want
 pub want_of-settled : (now : ℕ) (b : Entry → Bool) (xs : List Entry) (s : StreamId)
-    → want_of (settled now xs (map b xs)) s ≡ want_of xs s
+    → want_of (with_moments now xs (map b xs)) s ≡ want_of xs s
 want_of-settled now b [] s = refl
 want_of-settled now b (x ∷ xs) s =
     elim (stream_of x == s.0)
-    as (λ v. option_map (λ (y : Entry). y.want) (cond v (Some (record x { since = since_after now x.since (b x) })) (entry_of (settled now xs (map b xs)) s))
+    as (λ v. option_map (λ (y : Entry). y.want) (cond v (Some (record x { since = since_after now x.since (b x) })) (entry_of (with_moments now xs (map b xs)) s))
     ≡ option_map (λ (y : Entry). y.want) (cond v (Some x) (entry_of xs s))) [ true ↦ refl | false ↦ want_of-settled now b xs s ]
 
 want_of-decided : (now : ℕ) (caps : Caps) (before after : List Entry) (s : StreamId)
     → Decides now caps before after → want_of after s ≡ want_of before s
 want_of-decided now caps before after s d =
-    ap (λ ys. want_of ys s) (d.moments ∙ ap (settled now before) d.decision) ∙ want_of-settled now _ before s
+    ap (λ ys. want_of ys s) (d.moments ∙ ap (with_moments now before) d.decision) ∙ want_of-settled now _ before s
 
 -- of its own stream the want, and of each other stream the want that it had
 want_of-with_want : (want : Want) (old : List Entry) (s : StreamId)
@@ -229,7 +229,7 @@ pub decided_again : (now : ℕ) (o : IsImportanceOrder now) (caps : Caps) (xs ys
     → IsDecision now caps xs (marks_of xs) → Decides now caps xs ys → ys ≡ xs
 decided_again now o caps xs ys up d decides =
     decides.moments
-    ∙ (ap (settled now xs) (decision_unique now o caps xs (different_from_ascending xs up) (marks_of ys) (marks_of xs) decides.decision d)
+    ∙ (ap (with_moments now xs) (decision_unique now o caps xs (different_from_ascending xs up) (marks_of ys) (marks_of xs) decides.decision d)
     ∙ settled-own now xs)
 
 pub same_again : (now : ℕ) (o : IsImportanceOrder now) (caps : Caps) (old new : List Entry) (want : Want)

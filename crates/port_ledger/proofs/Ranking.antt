@@ -11,13 +11,13 @@ use Rattle.stream_importance.specs.declared.entry.Entry.{Entry}
 use Rattle.stream_importance.specs.declared.slope.Caps.{Caps}
 use Rattle.stream_importance.specs.Bandwidth.{cap_of}
 use Rattle.stream_importance.specs.Importance.{is_more_important, IsImportanceOrder}
-use Rattle.port_ledger.specs.Decision.{stream_of, entry_slope, is_preceded_by, AreOfDifferentStreams}
-use Rattle.port_ledger.specs.Pass.{place, ranked}
+use Rattle.port_ledger.specs.Decision.{stream_of, entry_slope, comes_after, AreOfDifferentStreams}
+use Rattle.port_ledger.specs.Pass.{place, importance_order}
 use Rattle.port_ledger.proofs.Running.{part, IsRanked, Holds, all_with}
 
 -- of two entries of different streams one goes before the other
 goes_either_way : (now : ℕ) (o : IsImportanceOrder now) (x y : Entry) → stream_of x ≢ stream_of y
-    → (is_preceded_by now y x ≡ true) ⊎ (is_preceded_by now x y ≡ true)
+    → (comes_after now y x ≡ true) ⊎ (comes_after now x y ≡ true)
 goes_either_way now o x y ne =
     elim (o.total x y ne) [
       | inl h ↦ inl (and_from (not (stream_of x == stream_of y)) (is_more_important now x y) (not_from_false (stream_of x == stream_of y) (ne_eqb (stream_of x) (stream_of y) ne)) h)
@@ -25,7 +25,7 @@ goes_either_way now o x y ne =
     ]
 
 goes_far : (now : ℕ) (o : IsImportanceOrder now) (x y z : Entry) → stream_of x ≢ stream_of z
-    → is_preceded_by now y x ≡ true → is_preceded_by now z y ≡ true → is_preceded_by now z x ≡ true
+    → comes_after now y x ≡ true → comes_after now z y ≡ true → comes_after now z x ≡ true
 goes_far now o x y z ne h k =
     and_from (not (stream_of x == stream_of z)) (is_more_important now x z)
     (not_from_false (stream_of x == stream_of z) (ne_eqb (stream_of x) (stream_of z) ne))
@@ -36,18 +36,18 @@ goes_far now o x y z ne h k =
 IsPermutation-place : (now : ℕ) (x : Entry) (ys : List Entry) → IsPermutation (x ∷ ys) (place now x ys)
 IsPermutation-place now x [] = IsPermutation-refl (x ∷ [])
 IsPermutation-place now x (y ∷ ys) =
-    elim (is_preceded_by now y x) as (λ v. IsPermutation (x ∷ y ∷ ys) (cond v (x ∷ y ∷ ys) (y ∷ place now x ys))) [
+    elim (comes_after now y x) as (λ v. IsPermutation (x ∷ y ∷ ys) (cond v (x ∷ y ∷ ys) (y ∷ place now x ys))) [
       | true ↦ IsPermutation-refl (x ∷ y ∷ ys)
       | false ↦ IsPermutation-trans (x ∷ y ∷ ys) (y ∷ x ∷ ys) (y ∷ place now x ys)
           (IsPermutation-swap (x ∷ y ∷ ys) (y ∷ x ∷ ys) 0 1 (omega arith) (omega arith) refl)
           (IsPermutation-cons y (x ∷ ys) (place now x ys) (IsPermutation-place now x ys))
     ]
 
-pub IsPermutation-ranked : (now : ℕ) (xs : List Entry) → IsPermutation xs (ranked now xs)
+pub IsPermutation-ranked : (now : ℕ) (xs : List Entry) → IsPermutation xs (importance_order now xs)
 IsPermutation-ranked now [] = IsPermutation-refl []
 IsPermutation-ranked now (x ∷ xs) =
-    IsPermutation-trans (x ∷ xs) (x ∷ ranked now xs) (place now x (ranked now xs))
-    (IsPermutation-cons x xs (ranked now xs) (IsPermutation-ranked now xs)) (IsPermutation-place now x (ranked now xs))
+    IsPermutation-trans (x ∷ xs) (x ∷ importance_order now xs) (place now x (importance_order now xs))
+    (IsPermutation-cons x xs (importance_order now xs) (IsPermutation-ranked now xs)) (IsPermutation-place now x (importance_order now xs))
 
 -- a fact of each element is one of each element in another order
 pub all_permuted : {X : Type 0} (P : X → Type 0) (xs ys : List X) → IsPermutation xs ys → AllByRecursion P xs
@@ -58,20 +58,20 @@ ranked-place : (now : ℕ) (o : IsImportanceOrder now) (x : Entry) (ys : List En
     → AllByRecursion (λ y. stream_of x ≢ stream_of y) ys → IsRanked now ys → IsRanked now (place now x ys)
 ranked-place now o x [] ne r = (tt, tt)
 ranked-place now o x (y ∷ ys) ne r =
-    elim (cases_Bool (is_preceded_by now y x)) [
+    elim (cases_Bool (comes_after now y x)) [
       | inl h ↦ subst (λ (v : Bool). IsRanked now (cond v (x ∷ y ∷ ys) (y ∷ place now x ys))) (sym h)
           ((h, all_with ys ne.1 r.0 (λ z other later. goes_far now o x y z other h later)), r)
       | inr h ↦ subst (λ (v : Bool). IsRanked now (cond v (x ∷ y ∷ ys) (y ∷ place now x ys))) (sym h)
-          (let first : is_preceded_by now x y ≡ true =
+          (let first : comes_after now x y ≡ true =
           elim (goes_either_way now o x y ne.0) [ inl k ↦ absurd (true≢false (sym k ∙ h)) | inr k ↦ k ] in
-          (all_permuted (λ z. is_preceded_by now z y ≡ true) (x ∷ ys) (place now x ys) (IsPermutation-place now x ys) (first, r.0), ranked-place now o x ys ne.1 r.1))
+          (all_permuted (λ z. comes_after now z y ≡ true) (x ∷ ys) (place now x ys) (IsPermutation-place now x ys) (first, r.0), ranked-place now o x ys ne.1 r.1))
     ]
 
 pub ranked_is_ranked : (now : ℕ) (o : IsImportanceOrder now) (xs : List Entry) → AreOfDifferentStreams xs
-    → IsRanked now (ranked now xs)
+    → IsRanked now (importance_order now xs)
 ranked_is_ranked now o [] different = tt
 ranked_is_ranked now o (x ∷ xs) different =
-    ranked-place now o x (ranked now xs) (all_permuted (λ y. stream_of x ≢ stream_of y) xs (ranked now xs) (IsPermutation-ranked now xs) different.0) (ranked_is_ranked now o xs different.1)
+    ranked-place now o x (importance_order now xs) (all_permuted (λ y. stream_of x ≢ stream_of y) xs (importance_order now xs) (IsPermutation-ranked now xs) different.0) (ranked_is_ranked now o xs different.1)
 
 abbrev one_if : Bool → ℕ
 one_if true = 1
@@ -137,4 +137,4 @@ pub holds_permuted : (now : ℕ) (caps : Caps) (sum : ℕ) (b : Entry → Bool) 
     → AllByRecursion (Holds now caps sum b ys) ys
 holds_permuted now caps sum b xs ys p h =
     let moved : AllByRecursion (Holds now caps sum b xs) ys = all_permuted (Holds now caps sum b xs) xs ys p h in
-    all_with ys moved moved (λ x k _. k ∙ ap (λ n. nat_le (sum + n + entry_slope x) (cap_of caps x.want.class)) (sym (part-IsPermutation b (is_preceded_by now x) xs ys p)))
+    all_with ys moved moved (λ x k _. k ∙ ap (λ n. nat_le (sum + n + entry_slope x) (cap_of caps x.want.class)) (sym (part-IsPermutation b (comes_after now x) xs ys p)))

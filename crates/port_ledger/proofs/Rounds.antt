@@ -7,8 +7,8 @@ use Rattle.stream_importance.specs.declared.entry.Entry.{Entry}
 use Rattle.stream_importance.specs.declared.slope.Caps.{Caps}
 use Rattle.stream_importance.specs.Bandwidth.{cap_of}
 use Rattle.stream_importance.specs.Importance.{IsImportanceOrder}
-use Rattle.port_ledger.specs.Decision.{entry_slope, is_preceded_by, does_fit, set_after, decided_set, decided, settled, marks_of, IsDecision, Decides, AreOfDifferentStreams}
-use Rattle.port_ledger.specs.Pass.{ranked}
+use Rattle.port_ledger.specs.Decision.{entry_slope, comes_after, does_fit, set_after, decided_set, decided, with_moments, marks_of, IsDecision, Decides, AreOfDifferentStreams}
+use Rattle.port_ledger.specs.Pass.{importance_order}
 use Rattle.port_ledger.proofs.Running.{total, total-head, total-tail, Holds, IsRanked, all_with}
 use Rattle.port_ledger.proofs.Ranking.{IsPermutation-ranked, ranked_is_ranked, part-IsPermutation, all_permuted, holds_permuted}
 use Rattle.port_ledger.proofs.Marking.{all_of, choice, choice_above, map_agree, marks_of-settled, holds_from_decision, decision_from_holds, decision_exists}
@@ -71,19 +71,19 @@ set_after-found zero now caps xs = filter-none xs
 set_after-found (suc n) now caps xs = refl
 
 follows_from : (n now : ℕ) (caps : Caps) (xs : List Entry) (x : Entry)
-    → FollowsFrom now caps 0 (found_in n now caps xs) (found_in (suc n) now caps xs) (ranked now xs) x
+    → FollowsFrom now caps 0 (found_in n now caps xs) (found_in (suc n) now caps xs) (importance_order now xs) x
 follows_from n now caps xs x =
     ap (λ set. does_fit now caps set x) (set_after-found n now caps xs)
     ∙ (sym (choice_above (found_in n now caps xs) now caps xs x)
-    ∙ ap (λ k. nat_le (0 + k + entry_slope x) (cap_of caps x.want.class)) (sym (part-IsPermutation (found_in n now caps xs) (is_preceded_by now x) xs (ranked now xs) (IsPermutation-ranked now xs))))
+    ∙ ap (λ k. nat_le (0 + k + entry_slope x) (cap_of caps x.want.class)) (sym (part-IsPermutation (found_in n now caps xs) (comes_after now x) xs (importance_order now xs) (IsPermutation-ranked now xs))))
 
 rounds_agree : (n now : ℕ) (o : IsImportanceOrder now) (caps : Caps) (b : Entry → Bool) (xs : List Entry)
-    → IsRanked now (ranked now xs) → AllByRecursion (Holds now caps 0 b (ranked now xs)) (ranked now xs)
-    → AgreeOn n (found_in n now caps xs) b (ranked now xs)
+    → IsRanked now (importance_order now xs) → AllByRecursion (Holds now caps 0 b (importance_order now xs)) (importance_order now xs)
+    → AgreeOn n (found_in n now caps xs) b (importance_order now xs)
 rounds_agree zero now o caps b xs is_ranked holds = tt
 rounds_agree (suc n) now o caps b xs is_ranked holds =
-    one_more now o caps n 0 0 (found_in n now caps xs) (found_in (suc n) now caps xs) b (ranked now xs) refl is_ranked
-    (all_of (ranked now xs) (follows_from n now caps xs)) holds (rounds_agree n now o caps b xs is_ranked holds)
+    one_more now o caps n 0 0 (found_in n now caps xs) (found_in (suc n) now caps xs) b (importance_order now xs) refl is_ranked
+    (all_of (importance_order now xs) (follows_from n now caps xs)) holds (rounds_agree n now o caps b xs is_ranked holds)
 
 pub filter_agree : (b c : Entry → Bool) (xs : List Entry) → AllByRecursion (λ x. b x ≡ c x) xs → filter b xs ≡ filter c xs
 filter_agree b c [] h = refl
@@ -91,25 +91,25 @@ filter_agree b c (x ∷ xs) h = ap (λ v. cond v (x ∷ filter b xs) (filter b x
 
 -- a choice that holds is the decided set
 decided_set_is : (now : ℕ) (o : IsImportanceOrder now) (caps : Caps) (b : Entry → Bool) (xs : List Entry)
-    → AreOfDifferentStreams xs → AllByRecursion (Holds now caps 0 b (ranked now xs)) (ranked now xs)
+    → AreOfDifferentStreams xs → AllByRecursion (Holds now caps 0 b (importance_order now xs)) (importance_order now xs)
     → decided_set now caps xs ≡ filter b xs
 decided_set_is now o caps b xs different holds =
-    let agree : AllByRecursion (λ x. found_in (length xs) now caps xs x ≡ b x) (ranked now xs) =
-    all_agree (length xs) (found_in (length xs) now caps xs) b (ranked now xs) (sym (length_permutation xs (ranked now xs) (IsPermutation-ranked now xs)))
+    let agree : AllByRecursion (λ x. found_in (length xs) now caps xs x ≡ b x) (importance_order now xs) =
+    all_agree (length xs) (found_in (length xs) now caps xs) b (importance_order now xs) (sym (length_permutation xs (importance_order now xs) (IsPermutation-ranked now xs)))
     (rounds_agree (length xs) now o caps b xs (ranked_is_ranked now o xs different) holds) in
     set_after-found (length xs) now caps xs
     ∙ filter_agree (found_in (length xs) now caps xs) b xs
-    (all_permuted (λ x. found_in (length xs) now caps xs x ≡ b x) (ranked now xs) xs (IsPermutation-sym xs (ranked now xs) (IsPermutation-ranked now xs)) agree)
+    (all_permuted (λ x. found_in (length xs) now caps xs x ≡ b x) (importance_order now xs) xs (IsPermutation-sym xs (importance_order now xs) (IsPermutation-ranked now xs)) agree)
 
 -- the entries after a decision are those that the choice settles
 pub decided_by_choice : (now : ℕ) (o : IsImportanceOrder now) (caps : Caps) (b : Entry → Bool) (xs : List Entry)
     → AreOfDifferentStreams xs → AllByRecursion (Holds now caps 0 b xs) xs
-    → decided now caps xs ≡ settled now xs (map b xs)
+    → decided now caps xs ≡ with_moments now xs (map b xs)
 unfolding decided
 decided_by_choice now o caps b xs different holds =
     let set : decided_set now caps xs ≡ filter b xs =
-    decided_set_is now o caps b xs different (holds_permuted now caps 0 b xs (ranked now xs) (IsPermutation-ranked now xs) holds) in
-    ap (settled now xs)
+    decided_set_is now o caps b xs different (holds_permuted now caps 0 b xs (importance_order now xs) (IsPermutation-ranked now xs) holds) in
+    ap (with_moments now xs)
     (ap (λ ys. map (does_fit now caps ys) xs) set
     ∙ sym (map_agree b (does_fit now caps (filter b xs)) xs (all_with xs holds holds (λ x k _. k ∙ choice_above b now caps xs x))))
 
@@ -118,16 +118,16 @@ pub decided_only : (now : ℕ) (o : IsImportanceOrder now) (caps : Caps) (before
     → AreOfDifferentStreams before → Decides now caps before after → after ≡ decided now caps before
 decided_only now o caps before after different d =
     d.moments
-    ∙ (ap (settled now before) d.decision
+    ∙ (ap (with_moments now before) d.decision
     ∙ sym (decided_by_choice now o caps (choice now caps before (marks_of after)) before different (holds_from_decision now caps before (marks_of after) d.decision)))
 
 pub decides_by_choice : (now : ℕ) (o : IsImportanceOrder now) (caps : Caps) (b : Entry → Bool) (xs after : List Entry)
-    → AllByRecursion (Holds now caps 0 b xs) xs → after ≡ settled now xs (map b xs) → Decides now caps xs after
+    → AllByRecursion (Holds now caps 0 b xs) xs → after ≡ with_moments now xs (map b xs) → Decides now caps xs after
 decides_by_choice now o caps b xs after holds e =
     let marks : map b xs ≡ marks_of after = sym (ap marks_of e ∙ marks_of-settled now b xs) in
     record {
       decision = subst (λ (ms : List Bool). IsDecision now caps xs ms) marks (decision_from_holds now caps b xs holds);
-      moments = e ∙ ap (settled now xs) marks;
+      moments = e ∙ ap (with_moments now xs) marks;
     }
 
 pub decided_decides : (now : ℕ) (o : IsImportanceOrder now) (caps : Caps) (xs : List Entry)

@@ -9,7 +9,7 @@ use Rattle.stream_importance.specs.declared.entry.Entry.{Entry}
 use Rattle.stream_importance.specs.declared.slope.Caps.{Caps}
 use Rattle.stream_importance.specs.Bandwidth.{cap_of}
 use Rattle.stream_importance.specs.Importance.{is_more_important, IsImportanceOrder}
-use Rattle.port_ledger.specs.Decision.{stream_of, entry_slope, is_preceded_by, above}
+use Rattle.port_ledger.specs.Decision.{stream_of, entry_slope, comes_after, above}
 
 -- what the chosen entries of one kind take, as a sum over all entries
 abbrev pub part : (Entry → Bool) → (Entry → Bool) → List Entry → ℕ
@@ -18,7 +18,7 @@ part b kind (e ∷ es) = cond (b e) (cond (kind e) (entry_slope e) 0) 0 + part b
 
 -- what of a chosen set goes before x
 abbrev pub total : (Entry → Bool) → ℕ → Entry → List Entry → ℕ
-total b now x = part b (is_preceded_by now x)
+total b now x = part b (comes_after now x)
 
 pub sum-filter-cons : (kind : Entry → Bool) (e : Entry) (es : List Entry)
     → sum_by entry_slope (filter kind (e ∷ es)) ≡ cond (kind e) (entry_slope e) 0 + sum_by entry_slope (filter kind es)
@@ -37,12 +37,12 @@ sum-filter b kind (e ∷ es) =
 
 pub above-filter : (b : Entry → Bool) (now : ℕ) (x : Entry) (es : List Entry)
     → above now x (filter b es) ≡ total b now x es
-above-filter b now x es = sum-filter b (is_preceded_by now x) es
+above-filter b now x es = sum-filter b (comes_after now x) es
 
 -- each entry goes before all later ones
 abbrev pub IsRanked : ℕ → List Entry → Type 0
 IsRanked now [] = Unit {0}
-IsRanked now (x ∷ xs) = AllByRecursion (λ y. is_preceded_by now y x ≡ true) xs × IsRanked now xs
+IsRanked now (x ∷ xs) = AllByRecursion (λ y. comes_after now y x ≡ true) xs × IsRanked now xs
 
 -- the chosen ones are those that a running sum lets in
 abbrev pub Runs : Caps → ℕ → (Entry → Bool) → List Entry → Type 0
@@ -60,14 +60,14 @@ all_with [] p q f = tt
 all_with (x ∷ xs) p q f = (f x p.0 q.0, all_with xs p.1 q.1 f)
 
 -- of two entries one goes before the other at most
-goes_one_way : (now : ℕ) (o : IsImportanceOrder now) (x y : Entry) → is_preceded_by now y x ≡ true
-    → is_preceded_by now x y ≡ false
+goes_one_way : (now : ℕ) (o : IsImportanceOrder now) (x y : Entry) → comes_after now y x ≡ true
+    → comes_after now x y ≡ false
 goes_one_way now o x y h =
     and_right (not (stream_of y == stream_of x)) (is_more_important now y x)
     (false_from_ne_true (is_more_important now y x)
     (λ k. o.strict x y (and_parts (not (stream_of x == stream_of y)) (is_more_important now x y) h).1 k))
 
-not_itself : (now : ℕ) (x : Entry) → is_preceded_by now x x ≡ false
+not_itself : (now : ℕ) (x : Entry) → comes_after now x x ≡ false
 not_itself now x =
     and_left (not (stream_of x == stream_of x)) (is_more_important now x x)
     (not_from_true (stream_of x == stream_of x) (eq-eqb (stream_of x) (stream_of x) refl))
@@ -83,46 +83,46 @@ weight-yes false g s h = refl
 
 -- nothing that goes after x goes before it
 total-none : (b : Entry → Bool) (now : ℕ) (o : IsImportanceOrder now) (x : Entry) (es : List Entry)
-    → AllByRecursion (λ y. is_preceded_by now y x ≡ true) es → total b now x es ≡ 0
+    → AllByRecursion (λ y. comes_after now y x ≡ true) es → total b now x es ≡ 0
 total-none b now o x [] h = refl
 total-none b now o x (e ∷ es) h =
-    let w : cond (b e) (cond (is_preceded_by now x e) (entry_slope e) 0) 0 ≡ 0 = weight-no (b e) (is_preceded_by now x e) (entry_slope e) (goes_one_way now o x e h.0) in
+    let w : cond (b e) (cond (comes_after now x e) (entry_slope e) 0) 0 ≡ 0 = weight-no (b e) (comes_after now x e) (entry_slope e) (goes_one_way now o x e h.0) in
     let r : total b now x es ≡ 0 = total-none b now o x es h.1 in
     omega (arith, w, r)
 
 -- at the head nothing goes before
 pub total-head : (b : Entry → Bool) (now : ℕ) (o : IsImportanceOrder now) (x : Entry) (xs : List Entry)
-    → AllByRecursion (λ y. is_preceded_by now y x ≡ true) xs → total b now x (x ∷ xs) ≡ 0
+    → AllByRecursion (λ y. comes_after now y x ≡ true) xs → total b now x (x ∷ xs) ≡ 0
 total-head b now o x xs h =
-    let w : cond (b x) (cond (is_preceded_by now x x) (entry_slope x) 0) 0 ≡ 0 = weight-no (b x) (is_preceded_by now x x) (entry_slope x) (not_itself now x) in
+    let w : cond (b x) (cond (comes_after now x x) (entry_slope x) 0) 0 ≡ 0 = weight-no (b x) (comes_after now x x) (entry_slope x) (not_itself now x) in
     let r : total b now x xs ≡ 0 = total-none b now o x xs h in
     omega (arith, w, r)
 
 -- further on the head counts where it is chosen
 pub total-tail : (b : Entry → Bool) (now : ℕ) (x y : Entry) (xs : List Entry) (sum : ℕ)
-    → is_preceded_by now y x ≡ true
+    → comes_after now y x ≡ true
     → sum + cond (b x) (entry_slope x) 0 + total b now y xs ≡ sum + total b now y (x ∷ xs)
 total-tail b now x y xs sum h =
-    let w : cond (b x) (cond (is_preceded_by now y x) (entry_slope x) 0) 0 ≡ cond (b x) (entry_slope x) 0 = weight-yes (b x) (is_preceded_by now y x) (entry_slope x) h in
+    let w : cond (b x) (cond (comes_after now y x) (entry_slope x) 0) 0 ≡ cond (b x) (entry_slope x) 0 = weight-yes (b x) (comes_after now y x) (entry_slope x) h in
     omega (arith, w)
 
 pub holds_from_runs : (now : ℕ) (o : IsImportanceOrder now) (caps : Caps) (sum : ℕ) (b : Entry → Bool) (xs : List Entry)
     → IsRanked now xs → Runs caps sum b xs → AllByRecursion (Holds now caps sum b xs) xs
-holds_from_runs now o caps sum b [] ranked runs = tt
-holds_from_runs now o caps sum b (x ∷ xs) ranked runs =
-    let none : sum ≡ sum + total b now x (x ∷ xs) = omega (arith, total-head b now o x xs ranked.0) in
+holds_from_runs now o caps sum b [] importance_order runs = tt
+holds_from_runs now o caps sum b (x ∷ xs) importance_order runs =
+    let none : sum ≡ sum + total b now x (x ∷ xs) = omega (arith, total-head b now o x xs importance_order.0) in
     let head : b x ≡ nat_le (sum + total b now x (x ∷ xs) + entry_slope x) (cap_of caps x.want.class) = runs.0 ∙ ap (λ n. nat_le (n + entry_slope x) (cap_of caps x.want.class)) none in
-    let rest : AllByRecursion (Holds now caps (sum + cond (b x) (entry_slope x) 0) b xs) xs = holds_from_runs now o caps (sum + cond (b x) (entry_slope x) 0) b xs ranked.1 runs.1 in
-    (head, all_with xs ranked.0 rest (λ y before h. h ∙ ap (λ n. nat_le (n + entry_slope y) (cap_of caps y.want.class)) (total-tail b now x y xs sum before)))
+    let rest : AllByRecursion (Holds now caps (sum + cond (b x) (entry_slope x) 0) b xs) xs = holds_from_runs now o caps (sum + cond (b x) (entry_slope x) 0) b xs importance_order.1 runs.1 in
+    (head, all_with xs importance_order.0 rest (λ y before h. h ∙ ap (λ n. nat_le (n + entry_slope y) (cap_of caps y.want.class)) (total-tail b now x y xs sum before)))
 
 pub runs_from_holds : (now : ℕ) (o : IsImportanceOrder now) (caps : Caps) (sum : ℕ) (b : Entry → Bool) (xs : List Entry)
     → IsRanked now xs → AllByRecursion (Holds now caps sum b xs) xs → Runs caps sum b xs
-runs_from_holds now o caps sum b [] ranked holds = tt
-runs_from_holds now o caps sum b (x ∷ xs) ranked holds =
-    let none : sum + total b now x (x ∷ xs) ≡ sum = omega (arith, total-head b now o x xs ranked.0) in
-    let rest : AllByRecursion (Holds now caps (sum + cond (b x) (entry_slope x) 0) b xs) xs = all_with xs ranked.0 holds.1 (λ y before h. h ∙ ap (λ n. nat_le (n + entry_slope y) (cap_of caps y.want.class)) (sym (total-tail b now x y xs sum before))) in (
+runs_from_holds now o caps sum b [] importance_order holds = tt
+runs_from_holds now o caps sum b (x ∷ xs) importance_order holds =
+    let none : sum + total b now x (x ∷ xs) ≡ sum = omega (arith, total-head b now o x xs importance_order.0) in
+    let rest : AllByRecursion (Holds now caps (sum + cond (b x) (entry_slope x) 0) b xs) xs = all_with xs importance_order.0 holds.1 (λ y before h. h ∙ ap (λ n. nat_le (n + entry_slope y) (cap_of caps y.want.class)) (sym (total-tail b now x y xs sum before))) in (
       holds.0 ∙ ap (λ n. nat_le (n + entry_slope x) (cap_of caps x.want.class)) none,
-      runs_from_holds now o caps (sum + cond (b x) (entry_slope x) 0) b xs ranked.1 rest,
+      runs_from_holds now o caps (sum + cond (b x) (entry_slope x) 0) b xs importance_order.1 rest,
     )
 
 -- a pass comes out in one way

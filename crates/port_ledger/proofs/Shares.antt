@@ -14,10 +14,10 @@ use Rattle.stream_importance.specs.declared.entry.Fit.TheVariants.{Fits, TooLitt
 use Rattle.stream_importance.specs.declared.slope.Caps.{Caps}
 use Rattle.stream_importance.specs.Bandwidth.{cap_of}
 use Rattle.stream_importance.specs.Importance.{class_number, rank_number, moment_or, is_more_important, IsImportanceOrder}
-use Rattle.port_ledger.specs.Decision.{stream_of, entry_slope, above, does_fit, is_preceded_by, is_booked, booked_of, marks_of, IsDecision, AreOfDifferentStreams}
+use Rattle.port_ledger.specs.Decision.{stream_of, entry_slope, above, does_fit, comes_after, is_booked, booked_of, marks_of, IsDecision, AreOfDifferentStreams}
 use Rattle.port_ledger.specs.Book.{Book, IsKept, IsFitWithin, booked_slope, code_of, fit_in}
 use Rattle.port_ledger.proofs.Running.{part, sum-filter, weight-no, weight-yes, IsRanked, Runs, all_with}
-use Rattle.port_ledger.specs.Pass.{ranked}
+use Rattle.port_ledger.specs.Pass.{importance_order}
 use Rattle.port_ledger.proofs.Ranking.{ranked_is_ranked, IsPermutation-ranked, part-IsPermutation}
 use Rattle.port_ledger.proofs.Marking.{choice, different_from_ascending, marked-map, marked-choice, holds_from_decision, ranked_runs}
 
@@ -53,7 +53,7 @@ runs_both caps sum b (x ∷ xs) shares h runs =
 
 -- after an entry of class B come only such
 not_a_after_b : (now : ℕ) (x y : Entry) (class other : Class) → x.want.class ≡ class → y.want.class ≡ other
-    → class ≡ B → is_preceded_by now y x ≡ true → other ≡ B
+    → class ≡ B → comes_after now y x ≡ true → other ≡ B
 not_a_after_b now x y class B e f g h = refl
 not_a_after_b now x y class A e f g h =
     let lt : is_more_important now x y ≡ true = (and_parts (not (stream_of x == stream_of y)) (is_more_important now x y) h).1 in
@@ -79,8 +79,8 @@ either_class B = inr refl
 
 runs_a : (now : ℕ) (caps : Caps) (sum : ℕ) (b : Entry → Bool) (xs : List Entry) → IsRanked now xs
     → sum ≤ caps.class_a → Runs caps sum b xs → sum + part b (is_of A) xs ≤ caps.class_a
-runs_a now caps sum b [] ranked h runs = omega (arith, h)
-runs_a now caps sum b (x ∷ xs) ranked h runs =
+runs_a now caps sum b [] importance_order h runs = omega (arith, h)
+runs_a now caps sum b (x ∷ xs) importance_order h runs =
     elim (either_class x.want.class) [
       | inl e ↦
           (let cap : cap_of caps x.want.class ≡ caps.class_a = ap (cap_of caps) e in
@@ -88,24 +88,24 @@ runs_a now caps sum b (x ∷ xs) ranked h runs =
           step_within (b x) sum (entry_slope x) (cap_of caps x.want.class) caps.class_a runs.0 (omega (arith, cap)) h in
           let w : cond (b x) (cond (is_of A x) (entry_slope x) 0) 0 ≡ cond (b x) (entry_slope x) 0 =
           weight-yes (b x) (is_of A x) (entry_slope x) (ap (λ c. class_number c == 0) e) in
-          omega (arith, w, runs_a now caps (sum + cond (b x) (entry_slope x) 0) b xs ranked.1 next runs.1))
+          omega (arith, w, runs_a now caps (sum + cond (b x) (entry_slope x) 0) b xs importance_order.1 next runs.1))
       | inr e ↦
           (let w : cond (b x) (cond (is_of A x) (entry_slope x) 0) 0 ≡ 0 =
           weight-no (b x) (is_of A x) (entry_slope x) (ap (λ c. class_number c == 0) e) in
           let rest : part b (is_of A) xs ≡ 0 =
-          none_of_a b xs (all_with xs ranked.0 ranked.0 (λ y before _. not_a_after_b now x y x.want.class y.want.class refl refl e before)) in
+          none_of_a b xs (all_with xs importance_order.0 importance_order.0 (λ y before _. not_a_after_b now x y x.want.class y.want.class refl refl e before)) in
           omega (arith, w, rest, h))
     ]
 
 -- the booked slopes of a class, in the order of importance
 booked_slope-ranked : (now : ℕ) (caps : Caps) (xs : List Entry) (class : Class)
     → IsDecision now caps xs (marks_of xs)
-    → booked_slope xs class ≡ part (choice now caps xs (marks_of xs)) (is_of class) (ranked now xs)
+    → booked_slope xs class ≡ part (choice now caps xs (marks_of xs)) (is_of class) (importance_order now xs)
 booked_slope-ranked now caps xs class d =
     let b : Entry → Bool = choice now caps xs (marks_of xs) in
     let set : booked_of xs ≡ filter b xs = sym (marked-map is_booked xs) ∙ marked-choice now caps xs (marks_of xs) d in
     ap (λ ys. sum_by entry_slope (filter (is_of class) ys)) set
-    ∙ (sum-filter b (is_of class) xs ∙ sym (part-IsPermutation b (is_of class) xs (ranked now xs) (IsPermutation-ranked now xs)))
+    ∙ (sum-filter b (is_of class) xs ∙ sym (part-IsPermutation b (is_of class) xs (importance_order now xs) (IsPermutation-ranked now xs)))
 
 pub record IsWithin (caps : Caps) (xs : List Entry) : Type 0 where
   pub class_a : booked_slope xs A ≤ caps.class_a
@@ -116,12 +116,12 @@ pub within_caps : (now : ℕ) (o : IsImportanceOrder now) (caps : Caps) (xs : Li
     → IsWithin caps xs
 within_caps now o caps xs different shares d =
     let b : Entry → Bool = choice now caps xs (marks_of xs) in
-    let runs : Runs caps 0 b (ranked now xs) = ranked_runs now o caps b xs different (holds_from_decision now caps xs (marks_of xs) d) in
-    let a : booked_slope xs A ≡ part b (is_of A) (ranked now xs) = booked_slope-ranked now caps xs A d in
-    let other : booked_slope xs B ≡ part b (is_of B) (ranked now xs) = booked_slope-ranked now caps xs B d in
+    let runs : Runs caps 0 b (importance_order now xs) = ranked_runs now o caps b xs different (holds_from_decision now caps xs (marks_of xs) d) in
+    let a : booked_slope xs A ≡ part b (is_of A) (importance_order now xs) = booked_slope-ranked now caps xs A d in
+    let other : booked_slope xs B ≡ part b (is_of B) (importance_order now xs) = booked_slope-ranked now caps xs B d in
     record {
-      class_a = omega (arith, a, runs_a now caps 0 b (ranked now xs) (ranked_is_ranked now o xs different) (omega arith) runs);
-      both = omega (arith, a, other, runs_both caps 0 b (ranked now xs) shares (omega arith) runs);
+      class_a = omega (arith, a, runs_a now caps 0 b (importance_order now xs) (ranked_is_ranked now o xs different) (omega arith) runs);
+      both = omega (arith, a, other, runs_both caps 0 b (importance_order now xs) shares (omega arith) runs);
     }
 
 pub book_within : (book : Book) → IsImportanceOrder book.moment → IsKept book → IsWithin book.caps book.entries
@@ -144,8 +144,8 @@ above_within : (now : ℕ) (x : Entry) (xs : List Entry)
 above_within now x xs =
     omega (
       arith,
-      part_within is_booked (is_preceded_by now x) xs,
-      sum-filter is_booked (is_preceded_by now x) xs,
+      part_within is_booked (comes_after now x) xs,
+      sum-filter is_booked (comes_after now x) xs,
       sum-filter is_booked (is_of A) xs,
       sum-filter is_booked (is_of B) xs,
     )

@@ -4,8 +4,8 @@ use Rattle.std.specs.List.{swap}
 use Rattle.std.proofs.lemmas.List.{drop_all, get_or_default}
 use borrow.Rule.Slice.PartMut.{mid_of, put_mid}
 use Rattle.stream_importance.specs.declared.entry.Entry.{Entry}
-use Rattle.port_ledger.specs.Decision.{is_preceded_by}
-use Rattle.port_ledger.specs.Pass.{place, place_first, ranked}
+use Rattle.port_ledger.specs.Decision.{comes_after}
+use Rattle.port_ledger.specs.Pass.{place, place_first, importance_order}
 
 -- an exchange behind the first entry
 swap_cons : (e : Entry) (xs : List Entry) (i j : ℕ) → i < length xs → j < length xs
@@ -17,7 +17,7 @@ swap_cons e (x ∷ xs) i j l k =
 
 -- the first entry, moved on by one
 pub sink_step : (now : ℕ) (xs : List Entry) (i : ℕ) (d : Entry) → suc i < length xs
-    → is_preceded_by now (get_or xs (suc i) d) (get_or xs i d) ≡ false
+    → comes_after now (get_or xs (suc i) d) (get_or xs i d) ≡ false
     → take i xs ++ place_first now (drop i xs) ≡ take (suc i) (swap xs i (suc i)) ++ place_first now (drop (suc i) (swap xs i (suc i)))
 sink_step now [] i d l h = absurd (omega (arith, l))
 sink_step now (x ∷ []) i d l h = absurd (omega (arith, l))
@@ -27,7 +27,7 @@ sink_step now (x ∷ y ∷ ys) (suc i) d l h =
     ∙ ap (λ zs. take (suc (suc i)) zs ++ place_first now (drop (suc (suc i)) zs)) (sym (swap_cons x (y ∷ ys) i (suc i) (omega (arith, l)) (omega (arith, l))))
 
 pub sink_done : (now : ℕ) (xs : List Entry) (i : ℕ) (d : Entry) → suc i < length xs
-    → is_preceded_by now (get_or xs (suc i) d) (get_or xs i d) ≡ true
+    → comes_after now (get_or xs (suc i) d) (get_or xs i d) ≡ true
     → take i xs ++ place_first now (drop i xs) ≡ xs
 sink_done now [] i d l h = absurd (omega (arith, l))
 sink_done now (x ∷ []) i d l h = absurd (omega (arith, l))
@@ -43,21 +43,21 @@ sink_end now (x ∷ xs) (suc i) l = ap (λ zs. x ∷ zs) (sink_end now xs i (ome
 
 -- one more entry goes to its place among those after it
 rank_more : (now n k : ℕ) (xs ys : List Entry) → n < length xs
-    → length (take (suc n) xs ++ ranked now (drop (suc n) xs)) ≤ n + k
-    → ys ≡ place_first now (take k (drop n (take (suc n) xs ++ ranked now (drop (suc n) xs))))
-    → take n (take (suc n) xs ++ ranked now (drop (suc n) xs)) ++ (ys ++ drop k (drop n (take (suc n) xs ++ ranked now (drop (suc n) xs))))
-    ≡ take n xs ++ ranked now (drop n xs)
+    → length (take (suc n) xs ++ importance_order now (drop (suc n) xs)) ≤ n + k
+    → ys ≡ place_first now (take k (drop n (take (suc n) xs ++ importance_order now (drop (suc n) xs))))
+    → take n (take (suc n) xs ++ importance_order now (drop (suc n) xs)) ++ (ys ++ drop k (drop n (take (suc n) xs ++ importance_order now (drop (suc n) xs))))
+    ≡ take n xs ++ importance_order now (drop n xs)
 rank_more now n k [] ys l long e = absurd (omega (arith, l))
 rank_more now zero k (x ∷ xs) ys l long e =
-    ap (λ zs. ys ++ zs) (drop_all k (x ∷ ranked now xs) (omega (arith, long)))
-    ∙ (append-nil ys ∙ (e ∙ ap (place_first now) (take_all k (x ∷ ranked now xs) (omega (arith, long)))))
+    ap (λ zs. ys ++ zs) (drop_all k (x ∷ importance_order now xs) (omega (arith, long)))
+    ∙ (append-nil ys ∙ (e ∙ ap (place_first now) (take_all k (x ∷ importance_order now xs) (omega (arith, long)))))
 rank_more now (suc n) k (x ∷ xs) ys l long e = ap (λ zs. x ∷ zs) (rank_more now n k xs ys (omega (arith, l)) (omega (arith, long)) e)
 
 pub rank_step : (now n : ℕ) (xs es ys : List Entry) → n < length xs
-    → es ≡ take (suc n) xs ++ ranked now (drop (suc n) xs)
+    → es ≡ take (suc n) xs ++ importance_order now (drop (suc n) xs)
     → ys ≡ place_first now (mid_of n (length es - n) es)
-    → put_mid n (length es - n) es ys ≡ take n xs ++ ranked now (drop n xs)
+    → put_mid n (length es - n) es ys ≡ take n xs ++ importance_order now (drop n xs)
 rank_step now n xs es ys l e h =
-    let whole : List Entry = take (suc n) xs ++ ranked now (drop (suc n) xs) in
-    subst (λ (zs : List Entry). ys ≡ place_first now (mid_of n (length zs - n) zs) → put_mid n (length zs - n) zs ys ≡ take n xs ++ ranked now (drop n xs)) (sym e)
+    let whole : List Entry = take (suc n) xs ++ importance_order now (drop (suc n) xs) in
+    subst (λ (zs : List Entry). ys ≡ place_first now (mid_of n (length zs - n) zs) → put_mid n (length zs - n) zs ys ≡ take n xs ++ importance_order now (drop n xs)) (sym e)
     (λ k. rank_more now n (length whole - n) xs ys l (omega arith) k) h

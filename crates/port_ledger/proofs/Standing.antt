@@ -12,7 +12,7 @@ use Rattle.stream_importance.specs.declared.entry.Entry.{Entry}
 use Rattle.stream_importance.specs.declared.slope.Caps.{Caps}
 use Rattle.stream_importance.specs.Bandwidth.{cap_of}
 use Rattle.stream_importance.specs.Importance.{class_number, rank_number, moment_or, is_more_important}
-use Rattle.port_ledger.specs.Decision.{stream_of, entry_slope, is_preceded_by, above, does_fit, marked, IsDecision, marks_of, since_after, settled, Decides}
+use Rattle.port_ledger.specs.Decision.{stream_of, entry_slope, comes_after, above, does_fit, marked_set, IsDecision, marks_of, since_after, with_moments, Decides}
 use Rattle.port_ledger.specs.Book.{Book, IsKept}
 use Rattle.port_ledger.proofs.Running.{sum-filter-cons}
 
@@ -61,7 +61,7 @@ left_out now x = record x { since = since_after now x.since false }
 
 -- the booked set is the same, with the moments
 marked-settled : (now : ℕ) (xs : List Entry) (marks : List Bool)
-    → marked (settled now xs marks) marks ≡ map (kept now) (marked xs marks)
+    → marked_set (with_moments now xs marks) marks ≡ map (kept now) (marked_set xs marks)
 marked-settled now [] marks = refl
 marked-settled now (x ∷ xs) [] = refl
 marked-settled now (x ∷ xs) (true ∷ marks) = ap (λ ys. kept now x ∷ ys) (marked-settled now xs marks)
@@ -72,16 +72,16 @@ above-kept : (now later : ℕ) (x : Entry) (set : List Entry)
     → above later (kept now x) (map (kept now) set) ≡ above now x set
 above-kept now later x [] = refl
 above-kept now later x (e ∷ es) =
-    sum-filter-cons (is_preceded_by later (kept now x)) (kept now e) (map (kept now) es)
-    ∙ (ap (λ n. cond (is_preceded_by now x e) (entry_slope e) 0 + n) (above-kept now later x es) ∙ sym (sum-filter-cons (is_preceded_by now x) e es))
+    sum-filter-cons (comes_after later (kept now x)) (kept now e) (map (kept now) es)
+    ∙ (ap (λ n. cond (comes_after now x e) (entry_slope e) 0 + n) (above-kept now later x es) ∙ sym (sum-filter-cons (comes_after now x) e es))
 
 weight_grows : (g h : Bool) (slope : ℕ) → (g ≡ true → h ≡ true) → cond g slope 0 ≤ cond h slope 0
 weight_grows true true slope f = omega arith
 weight_grows true false slope f = absurd (let k : false ≡ true = f refl in cc)
 weight_grows false h slope f = omega arith
 
-goes_still : (now later : ℕ) (x e : Entry) → moment_or now x.since ≤ later → is_preceded_by now x e ≡ true
-    → is_preceded_by later (left_out now x) (kept now e) ≡ true
+goes_still : (now later : ℕ) (x e : Entry) → moment_or now x.since ≤ later → comes_after now x e ≡ true
+    → comes_after later (left_out now x) (kept now e) ≡ true
 goes_still now later x e up h =
     let parts : (not (stream_of e == stream_of x) ≡ true) × (is_more_important now e x ≡ true) = and_parts (not (stream_of e == stream_of x)) (is_more_important now e x) h in
     and_from (not (stream_of e == stream_of x)) (is_more_important later (kept now e) (left_out now x)) parts.0
@@ -93,14 +93,14 @@ above_grows : (now later : ℕ) (x : Entry) (set : List Entry) → moment_or now
     → above now x set ≤ above later (left_out now x) (map (kept now) set)
 above_grows now later x [] up = omega arith
 above_grows now later x (e ∷ es) up =
-    let grows : cond (is_preceded_by now x e) (entry_slope e) 0 ≤ cond (is_preceded_by later (left_out now x) (kept now e)) (entry_slope e) 0 =
-    weight_grows (is_preceded_by now x e) (is_preceded_by later (left_out now x) (kept now e)) (entry_slope e) (goes_still now later x e up) in
+    let grows : cond (comes_after now x e) (entry_slope e) 0 ≤ cond (comes_after later (left_out now x) (kept now e)) (entry_slope e) 0 =
+    weight_grows (comes_after now x e) (comes_after later (left_out now x) (kept now e)) (entry_slope e) (goes_still now later x e up) in
     omega (
       arith,
       grows,
       above_grows now later x es up,
-      sum-filter-cons (is_preceded_by now x) e es,
-      sum-filter-cons (is_preceded_by later (left_out now x)) (kept now e) (map (kept now) es),
+      sum-filter-cons (comes_after now x) e es,
+      sum-filter-cons (comes_after later (left_out now x)) (kept now e) (map (kept now) es),
     )
 
 one_stands : (now later : ℕ) (caps : Caps) (set : List Entry) (x : Entry) (mark : Bool) → moment_or now x.since ≤ later → mark ≡ does_fit now caps set x → mark ≡ does_fit later caps (map (kept now) set) (record x { since = since_after now x.since mark })
@@ -111,7 +111,7 @@ one_stands now later caps set x false up h =
 
 fits_stand : (now later : ℕ) (caps : Caps) (set xs : List Entry) (marks : List Bool)
     → AllByRecursion (λ x. moment_or now x.since ≤ later) xs → marks ≡ map (does_fit now caps set) xs
-    → marks ≡ map (does_fit later caps (map (kept now) set)) (settled now xs marks)
+    → marks ≡ map (does_fit later caps (map (kept now) set)) (with_moments now xs marks)
 fits_stand now later caps set [] marks up h = h
 fits_stand now later caps set (x ∷ xs) [] up h = cc
 fits_stand now later caps set (x ∷ xs) (mark ∷ marks) up h =
@@ -122,20 +122,20 @@ fits_stand now later caps set (x ∷ xs) (mark ∷ marks) up h =
 
 pub decision_stands : (now later : ℕ) (caps : Caps) (xs : List Entry) (marks : List Bool)
     → AllByRecursion (λ x. moment_or now x.since ≤ later) xs → IsDecision now caps xs marks
-    → IsDecision later caps (settled now xs marks) marks
+    → IsDecision later caps (with_moments now xs marks) marks
 decision_stands now later caps xs marks up d =
-    fits_stand now later caps (marked xs marks) xs marks up d
-    ∙ ap (λ set. map (does_fit later caps set) (settled now xs marks)) (sym (marked-settled now xs marks))
+    fits_stand now later caps (marked_set xs marks) xs marks up d
+    ∙ ap (λ set. map (does_fit later caps set) (with_moments now xs marks)) (sym (marked-settled now xs marks))
 
 -- entries that are booked where they have a moment are settled already
 since_own : (now : ℕ) (since : Option Cs) → since_after now since (is_some since) ≡ since
 since_own now None = refl
 since_own now (Some moment) = refl
 
-pub settled-own : (now : ℕ) (xs : List Entry) → settled now xs (marks_of xs) ≡ xs
+pub settled-own : (now : ℕ) (xs : List Entry) → with_moments now xs (marks_of xs) ≡ xs
 settled-own now [] = refl
 settled-own now (x ∷ xs) =
-    ap (λ s. record x { since = s } ∷ settled now xs (marks_of xs)) (since_own now x.since) ∙ ap (λ ys. x ∷ ys) (settled-own now xs)
+    ap (λ s. record x { since = s } ∷ with_moments now xs (marks_of xs)) (since_own now x.since) ∙ ap (λ ys. x ∷ ys) (settled-own now xs)
 
 pub moments_before : (now later : ℕ) (xs : List Entry) → now ≤ later
     → AllByRecursion (λ x. moment_or now x.since ≤ now) xs

@@ -8,7 +8,7 @@ use Rattle.stream_importance.specs.declared.entry.Entry.{Entry}
 use Rattle.stream_importance.specs.declared.entry.Want.{Want}
 use Rattle.stream_importance.specs.declared.slope.Caps.{Caps}
 use Rattle.stream_importance.specs.Importance.{IsImportanceOrder}
-use Rattle.port_ledger.specs.Decision.{stream_of, does_fit, decided, decided_set, is_booked, booked_of, marks_of, settled, IsAscending, IsDecision}
+use Rattle.port_ledger.specs.Decision.{stream_of, does_fit, decided, decided_set, is_booked, booked_of, marks_of, with_moments, IsAscending, IsDecision}
 use Rattle.port_ledger.specs.Book.{Book, IsKept, clocked_book, entry_of, since_of, unwanted_book, want_of, wanted_book, without}
 use Rattle.port_ledger.specs.Pass.{has_same, has_want}
 use Rattle.port_ledger.proofs.Keeping.{ascending-without}
@@ -99,7 +99,7 @@ booked_hasnt s (x ∷ xs) h =
     either_false false b k = (refl, k)
 
 settled_has : (now : ℕ) (s : StreamId) (b : Entry → Bool) (xs : List Entry)
-    → has_stream s (settled now xs (map b xs)) ≡ has_stream s xs
+    → has_stream s (with_moments now xs (map b xs)) ≡ has_stream s xs
 settled_has now s b [] = refl
 settled_has now s b (x ∷ xs) = ap (λ v. (stream_of x == s.0) || v) (settled_has now s b xs)
 

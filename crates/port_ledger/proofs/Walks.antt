@@ -6,7 +6,7 @@ use Rattle.srp_base.specs.declared.numbers.StreamId.{StreamId}
 use Rattle.stream_importance.specs.declared.entry.Entry.{Entry}
 use Rattle.port_ledger.specs.Decision.{stream_of, is_booked, booked_of}
 use Rattle.port_ledger.specs.Book.{booked_only_in}
-use Rattle.port_ledger.specs.Pass.{noted, noted_below}
+use Rattle.port_ledger.specs.Pass.{booked_stream, noted_below}
 
 module _ (entries : List Entry) (i : ℕ) (d : Entry) (below : i < length entries) where
   abbrev rest : List Entry
@@ -30,28 +30,28 @@ module _ (entries : List Entry) (i : ℕ) (d : Entry) (below : i < length entrie
 
   -- ---- their streams
 
-  all-front : (x : Entry) (b : Bool) → is_booked x ≡ b → booked_only_in (x ∷ rest) [] ≡ noted x ++ booked_only_in rest []
+  all-front : (x : Entry) (b : Bool) → is_booked x ≡ b → booked_only_in (x ∷ rest) [] ≡ booked_stream x ++ booked_only_in rest []
   all-front x true e = rw e refl
   all-front x false e = rw e refl
 
-  pub all-more : (whole done new : List StreamId) → whole ≡ done ++ booked_only_in (drop i entries) [] → new ≡ done ++ noted (get_or entries i d) → whole ≡ new ++ booked_only_in (drop (i + 1) entries) []
+  pub all-more : (whole done new : List StreamId) → whole ≡ done ++ booked_only_in (drop i entries) [] → new ≡ done ++ booked_stream (get_or entries i d) → whole ≡ new ++ booked_only_in (drop (i + 1) entries) []
   all-more whole done new so_far more =
       so_far
       ∙ ap (λ l. done ++ l) (at_drop_more (λ l. booked_only_in l []) entries i d below ∙ all-front (get_or entries i d) (is_booked (get_or entries i d)) refl)
-      ∙ sym (append_assoc done (noted (get_or entries i d)) (booked_only_in rest []))
+      ∙ sym (append_assoc done (booked_stream (get_or entries i d)) (booked_only_in rest []))
       ∙ ap (λ l. l ++ booked_only_in rest []) (sym more)
 
-  below-front : (x : Entry) (stream : StreamId) → stream_of x < stream.0 → noted_below (x ∷ rest) stream ≡ noted x ++ noted_below rest stream
+  below-front : (x : Entry) (stream : StreamId) → stream_of x < stream.0 → noted_below (x ∷ rest) stream ≡ booked_stream x ++ noted_below rest stream
   below-front x stream less = rw (lt-ltb (stream_of x) stream.0 less) refl
 
   below-end : (x : Entry) (stream : StreamId) → stream.0 ≤ stream_of x → noted_below (x ∷ rest) stream ≡ []
   below-end x stream past = rw (le-ltb (stream_of x) stream.0 past) refl
 
-  pub below-more : (stream : StreamId) (whole done new : List StreamId) → whole ≡ done ++ noted_below (drop i entries) stream → stream_of (get_or entries i d) < stream.0 → new ≡ done ++ noted (get_or entries i d) → whole ≡ new ++ noted_below (drop (i + 1) entries) stream
+  pub below-more : (stream : StreamId) (whole done new : List StreamId) → whole ≡ done ++ noted_below (drop i entries) stream → stream_of (get_or entries i d) < stream.0 → new ≡ done ++ booked_stream (get_or entries i d) → whole ≡ new ++ noted_below (drop (i + 1) entries) stream
   below-more stream whole done new so_far less more =
       so_far
       ∙ ap (λ l. done ++ l) (at_drop_more (λ l. noted_below l stream) entries i d below ∙ below-front (get_or entries i d) stream less)
-      ∙ sym (append_assoc done (noted (get_or entries i d)) (noted_below rest stream))
+      ∙ sym (append_assoc done (booked_stream (get_or entries i d)) (noted_below rest stream))
       ∙ ap (λ l. l ++ noted_below rest stream) (sym more)
 
   pub below-ends : (stream : StreamId) (whole done : List StreamId) → whole ≡ done ++ noted_below (drop i entries) stream → stream.0 ≤ stream_of (get_or entries i d) → done ≡ whole

@@ -27,18 +27,18 @@ IsAscending [] = Unit {0}
 IsAscending (x ∷ xs) = AllByRecursion (λ y. stream_of x < stream_of y) xs × IsAscending xs
 
 -- the set that marks beside the entries mark
-abbrev pub marked : List Entry → List Bool → List Entry
-marked [] marks = []
-marked (x ∷ xs) [] = []
-marked (x ∷ xs) (mark ∷ marks) = if mark then x ∷ marked xs marks else marked xs marks
+abbrev pub marked_set : List Entry → List Bool → List Entry
+marked_set [] marks = []
+marked_set (x ∷ xs) [] = []
+marked_set (x ∷ xs) (mark ∷ marks) = if mark then x ∷ marked_set xs marks else marked_set xs marks
 
--- y precedes x: it is of another stream, and more important
-abbrev pub is_preceded_by : ℕ → Entry → Entry → Bool
-is_preceded_by now x y = not (stream_of y == stream_of x) && is_more_important now y x
+-- x comes after y, which is of another stream and more important
+abbrev pub comes_after : ℕ → Entry → Entry → Bool
+comes_after now x y = not (stream_of y == stream_of x) && is_more_important now y x
 
--- what the entries of a set that precede x take, in bit/s
+-- what the entries of a set that x comes after take, in bit/s
 abbrev pub above : ℕ → Entry → List Entry → ℕ
-above now x set = sum_by entry_slope (filter (is_preceded_by now x) set)
+above now x set = sum_by entry_slope (filter (comes_after now x) set)
 
 -- x fits in a set where these, with x's own slope, stay at or under the cap of x
 abbrev pub does_fit : ℕ → Caps → List Entry → Entry → Bool
@@ -46,7 +46,7 @@ does_fit now caps set x = nat_le (above now x set + entry_slope x) (cap_of caps 
 
 -- the marks of the decided set: an entry is marked exactly where it fits in the set that is marked
 abbrev pub IsDecision : ℕ → Caps → List Entry → List Bool → Type 0
-IsDecision now caps entries marks = marks ≡ map (does_fit now caps (marked entries marks)) entries
+IsDecision now caps entries marks = marks ≡ map (does_fit now caps (marked_set entries marks)) entries
 
 -- an entry is booked where it has a moment
 abbrev pub is_booked : Entry → Bool
@@ -66,15 +66,15 @@ since_after now since true = Some (record { 0 = moment_or now since })
 since_after now since false = None
 
 -- the entries with their moments after a decision
-abbrev pub settled : ℕ → List Entry → List Bool → List Entry
-settled now [] marks = []
-settled now (x ∷ xs) [] = []
-settled now (x ∷ xs) (mark ∷ marks) = record x { since = since_after now x.since mark } ∷ settled now xs marks
+abbrev pub with_moments : ℕ → List Entry → List Bool → List Entry
+with_moments now [] marks = []
+with_moments now (x ∷ xs) [] = []
+with_moments now (x ∷ xs) (mark ∷ marks) = record x { since = since_after now x.since mark } ∷ with_moments now xs marks
 
 -- a call that decides these entries at this moment leaves those
 pub record Decides (now : ℕ) (caps : Caps) (before after : List Entry) : Type 0 where
   pub decision : IsDecision now caps before (marks_of after)
-  pub moments : after ≡ settled now before (marks_of after)
+  pub moments : after ≡ with_moments now before (marks_of after)
 
 -- the set that rounds of judging come to: the first round finds the empty set, and each later one the entries
 -- that fit in the set before it
@@ -89,4 +89,4 @@ decided_set now caps entries = set_after (length entries) now caps entries
 
 -- the entries after a decision: those of the decided set keep their moment or get this one, others have none
 unfoldable pub decided : ℕ → Caps → List Entry → List Entry
-decided now caps entries = settled now entries (map (does_fit now caps (decided_set now caps entries)) entries)
+decided now caps entries = with_moments now entries (map (does_fit now caps (decided_set now caps entries)) entries)

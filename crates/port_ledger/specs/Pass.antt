@@ -10,13 +10,13 @@ use Rattle.stream_importance.specs.declared.entry.Entry.{Entry}
 use Rattle.stream_importance.specs.declared.entry.Want.{Want}
 use Rattle.stream_importance.specs.declared.slope.Caps.{Caps}
 use Rattle.stream_importance.specs.Bandwidth.{cap_of}
-use Rattle.port_ledger.specs.Decision.{stream_of, entry_slope, is_booked, is_preceded_by, since_after}
+use Rattle.port_ledger.specs.Decision.{stream_of, entry_slope, is_booked, comes_after, since_after}
 use Rattle.port_ledger.specs.Book.{entry_of, entry_with, is_normal, same_entry, same_want, unbooked}
 
 -- an entry among entries in the order of importance: before the first that it precedes
 abbrev pub place : ℕ → Entry → List Entry → List Entry
 place now x [] = x ∷ []
-place now x (y ∷ ys) = if is_preceded_by now y x then x ∷ y ∷ ys else y ∷ place now x ys
+place now x (y ∷ ys) = if comes_after now y x then x ∷ y ∷ ys else y ∷ place now x ys
 
 -- the first entry among the others, which are in the order of importance
 abbrev pub place_first : ℕ → List Entry → List Entry
@@ -24,9 +24,9 @@ place_first now [] = []
 place_first now (x ∷ xs) = place now x xs
 
 -- the entries in the order of importance
-abbrev pub ranked : ℕ → List Entry → List Entry
-ranked now [] = []
-ranked now (x ∷ xs) = place now x (ranked now xs)
+abbrev pub importance_order : ℕ → List Entry → List Entry
+importance_order now [] = []
+importance_order now (x ∷ xs) = place now x (importance_order now xs)
 
 -- beside a sum that is taken already there is room for an entry
 abbrev pub has_room : Caps → ℕ → Entry → Bool
@@ -37,11 +37,11 @@ abbrev pub sum_with : ℕ → Entry → Bool → ℕ
 sum_with sum x let_in = if let_in then sum + entry_slope x else sum
 
 -- the entries with the moments that one pass gives them, beside a sum that is taken already
-abbrev pub passed : ℕ → Caps → ℕ → List Entry → List Entry
-passed now caps sum [] = []
-passed now caps sum (x ∷ xs) =
+abbrev pub entries_passed : ℕ → Caps → ℕ → List Entry → List Entry
+entries_passed now caps sum [] = []
+entries_passed now caps sum (x ∷ xs) =
     record x { since = since_after now x.since (has_room caps sum x) }
-    ∷ passed now caps (sum_with sum x (has_room caps sum x)) xs
+    ∷ entries_passed now caps (sum_with sum x (has_room caps sum x)) xs
 
 -- these entries, with that moment at the stream of an entry
 abbrev pub with_since : List Entry → Entry → Option Cs → List Entry
@@ -77,13 +77,13 @@ abbrev pub order_with : List Entry → Want → Bool → List Entry
 order_with order want known = if known then rewanted order want else order ++ unbooked want ∷ []
 
 -- the stream of an entry that is booked
-abbrev pub noted : Entry → List StreamId
-noted x = if is_booked x then x.want.stream ∷ [] else []
+abbrev pub booked_stream : Entry → List StreamId
+booked_stream x = if is_booked x then x.want.stream ∷ [] else []
 
 -- the streams of the booked entries up to the first entry that isn't below a stream
 abbrev pub noted_below : List Entry → StreamId → List StreamId
 noted_below [] stream = []
-noted_below (x ∷ xs) stream = if nat_lt (stream_of x) stream.0 then noted x ++ noted_below xs stream else []
+noted_below (x ∷ xs) stream = if nat_lt (stream_of x) stream.0 then booked_stream x ++ noted_below xs stream else []
 
 -- the entries from the first on that isn't below a stream
 abbrev pub from_stream : List Entry → StreamId → List Entry
@@ -97,7 +97,7 @@ begins_with (y ∷ ys) x = same_entry x y
 
 -- the slope of y in bit/s, where it is booked and precedes x, else 0
 abbrev pub slope_before : ℕ → Entry → Entry → ℕ
-slope_before now x y = if is_booked y then (if is_preceded_by now x y then entry_slope y else 0) else 0
+slope_before now x y = if is_booked y then (if comes_after now x y then entry_slope y else 0) else 0
 
 -- the same, where y is of rank 1 too
 abbrev pub normal_slope_before : ℕ → Entry → Entry → ℕ

@@ -3,14 +3,14 @@
 ghost use Rattle.std.specs.Prelude.{◌≡◌, ◌<◌, ◌++◌, [], length, drop, IfOk, OnOk};
 ghost use Rattle.port_ledger.specs.Book.{booked_only_in, same_entry};
 ghost use Rattle.port_ledger.specs.Decision.{IsAscending};
-ghost use Rattle.port_ledger.specs.Pass.{begins_with, from_stream, noted, noted_below};
+ghost use Rattle.port_ledger.specs.Pass.{begins_with, from_stream, booked_stream, noted_below};
 
 use srp_base::{NoMemory, Seq, StreamId};
 use std::alloc::Global;
 use stream_importance::Entry;
 
 /// What a call changed in the booked set, each list ascending.
-#[derive(Debug, PartialEq, Eq, Drop)]
+#[derive(PartialEq, Eq, Drop)]
 pub struct Changed {
     /// The streams whose booking, with its want and its moment, is new.
     pub booked: Seq<StreamId>,
@@ -59,7 +59,7 @@ pub(crate) fn changes(alloc: Global, before: &[Entry], after: &[Entry]) -> Resul
 
 /// Adds the stream of an entry that is booked.
 fn note(streams: &mut Vec<StreamId>, x: &Entry) -> Result<(), NoMemory>
-    ensures { OnOk result (streams.new.items ≡ streams.old.items ++ noted x.now) }
+    ensures { OnOk result (streams.new.items ≡ streams.old.items ++ booked_stream x.now) }
 {
     if x.since.is_some() {
         streams.push(x.want.stream)?;

@@ -5,7 +5,7 @@ ghost use Rattle.std.specs.Prelude.{◌≡◌, ◌+◌, ◌≤◌, true, IfOk, I
 ghost use Rattle.std.specs.List.{AllByRecursion};
 ghost use Rattle.port_ledger.specs.Book.{same_since, with_want, without};
 ghost use Rattle.port_ledger.specs.Decision.{AreOfDifferentStreams, decided, IsAscending, since_after};
-ghost use Rattle.port_ledger.specs.Pass.{has_room, IsOnlyIn, passed, passed_in, sum_with, with_since};
+ghost use Rattle.port_ledger.specs.Pass.{has_room, IsOnlyIn, entries_passed, passed_in, sum_with, with_since};
 ghost use Rattle.stream_importance.specs.Bandwidth.{cap_of};
 
 use crate::entries::{entries_with, find_entry, place_of, take_out};
@@ -82,7 +82,7 @@ fn pass(now: Cs, caps: &Caps, order: &mut [Entry], entries: &mut [Entry])
     requires ascending { IsAscending entries.old }
     requires different { AreOfDifferentStreams order.old }
     requires same { AllByRecursion (IsOnlyIn entries.old) order.old }
-    ensures order { order.new ≡ passed now.0 caps.now 0 order.old }
+    ensures order { order.new ≡ entries_passed now.0 caps.now 0 order.old }
     ensures entries { entries.new ≡ passed_in now.0 caps.now 0 order.old entries.old }
 {
     let mut sum: u64 = 0;

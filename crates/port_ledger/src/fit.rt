@@ -3,7 +3,7 @@
 ghost use Rattle.std.specs.Prelude.{◌≡◌, ◌+◌, nat_le, filter};
 ghost use Rattle.port_ledger.specs.Book.{code_of, fit_in, is_normal, since_if_same, tested_as};
 ghost use Rattle.port_ledger.specs.Pass.{normal_slope_before, slope_before};
-ghost use Rattle.port_ledger.specs.Decision.{above, booked_of, is_preceded_by, IsAscending};
+ghost use Rattle.port_ledger.specs.Decision.{above, booked_of, comes_after, IsAscending};
 
 use crate::entries::find_entry;
 use srp_base::{Cs, Rank};
@@ -87,7 +87,7 @@ fn above_of_rank_1(now: Cs, x: &Entry, entries: &[Entry]) -> u128
 fn slope_before(now: Cs, x: &Entry, y: &Entry) -> u64
     ensures { result ≡ slope_before now.0 x.now y.now }
 {
-    if y.since.is_some() && is_preceded_by(now, x, y) {
+    if y.since.is_some() && comes_after(now, x, y) {
         y.want.slope
     } else {
         0
@@ -105,8 +105,8 @@ fn normal_slope_before(now: Cs, x: &Entry, y: &Entry) -> u64
     }
 }
 
-pub(crate) fn is_preceded_by(now: Cs, x: &Entry, y: &Entry) -> bool
-    ensures { result ≡ is_preceded_by now.0 x.now y.now }
+pub(crate) fn comes_after(now: Cs, x: &Entry, y: &Entry) -> bool
+    ensures { result ≡ comes_after now.0 x.now y.now }
 {
     y.want.stream != x.want.stream && more_important(now, y, x)
 }

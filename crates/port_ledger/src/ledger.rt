@@ -23,7 +23,7 @@ use stream_importance::{Caps, Entry, Fit, Want, importance_is_an_order};
 
 /// The streams that want one egress port, and which of them are booked. Contracts see the caps, the
 /// moment, and the entries, ascending by StreamID.
-#[derive(Debug, Drop)]
+#[derive(Drop)]
 pub struct Ledger {
     caps: Caps,
     moment: Cs,

@@ -1,10 +1,10 @@
 //! The wanting streams in the order of importance, as they are kept between two decisions.
 
 ghost use Rattle.std.specs.Prelude.{◌≡◌, IfOk};
-ghost use Rattle.port_ledger.specs.Pass.{order_with, place_first, ranked, rewanted};
+ghost use Rattle.port_ledger.specs.Pass.{order_with, place_first, importance_order, rewanted};
 
 use crate::entries::{copy_of, entry_with};
-use crate::fit::is_preceded_by;
+use crate::fit::comes_after;
 use srp_base::{Cs, NoMemory};
 use std::alloc::Global;
 use stream_importance::{Entry, Want};
@@ -40,7 +40,7 @@ fn rewant(entries: &mut [Entry], want: Want)
 /// Puts the entries into the order of importance at a moment. It takes one look at each where they are in it
 /// already, as they mostly are.
 pub(crate) fn rank(now: Cs, entries: &mut [Entry])
-    ensures { entries.new ≡ ranked now.0 entries.old }
+    ensures { entries.new ≡ importance_order now.0 entries.old }
 {
     let mut rest = entries.len();
     while rest > 0 {
@@ -54,7 +54,7 @@ fn place_first(now: Cs, entries: &mut [Entry])
     ensures { entries.new ≡ place_first now.0 entries.old }
 {
     for at in 1..entries.len() {
-        if is_preceded_by(now, &entries[at], &entries[at - 1]) {
+        if comes_after(now, &entries[at], &entries[at - 1]) {
             return;
         }
         entries.swap(at - 1, at);

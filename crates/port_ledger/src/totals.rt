@@ -9,7 +9,7 @@ use srp_base::{Class, Cs};
 use stream_importance::Entry;
 
 /// The booked slopes of each class together, in bit/s, and whether some booking is of the ledger's moment.
-#[derive(Clone, Copy, Debug)]
+#[derive(Clone, Copy)]
 pub(crate) struct Totals {
     pub class_a: u64,
     pub class_b: u64,

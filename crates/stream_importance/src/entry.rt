@@ -4,7 +4,7 @@ use srp_base::{Class, Cs, Rank, StreamId};
 
 /// What one stream wants of an egress port, by its TSpec and its PriorityAndRank (IEEE Std 802.1Q-2018,
 /// 35.2.2.8.4, 35.2.2.8.5).
-#[derive(Clone, Copy, Debug, PartialEq, Eq)]
+#[derive(Clone, Copy, PartialEq, Eq)]
 pub struct Want {
     /// The stream.
     pub stream: StreamId,
@@ -17,7 +17,7 @@ pub struct Want {
 }
 
 /// A want that a port keeps, with its booking.
-#[derive(Clone, Copy, Debug, PartialEq, Eq)]
+#[derive(Clone, Copy, PartialEq, Eq)]
 pub struct Entry {
     /// What is wanted.
     pub want: Want,
@@ -26,7 +26,7 @@ pub struct Entry {
 }
 
 /// Whether a want fits beside what a port has booked.
-#[derive(Clone, Copy, Debug, PartialEq, Eq)]
+#[derive(Clone, Copy, PartialEq, Eq)]
 pub enum Fit {
     /// It fits.
     Fits,

@@ -6,7 +6,7 @@ ghost use Rattle.stream_importance.specs.Bandwidth.{slope_of_frames, caps_of, ca
 use srp_base::{Class, Percent, Rate};
 
 /// What the booked slopes of an egress port may come to.
-#[derive(Clone, Copy, Debug, PartialEq, Eq)]
+#[derive(Clone, Copy, PartialEq, Eq)]
 pub struct Caps {
     /// Those of class A, in bit/s.
     pub class_a: u64,

@@ -1,19 +1,19 @@
 use Rattle.std.proofs.Common.{◌≡◌, ℕ, suc, ◌+◌, ◌-◌, ◌++◌, List, get_or, take, drop, false, true, ap, subst, ◌∙◌, arith, sym}
 use Rattle.std.specs.List.{swap}
 use Rattle.stream_importance.specs.declared.entry.Entry.{Entry}
-use Rattle.port_ledger.specs.Decision.{is_preceded_by}
+use Rattle.port_ledger.specs.Decision.{comes_after}
 use Rattle.port_ledger.specs.Pass.{place_first}
 use Rattle.port_ledger.proofs.Finding.{blank}
 use Rattle.port_ledger.proofs.Sinking.{sink_done, sink_end, sink_step}
 use Rattle.port_ledger.proofs.order.place_first.Goals as goal
 
-pub returns-then-is_preceded_by : goal.returns-then-is_preceded_by
-returns-then-is_preceded_by c =
+pub returns-then-comes_after : goal.returns-then-comes_after
+returns-then-comes_after c =
     let es : List Entry = c.loop-at.entries in
     let at : suc (c.loop-at.at - 1) ≡ c.loop-at.at = omega arith in
     sym (c.loop-at.invariant.1
     ∙ sink_done c.args.now.0 es (c.loop-at.at - 1) blank (omega (arith, c.loop-at.invariant.0))
-    (subst (λ (k : ℕ). is_preceded_by c.args.now.0 (get_or es k blank) (get_or es (c.loop-at.at - 1) blank) ≡ true) (sym at) (sym c.is_preceded_by.ensures ∙ c.if-is_preceded_by.true)))
+    (subst (λ (k : ℕ). comes_after c.args.now.0 (get_or es k blank) (get_or es (c.loop-at.at - 1) blank) ≡ true) (sym at) (sym c.comes_after.ensures ∙ c.if-comes_after.true)))
 
 pub loop-at-preserved : goal.loop-at-preserved
 loop-at-preserved c =
@@ -25,7 +25,7 @@ loop-at-preserved c =
       c.swap.ensures.len ∙ c.loop-at.invariant.0,
       c.loop-at.invariant.1
           ∙ sink_step c.args.now.0 es i blank (omega (arith, c.loop-at.invariant.0))
-          (subst (λ (k : ℕ). is_preceded_by c.args.now.0 (get_or es k blank) (get_or es i blank) ≡ false) (sym at) (sym c.is_preceded_by.ensures ∙ c.if-is_preceded_by.false))
+          (subst (λ (k : ℕ). comes_after c.args.now.0 (get_or es k blank) (get_or es i blank) ≡ false) (sym at) (sym c.comes_after.ensures ∙ c.if-comes_after.false))
           ∙ ap (λ zs. take (suc i) zs ++ place_first c.args.now.0 (drop (suc i) zs)) swapped
           ∙ ap (λ k. take k c.swap.new.self ++ place_first c.args.now.0 (drop k c.swap.new.self)) next,
     )
