@@ -1,5 +1,5 @@
 -- What a reader's error says, and what `decode` makes of it.
-use Rattle.std.proofs.Common.{◌≡◌, ℕ, ◌-◌, ◌≤◌, List, length, take, drop, Option, Result, Ok, Err, refl, ap, subst, ◌∙◌, arith}
+use Rattle.std.proofs.Common.{◌≡◌, ℕ, ◌-◌, ◌≤◌, List, length, take, Option, Result, Ok, Err, refl, ap, subst, ◌∙◌, arith}
 use Rattle.std.proofs.lemmas.Result.{MatchResult-at_ok, MatchResult-at_err}
 use Rattle.mrpdu_codec.specs.declared.error.DecodeErr.{DecodeErr}
 use Rattle.mrpdu_codec.specs.declared.error.DecodeErr.TheVariants as decode_errors
@@ -9,11 +9,11 @@ use Rattle.mrpdu_codec.specs.declared.form.AppForm.{AppForm}
 use Rattle.mrpdu_codec.specs.declared.form.TypeForm.{TypeForm}
 use Rattle.mrpdu_codec.specs.declared.pdu.Pdu.{Pdu}
 use Rattle.mrpdu_codec.specs.Raw.{pdu_in}
-use Rattle.mrpdu_codec.specs.ReadErr.{IsWithin, behind, placed}
-use Rattle.mrpdu_codec.specs.Reading.{AnswersAs}
+use Rattle.mrpdu_codec.specs.ReadErr.{IsWithin, placed}
+use Rattle.srp_base.specs.Results.{Gives}
 use Rattle.mrpdu_codec.specs.Grammar.{Spells, Breaks}
 use Rattle.mrpdu_codec.specs.ReadErr.{Fails}
-use Rattle.mrpdu_codec.specs.Reading.{region_at, known_at, pdu_at, placed_in, reading}
+use Rattle.mrpdu_codec.specs.Reading.{region_at, pdu_at, placed_in, reading, place_told}
 use Rattle.mrpdu_codec.proofs.ReadRegions.{region_left}
 use Rattle.mrpdu_codec.proofs.ReadMessages.{reading_holds}
 use Rattle.mrpdu_codec.proofs.SpelledMessages.{spells_reads, breaks_reads}
@@ -21,11 +21,6 @@ use Rattle.mrpdu_codec.proofs.SpelledMessages.{spells_reads, breaks_reads}
 pub region_within : (e : ReadErr) (row : Option TypeForm) (len size : ℕ) (octets : List ℕ) → Fails e (region_at row len size (take size octets)) → IsWithin e (length (take size octets))
 region_within errors.NoMemory row len size octets h = tt
 region_within (errors.Left left) row len size octets h = region_left row len size octets left h
-
-pub known_fails : (e : ReadErr) (row : Option TypeForm) (len size : ℕ) (octets : List ℕ) → Fails e (region_at row len size (take size octets)) → Fails (behind e (length (drop size octets))) (known_at row len size octets)
-unfolding known_at
-known_fails errors.NoMemory row len size octets h = tt
-known_fails (errors.Left left) row len size octets h = rw h refl
 
 -- ---- decode
 
@@ -82,6 +77,6 @@ breaks_reading form octets place b =
 
 -- ---- what `decode_in_place` answers
 
-pub answers_err : (e : ReadErr) (form : AppForm) (octets : List ℕ) (answer : DecodeErr) → Fails e (pdu_at form octets) → answer ≡ placed e (length octets) → AnswersAs pdu_in (Err answer) (reading form octets)
+pub answers_err : (e : ReadErr) (form : AppForm) (octets : List ℕ) (answer : DecodeErr) → Fails e (pdu_at form octets) → answer ≡ placed e (length octets) → Gives pdu_in place_told (Err answer) (reading form octets)
 answers_err errors.NoMemory form octets answer h k = rw k tt
 answers_err (errors.Left left) form octets answer h k = rw k (reading_err form octets left h)

@@ -6,28 +6,28 @@ use Rattle.std.specs.List.{flat_map, list_all}
 use Rattle.std.specs.Prelude.{IsErrAnd, IfOk}
 use Rattle.mrpdu_codec.specs.Tree.{AllUpTo}
 use Rattle.mrpdu_codec.specs.Grammar.{OctetBreaks}
-use Rattle.mrpdu_codec.specs.Reading.{run_at}
-use Rattle.mrpdu_codec.proofs.SpelledVectors.{run_reads, run_breaks}
+use Rattle.mrpdu_codec.specs.Reading.{packed_at}
+use Rattle.mrpdu_codec.proofs.SpelledVectors.{packed_reads, packed_stops}
 
-stops : (limit n i : ℕ) (octets : List ℕ) → i < n → i ≤ length octets → AllUpTo limit (take i octets) → OctetBreaks limit (drop i octets) → run_at limit n octets ≡ Err (length octets - i)
+stops : (limit n i : ℕ) (octets : List ℕ) → i < n → i ≤ length octets → AllUpTo limit (take i octets) → OctetBreaks limit (drop i octets) → packed_at limit n octets ≡ Err (length octets - i)
 stops limit n i octets lt le all h =
-    ap (λ (o : List ℕ). run_at limit n o) (sym (take-append-drop i octets))
-    ∙ run_breaks limit n (take i octets) (drop i octets) (omega (arith, length-take-le i octets le)) all h
+    ap (λ (o : List ℕ). packed_at limit n o) (sym (take-append-drop i octets))
+    ∙ packed_stops limit n (take i octets) (drop i octets) (omega (arith, length-take-le i octets le)) all h
     ∙ ap (λ (k : ℕ). let e : Result (List ℕ × List ℕ) ℕ = Err k in e) (length-drop i octets)
 
-pub run_ends : (limit n i : ℕ) (octets : List ℕ) → i < n → i ≡ length octets → AllUpTo limit (take i octets) → run_at limit n octets ≡ Err 0
-run_ends limit n i octets lt e all =
+pub packed_ends : (limit n i : ℕ) (octets : List ℕ) → i < n → i ≡ length octets → AllUpTo limit (take i octets) → packed_at limit n octets ≡ Err 0
+packed_ends limit n i octets lt e all =
     let none : length octets - i ≡ 0 = omega arith in
     let end : drop i octets ≡ [] = drop_all i octets (omega arith) in
     stops limit n i octets lt (omega arith) all (subst (λ (o : List ℕ). OctetBreaks limit o) (sym end) tt) ∙ ap (λ (k : ℕ). let e : Result (List ℕ × List ℕ) ℕ = Err k in e) none
 
-pub run_above : (limit n i : ℕ) (octets : List ℕ) → i < n → i < length octets → AllUpTo limit (take i octets) → limit < get_or octets i 0 → run_at limit n octets ≡ Err (length octets - i)
-run_above limit n i octets lt le all h =
+pub packed_above : (limit n i : ℕ) (octets : List ℕ) → i < n → i < length octets → AllUpTo limit (take i octets) → limit < get_or octets i 0 → packed_at limit n octets ≡ Err (length octets - i)
+packed_above limit n i octets lt le all h =
     stops limit n i octets lt (omega arith) all (subst (λ (o : List ℕ). OctetBreaks limit o) (sym (drop_more octets i 0 le)) h)
 
-pub run_whole : (limit n : ℕ) (octets : List ℕ) → n ≤ length octets → AllUpTo limit (take n octets) → run_at limit n octets ≡ Ok (take n octets, drop n octets)
-run_whole limit n octets le all =
-    ap (λ (o : List ℕ). run_at limit n o) (sym (take-append-drop n octets)) ∙ run_reads limit n (take n octets) (drop n octets) (length-take-le n octets le) all
+pub packed_whole : (limit n : ℕ) (octets : List ℕ) → n ≤ length octets → AllUpTo limit (take n octets) → packed_at limit n octets ≡ Ok (take n octets, drop n octets)
+packed_whole limit n octets le all =
+    ap (λ (o : List ℕ). packed_at limit n o) (sym (take-append-drop n octets)) ∙ packed_reads limit n (take n octets) (drop n octets) (length-take-le n octets le) all
 
 -- ---- the first n items of a list that grows
 

@@ -13,7 +13,7 @@ use Rattle.mrpdu_codec.specs.Tree.AttributeList.{Vectors, Skipped}
 use Rattle.mrpdu_codec.specs.Grammar.{EndMarkBreaks, ListLengthBreaks, ListBreaks, RegionBreaks, IsRegion, CountedBreaks, BodyBreaks}
 use Rattle.mrpdu_codec.specs.Grammar.RegionBreaks.{vector as region_vector, end_mark as region_mark, short as region_short}
 use Rattle.mrpdu_codec.specs.Grammar.CountedBreaks.{list_length as counted_length, region as counted_region, end_mark as counted_mark, skipped as counted_skipped}
-use Rattle.mrpdu_codec.specs.Reading.{before, ends_list, vectors_of, mark_at, list_at, region_at, known_at, skip_at, size_at, sized_at, counted_at, body_at}
+use Rattle.mrpdu_codec.specs.Reading.{before, ends_list, vectors_of, mark_at, list_at, region_at, known_at, unknown_at, size_at, sized_at, counted_at, body_at}
 use Rattle.std.proofs.lemmas.Result.{MatchResult-at_err}
 use Rattle.mrpdu_codec.proofs.Steps.{then_match, test_match, weaker_match, Broken}
 use Rattle.mrpdu_codec.proofs.ReadVectors.{TookVectors, vectors_match}
@@ -150,7 +150,7 @@ data KnownBreaks (t : TypeForm) (len size : ℕ) (front rest : List ℕ) : Type 
   at_mark : (vs : List Vector) → AreVectors (Some t) len vs → length (vectors_octets vs) ≡ size → front ≡ vectors_octets vs → EndMarkBreaks rest → KnownBreaks t len size front rest
 
 known_match : (t : TypeForm) (len size : ℕ) (octets : List ℕ)
-    → MatchResult (known_at (Some t) len size octets) (λ x. TookKnown t len size octets x.0 x.1) (λ left. Broken (KnownBreaks t len size) octets left)
+    → MatchResult (known_at t len size octets) (λ x. TookKnown t len size octets x.0 x.1) (λ left. Broken (KnownBreaks t len size) octets left)
 unfolding known_at
 known_match t len size octets =
     let region = take size octets in
@@ -199,9 +199,9 @@ record TookSkipped (size : ℕ) (octets rest : List ℕ) : Type 0 where
 two_of : (octets : List ℕ) → 2 ≤ length octets → take 2 octets ≡ [] → ⊥
 two_of octets h e = let l = ap length e in absurd (omega (arith, length-take 2 octets))
 
-skip_match : (size : ℕ) (octets : List ℕ) → MatchResult (skip_at size octets) (λ rest. TookSkipped size octets rest) (λ left. (left ≡ length octets) × ((length octets < size) ⊎ (length octets ≡ size + 1)))
-unfolding skip_at
-skip_match size octets =
+unknown_match : (size : ℕ) (octets : List ℕ) → MatchResult (unknown_at size octets) (λ rest. TookSkipped size octets rest) (λ left. (left ≡ length octets) × ((length octets < size) ⊎ (length octets ≡ size + 1)))
+unfolding unknown_at
+unknown_match size octets =
     test_match (leb (size + 2) (length octets)) _ _ _ _
     (λ good. let long = leb-true (size + 2) (length octets) good in
     let here : 2 ≤ length (drop size octets) = omega (arith, length-drop size octets) in
@@ -257,7 +257,7 @@ known_breaks t len octets size after s left b = go b.breaks where
 sized_match : (row : Option TypeForm) (len : ℕ) (octets : List ℕ) (size : ℕ) (after : List ℕ) → TookSize octets size after
     → MatchResult (sized_at row len size after) (λ x. TookBody Msrp row len octets x.0 x.1) (λ left. Broken (CountedBreaks row len) octets left)
 sized_match None len octets size after s =
-    then_match (skip_at size after) _ _ _ _ _ (skip_match size after)
+    then_match (unknown_at size after) _ _ _ _ _ (unknown_match size after)
     (λ rest k. record {
       list_length = s.high ∷ s.low ∷ [];
       list = Skipped k.skipped;
@@ -269,7 +269,7 @@ sized_match None len octets size after s =
     })
     (λ left h. record { front = s.high ∷ s.low ∷ []; rest = after; whole = s.whole; left_is = h.0; breaks = counted_skipped refl s.high s.low size s.counts refl h.1 })
 sized_match (Some t) len octets size after s =
-    weaker_match (known_at (Some t) len size after) _ _ _ _ (known_match t len size after)
+    weaker_match (known_at t len size after) _ _ _ _ (known_match t len size after)
     (λ x k. record {
       list_length = s.high ∷ s.low ∷ [];
       list = Vectors k.vs;

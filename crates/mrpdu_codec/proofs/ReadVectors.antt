@@ -9,7 +9,7 @@ use Rattle.mrpdu_codec.specs.Tree.{Vector, packed_limit, fours_for, header_fits,
 use Rattle.mrpdu_codec.specs.Grammar.{OctetBreaks, HeaderBreaks, VectorBreaks, ListBreaks}
 use Rattle.mrpdu_codec.specs.Grammar.ListBreaks.{vector as list_vector}
 use Rattle.mrpdu_codec.specs.Grammar.VectorBreaks.{header as header_breaks, first_value, packed as packed_breaks, four_packed}
-use Rattle.mrpdu_codec.specs.Reading.{run_at, header_at, first_at, vector_at, ends_list, vectors_at}
+use Rattle.mrpdu_codec.specs.Reading.{packed_at, header_at, first_at, vector_at, ends_list, vectors_at}
 use Rattle.mrpdu_codec.proofs.Longer.{vector_longer}
 use Rattle.mrpdu_codec.proofs.Steps.{then_match, test_match, Broken}
 
@@ -35,13 +35,13 @@ pub record RanOut (limit n : ℕ) (front rest : List ℕ) : Type 0 where
   pub each : AllUpTo limit front
   pub breaks : OctetBreaks limit rest
 
-pub run_match : (limit n : ℕ) (octets : List ℕ) → MatchResult (run_at limit n octets) (λ x. Ran limit n octets x.0 x.1) (λ left. Broken (RanOut limit n) octets left)
-unfolding run_at
-run_match limit zero octets = record { whole = refl; count = refl; each = tt }
-run_match limit (suc n) [] = record { front = []; rest = []; whole = refl; left_is = refl; breaks = record { short = omega arith; each = tt; breaks = tt } }
-run_match limit (suc n) (o ∷ rest) =
+pub packed_match : (limit n : ℕ) (octets : List ℕ) → MatchResult (packed_at limit n octets) (λ x. Ran limit n octets x.0 x.1) (λ left. Broken (RanOut limit n) octets left)
+unfolding packed_at
+packed_match limit zero octets = record { whole = refl; count = refl; each = tt }
+packed_match limit (suc n) [] = record { front = []; rest = []; whole = refl; left_is = refl; breaks = record { short = omega arith; each = tt; breaks = tt } }
+packed_match limit (suc n) (o ∷ rest) =
     test_match (leb o limit) _ _ _ _
-    (λ good. then_match (run_at limit n rest) _ _ _ _ _ (run_match limit n rest)
+    (λ good. then_match (packed_at limit n rest) _ _ _ _ _ (packed_match limit n rest)
     (λ x ran. record { whole = ap (λ (os : List ℕ). o ∷ os) ran.whole; count = ap suc ran.count; each = (leb-true o limit good, ran.each) })
     (λ left b. record {
       front = o ∷ b.front;
@@ -87,8 +87,8 @@ vector_match row len octets going =
     (λ head h. let some = above_zero octets head.0 head.1 head.2 going h.0 in
     let n : ℕ = number head.0 head.1 % 8192 in
     then_match (first_at len head.2) _ _ _ _ _ (first_match len head.2)
-    (λ first f. then_match (run_at (packed_limit row) (thirds n) first.1) _ _ _ _ _ (run_match (packed_limit row) (thirds n) first.1)
-    (λ packed p. then_match (run_at 255 (fours_for row n) packed.1) _ _ _ _ _ (run_match 255 (fours_for row n) packed.1)
+    (λ first f. then_match (packed_at (packed_limit row) (thirds n) first.1) _ _ _ _ _ (packed_match (packed_limit row) (thirds n) first.1)
+    (λ packed p. then_match (packed_at 255 (fours_for row n) packed.1) _ _ _ _ _ (packed_match 255 (fours_for row n) packed.1)
     (λ fours q. (
       record { no_mark = some; leave_all = h.1; first = f.1; three_packed = p.count; events = p.each; four_packed = q.count; params = q.each },
       whole4 octets head.0 head.1 head.2 first.0 first.1 packed.0 packed.1 fours.0 fours.1 h.0 f.0 p.whole q.whole,

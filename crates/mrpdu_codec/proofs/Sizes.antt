@@ -1,5 +1,5 @@
 -- How many octets the canonical spelling has.
-use Rattle.std.proofs.Common.{◌≡◌, ℕ, ◌+◌, ◌<◌, min, List, [], ◌∷◌, ◌++◌, length, get_or, take, map, refl, sym, ap, ◌∙◌, length-append, arith}
+use Rattle.std.proofs.Common.{◌≡◌, ℕ, ◌+◌, ◌<◌, List, [], ◌∷◌, ◌++◌, length, get_or, take, map, refl, sym, ap, ◌∙◌, length-append, arith}
 use Rattle.std.specs.List.{flat_map, sum_by}
 use Rattle.std.proofs.lemmas.List.{append-nil, map-append, take_more}
 use Rattle.std.proofs.lemmas.List.Sums.{sum_by-cons}
@@ -53,7 +53,3 @@ grows {A = A} f h xs i x lt e =
     ∙ ap (λ ys. flat_map f ys) (map-append h (take i xs) (x ∷ []))
     ∙ flat_map-append f (map h (take i xs)) (h x ∷ [])
     ∙ ap (λ (ys : List ℕ). flat_map f (map h (take i xs)) ++ ys) (append-nil (f (h x)))
-
--- a sum that stands still at its type's end
-pub size_more : (so_far one size limit : ℕ) (done more text : List ℕ) → so_far ≡ min (length done) limit → one ≡ min (length more) limit → text ≡ done ++ more → size ≡ min (so_far + one) limit → size ≡ min (length text) limit
-size_more so_far one size limit done more text p q e r = omega (arith, ap length e, length-append done more, p, q, r)

@@ -18,7 +18,7 @@ use Rattle.mrpdu_codec.specs.Grammar.CountedBreaks.{list_length as counted_lengt
 use Rattle.mrpdu_codec.specs.Grammar.MessageBreaks.{len as length_breaks, body as body_breaks_at}
 use Rattle.mrpdu_codec.specs.Grammar.PduBreaks.{version as version_breaks, first_type, later_type, message as message_breaks_at}
 use Rattle.srp_base.specs.Results.{◌>>=◌}
-use Rattle.mrpdu_codec.specs.Reading.{ends_list, vectors_of, mark_at, list_at, region_at, known_at, skip_at, size_at, sized_at, counted_at, body_at, length_at, message_at, end_at, messages_at, messages_of, version_at, first_type_at, pdu_at}
+use Rattle.mrpdu_codec.specs.Reading.{ends_list, vectors_of, mark_at, list_at, region_at, known_at, unknown_at, size_at, sized_at, counted_at, body_at, length_at, message_at, end_at, messages_at, messages_of, version_at, first_type_at, pdu_at}
 use Rattle.mrpdu_codec.proofs.Longer.{message_longer}
 use Rattle.mrpdu_codec.proofs.SpelledVectors.{of_reads, of_breaks}
 
@@ -81,7 +81,7 @@ region_breaks row len size front rest (region_short vs all front-is rest-is lt) 
     ∙ rw (all_reads row len vs all, lt-ltb (length (vectors_octets vs)) size (omega (arith, ap length front-is))) (ap (λ (n : ℕ). let e : Result (List VectorAttr) ℕ = Err n in e) (sym (ap length rest-is)))
 
 known_reads : (t : TypeForm) (len size : ℕ) (vs : List Vector) (mark rest : List ℕ) → AreVectors (Some t) len vs → length (vectors_octets vs) ≡ size → IsEndMark mark → (mark ≡ [] → rest ≡ [])
-    → known_at (Some t) len size (vectors_octets vs ++ (mark ++ rest)) ≡ Ok (map attr_of vs, rest)
+    → known_at t len size (vectors_octets vs ++ (mark ++ rest)) ≡ Ok (map attr_of vs, rest)
 unfolding known_at
 known_reads t len size vs mark rest all full is last =
     rw (take_at (vectors_octets vs) (mark ++ rest) size full, drop_at (vectors_octets vs) (mark ++ rest) size full, region_reads (Some t) len size vs all full, mark_reads mark rest is last) refl
@@ -93,35 +93,35 @@ cut size region beyond (inr (lt, none)) =
     (ap (λ (o : List ℕ). take size o) e ∙ take_all size region (omega arith), ap (λ (o : List ℕ). drop size o) e ∙ drop_all size region (omega arith) ∙ sym none)
 
 known_breaks : (t : TypeForm) (len size : ℕ) (part within beyond : List ℕ) → IsRegion size (part ++ within) beyond → RegionBreaks (Some t) len size part within
-    → known_at (Some t) len size ((part ++ within) ++ beyond) ≡ Err (length within + length beyond)
+    → known_at t len size ((part ++ within) ++ beyond) ≡ Err (length within + length beyond)
 unfolding known_at
 known_breaks t len size part within beyond is h =
     let c = cut size (part ++ within) beyond is in
     rw (c.0, c.1, region_breaks (Some t) len size part within h) refl
 
 known_mark_breaks : (t : TypeForm) (len size : ℕ) (vs : List Vector) (rest : List ℕ) → AreVectors (Some t) len vs → length (vectors_octets vs) ≡ size → EndMarkBreaks rest
-    → known_at (Some t) len size (vectors_octets vs ++ rest) ≡ Err (length rest)
+    → known_at t len size (vectors_octets vs ++ rest) ≡ Err (length rest)
 unfolding known_at
 known_mark_breaks t len size vs rest all full h =
     rw (take_at (vectors_octets vs) rest size full, drop_at (vectors_octets vs) rest size full, region_reads (Some t) len size vs all full, mark_breaks rest h) refl
 
 -- ---- an unknown type's region
 
-skip_reads : (size : ℕ) (skipped mark rest : List ℕ) → length skipped ≡ size → (mark ≡ []) ⊎ (length mark ≡ 2) → (mark ≡ [] → rest ≡ []) → skip_at size (skipped ++ (mark ++ rest)) ≡ Ok rest
-unfolding skip_at
-skip_reads size skipped mark rest full (inl e) last =
+unknown_reads : (size : ℕ) (skipped mark rest : List ℕ) → length skipped ≡ size → (mark ≡ []) ⊎ (length mark ≡ 2) → (mark ≡ [] → rest ≡ []) → unknown_at size (skipped ++ (mark ++ rest)) ≡ Ok rest
+unfolding unknown_at
+unknown_reads size skipped mark rest full (inl e) last =
     let all : skipped ++ (mark ++ rest) ≡ skipped = ap (λ (o : List ℕ). skipped ++ (o ++ rest)) e ∙ ap (λ (o : List ℕ). skipped ++ o) (last e) ∙ append-nil skipped in
-    ap (λ (o : List ℕ). skip_at size o) all ∙ rw (lt-leb (size + 2) (length skipped) (omega arith), eq-eqb (length skipped) size full, last e) refl
-skip_reads size skipped mark rest full (inr e) last =
+    ap (λ (o : List ℕ). unknown_at size o) all ∙ rw (lt-leb (size + 2) (length skipped) (omega arith), eq-eqb (length skipped) size full, last e) refl
+unknown_reads size skipped mark rest full (inr e) last =
     let text : skipped ++ (mark ++ rest) ≡ (skipped ++ mark) ++ rest = sym (append_assoc skipped mark rest) in
     let long : length (skipped ++ mark) ≡ size + 2 = omega (arith, length-append skipped mark) in
-    ap (λ (o : List ℕ). skip_at size o) text
+    ap (λ (o : List ℕ). unknown_at size o) text
     ∙ rw (le-leb (size + 2) (length ((skipped ++ mark) ++ rest)) (omega (arith, length-append (skipped ++ mark) rest)), drop_at (skipped ++ mark) rest (size + 2) long) refl
 
-skip_breaks : (size : ℕ) (octets : List ℕ) → (length octets < size) ⊎ (length octets ≡ size + 1) → skip_at size octets ≡ Err (length octets)
-unfolding skip_at
-skip_breaks size octets (inl h) = rw (lt-leb (size + 2) (length octets) (omega arith), ne_eqb (length octets) size (λ e. omega arith)) refl
-skip_breaks size octets (inr h) = rw (lt-leb (size + 2) (length octets) (omega arith), ne_eqb (length octets) size (λ e. omega arith)) refl
+unknown_breaks : (size : ℕ) (octets : List ℕ) → (length octets < size) ⊎ (length octets ≡ size + 1) → unknown_at size octets ≡ Err (length octets)
+unfolding unknown_at
+unknown_breaks size octets (inl h) = rw (lt-leb (size + 2) (length octets) (omega arith), ne_eqb (length octets) size (λ e. omega arith)) refl
+unknown_breaks size octets (inr h) = rw (lt-leb (size + 2) (length octets) (omega arith), ne_eqb (length octets) size (λ e. omega arith)) refl
 
 -- ---- MSRP's AttributeListLength
 
@@ -157,7 +157,7 @@ counted_breaks row len front rest (counted_mark t row-is high low vs all counts 
     ∙ known_mark_breaks t len (length (vectors_octets vs)) vs rest (subst (λ (r : Option TypeForm). AreVectors r len vs) row-is all) refl h
 counted_breaks row len front rest (counted_skipped row-is high low size counts front-is h) =
     ap (λ (o : List ℕ). counted_at row len (o ++ rest)) front-is ∙ counted_reads row len high low size rest counts
-    ∙ ap (λ (r : Option TypeForm). sized_at r len size rest) row-is ∙ rw (skip_breaks size rest h) refl
+    ∙ ap (λ (r : Option TypeForm). sized_at r len size rest) row-is ∙ rw (unknown_breaks size rest h) refl
 
 -- ---- the body of a Message
 
@@ -170,7 +170,7 @@ body_reads Mmrp row len list_length (Vectors vs) mark rest is last =
 body_reads Msrp (Some t) len (high ∷ low ∷ []) (Vectors vs) mark rest is last =
     counted_reads (Some t) len high low (length (vectors_octets vs)) (vectors_octets vs ++ (mark ++ rest)) is.0 ∙ known_reads t len (length (vectors_octets vs)) vs mark rest is.1 refl is.2 last
 body_reads Msrp None len (high ∷ low ∷ []) (Skipped skipped) mark rest is last =
-    counted_reads None len high low (length skipped) (skipped ++ (mark ++ rest)) is.0 ∙ rw (skip_reads (length skipped) skipped mark rest refl is.1 last) refl
+    counted_reads None len high low (length skipped) (skipped ++ (mark ++ rest)) is.0 ∙ rw (unknown_reads (length skipped) skipped mark rest refl is.1 last) refl
 body_reads Mvrp row len list_length (Skipped skipped) mark rest is last = absurd is
 body_reads Mmrp row len list_length (Skipped skipped) mark rest is last = absurd is
 body_reads Msrp (Some t) len list_length (Skipped skipped) mark rest is last = absurd is

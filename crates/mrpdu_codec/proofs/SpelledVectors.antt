@@ -9,23 +9,23 @@ use Rattle.mrpdu_codec.specs.Grammar.{OctetBreaks, HeaderBreaks, VectorBreaks, L
 use Rattle.mrpdu_codec.specs.Grammar.ListBreaks.{vector as list_vector}
 use Rattle.mrpdu_codec.specs.Grammar.VectorBreaks.{header as header_breaks, first_value, packed as packed_breaks, four_packed}
 use Rattle.srp_base.specs.Results.{◌>>=◌}
-use Rattle.mrpdu_codec.specs.Reading.{run_at, header_at, first_at, vector_at, ends_list, vectors_at, vectors_of}
+use Rattle.mrpdu_codec.specs.Reading.{packed_at, header_at, first_at, vector_at, ends_list, vectors_at, vectors_of}
 use Rattle.mrpdu_codec.proofs.Longer.{vector_longer}
 
 module _ (limit : ℕ) where
-  pub run_reads : (n : ℕ) (taken rest : List ℕ) → length taken ≡ n → AllUpTo limit taken → run_at limit n (taken ++ rest) ≡ Ok (taken, rest)
-  unfolding run_at
-  run_reads zero [] rest e all = refl
-  run_reads (suc n) [] rest e all = absurd (omega arith)
-  run_reads zero (o ∷ taken) rest e all = absurd (omega arith)
-  run_reads (suc n) (o ∷ taken) rest e all = rw (le-leb o limit all.0, run_reads n taken rest (omega arith) all.1) refl
+  pub packed_reads : (n : ℕ) (taken rest : List ℕ) → length taken ≡ n → AllUpTo limit taken → packed_at limit n (taken ++ rest) ≡ Ok (taken, rest)
+  unfolding packed_at
+  packed_reads zero [] rest e all = refl
+  packed_reads (suc n) [] rest e all = absurd (omega arith)
+  packed_reads zero (o ∷ taken) rest e all = absurd (omega arith)
+  packed_reads (suc n) (o ∷ taken) rest e all = rw (le-leb o limit all.0, packed_reads n taken rest (omega arith) all.1) refl
 
-  pub run_breaks : (n : ℕ) (front rest : List ℕ) → length front < n → AllUpTo limit front → OctetBreaks limit rest → run_at limit n (front ++ rest) ≡ Err (length rest)
-  unfolding run_at
-  run_breaks zero front rest short all h = absurd (omega arith)
-  run_breaks (suc n) [] [] short all h = refl
-  run_breaks (suc n) [] (o ∷ rest) short all h = rw (lt-leb o limit h) refl
-  run_breaks (suc n) (o ∷ front) rest short all h = rw (le-leb o limit all.0, run_breaks n front rest (omega arith) all.1 h) refl
+  pub packed_stops : (n : ℕ) (front rest : List ℕ) → length front < n → AllUpTo limit front → OctetBreaks limit rest → packed_at limit n (front ++ rest) ≡ Err (length rest)
+  unfolding packed_at
+  packed_stops zero front rest short all h = absurd (omega arith)
+  packed_stops (suc n) [] [] short all h = refl
+  packed_stops (suc n) [] (o ∷ rest) short all h = rw (lt-leb o limit h) refl
+  packed_stops (suc n) (o ∷ front) rest short all h = rw (le-leb o limit all.0, packed_stops n front rest (omega arith) all.1 h) refl
 
 first_reads : (len : ℕ) (first rest : List ℕ) → length first ≡ len → first_at len (first ++ rest) ≡ Ok (first, rest)
 unfolding first_at
@@ -55,8 +55,8 @@ vector_reads row len v rest is =
     ∙ rw (
       head_reads row v.high v.low (v.first ++ (v.three_packed ++ (v.four_packed ++ rest))) is.leave_all,
       first_reads len v.first (v.three_packed ++ (v.four_packed ++ rest)) is.first,
-      run_reads (packed_limit row) (thirds (count v)) v.three_packed (v.four_packed ++ rest) is.three_packed is.events,
-      run_reads 255 (fours_for row (count v)) v.four_packed rest is.four_packed is.params,
+      packed_reads (packed_limit row) (thirds (count v)) v.three_packed (v.four_packed ++ rest) is.three_packed is.events,
+      packed_reads 255 (fours_for row (count v)) v.four_packed rest is.four_packed is.params,
     ) refl
 
 pub vector_breaks : (row : Option TypeForm) (len : ℕ) (front rest : List ℕ) → VectorBreaks row len front rest → vector_at row len (front ++ rest) ≡ Err (length rest)
@@ -71,7 +71,7 @@ vector_breaks row len front rest (packed_breaks v fits some first all short fron
     ∙ rw (
       head_reads row v.high v.low (v.first ++ (v.three_packed ++ rest)) fits,
       first_reads len v.first (v.three_packed ++ rest) first,
-      run_breaks (packed_limit row) (thirds (count v)) v.three_packed rest short all h,
+      packed_stops (packed_limit row) (thirds (count v)) v.three_packed rest short all h,
     ) refl
 vector_breaks row len front rest (four_packed v fits some first all full all4 short front-is h) =
     ap (λ (o : List ℕ). vector_at row len (o ++ rest)) front-is
@@ -79,8 +79,8 @@ vector_breaks row len front rest (four_packed v fits some first all full all4 sh
     ∙ rw (
       head_reads row v.high v.low (v.first ++ (v.three_packed ++ (v.four_packed ++ rest))) fits,
       first_reads len v.first (v.three_packed ++ (v.four_packed ++ rest)) first,
-      run_reads (packed_limit row) (thirds (count v)) v.three_packed (v.four_packed ++ rest) full all,
-      run_breaks 255 (fours_for row (count v)) v.four_packed rest short all4 h,
+      packed_reads (packed_limit row) (thirds (count v)) v.three_packed (v.four_packed ++ rest) full all,
+      packed_stops 255 (fours_for row (count v)) v.four_packed rest short all4 h,
     ) refl
 
 -- ---- vectors up to an end

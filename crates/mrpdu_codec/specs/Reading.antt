@@ -1,7 +1,7 @@
 -- Reading from left to right: each reader answers a value and the octets after it, or how many octets are
 -- left from the first field on that breaks. That this is the grammar is proved of `decode`.
-use Rattle.std.specs.Prelude.{◌≡◌, ℕ, zero, suc, ◌+◌, ◌-◌, ◌%◌, Bool, true, false, List, [], ◌∷◌, ◌++◌, length, take, drop, Option, Some, None, Result, Ok, Err, nat_lt, nat_le, ◌==◌, if◌then◌else◌}
-use Rattle.srp_base.specs.Results.{◌>>=◌}
+use Rattle.std.specs.Prelude.{ℕ, zero, suc, ◌+◌, ◌-◌, ◌%◌, Bool, true, false, List, [], ◌∷◌, ◌++◌, length, take, drop, Option, Some, None, Result, Ok, Err, nat_lt, nat_le, ◌==◌, if◌then◌else◌}
+use Rattle.srp_base.specs.Results.{◌>>=◌, Gives}
 use Rattle.mrpdu_codec.specs.declared.error.DecodeErr.{DecodeErr}
 use Rattle.mrpdu_codec.specs.declared.error.DecodeErr.TheVariants as decode_errors
 use Rattle.mrpdu_codec.specs.declared.form.AppForm.{AppForm}
@@ -15,10 +15,10 @@ use Rattle.mrpdu_codec.specs.Types.{row_of}
 use Rattle.mrpdu_codec.specs.Tree.{Vector, packed_limit, fours_for, header_fits, attr_of, length_fits, messages_from}
 
 -- n octets, each at most limit and each a field of its own
-unfoldable pub run_at : ℕ → ℕ → List ℕ → Result (List ℕ × List ℕ) ℕ
-run_at limit zero octets = Ok ([], octets)
-run_at limit (suc n) [] = Err 0
-run_at limit (suc n) (o ∷ rest) = if nat_le o limit then (run_at limit n rest >>= λ x. Ok (o ∷ x.0, x.1)) else Err (suc (length rest))
+unfoldable pub packed_at : ℕ → ℕ → List ℕ → Result (List ℕ × List ℕ) ℕ
+packed_at limit zero octets = Ok ([], octets)
+packed_at limit (suc n) [] = Err 0
+packed_at limit (suc n) (o ∷ rest) = if nat_le o limit then (packed_at limit n rest >>= λ x. Ok (o ∷ x.0, x.1)) else Err (suc (length rest))
 
 -- the two octets of a header
 unfoldable pub header_at : Option TypeForm → List ℕ → Result (ℕ × ℕ × List ℕ) ℕ
@@ -35,8 +35,8 @@ unfoldable pub vector_at : Option TypeForm → ℕ → List ℕ → Result (Vect
 vector_at row len octets = do
   head ← header_at row octets
   first ← first_at len head.2
-  packed ← run_at (packed_limit row) (thirds (number head.0 head.1 % 8192)) first.1
-  fours ← run_at 255 (fours_for row (number head.0 head.1 % 8192)) packed.1
+  packed ← packed_at (packed_limit row) (thirds (number head.0 head.1 % 8192)) first.1
+  fours ← packed_at 255 (fours_for row (number head.0 head.1 % 8192)) packed.1
   Ok (record { high = head.0; low = head.1; first = first.0; three_packed = packed.0; four_packed = fours.0 }, fours.1)
 
 -- in a header's place, the octets end or an EndMark stands
@@ -81,15 +81,15 @@ before beyond (Ok x) = Ok x
 before beyond (Err left) = Err (left + beyond)
 
 -- the region of a known type, and its EndMark
-unfoldable pub known_at : Option TypeForm → ℕ → ℕ → List ℕ → Result (List VectorAttr × List ℕ) ℕ
-known_at row len size octets = do
-  attrs ← before (length (drop size octets)) (region_at row len size (take size octets))
+unfoldable pub known_at : TypeForm → ℕ → ℕ → List ℕ → Result (List VectorAttr × List ℕ) ℕ
+known_at t len size octets = do
+  attrs ← before (length (drop size octets)) (region_at (Some t) len size (take size octets))
   rest ← mark_at (drop size octets)
   Ok (attrs, rest)
 
 -- the octets of an unknown type
-unfoldable pub skip_at : ℕ → List ℕ → Result (List ℕ) ℕ
-skip_at size octets =
+unfoldable pub unknown_at : ℕ → List ℕ → Result (List ℕ) ℕ
+unknown_at size octets =
     if nat_le (size + 2) (length octets) then Ok (drop (size + 2) octets)
     else (if length octets == size then Ok [] else Err (length octets))
 
@@ -101,8 +101,8 @@ size_at (high ∷ low ∷ rest) = if nat_lt (number high low) 2 then Err (suc (s
 
 -- what AttributeListLength counts, and its EndMark
 abbrev pub sized_at : Option TypeForm → ℕ → ℕ → List ℕ → Result (List VectorAttr × List ℕ) ℕ
-sized_at None len size octets = skip_at size octets >>= λ rest. Ok ([], rest)
-sized_at (Some t) len size octets = known_at (Some t) len size octets
+sized_at None len size octets = unknown_at size octets >>= λ rest. Ok ([], rest)
+sized_at (Some t) len size octets = known_at t len size octets
 
 -- AttributeListLength, and what it counts
 unfoldable pub counted_at : Option TypeForm → ℕ → List ℕ → Result (List VectorAttr × List ℕ) ℕ
@@ -177,14 +177,11 @@ placed_in all (Err left) = Err (all - left)
 unfoldable pub reading : AppForm → List ℕ → Result Pdu ℕ
 reading form octets = placed_in (length octets) (pdu_at form octets)
 
--- What was answered is, seen by view, what the octets say, unless memory ran out.
-abbrev pub AnswersAs : {X A : Type 0} → (X → A) → Result X DecodeErr → Result A ℕ → Type 0
-AnswersAs view (Ok x) read = read ≡ Ok (view x)
-AnswersAs view (Err (decode_errors.Malformed place)) read = read ≡ Err place
-AnswersAs view (Err decode_errors.NoMemory) read = Unit {0}
+-- the place that a failure tells, which want of memory doesn't
+abbrev pub place_told : DecodeErr → Option ℕ
+place_told (decode_errors.Malformed place) = Some place
+place_told decode_errors.NoMemory = None
 
 -- What `decode` answered is what the octets say, unless memory ran out.
 abbrev pub Answers : {A : Type 0} → Result A DecodeErr → Result A ℕ → Type 0
-Answers (Ok x) read = read ≡ Ok x
-Answers (Err (decode_errors.Malformed place)) read = read ≡ Err place
-Answers (Err decode_errors.NoMemory) read = Unit {0}
+Answers answer read = Gives (λ x. x) place_told answer read

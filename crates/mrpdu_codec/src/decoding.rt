@@ -9,20 +9,19 @@ ghost use Rattle.mrpdu_codec.specs.declared.raw.RawPdu.{RawPdu};
 ghost use Rattle.mrpdu_codec.specs.Grammar.{Spells, Breaks};
 ghost use Rattle.mrpdu_codec.specs.Raw.{pdu_in};
 ghost use Rattle.mrpdu_codec.specs.ReadErr.{left_of};
-ghost use Rattle.mrpdu_codec.specs.Reading.{version_at, first_type_at, pdu_at, reading};
-ghost use Rattle.mrpdu_codec.specs.Reading.{Answers, AnswersAs};
+ghost use Rattle.mrpdu_codec.specs.Reading.{version_at, first_type_at, pdu_at, reading, place_told, Answers};
 ghost use Rattle.mrpdu_codec.specs.Shape.{has_form};
 
 use crate::error::{DecodeErr, ReadErr};
 use crate::form::AppForm;
-use crate::messages::messages;
+use crate::messages::read_messages;
 use crate::pdu::Pdu;
 use crate::raw::RawPdu;
 use std::alloc::Global;
 
 /// ProtocolVersion.
 #[tactic(auto, unfolding(crate::specs::Reading::version_at))]
-fn version(octets: &[u8]) -> Result<(u8, &[u8]), ReadErr>
+fn read_version(octets: &[u8]) -> Result<(u8, &[u8]), ReadErr>
     ensures { Gives (λ x. (x.0, x.1.now)) left_of result (version_at octets.now) }
 {
     match octets {
@@ -53,9 +52,9 @@ fn first_type(octets: &[u8]) -> Result<(), ReadErr>
 fn pdu(alloc: Global, form: AppForm, octets: &[u8]) -> Result<RawPdu<'_>, ReadErr>
     ensures { Gives pdu_in left_of result (pdu_at form octets.now) }
 {
-    let (version, rest) = version(octets)?;
+    let (version, rest) = read_version(octets)?;
     first_type(rest)?;
-    let messages = messages(alloc, form, rest)?;
+    let messages = read_messages(alloc, form, rest)?;
     Ok(RawPdu { version, messages })
 }
 
@@ -76,7 +75,7 @@ pub fn decode_in_place(alloc: Global, form: AppForm, octets: &[u8]) -> Result<Ra
         → result ≡ Err (DecodeErr.Malformed place) → Breaks form octets.now place }
 
     // Want of memory alone is free, as in `decode`.
-    ensures exact { AnswersAs pdu_in result (reading form octets.now) }
+    ensures exact { Gives pdu_in place_told result (reading form octets.now) }
 
     // Each Message has a type that the application knows, and vectors of the type's form.
     ensures formed { IfOk result (λ raw. IsTrue (list_all (has_form form) (pdu_in raw).messages)) }

@@ -29,7 +29,7 @@ impl From<NoMemory> for DecodeErr {
 }
 
 /// Why a reader gives nothing: what a reader answers, from which `decode` alone makes a place.
-#[derive(Clone, Copy, Debug)]
+#[derive(Clone, Copy)]
 pub(crate) enum ReadErr {
     /// A field is malformed, and so many octets are left from its first one on.
     Left(usize),

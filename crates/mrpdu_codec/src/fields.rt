@@ -5,7 +5,7 @@ ghost use Rattle.srp_base.specs.Results.{Gives};
 ghost use Rattle.mrpdu_codec.specs.Octets.{number, thirds, quarters};
 ghost use Rattle.mrpdu_codec.specs.Tree.{packed_limit, leave_all_limit, fours_for};
 ghost use Rattle.mrpdu_codec.specs.ReadErr.{left_of};
-ghost use Rattle.mrpdu_codec.specs.Reading.{run_at, header_at, first_at, vector_at, ends_list};
+ghost use Rattle.mrpdu_codec.specs.Reading.{packed_at, header_at, first_at, vector_at, ends_list};
 ghost use Rattle.mrpdu_codec.specs.Raw.{vector_in};
 
 use crate::error::ReadErr;
@@ -54,8 +54,8 @@ fn packed_limit(row: Option<TypeForm>) -> u8
     }
 }
 
-/// How many FourPackedEvents n values take.
-fn fours_for(row: Option<TypeForm>, n: usize) -> usize
+/// How many octets the FourPackedEvents of n values take.
+pub(crate) fn fours_for(row: Option<TypeForm>, n: usize) -> usize
     ensures { result ≡ fours_for row n }
 {
     match row {
@@ -84,7 +84,7 @@ fn header(octets: &[u8], row: Option<TypeForm>) -> Result<(u8, u8, &[u8]), ReadE
 
 /// A FirstValue.
 #[tactic(auto, unfolding(crate::specs::Reading::first_at))]
-fn first(octets: &[u8], len: usize) -> Result<(&[u8], &[u8]), ReadErr>
+fn read_first(octets: &[u8], len: usize) -> Result<(&[u8], &[u8]), ReadErr>
     ensures { Gives (λ x. (x.0.now, x.1.now)) left_of result (first_at len octets.now) }
 {
     if octets.len() < len {
@@ -94,8 +94,8 @@ fn first(octets: &[u8], len: usize) -> Result<(&[u8], &[u8]), ReadErr>
 }
 
 /// So many octets, each at most the limit.
-fn run(octets: &[u8], limit: u8, n: usize) -> Result<(&[u8], &[u8]), ReadErr>
-    ensures { Gives (λ x. (x.0.now, x.1.now)) left_of result (run_at limit n octets.now) }
+fn read_packed(octets: &[u8], limit: u8, n: usize) -> Result<(&[u8], &[u8]), ReadErr>
+    ensures { Gives (λ x. (x.0.now, x.1.now)) left_of result (packed_at limit n octets.now) }
 {
     for i in 0..n {
         if i == octets.len() {
@@ -119,9 +119,9 @@ pub(crate) fn raw_vector(
 {
     let (high, low, rest) = header(octets, row)?;
     let n = count(high, low);
-    let (first, rest) = first(rest, usize::from(len))?;
-    let (three_packed, rest) = run(rest, packed_limit(row), thirds(n))?;
-    let (four_packed, rest) = run(rest, 255, fours_for(row, n))?;
+    let (first, rest) = read_first(rest, usize::from(len))?;
+    let (three_packed, rest) = read_packed(rest, packed_limit(row), thirds(n))?;
+    let (four_packed, rest) = read_packed(rest, 255, fours_for(row, n))?;
     let raw = RawVector {
         high,
         low,

@@ -4,7 +4,7 @@ ghost use Rattle.std.specs.Prelude.{◌≡◌, false};
 
 /// The application whose MRPDUs are read or written: VLAN registration (IEEE Std 802.1Q-2018, clause
 /// 11), stream reservation (clause 35) or multiple MAC registration (10.12).
-#[derive(Clone, Copy, Debug, PartialEq, Eq)]
+#[derive(Clone, Copy, PartialEq, Eq)]
 pub enum AppForm {
     Mvrp,
     Msrp,
@@ -12,7 +12,7 @@ pub enum AppForm {
 }
 
 /// What the octets of an attribute type look like.
-#[derive(Clone, Copy, Debug, PartialEq, Eq)]
+#[derive(Clone, Copy, PartialEq, Eq)]
 pub struct TypeForm {
     /// The octets of a FirstValue (AttributeLength).
     pub length: u8,

@@ -5,7 +5,7 @@ ghost use Rattle.srp_base.specs.Results.{Gives};
 ghost use Rattle.mrpdu_codec.specs.Tree.{length_fits};
 ghost use Rattle.mrpdu_codec.specs.Raw.{attrs_in, message_in, messages_in};
 ghost use Rattle.mrpdu_codec.specs.ReadErr.{left_of, kept};
-ghost use Rattle.mrpdu_codec.specs.Reading.{region_at, known_at, skip_at, size_at, sized_at, counted_at, body_at, length_at, message_at, type_at, end_at, messages_of};
+ghost use Rattle.mrpdu_codec.specs.Reading.{region_at, known_at, unknown_at, size_at, sized_at, counted_at, body_at, length_at, message_at, type_at, end_at, messages_of};
 
 use crate::error::ReadErr;
 use crate::form::{AppForm, TypeForm};
@@ -46,7 +46,7 @@ fn cut(octets: &[u8], size: usize) -> (&[u8], &[u8])
 
 /// The vectors of a known type in MSRP, and the octets behind their EndMark.
 #[tactic(auto, unfolding(crate::specs::Reading::known_at))]
-fn known(
+fn read_known(
     alloc: Global,
     octets: &[u8],
     row: TypeForm,
@@ -54,7 +54,7 @@ fn known(
     size: usize,
 ) -> Result<(Vec<RawVector<'_>>, &[u8]), ReadErr>
     ensures { Gives (λ x. (attrs_in x.0.items, x.1.now)) left_of result
-        (known_at (Some row) len size octets.now) }
+        (known_at row len size octets.now) }
 {
     let (here, beyond) = cut(octets, size);
     match region(alloc, here, row, len, size) {
@@ -67,10 +67,10 @@ fn known(
 }
 
 /// Passes over the octets of an unknown type in MSRP.
-#[tactic(auto, unfolding(crate::specs::Reading::skip_at))]
-fn skip(octets: &[u8], size: usize) -> Result<&[u8], ReadErr>
+#[tactic(auto, unfolding(crate::specs::Reading::unknown_at))]
+fn pass_over(octets: &[u8], size: usize) -> Result<&[u8], ReadErr>
     requires { size < 65536 }
-    ensures { Gives (λ x. x.now) left_of result (skip_at size octets.now) }
+    ensures { Gives (λ x. x.now) left_of result (unknown_at size octets.now) }
 {
     if size + 2 <= octets.len() {
         return Ok(&octets[size + 2..]);
@@ -83,7 +83,7 @@ fn skip(octets: &[u8], size: usize) -> Result<&[u8], ReadErr>
 
 /// MSRP's AttributeListLength without the EndMark that it counts.
 #[tactic(auto, unfolding(crate::specs::Reading::size_at))]
-fn size(octets: &[u8]) -> Result<(usize, &[u8]), ReadErr>
+fn read_size(octets: &[u8]) -> Result<(usize, &[u8]), ReadErr>
     ensures size { Gives (λ x. (x.0, x.1.now)) left_of result (size_at octets.now) }
     ensures small { IfOk result (λ x. x.0 < 65536) }
 {
@@ -114,9 +114,9 @@ fn sized(
         (kept row (sized_at row len size octets.now)) }
 {
     match row {
-        Some(row) => known(alloc, octets, row, len, size),
+        Some(row) => read_known(alloc, octets, row, len, size),
         None => {
-            let rest = skip(octets, size)?;
+            let rest = pass_over(octets, size)?;
             Ok((Vec::new(alloc), rest))
         }
     }
@@ -133,7 +133,7 @@ fn counted(
     ensures { Gives (λ x. (attrs_in x.0.items, x.1.now)) left_of result
         (kept row (counted_at row len octets.now)) }
 {
-    let (size, rest) = size(octets)?;
+    let (size, rest) = read_size(octets)?;
     let (found, rest) = sized(alloc, rest, row, len, size)?;
     Ok((found, rest))
 }
@@ -185,7 +185,7 @@ fn attribute_length(octets: &[u8], row: Option<TypeForm>) -> Result<(u8, &[u8]),
 
 /// A Message after its AttributeType, if its type is known.
 #[tactic(auto, using(crate::proofs::Kept::message_kept))]
-fn message(
+fn read_message(
     alloc: Global,
     form: AppForm,
     kind: u8,
@@ -251,7 +251,7 @@ fn push_some<'a>(
 }
 
 /// The Messages of known types, up to the PDU's EndMark or the octets' end.
-pub(crate) fn messages(
+pub(crate) fn read_messages(
     alloc: Global,
     form: AppForm,
     octets: &[u8],
@@ -264,7 +264,7 @@ pub(crate) fn messages(
         match next_type(rest)? {
             None => return Ok(found),
             Some((kind, after)) => {
-                let (message, after) = message(alloc, form, kind, after)?;
+                let (message, after) = read_message(alloc, form, kind, after)?;
                 push_some(&mut found, message)?;
                 rest = after;
             }

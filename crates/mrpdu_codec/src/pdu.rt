@@ -5,7 +5,7 @@ ghost use Rattle.std.specs.Prelude.{◌≡◌};
 use srp_base::{MrpEvent, Seq};
 
 /// An MRPDU (IEEE Std 802.1Q-2018, 10.8.1.2).
-#[derive(Clone, Debug, PartialEq, Eq, Drop)]
+#[derive(Clone, PartialEq, Eq, Drop)]
 pub struct Pdu {
     /// ProtocolVersion. Any is read, and 0 is written.
     pub version: u8,
@@ -14,7 +14,7 @@ pub struct Pdu {
 }
 
 /// The attributes of one type.
-#[derive(Clone, Debug, PartialEq, Eq, Drop)]
+#[derive(Clone, PartialEq, Eq, Drop)]
 pub struct Message {
     /// AttributeType.
     pub kind: u8,
@@ -23,7 +23,7 @@ pub struct Message {
 }
 
 /// Consecutive values of a type, with an event for each (a VectorAttribute).
-#[derive(Clone, Debug, PartialEq, Eq, Drop)]
+#[derive(Clone, PartialEq, Eq, Drop)]
 pub struct VectorAttr {
     /// LeaveAllEvent.
     pub leave_all: bool,

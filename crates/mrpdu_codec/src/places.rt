@@ -6,11 +6,11 @@ ghost use Rattle.std.specs.Option.{option_map};
 ghost use Rattle.mrpdu_codec.specs.declared.form.AppForm.{AppForm};
 ghost use Rattle.mrpdu_codec.specs.declared.form.AppForm.TheVariants.{Mvrp, Msrp};
 ghost use Rattle.mrpdu_codec.specs.declared.pdu.Pdu.{Pdu};
-ghost use Rattle.mrpdu_codec.specs.Tree.{fours_for, MrpduTree, IsTree, tree_octets};
+ghost use Rattle.mrpdu_codec.specs.Tree.{MrpduTree, IsTree, tree_octets};
 ghost use Rattle.mrpdu_codec.specs.Grammar.{Spells};
 ghost use Rattle.mrpdu_codec.specs.Places.{span_of, header_in, places_in, behind_vectors, body_places, behind_body, known_places, kind_in, places_from, first_places, tree_places, place_of, AllStandAt};
 
-use crate::fields::{quarters, thirds};
+use crate::fields::{fours_for, thirds};
 use crate::form::{AppForm, TypeForm};
 use crate::numbers::number;
 
@@ -19,16 +19,6 @@ fn behind(octets: &[u8], n: usize) -> &[u8]
     ensures { result.now ≡ drop n octets.now }
 {
     octets.split_at(n.min(octets.len())).1
-}
-
-/// How many octets FourPackedEvents take.
-fn fours_for(row: Option<TypeForm>, n: usize) -> usize
-    ensures { result ≡ fours_for row n }
-{
-    match row {
-        Some(row) => { if row.four_packed { quarters(n) } else { 0 } }
-        None => 0,
-    }
 }
 
 /// How many octets a vector has behind its header.

@@ -4,7 +4,7 @@ ghost use Rattle.std.specs.Prelude.{◌≡◌};
 ghost use Rattle.msrp_codec.specs.AttributeType.{number_of_type, type_of};
 
 /// An AttributeType of MSRP (IEEE Std 802.1Q-2018, 35.2.2.4), numbered from 1 as they stand here.
-#[derive(Clone, Copy, Debug, PartialEq, Eq, PartialOrd, Ord)]
+#[derive(Clone, Copy, PartialEq, Eq, PartialOrd, Ord)]
 pub enum AttributeType {
     /// Talker Advertise.
     Advertise,

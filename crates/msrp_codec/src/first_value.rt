@@ -11,7 +11,7 @@ use mrpdu_codec::number_in;
 use srp_base::{BridgeId, Failure, Mac, Priority, Rank, StreamId, Talker};
 
 /// A FirstValue of MSRP (IEEE Std 802.1Q-2018, 35.2.2.8, 35.2.2.9).
-#[derive(Clone, Copy, Debug)]
+#[derive(Clone, Copy)]
 pub(crate) enum FirstValue {
     Advertise(Talker),
     Failed(Talker, Failure),

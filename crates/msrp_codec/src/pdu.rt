@@ -7,7 +7,7 @@ use crate::attribute_type::AttributeType;
 use srp_base::{Failure, ListenerKind, MrpEvent, Seq, StreamId, Talker};
 
 /// What a declaration is of. Keys are ordered as they stand here, and then by number.
-#[derive(Clone, Copy, Debug, PartialEq, Eq, PartialOrd, Ord)]
+#[derive(Clone, Copy, PartialEq, Eq, PartialOrd, Ord)]
 pub enum MsrpKey {
     /// The Talker of a stream, whether Talker Advertise or Talker Failed.
     Talker(StreamId),
@@ -18,7 +18,7 @@ pub enum MsrpKey {
 }
 
 /// What is declared.
-#[derive(Clone, Copy, Debug, PartialEq, Eq)]
+#[derive(Clone, Copy, PartialEq, Eq)]
 pub enum MsrpContent {
     /// Talker Advertise.
     Advertise(Talker),
@@ -36,7 +36,7 @@ pub enum MsrpContent {
 }
 
 /// What an MRPDU of MSRP says.
-#[derive(Clone, Debug, PartialEq, Eq, Drop)]
+#[derive(Clone, PartialEq, Eq, Drop)]
 pub struct MsrpPdu {
     /// Whether any vector has a LeaveAll, which counts for all keys and acts before all events.
     pub leave_all: bool,

@@ -3,7 +3,7 @@
 use srp_base::{MrpEvent, Seq, Vid};
 
 /// What an MRPDU of MVRP says.
-#[derive(Clone, Debug, PartialEq, Eq, Drop)]
+#[derive(Clone, PartialEq, Eq, Drop)]
 pub struct MvrpPdu {
     /// Whether any vector has a LeaveAll, which counts for all VIDs and acts before all events.
     pub leave_all: bool,

@@ -92,7 +92,7 @@ fn put_runs(
 }
 
 /// The events without their VIDs.
-fn alone(alloc: Global, events: &[(MrpEvent, Vid)]) -> Result<Vec<MrpEvent>, AllocError>
+fn events_alone(alloc: Global, events: &[(MrpEvent, Vid)]) -> Result<Vec<MrpEvent>, AllocError>
     ensures { IfOk result (λ v. v.items ≡ map (λ x. x.0) events.now) }
 {
     events.iter().map(|x| x.0).collect(alloc)
@@ -104,7 +104,7 @@ fn written(alloc: Global, leave_all: bool, events: &[(MrpEvent, Vid)]) -> Result
     ensures octets { IfOk result (λ v. v.items ≡ framed (runs_octets leave_all (runs events.now))) }
     ensures vids { OnOk result (AreVids events.now) }
 {
-    let alone = alone(alloc, events)?;
+    let alone = events_alone(alloc, events)?;
     let mut out = Vec::with_capacity(alloc, 11 + 5 * events.len())?;
     out.extend_from_slice(&[0, 1, 2])?;
     put_runs(&mut out, leave_all, events, &alone)?;

@@ -1,6 +1,6 @@
 use Rattle.std.proofs.Common.{Some}
 use Rattle.mrpdu_codec.proofs.ErrorLemmas.{region_within}
-use Rattle.mrpdu_codec.proofs.messages.known.Goals as goal
+use Rattle.mrpdu_codec.proofs.messages.read_known.Goals as goal
 
 pub behind-requires-clause-within : goal.behind-requires-clause-within
 behind-requires-clause-within c =

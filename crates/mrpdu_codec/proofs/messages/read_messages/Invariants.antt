@@ -2,7 +2,7 @@ use Rattle.std.proofs.Common.{◌≡◌, length, map}
 use Rattle.mrpdu_codec.specs.Raw.{message_in}
 use Rattle.mrpdu_codec.specs.Reading.{messages_of}
 use Rattle.mrpdu_codec.proofs.MessageLoops.{with_messages}
-use Rattle.mrpdu_codec.proofs.messages.messages.Given as goal
+use Rattle.mrpdu_codec.proofs.messages.read_messages.Given as goal
 
 abbrev pub invariant-more : goal.invariant-more
 invariant-more l = with_messages (map message_in l.found.items) (messages_of l.form l.rest) ≡ messages_of l.form l.octets
