@@ -14,6 +14,9 @@
 //! of something declared says a Lv, or rides on a LeaveAll: a plain Lv! in VP would go to VO in
 //! silence while an earlier Join may still be in flight, and leave the attribute registered at the
 //! neighbour for good. The table is this project's, after the standard's.
+//!
+//! A new state or event is a variant, a row or a column of `specs/Table.antt`, and its arms of `step`. What
+//! follows from the table alone, whoever stands on it, is a law in `laws`.
 #![tactic(auto)]
 
 pub mod laws;
@@ -25,7 +28,7 @@ ghost use Rattle.applicant.specs.Table.{table, declare_of, redeclare_of, withdra
 /// know: V very anxious, A anxious, Q quiet, L leaving. The second says what this side is: O observer, which
 /// declares nothing; P passive, which declares and hasn't said so; N new, which declares as new; A active,
 /// which has said what it declares.
-#[derive(Clone, Copy, Debug, PartialEq, Eq)]
+#[derive(Clone, Copy, PartialEq, Eq)]
 pub enum Applicant {
     Vo,
     Vp,
@@ -38,7 +41,7 @@ pub enum Applicant {
 
 /// What happens to an Applicant: a request of its user, a received event, or a transmission opportunity
 /// (IEEE Std 802.1Q-2018, 10.7.7; its names stand beside).
-#[derive(Clone, Copy, Debug, PartialEq, Eq)]
+#[derive(Clone, Copy, PartialEq, Eq)]
 pub enum AppEvent {
     /// New!
     NewReq,
@@ -65,7 +68,7 @@ pub enum AppEvent {
 }
 
 /// What an Applicant says of its attribute in the PDU that is being sent (IEEE Std 802.1Q-2018, 10.7.7).
-#[derive(Clone, Copy, Debug, PartialEq, Eq)]
+#[derive(Clone, Copy, PartialEq, Eq)]
 pub enum Say {
     Quiet,
     New,

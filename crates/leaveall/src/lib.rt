@@ -11,6 +11,9 @@
 //!
 //! `LeaveAll::step` is the table in `specs/Table.antt`. Its timer restarts at its own expiry and at a
 //! received LeaveAll; it is kept by the participant. `Periodic` keeps its own next moment.
+//!
+//! A new event is a variant, its cells of `specs/Table.antt`, and its arms of `step`; what restarts the timer
+//! stands there too.
 #![tactic(auto)]
 
 ghost use Rattle.std.specs.Prelude.{◌≡◌, ℕ, ◌+◌, ◌*◌, ◌/◌, ◌%◌, ◌^◌, ◌<◌, ◌≤◌};
@@ -19,14 +22,14 @@ ghost use Rattle.leaveall.specs.Table.{table, restarts, is_due, hundred_after};
 use srp_base::Cs;
 
 /// The states of the LeaveAll machine: Active where a LeaveAll is still to be sent.
-#[derive(Clone, Copy, Debug, PartialEq, Eq)]
+#[derive(Clone, Copy, PartialEq, Eq)]
 pub enum LeaveAll {
     Active,
     Passive,
 }
 
 /// What happens to the LeaveAll machine (IEEE Std 802.1Q-2018, 10.7.9; its names stand beside).
-#[derive(Clone, Copy, Debug, PartialEq, Eq)]
+#[derive(Clone, Copy, PartialEq, Eq)]
 pub enum LaEvent {
     /// leavealltimer!, the end of its timer
     Timer,
@@ -60,7 +63,7 @@ impl LeaveAll {
 }
 
 /// The periodic machine: whether it is on, and the next moment at which it fires, in cs.
-#[derive(Clone, Copy, Debug, PartialEq, Eq)]
+#[derive(Clone, Copy, PartialEq, Eq)]
 pub struct Periodic {
     pub on: bool,
     pub next: Cs,

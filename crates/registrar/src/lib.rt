@@ -9,6 +9,9 @@
 //! `Held`, `Leaving` and `Empty` are the standard's IN, LV and MT. An attribute is registered in IN
 //! and LV. `step` is one cell of the table in `specs/Table.antt`: the new state, and what its user is
 //! told. The leave timer itself is kept where the row is.
+//!
+//! A new event is a variant, a column of `specs/Table.antt`, and its arms of `step`. What follows from the
+//! table alone, whoever stands on it, is a law in `laws`.
 #![tactic(auto)]
 
 pub mod laws;
@@ -17,7 +20,7 @@ ghost use Rattle.std.specs.Prelude.{◌≡◌};
 ghost use Rattle.registrar.specs.Table.{table, is_registered_in, starts_leave_timer};
 
 /// The states: the standard's IN, LV and MT.
-#[derive(Clone, Copy, Debug, PartialEq, Eq)]
+#[derive(Clone, Copy, PartialEq, Eq)]
 pub enum Registrar {
     Held,
     Leaving,
@@ -26,7 +29,7 @@ pub enum Registrar {
 
 /// What happens to a Registrar: something received, an own LeaveAll sent, or the end of its leave timer
 /// (IEEE Std 802.1Q-2018, 10.7.8; its names stand beside).
-#[derive(Clone, Copy, Debug, PartialEq, Eq)]
+#[derive(Clone, Copy, PartialEq, Eq)]
 pub enum RegEvent {
     /// rNew!
     RxNew,
@@ -43,7 +46,7 @@ pub enum RegEvent {
 }
 
 /// What the user is told of its attribute (IEEE Std 802.1Q-2018, 10.7.8).
-#[derive(Clone, Copy, Debug, PartialEq, Eq)]
+#[derive(Clone, Copy, PartialEq, Eq)]
 pub enum Tell {
     Nothing,
     /// It wasn't registered and now is.
