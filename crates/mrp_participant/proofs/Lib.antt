@@ -8,6 +8,7 @@ pub mod EachKey
 pub mod Exits
 pub mod Flying
 pub mod Hearings
+pub mod EventOrder
 pub mod Links
 pub mod Lookups
 pub mod Octets

@@ -1,24 +1,26 @@
 -- An outlook holds of all rows: what it says of them, and how it goes on holding.
-use Rattle.std.proofs.Common.{◌≡◌, ℕ, ◌≤◌, Bool, true, false, not, ◌&&◌, ◌||◌, if◌then◌else◌, nat_le, ◌==◌, List, [], ◌∷◌, ◌++◌, take, drop, suc, fold, refl, sym, ap, ◌∙◌, subst, arith, is_none}
+use Rattle.std.proofs.Common.{◌≡◌, ℕ, ◌≤◌, Bool, true, false, not, ◌&&◌, ◌||◌, if◌then◌else◌, nat_le, ◌==◌, List, [], ◌∷◌, ◌++◌, take, drop, suc, fold, refl, sym, ap, ◌∙◌, subst, arith, is_none, option_map}
 use Rattle.std.proofs.lemmas.Bool.Decides.{nat_tests}
 use Rattle.std.specs.declared.option.Option.{Option}
 use Rattle.std.specs.declared.option.Option.TheVariants.{None, Some}
 use Rattle.std.specs.declared.cmp.Ordering.{Ordering}
 use Rattle.std.specs.Cmp.{IsTotalOrder}
-use Rattle.std.specs.List.{list_any, cons_option}
+use Rattle.std.specs.List.{AllByRecursion, list_any, cons_option}
 use Rattle.srp_base.specs.declared.numbers.Cs.{Cs}
 use Rattle.applicant.specs.declared.Applicant.{Applicant}
 use Rattle.applicant.specs.declared.Applicant.TheVariants.{Vo, Vp, Vn, An, Aa, Qa, La}
 use Rattle.mrp_participant.specs.declared.row.Row.{Row}
 use Rattle.mrp_participant.specs.declared.outlook.Outlook.{Outlook}
-use Rattle.mrp_participant.specs.Lookup.{put, IsRowAt, IsGapAt}
+use Rattle.mrp_participant.specs.Lookup.{Ascends, key_of, same, find, put, IsRowAt, IsGapAt}
 use Rattle.registrar.specs.Table.{is_leaving}
 use Rattle.applicant.specs.Table.{is_quiet}
 use Rattle.mrp_participant.specs.Row.{is_settled, leave_is_due}
-use Rattle.mrp_participant.specs.Outlook.{IsFrom, HoldsOf, HoldsOfAll, is_by, may_leave, is_at_rest, earlier, outlook_with, empty_outlook}
+use Rattle.mrp_participant.specs.Outlook.{IsFrom, HoldsOf, HoldsOfAll, is_by, may_leave, is_at_rest, earlier, outlook_with, empty_outlook, outlook_heard}
 use Rattle.mrp_participant.specs.Sending.{round, is_tried}
 use Rattle.mrp_participant.specs.State.{none_tried, all_settled}
+use Rattle.mrp_participant.specs.Hearing.{first_of, begun_row, row_so_far}
 use Rattle.mrp_participant.proofs.Lookups.{Each-map, Each-put}
+use Rattle.mrp_participant.proofs.CutLemmas.{Each-from_in, find-in}
 
 and-left : (a b : Bool) → (a && b) ≡ true → a ≡ true
 and-left true b h = refl
@@ -77,6 +79,50 @@ module _ {K C : Type 0} where
   -- the outlook for some rows holds of all of them
   pub holds_of_all : (rows : List (Row K C)) (o : Outlook) → o ≡ fold outlook_with empty_outlook rows → HoldsOfAll o rows
   holds_of_all rows o is = subst (λ x. HoldsOfAll x rows) (sym is) (holds-fold rows empty_outlook).1
+
+-- ---- what was heard
+
+-- what isn't changed by no LeaveAll
+begun_alike : {K C : Type 0} (leave : Cs) (r : Option (Row K C)) → option_map (begun_row false leave) r ≡ r
+begun_alike leave None = refl
+begun_alike leave (Some r) = refl
+
+-- a fact of the first of two
+of_first : {X : Type 0} (P : X → Type 0) (x : X) (a b : Option X) → (a ≡ Some x → P x) → (b ≡ Some x → P x) → first_of a b ≡ Some x → P x
+of_first P x None b first second e = second e
+of_first P x (Some y) b first second e = first e
+
+or-first : (a b : Bool) → (a || b) ≡ false → a ≡ false
+or-first true b h = cc
+or-first false b h = refl
+
+found_by : {X : Type 0} (P : X → Type 0) (x y : X) (rest : Option X) (b : Bool) → P y → (rest ≡ Some x → P x) → (if b then Some y else rest) ≡ Some x → P x
+found_by P x y rest true p later e = let one : y ≡ x = cc in subst P one p
+found_by P x y rest false p later e = later e
+
+-- a fact of all rows is one of the row that a key finds
+Each-found : {K C : Type 0} (cmp : K → K → Ordering) (P : Row K C → Type 0) (k : K) (r : Row K C) (rows : List (Row K C)) → AllByRecursion P rows → find cmp k rows ≡ Some r → P r
+Each-found cmp P k r [] h e = cc
+Each-found cmp P k r (q ∷ rows) h e = found_by P r q (find cmp k rows) (same cmp q.key k) h.0 (Each-found cmp P k r rows h.1) e
+
+module _ {K C : Type 0} {cmp : K → K → Ordering} (total : IsTotalOrder cmp) (leave : Cs) (old heard new : List (Row K C)) (o : Outlook) (up : Ascends cmp key_of new) (h : HoldsOfAll o old) where
+  holds-heard_by : (leave_all anew : Bool) → (anew ≡ false → leave_all ≡ false) → ((k : K) → find cmp k new ≡ row_so_far cmp leave_all leave old heard k) → HoldsOfAll (outlook_heard anew new heard o) new
+  holds-heard_by leave_all true off each = (holds-fold new empty_outlook).1
+  holds-heard_by true false off each = let never = off refl in cc
+  holds-heard_by false false off each =
+      let later = holds-fold heard o in
+      Each-from_in (HoldsOf (fold outlook_with o heard)) new
+      (λ r at.
+      of_first (HoldsOf (fold outlook_with o heard)) r (find cmp r.key heard) (option_map (begun_row false leave) (find cmp r.key old))
+      (λ e. Each-found cmp (HoldsOf (fold outlook_with o heard)) r.key r heard later.1 e)
+      (λ e. later.0 r (Each-found cmp (HoldsOf o) r.key r old h (sym (begun_alike leave (find cmp r.key old)) ∙ e)))
+      (sym (each r.key) ∙ find-in total r new up at))
+
+  -- the outlook after a list of messages holds of all rows then
+  pub holds-heard : (leave_all anew rest : Bool) (later : Outlook) (slice beside : List (Row K C)) → slice ≡ new → beside ≡ heard → ((k : K) → find cmp k new ≡ row_so_far cmp leave_all leave old heard k) → anew ≡ (leave_all || rest) → later ≡ outlook_heard anew slice beside o → HoldsOfAll later new
+  holds-heard leave_all anew rest later slice beside all all_heard each asks is =
+      subst (λ x. HoldsOfAll x new) (sym (is ∙ (ap (λ l. outlook_heard anew l beside o) all ∙ ap (λ l. outlook_heard anew new l o) all_heard)))
+      (holds-heard_by leave_all anew (λ off. or-first leave_all rest (sym asks ∙ off)) each)
 
 module _ {K C : Type 0} {cmp : K → K → Ordering} (total : IsTotalOrder cmp) (o : Outlook) (k : K) (r : Row K C) where
   -- another row for a key, with the outlook for one more row

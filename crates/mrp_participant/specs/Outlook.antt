@@ -10,6 +10,7 @@ use Rattle.mrp_participant.specs.declared.row.Row.{Row}
 use Rattle.mrp_participant.specs.declared.outlook.Outlook.{Outlook}
 use Rattle.registrar.specs.Table.{is_leaving}
 use Rattle.mrp_participant.specs.Sending.{is_tried}
+use Rattle.mrp_participant.specs.Row.{is_settled}
 
 -- a moment isn't before the first one, where there is a first one at all
 abbrev pub IsFrom : Option Cs → Cs → Type 0
@@ -57,3 +58,12 @@ empty_outlook = record { first_leave = None; none_tried = true }
 
 abbrev pub outlook_of : {K C : Type 0} → List (Row K C) → Outlook
 outlook_of rows = fold outlook_with empty_outlook rows
+
+-- whether a key's row is at rest, or there is none
+abbrev pub was_settled : {K C : Type 0} → Option (Row K C) → Bool
+was_settled None = true
+was_settled (Some r) = is_settled r
+
+-- the outlook after a list of messages: taken anew, or for those that were heard of as well
+abbrev pub outlook_heard : {K C : Type 0} → Bool → List (Row K C) → List (Row K C) → Outlook → Outlook
+outlook_heard anew rows heard o = if anew then outlook_of rows else fold outlook_with o heard

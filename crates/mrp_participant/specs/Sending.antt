@@ -41,6 +41,7 @@ leave_all_round Aa = 2
 leave_all_round Qa = 3
 leave_all_round La = 0
 
+-- the round in a PDU with LeaveAll, or without
 abbrev pub round : Bool → Applicant → ℕ
 round leave_all a = if leave_all then leave_all_round a else plain_round a
 

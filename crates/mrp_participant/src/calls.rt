@@ -55,7 +55,9 @@ impl<A: MrpApp> Participant<A> {
             (after_leave (find A.Key.cmp key self.old.rows)) self.old.rows self.new.rows }
     {
         let was = leave_in(&mut self.rows, key);
-        self.outlook = outlook_of(self.rows.as_slice());
+        if was {
+            self.outlook = outlook_of(self.rows.as_slice());
+        }
         was
     }
 }

@@ -331,7 +331,8 @@ pub fn a_row_where_something_is_kept<A: MrpApp>()
         → AreRows A.Key.cmp s.rows
         → (k : A.Key)
         → IsSome (find A.Key.cmp k s.rows)
-        ↔ ((applicant_of (find A.Key.cmp k s.rows) ≢ Vo) ⊎ (registrar_of (find A.Key.cmp k s.rows) ≢ Empty)) }
+        ↔ ((applicant_of (find A.Key.cmp k s.rows) ≢ Vo)
+        ⊎ (registrar_of (find A.Key.cmp k s.rows) ≢ Empty)) }
     ensures place { (s : State A.Key A.Content)
         → AreRows A.Key.cmp s.rows
         → (k : A.Key)

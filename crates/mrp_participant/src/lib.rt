@@ -22,7 +22,8 @@
 //! - `due` fires the timers that are due: the leave timers, LeaveAll, periodic.
 //!
 //! Beside the rows stands what is known of all of them (`Outlook`): where nothing is due and nothing is to be said,
-//! `any_due`, `due`, `still` and `send` look at no row.
+//! `any_due`, `due`, `still` and `send` look at no row. `receive` searches for the rows of the keys that it hears
+//! of, and goes over all rows only with LeaveAll, for a key's first row, and where a key's row wasn't at rest.
 //!
 //! `laws` says of the calls that touch every row what each single key has afterwards; `duty_laws` what two
 //! participants on a link owe one another, call by call; `link_laws` the same of every history of a link. After
@@ -35,6 +36,7 @@ mod application;
 mod calls;
 mod cut;
 pub mod duty_laws;
+mod event_order;
 mod hearing;
 mod kept;
 pub mod laws;

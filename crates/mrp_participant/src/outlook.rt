@@ -1,12 +1,14 @@
 //! What is known of all rows without a look at them: that no leave timer ends before a moment, and that no row is
 //! tried. So a participant at which nothing happens costs the same however many rows it has.
 
-ghost use Rattle.std.specs.Prelude.{◌≡◌, not, if◌then◌else◌, Some};
-ghost use Rattle.std.specs.List.{list_any};
+ghost use Rattle.std.specs.Prelude.{◌≡◌, ◌||◌, fold, not, if◌then◌else◌, Some};
+ghost use Rattle.std.specs.List.{list_all, list_any};
+ghost use Rattle.mrp_participant.specs.Lookup.{Ascends, key_of, find};
 ghost use Rattle.mrp_participant.specs.Row.{leave_is_due};
-ghost use Rattle.mrp_participant.specs.Outlook.{HoldsOfAll, earlier, empty_outlook, is_at_rest, is_by, may_leave, outlook_of, outlook_with};
+ghost use Rattle.mrp_participant.specs.Outlook.{HoldsOfAll, earlier, empty_outlook, is_at_rest, is_by, may_leave, outlook_heard, outlook_of, outlook_with, was_settled};
 ghost use Rattle.mrp_participant.specs.State.{all_settled, none_tried};
 
+use crate::lookup::find_row;
 use crate::row::Row;
 use registrar::Registrar;
 use srp_base::Cs;
@@ -39,6 +41,52 @@ impl Outlook {
         Outlook {
             first_leave: first_leave(self.first_leave, leaving, row.leave),
             none_tried: self.none_tried && !row.is_tried(false),
+        }
+    }
+
+    /// The outlook for some more rows.
+    fn with_all<K: Copy, C: Copy>(self, rows: &[Row<K, C>]) -> Outlook
+        ensures { result ≡ fold outlook_with self rows.now }
+    {
+        let mut outlook = self;
+        for row in rows {
+            outlook = outlook.with(row);
+        }
+        outlook
+    }
+
+    /// Whether the outlook is to be taken anew after a list of messages: where it has LeaveAll, which changes all rows,
+    /// and where it speaks of a key whose row wasn't at rest, since what was known would hold on, but say less than
+    /// can be known. `rows` are those before, and `heard` those of the keys that were heard of.
+    pub(crate) fn is_outdated<K: Copy + Ord, C: Copy>(
+        self,
+        leave_all: bool,
+        rows: &[Row<K, C>],
+        heard: &[Row<K, C>],
+    ) -> bool
+        requires { Ascends K.cmp key_of rows.now }
+        ensures { result
+            ≡ (leave_all
+            || not
+            (is_at_rest self || list_all (λ u. was_settled (find K.cmp u.key rows.now)) heard.now)) }
+    {
+        leave_all || !(self.is_at_rest() || were_settled(rows, heard))
+    }
+
+    /// The outlook after a list of messages: anew for the rows as they are then, or else with those that were heard
+    /// of, since only they changed.
+    pub(crate) fn after_hearing<K: Copy, C: Copy>(
+        self,
+        anew: bool,
+        rows: &[Row<K, C>],
+        heard: &[Row<K, C>],
+    ) -> Outlook
+        ensures { result ≡ outlook_heard anew rows.now heard.now self }
+    {
+        if anew {
+            outlook_of(rows)
+        } else {
+            self.with_all(heard)
         }
     }
 
@@ -87,11 +135,30 @@ pub(crate) fn outlook_of<K: Copy, C: Copy>(rows: &[Row<K, C>]) -> Outlook
     ensures is { result ≡ outlook_of rows.now }
     ensures holds { HoldsOfAll result rows.now }
 {
-    let mut outlook = Outlook::empty();
-    for row in rows {
-        outlook = outlook.with(row);
+    Outlook::empty().with_all(rows)
+}
+
+/// Whether each key of some rows had a row at rest among others, or none.
+fn were_settled<K: Copy + Ord, C: Copy>(rows: &[Row<K, C>], heard: &[Row<K, C>]) -> bool
+    requires { Ascends K.cmp key_of rows.now }
+    ensures { result ≡ list_all (λ u. was_settled (find K.cmp u.key rows.now)) heard.now }
+{
+    for row in heard {
+        if !was_settled(find_row(rows, &row.key)) {
+            return false;
+        }
     }
-    outlook
+    true
+}
+
+/// Whether a key's row is at rest, or there is none.
+fn was_settled<K: Copy, C: Copy>(row: Option<Row<K, C>>) -> bool
+    ensures { result ≡ was_settled row }
+{
+    match row {
+        Some(row) => row.is_settled(),
+        None => true,
+    }
 }
 
 /// Whether a leave timer of some rows is due. No row is looked at where it is known that none is.

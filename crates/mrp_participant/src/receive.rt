@@ -6,13 +6,15 @@ ghost use Rattle.leaveall.specs.Table.{table};
 ghost use Rattle.leaveall.specs.declared.LaEvent.TheVariants.{Rx};
 ghost use Rattle.mrp_participant.specs.Lookup.{Ascends, key_of, find};
 ghost use Rattle.mrp_participant.specs.Row.{registered_in};
+ghost use Rattle.mrp_participant.specs.Outlook.{HoldsOfAll};
 ghost use Rattle.mrp_participant.specs.State.{AreRows, after, rows_after_receive, changed_keys, received_state};
 
 use crate::application::{MrpApp, Msgs};
+use crate::event_order::{by_key, keys_ascend};
 use crate::hearing::{put_heard, rows_heard};
 use crate::lookup::find_row;
 use crate::model::Participant;
-use crate::outlook::outlook_of;
+use crate::outlook::Outlook;
 use crate::row::Row;
 use leaveall::{LaEvent, LeaveAll};
 use srp_base::{Cs, MrpEvent, NoMemory, Seq};
@@ -21,7 +23,8 @@ use std::alloc::Global;
 impl<A: MrpApp> Participant<A> {
     /// Takes what the neighbour sent at the moment `now`, in cs and below 2^62: LeaveAll first, then the events
     /// in order (IEEE Std 802.1Q-2018, 10.7.5). Answers, ascending, the keys whose registration or registered
-    /// content differs from before. After want of memory the participant is as it was.
+    /// content differs from before. Without LeaveAll, where each key has a row at rest, it doesn't go
+    /// over all rows. After want of memory the participant is as it was.
     pub fn receive(&mut self, now: Cs, msgs: &Msgs<A>) -> Result<Seq<A::Key>, NoMemory>
         requires { now.0 < 2 ^ 62 }
 
@@ -36,11 +39,11 @@ impl<A: MrpApp> Participant<A> {
         let keys = receive_in(
             alloc,
             &mut self.rows,
+            &mut self.outlook,
             msgs.leave_all,
             msgs.events.as_slice(),
             leave,
         )?;
-        self.outlook = outlook_of(self.rows.as_slice());
         self.leave_all = machine_after(self.leave_all, msgs.leave_all);
         self.next_leave_all = timer_after(self.next_leave_all, msgs.leave_all, now, self.period);
         Ok(keys)
@@ -72,15 +75,18 @@ fn timer_after(next: Cs, leave_all: bool, now: Cs, period: Cs) -> Cs
 
 /// Lets the rows hear a list of messages: LeaveAll first, then the events in order. Answers the keys whose
 /// registration or registered content that changes, which are among those of the events. After want of memory
-/// the rows are as they were.
+/// the rows are as they were. Where the keys don't ascend, the events are put in the order of their keys first,
+/// so that none is put between others.
 fn receive_in<K: Copy + Ord, C: Copy + Eq>(
     alloc: Global,
     rows: &mut Vec<Row<K, C>>,
+    outlook: &mut Outlook,
     leave_all: bool,
     events: &[(MrpEvent, K, C)],
     leave: Cs,
 ) -> Result<Seq<K>, NoMemory>
-    requires { AreRows K.cmp rows.old.items }
+    requires are_rows { AreRows K.cmp rows.old.items }
+    requires holds { HoldsOfAll outlook.old rows.old.items }
     ensures rows { OnOk result (rows.new.items
         ≡ rows_after_receive K.cmp leave leave_all events.now rows.old.items) }
     ensures keys { IfOk result (λ keys. keys
@@ -88,10 +94,40 @@ fn receive_in<K: Copy + Ord, C: Copy + Eq>(
         (rows_after_receive K.cmp leave leave_all events.now rows.old.items)) }
     ensures are_rows { OnOk result (AreRows K.cmp rows.new.items) }
     ensures err { OnErr result (rows.new.items ≡ rows.old.items) }
+    ensures holds { HoldsOfAll outlook.new rows.new.items }
+{
+    if keys_ascend(events) {
+        return hear_all(alloc, rows, outlook, leave_all, events, leave);
+    }
+    let sorted = by_key(alloc, events)?;
+    hear_all(alloc, rows, outlook, leave_all, sorted.as_slice(), leave)
+}
+
+/// The same in the order of the events. Where a key falls below an earlier one, its row is put between others.
+fn hear_all<K: Copy + Ord, C: Copy + Eq>(
+    alloc: Global,
+    rows: &mut Vec<Row<K, C>>,
+    outlook: &mut Outlook,
+    leave_all: bool,
+    events: &[(MrpEvent, K, C)],
+    leave: Cs,
+) -> Result<Seq<K>, NoMemory>
+    requires are_rows { AreRows K.cmp rows.old.items }
+    requires holds { HoldsOfAll outlook.old rows.old.items }
+    ensures rows { OnOk result (rows.new.items
+        ≡ rows_after_receive K.cmp leave leave_all events.now rows.old.items) }
+    ensures keys { IfOk result (λ keys. keys
+        ≡ changed_keys K.cmp C.eq rows.old.items
+        (rows_after_receive K.cmp leave leave_all events.now rows.old.items)) }
+    ensures are_rows { OnOk result (AreRows K.cmp rows.new.items) }
+    ensures err { OnErr result (rows.new.items ≡ rows.old.items) }
+    ensures holds { HoldsOfAll outlook.new rows.new.items }
 {
     let heard = rows_heard(alloc, rows.as_slice(), leave_all, events, leave)?;
     let keys = changed(alloc, rows.as_slice(), heard.as_slice())?;
+    let anew = outlook.is_outdated(leave_all, rows.as_slice(), heard.as_slice());
     put_heard(rows, leave_all, heard.as_slice(), leave)?;
+    *outlook = outlook.after_hearing(anew, rows.as_slice(), heard.as_slice());
     Ok(Seq::from_vec(keys))
 }
 

@@ -14,7 +14,7 @@ use srp_base::{Cs, MrpEvent};
 /// content heard last and the moment at which its leave timer ends, in cs. The declared content means
 /// nothing where the Applicant is `Vo`, the heard one nothing where the Registrar is `Empty`, the moment
 /// nothing where it isn't `Leaving`.
-#[derive(Clone, Copy, Debug)]
+#[derive(Clone, Copy)]
 pub struct Row<K, C> {
     pub key: K,
     pub applicant: Applicant,

@@ -1,5 +1,8 @@
-use Rattle.std.proofs.Common.{subst, sym, ap, ◌∙◌, if◌then◌else◌}
-use Rattle.mrp_participant.specs.Lookup.{find, same}
+use Rattle.std.proofs.Common.{◌≡◌, List, subst, sym, ap, ◌∙◌, if◌then◌else◌}
+use Rattle.std.specs.declared.cmp.Ordering.{Ordering}
+use Rattle.std.specs.Cmp.{IsTotalOrder}
+use Rattle.mrp_participant.specs.declared.row.Row.{Row}
+use Rattle.mrp_participant.specs.Lookup.{ChangesOnly, find, put, same}
 use Rattle.mrp_participant.specs.Row.{after_leave}
 use Rattle.mrp_participant.specs.Outlook.{HoldsOfAll}
 use Rattle.mrp_participant.specs.State.{State, AreRows}
@@ -16,15 +19,29 @@ invariant_of-self g c = (
   subst (HoldsOfAll c.outlook_of-self-inside.result) c.as_slice.ensures.value c.outlook_of-self-inside.ensures.holds,
 )
 
-pub returns-clause-each_key : goal.returns-clause-each_key
-returns-clause-each_key g c k =
-    ap (find g.A.Key.Ord.cmp k) c.leave_in-was.ensures.rows
-    ∙ each-leave g.met.A.Key.Ord.total c.args.key c.self.inside.rows.items c.self.invariant.0 k
-    ∙ ap
-    (λ (s : State g.row.A-Key.Denot g.row.A-Content.Denot). if same g.A.Key.Ord.cmp c.args.key k then after_leave (find g.A.Key.Ord.cmp c.args.key s.rows) else find g.A.Key.Ord.cmp k s.rows)
-    c.self.view_is
+pub invariant_of-self-else-was : goal.invariant_of-self-else-was
+invariant_of-self-else-was g c = (
+  subst (AreRows g.A.Key.Ord.cmp) (sym c.leave_in-was.ensures.rows) (AreRows-leave g.met.A.Key.Ord.total _ _ c.self.invariant.0),
+  c.self.invariant.1,
+  c.self.invariant.2,
+  subst (HoldsOfAll c.self.inside.outlook)
+      (sym (c.leave_in-was.ensures.rows ∙ leave-unleaving g.met.A.Key.Ord.total c.args.key c.self.inside.rows.items c.self.invariant.0 (sym c.leave_in-was.ensures.was ∙ c.if-was.false)))
+      c.self.invariant.3,
+)
 
-pub returns-clause-stays : goal.returns-clause-stays
-returns-clause-stays g c h =
+left-each : {K C : Type 0} {cmp : K → K → Ordering} → IsTotalOrder cmp → (key : K) (inside old : State K C) (new : List (Row K C)) → inside ≡ old → AreRows cmp inside.rows → new ≡ put cmp key (after_leave (find cmp key inside.rows)) inside.rows → ChangesOnly cmp key (after_leave (find cmp key old.rows)) old.rows new
+left-each {cmp = cmp} o key inside old new is are left k =
+    ap (find cmp k) left
+    ∙ each-leave o key inside.rows are k
+    ∙ ap (λ (s : State _ _). if same cmp key k then after_leave (find cmp key s.rows) else find cmp k s.rows) is
+
+pub returns-then-was-clause-each_key : goal.returns-then-was-clause-each_key
+returns-then-was-clause-each_key g c = left-each g.met.A.Key.Ord.total c.args.key _ _ _ c.self.view_is c.self.invariant.0 c.leave_in-was.ensures.rows
+
+pub returns-else-was-clause-each_key : goal.returns-else-was-clause-each_key
+returns-else-was-clause-each_key g c = left-each g.met.A.Key.Ord.total c.args.key _ _ _ c.self.view_is c.self.invariant.0 c.leave_in-was.ensures.rows
+
+pub returns-else-was-clause-stays : goal.returns-else-was-clause-stays
+returns-else-was-clause-stays g c h =
     unchanged _ _ _ c.self.view_is
-    (c.leave_in-was.ensures.rows ∙ leave-unleaving g.met.A.Key.Ord.total c.args.key c.self.inside.rows.items c.self.invariant.0 (sym c.leave_in-was.ensures.was ∙ h))
+    (c.leave_in-was.ensures.rows ∙ leave-unleaving g.met.A.Key.Ord.total c.args.key c.self.inside.rows.items c.self.invariant.0 (sym c.leave_in-was.ensures.was ∙ c.if-was.false))

@@ -1,22 +1,27 @@
 use Rattle.std.proofs.Common.{◌∙◌, refl, sym, subst}
 use Rattle.mrp_participant.specs.Lookup.{Ascends, key_of}
+use Rattle.mrp_participant.specs.Outlook.{HoldsOfAll}
 use Rattle.mrp_participant.specs.State.{AreRows}
 use Rattle.mrp_participant.proofs.Exits.{of_error, on_error}
 use Rattle.mrp_participant.proofs.Transitions.{AreRows-receive}
 use Rattle.mrp_participant.proofs.Hearings.{rows-received, keys-told}
-use Rattle.mrp_participant.proofs.receive.receive_in.Goals as goal
+use Rattle.mrp_participant.proofs.OutlookLemmas.{holds-heard}
+use Rattle.mrp_participant.proofs.receive.hear_all.Goals as goal
 
 pub rows_heard-requires : goal.rows_heard-requires
-rows_heard-requires g c = subst (AreRows g.K.Ord.cmp) (sym c.as_slice.ensures.value) c.requires
+rows_heard-requires g c = subst (AreRows g.K.Ord.cmp) (sym c.as_slice.ensures.value) c.requires.are_rows
 
 pub changed-requires : goal.changed-requires
-changed-requires g c = subst (Ascends g.K.Ord.cmp key_of) (sym c.as_slice-2.ensures.value) c.requires.0
+changed-requires g c = subst (Ascends g.K.Ord.cmp key_of) (sym c.as_slice-2.ensures.value) c.requires.are_rows.0
+
+pub is_outdated-anew-requires : goal.is_outdated-anew-requires
+is_outdated-anew-requires g c = subst (Ascends g.K.Ord.cmp key_of) (sym c.as_slice-4.ensures.value) c.requires.are_rows.0
 
 pub put_heard-requires-clause-rows : goal.put_heard-requires-clause-rows
-put_heard-requires-clause-rows g c = c.requires.0
+put_heard-requires-clause-rows g c = c.requires.are_rows.0
 
 pub put_heard-requires-clause-heard : goal.put_heard-requires-clause-heard
-put_heard-requires-clause-heard g c = subst (Ascends g.K.Ord.cmp key_of) (sym c.as_slice-4.ensures.value) c.in_ok-heard.ensures.are_rows.0
+put_heard-requires-clause-heard g c = subst (Ascends g.K.Ord.cmp key_of) (sym c.as_slice-6.ensures.value) c.in_ok-heard.ensures.are_rows.0
 
 pub returns-in_err-heard : goal.returns-in_err-heard
 returns-in_err-heard g c =
@@ -25,6 +30,7 @@ returns-in_err-heard g c =
       keys = of_error c.from_residual.result _ _ c.from_residual.ensures.1;
       are_rows = of_error c.from_residual.result _ _ c.from_residual.ensures.1;
       err = on_error c.from_residual.result refl;
+      holds = c.requires.holds;
     }
 
 pub returns-in_err-keys : goal.returns-in_err-keys
@@ -34,6 +40,7 @@ returns-in_err-keys g c =
       keys = of_error c.from_residual-in_err-keys.result _ _ c.from_residual-in_err-keys.ensures.1;
       are_rows = of_error c.from_residual-in_err-keys.result _ _ c.from_residual-in_err-keys.ensures.1;
       err = on_error c.from_residual-in_err-keys.result refl;
+      holds = c.requires.holds;
     }
 
 pub returns-in_err-put_heard : goal.returns-in_err-put_heard
@@ -43,17 +50,23 @@ returns-in_err-put_heard g c =
       keys = of_error c.from_residual-in_err-put_heard.result _ _ c.from_residual-in_err-put_heard.ensures.1;
       are_rows = of_error c.from_residual-in_err-put_heard.result _ _ c.from_residual-in_err-put_heard.ensures.1;
       err = on_error c.from_residual-in_err-put_heard.result c.in_err-put_heard.ensures.err;
+      holds = subst (HoldsOfAll c.args.outlook.now) (sym c.in_err-put_heard.ensures.err) c.requires.holds;
     }
 
 pub returns-clause-rows : goal.returns-clause-rows
 returns-clause-rows g c =
-    rows-received g.met.K.Ord.total c.args.leave_all c.args.leave c.args.events.now c.args.rows.now.items _ _ _ c.as_slice.ensures.value c.in_ok-heard.ensures.heard c.as_slice-4.ensures.value c.requires _ c.in_ok-put_heard.ensures.ascends c.in_ok-put_heard.ensures.each_key
+    rows-received g.met.K.Ord.total c.args.leave_all c.args.leave c.args.events.now c.args.rows.now.items _ _ _ c.as_slice.ensures.value c.in_ok-heard.ensures.heard c.as_slice-6.ensures.value c.requires.are_rows _ c.in_ok-put_heard.ensures.ascends c.in_ok-put_heard.ensures.each_key
 
 pub returns-clause-are_rows : goal.returns-clause-are_rows
 returns-clause-are_rows g c =
-    subst (AreRows g.K.Ord.cmp) (sym (returns-clause-rows g c)) (AreRows-receive g.met.K.Ord.total c.args.leave c.args.leave_all c.args.events.now c.args.rows.now.items c.requires)
+    subst (AreRows g.K.Ord.cmp) (sym (returns-clause-rows g c)) (AreRows-receive g.met.K.Ord.total c.args.leave c.args.leave_all c.args.events.now c.args.rows.now.items c.requires.are_rows)
 
 pub returns-clause-keys : goal.returns-clause-keys
 returns-clause-keys g c =
     c.from_vec.ensures
-    ∙ keys-told g.met.K.Ord.total c.args.leave_all c.args.leave c.args.events.now c.args.rows.now.items _ _ _ c.as_slice.ensures.value c.in_ok-heard.ensures.heard c.as_slice-3.ensures.value c.requires g.C.PartialEq.eq g.met.C.Eq.laws _ _ c.as_slice-2.ensures.value c.in_ok-keys.ensures
+    ∙ keys-told g.met.K.Ord.total c.args.leave_all c.args.leave c.args.events.now c.args.rows.now.items _ _ _ c.as_slice.ensures.value c.in_ok-heard.ensures.heard c.as_slice-3.ensures.value c.requires.are_rows g.C.PartialEq.eq g.met.C.Eq.laws _ _ c.as_slice-2.ensures.value c.in_ok-keys.ensures
+
+pub returns-clause-holds : goal.returns-clause-holds
+returns-clause-holds g c =
+    holds-heard g.met.K.Ord.total c.args.leave c.args.rows.now.items _ _ c.args.outlook.now c.in_ok-put_heard.ensures.ascends c.requires.holds c.args.leave_all _ _ _ _ _
+    c.as_slice-7.ensures.value (c.as_slice-8.ensures.value ∙ sym c.as_slice-6.ensures.value) c.in_ok-put_heard.ensures.each_key c.is_outdated-anew.ensures c.after_hearing.ensures

@@ -1,0 +1,29 @@
+use Rattle.std.proofs.Common.{◌&&◌, ◌+◌, drop, refl, sym, ap, ◌∙◌}
+use Rattle.std.proofs.lemmas.List.{drop_all}
+use Rattle.std.specs.List.{list_all}
+use Rattle.mrp_participant.specs.Outlook.{was_settled}
+use Rattle.mrp_participant.specs.Lookup.{find}
+use Rattle.mrp_participant.proofs.Places.{all-front}
+use Rattle.mrp_participant.proofs.outlook.were_settled.Goals as goal
+
+pub returns-then-not-was_settled : goal.returns-then-not-was_settled
+returns-then-not-was_settled g c =
+    sym (c.loop-row.invariant ∙ all-front (λ u. was_settled (find g.K.Ord.cmp u.key c.args.rows.now)) c.args.heard.now _ _ c.loop-row-test.true c.row-item.is
+    ∙ ap (λ b. b && list_all (λ u. was_settled (find g.K.Ord.cmp u.key c.args.rows.now)) (drop (c.loop-row.row-index + 1) c.args.heard.now)) (ap was_settled (sym c.find_row.ensures) ∙ (sym c.was_settled.ensures ∙ c.if-not-was_settled.true)))
+
+pub loop-row-preserved : goal.loop-row-preserved
+loop-row-preserved g c =
+    c.loop-row.invariant ∙ all-front (λ u. was_settled (find g.K.Ord.cmp u.key c.args.rows.now)) c.args.heard.now _ _ c.loop-row-test.true c.row-item.is
+    ∙ ap (λ b. b && list_all (λ u. was_settled (find g.K.Ord.cmp u.key c.args.rows.now)) (drop (c.loop-row.row-index + 1) c.args.heard.now)) (ap was_settled (sym c.find_row.ensures) ∙ (sym c.was_settled.ensures ∙ c.if-not-was_settled.false))
+
+pub loop-row-init : goal.loop-row-init
+loop-row-init g c = refl
+
+pub offset_bounds-heard-row-index : goal.offset_bounds-heard-row-index
+offset_bounds-heard-row-index g c = c.loop-row.auto.row-index-end
+
+pub find_row-requires : goal.find_row-requires
+find_row-requires g c = c.requires
+
+pub returns : goal.returns
+returns g c = sym (c.loop-row.invariant ∙ ap (list_all (λ u. was_settled (find g.K.Ord.cmp u.key c.args.rows.now))) (drop_all _ c.args.heard.now c.loop-row-test.false))
