@@ -94,6 +94,7 @@ has_unknown_end count earlier l = not (is_node count l.a.0 && is_node count l.b.
 abbrev pub is_self_link : List Link → Link → Bool
 is_self_link earlier l = l.a.0 == l.b.0
 
+-- a link joins these two nodes
 abbrev pub joins_both : ℕ → ℕ → Link → Bool
 joins_both x y l = l.a.0 == x && l.b.0 == y || l.a.0 == y && l.b.0 == x
 
@@ -107,6 +108,7 @@ closes_loop earlier l = component earlier l.a.0 == component earlier l.b.0
 abbrev pub is_unconnected : List Link → List NodeKind → NodeKind → Bool
 is_unconnected links earlier kind = not (component links 1 == component links (length earlier + 1))
 
+-- a node of this kind is a station
 abbrev pub is_station : NodeKind → Bool
 is_station Station = true
 is_station Bridge = false

@@ -8,14 +8,14 @@ use std::alloc::AllocError;
 use thiserror::Error;
 
 /// What a node is: an end station, or a bridge that relays between its ports.
-#[derive(Clone, Copy, Debug, PartialEq, Eq)]
+#[derive(Clone, Copy, PartialEq, Eq)]
 pub enum NodeKind {
     Station,
     Bridge,
 }
 
 /// An undirected link between two nodes. Nodes are numbered from 1 in the order of their list.
-#[derive(Clone, Copy, Debug, PartialEq, Eq)]
+#[derive(Clone, Copy, PartialEq, Eq)]
 pub struct Link {
     pub a: NodeNo,
     pub b: NodeNo,

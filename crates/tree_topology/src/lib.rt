@@ -30,11 +30,11 @@ mod adjacency;
 mod checks;
 mod climb;
 mod components;
-pub mod graph;
+mod graph;
 pub mod laws;
 mod routes;
 mod span;
-pub mod topology;
+mod tree;
 
 pub use graph::{Link, NodeKind, TreeErr};
-pub use topology::Tree;
+pub use tree::Tree;

@@ -3,7 +3,7 @@ use Rattle.tree_topology.specs.Walk.{is_behind}
 use Rattle.tree_topology.specs.Topology.{Topology}
 use Rattle.tree_topology.specs.Refusal.{IsAccepted}
 use Rattle.tree_topology.proofs.PortLaws.{behind-answer}
-use Rattle.tree_topology.proofs.topology.Tree.behind.Goals as goal
+use Rattle.tree_topology.proofs.tree.Tree.behind.Goals as goal
 
 pub returns-clause-walk : goal.returns-clause-walk
 returns-clause-walk c =

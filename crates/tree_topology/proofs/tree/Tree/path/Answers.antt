@@ -6,7 +6,7 @@ use Rattle.tree_topology.specs.Walk.{path_between}
 use Rattle.tree_topology.specs.Topology.{Topology}
 use Rattle.tree_topology.specs.Refusal.{IsAccepted}
 use Rattle.tree_topology.proofs.PortLaws.{path-answer}
-use Rattle.tree_topology.proofs.topology.Tree.path.Goals as goal
+use Rattle.tree_topology.proofs.tree.Tree.path.Goals as goal
 
 pub returns-clause-walk : goal.returns-clause-walk
 returns-clause-walk c =
