@@ -52,13 +52,7 @@ pub ok-all : {A : Type 0} (r : Result A RuleErr) (P : A → Type 0) → ((x : A)
 ok-all (Ok x) P h = h x refl
 ok-all (Err e) P h = tt
 
--- a chain goes on with what its first rules give
-pub chain-ok : {A B : Type 0} (P : B → Type 0) (r : Result A RuleErr) (f : A → Result B RuleErr)
-    → ((x : A) → r ≡ Ok x → IfOk (f x) P) → IfOk (r >>= f) P
-chain-ok P (Ok x) f h = h x refl
-chain-ok P (Err e) f h = tt
-
--- with what is known of that
+-- a chain goes on with what its first rules give, and what is known of that
 pub chain-if : {A B : Type 0} (P : B → Type 0) (Q : A → Type 0) (r : Result A RuleErr) (f : A → Result B RuleErr)
     → IfOk r Q → ((x : A) → Q x → IfOk (f x) P) → IfOk (r >>= f) P
 chain-if P Q (Ok x) f q h = h x q
@@ -159,7 +153,8 @@ alike-at f g (x ∷ xs) (y ∷ ys) h (suc i) d e lt =
 pub alike-length : {A B C : Type 0} (f : A → C) (g : B → C) (xs : List A) (ys : List B) → map g ys ≡ map f xs → length ys ≡ length xs
 alike-length f g xs ys h = sym (length-map ys g) ∙ ap length h ∙ length-map xs f
 
-an_element : {A : Type 0} (xs : List A) (i : ℕ) → i < length xs → A
+-- a list with a place has an element
+pub an_element : {A : Type 0} (xs : List A) (i : ℕ) → i < length xs → A
 an_element [] i lt = absurd (omega (arith, lt))
 an_element (x ∷ xs) i lt = x
 

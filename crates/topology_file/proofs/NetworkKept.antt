@@ -1,5 +1,5 @@
 -- What every scenario keeps of its nodes, links and tree, from the rules that its table passed.
-use Rattle.std.proofs.Common.{◌≡◌, ◌≢◌, ◌⊎◌, inl, inr, ℕ, ◌+◌, ◌-◌, ◌*◌, ◌^◌, ◌<◌, ◌≤◌, Bool, true, ◌&&◌, List, [], ◌∷◌, Option, Some, None, option_map, Ok, refl, sym, ap, subst, ◌∙◌, length, get_or, take, get_or-take, eqb, leb-true, ltb-false, IfSome, IfOk, arith}
+use Rattle.std.proofs.Common.{◌≡◌, ◌≢◌, ◌⊎◌, inl, inr, ℕ, ◌+◌, ◌-◌, ◌*◌, ◌^◌, ◌<◌, ◌≤◌, Bool, true, ◌&&◌, List, [], Option, Some, None, option_map, Ok, refl, sym, ap, subst, ◌∙◌, length, get_or, take, get_or-take, eqb, leb-true, ltb-false, IfSome, IfOk, arith}
 use Rattle.std.proofs.lemmas.Bool.{and_parts, false≢true}
 use Rattle.std.proofs.lemmas.Bool.Decides.{nat_tests}
 use Rattle.std.proofs.lemmas.List.{length-take-le}
@@ -24,10 +24,11 @@ use Rattle.tree_topology.specs.Ports.{neighbours}
 use Rattle.tree_topology.specs.Refusal.{refusal}
 use Rattle.topology_file.specs.declared.entries.NodeEntry.{NodeEntry}
 use Rattle.topology_file.specs.declared.entries.LinkEntry.{LinkEntry}
-use Rattle.topology_file.specs.Entries.{is_name, name_of_text, name_at, kind_at, id_of_data, id_at, node_keys, node_entry, is_station, has_name, node_no, node_named, station_named, link_keys, rate_at, latency_at, link_between, link_form}
+use Rattle.tree_topology.specs.Refusal.{is_station}
+use Rattle.topology_file.specs.Entries.{is_name, name_of_text, name_at, kind_at, id_of_data, id_at, node_keys, node_entry, has_name, node_no, node_named, station_named, link_keys, rate_at, latency_at, link_between, link_form}
 use Rattle.topology_file.specs.Kinds.{IsStationNumber}
 use Rattle.topology_file.specs.Scenario.{has_name_of, has_id_of, is_small, nodes_of, links_of, tree_links, node_kinds, topology_of, unless_refused, tree_of, is_crowded}
-use Rattle.topology_file.proofs.Chains.{and_then-if, when-if, some-says, within-range, chain-if, chain-holds, chain-none, ok-says, ok-both, each-all, each-numbered}
+use Rattle.topology_file.proofs.Chains.{and_then-if, when-if, some-says, within-range, chain-if, chain-holds, chain-none, ok-says, an_element, ok-both, each-all, each-numbered}
 use Rattle.topology_file.proofs.HexRanges.{hex16-range}
 
 -- no condition on an entry
@@ -238,15 +239,11 @@ tree-keeps nodes links = tree-passed (topology_of nodes links) (refusal (node_ki
 place-of : (nodes : List NodeEntry) (x : ℕ) → IsNode (length nodes) x → length (take (x - 1) nodes) + 1 ≡ x
 place-of nodes x k = let short : x - 1 ≤ length nodes = omega (arith, k.0, k.1) in omega (arith, length-take-le (x - 1) nodes short, k.0)
 
-a_node : (nodes : List NodeEntry) (i : ℕ) → i < length nodes → NodeEntry
-a_node [] i lt = absurd (omega (arith, lt))
-a_node (x ∷ nodes) i lt = x
-
 pub few-links : (nodes : List NodeEntry) (links : List Link) → first_where (is_crowded links) [] nodes ≡ None
     → (x : ℕ) → IsNode (length nodes) x → length (neighbours links x) ≤ 16
 few-links nodes links e x k =
     let i = x - 1 in
     let inside : i < length nodes = omega (arith, k.0, k.1) in
-    let d = a_node nodes i inside in
+    let d = an_element nodes i inside in
     let F : ℕ → Type 0 = λ t. length (neighbours links t) ≤ 16 in
     subst F (place-of nodes x k) (ltb-false 16 (length (neighbours links (length (take i nodes) + 1))) (where-none (is_crowded links) nodes e i d inside))

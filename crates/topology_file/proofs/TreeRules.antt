@@ -1,5 +1,5 @@
 -- The rules on links and nodes, and what the tree refuses.
-use Rattle.std.proofs.Common.{◌≡◌, ◌≢◌, ℕ, ◌+◌, ◌*◌, ◌<◌, ◌≤◌, Bool, true, false, if◌then◌else◌, List, [], ◌∷◌, ◌++◌, Option, Some, None, Result, Ok, Err, IfSome, refl, sym, ap, subst, ◌∙◌, length, take, drop, mul-le-mul, arith}
+use Rattle.std.proofs.Common.{◌≡◌, ℕ, ◌+◌, ◌*◌, ◌<◌, ◌≤◌, Bool, true, false, if◌then◌else◌, List, [], ◌∷◌, ◌++◌, Option, Some, None, Result, Ok, Err, IfSome, refl, sym, ap, ◌∙◌, length, take, drop, mul-le-mul, arith}
 use Rattle.std.proofs.lemmas.Bool.Decides.{nat_tests}
 use Rattle.std.proofs.lemmas.List.{length-take-le}
 use Rattle.std.proofs.lemmas.List.Elements.{All-head, All-tail}
@@ -15,13 +15,14 @@ use Rattle.tree_topology.specs.Topology.{Topology}
 use Rattle.tree_topology.specs.declared.graph.Link.{Link}
 use Rattle.tree_topology.specs.declared.graph.NodeKind.{NodeKind}
 use Rattle.tree_topology.specs.declared.graph.TreeErr.{TreeErr}
-use Rattle.tree_topology.specs.declared.graph.TreeErr.TheVariants.{UnknownNode, SelfLink, SecondLink, Loop, Unconnected, StationWithLinks, TooManyLinks, NoMemory}
+use Rattle.tree_topology.specs.declared.graph.TreeErr.TheVariants.{UnknownNode, SelfLink, SecondLink}
 use Rattle.tree_topology.specs.Graph.{IsNode}
 use Rattle.tree_topology.specs.Ports.{neighbours}
 use Rattle.tree_topology.specs.Refusal.{has_unknown_end, is_self_link, is_second_link, refused_or, refusal}
 use Rattle.topology_file.specs.declared.entries.NodeEntry.{NodeEntry}
 use Rattle.topology_file.specs.declared.entries.LinkEntry.{LinkEntry}
-use Rattle.topology_file.specs.Scenario.{ends_of_entry, tree_links, is_crowded, proper_ends, rule_of, unless_refused}
+use Rattle.topology_file.specs.Scenario.{ends_of_entry, tree_links, is_crowded, proper_ends, unless_refused}
+use Rattle.topology_file.proofs.Chains.{an_element}
 
 -- ---- what is refused
 
@@ -79,20 +80,6 @@ pub ends-passed : (ends : List Link) (u : Unit {0}) → proper_ends ends ≡ Ok 
     → (first_where is_self_link [] ends ≡ None) × (first_where is_second_link [] ends ≡ None)
 ends-passed ends u h = passed-by (first_where is_self_link [] ends) (first_where is_second_link [] ends) u h
 
--- what the tree refuses is the rule that fails
-pub refused-said : (tree : Topology) (o : Option TreeErr) (e : TreeErr) (r : RuleErr) → r ≡ rule_of e → (e ≢ NoMemory → o ≡ Some e) → IfSome (broken_rule r) (λ f. unless_refused tree o ≡ Err f)
-refused-said tree o e r is h = let F : RuleErr → Type 0 = λ t. IfSome (broken_rule t) (λ f. unless_refused tree o ≡ Err f) in subst F (sym is) (by e h)
-  where
-    by : (e : TreeErr) → (e ≢ NoMemory → o ≡ Some e) → IfSome (broken_rule (rule_of e)) (λ f. unless_refused tree o ≡ Err f)
-    by (UnknownNode n) h = ap (unless_refused tree) (h (λ q. cc))
-    by (SelfLink n) h = ap (unless_refused tree) (h (λ q. cc))
-    by (SecondLink n) h = ap (unless_refused tree) (h (λ q. cc))
-    by (Loop n) h = ap (unless_refused tree) (h (λ q. cc))
-    by (Unconnected n) h = ap (unless_refused tree) (h (λ q. cc))
-    by (StationWithLinks n) h = ap (unless_refused tree) (h (λ q. cc))
-    by (TooManyLinks n) h = ap (unless_refused tree) (h (λ q. cc))
-    by NoMemory h = tt
-
 -- the links are few enough for the tree's crate
 pub links-few : (count links : ℕ) → count ≤ 64 → links ≤ (count + 1) * (count + 1) → links < 65536
 links-few count links few le =
@@ -105,10 +92,6 @@ links-few count links few le =
 place : (nodes : List NodeEntry) (i : ℕ) → i < length nodes → length (take i nodes) + 1 ≡ i + 1
 place nodes i lt = omega (arith, length-take-le i nodes (omega (arith, lt)))
 
-a_node : (nodes : List NodeEntry) (i : ℕ) → i < length nodes → NodeEntry
-a_node [] i lt = absurd (omega (arith, lt))
-a_node (x ∷ nodes) i lt = x
-
 lt-true : (a b : ℕ) → a < b → nat_lt a b ≡ true
 lt-true a b h = grind (arith, nat_tests)
 
@@ -118,13 +101,13 @@ lt-false a b h = grind (arith, nat_tests)
 pub crowded-here : (links : List Link) (nodes : List NodeEntry) (i n : ℕ) (o : Option ℕ) → i < length nodes → n ≡ length (neighbours links (i + 1)) → 16 < n
     → first_where (is_crowded links) (take i nodes) (drop i nodes) ≡ o → Some (i + 1) ≡ o
 crowded-here links nodes i n o lt e many h =
-    let d = a_node nodes i lt in
+    let d = an_element nodes i lt in
     let test = ap (λ (t : ℕ). nat_lt 16 (length (neighbours links t))) (place nodes i lt) ∙ lt-true 16 (length (neighbours links (i + 1))) (omega (arith, e, many)) in
     sym (where-here (is_crowded links) nodes i d lt test) ∙ h
 
 pub crowded-later : (links : List Link) (nodes : List NodeEntry) (i n : ℕ) (o : Option ℕ) → i < length nodes → n ≡ length (neighbours links (i + 1)) → n ≤ 16
     → first_where (is_crowded links) (take i nodes) (drop i nodes) ≡ o → first_where (is_crowded links) (take (i + 1) nodes) (drop (i + 1) nodes) ≡ o
 crowded-later links nodes i n o lt e few h =
-    let d = a_node nodes i lt in
+    let d = an_element nodes i lt in
     let test = ap (λ (t : ℕ). nat_lt 16 (length (neighbours links t))) (place nodes i lt) ∙ lt-false 16 (length (neighbours links (i + 1))) (omega (arith, e, few)) in
     sym (where-later (is_crowded links) nodes i d lt test) ∙ h

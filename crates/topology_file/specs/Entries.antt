@@ -1,6 +1,6 @@
 -- The nodes and links of a file: their keys, their values and their defaults, and the numbers of the nodes
 -- that they name.
-use Rattle.std.specs.Prelude.{ℕ, ◌==◌, Bool, true, false, ◌&&◌, ◌||◌, nat_le, nat_eq, if◌then◌else◌, List, [], ◌∷◌, length, codes, Option, Some, None, option_map, option_and_then}
+use Rattle.std.specs.Prelude.{ℕ, ◌==◌, Bool, ◌&&◌, ◌||◌, nat_le, nat_eq, if◌then◌else◌, List, [], ◌∷◌, length, codes, Option, Some, None, option_map, option_and_then}
 use Rattle.std.specs.Cmp.Lexicographic.{pointwise}
 use Rattle.std.specs.List.{list_all}
 use Rattle.srp_base.specs.declared.bandwidth.Rate.{Rate}
@@ -13,6 +13,7 @@ use Rattle.toml_rules.specs.Fields.{◌>>=◌, or_default, number_or, within, te
 use Rattle.toml_rules.specs.Shares.{shares_at}
 use Rattle.tree_topology.specs.declared.graph.NodeKind.{NodeKind}
 use Rattle.tree_topology.specs.declared.graph.NodeKind.TheVariants.{Station, Bridge}
+use Rattle.tree_topology.specs.Refusal.{is_station}
 use Rattle.topology_file.specs.declared.entries.NodeEntry.{NodeEntry}
 use Rattle.topology_file.specs.declared.entries.LinkEntry.{LinkEntry}
 
@@ -26,6 +27,7 @@ is_name_char c = nat_le 97 c && nat_le c 122 || nat_le 48 c && nat_le c 57 || c 
 abbrev pub is_name : List ℕ → Bool
 is_name word = nat_le 1 (length word) && nat_le (length word) 32 && list_all is_name_char word
 
+-- a text as a name, where it may be that of a node or of a stream
 abbrev pub name_of_text : List ℕ → Option (List ℕ)
 name_of_text word = if is_name word then Some word else None
 
@@ -35,15 +37,18 @@ name_at key ms = option_and_then name_of_text (text key ms)
 
 -- ---- nodes
 
+-- an end station or a bridge, by its word
 abbrev pub kind_of_text : List ℕ → Option NodeKind
 kind_of_text word =
     if pointwise nat_eq word (codes "station") then Some Station
     else if pointwise nat_eq word (codes "bridge") then Some Bridge
     else None
 
+-- the BridgeID that a text of sixteen hexadecimal digits gives
 abbrev pub id_of_data : Data → Option ℕ
 id_of_data d = option_and_then hex16 (as_str d)
 
+-- what a `[[node]]` table may say: what the node is called, what it is, and its BridgeID
 abbrev pub node_keys : List (List ℕ)
 node_keys = codes "name" ∷ codes "kind" ∷ codes "id" ∷ []
 
@@ -67,10 +72,7 @@ known_node n ms = do
 abbrev pub node_entry : ℕ → Members → Option NodeEntry
 node_entry n ms = if has_only node_keys ms then known_node n ms else None
 
-abbrev pub is_station : NodeKind → Bool
-is_station Station = true
-is_station Bridge = false
-
+-- the node is called so, byte by byte
 abbrev pub has_name : List ℕ → NodeEntry → Bool
 has_name name x = pointwise nat_eq x.name name
 
@@ -88,6 +90,7 @@ station_named nodes name = option_map node_no (first_where (λ earlier x. has_na
 
 -- ---- links
 
+-- what a `[[link]]` table may say: its ends, its rate, the shares of SR classes A and B, and its latency
 abbrev pub link_keys : List (List ℕ)
 link_keys = codes "a" ∷ codes "b" ∷ codes "rate" ∷ codes "delta_a" ∷ codes "delta_b" ∷ codes "latency" ∷ []
 

@@ -25,9 +25,11 @@ known_event ticks nodes links streams ms = do
 abbrev pub event_form : ℕ → List NodeEntry → List LinkEntry → List StreamEntry → ℕ → Members → Option EventForm
 event_form ticks nodes links streams n ms = if nat_le n 10000 then known_event ticks nodes links streams ms else None
 
+-- the moments of events in cs, in the order of the file, before their names are known
 abbrev pub form_ticks : List EventForm → List ℕ
 form_ticks forms = map (λ e. e.tick) forms
 
+-- the moments of events in cs, in the order of the file, once their names are known
 abbrev pub event_ticks : List EventEntry → List ℕ
 event_ticks events = map (λ e. e.tick) events
 

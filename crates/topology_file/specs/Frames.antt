@@ -16,9 +16,11 @@ use Rattle.topology_file.specs.Streams.{stream_named, stream_vid_at}
 
 -- ---- the route
 
+-- what a `[[frame]]` table may say of a frame in a stream
 abbrev pub stream_frame_keys : List (List ℕ)
 stream_frame_keys = codes "stream" ∷ codes "octets" ∷ codes "at" ∷ codes "count" ∷ codes "every" ∷ []
 
+-- what it may say of a frame beside the streams, from one end station to another
 abbrev pub pair_frame_keys : List (List ℕ)
 pair_frame_keys =
     codes "from" ∷ codes "to" ∷ codes "vid" ∷ codes "octets" ∷ codes "at" ∷ codes "count" ∷ codes "every" ∷ []
@@ -85,6 +87,7 @@ times_in ticks ms = do
 
 -- ---- the frame
 
+-- the octets of its data, without the 42 octets of overhead
 abbrev pub frame_octets_at : Members → Option ℕ
 frame_octets_at ms = within 0 1500 (number (codes "octets") ms)
 

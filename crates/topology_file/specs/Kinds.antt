@@ -13,14 +13,17 @@ use Rattle.topology_file.specs.declared.entries.LinkEntry.{LinkEntry}
 use Rattle.topology_file.specs.declared.entries.StreamEntry.{StreamEntry}
 use Rattle.topology_file.specs.declared.entries.EventKind.{EventKind}
 use Rattle.topology_file.specs.declared.entries.EventKind.TheVariants as kinds
-use Rattle.topology_file.specs.Entries.{name_at, is_station, node_named, station_named, joins_both}
+use Rattle.tree_topology.specs.Refusal.{is_station}
+use Rattle.topology_file.specs.Entries.{name_at, node_named, station_named, joins_both}
 use Rattle.topology_file.specs.Streams.{stream_named, is_talker_of}
 
 -- ---- at a station, a VID
 
+-- what an event at a station says of a VLAN
 abbrev pub vlan_keys : List (List ℕ)
 vlan_keys = codes "tick" ∷ codes "kind" ∷ codes "station" ∷ codes "vid" ∷ []
 
+-- the VID, of those that a VLAN may have (IEEE Std 802.1Q-2018, 9.6)
 abbrev pub vid_at : Members → Option ℕ
 vid_at ms = within 1 4094 (number (codes "vid") ms)
 
@@ -31,6 +34,7 @@ known_vlan nodes ms = do
   vid ← vid_at ms
   Some (station_named nodes name, vid)
 
+-- the same, of an event with exactly these keys
 abbrev pub vlan_at : List NodeEntry → Members → Option (Option NodeNo × ℕ)
 vlan_at nodes ms = if has_only vlan_keys ms then known_vlan nodes ms else None
 
@@ -40,6 +44,7 @@ vlan_form kind nodes ms = option_map (λ p. option_map (λ x. kind x p.1) p.0) (
 
 -- ---- at a stream's talker
 
+-- what an event at a Talker says of its stream
 abbrev pub talker_keys : List (List ℕ)
 talker_keys = codes "tick" ∷ codes "kind" ∷ codes "stream" ∷ []
 
@@ -47,6 +52,7 @@ talker_keys = codes "tick" ∷ codes "kind" ∷ codes "stream" ∷ []
 abbrev pub known_talker : List StreamEntry → Members → Option (Option ℕ)
 known_talker streams ms = option_map (λ name. stream_named streams name) (name_at (codes "stream") ms)
 
+-- the same, of an event with exactly these keys
 abbrev pub talker_at : List StreamEntry → Members → Option (Option ℕ)
 talker_at streams ms = if has_only talker_keys ms then known_talker streams ms else None
 
@@ -56,6 +62,7 @@ talker_form kind streams ms = option_map (λ o. option_map kind o) (talker_at st
 
 -- ---- at a station, a stream
 
+-- what an event at a Listener says of its station and of a stream
 abbrev pub listener_keys : List (List ℕ)
 listener_keys = codes "tick" ∷ codes "kind" ∷ codes "station" ∷ codes "stream" ∷ []
 
@@ -66,6 +73,7 @@ known_listener ms = do
   stream ← name_at (codes "stream") ms
   Some (station, stream)
 
+-- the same, of an event with exactly these keys
 abbrev pub listener_at : Members → Option (List ℕ × List ℕ)
 listener_at ms = if has_only listener_keys ms then known_listener ms else None
 
@@ -88,9 +96,11 @@ listener_form kind named ms = option_map (λ p. option_map (λ x. kind x.0 x.1) 
 
 -- ---- a PDU that waits at a node
 
+-- what an event on a link says of a PDU: who sent it, where it waits, and which of those that wait
 abbrev pub pdu_keys : List (List ℕ)
 pdu_keys = codes "tick" ∷ codes "kind" ∷ codes "from" ∷ codes "to" ∷ codes "index" ∷ []
 
+-- how many PDUs of the same sender wait before it
 abbrev pub index_at : Members → Option ℕ
 index_at ms = within 0 65535 (number (codes "index") ms)
 
@@ -109,6 +119,7 @@ known_pdu nodes links ms = do
   index ← index_at ms
   Some (joined_named nodes links from to, index)
 
+-- the same, of an event with exactly these keys
 abbrev pub pdu_at : List NodeEntry → List LinkEntry → Members → Option (Option (NodeNo × NodeNo) × ℕ)
 pdu_at nodes links ms = if has_only pdu_keys ms then known_pdu nodes links ms else None
 

@@ -1,5 +1,6 @@
 pub mod Entries
 pub mod Events
+pub mod Fields
 pub mod Frames
 pub mod Kinds
 pub mod Parts

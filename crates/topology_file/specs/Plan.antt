@@ -8,6 +8,7 @@ use Rattle.topology_file.specs.declared.entries.StreamEntry.{StreamEntry}
 use Rattle.topology_file.specs.declared.entries.EventEntry.{EventEntry}
 use Rattle.topology_file.specs.declared.entries.FrameEntry.{FrameEntry}
 
+-- its times in cs, the tree of its nodes and links, and its entries, each at the place of its number
 pub record Plan : Type 0 where
   pub ticks : ℕ
   pub leave_time : Cs

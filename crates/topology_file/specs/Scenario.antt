@@ -34,9 +34,11 @@ use Rattle.topology_file.specs.Streams.{stream_form, stream_entry}
 
 -- ---- nodes
 
+-- an earlier node is called the same
 abbrev pub has_name_of : List NodeEntry → NodeEntry → Bool
 has_name_of earlier x = list_any (λ y. pointwise nat_eq y.name x.name) earlier
 
+-- an earlier node has the same BridgeID
 abbrev pub has_id_of : List NodeEntry → NodeEntry → Bool
 has_id_of earlier x = list_any (λ y. y.id.0 == x.id.0) earlier
 
@@ -45,6 +47,7 @@ abbrev pub is_small : ℕ → List NodeEntry → Bool
 is_small ticks nodes =
     nat_le 2 (length nodes) && nat_le (length nodes) 64 && nat_le (length nodes * ticks) 400000
 
+-- rules 4 to 7: the end stations and bridges, numbered from 1 in the order of the file
 abbrev pub nodes_of : ℕ → List Members → Result (List NodeEntry) RuleErr
 nodes_of ticks entries = do
   nodes ← each_entry 4 node_entry 1 entries
@@ -55,6 +58,7 @@ nodes_of ticks entries = do
 
 -- ---- links
 
+-- rules 8 and 9: the links with the numbers of the nodes at their ends
 abbrev pub links_of : List NodeEntry → List Members → Result (List LinkEntry) RuleErr
 links_of nodes entries = do
   forms ← each_entry 8 (link_form nodes) 1 entries
@@ -62,15 +66,19 @@ links_of nodes entries = do
 
 -- ---- the tree
 
+-- whom a link joins, without its rate, shares and latency
 abbrev pub ends_of_entry : LinkEntry → Link
 ends_of_entry l = record { a = l.a; b = l.b }
 
+-- who is joined with whom, in the order of the links in the file
 abbrev pub tree_links : List LinkEntry → List Link
 tree_links links = map ends_of_entry links
 
+-- who is an end station and who a bridge, in the order of the nodes in the file
 abbrev pub node_kinds : List NodeEntry → List NodeKind
 node_kinds nodes = map (λ x. x.kind) nodes
 
+-- the active topology, where the links form a tree
 abbrev pub topology_of : List NodeEntry → List LinkEntry → Topology
 topology_of nodes links = record { kinds = node_kinds nodes; links = tree_links links }
 
@@ -96,6 +104,7 @@ abbrev pub unless_refused : Topology → Option TreeErr → Result Topology Rule
 unless_refused tree None = Ok tree
 unless_refused tree (Some e) = Err (rule_of e)
 
+-- rules 10 to 14: the active topology, which is all the links, since they have to form a tree
 abbrev pub tree_of : List NodeEntry → List LinkEntry → Result Topology RuleErr
 tree_of nodes links =
     unless_refused (topology_of nodes links) (refusal (node_kinds nodes) (tree_links links))
@@ -106,12 +115,15 @@ is_crowded links earlier x = nat_lt 16 (length (neighbours links (length earlier
 
 -- ---- streams
 
+-- an earlier stream is called the same
 abbrev pub has_stream_name_of : List StreamForm → StreamForm → Bool
 has_stream_name_of earlier x = list_any (λ y. pointwise nat_eq y.name x.name) earlier
 
+-- an earlier stream has the same StreamID (IEEE Std 802.1Q-2018, 35.2.2.8.2)
 abbrev pub has_stream_id_of : List StreamForm → StreamForm → Bool
 has_stream_id_of earlier x = list_any (λ y. y.values.id.0 == x.values.id.0) earlier
 
+-- rules 16 to 19: the streams, numbered from 1: what each Talker declares, and the end station that it is at
 abbrev pub streams_of : List NodeEntry → List Members → Result (List StreamEntry) RuleErr
 streams_of nodes entries = do
   forms ← each_entry 16 (stream_form nodes) 1 entries
@@ -121,6 +133,7 @@ streams_of nodes entries = do
 
 -- ---- events
 
+-- rules 20 to 22: what applications declare and withdraw, and which PDUs are lost or doubled, tick by tick
 abbrev pub events_of : ℕ → List NodeEntry → List LinkEntry → List StreamEntry → List Members → Result (List EventEntry) RuleErr
 events_of ticks nodes links streams entries = do
   forms ← each_entry 20 (event_form ticks nodes links streams) 1 entries
@@ -129,6 +142,7 @@ events_of ticks nodes links streams entries = do
 
 -- ---- frames
 
+-- rules 23 and 24: what is sent in the streams and beside them, 100,000 copies at most
 abbrev pub frames_of : ℕ → List NodeEntry → List StreamEntry → List Members → Result (List FrameEntry) RuleErr
 frames_of ticks nodes streams entries = do
   forms ← each_within 23 form_copies (frame_form ticks nodes streams) 1 100000 entries
@@ -136,11 +150,13 @@ frames_of ticks nodes streams entries = do
 
 -- ---- the file
 
+-- what a file may say: its times, and its arrays of tables
 abbrev pub file_keys : List (List ℕ)
 file_keys =
     codes "ticks" ∷ codes "leave_time" ∷ codes "periodic" ∷ codes "node" ∷ codes "link" ∷ codes "stream"
     ∷ codes "event" ∷ codes "frame" ∷ []
 
+-- how long the run is, in cs
 abbrev pub ticks_at : Members → Option ℕ
 ticks_at ms = within 1 12000 (number (codes "ticks") ms)
 

@@ -15,6 +15,7 @@ use Rattle.topology_file.specs.declared.entries.StreamForm.{StreamForm}
 use Rattle.topology_file.specs.declared.entries.StreamValues.{StreamValues}
 use Rattle.topology_file.specs.Entries.{name_at, station_named}
 
+-- what a `[[stream]]` table may say: who talks, and what its Talker declares (IEEE Std 802.1Q-2018, 35.2.2.8)
 abbrev pub stream_keys : List (List ℕ)
 stream_keys =
     codes "name" ∷ codes "id" ∷ codes "talker" ∷ codes "dest" ∷ codes "octets" ∷ codes "frames" ∷ codes "vid"
@@ -44,6 +45,7 @@ stream_vid_at ms = within 1 4094 (number_or (codes "vid") 2 ms)
 abbrev pub priority_at : Members → Option ℕ
 priority_at ms = within 0 7 (number_or (codes "priority") 3 ms)
 
+-- 0 is emergency traffic, 1 all other: the Rank bit of PriorityAndRank (IEEE Std 802.1Q-2018, 35.2.2.8.5)
 abbrev pub rank_of_number : ℕ → Option Rank
 rank_of_number n = if n == 0 then Some Emergency else if n == 1 then Some Normal else None
 
@@ -95,6 +97,7 @@ stream_entry n form = option_map (λ talker. stream_of form talker) form.talker
 
 -- ---- the streams of names
 
+-- the stream is called so, byte by byte
 abbrev pub is_stream_named : List ℕ → StreamEntry → Bool
 is_stream_named name s = pointwise nat_eq s.name name
 

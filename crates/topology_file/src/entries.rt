@@ -5,19 +5,22 @@ use srp_base::{BridgeId, Mac, NodeNo, Percent, Priority, Rank, Rate, Seq, Stream
 use tree_topology::NodeKind;
 
 /// A node.
-#[derive(Debug, PartialEq, Eq, Drop)]
+#[derive(PartialEq, Eq, Drop)]
 pub struct NodeEntry {
     /// The bytes of its name: 1 to 32 characters a to z, 0 to 9, `-` and `_`.
     pub name: Seq<u8>,
+    /// An end station or a bridge.
     pub kind: NodeKind,
     /// Its identifier, the node's number where the file gives none.
     pub id: BridgeId,
 }
 
 /// A link, with values that hold in both its directions.
-#[derive(Clone, Copy, Debug, PartialEq, Eq)]
+#[derive(Clone, Copy, PartialEq, Eq)]
 pub struct LinkEntry {
+    /// The node at its one end.
     pub a: NodeNo,
+    /// The node at its other end.
     pub b: NodeNo,
     /// 100 Mb/s, 1 Gb/s or 10 Gb/s.
     pub rate: Rate,
@@ -31,7 +34,7 @@ pub struct LinkEntry {
 }
 
 /// A stream: who talks in it, and what its Talker declares (IEEE Std 802.1Q-2018, 35.2.2.8).
-#[derive(Debug, PartialEq, Eq, Drop)]
+#[derive(PartialEq, Eq, Drop)]
 pub struct StreamEntry {
     /// The bytes of its name: 1 to 32 characters a to z, 0 to 9, `-` and `_`.
     pub name: Seq<u8>,
@@ -44,13 +47,16 @@ pub struct StreamEntry {
     pub octets: u16,
     /// MaxIntervalFrames, the most frames in a class measurement interval.
     pub frames: u16,
+    /// The VID of its frames: 1 to 4,094.
     pub vid: Vid,
+    /// The priority of its frames: 3 is SR class A, 2 SR class B, and no other is of an SR class (34.5).
     pub priority: Priority,
+    /// The Rank bit: emergency traffic, or all other (35.2.2.8.5).
     pub rank: Rank,
 }
 
 /// An event of a tick.
-#[derive(Clone, Copy, Debug, PartialEq, Eq)]
+#[derive(Clone, Copy, PartialEq, Eq)]
 pub struct EventEntry {
     /// The tick in cs from the start, below the scenario's ticks.
     pub tick: u64,
@@ -58,7 +64,7 @@ pub struct EventEntry {
 }
 
 /// What happens. A stream is named by its entry's number, from 1.
-#[derive(Clone, Copy, Debug, PartialEq, Eq)]
+#[derive(Clone, Copy, PartialEq, Eq)]
 pub enum EventKind {
     /// A station's application declares a VID.
     Declare {
@@ -103,7 +109,7 @@ pub enum EventKind {
 }
 
 /// A frame with its copies. The i-th copy, from 0, stands at `at + i * every`.
-#[derive(Clone, Copy, Debug, PartialEq, Eq)]
+#[derive(Clone, Copy, PartialEq, Eq)]
 pub struct FrameEntry {
     pub route: FrameRoute,
     /// The octets of its data, without the 42 octets of overhead: 0 to 1,500.
@@ -117,7 +123,7 @@ pub struct FrameEntry {
 }
 
 /// Where a frame goes, and as what.
-#[derive(Clone, Copy, Debug, PartialEq, Eq)]
+#[derive(Clone, Copy, PartialEq, Eq)]
 pub enum FrameRoute {
     /// From a stream's talker, with the stream's VID and the traffic of its priority's class.
     OfStream { stream: u16 },

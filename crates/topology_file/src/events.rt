@@ -1,6 +1,6 @@
 //! The events of a scenario: rules 20 to 22.
 
-ghost use Rattle.std.specs.Prelude.{◌≡◌, ◌≤◌, map, length, Option};
+ghost use Rattle.std.specs.Prelude.{◌≡◌, ◌≤◌, map, length};
 ghost use Rattle.toml.specs.View.{table_view};
 ghost use Rattle.toml_rules.specs.Rules.{Reads, each_entry as each_entry_spec, first_fall as first_fall_spec};
 ghost use Rattle.topology_file.specs.Events.{known_event, event_form, event_entry, form_ticks};
@@ -112,7 +112,8 @@ pub(crate) fn read_events(
     requires nodes { length nodes.now ≤ 64 }
     requires streams { length streams.now ≤ 128 }
     ensures { Reads (λ v. v.items) result
-        (events_of ticks nodes.now links.now streams.now (map (λ t. table_view t.now) entries.now)) }
+        (events_of ticks nodes.now links.now streams.now
+        (map (λ t. table_view t.now) entries.now)) }
 {
     let forms = read_forms(alloc, ticks, nodes, links, streams, entries)?;
     no_entry(21, falling_event(&forms))?;

@@ -1,15 +1,15 @@
 //! The form of each entry: its keys, their values and their defaults.
 
-ghost use Rattle.std.specs.Prelude.{◌≡◌, Option};
-ghost use Rattle.std.specs.Option.{option_and_then, option_copied};
-ghost use Rattle.toml.specs.View.{view, table_view};
+ghost use Rattle.std.specs.Prelude.{◌≡◌};
+ghost use Rattle.std.specs.Option.{option_copied};
+ghost use Rattle.toml.specs.View.{table_view};
 ghost use Rattle.topology_file.specs.Entries.{is_name_char as is_name_char_spec, is_name as is_name_spec, name_at, kind_of_text, kind_at, id_at, rate_at, latency_at};
 ghost use Rattle.topology_file.specs.Events.{tick_at};
 ghost use Rattle.topology_file.specs.Kinds.{vid_at, index_at};
 ghost use Rattle.std.specs.List.{list_all};
 
 use srp_base::{Rate, Vid, read_hex16};
-use toml::{Table, Value};
+use toml::Table;
 use toml_rules::{number, number_or, text, value_at, within};
 use tree_topology::NodeKind;
 

@@ -1,9 +1,9 @@
 //! The frames of a scenario: rules 23 and 24.
 
-ghost use Rattle.std.specs.Prelude.{◌≡◌, ◌≤◌, map, length, Option, IfSome};
+ghost use Rattle.std.specs.Prelude.{◌≡◌, ◌≤◌, map, length};
 ghost use Rattle.toml.specs.View.{table_view};
 ghost use Rattle.toml_rules.specs.Rules.{Reads, each_entry as each_entry_spec, each_within as each_within_spec};
-ghost use Rattle.topology_file.specs.Frames.{stream_route, apart_named, pair_route, route_at, count_at, times_at, last_copy as last_copy_spec, ends_in as ends_in_spec, times_in, frame_octets_at, frame_form, form_copies, frame_entry, frame_copies};
+ghost use Rattle.topology_file.specs.Frames.{stream_route, apart_named, pair_route, route_at, count_at, times_at, ends_in as ends_in_spec, times_in, frame_octets_at, frame_form, form_copies, frame_entry, frame_copies};
 ghost use Rattle.topology_file.specs.Scenario.{frames_of};
 
 use crate::entries::{FrameEntry, FrameForm, FrameRoute, FrameTimes, NodeEntry, StreamEntry};

@@ -1,7 +1,7 @@
 //! The kinds of events: the keys of each, and what it names. A kind is a reader and its arm of
 //! `read_kind`.
 
-ghost use Rattle.std.specs.Prelude.{◌≡◌, ◌≤◌, length, Option, option_map};
+ghost use Rattle.std.specs.Prelude.{◌≡◌, ◌≤◌, length, option_map};
 ghost use Rattle.toml.specs.View.{table_view};
 ghost use Rattle.topology_file.specs.Kinds.{known_vlan, vlan_at, known_talker, talker_at, known_listener, listener_at, both_named as both_named_spec, listener_named as listener_named_spec, joined_named, known_pdu, pdu_at, vlan_form, talker_form, listener_form, pdu_form, kind_form};
 ghost use Rattle.topology_file.specs.declared.entries.EventKind.TheVariants.{Declare, Withdraw, Talk, Hush, Listen, Unlisten, Lose, Repeat};

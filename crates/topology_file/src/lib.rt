@@ -21,7 +21,8 @@
 //! A new key of an entry is a reader, a field in `entries`, and one line in the reader of that entry and in
 //! its definition (`specs/Entries.antt`, `specs/Streams.antt`, `specs/Frames.antt`). A new kind of event is
 //! a variant of `EventKind`, a reader and its arm of `read_kind` (`src/kinds.rt`), and in
-//! `specs/Kinds.antt` a case of `kind_form`, by its word, and one of `IsKnownKind`, for what it names.
+//! `specs/Kinds.antt` a case of `kind_form`, by its word, and one of `IsKnownKind`, for what it names, with its
+//! proof in `proofs/EventsKept.antt`. What it is in the network stands in the crates above.
 #![tactic(auto)]
 
 mod entries;

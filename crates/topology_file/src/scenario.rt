@@ -50,33 +50,15 @@ pub struct Scenario {
 
 impl Model for Scenario {
     ghost use Rattle.topology_file.specs.Plan.{Plan};
-    ghost use Rattle.topology_file.specs.Scenario.{KeepsRules};
 
     ghost Value = { Plan };
 
-    ghost view = { λ s. record {
-      ticks = s.ticks;
-      leave_time = s.leave_time;
-      periodic = s.periodic;
-      tree = s.tree;
-      nodes = s.nodes;
-      links = s.links;
-      streams = s.streams;
-      events = s.events;
-      frames = s.frames;
-    } };
+    ghost use Rattle.topology_file.specs.Fields.{plan_of_fields};
+    ghost use Rattle.topology_file.specs.Scenario.{KeepsRules};
 
-    ghost invariant = { λ s. KeepsRules (record {
-      ticks = s.ticks;
-      leave_time = s.leave_time;
-      periodic = s.periodic;
-      tree = s.tree;
-      nodes = s.nodes;
-      links = s.links;
-      streams = s.streams;
-      events = s.events;
-      frames = s.frames;
-    }) };
+    ghost view = { plan_of_fields };
+
+    ghost invariant = { λ s. KeepsRules (plan_of_fields s) };
 }
 
 impl Scenario {

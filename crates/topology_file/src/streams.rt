@@ -1,8 +1,6 @@
 //! The streams of a scenario: rules 16 to 19.
 
-ghost use Rattle.std.specs.Prelude.{◌≡◌, ◌≤◌, ◌==◌, ◌&&◌, [], map, length, nat_eq, Option, IfOk, IfSome};
-ghost use Rattle.std.specs.Cmp.Lexicographic.{pointwise};
-ghost use Rattle.std.specs.List.{list_any};
+ghost use Rattle.std.specs.Prelude.{◌≡◌, ◌≤◌, ◌==◌, ◌&&◌, [], map, length, IfOk, IfSome};
 ghost use Rattle.srp_base.specs.Firsts.{first_where as first_where_spec};
 ghost use Rattle.toml.specs.View.{table_view};
 ghost use Rattle.toml_rules.specs.Rules.{Reads, each_entry as each_entry_spec};
@@ -12,7 +10,7 @@ ghost use Rattle.topology_file.specs.Streams.{stream_id_at, dest_at, octets_at, 
 use crate::entries::{NodeEntry, StreamEntry, StreamForm, StreamValues};
 use crate::forms::read_name;
 use crate::nodes::{copy_name, station_named};
-use srp_base::{Mac, NoMemory, NodeNo, Priority, Rank, StreamId, Vid, read_hex12, read_hex16};
+use srp_base::{Mac, NoMemory, Priority, Rank, StreamId, Vid, read_hex12, read_hex16};
 use std::alloc::Global;
 use toml::Table;
 use toml_rules::{

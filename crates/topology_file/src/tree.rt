@@ -1,6 +1,6 @@
 //! The tree of a scenario: rules 10 to 15.
 
-ghost use Rattle.std.specs.Prelude.{◌≡◌, ◌≤◌, ◌<◌, [], map, length, All, None, IfOk};
+ghost use Rattle.std.specs.Prelude.{◌≡◌, ◌≤◌, [], length, All, None, IfOk};
 ghost use Rattle.srp_base.specs.Firsts.{first_where as first_where_spec};
 ghost use Rattle.toml_rules.specs.Rules.{Reads};
 ghost use Rattle.tree_topology.specs.Graph.{IsNode};
