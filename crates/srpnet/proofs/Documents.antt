@@ -6,7 +6,7 @@ use Rattle.std.proofs.lemmas.Str.{IsUtf8-from_is_utf8, is_utf8-from_IsUtf8}
 use Rattle.std.specs.Str.{is_utf8}
 use Rattle.toml.specs.Data.{Members}
 use Rattle.toml.specs.Parse.{parse_document}
-use Rattle.srpnet.specs.Input.{document}
+use Rattle.srpnet.specs.Document.{document}
 
 pub document_found : (octets : List ℕ) (ms : Members) → IsUtf8 octets → parse_document octets ≡ Some ms → document octets ≡ Some ms
 document_found octets ms utf8 parsed = rw (is_utf8-from_IsUtf8 octets utf8) parsed

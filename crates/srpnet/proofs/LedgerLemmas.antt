@@ -12,7 +12,8 @@ use Rattle.stream_importance.specs.declared.entry.Want.{Want}
 use Rattle.stream_importance.specs.declared.entry.Fit.{Fit}
 use Rattle.stream_importance.specs.declared.entry.Fit.TheVariants.{Fits, TooLittle}
 use Rattle.port_ledger.specs.Book.{Book, fit_for, since_of, want_of}
-use Rattle.srpnet.specs.LedgerFile.{first_fall}
+use Rattle.toml_rules.specs.Rules.{first_fall}
+use Rattle.srpnet.specs.LedgerFile.{want_ticks}
 use Rattle.srpnet.specs.LedgerRun.{Applies, Leads}
 use Rattle.srpnet.specs.LedgerText.{HasLines, last_want, line_by, want_line}
 use Rattle.srpnet.specs.declared.ledger.file.LedgerWant.{LedgerWant}
@@ -55,14 +56,14 @@ kept_step old new ws i d l after before s =
 
 -- where no tick falls from one want on, none falls from the next one on
 pub none_falls_next : (n before : ℕ) (ws : List LedgerWant) (i : ℕ) (d : LedgerWant) → i < length ws
-    → first_fall n before (drop i ws) ≡ None
-    → first_fall (n + 1) (get_or ws i d).tick.0 (drop (i + 1) ws) ≡ None
+    → first_fall n before (want_ticks (drop i ws)) ≡ None
+    → first_fall (n + 1) (get_or ws i d).tick.0 (want_ticks (drop (i + 1) ws)) ≡ None
 none_falls_next n before ws i d l none =
-    by_test (nat_lt (get_or ws i d).tick.0 before) (sym (ap (first_fall n before) (drop_more ws i d l)) ∙ none)
+    by_test (nat_lt (get_or ws i d).tick.0 before) (sym (ap (λ rest. first_fall n before (want_ticks rest)) (drop_more ws i d l)) ∙ none)
   where
     by_test : (b : Bool)
-        → cond b (Some n) (first_fall (n + 1) (get_or ws i d).tick.0 (drop (i + 1) ws)) ≡ None
-        → first_fall (n + 1) (get_or ws i d).tick.0 (drop (i + 1) ws) ≡ None
+        → cond b (Some n) (first_fall (n + 1) (get_or ws i d).tick.0 (want_ticks (drop (i + 1) ws))) ≡ None
+        → first_fall (n + 1) (get_or ws i d).tick.0 (want_ticks (drop (i + 1) ws)) ≡ None
     by_test true e = absurd (let fall : Some n ≡ None = e in cc)
     by_test false e = e
 

@@ -31,6 +31,7 @@ runs RunJournal = true
 runs Help = false
 runs Version = false
 
+-- it runs no network, so that there is no journal
 abbrev pub RunsNothing : Command → Type 0
 RunsNothing command = runs command ≡ false
 

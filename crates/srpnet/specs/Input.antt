@@ -1,22 +1,12 @@
 -- What the octets of an input are: a TOML document, and then a file or the rule that it breaks.
-use Rattle.std.specs.Prelude.{ℕ, if◌then◌else◌, List, Option, Some, None, Result, Ok, Err}
-use Rattle.std.specs.Str.{is_utf8}
-use Rattle.srp_base.specs.Results.{◌>>=◌, Gives as AnswersAs}
+use Rattle.std.specs.Prelude.{ℕ, List, Option, Some, None, Result, Ok, Err}
+use Rattle.srp_base.specs.Results.{◌>>=◌, Gives}
 use Rattle.toml.specs.Data.{Members}
-use Rattle.toml.specs.Parse.{parse_document}
 use Rattle.toml_rules.specs.declared.rules.RuleErr.{RuleErr}
 use Rattle.toml_rules.specs.declared.rules.RuleErr.TheVariants.{Rule, NoMemory as no_memory}
+use Rattle.srpnet.specs.Document.{document, or_not_toml}
 use Rattle.srpnet.specs.declared.outcome.Cause.{Cause}
-use Rattle.srpnet.specs.declared.outcome.Cause.TheVariants.{Done, NotToml, BadScenario, NoMemory}
-
--- the document of some octets, if they are UTF-8 and TOML
-abbrev pub document : List ℕ → Option Members
-document octets = if is_utf8 octets then parse_document octets else None
-
--- the document, or the cause without one
-abbrev pub or_not_toml : Option Members → Result Members Cause
-or_not_toml (Some ms) = Ok ms
-or_not_toml None = Err NotToml
+use Rattle.srpnet.specs.declared.outcome.Cause.TheVariants.{Done, BadScenario, NoMemory}
 
 -- what the rules say, as a cause
 abbrev pub by_rules : {A : Type 0} → Result A RuleErr → Result A Cause
@@ -40,6 +30,6 @@ abbrev pub told : Cause → Option Cause
 told NoMemory = None
 told cause = Some cause
 
--- what is answered, seen by view, is what is said, unless memory ran out
-abbrev pub Gives : {X A : Type 0} → (X → A) → Result X Cause → Result A Cause → Type 0
-Gives view result said = AnswersAs view told result said
+-- what is answered for an input, seen by view, is what is said of its octets, unless memory ran out
+abbrev pub GivesInput : {X A : Type 0} → (X → A) → Result X Cause → Result A Cause → Type 0
+GivesInput view result said = Gives view told result said

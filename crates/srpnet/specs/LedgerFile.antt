@@ -1,83 +1,20 @@
 -- The ledger file: one port and the streams that want it, or the first rule that the table breaks.
-use Rattle.std.specs.Prelude.{ℕ, ◌+◌, ◌==◌, not, ◌&&◌, nat_le, nat_eq, if◌then◌else◌, List, [], ◌∷◌, ◌++◌, length, map, filter, codes, Option, Some, None, Result, Ok}
+use Rattle.std.specs.Prelude.{ℕ, ◌+◌, ◌==◌, not, nat_le, if◌then◌else◌, List, [], ◌∷◌, ◌++◌, length, map, filter, codes, Option, Some, None, Result, Ok}
 use Rattle.std.specs.Option.{option_and_then}
-use Rattle.std.specs.Cmp.Lexicographic.{pointwise}
 use Rattle.srp_base.specs.declared.bandwidth.Rate.{Rate}
-use Rattle.srp_base.specs.declared.bandwidth.Class.{Class}
-use Rattle.srp_base.specs.declared.bandwidth.Class.TheVariants.{A, B}
-use Rattle.srp_base.specs.declared.bandwidth.Rank.{Rank}
-use Rattle.srp_base.specs.declared.bandwidth.Rank.TheVariants.{Emergency, Normal}
 use Rattle.srp_base.specs.Bandwidth.{rate_of_mbit}
-use Rattle.srp_base.specs.Hexadecimal.{hex16}
 use Rattle.toml.specs.Data.{Members}
 use Rattle.toml_rules.specs.declared.rules.RuleErr.{RuleErr}
-use Rattle.toml_rules.specs.Fields.{number, number_or, within, text, tables, has_only}
+use Rattle.toml_rules.specs.Fields.{number, tables, has_only}
 use Rattle.toml_rules.specs.Shares.{shares_at}
 use Rattle.srp_base.specs.Results.{◌>>=◌}
-use Rattle.toml_rules.specs.Rules.{needs, holds, no_entry, each_entry, first_fall as first_falling_key}
-use Rattle.stream_importance.specs.Bandwidth.{slope_of_frames}
+use Rattle.toml_rules.specs.Rules.{needs, holds, no_entry, each_entry, first_fall}
 use Rattle.srp_base.specs.declared.numbers.StreamId.{StreamId}
 use Rattle.srpnet.specs.declared.ledger.file.LedgerWant.{LedgerWant}
 use Rattle.srpnet.specs.declared.ledger.file.LedgerFile.{LedgerFile}
+use Rattle.srpnet.specs.LedgerWant.{want_entry}
 
--- ---- one want
-
-abbrev pub want_keys : List (List ℕ)
-want_keys = codes "stream" ∷ codes "class" ∷ codes "rank" ∷ codes "frames" ∷ codes "octets" ∷ codes "tick" ∷ []
-
-abbrev pub class_of_text : List ℕ → Option Class
-class_of_text word =
-    if pointwise nat_eq word (codes "A") then Some A
-    else if pointwise nat_eq word (codes "B") then Some B
-    else None
-
-abbrev pub rank_of_number : ℕ → Option Rank
-rank_of_number n = if n == 0 then Some Emergency else if n == 1 then Some Normal else None
-
--- the StreamID of sixteen hexadecimal digits
-abbrev pub stream_at : Members → Option ℕ
-stream_at ms = option_and_then hex16 (text (codes "stream") ms)
-
--- class A or B
-abbrev pub class_at : Members → Option Class
-class_at ms = option_and_then class_of_text (text (codes "class") ms)
-
--- rank 0 or 1, 1 where none is given
-abbrev pub rank_at : Members → Option Rank
-rank_at ms = option_and_then rank_of_number (number_or (codes "rank") 1 ms)
-
--- the frames in each class measurement interval
-abbrev pub frames_at : Members → Option ℕ
-frames_at ms = within 0 65535 (number (codes "frames") ms)
-
--- the most octets of a frame
-abbrev pub octets_at : Members → Option ℕ
-octets_at ms = within 0 1500 (number (codes "octets") ms)
-
--- the moment in cs, 0 where none is given
-abbrev pub tick_at : Members → Option ℕ
-tick_at ms = within 0 11999 (number_or (codes "tick") 0 ms)
-
--- the want of these six
-abbrev pub want_of : ℕ → Class → Rank → ℕ → ℕ → ℕ → LedgerWant
-want_of stream class rank frames octets tick = record {
-  tick = record { 0 = tick };
-  want = record { stream = record { 0 = stream }; class = class; rank = rank; slope = slope_of_frames class octets frames };
-}
-
--- the want of a table whose keys are all known
-abbrev pub known_want : Members → Option LedgerWant
-known_want ms =
-    option_and_then (λ stream. option_and_then (λ class. option_and_then (λ rank. option_and_then (λ frames.
-    option_and_then (λ octets. option_and_then (λ tick. Some (want_of stream class rank frames octets tick))
-    (tick_at ms)) (octets_at ms)) (frames_at ms)) (rank_at ms)) (class_at ms)) (stream_at ms)
-
--- the want of entry n: the entries are at most 10,000
-abbrev pub want_entry : ℕ → Members → Option LedgerWant
-want_entry n ms = if nat_le n 10000 && has_only want_keys ms then known_want ms else None
-
--- ---- the file
-
+-- the keys of a ledger file: the port's rate, the shares of its SR classes (deltaBandwidth), the wants
 abbrev pub file_keys : List (List ℕ)
 file_keys = codes "rate" ∷ codes "delta_a" ∷ codes "delta_b" ∷ codes "want" ∷ []
 
@@ -85,9 +22,9 @@ file_keys = codes "rate" ∷ codes "delta_a" ∷ codes "delta_b" ∷ codes "want
 abbrev pub rate_at : Members → Option Rate
 rate_at ms = option_and_then rate_of_mbit (number (codes "rate") ms)
 
--- the first want, from entry n on, whose tick is below the one before it
-abbrev pub first_fall : ℕ → ℕ → List LedgerWant → Option ℕ
-first_fall n before wants = first_falling_key n before (map (λ w. w.tick.0) wants)
+-- the ticks of the wants
+abbrev pub want_ticks : List LedgerWant → List ℕ
+want_ticks wants = map (λ w. w.tick.0) wants
 
 -- the different numbers of a list, in the order of their first mention
 abbrev pub different : List ℕ → List ℕ
@@ -117,7 +54,7 @@ mentioned wants = do
 abbrev pub wants_of : List Members → Result (List LedgerWant × List StreamId) RuleErr
 wants_of entries = do
   wants ← each_entry 33 want_entry 1 entries
-  _ ← no_entry 34 (first_fall 1 0 wants)
+  _ ← no_entry 34 (first_fall 1 0 (want_ticks wants))
   streams ← mentioned wants
   Ok (wants, map (λ k. record { 0 = k }) streams)
 

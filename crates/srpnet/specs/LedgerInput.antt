@@ -5,5 +5,6 @@ use Rattle.srpnet.specs.declared.ledger.file.LedgerFile.{LedgerFile}
 use Rattle.srpnet.specs.LedgerFile.{ledger_file}
 use Rattle.srpnet.specs.Input.{input_of}
 
+-- the ledger file of these octets by the rules 31 to 35
 abbrev pub ledger_input : List ℕ → Result LedgerFile Cause
 ledger_input octets = input_of ledger_file octets

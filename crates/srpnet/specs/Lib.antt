@@ -1,11 +1,13 @@
 pub mod CheckText
 pub mod Commands
+pub mod Document
 pub mod Ending
 pub mod Input
 pub mod LedgerFile
 pub mod LedgerInput
 pub mod LedgerRun
 pub mod LedgerText
+pub mod LedgerWant
 pub mod Outcomes
 pub mod Pages
 pub mod RunText

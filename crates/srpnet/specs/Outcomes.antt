@@ -25,6 +25,7 @@ pub data Place : Type 0 where
   -- anywhere after the words: memory runs out
   anywhere : Place
 
+-- the place of each cause
 abbrev pub place_of : Cause → Place
 place_of Done = finish
 place_of BadWords = words

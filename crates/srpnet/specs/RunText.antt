@@ -54,9 +54,11 @@ pub record HoldsThroughout (plan : Plan) (ticks : List Tick) (flows : List PortF
 abbrev pub Text : Type 0
 Text = Plan → List Tick → WorldState → List PortFlow → List ℕ
 
+-- what `run` prints
 abbrev pub report_alone : Text
 report_alone plan ticks world flows = report_text plan world ticks flows
 
+-- what `run journal` prints
 abbrev pub report_and_journal : Text
 report_and_journal plan ticks world flows =
     report_text plan world ticks flows ++ journal_text plan ticks

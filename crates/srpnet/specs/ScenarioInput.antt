@@ -5,5 +5,6 @@ use Rattle.topology_file.specs.Scenario.{scenario_of}
 use Rattle.srpnet.specs.declared.outcome.Cause.{Cause}
 use Rattle.srpnet.specs.Input.{input_of}
 
+-- the scenario of these octets by the rules of topology_file
 abbrev pub scenario_input : List ℕ → Result Plan Cause
 scenario_input octets = input_of scenario_of octets

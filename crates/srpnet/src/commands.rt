@@ -52,8 +52,8 @@ pub fn output(alloc: Global, command: Command, octets: &[u8]) -> Result<CommandO
     match command {
         Command::Ledger => Ok(text_alone(alloc, ledger::output(alloc, octets)?)),
         Command::Check => Ok(text_alone(alloc, check::output(alloc, octets)?)),
-        Command::Run => run::report(alloc, octets),
-        Command::RunJournal => run::report_and_journal(alloc, octets),
+        Command::Run => run::output(alloc, octets),
+        Command::RunJournal => run::output_with_journal(alloc, octets),
         Command::Help => Ok(text_alone(alloc, pages::output(alloc, HELP)?)),
         Command::Version => Ok(text_alone(alloc, pages::output(alloc, VERSION)?)),
     }

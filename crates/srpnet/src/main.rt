@@ -6,10 +6,10 @@
 //! commands   what each command makes of the octets of an input: its arm
 //! |- ledger  bookings of one port: file, input, bookings, text
 //! |- check   what a scenario holds, by its counts: text
-//! |- run     a network and its frames through the ticks of a scenario, with its journal or without
+//! |- run     a network and its frames through the ticks of a scenario, with its journal or without: text
 //! '- pages   --help and --version
 //! scenario   the input of the commands that read a scenario
-//! input      octets to a TOML table
+//! document   octets to a TOML table
 //! outcome    causes, their statuses and their texts
 //! ```
 //!
@@ -24,7 +24,7 @@
 
 mod check;
 mod commands;
-mod input;
+mod document;
 mod ledger;
 mod outcome;
 mod pages;

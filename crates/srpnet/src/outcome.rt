@@ -1,6 +1,6 @@
 //! How the program ends: a status, its cause, and the text of the cause.
 
-ghost use Rattle.std.specs.Prelude.{◌≡◌, ℕ, [], take, IfOk, string_bytes};
+ghost use Rattle.std.specs.Prelude.{◌≡◌, [], take, IfOk, string_bytes};
 ghost use Rattle.std.specs.Io.KnownBytes.{Appends};
 ghost use Rattle.srpnet.specs.Outcomes.{status_of as status_of_spec, err_text as err_text_spec, fixed_text as fixed_text_spec, cause_of_rules, cause_of_reading};
 ghost use Rattle.srpnet.specs.declared.outcome.Cause.TheVariants.{BadScenario, NoMemory as no_memory};
@@ -12,7 +12,7 @@ use toml_rules::RuleErr;
 use world_core::Journal;
 
 /// Why the program ends.
-#[derive(Clone, Copy, Debug, PartialEq, Eq)]
+#[derive(Clone, Copy, PartialEq, Eq)]
 pub enum Cause {
     /// The input was read to its end and the output written whole. Status 0.
     Done,

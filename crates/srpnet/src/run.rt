@@ -1,6 +1,8 @@
 //! The commands `run` and `run journal`: a network through the ticks of a scenario, the frames through its shapers, the report
 //! of all that, and behind it what happened.
 
+pub mod text;
+
 ghost use Rattle.std.specs.Prelude.{◌≡◌, List, IfOk, IfErr};
 ghost use Rattle.topology_file.specs.Plan.{Plan};
 ghost use Rattle.topology_file.specs.Scenario.{KeepsRules};
@@ -24,16 +26,17 @@ use network_laws::laws::{
 use scenario_frames::flow_of;
 use scenario_frames::laws::every_window_stays_within;
 use srp_base::NoMemory;
-use srp_report::{Printout, journal_text};
+use srp_report::Printout;
 use srp_schedule::plain_run;
 use std::alloc::Global;
+use text::{run_journal_text, run_text};
 use topology_file::Scenario;
 use world_core::Run;
 use world_core::laws::{canonical_ticks_are_legal, every_moment_is_within_limits};
 use world_core::timeline_laws::slopes_stay_within_limits;
 
 /// What `run` prints with its journal, or why there is none.
-pub fn report(alloc: Global, octets: &[u8]) -> Result<CommandOutput, Cause>
+pub fn output(alloc: Global, octets: &[u8]) -> Result<CommandOutput, Cause>
     ensures output { IfOk result
         (λ o. RunOutput report_alone octets.now o.journal.ticks o.text) }
     ensures ends { EndsAs (ending (scenario_input_spec octets.now)) result }
@@ -44,7 +47,7 @@ pub fn report(alloc: Global, octets: &[u8]) -> Result<CommandOutput, Cause>
 }
 
 /// What `run journal` prints with its journal, or why there is none.
-pub fn report_and_journal(alloc: Global, octets: &[u8]) -> Result<CommandOutput, Cause>
+pub fn output_with_journal(alloc: Global, octets: &[u8]) -> Result<CommandOutput, Cause>
     ensures output { IfOk result
         (λ o. RunOutput report_and_journal octets.now o.journal.ticks o.text) }
     ensures ends { EndsAs (ending (scenario_input_spec octets.now)) result }
@@ -110,7 +113,7 @@ fn reported(alloc: Global, scenario: &Scenario) -> Result<CommandOutput, Cause>
 {
     let ran = run_of(alloc, scenario)?;
     let flow = ran.flow;
-    let text = Printout::of_run(alloc, scenario, &ran.run, flow)?;
+    let text = run_text(alloc, scenario, &ran.run, flow)?;
     Ok(output_of(ran.run, text))
 }
 
@@ -122,22 +125,6 @@ fn reported_with_journal(alloc: Global, scenario: &Scenario) -> Result<CommandOu
 {
     let ran = run_of(alloc, scenario)?;
     let flow = ran.flow;
-    let text = text_with_journal(alloc, scenario, &ran.run, flow)?;
+    let text = run_journal_text(alloc, scenario, &ran.run, flow)?;
     Ok(output_of(ran.run, text))
-}
-
-// The text of a run with its journal's behind it.
-fn text_with_journal(
-    alloc: Global,
-    scenario: &Scenario,
-    run: &Run,
-    flow: FlowResult,
-) -> Result<Printout, NoMemory>
-    ensures { IfOk result (λ text. text
-        ≡ report_and_journal scenario.now run.now.journal.ticks run.now.world flow.ports) }
-{
-    let journal = journal_text(alloc, scenario, &run.journal)?;
-    let mut text = Printout::of_run(alloc, scenario, run, flow)?;
-    text.add(journal.as_slice())?;
-    Ok(text)
 }

@@ -2,7 +2,8 @@
 
 ghost use Rattle.std.specs.Prelude.{◌≡◌, ◌+◌, ◌≤◌, None, IfOk};
 ghost use Rattle.stream_importance.specs.Bandwidth.{caps_of};
-ghost use Rattle.srpnet.specs.LedgerFile.{first_fall};
+ghost use Rattle.toml_rules.specs.Rules.{first_fall};
+ghost use Rattle.srpnet.specs.LedgerFile.{want_ticks};
 ghost use Rattle.srpnet.specs.LedgerRun.{fresh, Leads};
 ghost use Rattle.srpnet.specs.LedgerText.{HasLines};
 
@@ -15,7 +16,7 @@ use std::alloc::Global;
 /// in cs, 0 where there is none. Each stream that the file mentions has its line in the text.
 pub fn bookings(alloc: Global, file: &LedgerFile) -> Result<(Ledger, Cs), NoMemory>
     requires shares { file.now.delta_a + file.now.delta_b ≤ 90 }
-    requires ticks { first_fall 1 0 file.now.wants ≡ None }
+    requires ticks { first_fall 1 0 (want_ticks file.now.wants) ≡ None }
     ensures applied { IfOk result (λ r. Leads (fresh file.now) file.now.wants r.0) }
     ensures caps { IfOk result (λ r. r.0.caps
         ≡ caps_of file.now.rate file.now.delta_a file.now.delta_b) }

@@ -1,11 +1,10 @@
 //! The ledger file: one port and the streams that want it.
 
-ghost use Rattle.std.specs.Prelude.{◌≡◌, ◌+◌, None, ◌≤◌, map, Option, IfSome, IfOk};
-ghost use Rattle.std.specs.Option.{option_and_then};
-ghost use Rattle.srp_base.specs.Hexadecimal.{hex16};
+ghost use Rattle.std.specs.Prelude.{◌≡◌, ◌+◌, None, ◌≤◌, map, IfSome, IfOk};
 ghost use Rattle.toml.specs.View.{table_view};
-ghost use Rattle.toml_rules.specs.Rules.{Reads, each_entry};
-ghost use Rattle.srpnet.specs.LedgerFile.{stream_at, class_of_text, class_at, rank_of_number, rank_at, frames_at, octets_at, tick_at, known_want, want_entry, rate_at, first_fall as first_fall_spec, mentioned, wants_of, ledger_file as ledger_file_spec};
+ghost use Rattle.toml_rules.specs.Rules.{Reads, each_entry, first_fall as first_fall_spec};
+ghost use Rattle.srpnet.specs.LedgerFile.{rate_at, want_ticks, mentioned, wants_of, ledger_file as ledger_file_spec};
+ghost use Rattle.srpnet.specs.LedgerWant.{stream_at, class_of_text, class_at, rank_of_number, rank_at, frames_at, octets_at, tick_at, known_want, want_entry};
 
 use indexmap::IndexSet;
 use srp_base::{Class, Cs, Percent, Rank, Rate, Seq, StreamId, read_hex16};
@@ -161,7 +160,7 @@ fn read_rate(table: &Table) -> Option<Rate>
 
 /// The first want whose tick is below that of the one before it.
 fn falling_want(wants: &[LedgerWant]) -> Option<usize>
-    ensures { result ≡ first_fall_spec 1 0 wants.now }
+    ensures { result ≡ first_fall_spec 1 0 (want_ticks wants.now) }
 {
     first_fall(wants, |want| want.tick.0)
 }
@@ -197,7 +196,7 @@ fn read_mentioned(
     entries: &[&Table],
 ) -> Result<(Seq<LedgerWant>, Seq<StreamId>), RuleErr>
     ensures file { Reads (λ r. r) result (wants_of (map (λ t. table_view t.now) entries.now)) }
-    ensures ticks { IfOk result (λ r. first_fall_spec 1 0 r.0 ≡ None) }
+    ensures ticks { IfOk result (λ r. first_fall_spec 1 0 (want_ticks r.0) ≡ None) }
 {
     let wants = read_wants(alloc, entries)?;
     no_entry(34, falling_want(&wants))?;
@@ -210,7 +209,7 @@ fn read_mentioned(
 pub fn read_ledger_file(alloc: Global, table: &Table) -> Result<LedgerFile, RuleErr>
     ensures file { Reads (λ f. f) result (ledger_file_spec (table_view table.now)) }
     ensures shares { IfOk result (λ f. f.delta_a + f.delta_b ≤ 90) }
-    ensures ticks { IfOk result (λ f. first_fall_spec 1 0 f.wants ≡ None) }
+    ensures ticks { IfOk result (λ f. first_fall_spec 1 0 (want_ticks f.wants) ≡ None) }
 {
     holds(31, has_only(table, &FILE_KEYS))?;
     let rate = needs(31, read_rate(table))?;

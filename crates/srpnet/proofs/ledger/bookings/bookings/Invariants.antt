@@ -1,7 +1,8 @@
 use Rattle.std.proofs.Common.{◌≡◌, ◌+◌, drop, take, None}
 use Rattle.srp_base.specs.declared.numbers.StreamId.{StreamId}
 use Rattle.port_ledger.specs.Book.{Book, want_of}
-use Rattle.srpnet.specs.LedgerFile.{first_fall}
+use Rattle.toml_rules.specs.Rules.{first_fall}
+use Rattle.srpnet.specs.LedgerFile.{want_ticks}
 use Rattle.srpnet.specs.LedgerRun.{Leads}
 use Rattle.srpnet.specs.LedgerText.{last_want}
 use Rattle.srpnet.proofs.ledger.bookings.bookings.Given as goal
@@ -10,7 +11,7 @@ abbrev pub invariant-loop-want : goal.invariant-loop-want
 invariant-loop-want l = record {
   caps : l.ledger.caps ≡ l.initial.ledger.caps;
   moment : l.now.0 ≡ l.ledger.moment;
-  ticks : first_fall (l.want-index + 1) l.now.0 (drop l.want-index l.wants) ≡ None;
+  ticks : first_fall (l.want-index + 1) l.now.0 (want_ticks (drop l.want-index l.wants)) ≡ None;
   kept : (s : StreamId) → want_of l.ledger.entries s ≡ last_want (take l.want-index l.wants) s;
   leads : (end : Book) → Leads l.ledger (drop l.want-index l.wants) end → Leads l.initial.ledger l.wants end;
 }

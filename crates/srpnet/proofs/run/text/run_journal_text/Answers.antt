@@ -1,6 +1,6 @@
 use Rattle.std.proofs.Common.{ℕ, ◌++◌, List, ap, ◌∙◌}
 use Rattle.srp_report.specs.JournalText.{journal_text}
-use Rattle.srpnet.proofs.run.text_with_journal.Goals as goal
+use Rattle.srpnet.proofs.run.text.run_journal_text.Goals as goal
 
 pub returns : goal.returns
 returns c =

@@ -1,7 +1,7 @@
 use Rattle.std.proofs.Common.{ap}
-use Rattle.srpnet.specs.Input.{or_not_toml}
+use Rattle.srpnet.specs.Document.{or_not_toml}
 use Rattle.srpnet.proofs.Documents.{document_found, document_refused, ruled_out}
-use Rattle.srpnet.proofs.input.table_of.Goals as goal
+use Rattle.srpnet.proofs.document.table_of.Goals as goal
 
 pub returns-in-Ok-clause-table : goal.returns-in-Ok-clause-table
 returns-in-Ok-clause-table c =

@@ -1,0 +1,16 @@
+-- The TOML document of the octets of an input, or the cause without one.
+use Rattle.std.specs.Prelude.{ℕ, if◌then◌else◌, List, Option, Some, None, Result, Ok, Err}
+use Rattle.std.specs.Str.{is_utf8}
+use Rattle.toml.specs.Data.{Members}
+use Rattle.toml.specs.Parse.{parse_document}
+use Rattle.srpnet.specs.declared.outcome.Cause.{Cause}
+use Rattle.srpnet.specs.declared.outcome.Cause.TheVariants.{NotToml}
+
+-- the document of some octets, if they are UTF-8 and TOML
+abbrev pub document : List ℕ → Option Members
+document octets = if is_utf8 octets then parse_document octets else None
+
+-- the document, or the cause without one
+abbrev pub or_not_toml : Option Members → Result Members Cause
+or_not_toml (Some ms) = Ok ms
+or_not_toml None = Err NotToml
