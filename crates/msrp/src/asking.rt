@@ -18,7 +18,7 @@ use srp_base::{NoMemory, StreamId, Talker};
 use std::alloc::{AllocError, Global};
 
 /// What the application of a station asks of MSRP (IEEE Std 802.1Q-2018, 35.2.3.1).
-#[derive(Clone, Copy, Debug, PartialEq, Eq)]
+#[derive(Clone, Copy, PartialEq, Eq)]
 pub enum SrpRequest {
     /// To talk a stream, as this Talker states it. A Talker takes the place of another of its stream.
     Talk(Talker),

@@ -52,7 +52,7 @@ impl MsrpSide {
 
     /// Whether a clock that is set to a moment, in cs, shows at some port that a want which isn't booked may fit otherwise
     /// than before.
-    pub fn shows(&self, now: Cs) -> bool
+    pub fn clock_shows(&self, now: Cs) -> bool
         ensures { result ≡ list_any (shows_at now.0) self.now.ports }
     {
         self.ports.iter().any(|port| port.ledger.shows_at(now))
@@ -63,7 +63,7 @@ impl MsrpSide {
     pub fn prepare_clock(&self, now: Cs) -> Result<ClockSets, NoMemory>
         ensures { IfOk result (λ c. c ≡ next_sets now.0 self.now) }
     {
-        if !self.shows(now) {
+        if !self.clock_shows(now) {
             return Ok(ClockSets { sets: None });
         }
         let sets = self.sets_at(now)?;

@@ -160,7 +160,8 @@ is_busy_at now s =
 abbrev pub is_busy_node : NodeState → Bool
 is_busy_node s = is_busy_at s.clock s
 
--- whether a node is at rest up to a moment: it isn't busy then, and the clock shows nothing of a ledger when it goes on
+-- whether a node is at rest up to a moment: it isn't busy then, and at no port a want that isn't booked may fit otherwise
+-- once the clock goes on
 abbrev pub is_at_rest : Cs → NodeState → Bool
 is_at_rest until s = not (is_busy_at until s) && not (list_any (shows_at (s.clock.0 + 1)) s.streams.ports)
 

@@ -32,13 +32,12 @@ impl Node {
         self.is_busy_at(self.clock)
     }
 
-    /// Whether the node is at rest up to a moment, in cs: it isn't busy then, and the clock shows nothing of a ledger when it
-    /// goes on. So it has nothing to do but send up to then, unless something happens to it.
+    /// Whether the node is at rest up to a moment, in cs: it isn't busy then, and at no port a want that isn't booked may fit
+    /// otherwise once the clock goes on. So it has nothing to do but send up to then, unless something happens to it.
     pub fn is_at_rest(&self, until: Cs) -> bool
         ensures { result ≡ is_at_rest until self.now }
     {
-        self.keeps();
-        !self.is_busy_at(until) && !self.msrp.shows(Cs(self.clock.0 + 1))
+        !self.is_busy_at(until) && !self.msrp.clock_shows(Cs(self.clock.0 + 1))
     }
 
     // Whether the node is busy at a moment.

@@ -90,7 +90,8 @@ pub fn a_port_stays_set_up()
     of_streams::calls_keep_the_ports();
 }
 
-/// A node that is at rest up to a moment is so up to an earlier one, isn't busy then, and stays at rest while the clock goes on.
+/// A node that is at rest at its own moment isn't busy; one that is at rest up to a moment is so up to an earlier one, and
+/// stays so while the clock goes on. So it isn't busy at any moment up to then, while its clock alone goes on.
 pub fn a_node_at_rest_stays_so()
     ensures idle { (s : NodeState) → is_at_rest s.clock s ≡ true → is_busy_node s ≡ false }
     ensures sooner { (soon late : Cs) (s : NodeState) → soon.0 ≤ late.0 → is_at_rest late s ≡ true

@@ -27,8 +27,8 @@
 //! in both, short PDUs, and one moment. `specs/Proper.antt` adds that VIDs are VIDs and all numbers fit in their fields.
 //!
 //! To add an application: a field of `NodeState`, a file like `streams.rt` of what a step does at it, an arm in each
-//! definition that takes an `App` or a `NodeKey` and in the function of the same name, and its part in `both.rt`. To add
-//! a step: a variant of `PortStep`, a line of `port_step` in `specs/Step.antt`, and a method in `step.rt`.
+//! definition that takes an `App` or a `NodeKey` and in the function of the same name, its part in `both.rt` and in
+//! `is_busy_at`, and in `is_at_rest` what the clock may show of it. To add a step: a variant of `PortStep`, a line of `port_step` in `specs/Step.antt`, and a method in `step.rt`.
 #![tactic(auto)]
 
 mod both;

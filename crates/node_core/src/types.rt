@@ -7,14 +7,14 @@ use msrp_codec::MsrpKey;
 use srp_base::{App, PortNo, Seq, StreamId, Talker, Vid};
 
 /// A PDU on a link: the application that it belongs to, and its octets.
-#[derive(Debug, PartialEq, Eq, Drop)]
+#[derive(PartialEq, Eq, Drop)]
 pub struct Wire {
     pub app: App,
     pub octets: Seq<u8>,
 }
 
 /// What the application of a station asks for.
-#[derive(Clone, Copy, Debug, PartialEq, Eq)]
+#[derive(Clone, Copy, PartialEq, Eq)]
 pub enum AppRequest {
     /// It declares a VID (IEEE Std 802.1Q-2018, 11.2.3.2).
     Declare(Vid),
@@ -32,7 +32,7 @@ pub enum AppRequest {
 }
 
 /// An attribute of some application.
-#[derive(Clone, Copy, Debug, PartialEq, Eq)]
+#[derive(Clone, Copy, PartialEq, Eq)]
 pub enum NodeKey {
     /// A VID, which MVRP registers.
     Vlan(Vid),
@@ -41,7 +41,7 @@ pub enum NodeKey {
 }
 
 /// One step of a link port.
-#[derive(Clone, Copy, Debug, PartialEq, Eq)]
+#[derive(Clone, Copy, PartialEq, Eq)]
 pub enum PortStep {
     /// Takes the front PDU of the inbox.
     Work,
@@ -77,7 +77,7 @@ impl PortStep {
 }
 
 /// What happens at a node.
-#[derive(Clone, Copy, Debug, PartialEq, Eq)]
+#[derive(Clone, Copy, PartialEq, Eq)]
 pub enum NodeEvent {
     /// The application of a station asks for something.
     Request(AppRequest),
@@ -88,7 +88,7 @@ pub enum NodeEvent {
 }
 
 /// What a node answers. Each number is at most 4,294,967,295, and stands still there.
-#[derive(Clone, Copy, Debug, PartialEq, Eq)]
+#[derive(Clone, Copy, PartialEq, Eq)]
 pub enum StepReply {
     /// The inbox was empty.
     Nothing,
@@ -109,7 +109,7 @@ pub enum StepReply {
 }
 
 /// One step that a node made, with its answer.
-#[derive(Clone, Copy, Debug, PartialEq, Eq)]
+#[derive(Clone, Copy, PartialEq, Eq)]
 pub struct NodeStep {
     pub port: PortNo,
     pub step: PortStep,

@@ -1,4 +1,4 @@
-use Rattle.std.proofs.Common.{◌≡◌, List, [], ◌∷◌, ◌++◌, map, refl, ap, ◌∙◌}
+use Rattle.std.proofs.Common.{List, [], ◌∷◌, ◌++◌, map, refl, ap, ◌∙◌}
 use Rattle.srp_base.specs.declared.ports.PortSetup.{PortSetup}
 use Rattle.msrp_codec.specs.declared.pdu.MsrpKey.{MsrpKey}
 use Rattle.msrp.proofs.Places.{one_more}

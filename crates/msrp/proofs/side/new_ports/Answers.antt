@@ -1,4 +1,4 @@
-use Rattle.std.proofs.Common.{◌≡◌, ◌+◌, ◌≤◌, List, [], ◌∷◌, ◌++◌, map, refl, ap, ◌∙◌}
+use Rattle.std.proofs.Common.{◌+◌, ◌≤◌, [], ◌∷◌, ◌++◌, map, refl, ap, ◌∙◌}
 use Rattle.mrp_participant.specs.State.{IsTime}
 use Rattle.srp_base.specs.declared.ports.PortSetup.{PortSetup}
 use Rattle.msrp.specs.declared.port.Port.{Port}

@@ -12,7 +12,7 @@ use Rattle.msrp.proofs.Telling.{tells_as, leaving_told}
 use Rattle.msrp.proofs.Contents.{own-changed, left_own, own_row}
 use Rattle.msrp.proofs.Keeping.{at_put, port_kept}
 use Rattle.msrp.proofs.side.MsrpSide.leave_now.Goals as goal
-use Rattle.msrp.proofs.side.MsrpSide.leave_now.Goals.{After-told_where, In_ok-put}
+use Rattle.msrp.proofs.side.MsrpSide.leave_now.Goals.{After-told_where}
 
 -- the port that was copied is the one at the place
 here : (c : After-told_where) → slice_get c.args.self.now.ports (c.from-at.result - 1) ≡ Some c.port_at.result.now
