@@ -1,10 +1,9 @@
 -- The nodes that rest: what is known of them stays while others make steps and while the clock goes on.
-use Rattle.std.proofs.Common.{◌≡◌, ℕ, zero, suc, ◌+◌, ◌-◌, ◌<◌, Bool, true, false, ◌||◌, List, [], ◌∷◌, ◌++◌, length, get_or, take, drop, map, Option, Some, None, inl, inr, refl, sym, ap, subst, ◌∙◌, arith}
+use Rattle.std.proofs.Common.{◌≡◌, ℕ, zero, suc, ◌+◌, ◌-◌, ◌<◌, Bool, true, false, ◌||◌, List, [], ◌∷◌, length, get_or, replicate, map, Option, Some, None, inl, inr, refl, sym, ap, subst, ◌∙◌, arith}
 use Rattle.std.specs.Prelude.{not, ◌==◌, slice_get, slice_set, option_map}
 use Rattle.std.specs.List.{AllByRecursion}
 use Rattle.std.proofs.lemmas.Bool.{cases_eq, ne_eqb, true≢false}
-use Rattle.std.proofs.lemmas.List.{get_or_default, length-append, length-drop, length-map, length-take}
-use Rattle.std.proofs.lemmas.List.Edits.{map_over_more}
+use Rattle.std.proofs.lemmas.List.{length-replicate}
 use Rattle.std.proofs.lemmas.Option.{slice_get-map}
 use Rattle.srp_base.specs.declared.numbers.Cs.{Cs}
 use Rattle.srp_base.specs.declared.numbers.NodeNo.{NodeNo}
@@ -23,7 +22,7 @@ use Rattle.world_core.specs.World.{WorldState, node_at, world_after, world_step}
 use Rattle.world_core.specs.Ticks.{after_script, scripted}
 use Rattle.srp_schedule.specs.Made.{IsNodeMade, events_of}
 use Rattle.srp_schedule.specs.declared.rest.Rest.{Rest}
-use Rattle.srp_schedule.specs.declared.rest.Rest.TheVariants.{Unknown, Awake, Before}
+use Rattle.srp_schedule.specs.declared.rest.Rest.TheVariants.{Unknown, Awake, UpTo}
 use Rattle.srp_schedule.specs.Script.{answered}
 use Rattle.srp_schedule.specs.Rest.{AreRests, IsRestAt, IsRestOf, SaysNothing}
 use Rattle.srp_schedule.proofs.OrderLemmas.{idle_order}
@@ -34,7 +33,7 @@ use Rattle.srp_schedule.proofs.StepLemmas.{steps_other, get_set_other}
 nothing_says : (rest : Rest) (s : NodeState) → SaysNothing rest → IsRestOf rest s
 nothing_says Unknown s says = tt
 nothing_says Awake s says = tt
-nothing_says (Before wakes) s says = absurd says
+nothing_says (UpTo until) s says = absurd says
 
 rest_in : (rests : List Rest) (x : ℕ) (rest : Rest) (s : NodeState) → AllByRecursion SaysNothing rests → slice_get rests x ≡ Some rest → IsRestOf rest s
 rest_in [] x rest s none is = absurd (let nay : None ≡ Some rest = is in cc)
@@ -43,32 +42,14 @@ rest_in (r ∷ rests) zero rest s none is =
     subst (λ (t : Rest). IsRestOf t s) same (nothing_says r s none.0)
 rest_in (r ∷ rests) (suc x) rest s none is = rest_in rests x rest s none.1 is
 
-pub rests_none : (w : WorldState) (rests : List Rest) → length rests ≡ length w.tree.kinds → AllByRecursion SaysNothing rests → AreRests w rests
-rests_none w rests count none = record { count = count; each = λ x rest s is here. rest_in rests x rest s none is }
+all_says : (rest : Rest) → SaysNothing rest → (n : ℕ) → AllByRecursion SaysNothing (replicate n rest)
+all_says rest says zero = tt
+all_says rest says (suc n) = (says, all_says rest says n)
 
-all_one : (rest : Rest) → SaysNothing rest → (rests : List Rest) → AllByRecursion SaysNothing (map (λ (r : Rest). rest) rests)
-all_one rest says [] = tt
-all_one rest says (r ∷ rests) = (says, all_one rest says rests)
-
-pub rests_forgotten : (w : WorldState) (rest : Rest) (before after : List Rest) → SaysNothing rest → after ≡ map (λ (r : Rest). rest) before
-    → length before ≡ length w.tree.kinds → AreRests w after
-rests_forgotten w rest before after says is count =
-    let none : List Rest = map (λ (r : Rest). rest) before in
-    subst (λ (rs : List Rest). AreRests w rs) (sym is) (rests_none w none (length-map before (λ (r : Rest). rest) ∙ count) (all_one rest says before))
-
-pub none_more : (rests : List Rest) → AllByRecursion SaysNothing rests → AllByRecursion SaysNothing (rests ++ Unknown ∷ [])
-none_more [] none = (tt, tt)
-none_more (r ∷ rests) none = (none.0, none_more rests none.1)
-
--- one more of them is set
-pub set_more : (rest : Rest) (before now : List Rest) (i : ℕ) → i < length before → now ≡ map (λ (r : Rest). rest) (take i before) ++ drop i before
-    → slice_set now i rest ≡ map (λ (r : Rest). rest) (take (i + 1) before) ++ drop (i + 1) before
-set_more rest before now i below is =
-    let front = map (λ (r : Rest). rest) (take i before) in
-    let long : i < length now =
-    omega (arith, below, ap (λ (rs : List Rest). length rs) is, length-append front (drop i before), length-map (take i before) (λ (r : Rest). rest), length-take i before, length-drop i before)
-    in
-    map_over_more (λ (r : Rest). rest) before now i (get_or now i rest) below is (get_or_default now i rest (get_or now i rest) long)
+-- of each node the same is known, which says nothing
+pub all_alike : (w : WorldState) (rest : Rest) (n : ℕ) → SaysNothing rest → n ≡ length w.tree.kinds → AreRests w (replicate n rest)
+all_alike w rest n says count =
+    record { count = length-replicate n rest ∙ count; each = λ x r s is here. rest_in (replicate n rest) x r s (all_says rest says n) is }
 
 -- ---- a node in its turn
 
@@ -139,7 +120,7 @@ clocked_rest : ((until : Cs) (s : NodeState) → IsKeptNode s → is_at_rest unt
     → (rest : Rest) (s : NodeState) → IsKeptNode s → IsRestOf rest s → IsRestOf rest (node_step node_events.Clock s).0
 clocked_rest law Unknown s kept is = tt
 clocked_rest law Awake s kept is = tt
-clocked_rest law (Before wakes) s kept is = λ m lt. law m s kept (is m lt)
+clocked_rest law (UpTo until) s kept is = law until s kept is
 
 pub clocked_rests : ((until : Cs) (s : NodeState) → IsKeptNode s → is_at_rest until s ≡ true → is_at_rest until (node_step node_events.Clock s).0 ≡ true)
     → (w : WorldState) (rests : List Rest) → IsKeptWorld w → AreRests w rests → AreRests (world_step Clock w).0 rests

@@ -1,17 +1,31 @@
 -- What is known of nodes that rest, so that nobody asks them in each tick.
-use Rattle.std.specs.Prelude.{◌≡◌, ◌<◌, ℕ, true, List, length, slice_get, Some}
+use Rattle.std.specs.Prelude.{◌≡◌, ◌+◌, ◌*◌, ◌/◌, nat_le, not, ◌&&◌, if◌then◌else◌, ℕ, Bool, true, false, List, length, slice_get, Some}
 use Rattle.srp_base.specs.declared.numbers.Cs.{Cs}
 use Rattle.srp_base.specs.declared.numbers.NodeNo.{NodeNo}
-use Rattle.node_core.specs.State.{NodeState, is_at_rest}
+use Rattle.node_core.specs.State.{NodeState, is_at_rest, is_sending_time}
 use Rattle.world_core.specs.World.{WorldState, node_at}
 use Rattle.srp_schedule.specs.declared.rest.Rest.{Rest}
-use Rattle.srp_schedule.specs.declared.rest.Rest.TheVariants.{Unknown, Awake, Before}
+use Rattle.srp_schedule.specs.declared.rest.Rest.TheVariants.{Unknown, Awake, UpTo}
 
--- what is known of a node is true of it: it is at rest up to each moment before this one
+-- what is known of a node is true of it: it is at rest up to this moment
 abbrev pub IsRestOf : Rest → NodeState → Type 0
 IsRestOf Unknown s = Unit {0}
 IsRestOf Awake s = Unit {0}
-IsRestOf (Before wakes) s = (m : Cs) → m.0 < wakes.0 → is_at_rest m s ≡ true
+IsRestOf (UpTo until) s = is_at_rest until s ≡ true
+
+-- whether by this a node has nothing to do at a moment
+abbrev pub is_rest_at : Cs → Rest → Bool
+is_rest_at now Unknown = false
+is_rest_at now Awake = false
+is_rest_at now (UpTo until) = nat_le now.0 until.0 && not (is_sending_time now)
+
+-- the last moment before the next one of sending
+abbrev pub before_sending : Cs → Cs
+before_sending now = record { 0 = now.0 / 20 * 20 + 19 }
+
+-- what a node answers: whether it is at rest up to then
+abbrev pub rest_of : NodeState → Rest
+rest_of s = if is_at_rest (before_sending s.clock) s then UpTo (before_sending s.clock) else Awake
 
 abbrev pub IsRestAt : NodeNo → WorldState → Rest → Type 0
 IsRestAt n w rest = (s : NodeState) → node_at n w ≡ Some s → IsRestOf rest s
@@ -20,7 +34,7 @@ IsRestAt n w rest = (s : NodeState) → node_at n w ≡ Some s → IsRestOf rest
 abbrev pub SaysNothing : Rest → Type 0
 SaysNothing Unknown = Unit {0}
 SaysNothing Awake = Unit {0}
-SaysNothing (Before wakes) = ⊥
+SaysNothing (UpTo until) = ⊥
 
 -- what is known of each node of a network, in the order of their numbers
 pub record AreRests (w : WorldState) (rests : List Rest) : Type 0 where

@@ -13,12 +13,13 @@ use srp_base::{LinkNo, NoMemory};
 use world_core::laws::what_is_allowed_may_happen;
 use world_core::{NodeSteps, World, WorldEvent};
 
-/// Lets the PDUs of every port be carried, where a step of the tick was Send, and answers whether it was; else there are none.
+/// Where a step of the tick was Send, lets the PDUs of every port be carried; else no PDU waits. Answers which.
 pub(crate) fn carry_sent(world: &mut World, steps: &[NodeSteps]) -> Result<bool, NoMemory>
     requires { has_send steps.now ≡ false
         → world_after (map WorldEvent.Carry (link_ports world.old.tree)) world.old ≡ world.old }
     ensures carried { OnOk result
         (world.new ≡ world_after (map WorldEvent.Carry (link_ports world.old.tree)) world.old) }
+    ensures sent { IfOk result (λ has_carried. has_carried ≡ has_send steps.now) }
     ensures none { IfOk result (λ has_carried. has_carried ≡ false → world.new ≡ world.old) }
 {
     let has_sent = has_send(steps);

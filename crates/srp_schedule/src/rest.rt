@@ -1,9 +1,9 @@
 //! What is known of nodes that rest, so that nobody asks them in each tick.
 
-ghost use Rattle.std.specs.Prelude.{◌≡◌, ◌||◌, true, false, length, map, IfOk};
+ghost use Rattle.std.specs.Prelude.{◌≡◌, ◌||◌, true, false, length, IfOk};
 ghost use Rattle.node_core.specs.State.{is_busy_node, is_sending_time};
 ghost use Rattle.world_core.specs.World.{WorldState};
-ghost use Rattle.srp_schedule.specs.Rest.{AreRests, IsRestOf, SaysNothing};
+ghost use Rattle.srp_schedule.specs.Rest.{AreRests, IsRestOf, SaysNothing, is_rest_at, rest_of};
 
 use node_core::Node;
 use node_core::laws::a_node_at_rest_stays_so;
@@ -14,23 +14,21 @@ use world_core::World;
 /// What is known of a node.
 #[derive(Clone, Copy)]
 pub(crate) enum Rest {
-    /// Nothing, and it is asked when it has nothing to do in its turn.
+    /// Nothing. Where it makes no step in its turn, it is asked then whether it is at rest.
     Unknown,
-    /// Nothing, and it isn't asked.
+    /// Nothing, and it isn't asked whether it is at rest until it has made a step or PDUs have been carried. Its jobs are
+    /// asked for in each tick.
     Awake,
-    /// It has nothing to do but send before this moment, in cs, unless something happens to it.
-    Before(Cs),
+    /// It has nothing to do but send up to this moment, in cs, unless something happens to it.
+    UpTo(Cs),
 }
 
 /// Of each node of a network nothing is known.
 pub(crate) fn nothing_known(alloc: Global, world: &World) -> Result<Vec<Rest>, NoMemory>
     ensures { IfOk result (λ rests. AreRests world.now rests.items) }
 {
-    let mut rests = Vec::new(alloc);
-    for x in 0..world.tree().nodes() {
-        let _ = x;
-        rests.push(Rest::Unknown)?;
-    }
+    world.keeps();
+    let rests = vec![in alloc; Rest::Unknown; usize::from(world.tree().nodes())]?;
     Ok(rests)
 }
 
@@ -41,33 +39,26 @@ pub(crate) fn forget_if(has_happened: bool, rest: Rest, rests: &mut Vec<Rest>)
         → (has_happened ≡ false → AreRests w rests.old.items) → AreRests w rests.new.items }
 {
     if has_happened {
-        set_all(rest, rests);
-    }
-}
-
-// Of each node this is known.
-fn set_all(rest: Rest, rests: &mut Vec<Rest>)
-    ensures { rests.new.items ≡ map (λ _. rest) rests.old.items }
-{
-    for known in rests.iter_mut() {
-        *known = rest;
+        rests.fill(rest);
     }
 }
 
 /// Whether a node is known to have nothing to do now.
 pub(crate) fn rests_now(node: &Node, rest: Rest) -> bool
     requires { IsRestOf rest node.now }
-    ensures { result ≡ true → (is_busy_node node.now || is_sending_time node.now.clock) ≡ false }
+    ensures value { result ≡ is_rest_at node.now.clock rest }
+    ensures idle { result ≡ true
+        → (is_busy_node node.now || is_sending_time node.now.clock) ≡ false }
 {
     a_node_at_rest_stays_so();
     match rest {
-        Rest::Before(wakes) => node.now() < wakes && node.now().0 % 20 != 0,
+        Rest::UpTo(until) => node.now() <= until && node.now().0 % 20 != 0,
         Rest::Unknown | Rest::Awake => false,
     }
 }
 
-/// What is known of a node behind its turn in a tick: where it has made no step what was known of it, or what it answers where
-/// it was to be asked.
+/// What is known of a node behind its turn in a tick: nothing where it has made a step; else what was known of it, or what it
+/// answers where it was to be asked.
 pub(crate) fn rest_after(node: &Node, rest: Rest, has_made: bool) -> Rest
     requires { has_made ≡ false → IsRestOf rest node.now }
     ensures { IsRestOf result node.now }
@@ -77,19 +68,19 @@ pub(crate) fn rest_after(node: &Node, rest: Rest, has_made: bool) -> Rest
     }
     match rest {
         Rest::Unknown => asked(node),
-        Rest::Awake | Rest::Before(_) => rest,
+        Rest::Awake | Rest::UpTo(_) => rest,
     }
 }
 
 // What a node answers: whether it is at rest up to the next moment of sending.
 fn asked(node: &Node) -> Rest
-    ensures { IsRestOf result node.now }
+    ensures value { result ≡ rest_of node.now }
+    ensures rest { IsRestOf result node.now }
 {
-    a_node_at_rest_stays_so();
     node.keeps();
-    let next = (node.now().0 / 20 + 1) * 20;
-    if node.is_at_rest(Cs(next - 1)) {
-        Rest::Before(Cs(next))
+    let until = Cs(node.now().0 / 20 * 20 + 19);
+    if node.is_at_rest(until) {
+        Rest::UpTo(until)
     } else {
         Rest::Awake
     }

@@ -1,6 +1,6 @@
 //! The run of a scenario, tick by tick.
 
-ghost use Rattle.std.specs.Prelude.{◌≡◌, ◌<◌, IfOk, OnOk};
+ghost use Rattle.std.specs.Prelude.{◌≡◌, ◌<◌, List, IfOk, OnOk};
 ghost use Rattle.world_core.specs.Ticks.{AreCanonicalTicks};
 ghost use Rattle.world_core.specs.World.{CanHappen, world_step};
 ghost use Rattle.world_core.specs.During.{IsDuring};
@@ -102,8 +102,9 @@ fn make_tick(
     let steps = make_steps(alloc, world, rests)?;
     let noted = history.note_steps(world, t, steps.as_slice())?;
     let has_carried = carry_sent(world, steps.as_slice())?;
+    // Of a node with a link nothing is known here in any case: it has sent.
     forget_if(has_carried, Rest::Unknown, rests);
-    let_clocks_go_on(world, rests.as_slice())?;
+    let_clocks_go_on(world)?;
     let tick = Tick {
         events: Seq::from_vec(events),
         steps: Seq::from_vec(steps),
@@ -112,13 +113,12 @@ fn make_tick(
 }
 
 // Lets the clock of every node go on. What is known of nodes that rest stays so.
-fn let_clocks_go_on(world: &mut World, rests: &[Rest]) -> Result<(), NoMemory>
-    requires can { CanHappen WorldEvent.Clock world.old }
-    requires rests { AreRests world.old rests.now }
+fn let_clocks_go_on(world: &mut World) -> Result<(), NoMemory>
+    requires { CanHappen WorldEvent.Clock world.old }
     ensures after { OnOk result (world.new ≡ (world_step WorldEvent.Clock world.old).0) }
-    ensures rests { OnOk result (AreRests world.new rests.now) }
+    ensures rests { OnOk result ((rests : List Rest) → AreRests world.old rests
+        → AreRests world.new rests) }
 {
-    let _ = rests;
     a_node_at_rest_stays_so();
     world.keeps();
     world.step(WorldEvent::Clock)?;

@@ -9,5 +9,5 @@ returns-clause-after c = ap (λ (h : Happened). h.0) (sym {A = Happened} c.in_ok
 
 pub returns-clause-rests : goal.returns-clause-rests
 returns-clause-rests c =
-    subst (λ (w : WorldState). AreRests w c.args.rests.now) (ap (λ (h : Happened). h.0) c.in_ok-step.ensures.ok)
-    (clocked_rests c.a_node_at_rest_stays_so.ensures.clock c.args.world.now c.args.rests.now c.keeps.ensures c.requires.rests)
+    λ rests are. subst (λ (w : WorldState). AreRests w rests) (ap (λ (h : Happened). h.0) c.in_ok-step.ensures.ok)
+    (clocked_rests c.a_node_at_rest_stays_so.ensures.clock c.args.world.now rests c.keeps.ensures are)

@@ -8,7 +8,6 @@ use Rattle.world_core.specs.History.{HasPortsOf}
 use Rattle.world_core.specs.World.{WorldState, world_after}
 use Rattle.world_core.specs.Ticks.{step_events}
 use Rattle.world_core.specs.Carrying.{NothingWaits, has_send}
-use Rattle.srp_schedule.specs.declared.rest.Rest.{Rest}
 use Rattle.srp_schedule.specs.Rest.{AreRests}
 use Rattle.srp_schedule.proofs.RestLemmas.{empty_as, script_rests}
 use Rattle.srp_schedule.proofs.TickLemmas.{tick_parts, clock_can, canonical_tick, after_tick, begins_next, carried_stays, scripted_stays, stepped_stays, steps_known, steps_noted, nothing_carried}
@@ -45,8 +44,8 @@ carry_sent-requires c isnt =
     (c.in_ok-steps.ensures.after ∙ ap (λ (u : WorldState). world_after (step_events steps) u) c.in_ok-events.ensures.after)
     there.tree_is (sym (ap has_send c.as_slice-2.ensures.value) ∙ isnt)
 
-pub let_clocks_go_on-requires-clause-can : goal.let_clocks_go_on-requires-clause-can
-let_clocks_go_on-requires-clause-can c =
+pub let_clocks_go_on-requires : goal.let_clocks_go_on-requires
+let_clocks_go_on-requires c =
     clock_can c.laws_of_a_tick.ensures c.args.scenario.now c.keeps_rules.ensures c.args.t c.requires.within c.args.world.now c.requires.during
     c.make_events.new.world c.make_steps.new.world c.carry_sent.new.world c.in_ok-steps.steps.items
     c.in_ok-events.ensures.after c.in_ok-steps.ensures.steps c.in_ok-steps.ensures.after c.in_ok-has_carried.ensures.carried
@@ -63,8 +62,8 @@ make_steps-requires c =
     (λ none. script_rests plan c.args.t c.args.world.now c.make_events.new.world c.in_ok-events.events.items c.args.rests.now.items
     c.in_ok-events.ensures.answers c.in_ok-events.ensures.after (empty_as c.in_ok-events.events.items c.is_empty.result (c.is_empty.ensures ∙ ap (λ (n : ℕ). n == 0) count) none) c.requires.rests)
 
-pub let_clocks_go_on-requires-clause-rests : goal.let_clocks_go_on-requires-clause-rests
-let_clocks_go_on-requires-clause-rests c =
+pub returns-clause-rests : goal.returns-clause-rests
+returns-clause-rests c =
     let plan = c.args.scenario.now in
     let rests = c.in_ok-steps.ensures.rests in
     let stepped = stepped_stays c.laws_of_a_tick.ensures plan c.keeps_rules.ensures c.args.t c.requires.within c.args.world.now c.requires.during
@@ -75,7 +74,7 @@ let_clocks_go_on-requires-clause-rests c =
     let left = c.forget_if-2.ensures c.carry_sent.new.world
     (rests.count ∙ ap (λ (r : Topology). length r.kinds) (stepped.tree_is ∙ sym carried.tree_is))
     (λ none. subst (λ (u : WorldState). AreRests u c.make_steps.new.rests.items) (sym (c.in_ok-has_carried.ensures.none none)) rests) in
-    subst (λ (rs : List Rest). AreRests c.carry_sent.new.world rs) (sym c.as_slice-3.ensures.value) left
+    c.in_ok-let_clocks_go_on.ensures.rests c.forget_if-2.new.rests.items left
 
 pub returns-clause-made : goal.returns-clause-made
 returns-clause-made c =
