@@ -1,14 +1,14 @@
 -- What rest says of each node and link, of any application: no PDU waits or is in flight, every participant is at rest and
 -- sound, no key awaits; so a port has registered what its peer declares.
-use Rattle.std.proofs.Common.{◌≡◌, ℕ, ◌+◌, ◌-◌, ◌<◌, Bool, true, false, ◌&&◌, List, [], ◌∷◌, ◌++◌, length, refl, sym, ap, ◌∙◌, arith}
-use Rattle.std.specs.Prelude.{slice_get, filter_map, Option, Some, None, ◌==◌}
+use Rattle.std.proofs.Common.{◌≡◌, ℕ, ◌-◌, ◌<◌, true, ◌&&◌, List, [], ◌++◌, length, ap, ◌∙◌, arith}
+use Rattle.std.specs.Prelude.{slice_get, filter_map, Option, Some, ◌==◌}
 use Rattle.std.specs.declared.cmp.Ordering.{Ordering}
 use Rattle.std.specs.List.{list_all}
 use Rattle.std.specs.Option.{option_map_or}
 use Rattle.std.proofs.lemmas.Bool.{and_parts}
 use Rattle.srp_base.specs.declared.numbers.EgressPort.{EgressPort}
 use Rattle.tree_topology.specs.Topology.{HasPort}
-use Rattle.tree_topology.specs.Ports.{neighbours, peer_of}
+use Rattle.tree_topology.specs.Ports.{peer_of}
 use Rattle.tree_topology.specs.PortLaws.{HasPortLaws}
 use Rattle.mrp_participant.specs.Link.{Link, AreDutiesMet}
 use Rattle.mrp_participant.specs.State.{State, Messages, is_still, registered_at, declared_at}

@@ -1,7 +1,7 @@
 -- Which refusal a failure names: the first along the path; what it says; and that at rest there is one.
-use Rattle.std.proofs.Common.{◌≡◌, ◌⊎◌, inl, inr, ℕ, zero, suc, ◌+◌, ◌-◌, ◌<◌, Bool, true, false, ◌&&◌, ◌==◌, if◌then◌else◌, List, [], ◌∷◌, length, refl, sym, ap, subst, ◌∙◌, arith}
+use Rattle.std.proofs.Common.{◌≡◌, ℕ, zero, suc, ◌+◌, ◌-◌, ◌<◌, Bool, true, false, ◌&&◌, ◌==◌, if◌then◌else◌, List, [], ◌∷◌, refl, sym, ap, ◌∙◌, arith}
 use Rattle.std.specs.Prelude.{slice_get, Option, Some, None, IsSome, is_some, option_map, option_and_then, ◌↔◌}
-use Rattle.std.specs.Option.{option_map_or, option_or}
+use Rattle.std.specs.Option.{option_map_or}
 use Rattle.std.proofs.lemmas.Bool.{and_parts, eqb-true}
 use Rattle.std.proofs.lemmas.Bool.Decides.{nat_tests}
 use Rattle.srp_base.specs.declared.numbers.BridgeId.{BridgeId}
@@ -22,15 +22,15 @@ use Rattle.msrp_talker.specs.TalkerOut.{talker_in}
 use Rattle.msrp.specs.declared.port.Port.{Port}
 use Rattle.msrp.specs.Stream.{is_talker_port, talkers_of, talker_of as talker_in_list, fit_at, want_of_talker}
 use Rattle.msrp.specs.Side.{place_of, talker_of, has_talk}
-use Rattle.node_core.specs.State.{NodeState, fit_of, of_port}
+use Rattle.node_core.specs.State.{NodeState, fit_of}
 use Rattle.world_core.specs.World.{WorldState, node_at}
 use Rattle.world_core.specs.Talks.{HasOneTalker}
-use Rattle.network_laws.specs.Vlans.{is_station}
+use Rattle.tree_topology.specs.Refusal.{is_station}
 use Rattle.network_laws.specs.declared.streams.Refusal.{Refusal}
-use Rattle.network_laws.specs.Streams.{IsTalkedOnce, is_talked_at, talking_node, failure_at, slope_of_talker, slope_of_reg, refusal_of, refusal_in, refusal_at, first_refusal, refusal_named, refusal_to, IsNamedAt, IsRefusalTo}
+use Rattle.network_laws.specs.Streams.{IsTalkedOnce, is_talked_at, talking_node, failure_at, slope_of_reg, refusal_of, refusal_in, refusal_at, first_refusal, refusal_named, refusal_to, IsNamedAt, IsRefusalTo}
 use Rattle.network_laws.proofs.StreamNode.{KeptWants}
-use Rattle.network_laws.proofs.StreamNet.{AreStreamsStill, Refusing}
-use Rattle.network_laws.proofs.StreamLaw.{Shown, shown, fit-there, moment-is}
+use Rattle.network_laws.proofs.StreamNet.{AreStreamsStill}
+use Rattle.network_laws.proofs.StreamLaw.{shown, fit-there, moment-is}
 
 -- ---- the first along some ports
 

@@ -1,6 +1,6 @@
 -- The laws of streams in a network at rest, in the words of their definitions.
-use Rattle.std.proofs.Common.{◌≡◌, ◌≢◌, ◌⊎◌, inl, inr, ℕ, zero, suc, ◌+◌, ◌-◌, ◌<◌, ◌≤◌, Bool, true, false, ◌&&◌, ◌||◌, if◌then◌else◌, List, [], ◌∷◌, ◌++◌, length, map, refl, sym, ap, subst, ◌∙◌, arith}
-use Rattle.std.specs.Prelude.{slice_get, not, nat_le, Option, Some, None, is_some, find, option_map, option_and_then, ◌↔◌, ◌==◌}
+use Rattle.std.proofs.Common.{◌≡◌, ◌≢◌, ◌⊎◌, inl, inr, ℕ, zero, suc, ◌+◌, ◌-◌, ◌<◌, ◌≤◌, Bool, true, false, ◌&&◌, List, [], ◌∷◌, ◌++◌, length, refl, sym, ap, subst, ◌∙◌, arith}
+use Rattle.std.specs.Prelude.{slice_get, Option, Some, None, find, option_and_then, ◌↔◌, ◌==◌}
 use Rattle.std.specs.Option.{option_map_or}
 use Rattle.std.specs.List.{AllByRecursion, list_all, range_with_len}
 use Rattle.std.proofs.lemmas.Bool.{and_parts, eqb-true}
@@ -11,32 +11,29 @@ use Rattle.srp_base.specs.declared.streams.Failure.{Failure}
 use Rattle.srp_base.specs.declared.streams.Talker.{Talker}
 use Rattle.srp_base.specs.declared.streams.TalkerReg.{TalkerReg}
 use Rattle.srp_base.specs.declared.streams.TalkerReg.TheVariants.{Absent, Advertise, Failed}
-use Rattle.srp_base.specs.declared.streams.ListenerKind.{ListenerKind}
-use Rattle.srp_base.specs.declared.streams.ListenerKind.TheVariants.{AskingFailed, Ready, ReadyFailed}
 use Rattle.stream_importance.specs.declared.entry.Want.{Want}
 use Rattle.stream_importance.specs.declared.entry.Fit.{Fit}
 use Rattle.stream_importance.specs.declared.entry.Fit.TheVariants.{Fits, TooLittle}
 use Rattle.stream_importance.specs.Bandwidth.{cap_of}
 use Rattle.port_ledger.specs.Decision.{above, booked_of, does_fit}
-use Rattle.port_ledger.specs.Book.{Book, since_of, fit_for, tested_as, code_of}
+use Rattle.port_ledger.specs.Book.{Book, fit_for, tested_as, code_of}
 use Rattle.tree_topology.specs.Topology.{HasNode, HasPort}
 use Rattle.tree_topology.specs.Ports.{neighbours, peer_of, far_node, LiesBehind, IsPortPath}
 use Rattle.tree_topology.specs.Walk.{is_behind, path_between}
-use Rattle.tree_topology.specs.PortLaws.{HasPortLaws}
 use Rattle.mrp_participant.specs.State.{registered_at}
 use Rattle.msrp_codec.specs.declared.pdu.MsrpKey.TheVariants as keys
 use Rattle.msrp_talker.specs.TalkerOut.{talker_in}
 use Rattle.msrp.specs.declared.port.Port.{Port}
 use Rattle.msrp.specs.Part.{registered_talker, registered_listener, key_cmp, talker_reg_of}
-use Rattle.msrp.specs.Stream.{Registrations, is_present, is_advertised, is_number, talker_port, is_talker_port, is_ready, talk_of, talkers_of, talker_of, talker_at, listener_at, fit_at, want_of_talker, heard_by, heard_of as heard_in}
-use Rattle.msrp.specs.Side.{Streams, place_of, seen_by, has_talk, has_listen, heard_of}
-use Rattle.node_core.specs.State.{NodeState, content_at, of_port}
+use Rattle.msrp.specs.Stream.{Registrations, is_present, is_advertised, is_number, talker_port, is_talker_port, is_ready, talk_of, talker_of, listener_at, fit_at, want_of_talker, heard_by, heard_of as heard_in}
+use Rattle.msrp.specs.Side.{place_of, seen_by, has_listen, heard_of}
+use Rattle.node_core.specs.State.{NodeState}
 use Rattle.world_core.specs.World.{WorldState, node_at}
-use Rattle.network_laws.specs.Vlans.{is_station}
-use Rattle.network_laws.specs.Streams.{talker_at_place, is_talker_registered, is_talked_at, IsTalkedOnce, HasTalkerBehind, TalkersMatch, talking_node, IsTalkersPath, has_booked, is_path_booked, IsPathBooked, is_ready_heard, hears_ready, is_listened_at, AreReadyOnPath, is_bandwidth_code, bandwidth_failure, failure_at, want_at, IsPushedOut, IsRefusedAt, IsOnPath, AreRefusalsShown}
+use Rattle.tree_topology.specs.Refusal.{is_station}
+use Rattle.network_laws.specs.Streams.{talker_at_place, is_talker_registered, is_talked_at, IsTalkedOnce, HasTalkerBehind, TalkersMatch, talking_node, has_booked, is_path_booked, IsPathBooked, is_ready_heard, hears_ready, is_listened_at, AreReadyOnPath, bandwidth_failure, failure_at, want_at, IsPushedOut, IsRefusedAt, IsOnPath, AreRefusalsShown}
 use Rattle.network_laws.proofs.Lists.{get-some, get-within}
-use Rattle.network_laws.proofs.StreamNode.{IsTalkers, port-of-present, is-port, same-port, other-port, KeptWants, booked-advertises, advertised-booked, fit_of_reg, IsOfBandwidth, Refuses, listens}
-use Rattle.network_laws.proofs.StreamNet.{stream_port, AreStreamsStill, At, at-port, port-is, reg, reg-is, kind_at, regs, wanted, far-talker, far-listener, near-talker, test, own, Talks, registered-behind, Sibling, sibling, towards, other-side, behind-registered, booked-is, path-booked, path-last, path-start, port-kept, kind-is, Refusing, refused, TalkersAt, at-app, at-link, talkers-at, one-talker, get-map, are-both, is-not}
+use Rattle.network_laws.proofs.StreamNode.{IsTalkers, port-of-present, is-port, same-port, other-port, KeptWants, booked-advertises, advertised-booked, IsOfBandwidth, listens}
+use Rattle.network_laws.proofs.StreamNet.{AreStreamsStill, At, at-port, reg, reg-is, regs, wanted, far-listener, near-talker, test, Talks, registered-behind, Sibling, towards, other-side, behind-registered, booked-is, path-booked, path-last, port-kept, kind-is, Refusing, refused, TalkersAt, at-app, at-link, talkers-at, get-map, is-not}
 
 -- a node lies behind a port by its walk exactly where the test says so; the egress ports of the walk are the path
 abbrev pub WalkBehind : WorldState → Type 0

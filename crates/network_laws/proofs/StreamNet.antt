@@ -1,11 +1,11 @@
 -- In a network at rest with a stream that at most one station talks: its Talker is registered at a port exactly where that
 -- station is behind the port; so the Talker's port of each other node leads to the station, and along the path from there
 -- bookings, declared Talkers and declared Listeners hang together port by port.
-use Rattle.std.proofs.Common.{◌≡◌, ◌≢◌, ◌⊎◌, inl, inr, ℕ, zero, suc, ◌+◌, ◌-◌, ◌<◌, ◌≤◌, Bool, true, false, ◌&&◌, List, [], ◌∷◌, ◌++◌, length, map, refl, sym, ap, subst, ◌∙◌, arith}
-use Rattle.std.specs.Prelude.{slice_get, not, Option, Some, None, is_some, option_map, option_and_then, ◌↔◌, ◌==◌}
+use Rattle.std.proofs.Common.{◌≡◌, ◌≢◌, ◌⊎◌, inl, inr, ℕ, zero, suc, ◌+◌, ◌-◌, ◌<◌, Bool, true, false, ◌&&◌, List, [], ◌∷◌, ◌++◌, length, map, refl, sym, ap, subst, ◌∙◌, arith}
+use Rattle.std.specs.Prelude.{slice_get, not, Option, Some, None, is_some, option_map, option_and_then, ◌==◌}
 use Rattle.std.specs.Option.{option_map_or}
-use Rattle.std.specs.List.{AllByRecursion, list_all}
-use Rattle.std.proofs.lemmas.Bool.{and_parts, eqb-true}
+use Rattle.std.specs.List.{list_all}
+use Rattle.std.proofs.lemmas.Bool.{and_parts}
 use Rattle.srp_base.specs.declared.numbers.EgressPort.{EgressPort}
 use Rattle.srp_base.specs.declared.numbers.StreamId.{StreamId}
 use Rattle.srp_base.specs.declared.streams.Failure.{Failure}
@@ -13,7 +13,6 @@ use Rattle.srp_base.specs.declared.streams.Talker.{Talker}
 use Rattle.srp_base.specs.declared.streams.TalkerReg.{TalkerReg}
 use Rattle.srp_base.specs.declared.streams.TalkerReg.TheVariants.{Absent, Advertise, Failed}
 use Rattle.srp_base.specs.declared.streams.ListenerKind.{ListenerKind}
-use Rattle.srp_base.specs.declared.streams.ListenerKind.TheVariants.{AskingFailed, Ready, ReadyFailed}
 use Rattle.stream_importance.specs.declared.entry.Want.{Want}
 use Rattle.tree_topology.specs.declared.graph.NodeKind.{NodeKind}
 use Rattle.tree_topology.specs.declared.graph.NodeKind.TheVariants.{Station, Bridge}
@@ -21,24 +20,23 @@ use Rattle.tree_topology.specs.Topology.{HasNode, HasPort}
 use Rattle.tree_topology.specs.Ports.{neighbours, peer_of, far_node}
 use Rattle.tree_topology.specs.Walk.{is_behind, path_between, count_behind}
 use Rattle.tree_topology.specs.PortLaws.{HasPortLaws, HasBeyond}
-use Rattle.attribute_propagation.specs.Dirty.{is_awaiting}
 use Rattle.mrp_participant.specs.State.{registered_at, declared_at}
 use Rattle.stream_importance.specs.declared.entry.Entry.{Entry}
-use Rattle.port_ledger.specs.Book.{Book, entry_of, since_of, want_of, fit_for}
+use Rattle.port_ledger.specs.Book.{entry_of, since_of, want_of}
 use Rattle.msrp_codec.specs.declared.pdu.MsrpKey.{MsrpKey}
 use Rattle.msrp_codec.specs.declared.pdu.MsrpKey.TheVariants as keys
 use Rattle.msrp_listener.specs.declared.port_listener.PortListener.{PortListener}
 use Rattle.msrp.specs.declared.port.Port.{Port}
-use Rattle.msrp.specs.Part.{Part, key_cmp, registered_talker, registered_listener, talker_reg_of, listener_kind_of}
-use Rattle.msrp.specs.Stream.{Registrations, advertised, talk_of, is_present, is_advertised, is_talker_port, is_ready, listener_row, talkers_of, talker_of, talker_at, listener_at, wanted_at, want_of_talker, heard_by}
+use Rattle.msrp.specs.Part.{key_cmp, registered_talker, registered_listener, talker_reg_of, listener_kind_of}
+use Rattle.msrp.specs.Stream.{Registrations, advertised, talk_of, is_present, is_advertised, is_talker_port, is_ready, listener_row, talker_of, talker_at, listener_at, wanted_at, want_of_talker}
 use Rattle.msrp_talker.specs.TalkerOut.{talker_in}
-use Rattle.msrp.specs.Side.{Streams, IsKept, IsPort, IsSettled, place_of, has_talk, has_listen, seen_by}
-use Rattle.node_core.specs.State.{NodeState, if_booked, booked_at, of_port}
+use Rattle.msrp.specs.Side.{Streams, IsKept, IsPort, IsSettled, place_of, has_talk, seen_by}
+use Rattle.node_core.specs.State.{NodeState, if_booked, booked_at}
 use Rattle.world_core.specs.World.{WorldState, node_at}
-use Rattle.network_laws.specs.Vlans.{is_station}
+use Rattle.tree_topology.specs.Refusal.{is_station}
 use Rattle.network_laws.specs.Streams.{is_talked_at, IsTalkedOnce, has_booked}
-use Rattle.network_laws.proofs.Lists.{each-get, get-some, get-within, get-all, get-empty}
-use Rattle.network_laws.proofs.StreamNode.{IsTalkers, first-is, talkers-port, port-of, port-of-present, is-port, same-port, other-port, declares, declared-present, present-declared, out-wants, reg-content, kind-content, KeptWants, Wants, booked-wants, booked-advertises, advertised-booked, fit_of_reg, IsOfBandwidth, Refuses, failed-at, can_have, forwards, listens}
+use Rattle.network_laws.proofs.Lists.{each-get, get-some, get-within, get-empty}
+use Rattle.network_laws.proofs.StreamNode.{IsTalkers, first-is, port-of, port-of-present, is-port, same-port, other-port, declares, declared-present, present-declared, out-wants, reg-content, kind-content, KeptWants, Wants, booked-wants, advertised-booked, fit_of_reg, IsOfBandwidth, Refuses, failed-at, can_have, forwards}
 
 -- what MSRP keeps of a port
 abbrev pub stream_port : EgressPort → WorldState → Option Port

@@ -1,13 +1,12 @@
 -- One stream at a node where nothing awaits: which port is the Talker's, what a port declares of the Talker and of the
 -- Listeners there, and how that and the port's ledger hang together.
-use Rattle.std.proofs.Common.{◌≡◌, ◌≢◌, ◌⊎◌, inl, inr, ℕ, zero, suc, ◌+◌, ◌<◌, ◌≤◌, Bool, true, false, ◌&&◌, ◌||◌, ◌==◌, if◌then◌else◌, List, [], ◌∷◌, ◌++◌, length, map, take, drop, refl, sym, ap, subst, ◌∙◌, arith}
-use Rattle.std.specs.Prelude.{slice_get, not, nat_lt, Option, Some, None, IsSome, is_some, is_none, option_map, option_and_then, find, position, fold, ◌↔◌}
+use Rattle.std.proofs.Common.{◌≡◌, ◌≢◌, ◌⊎◌, inl, inr, ℕ, zero, suc, ◌+◌, ◌≤◌, Bool, true, false, ◌||◌, ◌==◌, if◌then◌else◌, List, [], ◌∷◌, ◌++◌, length, map, take, drop, refl, sym, ap, ◌∙◌, arith}
+use Rattle.std.specs.Prelude.{slice_get, nat_lt, Option, Some, None, IsSome, is_some, is_none, option_map, option_and_then, fold, ◌↔◌}
 use Rattle.std.specs.Option.{unwrap_or, option_or}
 use Rattle.std.specs.List.{list_any, filter_map, position_or_len}
-use Rattle.std.proofs.lemmas.Bool.{and_parts, eqb-true}
+use Rattle.std.proofs.lemmas.Bool.{eqb-true}
 use Rattle.std.proofs.lemmas.Bool.Decides.{nat_tests}
 use Rattle.srp_base.specs.declared.bandwidth.Class.{Class}
-use Rattle.srp_base.specs.declared.numbers.Cs.{Cs}
 use Rattle.srp_base.specs.declared.numbers.StreamId.{StreamId}
 use Rattle.srp_base.specs.declared.streams.Failure.{Failure}
 use Rattle.srp_base.specs.declared.streams.Talker.{Talker}
@@ -22,14 +21,13 @@ use Rattle.stream_importance.specs.declared.entry.Fit.TheVariants.{Fits, TooLitt
 use Rattle.port_ledger.specs.Decision.{stream_of}
 use Rattle.port_ledger.specs.Book.{Book, IsKept, entry_of, want_of, since_of, fit_for}
 use Rattle.msrp_talker.specs.declared.port_config.PortConfig.{PortConfig}
-use Rattle.msrp_talker.specs.TalkerOut.{check_of, class_of_priority, code_of, refusal_of, declared_of, delayed_by, talker_in, talker_out}
+use Rattle.msrp_talker.specs.TalkerOut.{check_of, class_of_priority, refusal_of, declared_of, delayed_by, talker_in, talker_out}
 use Rattle.msrp_listener.specs.declared.port_listener.PortListener.{PortListener}
 use Rattle.msrp_listener.specs.Merging.{merge_of, counted_kind, listener_out}
-use Rattle.msrp_codec.specs.declared.pdu.MsrpContent.{MsrpContent}
 use Rattle.msrp_codec.specs.declared.pdu.MsrpContent.TheVariants as contents
 use Rattle.msrp.specs.declared.port.Port.{Port}
 use Rattle.msrp.specs.Part.{Part, registered_listener, talker_content, talker_reg_of, listener_kind_of}
-use Rattle.msrp.specs.Stream.{Registrations, is_present, is_advertised, is_number, is_talker_port, is_ready, is_ready_kind, talker_port, talker_of, talker_at, fit_at, want_of_talker, want_of_reg, want_in_class, wanted_at, listener_at, own_listener, other_listeners}
+use Rattle.msrp.specs.Stream.{Registrations, is_present, is_advertised, is_number, is_talker_port, is_ready, is_ready_kind, talker_port, talker_of, talker_at, want_of_talker, want_of_reg, want_in_class, wanted_at, listener_at, own_listener, other_listeners}
 
 -- ---- the Talker's port
 

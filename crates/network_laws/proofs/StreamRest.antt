@@ -1,17 +1,16 @@
 -- In a network at rest the streams are still; so the laws of streams hold of it.
-use Rattle.std.proofs.Common.{◌≡◌, ℕ, ◌+◌, ◌-◌, ◌<◌, Bool, true, false, ◌&&◌, List, [], ◌∷◌, length, refl, sym, ap, ◌∙◌, arith}
+use Rattle.std.proofs.Common.{◌≡◌, ℕ, ◌-◌, true, refl, sym, ap, ◌∙◌}
 use Rattle.std.specs.Prelude.{slice_get, Option, Some, None, option_map, option_and_then}
-use Rattle.std.specs.List.{AllByRecursion}
 use Rattle.srp_base.specs.declared.numbers.EgressPort.{EgressPort}
 use Rattle.srp_base.specs.declared.numbers.StreamId.{StreamId}
 use Rattle.tree_topology.specs.Topology.{HasPort}
-use Rattle.tree_topology.specs.Ports.{neighbours, peer_of}
+use Rattle.tree_topology.specs.Ports.{peer_of}
 use Rattle.tree_topology.specs.PortLaws.{HasPortLaws}
 use Rattle.mrp_participant.specs.State.{is_still, registered_at, declared_at}
 use Rattle.msrp_codec.specs.declared.pdu.MsrpKey.{MsrpKey}
 use Rattle.msrp_codec.specs.declared.pdu.MsrpContent.{MsrpContent}
 use Rattle.msrp.specs.declared.port.Port.{Port}
-use Rattle.msrp.specs.Part.{Part, key_cmp}
+use Rattle.msrp.specs.Part.{key_cmp}
 use Rattle.msrp.specs.Side.{place_of}
 use Rattle.node_core.specs.State.{NodeState}
 use Rattle.world_core.specs.World.{WorldState, node_at}

@@ -1,8 +1,7 @@
 -- In a network at rest a VID is registered at a port exactly where the far node's application, or another port of the far
 -- node, has it; and so, by the tree, exactly where a station behind the port has declared it.
-use Rattle.std.proofs.Common.{◌≡◌, ◌≢◌, ◌⊎◌, inl, inr, ℕ, suc, ◌+◌, ◌-◌, ◌<◌, Bool, true, false, ◌&&◌, List, [], ◌∷◌, ◌++◌, length, map, refl, sym, ap, subst, ◌∙◌, arith}
-use Rattle.std.specs.Prelude.{slice_get, Option, Some, None, ◌↔◌, ◌==◌}
-use Rattle.std.specs.List.{list_all}
+use Rattle.std.proofs.Common.{◌≡◌, ◌≢◌, ◌⊎◌, inl, inr, ℕ, suc, ◌+◌, ◌-◌, ◌<◌, Bool, true, false, ◌&&◌, List, [], ◌∷◌, length, map, refl, sym, ap, ◌∙◌, arith}
+use Rattle.std.specs.Prelude.{slice_get, Option, Some, ◌↔◌}
 use Rattle.std.specs.Option.{option_map_or, option_and_then, is_some}
 use Rattle.std.specs.Ordering.{nat_cmp}
 use Rattle.std.proofs.lemmas.Bool.{and_parts}
@@ -17,15 +16,16 @@ use Rattle.attribute_propagation.specs.Dirty.{is_awaiting}
 use Rattle.attribute_propagation.specs.Flat.{elsewhere}
 use Rattle.mrp_participant.specs.State.{is_still}
 use Rattle.mvrp.specs.Part.{Part, registers, declares}
-use Rattle.mvrp.specs.Side.{Vlans, IsKept, place_of, has_own, is_flat, are_still}
-use Rattle.node_core.specs.State.{NodeState, ports_of}
+use Rattle.mvrp.specs.Side.{Vlans, place_of, has_own, is_flat}
+use Rattle.node_core.specs.State.{NodeState}
 use Rattle.world_core.specs.World.{WorldState, node_at}
 use Rattle.world_core.specs.Duty.{message_of, vlan_place, vlan_part}
 use Rattle.world_core.specs.Kept.{IsKeptWorld, IsIdleBridge, FitsTree}
-use Rattle.network_laws.specs.Vlans.{is_registered, is_station, is_declared_at, is_declared_behind, HasDeclaredBehind, VlansMatch, IsAtRest}
+use Rattle.tree_topology.specs.Refusal.{is_station}
+use Rattle.network_laws.specs.Vlans.{is_registered, is_declared_at, is_declared_behind, HasDeclaredBehind, VlansMatch, IsAtRest}
 use Rattle.network_laws.proofs.AtRest.{StillLink, IsStillNode, still-at, registers-declared}
 use Rattle.network_laws.proofs.Lists.{each-get, get-some, get-within, get-all, get-empty}
-use Rattle.network_laws.proofs.Places.{empty-box, is_other, other-at, other-from, flat-cases, flat-own, flat-other, get-map, map-get, range-from, range-at, one-test}
+use Rattle.network_laws.proofs.Places.{is_other, other-at, other-from, flat-cases, flat-own, flat-other, get-map, map-get, range-from, range-at, one-test}
 
 -- an application that declares is a station's
 station-own : (vid : ℕ) (kind : NodeKind) (vlans : Vlans) → (kind ≡ Bridge → vlans.own ≡ []) → has_own vid vlans ≡ true → (is_station kind && has_own vid vlans) ≡ true

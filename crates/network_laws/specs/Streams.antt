@@ -1,7 +1,7 @@
 -- The laws of streams: where a Talker is registered, when an application hears Ready, and what a Talker Failed for want of
 -- bandwidth comes of (IEEE Std 802.1Q-2018, 35.2.4). Either side by its own definition: one looks at what is registered or
 -- heard at one place, the other at the tree's walks, at what the stations' applications talk, and at bookings.
-use Rattle.std.specs.Prelude.{◌≡◌, ◌↔◌, ◌<◌, ◌+◌, ◌-◌, ◌==◌, ℕ, Bool, true, false, ◌&&◌, ◌||◌, if◌then◌else◌, List, [], ◌∷◌, length, find, slice_get, Option, Some, None, is_some, option_and_then}
+use Rattle.std.specs.Prelude.{◌≡◌, ◌↔◌, ◌<◌, ◌+◌, ◌==◌, ℕ, Bool, true, false, ◌&&◌, ◌||◌, if◌then◌else◌, List, [], ◌∷◌, length, find, slice_get, Option, Some, None, is_some, option_and_then}
 use Rattle.std.specs.Option.{option_map_or, option_or}
 use Rattle.std.specs.List.{AllByRecursion, list_all, range_with_len}
 use Rattle.srp_base.specs.declared.numbers.EgressPort.{EgressPort}
@@ -30,7 +30,7 @@ use Rattle.msrp.specs.Side.{place_of, has_talk, has_listen, heard_of, talker_of}
 use Rattle.node_core.specs.State.{NodeState, content_at, booked_at, fit_of}
 use Rattle.world_core.specs.World.{WorldState, node_at}
 use Rattle.network_laws.specs.declared.streams.Refusal.{Refusal}
-use Rattle.network_laws.specs.Vlans.{is_station}
+use Rattle.tree_topology.specs.Refusal.{is_station}
 
 -- the node of this number
 abbrev pub node_of : ℕ → WorldState → Option NodeState

@@ -5,9 +5,8 @@ use Rattle.std.specs.Prelude.{◌≡◌, ◌↔◌, ℕ, Bool, true, false, ◌&
 use Rattle.std.specs.Option.{option_map_or}
 use Rattle.std.specs.List.{list_any, range_with_len}
 use Rattle.srp_base.specs.declared.numbers.EgressPort.{EgressPort}
-use Rattle.tree_topology.specs.declared.graph.NodeKind.{NodeKind}
-use Rattle.tree_topology.specs.declared.graph.NodeKind.TheVariants.{Station, Bridge}
 use Rattle.tree_topology.specs.Topology.{HasNode, HasPort}
+use Rattle.tree_topology.specs.Refusal.{is_station}
 use Rattle.tree_topology.specs.Ports.{LiesBehind}
 use Rattle.tree_topology.specs.Walk.{is_behind}
 use Rattle.mvrp.specs.Part.{registers}
@@ -18,10 +17,6 @@ use Rattle.world_core.specs.Duty.{vlan_part}
 -- whether a VID is registered at a port: its registrar there is IN or LV
 abbrev pub is_registered : WorldState → ℕ → EgressPort → Bool
 is_registered w vid p = option_map_or (registers vid) (vlan_part p w) false
-
-abbrev pub is_station : NodeKind → Bool
-is_station Station = true
-is_station Bridge = false
 
 -- whether a node is a station whose application declares a VID
 abbrev pub is_declared_at : WorldState → ℕ → ℕ → Bool

@@ -26,7 +26,7 @@ use tree_topology::laws::ports;
 use world_core::World;
 
 /// A port that refuses a stream for want of bandwidth, with what its ledger says.
-#[derive(Clone, Copy, Debug, PartialEq, Eq)]
+#[derive(Clone, Copy, PartialEq, Eq)]
 pub struct Refusal {
     /// The port.
     pub at: EgressPort,

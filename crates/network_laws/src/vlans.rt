@@ -15,7 +15,7 @@ use world_core::World;
 
 /// The two sides of a law at one place: what is found there, and what the law expects. They are equal where the network is
 /// at rest.
-#[derive(Clone, Copy, Debug, PartialEq, Eq)]
+#[derive(Clone, Copy, PartialEq, Eq)]
 pub struct Sides {
     pub found: bool,
     pub expected: bool,

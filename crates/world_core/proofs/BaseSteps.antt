@@ -28,7 +28,7 @@ use Rattle.world_core.specs.declared.events.WorldEvent.TheVariants.{Request, Por
 use Rattle.world_core.specs.World.{WorldState, node_at, with_changed, outbox, app_of, lost, repeated, world_step, CanHappen, IsEventInRange}
 use Rattle.world_core.specs.Kept.{FitsTree}
 use Rattle.world_core.proofs.Lists.{one_some}
-use Rattle.world_core.proofs.Nodes.{Base, Stays, base_changed, stepped_is, ticked_get, ticked_length, node_there, place_within, proper_at, outbox_is}
+use Rattle.world_core.proofs.Nodes.{Base, IsOfSamePlace, base_changed, stepped_is, ticked_get, ticked_length, node_there, place_within, proper_at, outbox_is}
 
 -- the laws of a node, as its public laws say them
 pub record NodeLaws : Type 0 where
@@ -83,7 +83,7 @@ module _ (nodes : NodeLaws) where
   base_repeat e index (Some app) w base =
       base_changed e.node (repeated_at (place_of e.port) index) w base (λ s is. record { kind = refl; ports = refl; clock = refl; proper = nodes.repeated (place_of e.port) index s (proper_at w base e.node s is) })
 
-  spoilt_stays : (app : App) (at : ℕ) (s : NodeState) → IsProperNode s → Stays s (spoilt_at app at s)
+  spoilt_stays : (app : App) (at : ℕ) (s : NodeState) → IsProperNode s → IsOfSamePlace s (spoilt_at app at s)
   spoilt_stays Mvrp at s proper = record { kind = refl; ports = by (slice_get s.vlans.parts at); clock = refl; proper = nodes.spoilt Mvrp at s proper }
     where
       by : (o : Option Part) → length (with_part o (λ p. replaced at (record p { sound = false }) s.vlans) s.vlans).parts ≡ length s.vlans.parts

@@ -1,5 +1,5 @@
 -- Each change of a timeline says what was in force at a moment of the run, so that its slopes are within the limits.
-use Rattle.std.proofs.Common.{◌≡◌, ◌≢◌, ℕ, zero, suc, ◌+◌, ◌-◌, ◌*◌, ◌/◌, ◌<◌, ◌≤◌, ◌⊎◌, inl, inr, Bool, true, false, cond, List, [], ◌∷◌, ◌++◌, length, get_or, map, take, drop, Option, Some, None, refl, sym, ap, subst, ◌∙◌, arith, append-nil, append_assoc}
+use Rattle.std.proofs.Common.{◌≡◌, ℕ, zero, suc, ◌+◌, ◌<◌, ◌≤◌, inl, inr, true, List, [], ◌∷◌, ◌++◌, length, map, take, drop, Option, Some, None, refl, sym, ap, subst, ◌∙◌, arith, append_assoc}
 use Rattle.std.specs.Prelude.{All, nat_le, slice_get}
 use Rattle.std.specs.Option.{option_map_or}
 use Rattle.std.specs.List.{AllByRecursion}
@@ -26,7 +26,7 @@ use Rattle.world_core.specs.Limits.{caps_at, booked_at_port, IsWithinLimits}
 use Rattle.world_core.specs.Force.{Force, no_force, said_by}
 use Rattle.world_core.specs.Timeline.{node_force, force_at, world_after_ticks, IsAfterSteps, IsTimelineOf}
 use Rattle.world_core.proofs.Lists.{within}
-use Rattle.world_core.proofs.PortOrder.{IsBefore, AreInOrder, port_itself, same_port, before_other, earlier_is, order_from_pairs, at_append, each_weaker, upto_append}
+use Rattle.world_core.proofs.PortOrder.{AreInOrder, port_itself, same_port, before_other, earlier_is, order_from_pairs, at_append, each_weaker, upto_append}
 use Rattle.world_core.proofs.Timelines.{after_both}
 
 -- ---- a change is in force in its own tick

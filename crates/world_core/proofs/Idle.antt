@@ -36,7 +36,7 @@ use Rattle.world_core.proofs.EachNode.{IsOfSides, KeepsOwn, all_keep}
 -- ---- a node
 
 -- the kind stays, and so does what the application asks for
-pub record Stays (s t : NodeState) : Type 0 where
+pub record SameKindAndAsks (s t : NodeState) : Type 0 where
   pub kind : t.kind ≡ s.kind
   pub own : t.vlans.own ≡ s.vlans.own
   pub talks : t.streams.talks ≡ s.streams.talks
@@ -56,13 +56,13 @@ asks_port None make v h = record { talks = refl; listens = refl }
 asks_port (Some p) make v h = h p
 
 -- a step of one application, or of the other, or of both
-of_vlans : (s : NodeState) (u : Vlans) → u.own ≡ s.vlans.own → Stays s (record s { vlans = u })
+of_vlans : (s : NodeState) (u : Vlans) → u.own ≡ s.vlans.own → SameKindAndAsks s (record s { vlans = u })
 of_vlans s u own = record { kind = refl; own = own; talks = refl; listens = refl }
 
-of_streams : (s : NodeState) (u : Streams) → SameAsks s.streams u → Stays s (record s { streams = u })
+of_streams : (s : NodeState) (u : Streams) → SameAsks s.streams u → SameKindAndAsks s (record s { streams = u })
 of_streams s u asks = record { kind = refl; own = refl; talks = asks.talks; listens = asks.listens }
 
-of_both : (s : NodeState) (u : Vlans) (v : Streams) → u.own ≡ s.vlans.own → SameAsks s.streams v → Stays s (record s { vlans = u; streams = v })
+of_both : (s : NodeState) (u : Vlans) (v : Streams) → u.own ≡ s.vlans.own → SameAsks s.streams v → SameKindAndAsks s (record s { vlans = u; streams = v })
 of_both s u v own asks = record { kind = refl; own = own; talks = asks.talks; listens = asks.listens }
 
 own_at : (at : ℕ) (make : Part → Vlans) (v : Vlans) → ((s : Part) → (make s).own ≡ v.own) → (with_part (slice_get v.parts at) make v).own ≡ v.own
@@ -71,32 +71,32 @@ own_at at make v h = own_part (slice_get v.parts at) make v h
 asks_at : (at : ℕ) (make : Port → Streams) (v : Streams) → ((p : Port) → SameAsks v (make p)) → SameAsks v (with_port (slice_get v.ports at) make v)
 asks_at at make v h = asks_port (slice_get v.ports at) make v h
 
-stays_app : (app : App) (at : ℕ) (octets : List ℕ) (s : NodeState) → Stays s (worked_app app at octets s).0
+stays_app : (app : App) (at : ℕ) (octets : List ℕ) (s : NodeState) → SameKindAndAsks s (worked_app app at octets s).0
 stays_app Mvrp at octets s = by (mvrp_reading octets)
   where
-    by : (r : Result MvrpPdu ℕ) → Stays s (record s { vlans = (worked_mvrp s.clock at r s.vlans).0 })
+    by : (r : Result MvrpPdu ℕ) → SameKindAndAsks s (record s { vlans = (worked_mvrp s.clock at r s.vlans).0 })
     by (Ok pdu) = of_vlans s _ (own_at at _ s.vlans (λ p. refl))
     by (Err place) = of_vlans s s.vlans refl
 stays_app Msrp at octets s = by (msrp_reading octets)
   where
-    by : (r : Result MsrpPdu ℕ) → Stays s (record s { streams = (worked_msrp s.clock at r s.streams).0 })
+    by : (r : Result MsrpPdu ℕ) → SameKindAndAsks s (record s { streams = (worked_msrp s.clock at r s.streams).0 })
     by (Ok pdu) = of_streams s _ (asks_at at _ s.streams (λ p. record { talks = refl; listens = refl }))
     by (Err place) = of_streams s s.streams (record { talks = refl; listens = refl })
 
-stays_worked : (at : ℕ) (wires : List Wire) (s : NodeState) → Stays s (worked at wires s).0
+stays_worked : (at : ℕ) (wires : List Wire) (s : NodeState) → SameKindAndAsks s (worked at wires s).0
 stays_worked at [] s = record { kind = refl; own = refl; talks = refl; listens = refl }
 stays_worked at (wire ∷ wires) s =
     let h = stays_app wire.app at wire.octets (record s { inboxes = slice_set s.inboxes at wires }) in
     record { kind = h.kind; own = h.own; talks = h.talks; listens = h.listens }
 
-stays_sent : (app : App) (at : ℕ) (o : Option (List ℕ)) (s : NodeState) → Stays s (sent_octets app at o s).0
+stays_sent : (app : App) (at : ℕ) (o : Option (List ℕ)) (s : NodeState) → SameKindAndAsks s (sent_octets app at o s).0
 stays_sent app at None s = record { kind = refl; own = refl; talks = refl; listens = refl }
 stays_sent Mvrp at (Some octets) s = record { kind = refl; own = own_at at _ s.vlans (λ p. refl); talks = refl; listens = refl }
 stays_sent Msrp at (Some octets) s =
     let h = asks_at at _ s.streams (λ p. record { talks = refl; listens = refl }) in
     record { kind = refl; own = refl; talks = h.talks; listens = h.listens }
 
-pub stays_step : (step : PortStep) (at : ℕ) (s : NodeState) → Stays s (port_step step at s).0
+pub stays_step : (step : PortStep) (at : ℕ) (s : NodeState) → SameKindAndAsks s (port_step step at s).0
 stays_step Work at s = stays_worked at (box_at at s.inboxes) s
 stays_step (LeaveNow (Vlan vid)) at s = of_vlans s _ (own_at at _ s.vlans (λ p. refl))
 stays_step (LeaveNow (Srp key)) at s = of_streams s _ (asks_at at _ s.streams (λ p. record { talks = refl; listens = refl }))
@@ -108,16 +108,16 @@ stays_step Due at s = of_both s _ _ (own_at at _ s.vlans (λ p. refl)) (asks_at 
 stays_step Settle at s = of_both s _ _ (own_at at _ s.vlans (λ p. refl)) (asks_at at _ s.streams (λ p. record { talks = refl; listens = refl }))
 stays_step (Send app) at s = stays_sent app at (said app at s) s
 
-pub stays_spoilt : (app : App) (at : ℕ) (s : NodeState) → Stays s (spoilt_at app at s)
+pub stays_spoilt : (app : App) (at : ℕ) (s : NodeState) → SameKindAndAsks s (spoilt_at app at s)
 stays_spoilt Mvrp at s = of_vlans s _ (own_at at _ s.vlans (λ p. refl))
 stays_spoilt Msrp at s = of_streams s _ (asks_at at _ s.streams (λ p. record { talks = refl; listens = refl }))
 
-pub stays_clocked : (s : NodeState) → Stays s (clocked_node s)
+pub stays_clocked : (s : NodeState) → SameKindAndAsks s (clocked_node s)
 stays_clocked s = record { kind = refl; own = refl; talks = refl; listens = refl }
 
 -- ---- a bridge
 
-idle_stays : (s t : NodeState) → Stays s t → IsIdleBridge s → IsIdleBridge t
+idle_stays : (s t : NodeState) → SameKindAndAsks s t → IsIdleBridge s → IsIdleBridge t
 idle_stays s t h idle k =
     let was = idle (sym h.kind ∙ k) in
     record { own = h.own ∙ was.own; talks = h.talks ∙ was.talks; listens = h.listens ∙ was.listens }

@@ -1,9 +1,9 @@
 -- The last of the changes at a port, among changes that ascend.
-use Rattle.std.proofs.Common.{◌≡◌, ℕ, zero, suc, ◌+◌, ◌-◌, ◌<◌, ◌≤◌, ◌⊎◌, inl, inr, Bool, true, false, cond, List, [], ◌∷◌, ◌++◌, length, get_or, take, Option, Some, None, refl, sym, ◌∙◌, ap, subst, arith}
-use Rattle.std.specs.Prelude.{All, AllPairs, not, nat_lt, ◌==◌, ◌&&◌, ◌||◌}
-use Rattle.std.specs.List.{AllByRecursion, AllWithin}
+use Rattle.std.proofs.Common.{◌≡◌, ℕ, zero, suc, ◌+◌, ◌<◌, ◌≤◌, inl, inr, true, false, cond, List, [], ◌∷◌, ◌++◌, length, get_or, take, Some, refl, sym, ◌∙◌, ap, subst, arith}
+use Rattle.std.specs.Prelude.{All, AllPairs, not, nat_lt, ◌==◌, ◌&&◌}
+use Rattle.std.specs.List.{AllWithin}
 use Rattle.std.specs.List.Sorted.{IsPartitionedBy}
-use Rattle.std.proofs.lemmas.Bool.{cond-true, cases_Bool, cases_lt, cases_eq, eqb-true, ltb-true, or_cases, and_parts, false≢true, not_from_true, not_from_false, not-true}
+use Rattle.std.proofs.lemmas.Bool.{cond-true, cases_Bool, cases_lt, cases_eq, eqb-true, ltb-true, or_cases, and_parts, false≢true, not_from_false, not-true}
 use Rattle.std.proofs.lemmas.List.{take_more, get_or-take, length-take, get_or_default}
 use Rattle.std.proofs.lemmas.List.Elements.{recursion_from_All, All-from_all_within}
 use Rattle.srp_base.specs.declared.numbers.EgressPort.{EgressPort}

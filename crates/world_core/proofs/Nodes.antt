@@ -78,14 +78,14 @@ pub record Base (w : WorldState) : Type 0 where
   pub clock : (x y : ℕ) (s t : NodeState) → slice_get w.nodes x ≡ Some s → slice_get w.nodes y ≡ Some t → s.clock ≡ t.clock
 
 -- the node stays one of its place in the tree
-pub record Stays (s t : NodeState) : Type 0 where
+pub record IsOfSamePlace (s t : NodeState) : Type 0 where
   pub kind : t.kind ≡ s.kind
   pub ports : ports_of t ≡ ports_of s
   pub clock : t.clock ≡ s.clock
   pub proper : IsProperNode t
 
 pub base_changed : (n : NodeNo) (change : NodeState → NodeState) (w : WorldState) → Base w
-    → ((s : NodeState) → node_at n w ≡ Some s → Stays s (change s)) → Base (with_changed n change w)
+    → ((s : NodeState) → node_at n w ≡ Some s → IsOfSamePlace s (change s)) → Base (with_changed n change w)
 base_changed n change w base stays = by (node_at n w) refl
   where
     by : (o : Option NodeState) → node_at n w ≡ o → Base (option_map_or (λ s. record w { nodes = slice_set w.nodes (n.0 - 1) (change s) }) o w)

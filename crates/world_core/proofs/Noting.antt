@@ -1,6 +1,6 @@
 -- What the noting of a tick makes of changes: they stay in order, and say from that tick on what is in force.
-use Rattle.std.proofs.Common.{◌≡◌, ℕ, zero, suc, ◌+◌, ◌<◌, ◌≤◌, ◌⊎◌, inl, inr, Bool, true, false, cond, List, [], ◌∷◌, ◌++◌, length, map, Option, Some, None, refl, sym, ◌∙◌, ap, subst, arith, append-nil, append_assoc}
-use Rattle.std.specs.Prelude.{All, AllPairs, flat_map, ◌==◌, ◌&&◌}
+use Rattle.std.proofs.Common.{◌≡◌, ℕ, zero, suc, ◌+◌, ◌<◌, ◌≤◌, inl, inr, true, false, List, [], ◌∷◌, ◌++◌, length, map, None, refl, sym, ◌∙◌, ap, subst, arith, append-nil, append_assoc}
+use Rattle.std.specs.Prelude.{flat_map, ◌==◌, ◌&&◌}
 use Rattle.std.specs.List.{AllByRecursion, range_with_len}
 use Rattle.std.specs.Cmp.Lexicographic.{pointwise_decides}
 use Rattle.std.proofs.lemmas.Bool.{cond-true, cond-false, cond_both, cases_Bool, eqb-true, eqb-false, eq-eqb, and_parts}
@@ -19,7 +19,7 @@ use Rattle.frame_flow.specs.Given.{IsEarlier}
 use Rattle.world_core.specs.Force.{Force, said_by, are_same_streams, are_same_vids, is_same, change_of}
 use Rattle.world_core.specs.Timeline.{lacking, changes_noted, tree_ports, AreChanges}
 use Rattle.world_core.specs.Merging.{merged}
-use Rattle.world_core.proofs.PortOrder.{IsBefore, Ascend, IsIn, AreAt, AreInOrder, same_port, each_append, each_weaker, each_flat, each_filter, order_filter, order_from_pairs, pairs_from_order, earlier_tick, are_at, flat_at, flat_order, port_by_port, merged_flat, upto_all, one_more_before, one_more_from}
+use Rattle.world_core.proofs.PortOrder.{IsBefore, Ascend, IsIn, AreAt, AreInOrder, each_append, each_weaker, each_flat, each_filter, order_filter, order_from_pairs, pairs_from_order, earlier_tick, are_at, flat_at, flat_order, port_by_port, merged_flat, upto_all, one_more_before, one_more_from}
 
 -- ---- the ports of a tree
 

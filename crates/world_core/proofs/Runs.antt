@@ -23,7 +23,8 @@ use Rattle.topology_file.specs.declared.entries.StreamEntry.{StreamEntry}
 use Rattle.topology_file.specs.declared.entries.EventEntry.{EventEntry}
 use Rattle.topology_file.specs.declared.entries.EventKind.{EventKind}
 use Rattle.topology_file.specs.declared.entries.EventKind.TheVariants as kinds
-use Rattle.topology_file.specs.Entries.{is_station, joins_both}
+use Rattle.tree_topology.specs.Refusal.{is_station}
+use Rattle.topology_file.specs.Entries.{joins_both}
 use Rattle.topology_file.specs.Plan.{Plan}
 use Rattle.topology_file.specs.Scenario.{KeepsRules, HasStreamForm, node_kinds, tree_links}
 use Rattle.topology_file.specs.Kinds.{IsKnownKind, IsStationNumber, IsStreamNumber}

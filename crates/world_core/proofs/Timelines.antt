@@ -1,6 +1,6 @@
 -- The timeline of ticks, and one tick more.
-use Rattle.std.proofs.Common.{◌≡◌, ℕ, zero, suc, ◌+◌, ◌<◌, ◌≤◌, ◌⊎◌, inl, inr, List, [], ◌∷◌, ◌++◌, length, map, take, Option, Some, None, refl, sym, ap, subst, ◌∙◌, arith, append-nil, append_assoc}
-use Rattle.std.specs.Prelude.{fold, slice_get, All, AllPairs}
+use Rattle.std.proofs.Common.{◌≡◌, ℕ, zero, suc, ◌+◌, ◌<◌, ◌≤◌, ◌⊎◌, inl, inr, List, [], ◌∷◌, ◌++◌, length, map, take, Some, refl, sym, ap, subst, ◌∙◌, arith, append-nil, append_assoc}
+use Rattle.std.specs.Prelude.{slice_get}
 use Rattle.std.proofs.lemmas.Option.{none-some, same_Some}
 use Rattle.std.proofs.lemmas.List.Elements.{All-weaker}
 use Rattle.srp_base.specs.declared.numbers.EgressPort.{EgressPort}
@@ -12,10 +12,10 @@ use Rattle.world_core.specs.declared.events.WorldEvent.{WorldEvent}
 use Rattle.world_core.specs.declared.journal.Tick.{Tick}
 use Rattle.world_core.specs.World.{WorldState, world_step, world_after}
 use Rattle.world_core.specs.Start.{world_of}
-use Rattle.world_core.specs.Ticks.{scripted, step_events, after_script, after_steps, closing_events, tick_events}
+use Rattle.world_core.specs.Ticks.{scripted, step_events, after_steps, closing_events, tick_events}
 use Rattle.world_core.specs.Moments.{events_from}
-use Rattle.world_core.specs.Force.{said_by, no_force}
-use Rattle.world_core.specs.Timeline.{force_at, noted, AreChanges, Says, SaysFrom, world_after_ticks, IsAfterSteps, IsTimelineOf}
+use Rattle.world_core.specs.Force.{said_by}
+use Rattle.world_core.specs.Timeline.{force_at, noted, AreChanges, SaysFrom, world_after_ticks, IsAfterSteps, IsTimelineOf}
 use Rattle.world_core.proofs.Forces.{start_has_none}
 use Rattle.world_core.proofs.Noting.{tree_noted, tree_before, tree_from}
 

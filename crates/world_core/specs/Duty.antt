@@ -80,10 +80,6 @@ vlan_place at s = slice_get s.vlans.parts at
 abbrev pub vlan_part : EgressPort → WorldState → Option Part
 vlan_part p w = part_at vlan_place p w
 
--- the link of a port with these participants of MVRP at its ends
-abbrev pub link_with : EgressPort → WorldState → Part → Part → Link ℕ (Unit {0})
-link_with p w near far = link_of message_of p w near far
-
 -- on every link both ends meet their duty in MVRP
 abbrev pub AreVlanDutiesMet : WorldState → Type 0
 AreVlanDutiesMet w = AreDutiesMetIn nat_cmp vlan_place message_of w
@@ -109,10 +105,6 @@ stream_place at s = option_map (λ port. port.part) (slice_get s.streams.ports a
 
 abbrev pub stream_part : EgressPort → WorldState → Option StreamPart
 stream_part p w = part_at stream_place p w
-
--- the link of a port with these participants of MSRP at its ends
-abbrev pub stream_link : EgressPort → WorldState → StreamPart → StreamPart → Link MsrpKey MsrpContent
-stream_link p w near far = link_of streams_said p w near far
 
 -- on every link both ends meet their duty in MSRP
 abbrev pub AreStreamDutiesMet : WorldState → Type 0

@@ -35,10 +35,6 @@ node_force at s =
 abbrev pub force_at : EgressPort → WorldState → Force
 force_at p w = option_map_or (node_force (place_of p.port)) (node_at p.node w) no_force
 
--- the change in a tick that says it
-abbrev pub change_at : ℕ → EgressPort → WorldState → PortChange
-change_at tick p w = change_of tick p (force_at p w)
-
 -- ---- the changes of one tick more
 
 -- the change that a port's changes lack to say in a tick what is in force there: none where they say it

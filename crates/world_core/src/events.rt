@@ -4,7 +4,7 @@ use node_core::{AppRequest, PortStep, StepReply};
 use srp_base::{EgressPort, NodeNo, PortNo};
 
 /// What happens in a network. The port of a loss and of a copy is the receiving one.
-#[derive(Clone, Copy, Debug, PartialEq, Eq)]
+#[derive(Clone, Copy, PartialEq, Eq)]
 pub enum WorldEvent {
     /// The application of a station asks for something.
     Request(NodeNo, AppRequest),
@@ -21,7 +21,7 @@ pub enum WorldEvent {
 }
 
 /// What a network answers.
-#[derive(Clone, Copy, Debug, PartialEq, Eq)]
+#[derive(Clone, Copy, PartialEq, Eq)]
 pub enum WorldReply {
     /// A node made a step, and answered this.
     Step(StepReply),

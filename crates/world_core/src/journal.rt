@@ -6,7 +6,7 @@ use node_core::NodeStep;
 use srp_base::{NodeNo, Seq, Timeline};
 
 /// The steps that a node made in a tick, in order.
-#[derive(Debug, PartialEq, Eq, Drop)]
+#[derive(PartialEq, Eq, Drop)]
 pub struct NodeSteps {
     pub node: NodeNo,
     pub steps: Seq<NodeStep>,
@@ -14,14 +14,14 @@ pub struct NodeSteps {
 
 /// A tick: the scripted events with the numbers of their entries in the file, and the steps of the nodes that made some,
 /// ascending by node.
-#[derive(Debug, PartialEq, Eq, Drop)]
+#[derive(PartialEq, Eq, Drop)]
 pub struct Tick {
     pub events: Seq<(u32, WorldReply)>,
     pub steps: Seq<NodeSteps>,
 }
 
 /// All ticks of a run, in order.
-#[derive(Debug, PartialEq, Eq, Drop)]
+#[derive(PartialEq, Eq, Drop)]
 pub struct Journal {
     pub ticks: Seq<Tick>,
 }

@@ -17,8 +17,9 @@
 //! the timeline of a run (`specs/Timeline.antt`): `World::note_tick` enters a tick by going over all ports, and a `History`
 //! (`specs/History.antt`) by going over those of the nodes that made a step other than Send.
 //!
-//! A further kind of event is a variant of `WorldEvent`, a line in `world_step` and `CanHappen`, an arm in `World::step`, and
-//! a lemma that it keeps the duties of any application (`proofs/EventSteps.antt`). A further application is a use of
+//! A further kind of event is a variant of `WorldEvent`, a line in `world_step`, `CanHappen`, `IsEventInRange` and `IsAllowed`,
+//! an arm in `World::step`, and a lemma that it keeps the duties of any application (`proofs/EventSteps.antt`); all places
+//! stand in docs/ARCHITECTURE.md. A further application is a use of
 //! `AreDutiesMetIn` in `IsKeptWorld`, and a file like `proofs/StreamSteps.antt` of what a node's steps make of its participants.
 #![tactic(auto)]
 

@@ -16,7 +16,7 @@ use std::alloc::Global;
 use tree_topology::laws::ports;
 
 /// Memory ran out after so many of the events were done.
-#[derive(Clone, Copy, Debug, PartialEq, Eq)]
+#[derive(Clone, Copy, PartialEq, Eq)]
 pub struct RunErr {
     pub done: usize,
 }

@@ -1,7 +1,6 @@
-use Rattle.std.proofs.Common.{◌≡◌, ◌+◌, ◌-◌, ◌&&◌, ℕ, Bool, length}
+use Rattle.std.proofs.Common.{◌≡◌, ◌+◌, ◌-◌, ◌&&◌, length}
 use Rattle.std.specs.List.{list_any, range_with_len}
 use Rattle.tree_topology.specs.Walk.{is_behind}
-use Rattle.world_core.specs.World.{WorldState}
 use Rattle.network_laws.specs.Vlans.{is_declared_at, is_declared_behind}
 use Rattle.network_laws.proofs.vlans.is_declared_by_some.Given as goal
 

@@ -1,4 +1,4 @@
-use Rattle.std.proofs.Common.{◌≡◌, ◌<◌, length, get_or, drop, sym, ◌∙◌, arith, rules, true, false}
+use Rattle.std.proofs.Common.{get_or, sym}
 use Rattle.std.specs.Prelude.{◌==◌}
 use Rattle.std.proofs.lemmas.List.{get_or_default}
 use Rattle.srp_base.specs.declared.numbers.StreamId.{StreamId}

@@ -1,4 +1,4 @@
-use Rattle.std.proofs.Common.{◌≡◌, ◌<◌, length, drop, sym, ◌∙◌, arith, rules, true, false}
+use Rattle.std.proofs.Common.{sym}
 use Rattle.std.specs.Prelude.{◌==◌}
 use Rattle.mrp_participant.specs.Lookup.{key_of}
 use Rattle.world_core.specs.Force.{is_registered_row}

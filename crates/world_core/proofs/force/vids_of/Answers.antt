@@ -1,4 +1,4 @@
-use Rattle.std.proofs.Common.{◌≡◌, ◌++◌, ◌+◌, ◌∷◌, [], drop, sym, ap, ◌∙◌, List, ℕ, append_assoc, arith}
+use Rattle.std.proofs.Common.{◌++◌, ◌+◌, ◌∷◌, [], drop, sym, ap, ◌∙◌, List, ℕ, append_assoc, arith}
 use Rattle.mrp_participant.specs.Lookup.{key_of}
 use Rattle.world_core.specs.Force.{is_registered_row, registered_vids}
 use Rattle.world_core.proofs.Picked.{pick_none, pick_one}

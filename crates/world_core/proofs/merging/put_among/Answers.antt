@@ -1,7 +1,6 @@
-use Rattle.std.proofs.Common.{◌≡◌, [], length, List, sym, ap, ◌∙◌, arith}
+use Rattle.std.proofs.Common.{◌≡◌, [], sym, ap, ◌∙◌}
 use Rattle.std.proofs.lemmas.Bool.{eqb-true}
 use Rattle.std.proofs.lemmas.List.{nil_from_length}
-use Rattle.srp_base.specs.declared.ports.PortChange.{PortChange}
 use Rattle.world_core.specs.Merging.{merged}
 use Rattle.world_core.proofs.PortOrder.{merged_nothing}
 use Rattle.world_core.proofs.merging.put_among.Goals as goal

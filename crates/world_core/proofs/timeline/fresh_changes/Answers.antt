@@ -1,4 +1,3 @@
-use Rattle.std.proofs.Common.{◌≡◌}
 use Rattle.frame_flow.specs.Force.{changes_at}
 use Rattle.world_core.specs.Timeline.{force_at, lacking}
 use Rattle.world_core.proofs.Noting.{more_of_node}

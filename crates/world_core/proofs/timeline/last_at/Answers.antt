@@ -1,4 +1,4 @@
-use Rattle.std.proofs.Common.{◌≡◌, ℕ, ◌+◌, ◌-◌, sym, ap, refl, subst, ◌∙◌, length, arith, true}
+use Rattle.std.proofs.Common.{◌≡◌, ℕ, ◌-◌, sym, ap, subst, length, arith, true}
 use Rattle.std.specs.List.{AllWithin}
 use Rattle.srp_base.specs.declared.ports.PortChange.{PortChange}
 use Rattle.frame_flow.specs.Force.{in_force}
