@@ -1,5 +1,5 @@
 -- Lists in order of bit times: what lies before and after an index.
-use Rattle.std.proofs.Common.{◌≡◌, ℕ, zero, suc, ◌+◌, ◌<◌, ◌≤◌, List, [], ◌∷◌, length, get_or, take, refl, sym, ap, subst, arith, inl, inr, Bool, true, false, ◌++◌}
+use Rattle.std.proofs.Common.{◌≡◌, ℕ, zero, suc, ◌+◌, ◌<◌, ◌≤◌, List, [], ◌∷◌, length, get_or, take, refl, ap, subst, arith, inl, inr, Bool, true, false, ◌++◌}
 use Rattle.std.specs.Prelude.{All, AllPairs, filter, nat_le, ◌==◌}
 use Rattle.std.specs.List.{AllWithin, AllAdjacentBelow}
 use Rattle.std.proofs.lemmas.Bool.{cases_lt, cases_eq, ne_eqb, eq-eqb, lt-leb, le-leb}

@@ -8,7 +8,7 @@ use crate::shaper::Traffic;
 use srp_base::{Rate, Seq};
 
 /// The idleSlopes of both classes from a bit time on.
-#[derive(Clone, Copy, Debug, PartialEq, Eq)]
+#[derive(Clone, Copy, PartialEq, Eq)]
 pub struct SlopeChange {
     /// The first bit time in which they are in force.
     pub bit: u64,
@@ -19,7 +19,7 @@ pub struct SlopeChange {
 }
 
 /// A frame that reaches the port.
-#[derive(Clone, Copy, Debug, PartialEq, Eq)]
+#[derive(Clone, Copy, PartialEq, Eq)]
 pub struct Arrival {
     /// The bit time in which it joins its queue.
     pub bit: u64,
@@ -32,7 +32,7 @@ pub struct Arrival {
 }
 
 /// All that a port's shaper is given over a run.
-#[derive(Clone, Debug, PartialEq, Eq, Drop)]
+#[derive(Clone, PartialEq, Eq, Drop)]
 pub struct PortInput {
     /// The port's rate, which makes a bit time.
     pub rate: Rate,
@@ -45,7 +45,7 @@ pub struct PortInput {
 }
 
 /// A frame that the port sends.
-#[derive(Clone, Copy, Debug, PartialEq, Eq)]
+#[derive(Clone, Copy, PartialEq, Eq)]
 pub struct Departure {
     /// Its number.
     pub frame: u32,
@@ -58,7 +58,7 @@ pub struct Departure {
 }
 
 /// What becomes of a port's frames.
-#[derive(Clone, Debug, PartialEq, Eq, Drop)]
+#[derive(Clone, PartialEq, Eq, Drop)]
 pub struct Departures {
     /// Those that start before the run's end, in order of their starts.
     pub sent: Seq<Departure>,

@@ -9,7 +9,7 @@ use crate::shaper::Traffic;
 
 /// For each traffic the index of its queue's first frame. Of the frames that have come, a traffic's
 /// queue has those of the traffic from there on.
-#[derive(Clone, Copy, Debug)]
+#[derive(Clone, Copy)]
 pub(crate) struct Heads {
     pub(crate) a: usize,
     pub(crate) b: usize,

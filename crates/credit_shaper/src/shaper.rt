@@ -6,7 +6,7 @@ ghost use Rattle.credit_shaper.specs.Credit.{does_send, credit_after, credit_aft
 use srp_base::Rate;
 
 /// What a frame is to the shaper: of SR class A, of SR class B, or of no class that it shapes.
-#[derive(Clone, Copy, Debug, PartialEq, Eq)]
+#[derive(Clone, Copy, PartialEq, Eq)]
 pub enum Traffic {
     /// SR class A.
     A,
@@ -17,7 +17,7 @@ pub enum Traffic {
 }
 
 /// What the line does in a bit time.
-#[derive(Clone, Copy, Debug, PartialEq, Eq)]
+#[derive(Clone, Copy, PartialEq, Eq)]
 pub enum Line {
     /// No frame is on it.
     Free,
@@ -36,7 +36,7 @@ impl Line {
 
 /// The credits of both classes, in units of 1/rate bit, with the idleSlopes by which they rise, in
 /// bit/s (IEEE Std 802.1Q-2018, 8.6.8.2).
-#[derive(Clone, Copy, Debug, PartialEq, Eq)]
+#[derive(Clone, Copy, PartialEq, Eq)]
 pub struct Shaper {
     /// The port's rate, portTransmitRate.
     pub rate: Rate,

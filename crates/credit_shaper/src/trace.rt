@@ -11,7 +11,7 @@ use srp_base::{NoMemory, Rate, Seq};
 use std::alloc::Global;
 
 /// A port at a bit time of its run. The frames themselves stay in the input; what is sent is kept beside.
-#[derive(Clone, Copy, Debug)]
+#[derive(Clone, Copy)]
 pub struct PortTrace {
     /// The bit time.
     bit: u64,

@@ -7,7 +7,7 @@ use srp_base::{NodeNo, Ps, StreamId};
 use std::marker::Model;
 
 /// Where a frame goes.
-#[derive(Clone, Copy, Debug, PartialEq, Eq)]
+#[derive(Clone, Copy, PartialEq, Eq)]
 pub enum Route {
     /// A frame of a stream, with the traffic of the stream's priority: wherever the stream is booked.
     Stream(StreamId, Traffic),
@@ -16,7 +16,7 @@ pub enum Route {
 }
 
 /// A frame that a station sends. The wider fields stand first, so that a list of many frames stays small.
-#[derive(Clone, Copy, Debug, PartialEq, Eq)]
+#[derive(Clone, Copy, PartialEq, Eq)]
 pub struct Frame {
     /// The moment at which it reaches the station's own port, in ps from the run's start.
     pub at: Ps,
@@ -33,7 +33,7 @@ pub struct Frame {
 }
 
 /// A copy of a frame at a port.
-#[derive(Clone, Copy, Debug, PartialEq, Eq)]
+#[derive(Clone, Copy, PartialEq, Eq)]
 pub struct FrameCopy {
     /// The bit time in which it arrives, in bit times of that port from the run's start.
     pub bit: u64,

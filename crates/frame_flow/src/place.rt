@@ -7,7 +7,7 @@ use std::alloc::Global;
 use tree_topology::Tree;
 
 /// An egress port with the rate of its link.
-#[derive(Clone, Copy, Debug, PartialEq, Eq)]
+#[derive(Clone, Copy, PartialEq, Eq)]
 pub struct Place {
     /// The port.
     pub at: EgressPort,

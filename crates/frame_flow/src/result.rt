@@ -4,7 +4,7 @@ use credit_shaper::PortInput;
 use srp_base::{EgressPort, Seq};
 
 /// What becomes of a copy of a frame at a port.
-#[derive(Clone, Copy, Debug, PartialEq, Eq)]
+#[derive(Clone, Copy, PartialEq, Eq)]
 pub enum Fate {
     /// It is a stream's, and the port hasn't booked the stream; it is dropped.
     Unbooked,
@@ -22,7 +22,7 @@ pub enum Fate {
 }
 
 /// The flow at a port.
-#[derive(Clone, Debug, PartialEq, Eq, Drop)]
+#[derive(Clone, PartialEq, Eq, Drop)]
 pub struct PortFlow {
     /// The port.
     pub at: EgressPort,
@@ -33,7 +33,7 @@ pub struct PortFlow {
 }
 
 /// The flow at every port, link by link, the end `a` first.
-#[derive(Clone, Debug, PartialEq, Eq, Drop)]
+#[derive(Clone, PartialEq, Eq, Drop)]
 pub struct FlowResult {
     /// The ports' flows.
     pub ports: Seq<PortFlow>,

@@ -7,7 +7,7 @@ use crate::merging::merge;
 use srp_base::ListenerKind;
 
 /// A port with a Listener of a stream registered.
-#[derive(Clone, Copy, Debug, PartialEq, Eq)]
+#[derive(Clone, Copy, PartialEq, Eq)]
 pub struct PortListener {
     /// What is registered.
     pub kind: ListenerKind,

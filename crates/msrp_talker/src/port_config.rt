@@ -8,7 +8,7 @@ use srp_base::{BridgeId, Failure, Talker, TalkerReg};
 use stream_importance::Fit;
 
 /// What of a port goes into the declarations of Talkers there.
-#[derive(Clone, Copy, Debug, PartialEq, Eq)]
+#[derive(Clone, Copy, PartialEq, Eq)]
 pub struct PortConfig {
     /// The port's bridge, which a failure found here names.
     pub bridge: BridgeId,

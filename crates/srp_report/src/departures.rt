@@ -10,7 +10,7 @@ use srp_base::NoMemory;
 use std::alloc::Global;
 
 /// A copy of a frame that departs, in bit times of its port from the run's start.
-#[derive(Clone, Copy, Debug, PartialEq, Eq)]
+#[derive(Clone, Copy, PartialEq, Eq)]
 pub struct SentFrame {
     /// The frame's number.
     pub frame: u32,

@@ -6,7 +6,7 @@ ghost use Rattle.srp_report.specs.Tallies.{zero_tally, counted};
 use node_core::StepReply;
 
 /// What a port sent and discarded so far. Each count stands still at the end of its type.
-#[derive(Clone, Copy, Debug, PartialEq, Eq)]
+#[derive(Clone, Copy, PartialEq, Eq)]
 pub struct Tally {
     /// The PDUs that it sent.
     pub sent: u64,

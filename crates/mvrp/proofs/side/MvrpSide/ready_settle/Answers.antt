@@ -8,7 +8,7 @@ use Rattle.mvrp.specs.Ready.{applied}
 use Rattle.mvrp.proofs.SettlingLemmas.{Laws, HasSettled, settle_is}
 use Rattle.mvrp.proofs.ReadyLemmas.{none-awaits}
 use Rattle.mvrp.proofs.side.MvrpSide.ready_settle.Goals as goal
-use Rattle.mvrp.proofs.side.MvrpSide.ready_settle.Goals.{After-nothing, After-saturated}
+use Rattle.mvrp.proofs.side.MvrpSide.ready_settle.Goals.{After-saturated}
 
 -- no VID awaits at the port
 pub returns-then-is_empty-clause-after : goal.returns-then-is_empty-clause-after
