@@ -19,13 +19,15 @@ use Rattle.msrp_codec.specs.contracts.pdu.MsrpContentPartialEq.TheImpl.{ghosts a
 use Rattle.srp_base.specs.contracts.numbers.StreamIdOrd.TheImpl.{ghosts as stream_order}
 use Rattle.msrp_codec.specs.Content.{Belongs, octets_of, base_octets}
 
+-- the state of a port's participant, with a row for each Talker, Listener or Domain key that it keeps something of
 abbrev pub Part : Type 0
 Part = State MsrpKey MsrpContent
 
--- the order of keys, and whether two contents are one
+-- the order of keys: Talkers, then Listeners, then Domains, each ascending by number
 abbrev pub key_cmp : MsrpKey → MsrpKey → Ordering
 key_cmp = key_order.cmp
 
+-- whether two contents are one: of one type, and the same in each field
 abbrev pub same_content : MsrpContent → MsrpContent → Bool
 same_content = content_equality.eq
 
@@ -33,14 +35,15 @@ same_content = content_equality.eq
 abbrev pub stream_cmp : StreamId → StreamId → Ordering
 stream_cmp = stream_order.cmp
 
--- after a PDU was received, and the keys whose registration or registered content that changed
+-- the participant after it received a PDU
 abbrev pub received_part : Cs → MsrpPdu → Part → Part
 received_part now pdu s = received_state key_cmp now pdu.leave_all pdu.events s
 
+-- the keys whose registration or registered content a received PDU changes, ascending
 abbrev pub told_by_receipt : Cs → MsrpPdu → Part → List MsrpKey
 told_by_receipt now pdu s = changed_keys key_cmp same_content s.rows (received_part now pdu s).rows
 
--- what is sent, and the participant afterwards
+-- the PDU that is sent: a LeaveAll where the LeaveAll machine is Active, and what those rows say that find room in it
 abbrev pub pdu_sent : Cs → Part → MsrpPdu
 pdu_sent now s =
     record {
@@ -48,6 +51,7 @@ pdu_sent now s =
       events = sent_events base_octets octets_of key_cmp now s;
     }
 
+-- the participant after it sent its PDU
 abbrev pub sent_part : Cs → Part → Part
 sent_part now s = sent_state base_octets octets_of key_cmp now s
 
@@ -64,10 +68,11 @@ abbrev pub listener_kind_of : Option MsrpContent → Option ListenerKind
 listener_kind_of (Some (Listener kind)) = Some kind
 listener_kind_of _ = None
 
--- what is registered of a stream's Talker, and of its Listeners
+-- what is registered of a stream's Talker
 abbrev pub registered_talker : StreamId → Part → TalkerReg
 registered_talker stream s = talker_reg_of (registered_at key_cmp (keys.Talker stream) s)
 
+-- what is registered of a stream's Listeners, if anything
 abbrev pub registered_listener : StreamId → Part → Option ListenerKind
 registered_listener stream s = listener_kind_of (registered_at key_cmp (keys.Listener stream) s)
 

@@ -15,16 +15,19 @@ use Rattle.srp_base.specs.contracts.streams.ListenerKindPartialEq.TheImpl.{ghost
 use Rattle.srp_base.specs.contracts.bandwidth.RankPartialEq.TheImpl.{ghosts as rank_equality}
 use Rattle.msrp.specs.Part.{same_content}
 
--- whether two parts of a content are one
+-- whether two ranks are one
 abbrev same_rank : Rank → Rank → Bool
 same_rank = rank_equality.eq
 
+-- whether two Talkers state the same, field by field
 abbrev same_talker : Talker → Talker → Bool
 same_talker = talker_equality.eq
 
+-- whether two failures name one bridge and one code
 abbrev same_failure : Failure → Failure → Bool
 same_failure = failure_equality.eq
 
+-- whether two Listeners declare the same
 abbrev same_kind : ListenerKind → ListenerKind → Bool
 same_kind = kind_equality.eq
 
@@ -70,6 +73,7 @@ kind_is Ready Ready h = refl
 kind_is ReadyFailed ReadyFailed h = refl
 kind_is _ _ h = cc
 
+-- contents that compare as the same are one
 pub content_one : (a b : MsrpContent) → same_content a b ≡ true → a ≡ b
 content_one (Advertise s) (Advertise t) h = ap (λ x. Advertise x) (talker_is s t h)
 content_one (Failed s f) (Failed t g) h = let a = and_parts _ _ h in ap (λ x. Failed x f) (talker_is s t a.0) ∙ ap (λ g. Failed t g) (failure_is f g a.1)

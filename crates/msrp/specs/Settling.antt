@@ -75,15 +75,16 @@ abbrev pub book_with : Option Want → Book → Book
 book_with None book = book
 book_with (Some want) book = wanted_book book.moment want book
 
--- by what each of these streams wants: first those that want nothing are taken out, and then those that want are
--- entered, in this order
+-- the ledger without those of these streams that want nothing, taken out in this order
 abbrev pub taken_out : (StreamId → Option Want) → List StreamId → Book → Book
 taken_out wants streams book =
     fold (λ (b : Book) (s : StreamId). book_without s (wants s) b) book streams
 
+-- the ledger with those of these streams that want bandwidth, entered in this order
 abbrev pub entered : (StreamId → Option Want) → List StreamId → Book → Book
 entered wants streams book = fold (λ (b : Book) (s : StreamId). book_with (wants s) b) book streams
 
+-- the ledger by what each of these streams wants: first those that want nothing are taken out, then the others entered
 abbrev pub settled_book : (StreamId → Option Want) → List StreamId → Book → Book
 settled_book wants streams book = entered wants streams (taken_out wants streams book)
 

@@ -60,10 +60,11 @@ seen_by side stream = registrations_of side.talks side.listens side.ports stream
 abbrev pub talker_of : StreamId → Streams → TalkerReg
 talker_of stream side = talker_in (talkers_of side.talks side.ports stream)
 
--- whether the application talks a stream, and whether it listens to it
+-- whether the application talks a stream
 abbrev pub has_talk : StreamId → Streams → Bool
 has_talk stream side = is_some (talk_of stream side.talks)
 
+-- whether the application listens to a stream
 abbrev pub has_listen : StreamId → Streams → Bool
 has_listen stream side = is_listened stream side.listens
 
@@ -73,7 +74,7 @@ heard_of stream side = heard_by (seen_by side stream)
 
 -- ---- the side after a call
 
--- a new port
+-- a new port: nothing is declared, registered or booked at it
 abbrev pub new_port : BridgeId → Cs → Bool → PortSetup → Port
 new_port bridge leave_time periodic p =
     record {
@@ -82,6 +83,7 @@ new_port bridge leave_time periodic p =
       ledger = empty_book (caps_of p.rate p.delta_a p.delta_b);
     }
 
+-- a new side: new ports, no key awaits, the application asks for nothing, and the clock stands at 0
 abbrev pub new_streams : BridgeId → Cs → Bool → List PortSetup → Streams
 new_streams bridge leave_time periodic ports =
     record {
@@ -104,11 +106,12 @@ retold at port told side =
 abbrev pub replaced : ℕ → Port → Streams → Streams
 replaced at port side = record side { ports = slice_set side.ports at port }
 
--- the side that is made with the port at a place
+-- the side that is made with a port; where there is none, it stays as it is
 abbrev pub with_port : Option Port → (Port → Streams) → Streams → Streams
 with_port None make side = side
 with_port (Some port) make side = make port
 
+-- the side that is made with the port at a place; where no port is there, it stays as it is
 abbrev pub at_port : ℕ → (Port → Streams) → Streams → Streams
 at_port at make side = with_port (slice_get side.ports at) make side
 
@@ -116,12 +119,14 @@ at_port at make side = with_port (slice_get side.ports at) make side
 abbrev pub with_part : Part → Port → Port
 with_part s port = record port { part = s }
 
+-- the port at a place received a PDU, and the streams of which that changed what is registered await everywhere
 abbrev pub received_streams : Cs → ℕ → MsrpPdu → Streams → Streams
 received_streams now at pdu side =
     at_port at
     (λ p. retold at (with_part (received_part now pdu p.part) p) (told_by_receipt now pdu p.part) side)
     side
 
+-- all timers that are due at a place have fired, and the streams of the keys that left await everywhere
 abbrev pub due_streams : Cs → ℕ → Streams → Streams
 due_streams now at side =
     at_port at
@@ -132,30 +137,36 @@ due_streams now at side =
 abbrev pub left_key : MsrpKey → Part → List MsrpKey
 left_key key s = if is_leaving_in (find key_cmp key s.rows) then key ∷ [] else []
 
+-- the leave timer of one key has ended at a place, and where the key left, its stream awaits everywhere
 abbrev pub left_streams : ℕ → MsrpKey → Streams → Streams
 left_streams at key side =
     at_port at
     (λ p. retold at (with_part (left_state key_cmp key p.part) p) (left_key key p.part) side)
     side
 
+-- the LeaveAll timer has fired at a place: the LeaveAll machine is Active, and the timer restarts (10.7.9)
 abbrev pub leave_all_streams : Cs → ℕ → Streams → Streams
 leave_all_streams now at side =
     at_port at (λ p. replaced at (with_part (leave_all_state now p.part) p) side) side
 
+-- every Applicant at a place has taken the periodic event; the periodic timer stays as it is
 abbrev pub periodic_streams : ℕ → Streams → Streams
 periodic_streams at side =
     at_port at (λ p. replaced at (with_part (periodic_state p.part) p) side) side
 
+-- the participant at a place has sent its PDU
 abbrev pub sent_streams : Cs → ℕ → Streams → Streams
 sent_streams now at side =
     at_port at (λ p. replaced at (with_part (sent_part now p.part) p) side) side
 
+-- the participant at a place isn't sound any more, as after the loss of a PDU on its link
 abbrev pub spoilt_streams : ℕ → Streams → Streams
 spoilt_streams at side =
     at_port at
     (λ p. let s : Part = p.part in replaced at (with_part (record s { sound = false }) p) side)
     side
 
+-- the keys of a set, or none where there is no set
 abbrev pub keys_or_none : Option (List MsrpKey) → List MsrpKey
 keys_or_none None = []
 keys_or_none (Some keys) = keys
@@ -215,10 +226,11 @@ next_sets now side =
     then Some (clocked_sets now (talker_keys side.talks side.ports) side.ports side.awaiting)
     else None
 
--- the application's Talkers without one of a stream, and its streams without one
+-- the application's Talkers without that of a stream
 abbrev pub talks_without : StreamId → List Talker → List Talker
 talks_without stream talks = filter (λ (t : Talker). not (t.stream.0 == stream.0)) talks
 
+-- the streams that the application listens to, without one
 abbrev pub listens_without : StreamId → List StreamId → List StreamId
 listens_without stream listens = filter (λ (x : StreamId). not (x.0 == stream.0)) listens
 
@@ -239,6 +251,7 @@ same_talker a b =
     && (rank_number a.rank == rank_number b.rank)
     && (a.latency == b.latency)
 
+-- whether the application has a Talker of the stream already, which states the same as this one
 abbrev pub is_talk : Option Talker → Talker → Bool
 is_talk None talker = false
 is_talk (Some was) talker = same_talker was talker
@@ -293,12 +306,14 @@ pub record IsSettled (at : ℕ) (port : Port) (awaiting : List MsrpKey) (regs : 
       → is_awaiting key_cmp (ListenerKey stream) awaiting ≡ false
       → want_of port.ledger.entries stream ≡ wanted_at at port.part (regs stream).talkers stream
 
+-- the port at a place, where there is one, is settled but for the keys that await there
 abbrev pub IsSettledAt : Streams → ℕ → Type 0
 IsSettledAt side at =
     (port : Port) (keys : List MsrpKey)
     → slice_get side.ports at ≡ Some port → slice_get side.awaiting at ≡ Some keys
     → IsSettled at port keys (seen_by side)
 
+-- what every side keeps: what every port keeps, a set of awaiting keys for each, and each settled but for those keys
 pub record IsKept (side : Streams) : Type 0 where
   pub ports : AllByRecursion (IsPort side.moment) side.ports
   pub sets : length side.awaiting ≡ length side.ports

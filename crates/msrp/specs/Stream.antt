@@ -63,6 +63,7 @@ abbrev pub talkers_of : List Talker → List Port → StreamId → List TalkerRe
 talkers_of talks ports stream =
     advertised (talk_of stream talks) ∷ map (λ (p : Port). registered_talker stream p.part) ports
 
+-- what is registered of a stream, from the application's Talkers, the streams that it listens to, and the link ports
 abbrev pub registrations_of : List Talker → List StreamId → List Port → StreamId → Registrations
 registrations_of talks listens ports stream =
     record {
@@ -87,6 +88,7 @@ talker_port talkers = position is_present talkers
 abbrev pub talker_of : List TalkerReg → TalkerReg
 talker_of talkers = unwrap_or (find is_present talkers) Absent
 
+-- whether there is a port, and it has this number
 abbrev pub is_number : ℕ → Option ℕ → Bool
 is_number n None = false
 is_number n (Some m) = m == n
@@ -117,12 +119,13 @@ want_of_reg Absent = None
 want_of_reg (Failed talker failure) = None
 want_of_reg (Advertise talker) = if is_none (check_of talker) then want_of_talker talker else None
 
--- whether some Listener behind a port can have the stream
+-- whether by what is declared of Listeners some of them can have the stream: Ready or Ready Failed
 abbrev pub is_ready_kind : ListenerKind → Bool
 is_ready_kind AskingFailed = false
 is_ready_kind Ready = true
 is_ready_kind ReadyFailed = true
 
+-- whether Listeners are registered at a port, of which some can have the stream
 abbrev pub is_ready : Option ListenerKind → Bool
 is_ready None = false
 is_ready (Some kind) = is_ready_kind kind

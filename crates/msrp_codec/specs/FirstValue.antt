@@ -51,13 +51,13 @@ first_value_of types.Listener first = Listener (record { 0 = field first 0 8 })
 -- SRclassID, SRclassPriority and SRclassVID (35.2.2.9.2 to 35.2.2.9.4)
 first_value_of types.Domain first = Domain (field first 0 1) (field first 1 1) (field first 2 2)
 
--- Whether so many consecutive values from a FirstValue on stay within the fields that are counted up: the
--- StreamID and the destination address of a Talker as whole numbers of 64 and 48 bits, with carry, the
--- StreamID of a Listener, and the SRclassID and the SRclassPriority of a Domain. That they carry is this
--- project's own rule.
+-- whether so many consecutive values from a Talker on stay within its StreamID and its destination address, counted up
+-- as whole numbers of 64 and 48 bits, with carry; that they carry is this project's own rule
 abbrev pub talkers_fit : Talker → ℕ → Bool
 talkers_fit t n = nat_le (t.stream.0 + n) (2 ^ 64) && nat_le (t.dest + n) (2 ^ 48)
 
+-- whether so many consecutive values from a FirstValue on stay within the fields that are counted up: a Talker's, the
+-- StreamID of a Listener, or the SRclassID and the SRclassPriority of a Domain
 abbrev pub values_fit : FirstValue → ℕ → Bool
 values_fit (Advertise t) n = talkers_fit t n
 values_fit (Failed t f) n = talkers_fit t n
@@ -100,6 +100,7 @@ first_octets (Domain class priority vid) =
 
 -- ---- The numbers that fields hold
 
+-- the numbers of a Talker fit in its fields: StreamID, DataFrameParameters, TSpec, PriorityAndRank, AccumulatedLatency
 pub record IsTalker (t : Talker) : Type 0 where
   pub stream : t.stream.0 < 2 ^ 64
   pub dest : t.dest < 2 ^ 48
@@ -109,10 +110,12 @@ pub record IsTalker (t : Talker) : Type 0 where
   pub priority : t.priority ≤ 7
   pub latency : t.latency < 2 ^ 32
 
+-- the numbers of FailureInformation fit in its fields: a BridgeID and a code
 pub record IsFailure (f : Failure) : Type 0 where
   pub bridge : f.bridge.0 < 2 ^ 64
   pub code : f.code < 2 ^ 8
 
+-- the numbers of a FirstValue fit in the fields of its type
 abbrev pub IsFirst : FirstValue → Type 0
 IsFirst (Advertise t) = IsTalker t
 IsFirst (Failed t f) = IsTalker t × IsFailure f

@@ -66,11 +66,12 @@ events_from first four_packed i (event ∷ events) =
 abbrev pub vector_events : AttributeType → VectorAttr → List KeyEvent
 vector_events t v = events_from (first_value_of t v.first) v.params 0 v.events
 
--- the events of a Message, in the order of its octets; a type that MSRP doesn't have gives none
+-- the events of vectors of a type, in the order of their octets; a type that MSRP doesn't have gives none
 abbrev pub typed_events : Option AttributeType → List VectorAttr → List KeyEvent
 typed_events None vs = []
 typed_events (Some t) vs = flat_map (vector_events t) vs
 
+-- the events of a Message, by its AttributeType
 abbrev pub message_events : Message → List KeyEvent
 message_events m = typed_events (type_of m.kind) m.vectors
 
@@ -84,23 +85,26 @@ meaning pdu = record { leave_all = has_leave_all pdu; events = flat_map message_
 abbrev pub is_in_range : AttributeType → VectorAttr → Bool
 is_in_range t v = values_fit (first_value_of t v.first) (length v.events)
 
--- those of all vectors of a Message
+-- the values of all these vectors of a type stay in range; a type that MSRP doesn't have sets no limit
 abbrev pub are_in_range : Option AttributeType → List VectorAttr → Bool
 are_in_range None vs = true
 are_in_range (Some t) vs = list_all (is_in_range t) vs
 
+-- the values of all vectors of a Message stay in range
 abbrev pub message_in_range : Message → Bool
 message_in_range m = are_in_range (type_of m.kind) m.vectors
 
--- the first of vectors, the first of which has this number, that don't
+-- the number of the first of these vectors that isn't in range, where the first of them has this number
 abbrev pub first_past_in : AttributeType → ℕ → List VectorAttr → Option ℕ
 first_past_in t i [] = None
 first_past_in t i (v ∷ vs) = if is_in_range t v then first_past_in t (i + 1) vs else Some i
 
+-- the number of the first of these vectors of a type that isn't in range, from 0; None for a type MSRP doesn't have
 abbrev pub typed_past : Option AttributeType → List VectorAttr → Option ℕ
 typed_past None vs = None
 typed_past (Some t) vs = first_past_in t 0 vs
 
+-- the number of the first vector of a Message that isn't in range, from 0
 abbrev pub message_past : Message → Option ℕ
 message_past m = typed_past (type_of m.kind) m.vectors
 
@@ -109,7 +113,7 @@ abbrev pub found_in : ℕ → Option ℕ → Option (ℕ × ℕ) → Option (ℕ
 found_in message None later = later
 found_in message (Some vector) later = Some (message, vector)
 
--- the first vector of Messages, the first of which has this number, that doesn't: by the number of its
+-- the first vector of Messages, the first of which has this number, that isn't in range: by the number of its
 -- Message and its own number there
 abbrev pub first_past : ℕ → List Message → Option (ℕ × ℕ)
 first_past i [] = None
@@ -158,6 +162,7 @@ abbrev pub judged : List ℕ → Pdu → Option (ℕ × ℕ) → Result MsrpPdu 
 judged octets pdu None = Ok (meaning pdu)
 judged octets pdu (Some x) = Err (place_in octets x)
 
+-- what the octets say by their reading as an MRPDU; where the grammar breaks, the place of that
 abbrev pub read_as : List ℕ → Result Pdu ℕ → Result MsrpPdu ℕ
 read_as octets (Ok pdu) = judged octets pdu (first_past 0 pdu.messages)
 read_as octets (Err place) = Err place
