@@ -34,19 +34,21 @@ all_marked cmp new keys = fold (λ ks k. marked cmp k ks) keys new
 abbrev pub cleared : {K : Type 0} → (K → K → Ordering) → K → List K → List K
 cleared cmp k keys = filter (λ x. not (is_eq (cmp x k))) keys
 
--- a key stands at a place, or would stand there
+-- a key stands at a place of the keys: marking it changes nothing, clearing it takes out what stands there
 pub record IsFoundAt {K : Type 0} (cmp : K → K → Ordering) (k : K) (keys : List K) (i : ℕ) : Type 0 where
   pub within : i < length keys
   pub present : is_awaiting cmp k keys ≡ true
   pub same : marked cmp k keys ≡ keys
   pub without : cleared cmp k keys ≡ take i keys ++ drop (suc i) keys
 
+-- a key isn't among the keys: marking it puts it in at a place, clearing it changes nothing
 pub record IsMissingAt {K : Type 0} (cmp : K → K → Ordering) (k : K) (keys : List K) (i : ℕ) : Type 0 where
   pub within : i ≤ length keys
   pub absent : is_awaiting cmp k keys ≡ false
   pub more : marked cmp k keys ≡ take i keys ++ (k ∷ drop i keys)
   pub without : cleared cmp k keys ≡ keys
 
+-- the answer of a search is right: Ok with the key's place, or Err with the place at which it is to be put in
 abbrev pub IsPlace : {K : Type 0} → (K → K → Ordering) → K → List K → Result ℕ ℕ → Type 0
 IsPlace cmp k keys (Ok i) = IsFoundAt cmp k keys i
 IsPlace cmp k keys (Err i) = IsMissingAt cmp k keys i

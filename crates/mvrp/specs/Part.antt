@@ -7,13 +7,15 @@ use Rattle.srp_base.specs.declared.mrp.MrpEvent.{MrpEvent}
 use Rattle.mvrp_codec.specs.declared.pdu.MvrpPdu.{MvrpPdu}
 use Rattle.mrp_participant.specs.State.{State, is_active, declared_at, registered_at, declared_state, withdrawn_state, received_state, changed_keys, sent_events, sent_state}
 
--- the octets of a PDU besides its VIDs, and of each VID
+-- the stated octets of a PDU without VIDs: ProtocolVersion, a Message with the vector of a LeaveAll alone, two EndMarks
 abbrev pub base : ℕ
 base = 11
 
+-- the stated octets of a VID: those of a vector of it alone, with its header, FirstValue and one of ThreePackedEvents
 abbrev pub octets : Unit {0} → ℕ
 octets _ = 5
 
+-- the state of a port's participant, with a row for each VID that it keeps something of
 abbrev pub Part : Type 0
 Part = State ℕ (Unit {0})
 
@@ -25,14 +27,15 @@ same_content _ _ = true
 abbrev pub messages : MvrpPdu → List (MrpEvent × ℕ × Unit {0})
 messages pdu = map (λ e. (e.0, e.1, tt)) pdu.events
 
--- after a PDU was received, and the VIDs whose registration that changed
+-- the participant after it received a PDU
 abbrev pub received_part : Cs → MvrpPdu → Part → Part
 received_part now pdu s = received_state nat_cmp now pdu.leave_all (messages pdu) s
 
+-- the VIDs whose registration a received PDU changes, ascending
 abbrev pub told_by_receipt : Cs → MvrpPdu → Part → List ℕ
 told_by_receipt now pdu s = changed_keys nat_cmp same_content s.rows (received_part now pdu s).rows
 
--- what is sent, and the participant afterwards
+-- the PDU that is sent: a LeaveAll where the LeaveAll machine is Active, and what those rows say that find room in it
 abbrev pub pdu_sent : Cs → Part → MvrpPdu
 pdu_sent now s =
     record {
@@ -40,13 +43,15 @@ pdu_sent now s =
       events = map (λ e. (e.0, e.1)) (sent_events base octets nat_cmp now s);
     }
 
+-- the participant after it sent its PDU
 abbrev pub sent_part : Cs → Part → Part
 sent_part now s = sent_state base octets nat_cmp now s
 
--- whether a VID is declared, and whether it is registered
+-- whether a VID is declared: the Applicant is in any state but VO and LA
 abbrev pub declares : ℕ → Part → Bool
 declares vid s = is_some (declared_at nat_cmp vid s)
 
+-- whether a VID is registered: the Registrar is IN or LV
 abbrev pub registers : ℕ → Part → Bool
 registers vid s = is_some (registered_at nat_cmp vid s)
 

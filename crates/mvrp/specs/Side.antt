@@ -47,11 +47,13 @@ places_of vid own parts = is_awaiting nat_cmp vid own ∷ map (registers vid) pa
 abbrev pub rule_at : ℕ → List ℕ → List Part → ℕ → Bool
 rule_at at own parts vid = elsewhere (suc at) (places_of vid own parts)
 
+-- the flat rule at a port of a side: whether it is to declare a VID
 abbrev pub is_flat : Vlans → ℕ → ℕ → Bool
 is_flat side at vid = rule_at at side.own side.parts vid
 
 -- ---- the side after a call
 
+-- a new side: no VID is declared or registered, and none awaits
 abbrev pub new_vlans : Cs → Bool → List PortSetup → Vlans
 new_vlans leave_time periodic ports =
     record { parts = map (λ p. new_state p.period leave_time periodic) ports; awaiting = map (λ _. []) ports; own = [] }
@@ -65,18 +67,21 @@ retold at s vids side =
 abbrev pub replaced : ℕ → Part → Vlans → Vlans
 replaced at s side = record side { parts = slice_set side.parts at s }
 
--- the side that is made with the participant at a place
+-- the side that is made with a participant; where there is none, it stays as it is
 abbrev pub with_part : Option Part → (Part → Vlans) → Vlans → Vlans
 with_part None make side = side
 with_part (Some s) make side = make s
 
+-- the side that is made with the participant at a place; where none is there, it stays as it is
 abbrev pub at_part : ℕ → (Part → Vlans) → Vlans → Vlans
 at_part at make side = with_part (slice_get side.parts at) make side
 
+-- the participant at a place received a PDU, and the VIDs whose registration that changed await at every other port
 abbrev pub received_vlans : Cs → ℕ → MvrpPdu → Vlans → Vlans
 received_vlans now at pdu side =
     at_part at (λ s. retold at (received_part now pdu s) (told_by_receipt now pdu s) side) side
 
+-- all timers that are due at a place have fired, and the VIDs that left await at every other port
 abbrev pub due_vlans : Cs → ℕ → Vlans → Vlans
 due_vlans now at side = at_part at (λ s. retold at (due_state now s) (left_keys now s) side) side
 
@@ -84,21 +89,27 @@ due_vlans now at side = at_part at (λ s. retold at (due_state now s) (left_keys
 abbrev pub left_vids : ℕ → Part → List ℕ
 left_vids vid s = if is_leaving_in (find nat_cmp vid s.rows) then vid ∷ [] else []
 
+-- the leave timer of one VID has ended at a place, and where the VID left, it awaits at every other port
 abbrev pub left_vlans : ℕ → ℕ → Vlans → Vlans
 left_vlans at vid side = at_part at (λ s. retold at (left_state nat_cmp vid s) (left_vids vid s) side) side
 
+-- the LeaveAll timer has fired at a place: the LeaveAll machine is Active, and the timer restarts (10.7.9)
 abbrev pub leave_all_vlans : Cs → ℕ → Vlans → Vlans
 leave_all_vlans now at side = at_part at (λ s. replaced at (leave_all_state now s) side) side
 
+-- every Applicant at a place has taken the periodic event; the periodic timer stays as it is
 abbrev pub periodic_vlans : ℕ → Vlans → Vlans
 periodic_vlans at side = at_part at (λ s. replaced at (periodic_state s) side) side
 
+-- the participant at a place has sent its PDU
 abbrev pub sent_vlans : Cs → ℕ → Vlans → Vlans
 sent_vlans now at side = at_part at (λ s. replaced at (sent_part now s) side) side
 
+-- the participant at a place isn't sound any more, as after the loss of a PDU on its link
 abbrev pub spoilt_vlans : ℕ → Vlans → Vlans
 spoilt_vlans at side = at_part at (λ s. replaced at (record s { sound = false }) side) side
 
+-- the VIDs of a set, or none where there is no set
 abbrev pub vids_or_none : Option (List ℕ) → List ℕ
 vids_or_none None = []
 vids_or_none (Some vids) = vids
@@ -142,6 +153,7 @@ IsFlatAt side at =
     (s : Part) (vids : List ℕ) (vid : ℕ) → slice_get side.parts at ≡ Some s → slice_get side.awaiting at ≡ Some vids
     → is_awaiting nat_cmp vid vids ≡ false → declares vid s ≡ is_flat side at vid
 
+-- what every side keeps: participants' rows, a set of awaiting VIDs for each, its own VIDs ascending, and the flat rule
 pub record IsKept (side : Vlans) : Type 0 where
   pub rows : AllByRecursion (λ s. AreRows nat_cmp s.rows) side.parts
   pub ports : length side.awaiting ≡ length side.parts
