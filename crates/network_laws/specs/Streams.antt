@@ -101,6 +101,7 @@ is_path_booked w stream l =
 
 -- ---- what an application hears
 
+-- whether what an application hears, if anything, is Ready
 abbrev pub is_ready_heard : Option ListenerKind → Bool
 is_ready_heard None = false
 is_ready_heard (Some AskingFailed) = false
@@ -139,6 +140,7 @@ bandwidth_failure (Failed talker failure) = if is_bandwidth_code failure.code th
 abbrev pub failure_in : StreamId → NodeState → Option Failure
 failure_in stream s = bandwidth_failure (talker_at_place stream 0 s)
 
+-- the failure for want of bandwidth at the first port of the node of a number
 abbrev pub failure_at : WorldState → StreamId → ℕ → Option Failure
 failure_at w stream l = option_and_then (failure_in stream) (node_of l w)
 
@@ -207,6 +209,7 @@ refusal_in stream failure p s =
     then refusal_of p (slope_of_reg (talker_of stream s.streams)) failure.code (fit_of (place_of p.port) stream s)
     else None
 
+-- the refusal of a stream by a port of the network, where that port's node and its fit match the failure
 abbrev pub refusal_at : WorldState → StreamId → Failure → EgressPort → Option Refusal
 refusal_at w stream failure p = option_and_then (refusal_in stream failure p) (node_at p.node w)
 

@@ -27,9 +27,11 @@ abbrev pub SayWhatFits : App → List ℕ → Type 0
 SayWhatFits Mvrp octets = Unit {0}
 SayWhatFits Msrp octets = (pdu : MsrpPdu) → msrp_reading octets ≡ Ok pdu → AreInRange pdu.events
 
+-- the octets of a PDU that waits say nothing that doesn't fit in its application
 abbrev pub IsProperWire : Wire → Type 0
 IsProperWire wire = SayWhatFits wire.app wire.octets
 
+-- so it is with the octets of each PDU in an inbox or an outbox
 abbrev pub AreProperWires : List Wire → Type 0
 AreProperWires wires = AllByRecursion IsProperWire wires
 

@@ -157,6 +157,7 @@ is_busy_at now s =
     not (are_empty s.inboxes) || vlans_are_busy now s.vlans
     || streams_are_busy now s.streams
 
+-- whether a node is busy at the moment of its own clock
 abbrev pub is_busy_node : NodeState → Bool
 is_busy_node s = is_busy_at s.clock s
 

@@ -38,10 +38,11 @@ use Rattle.node_core.specs.State.{NodeState, ports_of, box_at, of_part, of_port}
 abbrev pub Stepped : Type 0
 Stepped = NodeState × StepReply
 
--- the node with what a step made of MVRP at it, or of MSRP, and what that answers
+-- the node with what a step made of MVRP at it, and what that answers
 abbrev pub on_vlans : NodeState → Vlans × StepReply → Stepped
 on_vlans s made = (record s { vlans = made.0 }, made.1)
 
+-- the node with what a step made of MSRP at it, and what that answers
 abbrev pub on_streams : NodeState → Streams × StepReply → Stepped
 on_streams s made = (record s { streams = made.0 }, made.1)
 
@@ -76,32 +77,36 @@ worked at (wire ∷ wires) s =
 abbrev pub fired_one : Bool → StepReply
 fired_one fired = Fired (if fired then 1 else 0)
 
--- whether the registrar of a VID at a place is LV, or that of a key of MSRP
+-- whether the registrar of a VID at a place is LV
 abbrev pub is_leaving_at : ℕ → ℕ → Vlans → Bool
 is_leaving_at at vid vlans =
     of_part (λ part. is_leaving_in (find nat_cmp vid part.rows)) false at vlans
 
+-- whether the registrar of a key of MSRP at a place is LV
 abbrev pub is_key_leaving_at : ℕ → MsrpKey → Streams → Bool
 is_key_leaving_at at key streams =
     of_port (λ port. is_leaving_in (find key_cmp key port.part.rows)) false at streams
 
--- the leave timer of an attribute ends
+-- the leave timer of a VID ends; it counts as fired where the registrar was LV
 abbrev pub left_vid_now : ℕ → ℕ → Vlans → Vlans × StepReply
 left_vid_now vid at vlans = (left_vlans at vid vlans, fired_one (is_leaving_at at vid vlans))
 
+-- the leave timer of a key of MSRP ends; it counts as fired where the registrar was LV
 abbrev pub left_key_now : MsrpKey → ℕ → Streams → Streams × StepReply
 left_key_now key at streams =
     (left_streams at key streams, fired_one (is_key_leaving_at at key streams))
 
+-- the leave timer of an attribute of either application ends
 abbrev pub left_now : NodeKey → ℕ → NodeState → Stepped
 left_now (Vlan vid) at s = on_vlans s (left_vid_now vid at s.vlans)
 left_now (Srp key) at s = on_streams s (left_key_now key at s.streams)
 
--- the LeaveAll timer of an application fires, and its periodic timer
+-- the LeaveAll timer of an application fires
 abbrev pub leave_all_now : App → ℕ → NodeState → Stepped
 leave_all_now Mvrp at s = on_vlans s (leave_all_vlans s.clock at s.vlans, Fired 1)
 leave_all_now Msrp at s = on_streams s (leave_all_streams s.clock at s.streams, Fired 1)
 
+-- the periodic timer of an application fires
 abbrev pub periodic_now : App → ℕ → NodeState → Stepped
 periodic_now Mvrp at s = on_vlans s (periodic_vlans at s.vlans, Fired 1)
 periodic_now Msrp at s = on_streams s (periodic_streams at s.streams, Fired 1)
@@ -141,12 +146,13 @@ key_of_step _ = None
 
 -- ---- Send: what an application has to say goes to the end of an outbox
 
--- the octets that MVRP's participant at a place has to say, if any, in their one spelling, and MSRP's
+-- the octets that MVRP's participant at a place has to say, if any, in their one spelling
 abbrev pub said_mvrp : Cs → ℕ → Vlans → Option (List ℕ)
 said_mvrp now at vlans =
     of_part (λ part. if is_silent part then None else Some (mvrp_spelling (pdu_sent now part)))
     None at vlans
 
+-- the octets that MSRP's participant at a place has to say, if any, in their one spelling
 abbrev pub said_msrp : Cs → ℕ → Streams → Option (List ℕ)
 said_msrp now at streams =
     of_port
@@ -173,11 +179,13 @@ abbrev pub with_said : App → ℕ → List ℕ → NodeState → NodeState
 with_said app at octets s =
     record s { outboxes = slice_set s.outboxes at (with_wire app octets (box_at at s.outboxes)) }
 
+-- an application says these octets, which go to the end of the outbox, or it has none to say and is silent
 abbrev pub sent_octets : App → ℕ → Option (List ℕ) → NodeState → Stepped
 sent_octets app at None s = (s, Silent)
 sent_octets app at (Some octets) s =
     (with_said app at octets (after_app app at s), Sent (count_of (length octets)))
 
+-- an application says what it has to say at a place
 abbrev pub sent : App → ℕ → NodeState → Stepped
 sent app at s = sent_octets app at (said app at s) s
 

@@ -7,6 +7,7 @@ use Rattle.node_core.specs.declared.types.Wire.{Wire}
 abbrev pub IsShort : Wire → Type 0
 IsShort wire = length wire.octets ≤ 1500
 
+-- each of these PDUs has at most 1,500 octets
 abbrev pub AreShort : List Wire → Type 0
 AreShort wires = AllByRecursion IsShort wires
 

@@ -16,21 +16,23 @@ use Rattle.world_core.specs.declared.journal.NodeSteps.{NodeSteps}
 use Rattle.world_core.specs.World.{WorldState, world_step, world_after, replies_to}
 use Rattle.world_core.specs.Ticks.{step_events, step_replies, steps_of, jobs_of, canonical_order, AscendByNode}
 
--- a node's steps as events of the network, and their answers
+-- a node's steps as events of the network
 abbrev pub events_of : NodeNo → List NodeStep → List WorldEvent
 events_of n made = map (λ st. Port n st.port st.step) made
 
+-- what a node's steps answered, as answers of the network
 abbrev pub replies_of : List NodeStep → List WorldReply
 replies_of made = map (λ st. Step st.reply) made
 
--- the jobs that they were, each with its port
+-- the jobs that a node's steps were, each with its port
 abbrev pub jobs_done : List NodeStep → List (PortNo × PortStep)
 jobs_done made = map (λ st. (st.port, st.step)) made
 
--- the tree has the ports of a node's steps, or of its jobs
+-- the tree has the ports of a node's steps
 abbrev pub HavePorts : Topology → NodeNo → List NodeStep → Type 0
 HavePorts tree n made = AllByRecursion (λ st. HasPort tree (record { node = n; port = st.port })) made
 
+-- the tree has the ports of a node's jobs
 abbrev pub HaveJobPorts : Topology → NodeNo → List (PortNo × PortStep) → Type 0
 HaveJobPorts tree n jobs = AllByRecursion (λ job. HasPort tree (record { node = n; port = job.0 })) jobs
 

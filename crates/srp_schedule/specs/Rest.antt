@@ -27,6 +27,7 @@ before_sending now = record { 0 = now.0 / 20 * 20 + 19 }
 abbrev pub rest_of : NodeState → Rest
 rest_of s = if is_at_rest (before_sending s.clock) s then UpTo (before_sending s.clock) else Awake
 
+-- what is known of the node of a number is true of it
 abbrev pub IsRestAt : NodeNo → WorldState → Rest → Type 0
 IsRestAt n w rest = (s : NodeState) → node_at n w ≡ Some s → IsRestOf rest s
 

@@ -4,11 +4,12 @@ use Rattle.world_core.specs.declared.events.WorldEvent.{WorldEvent}
 use Rattle.world_core.specs.declared.events.WorldReply.{WorldReply}
 use Rattle.world_core.specs.World.{WorldState, world_step}
 
--- what the event of an entry answers, with the entry's number, if there is one, and the network after it
+-- what the event of an entry answers, with the entry's number; nothing where the entry has no event
 abbrev pub answer_of : ℕ → Option WorldEvent → WorldState → List (ℕ × WorldReply)
 answer_of n None w = []
 answer_of n (Some e) w = (n, (world_step e w).1) ∷ []
 
+-- the network after the event of an entry; as it was where the entry has no event
 abbrev pub after_entry : Option WorldEvent → WorldState → WorldState
 after_entry None w = w
 after_entry (Some e) w = (world_step e w).0

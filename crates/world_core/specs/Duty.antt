@@ -61,11 +61,12 @@ abbrev pub said_by : Result MvrpPdu ℕ → Option (Messages ℕ (Unit {0}))
 said_by (Ok pdu) = Some (record { leave_all = pdu.leave_all; events = messages pdu })
 said_by (Err place) = None
 
--- what a PDU says in MVRP
+-- what octets of an application say in MVRP; those of MSRP say nothing there
 abbrev pub vlans_said : App → List ℕ → Option (Messages ℕ (Unit {0}))
 vlans_said Mvrp octets = said_by (mvrp_reading octets)
 vlans_said Msrp octets = None
 
+-- what a PDU says in MVRP, if anything
 abbrev pub message_of : Wire → Option (Messages ℕ (Unit {0}))
 message_of wire = vlans_said wire.app wire.octets
 
@@ -73,10 +74,11 @@ message_of wire = vlans_said wire.app wire.octets
 abbrev pub messages_of : List Wire → List (Messages ℕ (Unit {0}))
 messages_of wires = filter_map message_of wires
 
--- the participant of MVRP at a place of a node, and at a port
+-- the participant of MVRP at a place of a node
 abbrev pub vlan_place : ℕ → NodeState → Option Part
 vlan_place at s = slice_get s.vlans.parts at
 
+-- the participant of MVRP at a port of the network
 abbrev pub vlan_part : EgressPort → WorldState → Option Part
 vlan_part p w = part_at vlan_place p w
 
@@ -91,18 +93,20 @@ abbrev pub said_of_streams : Result MsrpPdu ℕ → Option (Messages MsrpKey Msr
 said_of_streams (Ok pdu) = Some (record { leave_all = pdu.leave_all; events = pdu.events })
 said_of_streams (Err place) = None
 
--- what a PDU says in MSRP
+-- what octets of an application say in MSRP; those of MVRP say nothing there
 abbrev pub octets_said : App → List ℕ → Option (Messages MsrpKey MsrpContent)
 octets_said Mvrp octets = None
 octets_said Msrp octets = said_of_streams (msrp_reading octets)
 
+-- what a PDU says in MSRP, if anything
 abbrev pub streams_said : Wire → Option (Messages MsrpKey MsrpContent)
 streams_said wire = octets_said wire.app wire.octets
 
--- the participant of MSRP at a place of a node, and at a port
+-- the participant of MSRP at a place of a node
 abbrev pub stream_place : ℕ → NodeState → Option StreamPart
 stream_place at s = option_map (λ port. port.part) (slice_get s.streams.ports at)
 
+-- the participant of MSRP at a port of the network
 abbrev pub stream_part : EgressPort → WorldState → Option StreamPart
 stream_part p w = part_at stream_place p w
 

@@ -32,13 +32,15 @@ said_by None = no_force
 said_by (Some c) =
     record { booked = c.booked; slope_a = c.slope_a; slope_b = c.slope_b; vids = c.vids }
 
--- the streams that a ledger has booked, and the VIDs that a participant of MVRP has registered
+-- the streams that a ledger has booked, in the order of its entries
 abbrev pub booked_streams : List Entry → List StreamId
 booked_streams entries = map (λ x. x.want.stream) (booked_of entries)
 
+-- whether a row's VID is registered: its Registrar is IN or LV
 abbrev pub is_registered_row : Row ℕ (Unit {0}) → Bool
 is_registered_row r = is_registered_in r.registrar
 
+-- the VIDs that a participant of MVRP has registered, in the order of its rows
 abbrev pub registered_vids : List (Row ℕ (Unit {0})) → List ℕ
 registered_vids rows = map key_of (filter is_registered_row rows)
 
@@ -52,13 +54,15 @@ force_of part book =
       vids = registered_vids part.rows;
     }
 
--- whether two are the same
+-- whether two lists have the same streams, in the same order
 abbrev pub are_same_streams : List StreamId → List StreamId → Bool
 are_same_streams xs ys = pointwise (λ x y. x.0 == y.0) xs ys
 
+-- whether two lists have the same VIDs, in the same order
 abbrev pub are_same_vids : List ℕ → List ℕ → Bool
 are_same_vids xs ys = pointwise (λ x y. x == y) xs ys
 
+-- whether the same is in force by both: booked streams, slopes and VIDs
 abbrev pub is_same : Force → Force → Bool
 is_same f g =
     are_same_streams f.booked g.booked && (f.slope_a == g.slope_a) && (f.slope_b == g.slope_b)

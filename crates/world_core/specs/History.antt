@@ -25,10 +25,11 @@ pub record HistoryState : Type 0 where
 abbrev pub by_port : Topology → (EgressPort → List PortChange) → List (List (List PortChange))
 by_port tree own = map (λ x. map own (ports_at tree.links x)) (range_with_len 1 (length tree.kinds))
 
--- all changes, those of one port behind those of another
+-- the changes of a node's ports, those of one port behind those of another
 abbrev pub joined_ports : List (List PortChange) → List PortChange
 joined_ports ports = flat_map (λ changes. changes) ports
 
+-- all changes, those of one node behind those of another
 abbrev pub joined : List (List (List PortChange)) → List PortChange
 joined nodes = flat_map joined_ports nodes
 
@@ -46,10 +47,11 @@ HasPortsOf tree made = AllByRecursion (λ st. HasPort tree (record { node = made
 abbrev pub is_act : NodeSteps → Bool
 is_act made = list_any (λ st. not (is_send st.step)) made.steps
 
--- whether a node has made one
+-- whether these steps are those of a node, with one other than Send among them
 abbrev pub acts_at : NodeNo → NodeSteps → Bool
 acts_at n made = (made.node.0 == n.0) && is_act made
 
+-- whether among the steps of a tick a node has made one other than Send
 abbrev pub has_acted : NodeNo → List NodeSteps → Bool
 has_acted n steps = list_any (acts_at n) steps
 

@@ -25,6 +25,7 @@ pub record AsksNothing (s : NodeState) : Type 0 where
 abbrev pub IsIdleBridge : NodeState → Type 0
 IsIdleBridge s = s.kind ≡ Bridge → AsksNothing s
 
+-- no bridge of a network has an application that asks for anything
 abbrev pub AreBridgesIdle : WorldState → Type 0
 AreBridgesIdle w = AllByRecursion IsIdleBridge w.nodes
 

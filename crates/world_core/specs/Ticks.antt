@@ -78,6 +78,7 @@ scripted_from links streams t n (e ∷ entries) =
     then with_event n (event_of links streams e.kind) (scripted_from links streams t (n + 1) entries)
     else scripted_from links streams t (n + 1) entries
 
+-- the events of a scenario in a tick, with the numbers of their entries, counted from 1
 abbrev pub scripted : Plan → ℕ → List (ℕ × WorldEvent)
 scripted plan t = scripted_from plan.tree.links plan.streams t 1 plan.events
 
@@ -96,10 +97,11 @@ link_ports tree =
 abbrev pub closing_events : Topology → List WorldEvent
 closing_events tree = map Carry (link_ports tree) ++ (Clock ∷ [])
 
--- the network as the scripted events of a tick leave it, and after the tick's steps
+-- the network as the scripted events of a tick leave it
 abbrev pub after_script : Plan → ℕ → WorldState → WorldState
 after_script plan t w = world_after (map (λ e. e.1) (scripted plan t)) w
 
+-- the network after the scripted events and then the steps of a tick, before its PDUs are carried
 abbrev pub after_steps : Plan → ℕ → Tick → WorldState → WorldState
 after_steps plan t tick w = world_after (step_events tick.steps) (after_script plan t w)
 
@@ -144,18 +146,22 @@ pub record IsLegalTick (plan : Plan) (t : ℕ) (w : WorldState) (tick : Tick) : 
 
 -- ---- the canonical order of the steps of a node
 
+-- whether a step is Work: the front PDU of the inbox is taken
 abbrev pub is_work : PortStep → Bool
 is_work steps.Work = true
 is_work _ = false
 
+-- whether a step is Due: all timers that are due fire
 abbrev pub is_due : PortStep → Bool
 is_due steps.Due = true
 is_due _ = false
 
+-- whether a step is Settle: what awaits is settled
 abbrev pub is_settle : PortStep → Bool
 is_settle steps.Settle = true
 is_settle _ = false
 
+-- whether a step is Send, of either application
 abbrev pub is_send : PortStep → Bool
 is_send (steps.Send app) = true
 is_send _ = false

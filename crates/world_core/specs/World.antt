@@ -52,10 +52,11 @@ pub record StandsAt (p : EgressPort) (nodes : List NodeState) : Type 0 where
 
 -- ---- the PDUs at a port
 
--- those that came in at it, and those that are to go out
+-- the PDUs that came in at a port, in order
 abbrev pub inbox : EgressPort → WorldState → List Wire
 inbox p w = option_map_or (λ s. box_at (place_of p.port) s.inboxes) (node_at p.node w) []
 
+-- the PDUs that are to go out from a port, in order
 abbrev pub outbox : EgressPort → WorldState → List Wire
 outbox p w = option_map_or (λ s. box_at (place_of p.port) s.outboxes) (node_at p.node w) []
 
@@ -69,10 +70,11 @@ app_of p index w = option_map (λ wire. wire.app) (slice_get (inbox p w) index)
 abbrev pub Happened : Type 0
 Happened = WorldState × WorldReply
 
--- a node makes a step
+-- the network with a node as a step left it, and the step's answer
 abbrev pub after_step : NodeNo → Stepped → WorldState → Happened
 after_step n made w = (with_node n made.0 w, Step made.1)
 
+-- a node makes a step; where there is no such node, it is missed
 abbrev pub stepped : NodeNo → NodeEvent → WorldState → Happened
 stepped n event w = option_map_or (λ s. after_step n (node_step event s) w) (node_at n w) (w, Missed)
 
