@@ -8,10 +8,11 @@ use Rattle.credit_shaper.specs.Credit.{traffic_number}
 use Rattle.credit_shaper.specs.Port.{slopes_at, arrivals_at}
 use Rattle.credit_shaper.specs.Trace.{port_at}
 
--- the departures before an input's end, and the frames that wait then
+-- the departures that start before an input's end
 abbrev pub sent_of : PortInput → List Departure
 sent_of input = (port_at input input.end).sent
 
+-- the frames that wait at an input's end
 abbrev pub left_of : PortInput → List Arrival
 left_of input = (port_at input input.end).waiting
 

@@ -14,10 +14,11 @@ use Rattle.credit_shaper.specs.Credit.{after_bits}
 use Rattle.credit_shaper.specs.Port.{is_of, no_slopes}
 use Rattle.credit_shaper.specs.Trace.{Port, head_of, turn_of}
 
--- the bit time of an arrival, and of a slope change
+-- the bit time of an arrival
 abbrev pub arrival_bit : Arrival → ℕ
 arrival_bit x = x.bit
 
+-- the bit time from which a slope change is in force
 abbrev pub change_bit : SlopeChange → ℕ
 change_bit x = x.bit
 

@@ -42,6 +42,7 @@ abbrev pub IsOutcome : PortInput → ℕ → Fate → Type 0
 IsOutcome input number (Departed start end) = DepartsOnce input number start end
 IsOutcome input number fate = departures_numbered input number ≡ []
 
+-- at a port each copy that has a fate departs as its fate says
 abbrev pub HasOutcomes : PortFlow → Type 0
 HasOutcomes x = All (λ e. IsOutcome x.input e.0 e.1) x.fates
 

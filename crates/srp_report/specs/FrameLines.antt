@@ -12,18 +12,22 @@ use Rattle.srp_report.specs.Lines.{port_name}
 
 -- ---- the fates
 
+-- whether the port sends the copy
 abbrev pub is_departed : Fate → Bool
 is_departed (Departed start end) = true
 is_departed _ = false
 
+-- whether the port drops the copy as it hasn't booked the copy's stream
 abbrev pub is_unbooked : Fate → Bool
 is_unbooked Unbooked = true
 is_unbooked _ = false
 
+-- whether the port drops the copy as the copy's VID isn't registered there
 abbrev pub is_novlan : Fate → Bool
 is_novlan NoVlan = true
 is_novlan _ = false
 
+-- whether the copy hasn't started at the run's end
 abbrev pub is_left : Fate → Bool
 is_left Left = true
 is_left _ = false
@@ -73,6 +77,7 @@ depart_line port d = joined (
 abbrev pub fates_lines : List ℕ → List (ℕ × Fate) → List ℕ
 fates_lines port fates = frames_line port fates ++ flat_map (depart_line port) (by_start (sent_frames fates))
 
+-- the lines of a port's flow, with the port by its name
 abbrev pub flow_part : Plan → List Link → PortFlow → List ℕ
 flow_part plan links flow = fates_lines (port_name plan links flow.at) flow.fates
 

@@ -20,6 +20,7 @@ use Rattle.srp_report.specs.Lines.{port_name}
 
 -- ---- the words
 
+-- an application by its name
 abbrev pub app_name : App → List ℕ
 app_name Mvrp = codes "mvrp"
 app_name Msrp = codes "msrp"
@@ -58,13 +59,15 @@ abbrev pub event_line : ℕ → ℕ × WorldReply → List ℕ
 event_line t e = joined (
     decimal t ∷ codes " event " ∷ decimal e.0 ∷ codes " " ∷ event_name e.1 ∷ codes "\n" ∷ [])
 
--- `T P STEP REPLY`
+-- `T P `, by which the line of a step begins: the tick and the port
 abbrev pub place_text : ℕ → List ℕ → List ℕ
 place_text t port = joined (decimal t ∷ codes " " ∷ port ∷ codes " " ∷ [])
 
+-- `STEP REPLY`, by which the line of a step ends: the step and its answer
 abbrev pub made_text : NodeStep → List ℕ
 made_text st = joined (step_name st.step ∷ codes " " ∷ reply_name st.reply ∷ codes "\n" ∷ [])
 
+-- `T P STEP REPLY`
 abbrev pub step_line : ℕ → List ℕ → NodeStep → List ℕ
 step_line t port st = place_text t port ++ made_text st
 

@@ -41,6 +41,7 @@ state_name Held = codes "IN"
 state_name Leaving = codes "LV"
 state_name Empty = codes "MT"
 
+-- what a test says, as a word
 abbrev pub yes_or_no : Bool → List ℕ
 yes_or_no true = codes "yes"
 yes_or_no false = codes "no"
@@ -78,14 +79,16 @@ abbrev pub vlan_line : List ℕ → ℕ → Registrar → List ℕ
 vlan_line port vid state = joined (
     codes "vlan " ∷ port ∷ codes " " ∷ decimal vid ∷ codes " " ∷ state_name state ∷ codes "\n" ∷ [])
 
--- the pieces of a Talker's line: the port and the stream; why it failed, and where; its latency in ns, and its Registrar
+-- how the line of a Talker begins: the port and the stream
 abbrev pub talker_start : List ℕ → StreamId → List ℕ
 talker_start port stream = codes "talker " ++ port ++ codes " " ++ hex16_text stream.0
 
+-- how the line of a Talker Failed goes on: the bridge where the Talker failed, and the failure code
 abbrev pub failure_text : Failure → List ℕ
 failure_text failure = joined (
     codes " failed bridge " ∷ hex16_text failure.bridge.0 ∷ codes " code " ∷ decimal failure.code ∷ codes " latency " ∷ [])
 
+-- how the line of a Talker ends: the accumulated latency in ns, and the state of the Registrar
 abbrev pub talker_end : ℕ → Registrar → List ℕ
 talker_end latency state = joined (decimal latency ∷ codes " " ∷ state_name state ∷ codes "\n" ∷ [])
 
@@ -118,6 +121,7 @@ want_line port want (Some since) = joined (
     codes "booked " ∷ port ∷ codes " " ∷ hex16_text want.stream.0 ∷ codes " " ∷ class_name want.class
     ∷ codes " slope " ∷ decimal want.slope ∷ codes " since " ∷ decimal since.0 ∷ codes "\n" ∷ [])
 
+-- the line of a ledger's entry; one that isn't booked has none
 abbrev pub booked_line : List ℕ → Entry → List ℕ
 booked_line port x = want_line port x.want x.since
 

@@ -37,6 +37,7 @@ registered_lines port at s = flat_map (key_line port at s) (registered_keys at s
 abbrev pub booked_lines : List ℕ → ℕ → NodeState → List ℕ
 booked_lines port at s = flat_map (booked_line port) (bookings_at at s)
 
+-- the lines of a place of a node: of what is registered there, and then of what is booked there
 abbrev pub place_lines : List ℕ → ℕ → NodeState → List ℕ
 place_lines port at s = registered_lines port at s ++ booked_lines port at s
 
@@ -65,6 +66,7 @@ abbrev pub heard_by_kind : NodeKind → List ℕ → NodeState → List StreamEn
 heard_by_kind Bridge name s streams = []
 heard_by_kind Station name s streams = flat_map (stream_heard name s) streams
 
+-- the lines of what a node hears, by its number; a bridge has none
 abbrev pub node_heard : Plan → NodeNo → NodeState → List ℕ
 node_heard plan x s = heard_by_kind s.kind (name_of plan.nodes x) s plan.streams
 
@@ -75,10 +77,11 @@ nodes_heard plan n (s ∷ nodes) = node_heard plan (record { 0 = n }) s ++ nodes
 
 -- ---- the report
 
--- what it has before the lines of the frames, and behind them
+-- what a report has before the lines of the frames: the ticks, the ports, and what the stations hear
 abbrev pub before_frames : Plan → WorldState → List Tick → List ℕ
 before_frames plan w ticks = joined (ticks_line plan.ticks ∷ port_parts plan w ticks ∷ nodes_heard plan 1 w.nodes ∷ [])
 
+-- what a report has behind the lines of the frames: whether the network is quiet and in step at the end
 abbrev pub behind_frames : WorldState → List ℕ
 behind_frames w = end_lines (is_quiet w) (is_in_step w)
 

@@ -12,13 +12,15 @@ use Rattle.world_core.specs.declared.journal.Tick.{Tick}
 use Rattle.srp_report.specs.declared.tally.Tally.{Tally}
 use Rattle.srp_report.specs.Counts.{replies_of, count_of, tally_of}
 
--- nothing was sent or discarded: by one port, by all of a node, and by those of the nodes up to a number
+-- a port has sent and discarded nothing
 abbrev pub zero_tally : Tally
 zero_tally = record { sent = 0; octets = 0; discarded = 0 }
 
+-- no port of a node has sent or discarded anything: a tally for each number of a port, 0 to 255
 abbrev pub zero_row : List Tally
 zero_row = replicate 256 zero_tally
 
+-- no port of the nodes up to a number has sent or discarded anything: a row for each number from 0 on
 abbrev pub zero_rows : ℕ → List (List Tally)
 zero_rows last = replicate (last + 1) zero_row
 
@@ -28,21 +30,24 @@ counted t (Sent octets) = record t { sent = count_of (t.sent + 1); octets = coun
 counted t (Discarded place) = record t { discarded = count_of (t.discarded + 1) }
 counted t _ = t
 
--- the tallies of a node's ports with one step more, and with all its steps in a tick
+-- the tallies of a node's ports with one step more
 abbrev pub step_counted : List Tally → NodeStep → List Tally
 step_counted row st = option_map_or (λ t. slice_set row st.port.0 (counted t st.reply)) (slice_get row st.port.0) row
 
+-- the tallies of a node's ports with all its steps in a tick
 abbrev pub steps_counted : List Tally → List NodeStep → List Tally
 steps_counted row made = fold step_counted row made
 
--- the tallies of all nodes with the steps of one node more, with those of a tick, and of all ticks
+-- the tallies of all nodes with the steps of one node in a tick
 abbrev pub node_counted : List (List Tally) → NodeSteps → List (List Tally)
 node_counted rows ns =
     option_map_or (λ row. slice_set rows ns.node.0 (steps_counted row ns.steps)) (slice_get rows ns.node.0) rows
 
+-- the tallies of all nodes with all steps of a tick
 abbrev pub nodes_counted : List (List Tally) → List NodeSteps → List (List Tally)
 nodes_counted rows nodes = fold node_counted rows nodes
 
+-- the tallies of all nodes with the steps of these ticks
 abbrev pub ticks_counted : List (List Tally) → List Tick → List (List Tally)
 ticks_counted rows ticks = fold (λ counts tick. nodes_counted counts tick.steps) rows ticks
 
