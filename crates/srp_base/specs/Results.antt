@@ -1,8 +1,8 @@
 -- Readings that may fail: one after the other, and what a call tells of one.
 use Rattle.std.specs.Prelude.{◌≡◌, Option, Result, Ok, Err, IfSome}
 
--- what is read first, and then what is read with it; the first failure ends both
 infixl 10 ◌>>=◌
+-- what is read first, and then what is read with it; the first failure ends both
 abbrev pub ◌>>=◌ : {E A B : Type 0} → Result A E → (A → Result B E) → Result B E
 (Ok x) >>= f = f x
 (Err e) >>= f = Err e
