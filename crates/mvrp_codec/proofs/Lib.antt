@@ -1,5 +1,5 @@
 pub mod ReadingLemmas
-pub mod RunLemmas
+pub mod SpanLemmas
 pub mod WritingLemmas
-pub mod MaximalRuns
+pub mod MaximalSpans
 pub mod VidLemmas

@@ -15,17 +15,17 @@ use Rattle.mrpdu_codec.specs.Canonical.{vectors_for, well_formed, spelling, vect
 use Rattle.mrpdu_codec.specs.Reading.{reading}
 use Rattle.mvrp_codec.specs.declared.pdu.MvrpPdu.{MvrpPdu}
 use Rattle.mvrp_codec.specs.Meaning.{event_at, events_from, vector_events, meaning, read_as, mvrp_reading}
-use Rattle.mvrp_codec.specs.Writing.{join, runs, run_vector, run_vectors, runs_octets, framed, one_message, pdu_for, mvrp_spelling, IsWritable, AreVids, joined}
-use Rattle.mvrp_codec.proofs.MaximalRuns.{runs_joined}
+use Rattle.mvrp_codec.specs.Writing.{join, spans, span_vector, span_vectors, spans_octets, framed, one_message, pdu_for, mvrp_spelling, IsWritable, AreVids, joined}
+use Rattle.mvrp_codec.proofs.MaximalSpans.{spans_joined}
 
 -- ---- the events
 
 abbrev IsVid : ℕ → Type 0
 IsVid vid = (1 ≤ vid) × (vid ≤ 4094)
 
--- what the vectors of runs say
-run_events : List (List (MrpEvent × ℕ)) → List (MrpEvent × ℕ)
-run_events rs = flat_map vector_events (map (run_vector false) rs)
+-- what the vectors of spans say
+span_events : List (List (MrpEvent × ℕ)) → List (MrpEvent × ℕ)
+span_events ss = flat_map vector_events (map (span_vector false) ss)
 
 number_again : (n : ℕ) → number (n / 256) (n % 256) ≡ n
 number_again n = omega arith
@@ -33,48 +33,48 @@ number_again n = omega arith
 event_of_vid : (x : MrpEvent × ℕ) → IsVid x.1 → event_at x.0 x.1 ≡ x ∷ []
 event_of_vid x h = rw (le-leb 1 x.1 h.0, le-leb x.1 4094 h.1) refl
 
--- a run says its first event, and then those of the VIDs from the next on
-first_event : (x : MrpEvent × ℕ) (xs : List (MrpEvent × ℕ)) → IsVid x.1 → vector_events (run_vector false (x ∷ xs)) ≡ x ∷ events_from (x.1 + 1) (map (λ y. y.0) xs)
+-- a span says its first event, and then those of the VIDs from the next on
+first_event : (x : MrpEvent × ℕ) (xs : List (MrpEvent × ℕ)) → IsVid x.1 → vector_events (span_vector false (x ∷ xs)) ≡ x ∷ events_from (x.1 + 1) (map (λ y. y.0) xs)
 first_event x xs h =
     ap (λ (n : ℕ). events_from n (map (λ y. y.0) (x ∷ xs))) (number_again x.1)
     ∙ ap (λ (es : List (MrpEvent × ℕ)). es ++ events_from (x.1 + 1) (map (λ y. y.0) xs)) (event_of_vid x h)
 
-later_events : (y : MrpEvent × ℕ) (ys : List (MrpEvent × ℕ)) → events_from y.1 (map (λ z. z.0) (y ∷ ys)) ≡ vector_events (run_vector false (y ∷ ys))
+later_events : (y : MrpEvent × ℕ) (ys : List (MrpEvent × ℕ)) → events_from y.1 (map (λ z. z.0) (y ∷ ys)) ≡ vector_events (span_vector false (y ∷ ys))
 later_events y ys = ap (λ (n : ℕ). events_from n (map (λ z. z.0) (y ∷ ys))) (sym (number_again y.1))
 
-join_events : (x : MrpEvent × ℕ) (rs : List (List (MrpEvent × ℕ))) → IsVid x.1 → run_events (join x rs) ≡ x ∷ run_events rs
-unfolding run_events
+join_events : (x : MrpEvent × ℕ) (ss : List (List (MrpEvent × ℕ))) → IsVid x.1 → span_events (join x ss) ≡ x ∷ span_events ss
+unfolding span_events
 join_events x [] h = ap (λ (es : List (MrpEvent × ℕ)). es ++ []) (first_event x [] h)
-join_events x ([] ∷ others) h = ap (λ (es : List (MrpEvent × ℕ)). es ++ run_events others) (first_event x [] h)
+join_events x ([] ∷ others) h = ap (λ (es : List (MrpEvent × ℕ)). es ++ span_events others) (first_event x [] h)
 join_events x ((y ∷ ys) ∷ others) h =
     elim (cases_Bool (eqb (x.1 + 1) y.1)) [
       | inl follows ↦ rw follows (
-          ap (λ (es : List (MrpEvent × ℕ)). es ++ run_events others) (first_event x (y ∷ ys) h)
-          ∙ ap (λ (es : List (MrpEvent × ℕ)). x ∷ (es ++ run_events others)) (ap (λ (n : ℕ). events_from n (map (λ z. z.0) (y ∷ ys))) (eqb-true (x.1 + 1) y.1 follows) ∙ later_events y ys))
-      | inr apart ↦ rw apart (ap (λ (es : List (MrpEvent × ℕ)). es ++ run_events ((y ∷ ys) ∷ others)) (first_event x [] h))
+          ap (λ (es : List (MrpEvent × ℕ)). es ++ span_events others) (first_event x (y ∷ ys) h)
+          ∙ ap (λ (es : List (MrpEvent × ℕ)). x ∷ (es ++ span_events others)) (ap (λ (n : ℕ). events_from n (map (λ z. z.0) (y ∷ ys))) (eqb-true (x.1 + 1) y.1 follows) ∙ later_events y ys))
+      | inr apart ↦ rw apart (ap (λ (es : List (MrpEvent × ℕ)). es ++ span_events ((y ∷ ys) ∷ others)) (first_event x [] h))
     ]
 
-events_again : (events : List (MrpEvent × ℕ)) → AreVids events → run_events (runs events) ≡ events
-unfolding run_events
+events_again : (events : List (MrpEvent × ℕ)) → AreVids events → span_events (spans events) ≡ events
+unfolding span_events
 events_again [] h = refl
-events_again (x ∷ xs) h = join_events x (runs xs) h.0 ∙ ap (λ (ys : List (MrpEvent × ℕ)). x ∷ ys) (events_again xs h.1)
+events_again (x ∷ xs) h = join_events x (spans xs) h.0 ∙ ap (λ (ys : List (MrpEvent × ℕ)). x ∷ ys) (events_again xs h.1)
 
-with_leave : (leave : Bool) (rs : List (List (MrpEvent × ℕ))) → flat_map vector_events (run_vectors leave rs) ≡ run_events rs
-unfolding run_events
+with_leave : (leave : Bool) (ss : List (List (MrpEvent × ℕ))) → flat_map vector_events (span_vectors leave ss) ≡ span_events ss
+unfolding span_events
 with_leave true [] = refl
 with_leave false [] = refl
-with_leave true (r ∷ rs) = refl
-with_leave false (r ∷ rs) = refl
+with_leave true (s ∷ ss) = refl
+with_leave false (s ∷ ss) = refl
 
-none_leave : (rs : List (List (MrpEvent × ℕ))) → list_any (λ (v : VectorAttr). v.leave_all) (map (run_vector false) rs) ≡ false
+none_leave : (ss : List (List (MrpEvent × ℕ))) → list_any (λ (v : VectorAttr). v.leave_all) (map (span_vector false) ss) ≡ false
 none_leave [] = refl
-none_leave (r ∷ rs) = none_leave rs
+none_leave (s ∷ ss) = none_leave ss
 
-leave_again : (leave : Bool) (rs : List (List (MrpEvent × ℕ))) → list_any (λ (v : VectorAttr). v.leave_all) (run_vectors leave rs) ≡ leave
+leave_again : (leave : Bool) (ss : List (List (MrpEvent × ℕ))) → list_any (λ (v : VectorAttr). v.leave_all) (span_vectors leave ss) ≡ leave
 leave_again true [] = refl
 leave_again false [] = refl
-leave_again true (r ∷ rs) = refl
-leave_again false (r ∷ rs) = none_leave rs
+leave_again true (s ∷ ss) = refl
+leave_again false (s ∷ ss) = none_leave ss
 
 or_no : (b : Bool) → (b || false) ≡ b
 or_no true = refl
@@ -86,24 +86,24 @@ made leave events = record { leave_all = leave; events = events }
 meaning_again : (read : MvrpPdu) → AreVids read.events → meaning (pdu_for read) ≡ read
 unfolding made
 meaning_again read h =
-    let vs = run_vectors read.leave_all (runs read.events) in
-    ap (λ (b : Bool). made b (flat_map vector_events vs ++ [])) (or_no (list_any (λ (v : VectorAttr). v.leave_all) vs) ∙ leave_again read.leave_all (runs read.events))
-    ∙ ap (λ (es : List (MrpEvent × ℕ)). made read.leave_all es) (append-nil (flat_map vector_events vs) ∙ with_leave read.leave_all (runs read.events) ∙ events_again read.events h)
+    let vs = span_vectors read.leave_all (spans read.events) in
+    ap (λ (b : Bool). made b (flat_map vector_events vs ++ [])) (or_no (list_any (λ (v : VectorAttr). v.leave_all) vs) ∙ leave_again read.leave_all (spans read.events))
+    ∙ ap (λ (es : List (MrpEvent × ℕ)). made read.leave_all es) (append-nil (flat_map vector_events vs) ∙ with_leave read.leave_all (spans read.events) ∙ events_again read.events h)
 
 pub reads_again : (read : MvrpPdu) → AreVids read.events → reading Mvrp (spelling Mvrp (pdu_for read)) ≡ Ok (pdu_for read) → mvrp_reading (mvrp_spelling read) ≡ Ok read
 reads_again read h e = ap read_as e ∙ ap (λ (m : MvrpPdu). let r : Result MvrpPdu ℕ = Ok m in r) (meaning_again read h)
 
 -- ---- what can be written
 
--- each run has an event, and no more than there are
+-- each span has an event, and no more than there are
 abbrev AreSmall : ℕ → List (List (MrpEvent × ℕ)) → Type 0
-AreSmall n rs = AllByRecursion (λ r. (0 < length r) × (length r ≤ n)) rs
+AreSmall n ss = AllByRecursion (λ s. (0 < length s) × (length s ≤ n)) ss
 
-still_small : (m n : ℕ) (rs : List (List (MrpEvent × ℕ))) → m ≤ n → AreSmall m rs → AreSmall n rs
+still_small : (m n : ℕ) (ss : List (List (MrpEvent × ℕ))) → m ≤ n → AreSmall m ss → AreSmall n ss
 still_small m n [] le h = tt
-still_small m n (r ∷ rs) le h = ((h.0.0, omega (arith, h.0.1)), still_small m n rs le h.1)
+still_small m n (s ∷ ss) le h = ((h.0.0, omega (arith, h.0.1)), still_small m n ss le h.1)
 
-join_small : (n : ℕ) (x : MrpEvent × ℕ) (rs : List (List (MrpEvent × ℕ))) → AreSmall n rs → AreSmall (suc n) (join x rs)
+join_small : (n : ℕ) (x : MrpEvent × ℕ) (ss : List (List (MrpEvent × ℕ))) → AreSmall n ss → AreSmall (suc n) (join x ss)
 join_small n x [] h = ((omega arith, omega arith), tt)
 join_small n x ([] ∷ others) h = ((omega arith, omega arith), still_small n (suc n) others (omega arith) h.1)
 join_small n x ((y ∷ ys) ∷ others) h =
@@ -113,17 +113,17 @@ join_small n x ((y ∷ ys) ∷ others) h =
       | inr apart ↦ rw apart ((omega arith, omega arith), ((omega arith, omega (arith, h.0.1)), small))
     ]
 
-runs_small : (events : List (MrpEvent × ℕ)) → AreSmall (length events) (runs events)
-runs_small [] = tt
-runs_small (x ∷ xs) = join_small (length xs) x (runs xs) (runs_small xs)
+spans_small : (events : List (MrpEvent × ℕ)) → AreSmall (length events) (spans events)
+spans_small [] = tt
+spans_small (x ∷ xs) = join_small (length xs) x (spans xs) (spans_small xs)
 
 vid_form : TypeForm
 vid_form = record { length = 2; four_packed = false }
 
-run_fits : (leave : Bool) (r : List (MrpEvent × ℕ)) → (leave || ltb 0 (length r)) ≡ true → length r ≤ 8191 → vector_fits vid_form (run_vector leave r) ≡ true
+span_fits : (leave : Bool) (s : List (MrpEvent × ℕ)) → (leave || ltb 0 (length s)) ≡ true → length s ≤ 8191 → vector_fits vid_form (span_vector leave s) ≡ true
 unfolding vid_form
-run_fits leave [] some few = rw some refl
-run_fits leave (x ∷ xs) some few =
+span_fits leave [] some few = rw some refl
+span_fits leave (x ∷ xs) some few =
     let n : length (map (λ y. y.0) (x ∷ xs)) ≡ length (x ∷ xs) = length-map (x ∷ xs) (λ y. y.0) in
     and_from _ _ (and_from _ _ (and_from _ _ refl (ap (λ (k : ℕ). leave || ltb 0 k) n ∙ some)) (ap (λ (k : ℕ). leb k 8191) n ∙ le-leb (length (x ∷ xs)) 8191 few)) refl
 
@@ -131,44 +131,44 @@ or_some : (leave : Bool) (n : ℕ) → 0 < n → (leave || ltb 0 n) ≡ true
 or_some true n h = refl
 or_some false n h = lt-ltb 0 n h
 
-all_fit : (n : ℕ) (rs : List (List (MrpEvent × ℕ))) → n ≤ 8191 → AreSmall n rs → list_all (vector_fits vid_form) (map (run_vector false) rs) ≡ true
+all_fit : (n : ℕ) (ss : List (List (MrpEvent × ℕ))) → n ≤ 8191 → AreSmall n ss → list_all (vector_fits vid_form) (map (span_vector false) ss) ≡ true
 all_fit n [] few h = refl
-all_fit n (r ∷ rs) few h = and_from _ _ (run_fits false r (or_some false (length r) h.0.0) (omega (arith, h.0.1))) (all_fit n rs few h.1)
+all_fit n (s ∷ ss) few h = and_from _ _ (span_fits false s (or_some false (length s) h.0.0) (omega (arith, h.0.1))) (all_fit n ss few h.1)
 
-vectors_fit : (leave : Bool) (n : ℕ) (rs : List (List (MrpEvent × ℕ))) → n ≤ 8191 → AreSmall n rs → list_all (vector_fits vid_form) (run_vectors leave rs) ≡ true
-vectors_fit true n [] few h = and_from _ _ (run_fits true [] refl (omega arith)) refl
+vectors_fit : (leave : Bool) (n : ℕ) (ss : List (List (MrpEvent × ℕ))) → n ≤ 8191 → AreSmall n ss → list_all (vector_fits vid_form) (span_vectors leave ss) ≡ true
+vectors_fit true n [] few h = and_from _ _ (span_fits true [] refl (omega arith)) refl
 vectors_fit false n [] few h = refl
-vectors_fit true n (r ∷ rs) few h = and_from _ _ (run_fits true r refl (omega (arith, h.0.1))) (all_fit n rs few h.1)
-vectors_fit false n (r ∷ rs) few h = and_from _ _ (run_fits false r (or_some false (length r) h.0.0) (omega (arith, h.0.1))) (all_fit n rs few h.1)
+vectors_fit true n (s ∷ ss) few h = and_from _ _ (span_fits true s refl (omega (arith, h.0.1))) (all_fit n ss few h.1)
+vectors_fit false n (s ∷ ss) few h = and_from _ _ (span_fits false s (or_some false (length s) h.0.0) (omega (arith, h.0.1))) (all_fit n ss few h.1)
 
 pub is_well_formed : (read : MvrpPdu) → IsWritable read → well_formed Mvrp (pdu_for read) ≡ true
 unfolding vid_form
 is_well_formed read w =
-    and_from _ _ refl (and_from _ _ (and_from _ _ (vectors_fit read.leave_all (length read.events) (runs read.events) (omega (arith, w.few)) (runs_small read.events)) refl) refl)
+    and_from _ _ refl (and_from _ _ (and_from _ _ (vectors_fit read.leave_all (length read.events) (spans read.events) (omega (arith, w.few)) (spans_small read.events)) refl) refl)
 
 -- ---- how many octets
 
 -- a vector has at most 4 octets, and one for each event
-run_size : (leave : Bool) (r : List (MrpEvent × ℕ)) → vector_size (run_vector leave r) ≤ 4 + length r
-run_size leave [] = omega arith
-run_size leave (x ∷ xs) = omega (arith, length-map (x ∷ xs) (λ y. y.0))
+span_size : (leave : Bool) (s : List (MrpEvent × ℕ)) → vector_size (span_vector leave s) ≤ 4 + length s
+span_size leave [] = omega arith
+span_size leave (x ∷ xs) = omega (arith, length-map (x ∷ xs) (λ y. y.0))
 
 -- 5 octets for each event are enough
-runs_size : (n : ℕ) (rs : List (List (MrpEvent × ℕ))) → AreSmall n rs → vectors_size (map (run_vector false) rs) ≤ 5 * length (joined rs)
-runs_size n [] h = omega arith
-runs_size n (r ∷ rs) h =
-    omega (arith, sum_by-cons vector_size (run_vector false r) (map (run_vector false) rs), length-append r (joined rs), run_size false r, runs_size n rs h.1, h.0.0)
+spans_size : (n : ℕ) (ss : List (List (MrpEvent × ℕ))) → AreSmall n ss → vectors_size (map (span_vector false) ss) ≤ 5 * length (joined ss)
+spans_size n [] h = omega arith
+spans_size n (s ∷ ss) h =
+    omega (arith, sum_by-cons vector_size (span_vector false s) (map (span_vector false) ss), length-append s (joined ss), span_size false s, spans_size n ss h.1, h.0.0)
 
-leave_size : (leave : Bool) (rs : List (List (MrpEvent × ℕ))) → vectors_size (run_vectors leave rs) ≤ vectors_size (map (run_vector false) rs) + 4
+leave_size : (leave : Bool) (ss : List (List (MrpEvent × ℕ))) → vectors_size (span_vectors leave ss) ≤ vectors_size (map (span_vector false) ss) + 4
 leave_size true [] = omega arith
 leave_size false [] = omega arith
-leave_size true (r ∷ rs) = omega arith
-leave_size false (r ∷ rs) = omega arith
+leave_size true (s ∷ ss) = omega arith
+leave_size false (s ∷ ss) = omega arith
 
 pub few_in_all : (read : MvrpPdu) → IsWritable read → length (mvrp_spelling read) ≡ pdu_size Mvrp (pdu_for read) → length (mvrp_spelling read) ≤ 1500
 few_in_all read w size =
-    let rs = runs read.events in
-    omega (arith, size, w.few, leave_size read.leave_all rs, runs_size (length read.events) rs (runs_small read.events), ap length (runs_joined read.events))
+    let ss = spans read.events in
+    omega (arith, size, w.few, leave_size read.leave_all ss, spans_size (length read.events) ss (spans_small read.events), ap length (spans_joined read.events))
 
 -- ---- what `encode` writes
 
@@ -178,6 +178,6 @@ framed_spelling vs =
     let mark : List ℕ = 0 ∷ 0 ∷ [] in
     ap (λ (os : List ℕ). 0 ∷ 1 ∷ 2 ∷ os) (sym (ap (λ (os : List ℕ). os ++ mark) (append-nil (octets ++ mark)) ∙ append_assoc octets mark mark))
 
-pub octets_are : (octets : List ℕ) (events : List (MrpEvent × ℕ)) (read : MvrpPdu) → octets ≡ framed (runs_octets read.leave_all (runs events)) → events ≡ read.events → octets ≡ mvrp_spelling read
+pub octets_are : (octets : List ℕ) (events : List (MrpEvent × ℕ)) (read : MvrpPdu) → octets ≡ framed (spans_octets read.leave_all (spans events)) → events ≡ read.events → octets ≡ mvrp_spelling read
 octets_are octets events read e f =
-    e ∙ ap (λ (es : List (MrpEvent × ℕ)). framed (runs_octets read.leave_all (runs es))) f ∙ framed_spelling (run_vectors read.leave_all (runs read.events))
+    e ∙ ap (λ (es : List (MrpEvent × ℕ)). framed (spans_octets read.leave_all (spans es))) f ∙ framed_spelling (span_vectors read.leave_all (spans read.events))
