@@ -7,6 +7,7 @@ use Rattle.mrpdu_codec.specs.declared.pdu.VectorAttr.{VectorAttr}
 use Rattle.mrpdu_codec.specs.Tree.{vector_octets, vectors_octets}
 use Rattle.mrpdu_codec.specs.Canonical.{vector_for, vectors_for}
 use Rattle.mvrp_codec.specs.Writing.{join, spans, span_vector, span_vectors, spans_octets, span_len, AreVids}
+use Rattle.mvrp_codec.proofs.VidLemmas.{vids-append}
 
 -- ---- how far a span goes
 
@@ -110,9 +111,5 @@ pub vids_none : (rest events : List (MrpEvent × ℕ)) → length rest ≡ 0 →
 vids_none [] events none h = h tt
 vids_none (x ∷ xs) events none h = absurd (omega (arith, none))
 
-vids_append : (xs ys : List (MrpEvent × ℕ)) → AreVids xs → AreVids ys → AreVids (xs ++ ys)
-vids_append [] ys h k = k
-vids_append (x ∷ xs) ys h k = (h.0, vids_append xs ys h.1 k)
-
 pub vids_join : (n : ℕ) (rest : List (MrpEvent × ℕ)) → AreVids (take n rest) → AreVids (drop n rest) → AreVids rest
-vids_join n rest h k = subst AreVids (take-append-drop n rest) (vids_append (take n rest) (drop n rest) h k)
+vids_join n rest h k = subst AreVids (take-append-drop n rest) (vids-append (take n rest) (drop n rest) h k)

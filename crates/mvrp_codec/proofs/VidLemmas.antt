@@ -10,7 +10,7 @@ use Rattle.mvrp_codec.specs.declared.pdu.MvrpPdu.{MvrpPdu}
 use Rattle.mvrp_codec.specs.Meaning.{first_vid, event_at, events_from, vector_events, message_events, meaning, read_as}
 use Rattle.mvrp_codec.specs.Writing.{AreVids}
 
-vids-append : (xs ys : List (MrpEvent × ℕ)) → AreVids xs → AreVids ys → AreVids (xs ++ ys)
+pub vids-append : (xs ys : List (MrpEvent × ℕ)) → AreVids xs → AreVids ys → AreVids (xs ++ ys)
 vids-append [] ys h k = k
 vids-append (x ∷ xs) ys h k = (h.0, vids-append xs ys h.1 k)
 

@@ -3,7 +3,7 @@ use Rattle.std.proofs.Common.{◌≡◌, ◌≢◌, ℕ, ◌+◌, ◌<◌, ◌�
 use Rattle.std.specs.Prelude.{nat_le, nat_lt}
 use Rattle.std.specs.Ordering.{nat_cmp, is_lt, ordering_then}
 use Rattle.std.specs.List.{AllByRecursion, list_any}
-use Rattle.std.proofs.lemmas.Bool.{cases_Bool, cases_order, cases_lt, eqb-true, eqb-false, ne_eqb, lt-ltb}
+use Rattle.std.proofs.lemmas.Bool.{cases_Bool, cases_order, cases_lt, eqb-true, eqb-false, ne_eqb, lt-ltb, or_parts}
 use Rattle.std.proofs.lemmas.List.Sums.{sum_by-cons}
 use Rattle.srp_base.specs.declared.numbers.Cs.{Cs}
 use Rattle.srp_base.specs.declared.numbers.StreamId.{StreamId}
@@ -85,13 +85,9 @@ all_before : (moment : ℕ) (xs : List Entry) → AllByRecursion (λ x. moment_o
     → list_any (λ x. is_since moment x.since) xs ≡ false → AllByRecursion (λ x. IsBefore moment x.since) (booked_of xs)
 all_before moment [] h none = tt
 all_before moment (x ∷ xs) h none =
-    by_since x.since h.0 (either_false (is_since moment x.since) (list_any (λ y. is_since moment y.since) xs) none).0 refl
-    (all_before moment xs h.1 (either_false (is_since moment x.since) (list_any (λ y. is_since moment y.since) xs) none).1)
+    by_since x.since h.0 (or_parts (is_since moment x.since) (list_any (λ y. is_since moment y.since) xs) none).0 refl
+    (all_before moment xs h.1 (or_parts (is_since moment x.since) (list_any (λ y. is_since moment y.since) xs) none).1)
   where
-    either_false : (a b : Bool) → (a || b) ≡ false → (a ≡ false) × (b ≡ false)
-    either_false true b k = cc
-    either_false false b k = (refl, k)
-
     by_since : (o : Option Cs) → moment_or moment o ≤ moment → is_since moment o ≡ false → o ≡ x.since
         → AllByRecursion (λ y. IsBefore moment y.since) (booked_of xs)
         → AllByRecursion (λ y. IsBefore moment y.since) (cond (is_some o) (x ∷ booked_of xs) (booked_of xs))

@@ -2,6 +2,7 @@
 use Rattle.std.proofs.Common.{◌≡◌, ◌<◌, Bool, true, false, not, ◌&&◌, ◌||◌, ◌==◌, if◌then◌else◌, List, [], ◌∷◌, map, Some, refl, sym, ap, subst, arith}
 use Rattle.std.specs.Prelude.{find, filter, is_some}
 use Rattle.std.specs.List.{AllByRecursion, list_any}
+use Rattle.std.proofs.lemmas.Bool.{or_parts}
 use Rattle.std.proofs.lemmas.Bool.Decides.{nat_tests}
 use Rattle.srp_base.specs.declared.numbers.StreamId.{StreamId}
 use Rattle.stream_importance.specs.declared.entry.Entry.{Entry}
@@ -12,10 +13,6 @@ use Rattle.port_ledger.proofs.PerStream.{same_entry-is}
 -- whether a stream is among streams
 abbrev pub is_among : StreamId → List StreamId → Bool
 is_among s streams = list_any (λ (x : StreamId). x.0 == s.0) streams
-
-or_false : (a b : Bool) → (a || b) ≡ false → (a ≡ false) × (b ≡ false)
-or_false true b h = cc
-or_false false b h = (refl, h)
 
 -- what holds of all holds of what is found
 all_found : (P : Entry → Type 0) (p : Entry → Bool) (xs : List Entry) (x : Entry) → AllByRecursion P xs → find p xs ≡ Some x → P x
@@ -56,14 +53,14 @@ still_booked (x ∷ xs) those s up out h = by (stream_of x == s.0) refl (is_book
         rw (same, there) f
     by true e true f false g out h rest =
         let now = rw (f, g) at out in
-        let parts = or_false (x.want.stream.0 == s.0) (is_among s (booked_only_in xs those)) now in
+        let parts = or_parts (x.want.stream.0 == s.0) (is_among s (booked_only_in xs those)) now in
         let yes : (x.want.stream.0 == s.0) ≡ true = e in
         cc
     by true e false f c g out h rest =
         let now : is_some x.since ≡ true = rw e at h in
         cc
     by false e true f true g out h rest = rest (rw (f, g) at out) (rw e at h)
-    by false e true f false g out h rest = rest (or_false (x.want.stream.0 == s.0) (is_among s (booked_only_in xs those)) (rw (f, g) at out)).1 (rw e at h)
+    by false e true f false g out h rest = rest (or_parts (x.want.stream.0 == s.0) (is_among s (booked_only_in xs those)) (rw (f, g) at out)).1 (rw e at h)
     by false e false f c g out h rest = rest (rw f at out) (rw e at h)
 
 pub unmoved : (before after : List Entry) (s : StreamId) → IsAscending before → IsAscending after → is_among s (booked_only_in after before) ≡ false → is_among s (booked_only_in before after) ≡ false

@@ -1,7 +1,7 @@
 -- What a stream leaves that wants nothing more.
 use Rattle.std.proofs.Common.{◌≡◌, ◌≢◌, ◌↔◌, ℕ, ◌<◌, ◌≤◌, Bool, true, false, not, ◌==◌, ◌||◌, cond, List, [], ◌∷◌, map, Option, Some, None, option_map, option_and_then, is_some, IsTrue, refl, sym, ◌∙◌, ap, subst, arith, inl, inr, true≢false}
 use Rattle.std.specs.List.{AllByRecursion, list_any}
-use Rattle.std.proofs.lemmas.Bool.{eq-eqb, ne_eqb, eqb-true, cases_Bool, or_from}
+use Rattle.std.proofs.lemmas.Bool.{eq-eqb, ne_eqb, eqb-true, cases_Bool, or_from, or_parts}
 use Rattle.srp_base.specs.declared.numbers.Cs.{Cs}
 use Rattle.srp_base.specs.declared.numbers.StreamId.{StreamId}
 use Rattle.stream_importance.specs.declared.entry.Entry.{Entry}
@@ -90,13 +90,9 @@ booked_hasnt : (s : StreamId) (xs : List Entry) → has_stream s xs ≡ false �
 booked_hasnt s [] h = refl
 booked_hasnt s (x ∷ xs) h =
     elim (is_booked x) as (λ v. has_stream s (cond v (x ∷ booked_of xs) (booked_of xs)) ≡ false) [
-      | true ↦ or_from (stream_of x == s.0) (has_stream s (booked_of xs)) (either_false (stream_of x == s.0) (has_stream s xs) h).0 (booked_hasnt s xs (either_false (stream_of x == s.0) (has_stream s xs) h).1)
-      | false ↦ booked_hasnt s xs (either_false (stream_of x == s.0) (has_stream s xs) h).1
+      | true ↦ or_from (stream_of x == s.0) (has_stream s (booked_of xs)) (or_parts (stream_of x == s.0) (has_stream s xs) h).0 (booked_hasnt s xs (or_parts (stream_of x == s.0) (has_stream s xs) h).1)
+      | false ↦ booked_hasnt s xs (or_parts (stream_of x == s.0) (has_stream s xs) h).1
     ]
-  where
-    either_false : (a b : Bool) → (a || b) ≡ false → (a ≡ false) × (b ≡ false)
-    either_false true b k = cc
-    either_false false b k = (refl, k)
 
 settled_has : (now : ℕ) (s : StreamId) (b : Entry → Bool) (xs : List Entry)
     → has_stream s (with_moments now xs (map b xs)) ≡ has_stream s xs

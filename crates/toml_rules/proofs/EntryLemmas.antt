@@ -73,7 +73,7 @@ weighed rule weight said room i xs x o lt is e =
     let cut : drop i xs ≡ x ∷ drop (i + 1) xs = drop_more xs i x lt ∙ ap (λ t. t ∷ drop (i + 1) xs) (sym is) in
     ap (λ ts. each_within rule weight said (i + 1) room ts) cut ∙ ap (λ v. entry_then rule (i + 1) (light room weight v) (each_within rule weight said (i + 1 + 1) (room - weight_of weight v) (drop (i + 1) xs))) (sym e)
 
-light-fits : {B : Type 0} (room : ℕ) (weight : B → ℕ) (y : B) → weight y ≤ room → light room weight (Some y) ≡ Some y
+pub light-fits : {B : Type 0} (room : ℕ) (weight : B → ℕ) (y : B) → weight y ≤ room → light room weight (Some y) ≡ Some y
 light-fits room weight y le = ap (λ (b : Bool). if b then Some y else None) (let e : nat_le (weight y) room ≡ true = grind (arith, nat_tests) in e)
 
 light-heavy : {B : Type 0} (room : ℕ) (weight : B → ℕ) (y : B) → room < weight y → light room weight (Some y) ≡ None

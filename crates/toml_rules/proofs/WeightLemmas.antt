@@ -1,11 +1,11 @@
 -- What a rule with weights lets through.
 use Rattle.std.proofs.Common.{◌≡◌, ℕ, ◌+◌, ◌-◌, ◌≤◌, Bool, true, false, if◌then◌else◌, List, [], ◌∷◌, Option, Some, None, Result, Ok, Err, IfOk, refl, ap, ◌∙◌, leb-true, arith}
-use Rattle.std.proofs.lemmas.Bool.Decides.{nat_tests}
 use Rattle.std.proofs.lemmas.List.Sums.{sum_by-cons}
 use Rattle.std.specs.List.{sum_by}
 use Rattle.std.specs.Prelude.{nat_le}
 use Rattle.toml_rules.specs.declared.rules.RuleErr.{RuleErr}
 use Rattle.toml_rules.specs.Rules.{with_front, entry_then, each_entry, light, weight_of, each_within}
+use Rattle.toml_rules.proofs.EntryLemmas.{light-fits}
 
 light-then : {B : Type 0} (rule n room w : ℕ) (weight : B → ℕ) (y : B) (b : Bool) (rest whole : Result (List B) RuleErr) → w ≡ weight y → (b ≡ true → w ≤ room)
     → IfOk rest (λ zs. (whole ≡ Ok zs) × (sum_by weight zs ≤ room - w))
@@ -28,9 +28,6 @@ within-says rule n room weight read [] = (refl, omega arith)
 within-says rule n room weight read (x ∷ xs) =
     entry-says rule n room weight (read n x) (each_within rule weight read (n + 1) (room - weight_of weight (read n x)) xs) (each_entry rule read (n + 1) xs) (within-says rule (n + 1) (room - weight_of weight (read n x)) weight read xs)
 
-light-enough : {B : Type 0} (room : ℕ) (weight : B → ℕ) (y : B) → weight y ≤ room → light room weight (Some y) ≡ Some y
-light-enough room weight y le = ap (λ (b : Bool). if b then Some y else None) (let e : nat_le (weight y) room ≡ true = grind (arith, nat_tests) in e)
-
 entry-fits : {B : Type 0} (rule n room : ℕ) (weight : B → ℕ) (o : Option B) (rest whole : Result (List B) RuleErr)
     → IfOk whole (λ zs. sum_by weight zs ≤ room - weight_of weight o → rest ≡ Ok zs)
     → IfOk (entry_then rule n o whole) (λ ys. sum_by weight ys ≤ room → entry_then rule n (light room weight o) rest ≡ Ok ys)
@@ -40,7 +37,7 @@ entry-fits rule n room weight (Some y) rest (Ok zs) h = λ le.
     (let cons = sum_by-cons weight y zs in
     let few : weight y ≤ room = omega (arith, le, cons) in
     let left : sum_by weight zs ≤ room - weight y = omega (arith, le, cons) in
-    ap (λ o. entry_then rule n o rest) (light-enough room weight y few) ∙ ap (λ r. with_front y r) (h left))
+    ap (λ o. entry_then rule n o rest) (light-fits room weight y few) ∙ ap (λ r. with_front y r) (h left))
 
 pub within-fits : {A B : Type 0} (rule n room : ℕ) (weight : B → ℕ) (read : ℕ → A → Option B) (xs : List A)
     → IfOk (each_entry rule read n xs) (λ ys. sum_by weight ys ≤ room → each_within rule weight read n room xs ≡ Ok ys)
