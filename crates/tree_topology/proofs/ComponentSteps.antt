@@ -7,11 +7,24 @@ use Rattle.std.proofs.lemmas.List.FromFn.{map-range_with_len_more, length-range_
 use Rattle.std.specs.List.{range_with_len}
 use Rattle.tree_topology.specs.declared.graph.Link.{Link}
 use Rattle.tree_topology.specs.Graph.{Joined, Connected}
-use Rattle.tree_topology.specs.Tables.{HasLeaders, LeadsAlong, HasApartLeaders, HasComponents, joined_leaders, joined_ranks}
+use Rattle.tree_topology.specs.Tables.{HasLeaders, LeadsAlong, joined_leaders, joined_ranks}
 use Rattle.tree_topology.proofs.Links.{connected-sym, connected-through, connected-left, connected-over, ConnectedOver, joined-push, joined-last}
 use Rattle.tree_topology.specs.Refusal.{IsFirstLink, ClosesLoop}
 use Rattle.tree_topology.proofs.Walks.{reaches-step}
 use Rattle.tree_topology.proofs.WalkBetween.{empty-walk}
+
+-- two leaders aren't connected
+abbrev HasApartLeaders : List Link → List ℕ → Type 0
+HasApartLeaders links leaders =
+    (x y : ℕ) → x < length leaders → y < length leaders → get_or leaders x 0 ≡ x → get_or leaders y 0 ≡ y → Connected links x y → x ≡ y
+
+-- each component of the links has one leader
+pub record HasComponents (count : ℕ) (links : List Link) (leaders ranks : List ℕ) : Type 0 where
+  pub size : length leaders ≡ count + 1
+  pub led : HasLeaders leaders ranks
+  pub low : (x : ℕ) → x < length leaders → get_or ranks x 0 ≤ length links
+  pub along : LeadsAlong links leaders
+  pub apart : HasApartLeaders links leaders
 
 pub range-more : (n : ℕ) → range_with_len 0 (n + 1) ≡ range_with_len 0 n ++ n ∷ []
 range-more n =

@@ -30,19 +30,6 @@ pub record HasLeaders (leaders ranks : List ℕ) : Type 0 where
 abbrev pub LeadsAlong : List Link → List ℕ → Type 0
 LeadsAlong links leaders = (x : ℕ) → x < length leaders → Connected links x (get_or leaders x 0)
 
--- two leaders aren't connected
-abbrev pub HasApartLeaders : List Link → List ℕ → Type 0
-HasApartLeaders links leaders =
-    (x y : ℕ) → x < length leaders → y < length leaders → get_or leaders x 0 ≡ x → get_or leaders y 0 ≡ y → Connected links x y → x ≡ y
-
--- each component of the links has one leader
-pub record HasComponents (count : ℕ) (links : List Link) (leaders ranks : List ℕ) : Type 0 where
-  pub size : length leaders ≡ count + 1
-  pub led : HasLeaders leaders ranks
-  pub low : (x : ℕ) → x < length leaders → get_or ranks x 0 ≤ length links
-  pub along : LeadsAlong links leaders
-  pub apart : HasApartLeaders links leaders
-
 -- the leaders once the one of lower rank follows the other
 abbrev pub joined_leaders : List ℕ → List ℕ → ℕ → ℕ → List ℕ
 joined_leaders leaders ranks a b =

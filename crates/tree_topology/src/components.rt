@@ -4,7 +4,7 @@ ghost use Rattle.std.specs.Prelude.{◌≡◌, ◌≢◌, ◌+◌, ◌<◌, ◌�
 ghost use Rattle.std.specs.List.{range_with_len};
 ghost use Rattle.tree_topology.specs.declared.graph.Link.{Link};
 ghost use Rattle.tree_topology.specs.Graph.{Connected, IsGraph};
-ghost use Rattle.tree_topology.specs.Tables.{HasLeaders, LeadsAlong, HasComponents, joined_leaders, joined_ranks};
+ghost use Rattle.tree_topology.specs.Tables.{HasLeaders, LeadsAlong, joined_leaders, joined_ranks};
 ghost use Rattle.tree_topology.specs.Refusal.{HasNoLoop, IsRefusal};
 
 use crate::graph::{Link, NodeKind, TreeErr};

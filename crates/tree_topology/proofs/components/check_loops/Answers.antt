@@ -1,6 +1,6 @@
 use Rattle.std.proofs.Common.{refl, ◌+◌, length, take, arith}
-use Rattle.tree_topology.specs.Tables.{HasComponents, joined_leaders, joined_ranks}
-use Rattle.tree_topology.proofs.ComponentSteps.{IsLoopFreeTo, components-start, components-as, loop-found, loop_free-step}
+use Rattle.tree_topology.specs.Tables.{joined_leaders, joined_ranks}
+use Rattle.tree_topology.proofs.ComponentSteps.{HasComponents, IsLoopFreeTo, components-start, components-as, loop-found, loop_free-step}
 use Rattle.tree_topology.proofs.components.check_loops.Goals as goal
 
 pub loop-i-init : goal.loop-i-init

@@ -1,6 +1,5 @@
 use Rattle.std.proofs.Common.{length, take}
-use Rattle.tree_topology.specs.Tables.{HasComponents}
-use Rattle.tree_topology.proofs.ComponentSteps.{IsLoopFreeTo}
+use Rattle.tree_topology.proofs.ComponentSteps.{HasComponents, IsLoopFreeTo}
 use Rattle.tree_topology.proofs.components.check_loops.Given as goal
 
 abbrev pub invariant-loop-i : goal.invariant-loop-i
