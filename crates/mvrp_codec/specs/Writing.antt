@@ -30,7 +30,7 @@ first_for (x ∷ xs) = two_octets x.1
 abbrev pub span_vector : Bool → List (MrpEvent × ℕ) → VectorAttr
 span_vector leave span = record { leave_all = leave; first = first_for span; events = map (λ x. x.0) span; params = [] }
 
--- the first vector has the LeaveAll
+-- the vectors of spans: the first has the LeaveAll, and stands alone where there is no span
 abbrev pub span_vectors : Bool → List (List (MrpEvent × ℕ)) → List VectorAttr
 span_vectors false [] = []
 span_vectors true [] = span_vector true [] ∷ []
@@ -52,7 +52,7 @@ one_message vs = record { version = 0; messages = record { kind = 1; vectors = v
 abbrev pub pdu_for : MvrpPdu → Pdu
 pdu_for read = one_message (span_vectors read.leave_all (spans read.events))
 
--- the octets in which it is written
+-- the octets in which a LeaveAll and events are written
 abbrev pub mvrp_spelling : MvrpPdu → List ℕ
 mvrp_spelling read = spelling Mvrp (pdu_for read)
 
@@ -67,7 +67,7 @@ span_len [] = 0
 span_len (x ∷ []) = 1
 span_len (x ∷ y ∷ ys) = if x.1 + 1 == y.1 then span_len (y ∷ ys) + 1 else 1
 
--- the numbers that VIDs have
+-- each event is of a number that a VID has
 abbrev pub AreVids : List (MrpEvent × ℕ) → Type 0
 AreVids events = AllByRecursion (λ x. (1 ≤ x.1) × (x.1 ≤ 4094)) events
 

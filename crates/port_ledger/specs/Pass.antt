@@ -64,11 +64,12 @@ abbrev pub rewanted : List Entry → Want → List Entry
 rewanted entries want =
     map (λ x. if stream_of x == want.stream.0 then entry_with x want else x) entries
 
--- whether this want is kept of its stream
+-- whether an entry, where there is one, has this want
 abbrev pub has_same : Option Entry → Want → Bool
 has_same None want = false
 has_same (Some x) want = same_want x.want want
 
+-- whether this want is kept of its stream
 abbrev pub has_want : List Entry → Want → Bool
 has_want entries want = has_same (entry_of entries want.stream) want
 
@@ -99,6 +100,6 @@ begins_with (y ∷ ys) x = same_entry x y
 abbrev pub slope_before : ℕ → Entry → Entry → ℕ
 slope_before now x y = if is_booked y then (if comes_after now x y then entry_slope y else 0) else 0
 
--- the same, where y is of rank 1 too
+-- the slope of y in bit/s, where it is of rank 1 and booked and precedes x, else 0
 abbrev pub normal_slope_before : ℕ → Entry → Entry → ℕ
 normal_slope_before now x y = if is_normal y then slope_before now x y else 0

@@ -29,6 +29,7 @@ IsPropagated tree test own =
 abbrev pub HasBehind : Topology → (ℕ → Bool) → EgressPort → Type 0
 HasBehind tree own p = (y : ℕ) × HasNode tree y × IsTrue (is_behind tree.links p y) × IsTrue (own y)
 
+-- each law of a tree and its ports
 pub record HasPortLaws (tree : Topology) : Type 0 where
   -- the port in the words of joined nodes exists and leads there, and each port is one
   pub joined_port : (x v : ℕ) → Joined tree.links x v → HasPort tree (port_to tree.links x v)

@@ -82,15 +82,18 @@ IsRefusal kinds links (TooManyLinks x) =
     IsTree (length kinds) links × HasLeafStations kinds links × IsFirstNode (HasTooManyLinks links) (length kinds) x.0
 IsRefusal kinds links NoMemory = Unit {0}
 
--- ---- the refusal as a function: the law `refusals` says that it is the one that fits
+-- ---- the refusal as a function: the law `refusals` says that it is the one that fits. A test of a link
+-- ---- sees the links before it, and a test of a node the nodes before it.
 
--- the tests of a link, seen with those before it
+-- a graph of so many nodes has a node of this number
 abbrev pub is_node : ℕ → ℕ → Bool
 is_node count x = nat_le 1 x && nat_le x count
 
+-- an end is no node
 abbrev pub has_unknown_end : ℕ → List Link → Link → Bool
 has_unknown_end count earlier l = not (is_node count l.a.0 && is_node count l.b.0)
 
+-- both ends are the same node
 abbrev pub is_self_link : List Link → Link → Bool
 is_self_link earlier l = l.a.0 == l.b.0
 
@@ -98,13 +101,15 @@ is_self_link earlier l = l.a.0 == l.b.0
 abbrev pub joins_both : ℕ → ℕ → Link → Bool
 joins_both x y l = l.a.0 == x && l.b.0 == y || l.a.0 == y && l.b.0 == x
 
+-- an earlier link joins the same two nodes
 abbrev pub is_second_link : List Link → Link → Bool
 is_second_link earlier l = list_any (joins_both l.a.0 l.b.0) earlier
 
+-- the earlier links connect the two ends
 abbrev pub closes_loop : List Link → Link → Bool
 closes_loop earlier l = component earlier l.a.0 == component earlier l.b.0
 
--- the tests of a node, which is the one behind so many earlier ones
+-- the node behind the earlier ones isn't connected with node 1
 abbrev pub is_unconnected : List Link → List NodeKind → NodeKind → Bool
 is_unconnected links earlier kind = not (component links 1 == component links (length earlier + 1))
 
@@ -113,9 +118,11 @@ abbrev pub is_station : NodeKind → Bool
 is_station Station = true
 is_station Bridge = false
 
+-- the node behind the earlier ones is a station that has no link or several
 abbrev pub is_stray_station : List Link → List NodeKind → NodeKind → Bool
 is_stray_station links earlier kind = is_station kind && not (length (neighbours links (length earlier + 1)) == 1)
 
+-- the node behind the earlier ones has more links than a port number can count
 abbrev pub has_too_many_links : List Link → List NodeKind → NodeKind → Bool
 has_too_many_links links earlier kind = nat_lt 255 (length (neighbours links (length earlier + 1)))
 

@@ -8,6 +8,7 @@ use Rattle.tree_topology.specs.Graph.{IsNode, Joined}
 use Rattle.tree_topology.specs.Refusal.{IsAccepted}
 use Rattle.tree_topology.specs.Walk.{path_between}
 
+-- the kinds and links of a tree, with the parent and the depth of each node at the place of its number
 pub record Routed : Type 0 where
   pub kinds : List NodeKind
   pub links : List Link

@@ -35,7 +35,7 @@ abbrev pub joined_leaders : List ℕ → List ℕ → ℕ → ℕ → List ℕ
 joined_leaders leaders ranks a b =
     if nat_lt (get_or ranks a 0) (get_or ranks b 0) then set leaders a b else set leaders b a
 
--- and the ranks
+-- the ranks once the one of lower rank follows the other: the other's rises where they were alike
 abbrev pub joined_ranks : List ℕ → ℕ → ℕ → List ℕ
 joined_ranks ranks a b =
     if nat_lt (get_or ranks a 0) (get_or ranks b 0) then ranks else set ranks a (max (get_or ranks a 0) (get_or ranks b 0 + 1))
