@@ -16,7 +16,7 @@ use Rattle.stream_importance.specs.declared.entry.Want.{Want}
 use Rattle.stream_importance.specs.declared.entry.Entry.{Entry}
 use Rattle.stream_importance.specs.Bandwidth.{cap_of}
 use Rattle.port_ledger.specs.Decision.{above, booked_of, does_fit}
-use Rattle.port_ledger.specs.Book.{Book, fit_for, is_normal, tested_as}
+use Rattle.port_ledger.specs.Book.{Book, fit_for, is_normal, tested_entry}
 use Rattle.msrp_talker.specs.declared.port_config.PortConfig.{PortConfig}
 use Rattle.msrp_talker.specs.TalkerOut.{class_of_priority, code_of, declared_of, delayed_by, refusal_of, talker_in, talker_out}
 use Rattle.mrp_participant.specs.State.{registered_at}
@@ -101,7 +101,7 @@ code_of_fit more cap false false = omega arith
 
 code_fits : (now : ℕ) (book : Book) (w : Want) → IsCodeIn (code_of (fit_for now book w))
 code_fits now book w =
-    let x : Entry = tested_as book.entries w in
+    let x : Entry = tested_entry book.entries w in
     let set : List Entry = booked_of book.entries in
     code_of_fit (above now x set) (cap_of book.caps x.want.class) (does_fit now book.caps set x) (is_normal x && does_fit now book.caps (filter is_normal set) x)
 

@@ -15,7 +15,7 @@ use Rattle.stream_importance.specs.declared.entry.Fit.{Fit}
 use Rattle.stream_importance.specs.declared.entry.Fit.TheVariants.{Fits, TooLittle}
 use Rattle.stream_importance.specs.Bandwidth.{cap_of}
 use Rattle.port_ledger.specs.Decision.{above, booked_of, does_fit}
-use Rattle.port_ledger.specs.Book.{Book, fit_for, tested_as, code_of}
+use Rattle.port_ledger.specs.Book.{Book, fit_for, tested_entry, code_of}
 use Rattle.tree_topology.specs.Topology.{HasNode}
 use Rattle.tree_topology.specs.Walk.{path_between}
 use Rattle.msrp_talker.specs.TalkerOut.{talker_in}
@@ -96,7 +96,7 @@ too-little p slope code (Some (TooLittle more cap given)) r h = by (given == cod
         }
 
 passes : (now : ℕ) (book : Book) (want : Want) (more cap code : ℕ) → fit_for now book want ≡ TooLittle more cap code → cap < more + want.slope
-passes now book want more cap code h = by (does_fit now book.caps (booked_of book.entries) (tested_as book.entries want)) refl
+passes now book want more cap code h = by (does_fit now book.caps (booked_of book.entries) (tested_entry book.entries want)) refl
   where
     more_in : Fit → ℕ
     more_in Fits = 0
@@ -106,12 +106,12 @@ passes now book want more cap code h = by (does_fit now book.caps (booked_of boo
     cap_in Fits = 0
     cap_in (TooLittle m c n) = c
 
-    by : (b : Bool) → does_fit now book.caps (booked_of book.entries) (tested_as book.entries want) ≡ b → cap < more + want.slope
+    by : (b : Bool) → does_fit now book.caps (booked_of book.entries) (tested_entry book.entries want) ≡ b → cap < more + want.slope
     by true e = let fits : fit_for now book want ≡ Fits = rw e refl in cc
     by false e =
-        let sum = above now (tested_as book.entries want) (booked_of book.entries) in
+        let sum = above now (tested_entry book.entries want) (booked_of book.entries) in
         let most = cap_of book.caps want.class in
-        let is : fit_for now book want ≡ TooLittle sum most (code_of now book.caps (booked_of book.entries) (tested_as book.entries want)) = rw e refl in
+        let is : fit_for now book want ≡ TooLittle sum most (code_of now book.caps (booked_of book.entries) (tested_entry book.entries want)) = rw e refl in
         let more_is : more ≡ sum = ap more_in (sym h ∙ is) in
         let cap_is : cap ≡ most = ap cap_in (sym h ∙ is) in
         let over : most < sum + want.slope = grind (arith, nat_tests, e) in

@@ -16,7 +16,7 @@ use Rattle.stream_importance.specs.declared.entry.Fit.{Fit}
 use Rattle.stream_importance.specs.declared.entry.Fit.TheVariants.{Fits, TooLittle}
 use Rattle.stream_importance.specs.Bandwidth.{cap_of}
 use Rattle.port_ledger.specs.Decision.{above, booked_of, does_fit}
-use Rattle.port_ledger.specs.Book.{Book, fit_for, tested_as, code_of}
+use Rattle.port_ledger.specs.Book.{Book, fit_for, tested_entry, code_of}
 use Rattle.tree_topology.specs.Topology.{HasNode, HasPort}
 use Rattle.tree_topology.specs.Ports.{neighbours, peer_of, far_node, LiesBehind, IsPortPath}
 use Rattle.tree_topology.specs.Walk.{is_behind, path_between}
@@ -121,16 +121,16 @@ failure-parts (Failed u g) f h = by (g.code == 1) (g.code == 6) refl refl
 
 -- what too little means
 pushed-out : (now : ℕ) (book : Book) (want : Want) (more cap code : ℕ) → fit_for now book want ≡ TooLittle more cap code → IsPushedOut now book want code
-pushed-out now book want more cap code h = by (does_fit now book.caps (booked_of book.entries) (tested_as book.entries want)) refl
+pushed-out now book want more cap code h = by (does_fit now book.caps (booked_of book.entries) (tested_entry book.entries want)) refl
   where
     code_in : Fit → ℕ
     code_in Fits = 0
     code_in (TooLittle m c n) = n
 
-    by : (b : Bool) → does_fit now book.caps (booked_of book.entries) (tested_as book.entries want) ≡ b → IsPushedOut now book want code
+    by : (b : Bool) → does_fit now book.caps (booked_of book.entries) (tested_entry book.entries want) ≡ b → IsPushedOut now book want code
     by true e = let fits : fit_for now book want ≡ Fits = rw e refl in cc
     by false e =
-        let not_ : fit_for now book want ≡ TooLittle (above now (tested_as book.entries want) (booked_of book.entries)) (cap_of book.caps want.class) (code_of now book.caps (booked_of book.entries) (tested_as book.entries want)) = rw e refl in
+        let not_ : fit_for now book want ≡ TooLittle (above now (tested_entry book.entries want) (booked_of book.entries)) (cap_of book.caps want.class) (code_of now book.caps (booked_of book.entries) (tested_entry book.entries want)) = rw e refl in
         record { passes = grind (arith, nat_tests, e); code_is = ap code_in (sym h ∙ not_) }
 
 -- the failure of what stands at a station's port, or at a node

@@ -17,7 +17,7 @@ use Rattle.stream_importance.specs.declared.entry.Want.{Want}
 use Rattle.stream_importance.specs.declared.entry.Fit.{Fit}
 use Rattle.stream_importance.specs.declared.entry.Fit.TheVariants.{Fits, TooLittle}
 use Rattle.port_ledger.specs.Decision.{above, booked_of}
-use Rattle.port_ledger.specs.Book.{Book, tested_as, code_of}
+use Rattle.port_ledger.specs.Book.{Book, tested_entry, code_of}
 use Rattle.tree_topology.specs.Topology.{HasNode, HasPort}
 use Rattle.tree_topology.specs.Ports.{LiesBehind, IsPortPath}
 use Rattle.tree_topology.specs.Walk.{path_between}
@@ -154,8 +154,8 @@ want_at w stream t =
 -- with its own slope pass its cap, and that gives this code.
 pub record IsPushedOut (now : ℕ) (book : Book) (want : Want) (code : ℕ) : Type 0 where
   pub passes : cap_of book.caps want.class
-      < above now (tested_as book.entries want) (booked_of book.entries) + want.slope
-  pub code_is : code ≡ code_of now book.caps (booked_of book.entries) (tested_as book.entries want)
+      < above now (tested_entry book.entries want) (booked_of book.entries) + want.slope
+  pub code_is : code ≡ code_of now book.caps (booked_of book.entries) (tested_entry book.entries want)
 
 -- at a port of the node with the failure's BridgeID, bookings leave no place for what station t asks
 pub record IsRefusedAt (w : WorldState) (stream : StreamId) (t : ℕ) (failure : Failure) (p : EgressPort) : Type 0 where

@@ -17,7 +17,7 @@ use Rattle.stream_importance.specs.declared.entry.Entry.{Entry}
 use Rattle.stream_importance.specs.declared.entry.Want.{Want}
 use Rattle.stream_importance.specs.Importance.{class_number, rank_number}
 use Rattle.port_ledger.specs.Decision.{stream_of, IsAscending}
-use Rattle.port_ledger.specs.Book.{entry_with, unbooked, with_want, same_want, same_since, same_entry}
+use Rattle.port_ledger.specs.Book.{entry_with, unbooked_entry, with_want, same_want, same_since, same_entry}
 
 -- of two places the earlier has the lower StreamID
 pub ascending_at : (xs : List Entry) → IsAscending xs → (i j : ℕ) (d : Entry) → i < j → j < length xs
@@ -78,7 +78,7 @@ missing_is xs stream i low high =
 
 -- the first place of a list with a want, by how its StreamID compares
 pub with_want-lower : (x : Entry) (xs : List Entry) (want : Want) → want.stream.0 < stream_of x
-    → with_want (x ∷ xs) want ≡ unbooked want ∷ x ∷ xs
+    → with_want (x ∷ xs) want ≡ unbooked_entry want ∷ x ∷ xs
 with_want-lower x xs want l = cond-true (nat_lt want.stream.0 (stream_of x)) _ _ (lt-ltb want.stream.0 (stream_of x) l)
 
 pub with_want-same : (x : Entry) (xs : List Entry) (want : Want) → stream_of x ≡ want.stream.0
@@ -106,7 +106,7 @@ with_want-found (x ∷ xs) want (suc i) d up l e =
 pub with_want-missing : (xs : List Entry) (want : Want) (i : ℕ) → i ≤ length xs
     → AllWithin (λ x. stream_of x < want.stream.0) xs 0 i
     → AllWithin (λ x. want.stream.0 < stream_of x) xs i (length xs)
-    → take i xs ++ unbooked want ∷ drop i xs ≡ with_want xs want
+    → take i xs ++ unbooked_entry want ∷ drop i xs ≡ with_want xs want
 with_want-missing [] want zero l low high = refl
 with_want-missing [] want (suc i) l low high = absurd (omega (arith, l))
 with_want-missing (x ∷ xs) want zero l low high = sym (with_want-lower x xs want (high 0 x (omega arith) (omega arith)))

@@ -14,7 +14,7 @@ use Rattle.stream_importance.specs.declared.slope.Caps.{Caps}
 use Rattle.stream_importance.specs.Bandwidth.{cap_of}
 use Rattle.stream_importance.specs.Importance.{class_number, rank_number, moment_or}
 use Rattle.port_ledger.specs.Decision.{stream_of, entry_slope, above, booked_of, does_fit, is_booked, comes_after, IsAscending}
-use Rattle.port_ledger.specs.Book.{Book, IsKept, code_of, entry_of, fit_for, fit_in, has_new_booking, is_normal, is_since, since_if_same, since_of, same_want, tested_as}
+use Rattle.port_ledger.specs.Book.{Book, IsKept, code_of, entry_of, fit_for, fit_in, has_new_booking, is_normal, is_since, since_if_same, since_of, same_want, tested_entry}
 use Rattle.port_ledger.specs.Pass.{normal_slope_before, slope_before}
 use Rattle.port_ledger.proofs.Comparing.{all_booked}
 use Rattle.port_ledger.proofs.Rounds.{filter_agree}
@@ -71,8 +71,8 @@ pub fits_by_bookings : (book other : Book) (now : ℕ) (want : Want) → IsAscen
 fits_by_bookings book other now want up down caps same =
     let since : tested_since want (entry_of book.entries want.stream) ≡ tested_since want (entry_of other.entries want.stream) =
     tested_booked want book.entries up ∙ (ap (λ es. tested_since want (entry_of es want.stream)) same ∙ sym (tested_booked want other.entries down)) in
-    ap (λ (c : Caps). fit_in now c (booked_of book.entries) (tested_as book.entries want)) caps
-    ∙ (ap (λ set. fit_in now other.caps set (tested_as book.entries want)) same
+    ap (λ (c : Caps). fit_in now c (booked_of book.entries) (tested_entry book.entries want)) caps
+    ∙ (ap (λ set. fit_in now other.caps set (tested_entry book.entries want)) same
     ∙ ap (λ s. fit_in now other.caps (booked_of other.entries) (record { want = want; since = s })) since)
 
 -- booked before a moment
@@ -137,7 +137,7 @@ fits_by_clock book now want kept up none =
       | inl e ↦ ap (λ n. fit_for n book want) (sym e)
       | inr c ↦ elim c [
         | inl l ↦
-            same_fit book.moment now book.caps (booked_of book.entries) (tested_as book.entries want) up
+            same_fit book.moment now book.caps (booked_of book.entries) (tested_entry book.entries want) up
             (all_before book.moment book.entries kept.moments (sym (ap (λ v. v && has_new_booking book) (lt-ltb book.moment now l)) ∙ none))
         | inr l ↦ absurd (omega (arith, l, up))
       ]

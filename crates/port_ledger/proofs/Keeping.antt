@@ -9,8 +9,8 @@ use Rattle.stream_importance.specs.declared.entry.Fit.{Fit}
 use Rattle.stream_importance.specs.declared.entry.Want.{Want}
 use Rattle.stream_importance.specs.declared.slope.Caps.{Caps}
 use Rattle.stream_importance.specs.Importance.{moment_or, IsImportanceOrder}
-use Rattle.port_ledger.specs.Decision.{booked_of, stream_of, IsAscending, decided, Decides, marks_of, with_moments, since_after}
-use Rattle.port_ledger.specs.Book.{Book, IsKept, clocked_book, fit_in, tested_as, same_want, unbooked, unwanted_book, wanted_book, entry_with, with_want, without}
+use Rattle.port_ledger.specs.Decision.{booked_of, stream_of, IsAscending, decided_entries, Decides, marks_of, with_moments, since_after}
+use Rattle.port_ledger.specs.Book.{Book, IsKept, clocked_book, fit_in, tested_entry, same_want, unbooked_entry, unwanted_book, wanted_book, entry_with, with_want, without}
 use Rattle.port_ledger.proofs.Running.{all_with}
 use Rattle.port_ledger.proofs.Finding.{with_want-lower, with_want-same, with_want-higher}
 use Rattle.port_ledger.proofs.Marking.{different_from_ascending}
@@ -29,7 +29,7 @@ pub moments_later : (moment now : ℕ) (xs : List Entry) → moment ≤ now
 moments_later moment now xs up h = all_with xs h h (λ x k _. moment_later x.since moment now up k)
 
 -- a fact of each entry, with a want
-all-with_want : (P : Entry → Type 0) (want : Want) (xs : List Entry) → P (unbooked want)
+all-with_want : (P : Entry → Type 0) (want : Want) (xs : List Entry) → P (unbooked_entry want)
     → ((x : Entry) → stream_of x ≡ want.stream.0 → P x → P (entry_with x want)) → AllByRecursion P xs
     → AllByRecursion P (with_want xs want)
 all-with_want P want [] new more h = (new, tt)
@@ -45,7 +45,7 @@ all-with_want P want (x ∷ xs) new more h =
 stream_of-entry_with : (x : Entry) (want : Want) → stream_of x ≡ want.stream.0
     → stream_of (entry_with x want) ≡ stream_of x
 stream_of-entry_with x want e =
-    elim (same_want x.want want) as (λ v. stream_of (cond v x (unbooked want)) ≡ stream_of x) [ true ↦ refl | false ↦ sym e ]
+    elim (same_want x.want want) as (λ v. stream_of (cond v x (unbooked_entry want)) ≡ stream_of x) [ true ↦ refl | false ↦ sym e ]
 
 pub ascending-with_want : (want : Want) (xs : List Entry) → IsAscending xs → IsAscending (with_want xs want)
 ascending-with_want want [] up = (tt, tt)
@@ -65,7 +65,7 @@ ascending-with_want want (x ∷ xs) up =
 moment-entry_with : (now : ℕ) (x : Entry) (want : Want) → moment_or now x.since ≤ now
     → moment_or now (entry_with x want).since ≤ now
 moment-entry_with now x want h =
-    elim (same_want x.want want) as (λ v. moment_or now (cond v x (unbooked want)).since ≤ now) [ true ↦ h | false ↦ omega arith ]
+    elim (same_want x.want want) as (λ v. moment_or now (cond v x (unbooked_entry want)).since ≤ now) [ true ↦ h | false ↦ omega arith ]
 
 pub moments-with_want : (now : ℕ) (want : Want) (xs : List Entry)
     → AllByRecursion (λ x. moment_or now x.since ≤ now) xs
@@ -119,10 +119,10 @@ kept_with_want book now want after kept up d =
     (moments-with_want now want book.entries (moments_later book.moment now book.entries up kept.moments)) d
 
 -- a want is tested against the entries that the book has
-pub fit_in_book : (now moment : ℕ) (caps : Caps) (entries one two : List Entry) (want : Want) (x : Entry) (fit : Fit) (book : Book) → fit ≡ fit_in now caps (booked_of two) x → x ≡ tested_as one want → one ≡ entries → two ≡ entries → record { caps = caps; moment = moment; entries = entries } ≡ book → fit ≡ fit_in now book.caps (booked_of book.entries) (tested_as book.entries want)
+pub fit_in_book : (now moment : ℕ) (caps : Caps) (entries one two : List Entry) (want : Want) (x : Entry) (fit : Fit) (book : Book) → fit ≡ fit_in now caps (booked_of two) x → x ≡ tested_entry one want → one ≡ entries → two ≡ entries → record { caps = caps; moment = moment; entries = entries } ≡ book → fit ≡ fit_in now book.caps (booked_of book.entries) (tested_entry book.entries want)
 fit_in_book now moment caps entries one two want x fit book e tested first second same =
-    subst (λ (b : Book). fit ≡ fit_in now b.caps (booked_of b.entries) (tested_as b.entries want)) same
-    (e ∙ (ap (λ ys. fit_in now caps (booked_of ys) x) second ∙ ap (λ y. fit_in now caps (booked_of entries) y) (tested ∙ ap (λ ys. tested_as ys want) first)))
+    subst (λ (b : Book). fit ≡ fit_in now b.caps (booked_of b.entries) (tested_entry b.entries want)) same
+    (e ∙ (ap (λ ys. fit_in now caps (booked_of ys) x) second ∙ ap (λ y. fit_in now caps (booked_of entries) y) (tested ∙ ap (λ ys. tested_entry ys want) first)))
 
 -- what is taken out leaves the others as they were
 all-without : (P : Entry → Type 0) (stream : StreamId) (xs : List Entry) → AllByRecursion P xs
@@ -146,13 +146,13 @@ ascending-without stream (x ∷ xs) up =
 pub kept_wanted : (book : Book) (now : ℕ) (want : Want) → IsImportanceOrder now → IsKept book → book.moment ≤ now
     → IsKept (wanted_book now want book)
 kept_wanted book now want o kept up =
-    kept_with_want book now want (decided now book.caps (with_want book.entries want)) kept up
+    kept_with_want book now want (decided_entries now book.caps (with_want book.entries want)) kept up
     (decided_decides now o book.caps (with_want book.entries want) (different_from_ascending _ (ascending-with_want want book.entries kept.ascending)))
 
 pub kept_unwanted : (book : Book) (now : ℕ) (stream : StreamId) → IsImportanceOrder now → IsKept book
     → book.moment ≤ now → IsKept (unwanted_book now stream book)
 kept_unwanted book now stream o kept up =
-    kept_after book.caps now (without book.entries stream) (decided now book.caps (without book.entries stream)) kept.shares
+    kept_after book.caps now (without book.entries stream) (decided_entries now book.caps (without book.entries stream)) kept.shares
     (ascending-without stream book.entries kept.ascending)
     (all-without (λ x. moment_or now x.since ≤ now) stream book.entries (moments_later book.moment now book.entries up kept.moments))
     (decided_decides now o book.caps (without book.entries stream) (different_from_ascending _ (ascending-without stream book.entries kept.ascending)))
@@ -167,8 +167,8 @@ kept_clocked book now kept up =
     }
 
 pub ascending_wanted : (now : ℕ) (caps : Caps) (xs : List Entry) (want : Want) → IsImportanceOrder now → IsAscending xs
-    → IsAscending (decided now caps (with_want xs want))
+    → IsAscending (decided_entries now caps (with_want xs want))
 ascending_wanted now caps xs want o up =
     let next : IsAscending (with_want xs want) = ascending-with_want want xs up in
-    ascending_after now caps (with_want xs want) (decided now caps (with_want xs want)) next
+    ascending_after now caps (with_want xs want) (decided_entries now caps (with_want xs want)) next
     (decided_decides now o caps (with_want xs want) (different_from_ascending _ next))

@@ -8,7 +8,7 @@ use Rattle.srp_base.specs.declared.numbers.StreamId.{StreamId}
 use Rattle.stream_importance.specs.declared.entry.Entry.{Entry}
 use Rattle.port_ledger.specs.Decision.{stream_of, is_booked, IsAscending}
 use Rattle.port_ledger.specs.Book.{booked_only_in, same_entry}
-use Rattle.port_ledger.specs.Pass.{begins_with, from_stream, booked_stream, noted_below}
+use Rattle.port_ledger.specs.Pass.{begins_with, from_stream, booked_stream, booked_streams_below}
 use Rattle.port_ledger.proofs.Comparing.{only_in}
 use Rattle.port_ledger.proofs.Finding.{differ, others_differ}
 use Rattle.port_ledger.proofs.PerStream.{same_entry-is, same_entry-refl}
@@ -97,7 +97,7 @@ head-shared x xs ys up =
 
 -- the entries of a list that are below a stream, where those aren't
 below-noted : (s : StreamId) (ys xs : List Entry) → AllByRecursion (λ x. s.0 ≤ stream_of x) xs
-    → booked_only_in ys xs ≡ noted_below ys s ++ booked_only_in (from_stream ys s) xs
+    → booked_only_in ys xs ≡ booked_streams_below ys s ++ booked_only_in (from_stream ys s) xs
 below-noted s [] xs l = refl
 below-noted s (y ∷ ys) xs l =
     elim (cases_Bool (nat_lt (stream_of y) s.0)) [
@@ -105,9 +105,9 @@ below-noted s (y ∷ ys) xs l =
           (let under : stream_of y < s.0 = ltb-true (stream_of y) s.0 h in
           head-noted y ys xs (others_differ y xs (all_with xs l l (λ z k _. omega (arith, k, under))))
           ∙ (ap (λ zs. booked_stream y ++ zs) (below-noted s ys xs l)
-          ∙ (sym (append_assoc (booked_stream y) (noted_below ys s) (booked_only_in (from_stream ys s) xs))
-          ∙ ap (λ v. cond v (booked_stream y ++ noted_below ys s) [] ++ booked_only_in (cond v (from_stream ys s) (y ∷ ys)) xs) (sym h))))
-      | inr h ↦ ap (λ v. cond v (booked_stream y ++ noted_below ys s) [] ++ booked_only_in (cond v (from_stream ys s) (y ∷ ys)) xs) (sym h)
+          ∙ (sym (append_assoc (booked_stream y) (booked_streams_below ys s) (booked_only_in (from_stream ys s) xs))
+          ∙ ap (λ v. cond v (booked_stream y ++ booked_streams_below ys s) [] ++ booked_only_in (cond v (from_stream ys s) (y ∷ ys)) xs) (sym h))))
+      | inr h ↦ ap (λ v. cond v (booked_stream y ++ booked_streams_below ys s) [] ++ booked_only_in (cond v (from_stream ys s) (y ∷ ys)) xs) (sym h)
     ]
 
 none-same : (x : Entry) (ys : List Entry) → list_any (same_entry x) ys ≡ false → AllByRecursion (λ y. same_entry y x ≡ false) ys
@@ -161,12 +161,12 @@ module _ (before after : List Entry) (i : ℕ) (x d : Entry) (booked dropped : L
       ∙ ap (λ zs. booked ++ map (λ (y : Entry). y.want.stream) zs) (sym (only_from x.want.stream (x ∷ drop (i + 1) after) rest above))
       ∙ ap (λ ys. booked ++ booked_only_in (x ∷ drop (i + 1) after) ys) (sym is)
 
-  old_before : (later : List StreamId) → later ≡ dropped ++ noted_below rest x.want.stream → booked_only_in before after ≡ later ++ booked_only_in next (x ∷ drop (i + 1) after)
+  old_before : (later : List StreamId) → later ≡ dropped ++ booked_streams_below rest x.want.stream → booked_only_in before after ≡ later ++ booked_only_in next (x ∷ drop (i + 1) after)
   old_before later e =
       h.old
       ∙ ap (λ zs. dropped ++ booked_only_in rest zs) left_is
       ∙ ap (λ zs. dropped ++ zs) (below-noted x.want.stream rest (x ∷ drop (i + 1) after) above)
-      ∙ sym (append_assoc dropped (noted_below rest x.want.stream) (booked_only_in (from_stream rest x.want.stream) (x ∷ drop (i + 1) after)))
+      ∙ sym (append_assoc dropped (booked_streams_below rest x.want.stream) (booked_only_in (from_stream rest x.want.stream) (x ∷ drop (i + 1) after)))
       ∙ ap (λ zs. zs ++ booked_only_in (from_stream rest x.want.stream) (x ∷ drop (i + 1) after)) (sym e)
       ∙ ap (λ ys. later ++ booked_only_in ys (x ∷ drop (i + 1) after)) (sym is)
 
@@ -174,7 +174,7 @@ module _ (before after : List Entry) (i : ℕ) (x d : Entry) (booked dropped : L
   any_is = subst (λ (ys : List Entry). list_any (same_entry x) ys ≡ begins_with ys x) (sym is) (first_found x rest h.down)
 
   -- x isn't first in what is left, so it is in none of it
-  pub walk-notes : (later more : List StreamId) → later ≡ dropped ++ noted_below rest x.want.stream → more ≡ booked ++ booked_stream x → begins_with next x ≡ false → WalksBoth before after (i + 1) more later next
+  pub walk-notes : (later more : List StreamId) → later ≡ dropped ++ booked_streams_below rest x.want.stream → more ≡ booked ++ booked_stream x → begins_with next x ≡ false → WalksBoth before after (i + 1) more later next
   walk-notes later more e m none = record {
     new =
         new_before
@@ -186,7 +186,7 @@ module _ (before after : List Entry) (i : ℕ) (x d : Entry) (booked dropped : L
     down = goes_down;
   }
 
-  shared_by : (later : List StreamId) (ys tail : List Entry) → next ≡ ys → begins_with ys x ≡ true → tail ≡ drop 1 ys → later ≡ dropped ++ noted_below rest x.want.stream → WalksBoth before after (i + 1) booked later tail
+  shared_by : (later : List StreamId) (ys tail : List Entry) → next ≡ ys → begins_with ys x ≡ true → tail ≡ drop 1 ys → later ≡ dropped ++ booked_streams_below rest x.want.stream → WalksBoth before after (i + 1) booked later tail
   shared_by later [] tail n first t e = cc
   shared_by later (y ∷ ys) tail n first t e =
       let one : next ≡ x ∷ ys = n ∙ ap (λ z. z ∷ ys) (sym (same_entry-is x y first)) in
@@ -200,7 +200,7 @@ module _ (before after : List Entry) (i : ℕ) (x d : Entry) (booked dropped : L
       })
 
   -- both lists have x
-  pub walk-shares : (later : List StreamId) (tail : List Entry) → begins_with next x ≡ true → tail ≡ drop 1 next → later ≡ dropped ++ noted_below rest x.want.stream → WalksBoth before after (i + 1) booked later tail
+  pub walk-shares : (later : List StreamId) (tail : List Entry) → begins_with next x ≡ true → tail ≡ drop 1 next → later ≡ dropped ++ booked_streams_below rest x.want.stream → WalksBoth before after (i + 1) booked later tail
   walk-shares later tail first t e = shared_by later next tail refl first t e
 
 -- what begins with an entry isn't empty

@@ -10,8 +10,8 @@ use Rattle.srp_base.specs.declared.numbers.StreamId.{StreamId}
 use Rattle.stream_importance.specs.declared.entry.Entry.{Entry}
 use Rattle.stream_importance.specs.declared.entry.Want.{Want}
 use Rattle.port_ledger.specs.Decision.{stream_of, IsAscending}
-use Rattle.port_ledger.specs.Book.{entry_of, entry_with, same_entry, unbooked, with_want, without}
-use Rattle.port_ledger.specs.Pass.{order_with, rewanted}
+use Rattle.port_ledger.specs.Book.{entry_of, entry_with, same_entry, unbooked_entry, with_want, without}
+use Rattle.port_ledger.specs.Pass.{order_with, with_want_in_place}
 use Rattle.port_ledger.proofs.Finding.{with_want-higher, with_want-lower, with_want-same}
 use Rattle.port_ledger.proofs.PerStream.{same_entry-is, same_entry-refl}
 use Rattle.port_ledger.proofs.Running.{all_with}
@@ -81,28 +81,28 @@ pub without_permuted : (es order : List Entry) (stream : StreamId) → IsPermuta
 without_permuted es order stream p = filter_permuted (λ x. not (stream_of x == stream.0)) es order p
 
 -- a want that no entry is of is added
-none_rewanted : (want : Want) (xs : List Entry) → AllByRecursion (λ y. want.stream.0 < stream_of y) xs → rewanted xs want ≡ xs
-none_rewanted want [] h = refl
-none_rewanted want (x ∷ xs) h =
-    ap (λ v. cond v (entry_with x want) x ∷ rewanted xs want) (ne_eqb (stream_of x) want.stream.0 (λ e. let l : want.stream.0 < stream_of x = h.0 in omega (arith, e, l)))
-    ∙ ap (λ ys. x ∷ ys) (none_rewanted want xs h.1)
+none_in_place : (want : Want) (xs : List Entry) → AllByRecursion (λ y. want.stream.0 < stream_of y) xs → with_want_in_place xs want ≡ xs
+none_in_place want [] h = refl
+none_in_place want (x ∷ xs) h =
+    ap (λ v. cond v (entry_with x want) x ∷ with_want_in_place xs want) (ne_eqb (stream_of x) want.stream.0 (λ e. let l : want.stream.0 < stream_of x = h.0 in omega (arith, e, l)))
+    ∙ ap (λ ys. x ∷ ys) (none_in_place want xs h.1)
 
 pub with_want-known : (want : Want) (xs : List Entry) (e : Entry) → IsAscending xs → entry_of xs want.stream ≡ Some e
-    → with_want xs want ≡ rewanted xs want
+    → with_want xs want ≡ with_want_in_place xs want
 with_want-known want [] e up h = cc
 with_want-known want (x ∷ xs) e up h =
     elim (cases_order want.stream.0 (stream_of x)) [
       | inl same ↦
           with_want-same x xs want (sym same)
-          ∙ (ap (λ ys. entry_with x want ∷ ys) (sym (none_rewanted want xs (subst (λ (n : ℕ). AllByRecursion (λ y. n < stream_of y) xs) (sym same) up.0)))
-          ∙ ap (λ v. cond v (entry_with x want) x ∷ rewanted xs want) (sym (eq-eqb (stream_of x) want.stream.0 (sym same))))
+          ∙ (ap (λ ys. entry_with x want ∷ ys) (sym (none_in_place want xs (subst (λ (n : ℕ). AllByRecursion (λ y. n < stream_of y) xs) (sym same) up.0)))
+          ∙ ap (λ v. cond v (entry_with x want) x ∷ with_want_in_place xs want) (sym (eq-eqb (stream_of x) want.stream.0 (sym same))))
       | inr c ↦ elim c [
         | inl lower ↦ absurd (let none : entry_of (x ∷ xs) want.stream ≡ None = none_of want.stream (x ∷ xs) (lower, all_with xs up.0 up.0 (λ y l _. omega (arith, l, lower))) in cc)
         | inr higher ↦
             (let past : stream_of x == want.stream.0 ≡ false = ne_eqb (stream_of x) want.stream.0 (λ f. omega (arith, f, higher)) in
             with_want-higher x xs want higher
             ∙ (ap (λ ys. x ∷ ys) (with_want-known want xs e up.1 (sym (ap (λ v. cond v (Some x) (entry_of xs want.stream)) past) ∙ h))
-            ∙ ap (λ v. cond v (entry_with x want) x ∷ rewanted xs want) (sym past)))
+            ∙ ap (λ v. cond v (entry_with x want) x ∷ with_want_in_place xs want) (sym past)))
       ]
     ]
   where
@@ -112,20 +112,20 @@ with_want-known want (x ∷ xs) e up h =
         ap (λ v. cond v (Some y) (entry_of ys s)) (ne_eqb (stream_of y) s.0 (λ f. let l : s.0 < stream_of y = k.0 in omega (arith, f, l))) ∙ none_of s ys k.1
 
 with_want-new : (want : Want) (xs : List Entry) → entry_of xs want.stream ≡ None
-    → IsPermutation (unbooked want ∷ xs) (with_want xs want)
-with_want-new want [] h = IsPermutation-refl (unbooked want ∷ [])
+    → IsPermutation (unbooked_entry want ∷ xs) (with_want xs want)
+with_want-new want [] h = IsPermutation-refl (unbooked_entry want ∷ [])
 with_want-new want (x ∷ xs) h =
     elim (cases_order want.stream.0 (stream_of x)) [
       | inl same ↦ absurd (let found : entry_of (x ∷ xs) want.stream ≡ Some x = ap (λ v. cond v (Some x) (entry_of xs want.stream)) (eq-eqb (stream_of x) want.stream.0 (sym same)) in cc)
       | inr c ↦ elim c [
-        | inl lower ↦ subst (λ (ys : List Entry). IsPermutation (unbooked want ∷ x ∷ xs) ys) (sym (with_want-lower x xs want lower)) (IsPermutation-refl (unbooked want ∷ x ∷ xs))
+        | inl lower ↦ subst (λ (ys : List Entry). IsPermutation (unbooked_entry want ∷ x ∷ xs) ys) (sym (with_want-lower x xs want lower)) (IsPermutation-refl (unbooked_entry want ∷ x ∷ xs))
         | inr higher ↦
             (let past : stream_of x == want.stream.0 ≡ false = ne_eqb (stream_of x) want.stream.0 (λ f. omega (arith, f, higher)) in
             let rest : entry_of xs want.stream ≡ None = sym (ap (λ v. cond v (Some x) (entry_of xs want.stream)) past) ∙ h in
-            subst (λ (ys : List Entry). IsPermutation (unbooked want ∷ x ∷ xs) ys) (sym (with_want-higher x xs want higher))
-            (IsPermutation-trans (unbooked want ∷ x ∷ xs) (x ∷ unbooked want ∷ xs) (x ∷ with_want xs want)
-            (IsPermutation-swap (unbooked want ∷ x ∷ xs) (x ∷ unbooked want ∷ xs) 0 1 (omega arith) (omega arith) refl)
-            (IsPermutation-cons x (unbooked want ∷ xs) (with_want xs want) (with_want-new want xs rest))))
+            subst (λ (ys : List Entry). IsPermutation (unbooked_entry want ∷ x ∷ xs) ys) (sym (with_want-higher x xs want higher))
+            (IsPermutation-trans (unbooked_entry want ∷ x ∷ xs) (x ∷ unbooked_entry want ∷ xs) (x ∷ with_want xs want)
+            (IsPermutation-swap (unbooked_entry want ∷ x ∷ xs) (x ∷ unbooked_entry want ∷ xs) 0 1 (omega arith) (omega arith) refl)
+            (IsPermutation-cons x (unbooked_entry want ∷ xs) (with_want xs want) (with_want-new want xs rest))))
       ]
     ]
 
@@ -137,11 +137,11 @@ order_with_permuted es order want known up p h =
   where
     by_entry : (o : Option Entry) → entry_of es want.stream ≡ o → IsPermutation (with_want es want) (order_with order want (is_some o))
     by_entry None e =
-        IsPermutation-trans (with_want es want) (unbooked want ∷ es) (order ++ unbooked want ∷ [])
-        (IsPermutation-sym (unbooked want ∷ es) (with_want es want) (with_want-new want es e))
-        (IsPermutation-trans (unbooked want ∷ es) (unbooked want ∷ order) (order ++ unbooked want ∷ [])
-        (IsPermutation-cons (unbooked want) es order p)
-        (IsPermutation-sym (order ++ unbooked want ∷ []) (unbooked want ∷ order) (IsPermutation-to_front order (unbooked want))))
+        IsPermutation-trans (with_want es want) (unbooked_entry want ∷ es) (order ++ unbooked_entry want ∷ [])
+        (IsPermutation-sym (unbooked_entry want ∷ es) (with_want es want) (with_want-new want es e))
+        (IsPermutation-trans (unbooked_entry want ∷ es) (unbooked_entry want ∷ order) (order ++ unbooked_entry want ∷ [])
+        (IsPermutation-cons (unbooked_entry want) es order p)
+        (IsPermutation-sym (order ++ unbooked_entry want ∷ []) (unbooked_entry want ∷ order) (IsPermutation-to_front order (unbooked_entry want))))
     by_entry (Some x) e =
-        subst (λ (ys : List Entry). IsPermutation ys (rewanted order want)) (sym (with_want-known want es x up e))
+        subst (λ (ys : List Entry). IsPermutation ys (with_want_in_place order want)) (sym (with_want-known want es x up e))
         (IsPermutation-map (λ (y : Entry). cond (stream_of y == want.stream.0) (entry_with y want) y) es order p)

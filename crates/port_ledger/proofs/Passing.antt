@@ -9,8 +9,8 @@ use Rattle.srp_base.specs.declared.numbers.Cs.{Cs}
 use Rattle.stream_importance.specs.declared.entry.Entry.{Entry}
 use Rattle.stream_importance.specs.declared.slope.Caps.{Caps}
 use Rattle.stream_importance.specs.Importance.{IsImportanceOrder}
-use Rattle.port_ledger.specs.Decision.{stream_of, entry_slope, with_moments, since_after, decided, IsAscending, AreOfDifferentStreams}
-use Rattle.port_ledger.specs.Pass.{importance_order, has_room, sum_with, entries_passed, passed_in, with_since, IsOnlyIn}
+use Rattle.port_ledger.specs.Decision.{stream_of, entry_slope, with_moments, since_after, decided_entries, IsAscending, AreOfDifferentStreams}
+use Rattle.port_ledger.specs.Pass.{importance_order, has_room, sum_with, entries_passed, with_pass, with_since, IsOnlyIn}
 use Rattle.port_ledger.proofs.Running.{Holds, Runs, all_with, holds_from_runs}
 use Rattle.port_ledger.proofs.Ranking.{IsPermutation-ranked, ranked_is_ranked, holds_permuted, all_permuted, different_permuted}
 use Rattle.port_ledger.proofs.LettingIn.{is_among, streams_let_in, taken_runs}
@@ -94,13 +94,13 @@ only-with_since (e ∷ es) x y since ne only = (by_test (stream_of e == stream_o
     by_test true h same = absurd (ne (sym (eqb-true (stream_of e) (stream_of x) h) ∙ same))
     by_test false h same = only.0 same
 
-pub passed_in_is : (now : ℕ) (caps : Caps) (sum : ℕ) (b : Entry → Bool) (xs es : List Entry) → Runs caps sum b xs
+pub with_pass_is : (now : ℕ) (caps : Caps) (sum : ℕ) (b : Entry → Bool) (xs es : List Entry) → Runs caps sum b xs
     → AreOfDifferentStreams xs → AllByRecursion (IsOnlyIn es) xs
-    → passed_in now caps sum xs es ≡ map (settled_in now b xs) es
-passed_in_is now caps sum b [] es runs different only = map_own es
-passed_in_is now caps sum b (x ∷ xs) es runs different only =
-    ap (λ v. passed_in now caps (sum_with sum x (has_room caps sum x)) xs (with_since es x (since_after now x.since v))) (sym runs.0)
-    ∙ (passed_in_is now caps (sum_with sum x (has_room caps sum x)) b xs (with_since es x (since_after now x.since (b x)))
+    → with_pass now caps sum xs es ≡ map (settled_in now b xs) es
+with_pass_is now caps sum b [] es runs different only = map_own es
+with_pass_is now caps sum b (x ∷ xs) es runs different only =
+    ap (λ v. with_pass now caps (sum_with sum x (has_room caps sum x)) xs (with_since es x (since_after now x.since v))) (sym runs.0)
+    ∙ (with_pass_is now caps (sum_with sum x (has_room caps sum x)) b xs (with_since es x (since_after now x.since (b x)))
     (runs_on caps sum b x xs runs) different.1
     (all_with xs different.0 only.1 (λ y ne h. only-with_since es x y (since_after now x.since (b x)) ne h))
     ∙ all_settled now b x xs es different.0 only.0)
@@ -142,11 +142,11 @@ choice_runs now caps es order up p =
     taken_runs caps 0 (importance_order now order) (different_permuted es (importance_order now order) (ranked_permuted now es order p) (different_from_ascending es up))
 
 entries_after : (now : ℕ) (caps : Caps) (es order : List Entry) → IsAscending es → IsPermutation es order
-    → passed_in now caps 0 (importance_order now order) es ≡ map (settled_at now (choice_of now caps order)) es
+    → with_pass now caps 0 (importance_order now order) es ≡ map (settled_at now (choice_of now caps order)) es
 entries_after now caps es order up p =
     let b : Entry → Bool = choice_of now caps order in
     let q : IsPermutation es (importance_order now order) = ranked_permuted now es order p in
-    passed_in_is now caps 0 b (importance_order now order) es (choice_runs now caps es order up p)
+    with_pass_is now caps 0 b (importance_order now order) es (choice_runs now caps es order up p)
     (different_permuted es (importance_order now order) q (different_from_ascending es up)) (ranked_only now es order up p)
     ∙ entry_map (settled_in now b (importance_order now order)) (settled_at now b) es
     (all_with es (in_own es) (in_own es)
@@ -159,7 +159,7 @@ entries_after now caps es order up p =
 
 -- a pass in the order of importance decides
 pub pass_decides : (now : ℕ) (o : IsImportanceOrder now) (caps : Caps) (es order : List Entry) → IsAscending es
-    → IsPermutation es order → passed_in now caps 0 (importance_order now order) es ≡ decided now caps es
+    → IsPermutation es order → with_pass now caps 0 (importance_order now order) es ≡ decided_entries now caps es
 pass_decides now o caps es order up p =
     let b : Entry → Bool = choice_of now caps order in
     let different : AreOfDifferentStreams es = different_from_ascending es up in
@@ -170,11 +170,11 @@ pass_decides now o caps es order up p =
 
 -- and leaves the same entries in the order
 pub pass_keeps : (now : ℕ) (o : IsImportanceOrder now) (caps : Caps) (es order : List Entry) → IsAscending es
-    → IsPermutation es order → IsPermutation (decided now caps es) (entries_passed now caps 0 (importance_order now order))
+    → IsPermutation es order → IsPermutation (decided_entries now caps es) (entries_passed now caps 0 (importance_order now order))
 pass_keeps now o caps es order up p =
     let b : Entry → Bool = choice_of now caps order in
     let q : IsPermutation es (importance_order now order) = ranked_permuted now es order p in
-    subst (λ (ys : List Entry). IsPermutation (decided now caps es) ys) (sym (passed_is now caps 0 b (importance_order now order) (choice_runs now caps es order up p)))
+    subst (λ (ys : List Entry). IsPermutation (decided_entries now caps es) ys) (sym (passed_is now caps 0 b (importance_order now order) (choice_runs now caps es order up p)))
     (subst (λ (ys : List Entry). IsPermutation ys (map (settled_at now b) (importance_order now order))) (sym (entries_after now caps es order up p) ∙ pass_decides now o caps es order up p)
     (IsPermutation-map (settled_at now b) es (importance_order now order) q))
 
@@ -226,7 +226,7 @@ with_since-own (e ∷ es) x since same only =
 -- what a pass keeps, at its i-th entry
 pub record PassesAt (now : ℕ) (caps : Caps) (first before : List Entry) (sum i : ℕ) (order es : List Entry) : Type 0 where
   pub order_is : entries_passed now caps 0 first ≡ take i order ++ entries_passed now caps sum (drop i order)
-  pub entries_is : passed_in now caps 0 first before ≡ passed_in now caps sum (drop i order) es
+  pub entries_is : with_pass now caps 0 first before ≡ with_pass now caps sum (drop i order) es
   pub ascending : IsAscending es
   pub different : AreOfDifferentStreams (drop i order)
   pub only : AllByRecursion (IsOnlyIn es) (drop i order)
@@ -267,8 +267,8 @@ pass_head now caps first before sum i order es x since l rest set_to at =
           ∙ (ap (λ ys. ys ++ entries_passed now caps sum' (drop (suc i) order)) (sym done) ∙ ap (λ ys. take (suc i) (set order i y) ++ entries_passed now caps sum' ys) (sym kept)))));
       entries_is =
           at.entries_is
-          ∙ (ap (λ ys. passed_in now caps sum ys es) rest
-          ∙ (ap (λ s. passed_in now caps sum' (drop (suc i) order) (with_since es x s)) (sym set_to) ∙ ap (λ ys. passed_in now caps sum' ys (with_since es x since)) (sym kept)));
+          ∙ (ap (λ ys. with_pass now caps sum ys es) rest
+          ∙ (ap (λ s. with_pass now caps sum' (drop (suc i) order) (with_since es x s)) (sym set_to) ∙ ap (λ ys. with_pass now caps sum' ys (with_since es x since)) (sym kept)));
       ascending = ascending-with_since es x since at.ascending;
       different = subst (λ (ys : List Entry). AreOfDifferentStreams ys) (sym kept) left.1;
       only =

@@ -16,8 +16,8 @@ use Rattle.stream_importance.specs.declared.entry.Fit.TheVariants.{Fits, TooLitt
 use Rattle.stream_importance.specs.declared.slope.Caps.{Caps}
 use Rattle.stream_importance.specs.Bandwidth.{cap_of}
 use Rattle.stream_importance.specs.Importance.{class_number, rank_number, IsImportanceOrder}
-use Rattle.port_ledger.specs.Decision.{stream_of, decided, decided_set, booked_of, is_booked, does_fit, above, marks_of, with_moments, since_after, IsAscending, IsDecision, Decides}
-use Rattle.port_ledger.specs.Book.{entry_of, entry_with, want_of, since_of, since_if_same, same_entry, same_since, same_want, unbooked, with_want, tested_as, fit_in, code_of}
+use Rattle.port_ledger.specs.Decision.{stream_of, decided_entries, decided_set, booked_of, is_booked, does_fit, above, marks_of, with_moments, since_after, IsAscending, IsDecision, Decides}
+use Rattle.port_ledger.specs.Book.{entry_of, entry_with, want_of, since_of, since_if_same, same_entry, same_since, same_want, unbooked_entry, with_want, tested_entry, fit_in, code_of}
 use Rattle.port_ledger.proofs.Finding.{with_want-lower, with_want-same, with_want-higher}
 use Rattle.port_ledger.proofs.Marking.{marked-map, decision_unique, different_from_ascending}
 use Rattle.port_ledger.proofs.Running.{all_with}
@@ -104,7 +104,7 @@ same_entry-refl x = and_from (same_want x.want x.want) (same_since x.since x.sin
 want-entry_with : (x : Entry) (want : Want) → (entry_with x want).want ≡ want
 want-entry_with x want = by_test (same_want x.want want) (same_want-is x.want want)
   where
-    by_test : (b : Bool) → (b ≡ true → x.want ≡ want) → (cond b x (unbooked want)).want ≡ want
+    by_test : (b : Bool) → (b ≡ true → x.want ≡ want) → (cond b x (unbooked_entry want)).want ≡ want
     by_test true f = f refl
     by_test false f = refl
 
@@ -123,14 +123,14 @@ stream_of-entry_with x want = ap (λ (w : Want). w.stream.0) (want-entry_with x 
 -- with a want, its stream has that one
 pub want_of-own : (want : Want) (xs : List Entry) (s : StreamId) → s.0 ≡ want.stream.0
     → want_of (with_want xs want) s ≡ Some want
-want_of-own want [] s e = want_of-here (unbooked want) [] s (sym e)
+want_of-own want [] s e = want_of-here (unbooked_entry want) [] s (sym e)
 want_of-own want (x ∷ xs) s e =
     elim (cases_order want.stream.0 (stream_of x)) [
       | inl same ↦
           ap (λ ys. want_of ys s) (with_want-same x xs want (sym same))
           ∙ (want_of-here (entry_with x want) xs s (stream_of-entry_with x want ∙ sym e) ∙ ap (λ w. Some w) (want-entry_with x want))
       | inr c ↦ elim c [
-        | inl lower ↦ ap (λ ys. want_of ys s) (with_want-lower x xs want lower) ∙ want_of-here (unbooked want) (x ∷ xs) s (sym e)
+        | inl lower ↦ ap (λ ys. want_of ys s) (with_want-lower x xs want lower) ∙ want_of-here (unbooked_entry want) (x ∷ xs) s (sym e)
         | inr higher ↦
             ap (λ ys. want_of ys s) (with_want-higher x xs want higher)
             ∙ (want_of-past x (with_want xs want) s (λ f. omega (arith, e, f, higher)) ∙ want_of-own want xs s e)
@@ -140,7 +140,7 @@ want_of-own want (x ∷ xs) s e =
 -- and each other stream has what it had
 pub want_of-other : (want : Want) (xs : List Entry) (s : StreamId) → s.0 ≢ want.stream.0
     → want_of (with_want xs want) s ≡ want_of xs s
-want_of-other want [] s ne = want_of-past (unbooked want) [] s (λ e. ne (sym e))
+want_of-other want [] s ne = want_of-past (unbooked_entry want) [] s (λ e. ne (sym e))
 want_of-other want (x ∷ xs) s ne =
     elim (cases_order want.stream.0 (stream_of x)) [
       | inl same ↦
@@ -148,7 +148,7 @@ want_of-other want (x ∷ xs) s ne =
           ∙ (want_of-past (entry_with x want) xs s (λ e. ne (sym e ∙ stream_of-entry_with x want))
           ∙ sym (want_of-past x xs s (λ e. ne (sym e ∙ sym same))))
       | inr c ↦ elim c [
-        | inl lower ↦ ap (λ ys. want_of ys s) (with_want-lower x xs want lower) ∙ want_of-past (unbooked want) (x ∷ xs) s (λ e. ne (sym e))
+        | inl lower ↦ ap (λ ys. want_of ys s) (with_want-lower x xs want lower) ∙ want_of-past (unbooked_entry want) (x ∷ xs) s (λ e. ne (sym e))
         | inr higher ↦
             ap (λ ys. want_of ys s) (with_want-higher x xs want higher)
             ∙ elim (cases_Bool (stream_of x == s.0)) [
@@ -186,8 +186,8 @@ want_of-with_want want old s =
     ]
 
 pub wants_wanted : (now : ℕ) (caps : Caps) (old : List Entry) (want : Want) (s : StreamId)
-    → want_of (decided now caps (with_want old want)) s ≡ cond (s.0 == want.stream.0) (Some want) (want_of old s)
-unfolding decided
+    → want_of (decided_entries now caps (with_want old want)) s ≡ cond (s.0 == want.stream.0) (Some want) (want_of old s)
+unfolding decided_entries
 wants_wanted now caps old want s =
     want_of-settled now (does_fit now caps (decided_set now caps (with_want old want))) (with_want old want) s ∙ want_of-with_want want old s
 
@@ -212,7 +212,7 @@ with_want-again want (x ∷ xs) up h =
           (let e : Some x.want ≡ Some want = sym (want_of-here x xs want.stream (sym same)) ∙ h in
           let f : x.want ≡ want = cc in
           let k : same_want x.want want ≡ true = ap (same_want x.want) (sym f) ∙ same_want-refl x.want in
-          with_want-same x xs want (sym same) ∙ ap (λ y. y ∷ xs) (cond-true (same_want x.want want) x (unbooked want) k))
+          with_want-same x xs want (sym same) ∙ ap (λ y. y ∷ xs) (cond-true (same_want x.want want) x (unbooked_entry want) k))
       | inr c ↦ elim c [
         | inl lower ↦
             (let none : want_of (x ∷ xs) want.stream ≡ None =
@@ -240,7 +240,7 @@ same_again now o caps old new want up d decides h =
 
 -- a want that is kept is tested as its entry, so it fits exactly where it is booked
 pub kept_fits : (now : ℕ) (caps : Caps) (entries : List Entry) (want : Want) (fit : Fit)
-    → fit ≡ fit_in now caps (booked_of entries) (tested_as entries want)
+    → fit ≡ fit_in now caps (booked_of entries) (tested_entry entries want)
     → IfSome (entry_of entries want.stream) (λ x. is_booked x ≡ does_fit now caps (booked_of entries) x)
     → want_of entries want.stream ≡ Some want → (fit ≡ Fits) ↔ IsSome (since_of entries want.stream)
 kept_fits now caps entries want fit e booked h =

@@ -7,7 +7,7 @@ use Rattle.stream_importance.specs.declared.entry.Entry.{Entry}
 use Rattle.stream_importance.specs.declared.slope.Caps.{Caps}
 use Rattle.stream_importance.specs.Bandwidth.{cap_of}
 use Rattle.stream_importance.specs.Importance.{IsImportanceOrder}
-use Rattle.port_ledger.specs.Decision.{entry_slope, comes_after, does_fit, set_after, decided_set, decided, with_moments, marks_of, IsDecision, Decides, AreOfDifferentStreams}
+use Rattle.port_ledger.specs.Decision.{entry_slope, comes_after, does_fit, set_after, decided_set, decided_entries, with_moments, marks_of, IsDecision, Decides, AreOfDifferentStreams}
 use Rattle.port_ledger.specs.Pass.{importance_order}
 use Rattle.port_ledger.proofs.Running.{total, total-head, total-tail, Holds, IsRanked, all_with}
 use Rattle.port_ledger.proofs.Ranking.{IsPermutation-ranked, ranked_is_ranked, part-IsPermutation, all_permuted, holds_permuted}
@@ -104,8 +104,8 @@ decided_set_is now o caps b xs different holds =
 -- the entries after a decision are those that the choice settles
 pub decided_by_choice : (now : ℕ) (o : IsImportanceOrder now) (caps : Caps) (b : Entry → Bool) (xs : List Entry)
     → AreOfDifferentStreams xs → AllByRecursion (Holds now caps 0 b xs) xs
-    → decided now caps xs ≡ with_moments now xs (map b xs)
-unfolding decided
+    → decided_entries now caps xs ≡ with_moments now xs (map b xs)
+unfolding decided_entries
 decided_by_choice now o caps b xs different holds =
     let set : decided_set now caps xs ≡ filter b xs =
     decided_set_is now o caps b xs different (holds_permuted now caps 0 b xs (importance_order now xs) (IsPermutation-ranked now xs) holds) in
@@ -115,7 +115,7 @@ decided_by_choice now o caps b xs different holds =
 
 -- of one decision there is one outcome
 pub decided_only : (now : ℕ) (o : IsImportanceOrder now) (caps : Caps) (before after : List Entry)
-    → AreOfDifferentStreams before → Decides now caps before after → after ≡ decided now caps before
+    → AreOfDifferentStreams before → Decides now caps before after → after ≡ decided_entries now caps before
 decided_only now o caps before after different d =
     d.moments
     ∙ (ap (with_moments now before) d.decision
@@ -131,9 +131,9 @@ decides_by_choice now o caps b xs after holds e =
     }
 
 pub decided_decides : (now : ℕ) (o : IsImportanceOrder now) (caps : Caps) (xs : List Entry)
-    → AreOfDifferentStreams xs → Decides now caps xs (decided now caps xs)
+    → AreOfDifferentStreams xs → Decides now caps xs (decided_entries now caps xs)
 decided_decides now o caps xs different =
     let found = decision_exists now o caps xs different in
     let b : Entry → Bool = choice now caps xs found.0 in
     let holds : AllByRecursion (Holds now caps 0 b xs) xs = holds_from_decision now caps xs found.0 found.1 in
-    decides_by_choice now o caps b xs (decided now caps xs) holds (decided_by_choice now o caps b xs different holds)
+    decides_by_choice now o caps b xs (decided_entries now caps xs) holds (decided_by_choice now o caps b xs different holds)

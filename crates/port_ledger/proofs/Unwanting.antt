@@ -8,7 +8,7 @@ use Rattle.stream_importance.specs.declared.entry.Entry.{Entry}
 use Rattle.stream_importance.specs.declared.entry.Want.{Want}
 use Rattle.stream_importance.specs.declared.slope.Caps.{Caps}
 use Rattle.stream_importance.specs.Importance.{IsImportanceOrder}
-use Rattle.port_ledger.specs.Decision.{stream_of, does_fit, decided, decided_set, is_booked, booked_of, marks_of, with_moments, IsAscending, IsDecision}
+use Rattle.port_ledger.specs.Decision.{stream_of, does_fit, decided_entries, decided_set, is_booked, booked_of, marks_of, with_moments, IsAscending, IsDecision}
 use Rattle.port_ledger.specs.Book.{Book, IsKept, clocked_book, entry_of, since_of, unwanted_book, want_of, wanted_book, without}
 use Rattle.port_ledger.specs.Pass.{has_same, has_want}
 use Rattle.port_ledger.proofs.Keeping.{ascending-without}
@@ -54,7 +54,7 @@ map-without f g s (x ∷ xs) h =
 
 -- what isn't booked is taken out without a trace
 pub unbooked_out : (book : Book) (now : ℕ) (s : StreamId) → IsImportanceOrder now → IsKept book → book.moment ≤ now
-    → since_of book.entries s ≡ None → decided now book.caps (without book.entries s) ≡ without book.entries s
+    → since_of book.entries s ≡ None → decided_entries now book.caps (without book.entries s) ≡ without book.entries s
 unbooked_out book now s o kept up none =
     let xs : List Entry = book.entries in
     let left : List Entry = without book.entries s in
@@ -108,10 +108,10 @@ without_hasnt s (x ∷ xs) =
     ]
 
 decided_hasnt : (now : ℕ) (caps : Caps) (s : StreamId) (xs : List Entry)
-    → has_stream s (booked_of (decided now caps (without xs s))) ≡ false
-unfolding decided
+    → has_stream s (booked_of (decided_entries now caps (without xs s))) ≡ false
+unfolding decided_entries
 decided_hasnt now caps s xs =
-    booked_hasnt s (decided now caps (without xs s))
+    booked_hasnt s (decided_entries now caps (without xs s))
     (settled_has now s (does_fit now caps (decided_set now caps (without xs s))) (without xs s) ∙ without_hasnt s xs)
 
 -- the booked set changes exactly where the stream was booked
@@ -160,8 +160,8 @@ want_of-without stream (x ∷ xs) s =
     by_stream false h = h refl
 
 pub wants_left : (now : ℕ) (caps : Caps) (xs : List Entry) (stream s : StreamId)
-    → want_of (decided now caps (without xs stream)) s ≡ cond (s.0 == stream.0) None (want_of xs s)
-unfolding decided
+    → want_of (decided_entries now caps (without xs stream)) s ≡ cond (s.0 == stream.0) None (want_of xs s)
+unfolding decided_entries
 wants_left now caps xs stream s =
     want_of-settled now (does_fit now caps (decided_set now caps (without xs stream))) (without xs stream) s ∙ want_of-without stream xs s
 
@@ -170,8 +170,8 @@ pub wanted_again : (book : Book) (now : ℕ) (want : Want) → IsImportanceOrder
     → want_of book.entries want.stream ≡ Some want → wanted_book now want book ≡ clocked_book now book
 wanted_again book now want o kept up h =
     ap (λ es. record book { moment = now; entries = es })
-    (ap (decided now book.caps) (with_want-again want book.entries kept.ascending h)
-    ∙ decided_again now o book.caps book.entries (decided now book.caps book.entries) kept.ascending (book_stands book kept now up)
+    (ap (decided_entries now book.caps) (with_want-again want book.entries kept.ascending h)
+    ∙ decided_again now o book.caps book.entries (decided_entries now book.caps book.entries) kept.ascending (book_stands book kept now up)
     (decided_decides now o book.caps book.entries (different_from_ascending book.entries kept.ascending)))
 
 without-missing : (s : StreamId) (xs : List Entry) → want_of xs s ≡ None → without xs s ≡ xs
@@ -188,8 +188,8 @@ pub missing_out : (book : Book) (now : ℕ) (s : StreamId) → IsImportanceOrder
     → want_of book.entries s ≡ None → unwanted_book now s book ≡ clocked_book now book
 missing_out book now s o kept up h =
     ap (λ es. record book { moment = now; entries = es })
-    (ap (decided now book.caps) (without-missing s book.entries h)
-    ∙ decided_again now o book.caps book.entries (decided now book.caps book.entries) kept.ascending (book_stands book kept now up)
+    (ap (decided_entries now book.caps) (without-missing s book.entries h)
+    ∙ decided_again now o book.caps book.entries (decided_entries now book.caps book.entries) kept.ascending (book_stands book kept now up)
     (decided_decides now o book.caps book.entries (different_from_ascending book.entries kept.ascending)))
 
 pub unbooked_stays : (book : Book) (now : ℕ) (s : StreamId) → IsImportanceOrder now → IsKept book → book.moment ≤ now

@@ -6,7 +6,7 @@ use Rattle.srp_base.specs.declared.numbers.StreamId.{StreamId}
 use Rattle.stream_importance.specs.declared.entry.Entry.{Entry}
 use Rattle.port_ledger.specs.Decision.{stream_of, is_booked, booked_of}
 use Rattle.port_ledger.specs.Book.{booked_only_in}
-use Rattle.port_ledger.specs.Pass.{booked_stream, noted_below}
+use Rattle.port_ledger.specs.Pass.{booked_stream, booked_streams_below}
 
 module _ (entries : List Entry) (i : ℕ) (d : Entry) (below : i < length entries) where
   abbrev rest : List Entry
@@ -41,22 +41,22 @@ module _ (entries : List Entry) (i : ℕ) (d : Entry) (below : i < length entrie
       ∙ sym (append_assoc done (booked_stream (get_or entries i d)) (booked_only_in rest []))
       ∙ ap (λ l. l ++ booked_only_in rest []) (sym more)
 
-  below-front : (x : Entry) (stream : StreamId) → stream_of x < stream.0 → noted_below (x ∷ rest) stream ≡ booked_stream x ++ noted_below rest stream
+  below-front : (x : Entry) (stream : StreamId) → stream_of x < stream.0 → booked_streams_below (x ∷ rest) stream ≡ booked_stream x ++ booked_streams_below rest stream
   below-front x stream less = rw (lt-ltb (stream_of x) stream.0 less) refl
 
-  below-end : (x : Entry) (stream : StreamId) → stream.0 ≤ stream_of x → noted_below (x ∷ rest) stream ≡ []
+  below-end : (x : Entry) (stream : StreamId) → stream.0 ≤ stream_of x → booked_streams_below (x ∷ rest) stream ≡ []
   below-end x stream past = rw (le-ltb (stream_of x) stream.0 past) refl
 
-  pub below-more : (stream : StreamId) (whole done new : List StreamId) → whole ≡ done ++ noted_below (drop i entries) stream → stream_of (get_or entries i d) < stream.0 → new ≡ done ++ booked_stream (get_or entries i d) → whole ≡ new ++ noted_below (drop (i + 1) entries) stream
+  pub below-more : (stream : StreamId) (whole done new : List StreamId) → whole ≡ done ++ booked_streams_below (drop i entries) stream → stream_of (get_or entries i d) < stream.0 → new ≡ done ++ booked_stream (get_or entries i d) → whole ≡ new ++ booked_streams_below (drop (i + 1) entries) stream
   below-more stream whole done new so_far less more =
       so_far
-      ∙ ap (λ l. done ++ l) (at_drop_more (λ l. noted_below l stream) entries i d below ∙ below-front (get_or entries i d) stream less)
-      ∙ sym (append_assoc done (booked_stream (get_or entries i d)) (noted_below rest stream))
-      ∙ ap (λ l. l ++ noted_below rest stream) (sym more)
+      ∙ ap (λ l. done ++ l) (at_drop_more (λ l. booked_streams_below l stream) entries i d below ∙ below-front (get_or entries i d) stream less)
+      ∙ sym (append_assoc done (booked_stream (get_or entries i d)) (booked_streams_below rest stream))
+      ∙ ap (λ l. l ++ booked_streams_below rest stream) (sym more)
 
-  pub below-ends : (stream : StreamId) (whole done : List StreamId) → whole ≡ done ++ noted_below (drop i entries) stream → stream.0 ≤ stream_of (get_or entries i d) → done ≡ whole
+  pub below-ends : (stream : StreamId) (whole done : List StreamId) → whole ≡ done ++ booked_streams_below (drop i entries) stream → stream.0 ≤ stream_of (get_or entries i d) → done ≡ whole
   below-ends stream whole done so_far past =
-      sym (so_far ∙ ap (λ l. done ++ l) (at_drop_more (λ l. noted_below l stream) entries i d below ∙ below-end (get_or entries i d) stream past) ∙ append-nil done)
+      sym (so_far ∙ ap (λ l. done ++ l) (at_drop_more (λ l. booked_streams_below l stream) entries i d below ∙ below-end (get_or entries i d) stream past) ∙ append-nil done)
 
 -- behind the last one
 pub booked-ends : (entries : List Entry) (i : ℕ) → length entries ≤ i → (whole done : List Entry) → whole ≡ done ++ booked_of (drop i entries) → done ≡ whole

@@ -11,7 +11,7 @@ use Rattle.stream_importance.specs.declared.entry.Fit.TheVariants.{Fits, TooLitt
 use Rattle.stream_importance.specs.declared.slope.Caps.{Caps}
 use Rattle.stream_importance.specs.Bandwidth.{cap_of}
 use Rattle.stream_importance.specs.Importance.{class_number, rank_number, moment_or}
-use Rattle.port_ledger.specs.Decision.{stream_of, entry_slope, above, decided, does_fit, is_booked, booked_of, marks_of, IsAscending, IsDecision}
+use Rattle.port_ledger.specs.Decision.{stream_of, entry_slope, above, decided_entries, does_fit, is_booked, booked_of, marks_of, IsAscending, IsDecision}
 
 -- a ledger: its caps in bit/s, the last moment that was handed to it in cs, and the wanting streams
 pub record Book : Type 0 where
@@ -56,20 +56,20 @@ abbrev pub since_of : List Entry → StreamId → Option Cs
 since_of entries stream = option_and_then (λ x. x.since) (entry_of entries stream)
 
 -- a want that isn't booked
-abbrev pub unbooked : Want → Entry
-unbooked want = record { want = want; since = None }
+abbrev pub unbooked_entry : Want → Entry
+unbooked_entry want = record { want = want; since = None }
 
 -- a stream's entry once this want of the stream has come: the same want again changes nothing, and
 -- another one takes the entry's place with no moment
 abbrev pub entry_with : Entry → Want → Entry
-entry_with x want = if same_want x.want want then x else unbooked want
+entry_with x want = if same_want x.want want then x else unbooked_entry want
 
 -- the entries once a want has come, which is added where its stream has no entry
 abbrev pub with_want : List Entry → Want → List Entry
-with_want [] want = unbooked want ∷ []
+with_want [] want = unbooked_entry want ∷ []
 with_want (x ∷ xs) want =
     if nat_lt want.stream.0 (stream_of x)
-    then unbooked want ∷ x ∷ xs
+    then unbooked_entry want ∷ x ∷ xs
     else if want.stream.0 == stream_of x then entry_with x want ∷ xs else x ∷ with_want xs want
 
 -- the entries once a stream wants nothing
@@ -82,7 +82,7 @@ empty_book caps = record { caps = caps; moment = 0; entries = [] }
 
 -- the book after these entries are decided at a moment in cs
 abbrev pub decided_book : ℕ → List Entry → Book → Book
-decided_book now entries book = record book { moment = now; entries = decided now book.caps entries }
+decided_book now entries book = record book { moment = now; entries = decided_entries now book.caps entries }
 
 -- the book after a want at a moment
 abbrev pub wanted_book : ℕ → Want → Book → Book
@@ -120,8 +120,8 @@ abbrev pub since_if_same : Entry → Want → Option Cs
 since_if_same x want = if same_want x.want want then x.since else None
 
 -- the entry as which a want is tested: with the moment of the stream's entry where that has this same want
-abbrev pub tested_as : List Entry → Want → Entry
-tested_as entries want =
+abbrev pub tested_entry : List Entry → Want → Entry
+tested_entry entries want =
     record { want = want; since = option_and_then (λ x. since_if_same x want) (entry_of entries want.stream) }
 
 -- of rank 1, which isn't emergency traffic
@@ -142,7 +142,7 @@ fit_in now caps set x =
 
 -- whether a want fits beside what a ledger has booked, at a moment in cs
 abbrev pub fit_for : ℕ → Book → Want → Fit
-fit_for now book want = fit_in now book.caps (booked_of book.entries) (tested_as book.entries want)
+fit_for now book want = fit_in now book.caps (booked_of book.entries) (tested_entry book.entries want)
 
 -- what a fit carries is at most this many bit/s
 abbrev pub IsFitWithin : ℕ → Fit → Type 0

@@ -88,5 +88,5 @@ abbrev pub decided_set : ℕ → Caps → List Entry → List Entry
 decided_set now caps entries = set_after (length entries) now caps entries
 
 -- the entries after a decision: those of the decided set keep their moment or get this one, others have none
-unfoldable pub decided : ℕ → Caps → List Entry → List Entry
-decided now caps entries = with_moments now entries (map (does_fit now caps (decided_set now caps entries)) entries)
+unfoldable pub decided_entries : ℕ → Caps → List Entry → List Entry
+decided_entries now caps entries = with_moments now entries (map (does_fit now caps (decided_set now caps entries)) entries)

@@ -11,7 +11,7 @@ use Rattle.stream_importance.specs.declared.entry.Want.{Want}
 use Rattle.stream_importance.specs.declared.slope.Caps.{Caps}
 use Rattle.stream_importance.specs.Bandwidth.{cap_of}
 use Rattle.port_ledger.specs.Decision.{stream_of, entry_slope, is_booked, comes_after, since_after}
-use Rattle.port_ledger.specs.Book.{entry_of, entry_with, is_normal, same_entry, same_want, unbooked}
+use Rattle.port_ledger.specs.Book.{entry_of, entry_with, is_normal, same_entry, same_want, unbooked_entry}
 
 -- an entry among entries in the order of importance: before the first that it precedes
 abbrev pub place : ℕ → Entry → List Entry → List Entry
@@ -49,10 +49,10 @@ with_since entries x since =
     map (λ (e : Entry). if stream_of e == stream_of x then record e { since = since } else e) entries
 
 -- these entries, with the moments that the pass over those gives
-abbrev pub passed_in : ℕ → Caps → ℕ → List Entry → List Entry → List Entry
-passed_in now caps sum [] entries = entries
-passed_in now caps sum (x ∷ xs) entries =
-    passed_in now caps (sum_with sum x (has_room caps sum x)) xs
+abbrev pub with_pass : ℕ → Caps → ℕ → List Entry → List Entry → List Entry
+with_pass now caps sum [] entries = entries
+with_pass now caps sum (x ∷ xs) entries =
+    with_pass now caps (sum_with sum x (has_room caps sum x)) xs
     (with_since entries x (since_after now x.since (has_room caps sum x)))
 
 -- no other entry of these is of the entry's stream
@@ -60,8 +60,8 @@ abbrev pub IsOnlyIn : List Entry → Entry → Type 0
 IsOnlyIn entries x = AllByRecursion (λ e. stream_of e ≡ stream_of x → e ≡ x) entries
 
 -- the entries once a want of a stream that has an entry has come
-abbrev pub rewanted : List Entry → Want → List Entry
-rewanted entries want =
+abbrev pub with_want_in_place : List Entry → Want → List Entry
+with_want_in_place entries want =
     map (λ x. if stream_of x == want.stream.0 then entry_with x want else x) entries
 
 -- whether an entry, where there is one, has this want
@@ -75,16 +75,16 @@ has_want entries want = has_same (entry_of entries want.stream) want
 
 -- the order once a want has come, of a stream that has an entry in it or is new and goes last
 abbrev pub order_with : List Entry → Want → Bool → List Entry
-order_with order want known = if known then rewanted order want else order ++ unbooked want ∷ []
+order_with order want known = if known then with_want_in_place order want else order ++ unbooked_entry want ∷ []
 
 -- the stream of an entry that is booked
 abbrev pub booked_stream : Entry → List StreamId
 booked_stream x = if is_booked x then x.want.stream ∷ [] else []
 
 -- the streams of the booked entries up to the first entry that isn't below a stream
-abbrev pub noted_below : List Entry → StreamId → List StreamId
-noted_below [] stream = []
-noted_below (x ∷ xs) stream = if nat_lt (stream_of x) stream.0 then booked_stream x ++ noted_below xs stream else []
+abbrev pub booked_streams_below : List Entry → StreamId → List StreamId
+booked_streams_below [] stream = []
+booked_streams_below (x ∷ xs) stream = if nat_lt (stream_of x) stream.0 then booked_stream x ++ booked_streams_below xs stream else []
 
 -- the entries from the first on that isn't below a stream
 abbrev pub from_stream : List Entry → StreamId → List Entry

@@ -3,7 +3,7 @@
 ghost use Rattle.std.specs.Prelude.{◌≡◌, ◌<◌, ◌++◌, [], length, drop, IfOk, OnOk};
 ghost use Rattle.port_ledger.specs.Book.{booked_only_in, same_entry};
 ghost use Rattle.port_ledger.specs.Decision.{IsAscending};
-ghost use Rattle.port_ledger.specs.Pass.{begins_with, from_stream, booked_stream, noted_below};
+ghost use Rattle.port_ledger.specs.Pass.{begins_with, from_stream, booked_stream, booked_streams_below};
 
 use srp_base::{NoMemory, Seq, StreamId};
 use std::alloc::Global;
@@ -74,7 +74,7 @@ fn note_below(
     stream: StreamId,
 ) -> Result<(), NoMemory>
     ensures { OnOk result (streams.new.items
-        ≡ streams.old.items ++ noted_below entries.now stream) }
+        ≡ streams.old.items ++ booked_streams_below entries.now stream) }
 {
     for x in entries {
         if x.want.stream.0 >= stream.0 {

@@ -4,8 +4,8 @@
 ghost use Rattle.std.specs.Prelude.{◌≡◌, ◌+◌, ◌≤◌, true, IfOk, IsPermutation};
 ghost use Rattle.std.specs.List.{AllByRecursion};
 ghost use Rattle.port_ledger.specs.Book.{same_since, with_want, without};
-ghost use Rattle.port_ledger.specs.Decision.{AreOfDifferentStreams, decided, IsAscending, since_after};
-ghost use Rattle.port_ledger.specs.Pass.{has_room, IsOnlyIn, entries_passed, passed_in, sum_with, with_since};
+ghost use Rattle.port_ledger.specs.Decision.{AreOfDifferentStreams, decided_entries, IsAscending, since_after};
+ghost use Rattle.port_ledger.specs.Pass.{has_room, IsOnlyIn, entries_passed, with_pass, sum_with, with_since};
 ghost use Rattle.stream_importance.specs.Bandwidth.{cap_of};
 
 use crate::entries::{entries_with, find_entry, place_of, take_out};
@@ -26,7 +26,7 @@ pub(crate) fn wanted(
     requires ascending { IsAscending entries.now }
     requires same { IsPermutation entries.now order.now }
     ensures decided { IfOk result (λ r. r.0.items
-        ≡ decided now.0 caps.now (with_want entries.now want)) }
+        ≡ decided_entries now.0 caps.now (with_want entries.now want)) }
     ensures same { IfOk result (λ r. IsPermutation r.0.items r.1.items) }
 {
     let known = find_entry(entries, want.stream).is_some();
@@ -47,7 +47,7 @@ pub(crate) fn unwant(
     requires ascending { IsAscending entries.old.items }
     requires same { IsPermutation entries.old.items order.old.items }
     ensures decided { entries.new.items
-        ≡ decided now.0 caps.now (without entries.old.items stream) }
+        ≡ decided_entries now.0 caps.now (without entries.old.items stream) }
     ensures same { IsPermutation entries.new.items order.new.items }
 {
     take_out(entries, stream);
@@ -60,7 +60,7 @@ pub(crate) fn unwant(
 fn decide(now: Cs, caps: &Caps, order: &mut Vec<Entry>, entries: &mut Vec<Entry>)
     requires ascending { IsAscending entries.old.items }
     requires same { IsPermutation entries.old.items order.old.items }
-    ensures decided { entries.new.items ≡ decided now.0 caps.now entries.old.items }
+    ensures decided { entries.new.items ≡ decided_entries now.0 caps.now entries.old.items }
     ensures same { IsPermutation entries.new.items order.new.items }
 {
     decide_in_place(now, caps, order.as_mut_slice(), entries.as_mut_slice());
@@ -69,7 +69,7 @@ fn decide(now: Cs, caps: &Caps, order: &mut Vec<Entry>, entries: &mut Vec<Entry>
 fn decide_in_place(now: Cs, caps: &Caps, order: &mut [Entry], entries: &mut [Entry])
     requires ascending { IsAscending entries.old }
     requires same { IsPermutation entries.old order.old }
-    ensures decided { entries.new ≡ decided now.0 caps.now entries.old }
+    ensures decided { entries.new ≡ decided_entries now.0 caps.now entries.old }
     ensures same { IsPermutation entries.new order.new }
 {
     importance_is_an_order();
@@ -83,7 +83,7 @@ fn pass(now: Cs, caps: &Caps, order: &mut [Entry], entries: &mut [Entry])
     requires different { AreOfDifferentStreams order.old }
     requires same { AllByRecursion (IsOnlyIn entries.old) order.old }
     ensures order { order.new ≡ entries_passed now.0 caps.now 0 order.old }
-    ensures entries { entries.new ≡ passed_in now.0 caps.now 0 order.old entries.old }
+    ensures entries { entries.new ≡ with_pass now.0 caps.now 0 order.old entries.old }
 {
     let mut sum: u64 = 0;
     for x in order.iter_mut() {

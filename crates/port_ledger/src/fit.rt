@@ -1,7 +1,7 @@
 //! What of a port is taken, and whether a want fits beside it.
 
 ghost use Rattle.std.specs.Prelude.{◌≡◌, ◌+◌, nat_le, filter};
-ghost use Rattle.port_ledger.specs.Book.{code_of, fit_in, is_normal, since_if_same, tested_as};
+ghost use Rattle.port_ledger.specs.Book.{code_of, fit_in, is_normal, since_if_same, tested_entry};
 ghost use Rattle.port_ledger.specs.Pass.{normal_slope_before, slope_before};
 ghost use Rattle.port_ledger.specs.Decision.{above, booked_of, comes_after, IsAscending};
 
@@ -10,9 +10,9 @@ use srp_base::{Cs, Rank};
 use stream_importance::{Caps, Entry, Fit, Want, more_important};
 
 /// The entry as which a want is tested.
-pub(crate) fn tested_as(entries: &[Entry], want: &Want) -> Entry
+pub(crate) fn tested_entry(entries: &[Entry], want: &Want) -> Entry
     requires { IsAscending entries.now }
-    ensures { result ≡ tested_as entries.now want.now }
+    ensures { result ≡ tested_entry entries.now want.now }
 {
     let since = find_entry(entries, want.stream).and_then(|x| since_if_same(&x, want));
     Entry { want: *want, since }

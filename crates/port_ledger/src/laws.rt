@@ -11,7 +11,7 @@ ghost use Rattle.stream_importance.specs.declared.entry.Fit.TheVariants.{Fits};
 ghost use Rattle.stream_importance.specs.declared.entry.Want.{Want};
 ghost use Rattle.stream_importance.specs.declared.slope.Caps.{Caps};
 ghost use Rattle.port_ledger.specs.Book.{Book, booked_only_in, booked_slope, clocked_book, empty_book, entry_of, fit_for, has_new_booking, IsFitWithin, IsKept, since_of, unwanted_book, want_of, wanted_book};
-ghost use Rattle.port_ledger.specs.Decision.{AreOfDifferentStreams, booked_of, decided, Decides, does_fit, is_booked, IsAscending, IsDecision, marks_of};
+ghost use Rattle.port_ledger.specs.Decision.{AreOfDifferentStreams, booked_of, decided_entries, Decides, does_fit, is_booked, IsAscending, IsDecision, marks_of};
 
 use stream_importance::importance_is_an_order;
 
@@ -26,14 +26,14 @@ pub fn one_decision()
     importance_is_an_order();
 }
 
-/// What a deciding call leaves is a function of the entries: `decided` is one outcome of deciding, and the only
-/// one.
+/// What a deciding call leaves is a function of the entries: `decided_entries` is one outcome of deciding, and
+/// the only one.
 pub fn one_outcome()
     ensures decides { (now : ℕ) (caps : Caps) (entries : List Entry) → AreOfDifferentStreams entries
-        → Decides now caps entries (decided now caps entries) }
+        → Decides now caps entries (decided_entries now caps entries) }
     ensures only { (now : ℕ) (caps : Caps) (before after : List Entry)
         → AreOfDifferentStreams before
-        → Decides now caps before after → after ≡ decided now caps before }
+        → Decides now caps before after → after ≡ decided_entries now caps before }
 {
     importance_is_an_order();
 }

@@ -13,7 +13,7 @@ ghost use Rattle.port_ledger.specs.Decision.{booked_of, Decides, does_fit, is_bo
 use crate::changed::{Changed, changes};
 use crate::decide::{unwant, wanted};
 use crate::entries::{bookings, copy_of, find_entry};
-use crate::fit::{fit_of, tested_as};
+use crate::fit::{fit_of, tested_entry};
 use crate::laws::nothing_changed_where_both_lists_are_empty;
 use crate::totals::{Totals, totals_of};
 use srp_base::{Class, Cs, NoMemory, Percent, Rate, Seq, StreamId};
@@ -199,7 +199,7 @@ impl Ledger {
     {
         self.stands();
         self.within_caps();
-        let x = tested_as(&self.entries, want);
+        let x = tested_entry(&self.entries, want);
         fit_of(now, &self.caps, &self.entries, &x)
     }
 

@@ -18,7 +18,7 @@
 //! (`Ledger::within_caps`).
 //!
 //! What a call leaves is a function of the book before it: `wanted_book`, `unwanted_book` and
-//! `clocked_book` of `specs/Book.antt`, over `decided` of `specs/Decision.antt`, the one outcome of
+//! `clocked_book` of `specs/Book.antt`, over `decided_entries` of `specs/Decision.antt`, the one outcome of
 //! deciding. Who speaks of whole runs speaks of these, and `laws` says of them what the methods say of
 //! a living ledger: every step keeps what holds of every ledger, the caps are kept, no booking is ahead of
 //! its ledger, a clock that shows nothing and a booked set that stays leave every fit as it was.

@@ -1,7 +1,7 @@
 //! The wanting streams in the order of importance, as they are kept between two decisions.
 
 ghost use Rattle.std.specs.Prelude.{◌≡◌, IfOk};
-ghost use Rattle.port_ledger.specs.Pass.{order_with, place_first, importance_order, rewanted};
+ghost use Rattle.port_ledger.specs.Pass.{order_with, place_first, importance_order, with_want_in_place};
 
 use crate::entries::{copy_of, entry_with};
 use crate::fit::comes_after;
@@ -28,7 +28,7 @@ pub(crate) fn order_with(
 }
 
 fn rewant(entries: &mut [Entry], want: Want)
-    ensures { entries.new ≡ rewanted entries.old want }
+    ensures { entries.new ≡ with_want_in_place entries.old want }
 {
     for x in entries.iter_mut() {
         if x.want.stream == want.stream {

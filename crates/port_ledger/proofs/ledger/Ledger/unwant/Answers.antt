@@ -3,7 +3,7 @@ use Rattle.stream_importance.specs.declared.entry.Entry.{Entry}
 use Rattle.port_ledger.specs.Book.{Book, IsKept, booked_slope, since_of, unwanted_book, want_of, without}
 use Rattle.srp_base.specs.declared.bandwidth.Class.TheVariants.{A, B}
 use Rattle.port_ledger.specs.Totals.{totals_of}
-use Rattle.port_ledger.specs.Decision.{booked_of, decided}
+use Rattle.port_ledger.specs.Decision.{booked_of, decided_entries}
 use Rattle.port_ledger.proofs.Keeping.{kept_unwanted}
 use Rattle.port_ledger.proofs.Unwanting.{missing-is, missing_out, unwanted_changes, wants_left}
 use Rattle.port_ledger.proofs.TotalsLemmas.{totals_fit}
@@ -29,7 +29,7 @@ invariant_of-self c =
     )
 
 left : (c : goal.After-now-1) → c.unwant.new.entries.items ≡ (unwanted_book c.args.now.0 c.args.stream c.args.self.now).entries
-left c = c.unwant.ensures.decided ∙ ap (λ (b : Book). decided c.args.now.0 b.caps (without b.entries c.args.stream)) c.self.view_is
+left c = c.unwant.ensures.decided ∙ ap (λ (b : Book). decided_entries c.args.now.0 b.caps (without b.entries c.args.stream)) c.self.view_is
 
 pub returns-clause-changed : goal.returns-clause-changed
 returns-clause-changed c =

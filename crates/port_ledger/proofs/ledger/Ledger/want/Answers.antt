@@ -3,7 +3,7 @@ use Rattle.stream_importance.specs.declared.entry.Entry.{Entry}
 use Rattle.port_ledger.specs.Book.{Book, IsKept, booked_only_in, booked_slope, wanted_book, with_want}
 use Rattle.srp_base.specs.declared.bandwidth.Class.TheVariants.{A, B}
 use Rattle.port_ledger.specs.Totals.{totals_of}
-use Rattle.port_ledger.specs.Decision.{decided, Decides, IsAscending}
+use Rattle.port_ledger.specs.Decision.{decided_entries, Decides, IsAscending}
 use Rattle.port_ledger.specs.declared.changed.Changed.{Changed}
 use Rattle.port_ledger.proofs.Comparing.{nothing_new}
 use Rattle.port_ledger.proofs.Unwanting.{has_want-is, wanted_again}
@@ -47,7 +47,7 @@ invariant_of-self c =
 entries_are : (c : goal.After-now-1) → c.in_ok-entries.entries.items ≡ (wanted_book c.args.now.0 c.args.want c.args.self.now).entries
 entries_are c =
     rw c.deref.ensures.value at c.in_ok-entries.ensures.decided
-    ∙ ap (λ (b : Book). decided c.args.now.0 b.caps (with_want b.entries c.args.want)) c.self.view_is
+    ∙ ap (λ (b : Book). decided_entries c.args.now.0 b.caps (with_want b.entries c.args.want)) c.self.view_is
 
 pub returns-clause-decided : goal.returns-clause-decided
 returns-clause-decided c =
