@@ -16,7 +16,7 @@
 //! stands there too.
 #![tactic(auto)]
 
-ghost use Rattle.std.specs.Prelude.{◌≡◌, ℕ, ◌+◌, ◌*◌, ◌/◌, ◌%◌, ◌^◌, ◌<◌, ◌≤◌};
+ghost use Rattle.std.specs.Prelude.{◌≡◌, ℕ, ◌%◌, ◌^◌, ◌<◌, ◌≤◌};
 ghost use Rattle.leaveall.specs.Table.{table, restarts, is_due, hundred_after};
 
 use srp_base::Cs;

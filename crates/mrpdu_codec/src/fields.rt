@@ -1,6 +1,6 @@
 //! The fields of a vector, read one after another. Nothing here takes memory.
 
-ghost use Rattle.std.specs.Prelude.{◌≡◌, ◌*◌, ◌/◌, ◌%◌, ◌<◌};
+ghost use Rattle.std.specs.Prelude.{◌≡◌, ◌%◌};
 ghost use Rattle.srp_base.specs.Results.{Gives};
 ghost use Rattle.mrpdu_codec.specs.Octets.{number, thirds, quarters};
 ghost use Rattle.mrpdu_codec.specs.Tree.{packed_limit, leave_all_limit, fours_for};

@@ -1,6 +1,6 @@
 //! Which PDUs can be written, and in how many octets.
 
-ghost use Rattle.std.specs.Prelude.{◌≡◌, ◌-◌, ◌^◌, ◌&&◌, min, map, length, nat_le, Some};
+ghost use Rattle.std.specs.Prelude.{◌≡◌, ◌-◌, ◌^◌, min, map, length, nat_le, Some};
 ghost use Rattle.std.specs.List.{list_all};
 ghost use Rattle.mrpdu_codec.specs.Tree.{vector_octets, vectors_octets, message_octets, messages_octets};
 ghost use Rattle.mrpdu_codec.specs.Canonical.{vector_for, vectors_for, message_for, spelling, list_fits, message_fits, well_formed};

@@ -1,7 +1,6 @@
 //! The events of VIDs written as octets.
 
-ghost use Rattle.std.specs.Prelude.{◌≡◌, ◌++◌, ◌<◌, ◌≤◌, ◌+◌, ◌==◌, length, map, take, Ok, IfOk, OnOk};
-ghost use Rattle.srp_base.specs.declared.mrp.MrpEvent.{MrpEvent};
+ghost use Rattle.std.specs.Prelude.{◌≡◌, ◌++◌, ◌<◌, ◌≤◌, ◌+◌, length, map, take, Ok, IfOk, OnOk};
 ghost use Rattle.mvrp_codec.specs.Meaning.{mvrp_reading};
 ghost use Rattle.mrpdu_codec.specs.Tree.{vector_octets};
 ghost use Rattle.mrpdu_codec.specs.Canonical.{vector_for};

@@ -1,6 +1,6 @@
 //! What a ledger keeps beside its entries, so that neither the clock nor who asks for a slope goes over them.
 
-ghost use Rattle.std.specs.Prelude.{◌≡◌, ◌+◌, ◌<◌, ◌^◌, ◌||◌, ◌&&◌, not, false};
+ghost use Rattle.std.specs.Prelude.{◌≡◌, ◌+◌, ◌<◌, ◌^◌, false};
 ghost use Rattle.srp_base.specs.declared.bandwidth.Class.TheVariants.{A, B};
 ghost use Rattle.port_ledger.specs.Book.{booked_slope, is_since};
 ghost use Rattle.port_ledger.specs.Totals.{later_totals, slope_of, slope_within, totals_of};

@@ -1,6 +1,6 @@
 //! Sources of octets.
 
-ghost use Rattle.std.specs.Prelude.{◌≡◌, ◌≤◌, Option, Some, List, ℕ, length, take, drop, min, true, false, Ok, OnErr, OnOk, IfOk, IsOk, MatchResult};
+ghost use Rattle.std.specs.Prelude.{◌≡◌, ◌≤◌, Option, Some, List, ℕ, length, take, drop, min, true, false, OnErr, OnOk, IfOk, IsOk};
 ghost use Rattle.std.specs.Io.{ReadsAtMost};
 ghost use Rattle.std.specs.Io.KnownBytes.{ReadConsumes};
 ghost use Rattle.srp_io.specs.Faults.{Rose};

@@ -1,6 +1,6 @@
 //! The checks of links and nodes that need no memory. Each names the first one at fault.
 
-ghost use Rattle.std.specs.Prelude.{◌≡◌, ◌<◌, ◌≤◌, ◌↔◌, length, IsTrue, OnOk, IfErr};
+ghost use Rattle.std.specs.Prelude.{◌<◌, ◌↔◌, length, IsTrue, OnOk, IfErr};
 ghost use Rattle.tree_topology.specs.Graph.{IsNode, HasKnownEnds, HasNoSelfLink};
 ghost use Rattle.tree_topology.specs.Refusal.{IsRefusal};
 

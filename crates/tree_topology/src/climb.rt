@@ -1,6 +1,6 @@
 //! A path in the making: from both of its ends up to where they meet.
 
-ghost use Rattle.std.specs.Prelude.{◌≡◌, ◌≢◌, ◌+◌, ◌<◌, ◌≤◌, ◌++◌, [], length, reverse, OnOk, IfOk, slice_index};
+ghost use Rattle.std.specs.Prelude.{◌≡◌, ◌≢◌, ◌+◌, ◌<◌, ◌≤◌, ◌++◌, length, reverse, OnOk, IfOk, slice_index};
 ghost use Rattle.tree_topology.specs.Graph.{IsNode};
 ghost use Rattle.tree_topology.specs.Walk.{path_between};
 ghost use Rattle.tree_topology.specs.Routes.{ports_made};

@@ -1,6 +1,6 @@
 //! The components of a graph link by link, and the first link that closes a loop.
 
-ghost use Rattle.std.specs.Prelude.{◌≡◌, ◌≢◌, ◌+◌, ◌<◌, ◌≤◌, length, List, OnOk, IfOk, IfErr, slice_index, [], vec_len, replicate};
+ghost use Rattle.std.specs.Prelude.{◌≡◌, ◌+◌, ◌<◌, length, List, OnOk, IfOk, IfErr, slice_index, vec_len, replicate};
 ghost use Rattle.std.specs.List.{range_with_len};
 ghost use Rattle.tree_topology.specs.declared.graph.Link.{Link};
 ghost use Rattle.tree_topology.specs.Graph.{Connected, IsGraph};

@@ -1,7 +1,7 @@
 //! Laws of every accepted tree, over the definitions that the methods of `Tree` cite. Each is a
 //! function that does nothing and whose clauses are the law.
 
-ghost use Rattle.std.specs.Prelude.{◌≡◌, ◌≢◌, ◌↔◌, ◌+◌, ◌*◌, ◌≤◌, ℕ, List, [], Option, Some, None, IsTrue, length};
+ghost use Rattle.std.specs.Prelude.{◌≡◌, ◌≢◌, ◌↔◌, ◌+◌, ◌*◌, ◌≤◌, ℕ, List, [], Some, None, IsTrue, length};
 ghost use Rattle.srp_base.specs.Firsts.{first_where};
 ghost use Rattle.srp_base.specs.declared.numbers.EgressPort.{EgressPort};
 ghost use Rattle.tree_topology.specs.declared.graph.TreeErr.{TreeErr};

@@ -1,6 +1,6 @@
 //! A tree with the parent and the depth of each node, by which ways through it are found.
 
-ghost use Rattle.std.specs.Prelude.{◌≡◌, ◌≢◌, ◌+◌, ◌-◌, ◌<◌, ◌≤◌, ◌↔◌, length, IsSome, IfSome, OnOk, IfOk, IfErr, slice_index};
+ghost use Rattle.std.specs.Prelude.{◌≡◌, ◌≢◌, ◌<◌, ◌≤◌, ◌↔◌, length, IsSome, IfSome, OnOk, IfOk, IfErr, slice_index};
 ghost use Rattle.tree_topology.specs.Graph.{IsNode, Joined};
 ghost use Rattle.tree_topology.specs.Ports.{IsPort, far_node, neighbours, place_of, port_to, peer_of, ends_of};
 ghost use Rattle.tree_topology.specs.Walk.{begins_with, walk_between, is_behind};

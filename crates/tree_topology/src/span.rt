@@ -1,6 +1,6 @@
 //! The search from node 1, which gives each node its parent and its depth.
 
-ghost use Rattle.std.specs.Prelude.{◌≡◌, ◌≢◌, ◌==◌, ◌+◌, ◌<◌, ◌≤◌, ℕ, length, OnOk, IfOk, IfErr, slice_index, slice_set, [], ◌∷◌, ◌++◌, if◌then◌else◌};
+ghost use Rattle.std.specs.Prelude.{◌≡◌, ◌≢◌, ◌==◌, ◌+◌, ◌<◌, ℕ, length, OnOk, IfOk, IfErr, slice_index, slice_set, [], ◌∷◌, ◌++◌, if◌then◌else◌};
 ghost use Rattle.tree_topology.specs.Graph.{IsNode, Joined, IsTree};
 ghost use Rattle.tree_topology.specs.Tables.{IsSpan, Grows, IsClosed, HasReachedAll};
 ghost use Rattle.tree_topology.specs.Refusal.{HasNoLoop, IsAccepted, IsRefusal};
