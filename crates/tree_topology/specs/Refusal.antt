@@ -83,7 +83,7 @@ IsRefusal kinds links (TooManyLinks x) =
 IsRefusal kinds links NoMemory = Unit {0}
 
 -- ---- the refusal as a function: the law `refusals` says that it is the one that fits. A test of a link
--- ---- sees the links before it, and a test of a node the nodes before it.
+-- sees the links before it, and a test of a node the nodes before it.
 
 -- a graph of so many nodes has a node of this number
 abbrev pub is_node : ℕ → ℕ → Bool
