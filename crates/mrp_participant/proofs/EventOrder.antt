@@ -10,12 +10,8 @@ use Rattle.std.proofs.lemmas.List.Sorted.{length_permutation}
 use Rattle.srp_base.specs.declared.numbers.Cs.{Cs}
 use Rattle.srp_base.specs.declared.mrp.MrpEvent.{MrpEvent}
 use Rattle.mrp_participant.specs.declared.row.Row.{Row}
-use Rattle.mrp_participant.specs.Lookup.{same, find}
-use Rattle.mrp_participant.specs.Row.{leave_all_row, after_hear, row_hearing}
-use Rattle.mrp_participant.specs.State.{AreRows, rows_after_receive}
-use Rattle.mrp_participant.proofs.Transitions.{AreRows-receive}
-use Rattle.mrp_participant.proofs.EachKey.{each-receive}
-use Rattle.mrp_participant.proofs.Hearings.{rows-same}
+use Rattle.mrp_participant.specs.Lookup.{same}
+use Rattle.mrp_participant.specs.Row.{leave_all_row, after_hear, row_hearing, row_after_receive}
 
 filter-along : {X : Type 0} (p q : X → Bool) → ((x : X) → p x ≡ q x) → (xs : List X) → filter p xs ≡ filter q xs
 filter-along p q each [] = refl
@@ -57,23 +53,11 @@ module _ {K C : Type 0} {cmp : K → K → Ordering} (o : IsTotalOrder cmp) wher
       let alike : (x : MrpEvent × K × C) → tie x ≡ own q x = λ x. tied_by (cmp x.1 q) (cmp q x.1) (o.antisymm q x.1) in
       sym (filter-along tie (own q) alike sorted) ∙ (stable of_q ∙ filter-along tie (own q) alike (e ∷ events))
 
-  -- so what they make of the rows is the same
-  pub heard-sorted : (events sorted : List (MrpEvent × K × C)) → length sorted ≡ length events → IsStableByKey (λ (e : MrpEvent × K × C). e.1) cmp events sorted
-      → (leave : Cs) (leave_all : Bool) (rows : List (Row K C)) → AreRows cmp rows → rows_after_receive cmp leave leave_all sorted rows ≡ rows_after_receive cmp leave leave_all events rows
-  heard-sorted events sorted count stable leave leave_all rows are =
-      rows-same o (rows_after_receive cmp leave leave_all sorted rows) (rows_after_receive cmp leave leave_all events rows)
-      (AreRows-receive o leave leave_all sorted rows are).0 (AreRows-receive o leave leave_all events rows are).0
-      (λ q.
-      let start : Option (Row K C) = if leave_all then option_map (leave_all_row leave) (find cmp q rows) else find cmp q rows in
-      each-receive o leave leave_all sorted rows are q
-      ∙ (hears_own leave q sorted start
-      ∙ (ap (fold (row_hearing cmp leave q) start) (own-kept events sorted q count stable)
-      ∙ (sym (hears_own leave q events start)
-      ∙ sym (each-receive o leave leave_all events rows are q)))))
-
-  -- the same of events that were moved from where they stood
+  -- so what they make of the row of a key is the same, also of events that were moved from where they stood
   pub heard-by_key : (events before sorted : List (MrpEvent × K × C)) → before ≡ events → IsPermutation before sorted → IsStableByKey (λ (e : MrpEvent × K × C). e.1) cmp before sorted
-      → (leave : Cs) (leave_all : Bool) (rows : List (Row K C)) → AreRows cmp rows → rows_after_receive cmp leave leave_all sorted rows ≡ rows_after_receive cmp leave leave_all events rows
-  heard-by_key events before sorted is moved stable leave leave_all rows are =
-      heard-sorted before sorted (length_permutation before sorted moved) stable leave leave_all rows are
-      ∙ ap (λ (es : List (MrpEvent × K × C)). rows_after_receive cmp leave leave_all es rows) is
+      → (leave : Cs) (leave_all : Bool) (k : K) (r : Option (Row K C)) → row_after_receive cmp leave leave_all sorted k r ≡ row_after_receive cmp leave leave_all events k r
+  heard-by_key events before sorted is moved stable leave leave_all k r =
+      let start : Option (Row K C) = if leave_all then option_map (leave_all_row leave) r else r in
+      hears_own leave k sorted start
+      ∙ (ap (fold (row_hearing cmp leave k) start) (own-kept before sorted k (length_permutation before sorted moved) stable)
+      ∙ (sym (hears_own leave k before start) ∙ ap (fold (row_hearing cmp leave k) start) is))

@@ -268,22 +268,20 @@ module _ {K C : Type 0} {cmp : K → K → Ordering} (o : IsTotalOrder cmp) (lea
   pub heard-each : (events : List (MrpEvent × K × C)) (k : K) → row_so_far cmp leave_all leave rows (heard_rows cmp leave_all leave rows events) k ≡ row_after_receive cmp leave leave_all events k (find cmp k rows)
   heard-each events k = heard-fold events [] k (tt, tt) ∙ ap (λ x. fold (row_hearing cmp leave k) x events) (begin_by leave_all leave (find cmp k rows))
 
+  -- some rows have what the events make of each key that they speak of
+  abbrev pub HasHeard : List (MrpEvent × K × C) → List (Row K C) → Type 0
+  HasHeard events heard = (k : K) → row_so_far cmp leave_all leave rows heard k ≡ row_after_receive cmp leave leave_all events k (find cmp k rows)
+
   -- ascending rows in which each key has that are the rows after receiving
-  pub received-rows : (events : List (MrpEvent × K × C)) (new : List (Row K C)) → Ascends cmp key_of new → ((k : K) → find cmp k new ≡ row_so_far cmp leave_all leave rows (heard_rows cmp leave_all leave rows events) k) → new ≡ rows_after_receive cmp leave leave_all events rows
-  received-rows events new up each =
+  pub received-rows : (events : List (MrpEvent × K × C)) (heard new : List (Row K C)) → HasHeard events heard → Ascends cmp key_of new → ((k : K) → find cmp k new ≡ row_so_far cmp leave_all leave rows heard k) → new ≡ rows_after_receive cmp leave leave_all events rows
+  received-rows events heard new of_each up each =
       rows-same o new (rows_after_receive cmp leave leave_all events rows) up (AreRows-receive o leave leave_all events rows are).0
-      (λ k. each k ∙ (heard-each events k ∙ sym (each-receive o leave leave_all events rows are k)))
+      (λ k. each k ∙ (of_each k ∙ sym (each-receive o leave leave_all events rows are k)))
 
-  pub AreRows-heard_rows : (events : List (MrpEvent × K × C)) (heard : List (Row K C)) → AreRows cmp heard → AreRows cmp (fold (heard_with cmp leave_all leave rows) heard events)
-  AreRows-heard_rows [] heard beside = beside
-  AreRows-heard_rows (e ∷ events) heard beside = AreRows-heard_rows events (heard_with cmp leave_all leave rows heard e) (AreRows-heard heard e.0 e.1 e.2 beside)
-
-  merged-received : (events : List (MrpEvent × K × C)) → merged cmp (heard_rows cmp leave_all leave rows events) (map (begun_row leave_all leave) rows) ≡ rows_after_receive cmp leave leave_all events rows
-  merged-received events =
-      let heard : List (Row K C) = heard_rows cmp leave_all leave rows events in
-      let up : Ascends cmp key_of heard = (AreRows-heard_rows events [] (tt, tt)).0 in
+  merged-received : (events : List (MrpEvent × K × C)) (heard : List (Row K C)) → HasHeard events heard → Ascends cmp key_of heard → merged cmp heard (map (begun_row leave_all leave) rows) ≡ rows_after_receive cmp leave leave_all events rows
+  merged-received events heard of_each up =
       let begun = AreRows-begun cmp leave_all leave rows are in
-      received-rows events (merged cmp heard (map (begun_row leave_all leave) rows)) (Ascends-merged o heard (map (begun_row leave_all leave) rows) up begun.0)
+      received-rows events heard (merged cmp heard (map (begun_row leave_all leave) rows)) of_each (Ascends-merged o heard (map (begun_row leave_all leave) rows) up begun.0)
       (λ k. find-merged o k heard (map (begun_row leave_all leave) rows) up begun.0
       ∙ ap (first_of (find cmp k heard)) (each-mapped o (begun_row leave_all leave) (begun-key leave_all leave) rows k))
 
@@ -333,12 +331,12 @@ module _ {K C : Type 0} {cmp : K → K → Ordering} (o : IsTotalOrder cmp) (eq 
   each-mapped_to P f (x ∷ xs) h = (h x (inl refl), each-mapped_to P f xs (λ y at. h y (inr at)))
 
   -- the keys that change are among those that were heard of
-  pub changed-heard : (leave_all : Bool) (leave : Cs) (events : List (MrpEvent × K × C)) (rows : List (Row K C)) → AreRows cmp rows → changed_keys cmp eq rows (heard_rows cmp leave_all leave rows events) ≡ changed_keys cmp eq rows (rows_after_receive cmp leave leave_all events rows)
-  changed-heard leave_all leave events rows are =
+  pub changed-heard : (leave_all : Bool) (leave : Cs) (events : List (MrpEvent × K × C)) (heard rows : List (Row K C)) (are : AreRows cmp rows) → HasHeard o leave_all leave rows are events heard → Ascends cmp key_of heard → changed_keys cmp eq rows heard ≡ changed_keys cmp eq rows (rows_after_receive cmp leave leave_all events rows)
+  changed-heard leave_all leave events heard rows are of_each up =
       ap (map key_of)
-      (sym (filter-merged cmp _ (heard_rows cmp leave_all leave rows events) (map (begun_row leave_all leave) rows)
+      (sym (filter-merged cmp _ heard (map (begun_row leave_all leave) rows)
       (each-mapped_to _ (begun_row leave_all leave) rows (λ r at. begun-told leave_all leave rows r are.0 at))))
-      ∙ ap (changed_keys cmp eq rows) (merged-received o leave_all leave rows are events)
+      ∙ ap (changed_keys cmp eq rows) (merged-received o leave_all leave rows are events heard of_each up)
 
 -- ---- the steps of the loops
 
@@ -437,21 +435,23 @@ module _ {K C : Type 0} {cmp : K → K → Ordering} (o : IsTotalOrder cmp) (lea
     pub put-ascends : Ascends cmp key_of new
     put-ascends = subst (Ascends cmp key_of) (sym e) (Ascends-put_over o us begun begun-ascends)
 
-module _ {K C : Type 0} {cmp : K → K → Ordering} (o : IsTotalOrder cmp) (leave_all : Bool) (leave : Cs) (events : List (MrpEvent × K × C)) (rows slice heard heard_slice : List (Row K C)) (is : slice ≡ rows) (heard_is : heard ≡ heard_rows cmp leave_all leave slice events) (slice_is : heard_slice ≡ heard) (are : AreRows cmp rows) where
-  what_was_heard : heard_slice ≡ heard_rows cmp leave_all leave rows events
-  what_was_heard = slice_is ∙ (heard_is ∙ ap (λ l. heard_rows cmp leave_all leave l events) is)
+module _ {K C : Type 0} {cmp : K → K → Ordering} (o : IsTotalOrder cmp) (leave_all : Bool) (leave : Cs) (events : List (MrpEvent × K × C)) (rows slice heard heard_slice : List (Row K C)) (is : slice ≡ rows) (slice_is : heard_slice ≡ heard) (are : AreRows cmp rows) (each : (k : K) → row_so_far cmp leave_all leave slice heard k ≡ row_after_receive cmp leave leave_all events k (find cmp k slice)) where
+  what_was_heard : HasHeard o leave_all leave rows are events heard_slice
+  what_was_heard k =
+      ap (λ l. row_so_far cmp leave_all leave rows l k) slice_is
+      ∙ (ap (λ l. row_so_far cmp leave_all leave l heard k) (sym is)
+      ∙ (each k ∙ ap (λ l. row_after_receive cmp leave leave_all events k (find cmp k l)) is))
 
   -- the rows that the code leaves are those after receiving
   pub rows-received : (new : List (Row K C)) → Ascends cmp key_of new → ((k : K) → find cmp k new ≡ row_so_far cmp leave_all leave rows heard_slice k) → new ≡ rows_after_receive cmp leave leave_all events rows
-  rows-received new up each =
-      received-rows o leave_all leave rows are events new up (λ k. each k ∙ ap (λ l. row_so_far cmp leave_all leave rows l k) what_was_heard)
+  rows-received new up of_new = received-rows o leave_all leave rows are events heard_slice new what_was_heard up of_new
 
   -- the keys that it tells are those that change
-  pub keys-told : (eq : C → C → Bool) → IsEquivalence eq → (other : List (Row K C)) (keys : List K) → other ≡ rows → keys ≡ changed_keys cmp eq other heard_slice → keys ≡ changed_keys cmp eq rows (rows_after_receive cmp leave leave_all events rows)
-  keys-told eq laws other keys other_is told =
+  pub keys-told : (eq : C → C → Bool) → IsEquivalence eq → (other : List (Row K C)) (keys : List K) → Ascends cmp key_of heard → other ≡ rows → keys ≡ changed_keys cmp eq other heard_slice → keys ≡ changed_keys cmp eq rows (rows_after_receive cmp leave leave_all events rows)
+  keys-told eq laws other keys up other_is told =
       told
       ∙ (ap (λ l. changed_keys cmp eq l heard_slice) other_is
-      ∙ (ap (changed_keys cmp eq rows) what_was_heard ∙ changed-heard o eq laws leave_all leave events rows are))
+      ∙ changed-heard o eq laws leave_all leave events heard_slice rows are what_was_heard (subst (Ascends cmp key_of) (sym slice_is) up))
 
 -- ---- two lists of rows are merged
 

@@ -1,199 +1,288 @@
--- An outlook holds of all rows: what it says of them, and how it goes on holding.
-use Rattle.std.proofs.Common.{◌≡◌, ℕ, ◌≤◌, Bool, true, false, not, ◌&&◌, ◌||◌, if◌then◌else◌, nat_le, ◌==◌, List, [], ◌∷◌, ◌++◌, take, drop, suc, fold, refl, sym, ap, ◌∙◌, subst, arith, is_none, option_map}
+-- An outlook of all rows: how it goes on being theirs, and what it says of them.
+use Rattle.std.proofs.Common.{◌≡◌, ℕ, ◌+◌, ◌-◌, ◌^◌, ◌<◌, ◌≤◌, Bool, true, false, not, ◌&&◌, ◌||◌, cond, if◌then◌else◌, nat_lt, nat_le, ◌==◌, List, [], ◌∷◌, ◌++◌, length, take, drop, drop-cons, get_or, suc, refl, sym, ap, ◌∙◌, subst, arith, is_none}
+use Rattle.std.specs.Prelude.{count_by}
 use Rattle.std.proofs.lemmas.Bool.Decides.{nat_tests}
+use Rattle.std.proofs.lemmas.List.{take-append-drop, take_more, append-nil}
+use Rattle.std.proofs.lemmas.List.Sums.{sum_by-append, sum_by-cons, count_by-le-length}
 use Rattle.std.specs.declared.option.Option.{Option}
 use Rattle.std.specs.declared.option.Option.TheVariants.{None, Some}
-use Rattle.std.specs.declared.cmp.Ordering.{Ordering}
-use Rattle.std.specs.Cmp.{IsTotalOrder}
-use Rattle.std.specs.List.{AllByRecursion, list_any, cons_option}
+use Rattle.std.specs.List.{AllByRecursion, list_any, list_all}
 use Rattle.srp_base.specs.declared.numbers.Cs.{Cs}
 use Rattle.applicant.specs.declared.Applicant.{Applicant}
 use Rattle.applicant.specs.declared.Applicant.TheVariants.{Vo, Vp, Vn, An, Aa, Qa, La}
 use Rattle.mrp_participant.specs.declared.row.Row.{Row}
 use Rattle.mrp_participant.specs.declared.outlook.Outlook.{Outlook}
-use Rattle.mrp_participant.specs.Lookup.{Ascends, key_of, same, find, put, IsRowAt, IsGapAt}
 use Rattle.registrar.specs.Table.{is_leaving}
 use Rattle.applicant.specs.Table.{is_quiet}
-use Rattle.mrp_participant.specs.Row.{is_settled, leave_is_due}
-use Rattle.mrp_participant.specs.Outlook.{IsFrom, HoldsOf, HoldsOfAll, is_by, may_leave, is_at_rest, earlier, outlook_with, empty_outlook, outlook_heard}
+use Rattle.mrp_participant.specs.Row.{leave_is_due}
+use Rattle.mrp_participant.specs.Outlook.{ends_at, IsFirst, Tells, has_one, IsOutlook, firsts, first_with, outlook_with, HasRoom, first_without, outlook_without, IsCounted, Counts, is_by, is_at_rest}
 use Rattle.mrp_participant.specs.Sending.{round, is_tried}
 use Rattle.mrp_participant.specs.State.{none_tried, all_settled}
-use Rattle.mrp_participant.specs.Hearing.{first_of, begun_row, row_so_far}
-use Rattle.mrp_participant.proofs.Lookups.{Each-map, Each-put}
-use Rattle.mrp_participant.proofs.CutLemmas.{Each-from_in, find-in}
+use Rattle.mrp_participant.proofs.Lookups.{Each-map}
 
-and-left : (a b : Bool) → (a && b) ≡ true → a ≡ true
-and-left true b h = refl
-and-left false b h = cc
+-- ---- one element more or less
 
-and-right_not : (a b : Bool) → (a && not b) ≡ true → b ≡ false
-and-right_not true true h = cc
-and-right_not true false h = refl
-and-right_not false b h = cc
+module _ {X : Type 0} where
+  each-among : (P : X → Type 0) (xs : List X) (x : X) (ys : List X) → P x → AllByRecursion P (xs ++ ys) → AllByRecursion P (xs ++ x ∷ ys)
+  each-among P [] x ys p h = (p, h)
+  each-among P (z ∷ xs) x ys p h = (h.0, each-among P xs x ys p h.1)
 
--- ---- one more row
+  each-others : (P : X → Type 0) (xs : List X) (x : X) (ys : List X) → AllByRecursion P (xs ++ x ∷ ys) → P x × AllByRecursion P (xs ++ ys)
+  each-others P [] x ys h = h
+  each-others P (z ∷ xs) x ys h = let rest = each-others P xs x ys h.1 in (rest.0, (h.0, rest.1))
 
-own_by : (first t : Cs) (b : Bool) → nat_le first.0 t.0 ≡ b → (if b then first else t).0 ≤ t.0
-own_by first t true e = grind (arith, nat_tests)
-own_by first t false e = omega arith
+  count-among : (p : X → Bool) (xs : List X) (x : X) (ys : List X) → count_by p (xs ++ x ∷ ys) ≡ count_by p (xs ++ ys) + cond (p x) 1 0
+  count-among p xs x ys =
+      let f : X → ℕ = λ y. cond (p y) 1 0 in
+      omega (arith, sum_by-append f xs (x ∷ ys), sum_by-cons f x ys, sum_by-append f xs ys)
 
--- the earlier of two moments isn't after the second
-own-from : (first : Option Cs) (t : Cs) → IsFrom (Some (earlier first t)) t
-own-from None t = omega arith
-own-from (Some first) t = own_by first t (nat_le first.0 t.0) refl
+  count-none : (p : X → Bool) (xs : List X) → AllByRecursion (λ x. p x ≡ false) xs → count_by p xs ≡ 0
+  count-none p [] h = refl
+  count-none p (x ∷ xs) h = sum_by-cons (λ y. cond (p y) 1 0) x xs ∙ (ap {B = ℕ} (λ b. cond b 1 0 + count_by p xs) h.0 ∙ (omega (arith, count-none p xs h.1)))
 
-other_by : (first t u : Cs) (b : Bool) → nat_le first.0 t.0 ≡ b → first.0 ≤ u.0 → (if b then first else t).0 ≤ u.0
-other_by first t u true e h = h
-other_by first t u false e h = grind (arith, nat_tests)
+  length-among : (xs : List X) (x : X) (ys : List X) → length (xs ++ x ∷ ys) ≡ length (xs ++ ys) + 1
+  length-among [] x ys = omega arith
+  length-among (z ∷ xs) x ys = omega (arith, length-among xs x ys)
 
--- what isn't before the first isn't before an earlier one
-other-from : (first : Option Cs) (t u : Cs) → IsFrom first u → IsFrom (Some (earlier first t)) u
-other-from None t u h = absurd h
-other-from (Some first) t u h = other_by first t u (nat_le first.0 t.0) refl h
+-- ---- the first moment
 
-other-from_by : (first : Option Cs) (t u : Cs) (b : Bool) → IsFrom first u → IsFrom (if b then Some (earlier first t) else first) u
-other-from_by first t u true h = other-from first t u h
-other-from_by first t u false h = h
+never_at_by : (t leave : Cs) (b : Bool) → (b ≡ true → t.0 < leave.0) → (b && (t.0 == leave.0)) ≡ false
+never_at_by t leave false below = refl
+never_at_by t leave true below = let less = below refl in grind (arith, nat_tests)
+
+counted_by : (p : Cs × ℕ) (t : Cs) (before same : Bool) → nat_lt 0 p.1 ≡ true → nat_lt 0 (if before then (t, 1) else (if same then (p.0, p.1 + 1) else p)).1 ≡ true
+counted_by p t true same h = refl
+counted_by p t false true h = grind (arith, nat_tests)
+counted_by p t false false h = h
+
+one-more : (first : Option (Cs × ℕ)) (t : Cs) (b : Bool) → has_one first ≡ true → has_one (if b then Some (first_with first t) else first) ≡ true
+one-more first t false h = h
+one-more None t true h = refl
+one-more (Some p) t true h = counted_by p t (nat_lt t.0 p.0.0) (t.0 == p.0.0) h
 
 module _ {K C : Type 0} where
-  -- the outlook for one more row holds of it
-  pub holds-own : (o : Outlook) (r : Row K C) → HoldsOf (outlook_with o r) r
-  holds-own o r = record {
-    leave = λ e. subst (λ b. IsFrom (if b then Some (earlier o.first_leave r.leave) else o.first_leave) r.leave) (sym e) (own-from o.first_leave r.leave);
-    untried = λ e. and-right_not o.none_tried (is_tried false r) e;
-  }
+  -- ---- one row less
 
-  -- and of each row of which the outlook held
-  pub holds-other : (o : Outlook) (q r : Row K C) → HoldsOf o r → HoldsOf (outlook_with o q) r
-  holds-other o q r h = record {
-    leave = λ e. other-from_by o.first_leave q.leave r.leave (is_leaving q.registrar) (h.leave e);
-    untried = λ e. h.untried (and-left o.none_tried (not (is_tried false q)) e);
-  }
+  first-less : (first : Option (Cs × ℕ)) (xs : List (Row K C)) (r : Row K C) (ys : List (Row K C)) → IsFirst first (xs ++ r ∷ ys) → IsFirst (first_without first r) (xs ++ ys) × IsCounted first r
+  first-less None xs r ys h = ((each-others (λ q. is_leaving q.registrar ≡ false) xs r ys h).1, tt)
+  first-less (Some p) xs r ys h =
+      let all = count-among (ends_at p.0) xs r ys in
+      ((omega (arith, h.0, all), (each-others (λ (q : Row K C). is_leaving q.registrar ≡ true → p.0.0 ≤ q.leave.0) xs r ys h.1).1), omega (arith, h.0, all))
 
-  holds-fold : (rows : List (Row K C)) (o : Outlook) → ((r : Row K C) → HoldsOf o r → HoldsOf (fold outlook_with o rows) r) × HoldsOfAll (fold outlook_with o rows) rows
-  holds-fold [] o = (λ r h. h, tt)
-  holds-fold (q ∷ rows) o =
-      let rest = holds-fold rows (outlook_with o q) in
-      (λ r h. rest.0 r (holds-other o q r h), (rest.0 q (holds-own o q), rest.1))
+  tells-less : (o : Outlook) (xs : List (Row K C)) (r : Row K C) (ys : List (Row K C)) → Tells o (xs ++ r ∷ ys) → Tells (outlook_without o r) (xs ++ ys) × Counts o r
+  tells-less o xs r ys h =
+      let first = first-less o.first_leave xs r ys h.first in
+      let all = count-among (λ q. is_tried false q) xs r ys in
+      (record { first = first.0; tried = omega (arith, h.tried, all) }, (first.1, omega (arith, h.tried, all)))
 
-  -- the outlook for some rows holds of all of them
-  pub holds_of_all : (rows : List (Row K C)) (o : Outlook) → o ≡ fold outlook_with empty_outlook rows → HoldsOfAll o rows
-  holds_of_all rows o is = subst (λ x. HoldsOfAll x rows) (sym is) (holds-fold rows empty_outlook).1
+  -- ---- one row more
 
--- ---- what was heard
+  -- where no timer ends before a moment, none ends at an earlier one
+  never_at : (t first : Cs) (rows : List (Row K C)) → t.0 < first.0 → AllByRecursion (λ (q : Row K C). is_leaving q.registrar ≡ true → first.0 ≤ q.leave.0) rows → count_by (ends_at t) rows ≡ 0
+  never_at t first rows less h =
+      count-none (ends_at t) rows (Each-map _ _ (λ q from. never_at_by t q.leave (is_leaving q.registrar) (λ leaving. let after = from leaving in omega arith)) rows h)
 
--- what isn't changed by no LeaveAll
-begun_alike : {K C : Type 0} (leave : Cs) (r : Option (Row K C)) → option_map (begun_row false leave) r ≡ r
-begun_alike leave None = refl
-begun_alike leave (Some r) = refl
+  ends_itself : (r : Row K C) → is_leaving r.registrar ≡ true → ends_at r.leave r ≡ true
+  ends_itself r e = ap (λ b. b && (r.leave.0 == r.leave.0)) e ∙ grind (arith, nat_tests)
 
--- a fact of the first of two
-of_first : {X : Type 0} (P : X → Type 0) (x : X) (a b : Option X) → (a ≡ Some x → P x) → (b ≡ Some x → P x) → first_of a b ≡ Some x → P x
-of_first P x None b first second e = second e
-of_first P x (Some y) b first second e = first e
+  earlier_by : (p : Cs × ℕ) (xs : List (Row K C)) (r : Row K C) (ys : List (Row K C)) (before same : Bool) → is_leaving r.registrar ≡ true → nat_lt r.leave.0 p.0.0 ≡ before → (r.leave.0 == p.0.0) ≡ same → IsFirst (Some p) (xs ++ ys)
+      → IsFirst (Some (if before then (r.leave, 1) else (if same then (p.0, p.1 + 1) else p))) (xs ++ r ∷ ys)
+  earlier_by p xs r ys true same e lt eq h =
+      let less : r.leave.0 < p.0.0 = grind (arith, nat_tests) in (
+        omega (arith, count-among (ends_at r.leave) xs r ys, never_at r.leave p.0 (xs ++ ys) less h.1, ap {B = ℕ} (λ b. cond b 1 0) (ends_itself r e)),
+        each-among _ xs r ys (λ leaving. omega arith) (Each-map _ _ (λ q from leaving. let after = from leaving in omega arith) (xs ++ ys) h.1),
+      )
+  earlier_by p xs r ys false true e lt eq h =
+      let one : p.0.0 ≡ r.leave.0 = grind (arith, nat_tests) in
+      let ends : ends_at p.0 r ≡ true = ap (λ b. b && (p.0.0 == r.leave.0)) e ∙ grind (arith, nat_tests) in
+      (omega (arith, h.0, count-among (ends_at p.0) xs r ys, ap {B = ℕ} (λ b. cond b 1 0) ends), each-among _ xs r ys (λ leaving. omega arith) h.1)
+  earlier_by p xs r ys false false e lt eq h =
+      let later : p.0.0 < r.leave.0 = grind (arith, nat_tests) in
+      let ends : ends_at p.0 r ≡ false = never_at_by p.0 r.leave (is_leaving r.registrar) (λ leaving. later) in
+      (omega (arith, h.0, count-among (ends_at p.0) xs r ys, ap {B = ℕ} (λ b. cond b 1 0) ends), each-among _ xs r ys (λ leaving. omega arith) h.1)
 
-or-first : (a b : Bool) → (a || b) ≡ false → a ≡ false
-or-first true b h = cc
-or-first false b h = refl
+  first-more_by : (first : Option (Cs × ℕ)) (xs : List (Row K C)) (r : Row K C) (ys : List (Row K C)) (b : Bool) → is_leaving r.registrar ≡ b → IsFirst first (xs ++ ys) → IsFirst (if b then Some (first_with first r.leave) else first) (xs ++ r ∷ ys)
+  first-more_by None xs r ys false e h = each-among _ xs r ys e h
+  first-more_by (Some p) xs r ys false e h =
+      (omega (arith, h.0, count-among (ends_at p.0) xs r ys, ap {B = ℕ} (λ b. cond (b && (p.0.0 == r.leave.0)) 1 0) e), each-among _ xs r ys (λ leaving. absurd cc) h.1)
+  first-more_by None xs r ys true e h =
+      let none : count_by (ends_at r.leave) (xs ++ ys) ≡ 0 = count-none (ends_at r.leave) (xs ++ ys) (Each-map _ _ (λ q still. ap (λ b. b && (r.leave.0 == q.leave.0)) still) (xs ++ ys) h) in (
+        omega (arith, count-among (ends_at r.leave) xs r ys, none, ap {B = ℕ} (λ b. cond b 1 0) (ends_itself r e)),
+        each-among _ xs r ys (λ leaving. omega arith) (Each-map _ _ (λ q still leaving. absurd cc) (xs ++ ys) h),
+      )
+  first-more_by (Some p) xs r ys true e h = earlier_by p xs r ys (nat_lt r.leave.0 p.0.0) (r.leave.0 == p.0.0) e refl refl h
 
-found_by : {X : Type 0} (P : X → Type 0) (x y : X) (rest : Option X) (b : Bool) → P y → (rest ≡ Some x → P x) → (if b then Some y else rest) ≡ Some x → P x
-found_by P x y rest true p later e = let one : y ≡ x = cc in subst P one p
-found_by P x y rest false p later e = later e
+  tells-more : (o : Outlook) (xs : List (Row K C)) (r : Row K C) (ys : List (Row K C)) → Tells o (xs ++ ys) → Tells (outlook_with o r) (xs ++ r ∷ ys)
+  tells-more o xs r ys h =
+      record {
+        first = first-more_by o.first_leave xs r ys (is_leaving r.registrar) refl h.first;
+        tried = omega (arith, h.tried, count-among (λ q. is_tried false q) xs r ys);
+      }
 
--- a fact of all rows is one of the row that a key finds
-Each-found : {K C : Type 0} (cmp : K → K → Ordering) (P : Row K C → Type 0) (k : K) (r : Row K C) (rows : List (Row K C)) → AllByRecursion P rows → find cmp k rows ≡ Some r → P r
-Each-found cmp P k r [] h e = cc
-Each-found cmp P k r (q ∷ rows) h e = found_by P r q (find cmp k rows) (same cmp q.key k) h.0 (Each-found cmp P k r rows h.1) e
+  -- an outlook of rows, and one row more
+  outlook-more : (o : Outlook) (xs : List (Row K C)) (r : Row K C) (ys : List (Row K C)) → IsOutlook o (xs ++ ys) → IsOutlook (outlook_with o r) (xs ++ r ∷ ys)
+  outlook-more o xs r ys h = (tells-more o xs r ys h.0, one-more o.first_leave r.leave (is_leaving r.registrar) h.1)
 
-module _ {K C : Type 0} {cmp : K → K → Ordering} (total : IsTotalOrder cmp) (leave : Cs) (old heard new : List (Row K C)) (o : Outlook) (up : Ascends cmp key_of new) (h : HoldsOfAll o old) where
-  holds-heard_by : (leave_all anew : Bool) → (anew ≡ false → leave_all ≡ false) → ((k : K) → find cmp k new ≡ row_so_far cmp leave_all leave old heard k) → HoldsOfAll (outlook_heard anew new heard o) new
-  holds-heard_by leave_all true off each = (holds-fold new empty_outlook).1
-  holds-heard_by true false off each = let never = off refl in cc
-  holds-heard_by false false off each =
-      let later = holds-fold heard o in
-      Each-from_in (HoldsOf (fold outlook_with o heard)) new
-      (λ r at.
-      of_first (HoldsOf (fold outlook_with o heard)) r (find cmp r.key heard) (option_map (begun_row false leave) (find cmp r.key old))
-      (λ e. Each-found cmp (HoldsOf (fold outlook_with o heard)) r.key r heard later.1 e)
-      (λ e. later.0 r (Each-found cmp (HoldsOf o) r.key r old h (sym (begun_alike leave (find cmp r.key old)) ∙ e)))
-      (sym (each r.key) ∙ find-in total r new up at))
+  firsts-few : (first : Option (Cs × ℕ)) (rows : List (Row K C)) → IsFirst first rows → firsts first ≤ length rows
+  firsts-few None rows h = omega arith
+  firsts-few (Some p) rows h = omega (arith, h.0, count_by-le-length (ends_at p.0) rows)
 
-  -- the outlook after a list of messages holds of all rows then
-  pub holds-heard : (leave_all anew rest : Bool) (later : Outlook) (slice beside : List (Row K C)) → slice ≡ new → beside ≡ heard → ((k : K) → find cmp k new ≡ row_so_far cmp leave_all leave old heard k) → anew ≡ (leave_all || rest) → later ≡ outlook_heard anew slice beside o → HoldsOfAll later new
-  holds-heard leave_all anew rest later slice beside all all_heard each asks is =
-      subst (λ x. HoldsOfAll x new) (sym (is ∙ (ap (λ l. outlook_heard anew l beside o) all ∙ ap (λ l. outlook_heard anew new l o) all_heard)))
-      (holds-heard_by leave_all anew (λ off. or-first leave_all rest (sym asks ∙ off)) each)
+  -- no count is more than the rows are
+  room-for : (o : Outlook) (rows : List (Row K C)) → Tells o rows → length rows + 1 < 2 ^ 64 → HasRoom o
+  room-for o rows h few =
+      (omega (arith, firsts-few o.first_leave rows h.first, few), omega (arith, h.tried, count_by-le-length (λ (q : Row K C). is_tried false q) rows, few))
 
-module _ {K C : Type 0} {cmp : K → K → Ordering} (total : IsTotalOrder cmp) (o : Outlook) (k : K) (r : Row K C) where
-  -- another row for a key, with the outlook for one more row
-  holds-put : (rows : List (Row K C)) → HoldsOfAll o rows → HoldsOfAll (outlook_with o r) (put cmp k (Some r) rows)
-  holds-put rows h =
-      Each-put total (HoldsOf (outlook_with o r)) k (Some r) rows
-      (λ n e. let one : r ≡ n = cc in subst (HoldsOf (outlook_with o r)) one (holds-own o r))
-      (Each-map (HoldsOf o) (HoldsOf (outlook_with o r)) (λ q hq. holds-other o r q hq) rows h)
+  -- ---- a row in the place of another
 
-  holds-placed : (later : Outlook) (rows new : List (Row K C)) → HoldsOfAll o rows → later ≡ outlook_with o r → put cmp k (Some r) rows ≡ new → HoldsOfAll later new
-  holds-placed later rows new h is placed = subst (λ x. HoldsOfAll x new) (sym is) (subst (HoldsOfAll (outlook_with o r)) placed (holds-put rows h))
+  parts-at : (rows : List (Row K C)) (at : ℕ) (r : Row K C) → at < length rows → r ≡ get_or rows at r → rows ≡ take at rows ++ r ∷ drop (suc at) rows
+  parts-at rows at r below is =
+      sym (take-append-drop at rows) ∙ ap (λ l. take at rows ++ l) (drop-cons rows at r below ∙ ap (λ x. x ∷ drop (suc at) rows) (sym is))
 
-  -- at the place of the key's row, and at the gap where one would stand
-  pub holds-at_row : (later : Outlook) (rows slice new : List (Row K C)) (i : ℕ) → slice ≡ rows → HoldsOfAll o rows → later ≡ outlook_with o r → IsRowAt cmp k slice i → new ≡ take i rows ++ cons_option (Some r) (drop (suc i) rows) → HoldsOfAll later new
-  holds-at_row later rows slice new i all h is at new_is =
-      holds-placed later rows new h is
-      (ap (put cmp k (Some r)) (sym all) ∙ at.replaced (Some r) ∙ ap (λ l. take i l ++ cons_option (Some r) (drop (suc i) l)) all ∙ sym new_is)
+  pub without-at : (o : Outlook) (rows : List (Row K C)) (at : ℕ) (r : Row K C) → at < length rows → r ≡ get_or rows at r → Tells o rows → Tells (outlook_without o r) (take at rows ++ drop (suc at) rows) × Counts o r
+  without-at o rows at r below is h = tells-less o (take at rows) r (drop (suc at) rows) (subst (Tells o) (parts-at rows at r below is) h)
 
-  pub holds-at_gap : (later : Outlook) (rows slice new : List (Row K C)) (i : ℕ) → slice ≡ rows → HoldsOfAll o rows → later ≡ outlook_with o r → IsGapAt cmp k slice i → new ≡ take i rows ++ cons_option (Some r) (drop i rows) → HoldsOfAll later new
-  holds-at_gap later rows slice new i all h is at new_is =
-      holds-placed later rows new h is
-      (ap (put cmp k (Some r)) (sym all) ∙ at.filled (Some r) ∙ ap (λ l. take i l ++ cons_option (Some r) (drop i l)) all ∙ sym new_is)
+  -- one row less is one less of all
+  fewer-at : (rows : List (Row K C)) (at : ℕ) (r : Row K C) → at < length rows → r ≡ get_or rows at r → length (take at rows ++ drop (suc at) rows) + 1 ≡ length rows
+  fewer-at rows at r below is = sym (length-among (take at rows) r (drop (suc at) rows)) ∙ ap length (sym (parts-at rows at r below is))
+
+  -- there is room for a row where one was taken away
+  pub room-at : (o others : Outlook) (rows : List (Row K C)) (at : ℕ) (r : Row K C) → at < length rows → r ≡ get_or rows at r → length rows < 2 ^ 64 → Tells o rows → others ≡ outlook_without o r → HasRoom others
+  room-at o others rows at r below is few h less =
+      subst HasRoom (sym less) (room-for (outlook_without o r) (take at rows ++ drop (suc at) rows) (without-at o rows at r below is h).0 (omega (arith, few, fewer-at rows at r below is)))
+
+  -- the outlook where a row stands in the place of another
+  pub replaced-some : (o others all : Outlook) (rows slice new : List (Row K C)) (at : ℕ) (r q : Row K C) → at < length rows → r ≡ get_or rows at r → Tells o rows → others ≡ outlook_without o r → all ≡ outlook_with others q → slice ≡ new → new ≡ take at rows ++ q ∷ drop (suc at) rows → Tells all slice
+  replaced-some o others all rows slice new at r q below is h less more slice_is new_is =
+      subst (λ l. Tells all l) (sym (slice_is ∙ new_is))
+      (subst (λ x. Tells x (take at rows ++ q ∷ drop (suc at) rows)) (sym (more ∙ ap (λ x. outlook_with x q) less))
+      (tells-more (outlook_without o r) (take at rows) q (drop (suc at) rows) (without-at o rows at r below is h).0))
+
+  -- the outlook where a row was taken away
+  pub replaced-none : (o others all : Outlook) (rows slice new : List (Row K C)) (at : ℕ) (r : Row K C) → at < length rows → r ≡ get_or rows at r → Tells o rows → others ≡ outlook_without o r → all ≡ others → slice ≡ new → new ≡ take at rows ++ drop (suc at) rows → Tells all slice
+  replaced-none o others all rows slice new at r below is h less same slice_is new_is =
+      subst (λ l. Tells all l) (sym (slice_is ∙ new_is))
+      (subst (λ x. Tells x (take at rows ++ drop (suc at) rows)) (sym (same ∙ less)) (without-at o rows at r below is h).0)
+
+  -- the outlook with a row put between others
+  pub filled : (o later : Outlook) (rows new : List (Row K C)) (at : ℕ) (q : Row K C) → IsOutlook o rows → later ≡ outlook_with o q → new ≡ take at rows ++ q ∷ drop at rows → IsOutlook later new
+  filled o later rows new at q h more new_is =
+      subst (λ l. IsOutlook later l) (sym new_is)
+      (subst (λ x. IsOutlook x (take at rows ++ q ∷ drop at rows)) (sym more)
+      (outlook-more o (take at rows) q (drop at rows) (subst (IsOutlook o) (sym (take-append-drop at rows)) h)))
+
+  -- there is room for a row that was put between others
+  pub room-filled : (o : Outlook) (rows new : List (Row K C)) (at : ℕ) (q : Row K C) → Tells o rows → length new < 2 ^ 64 → new ≡ take at rows ++ q ∷ drop at rows → HasRoom o
+  room-filled o rows new at q h few new_is =
+      room-for o rows h (omega (arith, few, ap length new_is, length-among (take at rows) q (drop at rows), ap length (take-append-drop at rows)))
+
+  -- ---- one walk over the rows
+
+  pub walk-step : (o later : Outlook) (rows : List (Row K C)) (i : ℕ) (r : Row K C) → i < length rows → r ≡ get_or rows i r → later ≡ outlook_with o r → IsOutlook o (take i rows) → IsOutlook later (take (i + 1) rows)
+  walk-step o later rows i r below is step h =
+      subst (λ l. IsOutlook later l) (sym (take_more rows i r below ∙ ap (λ x. take i rows ++ x ∷ []) (sym is)))
+      (subst (λ x. IsOutlook x (take i rows ++ r ∷ [])) (sym step)
+      (outlook-more o (take i rows) r [] (subst (IsOutlook o) (sym (append-nil (take i rows))) h)))
 
 -- ---- what an outlook says
 
-not_due_by : (first : Option Cs) (leave : Cs) (now : ℕ) (b : Bool) → is_by now first ≡ false → (b ≡ true → IsFrom first leave) → (b && nat_le leave.0 now) ≡ false
-not_due_by first leave now false may h = refl
-not_due_by None leave now true may h = absurd (h refl)
-not_due_by (Some first) leave now true may h = let from = h refl in grind (arith, nat_tests)
+tried_by : (b rest : Bool) (n : ℕ) → rest ≡ (n == 0) → (not b && rest) ≡ ((cond b 1 0 + n) == 0)
+tried_by true rest n h = grind (arith, nat_tests)
+tried_by false rest n h = h ∙ ap (λ m. m == 0) (omega arith)
 
-quiet-untried : (a : Applicant) → not (round false a == 0) ≡ false → is_quiet a ≡ true
-quiet-untried Vo h = refl
-quiet-untried Vp h = cc
-quiet-untried Vn h = cc
-quiet-untried An h = cc
-quiet-untried Aa h = cc
-quiet-untried Qa h = refl
-quiet-untried La h = cc
+quiet-untried : (a : Applicant) → is_quiet a ≡ not (not (round false a == 0))
+quiet-untried Vo = refl
+quiet-untried Vp = refl
+quiet-untried Vn = refl
+quiet-untried An = refl
+quiet-untried Aa = refl
+quiet-untried Qa = refl
+quiet-untried La = refl
 
-none-first : (first : Option Cs) (leave : Cs) (b : Bool) → is_none first ≡ true → (b ≡ true → IsFrom first leave) → not b ≡ true
-none-first first leave false none h = refl
-none-first None leave true none h = absurd (h refl)
-none-first (Some first) leave true none h = cc
+both_by : (a b c d : Bool) → ((a && b) && (c && d)) ≡ ((a && c) && (b && d))
+both_by false b c d = refl
+both_by true false false d = refl
+both_by true false true d = refl
+both_by true true false d = refl
+both_by true true true d = refl
 
-and-both : (a b : Bool) → a ≡ true → b ≡ true → (a && b) ≡ true
-and-both true b g h = h
-and-both false b g h = cc
+leaving_by : (b rest : Bool) (t leave : Cs) (n : ℕ) → (0 < n → rest ≡ false) → 0 < cond (b && (t.0 == leave.0)) 1 0 + n → (not b && rest) ≡ false
+leaving_by true rest t leave n later some = refl
+leaving_by false rest t leave n later some = later (omega (arith, some))
 
-or-neither : (a b : Bool) → a ≡ false → b ≡ false → (a || b) ≡ false
-or-neither true b g h = cc
-or-neither false b g h = h
+due_by : (b ends : Bool) (t leave : Cs) (now : ℕ) → ends ≡ (t.0 == leave.0) → (b && ends) ≡ true → t.0 ≤ now → (b && nat_le leave.0 now) ≡ true
+due_by false ends t leave now is h by = cc
+due_by true ends t leave now is h by = let one : (t.0 == leave.0) ≡ true = sym is ∙ h in grind (arith, nat_tests)
 
-and-second : (a b : Bool) → (a && b) ≡ true → b ≡ true
-and-second true b h = h
-and-second false b h = cc
+some-due_by : (ends due rest : Bool) (n : ℕ) → (ends ≡ true → due ≡ true) → (0 < n → rest ≡ true) → 0 < cond ends 1 0 + n → (due || rest) ≡ true
+some-due_by true due rest n own later some = ap (λ b. b || rest) (own refl)
+some-due_by false true rest n own later some = refl
+some-due_by false false rest n own later some = later (omega (arith, some))
+
+none-due_by : (leave : Cs) (now : ℕ) (b : Bool) → (b ≡ true → now < leave.0) → (b && nat_le leave.0 now) ≡ false
+none-due_by leave now false later = refl
+none-due_by leave now true later = let after = later refl in grind (arith, nat_tests)
 
 module _ {K C : Type 0} where
-  -- where no leave timer may be due, none is
-  pub none_may_leave : (o : Outlook) (now : ℕ) (rows : List (Row K C)) → HoldsOfAll o rows → may_leave now o ≡ false → list_any (leave_is_due now) rows ≡ false
-  none_may_leave o now [] h may = refl
-  none_may_leave o now (r ∷ rows) h may =
-      or-neither (leave_is_due now r) (list_any (leave_is_due now) rows) (not_due_by o.first_leave r.leave now (is_leaving r.registrar) may h.0.leave) (none_may_leave o now rows h.1 may)
+  -- no row is tried where none is counted
+  pub tried-says : (rows : List (Row K C)) → none_tried rows ≡ (count_by (λ r. is_tried false r) rows == 0)
+  tried-says [] = refl
+  tried-says (r ∷ rows) =
+      tried_by (is_tried false r) (none_tried rows) (count_by (λ q. is_tried false q) rows) (tried-says rows)
+      ∙ ap (λ n. n == 0) (sym (sum_by-cons (λ q. cond (is_tried false q) 1 0) r rows))
 
-  pub untried_all : (o : Outlook) (rows : List (Row K C)) → HoldsOfAll o rows → o.none_tried ≡ true → none_tried rows ≡ true
-  untried_all o [] h e = refl
-  untried_all o (r ∷ rows) h e = and-both (not (is_tried false r)) (none_tried rows) (ap not (h.0.untried e)) (untried_all o rows h.1 e)
+  -- whether no leave timer of some rows runs
+  abbrev all_still : List (Row K C) → Bool
+  all_still rows = list_all (λ r. not (is_leaving r.registrar)) rows
 
-  pub settled_all : (o : Outlook) (rows : List (Row K C)) → HoldsOfAll o rows → is_at_rest o ≡ true → all_settled rows ≡ true
-  settled_all o [] h e = refl
-  settled_all o (r ∷ rows) h e =
-      and-both (is_settled r) (all_settled rows)
-      (and-both (is_quiet r.applicant) (not (is_leaving r.registrar)) (quiet-untried r.applicant (h.0.untried (and-left o.none_tried (is_none o.first_leave) e)))
-      (none-first o.first_leave r.leave (is_leaving r.registrar) (and-second o.none_tried (is_none o.first_leave) e) h.0.leave))
-      (settled_all o rows h.1 e)
+  still-where : (rows : List (Row K C)) → AllByRecursion (λ r. is_leaving r.registrar ≡ false) rows → all_still rows ≡ true
+  still-where [] h = refl
+  still-where (r ∷ rows) h = ap (λ b. not b && all_still rows) h.0 ∙ still-where rows h.1
+
+  some-leaving : (t : Cs) (rows : List (Row K C)) → 0 < count_by (ends_at t) rows → all_still rows ≡ false
+  some-leaving t [] some = absurd (omega (arith, some))
+  some-leaving t (r ∷ rows) some =
+      leaving_by (is_leaving r.registrar) (all_still rows) t r.leave (count_by (ends_at t) rows) (some-leaving t rows)
+      (subst (λ n. 0 < n) (sum_by-cons (λ q. cond (ends_at t q) 1 0) r rows) some)
+
+  some-due : (t : Cs) (now : ℕ) (rows : List (Row K C)) → t.0 ≤ now → 0 < count_by (ends_at t) rows → list_any (leave_is_due now) rows ≡ true
+  some-due t now [] by some = absurd (omega (arith, some))
+  some-due t now (r ∷ rows) by some =
+      some-due_by (ends_at t r) (leave_is_due now r) (list_any (leave_is_due now) rows) (count_by (ends_at t) rows)
+      (λ e. due_by (is_leaving r.registrar) (t.0 == r.leave.0) t r.leave now refl e by) (some-due t now rows by)
+      (subst (λ n. 0 < n) (sum_by-cons (λ q. cond (ends_at t q) 1 0) r rows) some)
+
+  none-due : (now : ℕ) (rows : List (Row K C)) → AllByRecursion (λ r. leave_is_due now r ≡ false) rows → list_any (leave_is_due now) rows ≡ false
+  none-due now [] h = refl
+  none-due now (r ∷ rows) h = ap (λ b. b || list_any (leave_is_due now) rows) h.0 ∙ none-due now rows h.1
+
+  first-still : (first : Option (Cs × ℕ)) (rows : List (Row K C)) → IsFirst first rows → has_one first ≡ true → is_none first ≡ all_still rows
+  first-still None rows h one = sym (still-where rows h)
+  first-still (Some p) rows h one = let some : 0 < count_by (ends_at p.0) rows = grind (arith, nat_tests) in sym (some-leaving p.0 rows some)
+
+  due-at : (p : Cs × ℕ) (now : ℕ) (rows : List (Row K C)) (b : Bool) → nat_le p.0.0 now ≡ b → IsFirst (Some p) rows → nat_lt 0 p.1 ≡ true → b ≡ list_any (leave_is_due now) rows
+  due-at p now rows true by h one =
+      let some : 0 < count_by (ends_at p.0) rows = grind (arith, nat_tests) in
+      let due : p.0.0 ≤ now = grind (arith, nat_tests) in
+      sym (some-due p.0 now rows due some)
+  due-at p now rows false by h one =
+      let later : now < p.0.0 = grind (arith, nat_tests) in
+      sym (none-due now rows (Each-map _ _ (λ q from. none-due_by q.leave now (is_leaving q.registrar) (λ leaving. let after = from leaving in omega (arith, later, after))) rows h.1))
+
+  -- a leave timer is due where the first is
+  pub due-says : (now : ℕ) (first : Option (Cs × ℕ)) (rows : List (Row K C)) → IsFirst first rows → has_one first ≡ true → is_by now first ≡ list_any (leave_is_due now) rows
+  due-says now None rows h one = sym (none-due now rows (Each-map _ _ (λ q still. ap (λ b. b && nat_le q.leave.0 now) still) rows h))
+  due-says now (Some p) rows h one = due-at p now rows (nat_le p.0.0 now) refl h one
+
+  parts-settled : (rows : List (Row K C)) → all_settled rows ≡ (none_tried rows && all_still rows)
+  parts-settled [] = refl
+  parts-settled (r ∷ rows) =
+      ap (λ b. (b && not (is_leaving r.registrar)) && all_settled rows) (quiet-untried r.applicant)
+      ∙ ap (λ b. (not (is_tried false r) && not (is_leaving r.registrar)) && b) (parts-settled rows)
+      ∙ both_by (not (is_tried false r)) (not (is_leaving r.registrar)) (none_tried rows) (all_still rows)
+
+  -- all rows are at rest where none is tried and no leave timer runs
+  pub settled-says : (o : Outlook) (rows : List (Row K C)) → IsOutlook o rows → is_at_rest o ≡ all_settled rows
+  settled-says o rows h =
+      ap (λ b. b && is_none o.first_leave) (ap (λ n. n == 0) h.0.tried ∙ sym (tried-says rows))
+      ∙ ap (λ b. none_tried rows && b) (first-still o.first_leave rows h.0.first h.1)
+      ∙ sym (parts-settled rows)

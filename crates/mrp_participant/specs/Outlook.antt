@@ -1,7 +1,7 @@
--- What is known of all rows without a look at them. Both parts are one-sided: that no leave timer runs, or none
--- before a moment, and that no row is tried, are facts of all rows; the contrary says nothing of any row. No public
--- contract names this file.
-use Rattle.std.specs.Prelude.{◌≡◌, ℕ, ◌≤◌, Bool, true, false, ◌&&◌, not, if◌then◌else◌, nat_le, List, fold, is_none}
+-- What is known of all rows without a look at them: when the first leave timer ends and how many end then, and how
+-- many rows are tried. It is exact, so no walk is needed to see whether a timer is due, whether anything is to be
+-- said, or whether all is at rest. No public contract names this file.
+use Rattle.std.specs.Prelude.{◌≡◌, ℕ, ◌+◌, ◌-◌, ◌^◌, ◌<◌, ◌≤◌, Bool, true, false, ◌&&◌, cond, if◌then◌else◌, nat_lt, nat_le, ◌==◌, List, count_by, is_none}
 use Rattle.std.specs.List.{AllByRecursion}
 use Rattle.std.specs.declared.option.Option.{Option}
 use Rattle.std.specs.declared.option.Option.TheVariants.{None, Some}
@@ -10,60 +10,83 @@ use Rattle.mrp_participant.specs.declared.row.Row.{Row}
 use Rattle.mrp_participant.specs.declared.outlook.Outlook.{Outlook}
 use Rattle.registrar.specs.Table.{is_leaving}
 use Rattle.mrp_participant.specs.Sending.{is_tried}
-use Rattle.mrp_participant.specs.Row.{is_settled}
 
--- a moment isn't before the first one, where there is a first one at all
-abbrev pub IsFrom : Option Cs → Cs → Type 0
-IsFrom None t = ⊥
-IsFrom (Some first) t = first.0 ≤ t.0
+-- whether a row's leave timer runs and ends at a moment
+abbrev pub ends_at : {K C : Type 0} → Cs → Row K C → Bool
+ends_at t r = is_leaving r.registrar && (t.0 == r.leave.0)
 
--- an outlook holds of a row: where its leave timer runs, it doesn't end before the first that ends, and it isn't
--- tried where none is
-pub record HoldsOf {K C : Type 0} (o : Outlook) (r : Row K C) : Type 0 where
-  pub leave : is_leaving r.registrar ≡ true → IsFrom o.first_leave r.leave
-  pub untried : o.none_tried ≡ true → is_tried false r ≡ false
+-- of some rows no leave timer runs, or so many end at a moment and none before it
+abbrev pub IsFirst : {K C : Type 0} → Option (Cs × ℕ) → List (Row K C) → Type 0
+IsFirst None rows = AllByRecursion (λ r. is_leaving r.registrar ≡ false) rows
+IsFirst (Some p) rows = (p.1 ≡ count_by (ends_at p.0) rows) × AllByRecursion (λ r. is_leaving r.registrar ≡ true → p.0.0 ≤ r.leave.0) rows
 
--- an outlook holds of all rows
-abbrev pub HoldsOfAll : {K C : Type 0} → Outlook → List (Row K C) → Type 0
-HoldsOfAll o rows = AllByRecursion (HoldsOf o) rows
+-- what an outlook says is so of some rows, but that a timer ends at its moment
+pub record Tells {K C : Type 0} (o : Outlook) (rows : List (Row K C)) : Type 0 where
+  pub first : IsFirst o.first_leave rows
+  pub tried : o.tried ≡ count_by (λ r. is_tried false r) rows
 
--- whether a leave timer may be due at a moment
-abbrev pub is_by : ℕ → Option Cs → Bool
-is_by now None = false
-is_by now (Some first) = nat_le first.0 now
+-- whether some timer ends at the first moment, where there is one
+abbrev pub has_one : Option (Cs × ℕ) → Bool
+has_one None = true
+has_one (Some p) = nat_lt 0 p.1
 
-abbrev pub may_leave : ℕ → Outlook → Bool
-may_leave now o = is_by now o.first_leave
+-- an outlook is that of some rows
+abbrev pub IsOutlook : {K C : Type 0} → Outlook → List (Row K C) → Type 0
+IsOutlook o rows = Tells o rows × (has_one o.first_leave ≡ true)
 
--- whether every row is known to be at rest
-abbrev pub is_at_rest : Outlook → Bool
-is_at_rest o = o.none_tried && is_none o.first_leave
+-- how many timers end first
+abbrev pub firsts : Option (Cs × ℕ) → ℕ
+firsts None = 0
+firsts (Some p) = p.1
 
--- the first of a moment and of another, if there is one
-abbrev pub earlier : Option Cs → Cs → Cs
-earlier None t = t
-earlier (Some first) t = if nat_le first.0 t.0 then first else t
+-- the first of some moments and how many timers end then, with one more
+abbrev pub first_with : Option (Cs × ℕ) → Cs → Cs × ℕ
+first_with None t = (t, 1)
+first_with (Some p) t = if nat_lt t.0 p.0.0 then (t, 1) else (if t.0 == p.0.0 then (p.0, p.1 + 1) else p)
 
 -- the outlook for one more row
 abbrev pub outlook_with : {K C : Type 0} → Outlook → Row K C → Outlook
 outlook_with o r =
     record {
-      first_leave = if is_leaving r.registrar then Some (earlier o.first_leave r.leave) else o.first_leave;
-      none_tried = o.none_tried && not (is_tried false r);
+      first_leave = if is_leaving r.registrar then Some (first_with o.first_leave r.leave) else o.first_leave;
+      tried = o.tried + cond (is_tried false r) 1 0;
     }
 
--- the outlook where there is no row, and for some rows
+-- there is room for one more in the counts of an outlook
+abbrev pub HasRoom : Outlook → Type 0
+HasRoom o = (firsts o.first_leave + 1 < 2 ^ 64) × (o.tried + 1 < 2 ^ 64)
+
+-- the same moment and one timer less, where a row's ends then
+abbrev pub first_without : {K C : Type 0} → Option (Cs × ℕ) → Row K C → Option (Cs × ℕ)
+first_without None r = None
+first_without (Some p) r = Some (p.0, p.1 - cond (ends_at p.0 r) 1 0)
+
+-- the outlook for one row less, which may know a moment at which no timer ends any more
+abbrev pub outlook_without : {K C : Type 0} → Outlook → Row K C → Outlook
+outlook_without o r = record { first_leave = first_without o.first_leave r; tried = o.tried - cond (is_tried false r) 1 0 }
+
+-- a row is counted where its timer ends first
+abbrev pub IsCounted : {K C : Type 0} → Option (Cs × ℕ) → Row K C → Type 0
+IsCounted None r = Unit {0}
+IsCounted (Some p) r = cond (ends_at p.0 r) 1 0 ≤ p.1
+
+-- an outlook counts a row, among others
+abbrev pub Counts : {K C : Type 0} → Outlook → Row K C → Type 0
+Counts o r = IsCounted o.first_leave r × (cond (is_tried false r) 1 0 ≤ o.tried)
+
+-- whether a first moment is at or before another
+abbrev pub is_by : ℕ → Option (Cs × ℕ) → Bool
+is_by now None = false
+is_by now (Some p) = nat_le p.0.0 now
+
+-- whether a leave timer is due at a moment
+abbrev pub has_due : ℕ → Outlook → Bool
+has_due now o = is_by now o.first_leave
+
+-- whether every row is at rest
+abbrev pub is_at_rest : Outlook → Bool
+is_at_rest o = (o.tried == 0) && is_none o.first_leave
+
+-- the outlook where there is no row
 abbrev pub empty_outlook : Outlook
-empty_outlook = record { first_leave = None; none_tried = true }
-
-abbrev pub outlook_of : {K C : Type 0} → List (Row K C) → Outlook
-outlook_of rows = fold outlook_with empty_outlook rows
-
--- whether a key's row is at rest, or there is none
-abbrev pub was_settled : {K C : Type 0} → Option (Row K C) → Bool
-was_settled None = true
-was_settled (Some r) = is_settled r
-
--- the outlook after a list of messages: taken anew, or for those that were heard of as well
-abbrev pub outlook_heard : {K C : Type 0} → Bool → List (Row K C) → List (Row K C) → Outlook → Outlook
-outlook_heard anew rows heard o = if anew then outlook_of rows else fold outlook_with o heard
+empty_outlook = record { first_leave = None; tried = 0 }

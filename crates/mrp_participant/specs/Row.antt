@@ -131,11 +131,12 @@ abbrev pub declared_in : {K C : Type 0} → Option (Row K C) → Option C
 declared_in None = None
 declared_in (Some r) = if applicant.is_declared_in r.applicant then Some r.content else None
 
--- the states of a key's machines: VO and MT where nothing is kept
+-- the state of a key's applicant: VO where nothing is kept
 abbrev pub applicant_of : {K C : Type 0} → Option (Row K C) → Applicant
 applicant_of None = Vo
 applicant_of (Some r) = r.applicant
 
+-- the state of a key's registrar: MT where nothing is kept
 abbrev pub registrar_of : {K C : Type 0} → Option (Row K C) → Registrar
 registrar_of None = Empty
 registrar_of (Some r) = r.registrar

@@ -75,20 +75,23 @@ module _ {K C : Type 0} where
         sound = true;
       }
 
-  -- after a declaration, a withdrawal and the end of one leave timer
+  -- after a declaration of a key
   abbrev pub declared_state : (K → K → Ordering) → (C → C → Bool) → K → C → State K C → State K C
   declared_state cmp eq k c s = with_rows (put cmp k (after_declare eq k c (find cmp k s.rows)) s.rows) s
 
+  -- after a withdrawal of a key
   abbrev pub withdrawn_state : (K → K → Ordering) → K → State K C → State K C
   withdrawn_state cmp k s = with_rows (put cmp k (after_withdraw (find cmp k s.rows)) s.rows) s
 
+  -- after the end of a key's leave timer
   abbrev pub left_state : (K → K → Ordering) → K → State K C → State K C
   left_state cmp k s = with_rows (put cmp k (after_leave (find cmp k s.rows)) s.rows) s
 
-  -- what is declared and what is registered of a key
+  -- the content that is declared of a key
   abbrev pub declared_at : (K → K → Ordering) → K → State K C → Option C
   declared_at cmp k s = declared_in (find cmp k s.rows)
 
+  -- the content that is registered of a key
   abbrev pub registered_at : (K → K → Ordering) → K → State K C → Option C
   registered_at cmp k s = registered_in (find cmp k s.rows)
 
@@ -120,27 +123,31 @@ module _ {K C : Type 0} where
   changed_keys cmp eq old new =
       map key_of (filter (λ r. not (option_eq eq (registered_in (find cmp r.key old)) (registered_in (Some r)))) new)
 
-  -- after the leave timers that are due have fired, and the keys that left, ascending
+  -- after the leave timers that are due have fired
   abbrev pub leave_timers_state : Cs → State K C → State K C
   leave_timers_state now s = with_rows (filter_map (after_leave_due now.0) s.rows) s
 
+  -- the keys whose leave timers are due, ascending
   abbrev pub left_keys : Cs → State K C → List K
   left_keys now s = map key_of (filter (leave_is_due now.0) s.rows)
 
-  -- whether the timer of LeaveAll has its end at or before a moment, and after it has fired
+  -- whether the timer of LeaveAll has its end at or before a moment
   abbrev pub is_leave_all_due : Cs → State K C → Bool
   is_leave_all_due now s = nat_le s.next_leave_all.0 now.0
 
+  -- after the timer of LeaveAll has fired
   abbrev pub leave_all_state : Cs → State K C → State K C
   leave_all_state now s = record s { leave_all = leaveall.table Timer s.leave_all; next_leave_all = timer_after Timer now s }
 
-  -- whether the periodic machine is on and due, after its event at every row, and after it has fired
+  -- whether the periodic machine is on and due
   abbrev pub is_periodic_due : Cs → State K C → Bool
   is_periodic_due now s = leaveall.is_due now.0 s.periodic
 
+  -- after the event periodic! at every row
   abbrev pub periodic_state : State K C → State K C
   periodic_state s = with_rows (map periodic_row s.rows) s
 
+  -- after the periodic machine has fired
   abbrev pub periodic_fired_state : Cs → State K C → State K C
   periodic_fired_state now s = record s { rows = map periodic_row s.rows; periodic = rearmed now s.periodic }
 
@@ -148,13 +155,15 @@ module _ {K C : Type 0} where
   abbrev pub is_any_due : Cs → State K C → Bool
   is_any_due now s = list_any (leave_is_due now.0) s.rows || (is_leave_all_due now s || is_periodic_due now s)
 
-  -- after all timers that are due have fired: the leave timers, then LeaveAll, then periodic
+  -- after the timer of LeaveAll has fired, where it is due
   abbrev pub due_leave_all_state : Cs → State K C → State K C
   due_leave_all_state now s = if is_leave_all_due now s then leave_all_state now s else s
 
+  -- after the periodic machine has fired, where it is due
   abbrev pub due_periodic_state : Cs → State K C → State K C
   due_periodic_state now s = if is_periodic_due now s then periodic_fired_state now s else s
 
+  -- after all timers that are due have fired: the leave timers, then LeaveAll, then periodic
   abbrev pub due_state : Cs → State K C → State K C
   due_state now s = due_periodic_state now (due_leave_all_state now (leave_timers_state now s))
 
@@ -174,11 +183,12 @@ module _ {K C : Type 0} where
   abbrev pub takes : ℕ → (C → ℕ) → (K → K → Ordering) → State K C → Row K C → Bool
   takes base octets cmp s = is_taken base octets cmp (is_active s.leave_all) s.rows
 
-  -- what a row says in the PDU, and the row after sending
+  -- what a row says in the PDU
   abbrev pub event_sent : ℕ → (C → ℕ) → (K → K → Ordering) → Cs → State K C → Row K C → Option (MrpEvent × K × C)
   event_sent base octets cmp now s r =
       sent_event (is_active s.leave_all) (takes base octets cmp s r) (after now s.leave_time) r
 
+  -- a row after sending
   abbrev pub row_sent : ℕ → (C → ℕ) → (K → K → Ordering) → Cs → State K C → Row K C → Option (Row K C)
   row_sent base octets cmp now s r =
       sent_row (is_active s.leave_all) (takes base octets cmp s r) (after now s.leave_time) r
@@ -204,10 +214,11 @@ module _ {K C : Type 0} where
         sound = is_active s.leave_all || s.sound;
       }
 
-  -- whether nothing is pending: every applicant is VO or QA, every registrar IN or MT, and LeaveAll is
-  -- Passive
+  -- whether every row's machines are at rest
   abbrev pub all_settled : List (Row K C) → Bool
   all_settled rows = list_all is_settled rows
 
+  -- whether nothing is pending: every applicant is VO or QA, every registrar IN or MT, and LeaveAll is
+  -- Passive
   abbrev pub is_still : State K C → Bool
   is_still s = not (is_active s.leave_all) && all_settled s.rows

@@ -3,13 +3,13 @@
 ghost use Rattle.std.specs.Prelude.{◌≡◌, false, Some, None, OnOk, OnErr};
 ghost use Rattle.mrp_participant.specs.Lookup.{Ascends, ChangesOnly, key_of, find, put};
 ghost use Rattle.mrp_participant.specs.Row.{after_declare, after_withdraw, after_leave, is_leaving_in, declared_in};
-ghost use Rattle.mrp_participant.specs.Outlook.{HoldsOfAll};
+ghost use Rattle.mrp_participant.specs.Outlook.{IsOutlook};
 ghost use Rattle.mrp_participant.specs.State.{declared_state, withdrawn_state, left_state};
 
 use crate::application::MrpApp;
-use crate::lookup::{fill_at, place, replace_at};
+use crate::lookup::place;
 use crate::model::Participant;
-use crate::outlook::{Outlook, outlook_of};
+use crate::outlook::{Outlook, fill_row, replace_row};
 use crate::row::Row;
 use registrar::Registrar;
 use srp_base::NoMemory;
@@ -54,11 +54,7 @@ impl<A: MrpApp> Participant<A> {
         ensures each_key { ChangesOnly A.Key.cmp key
             (after_leave (find A.Key.cmp key self.old.rows)) self.old.rows self.new.rows }
     {
-        let was = leave_in(&mut self.rows, key);
-        if was {
-            self.outlook = outlook_of(self.rows.as_slice());
-        }
-        was
+        leave_in(&mut self.rows, &mut self.outlook, key)
     }
 }
 
@@ -71,27 +67,25 @@ pub(crate) fn declare_in<K: Copy + Ord, C: Copy + Eq>(
     content: C,
 ) -> Result<(), NoMemory>
     requires ascend { Ascends K.cmp key_of rows.old.items }
-    requires holds { HoldsOfAll outlook.old rows.old.items }
+    requires outlook { IsOutlook outlook.old rows.old.items }
     ensures ok { OnOk result (rows.new.items
         ≡ put K.cmp key (after_declare C.eq key content (find K.cmp key rows.old.items))
         rows.old.items) }
     ensures err { OnErr result (rows.new.items ≡ rows.old.items) }
     ensures room { OnErr result (find K.cmp key rows.old.items ≡ None) }
-    ensures holds { HoldsOfAll outlook.new rows.new.items }
+    ensures outlook { IsOutlook outlook.new rows.new.items }
 {
     match place(rows.as_slice(), &key) {
         Ok(at) => {
             let row = rows[at].declared(content);
-            replace_at(rows, at, Some(row));
-            *outlook = outlook.with(&row);
+            replace_row(rows, outlook, at, Some(row));
+            Ok(())
         }
         Err(at) => {
             let row = Row::fresh(key, content).declared(content);
-            fill_at(rows, at, row)?;
-            *outlook = outlook.with(&row);
+            fill_row(rows, outlook, at, row)
         }
     }
-    Ok(())
 }
 
 /// Withdraws a key; one without a row stays so.
@@ -101,29 +95,34 @@ pub(crate) fn withdraw_in<K: Copy + Ord, C: Copy>(
     key: K,
 )
     requires ascend { Ascends K.cmp key_of rows.old.items }
-    requires holds { HoldsOfAll outlook.old rows.old.items }
+    requires outlook { IsOutlook outlook.old rows.old.items }
     ensures rows { rows.new.items
         ≡ put K.cmp key (after_withdraw (find K.cmp key rows.old.items)) rows.old.items }
-    ensures holds { HoldsOfAll outlook.new rows.new.items }
+    ensures outlook { IsOutlook outlook.new rows.new.items }
 {
     if let Ok(at) = place(rows.as_slice(), &key) {
         let row = rows[at].withdrawn();
-        replace_at(rows, at, Some(row));
-        *outlook = outlook.with(&row);
+        replace_row(rows, outlook, at, Some(row));
     }
 }
 
 /// Ends a key's leave timer; whether its Registrar was LV.
-pub(crate) fn leave_in<K: Copy + Ord, C: Copy>(rows: &mut Vec<Row<K, C>>, key: K) -> bool
-    requires { Ascends K.cmp key_of rows.old.items }
+pub(crate) fn leave_in<K: Copy + Ord, C: Copy>(
+    rows: &mut Vec<Row<K, C>>,
+    outlook: &mut Outlook,
+    key: K,
+) -> bool
+    requires ascend { Ascends K.cmp key_of rows.old.items }
+    requires outlook { IsOutlook outlook.old rows.old.items }
     ensures was { result ≡ is_leaving_in (find K.cmp key rows.old.items) }
     ensures rows { rows.new.items
         ≡ put K.cmp key (after_leave (find K.cmp key rows.old.items)) rows.old.items }
+    ensures outlook { IsOutlook outlook.new rows.new.items }
 {
     match place(rows.as_slice(), &key) {
         Ok(at) => {
             let row = rows[at];
-            replace_at(rows, at, row.left());
+            replace_row(rows, outlook, at, row.left());
             row.registrar == Registrar::Leaving
         }
         Err(_) => false,

@@ -2,15 +2,17 @@
 //! beside the participant's rows, which are then changed in place. Only where a key had no row are the rows
 //! merged with them into a new list. What wants memory comes first.
 
-ghost use Rattle.std.specs.Prelude.{◌≡◌, ◌<◌, ◌≤◌, ◌+◌, ◌∷◌, ◌⊎◌, map, fold, length, drop, true, Some, IsSome, option_map, OnOk, OnErr, IfOk};
+ghost use Rattle.std.specs.Prelude.{◌≡◌, ◌<◌, ◌≤◌, ◌+◌, ◌∷◌, ◌⊎◌, map, length, drop, true, Some, IsSome, option_map, OnOk, OnErr, IfOk};
 ghost use Rattle.std.specs.Option.{is_some};
 ghost use Rattle.std.specs.List.{AllByRecursion, list_all};
 ghost use Rattle.mrp_participant.specs.Lookup.{Ascends, key_of, find, put};
-ghost use Rattle.mrp_participant.specs.Row.{after_hear};
+ghost use Rattle.mrp_participant.specs.Row.{after_hear, row_after_receive};
+ghost use Rattle.mrp_participant.specs.Outlook.{IsOutlook};
 ghost use Rattle.mrp_participant.specs.State.{AreRows};
-ghost use Rattle.mrp_participant.specs.Hearing.{first_of, begun_row, row_so_far, heard_with, heard_rows, merged, put_over};
+ghost use Rattle.mrp_participant.specs.Hearing.{first_of, begun_row, row_so_far, heard_with, merged, put_over};
 
 use crate::lookup::{fill_at, find_row, place, replace_at};
+use crate::outlook::{Outlook, outlook_of, replace_row};
 use crate::row::{Row, makes_row};
 use srp_base::{Cs, MrpEvent, NoMemory};
 use std::alloc::Global;
@@ -25,9 +27,10 @@ pub(crate) fn rows_heard<K: Copy + Ord, C: Copy>(
     leave: Cs,
 ) -> Result<Vec<Row<K, C>>, NoMemory>
     requires { AreRows K.cmp rows.now }
-    ensures heard { IfOk result (λ v. v.items
-        ≡ heard_rows K.cmp leave_all leave rows.now events.now) }
     ensures are_rows { IfOk result (λ v. AreRows K.cmp v.items) }
+    ensures each_key { IfOk result (λ v. (k : K)
+        → row_so_far K.cmp leave_all leave rows.now v.items k
+        ≡ row_after_receive K.cmp leave leave_all events.now k (find K.cmp k rows.now)) }
 {
     let mut heard = Vec::new(alloc);
     for event in events {
@@ -93,30 +96,35 @@ fn first_heard<K: Copy + Ord, C: Copy>(
 /// memory the rows are as they were.
 pub(crate) fn put_heard<K: Copy + Ord, C: Copy>(
     rows: &mut Vec<Row<K, C>>,
+    outlook: &mut Outlook,
     leave_all: bool,
     heard: &[Row<K, C>],
     leave: Cs,
 ) -> Result<(), NoMemory>
     requires rows { Ascends K.cmp key_of rows.old.items }
     requires heard { Ascends K.cmp key_of heard.now }
+    requires outlook { IsOutlook outlook.old rows.old.items }
     ensures each_key { OnOk result ((k : K) → find K.cmp k rows.new.items
         ≡ row_so_far K.cmp leave_all leave rows.old.items heard.now k) }
     ensures ascends { OnOk result (Ascends K.cmp key_of rows.new.items) }
     ensures err { OnErr result (rows.new.items ≡ rows.old.items) }
+    ensures outlook { IsOutlook outlook.new rows.new.items }
 {
-    add_unknown(rows, heard)?;
-    begin_all(rows, leave_all, leave);
-    put_known(rows, heard);
+    add_unknown(rows, outlook, heard)?;
+    begin_all(rows, outlook, leave_all, leave);
+    put_known(rows, outlook, heard);
     Ok(())
 }
 
 /// Adds the rows of keys that have none. After want of memory the rows are as they were.
 fn add_unknown<K: Copy + Ord, C: Copy>(
     rows: &mut Vec<Row<K, C>>,
+    outlook: &mut Outlook,
     heard: &[Row<K, C>],
 ) -> Result<(), NoMemory>
     requires rows { Ascends K.cmp key_of rows.old.items }
     requires heard { Ascends K.cmp key_of heard.now }
+    requires outlook { IsOutlook outlook.old rows.old.items }
     ensures known { OnOk result (AllByRecursion
         (λ u. IsSome (find K.cmp u.key rows.new.items)) heard.now) }
     ensures each_key { OnOk result ((k : K)
@@ -124,11 +132,13 @@ fn add_unknown<K: Copy + Ord, C: Copy>(
         ≡ first_of (find K.cmp k heard.now) (find K.cmp k rows.old.items)) }
     ensures ascends { OnOk result (Ascends K.cmp key_of rows.new.items) }
     ensures err { OnErr result (rows.new.items ≡ rows.old.items) }
+    ensures outlook { IsOutlook outlook.new rows.new.items }
 {
     if are_known(rows.as_slice(), heard) {
         return Ok(());
     }
     *rows = merge(*rows.allocator(), rows.as_slice(), heard)?;
+    *outlook = outlook_of(rows.as_slice());
     Ok(())
 }
 
@@ -193,11 +203,19 @@ fn next_row<K: Copy + Ord, C: Copy>(
 }
 
 /// The rows as the events find them.
-fn begin_all<K: Copy, C: Copy>(rows: &mut Vec<Row<K, C>>, leave_all: bool, leave: Cs)
-    ensures { rows.new.items ≡ map (begun_row leave_all leave) rows.old.items }
+fn begin_all<K: Copy, C: Copy>(
+    rows: &mut Vec<Row<K, C>>,
+    outlook: &mut Outlook,
+    leave_all: bool,
+    leave: Cs,
+)
+    requires { IsOutlook outlook.old rows.old.items }
+    ensures rows { rows.new.items ≡ map (begun_row leave_all leave) rows.old.items }
+    ensures outlook { IsOutlook outlook.new rows.new.items }
 {
     if leave_all {
         leave_all_in(rows, leave);
+        *outlook = outlook_of(rows.as_slice());
     }
 }
 
@@ -211,23 +229,31 @@ fn leave_all_in<K: Copy, C: Copy>(rows: &mut Vec<Row<K, C>>, leave: Cs)
 }
 
 /// Puts rows in the places of those of their keys.
-fn put_known<K: Copy + Ord, C: Copy>(rows: &mut Vec<Row<K, C>>, heard: &[Row<K, C>])
+fn put_known<K: Copy + Ord, C: Copy>(
+    rows: &mut Vec<Row<K, C>>,
+    outlook: &mut Outlook,
+    heard: &[Row<K, C>],
+)
     requires rows { Ascends K.cmp key_of rows.old.items }
     requires known { AllByRecursion (λ u. IsSome (find K.cmp u.key rows.old.items)) heard.now }
-    ensures { rows.new.items ≡ put_over K.cmp heard.now rows.old.items }
+    requires outlook { IsOutlook outlook.old rows.old.items }
+    ensures rows { rows.new.items ≡ put_over K.cmp heard.now rows.old.items }
+    ensures outlook { IsOutlook outlook.new rows.new.items }
 {
     for row in heard {
-        put_in(rows, *row);
+        put_in(rows, outlook, *row);
     }
 }
 
 /// Puts a row in the place of that of its key.
-fn put_in<K: Copy + Ord, C: Copy>(rows: &mut Vec<Row<K, C>>, row: Row<K, C>)
+fn put_in<K: Copy + Ord, C: Copy>(rows: &mut Vec<Row<K, C>>, outlook: &mut Outlook, row: Row<K, C>)
     requires rows { Ascends K.cmp key_of rows.old.items }
     requires known { IsSome (find K.cmp row.key rows.old.items) }
-    ensures { rows.new.items ≡ put K.cmp row.key (Some row) rows.old.items }
+    requires outlook { IsOutlook outlook.old rows.old.items }
+    ensures rows { rows.new.items ≡ put K.cmp row.key (Some row) rows.old.items }
+    ensures outlook { IsOutlook outlook.new rows.new.items }
 {
     if let Ok(at) = place(rows.as_slice(), &row.key) {
-        replace_at(rows, at, Some(row));
+        replace_row(rows, outlook, at, Some(row));
     }
 }

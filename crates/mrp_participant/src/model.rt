@@ -33,14 +33,14 @@ pub struct Participant<A: MrpApp> {
 }
 
 impl<A: MrpApp> Model for Participant<A> {
-    ghost use Rattle.mrp_participant.specs.Outlook.{HoldsOfAll};
+    ghost use Rattle.mrp_participant.specs.Outlook.{IsOutlook};
     ghost use Rattle.mrp_participant.specs.State.{State, AreRows, IsTime};
 
     ghost Value = { State A.Key A.Content };
 
     ghost view = { λ p. record { rows = p.rows.items; leave_all = p.leave_all; next_leave_all = p.next_leave_all; period = p.period; leave_time = p.leave_time; periodic = p.periodic; sound = p.sound } };
 
-    ghost invariant = { λ p. AreRows A.Key.cmp p.rows.items × IsTime p.period × IsTime p.leave_time × HoldsOfAll p.outlook p.rows.items };
+    ghost invariant = { λ p. AreRows A.Key.cmp p.rows.items × IsTime p.period × IsTime p.leave_time × IsOutlook p.outlook p.rows.items };
 }
 
 impl<A: MrpApp> Participant<A> {

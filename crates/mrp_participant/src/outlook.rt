@@ -1,25 +1,25 @@
-//! What is known of all rows without a look at them: that no leave timer ends before a moment, and that no row is
-//! tried. So a participant at which nothing happens costs the same however many rows it has.
+//! What is known of all rows without a look at them: when the first leave timer ends and how many end then, and how
+//! many rows are tried. So a participant at which nothing happens costs the same however many rows it has, and a row
+//! that changes costs no walk over the others, but where it was the last one whose leave timer ends first.
 
-ghost use Rattle.std.specs.Prelude.{◌≡◌, ◌||◌, fold, not, if◌then◌else◌, Some};
-ghost use Rattle.std.specs.List.{list_all, list_any};
-ghost use Rattle.mrp_participant.specs.Lookup.{Ascends, key_of, find};
+ghost use Rattle.std.specs.Prelude.{◌≡◌, ◌<◌, ◌≤◌, ◌+◌, ◌^◌, ◌++◌, suc, take, drop, length, Some, OnOk, OnErr};
+ghost use Rattle.std.specs.List.{cons_option, list_any};
 ghost use Rattle.mrp_participant.specs.Row.{leave_is_due};
-ghost use Rattle.mrp_participant.specs.Outlook.{HoldsOfAll, earlier, empty_outlook, is_at_rest, is_by, may_leave, outlook_heard, outlook_of, outlook_with, was_settled};
+ghost use Rattle.mrp_participant.specs.Outlook.{Counts, HasRoom, IsCounted, IsOutlook, Tells, empty_outlook, ends_at, first_with, first_without, firsts, has_due, has_one, is_at_rest, outlook_with, outlook_without};
 ghost use Rattle.mrp_participant.specs.State.{all_settled, none_tried};
 
-use crate::lookup::find_row;
+use crate::lookup::{fill_at, replace_at};
 use crate::row::Row;
 use registrar::Registrar;
-use srp_base::Cs;
+use srp_base::{Cs, NoMemory};
 
-/// What is known of all rows. Where nothing is known, the first leave is at 0 and a row may be tried.
+/// What is known of all rows.
 #[derive(Clone, Copy)]
 pub(crate) struct Outlook {
-    /// No leave timer ends before this moment, in cs; None where no leave timer runs.
-    pub first_leave: Option<Cs>,
-    /// Whether no row is tried without LeaveAll.
-    pub none_tried: bool,
+    /// The moment at which the first leave timer ends, in cs, and how many end then; None where none runs.
+    pub first_leave: Option<(Cs, usize)>,
+    /// How many rows are tried without LeaveAll.
+    pub tried: usize,
 }
 
 impl Outlook {
@@ -29,190 +29,186 @@ impl Outlook {
     {
         Outlook {
             first_leave: None,
-            none_tried: true,
+            tried: 0,
         }
     }
 
     /// The outlook for one more row.
-    pub(crate) fn with<K: Copy, C: Copy>(self, row: &Row<K, C>) -> Outlook
+    fn with<K: Copy, C: Copy>(self, row: &Row<K, C>) -> Outlook
+        requires { HasRoom self }
         ensures { result ≡ outlook_with self row.now }
     {
-        let leaving = row.registrar == Registrar::Leaving;
+        let first_leave = match row.registrar {
+            Registrar::Leaving => Some(first_with(self.first_leave, row.leave)),
+            _ => self.first_leave,
+        };
         Outlook {
-            first_leave: first_leave(self.first_leave, leaving, row.leave),
-            none_tried: self.none_tried && !row.is_tried(false),
+            first_leave,
+            tried: self.tried + usize::from(row.is_tried(false)),
         }
     }
 
-    /// The outlook for some more rows.
-    fn with_all<K: Copy, C: Copy>(self, rows: &[Row<K, C>]) -> Outlook
-        ensures { result ≡ fold outlook_with self rows.now }
+    /// The outlook for one row less. Of the moment that it knows no leave timer may be left.
+    fn without<K: Copy, C: Copy>(self, row: &Row<K, C>) -> Outlook
+        requires { Counts self row.now }
+        ensures { result ≡ outlook_without self row.now }
     {
-        let mut outlook = self;
-        for row in rows {
-            outlook = outlook.with(row);
+        Outlook {
+            first_leave: first_without(self.first_leave, row),
+            tried: self.tried - usize::from(row.is_tried(false)),
         }
-        outlook
     }
 
-    /// Whether the outlook is to be taken anew after a list of messages: where it has LeaveAll, which changes all rows,
-    /// and where it speaks of a key whose row wasn't at rest, since what was known would hold on, but say less than
-    /// can be known. `rows` are those before, and `heard` those of the keys that were heard of.
-    pub(crate) fn is_outdated<K: Copy + Ord, C: Copy>(
-        self,
-        leave_all: bool,
-        rows: &[Row<K, C>],
-        heard: &[Row<K, C>],
-    ) -> bool
-        requires { Ascends K.cmp key_of rows.now }
-        ensures { result
-            ≡ (leave_all
-            || not
-            (is_at_rest self || list_all (λ u. was_settled (find K.cmp u.key rows.now)) heard.now)) }
+    /// The outlook, or one taken anew where no leave timer is left of the moment that is known.
+    fn or_anew<K: Copy, C: Copy>(self, rows: &[Row<K, C>]) -> Outlook
+        requires { Tells self rows.now }
+        ensures { IsOutlook result rows.now }
     {
-        leave_all || !(self.is_at_rest() || were_settled(rows, heard))
-    }
-
-    /// The outlook after a list of messages: anew for the rows as they are then, or else with those that were heard
-    /// of, since only they changed.
-    pub(crate) fn after_hearing<K: Copy, C: Copy>(
-        self,
-        anew: bool,
-        rows: &[Row<K, C>],
-        heard: &[Row<K, C>],
-    ) -> Outlook
-        ensures { result ≡ outlook_heard anew rows.now heard.now self }
-    {
-        if anew {
-            outlook_of(rows)
+        if has_one(self.first_leave) {
+            self
         } else {
-            self.with_all(heard)
+            outlook_of(rows)
         }
     }
 
-    /// Whether a leave timer may be due at a moment.
-    pub(crate) fn may_leave(self, now: Cs) -> bool
-        ensures { result ≡ may_leave now.0 self }
+    /// Whether a leave timer is due at a moment.
+    pub(crate) fn has_due(self, now: Cs) -> bool
+        ensures { result ≡ has_due now.0 self }
     {
         match self.first_leave {
             None => false,
-            Some(first) => first.0 <= now.0,
+            Some((first, _)) => first.0 <= now.0,
         }
     }
 
-    /// Whether every row is known to be at rest.
+    /// Whether every row is at rest.
     fn is_at_rest(self) -> bool
         ensures { result ≡ is_at_rest self }
     {
-        self.none_tried && self.first_leave.is_none()
+        self.tried == 0 && self.first_leave.is_none()
     }
 }
 
-/// The first moment at which a leave timer ends, with one more that runs or not.
-fn first_leave(first: Option<Cs>, leaving: bool, leave: Cs) -> Option<Cs>
-    ensures { result ≡ (if leaving then Some (earlier first leave) else first) }
-{
-    if leaving {
-        Some(earlier(first, leave))
-    } else {
-        first
-    }
-}
-
-/// The first of a moment and of another, if there is one.
-fn earlier(first: Option<Cs>, leave: Cs) -> Cs
-    ensures { result ≡ earlier first leave }
+/// The first of some moments and how many timers end then, with one more.
+fn first_with(first: Option<(Cs, usize)>, leave: Cs) -> (Cs, usize)
+    requires { firsts first + 1 < 2 ^ 64 }
+    ensures { result ≡ first_with first leave }
 {
     match first {
-        None => leave,
-        Some(first) => { if first.0 <= leave.0 { first } else { leave } }
+        None => (leave, 1),
+        Some((moment, count)) => {
+            if leave.0 < moment.0 {
+                (leave, 1)
+            } else if leave.0 == moment.0 {
+                (moment, count + 1)
+            } else {
+                (moment, count)
+            }
+        }
+    }
+}
+
+/// The same moment and one timer less, where a row's ends then.
+fn first_without<K: Copy, C: Copy>(
+    first: Option<(Cs, usize)>,
+    row: &Row<K, C>,
+) -> Option<(Cs, usize)>
+    requires { IsCounted first row.now }
+    ensures { result ≡ first_without first row.now }
+{
+    let (moment, count) = first?;
+    Some((moment, count - usize::from(ends_at(moment, row))))
+}
+
+/// Whether a row's leave timer runs and ends at a moment.
+fn ends_at<K: Copy, C: Copy>(moment: Cs, row: &Row<K, C>) -> bool
+    ensures { result ≡ ends_at moment row.now }
+{
+    row.registrar == Registrar::Leaving && moment.0 == row.leave.0
+}
+
+/// Whether some timer ends at the first moment, where there is one.
+fn has_one(first: Option<(Cs, usize)>) -> bool
+    ensures { result ≡ has_one first }
+{
+    match first {
+        None => true,
+        Some((_, count)) => 0 < count,
     }
 }
 
 /// The outlook for some rows: one walk over them.
-#[tactic(auto, using(crate::proofs::OutlookLemmas::holds_of_all))]
 pub(crate) fn outlook_of<K: Copy, C: Copy>(rows: &[Row<K, C>]) -> Outlook
-    ensures is { result ≡ outlook_of rows.now }
-    ensures holds { HoldsOfAll result rows.now }
+    ensures { IsOutlook result rows.now }
 {
-    Outlook::empty().with_all(rows)
-}
-
-/// Whether each key of some rows had a row at rest among others, or none.
-fn were_settled<K: Copy + Ord, C: Copy>(rows: &[Row<K, C>], heard: &[Row<K, C>]) -> bool
-    requires { Ascends K.cmp key_of rows.now }
-    ensures { result ≡ list_all (λ u. was_settled (find K.cmp u.key rows.now)) heard.now }
-{
-    for row in heard {
-        if !was_settled(find_row(rows, &row.key)) {
-            return false;
-        }
+    let mut outlook = Outlook::empty();
+    for row in rows {
+        outlook = outlook.with(row);
     }
-    true
+    outlook
 }
 
-/// Whether a key's row is at rest, or there is none.
-fn was_settled<K: Copy, C: Copy>(row: Option<Row<K, C>>) -> bool
-    ensures { result ≡ was_settled row }
+/// Puts another row, or none, in the place of the row at `at`.
+pub(crate) fn replace_row<K: Copy, C: Copy>(
+    rows: &mut Vec<Row<K, C>>,
+    outlook: &mut Outlook,
+    at: usize,
+    new: Option<Row<K, C>>,
+)
+    requires within { at < length rows.old.items }
+    requires outlook { IsOutlook outlook.old rows.old.items }
+    ensures rows { rows.new.items
+        ≡ take at rows.old.items ++ cons_option new (drop (suc at) rows.old.items) }
+    ensures outlook { IsOutlook outlook.new rows.new.items }
 {
-    match row {
-        Some(row) => row.is_settled(),
-        None => true,
-    }
+    let others = outlook.without(&rows[at]);
+    replace_at(rows, at, new);
+    let all = match new {
+        Some(row) => others.with(&row),
+        None => others,
+    };
+    *outlook = all.or_anew(rows.as_slice());
 }
 
-/// Whether a leave timer of some rows is due. No row is looked at where it is known that none is.
-#[tactic(auto, using(crate::proofs::OutlookLemmas::none_may_leave))]
+/// Puts a row before the row at `at`. After want of memory the rows are as they were.
+pub(crate) fn fill_row<K: Copy, C: Copy>(
+    rows: &mut Vec<Row<K, C>>,
+    outlook: &mut Outlook,
+    at: usize,
+    new: Row<K, C>,
+) -> Result<(), NoMemory>
+    requires within { at ≤ length rows.old.items }
+    requires outlook { IsOutlook outlook.old rows.old.items }
+    ensures ok { OnOk result (rows.new.items
+        ≡ take at rows.old.items ++ cons_option (Some new) (drop at rows.old.items)) }
+    ensures err { OnErr result (rows.new.items ≡ rows.old.items) }
+    ensures outlook { IsOutlook outlook.new rows.new.items }
+{
+    fill_at(rows, at, new)?;
+    *outlook = outlook.with(&new);
+    Ok(())
+}
+
+/// Whether a leave timer of some rows is due.
 pub(crate) fn is_leave_due<K: Copy, C: Copy>(rows: &[Row<K, C>], outlook: Outlook, now: Cs) -> bool
-    requires { HoldsOfAll outlook rows.now }
+    requires { IsOutlook outlook rows.now }
     ensures { result ≡ list_any (leave_is_due now.0) rows.now }
 {
-    if !outlook.may_leave(now) {
-        return false;
-    }
-    any_leave_due(rows, now)
+    outlook.has_due(now)
 }
 
-/// Whether no row is tried without LeaveAll. No row is looked at where that is known.
-#[tactic(auto, using(crate::proofs::OutlookLemmas::untried_all))]
+/// Whether no row is tried without LeaveAll.
 pub(crate) fn is_none_tried<K: Copy, C: Copy>(rows: &[Row<K, C>], outlook: Outlook) -> bool
-    requires { HoldsOfAll outlook rows.now }
+    requires { IsOutlook outlook rows.now }
     ensures { result ≡ none_tried rows.now }
 {
-    if outlook.none_tried {
-        return true;
-    }
-    none_tried(rows)
+    outlook.tried == 0
 }
 
-/// Whether every row's machines are at rest. No row is looked at where that is known.
-#[tactic(auto, using(crate::proofs::OutlookLemmas::settled_all))]
+/// Whether every row's machines are at rest.
 pub(crate) fn are_settled<K: Copy, C: Copy>(rows: &[Row<K, C>], outlook: Outlook) -> bool
-    requires { HoldsOfAll outlook rows.now }
+    requires { IsOutlook outlook rows.now }
     ensures { result ≡ all_settled rows.now }
 {
-    if outlook.is_at_rest() {
-        return true;
-    }
-    all_settled(rows)
-}
-
-// The same tests by a walk over the rows.
-
-pub(crate) fn any_leave_due<K: Copy, C: Copy>(rows: &[Row<K, C>], now: Cs) -> bool
-    ensures { result ≡ list_any (leave_is_due now.0) rows.now }
-{
-    rows.iter().any(|row| row.leave_is_due(now))
-}
-
-fn none_tried<K: Copy, C: Copy>(rows: &[Row<K, C>]) -> bool
-    ensures { result ≡ none_tried rows.now }
-{
-    rows.iter().all(|row| !row.is_tried(false))
-}
-
-fn all_settled<K: Copy, C: Copy>(rows: &[Row<K, C>]) -> bool
-    ensures { result ≡ all_settled rows.now }
-{
-    rows.iter().all(|row| row.is_settled())
+    outlook.is_at_rest()
 }

@@ -1,12 +1,13 @@
 //! What a received list of messages makes of the rows (IEEE Std 802.1Q-2018, 10.7.5 and 10.7.6).
 
-ghost use Rattle.std.specs.Prelude.{◌≡◌, ◌<◌, ◌+◌, ◌^◌, map, filter, not, Some, if◌then◌else◌, OnOk, OnErr, IfOk};
+ghost use Rattle.std.specs.Prelude.{◌≡◌, ◌<◌, ◌+◌, ◌^◌, not, Some, if◌then◌else◌, OnOk, OnErr, IfOk};
 ghost use Rattle.std.specs.Option.{option_eq};
 ghost use Rattle.leaveall.specs.Table.{table};
 ghost use Rattle.leaveall.specs.declared.LaEvent.TheVariants.{Rx};
 ghost use Rattle.mrp_participant.specs.Lookup.{Ascends, key_of, find};
-ghost use Rattle.mrp_participant.specs.Row.{registered_in};
-ghost use Rattle.mrp_participant.specs.Outlook.{HoldsOfAll};
+ghost use Rattle.mrp_participant.specs.Row.{registered_in, row_after_receive};
+ghost use Rattle.mrp_participant.specs.Hearing.{row_so_far};
+ghost use Rattle.mrp_participant.specs.Outlook.{IsOutlook};
 ghost use Rattle.mrp_participant.specs.State.{AreRows, after, rows_after_receive, changed_keys, received_state};
 
 use crate::application::{MrpApp, Msgs};
@@ -23,8 +24,9 @@ use std::alloc::Global;
 impl<A: MrpApp> Participant<A> {
     /// Takes what the neighbour sent at the moment `now`, in cs and below 2^62: LeaveAll first, then the events
     /// in order (IEEE Std 802.1Q-2018, 10.7.5). Answers, ascending, the keys whose registration or registered
-    /// content differs from before. Without LeaveAll, where each key has a row at rest, it doesn't go
-    /// over all rows. After want of memory the participant is as it was.
+    /// content differs from before. It goes over all rows with LeaveAll, for a key that has no row yet, and
+    /// where the last of the leave timers that end first ends by it. After want of memory the participant is as
+    /// it was.
     pub fn receive(&mut self, now: Cs, msgs: &Msgs<A>) -> Result<Seq<A::Key>, NoMemory>
         requires { now.0 < 2 ^ 62 }
 
@@ -86,7 +88,7 @@ fn receive_in<K: Copy + Ord, C: Copy + Eq>(
     leave: Cs,
 ) -> Result<Seq<K>, NoMemory>
     requires are_rows { AreRows K.cmp rows.old.items }
-    requires holds { HoldsOfAll outlook.old rows.old.items }
+    requires outlook { IsOutlook outlook.old rows.old.items }
     ensures rows { OnOk result (rows.new.items
         ≡ rows_after_receive K.cmp leave leave_all events.now rows.old.items) }
     ensures keys { IfOk result (λ keys. keys
@@ -94,41 +96,33 @@ fn receive_in<K: Copy + Ord, C: Copy + Eq>(
         (rows_after_receive K.cmp leave leave_all events.now rows.old.items)) }
     ensures are_rows { OnOk result (AreRows K.cmp rows.new.items) }
     ensures err { OnErr result (rows.new.items ≡ rows.old.items) }
-    ensures holds { HoldsOfAll outlook.new rows.new.items }
+    ensures outlook { IsOutlook outlook.new rows.new.items }
 {
-    if keys_ascend(events) {
-        return hear_all(alloc, rows, outlook, leave_all, events, leave);
-    }
-    let sorted = by_key(alloc, events)?;
-    hear_all(alloc, rows, outlook, leave_all, sorted.as_slice(), leave)
+    let heard = hear(alloc, rows.as_slice(), leave_all, events, leave)?;
+    let keys = changed(alloc, rows.as_slice(), heard.as_slice())?;
+    put_heard(rows, outlook, leave_all, heard.as_slice(), leave)?;
+    Ok(Seq::from_vec(keys))
 }
 
-/// The same in the order of the events. Where a key falls below an earlier one, its row is put between others.
-fn hear_all<K: Copy + Ord, C: Copy + Eq>(
+/// The rows of the keys that events speak of, after LeaveAll and then the events. Where the keys don't ascend, the
+/// events are put in the order of their keys first, so that no row is put between others.
+fn hear<K: Copy + Ord, C: Copy>(
     alloc: Global,
-    rows: &mut Vec<Row<K, C>>,
-    outlook: &mut Outlook,
+    rows: &[Row<K, C>],
     leave_all: bool,
     events: &[(MrpEvent, K, C)],
     leave: Cs,
-) -> Result<Seq<K>, NoMemory>
-    requires are_rows { AreRows K.cmp rows.old.items }
-    requires holds { HoldsOfAll outlook.old rows.old.items }
-    ensures rows { OnOk result (rows.new.items
-        ≡ rows_after_receive K.cmp leave leave_all events.now rows.old.items) }
-    ensures keys { IfOk result (λ keys. keys
-        ≡ changed_keys K.cmp C.eq rows.old.items
-        (rows_after_receive K.cmp leave leave_all events.now rows.old.items)) }
-    ensures are_rows { OnOk result (AreRows K.cmp rows.new.items) }
-    ensures err { OnErr result (rows.new.items ≡ rows.old.items) }
-    ensures holds { HoldsOfAll outlook.new rows.new.items }
+) -> Result<Vec<Row<K, C>>, NoMemory>
+    requires { AreRows K.cmp rows.now }
+    ensures are_rows { IfOk result (λ v. AreRows K.cmp v.items) }
+    ensures each_key { IfOk result (λ v. (k : K) → row_so_far K.cmp leave_all leave rows.now v.items k
+        ≡ row_after_receive K.cmp leave leave_all events.now k (find K.cmp k rows.now)) }
 {
-    let heard = rows_heard(alloc, rows.as_slice(), leave_all, events, leave)?;
-    let keys = changed(alloc, rows.as_slice(), heard.as_slice())?;
-    let anew = outlook.is_outdated(leave_all, rows.as_slice(), heard.as_slice());
-    put_heard(rows, leave_all, heard.as_slice(), leave)?;
-    *outlook = outlook.after_hearing(anew, rows.as_slice(), heard.as_slice());
-    Ok(Seq::from_vec(keys))
+    if keys_ascend(events) {
+        return rows_heard(alloc, rows, leave_all, events, leave);
+    }
+    let sorted = by_key(alloc, events)?;
+    rows_heard(alloc, rows, leave_all, sorted.as_slice(), leave)
 }
 
 /// The keys whose registration or registered content differs between two lists of rows.

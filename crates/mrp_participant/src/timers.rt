@@ -1,17 +1,17 @@
 //! The timers of a participant (IEEE Std 802.1Q-2018, 10.7.4): the leave timers of its rows, the LeaveAll
 //! timer, and periodic transmission.
 
-ghost use Rattle.std.specs.Prelude.{◌≡◌, ◌<◌, ◌+◌, ◌^◌, ◌++◌, map, filter, min, length, if◌then◌else◌, Some, None, OnOk, OnErr, IfOk};
-ghost use Rattle.std.specs.List.{filter_map, list_any};
+ghost use Rattle.std.specs.Prelude.{◌≡◌, ◌<◌, ◌+◌, ◌^◌, ◌++◌, map, filter, min, if◌then◌else◌, Some, None, OnOk, OnErr, IfOk};
+ghost use Rattle.std.specs.List.{filter_map};
 ghost use Rattle.mrp_participant.specs.Lookup.{key_of};
 ghost use Rattle.mrp_participant.specs.Row.{leave_is_due, after_leave_due, periodic_row};
-ghost use Rattle.mrp_participant.specs.Outlook.{HoldsOfAll};
+ghost use Rattle.mrp_participant.specs.Outlook.{IsOutlook};
 ghost use Rattle.mrp_participant.specs.State.{leave_all_state, periodic_state, is_any_due, due_leave_all_state, due_periodic_state, due_state, due_count, left_keys};
 
 use crate::application::MrpApp;
 use crate::kept::push_some;
 use crate::model::Participant;
-use crate::outlook::{Outlook, any_leave_due, is_leave_due, outlook_of};
+use crate::outlook::{Outlook, is_leave_due, outlook_of};
 use crate::row::Row;
 use leaveall::LaEvent;
 use srp_base::{Cs, NoMemory, Seq};
@@ -95,48 +95,29 @@ fn all_periodic<K: Copy, C: Copy>(rows: &mut Vec<Row<K, C>>)
     }
 }
 
-/// Fires the leave timers that are due, and answers their keys. Where it is known that none is due no row is looked
-/// at. After want of memory the rows are as they were.
+/// Fires the leave timers that are due, and answers their keys. Where none is due no row is looked at. After want of
+/// memory the rows are as they were.
 fn fire_leaves<K: Copy, C: Copy>(
     rows: &mut Vec<Row<K, C>>,
     outlook: &mut Outlook,
     now: Cs,
 ) -> Result<Vec<K>, NoMemory>
-    requires { HoldsOfAll outlook.old rows.old.items }
+    requires { IsOutlook outlook.old rows.old.items }
     ensures keys { IfOk result (λ v. v.items
         ≡ map key_of (filter (leave_is_due now.0) rows.old.items)) }
     ensures rows { OnOk result (rows.new.items
         ≡ filter_map (after_leave_due now.0) rows.old.items) }
     ensures err { OnErr result (rows.new.items ≡ rows.old.items) }
-    ensures holds { HoldsOfAll outlook.new rows.new.items }
-{
-    if !outlook.may_leave(now) {
-        return Ok(Vec::new(*rows.allocator()));
-    }
-    let keys = fire_leave_timers(rows, now)?;
-    *outlook = outlook_of(rows.as_slice());
-    Ok(keys)
-}
-
-/// Fires the leave timers that are due, and answers their keys. Where none is due nothing is copied. After want
-/// of memory the rows are as they were.
-fn fire_leave_timers<K: Copy, C: Copy>(
-    rows: &mut Vec<Row<K, C>>,
-    now: Cs,
-) -> Result<Vec<K>, NoMemory>
-    ensures keys { IfOk result (λ v. v.items
-        ≡ map key_of (filter (leave_is_due now.0) rows.old.items)) }
-    ensures rows { OnOk result (rows.new.items
-        ≡ filter_map (after_leave_due now.0) rows.old.items) }
-    ensures err { OnErr result (rows.new.items ≡ rows.old.items) }
+    ensures outlook { IsOutlook outlook.new rows.new.items }
 {
     let alloc = *rows.allocator();
-    if !any_leave_due(rows.as_slice(), now) {
-        return Ok(Vec::new(alloc));
-    }
     let mut keys = Vec::new(alloc);
+    if !outlook.has_due(now) {
+        return Ok(keys);
+    }
     let mut after = Vec::new(alloc);
     fire_each(rows.as_slice(), now, &mut keys, &mut after)?;
+    *outlook = outlook_of(after.as_slice());
     *rows = after;
     Ok(keys)
 }

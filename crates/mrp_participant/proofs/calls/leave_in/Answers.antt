@@ -11,7 +11,7 @@ returns-in-Ok-clause-was g c =
 pub returns-in-Ok-clause-rows : goal.returns-in-Ok-clause-rows
 returns-in-Ok-clause-rows g c =
     put-at_row c.args.rows.now.items _ _ c.as_slice.ensures.value after_leave _ c.index.result.now _
-    c.in-Ok.ensures.row c.index.ensures c.left.ensures c.replace_at.ensures
+    c.in-Ok.ensures.row c.index.ensures c.left.ensures c.replace_row.ensures.rows
 
 pub returns-in-Err-clause-was : goal.returns-in-Err-clause-was
 returns-in-Err-clause-was g c =

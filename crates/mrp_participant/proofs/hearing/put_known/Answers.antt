@@ -20,18 +20,25 @@ loop-row-preserved g c =
     record {
       put =
           fold-step (λ rows u. put g.K.Ord.cmp u.key (Some u) rows) _ _ _ _ _ c.loop-row-test.true c.row-item.is c.loop-row.invariant.put
-          ∙ ap (λ rows. put_over g.K.Ord.cmp (drop (c.loop-row.row-index + 1) c.args.heard.now) rows) (sym c.put_in.ensures);
-      ascends = subst (Ascends g.K.Ord.cmp key_of) (sym c.put_in.ensures) (Ascends-put_row g.met.K.Ord.total _ _ c.loop-row.invariant.ascends);
+          ∙ ap (λ rows. put_over g.K.Ord.cmp (drop (c.loop-row.row-index + 1) c.args.heard.now) rows) (sym c.put_in.ensures.rows);
+      ascends = subst (Ascends g.K.Ord.cmp key_of) (sym c.put_in.ensures.rows) (Ascends-put_row g.met.K.Ord.total _ _ c.loop-row.invariant.ascends);
       known =
-          subst (λ rows. AllByRecursion (λ u. IsSome (find g.K.Ord.cmp u.key rows)) (drop (c.loop-row.row-index + 1) c.args.heard.now)) (sym c.put_in.ensures)
+          subst (λ rows. AllByRecursion (λ u. IsSome (find g.K.Ord.cmp u.key rows)) (drop (c.loop-row.row-index + 1) c.args.heard.now)) (sym c.put_in.ensures.rows)
           (known-put g.met.K.Ord.total _ _ _ c.loop-row.invariant.ascends (each-at_drop _ c.args.heard.now _ _ c.loop-row-test.true c.row-item.is c.loop-row.invariant.known).1);
+      outlook = c.put_in.ensures.outlook;
     }
 
 pub loop-row-init : goal.loop-row-init
-loop-row-init g c = record { put = refl; ascends = c.requires.rows; known = c.requires.known }
+loop-row-init g c = record { put = refl; ascends = c.requires.rows; known = c.requires.known; outlook = c.requires.outlook }
 
 pub offset_bounds-heard-row-index : goal.offset_bounds-heard-row-index
 offset_bounds-heard-row-index g c = c.loop-row.auto.row-index-end
 
-pub returns : goal.returns
-returns g c = sym (c.loop-row.invariant.put ∙ ap (λ over. put_over g.K.Ord.cmp over c.loop-row.rows.items) (drop_all _ c.args.heard.now c.loop-row-test.false))
+pub put_in-requires-clause-outlook : goal.put_in-requires-clause-outlook
+put_in-requires-clause-outlook g c = c.loop-row.invariant.outlook
+
+pub returns-clause-outlook : goal.returns-clause-outlook
+returns-clause-outlook g c = c.loop-row.invariant.outlook
+
+pub returns-clause-rows : goal.returns-clause-rows
+returns-clause-rows g c = sym (c.loop-row.invariant.put ∙ ap (λ over. put_over g.K.Ord.cmp over c.loop-row.rows.items) (drop_all _ c.args.heard.now c.loop-row-test.false))

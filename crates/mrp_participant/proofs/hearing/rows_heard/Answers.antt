@@ -2,9 +2,9 @@ use Rattle.std.proofs.Common.{ap, sym, ◌∙◌, ◌+◌, subst, drop, fold, ru
 use Rattle.std.proofs.lemmas.List.{drop_all}
 use Rattle.mrp_participant.proofs.Exits.{of_error}
 use Rattle.mrp_participant.specs.State.{AreRows}
-use Rattle.mrp_participant.specs.Hearing.{heard_with}
+use Rattle.mrp_participant.specs.Hearing.{heard_with, row_so_far}
 use Rattle.mrp_participant.proofs.Lookups.{fold-step}
-use Rattle.mrp_participant.proofs.Hearings.{AreRows-heard}
+use Rattle.mrp_participant.proofs.Hearings.{AreRows-heard, heard-each}
 use Rattle.mrp_participant.proofs.hearing.rows_heard.Goals as goal
 
 pub hear_beside-requires-clause-heard : goal.hear_beside-requires-clause-heard
@@ -32,17 +32,19 @@ offset_bounds-events-event-index g c = c.loop-event.auto.event-index-end
 pub hear_beside-requires-clause-rows : goal.hear_beside-requires-clause-rows
 hear_beside-requires-clause-rows g c = c.requires.0
 
-pub returns-in_err-hear_beside-clause-heard : goal.returns-in_err-hear_beside-clause-heard
-returns-in_err-hear_beside-clause-heard g c = of_error c.from_residual.result _ _ c.from_residual.ensures.1
+pub returns-in_err-hear_beside-clause-each_key : goal.returns-in_err-hear_beside-clause-each_key
+returns-in_err-hear_beside-clause-each_key g c = of_error c.from_residual.result _ _ c.from_residual.ensures.1
 
 pub returns-in_err-hear_beside-clause-are_rows : goal.returns-in_err-hear_beside-clause-are_rows
 returns-in_err-hear_beside-clause-are_rows g c = of_error c.from_residual.result _ _ c.from_residual.ensures.1
 
-pub returns-clause-heard : goal.returns-clause-heard
-returns-clause-heard g c =
-    sym
+pub returns-clause-each_key : goal.returns-clause-each_key
+returns-clause-each_key g c k =
+    ap (λ heard. row_so_far g.K.Ord.cmp c.args.leave_all c.args.leave c.args.rows.now heard k)
+    (sym
     (c.loop-event.invariant.heard
-    ∙ ap (λ events. fold (heard_with g.K.Ord.cmp c.args.leave_all c.args.leave c.args.rows.now) c.loop-event.heard.items events) (drop_all _ c.args.events.now c.loop-event-test.false))
+    ∙ ap (λ events. fold (heard_with g.K.Ord.cmp c.args.leave_all c.args.leave c.args.rows.now) c.loop-event.heard.items events) (drop_all _ c.args.events.now c.loop-event-test.false)))
+    ∙ heard-each g.met.K.Ord.total c.args.leave_all c.args.leave c.args.rows.now c.requires c.args.events.now k
 
 pub returns-clause-are_rows : goal.returns-clause-are_rows
 returns-clause-are_rows g c = c.loop-event.invariant.are_rows

@@ -1,16 +1,35 @@
-use Rattle.std.proofs.Common.{◌≡◌, ◌∙◌, false, refl, sym}
-use Rattle.std.specs.List.{list_any}
-use Rattle.mrp_participant.specs.Row.{leave_is_due}
+use Rattle.std.proofs.Common.{◌≡◌, ◌∙◌, ◌++◌, if◌then◌else◌, false, refl, sym, ap, subst, map, filter}
+use Rattle.std.specs.List.{filter_map, list_any}
+use Rattle.std.specs.declared.option.Option.TheVariants.{Some, None}
+use Rattle.mrp_participant.specs.Lookup.{key_of}
+use Rattle.mrp_participant.specs.Outlook.{IsOutlook}
+use Rattle.mrp_participant.specs.Row.{leave_is_due, after_leave_due}
 use Rattle.mrp_participant.proofs.Changes.{none-leave}
-use Rattle.mrp_participant.proofs.OutlookLemmas.{none_may_leave}
+use Rattle.mrp_participant.proofs.OutlookLemmas.{due-says}
+use Rattle.mrp_participant.proofs.Places.{keys_of_leaving}
 use Rattle.mrp_participant.proofs.timers.fire_leaves.Goals as goal
 
-pub returns-then-not-may_leave-clause-keys : goal.returns-then-not-may_leave-clause-keys
-returns-then-not-may_leave-clause-keys g c =
-    let none : list_any (leave_is_due c.args.now.0) c.args.rows.now.items ≡ false = none_may_leave c.args.outlook.now c.args.now.0 c.args.rows.now.items c.requires (sym c.may_leave.ensures ∙ c.if-not-may_leave.true) in
-    c.new.ensures.items ∙ sym (none-leave c.args.now.0 c.args.rows.now.items _ _ refl (sym none) refl).0
+pub returns-then-not-has_due-clause-keys : goal.returns-then-not-has_due-clause-keys
+returns-then-not-has_due-clause-keys g c =
+    let none : list_any (leave_is_due c.args.now.0) c.args.rows.now.items ≡ false = sym (due-says c.args.now.0 c.args.outlook.now.first_leave c.args.rows.now.items c.requires.0.first c.requires.1) ∙ (sym c.has_due.ensures ∙ c.if-not-has_due.true) in
+    c.new-keys.ensures.items ∙ sym (none-leave c.args.now.0 c.args.rows.now.items _ _ refl (sym none) refl).0
 
-pub returns-then-not-may_leave-clause-rows : goal.returns-then-not-may_leave-clause-rows
-returns-then-not-may_leave-clause-rows g c =
-    let none : list_any (leave_is_due c.args.now.0) c.args.rows.now.items ≡ false = none_may_leave c.args.outlook.now c.args.now.0 c.args.rows.now.items c.requires (sym c.may_leave.ensures ∙ c.if-not-may_leave.true) in
+pub returns-then-not-has_due-clause-rows : goal.returns-then-not-has_due-clause-rows
+returns-then-not-has_due-clause-rows g c =
+    let none : list_any (leave_is_due c.args.now.0) c.args.rows.now.items ≡ false = sym (due-says c.args.now.0 c.args.outlook.now.first_leave c.args.rows.now.items c.requires.0.first c.requires.1) ∙ (sym c.has_due.ensures ∙ c.if-not-has_due.true) in
     sym (none-leave c.args.now.0 c.args.rows.now.items _ _ refl (sym none) refl).1
+
+pub returns-clause-keys : goal.returns-clause-keys
+returns-clause-keys g c =
+    c.in_ok-fire_each.ensures.keys
+    ∙ ap (λ l. l ++ filter_map (λ r. if leave_is_due c.args.now.0 r then Some r.key else None) c.as_slice.result.now) c.new-keys.ensures.items
+    ∙ keys_of_leaving c.args.now.0 c.as_slice.result.now ∙ ap (λ l. map key_of (filter (leave_is_due c.args.now.0) l)) c.as_slice.ensures.value
+
+pub returns-clause-rows : goal.returns-clause-rows
+returns-clause-rows g c =
+    c.in_ok-fire_each.ensures.rows
+    ∙ ap (λ l. l ++ filter_map (after_leave_due c.args.now.0) c.as_slice.result.now) c.new-after.ensures.items
+    ∙ ap (filter_map (after_leave_due c.args.now.0)) c.as_slice.ensures.value
+
+pub returns-clause-outlook : goal.returns-clause-outlook
+returns-clause-outlook g c = subst (IsOutlook c.outlook_of.result) c.as_slice-2.ensures.value c.outlook_of.ensures

@@ -1,10 +1,10 @@
-use Rattle.std.proofs.Common.{ap, ◌∙◌, if◌then◌else◌, OnOk}
+use Rattle.std.proofs.Common.{ap, ◌∙◌, if◌then◌else◌}
 use Rattle.std.specs.declared.result.Result.{Result}
-use Rattle.std.specs.declared.result.Result.TheVariants.{Ok, Err}
 use Rattle.mrp_participant.specs.Lookup.{find, same}
 use Rattle.mrp_participant.specs.Row.{after_declare, declared_in}
 use Rattle.mrp_participant.specs.State.{State}
 use Rattle.mrp_participant.proofs.EachKey.{each-declare}
+use Rattle.mrp_participant.proofs.Exits.{on_ok}
 use Rattle.mrp_participant.proofs.Transitions.{AreRows-declare, AreRows-either}
 use Rattle.mrp_participant.proofs.Unchanged.{declare-same, either-same, unchanged}
 use Rattle.mrp_participant.proofs.model.Participant.declare.Goals as goal
@@ -15,12 +15,8 @@ invariant_of-self g c = (
       (AreRows-declare g.met.A.Key.Ord.total g.A.Content.PartialEq.eq _ _ _ c.self.invariant.0) c.self.invariant.0,
   c.self.invariant.1,
   c.self.invariant.2,
-  c.declare_in.ensures.holds,
+  c.declare_in.ensures.outlook,
 )
-
-on_ok : {X E : Type 0} (r : Result X E) (P Q : Type 0) → (P → Q) → OnOk r P → OnOk r Q
-on_ok (Ok x) P Q f h = f h
-on_ok (Err e) P Q f h = tt
 
 pub returns-clause-each_key : goal.returns-clause-each_key
 returns-clause-each_key g c =

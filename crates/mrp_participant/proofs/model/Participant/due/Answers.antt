@@ -9,7 +9,7 @@ invariant_of-self-2 g c = (
   subst (AreRows g.A.Key.Ord.cmp) (sym c.in_ok-fire_leaves.ensures.rows) (AreRows-filter_mapped g.A.Key.Ord.cmp _ (due-keeps c.args.now.0) _ c.self.invariant.0),
   c.self.invariant.1,
   c.self.invariant.2,
-  c.in_ok-fire_leaves.ensures.holds,
+  c.in_ok-fire_leaves.ensures.outlook,
 )
 
 pub fire_leaves-requires : goal.fire_leaves-requires
@@ -20,7 +20,7 @@ invariant_of-self g c = (
   subst (AreRows g.A.Key.Ord.cmp) (sym c.in_err-fire_leaves.ensures.err) c.self.invariant.0,
   c.self.invariant.1,
   c.self.invariant.2,
-  c.in_err-fire_leaves.ensures.holds,
+  c.in_err-fire_leaves.ensures.outlook,
 )
 
 pub returns-in_err-fire_leaves-clause-after : goal.returns-in_err-fire_leaves-clause-after

@@ -6,15 +6,15 @@ use Rattle.mrp_participant.proofs.model.Participant.receive.Goals as goal
 pub receive_in-requires-clause-are_rows : goal.receive_in-requires-clause-are_rows
 receive_in-requires-clause-are_rows g c = c.self.invariant.0
 
-pub receive_in-requires-clause-holds : goal.receive_in-requires-clause-holds
-receive_in-requires-clause-holds g c = c.self.invariant.3
+pub receive_in-requires-clause-outlook : goal.receive_in-requires-clause-outlook
+receive_in-requires-clause-outlook g c = c.self.invariant.3
 
 pub invariant_of-self : goal.invariant_of-self
 invariant_of-self g c = (
   subst (AreRows g.A.Key.Ord.cmp) (sym c.in_err-keys.ensures.err) c.self.invariant.0,
   c.self.invariant.1,
   c.self.invariant.2,
-  c.in_err-keys.ensures.holds,
+  c.in_err-keys.ensures.outlook,
 )
 
 pub returns-in_err-keys-clause-after : goal.returns-in_err-keys-clause-after
@@ -28,5 +28,5 @@ invariant_of-self-2 g c = (
   c.in_ok-keys.ensures.are_rows,
   c.self.invariant.1,
   c.self.invariant.2,
-  c.in_ok-keys.ensures.holds,
+  c.in_ok-keys.ensures.outlook,
 )

@@ -1,5 +1,5 @@
 use Rattle.std.proofs.Common.{◌∙◌, refl, sym, ap, subst}
-use Rattle.mrp_participant.specs.Outlook.{HoldsOfAll}
+use Rattle.mrp_participant.specs.Outlook.{IsOutlook}
 use Rattle.mrp_participant.specs.State.{State, AreRows, after, is_active, sent_state}
 use Rattle.mrp_participant.proofs.Exits.{of_error, on_error}
 use Rattle.mrp_participant.proofs.Sendings.{silent-state, events-of, sent-parts, tried-one}
@@ -62,7 +62,7 @@ invariant_of-self g c = (
   c.in_ok-rows.ensures.are_rows,
   c.self.invariant.1,
   c.self.invariant.2,
-  subst (HoldsOfAll c.outlook_of-self-inside.result) c.as_slice-2.ensures.value c.outlook_of-self-inside.ensures.holds,
+  subst (IsOutlook c.outlook_of-self-inside.result) c.as_slice-2.ensures.value c.outlook_of-self-inside.ensures,
 )
 
 pub returns-clause-after : goal.returns-clause-after

@@ -12,7 +12,7 @@ invariant_of-self g c = (
   subst (AreRows g.A.Key.Ord.cmp) (sym c.withdraw_in.ensures.rows) (AreRows-withdraw g.met.A.Key.Ord.total _ _ c.self.invariant.0),
   c.self.invariant.1,
   c.self.invariant.2,
-  c.withdraw_in.ensures.holds,
+  c.withdraw_in.ensures.outlook,
 )
 
 pub returns-clause-each_key : goal.returns-clause-each_key
