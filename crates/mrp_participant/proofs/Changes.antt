@@ -16,11 +16,11 @@ use Rattle.std.specs.List.{AllByRecursion, filter_map, cons_option, list_any}
 use Rattle.std.specs.Option.{option_eq}
 use Rattle.registrar.specs.Table.{is_leaving}
 use Rattle.mrp_participant.specs.Row.{is_live, registered_in, row_hearing, row_after_receive, after_hear, leave_all_row, leave_is_due, after_leave_due, left_row, periodic_row}
-use Rattle.mrp_participant.specs.State.{State, AreRows, changed_keys, rows_after_receive, left_keys, leave_timers_state, leave_all_state, periodic_fired_state, due_leave_all_state, due_state, is_leave_all_due, is_periodic_due}
+use Rattle.mrp_participant.specs.State.{State, AreRows, changed_keys, rows_after_receive, left_keys, leave_timers_state, periodic_fired_state, due_leave_all_state, due_state, is_leave_all_due, is_periodic_due}
 use Rattle.mrp_participant.proofs.Lookups.{same_is, Each-mapped}
 use Rattle.mrp_participant.proofs.CutLemmas.{In, In-filter, In-filtered, Each-filtered, find-in}
 use Rattle.mrp_participant.proofs.EachKey.{each-receive, each-mapped, each-kept}
-use Rattle.mrp_participant.proofs.Transitions.{due-keeps}
+use Rattle.mrp_participant.proofs.Transitions.{due-keeps, leave_all_due-rows}
 
 -- ---- members of a list
 
@@ -150,10 +150,6 @@ module _ {K C : Type 0} where
   leaving-registered_by now r Empty h = cc
   leaving-registered_by now r Leaving h = refl
 
-  pub due_rows_by : (now : Cs) (s : State K C) (b : Bool) → (if b then leave_all_state now s else s).rows ≡ s.rows
-  due_rows_by now s true = refl
-  due_rows_by now s false = refl
-
 module _ {K C : Type 0} {cmp : K → K → Ordering} (o : IsTotalOrder cmp) where
   periodic_rows_by : (now : Cs) (s : State K C) (k : K) (b : Bool) → registered_in (find cmp k (if b then periodic_fired_state now s else s).rows) ≡ registered_in (find cmp k s.rows)
   periodic_rows_by now s k true = ap registered_in (each-mapped o periodic_row (λ r. refl) s.rows k) ∙ periodic-registered (find cmp k s.rows)
@@ -165,7 +161,7 @@ module _ {K C : Type 0} {cmp : K → K → Ordering} (o : IsTotalOrder cmp) wher
       let first : State K C = leave_timers_state now s in
       let second : State K C = due_leave_all_state now first in
       periodic_rows_by now second k (is_periodic_due now second)
-      ∙ (ap (λ rows. registered_in (find cmp k rows)) (due_rows_by now first (is_leave_all_due now first))
+      ∙ (ap (λ rows. registered_in (find cmp k rows)) (leave_all_due-rows now first (is_leave_all_due now first))
       ∙ ap registered_in (each-kept o (after_leave_due now.0) (due-keeps now.0) s.rows up k))
 
   due_told_by : (now : Cs) (s : State K C) (k : K) (r : Row K C) (b : Bool) → leave_is_due now.0 r ≡ b → In r s.rows → r.key ≡ k → Contains (left_keys now s) k ⊎ (registered_in (if b then left_row r else Some r) ≡ registered_in (Some r))

@@ -20,6 +20,7 @@ use Rattle.registrar.specs.Table as registrar
 use Rattle.mrp_participant.specs.declared.row.Row.{Row}
 use Rattle.mrp_participant.specs.Lookup.{same, find}
 use Rattle.registrar.specs.Table.{is_in, is_leaving}
+use Rattle.registrar.proofs.RegistrarLemmas.{leave_all_sent-registered}
 use Rattle.applicant.specs.Table.{is_observer}
 use Rattle.mrp_participant.specs.Row.{kept_row, with_applicant, with_heard, applicant_takes, registrar_takes, after_declare, after_withdraw, left_row, after_leave, is_leaving_in, leave_all_row, heard_row, after_hear, row_hearing, row_after_receive, registered_in, declared_in, leave_is_due, after_leave_due, periodic_row}
 use Rattle.mrp_participant.specs.Sending.{is_tried, sent_row}
@@ -130,11 +131,6 @@ module _ {K C : Type 0} where
 full_or : (b : Bool) → applicant.is_request (if b then TxLeaveAllFull else TxLeaveAll) ≡ false
 full_or true = refl
 full_or false = refl
-
-leave_all_sent-registered : (g : Registrar) → registrar.is_registered_in (registrar.next RegTxLeaveAll g) ≡ registrar.is_registered_in g
-leave_all_sent-registered Held = refl
-leave_all_sent-registered Leaving = refl
-leave_all_sent-registered Empty = refl
 
 module _ {K C : Type 0} where
   opportunity-declared : (keep : KeepDeclarations) (event : AppEvent) → applicant.is_request event ≡ false → (r : Row K C) → declared_in (kept_row (applicant_takes event r)) ≡ declared_in (Some r)

@@ -13,14 +13,13 @@ use Rattle.std.specs.List.{AllByRecursion, list_all}
 use Rattle.std.specs.Option.{is_some, option_eq}
 use Rattle.srp_base.specs.declared.numbers.Cs.{Cs}
 use Rattle.srp_base.specs.declared.mrp.MrpEvent.{MrpEvent}
-use Rattle.registrar.specs.declared.Registrar.{Registrar}
-use Rattle.registrar.specs.declared.Registrar.TheVariants.{Held, Leaving, Empty}
+use Rattle.registrar.proofs.RegistrarLemmas.{leave_all-registered}
 use Rattle.mrp_participant.specs.declared.row.Row.{Row}
 use Rattle.mrp_participant.specs.Lookup.{Ascends, key_of, same, find, put}
 use Rattle.mrp_participant.specs.Row.{is_live, leave_all_row, after_hear, row_hearing, row_after_receive, registered_in}
 use Rattle.mrp_participant.specs.State.{AreRows, rows_after_receive, changed_keys}
 use Rattle.mrp_participant.specs.Hearing.{first_of, begun_row, row_so_far, heard_with, heard_rows, merged, put_over}
-use Rattle.mrp_participant.proofs.Lookups.{Fits, Each-map, AreRows-put, Ascends-put, find-fits, find-above, above_all, above_same, none_above, find-put, find-same, same_is, same_left}
+use Rattle.mrp_participant.proofs.Lookups.{Fits, Each-map, filter-none, AreRows-put, Ascends-put, find-fits, find-above, above_all, above_same, none_above, find-put, find-same, same_is, same_left}
 use Rattle.mrp_participant.proofs.CutLemmas.{In, Each-from_in, same_refl, find-in}
 use Rattle.mrp_participant.proofs.Transitions.{hear-fits, leave_all-live, Ascends-mapped, AreRows-mapped, AreRows-receive}
 use Rattle.mrp_participant.proofs.EachKey.{each-mapped, each-receive}
@@ -287,10 +286,6 @@ module _ {K C : Type 0} {cmp : K → K → Ordering} (o : IsTotalOrder cmp) (lea
 
 -- ---- the keys that are told are among those of the events
 
-filter-none : {X : Type 0} (p : X → Bool) (xs : List X) → AllByRecursion (λ x. p x ≡ false) xs → filter p xs ≡ []
-filter-none p [] h = refl
-filter-none p (x ∷ xs) h = ap (λ b. if b then x ∷ filter p xs else filter p xs) h.0 ∙ filter-none p xs h.1
-
 module _ {K C : Type 0} (cmp : K → K → Ordering) (p : Row K C → Bool) where
   filter-step : (x y : Row K C) (first second rest xs : List (Row K C)) (c : Ordering) → p y ≡ false → filter p first ≡ filter p xs → filter p second ≡ filter p xs → filter p rest ≡ filter p (x ∷ xs) → filter p (match_ordering c (x ∷ first) (x ∷ second) (y ∷ rest)) ≡ filter p (x ∷ xs)
   filter-step x y first second rest xs Less fails a b d = ap (λ l. if p x then x ∷ l else l) a
@@ -308,13 +303,8 @@ module _ {K C : Type 0} (cmp : K → K → Ordering) (p : Row K C → Bool) wher
   filter-merged (x ∷ xs) ys h = filter-merged_into x xs ys h (filter-merged xs)
 
 module _ {K C : Type 0} where
-  leave_all-registered_by : (leave : Cs) (r : Row K C) (g : Registrar) → registered_in (Some (leave_all_row leave (record r { registrar = g }))) ≡ registered_in (Some (record r { registrar = g }))
-  leave_all-registered_by leave r Held = refl
-  leave_all-registered_by leave r Leaving = refl
-  leave_all-registered_by leave r Empty = refl
-
   begun-registered : (leave_all : Bool) (leave : Cs) (r : Row K C) → registered_in (Some (begun_row leave_all leave r)) ≡ registered_in (Some r)
-  begun-registered true leave r = leave_all-registered_by leave r r.registrar
+  begun-registered true leave r = ap (λ b. if b then Some r.heard else None) (leave_all-registered r.registrar)
   begun-registered false leave r = refl
 
 module _ {K C : Type 0} {cmp : K → K → Ordering} (o : IsTotalOrder cmp) (eq : C → C → Bool) (laws : IsEquivalence eq) where

@@ -1,5 +1,5 @@
 -- Rows ascending by key: the place of a key, and what `put` leaves at each key.
-use Rattle.std.proofs.Common.{◌≡◌, ℕ, zero, suc, ◌+◌, ◌<◌, ◌≤◌, Bool, true, false, if◌then◌else◌, List, [], ◌∷◌, length, map, fold, drop, drop-cons, get_or, refl, sym, ap, ◌∙◌, subst, arith, add-one}
+use Rattle.std.proofs.Common.{◌≡◌, ℕ, zero, suc, ◌+◌, ◌<◌, ◌≤◌, Bool, true, false, if◌then◌else◌, List, [], ◌∷◌, length, map, filter, fold, drop, drop-cons, get_or, refl, sym, ap, ◌∙◌, subst, arith, add-one}
 use Rattle.std.specs.declared.option.Option.{Option}
 use Rattle.std.specs.declared.option.Option.TheVariants.{None, Some}
 use Rattle.std.specs.declared.cmp.Ordering.{Ordering}
@@ -50,6 +50,11 @@ pub Each-at : {X : Type 0} (P : X → Type 0) (xs : List X) → AllByRecursion P
 Each-at P [] h i d below = absurd (omega arith)
 Each-at P (x ∷ xs) h zero d below = h.0
 Each-at P (x ∷ xs) h (suc i) d below = Each-at P xs h.1 i d (omega arith)
+
+-- what no element passes keeps none
+pub filter-none : {X : Type 0} (p : X → Bool) (xs : List X) → AllByRecursion (λ x. p x ≡ false) xs → filter p xs ≡ []
+filter-none p [] h = refl
+filter-none p (x ∷ xs) h = ap (λ b. if b then x ∷ filter p xs else filter p xs) h.0 ∙ filter-none p xs h.1
 
 -- ---- a loop that folds a list
 

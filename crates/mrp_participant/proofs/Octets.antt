@@ -22,7 +22,7 @@ use Rattle.mrp_participant.specs.Row.{with_applicant, registrar_takes}
 use Rattle.mrp_participant.specs.Sending.{IsSplit, round, is_tried, rows_of_round, order, opportunity, said_at, event_of, sent_event, is_taken}
 use Rattle.mrp_participant.specs.Cut.{cut_at, is_before, is_in_room, first_cut}
 use Rattle.mrp_participant.specs.State.{none_tried}
-use Rattle.mrp_participant.proofs.Lookups.{Ascends-kept, Each-map}
+use Rattle.mrp_participant.proofs.Lookups.{Ascends-kept, Each-map, filter-none}
 use Rattle.mrp_participant.proofs.CutLemmas.{In, In-append, Lined, Ahead, first_is_before, lined_order, of_round, ahead_once, not_ahead_of_itself, in_order, in_room, filter_map-same}
 
 -- ---- sums
@@ -283,10 +283,6 @@ module _ {K C : Type 0} {cmp : K → K → Ordering} (o : IsTotalOrder cmp) (oct
 filter-all : {X : Type 0} (p : X → Bool) (xs : List X) → AllByRecursion (λ x. p x ≡ true) xs → filter p xs ≡ xs
 filter-all p [] h = refl
 filter-all p (x ∷ xs) h = ap (λ b. if b then x ∷ filter p xs else filter p xs) h.0 ∙ ap (λ l. x ∷ l) (filter-all p xs h.1)
-
-filter-none : {X : Type 0} (p : X → Bool) (xs : List X) → AllByRecursion (λ x. p x ≡ false) xs → filter p xs ≡ []
-filter-none p [] h = refl
-filter-none p (x ∷ xs) h = ap (λ b. if b then x ∷ filter p xs else filter p xs) h.0 ∙ filter-none p xs h.1
 
 filter-same : {X : Type 0} (p q : X → Bool) (xs : List X) → ((x : X) → In x xs → p x ≡ q x) → filter p xs ≡ filter q xs
 filter-same p q [] h = refl

@@ -27,8 +27,8 @@ use Rattle.mrp_participant.specs.State.{State, leave_timers_state, leave_all_sta
 use Rattle.mrp_participant.proofs.Lookups.{none_above, same_is, find-fits}
 use Rattle.mrp_participant.proofs.CutLemmas.{In, find-in}
 use Rattle.mrp_participant.proofs.EachKey.{each-mapped, each-kept}
-use Rattle.mrp_participant.proofs.Transitions.{due-keeps}
-use Rattle.mrp_participant.proofs.Changes.{due_rows_by, find-found, In-map, In-mapped, In-contains, Contains-in}
+use Rattle.mrp_participant.proofs.Transitions.{leave_all_due-rows, due-keeps}
+use Rattle.mrp_participant.proofs.Changes.{find-found, In-map, In-mapped, In-contains, Contains-in}
 use Rattle.mrp_participant.proofs.Octets.{sent_is}
 
 -- ---- after the timers
@@ -53,7 +53,7 @@ module _ {K C : Type 0} {cmp : K → K → Ordering} (o : IsTotalOrder cmp) wher
       let second : State K C = due_leave_all_state now first in
       periodic_at now second k (is_periodic_due now second)
       ∙ (ap (λ b. option_map (λ r. if b then periodic_row r else r) (find cmp k second.rows)) (periodic_same now first (is_leave_all_due now first))
-      ∙ (ap (λ rows. option_map (λ r. if is_periodic_due now s then periodic_row r else r) (find cmp k rows)) (due_rows_by now first (is_leave_all_due now first))
+      ∙ (ap (λ rows. option_map (λ r. if is_periodic_due now s then periodic_row r else r) (find cmp k rows)) (leave_all_due-rows now first (is_leave_all_due now first))
       ∙ ap (option_map (λ r. if is_periodic_due now s then periodic_row r else r)) (each-kept o (after_leave_due now.0) (due-keeps now.0) s.rows up k)))
 
 -- ---- how many timers are due

@@ -265,7 +265,8 @@ module _ {K C : Type 0} where
 -- ---- all timers that are due
 
 module _ {K C : Type 0} where
-  leave_all_due-rows : (now : Cs) (s : State K C) (b : Bool) → (if b then leave_all_state now s else s).rows ≡ s.rows
+  -- the timer of LeaveAll changes no row
+  pub leave_all_due-rows : (now : Cs) (s : State K C) (b : Bool) → (if b then leave_all_state now s else s).rows ≡ s.rows
   leave_all_due-rows now s true = refl
   leave_all_due-rows now s false = refl
 

@@ -5,6 +5,7 @@ ghost use Rattle.std.specs.Prelude.{◌≡◌, true, false};
 ghost use Rattle.registrar.specs.declared.Registrar.{Registrar};
 ghost use Rattle.registrar.specs.declared.Registrar.TheVariants.{Held, Leaving};
 ghost use Rattle.registrar.specs.declared.RegEvent.{RegEvent};
+ghost use Rattle.registrar.specs.declared.RegEvent.TheVariants.{RxLeaveAll, TxLeaveAll};
 ghost use Rattle.registrar.specs.declared.Tell.TheVariants.{Joined, Left};
 ghost use Rattle.registrar.specs.Table.{next, told, is_registered_in, starts_leave_timer};
 
@@ -34,4 +35,10 @@ pub fn leave_timer_starts()
         → (s ≡ Held) × (next event s ≡ Leaving) }
     ensures only { (event : RegEvent) → next event Held ≡ Leaving
         → starts_leave_timer event Held ≡ true }
+{}
+
+/// A LeaveAll, received or an own one that is sent, leaves a Registrar as registered as it was.
+pub fn leave_all_keeps_registrations()
+    ensures received { (s : Registrar) → is_registered_in (next RxLeaveAll s) ≡ is_registered_in s }
+    ensures sent { (s : Registrar) → is_registered_in (next TxLeaveAll s) ≡ is_registered_in s }
 {}

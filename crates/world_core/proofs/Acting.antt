@@ -14,9 +14,8 @@ use Rattle.srp_base.specs.declared.mrp.App.{App}
 use Rattle.srp_base.specs.declared.mrp.App.TheVariants.{Mvrp, Msrp}
 use Rattle.applicant.specs.declared.AppEvent.{AppEvent}
 use Rattle.registrar.specs.declared.Registrar.{Registrar}
-use Rattle.registrar.specs.declared.Registrar.TheVariants.{Held, Leaving, Empty}
-use Rattle.registrar.specs.declared.RegEvent.TheVariants.{TxLeaveAll}
-use Rattle.registrar.specs.Table.{next, is_registered_in}
+use Rattle.registrar.specs.Table.{is_registered_in}
+use Rattle.registrar.proofs.RegistrarLemmas.{leave_all_sent-registered}
 use Rattle.stream_importance.specs.declared.entry.Entry.{Entry}
 use Rattle.port_ledger.specs.Decision.{booked_of}
 use Rattle.port_ledger.specs.Book.{Book, booked_slope}
@@ -75,13 +74,8 @@ abbrev IsRegisteredAs : Row ℕ (Unit {0}) → Option (Row ℕ (Unit {0})) → T
 IsRegisteredAs r None = is_registered_row r ≡ false
 IsRegisteredAs r (Some t) = (t.key ≡ r.key) × (is_registered_row t ≡ is_registered_row r)
 
-full_leave : (x : Registrar) → is_registered_in (next TxLeaveAll x) ≡ is_registered_in x
-full_leave Held = refl
-full_leave Leaving = refl
-full_leave Empty = refl
-
 before_as : (leave_all : Bool) (leave : Cs) (r : Row ℕ (Unit {0})) → IsRegisteredAs r (Some (before_opportunity leave_all leave r))
-before_as true leave r = (refl, full_leave r.registrar)
+before_as true leave r = (refl, leave_all_sent-registered r.registrar)
 before_as false leave r = (refl, refl)
 
 after_as : (o : Option AppEvent) (r : Row ℕ (Unit {0})) → IsRegisteredAs r (row_after o r)
