@@ -1,5 +1,5 @@
 pub mod ReadingLemmas
-pub mod SpanLemmas
+pub mod StreakLemmas
 pub mod WritingLemmas
-pub mod MaximalSpans
+pub mod MaximalStreaks
 pub mod VidLemmas

@@ -1,5 +1,5 @@
 -- The one spelling in which the events of VIDs are written (IEEE Std 802.1Q-2018, 10.8.1.2): one Message,
--- in which each maximal span of consecutive VIDs is one vector.
+-- in which each maximal streak of consecutive VIDs is one vector.
 use Rattle.std.specs.Prelude.{◌≡◌, ◌≢◌, ℕ, ◌+◌, ◌≤◌, Bool, true, false, ◌||◌, List, [], ◌∷◌, ◌++◌, length, map, nat_lt, ◌==◌, if◌then◌else◌}
 use Rattle.std.specs.List.{flat_map, AllByRecursion}
 use Rattle.srp_base.specs.declared.mrp.MrpEvent.{MrpEvent}
@@ -10,35 +10,35 @@ use Rattle.mrpdu_codec.specs.Tree.{vectors_octets}
 use Rattle.mrpdu_codec.specs.Canonical.{two_octets, vectors_for, spelling}
 use Rattle.mvrp_codec.specs.declared.pdu.MvrpPdu.{MvrpPdu}
 
--- an event joins the span behind it where that begins with the next VID
+-- an event joins the streak behind it where that begins with the next VID
 abbrev pub join : MrpEvent × ℕ → List (List (MrpEvent × ℕ)) → List (List (MrpEvent × ℕ))
 join x [] = (x ∷ []) ∷ []
 join x ([] ∷ others) = (x ∷ []) ∷ others
 join x ((y ∷ ys) ∷ others) = if x.1 + 1 == y.1 then (x ∷ y ∷ ys) ∷ others else (x ∷ []) ∷ (y ∷ ys) ∷ others
 
--- the maximal spans of consecutive VIDs
-abbrev pub spans : List (MrpEvent × ℕ) → List (List (MrpEvent × ℕ))
-spans [] = []
-spans (x ∷ xs) = join x (spans xs)
+-- the maximal streaks of consecutive VIDs
+abbrev pub streaks : List (MrpEvent × ℕ) → List (List (MrpEvent × ℕ))
+streaks [] = []
+streaks (x ∷ xs) = join x (streaks xs)
 
--- the FirstValue of a span
+-- the FirstValue of a streak
 abbrev pub first_for : List (MrpEvent × ℕ) → List ℕ
 first_for [] = two_octets 0
 first_for (x ∷ xs) = two_octets x.1
 
--- the vector of a span; without values it has a FirstValue of zeros
-abbrev pub span_vector : Bool → List (MrpEvent × ℕ) → VectorAttr
-span_vector leave span = record { leave_all = leave; first = first_for span; events = map (λ x. x.0) span; params = [] }
+-- the vector of a streak; without values it has a FirstValue of zeros
+abbrev pub streak_vector : Bool → List (MrpEvent × ℕ) → VectorAttr
+streak_vector leave streak = record { leave_all = leave; first = first_for streak; events = map (λ x. x.0) streak; params = [] }
 
--- the vectors of spans: the first has the LeaveAll, and stands alone where there is no span
-abbrev pub span_vectors : Bool → List (List (MrpEvent × ℕ)) → List VectorAttr
-span_vectors false [] = []
-span_vectors true [] = span_vector true [] ∷ []
-span_vectors leave (span ∷ others) = span_vector leave span ∷ map (span_vector false) others
+-- the vectors of streaks: the first has the LeaveAll, and stands alone where there is no streak
+abbrev pub streak_vectors : Bool → List (List (MrpEvent × ℕ)) → List VectorAttr
+streak_vectors false [] = []
+streak_vectors true [] = streak_vector true [] ∷ []
+streak_vectors leave (streak ∷ others) = streak_vector leave streak ∷ map (streak_vector false) others
 
--- the octets of the vectors of spans
-abbrev pub spans_octets : Bool → List (List (MrpEvent × ℕ)) → List ℕ
-spans_octets leave ss = vectors_octets (vectors_for (span_vectors leave ss))
+-- the octets of the vectors of streaks
+abbrev pub streaks_octets : Bool → List (List (MrpEvent × ℕ)) → List ℕ
+streaks_octets leave ss = vectors_octets (vectors_for (streak_vectors leave ss))
 
 -- the octets of a Message of VIDs with these vectors, alone in a PDU
 abbrev pub framed : List ℕ → List ℕ
@@ -50,7 +50,7 @@ one_message vs = record { version = 0; messages = record { kind = 1; vectors = v
 
 -- the PDU of a LeaveAll and events
 abbrev pub pdu_for : MvrpPdu → Pdu
-pdu_for read = one_message (span_vectors read.leave_all (spans read.events))
+pdu_for read = one_message (streak_vectors read.leave_all (streaks read.events))
 
 -- the octets in which a LeaveAll and events are written
 abbrev pub mvrp_spelling : MvrpPdu → List ℕ
@@ -62,24 +62,24 @@ pub record IsWritable (read : MvrpPdu) : Type 0 where
   pub few : length read.events ≤ 297
 
 -- how many of the events have consecutive VIDs from the first on
-abbrev pub span_len : List (MrpEvent × ℕ) → ℕ
-span_len [] = 0
-span_len (x ∷ []) = 1
-span_len (x ∷ y ∷ ys) = if x.1 + 1 == y.1 then span_len (y ∷ ys) + 1 else 1
+abbrev pub streak_len : List (MrpEvent × ℕ) → ℕ
+streak_len [] = 0
+streak_len (x ∷ []) = 1
+streak_len (x ∷ y ∷ ys) = if x.1 + 1 == y.1 then streak_len (y ∷ ys) + 1 else 1
 
 -- each event is of a number that a VID has
 abbrev pub AreVids : List (MrpEvent × ℕ) → Type 0
 AreVids events = AllByRecursion (λ x. (1 ≤ x.1) × (x.1 ≤ 4094)) events
 
--- ---- What maximal spans are
+-- ---- What maximal streaks are
 
 -- one event or more, of consecutive VIDs
-abbrev pub IsSpan : List (MrpEvent × ℕ) → Type 0
-IsSpan [] = ⊥
-IsSpan (x ∷ []) = Unit {0}
-IsSpan (x ∷ y ∷ ys) = (x.1 + 1 ≡ y.1) × IsSpan (y ∷ ys)
+abbrev pub IsStreak : List (MrpEvent × ℕ) → Type 0
+IsStreak [] = ⊥
+IsStreak (x ∷ []) = Unit {0}
+IsStreak (x ∷ y ∷ ys) = (x.1 + 1 ≡ y.1) × IsStreak (y ∷ ys)
 
--- the span behind a span doesn't begin with the VID after its last
+-- the streak behind a streak doesn't begin with the VID after its last
 abbrev pub EndsBefore : List (MrpEvent × ℕ) → List (List (MrpEvent × ℕ)) → Type 0
 EndsBefore [] others = ⊥
 EndsBefore (x ∷ []) [] = Unit {0}
@@ -87,11 +87,11 @@ EndsBefore (x ∷ []) ([] ∷ others) = ⊥
 EndsBefore (x ∷ []) ((y ∷ ys) ∷ others) = x.1 + 1 ≢ y.1
 EndsBefore (x ∷ y ∷ ys) others = EndsBefore (y ∷ ys) others
 
--- spans of which none goes on in the next
+-- streaks of which none goes on in the next
 abbrev pub AreMaximal : List (List (MrpEvent × ℕ)) → Type 0
 AreMaximal [] = Unit {0}
-AreMaximal (span ∷ others) = IsSpan span × EndsBefore span others × AreMaximal others
+AreMaximal (streak ∷ others) = IsStreak streak × EndsBefore streak others × AreMaximal others
 
--- these spans one after another are the events
+-- these streaks one after another are the events
 abbrev pub joined : List (List (MrpEvent × ℕ)) → List (MrpEvent × ℕ)
-joined ss = flat_map (λ span. span) ss
+joined ss = flat_map (λ streak. streak) ss

@@ -1,4 +1,4 @@
-//! Laws of what octets say, and of the spans in which VIDs are written. A crate above that needs one calls
+//! Laws of what octets say, and of the streaks in which VIDs are written. A crate above that needs one calls
 //! it, and its proof has the clauses.
 
 ghost use Rattle.std.specs.Prelude.{◌≡◌, ◌≤◌, ◌↔◌, List, ℕ, length, Ok, Err};
@@ -7,7 +7,7 @@ ghost use Rattle.mrpdu_codec.specs.declared.form.AppForm.TheVariants.{Mvrp};
 ghost use Rattle.mrpdu_codec.specs.Grammar.{Breaks};
 ghost use Rattle.mvrp_codec.specs.declared.pdu.MvrpPdu.{MvrpPdu};
 ghost use Rattle.mvrp_codec.specs.Meaning.{Reads, mvrp_reading};
-ghost use Rattle.mvrp_codec.specs.Writing.{spans, AreMaximal, joined, mvrp_spelling, IsWritable, AreVids};
+ghost use Rattle.mvrp_codec.specs.Writing.{streaks, AreMaximal, joined, mvrp_spelling, IsWritable, AreVids};
 
 /// The reading as a function is the grammar with the meaning of a PDU: octets read as exactly what the
 /// PDU that they spell says, or as exactly the place where they break.
@@ -20,12 +20,12 @@ pub fn reading_is_the_grammar()
     mrpdu_codec::reading_is_the_grammar();
 }
 
-/// The law of the spans: one after another they are the events, they are maximal, and no other spans are
+/// The law of the streaks: one after another they are the events, they are maximal, and no other streaks are
 /// both.
-pub fn spans_are_maximal()
-    ensures whole { (events : List (MrpEvent × ℕ)) → joined (spans events) ≡ events }
-    ensures maximal { (events : List (MrpEvent × ℕ)) → AreMaximal (spans events) }
-    ensures only { (ss : List (List (MrpEvent × ℕ))) → AreMaximal ss → spans (joined ss) ≡ ss }
+pub fn streaks_are_maximal()
+    ensures whole { (events : List (MrpEvent × ℕ)) → joined (streaks events) ≡ events }
+    ensures maximal { (events : List (MrpEvent × ℕ)) → AreMaximal (streaks events) }
+    ensures only { (ss : List (List (MrpEvent × ℕ))) → AreMaximal ss → streaks (joined ss) ≡ ss }
 {}
 
 /// What is written of VIDs reads as what was written, and has at most 1,500 octets.

@@ -4,7 +4,7 @@ ghost use Rattle.std.specs.Prelude.{◌≡◌, ◌++◌, ◌<◌, ◌≤◌, ◌
 ghost use Rattle.mvrp_codec.specs.Meaning.{mvrp_reading};
 ghost use Rattle.mrpdu_codec.specs.Tree.{vector_octets};
 ghost use Rattle.mrpdu_codec.specs.Canonical.{vector_for};
-ghost use Rattle.mvrp_codec.specs.Writing.{spans, first_for, span_vector, spans_octets, framed, mvrp_spelling, IsWritable, span_len, AreVids};
+ghost use Rattle.mvrp_codec.specs.Writing.{streaks, first_for, streak_vector, streaks_octets, framed, mvrp_spelling, IsWritable, streak_len, AreVids};
 
 use crate::pdu::MvrpPdu;
 use mrpdu_codec::put_vector;
@@ -12,9 +12,9 @@ use srp_base::{MrpEvent, NoMemory, Seq, Vid};
 use std::alloc::{AllocError, Global};
 
 /// How many of the events have consecutive VIDs from the first on.
-fn span_len(events: &[(MrpEvent, Vid)]) -> usize
+fn streak_len(events: &[(MrpEvent, Vid)]) -> usize
     requires { 0 < length events.now }
-    ensures len { result ≡ span_len events.now }
+    ensures len { result ≡ streak_len events.now }
     ensures vids { AreVids (take result events.now) }
     ensures some { 0 < result }
     ensures within { result ≤ length events.now }
@@ -33,34 +33,34 @@ fn span_len(events: &[(MrpEvent, Vid)]) -> usize
     }
 }
 
-/// The FirstValue of a span: the octets of its first VID, or zeros where there is none.
-fn first_of(span: &[(MrpEvent, Vid)]) -> [u8; 2]
-    ensures { result ≡ first_for span.now }
+/// The FirstValue of a streak: the octets of its first VID, or zeros where there is none.
+fn first_of(streak: &[(MrpEvent, Vid)]) -> [u8; 2]
+    ensures { result ≡ first_for streak.now }
 {
-    let number = match span {
+    let number = match streak {
         [] => 0,
         [first, ..] => first.1.get(),
     };
     [(number / 256) as u8, (number % 256) as u8]
 }
 
-/// Writes the vector of a span, of which these are the events alone.
-fn put_span(
+/// Writes the vector of a streak, of which these are the events alone.
+fn put_streak(
     out: &mut Vec<u8>,
     leave_all: bool,
-    span: &[(MrpEvent, Vid)],
+    streak: &[(MrpEvent, Vid)],
     alone: &[MrpEvent],
 ) -> Result<(), NoMemory>
-    requires alone { alone.now ≡ map (λ x. x.0) span.now }
+    requires alone { alone.now ≡ map (λ x. x.0) streak.now }
     requires few { length alone.now ≤ 8191 }
     ensures { OnOk result (out.new.items
-        ≡ out.old.items ++ vector_octets (vector_for (span_vector leave_all span.now))) }
+        ≡ out.old.items ++ vector_octets (vector_for (streak_vector leave_all streak.now))) }
 {
-    put_vector(out, leave_all, &first_of(span), alone, &[])
+    put_vector(out, leave_all, &first_of(streak), alone, &[])
 }
 
 /// Writes the vectors of events that have VIDs, of which these are the events alone.
-fn put_spans(
+fn put_streaks(
     out: &mut Vec<u8>,
     leave_all: bool,
     events: &[(MrpEvent, Vid)],
@@ -69,23 +69,23 @@ fn put_spans(
     requires alone { alone.now ≡ map (λ x. x.0) events.now }
     requires few { length alone.now ≤ 8191 }
     ensures vectors { OnOk result (out.new.items
-        ≡ out.old.items ++ spans_octets leave_all (spans events.now)) }
+        ≡ out.old.items ++ streaks_octets leave_all (streaks events.now)) }
     ensures vids { OnOk result (AreVids events.now) }
 {
     let mut leave = leave_all;
     let mut rest = events;
     let mut rest_alone = alone;
     'more: while !rest.is_empty() {
-        let n = span_len(rest);
-        let (span, after) = rest.split_at(n);
-        let (span_alone, after_alone) = rest_alone.split_at(n);
-        put_span(out, leave, span, span_alone)?;
+        let n = streak_len(rest);
+        let (streak, after) = rest.split_at(n);
+        let (streak_alone, after_alone) = rest_alone.split_at(n);
+        put_streak(out, leave, streak, streak_alone)?;
         leave = false;
         rest = after;
         rest_alone = after_alone;
     }
     if leave {
-        put_span(out, true, &[], &[])?;
+        put_streak(out, true, &[], &[])?;
     }
     Ok(())
 }
@@ -100,19 +100,19 @@ fn events_alone(alloc: Global, events: &[(MrpEvent, Vid)]) -> Result<Vec<MrpEven
 /// The octets of a PDU of one Message, in a buffer with room for a vector of each event.
 fn written(alloc: Global, leave_all: bool, events: &[(MrpEvent, Vid)]) -> Result<Vec<u8>, NoMemory>
     requires { length events.now ≤ 8191 }
-    ensures octets { IfOk result (λ v. v.items ≡ framed (spans_octets leave_all (spans events.now))) }
+    ensures octets { IfOk result (λ v. v.items ≡ framed (streaks_octets leave_all (streaks events.now))) }
     ensures vids { OnOk result (AreVids events.now) }
 {
     let alone = events_alone(alloc, events)?;
     let mut out = Vec::with_capacity(alloc, 11 + 5 * events.len())?;
     out.extend_from_slice(&[0, 1, 2])?;
-    put_spans(&mut out, leave_all, events, &alone)?;
+    put_streaks(&mut out, leave_all, events, &alone)?;
     out.extend_from_slice(&[0, 0, 0, 0])?;
     Ok(out)
 }
 
 /// The octets that say a LeaveAll and the events of VIDs (IEEE Std 802.1Q-2018, 10.8.1.2, 11.2.3.1), in the
-/// order given: each maximal span of consecutive VIDs is one vector, and a LeaveAll stands in the first.
+/// order given: each maximal streak of consecutive VIDs is one vector, and a LeaveAll stands in the first.
 /// Where the VIDs ascend this is the canonical encoding. There has to be a LeaveAll
 /// or an event, and there have to be at most 297 events, so that the octets are at most 1,500.
 ///

@@ -1,9 +1,0 @@
-use Rattle.std.proofs.Common.{◌≡◌, ◌+◌, ◌-◌, ◌<◌, length, take, drop}
-use Rattle.mvrp_codec.specs.Writing.{span_len, AreVids}
-use Rattle.mvrp_codec.proofs.writing.span_len.Given as goal
-
-abbrev pub invariant-more : goal.invariant-more
-invariant-more l = (l.at < length l.events) × (span_len (drop l.at l.events) + l.at ≡ span_len l.events) × AreVids (take l.at l.events)
-
-abbrev pub decreases-more : goal.decreases-more
-decreases-more l = length l.events - l.at
