@@ -22,7 +22,7 @@ to next _ = (next, Quiet)
 
 -- something said, and a new state
 abbrev pub say : Say → Applicant → Cell
-say said next _ = (next, said)
+say say_of next _ = (next, say_of)
 
 -- the cells of one event, in the order of the states
 abbrev pub row : (vo vp vn an aa qa la : Cell) → Cell
@@ -66,12 +66,12 @@ abbrev pub next : AppEvent → Bool → Applicant → Applicant
 next event held state = (table event held state).0
 
 -- what is said at an event
-abbrev pub said : AppEvent → Bool → Applicant → Say
-said event held state = (table event held state).1
+abbrev pub say_of : AppEvent → Bool → Applicant → Say
+say_of event held state = (table event held state).1
 
 -- the state after a request, at which nothing is said
-abbrev pub asked : AppEvent → Applicant → Applicant
-asked request state = next request false state
+abbrev pub after_request : AppEvent → Applicant → Applicant
+after_request request state = next request false state
 
 -- whether an event is a request of the user: New!, Join!, Lv!
 abbrev pub is_request : AppEvent → Bool
@@ -82,20 +82,20 @@ is_request _ = false
 
 -- the user declares: JoinReq in VO, NewReq in LA, and nothing in the other states
 abbrev pub declare_of : Applicant → Applicant
-declare_of Vo = asked JoinReq Vo
-declare_of La = asked NewReq La
+declare_of Vo = after_request JoinReq Vo
+declare_of La = after_request NewReq La
 declare_of state = state
 
 -- the user declares another content: NewReq
 abbrev pub redeclare_of : Applicant → Applicant
-redeclare_of state = asked NewReq state
+redeclare_of state = after_request NewReq state
 
 -- the user withdraws: NewReq and then LvReq in VP, nothing in VO and LA, LvReq in the others
 abbrev pub withdraw_of : Applicant → Applicant
 withdraw_of Vo = Vo
-withdraw_of Vp = asked LvReq (asked NewReq Vp)
+withdraw_of Vp = after_request LvReq (after_request NewReq Vp)
 withdraw_of La = La
-withdraw_of state = asked LvReq state
+withdraw_of state = after_request LvReq state
 
 -- whether the user's last word was a declaration: all states but VO and LA
 abbrev pub is_declared_in : Applicant → Bool

@@ -7,7 +7,7 @@ ghost use Rattle.applicant.specs.declared.Applicant.TheVariants.{Vo, La};
 ghost use Rattle.applicant.specs.declared.AppEvent.{AppEvent};
 ghost use Rattle.applicant.specs.declared.AppEvent.TheVariants.{TxLeaveAll, TxLeaveAllFull};
 ghost use Rattle.applicant.specs.declared.Say.TheVariants.{Lv};
-ghost use Rattle.applicant.specs.Table.{next, said, is_request, declare_of, redeclare_of, withdraw_of, is_declared_in};
+ghost use Rattle.applicant.specs.Table.{next, say_of, is_request, declare_of, redeclare_of, withdraw_of, is_declared_in};
 
 /// What the user's calls do: after declaring and redeclaring the attribute is declared, after withdrawing it
 /// isn't; and what was declared and is withdrawn is in LA.
@@ -30,5 +30,5 @@ pub fn events_keep_declarations()
 pub fn leaving_is_said()
     ensures { (event : AppEvent) (held : Bool)
         → next event held La ≡ Vo
-        → (said event held La ≡ Lv) ⊎ ((event ≡ TxLeaveAll) ⊎ (event ≡ TxLeaveAllFull)) }
+        → (say_of event held La ≡ Lv) ⊎ ((event ≡ TxLeaveAll) ⊎ (event ≡ TxLeaveAllFull)) }
 {}

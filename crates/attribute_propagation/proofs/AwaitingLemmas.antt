@@ -5,7 +5,7 @@ use Rattle.std.specs.declared.cmp.Ordering.TheVariants.{Less, Equal, Greater}
 use Rattle.std.specs.Ordering.{is_eq, ordering_reverse}
 use Rattle.std.specs.Cmp.{IsTotalOrder}
 use Rattle.std.specs.List.{list_any}
-use Rattle.attribute_propagation.specs.Dirty.{is_awaiting, marked, marked_at, all_marked, cleared}
+use Rattle.attribute_propagation.specs.Dirty.{is_awaiting, with_key, marked_at, all_marked, without_key}
 
 or_swap : (a b c : Bool) → (a || (b || c)) ≡ (b || (a || c))
 or_swap true true c = refl
@@ -33,14 +33,14 @@ module _ {K : Type 0} {cmp : K → K → Ordering} (o : IsTotalOrder cmp) where
       or_twice (is_eq (cmp y k)) (is_eq (cmp x k)) (is_awaiting cmp k keys) (ap is_eq (o.congr y x k c))
   awaiting-marked_at k x y keys later Greater c rest = refl
 
-  pub awaiting-marked : (k x : K) (keys : List K) → is_awaiting cmp k (marked cmp x keys) ≡ (is_eq (cmp x k) || is_awaiting cmp k keys)
+  pub awaiting-marked : (k x : K) (keys : List K) → is_awaiting cmp k (with_key cmp x keys) ≡ (is_eq (cmp x k) || is_awaiting cmp k keys)
   awaiting-marked k x [] = refl
-  awaiting-marked k x (y ∷ keys) = awaiting-marked_at k x y keys (marked cmp x keys) (cmp y x) refl (awaiting-marked k x keys)
+  awaiting-marked k x (y ∷ keys) = awaiting-marked_at k x y keys (with_key cmp x keys) (cmp y x) refl (awaiting-marked k x keys)
 
   pub awaiting-all_marked : (k : K) (new keys : List K) → is_awaiting cmp k (all_marked cmp new keys) ≡ (is_awaiting cmp k new || is_awaiting cmp k keys)
   awaiting-all_marked k [] keys = refl
   awaiting-all_marked k (x ∷ new) keys =
-      awaiting-all_marked k new (marked cmp x keys)
+      awaiting-all_marked k new (with_key cmp x keys)
       ∙ (ap (λ t. is_awaiting cmp k new || t) (awaiting-marked k x keys)
       ∙ (or_swap (is_awaiting cmp k new) (is_eq (cmp x k)) (is_awaiting cmp k keys) ∙ or_assoc (is_eq (cmp x k)) (is_awaiting cmp k new) (is_awaiting cmp k keys)))
     where
@@ -69,13 +69,13 @@ module _ {K : Type 0} {cmp : K → K → Ordering} (o : IsTotalOrder cmp) where
   clearing false true false rest h k = refl
   clearing false false x rest h k = refl
 
-  pub awaiting-cleared : (k x : K) (keys : List K) → is_awaiting cmp k (cleared cmp x keys) ≡ (not (is_eq (cmp x k)) && is_awaiting cmp k keys)
+  pub awaiting-cleared : (k x : K) (keys : List K) → is_awaiting cmp k (without_key cmp x keys) ≡ (not (is_eq (cmp x k)) && is_awaiting cmp k keys)
   awaiting-cleared k x [] = and_false (not (is_eq (cmp x k)))
     where
       and_false : (b : Bool) → false ≡ (b && false)
       and_false true = refl
       and_false false = refl
   awaiting-cleared k x (y ∷ keys) =
-      kept_or_not (λ z. is_eq (cmp z k)) (not (is_eq (cmp y x))) y (cleared cmp x keys)
+      kept_or_not (λ z. is_eq (cmp z k)) (not (is_eq (cmp y x))) y (without_key cmp x keys)
       ∙ (ap (λ t. (not (is_eq (cmp y x)) && is_eq (cmp y k)) || t) (awaiting-cleared k x keys)
       ∙ clearing (is_eq (cmp y x)) (is_eq (cmp y k)) (is_eq (cmp x k)) (is_awaiting cmp k keys) (same_key k x y) (alike x y k))

@@ -9,7 +9,7 @@ use Rattle.std.proofs.lemmas.Cmp.{alike_right}
 use Rattle.std.specs.List.{AllByRecursion}
 use Rattle.std.specs.List.Sorted.{IsPartitionPoint, IsNonDecreasingBy, IsSortedBy, IsBinarySearchResult, IsSearchInRange}
 use Rattle.std.proofs.lemmas.List.Sorted.{searchable_from_sorted}
-use Rattle.attribute_propagation.specs.Dirty.{IsAscending, is_awaiting, marked, marked_at, cleared, IsFoundAt, IsMissingAt, IsPlace}
+use Rattle.attribute_propagation.specs.Dirty.{IsAscending, is_awaiting, with_key, marked_at, without_key, IsFoundAt, IsMissingAt, IsPlace}
 
 Each-map : {X : Type 0} (P Q : X → Type 0) → ((x : X) → P x → Q x) → (xs : List X) → AllByRecursion P xs → AllByRecursion Q xs
 Each-map P Q f [] h = tt
@@ -44,7 +44,7 @@ module _ {K : Type 0} {cmp : K → K → Ordering} (o : IsTotalOrder cmp) where
   awaiting-above k [] up = refl
   awaiting-above k (x ∷ keys) up = rw (greater k x up.0) (awaiting-above k keys up.1)
 
-  cleared-above : (k : K) (keys : List K) → AreAbove k keys → cleared cmp k keys ≡ keys
+  cleared-above : (k : K) (keys : List K) → AreAbove k keys → without_key cmp k keys ≡ keys
   cleared-above k [] up = refl
   cleared-above k (x ∷ keys) up = rw (greater k x up.0) (ap (λ later. x ∷ later) (cleared-above k keys up.1))
 
@@ -119,22 +119,22 @@ module _ {K : Type 0} {cmp : K → K → Ordering} (o : IsTotalOrder cmp) where
   Each-marked_at P k x keys later Equal h hs rest = hs
   Each-marked_at P k x keys later Greater h hs rest = (h, hs)
 
-  Each-marked : (P : K → Type 0) (k : K) (keys : List K) → P k → AllByRecursion P keys → AllByRecursion P (marked cmp k keys)
+  Each-marked : (P : K → Type 0) (k : K) (keys : List K) → P k → AllByRecursion P keys → AllByRecursion P (with_key cmp k keys)
   Each-marked P k [] h hs = (h, tt)
-  Each-marked P k (x ∷ keys) h hs = Each-marked_at P k x keys (marked cmp k keys) (cmp x k) h hs (Each-marked P k keys h hs.1)
+  Each-marked P k (x ∷ keys) h hs = Each-marked_at P k x keys (with_key cmp k keys) (cmp x k) h hs (Each-marked P k keys h hs.1)
 
   ascending-marked_at : (k x : K) (keys later : List K) (c : Ordering) → cmp x k ≡ c → IsAscending cmp (x ∷ keys) → (cmp x k ≡ Less → AreAbove x later) → IsAscending cmp later → IsAscending cmp (marked_at c k x keys later)
   ascending-marked_at k x keys later Less c up above rest = (above c, rest)
   ascending-marked_at k x keys later Equal c up above rest = up
   ascending-marked_at k x keys later Greater c up above rest = ((less k x c, above_all k x keys (less k x c) up.0), up)
 
-  pub ascending-marked : (k : K) (keys : List K) → IsAscending cmp keys → IsAscending cmp (marked cmp k keys)
+  pub ascending-marked : (k : K) (keys : List K) → IsAscending cmp keys → IsAscending cmp (with_key cmp k keys)
   ascending-marked k [] up = (tt, tt)
   ascending-marked k (x ∷ keys) up =
-      ascending-marked_at k x keys (marked cmp k keys) (cmp x k) refl up (λ c. Each-marked (λ y. cmp x y ≡ Less) k keys c up.0) (ascending-marked k keys up.1)
+      ascending-marked_at k x keys (with_key cmp k keys) (cmp x k) refl up (λ c. Each-marked (λ y. cmp x y ≡ Less) k keys c up.0) (ascending-marked k keys up.1)
 
-  pub ascending-cleared : (k : K) (keys : List K) → IsAscending cmp keys → IsAscending cmp (cleared cmp k keys)
+  pub ascending-cleared : (k : K) (keys : List K) → IsAscending cmp keys → IsAscending cmp (without_key cmp k keys)
   ascending-cleared k [] up = tt
   ascending-cleared k (x ∷ keys) up =
-      chosen (not (is_eq (cmp x k))) (IsAscending cmp) (x ∷ cleared cmp k keys) (cleared cmp k keys)
+      chosen (not (is_eq (cmp x k))) (IsAscending cmp) (x ∷ without_key cmp k keys) (without_key cmp k keys)
       (Each-filter _ _ keys up.0, ascending-cleared k keys up.1) (ascending-cleared k keys up.1)

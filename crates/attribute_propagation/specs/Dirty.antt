@@ -22,31 +22,31 @@ marked_at Equal k x keys later = x ∷ keys
 marked_at Greater k x keys later = k ∷ x ∷ keys
 
 -- the keys with one more, at its place in the order, where it isn't among them
-abbrev pub marked : {K : Type 0} → (K → K → Ordering) → K → List K → List K
-marked cmp k [] = k ∷ []
-marked cmp k (x ∷ keys) = marked_at (cmp x k) k x keys (marked cmp k keys)
+abbrev pub with_key : {K : Type 0} → (K → K → Ordering) → K → List K → List K
+with_key cmp k [] = k ∷ []
+with_key cmp k (x ∷ keys) = marked_at (cmp x k) k x keys (with_key cmp k keys)
 
 -- the keys with some more
 abbrev pub all_marked : {K : Type 0} → (K → K → Ordering) → List K → List K → List K
-all_marked cmp new keys = fold (λ ks k. marked cmp k ks) keys new
+all_marked cmp new keys = fold (λ ks k. with_key cmp k ks) keys new
 
 -- the keys without one
-abbrev pub cleared : {K : Type 0} → (K → K → Ordering) → K → List K → List K
-cleared cmp k keys = filter (λ x. not (is_eq (cmp x k))) keys
+abbrev pub without_key : {K : Type 0} → (K → K → Ordering) → K → List K → List K
+without_key cmp k keys = filter (λ x. not (is_eq (cmp x k))) keys
 
 -- a key stands at a place of the keys: marking it changes nothing, clearing it takes out what stands there
 pub record IsFoundAt {K : Type 0} (cmp : K → K → Ordering) (k : K) (keys : List K) (i : ℕ) : Type 0 where
   pub within : i < length keys
   pub present : is_awaiting cmp k keys ≡ true
-  pub same : marked cmp k keys ≡ keys
-  pub without : cleared cmp k keys ≡ take i keys ++ drop (suc i) keys
+  pub same : with_key cmp k keys ≡ keys
+  pub without : without_key cmp k keys ≡ take i keys ++ drop (suc i) keys
 
 -- a key isn't among the keys: marking it puts it in at a place, clearing it changes nothing
 pub record IsMissingAt {K : Type 0} (cmp : K → K → Ordering) (k : K) (keys : List K) (i : ℕ) : Type 0 where
   pub within : i ≤ length keys
   pub absent : is_awaiting cmp k keys ≡ false
-  pub more : marked cmp k keys ≡ take i keys ++ (k ∷ drop i keys)
-  pub without : cleared cmp k keys ≡ keys
+  pub more : with_key cmp k keys ≡ take i keys ++ (k ∷ drop i keys)
+  pub without : without_key cmp k keys ≡ keys
 
 -- the answer of a search is right: Ok with the key's place, or Err with the place at which it is to be put in
 abbrev pub IsPlace : {K : Type 0} → (K → K → Ordering) → K → List K → Result ℕ ℕ → Type 0

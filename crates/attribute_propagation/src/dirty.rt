@@ -1,7 +1,7 @@
 //! A set of keys that await settling.
 
 ghost use Rattle.std.specs.Prelude.{◌≡◌, ◌==◌, [], length, slice_get, IfOk, OnOk, OnErr};
-ghost use Rattle.attribute_propagation.specs.Dirty.{IsAscending, IsPlace, marked, all_marked, cleared, is_awaiting};
+ghost use Rattle.attribute_propagation.specs.Dirty.{IsAscending, IsPlace, with_key, all_marked, without_key, is_awaiting};
 
 use srp_base::NoMemory;
 use std::alloc::Global;
@@ -43,7 +43,7 @@ impl<K: Copy + Ord> Dirty<K> {
 
     /// Puts a key in. After want of memory the set is as it was.
     pub fn mark(&mut self, key: K) -> Result<(), NoMemory>
-        ensures ok { OnOk result (self.new ≡ marked K.cmp key self.old) }
+        ensures ok { OnOk result (self.new ≡ with_key K.cmp key self.old) }
         ensures err { OnErr result (self.new ≡ self.old) }
     {
         insert(&mut self.keys, key)
@@ -62,7 +62,7 @@ impl<K: Copy + Ord> Dirty<K> {
 
     /// Takes a key out, where it is in. It takes no memory.
     pub fn clear(&mut self, key: K)
-        ensures { self.new ≡ cleared K.cmp key self.old }
+        ensures { self.new ≡ without_key K.cmp key self.old }
     {
         remove(&mut self.keys, &key);
     }
@@ -142,7 +142,7 @@ fn is_in<K: Copy + Ord>(keys: &[K], key: &K) -> bool
 // Puts a key in its place, where it isn't in.
 fn insert<K: Copy + Ord>(keys: &mut Vec<K>, key: K) -> Result<(), NoMemory>
     requires { IsAscending K.cmp keys.old.items }
-    ensures ok { OnOk result (keys.new.items ≡ marked K.cmp key keys.old.items) }
+    ensures ok { OnOk result (keys.new.items ≡ with_key K.cmp key keys.old.items) }
     ensures err { OnErr result (keys.new.items ≡ keys.old.items) }
     ensures ascends { IsAscending K.cmp keys.new.items }
 {
@@ -158,7 +158,7 @@ fn insert<K: Copy + Ord>(keys: &mut Vec<K>, key: K) -> Result<(), NoMemory>
 // Takes a key out, where it is in.
 fn remove<K: Copy + Ord>(keys: &mut Vec<K>, key: &K)
     requires { IsAscending K.cmp keys.old.items }
-    ensures without { keys.new.items ≡ cleared K.cmp key.now keys.old.items }
+    ensures without { keys.new.items ≡ without_key K.cmp key.now keys.old.items }
     ensures ascends { IsAscending K.cmp keys.new.items }
 {
     if let Ok(at) = place(keys.as_slice(), key) {

@@ -19,7 +19,7 @@ use Rattle.frame_flow.specs.declared.result.PortFlow.{PortFlow}
 use Rattle.frame_flow.specs.declared.place.Place.{Place}
 use Rattle.frame_flow.specs.Moments.{bits_of_ticks, bit_from, moment_of}
 use Rattle.frame_flow.specs.Force.{is_port}
-use Rattle.frame_flow.specs.Copies.{IsKnown, Reached, sent_from, frame_of, reached_at, handed_on, handed_by, comes_over, flow_at, reached, ports_at, goes_by, copy_of, in_order, arriving}
+use Rattle.frame_flow.specs.Copies.{IsKnown, Reached, sent_from, frame_of, reached_at, handed_on, handed_by, comes_over, flow_at, frames_reaching, ports_at, goes_by, copy_of, in_order, arriving}
 use Rattle.frame_flow.specs.Flow.{Setting}
 use Rattle.frame_flow.specs.Steps.{AreByNode}
 use Rattle.frame_flow.specs.Given.{IsInOrder}
@@ -109,7 +109,7 @@ All-sent_from P frames x all =
 
 -- what holds of all frames holds of those that reach a port's node
 pub All-reached : (P : Frame → Type 0) (links : List Link) (frames : List Frame) (flows : List PortFlow) (p : EgressPort) → All P frames
-    → All (λ r. P r.frame) (reached links frames flows p)
+    → All (λ r. P r.frame) (frames_reaching links frames flows p)
 All-reached P links frames flows p all =
     All-append (λ r. P r.frame) (sent_from frames p.node.0) (flat_map (comes_over links frames flows p) (ports_at links p.node.0))
     (All-sent_from P frames p.node.0 all)
@@ -150,12 +150,12 @@ pub All-arriving : (P : Frame → Type 0) (links : List Link) (frames : List Fra
     → All (IsArrived P place ticks) (arriving links frames ticks flows place)
 unfolding arriving
 All-arriving P links frames ticks flows place all =
-    All-in_order (IsArrived P place ticks) (filter_map (copy_of links ticks place) (reached links frames flows place.at))
-    (All-copies P links ticks place (reached links frames flows place.at) (All-reached P links frames flows place.at all))
+    All-in_order (IsArrived P place ticks) (filter_map (copy_of links ticks place) (frames_reaching links frames flows place.at))
+    (All-copies P links ticks place (frames_reaching links frames flows place.at) (All-reached P links frames flows place.at all))
 
 pub order-arriving : (links : List Link) (frames : List Frame) (ticks : ℕ) (flows : List PortFlow) (place : Place) → IsInOrder (arriving links frames ticks flows place)
 unfolding arriving
-order-arriving links frames ticks flows place = order-in_order (filter_map (copy_of links ticks place) (reached links frames flows place.at))
+order-arriving links frames ticks flows place = order-in_order (filter_map (copy_of links ticks place) (frames_reaching links frames flows place.at))
 
 -- ---- on which flows they depend
 

@@ -28,7 +28,7 @@ use Rattle.frame_flow.specs.declared.place.Place.{Place}
 use Rattle.frame_flow.specs.declared.result.PortFlow.{PortFlow}
 use Rattle.frame_flow.specs.Moments.{bits_of_ticks, bit_from}
 use Rattle.frame_flow.specs.Force.{is_port}
-use Rattle.frame_flow.specs.Copies.{IsKnown, Reached, all_places, arriving, comes_over, copy_of, flow_at, goes_by, handed_by, in_order, port_of, ports_at, reached, sent_from}
+use Rattle.frame_flow.specs.Copies.{IsKnown, Reached, all_places, arriving, comes_over, copy_of, flow_at, goes_by, handed_by, in_order, port_of, ports_at, frames_reaching, sent_from}
 use Rattle.frame_flow.specs.Flow.{Setting, port_flow}
 use Rattle.frame_flow.specs.Given.{IsInOrder, IsRoute, IsSetting}
 use Rattle.frame_flow.specs.Turns.{AreAt, level_at, level_of}
@@ -268,7 +268,7 @@ from-one n i d below =
     subst (λ (k : ℕ). 1 ≤ k) (sym (get_or-range_with_len 1 n i d few)) (omega arith)
 
 leaving-all : (links : List Link) (frames : List Frame) (ticks : ℕ) (flows : List PortFlow) (place : Place) (without : PortNo) → 1 ≤ place.at.port.0 → IsNoneOrOwn without place
-    → leaving links place.at (incoming_at links frames ticks flows (around place without)) ≡ filter_map (copy_of links ticks place) (reached links frames flows place.at)
+    → leaving links place.at (incoming_at links frames ticks flows (around place without)) ≡ filter_map (copy_of links ticks place) (frames_reaching links frames flows place.at)
 leaving-all links frames ticks flows place without from which =
     let x = place.at.node.0 in
     let to = copy_of links ticks place in

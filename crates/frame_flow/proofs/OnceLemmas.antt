@@ -21,7 +21,7 @@ use Rattle.frame_flow.specs.declared.result.PortFlow.{PortFlow}
 use Rattle.frame_flow.specs.declared.place.Place.{Place}
 use Rattle.frame_flow.specs.Moments.{moment_of}
 use Rattle.frame_flow.specs.Force.{is_port, changes_at}
-use Rattle.frame_flow.specs.Copies.{IsKnown, Reached, all_places, sent_from, frame_of, reached_at, handed_on, handed_by, comes_over, flow_at, reached, ports_at, port_of, copy_of, is_not_after, with_copy, in_order, arriving}
+use Rattle.frame_flow.specs.Copies.{IsKnown, Reached, all_places, sent_from, frame_of, reached_at, handed_on, handed_by, comes_over, flow_at, frames_reaching, ports_at, port_of, copy_of, is_not_after, with_copy, in_order, arriving}
 use Rattle.frame_flow.specs.Flow.{Setting, IsFlow, port_flow, force_on, fate_of, input_of}
 use Rattle.credit_shaper.specs.Departures.{sent_of}
 use Rattle.credit_shaper.proofs.PairLemmas.{AllPairs-map, pairs-append, pairs-head, pairs-none, pairs-tail}
@@ -233,7 +233,7 @@ own-pairs frames x up =
     (AllPairs-filter R (λ f. f.from.0 == x) frames up)
 
 reached-pairs : (s : Setting) → IsSetting s → HasPortLaws s.tree → (flows : List PortFlow) (p : EgressPort) → HasPort s.tree p → AreOnce s flows p
-    → AllPairs Differ (reached s.tree.links s.frames flows p)
+    → AllPairs Differ (frames_reaching s.tree.links s.frames flows p)
 reached-pairs s given laws flows p port once =
     let links = s.tree.links in
     let x = p.node.0 in
@@ -268,7 +268,7 @@ comes-side s given laws flows p r port there once =
     (handed_by s.frames (flow_at flows (peer_of links r))) (handed-over s given laws flows p r port there once e))
 
 reached-side : (s : Setting) → IsSetting s → HasPortLaws s.tree → (flows : List PortFlow) (p : EgressPort) → HasPort s.tree p → AreOnce s flows p
-    → All (λ t. is_behind s.tree.links p t.frame.from.0 ≡ false) (reached s.tree.links s.frames flows p)
+    → All (λ t. is_behind s.tree.links p t.frame.from.0 ≡ false) (frames_reaching s.tree.links s.frames flows p)
 reached-side s given laws flows p port once =
     let links = s.tree.links in
     let x = p.node.0 in
@@ -288,7 +288,7 @@ arriving-pairs : (s : Setting) → IsSetting s → HasPortLaws s.tree → (flows
 unfolding arriving
 arriving-pairs s given laws flows place port once =
     let links = s.tree.links in
-    let all = reached links s.frames flows place.at in
+    let all = frames_reaching links s.frames flows place.at in
     pairs-in_order DifferCopies (λ x y ne e. ne (sym e)) (filter_map (copy_of links s.ticks place) all)
     (pairs-filter_map Differ DifferCopies (copy_of links s.ticks place)
     (λ x y u v ne e f same.
@@ -301,7 +301,7 @@ arriving-side : (s : Setting) → IsSetting s → HasPortLaws s.tree → (flows 
 unfolding arriving
 arriving-side s given laws flows place port once =
     let links = s.tree.links in
-    let all = reached links s.frames flows place.at in
+    let all = frames_reaching links s.frames flows place.at in
     let N : FrameCopy → Type 0 = λ c. is_behind links place.at c.frame.from.0 ≡ false in
     All-in_order N (filter_map (copy_of links s.ticks place) all)
     (All-filter_map (λ r. is_behind links place.at r.frame.from.0 ≡ false) N (copy_of links s.ticks place)

@@ -84,8 +84,8 @@ comes_over links frames flows p r =
     if is_port r p then [] else handed_by frames (flow_at flows (peer_of links r))
 
 -- the frames that reach a port's node and may leave by the port
-abbrev pub reached : List Link → List Frame → List PortFlow → EgressPort → List Reached
-reached links frames flows p =
+abbrev pub frames_reaching : List Link → List Frame → List PortFlow → EgressPort → List Reached
+frames_reaching links frames flows p =
     sent_from frames p.node.0 ++ flat_map (comes_over links frames flows p) (ports_at links p.node.0)
 
 -- whether a frame at a port's node goes on by the port: a stream's by each, one to a station by the port
@@ -119,4 +119,4 @@ in_order (x ∷ xs) = with_copy x (in_order xs)
 -- the copies that arrive at a port, in order
 unfoldable pub arriving : List Link → List Frame → ℕ → List PortFlow → Place → List FrameCopy
 arriving links frames ticks flows place =
-    in_order (filter_map (copy_of links ticks place) (reached links frames flows place.at))
+    in_order (filter_map (copy_of links ticks place) (frames_reaching links frames flows place.at))

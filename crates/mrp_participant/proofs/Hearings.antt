@@ -18,7 +18,7 @@ use Rattle.mrp_participant.specs.declared.row.Row.{Row}
 use Rattle.mrp_participant.specs.Lookup.{Ascends, key_of, same, find, put}
 use Rattle.mrp_participant.specs.Row.{is_live, leave_all_row, after_hear, row_hearing, row_after_receive, registered_in}
 use Rattle.mrp_participant.specs.State.{AreRows, rows_after_receive, changed_keys}
-use Rattle.mrp_participant.specs.Hearing.{first_of, begun_row, row_so_far, heard_with, heard_rows, merged, put_over}
+use Rattle.mrp_participant.specs.Hearing.{first_of, begun_row, row_so_far, heard_with, heard_rows, rows_as_one, put_over}
 use Rattle.mrp_participant.proofs.Lookups.{Fits, Each-map, filter-none, AreRows-put, Ascends-put, find-fits, find-above, above_all, above_same, none_above, find-put, find-same, same_is, same_left}
 use Rattle.mrp_participant.proofs.CutLemmas.{In, Each-from_in, same_refl, find-in}
 use Rattle.mrp_participant.proofs.Transitions.{hear-fits, leave_all-live, Ascends-mapped, AreRows-mapped, AreRows-receive}
@@ -94,7 +94,7 @@ module _ {K C : Type 0} {cmp : K → K → Ordering} (o : IsTotalOrder cmp) wher
   both_by false true x y h f e = cc
   both_by false false x y h f e = refl
 
-  find-step : (k : K) (x y : Row K C) (xs ys rest : List (Row K C)) (c : Ordering) → cmp x.key y.key ≡ c → Ascends cmp key_of (x ∷ xs) → Ascends cmp key_of (y ∷ ys) → find cmp k (merged cmp xs (y ∷ ys)) ≡ first_of (find cmp k xs) (find cmp k (y ∷ ys)) → find cmp k (merged cmp xs ys) ≡ first_of (find cmp k xs) (find cmp k ys) → find cmp k rest ≡ first_of (find cmp k (x ∷ xs)) (find cmp k ys) → find cmp k (match_ordering c (x ∷ merged cmp xs (y ∷ ys)) (x ∷ merged cmp xs ys) (y ∷ rest)) ≡ first_of (find cmp k (x ∷ xs)) (find cmp k (y ∷ ys))
+  find-step : (k : K) (x y : Row K C) (xs ys rest : List (Row K C)) (c : Ordering) → cmp x.key y.key ≡ c → Ascends cmp key_of (x ∷ xs) → Ascends cmp key_of (y ∷ ys) → find cmp k (rows_as_one cmp xs (y ∷ ys)) ≡ first_of (find cmp k xs) (find cmp k (y ∷ ys)) → find cmp k (rows_as_one cmp xs ys) ≡ first_of (find cmp k xs) (find cmp k ys) → find cmp k rest ≡ first_of (find cmp k (x ∷ xs)) (find cmp k ys) → find cmp k (match_ordering c (x ∷ rows_as_one cmp xs (y ∷ ys)) (x ∷ rows_as_one cmp xs ys) (y ∷ rest)) ≡ first_of (find cmp k (x ∷ xs)) (find cmp k (y ∷ ys))
   find-step k x y xs ys rest Less e up up' a b d =
       ap (λ t. if same cmp x.key k then Some x else t) a ∙ first-if (same cmp x.key k) x (find cmp k xs) (find cmp k (y ∷ ys))
   find-step k x y xs ys rest Equal e up up' a b d =
@@ -105,13 +105,13 @@ module _ {K C : Type 0} {cmp : K → K → Ordering} (o : IsTotalOrder cmp) wher
       ∙ later_by (same cmp y.key k) y (find cmp k (x ∷ xs)) (find cmp k ys)
       (λ at. none_above o y.key k (x ∷ xs) (less_back o x.key y.key e, above_all o y.key x xs (less_back o x.key y.key e) up.0) at)
 
-  find-merged_into : (k : K) (x : Row K C) (xs ys : List (Row K C)) → Ascends cmp key_of (x ∷ xs) → Ascends cmp key_of ys → ((ys : List (Row K C)) → Ascends cmp key_of ys → find cmp k (merged cmp xs ys) ≡ first_of (find cmp k xs) (find cmp k ys)) → find cmp k (merged cmp (x ∷ xs) ys) ≡ first_of (find cmp k (x ∷ xs)) (find cmp k ys)
+  find-merged_into : (k : K) (x : Row K C) (xs ys : List (Row K C)) → Ascends cmp key_of (x ∷ xs) → Ascends cmp key_of ys → ((ys : List (Row K C)) → Ascends cmp key_of ys → find cmp k (rows_as_one cmp xs ys) ≡ first_of (find cmp k xs) (find cmp k ys)) → find cmp k (rows_as_one cmp (x ∷ xs) ys) ≡ first_of (find cmp k (x ∷ xs)) (find cmp k ys)
   find-merged_into k x xs [] up up' rest = sym (first-none (find cmp k (x ∷ xs)))
   find-merged_into k x xs (y ∷ ys) up up' rest =
-      find-step k x y xs ys (merged cmp (x ∷ xs) ys) (cmp x.key y.key) refl up up' (rest (y ∷ ys) up') (rest ys up'.1) (find-merged_into k x xs ys up up'.1 rest)
+      find-step k x y xs ys (rows_as_one cmp (x ∷ xs) ys) (cmp x.key y.key) refl up up' (rest (y ∷ ys) up') (rest ys up'.1) (find-merged_into k x xs ys up up'.1 rest)
 
   -- in two lists as one each key has what the first list has, or else the second
-  pub find-merged : (k : K) (xs ys : List (Row K C)) → Ascends cmp key_of xs → Ascends cmp key_of ys → find cmp k (merged cmp xs ys) ≡ first_of (find cmp k xs) (find cmp k ys)
+  pub find-merged : (k : K) (xs ys : List (Row K C)) → Ascends cmp key_of xs → Ascends cmp key_of ys → find cmp k (rows_as_one cmp xs ys) ≡ first_of (find cmp k xs) (find cmp k ys)
   find-merged k [] ys up up' = refl
   find-merged k (x ∷ xs) ys up up' = find-merged_into k x xs ys up up' (λ ys up'. find-merged k xs ys up.1 up')
 
@@ -120,26 +120,26 @@ module _ {K C : Type 0} {cmp : K → K → Ordering} (o : IsTotalOrder cmp) wher
   each-step P x y first second rest Equal px py a b d = (px, b)
   each-step P x y first second rest Greater px py a b d = (py, d)
 
-  each-merged_into : (P : Row K C → Type 0) (x : Row K C) (xs ys : List (Row K C)) → AllByRecursion P (x ∷ xs) → AllByRecursion P ys → ((ys : List (Row K C)) → AllByRecursion P ys → AllByRecursion P (merged cmp xs ys)) → AllByRecursion P (merged cmp (x ∷ xs) ys)
+  each-merged_into : (P : Row K C → Type 0) (x : Row K C) (xs ys : List (Row K C)) → AllByRecursion P (x ∷ xs) → AllByRecursion P ys → ((ys : List (Row K C)) → AllByRecursion P ys → AllByRecursion P (rows_as_one cmp xs ys)) → AllByRecursion P (rows_as_one cmp (x ∷ xs) ys)
   each-merged_into P x xs [] h h' rest = h
   each-merged_into P x xs (y ∷ ys) h h' rest =
-      each-step P x y (merged cmp xs (y ∷ ys)) (merged cmp xs ys) (merged cmp (x ∷ xs) ys) (cmp x.key y.key) h.0 h'.0 (rest (y ∷ ys) h') (rest ys h'.1) (each-merged_into P x xs ys h h'.1 rest)
+      each-step P x y (rows_as_one cmp xs (y ∷ ys)) (rows_as_one cmp xs ys) (rows_as_one cmp (x ∷ xs) ys) (cmp x.key y.key) h.0 h'.0 (rest (y ∷ ys) h') (rest ys h'.1) (each-merged_into P x xs ys h h'.1 rest)
 
-  each-merged : (P : Row K C → Type 0) (xs ys : List (Row K C)) → AllByRecursion P xs → AllByRecursion P ys → AllByRecursion P (merged cmp xs ys)
+  each-merged : (P : Row K C → Type 0) (xs ys : List (Row K C)) → AllByRecursion P xs → AllByRecursion P ys → AllByRecursion P (rows_as_one cmp xs ys)
   each-merged P [] ys h h' = h'
   each-merged P (x ∷ xs) ys h h' = each-merged_into P x xs ys h h' (λ ys h'. each-merged P xs ys h.1 h')
 
-  ascends-step : (x y : Row K C) (xs ys : List (Row K C)) (c : Ordering) → cmp x.key y.key ≡ c → Ascends cmp key_of (x ∷ xs) → Ascends cmp key_of (y ∷ ys) → Ascends cmp key_of (merged cmp xs (y ∷ ys)) → Ascends cmp key_of (merged cmp xs ys) → Ascends cmp key_of (merged cmp (x ∷ xs) ys) → Ascends cmp key_of (match_ordering c (x ∷ merged cmp xs (y ∷ ys)) (x ∷ merged cmp xs ys) (y ∷ merged cmp (x ∷ xs) ys))
+  ascends-step : (x y : Row K C) (xs ys : List (Row K C)) (c : Ordering) → cmp x.key y.key ≡ c → Ascends cmp key_of (x ∷ xs) → Ascends cmp key_of (y ∷ ys) → Ascends cmp key_of (rows_as_one cmp xs (y ∷ ys)) → Ascends cmp key_of (rows_as_one cmp xs ys) → Ascends cmp key_of (rows_as_one cmp (x ∷ xs) ys) → Ascends cmp key_of (match_ordering c (x ∷ rows_as_one cmp xs (y ∷ ys)) (x ∷ rows_as_one cmp xs ys) (y ∷ rows_as_one cmp (x ∷ xs) ys))
   ascends-step x y xs ys Less e up up' a b d = (each-merged (λ z. cmp x.key z.key ≡ Less) xs (y ∷ ys) up.0 (e, above_all o x.key y ys e up'.0), a)
   ascends-step x y xs ys Equal e up up' a b d = (each-merged (λ z. cmp x.key z.key ≡ Less) xs ys up.0 (above_same o y.key x.key ys (tied_back o x.key y.key e) up'.0), b)
   ascends-step x y xs ys Greater e up up' a b d =
       (each-merged (λ z. cmp y.key z.key ≡ Less) (x ∷ xs) ys (less_back o x.key y.key e, above_all o y.key x xs (less_back o x.key y.key e) up.0) up'.0, d)
 
-  Ascends-merged_into : (x : Row K C) (xs ys : List (Row K C)) → Ascends cmp key_of (x ∷ xs) → Ascends cmp key_of ys → ((ys : List (Row K C)) → Ascends cmp key_of ys → Ascends cmp key_of (merged cmp xs ys)) → Ascends cmp key_of (merged cmp (x ∷ xs) ys)
+  Ascends-merged_into : (x : Row K C) (xs ys : List (Row K C)) → Ascends cmp key_of (x ∷ xs) → Ascends cmp key_of ys → ((ys : List (Row K C)) → Ascends cmp key_of ys → Ascends cmp key_of (rows_as_one cmp xs ys)) → Ascends cmp key_of (rows_as_one cmp (x ∷ xs) ys)
   Ascends-merged_into x xs [] up up' rest = up
   Ascends-merged_into x xs (y ∷ ys) up up' rest = ascends-step x y xs ys (cmp x.key y.key) refl up up' (rest (y ∷ ys) up') (rest ys up'.1) (Ascends-merged_into x xs ys up up'.1 rest)
 
-  pub Ascends-merged : (xs ys : List (Row K C)) → Ascends cmp key_of xs → Ascends cmp key_of ys → Ascends cmp key_of (merged cmp xs ys)
+  pub Ascends-merged : (xs ys : List (Row K C)) → Ascends cmp key_of xs → Ascends cmp key_of ys → Ascends cmp key_of (rows_as_one cmp xs ys)
   Ascends-merged [] ys up up' = up'
   Ascends-merged (x ∷ xs) ys up up' = Ascends-merged_into x xs ys up up' (λ ys up'. Ascends-merged xs ys up.1 up')
 
@@ -179,9 +179,9 @@ module _ {K C : Type 0} {cmp : K → K → Ordering} (o : IsTotalOrder cmp) wher
   known-put u us rows up known =
       Each-map _ _ (λ v h. subst IsSome (sym (find-put o u.key v.key (Some u) rows (is_of_itself u) up)) (known_by (same cmp u.key v.key) u (find cmp v.key rows) h)) us known
 
-  pub known-merged : (us rows : List (Row K C)) → Ascends cmp key_of us → Ascends cmp key_of rows → AreKnown us (merged cmp us rows)
+  pub known-merged : (us rows : List (Row K C)) → Ascends cmp key_of us → Ascends cmp key_of rows → AreKnown us (rows_as_one cmp us rows)
   known-merged us rows up up' =
-      Each-from_in (λ u. IsSome (find cmp u.key (merged cmp us rows))) us
+      Each-from_in (λ u. IsSome (find cmp u.key (rows_as_one cmp us rows))) us
       (λ u at. subst IsSome (sym (find-merged u.key us rows up up' ∙ ap (λ x. first_of x (find cmp u.key rows)) (find-in o u us up at))) refl)
 
 -- all that pass a test
@@ -277,10 +277,10 @@ module _ {K C : Type 0} {cmp : K → K → Ordering} (o : IsTotalOrder cmp) (lea
       rows-same o new (rows_after_receive cmp leave leave_all events rows) up (AreRows-receive o leave leave_all events rows are).0
       (λ k. each k ∙ (of_each k ∙ sym (each-receive o leave leave_all events rows are k)))
 
-  merged-received : (events : List (MrpEvent × K × C)) (heard : List (Row K C)) → HasHeard events heard → Ascends cmp key_of heard → merged cmp heard (map (begun_row leave_all leave) rows) ≡ rows_after_receive cmp leave leave_all events rows
+  merged-received : (events : List (MrpEvent × K × C)) (heard : List (Row K C)) → HasHeard events heard → Ascends cmp key_of heard → rows_as_one cmp heard (map (begun_row leave_all leave) rows) ≡ rows_after_receive cmp leave leave_all events rows
   merged-received events heard of_each up =
       let begun = AreRows-begun cmp leave_all leave rows are in
-      received-rows events heard (merged cmp heard (map (begun_row leave_all leave) rows)) of_each (Ascends-merged o heard (map (begun_row leave_all leave) rows) up begun.0)
+      received-rows events heard (rows_as_one cmp heard (map (begun_row leave_all leave) rows)) of_each (Ascends-merged o heard (map (begun_row leave_all leave) rows) up begun.0)
       (λ k. find-merged o k heard (map (begun_row leave_all leave) rows) up begun.0
       ∙ ap (first_of (find cmp k heard)) (each-mapped o (begun_row leave_all leave) (begun-key leave_all leave) rows k))
 
@@ -292,13 +292,13 @@ module _ {K C : Type 0} (cmp : K → K → Ordering) (p : Row K C → Bool) wher
   filter-step x y first second rest xs Equal fails a b d = ap (λ l. if p x then x ∷ l else l) b
   filter-step x y first second rest xs Greater fails a b d = ap (λ t. if t then y ∷ filter p rest else filter p rest) fails ∙ d
 
-  filter-merged_into : (x : Row K C) (xs ys : List (Row K C)) → AllByRecursion (λ y. p y ≡ false) ys → ((ys : List (Row K C)) → AllByRecursion (λ y. p y ≡ false) ys → filter p (merged cmp xs ys) ≡ filter p xs) → filter p (merged cmp (x ∷ xs) ys) ≡ filter p (x ∷ xs)
+  filter-merged_into : (x : Row K C) (xs ys : List (Row K C)) → AllByRecursion (λ y. p y ≡ false) ys → ((ys : List (Row K C)) → AllByRecursion (λ y. p y ≡ false) ys → filter p (rows_as_one cmp xs ys) ≡ filter p xs) → filter p (rows_as_one cmp (x ∷ xs) ys) ≡ filter p (x ∷ xs)
   filter-merged_into x xs [] h rest = refl
   filter-merged_into x xs (y ∷ ys) h rest =
-      filter-step x y (merged cmp xs (y ∷ ys)) (merged cmp xs ys) (merged cmp (x ∷ xs) ys) xs (cmp x.key y.key) h.0 (rest (y ∷ ys) h) (rest ys h.1) (filter-merged_into x xs ys h.1 rest)
+      filter-step x y (rows_as_one cmp xs (y ∷ ys)) (rows_as_one cmp xs ys) (rows_as_one cmp (x ∷ xs) ys) xs (cmp x.key y.key) h.0 (rest (y ∷ ys) h) (rest ys h.1) (filter-merged_into x xs ys h.1 rest)
 
   -- of two lists as one those pass that pass of the first, where none passes of the second
-  filter-merged : (xs ys : List (Row K C)) → AllByRecursion (λ y. p y ≡ false) ys → filter p (merged cmp xs ys) ≡ filter p xs
+  filter-merged : (xs ys : List (Row K C)) → AllByRecursion (λ y. p y ≡ false) ys → filter p (rows_as_one cmp xs ys) ≡ filter p xs
   filter-merged [] ys h = filter-none p ys h
   filter-merged (x ∷ xs) ys h = filter-merged_into x xs ys h (filter-merged xs)
 
@@ -337,34 +337,34 @@ drop_all (x ∷ xs) zero e = absurd (omega arith)
 drop_all (x ∷ xs) (suc i) e = drop_all xs i (omega arith)
 
 module _ {K C : Type 0} (cmp : K → K → Ordering) where
-  merged-alone : (xs : List (Row K C)) → merged cmp xs [] ≡ xs
+  merged-alone : (xs : List (Row K C)) → rows_as_one cmp xs [] ≡ xs
   merged-alone [] = refl
   merged-alone (x ∷ xs) = refl
 
   -- two lists at their ends
-  pub merged-end : (xs ys : List (Row K C)) (i j : ℕ) → j ≡ length xs → i ≡ length ys → merged cmp (drop j xs) (drop i ys) ≡ []
+  pub merged-end : (xs ys : List (Row K C)) (i j : ℕ) → j ≡ length xs → i ≡ length ys → rows_as_one cmp (drop j xs) (drop i ys) ≡ []
   merged-end xs ys i j e e' = rw (drop_all xs j e) (drop_all ys i e')
 
   -- the next of two lists, where the second is at its end
-  pub next-of_first : (xs ys : List (Row K C)) (i j : ℕ) (x : Row K C) → i ≡ length ys → j < length xs → x ≡ get_or xs j x → merged cmp (drop j xs) (drop i ys) ≡ x ∷ merged cmp (drop (j + 1) xs) (drop i ys)
+  pub next-of_first : (xs ys : List (Row K C)) (i j : ℕ) (x : Row K C) → i ≡ length ys → j < length xs → x ≡ get_or xs j x → rows_as_one cmp (drop j xs) (drop i ys) ≡ x ∷ rows_as_one cmp (drop (j + 1) xs) (drop i ys)
   next-of_first xs ys i j x end below is =
       rw (drop_all ys i end)
       (merged-alone (drop j xs)
       ∙ (drop-cons xs j x below
-      ∙ (ap (λ y. y ∷ drop (suc j) xs) (sym is) ∙ ap (λ l. x ∷ l) (sym (merged-alone (drop (suc j) xs)) ∙ ap (λ n. merged cmp (drop n xs) []) (sym (add-one j))))))
+      ∙ (ap (λ y. y ∷ drop (suc j) xs) (sym is) ∙ ap (λ l. x ∷ l) (sym (merged-alone (drop (suc j) xs)) ∙ ap (λ n. rows_as_one cmp (drop n xs) []) (sym (add-one j))))))
 
 -- the next of two lists, of which neither is at its end, or the first is
 module _ {K C : Type 0} (cmp : K → K → Ordering) (xs ys : List (Row K C)) (i j : ℕ) (within : i < length ys) where
-  pub next-of_second : (y : Row K C) → j ≡ length xs → y ≡ get_or ys i y → merged cmp (drop j xs) (drop i ys) ≡ y ∷ merged cmp (drop j xs) (drop (i + 1) ys)
+  pub next-of_second : (y : Row K C) → j ≡ length xs → y ≡ get_or ys i y → rows_as_one cmp (drop j xs) (drop i ys) ≡ y ∷ rows_as_one cmp (drop j xs) (drop (i + 1) ys)
   next-of_second y end is = rw (drop_all xs j end) (drop_more ys i y within ∙ ap (λ z. z ∷ drop (i + 1) ys) (sym is))
 
-  next-of_both : (c : Ordering) (x y : Row K C) → j < length xs → x ≡ get_or xs j x → y ≡ get_or ys i y → cmp x.key y.key ≡ c → merged cmp (drop j xs) (drop i ys) ≡ match_ordering c (x ∷ merged cmp (drop (j + 1) xs) (drop i ys)) (x ∷ merged cmp (drop (j + 1) xs) (drop (i + 1) ys)) (y ∷ merged cmp (drop j xs) (drop (i + 1) ys))
+  next-of_both : (c : Ordering) (x y : Row K C) → j < length xs → x ≡ get_or xs j x → y ≡ get_or ys i y → cmp x.key y.key ≡ c → rows_as_one cmp (drop j xs) (drop i ys) ≡ match_ordering c (x ∷ rows_as_one cmp (drop (j + 1) xs) (drop i ys)) (x ∷ rows_as_one cmp (drop (j + 1) xs) (drop (i + 1) ys)) (y ∷ rows_as_one cmp (drop j xs) (drop (i + 1) ys))
   next-of_both c x y below is is' at =
-      ap (λ l. merged cmp l (drop i ys)) first
-      ∙ ap (λ l. merged cmp (x ∷ drop (j + 1) xs) l) second
-      ∙ ap (λ c. match_ordering c (x ∷ merged cmp (drop (j + 1) xs) (y ∷ drop (i + 1) ys)) (x ∷ merged cmp (drop (j + 1) xs) (drop (i + 1) ys)) (y ∷ merged cmp (x ∷ drop (j + 1) xs) (drop (i + 1) ys))) at
-      ∙ ap (λ l. match_ordering c (x ∷ merged cmp (drop (j + 1) xs) l) (x ∷ merged cmp (drop (j + 1) xs) (drop (i + 1) ys)) (y ∷ merged cmp (x ∷ drop (j + 1) xs) (drop (i + 1) ys))) (sym second)
-      ∙ ap (λ l. match_ordering c (x ∷ merged cmp (drop (j + 1) xs) (drop i ys)) (x ∷ merged cmp (drop (j + 1) xs) (drop (i + 1) ys)) (y ∷ merged cmp l (drop (i + 1) ys))) (sym first)
+      ap (λ l. rows_as_one cmp l (drop i ys)) first
+      ∙ ap (λ l. rows_as_one cmp (x ∷ drop (j + 1) xs) l) second
+      ∙ ap (λ c. match_ordering c (x ∷ rows_as_one cmp (drop (j + 1) xs) (y ∷ drop (i + 1) ys)) (x ∷ rows_as_one cmp (drop (j + 1) xs) (drop (i + 1) ys)) (y ∷ rows_as_one cmp (x ∷ drop (j + 1) xs) (drop (i + 1) ys))) at
+      ∙ ap (λ l. match_ordering c (x ∷ rows_as_one cmp (drop (j + 1) xs) l) (x ∷ rows_as_one cmp (drop (j + 1) xs) (drop (i + 1) ys)) (y ∷ rows_as_one cmp (x ∷ drop (j + 1) xs) (drop (i + 1) ys))) (sym second)
+      ∙ ap (λ l. match_ordering c (x ∷ rows_as_one cmp (drop (j + 1) xs) (drop i ys)) (x ∷ rows_as_one cmp (drop (j + 1) xs) (drop (i + 1) ys)) (y ∷ rows_as_one cmp l (drop (i + 1) ys))) (sym first)
     where
       first : drop j xs ≡ x ∷ drop (j + 1) xs
       first = drop_more xs j x below ∙ ap (λ z. z ∷ drop (j + 1) xs) (sym is)
@@ -373,7 +373,7 @@ module _ {K C : Type 0} (cmp : K → K → Ordering) (xs ys : List (Row K C)) (i
       second = drop_more ys i y within ∙ ap (λ z. z ∷ drop (i + 1) ys) (sym is')
 
   -- by how their first rows compare
-  pub next-by : (c : Ordering) (x y d e : Row K C) → j < length xs → x ≡ get_or xs j x → y ≡ get_or ys i y → c ≡ cmp (get_or xs j d).key (get_or ys i e).key → merged cmp (drop j xs) (drop i ys) ≡ match_ordering c (x ∷ merged cmp (drop (j + 1) xs) (drop i ys)) (x ∷ merged cmp (drop (j + 1) xs) (drop (i + 1) ys)) (y ∷ merged cmp (drop j xs) (drop (i + 1) ys))
+  pub next-by : (c : Ordering) (x y d e : Row K C) → j < length xs → x ≡ get_or xs j x → y ≡ get_or ys i y → c ≡ cmp (get_or xs j d).key (get_or ys i e).key → rows_as_one cmp (drop j xs) (drop i ys) ≡ match_ordering c (x ∷ rows_as_one cmp (drop (j + 1) xs) (drop i ys)) (x ∷ rows_as_one cmp (drop (j + 1) xs) (drop (i + 1) ys)) (y ∷ rows_as_one cmp (drop j xs) (drop (i + 1) ys))
   next-by c x y d e below is is' at =
       next-of_both c x y below is is'
       (ap (λ (z : Row K C). cmp z.key y.key) (get_or_read xs j x below is d) ∙ ap (λ (z : Row K C). cmp (get_or xs j d).key z.key) (get_or_read ys i y within is' e) ∙ sym at)
@@ -388,9 +388,9 @@ module _ {K C : Type 0} {cmp : K → K → Ordering} (o : IsTotalOrder cmp) (us 
   pub known-of : (answer : Bool) → answer ≡ list_all (λ u. is_some (find cmp u.key slice)) us → answer ≡ true → AreKnown o us rows
   known-of answer e h = subst (AreKnown o us) is (each-passes (λ u. is_some (find cmp u.key slice)) us (sym e ∙ h))
 
-  module _ (new : List (Row K C)) (e : new ≡ merged cmp us slice) (up : Ascends cmp key_of us) (up' : Ascends cmp key_of rows) where
-    new_is : new ≡ merged cmp us rows
-    new_is = e ∙ ap (merged cmp us) is
+  module _ (new : List (Row K C)) (e : new ≡ rows_as_one cmp us slice) (up : Ascends cmp key_of us) (up' : Ascends cmp key_of rows) where
+    new_is : new ≡ rows_as_one cmp us rows
+    new_is = e ∙ ap (rows_as_one cmp us) is
 
     pub known-after : AreKnown o us new
     known-after = subst (AreKnown o us) (sym new_is) (known-merged o us rows up up')
@@ -445,12 +445,12 @@ module _ {K C : Type 0} {cmp : K → K → Ordering} (o : IsTotalOrder cmp) (lea
 
 -- ---- two lists of rows are merged
 
-module _ {K C : Type 0} (cmp : K → K → Ordering) (xs ys all : List (Row K C)) (i j : ℕ) (so_far : merged cmp xs ys ≡ all ++ merged cmp (drop j xs) (drop i ys)) where
+module _ {K C : Type 0} (cmp : K → K → Ordering) (xs ys all : List (Row K C)) (i j : ℕ) (so_far : rows_as_one cmp xs ys ≡ all ++ rows_as_one cmp (drop j xs) (drop i ys)) where
   -- one row more
-  pub merged-more : (x : Row K C) (i' j' : ℕ) (new : List (Row K C)) → merged cmp (drop j xs) (drop i ys) ≡ x ∷ merged cmp (drop j' xs) (drop i' ys) → new ≡ all ++ x ∷ [] → merged cmp xs ys ≡ new ++ merged cmp (drop j' xs) (drop i' ys)
+  pub merged-more : (x : Row K C) (i' j' : ℕ) (new : List (Row K C)) → rows_as_one cmp (drop j xs) (drop i ys) ≡ x ∷ rows_as_one cmp (drop j' xs) (drop i' ys) → new ≡ all ++ x ∷ [] → rows_as_one cmp xs ys ≡ new ++ rows_as_one cmp (drop j' xs) (drop i' ys)
   merged-more x i' j' new next pushed =
-      so_far ∙ ap (λ l. all ++ l) next ∙ sym (append_assoc all (x ∷ []) (merged cmp (drop j' xs) (drop i' ys))) ∙ ap (λ l. l ++ merged cmp (drop j' xs) (drop i' ys)) (sym pushed)
+      so_far ∙ ap (λ l. all ++ l) next ∙ sym (append_assoc all (x ∷ []) (rows_as_one cmp (drop j' xs) (drop i' ys))) ∙ ap (λ l. l ++ rows_as_one cmp (drop j' xs) (drop i' ys)) (sym pushed)
 
   -- none is left
-  pub merged-all : j ≡ length xs → i ≡ length ys → all ≡ merged cmp xs ys
+  pub merged-all : j ≡ length xs → i ≡ length ys → all ≡ rows_as_one cmp xs ys
   merged-all end end' = sym (so_far ∙ ap (λ l. all ++ l) (merged-end cmp xs ys i j end end') ∙ append-nil all)

@@ -6,7 +6,7 @@ use Rattle.srp_base.specs.declared.numbers.Cs.{Cs}
 use Rattle.mrp_participant.specs.Lookup.{find}
 use Rattle.mrp_participant.specs.Row.{registered_in, declared_in}
 use Rattle.mrp_participant.specs.Duty.{IsDutyMet}
-use Rattle.mrp_participant.specs.Link.{Link, EndEvent, LinkEvent, AreDutiesMet, is_loss, end_event_of, repeated, turned, with_near, spoilt, after_receiving, after_sending, after_end_event, after_event, after_events}
+use Rattle.mrp_participant.specs.Link.{Link, EndEvent, LinkEvent, AreDutiesMet, is_loss, end_event_of, with_repeat, other_view, with_near, spoilt, after_receiving, after_sending, after_end_event, after_event, after_events}
 use Rattle.mrp_participant.specs.Link.EndEvent.{Declares, Withdraws, Leaves, Fires, FiresLeaveAll, FiresPeriodic, Sends, Receives, Loses, Repeats}
 use Rattle.mrp_participant.specs.Link.LinkEvent.{AtNear, AtFar}
 use Rattle.mrp_participant.specs.State.{State, Messages, AreRows, after, is_active, is_silent, is_still, none_tried, takes, leave_all_state, sent_state, sent_messages}
@@ -15,16 +15,16 @@ use Rattle.mrp_participant.proofs.Transitions.{AreRows-declare, AreRows-withdraw
 use Rattle.mrp_participant.proofs.Sendings.{sent-keeps}
 
 -- what a repeat behind its original keeps, wherever it stands, the list with one element twice has
-pub repeated-keeps : {X : Type 0} (P : List X → Type 0) → ((front back : List X) (x : X) → P (front ++ (x ∷ back)) → P (front ++ (x ∷ (x ∷ back)))) → (i : ℕ) (front xs : List X) → P (front ++ xs) → P (front ++ repeated i xs)
+pub repeated-keeps : {X : Type 0} (P : List X → Type 0) → ((front back : List X) (x : X) → P (front ++ (x ∷ back)) → P (front ++ (x ∷ (x ∷ back)))) → (i : ℕ) (front xs : List X) → P (front ++ xs) → P (front ++ with_repeat i xs)
 repeated-keeps P step i front [] h = h
 repeated-keeps P step zero front (x ∷ xs) h = step front xs x h
 repeated-keeps P step (suc i) front (x ∷ xs) h =
-    subst P (append_assoc front (x ∷ []) (repeated i xs))
+    subst P (append_assoc front (x ∷ []) (with_repeat i xs))
     (repeated-keeps P step i (front ++ (x ∷ [])) xs (subst P (sym (append_assoc front (x ∷ []) xs)) h))
 
 module _ {K C : Type 0} where
   -- the other end of a link keeps the same
-  pub turned-met : (cmp : K → K → Ordering) (l : Link K C) → AreDutiesMet cmp l → AreDutiesMet cmp (turned l)
+  pub turned-met : (cmp : K → K → Ordering) (l : Link K C) → AreDutiesMet cmp l → AreDutiesMet cmp (other_view l)
   turned-met cmp l met =
       record { near_rows = met.far_rows; far_rows = met.near_rows; near_duty = met.far_duty; far_duty = met.near_duty }
 
@@ -43,7 +43,7 @@ module _ {K C : Type 0} where
         far_duty = unsound-met cmp (spoilt l.far) (spoilt l.near) l.coming sent refl;
       }
 
-  repeated-met : (cmp : K → K → Ordering) (l : Link K C) (i : ℕ) → AreDutiesMet cmp l → AreDutiesMet cmp (record l { sent = repeated i l.sent })
+  repeated-met : (cmp : K → K → Ordering) (l : Link K C) (i : ℕ) → AreDutiesMet cmp l → AreDutiesMet cmp (record l { sent = with_repeat i l.sent })
   repeated-met cmp l i met =
       record {
         near_rows = met.near_rows;
@@ -113,7 +113,7 @@ module _ {K C : Type 0} {cmp : K → K → Ordering} (o : IsTotalOrder cmp) wher
 
       pub event-met : (l : Link K C) (e : LinkEvent K C) → AreDutiesMet cmp l → AreDutiesMet cmp (after_event base octets cmp eq l e)
       event-met l (AtNear e) met = end-met e l met
-      event-met l (AtFar e) met = turned-met cmp _ (end-met e (turned l) (turned-met cmp l met))
+      event-met l (AtFar e) met = turned-met cmp _ (end-met e (other_view l) (turned-met cmp l met))
 
       pub events-met : (events : List (LinkEvent K C)) (l : Link K C) → AreDutiesMet cmp l → AreDutiesMet cmp (after_events base octets cmp eq l events)
       events-met [] l met = met
@@ -189,8 +189,8 @@ module _ {K C : Type 0} {cmp : K → K → Ordering} (o : IsTotalOrder cmp) (bas
 
     pub event-near_sound : (l : Link K C) (e : LinkEvent K C) → is_loss (end_event_of e) ≡ false → l.near.sound ≡ true → (after_event base octets cmp eq l e).near.sound ≡ true
     event-near_sound l (AtNear e) kept h = end-near_sound e l kept h
-    event-near_sound l (AtFar e) kept h = end-far_sound e (turned l) kept h
+    event-near_sound l (AtFar e) kept h = end-far_sound e (other_view l) kept h
 
     pub event-far_sound : (l : Link K C) (e : LinkEvent K C) → is_loss (end_event_of e) ≡ false → l.far.sound ≡ true → (after_event base octets cmp eq l e).far.sound ≡ true
     event-far_sound l (AtNear e) kept h = end-far_sound e l kept h
-    event-far_sound l (AtFar e) kept h = end-near_sound e (turned l) kept h
+    event-far_sound l (AtFar e) kept h = end-near_sound e (other_view l) kept h

@@ -34,8 +34,8 @@ module _ {K C : Type 0} (cmp : K → K → Ordering) where
   heard_rows leave_all leave rows events = fold (heard_with leave_all leave rows) [] events
 
   -- two lists of rows as one ascending list; of two rows of one key the first list's stays
-  abbrev pub merged : List (Row K C) → List (Row K C) → List (Row K C)
-  merged first second = sorted_merge (λ (a b : Row K C). cmp a.key b.key) true first second
+  abbrev pub rows_as_one : List (Row K C) → List (Row K C) → List (Row K C)
+  rows_as_one first second = sorted_merge (λ (a b : Row K C). cmp a.key b.key) true first second
 
   -- rows put in the places of those of their keys
   abbrev pub put_over : List (Row K C) → List (Row K C) → List (Row K C)

@@ -54,10 +54,10 @@ end_event_of (AtNear e) = e
 end_event_of (AtFar e) = e
 
 -- a list with the element at a place twice, the copy right behind its original
-abbrev pub repeated : {X : Type 0} → ℕ → List X → List X
-repeated i [] = []
-repeated zero (x ∷ xs) = x ∷ x ∷ xs
-repeated (suc i) (x ∷ xs) = x ∷ repeated i xs
+abbrev pub with_repeat : {X : Type 0} → ℕ → List X → List X
+with_repeat i [] = []
+with_repeat zero (x ∷ xs) = x ∷ x ∷ xs
+with_repeat (suc i) (x ∷ xs) = x ∷ with_repeat i xs
 
 module _ {K C : Type 0} where
   -- two new participants with nothing in flight
@@ -71,8 +71,8 @@ module _ {K C : Type 0} where
       }
 
   -- the same link as its other end sees it
-  abbrev pub turned : Link K C → Link K C
-  turned l = record { near = l.far; far = l.near; sent = l.coming; coming = l.sent }
+  abbrev pub other_view : Link K C → Link K C
+  other_view l = record { near = l.far; far = l.near; sent = l.coming; coming = l.sent }
 
   -- the link with another state of the near participant
   abbrev pub with_near : State K C → Link K C → Link K C
@@ -109,12 +109,12 @@ module _ {K C : Type 0} where
   after_end_event base octets cmp eq (Sends now) l = after_sending base octets cmp now l
   after_end_event base octets cmp eq (Receives now) l = after_receiving cmp now l.coming l
   after_end_event base octets cmp eq (Loses i) l = after_loss i l
-  after_end_event base octets cmp eq (Repeats i) l = record l { sent = repeated i l.sent }
+  after_end_event base octets cmp eq (Repeats i) l = record l { sent = with_repeat i l.sent }
 
   -- after what happens at either end
   abbrev pub after_event : ℕ → (C → ℕ) → (K → K → Ordering) → (C → C → Bool) → Link K C → LinkEvent K C → Link K C
   after_event base octets cmp eq l (AtNear e) = after_end_event base octets cmp eq e l
-  after_event base octets cmp eq l (AtFar e) = turned (after_end_event base octets cmp eq e (turned l))
+  after_event base octets cmp eq l (AtFar e) = other_view (after_end_event base octets cmp eq e (other_view l))
 
   -- after a list of events, in order
   abbrev pub after_events : ℕ → (C → ℕ) → (K → K → Ordering) → (C → C → Bool) → Link K C → List (LinkEvent K C) → Link K C

@@ -94,11 +94,11 @@ abbrev pub sent_row : {K C : Type 0} → Bool → Bool → Cs → Row K C → Op
 sent_row leave_all taken leave r = row_after (opportunity leave_all taken r) (before_opportunity leave_all leave r)
 
 -- what is written for what an applicant says: a Join is JoinIn where the row's own registrar is IN
-abbrev pub written : Say → Bool → Option MrpEvent
-written Quiet held = None
-written SayNew held = Some New
-written SayJoin held = Some (if held then JoinIn else JoinMt)
-written SayLv held = Some Lv
+abbrev pub event_for : Say → Bool → Option MrpEvent
+event_for Quiet held = None
+event_for SayNew held = Some New
+event_for SayJoin held = Some (if held then JoinIn else JoinMt)
+event_for SayLv held = Some Lv
 
 -- what a taken row says, by its applicant: VN and AN say New, LA says Lv, and each other says Join, which is
 -- JoinIn where the row's own registrar is IN and there is no LeaveAll
@@ -121,7 +121,7 @@ event_of r (Some e) = Some (e, r.key, r.content)
 -- what a row says at an opportunity
 abbrev pub said_at : {K C : Type 0} → Option AppEvent → Row K C → Option (MrpEvent × K × C)
 said_at None r = None
-said_at (Some event) r = event_of r (written (applicant.said event (is_in r.registrar) r.applicant) (is_in r.registrar))
+said_at (Some event) r = event_of r (event_for (applicant.say_of event (is_in r.registrar) r.applicant) (is_in r.registrar))
 
 -- what a row says in the PDU, where it is taken or not
 abbrev pub sent_event : {K C : Type 0} → Bool → Bool → Cs → Row K C → Option (MrpEvent × K × C)

@@ -54,8 +54,8 @@ is_active Active = true
 is_active Passive = false
 
 -- the periodic machine after it has fired
-abbrev pub rearmed : Cs → Periodic → Periodic
-rearmed now p = record p { next = record { 0 = leaveall.hundred_after now.0 } }
+abbrev pub after_firing : Cs → Periodic → Periodic
+after_firing now p = record p { next = record { 0 = leaveall.hundred_after now.0 } }
 
 module _ {K C : Type 0} where
   -- the same participant with other rows
@@ -149,7 +149,7 @@ module _ {K C : Type 0} where
 
   -- after the periodic machine has fired
   abbrev pub periodic_fired_state : Cs → State K C → State K C
-  periodic_fired_state now s = record s { rows = map periodic_row s.rows; periodic = rearmed now s.periodic }
+  periodic_fired_state now s = record s { rows = map periodic_row s.rows; periodic = after_firing now s.periodic }
 
   -- whether any timer's moment is at or before a moment
   abbrev pub is_any_due : Cs → State K C → Bool

@@ -9,7 +9,7 @@ ghost use Rattle.mrp_participant.specs.Lookup.{Ascends, key_of, find, put};
 ghost use Rattle.mrp_participant.specs.Row.{after_hear, row_after_receive};
 ghost use Rattle.mrp_participant.specs.Outlook.{IsOutlook};
 ghost use Rattle.mrp_participant.specs.State.{AreRows};
-ghost use Rattle.mrp_participant.specs.Hearing.{first_of, begun_row, row_so_far, heard_with, merged, put_over};
+ghost use Rattle.mrp_participant.specs.Hearing.{first_of, begun_row, row_so_far, heard_with, rows_as_one, put_over};
 
 use crate::lookup::{fill_at, find_row, place, replace_at};
 use crate::outlook::{Outlook, outlook_of, replace_row};
@@ -161,7 +161,7 @@ fn merge<K: Copy + Ord, C: Copy>(
     rows: &[Row<K, C>],
     heard: &[Row<K, C>],
 ) -> Result<Vec<Row<K, C>>, NoMemory>
-    ensures { IfOk result (λ v. v.items ≡ merged K.cmp heard.now rows.now) }
+    ensures { IfOk result (λ v. v.items ≡ rows_as_one K.cmp heard.now rows.now) }
 {
     let mut all = Vec::new(alloc);
     let mut i = 0;
@@ -184,8 +184,8 @@ fn next_row<K: Copy + Ord, C: Copy>(
 ) -> (Row<K, C>, usize, usize)
     requires within { (i ≤ length rows.now) × (j ≤ length heard.now) }
     requires more { (i < length rows.now) ⊎ (j < length heard.now) }
-    ensures next { merged K.cmp (drop j heard.now) (drop i rows.now)
-        ≡ result.0 ∷ merged K.cmp (drop result.2 heard.now) (drop result.1 rows.now) }
+    ensures next { rows_as_one K.cmp (drop j heard.now) (drop i rows.now)
+        ≡ result.0 ∷ rows_as_one K.cmp (drop result.2 heard.now) (drop result.1 rows.now) }
     ensures within { (result.1 ≤ length rows.now) × (result.2 ≤ length heard.now) }
     ensures further { i + j < result.1 + result.2 }
 {

@@ -11,7 +11,7 @@
 
 ghost use Rattle.std.specs.Prelude.{◌≡◌, Bool, true, false, List, []};
 ghost use Rattle.srp_base.specs.declared.numbers.Cs.{Cs};
-ghost use Rattle.mrp_participant.specs.Link.{Link, LinkEvent, AreDutiesMet, is_loss, end_event_of, new_link, turned, after_event, after_events};
+ghost use Rattle.mrp_participant.specs.Link.{Link, LinkEvent, AreDutiesMet, is_loss, end_event_of, new_link, other_view, after_event, after_events};
 ghost use Rattle.mrp_participant.specs.Link.EndEvent.{Sends};
 ghost use Rattle.mrp_participant.specs.Link.LinkEvent.{AtNear, AtFar};
 ghost use Rattle.mrp_participant.specs.State.{is_active, is_still, declared_at, registered_at};
@@ -23,7 +23,7 @@ pub fn a_new_link_meets_both_duties<A: MrpApp>()
     ensures new { (near far : Cs × Cs × Bool)
         → AreDutiesMet A.Key.cmp (new_link {K = A.Key} {C = A.Content} near far) }
     ensures turned { (l : Link A.Key A.Content) → AreDutiesMet A.Key.cmp l
-        → AreDutiesMet A.Key.cmp (turned l) }
+        → AreDutiesMet A.Key.cmp (other_view l) }
 {}
 
 /// Whatever happens on a link keeps both duties.

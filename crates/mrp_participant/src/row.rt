@@ -4,7 +4,7 @@ ghost use Rattle.std.specs.Prelude.{◌≡◌, if◌then◌else◌, Some, None};
 ghost use Rattle.applicant.specs.Table.{withdraw_of};
 ghost use Rattle.mrp_participant.specs.Row.{is_live, kept_row, applicant_takes, registrar_takes, with_applicant, fresh_row, declared_row, left_row, leave_all_row, with_heard, heard_row, makes_row, registered_in, declared_in, leave_is_due, after_leave_due, periodic_row, is_settled};
 ghost use Rattle.mrp_participant.specs.Hearing.{begun_row};
-ghost use Rattle.mrp_participant.specs.Sending.{round, is_tried, opportunity, before_opportunity, row_after, said_at, written, sent_row, sent_event};
+ghost use Rattle.mrp_participant.specs.Sending.{round, is_tried, opportunity, before_opportunity, row_after, said_at, event_for, sent_row, sent_event};
 
 use applicant::{AppEvent, Applicant, Say};
 use registrar::{RegEvent, Registrar};
@@ -316,7 +316,7 @@ impl<K: Copy, C: Copy> Row<K, C> {
 
 /// What is written for what an Applicant says.
 fn written(say: Say, held: bool) -> Option<MrpEvent>
-    ensures { result ≡ written say held }
+    ensures { result ≡ event_for say held }
 {
     match say {
         Say::Quiet => None,

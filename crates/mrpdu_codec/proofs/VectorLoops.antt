@@ -8,7 +8,7 @@ use Rattle.mrpdu_codec.specs.declared.pdu.VectorAttr.{VectorAttr}
 use Rattle.mrpdu_codec.specs.Tree.{Vector, attr_of, IsVector, vector_octets}
 use Rattle.srp_base.specs.Results.{◌>>=◌}
 use Rattle.mrpdu_codec.specs.Reading.{vector_at, ends_list, vectors_at, vectors_of}
-use Rattle.mrpdu_codec.specs.ReadErr.{Fails, kept, kept_attr}
+use Rattle.mrpdu_codec.specs.ReadErr.{Fails, list_kept, kept_attr}
 use Rattle.std.proofs.lemmas.Result.{MatchResult-at_ok}
 use Rattle.std.proofs.lemmas.Bool.{false≢true}
 use Rattle.mrpdu_codec.proofs.Steps.{same_after, same_choice}
@@ -69,20 +69,20 @@ with_front front read = read >>= λ x. Ok (front ++ x.0, x.1)
 
 -- one vector more, of what is kept
 with_more : (row : Option TypeForm) (front : List VectorAttr) (v : VectorAttr) (read : Result (List VectorAttr × List ℕ) ℕ)
-    → with_front front (kept row (read >>= λ x. Ok (v ∷ x.0, x.1))) ≡ with_front (front ++ kept_attr row v) (kept row read)
+    → with_front front (list_kept row (read >>= λ x. Ok (v ∷ x.0, x.1))) ≡ with_front (front ++ kept_attr row v) (list_kept row read)
 with_more None front v (Ok x) = ap (λ (vs : List VectorAttr). let y : Result (List VectorAttr × List ℕ) ℕ = Ok (vs, x.1) in y) (sym (append-nil (front ++ [])))
 with_more (Some t) front v (Ok x) = ap (λ (vs : List VectorAttr). let y : Result (List VectorAttr × List ℕ) ℕ = Ok (vs, x.1) in y) (sym (append_assoc front (v ∷ []) x.0))
 with_more row front v (Err left) = refl
 
-kept_nil : (row : Option TypeForm) (front : List VectorAttr) (octets : List ℕ) → with_front front (kept row (Ok ([], octets))) ≡ Ok (front, octets)
+kept_nil : (row : Option TypeForm) (front : List VectorAttr) (octets : List ℕ) → with_front front (list_kept row (Ok ([], octets))) ≡ Ok (front, octets)
 kept_nil None front octets = ap (λ (vs : List VectorAttr). let y : Result (List VectorAttr × List ℕ) ℕ = Ok (vs, octets) in y) (append-nil front)
 kept_nil (Some t) front octets = ap (λ (vs : List VectorAttr). let y : Result (List VectorAttr × List ℕ) ℕ = Ok (vs, octets) in y) (append-nil front)
 
-module _ (row : Option TypeForm) (len : ℕ) (total : Result (List VectorAttr × List ℕ) ℕ) (front : List VectorAttr) (octets : List ℕ) (so_far : with_front front (kept row (vectors_of row len octets)) ≡ total) where
-  after_all : (read : Result (List VectorAttr × List ℕ) ℕ) → vectors_of row len octets ≡ read → total ≡ with_front front (kept row read)
-  after_all read e = sym so_far ∙ ap (λ (r : Result (List VectorAttr × List ℕ) ℕ). with_front front (kept row r)) e
+module _ (row : Option TypeForm) (len : ℕ) (total : Result (List VectorAttr × List ℕ) ℕ) (front : List VectorAttr) (octets : List ℕ) (so_far : with_front front (list_kept row (vectors_of row len octets)) ≡ total) where
+  after_all : (read : Result (List VectorAttr × List ℕ) ℕ) → vectors_of row len octets ≡ read → total ≡ with_front front (list_kept row read)
+  after_all read e = sym so_far ∙ ap (λ (r : Result (List VectorAttr × List ℕ) ℕ). with_front front (list_kept row r)) e
 
-  pub list_goes_on : (v : Vector) (after : List ℕ) → ends_list octets ≡ false → vector_at row len octets ≡ Ok (v, after) → with_front (front ++ kept_attr row (attr_of v)) (kept row (vectors_of row len after)) ≡ total
+  pub list_goes_on : (v : Vector) (after : List ℕ) → ends_list octets ≡ false → vector_at row len octets ≡ Ok (v, after) → with_front (front ++ kept_attr row (attr_of v)) (list_kept row (vectors_of row len after)) ≡ total
   list_goes_on v after going e = sym (after_all _ (vectors_step row len octets v after going e) ∙ with_more row front (attr_of v) (vectors_of row len after))
 
   pub list_fails : (e : ReadErr) → ends_list octets ≡ false → Fails e (vector_at row len octets) → Fails e total

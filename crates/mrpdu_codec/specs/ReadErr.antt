@@ -27,17 +27,17 @@ behind (errors.Left left) n = errors.Left (left + n)
 behind errors.NoMemory n = errors.NoMemory
 
 -- the place of the field that breaks, in all octets
-abbrev pub placed : ReadErr → ℕ → DecodeErr
-placed (errors.Left left) all = decode_errors.Malformed (all - left)
-placed errors.NoMemory all = decode_errors.NoMemory
+abbrev pub decode_err_of : ReadErr → ℕ → DecodeErr
+decode_err_of (errors.Left left) all = decode_errors.Malformed (all - left)
+decode_err_of errors.NoMemory all = decode_errors.NoMemory
 
 -- ---- What is kept of lists of vectors
 
 -- of what was read, what is kept: nothing of a type that its application doesn't know
-abbrev pub kept : Option TypeForm → Result (List VectorAttr × List ℕ) ℕ → Result (List VectorAttr × List ℕ) ℕ
-kept row (Err left) = Err left
-kept None (Ok x) = Ok ([], x.1)
-kept (Some t) (Ok x) = Ok x
+abbrev pub list_kept : Option TypeForm → Result (List VectorAttr × List ℕ) ℕ → Result (List VectorAttr × List ℕ) ℕ
+list_kept row (Err left) = Err left
+list_kept None (Ok x) = Ok ([], x.1)
+list_kept (Some t) (Ok x) = Ok x
 
 -- of a vector's attribute, what is kept
 abbrev pub kept_attr : Option TypeForm → VectorAttr → List VectorAttr

@@ -39,7 +39,7 @@ pub(crate) enum ReadErr {
 
 impl ReadErr {
     ghost use Rattle.std.specs.Prelude.{◌-◌, ◌<◌, ◌≤◌, ◌^◌};
-    ghost use Rattle.mrpdu_codec.specs.ReadErr.{IsWithin, behind, placed};
+    ghost use Rattle.mrpdu_codec.specs.ReadErr.{IsWithin, behind, decode_err_of};
 
     /// The same where the octets that were read are the first ones of all.
     pub(crate) fn behind(self, here: usize, all: usize) -> ReadErr
@@ -57,7 +57,7 @@ impl ReadErr {
     pub(crate) fn placed(self, all: usize) -> DecodeErr
         requires within { IsWithin self all }
         requires few { all < 2 ^ 32 }
-        ensures { result ≡ placed self all }
+        ensures { result ≡ decode_err_of self all }
     {
         match self {
             ReadErr::Left(left) => DecodeErr::Malformed((all - left) as u32),

@@ -4,7 +4,7 @@ ghost use Rattle.std.specs.Prelude.{◌≡◌, ◌<◌, ◌++◌, ◌+◌, [], t
 ghost use Rattle.srp_base.specs.Results.{Gives};
 ghost use Rattle.mrpdu_codec.specs.Tree.{length_fits};
 ghost use Rattle.mrpdu_codec.specs.Raw.{attrs_in, message_in, messages_in};
-ghost use Rattle.mrpdu_codec.specs.ReadErr.{left_of, kept};
+ghost use Rattle.mrpdu_codec.specs.ReadErr.{left_of, list_kept};
 ghost use Rattle.mrpdu_codec.specs.Reading.{region_at, known_at, unknown_at, size_at, sized_at, counted_at, body_at, length_at, message_at, type_at, end_at, messages_of};
 
 use crate::error::ReadErr;
@@ -111,7 +111,7 @@ fn sized(
 ) -> Result<(Vec<RawVector<'_>>, &[u8]), ReadErr>
     requires { size < 65536 }
     ensures { Gives (λ x. (attrs_in x.0.items, x.1.now)) left_of result
-        (kept row (sized_at row len size octets.now)) }
+        (list_kept row (sized_at row len size octets.now)) }
 {
     match row {
         Some(row) => read_known(alloc, octets, row, len, size),
@@ -131,7 +131,7 @@ fn counted(
     len: u8,
 ) -> Result<(Vec<RawVector<'_>>, &[u8]), ReadErr>
     ensures { Gives (λ x. (attrs_in x.0.items, x.1.now)) left_of result
-        (kept row (counted_at row len octets.now)) }
+        (list_kept row (counted_at row len octets.now)) }
 {
     let (size, rest) = read_size(octets)?;
     let (found, rest) = sized(alloc, rest, row, len, size)?;
@@ -147,7 +147,7 @@ fn body(
     len: u8,
 ) -> Result<(Vec<RawVector<'_>>, &[u8]), ReadErr>
     ensures { Gives (λ x. (attrs_in x.0.items, x.1.now)) left_of result
-        (kept row (body_at form row len octets.now)) }
+        (list_kept row (body_at form row len octets.now)) }
 {
     match form {
         AppForm::Mvrp => list(alloc, octets, row, len),

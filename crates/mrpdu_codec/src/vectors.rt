@@ -3,7 +3,7 @@
 ghost use Rattle.std.specs.Prelude.{◌≡◌, ◌++◌, OnOk};
 ghost use Rattle.srp_base.specs.Results.{Gives};
 ghost use Rattle.mrpdu_codec.specs.Raw.{attr_in, attrs_in};
-ghost use Rattle.mrpdu_codec.specs.ReadErr.{left_of, kept, kept_attr};
+ghost use Rattle.mrpdu_codec.specs.ReadErr.{left_of, list_kept, kept_attr};
 ghost use Rattle.mrpdu_codec.specs.Reading.{vectors_of, mark_at, list_at};
 
 use crate::error::ReadErr;
@@ -37,7 +37,7 @@ pub(crate) fn vectors(
     len: u8,
 ) -> Result<(Vec<RawVector<'_>>, &[u8]), ReadErr>
     ensures { Gives (λ x. (attrs_in x.0.items, x.1.now)) left_of result
-        (kept row (vectors_of row len octets.now)) }
+        (list_kept row (vectors_of row len octets.now)) }
 {
     let mut found = Vec::new(alloc);
     let mut rest = octets;
@@ -76,7 +76,7 @@ pub(crate) fn list(
     len: u8,
 ) -> Result<(Vec<RawVector<'_>>, &[u8]), ReadErr>
     ensures { Gives (λ x. (attrs_in x.0.items, x.1.now)) left_of result
-        (kept row (list_at row len octets.now)) }
+        (list_kept row (list_at row len octets.now)) }
 {
     let (found, rest) = vectors(alloc, octets, row, len)?;
     let rest = mark(rest)?;

@@ -18,7 +18,7 @@ use Rattle.msrp_codec.specs.declared.pdu.MsrpKey.TheVariants as keys
 use Rattle.msrp_codec.specs.declared.pdu.MsrpContent.TheVariants as contents
 use Rattle.msrp.specs.declared.port.Port.{Port}
 use Rattle.msrp.specs.Part.{key_cmp, registered_talker, talker_content}
-use Rattle.msrp.specs.Stream.{Registrations, is_listened, is_talker_port, listener_at, listener_row, stated_at, talk_of, talker_at, talker_of, talkers_of, advertised, want_of_talker, wanted_at}
+use Rattle.msrp.specs.Stream.{Registrations, is_listened, is_talker_port, listener_at, listener_row, stated_at, talk_of, talker_at, talker_of, talkers_of, advertise_of, want_of_talker, wanted_at}
 use Rattle.msrp.specs.Settling.{talker_keys}
 use Rattle.msrp.specs.Side.{Streams, IsKept, IsPort, IsSettled, clocked_port, clocked_sets, clocked_streams, seen_by, shows_at}
 use Rattle.msrp.proofs.Places.{each-get, or_false}
@@ -38,7 +38,7 @@ map_twice f g (x ∷ xs) same = ap (λ y. y ∷ map f (map g xs)) (same x) ∙ a
 -- the clock changes no registration and no booking
 seen_clocked : (now : ℕ) (side : Streams) (s : StreamId) → seen_by (clocked_streams now side) s ≡ seen_by side s
 seen_clocked now side s =
-    ap (λ ts. record { talkers = advertised (talk_of s side.talks) ∷ ts; listens = is_listened s side.listens; listeners = map (listener_row s) (map (clocked_port now) side.ports) })
+    ap (λ ts. record { talkers = advertise_of (talk_of s side.talks) ∷ ts; listens = is_listened s side.listens; listeners = map (listener_row s) (map (clocked_port now) side.ports) })
     (map_twice (λ (q : Port). registered_talker s q.part) (clocked_port now) side.ports (λ q. refl))
     ∙ ap (λ ls. record { talkers = talkers_of side.talks side.ports s; listens = is_listened s side.listens; listeners = ls })
     (map_twice (listener_row s) (clocked_port now) side.ports (λ q. refl))

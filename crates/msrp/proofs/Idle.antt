@@ -16,7 +16,7 @@ use Rattle.msrp_codec.specs.declared.pdu.MsrpKey.{MsrpKey}
 use Rattle.msrp.specs.declared.port.Port.{Port}
 use Rattle.msrp.specs.Part.{Part, key_cmp}
 use Rattle.msrp.specs.Settling.{moved_streams, next_book}
-use Rattle.msrp.specs.Side.{Streams, IsKept, awaiting_at, due_streams, retold, seen_by, settled_streams, with_part}
+use Rattle.msrp.specs.Side.{Streams, IsKept, awaiting_at, due_streams, with_told_port, seen_by, settled_streams, with_part}
 use Rattle.msrp.proofs.Keeping.{none_marked, port_kept}
 use Rattle.msrp.proofs.Places.{or_false, set-same}
 use Rattle.msrp.proofs.Settled.{next_is}
@@ -61,9 +61,9 @@ module _ {K C : Type 0} (now : Cs) (s : State K C) (none : is_any_due now s ≡ 
 
 pub none-due : (side : Streams) (at : ℕ) (p : Port) → slice_get side.ports at ≡ Some p → (now : Cs) → is_any_due now p.part ≡ false → due_streams now at side ≡ side
 none-due side at p here now none =
-    rw here (ap (λ (t : Part). retold at (with_part t p) (left_keys now p.part) side) (due-none now p.part none)
-    ∙ (ap (λ (told : List MsrpKey). retold at p told side) (left-none now p.part none)
-    ∙ (ap (λ (ports : List Port). record side { ports = ports; awaiting = (retold at p [] side).awaiting }) (set-same side.ports at p here)
+    rw here (ap (λ (t : Part). with_told_port at (with_part t p) (left_keys now p.part) side) (due-none now p.part none)
+    ∙ (ap (λ (told : List MsrpKey). with_told_port at p told side) (left-none now p.part none)
+    ∙ (ap (λ (ports : List Port). record side { ports = ports; awaiting = (with_told_port at p [] side).awaiting }) (set-same side.ports at p here)
     ∙ ap (λ (sets : List (List MsrpKey)). record side { awaiting = sets }) (none_marked side.awaiting))))
 
 -- ---- no key awaits

@@ -16,9 +16,9 @@ use Rattle.msrp_codec.specs.declared.pdu.MsrpKey.TheVariants as keys
 use Rattle.msrp_codec.specs.declared.pdu.MsrpContent.TheVariants as contents
 use Rattle.msrp.specs.declared.port.Port.{Port}
 use Rattle.msrp.specs.Part.{Part, key_cmp, registered_talker, registered_listener, listener_kind_of, talker_content, HasOwnContents}
-use Rattle.msrp.specs.Stream.{Registrations, registrations_of, is_talker_port, is_ready, want_of_reg, talker_of, talker_at, listener_at, stated_at, talk_of, is_listened, talkers_of, advertised, listener_row}
+use Rattle.msrp.specs.Stream.{Registrations, registrations_of, is_talker_port, is_ready, want_of_reg, talker_of, talker_at, listener_at, stated_at, talk_of, is_listened, talkers_of, advertise_of, listener_row}
 use Rattle.msrp.specs.Settling.{all_keys_with, keys_of}
-use Rattle.msrp.specs.Side.{Streams, IsKept, IsPort, IsSettled, IsSettledAt, seen_by, at_port, retold, replaced, reasked, with_part, SameDeclared, TellsEach}
+use Rattle.msrp.specs.Side.{Streams, IsKept, IsPort, IsSettled, IsSettledAt, seen_by, at_port, with_told_port, with_port_at, with_asks, with_part, SameDeclared, TellsEach}
 use Rattle.msrp.proofs.Places.{decide, get-set_same, get-set_other, each-set, each-get, mapped_length, opened}
 use Rattle.msrp.proofs.Telling.{IsUntold, talker_untold, listener_untold, registrations-same, untold, Awaits, unmarked, was_set, talker_other, listener_other}
 
@@ -70,7 +70,7 @@ settled_changed at q p set more regs now old config ledger same fewer talker lis
 
 module _ (awaits : Awaits) (side : Streams) (kept : IsKept side) (at : ℕ) (p : Port) (here : slice_get side.ports at ≡ Some p) (t : Part) (told : List MsrpKey) (same : SameDeclared p.part t) (tells : TellsEach told p.part t) where
   abbrev after : Streams
-  after = retold at (with_part t p) told side
+  after = with_told_port at (with_part t p) told side
 
   -- a stream that isn't told is as it was
   seen_same : (s : StreamId) → IsUntold told s → seen_by after s ≡ seen_by side s
@@ -122,7 +122,7 @@ pub kept-put : Awaits → (side : Streams) → IsKept side → (at : ℕ) → at
     → AreRows key_cmp t.rows → HasOwnContents t
     → ((q : Port) → slice_get side.ports at ≡ Some q → SameDeclared q.part t)
     → ((q : Port) → slice_get side.ports at ≡ Some q → TellsEach told q.part t)
-    → IsKept (retold at (with_part t p) told side)
+    → IsKept (with_told_port at (with_part t p) told side)
 kept-put awaits side kept at below p is t told rows contents same tells =
     let here : slice_get side.ports at ≡ Some p = slice_get_read side.ports (length side.ports) at p refl below is in
     kept-retold awaits side kept at p here t told (same p here) (tells p here) rows contents
@@ -136,26 +136,26 @@ none_marked (set ∷ sets) = ap (λ ss. set ∷ ss) (none_marked sets)
 pub kept-changed : Awaits → (side : Streams) → IsKept side → (at : ℕ) → at < length side.ports → (p : Port) → p ≡ slice_index_or side.ports at p → (t : Part)
     → (AreRows key_cmp p.part.rows → AreRows key_cmp t.rows) → (AreRows key_cmp p.part.rows → HasOwnContents p.part → HasOwnContents t)
     → (AreRows key_cmp p.part.rows → SameDeclared p.part t) → (AreRows key_cmp p.part.rows → (key : MsrpKey) → registered_at key_cmp key t ≡ registered_at key_cmp key p.part)
-    → IsKept (replaced at (with_part t p) side)
+    → IsKept (with_port_at at (with_part t p) side)
 kept-changed awaits side kept at below p is t rows contents same registered =
     let here : slice_get side.ports at ≡ Some p = slice_get_read side.ports (length side.ports) at p refl below is in
     let port = each-get (IsPort side.moment) side.ports at p kept.ports here in
-    let P : List (List MsrpKey) → Type 0 = λ sets. IsKept (record (replaced at (with_part t p) side) { awaiting = sets }) in
+    let P : List (List MsrpKey) → Type 0 = λ sets. IsKept (record (with_port_at at (with_part t p) side) { awaiting = sets }) in
     subst P (none_marked side.awaiting)
     (kept-retold awaits side kept at p here t [] (same port.rows) (λ key. inr (registered port.rows key)) (rows port.rows) (contents port.rows port.contents))
 
 pub at_changed : (side : Streams) (at : ℕ) (p : Port) (t : Part) (f : Part → Part) → at < length side.ports → p ≡ slice_index_or side.ports at p → t ≡ f p.part
-    → replaced at (with_part t p) side ≡ at_port at (λ q. replaced at (with_part (f q.part) q) side) side
+    → with_port_at at (with_part t p) side ≡ at_port at (λ q. with_port_at at (with_part (f q.part) q) side) side
 at_changed side at p t f below is e =
     let here : slice_get side.ports at ≡ Some p = slice_get_read side.ports (length side.ports) at p refl below is in
     rw (here, e) refl
 
 -- the side once the port's participant was put there, by what the port had
 pub at_put : (side new : Streams) (at : ℕ) (p : Port) (t : Part) (told : List MsrpKey) (f : Part → Part) (g : Part → List MsrpKey) → slice_get side.ports at ≡ Some p
-    → IfSome (slice_get side.ports at) (λ q. new ≡ retold at (with_part t q) told side) → t ≡ f p.part → told ≡ g p.part
-    → new ≡ at_port at (λ q. retold at (with_part (f q.part) q) (g q.part) side) side
+    → IfSome (slice_get side.ports at) (λ q. new ≡ with_told_port at (with_part t q) told side) → t ≡ f p.part → told ≡ g p.part
+    → new ≡ at_port at (λ q. with_told_port at (with_part (f q.part) q) (g q.part) side) side
 at_put side new at p t told f g here is e h =
-    opened (λ q. new ≡ retold at (with_part t q) told side) (slice_get side.ports at) p here is ∙ rw (here, e, h) refl
+    opened (λ q. new ≡ with_told_port at (with_part t q) told side) (slice_get side.ports at) p here is ∙ rw (here, e, h) refl
 
 -- what every side keeps of the port at a place
 pub port_kept : (side : Streams) → IsKept side → (at : ℕ) (p : Port) → slice_get side.ports at ≡ Some p → IsPort side.moment p
@@ -166,24 +166,24 @@ port_kept side kept at p here = each-get (IsPort side.moment) side.ports at p ke
 same_seen : (talks more : List Talker) (listens less : List StreamId) (ports : List Port) (s : StreamId) → talk_of s more ≡ talk_of s talks → is_listened s less ≡ is_listened s listens
     → registrations_of more less ports s ≡ registrations_of talks listens ports s
 same_seen talks more listens less ports s e f =
-    ap (λ (o : Option Talker). record { talkers = advertised o ∷ map (λ (q : Port). registered_talker s q.part) ports; listens = is_listened s less; listeners = map (listener_row s) ports }) e
+    ap (λ (o : Option Talker). record { talkers = advertise_of o ∷ map (λ (q : Port). registered_talker s q.part) ports; listens = is_listened s less; listeners = map (listener_row s) ports }) e
     ∙ ap (λ (b : Bool). record { talkers = talkers_of talks ports s; listens = b; listeners = map (listener_row s) ports }) f
 
 pub kept-asked : Awaits → (side : Streams) → IsKept side → (x : StreamId) (talks : List Talker) (listens : List StreamId)
     → ((s : StreamId) → (s.0 == x.0) ≡ false → talk_of s talks ≡ talk_of s side.talks)
     → ((s : StreamId) → (s.0 == x.0) ≡ false → is_listened s listens ≡ is_listened s side.listens)
-    → IsKept (reasked x talks listens side)
+    → IsKept (with_asks x talks listens side)
 kept-asked awaits side kept x talks listens talk_same listen_same =
     record {
       ports = kept.ports;
       sets = mapped_length (all_marked key_cmp (keys_of x)) side.awaiting ∙ kept.sets;
       settled = λ j port set part sets.
           let old = was_set (keys_of x) side.awaiting j set sets in
-          settled_changed j port port old.set set (seen_by side) (seen_by (reasked x talks listens side)) (kept.settled j port old.set part old.there) refl refl (λ key. refl)
+          settled_changed j port port old.set set (seen_by side) (seen_by (with_asks x talks listens side)) (kept.settled j port old.set part old.there) refl refl (λ key. refl)
           (λ key out. (unmarked awaits key (keys_of x) old.set (ap (is_awaiting key_cmp key) old.is ∙ out)).1)
           (λ s out. as_before port s (talker_other x s (unmarked awaits (keys.Talker s) (keys_of x) old.set (ap (is_awaiting key_cmp (keys.Talker s)) old.is ∙ out)).0))
           (λ s out. as_before port s (listener_other x s (unmarked awaits (keys.Listener s) (keys_of x) old.set (ap (is_awaiting key_cmp (keys.Listener s)) old.is ∙ out)).0));
     }
   where
-    as_before : (q : Port) (s : StreamId) → (s.0 == x.0) ≡ false → IsAsBefore q q (seen_by side) (seen_by (reasked x talks listens side)) s
+    as_before : (q : Port) (s : StreamId) → (s.0 == x.0) ≡ false → IsAsBefore q q (seen_by side) (seen_by (with_asks x talks listens side)) s
     as_before q s other = record { seen = same_seen side.talks talks side.listens listens side.ports s (talk_same s other) (listen_same s other); listener = refl }

@@ -9,7 +9,7 @@ use Rattle.port_ledger.specs.Book.{Book, unwanted_book, want_of, wanted_book, Is
 use Rattle.attribute_propagation.specs.Dirty.{is_awaiting}
 use Rattle.msrp.proofs.KeyLemmas.{stream_is}
 use Rattle.msrp.specs.Part.{stream_cmp}
-use Rattle.msrp.specs.Settling.{book_with, book_without, entered, settled_book, taken_out}
+use Rattle.msrp.specs.Settling.{book_with, book_without, with_wants, settled_book, taken_out}
 
 -- the laws of a ledger that settling rests on
 pub record BookLaws : Type 0 where
@@ -45,11 +45,11 @@ module _ (laws : BookLaws) (wants : StreamId → Option Want) (own : (s : Stream
       let one = without_like s (wants s) book kept in
       then_like book (book_without s (wants s) book) (taken_out wants streams (book_without s (wants s) book)) one (out_like streams (book_without s (wants s) book) one.kept)
 
-  in_like : (streams : List StreamId) (book : Book) → IsKeptBook book → IsLike book (entered wants streams book)
+  in_like : (streams : List StreamId) (book : Book) → IsKeptBook book → IsLike book (with_wants wants streams book)
   in_like [] book kept = record { kept = kept; caps = refl; moment = refl }
   in_like (s ∷ streams) book kept =
       let one = with_like (wants s) book kept in
-      then_like book (book_with (wants s) book) (entered wants streams (book_with (wants s) book)) one (in_like streams (book_with (wants s) book) one.kept)
+      then_like book (book_with (wants s) book) (with_wants wants streams (book_with (wants s) book)) one (in_like streams (book_with (wants s) book) one.kept)
 
   pub settled_like : (streams : List StreamId) (book : Book) → IsKeptBook book → IsLike book (settled_book wants streams book)
   settled_like streams book kept =
@@ -117,7 +117,7 @@ module _ (laws : BookLaws) (wants : StreamId → Option Want) (own : (s : Stream
       ∙ (ap (λ (o : Option Want). cleared_where (is_awaiting stream_cmp s streams) (wants s) o) (without_one x s book)
       ∙ clear_twice (is_awaiting stream_cmp s streams) (is_eq (stream_cmp x s)) (wants s) (want_of book.entries s))
 
-  in_wants : (streams : List StreamId) (book : Book) (s : StreamId) → want_of (entered wants streams book).entries s ≡ entered_where (is_awaiting stream_cmp s streams) (wants s) (want_of book.entries s)
+  in_wants : (streams : List StreamId) (book : Book) (s : StreamId) → want_of (with_wants wants streams book).entries s ≡ entered_where (is_awaiting stream_cmp s streams) (wants s) (want_of book.entries s)
   in_wants [] book s = refl
   in_wants (x ∷ streams) book s =
       in_wants streams (book_with (wants x) book) s

@@ -19,7 +19,7 @@ use Rattle.msrp.specs.declared.asking.SrpRequest.TheVariants.{Talk, Hush, Listen
 use Rattle.msrp.specs.Part.{Part, key_cmp, HasOwnContents}
 use Rattle.msrp.specs.Stream.{is_listened, stated_at, talk_of}
 use Rattle.msrp.specs.Settling.{moved_streams, next_book, settling_keys, talker_keys}
-use Rattle.msrp.specs.Side.{Streams, clocked_port, clocked_streams, has_listen, has_talk, is_talk, listens_without, moved_keys, new_port, new_streams, reasked, replaced, requested_streams, retold, seen_by, settled_at, settled_streams, talks_without, with_part, with_port, SameDeclared, TellsEach}
+use Rattle.msrp.specs.Side.{Streams, clocked_port, clocked_streams, has_listen, has_talk, is_talk, listens_without, moved_keys, new_port, new_streams, with_asks, with_port_at, requested_streams, with_told_port, seen_by, settled_at, settled_streams, talks_without, with_part, with_port, SameDeclared, TellsEach}
 use Rattle.msrp.specs.Proper.{AreOfRange, HasRanges, IsProper, IsRequestInRange}
 use Rattle.msrp.proofs.Places.{all_filtered, each-get, each-set}
 use Rattle.msrp.proofs.Telling.{Awaits}
@@ -56,9 +56,9 @@ ranges_at side proper at p here = each-get (λ (q : Port). HasRanges q.part) sid
 module _ (awaits : Awaits) (side : Streams) (proper : IsProper side) (at : ℕ) (p : Port) (here : slice_get side.ports at ≡ Some p) where
   -- a participant takes the place of another, and tells keys
   pub proper-retold : (t : Part) (told : List MsrpKey) → AreRows key_cmp t.rows → HasOwnContents t → HasRanges t → SameDeclared p.part t → TellsEach told p.part t
-      → IsProper (retold at (with_part t p) told side)
+      → IsProper (with_told_port at (with_part t p) told side)
   proper-retold t told rows own fit same tells =
-      let after : Streams = retold at (with_part t p) told side in
+      let after : Streams = with_told_port at (with_part t p) told side in
       record {
         kept = kept-retold awaits side proper.kept at p here t told same tells rows own;
         ranges = ranges-set side proper.ranges at p here t p.ledger after.awaiting fit;
@@ -66,9 +66,9 @@ module _ (awaits : Awaits) (side : Streams) (proper : IsProper side) (at : ℕ) 
 
   -- or tells none
   pub proper-replaced : (t : Part) → AreRows key_cmp t.rows → HasOwnContents t → HasRanges t → SameDeclared p.part t → ((key : MsrpKey) → registered_at key_cmp key t ≡ registered_at key_cmp key p.part)
-      → IsProper (replaced at (with_part t p) side)
+      → IsProper (with_port_at at (with_part t p) side)
   proper-replaced t rows own fit same stays =
-      let P : List (List MsrpKey) → Type 0 = λ sets. IsProper (record (replaced at (with_part t p) side) { awaiting = sets }) in
+      let P : List (List MsrpKey) → Type 0 = λ sets. IsProper (record (with_port_at at (with_part t p) side) { awaiting = sets }) in
       subst P (none_marked side.awaiting) (proper-retold t [] rows own fit same (λ key. inr (stays key)))
 
 pub proper-at : (side : Streams) (make : Port → Streams) (o : Option Port) → IsProper side → ((p : Port) → o ≡ Some p → IsProper (make p)) → IsProper (with_port o make side)
@@ -132,7 +132,7 @@ module _ (awaits : Awaits) (side : Streams) (proper : IsProper side) where
   asked : (x : StreamId) (talks : List Talker) (listens : List StreamId) → AllByRecursion IsTalker talks
       → ((s : StreamId) → (s.0 == x.0) ≡ false → talk_of s talks ≡ talk_of s side.talks)
       → ((s : StreamId) → (s.0 == x.0) ≡ false → is_listened s listens ≡ is_listened s side.listens)
-      → IsProper (reasked x talks listens side)
+      → IsProper (with_asks x talks listens side)
   asked x talks listens fit talk_same listen_same =
       record {
         kept = kept-asked awaits side proper.kept x talks listens talk_same listen_same;

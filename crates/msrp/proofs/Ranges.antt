@@ -29,7 +29,7 @@ use Rattle.msrp_codec.specs.Content.{value_of}
 use Rattle.msrp_codec.specs.FirstValue.{IsFailure, IsFirst, IsTalker}
 use Rattle.msrp.specs.declared.port.Port.{Port}
 use Rattle.msrp.specs.Part.{Part, key_cmp, registered_talker, talker_content, talker_reg_of}
-use Rattle.msrp.specs.Stream.{advertised, fit_at, is_number, is_present, is_talker_port, stated_at, talk_of, other_listeners, talker_at, talker_of, talkers_of, want_of_talker}
+use Rattle.msrp.specs.Stream.{advertise_of, fit_at, is_number, is_present, is_talker_port, stated_at, talk_of, other_listeners, talker_at, talker_of, talkers_of, want_of_talker}
 use Rattle.msrp.specs.Side.{Streams, IsPort, seen_by}
 use Rattle.msrp.specs.Proper.{AreOfRange, HasRanges}
 use Rattle.msrp.proofs.Contents.{HoldsOfEach}
@@ -58,11 +58,11 @@ in_content s (Some (contents.Failed t f)) fit = fit (contents.Failed t f) refl
 in_content s (Some (contents.Listener kind)) fit = tt
 in_content s (Some (contents.Domain priority vid)) fit = tt
 
-in_own : (talks : List Talker) (s : StreamId) → AllByRecursion IsTalker talks → IsRegIn (advertised (talk_of s talks))
+in_own : (talks : List Talker) (s : StreamId) → AllByRecursion IsTalker talks → IsRegIn (advertise_of (talk_of s talks))
 in_own [] s all = tt
 in_own (t ∷ talks) s all = by (t.stream.0 == s.0) (in_own talks s all.1)
   where
-    by : (b : Bool) → IsRegIn (advertised (talk_of s talks)) → IsRegIn (advertised (if b then Some t else talk_of s talks))
+    by : (b : Bool) → IsRegIn (advertise_of (talk_of s talks)) → IsRegIn (advertise_of (if b then Some t else talk_of s talks))
     by true rest = all.0
     by false rest = rest
 

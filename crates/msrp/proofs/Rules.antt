@@ -28,7 +28,7 @@ use Rattle.msrp_codec.specs.declared.pdu.MsrpContent.TheVariants as contents
 use Rattle.msrp_codec.specs.Content.{Belongs}
 use Rattle.msrp.specs.declared.port.Port.{Port}
 use Rattle.msrp.specs.Part.{Part, key_cmp, stream_cmp, registered_listener, registered_talker, talker_content, talker_reg_of}
-use Rattle.msrp.specs.Stream.{advertised, fit_at, is_present, is_ready, is_talker_port, listener_at, stated_at, talk_of, talker_at, talker_of, talkers_of, want_in_class, want_of_reg, want_of_talker, wanted_at}
+use Rattle.msrp.specs.Stream.{advertise_of, fit_at, is_present, is_ready, is_talker_port, listener_at, stated_at, talk_of, talker_at, talker_of, talkers_of, want_in_class, want_of_reg, want_of_talker, wanted_at}
 use Rattle.msrp.specs.Settling.{listener_keys, stream_in, streams_in}
 use Rattle.msrp.specs.Side.{Streams, IsPort, seen_by}
 use Rattle.msrp.proofs.Places.{or_false}
@@ -59,11 +59,11 @@ of_content s (Some (contents.Failed t f)) own = own (contents.Failed t f) refl
 of_content s (Some (contents.Listener kind)) own = tt
 of_content s (Some (contents.Domain priority vid)) own = tt
 
-of_own : (talks : List Talker) (s : StreamId) → IsOf s (advertised (talk_of s talks))
+of_own : (talks : List Talker) (s : StreamId) → IsOf s (advertise_of (talk_of s talks))
 of_own [] s = tt
 of_own (t ∷ talks) s = by (t.stream.0 == s.0) refl (of_own talks s)
   where
-    by : (b : Bool) → (t.stream.0 == s.0) ≡ b → IsOf s (advertised (talk_of s talks)) → IsOf s (advertised (if b then Some t else talk_of s talks))
+    by : (b : Bool) → (t.stream.0 == s.0) ≡ b → IsOf s (advertise_of (talk_of s talks)) → IsOf s (advertise_of (if b then Some t else talk_of s talks))
     by true e rest = let n : s.0 ≡ t.stream.0 = grind (arith, nat_tests, e) in ap (λ m. record { 0 = m }) n
     by false e rest = rest
 

@@ -28,7 +28,7 @@ use Rattle.msrp_codec.specs.declared.pdu.MsrpContent.{MsrpContent}
 use Rattle.msrp_codec.specs.declared.pdu.MsrpContent.TheVariants as contents
 use Rattle.msrp.specs.declared.port.Port.{Port}
 use Rattle.msrp.specs.Part.{Part, key_cmp, stream_cmp, registered_listener, registered_talker, listener_kind_of, settled_part, talker_content, talker_reg_of}
-use Rattle.msrp.specs.Stream.{Registrations, advertised, is_listened, is_ready, is_talker_port, listener_at, listener_row, own_listener, stated_at, talk_of, talker_at, talker_of, talkers_of, want_of_reg, want_of_talker, wanted_at}
+use Rattle.msrp.specs.Stream.{Registrations, advertise_of, is_listened, is_ready, is_talker_port, listener_at, listener_row, own_listener, stated_at, talk_of, talker_at, talker_of, talkers_of, want_of_reg, want_of_talker, wanted_at}
 use Rattle.msrp.specs.Settling.{listener_keys, moved_streams, next_book, settled_book, settled_port, settling_keys, streams_in, talker_keys}
 use Rattle.msrp.specs.Side.{Streams, IsKept, IsPort, IsSettled, IsSettledAt, awaiting_at, seen_by, settled_streams}
 use Rattle.msrp.proofs.Places.{decide, each-get, each-set, get-set_other, get-set_same, map-set, map-set_same, opened, or_false}
@@ -158,7 +158,7 @@ module _ (parts : PartLaws) (books : BookLaws) (moves : MoveLaws) (awaits : Awai
 
   talkers_same : (s : StreamId) → talkers_of side.talks (slice_set side.ports at next) s ≡ talkers_of side.talks side.ports s
   talkers_same s =
-      ap (λ ts. advertised (talk_of s side.talks) ∷ ts) (map-set_same (λ (q : Port). registered_talker s q.part) side.ports at p next here (ap talker_reg_of (registered_same (keys.Talker s))))
+      ap (λ ts. advertise_of (talk_of s side.talks) ∷ ts) (map-set_same (λ (q : Port). registered_talker s q.part) side.ports at p next here (ap talker_reg_of (registered_same (keys.Talker s))))
 
   listener_same : (s : StreamId) → registered_listener s part ≡ registered_listener s p.part
   listener_same s = ap listener_kind_of (registered_same (keys.Listener s))

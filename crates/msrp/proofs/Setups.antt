@@ -13,8 +13,8 @@ use Rattle.msrp.specs.declared.asking.SrpRequest.TheVariants.{Talk, Hush, Listen
 use Rattle.msrp.specs.declared.port.Port.{Port}
 use Rattle.msrp.specs.Part.{Part, key_cmp}
 use Rattle.msrp.specs.Stream.{Registrations, talk_of, wanted_at}
-use Rattle.msrp.specs.Settling.{book_with, book_without, entered, next_book, streams_in, taken_out}
-use Rattle.msrp.specs.Side.{Streams, at_port, awaiting_at, clocked_port, clocked_streams, has_listen, has_talk, is_talk, moved_keys, replaced, requested_streams, retold, seen_by, settled_at, settled_streams, with_part, with_port}
+use Rattle.msrp.specs.Settling.{book_with, book_without, with_wants, next_book, streams_in, taken_out}
+use Rattle.msrp.specs.Side.{Streams, at_port, awaiting_at, clocked_port, clocked_streams, has_listen, has_talk, is_talk, moved_keys, with_port_at, requested_streams, with_told_port, seen_by, settled_at, settled_streams, with_part, with_port}
 use Rattle.msrp.specs.Proper.{setups_of}
 use Rattle.msrp.proofs.Places.{map-set_same, mapped_length}
 use Rattle.msrp.proofs.Clocked.{map_twice}
@@ -29,13 +29,13 @@ setups-at side make (Some p) h = h p refl
 
 -- a participant takes the place of another
 pub setups-retold : (at : ℕ) (part : Part → Part) (told : Part → List MsrpKey) (side : Streams)
-    → setups_of (at_port at (λ p. retold at (with_part (part p.part) p) (told p.part) side) side) ≡ setups_of side
+    → setups_of (at_port at (λ p. with_told_port at (with_part (part p.part) p) (told p.part) side) side) ≡ setups_of side
 setups-retold at part told side =
-    setups-at side (λ p. retold at (with_part (part p.part) p) (told p.part) side) (slice_get side.ports at) (λ p here. map-set_same setup_of side.ports at p (with_part (part p.part) p) here refl)
+    setups-at side (λ p. with_told_port at (with_part (part p.part) p) (told p.part) side) (slice_get side.ports at) (λ p here. map-set_same setup_of side.ports at p (with_part (part p.part) p) here refl)
 
-pub setups-replaced : (at : ℕ) (part : Part → Part) (side : Streams) → setups_of (at_port at (λ p. replaced at (with_part (part p.part) p) side) side) ≡ setups_of side
+pub setups-replaced : (at : ℕ) (part : Part → Part) (side : Streams) → setups_of (at_port at (λ p. with_port_at at (with_part (part p.part) p) side) side) ≡ setups_of side
 setups-replaced at part side =
-    setups-at side (λ p. replaced at (with_part (part p.part) p) side) (slice_get side.ports at) (λ p here. map-set_same setup_of side.ports at p (with_part (part p.part) p) here refl)
+    setups-at side (λ p. with_port_at at (with_part (part p.part) p) side) (slice_get side.ports at) (λ p here. map-set_same setup_of side.ports at p (with_part (part p.part) p) here refl)
 
 -- ---- settling
 
@@ -47,7 +47,7 @@ out_caps wants (s ∷ streams) book = out_caps wants streams (book_without s (wa
     by None = refl
     by (Some w) = refl
 
-in_caps : (wants : StreamId → Option Want) (streams : List StreamId) (book : Book) → (entered wants streams book).caps ≡ book.caps
+in_caps : (wants : StreamId → Option Want) (streams : List StreamId) (book : Book) → (with_wants wants streams book).caps ≡ book.caps
 in_caps wants [] book = refl
 in_caps wants (s ∷ streams) book = in_caps wants streams (book_with (wants s) book) ∙ by (wants s)
   where

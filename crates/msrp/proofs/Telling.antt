@@ -16,7 +16,7 @@ use Rattle.msrp_codec.specs.declared.pdu.MsrpKey.TheVariants as keys
 use Rattle.msrp.specs.declared.port.Port.{Port}
 use Rattle.msrp.proofs.KeyLemmas.{key_is, key_self}
 use Rattle.msrp.specs.Part.{Part, key_cmp, registered_talker, talker_reg_of}
-use Rattle.msrp.specs.Stream.{listener_row, registrations_of, talkers_of, advertised, talk_of, is_listened}
+use Rattle.msrp.specs.Stream.{listener_row, registrations_of, talkers_of, advertise_of, talk_of, is_listened}
 use Rattle.msrp.specs.Settling.{all_keys_with, keys_of}
 use Rattle.msrp.specs.Side.{TellsEach, left_key, with_part}
 use Rattle.msrp.proofs.Places.{or_false, map-set_same}
@@ -97,7 +97,7 @@ registrations-same talks listens ports at p t s here e f =
     let g : listener_row s (with_part t p) ≡ listener_row s p = rw f refl in
     let one = map-set_same (λ (q : Port). registered_talker s q.part) ports at p (with_part t p) here (ap talker_reg_of e) in
     let two = map-set_same (listener_row s) ports at p (with_part t p) here g in
-    ap (λ ts. record { talkers = advertised (talk_of s talks) ∷ ts; listens = is_listened s listens; listeners = map (listener_row s) (slice_set ports at (with_part t p)) }) one
+    ap (λ ts. record { talkers = advertise_of (talk_of s talks) ∷ ts; listens = is_listened s listens; listeners = map (listener_row s) (slice_set ports at (with_part t p)) }) one
     ∙ ap (λ ls. record { talkers = talkers_of talks ports s; listens = is_listened s listens; listeners = ls }) two
 
 -- what awaits once keys were put in

@@ -81,12 +81,12 @@ taken_out wants streams book =
     fold (λ (b : Book) (s : StreamId). book_without s (wants s) b) book streams
 
 -- the ledger with those of these streams that want bandwidth, entered in this order
-abbrev pub entered : (StreamId → Option Want) → List StreamId → Book → Book
-entered wants streams book = fold (λ (b : Book) (s : StreamId). book_with (wants s) b) book streams
+abbrev pub with_wants : (StreamId → Option Want) → List StreamId → Book → Book
+with_wants wants streams book = fold (λ (b : Book) (s : StreamId). book_with (wants s) b) book streams
 
 -- the ledger by what each of these streams wants: first those that want nothing are taken out, then the others entered
 abbrev pub settled_book : (StreamId → Option Want) → List StreamId → Book → Book
-settled_book wants streams book = entered wants streams (taken_out wants streams book)
+settled_book wants streams book = with_wants wants streams (taken_out wants streams book)
 
 -- the streams whose booking is another than before: those that are booked, and those that were
 abbrev pub moved_streams : Book → Book → List StreamId

@@ -95,16 +95,16 @@ new_streams bridge leave_time periodic ports =
     }
 
 -- the port at a place has another participant, and both keys of each stream of which it told a key await everywhere
-abbrev pub retold : ℕ → Port → List MsrpKey → Streams → Streams
-retold at port told side =
+abbrev pub with_told_port : ℕ → Port → List MsrpKey → Streams → Streams
+with_told_port at port told side =
     record side {
       ports = slice_set side.ports at port;
       awaiting = marked_everywhere key_cmp (all_keys_with told) side.awaiting;
     }
 
 -- the port at a place is another one, and nothing is told
-abbrev pub replaced : ℕ → Port → Streams → Streams
-replaced at port side = record side { ports = slice_set side.ports at port }
+abbrev pub with_port_at : ℕ → Port → Streams → Streams
+with_port_at at port side = record side { ports = slice_set side.ports at port }
 
 -- the side that is made with a port; where there is none, it stays as it is
 abbrev pub with_port : Option Port → (Port → Streams) → Streams → Streams
@@ -123,14 +123,14 @@ with_part s port = record port { part = s }
 abbrev pub received_streams : Cs → ℕ → MsrpPdu → Streams → Streams
 received_streams now at pdu side =
     at_port at
-    (λ p. retold at (with_part (received_part now pdu p.part) p) (told_by_receipt now pdu p.part) side)
+    (λ p. with_told_port at (with_part (received_part now pdu p.part) p) (told_by_receipt now pdu p.part) side)
     side
 
 -- all timers that are due at a place have fired, and the streams of the keys that left await everywhere
 abbrev pub due_streams : Cs → ℕ → Streams → Streams
 due_streams now at side =
     at_port at
-    (λ p. retold at (with_part (due_state now p.part) p) (left_keys now p.part) side)
+    (λ p. with_told_port at (with_part (due_state now p.part) p) (left_keys now p.part) side)
     side
 
 -- the leave timer of one key ends: where its registrar was LV, the key leaves
@@ -141,29 +141,29 @@ left_key key s = if is_leaving_in (find key_cmp key s.rows) then key ∷ [] else
 abbrev pub left_streams : ℕ → MsrpKey → Streams → Streams
 left_streams at key side =
     at_port at
-    (λ p. retold at (with_part (left_state key_cmp key p.part) p) (left_key key p.part) side)
+    (λ p. with_told_port at (with_part (left_state key_cmp key p.part) p) (left_key key p.part) side)
     side
 
 -- the LeaveAll timer has fired at a place: the LeaveAll machine is Active, and the timer restarts (10.7.9)
 abbrev pub leave_all_streams : Cs → ℕ → Streams → Streams
 leave_all_streams now at side =
-    at_port at (λ p. replaced at (with_part (leave_all_state now p.part) p) side) side
+    at_port at (λ p. with_port_at at (with_part (leave_all_state now p.part) p) side) side
 
 -- every Applicant at a place has taken the periodic event; the periodic timer stays as it is
 abbrev pub periodic_streams : ℕ → Streams → Streams
 periodic_streams at side =
-    at_port at (λ p. replaced at (with_part (periodic_state p.part) p) side) side
+    at_port at (λ p. with_port_at at (with_part (periodic_state p.part) p) side) side
 
 -- the participant at a place has sent its PDU
 abbrev pub sent_streams : Cs → ℕ → Streams → Streams
 sent_streams now at side =
-    at_port at (λ p. replaced at (with_part (sent_part now p.part) p) side) side
+    at_port at (λ p. with_port_at at (with_part (sent_part now p.part) p) side) side
 
 -- the participant at a place isn't sound any more, as after the loss of a PDU on its link
 abbrev pub spoilt_streams : ℕ → Streams → Streams
 spoilt_streams at side =
     at_port at
-    (λ p. let s : Part = p.part in replaced at (with_part (record s { sound = false }) p) side)
+    (λ p. let s : Part = p.part in with_port_at at (with_part (record s { sound = false }) p) side)
     side
 
 -- the keys of a set, or none where there is no set
@@ -235,8 +235,8 @@ abbrev pub listens_without : StreamId → List StreamId → List StreamId
 listens_without stream listens = filter (λ (x : StreamId). not (x.0 == stream.0)) listens
 
 -- the application's Talkers and streams are other ones, which differ at one stream, whose keys await at every port
-abbrev pub reasked : StreamId → List Talker → List StreamId → Streams → Streams
-reasked stream talks listens side =
+abbrev pub with_asks : StreamId → List Talker → List StreamId → Streams → Streams
+with_asks stream talks listens side =
     record side {
       talks = talks;
       listens = listens;
@@ -261,15 +261,15 @@ is_talk (Some was) talker = same_talker was talker
 abbrev pub requested_streams : SrpRequest → Streams → Streams
 requested_streams (Talk talker) side =
     if is_talk (talk_of talker.stream side.talks) talker then side
-    else reasked talker.stream (talker ∷ talks_without talker.stream side.talks) side.listens side
+    else with_asks talker.stream (talker ∷ talks_without talker.stream side.talks) side.listens side
 requested_streams (Hush stream) side =
-    if has_talk stream side then reasked stream (talks_without stream side.talks) side.listens side
+    if has_talk stream side then with_asks stream (talks_without stream side.talks) side.listens side
     else side
 requested_streams (Listen stream) side =
-    if has_listen stream side then side else reasked stream side.talks (stream ∷ side.listens) side
+    if has_listen stream side then side else with_asks stream side.talks (stream ∷ side.listens) side
 requested_streams (Unlisten stream) side =
     if has_listen stream side
-    then reasked stream side.talks (listens_without stream side.listens) side
+    then with_asks stream side.talks (listens_without stream side.listens) side
     else side
 
 -- ---- what a side has to do

@@ -39,9 +39,9 @@ pub record Registrations : Type 0 where
 -- ---- what is registered
 
 -- a Talker of the application is advertised
-abbrev pub advertised : Option Talker → TalkerReg
-advertised None = Absent
-advertised (Some talker) = Advertise talker
+abbrev pub advertise_of : Option Talker → TalkerReg
+advertise_of None = Absent
+advertise_of (Some talker) = Advertise talker
 
 -- the application's Talker of a stream
 abbrev pub talk_of : StreamId → List Talker → Option Talker
@@ -61,7 +61,7 @@ listener_row stream port =
 -- what is registered of a stream's Talker at each port, the application first
 abbrev pub talkers_of : List Talker → List Port → StreamId → List TalkerReg
 talkers_of talks ports stream =
-    advertised (talk_of stream talks) ∷ map (λ (p : Port). registered_talker stream p.part) ports
+    advertise_of (talk_of stream talks) ∷ map (λ (p : Port). registered_talker stream p.part) ports
 
 -- what is registered of a stream, from the application's Talkers, the streams that it listens to, and the link ports
 abbrev pub registrations_of : List Talker → List StreamId → List Port → StreamId → Registrations

@@ -6,7 +6,7 @@ ghost use Rattle.attribute_propagation.specs.Ports.{marked_everywhere, sets_with
 ghost use Rattle.msrp.specs.Part.{key_cmp};
 ghost use Rattle.msrp.specs.Settling.{keys_of};
 ghost use Rattle.msrp.specs.Stream.{talk_of, is_listened};
-ghost use Rattle.msrp.specs.Side.{IsKept, is_talk, same_talker, listens_without, reasked, requested_streams, talks_without};
+ghost use Rattle.msrp.specs.Side.{IsKept, is_talk, same_talker, listens_without, with_asks, requested_streams, talks_without};
 ghost use Rattle.msrp.specs.declared.asking.SrpRequest.TheVariants.{Talk, Hush, Listen, Unlisten};
 
 use crate::side::MsrpSide;
@@ -103,7 +103,7 @@ impl MsrpSide {
     ) -> Result<(), NoMemory>
         requires { (s : StreamId) → (s.0 == stream.0) ≡ false
             → talk_of s talks.items ≡ talk_of s self.old.talks }
-        ensures ok { OnOk result (self.new ≡ reasked stream talks.items self.old.listens self.old) }
+        ensures ok { OnOk result (self.new ≡ with_asks stream talks.items self.old.listens self.old) }
         ensures err { OnErr result (self.new ≡ self.old) }
     {
         each_key_awaits::<MsrpKey>();
@@ -122,7 +122,7 @@ impl MsrpSide {
     ) -> Result<(), NoMemory>
         requires { (s : StreamId) → (s.0 == stream.0) ≡ false
             → is_listened s listens.items ≡ is_listened s self.old.listens }
-        ensures ok { OnOk result (self.new ≡ reasked stream self.old.talks listens.items self.old) }
+        ensures ok { OnOk result (self.new ≡ with_asks stream self.old.talks listens.items self.old) }
         ensures err { OnErr result (self.new ≡ self.old) }
     {
         each_key_awaits::<MsrpKey>();

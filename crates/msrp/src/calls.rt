@@ -11,7 +11,7 @@ ghost use Rattle.msrp_codec.specs.declared.pdu.MsrpKey.TheVariants.{Talker as Ta
 ghost use Rattle.msrp.specs.declared.port.Port.{Port};
 ghost use Rattle.msrp.specs.Part.{HasOwnContents, key_cmp};
 ghost use Rattle.msrp.specs.Settling.{all_keys_with, keys_with};
-ghost use Rattle.msrp.specs.Side.{IsKept, SameDeclared, TellsEach, HasReceived, IsLinkPort, place_of, retold, with_part, received_streams, due_streams, left_streams, leave_all_streams, periodic_streams, spoilt_streams, count_of};
+ghost use Rattle.msrp.specs.Side.{IsKept, SameDeclared, TellsEach, HasReceived, IsLinkPort, place_of, with_told_port, with_part, received_streams, due_streams, left_streams, leave_all_streams, periodic_streams, spoilt_streams, count_of};
 
 use crate::app::MsrpApp;
 use crate::port::Port;
@@ -194,7 +194,7 @@ impl MsrpSide {
         requires told { (p : Port) → slice_get self.old.ports at ≡ Some p
             → TellsEach told.now p.part part }
         ensures ok { OnOk result (IfSome (slice_get self.old.ports at)
-            (λ p. self.new ≡ retold at (with_part part p) told.now self.old)) }
+            (λ p. self.new ≡ with_told_port at (with_part part p) told.now self.old)) }
         ensures err { OnErr result (self.new ≡ self.old) }
     {
         each_key_awaits::<MsrpKey>();

@@ -9,7 +9,7 @@ ghost use Rattle.msrp.specs.declared.port.Port.{Port};
 ghost use Rattle.msrp.specs.Part.{settled_as, settled_part};
 ghost use Rattle.msrp.specs.Stream.{registrations_of, stated_at, talkers_of, wanted_at};
 ghost use Rattle.msrp.specs.Side.{IsLinkPort, awaiting_at, count_of, place_of, settled_streams};
-ghost use Rattle.msrp.specs.Settling.{book_with, book_without, entered, listener_keys, moved_streams, next_book, restated_port, settled_port, settling_keys, stream_in, streams_in, taken_out, talker_key_if, talker_keys, talker_keys_from, talker_keys_in};
+ghost use Rattle.msrp.specs.Settling.{book_with, book_without, with_wants, listener_keys, moved_streams, next_book, restated_port, settled_port, settling_keys, stream_in, streams_in, taken_out, talker_key_if, talker_keys, talker_keys_from, talker_keys_in};
 
 use crate::app::MsrpApp;
 use crate::calls::{port_at, saturated};
@@ -306,7 +306,7 @@ fn enter_all(
     streams: &[StreamId],
 ) -> Result<(), NoMemory>
     ensures { OnOk result (ledger.new
-        ≡ entered (λ s. wanted_at at part.now (talkers_of talks.now ports.now s) s)
+        ≡ with_wants (λ s. wanted_at at part.now (talkers_of talks.now ports.now s) s)
         streams.now ledger.old) }
 {
     for stream in streams {

@@ -28,7 +28,7 @@ use Rattle.msrp_codec.specs.declared.pdu.MsrpPdu.{MsrpPdu}
 use Rattle.msrp_codec.specs.AttributeType.{number_of_type, type_of, length_of, type_form, all_types}
 use Rattle.msrp_codec.specs.FirstValue.{IsFirst}
 use Rattle.msrp_codec.specs.Content.{type_of_content, Belongs, octets_of_type, octets_of, value_of}
-use Rattle.msrp_codec.specs.Meaning.{KeyEvent, typed_events, message_events, vector_events, meaning, is_in_range, are_in_range, message_in_range, judged, read_as, msrp_reading}
+use Rattle.msrp_codec.specs.Meaning.{KeyEvent, typed_events, message_events, vector_events, meaning, is_in_range, are_in_range, message_in_range, meaning_or_place, read_as, msrp_reading}
 use Rattle.msrp_codec.specs.Writing.{has_type, of_type, event_vector, leave_vector, type_vectors, messages_for, type_messages, list_size, pdu_for, msrp_spelling, in_type_order, as_written, stated_octets, IsWritable}
 use Rattle.msrp_codec.proofs.WritingLemmas.{vectors_more, all_later}
 use Rattle.msrp_codec.proofs.SizeLemmas.{same_type, list_sized}
@@ -196,7 +196,7 @@ module _ (back : (n number : ℕ) → number < 256 ^ n → number_of (bytes_high
   pub reads_again : reading Msrp (msrp_spelling read) ≡ Ok (pdu_for read) → msrp_reading (msrp_spelling read) ≡ Ok (as_written read)
   reads_again e =
       ap (read_as (msrp_spelling read)) e
-      ∙ ap (judged (msrp_spelling read) (pdu_for read)) (past_all 0 (pdu_for read).messages in_range)
+      ∙ ap (meaning_or_place (msrp_spelling read) (pdu_for read)) (past_all 0 (pdu_for read).messages in_range)
       ∙ ap (λ (m : MsrpPdu). let x : Result MsrpPdu ℕ = Ok m in x) meaning_again
 
 -- ---- it can be written

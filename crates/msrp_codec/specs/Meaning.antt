@@ -158,13 +158,13 @@ abbrev pub place_in : List ℕ → ℕ × ℕ → ℕ
 place_in octets x = unwrap_or (place_of (first_places Msrp octets) x.0 x.1) 0
 
 -- what a PDU that was read says, unless a value passes the end of its field
-abbrev pub judged : List ℕ → Pdu → Option (ℕ × ℕ) → Result MsrpPdu ℕ
-judged octets pdu None = Ok (meaning pdu)
-judged octets pdu (Some x) = Err (place_in octets x)
+abbrev pub meaning_or_place : List ℕ → Pdu → Option (ℕ × ℕ) → Result MsrpPdu ℕ
+meaning_or_place octets pdu None = Ok (meaning pdu)
+meaning_or_place octets pdu (Some x) = Err (place_in octets x)
 
 -- what the octets say by their reading as an MRPDU; where the grammar breaks, the place of that
 abbrev pub read_as : List ℕ → Result Pdu ℕ → Result MsrpPdu ℕ
-read_as octets (Ok pdu) = judged octets pdu (first_past 0 pdu.messages)
+read_as octets (Ok pdu) = meaning_or_place octets pdu (first_past 0 pdu.messages)
 read_as octets (Err place) = Err place
 
 -- The reading of the octets of an MRPDU of MSRP: what they say, or the place where they are malformed.

@@ -56,8 +56,8 @@ talker_in (Advertise talker) = Some talker
 talker_in (Failed talker failure) = Some talker
 
 -- what a Talker states of its stream: all but the latency so far
-abbrev pub stated : Option Talker → Option Talker
-stated talker = option_map (λ (t : Talker). record t { latency = 0 }) talker
+abbrev pub statement_of : Option Talker → Option Talker
+statement_of talker = option_map (λ (t : Talker). record t { latency = 0 }) talker
 
 -- a declared failure is the one that was registered
 abbrev pub IsCarriedOn : TalkerReg → Failure → Type 0

@@ -9,7 +9,7 @@ ghost use Rattle.srp_base.specs.declared.streams.TalkerReg.TheVariants.{Absent, 
 ghost use Rattle.stream_importance.specs.declared.entry.Fit.{Fit};
 ghost use Rattle.stream_importance.specs.declared.entry.Fit.TheVariants.{Fits};
 ghost use Rattle.msrp_talker.specs.declared.port_config.PortConfig.{PortConfig};
-ghost use Rattle.msrp_talker.specs.TalkerOut.{check_of, code_of, delayed_by, IsCarriedOn, IsOfPort, refusal_of, stated, talker_in, talker_out};
+ghost use Rattle.msrp_talker.specs.TalkerOut.{check_of, code_of, delayed_by, IsCarriedOn, IsOfPort, refusal_of, statement_of, talker_in, talker_out};
 
 /// A Talker is advertised onwards exactly where it is advertised, `check` finds nothing, and it fits.
 pub fn advertised_where_it_fits()
@@ -42,7 +42,7 @@ pub fn only_the_latency_changes()
     ensures absent { (reg : TalkerReg) (config : PortConfig) (fit : Fit)
         → (talker_out reg config fit ≡ Absent) ↔ (reg ≡ Absent) }
     ensures stated { (reg : TalkerReg) (config : PortConfig) (fit : Fit)
-        → stated (talker_in (talker_out reg config fit)) ≡ stated (talker_in reg) }
+        → statement_of (talker_in (talker_out reg config fit)) ≡ statement_of (talker_in reg) }
     ensures checked { (talker : Talker) (latency : ℕ)
         → check_of (delayed_by latency talker) ≡ check_of talker }
 {}

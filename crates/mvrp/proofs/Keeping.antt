@@ -12,12 +12,12 @@ use Rattle.srp_base.specs.declared.ports.PortSetup.{PortSetup}
 use Rattle.mrp_participant.specs.Lookup.{find, same}
 use Rattle.mrp_participant.specs.Row.{is_leaving_in}
 use Rattle.mrp_participant.specs.State.{AreRows, new_state, left_state, registered_at}
-use Rattle.attribute_propagation.specs.Dirty.{is_awaiting, all_marked, marked, cleared, IsAscending}
+use Rattle.attribute_propagation.specs.Dirty.{is_awaiting, all_marked, with_key, without_key, IsAscending}
 use Rattle.attribute_propagation.specs.Flat.{is_any, elsewhere}
 use Rattle.attribute_propagation.specs.Ports.{marked_from, marked_elsewhere, marked_everywhere}
 use Rattle.std.proofs.lemmas.Option.{slice_get-get_or, slice_get_read}
 use Rattle.mvrp.specs.Part.{Part, declares, registers}
-use Rattle.mvrp.specs.Side.{Vlans, IsKept, IsFlatAt, is_flat, has_own, places_of, new_vlans, retold, replaced, at_part, left_vids, SameDeclared, TellsEach}
+use Rattle.mvrp.specs.Side.{Vlans, IsKept, IsFlatAt, is_flat, has_own, places_of, new_vlans, with_told_part, with_part_at, at_part, left_vids, SameDeclared, TellsEach}
 use Rattle.mvrp.proofs.Places.{get-set_same, get-set_other, map-set, map-set_same, elsewhere-set, kept_or_marked, get-marked, length-marked, each-set, each-get}
 
 -- one number is another, or not
@@ -84,14 +84,14 @@ module _ (side : Vlans) (kept : IsKept side) (at : ℕ) (s : Part) (here : slice
       ap (λ bs. elsewhere (suc j) (has_own vid side ∷ bs)) (map-set_same (registers vid) side.parts at s t here e)
 
   module _ (awaits : Awaits) (t : Part) (told : List ℕ) (same : SameDeclared s t) (tells : TellsEach told s t) where
-    retold_here : IsFlatAt (retold at t told side) at
+    retold_here : IsFlatAt (with_told_part at t told side) at
     retold_here p vids vid part set out =
         ap (declares vid) (sym (get-set_same side.parts at t p part))
         ∙ (ap is_some (same vid)
         ∙ (kept.flat at s vids vid here (marked_here at told vids side.awaiting set) out
         ∙ sym (flat_here t (marked_elsewhere nat_cmp at told side.awaiting) vid)))
 
-    retold_there : (j : ℕ) → at ≢ j → IsFlatAt (retold at t told side) j
+    retold_there : (j : ℕ) → at ≢ j → IsFlatAt (with_told_part at t told side) j
     retold_there j ne p vids vid part set out =
         let old = marked_there at j told vids side.awaiting ne set in
         let outs = or_false (is_awaiting nat_cmp vid told) (is_awaiting nat_cmp vid old.0)
@@ -99,12 +99,12 @@ module _ (side : Vlans) (kept : IsKept side) (at : ℕ) (s : Part) (here : slice
         kept.flat j p old.0 vid (sym (get-set_other side.parts at j t ne) ∙ part) old.1 outs.1
         ∙ sym (flat_there t (marked_elsewhere nat_cmp at told side.awaiting) j vid (untold told s t vid tells outs.0))
 
-    retold_flat : (j : ℕ) → (at ≡ j) ⊎ (at ≢ j) → IsFlatAt (retold at t told side) j
-    retold_flat j (inl e) = let P : ℕ → Type 0 = λ k. IsFlatAt (retold at t told side) k in subst P e retold_here
+    retold_flat : (j : ℕ) → (at ≡ j) ⊎ (at ≢ j) → IsFlatAt (with_told_part at t told side) j
+    retold_flat j (inl e) = let P : ℕ → Type 0 = λ k. IsFlatAt (with_told_part at t told side) k in subst P e retold_here
     retold_flat j (inr ne) = retold_there j ne
 
     -- a participant that declares the same takes the place, and what it tells awaits elsewhere
-    pub kept-retold : AreRows nat_cmp t.rows → IsKept (retold at t told side)
+    pub kept-retold : AreRows nat_cmp t.rows → IsKept (with_told_part at t told side)
     kept-retold rows =
         record {
           rows = each-set (λ p. AreRows nat_cmp p.rows) side.parts at t rows kept.rows;
@@ -141,7 +141,7 @@ leaving_told s vid v law = by (same nat_cmp vid v) (is_leaving_in (find nat_cmp 
 pub kept-put : Awaits → (side : Vlans) → IsKept side → (at : ℕ) → at < length side.parts → (t : Part) (told : List ℕ) → AreRows nat_cmp t.rows
     → ((s : Part) → slice_get side.parts at ≡ Some s → SameDeclared s t)
     → ((s : Part) → slice_get side.parts at ≡ Some s → TellsEach told s t)
-    → IsKept (retold at t told side)
+    → IsKept (with_told_part at t told side)
 kept-put awaits side kept at below t told rows same tells =
     let s = slice_index_or side.parts at t in
     let here : slice_get side.parts at ≡ Some s = slice_get-get_or side.parts at t below in
@@ -160,16 +160,16 @@ marked-none (set ∷ sets) n at = ap (λ s. s ∷ marked_from (n + 1) nat_cmp at
 pub kept-changed : Awaits → (side : Vlans) → IsKept side → (at : ℕ) → at < length side.parts → (x t : Part)
     → x ≡ slice_index_or side.parts at x → (AreRows nat_cmp x.rows → AreRows nat_cmp t.rows)
     → (AreRows nat_cmp x.rows → SameDeclared x t) → (AreRows nat_cmp x.rows → (vid : ℕ) → registered_at nat_cmp vid t ≡ registered_at nat_cmp vid x)
-    → IsKept (replaced at t side)
+    → IsKept (with_part_at at t side)
 kept-changed awaits side kept at below x t is rows declared registered =
     let here : slice_get side.parts at ≡ Some x = slice_get_read side.parts (length side.parts) at x refl below is in
     let x_rows : AreRows nat_cmp x.rows = each-get (λ p. AreRows nat_cmp p.rows) side.parts at x kept.rows here in
-    let P : List (List ℕ) → Type 0 = λ sets. IsKept (record (replaced at t side) { awaiting = sets }) in
+    let P : List (List ℕ) → Type 0 = λ sets. IsKept (record (with_part_at at t side) { awaiting = sets }) in
     subst P (marked-none side.awaiting 0 at)
     (kept-retold side kept at x here awaits t [] (declared x_rows) (λ vid. inr (registered x_rows vid)) (rows x_rows))
 
 pub at_changed : (side : Vlans) (at : ℕ) (x t : Part) (f : Part → Part) → at < length side.parts → x ≡ slice_index_or side.parts at x → t ≡ f x
-    → replaced at t side ≡ at_part at (λ s. replaced at (f s) side) side
+    → with_part_at at t side ≡ at_part at (λ s. with_part_at at (f s) side) side
 at_changed side at x t f below is e =
     let here : slice_get side.parts at ≡ Some x = slice_get_read side.parts (length side.parts) at x refl below is in
     rw (here, e) refl
@@ -215,10 +215,10 @@ kept-own awaits side kept vid own up stays =
     }
 
 pub kept-requested : (awaits : Awaits)
-    → ((k x : ℕ) (keys : List ℕ) → is_awaiting nat_cmp k (marked nat_cmp x keys) ≡ (is_eq (nat_cmp x k) || is_awaiting nat_cmp k keys))
-    → ((k x : ℕ) (keys : List ℕ) → is_awaiting nat_cmp k (cleared nat_cmp x keys) ≡ (not (is_eq (nat_cmp x k)) && is_awaiting nat_cmp k keys))
+    → ((k x : ℕ) (keys : List ℕ) → is_awaiting nat_cmp k (with_key nat_cmp x keys) ≡ (is_eq (nat_cmp x k) || is_awaiting nat_cmp k keys))
+    → ((k x : ℕ) (keys : List ℕ) → is_awaiting nat_cmp k (without_key nat_cmp x keys) ≡ (not (is_eq (nat_cmp x k)) && is_awaiting nat_cmp k keys))
     → (side : Vlans) → IsKept side → (vid : ℕ) (declared : Bool) (own : List ℕ) (sets : List (List ℕ)) → IsAscending nat_cmp own
-    → own ≡ (if declared then marked nat_cmp vid side.own else cleared nat_cmp vid side.own)
+    → own ≡ (if declared then with_key nat_cmp vid side.own else without_key nat_cmp vid side.own)
     → sets ≡ marked_everywhere nat_cmp (vid ∷ []) side.awaiting
     → IsKept (record side { own = own; awaiting = sets })
 kept-requested awaits marks clears side kept vid true own sets up is all =
@@ -226,7 +226,7 @@ kept-requested awaits marks clears side kept vid true own sets up is all =
 kept-requested awaits marks clears side kept vid false own sets up is all =
     rw all (kept-own awaits side kept vid own up (λ v ne. ap (is_awaiting nat_cmp v) is ∙ (clears v vid side.own ∙ no_and _ _ ne)))
 
-pub retold_as : (at : ℕ) (s t : Part) (told told' : List ℕ) (side : Vlans) → s ≡ t → told ≡ told' → retold at s told side ≡ retold at t told' side
+pub retold_as : (at : ℕ) (s t : Part) (told told' : List ℕ) (side : Vlans) → s ≡ t → told ≡ told' → with_told_part at s told side ≡ with_told_part at t told' side
 retold_as at s t told told' side e f = rw (e, f) refl
 
 -- what holds of an option holds of its value

@@ -9,7 +9,7 @@ use Rattle.mrp_participant.specs.declared.row.Row.{Row}
 use Rattle.mrp_participant.specs.Lookup.{find, ChangesOnly}
 use Rattle.mrp_participant.specs.Row.{after_declare, after_withdraw}
 use Rattle.mrp_participant.specs.State.{AreRows, new_state, declared_state, withdrawn_state}
-use Rattle.attribute_propagation.specs.Dirty.{IsAscending, is_awaiting, marked, cleared}
+use Rattle.attribute_propagation.specs.Dirty.{IsAscending, is_awaiting, with_key, without_key}
 use Rattle.attribute_propagation.specs.Ports.{marked_everywhere}
 use Rattle.mvrp_codec.specs.Writing.{AreVids}
 use Rattle.mvrp.specs.Part.{Part, same_content, settled_vid, settled_part}
@@ -117,26 +117,26 @@ one_alone vid own v is = by (is_eq (nat_cmp vid v)) refl is
     by false e i = cc
 
 module _ (awaits : Awaits)
-    (marks : (k x : ℕ) (keys : List ℕ) → is_awaiting nat_cmp k (marked nat_cmp x keys) ≡ (is_eq (nat_cmp x k) || is_awaiting nat_cmp k keys))
-    (clears : (k x : ℕ) (keys : List ℕ) → is_awaiting nat_cmp k (cleared nat_cmp x keys) ≡ (not (is_eq (nat_cmp x k)) && is_awaiting nat_cmp k keys))
-    (marks_up : (x : ℕ) (keys : List ℕ) → IsAscending nat_cmp keys → IsAscending nat_cmp (marked nat_cmp x keys))
-    (clears_up : (x : ℕ) (keys : List ℕ) → IsAscending nat_cmp keys → IsAscending nat_cmp (cleared nat_cmp x keys))
+    (marks : (k x : ℕ) (keys : List ℕ) → is_awaiting nat_cmp k (with_key nat_cmp x keys) ≡ (is_eq (nat_cmp x k) || is_awaiting nat_cmp k keys))
+    (clears : (k x : ℕ) (keys : List ℕ) → is_awaiting nat_cmp k (without_key nat_cmp x keys) ≡ (not (is_eq (nat_cmp x k)) && is_awaiting nat_cmp k keys))
+    (marks_up : (x : ℕ) (keys : List ℕ) → IsAscending nat_cmp keys → IsAscending nat_cmp (with_key nat_cmp x keys))
+    (clears_up : (x : ℕ) (keys : List ℕ) → IsAscending nat_cmp keys → IsAscending nat_cmp (without_key nat_cmp x keys))
     (vid : ℕ) (side : Vlans) (named : IsVid vid) (proper : IsProper side) where
-  marked_alone : HasVidsAlone (marked nat_cmp vid side.own)
+  marked_alone : HasVidsAlone (with_key nat_cmp vid side.own)
   marked_alone v is = by (or_true (is_eq (nat_cmp vid v)) (is_awaiting nat_cmp v side.own) (sym (marks v vid side.own) ∙ is))
     where
       by : (is_eq (nat_cmp vid v) ≡ true) ⊎ (is_awaiting nat_cmp v side.own ≡ true) → IsVid v
       by (inl e) = subst IsVid (same_number vid v e) named
       by (inr e) = proper.vids.own v e
 
-  cleared_alone : HasVidsAlone (cleared nat_cmp vid side.own)
+  cleared_alone : HasVidsAlone (without_key nat_cmp vid side.own)
   cleared_alone v is = proper.vids.own v (right (not (is_eq (nat_cmp vid v))) (is_awaiting nat_cmp v side.own) (sym (clears v vid side.own) ∙ is))
     where
       right : (a b : Bool) → (a && b) ≡ true → b ≡ true
       right true b h = h
       right false b h = cc
 
-  asked : (declared : Bool) (own : List ℕ) → IsAscending nat_cmp own → own ≡ (if declared then marked nat_cmp vid side.own else cleared nat_cmp vid side.own) → HasVidsAlone own
+  asked : (declared : Bool) (own : List ℕ) → IsAscending nat_cmp own → own ≡ (if declared then with_key nat_cmp vid side.own else without_key nat_cmp vid side.own) → HasVidsAlone own
       → IsProper (record side { own = own; awaiting = marked_everywhere nat_cmp (vid ∷ []) side.awaiting })
   asked declared own up is alone =
       record {
@@ -149,8 +149,8 @@ module _ (awaits : Awaits)
   chosen false x y h k = k
 
   pub proper-requested : (declared : Bool) → IsProper (requested_vlans vid declared side)
-  proper-requested true = chosen (has_own vid side) _ _ proper (asked true (marked nat_cmp vid side.own) (marks_up vid side.own proper.kept.own) refl marked_alone)
-  proper-requested false = chosen (has_own vid side) _ _ (asked false (cleared nat_cmp vid side.own) (clears_up vid side.own proper.kept.own) refl cleared_alone) proper
+  proper-requested true = chosen (has_own vid side) _ _ proper (asked true (with_key nat_cmp vid side.own) (marks_up vid side.own proper.kept.own) refl marked_alone)
+  proper-requested false = chosen (has_own vid side) _ _ (asked false (without_key nat_cmp vid side.own) (clears_up vid side.own proper.kept.own) refl cleared_alone) proper
 
 -- ---- what is sent
 

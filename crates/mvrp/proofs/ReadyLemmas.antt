@@ -8,7 +8,7 @@ use Rattle.mrp_participant.specs.Lookup.{key_of}
 use Rattle.mrp_participant.specs.Row.{leave_is_due, after_leave_due}
 use Rattle.mrp_participant.specs.State.{is_any_due, is_leave_all_due, is_periodic_due, leave_all_state, periodic_fired_state, due_leave_all_state, due_periodic_state, due_state, due_count, left_keys}
 use Rattle.mvrp.specs.Part.{Part}
-use Rattle.mvrp.specs.Side.{Vlans, retold, due_vlans, settled_vlans}
+use Rattle.mvrp.specs.Side.{Vlans, with_told_part, due_vlans, settled_vlans}
 use Rattle.mvrp.proofs.Keeping.{or_false, marked-none}
 
 abbrev R : Type 0
@@ -56,15 +56,15 @@ set-same (y ∷ xs) zero x h = let same : y ≡ x = cc in ap (λ z. z ∷ xs) (s
 set-same (y ∷ xs) (suc i) x h = ap (λ ys. y ∷ ys) (set-same xs i x h)
 
 module _ (side : Vlans) (at : ℕ) (s : Part) (here : slice_get side.parts at ≡ Some s) where
-  retold-same : retold at s [] side ≡ side
+  retold-same : with_told_part at s [] side ≡ side
   retold-same =
-      ap (λ parts. record side { parts = parts; awaiting = (retold at s [] side).awaiting }) (set-same side.parts at s here)
+      ap (λ parts. record side { parts = parts; awaiting = (with_told_part at s [] side).awaiting }) (set-same side.parts at s here)
       ∙ ap (λ sets. record side { awaiting = sets }) (marked-none side.awaiting 0 at)
 
   pub none-due : (now : Cs) → is_any_due now s ≡ false → due_vlans now at side ≡ side
   none-due now none =
-      rw here (ap (λ t. retold at t (left_keys now s) side) (due-none now s none)
-      ∙ (ap (λ told. retold at s told side) (left-none now s none) ∙ retold-same))
+      rw here (ap (λ t. with_told_part at t (left_keys now s) side) (due-none now s none)
+      ∙ (ap (λ told. with_told_part at s told side) (left-none now s none) ∙ retold-same))
 
 pub none-awaits : (side : Vlans) (at : ℕ) → slice_get side.awaiting at ≡ Some [] → settled_vlans at side ≡ side
 none-awaits side at set = by (slice_get side.parts at) refl

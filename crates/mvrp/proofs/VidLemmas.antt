@@ -13,7 +13,7 @@ use Rattle.attribute_propagation.specs.Dirty.{is_awaiting, all_marked}
 use Rattle.attribute_propagation.specs.Ports.{marked_elsewhere, marked_everywhere}
 use Rattle.mvrp_codec.specs.Writing.{AreVids}
 use Rattle.mvrp.specs.Part.{Part}
-use Rattle.mvrp.specs.Side.{Vlans, with_part, retold, replaced, left_vids, SameDeclared, TellsEach}
+use Rattle.mvrp.specs.Side.{Vlans, with_part, with_told_part, with_part_at, left_vids, SameDeclared, TellsEach}
 use Rattle.mvrp.specs.Vids.{IsVid, HasVidRows, HasVidsAlone, IsProper}
 use Rattle.mvrp.proofs.Places.{get-set_same, get-set_other, kept_or_marked, get-marked}
 use Rattle.mvrp.proofs.Keeping.{Awaits, decide, kept-retold, marked-none}
@@ -68,7 +68,7 @@ everywhere_alone awaits told (set ∷ sets) h hs (suc j) vids get = everywhere_a
 
 module _ (awaits : Awaits) (side : Vlans) (proper : IsProper side) (at : ℕ) (s : Part) (here : slice_get side.parts at ≡ Some s) where
   -- a participant takes the place of another, and tells VIDs
-  pub proper-retold : (t : Part) (told : List ℕ) → AreRows nat_cmp t.rows → SameDeclared s t → TellsEach told s t → HasVidRows t → HasVidsAlone told → IsProper (retold at t told side)
+  pub proper-retold : (t : Part) (told : List ℕ) → AreRows nat_cmp t.rows → SameDeclared s t → TellsEach told s t → HasVidRows t → HasVidsAlone told → IsProper (with_told_part at t told side)
   proper-retold t told rows same tells own alone =
       record {
         kept = kept-retold side proper.kept at s here awaits t told same tells rows;
@@ -80,9 +80,9 @@ module _ (awaits : Awaits) (side : Vlans) (proper : IsProper side) (at : ℕ) (s
       }
 
   -- or tells none
-  pub proper-replaced : (t : Part) → AreRows nat_cmp t.rows → SameDeclared s t → ((vid : ℕ) → registered_at nat_cmp vid t ≡ registered_at nat_cmp vid s) → HasVidRows t → IsProper (replaced at t side)
+  pub proper-replaced : (t : Part) → AreRows nat_cmp t.rows → SameDeclared s t → ((vid : ℕ) → registered_at nat_cmp vid t ≡ registered_at nat_cmp vid s) → HasVidRows t → IsProper (with_part_at at t side)
   proper-replaced t rows same stays own =
-      let P : List (List ℕ) → Type 0 = λ sets. IsProper (record (replaced at t side) { awaiting = sets }) in
+      let P : List (List ℕ) → Type 0 = λ sets. IsProper (record (with_part_at at t side) { awaiting = sets }) in
       subst P (marked-none side.awaiting 0 at)
       (proper-retold t [] rows same (λ vid. inr (stays vid)) own (λ vid e. absurd (cc)))
 

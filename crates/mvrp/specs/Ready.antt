@@ -18,6 +18,6 @@ parts_with at None parts = parts
 parts_with at (Some s) parts = slice_set parts at s
 
 -- the side once the step is done
-abbrev pub applied : ReadyPort → Vlans → Vlans
-applied r side =
+abbrev pub with_ready : ReadyPort → Vlans → Vlans
+with_ready r side =
     record side { parts = parts_with r.at r.part side.parts; awaiting = sets_with r.awaiting side.awaiting }

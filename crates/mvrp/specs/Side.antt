@@ -14,7 +14,7 @@ use Rattle.mrpdu_codec.specs.declared.error.DecodeErr.TheVariants as errors
 use Rattle.mrp_participant.specs.Lookup.{find}
 use Rattle.mrp_participant.specs.Row.{is_leaving_in}
 use Rattle.mrp_participant.specs.State.{AreRows, is_silent, is_still, is_any_due, declared_at, registered_at, new_state, left_state, left_keys, due_state, leave_all_state, periodic_state}
-use Rattle.attribute_propagation.specs.Dirty.{IsAscending, is_awaiting, marked, cleared}
+use Rattle.attribute_propagation.specs.Dirty.{IsAscending, is_awaiting, with_key, without_key}
 use Rattle.attribute_propagation.specs.Flat.{elsewhere}
 use Rattle.attribute_propagation.specs.Ports.{marked_elsewhere, marked_everywhere}
 use Rattle.mvrp.specs.Part.{Part, received_part, told_by_receipt, pdu_sent, sent_part, declares, registers, settled_part}
@@ -59,13 +59,13 @@ new_vlans leave_time periodic ports =
     record { parts = map (λ p. new_state p.period leave_time periodic) ports; awaiting = map (λ _. []) ports; own = [] }
 
 -- a participant has become another and has told VIDs, which await at every other port
-abbrev pub retold : ℕ → Part → List ℕ → Vlans → Vlans
-retold at s vids side =
+abbrev pub with_told_part : ℕ → Part → List ℕ → Vlans → Vlans
+with_told_part at s vids side =
     record side { parts = slice_set side.parts at s; awaiting = marked_elsewhere nat_cmp at vids side.awaiting }
 
 -- a participant has become another and has told none
-abbrev pub replaced : ℕ → Part → Vlans → Vlans
-replaced at s side = record side { parts = slice_set side.parts at s }
+abbrev pub with_part_at : ℕ → Part → Vlans → Vlans
+with_part_at at s side = record side { parts = slice_set side.parts at s }
 
 -- the side that is made with a participant; where there is none, it stays as it is
 abbrev pub with_part : Option Part → (Part → Vlans) → Vlans → Vlans
@@ -79,11 +79,11 @@ at_part at make side = with_part (slice_get side.parts at) make side
 -- the participant at a place received a PDU, and the VIDs whose registration that changed await at every other port
 abbrev pub received_vlans : Cs → ℕ → MvrpPdu → Vlans → Vlans
 received_vlans now at pdu side =
-    at_part at (λ s. retold at (received_part now pdu s) (told_by_receipt now pdu s) side) side
+    at_part at (λ s. with_told_part at (received_part now pdu s) (told_by_receipt now pdu s) side) side
 
 -- all timers that are due at a place have fired, and the VIDs that left await at every other port
 abbrev pub due_vlans : Cs → ℕ → Vlans → Vlans
-due_vlans now at side = at_part at (λ s. retold at (due_state now s) (left_keys now s) side) side
+due_vlans now at side = at_part at (λ s. with_told_part at (due_state now s) (left_keys now s) side) side
 
 -- the leave timer of one VID ends: where its registrar was LV, the VID leaves
 abbrev pub left_vids : ℕ → Part → List ℕ
@@ -91,23 +91,23 @@ left_vids vid s = if is_leaving_in (find nat_cmp vid s.rows) then vid ∷ [] els
 
 -- the leave timer of one VID has ended at a place, and where the VID left, it awaits at every other port
 abbrev pub left_vlans : ℕ → ℕ → Vlans → Vlans
-left_vlans at vid side = at_part at (λ s. retold at (left_state nat_cmp vid s) (left_vids vid s) side) side
+left_vlans at vid side = at_part at (λ s. with_told_part at (left_state nat_cmp vid s) (left_vids vid s) side) side
 
 -- the LeaveAll timer has fired at a place: the LeaveAll machine is Active, and the timer restarts (10.7.9)
 abbrev pub leave_all_vlans : Cs → ℕ → Vlans → Vlans
-leave_all_vlans now at side = at_part at (λ s. replaced at (leave_all_state now s) side) side
+leave_all_vlans now at side = at_part at (λ s. with_part_at at (leave_all_state now s) side) side
 
 -- every Applicant at a place has taken the periodic event; the periodic timer stays as it is
 abbrev pub periodic_vlans : ℕ → Vlans → Vlans
-periodic_vlans at side = at_part at (λ s. replaced at (periodic_state s) side) side
+periodic_vlans at side = at_part at (λ s. with_part_at at (periodic_state s) side) side
 
 -- the participant at a place has sent its PDU
 abbrev pub sent_vlans : Cs → ℕ → Vlans → Vlans
-sent_vlans now at side = at_part at (λ s. replaced at (sent_part now s) side) side
+sent_vlans now at side = at_part at (λ s. with_part_at at (sent_part now s) side) side
 
 -- the participant at a place isn't sound any more, as after the loss of a PDU on its link
 abbrev pub spoilt_vlans : ℕ → Vlans → Vlans
-spoilt_vlans at side = at_part at (λ s. replaced at (record s { sound = false }) side) side
+spoilt_vlans at side = at_part at (λ s. with_part_at at (record s { sound = false }) side) side
 
 -- the VIDs of a set, or none where there is no set
 abbrev pub vids_or_none : Option (List ℕ) → List ℕ
@@ -129,10 +129,10 @@ settled_vlans at side = at_part at (λ s. record side {
 abbrev pub requested_vlans : ℕ → Bool → Vlans → Vlans
 requested_vlans vid true side =
     if has_own vid side then side
-    else record side { own = marked nat_cmp vid side.own; awaiting = marked_everywhere nat_cmp (vid ∷ []) side.awaiting }
+    else record side { own = with_key nat_cmp vid side.own; awaiting = marked_everywhere nat_cmp (vid ∷ []) side.awaiting }
 requested_vlans vid false side =
     if has_own vid side
-    then record side { own = cleared nat_cmp vid side.own; awaiting = marked_everywhere nat_cmp (vid ∷ []) side.awaiting }
+    then record side { own = without_key nat_cmp vid side.own; awaiting = marked_everywhere nat_cmp (vid ∷ []) side.awaiting }
     else side
 
 -- ---- what a side has to do

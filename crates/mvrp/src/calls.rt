@@ -7,10 +7,10 @@ ghost use Rattle.mvrp_codec.specs.Writing.{mvrp_spelling};
 ghost use Rattle.mrp_participant.specs.Lookup.{find};
 ghost use Rattle.mrp_participant.specs.Row.{is_leaving_in};
 ghost use Rattle.mrp_participant.specs.State.{AreRows, due_state, due_count, left_keys, left_state, leave_all_state, periodic_state, is_silent};
-ghost use Rattle.attribute_propagation.specs.Dirty.{marked, cleared};
+ghost use Rattle.attribute_propagation.specs.Dirty.{with_key, without_key};
 ghost use Rattle.attribute_propagation.specs.Ports.{marked_elsewhere};
 ghost use Rattle.mvrp.specs.Part.{Part, messages, pdu_sent};
-ghost use Rattle.mvrp.specs.Side.{IsKept, SameDeclared, TellsEach, HasReceived, IsLinkPort, place_of, has_own, retold, received_vlans, due_vlans, left_vlans, left_vids, leave_all_vlans, periodic_vlans, sent_vlans, spoilt_vlans, requested_vlans, count_of};
+ghost use Rattle.mvrp.specs.Side.{IsKept, SameDeclared, TellsEach, HasReceived, IsLinkPort, place_of, has_own, with_told_part, received_vlans, due_vlans, left_vlans, left_vids, leave_all_vlans, periodic_vlans, sent_vlans, spoilt_vlans, requested_vlans, count_of};
 
 use crate::app::MvrpApp;
 use crate::side::MvrpSide;
@@ -171,7 +171,7 @@ impl MvrpSide {
             → SameDeclared s part }
         requires told { (s : Part) → slice_get self.old.parts at ≡ Some s
             → TellsEach told.now s part }
-        ensures ok { OnOk result (self.new ≡ retold at part told.now self.old) }
+        ensures ok { OnOk result (self.new ≡ with_told_part at part told.now self.old) }
         ensures err { OnErr result (self.new ≡ self.old) }
     {
         each_key_awaits::<Vid>();
@@ -232,7 +232,7 @@ fn told_where(was: bool, vids: &[Vid]) -> &[Vid]
 // The VIDs that the application declares after it has declared one or withdrawn it.
 fn own_after(own: &Dirty<Vid>, vid: Vid, declared: bool) -> Result<Dirty<Vid>, NoMemory>
     ensures { IfOk result (λ d. d
-        ≡ (if declared then marked nat_cmp vid own.now else cleared nat_cmp vid own.now)) }
+        ≡ (if declared then with_key nat_cmp vid own.now else without_key nat_cmp vid own.now)) }
 {
     let mut after = own.copy()?;
     if declared {

@@ -5,7 +5,7 @@ ghost use Rattle.std.specs.Prelude.{◌≡◌, ◌<◌, ◌^◌, [], length, sli
 ghost use Rattle.std.specs.Ordering.{nat_cmp};
 ghost use Rattle.mrp_participant.specs.State.{due_count};
 ghost use Rattle.mvrp.specs.Side.{IsKept, IsLinkPort, place_of, awaiting_at, due_vlans, settled_vlans, count_of};
-ghost use Rattle.mvrp.specs.Ready.{applied, parts_with};
+ghost use Rattle.mvrp.specs.Ready.{with_ready, parts_with};
 
 use crate::app::MvrpApp;
 use crate::calls::{part_at, saturated};
@@ -56,8 +56,8 @@ impl MvrpSide {
         requires now { now.0 < 2 ^ 62 }
         requires port { IsLinkPort port (length self.now.parts) }
         ensures after { IfOk result
-            (λ r. applied r self.now ≡ due_vlans now (place_of port) self.now) }
-        ensures kept { IfOk result (λ r. IsKept (applied r self.now)) }
+            (λ r. with_ready r self.now ≡ due_vlans now (place_of port) self.now) }
+        ensures kept { IfOk result (λ r. IsKept (with_ready r self.now)) }
         ensures count { IfOk result (λ r. IfSome (slice_get self.now.parts (place_of port))
             (λ s. r.count ≡ count_of (due_count now s))) }
     {
@@ -88,8 +88,8 @@ impl MvrpSide {
         requires now { now.0 < 2 ^ 62 }
         requires port { IsLinkPort port (length self.now.parts) }
         ensures after { IfOk result
-            (λ r. applied r self.now ≡ settled_vlans (place_of port) self.now) }
-        ensures kept { IfOk result (λ r. IsKept (applied r self.now)) }
+            (λ r. with_ready r self.now ≡ settled_vlans (place_of port) self.now) }
+        ensures kept { IfOk result (λ r. IsKept (with_ready r self.now)) }
         ensures count { IfOk result (λ r. r.count
             ≡ count_of (length (awaiting_at (place_of port) self.now))) }
     {
@@ -115,8 +115,8 @@ impl MvrpSide {
 
     /// Puts in place what was made ready. It takes no memory.
     pub fn apply(&mut self, ready: Ready)
-        requires { IsKept (applied ready self.old) }
-        ensures { self.new ≡ applied ready self.old }
+        requires { IsKept (with_ready ready self.old) }
+        ensures { self.new ≡ with_ready ready self.old }
     {
         put_part(&mut self.parts, ready.at, ready.part);
         put_sets(&mut self.awaiting, ready.awaiting);

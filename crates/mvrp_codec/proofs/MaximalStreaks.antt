@@ -2,9 +2,9 @@
 use Rattle.std.proofs.Common.{◌≡◌, ℕ, ◌+◌, eqb, inl, inr, List, [], ◌∷◌, ◌++◌, refl, ap, ◌∙◌}
 use Rattle.std.proofs.lemmas.Bool.{cases_Bool, eqb-true, eqb-false, eq-eqb, ne_eqb}
 use Rattle.srp_base.specs.declared.mrp.MrpEvent.{MrpEvent}
-use Rattle.mvrp_codec.specs.Writing.{join, streaks, IsStreak, EndsBefore, AreMaximal, joined}
+use Rattle.mvrp_codec.specs.Writing.{join, streaks, IsStreak, EndsBefore, AreMaximal, events_of_streaks}
 
-join_joined : (x : MrpEvent × ℕ) (ss : List (List (MrpEvent × ℕ))) → joined (join x ss) ≡ x ∷ joined ss
+join_joined : (x : MrpEvent × ℕ) (ss : List (List (MrpEvent × ℕ))) → events_of_streaks (join x ss) ≡ x ∷ events_of_streaks ss
 join_joined x [] = refl
 join_joined x ([] ∷ others) = refl
 join_joined x ((y ∷ ys) ∷ others) =
@@ -13,7 +13,7 @@ join_joined x ((y ∷ ys) ∷ others) =
       | inr apart ↦ rw apart refl
     ]
 
-pub streaks_joined : (events : List (MrpEvent × ℕ)) → joined (streaks events) ≡ events
+pub streaks_joined : (events : List (MrpEvent × ℕ)) → events_of_streaks (streaks events) ≡ events
 streaks_joined [] = refl
 streaks_joined (x ∷ xs) = join_joined x (streaks xs) ∙ ap (λ (ys : List (MrpEvent × ℕ)). x ∷ ys) (streaks_joined xs)
 
@@ -39,6 +39,6 @@ in_front (x ∷ []) ((y ∷ ys) ∷ others) rest is ends e = ap (join x) e ∙ r
 in_front (x ∷ y ∷ ys) others rest is ends e =
     ap (join x) (in_front (y ∷ ys) others rest is.1 ends e) ∙ rw (eq-eqb (x.1 + 1) y.1 is.0) refl
 
-pub only_streaks : (ss : List (List (MrpEvent × ℕ))) → AreMaximal ss → streaks (joined ss) ≡ ss
+pub only_streaks : (ss : List (List (MrpEvent × ℕ))) → AreMaximal ss → streaks (events_of_streaks ss) ≡ ss
 only_streaks [] h = refl
-only_streaks (streak ∷ others) h = in_front streak others (joined others) h.0 h.1 (only_streaks others h.2)
+only_streaks (streak ∷ others) h = in_front streak others (events_of_streaks others) h.0 h.1 (only_streaks others h.2)

@@ -15,7 +15,7 @@ use Rattle.mrpdu_codec.specs.Canonical.{vectors_for, well_formed, spelling, vect
 use Rattle.mrpdu_codec.specs.Reading.{reading}
 use Rattle.mvrp_codec.specs.declared.pdu.MvrpPdu.{MvrpPdu}
 use Rattle.mvrp_codec.specs.Meaning.{event_at, events_from, vector_events, meaning, read_as, mvrp_reading}
-use Rattle.mvrp_codec.specs.Writing.{join, streaks, streak_vector, streak_vectors, streaks_octets, framed, one_message, pdu_for, mvrp_spelling, IsWritable, AreVids, joined}
+use Rattle.mvrp_codec.specs.Writing.{join, streaks, streak_vector, streak_vectors, streaks_octets, pdu_around, one_message, pdu_for, mvrp_spelling, IsWritable, AreVids, events_of_streaks}
 use Rattle.mvrp_codec.proofs.MaximalStreaks.{streaks_joined}
 
 -- ---- the events
@@ -154,10 +154,10 @@ streak_size leave [] = omega arith
 streak_size leave (x ∷ xs) = omega (arith, length-map (x ∷ xs) (λ y. y.0))
 
 -- 5 octets for each event are enough
-streaks_size : (n : ℕ) (ss : List (List (MrpEvent × ℕ))) → AreSmall n ss → vectors_size (map (streak_vector false) ss) ≤ 5 * length (joined ss)
+streaks_size : (n : ℕ) (ss : List (List (MrpEvent × ℕ))) → AreSmall n ss → vectors_size (map (streak_vector false) ss) ≤ 5 * length (events_of_streaks ss)
 streaks_size n [] h = omega arith
 streaks_size n (s ∷ ss) h =
-    omega (arith, sum_by-cons vector_size (streak_vector false s) (map (streak_vector false) ss), length-append s (joined ss), streak_size false s, streaks_size n ss h.1, h.0.0)
+    omega (arith, sum_by-cons vector_size (streak_vector false s) (map (streak_vector false) ss), length-append s (events_of_streaks ss), streak_size false s, streaks_size n ss h.1, h.0.0)
 
 leave_size : (leave : Bool) (ss : List (List (MrpEvent × ℕ))) → vectors_size (streak_vectors leave ss) ≤ vectors_size (map (streak_vector false) ss) + 4
 leave_size true [] = omega arith
@@ -172,12 +172,12 @@ few_in_all read w size =
 
 -- ---- what `encode` writes
 
-framed_spelling : (vs : List VectorAttr) → framed (vectors_octets (vectors_for vs)) ≡ spelling Mvrp (one_message vs)
+framed_spelling : (vs : List VectorAttr) → pdu_around (vectors_octets (vectors_for vs)) ≡ spelling Mvrp (one_message vs)
 framed_spelling vs =
     let octets = vectors_octets (vectors_for vs) in
     let mark : List ℕ = 0 ∷ 0 ∷ [] in
     ap (λ (os : List ℕ). 0 ∷ 1 ∷ 2 ∷ os) (sym (ap (λ (os : List ℕ). os ++ mark) (append-nil (octets ++ mark)) ∙ append_assoc octets mark mark))
 
-pub octets_are : (octets : List ℕ) (events : List (MrpEvent × ℕ)) (read : MvrpPdu) → octets ≡ framed (streaks_octets read.leave_all (streaks events)) → events ≡ read.events → octets ≡ mvrp_spelling read
+pub octets_are : (octets : List ℕ) (events : List (MrpEvent × ℕ)) (read : MvrpPdu) → octets ≡ pdu_around (streaks_octets read.leave_all (streaks events)) → events ≡ read.events → octets ≡ mvrp_spelling read
 octets_are octets events read e f =
-    e ∙ ap (λ (es : List (MrpEvent × ℕ)). framed (streaks_octets read.leave_all (streaks es))) f ∙ framed_spelling (streak_vectors read.leave_all (streaks read.events))
+    e ∙ ap (λ (es : List (MrpEvent × ℕ)). pdu_around (streaks_octets read.leave_all (streaks es))) f ∙ framed_spelling (streak_vectors read.leave_all (streaks read.events))

@@ -41,8 +41,8 @@ abbrev pub streaks_octets : Bool → List (List (MrpEvent × ℕ)) → List ℕ
 streaks_octets leave ss = vectors_octets (vectors_for (streak_vectors leave ss))
 
 -- the octets of a Message of VIDs with these vectors, alone in a PDU
-abbrev pub framed : List ℕ → List ℕ
-framed vectors = 0 ∷ 1 ∷ 2 ∷ (vectors ++ 0 ∷ 0 ∷ 0 ∷ 0 ∷ [])
+abbrev pub pdu_around : List ℕ → List ℕ
+pdu_around vectors = 0 ∷ 1 ∷ 2 ∷ (vectors ++ 0 ∷ 0 ∷ 0 ∷ 0 ∷ [])
 
 -- a PDU of VIDs, which are type 1
 abbrev pub one_message : List VectorAttr → Pdu
@@ -93,5 +93,5 @@ AreMaximal [] = Unit {0}
 AreMaximal (streak ∷ others) = IsStreak streak × EndsBefore streak others × AreMaximal others
 
 -- these streaks one after another are the events
-abbrev pub joined : List (List (MrpEvent × ℕ)) → List (MrpEvent × ℕ)
-joined ss = flat_map (λ streak. streak) ss
+abbrev pub events_of_streaks : List (List (MrpEvent × ℕ)) → List (MrpEvent × ℕ)
+events_of_streaks ss = flat_map (λ streak. streak) ss

@@ -7,7 +7,7 @@ ghost use Rattle.mrpdu_codec.specs.declared.form.AppForm.TheVariants.{Mvrp};
 ghost use Rattle.mrpdu_codec.specs.Grammar.{Breaks};
 ghost use Rattle.mvrp_codec.specs.declared.pdu.MvrpPdu.{MvrpPdu};
 ghost use Rattle.mvrp_codec.specs.Meaning.{Reads, mvrp_reading};
-ghost use Rattle.mvrp_codec.specs.Writing.{streaks, AreMaximal, joined, mvrp_spelling, IsWritable, AreVids};
+ghost use Rattle.mvrp_codec.specs.Writing.{streaks, AreMaximal, events_of_streaks, mvrp_spelling, IsWritable, AreVids};
 
 /// The reading as a function is the grammar with the meaning of a PDU: octets read as exactly what the
 /// PDU that they spell says, or as exactly the place where they break.
@@ -23,9 +23,9 @@ pub fn reading_is_the_grammar()
 /// The law of the streaks: one after another they are the events, they are maximal, and no other streaks are
 /// both.
 pub fn streaks_are_maximal()
-    ensures whole { (events : List (MrpEvent × ℕ)) → joined (streaks events) ≡ events }
+    ensures whole { (events : List (MrpEvent × ℕ)) → events_of_streaks (streaks events) ≡ events }
     ensures maximal { (events : List (MrpEvent × ℕ)) → AreMaximal (streaks events) }
-    ensures only { (ss : List (List (MrpEvent × ℕ))) → AreMaximal ss → streaks (joined ss) ≡ ss }
+    ensures only { (ss : List (List (MrpEvent × ℕ))) → AreMaximal ss → streaks (events_of_streaks ss) ≡ ss }
 {}
 
 /// What is written of VIDs reads as what was written, and has at most 1,500 octets.

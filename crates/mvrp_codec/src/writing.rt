@@ -4,7 +4,7 @@ ghost use Rattle.std.specs.Prelude.{◌≡◌, ◌++◌, ◌<◌, ◌≤◌, ◌
 ghost use Rattle.mvrp_codec.specs.Meaning.{mvrp_reading};
 ghost use Rattle.mrpdu_codec.specs.Tree.{vector_octets};
 ghost use Rattle.mrpdu_codec.specs.Canonical.{vector_for};
-ghost use Rattle.mvrp_codec.specs.Writing.{streaks, first_for, streak_vector, streaks_octets, framed, mvrp_spelling, IsWritable, streak_len, AreVids};
+ghost use Rattle.mvrp_codec.specs.Writing.{streaks, first_for, streak_vector, streaks_octets, pdu_around, mvrp_spelling, IsWritable, streak_len, AreVids};
 
 use crate::pdu::MvrpPdu;
 use mrpdu_codec::put_vector;
@@ -100,7 +100,7 @@ fn events_alone(alloc: Global, events: &[(MrpEvent, Vid)]) -> Result<Vec<MrpEven
 /// The octets of a PDU of one Message, in a buffer with room for a vector of each event.
 fn written(alloc: Global, leave_all: bool, events: &[(MrpEvent, Vid)]) -> Result<Vec<u8>, NoMemory>
     requires { length events.now ≤ 8191 }
-    ensures octets { IfOk result (λ v. v.items ≡ framed (streaks_octets leave_all (streaks events.now))) }
+    ensures octets { IfOk result (λ v. v.items ≡ pdu_around (streaks_octets leave_all (streaks events.now))) }
     ensures vids { OnOk result (AreVids events.now) }
 {
     let alone = events_alone(alloc, events)?;

@@ -28,7 +28,7 @@ use Rattle.msrp_codec.specs.declared.pdu.MsrpKey.TheVariants as keys
 use Rattle.msrp_listener.specs.declared.port_listener.PortListener.{PortListener}
 use Rattle.msrp.specs.declared.port.Port.{Port}
 use Rattle.msrp.specs.Part.{key_cmp, registered_talker, registered_listener, talker_reg_of, listener_kind_of}
-use Rattle.msrp.specs.Stream.{Registrations, advertised, talk_of, is_present, is_advertised, is_talker_port, is_ready, listener_row, talker_of, talker_at, listener_at, wanted_at, want_of_talker}
+use Rattle.msrp.specs.Stream.{Registrations, advertise_of, talk_of, is_present, is_advertised, is_talker_port, is_ready, listener_row, talker_of, talker_at, listener_at, wanted_at, want_of_talker}
 use Rattle.msrp_talker.specs.TalkerOut.{talker_in}
 use Rattle.msrp.specs.Side.{Streams, IsKept, IsPort, IsSettled, place_of, has_talk, seen_by}
 use Rattle.node_core.specs.State.{NodeState, if_booked, booked_at}
@@ -84,7 +84,7 @@ are-both true = inl refl
 are-both false = inr refl
 
 -- a Talker of the application is registered exactly where it talks
-talks-present : (o : Option Talker) → is_present (advertised o) ≡ is_some o
+talks-present : (o : Option Talker) → is_present (advertise_of o) ≡ is_some o
 talks-present None = refl
 talks-present (Some t) = refl
 
@@ -243,7 +243,7 @@ module _ (w : WorldState) (still : AreStreamsStill w) (stream : StreamId) (kept-
 
   pub talkers-at : (p : EgressPort) (h : HasPort w.tree p) (a : At p) (n : ℕ) (x : TalkerReg) → IsTalkers (regs a).talkers n x → TalkersAt p a n
   talkers-at p h a zero x t =
-      let same : advertised (talk_of stream a.s.streams.talks) ≡ x = one (Some x) (advertised (talk_of stream a.s.streams.talks)) x (sym t.at) refl in
+      let same : advertise_of (talk_of stream a.s.streams.talks) ≡ x = one (Some x) (advertise_of (talk_of stream a.s.streams.talks)) x (sym t.at) refl in
       at-app refl (sym (talks-present (talk_of stream a.s.streams.talks)) ∙ (ap is_present same ∙ t.present))
   talkers-at p h a (suc j) x t =
       let at = get-map (λ (y : Port). registered_talker stream y.part) a.s.streams.ports j x t.at in
@@ -289,10 +289,10 @@ module _ (w : WorldState) (still : AreStreamsStill w) (stream : StreamId) (kept-
       let q = q_of p in
       let hq = laws.peer_port p h in
       let b = at-port q hq in
-      let talk : is_present (advertised (talk_of stream b.s.streams.talks)) ≡ true = talks-present (talk_of stream b.s.streams.talks) ∙ own-talk q b t in
-      let first : IsTalkers (regs b).talkers 0 (advertised (talk_of stream b.s.streams.talks)) =
-      first-is (advertised (talk_of stream b.s.streams.talks)) (map (λ (x : Port). registered_talker stream x.part) b.s.streams.ports) talk in
-      let away : is_talker_port (suc (place_of q.port)) (regs b).talkers ≡ false = is-port (regs b).talkers 0 (advertised (talk_of stream b.s.streams.talks)) (suc (place_of q.port)) first ∙ other-port 0 (suc (place_of q.port)) (λ e. absurd (omega arith)) in
+      let talk : is_present (advertise_of (talk_of stream b.s.streams.talks)) ≡ true = talks-present (talk_of stream b.s.streams.talks) ∙ own-talk q b t in
+      let first : IsTalkers (regs b).talkers 0 (advertise_of (talk_of stream b.s.streams.talks)) =
+      first-is (advertise_of (talk_of stream b.s.streams.talks)) (map (λ (x : Port). registered_talker stream x.part) b.s.streams.ports) talk in
+      let away : is_talker_port (suc (place_of q.port)) (regs b).talkers ≡ false = is-port (regs b).talkers 0 (advertise_of (talk_of stream b.s.streams.talks)) (suc (place_of q.port)) first ∙ other-port 0 (suc (place_of q.port)) (λ e. absurd (omega arith)) in
       ap is_present (near-talker p h b)
       ∙ present-declared (place_of q.port) b.port.config b.port.ledger (regs b).talkers away (ap is_present first.is ∙ talk)
 
@@ -423,9 +423,9 @@ module _ (w : WorldState) (still : AreStreamsStill w) (stream : StreamId) (kept-
         by (inr r) = inr (r.0, record { sib = r.1; leads = r.2; differs = (λ e. is-not (behind p t) off (ap (λ x. behind x t) (sym e) ∙ r.2)); is_port = r.3; is_reg = r.4 })
 
     -- the station's own node: the Talker's port is the application
-    at-station : (p : EgressPort) (h : HasPort w.tree p) (a : At p) → p.node.0 ≡ t → talker_of (regs a).talkers ≡ advertised (talk_of stream a.s.streams.talks)
+    at-station : (p : EgressPort) (h : HasPort w.tree p) (a : At p) → p.node.0 ≡ t → talker_of (regs a).talkers ≡ advertise_of (talk_of stream a.s.streams.talks)
     at-station p h a e =
-        let talk : is_present (advertised (talk_of stream a.s.streams.talks)) ≡ true =
+        let talk : is_present (advertise_of (talk_of stream a.s.streams.talks)) ≡ true =
         talks-present (talk_of stream a.s.streams.talks) ∙ own-talk p a (ap own e ∙ talks.talks) in
         rw talk refl
 
@@ -525,7 +525,7 @@ module _ (w : WorldState) (still : AreStreamsStill w) (stream : StreamId) (kept-
     abbrev pub wants_of : NodeState → Option Want
     wants_of s = option_and_then want_of_talker (talk_of stream s.streams.talks)
 
-    advertised-asks : (o : Option Talker) → asked (advertised o) ≡ option_and_then want_of_talker o
+    advertised-asks : (o : Option Talker) → asked (advertise_of o) ≡ option_and_then want_of_talker o
     advertised-asks None = refl
     advertised-asks (Some u) = refl
 
@@ -581,7 +581,7 @@ module _ (w : WorldState) (still : AreStreamsStill w) (stream : StreamId) (kept-
     get-end [] x = refl
     get-end (y ∷ xs) x = get-end xs x
 
-    never-failed : (o : Option Talker) (u : Talker) (f : Failure) → advertised o ≡ Failed u f → ⊥
+    never-failed : (o : Option Talker) (u : Talker) (f : Failure) → advertise_of o ≡ Failed u f → ⊥
     never-failed None u f h = cc
     never-failed (Some v) u f h = cc
 

@@ -2,7 +2,7 @@
 use Rattle.std.proofs.Common.{◌≡◌, ◌≤◌, sym, Bool, ℕ, zero, suc, ◌<◌, ◌++◌, List, [], ◌∷◌, length, map, refl, ap, subst, ◌∙◌, arith}
 use Rattle.std.specs.Prelude.{slice_set, slice_index_or}
 use Rattle.std.specs.List.{AllByRecursion, insert}
-use Rattle.mrp_participant.specs.Link.{repeated}
+use Rattle.mrp_participant.specs.Link.{with_repeat}
 use Rattle.std.proofs.lemmas.List.{length-map}
 use Rattle.std.proofs.Math.ListN.{length-set}
 use Rattle.srp_base.specs.declared.numbers.Cs.{Cs}
@@ -53,10 +53,10 @@ each_without P i [] h = nil i
 each_without P zero (x ∷ xs) h = h.1
 each_without P (suc i) (x ∷ xs) h = (h.0, each_without P i xs h.1)
 
-pub each_repeated : (P : Wire → Type 0) (i : ℕ) (xs : List Wire) → AllByRecursion P xs → AllByRecursion P (repeated i xs)
+pub each_repeated : (P : Wire → Type 0) (i : ℕ) (xs : List Wire) → AllByRecursion P xs → AllByRecursion P (with_repeat i xs)
 each_repeated P i [] h = nil i
   where
-    nil : (j : ℕ) → AllByRecursion P (repeated j [])
+    nil : (j : ℕ) → AllByRecursion P (with_repeat j [])
     nil j = tt
 each_repeated P zero (x ∷ xs) h = (h.0, (h.0, h.1))
 each_repeated P (suc i) (x ∷ xs) h = (h.0, each_repeated P i xs h.1)
@@ -65,17 +65,17 @@ pub each_new : {X : Type 0} (P : Wire → Type 0) (xs : List X) → AllByRecursi
 each_new P [] = tt
 each_new P (x ∷ xs) = (tt, each_new P xs)
 
-pub short_repeated : (i : ℕ) (xs : List Wire) → AreShort xs → AreShort (repeated i xs)
+pub short_repeated : (i : ℕ) (xs : List Wire) → AreShort xs → AreShort (with_repeat i xs)
 short_repeated i xs h = each_repeated IsShort i xs h
 
 -- a copy right before its original is one right behind it
-pub insert_repeated : (xs : List Wire) (i : ℕ) (d : Wire) → i < length xs → insert xs i (slice_index_or xs i d) ≡ repeated i xs
+pub insert_repeated : (xs : List Wire) (i : ℕ) (d : Wire) → i < length xs → insert xs i (slice_index_or xs i d) ≡ with_repeat i xs
 insert_repeated [] i d h = absurd (omega arith)
 insert_repeated (x ∷ xs) zero d h = refl
 insert_repeated (x ∷ xs) (suc i) d h = let lt : i < length xs = omega arith in ap (λ ys. x ∷ ys) (insert_repeated xs i d lt)
 
 -- a copy of the PDU at a place is put in there
-pub repeated_of : (xs : List Wire) (i : ℕ) (x d : Wire) → i < length xs → x ≡ slice_index_or xs i d → insert xs i x ≡ repeated i xs
+pub repeated_of : (xs : List Wire) (i : ℕ) (x d : Wire) → i < length xs → x ≡ slice_index_or xs i d → insert xs i x ≡ with_repeat i xs
 repeated_of xs i x d h e = ap (λ y. insert xs i y) e ∙ insert_repeated xs i d h
 
 -- a new node keeps what every node keeps

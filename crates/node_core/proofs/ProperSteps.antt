@@ -41,7 +41,7 @@ use Rattle.node_core.specs.declared.types.NodeEvent.{NodeEvent}
 use Rattle.node_core.specs.declared.types.NodeEvent.TheVariants.{Request, Port, Clock}
 use Rattle.node_core.specs.Wires.{IsShort, AreShort, without}
 use Rattle.node_core.specs.State.{NodeState, box_at, new_node}
-use Rattle.node_core.specs.Step.{CanStep, node_step, port_step, worked, worked_app, worked_mvrp, worked_msrp, sent_octets, said_mvrp, said_msrp, with_said, after_app}
+use Rattle.node_core.specs.Step.{CanStep, node_step, port_step, after_work, worked_app, worked_mvrp, worked_msrp, sent_octets, said_mvrp, said_msrp, with_said, after_app}
 use Rattle.node_core.specs.Links.{with_outbox, with_inbox, with_carried, lost_at, repeated_at, spoilt_at}
 use Rattle.node_core.specs.Proper.{IsProperNode, IsProperWire, AreProperWires, IsInRange}
 use Rattle.node_core.proofs.Sizes.{of_received, of_due, of_left, of_leave_all, of_periodic, of_sent, of_spoilt, of_settled, of_requested}
@@ -264,7 +264,7 @@ module _ (laws : SideLaws) (streams : StreamLaws) where
   worked-wire at Mvrp octets s fits h = worked-vlans at octets (mvrp_reading octets) s refl h
   worked-wire at Msrp octets s fits h = worked-streams at octets (msrp_reading octets) s refl fits h
 
-  worked-node : (at : ℕ) (wires : List Wire) (s : NodeState) → AreShort wires → AreProperWires wires → IsProperNode s → IsProperNode (worked at wires s).0
+  worked-node : (at : ℕ) (wires : List Wire) (s : NodeState) → AreShort wires → AreProperWires wires → IsProperNode s → IsProperNode (after_work at wires s).0
   worked-node at [] s short proper h = h
   worked-node at (wire ∷ wires) s short proper h =
       worked-wire at wire.app wire.octets (with_inbox at wires s) proper.0 (with-inbox s at wires short.1 proper.1 h)

@@ -10,7 +10,7 @@ use Rattle.node_core.specs.declared.types.StepReply.{StepReply}
 use Rattle.node_core.specs.declared.types.StepReply.TheVariants.{Silent, Sent}
 use Rattle.node_core.specs.State.{NodeState, box_at}
 use Rattle.srp_base.specs.declared.memory.NoMemory.{NoMemory}
-use Rattle.node_core.specs.Step.{sent, sent_octets, said_mvrp, said_msrp, with_wire, with_said, after_app, outcome_of_saying, HasOneSaid}
+use Rattle.node_core.specs.Step.{after_send, sent_octets, said_mvrp, said_msrp, with_wire, with_said, after_app, outcome_of_saying, HasOneSaid}
 use Rattle.node_core.proofs.Boxes.{set_same}
 
 -- the node that has these VLANs and streams and, at a place, this outbox
@@ -38,7 +38,7 @@ stays s at = ap (λ (bs : List (List Wire)). record s { outboxes = bs }) (set_sa
 -- what was put, by what the call answered
 pub put_ok : (s n : NodeState) (app : App) (at : ℕ) (r : Result StepReply NoMemory) (v : Vlans) (t : Streams) (box : List Wire)
     → HasOneSaid app s.clock at s.vlans s.streams (box_at at s.outboxes) r v t box → n ≡ with_both s at v t box
-    → IfOk r (λ reply. sent app at s ≡ (n, reply))
+    → IfOk r (λ reply. after_send app at s ≡ (n, reply))
 put_ok s n Mvrp at (Ok reply) v t box h e =
     put_by s Mvrp at (said_mvrp s.clock at s.vlans) s.vlans (sent_vlans s.clock at s.vlans) v box reply
     (λ (w : Vlans) (b : List Wire). with_both s at w s.streams b) (stays s at) (λ octets. refl) h.0

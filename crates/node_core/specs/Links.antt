@@ -3,7 +3,7 @@ use Rattle.std.specs.Prelude.{◌≡◌, ◌≤◌, ◌^◌, ℕ, Bool, nat_lt, 
 use Rattle.std.specs.List.{AllByRecursion}
 use Rattle.srp_base.specs.declared.mrp.App.{App}
 use Rattle.srp_base.specs.declared.mrp.App.TheVariants.{Mvrp, Msrp}
-use Rattle.mrp_participant.specs.Link.{repeated}
+use Rattle.mrp_participant.specs.Link.{with_repeat}
 use Rattle.mvrp.specs.Side.{IsKept, spoilt_vlans}
 use Rattle.msrp.specs.Side.{IsKept as IsKeptStreams, spoilt_streams}
 use Rattle.node_core.specs.declared.types.Wire.{Wire}
@@ -32,7 +32,7 @@ lost_at at index s = with_inbox at (without index (box_at at s.inboxes)) s
 
 -- it is there twice, the copy right behind its original
 abbrev pub repeated_at : ℕ → ℕ → NodeState → NodeState
-repeated_at at index s = with_inbox at (repeated index (box_at at s.inboxes)) s
+repeated_at at index s = with_inbox at (with_repeat index (box_at at s.inboxes)) s
 
 -- the participant of an application at a place isn't sound any more
 abbrev pub spoilt_at : App → ℕ → NodeState → NodeState

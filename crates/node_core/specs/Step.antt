@@ -66,9 +66,9 @@ worked_app Mvrp at octets s = on_vlans s (worked_mvrp s.clock at (mvrp_reading o
 worked_app Msrp at octets s = on_streams s (worked_msrp s.clock at (msrp_reading octets) s.streams)
 
 -- the front of these PDUs is taken, and the others stay
-abbrev pub worked : ℕ → List Wire → NodeState → Stepped
-worked at [] s = (s, Nothing)
-worked at (wire ∷ wires) s =
+abbrev pub after_work : ℕ → List Wire → NodeState → Stepped
+after_work at [] s = (s, Nothing)
+after_work at (wire ∷ wires) s =
     worked_app wire.app at wire.octets (record s { inboxes = slice_set s.inboxes at wires })
 
 -- ---- timers, and what awaits
@@ -133,8 +133,8 @@ all_awaiting at vlans streams =
     length (awaiting_at at vlans) + length (keys_awaiting_at at streams)
 
 -- what awaits at a place is settled, of both applications
-abbrev pub settled : ℕ → NodeState → Stepped
-settled at s = (
+abbrev pub after_settling : ℕ → NodeState → Stepped
+after_settling at s = (
   record s { vlans = settled_vlans at s.vlans; streams = settled_streams at s.streams },
   Settled (count_of (all_awaiting at s.vlans s.streams)),
 )
@@ -161,9 +161,9 @@ said_msrp now at streams =
     None at streams
 
 -- what an application at a place has to say
-abbrev pub said : App → ℕ → NodeState → Option (List ℕ)
-said Mvrp at s = said_mvrp s.clock at s.vlans
-said Msrp at s = said_msrp s.clock at s.streams
+abbrev pub octets_to_say : App → ℕ → NodeState → Option (List ℕ)
+octets_to_say Mvrp at s = said_mvrp s.clock at s.vlans
+octets_to_say Msrp at s = said_msrp s.clock at s.streams
 
 -- the node whose application has said something
 abbrev pub after_app : App → ℕ → NodeState → NodeState
@@ -186,29 +186,29 @@ sent_octets app at (Some octets) s =
     (with_said app at octets (after_app app at s), Sent (count_of (length octets)))
 
 -- an application says what it has to say at a place
-abbrev pub sent : App → ℕ → NodeState → Stepped
-sent app at s = sent_octets app at (said app at s) s
+abbrev pub after_send : App → ℕ → NodeState → Stepped
+after_send app at s = sent_octets app at (octets_to_say app at s) s
 
 -- ---- all steps
 
 -- a step of the link port at a place
 abbrev pub port_step : PortStep → ℕ → NodeState → Stepped
-port_step Work at s = worked at (box_at at s.inboxes) s
+port_step Work at s = after_work at (box_at at s.inboxes) s
 port_step (LeaveNow key) at s = left_now key at s
 port_step (LeaveAllNow app) at s = leave_all_now app at s
 port_step (PeriodicNow app) at s = periodic_now app at s
 port_step Due at s = fired_due at s
-port_step Settle at s = settled at s
-port_step (Send app) at s = sent app at s
+port_step Settle at s = after_settling at s
+port_step (Send app) at s = after_send app at s
 
 -- what the application of a station asks for
-abbrev pub requested : AppRequest → NodeState → Stepped
-requested (Declare vid) s = on_vlans s (requested_vlans vid true s.vlans, Taken)
-requested (Withdraw vid) s = on_vlans s (requested_vlans vid false s.vlans, Taken)
-requested (Talk talker) s = on_streams s (requested_streams (asks.Talk talker) s.streams, Taken)
-requested (Hush stream) s = on_streams s (requested_streams (asks.Hush stream) s.streams, Taken)
-requested (Listen stream) s = on_streams s (requested_streams (asks.Listen stream) s.streams, Taken)
-requested (Unlisten stream) s =
+abbrev pub after_asking : AppRequest → NodeState → Stepped
+after_asking (Declare vid) s = on_vlans s (requested_vlans vid true s.vlans, Taken)
+after_asking (Withdraw vid) s = on_vlans s (requested_vlans vid false s.vlans, Taken)
+after_asking (Talk talker) s = on_streams s (requested_streams (asks.Talk talker) s.streams, Taken)
+after_asking (Hush stream) s = on_streams s (requested_streams (asks.Hush stream) s.streams, Taken)
+after_asking (Listen stream) s = on_streams s (requested_streams (asks.Listen stream) s.streams, Taken)
+after_asking (Unlisten stream) s =
     on_streams s (requested_streams (asks.Unlisten stream) s.streams, Taken)
 
 -- the clock goes on by 1 cs, and with it that of MSRP's ledgers
@@ -221,7 +221,7 @@ clocked_node s =
 
 -- one step of a node: what happens to it gives the node afterwards and its answer
 abbrev pub node_step : NodeEvent → NodeState → Stepped
-node_step (Request request) s = requested request s
+node_step (Request request) s = after_asking request s
 node_step (Port port step) s = port_step step (place_of port) s
 node_step Clock s = (clocked_node s, Taken)
 

@@ -5,7 +5,7 @@ ghost use Rattle.mvrp.specs.Side.{IsLinkPort, place_of};
 ghost use Rattle.node_core.specs.State.{ports_of, box_at};
 ghost use Rattle.node_core.specs.Wires.{AreShort, without};
 ghost use Rattle.node_core.specs.Links.{with_outbox, with_carried, has_index, lost_at, repeated_at, spoilt_at};
-ghost use Rattle.mrp_participant.specs.Link.{repeated};
+ghost use Rattle.mrp_participant.specs.Link.{with_repeat};
 
 use crate::node::{Node, copied_wire};
 use crate::streams::spoil_streams;
@@ -136,7 +136,7 @@ pub(crate) fn remove(alloc: Global, inbox: &mut Seq<Wire>, index: usize)
 fn repeat_wire(alloc: Global, inbox: &mut Seq<Wire>, index: usize) -> Result<(), NoMemory>
     requires index { index < length inbox.old }
     requires short { AreShort inbox.old }
-    ensures ok { OnOk result (inbox.new ≡ repeated index inbox.old) }
+    ensures ok { OnOk result (inbox.new ≡ with_repeat index inbox.old) }
     ensures err { OnErr result (inbox.new ≡ inbox.old) }
     ensures short { AreShort inbox.new }
 {

@@ -4,7 +4,7 @@ ghost use Rattle.std.specs.Prelude.{◌+◌, ◌≡◌, ◌<◌, ◌≤◌, ◌^
 ghost use Rattle.mvrp.specs.Side.{IsLinkPort, place_of, count_of};
 ghost use Rattle.msrp.specs.Side.{next_sets};
 ghost use Rattle.node_core.specs.State.{ports_of, box_at};
-ghost use Rattle.node_core.specs.Step.{CanStep, node_step, port_step, requested, worked, left_now, leave_all_now, periodic_now, fired_due, settled, sent, clocked_node};
+ghost use Rattle.node_core.specs.Step.{CanStep, node_step, port_step, after_asking, after_work, left_now, leave_all_now, periodic_now, fired_due, after_settling, after_send, clocked_node};
 
 use crate::both::{due_of, put_out, settle_of, worked_on};
 use crate::links::remove;
@@ -55,7 +55,7 @@ impl Node {
 
     // What the application asks for.
     fn request(&mut self, request: AppRequest) -> Result<StepReply, NoMemory>
-        ensures ok { IfOk result (λ reply. requested request self.old ≡ (self.new, reply)) }
+        ensures ok { IfOk result (λ reply. after_asking request self.old ≡ (self.new, reply)) }
         ensures err { OnErr result (self.new ≡ self.old) }
     {
         match request {
@@ -133,7 +133,7 @@ impl Node {
     // Settles what awaits at a port, of both applications.
     fn settle(&mut self, port: PortNo) -> Result<StepReply, NoMemory>
         requires { IsLinkPort port (ports_of self.old) }
-        ensures ok { IfOk result (λ reply. settled (place_of port) self.old ≡ (self.new, reply)) }
+        ensures ok { IfOk result (λ reply. after_settling (place_of port) self.old ≡ (self.new, reply)) }
         ensures err { OnErr result (self.new ≡ self.old) }
     {
         settle_of(&mut self.mvrp, &mut self.msrp, self.clock, port)
@@ -143,7 +143,7 @@ impl Node {
     fn work(&mut self, port: PortNo) -> Result<StepReply, NoMemory>
         requires { IsLinkPort port (ports_of self.old) }
         ensures ok { IfOk result
-            (λ reply. worked (place_of port) (box_at (place_of port) self.old.inboxes) self.old
+            (λ reply. after_work (place_of port) (box_at (place_of port) self.old.inboxes) self.old
             ≡ (self.new, reply)) }
         ensures err { OnErr result (self.new ≡ self.old) }
     {
@@ -166,7 +166,7 @@ impl Node {
     // Sends what an application has to say at a port.
     fn send(&mut self, port: PortNo, app: App) -> Result<StepReply, NoMemory>
         requires { IsLinkPort port (ports_of self.old) }
-        ensures ok { IfOk result (λ reply. sent app (place_of port) self.old ≡ (self.new, reply)) }
+        ensures ok { IfOk result (λ reply. after_send app (place_of port) self.old ≡ (self.new, reply)) }
         ensures err { OnErr result (self.new ≡ self.old) }
     {
         let alloc = *self.inboxes.allocator();

@@ -21,7 +21,7 @@ to next _ = (next, Nothing)
 
 -- a new state, with what the user is told
 abbrev pub tell : Registrar → Tell → Cell
-tell next told _ = (next, told)
+tell next tell_of _ = (next, tell_of)
 
 -- the cells of one event, in the order of the states IN, LV, MT
 abbrev pub row : (held leaving empty : Cell) → Cell
@@ -50,8 +50,8 @@ abbrev pub next : RegEvent → Registrar → Registrar
 next event state = (table event state).0
 
 -- what the user is told at an event
-abbrev pub told : RegEvent → Registrar → Tell
-told event state = (table event state).1
+abbrev pub tell_of : RegEvent → Registrar → Tell
+tell_of event state = (table event state).1
 
 -- whether an event starts the leave timer: where it takes IN to LV
 abbrev pub starts_leave_timer : RegEvent → Registrar → Bool

@@ -7,25 +7,25 @@ ghost use Rattle.registrar.specs.declared.Registrar.TheVariants.{Held, Leaving};
 ghost use Rattle.registrar.specs.declared.RegEvent.{RegEvent};
 ghost use Rattle.registrar.specs.declared.RegEvent.TheVariants.{RxLeaveAll, TxLeaveAll};
 ghost use Rattle.registrar.specs.declared.Tell.TheVariants.{Joined, Left};
-ghost use Rattle.registrar.specs.Table.{next, told, is_registered_in, starts_leave_timer};
+ghost use Rattle.registrar.specs.Table.{next, tell_of, is_registered_in, starts_leave_timer};
 
 /// The user is told Joined exactly where the attribute wasn't registered and now is, and Left exactly where it
 /// was and now isn't.
 pub fn what_is_told()
     ensures joined { (event : RegEvent) (s : Registrar)
-        → told event s ≡ Joined
+        → tell_of event s ≡ Joined
         → (is_registered_in s ≡ false) × (is_registered_in (next event s) ≡ true) }
     ensures joins { (event : RegEvent) (s : Registrar)
         → is_registered_in s ≡ false
         → is_registered_in (next event s) ≡ true
-        → told event s ≡ Joined }
+        → tell_of event s ≡ Joined }
     ensures left { (event : RegEvent) (s : Registrar)
-        → told event s ≡ Left
+        → tell_of event s ≡ Left
         → (is_registered_in s ≡ true) × (is_registered_in (next event s) ≡ false) }
     ensures leaves { (event : RegEvent) (s : Registrar)
         → is_registered_in s ≡ true
         → is_registered_in (next event s) ≡ false
-        → told event s ≡ Left }
+        → tell_of event s ≡ Left }
 {}
 
 /// The leave timer starts exactly where IN becomes LV.

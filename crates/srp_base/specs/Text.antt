@@ -2,6 +2,6 @@
 use Rattle.std.specs.Prelude.{ℕ, List, [], ◌∷◌, ◌++◌}
 
 -- the pieces, one after the other
-abbrev pub joined : List (List ℕ) → List ℕ
-joined [] = []
-joined (piece ∷ pieces) = piece ++ joined pieces
+abbrev pub whole_of : List (List ℕ) → List ℕ
+whole_of [] = []
+whole_of (piece ∷ pieces) = piece ++ whole_of pieces

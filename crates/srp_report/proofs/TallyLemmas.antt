@@ -13,7 +13,7 @@ use Rattle.world_core.specs.declared.journal.NodeSteps.{NodeSteps}
 use Rattle.world_core.specs.declared.journal.Tick.{Tick}
 use Rattle.srp_report.specs.declared.tally.Tally.{Tally}
 use Rattle.srp_report.specs.Counts.{replies_at, replies_in, replies_of, sizes_sent, is_discarded, count_of, tally_of}
-use Rattle.srp_report.specs.Tallies.{zero_tally, zero_row, zero_rows, counted, step_counted, steps_counted, node_counted, nodes_counted, ticks_counted, tally_at}
+use Rattle.srp_report.specs.Tallies.{zero_tally, zero_row, zero_rows, with_reply, step_counted, steps_counted, node_counted, nodes_counted, ticks_counted, tally_at}
 
 -- ---- one place of a list becomes what is made of it
 
@@ -55,11 +55,11 @@ twice f g (Some x) = refl
 
 -- one list of answers after another
 more : (a b : List StepReply) (o : Option Tally)
-    → option_map (λ t. fold counted t b) (option_map (λ t. fold counted t a) o) ≡ option_map (λ t. fold counted t (a ++ b)) o
+    → option_map (λ t. fold with_reply t b) (option_map (λ t. fold with_reply t a) o) ≡ option_map (λ t. fold with_reply t (a ++ b)) o
 more a b None = refl
-more a b (Some t) = ap Some (sym (fold-append counted t a b))
+more a b (Some t) = ap Some (sym (fold-append with_reply t a b))
 
-none : (o : Option Tally) → o ≡ option_map (λ t. fold counted t []) o
+none : (o : Option Tally) → o ≡ option_map (λ t. fold with_reply t []) o
 none None = refl
 none (Some t) = refl
 
@@ -75,31 +75,31 @@ one-more port st made = by (st.port.0 == port.0) refl
     by false is = rw is refl
 
 step-place : (port : PortNo) (st : NodeStep) (row : List Tally)
-    → slice_get (step_counted row st) port.0 ≡ option_map (λ t. fold counted t (from_step port st)) (slice_get row port.0)
+    → slice_get (step_counted row st) port.0 ≡ option_map (λ t. fold with_reply t (from_step port st)) (slice_get row port.0)
 step-place port st row = by (st.port.0 == port.0) refl
   where
     by : (b : Bool) → (st.port.0 == port.0) ≡ b
-        → slice_get (step_counted row st) port.0 ≡ option_map (λ t. fold counted t (from_step port st)) (slice_get row port.0)
+        → slice_get (step_counted row st) port.0 ≡ option_map (λ t. fold with_reply t (from_step port st)) (slice_get row port.0)
     by true is =
         let same : st.port.0 ≡ port.0 = eqb-true st.port.0 port.0 is in
-        rw is (subst (λ (i : ℕ). slice_get (step_counted row st) i ≡ option_map (λ t. counted t st.reply) (slice_get row i)) same
-        (same-place row st.port.0 (λ t. counted t st.reply)))
+        rw is (subst (λ (i : ℕ). slice_get (step_counted row st) i ≡ option_map (λ t. with_reply t st.reply) (slice_get row i)) same
+        (same-place row st.port.0 (λ t. with_reply t st.reply)))
     by false is =
-        rw is (other-place row st.port.0 port.0 (λ t. counted t st.reply) (eqb-false st.port.0 port.0 is) ∙ none (slice_get row port.0))
+        rw is (other-place row st.port.0 port.0 (λ t. with_reply t st.reply) (eqb-false st.port.0 port.0 is) ∙ none (slice_get row port.0))
 
 -- those of all steps of a node
 row-place : (port : PortNo) (made : List NodeStep) (row : List Tally)
-    → slice_get (steps_counted row made) port.0 ≡ option_map (λ t. fold counted t (replies_at port made)) (slice_get row port.0)
+    → slice_get (steps_counted row made) port.0 ≡ option_map (λ t. fold with_reply t (replies_at port made)) (slice_get row port.0)
 row-place port [] row = none (slice_get row port.0)
 row-place port (st ∷ made) row =
     row-place port made (step_counted row st)
-    ∙ (ap (λ o. option_map (λ t. fold counted t (replies_at port made)) o) (step-place port st row)
+    ∙ (ap (λ o. option_map (λ t. fold with_reply t (replies_at port made)) o) (step-place port st row)
     ∙ (more (from_step port st) (replies_at port made) (slice_get row port.0)
-    ∙ ap (λ replies. option_map (λ t. fold counted t replies) (slice_get row port.0)) (one-more port st made)))
+    ∙ ap (λ replies. option_map (λ t. fold with_reply t replies) (slice_get row port.0)) (one-more port st made)))
 
 in-row : (port : PortNo) (made : List NodeStep) (o : Option (List Tally))
     → option_and_then (λ row. slice_get row port.0) (option_map (λ row. steps_counted row made) o)
-    ≡ option_map (λ t. fold counted t (replies_at port made)) (option_and_then (λ row. slice_get row port.0) o)
+    ≡ option_map (λ t. fold with_reply t (replies_at port made)) (option_and_then (λ row. slice_get row port.0) o)
 in-row port made None = refl
 in-row port made (Some row) = row-place port made row
 
@@ -108,11 +108,11 @@ abbrev from_node : EgressPort → NodeSteps → List StepReply
 from_node p ns = if ns.node.0 == p.node.0 then replies_at p.port ns.steps else []
 
 node-place : (p : EgressPort) (ns : NodeSteps) (rows : List (List Tally))
-    → tally_at p (node_counted rows ns) ≡ option_map (λ t. fold counted t (from_node p ns)) (tally_at p rows)
+    → tally_at p (node_counted rows ns) ≡ option_map (λ t. fold with_reply t (from_node p ns)) (tally_at p rows)
 node-place p ns rows = by (ns.node.0 == p.node.0) refl
   where
     by : (b : Bool) → (ns.node.0 == p.node.0) ≡ b
-        → tally_at p (node_counted rows ns) ≡ option_map (λ t. fold counted t (from_node p ns)) (tally_at p rows)
+        → tally_at p (node_counted rows ns) ≡ option_map (λ t. fold with_reply t (from_node p ns)) (tally_at p rows)
     by true is =
         let same : ns.node.0 ≡ p.node.0 = eqb-true ns.node.0 p.node.0 is in
         let here : slice_get (node_counted rows ns) p.node.0 ≡ option_map (λ row. steps_counted row ns.steps) (slice_get rows p.node.0)
@@ -127,19 +127,19 @@ node-place p ns rows = by (ns.node.0 == p.node.0) refl
 
 -- those of all nodes in a tick, and in all ticks
 nodes-place : (p : EgressPort) (nodes : List NodeSteps) (rows : List (List Tally))
-    → tally_at p (nodes_counted rows nodes) ≡ option_map (λ t. fold counted t (replies_in p nodes)) (tally_at p rows)
+    → tally_at p (nodes_counted rows nodes) ≡ option_map (λ t. fold with_reply t (replies_in p nodes)) (tally_at p rows)
 nodes-place p [] rows = none (tally_at p rows)
 nodes-place p (ns ∷ nodes) rows =
     nodes-place p nodes (node_counted rows ns)
-    ∙ (ap (λ o. option_map (λ t. fold counted t (replies_in p nodes)) o) (node-place p ns rows)
+    ∙ (ap (λ o. option_map (λ t. fold with_reply t (replies_in p nodes)) o) (node-place p ns rows)
     ∙ more (from_node p ns) (replies_in p nodes) (tally_at p rows))
 
 ticks-place : (p : EgressPort) (ticks : List Tick) (rows : List (List Tally))
-    → tally_at p (ticks_counted rows ticks) ≡ option_map (λ t. fold counted t (replies_of p ticks)) (tally_at p rows)
+    → tally_at p (ticks_counted rows ticks) ≡ option_map (λ t. fold with_reply t (replies_of p ticks)) (tally_at p rows)
 ticks-place p [] rows = none (tally_at p rows)
 ticks-place p (tick ∷ ticks) rows =
     ticks-place p ticks (nodes_counted rows tick.steps)
-    ∙ (ap (λ o. option_map (λ t. fold counted t (replies_of p ticks)) o) (nodes-place p tick.steps rows)
+    ∙ (ap (λ o. option_map (λ t. fold with_reply t (replies_of p ticks)) o) (nodes-place p tick.steps rows)
     ∙ more (replies_in p tick.steps) (replies_of p ticks) (tally_at p rows))
 
 -- ---- what is counted one by one is the counts of all
@@ -161,15 +161,15 @@ stands m a k = omega arith
 same-counts : (a a' b b' c c' : ℕ) → a ≡ a' → b ≡ b' → c ≡ c' → tally a b c ≡ tally a' b' c'
 same-counts a a' b b' c c' ea eb ec = ap (λ x. tally x b c) ea ∙ (ap (λ x. tally a' x c) eb ∙ ap (λ x. tally a' b' x) ec)
 
-sent-once : (a b c k : ℕ) → counted (tally a b c) (Sent k) ≡ tally (a + 1) (b + k) c
+sent-once : (a b c k : ℕ) → with_reply (tally a b c) (Sent k) ≡ tally (a + 1) (b + k) c
 sent-once a b c k =
     ap (λ x. tally_with x (count_of (count_of b + k)) (count_of c)) (stands (2 ^ 64 - 1) a 1)
     ∙ ap (λ x. tally_with (count_of (a + 1)) x (count_of c)) (stands (2 ^ 64 - 1) b k)
 
-discarded-once : (a b c place : ℕ) → counted (tally a b c) (Discarded place) ≡ tally a b (c + 1)
+discarded-once : (a b c place : ℕ) → with_reply (tally a b c) (Discarded place) ≡ tally a b (c + 1)
 discarded-once a b c place = ap (λ x. tally_with (count_of a) (count_of b) x) (stands (2 ^ 64 - 1) c 1)
 
-counts : (a b c : ℕ) (replies : List StepReply) → fold counted (tally a b c) replies ≡ tally_after a b c replies
+counts : (a b c : ℕ) (replies : List StepReply) → fold with_reply (tally a b c) replies ≡ tally_after a b c replies
 counts a b c [] = same-counts a (a + 0) b (b + 0) c (c + 0) (omega arith) (omega arith) (omega arith)
 counts a b c (Nothing ∷ replies) = counts a b c replies
 counts a b c (Received n ∷ replies) = counts a b c replies
@@ -181,7 +181,7 @@ counts a b c (Sent k ∷ replies) =
     let many = length (sizes_sent replies) in
     let all = sum (sizes_sent replies) in
     let lost = length (filter is_discarded replies) in
-    ap (λ t. fold counted t replies) (sent-once a b c k)
+    ap (λ t. fold with_reply t replies) (sent-once a b c k)
     ∙ (counts (a + 1) (b + k) c replies
     ∙ same-counts (a + 1 + many) (a + (suc many)) (b + k + all) (b + sum (k ∷ sizes_sent replies)) (c + lost) (c + lost)
     (omega arith) (omega (arith, sum_by-cons (λ (x : ℕ). x) k (sizes_sent replies))) refl)
@@ -189,7 +189,7 @@ counts a b c (Discarded place ∷ replies) =
     let many = length (sizes_sent replies) in
     let all = sum (sizes_sent replies) in
     let lost = length (filter is_discarded replies) in
-    ap (λ t. fold counted t replies) (discarded-once a b c place)
+    ap (λ t. fold with_reply t replies) (discarded-once a b c place)
     ∙ (counts a b (c + 1) replies
     ∙ same-counts (a + many) (a + many) (b + all) (b + all) (c + 1 + lost) (c + (suc lost)) refl refl (omega arith))
 
@@ -212,5 +212,5 @@ all-counted last ticks p few port =
     = ap (λ o. option_and_then (λ row. slice_get row p.port.0) o) (get-replicate (last + 1) p.node.0 zero_row some)
     ∙ get-replicate 256 p.port.0 zero_tally port in
     ticks-place p ticks (zero_rows last)
-    ∙ (ap (λ o. option_map (λ t. fold counted t (replies_of p ticks)) o) start
+    ∙ (ap (λ o. option_map (λ t. fold with_reply t (replies_of p ticks)) o) start
     ∙ ap Some (counts 0 0 0 replies ∙ same-counts (0 + many) many (0 + all) all (0 + lost) lost (omega arith) (omega arith) (omega arith)))

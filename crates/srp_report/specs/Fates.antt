@@ -1,7 +1,7 @@
 -- What the code keeps as it reads the fates of a port's copies. No public contract names these words.
 use Rattle.std.specs.Prelude.{ℕ, ◌+◌, List, [], ◌∷◌, codes, if◌then◌else◌}
 use Rattle.std.specs.Fmt.{decimal}
-use Rattle.srp_base.specs.Text.{joined}
+use Rattle.srp_base.specs.Text.{whole_of}
 use Rattle.frame_flow.specs.declared.result.Fate.{Fate}
 use Rattle.srp_report.specs.declared.departures.FateCounts.{FateCounts}
 use Rattle.srp_report.specs.declared.departures.SentFrame.{SentFrame}
@@ -29,9 +29,9 @@ one_more c fate =
 
 -- how the line of a departure from a port begins
 abbrev pub line_start : List ℕ → List ℕ
-line_start port = joined (codes "depart " ∷ port ∷ codes " frame " ∷ [])
+line_start port = whole_of (codes "depart " ∷ port ∷ codes " frame " ∷ [])
 
 -- the line of a departure that begins so
 abbrev pub line_from : List ℕ → SentFrame → List ℕ
 line_from start d =
-    joined (start ∷ decimal d.frame ∷ codes " start " ∷ decimal d.start ∷ codes " end " ∷ decimal d.end ∷ codes "\n" ∷ [])
+    whole_of (start ∷ decimal d.frame ∷ codes " start " ∷ decimal d.start ∷ codes " end " ∷ decimal d.end ∷ codes "\n" ∷ [])

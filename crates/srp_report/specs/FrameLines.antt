@@ -1,7 +1,7 @@
 -- What is printed of the frames at a port: how many copies came to which fate, and each that departed.
 use Rattle.std.specs.Prelude.{ℕ, ◌==◌, Bool, true, false, nat_le, if◌then◌else◌, List, [], ◌∷◌, ◌++◌, codes, length, filter, filter_map, flat_map, Option, Some, None}
 use Rattle.std.specs.Fmt.{decimal}
-use Rattle.srp_base.specs.Text.{joined}
+use Rattle.srp_base.specs.Text.{whole_of}
 use Rattle.tree_topology.specs.declared.graph.Link.{Link}
 use Rattle.topology_file.specs.Plan.{Plan}
 use Rattle.frame_flow.specs.declared.result.Fate.{Fate}
@@ -61,7 +61,7 @@ by_start (d ∷ ds) = with_sent d (by_start ds)
 
 -- `frames P departed N unbooked N novlan N left N`
 abbrev pub frames_line : List ℕ → List (ℕ × Fate) → List ℕ
-frames_line port fates = joined (
+frames_line port fates = whole_of (
     codes "frames " ∷ port ∷ codes " departed " ∷ decimal (fates_count is_departed fates)
     ∷ codes " unbooked " ∷ decimal (fates_count is_unbooked fates)
     ∷ codes " novlan " ∷ decimal (fates_count is_novlan fates)
@@ -69,7 +69,7 @@ frames_line port fates = joined (
 
 -- `depart P frame F start S end E`, in bit times of the port from the run's start
 abbrev pub depart_line : List ℕ → SentFrame → List ℕ
-depart_line port d = joined (
+depart_line port d = whole_of (
     codes "depart " ∷ port ∷ codes " frame " ∷ decimal d.frame ∷ codes " start " ∷ decimal d.start
     ∷ codes " end " ∷ decimal d.end ∷ codes "\n" ∷ [])
 

@@ -2,7 +2,7 @@
 -- in the journal's order. A tick in which nothing happened prints nothing.
 use Rattle.std.specs.Prelude.{ℕ, ◌+◌, List, [], ◌∷◌, ◌++◌, codes, flat_map}
 use Rattle.std.specs.Fmt.{decimal}
-use Rattle.srp_base.specs.Text.{joined}
+use Rattle.srp_base.specs.Text.{whole_of}
 use Rattle.srp_base.specs.declared.numbers.NodeNo.{NodeNo}
 use Rattle.srp_base.specs.declared.mrp.App.{App}
 use Rattle.srp_base.specs.declared.mrp.App.TheVariants.{Mvrp, Msrp}
@@ -29,21 +29,21 @@ app_name Msrp = codes "msrp"
 abbrev pub step_name : PortStep → List ℕ
 step_name Work = codes "work"
 step_name (LeaveNow key) = codes "leave"
-step_name (LeaveAllNow app) = joined (codes "leaveall " ∷ app_name app ∷ [])
-step_name (PeriodicNow app) = joined (codes "periodic " ∷ app_name app ∷ [])
+step_name (LeaveAllNow app) = whole_of (codes "leaveall " ∷ app_name app ∷ [])
+step_name (PeriodicNow app) = whole_of (codes "periodic " ∷ app_name app ∷ [])
 step_name Due = codes "due"
 step_name Settle = codes "settle"
-step_name (Send app) = joined (codes "send " ∷ app_name app ∷ [])
+step_name (Send app) = whole_of (codes "send " ∷ app_name app ∷ [])
 
 -- a step's answer; no step of a port is answered by `taken`
 abbrev pub reply_name : StepReply → List ℕ
 reply_name Nothing = codes "nothing"
-reply_name (Discarded place) = joined (codes "discarded " ∷ decimal place ∷ [])
-reply_name (Received count) = joined (codes "received " ∷ decimal count ∷ [])
-reply_name (Fired count) = joined (codes "fired " ∷ decimal count ∷ [])
-reply_name (Settled count) = joined (codes "settled " ∷ decimal count ∷ [])
+reply_name (Discarded place) = whole_of (codes "discarded " ∷ decimal place ∷ [])
+reply_name (Received count) = whole_of (codes "received " ∷ decimal count ∷ [])
+reply_name (Fired count) = whole_of (codes "fired " ∷ decimal count ∷ [])
+reply_name (Settled count) = whole_of (codes "settled " ∷ decimal count ∷ [])
 reply_name Silent = codes "silent"
-reply_name (Sent octets) = joined (codes "sent " ∷ decimal octets ∷ [])
+reply_name (Sent octets) = whole_of (codes "sent " ∷ decimal octets ∷ [])
 reply_name Taken = codes "taken"
 
 -- what became of a scripted event
@@ -56,16 +56,16 @@ event_name Missed = codes "missed"
 
 -- `T event E done` or `T event E missed`
 abbrev pub event_line : ℕ → ℕ × WorldReply → List ℕ
-event_line t e = joined (
+event_line t e = whole_of (
     decimal t ∷ codes " event " ∷ decimal e.0 ∷ codes " " ∷ event_name e.1 ∷ codes "\n" ∷ [])
 
 -- `T P `, by which the line of a step begins: the tick and the port
 abbrev pub place_text : ℕ → List ℕ → List ℕ
-place_text t port = joined (decimal t ∷ codes " " ∷ port ∷ codes " " ∷ [])
+place_text t port = whole_of (decimal t ∷ codes " " ∷ port ∷ codes " " ∷ [])
 
 -- `STEP REPLY`, by which the line of a step ends: the step and its answer
 abbrev pub made_text : NodeStep → List ℕ
-made_text st = joined (step_name st.step ∷ codes " " ∷ reply_name st.reply ∷ codes "\n" ∷ [])
+made_text st = whole_of (step_name st.step ∷ codes " " ∷ reply_name st.reply ∷ codes "\n" ∷ [])
 
 -- `T P STEP REPLY`
 abbrev pub step_line : ℕ → List ℕ → NodeStep → List ℕ

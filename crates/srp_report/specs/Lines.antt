@@ -3,7 +3,7 @@ use Rattle.std.specs.Prelude.{ℕ, ◌-◌, Bool, true, false, List, [], ◌∷�
 use Rattle.std.specs.Option.{option_map_or}
 use Rattle.std.specs.Fmt.{decimal}
 use Rattle.srp_base.specs.Hexadecimal.{hex16_text}
-use Rattle.srp_base.specs.Text.{joined}
+use Rattle.srp_base.specs.Text.{whole_of}
 use Rattle.srp_base.specs.declared.bandwidth.Class.{Class}
 use Rattle.srp_base.specs.declared.bandwidth.Class.TheVariants.{A, B}
 use Rattle.srp_base.specs.declared.numbers.Cs.{Cs}
@@ -33,7 +33,7 @@ name_of nodes x = option_map_or (λ node. node.name) (slice_get nodes (x.0 - 1))
 
 -- a port as `x>y`: the names of its node and of its peer's
 abbrev pub port_name : Plan → List Link → EgressPort → List ℕ
-port_name plan links p = joined (name_of plan.nodes p.node ∷ codes ">" ∷ name_of plan.nodes (peer_of links p).node ∷ [])
+port_name plan links p = whole_of (name_of plan.nodes p.node ∷ codes ">" ∷ name_of plan.nodes (peer_of links p).node ∷ [])
 
 -- a Registrar's state by its name (IEEE Std 802.1Q-2018, 10.7.8); that of what is registered is IN or LV
 abbrev pub state_name : Registrar → List ℕ
@@ -66,17 +66,17 @@ class_name B = codes "B"
 
 -- `ticks T`
 abbrev pub ticks_line : ℕ → List ℕ
-ticks_line ticks = joined (codes "ticks " ∷ decimal ticks ∷ codes "\n" ∷ [])
+ticks_line ticks = whole_of (codes "ticks " ∷ decimal ticks ∷ codes "\n" ∷ [])
 
 -- `port P sent N octets O discarded D`
 abbrev pub port_line : List ℕ → Tally → List ℕ
-port_line port tally = joined (
+port_line port tally = whole_of (
     codes "port " ∷ port ∷ codes " sent " ∷ decimal tally.sent ∷ codes " octets " ∷ decimal tally.octets
     ∷ codes " discarded " ∷ decimal tally.discarded ∷ codes "\n" ∷ [])
 
 -- `vlan P V S`
 abbrev pub vlan_line : List ℕ → ℕ → Registrar → List ℕ
-vlan_line port vid state = joined (
+vlan_line port vid state = whole_of (
     codes "vlan " ∷ port ∷ codes " " ∷ decimal vid ∷ codes " " ∷ state_name state ∷ codes "\n" ∷ [])
 
 -- how the line of a Talker begins: the port and the stream
@@ -85,12 +85,12 @@ talker_start port stream = codes "talker " ++ port ++ codes " " ++ hex16_text st
 
 -- how the line of a Talker Failed goes on: the bridge where the Talker failed, and the failure code
 abbrev pub failure_text : Failure → List ℕ
-failure_text failure = joined (
+failure_text failure = whole_of (
     codes " failed bridge " ∷ hex16_text failure.bridge.0 ∷ codes " code " ∷ decimal failure.code ∷ codes " latency " ∷ [])
 
 -- how the line of a Talker ends: the accumulated latency in ns, and the state of the Registrar
 abbrev pub talker_end : ℕ → Registrar → List ℕ
-talker_end latency state = joined (decimal latency ∷ codes " " ∷ state_name state ∷ codes "\n" ∷ [])
+talker_end latency state = whole_of (decimal latency ∷ codes " " ∷ state_name state ∷ codes "\n" ∷ [])
 
 -- `talker P ID advertise latency L S`, or `talker P ID failed bridge B code C latency L S`; of a Talker nothing but what a
 -- Talker declares is registered, so that the last case doesn't occur
@@ -103,7 +103,7 @@ talker_line port stream _ state = []
 
 -- `listener P ID K S`; of Listeners nothing but what a Listener declares is registered, as above
 abbrev pub listener_line : List ℕ → StreamId → Option MsrpContent → Registrar → List ℕ
-listener_line port stream (Some (Listener kind)) state = joined (
+listener_line port stream (Some (Listener kind)) state = whole_of (
     codes "listener " ∷ port ∷ codes " " ∷ hex16_text stream.0 ∷ codes " " ∷ kind_name kind
     ∷ codes " " ∷ state_name state ∷ codes "\n" ∷ [])
 listener_line port stream _ state = []
@@ -117,7 +117,7 @@ srp_line port (keys.Domain class) content state = []
 -- `booked P ID A slope S since T`, or with `B`; S in bit/s and T in cs; what is booked has a moment
 abbrev pub want_line : List ℕ → Want → Option Cs → List ℕ
 want_line port want None = []
-want_line port want (Some since) = joined (
+want_line port want (Some since) = whole_of (
     codes "booked " ∷ port ∷ codes " " ∷ hex16_text want.stream.0 ∷ codes " " ∷ class_name want.class
     ∷ codes " slope " ∷ decimal want.slope ∷ codes " since " ∷ decimal since.0 ∷ codes "\n" ∷ [])
 
@@ -127,10 +127,10 @@ booked_line port x = want_line port x.want x.since
 
 -- `heard X ID ready`, `heard X ID asking-failed` or `heard X ID nothing`
 abbrev pub heard_line : List ℕ → StreamId → Option ListenerKind → List ℕ
-heard_line name stream heard = joined (
+heard_line name stream heard = whole_of (
     codes "heard " ∷ name ∷ codes " " ∷ hex16_text stream.0 ∷ codes " " ∷ heard_name heard ∷ codes "\n" ∷ [])
 
 -- `quiet yes` or `quiet no`, then `in step yes` or `in step no`
 abbrev pub end_lines : Bool → Bool → List ℕ
-end_lines quiet in_step = joined (
+end_lines quiet in_step = whole_of (
     codes "quiet " ∷ yes_or_no quiet ∷ codes "\nin step " ∷ yes_or_no in_step ∷ codes "\n" ∷ [])

@@ -2,7 +2,7 @@
 -- what each station hears of the streams that it listens to, what became of the frames, and how the network is at the end.
 use Rattle.std.specs.Prelude.{ℕ, ◌+◌, if◌then◌else◌, List, [], ◌∷◌, ◌++◌, flat_map}
 use Rattle.std.specs.Option.{option_map_or}
-use Rattle.srp_base.specs.Text.{joined}
+use Rattle.srp_base.specs.Text.{whole_of}
 use Rattle.srp_base.specs.declared.numbers.EgressPort.{EgressPort}
 use Rattle.srp_base.specs.declared.numbers.NodeNo.{NodeNo}
 use Rattle.tree_topology.specs.declared.graph.NodeKind.{NodeKind}
@@ -79,7 +79,7 @@ nodes_heard plan n (s ∷ nodes) = node_heard plan (record { 0 = n }) s ++ nodes
 
 -- what a report has before the lines of the frames: the ticks, the ports, and what the stations hear
 abbrev pub before_frames : Plan → WorldState → List Tick → List ℕ
-before_frames plan w ticks = joined (ticks_line plan.ticks ∷ port_parts plan w ticks ∷ nodes_heard plan 1 w.nodes ∷ [])
+before_frames plan w ticks = whole_of (ticks_line plan.ticks ∷ port_parts plan w ticks ∷ nodes_heard plan 1 w.nodes ∷ [])
 
 -- what a report has behind the lines of the frames: whether the network is quiet and in step at the end
 abbrev pub behind_frames : WorldState → List ℕ
@@ -88,4 +88,4 @@ behind_frames w = end_lines (is_quiet w) (is_in_step w)
 -- of a scenario, the network at the end of its run, the ticks of the run, and the flow of its frames
 abbrev pub report_text : Plan → WorldState → List Tick → List PortFlow → List ℕ
 report_text plan w ticks flows =
-    joined (before_frames plan w ticks ∷ flow_parts plan w.tree.links flows ∷ behind_frames w ∷ [])
+    whole_of (before_frames plan w ticks ∷ flow_parts plan w.tree.links flows ∷ behind_frames w ∷ [])

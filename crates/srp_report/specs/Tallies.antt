@@ -25,14 +25,14 @@ abbrev pub zero_rows : ℕ → List (List Tally)
 zero_rows last = replicate (last + 1) zero_row
 
 -- the tally with one answer more
-abbrev pub counted : Tally → StepReply → Tally
-counted t (Sent octets) = record t { sent = count_of (t.sent + 1); octets = count_of (t.octets + octets) }
-counted t (Discarded place) = record t { discarded = count_of (t.discarded + 1) }
-counted t _ = t
+abbrev pub with_reply : Tally → StepReply → Tally
+with_reply t (Sent octets) = record t { sent = count_of (t.sent + 1); octets = count_of (t.octets + octets) }
+with_reply t (Discarded place) = record t { discarded = count_of (t.discarded + 1) }
+with_reply t _ = t
 
 -- the tallies of a node's ports with one step more
 abbrev pub step_counted : List Tally → NodeStep → List Tally
-step_counted row st = option_map_or (λ t. slice_set row st.port.0 (counted t st.reply)) (slice_get row st.port.0) row
+step_counted row st = option_map_or (λ t. slice_set row st.port.0 (with_reply t st.reply)) (slice_get row st.port.0) row
 
 -- the tallies of a node's ports with all its steps in a tick
 abbrev pub steps_counted : List Tally → List NodeStep → List Tally

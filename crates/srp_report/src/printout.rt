@@ -1,7 +1,7 @@
 //! A run's report, made piece by piece: the lines of a port's departures are made when they are asked for.
 
 ghost use Rattle.std.specs.Prelude.{◌≡◌, ◌++◌, ◌<◌, [], None, length, OnOk, OnErr, IfOk, IfSome};
-ghost use Rattle.srp_base.specs.Text.{joined};
+ghost use Rattle.srp_base.specs.Text.{whole_of};
 ghost use Rattle.srp_report.specs.FrameLines.{flow_parts};
 ghost use Rattle.srp_report.specs.Printout.{IsFront};
 ghost use Rattle.srp_report.specs.Report.{report_text};
@@ -45,11 +45,11 @@ pub struct Printout {
 
 impl Model for Printout {
     ghost use Rattle.std.specs.Prelude.{ℕ, List, ◌++◌};
-    ghost use Rattle.srp_base.specs.Text.{joined};
+    ghost use Rattle.srp_base.specs.Text.{whole_of};
 
     ghost Value = { List ℕ };
 
-    ghost view = { λ p. p.before.items ++ joined p.ports.items ++ p.behind.items };
+    ghost view = { λ p. p.before.items ++ whole_of p.ports.items ++ p.behind.items };
 }
 
 impl Printout {
@@ -149,7 +149,7 @@ fn lines_of(
     tree: &Tree,
     flow: FlowResult,
 ) -> Result<VecDeque<PortLines>, NoMemory>
-    ensures { IfOk result (λ ports. joined ports.items
+    ensures { IfOk result (λ ports. whole_of ports.items
         ≡ flow_parts scenario.now tree.now.links flow.ports) }
 {
     if scenario.frames.len() == 0 {

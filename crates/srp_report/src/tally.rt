@@ -1,7 +1,7 @@
 //! What a port sent and discarded.
 
 ghost use Rattle.std.specs.Prelude.{◌≡◌};
-ghost use Rattle.srp_report.specs.Tallies.{zero_tally, counted};
+ghost use Rattle.srp_report.specs.Tallies.{zero_tally, with_reply};
 
 use node_core::StepReply;
 
@@ -30,7 +30,7 @@ impl Tally {
 
     /// The tally with one answer more.
     pub(crate) fn counted(self, reply: StepReply) -> Tally
-        ensures { result ≡ counted self reply }
+        ensures { result ≡ with_reply self reply }
     {
         match reply {
             StepReply::Sent(octets) => Tally {

@@ -10,10 +10,10 @@ use Rattle.world_core.specs.declared.journal.NodeSteps.{NodeSteps}
 use Rattle.world_core.specs.declared.journal.Tick.{Tick}
 use Rattle.world_core.specs.World.{WorldState, world_after}
 use Rattle.world_core.specs.Start.{world_of}
-use Rattle.world_core.specs.Ticks.{scripted, step_events, after_script, after_steps, closing_events, tick_events, IsLegalTick}
+use Rattle.world_core.specs.Ticks.{script_at, step_events, after_script, after_steps, closing_events, tick_events, IsLegalTick}
 use Rattle.world_core.specs.During.{IsDuring}
 use Rattle.world_core.specs.Carrying.{NothingWaits}
-use Rattle.world_core.specs.Timeline.{force_at, noted, AreChanges, Says, SaysFrom, world_after_ticks, IsTimelineOf}
+use Rattle.world_core.specs.Timeline.{force_at, with_notes, AreChanges, Says, SaysFrom, world_after_ticks, IsTimelineOf}
 use Rattle.world_core.specs.History.{has_acted, acts_noted}
 use Rattle.srp_schedule.proofs.StepLemmas.{after_append}
 use Rattle.srp_schedule.proofs.TickLemmas.{IsRunTo, no_tick}
@@ -21,16 +21,16 @@ use Rattle.srp_schedule.proofs.TickLemmas.{IsRunTo, no_tick}
 -- what this rests on, as the public laws say it
 pub record TimelineLaws : Type 0 where
   pub goes_on : (plan : Plan) (ticks : List Tick) (tick : Tick) (changes : List PortChange) (w : WorldState) → IsTimelineOf plan ticks changes
-      → w ≡ after_steps plan (length ticks) tick (world_after_ticks plan ticks) → w.tree ≡ plan.tree → IsTimelineOf plan (ticks ++ tick ∷ []) (noted (length ticks) w changes)
+      → w ≡ after_steps plan (length ticks) tick (world_after_ticks plan ticks) → w.tree ≡ plan.tree → IsTimelineOf plan (ticks ++ tick ∷ []) (with_notes (length ticks) w changes)
   pub next : (plan : Plan) (ticks : List Tick) (tick : Tick)
       → world_after_ticks plan (ticks ++ tick ∷ []) ≡ world_after (closing_events plan.tree) (after_steps plan (length ticks) tick (world_after_ticks plan ticks))
-  pub from : (tick : ℕ) (w : WorldState) (changes : List PortChange) → AreChanges w.tree tick changes → SaysFrom tick (noted tick w changes) w
+  pub from : (tick : ℕ) (w : WorldState) (changes : List PortChange) → AreChanges w.tree tick changes → SaysFrom tick (with_notes tick w changes) w
   pub closing : (tree : Topology) (w : WorldState) (p : EgressPort) → force_at p (world_after (closing_events tree) w) ≡ force_at p w
   pub trees : (es : List WorldEvent) (w : WorldState) → (world_after es w).tree ≡ w.tree
   pub quiet : (plan : Plan) (t : ℕ) (w : WorldState) (tick : Tick) (p : EgressPort) → IsLegalTick plan t w tick → HasPort plan.tree p → has_acted p.node tick.steps ≡ false
       → force_at p (after_steps plan t tick w) ≡ force_at p w
   pub all : (tick : ℕ) (steps : List NodeSteps) (w : WorldState) (changes : List PortChange)
-      → ((p : EgressPort) → HasPort w.tree p → has_acted p.node steps ≡ false → Says tick changes p (force_at p w)) → acts_noted tick steps w changes ≡ noted tick w changes
+      → ((p : EgressPort) → HasPort w.tree p → has_acted p.node steps ≡ false → Says tick changes p (force_at p w)) → acts_noted tick steps w changes ≡ with_notes tick w changes
 
 -- the ticks before tick t have their timeline, which says what is in force now
 pub record IsNotedTo (plan : Plan) (t : ℕ) (made : List Tick) (w : WorldState) (i : ℕ) (changes : List PortChange) : Type 0 where
@@ -57,11 +57,11 @@ module _ (laws : TimelineLaws) (plan : Plan) (t : ℕ) (ticks : List Tick) (w v 
       ap (λ (x : WorldState). after_steps plan t tick x) before.reached ∙ ap (λ (k : ℕ). after_steps plan k tick (world_after_ticks plan ticks)) (sym before.many)
 
   u_tree : u.tree ≡ plan.tree
-  u_tree = laws.trees (step_events tick.steps) (after_script plan t w) ∙ laws.trees (map (λ (e : ℕ × WorldEvent). e.1) (scripted plan t)) w ∙ before.run.during.tree_is
+  u_tree = laws.trees (step_events tick.steps) (after_script plan t w) ∙ laws.trees (map (λ (e : ℕ × WorldEvent). e.1) (script_at plan t)) w ∙ before.run.during.tree_is
 
   v_closes : v ≡ world_after (closing_events plan.tree) u
   v_closes =
-      let script : List WorldEvent = map (λ (e : ℕ × WorldEvent). e.1) (scripted plan t) in
+      let script : List WorldEvent = map (λ (e : ℕ × WorldEvent). e.1) (script_at plan t) in
       let steps : List WorldEvent = step_events tick.steps in
       made ∙ after_append (script ++ steps) (closing_events plan.tree) w ∙ ap (λ (x : WorldState). world_after (closing_events plan.tree) x) (after_append script steps w)
 
@@ -74,7 +74,7 @@ module _ (laws : TimelineLaws) (plan : Plan) (t : ℕ) (ticks : List Tick) (w v 
   are = subst (λ (r : Topology). AreChanges r t changes) (sym u_tree) (changes_are plan t ticks w cursor changes before)
 
   -- the nodes that have acted are all that have anything to note
-  is_noted : after ≡ noted t u changes
+  is_noted : after ≡ with_notes t u changes
   is_noted =
       is ∙ laws.all t tick.steps u changes
       (λ p has none.
@@ -87,8 +87,8 @@ module _ (laws : TimelineLaws) (plan : Plan) (t : ℕ) (ticks : List Tick) (w v 
         run = run;
         many = length_push ticks tick ∙ ap (λ (k : ℕ). k + 1) before.many;
         reached = v_closes ∙ ap (λ (x : WorldState). world_after (closing_events plan.tree) x) u_reached ∙ sym (laws.next plan ticks tick);
-        timeline = subst (λ (cs : List PortChange). IsTimelineOf plan (ticks ++ tick ∷ []) cs) (ap (λ (k : ℕ). noted k u changes) before.many ∙ sym is_noted)
+        timeline = subst (λ (cs : List PortChange). IsTimelineOf plan (ticks ++ tick ∷ []) cs) (ap (λ (k : ℕ). with_notes k u changes) before.many ∙ sym is_noted)
             (laws.goes_on plan ticks tick changes u before.timeline u_reached u_tree);
-        says = subst (λ (cs : List PortChange). SaysFrom (t + 1) cs v) (sym is_noted) (says_later (noted t u changes) (laws.from t u changes are));
+        says = subst (λ (cs : List PortChange). SaysFrom (t + 1) cs v) (sym is_noted) (says_later (with_notes t u changes) (laws.from t u changes are));
         waits = waits;
       }

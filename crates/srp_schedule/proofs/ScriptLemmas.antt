@@ -15,10 +15,10 @@ use Rattle.topology_file.specs.Plan.{Plan}
 use Rattle.world_core.specs.declared.events.WorldEvent.{WorldEvent}
 use Rattle.world_core.specs.declared.events.WorldReply.{WorldReply}
 use Rattle.world_core.specs.World.{WorldState, world_step, world_after, replies_to}
-use Rattle.world_core.specs.Ticks.{event_of, with_event, scripted_from, scripted, after_script}
+use Rattle.world_core.specs.Ticks.{event_of, with_event, scripted_from, script_at, after_script}
 use Rattle.world_core.specs.During.{IsDuring, IsAllowed}
 use Rattle.srp_schedule.specs.Cursor.{IsCursor}
-use Rattle.srp_schedule.specs.Script.{answered, answer_of, after_entry}
+use Rattle.srp_schedule.specs.Script.{answers_to, answer_of, after_entry}
 
 pub same_is : (x y : ℕ) → x ≡ y → (x == y) ≡ true
 same_is x y e = grind (arith, nat_tests, e)
@@ -77,7 +77,7 @@ later_tick events order i k d e at_i at_k le =
 -- ---- events with their answers
 
 answered_with : (n : ℕ) (o : Option WorldEvent) (later : List (ℕ × WorldEvent)) (w : WorldState)
-    → answered (with_event n o later) w ≡ answer_of n o w ++ answered later (after_entry o w)
+    → answers_to (with_event n o later) w ≡ answer_of n o w ++ answers_to later (after_entry o w)
 answered_with n None later w = refl
 answered_with n (Some e) later w = refl
 
@@ -86,11 +86,11 @@ after_with : (n : ℕ) (o : Option WorldEvent) (later : List (ℕ × WorldEvent)
 after_with n None later w = refl
 after_with n (Some e) later w = refl
 
-pub numbers_are : (script : List (ℕ × WorldEvent)) (w : WorldState) → map (λ e. e.0) (answered script w) ≡ map (λ e. e.0) script
+pub numbers_are : (script : List (ℕ × WorldEvent)) (w : WorldState) → map (λ e. e.0) (answers_to script w) ≡ map (λ e. e.0) script
 numbers_are [] w = refl
 numbers_are (e ∷ script) w = ap (λ ns. e.0 ∷ ns) (numbers_are script (world_step e.1 w).0)
 
-pub answers_are : (script : List (ℕ × WorldEvent)) (w : WorldState) → map (λ e. e.1) (answered script w) ≡ replies_to (map (λ e. e.1) script) w
+pub answers_are : (script : List (ℕ × WorldEvent)) (w : WorldState) → map (λ e. e.1) (answers_to script w) ≡ replies_to (map (λ e. e.1) script) w
 answers_are [] w = refl
 answers_are (e ∷ script) w = ap (λ rs. (world_step e.1 w).1 ∷ rs) (answers_are script (world_step e.1 w).0)
 
@@ -98,7 +98,7 @@ answers_are (e ∷ script) w = ap (λ rs. (world_step e.1 w).1 ∷ rs) (answers_
 
 -- the entries before place i have had their turn in tick t
 pub record IsScripted (plan : Plan) (t i : ℕ) (w v : WorldState) (done : List (ℕ × WorldReply)) : Type 0 where
-  pub answers : done ++ answered (scripted_from plan.tree.links plan.streams t (i + 1) (drop i plan.events)) v ≡ answered (scripted plan t) w
+  pub answers : done ++ answers_to (scripted_from plan.tree.links plan.streams t (i + 1) (drop i plan.events)) v ≡ answers_to (script_at plan t) w
   pub after : world_after (map (λ e. e.1) (scripted_from plan.tree.links plan.streams t (i + 1) (drop i plan.events))) v ≡ after_script plan t w
   pub during : IsDuring plan.tree t v
   pub past : (k : ℕ) (e : EventEntry) → slice_get plan.events k ≡ Some e → k < i → e.tick < suc t
@@ -112,7 +112,7 @@ begins plan t i w during cursor =
     in
     let is = from_place plan.tree.links plan.streams t 1 i plan.events skip ∙ ap (λ (m : ℕ). scripted_from plan.tree.links plan.streams t m (drop i plan.events)) number in
     record {
-      answers = ap (λ s. answered s w) (sym is);
+      answers = ap (λ s. answers_to s w) (sym is);
       after = ap (λ (s : List (ℕ × WorldEvent)). world_after (map (λ e. e.1) s) w) (sym is);
       during = during;
       past = λ k e get lt. let below = cursor.past k e get lt in omega (arith, below);
@@ -139,10 +139,10 @@ next_entry plan t i w v u e done order lt here same step during s =
     in
     record {
       answers =
-          append_assoc done (answer_of (i + 1) o v) (answered rest u)
-          ∙ (ap (λ x. done ++ (answer_of (i + 1) o v ++ answered rest x)) step
+          append_assoc done (answer_of (i + 1) o v) (answers_to rest u)
+          ∙ (ap (λ x. done ++ (answer_of (i + 1) o v ++ answers_to rest x)) step
           ∙ (ap (λ a. done ++ a) (sym (answered_with (i + 1) o rest v))
-          ∙ (ap (λ x. done ++ answered x v) (sym cut) ∙ s.answers)));
+          ∙ (ap (λ x. done ++ answers_to x v) (sym cut) ∙ s.answers)));
       after =
           ap (λ x. world_after (map (λ (q : ℕ × WorldEvent). q.1) rest) x) step
           ∙ (sym (after_with (i + 1) o rest v)
@@ -155,10 +155,10 @@ next_entry plan t i w v u e done order lt here same step during s =
 -- a later entry is of a later tick, or there is none
 pub ends : (plan : Plan) (t i : ℕ) (w v : WorldState) (done : List (ℕ × WorldReply)) → i ≤ length plan.events
     → ((k : ℕ) (e : EventEntry) → slice_get plan.events k ≡ Some e → i ≤ k → suc t ≤ e.tick) → IsScripted plan t i w v done
-    → (done ≡ answered (scripted plan t) w) × (v ≡ after_script plan t w) × IsCursor plan.events (suc t) i
+    → (done ≡ answers_to (script_at plan t) w) × (v ≡ after_script plan t w) × IsCursor plan.events (suc t) i
 ends plan t i w v done few later s =
     let none = none_from plan.tree.links plan.streams t (i + 1) i plan.events (λ k e get le same. let more = later k e get le in omega (arith, more, same)) in (
-      sym (append-nil done) ∙ (ap (λ x. done ++ answered x v) (sym none) ∙ s.answers),
+      sym (append-nil done) ∙ (ap (λ x. done ++ answers_to x v) (sym none) ∙ s.answers),
       ap (λ (x : List (ℕ × WorldEvent)). world_after (map (λ q. q.1) x) v) (sym none) ∙ s.after,
       record { within = few; past = s.past; coming = later },
     )
@@ -166,7 +166,7 @@ ends plan t i w v done few later s =
 -- the entry at a place is of another tick, so all from it on are of later ones
 pub stops : (plan : Plan) (t i : ℕ) (w v : WorldState) (e : EventEntry) (done : List (ℕ × WorldReply)) → IsNonDecreasing (map (λ x. x.tick) plan.events)
     → i < length plan.events → e ≡ get_or plan.events i e → e.tick ≢ t → IsScripted plan t i w v done
-    → (done ≡ answered (scripted plan t) w) × (v ≡ after_script plan t w) × IsCursor plan.events (suc t) i
+    → (done ≡ answers_to (script_at plan t) w) × (v ≡ after_script plan t w) × IsCursor plan.events (suc t) i
 stops plan t i w v e done order lt here other s =
     let at_i = slice_get_read plan.events (length plan.events) i e refl lt here in
     let from : t ≤ e.tick = s.coming i e at_i (omega arith) in
@@ -175,7 +175,7 @@ stops plan t i w v e done order lt here other s =
 
 -- no entry is left
 pub runs_out : (plan : Plan) (t i : ℕ) (w v : WorldState) (done : List (ℕ × WorldReply)) → i ≡ length plan.events → IsScripted plan t i w v done
-    → (done ≡ answered (scripted plan t) w) × (v ≡ after_script plan t w) × IsCursor plan.events (suc t) i
+    → (done ≡ answers_to (script_at plan t) w) × (v ≡ after_script plan t w) × IsCursor plan.events (suc t) i
 runs_out plan t i w v done all s =
     ends plan t i w v done (omega (arith, all)) (λ k d get le. let within = slice_get_within plan.events k d get in absurd (omega (arith, within, le, all))) s
 

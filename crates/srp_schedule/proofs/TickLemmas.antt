@@ -18,12 +18,12 @@ use Rattle.world_core.specs.declared.journal.NodeSteps.{NodeSteps}
 use Rattle.world_core.specs.declared.journal.Tick.{Tick}
 use Rattle.world_core.specs.World.{WorldState, Happened, CanHappen, world_step, world_after}
 use Rattle.world_core.specs.Start.{world_of}
-use Rattle.world_core.specs.Ticks.{scripted, after_script, after_steps, step_events, link_ports, tick_events, LeadTo, IsCanonicalTick}
+use Rattle.world_core.specs.Ticks.{script_at, after_script, after_steps, step_events, link_ports, tick_events, LeadTo, IsCanonicalTick}
 use Rattle.world_core.specs.During.{IsDuring, IsAllowed}
 use Rattle.world_core.specs.Carrying.{NothingWaits, has_send}
 use Rattle.world_core.specs.History.{HasPortsOf, acts_noted}
 use Rattle.srp_schedule.specs.Cursor.{IsCursor}
-use Rattle.srp_schedule.specs.Script.{answered}
+use Rattle.srp_schedule.specs.Script.{answers_to}
 use Rattle.srp_schedule.specs.Made.{AreSteps, carried_ends}
 use Rattle.srp_schedule.specs.Tick.{DuringLaws}
 use Rattle.srp_schedule.proofs.ScriptLemmas.{numbers_are, answers_are}
@@ -86,7 +86,7 @@ nothing_carried law plan t w during waits v tick is tree isnt =
 
 -- what the parts of a tick have made of a network, one after the other: the script, the steps, the carrying and the clock
 pub record AreTickParts (plan : Plan) (t : ℕ) (w w1 w2 w3 w4 : WorldState) (tick : Tick) : Type 0 where
-  pub answers : tick.events ≡ answered (scripted plan t) w
+  pub answers : tick.events ≡ answers_to (script_at plan t) w
   pub script : w1 ≡ after_script plan t w
   pub steps : AreSteps (length w1.tree.kinds) w1 tick.steps
   pub stepped : w2 ≡ world_after (step_events tick.steps) w1
@@ -94,7 +94,7 @@ pub record AreTickParts (plan : Plan) (t : ℕ) (w w1 w2 w3 w4 : WorldState) (ti
   pub clock : w4 ≡ (world_step Clock w3).0
 
 pub tick_parts : (plan : Plan) (t : ℕ) (w w1 w2 w3 w4 : WorldState) (events : List (ℕ × WorldReply)) (steps : List NodeSteps) (tick : Tick)
-    → tick.events ≡ events → tick.steps ≡ steps → events ≡ answered (scripted plan t) w → w1 ≡ after_script plan t w → AreSteps (length w1.tree.kinds) w1 steps
+    → tick.events ≡ events → tick.steps ≡ steps → events ≡ answers_to (script_at plan t) w → w1 ≡ after_script plan t w → AreSteps (length w1.tree.kinds) w1 steps
     → w2 ≡ world_after (step_events steps) w1 → w3 ≡ world_after (map Carry (link_ports w2.tree)) w2 → w4 ≡ (world_step Clock w3).0
     → AreTickParts plan t w w1 w2 w3 w4 tick
 tick_parts plan t w w1 w2 w3 w4 events steps tick e s answers script made stepped carried clock =
@@ -127,7 +127,7 @@ module _ (laws : DuringLaws) (plan : Plan) (rules : KeepsRules plan) (t : ℕ) (
   below = let few = rules.ticks.1 in omega (arith, within, few)
 
   pub scripted_stays : (w1 : WorldState) → w1 ≡ after_script plan t w → IsDuring plan.tree t w1
-  scripted_stays w1 is = subst (IsDuring plan.tree t) (sym is) (laws.all_stay plan.tree t (map (λ (e : ℕ × WorldEvent). e.1) (scripted plan t)) w (laws.scripted plan t rules) during)
+  scripted_stays w1 is = subst (IsDuring plan.tree t) (sym is) (laws.all_stay plan.tree t (map (λ (e : ℕ × WorldEvent). e.1) (script_at plan t)) w (laws.scripted plan t rules) during)
 
   pub stepped_stays : (w1 w2 : WorldState) (steps : List NodeSteps) → w1 ≡ after_script plan t w → AreSteps (length w1.tree.kinds) w1 steps → w2 ≡ world_after (step_events steps) w1 → IsDuring plan.tree t w2
   stepped_stays w1 w2 steps is made after =
@@ -159,7 +159,7 @@ module _ (laws : DuringLaws) (plan : Plan) (rules : KeepsRules plan) (t : ℕ) (
 
     pub after_tick : w4 ≡ world_after (tick_events plan t tick) w
     after_tick =
-        let script : List WorldEvent = map (λ (e : ℕ × WorldEvent). e.1) (scripted plan t) in
+        let script : List WorldEvent = map (λ (e : ℕ × WorldEvent). e.1) (script_at plan t) in
         let steps : List WorldEvent = step_events tick.steps in
         let carries : List WorldEvent = map Carry (link_ports plan.tree) in
         let there = stepped_stays w1 w2 tick.steps made.script made.steps made.stepped in
@@ -186,8 +186,8 @@ module _ (laws : DuringLaws) (plan : Plan) (rules : KeepsRules plan) (t : ℕ) (
         let tree : there.tree ≡ plan.tree = (scripted_stays there refl).tree_is in
         record {
           legal = record {
-            numbers = ap (λ (es : List (ℕ × WorldReply)). map (λ e. e.0) es) made.answers ∙ numbers_are (scripted plan t) w;
-            answers = ap (λ (es : List (ℕ × WorldReply)). map (λ e. e.1) es) made.answers ∙ answers_are (scripted plan t) w;
+            numbers = ap (λ (es : List (ℕ × WorldReply)). map (λ e. e.0) es) made.answers ∙ numbers_are (script_at plan t) w;
+            answers = ap (λ (es : List (ℕ × WorldReply)). map (λ e. e.1) es) made.answers ∙ answers_are (script_at plan t) w;
             nodes = steps.nodes;
             some = steps.some;
             known = subst (λ (r : Topology). AllByRecursion (λ ns. AllByRecursion (λ st. HasPort r (record { node = ns.node; port = st.port })) ns.steps) tick.steps) tree steps.known;

@@ -15,6 +15,6 @@ after_entry None w = w
 after_entry (Some e) w = (world_step e w).0
 
 -- what events answer, one after the other, each with its number
-abbrev pub answered : List (ℕ × WorldEvent) → WorldState → List (ℕ × WorldReply)
-answered [] w = []
-answered (e ∷ later) w = (e.0, (world_step e.1 w).1) ∷ answered later (world_step e.1 w).0
+abbrev pub answers_to : List (ℕ × WorldEvent) → WorldState → List (ℕ × WorldReply)
+answers_to [] w = []
+answers_to (e ∷ later) w = (e.0, (world_step e.1 w).1) ∷ answers_to later (world_step e.1 w).0

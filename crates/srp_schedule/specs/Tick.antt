@@ -8,7 +8,7 @@ use Rattle.world_core.specs.declared.events.WorldEvent.{WorldEvent}
 use Rattle.world_core.specs.declared.events.WorldEvent.TheVariants.{Carry, Clock}
 use Rattle.world_core.specs.declared.journal.Tick.{Tick}
 use Rattle.world_core.specs.World.{WorldState, CanHappen, world_step, world_after}
-use Rattle.world_core.specs.Ticks.{scripted, link_ports, tick_events, after_steps, IsCanonicalTick}
+use Rattle.world_core.specs.Ticks.{script_at, link_ports, tick_events, after_steps, IsCanonicalTick}
 use Rattle.world_core.specs.During.{IsDuring, IsAllowed}
 use Rattle.world_core.specs.Carrying.{NothingWaits}
 use Rattle.world_core.specs.History.{HistoryState, acts_noted}
@@ -19,7 +19,7 @@ pub record DuringLaws : Type 0 where
   pub all_stay : (tree : Topology) (t : ℕ) (es : List WorldEvent) (w : WorldState) → AllByRecursion (IsAllowed tree) es → IsDuring tree t w → IsDuring tree t (world_after es w)
   pub clock : (tree : Topology) (t : ℕ) (w : WorldState) → t < 2 ^ 61 → IsDuring tree t w → CanHappen Clock w
   pub next : (tree : Topology) (t : ℕ) (w : WorldState) → t < 2 ^ 61 → IsDuring tree t w → IsDuring tree (suc t) (world_step Clock w).0
-  pub scripted : (plan : Plan) (t : ℕ) → KeepsRules plan → AllByRecursion (IsAllowed plan.tree) (map (λ (e : ℕ × WorldEvent). e.1) (scripted plan t))
+  pub scripted : (plan : Plan) (t : ℕ) → KeepsRules plan → AllByRecursion (IsAllowed plan.tree) (map (λ (e : ℕ × WorldEvent). e.1) (script_at plan t))
   pub carried : (plan : Plan) → KeepsRules plan → AllByRecursion (IsAllowed plan.tree) (map Carry (link_ports plan.tree))
 
 -- Tick t of a scenario is made, and has led from the network w to v: the next tick begins with nothing in an outbox, its events

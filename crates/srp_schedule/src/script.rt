@@ -3,11 +3,11 @@
 ghost use Rattle.std.specs.Prelude.{◌≡◌, ◌++◌, suc, Some, option_map, IfSome, IfOk, OnOk};
 ghost use Rattle.tree_topology.specs.Graph.{Joined};
 ghost use Rattle.tree_topology.specs.Ports.{port_to};
-ghost use Rattle.world_core.specs.Ticks.{event_of, scripted, after_script, stream_at, talker_of_entry};
+ghost use Rattle.world_core.specs.Ticks.{event_of, script_at, after_script, stream_at, talker_of_entry};
 ghost use Rattle.world_core.specs.World.{CanHappen};
 ghost use Rattle.world_core.specs.During.{IsDuring, NamesNeighbours};
 ghost use Rattle.srp_schedule.specs.Cursor.{IsCursor};
-ghost use Rattle.srp_schedule.specs.Script.{answered, answer_of, after_entry};
+ghost use Rattle.srp_schedule.specs.Script.{answers_to, answer_of, after_entry};
 
 use node_core::AppRequest;
 use srp_base::{EgressPort, NoMemory, NodeNo, Talker};
@@ -28,7 +28,7 @@ pub(crate) fn make_events(
 ) -> Result<Vec<(u32, WorldReply)>, NoMemory>
     requires during { IsDuring scenario.now.tree t world.old }
     requires cursor { IsCursor scenario.now.events t cursor.old }
-    ensures answers { IfOk result (λ v. v.items ≡ answered (scripted scenario.now t) world.old) }
+    ensures answers { IfOk result (λ v. v.items ≡ answers_to (script_at scenario.now t) world.old) }
     ensures after { OnOk result (world.new ≡ after_script scenario.now t world.old) }
     ensures cursor { OnOk result (IsCursor scenario.now.events (suc t) cursor.new) }
 {

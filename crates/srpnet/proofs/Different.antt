@@ -8,7 +8,7 @@ use Rattle.std.proofs.lemmas.List.{take_more, map_push, length-map}
 use Rattle.std.proofs.lemmas.List.Elements.{filter-append}
 use Rattle.indexmap.specs.IndexSet.{insert_key}
 use Rattle.srpnet.specs.declared.ledger.file.LedgerWant.{LedgerWant}
-use Rattle.srpnet.specs.LedgerFile.{different, streams_of, first_crowd, mentioned}
+use Rattle.srpnet.specs.LedgerFile.{different, streams_of, first_crowd, streams_mentioned}
 use Rattle.toml_rules.specs.Rules.{fails_at}
 
 -- what isn't x
@@ -82,7 +82,7 @@ crowd_not_yet ws i d keys set found h is after few before =
 pub crowd_here : (ws : List LedgerWant) (i : ℕ) (d : LedgerWant) (keys set : List ℕ) → i < length ws
     → keys ≡ different (streams_of (take i ws)) → set ≡ insert_key eqb keys (get_or ws i d).want.stream.0
     → 128 < length set → first_crowd (streams_of (take i ws)) (streams_of (drop i ws)) ≡ first_crowd [] (streams_of ws)
-    → mentioned ws ≡ Err (fails_at 35 (i + 1))
+    → streams_mentioned ws ≡ Err (fails_at 35 (i + 1))
 crowd_here ws i d keys set h is after many before =
     let at = crowd_at ws i d set h (set_step ws i d keys set h is after) in
     let crowd : nat_le (length set) 128 ≡ false = grind (arith, nat_tests) in

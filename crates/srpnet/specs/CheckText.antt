@@ -1,14 +1,14 @@
 -- What `srpnet check` prints: what a scenario holds, by its counts.
 use Rattle.std.specs.Prelude.{◌≡◌, ℕ, List, [], ◌∷◌, ◌++◌, length, codes, Ok}
 use Rattle.std.specs.Fmt.{decimal}
-use Rattle.srp_base.specs.Text.{joined}
+use Rattle.srp_base.specs.Text.{whole_of}
 use Rattle.topology_file.specs.Frames.{frame_copies}
 use Rattle.topology_file.specs.Plan.{Plan}
 use Rattle.srpnet.specs.ScenarioInput.{scenario_input}
 
 -- the counts of the network, a line each
 abbrev pub network_lines : Plan → List ℕ
-network_lines plan = joined (
+network_lines plan = whole_of (
     codes "nodes " ∷ decimal (length plan.nodes)
     ∷ codes "\nlinks " ∷ decimal (length plan.links)
     ∷ codes "\nstreams " ∷ decimal (length plan.streams)
@@ -16,7 +16,7 @@ network_lines plan = joined (
 
 -- the counts of what happens in it, a line each; frames count their copies
 abbrev pub run_lines : Plan → List ℕ
-run_lines plan = joined (
+run_lines plan = whole_of (
     codes "events " ∷ decimal (length plan.events)
     ∷ codes "\nframes " ∷ decimal (frame_copies plan.frames)
     ∷ codes "\nticks " ∷ decimal plan.ticks

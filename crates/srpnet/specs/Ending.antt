@@ -6,7 +6,7 @@ use Rattle.srpnet.specs.declared.words.Command.{Command}
 use Rattle.srpnet.specs.declared.outcome.Cause.{Cause}
 use Rattle.srpnet.specs.declared.outcome.Cause.TheVariants.{Done, BadWords, ReadFault, TooLong, WriteFault, NoMemory}
 use Rattle.srpnet.specs.Outcomes.{IsRefusal, IsWriteFault, WritesNothing}
-use Rattle.srpnet.specs.TopCall.{Wrote, WrotePart, WroteUntilNoMemory, WroteNothing, Refuses, ReadsNothing, most_octets, expected}
+use Rattle.srpnet.specs.TopCall.{Wrote, WrotePart, WroteUntilNoMemory, WroteNothing, Refuses, ReadsNothing, most_octets, plain_ending}
 use Rattle.world_core.specs.declared.journal.Tick.{Tick}
 
 -- A command is carried out on a source of the type I and an out sink of the type O, before the call
@@ -44,7 +44,7 @@ pub record CarriedOut {I O : Type 0} (left : I → Option (List ℕ)) (in_faults
   -- octets that the source tells, or want of memory
   pub ends : (octets : List ℕ) → left source ≡ Some octets
       → (Rose (in_faults source) (in_faults source') → ⊥) → (Rose (out_faults out) (out_faults out') → ⊥)
-      → (cause ≡ expected command octets) ⊎ (cause ≡ NoMemory)
+      → (cause ≡ plain_ending command octets) ⊎ (cause ≡ NoMemory)
   -- the pages of help and of the version read nothing, and go out whatever the source is
   pub page_unread : ReadsNothing command → source' ≡ source
   pub page_ends : ReadsNothing command → (Rose (out_faults out) (out_faults out') → ⊥)

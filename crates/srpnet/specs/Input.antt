@@ -26,10 +26,10 @@ ending (Ok x) = Done
 ending (Err cause) = cause
 
 -- the cause that a failure tells, which want of memory doesn't
-abbrev pub told : Cause → Option Cause
-told NoMemory = None
-told cause = Some cause
+abbrev pub told_cause : Cause → Option Cause
+told_cause NoMemory = None
+told_cause cause = Some cause
 
 -- what is answered for an input, seen by view, is what is said of its octets, unless memory ran out
 abbrev pub GivesInput : {X A : Type 0} → (X → A) → Result X Cause → Result A Cause → Type 0
-GivesInput view result said = Gives view told result said
+GivesInput view result said = Gives view told_cause result said

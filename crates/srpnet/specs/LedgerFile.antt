@@ -45,8 +45,8 @@ first_crowd front (k ∷ ks) =
     else Some (length front + 1)
 
 -- the different streams, where there are at most 128
-abbrev pub mentioned : List LedgerWant → Result (List ℕ) RuleErr
-mentioned wants = do
+abbrev pub streams_mentioned : List LedgerWant → Result (List ℕ) RuleErr
+streams_mentioned wants = do
   _ ← no_entry 35 (first_crowd [] (streams_of wants))
   Ok (different (streams_of wants))
 
@@ -55,7 +55,7 @@ abbrev pub wants_of : List Members → Result (List LedgerWant × List StreamId)
 wants_of entries = do
   wants ← each_entry 33 want_entry 1 entries
   _ ← no_entry 34 (first_fall 1 0 (want_ticks wants))
-  streams ← mentioned wants
+  streams ← streams_mentioned wants
   Ok (wants, map (λ k. record { 0 = k }) streams)
 
 -- The file of a table, or the first rule that fails, with its first failing entry:

@@ -7,7 +7,7 @@ use Rattle.srp_base.specs.declared.numbers.Cs.{Cs}
 use Rattle.srp_base.specs.declared.numbers.StreamId.{StreamId}
 use Rattle.srp_base.specs.declared.bandwidth.Class.TheVariants.{A, B}
 use Rattle.srp_base.specs.Hexadecimal.{hex16_text}
-use Rattle.srp_base.specs.Text.{joined}
+use Rattle.srp_base.specs.Text.{whole_of}
 use Rattle.stream_importance.specs.declared.entry.Want.{Want}
 use Rattle.stream_importance.specs.declared.entry.Fit.{Fit}
 use Rattle.stream_importance.specs.declared.entry.Fit.TheVariants.{Fits, TooLittle}
@@ -19,19 +19,19 @@ use Rattle.srpnet.specs.LedgerInput.{ledger_input}
 
 -- `ID booked slope S since T`
 abbrev pub booked_line : Want → Cs → List ℕ
-booked_line want since = joined (
+booked_line want since = whole_of (
     hex16_text want.stream.0 ∷ codes " booked slope " ∷ decimal want.slope
     ∷ codes " since " ∷ decimal since.0 ∷ codes "\n" ∷ [])
 
 -- `ID refused slope S more M cap C code K`
 abbrev pub refused_line : Want → ℕ → ℕ → ℕ → List ℕ
-refused_line want more cap code = joined (
+refused_line want more cap code = whole_of (
     hex16_text want.stream.0 ∷ codes " refused slope " ∷ decimal want.slope ∷ codes " more " ∷ decimal more
     ∷ codes " cap " ∷ decimal cap ∷ codes " code " ∷ decimal code ∷ codes "\n" ∷ [])
 
 -- `slope A S cap C`, and `slope A+B S cap C` for both classes
 abbrev pub sum_line : List ℕ → ℕ → ℕ → List ℕ
-sum_line classes sum cap = joined (
+sum_line classes sum cap = whole_of (
     codes "slope " ∷ classes ∷ codes " " ∷ decimal sum ∷ codes " cap " ∷ decimal cap ∷ codes "\n" ∷ [])
 
 -- the line of a want by its booking; a want that is kept and isn't booked doesn't fit, so that the last

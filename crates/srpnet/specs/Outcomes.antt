@@ -2,7 +2,7 @@
 -- error stream. A new cause has a line in each of these three, and none elsewhere.
 use Rattle.std.specs.Prelude.{◌≡◌, ◌⊎◌, ℕ, List, [], ◌∷◌, codes, Result, Ok, Err}
 use Rattle.std.specs.Fmt.{decimal}
-use Rattle.srp_base.specs.Text.{joined}
+use Rattle.srp_base.specs.Text.{whole_of}
 use Rattle.srp_io.specs.declared.whole.ReadErr.{ReadErr}
 use Rattle.srp_io.specs.declared.whole.ReadErr.TheVariants.{Fault as fault, TooLong as too_long, NoMemory as no_memory_to_read}
 use Rattle.toml_rules.specs.declared.rules.RuleErr.{RuleErr}
@@ -60,7 +60,7 @@ fixed_text NoMemory = codes "srpnet: no memory\n"
 
 -- the text of a cause; a broken rule is named by its number and its first failing entry
 abbrev pub err_text : Cause → List ℕ
-err_text (BadScenario rule entry) = joined (
+err_text (BadScenario rule entry) = whole_of (
     codes "srpnet: rule " ∷ decimal rule ∷ codes " entry " ∷ decimal entry ∷ codes "\n" ∷ [])
 err_text cause = fixed_text cause
 

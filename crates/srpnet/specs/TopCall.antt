@@ -94,6 +94,6 @@ abbrev pub ReadsNothing : Command → Type 0
 ReadsNothing command = reads_input command ≡ false
 
 -- how a command ends where a source tells these octets, nothing fails and memory lasts
-abbrev pub expected : Command → List ℕ → Cause
-expected command octets =
+abbrev pub plain_ending : Command → List ℕ → Cause
+plain_ending command octets =
     if reads_input command && not (nat_le (length octets) most_octets) then TooLong else ending_of command octets

@@ -6,7 +6,7 @@ ghost use Rattle.srp_io.specs.Faults.{Rose};
 ghost use Rattle.srp_io.specs.Whole.{TookAtMost, TookPast};
 ghost use Rattle.srpnet.specs.Outcomes.{status_of as status_of_spec, err_text, EndsAs, EndsWriting, IsRefusal, IsWriteFault, LacksOutput};
 ghost use Rattle.srpnet.specs.Ending.{CarriedOut, IsEnding};
-ghost use Rattle.srpnet.specs.TopCall.{expected, IsOutput, Refuses, ReadsNothing, PartOf, StoppedIn, StopsWriting, GainsFront};
+ghost use Rattle.srpnet.specs.TopCall.{plain_ending, IsOutput, Refuses, ReadsNothing, PartOf, StoppedIn, StopsWriting, GainsFront};
 ghost use Rattle.srpnet.specs.Words.{command_of as command_of_spec};
 
 use crate::commands::{CommandOutput, output, reads_input};
@@ -42,7 +42,7 @@ fn read_output<I: Source>(
         → Refuses command (I.left source.old) (I.left source.new) c) }
     ensures ends { (octets : List ℕ) → I.left source.old ≡ Some octets
         → (Rose (I.faults source.old) (I.faults source.new) → ⊥)
-        → EndsAs (expected command octets) result }
+        → EndsAs (plain_ending command octets) result }
     ensures page_unread { ReadsNothing command → source.new ≡ source.old }
     ensures page_ends { ReadsNothing command → EndsAs Cause.Done result }
 {

@@ -26,12 +26,12 @@ use Rattle.mrp_participant.specs.Row.{is_live, applicant_takes}
 use Rattle.mrp_participant.specs.Sending.{opportunity, before_opportunity, row_after, sent_row}
 use Rattle.mrp_participant.specs.State.{is_active, after, takes, row_sent}
 use Rattle.mvrp.specs.Part.{Part, base, octets, sent_part}
-use Rattle.mvrp.specs.Side.{Vlans, place_of, has_own, requested_vlans, sent_vlans, spoilt_vlans, replaced, with_part}
+use Rattle.mvrp.specs.Side.{Vlans, place_of, has_own, requested_vlans, sent_vlans, spoilt_vlans, with_part_at, with_part}
 use Rattle.msrp.specs.declared.port.Port.{Port as SrpPort}
 use Rattle.msrp.specs.declared.asking.SrpRequest.{SrpRequest}
 use Rattle.msrp.specs.declared.asking.SrpRequest.TheVariants as asks
 use Rattle.msrp.specs.Part.{Part as SrpPart, sent_part as srp_sent_part}
-use Rattle.msrp.specs.Side.{Streams, requested_streams, sent_streams, spoilt_streams, is_talk, has_talk, has_listen, with_port, with_part as with_srp_part, replaced as streams_replaced}
+use Rattle.msrp.specs.Side.{Streams, requested_streams, sent_streams, spoilt_streams, is_talk, has_talk, has_listen, with_port, with_part as with_srp_part, with_port_at as streams_replaced}
 use Rattle.msrp.specs.Stream.{talk_of}
 use Rattle.tree_topology.specs.declared.graph.Link.{Link}
 use Rattle.tree_topology.specs.Topology.{Topology, HasNode, HasPort}
@@ -49,12 +49,12 @@ use Rattle.node_core.specs.declared.types.PortStep.{PortStep}
 use Rattle.node_core.specs.declared.types.PortStep.TheVariants.{Work, LeaveNow, LeaveAllNow, PeriodicNow, Due, Settle, Send}
 use Rattle.node_core.specs.Links.{lost_at, repeated_at, spoilt_at}
 use Rattle.node_core.specs.State.{NodeState, of_part, of_port}
-use Rattle.node_core.specs.Step.{node_step, said, sent_octets}
+use Rattle.node_core.specs.Step.{node_step, octets_to_say, sent_octets}
 use Rattle.world_core.specs.declared.events.WorldEvent.{WorldEvent}
 use Rattle.world_core.specs.declared.events.WorldEvent.TheVariants.{Request, Port, Lose, Repeat}
 use Rattle.world_core.specs.declared.journal.NodeSteps.{NodeSteps}
 use Rattle.world_core.specs.declared.journal.Tick.{Tick}
-use Rattle.world_core.specs.World.{WorldState, node_at, app_of, lost, repeated, stepped, world_step, world_after}
+use Rattle.world_core.specs.World.{WorldState, node_at, app_of, lost, after_repeat, step_of_node, world_step, world_after}
 use Rattle.world_core.specs.Ticks.{event_of, scripted_from, with_event, stream_at, talker_of_entry, step_events, after_script, after_steps, is_send, IsLegalTick}
 use Rattle.world_core.specs.Force.{no_force, is_registered_row, registered_vids}
 use Rattle.world_core.specs.Timeline.{node_force, force_at}
@@ -135,7 +135,7 @@ booked_in k side = of_port (λ port. booked_of port.ledger.entries) [] k side
 
 -- a participant of MVRP has become one with the same VIDs
 part_replaced : (at k : ℕ) (change : Part → Part) → ((s : Part) → registered_vids (change s).rows ≡ registered_vids s.rows) → (side : Vlans) (o : Option Part) → slice_get side.parts at ≡ o
-    → vids_at k (with_part o (λ s. replaced at (change s) side) side) ≡ vids_at k side
+    → vids_at k (with_part o (λ s. with_part_at at (change s) side) side) ≡ vids_at k side
 part_replaced at k change same side None is = refl
 part_replaced at k change same side (Some s) is = read_set (λ (part : Part). registered_vids part.rows) [] side.parts at k s (change s) is (same s)
 
@@ -205,7 +205,7 @@ asked_keeps (Unlisten stream) k s = asked_streams (asks.Unlisten stream) k s
 -- ---- in a network
 
 step_keeps : (n : NodeNo) (event : NodeEvent) (p : EgressPort) → ((s : NodeState) → node_force (place_of p.port) (node_step event s).0 ≡ node_force (place_of p.port) s) → (w : WorldState)
-    → force_at p (stepped n event w).0 ≡ force_at p w
+    → force_at p (step_of_node n event w).0 ≡ force_at p w
 step_keeps n event p same w = ap (force_at p) (sym (stepped_is n event w)) ∙ force_changed n (λ s. (node_step event s).0) p same w
 
 -- an event leaves what is in force at every port
@@ -228,7 +228,7 @@ loss_keeps q index p w = by (app_of q index w)
 repeat_keeps : (q : EgressPort) (index : ℕ) → Keeps (Repeat q index)
 repeat_keeps q index p w = by (app_of q index w)
   where
-    by : (o : Option App) → force_at p (repeated q index o w).0 ≡ force_at p w
+    by : (o : Option App) → force_at p (after_repeat q index o w).0 ≡ force_at p w
     by None = refl
     by (Some app) = force_changed q.node (repeated_at (place_of q.port) index) p (λ s. refl) w
 
@@ -280,7 +280,7 @@ send_keeps n port (PeriodicNow app) is = absurd (false≢true is)
 send_keeps n port Due is = absurd (false≢true is)
 send_keeps n port Settle is = absurd (false≢true is)
 send_keeps n port (Send app) is =
-    λ p w. step_keeps n (node_events.Port port (Send app)) p (λ s. sent_keeps app (place_of port) (place_of p.port) (said app (place_of port) s) s) w
+    λ p w. step_keeps n (node_events.Port port (Send app)) p (λ s. sent_keeps app (place_of port) (place_of p.port) (octets_to_say app (place_of port) s) s) w
 
 -- a step of another node
 other_keeps : (n : NodeNo) (port : PortNo) (step : PortStep) (p : EgressPort) (w : WorldState) → n.0 - 1 ≢ p.node.0 - 1 → force_at p (world_step (Port n port step) w).0 ≡ force_at p w

@@ -12,7 +12,7 @@ use Rattle.srp_base.specs.declared.mrp.App.TheVariants.{Mvrp, Msrp}
 use Rattle.tree_topology.specs.Topology.{HasPort}
 use Rattle.tree_topology.specs.Ports.{peer_of}
 use Rattle.mvrp.specs.Part.{Part}
-use Rattle.mvrp.specs.Side.{IsLinkPort, place_of, with_part, replaced}
+use Rattle.mvrp.specs.Side.{IsLinkPort, place_of, with_part, with_part_at}
 use Rattle.node_core.specs.declared.types.Wire.{Wire}
 use Rattle.node_core.specs.declared.types.AppRequest.{AppRequest}
 use Rattle.node_core.specs.declared.types.NodeEvent.{NodeEvent}
@@ -25,7 +25,7 @@ use Rattle.node_core.specs.Links.{with_outbox, with_carried, lost_at, repeated_a
 use Rattle.node_core.specs.Proper.{IsProperNode, IsInRange, AreProperWires}
 use Rattle.world_core.specs.declared.events.WorldEvent.{WorldEvent}
 use Rattle.world_core.specs.declared.events.WorldEvent.TheVariants.{Request, Port, Lose, Repeat, Carry, Clock}
-use Rattle.world_core.specs.World.{WorldState, node_at, with_changed, outbox, app_of, lost, repeated, world_step, CanHappen, IsEventInRange}
+use Rattle.world_core.specs.World.{WorldState, node_at, with_changed, outbox, app_of, lost, after_repeat, world_step, CanHappen, IsEventInRange}
 use Rattle.world_core.specs.Kept.{FitsTree}
 use Rattle.world_core.proofs.Lists.{one_some}
 use Rattle.world_core.proofs.Nodes.{Base, IsOfSamePlace, base_changed, stepped_is, ticked_get, ticked_length, node_there, place_within, proper_at, outbox_is}
@@ -78,7 +78,7 @@ module _ (nodes : NodeLaws) where
         proper = nodes.step event s can tt (proper_at w base e.node s is);
       }))
 
-  base_repeat : (e : EgressPort) (index : ℕ) (o : Option App) (w : WorldState) → Base w → Base (repeated e index o w).0
+  base_repeat : (e : EgressPort) (index : ℕ) (o : Option App) (w : WorldState) → Base w → Base (after_repeat e index o w).0
   base_repeat e index None w base = base
   base_repeat e index (Some app) w base =
       base_changed e.node (repeated_at (place_of e.port) index) w base (λ s is. record { kind = refl; ports = refl; clock = refl; proper = nodes.repeated (place_of e.port) index s (proper_at w base e.node s is) })
@@ -86,7 +86,7 @@ module _ (nodes : NodeLaws) where
   spoilt_stays : (app : App) (at : ℕ) (s : NodeState) → IsProperNode s → IsOfSamePlace s (spoilt_at app at s)
   spoilt_stays Mvrp at s proper = record { kind = refl; ports = by (slice_get s.vlans.parts at); clock = refl; proper = nodes.spoilt Mvrp at s proper }
     where
-      by : (o : Option Part) → length (with_part o (λ p. replaced at (record p { sound = false }) s.vlans) s.vlans).parts ≡ length s.vlans.parts
+      by : (o : Option Part) → length (with_part o (λ p. with_part_at at (record p { sound = false }) s.vlans) s.vlans).parts ≡ length s.vlans.parts
       by None = refl
       by (Some p) = length-set s.vlans.parts at (record p { sound = false })
   spoilt_stays Msrp at s proper = record { kind = refl; ports = refl; clock = refl; proper = nodes.spoilt Msrp at s proper }

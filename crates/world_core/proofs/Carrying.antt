@@ -27,15 +27,15 @@ use Rattle.node_core.specs.declared.types.PortStep.{PortStep}
 use Rattle.node_core.specs.declared.types.PortStep.TheVariants.{Work, LeaveNow, LeaveAllNow, PeriodicNow, Due, Settle, Send}
 use Rattle.node_core.specs.declared.types.Wire.{Wire}
 use Rattle.node_core.specs.State.{NodeState, box_at}
-use Rattle.node_core.specs.Step.{node_step, port_step, worked, worked_app}
+use Rattle.node_core.specs.Step.{node_step, port_step, after_work, worked_app}
 use Rattle.node_core.specs.Links.{with_outbox, with_carried, lost_at, repeated_at, spoilt_at}
 use Rattle.world_core.specs.declared.events.WorldEvent.{WorldEvent}
 use Rattle.world_core.specs.declared.events.WorldEvent.TheVariants.{Request, Port, Lose, Repeat, Carry, Clock}
 use Rattle.world_core.specs.declared.journal.NodeSteps.{NodeSteps}
 use Rattle.world_core.specs.declared.journal.Tick.{Tick}
-use Rattle.world_core.specs.World.{WorldState, node_at, with_node, with_changed, outbox, app_of, lost, repeated, carried, world_step, world_after}
+use Rattle.world_core.specs.World.{WorldState, node_at, with_node, with_changed, outbox, app_of, lost, after_repeat, after_carrying, world_step, world_after}
 use Rattle.world_core.specs.Start.{world_of, nodes_from}
-use Rattle.world_core.specs.Ticks.{event_of, stream_at, with_event, scripted_from, scripted, step_events, link_ports, closing_events, tick_events, after_script, after_steps, is_send}
+use Rattle.world_core.specs.Ticks.{event_of, stream_at, with_event, scripted_from, script_at, step_events, link_ports, closing_events, tick_events, after_script, after_steps, is_send}
 use Rattle.world_core.specs.During.{IsDuring}
 use Rattle.world_core.specs.Carrying.{NothingWaits, has_send}
 use Rattle.world_core.proofs.Lists.{get_set}
@@ -71,7 +71,7 @@ worked_out : (app : App) (at k : ℕ) (octets : List ℕ) (s : NodeState) → bo
 worked_out Mvrp at k octets s = refl
 worked_out Msrp at k octets s = refl
 
-taken_out : (at k : ℕ) (wires : List Wire) (s : NodeState) → box_at k (worked at wires s).0.outboxes ≡ box_at k s.outboxes
+taken_out : (at k : ℕ) (wires : List Wire) (s : NodeState) → box_at k (after_work at wires s).0.outboxes ≡ box_at k s.outboxes
 taken_out at k [] s = refl
 taken_out at k (wire ∷ wires) s = worked_out wire.app at k wire.octets (record s { inboxes = slice_set s.inboxes at wires })
 
@@ -117,7 +117,7 @@ SendsNothing (Repeat p index) = Unit {0}
 SendsNothing (Carry p) = Unit {0}
 SendsNothing Clock = Unit {0}
 
-carry_stays : (q p : EgressPort) (w : WorldState) → outbox p w ≡ [] → outbox p (carried q w) ≡ []
+carry_stays : (q p : EgressPort) (w : WorldState) → outbox p w ≡ [] → outbox p (after_carrying q w) ≡ []
 carry_stays q p w none =
     let r = peer_of w.tree.links q in
     let taken = with_changed q.node (with_outbox (place_of q.port) []) w in
@@ -134,7 +134,7 @@ loss_stays q index (Some app) p w none =
     (changed_stays q.node (spoilt_at app (place_of q.port)) p (λ s h. (spoilt_boxes app (place_of q.port) (place_of p.port) s).outbox ∙ h) without
     (changed_stays q.node (lost_at (place_of q.port) index) p (λ s h. h) w none))
 
-repeat_stays : (q : EgressPort) (index : ℕ) (o : Option App) (p : EgressPort) (w : WorldState) → outbox p w ≡ [] → outbox p (repeated q index o w).0 ≡ []
+repeat_stays : (q : EgressPort) (index : ℕ) (o : Option App) (p : EgressPort) (w : WorldState) → outbox p w ≡ [] → outbox p (after_repeat q index o w).0 ≡ []
 repeat_stays q index None p w none = none
 repeat_stays q index (Some app) p w none = changed_stays q.node (repeated_at (place_of q.port) index) p (λ s h. h) w none
 
@@ -160,7 +160,7 @@ events_stay (e ∷ es) p w isnt none = events_stay es p (world_step e w).0 isnt.
 
 carries_stay : (ports : List EgressPort) (p : EgressPort) (w : WorldState) → outbox p w ≡ [] → outbox p (world_after (map Carry ports) w) ≡ []
 carries_stay [] p w none = none
-carries_stay (q ∷ ports) p w none = carries_stay ports p (carried q w) (carry_stays q p w none)
+carries_stay (q ∷ ports) p w none = carries_stay ports p (after_carrying q w) (carry_stays q p w none)
 
 -- ---- what a tick has before the carrying
 
@@ -219,7 +219,7 @@ steps_send_none (ns ∷ steps) isnt =
 -- ---- the carrying of all ports
 
 -- it empties the outbox of each
-own_emptied : (p : EgressPort) (w : WorldState) → outbox p (carried p w) ≡ []
+own_emptied : (p : EgressPort) (w : WorldState) → outbox p (after_carrying p w) ≡ []
 own_emptied p w =
     let r = peer_of w.tree.links p in
     changed_stays r.node (with_carried (place_of r.port) (outbox p w)) p (λ s h. h) (with_changed p.node (with_outbox (place_of p.port) []) w) (by (node_at p.node w) refl)
@@ -240,15 +240,15 @@ ends_emptied links [] i p w lt is = absurd (omega (arith, lt))
 ends_emptied links (l ∷ ls) zero p w lt (inl is) =
     let a = port_to links l.a.0 l.b.0 in
     let b = port_to links l.b.0 l.a.0 in
-    carries_stay (flat_map (λ l. port_to links l.a.0 l.b.0 ∷ port_to links l.b.0 l.a.0 ∷ []) ls) p (carried b (carried a w))
-    (carry_stays b p (carried a w) (subst (λ (q : EgressPort). outbox p (carried q w) ≡ []) is (own_emptied p w)))
+    carries_stay (flat_map (λ l. port_to links l.a.0 l.b.0 ∷ port_to links l.b.0 l.a.0 ∷ []) ls) p (after_carrying b (after_carrying a w))
+    (carry_stays b p (after_carrying a w) (subst (λ (q : EgressPort). outbox p (after_carrying q w) ≡ []) is (own_emptied p w)))
 ends_emptied links (l ∷ ls) zero p w lt (inr is) =
     let a = port_to links l.a.0 l.b.0 in
     let b = port_to links l.b.0 l.a.0 in
-    carries_stay (flat_map (λ l. port_to links l.a.0 l.b.0 ∷ port_to links l.b.0 l.a.0 ∷ []) ls) p (carried b (carried a w))
-    (subst (λ (q : EgressPort). outbox p (carried q (carried a w)) ≡ []) is (own_emptied p (carried a w)))
+    carries_stay (flat_map (λ l. port_to links l.a.0 l.b.0 ∷ port_to links l.b.0 l.a.0 ∷ []) ls) p (after_carrying b (after_carrying a w))
+    (subst (λ (q : EgressPort). outbox p (after_carrying q (after_carrying a w)) ≡ []) is (own_emptied p (after_carrying a w)))
 ends_emptied links (l ∷ ls) (suc i) p w lt is =
-    ends_emptied links ls i p (carried (port_to links l.b.0 l.a.0) (carried (port_to links l.a.0 l.b.0) w)) (omega (arith, lt)) is
+    ends_emptied links ls i p (after_carrying (port_to links l.b.0 l.a.0) (after_carrying (port_to links l.a.0 l.b.0) w)) (omega (arith, lt)) is
 
 -- and does nothing where each is empty
 carries_none : (ports : List EgressPort) (w : WorldState) → AllByRecursion (λ p. outbox p w ≡ []) ports → world_after (map Carry ports) w ≡ w
@@ -279,7 +279,7 @@ module _ (ports : (tree : Topology) → IsSound tree → HasPortLaws tree) (plan
   sound = ports plan.tree (subst IsSound during.tree_is during.kept.tree)
 
   script : List WorldEvent
-  script = map (λ (e : ℕ × WorldEvent). e.1) (scripted plan t)
+  script = map (λ (e : ℕ × WorldEvent). e.1) (script_at plan t)
 
   -- where no step was Send, the carrying at the end of the tick does nothing
   pub none_carried : NothingWaits w → has_send tick.steps ≡ false → world_after (map Carry (link_ports plan.tree)) (after_steps plan t tick w) ≡ after_steps plan t tick w
@@ -288,7 +288,7 @@ module _ (ports : (tree : Topology) → IsSound tree → HasPortLaws tree) (plan
       (each_end plan.tree sound (λ p. outbox p (after_steps plan t tick w) ≡ [])
       (λ p has.
       events_stay (step_events tick.steps) p (after_script plan t w) (steps_send_none tick.steps isnt)
-      (events_stay (map (λ (e : ℕ × WorldEvent). e.1) (scripted plan t)) p w (script_sends_none plan.tree.links plan.streams t 1 plan.events)
+      (events_stay (map (λ (e : ℕ × WorldEvent). e.1) (script_at plan t)) p w (script_sends_none plan.tree.links plan.streams t 1 plan.events)
       (waits p (subst (λ (tree : Topology). HasPort tree p) (sym during.tree_is) has))))
       plan.tree.links (λ x y j. j))
 
@@ -296,7 +296,7 @@ module _ (ports : (tree : Topology) → IsSound tree → HasPortLaws tree) (plan
   pub all_carried : NothingWaits (world_after (tick_events plan t tick) w)
   all_carried p has =
       let u = after_steps plan t tick w in
-      let before : List WorldEvent = map (λ (e : ℕ × WorldEvent). e.1) (scripted plan t) ++ step_events tick.steps in
+      let before : List WorldEvent = map (λ (e : ℕ × WorldEvent). e.1) (script_at plan t) ++ step_events tick.steps in
       let carries : List WorldEvent = map Carry (link_ports plan.tree) in
       let here : HasPort plan.tree p = subst (λ (tree : Topology). HasPort tree p) (trees_stay (tick_events plan t tick) w ∙ during.tree_is) has in
       let end = sound.port_end p here in
@@ -304,6 +304,6 @@ module _ (ports : (tree : Topology) → IsSound tree → HasPortLaws tree) (plan
       let last = end.1.1 in
       let emptied : outbox p (world_after carries u) ≡ [] = ends_emptied plan.tree.links plan.tree.links (end.0 - 1) p u (omega (arith, first, last)) end.2 in
       subst (λ (v : WorldState). outbox p v ≡ [])
-      (ap (λ (v : WorldState). world_after (closing_events plan.tree) v) (after_append (map (λ (e : ℕ × WorldEvent). e.1) (scripted plan t)) (step_events tick.steps) w)
+      (ap (λ (v : WorldState). world_after (closing_events plan.tree) v) (after_append (map (λ (e : ℕ × WorldEvent). e.1) (script_at plan t)) (step_events tick.steps) w)
       ∙ after_append before (closing_events plan.tree) w)
       (subst (λ (v : WorldState). outbox p v ≡ []) (after_append carries (Clock ∷ []) u) (event_stays Clock p (world_after carries u) tt emptied))

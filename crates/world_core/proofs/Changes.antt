@@ -20,7 +20,7 @@ use Rattle.world_core.specs.declared.events.WorldEvent.{WorldEvent}
 use Rattle.world_core.specs.declared.journal.Tick.{Tick}
 use Rattle.world_core.specs.World.{WorldState, node_at, world_after}
 use Rattle.world_core.specs.Start.{world_of}
-use Rattle.world_core.specs.Ticks.{scripted, step_events, after_steps, closing_events, tick_events}
+use Rattle.world_core.specs.Ticks.{script_at, step_events, after_steps, closing_events, tick_events}
 use Rattle.world_core.specs.Moments.{events_from, IsMoment}
 use Rattle.world_core.specs.Limits.{caps_at, booked_at_port, IsWithinLimits}
 use Rattle.world_core.specs.Force.{Force, no_force, said_by}
@@ -89,7 +89,7 @@ pub steps_are_moment : (plan : Plan) (ticks : List Tick) (t : ℕ) (w : WorldSta
 steps_are_moment plan ticks t w h =
     let start : WorldState = world_of plan in
     let early : List WorldEvent = events_from plan 0 (take t ticks) in
-    let script : List WorldEvent = map (λ e. e.1) (scripted plan t) in
+    let script : List WorldEvent = map (λ e. e.1) (script_at plan t) in
     let steps : List WorldEvent = step_events h.tick.steps in
     let closing : List WorldEvent = closing_events plan.tree in
     let later : List WorldEvent = events_from plan (suc t) (drop (suc t) ticks) in

@@ -16,7 +16,7 @@ use Rattle.node_core.specs.State.{NodeState}
 use Rattle.node_core.specs.Step.{node_step}
 use Rattle.world_core.specs.declared.events.WorldEvent.{WorldEvent}
 use Rattle.world_core.specs.declared.events.WorldEvent.TheVariants.{Request, Port, Lose, Repeat, Carry, Clock}
-use Rattle.world_core.specs.World.{WorldState, node_at, with_changed, stepped, spoilt, lost, repeated, app_of, outbox, world_step}
+use Rattle.world_core.specs.World.{WorldState, node_at, with_changed, step_of_node, spoilt, lost, after_repeat, app_of, outbox, world_step}
 use Rattle.world_core.proofs.Lists.{set_each}
 use Rattle.world_core.proofs.Nodes.{stepped_is, ticked_get}
 
@@ -48,7 +48,7 @@ module _ (P : ℕ → NodeState → Type 0) where
       by (Some s) is = set_each P w.nodes (n.0 - 1) (change s) (keeps s is (all (n.0 - 1) s is)) all
 
   all_stepped : (n : NodeNo) (event : NodeEvent) (w : WorldState)
-      → ((s : NodeState) → node_at n w ≡ Some s → P (n.0 - 1) s → P (n.0 - 1) (node_step event s).0) → AllNodes P w → AllNodes P (stepped n event w).0
+      → ((s : NodeState) → node_at n w ≡ Some s → P (n.0 - 1) s → P (n.0 - 1) (node_step event s).0) → AllNodes P w → AllNodes P (step_of_node n event w).0
   all_stepped n event w keeps all = subst (AllNodes P) (stepped_is n event w) (all_changed n (λ s. (node_step event s).0) w keeps all)
 
   all_ticked : (w : WorldState) → ((x : ℕ) (s : NodeState) → slice_get w.nodes x ≡ Some s → P x s → P x (node_step node_events.Clock s).0)
@@ -71,7 +71,7 @@ module _ (P : ℕ → NodeState → Type 0) where
         all_spoilt app p (with_changed p.node (lost_at (place_of p.port) index) w)
         (all_changed p.node (lost_at (place_of p.port) index) w (λ s is h. sides.boxes (p.node.0 - 1) s (lost_at (place_of p.port) index s).inboxes s.outboxes h) all)
 
-    all_repeated : (p : EgressPort) (index : ℕ) (o : Option App) (w : WorldState) → AllNodes P w → AllNodes P (repeated p index o w).0
+    all_repeated : (p : EgressPort) (index : ℕ) (o : Option App) (w : WorldState) → AllNodes P w → AllNodes P (after_repeat p index o w).0
     all_repeated p index None w all = all
     all_repeated p index (Some app) w all =
         all_changed p.node (repeated_at (place_of p.port) index) w (λ s is h. sides.boxes (p.node.0 - 1) s (repeated_at (place_of p.port) index s).inboxes s.outboxes h) all

@@ -7,7 +7,7 @@ use Rattle.tree_topology.specs.Topology.{Topology, HasPort}
 use Rattle.tree_topology.specs.Ports.{peer_of}
 use Rattle.tree_topology.specs.PortLaws.{HasPortLaws}
 use Rattle.tree_topology.specs.Walk.{is_behind}
-use Rattle.mrp_participant.specs.Link.{Link, AreDutiesMet, turned}
+use Rattle.mrp_participant.specs.Link.{Link, AreDutiesMet, other_view}
 use Rattle.mrp_participant.specs.State.{State}
 use Rattle.mvrp.specs.Side.{place_of}
 use Rattle.node_core.specs.Proper.{IsProperNode}
@@ -53,7 +53,7 @@ module _ {K C : Type 0} (v : AppView K C) where
 
   -- the other end of a link keeps the same
   abbrev pub Turns : Type 0
-  Turns = (l : Link K C) → AreDutiesMet v.cmp l → AreDutiesMet v.cmp (turned l)
+  Turns = (l : Link K C) → AreDutiesMet v.cmp l → AreDutiesMet v.cmp (other_view l)
 
   module _ (tree : Topology) (laws : HasPortLaws tree) (turns : Turns) (w u : WorldState) (e : EgressPort) (has : HasPort tree e)
       (same : (p : EgressPort) → HasPort tree p → p ≢ e → p ≢ peer_of tree.links e → SameAtPort v p w u)

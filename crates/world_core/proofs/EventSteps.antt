@@ -10,7 +10,7 @@ use Rattle.tree_topology.specs.Topology.{Topology, HasPort}
 use Rattle.tree_topology.specs.Ports.{peer_of}
 use Rattle.tree_topology.specs.PortLaws.{HasPortLaws}
 use Rattle.mrp_participant.specs.State.{State}
-use Rattle.mrp_participant.specs.Link.{AreDutiesMet, repeated as twice_in}
+use Rattle.mrp_participant.specs.Link.{AreDutiesMet, with_repeat as twice_in}
 use Rattle.mrp_participant.specs.Link.EndEvent.{Repeats}
 use Rattle.mrp_participant.specs.Link.LinkEvent.{AtFar}
 use Rattle.mvrp.specs.Side.{place_of}
@@ -25,7 +25,7 @@ use Rattle.node_core.specs.Step.{node_step}
 use Rattle.node_core.specs.Links.{with_outbox, with_carried, lost_at, repeated_at, spoilt_at}
 use Rattle.world_core.specs.declared.events.WorldEvent.{WorldEvent}
 use Rattle.world_core.specs.declared.events.WorldEvent.TheVariants.{Request, Port, Lose, Repeat, Carry, Clock}
-use Rattle.world_core.specs.World.{WorldState, node_at, with_changed, inbox, outbox, app_of, spoilt, lost, repeated, ticked, world_step, CanHappen}
+use Rattle.world_core.specs.World.{WorldState, node_at, with_changed, inbox, outbox, app_of, spoilt, lost, after_repeat, after_clock, world_step, CanHappen}
 use Rattle.world_core.specs.Duty.{part_at}
 use Rattle.world_core.proofs.Lists.{one_some, nothing_lost, said_twice}
 use Rattle.world_core.proofs.Boxes.{box_got, box_other, box_none}
@@ -83,7 +83,7 @@ module _ {K C : Type 0} (v : AppView K C) (links : LinkLaws v) (facts : StepFact
           subst (λ ms. AreDutiesMet v.cmp (record { near = x; far = z; sent = filter_map v.said (far_in ++ box_at at s.outboxes); coming = ms })) (sym e)
           (links.event (boxed v x z far_in (box_at at s.outboxes) (box_at at s.inboxes) far_out) (AtFar (Repeats j)) met)
 
-  met_repeat : (e : EgressPort) (index : ℕ) (o : Option App) (w : WorldState) → HasPortLaws w.tree → HasPort w.tree e → Base w → AreMet v w → AreMet v (repeated e index o w).0
+  met_repeat : (e : EgressPort) (index : ℕ) (o : Option App) (w : WorldState) → HasPortLaws w.tree → HasPort w.tree e → Base w → AreMet v w → AreMet v (after_repeat e index o w).0
   met_repeat e index None w laws has base met = met
   met_repeat e index (Some app) w laws has base met =
       duties_changed v links.turns facts.there w laws base met e has (repeated_at (place_of e.port) index)
@@ -95,16 +95,16 @@ module _ {K C : Type 0} (v : AppView K C) (links : LinkLaws v) (facts : StepFact
 
   -- ---- the clock
 
-  met_clock : (w : WorldState) → HasPortLaws w.tree → AreMet v w → AreMet v (ticked w)
-  met_clock w laws met = nowhere v w (ticked w) laws refl (λ p has. same p) met
+  met_clock : (w : WorldState) → HasPortLaws w.tree → AreMet v w → AreMet v (after_clock w)
+  met_clock w laws met = nowhere v w (after_clock w) laws refl (λ p has. same p) met
     where
-      same : (p : EgressPort) → SameAtPort v p w (ticked w)
+      same : (p : EgressPort) → SameAtPort v p w (after_clock w)
       same p = by (node_at p.node w) refl
         where
-          by : (o : Option NodeState) → node_at p.node w ≡ o → SameAtPort v p w (ticked w)
-          by None is = by_node v p w (ticked w) (ticked_at w.nodes (p.node.0 - 1) ∙ (ap (option_map (λ s. (node_step node_events.Clock s).0)) is ∙ sym is))
+          by : (o : Option NodeState) → node_at p.node w ≡ o → SameAtPort v p w (after_clock w)
+          by None is = by_node v p w (after_clock w) (ticked_at w.nodes (p.node.0 - 1) ∙ (ap (option_map (λ s. (node_step node_events.Clock s).0)) is ∙ sym is))
           by (Some s) is =
-              by_states v p w (ticked w) s (node_step node_events.Clock s).0 is (ticked_at w.nodes (p.node.0 - 1) ∙ ap (option_map (λ s. (node_step node_events.Clock s).0)) is)
+              by_states v p w (after_clock w) s (node_step node_events.Clock s).0 is (ticked_at w.nodes (p.node.0 - 1) ∙ ap (option_map (λ s. (node_step node_events.Clock s).0)) is)
               (record { part = facts.ticked (place_of p.port) s; boxes = record { inbox = refl; outbox = refl } })
 
   -- ---- what happens at both ends of a link

@@ -28,7 +28,7 @@ use Rattle.node_core.specs.Step.{clocked_node, node_step}
 use Rattle.node_core.specs.declared.types.NodeEvent.TheVariants as node_events
 use Rattle.node_core.specs.Links.{with_outbox, with_carried}
 use Rattle.world_core.specs.declared.events.WorldEvent.TheVariants.{Carry, Clock}
-use Rattle.world_core.specs.World.{WorldState, node_at, with_node, with_changed, outbox, carried, ticked, world_after}
+use Rattle.world_core.specs.World.{WorldState, node_at, with_node, with_changed, outbox, after_carrying, after_clock, world_after}
 use Rattle.world_core.specs.Start.{world_of, nodes_from, setups_from}
 use Rattle.world_core.specs.Ticks.{link_ports, closing_events}
 use Rattle.world_core.specs.Force.{Force, no_force, booked_streams, registered_vids, force_of}
@@ -114,18 +114,18 @@ pub force_changed : (n : NodeNo) (change : NodeState → NodeState) (p : EgressP
     → force_at p (with_changed n change w) ≡ force_at p w
 force_changed n change p same w = found_changed n change p same w (node_at n w) refl
 
-carry_keeps : (q p : EgressPort) (w : WorldState) → force_at p (carried q w) ≡ force_at p w
+carry_keeps : (q p : EgressPort) (w : WorldState) → force_at p (after_carrying q w) ≡ force_at p w
 carry_keeps q p w =
     let r = peer_of w.tree.links q in
     let taken = with_changed q.node (with_outbox (place_of q.port) []) w in
     force_changed r.node (with_carried (place_of r.port) (outbox q w)) p (λ s. refl) taken ∙ force_changed q.node (with_outbox (place_of q.port) []) p (λ s. refl) w
 
-tick_keeps : (p : EgressPort) (w : WorldState) → force_at p (ticked w) ≡ force_at p w
+tick_keeps : (p : EgressPort) (w : WorldState) → force_at p (after_clock w) ≡ force_at p w
 tick_keeps p w = read_map (node_force (place_of p.port)) no_force (λ s. (node_step node_events.Clock s).0) (clock_keeps (place_of p.port)) w.nodes (p.node.0 - 1)
 
 ports_keep : (qs : List EgressPort) (p : EgressPort) (w : WorldState) → force_at p (world_after (map Carry qs ++ (Clock ∷ [])) w) ≡ force_at p w
 ports_keep [] p w = tick_keeps p w
-ports_keep (q ∷ qs) p w = ports_keep qs p (carried q w) ∙ carry_keeps q p w
+ports_keep (q ∷ qs) p w = ports_keep qs p (after_carrying q w) ∙ carry_keeps q p w
 
 -- what ends a tick changes nothing that is in force
 pub closing_keeps : (tree : Topology) (w : WorldState) (p : EgressPort) → force_at p (world_after (closing_events tree) w) ≡ force_at p w

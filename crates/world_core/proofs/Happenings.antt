@@ -13,12 +13,12 @@ use Rattle.srp_base.specs.declared.mrp.App.TheVariants.{Mvrp, Msrp}
 use Rattle.mvrp.specs.Part.{Part}
 use Rattle.tree_topology.specs.Topology.{Topology}
 use Rattle.tree_topology.specs.Ports.{peer_of}
-use Rattle.mvrp.specs.Side.{IsLinkPort, place_of, replaced, with_part}
+use Rattle.mvrp.specs.Side.{IsLinkPort, place_of, with_part_at, with_part}
 use Rattle.node_core.specs.declared.types.Wire.{Wire}
 use Rattle.node_core.specs.State.{NodeState, box_at, ports_of}
 use Rattle.node_core.proofs.Boxes.{set_set, set_same}
 use Rattle.node_core.specs.Links.{with_outbox, with_carried, has_index, lost_at, spoilt_at}
-use Rattle.world_core.specs.World.{WorldState, StandsAt, changed, with_changed, outbox, app_of, spoilt, carried}
+use Rattle.world_core.specs.World.{WorldState, StandsAt, nodes_with, with_changed, outbox, app_of, spoilt, after_carrying}
 use Rattle.world_core.proofs.Boxes.{box_none}
 use Rattle.world_core.proofs.Lists.{set_each, get_set, get_set_same}
 
@@ -38,7 +38,7 @@ port_there p nodes i s stands at value = stands.port s (get_there p nodes i s st
 
 -- the list with another node at the place is the one where the node has changed
 pub changed_here : (p : EgressPort) (change : NodeState → NodeState) (nodes : List NodeState) (i : ℕ) (s : NodeState) → StandsAt p nodes → i ≡ p.node.0 - 1
-    → s ≡ get_or nodes i s → slice_set nodes i (change s) ≡ changed p.node change nodes
+    → s ≡ get_or nodes i s → slice_set nodes i (change s) ≡ nodes_with p.node change nodes
 changed_here p change nodes i s stands at value =
     ap (λ (k : ℕ). slice_set nodes k (change s)) at
     ∙ sym (ap (λ o. option_map_or (λ s. slice_set nodes (p.node.0 - 1) (change s)) o nodes) (get_there p nodes i s stands at value))
@@ -60,13 +60,13 @@ stands_still p nodes i s t stands at value ports q others =
 pub ports_spoilt : (app : App) (at : ℕ) (s : NodeState) → ports_of (spoilt_at app at s) ≡ ports_of s
 ports_spoilt Mvrp at s = by (slice_get s.vlans.parts at)
   where
-    by : (o : Option Part) → length (with_part o (λ p. replaced at (record p { sound = false }) s.vlans) s.vlans).parts ≡ length s.vlans.parts
+    by : (o : Option Part) → length (with_part o (λ p. with_part_at at (record p { sound = false }) s.vlans) s.vlans).parts ≡ length s.vlans.parts
     by None = refl
     by (Some p) = length-set s.vlans.parts at (record p { sound = false })
 ports_spoilt Msrp at s = refl
 
 -- a network with the list is the network where the node has changed
-pub changed_is : (n : NodeNo) (change : NodeState → NodeState) (w : WorldState) → with_changed n change w ≡ record w { nodes = changed n change w.nodes }
+pub changed_is : (n : NodeNo) (change : NodeState → NodeState) (w : WorldState) → with_changed n change w ≡ record w { nodes = nodes_with n change w.nodes }
 changed_is n change w = by (slice_get w.nodes (n.0 - 1))
   where
     by : (o : Option NodeState) → option_map_or (λ s. record w { nodes = slice_set w.nodes (n.0 - 1) (change s) }) o w
@@ -108,8 +108,8 @@ of_tree tree nodes = record { tree = tree; nodes = nodes }
 
 -- a port's PDU is lost, and both ends of its link are spoilt
 pub lose_is : (p q : EgressPort) (index : ℕ) (app : App) (tree : Topology) (nodes a b c : List NodeState) → q ≡ peer_of tree.links p
-    → a ≡ changed p.node (lost_at (place_of p.port) index) nodes → b ≡ changed p.node (spoilt_at app (place_of p.port)) a
-    → c ≡ changed q.node (spoilt_at app (place_of q.port)) b
+    → a ≡ nodes_with p.node (lost_at (place_of p.port) index) nodes → b ≡ nodes_with p.node (spoilt_at app (place_of p.port)) a
+    → c ≡ nodes_with q.node (spoilt_at app (place_of q.port)) b
     → spoilt app p (with_changed p.node (lost_at (place_of p.port) index) (record { tree = tree; nodes = nodes })) ≡ record { tree = tree; nodes = c }
 unfolding of_tree
 lose_is p q index app tree nodes a b c eq ea eb ec =
@@ -117,20 +117,20 @@ lose_is p q index app tree nodes a b c eq ea eb ec =
     ap (spoilt app p) (changed_is p.node (lost_at (place_of p.port) index) (of_tree tree nodes) ∙ ap (of_tree tree) (sym ea))
     ∙ (ap (with_changed r.node (spoilt_at app (place_of r.port))) (changed_is p.node (spoilt_at app (place_of p.port)) (of_tree tree a) ∙ ap (of_tree tree) (sym eb))
     ∙ (changed_is r.node (spoilt_at app (place_of r.port)) (of_tree tree b)
-    ∙ ap (of_tree tree) (ap (λ (q : EgressPort). changed q.node (spoilt_at app (place_of q.port)) b) (sym eq) ∙ sym ec)))
+    ∙ ap (of_tree tree) (ap (λ (q : EgressPort). nodes_with q.node (spoilt_at app (place_of q.port)) b) (sym eq) ∙ sym ec)))
 
 -- the PDUs of a port's outbox come in at its peer
 pub carry_is : (p q : EgressPort) (tree : Topology) (nodes a b : List NodeState) (wires : List Wire) → q ≡ peer_of tree.links p
     → wires ≡ outbox p (record { tree = tree; nodes = nodes })
-    → a ≡ changed p.node (with_outbox (place_of p.port) []) nodes → b ≡ changed q.node (with_carried (place_of q.port) wires) a
-    → carried p (record { tree = tree; nodes = nodes }) ≡ record { tree = tree; nodes = b }
+    → a ≡ nodes_with p.node (with_outbox (place_of p.port) []) nodes → b ≡ nodes_with q.node (with_carried (place_of q.port) wires) a
+    → after_carrying p (record { tree = tree; nodes = nodes }) ≡ record { tree = tree; nodes = b }
 unfolding of_tree
 carry_is p q tree nodes a b wires eq ew ea eb =
     let r = peer_of tree.links p in
     ap (with_changed r.node (with_carried (place_of r.port) (outbox p (of_tree tree nodes)))) (changed_is p.node (with_outbox (place_of p.port) []) (of_tree tree nodes) ∙ ap (of_tree tree) (sym ea))
     ∙ (changed_is r.node (with_carried (place_of r.port) (outbox p (of_tree tree nodes))) (of_tree tree a)
-    ∙ ap (of_tree tree) (ap (λ (ws : List Wire). changed r.node (with_carried (place_of r.port) ws) a) (sym ew)
-    ∙ (ap (λ (q : EgressPort). changed q.node (with_carried (place_of q.port) wires) a) (sym eq) ∙ sym eb)))
+    ∙ ap (of_tree tree) (ap (λ (ws : List Wire). nodes_with r.node (with_carried (place_of r.port) ws) a) (sym ew)
+    ∙ (ap (λ (q : EgressPort). nodes_with q.node (with_carried (place_of q.port) wires) a) (sym eq) ∙ sym eb)))
 
 -- what stands at a place is set to what it is
 set_back : (nodes : List NodeState) (i : ℕ) (s : NodeState) → slice_get nodes i ≡ Some s → slice_set nodes i s ≡ nodes
@@ -139,7 +139,7 @@ set_back (t ∷ nodes) zero s is = let e : t ≡ s = cc in ap (λ x. x ∷ nodes
 set_back (t ∷ nodes) (suc i) s is = ap (λ xs. t ∷ xs) (set_back nodes i s is)
 
 -- no PDUs behind those of an inbox leave all as it is
-none_carried : (q : EgressPort) (nodes : List NodeState) → changed q.node (with_carried (place_of q.port) []) nodes ≡ nodes
+none_carried : (q : EgressPort) (nodes : List NodeState) → nodes_with q.node (with_carried (place_of q.port) []) nodes ≡ nodes
 none_carried q nodes = by (slice_get nodes (q.node.0 - 1)) refl
   where
     by : (o : Option NodeState) → slice_get nodes (q.node.0 - 1) ≡ o
@@ -152,7 +152,7 @@ none_carried q nodes = by (slice_get nodes (q.node.0 - 1)) refl
 
 -- an empty outbox is taken and leaves all as it is
 none_taken : (p : EgressPort) (nodes : List NodeState) → option_map_or (λ s. box_at (place_of p.port) s.outboxes) (slice_get nodes (p.node.0 - 1)) [] ≡ []
-    → changed p.node (with_outbox (place_of p.port) []) nodes ≡ nodes
+    → nodes_with p.node (with_outbox (place_of p.port) []) nodes ≡ nodes
 none_taken p nodes none = by (slice_get nodes (p.node.0 - 1)) refl none
   where
     by : (o : Option NodeState) → slice_get nodes (p.node.0 - 1) ≡ o → option_map_or (λ s. box_at (place_of p.port) s.outboxes) o [] ≡ []
@@ -165,24 +165,24 @@ none_taken p nodes none = by (slice_get nodes (p.node.0 - 1)) refl none
 
 -- where a port's outbox is empty, nothing else happens than that it is taken
 pub carry_nothing : (p : EgressPort) (tree : Topology) (nodes a : List NodeState) (wires : List Wire) → wires ≡ outbox p (record { tree = tree; nodes = nodes })
-    → wires ≡ [] → a ≡ changed p.node (with_outbox (place_of p.port) []) nodes → carried p (record { tree = tree; nodes = nodes }) ≡ record { tree = tree; nodes = a }
+    → wires ≡ [] → a ≡ nodes_with p.node (with_outbox (place_of p.port) []) nodes → after_carrying p (record { tree = tree; nodes = nodes }) ≡ record { tree = tree; nodes = a }
 carry_nothing p tree nodes a wires ew none ea =
     let q = peer_of tree.links p in
     carry_is p q tree nodes a a wires refl ew ea
-    (sym (ap (λ ws. changed q.node (with_carried (place_of q.port) ws) a) none ∙ none_carried q a))
+    (sym (ap (λ ws. nodes_with q.node (with_carried (place_of q.port) ws) a) none ∙ none_carried q a))
 
 -- so nothing happens at all
-pub carried_none : (p : EgressPort) (w : WorldState) → outbox p w ≡ [] → carried p w ≡ w
+pub carried_none : (p : EgressPort) (w : WorldState) → outbox p w ≡ [] → after_carrying p w ≡ w
 carried_none p w none = carry_nothing p w.tree w.nodes w.nodes [] (sym none) refl (sym (none_taken p w.nodes none))
 
 -- an outbox that was taken out is put back
 pub put_back_is : (p : EgressPort) (nodes a b : List NodeState) (wires : List Wire)
     → wires ≡ option_map_or (λ s. box_at (place_of p.port) s.outboxes) (slice_get nodes (p.node.0 - 1)) []
-    → a ≡ changed p.node (with_outbox (place_of p.port) []) nodes → b ≡ changed p.node (with_outbox (place_of p.port) wires) a → b ≡ nodes
-put_back_is p nodes a b wires ew ea eb = eb ∙ (ap (changed p.node (with_outbox (place_of p.port) wires)) ea ∙ by (slice_get nodes (p.node.0 - 1)) refl ew)
+    → a ≡ nodes_with p.node (with_outbox (place_of p.port) []) nodes → b ≡ nodes_with p.node (with_outbox (place_of p.port) wires) a → b ≡ nodes
+put_back_is p nodes a b wires ew ea eb = eb ∙ (ap (nodes_with p.node (with_outbox (place_of p.port) wires)) ea ∙ by (slice_get nodes (p.node.0 - 1)) refl ew)
   where
     by : (o : Option NodeState) → slice_get nodes (p.node.0 - 1) ≡ o → wires ≡ option_map_or (λ s. box_at (place_of p.port) s.outboxes) o []
-        → changed p.node (with_outbox (place_of p.port) wires) (option_map_or (λ s. slice_set nodes (p.node.0 - 1) (with_outbox (place_of p.port) [] s)) o nodes) ≡ nodes
+        → nodes_with p.node (with_outbox (place_of p.port) wires) (option_map_or (λ s. slice_set nodes (p.node.0 - 1) (with_outbox (place_of p.port) [] s)) o nodes) ≡ nodes
     by None is ew = ap (λ o. option_map_or (λ s. slice_set nodes (p.node.0 - 1) (with_outbox (place_of p.port) wires s)) o nodes) is
     by (Some s) is ew =
         let i = p.node.0 - 1 in
@@ -194,7 +194,7 @@ put_back_is p nodes a b wires ew ea eb = eb ∙ (ap (changed p.node (with_outbox
         ∙ set_back nodes i s is))
 
 -- a port whose outbox was taken out has none
-pub empty_there : (p : EgressPort) (nodes a : List NodeState) → a ≡ changed p.node (with_outbox (place_of p.port) []) nodes
+pub empty_there : (p : EgressPort) (nodes a : List NodeState) → a ≡ nodes_with p.node (with_outbox (place_of p.port) []) nodes
     → (s : NodeState) → slice_get a (p.node.0 - 1) ≡ Some s → box_at (place_of p.port) s.outboxes ≡ []
 empty_there p nodes a ea s is = by (slice_get nodes (p.node.0 - 1)) refl (ap (λ xs. slice_get xs (p.node.0 - 1)) (sym ea) ∙ is)
   where

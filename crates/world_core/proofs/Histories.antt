@@ -22,8 +22,8 @@ use Rattle.node_core.specs.State.{NodeState}
 use Rattle.world_core.specs.declared.journal.NodeSteps.{NodeSteps}
 use Rattle.world_core.specs.World.{WorldState, node_at}
 use Rattle.world_core.specs.Force.{Force, no_force, said_by, is_same, are_same_streams, are_same_vids, change_of}
-use Rattle.world_core.specs.Timeline.{node_force, force_at, lacking, changes_noted, tree_ports, noted, AreChanges, Says}
-use Rattle.world_core.specs.History.{by_port, joined_ports, joined, IsByPort, ComeUpTo, is_act, acts_at, has_acted, act_noted, acts_noted, node_noted, ports_noted}
+use Rattle.world_core.specs.Timeline.{node_force, force_at, lacking, changes_noted, tree_ports, with_notes, AreChanges, Says}
+use Rattle.world_core.specs.History.{by_port, joined_ports, all_changes_of, IsByPort, ComeUpTo, is_act, acts_at, has_acted, act_noted, acts_noted, node_noted, ports_noted}
 use Rattle.world_core.proofs.PortOrder.{AreAt, each_append, each_weaker, each_filter, are_at, flat_at, same_flat, one_more_from}
 use Rattle.world_core.proofs.Noting.{same_stream, same_vid, tree_ports_ascend, has_port_in, each_port_has, lacking_at, lacks_none, range_push}
 
@@ -33,13 +33,13 @@ ports_joined : (own : EgressPort → List PortChange) (ps : List EgressPort) →
 ports_joined own [] = refl
 ports_joined own (p ∷ ps) = ap (λ (cs : List PortChange). own p ++ cs) (ports_joined own ps)
 
-nodes_joined : (own : EgressPort → List PortChange) (at : ℕ → List EgressPort) (xs : List ℕ) → joined (map (λ x. map own (at x)) xs) ≡ flat_map own (flat_map at xs)
+nodes_joined : (own : EgressPort → List PortChange) (at : ℕ → List EgressPort) (xs : List ℕ) → all_changes_of (map (λ x. map own (at x)) xs) ≡ flat_map own (flat_map at xs)
 nodes_joined own at [] = refl
 nodes_joined own at (x ∷ xs) =
-    ap (λ (cs : List PortChange). cs ++ joined (map (λ y. map own (at y)) xs)) (ports_joined own (at x))
+    ap (λ (cs : List PortChange). cs ++ all_changes_of (map (λ y. map own (at y)) xs)) (ports_joined own (at x))
     ∙ ap (λ (cs : List PortChange). flat_map own (at x) ++ cs) (nodes_joined own at xs) ∙ sym (flat_map-append own (at x) (flat_map at xs))
 
-pub all_joined : (tree : Topology) (own : EgressPort → List PortChange) → joined (by_port tree own) ≡ flat_map own (tree_ports tree)
+pub all_joined : (tree : Topology) (own : EgressPort → List PortChange) → all_changes_of (by_port tree own) ≡ flat_map own (tree_ports tree)
 all_joined tree own = nodes_joined own (ports_at tree.links) (range_with_len 1 (length tree.kinds))
 
 nodes_long : (f : ℕ → List (List PortChange)) (a n : ℕ) → length (map f (range_with_len a n)) ≡ n
@@ -81,8 +81,8 @@ each_same own other same (p ∷ ps) = (same p, each_same own other same ps)
 -- lists that have just the changes of their port
 pub is_by_port : (tree : Topology) (own : EgressPort → List PortChange) → ((p : EgressPort) → AreAt p (own p)) → IsByPort tree (by_port tree own)
 is_by_port tree own at =
-    same_by_port tree own (changes_at (joined (by_port tree own)))
-    (each_weaker (HasPort tree) (λ (p : EgressPort). own p ≡ changes_at (joined (by_port tree own)) p)
+    same_by_port tree own (changes_at (all_changes_of (by_port tree own)))
+    (each_weaker (HasPort tree) (λ (p : EgressPort). own p ≡ changes_at (all_changes_of (by_port tree own)) p)
     (λ p has. sym (ap (λ (cs : List PortChange). changes_at cs p) (all_joined tree own) ∙ flat_at own at (tree_ports tree) (tree_ports_ascend tree) p (has_port_in tree p has)))
     (tree_ports tree) (each_port_has tree))
 
@@ -95,7 +95,7 @@ none_of : (ps : List EgressPort) → flat_map no_change ps ≡ []
 none_of [] = refl
 none_of (p ∷ ps) = none_of ps
 
-pub none_joined : (tree : Topology) → joined (by_port tree (λ p. [])) ≡ []
+pub none_joined : (tree : Topology) → all_changes_of (by_port tree (λ p. [])) ≡ []
 none_joined tree = all_joined tree no_change ∙ none_of (tree_ports tree)
 
 -- one port more, and one node
@@ -350,7 +350,7 @@ acts_by_port tick made w tree changes =
 -- ---- the nodes that have acted are all that have anything to note
 
 pub acts_are_all : (tick : ℕ) (steps : List NodeSteps) (w : WorldState) (changes : List PortChange)
-    → ((p : EgressPort) → HasPort w.tree p → has_acted p.node steps ≡ false → Says tick changes p (force_at p w)) → acts_noted tick steps w changes ≡ noted tick w changes
+    → ((p : EgressPort) → HasPort w.tree p → has_acted p.node steps ≡ false → Says tick changes p (force_at p w)) → acts_noted tick steps w changes ≡ with_notes tick w changes
 acts_are_all tick steps w changes says =
     let g : EgressPort → List PortChange = λ p. act_noted tick steps w p (changes_at changes p) in
     let h : EgressPort → List PortChange = λ p. changes_noted tick p (force_at p w) (changes_at changes p) in

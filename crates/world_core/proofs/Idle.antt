@@ -21,7 +21,7 @@ use Rattle.node_core.specs.declared.types.NodeKey.TheVariants.{Vlan, Srp}
 use Rattle.node_core.specs.declared.types.PortStep.{PortStep}
 use Rattle.node_core.specs.declared.types.PortStep.TheVariants.{Work, LeaveNow, LeaveAllNow, PeriodicNow, Due, Settle, Send}
 use Rattle.node_core.specs.State.{NodeState, box_at}
-use Rattle.node_core.specs.Step.{node_step, port_step, worked, worked_mvrp, worked_msrp, worked_app, said, sent_octets, clocked_node}
+use Rattle.node_core.specs.Step.{node_step, port_step, after_work, worked_mvrp, worked_msrp, worked_app, octets_to_say, sent_octets, clocked_node}
 use Rattle.node_core.specs.Links.{spoilt_at}
 use Rattle.topology_file.specs.Plan.{Plan}
 use Rattle.topology_file.specs.declared.entries.NodeEntry.{NodeEntry}
@@ -83,7 +83,7 @@ stays_app Msrp at octets s = by (msrp_reading octets)
     by (Ok pdu) = of_streams s _ (asks_at at _ s.streams (λ p. record { talks = refl; listens = refl }))
     by (Err place) = of_streams s s.streams (record { talks = refl; listens = refl })
 
-stays_worked : (at : ℕ) (wires : List Wire) (s : NodeState) → SameKindAndAsks s (worked at wires s).0
+stays_worked : (at : ℕ) (wires : List Wire) (s : NodeState) → SameKindAndAsks s (after_work at wires s).0
 stays_worked at [] s = record { kind = refl; own = refl; talks = refl; listens = refl }
 stays_worked at (wire ∷ wires) s =
     let h = stays_app wire.app at wire.octets (record s { inboxes = slice_set s.inboxes at wires }) in
@@ -106,7 +106,7 @@ stays_step (PeriodicNow Mvrp) at s = of_vlans s _ (own_at at _ s.vlans (λ p. re
 stays_step (PeriodicNow Msrp) at s = of_streams s _ (asks_at at _ s.streams (λ p. record { talks = refl; listens = refl }))
 stays_step Due at s = of_both s _ _ (own_at at _ s.vlans (λ p. refl)) (asks_at at _ s.streams (λ p. record { talks = refl; listens = refl }))
 stays_step Settle at s = of_both s _ _ (own_at at _ s.vlans (λ p. refl)) (asks_at at _ s.streams (λ p. record { talks = refl; listens = refl }))
-stays_step (Send app) at s = stays_sent app at (said app at s) s
+stays_step (Send app) at s = stays_sent app at (octets_to_say app at s) s
 
 pub stays_spoilt : (app : App) (at : ℕ) (s : NodeState) → SameKindAndAsks s (spoilt_at app at s)
 stays_spoilt Mvrp at s = of_vlans s _ (own_at at _ s.vlans (λ p. refl))

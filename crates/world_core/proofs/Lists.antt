@@ -4,7 +4,7 @@ use Rattle.std.specs.Prelude.{slice_get, slice_set, Option, Some, None, option_m
 use Rattle.std.specs.Option.{option_map_or}
 use Rattle.std.specs.List.{cons_option, AllByRecursion}
 use Rattle.srp_base.specs.declared.numbers.EgressPort.{EgressPort}
-use Rattle.mrp_participant.specs.Link.{repeated}
+use Rattle.mrp_participant.specs.Link.{with_repeat}
 use Rattle.node_core.specs.declared.types.Wire.{Wire}
 use Rattle.node_core.specs.Wires.{without}
 
@@ -96,21 +96,21 @@ paired (x ∷ xs) (z ∷ ys) (suc at) y e get = let shorter : length xs ≡ leng
 
 -- a copy behind its original: what they say has one twice in place, or is as before
 pub said_twice : {X Y : Type 0} (f : X → Option Y) (i : ℕ) (xs ys : List X)
-    → (filter_map f (repeated i xs ++ ys) ≡ filter_map f (xs ++ ys)) ⊎ ((j : ℕ) × (filter_map f (repeated i xs ++ ys) ≡ repeated j (filter_map f (xs ++ ys))))
+    → (filter_map f (with_repeat i xs ++ ys) ≡ filter_map f (xs ++ ys)) ⊎ ((j : ℕ) × (filter_map f (with_repeat i xs ++ ys) ≡ with_repeat j (filter_map f (xs ++ ys))))
 said_twice f i [] ys = inl refl
 said_twice {X = X} {Y = Y} f zero (x ∷ xs) ys = by (f x) refl
   where
     by : (o : Option Y) → f x ≡ o
         → (cons_option o (cons_option o (filter_map f (xs ++ ys))) ≡ cons_option o (filter_map f (xs ++ ys)))
-        ⊎ ((j : ℕ) × (cons_option o (cons_option o (filter_map f (xs ++ ys))) ≡ repeated j (cons_option o (filter_map f (xs ++ ys)))))
+        ⊎ ((j : ℕ) × (cons_option o (cons_option o (filter_map f (xs ++ ys))) ≡ with_repeat j (cons_option o (filter_map f (xs ++ ys)))))
     by None e = inl refl
     by (Some y) e = inr (0, refl)
 said_twice {X = X} {Y = Y} f (suc i) (x ∷ xs) ys = by (f x) (said_twice f i xs ys)
   where
     by : (o : Option Y)
-        → (filter_map f (repeated i xs ++ ys) ≡ filter_map f (xs ++ ys)) ⊎ ((j : ℕ) × (filter_map f (repeated i xs ++ ys) ≡ repeated j (filter_map f (xs ++ ys))))
-        → (cons_option o (filter_map f (repeated i xs ++ ys)) ≡ cons_option o (filter_map f (xs ++ ys)))
-        ⊎ ((j : ℕ) × (cons_option o (filter_map f (repeated i xs ++ ys)) ≡ repeated j (cons_option o (filter_map f (xs ++ ys)))))
+        → (filter_map f (with_repeat i xs ++ ys) ≡ filter_map f (xs ++ ys)) ⊎ ((j : ℕ) × (filter_map f (with_repeat i xs ++ ys) ≡ with_repeat j (filter_map f (xs ++ ys))))
+        → (cons_option o (filter_map f (with_repeat i xs ++ ys)) ≡ cons_option o (filter_map f (xs ++ ys)))
+        ⊎ ((j : ℕ) × (cons_option o (filter_map f (with_repeat i xs ++ ys)) ≡ with_repeat j (cons_option o (filter_map f (xs ++ ys)))))
     by o (inl e) = inl (ap (cons_option o) e)
     by None (inr (j, e)) = inr (j, e)
     by (Some y) (inr (j, e)) = inr (suc j, ap (λ zs. y ∷ zs) e)

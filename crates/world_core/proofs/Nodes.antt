@@ -16,7 +16,7 @@ use Rattle.node_core.specs.Step.{node_step}
 use Rattle.node_core.specs.declared.types.NodeEvent.{NodeEvent}
 use Rattle.node_core.specs.declared.types.NodeEvent.TheVariants as node_events
 use Rattle.world_core.specs.declared.events.WorldReply.TheVariants.{Missed}
-use Rattle.world_core.specs.World.{WorldState, node_at, with_changed, after_step, stepped, inbox, outbox}
+use Rattle.world_core.specs.World.{WorldState, node_at, with_changed, after_step, step_of_node, inbox, outbox}
 use Rattle.world_core.specs.Duty.{part_at}
 use Rattle.world_core.specs.Kept.{FitsTree}
 use Rattle.world_core.proofs.Views.{AppView}
@@ -46,7 +46,7 @@ module _ (n : NodeNo) (change : NodeState → NodeState) (w : WorldState) where
       by (Some s) = refl
 
 -- a node's step is its change in the network
-pub stepped_is : (n : NodeNo) (event : NodeEvent) (w : WorldState) → with_changed n (λ s. (node_step event s).0) w ≡ (stepped n event w).0
+pub stepped_is : (n : NodeNo) (event : NodeEvent) (w : WorldState) → with_changed n (λ s. (node_step event s).0) w ≡ (step_of_node n event w).0
 stepped_is n event w = by (node_at n w)
   where
     by : (o : Option NodeState) → option_map_or (λ s. record w { nodes = slice_set w.nodes (n.0 - 1) (node_step event s).0 }) o w

@@ -18,7 +18,7 @@ use Rattle.frame_flow.specs.Copies.{ports_at, port_of}
 use Rattle.frame_flow.specs.Given.{IsEarlier}
 use Rattle.world_core.specs.Force.{Force, said_by, are_same_streams, are_same_vids, is_same, change_of}
 use Rattle.world_core.specs.Timeline.{lacking, changes_noted, tree_ports, AreChanges}
-use Rattle.world_core.specs.Merging.{merged}
+use Rattle.world_core.specs.Merging.{changes_among}
 use Rattle.world_core.proofs.PortOrder.{IsBefore, Ascend, IsIn, AreAt, AreInOrder, each_append, each_weaker, each_flat, each_filter, order_filter, order_from_pairs, pairs_from_order, earlier_tick, are_at, flat_at, flat_order, port_by_port, merged_flat, upto_all, one_more_before, one_more_from}
 
 -- ---- the ports of a tree
@@ -219,10 +219,10 @@ module _ (tick : ℕ) (force : EgressPort → Force) (changes : List PortChange)
 
   -- what is lacking, put among them
   pub merged_noted : (ps : List EgressPort) → Ascend ps → AreInOrder changes → AllByRecursion (λ c. IsIn c.at ps) changes
-      → merged changes (flat_map (λ p. lacking tick p (force p) (changes_at changes p)) ps) ≡ noted_by tick force ps changes
+      → changes_among changes (flat_map (λ p. lacking tick p (force p) (changes_at changes p)) ps) ≡ noted_by tick force ps changes
   merged_noted ps up order each =
       let lack : EgressPort → List PortChange = λ p. lacking tick p (force p) (changes_at changes p) in
-      ap (λ (cs : List PortChange). merged cs (flat_map lack ps)) (port_by_port ps up changes order each)
+      ap (λ (cs : List PortChange). changes_among cs (flat_map lack ps)) (port_by_port ps up changes order each)
       ∙ merged_flat (changes_at changes) lack (λ p. are_at p changes) (λ p. lacking_at tick p (force p) (changes_at changes p)) ps up
 
 -- so it is at the ports of a tree
@@ -247,7 +247,7 @@ module _ (tree : Topology) (tick : ℕ) (force : EgressPort → Force) (changes 
   pub tree_from : (p : EgressPort) → HasPort tree p → (t : ℕ) → tick ≤ t → said_by (in_force t (changes_at (noted_by tick force (tree_ports tree) changes) p)) ≡ force p
   tree_from p has t le = force_from tick force changes early (tree_ports tree) (tree_ports_ascend tree) p (has_port_in tree p has) t le
 
-  pub tree_merged : merged changes (flat_map (λ p. lacking tick p (force p) (changes_at changes p)) (tree_ports tree)) ≡ noted_by tick force (tree_ports tree) changes
+  pub tree_merged : changes_among changes (flat_map (λ p. lacking tick p (force p) (changes_at changes p)) (tree_ports tree)) ≡ noted_by tick force (tree_ports tree) changes
   tree_merged =
       merged_noted tick force changes (tree_ports tree) (tree_ports_ascend tree) order
       (each_weaker (λ (c : PortChange). HasPort tree c.at) (λ (c : PortChange). IsIn c.at (tree_ports tree)) (λ c has. has_port_in tree c.at has) changes

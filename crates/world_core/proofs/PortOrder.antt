@@ -9,7 +9,7 @@ use Rattle.srp_base.specs.declared.numbers.EgressPort.{EgressPort}
 use Rattle.srp_base.specs.declared.ports.PortChange.{PortChange}
 use Rattle.frame_flow.specs.Force.{is_port, changes_at, last_upto, in_force}
 use Rattle.frame_flow.specs.Given.{IsEarlier}
-use Rattle.world_core.specs.Merging.{precedes, front_before, rest_from, merged}
+use Rattle.world_core.specs.Merging.{precedes, front_before, rest_from, changes_among}
 
 -- ---- ports in order
 
@@ -300,32 +300,32 @@ front_nothing p [] h = (refl, refl)
 front_nothing p (c ∷ ms) h =
     (cond-false (precedes c.at p) (c ∷ front_before p ms) [] h.0, cond-false (precedes c.at p) (rest_from p ms) (c ∷ ms) h.0)
 
-pub merged_nothing : (cs : List PortChange) → merged cs [] ≡ cs
+pub merged_nothing : (cs : List PortChange) → changes_among cs [] ≡ cs
 merged_nothing [] = refl
 merged_nothing (c ∷ cs) = ap (λ (ds : List PortChange). c ∷ ds) (merged_nothing cs)
 
 -- what is put behind the changes of a port stands before those of later ports
-merged_later : (p : EgressPort) (ls fs ms : List PortChange) → AreAt p ls → AllByRecursion (λ c. IsBefore p c.at) fs → merged fs (ls ++ ms) ≡ ls ++ merged fs ms
+merged_later : (p : EgressPort) (ls fs ms : List PortChange) → AreAt p ls → AllByRecursion (λ c. IsBefore p c.at) fs → changes_among fs (ls ++ ms) ≡ ls ++ changes_among fs ms
 merged_later p ls [] ms own later = refl
 merged_later p ls (c ∷ fs) ms own later =
-    ap (λ (ds : List PortChange). ds ++ (c ∷ merged fs (rest_from c.at (ls ++ ms)))) (front_all p c.at ls ms later.0 own)
-    ∙ ap (λ (ds : List PortChange). (ls ++ front_before c.at ms) ++ (c ∷ merged fs ds)) (rest_all p c.at ls ms later.0 own)
-    ∙ append_assoc ls (front_before c.at ms) (c ∷ merged fs (rest_from c.at ms))
+    ap (λ (ds : List PortChange). ds ++ (c ∷ changes_among fs (rest_from c.at (ls ++ ms)))) (front_all p c.at ls ms later.0 own)
+    ∙ ap (λ (ds : List PortChange). (ls ++ front_before c.at ms) ++ (c ∷ changes_among fs ds)) (rest_all p c.at ls ms later.0 own)
+    ∙ append_assoc ls (front_before c.at ms) (c ∷ changes_among fs (rest_from c.at ms))
 
 merged_here : (p : EgressPort) (gs ls fs ms : List PortChange) → AreAt p gs → AreAt p ls → AllByRecursion (λ c. IsBefore p c.at) fs → AllByRecursion (λ c. IsBefore p c.at) ms
-    → merged (gs ++ fs) (ls ++ ms) ≡ (gs ++ ls) ++ merged fs ms
+    → changes_among (gs ++ fs) (ls ++ ms) ≡ (gs ++ ls) ++ changes_among fs ms
 merged_here p [] ls fs ms own more later rest = merged_later p ls fs ms more later
 merged_here p (c ∷ gs) ls fs ms own more later rest =
     let none = each_append (λ (d : PortChange). precedes d.at c.at ≡ false) ls ms
     (each_weaker (λ (d : PortChange). d.at ≡ p) (λ (d : PortChange). precedes d.at c.at ≡ false) (λ d e. subst (λ (q : EgressPort). precedes d.at q ≡ false) (e ∙ sym own.0) (precedes_itself d.at)) ls more)
     (each_weaker (λ (d : PortChange). IsBefore p d.at) (λ (d : PortChange). precedes d.at c.at ≡ false) (λ d lt. precedes_after c.at d.at (subst (λ (q : EgressPort). IsBefore q d.at) (sym own.0) lt)) ms rest) in
     let nothing = front_nothing c.at (ls ++ ms) none in
-    ap (λ (ds : List PortChange). ds ++ (c ∷ merged (gs ++ fs) (rest_from c.at (ls ++ ms)))) nothing.0
-    ∙ ap (λ (ds : List PortChange). c ∷ merged (gs ++ fs) ds) nothing.1
+    ap (λ (ds : List PortChange). ds ++ (c ∷ changes_among (gs ++ fs) (rest_from c.at (ls ++ ms)))) nothing.0
+    ∙ ap (λ (ds : List PortChange). c ∷ changes_among (gs ++ fs) ds) nothing.1
     ∙ ap (λ (ds : List PortChange). c ∷ ds) (merged_here p gs ls fs ms own.1 more later rest)
 
 pub merged_flat : (g l : EgressPort → List PortChange) → ((p : EgressPort) → AreAt p (g p)) → ((p : EgressPort) → AreAt p (l p)) → (ps : List EgressPort) → Ascend ps
-    → merged (flat_map g ps) (flat_map l ps) ≡ flat_map (λ p. g p ++ l p) ps
+    → changes_among (flat_map g ps) (flat_map l ps) ≡ flat_map (λ p. g p ++ l p) ps
 merged_flat g l own more [] up = refl
 merged_flat g l own more (p ∷ ps) up =
     merged_here p (g p) (l p) (flat_map g ps) (flat_map l ps) (own p) (more p) (flat_after g own p ps up.0) (flat_after l more p ps up.0)

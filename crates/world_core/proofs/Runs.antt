@@ -43,9 +43,9 @@ use Rattle.world_core.specs.declared.events.WorldEvent.{WorldEvent}
 use Rattle.world_core.specs.declared.events.WorldEvent.TheVariants.{Request, Port, Lose, Repeat, Carry, Clock}
 use Rattle.world_core.specs.declared.journal.NodeSteps.{NodeSteps}
 use Rattle.world_core.specs.declared.journal.Tick.{Tick}
-use Rattle.world_core.specs.World.{WorldState, with_changed, stepped, outbox, app_of, spoilt, lost, repeated, world_step, world_after, CanHappen, CanAllHappen, IsEventInRange}
+use Rattle.world_core.specs.World.{WorldState, with_changed, step_of_node, outbox, app_of, spoilt, lost, after_repeat, world_step, world_after, CanHappen, CanAllHappen, IsEventInRange}
 use Rattle.world_core.specs.Start.{world_of}
-use Rattle.world_core.specs.Ticks.{talker_of_entry, stream_at, event_of, with_event, scripted_from, scripted, step_events, link_ports, tick_events, IsLegalTick, LeadTo}
+use Rattle.world_core.specs.Ticks.{talker_of_entry, stream_at, event_of, with_event, scripted_from, script_at, step_events, link_ports, tick_events, IsLegalTick, LeadTo}
 use Rattle.world_core.specs.During.{IsDuring, IsAllowed, NamesNeighbours}
 use Rattle.world_core.specs.Moments.{IsMoment, events_from}
 use Rattle.world_core.specs.Kept.{IsKeptWorld}
@@ -55,7 +55,7 @@ use Rattle.world_core.proofs.EachNode.{AllNodes, IsOfSides, KeepsOwn, all_keep}
 
 -- ---- the tree stays, and every clock at each event but the clock's
 
-tree_stepped : (n : NodeNo) (event : NodeEvent) (w : WorldState) → (stepped n event w).0.tree ≡ w.tree
+tree_stepped : (n : NodeNo) (event : NodeEvent) (w : WorldState) → (step_of_node n event w).0.tree ≡ w.tree
 tree_stepped n event w = ap (λ (v : WorldState). v.tree) (sym (stepped_is n event w)) ∙ same_tree n (λ s. (node_step event s).0) w
 
 tree_spoilt : (app : App) (p : EgressPort) (w : WorldState) → (spoilt app p w).tree ≡ w.tree
@@ -68,7 +68,7 @@ tree_lost p index None w = refl
 tree_lost p index (Some app) w =
     tree_spoilt app p (with_changed p.node (lost_at (place_of p.port) index) w) ∙ same_tree p.node (lost_at (place_of p.port) index) w
 
-tree_repeated : (p : EgressPort) (index : ℕ) (o : Option App) (w : WorldState) → (repeated p index o w).0.tree ≡ w.tree
+tree_repeated : (p : EgressPort) (index : ℕ) (o : Option App) (w : WorldState) → (after_repeat p index o w).0.tree ≡ w.tree
 tree_repeated p index None w = refl
 tree_repeated p index (Some app) w = same_tree p.node (repeated_at (place_of p.port) index) w
 
@@ -337,7 +337,7 @@ module _ (laws : RunLaws) where
 
     tick_leads : (t : ℕ) (w : WorldState) (tick : Tick) → t < 2 ^ 61 → IsLegalTick plan t w tick → IsDuring plan.tree t w → LeadOn plan.tree (suc t) (tick_events plan t tick) w
     tick_leads t w tick below legal run =
-        let script : List WorldEvent = map (λ e. e.1) (scripted plan t) in
+        let script : List WorldEvent = map (λ e. e.1) (script_at plan t) in
         let made : List WorldEvent = step_events tick.steps in
         let carries : List WorldEvent = map Carry (link_ports plan.tree) in
         let first = all_lead plan.tree t script w (scripted_allowed t 1 plan.events (all_each _ plan.events rules.events_known)) run in

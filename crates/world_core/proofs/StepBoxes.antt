@@ -12,7 +12,7 @@ use Rattle.node_core.specs.declared.types.PortStep.TheVariants.{Work, LeaveNow, 
 use Rattle.node_core.specs.declared.types.Wire.{Wire}
 use Rattle.node_core.specs.Links.{spoilt_at}
 use Rattle.node_core.specs.State.{NodeState, box_at}
-use Rattle.node_core.specs.Step.{node_step, port_step, worked, said, sent_octets}
+use Rattle.node_core.specs.Step.{node_step, port_step, after_work, octets_to_say, sent_octets}
 use Rattle.world_core.proofs.Boxes.{box_other}
 use Rattle.world_core.proofs.Nodes.{SameBoxes}
 
@@ -29,7 +29,7 @@ taken_boxes : (app : App) (at k : ℕ) (octets : List ℕ) (wires : List Wire) (
 taken_boxes Mvrp at k octets wires s ne = record { inbox = box_other s.inboxes at k wires ne; outbox = refl }
 taken_boxes Msrp at k octets wires s ne = record { inbox = box_other s.inboxes at k wires ne; outbox = refl }
 
-worked_boxes : (at k : ℕ) (wires : List Wire) (s : NodeState) → at ≢ k → SameBoxes k s (worked at wires s).0
+worked_boxes : (at k : ℕ) (wires : List Wire) (s : NodeState) → at ≢ k → SameBoxes k s (after_work at wires s).0
 worked_boxes at k [] s ne = record { inbox = refl; outbox = refl }
 worked_boxes at k (wire ∷ wires) s ne = taken_boxes wire.app at k wire.octets wires s ne
 
@@ -48,7 +48,7 @@ step_boxes (PeriodicNow Mvrp) at k s ne = record { inbox = refl; outbox = refl }
 step_boxes (PeriodicNow Msrp) at k s ne = record { inbox = refl; outbox = refl }
 step_boxes Due at k s ne = record { inbox = refl; outbox = refl }
 step_boxes Settle at k s ne = record { inbox = refl; outbox = refl }
-step_boxes (Send app) at k s ne = sent_boxes app at k (said app at s) s ne
+step_boxes (Send app) at k s ne = sent_boxes app at k (octets_to_say app at s) s ne
 
 pub spoilt_boxes : (app : App) (at k : ℕ) (s : NodeState) → SameBoxes k s (spoilt_at app at s)
 spoilt_boxes Mvrp at k s = record { inbox = refl; outbox = refl }

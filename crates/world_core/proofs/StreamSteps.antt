@@ -16,14 +16,14 @@ use Rattle.msrp_codec.specs.Writing.{msrp_spelling, as_written, of_key}
 use Rattle.mrp_participant.specs.Duty.{IsDutyMet}
 use Rattle.mrp_participant.specs.Lookup.{same}
 use Rattle.mrp_participant.specs.State.{Messages, AreRows, is_silent, due_state, left_keys, left_state, leave_all_state, periodic_state}
-use Rattle.mrp_participant.specs.Link.{Link, LinkEvent, AreDutiesMet, after_event, turned}
+use Rattle.mrp_participant.specs.Link.{Link, LinkEvent, AreDutiesMet, after_event, other_view}
 use Rattle.msrp.specs.declared.port.Port.{Port}
 use Rattle.msrp.specs.declared.asking.SrpRequest.{SrpRequest}
 use Rattle.msrp.specs.declared.asking.SrpRequest.TheVariants as asks
 use Rattle.msrp.specs.Part.{Part, HasOwnContents, key_cmp, same_content, pdu_sent, received_part, told_by_receipt, sent_part, settled_as, settled_part}
 use Rattle.msrp.specs.Proper.{HasRanges}
 use Rattle.msrp.specs.Settling.{next_book, moved_streams, settling_keys, talker_keys}
-use Rattle.msrp.specs.Side.{Streams, IsPort, IsWritten, at_port, with_port, with_part, retold, replaced, left_key, is_talk, has_talk, has_listen, reasked, talks_without, listens_without, seen_by, awaiting_at, moved_keys, settled_at, clocked_port, received_streams, due_streams, left_streams, leave_all_streams, periodic_streams, settled_streams, sent_streams, spoilt_streams, requested_streams}
+use Rattle.msrp.specs.Side.{Streams, IsPort, IsWritten, at_port, with_port, with_part, with_told_port, with_port_at, left_key, is_talk, has_talk, has_listen, with_asks, talks_without, listens_without, seen_by, awaiting_at, moved_keys, settled_at, clocked_port, received_streams, due_streams, left_streams, leave_all_streams, periodic_streams, settled_streams, sent_streams, spoilt_streams, requested_streams}
 use Rattle.msrp.specs.Stream.{talk_of, stated_at}
 use Rattle.attribute_propagation.specs.Ports.{marked_elsewhere}
 use Rattle.node_core.specs.declared.types.AppRequest.{AppRequest}
@@ -34,7 +34,7 @@ use Rattle.node_core.specs.declared.types.NodeKey.TheVariants.{Vlan, Srp}
 use Rattle.node_core.specs.declared.types.PortStep.{PortStep}
 use Rattle.node_core.specs.declared.types.PortStep.TheVariants.{Work, LeaveNow, LeaveAllNow, PeriodicNow, Due, Settle, Send}
 use Rattle.node_core.specs.State.{NodeState, box_at}
-use Rattle.node_core.specs.Step.{node_step, port_step, worked, worked_app, worked_msrp, said, sent_octets}
+use Rattle.node_core.specs.Step.{node_step, port_step, after_work, worked_app, worked_msrp, octets_to_say, sent_octets}
 use Rattle.node_core.specs.Links.{spoilt_at}
 use Rattle.node_core.specs.Proper.{IsProperNode}
 use Rattle.world_core.specs.Duty.{said_of_streams, octets_said, streams_said, stream_place}
@@ -51,7 +51,7 @@ stream_view = record { cmp = key_cmp; part = stream_place; said = streams_said }
 -- what the public laws of a link and of what is sent say of MSRP
 pub record StreamLaws : Type 0 where
   pub event : (l : Link MsrpKey MsrpContent) (e : LinkEvent MsrpKey MsrpContent) → AreDutiesMet key_cmp l → AreDutiesMet key_cmp (after_event base_octets octets_of key_cmp same_content l e)
-  pub turns : (l : Link MsrpKey MsrpContent) → AreDutiesMet key_cmp l → AreDutiesMet key_cmp (turned l)
+  pub turns : (l : Link MsrpKey MsrpContent) → AreDutiesMet key_cmp l → AreDutiesMet key_cmp (other_view l)
   pub unsound : (near far : Part) (sent coming : List (Messages MsrpKey MsrpContent)) → near.sound ≡ false → IsDutyMet key_cmp near far sent coming
   pub written : (now : Cs) (s : Part) → AreRows key_cmp s.rows → HasOwnContents s → HasRanges s → is_silent s ≡ false → IsWritten (pdu_sent now s) (msrp_spelling (pdu_sent now s))
   pub each_key : (now : Cs) (s : Part) (key : MsrpKey) → AreRows key_cmp s.rows
@@ -79,19 +79,19 @@ abbrev pub calling : (Part → Part) → Port → Port
 calling f p = with_part (f p.part) p
 
 received_is : (now : Cs) (at : ℕ) (pdu : MsrpPdu) (v : Streams) → MadeAt at (calling (received_part now pdu)) v (received_streams now at pdu v)
-received_is now at pdu v = ports_are at (λ p. retold at (with_part (received_part now pdu p.part) p) (told_by_receipt now pdu p.part) v) (calling (received_part now pdu)) v (λ p. refl)
+received_is now at pdu v = ports_are at (λ p. with_told_port at (with_part (received_part now pdu p.part) p) (told_by_receipt now pdu p.part) v) (calling (received_part now pdu)) v (λ p. refl)
 
 due_is : (now : Cs) (at : ℕ) (v : Streams) → MadeAt at (calling (due_state now)) v (due_streams now at v)
-due_is now at v = ports_are at (λ p. retold at (with_part (due_state now p.part) p) (left_keys now p.part) v) (calling (due_state now)) v (λ p. refl)
+due_is now at v = ports_are at (λ p. with_told_port at (with_part (due_state now p.part) p) (left_keys now p.part) v) (calling (due_state now)) v (λ p. refl)
 
 left_is : (at : ℕ) (key : MsrpKey) (v : Streams) → MadeAt at (calling (left_state key_cmp key)) v (left_streams at key v)
-left_is at key v = ports_are at (λ p. retold at (with_part (left_state key_cmp key p.part) p) (left_key key p.part) v) (calling (left_state key_cmp key)) v (λ p. refl)
+left_is at key v = ports_are at (λ p. with_told_port at (with_part (left_state key_cmp key p.part) p) (left_key key p.part) v) (calling (left_state key_cmp key)) v (λ p. refl)
 
 leave_all_is : (now : Cs) (at : ℕ) (v : Streams) → MadeAt at (calling (leave_all_state now)) v (leave_all_streams now at v)
-leave_all_is now at v = ports_are at (λ p. replaced at (with_part (leave_all_state now p.part) p) v) (calling (leave_all_state now)) v (λ p. refl)
+leave_all_is now at v = ports_are at (λ p. with_port_at at (with_part (leave_all_state now p.part) p) v) (calling (leave_all_state now)) v (λ p. refl)
 
 periodic_is : (at : ℕ) (v : Streams) → MadeAt at (calling periodic_state) v (periodic_streams at v)
-periodic_is at v = ports_are at (λ p. replaced at (with_part (periodic_state p.part) p) v) (calling periodic_state) v (λ p. refl)
+periodic_is at v = ports_are at (λ p. with_port_at at (with_part (periodic_state p.part) p) v) (calling periodic_state) v (λ p. refl)
 
 settled_is : (at : ℕ) (v : Streams) → MadeAt at (settled_at at v) v (settled_streams at v)
 settled_is at v =
@@ -99,10 +99,10 @@ settled_is at v =
     (settled_at at v) v (λ p. refl)
 
 sent_is : (now : Cs) (at : ℕ) (v : Streams) → MadeAt at (calling (sent_part now)) v (sent_streams now at v)
-sent_is now at v = ports_are at (λ p. replaced at (with_part (sent_part now p.part) p) v) (calling (sent_part now)) v (λ p. refl)
+sent_is now at v = ports_are at (λ p. with_port_at at (with_part (sent_part now p.part) p) v) (calling (sent_part now)) v (λ p. refl)
 
 pub spoilt_is : (at : ℕ) (v : Streams) → MadeAt at (calling unsound) v (spoilt_streams at v)
-spoilt_is at v = ports_are at (λ p. replaced at (with_part (unsound p.part) p) v) (calling unsound) v (λ p. refl)
+spoilt_is at v = ports_are at (λ p. with_port_at at (with_part (unsound p.part) p) v) (calling unsound) v (λ p. refl)
 
 made_apart : (at k : ℕ) (g : Port → Port) (v u : Streams) → at ≢ k → MadeAt at g v u → option_map (λ (p : Port). p.part) (slice_get u.ports k) ≡ option_map (λ (p : Port). p.part) (slice_get v.ports k)
 made_apart at k g v u ne is = ap (option_map (λ (p : Port). p.part)) (ap (λ (ps : List Port). slice_get ps k) is ∙ set_at_other at k g v.ports ne)
@@ -127,7 +127,7 @@ worked_apart Msrp at k os s ne = by (msrp_reading os)
     by (Ok pdu) = made_apart at k (calling (received_part s.clock pdu)) s.streams (received_streams s.clock at pdu s.streams) ne (received_is s.clock at pdu s.streams)
     by (Err place) = refl
 
-taken_apart : (at k : ℕ) (wires : List Wire) (s : NodeState) → at ≢ k → stream_place k (worked at wires s).0 ≡ stream_place k s
+taken_apart : (at k : ℕ) (wires : List Wire) (s : NodeState) → at ≢ k → stream_place k (after_work at wires s).0 ≡ stream_place k s
 taken_apart at k [] s ne = refl
 taken_apart at k (wire ∷ wires) s ne = worked_apart wire.app at k wire.octets (record s { inboxes = slice_set s.inboxes at wires }) ne
 
@@ -146,7 +146,7 @@ step_apart (PeriodicNow Mvrp) at k s ne = refl
 step_apart (PeriodicNow Msrp) at k s ne = made_apart at k (calling periodic_state) s.streams (periodic_streams at s.streams) ne (periodic_is at s.streams)
 step_apart Due at k s ne = made_apart at k (calling (due_state s.clock)) s.streams (due_streams s.clock at s.streams) ne (due_is s.clock at s.streams)
 step_apart Settle at k s ne = made_apart at k (settled_at at s.streams) s.streams (settled_streams at s.streams) ne (settled_is at s.streams)
-step_apart (Send app) at k s ne = sent_apart app at k (said app at s) s ne
+step_apart (Send app) at k s ne = sent_apart app at k (octets_to_say app at s) s ne
 
 spoilt_apart : (app : App) (at k : ℕ) (s : NodeState) → at ≢ k → stream_place k (spoilt_at app at s) ≡ stream_place k s
 spoilt_apart Mvrp at k s ne = refl
@@ -164,10 +164,10 @@ either_ports true v x y h i = h
 either_ports false v x y h i = i
 
 asked_ports : (request : SrpRequest) (v : Streams) → (requested_streams request v).ports ≡ v.ports
-asked_ports (asks.Talk talker) v = either_ports (is_talk (talk_of talker.stream v.talks) talker) v v (reasked talker.stream (talker ∷ talks_without talker.stream v.talks) v.listens v) refl refl
-asked_ports (asks.Hush stream) v = either_ports (has_talk stream v) v (reasked stream (talks_without stream v.talks) v.listens v) v refl refl
-asked_ports (asks.Listen stream) v = either_ports (has_listen stream v) v v (reasked stream v.talks (stream ∷ v.listens) v) refl refl
-asked_ports (asks.Unlisten stream) v = either_ports (has_listen stream v) v (reasked stream v.talks (listens_without stream v.listens) v) v refl refl
+asked_ports (asks.Talk talker) v = either_ports (is_talk (talk_of talker.stream v.talks) talker) v v (with_asks talker.stream (talker ∷ talks_without talker.stream v.talks) v.listens v) refl refl
+asked_ports (asks.Hush stream) v = either_ports (has_talk stream v) v (with_asks stream (talks_without stream v.talks) v.listens v) v refl refl
+asked_ports (asks.Listen stream) v = either_ports (has_listen stream v) v v (with_asks stream v.talks (stream ∷ v.listens) v) refl refl
+asked_ports (asks.Unlisten stream) v = either_ports (has_listen stream v) v (with_asks stream v.talks (listens_without stream v.listens) v) v refl refl
 
 asked_same : (request : AppRequest) (k : ℕ) (s : NodeState) → stream_place k (node_step (node_events.Request request) s).0 ≡ stream_place k s
 asked_same (Declare vid) k s = refl
@@ -237,7 +237,7 @@ module _ (laws : StreamLaws) where
   none_kept at s t same_part ins outs =
       called stream_view links at s t (λ x y old new z sent coming met. subst (λ (p : Part). AreDutiesMet key_cmp (record { near = p; far = z; sent = sent; coming = coming })) (one_some _ x y old (sym same_part ∙ new)) met) ins outs
 
-  work_kept : (at : ℕ) (wires : List Wire) (s : NodeState) → box_at at s.inboxes ≡ wires → KeepsLink stream_view at s (worked at wires s).0
+  work_kept : (at : ℕ) (wires : List Wire) (s : NodeState) → box_at at s.inboxes ≡ wires → KeepsLink stream_view at s (after_work at wires s).0
   work_kept at [] s is = still stream_view links at s
   work_kept at (wire ∷ wires) s is = by wire.app refl
     where
@@ -316,7 +316,7 @@ module _ (laws : StreamLaws) where
   step_kept (PeriodicNow Msrp) at s proper = made_kept at s (port_step (PeriodicNow Msrp) at s).0 (calling periodic_state) (λ p. fires_periodic stream_view links p.part) (periodic_is at s.streams) refl refl
   step_kept Due at s proper = made_kept at s (port_step Due at s).0 (calling (due_state s.clock)) (λ p. fires stream_view links s.clock p.part) (due_is s.clock at s.streams) refl refl
   step_kept Settle at s proper = made_kept at s (port_step Settle at s).0 (settled_at at s.streams) (settles_port at s.streams) (settled_is at s.streams) refl refl
-  step_kept (Send Mvrp) at s proper = other_sent at (said Mvrp at s) s proper
+  step_kept (Send Mvrp) at s proper = other_sent at (octets_to_say Mvrp at s) s proper
   step_kept (Send Msrp) at s proper = sent_kept at s proper (slice_get s.streams.ports at) refl
 
   pub stream_facts : StepFacts stream_view

@@ -17,7 +17,7 @@ use Rattle.topology_file.specs.Plan.{Plan}
 use Rattle.topology_file.specs.Scenario.{KeepsRules}
 use Rattle.mvrp.specs.Side.{place_of}
 use Rattle.msrp.specs.Stream.{talk_of}
-use Rattle.msrp.specs.Side.{Streams, is_talk, has_talk, has_listen, reasked, talks_without, listens_without}
+use Rattle.msrp.specs.Side.{Streams, is_talk, has_talk, has_listen, with_asks, talks_without, listens_without}
 use Rattle.node_core.specs.declared.types.AppRequest.{AppRequest}
 use Rattle.node_core.specs.declared.types.AppRequest.TheVariants.{Declare, Withdraw, Talk, Hush, Listen, Unlisten}
 use Rattle.node_core.specs.declared.types.NodeEvent.TheVariants as node_events
@@ -31,7 +31,7 @@ use Rattle.world_core.specs.declared.journal.Tick.{Tick}
 use Rattle.world_core.specs.Moments.{events_from}
 use Rattle.world_core.specs.Start.{world_of}
 use Rattle.world_core.specs.Talks.{IsTalkOfPlan, AreTalksOfPlan, HasOneTalker}
-use Rattle.world_core.specs.Ticks.{talker_of_entry, stream_at, event_of, with_event, scripted_from, scripted, step_events, closing_events, link_ports, tick_events}
+use Rattle.world_core.specs.Ticks.{talker_of_entry, stream_at, event_of, with_event, scripted_from, script_at, step_events, closing_events, link_ports, tick_events}
 use Rattle.world_core.specs.World.{WorldState}
 use Rattle.world_core.proofs.Lists.{all_each, at_each, decide}
 use Rattle.world_core.proofs.Beginnings.{new_at}
@@ -86,18 +86,18 @@ talks_asked plan n (Talk talker) s ok h =
     let some = ok.0 in
     let number : n.0 ≡ n.0 - 1 + 1 = omega (arith, some) in
     let v = s.streams in
-    either_talks P (is_talk (talk_of talker.stream v.talks) talker) v (reasked talker.stream (talker ∷ talks_without talker.stream v.talks) v.listens v) h
+    either_talks P (is_talk (talk_of talker.stream v.talks) talker) v (with_asks talker.stream (talker ∷ talks_without talker.stream v.talks) v.listens v) h
     (subst (λ (k : ℕ). IsTalkOfPlan plan k talker) number ok.1, each_filter P _ v.talks h)
 talks_asked plan n (Hush stream) s ok h =
     let P : Talker → Type 0 = IsTalkOfPlan plan (n.0 - 1 + 1) in
     let v = s.streams in
-    either_talks P (has_talk stream v) (reasked stream (talks_without stream v.talks) v.listens v) v (each_filter P _ v.talks h) h
+    either_talks P (has_talk stream v) (with_asks stream (talks_without stream v.talks) v.listens v) v (each_filter P _ v.talks h) h
 talks_asked plan n (Listen stream) s ok h =
     let v = s.streams in
-    either_talks (IsTalkOfPlan plan (n.0 - 1 + 1)) (has_listen stream v) v (reasked stream v.talks (stream ∷ v.listens) v) h h
+    either_talks (IsTalkOfPlan plan (n.0 - 1 + 1)) (has_listen stream v) v (with_asks stream v.talks (stream ∷ v.listens) v) h h
 talks_asked plan n (Unlisten stream) s ok h =
     let v = s.streams in
-    either_talks (IsTalkOfPlan plan (n.0 - 1 + 1)) (has_listen stream v) (reasked stream v.talks (listens_without stream v.listens) v) v h h
+    either_talks (IsTalkOfPlan plan (n.0 - 1 + 1)) (has_listen stream v) (with_asks stream v.talks (listens_without stream v.listens) v) v h h
 
 pub talks_own : (plan : Plan) (e : WorldEvent) (w : WorldState) → IsPlanned plan e → KeepsOwn (TalksByPlan plan) e w
 talks_own plan (Request n request) w ok = λ s is h. talks_asked plan n request s ok h
@@ -176,8 +176,8 @@ module _ (plan : Plan) (rules : KeepsRules plan) where
   run_planned t [] = tt
   run_planned t (tick ∷ ticks) =
       each_append (IsPlanned plan) (tick_events plan t tick) (events_from plan (suc t) ticks)
-      (each_append (IsPlanned plan) (map (λ e. e.1) (scripted plan t) ++ step_events tick.steps) (closing_events plan.tree)
-      (each_append (IsPlanned plan) (map (λ e. e.1) (scripted plan t)) (step_events tick.steps) (script_planned t 1 plan.events) (steps_planned tick.steps))
+      (each_append (IsPlanned plan) (map (λ e. e.1) (script_at plan t) ++ step_events tick.steps) (closing_events plan.tree)
+      (each_append (IsPlanned plan) (map (λ e. e.1) (script_at plan t)) (step_events tick.steps) (script_planned t 1 plan.events) (steps_planned tick.steps))
       (carries_planned (link_ports plan.tree)))
       (run_planned (suc t) ticks)
 

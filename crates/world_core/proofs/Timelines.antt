@@ -12,23 +12,23 @@ use Rattle.world_core.specs.declared.events.WorldEvent.{WorldEvent}
 use Rattle.world_core.specs.declared.journal.Tick.{Tick}
 use Rattle.world_core.specs.World.{WorldState, world_step, world_after}
 use Rattle.world_core.specs.Start.{world_of}
-use Rattle.world_core.specs.Ticks.{scripted, step_events, after_steps, closing_events, tick_events}
+use Rattle.world_core.specs.Ticks.{script_at, step_events, after_steps, closing_events, tick_events}
 use Rattle.world_core.specs.Moments.{events_from}
 use Rattle.world_core.specs.Force.{said_by}
-use Rattle.world_core.specs.Timeline.{force_at, noted, AreChanges, SaysFrom, world_after_ticks, IsAfterSteps, IsTimelineOf}
+use Rattle.world_core.specs.Timeline.{force_at, with_notes, AreChanges, SaysFrom, world_after_ticks, IsAfterSteps, IsTimelineOf}
 use Rattle.world_core.proofs.Forces.{start_has_none}
 use Rattle.world_core.proofs.Noting.{tree_noted, tree_before, tree_from}
 
 -- ---- noted in a network
 
-pub noted_changes : (tick : ℕ) (w : WorldState) (changes : List PortChange) → AreChanges w.tree tick changes → AreChanges w.tree (suc tick) (noted tick w changes)
+pub noted_changes : (tick : ℕ) (w : WorldState) (changes : List PortChange) → AreChanges w.tree tick changes → AreChanges w.tree (suc tick) (with_notes tick w changes)
 noted_changes tick w changes are = tree_noted w.tree tick (λ p. force_at p w) changes are
 
 pub noted_before : (tick t : ℕ) (w : WorldState) (changes : List PortChange) (p : EgressPort) → AreChanges w.tree tick changes → HasPort w.tree p → t < tick
-    → in_force t (changes_at (noted tick w changes) p) ≡ in_force t (changes_at changes p)
+    → in_force t (changes_at (with_notes tick w changes) p) ≡ in_force t (changes_at changes p)
 noted_before tick t w changes p are has lt = tree_before w.tree tick (λ p. force_at p w) changes are p has t lt
 
-pub noted_from : (tick : ℕ) (w : WorldState) (changes : List PortChange) → AreChanges w.tree tick changes → SaysFrom tick (noted tick w changes) w
+pub noted_from : (tick : ℕ) (w : WorldState) (changes : List PortChange) → AreChanges w.tree tick changes → SaysFrom tick (with_notes tick w changes) w
 noted_from tick w changes are p has t le = tree_from w.tree tick (λ p. force_at p w) changes are p has t le
 
 pub start_says : (plan : Plan) → SaysFrom 0 [] (world_of plan)
@@ -78,7 +78,7 @@ pub next_world : (plan : Plan) (ticks : List Tick) (tick : Tick)
 next_world plan ticks tick =
     let t = length ticks in
     let w = world_after_ticks plan ticks in
-    let script : List WorldEvent = map (λ e. e.1) (scripted plan t) in
+    let script : List WorldEvent = map (λ e. e.1) (script_at plan t) in
     let steps : List WorldEvent = step_events tick.steps in
     let closing : List WorldEvent = closing_events plan.tree in
     ap (λ (es : List WorldEvent). world_after es (world_of plan)) (events_push plan 0 ticks tick)
@@ -127,12 +127,12 @@ module _ (plan : Plan) (ticks : List Tick) (tick : Tick) (changes : List PortCha
   are_there : AreChanges w.tree (length ticks) changes
   are_there = subst (λ (r : Topology). AreChanges r (length ticks) changes) (sym tree) so_far.are
 
-  pub tick_noted : IsTimelineOf plan (ticks ++ tick ∷ []) (noted (length ticks) w changes)
+  pub tick_noted : IsTimelineOf plan (ticks ++ tick ∷ []) (with_notes (length ticks) w changes)
   tick_noted =
       let t' = length ticks in
       record {
-        are = subst (λ (k : ℕ). AreChanges plan.tree k (noted t' w changes)) (sym (length_one_more ticks tick))
-            (subst (λ (r : Topology). AreChanges r (suc t') (noted t' w changes)) tree (noted_changes t' w changes are_there));
+        are = subst (λ (k : ℕ). AreChanges plan.tree k (with_notes t' w changes)) (sym (length_one_more ticks tick))
+            (subst (λ (r : Topology). AreChanges r (suc t') (with_notes t' w changes)) tree (noted_changes t' w changes are_there));
         gives = λ t v p h has. elim (steps_push plan ticks tick t v h) [
           | inl k ↦ ap said_by (noted_before t' t w changes p are_there (subst (λ (r : Topology). HasPort r p) (sym tree) has) k.0) ∙ so_far.gives t v p k.1 has
           | inr k ↦ (

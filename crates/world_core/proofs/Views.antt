@@ -6,7 +6,7 @@ use Rattle.std.specs.declared.cmp.Ordering.{Ordering}
 use Rattle.srp_base.specs.declared.mrp.App.{App}
 use Rattle.mrp_participant.specs.Duty.{IsDutyMet}
 use Rattle.mrp_participant.specs.State.{State, Messages}
-use Rattle.mrp_participant.specs.Link.{Link, LinkEvent, AreDutiesMet, after_event, turned}
+use Rattle.mrp_participant.specs.Link.{Link, LinkEvent, AreDutiesMet, after_event, other_view}
 use Rattle.node_core.specs.declared.types.AppRequest.{AppRequest}
 use Rattle.node_core.specs.declared.types.NodeEvent.TheVariants as node_events
 use Rattle.node_core.specs.declared.types.PortStep.{PortStep}
@@ -58,7 +58,7 @@ pub record LinkLaws {K C : Type 0} (v : AppView K C) : Type 0 where
   pub octets : C → ℕ
   pub same : C → C → Bool
   pub event : (l : Link K C) (e : LinkEvent K C) → AreDutiesMet v.cmp l → AreDutiesMet v.cmp (after_event base octets v.cmp same l e)
-  pub turns : (l : Link K C) → AreDutiesMet v.cmp l → AreDutiesMet v.cmp (turned l)
+  pub turns : (l : Link K C) → AreDutiesMet v.cmp l → AreDutiesMet v.cmp (other_view l)
   pub unsound : (near far : State K C) (sent coming : List (Messages K C)) → near.sound ≡ false → IsDutyMet v.cmp near far sent coming
 
 -- a participant that isn't sound any more

@@ -13,9 +13,9 @@ use Rattle.mvrp_codec.specs.Meaning.{mvrp_reading}
 use Rattle.mvrp_codec.specs.Writing.{mvrp_spelling}
 use Rattle.mrp_participant.specs.Duty.{IsDutyMet}
 use Rattle.mrp_participant.specs.State.{Messages, AreRows, is_active, is_silent, declared_state, withdrawn_state, due_state, left_keys, left_state, leave_all_state, periodic_state, sent_messages, sent_events}
-use Rattle.mrp_participant.specs.Link.{Link, LinkEvent, AreDutiesMet, after_event, turned}
+use Rattle.mrp_participant.specs.Link.{Link, LinkEvent, AreDutiesMet, after_event, other_view}
 use Rattle.mvrp.specs.Part.{Part, base, octets, same_content, pdu_sent, received_part, told_by_receipt, sent_part, settled_vid, settled_part}
-use Rattle.mvrp.specs.Side.{Vlans, IsWritten, with_part, at_part, retold, replaced, left_vids, has_own, is_flat, awaiting_at, received_vlans, due_vlans, left_vlans, leave_all_vlans, periodic_vlans, settled_vlans, sent_vlans, spoilt_vlans}
+use Rattle.mvrp.specs.Side.{Vlans, IsWritten, with_part, at_part, with_told_part, with_part_at, left_vids, has_own, is_flat, awaiting_at, received_vlans, due_vlans, left_vlans, leave_all_vlans, periodic_vlans, settled_vlans, sent_vlans, spoilt_vlans}
 use Rattle.mvrp.specs.Vids.{HasVidRows}
 use Rattle.node_core.specs.declared.types.AppRequest.{AppRequest}
 use Rattle.node_core.specs.declared.types.AppRequest.TheVariants.{Declare, Withdraw, Talk, Hush, Listen, Unlisten}
@@ -25,7 +25,7 @@ use Rattle.node_core.specs.declared.types.NodeKey.TheVariants.{Vlan, Srp}
 use Rattle.node_core.specs.declared.types.PortStep.{PortStep}
 use Rattle.node_core.specs.declared.types.PortStep.TheVariants.{Work, LeaveNow, LeaveAllNow, PeriodicNow, Due, Settle, Send}
 use Rattle.node_core.specs.State.{NodeState, box_at}
-use Rattle.node_core.specs.Step.{node_step, port_step, worked, worked_app, worked_mvrp, said, sent_octets}
+use Rattle.node_core.specs.Step.{node_step, port_step, after_work, worked_app, worked_mvrp, octets_to_say, sent_octets}
 use Rattle.node_core.specs.Links.{spoilt_at}
 use Rattle.node_core.specs.Proper.{IsProperNode}
 use Rattle.world_core.specs.Duty.{said_by, vlans_said, message_of, vlan_place}
@@ -42,7 +42,7 @@ vlan_view = record { cmp = nat_cmp; part = vlan_place; said = message_of }
 -- what the public laws of a link and of what is sent say of MVRP
 pub record VlanLaws : Type 0 where
   pub event : (l : Link ℕ (Unit {0})) (e : LinkEvent ℕ (Unit {0})) → AreDutiesMet nat_cmp l → AreDutiesMet nat_cmp (after_event base octets nat_cmp same_content l e)
-  pub turns : (l : Link ℕ (Unit {0})) → AreDutiesMet nat_cmp l → AreDutiesMet nat_cmp (turned l)
+  pub turns : (l : Link ℕ (Unit {0})) → AreDutiesMet nat_cmp l → AreDutiesMet nat_cmp (other_view l)
   pub unsound : (near far : Part) (sent coming : List (Messages ℕ (Unit {0}))) → near.sound ≡ false → IsDutyMet nat_cmp near far sent coming
   pub written : (now : Cs) (s : Part) → AreRows nat_cmp s.rows → HasVidRows s → is_silent s ≡ false → IsWritten (pdu_sent now s) (mvrp_spelling (pdu_sent now s))
 
@@ -64,19 +64,19 @@ abbrev MadeAt : ℕ → (Part → Part) → Vlans → Vlans → Type 0
 MadeAt at f v u = u.parts ≡ set_at at f v.parts
 
 received_is : (now : Cs) (at : ℕ) (pdu : MvrpPdu) (v : Vlans) → MadeAt at (received_part now pdu) v (received_vlans now at pdu v)
-received_is now at pdu v = parts_are at (λ s. retold at (received_part now pdu s) (told_by_receipt now pdu s) v) (received_part now pdu) v (λ s. refl)
+received_is now at pdu v = parts_are at (λ s. with_told_part at (received_part now pdu s) (told_by_receipt now pdu s) v) (received_part now pdu) v (λ s. refl)
 
 due_is : (now : Cs) (at : ℕ) (v : Vlans) → MadeAt at (due_state now) v (due_vlans now at v)
-due_is now at v = parts_are at (λ s. retold at (due_state now s) (left_keys now s) v) (due_state now) v (λ s. refl)
+due_is now at v = parts_are at (λ s. with_told_part at (due_state now s) (left_keys now s) v) (due_state now) v (λ s. refl)
 
 left_is : (at vid : ℕ) (v : Vlans) → MadeAt at (left_state nat_cmp vid) v (left_vlans at vid v)
-left_is at vid v = parts_are at (λ s. retold at (left_state nat_cmp vid s) (left_vids vid s) v) (left_state nat_cmp vid) v (λ s. refl)
+left_is at vid v = parts_are at (λ s. with_told_part at (left_state nat_cmp vid s) (left_vids vid s) v) (left_state nat_cmp vid) v (λ s. refl)
 
 leave_all_is : (now : Cs) (at : ℕ) (v : Vlans) → MadeAt at (leave_all_state now) v (leave_all_vlans now at v)
-leave_all_is now at v = parts_are at (λ s. replaced at (leave_all_state now s) v) (leave_all_state now) v (λ s. refl)
+leave_all_is now at v = parts_are at (λ s. with_part_at at (leave_all_state now s) v) (leave_all_state now) v (λ s. refl)
 
 periodic_is : (at : ℕ) (v : Vlans) → MadeAt at periodic_state v (periodic_vlans at v)
-periodic_is at v = parts_are at (λ s. replaced at (periodic_state s) v) periodic_state v (λ s. refl)
+periodic_is at v = parts_are at (λ s. with_part_at at (periodic_state s) v) periodic_state v (λ s. refl)
 
 settled_is : (at : ℕ) (v : Vlans) → MadeAt at (settled_part (is_flat v at) (awaiting_at at v)) v (settled_vlans at v)
 settled_is at v =
@@ -84,10 +84,10 @@ settled_is at v =
     (settled_part (is_flat v at) (awaiting_at at v)) v (λ s. refl)
 
 sent_is : (now : Cs) (at : ℕ) (v : Vlans) → MadeAt at (sent_part now) v (sent_vlans now at v)
-sent_is now at v = parts_are at (λ s. replaced at (sent_part now s) v) (sent_part now) v (λ s. refl)
+sent_is now at v = parts_are at (λ s. with_part_at at (sent_part now s) v) (sent_part now) v (λ s. refl)
 
 spoilt_is : (at : ℕ) (v : Vlans) → MadeAt at unsound v (spoilt_vlans at v)
-spoilt_is at v = parts_are at (λ s. replaced at (unsound s) v) unsound v (λ s. refl)
+spoilt_is at v = parts_are at (λ s. with_part_at at (unsound s) v) unsound v (λ s. refl)
 
 made_there : (at : ℕ) (f : Part → Part) (v u : Vlans) → MadeAt at f v u → slice_get u.parts at ≡ option_map f (slice_get v.parts at)
 made_there at f v u is = ap (λ (ps : List Part). slice_get ps at) is ∙ set_at_there at f v.parts
@@ -105,7 +105,7 @@ worked_apart Mvrp at k os s ne = by (mvrp_reading os)
     by (Err place) = refl
 worked_apart Msrp at k os s ne = refl
 
-taken_apart : (at k : ℕ) (wires : List Wire) (s : NodeState) → at ≢ k → slice_get (worked at wires s).0.vlans.parts k ≡ slice_get s.vlans.parts k
+taken_apart : (at k : ℕ) (wires : List Wire) (s : NodeState) → at ≢ k → slice_get (after_work at wires s).0.vlans.parts k ≡ slice_get s.vlans.parts k
 taken_apart at k [] s ne = refl
 taken_apart at k (wire ∷ wires) s ne = worked_apart wire.app at k wire.octets (record s { inboxes = slice_set s.inboxes at wires }) ne
 
@@ -124,7 +124,7 @@ step_apart (PeriodicNow Mvrp) at k s ne = made_apart at k periodic_state s.vlans
 step_apart (PeriodicNow Msrp) at k s ne = refl
 step_apart Due at k s ne = made_apart at k (due_state s.clock) s.vlans (due_vlans s.clock at s.vlans) ne (due_is s.clock at s.vlans)
 step_apart Settle at k s ne = made_apart at k (settled_part (is_flat s.vlans at) (awaiting_at at s.vlans)) s.vlans (settled_vlans at s.vlans) ne (settled_is at s.vlans)
-step_apart (Send app) at k s ne = sent_apart app at k (said app at s) s ne
+step_apart (Send app) at k s ne = sent_apart app at k (octets_to_say app at s) s ne
 
 spoilt_apart : (app : App) (at k : ℕ) (s : NodeState) → at ≢ k → slice_get (spoilt_at app at s).vlans.parts k ≡ slice_get s.vlans.parts k
 spoilt_apart Mvrp at k s ne = made_apart at k unsound s.vlans (spoilt_vlans at s.vlans) ne (spoilt_is at s.vlans)
@@ -183,7 +183,7 @@ module _ (laws : VlanLaws) where
   none_kept at s t same ins outs =
       called vlan_view links at s t (λ x y old new z sent coming met. subst (λ (p : Part). AreDutiesMet nat_cmp (record { near = p; far = z; sent = sent; coming = coming })) (one_some _ x y old (sym same ∙ new)) met) ins outs
 
-  work_kept : (at : ℕ) (wires : List Wire) (s : NodeState) → box_at at s.inboxes ≡ wires → KeepsLink vlan_view at s (worked at wires s).0
+  work_kept : (at : ℕ) (wires : List Wire) (s : NodeState) → box_at at s.inboxes ≡ wires → KeepsLink vlan_view at s (after_work at wires s).0
   work_kept at [] s is = still vlan_view links at s
   work_kept at (wire ∷ wires) s is = by wire.app refl
     where
@@ -277,7 +277,7 @@ module _ (laws : VlanLaws) where
       call_kept at s (port_step Settle at s).0 (settled_part (is_flat s.vlans at) (awaiting_at at s.vlans))
       (λ x. all_keep vlan_view links (settled_vid (is_flat s.vlans at)) (settles (is_flat s.vlans at)) (awaiting_at at s.vlans) x) (settled_is at s.vlans) refl refl
   step_kept (Send Mvrp) at s proper = sent_kept at s proper (slice_get s.vlans.parts at) refl
-  step_kept (Send Msrp) at s proper = other_sent at (said Msrp at s) s proper
+  step_kept (Send Msrp) at s proper = other_sent at (octets_to_say Msrp at s) s proper
 
   pub vlan_facts : StepFacts vlan_view
   vlan_facts =

@@ -30,12 +30,12 @@ abbrev pub joined_ports : List (List PortChange) → List PortChange
 joined_ports ports = flat_map (λ changes. changes) ports
 
 -- all changes, those of one node behind those of another
-abbrev pub joined : List (List (List PortChange)) → List PortChange
-joined nodes = flat_map joined_ports nodes
+abbrev pub all_changes_of : List (List (List PortChange)) → List PortChange
+all_changes_of nodes = flat_map joined_ports nodes
 
 -- each list has just the changes of its port
 abbrev pub IsByPort : Topology → List (List (List PortChange)) → Type 0
-IsByPort tree nodes = nodes ≡ by_port tree (changes_at (joined nodes))
+IsByPort tree nodes = nodes ≡ by_port tree (changes_at (all_changes_of nodes))
 
 -- ---- who acts in a tick
 

@@ -18,6 +18,6 @@ rest_from p [] = []
 rest_from p (c ∷ cs) = if precedes c.at p then rest_from p cs else c ∷ cs
 
 -- changes among others, both by port: each behind those of its port
-abbrev pub merged : List PortChange → List PortChange → List PortChange
-merged [] more = more
-merged (c ∷ cs) more = front_before c.at more ++ c ∷ merged cs (rest_from c.at more)
+abbrev pub changes_among : List PortChange → List PortChange → List PortChange
+changes_among [] more = more
+changes_among (c ∷ cs) more = front_before c.at more ++ c ∷ changes_among cs (rest_from c.at more)

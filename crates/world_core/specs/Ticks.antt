@@ -79,8 +79,8 @@ scripted_from links streams t n (e ∷ entries) =
     else scripted_from links streams t (n + 1) entries
 
 -- the events of a scenario in a tick, with the numbers of their entries, counted from 1
-abbrev pub scripted : Plan → ℕ → List (ℕ × WorldEvent)
-scripted plan t = scripted_from plan.tree.links plan.streams t 1 plan.events
+abbrev pub script_at : Plan → ℕ → List (ℕ × WorldEvent)
+script_at plan t = scripted_from plan.tree.links plan.streams t 1 plan.events
 
 -- ---- what happens in a tick
 
@@ -99,7 +99,7 @@ closing_events tree = map Carry (link_ports tree) ++ (Clock ∷ [])
 
 -- the network as the scripted events of a tick leave it
 abbrev pub after_script : Plan → ℕ → WorldState → WorldState
-after_script plan t w = world_after (map (λ e. e.1) (scripted plan t)) w
+after_script plan t w = world_after (map (λ e. e.1) (script_at plan t)) w
 
 -- the network after the scripted events and then the steps of a tick, before its PDUs are carried
 abbrev pub after_steps : Plan → ℕ → Tick → WorldState → WorldState
@@ -107,7 +107,7 @@ after_steps plan t tick w = world_after (step_events tick.steps) (after_script p
 
 -- all that happens in a tick, in order
 abbrev pub tick_events : Plan → ℕ → Tick → List WorldEvent
-tick_events plan t tick = map (λ e. e.1) (scripted plan t) ++ step_events tick.steps ++ closing_events plan.tree
+tick_events plan t tick = map (λ e. e.1) (script_at plan t) ++ step_events tick.steps ++ closing_events plan.tree
 
 -- ---- which ticks are legal
 
@@ -136,8 +136,8 @@ AscendByNode (ns ∷ nodes) = AllByRecursion (λ later. ns.node.0 < later.node.0
 -- port has made exactly its jobs, as the scripted events left its node, in some interleaving with the node's other ports;
 -- and each step has its answer at its place.
 pub record IsLegalTick (plan : Plan) (t : ℕ) (w : WorldState) (tick : Tick) : Type 0 where
-  pub numbers : map (λ e. e.0) tick.events ≡ map (λ e. e.0) (scripted plan t)
-  pub answers : map (λ e. e.1) tick.events ≡ replies_to (map (λ e. e.1) (scripted plan t)) w
+  pub numbers : map (λ e. e.0) tick.events ≡ map (λ e. e.0) (script_at plan t)
+  pub answers : map (λ e. e.1) tick.events ≡ replies_to (map (λ e. e.1) (script_at plan t)) w
   pub nodes : AscendByNode tick.steps
   pub some : AllByRecursion (λ ns. ns.steps ≢ []) tick.steps
   pub known : AllByRecursion (λ ns. AllByRecursion (λ st. HasPort plan.tree (record { node = ns.node; port = st.port })) ns.steps) tick.steps

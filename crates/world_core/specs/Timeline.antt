@@ -51,8 +51,8 @@ abbrev pub tree_ports : Topology → List EgressPort
 tree_ports tree = flat_map (ports_at tree.links) (range_with_len 1 (length tree.kinds))
 
 -- the changes of all ports, each port's with the one that they lack to say in a tick what is in force in a network
-abbrev pub noted : ℕ → WorldState → List PortChange → List PortChange
-noted tick w changes =
+abbrev pub with_notes : ℕ → WorldState → List PortChange → List PortChange
+with_notes tick w changes =
     flat_map (λ p. changes_noted tick p (force_at p w) (changes_at changes p)) (tree_ports w.tree)
 
 -- changes ascend by port and tick, and are of ports of a tree, each in a tick before this one

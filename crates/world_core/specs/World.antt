@@ -41,8 +41,8 @@ abbrev pub with_changed : NodeNo → (NodeState → NodeState) → WorldState �
 with_changed n change w = option_map_or (λ s. with_node n (change s) w) (node_at n w) w
 
 -- a list of nodes after one of them has become another
-abbrev pub changed : NodeNo → (NodeState → NodeState) → List NodeState → List NodeState
-changed n change nodes = option_map_or (λ s. slice_set nodes (n.0 - 1) (change s)) (slice_get nodes (n.0 - 1)) nodes
+abbrev pub nodes_with : NodeNo → (NodeState → NodeState) → List NodeState → List NodeState
+nodes_with n change nodes = option_map_or (λ s. slice_set nodes (n.0 - 1) (change s)) (slice_get nodes (n.0 - 1)) nodes
 
 -- a node of a list stands where a port is, and has it
 pub record StandsAt (p : EgressPort) (nodes : List NodeState) : Type 0 where
@@ -75,8 +75,8 @@ abbrev pub after_step : NodeNo → Stepped → WorldState → Happened
 after_step n made w = (with_node n made.0 w, Step made.1)
 
 -- a node makes a step; where there is no such node, it is missed
-abbrev pub stepped : NodeNo → NodeEvent → WorldState → Happened
-stepped n event w = option_map_or (λ s. after_step n (node_step event s) w) (node_at n w) (w, Missed)
+abbrev pub step_of_node : NodeNo → NodeEvent → WorldState → Happened
+step_of_node n event w = option_map_or (λ s. after_step n (node_step event s) w) (node_at n w) (w, Missed)
 
 -- neither end of a port's link is sound any more for an application
 abbrev pub spoilt : App → EgressPort → WorldState → WorldState
@@ -90,19 +90,19 @@ lost p index None w = (w, Missed)
 lost p index (Some app) w = (spoilt app p (with_changed p.node (lost_at (place_of p.port) index) w), Done)
 
 -- it is there twice
-abbrev pub repeated : EgressPort → ℕ → Option App → WorldState → Happened
-repeated p index None w = (w, Missed)
-repeated p index (Some app) w = (with_changed p.node (repeated_at (place_of p.port) index) w, Done)
+abbrev pub after_repeat : EgressPort → ℕ → Option App → WorldState → Happened
+after_repeat p index None w = (w, Missed)
+after_repeat p index (Some app) w = (with_changed p.node (repeated_at (place_of p.port) index) w, Done)
 
 -- the PDUs of a port's outbox come in at its peer
-abbrev pub carried : EgressPort → WorldState → WorldState
-carried p w =
+abbrev pub after_carrying : EgressPort → WorldState → WorldState
+after_carrying p w =
     let q = peer_of w.tree.links p in
     with_changed q.node (with_carried (place_of q.port) (outbox p w)) (with_changed p.node (with_outbox (place_of p.port) []) w)
 
 -- the clock of every node goes on
-abbrev pub ticked : WorldState → WorldState
-ticked w = record w { nodes = map (λ s. (node_step node_events.Clock s).0) w.nodes }
+abbrev pub after_clock : WorldState → WorldState
+after_clock w = record w { nodes = map (λ s. (node_step node_events.Clock s).0) w.nodes }
 
 -- the keys that await at each node once its clock has gone on, where it shows anything
 abbrev pub sets_of : List NodeState → List (Option (List (List MsrpKey)))
@@ -110,12 +110,12 @@ sets_of nodes = map (λ s. next_sets (s.clock.0 + 1) s.streams) nodes
 
 -- one event: the network afterwards, and the answer
 abbrev pub world_step : WorldEvent → WorldState → Happened
-world_step (Request n request) w = stepped n (node_events.Request request) w
-world_step (Port n port step) w = stepped n (node_events.Port port step) w
+world_step (Request n request) w = step_of_node n (node_events.Request request) w
+world_step (Port n port step) w = step_of_node n (node_events.Port port step) w
 world_step (Lose p index) w = lost p index (app_of p index w) w
-world_step (Repeat p index) w = repeated p index (app_of p index w) w
-world_step (Carry p) w = (carried p w, Done)
-world_step Clock w = (ticked w, Done)
+world_step (Repeat p index) w = after_repeat p index (app_of p index w) w
+world_step (Carry p) w = (after_carrying p w, Done)
+world_step Clock w = (after_clock w, Done)
 
 -- ---- lists of events
 

@@ -10,7 +10,7 @@ ghost use Rattle.node_core.specs.State.{NodeState, box_at};
 ghost use Rattle.node_core.specs.Wires.{AreShort};
 ghost use Rattle.node_core.specs.Step.{CanStep, node_step};
 ghost use Rattle.node_core.specs.Links.{with_outbox, with_carried, lost_at, repeated_at, spoilt_at};
-ghost use Rattle.world_core.specs.World.{StandsAt, sets_of, changed, stepped, app_of, lost, repeated, world_step};
+ghost use Rattle.world_core.specs.World.{StandsAt, sets_of, nodes_with, step_of_node, app_of, lost, after_repeat, world_step};
 
 use crate::events::{WorldEvent, WorldReply};
 use msrp::ClockSets;
@@ -37,7 +37,7 @@ pub(crate) fn make_step(
     requires can { (s : NodeState) → slice_get nodes.old.items (number.0 - 1) ≡ Some s
         → CanStep event s }
     ensures ok { IfOk result (λ reply. (tree : Topology)
-        → stepped number event (record { tree = tree; nodes = nodes.old.items })
+        → step_of_node number event (record { tree = tree; nodes = nodes.old.items })
         ≡ (record { tree = tree; nodes = nodes.new.items }, reply)) }
     ensures err { OnErr result (nodes.new.items ≡ nodes.old.items) }
 {
@@ -95,7 +95,7 @@ fn app_at(nodes: &Vec<Node>, at: EgressPort, index: u32) -> Option<App>
 fn spoil(nodes: &mut Vec<Node>, at: EgressPort, app: App)
     requires { StandsAt at nodes.old.items }
     ensures after { nodes.new.items
-        ≡ changed at.node (spoilt_at app (place_of at.port)) nodes.old.items }
+        ≡ nodes_with at.node (spoilt_at app (place_of at.port)) nodes.old.items }
     ensures stand { (p : EgressPort) → StandsAt p nodes.old.items → StandsAt p nodes.new.items }
 {
     nodes[place(at.node)].spoil(at.port, app);
@@ -107,7 +107,7 @@ fn lose_at(nodes: &mut Vec<Node>, at: EgressPort, index: u32)
     requires there { (s : NodeState) → slice_get nodes.old.items (at.node.0 - 1) ≡ Some s
         → index < length (box_at (place_of at.port) s.inboxes) }
     ensures after { nodes.new.items
-        ≡ changed at.node (lost_at (place_of at.port) index) nodes.old.items }
+        ≡ nodes_with at.node (lost_at (place_of at.port) index) nodes.old.items }
     ensures stand { (p : EgressPort) → StandsAt p nodes.old.items → StandsAt p nodes.new.items }
 {
     let _ = nodes[place(at.node)].lose(at.port, index);
@@ -139,7 +139,7 @@ fn repeat_at(nodes: &mut Vec<Node>, at: EgressPort, index: u32) -> Result<(), No
     requires there { (s : NodeState) → slice_get nodes.old.items (at.node.0 - 1) ≡ Some s
         → index < length (box_at (place_of at.port) s.inboxes) }
     ensures ok { OnOk result (nodes.new.items
-        ≡ changed at.node (repeated_at (place_of at.port) index) nodes.old.items) }
+        ≡ nodes_with at.node (repeated_at (place_of at.port) index) nodes.old.items) }
     ensures err { OnErr result (nodes.new.items ≡ nodes.old.items) }
 {
     nodes[place(at.node)].repeat(at.port, index)?;
@@ -154,7 +154,7 @@ pub(crate) fn repeat(
 ) -> Result<WorldReply, NoMemory>
     requires { StandsAt at nodes.old.items }
     ensures ok { IfOk result (λ reply. (tree : Topology)
-        → repeated at index (app_of at index (record { tree = tree; nodes = nodes.old.items }))
+        → after_repeat at index (app_of at index (record { tree = tree; nodes = nodes.old.items }))
         (record { tree = tree; nodes = nodes.old.items })
         ≡ (record { tree = tree; nodes = nodes.new.items }, reply)) }
     ensures err { OnErr result (nodes.new.items ≡ nodes.old.items) }
@@ -172,7 +172,7 @@ pub(crate) fn repeat(
 fn take(nodes: &mut Vec<Node>, at: EgressPort) -> Seq<Wire>
     requires { StandsAt at nodes.old.items }
     ensures after { nodes.new.items
-        ≡ changed at.node (with_outbox (place_of at.port) []) nodes.old.items }
+        ≡ nodes_with at.node (with_outbox (place_of at.port) []) nodes.old.items }
     ensures taken { result
         ≡ option_map_or
         (λ s. box_at (place_of at.port) s.outboxes) (slice_get nodes.old.items (at.node.0 - 1)) [] }
@@ -191,7 +191,7 @@ fn give(
     requires here { StandsAt at nodes.old.items }
     requires short { AreShort wires }
     ensures ok { OnOk result (nodes.new.items
-        ≡ changed at.node (with_carried (place_of at.port) wires) nodes.old.items) }
+        ≡ nodes_with at.node (with_carried (place_of at.port) wires) nodes.old.items) }
     ensures err { OnErr result (nodes.new.items ≡ nodes.old.items) }
     ensures back { IfErr result (λ e. e.1 ≡ wires) }
 {
@@ -205,7 +205,7 @@ fn put_back(nodes: &mut Vec<Node>, at: EgressPort, wires: Seq<Wire>)
     requires empty { (s : NodeState) → slice_get nodes.old.items (at.node.0 - 1) ≡ Some s
         → box_at (place_of at.port) s.outboxes ≡ [] }
     ensures { nodes.new.items
-        ≡ changed at.node (with_outbox (place_of at.port) wires) nodes.old.items }
+        ≡ nodes_with at.node (with_outbox (place_of at.port) wires) nodes.old.items }
 {
     nodes[place(at.node)].put_back(at.port, wires);
 }

@@ -10,7 +10,7 @@ ghost use Rattle.frame_flow.specs.Copies.{port_of};
 ghost use Rattle.mvrp.specs.Side.{IsLinkPort, place_of};
 ghost use Rattle.node_core.specs.State.{ports_of};
 ghost use Rattle.world_core.specs.Timeline.{node_force, changes_noted, AreChanges};
-ghost use Rattle.world_core.specs.History.{by_port, joined_ports, joined, IsByPort, HasPortsOf, ComeUpTo, is_act, act_noted, acts_noted, node_noted, ports_noted};
+ghost use Rattle.world_core.specs.History.{by_port, joined_ports, all_changes_of, IsByPort, HasPortsOf, ComeUpTo, is_act, act_noted, acts_noted, node_noted, ports_noted};
 
 use crate::journal::NodeSteps;
 use crate::timeline::lacking_change;
@@ -34,7 +34,7 @@ impl Model for History {
 
     ghost Value = { HistoryState };
 
-    ghost view = { λ h. record { tree = h.tree; changes = joined h.nodes.items } };
+    ghost view = { λ h. record { tree = h.tree; changes = all_changes_of h.nodes.items } };
 
     ghost invariant = { λ h. IsByPort h.tree h.nodes.items };
 }
@@ -128,10 +128,10 @@ fn note_acts(
     nodes: &mut Vec<NodeChanges>,
 ) -> Result<(), NoMemory>
     requires by_port { IsByPort world.now.tree nodes.old.items }
-    requires changes { AreChanges world.now.tree tick (joined nodes.old.items) }
+    requires changes { AreChanges world.now.tree tick (all_changes_of nodes.old.items) }
     requires ports { AllByRecursion (HasPortsOf world.now.tree) steps.now }
     ensures { OnOk result (nodes.new.items ≡ by_port world.now.tree
-        (λ p. act_noted tick steps.now world.now p (changes_at (joined nodes.old.items) p))) }
+        (λ p. act_noted tick steps.now world.now p (changes_at (all_changes_of nodes.old.items) p))) }
 {
     let _ = PortStep::Due.key();
     for made in steps {
@@ -233,7 +233,7 @@ fn last_of(changes: &[PortChange]) -> Option<&PortChange>
 
 // All changes, node by node.
 fn join(alloc: Global, nodes: Vec<NodeChanges>) -> Result<Vec<PortChange>, NoMemory>
-    ensures { IfOk result (λ all. all.items ≡ joined nodes.items) }
+    ensures { IfOk result (λ all. all.items ≡ all_changes_of nodes.items) }
 {
     let mut all = Vec::new(alloc);
     let mut rest = VecDeque::from(nodes);

@@ -21,7 +21,7 @@ ghost use Rattle.world_core.specs.declared.journal.Tick.{Tick};
 ghost use Rattle.world_core.specs.World.{WorldState, CanHappen, CanAllHappen, IsEventInRange, node_at, world_step, world_after};
 ghost use Rattle.world_core.specs.Start.{world_of};
 ghost use Rattle.world_core.specs.Kept.{IsKeptWorld};
-ghost use Rattle.world_core.specs.Ticks.{event_of, scripted, link_ports, after_steps, LeadTo, AreLegalTicks, AreCanonicalTicks, IsLegalTick, IsCanonicalTick, tick_events};
+ghost use Rattle.world_core.specs.Ticks.{event_of, script_at, link_ports, after_steps, LeadTo, AreLegalTicks, AreCanonicalTicks, IsLegalTick, IsCanonicalTick, tick_events};
 ghost use Rattle.world_core.specs.During.{IsDuring, IsAllowed, NamesNeighbours};
 ghost use Rattle.world_core.specs.Carrying.{NothingWaits, has_send};
 ghost use Rattle.world_core.specs.Moments.{IsMoment, events_from};
@@ -112,7 +112,7 @@ pub fn what_is_allowed_may_happen()
         → IsKnownKind plan.nodes plan.links plan.streams kind
         → NamesNeighbours plan.tree.links kind }
     ensures scripted { (plan : Plan) (t : ℕ) → KeepsRules plan
-        → AllByRecursion (IsAllowed plan.tree) (map (λ e. e.1) (scripted plan t)) }
+        → AllByRecursion (IsAllowed plan.tree) (map (λ e. e.1) (script_at plan t)) }
     ensures carried { (plan : Plan) → KeepsRules plan
         → AllByRecursion (IsAllowed plan.tree) (map WorldEvent.Carry (link_ports plan.tree)) }
     ensures tree { (e : WorldEvent) (w : WorldState) → (world_step e w).0.tree ≡ w.tree }

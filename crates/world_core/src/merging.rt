@@ -2,7 +2,7 @@
 
 ghost use Rattle.std.specs.Prelude.{◌≡◌, ◌≤◌, ◌<◌, ◌+◌, ◌++◌, ◌∷◌, [], true, false, length, HoldsAt, IfSome, IfNone, IfOk, OnOk, OnErr, vec_len, vec_capacity};
 ghost use Rattle.std.specs.VecDeque.{deque_len};
-ghost use Rattle.world_core.specs.Merging.{precedes, front_before, rest_from, merged};
+ghost use Rattle.world_core.specs.Merging.{precedes, front_before, rest_from, changes_among};
 
 use srp_base::{EgressPort, NoMemory, PortChange, Seq};
 use std::alloc::Global;
@@ -15,7 +15,7 @@ pub(crate) fn put_among(
     changes: &mut Seq<PortChange>,
     lacking: VecDeque<PortChange>,
 ) -> Result<(), NoMemory>
-    ensures ok { OnOk result (changes.new ≡ merged changes.old lacking.items) }
+    ensures ok { OnOk result (changes.new ≡ changes_among changes.old lacking.items) }
     ensures err { OnErr result (changes.new ≡ changes.old) }
 {
     if lacking.is_empty() {
@@ -55,7 +55,7 @@ fn merge(
     all: &mut Vec<PortChange>,
 )
     requires { deque_len old + deque_len lacking + vec_len all.old ≤ vec_capacity all.old }
-    ensures { all.new.items ≡ all.old.items ++ merged old.items lacking.items }
+    ensures { all.new.items ≡ all.old.items ++ changes_among old.items lacking.items }
 {
     while let Some(change) = old.pop_front() {
         move_before(&mut lacking, change.at, all);

@@ -9,7 +9,7 @@ ghost use Rattle.frame_flow.specs.Copies.{ports_at};
 ghost use Rattle.frame_flow.specs.Given.{IsEarlier};
 ghost use Rattle.mvrp.specs.Side.{IsLinkPort, place_of};
 ghost use Rattle.node_core.specs.State.{ports_of};
-ghost use Rattle.world_core.specs.Timeline.{node_force, force_at, lacking, tree_ports, noted, AreChanges};
+ghost use Rattle.world_core.specs.Timeline.{node_force, force_at, lacking, tree_ports, with_notes, AreChanges};
 ghost use Rattle.world_core.specs.Merging.{precedes};
 
 use crate::force::{is_said, new_change};
@@ -26,7 +26,7 @@ impl World {
     /// in order, and none is at that tick or after it. After want of memory the timeline is as it was.
     pub fn note_tick(&self, tick: u64, timeline: &mut Timeline) -> Result<(), NoMemory>
         requires { AreChanges self.now.tree tick timeline.old.changes }
-        ensures ok { OnOk result (timeline.new.changes ≡ noted tick self.now timeline.old.changes) }
+        ensures ok { OnOk result (timeline.new.changes ≡ with_notes tick self.now timeline.old.changes) }
         ensures err { OnErr result (timeline.new ≡ timeline.old) }
     {
         let alloc = *self.nodes.allocator();

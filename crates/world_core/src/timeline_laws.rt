@@ -17,7 +17,7 @@ ghost use Rattle.world_core.specs.Start.{world_of};
 ghost use Rattle.world_core.specs.Ticks.{after_steps, closing_events, IsLegalTick, AreLegalTicks};
 ghost use Rattle.world_core.specs.Moments.{IsMoment};
 ghost use Rattle.world_core.specs.Limits.{caps_at};
-ghost use Rattle.world_core.specs.Timeline.{force_at, noted, AreChanges, Says, SaysFrom, world_after_ticks, IsAfterSteps, IsTimelineOf};
+ghost use Rattle.world_core.specs.Timeline.{force_at, with_notes, AreChanges, Says, SaysFrom, world_after_ticks, IsAfterSteps, IsTimelineOf};
 ghost use Rattle.world_core.specs.History.{has_acted, acts_noted};
 
 use crate::laws::every_moment_is_within_limits;
@@ -26,7 +26,7 @@ use crate::laws::every_moment_is_within_limits;
 pub fn noting_keeps_changes()
     ensures { (tick : ℕ) (w : WorldState) (changes : List PortChange)
         → AreChanges w.tree tick changes
-        → AreChanges w.tree (suc tick) (noted tick w changes) }
+        → AreChanges w.tree (suc tick) (with_notes tick w changes) }
 {}
 
 /// Once a tick is noted, what was in force at a port in an earlier tick is so still, and from that tick on what is in force is what
@@ -34,10 +34,10 @@ pub fn noting_keeps_changes()
 pub fn what_is_noted_is_in_force()
     ensures before { (tick t : ℕ) (w : WorldState) (changes : List PortChange) (p : EgressPort)
         → AreChanges w.tree tick changes → HasPort w.tree p → t < tick
-        → in_force t (changes_at (noted tick w changes) p) ≡ in_force t (changes_at changes p) }
+        → in_force t (changes_at (with_notes tick w changes) p) ≡ in_force t (changes_at changes p) }
     ensures from { (tick : ℕ) (w : WorldState) (changes : List PortChange)
         → AreChanges w.tree tick changes
-        → SaysFrom tick (noted tick w changes) w }
+        → SaysFrom tick (with_notes tick w changes) w }
 {}
 
 /// Nothing is in force at a network's start, and what ends a tick, the carrying of PDUs and the clock, changes nothing that is in
@@ -63,7 +63,7 @@ pub fn noting_who_has_acted_notes_a_tick()
     ensures { (tick : ℕ) (steps : List NodeSteps) (w : WorldState) (changes : List PortChange)
         → ((p : EgressPort) → HasPort w.tree p → has_acted p.node steps ≡ false
         → Says tick changes p (force_at p w))
-        → acts_noted tick steps w changes ≡ noted tick w changes }
+        → acts_noted tick steps w changes ≡ with_notes tick w changes }
 {}
 
 /// A timeline begins with no change. It goes on by a tick: its changes and what is noted of the network after the tick's steps; or
@@ -75,7 +75,7 @@ pub fn a_timeline_goes_on()
         → IsTimelineOf plan ticks changes
         → w ≡ after_steps plan (length ticks) tick (world_after_ticks plan ticks) → w.tree
         ≡ plan.tree
-        → IsTimelineOf plan (ticks ++ tick ∷ []) (noted (length ticks) w changes) }
+        → IsTimelineOf plan (ticks ++ tick ∷ []) (with_notes (length ticks) w changes) }
     ensures same { (plan : Plan) (ticks : List Tick) (tick : Tick) (changes : List PortChange)
         (w : WorldState)
         → IsTimelineOf plan ticks changes

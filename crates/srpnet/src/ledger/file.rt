@@ -3,7 +3,7 @@
 ghost use Rattle.std.specs.Prelude.{◌≡◌, ◌+◌, None, ◌≤◌, map, IfSome, IfOk};
 ghost use Rattle.toml.specs.View.{table_view};
 ghost use Rattle.toml_rules.specs.Rules.{Reads, each_entry, first_fall as first_fall_spec};
-ghost use Rattle.srpnet.specs.LedgerFile.{rate_at, want_ticks, mentioned, wants_of, ledger_file as ledger_file_spec};
+ghost use Rattle.srpnet.specs.LedgerFile.{rate_at, want_ticks, streams_mentioned, wants_of, ledger_file as ledger_file_spec};
 ghost use Rattle.srpnet.specs.LedgerWant.{stream_at, class_of_text, class_at, rank_of_number, rank_at, frames_at, octets_at, tick_at, known_want, want_entry};
 
 use indexmap::IndexSet;
@@ -170,7 +170,7 @@ const MOST_STREAMS: usize = 128;
 
 /// Rule 35: the different streams, in the order of their first mention, are at most 128.
 fn read_streams(alloc: Global, wants: &[LedgerWant]) -> Result<IndexSet<u64>, RuleErr>
-    ensures { Reads (λ s. s.keys) result (mentioned wants.now) }
+    ensures { Reads (λ s. s.keys) result (streams_mentioned wants.now) }
 {
     let mut streams = IndexSet::new(alloc);
     for (i, want) in wants.iter().enumerate() {

@@ -1,5 +1,5 @@
 use Rattle.std.proofs.Common.{ap, sym, ◌++◌, inl, inr, arith}
-use Rattle.mrp_participant.specs.Hearing.{merged}
+use Rattle.mrp_participant.specs.Hearing.{rows_as_one}
 use Rattle.mrp_participant.proofs.Exits.{of_error}
 use Rattle.mrp_participant.proofs.Hearings.{merged-more, merged-all}
 use Rattle.mrp_participant.proofs.hearing.merge.Goals as goal
@@ -10,7 +10,7 @@ loop-i-init g c =
     record {
       rows = omega arith;
       heard = omega arith;
-      merged = ap (λ all. all ++ merged g.K.Ord.cmp c.args.heard.now c.args.rows.now) (sym c.new-all.ensures.items);
+      merged = ap (λ all. all ++ rows_as_one g.K.Ord.cmp c.args.heard.now c.args.rows.now) (sym c.new-all.ensures.items);
     }
 
 pub next_row-row-requires-clause-within : goal.next_row-row-requires-clause-within

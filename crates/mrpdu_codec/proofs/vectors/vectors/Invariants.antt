@@ -1,12 +1,12 @@
 use Rattle.std.proofs.Common.{◌≡◌, length}
 use Rattle.mrpdu_codec.specs.Raw.{attrs_in}
 use Rattle.mrpdu_codec.specs.Reading.{vectors_of}
-use Rattle.mrpdu_codec.specs.ReadErr.{kept}
+use Rattle.mrpdu_codec.specs.ReadErr.{list_kept}
 use Rattle.mrpdu_codec.proofs.VectorLoops.{with_front}
 use Rattle.mrpdu_codec.proofs.vectors.vectors.Given as goal
 
 abbrev pub invariant-more : goal.invariant-more
-invariant-more l = with_front (attrs_in l.found.items) (kept l.row (vectors_of l.row l.len l.rest)) ≡ kept l.row (vectors_of l.row l.len l.octets)
+invariant-more l = with_front (attrs_in l.found.items) (list_kept l.row (vectors_of l.row l.len l.rest)) ≡ list_kept l.row (vectors_of l.row l.len l.octets)
 
 abbrev pub decreases-more : goal.decreases-more
 decreases-more l = length l.rest

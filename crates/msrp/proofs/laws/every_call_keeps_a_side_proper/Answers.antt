@@ -5,7 +5,7 @@ use Rattle.mrp_participant.specs.Row.{after_leave}
 use Rattle.mrp_participant.specs.State.{after, due_state, is_active, is_periodic_due, leave_all_state, left_keys, left_state, periodic_state, takes}
 use Rattle.msrp_codec.specs.Content.{Belongs, base_octets, octets_of}
 use Rattle.msrp.specs.Part.{Part, key_cmp, received_part, sent_part, told_by_receipt}
-use Rattle.msrp.specs.Side.{left_key, replaced, retold, with_part}
+use Rattle.msrp.specs.Side.{left_key, with_port_at, with_told_port, with_part}
 use Rattle.msrp.proofs.Contents.{each-changed, each-due, each-periodic, each-received, each-sent, left_own, own-changed, own-due, own-periodic, own-received, own-sent, own_row}
 use Rattle.msrp.proofs.Keeping.{port_kept}
 use Rattle.msrp.proofs.ProperLemmas.{proper-at, proper-replaced, proper-retold, ranges_at}
@@ -15,7 +15,7 @@ use Rattle.msrp.proofs.laws.every_call_keeps_a_side_proper.Goals as goal
 
 pub returns-clause-receive : goal.returns-clause-receive
 returns-clause-receive c = λ now at pdu side belong fits proper.
-    proper-at side (λ p. retold at (with_part (received_part now pdu p.part) p) (told_by_receipt now pdu p.part) side) (slice_get side.ports at) proper (λ p here.
+    proper-at side (λ p. with_told_port at (with_part (received_part now pdu p.part) p) (told_by_receipt now pdu p.part) side) (slice_get side.ports at) proper (λ p here.
     let s : Part = p.part in
     let t : Part = received_part now pdu s in
     let port = port_kept side proper.kept at p here in
@@ -28,7 +28,7 @@ returns-clause-receive c = λ now at pdu side belong fits proper.
 
 pub returns-clause-due : goal.returns-clause-due
 returns-clause-due c = λ now at side proper.
-    proper-at side (λ p. retold at (with_part (due_state now p.part) p) (left_keys now p.part) side) (slice_get side.ports at) proper (λ p here.
+    proper-at side (λ p. with_told_port at (with_part (due_state now p.part) p) (left_keys now p.part) side) (slice_get side.ports at) proper (λ p here.
     let s : Part = p.part in
     let t : Part = due_state now s in
     let port = port_kept side proper.kept at p here in
@@ -40,7 +40,7 @@ returns-clause-due c = λ now at side proper.
 
 pub returns-clause-leave_now : goal.returns-clause-leave_now
 returns-clause-leave_now c = λ at key side proper.
-    proper-at side (λ p. retold at (with_part (left_state key_cmp key p.part) p) (left_key key p.part) side) (slice_get side.ports at) proper (λ p here.
+    proper-at side (λ p. with_told_port at (with_part (left_state key_cmp key p.part) p) (left_key key p.part) side) (slice_get side.ports at) proper (λ p here.
     let s : Part = p.part in
     let t : Part = left_state key_cmp key s in
     let port = port_kept side proper.kept at p here in
@@ -54,7 +54,7 @@ returns-clause-leave_now c = λ at key side proper.
 
 pub returns-clause-leaveall_now : goal.returns-clause-leaveall_now
 returns-clause-leaveall_now c = λ now at side proper.
-    proper-at side (λ p. replaced at (with_part (leave_all_state now p.part) p) side) (slice_get side.ports at) proper (λ p here.
+    proper-at side (λ p. with_port_at at (with_part (leave_all_state now p.part) p) side) (slice_get side.ports at) proper (λ p here.
     let port = port_kept side proper.kept at p here in
     let fit = ranges_at side proper at p here in
     proper-replaced c.each_key_awaits.ensures.all_marked side proper at p here (leave_all_state now p.part) port.rows
@@ -62,7 +62,7 @@ returns-clause-leaveall_now c = λ now at side proper.
 
 pub returns-clause-spoil : goal.returns-clause-spoil
 returns-clause-spoil c = λ at side proper.
-    proper-at side (λ p. let s : Part = p.part in replaced at (with_part (record s { sound = false }) p) side) (slice_get side.ports at) proper (λ p here.
+    proper-at side (λ p. let s : Part = p.part in with_port_at at (with_part (record s { sound = false }) p) side) (slice_get side.ports at) proper (λ p here.
     let s : Part = p.part in
     let port = port_kept side proper.kept at p here in
     let fit = ranges_at side proper at p here in
@@ -71,7 +71,7 @@ returns-clause-spoil c = λ at side proper.
 
 pub returns-clause-periodic_now : goal.returns-clause-periodic_now
 returns-clause-periodic_now c = λ at side proper.
-    proper-at side (λ p. replaced at (with_part (periodic_state p.part) p) side) (slice_get side.ports at) proper (λ p here.
+    proper-at side (λ p. with_port_at at (with_part (periodic_state p.part) p) side) (slice_get side.ports at) proper (λ p here.
     let s : Part = p.part in
     let t : Part = periodic_state s in
     let port = port_kept side proper.kept at p here in
@@ -82,7 +82,7 @@ returns-clause-periodic_now c = λ at side proper.
 
 pub returns-clause-send : goal.returns-clause-send
 returns-clause-send c = λ now at side proper.
-    proper-at side (λ p. replaced at (with_part (sent_part now p.part) p) side) (slice_get side.ports at) proper (λ p here.
+    proper-at side (λ p. with_port_at at (with_part (sent_part now p.part) p) side) (slice_get side.ports at) proper (λ p here.
     let s : Part = p.part in
     let t : Part = sent_part now s in
     let port = port_kept side proper.kept at p here in

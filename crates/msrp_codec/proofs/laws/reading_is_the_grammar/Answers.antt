@@ -6,16 +6,16 @@ use Rattle.mrpdu_codec.specs.Grammar.{Spells, Breaks}
 use Rattle.mrpdu_codec.specs.Reading.{reading}
 use Rattle.mrpdu_codec.specs.Places.{first_places, AllStandAt}
 use Rattle.msrp_codec.specs.declared.pdu.MsrpPdu.{MsrpPdu}
-use Rattle.msrp_codec.specs.Meaning.{meaning, first_past, place_in, judged, read_as, PassesEnd, MsrpBreaks}
+use Rattle.msrp_codec.specs.Meaning.{meaning, first_past, place_in, meaning_or_place, read_as, PassesEnd, MsrpBreaks}
 use Rattle.msrp_codec.specs.Meaning.MsrpBreaks.{grammar, value}
 use Rattle.msrp_codec.proofs.PastLemmas.{past_none, past_all, past_at, passes_end}
 use Rattle.msrp_codec.proofs.laws.reading_is_the_grammar.Goals as goal
 
-judged_ok : (octets : List ℕ) (pdu : Pdu) (x : Option (ℕ × ℕ)) (m : MsrpPdu) → judged octets pdu x ≡ Ok m → (x ≡ None) × (m ≡ meaning pdu)
+judged_ok : (octets : List ℕ) (pdu : Pdu) (x : Option (ℕ × ℕ)) (m : MsrpPdu) → meaning_or_place octets pdu x ≡ Ok m → (x ≡ None) × (m ≡ meaning pdu)
 judged_ok octets pdu None m h = (refl, cc)
 judged_ok octets pdu (Some x) m h = absurd cc
 
-judged_err : (octets : List ℕ) (pdu : Pdu) (x : Option (ℕ × ℕ)) (place : ℕ) → judged octets pdu x ≡ Err place → (y : ℕ × ℕ) × (x ≡ Some y) × (place_in octets y ≡ place)
+judged_err : (octets : List ℕ) (pdu : Pdu) (x : Option (ℕ × ℕ)) (place : ℕ) → meaning_or_place octets pdu x ≡ Err place → (y : ℕ × ℕ) × (x ≡ Some y) × (place_in octets y ≡ place)
 judged_err octets pdu None place h = absurd cc
 judged_err octets pdu (Some x) place h = (x, refl, cc)
 
@@ -48,7 +48,7 @@ returns-clause-reads c = λ octets read. (
     meant = m.3;
   },
   λ r. ap (read_as octets) ((c.reading_is_the_grammar.ensures.spelled Msrp octets r.pdu).1 r.spelled)
-      ∙ ap (judged octets r.pdu) (past_all 0 r.pdu.messages r.in_range)
+      ∙ ap (meaning_or_place octets r.pdu) (past_all 0 r.pdu.messages r.in_range)
       ∙ ap (λ (m : MsrpPdu). let x : Result MsrpPdu ℕ = Ok m in x) (sym r.meant),
 )
 
@@ -63,7 +63,7 @@ returns-clause-broken c = λ octets place. (
     | grammar broken ↦ ap (read_as octets) ((c.reading_is_the_grammar.ensures.broken Msrp octets place).1 broken)
     | value p ↦
         ap (read_as octets) ((c.reading_is_the_grammar.ensures.spelled Msrp octets p.pdu).1 p.spelled)
-        ∙ ap (judged octets p.pdu) (passed octets place p)
+        ∙ ap (meaning_or_place octets p.pdu) (passed octets place p)
         ∙ ap (λ (o : Option ℕ). let x : Result MsrpPdu ℕ = Err (unwrap_or o 0) in x) p.stands
   ],
 )

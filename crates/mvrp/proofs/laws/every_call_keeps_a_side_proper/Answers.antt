@@ -6,7 +6,7 @@ use Rattle.mrp_participant.specs.State.{AreRows, after, is_periodic_due, row_sen
 use Rattle.std.specs.Prelude.{if◌then◌else◌, map}
 use Rattle.mrp_participant.specs.Lookup.{key_of}
 use Rattle.mvrp.specs.Part.{Part, base, octets, messages, received_part, told_by_receipt, sent_part}
-use Rattle.mvrp.specs.Side.{Vlans, retold, replaced, left_vids}
+use Rattle.mvrp.specs.Side.{Vlans, with_told_part, with_part_at, left_vids}
 use Rattle.mvrp.specs.Vids.{HasVidRows, IsProper}
 use Rattle.mvrp.proofs.Places.{each-get}
 use Rattle.mvrp.proofs.Keeping.{leaving_told}
@@ -18,7 +18,7 @@ rows_at side at s proper here = each-get (λ p. AreRows nat_cmp p.rows) side.par
 
 pub returns-clause-receive : goal.returns-clause-receive
 returns-clause-receive c = λ now at pdu side vids proper.
-    proper-at side (λ s. retold at (received_part now pdu s) (told_by_receipt now pdu s) side) (slice_get side.parts at) proper (λ s here.
+    proper-at side (λ s. with_told_part at (received_part now pdu s) (told_by_receipt now pdu s) side) (slice_get side.parts at) proper (λ s here.
     let rows = rows_at side at s proper here in
     let t : Part = received_part now pdu s in
     let new_rows = c.rows_stay_rows.ensures.receive s now pdu.leave_all (messages pdu) rows in
@@ -31,7 +31,7 @@ returns-clause-receive c = λ now at pdu side vids proper.
 
 pub returns-clause-due : goal.returns-clause-due
 returns-clause-due c = λ now at side proper.
-    proper-at side (λ s. retold at (due_state now s) (left_keys now s) side) (slice_get side.parts at) proper (λ s here.
+    proper-at side (λ s. with_told_part at (due_state now s) (left_keys now s) side) (slice_get side.parts at) proper (λ s here.
     let rows = rows_at side at s proper here in
     let own = proper.vids.parts at s here in
     proper-retold c.each_key_awaits.ensures.all_marked side proper at s here (due_state now s) (left_keys now s) (c.rows_stay_rows.ensures.due s now rows)
@@ -42,7 +42,7 @@ returns-clause-due c = λ now at side proper.
 
 pub returns-clause-leave_now : goal.returns-clause-leave_now
 returns-clause-leave_now c = λ at vid side proper.
-    proper-at side (λ s. retold at (left_state nat_cmp vid s) (left_vids vid s) side) (slice_get side.parts at) proper (λ s here.
+    proper-at side (λ s. with_told_part at (left_state nat_cmp vid s) (left_vids vid s) side) (slice_get side.parts at) proper (λ s here.
     let rows = rows_at side at s proper here in
     let own = proper.vids.parts at s here in
     proper-retold c.each_key_awaits.ensures.all_marked side proper at s here (left_state nat_cmp vid s) (left_vids vid s) (c.rows_stay_rows.ensures.leave_due s vid rows)
@@ -53,17 +53,17 @@ returns-clause-leave_now c = λ at vid side proper.
 
 pub returns-clause-leaveall_now : goal.returns-clause-leaveall_now
 returns-clause-leaveall_now c = λ now at side proper.
-    proper-at side (λ s. replaced at (leave_all_state now s) side) (slice_get side.parts at) proper (λ s here.
+    proper-at side (λ s. with_part_at at (leave_all_state now s) side) (slice_get side.parts at) proper (λ s here.
     proper-replaced c.each_key_awaits.ensures.all_marked side proper at s here (leave_all_state now s) (rows_at side at s proper here) (λ vid. refl) (λ vid. refl) (proper.vids.parts at s here))
 
 pub returns-clause-spoil : goal.returns-clause-spoil
 returns-clause-spoil c = λ at side proper.
-    proper-at side (λ (s : Part). replaced at (record s { sound = false }) side) (slice_get side.parts at) proper (λ s here.
+    proper-at side (λ (s : Part). with_part_at at (record s { sound = false }) side) (slice_get side.parts at) proper (λ s here.
     proper-replaced c.each_key_awaits.ensures.all_marked side proper at s here (record s { sound = false }) (rows_at side at s proper here) (λ vid. refl) (λ vid. refl) (proper.vids.parts at s here))
 
 pub returns-clause-periodic_now : goal.returns-clause-periodic_now
 returns-clause-periodic_now c = λ at side proper.
-    proper-at side (λ s. replaced at (periodic_state s) side) (slice_get side.parts at) proper (λ s here.
+    proper-at side (λ s. with_part_at at (periodic_state s) side) (slice_get side.parts at) proper (λ s here.
     let rows = rows_at side at s proper here in
     proper-replaced c.each_key_awaits.ensures.all_marked side proper at s here (periodic_state s) (c.rows_stay_rows.ensures.periodic_due s rows)
     (c.declarations_stay.ensures.periodic_due s) (c.registrations_stay.ensures.periodic_due s)
@@ -71,7 +71,7 @@ returns-clause-periodic_now c = λ at side proper.
 
 pub returns-clause-send : goal.returns-clause-send
 returns-clause-send c = λ now at side proper.
-    proper-at side (λ s. replaced at (sent_part now s) side) (slice_get side.parts at) proper (λ s here.
+    proper-at side (λ s. with_part_at at (sent_part now s) side) (slice_get side.parts at) proper (λ s here.
     let rows = rows_at side at s proper here in
     proper-replaced c.each_key_awaits.ensures.all_marked side proper at s here (sent_part now s) (c.rows_stay_rows.ensures.send s now rows)
     (c.declarations_stay.ensures.send s now rows) (c.registrations_stay.ensures.send s now rows)

@@ -2,7 +2,7 @@ use Rattle.std.proofs.Common.{◌≡◌, refl, ap, ◌∙◌}
 use Rattle.mvrp.specs.Side.{place_of}
 use Rattle.node_core.specs.Links.{with_outbox}
 use Rattle.world_core.specs.declared.events.WorldReply.TheVariants.{Done}
-use Rattle.world_core.specs.World.{changed}
+use Rattle.world_core.specs.World.{nodes_with}
 use Rattle.world_core.proofs.Happenings.{carry_nothing, empty_there, put_back_is}
 use Rattle.world_core.proofs.happen.carry.Goals as goal
 
@@ -19,4 +19,4 @@ pub returns-in-Err-clause-err : goal.returns-in-Err-clause-err
 returns-in-Err-clause-err c =
     put_back_is c.args.at c.args.nodes.now.items c.take-wires.new.nodes.items c.put_back.new.nodes.items c.in-Err.wires
     (let back : c.in-Err.wires ≡ c.take-wires.result = c.in-Err.ensures.back in back ∙ c.take-wires.ensures.taken) c.take-wires.ensures.after
-    (c.put_back.ensures ∙ ap (changed c.args.at.node (with_outbox (place_of c.args.at.port) c.in-Err.wires)) c.in-Err.ensures.err)
+    (c.put_back.ensures ∙ ap (nodes_with c.args.at.node (with_outbox (place_of c.args.at.port) c.in-Err.wires)) c.in-Err.ensures.err)

@@ -3,14 +3,14 @@ use Rattle.tree_topology.specs.Topology.{Topology}
 use Rattle.mvrp.specs.Side.{place_of}
 use Rattle.node_core.specs.State.{NodeState}
 use Rattle.node_core.specs.Links.{repeated_at}
-use Rattle.world_core.specs.World.{WorldState, repeated}
+use Rattle.world_core.specs.World.{WorldState, after_repeat}
 use Rattle.world_core.specs.declared.events.WorldReply.TheVariants.{Done}
 use Rattle.world_core.proofs.Happenings.{index_there, changed_is}
 use Rattle.world_core.proofs.happen.repeat.Goals as goal
 
 pub returns-in-None-clause-ok : goal.returns-in-None-clause-ok
 returns-in-None-clause-ok c = λ tree.
-    ap (λ o. repeated c.args.at c.args.index o (record { tree = tree; nodes = c.args.nodes.now.items })) (sym (c.app_at.ensures tree) ∙ c.in-None.is)
+    ap (λ o. after_repeat c.args.at c.args.index o (record { tree = tree; nodes = c.args.nodes.now.items })) (sym (c.app_at.ensures tree) ∙ c.in-None.is)
 
 pub repeat_at-requires-clause-there : goal.repeat_at-requires-clause-there
 repeat_at-requires-clause-there c =
@@ -19,7 +19,7 @@ repeat_at-requires-clause-there c =
 
 pub returns-in_ok-repeat_at-in-Some-clause-ok : goal.returns-in_ok-repeat_at-in-Some-clause-ok
 returns-in_ok-repeat_at-in-Some-clause-ok c = λ tree.
-    ap (λ o. repeated c.args.at c.args.index o (record { tree = tree; nodes = c.args.nodes.now.items })) (sym (c.app_at.ensures tree) ∙ c.in-Some.is)
+    ap (λ o. after_repeat c.args.at c.args.index o (record { tree = tree; nodes = c.args.nodes.now.items })) (sym (c.app_at.ensures tree) ∙ c.in-Some.is)
     ∙ ap (λ (v : WorldState). (v, Done))
     (changed_is c.args.at.node (repeated_at (place_of c.args.at.port) c.args.index) (record { tree = tree; nodes = c.args.nodes.now.items })
     ∙ ap (λ (nodes : List NodeState). let v : WorldState = record { tree = tree; nodes = nodes } in v) (sym c.in_ok-repeat_at-in-Some.ensures.ok))

@@ -3,7 +3,7 @@ use Rattle.std.specs.List.{AllByRecursion}
 use Rattle.srp_base.specs.declared.numbers.EgressPort.{EgressPort}
 use Rattle.srp_base.specs.declared.ports.PortChange.{PortChange}
 use Rattle.frame_flow.specs.Force.{changes_at}
-use Rattle.world_core.specs.History.{joined, HasPortsOf, ComeUpTo, act_noted}
+use Rattle.world_core.specs.History.{all_changes_of, HasPortsOf, ComeUpTo, act_noted}
 use Rattle.world_core.proofs.Acting.{acting_node}
 use Rattle.world_core.proofs.Histories.{each_read, table_upto, acts_upto, changes_upto, next_act, next_idle}
 use Rattle.world_core.proofs.history.note_acts.Goals as goal
@@ -18,14 +18,14 @@ pub note_node-requires-clause-upto : goal.note_node-requires-clause-upto
 note_node-requires-clause-upto c =
     let w = c.args.world.now in
     let done = take c.loop-made.made-index c.args.steps.now in
-    let own : EgressPort → List PortChange = changes_at (joined c.args.nodes.now.items) in
+    let own : EgressPort → List PortChange = changes_at (all_changes_of c.args.nodes.now.items) in
     subst (AllByRecursion (AllByRecursion (ComeUpTo c.args.tick))) (sym c.loop-made.invariant)
-    (table_upto c.args.tick w.tree (λ p. act_noted c.args.tick done w p (own p)) (λ p. acts_upto c.args.tick w done p (own p) (changes_upto w.tree c.args.tick (joined c.args.nodes.now.items) c.requires.changes p)))
+    (table_upto c.args.tick w.tree (λ p. act_noted c.args.tick done w p (own p)) (λ p. acts_upto c.args.tick w done p (own p) (changes_upto w.tree c.args.tick (all_changes_of c.args.nodes.now.items) c.requires.changes p)))
 
 pub loop-made-preserved : goal.loop-made-preserved
 loop-made-preserved c =
     let w = c.args.world.now in
-    let own : EgressPort → List PortChange = changes_at (joined c.args.nodes.now.items) in
+    let own : EgressPort → List PortChange = changes_at (all_changes_of c.args.nodes.now.items) in
     let made = c.made-item.result in
     elim c.if-has_act.branch [
       | then-has_act+in_ok-note_node v ↦ rw v.nodes-is (next_act c.args.tick w w.tree own c.args.steps.now c.loop-made.made-index made c.loop-made-test.true c.made-item.is c.loop-made.nodes.items c.loop-made.invariant

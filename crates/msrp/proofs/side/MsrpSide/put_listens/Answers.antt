@@ -4,7 +4,7 @@ use Rattle.attribute_propagation.specs.Ports.{marked_everywhere}
 use Rattle.msrp.specs.Part.{key_cmp}
 use Rattle.msrp.specs.Stream.{is_listened}
 use Rattle.msrp.specs.Settling.{keys_of}
-use Rattle.msrp.specs.Side.{Streams, reasked}
+use Rattle.msrp.specs.Side.{Streams, with_asks}
 use Rattle.msrp.proofs.Keeping.{kept-asked}
 use Rattle.msrp.proofs.side.MsrpSide.put_listens.Goals as goal
 
@@ -21,4 +21,4 @@ returns-clause-ok c =
     let before : Streams = record { ports = c.self.inside.ports.items; awaiting = c.self.inside.awaiting.items; talks = c.self.inside.talks.items; listens = c.self.inside.listens.items; moment = c.self.inside.moment.0 } in
     let sets : c.put_sets.new.sets.items ≡ marked_everywhere key_cmp (keys_of c.args.stream) c.self.inside.awaiting.items = search rules in
     ap (λ (xs : List (List MsrpKey)). record before { listens = c.args.listens.items; awaiting = xs }) sets
-    ∙ ap (λ (v : Streams). reasked c.args.stream v.talks c.args.listens.items v) c.self.view_is
+    ∙ ap (λ (v : Streams). with_asks c.args.stream v.talks c.args.listens.items v) c.self.view_is

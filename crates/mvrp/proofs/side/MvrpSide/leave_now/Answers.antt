@@ -5,7 +5,7 @@ use Rattle.mrp_participant.specs.Lookup.{find}
 use Rattle.mrp_participant.specs.Row.{is_leaving_in}
 use Rattle.mrp_participant.specs.State.{AreRows, declared_at, left_state}
 use Rattle.mvrp.specs.Part.{Part}
-use Rattle.mvrp.specs.Side.{Vlans, retold, left_vids, left_vlans}
+use Rattle.mvrp.specs.Side.{Vlans, with_told_part, left_vids, left_vlans}
 use Rattle.mvrp.proofs.Places.{each-get}
 use Rattle.mvrp.proofs.Keeping.{one_some, tells_as, leaving_told, at_told, retold_as}
 use Rattle.mvrp.proofs.side.MvrpSide.leave_now.Goals as goal
@@ -49,5 +49,5 @@ returns-clause-after c =
     ap (λ (v : Vlans). slice_get v.parts at) (sym c.self.view_is) ∙ (ap (λ xs. slice_get xs at) (sym c.as_slice.ensures.value) ∙ (c.part_at.ensures ∙ ap Some (sym c.in_ok-part.ensures))) in
     c.in_ok-put.ensures.ok
     ∙ (retold_as at _ _ _ _ c.args.self.now c.leave_due-was.ensures.after (told_now c)
-    ∙ (at_told c.args.self.now at c.in_ok-part.part (λ s. retold at (left_state nat_cmp c.args.vid s) (left_vids c.args.vid s) c.args.self.now) is
+    ∙ (at_told c.args.self.now at c.in_ok-part.part (λ s. with_told_part at (left_state nat_cmp c.args.vid s) (left_vids c.args.vid s) c.args.self.now) is
     ∙ ap (λ (n : ℕ). left_vlans (n - 1) c.args.vid c.args.self.now) c.from-at.ensures))

@@ -5,7 +5,7 @@ use Rattle.mrp_participant.specs.State.{AreRows, declared_at, due_state, due_cou
 use Rattle.attribute_propagation.specs.Ports.{marked_elsewhere, sets_with}
 use Rattle.mvrp.specs.Part.{Part}
 use Rattle.mvrp.specs.Side.{Vlans, SameDeclared, TellsEach, place_of, count_of}
-use Rattle.mvrp.specs.Ready.{applied}
+use Rattle.mvrp.specs.Ready.{with_ready}
 use Rattle.mvrp.proofs.Places.{each-get}
 use Rattle.mvrp.proofs.Keeping.{one_some, some_is, tells_as, kept-put}
 use Rattle.mvrp.proofs.ReadyLemmas.{none-due, count-none}
@@ -26,7 +26,7 @@ none c = sym c.any_due.ensures ∙ c.if-not-any_due.true
 
 pub returns-then-not-any_due-clause-after : goal.returns-then-not-any_due-clause-after
 returns-then-not-any_due-clause-after c =
-    ap (λ r. applied r c.args.self.now) c.nothing.ensures
+    ap (λ r. with_ready r c.args.self.now) c.nothing.ensures
     ∙ sym (none-due c.args.self.now (place_of c.args.port) c.part_at-part.result.now (here c) c.args.now (none c))
 
 pub returns-then-not-any_due-clause-count : goal.returns-then-not-any_due-clause-count

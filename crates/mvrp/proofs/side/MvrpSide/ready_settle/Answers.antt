@@ -4,7 +4,7 @@ use Rattle.std.proofs.lemmas.Bool.{eqb-true}
 use Rattle.std.proofs.lemmas.List.{nil_from_length}
 use Rattle.mvrp.specs.Part.{settled_part}
 use Rattle.mvrp.specs.Side.{Vlans, place_of, rule_at, settled_vlans}
-use Rattle.mvrp.specs.Ready.{applied}
+use Rattle.mvrp.specs.Ready.{with_ready}
 use Rattle.mvrp.proofs.SettlingLemmas.{Laws, HasSettled, settle_is}
 use Rattle.mvrp.proofs.ReadyLemmas.{none-awaits}
 use Rattle.mvrp.proofs.side.MvrpSide.ready_settle.Goals as goal
@@ -18,7 +18,7 @@ returns-then-is_empty-clause-after c =
     ap (λ (v : Vlans). slice_get v.awaiting (place_of c.args.port)) (sym c.self.view_is)
     ∙ (ap (λ xs. slice_get xs (place_of c.args.port)) (sym c.as_slice.ensures.value)
     ∙ (ap (λ n. slice_get c.as_slice.result.now (n - 1)) (sym c.from-at.ensures) ∙ (c.set_at-vids.ensures ∙ ap Some none))) in
-    ap (λ r. applied r c.args.self.now) c.nothing.ensures ∙ sym (none-awaits c.args.self.now (place_of c.args.port) set)
+    ap (λ r. with_ready r c.args.self.now) c.nothing.ensures ∙ sym (none-awaits c.args.self.now (place_of c.args.port) set)
 
 -- the side as it is
 abbrev before : After-saturated → Vlans

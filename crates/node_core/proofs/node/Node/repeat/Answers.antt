@@ -1,6 +1,6 @@
 use Rattle.std.proofs.Common.{◌<◌, ◌-◌, ℕ, List, length, ap, ◌∙◌, arith}
 use Rattle.std.specs.Prelude.{slice_set}
-use Rattle.mrp_participant.specs.Link.{repeated}
+use Rattle.mrp_participant.specs.Link.{with_repeat}
 use Rattle.node_core.specs.declared.types.Wire.{Wire}
 use Rattle.node_core.specs.State.{NodeState}
 use Rattle.node_core.specs.Links.{repeated_at}
@@ -30,5 +30,5 @@ below c = omega (arith, c.from-at.ensures, c.requires.some, c.requires.within, c
 pub returns-clause-after : goal.returns-clause-after
 returns-clause-after c =
     ap (λ (b : List Wire). record (before c) { inboxes = slice_set (before c).inboxes (at c) b })
-    (c.in_ok-repeat_wire.ensures.ok ∙ ap (repeated c.args.index) (box_read (before c).inboxes (at c) c.index_mut.result.now (below c) c.index_mut.ensures.value))
+    (c.in_ok-repeat_wire.ensures.ok ∙ ap (with_repeat c.args.index) (box_read (before c).inboxes (at c) c.index_mut.result.now (below c) c.index_mut.ensures.value))
     ∙ (ap (λ (v : NodeState). repeated_at (at c) c.args.index v) c.self.view_is ∙ ap (λ (n : ℕ). repeated_at (n - 1) c.args.index c.args.self.now) c.from-at.ensures)

@@ -5,7 +5,7 @@ use Rattle.std.proofs.lemmas.Option.{slice_get_read}
 use Rattle.mvrp.specs.Side.{place_of}
 use Rattle.node_core.specs.declared.types.Wire.{Wire}
 use Rattle.node_core.specs.State.{NodeState, box_at}
-use Rattle.node_core.specs.Step.{HasOneSaid, sent}
+use Rattle.node_core.specs.Step.{HasOneSaid, after_send}
 use Rattle.node_core.proofs.Boxes.{set_set}
 use Rattle.node_core.proofs.Sending.{with_both, put_ok, put_err}
 use Rattle.node_core.proofs.node.Node.send.Goals as goal
@@ -61,7 +61,7 @@ changed c =
 
 pub returns-clause-ok : goal.returns-clause-ok
 returns-clause-ok c =
-    let P : NodeState → Type 0 = λ s. IfOk c.put_out-reply.result (λ reply. sent c.args.app (place_of c.args.port) s ≡ (after c, reply)) in
+    let P : NodeState → Type 0 = λ s. IfOk c.put_out-reply.result (λ reply. after_send c.args.app (place_of c.args.port) s ≡ (after c, reply)) in
     subst P c.self.view_is
     (put_ok (before c) (after c) c.args.app (place_of c.args.port) c.put_out-reply.result c.put_out-reply.new.mvrp c.put_out-reply.new.msrp c.put_out-reply.new.outbox.items (put c) (changed c))
 
