@@ -30,7 +30,7 @@ pub struct History {
 }
 
 impl Model for History {
-    ghost use Rattle.world_core.specs.History.{HistoryState, joined, IsByPort};
+    ghost use Rattle.world_core.specs.History.{HistoryState, all_changes_of, IsByPort};
 
     ghost Value = { HistoryState };
 
