@@ -1,7 +1,7 @@
 //! What awaits after a set has changed, key by key: laws over the lists that contracts see. Each is a
 //! function that does nothing; calling it brings the law to a proof.
 
-ghost use Rattle.std.specs.Prelude.{◌≡◌, ◌&&◌, ◌||◌, not, [], List};
+ghost use Rattle.std.specs.Prelude.{◌≡◌, ◌&&◌, ◌||◌, not, List};
 ghost use Rattle.std.specs.Ordering.{is_eq};
 ghost use Rattle.attribute_propagation.specs.Dirty.{IsAscending, is_awaiting, with_key, all_marked, without_key};
 

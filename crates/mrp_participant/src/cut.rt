@@ -4,7 +4,7 @@ ghost use Rattle.std.specs.Prelude.{◌≡◌, List, ◌++◌, ◌≤◌, Some};
 ghost use Rattle.std.specs.Result.{MatchResult};
 ghost use Rattle.mrp_participant.specs.declared.row.Row.{Row};
 ghost use Rattle.mrp_participant.specs.Sending.{order, rows_of_round};
-ghost use Rattle.mrp_participant.specs.Cut.{cut_at, first_cut, is_in_room};
+ghost use Rattle.mrp_participant.specs.Cut.{first_cut};
 
 use crate::application::MrpApp;
 use crate::row::{Row, round};

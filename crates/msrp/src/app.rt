@@ -10,7 +10,7 @@ use msrp_codec::{MsrpContent, MsrpKey};
 pub struct MsrpApp;
 
 impl MrpApp for MsrpApp {
-    ghost use Rattle.std.proofs.Common.{arith, refl, rules};
+    ghost use Rattle.std.proofs.Common.{arith};
     ghost use Rattle.std.proofs.lemmas.Bool.Decides.{nat_tests};
     ghost use Rattle.msrp_codec.specs.declared.pdu.MsrpContent.TheVariants.{Advertise, Failed, Listener, Domain};
     ghost use Rattle.msrp_codec.specs.Content.{base_octets, octets_of};

@@ -1,12 +1,12 @@
 //! What the application of a station asks for.
 
-ghost use Rattle.std.specs.Prelude.{◌≡◌, ◌∷◌, false, filter, not, ◌==◌, option_map, IfOk, OnOk, OnErr};
+ghost use Rattle.std.specs.Prelude.{◌≡◌, ◌∷◌, false, filter, ◌==◌, option_map, IfOk, OnOk, OnErr};
 ghost use Rattle.srp_base.specs.declared.numbers.StreamId.{StreamId};
 ghost use Rattle.attribute_propagation.specs.Ports.{marked_everywhere, sets_with};
 ghost use Rattle.msrp.specs.Part.{key_cmp};
 ghost use Rattle.msrp.specs.Settling.{keys_of};
 ghost use Rattle.msrp.specs.Stream.{talk_of, is_listened};
-ghost use Rattle.msrp.specs.Side.{IsKept, is_talk, same_talker, listens_without, with_asks, requested_streams, talks_without};
+ghost use Rattle.msrp.specs.Side.{is_talk, same_talker, listens_without, with_asks, requested_streams, talks_without};
 ghost use Rattle.msrp.specs.declared.asking.SrpRequest.TheVariants.{Talk, Hush, Listen, Unlisten};
 
 use crate::side::MsrpSide;

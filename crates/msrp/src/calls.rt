@@ -1,13 +1,12 @@
 //! What comes in at a link port, and its timers.
 
-ghost use Rattle.std.specs.Prelude.{◌≡◌, ◌⊎◌, ◌++◌, ◌<◌, ◌≤◌, ◌^◌, if◌then◌else◌, [], length, slice_get, slice_set, Some, Ok, IfOk, IfSome, OnOk, OnErr};
+ghost use Rattle.std.specs.Prelude.{◌≡◌, ◌++◌, ◌<◌, ◌≤◌, ◌^◌, if◌then◌else◌, [], length, slice_get, Some, Ok, IfOk, IfSome, OnOk, OnErr};
 ghost use Rattle.mrp_participant.specs.Lookup.{find};
 ghost use Rattle.mrp_participant.specs.Row.{is_leaving_in};
 ghost use Rattle.mrp_participant.specs.State.{AreRows, due_count};
 ghost use Rattle.std.specs.List.{AllByRecursion};
 ghost use Rattle.msrp_codec.specs.Content.{Belongs};
 ghost use Rattle.msrp_codec.specs.declared.pdu.MsrpKey.{MsrpKey};
-ghost use Rattle.msrp_codec.specs.declared.pdu.MsrpKey.TheVariants.{Talker as TalkerKey, Listener as ListenerKey};
 ghost use Rattle.msrp.specs.declared.port.Port.{Port};
 ghost use Rattle.msrp.specs.Part.{HasOwnContents, key_cmp};
 ghost use Rattle.msrp.specs.Settling.{all_keys_with, keys_with};

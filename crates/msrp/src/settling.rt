@@ -1,7 +1,7 @@
 //! Settling the keys that await at a link port.
 
-ghost use Rattle.std.specs.Prelude.{◌≡◌, ◌++◌, ◌+◌, ◌<◌, [], map, length, slice_get, Some, IfOk, IfSome, OnOk, OnErr};
-ghost use Rattle.std.specs.List.{flat_map, filter_map};
+ghost use Rattle.std.specs.Prelude.{◌≡◌, ◌++◌, ◌+◌, ◌<◌, map, length, slice_get, Some, IfOk, IfSome, OnOk, OnErr};
+ghost use Rattle.std.specs.List.{filter_map};
 ghost use Rattle.srp_base.specs.declared.numbers.StreamId.{StreamId};
 ghost use Rattle.srp_base.specs.declared.streams.Talker.{Talker};
 ghost use Rattle.msrp_codec.specs.declared.pdu.MsrpKey.TheVariants as keys;

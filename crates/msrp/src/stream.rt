@@ -12,7 +12,7 @@ ghost use Rattle.msrp_talker.specs.TalkerOut.{talker_in};
 ghost use Rattle.msrp_codec.specs.declared.pdu.MsrpContent.TheVariants as contents;
 ghost use Rattle.msrp.specs.declared.port.Port.{Port};
 ghost use Rattle.msrp.specs.Part.{talker_reg_of, listener_kind_of, registered_talker, registered_listener, talker_content};
-ghost use Rattle.msrp.specs.Stream.{advertise_of, talk_of, is_listened, listener_row, registrations_of, talkers_of, want_in_class, is_number, is_present, talker_of, is_talker_port, want_of_talker, want_of_reg, is_ready, wanted_at, fit_at, talker_at, is_advertised, own_listener, other_listeners, heard_of, listener_at, stated_at};
+ghost use Rattle.msrp.specs.Stream.{talk_of, is_listened, listener_row, registrations_of, talkers_of, want_in_class, is_number, is_present, talker_of, is_talker_port, want_of_talker, want_of_reg, is_ready, wanted_at, fit_at, talker_at, is_advertised, own_listener, other_listeners, heard_of, listener_at, stated_at};
 
 use crate::app::MsrpApp;
 use crate::port::Port;

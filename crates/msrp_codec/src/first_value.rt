@@ -1,7 +1,6 @@
 //! The value in the octets of a FirstValue.
 
 ghost use Rattle.std.specs.Prelude.{◌≡◌, ◌≤◌, ◌<◌, ◌+◌, ◌/◌, ◌^◌, nat_le, length};
-ghost use Rattle.mrpdu_codec.specs.declared.form.AppForm.TheVariants.{Msrp};
 ghost use Rattle.msrp_codec.specs.FirstValue.{field, rank_of, talker_of, failure_of, first_value_of, talkers_fit, values_fit};
 ghost use Rattle.msrp_codec.specs.AttributeType.{length_of};
 ghost use Rattle.msrp_codec.specs.declared.attribute_type.AttributeType.TheVariants.{Domain};

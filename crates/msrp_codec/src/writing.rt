@@ -1,6 +1,6 @@
 //! The events of keys written as octets.
 
-ghost use Rattle.std.specs.Prelude.{◌≡◌, ◌++◌, ◌∷◌, [], ◌<◌, ◌≤◌, ◌+◌, ◌*◌, ◌^◌, false, ℕ, Bool, List, Ok, ◌==◌, length, map, OnOk, IfOk, if◌then◌else◌};
+ghost use Rattle.std.specs.Prelude.{◌≡◌, ◌++◌, [], ◌<◌, ◌≤◌, ◌+◌, ◌*◌, false, List, Ok, ◌==◌, length, map, OnOk, IfOk, if◌then◌else◌};
 ghost use Rattle.std.specs.List.{AllByRecursion};
 ghost use Rattle.mrpdu_codec.specs.declared.form.AppForm.TheVariants.{Msrp};
 ghost use Rattle.mrpdu_codec.specs.Tree.{vector_octets, vectors_octets, messages_octets};

@@ -1,16 +1,14 @@
 //! What comes in and goes out at a link port, and what the application asks for.
 
-ghost use Rattle.std.specs.Prelude.{◌≡◌, ◌⊎◌, ◌<◌, ◌≤◌, ◌^◌, true, false, if◌then◌else◌, [], length, map, slice_get, slice_set, IsTrue, Option, Some, None, Ok, IfOk, IfSome, OnOk, OnErr};
+ghost use Rattle.std.specs.Prelude.{◌≡◌, ◌<◌, ◌≤◌, ◌^◌, if◌then◌else◌, [], length, map, slice_get, Some, Ok, IfOk, IfSome, OnOk, OnErr};
 ghost use Rattle.std.specs.Ordering.{nat_cmp};
 ghost use Rattle.mvrp_codec.specs.declared.pdu.MvrpPdu.{MvrpPdu};
-ghost use Rattle.mvrp_codec.specs.Writing.{mvrp_spelling};
 ghost use Rattle.mrp_participant.specs.Lookup.{find};
 ghost use Rattle.mrp_participant.specs.Row.{is_leaving_in};
-ghost use Rattle.mrp_participant.specs.State.{AreRows, due_state, due_count, left_keys, left_state, leave_all_state, periodic_state, is_silent};
+ghost use Rattle.mrp_participant.specs.State.{AreRows, due_count};
 ghost use Rattle.attribute_propagation.specs.Dirty.{with_key, without_key};
-ghost use Rattle.attribute_propagation.specs.Ports.{marked_elsewhere};
-ghost use Rattle.mvrp.specs.Part.{Part, messages, pdu_sent};
-ghost use Rattle.mvrp.specs.Side.{IsKept, SameDeclared, TellsEach, HasReceived, IsLinkPort, place_of, has_own, with_told_part, received_vlans, due_vlans, left_vlans, left_vids, leave_all_vlans, periodic_vlans, sent_vlans, spoilt_vlans, requested_vlans, count_of};
+ghost use Rattle.mvrp.specs.Part.{Part, messages};
+ghost use Rattle.mvrp.specs.Side.{IsKept, SameDeclared, TellsEach, HasReceived, IsLinkPort, place_of, with_told_part, received_vlans, due_vlans, left_vlans, leave_all_vlans, periodic_vlans, spoilt_vlans, requested_vlans, count_of};
 
 use crate::app::MvrpApp;
 use crate::side::MvrpSide;

@@ -2,7 +2,6 @@
 //! steps of several applications, or none of them.
 
 ghost use Rattle.std.specs.Prelude.{◌≡◌, ◌<◌, ◌^◌, [], length, slice_get, slice_set, option_map, Some, None, IfOk, IfSome};
-ghost use Rattle.std.specs.Ordering.{nat_cmp};
 ghost use Rattle.mrp_participant.specs.State.{due_count};
 ghost use Rattle.mvrp.specs.Side.{IsKept, IsLinkPort, place_of, awaiting_at, due_vlans, settled_vlans, count_of};
 ghost use Rattle.mvrp.specs.Ready.{with_ready, parts_with};

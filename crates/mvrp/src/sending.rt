@@ -1,6 +1,6 @@
 //! What a link port sends.
 
-ghost use Rattle.std.specs.Prelude.{◌≡◌, ◌≢◌, ◌<◌, ◌≤◌, ◌+◌, ◌^◌, ℕ, false, true, [], length, map, sum_by, is_none, IfOk, IfSome};
+ghost use Rattle.std.specs.Prelude.{◌≡◌, ◌≢◌, ◌<◌, ◌≤◌, ◌+◌, ◌^◌, false, [], length, map, sum_by, is_none, IfOk, IfSome};
 ghost use Rattle.mrp_participant.specs.State.{is_silent};
 ghost use Rattle.mvrp.specs.Part.{base, octets as row_octets, pdu_sent, sent_part};
 ghost use Rattle.mvrp.specs.Side.{HasSent, IsLinkPort, IsWritten, place_of};

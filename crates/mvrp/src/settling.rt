@@ -1,10 +1,9 @@
 //! Settling the VIDs that await at a port.
 
-ghost use Rattle.std.specs.Prelude.{◌≡◌, ◌<◌, ◌^◌, ◌∷◌, ℕ, suc, length, map, slice_get, Some, IfOk, IfSome, OnOk, OnErr};
+ghost use Rattle.std.specs.Prelude.{◌≡◌, ◌<◌, ◌^◌, ◌∷◌, length, map, slice_get, IfOk, IfSome, OnOk, OnErr};
 ghost use Rattle.std.specs.Ordering.{nat_cmp};
 ghost use Rattle.mrp_participant.specs.State.{AreRows};
 ghost use Rattle.attribute_propagation.specs.Dirty.{is_awaiting};
-ghost use Rattle.attribute_propagation.specs.Flat.{elsewhere};
 ghost use Rattle.mvrp.specs.Part.{settled_part, settled_vid, registers};
 ghost use Rattle.mvrp.specs.Side.{IsLinkPort, rule_at, place_of, count_of, awaiting_at, settled_vlans};
 

@@ -4,7 +4,6 @@ ghost use Rattle.std.specs.Prelude.{◌≡◌, ◌==◌, not, [], length, map, s
 ghost use Rattle.std.specs.List.{AllByRecursion, list_all, list_any};
 ghost use Rattle.srp_base.specs.declared.ports.PortSetup.{PortSetup};
 ghost use Rattle.mrp_participant.specs.State.{IsTime, new_state, is_still, is_any_due};
-ghost use Rattle.mvrp.specs.Part.{Part};
 ghost use Rattle.mvrp.specs.Side.{Vlans, IsKept, are_still, is_busy, IsLinkPort, place_of, has_own, new_vlans};
 
 use crate::app::MvrpApp;

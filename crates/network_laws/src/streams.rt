@@ -1,13 +1,11 @@
 //! Both sides of the law of Ready, and the refusal that a failure names, in any network.
 
-ghost use Rattle.std.specs.Prelude.{◌≡◌, ◌≤◌, ◌+◌, ℕ, true, false, ◌&&◌, length, option_map, IfOk, IfSome, IsSome};
-ghost use Rattle.std.specs.Option.{option_map_or};
-ghost use Rattle.std.specs.List.{AllByRecursion, list_all, range_with_len};
+ghost use Rattle.std.specs.Prelude.{◌≡◌, ◌+◌, true, false, ◌&&◌, option_map, IfOk, IfSome, IsSome};
+ghost use Rattle.std.specs.List.{AllByRecursion, list_all};
 ghost use Rattle.tree_topology.specs.Topology.{HasNode, HasPort};
 ghost use Rattle.mvrp.specs.Side.{IsLinkPort};
 ghost use Rattle.msrp.specs.Part.{talker_reg_of};
 ghost use Rattle.node_core.specs.State.{ports_of};
-ghost use Rattle.node_core.specs.Links.{IsKeptNode};
 ghost use Rattle.network_laws.specs.Vlans.{IsAtRest};
 ghost use Rattle.network_laws.specs.Streams.{bandwidth_failure, failure_at, failure_in, first_refusal, has_booked, hears_ready, is_listened_at, is_path_booked, is_ready_heard, is_talked_at, IsRefusalTo, IsTalkedOnce, refusal_at, refusal_in, refusal_of, refusal_to, slope_of_reg, slope_of_talker, talking_node};
 

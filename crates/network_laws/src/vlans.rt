@@ -1,7 +1,6 @@
 //! Both sides of the law of VLANs, in any network.
 
-ghost use Rattle.std.specs.Prelude.{◌≡◌, ◌≤◌, ◌+◌, ℕ, ◌&&◌, length, IfOk};
-ghost use Rattle.std.specs.List.{list_any, range_with_len};
+ghost use Rattle.std.specs.Prelude.{◌≡◌, ◌+◌, ◌&&◌, IfOk};
 ghost use Rattle.tree_topology.specs.Topology.{HasNode, HasPort};
 ghost use Rattle.tree_topology.specs.Walk.{is_behind};
 ghost use Rattle.network_laws.specs.Vlans.{is_registered, is_declared_at, is_declared_behind, IsAtRest};

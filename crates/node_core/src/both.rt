@@ -1,7 +1,7 @@
 //! What a step of a node does at MVRP and at MSRP. Each function says that both still have what they keep, as many ports,
 //! and MSRP the same moment.
 
-ghost use Rattle.std.specs.Prelude.{◌≡◌, ◌<◌, ◌+◌, ◌^◌, length, min, IfOk, OnOk, OnErr};
+ghost use Rattle.std.specs.Prelude.{◌≡◌, ◌<◌, ◌^◌, length, IfOk, OnOk, OnErr};
 ghost use Rattle.mvrp.specs.Side.{IsKept, IsLinkPort, place_of, count_of, due_vlans, settled_vlans};
 ghost use Rattle.msrp.specs.Side.{IsKept as IsKeptStreams, due_streams, settled_streams};
 ghost use Rattle.node_core.specs.Step.{HasOneTaken, HasOneSaid, all_due, all_awaiting};

@@ -1,7 +1,7 @@
 //! A node, how it is made, and what it shows.
 
-ghost use Rattle.std.specs.Prelude.{◌<◌, ◌^◌, ◌≡◌, ◌≤◌, ◌+◌, ◌++◌, [], length, map, slice_get, option_map, option_and_then, IfOk};
-ghost use Rattle.std.specs.List.{AllByRecursion, filter_map};
+ghost use Rattle.std.specs.Prelude.{◌<◌, ◌^◌, ◌≡◌, ◌≤◌, ◌+◌, [], length, map, slice_get, option_map, option_and_then, IfOk};
+ghost use Rattle.std.specs.List.{AllByRecursion};
 ghost use Rattle.mrp_participant.specs.State.{IsTime};
 ghost use Rattle.port_ledger.specs.Book.{entry_of};
 ghost use Rattle.mvrp.specs.Side.{IsLinkPort, place_of, has_own};

@@ -1,10 +1,10 @@
 //! One step of a node.
 
-ghost use Rattle.std.specs.Prelude.{◌+◌, ◌≡◌, ◌<◌, ◌≤◌, ◌^◌, length, vec_len, vec_capacity, IfOk, OnOk, OnErr};
-ghost use Rattle.mvrp.specs.Side.{IsLinkPort, place_of, count_of};
+ghost use Rattle.std.specs.Prelude.{◌+◌, ◌≡◌, ◌<◌, ◌^◌, IfOk, OnErr};
+ghost use Rattle.mvrp.specs.Side.{IsLinkPort, place_of};
 ghost use Rattle.msrp.specs.Side.{next_sets};
 ghost use Rattle.node_core.specs.State.{ports_of, box_at};
-ghost use Rattle.node_core.specs.Step.{CanStep, node_step, port_step, after_asking, after_work, left_now, leave_all_now, periodic_now, fired_due, after_settling, after_send, clocked_node};
+ghost use Rattle.node_core.specs.Step.{CanStep, node_step, port_step, after_asking, after_work, left_now, leave_all_now, periodic_now, fired_due, after_settling, after_send};
 
 use crate::both::{due_of, put_out, settle_of, worked_on};
 use crate::links::remove;

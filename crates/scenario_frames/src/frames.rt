@@ -1,8 +1,8 @@
 //! The frames of a scenario.
 
 ghost use Rattle.std.specs.Prelude.{◌≡◌, ◌+◌, ◌<◌, ◌≤◌, ◌++◌, All, IfOk, OnOk};
-ghost use Rattle.topology_file.specs.Frames.{frame_copies, last_copy};
-ghost use Rattle.scenario_frames.specs.PlanFrames.{copies_of, copy_moment, copy_of, frames_from, line_bits, plan_frames, way_of as way_of_spec};
+ghost use Rattle.topology_file.specs.Frames.{frame_copies};
+ghost use Rattle.scenario_frames.specs.PlanFrames.{copies_of, copy_moment, copy_of, frames_from, plan_frames, way_of as way_of_spec};
 ghost use Rattle.scenario_frames.specs.Times.{EndsInTime};
 
 use crate::way::{Way, way_of};

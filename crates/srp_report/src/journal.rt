@@ -2,7 +2,6 @@
 
 ghost use Rattle.std.specs.Prelude.{◌≡◌, ◌++◌, flat_map, IfOk, OnOk};
 ghost use Rattle.std.specs.Fmt.{decimal};
-ghost use Rattle.srp_base.specs.Text.{whole_of};
 ghost use Rattle.srp_report.specs.Lines.{port_name};
 ghost use Rattle.srp_report.specs.JournalText.{app_name as app_name_spec, step_name, reply_name, event_name as event_name_spec, event_line, place_text, made_text, line_at, step_lines, tick_lines, ticks_lines, journal_text as journal_text_spec};
 

@@ -1,8 +1,7 @@
 //! The lines of a report. Each is put at the end of a text.
 
-ghost use Rattle.std.specs.Prelude.{◌≡◌, ◌++◌, IfOk, OnOk, Some};
+ghost use Rattle.std.specs.Prelude.{◌≡◌, ◌++◌, OnOk, Some};
 ghost use Rattle.std.specs.Fmt.{decimal};
-ghost use Rattle.srp_base.specs.Text.{whole_of};
 ghost use Rattle.srp_report.specs.Lines.{ticks_line, port_line, vlan_line, talker_start, failure_text, talker_end, talker_line, listener_line, srp_line, want_line, booked_line, heard_line, end_lines, state_name as state_name_spec, kind_name as kind_name_spec, heard_name as heard_name_spec, class_name as class_name_spec, yes_or_no as yes_or_no_spec};
 
 use crate::tally::Tally;

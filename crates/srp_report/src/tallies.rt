@@ -1,9 +1,9 @@
 //! The tallies of all ports, from one reading of the journal.
 
-ghost use Rattle.std.specs.Prelude.{◌≡◌, ◌≤◌, ◌<◌, IfOk, Some, slice_get, replicate};
+ghost use Rattle.std.specs.Prelude.{◌≡◌, ◌≤◌, ◌<◌, IfOk, Some, slice_get};
 ghost use Rattle.srp_base.specs.declared.numbers.EgressPort.{EgressPort};
 ghost use Rattle.srp_report.specs.Counts.{replies_of, tally_of};
-ghost use Rattle.srp_report.specs.Tallies.{zero_tally, zero_row, zero_rows, step_counted, steps_counted, node_counted, nodes_counted, ticks_counted, tally_at};
+ghost use Rattle.srp_report.specs.Tallies.{zero_row, zero_rows, step_counted, steps_counted, node_counted, nodes_counted, ticks_counted, tally_at};
 
 use crate::tally::Tally;
 use node_core::{NodeStep, PortStep};

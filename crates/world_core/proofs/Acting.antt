@@ -13,7 +13,6 @@ use Rattle.srp_base.specs.declared.bandwidth.Class.TheVariants.{A, B}
 use Rattle.srp_base.specs.declared.mrp.App.{App}
 use Rattle.srp_base.specs.declared.mrp.App.TheVariants.{Mvrp, Msrp}
 use Rattle.applicant.specs.declared.AppEvent.{AppEvent}
-use Rattle.registrar.specs.declared.Registrar.{Registrar}
 use Rattle.registrar.specs.Table.{is_registered_in}
 use Rattle.registrar.proofs.RegistrarLemmas.{leave_all_sent-registered}
 use Rattle.stream_importance.specs.declared.entry.Entry.{Entry}

@@ -1,7 +1,6 @@
 //! What a port has in force: whether that is what a change says, and the change that says it.
 
 ghost use Rattle.std.specs.Prelude.{◌≡◌, ◌≤◌, ◌<◌, ◌+◌, true, false, length, drop, map, option_map, HoldsAt, MatchOption, IfOk, IfSome, IfNone};
-ghost use Rattle.registrar.specs.Table.{is_registered_in};
 ghost use Rattle.port_ledger.specs.Decision.{is_booked};
 ghost use Rattle.world_core.specs.Force.{said_by, booked_streams, is_registered_row, registered_vids, force_of, are_same_streams, are_same_vids, is_same, change_of};
 

@@ -1,5 +1,4 @@
 use Rattle.std.proofs.Common.{ap, ◌∙◌, if◌then◌else◌}
-use Rattle.std.specs.declared.result.Result.{Result}
 use Rattle.mrp_participant.specs.Lookup.{find, same}
 use Rattle.mrp_participant.specs.Row.{after_declare, declared_in}
 use Rattle.mrp_participant.specs.State.{State}
