@@ -151,16 +151,16 @@ module _ {K C : Type 0} where
       subst HasRoom (sym less) (room-for (outlook_without o r) (take at rows ++ drop (suc at) rows) (without-at o rows at r below is h).0 (omega (arith, few, fewer-at rows at r below is)))
 
   -- the outlook where a row stands in the place of another
-  pub replaced-some : (o others all : Outlook) (rows slice new : List (Row K C)) (at : ℕ) (r q : Row K C) → at < length rows → r ≡ get_or rows at r → Tells o rows → others ≡ outlook_without o r → all ≡ outlook_with others q → slice ≡ new → new ≡ take at rows ++ q ∷ drop (suc at) rows → Tells all slice
-  replaced-some o others all rows slice new at r q below is h less more slice_is new_is =
-      subst (λ l. Tells all l) (sym (slice_is ∙ new_is))
+  pub replaced-some : (o others all : Outlook) (rows new : List (Row K C)) (at : ℕ) (r q : Row K C) → at < length rows → r ≡ get_or rows at r → Tells o rows → others ≡ outlook_without o r → all ≡ outlook_with others q → new ≡ take at rows ++ q ∷ drop (suc at) rows → Tells all new
+  replaced-some o others all rows new at r q below is h less more new_is =
+      subst (λ l. Tells all l) (sym new_is)
       (subst (λ x. Tells x (take at rows ++ q ∷ drop (suc at) rows)) (sym (more ∙ ap (λ x. outlook_with x q) less))
       (tells-more (outlook_without o r) (take at rows) q (drop (suc at) rows) (without-at o rows at r below is h).0))
 
   -- the outlook where a row was taken away
-  pub replaced-none : (o others all : Outlook) (rows slice new : List (Row K C)) (at : ℕ) (r : Row K C) → at < length rows → r ≡ get_or rows at r → Tells o rows → others ≡ outlook_without o r → all ≡ others → slice ≡ new → new ≡ take at rows ++ drop (suc at) rows → Tells all slice
-  replaced-none o others all rows slice new at r below is h less same slice_is new_is =
-      subst (λ l. Tells all l) (sym (slice_is ∙ new_is))
+  pub replaced-none : (o others all : Outlook) (rows new : List (Row K C)) (at : ℕ) (r : Row K C) → at < length rows → r ≡ get_or rows at r → Tells o rows → others ≡ outlook_without o r → all ≡ others → new ≡ take at rows ++ drop (suc at) rows → Tells all new
+  replaced-none o others all rows new at r below is h less same new_is =
+      subst (λ l. Tells all l) (sym new_is)
       (subst (λ x. Tells x (take at rows ++ drop (suc at) rows)) (sym (same ∙ less)) (without-at o rows at r below is h).0)
 
   -- the outlook with a row put between others

@@ -14,7 +14,8 @@ pub(crate) fn keys_ascend<K: Copy + Ord, C: Copy>(events: &[(MrpEvent, K, C)]) -
     events.is_sorted_by_key(|event| event.1)
 }
 
-/// The events in the order of their keys, those of one key as they came.
+/// The events in the order of their keys, those of one key as they came. That their keys ascend is for the sake of
+/// speed alone, and no clause says it.
 pub(crate) fn by_key<K: Copy + Ord, C: Copy>(
     alloc: Global,
     events: &[(MrpEvent, K, C)],

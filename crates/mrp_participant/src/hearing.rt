@@ -7,12 +7,12 @@ ghost use Rattle.std.specs.Option.{is_some};
 ghost use Rattle.std.specs.List.{AllByRecursion, list_all};
 ghost use Rattle.mrp_participant.specs.Lookup.{Ascends, key_of, find, put};
 ghost use Rattle.mrp_participant.specs.Row.{after_hear, row_after_receive};
-ghost use Rattle.mrp_participant.specs.Outlook.{IsOutlook};
+ghost use Rattle.mrp_participant.specs.Outlook.{IsOutlook, Tells};
 ghost use Rattle.mrp_participant.specs.State.{AreRows};
 ghost use Rattle.mrp_participant.specs.Hearing.{first_of, begun_row, row_so_far, heard_with, rows_as_one, put_over};
 
 use crate::lookup::{fill_at, find_row, place, replace_at};
-use crate::outlook::{Outlook, outlook_of, replace_row};
+use crate::outlook::{Outlook, exchange_row, outlook_of};
 use crate::row::{Row, makes_row};
 use srp_base::{Cs, MrpEvent, NoMemory};
 use std::alloc::Global;
@@ -228,7 +228,8 @@ fn leave_all_in<K: Copy, C: Copy>(rows: &mut Vec<Row<K, C>>, leave: Cs)
     }
 }
 
-/// Puts rows in the places of those of their keys.
+/// Puts rows in the places of those of their keys. The next moment at which a leave timer ends is looked for once, at
+/// the end.
 fn put_known<K: Copy + Ord, C: Copy>(
     rows: &mut Vec<Row<K, C>>,
     outlook: &mut Outlook,
@@ -243,17 +244,18 @@ fn put_known<K: Copy + Ord, C: Copy>(
     for row in heard {
         put_in(rows, outlook, *row);
     }
+    *outlook = outlook.or_anew(rows.as_slice());
 }
 
 /// Puts a row in the place of that of its key.
 fn put_in<K: Copy + Ord, C: Copy>(rows: &mut Vec<Row<K, C>>, outlook: &mut Outlook, row: Row<K, C>)
     requires rows { Ascends K.cmp key_of rows.old.items }
     requires known { IsSome (find K.cmp row.key rows.old.items) }
-    requires outlook { IsOutlook outlook.old rows.old.items }
+    requires tells { Tells outlook.old rows.old.items }
     ensures rows { rows.new.items ≡ put K.cmp row.key (Some row) rows.old.items }
-    ensures outlook { IsOutlook outlook.new rows.new.items }
+    ensures tells { Tells outlook.new rows.new.items }
 {
     if let Ok(at) = place(rows.as_slice(), &row.key) {
-        replace_row(rows, outlook, at, Some(row));
+        exchange_row(rows, outlook, at, Some(row));
     }
 }

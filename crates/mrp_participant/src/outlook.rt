@@ -60,7 +60,7 @@ impl Outlook {
     }
 
     /// The outlook, or one taken anew where no leave timer is left of the moment that is known.
-    fn or_anew<K: Copy, C: Copy>(self, rows: &[Row<K, C>]) -> Outlook
+    pub(crate) fn or_anew<K: Copy, C: Copy>(self, rows: &[Row<K, C>]) -> Outlook
         requires { Tells self rows.now }
         ensures { IsOutlook result rows.now }
     {
@@ -148,7 +148,30 @@ pub(crate) fn outlook_of<K: Copy, C: Copy>(rows: &[Row<K, C>]) -> Outlook
     outlook
 }
 
-/// Puts another row, or none, in the place of the row at `at`.
+/// Puts another row, or none, in the place of the row at `at`. Of the moment that the outlook knows no leave timer
+/// may be left.
+pub(crate) fn exchange_row<K: Copy, C: Copy>(
+    rows: &mut Vec<Row<K, C>>,
+    outlook: &mut Outlook,
+    at: usize,
+    new: Option<Row<K, C>>,
+)
+    requires within { at < length rows.old.items }
+    requires tells { Tells outlook.old rows.old.items }
+    ensures rows { rows.new.items
+        ≡ take at rows.old.items ++ cons_option new (drop (suc at) rows.old.items) }
+    ensures tells { Tells outlook.new rows.new.items }
+{
+    let others = outlook.without(&rows[at]);
+    replace_at(rows, at, new);
+    *outlook = match new {
+        Some(row) => others.with(&row),
+        None => others,
+    };
+}
+
+/// Puts another row, or none, in the place of the row at `at`. Where no leave timer is left of the first moment, the
+/// next is looked for.
 pub(crate) fn replace_row<K: Copy, C: Copy>(
     rows: &mut Vec<Row<K, C>>,
     outlook: &mut Outlook,
@@ -161,13 +184,8 @@ pub(crate) fn replace_row<K: Copy, C: Copy>(
         ≡ take at rows.old.items ++ cons_option new (drop (suc at) rows.old.items) }
     ensures outlook { IsOutlook outlook.new rows.new.items }
 {
-    let others = outlook.without(&rows[at]);
-    replace_at(rows, at, new);
-    let all = match new {
-        Some(row) => others.with(&row),
-        None => others,
-    };
-    *outlook = all.or_anew(rows.as_slice());
+    exchange_row(rows, outlook, at, new);
+    *outlook = outlook.or_anew(rows.as_slice());
 }
 
 /// Puts a row before the row at `at`. After want of memory the rows are as they were.

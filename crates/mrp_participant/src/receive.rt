@@ -24,9 +24,9 @@ use std::alloc::Global;
 impl<A: MrpApp> Participant<A> {
     /// Takes what the neighbour sent at the moment `now`, in cs and below 2^62: LeaveAll first, then the events
     /// in order (IEEE Std 802.1Q-2018, 10.7.5). Answers, ascending, the keys whose registration or registered
-    /// content differs from before. It goes over all rows with LeaveAll, for a key that has no row yet, and
-    /// where the last of the leave timers that end first ends by it. After want of memory the participant is as
-    /// it was.
+    /// content differs from before. It goes over all rows with LeaveAll, for a key that has no row yet, and once
+    /// where the events end the last of the leave timers that would end first. After want of memory the
+    /// participant is as it was.
     pub fn receive(&mut self, now: Cs, msgs: &Msgs<A>) -> Result<Seq<A::Key>, NoMemory>
         requires { now.0 < 2 ^ 62 }
 
@@ -76,9 +76,8 @@ fn timer_after(next: Cs, leave_all: bool, now: Cs, period: Cs) -> Cs
 }
 
 /// Lets the rows hear a list of messages: LeaveAll first, then the events in order. Answers the keys whose
-/// registration or registered content that changes, which are among those of the events. After want of memory
-/// the rows are as they were. Where the keys don't ascend, the events are put in the order of their keys first,
-/// so that none is put between others.
+/// registration or registered content changes, which are among those of the events. After want of memory the rows
+/// are as they were.
 fn receive_in<K: Copy + Ord, C: Copy + Eq>(
     alloc: Global,
     rows: &mut Vec<Row<K, C>>,

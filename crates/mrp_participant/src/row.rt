@@ -2,7 +2,7 @@
 
 ghost use Rattle.std.specs.Prelude.{◌≡◌, if◌then◌else◌, Some, None};
 ghost use Rattle.applicant.specs.Table.{withdraw_of};
-ghost use Rattle.mrp_participant.specs.Row.{is_live, kept_row, applicant_takes, registrar_takes, with_applicant, fresh_row, declared_row, left_row, leave_all_row, with_heard, heard_row, makes_row, registered_in, declared_in, leave_is_due, after_leave_due, periodic_row, is_settled};
+ghost use Rattle.mrp_participant.specs.Row.{is_live, kept_row, applicant_takes, registrar_takes, with_applicant, fresh_row, declared_row, left_row, leave_all_row, with_heard, heard_row, makes_row, registered_in, declared_in, leave_is_due, after_leave_due, periodic_row};
 ghost use Rattle.mrp_participant.specs.Hearing.{begun_row};
 ghost use Rattle.mrp_participant.specs.Sending.{round, is_tried, opportunity, before_opportunity, row_after, said_at, event_for, sent_row, sent_event};
 
@@ -219,14 +219,6 @@ impl<K: Copy, C: Copy> Row<K, C> {
         } else {
             Some(self)
         }
-    }
-
-    /// Whether the row's machines are at rest.
-    pub(crate) fn is_settled(&self) -> bool
-        ensures { result ≡ is_settled self.now }
-    {
-        let quiet = matches!(self.applicant, Applicant::Vo | Applicant::Qa);
-        quiet && self.registrar != Registrar::Leaving
     }
 
     /// The row after the periodic event.

@@ -85,18 +85,18 @@ pub struct Outcome {
 
 /// How a command ends: why, and the journal of the run whose output went out.
 #[derive(Drop)]
-pub struct Ended {
+pub struct Ending {
     pub cause: Cause,
     pub journal: Journal,
 }
 
-impl Ended {
+impl Ending {
     /// An ending without a run.
-    pub fn without_run(alloc: Global, cause: Cause) -> Ended
+    pub fn without_run(alloc: Global, cause: Cause) -> Ending
         ensures cause { result.cause ≡ cause }
         ensures journal { result.journal.ticks ≡ [] }
     {
-        Ended {
+        Ending {
             cause,
             journal: no_journal(alloc),
         }

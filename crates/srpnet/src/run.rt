@@ -59,13 +59,13 @@ pub fn output_with_journal(alloc: Global, octets: &[u8]) -> Result<CommandOutput
 
 /// A run of a scenario, with the flow of its frames.
 #[derive(Drop)]
-struct Ran {
+struct RunWithFlow {
     run: Run,
     flow: FlowResult,
 }
 
 // Runs a scenario, and its frames through the shapers by what was in force.
-fn run_of(alloc: Global, scenario: &Scenario) -> Result<Ran, NoMemory>
+fn run_of(alloc: Global, scenario: &Scenario) -> Result<RunWithFlow, NoMemory>
     ensures run { IfOk result (λ r. IsRun scenario.now r.run.journal.ticks r.run.world
         r.run.timeline.changes r.flow.ports) }
     ensures holds { IfOk result
@@ -78,7 +78,7 @@ fn run_of(alloc: Global, scenario: &Scenario) -> Result<Ran, NoMemory>
     scenario.keeps_rules();
     let run = plain_run(alloc, scenario)?;
     let flow = flow_of(alloc, scenario, &run.timeline)?;
-    Ok(Ran { run, flow })
+    Ok(RunWithFlow { run, flow })
 }
 
 // What holds at every moment of every legal run of a scenario, as the laws of networks say it. It does nothing.

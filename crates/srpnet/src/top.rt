@@ -10,7 +10,7 @@ ghost use Rattle.srpnet.specs.TopCall.{plain_ending, IsOutput, Refuses, ReadsNot
 ghost use Rattle.srpnet.specs.Words.{command_of as command_of_spec};
 
 use crate::commands::{CommandOutput, output, reads_input};
-use crate::outcome::{Cause, Ended, Outcome, status_of, tell};
+use crate::outcome::{Cause, Ending, Outcome, status_of, tell};
 use crate::words::{Command, command_of};
 use srp_base::Seq;
 use srp_io::{Sink, Source, WriteErr, read_all, write_whole};
@@ -114,17 +114,17 @@ fn carry_out<I: Source, O: Sink>(
     command: Command,
     source: &mut I,
     out: &mut O,
-) -> Ended
+) -> Ending
     ensures { CarriedOut I.left I.faults O.held O.faults command source.old source.new out.old
         out.new
         result.cause result.journal.ticks }
 {
     match read_output(alloc, command, source) {
-        Ok(made) => Ended {
+        Ok(made) => Ending {
             cause: print(out, made.text),
             journal: made.journal,
         },
-        Err(cause) => Ended::without_run(alloc, cause),
+        Err(cause) => Ending::without_run(alloc, cause),
     }
 }
 
@@ -134,13 +134,13 @@ fn end_of<I: Source, O: Sink>(
     found: Option<Command>,
     source: &mut I,
     out: &mut O,
-) -> Ended
+) -> Ending
     ensures { IsEnding I.left I.faults O.held O.faults found source.old source.new out.old out.new
         result.cause result.journal.ticks }
 {
     match found {
         Some(command) => carry_out(alloc, command, source, out),
-        None => Ended::without_run(alloc, Cause::BadWords),
+        None => Ending::without_run(alloc, Cause::BadWords),
     }
 }
 

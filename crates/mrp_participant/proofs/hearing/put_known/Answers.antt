@@ -5,6 +5,7 @@ use Rattle.std.specs.Prelude.{IsSome}
 use Rattle.std.specs.declared.option.Option.TheVariants.{Some}
 use Rattle.mrp_participant.specs.Lookup.{Ascends, key_of, find, put}
 use Rattle.mrp_participant.specs.Hearing.{put_over}
+use Rattle.mrp_participant.specs.Outlook.{Tells}
 use Rattle.mrp_participant.proofs.Lookups.{fold-step}
 use Rattle.mrp_participant.proofs.Hearings.{each-at_drop, Ascends-put_row, known-put}
 use Rattle.mrp_participant.proofs.hearing.put_known.Goals as goal
@@ -25,20 +26,20 @@ loop-row-preserved g c =
       known =
           subst (λ rows. AllByRecursion (λ u. IsSome (find g.K.Ord.cmp u.key rows)) (drop (c.loop-row.row-index + 1) c.args.heard.now)) (sym c.put_in.ensures.rows)
           (known-put g.met.K.Ord.total _ _ _ c.loop-row.invariant.ascends (each-at_drop _ c.args.heard.now _ _ c.loop-row-test.true c.row-item.is c.loop-row.invariant.known).1);
-      outlook = c.put_in.ensures.outlook;
+      tells = c.put_in.ensures.tells;
     }
 
 pub loop-row-init : goal.loop-row-init
-loop-row-init g c = record { put = refl; ascends = c.requires.rows; known = c.requires.known; outlook = c.requires.outlook }
+loop-row-init g c = record { put = refl; ascends = c.requires.rows; known = c.requires.known; tells = c.requires.outlook.0 }
 
 pub offset_bounds-heard-row-index : goal.offset_bounds-heard-row-index
 offset_bounds-heard-row-index g c = c.loop-row.auto.row-index-end
 
-pub put_in-requires-clause-outlook : goal.put_in-requires-clause-outlook
-put_in-requires-clause-outlook g c = c.loop-row.invariant.outlook
+pub put_in-requires-clause-tells : goal.put_in-requires-clause-tells
+put_in-requires-clause-tells g c = c.loop-row.invariant.tells
 
-pub returns-clause-outlook : goal.returns-clause-outlook
-returns-clause-outlook g c = c.loop-row.invariant.outlook
+pub or_anew-requires : goal.or_anew-requires
+or_anew-requires g c = subst (Tells c.loop-row.outlook) (sym c.as_slice.ensures.value) c.loop-row.invariant.tells
 
 pub returns-clause-rows : goal.returns-clause-rows
 returns-clause-rows g c = sym (c.loop-row.invariant.put ∙ ap (λ over. put_over g.K.Ord.cmp over c.loop-row.rows.items) (drop_all _ c.args.heard.now c.loop-row-test.false))

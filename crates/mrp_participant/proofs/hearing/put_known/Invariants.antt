@@ -3,7 +3,7 @@ use Rattle.std.specs.List.{AllByRecursion}
 use Rattle.std.specs.Prelude.{IsSome}
 use Rattle.mrp_participant.specs.Lookup.{Ascends, key_of, find}
 use Rattle.mrp_participant.specs.Hearing.{put_over}
-use Rattle.mrp_participant.specs.Outlook.{IsOutlook}
+use Rattle.mrp_participant.specs.Outlook.{Tells}
 use Rattle.mrp_participant.proofs.hearing.put_known.Given as goal
 
 abbrev pub invariant-loop-row : goal.invariant-loop-row
@@ -12,5 +12,5 @@ invariant-loop-row g l =
       put : put_over g.K.Ord.cmp l.heard l.fn.rows.items ≡ put_over g.K.Ord.cmp (drop l.row-index l.heard) l.rows.items;
       ascends : Ascends g.K.Ord.cmp key_of l.rows.items;
       known : AllByRecursion (λ u. IsSome (find g.K.Ord.cmp u.key l.rows.items)) (drop l.row-index l.heard);
-      outlook : IsOutlook l.outlook l.rows.items;
+      tells : Tells l.outlook l.rows.items;
     }
