@@ -45,7 +45,7 @@ fn change(alloc: Global, at: EgressPort) -> Result<PortChange, Fail> {
 }
 
 /// The stream is booked at these ports from tick 21 on.
-fn timeline(alloc: Global, booked: &[EgressPort]) -> Result<Timeline, Fail> {
+fn new_timeline(alloc: Global, booked: &[EgressPort]) -> Result<Timeline, Fail> {
     let mut changes = Vec::new(alloc);
     for at in booked {
         changes.push(change(alloc, *at)?)?;
@@ -88,8 +88,7 @@ fn run(
     ticks: u64,
 ) -> Result<Option<FlowResult>, NoMemory> {
     if is_valid(alloc, tree, rates, timeline, frames, ticks)? {
-        let flow = flow(alloc, tree, rates, timeline, frames, ticks)?;
-        Ok(Some(flow))
+        Ok(Some(flow(alloc, tree, rates, timeline, frames, ticks)?))
     } else {
         Ok(None)
     }
@@ -145,7 +144,7 @@ fn wanted() -> [(u32, Fate); 8] {
 /// The flow of frames between two stations, of which the first has the stream booked.
 fn between_stations(alloc: Global, frames: &[Frame]) -> Result<FlowResult, Fail> {
     let tree = Tree::new(alloc, &[Station, Station], &[link(1, 2)])?;
-    let timeline = timeline(alloc, &[port(1, 1)])?;
+    let timeline = new_timeline(alloc, &[port(1, 1)])?;
     let flow = run(alloc, &tree, &[Rate::M100], &timeline, frames, 100)?;
     Ok(flow.ok_or("a valid flow")?)
 }
@@ -166,7 +165,7 @@ fn over_a_bridge(alloc: Global, frames: &[Frame]) -> Result<FlowResult, Fail> {
         &[Station, Bridge, Station],
         &[link(1, 2), link(2, 3)],
     )?;
-    let timeline = timeline(alloc, &[port(1, 1), port(2, 1), port(2, 2)])?;
+    let timeline = new_timeline(alloc, &[port(1, 1), port(2, 1), port(2, 2)])?;
     let flow = run(
         alloc,
         &tree,

@@ -11,7 +11,7 @@ use stream_importance::{Entry, Fit, Want};
 /// A stream of 200 octets and one frame takes this much in class A.
 const SMALL: u64 = 15_488_000;
 
-fn ledger(alloc: Global, delta_a: u64, delta_b: u64) -> Option<Ledger>
+fn new_ledger(alloc: Global, delta_a: u64, delta_b: u64) -> Option<Ledger>
     ensures { IfSome result (λ l. l.moment ≡ 0) }
 {
     let a = Percent::new(delta_a)?;
@@ -77,7 +77,7 @@ fn takes_four_of_five(ledger: &mut Ledger) -> Result<bool, NoMemory>
 
 #[test]
 fn four_of_five_equal_streams_fit(rt: HostRuntime) -> Result<(), Fail> {
-    let mut ledger = ledger(rt.alloc(), 75, 0).ok_or("percentages")?;
+    let mut ledger = new_ledger(rt.alloc(), 75, 0).ok_or("percentages")?;
     assert!(rt; takes_four_of_five(&mut ledger) == Ok(true));
     Ok(())
 }
@@ -109,7 +109,7 @@ fn decides_anew(ledger: &mut Ledger) -> Result<bool, NoMemory>
 
 #[test]
 fn what_a_stream_leaves_is_decided_anew(rt: HostRuntime) -> Result<(), Fail> {
-    let mut ledger = ledger(rt.alloc(), 75, 0).ok_or("percentages")?;
+    let mut ledger = new_ledger(rt.alloc(), 75, 0).ok_or("percentages")?;
     assert!(rt; decides_anew(&mut ledger) == Ok(true));
     Ok(())
 }
@@ -170,7 +170,7 @@ fn has_changed(ledger: &Ledger) -> Result<bool, NoMemory> {
 
 #[test]
 fn entries_ascend_and_bookings_are_compared(rt: HostRuntime) -> Result<(), Fail> {
-    let mut ledger = ledger(rt.alloc(), 20, 0).ok_or("percentages")?;
+    let mut ledger = new_ledger(rt.alloc(), 20, 0).ok_or("percentages")?;
     assert!(rt; evict(&mut ledger).is_ok() && has_entries(&ledger));
     assert!(rt; has_booking_in_copy(&ledger) == Ok(true) && has_changed(&ledger) == Ok(true));
     Ok(())

@@ -96,7 +96,7 @@ fn wide_bridge(alloc: Global) -> Option<MsrpSide> {
 // ---- what is declared
 
 // The Talker of the octets above, with its frames, its rank and its latency in ns.
-fn talker(stream: StreamId, frames: u16, rank: Rank, latency: u32) -> Option<Talker> {
+fn new_talker(stream: StreamId, frames: u16, rank: Rank, latency: u32) -> Option<Talker> {
     Some(Talker {
         stream,
         dest: Mac::new(0x91e0_f000_fe01)?,
@@ -110,12 +110,12 @@ fn talker(stream: StreamId, frames: u16, rank: Rank, latency: u32) -> Option<Tal
 }
 
 fn advertised(latency: u32) -> Option<MsrpContent> {
-    let talker = talker(ONE, 1, Rank::Normal, latency)?;
+    let talker = new_talker(ONE, 1, Rank::Normal, latency)?;
     Some(MsrpContent::Advertise(talker))
 }
 
 fn failed(frames: u16, code: u8) -> Option<MsrpContent> {
-    let talker = talker(ONE, frames, Rank::Normal, 1_500)?;
+    let talker = new_talker(ONE, frames, Rank::Normal, 1_500)?;
     let failure = Failure {
         bridge: BRIDGE,
         code,
@@ -390,7 +390,7 @@ fn a_clock_is_prepared_and_then_set(rt: HostRuntime) -> Result<(), Fail> {
 #[test]
 fn an_application_talks_and_listens(rt: HostRuntime) -> Result<(), Fail> {
     let mut side = station(rt.alloc()).ok_or("a station")?;
-    let own = talker(ONE, 1, Rank::Normal, 0).ok_or("a talker")?;
+    let own = new_talker(ONE, 1, Rank::Normal, 0).ok_or("a talker")?;
     assert!(rt; asks(&mut side, SrpRequest::Talk(own)));
     assert!(rt; asks(&mut side, SrpRequest::Listen(TWO)));
     assert!(rt; side.talks(ONE) && side.listens(TWO));

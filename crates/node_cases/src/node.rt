@@ -50,7 +50,7 @@ fn setup(period: u64) -> Option<PortSetup>
 }
 
 // A station of one link port, whose LeaveAll timer is due at 1,008.
-fn station(alloc: Global) -> Result<Node, Fail> {
+fn new_station(alloc: Global) -> Result<Node, Fail> {
     let port = setup(1_008).ok_or("shares of at most 90")?;
     let ports = [port];
     Ok(Node::new(
@@ -64,7 +64,7 @@ fn station(alloc: Global) -> Result<Node, Fail> {
 }
 
 // A bridge of two link ports, whose LeaveAll timers are due at 3 and at 1,015.
-fn bridge(alloc: Global) -> Result<Node, Fail> {
+fn new_bridge(alloc: Global) -> Result<Node, Fail> {
     let one = setup(3).ok_or("shares of at most 90")?;
     let two = setup(1_015).ok_or("shares of at most 90")?;
     let ports = [one, two];
@@ -306,8 +306,8 @@ fn goes_through(station: &mut Node, bridge: &mut Node, vid: Vid) -> Result<bool,
 
 fn goes_through_new(alloc: Global) -> Result<bool, Fail> {
     let vid = Vid::new(10).ok_or("a VID")?;
-    let mut station = station(alloc)?;
-    let mut bridge = bridge(alloc)?;
+    let mut station = new_station(alloc)?;
+    let mut bridge = new_bridge(alloc)?;
     Ok(goes_through(&mut station, &mut bridge, vid)?)
 }
 
@@ -387,7 +387,7 @@ fn leaves_at(bridge: &mut Node, vid: Vid) -> Result<bool, NoMemory> {
 
 fn leaves_new(alloc: Global) -> Result<bool, Fail> {
     let vid = Vid::new(10).ok_or("a VID")?;
-    let mut bridge = bridge(alloc)?;
+    let mut bridge = new_bridge(alloc)?;
     Ok(comes_at(alloc, &mut bridge)? && leaves_at(&mut bridge, vid)?)
 }
 
@@ -547,8 +547,8 @@ fn books_new(alloc: Global) -> Result<bool, Fail> {
     let vid = Vid::new(10).ok_or("a VID")?;
     let stream = StreamId(0x0200_0000_0001_0001);
     let talker = talker_of(stream).ok_or("a Talker")?;
-    let mut from = station(alloc)?;
-    let mut to = station(alloc)?;
+    let mut from = new_station(alloc)?;
+    let mut to = new_station(alloc)?;
     Ok(is_advertised(&mut from, &mut to, talker, vid)? && is_booked(&mut from, &mut to, stream)?)
 }
 

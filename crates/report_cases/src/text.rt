@@ -118,7 +118,7 @@ fn second_tick(alloc: Global) -> Result<Tick, NoMemory> {
     tick_of(alloc, [].as_slice(), one, two)
 }
 
-fn journal(alloc: Global) -> Result<Journal, NoMemory> {
+fn new_journal(alloc: Global) -> Result<Journal, NoMemory> {
     let first = first_tick(alloc)?;
     let second = second_tick(alloc)?;
     let ticks = vec![in alloc; first, second]?;
@@ -165,7 +165,7 @@ fn port_flow(alloc: Global) -> Result<PortFlow, NoMemory> {
     })
 }
 
-fn flow(alloc: Global) -> Result<FlowResult, NoMemory> {
+fn new_flow(alloc: Global) -> Result<FlowResult, NoMemory> {
     let port = port_flow(alloc)?;
     let ports = vec![in alloc; port]?;
     Ok(FlowResult {
@@ -174,9 +174,9 @@ fn flow(alloc: Global) -> Result<FlowResult, NoMemory> {
 }
 
 // The run of the scene with that journal, and no change at a port.
-fn run(alloc: Global, scenario: &Scenario) -> Result<Run, NoMemory> {
+fn new_run(alloc: Global, scenario: &Scenario) -> Result<Run, NoMemory> {
     let world = World::of(alloc, scenario)?;
-    let journal = journal(alloc)?;
+    let journal = new_journal(alloc)?;
     Ok(Run {
         world,
         journal,
@@ -188,8 +188,8 @@ fn run(alloc: Global, scenario: &Scenario) -> Result<Run, NoMemory> {
 
 // Whether the report of that run and those frames is this text.
 fn reports(alloc: Global, scenario: &Scenario, text: &str) -> Result<bool, NoMemory> {
-    let run = run(alloc, scenario)?;
-    let flow = flow(alloc)?;
+    let run = new_run(alloc, scenario)?;
+    let flow = new_flow(alloc)?;
     let said = report(alloc, scenario, &run, &flow)?;
     Ok(said.as_slice() == text.as_bytes())
 }
@@ -206,9 +206,9 @@ fn all_of(alloc: Global, printout: &mut Printout) -> Result<Vec<u8>, NoMemory> {
 }
 
 // That report, to be handed out piece by piece, with more behind it.
-fn printout(alloc: Global, scenario: &Scenario, more: &str) -> Result<Printout, NoMemory> {
-    let run = run(alloc, scenario)?;
-    let flow = flow(alloc)?;
+fn new_printout(alloc: Global, scenario: &Scenario, more: &str) -> Result<Printout, NoMemory> {
+    let run = new_run(alloc, scenario)?;
+    let flow = new_flow(alloc)?;
     let mut printout = Printout::of_run(alloc, scenario, &run, flow)?;
     printout.add(more.as_bytes())?;
     Ok(printout)
@@ -216,14 +216,14 @@ fn printout(alloc: Global, scenario: &Scenario, more: &str) -> Result<Printout, 
 
 // Whether its pieces are these two texts.
 fn hands_out(alloc: Global, scenario: &Scenario, text: &str, more: &str) -> Result<bool, NoMemory> {
-    let mut printout = printout(alloc, scenario, more)?;
+    let mut printout = new_printout(alloc, scenario, more)?;
     let said = all_of(alloc, &mut printout)?;
     Ok(said.as_slice().strip_prefix(text.as_bytes()) == Some(more.as_bytes()))
 }
 
 // Whether the text of that journal is this one.
 fn tells(alloc: Global, scenario: &Scenario, text: &str) -> Result<bool, NoMemory> {
-    let journal = journal(alloc)?;
+    let journal = new_journal(alloc)?;
     let said = journal_text(alloc, scenario, &journal)?;
     Ok(said.as_slice() == text.as_bytes())
 }

@@ -51,7 +51,7 @@ fn egress(at: (u16, u8)) -> EgressPort {
 }
 
 // A Talker of one frame of 200 octets in 125 microseconds.
-fn talker() -> Option<Talker> {
+fn new_talker() -> Option<Talker> {
     let dest = Mac::new(0x91e0_f000_fe01)?;
     let priority = Priority::new(3)?;
     Some(Talker {
@@ -178,7 +178,7 @@ fn is_shown(alloc: Global, world: &World) -> Result<bool, NoMemory> {
 fn ready_comes_where_the_path_has_booked_and_a_refusal_is_shown(
     rt: HostRuntime,
 ) -> Result<(), Fail> {
-    let talker = talker().ok_or("a Talker")?;
+    let talker = new_talker().ok_or("a Talker")?;
     let mut world = hall(rt.alloc())?;
     assert!(rt; shows(rt.alloc(), &world, NodeNo(4), false, None)?);
     assert!(rt; rests(&mut world, talker)?);

@@ -320,7 +320,7 @@ fn a_registration_is_noted_at_its_node_as_among_all(rt: HostRuntime) -> Result<(
 }
 
 // A Talker of stream 7 in class A.
-fn talker() -> Option<Talker> {
+fn new_talker() -> Option<Talker> {
     Some(Talker {
         stream: StreamId(7),
         dest: Mac::new(1)?,
@@ -354,7 +354,7 @@ fn talks(world: &mut World, talker: Talker) -> Result<bool, NoMemory> {
 
 #[test]
 fn a_talker_is_registered_over_the_link(rt: HostRuntime) -> Result<(), Fail> {
-    let talker = talker().ok_or("a Talker")?;
+    let talker = new_talker().ok_or("a Talker")?;
     let mut world = scene(rt.alloc())?;
     assert!(rt; talks(&mut world, talker)?);
     Ok(())
