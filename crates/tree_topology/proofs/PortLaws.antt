@@ -1,6 +1,6 @@
 -- The laws of a tree over its ports.
 use Rattle.std.proofs.Common.{◌≡◌, ◌≢◌, ℕ, suc, zero, ◌+◌, ◌-◌, ◌<◌, ◌≤◌, Bool, true, false, not, cond, List, [], ◌∷◌, ◌⊎◌, inl, inr, refl, sym, ap, subst, ◌∙◌, length, get_or, arith}
-use Rattle.std.proofs.lemmas.Bool.{false≢true}
+use Rattle.std.proofs.lemmas.Bool.{false≢true, false_from_ne_true}
 use Rattle.std.proofs.lemmas.Bool.Decides.{nat_tests}
 use Rattle.std.proofs.lemmas.List.Sums.{sum_by-cons}
 use Rattle.std.proofs.lemmas.List.FromFn.{length-range_with_len, get_or-range_with_len}
@@ -64,10 +64,6 @@ pub port-same : (count : ℕ) (links : List Link) → IsTree count links → (p 
 port-same count links tree p q h k e f =
     port-is count links tree p h ∙ ap (λ (t : ℕ). port_to links t (far_node links p)) e ∙ ap (λ (t : ℕ). port_to links q.node.0 t) f ∙ sym (port-is count links tree q k)
 
-pub not-true : (b : Bool) → ¬ (b ≡ true) → b ≡ false
-not-true true h = absurd (h refl)
-not-true false h = refl
-
 -- the far node lies behind a port
 pub behind-far : (count : ℕ) (links : List Link) → IsTree count links → (p : EgressPort) → IsPort count links p → is_behind links p (far_node links p) ≡ true
 behind-far count links tree p h =
@@ -97,7 +93,7 @@ behind-beyond count links tree p q y h k n e ne b =
     let F : ℕ → Type 0 = λ t. begins_with (far_node links q) (walk_between links t y) ≡ true in
     let b' = subst F e b in
     let no : begins_with x (walk_between links v y) ≡ true → ⊥ = λ f. ne (port-same count links tree q (peer_of links p) k peer.0 e (begins-two (far_node links q) x (walk_between links v y) b' f ∙ sym peer.1)) in
-    side-far count links tree x v y n (port-joined count links p h) (not-true (begins_with x (walk_between links v y)) no)
+    side-far count links tree x v y n (port-joined count links p h) (false_from_ne_true (begins_with x (walk_between links v y)) no)
 
 walk-end : (count : ℕ) (links : List Link) → IsTree count links → (x y : ℕ) → IsNode count x → IsNode count y → walk_between links x y ≡ [] → x ≡ y
 walk-end count links tree x y m n e =

@@ -14,8 +14,8 @@ use Rattle.tree_topology.proofs.Links.{joined-at, joined-sym}
 use Rattle.tree_topology.proofs.Trees.{walk-path, walk-begins, walk-last, side-far}
 use Rattle.tree_topology.proofs.RouteFacts.{egress-push}
 use Rattle.tree_topology.proofs.PortFacts.{port-leads, port-joined, port-is}
-use Rattle.tree_topology.proofs.PortLaws.{far-known, peer-port, peer-peer, ends-peers, not-true, behind-far, behind-own, behind-beyond, behind-one, behind-sides, behind-splits, behind-falls, first-port, path-begins, path-empty}
-use Rattle.std.proofs.lemmas.Bool.{false≢true}
+use Rattle.tree_topology.proofs.PortLaws.{far-known, peer-port, peer-peer, ends-peers, behind-far, behind-own, behind-beyond, behind-one, behind-sides, behind-splits, behind-falls, first-port, path-begins, path-empty}
+use Rattle.std.proofs.lemmas.Bool.{false≢true, false_from_ne_true}
 
 -- a port is an end of the link that joins its node with the far one
 port-end : (count : ℕ) (links : List Link) → IsTree count links → (p : EgressPort) → IsPort count links p
@@ -129,7 +129,7 @@ port-laws tree sound =
       no_more = (λ p y h n b. behind-splits count links t p y h n b);
       path_none = (λ x m. path-empty count links t x m);
       path_first = (λ p y h n b. path-begins count links t p y h n b);
-      path_last = (λ p x h m no. path-last count links t p x h m (not-true (is_behind links p x) no));
+      path_last = (λ p x h m no. path-last count links t p x h m (false_from_ne_true (is_behind links p x) no));
       ahead_falls = (λ p q h k e ne. behind-falls count links t p q h k e ne);
       back_falls = (λ p q h k e ne. back-falls count links t p q h k e ne);
       propagation = (λ test own p local h. propagated tree test own p t local h);

@@ -1,7 +1,7 @@
 -- The walks of a tree: `walk_between` is the one straight walk, a link has each node on exactly one of
 -- its sides, and a walk turned round is the walk back.
-use Rattle.std.proofs.Common.{◌≡◌, ◌≢◌, ℕ, Bool, true, false, List, [], ◌∷◌, ◌++◌, refl, sym, ap, subst, ◌∙◌, reverse, arith}
-use Rattle.std.proofs.lemmas.Bool.{false≢true}
+use Rattle.std.proofs.Common.{◌≡◌, ◌≢◌, ℕ, true, false, List, [], ◌∷◌, ◌++◌, refl, sym, ap, subst, ◌∙◌, reverse, arith}
+use Rattle.std.proofs.lemmas.Bool.{false≢true, false_from_ne_true}
 use Rattle.std.proofs.lemmas.Bool.Decides.{nat_tests}
 use Rattle.std.proofs.lemmas.List.{reverse-append}
 use Rattle.tree_topology.specs.declared.graph.Link.{Link}
@@ -84,17 +84,13 @@ pub side-far : (count : ℕ) (links : List Link) → IsTree count links → (x v
 side-far count links tree x v y n j e =
     begins-same v (walk_between links v y) (walk_between links x y) (walk-on count links tree x v y n j e)
 
-not-true : (b : Bool) → ¬ (b ≡ true) → b ≡ false
-not-true true h = absurd (h refl)
-not-true false h = refl
-
 -- and on one alone
 pub side-near : (count : ℕ) (links : List Link) → IsTree count links → (x v y : ℕ) → IsNode count x → IsNode count y → begins_with v (walk_between links x y) ≡ true → begins_with x (walk_between links v y) ≡ false
 side-near count links tree x v y m n e =
     let b = begins-cons v (walk_between links x y) e in
     let f = walk-first count links tree x y v b.0 m n b.1 in
     let s = first-of count links tree x y v b.0 m n b.1 in
-    not-true (begins_with x (walk_between links v y)) (λ t. (let c = begins-cons x (walk_between links v y) t in let F : List ℕ → Type 0 = λ u. IsStraight (Joined links) x v u y in let back = subst F (f.1 ∙ c.1) s.2 in back.1 refl))
+    false_from_ne_true (begins_with x (walk_between links v y)) (λ t. (let c = begins-cons x (walk_between links v y) t in let F : List ℕ → Type 0 = λ u. IsStraight (Joined links) x v u y in let back = subst F (f.1 ∙ c.1) s.2 in back.1 refl))
 
 -- a walk turned round
 walk_back : ℕ → List ℕ → List ℕ
