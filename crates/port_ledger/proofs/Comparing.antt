@@ -1,7 +1,7 @@
 -- When two booked sets are the same, and what then is the same.
 use Rattle.std.proofs.Common.{Result, Ok, Err, IfOk, ◌≡◌, ◌↔◌, ℕ, ◌<◌, Bool, true, false, not, ◌||◌, ◌&&◌, cond, List, [], ◌∷◌, map, filter, refl, sym, ◌∙◌, ap, subst, arith, inl, inr, true≢false}
 use Rattle.std.specs.List.{AllByRecursion, list_any}
-use Rattle.std.proofs.lemmas.Bool.{cases_Bool, or_left}
+use Rattle.std.proofs.lemmas.Bool.{cases_Bool, or_left, or_right}
 use Rattle.stream_importance.specs.declared.entry.Entry.{Entry}
 use Rattle.port_ledger.specs.Decision.{stream_of, booked_of, is_booked, IsAscending}
 use Rattle.port_ledger.specs.Book.{booked_only_in, same_entry}
@@ -71,12 +71,8 @@ in_own : (xs : List Entry) → AreIn xs xs
 in_own [] = tt
 in_own (x ∷ xs) = (
   or_left (same_entry x x) (list_any (same_entry x) xs) (same_entry-refl x),
-  all_with xs (in_own xs) (in_own xs) (λ y h _. or_second (same_entry y x) (list_any (same_entry y) xs) h),
+  all_with xs (in_own xs) (in_own xs) (λ y h _. or_right (same_entry y x) (list_any (same_entry y) xs) h),
 )
-  where
-    or_second : (a b : Bool) → b ≡ true → (a || b) ≡ true
-    or_second true b h = refl
-    or_second false b h = h
 
 -- nothing of these is missing among those exactly where each is among them
 none_missing : (those these : List Entry) → AreIn those these → only_in these those ≡ []

@@ -1,5 +1,5 @@
 -- Where a stream stands in a list that ascends by StreamID, and whether it is among chosen ones.
-use Rattle.std.proofs.Common.{◌≡◌, ◌≢◌, ℕ, zero, suc, ◌+◌, ◌<◌, ◌≤◌, Bool, false, ◌==◌, ◌&&◌, List, [], ◌∷◌, ◌++◌, length, get_or, take, drop, set, Some, None, Result, Ok, Err, refl, sym, ◌∙◌, ap, arith, inl, inr, IfOk, IfErr}
+use Rattle.std.proofs.Common.{◌≡◌, ◌≢◌, ℕ, zero, suc, ◌+◌, ◌<◌, ◌≤◌, Bool, false, ◌==◌, ◌&&◌, cond, List, [], ◌∷◌, ◌++◌, length, get_or, take, drop, set, Some, None, Result, Ok, Err, refl, sym, ◌∙◌, ap, arith, inl, inr, IfOk, IfErr}
 use Rattle.std.specs.Prelude.{find, nat_lt}
 use Rattle.std.specs.Ordering.{nat_cmp, is_lt}
 use Rattle.std.specs.declared.cmp.Ordering.TheVariants.{Less, Equal, Greater}
@@ -13,11 +13,12 @@ use Rattle.std.proofs.lemmas.List.Sorted.{searchable_from_sorted}
 use Rattle.std.proofs.lemmas.List.Elements.{All-from_recursion}
 use Rattle.srp_base.specs.declared.bandwidth.Class.TheVariants.{A}
 use Rattle.srp_base.specs.declared.bandwidth.Rank.TheVariants.{Emergency}
+use Rattle.srp_base.specs.declared.numbers.StreamId.{StreamId}
 use Rattle.stream_importance.specs.declared.entry.Entry.{Entry}
 use Rattle.stream_importance.specs.declared.entry.Want.{Want}
 use Rattle.stream_importance.specs.Importance.{class_number, rank_number}
 use Rattle.port_ledger.specs.Decision.{stream_of, IsAscending}
-use Rattle.port_ledger.specs.Book.{entry_with, unbooked_entry, with_want, same_want, same_since, same_entry}
+use Rattle.port_ledger.specs.Book.{entry_of, entry_with, unbooked_entry, with_want, same_want, same_since, same_entry}
 
 -- of two places the earlier has the lower StreamID
 pub ascending_at : (xs : List Entry) → IsAscending xs → (i j : ℕ) (d : Entry) → i < j → j < length xs
@@ -75,6 +76,12 @@ missing_is xs stream i low high =
     found_nowhere (find (λ x. stream_of x == stream)) (λ x. stream_of x == stream) (λ x. Some x) None refl (λ _ _. refl) xs blank
     (λ k l. ne_eqb (stream_of (get_or xs k blank)) stream
     (λ f. elim (cases_lt k i) [ inl below ↦ omega (arith, low k blank (omega arith) below, f) | inr over ↦ omega (arith, high k blank over l, f) ]))
+
+-- a stream below all of the entries has none of them
+pub none_of : (s : StreamId) (xs : List Entry) → AllByRecursion (λ y. s.0 < stream_of y) xs → entry_of xs s ≡ None
+none_of s [] h = refl
+none_of s (x ∷ xs) h =
+    ap (λ v. cond v (Some x) (entry_of xs s)) (ne_eqb (stream_of x) s.0 (λ e. let l : s.0 < stream_of x = h.0 in omega (arith, e, l))) ∙ none_of s xs h.1
 
 -- the first place of a list with a want, by how its StreamID compares
 pub with_want-lower : (x : Entry) (xs : List Entry) (want : Want) → want.stream.0 < stream_of x

@@ -3,7 +3,7 @@ use Rattle.std.proofs.Common.{◌≡◌, ◌≢◌, ℕ, ◌+◌, ◌<◌, ◌�
 use Rattle.std.specs.Prelude.{nat_le, nat_lt}
 use Rattle.std.specs.Ordering.{nat_cmp, is_lt, ordering_then}
 use Rattle.std.specs.List.{AllByRecursion, list_any}
-use Rattle.std.proofs.lemmas.Bool.{cases_Bool, cases_order, cases_lt, eqb-true, eqb-false, ne_eqb, lt-ltb, or_parts}
+use Rattle.std.proofs.lemmas.Bool.{cases_Bool, cases_order, cases_lt, eqb-true, eqb-false, lt-ltb, or_parts}
 use Rattle.std.proofs.lemmas.List.Sums.{sum_by-cons}
 use Rattle.srp_base.specs.declared.numbers.Cs.{Cs}
 use Rattle.srp_base.specs.declared.numbers.StreamId.{StreamId}
@@ -17,15 +17,10 @@ use Rattle.port_ledger.specs.Decision.{stream_of, entry_slope, above, booked_of,
 use Rattle.port_ledger.specs.Book.{Book, IsKept, code_of, entry_of, fit_for, fit_in, has_new_booking, is_normal, is_since, since_if_same, since_of, same_want, tested_entry}
 use Rattle.port_ledger.specs.Pass.{normal_slope_before, slope_before}
 use Rattle.port_ledger.proofs.Comparing.{all_booked}
+use Rattle.port_ledger.proofs.Finding.{none_of}
 use Rattle.port_ledger.proofs.Rounds.{filter_agree}
 use Rattle.port_ledger.proofs.Running.{all_with}
 use Rattle.port_ledger.proofs.Standing.{less_is_below}
-
--- a stream below all of the entries has none of them
-none_of : (s : StreamId) (xs : List Entry) → AllByRecursion (λ y. s.0 < stream_of y) xs → entry_of xs s ≡ None
-none_of s [] h = refl
-none_of s (x ∷ xs) h =
-    ap (λ v. cond v (Some x) (entry_of xs s)) (ne_eqb (stream_of x) s.0 (λ e. let l : s.0 < stream_of x = h.0 in omega (arith, e, l))) ∙ none_of s xs h.1
 
 -- the moment with which a want is tested
 abbrev tested_since : Want → Option Entry → Option Cs

@@ -12,7 +12,7 @@ use Rattle.stream_importance.specs.declared.entry.Want.{Want}
 use Rattle.port_ledger.specs.Decision.{stream_of, IsAscending}
 use Rattle.port_ledger.specs.Book.{entry_of, entry_with, same_entry, unbooked_entry, with_want, without}
 use Rattle.port_ledger.specs.Pass.{order_with, with_want_in_place}
-use Rattle.port_ledger.proofs.Finding.{with_want-higher, with_want-lower, with_want-same}
+use Rattle.port_ledger.proofs.Finding.{none_of, with_want-higher, with_want-lower, with_want-same}
 use Rattle.port_ledger.proofs.PerStream.{same_entry-is, same_entry-refl}
 use Rattle.port_ledger.proofs.Running.{all_with}
 
@@ -105,11 +105,6 @@ with_want-known want (x ∷ xs) e up h =
             ∙ ap (λ v. cond v (entry_with x want) x ∷ with_want_in_place xs want) (sym past)))
       ]
     ]
-  where
-    none_of : (s : StreamId) (ys : List Entry) → AllByRecursion (λ y. s.0 < stream_of y) ys → entry_of ys s ≡ None
-    none_of s [] k = refl
-    none_of s (y ∷ ys) k =
-        ap (λ v. cond v (Some y) (entry_of ys s)) (ne_eqb (stream_of y) s.0 (λ f. let l : s.0 < stream_of y = k.0 in omega (arith, f, l))) ∙ none_of s ys k.1
 
 with_want-new : (want : Want) (xs : List Entry) → entry_of xs want.stream ≡ None
     → IsPermutation (unbooked_entry want ∷ xs) (with_want xs want)

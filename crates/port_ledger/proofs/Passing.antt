@@ -2,7 +2,7 @@
 use Rattle.std.proofs.Common.{◌≡◌, ◌≢◌, ℕ, zero, suc, ◌+◌, ◌<◌, Bool, true, false, ◌==◌, ◌||◌, cond, List, [], ◌∷◌, ◌++◌, map, length, get_or, set, take, drop, Option, refl, sym, ◌∙◌, ap, subst, arith, inl, inr, append_assoc, drop-cons, drop-set-lt, take-suc-set, Some, None, is_some}
 use Rattle.std.specs.List.{AllByRecursion, AllWithin, list_any}
 use Rattle.std.specs.List.Sorted.{IsPermutation}
-use Rattle.std.proofs.lemmas.Bool.{eq-eqb, ne_eqb, eqb-true, cases_Bool, cases_lt, or_from, or_left, cond-true, cond-false}
+use Rattle.std.proofs.lemmas.Bool.{eq-eqb, ne_eqb, eqb-true, cases_Bool, cases_lt, or_from, or_left, or_right, cond-true, cond-false}
 use Rattle.std.proofs.lemmas.List.Elements.{All-from_recursion}
 use Rattle.std.proofs.lemmas.List.Sorted.{IsPermutation-map, IsPermutation-trans, IsPermutation-sym, list_any-IsPermutation}
 use Rattle.srp_base.specs.declared.numbers.Cs.{Cs}
@@ -117,12 +117,8 @@ in_own : (xs : List Entry) → AllByRecursion (λ e. is_stream_in xs e ≡ true)
 in_own [] = tt
 in_own (x ∷ xs) = (
   or_left (stream_of x == stream_of x) (is_stream_in xs x) (eq-eqb (stream_of x) (stream_of x) refl),
-  all_with xs (in_own xs) (in_own xs) (λ y h _. or_second (stream_of x == stream_of y) (is_stream_in xs y) h),
+  all_with xs (in_own xs) (in_own xs) (λ y h _. or_right (stream_of x == stream_of y) (is_stream_in xs y) h),
 )
-  where
-    or_second : (a b : Bool) → b ≡ true → (a || b) ≡ true
-    or_second true b h = refl
-    or_second false b h = h
 
 -- the choice that a pass makes
 abbrev choice_of : ℕ → Caps → List Entry → Entry → Bool
