@@ -21,7 +21,7 @@ use Rattle.frame_flow.specs.declared.result.PortFlow.{PortFlow}
 use Rattle.frame_flow.specs.declared.place.Place.{Place}
 use Rattle.frame_flow.specs.Moments.{bits_of_ticks}
 use Rattle.frame_flow.specs.Force.{has_vid, slopes_over}
-use Rattle.frame_flow.specs.Flow.{is_unbooked, sent_fate, force_on, fate_of, fates_of, arrival_of, may_send, input_of, flow_of_copies}
+use Rattle.frame_flow.specs.Flow.{is_unbooked, sent_fate, force_on, fate_of, fates_of, arrival_of, may_send, port_input, flow_of_copies}
 use Rattle.frame_flow.specs.Steps.{verdict_of, verdicts_of, arrivals_of, fate_by, fates_by, sent_at}
 use Rattle.frame_flow.proofs.ListFacts.{pushed-map}
 
@@ -147,9 +147,9 @@ flow-is ticks place changes copies slopes arrivals end sent all fates slopes_are
     let with_arrivals : List Arrival → PortInput = λ t. record { rate = rate; slopes = slopes_over rate ticks changes; arrivals = t; end = end } in
     let with_end : ℕ → PortInput = λ n. record { rate = rate; slopes = slopes_over rate ticks changes; arrivals = arrivals_of rate changes copies; end = n } in
     let made : PortInput → List (ℕ × Fate) → PortFlow = λ i f. record { at = place.at; input = i; fates = f } in
-    let input : with_slopes slopes ≡ input_of ticks rate changes copies = ap with_slopes slopes_are ∙ ap with_arrivals arrivals_are ∙ ap with_end end_is in
-    let same : fates ≡ fates_of rate changes (sent_of (input_of ticks rate changes copies)) copies =
+    let input : with_slopes slopes ≡ port_input ticks rate changes copies = ap with_slopes slopes_are ∙ ap with_arrivals arrivals_are ∙ ap with_end end_is in
+    let same : fates ≡ fates_of rate changes (sent_of (port_input ticks rate changes copies)) copies =
     fates_are ∙ ap (λ (t : List (ℕ × Verdict)). fates_by sent t) all_are ∙ fates-by-verdicts rate changes sent copies
     ∙ ap (λ (t : List Departure). fates_of rate changes t copies) (sent_are ∙ ap (λ (t : PortInput). sent_of t) input) in
     ap (λ (t : PortInput). made t fates) input
-    ∙ ap (λ (t : List (ℕ × Fate)). made (input_of ticks rate changes copies) t) same
+    ∙ ap (λ (t : List (ℕ × Fate)). made (port_input ticks rate changes copies) t) same

@@ -20,7 +20,7 @@ use Rattle.frame_flow.specs.declared.result.PortFlow.{PortFlow}
 use Rattle.frame_flow.specs.declared.place.Place.{Place}
 use Rattle.frame_flow.specs.Force.{changes_at, has_vid}
 use Rattle.frame_flow.specs.Copies.{all_places, arriving}
-use Rattle.frame_flow.specs.Flow.{Setting, IsFlow, port_flow, force_on, fate_of, input_of, is_unbooked, may_send, sent_fate, arrival_of}
+use Rattle.frame_flow.specs.Flow.{Setting, IsFlow, port_flow, force_on, fate_of, port_input, is_unbooked, may_send, sent_fate, arrival_of}
 use Rattle.frame_flow.specs.Given.{IsSetting}
 use Rattle.frame_flow.specs.Laws.{arriving_numbers, fate_numbers, AreDifferent, departures_numbered, IsOutcome, HasOutcomes}
 use Rattle.frame_flow.proofs.SlopeLemmas.{port-input}
@@ -50,7 +50,7 @@ numbers-of : (s : Setting) (flows : List PortFlow) (place : Place) → fate_numb
 numbers-of s flows place =
     let copies = arriving s.tree.links s.frames s.ticks flows place in
     let changes = changes_at s.changes place.at in
-    let sent = sent_of (input_of s.ticks place.rate changes copies) in
+    let sent = sent_of (port_input s.ticks place.rate changes copies) in
     map-map (λ (e : ℕ × Fate). e.0) (λ (c : FrameCopy). (c.frame.number, fate_of (force_on place.rate changes c) sent c)) copies
 
 pub numbers_each : (s : Setting) (flows : List PortFlow) → IsFlow s flows → map fate_numbers flows ≡ map (arriving_numbers s flows) (all_places s.tree.links s.rates)
@@ -122,7 +122,7 @@ port-outcomes : (s : Setting) → IsSetting s → HasPortLaws s.tree → (flows 
 port-outcomes s given laws flows is order place there =
     let copies = arriving s.tree.links s.frames s.ticks flows place in
     let changes = changes_at s.changes place.at in
-    let input = input_of s.ticks place.rate changes copies in
+    let input = port_input s.ticks place.rate changes copies in
     let sent = sent_of input in
     let may : FrameCopy → Bool = λ c. may_send c (force_on place.rate changes c) in
     let port = All-contains (λ x. HasPort s.tree x.at) (all_places s.tree.links s.rates) place (places-are s.tree s.rates laws) there in

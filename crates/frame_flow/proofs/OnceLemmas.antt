@@ -22,7 +22,7 @@ use Rattle.frame_flow.specs.declared.place.Place.{Place}
 use Rattle.frame_flow.specs.Moments.{moment_of}
 use Rattle.frame_flow.specs.Force.{is_port, changes_at}
 use Rattle.frame_flow.specs.Copies.{IsKnown, Reached, all_places, sent_from, frame_of, reached_at, handed_on, handed_by, comes_over, flow_at, frames_reaching, ports_at, port_of, copy_of, is_not_after, with_copy, in_order, arriving}
-use Rattle.frame_flow.specs.Flow.{Setting, IsFlow, port_flow, force_on, fate_of, input_of}
+use Rattle.frame_flow.specs.Flow.{Setting, IsFlow, port_flow, force_on, fate_of, port_input}
 use Rattle.credit_shaper.specs.Departures.{sent_of}
 use Rattle.credit_shaper.proofs.PairLemmas.{AllPairs-map, pairs-append, pairs-head, pairs-none, pairs-tail}
 use Rattle.frame_flow.specs.Turns.{level_at}
@@ -313,7 +313,7 @@ port-once s given laws flows place port once =
     let links = s.tree.links in
     let copies = arriving links s.frames s.ticks flows place in
     let changes = changes_at s.changes place.at in
-    let sent = sent_of (input_of s.ticks place.rate changes copies) in
+    let sent = sent_of (port_input s.ticks place.rate changes copies) in
     let to : FrameCopy → ℕ × Fate = λ c. (c.frame.number, fate_of (force_on place.rate changes c) sent c) in
     let known = All-arriving (IsKnown s.frames) links s.frames s.ticks flows place (known-each s.frames given.range.numbers) in
     let F : ℕ × Fate → Type 0 = λ e. (f : Frame) → frame_of s.frames e.0 ≡ Some f → is_behind links place.at f.from.0 ≡ false in

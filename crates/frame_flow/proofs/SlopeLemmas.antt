@@ -22,7 +22,7 @@ use Rattle.frame_flow.specs.Moments.{tick_bits_of, bits_of_ticks}
 use Rattle.frame_flow.specs.Force.{is_port, changes_at, in_force, last_upto, does_change, slopes_of_change, first_slopes, later_slopes, slopes_over}
 use Rattle.frame_flow.specs.declared.result.PortFlow.{PortFlow}
 use Rattle.frame_flow.specs.Copies.{is_not_after, all_places, arriving}
-use Rattle.frame_flow.specs.Flow.{Setting, arrival_of, may_send, force_on, input_of}
+use Rattle.frame_flow.specs.Flow.{Setting, arrival_of, may_send, force_on, port_input}
 use Rattle.frame_flow.specs.Given.{IsInOrder, IsEarlier, IsFrame, IsSetting, HasSlopesBelow}
 use Rattle.frame_flow.proofs.OrderLemmas.{lex-is}
 use Rattle.frame_flow.proofs.CopyLemmas.{IsArrived, All-arriving, order-arriving}
@@ -158,7 +158,7 @@ few-bits G10 ticks h = omega (arith, h)
 
 pub input-good : (place : Place) (ticks : ℕ) (changes : List PortChange) (copies : List FrameCopy) → ticks ≤ 12000 → AllPairs IsBefore changes
     → All (IsBelow place.rate) changes → IsInOrder copies → All (IsArrived (λ f. IsFrameSize f.bits) place ticks) copies
-    → IsPortInput (input_of ticks place.rate changes copies)
+    → IsPortInput (port_input ticks place.rate changes copies)
 input-good place ticks changes copies few up below order all = record {
   slopes = slopes-good place.rate ticks changes up below;
   arrivals = arrivals-good place.rate place ticks (λ c. may_send c (force_on place.rate changes c)) copies order all;
@@ -203,10 +203,10 @@ slopes-there changes place below =
 
 pub port-input : (s : Setting) → IsSetting s → (flows : List PortFlow) (place : Place) → Contains (all_places s.tree.links s.rates) place
     → (changes : List PortChange) (copies : List FrameCopy) → changes ≡ changes_at s.changes place.at
-    → copies ≡ arriving s.tree.links s.frames s.ticks flows place → IsPortInput (input_of s.ticks place.rate changes copies)
+    → copies ≡ arriving s.tree.links s.frames s.ticks flows place → IsPortInput (port_input s.ticks place.rate changes copies)
 port-input s given flows place there changes copies one two =
     let links = s.tree.links in
-    let I : List PortChange → List FrameCopy → Type 0 = λ cs xs. IsPortInput (input_of s.ticks place.rate cs xs) in
+    let I : List PortChange → List FrameCopy → Type 0 = λ cs xs. IsPortInput (port_input s.ticks place.rate cs xs) in
     let there_changes = changes_at s.changes place.at in
     let there_copies = arriving links s.frames s.ticks flows place in
     let sizes = All-arriving (λ f. IsFrameSize f.bits) links s.frames s.ticks flows place
@@ -219,9 +219,9 @@ port-input s given flows place there changes copies one two =
 
 pub port-input-at : (s : Setting) → IsSetting s → (flows : List PortFlow) (place : Place) → Contains (all_places s.tree.links s.rates) place
     → (ticks : ℕ) → ticks ≡ s.ticks → (changes : List PortChange) (copies : List FrameCopy) → changes ≡ changes_at s.changes place.at
-    → copies ≡ arriving s.tree.links s.frames s.ticks flows place → IsPortInput (input_of ticks place.rate changes copies)
+    → copies ≡ arriving s.tree.links s.frames s.ticks flows place → IsPortInput (port_input ticks place.rate changes copies)
 port-input-at s given flows place there ticks same changes copies one two =
-    subst (λ (n : ℕ). IsPortInput (input_of n place.rate changes copies)) (sym same) (port-input s given flows place there changes copies one two)
+    subst (λ (n : ℕ). IsPortInput (port_input n place.rate changes copies)) (sym same) (port-input s given flows place there changes copies one two)
 
 -- ---- in order with the next is in order with each later one
 

@@ -56,8 +56,8 @@ arrival_of c =
     record { bit = c.bit; traffic = traffic_of c.frame.route; bits = c.frame.bits; frame = c.frame.number }
 
 -- what a port's shaper is given: its slopes, and the copies that may be sent
-abbrev pub input_of : ℕ → Rate → List PortChange → List FrameCopy → PortInput
-input_of ticks rate changes copies =
+abbrev pub port_input : ℕ → Rate → List PortChange → List FrameCopy → PortInput
+port_input ticks rate changes copies =
     record {
       rate = rate;
       slopes = slopes_over rate ticks changes;
@@ -87,7 +87,7 @@ fates_of rate changes sent copies =
 -- the flow at a port, by its changes and the copies that arrive there
 abbrev pub flow_of_copies : ℕ → Place → List PortChange → List FrameCopy → PortFlow
 flow_of_copies ticks place changes copies =
-    let input = input_of ticks place.rate changes copies in
+    let input = port_input ticks place.rate changes copies in
     record { at = place.at; input = input; fates = fates_of place.rate changes (sent_of input) copies }
 
 -- the flow at a port, by the flows at the ports that send into its node

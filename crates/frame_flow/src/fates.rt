@@ -3,7 +3,7 @@
 ghost use Rattle.std.specs.Prelude.{◌≡◌, ◌≤◌, map, find, ◌==◌, IfOk};
 ghost use Rattle.std.specs.List.Sorted.{IsNonDecreasingBy};
 ghost use Rattle.credit_shaper.specs.Port.{IsPortInput};
-ghost use Rattle.frame_flow.specs.Flow.{input_of, flow_of_copies, sent_fate};
+ghost use Rattle.frame_flow.specs.Flow.{port_input, flow_of_copies, sent_fate};
 ghost use Rattle.frame_flow.specs.Steps.{fate_by, fates_by};
 
 use crate::force::slopes_over;
@@ -27,7 +27,7 @@ pub(crate) fn flow_of_copies(
 ) -> Result<PortFlow, NoMemory>
     requires ticks { ticks ≤ 12000 }
     requires order { IsNonDecreasingBy (λ c. c.now.tick) changes.now }
-    requires input { IsPortInput (input_of ticks place.rate (map
+    requires input { IsPortInput (port_input ticks place.rate (map
         (λ c. c.now) changes.now) copies.now) }
     ensures { IfOk result (λ x. x
         ≡ flow_of_copies ticks place (map (λ c. c.now) changes.now) copies.now) }

@@ -11,7 +11,7 @@ ghost use Rattle.frame_flow.specs.declared.frame.FrameCopy.{FrameCopy};
 ghost use Rattle.frame_flow.specs.Moments.{bits_of_ticks, tick_at};
 ghost use Rattle.frame_flow.specs.Force.{changes_at, in_force};
 ghost use Rattle.frame_flow.specs.Copies.{all_places};
-ghost use Rattle.frame_flow.specs.Flow.{Setting, IsFlow, input_of};
+ghost use Rattle.frame_flow.specs.Flow.{Setting, IsFlow, port_input};
 ghost use Rattle.frame_flow.specs.Given.{IsSetting};
 ghost use Rattle.frame_flow.specs.Laws.{arriving_numbers, fate_numbers, AreDifferent, DepartsByArrival, HasOutcomes, HasSlopes};
 
@@ -49,7 +49,7 @@ pub fn each_input_is_valid()
 pub fn slopes_are_those_in_force()
     ensures { (s : Setting) (place : Place) (copies : List FrameCopy) (t : ℕ) → IsSetting s
         → t < bits_of_ticks place.rate s.ticks
-        → HasSlopes (slopes_at (input_of s.ticks place.rate (changes_at s.changes place.at) copies)
+        → HasSlopes (slopes_at (port_input s.ticks place.rate (changes_at s.changes place.at) copies)
         t)
         (in_force (tick_at place.rate t) (changes_at s.changes place.at)) }
 {}

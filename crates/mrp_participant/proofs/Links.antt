@@ -6,7 +6,7 @@ use Rattle.srp_base.specs.declared.numbers.Cs.{Cs}
 use Rattle.mrp_participant.specs.Lookup.{find}
 use Rattle.mrp_participant.specs.Row.{registered_in, declared_in}
 use Rattle.mrp_participant.specs.Duty.{IsDutyMet}
-use Rattle.mrp_participant.specs.Link.{Link, EndEvent, LinkEvent, AreDutiesMet, is_loss, end_event_of, with_repeat, other_view, with_near, spoilt, after_receiving, after_sending, after_end_event, after_event, after_events}
+use Rattle.mrp_participant.specs.Link.{Link, EndEvent, LinkEvent, AreDutiesMet, is_loss, end_event_of, with_repeat, other_view, with_near, after_spoiling, after_receiving, after_sending, after_end_event, after_event, after_events}
 use Rattle.mrp_participant.specs.Link.EndEvent.{Declares, Withdraws, Leaves, Fires, FiresLeaveAll, FiresPeriodic, Sends, Receives, Loses, Repeats}
 use Rattle.mrp_participant.specs.Link.LinkEvent.{AtNear, AtFar}
 use Rattle.mrp_participant.specs.State.{State, Messages, AreRows, after, is_active, is_silent, is_still, none_tried, takes, leave_all_state, sent_state, sent_messages}
@@ -34,13 +34,13 @@ module _ {K C : Type 0} where
 
   -- ---- in flight
 
-  lost-met : (cmp : K → K → Ordering) (l : Link K C) (sent : List (Messages K C)) → AreDutiesMet cmp l → AreDutiesMet cmp (record { near = spoilt l.near; far = spoilt l.far; sent = sent; coming = l.coming })
+  lost-met : (cmp : K → K → Ordering) (l : Link K C) (sent : List (Messages K C)) → AreDutiesMet cmp l → AreDutiesMet cmp (record { near = after_spoiling l.near; far = after_spoiling l.far; sent = sent; coming = l.coming })
   lost-met cmp l sent met =
       record {
         near_rows = met.near_rows;
         far_rows = met.far_rows;
-        near_duty = unsound-met cmp (spoilt l.near) (spoilt l.far) sent l.coming refl;
-        far_duty = unsound-met cmp (spoilt l.far) (spoilt l.near) l.coming sent refl;
+        near_duty = unsound-met cmp (after_spoiling l.near) (after_spoiling l.far) sent l.coming refl;
+        far_duty = unsound-met cmp (after_spoiling l.far) (after_spoiling l.near) l.coming sent refl;
       }
 
   repeated-met : (cmp : K → K → Ordering) (l : Link K C) (i : ℕ) → AreDutiesMet cmp l → AreDutiesMet cmp (record l { sent = with_repeat i l.sent })

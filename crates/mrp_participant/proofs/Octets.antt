@@ -19,7 +19,7 @@ use Rattle.mrp_participant.specs.declared.cut.Cut.{Cut}
 use Rattle.std.specs.List.{AllByRecursion}
 use Rattle.mrp_participant.specs.Lookup.{Ascends, key_of}
 use Rattle.mrp_participant.specs.Row.{with_applicant, registrar_takes}
-use Rattle.mrp_participant.specs.Sending.{IsSplit, round, is_tried, rows_of_round, order, opportunity, said_at, event_of, sent_event, is_taken}
+use Rattle.mrp_participant.specs.Sending.{IsSplit, round, is_tried, rows_of_round, order, opportunity, said_at, row_event, sent_event, is_taken}
 use Rattle.mrp_participant.specs.Cut.{cut_at, is_before, is_in_room, first_cut}
 use Rattle.mrp_participant.specs.State.{none_tried}
 use Rattle.mrp_participant.proofs.Lookups.{Ascends-kept, Each-map, filter-none}
@@ -194,7 +194,7 @@ module _ {K C : Type 0} where
   untaken_is_silent true leave r = untaken_by leave r r.applicant
   untaken_is_silent false leave r = refl
 
-  event_is : (r : Row K C) (m : Option MrpEvent) (e : MrpEvent × K × C) → event_of r m ≡ Some e → (e.1 ≡ r.key) × (e.2 ≡ r.content)
+  event_is : (r : Row K C) (m : Option MrpEvent) (e : MrpEvent × K × C) → row_event r m ≡ Some e → (e.1 ≡ r.key) × (e.2 ≡ r.content)
   event_is r None e h = cc
   event_is r (Some event) e h = let is = some_is (event, r.key, r.content) e h in (ap (λ (x : MrpEvent × K × C). x.1) (sym is), ap (λ (x : MrpEvent × K × C). x.2) (sym is))
 

@@ -15,7 +15,7 @@ use Rattle.mrp_participant.specs.declared.outlook.Outlook.{Outlook}
 use Rattle.registrar.specs.Table.{is_leaving}
 use Rattle.applicant.specs.Table.{is_quiet}
 use Rattle.mrp_participant.specs.Row.{leave_is_due}
-use Rattle.mrp_participant.specs.Outlook.{ends_at, IsFirst, Tells, has_one, IsOutlook, firsts, first_with, outlook_with, HasRoom, first_without, outlook_without, IsCounted, Counts, is_by, is_at_rest}
+use Rattle.mrp_participant.specs.Outlook.{ends_at, IsFirstLeave, Tells, has_one, IsOutlook, firsts, first_with, outlook_with, HasRoom, first_without, outlook_without, IsCounted, Counts, is_by, is_at_rest}
 use Rattle.mrp_participant.specs.Sending.{round, is_tried}
 use Rattle.mrp_participant.specs.State.{none_tried, all_settled}
 use Rattle.mrp_participant.proofs.Lookups.{Each-map}
@@ -63,7 +63,7 @@ one-more (Some p) t true h = counted_by p t (nat_lt t.0 p.0.0) (t.0 == p.0.0) h
 module _ {K C : Type 0} where
   -- ---- one row less
 
-  first-less : (first : Option (Cs × ℕ)) (xs : List (Row K C)) (r : Row K C) (ys : List (Row K C)) → IsFirst first (xs ++ r ∷ ys) → IsFirst (first_without first r) (xs ++ ys) × IsCounted first r
+  first-less : (first : Option (Cs × ℕ)) (xs : List (Row K C)) (r : Row K C) (ys : List (Row K C)) → IsFirstLeave first (xs ++ r ∷ ys) → IsFirstLeave (first_without first r) (xs ++ ys) × IsCounted first r
   first-less None xs r ys h = ((each-others (λ q. is_leaving q.registrar ≡ false) xs r ys h).1, tt)
   first-less (Some p) xs r ys h =
       let all = count-among (ends_at p.0) xs r ys in
@@ -85,8 +85,8 @@ module _ {K C : Type 0} where
   ends_itself : (r : Row K C) → is_leaving r.registrar ≡ true → ends_at r.leave r ≡ true
   ends_itself r e = ap (λ b. b && (r.leave.0 == r.leave.0)) e ∙ grind (arith, nat_tests)
 
-  earlier_by : (p : Cs × ℕ) (xs : List (Row K C)) (r : Row K C) (ys : List (Row K C)) (before same : Bool) → is_leaving r.registrar ≡ true → nat_lt r.leave.0 p.0.0 ≡ before → (r.leave.0 == p.0.0) ≡ same → IsFirst (Some p) (xs ++ ys)
-      → IsFirst (Some (if before then (r.leave, 1) else (if same then (p.0, p.1 + 1) else p))) (xs ++ r ∷ ys)
+  earlier_by : (p : Cs × ℕ) (xs : List (Row K C)) (r : Row K C) (ys : List (Row K C)) (before same : Bool) → is_leaving r.registrar ≡ true → nat_lt r.leave.0 p.0.0 ≡ before → (r.leave.0 == p.0.0) ≡ same → IsFirstLeave (Some p) (xs ++ ys)
+      → IsFirstLeave (Some (if before then (r.leave, 1) else (if same then (p.0, p.1 + 1) else p))) (xs ++ r ∷ ys)
   earlier_by p xs r ys true same e lt eq h =
       let less : r.leave.0 < p.0.0 = grind (arith, nat_tests) in (
         omega (arith, count-among (ends_at r.leave) xs r ys, never_at r.leave p.0 (xs ++ ys) less h.1, ap {B = ℕ} (λ b. cond b 1 0) (ends_itself r e)),
@@ -101,7 +101,7 @@ module _ {K C : Type 0} where
       let ends : ends_at p.0 r ≡ false = never_at_by p.0 r.leave (is_leaving r.registrar) (λ leaving. later) in
       (omega (arith, h.0, count-among (ends_at p.0) xs r ys, ap {B = ℕ} (λ b. cond b 1 0) ends), each-among _ xs r ys (λ leaving. omega arith) h.1)
 
-  first-more_by : (first : Option (Cs × ℕ)) (xs : List (Row K C)) (r : Row K C) (ys : List (Row K C)) (b : Bool) → is_leaving r.registrar ≡ b → IsFirst first (xs ++ ys) → IsFirst (if b then Some (first_with first r.leave) else first) (xs ++ r ∷ ys)
+  first-more_by : (first : Option (Cs × ℕ)) (xs : List (Row K C)) (r : Row K C) (ys : List (Row K C)) (b : Bool) → is_leaving r.registrar ≡ b → IsFirstLeave first (xs ++ ys) → IsFirstLeave (if b then Some (first_with first r.leave) else first) (xs ++ r ∷ ys)
   first-more_by None xs r ys false e h = each-among _ xs r ys e h
   first-more_by (Some p) xs r ys false e h =
       (omega (arith, h.0, count-among (ends_at p.0) xs r ys, ap {B = ℕ} (λ b. cond (b && (p.0.0 == r.leave.0)) 1 0) e), each-among _ xs r ys (λ leaving. absurd cc) h.1)
@@ -123,7 +123,7 @@ module _ {K C : Type 0} where
   outlook-more : (o : Outlook) (xs : List (Row K C)) (r : Row K C) (ys : List (Row K C)) → IsOutlook o (xs ++ ys) → IsOutlook (outlook_with o r) (xs ++ r ∷ ys)
   outlook-more o xs r ys h = (tells-more o xs r ys h.0, one-more o.first_leave r.leave (is_leaving r.registrar) h.1)
 
-  firsts-few : (first : Option (Cs × ℕ)) (rows : List (Row K C)) → IsFirst first rows → firsts first ≤ length rows
+  firsts-few : (first : Option (Cs × ℕ)) (rows : List (Row K C)) → IsFirstLeave first rows → firsts first ≤ length rows
   firsts-few None rows h = omega arith
   firsts-few (Some p) rows h = omega (arith, h.0, count_by-le-length (ends_at p.0) rows)
 
@@ -255,11 +255,11 @@ module _ {K C : Type 0} where
   none-due now [] h = refl
   none-due now (r ∷ rows) h = ap (λ b. b || list_any (leave_is_due now) rows) h.0 ∙ none-due now rows h.1
 
-  first-still : (first : Option (Cs × ℕ)) (rows : List (Row K C)) → IsFirst first rows → has_one first ≡ true → is_none first ≡ all_still rows
+  first-still : (first : Option (Cs × ℕ)) (rows : List (Row K C)) → IsFirstLeave first rows → has_one first ≡ true → is_none first ≡ all_still rows
   first-still None rows h one = sym (still-where rows h)
   first-still (Some p) rows h one = let some : 0 < count_by (ends_at p.0) rows = grind (arith, nat_tests) in sym (some-leaving p.0 rows some)
 
-  due-at : (p : Cs × ℕ) (now : ℕ) (rows : List (Row K C)) (b : Bool) → nat_le p.0.0 now ≡ b → IsFirst (Some p) rows → nat_lt 0 p.1 ≡ true → b ≡ list_any (leave_is_due now) rows
+  due-at : (p : Cs × ℕ) (now : ℕ) (rows : List (Row K C)) (b : Bool) → nat_le p.0.0 now ≡ b → IsFirstLeave (Some p) rows → nat_lt 0 p.1 ≡ true → b ≡ list_any (leave_is_due now) rows
   due-at p now rows true by h one =
       let some : 0 < count_by (ends_at p.0) rows = grind (arith, nat_tests) in
       let due : p.0.0 ≤ now = grind (arith, nat_tests) in
@@ -269,7 +269,7 @@ module _ {K C : Type 0} where
       sym (none-due now rows (Each-map _ _ (λ q from. none-due_by q.leave now (is_leaving q.registrar) (λ leaving. let after = from leaving in omega (arith, later, after))) rows h.1))
 
   -- a leave timer is due where the first is
-  pub due-says : (now : ℕ) (first : Option (Cs × ℕ)) (rows : List (Row K C)) → IsFirst first rows → has_one first ≡ true → is_by now first ≡ list_any (leave_is_due now) rows
+  pub due-says : (now : ℕ) (first : Option (Cs × ℕ)) (rows : List (Row K C)) → IsFirstLeave first rows → has_one first ≡ true → is_by now first ≡ list_any (leave_is_due now) rows
   due-says now None rows h one = sym (none-due now rows (Each-map _ _ (λ q still. ap (λ b. b && nat_le q.leave.0 now) still) rows h))
   due-says now (Some p) rows h one = due-at p now rows (nat_le p.0.0 now) refl h one
 

@@ -79,8 +79,8 @@ module _ {K C : Type 0} where
   with_near s l = record l { near = s }
 
   -- a participant that isn't sound any more
-  abbrev pub spoilt : State K C → State K C
-  spoilt s = record s { sound = false }
+  abbrev pub after_spoiling : State K C → State K C
+  after_spoiling s = record s { sound = false }
 
   -- after the near end has received the front of what is coming, where anything is
   abbrev pub after_receiving : (K → K → Ordering) → Cs → List (Messages K C) → Link K C → Link K C
@@ -96,7 +96,7 @@ module _ {K C : Type 0} where
 
   -- after what the near end has sent at a place is lost: neither end is sound then
   abbrev pub after_loss : ℕ → Link K C → Link K C
-  after_loss i l = record { near = spoilt l.near; far = spoilt l.far; sent = take i l.sent ++ drop (suc i) l.sent; coming = l.coming }
+  after_loss i l = record { near = after_spoiling l.near; far = after_spoiling l.far; sent = take i l.sent ++ drop (suc i) l.sent; coming = l.coming }
 
   -- after what happens at the near end
   abbrev pub after_end_event : ℕ → (C → ℕ) → (K → K → Ordering) → (C → C → Bool) → EndEvent K C → Link K C → Link K C

@@ -16,13 +16,13 @@ abbrev pub ends_at : {K C : Type 0} → Cs → Row K C → Bool
 ends_at t r = is_leaving r.registrar && (t.0 == r.leave.0)
 
 -- of some rows no leave timer runs, or so many end at a moment and none before it
-abbrev pub IsFirst : {K C : Type 0} → Option (Cs × ℕ) → List (Row K C) → Type 0
-IsFirst None rows = AllByRecursion (λ r. is_leaving r.registrar ≡ false) rows
-IsFirst (Some p) rows = (p.1 ≡ count_by (ends_at p.0) rows) × AllByRecursion (λ r. is_leaving r.registrar ≡ true → p.0.0 ≤ r.leave.0) rows
+abbrev pub IsFirstLeave : {K C : Type 0} → Option (Cs × ℕ) → List (Row K C) → Type 0
+IsFirstLeave None rows = AllByRecursion (λ r. is_leaving r.registrar ≡ false) rows
+IsFirstLeave (Some p) rows = (p.1 ≡ count_by (ends_at p.0) rows) × AllByRecursion (λ r. is_leaving r.registrar ≡ true → p.0.0 ≤ r.leave.0) rows
 
 -- what an outlook says is so of some rows, but that a timer ends at its moment
 pub record Tells {K C : Type 0} (o : Outlook) (rows : List (Row K C)) : Type 0 where
-  pub first : IsFirst o.first_leave rows
+  pub first : IsFirstLeave o.first_leave rows
   pub tried : o.tried ≡ count_by (λ r. is_tried false r) rows
 
 -- whether some timer ends at the first moment, where there is one

@@ -114,14 +114,14 @@ is_leave Lv = true
 is_leave _ = false
 
 -- the event of a row with its key and the declared content
-abbrev pub event_of : {K C : Type 0} → Row K C → Option MrpEvent → Option (MrpEvent × K × C)
-event_of r None = None
-event_of r (Some e) = Some (e, r.key, r.content)
+abbrev pub row_event : {K C : Type 0} → Row K C → Option MrpEvent → Option (MrpEvent × K × C)
+row_event r None = None
+row_event r (Some e) = Some (e, r.key, r.content)
 
 -- what a row says at an opportunity
 abbrev pub said_at : {K C : Type 0} → Option AppEvent → Row K C → Option (MrpEvent × K × C)
 said_at None r = None
-said_at (Some event) r = event_of r (event_for (applicant.say_of event (is_in r.registrar) r.applicant) (is_in r.registrar))
+said_at (Some event) r = row_event r (event_for (applicant.say_of event (is_in r.registrar) r.applicant) (is_in r.registrar))
 
 -- what a row says in the PDU, where it is taken or not
 abbrev pub sent_event : {K C : Type 0} → Bool → Bool → Cs → Row K C → Option (MrpEvent × K × C)

@@ -4,15 +4,15 @@ use Rattle.std.specs.List.{fold}
 use Rattle.std.specs.Int.{byte_at, bytes_high_first}
 use Rattle.std.proofs.Math.Nat.{add-mul, div-add-mod', div-one, mod-eq_of_lt, mod-lt, mul-add-mod_self_right, mul-le-mul_right, mul_assoc, one-le-pow, pow-suc, pow-succ'}
 use Rattle.std.proofs.lemmas.List.Sums.{fold_more}
-use Rattle.srp_base.specs.Hexadecimal.{number_of}
+use Rattle.srp_base.specs.Hexadecimal.{number_high_first}
 use Rattle.mrpdu_codec.specs.Canonical.{two_octets}
 
 -- ---- reading
 
 -- one octet more
-pub number_more : (octets : List ℕ) (i number octet : ℕ) → i < length octets → number ≡ number_of (take i octets) → octet ≡ get_or octets i 0 → number * 256 + octet ≡ number_of (take (i + 1) octets)
+pub number_more : (octets : List ℕ) (i number octet : ℕ) → i < length octets → number ≡ number_high_first (take i octets) → octet ≡ get_or octets i 0 → number * 256 + octet ≡ number_high_first (take (i + 1) octets)
 number_more octets i number octet lt e is =
-    ap (λ (n : ℕ). n * 256 + octet) e ∙ ap (λ (o : ℕ). number_of (take i octets) * 256 + o) is
+    ap (λ (n : ℕ). n * 256 + octet) e ∙ ap (λ (o : ℕ). number_high_first (take i octets) * 256 + o) is
     ∙ sym (fold_more (λ (n o : ℕ). n * 256 + o) 0 octets i 0 lt)
 
 pub below_more : (i number octet : ℕ) → number < 256 ^ i → octet < 256 → number * 256 + octet < 256 ^ (i + 1)
@@ -86,7 +86,7 @@ behind front (suc n) number =
     ∙ ap (λ (x : ℕ). front * (256 * place) + x) (sym (digits_split number 256 place (omega arith) some))
     ∙ ap (λ (p : ℕ). front * p + number % p) (sym (pow-succ' 256 n))
 
-pub read_back : (n number : ℕ) → number < 256 ^ n → number_of (bytes_high_first n number) ≡ number
+pub read_back : (n number : ℕ) → number < 256 ^ n → number_high_first (bytes_high_first n number) ≡ number
 read_back n number fits = behind 0 n number ∙ omega (arith, mod-eq_of_lt fits)
 
 pub two_bytes : (number : ℕ) → number < 65536 → bytes_high_first 2 number ≡ two_octets number

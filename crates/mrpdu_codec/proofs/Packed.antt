@@ -5,13 +5,13 @@ use Rattle.std.specs.List.{flat_map, list_all}
 use Rattle.std.proofs.lemmas.Bool.{and_parts, leb-true}
 use Rattle.srp_base.specs.declared.mrp.MrpEvent.{MrpEvent}
 use Rattle.srp_base.specs.declared.mrp.MrpEvent.TheVariants.{New, JoinIn, OnlyIn, JoinMt, OnlyMt, Lv}
-use Rattle.mrpdu_codec.specs.Octets.{thirds, quarters, event_of, number_of, three_events, four_params}
+use Rattle.mrpdu_codec.specs.Octets.{thirds, quarters, event_numbered, event_number, three_events, four_params}
 use Rattle.mrpdu_codec.specs.Tree.{AllUpTo}
 use Rattle.mrpdu_codec.specs.Canonical.{three, pack_events, four, pack_params}
 
 -- ---- events
 
-event_again : (e : MrpEvent) → event_of (number_of e) ≡ e
+event_again : (e : MrpEvent) → event_numbered (event_number e) ≡ e
 event_again New = refl
 event_again JoinIn = refl
 event_again OnlyIn = refl
@@ -19,7 +19,7 @@ event_again JoinMt = refl
 event_again OnlyMt = refl
 event_again Lv = refl
 
-pub number_limit : (e : MrpEvent) → number_of e ≤ 5
+pub number_limit : (e : MrpEvent) → event_number e ≤ 5
 number_limit New = omega arith
 number_limit JoinIn = omega arith
 number_limit OnlyIn = omega arith
@@ -41,20 +41,20 @@ middle_digit x y z p q = omega arith
 low_digit : (x y z : ℕ) → z ≤ 5 → ((x * 6 + y) * 6 + z) % 6 ≡ z
 low_digit x y z q = omega arith
 
-high_event : (a b c : MrpEvent) → event_of (three a b c / 36) ≡ a
-high_event a b c = ap event_of (high_digit (number_of a) (number_of b) (number_of c) (number_limit b) (number_limit c)) ∙ event_again a
+high_event : (a b c : MrpEvent) → event_numbered (three a b c / 36) ≡ a
+high_event a b c = ap event_numbered (high_digit (event_number a) (event_number b) (event_number c) (number_limit b) (number_limit c)) ∙ event_again a
 
-middle_event : (a b c : MrpEvent) → event_of (three a b c / 6 % 6) ≡ b
-middle_event a b c = ap event_of (middle_digit (number_of a) (number_of b) (number_of c) (number_limit b) (number_limit c)) ∙ event_again b
+middle_event : (a b c : MrpEvent) → event_numbered (three a b c / 6 % 6) ≡ b
+middle_event a b c = ap event_numbered (middle_digit (event_number a) (event_number b) (event_number c) (number_limit b) (number_limit c)) ∙ event_again b
 
-low_event : (a b c : MrpEvent) → event_of (three a b c % 6) ≡ c
-low_event a b c = ap event_of (low_digit (number_of a) (number_of b) (number_of c) (number_limit c)) ∙ event_again c
+low_event : (a b c : MrpEvent) → event_numbered (three a b c % 6) ≡ c
+low_event a b c = ap event_numbered (low_digit (event_number a) (event_number b) (event_number c) (number_limit c)) ∙ event_again c
 
 -- an octet's three events
 unpacked : (a b c : MrpEvent) → three_events (three a b c) ≡ a ∷ b ∷ c ∷ []
 unpacked a b c =
-    ap (λ (e : MrpEvent). e ∷ event_of (three a b c / 6 % 6) ∷ event_of (three a b c % 6) ∷ []) (high_event a b c)
-    ∙ ap (λ (e : MrpEvent). a ∷ e ∷ event_of (three a b c % 6) ∷ []) (middle_event a b c)
+    ap (λ (e : MrpEvent). e ∷ event_numbered (three a b c / 6 % 6) ∷ event_numbered (three a b c % 6) ∷ []) (high_event a b c)
+    ∙ ap (λ (e : MrpEvent). a ∷ e ∷ event_numbered (three a b c % 6) ∷ []) (middle_event a b c)
     ∙ ap (λ (e : MrpEvent). a ∷ b ∷ e ∷ []) (low_event a b c)
 
 -- the first n events of an octet and of what follows

@@ -8,7 +8,7 @@ use Rattle.mrpdu_codec.specs.declared.form.AppForm.TheVariants.{Mvrp, Msrp, Mmrp
 use Rattle.mrpdu_codec.specs.declared.form.TypeForm.{TypeForm}
 use Rattle.mrpdu_codec.specs.Octets.{number}
 use Rattle.mrpdu_codec.specs.Types.{row_of}
-use Rattle.mrpdu_codec.specs.Places.{span_of, header_in, places_in, behind_vectors, body_places, behind_body, known_places, kind_in, places_from, place_of}
+use Rattle.mrpdu_codec.specs.Places.{span_of, header_in, places_in, behind_vectors, body_places, behind_body, known_places, kind_in, places_from, first_value_place}
 
 -- what a header that is there says of its octets
 header_parts : (header high low : ℕ) (octets after : List ℕ) → header_in (high ∷ low ∷ octets) ≡ Some (header, after)
@@ -186,31 +186,31 @@ kind_falls kind (k ∷ octets) after h =
 -- ---- one Message passed, of those of known types that are counted down
 
 known_passed : (row : Option TypeForm) (ps : List ℕ) (more : List (List ℕ)) (before vector : ℕ) → (is_some row && eqb before 0) ≡ false
-    → place_of (known_places row ps ++ more) before vector ≡ place_of more (before - length (known_places row [])) vector
+    → first_value_place (known_places row ps ++ more) before vector ≡ first_value_place more (before - length (known_places row [])) vector
 known_passed None ps more before vector h = let e : before - 0 ≡ before = omega arith in rw e refl
 known_passed (Some t) ps more zero vector h = absurd cc
 known_passed (Some t) ps more (suc before) vector h = let e : suc before - 1 ≡ before = omega arith in rw e refl
 
 known_here : (row : Option TypeForm) (ps : List ℕ) (more : List (List ℕ)) (before vector : ℕ) → (is_some row && eqb before 0) ≡ true
-    → place_of (known_places row ps ++ more) before vector ≡ slice_get ps vector
+    → first_value_place (known_places row ps ++ more) before vector ≡ slice_get ps vector
 known_here None ps more before vector h = absurd cc
 known_here (Some t) ps more zero vector h = refl
 known_here (Some t) ps more (suc before) vector h = let e = eqb-true (suc before) 0 h in absurd (omega arith)
 
 module _ (form : AppForm) (end kind : ℕ) (octets after : List ℕ) (starts : kind_in octets ≡ Some (kind, after)) (before vector : ℕ) where
   pub message_here : (is_some (row_of form kind) && eqb before 0) ≡ true
-      → place_of (places_from (length octets) form end octets) before vector ≡ slice_get (body_places form (row_of form kind) end after) vector
+      → first_value_place (places_from (length octets) form end octets) before vector ≡ slice_get (body_places form (row_of form kind) end after) vector
   message_here h =
-      ap (λ (pss : List (List ℕ)). place_of pss before vector) (from_step form end kind octets after starts)
+      ap (λ (pss : List (List ℕ)). first_value_place pss before vector) (from_step form end kind octets after starts)
       ∙ known_here (row_of form kind) _ _ before vector h
 
   pub message_later : (rest : List ℕ) (still : ℕ) → (is_some (row_of form kind) && eqb before 0) ≡ false
       → rest ≡ behind_body form (row_of form kind) after → still ≡ before - length (known_places (row_of form kind) [])
-      → place_of (places_from (length rest) form end rest) still vector ≡ place_of (places_from (length octets) form end octets) before vector
+      → first_value_place (places_from (length rest) form end rest) still vector ≡ first_value_place (places_from (length octets) form end octets) before vector
   message_later rest still h e f =
       rw (e, f) (sym (
-      ap (λ (pss : List (List ℕ)). place_of pss before vector) (from_step form end kind octets after starts)
+      ap (λ (pss : List (List ℕ)). first_value_place pss before vector) (from_step form end kind octets after starts)
       ∙ known_passed (row_of form kind) _ _ before vector h))
 
-pub message_none : (form : AppForm) (end : ℕ) (octets : List ℕ) (before vector : ℕ) → kind_in octets ≡ None → place_of (places_from (length octets) form end octets) before vector ≡ None
-message_none form end octets before vector h = ap (λ (pss : List (List ℕ)). place_of pss before vector) (from_end form end octets h)
+pub message_none : (form : AppForm) (end : ℕ) (octets : List ℕ) (before vector : ℕ) → kind_in octets ≡ None → first_value_place (places_from (length octets) form end octets) before vector ≡ None
+message_none form end octets before vector h = ap (λ (pss : List (List ℕ)). first_value_place pss before vector) (from_end form end octets h)

@@ -7,7 +7,7 @@ use Rattle.mrpdu_codec.specs.declared.form.AppForm.TheVariants.{Mvrp, Msrp, Mmrp
 use Rattle.mrpdu_codec.specs.declared.form.TypeForm.{TypeForm}
 use Rattle.mrpdu_codec.specs.Octets.{number}
 use Rattle.mrpdu_codec.specs.Types.{row_of}
-use Rattle.mrpdu_codec.specs.Tree.{Vector, header, IsVector, AreVectors, vector_octets, vectors_octets, AttributeList, list_octets, MessageTree, message_octets, messages_octets, IsBody, AreMessages, MrpduTree, tree_octets, after_octets, IsTree}
+use Rattle.mrpdu_codec.specs.Tree.{Vector, header, IsVector, AreVectors, vector_octets, vectors_octets, AttributeList, list_octets, MessageTree, message_octets, messages_octets, IsBody, AreMessages, MrpduTree, tree_octets, after_octets, IsPduTree}
 use Rattle.mrpdu_codec.specs.Tree.AttributeList.{Vectors, Skipped}
 use Rattle.mrpdu_codec.specs.Places.{span_of, header_in, places_in, behind_vectors, body_places, behind_body, known_places, places_from, first_places, vector_places, list_places, message_places, messages_places, tree_places}
 use Rattle.mrpdu_codec.proofs.PlacesLemmas.{places_step, places_end, behind_step, behind_end, from_step, from_end}
@@ -181,6 +181,6 @@ messages_walked form at end (b ∷ bs) after are e =
     ∙ ap (λ (ps : List (List ℕ)). ps ++ places_from (length more) form end more) walked.places
     ∙ ap (λ (ps : List (List ℕ)). message_places form at b ++ ps) (messages_walked form (at + length (message_octets b)) end bs after are.2 (omega (arith, all, one, e)))
 
-pub tree_walked : (form : AppForm) (tree : MrpduTree) → IsTree form tree → first_places form (tree_octets tree) ≡ tree_places form tree
+pub tree_walked : (form : AppForm) (tree : MrpduTree) → IsPduTree form tree → first_places form (tree_octets tree) ≡ tree_places form tree
 unfolding first_places
 tree_walked form tree is = messages_walked form 1 (1 + length (messages_octets tree.messages ++ after_octets tree.after)) tree.messages tree.after is.messages refl

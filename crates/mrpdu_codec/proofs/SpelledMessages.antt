@@ -10,7 +10,7 @@ use Rattle.mrpdu_codec.specs.declared.pdu.VectorAttr.{VectorAttr}
 use Rattle.mrpdu_codec.specs.declared.pdu.Pdu.{Pdu}
 use Rattle.mrpdu_codec.specs.Octets.{number}
 use Rattle.mrpdu_codec.specs.Types.{row_of}
-use Rattle.mrpdu_codec.specs.Tree.{Vector, vectors_octets, AreVectors, attr_of, AttributeList, IsEndMark, IsBody, list_octets, list_attrs, length_fits, MessageTree, IsMessage, message_octets, messages_octets, messages_meant, AreMessages, after_octets, MrpduTree, IsTree, tree_octets, pdu_of}
+use Rattle.mrpdu_codec.specs.Tree.{Vector, vectors_octets, AreVectors, attr_of, AttributeList, IsEndMark, IsBody, list_octets, list_attrs, length_fits, MessageTree, IsMessage, message_octets, messages_octets, messages_meant, AreMessages, after_octets, MrpduTree, IsPduTree, tree_octets, pdu_of}
 use Rattle.mrpdu_codec.specs.Tree.AttributeList.{Vectors, Skipped}
 use Rattle.mrpdu_codec.specs.Grammar.{EndMarkBreaks, ListLengthBreaks, LengthBreaks, FirstTypeBreaks, LaterTypeBreaks, ListBreaks, RegionBreaks, IsRegion, CountedBreaks, BodyBreaks, MessageBreaks, AreClosed, PduBreaks, Spells, Breaks}
 use Rattle.mrpdu_codec.specs.Grammar.RegionBreaks.{vector as region_vector, end_mark as region_mark, short as region_short}
@@ -306,7 +306,7 @@ unfolding pdu_at version_at first_type_at
 first_fails form version [] h = refl
 first_fails form version (kind ∷ rest) h = rw h refl
 
-tree_reads : (form : AppForm) (tree : MrpduTree) → IsTree form tree → pdu_at form (tree_octets tree) ≡ Ok (pdu_of form tree)
+tree_reads : (form : AppForm) (tree : MrpduTree) → IsPduTree form tree → pdu_at form (tree_octets tree) ≡ Ok (pdu_of form tree)
 tree_reads form tree is = go tree.messages is.some is.messages where
   go : (bs : List MessageTree) → 0 < length bs → AreMessages form bs tree.after → pdu_at form (tree.version ∷ (messages_octets bs ++ after_octets tree.after)) ≡ Ok (pdu_of form (record { version = tree.version; messages = bs; after = tree.after }))
   go [] some all = absurd (omega arith)

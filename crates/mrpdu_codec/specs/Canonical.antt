@@ -10,7 +10,7 @@ use Rattle.mrpdu_codec.specs.declared.form.TypeForm.{TypeForm}
 use Rattle.mrpdu_codec.specs.declared.pdu.VectorAttr.{VectorAttr}
 use Rattle.mrpdu_codec.specs.declared.pdu.Message.{Message}
 use Rattle.mrpdu_codec.specs.declared.pdu.Pdu.{Pdu}
-use Rattle.mrpdu_codec.specs.Octets.{number_of, thirds, quarters}
+use Rattle.mrpdu_codec.specs.Octets.{event_number, thirds, quarters}
 use Rattle.mrpdu_codec.specs.Types.{row_of}
 use Rattle.mrpdu_codec.specs.Shape.{has_form}
 use Rattle.mrpdu_codec.specs.Tree.{Vector, vector_octets, vectors_octets, MessageTree, MrpduTree, tree_octets}
@@ -22,7 +22,7 @@ two_octets n = n / 256 ∷ n % 256 ∷ []
 
 -- three events in an octet
 abbrev pub three : MrpEvent → MrpEvent → MrpEvent → ℕ
-three a b c = (number_of a * 6 + number_of b) * 6 + number_of c
+three a b c = (event_number a * 6 + event_number b) * 6 + event_number c
 
 -- events, in as few octets; places past the last are New, which is 0
 abbrev pub pack_events : List MrpEvent → List ℕ

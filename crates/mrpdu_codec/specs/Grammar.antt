@@ -8,12 +8,12 @@ use Rattle.mrpdu_codec.specs.declared.form.TypeForm.{TypeForm}
 use Rattle.mrpdu_codec.specs.declared.pdu.Pdu.{Pdu}
 use Rattle.mrpdu_codec.specs.Octets.{number, thirds}
 use Rattle.mrpdu_codec.specs.Types.{row_of}
-use Rattle.mrpdu_codec.specs.Tree.{Vector, count, packed_limit, fours_for, header_fits, AllUpTo, vectors_octets, MessageTree, length_fits, AreVectors, IsMessage, messages_octets, MrpduTree, tree_octets, IsTree, pdu_of}
+use Rattle.mrpdu_codec.specs.Tree.{Vector, count, packed_limit, fours_for, header_fits, AllUpTo, vectors_octets, MessageTree, length_fits, AreVectors, IsMessage, messages_octets, MrpduTree, tree_octets, IsPduTree, pdu_of}
 
 -- A tree that meets the rules has these octets as its spelling and this PDU as its meaning.
 pub record Spells (form : AppForm) (octets : List ℕ) (pdu : Pdu) : Type 0 where
   pub tree : MrpduTree
-  pub rules : IsTree form tree
+  pub rules : IsPduTree form tree
   pub spelling : octets ≡ tree_octets tree
   pub meaning : pdu ≡ pdu_of form tree
 

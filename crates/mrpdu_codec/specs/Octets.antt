@@ -16,8 +16,8 @@ abbrev pub quarters : ℕ → ℕ
 quarters n = (n + 3) / 4
 
 -- the event of a number from 0 to 5
-abbrev pub event_of : ℕ → MrpEvent
-event_of n =
+abbrev pub event_numbered : ℕ → MrpEvent
+event_numbered n =
     if n == 0 then New
     else (if n == 1 then JoinIn
     else (if n == 2 then OnlyIn
@@ -26,17 +26,17 @@ event_of n =
     else Lv))))
 
 -- the number of an event
-abbrev pub number_of : MrpEvent → ℕ
-number_of New = 0
-number_of JoinIn = 1
-number_of OnlyIn = 2
-number_of JoinMt = 3
-number_of OnlyMt = 4
-number_of Lv = 5
+abbrev pub event_number : MrpEvent → ℕ
+event_number New = 0
+event_number JoinIn = 1
+event_number OnlyIn = 2
+event_number JoinMt = 3
+event_number OnlyMt = 4
+event_number Lv = 5
 
 -- the events in an octet ((a * 6) + b) * 6 + c
 abbrev pub three_events : ℕ → List MrpEvent
-three_events octet = event_of (octet / 36) ∷ event_of (octet / 6 % 6) ∷ event_of (octet % 6) ∷ []
+three_events octet = event_numbered (octet / 36) ∷ event_numbered (octet / 6 % 6) ∷ event_numbered (octet % 6) ∷ []
 
 -- the parameters in an octet a * 64 + b * 16 + c * 4 + d
 abbrev pub four_params : ℕ → List ℕ

@@ -112,8 +112,8 @@ first_places form [] = []
 first_places form (version ∷ octets) = places_from (length octets) form (1 + length octets) octets
 
 -- the place of a Message and a vector in it, both numbered from 0
-abbrev pub place_of : List (List ℕ) → ℕ → ℕ → Option ℕ
-place_of places message vector = option_and_then (λ ps. slice_get ps vector) (slice_get places message)
+abbrev pub first_value_place : List (List ℕ) → ℕ → ℕ → Option ℕ
+first_value_place places message vector = option_and_then (λ ps. slice_get ps vector) (slice_get places message)
 
 -- ---- What stands there
 

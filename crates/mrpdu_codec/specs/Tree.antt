@@ -187,7 +187,7 @@ abbrev pub tree_octets : MrpduTree → List ℕ
 tree_octets tree = tree.version ∷ (messages_octets tree.messages ++ after_octets tree.after)
 
 -- any version, and one or more Messages
-pub record IsTree (form : AppForm) (tree : MrpduTree) : Type 0 where
+pub record IsPduTree (form : AppForm) (tree : MrpduTree) : Type 0 where
   pub some : 0 < length tree.messages
   pub messages : AreMessages form tree.messages tree.after
 

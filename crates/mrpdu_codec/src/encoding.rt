@@ -5,7 +5,7 @@ ghost use Rattle.std.specs.List.{list_all, AllByRecursion};
 ghost use Rattle.mrpdu_codec.specs.Types.{row_of};
 ghost use Rattle.mrpdu_codec.specs.Grammar.{Spells};
 ghost use Rattle.srp_base.specs.declared.mrp.MrpEvent.TheVariants.{New};
-ghost use Rattle.mrpdu_codec.specs.Octets.{number_of};
+ghost use Rattle.mrpdu_codec.specs.Octets.{event_number};
 ghost use Rattle.mrpdu_codec.specs.Tree.{vectors_octets, message_octets, messages_octets};
 ghost use Rattle.mrpdu_codec.specs.Canonical.{three, pack_events, four, pack_params, vectors_for, message_for, spelling, well_formed, message_fits, list_length_for, list_fits, length_for, octets_for, CanPut};
 
@@ -18,7 +18,7 @@ use std::alloc::{AllocError, Global};
 
 /// An event's number.
 fn number_of(event: MrpEvent) -> u8
-    ensures value { result ≡ number_of event }
+    ensures value { result ≡ event_number event }
     ensures limit { result ≤ 5 }
 {
     match event {

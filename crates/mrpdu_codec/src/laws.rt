@@ -3,7 +3,7 @@
 
 ghost use Rattle.std.specs.Prelude.{◌≡◌, ◌⊎◌, ◌↔◌, ◌<◌, ◌^◌, ◌∷◌, [], ℕ, List, length, Ok, Err, IsTrue};
 ghost use Rattle.std.specs.Int.{bytes_high_first};
-ghost use Rattle.srp_base.specs.Hexadecimal.{number_of};
+ghost use Rattle.srp_base.specs.Hexadecimal.{number_high_first};
 ghost use Rattle.mrpdu_codec.specs.declared.form.AppForm.{AppForm};
 ghost use Rattle.mrpdu_codec.specs.declared.pdu.Pdu.{Pdu};
 ghost use Rattle.mrpdu_codec.specs.declared.pdu.VectorAttr.{VectorAttr};
@@ -56,8 +56,8 @@ pub fn written_list_size()
 /// octets are as any others.
 pub fn numbers_are_read_back()
     ensures read { (n number : ℕ)
-        → number < 256 ^ n → number_of (bytes_high_first n number) ≡ number }
+        → number < 256 ^ n → number_high_first (bytes_high_first n number) ≡ number }
     ensures length { (n number : ℕ) → length (bytes_high_first n number) ≡ n }
-    ensures pair { (high low : ℕ) → number_of (high ∷ low ∷ []) ≡ number high low }
+    ensures pair { (high low : ℕ) → number_high_first (high ∷ low ∷ []) ≡ number high low }
     ensures two { (number : ℕ) → number < 65536 → bytes_high_first 2 number ≡ two_octets number }
 {}

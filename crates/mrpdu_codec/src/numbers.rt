@@ -2,7 +2,7 @@
 
 ghost use Rattle.std.specs.Prelude.{◌≡◌, ◌++◌, ◌≤◌, ◌<◌, ◌^◌, length, OnOk, OnErr};
 ghost use Rattle.std.specs.Int.{bytes_high_first};
-ghost use Rattle.srp_base.specs.Hexadecimal.{number_of};
+ghost use Rattle.srp_base.specs.Hexadecimal.{number_high_first};
 ghost use Rattle.mrpdu_codec.specs.Octets.{number};
 ghost use Rattle.mrpdu_codec.specs.Canonical.{two_octets};
 
@@ -28,7 +28,7 @@ pub(crate) fn put_two(out: &mut Vec<u8>, number: u16) -> Result<(), AllocError>
 /// The number in octets, the high one first. There are at most 8.
 pub fn number_in(octets: &[u8]) -> u64
     requires { length octets.now ≤ 8 }
-    ensures value { result ≡ number_of octets.now }
+    ensures value { result ≡ number_high_first octets.now }
     ensures below { result < 256 ^ length octets.now }
 {
     let mut number = 0u64;

@@ -6,9 +6,9 @@ ghost use Rattle.std.specs.Option.{option_map};
 ghost use Rattle.mrpdu_codec.specs.declared.form.AppForm.{AppForm};
 ghost use Rattle.mrpdu_codec.specs.declared.form.AppForm.TheVariants.{Mvrp, Msrp};
 ghost use Rattle.mrpdu_codec.specs.declared.pdu.Pdu.{Pdu};
-ghost use Rattle.mrpdu_codec.specs.Tree.{MrpduTree, IsTree, tree_octets};
+ghost use Rattle.mrpdu_codec.specs.Tree.{MrpduTree, IsPduTree, tree_octets};
 ghost use Rattle.mrpdu_codec.specs.Grammar.{Spells};
-ghost use Rattle.mrpdu_codec.specs.Places.{span_of, header_in, places_in, behind_vectors, body_places, behind_body, known_places, kind_in, places_from, first_places, tree_places, place_of, AllStandAt};
+ghost use Rattle.mrpdu_codec.specs.Places.{span_of, header_in, places_in, behind_vectors, body_places, behind_body, known_places, kind_in, places_from, first_places, tree_places, first_value_place, AllStandAt};
 
 use crate::fields::{fours_for, thirds};
 use crate::form::{AppForm, TypeForm};
@@ -208,7 +208,7 @@ fn place_from(
 ) -> Option<usize>
     requires { length octets.now ≤ end }
     ensures place { result
-        ≡ place_of (places_from (length octets.now) form end octets.now) message vector }
+        ≡ first_value_place (places_from (length octets.now) form end octets.now) message vector }
     ensures within { IfSome result (λ p. p ≤ end) }
 {
     let mut rest = octets;
@@ -235,7 +235,7 @@ fn place_from(
 #[tactic(auto, unfolding(crate::specs::Places::first_places))]
 pub fn first_value_at(form: AppForm, octets: &[u8], message: usize, vector: usize) -> Option<u32>
     requires { length octets.now < 2 ^ 32 }
-    ensures { result ≡ place_of (first_places form octets.now) message vector }
+    ensures { result ≡ first_value_place (first_places form octets.now) message vector }
 {
     match octets {
         [] => None,
@@ -251,7 +251,7 @@ pub fn first_value_at(form: AppForm, octets: &[u8], message: usize, vector: usiz
 /// The law of the places. They are those of the syntax tree; and there is one for each vector of the PDU,
 /// in order, at which its FirstValue stands.
 pub fn first_values_have_places()
-    ensures of_tree { (form : AppForm) (tree : MrpduTree) → IsTree form tree
+    ensures of_tree { (form : AppForm) (tree : MrpduTree) → IsPduTree form tree
         → first_places form (tree_octets tree) ≡ tree_places form tree }
     ensures one_each { (form : AppForm) (octets : List ℕ) (pdu : Pdu) → Spells form octets pdu
         → AllStandAt octets (first_places form octets) pdu.messages }

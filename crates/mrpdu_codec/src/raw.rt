@@ -2,7 +2,7 @@
 
 ghost use Rattle.std.specs.Prelude.{◌≡◌, ◌≤◌, ◌++◌, ◌∷◌, [], length, take, map, IfOk, OnOk};
 ghost use Rattle.std.specs.List.{flat_map, list_any};
-ghost use Rattle.mrpdu_codec.specs.Octets.{event_of, three_events, four_params};
+ghost use Rattle.mrpdu_codec.specs.Octets.{event_numbered, three_events, four_params};
 ghost use Rattle.mrpdu_codec.specs.Raw.{attr_in, attrs_in, message_in, leaves_in_place};
 
 use crate::fields::count;
@@ -65,7 +65,7 @@ impl RawVector<'_> {
 
 /// The event of a number from 0 to 5.
 fn event_of(number: u8) -> MrpEvent
-    ensures { result ≡ event_of number }
+    ensures { result ≡ event_numbered number }
 {
     match number {
         0 => MrpEvent::New,

@@ -18,7 +18,7 @@ use Rattle.msrp_codec.specs.declared.pdu.MsrpKey.TheVariants as keys
 use Rattle.msrp_codec.specs.declared.pdu.MsrpContent.TheVariants as contents
 use Rattle.msrp.specs.declared.port.Port.{Port}
 use Rattle.msrp.specs.Part.{key_cmp, registered_talker, talker_content}
-use Rattle.msrp.specs.Stream.{Registrations, is_listened, is_talker_port, listener_at, listener_row, stated_at, talk_of, talker_at, talker_of, talkers_of, advertise_of, want_of_talker, wanted_at}
+use Rattle.msrp.specs.Stream.{Registrations, is_listened, is_talker_port, listener_at, listener_row, stated_at, talk_of, talker_at, first_talker, talkers_of, advertise_of, want_of_talker, wanted_at}
 use Rattle.msrp.specs.Settling.{talker_keys}
 use Rattle.msrp.specs.Side.{Streams, IsKept, IsPort, IsSettled, clocked_port, clocked_sets, clocked_streams, seen_by, shows_at}
 use Rattle.msrp.proofs.Places.{each-get, or_false}
@@ -51,8 +51,8 @@ same_fit f g (Some w) same = ap (λ x. Some x) (same w)
 stated_clocked : (at : ℕ) (config : PortConfig) (book : Book) (now : ℕ) (talkers : List TalkerReg) → ((want : Want) → fit_for now book want ≡ fit_for book.moment book want)
     → talker_at at config (clocked_book now book) talkers ≡ talker_at at config book talkers
 stated_clocked at config book now talkers same =
-    ap (λ (o : Option Fit). if is_talker_port (suc at) talkers then Absent else talker_out (talker_of talkers) config (unwrap_or (if is_talker_port (suc at) talkers then None else o) Fits))
-    (same_fit (fit_for now book) (fit_for book.moment book) (option_and_then want_of_talker (talker_in (talker_of talkers))) same)
+    ap (λ (o : Option Fit). if is_talker_port (suc at) talkers then Absent else talker_out (first_talker talkers) config (unwrap_or (if is_talker_port (suc at) talkers then None else o) Fits))
+    (same_fit (fit_for now book) (fit_for book.moment book) (option_and_then want_of_talker (talker_in (first_talker talkers))) same)
 
 -- the port and the set at a place before
 pub record WasAt (now : ℕ) (ks : List MsrpKey) (ports : List Port) (sets : List (List MsrpKey)) (j : ℕ) (port : Port) (set : List MsrpKey) : Type 0 where

@@ -16,7 +16,7 @@ use Rattle.msrp_codec.specs.declared.pdu.MsrpKey.TheVariants as keys
 use Rattle.msrp_codec.specs.declared.pdu.MsrpContent.TheVariants as contents
 use Rattle.msrp.specs.declared.port.Port.{Port}
 use Rattle.msrp.specs.Part.{Part, key_cmp, registered_talker, registered_listener, listener_kind_of, talker_content, HasOwnContents}
-use Rattle.msrp.specs.Stream.{Registrations, registrations_of, is_talker_port, is_ready, want_of_reg, talker_of, talker_at, listener_at, stated_at, talk_of, is_listened, talkers_of, advertise_of, listener_row}
+use Rattle.msrp.specs.Stream.{Registrations, registrations_of, is_talker_port, is_ready, want_of_reg, first_talker, talker_at, listener_at, stated_at, talk_of, is_listened, talkers_of, advertise_of, listener_row}
 use Rattle.msrp.specs.Settling.{all_keys_with, keys_of}
 use Rattle.msrp.specs.Side.{Streams, IsKept, IsPort, IsSettled, IsSettledAt, seen_by, at_port, with_told_port, with_port_at, with_asks, with_part, SameDeclared, TellsEach}
 use Rattle.msrp.proofs.Places.{decide, get-set_same, get-set_other, each-set, each-get, mapped_length, opened}
@@ -29,11 +29,11 @@ stated_talker at c d b e r q x y z =
     ∙ (ap (λ (k : Book). talker_content (talker_at at d k r.talkers)) y ∙ ap (λ (k : Registrations). talker_content (talker_at at d e k.talkers)) z)
 
 wanted_same : (at : ℕ) (k l : Option ListenerKind) (r q : Registrations) → k ≡ l → r ≡ q
-    → (if is_talker_port (suc at) r.talkers then None else if is_ready k then want_of_reg (talker_of r.talkers) else None)
-    ≡ (if is_talker_port (suc at) q.talkers then None else if is_ready l then want_of_reg (talker_of q.talkers) else None)
+    → (if is_talker_port (suc at) r.talkers then None else if is_ready k then want_of_reg (first_talker r.talkers) else None)
+    ≡ (if is_talker_port (suc at) q.talkers then None else if is_ready l then want_of_reg (first_talker q.talkers) else None)
 wanted_same at k l r q x z =
-    ap (λ (o : Option ListenerKind). if is_talker_port (suc at) r.talkers then None else if is_ready o then want_of_reg (talker_of r.talkers) else None) x
-    ∙ ap (λ (v : Registrations). if is_talker_port (suc at) v.talkers then None else if is_ready l then want_of_reg (talker_of v.talkers) else None) z
+    ap (λ (o : Option ListenerKind). if is_talker_port (suc at) r.talkers then None else if is_ready o then want_of_reg (first_talker r.talkers) else None) x
+    ∙ ap (λ (v : Registrations). if is_talker_port (suc at) v.talkers then None else if is_ready l then want_of_reg (first_talker v.talkers) else None) z
 
 -- of a stream that a key says is as it was, everything is
 pub record IsAsBefore (q p : Port) (regs now : StreamId → Registrations) (s : StreamId) : Type 0 where

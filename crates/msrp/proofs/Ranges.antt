@@ -18,7 +18,7 @@ use Rattle.stream_importance.specs.Bandwidth.{cap_of}
 use Rattle.port_ledger.specs.Decision.{above, booked_of, does_fit}
 use Rattle.port_ledger.specs.Book.{Book, fit_for, is_normal, tested_entry}
 use Rattle.msrp_talker.specs.declared.port_config.PortConfig.{PortConfig}
-use Rattle.msrp_talker.specs.TalkerOut.{class_of_priority, code_of, declared_of, delayed_by, refusal_of, talker_in, talker_out}
+use Rattle.msrp_talker.specs.TalkerOut.{class_of_priority, fit_code, declared_of, delayed_by, refusal_of, talker_in, talker_out}
 use Rattle.mrp_participant.specs.State.{registered_at}
 use Rattle.msrp_listener.specs.Merging.{listener_out}
 use Rattle.msrp_codec.specs.declared.pdu.MsrpKey.{MsrpKey}
@@ -29,7 +29,7 @@ use Rattle.msrp_codec.specs.Content.{value_of}
 use Rattle.msrp_codec.specs.FirstValue.{IsFailure, IsFirst, IsTalker}
 use Rattle.msrp.specs.declared.port.Port.{Port}
 use Rattle.msrp.specs.Part.{Part, key_cmp, registered_talker, talker_content, talker_reg_of}
-use Rattle.msrp.specs.Stream.{advertise_of, fit_at, is_number, is_present, is_talker_port, stated_at, talk_of, other_listeners, talker_at, talker_of, talkers_of, want_of_talker}
+use Rattle.msrp.specs.Stream.{advertise_of, fit_at, is_number, is_present, is_talker_port, stated_at, talk_of, other_listeners, talker_at, first_talker, talkers_of, want_of_talker}
 use Rattle.msrp.specs.Side.{Streams, IsPort, seen_by}
 use Rattle.msrp.specs.Proper.{AreOfRange, HasRanges}
 use Rattle.msrp.proofs.Contents.{HoldsOfEach}
@@ -72,7 +72,7 @@ in_ports (p ∷ ports) s all =
     (in_content s (registered_at key_cmp (keys.Talker s) p.part) (λ c h. registered_holds IsWithin p.part (range_row p.part all.0) (keys.Talker s) c h), in_ports ports s all.1)
 
 -- what is registered at the Talker's port fits
-in_talker : (side : Streams) → AreOfRange side → (s : StreamId) → IsRegIn (talker_of (talkers_of side.talks side.ports s))
+in_talker : (side : Streams) → AreOfRange side → (s : StreamId) → IsRegIn (first_talker (talkers_of side.talks side.ports s))
 in_talker side fit s =
     found_holds IsRegIn tt (talkers_of side.talks side.ports s) (in_own side.talks s fit.talks, in_ports side.ports s fit.parts)
 
@@ -94,18 +94,18 @@ in_declared : (config : PortConfig) (t : Talker) (o : Option ℕ) → config.bri
 in_declared config t None bridge fit code = fit
 in_declared config t (Some n) bridge fit code = (fit, record { bridge = bridge; code = code })
 
-code_of_fit : (more cap : ℕ) (a b : Bool) → IsCodeIn (code_of (if a then Fits else TooLittle more cap (if b then 6 else 1)))
+code_of_fit : (more cap : ℕ) (a b : Bool) → IsCodeIn (fit_code (if a then Fits else TooLittle more cap (if b then 6 else 1)))
 code_of_fit more cap true b = tt
 code_of_fit more cap false true = omega arith
 code_of_fit more cap false false = omega arith
 
-code_fits : (now : ℕ) (book : Book) (w : Want) → IsCodeIn (code_of (fit_for now book w))
+code_fits : (now : ℕ) (book : Book) (w : Want) → IsCodeIn (fit_code (fit_for now book w))
 code_fits now book w =
     let x : Entry = tested_entry book.entries w in
     let set : List Entry = booked_of book.entries in
     code_of_fit (above now x set) (cap_of book.caps x.want.class) (does_fit now book.caps set x) (is_normal x && does_fit now book.caps (filter is_normal set) x)
 
-code_at : (now : ℕ) (book : Book) (b : Bool) (o : Option Want) → IsCodeIn (code_of (unwrap_or (if b then None else option_map (fit_for now book) o) Fits))
+code_at : (now : ℕ) (book : Book) (b : Bool) (o : Option Want) → IsCodeIn (fit_code (unwrap_or (if b then None else option_map (fit_for now book) o) Fits))
 code_at now book true o = tt
 code_at now book false None = tt
 code_at now book false (Some w) = code_fits now book w
@@ -115,22 +115,22 @@ checked o true b h = omega arith
 checked o false true h = omega arith
 checked o false false h = h
 
-refusal_fits : (t : Talker) (fit : Fit) → IsCodeIn (code_of fit) → IsCodeIn (refusal_of t fit)
-refusal_fits t fit h = checked (code_of fit) (is_none (class_of_priority t.priority)) (nat_lt 1500 t.max_frame) h
+refusal_fits : (t : Talker) (fit : Fit) → IsCodeIn (fit_code fit) → IsCodeIn (refusal_of t fit)
+refusal_fits t fit h = checked (fit_code fit) (is_none (class_of_priority t.priority)) (nat_lt 1500 t.max_frame) h
 
-in_out : (reg : TalkerReg) (config : PortConfig) (fit : Fit) → config.bridge.0 < 2 ^ 64 → IsRegIn reg → IsCodeIn (code_of fit) → IsRegIn (talker_out reg config fit)
+in_out : (reg : TalkerReg) (config : PortConfig) (fit : Fit) → config.bridge.0 < 2 ^ 64 → IsRegIn reg → IsCodeIn (fit_code fit) → IsRegIn (talker_out reg config fit)
 in_out Absent config fit bridge reg code = tt
 in_out (Failed t f) config fit bridge reg code = (later_fits config.latency t reg.0, reg.1)
 in_out (Advertise t) config fit bridge reg code = in_declared config (delayed_by config.latency t) (refusal_of t fit) bridge (later_fits config.latency t reg) (refusal_fits t fit code)
 
-in_at : (at : ℕ) (config : PortConfig) (book : Book) (talkers : List TalkerReg) → config.bridge.0 < 2 ^ 64 → IsRegIn (talker_of talkers) → IsRegIn (talker_at at config book talkers)
+in_at : (at : ℕ) (config : PortConfig) (book : Book) (talkers : List TalkerReg) → config.bridge.0 < 2 ^ 64 → IsRegIn (first_talker talkers) → IsRegIn (talker_at at config book talkers)
 in_at at config book talkers bridge reg = by (is_talker_port (suc at) talkers)
   where
-    by : (b : Bool) → IsRegIn (if b then Absent else talker_out (talker_of talkers) config (unwrap_or (fit_at book.moment at book talkers) Fits))
+    by : (b : Bool) → IsRegIn (if b then Absent else talker_out (first_talker talkers) config (unwrap_or (fit_at book.moment at book talkers) Fits))
     by true = tt
     by false =
-        in_out (talker_of talkers) config (unwrap_or (fit_at book.moment at book talkers) Fits) bridge reg
-        (code_at book.moment book (is_talker_port (suc at) talkers) (option_and_then want_of_talker (talker_in (talker_of talkers))))
+        in_out (first_talker talkers) config (unwrap_or (fit_at book.moment at book talkers) Fits) bridge reg
+        (code_at book.moment book (is_talker_port (suc at) talkers) (option_and_then want_of_talker (talker_in (first_talker talkers))))
 
 in_stated : (s : StreamId) (reg : TalkerReg) (c : MsrpContent) → IsRegIn reg → talker_content reg ≡ Some c → IsWithin (keys.Talker s) c
 in_stated s Absent c h e = cc
@@ -153,7 +153,7 @@ found_present (x ∷ xs) (suc i) h = by (is_present x) refl (found_present xs i 
     by true e rest = e
     by false e rest = rest
 
-at_port_present : (xs : List TalkerReg) (n : ℕ) (o : Option ℕ) → position is_present xs ≡ o → is_number n o ≡ true → is_present (talker_of xs) ≡ true
+at_port_present : (xs : List TalkerReg) (n : ℕ) (o : Option ℕ) → position is_present xs ≡ o → is_number n o ≡ true → is_present (first_talker xs) ≡ true
 at_port_present xs n None e h = cc
 at_port_present xs n (Some i) e h = found_present xs i (position-Some is_present xs i Absent e).1
 
@@ -177,7 +177,7 @@ rule_in side ports fit at config book bridge (keys.Listener s) c e = by (is_talk
         → option_map contents.Listener (if b then listener_out (other_listeners at (seen_by side s)) else None) ≡ Some c → IsWithin (keys.Listener s) c
     by true here k =
         listener_in s (listener_out (other_listeners at (seen_by side s))) c
-        (of_present s (talker_of (talkers_of side.talks side.ports s)) (of_talker side.moment side.talks side.ports s ports) (in_talker side fit s)
+        (of_present s (first_talker (talkers_of side.talks side.ports s)) (of_talker side.moment side.talks side.ports s ports) (in_talker side fit s)
         (at_port_present (talkers_of side.talks side.ports s) (suc at) (position is_present (talkers_of side.talks side.ports s)) refl here)) k
     by false here k = cc
 rule_in side ports fit at config book bridge (keys.Domain class) c e = cc

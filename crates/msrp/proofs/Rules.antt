@@ -28,7 +28,7 @@ use Rattle.msrp_codec.specs.declared.pdu.MsrpContent.TheVariants as contents
 use Rattle.msrp_codec.specs.Content.{Belongs}
 use Rattle.msrp.specs.declared.port.Port.{Port}
 use Rattle.msrp.specs.Part.{Part, key_cmp, stream_cmp, registered_listener, registered_talker, talker_content, talker_reg_of}
-use Rattle.msrp.specs.Stream.{advertise_of, fit_at, is_present, is_ready, is_talker_port, listener_at, stated_at, talk_of, talker_at, talker_of, talkers_of, want_in_class, want_of_reg, want_of_talker, wanted_at}
+use Rattle.msrp.specs.Stream.{advertise_of, fit_at, is_present, is_ready, is_talker_port, listener_at, stated_at, talk_of, talker_at, first_talker, talkers_of, want_in_class, want_of_reg, want_of_talker, wanted_at}
 use Rattle.msrp.specs.Settling.{listener_keys, stream_in, streams_in}
 use Rattle.msrp.specs.Side.{Streams, IsPort, seen_by}
 use Rattle.msrp.proofs.Places.{or_false}
@@ -80,7 +80,7 @@ found_holds P absent (x ∷ xs) all = by (is_present x) (found_holds P absent xs
     by true rest = all.0
     by false rest = rest
 
-pub of_talker : (moment : ℕ) (talks : List Talker) (ports : List Port) (s : StreamId) → AllByRecursion (IsPort moment) ports → IsOf s (talker_of (talkers_of talks ports s))
+pub of_talker : (moment : ℕ) (talks : List Talker) (ports : List Port) (s : StreamId) → AllByRecursion (IsPort moment) ports → IsOf s (first_talker (talkers_of talks ports s))
 of_talker moment talks ports s all = found_holds (IsOf s) tt (talkers_of talks ports s) (of_own talks s, of_ports moment ports s all)
 
 of_declared : (s : StreamId) (config : PortConfig) (t : Talker) (o : Option ℕ) → s ≡ t.stream → IsOf s (declared_of config t o)
@@ -97,12 +97,12 @@ of_stated s Absent c h e = cc
 of_stated s (Advertise t) c h e = let is : contents.Advertise t ≡ c = cc in subst (λ (x : MsrpContent). Belongs (keys.Talker s) x) is h
 of_stated s (Failed t f) c h e = let is : contents.Failed t f ≡ c = cc in subst (λ (x : MsrpContent). Belongs (keys.Talker s) x) is h
 
-of_at : (s : StreamId) (at : ℕ) (config : PortConfig) (book : Book) (talkers : List TalkerReg) → IsOf s (talker_of talkers) → IsOf s (talker_at at config book talkers)
+of_at : (s : StreamId) (at : ℕ) (config : PortConfig) (book : Book) (talkers : List TalkerReg) → IsOf s (first_talker talkers) → IsOf s (talker_at at config book talkers)
 of_at s at config book talkers h = by (is_talker_port (suc at) talkers)
   where
-    by : (b : Bool) → IsOf s (if b then Absent else talker_out (talker_of talkers) config (unwrap_or (fit_at book.moment at book talkers) Fits))
+    by : (b : Bool) → IsOf s (if b then Absent else talker_out (first_talker talkers) config (unwrap_or (fit_at book.moment at book talkers) Fits))
     by true = tt
-    by false = of_out s (talker_of talkers) config (unwrap_or (fit_at book.moment at book talkers) Fits) h
+    by false = of_out s (first_talker talkers) config (unwrap_or (fit_at book.moment at book talkers) Fits) h
 
 of_listener : (s : StreamId) (o : Option ListenerKind) (c : MsrpContent) → option_map contents.Listener o ≡ Some c → Belongs (keys.Listener s) c
 of_listener s None c e = cc
@@ -129,12 +129,12 @@ reg_own s (Advertise t) w h e = by (is_none (check_of t)) e
     by true k = in_class_own s t (class_of_priority t.priority) w h k
     by false k = cc
 
-pub want_own : (at : ℕ) (part : Part) (talkers : List TalkerReg) (s : StreamId) (w : Want) → IsOf s (talker_of talkers) → wanted_at at part talkers s ≡ Some w → w.stream ≡ s
+pub want_own : (at : ℕ) (part : Part) (talkers : List TalkerReg) (s : StreamId) (w : Want) → IsOf s (first_talker talkers) → wanted_at at part talkers s ≡ Some w → w.stream ≡ s
 want_own at part talkers s w h e = by (is_talker_port (suc at) talkers) (is_ready (registered_listener s part)) e
   where
-    by : (a b : Bool) → (if a then None else if b then want_of_reg (talker_of talkers) else None) ≡ Some w → w.stream ≡ s
+    by : (a b : Bool) → (if a then None else if b then want_of_reg (first_talker talkers) else None) ≡ Some w → w.stream ≡ s
     by true b k = cc
-    by false true k = reg_own s (talker_of talkers) w h k
+    by false true k = reg_own s (first_talker talkers) w h k
     by false false k = cc
 
 -- where a stream isn't among those of some keys, neither of its keys is among them

@@ -28,7 +28,7 @@ use Rattle.msrp_codec.specs.declared.pdu.MsrpContent.{MsrpContent}
 use Rattle.msrp_codec.specs.declared.pdu.MsrpContent.TheVariants as contents
 use Rattle.msrp.specs.declared.port.Port.{Port}
 use Rattle.msrp.specs.Part.{Part, key_cmp, stream_cmp, registered_listener, registered_talker, listener_kind_of, settled_part, talker_content, talker_reg_of}
-use Rattle.msrp.specs.Stream.{Registrations, advertise_of, is_listened, is_ready, is_talker_port, listener_at, listener_row, own_listener, stated_at, talk_of, talker_at, talker_of, talkers_of, want_of_reg, want_of_talker, wanted_at}
+use Rattle.msrp.specs.Stream.{Registrations, advertise_of, is_listened, is_ready, is_talker_port, listener_at, listener_row, own_listener, stated_at, talk_of, talker_at, first_talker, talkers_of, want_of_reg, want_of_talker, wanted_at}
 use Rattle.msrp.specs.Settling.{listener_keys, moved_streams, next_book, settled_book, settled_port, settling_keys, streams_in, talker_keys}
 use Rattle.msrp.specs.Side.{Streams, IsKept, IsPort, IsSettled, IsSettledAt, awaiting_at, seen_by, settled_streams}
 use Rattle.msrp.proofs.Places.{decide, each-get, each-set, get-set_other, get-set_same, map-set, map-set_same, opened, or_false}
@@ -98,8 +98,8 @@ same_fit f g (Some w) same = ap (λ x. Some x) (same w)
 talker_same : (laws : MoveLaws) (at : ℕ) (config : PortConfig) (book other : Book) (talkers : List TalkerReg) → IsAscending book.entries → IsAscending other.entries
     → book.caps ≡ other.caps → book.moment ≡ other.moment → booked_of book.entries ≡ booked_of other.entries → talker_at at config book talkers ≡ talker_at at config other talkers
 talker_same laws at config book other talkers up down caps moment booked =
-    let w = option_and_then want_of_talker (talker_in (talker_of talkers)) in
-    ap (λ (o : Option Fit). if is_talker_port (suc at) talkers then Absent else talker_out (talker_of talkers) config (unwrap_or (if is_talker_port (suc at) talkers then None else o) Fits))
+    let w = option_and_then want_of_talker (talker_in (first_talker talkers)) in
+    ap (λ (o : Option Fit). if is_talker_port (suc at) talkers then Absent else talker_out (first_talker talkers) config (unwrap_or (if is_talker_port (suc at) talkers then None else o) Fits))
     (same_fit (fit_for book.moment book) (fit_for book.moment other) w (λ want. laws.fits book other book.moment want up down caps booked)
     ∙ ap (λ (n : ℕ). option_map (fit_for n other) w) moment)
 
@@ -225,7 +225,7 @@ module _ (parts : PartLaws) (books : BookLaws) (moves : MoveLaws) (awaits : Awai
 
   wants_after : (s : StreamId) → wants s ≡ wanted_at at part (talkers_of side.talks (slice_set side.ports at next) s) s
   wants_after s =
-      ap (λ (o : Option ListenerKind). if is_talker_port (suc at) (talkers_of side.talks side.ports s) then None else if is_ready o then want_of_reg (talker_of (talkers_of side.talks side.ports s)) else None) (sym (listener_same s))
+      ap (λ (o : Option ListenerKind). if is_talker_port (suc at) (talkers_of side.talks side.ports s) then None else if is_ready o then want_of_reg (first_talker (talkers_of side.talks side.ports s)) else None) (sym (listener_same s))
       ∙ ap (λ ts. wanted_at at part ts s) (sym (talkers_same s))
 
   settled_here : IsSettled at next [] (seen_by after)

@@ -20,12 +20,12 @@ use Rattle.msrp_codec.specs.declared.pdu.MsrpContent.{MsrpContent}
 use Rattle.msrp.specs.declared.port.Port.{Port}
 use Rattle.msrp.proofs.KeyLemmas.{key_self}
 use Rattle.msrp.specs.Part.{Part, key_cmp, registered_talker, talker_content, talker_reg_of}
-use Rattle.msrp.specs.Stream.{is_present, is_talker_port, talk_of, talker_at, talker_of, talkers_of}
+use Rattle.msrp.specs.Stream.{is_present, is_talker_port, talk_of, talker_at, first_talker, talkers_of}
 use Rattle.msrp.specs.Settling.{talker_key_if, talker_keys, talker_keys_in}
 use Rattle.msrp.proofs.Places.{or_false}
 
 -- nothing is stated and nothing wanted of a stream without a Talker
-pub absent_stated : (at : ℕ) (config : PortConfig) (book : Book) (talkers : List TalkerReg) → talker_of talkers ≡ Absent → talker_content (talker_at at config book talkers) ≡ None
+pub absent_stated : (at : ℕ) (config : PortConfig) (book : Book) (talkers : List TalkerReg) → first_talker talkers ≡ Absent → talker_content (talker_at at config book talkers) ≡ None
 absent_stated at config book talkers none = by (is_talker_port (suc at) talkers) refl
   where
     by : (b : Bool) → is_talker_port (suc at) talkers ≡ b → talker_content (talker_at at config book talkers) ≡ None
@@ -117,7 +117,7 @@ ports_absent rows (p ∷ ports) x h =
     rw (absent_in rows p.part x parts.0) (ports_absent rows ports x parts.1)
 
 -- a stream whose Talker key isn't among those of all streams with a Talker has none
-pub no_talker : HasRows → (talks : List Talker) (ports : List Port) (x : StreamId) → is_awaiting key_cmp (keys.Talker x) (talker_keys talks ports) ≡ false → talker_of (talkers_of talks ports x) ≡ Absent
+pub no_talker : HasRows → (talks : List Talker) (ports : List Port) (x : StreamId) → is_awaiting key_cmp (keys.Talker x) (talker_keys talks ports) ≡ false → first_talker (talkers_of talks ports x) ≡ Absent
 no_talker rows talks ports x h =
     let parts = not_in (keys.Talker x) (map (λ (t : Talker). keys.Talker t.stream) talks) (flat_map (λ (p : Port). talker_keys_in p.part) ports) h in
     let one = own_absent talks x parts.0 in

@@ -20,8 +20,8 @@ abbrev same_rank : Rank → Rank → Bool
 same_rank = rank_equality.eq
 
 -- whether two Talkers state the same, field by field
-abbrev same_talker : Talker → Talker → Bool
-same_talker = talker_equality.eq
+abbrev equal_talkers : Talker → Talker → Bool
+equal_talkers = talker_equality.eq
 
 -- whether two failures name one bridge and one code
 abbrev same_failure : Failure → Failure → Bool
@@ -37,7 +37,7 @@ rank_is Emergency Normal e = cc
 rank_is Normal Emergency e = cc
 rank_is Normal Normal e = refl
 
-talker_is : (s t : Talker) → same_talker s t ≡ true → s ≡ t
+talker_is : (s t : Talker) → equal_talkers s t ≡ true → s ≡ t
 talker_is s t h =
     let vids : Bool = s.vid == t.vid in
     let sizes : Bool = s.max_frame == t.max_frame in

@@ -29,7 +29,7 @@ use Rattle.msrp.specs.declared.port.Port.{Port}
 use Rattle.msrp.specs.declared.asking.SrpRequest.{SrpRequest}
 use Rattle.msrp.specs.declared.asking.SrpRequest.TheVariants.{Talk, Hush, Listen, Unlisten}
 use Rattle.msrp.specs.Part.{Part, key_cmp, received_part, told_by_receipt, pdu_sent, sent_part, HasOwnContents}
-use Rattle.msrp.specs.Stream.{Registrations, registrations_of, talkers_of, talk_of, is_listened, wanted_at, stated_at, heard_by, talker_of as talker_in}
+use Rattle.msrp.specs.Stream.{Registrations, registrations_of, talkers_of, talk_of, is_listened, wanted_at, stated_at, heard_by, first_talker as talker_in}
 use Rattle.msrp.specs.Settling.{keys_of, all_keys_with, listener_keys, talker_keys, moved_streams, next_book, settled_port}
 
 -- the link ports in their order; the keys that await settling at each, ascending; the Talkers of the application,

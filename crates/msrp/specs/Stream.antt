@@ -85,8 +85,8 @@ abbrev pub talker_port : List TalkerReg → Option ℕ
 talker_port talkers = position is_present talkers
 
 -- what is registered there
-abbrev pub talker_of : List TalkerReg → TalkerReg
-talker_of talkers = unwrap_or (find is_present talkers) Absent
+abbrev pub first_talker : List TalkerReg → TalkerReg
+first_talker talkers = unwrap_or (find is_present talkers) Absent
 
 -- whether there is a port, and it has this number
 abbrev pub is_number : ℕ → Option ℕ → Bool
@@ -135,7 +135,7 @@ is_ready (Some kind) = is_ready_kind kind
 abbrev pub wanted_at : ℕ → Part → List TalkerReg → StreamId → Option Want
 wanted_at at s talkers stream =
     if is_talker_port (suc at) talkers then None
-    else if is_ready (registered_listener stream s) then want_of_reg (talker_of talkers) else None
+    else if is_ready (registered_listener stream s) then want_of_reg (first_talker talkers) else None
 
 -- ---- what a link port declares
 
@@ -145,14 +145,14 @@ abbrev pub fit_at : ℕ → ℕ → Book → List TalkerReg → Option Fit
 fit_at now at book talkers =
     if is_talker_port (suc at) talkers then None
     else option_map (fit_for now book)
-    (option_and_then want_of_talker (talker_in (talker_of talkers)))
+    (option_and_then want_of_talker (talker_in (first_talker talkers)))
 
 -- what the link port at a place, with its configuration and its ledger, declares of the Talker: nothing at the
 -- Talker's own port, and elsewhere what `talker_out` makes of what is registered there (35.2.4.3)
 abbrev pub talker_at : ℕ → PortConfig → Book → List TalkerReg → TalkerReg
 talker_at at config book talkers =
     if is_talker_port (suc at) talkers then Absent
-    else talker_out (talker_of talkers) config (unwrap_or (fit_at book.moment at book talkers) Fits)
+    else talker_out (first_talker talkers) config (unwrap_or (fit_at book.moment at book talkers) Fits)
 
 -- whether a Talker is advertised
 abbrev pub is_advertised : TalkerReg → Bool
@@ -163,7 +163,7 @@ is_advertised (Failed talker failure) = false
 -- a listening application counts as Ready, and has the stream where the Talker at the Talker's port is advertised
 abbrev pub own_listener : Registrations → Option PortListener
 own_listener r =
-    if r.listens then Some (record { kind = Ready; booked = is_advertised (talker_of r.talkers) })
+    if r.listens then Some (record { kind = Ready; booked = is_advertised (first_talker r.talkers) })
     else None
 
 -- the Listeners at all ports but the link port at a place
@@ -189,13 +189,13 @@ stated_at at config book regs (keys.Domain class) = None
 -- ---- what the application hears
 
 -- what a Talker lets the application have
-abbrev pub heard_of : TalkerReg → Option ListenerKind
-heard_of Absent = None
-heard_of (Advertise talker) = Some Ready
-heard_of (Failed talker failure) = Some AskingFailed
+abbrev pub heard_from : TalkerReg → Option ListenerKind
+heard_from Absent = None
+heard_from (Advertise talker) = Some Ready
+heard_from (Failed talker failure) = Some AskingFailed
 
 -- what a listening application hears of the stream: Ready where the Talker is advertised, AskingFailed where it
 -- failed; nothing where it doesn't listen, or where no link port is the Talker's port
 abbrev pub heard_by : Registrations → Option ListenerKind
 heard_by r =
-    if r.listens && not (is_talker_port 0 r.talkers) then heard_of (talker_of r.talkers) else None
+    if r.listens && not (is_talker_port 0 r.talkers) then heard_from (first_talker r.talkers) else None

@@ -12,7 +12,7 @@ ghost use Rattle.msrp_talker.specs.TalkerOut.{talker_in};
 ghost use Rattle.msrp_codec.specs.declared.pdu.MsrpContent.TheVariants as contents;
 ghost use Rattle.msrp.specs.declared.port.Port.{Port};
 ghost use Rattle.msrp.specs.Part.{talker_reg_of, listener_kind_of, registered_talker, registered_listener, talker_content};
-ghost use Rattle.msrp.specs.Stream.{talk_of, is_listened, listener_row, registrations_of, talkers_of, want_in_class, is_number, is_present, talker_of, is_talker_port, want_of_talker, want_of_reg, is_ready, wanted_at, fit_at, talker_at, is_advertised, own_listener, other_listeners, heard_of, listener_at, stated_at};
+ghost use Rattle.msrp.specs.Stream.{talk_of, is_listened, listener_row, registrations_of, talkers_of, want_in_class, is_number, is_present, first_talker, is_talker_port, want_of_talker, want_of_reg, is_ready, wanted_at, fit_at, talker_at, is_advertised, own_listener, other_listeners, heard_from, listener_at, stated_at};
 
 use crate::app::MsrpApp;
 use crate::port::Port;
@@ -151,7 +151,7 @@ fn talker_port(ports: &[Port], stream: StreamId) -> Option<TalkerPort>
 
 // What is registered of a stream at its Talker's port.
 pub(crate) fn talker_of(talks: &[Talker], ports: &[Port], stream: StreamId) -> TalkerReg
-    ensures { result ≡ talker_of (talkers_of talks.now ports.now stream) }
+    ensures { result ≡ first_talker (talkers_of talks.now ports.now stream) }
 {
     seen_from(talks, ports, 0, stream).reg
 }
@@ -174,7 +174,7 @@ struct TalkerSeen {
 fn seen_from(talks: &[Talker], ports: &[Port], at: usize, stream: StreamId) -> TalkerSeen
     ensures here { result.is_here ≡ is_talker_port (suc at)
         (talkers_of talks.now ports.now stream) }
-    ensures reg { result.reg ≡ talker_of (talkers_of talks.now ports.now stream) }
+    ensures reg { result.reg ≡ first_talker (talkers_of talks.now ports.now stream) }
 {
     match talk_of(talks, stream) {
         Some(talker) => TalkerSeen {
@@ -397,7 +397,7 @@ fn other_listeners(
     talker: &TalkerReg,
 ) -> Result<Vec<PortListener>, NoMemory>
     requires { at < length ports.now }
-    ensures { (talks : List Talker) → talker.now ≡ talker_of (talkers_of talks ports.now stream)
+    ensures { (talks : List Talker) → talker.now ≡ first_talker (talkers_of talks ports.now stream)
         → IfOk result (λ v. v.items
         ≡ other_listeners at (registrations_of talks listens.now ports.now stream)) }
 {
@@ -483,7 +483,7 @@ pub(crate) fn stated_at(
 
 // What a Talker lets the application have.
 pub(crate) fn heard_of(reg: TalkerReg) -> Option<ListenerKind>
-    ensures { result ≡ heard_of reg }
+    ensures { result ≡ heard_from reg }
 {
     match reg {
         TalkerReg::Absent => None,

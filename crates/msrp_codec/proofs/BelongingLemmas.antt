@@ -13,7 +13,7 @@ use Rattle.msrp_codec.specs.declared.pdu.MsrpPdu.{MsrpPdu}
 use Rattle.msrp_codec.specs.AttributeType.{type_of}
 use Rattle.msrp_codec.specs.FirstValue.{first_value_of}
 use Rattle.msrp_codec.specs.Content.{Belongs}
-use Rattle.msrp_codec.specs.Meaning.{KeyEvent, Reads, event_at, events_from, kind_of, listener_event, message_events, typed_events, vector_events}
+use Rattle.msrp_codec.specs.Meaning.{KeyEvent, SaysMsrp, event_at, events_from, kind_of, listener_event, message_events, typed_events, vector_events}
 
 abbrev pub AreOwn : List KeyEvent → Type 0
 AreOwn events = AllByRecursion (λ (e : KeyEvent). Belongs e.1 e.2) events
@@ -45,7 +45,7 @@ own-typed : (t : Option AttributeType) (vs : List VectorAttr) → AreOwn (typed_
 own-typed None vs = tt
 own-typed (Some t) vs = own-flat (vector_events t) vs (λ v. own-from (first_value_of t v.first) v.params 0 v.events)
 
-pub own-read : (octets : List ℕ) (read : MsrpPdu) → Reads octets read → AreOwn read.events
+pub own-read : (octets : List ℕ) (read : MsrpPdu) → SaysMsrp octets read → AreOwn read.events
 own-read octets read reads =
     let P : MsrpPdu → Type 0 = λ x. AreOwn x.events in
     subst P (sym reads.meant) (own-flat message_events reads.pdu.messages (λ m. own-typed (type_of m.kind) m.vectors))

@@ -10,7 +10,7 @@ use Rattle.mrpdu_codec.specs.declared.pdu.VectorAttr.{VectorAttr}
 use Rattle.mrpdu_codec.specs.declared.pdu.Message.{Message}
 use Rattle.mrpdu_codec.specs.declared.pdu.Pdu.{Pdu}
 use Rattle.mrpdu_codec.specs.Grammar.{Spells}
-use Rattle.mrpdu_codec.specs.Places.{first_places, place_of, StandAt, AllStandAt}
+use Rattle.mrpdu_codec.specs.Places.{first_places, first_value_place, StandAt, AllStandAt}
 use Rattle.msrp_codec.specs.declared.attribute_type.AttributeType.{AttributeType}
 use Rattle.msrp_codec.specs.AttributeType.{type_of}
 use Rattle.msrp_codec.specs.Meaning.{is_in_range, are_in_range, message_in_range, first_past_in, typed_past, message_past, first_past, place_in, PassesEnd}
@@ -180,7 +180,7 @@ place_stands octets (p ∷ ps) (w ∷ vs) zero v stand is = (p, refl)
 place_stands octets (p ∷ ps) (w ∷ vs) (suc y) v stand is = place_stands octets ps vs y v stand.1 is
 
 pub has_place : (octets : List ℕ) (pss : List (List ℕ)) (ms : List Message) (n y : ℕ) (m : Message) (v : VectorAttr) → AllStandAt octets pss ms → slice_get ms n ≡ Some m → slice_get m.vectors y ≡ Some v
-    → (p : ℕ) × (place_of pss n y ≡ Some p)
+    → (p : ℕ) × (first_value_place pss n y ≡ Some p)
 has_place octets pss [] n y m v stand is_message is_vector = absurd cc
 has_place octets [] (w ∷ ms) n y m v stand is_message is_vector = absurd stand
 has_place octets (ps ∷ pss) (w ∷ ms) zero y m v stand is_message is_vector =

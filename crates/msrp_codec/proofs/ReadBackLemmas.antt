@@ -4,7 +4,7 @@ use Rattle.std.specs.Prelude.{slice_index}
 use Rattle.std.specs.List.{flat_map, list_all, AllByRecursion}
 use Rattle.std.specs.Int.{bytes_high_first}
 use Rattle.std.proofs.lemmas.Bool.{and_from, le-leb}
-use Rattle.srp_base.specs.Hexadecimal.{number_of}
+use Rattle.srp_base.specs.Hexadecimal.{number_high_first}
 use Rattle.srp_base.specs.declared.bandwidth.Rank.{Rank}
 use Rattle.srp_base.specs.declared.bandwidth.Rank.TheVariants.{Emergency, Normal}
 use Rattle.srp_base.specs.declared.streams.Talker.{Talker}
@@ -54,12 +54,12 @@ one_octet : (p : ℕ) (r : Rank) → p ≤ 7 → p * 32 + rank_bit r * 16 < 256
 one_octet p Emergency le = omega arith
 one_octet p Normal le = omega arith
 
-module _ (back : (n number : ℕ) → number < 256 ^ n → number_of (bytes_high_first n number) ≡ number) where
+module _ (back : (n number : ℕ) → number < 256 ^ n → number_high_first (bytes_high_first n number) ≡ number) where
   talker_again : (t : Talker) → IsTalker t → talker_of (talker_octets t) ≡ t
   unfolding talker
   talker_again t is =
       let octet = t.priority * 32 + rank_bit t.rank * 16 in
-      let pr : number_of (bytes_high_first 1 octet) ≡ octet = back 1 octet (one_octet t.priority t.rank is.priority) in
+      let pr : number_high_first (bytes_high_first 1 octet) ≡ octet = back 1 octet (one_octet t.priority t.rank is.priority) in
       same_talker _ t.stream.0 _ t.dest _ t.vid _ t.max_frame _ t.frames _ t.priority _ t.rank _ t.latency
       (back 8 t.stream.0 is.stream) (back 6 t.dest is.dest) (back 2 t.vid is.vid) (back 2 t.max_frame is.max_frame) (back 2 t.frames is.frames)
       (ap (λ (n : ℕ). n / 32) pr ∙ priority_again t.priority t.rank)
@@ -68,7 +68,7 @@ module _ (back : (n number : ℕ) → number < 256 ^ n → number_of (bytes_high
 
   failure_again : (t : Talker) (f : Failure) → IsFailure f → failure_of (talker_octets t ++ failure_octets f) ≡ f
   failure_again t f is =
-      ap (λ (n : ℕ). let g : Failure = record { bridge = record { 0 = n }; code = number_of (bytes_high_first 1 f.code) } in g) (back 8 f.bridge.0 is.bridge)
+      ap (λ (n : ℕ). let g : Failure = record { bridge = record { 0 = n }; code = number_high_first (bytes_high_first 1 f.code) } in g) (back 8 f.bridge.0 is.bridge)
       ∙ ap (λ (n : ℕ). let g : Failure = record { bridge = f.bridge; code = n } in g) (back 1 f.code is.code)
 
   -- a FirstValue is read from its octets
@@ -77,8 +77,8 @@ module _ (back : (n number : ℕ) → number < 256 ^ n → number_of (bytes_high
   first_again (Failed t f) is = ap (λ (x : Talker). Failed x (failure_of (talker_octets t ++ failure_octets f))) (talker_again t is.0) ∙ ap (λ (x : Failure). Failed t x) (failure_again t f is.1)
   first_again (Listener stream) is = ap (λ (n : ℕ). Listener (record { 0 = n })) (back 8 stream.0 is)
   first_again (Domain class priority vid) is =
-      ap (λ (n : ℕ). Domain n (number_of (bytes_high_first 1 priority)) (number_of (bytes_high_first 2 vid))) (back 1 class is.0)
-      ∙ ap (λ (n : ℕ). Domain class n (number_of (bytes_high_first 2 vid))) (back 1 priority is.1)
+      ap (λ (n : ℕ). Domain n (number_high_first (bytes_high_first 1 priority)) (number_high_first (bytes_high_first 2 vid))) (back 1 class is.0)
+      ∙ ap (λ (n : ℕ). Domain class n (number_high_first (bytes_high_first 2 vid))) (back 1 priority is.1)
       ∙ ap (λ (n : ℕ). Domain class priority n) (back 2 vid is.2)
 
 -- one value stays within its fields
@@ -151,7 +151,7 @@ pub record IsGood (t : AttributeType) (x : KeyEvent) : Type 0 where
   pub belongs : Belongs x.1 x.2
   pub fits : IsFirst (value_of x.1 x.2)
 
-module _ (back : (n number : ℕ) → number < 256 ^ n → number_of (bytes_high_first n number) ≡ number) where
+module _ (back : (n number : ℕ) → number < 256 ^ n → number_high_first (bytes_high_first n number) ≡ number) where
   read_first : (t : AttributeType) (leave : Bool) (x : KeyEvent) → IsGood t x → first_value_of t (event_vector leave x).first ≡ value_of x.1 x.2
   read_first t leave x good =
       ap (λ (u : AttributeType). first_value_of u (first_octets (value_of x.1 x.2))) (sym good.typed ∙ sym (value_type x.1 x.2))

@@ -6,7 +6,7 @@ use Rattle.std.proofs.lemmas.Bool.{cases_Bool, and_from, le-leb, lt-ltb, ne_eqb,
 use Rattle.std.proofs.lemmas.List.Concat.{flat_map-append}
 use Rattle.std.proofs.lemmas.List.Folds.{list_all-append, list_any-append}
 use Rattle.std.proofs.lemmas.List.Sums.{sum_by-append, sum_by-cons}
-use Rattle.srp_base.specs.Hexadecimal.{number_of}
+use Rattle.srp_base.specs.Hexadecimal.{number_high_first}
 use Rattle.srp_base.specs.declared.mrp.MrpEvent.{MrpEvent}
 use Rattle.srp_base.specs.declared.streams.ListenerKind.{ListenerKind}
 use Rattle.srp_base.specs.declared.streams.ListenerKind.TheVariants.{AskingFailed, Ready, ReadyFailed}
@@ -181,7 +181,7 @@ leave_all_of leave events =
 
 -- ---- what was written is read
 
-module _ (back : (n number : ℕ) → number < 256 ^ n → number_of (bytes_high_first n number) ≡ number) (read : MsrpPdu) (belong : BelongAll read.events) (fit : FitAll read.events) where
+module _ (back : (n number : ℕ) → number < 256 ^ n → number_high_first (bytes_high_first n number) ≡ number) (read : MsrpPdu) (belong : BelongAll read.events) (fit : FitAll read.events) where
   in_range : list_all message_in_range (pdu_for read).messages ≡ true
   in_range = all_of message_in_range read.leave_all read.events (λ t.
       messages_in_range t (type_vectors read.leave_all t (of_type t read.events)) (vectors_in_range back read.leave_all t (of_type t read.events) (good_of_type t read.events belong fit)))

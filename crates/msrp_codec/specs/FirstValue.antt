@@ -2,7 +2,7 @@
 -- numbers stand with the high octet first.
 use Rattle.std.specs.Prelude.{ℕ, ◌+◌, ◌*◌, ◌/◌, ◌%◌, ◌^◌, ◌<◌, ◌≤◌, Bool, ◌&&◌, List, ◌++◌, take, drop, nat_le, ◌==◌, if◌then◌else◌}
 use Rattle.std.specs.Int.{bytes_high_first}
-use Rattle.srp_base.specs.Hexadecimal.{number_of}
+use Rattle.srp_base.specs.Hexadecimal.{number_high_first}
 use Rattle.srp_base.specs.declared.bandwidth.Rank.{Rank}
 use Rattle.srp_base.specs.declared.bandwidth.Rank.TheVariants.{Emergency, Normal}
 use Rattle.srp_base.specs.declared.streams.Talker.{Talker}
@@ -14,7 +14,7 @@ use Rattle.msrp_codec.specs.declared.first_value.FirstValue.TheVariants.{Adverti
 
 -- the number in so many octets at an offset
 abbrev pub field : List ℕ → ℕ → ℕ → ℕ
-field octets at n = number_of (take n (drop at octets))
+field octets at n = number_high_first (take n (drop at octets))
 
 -- the Rank bit: 0 is emergency traffic
 abbrev pub rank_of : ℕ → Rank

@@ -14,7 +14,7 @@ use Rattle.mrpdu_codec.specs.declared.pdu.Pdu.{Pdu}
 use Rattle.mrpdu_codec.specs.Grammar.{Spells, Breaks}
 use Rattle.mrpdu_codec.specs.Reading.{reading}
 use Rattle.mrpdu_codec.specs.Shape.{has_leave_all}
-use Rattle.mrpdu_codec.specs.Places.{first_places, place_of}
+use Rattle.mrpdu_codec.specs.Places.{first_places, first_value_place}
 use Rattle.msrp_codec.specs.declared.attribute_type.AttributeType.{AttributeType}
 use Rattle.msrp_codec.specs.declared.first_value.FirstValue.{FirstValue}
 use Rattle.msrp_codec.specs.declared.first_value.FirstValue.TheVariants.{Advertise, Failed, Listener, Domain}
@@ -122,7 +122,7 @@ first_past i (m ∷ ms) = found_in i (message_past m) (first_past (i + 1) ms)
 -- ---- The reading
 
 -- the octets spell a PDU with this meaning, and all its values stay within their fields
-pub record Reads (octets : List ℕ) (read : MsrpPdu) : Type 0 where
+pub record SaysMsrp (octets : List ℕ) (read : MsrpPdu) : Type 0 where
   pub pdu : Pdu
   pub spelled : Spells Msrp octets pdu
   pub in_range : list_all message_in_range pdu.messages ≡ true
@@ -146,7 +146,7 @@ pub record PassesEnd (octets : List ℕ) (place : ℕ) : Type 0 where
   pub earlier_messages : list_all message_in_range (take message pdu.messages) ≡ true
   pub earlier_vectors : list_all (is_in_range t) (take vector m.vectors) ≡ true
   -- it stands there
-  pub stands : place_of (first_places Msrp octets) message vector ≡ Some place
+  pub stands : first_value_place (first_places Msrp octets) message vector ≡ Some place
 
 -- where octets are malformed: where the grammar breaks, and else where a value passes the end of its field
 pub data MsrpBreaks (octets : List ℕ) (place : ℕ) : Type 0 where
@@ -155,7 +155,7 @@ pub data MsrpBreaks (octets : List ℕ) (place : ℕ) : Type 0 where
 
 -- the place of a vector, by the numbers of its Message and its own; each vector of a PDU has one
 abbrev pub place_in : List ℕ → ℕ × ℕ → ℕ
-place_in octets x = unwrap_or (place_of (first_places Msrp octets) x.0 x.1) 0
+place_in octets x = unwrap_or (first_value_place (first_places Msrp octets) x.0 x.1) 0
 
 -- what a PDU that was read says, unless a value passes the end of its field
 abbrev pub meaning_or_place : List ℕ → Pdu → Option (ℕ × ℕ) → Result MsrpPdu ℕ

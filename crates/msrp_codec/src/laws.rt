@@ -6,7 +6,7 @@ ghost use Rattle.msrp_codec.specs.declared.pdu.MsrpPdu.{MsrpPdu};
 ghost use Rattle.std.specs.List.{AllByRecursion};
 ghost use Rattle.msrp_codec.specs.Content.{Belongs};
 ghost use Rattle.msrp_codec.specs.Key.{compare_keys};
-ghost use Rattle.msrp_codec.specs.Meaning.{KeyEvent, Reads, MsrpBreaks, msrp_reading};
+ghost use Rattle.msrp_codec.specs.Meaning.{KeyEvent, SaysMsrp, MsrpBreaks, msrp_reading};
 ghost use Rattle.msrp_codec.specs.Writing.{AreInRange, IsWritable, as_written, in_type_order, msrp_spelling, of_key, stated_octets};
 
 use crate::pdu::MsrpKey;
@@ -16,7 +16,7 @@ use crate::pdu::MsrpKey;
 /// malformed: where the grammar breaks, or else the first FirstValue whose values pass the end of a field.
 pub fn reading_is_the_grammar()
     ensures reads { (octets : List ℕ) (read : MsrpPdu) → (msrp_reading octets
-        ≡ Ok read) ↔ Reads octets read }
+        ≡ Ok read) ↔ SaysMsrp octets read }
     ensures broken { (octets : List ℕ) (place : ℕ) → (msrp_reading octets
         ≡ Err place) ↔ MsrpBreaks octets place }
 {
@@ -62,6 +62,6 @@ pub fn keys_are_ordered()
 
 /// Of what octets say, each content belongs to its key: a Talker states the stream of its key.
 pub fn what_is_read_belongs_to_its_keys()
-    ensures { (octets : List ℕ) (read : MsrpPdu) → Reads octets read
+    ensures { (octets : List ℕ) (read : MsrpPdu) → SaysMsrp octets read
         → AllByRecursion (λ e. Belongs e.1 e.2) read.events }
 {}

@@ -15,7 +15,7 @@
 //! field that is counted up makes the PDU malformed, at the place of that FirstValue.
 //!
 //! `specs/FirstValue` has each field of a value once, in its order: as it is read, and as it is written.
-//! `specs/Meaning` says what a PDU of `mrpdu_codec` means here (`meaning`), and what octets say: `Reads` and
+//! `specs/Meaning` says what a PDU of `mrpdu_codec` means here (`meaning`), and what octets say: `SaysMsrp` and
 //! `MsrpBreaks` join them through the grammar, and `msrp_reading` is the same as a function. `decode` is that
 //! reading. `specs/Content` says which contents belong to which key and how many octets are stated of each, and
 //! `specs/Writing` has the one spelling. What `encode` writes takes at most 1,500 octets, and reads as the same

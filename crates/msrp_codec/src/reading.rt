@@ -13,7 +13,7 @@ ghost use Rattle.mrpdu_codec.specs.Shape.{has_form};
 ghost use Rattle.msrp_codec.specs.InPlace.{fits_in_place, is_in_range_in_place, events_in_place, event_in_place, values_from, IsSilent};
 ghost use Rattle.msrp_codec.specs.declared.pdu.MsrpPdu.{MsrpPdu};
 ghost use Rattle.msrp_codec.specs.FirstValue.{first_value_of, talkers_fit, values_fit, talker_after};
-ghost use Rattle.msrp_codec.specs.Meaning.{kind_of, events_from, message_events, meaning, first_past_in, message_past, first_past, place_in, Reads, MsrpBreaks, msrp_reading};
+ghost use Rattle.msrp_codec.specs.Meaning.{kind_of, events_from, message_events, meaning, first_past_in, message_past, first_past, place_in, SaysMsrp, MsrpBreaks, msrp_reading};
 
 use crate::attribute_type::AttributeType;
 use crate::first_value::{FirstValue, first_value_of};
@@ -326,7 +326,7 @@ pub fn decode(alloc: Global, octets: &[u8]) -> Result<MsrpPdu, DecodeErr>
     requires { length octets.now < 2 ^ 32 }
 
     // What it answers holds.
-    ensures reads { (read : MsrpPdu) → result ≡ Ok read → Reads octets.now read }
+    ensures reads { (read : MsrpPdu) → result ≡ Ok read → SaysMsrp octets.now read }
     ensures broken { (place : ℕ) → result ≡ Err (errors.Malformed place)
         → MsrpBreaks octets.now place }
 

@@ -25,13 +25,13 @@ check_of talker =
     else if nat_lt 1500 talker.max_frame then Some 14 else None
 
 -- the failure code of what doesn't fit
-abbrev pub code_of : Fit → Option ℕ
-code_of Fits = None
-code_of (TooLittle more_important cap code) = Some code
+abbrev pub fit_code : Fit → Option ℕ
+fit_code Fits = None
+fit_code (TooLittle more_important cap code) = Some code
 
 -- the code for which a port refuses an advertised Talker: what no port can serve comes before what doesn't fit
 abbrev pub refusal_of : Talker → Fit → Option ℕ
-refusal_of talker fit = option_or (check_of talker) (code_of fit)
+refusal_of talker fit = option_or (check_of talker) (fit_code fit)
 
 -- a Talker whose accumulated latency has grown, in ns; it stands still at the greatest number of 32 bits
 abbrev pub delayed_by : ℕ → Talker → Talker

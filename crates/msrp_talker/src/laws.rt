@@ -9,7 +9,7 @@ ghost use Rattle.srp_base.specs.declared.streams.TalkerReg.TheVariants.{Absent, 
 ghost use Rattle.stream_importance.specs.declared.entry.Fit.{Fit};
 ghost use Rattle.stream_importance.specs.declared.entry.Fit.TheVariants.{Fits};
 ghost use Rattle.msrp_talker.specs.declared.port_config.PortConfig.{PortConfig};
-ghost use Rattle.msrp_talker.specs.TalkerOut.{check_of, code_of, delayed_by, IsCarriedOn, IsOfPort, refusal_of, statement_of, talker_in, talker_out};
+ghost use Rattle.msrp_talker.specs.TalkerOut.{check_of, fit_code, delayed_by, IsCarriedOn, IsOfPort, refusal_of, statement_of, talker_in, talker_out};
 
 /// A Talker is advertised onwards exactly where it is advertised, `check` finds nothing, and it fits.
 pub fn advertised_where_it_fits()
@@ -34,7 +34,7 @@ pub fn bandwidth_codes_come_of_the_fit()
     ensures { (talker : Talker) (fit : Fit) (code : ℕ)
         → (code ≡ 1) ⊎ (code ≡ 6)
         → refusal_of talker fit ≡ Some code
-        → (check_of talker ≡ None) × (code_of fit ≡ Some code) }
+        → (check_of talker ≡ None) × (fit_code fit ≡ Some code) }
 {}
 
 /// A port declares a Talker exactly where one is registered, and changes nothing that the Talker states.

@@ -1,7 +1,7 @@
 //! A port as a Talker's declaration goes out of it.
 
 ghost use Rattle.std.specs.Prelude.{◌≡◌};
-ghost use Rattle.msrp_talker.specs.TalkerOut.{code_of, declared_of, delayed_by, refusal_of, talker_out as talker_out_spec};
+ghost use Rattle.msrp_talker.specs.TalkerOut.{fit_code, declared_of, delayed_by, refusal_of, talker_out as talker_out_spec};
 
 use crate::class::check;
 use srp_base::{BridgeId, Failure, Talker, TalkerReg};
@@ -53,7 +53,7 @@ fn refusal(talker: &Talker, fit: Fit) -> Option<u8>
 }
 
 fn code_of(fit: Fit) -> Option<u8>
-    ensures { result ≡ code_of fit }
+    ensures { result ≡ fit_code fit }
 {
     match fit {
         Fit::Fits => None,

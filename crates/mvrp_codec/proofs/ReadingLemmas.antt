@@ -6,7 +6,7 @@ use Rattle.std.proofs.lemmas.List.{append-nil, drop_all, drop_more}
 use Rattle.std.proofs.lemmas.List.Folds.{flat_map-map}
 use Rattle.srp_base.specs.declared.mrp.MrpEvent.{MrpEvent}
 use Rattle.mrpdu_codec.specs.declared.raw.RawMessage.{RawMessage}
-use Rattle.mrpdu_codec.specs.Octets.{event_of, three_events}
+use Rattle.mrpdu_codec.specs.Octets.{event_numbered, three_events}
 use Rattle.mrpdu_codec.specs.Raw.{attr_in, message_in}
 use Rattle.mvrp_codec.specs.Meaning.{event_at, events_from, events_in_place, vector_events, message_events}
 
@@ -65,7 +65,7 @@ octet_ends octet n m events first vid i old done is few le so_far =
     sym (append-nil done)
     ∙ ap (λ (es : List MrpEvent). done ++ events_from vid es) (sym (drop_all i (take m events) le))
     ∙ so_far
-    ∙ ap (λ (es : List MrpEvent). old ++ events_from first es) (ap (take m) is ∙ take_three n m (event_of (octet / 36)) (event_of (octet / 6 % 6)) (event_of (octet % 6)) few)
+    ∙ ap (λ (es : List MrpEvent). old ++ events_from first es) (ap (take m) is ∙ take_three n m (event_numbered (octet / 36)) (event_numbered (octet / 6 % 6)) (event_numbered (octet % 6)) few)
 
 pub events_go_on : (done more total : List (MrpEvent × ℕ)) (vid n i : ℕ) (packed : List ℕ) → i < length packed
     → done ++ events_from vid (take n (flat_map three_events (drop i packed))) ≡ total → more ≡ done ++ events_from vid (take n (three_events (get_or packed i 0)))
@@ -76,7 +76,7 @@ events_go_on done more total vid n i packed lt so_far e =
     let later = events_from (vid + 3) (take (n - 3) (flat_map three_events (drop (i + 1) packed))) in
     let split : events_from vid (take n (flat_map three_events (drop i packed))) ≡ here ++ later =
     ap (λ (os : List ℕ). events_from vid (take n (flat_map three_events os))) (drop_more packed i 0 lt)
-    ∙ octet_more vid n (event_of (octet / 36)) (event_of (octet / 6 % 6)) (event_of (octet % 6)) (flat_map three_events (drop (i + 1) packed)) in
+    ∙ octet_more vid n (event_numbered (octet / 36)) (event_numbered (octet / 6 % 6)) (event_numbered (octet % 6)) (flat_map three_events (drop (i + 1) packed)) in
     ap (λ (es : List (MrpEvent × ℕ)). es ++ later) e ∙ append_assoc done here later ∙ ap (λ (es : List (MrpEvent × ℕ)). done ++ es) (sym split) ∙ so_far
 
 -- no octet is left

@@ -45,7 +45,7 @@ abbrev pub meaning : Pdu → MvrpPdu
 meaning pdu = record { leave_all = has_leave_all pdu; events = flat_map message_events pdu.messages }
 
 -- the octets spell a PDU with this meaning
-pub record Reads (octets : List ℕ) (read : MvrpPdu) : Type 0 where
+pub record SaysMvrp (octets : List ℕ) (read : MvrpPdu) : Type 0 where
   pub pdu : Pdu
   pub spelled : Spells Mvrp octets pdu
   pub meant : read ≡ meaning pdu

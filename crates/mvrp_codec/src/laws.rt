@@ -6,14 +6,14 @@ ghost use Rattle.srp_base.specs.declared.mrp.MrpEvent.{MrpEvent};
 ghost use Rattle.mrpdu_codec.specs.declared.form.AppForm.TheVariants.{Mvrp};
 ghost use Rattle.mrpdu_codec.specs.Grammar.{Breaks};
 ghost use Rattle.mvrp_codec.specs.declared.pdu.MvrpPdu.{MvrpPdu};
-ghost use Rattle.mvrp_codec.specs.Meaning.{Reads, mvrp_reading};
+ghost use Rattle.mvrp_codec.specs.Meaning.{SaysMvrp, mvrp_reading};
 ghost use Rattle.mvrp_codec.specs.Writing.{streaks, AreMaximal, events_of_streaks, mvrp_spelling, IsWritable, AreVids};
 
 /// The reading as a function is the grammar with the meaning of a PDU: octets read as exactly what the
 /// PDU that they spell says, or as exactly the place where they break.
 pub fn reading_is_the_grammar()
     ensures reads { (octets : List ℕ) (read : MvrpPdu)
-        → (mvrp_reading octets ≡ Ok read) ↔ Reads octets read }
+        → (mvrp_reading octets ≡ Ok read) ↔ SaysMvrp octets read }
     ensures broken { (octets : List ℕ) (place : ℕ)
         → (mvrp_reading octets ≡ Err place) ↔ Breaks Mvrp octets place }
 {

@@ -8,7 +8,7 @@ ghost use Rattle.mrpdu_codec.specs.Grammar.{Breaks};
 ghost use Rattle.mvrp_codec.specs.declared.pdu.MvrpPdu.{MvrpPdu};
 ghost use Rattle.mrpdu_codec.specs.Octets.{three_events};
 ghost use Rattle.mrpdu_codec.specs.Raw.{pdu_in};
-ghost use Rattle.mvrp_codec.specs.Meaning.{first_vid, event_at, events_from, events_in_place, meaning, Reads, mvrp_reading};
+ghost use Rattle.mvrp_codec.specs.Meaning.{first_vid, event_at, events_from, events_in_place, meaning, SaysMvrp, mvrp_reading};
 ghost use Rattle.mrpdu_codec.specs.Reading.{Answers};
 
 use crate::pdu::MvrpPdu;
@@ -130,7 +130,7 @@ pub fn decode(alloc: Global, octets: &[u8]) -> Result<MvrpPdu, DecodeErr>
     requires { length octets.now < 2 ^ 32 }
 
     // What it answers holds.
-    ensures reads { (read : MvrpPdu) → result ≡ Ok read → Reads octets.now read }
+    ensures reads { (read : MvrpPdu) → result ≡ Ok read → SaysMvrp octets.now read }
     ensures broken { (place : ℕ)
         → result ≡ Err (errors.Malformed place) → Breaks Mvrp octets.now place }
 

@@ -25,7 +25,7 @@ use Rattle.msrp_codec.specs.declared.pdu.MsrpKey.TheVariants as keys
 use Rattle.msrp_talker.specs.TalkerOut.{talker_in}
 use Rattle.msrp.specs.declared.port.Port.{Port}
 use Rattle.msrp.specs.Part.{registered_talker, registered_listener, key_cmp, talker_reg_of}
-use Rattle.msrp.specs.Stream.{Registrations, is_present, is_advertised, is_number, talker_port, is_talker_port, is_ready, talk_of, talker_of, listener_at, fit_at, want_of_talker, heard_by, heard_of as heard_in}
+use Rattle.msrp.specs.Stream.{Registrations, is_present, is_advertised, is_number, talker_port, is_talker_port, is_ready, talk_of, first_talker, listener_at, fit_at, want_of_talker, heard_by, heard_from as heard_in}
 use Rattle.msrp.specs.Side.{place_of, seen_by, has_listen, heard_of}
 use Rattle.node_core.specs.State.{NodeState}
 use Rattle.world_core.specs.World.{WorldState, node_at}
@@ -94,16 +94,16 @@ advertised-present Absent h = cc
 advertised-present (Advertise u) h = refl
 advertised-present (Failed u f) h = refl
 
-heard-from : (r : Registrations) → r.listens ≡ true → is_talker_port 0 r.talkers ≡ false → is_advertised (talker_of r.talkers) ≡ true → is_ready_heard (heard_by r) ≡ true
-heard-from r l e a = rw l (rw e (advertised-heard (talker_of r.talkers) a))
+heard-from : (r : Registrations) → r.listens ≡ true → is_talker_port 0 r.talkers ≡ false → is_advertised (first_talker r.talkers) ≡ true → is_ready_heard (heard_by r) ≡ true
+heard-from r l e a = rw l (rw e (advertised-heard (first_talker r.talkers) a))
 
-heard-parts : (r : Registrations) → is_ready_heard (heard_by r) ≡ true → (r.listens ≡ true) × (is_talker_port 0 r.talkers ≡ false) × (is_advertised (talker_of r.talkers) ≡ true)
+heard-parts : (r : Registrations) → is_ready_heard (heard_by r) ≡ true → (r.listens ≡ true) × (is_talker_port 0 r.talkers ≡ false) × (is_advertised (first_talker r.talkers) ≡ true)
 heard-parts r h = by r.listens (is_talker_port 0 r.talkers) refl refl
   where
-    by : (a b : Bool) → r.listens ≡ a → is_talker_port 0 r.talkers ≡ b → (r.listens ≡ true) × (is_talker_port 0 r.talkers ≡ false) × (is_advertised (talker_of r.talkers) ≡ true)
+    by : (a b : Bool) → r.listens ≡ a → is_talker_port 0 r.talkers ≡ b → (r.listens ≡ true) × (is_talker_port 0 r.talkers ≡ false) × (is_advertised (first_talker r.talkers) ≡ true)
     by false b e f = let off : is_ready_heard (heard_by r) ≡ false = rw e refl in cc
     by true true e f = let off : is_ready_heard (heard_by r) ≡ false = rw e (rw f refl) in cc
-    by true false e f = let here : is_ready_heard (heard_by r) ≡ is_ready_heard (heard_in (talker_of r.talkers)) = rw e (rw f refl) in (e, f, heard-advertised (talker_of r.talkers) (sym here ∙ h))
+    by true false e f = let here : is_ready_heard (heard_by r) ≡ is_ready_heard (heard_in (first_talker r.talkers)) = rw e (rw f refl) in (e, f, heard-advertised (first_talker r.talkers) (sym here ∙ h))
 
 -- a failure for want of bandwidth
 failure-parts : (x : TalkerReg) (f : Failure) → bandwidth_failure x ≡ Some f → (u : Talker) × (x ≡ Failed u f) × IsOfBandwidth f.code
@@ -218,12 +218,12 @@ module _ (w : WorldState) (still : AreStreamsStill w) (stream : StreamId) (kept 
           where
             by-port : (b : At w still stream kept q.0) → is_advertised (reg w still stream kept q.0) ≡ true
                 → (q.0.node.0 ≡ t) ⊎ ((r : EgressPort) × Sibling w still stream kept q.0 b r × (is_behind w.tree.links r t ≡ true)
-                × (is_talker_port (suc (place_of r.port)) (regs w still stream kept b).talkers ≡ true) × (talker_of (regs w still stream kept b).talkers ≡ reg w still stream kept r))
+                × (is_talker_port (suc (place_of r.port)) (regs w still stream kept b).talkers ≡ true) × (first_talker (regs w still stream kept b).talkers ≡ reg w still stream kept r))
                 → hears_ready w stream l ≡ true
             by-port b here (inl e) = absurd (is-not (is_talked_at w stream l) mute (ap (is_talked_at w stream) (sym q.2 ∙ e) ∙ k.talks))
             by-port b here (inr r) =
                 let same-r : r.0 ≡ q.0 = still.laws.one_port r.0 q.0 t r.1.port q.1 (ap (λ x. x.0) r.1.node) r.2 q.3 in
-                let adv : is_advertised (talker_of (regs w still stream kept b).talkers) ≡ true = ap is_advertised (r.4 ∙ ap (reg w still stream kept) same-r) ∙ here in
+                let adv : is_advertised (first_talker (regs w still stream kept b).talkers) ≡ true = ap is_advertised (r.4 ∙ ap (reg w still stream kept) same-r) ∙ here in
                 let away = not-zero (place_of r.0.port) (talker_port (regs w still stream kept b).talkers) r.3 in
                 let same : n.s ≡ b.s = one-some (node_at (record { 0 = l }) w) n.s b.s n.node (ap (λ (y : ℕ). node_at (record { 0 = y }) w) (sym q.2) ∙ b.node) in
                 let hears : is_ready_heard (heard_by (seen_by b.s.streams stream)) ≡ true =
@@ -241,11 +241,11 @@ module _ (w : WorldState) (still : AreStreamsStill w) (stream : StreamId) (kept 
     to-path : (l : ℕ) → HasNode w.tree l → ListensAt l → hears_ready w stream l ≡ true → is_path_booked w stream l ≡ true
     to-path l node n hears =
         let parts = heard-parts (seen_by n.s.streams stream) (sym (hears-is l n) ∙ hears) in
-        let m = port-of-present (seen_by n.s.streams stream).talkers (advertised-present (talker_of (seen_by n.s.streams stream).talkers) parts.2) in
+        let m = port-of-present (seen_by n.s.streams stream).talkers (advertised-present (first_talker (seen_by n.s.streams stream).talkers) parts.2) in
         at-port-of parts m.0 m.1 m.2
       where
         Heard : Type 0
-        Heard = ((seen_by n.s.streams stream).listens ≡ true) × (is_talker_port 0 (seen_by n.s.streams stream).talkers ≡ false) × (is_advertised (talker_of (seen_by n.s.streams stream).talkers) ≡ true)
+        Heard = ((seen_by n.s.streams stream).listens ≡ true) × (is_talker_port 0 (seen_by n.s.streams stream).talkers ≡ false) × (is_advertised (first_talker (seen_by n.s.streams stream).talkers) ≡ true)
 
         by-port : Heard → (q : EgressPort) (hq : HasPort w.tree q) (b : At w still stream kept q) → q.node.0 ≡ l → b.s ≡ n.s → (j : ℕ) → TalkersAt w still stream kept q b (suc j) → (x : TalkerReg) → IsTalkers (regs w still stream kept b).talkers (suc j) x
             → is_path_booked w stream l ≡ true
@@ -260,8 +260,8 @@ module _ (w : WorldState) (still : AreStreamsStill w) (stream : StreamId) (kept 
             let far : far_node w.tree.links p ≡ l = still.laws.peer_back r hr ∙ (ap (λ z. z.0) sib.node ∙ eq) in
             let c = at-port w still stream kept p hp in
             let all-same : sib.at.s ≡ n.s = sib.same ∙ same in
-            let adv : is_advertised (talker_of (seen_by sib.at.s.streams stream).talkers) ≡ true = ap (λ (s : NodeState). is_advertised (talker_of (seen_by s.streams stream).talkers)) all-same ∙ parts.2 in
-            let adv-r : is_advertised (reg w still stream kept r) ≡ true = ap is_advertised (sym is) ∙ (ap (λ (s : NodeState). is_advertised (talker_of (seen_by s.streams stream).talkers)) same ∙ parts.2) in
+            let adv : is_advertised (first_talker (seen_by sib.at.s.streams stream).talkers) ≡ true = ap (λ (s : NodeState). is_advertised (first_talker (seen_by s.streams stream).talkers)) all-same ∙ parts.2 in
+            let adv-r : is_advertised (reg w still stream kept r) ≡ true = ap is_advertised (sym is) ∙ (ap (λ (s : NodeState). is_advertised (first_talker (seen_by s.streams stream).talkers)) same ∙ parts.2) in
             let told = ap is_advertised (sym (near-talker w still stream kept r hr c)) ∙ adv-r in
             let port : is_talker_port (suc (place_of r.port)) (regs w still stream kept b).talkers ≡ true =
             is-port (regs w still stream kept b).talkers (suc j) x (suc (place_of r.port)) m ∙ (ap (λ i. i == suc (place_of r.port)) e ∙ same-port (suc (place_of r.port))) in
@@ -427,7 +427,7 @@ module _ (w : WorldState) (still : AreStreamsStill w) (stream : StreamId) (kept 
     fit-there l f d now e =
         let r = d.refusing in
         let u = r.refuses in
-        let wants : option_and_then want_of_talker (talker_in (talker_of (regs w still stream kept r.a).talkers)) ≡ Some u.want =
+        let wants : option_and_then want_of_talker (talker_in (first_talker (regs w still stream kept r.a).talkers)) ≡ Some u.want =
         ap (λ reg. option_and_then want_of_talker (talker_in reg)) u.advertised ∙ u.wants in
         let here : fit_at now (place_of r.p.port) r.a.port.ledger (regs w still stream kept r.a).talkers ≡ Some (fit_for now r.a.port.ledger u.want) =
         rw r.elsewhere (rw wants refl) in

@@ -28,7 +28,7 @@ use Rattle.msrp_codec.specs.declared.pdu.MsrpKey.TheVariants as keys
 use Rattle.msrp_listener.specs.declared.port_listener.PortListener.{PortListener}
 use Rattle.msrp.specs.declared.port.Port.{Port}
 use Rattle.msrp.specs.Part.{key_cmp, registered_talker, registered_listener, talker_reg_of, listener_kind_of}
-use Rattle.msrp.specs.Stream.{Registrations, advertise_of, talk_of, is_present, is_advertised, is_talker_port, is_ready, listener_row, talker_of, talker_at, listener_at, wanted_at, want_of_talker}
+use Rattle.msrp.specs.Stream.{Registrations, advertise_of, talk_of, is_present, is_advertised, is_talker_port, is_ready, listener_row, first_talker, talker_at, listener_at, wanted_at, want_of_talker}
 use Rattle.msrp_talker.specs.TalkerOut.{talker_in}
 use Rattle.msrp.specs.Side.{Streams, IsKept, IsPort, IsSettled, place_of, has_talk, seen_by}
 use Rattle.node_core.specs.State.{NodeState, if_booked, booked_at}
@@ -239,7 +239,7 @@ module _ (w : WorldState) (still : AreStreamsStill w) (stream : StreamId) (kept-
   -- the Talker's port is the application, or a link port
   pub data TalkersAt (p : EgressPort) (a : At p) (n : ℕ) : Type 0 where
     at-app : n ≡ 0 → has_talk stream a.s.streams ≡ true → TalkersAt p a n
-    at-link : (r : EgressPort) → Sibling p a r → n ≡ suc (place_of r.port) → test r ≡ true → talker_of (regs a).talkers ≡ reg r → TalkersAt p a n
+    at-link : (r : EgressPort) → Sibling p a r → n ≡ suc (place_of r.port) → test r ≡ true → first_talker (regs a).talkers ≡ reg r → TalkersAt p a n
 
   pub talkers-at : (p : EgressPort) (h : HasPort w.tree p) (a : At p) (n : ℕ) (x : TalkerReg) → IsTalkers (regs a).talkers n x → TalkersAt p a n
   talkers-at p h a zero x t =
@@ -391,15 +391,15 @@ module _ (w : WorldState) (still : AreStreamsStill w) (stream : StreamId) (kept-
       pub leads : behind r t ≡ true
       pub differs : r ≢ p
       pub is_port : is_talker_port (suc (place_of r.port)) (regs a).talkers ≡ true
-      pub is_reg : talker_of (regs a).talkers ≡ reg r
+      pub is_reg : first_talker (regs a).talkers ≡ reg r
 
     -- at any port: the node is the station, or a port leads there
     pub towards : (p : EgressPort) (h : HasPort w.tree p) (a : At p)
-        → (p.node.0 ≡ t) ⊎ ((r : EgressPort) × Sibling p a r × (behind r t ≡ true) × (is_talker_port (suc (place_of r.port)) (regs a).talkers ≡ true) × (talker_of (regs a).talkers ≡ reg r))
+        → (p.node.0 ≡ t) ⊎ ((r : EgressPort) × Sibling p a r × (behind r t ≡ true) × (is_talker_port (suc (place_of r.port)) (regs a).talkers ≡ true) × (first_talker (regs a).talkers ≡ reg r))
     towards p h a = by (laws.some_port p.node.0 t h.0 talks.node)
       where
         by : (p.node.0 ≡ t) ⊎ ((r : EgressPort) × HasPort w.tree r × (r.node.0 ≡ p.node.0) × (behind r t ≡ true))
-            → (p.node.0 ≡ t) ⊎ ((r : EgressPort) × Sibling p a r × (behind r t ≡ true) × (is_talker_port (suc (place_of r.port)) (regs a).talkers ≡ true) × (talker_of (regs a).talkers ≡ reg r))
+            → (p.node.0 ≡ t) ⊎ ((r : EgressPort) × Sibling p a r × (behind r t ≡ true) × (is_talker_port (suc (place_of r.port)) (regs a).talkers ≡ true) × (first_talker (regs a).talkers ≡ reg r))
         by (inl e) = inl e
         by (inr r) =
             let s = sibling p h a r.0 r.1 (ap (λ (n : ℕ). record { 0 = n }) r.2) in
@@ -407,7 +407,7 @@ module _ (w : WorldState) (still : AreStreamsStill w) (stream : StreamId) (kept-
             inr (found r.0 s r.3 n.0 n.1 n.2 (talkers-at p h a n.0 n.1 n.2))
           where
             found : (r : EgressPort) (s : Sibling p a r) → behind r t ≡ true → (n : ℕ) (x : TalkerReg) → IsTalkers (regs a).talkers n x → TalkersAt p a n
-                → (r : EgressPort) × Sibling p a r × (behind r t ≡ true) × (is_talker_port (suc (place_of r.port)) (regs a).talkers ≡ true) × (talker_of (regs a).talkers ≡ reg r)
+                → (r : EgressPort) × Sibling p a r × (behind r t ≡ true) × (is_talker_port (suc (place_of r.port)) (regs a).talkers ≡ true) × (first_talker (regs a).talkers ≡ reg r)
             found r s k n x m (at-app z o) =
                 let e : p.node.0 ≡ t = one-talker p.node.0 (record { node = h.0; talks = own-from p a o }) in
                 absurd (laws.own r s.port (ap (λ y. behind r y) (ap (λ x. x.0) s.node ∙ e) ∙ k))
@@ -417,13 +417,13 @@ module _ (w : WorldState) (still : AreStreamsStill w) (stream : StreamId) (kept-
     step-back : (p : EgressPort) (h : HasPort w.tree p) (a : At p) → behind p t ≡ false → (p.node.0 ≡ t) ⊎ ((r : EgressPort) × Towards p a r)
     step-back p h a off = by (towards p h a)
       where
-        by : (p.node.0 ≡ t) ⊎ ((r : EgressPort) × Sibling p a r × (behind r t ≡ true) × (is_talker_port (suc (place_of r.port)) (regs a).talkers ≡ true) × (talker_of (regs a).talkers ≡ reg r))
+        by : (p.node.0 ≡ t) ⊎ ((r : EgressPort) × Sibling p a r × (behind r t ≡ true) × (is_talker_port (suc (place_of r.port)) (regs a).talkers ≡ true) × (first_talker (regs a).talkers ≡ reg r))
             → (p.node.0 ≡ t) ⊎ ((r : EgressPort) × Towards p a r)
         by (inl e) = inl e
         by (inr r) = inr (r.0, record { sib = r.1; leads = r.2; differs = (λ e. is-not (behind p t) off (ap (λ x. behind x t) (sym e) ∙ r.2)); is_port = r.3; is_reg = r.4 })
 
     -- the station's own node: the Talker's port is the application
-    at-station : (p : EgressPort) (h : HasPort w.tree p) (a : At p) → p.node.0 ≡ t → talker_of (regs a).talkers ≡ advertise_of (talk_of stream a.s.streams.talks)
+    at-station : (p : EgressPort) (h : HasPort w.tree p) (a : At p) → p.node.0 ≡ t → first_talker (regs a).talkers ≡ advertise_of (talk_of stream a.s.streams.talks)
     at-station p h a e =
         let talk : is_present (advertise_of (talk_of stream a.s.streams.talks)) ≡ true =
         talks-present (talk_of stream a.s.streams.talks) ∙ own-talk p a (ap own e ∙ talks.talks) in
@@ -530,7 +530,7 @@ module _ (w : WorldState) (still : AreStreamsStill w) (stream : StreamId) (kept-
     advertised-asks (Some u) = refl
 
     asks-there : (p : EgressPort) (h : HasPort w.tree p) (a : At p) → p.node.0 ≡ t → (s : NodeState) → node_at (record { 0 = t }) w ≡ Some s
-        → asked (talker_of (regs a).talkers) ≡ wants_of s
+        → asked (first_talker (regs a).talkers) ≡ wants_of s
     asks-there p h a e s f =
         let same : a.s ≡ s = one (node_at p.node w) a.s s a.node (ap (λ (n : ℕ). node_at (record { 0 = n }) w) e ∙ f) in
         ap asked (at-station p h a e) ∙ (advertised-asks (talk_of stream a.s.streams.talks) ∙ ap wants_of same)
@@ -544,11 +544,11 @@ module _ (w : WorldState) (still : AreStreamsStill w) (stream : StreamId) (kept-
         let b = at-port (q_of p) hq in
         let parts = declared-present (place_of (q_of p).port) b.port.config b.port.ledger (regs b).talkers (sym (ap is_present (near-talker p h b)) ∙ behind-registered p h k) in
         ap asked (near-talker p h b ∙ declares (place_of (q_of p).port) b.port.config b.port.ledger (regs b).talkers parts.0)
-        ∙ (out-wants (talker_of (regs b).talkers) b.port.config (fit_of_reg b.port.ledger (talker_of (regs b).talkers))
+        ∙ (out-wants (first_talker (regs b).talkers) b.port.config (fit_of_reg b.port.ledger (first_talker (regs b).talkers))
         ∙ by b (step-back (q_of p) hq b (other-side p h k)) (λ r hr less b. states n r hr less b s e))
       where
         by : (b : At (q_of p)) → ((q_of p).node.0 ≡ t) ⊎ ((r : EgressPort) × Towards (q_of p) b r)
-            → ((r : EgressPort) (hr : HasPort w.tree r) → count r < n → behind r t ≡ true → asked (reg r) ≡ wants_of s) → asked (talker_of (regs b).talkers) ≡ wants_of s
+            → ((r : EgressPort) (hr : HasPort w.tree r) → count r < n → behind r t ≡ true → asked (reg r) ≡ wants_of s) → asked (first_talker (regs b).talkers) ≡ wants_of s
         by b (inl f) further = asks-there (q_of p) (laws.peer_port p h) b f s e
         by b (inr r) further =
             let hr = r.1.sib.port in
@@ -569,8 +569,8 @@ module _ (w : WorldState) (still : AreStreamsStill w) (stream : StreamId) (kept-
       pub i : ℕ
       pub on : slice_get (path_between w.tree.links t l) i ≡ Some p
       pub elsewhere : is_talker_port (suc (place_of p.port)) (regs a).talkers ≡ false
-      pub refuses : Refuses a.port.config a.port.ledger (talker_of (regs a).talkers) f
-      pub wants : asked (talker_of (regs a).talkers) ≡ wants_of s
+      pub refuses : Refuses a.port.config a.port.ledger (first_talker (regs a).talkers) f
+      pub wants : asked (first_talker (regs a).talkers) ≡ wants_of s
 
     get-front : {X : Type 0} (xs ys : List X) (i : ℕ) (x : X) → slice_get xs i ≡ Some x → slice_get (xs ++ ys) i ≡ Some x
     get-front [] ys i x h = cc
@@ -606,7 +606,7 @@ module _ (w : WorldState) (still : AreStreamsStill w) (stream : StreamId) (kept-
         by a (step-back p h a off) (failed-at (place_of p.port) a.port.config a.port.ledger (regs a).talkers u f (sym (far-talker p h a) ∙ k) code)
         (λ q hq less away v g. refusing n q hq less away s e v f g code)
       where
-        wants-here : (a : At p) → (p.node.0 ≡ t) ⊎ ((r : EgressPort) × Towards p a r) → asked (talker_of (regs a).talkers) ≡ wants_of s
+        wants-here : (a : At p) → (p.node.0 ≡ t) ⊎ ((r : EgressPort) × Towards p a r) → asked (first_talker (regs a).talkers) ≡ wants_of s
         wants-here a (inl f) = asks-there p h a f s e
         wants-here a (inr r) = ap asked r.1.is_reg ∙ states-the-same r.0 r.1.sib.port r.1.leads s e
 
@@ -614,7 +614,7 @@ module _ (w : WorldState) (still : AreStreamsStill w) (stream : StreamId) (kept-
         elsewhere a x = (declared-present (place_of p.port) a.port.config a.port.ledger (regs a).talkers x).0
 
         by : (a : At p) → (p.node.0 ≡ t) ⊎ ((r : EgressPort) × Towards p a r)
-            → ((v : Talker) × (talker_of (regs a).talkers ≡ Failed v f)) ⊎ Refuses a.port.config a.port.ledger (talker_of (regs a).talkers) f
+            → ((v : Talker) × (first_talker (regs a).talkers ≡ Failed v f)) ⊎ Refuses a.port.config a.port.ledger (first_talker (regs a).talkers) f
             → ((q : EgressPort) (hq : HasPort w.tree q) → count (q_of q) < n → behind q t ≡ false → (v : Talker) → reg (q_of q) ≡ Failed v f → Refusing (far q) f s)
             → Refusing (far p) f s
         by a where_ (inr refuses) further =

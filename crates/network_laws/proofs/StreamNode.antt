@@ -27,7 +27,7 @@ use Rattle.msrp_listener.specs.Merging.{merge_of, counted_kind, listener_out}
 use Rattle.msrp_codec.specs.declared.pdu.MsrpContent.TheVariants as contents
 use Rattle.msrp.specs.declared.port.Port.{Port}
 use Rattle.msrp.specs.Part.{Part, registered_listener, talker_content, talker_reg_of, listener_kind_of}
-use Rattle.msrp.specs.Stream.{Registrations, is_present, is_advertised, is_number, is_talker_port, is_ready, is_ready_kind, talker_port, talker_of, talker_at, want_of_talker, want_of_reg, want_in_class, wanted_at, listener_at, own_listener, other_listeners}
+use Rattle.msrp.specs.Stream.{Registrations, is_present, is_advertised, is_number, is_talker_port, is_ready, is_ready_kind, talker_port, first_talker, talker_at, want_of_talker, want_of_reg, want_in_class, wanted_at, listener_at, own_listener, other_listeners}
 
 -- ---- the Talker's port
 
@@ -36,7 +36,7 @@ pub record IsTalkers (xs : List TalkerReg) (n : ℕ) (x : TalkerReg) : Type 0 wh
   pub at : slice_get xs n ≡ Some x
   pub present : is_present x ≡ true
   pub port : talker_port xs ≡ Some n
-  pub is : talker_of xs ≡ x
+  pub is : first_talker xs ≡ x
 
 shift : (k len n : ℕ) → (if nat_lt k len then Some k else None) ≡ Some n
     → (if nat_lt (1 + k) (suc len) then Some (1 + k) else None) ≡ Some (suc n)
@@ -50,12 +50,12 @@ pub first-is : (x : TalkerReg) (xs : List TalkerReg) → is_present x ≡ true �
 first-is x xs e = record { at = refl; present = e; port = rw e (rw (first-port (length xs)) refl); is = rw e refl }
 
 -- there is none, or there is one
-pub talkers-port : (xs : List TalkerReg) → (talker_of xs ≡ Absent) ⊎ ((n : ℕ) × (x : TalkerReg) × IsTalkers xs n x)
+pub talkers-port : (xs : List TalkerReg) → (first_talker xs ≡ Absent) ⊎ ((n : ℕ) × (x : TalkerReg) × IsTalkers xs n x)
 talkers-port [] = inl refl
 talkers-port (x ∷ xs) = by (is_present x) refl (talkers-port xs)
   where
-    by : (b : Bool) → is_present x ≡ b → (talker_of xs ≡ Absent) ⊎ ((n : ℕ) × (y : TalkerReg) × IsTalkers xs n y)
-        → (talker_of (x ∷ xs) ≡ Absent) ⊎ ((n : ℕ) × (y : TalkerReg) × IsTalkers (x ∷ xs) n y)
+    by : (b : Bool) → is_present x ≡ b → (first_talker xs ≡ Absent) ⊎ ((n : ℕ) × (y : TalkerReg) × IsTalkers xs n y)
+        → (first_talker (x ∷ xs) ≡ Absent) ⊎ ((n : ℕ) × (y : TalkerReg) × IsTalkers (x ∷ xs) n y)
     by true e rest = inr (0, x, first-is x xs e)
     by false e (inl none) = inl (rw e none)
     by false e (inr r) =
@@ -71,11 +71,11 @@ talkers-port (x ∷ xs) = by (is_present x) refl (talkers-port xs)
         )
 
 -- where a Talker is registered somewhere there is one
-pub some-talker : (xs : List TalkerReg) (j : ℕ) (x : TalkerReg) → slice_get xs j ≡ Some x → is_present x ≡ true → is_present (talker_of xs) ≡ true
+pub some-talker : (xs : List TalkerReg) (j : ℕ) (x : TalkerReg) → slice_get xs j ≡ Some x → is_present x ≡ true → is_present (first_talker xs) ≡ true
 some-talker [] j x h t = cc
 some-talker (y ∷ xs) j x h t = by (is_present y) refl j h (λ i k. some-talker xs i x k t)
   where
-    by : (b : Bool) → is_present y ≡ b → (j : ℕ) → slice_get (y ∷ xs) j ≡ Some x → ((i : ℕ) → slice_get xs i ≡ Some x → is_present (talker_of xs) ≡ true) → is_present (talker_of (y ∷ xs)) ≡ true
+    by : (b : Bool) → is_present y ≡ b → (j : ℕ) → slice_get (y ∷ xs) j ≡ Some x → ((i : ℕ) → slice_get xs i ≡ Some x → is_present (first_talker xs) ≡ true) → is_present (first_talker (y ∷ xs)) ≡ true
     by true e j h rest = rw e e
     by false e zero h rest = let same : y ≡ x = cc in let other : is_present x ≡ false = ap is_present (sym same) ∙ e in cc
     by false e (suc j) h rest = rw e (rest j h)
@@ -83,15 +83,15 @@ some-talker (y ∷ xs) j x h t = by (is_present y) refl j h (λ i k. some-talker
 pub port-of : (xs : List TalkerReg) (j : ℕ) (x : TalkerReg) → slice_get xs j ≡ Some x → is_present x ≡ true → (n : ℕ) × (y : TalkerReg) × IsTalkers xs n y
 port-of xs j x h t = by (talkers-port xs)
   where
-    by : (talker_of xs ≡ Absent) ⊎ ((n : ℕ) × (y : TalkerReg) × IsTalkers xs n y) → (n : ℕ) × (y : TalkerReg) × IsTalkers xs n y
-    by (inl none) = let some : is_present (talker_of xs) ≡ true = some-talker xs j x h t in let gone : is_present (talker_of xs) ≡ false = ap is_present none in cc
+    by : (first_talker xs ≡ Absent) ⊎ ((n : ℕ) × (y : TalkerReg) × IsTalkers xs n y) → (n : ℕ) × (y : TalkerReg) × IsTalkers xs n y
+    by (inl none) = let some : is_present (first_talker xs) ≡ true = some-talker xs j x h t in let gone : is_present (first_talker xs) ≡ false = ap is_present none in cc
     by (inr r) = r
 
-pub port-of-present : (xs : List TalkerReg) → is_present (talker_of xs) ≡ true → (n : ℕ) × (y : TalkerReg) × IsTalkers xs n y
+pub port-of-present : (xs : List TalkerReg) → is_present (first_talker xs) ≡ true → (n : ℕ) × (y : TalkerReg) × IsTalkers xs n y
 port-of-present xs t = by (talkers-port xs)
   where
-    by : (talker_of xs ≡ Absent) ⊎ ((n : ℕ) × (y : TalkerReg) × IsTalkers xs n y) → (n : ℕ) × (y : TalkerReg) × IsTalkers xs n y
-    by (inl none) = let gone : is_present (talker_of xs) ≡ false = ap is_present none in cc
+    by : (first_talker xs ≡ Absent) ⊎ ((n : ℕ) × (y : TalkerReg) × IsTalkers xs n y) → (n : ℕ) × (y : TalkerReg) × IsTalkers xs n y
+    by (inl none) = let gone : is_present (first_talker xs) ≡ false = ap is_present none in cc
     by (inr r) = r
 
 -- whether a port is the Talker's port
@@ -118,7 +118,7 @@ pub declares-none : (at : ℕ) (config : PortConfig) (book : Book) (xs : List Ta
 declares-none at config book xs e = rw e refl
 
 pub declares : (at : ℕ) (config : PortConfig) (book : Book) (xs : List TalkerReg) → is_talker_port (suc at) xs ≡ false
-    → talker_at at config book xs ≡ talker_out (talker_of xs) config (fit_of_reg book (talker_of xs))
+    → talker_at at config book xs ≡ talker_out (first_talker xs) config (fit_of_reg book (first_talker xs))
 declares at config book xs e = rw e refl
 
 -- a Talker is declared where one is registered
@@ -144,18 +144,18 @@ out-wants (Advertise t) config fit = by (refusal_of t fit)
 
 -- a port declares a Talker only where it isn't the Talker's port, and one is registered there
 pub declared-present : (at : ℕ) (config : PortConfig) (book : Book) (xs : List TalkerReg) → is_present (talker_at at config book xs) ≡ true
-    → (is_talker_port (suc at) xs ≡ false) × (is_present (talker_of xs) ≡ true)
+    → (is_talker_port (suc at) xs ≡ false) × (is_present (first_talker xs) ≡ true)
 declared-present at config book xs h = by (is_talker_port (suc at) xs) refl
   where
-    by : (b : Bool) → is_talker_port (suc at) xs ≡ b → (is_talker_port (suc at) xs ≡ false) × (is_present (talker_of xs) ≡ true)
+    by : (b : Bool) → is_talker_port (suc at) xs ≡ b → (is_talker_port (suc at) xs ≡ false) × (is_present (first_talker xs) ≡ true)
     by true e = let none : is_present (talker_at at config book xs) ≡ false = ap is_present (declares-none at config book xs e) in cc
     by false e =
-        (e, sym (out-present (talker_of xs) config (fit_of_reg book (talker_of xs))) ∙ (ap is_present (sym (declares at config book xs e)) ∙ h))
+        (e, sym (out-present (first_talker xs) config (fit_of_reg book (first_talker xs))) ∙ (ap is_present (sym (declares at config book xs e)) ∙ h))
 
-pub present-declared : (at : ℕ) (config : PortConfig) (book : Book) (xs : List TalkerReg) → is_talker_port (suc at) xs ≡ false → is_present (talker_of xs) ≡ true
+pub present-declared : (at : ℕ) (config : PortConfig) (book : Book) (xs : List TalkerReg) → is_talker_port (suc at) xs ≡ false → is_present (first_talker xs) ≡ true
     → is_present (talker_at at config book xs) ≡ true
 present-declared at config book xs e h =
-    ap is_present (declares at config book xs e) ∙ (out-present (talker_of xs) config (fit_of_reg book (talker_of xs)) ∙ h)
+    ap is_present (declares at config book xs e) ∙ (out-present (first_talker xs) config (fit_of_reg book (first_talker xs)) ∙ h)
 
 -- ---- what is registered at the other end of a port's link
 
@@ -210,7 +210,7 @@ booked-want entries s h = by (entry_of entries s) refl
 pub record Wants (at : ℕ) (s : Part) (xs : List TalkerReg) (stream : StreamId) (t : Talker) (w : Want) : Type 0 where
   pub elsewhere : is_talker_port (suc at) xs ≡ false
   pub ready : is_ready (registered_listener stream s) ≡ true
-  pub advertised : talker_of xs ≡ Advertise t
+  pub advertised : first_talker xs ≡ Advertise t
   pub checked : check_of t ≡ None
   pub want : want_of_talker t ≡ Some w
 
@@ -230,16 +230,16 @@ wants at s xs stream w h = by (is_talker_port (suc at) xs) (is_ready (registered
     by true r e f = let none : wanted_at at s xs stream ≡ None = rw e refl in cc
     by false false e f = let none : wanted_at at s xs stream ≡ None = rw e (rw f refl) in cc
     by false true e f =
-        let here : wanted_at at s xs stream ≡ want_of_reg (talker_of xs) = rw e (rw f refl) in
-        let reg = wanted-reg (talker_of xs) w (sym here ∙ h) in
+        let here : wanted_at at s xs stream ≡ want_of_reg (first_talker xs) = rw e (rw f refl) in
+        let reg = wanted-reg (first_talker xs) w (sym here ∙ h) in
         (reg.0, record { elsewhere = e; ready = f; advertised = reg.1; checked = reg.2; want = reg.3 })
 
 pub wants-from : (at : ℕ) (s : Part) (xs : List TalkerReg) (stream : StreamId) (t : Talker) (w : Want) → Wants at s xs stream t w → wanted_at at s xs stream ≡ Some w
 wants-from at s xs stream t w h =
     rw h.elsewhere (rw h.ready (rw h.advertised (rw h.checked h.want)))
 
-fit-is : (book : Book) (xs : List TalkerReg) (t : Talker) (w : Want) → talker_of xs ≡ Advertise t → want_of_talker t ≡ Some w
-    → fit_of_reg book (talker_of xs) ≡ fit_for book.moment book w
+fit-is : (book : Book) (xs : List TalkerReg) (t : Talker) (w : Want) → first_talker xs ≡ Advertise t → want_of_talker t ≡ Some w
+    → fit_of_reg book (first_talker xs) ≡ fit_for book.moment book w
 fit-is book xs t w a h = rw a (rw h refl)
 
 module _ (kept : KeptWants) (at : ℕ) (port : Port) (xs : List TalkerReg) (stream : StreamId)
@@ -262,7 +262,7 @@ module _ (kept : KeptWants) (at : ℕ) (port : Port) (xs : List TalkerReg) (stre
       ap (λ (s : StreamId). is_some (since_of port.ledger.entries s)) of ∙ h in
       let fits : fit_for port.ledger.moment port.ledger w.0 ≡ Fits = (kept port.ledger port.ledger.moment w.0 book (omega arith) own).1 some in
       ap is_advertised (declares at port.config port.ledger xs r.1.elsewhere)
-      ∙ (ap (λ f. is_advertised (talker_out (talker_of xs) port.config f)) (fit-is port.ledger xs r.0 w.0 r.1.advertised r.1.want ∙ fits)
+      ∙ (ap (λ f. is_advertised (talker_out (first_talker xs) port.config f)) (fit-is port.ledger xs r.0 w.0 r.1.advertised r.1.want ∙ fits)
       ∙ (ap (λ reg. is_advertised (talker_out reg port.config Fits)) r.1.advertised
       ∙ ap (λ o. is_advertised (declared_of port.config (delayed_by port.config.latency r.0) (option_or o None))) r.1.checked))
 
@@ -288,12 +288,12 @@ module _ (kept : KeptWants) (at : ℕ) (port : Port) (xs : List TalkerReg) (stre
           of None f (TooLittle more cap code) e =
               let off : is_advertised (declared_of port.config (delayed_by port.config.latency t) (refusal_of t (TooLittle more cap code))) ≡ false = rw f refl in cc
 
-      of-reg : (reg : TalkerReg) → talker_of xs ≡ reg → is_talker_port (suc at) xs ≡ false → is_advertised (talker_out reg port.config (fit_of_reg port.ledger (talker_of xs))) ≡ true
+      of-reg : (reg : TalkerReg) → first_talker xs ≡ reg → is_talker_port (suc at) xs ≡ false → is_advertised (talker_out reg port.config (fit_of_reg port.ledger (first_talker xs))) ≡ true
           → is_some (since_of port.ledger.entries stream) ≡ true
       of-reg Absent r e k = cc
       of-reg (Failed t f) r e k = cc
       of-reg (Advertise t) r e k =
-          let parts = fit-here (fit_of_reg port.ledger (talker_of xs)) t k in
+          let parts = fit-here (fit_of_reg port.ledger (first_talker xs)) t k in
           let w = class-is t parts.0 in
           let here : Wants at port.part xs stream t w.0 = record { elsewhere = e; ready = ready; advertised = r; checked = parts.0; want = w.1 } in
           let want : want_of port.ledger.entries stream ≡ Some w.0 = wanted ∙ wants-from at port.part xs stream t w.0 here in
@@ -305,7 +305,7 @@ module _ (kept : KeptWants) (at : ℕ) (port : Port) (xs : List TalkerReg) (stre
 
       by : (b : Bool) → is_talker_port (suc at) xs ≡ b → is_some (since_of port.ledger.entries stream) ≡ true
       by true e = let none : is_advertised (talker_at at port.config port.ledger xs) ≡ false = ap is_advertised (declares-none at port.config port.ledger xs e) in cc
-      by false e = of-reg (talker_of xs) refl e (ap is_advertised (sym (declares at port.config port.ledger xs e)) ∙ h)
+      by false e = of-reg (first_talker xs) refl e (ap is_advertised (sym (declares at port.config port.ledger xs e)) ∙ h)
 
 -- ---- failures
 
@@ -337,20 +337,20 @@ check-codes t c h code = by (is_none (class_of_priority t.priority)) (nat_lt 150
 
 -- a failure of bandwidth that a port declares was registered at the Talker's port, or is the port's own refusal
 pub failed-at : (at : ℕ) (config : PortConfig) (book : Book) (xs : List TalkerReg) (t : Talker) (f : Failure) → talker_at at config book xs ≡ Failed t f → IsOfBandwidth f.code
-    → ((u : Talker) × (talker_of xs ≡ Failed u f)) ⊎ Refuses config book (talker_of xs) f
+    → ((u : Talker) × (first_talker xs ≡ Failed u f)) ⊎ Refuses config book (first_talker xs) f
 failed-at at config book xs t f h code = by (is_talker_port (suc at) xs) refl
   where
-    own : (u : Talker) → talker_of xs ≡ Advertise u → (fit : Fit) → fit_of_reg book (talker_of xs) ≡ fit
-        → declared_of config (delayed_by config.latency u) (refusal_of u fit) ≡ Failed t f → Refuses config book (talker_of xs) f
+    own : (u : Talker) → first_talker xs ≡ Advertise u → (fit : Fit) → fit_of_reg book (first_talker xs) ≡ fit
+        → declared_of config (delayed_by config.latency u) (refusal_of u fit) ≡ Failed t f → Refuses config book (first_talker xs) f
     own u a fit k d = of (check_of u) refl fit k d
       where
-        want-is : (more cap c : ℕ) (o : Option Want) → want_of_talker u ≡ o → fit_of_reg book (talker_of xs) ≡ TooLittle more cap c
+        want-is : (more cap c : ℕ) (o : Option Want) → want_of_talker u ≡ o → fit_of_reg book (first_talker xs) ≡ TooLittle more cap c
             → (w : Want) × (want_of_talker u ≡ Some w) × (fit_for book.moment book w ≡ TooLittle more cap c)
-        want-is more cap c None e k = let off : fit_of_reg book (talker_of xs) ≡ Fits = rw a (rw e refl) in cc
+        want-is more cap c None e k = let off : fit_of_reg book (first_talker xs) ≡ Fits = rw a (rw e refl) in cc
         want-is more cap c (Some w) e k = (w, e, sym (fit-is book xs u w a e) ∙ k)
 
-        of : (o : Option ℕ) → check_of u ≡ o → (fit : Fit) → fit_of_reg book (talker_of xs) ≡ fit
-            → declared_of config (delayed_by config.latency u) (refusal_of u fit) ≡ Failed t f → Refuses config book (talker_of xs) f
+        of : (o : Option ℕ) → check_of u ≡ o → (fit : Fit) → fit_of_reg book (first_talker xs) ≡ fit
+            → declared_of config (delayed_by config.latency u) (refusal_of u fit) ≡ Failed t f → Refuses config book (first_talker xs) f
         of (Some c) e fit k d =
             let is : declared_of config (delayed_by config.latency u) (refusal_of u fit) ≡ Failed (delayed_by config.latency u) (record { bridge = config.bridge; code = c }) = rw e refl in
             let same : c ≡ f.code = ap failure_code (sym is ∙ d) in
@@ -378,15 +378,15 @@ failed-at at config book xs t f h code = by (is_talker_port (suc at) xs) refl
               bridge = ap (λ (g : Failure). g.bridge) (sym failure);
             }
 
-    of-reg : (reg : TalkerReg) → talker_of xs ≡ reg → talker_out reg config (fit_of_reg book (talker_of xs)) ≡ Failed t f
-        → ((u : Talker) × (talker_of xs ≡ Failed u f)) ⊎ Refuses config book (talker_of xs) f
+    of-reg : (reg : TalkerReg) → first_talker xs ≡ reg → talker_out reg config (fit_of_reg book (first_talker xs)) ≡ Failed t f
+        → ((u : Talker) × (first_talker xs ≡ Failed u f)) ⊎ Refuses config book (first_talker xs) f
     of-reg Absent r k = cc
     of-reg (Failed u g) r k = let same : g ≡ f = cc in inl (u, r ∙ ap (λ x. Failed u x) same)
-    of-reg (Advertise u) r k = inr (own u r (fit_of_reg book (talker_of xs)) refl k)
+    of-reg (Advertise u) r k = inr (own u r (fit_of_reg book (first_talker xs)) refl k)
 
-    by : (b : Bool) → is_talker_port (suc at) xs ≡ b → ((u : Talker) × (talker_of xs ≡ Failed u f)) ⊎ Refuses config book (talker_of xs) f
+    by : (b : Bool) → is_talker_port (suc at) xs ≡ b → ((u : Talker) × (first_talker xs ≡ Failed u f)) ⊎ Refuses config book (first_talker xs) f
     by true e = let none : talker_at at config book xs ≡ Absent = declares-none at config book xs e in cc
-    by false e = of-reg (talker_of xs) refl (sym (declares at config book xs e) ∙ h)
+    by false e = of-reg (first_talker xs) refl (sym (declares at config book xs e) ∙ h)
 
 -- ---- Listeners
 
@@ -479,7 +479,7 @@ forwards at r j row port ne h t =
 
 -- or where the application listens and the Talker is advertised
 pub listens : (at : ℕ) (r : Registrations) → is_talker_port (suc at) r.talkers ≡ true
-    → r.listens ≡ true → is_advertised (talker_of r.talkers) ≡ true → is_ready (listener_at at r) ≡ true
+    → r.listens ≡ true → is_advertised (first_talker r.talkers) ≡ true → is_ready (listener_at at r) ≡ true
 listens at r port l a =
     let here : listener_at at r ≡ listener_out (other_listeners at r) = rw port refl in
     let own : can_have_if (own_listener r) ≡ true = rw l (rw a refl) in

@@ -8,7 +8,7 @@ use Rattle.srp_base.specs.declared.numbers.StreamId.{StreamId}
 use Rattle.stream_importance.specs.declared.entry.Entry.{Entry}
 use Rattle.port_ledger.specs.Decision.{stream_of, is_booked, IsAscending}
 use Rattle.port_ledger.specs.Book.{booked_only_in, same_entry}
-use Rattle.port_ledger.specs.Pass.{begins_with, from_stream, booked_stream, booked_streams_below}
+use Rattle.port_ledger.specs.Pass.{begins_with_entry, from_stream, booked_stream, booked_streams_below}
 use Rattle.port_ledger.proofs.Comparing.{only_in}
 use Rattle.port_ledger.proofs.Finding.{differ, others_differ}
 use Rattle.port_ledger.proofs.PerStream.{same_entry-is, same_entry-refl}
@@ -35,18 +35,18 @@ only_from s (x ∷ xs) ys l =
 
 -- from its stream on an entry stands first or nowhere
 first_found : (x : Entry) (ys : List Entry) → IsAscending ys
-    → list_any (same_entry x) (from_stream ys x.want.stream) ≡ begins_with (from_stream ys x.want.stream) x
+    → list_any (same_entry x) (from_stream ys x.want.stream) ≡ begins_with_entry (from_stream ys x.want.stream) x
 first_found x [] up = refl
 first_found x (y ∷ ys) up =
     elim (cases_Bool (nat_lt (stream_of y) (stream_of x))) [
       | inl h ↦
           ap (λ v. list_any (same_entry x) (cond v (from_stream ys x.want.stream) (y ∷ ys))) h
-          ∙ (first_found x ys up.1 ∙ ap (λ v. begins_with (cond v (from_stream ys x.want.stream) (y ∷ ys)) x) (sym h))
+          ∙ (first_found x ys up.1 ∙ ap (λ v. begins_with_entry (cond v (from_stream ys x.want.stream) (y ∷ ys)) x) (sym h))
       | inr h ↦
           (let l : stream_of x ≤ stream_of y = ltb-false (stream_of y) (stream_of x) h in
           ap (λ v. list_any (same_entry x) (cond v (from_stream ys x.want.stream) (y ∷ ys))) h
           ∙ (or_nothing (same_entry x y) (list_any (same_entry x) ys) (others_differ x ys (all_with ys up.0 up.0 (λ z k _. omega (arith, k, l))))
-          ∙ ap (λ v. begins_with (cond v (from_stream ys x.want.stream) (y ∷ ys)) x) (sym h)))
+          ∙ ap (λ v. begins_with_entry (cond v (from_stream ys x.want.stream) (y ∷ ys)) x) (sym h)))
     ]
   where
     or_nothing : (a b : Bool) → b ≡ false → (a || b) ≡ a
@@ -170,11 +170,11 @@ module _ (before after : List Entry) (i : ℕ) (x d : Entry) (booked dropped : L
       ∙ ap (λ zs. zs ++ booked_only_in (from_stream rest x.want.stream) (x ∷ drop (i + 1) after)) (sym e)
       ∙ ap (λ ys. later ++ booked_only_in ys (x ∷ drop (i + 1) after)) (sym is)
 
-  any_is : list_any (same_entry x) next ≡ begins_with next x
-  any_is = subst (λ (ys : List Entry). list_any (same_entry x) ys ≡ begins_with ys x) (sym is) (first_found x rest h.down)
+  any_is : list_any (same_entry x) next ≡ begins_with_entry next x
+  any_is = subst (λ (ys : List Entry). list_any (same_entry x) ys ≡ begins_with_entry ys x) (sym is) (first_found x rest h.down)
 
   -- x isn't first in what is left, so it is in none of it
-  pub walk-notes : (later more : List StreamId) → later ≡ dropped ++ booked_streams_below rest x.want.stream → more ≡ booked ++ booked_stream x → begins_with next x ≡ false → WalksBoth before after (i + 1) more later next
+  pub walk-notes : (later more : List StreamId) → later ≡ dropped ++ booked_streams_below rest x.want.stream → more ≡ booked ++ booked_stream x → begins_with_entry next x ≡ false → WalksBoth before after (i + 1) more later next
   walk-notes later more e m none = record {
     new =
         new_before
@@ -186,7 +186,7 @@ module _ (before after : List Entry) (i : ℕ) (x d : Entry) (booked dropped : L
     down = goes_down;
   }
 
-  shared_by : (later : List StreamId) (ys tail : List Entry) → next ≡ ys → begins_with ys x ≡ true → tail ≡ drop 1 ys → later ≡ dropped ++ booked_streams_below rest x.want.stream → WalksBoth before after (i + 1) booked later tail
+  shared_by : (later : List StreamId) (ys tail : List Entry) → next ≡ ys → begins_with_entry ys x ≡ true → tail ≡ drop 1 ys → later ≡ dropped ++ booked_streams_below rest x.want.stream → WalksBoth before after (i + 1) booked later tail
   shared_by later [] tail n first t e = cc
   shared_by later (y ∷ ys) tail n first t e =
       let one : next ≡ x ∷ ys = n ∙ ap (λ z. z ∷ ys) (sym (same_entry-is x y first)) in
@@ -200,11 +200,11 @@ module _ (before after : List Entry) (i : ℕ) (x d : Entry) (booked dropped : L
       })
 
   -- both lists have x
-  pub walk-shares : (later : List StreamId) (tail : List Entry) → begins_with next x ≡ true → tail ≡ drop 1 next → later ≡ dropped ++ booked_streams_below rest x.want.stream → WalksBoth before after (i + 1) booked later tail
+  pub walk-shares : (later : List StreamId) (tail : List Entry) → begins_with_entry next x ≡ true → tail ≡ drop 1 next → later ≡ dropped ++ booked_streams_below rest x.want.stream → WalksBoth before after (i + 1) booked later tail
   walk-shares later tail first t e = shared_by later next tail refl first t e
 
 -- what begins with an entry isn't empty
-pub begins-some : (ys : List Entry) (x : Entry) → begins_with ys x ≡ true → 0 < length ys
+pub begins-some : (ys : List Entry) (x : Entry) → begins_with_entry ys x ≡ true → 0 < length ys
 begins-some [] x h = cc
 begins-some (y ∷ ys) x h = omega arith
 

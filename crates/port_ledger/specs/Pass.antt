@@ -92,9 +92,9 @@ from_stream [] stream = []
 from_stream (x ∷ xs) stream = if nat_lt (stream_of x) stream.0 then from_stream xs stream else x ∷ xs
 
 -- an entry stands first
-abbrev pub begins_with : List Entry → Entry → Bool
-begins_with [] x = false
-begins_with (y ∷ ys) x = same_entry x y
+abbrev pub begins_with_entry : List Entry → Entry → Bool
+begins_with_entry [] x = false
+begins_with_entry (y ∷ ys) x = same_entry x y
 
 -- the slope of y in bit/s, where it is booked and precedes x, else 0
 abbrev pub slope_before : ℕ → Entry → Entry → ℕ

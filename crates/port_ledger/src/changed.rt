@@ -3,7 +3,7 @@
 ghost use Rattle.std.specs.Prelude.{◌≡◌, ◌<◌, ◌++◌, [], length, drop, IfOk, OnOk};
 ghost use Rattle.port_ledger.specs.Book.{booked_only_in, same_entry};
 ghost use Rattle.port_ledger.specs.Decision.{IsAscending};
-ghost use Rattle.port_ledger.specs.Pass.{begins_with, from_stream, booked_stream, booked_streams_below};
+ghost use Rattle.port_ledger.specs.Pass.{begins_with_entry, from_stream, booked_stream, booked_streams_below};
 
 use srp_base::{NoMemory, Seq, StreamId};
 use std::alloc::Global;
@@ -116,7 +116,7 @@ fn from_stream(entries: &[Entry], stream: StreamId) -> &[Entry]
 }
 
 fn begins_with(entries: &[Entry], x: &Entry) -> bool
-    ensures { result ≡ begins_with entries.now x.now }
+    ensures { result ≡ begins_with_entry entries.now x.now }
 {
     match entries {
         [] => false,

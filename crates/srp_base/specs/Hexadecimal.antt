@@ -16,12 +16,12 @@ unfoldable pub hex16 : List ℕ → Option ℕ
 hex16 text = number_of_octets (decode_sized text 8)
 
 -- the number of some octets, the first of them the highest
-abbrev pub number_of : List ℕ → ℕ
-number_of octets = fold (λ n octet. n * 256 + octet) 0 octets
+abbrev pub number_high_first : List ℕ → ℕ
+number_high_first octets = fold (λ n octet. n * 256 + octet) 0 octets
 
 -- the number of the octets that digits spell, if they spell some
 abbrev pub number_of_decoded : Result (List ℕ) FromHexError → Option ℕ
-number_of_decoded (Ok octets) = Some (number_of octets)
+number_of_decoded (Ok octets) = Some (number_high_first octets)
 number_of_decoded (Err e) = None
 
 -- the number that twelve hexadecimal digits of either case spell, the highest digit first; no other text

@@ -3,7 +3,7 @@
 ghost use Rattle.std.specs.Prelude.{◌≡◌, ◌<◌, ◌^◌, ◌↔◌, length, IsSome};
 ghost use Rattle.std.specs.List.{AllPass};
 ghost use Rattle.hex.specs.Hex.{is_hex_digit};
-ghost use Rattle.srp_base.specs.Hexadecimal.{hex12, hex16, number_of};
+ghost use Rattle.srp_base.specs.Hexadecimal.{hex12, hex16, number_high_first};
 
 use crate::numbers::Mac;
 use hex::FromHex;
@@ -22,7 +22,7 @@ pub fn read_hex16(text: &str) -> Option<u64>
 
 /// The number of six octets, the first of them the highest.
 fn number_of_six(octets: &[u8; 6]) -> u64
-    ensures value { result ≡ number_of octets.now }
+    ensures value { result ≡ number_high_first octets.now }
     ensures small { result < 2 ^ 48 }
 {
     let high = (u64::from(octets[0]) * 256 + u64::from(octets[1])) * 256 + u64::from(octets[2]);

@@ -9,7 +9,7 @@ use Rattle.frame_flow.specs.declared.result.Fate.{Fate}
 use Rattle.frame_flow.specs.declared.result.Fate.TheVariants.{Unbooked, NoVlan, Departed, Left}
 use Rattle.srp_report.specs.declared.departures.FateCounts.{FateCounts}
 use Rattle.srp_report.specs.declared.departures.SentFrame.{SentFrame}
-use Rattle.srp_report.specs.FrameLines.{is_departed, is_unbooked, is_novlan, is_left, fates_count, sent_frame, sent_frames, depart_line}
+use Rattle.srp_report.specs.FrameLines.{is_departed, is_unbooked_fate, is_novlan, is_left, fates_count, sent_frame, sent_frames, depart_line}
 use Rattle.srp_report.specs.Fates.{fate_counts, one_more, line_start, line_from}
 
 -- ---- counts
@@ -27,10 +27,10 @@ counts-pushed fates e =
     let all = fates ++ e ∷ [] in
     let old : (Fate → Bool) → ℕ = λ p. fates_count p fates + cond (p e.1) 1 0 in
     let new : (Fate → Bool) → ℕ = λ p. fates_count p all in
-    sym (ap (λ (x : ℕ). make x (new is_unbooked) (new is_novlan) (new is_left)) (count-more is_departed fates e)
-    ∙ ap (λ (x : ℕ). make (old is_departed) x (new is_novlan) (new is_left)) (count-more is_unbooked fates e)
-    ∙ ap (λ (x : ℕ). make (old is_departed) (old is_unbooked) x (new is_left)) (count-more is_novlan fates e)
-    ∙ ap (λ (x : ℕ). make (old is_departed) (old is_unbooked) (old is_novlan) x) (count-more is_left fates e))
+    sym (ap (λ (x : ℕ). make x (new is_unbooked_fate) (new is_novlan) (new is_left)) (count-more is_departed fates e)
+    ∙ ap (λ (x : ℕ). make (old is_departed) x (new is_novlan) (new is_left)) (count-more is_unbooked_fate fates e)
+    ∙ ap (λ (x : ℕ). make (old is_departed) (old is_unbooked_fate) x (new is_left)) (count-more is_novlan fates e)
+    ∙ ap (λ (x : ℕ). make (old is_departed) (old is_unbooked_fate) (old is_novlan) x) (count-more is_left fates e))
 
 pub counts-more : (fates : List (ℕ × Fate)) (i : ℕ) (d e : ℕ × Fate) (before after : FateCounts) → i < length fates → e ≡ get_or fates i d
     → before ≡ fate_counts (take i fates) → after ≡ one_more before e.1 → after ≡ fate_counts (take (i + 1) fates)
@@ -40,7 +40,7 @@ counts-more fates i d e before after below item one two =
     ∙ sym (ap (λ (t : List (ℕ × Fate)). fate_counts t) (take_more fates i d below))
 
 -- each copy is counted once
-counted-once : (fate : Fate) → cond (is_departed fate) 1 0 + cond (is_unbooked fate) 1 0 + cond (is_novlan fate) 1 0 + cond (is_left fate) 1 0 ≡ 1
+counted-once : (fate : Fate) → cond (is_departed fate) 1 0 + cond (is_unbooked_fate fate) 1 0 + cond (is_novlan fate) 1 0 + cond (is_left fate) 1 0 ≡ 1
 counted-once Unbooked = refl
 counted-once NoVlan = refl
 counted-once (Departed start end) = refl
@@ -54,10 +54,10 @@ count-cons p e fates =
     (λ is. omega (arith, ap one is)) (λ nay. omega (arith, ap one nay))
 
 pub counts-few : (fates : List (ℕ × Fate))
-    → fates_count is_departed fates + fates_count is_unbooked fates + fates_count is_novlan fates + fates_count is_left fates ≡ length fates
+    → fates_count is_departed fates + fates_count is_unbooked_fate fates + fates_count is_novlan fates + fates_count is_left fates ≡ length fates
 counts-few [] = refl
 counts-few (e ∷ fates) =
-    omega (arith, counts-few fates, counted-once e.1, count-cons is_departed e fates, count-cons is_unbooked e fates, count-cons is_novlan e fates, count-cons is_left e fates)
+    omega (arith, counts-few fates, counted-once e.1, count-cons is_departed e fates, count-cons is_unbooked_fate e fates, count-cons is_novlan e fates, count-cons is_left e fates)
 
 pub sent-more : (fates : List (ℕ × Fate)) (i : ℕ) (d e : ℕ × Fate) (before after : List SentFrame) → i < length fates → e ≡ get_or fates i d
     → before ≡ sent_frames (take i fates) → after ≡ before ++ sent_frames (e ∷ []) → after ≡ sent_frames (take (i + 1) fates)

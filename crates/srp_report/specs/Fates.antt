@@ -5,14 +5,14 @@ use Rattle.srp_base.specs.Text.{whole_of}
 use Rattle.frame_flow.specs.declared.result.Fate.{Fate}
 use Rattle.srp_report.specs.declared.departures.FateCounts.{FateCounts}
 use Rattle.srp_report.specs.declared.departures.SentFrame.{SentFrame}
-use Rattle.srp_report.specs.FrameLines.{is_departed, is_unbooked, is_novlan, is_left, fates_count}
+use Rattle.srp_report.specs.FrameLines.{is_departed, is_unbooked_fate, is_novlan, is_left, fates_count}
 
 -- how many copies came to each fate
 abbrev pub fate_counts : List (ℕ × Fate) → FateCounts
 fate_counts fates =
     record {
       departed = fates_count is_departed fates;
-      unbooked = fates_count is_unbooked fates;
+      unbooked = fates_count is_unbooked_fate fates;
       novlan = fates_count is_novlan fates;
       left = fates_count is_left fates;
     }
@@ -22,7 +22,7 @@ abbrev pub one_more : FateCounts → Fate → FateCounts
 one_more c fate =
     record {
       departed = c.departed + (if is_departed fate then 1 else 0);
-      unbooked = c.unbooked + (if is_unbooked fate then 1 else 0);
+      unbooked = c.unbooked + (if is_unbooked_fate fate then 1 else 0);
       novlan = c.novlan + (if is_novlan fate then 1 else 0);
       left = c.left + (if is_left fate then 1 else 0);
     }

@@ -18,9 +18,9 @@ is_departed (Departed start end) = true
 is_departed _ = false
 
 -- whether the port drops the copy as it hasn't booked the copy's stream
-abbrev pub is_unbooked : Fate → Bool
-is_unbooked Unbooked = true
-is_unbooked _ = false
+abbrev pub is_unbooked_fate : Fate → Bool
+is_unbooked_fate Unbooked = true
+is_unbooked_fate _ = false
 
 -- whether the port drops the copy as the copy's VID isn't registered there
 abbrev pub is_novlan : Fate → Bool
@@ -63,7 +63,7 @@ by_start (d ∷ ds) = with_sent d (by_start ds)
 abbrev pub frames_line : List ℕ → List (ℕ × Fate) → List ℕ
 frames_line port fates = whole_of (
     codes "frames " ∷ port ∷ codes " departed " ∷ decimal (fates_count is_departed fates)
-    ∷ codes " unbooked " ∷ decimal (fates_count is_unbooked fates)
+    ∷ codes " unbooked " ∷ decimal (fates_count is_unbooked_fate fates)
     ∷ codes " novlan " ∷ decimal (fates_count is_novlan fates)
     ∷ codes " left " ∷ decimal (fates_count is_left fates) ∷ codes "\n" ∷ [])
 

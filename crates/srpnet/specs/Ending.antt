@@ -5,7 +5,7 @@ use Rattle.srp_io.specs.Whole.{TookAtMost, TookPast}
 use Rattle.srpnet.specs.declared.words.Command.{Command}
 use Rattle.srpnet.specs.declared.outcome.Cause.{Cause}
 use Rattle.srpnet.specs.declared.outcome.Cause.TheVariants.{Done, BadWords, ReadFault, TooLong, WriteFault, NoMemory}
-use Rattle.srpnet.specs.Outcomes.{IsRefusal, IsWriteFault, WritesNothing}
+use Rattle.srpnet.specs.Outcomes.{IsRefusedInput, IsWriteFault, WritesNothing}
 use Rattle.srpnet.specs.TopCall.{Wrote, WrotePart, WroteUntilNoMemory, WroteNothing, Refuses, ReadsNothing, most_octets, plain_ending}
 use Rattle.world_core.specs.declared.journal.Tick.{Tick}
 
@@ -37,7 +37,7 @@ pub record CarriedOut {I O : Type 0} (left : I → Option (List ℕ)) (in_faults
   pub in_time : cause ≡ ReadFault → TookAtMost most_octets (left source) (left source')
   pub too_long : cause ≡ TooLong → TookPast most_octets (left source) (left source')
   -- the input is refused only where its octets, read to the end, are refused for this cause
-  pub refused : IsRefusal cause → Refuses command (left source) (left source') cause
+  pub refused : IsRefusedInput cause → Refuses command (left source) (left source') cause
   -- the words were good
   pub good_words : cause ≡ BadWords → ⊥
   -- where neither the source nor the out sink fails in this call, the ending is the expected one for the

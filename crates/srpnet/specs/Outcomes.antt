@@ -26,15 +26,15 @@ pub data Place : Type 0 where
   anywhere : Place
 
 -- the place of each cause
-abbrev pub place_of : Cause → Place
-place_of Done = finish
-place_of BadWords = words
-place_of ReadFault = reading
-place_of TooLong = reading
-place_of NotToml = judging
-place_of (BadScenario rule entry) = judging
-place_of (WriteFault written) = writing
-place_of NoMemory = anywhere
+abbrev pub place_of_cause : Cause → Place
+place_of_cause Done = finish
+place_of_cause BadWords = words
+place_of_cause ReadFault = reading
+place_of_cause TooLong = reading
+place_of_cause NotToml = judging
+place_of_cause (BadScenario rule entry) = judging
+place_of_cause (WriteFault written) = writing
+place_of_cause NoMemory = anywhere
 
 -- the exit status
 abbrev pub status_of : Cause → ℕ
@@ -67,12 +67,12 @@ err_text cause = fixed_text cause
 -- ---- Facts of causes, by their places
 
 -- the octets of the input are refused
-abbrev pub IsRefusal : Cause → Type 0
-IsRefusal cause = place_of cause ≡ judging
+abbrev pub IsRefusedInput : Cause → Type 0
+IsRefusedInput cause = place_of_cause cause ≡ judging
 
 -- a fault of the out sink
 abbrev pub IsWriteFault : Cause → Type 0
-IsWriteFault cause = place_of cause ≡ writing
+IsWriteFault cause = place_of_cause cause ≡ writing
 
 -- the places before anything is written; memory may run out on either side
 abbrev pub IsBeforeWriting : Place → Type 0
@@ -85,7 +85,7 @@ IsBeforeWriting anywhere = ⊥
 
 -- nothing is written
 abbrev pub WritesNothing : Cause → Type 0
-WritesNothing cause = IsBeforeWriting (place_of cause)
+WritesNothing cause = IsBeforeWriting (place_of_cause cause)
 
 -- the places at which making an output ends without one
 abbrev pub IsBeforeOutput : Place → Type 0
@@ -98,7 +98,7 @@ IsBeforeOutput anywhere = Unit {0}
 
 -- why a command has no output
 abbrev pub LacksOutput : Cause → Type 0
-LacksOutput cause = IsBeforeOutput (place_of cause)
+LacksOutput cause = IsBeforeOutput (place_of_cause cause)
 
 -- the places at which writing ends
 abbrev pub IsOfWriting : Place → Type 0
@@ -111,7 +111,7 @@ IsOfWriting anywhere = Unit {0}
 
 -- the causes with which writing ends
 abbrev pub EndsWriting : Cause → Type 0
-EndsWriting cause = IsOfWriting (place_of cause)
+EndsWriting cause = IsOfWriting (place_of_cause cause)
 
 -- an answer ends so, or memory ran out
 abbrev pub EndsAs : {X : Type 0} → Cause → Result X Cause → Type 0

@@ -18,7 +18,7 @@
 //!
 //! To add a command: a module with its input, its text and its `output`, as `ledger` has; a row of the
 //! table in `words`; an arm in `reads_input` and `output` of `commands`; and a line in each definition of
-//! `specs/Words.antt` and `specs/Commands.antt`. A new cause has a line in `place_of`, `status_of` and
+//! `specs/Words.antt` and `specs/Commands.antt`. A new cause has a line in `place_of_cause`, `status_of` and
 //! `err_text` of `specs/Outcomes.antt`, and in `status_of` and `tell` of `outcome`.
 #![tactic(auto)]
 

@@ -4,7 +4,7 @@ ghost use Rattle.std.specs.Prelude.{◌≡◌, ℕ, ◌<◌, ◌+◌, List, leng
 ghost use Rattle.std.specs.Io.KnownBytes.{Appends};
 ghost use Rattle.srp_io.specs.Faults.{Rose};
 ghost use Rattle.srp_io.specs.Whole.{TookAtMost, TookPast};
-ghost use Rattle.srpnet.specs.Outcomes.{status_of as status_of_spec, err_text, EndsAs, EndsWriting, IsRefusal, IsWriteFault, LacksOutput};
+ghost use Rattle.srpnet.specs.Outcomes.{status_of as status_of_spec, err_text, EndsAs, EndsWriting, IsRefusedInput, IsWriteFault, LacksOutput};
 ghost use Rattle.srpnet.specs.Ending.{CarriedOut, IsEnding};
 ghost use Rattle.srpnet.specs.TopCall.{plain_ending, IsOutput, Refuses, ReadsNothing, PartOf, StoppedIn, StopsWriting, GainsFront};
 ghost use Rattle.srpnet.specs.Words.{command_of as command_of_spec};
@@ -38,7 +38,7 @@ fn read_output<I: Source>(
         → I.faults source.new ≡ I.faults source.old }
     ensures too_long { result ≡ Err Cause.TooLong
         → TookPast MOST_OCTETS (I.left source.old) (I.left source.new) }
-    ensures refused { IfErr result (λ c. IsRefusal c
+    ensures refused { IfErr result (λ c. IsRefusedInput c
         → Refuses command (I.left source.old) (I.left source.new) c) }
     ensures ends { (octets : List ℕ) → I.left source.old ≡ Some octets
         → (Rose (I.faults source.old) (I.faults source.new) → ⊥)

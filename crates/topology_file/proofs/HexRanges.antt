@@ -5,7 +5,7 @@ use Rattle.hex.specs.Hex.{decode_sized, decode_pairs, IsBytes}
 use Rattle.hex.specs.declared.error.FromHexError.{FromHexError}
 use Rattle.hex.specs.declared.error.FromHexError.TheVariants.{OddLength, InvalidStringLength}
 use Rattle.hex.proofs.HexLemmas.{decode_pairs-ok, decode_sized-ok}
-use Rattle.srp_base.specs.Hexadecimal.{hex12, hex16, number_of, number_of_octets, number_of_decoded}
+use Rattle.srp_base.specs.Hexadecimal.{hex12, hex16, number_high_first, number_of_octets, number_of_decoded}
 
 -- what is decoded are octets
 sized-bytes : (text : List ℕ) (b c : Bool) (bytes : List ℕ) → (if b then Err OddLength else if c then decode_pairs 0 text else Err InvalidStringLength) ≡ Ok bytes
@@ -26,7 +26,7 @@ eight-octets bytes each =
     let h = each 7 in
     omega (arith, a, b, c, d, e, f, g, h)
 
-six-octets : (bytes : List ℕ) → length bytes ≡ 6 → IsBytes bytes → number_of bytes < 2 ^ 48
+six-octets : (bytes : List ℕ) → length bytes ≡ 6 → IsBytes bytes → number_high_first bytes < 2 ^ 48
 six-octets (a ∷ b ∷ c ∷ d ∷ e ∷ f ∷ []) six each = omega (arith, each 0, each 1, each 2, each 3, each 4, each 5)
 six-octets [] six each = absurd (omega arith)
 six-octets (a ∷ []) six each = absurd (omega arith)

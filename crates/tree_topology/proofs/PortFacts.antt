@@ -8,7 +8,7 @@ use Rattle.std.specs.List.{cons_option}
 use Rattle.srp_base.specs.declared.numbers.EgressPort.{EgressPort}
 use Rattle.tree_topology.specs.declared.graph.Link.{Link}
 use Rattle.tree_topology.specs.Graph.{Joins, Joined, IsAbsent, HasNoRepeat, HasNoSelfLink, IsTree}
-use Rattle.tree_topology.specs.Ports.{far_end, neighbours, place_of, port_to, IsPort, far_node, peer_of}
+use Rattle.tree_topology.specs.Ports.{far_end, neighbours, index_in, port_to, IsPort, far_node, peer_of}
 use Rattle.tree_topology.proofs.Links.{joined-sym, joined-known}
 use Rattle.tree_topology.proofs.Forests.{IsApart, apart-from_graph}
 
@@ -97,14 +97,14 @@ absent-at v [] k d a lt = absurd (omega (arith, lt))
 absent-at v (x ∷ xs) zero d a lt = λ e. a.0 (sym e)
 absent-at v (x ∷ xs) (suc k) d a lt = absent-at v xs k d a.1 (omega (arith, lt))
 
-place-head : (v : ℕ) (x : ℕ) (xs : List ℕ) → x ≡ v → place_of v (x ∷ xs) ≡ 0
+place-head : (v : ℕ) (x : ℕ) (xs : List ℕ) → x ≡ v → index_in v (x ∷ xs) ≡ 0
 place-head v x xs e = grind (arith, nat_tests)
 
-place-tail : (v : ℕ) (x : ℕ) (xs : List ℕ) → x ≢ v → place_of v (x ∷ xs) ≡ 1 + place_of v xs
+place-tail : (v : ℕ) (x : ℕ) (xs : List ℕ) → x ≢ v → index_in v (x ∷ xs) ≡ 1 + index_in v xs
 place-tail v x xs n = grind (arith, nat_tests)
 
 -- in a list without repeats each element has one place
-pub place-at : (v : ℕ) (xs : List ℕ) (k d : ℕ) → HasNoRepeat xs → k < length xs → get_or xs k d ≡ v → place_of v xs ≡ k
+pub place-at : (v : ℕ) (xs : List ℕ) (k d : ℕ) → HasNoRepeat xs → k < length xs → get_or xs k d ≡ v → index_in v xs ≡ k
 place-at v [] k d r lt e = absurd (omega (arith, lt))
 place-at v (x ∷ xs) zero d r lt e = place-head v x xs e
 place-at v (x ∷ xs) (suc k) d r lt e =
@@ -118,10 +118,10 @@ pub port-leads : (count : ℕ) (links : List Link) → IsTree count links → (x
 port-leads count links tree x v j =
     let h = joined-neighbour links tree.graph.no_self x v j in
     let none = neighbours-differ links (apart-from_graph links tree.graph.no_second) x in
-    let p : place_of v (neighbours links x) ≡ h.0 = place-at v (neighbours links x) h.0 0 none h.1 (h.2 0) in
+    let p : index_in v (neighbours links x) ≡ h.0 = place-at v (neighbours links x) h.0 0 none h.1 (h.2 0) in
     let known = joined-known count links x v tree.graph.known j in
     let G : ℕ → ℕ = λ t. get_or (neighbours links x) t 0 in
-    let back : place_of v (neighbours links x) + 1 - 1 ≡ h.0 = omega (arith, p) in
+    let back : index_in v (neighbours links x) + 1 - 1 ≡ h.0 = omega (arith, p) in
     ((known.0, omega arith, omega (arith, p, h.1)), ap G back ∙ h.2 0)
 
 -- a port's node is joined with the node that the port leads to
@@ -133,8 +133,8 @@ pub port-is : (count : ℕ) (links : List Link) → IsTree count links → (p : 
 port-is count links tree p h =
     let xs = neighbours links p.node.0 in
     let none = neighbours-differ links (apart-from_graph links tree.graph.no_second) p.node.0 in
-    let e : place_of (far_node links p) xs ≡ p.port.0 - 1 = place-at (far_node links p) xs (p.port.0 - 1) 0 none (omega (arith, h.1, h.2)) refl in
-    let n : p.port.0 ≡ place_of (far_node links p) xs + 1 = omega (arith, e, h.1) in
+    let e : index_in (far_node links p) xs ≡ p.port.0 - 1 = place-at (far_node links p) xs (p.port.0 - 1) 0 none (omega (arith, h.1, h.2)) refl in
+    let n : p.port.0 ≡ index_in (far_node links p) xs + 1 = omega (arith, e, h.1) in
     ap (λ (t : ℕ). let r : EgressPort = record { node = record { 0 = p.node.0 }; port = record { 0 = t } } in r) n
 
 -- the peer of the port towards a neighbour is the neighbour's port back

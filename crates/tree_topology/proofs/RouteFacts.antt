@@ -8,7 +8,7 @@ use Rattle.srp_base.specs.declared.numbers.EgressPort.{EgressPort}
 use Rattle.tree_topology.specs.declared.graph.Link.{Link}
 use Rattle.tree_topology.specs.declared.graph.NodeKind.{NodeKind}
 use Rattle.tree_topology.specs.Graph.{IsNode, Joined, IsWalk, IsTree}
-use Rattle.tree_topology.specs.Ports.{neighbours, place_of, port_to, IsPort, far_node, egress_ports, link_at}
+use Rattle.tree_topology.specs.Ports.{neighbours, index_in, port_to, IsPort, far_node, egress_ports, link_at}
 use Rattle.tree_topology.specs.Walk.{walk_between, path_between, begins_with, is_behind}
 use Rattle.tree_topology.specs.Routes.{Routed, IsRooted, IsRouted, ports_made}
 use Rattle.tree_topology.proofs.Climbs as climbs
@@ -144,12 +144,12 @@ behind-parent count links tree p y up b h n e f =
     ap not (f ∙ ap (λ (t : ℕ). begins_with p.node.0 (walk_between links t y)) e) ∙ sym (sides count links tree p.node.0 (far_node links p) y h.0 n (port-joined count links p h))
 
 -- the first place at which a node stands
-pub place-first : (xs : List ℕ) (v i : ℕ) → i ≤ length xs → ((k : ℕ) → k < i → get_or xs k 0 ≢ v) → (i < length xs → get_or xs i 0 ≡ v) → place_of v xs ≡ i
+pub place-first : (xs : List ℕ) (v i : ℕ) → i ≤ length xs → ((k : ℕ) → k < i → get_or xs k 0 ≢ v) → (i < length xs → get_or xs i 0 ≡ v) → index_in v xs ≡ i
 place-first xs v i le before here =
     position_or_len_is (λ (u : ℕ). u == v) xs i 0 le (λ k lt. (let n = before k lt in let t : (get_or xs k 0 == v) ≡ false = grind (arith, nat_tests) in t)) (λ lt. (let e = here lt in let t : (get_or xs i 0 == v) ≡ true = grind (arith, nat_tests) in t))
 
 -- the number of the port towards a neighbour fits
-pub port-fits : (kinds : List NodeKind) (links : List Link) (parents depths : List ℕ) (x v place : ℕ) → IsRouted kinds links parents depths → Joined links x v → place ≡ place_of v (neighbours links x) → (x ≤ length kinds) × (place + 1 ≤ 255)
+pub port-fits : (kinds : List NodeKind) (links : List Link) (parents depths : List ℕ) (x v place : ℕ) → IsRouted kinds links parents depths → Joined links x v → place ≡ index_in v (neighbours links x) → (x ≤ length kinds) × (place + 1 ≤ 255)
 port-fits kinds links parents depths x v place h j e =
     let p = port-leads (length kinds) links h.accepted.tree x v j in
     let few = h.accepted.counted_ports x p.0.0 in

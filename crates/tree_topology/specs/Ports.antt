@@ -15,12 +15,12 @@ abbrev pub neighbours : List Link → ℕ → List ℕ
 neighbours links x = filter_map (far_end x) links
 
 -- the place of a node in a list, counted from 0
-abbrev pub place_of : ℕ → List ℕ → ℕ
-place_of v xs = position_or_len (λ u. u == v) xs
+abbrev pub index_in : ℕ → List ℕ → ℕ
+index_in v xs = position_or_len (λ u. u == v) xs
 
 -- the egress port of a node towards its neighbour
 abbrev pub port_to : List Link → ℕ → ℕ → EgressPort
-port_to links x v = record { node = record { 0 = x }; port = record { 0 = place_of v (neighbours links x) + 1 } }
+port_to links x v = record { node = record { 0 = x }; port = record { 0 = index_in v (neighbours links x) + 1 } }
 
 -- the port exists
 abbrev pub IsPort : ℕ → List Link → EgressPort → Type 0

@@ -2,7 +2,7 @@
 
 ghost use Rattle.std.specs.Prelude.{◌≡◌, ◌≢◌, ◌<◌, ◌≤◌, ◌↔◌, length, IsSome, IfSome, OnOk, IfOk, IfErr, slice_index};
 ghost use Rattle.tree_topology.specs.Graph.{IsNode, Joined};
-ghost use Rattle.tree_topology.specs.Ports.{IsPort, far_node, neighbours, place_of, port_to, peer_of, ends_of};
+ghost use Rattle.tree_topology.specs.Ports.{IsPort, far_node, neighbours, index_in, port_to, peer_of, ends_of};
 ghost use Rattle.tree_topology.specs.Walk.{begins_with, walk_between, is_behind};
 ghost use Rattle.tree_topology.specs.Refusal.{IsAccepted, IsRefusal};
 
@@ -204,7 +204,7 @@ impl Routes {
 
 /// The place of a node in a list.
 fn place_of(nodes: &[u16], node: u16) -> usize
-    ensures { result ≡ place_of node nodes.now }
+    ensures { result ≡ index_in node nodes.now }
 {
     for (i, u) in nodes.iter().enumerate() {
         if *u == node {

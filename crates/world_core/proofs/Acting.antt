@@ -53,7 +53,7 @@ use Rattle.world_core.specs.declared.events.WorldEvent.{WorldEvent}
 use Rattle.world_core.specs.declared.events.WorldEvent.TheVariants.{Request, Port, Lose, Repeat}
 use Rattle.world_core.specs.declared.journal.NodeSteps.{NodeSteps}
 use Rattle.world_core.specs.declared.journal.Tick.{Tick}
-use Rattle.world_core.specs.World.{WorldState, node_at, app_of, lost, after_repeat, step_of_node, world_step, world_after}
+use Rattle.world_core.specs.World.{WorldState, node_at, app_of, with_loss, after_repeat, step_of_node, world_step, world_after}
 use Rattle.world_core.specs.Ticks.{event_of, scripted_from, with_event, stream_at, talker_of_entry, step_events, after_script, after_steps, is_send, IsLegalTick}
 use Rattle.world_core.specs.Force.{no_force, is_registered_row, registered_vids}
 use Rattle.world_core.specs.Timeline.{node_force, force_at}
@@ -217,7 +217,7 @@ request_keeps n request p w = step_keeps n (node_events.Request request) p (aske
 loss_keeps : (q : EgressPort) (index : ℕ) → Keeps (Lose q index)
 loss_keeps q index p w = by (app_of q index w)
   where
-    by : (o : Option App) → force_at p (lost q index o w).0 ≡ force_at p w
+    by : (o : Option App) → force_at p (with_loss q index o w).0 ≡ force_at p w
     by None = refl
     by (Some app) =
         let k = place_of p.port in

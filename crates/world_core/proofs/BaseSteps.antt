@@ -25,7 +25,7 @@ use Rattle.node_core.specs.Links.{with_outbox, with_carried, lost_at, repeated_a
 use Rattle.node_core.specs.Proper.{IsProperNode, IsInRange, AreProperWires}
 use Rattle.world_core.specs.declared.events.WorldEvent.{WorldEvent}
 use Rattle.world_core.specs.declared.events.WorldEvent.TheVariants.{Request, Port, Lose, Repeat, Carry, Clock}
-use Rattle.world_core.specs.World.{WorldState, node_at, with_changed, outbox, app_of, lost, after_repeat, world_step, CanHappen, IsEventInRange}
+use Rattle.world_core.specs.World.{WorldState, node_at, with_changed, outbox, app_of, with_loss, after_repeat, world_step, CanHappen, IsEventInRange}
 use Rattle.world_core.specs.Kept.{FitsTree}
 use Rattle.world_core.proofs.Lists.{one_some}
 use Rattle.world_core.proofs.Nodes.{Base, IsOfSamePlace, base_changed, stepped_is, ticked_get, ticked_length, node_there, place_within, proper_at, outbox_is}
@@ -94,7 +94,7 @@ module _ (nodes : NodeLaws) where
   base_spoilt : (app : App) (n : NodeNo) (at : ℕ) (w : WorldState) → Base w → Base (with_changed n (spoilt_at app at) w)
   base_spoilt app n at w base = base_changed n (spoilt_at app at) w base (λ s is. spoilt_stays app at s (proper_at w base n s is))
 
-  base_lose : (e : EgressPort) (index : ℕ) (o : Option App) (w : WorldState) → Base w → Base (lost e index o w).0
+  base_lose : (e : EgressPort) (index : ℕ) (o : Option App) (w : WorldState) → Base w → Base (with_loss e index o w).0
   base_lose e index None w base = base
   base_lose e index (Some app) w base =
       let fewer = with_changed e.node (lost_at (place_of e.port) index) w in

@@ -33,7 +33,7 @@ use Rattle.world_core.specs.declared.events.WorldEvent.{WorldEvent}
 use Rattle.world_core.specs.declared.events.WorldEvent.TheVariants.{Request, Port, Lose, Repeat, Carry, Clock}
 use Rattle.world_core.specs.declared.journal.NodeSteps.{NodeSteps}
 use Rattle.world_core.specs.declared.journal.Tick.{Tick}
-use Rattle.world_core.specs.World.{WorldState, node_at, with_node, with_changed, outbox, app_of, lost, after_repeat, after_carrying, world_step, world_after}
+use Rattle.world_core.specs.World.{WorldState, node_at, with_node, with_changed, outbox, app_of, with_loss, after_repeat, after_carrying, world_step, world_after}
 use Rattle.world_core.specs.Start.{world_of, nodes_from}
 use Rattle.world_core.specs.Ticks.{event_of, stream_at, with_event, scripted_from, script_at, step_events, link_ports, closing_events, tick_events, after_script, after_steps, is_send}
 use Rattle.world_core.specs.During.{IsDuring}
@@ -124,7 +124,7 @@ carry_stays q p w none =
     changed_stays r.node (with_carried (place_of r.port) (outbox q w)) p (λ s h. h) taken
     (changed_stays q.node (with_outbox (place_of q.port) []) p (λ s h. box_stays s.outboxes (place_of q.port) (place_of p.port) h) w none)
 
-loss_stays : (q : EgressPort) (index : ℕ) (o : Option App) (p : EgressPort) (w : WorldState) → outbox p w ≡ [] → outbox p (lost q index o w).0 ≡ []
+loss_stays : (q : EgressPort) (index : ℕ) (o : Option App) (p : EgressPort) (w : WorldState) → outbox p w ≡ [] → outbox p (with_loss q index o w).0 ≡ []
 loss_stays q index None p w none = none
 loss_stays q index (Some app) p w none =
     let without = with_changed q.node (lost_at (place_of q.port) index) w in

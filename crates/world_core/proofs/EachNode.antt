@@ -16,7 +16,7 @@ use Rattle.node_core.specs.State.{NodeState}
 use Rattle.node_core.specs.Step.{node_step}
 use Rattle.world_core.specs.declared.events.WorldEvent.{WorldEvent}
 use Rattle.world_core.specs.declared.events.WorldEvent.TheVariants.{Request, Port, Lose, Repeat, Carry, Clock}
-use Rattle.world_core.specs.World.{WorldState, node_at, with_changed, step_of_node, spoilt, lost, after_repeat, app_of, outbox, world_step}
+use Rattle.world_core.specs.World.{WorldState, node_at, with_changed, step_of_node, with_unsound_ends, with_loss, after_repeat, app_of, outbox, world_step}
 use Rattle.world_core.proofs.Lists.{set_each}
 use Rattle.world_core.proofs.Nodes.{stepped_is, ticked_get}
 
@@ -59,13 +59,13 @@ module _ (P : ℕ → NodeState → Type 0) where
       by (s, is, become) = subst (P x) become (keeps x s is (all x s is))
 
   module _ (sides : IsOfSides P) where
-    all_spoilt : (app : App) (p : EgressPort) (w : WorldState) → AllNodes P w → AllNodes P (spoilt app p w)
+    all_spoilt : (app : App) (p : EgressPort) (w : WorldState) → AllNodes P w → AllNodes P (with_unsound_ends app p w)
     all_spoilt app p w all =
         let q = peer_of w.tree.links p in
         all_changed q.node (spoilt_at app (place_of q.port)) (with_changed p.node (spoilt_at app (place_of p.port)) w) (λ s is h. sides.marks app (place_of q.port) (q.node.0 - 1) s h)
         (all_changed p.node (spoilt_at app (place_of p.port)) w (λ s is h. sides.marks app (place_of p.port) (p.node.0 - 1) s h) all)
 
-    all_lost : (p : EgressPort) (index : ℕ) (o : Option App) (w : WorldState) → AllNodes P w → AllNodes P (lost p index o w).0
+    all_lost : (p : EgressPort) (index : ℕ) (o : Option App) (w : WorldState) → AllNodes P w → AllNodes P (with_loss p index o w).0
     all_lost p index None w all = all
     all_lost p index (Some app) w all =
         all_spoilt app p (with_changed p.node (lost_at (place_of p.port) index) w)

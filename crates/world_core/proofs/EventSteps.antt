@@ -25,7 +25,7 @@ use Rattle.node_core.specs.Step.{node_step}
 use Rattle.node_core.specs.Links.{with_outbox, with_carried, lost_at, repeated_at, spoilt_at}
 use Rattle.world_core.specs.declared.events.WorldEvent.{WorldEvent}
 use Rattle.world_core.specs.declared.events.WorldEvent.TheVariants.{Request, Port, Lose, Repeat, Carry, Clock}
-use Rattle.world_core.specs.World.{WorldState, node_at, with_changed, inbox, outbox, app_of, spoilt, lost, after_repeat, after_clock, world_step, CanHappen}
+use Rattle.world_core.specs.World.{WorldState, node_at, with_changed, inbox, outbox, app_of, with_unsound_ends, with_loss, after_repeat, after_clock, world_step, CanHappen}
 use Rattle.world_core.specs.Duty.{part_at}
 use Rattle.world_core.proofs.Lists.{one_some, nothing_lost, said_twice}
 use Rattle.world_core.proofs.Boxes.{box_got, box_other, box_none}
@@ -224,7 +224,7 @@ module _ {K C : Type 0} (v : AppView K C) (links : LinkLaws v) (facts : StepFact
       abbrev both_spoilt : WorldState
       both_spoilt = with_changed q.node (spoilt_at app (place_of q.port)) near_spoilt
 
-      is_spoilt : both_spoilt ≡ spoilt app e fewer
+      is_spoilt : both_spoilt ≡ with_unsound_ends app e fewer
       is_spoilt =
           ap (λ (t : Topology). with_changed (peer_of t.links e).node (spoilt_at app (place_of (peer_of t.links e).port)) near_spoilt)
           (sym (same_tree e.node (lost_at (place_of e.port) index) w))
@@ -265,11 +265,11 @@ module _ {K C : Type 0} (v : AppView K C) (links : LinkLaws v) (facts : StepFact
       lost_part : v.part (place_of e.port) lost_e ≡ Some old_e.0
       lost_part = facts.boxes (place_of e.port) node_e.0 _ node_e.0.outboxes ∙ old_e.1
 
-      whole_loss : MetOn v w.tree both_spoilt → AreMet v (spoilt app e fewer)
+      whole_loss : MetOn v w.tree both_spoilt → AreMet v (with_unsound_ends app e fewer)
       whole_loss on = subst (AreMet v) is_spoilt (on_tree v w both_spoilt tree_both on)
 
       -- a PDU of the application: neither end is sound any more
-      own_loss : app ≡ facts.app → AreMet v (spoilt app e fewer)
+      own_loss : app ≡ facts.app → AreMet v (with_unsound_ends app e fewer)
       own_loss own =
           whole_loss (one_link v w.tree laws links.turns w both_spoilt e has else_same met (λ near far a b.
           let near_is : unsound old_e.0 ≡ near = one_some _ (unsound old_e.0) near
@@ -288,7 +288,7 @@ module _ {K C : Type 0} (v : AppView K C) (links : LinkLaws v) (facts : StepFact
           })))
 
       -- a PDU of another application says nothing
-      other_loss : app ≢ facts.app → app_of e index w ≡ Some app → AreMet v (spoilt app e fewer)
+      other_loss : app ≢ facts.app → app_of e index w ≡ Some app → AreMet v (with_unsound_ends app e fewer)
       other_loss other is =
           whole_loss (one_link v w.tree laws links.turns w both_spoilt e has else_same met (λ near far a b.
           let near_is : old_e.0 ≡ near = one_some _ old_e.0 near (facts.spoilt_other app (place_of e.port) (place_of e.port) lost_e other ∙ lost_part) (sym (part_is v e both_spoilt _ e_both) ∙ a) in
@@ -311,11 +311,11 @@ module _ {K C : Type 0} (v : AppView K C) (links : LinkLaws v) (facts : StepFact
   met_lose : (e : EgressPort) (index : ℕ) (w : WorldState) → HasPortLaws w.tree → HasPort w.tree e → Base w → AreMet v w → AreMet v (world_step (Lose e index) w).0
   met_lose e index w laws has base met = by (app_of e index w) refl
     where
-      by : (a : Option App) → app_of e index w ≡ a → AreMet v (lost e index a w).0
+      by : (a : Option App) → app_of e index w ≡ a → AreMet v (with_loss e index a w).0
       by None is = met
       by (Some app) is = either (decide_app app facts.app)
         where
-          either : (app ≡ facts.app) ⊎ (app ≢ facts.app) → AreMet v (spoilt app e (with_changed e.node (lost_at (place_of e.port) index) w))
+          either : (app ≡ facts.app) ⊎ (app ≢ facts.app) → AreMet v (with_unsound_ends app e (with_changed e.node (lost_at (place_of e.port) index) w))
           either (inl own) = own_loss e w laws has base met index app own
           either (inr other) = other_loss e w laws has base met index app other is
 

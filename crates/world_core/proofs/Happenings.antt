@@ -18,7 +18,7 @@ use Rattle.node_core.specs.declared.types.Wire.{Wire}
 use Rattle.node_core.specs.State.{NodeState, box_at, ports_of}
 use Rattle.node_core.proofs.Boxes.{set_set, set_same}
 use Rattle.node_core.specs.Links.{with_outbox, with_carried, has_index, lost_at, spoilt_at}
-use Rattle.world_core.specs.World.{WorldState, StandsAt, nodes_with, with_changed, outbox, app_of, spoilt, after_carrying}
+use Rattle.world_core.specs.World.{WorldState, StandsAt, nodes_with, with_changed, outbox, app_of, with_unsound_ends, after_carrying}
 use Rattle.world_core.proofs.Boxes.{box_none}
 use Rattle.world_core.proofs.Lists.{set_each, get_set, get_set_same}
 
@@ -110,11 +110,11 @@ of_tree tree nodes = record { tree = tree; nodes = nodes }
 pub lose_is : (p q : EgressPort) (index : ℕ) (app : App) (tree : Topology) (nodes a b c : List NodeState) → q ≡ peer_of tree.links p
     → a ≡ nodes_with p.node (lost_at (place_of p.port) index) nodes → b ≡ nodes_with p.node (spoilt_at app (place_of p.port)) a
     → c ≡ nodes_with q.node (spoilt_at app (place_of q.port)) b
-    → spoilt app p (with_changed p.node (lost_at (place_of p.port) index) (record { tree = tree; nodes = nodes })) ≡ record { tree = tree; nodes = c }
+    → with_unsound_ends app p (with_changed p.node (lost_at (place_of p.port) index) (record { tree = tree; nodes = nodes })) ≡ record { tree = tree; nodes = c }
 unfolding of_tree
 lose_is p q index app tree nodes a b c eq ea eb ec =
     let r = peer_of tree.links p in
-    ap (spoilt app p) (changed_is p.node (lost_at (place_of p.port) index) (of_tree tree nodes) ∙ ap (of_tree tree) (sym ea))
+    ap (with_unsound_ends app p) (changed_is p.node (lost_at (place_of p.port) index) (of_tree tree nodes) ∙ ap (of_tree tree) (sym ea))
     ∙ (ap (with_changed r.node (spoilt_at app (place_of r.port))) (changed_is p.node (spoilt_at app (place_of p.port)) (of_tree tree a) ∙ ap (of_tree tree) (sym eb))
     ∙ (changed_is r.node (spoilt_at app (place_of r.port)) (of_tree tree b)
     ∙ ap (of_tree tree) (ap (λ (q : EgressPort). nodes_with q.node (spoilt_at app (place_of q.port)) b) (sym eq) ∙ sym ec)))

@@ -16,7 +16,7 @@ use Rattle.srp_base.specs.Bandwidth.{bits_of}
 use Rattle.tree_topology.specs.declared.graph.Link.{Link}
 use Rattle.tree_topology.specs.Topology.{Topology}
 use Rattle.tree_topology.specs.Graph.{Joins, Joined}
-use Rattle.tree_topology.specs.Ports.{far_end, neighbours, place_of, port_to, link_at}
+use Rattle.tree_topology.specs.Ports.{far_end, neighbours, index_in, port_to, link_at}
 use Rattle.topology_file.specs.declared.entries.LinkEntry.{LinkEntry}
 use Rattle.topology_file.specs.Plan.{Plan}
 use Rattle.topology_file.specs.Scenario.{KeepsRules, ends_of_entry, tree_links}
@@ -80,25 +80,25 @@ leads x l =
 
 -- the first link that joins two nodes stands at the place of the one among the other's
 first_link : (x v : ℕ) (ls : List LinkEntry) (i : ℕ) (l : LinkEntry) → slice_get ls i ≡ Some l → far_end x (ends_of_entry l) ≡ Some v → ¬ Joined (take i (tree_links ls)) x v
-    → slice_get (links_at x ls) (place_of v (ends_at x ls)) ≡ Some l
+    → slice_get (links_at x ls) (index_in v (ends_at x ls)) ≡ Some l
 first_link x v [] i l is far none = absurd (none-some l is)
 first_link x v (k ∷ ls) zero l is far none =
     let here = same_Some k l is in
     let far' = subst (λ (m : LinkEntry). far_end x (ends_of_entry m) ≡ Some v) (sym here) far in
-    ap (λ (ms : List LinkEntry). slice_get ms (place_of v (ends_at x (k ∷ ls)))) (cond-true (is_link_of x k) (k ∷ links_at x ls) (links_at x ls) (is_of x v k far'))
+    ap (λ (ms : List LinkEntry). slice_get ms (index_in v (ends_at x (k ∷ ls)))) (cond-true (is_link_of x k) (k ∷ links_at x ls) (links_at x ls) (is_of x v k far'))
     ∙ ap (slice_get (k ∷ links_at x ls)) (at_place (far_end x (ends_of_entry k)) (ends_at x ls) v far') ∙ is
 first_link x v (k ∷ ls) (suc i) l is far none =
     let rest = first_link x v ls i l is far (λ h. none (inr h)) in
     elim (leads x k) [
       | inr h ↦ (
-          ap (λ (ms : List LinkEntry). slice_get ms (place_of v (ends_at x (k ∷ ls)))) (cond-false (is_link_of x k) (k ∷ links_at x ls) (links_at x ls) h.1)
-          ∙ ap (λ (o : Option ℕ). slice_get (links_at x ls) (place_of v (cons_option o (ends_at x ls)))) h.0 ∙ rest)
+          ap (λ (ms : List LinkEntry). slice_get ms (index_in v (ends_at x (k ∷ ls)))) (cond-false (is_link_of x k) (k ∷ links_at x ls) (links_at x ls) h.1)
+          ∙ ap (λ (o : Option ℕ). slice_get (links_at x ls) (index_in v (cons_option o (ends_at x ls)))) h.0 ∙ rest)
       | inl h ↦ (
           let u = h.0 in
           let other : (u == v) ≡ false = ne_eqb u v (λ e. none (inl (subst (λ (w : ℕ). Joins (ends_of_entry k) x w) e h.2))) in
-          ap (λ (ms : List LinkEntry). slice_get ms (place_of v (ends_at x (k ∷ ls)))) (cond-true (is_link_of x k) (k ∷ links_at x ls) (links_at x ls) (is_of x u k h.1))
-          ∙ ap (λ (o : Option ℕ). slice_get (k ∷ links_at x ls) (place_of v (cons_option o (ends_at x ls)))) h.1
-          ∙ ap (slice_get (k ∷ links_at x ls)) (cond-true (not (u == v)) (1 + place_of v (ends_at x ls)) 0 (not_from_false (u == v) other) ∙ (let e : 1 + place_of v (ends_at x ls) ≡ suc (place_of v (ends_at x ls)) = omega arith in e))
+          ap (λ (ms : List LinkEntry). slice_get ms (index_in v (ends_at x (k ∷ ls)))) (cond-true (is_link_of x k) (k ∷ links_at x ls) (links_at x ls) (is_of x u k h.1))
+          ∙ ap (λ (o : Option ℕ). slice_get (k ∷ links_at x ls) (index_in v (cons_option o (ends_at x ls)))) h.1
+          ∙ ap (slice_get (k ∷ links_at x ls)) (cond-true (not (u == v)) (1 + index_in v (ends_at x ls)) 0 (not_from_false (u == v) other) ∙ (let e : 1 + index_in v (ends_at x ls) ≡ suc (index_in v (ends_at x ls)) = omega arith in e))
           ∙ rest)
     ]
 
@@ -141,7 +141,7 @@ module _ (plan : Plan) (rules : KeepsRules plan) where
   caps_to : (i : ℕ) (e : LinkEntry) (x v : ℕ) → slice_get plan.links i ≡ Some e → far_end x (ends_of_entry e) ≡ Some v → ¬ Joined (take i links) x v
       → caps_at plan (port_to links x v) ≡ caps_of_link e
   caps_to i e x v is far none =
-      let place = place_of v (neighbours links x) in
+      let place = index_in v (neighbours links x) in
       ap (λ (j : ℕ). option_map_or caps_of_link (slice_get (links_of x plan) j) no_caps) (let e' : place + 1 - 1 ≡ place = omega arith in e')
       ∙ ap (λ (o : Option LinkEntry). option_map_or caps_of_link o no_caps) (first_link x v plan.links i e is far none)
 

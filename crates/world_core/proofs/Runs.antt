@@ -43,7 +43,7 @@ use Rattle.world_core.specs.declared.events.WorldEvent.{WorldEvent}
 use Rattle.world_core.specs.declared.events.WorldEvent.TheVariants.{Request, Port, Lose, Repeat, Carry, Clock}
 use Rattle.world_core.specs.declared.journal.NodeSteps.{NodeSteps}
 use Rattle.world_core.specs.declared.journal.Tick.{Tick}
-use Rattle.world_core.specs.World.{WorldState, with_changed, step_of_node, outbox, app_of, spoilt, lost, after_repeat, world_step, world_after, CanHappen, CanAllHappen, IsEventInRange}
+use Rattle.world_core.specs.World.{WorldState, with_changed, step_of_node, outbox, app_of, with_unsound_ends, with_loss, after_repeat, world_step, world_after, CanHappen, CanAllHappen, IsEventInRange}
 use Rattle.world_core.specs.Start.{world_of}
 use Rattle.world_core.specs.Ticks.{talker_of_entry, stream_at, event_of, with_event, scripted_from, script_at, step_events, link_ports, tick_events, IsLegalTick, LeadTo}
 use Rattle.world_core.specs.During.{IsDuring, IsAllowed, NamesNeighbours}
@@ -58,12 +58,12 @@ use Rattle.world_core.proofs.EachNode.{AllNodes, IsOfSides, KeepsOwn, all_keep}
 tree_stepped : (n : NodeNo) (event : NodeEvent) (w : WorldState) → (step_of_node n event w).0.tree ≡ w.tree
 tree_stepped n event w = ap (λ (v : WorldState). v.tree) (sym (stepped_is n event w)) ∙ same_tree n (λ s. (node_step event s).0) w
 
-tree_spoilt : (app : App) (p : EgressPort) (w : WorldState) → (spoilt app p w).tree ≡ w.tree
+tree_spoilt : (app : App) (p : EgressPort) (w : WorldState) → (with_unsound_ends app p w).tree ≡ w.tree
 tree_spoilt app p w =
     let q = peer_of w.tree.links p in
     same_tree q.node (spoilt_at app (place_of q.port)) (with_changed p.node (spoilt_at app (place_of p.port)) w) ∙ same_tree p.node (spoilt_at app (place_of p.port)) w
 
-tree_lost : (p : EgressPort) (index : ℕ) (o : Option App) (w : WorldState) → (lost p index o w).0.tree ≡ w.tree
+tree_lost : (p : EgressPort) (index : ℕ) (o : Option App) (w : WorldState) → (with_loss p index o w).0.tree ≡ w.tree
 tree_lost p index None w = refl
 tree_lost p index (Some app) w =
     tree_spoilt app p (with_changed p.node (lost_at (place_of p.port) index) w) ∙ same_tree p.node (lost_at (place_of p.port) index) w

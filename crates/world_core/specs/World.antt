@@ -79,15 +79,15 @@ abbrev pub step_of_node : NodeNo → NodeEvent → WorldState → Happened
 step_of_node n event w = option_map_or (λ s. after_step n (node_step event s) w) (node_at n w) (w, Missed)
 
 -- neither end of a port's link is sound any more for an application
-abbrev pub spoilt : App → EgressPort → WorldState → WorldState
-spoilt app p w =
+abbrev pub with_unsound_ends : App → EgressPort → WorldState → WorldState
+with_unsound_ends app p w =
     let q = peer_of w.tree.links p in
     with_changed q.node (spoilt_at app (place_of q.port)) (with_changed p.node (spoilt_at app (place_of p.port)) w)
 
 -- the PDU of an index in a port's inbox is lost, where there is one
-abbrev pub lost : EgressPort → ℕ → Option App → WorldState → Happened
-lost p index None w = (w, Missed)
-lost p index (Some app) w = (spoilt app p (with_changed p.node (lost_at (place_of p.port) index) w), Done)
+abbrev pub with_loss : EgressPort → ℕ → Option App → WorldState → Happened
+with_loss p index None w = (w, Missed)
+with_loss p index (Some app) w = (with_unsound_ends app p (with_changed p.node (lost_at (place_of p.port) index) w), Done)
 
 -- it is there twice
 abbrev pub after_repeat : EgressPort → ℕ → Option App → WorldState → Happened
@@ -112,7 +112,7 @@ sets_of nodes = map (λ s. next_sets (s.clock.0 + 1) s.streams) nodes
 abbrev pub world_step : WorldEvent → WorldState → Happened
 world_step (Request n request) w = step_of_node n (node_events.Request request) w
 world_step (Port n port step) w = step_of_node n (node_events.Port port step) w
-world_step (Lose p index) w = lost p index (app_of p index w) w
+world_step (Lose p index) w = with_loss p index (app_of p index w) w
 world_step (Repeat p index) w = after_repeat p index (app_of p index w) w
 world_step (Carry p) w = (after_carrying p w, Done)
 world_step Clock w = (after_clock w, Done)

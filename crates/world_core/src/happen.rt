@@ -10,7 +10,7 @@ ghost use Rattle.node_core.specs.State.{NodeState, box_at};
 ghost use Rattle.node_core.specs.Wires.{AreShort};
 ghost use Rattle.node_core.specs.Step.{CanStep, node_step};
 ghost use Rattle.node_core.specs.Links.{with_outbox, with_carried, lost_at, repeated_at, spoilt_at};
-ghost use Rattle.world_core.specs.World.{StandsAt, sets_of, nodes_with, step_of_node, app_of, lost, after_repeat, world_step};
+ghost use Rattle.world_core.specs.World.{StandsAt, sets_of, nodes_with, step_of_node, app_of, with_loss, after_repeat, world_step};
 
 use crate::events::{WorldEvent, WorldReply};
 use msrp::ClockSets;
@@ -118,7 +118,7 @@ pub(crate) fn lose(tree: &Tree, nodes: &mut Vec<Node>, at: EgressPort, index: u3
     requires port { HasPort tree.now at }
     requires here { StandsAt at nodes.old.items }
     requires there { StandsAt (peer_of tree.now.links at) nodes.old.items }
-    ensures { lost at index (app_of at index (record { tree = tree.now; nodes = nodes.old.items }))
+    ensures { with_loss at index (app_of at index (record { tree = tree.now; nodes = nodes.old.items }))
         (record { tree = tree.now; nodes = nodes.old.items })
         ≡ (record { tree = tree.now; nodes = nodes.new.items }, result) }
 {

@@ -1,6 +1,6 @@
 use Rattle.std.proofs.Common.{List, ℕ, refl, sym, ap, subst, ◌∙◌, arith}
 use Rattle.tree_topology.specs.Graph.{Joined}
-use Rattle.tree_topology.specs.Ports.{place_of}
+use Rattle.tree_topology.specs.Ports.{index_in}
 use Rattle.tree_topology.specs.Routes.{Routed}
 use Rattle.tree_topology.proofs.RouteFacts.{port-fits}
 use Rattle.tree_topology.proofs.routes.Routes.port_to.Goals as goal
@@ -13,11 +13,11 @@ neighbours-requires c =
 pub overflow_add-result : goal.overflow_add-result
 overflow_add-result c =
     let F : Routed → Type 0 = λ r. Joined r.links c.args.node c.args.neighbour in
-    let fits = port-fits _ _ _ _ c.args.node c.args.neighbour c.place_of-place.result c.self.invariant (subst F (sym c.self.view_is) c.requires) (c.place_of-place.ensures ∙ ap (λ (t : List ℕ). place_of c.args.neighbour t) c.neighbours.ensures) in
+    let fits = port-fits _ _ _ _ c.args.node c.args.neighbour c.place_of-place.result c.self.invariant (subst F (sym c.self.view_is) c.requires) (c.place_of-place.ensures ∙ ap (λ (t : List ℕ). index_in c.args.neighbour t) c.neighbours.ensures) in
     omega (arith, fits.1)
 
 pub overflow_cast-result : goal.overflow_cast-result
 overflow_cast-result c =
     let F : Routed → Type 0 = λ r. Joined r.links c.args.node c.args.neighbour in
-    let fits = port-fits _ _ _ _ c.args.node c.args.neighbour c.place_of-place.result c.self.invariant (subst F (sym c.self.view_is) c.requires) (c.place_of-place.ensures ∙ ap (λ (t : List ℕ). place_of c.args.neighbour t) c.neighbours.ensures) in
+    let fits = port-fits _ _ _ _ c.args.node c.args.neighbour c.place_of-place.result c.self.invariant (subst F (sym c.self.view_is) c.requires) (c.place_of-place.ensures ∙ ap (λ (t : List ℕ). index_in c.args.neighbour t) c.neighbours.ensures) in
     omega (arith, fits.1)
