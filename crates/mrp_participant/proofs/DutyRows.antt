@@ -302,7 +302,8 @@ module _ {K C : Type 0} where
   events-alone cmp k [] held = refl
   events-alone cmp k (e ∷ events) held = hearing-alone cmp k held e events (same cmp e.1 k) (events-alone cmp k events)
 
-  in_states : Applicant → Registrar → Row K C → Row K C
+  -- a row in any states of its machines
+  unfoldable pub in_states : Applicant → Registrar → Row K C → Row K C
   in_states a g r = record r { applicant = a; registrar = g }
 
   -- what a row owes after sending, by what it said

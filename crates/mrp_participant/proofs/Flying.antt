@@ -79,15 +79,18 @@ module _ {K C : Type 0} (cmp : K → K → Ordering) (k : K) where
 
 -- ---- whether a LeaveAll is in flight
 
-or-true_right : (a b : Bool) → b ≡ true → (a || b) ≡ true
+-- a disjunction holds by what stands right
+pub or-true_right : (a b : Bool) → b ≡ true → (a || b) ≡ true
 or-true_right true b h = refl
 or-true_right false b h = h
 
-or-true_left : (a b : Bool) → a ≡ true → (a || b) ≡ true
+-- and by what stands left
+pub or-true_left : (a b : Bool) → a ≡ true → (a || b) ≡ true
 or-true_left true b h = refl
 or-true_left false b h = cc
 
-or-map_right : (a b b' : Bool) → (b ≡ true → b' ≡ true) → (a || b) ≡ true → (a || b') ≡ true
+-- and goes on to hold where its right side does
+pub or-map_right : (a b b' : Bool) → (b ≡ true → b' ≡ true) → (a || b) ≡ true → (a || b') ≡ true
 or-map_right true b b' f h = refl
 or-map_right false b b' f h = f h
 

@@ -1,5 +1,5 @@
 -- Whatever happens on a link keeps both duties met.
-use Rattle.std.proofs.Common.{◌≡◌, ℕ, zero, suc, Bool, true, false, not, ◌&&◌, ◌||◌, if◌then◌else◌, List, [], ◌∷◌, ◌++◌, refl, sym, ◌∙◌, subst, append_assoc}
+use Rattle.std.proofs.Common.{◌≡◌, ℕ, zero, suc, Bool, true, false, not, ◌&&◌, if◌then◌else◌, List, [], ◌∷◌, ◌++◌, refl, sym, ◌∙◌, subst, append_assoc}
 use Rattle.std.specs.declared.cmp.Ordering.{Ordering}
 use Rattle.std.specs.Cmp.{IsTotalOrder}
 use Rattle.srp_base.specs.declared.numbers.Cs.{Cs}
@@ -13,6 +13,7 @@ use Rattle.mrp_participant.specs.State.{State, Messages, AreRows, after, is_acti
 use Rattle.mrp_participant.proofs.Duties.{own-declare, far-declare, own-withdraw, far-withdraw, own-leave, far-leave, own-due, far-due, own-same, far-kept, own-periodic, far-periodic, own-send, far-send, own-receive, far-receive, twice-sent, twice-coming, unsound-met, still-held, due-sound}
 use Rattle.mrp_participant.proofs.Transitions.{AreRows-declare, AreRows-withdraw, AreRows-leave, AreRows-receive, AreRows-due, AreRows-periodic, AreRows-filter_mapped}
 use Rattle.mrp_participant.proofs.Sendings.{sent-keeps}
+use Rattle.mrp_participant.proofs.Flying.{or-true_right, or-true_left}
 
 -- what a repeat behind its original keeps, wherever it stands, the list with one element twice has
 pub repeated-keeps : {X : Type 0} (P : List X → Type 0) → ((front back : List X) (x : X) → P (front ++ (x ∷ back)) → P (front ++ (x ∷ (x ∷ back)))) → (i : ℕ) (front xs : List X) → P (front ++ xs) → P (front ++ with_repeat i xs)
@@ -127,14 +128,6 @@ module _ {K C : Type 0} (cmp : K → K → Ordering) where
 
 -- ---- soundness
 
-or-right : (a b : Bool) → b ≡ true → (a || b) ≡ true
-or-right true b h = refl
-or-right false b h = h
-
-or-left : (a b : Bool) → a ≡ true → (a || b) ≡ true
-or-left true b h = refl
-or-left false b h = cc
-
 -- an active LeaveAll machine isn't silent
 active-speaks : (a b : Bool) → a ≡ true → (not a && b) ≡ false
 active-speaks true b h = refl
@@ -143,7 +136,7 @@ active-speaks false b h = cc
 module _ {K C : Type 0} {cmp : K → K → Ordering} (o : IsTotalOrder cmp) (base : ℕ) (octets : C → ℕ) where
   sending-near : (now : Cs) (l : Link K C) (b : Bool) → l.near.sound ≡ true → (if b then l else record l { near = sent_state base octets cmp now l.near; sent = l.sent ++ (sent_messages base octets cmp now l.near ∷ []) }).near.sound ≡ true
   sending-near now l true h = h
-  sending-near now l false h = or-right (is_active l.near.leave_all) l.near.sound h
+  sending-near now l false h = or-true_right (is_active l.near.leave_all) l.near.sound h
 
   sending-far : (now : Cs) (l : Link K C) (b : Bool) → l.far.sound ≡ true → (if b then l else record l { near = sent_state base octets cmp now l.near; sent = l.sent ++ (sent_messages base octets cmp now l.near ∷ []) }).far.sound ≡ true
   sending-far now l true h = h
@@ -160,7 +153,7 @@ module _ {K C : Type 0} {cmp : K → K → Ordering} (o : IsTotalOrder cmp) (bas
   pub leave_all-sound_after : (now : Cs) (l : Link K C) → is_active l.near.leave_all ≡ true → (after_sending base octets cmp now l).near.sound ≡ true
   leave_all-sound_after now l on =
       subst (λ b. (if b then l else record l { near = sent_state base octets cmp now l.near; sent = l.sent ++ (sent_messages base octets cmp now l.near ∷ []) }).near.sound ≡ true)
-      (sym (active-speaks (is_active l.near.leave_all) (none_tried l.near.rows) on)) (or-left (is_active l.near.leave_all) l.near.sound on)
+      (sym (active-speaks (is_active l.near.leave_all) (none_tried l.near.rows) on)) (or-true_left (is_active l.near.leave_all) l.near.sound on)
 
   module _ (eq : C → C → Bool) where
     end-near_sound : (e : EndEvent K C) (l : Link K C) → is_loss e ≡ false → l.near.sound ≡ true → (after_end_event base octets cmp eq e l).near.sound ≡ true

@@ -20,7 +20,8 @@ use Rattle.mrp_participant.specs.Row.{is_live, applicant_takes, registrar_takes}
 use Rattle.mrp_participant.specs.Sending.{is_tried, is_taken, opportunity, row_after, sent_row, sent_event, order, octets_of, up_to}
 use Rattle.mrp_participant.specs.Cut.{is_in_room, first_cut}
 use Rattle.mrp_participant.specs.State.{State, AreRows, after, is_active, is_silent, none_tried, sent_events, sent_state}
-use Rattle.mrp_participant.proofs.Transitions.{Keeps, kept-is, registrar-lives, sent_leave_all-registers}
+use Rattle.mrp_participant.proofs.Transitions.{Keeps, kept-is, registrar-lives}
+use Rattle.registrar.proofs.RegistrarLemmas.{sent_leave_all-registers}
 use Rattle.mrp_participant.proofs.CutLemmas.{in_room, filter_map-same}
 
 -- ---- rows stay rows

@@ -24,16 +24,13 @@ use Rattle.mrp_participant.specs.State.{State, is_active, is_silent, none_tried}
 use Rattle.mrp_participant.proofs.CutLemmas.{In, find-in}
 use Rattle.mrp_participant.proofs.Octets.{sent_is}
 use Rattle.mrp_participant.proofs.Changes.{In-contains}
+use Rattle.mrp_participant.proofs.DutyRows.{in_states}
 
 first_holds : (a b : Bool) → (a && b) ≡ true → a ≡ true
 first_holds true b h = refl
 first_holds false b h = cc
 
 module _ {K C : Type 0} where
-  -- a row in any states of its machines
-  in_states : Applicant → Registrar → Row K C → Row K C
-  in_states a g r = record r { applicant = a; registrar = g }
-
   said_by : (leave_all : Bool) (leave : Cs) (r : Row K C) (a : Applicant) (g : Registrar) → not (round leave_all a == 0) ≡ true → sent_event leave_all true leave (in_states a g r) ≡ Some (word_of leave_all a (is_in g), r.key, r.content)
   unfolding in_states
   said_by true leave r Vo g h = cc

@@ -12,13 +12,13 @@ use Rattle.srp_base.specs.declared.mrp.MrpEvent.TheVariants.{New, JoinIn, OnlyIn
 use Rattle.applicant.specs.declared.Applicant.{Applicant}
 use Rattle.applicant.specs.declared.Applicant.TheVariants.{Vo, Vp, Vn, An, Aa, Qa, La}
 use Rattle.applicant.specs.Table as applicant
-use Rattle.registrar.specs.declared.Registrar.{Registrar}
-use Rattle.registrar.specs.declared.Registrar.TheVariants.{Held, Empty}
 use Rattle.applicant.specs.declared.AppEvent.{AppEvent}
 use Rattle.applicant.specs.declared.AppEvent.TheVariants.{RxIn, RxMt, RxLv as AppRxLv, RxLeaveAll as AppRxLeaveAll, Periodic}
 use Rattle.registrar.specs.declared.RegEvent.{RegEvent}
-use Rattle.registrar.specs.declared.RegEvent.TheVariants.{RxNew, RxJoin, RxLv as RegRxLv, RxLeaveAll as RegRxLeaveAll, TxLeaveAll, LeaveTimer}
+use Rattle.registrar.specs.declared.RegEvent.TheVariants.{RxNew, RxJoin, RxLv as RegRxLv, RxLeaveAll as RegRxLeaveAll, LeaveTimer}
 use Rattle.registrar.specs.Table as registrar
+use Rattle.applicant.proofs.ApplicantLemmas.{KeepsObserver, in-keeps, mt-keeps, lv-keeps, leave_all-keeps, periodic-keeps}
+use Rattle.registrar.proofs.RegistrarLemmas.{KeepsRegistered, new-registers, join-registers, lv-registers, leave_all-registers}
 use Rattle.std.specs.List.{filter_map}
 use Rattle.mrp_participant.specs.declared.row.Row.{Row}
 use Rattle.registrar.specs.Table.{is_in}
@@ -28,6 +28,7 @@ use Rattle.std.specs.declared.result.Result.{Result}
 use Rattle.std.specs.declared.result.Result.TheVariants.{Ok, Err}
 use Rattle.mrp_participant.specs.Lookup.{Ascends, key_of, find, put}
 use Rattle.mrp_participant.specs.State.{State, AreRows, rows_hearing, rows_after_receive, leave_timers_state, leave_all_state, due_leave_all_state, periodic_fired_state, due_state, is_leave_all_due, is_periodic_due}
+use Rattle.mrp_participant.proofs.Flying.{or-map_right}
 use Rattle.mrp_participant.proofs.Lookups.{Fits, AreRows-put, find-fits, Each-mapped, Each-kept, Ascends-kept}
 
 module _ {K C : Type 0} where
@@ -53,66 +54,14 @@ module _ {K C : Type 0} where
   pub declared-key : (eq : C → C → Bool) (c : C) (r : Row K C) → (declared_row eq c r).key ≡ r.key
   declared-key eq c r = declared-key_by eq c r (applicant.is_declared_in r.applicant) (eq r.content c)
 
--- ---- events at which an applicant neither leaves VO nor goes there
-
-abbrev pub KeepsObserver : AppEvent → Type 0
-KeepsObserver event = (held : Bool) (a : Applicant) → is_observer (applicant.next event held a) ≡ is_observer a
-
-in-keeps : KeepsObserver RxIn
-in-keeps held Vo = refl
-in-keeps held _ = refl
-
-mt-keeps : KeepsObserver RxMt
-mt-keeps held Vo = refl
-mt-keeps held _ = refl
-
-lv-keeps : KeepsObserver AppRxLv
-lv-keeps held Vo = refl
-lv-keeps held _ = refl
-
-leave_all-keeps : KeepsObserver AppRxLeaveAll
-leave_all-keeps held Vo = refl
-leave_all-keeps held _ = refl
-
-periodic-keeps : KeepsObserver Periodic
-periodic-keeps held Vo = refl
-periodic-keeps held _ = refl
-
--- ---- events at which a registrar stays registered
-
-abbrev pub KeepsRegistered : RegEvent → Type 0
-KeepsRegistered event = (g : Registrar) → registrar.is_registered_in g ≡ true → registrar.is_registered_in (registrar.next event g) ≡ true
-
-new-registers : KeepsRegistered RxNew
-new-registers Held h = refl
-new-registers _ h = refl
-
-join-registers : KeepsRegistered RxJoin
-join-registers Held h = refl
-join-registers _ h = refl
-
-lv-registers : KeepsRegistered RegRxLv
-lv-registers Empty h = h
-lv-registers _ h = refl
-
-leave_all-registers : KeepsRegistered RegRxLeaveAll
-leave_all-registers Empty h = h
-leave_all-registers _ h = refl
-
-pub sent_leave_all-registers : KeepsRegistered TxLeaveAll
-sent_leave_all-registers Empty h = h
-sent_leave_all-registers _ h = refl
-
-or-right : (a b b' : Bool) → (b ≡ true → b' ≡ true) → (a || b) ≡ true → (a || b') ≡ true
-or-right true b b' f h = refl
-or-right false b b' f h = f h
+-- ---- hearing, LeaveAll and periodic leave a live row live
 
 module _ {K C : Type 0} where
   pub applicant-lives : (event : AppEvent) → KeepsObserver event → (r : Row K C) → is_live r ≡ true → is_live (applicant_takes event r) ≡ true
   applicant-lives event keeps r live = ap (λ b. not b || registrar.is_registered_in r.registrar) (keeps (is_in r.registrar) r.applicant) ∙ live
 
   pub registrar-lives : (event : RegEvent) → KeepsRegistered event → (leave : Cs) (r : Row K C) → is_live r ≡ true → is_live (registrar_takes event leave r) ≡ true
-  registrar-lives event keeps leave r live = or-right (not (is_observer r.applicant)) (registrar.is_registered_in r.registrar) (registrar.is_registered_in (registrar.next event r.registrar)) (keeps r.registrar) live
+  registrar-lives event keeps leave r live = or-map_right (not (is_observer r.applicant)) (registrar.is_registered_in r.registrar) (registrar.is_registered_in (registrar.next event r.registrar)) (keeps r.registrar) live
 
   heard-live : (event : MrpEvent) (c : C) (leave : Cs) (r : Row K C) → is_live r ≡ true → is_live (heard_row event c leave r) ≡ true
   heard-live New c leave r live = registrar-lives RxNew new-registers leave r live

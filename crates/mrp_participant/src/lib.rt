@@ -23,13 +23,18 @@
 //!
 //! Beside the rows stands what is known of all of them (`Outlook`): where nothing is due and nothing is to be said,
 //! `any_due`, `due`, `still` and `send` look at no row. `receive` searches for the rows of the keys that it hears
-//! of, and goes over all rows only with LeaveAll, for a key's first row, and where a key's row wasn't at rest.
+//! of, and goes over all rows only with LeaveAll, for a key that has no row yet, and where the last of the leave
+//! timers that end first ends by it.
 //!
 //! `laws` says of the calls that touch every row what each single key has afterwards; `duty_laws` what two
 //! participants on a link owe one another, call by call; `link_laws` the same of every history of a link. After
 //! want of memory a participant is as it was.
 //!
-//! An application is a type with `MrpApp`: its keys and contents, and how many octets they take.
+//! An application is a type with `MrpApp`: its keys and contents, and how many octets they take. A new call of a
+//! participant has a state after it in `specs/State.antt`, which its clause names, and is a new `EndEvent`, with its
+//! lines in `is_loss` and `after_end_event` (`specs/Link.antt`) and its cases in `proofs/Links.antt`. A new `MrpEvent`
+//! has lines in `heard_row`, `makes_row` and `held_after_event` (`specs/Row.antt`, `specs/Duty.antt`), and its arms in
+//! `src/row.rt`.
 #![tactic(auto)]
 
 mod application;
