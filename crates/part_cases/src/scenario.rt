@@ -28,7 +28,7 @@ const TWINS: &str = "ticks = 1\nlink = [{ a = 'a', b = 'b' }]\n\
     node = [{ name = 'a', kind = 'bridge' }, { name = 'a', kind = 'bridge' }]\n";
 
 /// The scenario that a text is.
-pub(crate) fn scenario_of(alloc: Global, text: &str) -> Result<Scenario, Fail> {
+fn scenario_of(alloc: Global, text: &str) -> Result<Scenario, Fail> {
     let table = toml::table_from_str(alloc, text)?;
     Ok(read_scenario(alloc, &table)?)
 }

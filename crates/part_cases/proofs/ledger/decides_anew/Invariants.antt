@@ -1,5 +1,5 @@
 use Rattle.std.proofs.Common.{◌≤◌, ◌+◌}
-use Rattle.ledger_cases.proofs.ledger.decides_anew.Given as goal
+use Rattle.part_cases.proofs.ledger.decides_anew.Given as goal
 
 abbrev pub invariant-loop-stream : goal.invariant-loop-stream
 invariant-loop-stream l = l.ledger.moment + 1 ≤ l.stream

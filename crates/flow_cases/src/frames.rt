@@ -3,14 +3,13 @@
 //! The calls stand in functions of their own without contracts, so that a test's own proof is
 //! short.
 
-use crate::scenario::scenario_of;
 use credit_shaper::Traffic;
 use frame_flow::{Fate, FlowResult, Frame, Route};
 use scenario_frames::{flow_of, frames_of, rates_of};
 use srp_base::{NoMemory, NodeNo, Ps, Rate, Seq, StreamId, Timeline};
 use std::alloc::Global;
 use std::test::Fail;
-use topology_file::Scenario;
+use topology_file::{Scenario, read_scenario};
 
 /// Two stations with a link between them, two streams, of class A and of class B, and frames of
 /// both, and between the stations.
@@ -23,6 +22,12 @@ const PAIR: &str = "ticks = 22\n\
     frame = [{ stream = 'k', octets = 80, at = 1000, count = 3, every = 125000 }, \
     { from = 'b', to = 'a', vid = 7, octets = 0, at = 5 }, \
     { stream = 'm', octets = 1500, at = 9 }]\n";
+
+/// The scenario that a text is.
+fn scenario_of(alloc: Global, text: &str) -> Result<Scenario, Fail> {
+    let table = toml::table_from_str(alloc, text)?;
+    Ok(read_scenario(alloc, &table)?)
+}
 
 fn frame(number: u32, at: u64, from: u16, route: Route, vid: u16, bits: u32) -> Frame {
     Frame {

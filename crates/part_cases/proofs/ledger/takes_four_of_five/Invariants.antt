@@ -1,5 +1,5 @@
 use Rattle.std.proofs.Common.{◌≡◌}
-use Rattle.ledger_cases.proofs.ledger.takes_four_of_five.Given as goal
+use Rattle.part_cases.proofs.ledger.takes_four_of_five.Given as goal
 
 abbrev pub invariant-loop-stream : goal.invariant-loop-stream
 invariant-loop-stream l = l.ledger.moment ≡ 0
