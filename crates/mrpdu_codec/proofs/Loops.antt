@@ -1,5 +1,5 @@
 -- What loops over octets have at their ends.
-use Rattle.std.proofs.Common.{◌≡◌, ℕ, zero, suc, ◌+◌, ◌-◌, ◌<◌, ◌≤◌, Bool, true, List, [], ◌∷◌, ◌++◌, length, get_or, take, drop, map, Result, Ok, Err, refl, sym, ap, subst, ◌∙◌, append_assoc, arith}
+use Rattle.std.proofs.Common.{◌≡◌, ℕ, zero, suc, ◌+◌, ◌-◌, ◌<◌, ◌≤◌, min, Bool, true, List, [], ◌∷◌, ◌++◌, length, get_or, take, drop, map, Result, Ok, Err, refl, sym, ap, subst, ◌∙◌, arith}
 use Rattle.std.proofs.lemmas.List.{take-append-drop, length-take-le, length-drop, drop_all, drop_more, take_more, flat_map_more, map_push}
 use Rattle.std.proofs.lemmas.Bool.{and_parts}
 use Rattle.std.specs.List.{flat_map, list_all}
@@ -36,9 +36,19 @@ take-take-append zero xs ys = refl
 take-take-append (suc n) [] ys = refl
 take-take-append {A = A} (suc n) (x ∷ xs) ys = ap (λ (zs : List A). x ∷ zs) (take-take-append n xs ys)
 
-pub take_two : {A : Type 0} (n : ℕ) (xs ys : List A) (a : A) (m p : List A) → m ≡ take n (xs ++ ys) → p ≡ take n (m ++ a ∷ []) → p ≡ take n (xs ++ (ys ++ a ∷ []))
-take_two {A = A} n xs ys a m p e f =
-    f ∙ ap (λ (zs : List A). take n (zs ++ a ∷ [])) e ∙ take-take-append n (xs ++ ys) (a ∷ []) ∙ ap (λ (zs : List A). take n zs) (append_assoc xs ys (a ∷ []))
+-- what goes behind a list up to n items in all
+take_same : {A : Type 0} (n k : ℕ) (ys : List A) → min (length ys) n ≡ k → take n ys ≡ take k ys
+take_same zero zero ys e = refl
+take_same zero (suc k) ys e = absurd (omega (arith, e))
+take_same (suc n) zero [] e = refl
+take_same (suc n) zero (y ∷ ys) e = absurd (omega (arith, e))
+take_same (suc n) (suc k) [] e = absurd (omega (arith, e))
+take_same {A = A} (suc n) (suc k) (y ∷ ys) e = ap (λ (zs : List A). y ∷ zs) (take_same n k ys (omega (arith, e)))
+
+pub take_behind : {A : Type 0} (n k : ℕ) (xs more : List A) → min (length more) (n - length xs) ≡ k → length xs ≤ n → take n (xs ++ more) ≡ xs ++ take k more
+take_behind n k [] more e le = take_same n k more (omega (arith, e))
+take_behind zero k (x ∷ xs) more e le = absurd (omega (arith, le))
+take_behind {A = A} (suc n) k (x ∷ xs) more e le = ap (λ (zs : List A). x ∷ zs) (take_behind n k xs more (omega (arith, e)) (omega (arith, le)))
 
 -- one octet more is unpacked
 pub unpacked_more : {A : Type 0} (f : ℕ → List A) (n i : ℕ) (octets : List ℕ) (items more : List A) → i < length octets → items ≡ take n (flat_map f (take i octets)) → more ≡ take n (items ++ f (get_or octets i 0))

@@ -201,8 +201,7 @@ fn put_message(out: &mut Vec<u8>, form: AppForm, message: &Message) -> Result<()
     ensures { OnOk result (out.new.items
         ≡ out.old.items ++ message_octets (message_for form message.now)) }
 {
-    out.push(message.kind)?;
-    out.push(length_for(form, message))?;
+    out.extend_from_slice(&[message.kind, length_for(form, message)])?;
     put_list_length(out, form, message.vectors.as_slice())?;
     put_vectors(out, message.vectors.as_slice())?;
     put_two(out, 0)?;

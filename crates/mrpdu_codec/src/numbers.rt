@@ -20,9 +20,7 @@ pub(crate) fn number(high: u8, low: u8) -> u16
 pub(crate) fn put_two(out: &mut Vec<u8>, number: u16) -> Result<(), AllocError>
     ensures { OnOk result (out.new.items ≡ out.old.items ++ two_octets number) }
 {
-    out.push((number / 256) as u8)?;
-    out.push((number % 256) as u8)?;
-    Ok(())
+    out.extend_from_slice(&[(number / 256) as u8, (number % 256) as u8])
 }
 
 /// The number in octets, the high one first. There are at most 8.

@@ -1,6 +1,6 @@
 //! A PDU in place: what was read of it, with the fields of its vectors borrowed from the octets.
 
-ghost use Rattle.std.specs.Prelude.{◌≡◌, ◌≤◌, ◌++◌, ◌∷◌, [], length, take, map, IfOk, OnOk};
+ghost use Rattle.std.specs.Prelude.{◌≡◌, ◌≤◌, ◌++◌, length, take, map, IfOk, OnOk};
 ghost use Rattle.std.specs.List.{flat_map, list_any};
 ghost use Rattle.mrpdu_codec.specs.Octets.{event_numbered, three_events, four_params};
 ghost use Rattle.mrpdu_codec.specs.Raw.{attr_in, attrs_in, message_in, leaves_in_place};
@@ -88,41 +88,22 @@ pub fn events_in(octet: u8) -> [MrpEvent; 3]
     ]
 }
 
-/// Puts an item at the end of a list that has fewer than n.
-fn push_up_to<T: Drop>(items: &mut Vec<T>, n: usize, item: T) -> Result<(), AllocError>
-    requires { length items.old.items ≤ n }
-    ensures ok { OnOk result (items.new.items ≡ take n (items.old.items ++ item ∷ [])) }
-    ensures at_most { OnOk result (length items.new.items ≤ n) }
+/// The four parameters of an octet of FourPackedEvents.
+fn params_in(octet: u8) -> [u8; 4]
+    ensures { result ≡ four_params octet }
 {
-    if items.len() < n {
-        items.push(item)?;
-    }
-    Ok(())
+    [octet / 64, octet / 16 % 4, octet / 4 % 4, octet % 4]
 }
 
-/// Puts an octet's three events at the end, up to n in all.
-fn push_events(items: &mut Vec<MrpEvent>, n: usize, octet: u8) -> Result<(), AllocError>
+/// Puts items at the end of a list that has at most n, up to n in all.
+#[tactic(auto, using(crate::proofs::Loops::take_behind))]
+fn push_up_to<T: Copy>(items: &mut Vec<T>, n: usize, more: &[T]) -> Result<(), AllocError>
     requires { length items.old.items ≤ n }
-    ensures ok { OnOk result (items.new.items ≡ take n (items.old.items ++ three_events octet)) }
+    ensures ok { OnOk result (items.new.items ≡ take n (items.old.items ++ more.now)) }
     ensures at_most { OnOk result (length items.new.items ≤ n) }
 {
-    push_up_to(items, n, event_of(octet / 36))?;
-    push_up_to(items, n, event_of(octet / 6 % 6))?;
-    push_up_to(items, n, event_of(octet % 6))?;
-    Ok(())
-}
-
-/// Puts an octet's four parameters at the end, up to n in all.
-fn push_params(items: &mut Vec<u8>, n: usize, octet: u8) -> Result<(), AllocError>
-    requires { length items.old.items ≤ n }
-    ensures ok { OnOk result (items.new.items ≡ take n (items.old.items ++ four_params octet)) }
-    ensures at_most { OnOk result (length items.new.items ≤ n) }
-{
-    push_up_to(items, n, octet / 64)?;
-    push_up_to(items, n, octet / 16 % 4)?;
-    push_up_to(items, n, octet / 4 % 4)?;
-    push_up_to(items, n, octet % 4)?;
-    Ok(())
+    let room = more.len().min(n - items.len());
+    items.extend_from_slice(&more[..room])
 }
 
 /// The first n events of packed octets.
@@ -131,7 +112,7 @@ fn events_of(alloc: Global, packed: &[u8], n: usize) -> Result<Vec<MrpEvent>, Al
 {
     let mut events = Vec::with_capacity(alloc, n)?;
     for octet in packed {
-        push_events(&mut events, n, *octet)?;
+        push_up_to(&mut events, n, &events_in(*octet))?;
     }
     Ok(events)
 }
@@ -142,7 +123,7 @@ fn params_of(alloc: Global, fours: &[u8], n: usize) -> Result<Vec<u8>, AllocErro
 {
     let mut params = Vec::with_capacity(alloc, n.min(fours.len().saturating_mul(4)))?;
     for octet in fours {
-        push_params(&mut params, n, *octet)?;
+        push_up_to(&mut params, n, &params_in(*octet))?;
     }
     Ok(params)
 }
