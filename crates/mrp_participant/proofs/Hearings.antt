@@ -8,7 +8,7 @@ use Rattle.std.specs.declared.cmp.Ordering.TheVariants.{Less, Equal, Greater}
 use Rattle.std.specs.Ordering.{ordering_reverse, match_ordering}
 use Rattle.std.specs.Cmp.{IsTotalOrder, IsEquivalence}
 use Rattle.std.proofs.lemmas.Cmp.{tied_itself, tied_back}
-use Rattle.std.proofs.lemmas.List.{append-nil, drop_more, get_or_read}
+use Rattle.std.proofs.lemmas.List.{append-nil, drop_more}
 use Rattle.std.specs.List.{AllByRecursion, list_all}
 use Rattle.std.specs.Option.{is_some, option_eq}
 use Rattle.srp_base.specs.declared.numbers.Cs.{Cs}
@@ -358,7 +358,8 @@ module _ {K C : Type 0} (cmp : K → K → Ordering) (xs ys : List (Row K C)) (i
   pub next-of_second : (y : Row K C) → j ≡ length xs → y ≡ get_or ys i y → rows_as_one cmp (drop j xs) (drop i ys) ≡ y ∷ rows_as_one cmp (drop j xs) (drop (i + 1) ys)
   next-of_second y end is = rw (drop_all xs j end) (drop_more ys i y within ∙ ap (λ z. z ∷ drop (i + 1) ys) (sym is))
 
-  next-of_both : (c : Ordering) (x y : Row K C) → j < length xs → x ≡ get_or xs j x → y ≡ get_or ys i y → cmp x.key y.key ≡ c → rows_as_one cmp (drop j xs) (drop i ys) ≡ match_ordering c (x ∷ rows_as_one cmp (drop (j + 1) xs) (drop i ys)) (x ∷ rows_as_one cmp (drop (j + 1) xs) (drop (i + 1) ys)) (y ∷ rows_as_one cmp (drop j xs) (drop (i + 1) ys))
+  -- by how their first rows compare
+  pub next-of_both : (c : Ordering) (x y : Row K C) → j < length xs → x ≡ get_or xs j x → y ≡ get_or ys i y → cmp x.key y.key ≡ c → rows_as_one cmp (drop j xs) (drop i ys) ≡ match_ordering c (x ∷ rows_as_one cmp (drop (j + 1) xs) (drop i ys)) (x ∷ rows_as_one cmp (drop (j + 1) xs) (drop (i + 1) ys)) (y ∷ rows_as_one cmp (drop j xs) (drop (i + 1) ys))
   next-of_both c x y below is is' at =
       ap (λ l. rows_as_one cmp l (drop i ys)) first
       ∙ ap (λ l. rows_as_one cmp (x ∷ drop (j + 1) xs) l) second
@@ -371,12 +372,6 @@ module _ {K C : Type 0} (cmp : K → K → Ordering) (xs ys : List (Row K C)) (i
 
       second : drop i ys ≡ y ∷ drop (i + 1) ys
       second = drop_more ys i y within ∙ ap (λ z. z ∷ drop (i + 1) ys) (sym is')
-
-  -- by how their first rows compare
-  pub next-by : (c : Ordering) (x y d e : Row K C) → j < length xs → x ≡ get_or xs j x → y ≡ get_or ys i y → c ≡ cmp (get_or xs j d).key (get_or ys i e).key → rows_as_one cmp (drop j xs) (drop i ys) ≡ match_ordering c (x ∷ rows_as_one cmp (drop (j + 1) xs) (drop i ys)) (x ∷ rows_as_one cmp (drop (j + 1) xs) (drop (i + 1) ys)) (y ∷ rows_as_one cmp (drop j xs) (drop (i + 1) ys))
-  next-by c x y d e below is is' at =
-      next-of_both c x y below is is'
-      (ap (λ (z : Row K C). cmp z.key y.key) (get_or_read xs j x below is d) ∙ ap (λ (z : Row K C). cmp (get_or xs j d).key z.key) (get_or_read ys i y within is' e) ∙ sym at)
 
 -- ---- what the code has at hand
 

@@ -2,7 +2,7 @@
 use Rattle.std.proofs.Common.{◌≡◌, ℕ, ◌+◌, ◌^◌, ◌<◌, ◌≤◌, Bool, true, false, not, ◌&&◌, ◌||◌, cond, if◌then◌else◌, nat_lt, nat_le, ◌==◌, List, [], ◌∷◌, ◌++◌, length, take, drop, drop-cons, get_or, suc, refl, sym, ap, ◌∙◌, subst, arith, is_none}
 use Rattle.std.specs.Prelude.{count_by}
 use Rattle.std.proofs.lemmas.Bool.Decides.{nat_tests}
-use Rattle.std.proofs.lemmas.List.{take-append-drop, take_more, append-nil}
+use Rattle.std.proofs.lemmas.List.{take-append-drop, take_more, append-nil, length-take-le}
 use Rattle.std.proofs.lemmas.List.Sums.{sum_by-append, sum_by-cons, count_by-le-length}
 use Rattle.std.specs.declared.option.Option.{Option}
 use Rattle.std.specs.declared.option.Option.TheVariants.{None, Some}
@@ -131,6 +131,10 @@ module _ {K C : Type 0} where
   room-for : (o : Outlook) (rows : List (Row K C)) → Tells o rows → length rows + 1 < 2 ^ 64 → HasRoom o
   room-for o rows h few =
       (omega (arith, firsts-few o.first_leave rows h.first, few), omega (arith, h.tried, count_by-le-length (λ (q : Row K C). is_tried false q) rows, few))
+
+  -- there is room for the row that a walk comes to
+  pub room-walked : (o : Outlook) (rows : List (Row K C)) (i : ℕ) → i < length rows → length rows < 2 ^ 64 → IsOutlook o (take i rows) → HasRoom o
+  room-walked o rows i below few h = room-for o (take i rows) h.0 (omega (arith, below, few, length-take-le i rows (omega (arith, below))))
 
   -- ---- a row in the place of another
 

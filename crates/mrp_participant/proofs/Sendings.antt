@@ -98,13 +98,12 @@ events-of cmp base octets now s leave_all leave rows events active moment is h =
     ∙ ap (λ t. filter_map (λ r. sent_event (is_active s.leave_all) (is_taken base octets cmp (is_active s.leave_all) rows r) t r) rows) moment
     ∙ ap (λ l. filter_map (λ r. sent_event (is_active s.leave_all) (is_taken base octets cmp (is_active s.leave_all) l r) (after now s.leave_time) r) l) is
 
-pub sent-parts : {K C : Type 0} (cmp : K → K → Ordering) (base : ℕ) (octets : C → ℕ) (now : Cs) (s : State K C) (leave_all : Bool) (leave : Cs) (rows new : List (Row K C)) (machine : LeaveAll) (sound : Bool) → leave_all ≡ is_active s.leave_all → leave ≡ after now s.leave_time → rows ≡ s.rows → new ≡ filter_map (λ r. sent_row leave_all (is_taken base octets cmp leave_all rows r) leave r) rows → machine ≡ leaveall.table LaTx s.leave_all → sound ≡ (leave_all || s.sound) → record s { rows = new; leave_all = machine; sound = sound } ≡ sent_state base octets cmp now s
-sent-parts cmp base octets now s leave_all leave rows new machine sound active moment is new_is next sound_is =
+pub sent-parts : {K C : Type 0} (cmp : K → K → Ordering) (base : ℕ) (octets : C → ℕ) (now : Cs) (s : State K C) (leave_all : Bool) (leave : Cs) (new : List (Row K C)) (machine : LeaveAll) (sound : Bool) → leave_all ≡ is_active s.leave_all → leave ≡ after now s.leave_time → new ≡ filter_map (λ r. sent_row leave_all (is_taken base octets cmp leave_all s.rows r) leave r) s.rows → machine ≡ leaveall.table LaTx s.leave_all → sound ≡ (leave_all || s.sound) → record s { rows = new; leave_all = machine; sound = sound } ≡ sent_state base octets cmp now s
+sent-parts cmp base octets now s leave_all leave new machine sound active moment new_is next sound_is =
     ap (λ l. record s { rows = l; leave_all = machine; sound = sound })
     (new_is
-    ∙ ap (λ a. filter_map (λ r. sent_row a (is_taken base octets cmp a rows r) leave r) rows) active
-    ∙ ap (λ t. filter_map (λ r. sent_row (is_active s.leave_all) (is_taken base octets cmp (is_active s.leave_all) rows r) t r) rows) moment
-    ∙ ap (λ l. filter_map (λ r. sent_row (is_active s.leave_all) (is_taken base octets cmp (is_active s.leave_all) l r) (after now s.leave_time) r) l) is)
+    ∙ ap (λ a. filter_map (λ r. sent_row a (is_taken base octets cmp a s.rows r) leave r) s.rows) active
+    ∙ ap (λ t. filter_map (λ r. sent_row (is_active s.leave_all) (is_taken base octets cmp (is_active s.leave_all) s.rows r) t r) s.rows) moment)
     ∙ ap (λ m. record s { rows = filter_map (λ r. sent_row (is_active s.leave_all) (is_taken base octets cmp (is_active s.leave_all) s.rows r) (after now s.leave_time) r) s.rows; leave_all = m; sound = sound }) next
     ∙ ap (λ b. record s { rows = filter_map (λ r. sent_row (is_active s.leave_all) (is_taken base octets cmp (is_active s.leave_all) s.rows r) (after now s.leave_time) r) s.rows; leave_all = leaveall.table LaTx s.leave_all; sound = b }) (sound_is ∙ ap (λ a. a || s.sound) active)
 

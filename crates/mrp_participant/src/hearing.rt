@@ -195,10 +195,12 @@ fn next_row<K: Copy + Ord, C: Copy>(
     if i == rows.len() {
         return (heard[j], i, j + 1);
     }
-    match heard[j].key.cmp(&rows[i].key) {
-        Ordering::Less => (heard[j], i, j + 1),
-        Ordering::Equal => (heard[j], i + 1, j + 1),
-        Ordering::Greater => (rows[i], i + 1, j),
+    let row = &rows[i];
+    let over = &heard[j];
+    match over.key.cmp(&row.key) {
+        Ordering::Less => (*over, i, j + 1),
+        Ordering::Equal => (*over, i + 1, j + 1),
+        Ordering::Greater => (*row, i + 1, j),
     }
 }
 

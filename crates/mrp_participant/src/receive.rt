@@ -1,14 +1,12 @@
 //! What a received list of messages makes of the rows (IEEE Std 802.1Q-2018, 10.7.5 and 10.7.6).
 
-ghost use Rattle.std.specs.Prelude.{◌≡◌, ◌<◌, ◌+◌, ◌^◌, not, Some, if◌then◌else◌, OnOk, OnErr, IfOk};
+ghost use Rattle.std.specs.Prelude.{◌≡◌, ◌<◌, ◌^◌, not, Some, OnOk, OnErr, IfOk};
 ghost use Rattle.std.specs.Option.{option_eq};
-ghost use Rattle.leaveall.specs.Table.{table};
-ghost use Rattle.leaveall.specs.declared.LaEvent.TheVariants.{Rx};
 ghost use Rattle.mrp_participant.specs.Lookup.{Ascends, key_of, find};
 ghost use Rattle.mrp_participant.specs.Row.{registered_in, row_after_receive};
 ghost use Rattle.mrp_participant.specs.Hearing.{row_so_far};
 ghost use Rattle.mrp_participant.specs.Outlook.{IsOutlook};
-ghost use Rattle.mrp_participant.specs.State.{AreRows, after, rows_after_receive, changed_keys, received_state};
+ghost use Rattle.mrp_participant.specs.State.{AreRows, rows_after_receive, changed_keys, received_state};
 
 use crate::application::{MrpApp, Msgs};
 use crate::event_order::{by_key, keys_ascend};
@@ -17,7 +15,7 @@ use crate::lookup::find_row;
 use crate::model::Participant;
 use crate::outlook::Outlook;
 use crate::row::Row;
-use leaveall::{LaEvent, LeaveAll};
+use leaveall::LaEvent;
 use srp_base::{Cs, MrpEvent, NoMemory, Seq};
 use std::alloc::Global;
 
@@ -36,42 +34,19 @@ impl<A: MrpApp> Participant<A> {
             ≡ changed_keys A.Key.cmp A.Content.eq self.old.rows self.new.rows) }
         ensures err { OnErr result (self.new ≡ self.old) }
     {
-        let alloc = *self.rows.allocator();
         let leave = Cs(now.0 + self.leave_time.0);
         let keys = receive_in(
-            alloc,
             &mut self.rows,
             &mut self.outlook,
             msgs.leave_all,
             msgs.events.as_slice(),
             leave,
         )?;
-        self.leave_all = machine_after(self.leave_all, msgs.leave_all);
-        self.next_leave_all = timer_after(self.next_leave_all, msgs.leave_all, now, self.period);
+        if msgs.leave_all {
+            self.leave_all = self.leave_all.step(LaEvent::Rx);
+            self.next_leave_all = Cs(now.0 + self.period.0);
+        }
         Ok(keys)
-    }
-}
-
-/// The LeaveAll machine after a list of messages was received.
-fn machine_after(machine: LeaveAll, leave_all: bool) -> LeaveAll
-    ensures { result ≡ (if leave_all then table Rx machine else machine) }
-{
-    if leave_all {
-        machine.step(LaEvent::Rx)
-    } else {
-        machine
-    }
-}
-
-/// The moment of the LeaveAll timer after a list of messages was received at `now`.
-fn timer_after(next: Cs, leave_all: bool, now: Cs, period: Cs) -> Cs
-    requires { now.0 + period.0 < 2 ^ 64 }
-    ensures { result ≡ (if leave_all then after now period else next) }
-{
-    if leave_all {
-        Cs(now.0 + period.0)
-    } else {
-        next
     }
 }
 
@@ -79,7 +54,6 @@ fn timer_after(next: Cs, leave_all: bool, now: Cs, period: Cs) -> Cs
 /// registration or registered content changes, which are among those of the events. After want of memory the rows
 /// are as they were.
 fn receive_in<K: Copy + Ord, C: Copy + Eq>(
-    alloc: Global,
     rows: &mut Vec<Row<K, C>>,
     outlook: &mut Outlook,
     leave_all: bool,
@@ -97,8 +71,10 @@ fn receive_in<K: Copy + Ord, C: Copy + Eq>(
     ensures err { OnErr result (rows.new.items ≡ rows.old.items) }
     ensures outlook { IsOutlook outlook.new rows.new.items }
 {
-    let heard = hear(alloc, rows.as_slice(), leave_all, events, leave)?;
-    let keys = changed(alloc, rows.as_slice(), heard.as_slice())?;
+    let alloc = *rows.allocator();
+    let all = rows.as_slice();
+    let heard = hear(alloc, all, leave_all, events, leave)?;
+    let keys = changed(alloc, all, heard.as_slice())?;
     put_heard(rows, outlook, leave_all, heard.as_slice(), leave)?;
     Ok(Seq::from_vec(keys))
 }

@@ -5,17 +5,17 @@ ghost use Rattle.std.specs.List.{filter_map};
 ghost use Rattle.mrp_participant.specs.Lookup.{Ascends};
 ghost use Rattle.mrp_participant.specs.Sending.{sent_row, sent_event, is_taken};
 ghost use Rattle.mrp_participant.specs.Cut.{is_before, is_in_room};
-ghost use Rattle.mrp_participant.specs.State.{AreRows, is_active, is_silent, none_tried, sent_events, sent_state};
+ghost use Rattle.mrp_participant.specs.Outlook.{IsOutlook};
+ghost use Rattle.mrp_participant.specs.State.{AreRows, is_active, is_silent, sent_events, sent_state};
 
 use crate::application::{MrpApp, Msgs};
 use crate::cut::{Cut, find_cut};
 use crate::kept::push_some;
 use crate::model::Participant;
-use crate::outlook::{is_none_tried, outlook_of};
+use crate::outlook::{Outlook, is_none_tried, outlook_of};
 use crate::row::{Row, round};
 use leaveall::{LaEvent, LeaveAll};
 use srp_base::{Cs, MrpEvent, NoMemory, Seq};
-use std::alloc::Global;
 
 impl<A: MrpApp> Participant<A> {
     /// What the participant sends at the moment `now`, in cs and below 2^62 (IEEE Std 802.1Q-2018, 10.7.6).
@@ -50,14 +50,7 @@ impl<A: MrpApp> Participant<A> {
         }
         let leave_all = is_active(self.leave_all);
         let leave = Cs(now.0 + self.leave_time.0);
-        let (rows, events) = pdu_of::<A>(
-            *self.rows.allocator(),
-            self.rows.as_slice(),
-            leave_all,
-            leave,
-        )?;
-        self.outlook = outlook_of(rows.as_slice());
-        self.rows = rows;
+        let events = send_rows::<A>(&mut self.rows, &mut self.outlook, leave_all, leave)?;
         self.leave_all = self.leave_all.step(LaEvent::Tx);
         self.sound = sound_after(self.sound, leave_all);
         Ok(Some(Msgs { leave_all, events }))
@@ -85,40 +78,33 @@ fn sound_after(sound: bool, leave_all: bool) -> bool
     leave_all || sound
 }
 
-/// The rows after sending, and what is sent.
-fn pdu_of<A: MrpApp>(
-    alloc: Global,
-    rows: &[Row<A::Key, A::Content>],
+/// Sends the rows, and answers what is sent. After want of memory the rows are as they were.
+fn send_rows<A: MrpApp>(
+    rows: &mut Vec<Row<A::Key, A::Content>>,
+    outlook: &mut Outlook,
     leave_all: bool,
     leave: Cs,
-) -> Result<
-    (
-        Vec<Row<A::Key, A::Content>>,
-        Seq<(MrpEvent, A::Key, A::Content)>,
-    ),
-    NoMemory,
->
-    requires { AreRows A.Key.cmp rows.now }
-
-    ensures rows { IfOk result (λ p. p.0.items
-        ≡ filter_map
-        (λ r. sent_row leave_all (is_taken A.base A.octets A.Key.cmp leave_all rows.now r) leave r)
-        rows.now) }
-    ensures events { IfOk result (λ p. p.1
-        ≡ filter_map
-        (λ r. sent_event leave_all (is_taken A.base A.octets A.Key.cmp leave_all rows.now r) leave
-        r) rows.now) }
-    ensures are_rows { IfOk result (λ p. AreRows A.Key.cmp p.0.items) }
-
-    ensures ascending { IfOk result (λ p. Ascends A.Key.cmp (λ e. e.1) p.1) }
-    ensures fits { IfOk result (λ p. A.base + sum_by (λ e. A.octets e.2) p.1 ≤ 1500) }
-    ensures says { IfOk result (λ p. leave_all ≡ false → none_tried rows.now ≡ false → p.1 ≢ []) }
+) -> Result<Seq<(MrpEvent, A::Key, A::Content)>, NoMemory>
+    requires are_rows { AreRows A.Key.cmp rows.old.items }
+    requires outlook { IsOutlook outlook.old rows.old.items }
+    ensures rows { OnOk result (rows.new.items
+        ≡ filter_map (λ r. sent_row leave_all
+        (is_taken A.base A.octets A.Key.cmp leave_all rows.old.items r) leave r) rows.old.items) }
+    ensures events { IfOk result (λ events. events
+        ≡ filter_map (λ r. sent_event leave_all
+        (is_taken A.base A.octets A.Key.cmp leave_all rows.old.items r) leave r) rows.old.items) }
+    ensures err { OnErr result (rows.new.items ≡ rows.old.items) }
+    ensures outlook { IsOutlook outlook.new rows.new.items }
 {
-    let cut = find_cut::<A>(rows, leave_all);
+    let alloc = *rows.allocator();
+    let all = rows.as_slice();
+    let cut = find_cut::<A>(all, leave_all);
     let mut events = Vec::new(alloc);
     let mut after = Vec::new(alloc);
-    send_each(rows, leave_all, &cut, leave, &mut events, &mut after)?;
-    Ok((after, Seq::from_vec(events)))
+    send_each(all, leave_all, &cut, leave, &mut events, &mut after)?;
+    *outlook = outlook_of(after.as_slice());
+    *rows = after;
+    Ok(Seq::from_vec(events))
 }
 
 /// Whether a row is tried, and before the first one that finds no room.

@@ -31,8 +31,7 @@ impl<A: MrpApp> Participant<A> {
     pub fn periodic_due(&mut self)
         ensures { self.new ≡ periodic_state self.old }
     {
-        all_periodic(&mut self.rows);
-        self.outlook = outlook_of(self.rows.as_slice());
+        all_periodic(&mut self.rows, &mut self.outlook);
     }
 
     /// Whether a timer's moment is at or before `now`, in cs.
@@ -79,20 +78,21 @@ impl<A: MrpApp> Participant<A> {
         ensures { self.new ≡ due_periodic_state now self.old }
     {
         if self.periodic.due(now) {
-            all_periodic(&mut self.rows);
-            self.outlook = outlook_of(self.rows.as_slice());
+            all_periodic(&mut self.rows, &mut self.outlook);
             self.periodic.fire(now);
         }
     }
 }
 
 /// The periodic event to each row.
-fn all_periodic<K: Copy, C: Copy>(rows: &mut Vec<Row<K, C>>)
-    ensures { rows.new.items ≡ map periodic_row rows.old.items }
+fn all_periodic<K: Copy, C: Copy>(rows: &mut Vec<Row<K, C>>, outlook: &mut Outlook)
+    ensures rows { rows.new.items ≡ map periodic_row rows.old.items }
+    ensures outlook { IsOutlook outlook.new rows.new.items }
 {
     for row in rows.iter_mut() {
         *row = row.hears_periodic();
     }
+    *outlook = outlook_of(rows.as_slice());
 }
 
 /// Fires the leave timers that are due, and answers their keys. Where none is due no row is looked at. After want of

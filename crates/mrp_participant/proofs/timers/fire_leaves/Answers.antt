@@ -7,6 +7,7 @@ use Rattle.mrp_participant.specs.Row.{leave_is_due, after_leave_due}
 use Rattle.mrp_participant.proofs.Changes.{none-leave}
 use Rattle.mrp_participant.proofs.OutlookLemmas.{due-says}
 use Rattle.mrp_participant.proofs.Places.{keys_of_leaving}
+use Rattle.mrp_participant.proofs.Exits.{of_error, on_error}
 use Rattle.mrp_participant.proofs.timers.fire_leaves.Goals as goal
 
 pub returns-then-not-has_due-clause-keys : goal.returns-then-not-has_due-clause-keys
@@ -33,3 +34,15 @@ returns-clause-rows g c =
 
 pub returns-clause-outlook : goal.returns-clause-outlook
 returns-clause-outlook g c = subst (IsOutlook c.outlook_of.result) c.as_slice-2.ensures.value c.outlook_of.ensures
+
+pub returns-then-not-has_due-clause-outlook : goal.returns-then-not-has_due-clause-outlook
+returns-then-not-has_due-clause-outlook g c = c.requires
+
+pub returns-in_err-fire_each : goal.returns-in_err-fire_each
+returns-in_err-fire_each g c =
+    record {
+      keys = of_error c.from_residual.result _ _ c.from_residual.ensures.1;
+      rows = of_error c.from_residual.result _ _ c.from_residual.ensures.1;
+      err = on_error c.from_residual.result refl;
+      outlook = c.requires;
+    }
