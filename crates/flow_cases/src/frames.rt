@@ -8,7 +8,6 @@ use frame_flow::{Fate, FlowResult, Frame, Route};
 use scenario_frames::{flow_of, frames_of, rates_of};
 use srp_base::{NoMemory, NodeNo, Ps, Rate, Seq, StreamId, Timeline};
 use std::alloc::Global;
-use std::test::Fail;
 use topology_file::{Scenario, read_scenario};
 
 /// Two stations with a link between them, two streams, of class A and of class B, and frames of
@@ -24,9 +23,11 @@ const PAIR: &str = "ticks = 22\n\
     { stream = 'm', octets = 1500, at = 9 }]\n";
 
 /// The scenario that a text is.
-fn scenario_of(alloc: Global, text: &str) -> Result<Scenario, Fail> {
-    let table = toml::table_from_str(alloc, text)?;
-    Ok(read_scenario(alloc, &table)?)
+fn scenario_of(alloc: Global, text: &str) -> Option<Scenario> {
+    match toml::table_from_str(alloc, text) {
+        Ok(table) => read_scenario(alloc, &table).ok(),
+        Err(_) => None,
+    }
 }
 
 fn frame(number: u32, at: u64, from: u16, route: Route, vid: u16, bits: u32) -> Frame {
@@ -53,17 +54,18 @@ fn of_m() -> Frame {
 }
 
 /// Whether a scenario has these frames.
-fn has_frames(alloc: Global, scenario: &Scenario, wanted: &[Frame]) -> Result<bool, NoMemory> {
-    let frames = frames_of(alloc, scenario)?;
-    Ok(frames.as_slice() == wanted)
+fn has_frames(alloc: Global, scenario: &Scenario, wanted: &[Frame]) -> bool {
+    match frames_of(alloc, scenario) {
+        Ok(frames) => frames.as_slice() == wanted,
+        Err(_) => false,
+    }
 }
 
 /// Whether a scenario has one link, with a rate of 1 Gbit/s.
-fn has_rate(alloc: Global, scenario: &Scenario) -> Result<bool, NoMemory> {
-    let rates = rates_of(alloc, scenario)?;
-    match rates.as_slice() {
-        [rate] => Ok(*rate == Rate::G1),
-        _ => Ok(false),
+fn has_rate(alloc: Global, scenario: &Scenario) -> bool {
+    match rates_of(alloc, scenario) {
+        Ok(rates) => rates.as_slice() == [Rate::G1].as_slice(),
+        Err(_) => false,
     }
 }
 
@@ -84,7 +86,7 @@ fn has_fates(flow: &FlowResult, fates: &[(u32, Fate)]) -> bool {
 }
 
 /// Whether a scenario's frames are the copies of its entries, in order.
-fn has_copies(alloc: Global, scenario: &Scenario) -> Result<bool, NoMemory> {
+fn has_copies(alloc: Global, scenario: &Scenario) -> bool {
     let between = frame(4, 5_000, 2, Route::To(NodeNo(1)), 7, 336);
     let wanted = [
         of_k(1, 1_000_000),
@@ -96,21 +98,36 @@ fn has_copies(alloc: Global, scenario: &Scenario) -> Result<bool, NoMemory> {
     has_frames(alloc, scenario, &wanted)
 }
 
-/// Whether they flow over its link, where nothing is booked.
-fn flows(alloc: Global, scenario: &Scenario) -> Result<bool, NoMemory> {
-    let flow = unbooked_flow(alloc, scenario)?;
-    let is_dropped = has_fates(&flow, &[(4, Fate::NoVlan), (5, Fate::Unbooked)]);
-    Ok(is_dropped && has_rate(alloc, scenario)?)
+/// Whether two of them are dropped where nothing is booked.
+fn drops(alloc: Global, scenario: &Scenario) -> bool {
+    match unbooked_flow(alloc, scenario) {
+        Ok(flow) => has_fates(&flow, &[(4, Fate::NoVlan), (5, Fate::Unbooked)]),
+        Err(_) => false,
+    }
 }
 
-// Who owns a scenario does nothing else, so that its proof is short.
-fn pair_flows(alloc: Global) -> Result<bool, Fail> {
-    let scenario = scenario_of(alloc, PAIR)?;
-    Ok(has_copies(alloc, &scenario) == Ok(true) && flows(alloc, &scenario) == Ok(true))
+/// Whether they flow over its link, where nothing is booked.
+fn flows(alloc: Global, scenario: &Scenario) -> bool {
+    has_copies(alloc, scenario) && drops(alloc, scenario) && has_rate(alloc, scenario)
+}
+
+/// Whether a scenario was read, and its frames flow.
+fn is_flowing(alloc: Global, read: &Option<Scenario>) -> bool {
+    match read {
+        Some(scenario) => flows(alloc, scenario),
+        None => false,
+    }
+}
+
+// Who owns a scenario does nothing else, and drops it by a call, so that its proof is short.
+fn pair_flows(alloc: Global) -> bool {
+    let read = scenario_of(alloc, PAIR);
+    let flow = is_flowing(alloc, &read);
+    drop(read);
+    flow
 }
 
 #[test]
-fn frames_are_the_copies_of_the_entries_in_order_and_flow(rt: HostRuntime) -> Result<(), Fail> {
-    assert!(rt; pair_flows(rt.alloc())?);
-    Ok(())
+fn frames_are_the_copies_of_the_entries_in_order_and_flow(rt: HostRuntime) {
+    assert!(rt; pair_flows(rt.alloc()));
 }

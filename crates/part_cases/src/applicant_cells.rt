@@ -7,35 +7,27 @@ use applicant::{AppEvent, Applicant, Say};
 const STATES: [Applicant; 7] = [Vo, Vp, Vn, An, Aa, Qa, La];
 
 // Whether the cell of a state and an event names this state, and says this.
-fn has_cell(state: Applicant, event: AppEvent, held: bool, cell: (Applicant, Say)) -> bool {
+fn has_cell(state: Applicant, event: AppEvent, held: bool, wanted: Applicant, says: Say) -> bool {
     let (next, said) = state.step(event, held);
-    next == cell.0 && said == cell.1
+    next == wanted && said == says
 }
 
-// Whether the cells of one event, in the order of the states, are these.
-fn has_row(event: AppEvent, held: bool, cells: &[(Applicant, Say); 7]) -> bool {
-    for (state, cell) in STATES.iter().zip(cells.iter()) {
-        if !has_cell(*state, event, held, *cell) {
+// Whether the cells of one event, in the order of the states, name these states, and say this.
+fn has_row(event: AppEvent, held: bool, next: &[Applicant; 7], said: &[Say; 7]) -> bool {
+    for i in 0..7usize {
+        if !has_cell(STATES[i], event, held, next[i], said[i]) {
             return false;
         }
     }
     true
 }
 
-// Whether the cells are these, and nothing is said, with the attribute held at the port and
+const QUIET: [Say; 7] = [Say::Quiet; 7];
+
+// Whether the cells name these states, and nothing is said, with the attribute held at the port and
 // without.
-fn has_quiet_row(event: AppEvent, cells: &[Applicant; 7]) -> bool {
-    for (state, cell) in STATES.iter().zip(cells.iter()) {
-        if !is_quiet(*state, event, *cell) {
-            return false;
-        }
-    }
-    true
-}
-
-fn is_quiet(state: Applicant, event: AppEvent, next: Applicant) -> bool {
-    let cell = (next, Say::Quiet);
-    has_cell(state, event, false, cell) && has_cell(state, event, true, cell)
+fn has_quiet_row(event: AppEvent, next: &[Applicant; 7]) -> bool {
+    has_row(event, false, next, &QUIET) && has_row(event, true, next, &QUIET)
 }
 
 const QUIET_ROWS: [(AppEvent, [Applicant; 7]); 9] = [
@@ -50,67 +42,92 @@ const QUIET_ROWS: [(AppEvent, [Applicant; 7]); 9] = [
     (AppEvent::TxLeaveAllFull, [Vo, Vp, Vn, Vn, Vp, Vp, Vo]),
 ];
 
+fn has_quiet_rows() -> bool {
+    for (event, next) in QUIET_ROWS.iter() {
+        if !has_quiet_row(*event, next) {
+            return false;
+        }
+    }
+    true
+}
+
 #[test]
 fn cells_at_which_nothing_is_said(rt: HostRuntime) {
-    for (event, cells) in QUIET_ROWS.iter() {
-        assert!(rt; has_quiet_row(*event, cells));
-    }
+    assert!(rt; has_quiet_rows());
 }
 
-// The cells of a transmission opportunity, of which An's depends on whether the attribute is held.
-fn sent(after_new: Applicant) -> [(Applicant, Say); 7] {
-    [
-        (Vo, Say::Quiet),
-        (Aa, Say::Join),
-        (An, Say::New),
-        (after_new, Say::New),
-        (Qa, Say::Join),
-        (Qa, Say::Quiet),
-        (Vo, Say::Lv),
-    ]
-}
+const SENT: [Say; 7] = [
+    Say::Quiet,
+    Say::Join,
+    Say::New,
+    Say::New,
+    Say::Join,
+    Say::Quiet,
+    Say::Lv,
+];
 
+// An's cell depends on whether the attribute is held.
 #[test]
 fn cells_of_a_transmission_opportunity(rt: HostRuntime) {
-    assert!(rt; has_row(AppEvent::Tx, false, &sent(Aa)));
-    assert!(rt; has_row(AppEvent::Tx, true, &sent(Qa)));
+    assert!(rt; has_row(AppEvent::Tx, false, &[Vo, Aa, An, Aa, Qa, Qa, Vo], &SENT));
+    assert!(rt; has_row(AppEvent::Tx, true, &[Vo, Aa, An, Qa, Qa, Qa, Vo], &SENT));
 }
 
-const SENT_LEAVE_ALL: [(Applicant, Say); 7] = [
-    (Vo, Say::Quiet),
-    (Aa, Say::Join),
-    (An, Say::New),
-    (Qa, Say::New),
-    (Qa, Say::Join),
-    (Qa, Say::Join),
-    (Vo, Say::Quiet),
+const SENT_WITH_LEAVE_ALL: [Say; 7] = [
+    Say::Quiet,
+    Say::Join,
+    Say::New,
+    Say::New,
+    Say::Join,
+    Say::Join,
+    Say::Quiet,
 ];
+
+const AFTER_LEAVE_ALL: [Applicant; 7] = [Vo, Aa, An, Qa, Qa, Qa, Vo];
 
 #[test]
 fn cells_of_a_sent_leave_all(rt: HostRuntime) {
-    assert!(rt; has_row(AppEvent::TxLeaveAll, false, &SENT_LEAVE_ALL));
-    assert!(rt; has_row(AppEvent::TxLeaveAll, true, &SENT_LEAVE_ALL));
+    assert!(rt;
+        has_row(
+            AppEvent::TxLeaveAll,
+            false,
+            &AFTER_LEAVE_ALL,
+            &SENT_WITH_LEAVE_ALL
+        )
+    );
+    assert!(rt;
+        has_row(
+            AppEvent::TxLeaveAll,
+            true,
+            &AFTER_LEAVE_ALL,
+            &SENT_WITH_LEAVE_ALL
+        )
+    );
 }
 
 // A state, what declaring, redeclaring and withdrawing make of it, and whether it is declared.
-const REQUESTS: [(Applicant, [Applicant; 3], bool); 7] = [
-    (Vo, [Vp, Vn, Vo], false),
-    (Vp, [Vp, Vn, La], true),
-    (Vn, [Vn, Vn, La], true),
-    (An, [An, Vn, La], true),
-    (Aa, [Aa, Vn, La], true),
-    (Qa, [Qa, Vn, La], true),
-    (La, [Vn, Vn, La], false),
+const REQUESTS: [(Applicant, Applicant, Applicant, Applicant, bool); 7] = [
+    (Vo, Vp, Vn, Vo, false),
+    (Vp, Vp, Vn, La, true),
+    (Vn, Vn, Vn, La, true),
+    (An, An, Vn, La, true),
+    (Aa, Aa, Vn, La, true),
+    (Qa, Qa, Vn, La, true),
+    (La, Vn, Vn, La, false),
 ];
 
-fn becomes(state: Applicant, wanted: [Applicant; 3]) -> bool {
-    let [declared, redeclared, withdrawn] = wanted;
-    state.declare() == declared && state.redeclare() == redeclared && state.withdraw() == withdrawn
+fn has_requests() -> bool {
+    for (state, declared, redeclared, withdrawn, is_declared) in REQUESTS.iter() {
+        let next = state.declare() == *declared && state.redeclare() == *redeclared;
+        let last = state.withdraw() == *withdrawn && state.is_declared() == *is_declared;
+        if !next || !last {
+            return false;
+        }
+    }
+    true
 }
 
 #[test]
 fn requests_of_the_user(rt: HostRuntime) {
-    for (state, wanted, is_declared) in REQUESTS.iter() {
-        assert!(rt; becomes(*state, *wanted) && state.is_declared() == *is_declared);
-    }
+    assert!(rt; has_requests());
 }

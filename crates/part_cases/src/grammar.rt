@@ -8,64 +8,38 @@ use mrpdu_codec::{
 use srp_base::{MrpEvent, NoMemory, Seq};
 use std::alloc::Global;
 
-/// A vector.
-fn vector(
-    alloc: Global,
+/// What a vector has, and the type of its Message.
+#[derive(Clone, Copy)]
+struct Row<'a> {
+    kind: u8,
     leave_all: bool,
-    first: &[u8],
-    events: &[MrpEvent],
-    params: &[u8],
-) -> Result<VectorAttr, NoMemory> {
-    Ok(VectorAttr {
-        leave_all,
-        first: Seq::from_vec(first.to_vec(alloc)?),
-        events: Seq::from_vec(events.to_vec(alloc)?),
-        params: Seq::from_vec(params.to_vec(alloc)?),
-    })
+    first: &'a [u8],
+    events: &'a [MrpEvent],
+    params: &'a [u8],
 }
 
-/// A PDU of these Messages.
-fn pdu_of(messages: Vec<Message>) -> Pdu {
-    Pdu {
-        version: 0,
-        messages: Seq::from_vec(messages),
+/// Whether a vector is that of a row.
+fn is_vector(vector: &VectorAttr, row: &Row<'_>) -> bool {
+    vector.leave_all == row.leave_all
+        && vector.first.as_slice() == row.first
+        && vector.events.as_slice() == row.events
+        && vector.params.as_slice() == row.params
+}
+
+/// Whether a Message has the vector of a row alone.
+fn is_message(message: &Message, row: &Row<'_>) -> bool {
+    match message.vectors.as_slice() {
+        [vector] => message.kind == row.kind && is_vector(vector, row),
+        _ => false,
     }
 }
 
-/// A Message of these vectors.
-fn message_of(kind: u8, vectors: Vec<VectorAttr>) -> Message {
-    Message {
-        kind,
-        vectors: Seq::from_vec(vectors),
+/// Whether a PDU has the Message of a row alone.
+fn is_one_message(pdu: &Pdu, row: &Row<'_>) -> bool {
+    match pdu.messages.as_slice() {
+        [message] => pdu.version == 0 && is_message(message, row),
+        _ => false,
     }
-}
-
-/// A Message of one vector.
-fn one_vector_of(
-    alloc: Global,
-    kind: u8,
-    leave_all: bool,
-    first: &[u8],
-    events: &[MrpEvent],
-    params: &[u8],
-) -> Result<Message, NoMemory> {
-    let mut vectors = Vec::new(alloc);
-    vectors.push(vector(alloc, leave_all, first, events, params)?)?;
-    Ok(message_of(kind, vectors))
-}
-
-/// A PDU of one Message with one vector.
-fn one_vector(
-    alloc: Global,
-    kind: u8,
-    leave_all: bool,
-    first: &[u8],
-    events: &[MrpEvent],
-    params: &[u8],
-) -> Result<Pdu, NoMemory> {
-    let mut messages = Vec::new(alloc);
-    messages.push(one_vector_of(alloc, kind, leave_all, first, events, params)?)?;
-    Ok(pdu_of(messages))
 }
 
 const VID: [u8; 12] = [0, 1, 2, 0, 1, 0, 2, 0x6c, 0, 0, 0, 0];
@@ -82,13 +56,13 @@ const TWO_MESSAGES: [u8; 24] = [
     0, 1, 1, 0, 1, 1, 0x24, 0, 0, 2, 6, 0, 1, 1, 0x80, 0xc2, 0, 0, 0x21, 0x6c, 0, 0, 0, 0,
 ];
 
-/// Whether octets read as this.
-fn reads(alloc: Global, form: AppForm, octets: &[u8], want: &Pdu) -> bool {
-    octets.len() <= 1500
-        && match decode(alloc, form, octets) {
-            Ok(read) => read == *want,
-            Err(_) => false,
-        }
+/// What octets read as.
+fn read(alloc: Global, form: AppForm, octets: &[u8]) -> Option<Pdu> {
+    if octets.len() <= 1500 {
+        decode(alloc, form, octets).ok()
+    } else {
+        None
+    }
 }
 
 /// Whether octets are a 9 and these.
@@ -109,32 +83,20 @@ fn writes(alloc: Global, form: AppForm, pdu: &Pdu, octets: &[u8]) -> Result<bool
     Ok(are_behind_9(out.as_slice(), octets))
 }
 
-/// Whether it is written as these octets, and they read as it.
-fn is_spelled(alloc: Global, form: AppForm, pdu: &Pdu, octets: &[u8]) -> bool {
-    size_of(form, pdu) == octets.len()
+/// Whether a PDU has a LeaveAll or none, and is written as these octets.
+fn is_spelled(alloc: Global, form: AppForm, pdu: &Pdu, leave_all: bool, octets: &[u8]) -> bool {
+    pdu.has_leave_all() == leave_all
+        && size_of(form, pdu) == octets.len()
         && writes(alloc, form, pdu, octets) == Ok(true)
-        && reads(alloc, form, octets, pdu)
 }
 
-/// Whether a PDU was made, has a LeaveAll or none, and is written as these octets, which read as it.
-fn spells(
-    alloc: Global,
-    form: AppForm,
-    made: Result<Pdu, NoMemory>,
-    leave_all: bool,
-    octets: &[u8],
-) -> bool {
-    match made {
-        Ok(pdu) => pdu.has_leave_all() == leave_all && is_spelled(alloc, form, &pdu, octets),
-        Err(_) => false,
-    }
-}
-
-/// Whether a PDU was made, and cannot be written in a form.
-fn is_refused(form: AppForm, made: Result<Pdu, NoMemory>) -> bool {
-    match made {
-        Ok(pdu) => !well_formed(form, &pdu),
-        Err(_) => false,
+/// Whether octets read as the Message of a row, which is written as they are.
+fn spells(alloc: Global, form: AppForm, row: &Row<'_>, octets: &[u8]) -> bool {
+    match read(alloc, form, octets) {
+        Some(pdu) => {
+            is_one_message(&pdu, row) && is_spelled(alloc, form, &pdu, row.leave_all, octets)
+        }
+        None => false,
     }
 }
 
@@ -151,65 +113,182 @@ fn malformed_at_a_place(rt: HostRuntime) {
     assert!(rt; breaks(rt.alloc(), AppForm::Msrp, &LISTENER[..16], 16));
 }
 
+fn spells_a_vid(alloc: Global) -> bool {
+    let row = Row {
+        kind: 1,
+        leave_all: false,
+        first: &[0, 2],
+        events: &[MrpEvent::JoinMt],
+        params: &[],
+    };
+    spells(alloc, AppForm::Mvrp, &row, &VID)
+}
+
+fn spells_a_listener(alloc: Global) -> bool {
+    let row = Row {
+        kind: 3,
+        leave_all: false,
+        first: &[2, 0, 0, 0, 0, 1, 0, 1],
+        events: &[MrpEvent::JoinMt],
+        params: &[2],
+    };
+    spells(alloc, AppForm::Msrp, &row, &LISTENER)
+}
+
+fn spells_addresses(alloc: Global) -> bool {
+    use MrpEvent::{Lv, New, OnlyIn, OnlyMt};
+    let row = Row {
+        kind: 2,
+        leave_all: true,
+        first: &[1, 2, 3, 4, 5, 6],
+        events: &[New, Lv, OnlyIn, OnlyMt],
+        params: &[],
+    };
+    spells(alloc, AppForm::Mmrp, &row, &ADDRESSES)
+}
+
 #[test]
 fn one_vector_is_written_and_read(rt: HostRuntime) {
-    use MrpEvent::{JoinMt, Lv, New, OnlyIn, OnlyMt};
-    let alloc = rt.alloc();
-    let vid = one_vector(alloc, 1, false, &[0, 2], &[JoinMt], &[]);
-    assert!(rt; spells(alloc, AppForm::Mvrp, vid, false, &VID));
-    let stream = [2, 0, 0, 0, 0, 1, 0, 1];
-    let listener = one_vector(alloc, 3, false, &stream, &[JoinMt], &[2]);
-    assert!(rt; spells(alloc, AppForm::Msrp, listener, false, &LISTENER));
-    let events = [New, Lv, OnlyIn, OnlyMt];
-    let addresses = one_vector(alloc, 2, true, &[1, 2, 3, 4, 5, 6], &events, &[]);
-    assert!(rt; spells(alloc, AppForm::Mmrp, addresses, true, &ADDRESSES));
+    assert!(rt; spells_a_vid(rt.alloc()));
+    assert!(rt; spells_a_listener(rt.alloc()));
+    assert!(rt; spells_addresses(rt.alloc()));
 }
 
-#[test]
-fn a_pdu_that_cannot_be_written(rt: HostRuntime) {
-    let vid = one_vector(rt.alloc(), 1, false, &[0, 2], &[MrpEvent::JoinMt], &[]);
-    assert!(rt; is_refused(AppForm::Mmrp, vid));
-    let empty = one_vector(rt.alloc(), 1, false, &[0, 2], &[], &[]);
-    assert!(rt; is_refused(AppForm::Mvrp, empty));
+/// A list of one item.
+fn alone<T: Drop>(alloc: Global, item: T) -> Result<Seq<T>, NoMemory> {
+    let mut list = Seq::new(alloc);
+    list.push(item)?;
+    Ok(list)
 }
 
-/// A Message of one vector with a LeaveAll, and one without.
-fn two_vectors(alloc: Global) -> Result<Pdu, NoMemory> {
-    let join = MrpEvent::JoinMt;
-    let mut vectors = Vec::new(alloc);
-    vectors.push(vector(alloc, true, &[0, 5], &[join], &[])?)?;
-    vectors.push(vector(alloc, false, &[0, 9], &[join, join], &[])?)?;
-    let mut messages = Vec::new(alloc);
-    messages.push(message_of(1, vectors))?;
-    Ok(pdu_of(messages))
+/// The vector of a VID with no event.
+fn without_events(alloc: Global) -> Result<VectorAttr, NoMemory> {
+    Ok(VectorAttr {
+        leave_all: false,
+        first: Seq::from_vec([0, 2].to_vec(alloc)?),
+        events: Seq::new(alloc),
+        params: Seq::new(alloc),
+    })
 }
 
-/// Two Messages, of a service requirement and of an address.
-fn two_messages(alloc: Global) -> Result<Pdu, NoMemory> {
-    let address = [1, 0x80, 0xc2, 0, 0, 0x21];
-    let mut messages = Vec::new(alloc);
-    messages.push(one_vector_of(alloc, 1, false, &[1], &[MrpEvent::JoinIn], &[])?)?;
-    messages.push(one_vector_of(alloc, 2, false, &address, &[MrpEvent::JoinMt], &[])?)?;
-    Ok(pdu_of(messages))
+/// A PDU of one Message with this vector.
+fn pdu_of(alloc: Global, vector: VectorAttr) -> Result<Pdu, NoMemory> {
+    let vectors = alone(alloc, vector)?;
+    let messages = alone(alloc, Message { kind: 1, vectors })?;
+    Ok(Pdu {
+        version: 0,
+        messages,
+    })
 }
 
-/// Whether octets read as the two Messages.
-fn are_two_messages(alloc: Global, octets: &[u8]) -> bool {
-    match two_messages(alloc) {
-        Ok(pdu) => reads(alloc, AppForm::Mmrp, octets, &pdu),
+/// Whether a PDU is there, and cannot be written in a form.
+fn is_refused(form: AppForm, made: Option<Pdu>) -> bool {
+    match made {
+        Some(pdu) => !well_formed(form, &pdu),
+        None => false,
+    }
+}
+
+fn refuses_no_events(alloc: Global) -> bool {
+    match without_events(alloc) {
+        Ok(vector) => is_refused(AppForm::Mvrp, pdu_of(alloc, vector).ok()),
         Err(_) => false,
     }
 }
 
 #[test]
+fn a_pdu_that_cannot_be_written(rt: HostRuntime) {
+    // what octets of MVRP read as, in MMRP
+    assert!(rt; is_refused(AppForm::Mmrp, read(rt.alloc(), AppForm::Mvrp, &VID)));
+    assert!(rt; refuses_no_events(rt.alloc()));
+}
+
+/// Whether vectors are one with a LeaveAll, and one without.
+fn are_two_vectors(vectors: &[VectorAttr]) -> bool {
+    let join = MrpEvent::JoinMt;
+    let one = Row {
+        kind: 1,
+        leave_all: true,
+        first: &[0, 5],
+        events: &[join],
+        params: &[],
+    };
+    let two = Row {
+        kind: 1,
+        leave_all: false,
+        first: &[0, 9],
+        events: &[join, join],
+        params: &[],
+    };
+    match vectors {
+        [a, b] => is_vector(a, &one) && is_vector(b, &two),
+        _ => false,
+    }
+}
+
+/// Whether a PDU has one Message, of the two vectors.
+fn has_two_vectors(pdu: &Pdu) -> bool {
+    match pdu.messages.as_slice() {
+        [message] => message.kind == 1 && are_two_vectors(message.vectors.as_slice()),
+        _ => false,
+    }
+}
+
+fn spells_two_vectors(alloc: Global) -> bool {
+    match read(alloc, AppForm::Mvrp, &TWO_VECTORS) {
+        Some(pdu) => {
+            has_two_vectors(&pdu) && is_spelled(alloc, AppForm::Mvrp, &pdu, true, &TWO_VECTORS)
+        }
+        None => false,
+    }
+}
+
+/// Whether a PDU has two Messages, of a service requirement and of an address.
+fn has_two_messages(pdu: &Pdu) -> bool {
+    let service = Row {
+        kind: 1,
+        leave_all: false,
+        first: &[1],
+        events: &[MrpEvent::JoinIn],
+        params: &[],
+    };
+    let address = Row {
+        kind: 2,
+        leave_all: false,
+        first: &[1, 0x80, 0xc2, 0, 0, 0x21],
+        events: &[MrpEvent::JoinMt],
+        params: &[],
+    };
+    match pdu.messages.as_slice() {
+        [a, b] => is_message(a, &service) && is_message(b, &address),
+        _ => false,
+    }
+}
+
+/// Whether octets read as this.
+fn reads(alloc: Global, form: AppForm, octets: &[u8], want: &Pdu) -> bool {
+    match read(alloc, form, octets) {
+        Some(pdu) => pdu == *want,
+        None => false,
+    }
+}
+
+/// Whether the two Messages are written and read, and are read without the last EndMark too.
+fn spells_two_messages(alloc: Global) -> bool {
+    match read(alloc, AppForm::Mmrp, &TWO_MESSAGES) {
+        Some(pdu) => {
+            has_two_messages(&pdu)
+                && is_spelled(alloc, AppForm::Mmrp, &pdu, false, &TWO_MESSAGES)
+                && reads(alloc, AppForm::Mmrp, &TWO_MESSAGES[..22], &pdu)
+        }
+        None => false,
+    }
+}
+
+#[test]
 fn two_vectors_and_two_messages_are_written_and_read(rt: HostRuntime) {
-    let alloc = rt.alloc();
-    let vectors = two_vectors(alloc);
-    assert!(rt; spells(alloc, AppForm::Mvrp, vectors, true, &TWO_VECTORS));
-    let messages = two_messages(alloc);
-    assert!(rt; spells(alloc, AppForm::Mmrp, messages, false, &TWO_MESSAGES));
-    // and without the last EndMark
-    assert!(rt; are_two_messages(alloc, &TWO_MESSAGES[..22]));
+    assert!(rt; spells_two_vectors(rt.alloc()));
+    assert!(rt; spells_two_messages(rt.alloc()));
 }
 
 /// Whether a number is put behind a 9 as its four octets.

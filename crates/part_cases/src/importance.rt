@@ -37,6 +37,8 @@ fn entry(class: Class, rank: Rank, since: Option<Cs>, stream: u64) -> Entry {
     Entry { want, since }
 }
 
+const NOW: Cs = Cs(7);
+
 fn are_in_order(now: Cs, first: &Entry, second: &Entry) -> bool {
     more_important(now, first, second)
         && !more_important(now, second, first)
@@ -44,32 +46,34 @@ fn are_in_order(now: Cs, first: &Entry, second: &Entry) -> bool {
         && compare_importance(now, second, first) == Ordering::Greater
 }
 
+fn classes_come_first() -> bool {
+    let first = entry(Class::A, Rank::Normal, None, 9);
+    are_in_order(
+        NOW,
+        &first,
+        &entry(Class::B, Rank::Emergency, Some(Cs(0)), 1),
+    )
+}
+
+fn then_ranks() -> bool {
+    let first = entry(Class::B, Rank::Emergency, None, 9);
+    are_in_order(NOW, &first, &entry(Class::B, Rank::Normal, Some(Cs(0)), 1))
+}
+
+/// Whether of two streams of a class and rank the one since this moment comes first.
+fn is_first_since(since: Option<Cs>, stream: u64, other_since: Option<Cs>, other: u64) -> bool {
+    let first = entry(Class::A, Rank::Normal, since, stream);
+    are_in_order(
+        NOW,
+        &first,
+        &entry(Class::A, Rank::Normal, other_since, other),
+    )
+}
+
 #[test]
 fn class_then_rank_then_age_then_stream(rt: HostRuntime) {
-    let now = Cs(7);
-    let pairs = [
-        (
-            entry(Class::A, Rank::Normal, None, 9),
-            entry(Class::B, Rank::Emergency, Some(Cs(0)), 1),
-        ),
-        (
-            entry(Class::B, Rank::Emergency, None, 9),
-            entry(Class::B, Rank::Normal, Some(Cs(0)), 1),
-        ),
-        (
-            entry(Class::A, Rank::Normal, Some(Cs(3)), 9),
-            entry(Class::A, Rank::Normal, Some(Cs(4)), 1),
-        ),
-        (
-            entry(Class::A, Rank::Normal, Some(Cs(6)), 9),
-            entry(Class::A, Rank::Normal, None, 1),
-        ),
-        (
-            entry(Class::A, Rank::Normal, None, 1),
-            entry(Class::A, Rank::Normal, Some(Cs(7)), 9),
-        ),
-    ];
-    for (first, second) in pairs {
-        assert!(rt; are_in_order(now, &first, &second));
-    }
+    assert!(rt; classes_come_first() && then_ranks());
+    assert!(rt; is_first_since(Some(Cs(3)), 9, Some(Cs(4)), 1));
+    assert!(rt; is_first_since(Some(Cs(6)), 9, None, 1));
+    assert!(rt; is_first_since(None, 1, Some(Cs(7)), 9));
 }

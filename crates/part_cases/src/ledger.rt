@@ -2,10 +2,9 @@
 
 ghost use Rattle.std.specs.Prelude.{◌≡◌, ◌≤◌, IfSome, OnOk};
 
-use port_ledger::Ledger;
+use port_ledger::{Changed, Ledger};
 use srp_base::{Class, Cs, NoMemory, Percent, Rank, Rate, StreamId};
 use std::alloc::Global;
-use std::test::Fail;
 use stream_importance::{Entry, Fit, Want};
 
 /// A stream of 200 octets and one frame takes this much in class A.
@@ -75,21 +74,30 @@ fn takes_four_of_five(ledger: &mut Ledger) -> Result<bool, NoMemory>
     Ok(refuses_the_fifth(ledger) && slopes == (61_952_000, 0))
 }
 
-#[test]
-fn four_of_five_equal_streams_fit(rt: HostRuntime) -> Result<(), Fail> {
-    let mut ledger = new_ledger(rt.alloc(), 75, 0).ok_or("percentages")?;
-    assert!(rt; takes_four_of_five(&mut ledger) == Ok(true));
-    Ok(())
+/// Whether a new ledger, of 75 percent, takes four of the five.
+fn fit_four_of_five(alloc: Global) -> bool {
+    match new_ledger(alloc, 75, 0) {
+        Some(mut ledger) => takes_four_of_five(&mut ledger) == Ok(true),
+        None => false,
+    }
 }
 
-/// Whether streams from 1 on are booked since these moments.
-fn are_booked(ledger: &Ledger, moments: &[Option<u64>]) -> bool {
-    for (stream, moment) in (1..6u64).zip(moments.iter()) {
-        if ledger.booked(StreamId(stream)) != moment.map(Cs) {
-            return false;
-        }
-    }
-    true
+#[test]
+fn four_of_five_equal_streams_fit(rt: HostRuntime) {
+    assert!(rt; fit_four_of_five(rt.alloc()));
+}
+
+fn is_booked(ledger: &Ledger, stream: u64, moment: u64) -> bool {
+    ledger.booked(StreamId(stream)) == Some(Cs(moment))
+}
+
+/// Whether streams 2 to 5 are booked, the last one since the first left, and the first is not.
+fn four_are_booked(ledger: &Ledger) -> bool {
+    ledger.booked(StreamId(1)).is_none()
+        && is_booked(ledger, 2, 1)
+        && is_booked(ledger, 3, 2)
+        && is_booked(ledger, 4, 3)
+        && is_booked(ledger, 5, 5)
 }
 
 /// Whether the fifth of five small streams is booked once the first has left, which it does once, and
@@ -101,17 +109,23 @@ fn decides_anew(ledger: &mut Ledger) -> Result<bool, NoMemory>
         ledger.want(Cs(stream - 1), small(stream))?;
     }
     let left = ledger.unwant(Cs(5), StreamId(1));
-    let anew = are_booked(ledger, &[None, Some(1), Some(2), Some(3), Some(5)]);
+    let anew = four_are_booked(ledger);
     let again = ledger.unwant(Cs(5), StreamId(1));
     let shown = ledger.clock(Cs(6));
     Ok(left && anew && !again && shown && !ledger.clock(Cs(7)))
 }
 
+/// Whether a new ledger, of 75 percent, decides anew.
+fn is_decided_anew(alloc: Global) -> bool {
+    match new_ledger(alloc, 75, 0) {
+        Some(mut ledger) => decides_anew(&mut ledger) == Ok(true),
+        None => false,
+    }
+}
+
 #[test]
-fn what_a_stream_leaves_is_decided_anew(rt: HostRuntime) -> Result<(), Fail> {
-    let mut ledger = new_ledger(rt.alloc(), 75, 0).ok_or("percentages")?;
-    assert!(rt; decides_anew(&mut ledger) == Ok(true));
-    Ok(())
+fn what_a_stream_leaves_is_decided_anew(rt: HostRuntime) {
+    assert!(rt; is_decided_anew(rt.alloc()));
 }
 
 /// An emergency stream, 3, takes the place of another, 9.
@@ -148,30 +162,57 @@ fn has_entries(ledger: &Ledger) -> bool {
 }
 
 /// Whether the emergency stream alone is booked.
-fn has_booking(ledger: &Ledger) -> Result<bool, NoMemory> {
-    Ok(ledger.bookings()?.as_slice() == [low()].as_slice())
+fn has_booking(ledger: &Ledger) -> bool {
+    match ledger.bookings() {
+        Ok(bookings) => bookings.as_slice() == [low()].as_slice(),
+        Err(_) => false,
+    }
 }
 
-fn has_booking_in_copy(ledger: &Ledger) -> Result<bool, NoMemory> {
-    let copy = ledger.copy()?;
-    has_booking(&copy)
+fn has_booking_in_copy(ledger: &Ledger) -> bool {
+    match ledger.copy() {
+        Ok(copy) => has_booking(&copy),
+        Err(_) => false,
+    }
 }
 
-/// Whether the emergency stream was booked and the other dropped since this one alone was booked.
-fn has_changed(ledger: &Ledger) -> Result<bool, NoMemory> {
+/// Whether the emergency stream was booked and the other dropped.
+fn are_changed(changed: &Changed) -> bool {
+    changed.booked.as_slice() == [StreamId(3)].as_slice()
+        && changed.dropped.as_slice() == [StreamId(9)].as_slice()
+}
+
+/// Whether that is what changed since the other alone was booked.
+fn has_changed(ledger: &Ledger) -> bool {
     let before = Entry {
         want: small(9),
         since: Some(Cs(0)),
     };
-    let changed = ledger.changes_since([before].as_slice())?;
-    let is_booked = changed.booked.as_slice() == [StreamId(3)].as_slice();
-    Ok(is_booked && changed.dropped.as_slice() == [StreamId(9)].as_slice())
+    match ledger.changes_since([before].as_slice()) {
+        Ok(changed) => are_changed(&changed),
+        Err(_) => false,
+    }
+}
+
+/// Whether the emergency stream takes the other's place, in the ledger and in what it tells.
+fn evicts(ledger: &mut Ledger) -> bool
+    requires { ledger.old.moment ≡ 0 }
+{
+    evict(ledger).is_ok()
+        && has_entries(ledger)
+        && has_booking_in_copy(ledger)
+        && has_changed(ledger)
+}
+
+/// Whether in a new ledger, of 20 percent, it takes the place.
+fn is_evicted(alloc: Global) -> bool {
+    match new_ledger(alloc, 20, 0) {
+        Some(mut ledger) => evicts(&mut ledger),
+        None => false,
+    }
 }
 
 #[test]
-fn entries_ascend_and_bookings_are_compared(rt: HostRuntime) -> Result<(), Fail> {
-    let mut ledger = new_ledger(rt.alloc(), 20, 0).ok_or("percentages")?;
-    assert!(rt; evict(&mut ledger).is_ok() && has_entries(&ledger));
-    assert!(rt; has_booking_in_copy(&ledger) == Ok(true) && has_changed(&ledger) == Ok(true));
-    Ok(())
+fn entries_ascend_and_bookings_are_compared(rt: HostRuntime) {
+    assert!(rt; is_evicted(rt.alloc()));
 }

@@ -20,18 +20,20 @@ fn two_kinds_are_merged(rt: HostRuntime) {
     }
 }
 
+const READY: PortListener = PortListener {
+    kind: Ready,
+    booked: true,
+};
+
+const WAITS: PortListener = PortListener {
+    kind: Ready,
+    booked: false,
+};
+
 #[test]
 fn a_port_without_a_booking_counts_as_asking_failed(rt: HostRuntime) {
-    let ready = PortListener {
-        kind: Ready,
-        booked: true,
-    };
-    let waits = PortListener {
-        kind: Ready,
-        booked: false,
-    };
-    assert!(rt; listener_out(&[]) == None);
-    assert!(rt; listener_out(&[waits]) == Some(AskingFailed));
-    assert!(rt; listener_out(&[ready, ready]) == Some(Ready));
-    assert!(rt; listener_out(&[ready, waits, ready]) == Some(ReadyFailed));
+    assert!(rt; listener_out(&[]).is_none());
+    assert!(rt; listener_out(&[WAITS]) == Some(AskingFailed));
+    assert!(rt; listener_out(&[READY, READY]) == Some(Ready));
+    assert!(rt; listener_out(&[READY, WAITS, READY]) == Some(ReadyFailed));
 }

@@ -1,13 +1,13 @@
 //! MSRPDUs (IEEE Std 802.1Q-2018, 35.2.2), written and read, and where they break.
 
-ghost use Rattle.std.specs.Prelude.{◌≡◌, IfOk};
+ghost use Rattle.std.specs.Prelude.{◌≡◌, true, IfOk, IfSome};
+ghost use Rattle.msrp_codec.specs.Writing.{IsWritable};
 
 use msrp_codec::{DecodeErr, MsrpContent, MsrpKey, MsrpPdu, decode, encode};
 use srp_base::{
     BridgeId, Failure, ListenerKind, Mac, MrpEvent, NoMemory, Priority, Rank, Seq, StreamId, Talker,
 };
 use std::alloc::Global;
-use std::test::Fail;
 
 /// What a PDU says of one key.
 type Event = (MrpEvent, MsrpKey, MsrpContent);
@@ -16,17 +16,17 @@ const STREAM: StreamId = StreamId(0x0200_0000_0001_0001);
 
 const NEXT: StreamId = StreamId(0x0200_0000_0001_0002);
 
-/// The Talker of a stream whose destination is at the end of three octets.
-fn talker(stream: StreamId, dest: u64) -> Result<Talker, Fail>
-    ensures { IfOk result (λ t. t.stream ≡ stream) }
+/// The Talker of a stream with this destination.
+fn talker(stream: StreamId, dest: u64) -> Option<Talker>
+    ensures { IfSome result (λ t. t.stream ≡ stream) }
 {
-    Ok(Talker {
+    Some(Talker {
         stream,
-        dest: Mac::new(dest).ok_or("an address")?,
+        dest: Mac::new(dest)?,
         vid: 2,
         max_frame: 200,
         frames: 1,
-        priority: Priority::new(3).ok_or("a priority")?,
+        priority: Priority::new(3)?,
         rank: Rank::Normal,
         latency: 500,
     })
@@ -70,21 +70,6 @@ fn reads(alloc: Global, octets: &[u8], leave_all: bool, events: &[Event]) -> boo
     }
 }
 
-fn joins_listener(stream: StreamId, kind: ListenerKind) -> Event {
-    let content = MsrpContent::Listener(kind);
-    (MrpEvent::JoinMt, MsrpKey::Listener(stream), content)
-}
-
-fn joins_talker(talker: Talker) -> Event {
-    let key = MsrpKey::Talker(talker.stream);
-    (MrpEvent::JoinMt, key, MsrpContent::Advertise(talker))
-}
-
-fn joins_domain(class: u8, priority: u8) -> Event {
-    let content = MsrpContent::Domain { priority, vid: 2 };
-    (MrpEvent::JoinMt, MsrpKey::Domain(class), content)
-}
-
 /// Two Talkers whose StreamID carries into the high half, and whose destination into the first octets.
 const CARRIES: [u8; 37] = [
     0, 1, 25, 0, 30, 0, 2, 2, 0, 0, 0, 0xff, 0xff, 0xff, 0xff, 0x91, 0xe0, 0xff, 0xff, 0xff, 0xff,
@@ -96,26 +81,73 @@ const IGNORED: [u8; 22] = [
     0, 3, 8, 0, 15, 0x20, 4, 2, 0, 0, 0, 0, 1, 0, 1, 0x81, 0x6c, 0xc4, 0, 0, 0, 0,
 ];
 
+const READY: Event = (
+    MrpEvent::JoinMt,
+    MsrpKey::Listener(STREAM),
+    MsrpContent::Listener(ListenerKind::Ready),
+);
+
+/// The first and the third of those four.
+const HEARD: [Event; 2] = [
+    (
+        MrpEvent::JoinMt,
+        MsrpKey::Listener(STREAM),
+        MsrpContent::Listener(ListenerKind::ReadyFailed),
+    ),
+    (
+        MrpEvent::JoinMt,
+        MsrpKey::Listener(StreamId(0x0200_0000_0001_0003)),
+        MsrpContent::Listener(ListenerKind::AskingFailed),
+    ),
+];
+
+const CLASSES: [Event; 2] = [
+    (
+        MrpEvent::JoinMt,
+        MsrpKey::Domain(5),
+        MsrpContent::Domain {
+            priority: 2,
+            vid: 2,
+        },
+    ),
+    (
+        MrpEvent::JoinMt,
+        MsrpKey::Domain(6),
+        MsrpContent::Domain {
+            priority: 3,
+            vid: 2,
+        },
+    ),
+];
+
 #[test]
 fn listeners_and_domains_are_read(rt: HostRuntime) {
-    let alloc = rt.alloc();
-    let ready = joins_listener(STREAM, ListenerKind::Ready);
-    assert!(rt; reads(alloc, &LISTENER, false, &[ready]));
-    let first = joins_listener(STREAM, ListenerKind::ReadyFailed);
-    let third = joins_listener(StreamId(0x0200_0000_0001_0003), ListenerKind::AskingFailed);
-    assert!(rt; reads(alloc, &IGNORED, true, &[first, third]));
-    let domains = [joins_domain(5, 2), joins_domain(6, 3)];
-    assert!(rt; reads(alloc, &DOMAINS, false, &domains));
+    assert!(rt; reads(rt.alloc(), &LISTENER, false, &[READY]));
+    assert!(rt; reads(rt.alloc(), &IGNORED, true, &HEARD));
+    assert!(rt; reads(rt.alloc(), &DOMAINS, false, &CLASSES));
+}
+
+/// What a Talker that joins is said to be.
+fn joins(talker: Talker) -> Event {
+    let key = MsrpKey::Talker(talker.stream);
+    (MrpEvent::JoinMt, key, MsrpContent::Advertise(talker))
+}
+
+fn reads_a_talker(alloc: Global) -> Option<bool> {
+    let advertised = joins(talker(STREAM, 0x91e0_f000_fe01)?);
+    Some(reads(alloc, &ADVERTISE, false, &[advertised]))
+}
+
+fn reads_values_that_carry(alloc: Global) -> Option<bool> {
+    let first = joins(talker(StreamId(0x0200_0000_ffff_ffff), 0x91e0_ffff_ffff)?);
+    let second = joins(talker(StreamId(0x0200_0001_0000_0000), 0x91e1_0000_0000)?);
+    Some(reads(alloc, &CARRIES, false, &[first, second]))
 }
 
 #[test]
-fn talkers_are_read_and_values_carry(rt: HostRuntime) -> Result<(), Fail> {
-    let advertised = joins_talker(talker(STREAM, 0x91e0_f000_fe01)?);
-    let first = joins_talker(talker(StreamId(0x0200_0000_ffff_ffff), 0x91e0_ffff_ffff)?);
-    let second = joins_talker(talker(StreamId(0x0200_0001_0000_0000), 0x91e1_0000_0000)?);
-    assert!(rt; reads(rt.alloc(), &ADVERTISE, false, &[advertised]));
-    assert!(rt; reads(rt.alloc(), &CARRIES, false, &[first, second]));
-    Ok(())
+fn talkers_are_read_and_values_carry(rt: HostRuntime) {
+    assert!(rt; reads_a_talker(rt.alloc()) == Some(true));
+    assert!(rt; reads_values_that_carry(rt.alloc()) == Some(true));
 }
 
 /// Whether octets break at this place.
@@ -123,46 +155,89 @@ fn breaks(alloc: Global, octets: &[u8], place: u32) -> bool {
     octets.len() <= 1500 && decode(alloc, octets) == Err(DecodeErr::Malformed(place))
 }
 
+/// Two Domains, of which the second would have priority 256, with a packed octet of 216.
+const PAST: [u8; 12] = [0, 4, 4, 0, 9, 0, 2, 5, 255, 0, 2, 216];
+
 #[test]
 fn malformed_at_a_place(rt: HostRuntime) {
     assert!(rt; breaks(rt.alloc(), &[0, 3, 8, 0, 1], 3));
     assert!(rt; breaks(rt.alloc(), &LISTENER[..20], 19));
-    assert!(rt; breaks(rt.alloc(), &[0, 4, 4, 0, 9, 0, 2, 5, 255, 0, 2, 216], 11));
+    assert!(rt; breaks(rt.alloc(), &PAST, 11));
 }
 
-/// A LeaveAll with the failed Talker of a stream and the advertised one of the next.
-#[test]
-fn written_by_types(rt: HostRuntime) -> Result<(), Fail> {
-    let alloc = rt.alloc();
-    let failure = Failure {
-        bridge: BridgeId(3),
-        code: 1,
-    };
-    let failed = MsrpContent::Failed(talker(STREAM, 0x91e0_f000_fe01)?, failure);
+/// Whether a PDU is written as octets that read as a LeaveAll and these events.
+fn is_reread(alloc: Global, pdu: &MsrpPdu, events: &[Event]) -> bool
+    requires { IsWritable pdu.now }
+{
+    match encode(alloc, pdu) {
+        Ok(octets) => reads(alloc, octets.as_slice(), true, events),
+        Err(_) => false,
+    }
+}
+
+/// Whether a LeaveAll and events are read as these once they are written.
+fn are_reread(alloc: Global, events: &[Event], wanted: &[Event]) -> bool
+    requires { IsWritable (record { leave_all = true; events = events.now }) }
+{
+    match said(alloc, true, events) {
+        Ok(pdu) => is_reread(alloc, &pdu, wanted),
+        Err(_) => false,
+    }
+}
+
+const FAILURE: Failure = Failure {
+    bridge: BridgeId(3),
+    code: 1,
+};
+
+/// Whether the failed Talker of a stream comes behind the advertised one of the next.
+fn failed_comes_last(alloc: Global) -> Option<bool> {
+    let failed = MsrpContent::Failed(talker(STREAM, 0x91e0_f000_fe01)?, FAILURE);
     let advertised = MsrpContent::Advertise(talker(NEXT, 0x91e0_f000_fe02)?);
-    let a = (MrpEvent::New, MsrpKey::Talker(STREAM), failed);
-    let b = (MrpEvent::JoinIn, MsrpKey::Talker(NEXT), advertised);
-    let octets = encode(alloc, &said(alloc, true, &[a, b])?)?;
-    assert!(rt; reads(alloc, octets.as_slice(), true, &[b, a]));
-    Ok(())
+    let one = (MrpEvent::New, MsrpKey::Talker(STREAM), failed);
+    let two = (MrpEvent::JoinIn, MsrpKey::Talker(NEXT), advertised);
+    Some(are_reread(alloc, &[one, two], &[two, one]))
 }
 
 #[test]
-fn a_listener_is_written(rt: HostRuntime) -> Result<(), NoMemory> {
-    let content = MsrpContent::Listener(ListenerKind::Ready);
-    let ready = (MrpEvent::JoinMt, MsrpKey::Listener(STREAM), content);
-    let pdu = said(rt.alloc(), false, &[ready])?;
-    assert!(rt; encode(rt.alloc(), &pdu)?.as_slice() == LISTENER.as_slice());
-    Ok(())
+fn written_by_types(rt: HostRuntime) {
+    assert!(rt; failed_comes_last(rt.alloc()) == Some(true));
+}
+
+/// Whether a PDU is written as these octets.
+fn is_written(alloc: Global, pdu: &MsrpPdu, octets: &[u8]) -> bool
+    requires { IsWritable pdu.now }
+{
+    match encode(alloc, pdu) {
+        Ok(written) => written.as_slice() == octets,
+        Err(_) => false,
+    }
+}
+
+/// Whether a LeaveAll or none, and these events, are written as these octets.
+fn writes(alloc: Global, leave_all: bool, events: &[Event], octets: &[u8]) -> bool
+    requires { IsWritable (record { leave_all = leave_all; events = events.now }) }
+{
+    match said(alloc, leave_all, events) {
+        Ok(pdu) => is_written(alloc, &pdu, octets),
+        Err(_) => false,
+    }
 }
 
 #[test]
-fn a_talker_is_written(rt: HostRuntime) -> Result<(), Fail> {
+fn a_listener_is_written(rt: HostRuntime) {
+    assert!(rt; writes(rt.alloc(), false, &[READY], &LISTENER));
+}
+
+fn writes_a_talker(alloc: Global) -> Option<bool> {
     let content = MsrpContent::Advertise(talker(STREAM, 0x91e0_f000_fe01)?);
     let advertised = (MrpEvent::JoinMt, MsrpKey::Talker(STREAM), content);
-    let pdu = said(rt.alloc(), false, &[advertised])?;
-    assert!(rt; encode(rt.alloc(), &pdu)?.as_slice() == ADVERTISE.as_slice());
-    Ok(())
+    Some(writes(alloc, false, &[advertised], &ADVERTISE))
+}
+
+#[test]
+fn a_talker_is_written(rt: HostRuntime) {
+    assert!(rt; writes_a_talker(rt.alloc()) == Some(true));
 }
 
 /// A LeaveAll: a Message of each type, with a vector of no values and a FirstValue of zeros.
@@ -174,11 +249,8 @@ const LEAVE_ALL: [u8; 106] = [
 ];
 
 #[test]
-fn a_leave_all_asks_for_every_type(rt: HostRuntime) -> Result<(), NoMemory> {
-    let alloc = rt.alloc();
-    let octets = encode(alloc, &said(alloc, true, &[])?)?;
-    assert!(rt; octets.as_slice() == LEAVE_ALL.as_slice());
-    Ok(())
+fn a_leave_all_asks_for_every_type(rt: HostRuntime) {
+    assert!(rt; writes(rt.alloc(), true, &[], &LEAVE_ALL));
 }
 
 #[test]

@@ -5,20 +5,28 @@ use srp_base::{
 };
 use std::alloc::Global;
 
+fn is_stream(text: &str, id: u64) -> bool {
+    read_hex16(text) == Some(id)
+}
+
+fn is_no_stream(text: &str) -> bool {
+    read_hex16(text).is_none()
+}
+
 #[test]
 fn sixteen_digits_and_no_other_text_are_an_identifier(rt: HostRuntime) {
-    for (text, id) in [
-        ("0200000000010001", Some(0x0200_0000_0001_0001)),
-        ("ffffffffffffffff", Some(0xffff_ffff_ffff_ffff)),
-        ("FfFf0000aAaA9999", Some(0xffff_0000_aaaa_9999)),
-        ("000000000000000g", None),
-        ("00000000000000001", None),
-        ("000000000000001", None),
-        ("+00000000000001a", None),
-        ("", None),
-    ] {
-        assert!(rt; read_hex16(text) == id);
-    }
+    assert!(rt;
+        is_stream("0200000000010001", 0x0200_0000_0001_0001)
+            && is_stream("ffffffffffffffff", 0xffff_ffff_ffff_ffff)
+            && is_stream("FfFf0000aAaA9999", 0xffff_0000_aaaa_9999)
+    );
+    assert!(rt;
+        is_no_stream("000000000000000g")
+            && is_no_stream("00000000000000001")
+            && is_no_stream("000000000000001")
+            && is_no_stream("+00000000000001a")
+            && is_no_stream("")
+    );
 }
 
 /// The address that a text is, as a number.
@@ -28,29 +36,30 @@ fn address_of(text: &str) -> Option<u64> {
 
 #[test]
 fn twelve_digits_are_an_address(rt: HostRuntime) {
-    for (text, address) in [
-        ("91e0f000fe01", Some(0x91e0_f000_fe01)),
-        ("FFFFFFFFFFFF", Some(0xffff_ffff_ffff)),
-        ("91e0f000fe0", None),
-        ("91e0f000fe0x", None),
-    ] {
-        assert!(rt; address_of(text) == address);
+    assert!(rt; address_of("91e0f000fe01") == Some(0x91e0_f000_fe01));
+    assert!(rt; address_of("FFFFFFFFFFFF") == Some(0xffff_ffff_ffff));
+    assert!(rt; address_of("91e0f000fe0").is_none() && address_of("91e0f000fe0x").is_none());
+}
+
+fn is_stream_text(alloc: Global, stream: StreamId, digits: &str) -> bool {
+    match format!(in alloc; "{stream}") {
+        Ok(text) => text.as_str() == digits,
+        Err(_) => false,
     }
 }
 
-fn is_stream_text(alloc: Global, stream: StreamId, digits: &str) -> Result<bool, NoMemory> {
-    Ok(format!(in alloc; "{stream}")?.as_str() == digits)
-}
-
-fn is_bridge_text(alloc: Global, bridge: BridgeId, digits: &str) -> Result<bool, NoMemory> {
-    Ok(format!(in alloc; "{bridge}")?.as_str() == digits)
+fn is_bridge_text(alloc: Global, bridge: BridgeId, digits: &str) -> bool {
+    match format!(in alloc; "{bridge}") {
+        Ok(text) => text.as_str() == digits,
+        Err(_) => false,
+    }
 }
 
 #[test]
 fn identifiers_are_written_as_sixteen_digits(rt: HostRuntime) {
     let stream = StreamId(0x0200_0000_0001_0001);
-    assert!(rt; is_stream_text(rt.alloc(), stream, "0200000000010001") == Ok(true));
-    assert!(rt; is_bridge_text(rt.alloc(), BridgeId(0xA), "000000000000000a") == Ok(true));
+    assert!(rt; is_stream_text(rt.alloc(), stream, "0200000000010001"));
+    assert!(rt; is_bridge_text(rt.alloc(), BridgeId(0xA), "000000000000000a"));
 }
 
 fn vids_are_1_to_4094() -> bool {
@@ -104,23 +113,32 @@ fn pushed(alloc: Global) -> Result<Seq<u8>, NoMemory> {
 }
 
 /// Whether a list and its copy are this one.
-fn is_list(list: &Seq<u8>, wanted: &Seq<u8>) -> Result<bool, NoMemory> {
-    Ok(*list == *wanted && list.clone()? == *wanted)
+fn is_list(list: &Seq<u8>, wanted: &Seq<u8>) -> bool {
+    match list.clone() {
+        Ok(copy) => *list == *wanted && copy == *wanted,
+        Err(_) => false,
+    }
 }
 
-fn is_made_of_a_vec(alloc: Global, list: &Seq<u8>) -> Result<bool, NoMemory> {
-    let wanted = Seq::from_vec(vec![in alloc; 7u8, 9]?);
-    is_list(list, &wanted)
+fn is_made_of_a_vec(alloc: Global, list: &Seq<u8>) -> bool {
+    match vec![in alloc; 7u8, 9] {
+        Ok(wanted) => is_list(list, &Seq::from_vec(wanted)),
+        Err(_) => false,
+    }
 }
 
 fn gives_its_vec(list: Seq<u8>) -> bool {
     list.into_vec().as_slice() == [7, 9].as_slice()
 }
 
+fn is_its_elements(alloc: Global) -> bool {
+    match pushed(alloc) {
+        Ok(list) => is_made_of_a_vec(alloc, &list) && gives_its_vec(list),
+        Err(_) => false,
+    }
+}
+
 #[test]
-fn a_list_is_its_elements(rt: HostRuntime) -> Result<(), NoMemory> {
-    let list = pushed(rt.alloc())?;
-    assert!(rt; is_made_of_a_vec(rt.alloc(), &list) == Ok(true));
-    assert!(rt; gives_its_vec(list));
-    Ok(())
+fn a_list_is_its_elements(rt: HostRuntime) {
+    assert!(rt; is_its_elements(rt.alloc()));
 }

@@ -8,7 +8,7 @@
 use applicant::Applicant;
 use mrp_participant::{MrpApp, Msgs, Participant};
 use registrar::Registrar;
-use srp_base::{Cs, MrpEvent, NoMemory, Seq};
+use srp_base::{Cs, MrpEvent, Seq};
 use std::alloc::Global;
 
 struct Numbers;
@@ -51,11 +51,14 @@ fn new_participant(alloc: Global, often: bool) -> Participant<Numbers> {
     }
 }
 
-fn declare(participant: &mut Participant<Numbers>, first: u32, last: u32) -> Result<(), NoMemory> {
+// Whether keys can be declared.
+fn declares(participant: &mut Participant<Numbers>, first: u32, last: u32) -> bool {
     for key in first..=last {
-        participant.declare(key, key.wrapping_mul(10))?;
+        if participant.declare(key, key.wrapping_mul(10)).is_err() {
+            return false;
+        }
     }
-    Ok(())
+    true
 }
 
 // Whether a send at a moment gives so many events, with LeaveAll or not, and which the first and
@@ -66,14 +69,21 @@ fn sends(
     leave_all: bool,
     count: usize,
     ends: (MrpEvent, u32, u32),
-) -> Result<bool, NoMemory> {
-    match participant.send(Cs(u64::from(now)))? {
-        Some(msgs) => {
-            let events = msgs.events.as_slice();
-            Ok(msgs.leave_all == leave_all && events.len() == count && has_ends(events, ends))
-        }
-        None => Ok(false),
+) -> bool {
+    match participant.send(Cs(u64::from(now))) {
+        Ok(Some(msgs)) => are_sent(&msgs, leave_all, count, ends),
+        _ => false,
     }
+}
+
+fn are_sent(
+    msgs: &Msgs<Numbers>,
+    leave_all: bool,
+    count: usize,
+    ends: (MrpEvent, u32, u32),
+) -> bool {
+    let events = msgs.events.as_slice();
+    msgs.leave_all == leave_all && events.len() == count && has_ends(events, ends)
 }
 
 // Whether the first event and the last one are of this kind and of these keys.
@@ -83,8 +93,24 @@ fn has_ends(events: &[(MrpEvent, u32, u32)], ends: (MrpEvent, u32, u32)) -> bool
         && events.last().copied() == Some((event, last, last.wrapping_mul(10)))
 }
 
-fn is_silent(participant: &mut Participant<Numbers>, now: u32) -> Result<bool, NoMemory> {
-    Ok(participant.send(Cs(u64::from(now)))?.is_none())
+fn is_silent(participant: &mut Participant<Numbers>, now: u32) -> bool {
+    match participant.send(Cs(u64::from(now))) {
+        Ok(None) => true,
+        _ => false,
+    }
+}
+
+// Whether what is received at a moment tells these keys in this order.
+fn hears(
+    participant: &mut Participant<Numbers>,
+    now: u32,
+    msgs: &Msgs<Numbers>,
+    keys: &[u32],
+) -> bool {
+    match participant.receive(Cs(u64::from(now)), msgs) {
+        Ok(told) => told.as_slice() == keys,
+        Err(_) => false,
+    }
 }
 
 // Whether a list of events tells, at a moment, these keys in this order.
@@ -95,21 +121,22 @@ fn tells(
     leave_all: bool,
     list: &[(MrpEvent, u32, u32)],
     keys: &[u32],
-) -> Result<bool, NoMemory> {
-    let events = Seq::from_vec(Vec::from_slice(alloc, list)?);
-    let told = participant.receive(Cs(u64::from(now)), &Msgs { leave_all, events })?;
-    Ok(told.as_slice() == keys)
+) -> bool {
+    match Vec::from_slice(alloc, list) {
+        Ok(events) => {
+            let events = Seq::from_vec(events);
+            hears(participant, now, &Msgs { leave_all, events }, keys)
+        }
+        Err(_) => false,
+    }
 }
 
 // Whether so many timers fire at a moment, and these keys leave in this order.
-fn fires(
-    participant: &mut Participant<Numbers>,
-    now: u32,
-    fired: u32,
-    keys: &[u32],
-) -> Result<bool, NoMemory> {
-    let (number, left) = participant.due(Cs(u64::from(now)))?;
-    Ok(number == fired && left.as_slice() == keys)
+fn fires(participant: &mut Participant<Numbers>, now: u32, fired: u32, keys: &[u32]) -> bool {
+    match participant.due(Cs(u64::from(now))) {
+        Ok((number, left)) => number == fired && left.as_slice() == keys,
+        Err(_) => false,
+    }
 }
 
 fn is_declared(
@@ -131,22 +158,19 @@ fn is_registered(
 }
 
 // Whether three PDUs say 300 keys.
-fn fills_three(participant: &mut Participant<Numbers>) -> Result<bool, NoMemory> {
-    declare(participant, 1, 300)?;
-    for (now, count, first, last) in [(20, 297, 1, 297), (40, 297, 1, 300), (60, 6, 295, 300)] {
-        let ends = (MrpEvent::JoinMt, first, last);
-        if !sends(participant, now, false, count, ends)? {
-            return Ok(false);
-        }
-    }
-    is_silent(participant, 80)
+fn fills_three(participant: &mut Participant<Numbers>) -> bool {
+    declares(participant, 1, 300)
+        && sends(participant, 20, false, 297, (MrpEvent::JoinMt, 1, 297))
+        && sends(participant, 40, false, 297, (MrpEvent::JoinMt, 1, 300))
+        && sends(participant, 60, false, 6, (MrpEvent::JoinMt, 295, 300))
+        && is_silent(participant, 80)
 }
 
 // 300 keys take three PDUs.
 #[test]
 fn full_pdus(rt: HostRuntime) {
     let mut participant = new_participant(rt.alloc(), false);
-    assert!(rt; fills_three(&mut participant) == Ok(true));
+    assert!(rt; fills_three(&mut participant));
 }
 
 fn is_sound_and_busy(participant: &Participant<Numbers>) -> bool {
@@ -154,32 +178,30 @@ fn is_sound_and_busy(participant: &Participant<Numbers>) -> bool {
 }
 
 // Whether a LeaveAll is said before 297 keys of 300, and the other three by the next PDU.
-fn says_leave_all(participant: &mut Participant<Numbers>) -> Result<bool, NoMemory> {
-    declare(participant, 1, 300)?;
+fn says_leave_all(participant: &mut Participant<Numbers>) -> bool {
+    let declared = declares(participant, 1, 300);
     participant.spoil();
     participant.leaveall_due(Cs(1001));
-    for (now, leave_all, count, last) in [(20, true, 297, 297), (40, false, 297, 300)] {
-        let ends = (MrpEvent::JoinMt, 1, last);
-        if !sends(participant, now, leave_all, count, ends)? {
-            return Ok(false);
-        }
-    }
-    Ok(is_sound_and_busy(participant))
+    declared
+        && sends(participant, 20, true, 297, (MrpEvent::JoinMt, 1, 297))
+        && sends(participant, 40, false, 297, (MrpEvent::JoinMt, 1, 300))
+        && is_sound_and_busy(participant)
 }
 
 // A LeaveAll leaves three keys of 300 very anxious, and makes the participant sound.
 #[test]
 fn leave_all_without_room(rt: HostRuntime) {
     let mut participant = new_participant(rt.alloc(), false);
-    assert!(rt; says_leave_all(&mut participant) == Ok(true));
+    assert!(rt; says_leave_all(&mut participant));
 }
 
 // Whether a key that is withdrawn is said to leave, once, and is then forgotten.
-fn leaves_once(participant: &mut Participant<Numbers>, key: u32) -> Result<bool, NoMemory> {
+fn leaves_once(participant: &mut Participant<Numbers>, key: u32) -> bool {
     participant.withdraw(key);
-    let leaving = is_declared(participant, key, None, Applicant::La);
-    let said = sends(participant, 20, false, 1, (MrpEvent::Lv, key, key))?;
-    Ok(leaving && said && participant.rows() == 0 && is_silent(participant, 40)?)
+    is_declared(participant, key, None, Applicant::La)
+        && sends(participant, 20, false, 1, (MrpEvent::Lv, key, key))
+        && participant.rows() == 0
+        && is_silent(participant, 40)
 }
 
 // Whether a key is the only one, and has just been declared.
@@ -190,10 +212,11 @@ fn is_alone(participant: &Participant<Numbers>, key: u32) -> bool {
 }
 
 // Whether a key leaves once, and its copy stays.
-fn leaves_its_copy(participant: &mut Participant<Numbers>, key: u32) -> Result<bool, NoMemory> {
-    declare(participant, key, key)?;
-    let copy = participant.copy()?;
-    Ok(leaves_once(participant, key) == Ok(true) && is_alone(&copy, key))
+fn leaves_its_copy(participant: &mut Participant<Numbers>, key: u32) -> bool {
+    match participant.copy() {
+        Ok(copy) => leaves_once(participant, key) && is_alone(&copy, key),
+        Err(_) => false,
+    }
 }
 
 // A key that is declared and withdrawn with nothing sent between still says Lv, once; its copy goes
@@ -201,16 +224,17 @@ fn leaves_its_copy(participant: &mut Participant<Numbers>, key: u32) -> Result<b
 #[test]
 fn withdrawn_in_time(rt: HostRuntime) {
     let mut participant = new_participant(rt.alloc(), false);
-    assert!(rt; leaves_its_copy(&mut participant, 7) == Ok(true));
+    assert!(rt; declares(&mut participant, 7, 7) && leaves_its_copy(&mut participant, 7));
 }
 
 // Whether two lists of events tell the keys that they change.
-fn tells_changes(alloc: Global, participant: &mut Participant<Numbers>) -> Result<bool, NoMemory> {
+fn tells_changes(alloc: Global, participant: &mut Participant<Numbers>) -> bool {
     use MrpEvent::*;
     let joins = [(JoinIn, 9, 90), (OnlyMt, 8, 80), (JoinMt, 5, 50)];
     let news = [(JoinIn, 5, 50), (New, 9, 91), (Lv, 7, 70), (New, 3, 30)];
-    let joined = tells(alloc, participant, 6, false, &joins, &[5, 9])?;
-    Ok(joined && tells(alloc, participant, 6, true, &news, &[3, 9])?)
+    tells(alloc, participant, 6, false, &joins, &[5, 9])
+        && tells(alloc, participant, 6, true, &news, &[3, 9])
+        && is_registered(participant, 9, Some(91), Registrar::Held)
 }
 
 // Receiving tells the keys whose registration or content changed, in ascending order, and acts on
@@ -218,19 +242,15 @@ fn tells_changes(alloc: Global, participant: &mut Participant<Numbers>) -> Resul
 #[test]
 fn registrations(rt: HostRuntime) {
     let mut participant = new_participant(rt.alloc(), false);
-    assert!(rt; tells_changes(rt.alloc(), &mut participant) == Ok(true));
-    assert!(rt; is_registered(&participant, 9, Some(91), Registrar::Held));
+    assert!(rt; tells_changes(rt.alloc(), &mut participant));
 }
 
 // Whether three keys join, and a LeaveAll with one key that is declared elsewhere tells nothing.
-fn hears_leave_all(
-    alloc: Global,
-    participant: &mut Participant<Numbers>,
-) -> Result<bool, NoMemory> {
+fn hears_leave_all(alloc: Global, participant: &mut Participant<Numbers>) -> bool {
     use MrpEvent::*;
     let joins = [(JoinIn, 9, 90), (JoinIn, 3, 30), (JoinIn, 5, 50)];
-    let joined = tells(alloc, participant, 6, false, &joins, &[3, 5, 9])?;
-    Ok(joined && tells(alloc, participant, 7, true, &[(OnlyIn, 5, 51)], &[])?)
+    tells(alloc, participant, 6, false, &joins, &[3, 5, 9])
+        && tells(alloc, participant, 7, true, &[(OnlyIn, 5, 51)], &[])
 }
 
 // Whether a key's leave timer is made to end, once.
@@ -243,14 +263,19 @@ fn is_due_at(participant: &Participant<Numbers>, before: u32, now: u32) -> bool 
     !participant.any_due(Cs(u64::from(before))) && participant.any_due(Cs(u64::from(now)))
 }
 
+// Whether one key leaves when the user says so, and two when their timers end.
+fn leaves_in_time(participant: &mut Participant<Numbers>) -> bool {
+    is_registered(participant, 5, Some(50), Registrar::Leaving)
+        && is_let_go(participant, 5)
+        && is_due_at(participant, 66, 67)
+        && fires(participant, 67, 2, &[3, 9])
+}
+
 // What a LeaveAll left leaves 60 cs later, or when the user says so.
 #[test]
 fn leave_timers(rt: HostRuntime) {
     let mut participant = new_participant(rt.alloc(), false);
-    assert!(rt; hears_leave_all(rt.alloc(), &mut participant) == Ok(true));
-    assert!(rt; is_registered(&participant, 5, Some(50), Registrar::Leaving));
-    assert!(rt; is_let_go(&mut participant, 5) && is_due_at(&participant, 66, 67));
-    assert!(rt; fires(&mut participant, 67, 2, &[3, 9]) == Ok(true));
+    assert!(rt; hears_leave_all(rt.alloc(), &mut participant) && leaves_in_time(&mut participant));
 }
 
 // Whether a key that is quiet is anxious after the periodic event.
@@ -262,30 +287,26 @@ fn turns_anxious(participant: &mut Participant<Numbers>, key: u32) -> bool {
 }
 
 // Whether both timers fire at 100 and at 200, and none just before.
-fn fires_each_second(participant: &mut Participant<Numbers>) -> Result<bool, NoMemory> {
-    Ok(
-        fires(participant, 100, 2, &[])?
-            && fires(participant, 199, 0, &[])?
-            && fires(participant, 200, 2, &[])?,
-    )
+fn fires_each_second(participant: &mut Participant<Numbers>) -> bool {
+    fires(participant, 100, 2, &[])
+        && fires(participant, 199, 0, &[])
+        && fires(participant, 200, 2, &[])
 }
 
 // Whether a key is said twice, and then by the LeaveAll that the timers make.
-fn says_at_each_timer(participant: &mut Participant<Numbers>, key: u32) -> Result<bool, NoMemory> {
-    declare(participant, key, key)?;
+fn says_at_each_timer(participant: &mut Participant<Numbers>, key: u32) -> bool {
     let join = (MrpEvent::JoinMt, key, key);
-    Ok(
-        sends(participant, 20, false, 1, join)?
-            && sends(participant, 40, false, 1, join)?
-            && turns_anxious(participant, key)
-            && fires_each_second(participant)?
-            && sends(participant, 200, true, 1, join)?,
-    )
+    declares(participant, key, key)
+        && sends(participant, 20, false, 1, join)
+        && sends(participant, 40, false, 1, join)
+        && turns_anxious(participant, key)
+        && fires_each_second(participant)
+        && sends(participant, 200, true, 1, join)
 }
 
 // The timers fire together, and the periodic event makes what is quiet anxious.
 #[test]
 fn timers(rt: HostRuntime) {
     let mut participant = new_participant(rt.alloc(), true);
-    assert!(rt; says_at_each_timer(&mut participant, 1) == Ok(true));
+    assert!(rt; says_at_each_timer(&mut participant, 1));
 }

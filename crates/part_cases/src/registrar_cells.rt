@@ -12,8 +12,8 @@ fn has_cell(state: Registrar, event: RegEvent, cell: (Registrar, Tell)) -> bool 
 }
 
 // Whether the cells of IN, LV and MT at an event are these.
-fn has_row(event: RegEvent, cells: [(Registrar, Tell); 3]) -> bool {
-    let [held, leaving, empty] = cells;
+fn has_row(event: RegEvent, cells: &[(Registrar, Tell); 3]) -> bool {
+    let [held, leaving, empty] = *cells;
     has_cell(Held, event, held)
         && has_cell(Leaving, event, leaving)
         && has_cell(Empty, event, empty)
@@ -32,15 +32,16 @@ const LEFT: [(Registrar, Tell); 3] = [(Leaving, Nothing), (Leaving, Nothing), (E
 
 const TIMED: [(Registrar, Tell); 3] = [(Held, Nothing), (Empty, Left), (Empty, Nothing)];
 
+// Whether an event has these cells, and starts the leave timer or not.
+fn acts(event: RegEvent, cells: &[(Registrar, Tell); 3], starts: bool) -> bool {
+    has_row(event, cells) && starts_in_time(event, starts)
+}
+
 #[test]
 fn cells_of_the_table(rt: HostRuntime) {
-    for event in [RxNew, RxJoin] {
-        assert!(rt; has_row(event, HEARD) && starts_in_time(event, false));
-    }
-    for event in [RxLv, RxLeaveAll, TxLeaveAll] {
-        assert!(rt; has_row(event, LEFT) && starts_in_time(event, true));
-    }
-    assert!(rt; has_row(LeaveTimer, TIMED) && starts_in_time(LeaveTimer, false));
+    assert!(rt; acts(RxNew, &HEARD, false) && acts(RxJoin, &HEARD, false));
+    assert!(rt; acts(RxLv, &LEFT, true) && acts(RxLeaveAll, &LEFT, true));
+    assert!(rt; acts(TxLeaveAll, &LEFT, true) && acts(LeaveTimer, &TIMED, false));
 }
 
 #[test]

@@ -6,7 +6,7 @@
 
 use srp_base::{NodeNo, Rank};
 use std::alloc::Global;
-use std::test::Fail;
+use toml::Table;
 use topology_file::{
     EventEntry, EventKind, FrameEntry, FrameRoute, LinkEntry, NodeEntry, RuleErr, Scenario,
     StreamEntry, read_scenario,
@@ -28,9 +28,11 @@ const TWINS: &str = "ticks = 1\nlink = [{ a = 'a', b = 'b' }]\n\
     node = [{ name = 'a', kind = 'bridge' }, { name = 'a', kind = 'bridge' }]\n";
 
 /// The scenario that a text is.
-fn scenario_of(alloc: Global, text: &str) -> Result<Scenario, Fail> {
-    let table = toml::table_from_str(alloc, text)?;
-    Ok(read_scenario(alloc, &table)?)
+fn scenario_of(alloc: Global, text: &str) -> Option<Scenario> {
+    match toml::table_from_str(alloc, text) {
+        Ok(table) => read_scenario(alloc, &table).ok(),
+        Err(_) => None,
+    }
 }
 
 fn has_times(scenario: &Scenario) -> bool {
@@ -128,26 +130,45 @@ fn has_frame(scenario: &Scenario) -> bool {
     }
 }
 
+/// Whether a scenario is the pair with its events and its frame.
+fn has_all(scenario: &Scenario) -> bool {
+    is_pair(scenario) && has_events(scenario) && has_frame(scenario) && scenario.copies() == 3
+}
+
+/// Whether a scenario was read, and is the pair with all that it has.
+fn is_whole(read: &Option<Scenario>) -> bool {
+    match read {
+        Some(scenario) => has_all(scenario),
+        None => false,
+    }
+}
+
+// Who owns a scenario does nothing else, and drops it by a call, so that its proof is short.
+fn pair_is_read(alloc: Global) -> bool {
+    let read = scenario_of(alloc, PAIR);
+    let whole = is_whole(&read);
+    drop(read);
+    whole
+}
+
 #[test]
-fn a_pair_is_read_with_its_defaults_its_events_and_its_frame(rt: HostRuntime) -> Result<(), Fail> {
-    let scenario = scenario_of(rt.alloc(), PAIR)?;
-    assert!(rt; is_pair(&scenario));
-    assert!(rt; has_events(&scenario));
-    assert!(rt; has_frame(&scenario) && scenario.copies() == 3);
-    Ok(())
+fn a_pair_is_read_with_its_defaults_its_events_and_its_frame(rt: HostRuntime) {
+    assert!(rt; pair_is_read(rt.alloc()));
 }
 
 /// Whether the reading fails with a rule, at an entry.
-fn is_broken(reading: Result<Scenario, RuleErr>, rule: u8, entry: u32) -> bool {
-    match reading {
-        Ok(_) => false,
-        Err(error) => error == RuleErr::Rule { rule, entry },
+fn is_broken(alloc: Global, table: &Table, rule: u8, entry: u32) -> bool {
+    read_scenario(alloc, table).err() == Some(RuleErr::Rule { rule, entry })
+}
+
+fn twins_are_refused(alloc: Global) -> bool {
+    match toml::table_from_str(alloc, TWINS) {
+        Ok(table) => is_broken(alloc, &table, 6, 2),
+        Err(_) => false,
     }
 }
 
 #[test]
-fn the_first_broken_rule_is_named(rt: HostRuntime) -> Result<(), Fail> {
-    let table = toml::table_from_str(rt.alloc(), TWINS)?;
-    assert!(rt; is_broken(read_scenario(rt.alloc(), &table), 6, 2));
-    Ok(())
+fn the_first_broken_rule_is_named(rt: HostRuntime) {
+    assert!(rt; twins_are_refused(rt.alloc()));
 }

@@ -9,7 +9,6 @@ ghost use Rattle.tree_topology.specs.Topology.{HasNode, HasLink, HasPort};
 
 use srp_base::{EgressPort, LinkNo, NoMemory, NodeNo, PortNo};
 use std::alloc::Global;
-use std::test::Fail;
 use tree_topology::NodeKind::{Bridge, Station};
 use tree_topology::TreeErr::{Loop, TooManyLinks, Unconnected};
 use tree_topology::{Link, NodeKind, Tree, TreeErr};
@@ -37,18 +36,21 @@ fn tree_of(alloc: Global, nodes: &[NodeKind], ends: &[(u16, u16)]) -> Result<Tre
 
 /// Whether these nodes and links are refused, with this refusal.
 fn is_refused(alloc: Global, nodes: &[NodeKind], ends: &[(u16, u16)], refusal: TreeErr) -> bool {
-    match tree_of(alloc, nodes, ends) {
-        Ok(_) => false,
-        Err(error) => error == refusal,
-    }
+    tree_of(alloc, nodes, ends).err() == Some(refusal)
+}
+
+const SQUARE: [(u16, u16); 4] = [(1, 2), (3, 4), (2, 3), (4, 1)];
+
+/// Whether there is a tree of no nodes.
+fn is_empty_tree(alloc: Global) -> bool {
+    tree_of(alloc, &[], &[]).is_ok()
 }
 
 #[test]
 fn the_first_refused_link_or_node_is_named(rt: HostRuntime) {
-    let square = [(1, 2), (3, 4), (2, 3), (4, 1)];
-    assert!(rt; is_refused(rt.alloc(), &[Bridge; 4], &square, Loop(LinkNo(4))));
+    assert!(rt; is_refused(rt.alloc(), &[Bridge; 4], &SQUARE, Loop(LinkNo(4))));
     assert!(rt; is_refused(rt.alloc(), &[Bridge; 3], &[(2, 3)], Unconnected(NodeNo(2))));
-    assert!(rt; tree_of(rt.alloc(), &[], &[]).is_ok());
+    assert!(rt; is_empty_tree(rt.alloc()));
 }
 
 /// Two bridges, of which the first has two stations and the second two.
@@ -125,18 +127,14 @@ fn is_there(tree: &Tree, at: EgressPort, node: NodeNo, far: bool) -> bool {
 }
 
 /// Whether the path between two nodes has these ports.
-fn goes_over(
-    alloc: Global,
-    tree: &Tree,
-    from: NodeNo,
-    to: NodeNo,
-    ports: &[EgressPort],
-) -> Result<bool, NoMemory> {
+fn goes_over(alloc: Global, tree: &Tree, from: NodeNo, to: NodeNo, ports: &[EgressPort]) -> bool {
     if !has_node(tree, from) || !has_node(tree, to) {
-        return Ok(false);
+        return false;
     }
-    let path = tree.path(alloc, from, to)?;
-    Ok(path.as_slice() == ports)
+    match tree.path(alloc, from, to) {
+        Ok(path) => path.as_slice() == ports,
+        Err(_) => false,
+    }
 }
 
 fn has_ports_over_links(tree: &Tree) -> bool {
@@ -146,11 +144,17 @@ fn has_ports_over_links(tree: &Tree) -> bool {
         && ends_at(tree, port(2, 2), port(3, 1))
 }
 
+/// Whether the fourth link has its ends.
+fn has_ends(tree: &Tree) -> bool {
+    joins(tree, LinkNo(4), (port(3, 2), port(5, 1)))
+}
+
 /// Whether the tree and its copy have the same ends of a link.
-fn has_copy(tree: &Tree) -> Result<bool, NoMemory> {
-    let copy = tree.copy()?;
-    let ends = (port(3, 2), port(5, 1));
-    Ok(joins(tree, LinkNo(4), ends) && joins(&copy, LinkNo(4), ends))
+fn has_copy(tree: &Tree) -> bool {
+    match tree.copy() {
+        Ok(copy) => has_ends(tree) && has_ends(&copy),
+        Err(_) => false,
+    }
 }
 
 fn leads_to_neighbours(tree: &Tree) -> bool {
@@ -160,20 +164,31 @@ fn leads_to_neighbours(tree: &Tree) -> bool {
 }
 
 /// Whether a path goes over both bridges, and one from a node to itself over none.
-fn has_paths(alloc: Global, tree: &Tree) -> Result<bool, NoMemory> {
+fn has_paths(alloc: Global, tree: &Tree) -> bool {
     let ports = [port(1, 1), port(2, 2), port(3, 3)];
-    let over = goes_over(alloc, tree, NodeNo(1), NodeNo(6), &ports)?;
-    Ok(over && goes_over(alloc, tree, NodeNo(4), NodeNo(4), &[])?)
+    goes_over(alloc, tree, NodeNo(1), NodeNo(6), &ports)
+        && goes_over(alloc, tree, NodeNo(4), NodeNo(4), &[])
+}
+
+fn has_all(alloc: Global, tree: &Tree) -> bool {
+    has_ports_over_links(tree)
+        && leads_to_neighbours(tree)
+        && parts(tree, port(2, 2), &[false, false, true, false, true, true])
+        && has_copy(tree)
+        && has_paths(alloc, tree)
+}
+
+// Who owns a tree does nothing else, so that its proof is short.
+fn two_bridges_have_all(alloc: Global) -> bool {
+    match two_bridges(alloc) {
+        Ok(tree) => has_all(alloc, &tree),
+        Err(_) => false,
+    }
 }
 
 #[test]
-fn two_bridges_have_their_ports_neighbours_and_paths(rt: HostRuntime) -> Result<(), TreeErr> {
-    let tree = two_bridges(rt.alloc())?;
-    assert!(rt; has_ports_over_links(&tree) && leads_to_neighbours(&tree));
-    assert!(rt; parts(&tree, port(2, 2), &[false, false, true, false, true, true]));
-    assert!(rt; has_copy(&tree) == Ok(true));
-    assert!(rt; has_paths(rt.alloc(), &tree) == Ok(true));
-    Ok(())
+fn two_bridges_have_their_ports_neighbours_and_paths(rt: HostRuntime) {
+    assert!(rt; two_bridges_have_all(rt.alloc()));
 }
 
 /// Links from node 1 to each other node up to the last.
@@ -205,39 +220,62 @@ fn bridge_with_stations(alloc: Global, count: u16) -> Result<Vec<NodeKind>, NoMe
 }
 
 /// Whether a star of these nodes up to the last is refused, since node 1 has too many links.
-fn is_too_large(alloc: Global, nodes: &[NodeKind], last: u16) -> Result<bool, NoMemory> {
-    let ends = star(alloc, last)?;
-    Ok(is_refused(alloc, nodes, &ends, TooManyLinks(NodeNo(1))))
+fn is_too_large(alloc: Global, nodes: &[NodeKind], last: u16) -> bool {
+    match star(alloc, last) {
+        Ok(ends) => is_refused(alloc, nodes, &ends, TooManyLinks(NodeNo(1))),
+        Err(_) => false,
+    }
+}
+
+fn is_bridge_too_large(alloc: Global) -> bool {
+    match bridge_with_stations(alloc, 256) {
+        Ok(nodes) => is_too_large(alloc, &nodes, 257),
+        Err(_) => false,
+    }
 }
 
 #[test]
-fn a_bridge_with_256_stations_has_too_many_links(rt: HostRuntime) -> Result<(), NoMemory> {
-    let nodes = bridge_with_stations(rt.alloc(), 256)?;
-    assert!(rt; is_too_large(rt.alloc(), &nodes, 257) == Ok(true));
-    Ok(())
+fn a_bridge_with_256_stations_has_too_many_links(rt: HostRuntime) {
+    assert!(rt; is_bridge_too_large(rt.alloc()));
 }
 
-/// How many ports the path between two nodes has, where the tree has both.
-fn path_len(alloc: Global, tree: &Tree, from: NodeNo, to: NodeNo) -> Result<usize, NoMemory> {
+/// Whether the path between two nodes has so many ports.
+fn has_path(alloc: Global, tree: &Tree, from: NodeNo, to: NodeNo, len: usize) -> bool {
     if !has_node(tree, from) || !has_node(tree, to) {
-        return Ok(0);
+        return false;
     }
-    let path = tree.path(alloc, from, to)?;
-    Ok(path.len())
+    match tree.path(alloc, from, to) {
+        Ok(path) => path.len() == len,
+        Err(_) => false,
+    }
+}
+
+/// The tree of a chain of these nodes up to the last.
+fn chain_of(alloc: Global, nodes: &[NodeKind], last: u16) -> Result<Tree, TreeErr> {
+    match chain(alloc, last) {
+        Ok(ends) => tree_of(alloc, nodes, &ends),
+        Err(_) => Err(TreeErr::NoMemory),
+    }
 }
 
 /// Whether a chain of all 65,535 nodes is a tree, with a path from the first to the last.
-fn has_chain(alloc: Global, nodes: &[NodeKind]) -> Result<bool, TreeErr> {
-    let ends = chain(alloc, 65_535)?;
-    let tree = tree_of(alloc, nodes, &ends)?;
-    let len = path_len(alloc, &tree, NodeNo(1), NodeNo(65_535));
-    Ok(tree.nodes() == 65_535 && len == Ok(65_534))
+fn has_chain(alloc: Global, nodes: &[NodeKind]) -> bool {
+    match chain_of(alloc, nodes, 65_535) {
+        Ok(tree) => {
+            tree.nodes() == 65_535 && has_path(alloc, &tree, NodeNo(1), NodeNo(65_535), 65_534)
+        }
+        Err(_) => false,
+    }
+}
+
+fn are_judged(alloc: Global) -> bool {
+    match vec![in alloc; Bridge; 65_535] {
+        Ok(nodes) => is_too_large(alloc, &nodes, 65_535) && has_chain(alloc, &nodes),
+        Err(_) => false,
+    }
 }
 
 #[test]
-fn a_chain_and_a_star_of_65535_bridges_are_judged_soon(rt: HostRuntime) -> Result<(), Fail> {
-    let nodes = vec![in rt.alloc(); Bridge; 65_535]?;
-    assert!(rt; is_too_large(rt.alloc(), &nodes, 65_535) == Ok(true));
-    assert!(rt; has_chain(rt.alloc(), &nodes) == Ok(true));
-    Ok(())
+fn a_chain_and_a_star_of_65535_bridges_are_judged_soon(rt: HostRuntime) {
+    assert!(rt; are_judged(rt.alloc()));
 }
