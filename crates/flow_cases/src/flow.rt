@@ -9,7 +9,6 @@ use srp_base::{
     EgressPort, NoMemory, NodeNo, PortChange, PortNo, Ps, Rate, Seq, StreamId, Timeline, Vid,
 };
 use std::alloc::Global;
-use std::test::Fail;
 use tree_topology::NodeKind::{Bridge, Station};
 use tree_topology::{Link, NodeKind, Tree};
 
@@ -31,28 +30,34 @@ fn port(node: u16, port: u8) -> EgressPort {
     }
 }
 
-/// From tick 21 on the stream is booked at a port, and VID 2 is registered there.
-fn change(alloc: Global, at: EgressPort) -> Result<PortChange, Fail> {
-    let vid = Vid::new(2).ok_or("2 is a VID")?;
+/// From tick 21 on the stream is booked at a port, and a VID is registered there.
+fn change(alloc: Global, at: EgressPort, vid: Vid) -> Result<PortChange, NoMemory> {
+    let booked = Vec::from_slice(alloc, [STREAM].as_slice())?;
+    let vids = Vec::from_slice(alloc, [vid].as_slice())?;
     Ok(PortChange {
         at,
         tick: 21,
-        booked: Seq::from_vec([STREAM].to_vec(alloc)?),
+        booked: Seq::from_vec(booked),
         slope_a: 6_400_000,
         slope_b: 0,
-        vids: Seq::from_vec([vid].to_vec(alloc)?),
+        vids: Seq::from_vec(vids),
     })
 }
 
-/// The stream is booked at these ports from tick 21 on.
-fn new_timeline(alloc: Global, booked: &[EgressPort]) -> Result<Timeline, Fail> {
+fn timeline_of(alloc: Global, booked: &[EgressPort], vid: Vid) -> Result<Timeline, NoMemory> {
     let mut changes = Vec::new(alloc);
     for at in booked {
-        changes.push(change(alloc, *at)?)?;
+        changes.push(change(alloc, *at, vid)?)?;
     }
     Ok(Timeline {
         changes: Seq::from_vec(changes),
     })
+}
+
+/// The stream is booked at these ports from tick 21 on, and VID 2 is registered there.
+fn new_timeline(alloc: Global, booked: &[EgressPort]) -> Option<Timeline> {
+    let vid = Vid::new(2)?;
+    timeline_of(alloc, booked, vid).ok()
 }
 
 /// A frame of 800 bits of node 1, at a moment in ps.
@@ -78,7 +83,7 @@ fn frames_of(alloc: Global, rows: &[(u64, Route, u16)]) -> Result<Vec<Frame>, No
     Ok(frames)
 }
 
-/// The flow of frames over a tree; None where it can't be asked for.
+/// The flow of frames over a tree; None where it can't be asked for, or memory runs out.
 fn run(
     alloc: Global,
     tree: &Tree,
@@ -86,12 +91,27 @@ fn run(
     timeline: &Timeline,
     frames: &[Frame],
     ticks: u64,
-) -> Result<Option<FlowResult>, NoMemory> {
-    if is_valid(alloc, tree, rates, timeline, frames, ticks)? {
-        Ok(Some(flow(alloc, tree, rates, timeline, frames, ticks)?))
-    } else {
-        Ok(None)
+) -> Option<FlowResult> {
+    match is_valid(alloc, tree, rates, timeline, frames, ticks) {
+        Ok(true) => flow(alloc, tree, rates, timeline, frames, ticks).ok(),
+        _ => None,
     }
+}
+
+/// The flow of frames where the stream is booked at some ports. Who owns a timeline or a tree does
+/// little else, and drops it by a call, so that his proof is short.
+fn run_booked(
+    alloc: Global,
+    tree: &Tree,
+    rates: &[Rate],
+    booked: &[EgressPort],
+    frames: &[Frame],
+    ticks: u64,
+) -> Option<FlowResult> {
+    let timeline = new_timeline(alloc, booked)?;
+    let flow = run(alloc, tree, rates, &timeline, frames, ticks);
+    drop(timeline);
+    flow
 }
 
 /// Whether the fates at the port of this place are these.
@@ -141,49 +161,66 @@ fn wanted() -> [(u32, Fate); 8] {
     ]
 }
 
-/// The flow of frames between two stations, of which the first has the stream booked.
-fn between_stations(alloc: Global, frames: &[Frame]) -> Result<FlowResult, Fail> {
-    let tree = Tree::new(alloc, &[Station, Station], &[link(1, 2)])?;
-    let timeline = new_timeline(alloc, &[port(1, 1)])?;
-    let flow = run(alloc, &tree, &[Rate::M100], &timeline, frames, 100)?;
-    Ok(flow.ok_or("a valid flow")?)
+/// Those frames between two stations, of which the first has the stream booked.
+fn between_stations(alloc: Global, tree: &Tree) -> Option<FlowResult> {
+    let frames = frames_of(alloc, &ROWS).ok()?;
+    run_booked(alloc, tree, &[Rate::M100], &[port(1, 1)], &frames, 100)
+}
+
+/// Whether so becomes of them, and nothing goes back.
+fn are_sent(alloc: Global, tree: &Tree) -> bool {
+    match between_stations(alloc, tree) {
+        Some(flow) => has_fates(&flow, 0, &wanted()) && has_fates(&flow, 1, &[]),
+        None => false,
+    }
+}
+
+fn are_sent_between_two(alloc: Global) -> bool {
+    match Tree::new(alloc, &[Station, Station], &[link(1, 2)]) {
+        Ok(tree) => are_sent(alloc, &tree),
+        Err(_) => false,
+    }
 }
 
 #[test]
-fn a_copy_departs_by_its_credit_or_is_dropped_or_left(rt: HostRuntime) -> Result<(), Fail> {
-    let frames = frames_of(rt.alloc(), &ROWS)?;
-    let flow = between_stations(rt.alloc(), &frames)?;
-    assert!(rt; has_fates(&flow, 0, &wanted()) && has_fates(&flow, 1, &[]));
-    Ok(())
+fn a_copy_departs_by_its_credit_or_is_dropped_or_left(rt: HostRuntime) {
+    assert!(rt; are_sent_between_two(rt.alloc()));
 }
 
-/// The flow of frames over a bridge between two stations, with the stream booked but at the last
-/// port.
-fn over_a_bridge(alloc: Global, frames: &[Frame]) -> Result<FlowResult, Fail> {
-    let tree = Tree::new(
-        alloc,
-        &[Station, Bridge, Station],
-        &[link(1, 2), link(2, 3)],
-    )?;
-    let timeline = new_timeline(alloc, &[port(1, 1), port(2, 1), port(2, 2)])?;
-    let flow = run(
-        alloc,
-        &tree,
-        &[Rate::G10, Rate::M100],
-        &timeline,
-        frames,
-        12_000,
-    )?;
-    Ok(flow.ok_or("a valid flow")?)
-}
-
-#[test]
-fn copies_go_on_and_never_back_in_a_long_run(rt: HostRuntime) -> Result<(), Fail> {
+/// A frame over a bridge between two stations, with the stream booked but at the last port.
+fn over_a_bridge(alloc: Global, tree: &Tree) -> Option<FlowResult> {
+    let rates = [Rate::G10, Rate::M100];
+    let booked = [port(1, 1), port(2, 1), port(2, 2)];
     let frames = [frame(7, 119_000_000_005_000, OF_STREAM, 2)];
-    let flow = over_a_bridge(rt.alloc(), &frames)?;
+    run_booked(alloc, tree, &rates, &booked, &frames, 12_000)
+}
+
+/// Whether a copy goes over the first port of a link each, and none back.
+fn goes_on(flow: &FlowResult) -> bool {
     let sent = (7, departed(1_190_000_000_050));
     let passed = (7, departed(11_900_000_009));
-    assert!(rt; has_fates(&flow, 0, &[sent]) && has_fates(&flow, 2, &[passed]));
-    assert!(rt; has_fates(&flow, 1, &[]) && has_fates(&flow, 3, &[]));
-    Ok(())
+    has_fates(flow, 0, &[sent])
+        && has_fates(flow, 1, &[])
+        && has_fates(flow, 2, &[passed])
+        && has_fates(flow, 3, &[])
+}
+
+fn goes_on_over(alloc: Global, tree: &Tree) -> bool {
+    match over_a_bridge(alloc, tree) {
+        Some(flow) => goes_on(&flow),
+        None => false,
+    }
+}
+
+fn goes_on_over_a_bridge(alloc: Global) -> bool {
+    let links = [link(1, 2), link(2, 3)];
+    match Tree::new(alloc, &[Station, Bridge, Station], &links) {
+        Ok(tree) => goes_on_over(alloc, &tree),
+        Err(_) => false,
+    }
+}
+
+#[test]
+fn copies_go_on_and_never_back_in_a_long_run(rt: HostRuntime) {
+    assert!(rt; goes_on_over_a_bridge(rt.alloc()));
 }

@@ -9,7 +9,6 @@ use credit_shaper::{
 };
 use srp_base::{NoMemory, Rate, Seq};
 use std::alloc::Global;
-use std::test::Fail;
 
 /// The slope of class A from the beginning on; class B has none.
 fn slopes(alloc: Global, slope_a: u64) -> Result<Seq<SlopeChange>, NoMemory> {
@@ -40,13 +39,12 @@ fn frames(alloc: Global, count: u32, bit: u64) -> Result<Vec<Arrival>, NoMemory>
     Ok(frames)
 }
 
-/// What becomes of a port's frames; None where it can't be asked.
-fn run(alloc: Global, input: &PortInput) -> Result<Option<Departures>, NoMemory> {
+/// What becomes of a port's frames; None where it can't be asked, or memory runs out.
+fn run(alloc: Global, input: &PortInput) -> Option<Departures> {
     if input.is_valid() {
-        let departures = PortTrace::run(alloc, input)?;
-        Ok(Some(departures))
+        PortTrace::run(alloc, input).ok()
     } else {
-        Ok(None)
+        None
     }
 }
 
@@ -103,16 +101,15 @@ fn a_credit_jumps(rt: HostRuntime) {
     assert!(rt; jumps(SENDS_A, false, 800, 0, -40_000_000_000));
 }
 
-/// What a port at 100 Mbit/s, where class A has half of the rate, makes of frames in 20,000 bit
-/// times.
-fn half(alloc: Global, arrivals: Vec<Arrival>) -> Result<Option<Departures>, NoMemory> {
-    let input = PortInput {
+/// What a port at 100 Mbit/s gets, where class A has half of the rate, in 20,000 bit times.
+fn half(alloc: Global, arrivals: Vec<Arrival>) -> Result<PortInput, NoMemory> {
+    let slopes = slopes(alloc, 50_000_000)?;
+    Ok(PortInput {
         rate: Rate::M100,
-        slopes: slopes(alloc, 50_000_000)?,
+        slopes,
         arrivals: Seq::from_vec(arrivals),
         end: 20_000,
-    };
-    run(alloc, &input)
+    })
 }
 
 /// Whether departures are those of these frames of 800 bits, each with its start.
@@ -126,20 +123,33 @@ fn are_short(sent: &[Departure], wanted: &[(u32, u64)]) -> bool {
 }
 
 /// Whether all is sent, and as these frames.
-fn sends(departures: Option<Departures>, wanted: &[(u32, u64)]) -> bool {
-    match departures {
-        Some(departures) => {
-            departures.left.is_empty() && are_short(departures.sent.as_slice(), wanted)
-        }
+fn sends(departures: &Departures, wanted: &[(u32, u64)]) -> bool {
+    departures.left.is_empty() && are_short(departures.sent.as_slice(), wanted)
+}
+
+/// Whether what a port gets is all sent, as these frames.
+fn port_sends(alloc: Global, input: &PortInput, wanted: &[(u32, u64)]) -> bool {
+    match run(alloc, input) {
+        Some(departures) => sends(&departures, wanted),
         None => false,
     }
 }
 
+fn three_at_half(alloc: Global) -> Result<PortInput, NoMemory> {
+    let arrivals = frames(alloc, 3, 0)?;
+    half(alloc, arrivals)
+}
+
+fn three_wait(alloc: Global) -> bool {
+    match three_at_half(alloc) {
+        Ok(input) => port_sends(alloc, &input, &[(1, 0), (2, 1_600), (3, 3_200)]),
+        Err(_) => false,
+    }
+}
+
 #[test]
-fn class_a_waits_for_credit(rt: HostRuntime) -> Result<(), Fail> {
-    let departures = half(rt.alloc(), frames(rt.alloc(), 3, 0)?)?;
-    assert!(rt; sends(departures, &[(1, 0), (2, 1_600), (3, 3_200)]));
-    Ok(())
+fn class_a_waits_for_credit(rt: HostRuntime) {
+    assert!(rt; three_wait(rt.alloc()));
 }
 
 /// One long frame of no class, then three of class A.
@@ -152,16 +162,6 @@ fn behind_another(alloc: Global) -> Result<Vec<Arrival>, NoMemory> {
     Ok(arrivals)
 }
 
-/// Whether all is sent, with these starts.
-fn starts(departures: Option<Departures>, wanted: &[u64]) -> bool {
-    match departures {
-        Some(departures) => {
-            departures.left.is_empty() && begin_at(departures.sent.as_slice(), wanted)
-        }
-        None => false,
-    }
-}
-
 fn begin_at(sent: &[Departure], wanted: &[u64]) -> bool {
     for (x, start) in sent.iter().zip(wanted.iter()) {
         if x.start != *start {
@@ -171,22 +171,43 @@ fn begin_at(sent: &[Departure], wanted: &[u64]) -> bool {
     sent.len() == wanted.len()
 }
 
-#[test]
-fn class_a_saves_credit_behind_another_frame(rt: HostRuntime) -> Result<(), Fail> {
-    let departures = half(rt.alloc(), behind_another(rt.alloc())?)?;
-    assert!(rt; starts(departures, &[0, 12_336, 13_136, 13_936]));
-    Ok(())
+/// Whether all that a port gets is sent, with these starts.
+fn port_starts(alloc: Global, input: &PortInput, wanted: &[u64]) -> bool {
+    match run(alloc, input) {
+        Some(departures) => {
+            departures.left.is_empty() && begin_at(departures.sent.as_slice(), wanted)
+        }
+        None => false,
+    }
 }
 
-/// What a port at 10 Gbit/s makes of 200 frames in 2^41 bit times, where class A has 1,000 bit/s.
-fn long_run(alloc: Global) -> Result<Option<Departures>, NoMemory> {
-    let input = PortInput {
+fn others_at_half(alloc: Global) -> Result<PortInput, NoMemory> {
+    let arrivals = behind_another(alloc)?;
+    half(alloc, arrivals)
+}
+
+fn others_follow(alloc: Global) -> bool {
+    match others_at_half(alloc) {
+        Ok(input) => port_starts(alloc, &input, &[0, 12_336, 13_136, 13_936]),
+        Err(_) => false,
+    }
+}
+
+#[test]
+fn class_a_saves_credit_behind_another_frame(rt: HostRuntime) {
+    assert!(rt; others_follow(rt.alloc()));
+}
+
+/// A port at 10 Gbit/s gets 200 frames in 2^41 bit times, where class A has 1,000 bit/s.
+fn long_input(alloc: Global) -> Result<PortInput, NoMemory> {
+    let slopes = slopes(alloc, 1_000)?;
+    let arrivals = frames(alloc, 200, 0)?;
+    Ok(PortInput {
         rate: Rate::G10,
-        slopes: slopes(alloc, 1_000)?,
-        arrivals: Seq::from_vec(frames(alloc, 200, 0)?),
+        slopes,
+        arrivals: Seq::from_vec(arrivals),
         end: 2_199_023_255_552,
-    };
-    run(alloc, &input)
+    })
 }
 
 /// The starts that are wanted there, with the frames' numbers.
@@ -200,11 +221,23 @@ fn long_starts(alloc: Global) -> Result<Vec<(u32, u64)>, NoMemory> {
     Ok(starts)
 }
 
+fn long_port_sends(alloc: Global, wanted: &[(u32, u64)]) -> bool {
+    match long_input(alloc) {
+        Ok(input) => port_sends(alloc, &input, wanted),
+        Err(_) => false,
+    }
+}
+
+fn long_run_ends(alloc: Global) -> bool {
+    match long_starts(alloc) {
+        Ok(wanted) => long_port_sends(alloc, &wanted),
+        Err(_) => false,
+    }
+}
+
 #[test]
-fn a_long_run_takes_few_steps(rt: HostRuntime) -> Result<(), Fail> {
-    let departures = long_run(rt.alloc())?;
-    assert!(rt; sends(departures, &long_starts(rt.alloc())?));
-    Ok(())
+fn a_long_run_takes_few_steps(rt: HostRuntime) {
+    assert!(rt; long_run_ends(rt.alloc()));
 }
 
 /// The frames that wait and the departures of a port, bit time after bit time.
@@ -304,22 +337,44 @@ fn fresh(alloc: Global, rate: Rate) -> Plain {
     }
 }
 
-/// What becomes of a port's frames, bit time after bit time; None where a credit leaves its range.
-fn plain_run(alloc: Global, input: &PortInput) -> Result<Option<Departures>, NoMemory> {
-    let mut port = fresh(alloc, input.rate);
-    for bit in 0..input.end {
-        if !port.bit(input, bit)? {
-            return Ok(None);
+impl Plain {
+    /// The frames that are still there.
+    fn left(&self, alloc: Global) -> Result<Vec<u32>, NoMemory> {
+        let mut left = Vec::new(alloc);
+        for x in &self.waiting {
+            left.push(x.frame)?;
+        }
+        Ok(left)
+    }
+
+    /// Whether these are its departures, and what is left.
+    fn has(&self, alloc: Global, departures: &Departures) -> bool {
+        match self.left(alloc) {
+            Ok(left) => {
+                departures.sent.as_slice() == self.sent.as_slice()
+                    && departures.left.as_slice() == left.as_slice()
+            }
+            Err(_) => false,
         }
     }
-    let mut left = Vec::new(alloc);
-    for x in &port.waiting {
-        left.push(x.frame)?;
+
+    /// A port's run to its end, bit time after bit time; whether each credit stays in its range.
+    fn play(&mut self, input: &PortInput) -> Result<bool, NoMemory> {
+        for bit in 0..input.end {
+            if !self.bit(input, bit)? {
+                return Ok(false);
+            }
+        }
+        Ok(true)
     }
-    Ok(Some(Departures {
-        sent: Seq::from_vec(port.sent),
-        left: Seq::from_vec(left),
-    }))
+
+    /// Whether a port's run ends with these departures.
+    fn ends_with(&mut self, alloc: Global, input: &PortInput, departures: &Departures) -> bool {
+        match self.play(input) {
+            Ok(true) => self.has(alloc, departures),
+            _ => false,
+        }
+    }
 }
 
 /// Numbers that look drawn, below a limit.
@@ -388,21 +443,31 @@ impl Draws {
     }
 }
 
-/// Whether the run of an input is that of the definition, bit time after bit time.
-fn is_exact(alloc: Global, input: &PortInput) -> Result<bool, NoMemory> {
-    let wanted = plain_run(alloc, input)?;
-    match run(alloc, input)? {
-        Some(departures) => Ok(wanted == Some(departures)),
-        None => Ok(false),
+/// Whether these departures are those of the definition, bit time after bit time.
+fn are_plain(alloc: Global, input: &PortInput, departures: &Departures) -> bool {
+    let mut port = fresh(alloc, input.rate);
+    port.ends_with(alloc, input, departures)
+}
+
+fn is_exact(alloc: Global, input: &PortInput) -> bool {
+    match run(alloc, input) {
+        Some(departures) => are_plain(alloc, input, &departures),
+        None => false,
+    }
+}
+
+/// Whether it is so of an input that is drawn next.
+fn next_is_exact(alloc: Global, draws: &mut Draws) -> bool {
+    match draws.input(alloc) {
+        Ok(input) => is_exact(alloc, &input),
+        Err(_) => false,
     }
 }
 
 #[test]
-fn moments_answer_as_bit_times(rt: HostRuntime) -> Result<(), Fail> {
+fn moments_answer_as_bit_times(rt: HostRuntime) {
     let mut draws = Draws { state: 1 };
     for _ in 0..60 {
-        let input = draws.input(rt.alloc())?;
-        assert!(rt; is_exact(rt.alloc(), &input)?);
+        assert!(rt; next_is_exact(rt.alloc(), &mut draws));
     }
-    Ok(())
 }

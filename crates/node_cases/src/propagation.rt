@@ -31,17 +31,26 @@ fn ends_with(set: &Dirty<u16>, last: u16) -> bool {
 }
 
 // Whether these are all keys of the set with two more.
-fn grows_to(set: &Dirty<u16>, keys: &[u16]) -> Result<bool, NoMemory> {
-    let more = set.with_all([8, 1].as_slice())?;
-    Ok(more.as_slice() == keys)
+fn grows_to(set: &Dirty<u16>, keys: &[u16]) -> bool {
+    match set.with_all([8, 1].as_slice()) {
+        Ok(more) => more.as_slice() == keys,
+        Err(_) => false,
+    }
 }
 
-// Whether a key that is cleared awaits no more, and another set has what is left.
-fn leaves(set: &mut Dirty<u16>, key: u16, rest: &[u16]) -> Result<bool, NoMemory> {
+// Whether a copy of the set has these keys.
+fn is_copied(set: &Dirty<u16>, keys: &[u16]) -> bool {
+    match set.copy() {
+        Ok(other) => other.as_slice() == keys,
+        Err(_) => false,
+    }
+}
+
+// Whether a key that is cleared awaits no more, and a copy has what is left.
+fn leaves(set: &mut Dirty<u16>, key: u16, rest: &[u16]) -> bool {
     let awaited = set.awaits(key);
     set.clear(key);
-    let other = set.copy()?;
-    Ok(awaited && !set.awaits(key) && other.as_slice() == rest)
+    awaited && !set.awaits(key) && is_copied(set, rest)
 }
 
 // Whether nothing leaves a set of some keys where a key is cleared that isn't in it.
@@ -55,14 +64,14 @@ fn a_set_is_read_ascending(rt: HostRuntime) -> Result<(), Fail> {
     let set = some_keys(rt.alloc())?;
     assert!(rt; has_keys(&set, [3, 7, 9].as_slice()));
     assert!(rt; ends_with(&set, 9));
-    assert!(rt; grows_to(&set, [1, 3, 7, 8, 9].as_slice())?);
+    assert!(rt; grows_to(&set, [1, 3, 7, 8, 9].as_slice()));
     Ok(())
 }
 
 #[test]
 fn a_cleared_key_awaits_no_more(rt: HostRuntime) -> Result<(), Fail> {
     let mut set = some_keys(rt.alloc())?;
-    assert!(rt; leaves(&mut set, 7, [3, 9].as_slice())?);
+    assert!(rt; leaves(&mut set, 7, [3, 9].as_slice()));
     assert!(rt; stays(&mut set, 8, [3, 9].as_slice()));
     Ok(())
 }

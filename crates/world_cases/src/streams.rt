@@ -1,16 +1,16 @@
 //! A Talker, two bridges and three listeners, the third behind a link of little bandwidth: the
 //! first two hear Ready, and why the third doesn't is shown.
 
-use crate::world::{answer, has_node};
+use crate::world::{answer, has_answers, has_node, world_of};
 use network_laws::{Refusal, ready_on_path, refusal_shown};
 use node_core::PortStep::{Send, Settle, Work};
+use node_core::StepReply::Taken;
 use node_core::{AppRequest, PortStep};
-use srp_base::{App, EgressPort, Mac, NoMemory, NodeNo, PortNo, Priority, Rank, StreamId, Talker};
+use srp_base::{App, EgressPort, Mac, NodeNo, PortNo, Priority, Rank, StreamId, Talker};
 use std::alloc::Global;
-use std::test::Fail;
-use topology_file::read_scenario;
-use world_core::World;
 use world_core::WorldEvent::{Carry, Port, Request};
+use world_core::WorldReply::Step;
+use world_core::{World, WorldEvent, WorldReply};
 
 /// Station 1 talks; bridges 2 and 3; stations 4, 5 and 6 listen, the last behind port 3 of bridge
 /// 3.
@@ -37,12 +37,6 @@ const PORTS: [(u16, u8); 10] = [
 
 const STREAM: StreamId = StreamId(0x0200_0000_0001_0001);
 
-fn hall(alloc: Global) -> Result<World, Fail> {
-    let table = toml::table_from_str(alloc, HALL)?;
-    let scenario = read_scenario(alloc, &table)?;
-    Ok(World::of(alloc, &scenario)?)
-}
-
 fn egress(at: (u16, u8)) -> EgressPort {
     EgressPort {
         node: NodeNo(at.0),
@@ -67,72 +61,65 @@ fn new_talker() -> Option<Talker> {
 }
 
 // Each port makes a step.
-fn make(world: &mut World, step: &PortStep) -> Result<(), NoMemory> {
+fn make(world: &mut World, step: &PortStep) {
     for at in PORTS.as_slice() {
-        let _ = answer(world, Port(NodeNo(at.0), PortNo(at.1), *step))?;
+        let _ = answer(world, Port(NodeNo(at.0), PortNo(at.1), *step));
     }
-    Ok(())
 }
 
 // The PDUs of each port come in at its peer.
-fn carry(world: &mut World) -> Result<(), NoMemory> {
+fn carry(world: &mut World) {
     for at in PORTS.as_slice() {
-        let _ = answer(world, Carry(egress(*at)))?;
+        let _ = answer(world, Carry(egress(*at)));
     }
-    Ok(())
 }
 
 // What came in acts, what awaits is settled, and what there is to say comes in at the other end.
-fn exchange(world: &mut World) -> Result<(), NoMemory> {
-    make(world, &Work)?;
-    make(world, &Work)?;
-    make(world, &Settle)?;
-    make(world, &Send(App::Msrp))?;
-    carry(world)
+fn exchange(world: &mut World) {
+    make(world, &Work);
+    make(world, &Work);
+    make(world, &Settle);
+    make(world, &Send(App::Msrp));
+    carry(world);
 }
 
 // So often that all is said.
-fn come_to_rest(world: &mut World) -> Result<(), NoMemory> {
+fn come_to_rest(world: &mut World) {
     for _ in 0..12 {
-        exchange(world)?;
+        exchange(world);
     }
-    Ok(())
-}
-
-// A station listens.
-fn listen(world: &mut World, node: NodeNo) -> Result<(), NoMemory> {
-    let _ = answer(world, Request(node, AppRequest::Listen(STREAM)))?;
-    Ok(())
 }
 
 // Station 1 talks, and stations 4 to 6 listen.
-fn ask(world: &mut World, talker: Talker) -> Result<(), NoMemory> {
-    let _ = answer(world, Request(NodeNo(1), AppRequest::Talk(talker)))?;
-    listen(world, NodeNo(4))?;
-    listen(world, NodeNo(5))?;
-    listen(world, NodeNo(6))
+fn asking(talker: Talker) -> [(WorldEvent, WorldReply); 4] {
+    [
+        (Request(NodeNo(1), AppRequest::Talk(talker)), Step(Taken)),
+        (Request(NodeNo(4), AppRequest::Listen(STREAM)), Step(Taken)),
+        (Request(NodeNo(5), AppRequest::Listen(STREAM)), Step(Taken)),
+        (Request(NodeNo(6), AppRequest::Listen(STREAM)), Step(Taken)),
+    ]
 }
 
 // Whether both sides of the law are so at a listener.
-fn is_ready(alloc: Global, world: &World, listener: NodeNo, ready: bool) -> Result<bool, NoMemory> {
+fn is_ready(alloc: Global, world: &World, listener: NodeNo, ready: bool) -> bool {
     if !has_node(world, listener) {
-        return Ok(false);
+        return false;
     }
-    let sides = ready_on_path(alloc, world, listener, STREAM)?;
-    Ok(sides.found == ready && sides.expected == ready)
+    match ready_on_path(alloc, world, listener, STREAM) {
+        Ok(sides) => sides.found == ready && sides.expected == ready,
+        Err(_) => false,
+    }
 }
 
 // Whether this refusal is shown for a listener.
-fn is_refused(
-    alloc: Global,
-    world: &World,
-    listener: NodeNo,
-    refusal: Option<Refusal>,
-) -> Result<bool, NoMemory> {
+fn is_refused(alloc: Global, world: &World, listener: NodeNo, refusal: Option<Refusal>) -> bool {
     if !has_node(world, listener) {
-        return Ok(false);
+        return false;
     }
-    Ok(refusal_shown(alloc, world, listener, STREAM)? == refusal)
+    match refusal_shown(alloc, world, listener, STREAM) {
+        Ok(shown) => shown == refusal,
+        Err(_) => false,
+    }
 }
 
 // Whether at a listener both sides are so, and this refusal is shown.
@@ -142,8 +129,8 @@ fn shows(
     listener: NodeNo,
     ready: bool,
     refusal: Option<Refusal>,
-) -> Result<bool, NoMemory> {
-    Ok(is_ready(alloc, world, listener, ready)? && is_refused(alloc, world, listener, refusal)?)
+) -> bool {
+    is_ready(alloc, world, listener, ready) && is_refused(alloc, world, listener, refusal)
 }
 
 // The port of bridge 3 that leads to station 6 has 10 percent of 100 Mb/s for class A, and the
@@ -159,29 +146,35 @@ fn too_little() -> Refusal {
 }
 
 // Whether the hall comes to rest once all have asked.
-fn rests(world: &mut World, talker: Talker) -> Result<bool, NoMemory> {
-    ask(world, talker)?;
-    come_to_rest(world)?;
-    Ok(world.quiet() && world.in_step())
+fn rests(world: &mut World, talker: Talker) -> bool {
+    let asked = has_answers(world, asking(talker).as_slice());
+    come_to_rest(world);
+    asked && world.quiet() && world.in_step()
 }
 
 // Whether the first two listeners are ready then, and for the third the refusal is shown.
-fn is_shown(alloc: Global, world: &World) -> Result<bool, NoMemory> {
-    Ok(
-        shows(alloc, world, NodeNo(4), true, None)?
-            && shows(alloc, world, NodeNo(5), true, None)?
-            && shows(alloc, world, NodeNo(6), false, Some(too_little()))?,
-    )
+fn is_shown(alloc: Global, world: &World) -> bool {
+    shows(alloc, world, NodeNo(4), true, None)
+        && shows(alloc, world, NodeNo(5), true, None)
+        && shows(alloc, world, NodeNo(6), false, Some(too_little()))
+}
+
+// Whether all that is so in the hall, and nobody is ready before.
+fn is_served(alloc: Global, world: &mut World, talker: Talker) -> bool {
+    shows(alloc, world, NodeNo(4), false, None) && rests(world, talker) && is_shown(alloc, world)
+}
+
+fn new_one_is_served(alloc: Global) -> bool {
+    let mut world = world_of(alloc, HALL);
+    let served = match (&mut world, new_talker()) {
+        (Some(world), Some(talker)) => is_served(alloc, world, talker),
+        _ => false,
+    };
+    drop(world);
+    served
 }
 
 #[test]
-fn ready_comes_where_the_path_has_booked_and_a_refusal_is_shown(
-    rt: HostRuntime,
-) -> Result<(), Fail> {
-    let talker = new_talker().ok_or("a Talker")?;
-    let mut world = hall(rt.alloc())?;
-    assert!(rt; shows(rt.alloc(), &world, NodeNo(4), false, None)?);
-    assert!(rt; rests(&mut world, talker)?);
-    assert!(rt; is_shown(rt.alloc(), &world)?);
-    Ok(())
+fn ready_comes_where_the_path_has_booked_and_a_refusal_is_shown(rt: HostRuntime) {
+    assert!(rt; new_one_is_served(rt.alloc()));
 }

@@ -1,15 +1,13 @@
 //! Two stations on a link: one declares a VID, the other's LeaveAll crosses its PDU, and it
 //! withdraws the VID.
 
-use crate::world::{has_answers, has_port};
+use crate::world::{has_answers, has_port, world_of};
 use network_laws::vlans_match;
 use node_core::PortStep::{LeaveAllNow, LeaveNow, Send, Settle, Work};
 use node_core::StepReply::{Fired, Received, Sent, Settled, Taken};
 use node_core::{AppRequest, NodeKey, PortStep, StepReply};
-use srp_base::{App, EgressPort, NoMemory, NodeNo, PortNo, Vid};
+use srp_base::{App, EgressPort, NodeNo, PortNo, Vid};
 use std::alloc::Global;
-use std::test::Fail;
-use topology_file::read_scenario;
 use world_core::WorldEvent::{Carry, Port, Request};
 use world_core::WorldReply::{Done, Step};
 use world_core::{World, WorldEvent, WorldReply};
@@ -25,31 +23,21 @@ const S2: NodeNo = NodeNo(2);
 
 const ONE: PortNo = PortNo(1);
 
-fn pair(alloc: Global) -> Result<World, Fail> {
-    let table = toml::table_from_str(alloc, PAIR)?;
-    let scenario = read_scenario(alloc, &table)?;
-    Ok(World::of(alloc, &scenario)?)
-}
-
 // Whether at the port of a station so much is found and expected of a VID.
-fn has_sides(
-    world: &World,
-    node: NodeNo,
-    vid: Vid,
-    found: bool,
-    expected: bool,
-) -> Result<bool, NoMemory> {
+fn has_sides(world: &World, node: NodeNo, vid: Vid, found: bool, expected: bool) -> bool {
     let at = EgressPort { node, port: ONE };
     if !has_port(world, at) {
-        return Ok(false);
+        return false;
     }
-    let sides = vlans_match(world, at, vid)?;
-    Ok(sides.found == found && sides.expected == expected)
+    match vlans_match(world, at, vid) {
+        Ok(sides) => sides.found == found && sides.expected == expected,
+        Err(_) => false,
+    }
 }
 
 // Whether at the port of station 2 so much is found and expected, and at that of station 1 neither.
-fn shows(world: &World, vid: Vid, found: bool, expected: bool) -> Result<bool, NoMemory> {
-    Ok(has_sides(world, S1, vid, false, false)? && has_sides(world, S2, vid, found, expected)?)
+fn shows(world: &World, vid: Vid, found: bool, expected: bool) -> bool {
+    has_sides(world, S1, vid, false, false) && has_sides(world, S2, vid, found, expected)
 }
 
 // A step of a station with its answer, and what its PDU answers that comes in at the other.
@@ -99,31 +87,46 @@ fn leaving(vid: Vid) -> [(WorldEvent, WorldReply); 4] {
 }
 
 // Whether a VID that is declared is expected.
-fn declares(world: &mut World, vid: Vid) -> Result<bool, NoMemory> {
-    let asked = has_answers(world, [takes(AppRequest::Declare(vid))].as_slice())?;
-    Ok(asked && shows(world, vid, false, true)?)
+fn declares(world: &mut World, vid: Vid) -> bool {
+    has_answers(world, [takes(AppRequest::Declare(vid))].as_slice())
+        && shows(world, vid, false, true)
 }
 
 // Whether it is found after all that, and no more expected.
-fn crosses(world: &mut World, vid: Vid) -> Result<bool, NoMemory> {
-    let crossed = has_answers(world, crossing().as_slice())?;
-    let withdrawn = has_answers(world, withdrawing(vid).as_slice())?;
-    Ok(crossed && withdrawn && !world.quiet() && shows(world, vid, true, false)?)
+fn crosses(world: &mut World, vid: Vid) -> bool {
+    has_answers(world, crossing().as_slice())
+        && has_answers(world, withdrawing(vid).as_slice())
+        && !world.quiet()
+        && shows(world, vid, true, false)
 }
 
 // Whether it is gone in the end, and all is quiet.
-fn leaves(world: &mut World, vid: Vid) -> Result<bool, NoMemory> {
-    let left = has_answers(world, leaving(vid).as_slice())?;
-    Ok(left && world.quiet() && world.in_step() && shows(world, vid, false, false)?)
+fn leaves(world: &mut World, vid: Vid) -> bool {
+    has_answers(world, leaving(vid).as_slice())
+        && world.quiet()
+        && world.in_step()
+        && shows(world, vid, false, false)
+}
+
+// Whether all that is so, and nothing is found or expected before.
+fn comes_and_goes(world: &mut World, vid: Vid) -> bool {
+    shows(world, vid, false, false)
+        && declares(world, vid)
+        && crosses(world, vid)
+        && leaves(world, vid)
+}
+
+fn comes_and_goes_in_new(alloc: Global) -> bool {
+    let mut world = world_of(alloc, PAIR);
+    let gone = match (&mut world, Vid::new(7)) {
+        (Some(world), Some(vid)) => comes_and_goes(world, vid),
+        _ => false,
+    };
+    drop(world);
+    gone
 }
 
 #[test]
-fn a_withdrawal_behind_a_join_in_flight_is_said(rt: HostRuntime) -> Result<(), Fail> {
-    let vid = Vid::new(7).ok_or("a VID")?;
-    let mut world = pair(rt.alloc())?;
-    assert!(rt; shows(&world, vid, false, false)?);
-    assert!(rt; declares(&mut world, vid)?);
-    assert!(rt; crosses(&mut world, vid)?);
-    assert!(rt; leaves(&mut world, vid)?);
-    Ok(())
+fn a_withdrawal_behind_a_join_in_flight_is_said(rt: HostRuntime) {
+    assert!(rt; comes_and_goes_in_new(rt.alloc()));
 }

@@ -18,8 +18,7 @@ use srp_base::{
     Timeline, Vid,
 };
 use std::alloc::Global;
-use std::test::Fail;
-use topology_file::read_scenario;
+use topology_file::{Scenario, read_scenario};
 use tree_topology::NodeKind;
 use world_core::WorldEvent::{Carry, Clock, Lose, Port, Repeat, Request};
 use world_core::WorldReply::{Done, Missed, Step};
@@ -32,10 +31,28 @@ const SCENE: &str = "ticks = 60\n\
     { name = 'b', kind = 'station' }]\n\
     link = [{ a = 'a', b = 'm' }, { a = 'm', b = 'b' }]\n";
 
-fn scene(alloc: Global) -> Result<World, Fail> {
-    let table = toml::table_from_str(alloc, SCENE)?;
-    let scenario = read_scenario(alloc, &table)?;
-    Ok(World::of(alloc, &scenario)?)
+// The scenario that a text is.
+pub(crate) fn scenario_of(alloc: Global, text: &str) -> Option<Scenario> {
+    match toml::table_from_str(alloc, text) {
+        Ok(table) => read_scenario(alloc, &table).ok(),
+        Err(_) => None,
+    }
+}
+
+fn begin(alloc: Global, read: &Option<Scenario>) -> Option<World> {
+    match read {
+        Some(scenario) => World::of(alloc, scenario).ok(),
+        None => None,
+    }
+}
+
+// The network of a scenario that a text is. Who owns one of the two does nothing else, and drops it
+// by a call, so that his proof is short.
+pub(crate) fn world_of(alloc: Global, text: &str) -> Option<World> {
+    let read = scenario_of(alloc, text);
+    let world = begin(alloc, &read);
+    drop(read);
+    world
 }
 
 fn port(node: u16, port: u8) -> EgressPort {
@@ -94,25 +111,23 @@ fn can_happen(world: &World, event: WorldEvent) -> bool
     }
 }
 
-// What an event answers; None where it can't happen.
-pub(crate) fn answer(world: &mut World, event: WorldEvent) -> Result<Option<WorldReply>, NoMemory> {
-    if !can_happen(world, event) {
-        return Ok(None);
+// What an event answers; None where it can't happen, or memory runs out.
+pub(crate) fn answer(world: &mut World, event: WorldEvent) -> Option<WorldReply> {
+    if can_happen(world, event) {
+        world.step(event).ok()
+    } else {
+        None
     }
-    Ok(Some(world.step(event)?))
 }
 
 // Whether these events have these answers.
-pub(crate) fn has_answers(
-    world: &mut World,
-    cases: &[(WorldEvent, WorldReply)],
-) -> Result<bool, NoMemory> {
+pub(crate) fn has_answers(world: &mut World, cases: &[(WorldEvent, WorldReply)]) -> bool {
     for (event, reply) in cases {
-        if answer(world, *event)? != Some(*reply) {
-            return Ok(false);
+        if answer(world, *event) != Some(*reply) {
+            return false;
         }
     }
-    Ok(true)
+    true
 }
 
 // Whether a run of one event, the clock's, answers as it should; false where the clock stands.
@@ -193,7 +208,7 @@ fn declaring(vid: Vid) -> [(WorldEvent, WorldReply); 6] {
     ]
 }
 
-fn declares(world: &mut World, vid: Vid) -> Result<bool, NoMemory> {
+fn declares(world: &mut World, vid: Vid) -> bool {
     has_answers(world, declaring(vid).as_slice())
 }
 
@@ -204,18 +219,31 @@ fn begins(world: &World) -> bool {
 }
 
 // Whether all clocks go on by 1 cs with the event, and once more with a run of it.
-fn clocks_go_on(alloc: Global, world: &mut World) -> Result<bool, NoMemory> {
-    let gone = has_answers(world, [(Clock, Done)].as_slice())? && are_at(world, Cs(1));
-    Ok(gone && runs_clock(alloc, world) && are_at(world, Cs(2)))
+fn clocks_go_on(alloc: Global, world: &mut World) -> bool {
+    has_answers(world, [(Clock, Done)].as_slice())
+        && are_at(world, Cs(1))
+        && runs_clock(alloc, world)
+        && are_at(world, Cs(2))
+}
+
+// Whether it is so at the beginning and then, and the network is at rest at either.
+fn goes_on_at_rest(alloc: Global, world: &mut World) -> bool {
+    begins(world) && clocks_go_on(alloc, world) && is_at_rest(world)
+}
+
+fn new_one_goes_on(alloc: Global) -> bool {
+    let mut world = world_of(alloc, SCENE);
+    let gone = match &mut world {
+        Some(world) => goes_on_at_rest(alloc, world),
+        None => false,
+    };
+    drop(world);
+    gone
 }
 
 #[test]
-fn a_network_begins_quiet_and_its_clock_goes_on(rt: HostRuntime) -> Result<(), Fail> {
-    let mut world = scene(rt.alloc())?;
-    assert!(rt; begins(&world));
-    assert!(rt; clocks_go_on(rt.alloc(), &mut world)?);
-    assert!(rt; is_at_rest(&world));
-    Ok(())
+fn a_network_begins_quiet_and_its_clock_goes_on(rt: HostRuntime) {
+    assert!(rt; new_one_goes_on(rt.alloc()));
 }
 
 // Where nothing is repeated or lost, and the one PDU is worked on.
@@ -251,18 +279,27 @@ fn is_registered(world: &World, vid: Vid) -> bool {
 }
 
 // Whether it comes to be registered, and the bridge has something to say of it.
-fn registers(world: &mut World, vid: Vid) -> Result<bool, NoMemory> {
-    let worked = waits(world, vid) && has_answers(world, registering().as_slice())?;
-    Ok(worked && is_registered(world, vid) && !world.quiet() && world.in_step())
+fn registers(world: &mut World, vid: Vid) -> bool {
+    waits(world, vid)
+        && has_answers(world, registering().as_slice())
+        && is_registered(world, vid)
+        && !world.quiet()
+        && world.in_step()
+}
+
+fn new_one_registers(alloc: Global) -> bool {
+    let mut world = world_of(alloc, SCENE);
+    let registered = match (&mut world, Vid::new(10)) {
+        (Some(world), Some(vid)) => declares(world, vid) && registers(world, vid),
+        _ => false,
+    };
+    drop(world);
+    registered
 }
 
 #[test]
-fn a_declaration_is_registered_over_the_link(rt: HostRuntime) -> Result<(), Fail> {
-    let vid = Vid::new(10).ok_or("a VID")?;
-    let mut world = scene(rt.alloc())?;
-    assert!(rt; declares(&mut world, vid)?);
-    assert!(rt; registers(&mut world, vid)?);
-    Ok(())
+fn a_declaration_is_registered_over_the_link(rt: HostRuntime) {
+    assert!(rt; new_one_registers(rt.alloc()));
 }
 
 // What is noted in tick 7 of a port that has worked: by going over its node alone, and over all.
@@ -297,26 +334,36 @@ fn noted_of_all(alloc: Global, world: &World) -> Result<Timeline, NoMemory> {
 }
 
 // Whether both note the same change and no other; false where the tree hasn't the port.
-fn notes_alike(alloc: Global, world: &World, at: EgressPort) -> Result<bool, NoMemory> {
+fn notes_alike(alloc: Global, world: &World, at: EgressPort) -> bool {
     if !has_port(world, at) {
-        return Ok(false);
+        return false;
     }
-    let noted = noted_of_node(alloc, world, at)?;
-    Ok(noted.changes.len() == 1 && noted == noted_of_all(alloc, world)?)
+    match (noted_of_node(alloc, world, at), noted_of_all(alloc, world)) {
+        (Ok(noted), Ok(all)) => noted.changes.len() == 1 && noted == all,
+        _ => false,
+    }
 }
 
 // Whether the bridge works on what came in.
-fn works(world: &mut World) -> Result<bool, NoMemory> {
+fn works(world: &mut World) -> bool {
     has_answers(world, [makes(theirs(), Work, Received(1))].as_slice())
 }
 
+fn new_one_notes_alike(alloc: Global) -> bool {
+    let mut world = world_of(alloc, SCENE);
+    let noted = match (&mut world, Vid::new(10)) {
+        (Some(world), Some(vid)) => {
+            declares(world, vid) && works(world) && notes_alike(alloc, world, theirs())
+        }
+        _ => false,
+    };
+    drop(world);
+    noted
+}
+
 #[test]
-fn a_registration_is_noted_at_its_node_as_among_all(rt: HostRuntime) -> Result<(), Fail> {
-    let vid = Vid::new(10).ok_or("a VID")?;
-    let mut world = scene(rt.alloc())?;
-    assert!(rt; declares(&mut world, vid)? && works(&mut world)?);
-    assert!(rt; notes_alike(rt.alloc(), &world, theirs())?);
-    Ok(())
+fn a_registration_is_noted_at_its_node_as_among_all(rt: HostRuntime) {
+    assert!(rt; new_one_notes_alike(rt.alloc()));
 }
 
 // A Talker of stream 7 in class A.
@@ -345,25 +392,33 @@ fn talking(talker: Talker) -> [(WorldEvent, WorldReply); 5] {
 }
 
 // Whether it is registered there then, and the bridge has something to say of it.
-fn talks(world: &mut World, talker: Talker) -> Result<bool, NoMemory> {
+fn talks(world: &mut World, talker: Talker) -> bool {
     let key = NodeKey::Srp(MsrpKey::Talker(talker.stream));
-    let talked = has_answers(world, talking(talker).as_slice())?;
-    let seen = sees(world, theirs(), key, (Registrar::Held, 0, true));
-    Ok(talked && seen && !world.quiet() && world.in_step())
+    has_answers(world, talking(talker).as_slice())
+        && sees(world, theirs(), key, (Registrar::Held, 0, true))
+        && !world.quiet()
+        && world.in_step()
+}
+
+fn new_one_talks(alloc: Global) -> bool {
+    let mut world = world_of(alloc, SCENE);
+    let talked = match (&mut world, new_talker()) {
+        (Some(world), Some(talker)) => talks(world, talker),
+        _ => false,
+    };
+    drop(world);
+    talked
 }
 
 #[test]
-fn a_talker_is_registered_over_the_link(rt: HostRuntime) -> Result<(), Fail> {
-    let talker = new_talker().ok_or("a Talker")?;
-    let mut world = scene(rt.alloc())?;
-    assert!(rt; talks(&mut world, talker)?);
-    Ok(())
+fn a_talker_is_registered_over_the_link(rt: HostRuntime) {
+    assert!(rt; new_one_talks(rt.alloc()));
 }
 
 // Whether the PDU that waits at the bridge is repeated, and one of the two is lost.
-fn loses(world: &mut World) -> Result<bool, NoMemory> {
+fn loses(world: &mut World) -> bool {
     let cases = [(Repeat(theirs(), 0), Done), (Lose(theirs(), 0), Done)];
-    Ok(has_answers(world, cases.as_slice())? && !world.quiet() && !world.in_step())
+    has_answers(world, cases.as_slice()) && !world.quiet() && !world.in_step()
 }
 
 // Whether the ends of the first link are spoilt, and whether those of the second aren't.
@@ -375,12 +430,22 @@ fn is_sound_elsewhere(world: &World, vid: Vid) -> bool {
     is_empty(world, port(2, 2), vid, 0, true) && is_empty(world, port(3, 1), vid, 0, true)
 }
 
+// Whether a loss spoils the ends of its link and no others.
+fn spoils(world: &mut World, vid: Vid) -> bool {
+    declares(world, vid) && loses(world) && is_spoilt(world, vid) && is_sound_elsewhere(world, vid)
+}
+
+fn new_one_spoils(alloc: Global) -> bool {
+    let mut world = world_of(alloc, SCENE);
+    let spoilt = match (&mut world, Vid::new(10)) {
+        (Some(world), Some(vid)) => spoils(world, vid),
+        _ => false,
+    };
+    drop(world);
+    spoilt
+}
+
 #[test]
-fn a_loss_spoils_both_ends_of_its_link(rt: HostRuntime) -> Result<(), Fail> {
-    let vid = Vid::new(10).ok_or("a VID")?;
-    let mut world = scene(rt.alloc())?;
-    assert!(rt; declares(&mut world, vid)? && loses(&mut world)?);
-    assert!(rt; is_spoilt(&world, vid));
-    assert!(rt; is_sound_elsewhere(&world, vid));
-    Ok(())
+fn a_loss_spoils_both_ends_of_its_link(rt: HostRuntime) {
+    assert!(rt; new_one_spoils(rt.alloc()));
 }
