@@ -353,9 +353,8 @@ fn leaves_all(bridge: &mut Node) -> bool {
 
 // Whether a VID that was leaving at port 1 has left, and is withdrawn at port 2.
 fn leaves(bridge: &mut Node, vid: Vid) -> bool {
-    let key = NodeKey::Vlan(vid);
-    has_answer(bridge, ONE, LeaveNow(key), Fired(1))
-        && has_answer(bridge, ONE, LeaveNow(key), Fired(0))
+    has_answer(bridge, ONE, LeaveNow(NodeKey::Vlan(vid)), Fired(1))
+        && has_answer(bridge, ONE, LeaveNow(NodeKey::Vlan(vid)), Fired(0))
         && says_at_two(bridge, &LEAVE)
 }
 
@@ -430,7 +429,8 @@ fn firing() -> [(PortStep, StepReply); 2] {
 
 // Whether a station's application talks the stream, and whether another's listens to it.
 fn talks(from: &mut Node, talker: Talker) -> bool {
-    asks(from, AppRequest::Talk(talker)) && from.talks(talker.stream)
+    let stream = talker.stream;
+    asks(from, AppRequest::Talk(talker)) && from.talks(stream)
 }
 
 fn listens(to: &mut Node, stream: StreamId) -> bool {
@@ -526,7 +526,8 @@ fn is_booked(from: &mut Node, to: &mut Node, stream: StreamId) -> bool {
 
 // Whether all that is so of a stream between two stations.
 fn comes_and_goes(from: &mut Node, to: &mut Node, talker: Talker, vid: Vid) -> bool {
-    is_advertised(from, to, talker, vid) && is_booked(from, to, talker.stream)
+    let stream = talker.stream;
+    is_advertised(from, to, talker, vid) && is_booked(from, to, stream)
 }
 
 fn books_new(alloc: Global) -> bool {
