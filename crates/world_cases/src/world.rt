@@ -111,19 +111,18 @@ fn can_happen(world: &World, event: WorldEvent) -> bool
     }
 }
 
-// What an event answers; None where it can't happen, or memory runs out.
-pub(crate) fn answer(world: &mut World, event: WorldEvent) -> Option<WorldReply> {
-    if can_happen(world, event) {
-        world.step(event).ok()
-    } else {
-        None
+// What an event answers; None where it can't happen.
+pub(crate) fn answer(world: &mut World, event: WorldEvent) -> Result<Option<WorldReply>, NoMemory> {
+    if !can_happen(world, event) {
+        return Ok(None);
     }
+    Ok(Some(world.step(event)?))
 }
 
 // Whether these events have these answers.
 pub(crate) fn has_answers(world: &mut World, cases: &[(WorldEvent, WorldReply)]) -> bool {
     for (event, reply) in cases {
-        if answer(world, *event) != Some(*reply) {
+        if answer(world, *event) != Ok(Some(*reply)) {
             return false;
         }
     }
