@@ -18,7 +18,7 @@ use Rattle.registrar.specs.Table.{is_leaving}
 use Rattle.mrp_participant.specs.Row.{is_live, registered_in, row_hearing, row_after_receive, after_hear, leave_all_row, leave_is_due, after_leave_due, left_row, periodic_row}
 use Rattle.mrp_participant.specs.State.{State, AreRows, changed_keys, rows_after_receive, left_keys, leave_timers_state, periodic_fired_state, due_leave_all_state, due_state, is_leave_all_due, is_periodic_due}
 use Rattle.mrp_participant.proofs.Lookups.{same_is, Each-mapped}
-use Rattle.mrp_participant.proofs.CutLemmas.{In, In-filter, In-filtered, Each-filtered, find-in}
+use Rattle.mrp_participant.proofs.SendingLimitLemmas.{In, In-filter, In-filtered, Each-filtered, find-in}
 use Rattle.mrp_participant.proofs.EachKey.{each-receive, each-mapped, each-kept}
 use Rattle.mrp_participant.proofs.Transitions.{due-keeps, leave_all_due-rows}
 
@@ -49,11 +49,14 @@ In-contains x xs h = at_place x xs h.0 h.1 h.2
 
 -- ---- the row that is found
 
-find-found_by : {K C : Type 0} (cmp : K → K → Ordering) (k : K) (r s : Row K C) (rows : List (Row K C)) (b : Bool) → same cmp r.key k ≡ b → (find cmp k rows ≡ Some s → In s rows × (same cmp s.key k ≡ true)) → (if b then Some r else find cmp k rows) ≡ Some s → In s (r ∷ rows) × (same cmp s.key k ≡ true)
+find-found_by : {K C : Type 0} (cmp : K → K → Ordering) (k : K) (r s : Row K C) (rows : List (Row K C)) (b : Bool)
+    → same cmp r.key k ≡ b → (find cmp k rows ≡ Some s → In s rows × (same cmp s.key k ≡ true))
+    → (if b then Some r else find cmp k rows) ≡ Some s → In s (r ∷ rows) × (same cmp s.key k ≡ true)
 find-found_by cmp k r s rows true e rest h = let one : r ≡ s = cc in (inl (sym one), subst (λ x. same cmp x.key k ≡ true) one e)
 find-found_by cmp k r s rows false e rest h = let found = rest h in (inr found.0, found.1)
 
-pub find-found : {K C : Type 0} (cmp : K → K → Ordering) (k : K) (s : Row K C) (rows : List (Row K C)) → find cmp k rows ≡ Some s → In s rows × (same cmp s.key k ≡ true)
+pub find-found : {K C : Type 0} (cmp : K → K → Ordering) (k : K) (s : Row K C) (rows : List (Row K C))
+    → find cmp k rows ≡ Some s → In s rows × (same cmp s.key k ≡ true)
 find-found cmp k s [] h = cc
 find-found cmp k s (r ∷ rows) h = find-found_by cmp k r s rows (same cmp r.key k) refl (find-found cmp k s rows) h
 
@@ -74,18 +77,22 @@ option_eq-refl eq laws (Some a) = laws.refl a
 hears_some : {K C : Type 0} (event : MrpEvent) (k : K) (c : C) (leave : Cs) (r : Row K C) → (s : Row K C) × (after_hear event k c leave (Some r) ≡ Some s)
 hears_some event k c leave r = (_, refl)
 
-hearing_some : {K C : Type 0} (cmp : K → K → Ordering) (leave : Cs) (k : K) (r : Row K C) (e : MrpEvent × K × C) (b : Bool) → (s : Row K C) × ((if b then after_hear e.0 e.1 e.2 leave (Some r) else Some r) ≡ Some s)
+hearing_some : {K C : Type 0} (cmp : K → K → Ordering) (leave : Cs) (k : K) (r : Row K C) (e : MrpEvent × K
+    × C) (b : Bool) → (s : Row K C) × ((if b then after_hear e.0 e.1 e.2 leave (Some r) else Some r) ≡ Some s)
 hearing_some cmp leave k r e true = hears_some e.0 e.1 e.2 leave r
 hearing_some cmp leave k r e false = (r, refl)
 
-fold_some : {K C : Type 0} (cmp : K → K → Ordering) (leave : Cs) (k : K) (events : List (MrpEvent × K × C)) (r : Row K C) → (s : Row K C) × (fold (row_hearing cmp leave k) (Some r) events ≡ Some s)
+fold_some : {K C : Type 0} (cmp : K → K → Ordering) (leave : Cs) (k : K) (events : List (MrpEvent × K × C))
+    (r : Row K C) → (s : Row K C) × (fold (row_hearing cmp leave k) (Some r) events ≡ Some s)
 fold_some cmp leave k [] r = (r, refl)
 fold_some cmp leave k (e ∷ events) r =
     let first = hearing_some cmp leave k r e (same cmp e.1 k) in
     let rest = fold_some cmp leave k events first.0 in
     (rest.0, ap (λ x. fold (row_hearing cmp leave k) x events) first.1 ∙ rest.1)
 
-receive_some : {K C : Type 0} (cmp : K → K → Ordering) (leave : Cs) (leave_all : Bool) (events : List (MrpEvent × K × C)) (k : K) (r : Row K C) → (s : Row K C) × (row_after_receive cmp leave leave_all events k (Some r) ≡ Some s)
+receive_some : {K C : Type 0} (cmp : K → K
+    → Ordering) (leave : Cs) (leave_all : Bool) (events : List (MrpEvent × K × C)) (k : K) (r : Row K C)
+    → (s : Row K C) × (row_after_receive cmp leave leave_all events k (Some r) ≡ Some s)
 receive_some cmp leave true events k r = fold_some cmp leave k events (leave_all_row leave r)
 receive_some cmp leave false events k r = fold_some cmp leave k events r
 
@@ -94,21 +101,34 @@ module _ {K C : Type 0} {cmp : K → K → Ordering} (o : IsTotalOrder cmp) (eq 
   abbrev differs : List (Row K C) → Row K C → Bool
   differs old r = not (option_eq eq (registered_in (find cmp r.key old)) (registered_in (Some r)))
 
-  told_by : ((a b : C) → eq a b ≡ true → a ≡ b) → (old new : List (Row K C)) (k : K) (r : Row K C) (b : Bool) → option_eq eq (registered_in (find cmp r.key old)) (registered_in (Some r)) ≡ b → In r new → r.key ≡ k → find cmp k new ≡ Some r → Contains (changed_keys cmp eq old new) k ⊎ (registered_in (find cmp k new) ≡ registered_in (find cmp k old))
+  told_by : ((a b : C) → eq a b ≡ true → a ≡ b) → (old new : List (Row K C)) (k : K) (r : Row K C) (b : Bool)
+      → option_eq eq (registered_in (find cmp r.key old)) (registered_in (Some r)) ≡ b → In r new → r.key ≡ k
+      → find cmp k new ≡ Some r → Contains (changed_keys cmp eq old new) k
+      ⊎ (registered_in (find cmp k new) ≡ registered_in (find cmp k old))
   told_by one_content old new k r true e at key found =
       inr (ap registered_in found ∙ sym (option_eq-is eq one_content _ _ e) ∙ ap (λ q. registered_in (find cmp q old)) key)
   told_by one_content old new k r false e at key found =
-      inl (subst (Contains (changed_keys cmp eq old new)) key (Contains-in r.key (changed_keys cmp eq old new) (In-map key_of r (filter (differs old) new) (In-filter (differs old) r new (ap not e) at))))
+      inl (subst (Contains (changed_keys cmp eq old new)) key
+      (Contains-in r.key (changed_keys cmp eq old new)
+      (In-map key_of r (filter (differs old) new) (In-filter (differs old) r new (ap not e) at))))
 
-  told_at : ((a b : C) → eq a b ≡ true → a ≡ b) → (old new : List (Row K C)) (k : K) (here : Option (Row K C)) → find cmp k new ≡ here → ((r : Row K C) → find cmp k old ≡ Some r → (s : Row K C) × (find cmp k new ≡ Some s)) → (before : Option (Row K C)) → find cmp k old ≡ before → Contains (changed_keys cmp eq old new) k ⊎ (registered_in (find cmp k new) ≡ registered_in (find cmp k old))
+  told_at : ((a b : C) → eq a b ≡ true → a ≡ b) → (old new : List (Row K C)) (k : K) (here : Option (Row K C))
+      → find cmp k new ≡ here → ((r : Row K C) → find cmp k old ≡ Some r → (s : Row K C) × (find cmp k new ≡ Some s))
+      → (before : Option (Row K C)) → find cmp k old ≡ before → Contains (changed_keys cmp eq old new) k
+      ⊎ (registered_in (find cmp k new) ≡ registered_in (find cmp k old))
   told_at one_content old new k (Some r) found stays before was =
       let member = find-found cmp k r new found in
-      told_by one_content old new k r (option_eq eq (registered_in (find cmp r.key old)) (registered_in (Some r))) refl member.0 (one_key r.key k (same_is cmp r.key k member.1)) found
+      told_by one_content old new k r (option_eq eq (registered_in (find cmp r.key old))
+      (registered_in (Some r))) refl member.0 (one_key r.key k (same_is cmp r.key k member.1)) found
   told_at one_content old new k None found stays None was = inr (ap registered_in found ∙ sym (ap registered_in was))
   told_at one_content old new k None found stays (Some r) was = let still = stays r was in let none : None ≡ Some still.0 = sym found ∙ still.1 in cc
 
   -- a key whose registration changed is told
-  pub changes-are_told : ((a b : C) → eq a b ≡ true → a ≡ b) → (leave : Cs) (leave_all : Bool) (events : List (MrpEvent × K × C)) (old : List (Row K C)) → AreRows cmp old → (k : K) → Contains (changed_keys cmp eq old (rows_after_receive cmp leave leave_all events old)) k ⊎ (registered_in (find cmp k (rows_after_receive cmp leave leave_all events old)) ≡ registered_in (find cmp k old))
+  pub changes-are_told : ((a b : C) → eq a b ≡ true → a ≡ b)
+      → (leave : Cs) (leave_all : Bool) (events : List (MrpEvent × K × C)) (old : List (Row K C)) → AreRows cmp old
+      → (k : K) → Contains (changed_keys cmp eq old (rows_after_receive cmp leave leave_all events old)) k
+      ⊎ (registered_in (find cmp k (rows_after_receive cmp leave leave_all events old))
+      ≡ registered_in (find cmp k old))
   changes-are_told one_content leave leave_all events old are k =
       told_at one_content old (rows_after_receive cmp leave leave_all events old) k (find cmp k (rows_after_receive cmp leave leave_all events old)) refl
       (λ r was. let some = receive_some cmp leave leave_all events k r in
@@ -116,13 +136,15 @@ module _ {K C : Type 0} {cmp : K → K → Ordering} (o : IsTotalOrder cmp) (eq 
       (find cmp k old) refl
 
   -- a key that is told has another registration than before
-  pub told-are_changes : IsEquivalence eq → (old new : List (Row K C)) → Ascends cmp key_of new → (k : K) → Contains (changed_keys cmp eq old new) k → registered_in (find cmp k new) ≡ registered_in (find cmp k old) → ⊥
+  pub told-are_changes : IsEquivalence eq → (old new : List (Row K C)) → Ascends cmp key_of new → (k : K)
+      → Contains (changed_keys cmp eq old new) k → registered_in (find cmp k new) ≡ registered_in (find cmp k old) → ⊥
   told-are_changes laws old new up k at still =
       let member = In-mapped key_of k (filter (differs old) new) (In-contains k (changed_keys cmp eq old new) at) in
       let r : Row K C = member.0 in
       let kept = In-filtered (differs old) r new member.1 in
       let found : find cmp k new ≡ Some r = ap (λ q. find cmp q new) member.2 ∙ find-in o r new up kept.1 in
-      let both : registered_in (Some r) ≡ registered_in (find cmp r.key old) = ap registered_in (sym found) ∙ still ∙ ap (λ q. registered_in (find cmp q old)) member.2 in
+      let both : registered_in (Some r) ≡ registered_in (find cmp r.key old) = ap registered_in (sym found) ∙ still
+      ∙ ap (λ q. registered_in (find cmp q old)) member.2 in
       let equal : option_eq eq (registered_in (find cmp r.key old)) (registered_in (Some r)) ≡ true =
       ap (option_eq eq (registered_in (find cmp r.key old))) both ∙ option_eq-refl eq laws (registered_in (find cmp r.key old)) in
       let never : not true ≡ true = ap not (sym equal) ∙ kept.0 in
@@ -136,7 +158,8 @@ module _ {K C : Type 0} where
   periodic-registered (Some r) = refl
 
   -- a leave timer that was due leaves nothing registered
-  left-unregistered_by : (now : ℕ) (r : Row K C) (g : Registrar) → (is_leaving g && nat_le r.leave.0 now) ≡ true → registered_in (left_row (record r { registrar = g })) ≡ None
+  left-unregistered_by : (now : ℕ) (r : Row K C) (g : Registrar) → (is_leaving g && nat_le r.leave.0 now) ≡ true
+      → registered_in (left_row (record r { registrar = g })) ≡ None
   left-unregistered_by now r Held h = cc
   left-unregistered_by now r Empty h = cc
   left-unregistered_by now r Leaving h = kept_none (is_live (record r { registrar = Empty }))
@@ -145,18 +168,23 @@ module _ {K C : Type 0} where
       kept_none true = refl
       kept_none false = refl
 
-  leaving-registered_by : (now : ℕ) (r : Row K C) (g : Registrar) → (is_leaving g && nat_le r.leave.0 now) ≡ true → IsSome (registered_in (Some (record r { registrar = g })))
+  leaving-registered_by : (now : ℕ) (r : Row K C) (g : Registrar) → (is_leaving g && nat_le r.leave.0 now) ≡ true
+      → IsSome (registered_in (Some (record r { registrar = g })))
   leaving-registered_by now r Held h = cc
   leaving-registered_by now r Empty h = cc
   leaving-registered_by now r Leaving h = refl
 
 module _ {K C : Type 0} {cmp : K → K → Ordering} (o : IsTotalOrder cmp) where
-  periodic_rows_by : (now : Cs) (s : State K C) (k : K) (b : Bool) → registered_in (find cmp k (if b then periodic_fired_state now s else s).rows) ≡ registered_in (find cmp k s.rows)
+  periodic_rows_by : (now : Cs) (s : State K C) (k : K) (b : Bool)
+      → registered_in (find cmp k (if b then periodic_fired_state now s else s).rows)
+      ≡ registered_in (find cmp k s.rows)
   periodic_rows_by now s k true = ap registered_in (each-mapped o periodic_row (λ r. refl) s.rows k) ∙ periodic-registered (find cmp k s.rows)
   periodic_rows_by now s k false = refl
 
   -- what is registered after the timers is what the leave timers leave
-  due-registered : (now : Cs) (s : State K C) → Ascends cmp key_of s.rows → (k : K) → registered_in (find cmp k (due_state now s).rows) ≡ registered_in (option_and_then (after_leave_due now.0) (find cmp k s.rows))
+  due-registered : (now : Cs) (s : State K C) → Ascends cmp key_of s.rows → (k : K)
+      → registered_in (find cmp k (due_state now s).rows)
+      ≡ registered_in (option_and_then (after_leave_due now.0) (find cmp k s.rows))
   due-registered now s up k =
       let first : State K C = leave_timers_state now s in
       let second : State K C = due_leave_all_state now first in
@@ -164,35 +192,50 @@ module _ {K C : Type 0} {cmp : K → K → Ordering} (o : IsTotalOrder cmp) wher
       ∙ (ap (λ rows. registered_in (find cmp k rows)) (leave_all_due-rows now first (is_leave_all_due now first))
       ∙ ap registered_in (each-kept o (after_leave_due now.0) (due-keeps now.0) s.rows up k))
 
-  due_told_by : (now : Cs) (s : State K C) (k : K) (r : Row K C) (b : Bool) → leave_is_due now.0 r ≡ b → In r s.rows → r.key ≡ k → Contains (left_keys now s) k ⊎ (registered_in (if b then left_row r else Some r) ≡ registered_in (Some r))
+  due_told_by : (now : Cs) (s : State K C) (k : K) (r : Row K C) (b : Bool) → leave_is_due now.0 r ≡ b → In r s.rows
+      → r.key ≡ k → Contains (left_keys now s) k
+      ⊎ (registered_in (if b then left_row r else Some r) ≡ registered_in (Some r))
   due_told_by now s k r true due at key =
-      inl (subst (Contains (left_keys now s)) key (Contains-in r.key (left_keys now s) (In-map key_of r (filter (leave_is_due now.0) s.rows) (In-filter (leave_is_due now.0) r s.rows due at))))
+      inl (subst (Contains (left_keys now s)) key
+      (Contains-in r.key (left_keys now s) (In-map key_of r (filter (leave_is_due now.0) s.rows)
+      (In-filter (leave_is_due now.0) r s.rows due at))))
   due_told_by now s k r false due at key = inr refl
 
-  due_told_at : ((a b : K) → cmp a b ≡ Equal → a ≡ b) → (now : Cs) (s : State K C) (k : K) (was : Option (Row K C)) → find cmp k s.rows ≡ was → Contains (left_keys now s) k ⊎ (registered_in (option_and_then (after_leave_due now.0) was) ≡ registered_in was)
+  due_told_at : ((a b : K) → cmp a b ≡ Equal → a ≡ b) → (now : Cs) (s : State K C) (k : K) (was : Option (Row K C))
+      → find cmp k s.rows ≡ was → Contains (left_keys now s) k
+      ⊎ (registered_in (option_and_then (after_leave_due now.0) was) ≡ registered_in was)
   due_told_at one_key now s k None found = inr refl
   due_told_at one_key now s k (Some r) found =
       let member = find-found cmp k r s.rows found in
       due_told_by now s k r (leave_is_due now.0 r) refl member.0 (one_key r.key k (same_is cmp r.key k member.1))
 
-  pub due-told : ((a b : K) → cmp a b ≡ Equal → a ≡ b) → (now : Cs) (s : State K C) → AreRows cmp s.rows → (k : K) → Contains (left_keys now s) k ⊎ (registered_in (find cmp k (due_state now s).rows) ≡ registered_in (find cmp k s.rows))
+  pub due-told : ((a b : K) → cmp a b ≡ Equal → a ≡ b) → (now : Cs) (s : State K C) → AreRows cmp s.rows → (k : K)
+      → Contains (left_keys now s) k ⊎ (registered_in (find cmp k (due_state now s).rows)
+      ≡ registered_in (find cmp k s.rows))
   due-told one_key now s are k =
       elim (due_told_at one_key now s k (find cmp k s.rows) refl) [ inl h ↦ inl h | inr h ↦ inr (due-registered now s are.0 k ∙ h) ]
 
-  pub due-only : (now : Cs) (s : State K C) → AreRows cmp s.rows → (k : K) → Contains (left_keys now s) k → (registered_in (find cmp k (due_state now s).rows) ≡ None) × IsSome (registered_in (find cmp k s.rows))
+  pub due-only : (now : Cs) (s : State K C) → AreRows cmp s.rows → (k : K) → Contains (left_keys now s) k
+      → (registered_in (find cmp k (due_state now s).rows) ≡ None) × IsSome (registered_in (find cmp k s.rows))
   due-only now s are k at =
       let member = In-mapped key_of k (filter (leave_is_due now.0) s.rows) (In-contains k (left_keys now s) at) in
       let r : Row K C = member.0 in
       let kept = In-filtered (leave_is_due now.0) r s.rows member.1 in
       let found : find cmp k s.rows ≡ Some r = ap (λ q. find cmp q s.rows) member.2 ∙ find-in o r s.rows are.0 kept.1 in
-      let after_is : registered_in (find cmp k (due_state now s).rows) ≡ registered_in (after_leave_due now.0 r) = due-registered now s are.0 k ∙ ap (λ x. registered_in (option_and_then (after_leave_due now.0) x)) found in
-      let due : registered_in (after_leave_due now.0 r) ≡ registered_in (left_row r) = ap (λ b. registered_in (if b then left_row r else Some r)) kept.0 in
-      (after_is ∙ (due ∙ left-unregistered_by now.0 r r.registrar kept.0), subst (λ x. IsSome (registered_in x)) (sym found) (leaving-registered_by now.0 r r.registrar kept.0))
+      let after_is : registered_in (find cmp k (due_state now s).rows)
+      ≡ registered_in (after_leave_due now.0 r) = due-registered now s are.0 k
+      ∙ ap (λ x. registered_in (option_and_then (after_leave_due now.0) x)) found in
+      let due : registered_in (after_leave_due now.0 r) ≡ registered_in (left_row r) = ap (λ b. registered_in (if b then left_row r else Some r)) kept.0 in (
+        after_is ∙ (due ∙ left-unregistered_by now.0 r r.registrar kept.0),
+        subst (λ x. IsSome (registered_in x)) (sym found) (leaving-registered_by now.0 r r.registrar kept.0),
+      )
 
 -- ---- the keys that are told, in order
 
 module _ {X K : Type 0} (cmp : K → K → Ordering) (key : X → K) where
-  Ascends-filtered_by : (p : X → Bool) (x : X) (xs : List X) (b : Bool) → AllByRecursion (λ y. cmp (key x) (key y) ≡ Less) xs → Ascends cmp key (filter p xs) → Ascends cmp key (if b then x ∷ filter p xs else filter p xs)
+  Ascends-filtered_by : (p : X → Bool) (x : X) (xs : List X) (b : Bool)
+      → AllByRecursion (λ y. cmp (key x) (key y) ≡ Less) xs → Ascends cmp key (filter p xs)
+      → Ascends cmp key (if b then x ∷ filter p xs else filter p xs)
   Ascends-filtered_by p x xs true above up = (Each-filtered (λ y. cmp (key x) (key y) ≡ Less) p xs above, up)
   Ascends-filtered_by p x xs false above up = up
 
@@ -218,7 +261,10 @@ told-are_keys key p xs k at =
 -- ---- where no leave timer is due
 
 module _ {K C : Type 0} (now : ℕ) where
-  none_due-keys_by : (r : Row K C) (rows : List (Row K C)) (b : Bool) → (b || list_any (leave_is_due now) rows) ≡ false → (list_any (leave_is_due now) rows ≡ false → filter (leave_is_due now) rows ≡ []) → (if b then r ∷ filter (leave_is_due now) rows else filter (leave_is_due now) rows) ≡ []
+  none_due-keys_by : (r : Row K C) (rows : List (Row K C)) (b : Bool)
+      → (b || list_any (leave_is_due now) rows) ≡ false
+      → (list_any (leave_is_due now) rows ≡ false → filter (leave_is_due now) rows ≡ [])
+      → (if b then r ∷ filter (leave_is_due now) rows else filter (leave_is_due now) rows) ≡ []
   none_due-keys_by r rows true h rest = cc
   none_due-keys_by r rows false h rest = rest h
 
@@ -226,7 +272,10 @@ module _ {K C : Type 0} (now : ℕ) where
   none_due-filter [] h = refl
   none_due-filter (r ∷ rows) h = none_due-keys_by r rows (leave_is_due now r) h (none_due-filter rows)
 
-  none_due-rows_by : (r : Row K C) (rows : List (Row K C)) (b : Bool) → (b || list_any (leave_is_due now) rows) ≡ false → (list_any (leave_is_due now) rows ≡ false → filter_map (after_leave_due now) rows ≡ rows) → cons_option (if b then left_row r else Some r) (filter_map (after_leave_due now) rows) ≡ r ∷ rows
+  none_due-rows_by : (r : Row K C) (rows : List (Row K C)) (b : Bool)
+      → (b || list_any (leave_is_due now) rows) ≡ false
+      → (list_any (leave_is_due now) rows ≡ false → filter_map (after_leave_due now) rows ≡ rows)
+      → cons_option (if b then left_row r else Some r) (filter_map (after_leave_due now) rows) ≡ r ∷ rows
   none_due-rows_by r rows true h rest = cc
   none_due-rows_by r rows false h rest = ap (λ l. r ∷ l) (rest h)
 
@@ -235,7 +284,9 @@ module _ {K C : Type 0} (now : ℕ) where
   none_due-kept (r ∷ rows) h = none_due-rows_by r rows (leave_is_due now r) h (none_due-kept rows)
 
   -- no keys leave, and the rows stay, from what the code has at hand
-  pub none-leave : (rows slice : List (Row K C)) (answer : Bool) → slice ≡ rows → answer ≡ list_any (leave_is_due now) slice → answer ≡ false → (map key_of (filter (leave_is_due now) rows) ≡ []) × (filter_map (after_leave_due now) rows ≡ rows)
+  pub none-leave : (rows slice : List (Row K C)) (answer : Bool) → slice ≡ rows
+      → answer ≡ list_any (leave_is_due now) slice → answer ≡ false
+      → (map key_of (filter (leave_is_due now) rows) ≡ []) × (filter_map (after_leave_due now) rows ≡ rows)
   none-leave rows slice answer is e h =
       let none : list_any (leave_is_due now) rows ≡ false = ap (list_any (leave_is_due now)) (sym is) ∙ (sym e ∙ h) in
       (ap (map key_of) (none_due-filter rows none), none_due-kept rows none)

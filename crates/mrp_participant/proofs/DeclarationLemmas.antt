@@ -28,7 +28,8 @@ use Rattle.mrp_participant.proofs.Lookups.{find-same, same_is}
 
 -- the applicant's law: nothing but a request changes whether the attribute is declared
 abbrev pub KeepDeclarations : Type 0
-KeepDeclarations = (event : AppEvent) (held : Bool) (s : Applicant) → applicant.is_request event ≡ false → applicant.is_declared_in (applicant.next event held s) ≡ applicant.is_declared_in s
+KeepDeclarations = (event : AppEvent) (held : Bool) (s : Applicant) → applicant.is_request event ≡ false
+    → applicant.is_declared_in (applicant.next event held s) ≡ applicant.is_declared_in s
 
 -- ---- declarations
 
@@ -53,11 +54,13 @@ module _ {K C : Type 0} (keep : KeepDeclarations) where
   hear-declared Lv k c leave None = refl
   hear-declared event k c leave (Some r) = heard-declared event c leave r
 
-  hearing-declared : (leave : Cs) (r : Option (Row K C)) (e : MrpEvent × K × C) (b : Bool) → declared_in (if b then after_hear e.0 e.1 e.2 leave r else r) ≡ declared_in r
+  hearing-declared : (leave : Cs) (r : Option (Row K C)) (e : MrpEvent × K × C) (b : Bool)
+      → declared_in (if b then after_hear e.0 e.1 e.2 leave r else r) ≡ declared_in r
   hearing-declared leave r e true = hear-declared e.0 e.1 e.2 leave r
   hearing-declared leave r e false = refl
 
-  fold-declared : (cmp : K → K → Ordering) (leave : Cs) (k : K) (events : List (MrpEvent × K × C)) (r : Option (Row K C)) → declared_in (fold (row_hearing cmp leave k) r events) ≡ declared_in r
+  fold-declared : (cmp : K → K → Ordering) (leave : Cs) (k : K) (events : List (MrpEvent × K × C))
+      (r : Option (Row K C)) → declared_in (fold (row_hearing cmp leave k) r events) ≡ declared_in r
   fold-declared cmp leave k [] r = refl
   fold-declared cmp leave k (e ∷ events) r = fold-declared cmp leave k events (row_hearing cmp leave k r e) ∙ hearing-declared leave r e (same cmp e.1 k)
 
@@ -65,7 +68,8 @@ module _ {K C : Type 0} (keep : KeepDeclarations) where
   leave_all-declared leave None = refl
   leave_all-declared leave (Some r) = takes-declared AppRxLeaveAll refl (registrar_takes RegRxLeaveAll leave r)
 
-  pub receive-declared : (cmp : K → K → Ordering) (leave : Cs) (leave_all : Bool) (events : List (MrpEvent × K × C)) (k : K) (r : Option (Row K C)) → declared_in (row_after_receive cmp leave leave_all events k r) ≡ declared_in r
+  pub receive-declared : (cmp : K → K → Ordering) (leave : Cs) (leave_all : Bool) (events : List (MrpEvent × K × C))
+      (k : K) (r : Option (Row K C)) → declared_in (row_after_receive cmp leave leave_all events k r) ≡ declared_in r
   receive-declared cmp leave true events k r = fold-declared cmp leave k events (option_map (leave_all_row leave) r) ∙ leave_all-declared leave r
   receive-declared cmp leave false events k r = fold-declared cmp leave k events r
 
@@ -81,7 +85,9 @@ module _ {K C : Type 0} (keep : KeepDeclarations) where
 -- ---- rows that go where nothing is kept of them
 
 module _ {K C : Type 0} where
-  kept-declared_by : (r : Row K C) (a : Applicant) (b : Bool) → declared_in (if not (is_observer a) || b then Some (with_applicant a r) else None) ≡ declared_in (Some (with_applicant a r))
+  kept-declared_by : (r : Row K C) (a : Applicant) (b : Bool)
+      → declared_in (if not (is_observer a) || b then Some (with_applicant a r) else None)
+      ≡ declared_in (Some (with_applicant a r))
   kept-declared_by r Vo true = refl
   kept-declared_by r Vo false = refl
   kept-declared_by r Vp b = refl
@@ -94,7 +100,9 @@ module _ {K C : Type 0} where
   kept-declared : (r : Row K C) → declared_in (kept_row r) ≡ declared_in (Some r)
   kept-declared r = kept-declared_by r r.applicant (registrar.is_registered_in r.registrar)
 
-  kept-registered_by : (r : Row K C) (g : Registrar) (b : Bool) → registered_in (if b || registrar.is_registered_in g then Some (record r { registrar = g }) else None) ≡ registered_in (Some (record r { registrar = g }))
+  kept-registered_by : (r : Row K C) (g : Registrar) (b : Bool)
+      → registered_in (if b || registrar.is_registered_in g then Some (record r { registrar = g }) else None)
+      ≡ registered_in (Some (record r { registrar = g }))
   kept-registered_by r Held true = refl
   kept-registered_by r Held false = refl
   kept-registered_by r Leaving true = refl
@@ -117,7 +125,9 @@ module _ {K C : Type 0} where
   due-declared now None = refl
   due-declared now (Some r) = due-declared_by r (leave_is_due now r)
 
-  leave-registered_by : (r : Row K C) (g : Registrar) → registered_in (left_row (record r { registrar = g })) ≡ (if is_leaving g then None else registered_in (Some (record r { registrar = g })))
+  leave-registered_by : (r : Row K C) (g : Registrar)
+      → registered_in (left_row (record r { registrar = g }))
+      ≡ (if is_leaving g then None else registered_in (Some (record r { registrar = g })))
   leave-registered_by r Held = kept-registered (record r { registrar = Held })
   leave-registered_by r Leaving = kept-registered (record r { registrar = Empty })
   leave-registered_by r Empty = kept-registered (record r { registrar = Empty })
@@ -133,16 +143,21 @@ full_or true = refl
 full_or false = refl
 
 module _ {K C : Type 0} where
-  opportunity-declared : (keep : KeepDeclarations) (event : AppEvent) → applicant.is_request event ≡ false → (r : Row K C) → declared_in (kept_row (applicant_takes event r)) ≡ declared_in (Some r)
+  opportunity-declared : (keep : KeepDeclarations) (event : AppEvent) → applicant.is_request event ≡ false
+      → (r : Row K C) → declared_in (kept_row (applicant_takes event r)) ≡ declared_in (Some r)
   opportunity-declared keep event e r = kept-declared (applicant_takes event r) ∙ takes-declared keep event e r
 
-  sent-declared_by : (keep : KeepDeclarations) (leave_all taken : Bool) (leave : Cs) (r : Row K C) → declared_in (sent_row leave_all taken leave r) ≡ declared_in (Some r)
+  sent-declared_by : (keep : KeepDeclarations) (leave_all taken : Bool) (leave : Cs) (r : Row K C)
+      → declared_in (sent_row leave_all taken leave r) ≡ declared_in (Some r)
   sent-declared_by keep true taken leave r =
-      opportunity-declared keep (if is_tried true r && not taken then TxLeaveAllFull else TxLeaveAll) (full_or (is_tried true r && not taken)) (registrar_takes RegTxLeaveAll leave r)
+      opportunity-declared keep (if is_tried true r && not taken then TxLeaveAllFull else TxLeaveAll)
+      (full_or (is_tried true r && not taken)) (registrar_takes RegTxLeaveAll leave r)
   sent-declared_by keep false true leave r = opportunity-declared keep Tx refl r
   sent-declared_by keep false false leave r = refl
 
-  pub sent-declared : (keep : KeepDeclarations) (leave_all : Bool) (taken : Row K C → Bool) (leave : Cs) (r : Option (Row K C)) → declared_in (option_and_then (λ r. sent_row leave_all (taken r) leave r) r) ≡ declared_in r
+  pub sent-declared : (keep : KeepDeclarations) (leave_all : Bool) (taken : Row K C
+      → Bool) (leave : Cs) (r : Option (Row K C))
+      → declared_in (option_and_then (λ r. sent_row leave_all (taken r) leave r) r) ≡ declared_in r
   sent-declared keep leave_all taken leave None = refl
   sent-declared keep leave_all taken leave (Some r) = sent-declared_by keep leave_all (taken r) leave r
 
@@ -153,7 +168,8 @@ module _ {K C : Type 0} where
   sent-registered_by false true leave r = kept-registered (applicant_takes Tx r)
   sent-registered_by false false leave r = refl
 
-  pub sent-registered : (leave_all : Bool) (taken : Row K C → Bool) (leave : Cs) (r : Option (Row K C)) → registered_in (option_and_then (λ r. sent_row leave_all (taken r) leave r) r) ≡ registered_in r
+  pub sent-registered : (leave_all : Bool) (taken : Row K C → Bool) (leave : Cs) (r : Option (Row K C))
+      → registered_in (option_and_then (λ r. sent_row leave_all (taken r) leave r) r) ≡ registered_in r
   sent-registered leave_all taken leave None = refl
   sent-registered leave_all taken leave (Some r) = sent-registered_by leave_all (taken r) leave r
 
@@ -163,7 +179,12 @@ content_if : {C : Type 0} (c : C) (a : Bool) → a ≡ true → (if a then Some 
 content_if c a h = ap (λ b. if b then Some c else None) h
 
 module _ {K C : Type 0} where
-  declare-registered_by : (c : C) (r : Row K C) (a b : Bool) → registered_in (Some (if a then (if b then r else record r { applicant = applicant.redeclare_of r.applicant; content = c }) else record r { applicant = applicant.declare_of r.applicant; content = c })) ≡ registered_in (Some r)
+  declare-registered_by : (c : C) (r : Row K C) (a b : Bool)
+      → registered_in (Some (if a then (if b then r else record r {
+        applicant = applicant.redeclare_of r.applicant;
+        content = c;
+      }) else record r { applicant = applicant.declare_of r.applicant; content = c }))
+      ≡ registered_in (Some r)
   declare-registered_by c r true true = refl
   declare-registered_by c r true false = refl
   declare-registered_by c r false b = refl
@@ -176,41 +197,66 @@ module _ {K C : Type 0} where
   withdraw-registered None = refl
   withdraw-registered (Some r) = refl
 
-  declare-declared_by : (eq : C → C → Bool) (one : (a b : C) → eq a b ≡ true → a ≡ b) (declares : (s : Applicant) → applicant.is_declared_in (applicant.declare_of s) ≡ true) (redeclares : (s : Applicant) → applicant.is_declared_in (applicant.redeclare_of s) ≡ true) (c : C) (r : Row K C) (a b : Bool) → applicant.is_declared_in r.applicant ≡ a → eq r.content c ≡ b → declared_in (Some (if a then (if b then r else record r { applicant = applicant.redeclare_of r.applicant; content = c }) else record r { applicant = applicant.declare_of r.applicant; content = c })) ≡ Some c
+  declare-declared_by : (eq : C → C → Bool) (one : (a b : C) → eq a b ≡ true → a ≡ b) (declares : (s : Applicant)
+      → applicant.is_declared_in (applicant.declare_of s) ≡ true) (redeclares : (s : Applicant)
+      → applicant.is_declared_in (applicant.redeclare_of s) ≡ true) (c : C) (r : Row K C) (a b : Bool)
+      → applicant.is_declared_in r.applicant ≡ a → eq r.content c ≡ b
+      → declared_in (Some (if a then (if b then r else record r {
+        applicant = applicant.redeclare_of r.applicant;
+        content = c;
+      }) else record r { applicant = applicant.declare_of r.applicant; content = c })) ≡ Some c
   declare-declared_by eq one declares redeclares c r true true a b = content_if r.content (applicant.is_declared_in r.applicant) a ∙ ap Some (one r.content c b)
-  declare-declared_by eq one declares redeclares c r true false a b = content_if c (applicant.is_declared_in (applicant.redeclare_of r.applicant)) (redeclares r.applicant)
-  declare-declared_by eq one declares redeclares c r false b a b' = content_if c (applicant.is_declared_in (applicant.declare_of r.applicant)) (declares r.applicant)
+  declare-declared_by eq one declares redeclares c r true false a b = content_if c
+      (applicant.is_declared_in (applicant.redeclare_of r.applicant)) (redeclares r.applicant)
+  declare-declared_by eq one declares redeclares c r false b a b' = content_if c
+      (applicant.is_declared_in (applicant.declare_of r.applicant)) (declares r.applicant)
 
-  pub declare-declared : (eq : C → C → Bool) (one : (a b : C) → eq a b ≡ true → a ≡ b) (declares : (s : Applicant) → applicant.is_declared_in (applicant.declare_of s) ≡ true) (redeclares : (s : Applicant) → applicant.is_declared_in (applicant.redeclare_of s) ≡ true) (k : K) (c : C) (r : Option (Row K C)) → declared_in (after_declare eq k c r) ≡ Some c
+  pub declare-declared : (eq : C → C → Bool) (one : (a b : C) → eq a b ≡ true → a ≡ b) (declares : (s : Applicant)
+      → applicant.is_declared_in (applicant.declare_of s) ≡ true) (redeclares : (s : Applicant)
+      → applicant.is_declared_in (applicant.redeclare_of s) ≡ true) (k : K) (c : C) (r : Option (Row K C))
+      → declared_in (after_declare eq k c r) ≡ Some c
   declare-declared eq one declares redeclares k c None = refl
-  declare-declared eq one declares redeclares k c (Some r) = declare-declared_by eq one declares redeclares c r (applicant.is_declared_in r.applicant) (eq r.content c) refl refl
+  declare-declared eq one declares redeclares k c (Some r) = declare-declared_by eq one declares redeclares c r
+      (applicant.is_declared_in r.applicant) (eq r.content c) refl refl
 
-  pub withdraw-declared : (withdraws : (s : Applicant) → applicant.is_declared_in (applicant.withdraw_of s) ≡ false) (r : Option (Row K C)) → declared_in (after_withdraw r) ≡ None
+  pub withdraw-declared : (withdraws : (s : Applicant)
+      → applicant.is_declared_in (applicant.withdraw_of s) ≡ false) (r : Option (Row K C))
+      → declared_in (after_withdraw r) ≡ None
   withdraw-declared withdraws None = refl
   withdraw-declared withdraws (Some r) = ap (λ b. if b then Some r.content else None) (withdraws r.applicant)
 
 -- ---- at each key
 
 module _ {K C X : Type 0} {cmp : K → K → Ordering} (o : IsTotalOrder cmp) (look : Option (Row K C) → X) where
-  stays-at_by : (new : Option (Row K C)) (key k : K) (rows : List (Row K C)) (b : Bool) → same cmp key k ≡ b → look new ≡ look (find cmp key rows) → look (if b then new else find cmp k rows) ≡ look (find cmp k rows)
+  stays-at_by : (new : Option (Row K C)) (key k : K) (rows : List (Row K C)) (b : Bool) → same cmp key k ≡ b
+      → look new ≡ look (find cmp key rows) → look (if b then new else find cmp k rows) ≡ look (find cmp k rows)
   stays-at_by new key k rows true e keeps = keeps ∙ ap look (find-same o key k rows (same_is cmp key k e))
   stays-at_by new key k rows false e keeps = refl
 
   -- what a change of one key's row leaves as it was stays at each key
-  pub stays-at : (new : Option (Row K C)) (key k : K) (rows : List (Row K C)) → look new ≡ look (find cmp key rows) → look (if same cmp key k then new else find cmp k rows) ≡ look (find cmp k rows)
+  pub stays-at : (new : Option (Row K C)) (key k : K) (rows : List (Row K C)) → look new ≡ look (find cmp key rows)
+      → look (if same cmp key k then new else find cmp k rows) ≡ look (find cmp k rows)
   stays-at new key k rows keeps = stays-at_by new key k rows (same cmp key k) refl keeps
 
-  becomes-at_by : (new : Option (Row K C)) (is : X) (k : K) (rows : List (Row K C)) (b : Bool) → look new ≡ is → look (if b then new else find cmp k rows) ≡ (if b then is else look (find cmp k rows))
+  becomes-at_by : (new : Option (Row K C)) (is : X) (k : K) (rows : List (Row K C)) (b : Bool) → look new ≡ is
+      → look (if b then new else find cmp k rows) ≡ (if b then is else look (find cmp k rows))
   becomes-at_by new is k rows true h = h
   becomes-at_by new is k rows false h = refl
 
-  pub becomes-at : (new : Option (Row K C)) (is : X) (key k : K) (rows : List (Row K C)) → look new ≡ is → look (if same cmp key k then new else find cmp k rows) ≡ (if same cmp key k then is else look (find cmp k rows))
+  pub becomes-at : (new : Option (Row K C)) (is : X) (key k : K) (rows : List (Row K C)) → look new ≡ is
+      → look (if same cmp key k then new else find cmp k rows)
+      ≡ (if same cmp key k then is else look (find cmp k rows))
   becomes-at new is key k rows h = becomes-at_by new is k rows (same cmp key k) h
 
-  becomes_if-at_by : (new : Option (Row K C)) (is : X) (key k : K) (rows : List (Row K C)) (b t : Bool) → same cmp key k ≡ b → look new ≡ (if t then is else look (find cmp key rows)) → look (if b then new else find cmp k rows) ≡ (if b && t then is else look (find cmp k rows))
+  becomes_if-at_by : (new : Option (Row K C)) (is : X) (key k : K) (rows : List (Row K C)) (b t : Bool)
+      → same cmp key k ≡ b → look new ≡ (if t then is else look (find cmp key rows))
+      → look (if b then new else find cmp k rows) ≡ (if b && t then is else look (find cmp k rows))
   becomes_if-at_by new is key k rows true true e h = h
   becomes_if-at_by new is key k rows true false e h = h ∙ ap look (find-same o key k rows (same_is cmp key k e))
   becomes_if-at_by new is key k rows false t e h = refl
 
-  pub becomes_if-at : (new : Option (Row K C)) (is : X) (key k : K) (rows : List (Row K C)) (t : Bool) → look new ≡ (if t then is else look (find cmp key rows)) → look (if same cmp key k then new else find cmp k rows) ≡ (if same cmp key k && t then is else look (find cmp k rows))
+  pub becomes_if-at : (new : Option (Row K C)) (is : X) (key k : K) (rows : List (Row K C)) (t : Bool)
+      → look new ≡ (if t then is else look (find cmp key rows))
+      → look (if same cmp key k then new else find cmp k rows)
+      ≡ (if same cmp key k && t then is else look (find cmp k rows))
   becomes_if-at new is key k rows t h = becomes_if-at_by new is key k rows (same cmp key k) t refl h

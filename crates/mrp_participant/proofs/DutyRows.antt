@@ -27,7 +27,8 @@ use Rattle.mrp_participant.specs.Duty.{held_in, held_after_event, held_hearing, 
 -- ---- what is owed, where more or less is held or asked
 
 module _ {C : Type 0} where
-  owes-same_by : (a : Applicant) (c : C) (held held' : Option C) (asked asked' : Bool) → held ≡ held' → (asked ≡ true → asked' ≡ true) → Owes a c held asked → Owes a c held' asked'
+  owes-same_by : (a : Applicant) (c : C) (held held' : Option C) (asked asked' : Bool) → held ≡ held'
+      → (asked ≡ true → asked' ≡ true) → Owes a c held asked → Owes a c held' asked'
   owes-same_by Vo c held held' asked asked' e f h = sym e ∙ h
   owes-same_by An c held held' asked asked' e f (inl h) = inl (sym e ∙ h)
   owes-same_by An c held held' asked asked' e f (inr h) = inr (f h)
@@ -37,7 +38,8 @@ module _ {C : Type 0} where
   owes-same_by Qa c held held' asked asked' e f (inr h) = inr (f h)
   owes-same_by _ c held held' asked asked' e f h = tt
 
-  owes-asked_by : (a : Applicant) (c : C) (held held' : Option C) (asked asked' : Bool) → (held ≡ None → held' ≡ None) → asked' ≡ true → Owes a c held asked → Owes a c held' asked'
+  owes-asked_by : (a : Applicant) (c : C) (held held' : Option C) (asked asked' : Bool) → (held ≡ None → held' ≡ None)
+      → asked' ≡ true → Owes a c held asked → Owes a c held' asked'
   owes-asked_by Vo c held held' asked asked' f e h = f h
   owes-asked_by An c held held' asked asked' f e h = inr e
   owes-asked_by Aa c held held' asked asked' f e h = inr e
@@ -46,12 +48,14 @@ module _ {C : Type 0} where
 
 module _ {K C : Type 0} where
   -- what is owed where the same is held, and a LeaveAll still comes where one did
-  pub owes-same : (r : Option (Row K C)) (held held' : Option C) (asked asked' : Bool) → held ≡ held' → (asked ≡ true → asked' ≡ true) → OwesOf r held asked → OwesOf r held' asked'
+  pub owes-same : (r : Option (Row K C)) (held held' : Option C) (asked asked' : Bool) → held ≡ held'
+      → (asked ≡ true → asked' ≡ true) → OwesOf r held asked → OwesOf r held' asked'
   owes-same None held held' asked asked' e f h = sym e ∙ h
   owes-same (Some r) held held' asked asked' e f h = owes-same_by r.applicant r.content held held' asked asked' e f h
 
   -- what is owed where a LeaveAll comes, and nothing is held where nothing was
-  pub owes-asked : (r : Option (Row K C)) (held held' : Option C) (asked asked' : Bool) → (held ≡ None → held' ≡ None) → asked' ≡ true → OwesOf r held asked → OwesOf r held' asked'
+  pub owes-asked : (r : Option (Row K C)) (held held' : Option C) (asked asked' : Bool) → (held ≡ None → held' ≡ None)
+      → asked' ≡ true → OwesOf r held asked → OwesOf r held' asked'
   owes-asked None held held' asked asked' f e h = f h
   owes-asked (Some r) held held' asked asked' f e h = owes-asked_by r.applicant r.content held held' asked asked' f e h
 
@@ -81,13 +85,34 @@ module _ {C : Type 0} (held : Option C) (asked : Bool) where
 -- ---- requests, and timers
 
 module _ {K C : Type 0} (held : Option C) (asked : Bool) where
-  declare-owes_by : (eq : C → C → Bool) (c : C) (r : Row K C) (a : Applicant) → Owes a r.content held asked → OwesOf (Some (declared_row eq c (with_applicant a r))) held asked
+  declare-owes_by : (eq : C → C → Bool) (c : C) (r : Row K C) (a : Applicant) → Owes a r.content held asked
+      → OwesOf (Some (declared_row eq c (with_applicant a r))) held asked
   declare-owes_by eq c r Vo h = tt
-  declare-owes_by eq c r Vp h = elim (eq r.content c) as (λ b. OwesOf (Some (if b then with_applicant Vp r else record r { applicant = Vn; content = c })) held asked) [ true ↦ h | false ↦ tt ]
-  declare-owes_by eq c r Vn h = elim (eq r.content c) as (λ b. OwesOf (Some (if b then with_applicant Vn r else record r { applicant = Vn; content = c })) held asked) [ true ↦ h | false ↦ tt ]
-  declare-owes_by eq c r An h = elim (eq r.content c) as (λ b. OwesOf (Some (if b then with_applicant An r else record r { applicant = Vn; content = c })) held asked) [ true ↦ h | false ↦ tt ]
-  declare-owes_by eq c r Aa h = elim (eq r.content c) as (λ b. OwesOf (Some (if b then with_applicant Aa r else record r { applicant = Vn; content = c })) held asked) [ true ↦ h | false ↦ tt ]
-  declare-owes_by eq c r Qa h = elim (eq r.content c) as (λ b. OwesOf (Some (if b then with_applicant Qa r else record r { applicant = Vn; content = c })) held asked) [ true ↦ h | false ↦ tt ]
+  declare-owes_by eq c r Vp h = elim (eq r.content c) as
+      (λ b. OwesOf (Some (if b then with_applicant Vp r else record r {
+        applicant = Vn;
+        content = c;
+      })) held asked) [ true ↦ h | false ↦ tt ]
+  declare-owes_by eq c r Vn h = elim (eq r.content c) as
+      (λ b. OwesOf (Some (if b then with_applicant Vn r else record r {
+        applicant = Vn;
+        content = c;
+      })) held asked) [ true ↦ h | false ↦ tt ]
+  declare-owes_by eq c r An h = elim (eq r.content c) as
+      (λ b. OwesOf (Some (if b then with_applicant An r else record r {
+        applicant = Vn;
+        content = c;
+      })) held asked) [ true ↦ h | false ↦ tt ]
+  declare-owes_by eq c r Aa h = elim (eq r.content c) as
+      (λ b. OwesOf (Some (if b then with_applicant Aa r else record r {
+        applicant = Vn;
+        content = c;
+      })) held asked) [ true ↦ h | false ↦ tt ]
+  declare-owes_by eq c r Qa h = elim (eq r.content c) as
+      (λ b. OwesOf (Some (if b then with_applicant Qa r else record r {
+        applicant = Vn;
+        content = c;
+      })) held asked) [ true ↦ h | false ↦ tt ]
   declare-owes_by eq c r La h = tt
 
   pub declare-owes : (eq : C → C → Bool) (k : K) (c : C) (r : Option (Row K C)) → OwesOf r held asked → OwesOf (after_declare eq k c r) held asked
@@ -102,7 +127,8 @@ module _ {K C : Type 0} (held : Option C) (asked : Bool) where
   withdraw-owes None h = h
   withdraw-owes (Some r) h = withdraw-owes_by r r.applicant h
 
-  kept-owes_by : (r : Row K C) (a : Applicant) (b : Bool) → Owes a r.content held asked → OwesOf (if not (is_observer a) || b then Some (with_applicant a r) else None) held asked
+  kept-owes_by : (r : Row K C) (a : Applicant) (b : Bool) → Owes a r.content held asked
+      → OwesOf (if not (is_observer a) || b then Some (with_applicant a r) else None) held asked
   kept-owes_by r Vo true h = h
   kept-owes_by r Vo false h = h
   kept-owes_by r Vp b h = h
@@ -161,22 +187,28 @@ module _ {K C : Type 0} (held : Option C) (asked : Bool) where
   hear-owes OnlyMt k c leave (Some r) h = mt-owes held asked r.content (is_in r.registrar) r.applicant h
   hear-owes Lv k c leave (Some r) h = lv-owes held asked r.content (is_in r.registrar) r.applicant h
 
-  hearing-owes : (leave : Cs) (r : Option (Row K C)) (e : MrpEvent × K × C) (b : Bool) → OwesOf r held asked → OwesOf (if b then after_hear e.0 e.1 e.2 leave r else r) held asked
+  hearing-owes : (leave : Cs) (r : Option (Row K C)) (e : MrpEvent × K × C) (b : Bool) → OwesOf r held asked
+      → OwesOf (if b then after_hear e.0 e.1 e.2 leave r else r) held asked
   hearing-owes leave r e true h = hear-owes e.0 e.1 e.2 leave r h
   hearing-owes leave r e false h = h
 
-  fold-owes : (cmp : K → K → Ordering) (leave : Cs) (k : K) (events : List (MrpEvent × K × C)) (r : Option (Row K C)) → OwesOf r held asked → OwesOf (fold (row_hearing cmp leave k) r events) held asked
+  fold-owes : (cmp : K → K → Ordering) (leave : Cs) (k : K) (events : List (MrpEvent × K × C)) (r : Option (Row K C))
+      → OwesOf r held asked → OwesOf (fold (row_hearing cmp leave k) r events) held asked
   fold-owes cmp leave k [] r h = h
   fold-owes cmp leave k (e ∷ events) r h = fold-owes cmp leave k events (row_hearing cmp leave k r e) (hearing-owes leave r e (same cmp e.1 k) h)
 
-  pub receive-owes : (cmp : K → K → Ordering) (leave : Cs) (leave_all : Bool) (events : List (MrpEvent × K × C)) (k : K) (r : Option (Row K C)) → OwesOf r held (leave_all || asked) → OwesOf (row_after_receive cmp leave leave_all events k r) held asked
+  pub receive-owes : (cmp : K → K → Ordering) (leave : Cs) (leave_all : Bool) (events : List (MrpEvent × K × C))
+      (k : K) (r : Option (Row K C)) → OwesOf r held (leave_all || asked)
+      → OwesOf (row_after_receive cmp leave leave_all events k r) held asked
   receive-owes cmp leave true events k r h = fold-owes cmp leave k events (option_map (leave_all_row leave) r) (leave_all-owes leave r true h)
   receive-owes cmp leave false events k r h = fold-owes cmp leave k events r h
 
 -- ---- what is held
 
 module _ {K C : Type 0} where
-  kept-held_by : (r : Row K C) (g : Registrar) (b : Bool) → held_in (if b || registrar.is_registered_in g then Some (record r { registrar = g }) else None) ≡ held_in (Some (record r { registrar = g }))
+  kept-held_by : (r : Row K C) (g : Registrar) (b : Bool)
+      → held_in (if b || registrar.is_registered_in g then Some (record r { registrar = g }) else None)
+      ≡ held_in (Some (record r { registrar = g }))
   kept-held_by r Held true = refl
   kept-held_by r Held false = refl
   kept-held_by r Leaving true = refl
@@ -191,7 +223,12 @@ module _ {K C : Type 0} where
   declare-held eq k c None = refl
   declare-held eq k c (Some r) = by (applicant.is_declared_in r.applicant) (eq r.content c)
     where
-      by : (a b : Bool) → held_in (Some (if a then (if b then r else record r { applicant = applicant.redeclare_of r.applicant; content = c }) else record r { applicant = applicant.declare_of r.applicant; content = c })) ≡ held_in (Some r)
+      by : (a b : Bool)
+          → held_in (Some (if a then (if b then r else record r {
+            applicant = applicant.redeclare_of r.applicant;
+            content = c;
+          }) else record r { applicant = applicant.declare_of r.applicant; content = c }))
+          ≡ held_in (Some r)
       by true true = refl
       by true false = refl
       by false b = refl
@@ -228,7 +265,9 @@ module _ {K C : Type 0} where
 
   -- ---- what is held after receiving
 
-  hear-held_by : (event : MrpEvent) (c : C) (leave : Cs) (r : Row K C) (g : Registrar) → held_in (Some (heard_row event c leave (record r { registrar = g }))) ≡ held_after_event event c (held_in (Some (record r { registrar = g })))
+  hear-held_by : (event : MrpEvent) (c : C) (leave : Cs) (r : Row K C) (g : Registrar)
+      → held_in (Some (heard_row event c leave (record r { registrar = g })))
+      ≡ held_after_event event c (held_in (Some (record r { registrar = g })))
   hear-held_by New c leave r Held = refl
   hear-held_by New c leave r Leaving = refl
   hear-held_by New c leave r Empty = refl
@@ -244,7 +283,8 @@ module _ {K C : Type 0} where
   hear-held_by Lv c leave r Leaving = refl
   hear-held_by Lv c leave r Empty = refl
 
-  hear-held : (event : MrpEvent) (k : K) (c : C) (leave : Cs) (r : Option (Row K C)) → held_in (after_hear event k c leave r) ≡ held_after_event event c (held_in r)
+  hear-held : (event : MrpEvent) (k : K) (c : C) (leave : Cs) (r : Option (Row K C))
+      → held_in (after_hear event k c leave r) ≡ held_after_event event c (held_in r)
   hear-held New k c leave None = refl
   hear-held JoinIn k c leave None = refl
   hear-held OnlyIn k c leave None = refl
@@ -253,11 +293,14 @@ module _ {K C : Type 0} where
   hear-held Lv k c leave None = refl
   hear-held event k c leave (Some r) = hear-held_by event c leave r r.registrar
 
-  hearing-held : (leave : Cs) (r : Option (Row K C)) (e : MrpEvent × K × C) (b : Bool) → held_in (if b then after_hear e.0 e.1 e.2 leave r else r) ≡ (if b then held_after_event e.0 e.2 (held_in r) else held_in r)
+  hearing-held : (leave : Cs) (r : Option (Row K C)) (e : MrpEvent × K × C) (b : Bool)
+      → held_in (if b then after_hear e.0 e.1 e.2 leave r else r)
+      ≡ (if b then held_after_event e.0 e.2 (held_in r) else held_in r)
   hearing-held leave r e true = hear-held e.0 e.1 e.2 leave r
   hearing-held leave r e false = refl
 
-  fold-held : (cmp : K → K → Ordering) (leave : Cs) (k : K) (events : List (MrpEvent × K × C)) (r : Option (Row K C)) → held_in (fold (row_hearing cmp leave k) r events) ≡ fold (held_hearing cmp k) (held_in r) events
+  fold-held : (cmp : K → K → Ordering) (leave : Cs) (k : K) (events : List (MrpEvent × K × C)) (r : Option (Row K C))
+      → held_in (fold (row_hearing cmp leave k) r events) ≡ fold (held_hearing cmp k) (held_in r) events
   fold-held cmp leave k [] r = refl
   fold-held cmp leave k (e ∷ events) r =
       fold-held cmp leave k events (row_hearing cmp leave k r e)
@@ -272,7 +315,9 @@ module _ {K C : Type 0} where
   leave_all-held leave None = refl
   leave_all-held leave (Some r) = leave_all-held_by leave r r.registrar
 
-  pub receive-held : (cmp : K → K → Ordering) (leave : Cs) (leave_all : Bool) (events : List (MrpEvent × K × C)) (k : K) (r : Option (Row K C)) → held_in (row_after_receive cmp leave leave_all events k r) ≡ held_after cmp k (held_in r) (record { leave_all = leave_all; events = events })
+  pub receive-held : (cmp : K → K → Ordering) (leave : Cs) (leave_all : Bool) (events : List (MrpEvent × K × C))
+      (k : K) (r : Option (Row K C)) → held_in (row_after_receive cmp leave leave_all events k r)
+      ≡ held_after cmp k (held_in r) (record { leave_all = leave_all; events = events })
   receive-held cmp leave true events k r =
       fold-held cmp leave k events (option_map (leave_all_row leave) r) ∙ ap (λ held. fold (held_hearing cmp k) held events) (leave_all-held leave r)
   receive-held cmp leave false events k r = fold-held cmp leave k events r
@@ -293,12 +338,19 @@ module _ {K C : Type 0} where
   abbrev pub held_after_all : Option C → List (MrpEvent × K × C) → Option C
   held_after_all held events = fold (λ held e. held_after_event e.0 e.2 held) held events
 
-  hearing-alone : (cmp : K → K → Ordering) (k : K) (held : Option C) (e : MrpEvent × K × C) (events : List (MrpEvent × K × C)) (b : Bool) → ((held : Option C) → fold (held_hearing cmp k) held events ≡ held_after_all held (filter (λ e. same cmp e.1 k) events)) → fold (held_hearing cmp k) (if b then held_after_event e.0 e.2 held else held) events ≡ held_after_all held (if b then e ∷ filter (λ e. same cmp e.1 k) events else filter (λ e. same cmp e.1 k) events)
+  hearing-alone : (cmp : K → K → Ordering) (k : K) (held : Option C) (e : MrpEvent × K
+      × C) (events : List (MrpEvent × K × C)) (b : Bool)
+      → ((held : Option C) → fold (held_hearing cmp k) held events
+      ≡ held_after_all held (filter (λ e. same cmp e.1 k) events))
+      → fold (held_hearing cmp k) (if b then held_after_event e.0 e.2 held else held) events
+      ≡ held_after_all held (if b then e ∷ filter (λ e. same cmp e.1 k) events else filter
+      (λ e. same cmp e.1 k) events)
   hearing-alone cmp k held e events true rest = rest (held_after_event e.0 e.2 held)
   hearing-alone cmp k held e events false rest = rest held
 
   -- only the events of its key count
-  pub events-alone : (cmp : K → K → Ordering) (k : K) (events : List (MrpEvent × K × C)) (held : Option C) → fold (held_hearing cmp k) held events ≡ held_after_all held (filter (λ e. same cmp e.1 k) events)
+  pub events-alone : (cmp : K → K → Ordering) (k : K) (events : List (MrpEvent × K × C)) (held : Option C)
+      → fold (held_hearing cmp k) held events ≡ held_after_all held (filter (λ e. same cmp e.1 k) events)
   events-alone cmp k [] held = refl
   events-alone cmp k (e ∷ events) held = hearing-alone cmp k held e events (same cmp e.1 k) (events-alone cmp k events)
 
@@ -308,9 +360,11 @@ module _ {K C : Type 0} where
 
   -- what a row owes after sending, by what it said
   abbrev OwesSent : Bool → Bool → Cs → Row K C → Option C → Bool → Type 0
-  OwesSent leave_all taken leave r held asked = OwesOf (sent_row leave_all taken leave r) (held_after_all (if leave_all then None else held) (option_to_list (sent_event leave_all taken leave r))) asked
+  OwesSent leave_all taken leave r held asked = OwesOf (sent_row leave_all taken leave r)
+      (held_after_all (if leave_all then None else held) (option_to_list (sent_event leave_all taken leave r))) asked
 
-  taken_with_leave_all : (leave : Cs) (r : Row K C) (held : Option C) (asked : Bool) (g : Registrar) (a : Applicant) → OwesSent true true leave (in_states a g r) held asked
+  taken_with_leave_all : (leave : Cs) (r : Row K C) (held : Option C) (asked : Bool) (g : Registrar) (a : Applicant)
+      → OwesSent true true leave (in_states a g r) held asked
   unfolding in_states
   taken_with_leave_all leave r held asked Held Vo = refl
   taken_with_leave_all leave r held asked Held La = refl
@@ -322,7 +376,8 @@ module _ {K C : Type 0} where
   taken_with_leave_all leave r held asked Empty La = refl
   taken_with_leave_all leave r held asked Empty _ = inl refl
 
-  not_taken_with_leave_all : (leave : Cs) (r : Row K C) (held : Option C) (asked : Bool) (g : Registrar) (a : Applicant) → OwesSent true false leave (in_states a g r) held asked
+  not_taken_with_leave_all : (leave : Cs) (r : Row K C) (held : Option C) (asked : Bool) (g : Registrar)
+      (a : Applicant) → OwesSent true false leave (in_states a g r) held asked
   unfolding in_states
   not_taken_with_leave_all leave r held asked Held Vo = refl
   not_taken_with_leave_all leave r held asked Held La = refl
@@ -334,7 +389,8 @@ module _ {K C : Type 0} where
   not_taken_with_leave_all leave r held asked Empty La = refl
   not_taken_with_leave_all leave r held asked Empty _ = tt
 
-  taken_alone : (leave : Cs) (r : Row K C) (held : Option C) (asked : Bool) (g : Registrar) (a : Applicant) → Owes a r.content held asked → OwesSent false true leave (in_states a g r) held asked
+  taken_alone : (leave : Cs) (r : Row K C) (held : Option C) (asked : Bool) (g : Registrar) (a : Applicant)
+      → Owes a r.content held asked → OwesSent false true leave (in_states a g r) held asked
   unfolding in_states
   taken_alone leave r held asked Held Vo h = h
   taken_alone leave r held asked Held Qa h = h
@@ -349,7 +405,8 @@ module _ {K C : Type 0} where
   taken_alone leave r held asked Empty La h = refl
   taken_alone leave r held asked Empty _ h = inl refl
 
-  sent-owes_by : (leave_all taken : Bool) (leave : Cs) (r : Row K C) (held : Option C) (asked : Bool) → (leave_all ≡ false → OwesOf (Some r) held asked) → OwesSent leave_all taken leave r held asked
+  sent-owes_by : (leave_all taken : Bool) (leave : Cs) (r : Row K C) (held : Option C) (asked : Bool)
+      → (leave_all ≡ false → OwesOf (Some r) held asked) → OwesSent leave_all taken leave r held asked
   unfolding in_states
   sent-owes_by true true leave r held asked h = taken_with_leave_all leave r held asked r.registrar r.applicant
   sent-owes_by true false leave r held asked h = not_taken_with_leave_all leave r held asked r.registrar r.applicant
@@ -357,16 +414,24 @@ module _ {K C : Type 0} where
   sent-owes_by false false leave r held asked h = h refl
 
   -- what is owed of a key after sending; with LeaveAll nothing need have been owed before
-  pub sent-owes : (leave_all : Bool) (taken : Row K C → Bool) (leave : Cs) (r : Option (Row K C)) (held : Option C) (asked : Bool) → (leave_all ≡ false → OwesOf r held asked) → OwesOf (option_and_then (λ r. sent_row leave_all (taken r) leave r) r) (held_after_all (if leave_all then None else held) (option_to_list (option_and_then (λ r. sent_event leave_all (taken r) leave r) r))) asked
+  pub sent-owes : (leave_all : Bool) (taken : Row K C
+      → Bool) (leave : Cs) (r : Option (Row K C)) (held : Option C) (asked : Bool)
+      → (leave_all ≡ false → OwesOf r held asked)
+      → OwesOf (option_and_then (λ r. sent_row leave_all (taken r) leave r) r)
+      (held_after_all (if leave_all then None else held)
+      (option_to_list (option_and_then (λ r. sent_event leave_all (taken r) leave r) r))) asked
   sent-owes leave_all taken leave None held asked h = idle-owes leave_all held h
   sent-owes leave_all taken leave (Some r) held asked h = sent-owes_by leave_all (taken r) leave r held asked h
 
-  leave_all_sent-held : (leave : Cs) (event : AppEvent) (r : Row K C) (g : Registrar) → held_in (Some (applicant_takes event (registrar_takes RegTxLeaveAll leave (record r { registrar = g })))) ≡ None
+  leave_all_sent-held : (leave : Cs) (event : AppEvent) (r : Row K C) (g : Registrar)
+      → held_in (Some (applicant_takes event (registrar_takes RegTxLeaveAll leave (record r { registrar = g }))))
+      ≡ None
   leave_all_sent-held leave event r Held = refl
   leave_all_sent-held leave event r Leaving = refl
   leave_all_sent-held leave event r Empty = refl
 
-  sent-held_by : (leave_all taken : Bool) (leave : Cs) (r : Row K C) → held_in (sent_row leave_all taken leave r) ≡ (if leave_all then None else held_in (Some r))
+  sent-held_by : (leave_all taken : Bool) (leave : Cs) (r : Row K C)
+      → held_in (sent_row leave_all taken leave r) ≡ (if leave_all then None else held_in (Some r))
   sent-held_by true taken leave r =
       kept-held (applicant_takes (if is_tried true r && not taken then TxLeaveAllFull else TxLeaveAll) (registrar_takes RegTxLeaveAll leave r))
       ∙ leave_all_sent-held leave (if is_tried true r && not taken then TxLeaveAllFull else TxLeaveAll) r r.registrar
@@ -374,14 +439,17 @@ module _ {K C : Type 0} where
   sent-held_by false false leave r = refl
 
   -- with LeaveAll a registrar holds nothing after sending, and without what it held
-  pub sent-held : (leave_all : Bool) (taken : Row K C → Bool) (leave : Cs) (r : Option (Row K C)) → held_in (option_and_then (λ r. sent_row leave_all (taken r) leave r) r) ≡ (if leave_all then None else held_in r)
+  pub sent-held : (leave_all : Bool) (taken : Row K C → Bool) (leave : Cs) (r : Option (Row K C))
+      → held_in (option_and_then (λ r. sent_row leave_all (taken r) leave r) r)
+      ≡ (if leave_all then None else held_in r)
   sent-held leave_all taken leave None = nothing-held leave_all None refl
   sent-held leave_all taken leave (Some r) = sent-held_by leave_all (taken r) leave r
 
 -- ---- where both are still
 
 module _ {K C : Type 0} where
-  not_leaving-held_by : (r : Row K C) (g : Registrar) → is_leaving_in (Some (record r { registrar = g })) ≡ false → registered_in (Some (record r { registrar = g })) ≡ held_in (Some (record r { registrar = g }))
+  not_leaving-held_by : (r : Row K C) (g : Registrar) → is_leaving_in (Some (record r { registrar = g })) ≡ false
+      → registered_in (Some (record r { registrar = g })) ≡ held_in (Some (record r { registrar = g }))
   not_leaving-held_by r Held h = refl
   not_leaving-held_by r Leaving h = cc
   not_leaving-held_by r Empty h = refl
@@ -391,7 +459,8 @@ module _ {K C : Type 0} where
   not_leaving-held None h = refl
   not_leaving-held (Some r) h = not_leaving-held_by r r.registrar h
 
-  quiet-held_by : (r : Row K C) (a : Applicant) (held : Option C) → is_quiet a ≡ true → Owes a r.content held false → held ≡ declared_in (Some (with_applicant a r))
+  quiet-held_by : (r : Row K C) (a : Applicant) (held : Option C) → is_quiet a ≡ true → Owes a r.content held false
+      → held ≡ declared_in (Some (with_applicant a r))
   quiet-held_by r Vo held q h = h
   quiet-held_by r Qa held q (inl h) = h
   quiet-held_by r Qa held q (inr h) = cc

@@ -34,18 +34,22 @@ module _ {K C : Type 0} {cmp : K → K → Ordering} (o : IsTotalOrder cmp) wher
 
   own_by : (leave : Cs) (q : K) (r : Option (Row K C)) (e : MrpEvent × K × C) (events : List (MrpEvent × K × C)) (b : Bool) → same cmp e.1 q ≡ b
       → ((x : Option (Row K C)) → fold (row_hearing cmp leave q) x events ≡ fold (row_hearing cmp leave q) x (filter (own q) events))
-      → fold (row_hearing cmp leave q) (if b then after_hear e.0 e.1 e.2 leave r else r) events ≡ fold (row_hearing cmp leave q) r (if b then e ∷ filter (own q) events else filter (own q) events)
+      → fold (row_hearing cmp leave q) (if b then after_hear e.0 e.1 e.2 leave r else r) events
+      ≡ fold (row_hearing cmp leave q) r (if b then e ∷ filter (own q) events else filter (own q) events)
   own_by leave q r e events true at later =
       later (after_hear e.0 e.1 e.2 leave r)
       ∙ ap (λ (b : Bool). fold (row_hearing cmp leave q) (if b then after_hear e.0 e.1 e.2 leave r else r) (filter (own q) events)) (sym at)
   own_by leave q r e events false at later = later r
 
-  hears_own : (leave : Cs) (q : K) (events : List (MrpEvent × K × C)) (r : Option (Row K C)) → fold (row_hearing cmp leave q) r events ≡ fold (row_hearing cmp leave q) r (filter (own q) events)
+  hears_own : (leave : Cs) (q : K) (events : List (MrpEvent × K × C)) (r : Option (Row K C))
+      → fold (row_hearing cmp leave q) r events ≡ fold (row_hearing cmp leave q) r (filter (own q) events)
   hears_own leave q [] r = refl
   hears_own leave q (e ∷ events) r = own_by leave q r e events (same cmp e.1 q) refl (hears_own leave q events)
 
   -- a stable order keeps the events of each key
-  own-kept : (events sorted : List (MrpEvent × K × C)) (q : K) → length sorted ≡ length events → IsStableByKey (λ (e : MrpEvent × K × C). e.1) cmp events sorted → filter (own q) sorted ≡ filter (own q) events
+  own-kept : (events sorted : List (MrpEvent × K × C)) (q : K) → length sorted ≡ length events
+      → IsStableByKey (λ (e : MrpEvent × K × C). e.1) cmp events sorted
+      → filter (own q) sorted ≡ filter (own q) events
   own-kept [] sorted q count stable = ap (filter (own q)) (no_more sorted count)
   own-kept (e ∷ events) sorted q count stable =
       let of_q : MrpEvent × K × C = (e.0, q, e.2) in
@@ -54,8 +58,10 @@ module _ {K C : Type 0} {cmp : K → K → Ordering} (o : IsTotalOrder cmp) wher
       sym (filter-along tie (own q) alike sorted) ∙ (stable of_q ∙ filter-along tie (own q) alike (e ∷ events))
 
   -- so what they make of the row of a key is the same, also of events that were moved from where they stood
-  pub heard-by_key : (events before sorted : List (MrpEvent × K × C)) → before ≡ events → IsPermutation before sorted → IsStableByKey (λ (e : MrpEvent × K × C). e.1) cmp before sorted
-      → (leave : Cs) (leave_all : Bool) (k : K) (r : Option (Row K C)) → row_after_receive cmp leave leave_all sorted k r ≡ row_after_receive cmp leave leave_all events k r
+  pub heard-by_key : (events before sorted : List (MrpEvent × K × C)) → before ≡ events → IsPermutation before sorted
+      → IsStableByKey (λ (e : MrpEvent × K × C). e.1) cmp before sorted
+      → (leave : Cs) (leave_all : Bool) (k : K) (r : Option (Row K C))
+      → row_after_receive cmp leave leave_all sorted k r ≡ row_after_receive cmp leave leave_all events k r
   heard-by_key events before sorted is moved stable leave leave_all k r =
       let start : Option (Row K C) = if leave_all then option_map (leave_all_row leave) r else r in
       hears_own leave k sorted start

@@ -46,7 +46,8 @@ module _ {K C : Type 0} (cmp : K → K → Ordering) (k : K) where
   events-settle : (events : List (MrpEvent × K × C)) → Settles (λ held. fold (held_hearing cmp k) held events)
   events-settle [] = inl (λ x. refl)
   events-settle (e ∷ events) =
-      settles-then (λ held. held_hearing cmp k held e) (λ held. fold (held_hearing cmp k) held events) (hearing-settles_by e (same cmp e.1 k)) (events-settle events)
+      settles-then (λ held. held_hearing cmp k held e) (λ held. fold (held_hearing cmp k) held events)
+      (hearing-settles_by e (same cmp e.1 k)) (events-settle events)
 
   messages-settle_by : (events : List (MrpEvent × K × C)) (b : Bool) → Settles (λ held. fold (held_hearing cmp k) (if b then None else held) events)
   messages-settle_by events true = inr (λ x y. refl)
@@ -68,12 +69,15 @@ module _ {K C : Type 0} (cmp : K → K → Ordering) (k : K) where
   hears-append held (m ∷ front) back = hears-append (held_after cmp k held m) front back
 
   -- a repeat in place changes nothing of what will be held
-  pub hears-twice : (held : Option C) (front back : List (Messages K C)) (m : Messages K C) → hears cmp k held (front ++ (m ∷ back)) ≡ hears cmp k held (front ++ (m ∷ (m ∷ back)))
+  pub hears-twice : (held : Option C) (front back : List (Messages K C)) (m : Messages K C)
+      → hears cmp k held (front ++ (m ∷ back)) ≡ hears cmp k held (front ++ (m ∷ (m ∷ back)))
   hears-twice held [] back m = ap (λ x. hears cmp k x back) (sym (settles-twice (λ held. held_after cmp k held m) (messages-settle m) held))
   hears-twice held (x ∷ front) back m = hears-twice (held_after cmp k held x) front back m
 
   -- nor does a list of messages that says nothing
-  pub hears-nothing : (held : Option C) (front back : List (Messages K C)) → hears cmp k held (front ++ (record { leave_all = false; events = [] } ∷ back)) ≡ hears cmp k held (front ++ back)
+  pub hears-nothing : (held : Option C) (front back : List (Messages K C))
+      → hears cmp k held (front ++ (record { leave_all = false; events = [] } ∷ back))
+      ≡ hears cmp k held (front ++ back)
   hears-nothing held [] back = refl
   hears-nothing held (x ∷ front) back = hears-nothing (held_after cmp k held x) front back
 
@@ -115,6 +119,7 @@ module _ {K C : Type 0} where
   leave_all-twice [] back m = or-twice m.leave_all (has_leave_all back)
   leave_all-twice (x ∷ front) back m = or-same_right x.leave_all _ _ (leave_all-twice front back m)
 
-  pub leave_all-nothing : (front back : List (Messages K C)) → has_leave_all (front ++ (record { leave_all = false; events = [] } ∷ back)) ≡ has_leave_all (front ++ back)
+  pub leave_all-nothing : (front back : List (Messages K C))
+      → has_leave_all (front ++ (record { leave_all = false; events = [] } ∷ back)) ≡ has_leave_all (front ++ back)
   leave_all-nothing [] back = refl
   leave_all-nothing (x ∷ front) back = or-same_right x.leave_all _ _ (leave_all-nothing front back)

@@ -1,6 +1,6 @@
 pub mod Changed
 pub mod Changes
-pub mod CutLemmas
+pub mod SendingLimitLemmas
 pub mod DeclarationLemmas
 pub mod Duties
 pub mod DutyRows
@@ -8,6 +8,7 @@ pub mod EachKey
 pub mod Exits
 pub mod Flying
 pub mod Hearings
+pub mod Idle
 pub mod EventOrder
 pub mod Links
 pub mod Lookups

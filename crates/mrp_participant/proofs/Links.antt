@@ -16,7 +16,9 @@ use Rattle.mrp_participant.proofs.Sendings.{sent-keeps}
 use Rattle.mrp_participant.proofs.Flying.{or-true_right, or-true_left}
 
 -- what a repeat behind its original keeps, wherever it stands, the list with one element twice has
-pub repeated-keeps : {X : Type 0} (P : List X → Type 0) → ((front back : List X) (x : X) → P (front ++ (x ∷ back)) → P (front ++ (x ∷ (x ∷ back)))) → (i : ℕ) (front xs : List X) → P (front ++ xs) → P (front ++ with_repeat i xs)
+pub repeated-keeps : {X : Type 0} (P : List X → Type 0)
+    → ((front back : List X) (x : X) → P (front ++ (x ∷ back)) → P (front ++ (x ∷ (x ∷ back))))
+    → (i : ℕ) (front xs : List X) → P (front ++ xs) → P (front ++ with_repeat i xs)
 repeated-keeps P step i front [] h = h
 repeated-keeps P step zero front (x ∷ xs) h = step front xs x h
 repeated-keeps P step (suc i) front (x ∷ xs) h =
@@ -30,12 +32,20 @@ module _ {K C : Type 0} where
       record { near_rows = met.far_rows; far_rows = met.near_rows; near_duty = met.far_duty; far_duty = met.near_duty }
 
   -- a call of the near participant
-  near-met : (cmp : K → K → Ordering) (l : Link K C) (s : State K C) → AreRows cmp s.rows → IsDutyMet cmp s l.far l.sent l.coming → IsDutyMet cmp l.far s l.coming l.sent → AreDutiesMet cmp l → AreDutiesMet cmp (with_near s l)
+  near-met : (cmp : K → K → Ordering) (l : Link K C) (s : State K C) → AreRows cmp s.rows
+      → IsDutyMet cmp s l.far l.sent l.coming → IsDutyMet cmp l.far s l.coming l.sent → AreDutiesMet cmp l
+      → AreDutiesMet cmp (with_near s l)
   near-met cmp l s rows own far met = record { near_rows = rows; far_rows = met.far_rows; near_duty = own; far_duty = far }
 
   -- ---- in flight
 
-  lost-met : (cmp : K → K → Ordering) (l : Link K C) (sent : List (Messages K C)) → AreDutiesMet cmp l → AreDutiesMet cmp (record { near = after_spoiling l.near; far = after_spoiling l.far; sent = sent; coming = l.coming })
+  lost-met : (cmp : K → K → Ordering) (l : Link K C) (sent : List (Messages K C)) → AreDutiesMet cmp l
+      → AreDutiesMet cmp (record {
+        near = after_spoiling l.near;
+        far = after_spoiling l.far;
+        sent = sent;
+        coming = l.coming;
+      })
   lost-met cmp l sent met =
       record {
         near_rows = met.near_rows;
@@ -58,7 +68,8 @@ module _ {K C : Type 0} where
       }
 
 module _ {K C : Type 0} {cmp : K → K → Ordering} (o : IsTotalOrder cmp) where
-  receiving-met : (now : Cs) (l : Link K C) (coming : List (Messages K C)) → l.coming ≡ coming → AreDutiesMet cmp l → AreDutiesMet cmp (after_receiving cmp now coming l)
+  receiving-met : (now : Cs) (l : Link K C) (coming : List (Messages K C)) → l.coming ≡ coming → AreDutiesMet cmp l
+      → AreDutiesMet cmp (after_receiving cmp now coming l)
   receiving-met now l [] is met = met
   receiving-met now l (m ∷ coming) is met =
       record {
@@ -69,11 +80,16 @@ module _ {K C : Type 0} {cmp : K → K → Ordering} (o : IsTotalOrder cmp) wher
       }
 
   module _ (base : ℕ) (octets : C → ℕ) where
-    sending-met_by : (now : Cs) (l : Link K C) (b : Bool) → AreDutiesMet cmp l → AreDutiesMet cmp (if b then l else record l { near = sent_state base octets cmp now l.near; sent = l.sent ++ (sent_messages base octets cmp now l.near ∷ []) })
+    sending-met_by : (now : Cs) (l : Link K C) (b : Bool) → AreDutiesMet cmp l
+        → AreDutiesMet cmp (if b then l else record l {
+          near = sent_state base octets cmp now l.near;
+          sent = l.sent ++ (sent_messages base octets cmp now l.near ∷ []);
+        })
     sending-met_by now l true met = met
     sending-met_by now l false met =
         record {
-          near_rows = AreRows-filter_mapped cmp _ (sent-keeps (is_active l.near.leave_all) (takes base octets cmp l.near) (after now l.near.leave_time)) l.near.rows met.near_rows;
+          near_rows = AreRows-filter_mapped cmp _ (sent-keeps (is_active l.near.leave_all)
+              (takes base octets cmp l.near) (after now l.near.leave_time)) l.near.rows met.near_rows;
           far_rows = met.far_rows;
           near_duty = own-send o base octets now l.near l.far l.sent l.coming met.near_rows met.near_duty;
           far_duty = far-send o base octets now l.near l.far l.sent l.coming met.near_rows met.far_duty;
@@ -121,7 +137,9 @@ module _ {K C : Type 0} {cmp : K → K → Ordering} (o : IsTotalOrder cmp) wher
       events-met (e ∷ events) l met = events-met events (after_event base octets cmp eq l e) (event-met l e met)
 
 module _ {K C : Type 0} (cmp : K → K → Ordering) where
-  pub still-far : (l : Link K C) → AreDutiesMet cmp l → l.sent ≡ [] → l.coming ≡ [] → is_still l.near ≡ true → is_still l.far ≡ true → l.near.sound ≡ true → (k : K) → registered_in (find cmp k l.far.rows) ≡ declared_in (find cmp k l.near.rows)
+  pub still-far : (l : Link K C) → AreDutiesMet cmp l → l.sent ≡ [] → l.coming ≡ [] → is_still l.near ≡ true
+      → is_still l.far ≡ true → l.near.sound ≡ true → (k : K)
+      → registered_in (find cmp k l.far.rows) ≡ declared_in (find cmp k l.near.rows)
   still-far l met no_sent no_coming near_still far_still sound =
       still-held cmp l.near l.far sound near_still far_still
       (subst (λ sent. IsDutyMet cmp l.near l.far sent []) no_sent (subst (λ coming. IsDutyMet cmp l.near l.far l.sent coming) no_coming met.near_duty))
@@ -134,11 +152,19 @@ active-speaks true b h = refl
 active-speaks false b h = cc
 
 module _ {K C : Type 0} {cmp : K → K → Ordering} (o : IsTotalOrder cmp) (base : ℕ) (octets : C → ℕ) where
-  sending-near : (now : Cs) (l : Link K C) (b : Bool) → l.near.sound ≡ true → (if b then l else record l { near = sent_state base octets cmp now l.near; sent = l.sent ++ (sent_messages base octets cmp now l.near ∷ []) }).near.sound ≡ true
+  sending-near : (now : Cs) (l : Link K C) (b : Bool) → l.near.sound ≡ true
+      → (if b then l else record l {
+        near = sent_state base octets cmp now l.near;
+        sent = l.sent ++ (sent_messages base octets cmp now l.near ∷ []);
+      }).near.sound ≡ true
   sending-near now l true h = h
   sending-near now l false h = or-true_right (is_active l.near.leave_all) l.near.sound h
 
-  sending-far : (now : Cs) (l : Link K C) (b : Bool) → l.far.sound ≡ true → (if b then l else record l { near = sent_state base octets cmp now l.near; sent = l.sent ++ (sent_messages base octets cmp now l.near ∷ []) }).far.sound ≡ true
+  sending-far : (now : Cs) (l : Link K C) (b : Bool) → l.far.sound ≡ true
+      → (if b then l else record l {
+        near = sent_state base octets cmp now l.near;
+        sent = l.sent ++ (sent_messages base octets cmp now l.near ∷ []);
+      }).far.sound ≡ true
   sending-far now l true h = h
   sending-far now l false h = h
 
@@ -152,7 +178,10 @@ module _ {K C : Type 0} {cmp : K → K → Ordering} (o : IsTotalOrder cmp) (bas
 
   pub leave_all-sound_after : (now : Cs) (l : Link K C) → is_active l.near.leave_all ≡ true → (after_sending base octets cmp now l).near.sound ≡ true
   leave_all-sound_after now l on =
-      subst (λ b. (if b then l else record l { near = sent_state base octets cmp now l.near; sent = l.sent ++ (sent_messages base octets cmp now l.near ∷ []) }).near.sound ≡ true)
+      subst (λ b. (if b then l else record l {
+        near = sent_state base octets cmp now l.near;
+        sent = l.sent ++ (sent_messages base octets cmp now l.near ∷ []);
+      }).near.sound ≡ true)
       (sym (active-speaks (is_active l.near.leave_all) (none_tried l.near.rows) on)) (or-true_left (is_active l.near.leave_all) l.near.sound on)
 
   module _ (eq : C → C → Bool) where
@@ -180,10 +209,12 @@ module _ {K C : Type 0} {cmp : K → K → Ordering} (o : IsTotalOrder cmp) (bas
     end-far_sound (Loses i) l kept h = cc
     end-far_sound (Repeats i) l kept h = h
 
-    pub event-near_sound : (l : Link K C) (e : LinkEvent K C) → is_loss (end_event_of e) ≡ false → l.near.sound ≡ true → (after_event base octets cmp eq l e).near.sound ≡ true
+    pub event-near_sound : (l : Link K C) (e : LinkEvent K C) → is_loss (end_event_of e) ≡ false → l.near.sound ≡ true
+        → (after_event base octets cmp eq l e).near.sound ≡ true
     event-near_sound l (AtNear e) kept h = end-near_sound e l kept h
     event-near_sound l (AtFar e) kept h = end-far_sound e (other_view l) kept h
 
-    pub event-far_sound : (l : Link K C) (e : LinkEvent K C) → is_loss (end_event_of e) ≡ false → l.far.sound ≡ true → (after_event base octets cmp eq l e).far.sound ≡ true
+    pub event-far_sound : (l : Link K C) (e : LinkEvent K C) → is_loss (end_event_of e) ≡ false → l.far.sound ≡ true
+        → (after_event base octets cmp eq l e).far.sound ≡ true
     event-far_sound l (AtNear e) kept h = end-far_sound e l kept h
     event-far_sound l (AtFar e) kept h = end-near_sound e (other_view l) kept h

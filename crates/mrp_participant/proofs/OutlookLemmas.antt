@@ -50,7 +50,8 @@ never_at_by : (t leave : Cs) (b : Bool) → (b ≡ true → t.0 < leave.0) → (
 never_at_by t leave false below = refl
 never_at_by t leave true below = let less = below refl in grind (arith, nat_tests)
 
-counted_by : (p : Cs × ℕ) (t : Cs) (before same : Bool) → nat_lt 0 p.1 ≡ true → nat_lt 0 (if before then (t, 1) else (if same then (p.0, p.1 + 1) else p)).1 ≡ true
+counted_by : (p : Cs × ℕ) (t : Cs) (before same : Bool) → nat_lt 0 p.1 ≡ true
+    → nat_lt 0 (if before then (t, 1) else (if same then (p.0, p.1 + 1) else p)).1 ≡ true
 counted_by p t true same h = refl
 counted_by p t false true h = grind (arith, nat_tests)
 counted_by p t false false h = h
@@ -63,13 +64,15 @@ one-more (Some p) t true h = counted_by p t (nat_lt t.0 p.0.0) (t.0 == p.0.0) h
 module _ {K C : Type 0} where
   -- ---- one row less
 
-  first-less : (first : Option (Cs × ℕ)) (xs : List (Row K C)) (r : Row K C) (ys : List (Row K C)) → IsFirstLeave first (xs ++ r ∷ ys) → IsFirstLeave (first_without first r) (xs ++ ys) × IsCounted first r
+  first-less : (first : Option (Cs × ℕ)) (xs : List (Row K C)) (r : Row K C) (ys : List (Row K C))
+      → IsFirstLeave first (xs ++ r ∷ ys) → IsFirstLeave (first_without first r) (xs ++ ys) × IsCounted first r
   first-less None xs r ys h = ((each-others (λ q. is_leaving q.registrar ≡ false) xs r ys h).1, tt)
   first-less (Some p) xs r ys h =
       let all = count-among (ends_at p.0) xs r ys in
       ((omega (arith, h.0, all), (each-others (λ (q : Row K C). is_leaving q.registrar ≡ true → p.0.0 ≤ q.leave.0) xs r ys h.1).1), omega (arith, h.0, all))
 
-  tells-less : (o : Outlook) (xs : List (Row K C)) (r : Row K C) (ys : List (Row K C)) → Tells o (xs ++ r ∷ ys) → Tells (outlook_without o r) (xs ++ ys) × Counts o r
+  tells-less : (o : Outlook) (xs : List (Row K C)) (r : Row K C) (ys : List (Row K C)) → Tells o (xs ++ r ∷ ys)
+      → Tells (outlook_without o r) (xs ++ ys) × Counts o r
   tells-less o xs r ys h =
       let first = first-less o.first_leave xs r ys h.first in
       let all = count-among (λ q. is_tried false q) xs r ys in
@@ -78,14 +81,19 @@ module _ {K C : Type 0} where
   -- ---- one row more
 
   -- where no timer ends before a moment, none ends at an earlier one
-  never_at : (t first : Cs) (rows : List (Row K C)) → t.0 < first.0 → AllByRecursion (λ (q : Row K C). is_leaving q.registrar ≡ true → first.0 ≤ q.leave.0) rows → count_by (ends_at t) rows ≡ 0
+  never_at : (t first : Cs) (rows : List (Row K C)) → t.0 < first.0
+      → AllByRecursion (λ (q : Row K C). is_leaving q.registrar ≡ true → first.0 ≤ q.leave.0) rows
+      → count_by (ends_at t) rows ≡ 0
   never_at t first rows less h =
-      count-none (ends_at t) rows (Each-map _ _ (λ q from. never_at_by t q.leave (is_leaving q.registrar) (λ leaving. let after = from leaving in omega arith)) rows h)
+      count-none (ends_at t) rows (Each-map _ _ (λ q from. never_at_by t q.leave (is_leaving q.registrar)
+      (λ leaving. let after = from leaving in omega arith)) rows h)
 
   ends_itself : (r : Row K C) → is_leaving r.registrar ≡ true → ends_at r.leave r ≡ true
   ends_itself r e = ap (λ b. b && (r.leave.0 == r.leave.0)) e ∙ grind (arith, nat_tests)
 
-  earlier_by : (p : Cs × ℕ) (xs : List (Row K C)) (r : Row K C) (ys : List (Row K C)) (before same : Bool) → is_leaving r.registrar ≡ true → nat_lt r.leave.0 p.0.0 ≡ before → (r.leave.0 == p.0.0) ≡ same → IsFirstLeave (Some p) (xs ++ ys)
+  earlier_by : (p : Cs × ℕ) (xs : List (Row K C)) (r : Row K C) (ys : List (Row K C)) (before same : Bool)
+      → is_leaving r.registrar ≡ true → nat_lt r.leave.0 p.0.0 ≡ before → (r.leave.0 == p.0.0) ≡ same
+      → IsFirstLeave (Some p) (xs ++ ys)
       → IsFirstLeave (Some (if before then (r.leave, 1) else (if same then (p.0, p.1 + 1) else p))) (xs ++ r ∷ ys)
   earlier_by p xs r ys true same e lt eq h =
       let less : r.leave.0 < p.0.0 = grind (arith, nat_tests) in (
@@ -101,12 +109,23 @@ module _ {K C : Type 0} where
       let ends : ends_at p.0 r ≡ false = never_at_by p.0 r.leave (is_leaving r.registrar) (λ leaving. later) in
       (omega (arith, h.0, count-among (ends_at p.0) xs r ys, ap {B = ℕ} (λ b. cond b 1 0) ends), each-among _ xs r ys (λ leaving. omega arith) h.1)
 
-  first-more_by : (first : Option (Cs × ℕ)) (xs : List (Row K C)) (r : Row K C) (ys : List (Row K C)) (b : Bool) → is_leaving r.registrar ≡ b → IsFirstLeave first (xs ++ ys) → IsFirstLeave (if b then Some (first_with first r.leave) else first) (xs ++ r ∷ ys)
+  first-more_by : (first : Option (Cs × ℕ)) (xs : List (Row K C)) (r : Row K C) (ys : List (Row K C)) (b : Bool)
+      → is_leaving r.registrar ≡ b → IsFirstLeave first (xs ++ ys)
+      → IsFirstLeave (if b then Some (first_with first r.leave) else first) (xs ++ r ∷ ys)
   first-more_by None xs r ys false e h = each-among _ xs r ys e h
-  first-more_by (Some p) xs r ys false e h =
-      (omega (arith, h.0, count-among (ends_at p.0) xs r ys, ap {B = ℕ} (λ b. cond (b && (p.0.0 == r.leave.0)) 1 0) e), each-among _ xs r ys (λ leaving. absurd cc) h.1)
+  first-more_by (Some p) xs r ys false e h = (
+    omega (
+      arith,
+      h.0,
+      count-among (ends_at p.0) xs r ys,
+      ap {B = ℕ} (λ b. cond (b && (p.0.0 == r.leave.0)) 1 0) e,
+    ),
+    each-among _ xs r ys (λ leaving. absurd cc) h.1,
+  )
   first-more_by None xs r ys true e h =
-      let none : count_by (ends_at r.leave) (xs ++ ys) ≡ 0 = count-none (ends_at r.leave) (xs ++ ys) (Each-map _ _ (λ q still. ap (λ b. b && (r.leave.0 == q.leave.0)) still) (xs ++ ys) h) in (
+      let none : count_by (ends_at r.leave) (xs ++ ys)
+      ≡ 0 = count-none (ends_at r.leave) (xs ++ ys)
+      (Each-map _ _ (λ q still. ap (λ b. b && (r.leave.0 == q.leave.0)) still) (xs ++ ys) h) in (
         omega (arith, count-among (ends_at r.leave) xs r ys, none, ap {B = ℕ} (λ b. cond b 1 0) (ends_itself r e)),
         each-among _ xs r ys (λ leaving. omega arith) (Each-map _ _ (λ q still leaving. absurd cc) (xs ++ ys) h),
       )
@@ -142,46 +161,59 @@ module _ {K C : Type 0} where
   parts-at rows at r below is =
       sym (take-append-drop at rows) ∙ ap (λ l. take at rows ++ l) (drop-cons rows at r below ∙ ap (λ x. x ∷ drop (suc at) rows) (sym is))
 
-  pub without-at : (o : Outlook) (rows : List (Row K C)) (at : ℕ) (r : Row K C) → at < length rows → r ≡ get_or rows at r → Tells o rows → Tells (outlook_without o r) (take at rows ++ drop (suc at) rows) × Counts o r
+  pub without-at : (o : Outlook) (rows : List (Row K C)) (at : ℕ) (r : Row K C) → at < length rows
+      → r ≡ get_or rows at r → Tells o rows → Tells (outlook_without o r) (take at rows ++ drop (suc at) rows)
+      × Counts o r
   without-at o rows at r below is h = tells-less o (take at rows) r (drop (suc at) rows) (subst (Tells o) (parts-at rows at r below is) h)
 
   -- one row less is one less of all
-  fewer-at : (rows : List (Row K C)) (at : ℕ) (r : Row K C) → at < length rows → r ≡ get_or rows at r → length (take at rows ++ drop (suc at) rows) + 1 ≡ length rows
+  fewer-at : (rows : List (Row K C)) (at : ℕ) (r : Row K C) → at < length rows → r ≡ get_or rows at r
+      → length (take at rows ++ drop (suc at) rows) + 1 ≡ length rows
   fewer-at rows at r below is = sym (length-among (take at rows) r (drop (suc at) rows)) ∙ ap length (sym (parts-at rows at r below is))
 
   -- there is room for a row where one was taken away
-  pub room-at : (o others : Outlook) (rows : List (Row K C)) (at : ℕ) (r : Row K C) → at < length rows → r ≡ get_or rows at r → length rows < 2 ^ 64 → Tells o rows → others ≡ outlook_without o r → HasRoom others
+  pub room-at : (o others : Outlook) (rows : List (Row K C)) (at : ℕ) (r : Row K C) → at < length rows
+      → r ≡ get_or rows at r → length rows < 2 ^ 64 → Tells o rows → others ≡ outlook_without o r → HasRoom others
   room-at o others rows at r below is few h less =
-      subst HasRoom (sym less) (room-for (outlook_without o r) (take at rows ++ drop (suc at) rows) (without-at o rows at r below is h).0 (omega (arith, few, fewer-at rows at r below is)))
+      subst HasRoom (sym less) (room-for (outlook_without o r) (take at rows ++ drop (suc at) rows)
+      (without-at o rows at r below is h).0 (omega (arith, few, fewer-at rows at r below is)))
 
   -- the outlook where a row stands in the place of another
-  pub replaced-some : (o others all : Outlook) (rows new : List (Row K C)) (at : ℕ) (r q : Row K C) → at < length rows → r ≡ get_or rows at r → Tells o rows → others ≡ outlook_without o r → all ≡ outlook_with others q → new ≡ take at rows ++ q ∷ drop (suc at) rows → Tells all new
+  pub replaced-some : (o others all : Outlook) (rows new : List (Row K C)) (at : ℕ) (r q : Row K C) → at < length rows
+      → r ≡ get_or rows at r → Tells o rows → others ≡ outlook_without o r → all ≡ outlook_with others q
+      → new ≡ take at rows ++ q ∷ drop (suc at) rows → Tells all new
   replaced-some o others all rows new at r q below is h less more new_is =
       subst (λ l. Tells all l) (sym new_is)
       (subst (λ x. Tells x (take at rows ++ q ∷ drop (suc at) rows)) (sym (more ∙ ap (λ x. outlook_with x q) less))
       (tells-more (outlook_without o r) (take at rows) q (drop (suc at) rows) (without-at o rows at r below is h).0))
 
   -- the outlook where a row was taken away
-  pub replaced-none : (o others all : Outlook) (rows new : List (Row K C)) (at : ℕ) (r : Row K C) → at < length rows → r ≡ get_or rows at r → Tells o rows → others ≡ outlook_without o r → all ≡ others → new ≡ take at rows ++ drop (suc at) rows → Tells all new
+  pub replaced-none : (o others all : Outlook) (rows new : List (Row K C)) (at : ℕ) (r : Row K C) → at < length rows
+      → r ≡ get_or rows at r → Tells o rows → others ≡ outlook_without o r → all ≡ others
+      → new ≡ take at rows ++ drop (suc at) rows → Tells all new
   replaced-none o others all rows new at r below is h less same new_is =
       subst (λ l. Tells all l) (sym new_is)
       (subst (λ x. Tells x (take at rows ++ drop (suc at) rows)) (sym (same ∙ less)) (without-at o rows at r below is h).0)
 
   -- the outlook with a row put between others
-  pub filled : (o later : Outlook) (rows new : List (Row K C)) (at : ℕ) (q : Row K C) → IsOutlook o rows → later ≡ outlook_with o q → new ≡ take at rows ++ q ∷ drop at rows → IsOutlook later new
+  pub filled : (o later : Outlook) (rows new : List (Row K C)) (at : ℕ) (q : Row K C) → IsOutlook o rows
+      → later ≡ outlook_with o q → new ≡ take at rows ++ q ∷ drop at rows → IsOutlook later new
   filled o later rows new at q h more new_is =
       subst (λ l. IsOutlook later l) (sym new_is)
       (subst (λ x. IsOutlook x (take at rows ++ q ∷ drop at rows)) (sym more)
       (outlook-more o (take at rows) q (drop at rows) (subst (IsOutlook o) (sym (take-append-drop at rows)) h)))
 
   -- there is room for a row that was put between others
-  pub room-filled : (o : Outlook) (rows new : List (Row K C)) (at : ℕ) (q : Row K C) → Tells o rows → length new < 2 ^ 64 → new ≡ take at rows ++ q ∷ drop at rows → HasRoom o
+  pub room-filled : (o : Outlook) (rows new : List (Row K C)) (at : ℕ) (q : Row K C) → Tells o rows
+      → length new < 2 ^ 64 → new ≡ take at rows ++ q ∷ drop at rows → HasRoom o
   room-filled o rows new at q h few new_is =
       room-for o rows h (omega (arith, few, ap length new_is, length-among (take at rows) q (drop at rows), ap length (take-append-drop at rows)))
 
   -- ---- one walk over the rows
 
-  pub walk-step : (o later : Outlook) (rows : List (Row K C)) (i : ℕ) (r : Row K C) → i < length rows → r ≡ get_or rows i r → later ≡ outlook_with o r → IsOutlook o (take i rows) → IsOutlook later (take (i + 1) rows)
+  pub walk-step : (o later : Outlook) (rows : List (Row K C)) (i : ℕ) (r : Row K C) → i < length rows
+      → r ≡ get_or rows i r → later ≡ outlook_with o r → IsOutlook o (take i rows)
+      → IsOutlook later (take (i + 1) rows)
   walk-step o later rows i r below is step h =
       subst (λ l. IsOutlook later l) (sym (take_more rows i r below ∙ ap (λ x. take i rows ++ x ∷ []) (sym is)))
       (subst (λ x. IsOutlook x (take i rows ++ r ∷ [])) (sym step)
@@ -263,17 +295,20 @@ module _ {K C : Type 0} where
   first-still None rows h one = sym (still-where rows h)
   first-still (Some p) rows h one = let some : 0 < count_by (ends_at p.0) rows = grind (arith, nat_tests) in sym (some-leaving p.0 rows some)
 
-  due-at : (p : Cs × ℕ) (now : ℕ) (rows : List (Row K C)) (b : Bool) → nat_le p.0.0 now ≡ b → IsFirstLeave (Some p) rows → nat_lt 0 p.1 ≡ true → b ≡ list_any (leave_is_due now) rows
+  due-at : (p : Cs × ℕ) (now : ℕ) (rows : List (Row K C)) (b : Bool) → nat_le p.0.0 now ≡ b
+      → IsFirstLeave (Some p) rows → nat_lt 0 p.1 ≡ true → b ≡ list_any (leave_is_due now) rows
   due-at p now rows true by h one =
       let some : 0 < count_by (ends_at p.0) rows = grind (arith, nat_tests) in
       let due : p.0.0 ≤ now = grind (arith, nat_tests) in
       sym (some-due p.0 now rows due some)
   due-at p now rows false by h one =
       let later : now < p.0.0 = grind (arith, nat_tests) in
-      sym (none-due now rows (Each-map _ _ (λ q from. none-due_by q.leave now (is_leaving q.registrar) (λ leaving. let after = from leaving in omega (arith, later, after))) rows h.1))
+      sym (none-due now rows (Each-map _ _ (λ q from. none-due_by q.leave now (is_leaving q.registrar)
+      (λ leaving. let after = from leaving in omega (arith, later, after))) rows h.1))
 
   -- a leave timer is due where the first is
-  pub due-says : (now : ℕ) (first : Option (Cs × ℕ)) (rows : List (Row K C)) → IsFirstLeave first rows → has_one first ≡ true → is_by now first ≡ list_any (leave_is_due now) rows
+  pub due-says : (now : ℕ) (first : Option (Cs × ℕ)) (rows : List (Row K C)) → IsFirstLeave first rows
+      → has_one first ≡ true → is_by now first ≡ list_any (leave_is_due now) rows
   due-says now None rows h one = sym (none-due now rows (Each-map _ _ (λ q still. ap (λ b. b && nat_le q.leave.0 now) still) rows h))
   due-says now (Some p) rows h one = due-at p now rows (nat_le p.0.0 now) refl h one
 

@@ -12,7 +12,7 @@ use Rattle.mrp_participant.specs.declared.row.Row.{Row}
 use Rattle.mrp_participant.specs.Lookup.{key_of, find, put, IsRowAt, IsGapAt}
 use Rattle.mrp_participant.specs.Row.{leave_is_due}
 use Rattle.mrp_participant.specs.Sending.{round, rows_of_round}
-use Rattle.mrp_participant.specs.Cut.{cut_at, first_cut}
+use Rattle.mrp_participant.specs.SendingLimit.{limit_at, first_limit}
 
 module _ {K C : Type 0} {cmp : K → K → Ordering} {k : K} (rows slice : List (Row K C)) (i : ℕ) (all : slice ≡ rows) where
   -- the key's row stands at the place
@@ -23,7 +23,9 @@ module _ {K C : Type 0} {cmp : K → K → Ordering} {k : K} (rows slice : List 
   absent-at_gap at = ap (find cmp k) (sym all) ∙ at.absent
 
   -- another row, or none, in the place of the key's row
-  pub put-at_row : (f : Option (Row K C) → Option (Row K C)) (new : List (Row K C)) (r : Row K C) (changed : Option (Row K C)) → IsRowAt cmp k slice i → r ≡ get_or rows i r → changed ≡ f (Some r) → new ≡ take i rows ++ cons_option changed (drop (suc i) rows) → new ≡ put cmp k (f (find cmp k rows)) rows
+  pub put-at_row : (f : Option (Row K C) → Option (Row K C)) (new : List (Row K C)) (r : Row K C)
+      (changed : Option (Row K C)) → IsRowAt cmp k slice i → r ≡ get_or rows i r → changed ≡ f (Some r)
+      → new ≡ take i rows ++ cons_option changed (drop (suc i) rows) → new ≡ put cmp k (f (find cmp k rows)) rows
   put-at_row f new r changed at is made new_is =
       new_is
       ∙ ap (λ l. take i l ++ cons_option changed (drop (suc i) l)) (sym all)
@@ -32,7 +34,9 @@ module _ {K C : Type 0} {cmp : K → K → Ordering} {k : K} (rows slice : List 
       ∙ ap (λ x. put cmp k x rows) (made ∙ ap f (sym (found-at_row r at is)))
 
   -- a row, or none, in the gap
-  pub put-at_gap : (f : Option (Row K C) → Option (Row K C)) (new : List (Row K C)) (changed : Option (Row K C)) → IsGapAt cmp k slice i → changed ≡ f None → new ≡ take i rows ++ cons_option changed (drop i rows) → new ≡ put cmp k (f (find cmp k rows)) rows
+  pub put-at_gap : (f : Option (Row K C) → Option (Row K C)) (new : List (Row K C)) (changed : Option (Row K C))
+      → IsGapAt cmp k slice i → changed ≡ f None → new ≡ take i rows ++ cons_option changed (drop i rows)
+      → new ≡ put cmp k (f (find cmp k rows)) rows
   put-at_gap f new changed at made new_is =
       new_is
       ∙ ap (λ l. take i l ++ cons_option changed (drop i l)) (sym all)
@@ -74,7 +78,9 @@ module _ {X : Type 0} (p : X → Bool) (xs : List X) (i : ℕ) (x : X) (below : 
   pub all-front : list_all p (drop i xs) ≡ (p x && list_all p (drop (i + 1) xs))
   all-front = at_drop_more (list_all p) xs i x below ∙ ap (λ y. list_all p (y ∷ drop (i + 1) xs)) (sym is)
 
-module _ {X Y : Type 0} (f : X → Y) (p : X → Bool) (xs : List X) (whole done : List Y) (i : ℕ) (x : X) (below : i < length xs) (is : x ≡ get_or xs i x) (so_far : whole ≡ done ++ map f (filter p (drop i xs))) where
+module _ {X Y : Type 0} (f : X → Y) (p : X
+    → Bool) (xs : List X) (whole done : List Y) (i : ℕ) (x : X) (below : i < length xs) (is : x ≡ get_or xs i x)
+    (so_far : whole ≡ done ++ map f (filter p (drop i xs))) where
   pub kept_more : (b : Bool) → b ≡ p x → b ≡ true → (new : List Y) → new ≡ done ++ f x ∷ [] → whole ≡ new ++ map f (filter p (drop (i + 1) xs))
   kept_more b test passed new pushed =
       so_far
@@ -86,7 +92,8 @@ module _ {X Y : Type 0} (f : X → Y) (p : X → Bool) (xs : List X) (whole done
   passed_over b test fails = so_far ∙ ap (λ l. done ++ map f l) (filter-over p xs i x below is (sym test ∙ fails))
 
 -- and at the end
-pub all_kept : {X Y : Type 0} (f : X → Y) (p : X → Bool) (xs : List X) (whole done : List Y) (i : ℕ) → length xs ≤ i → whole ≡ done ++ map f (filter p (drop i xs)) → done ≡ whole
+pub all_kept : {X Y : Type 0} (f : X → Y) (p : X → Bool) (xs : List X) (whole done : List Y) (i : ℕ) → length xs ≤ i
+    → whole ≡ done ++ map f (filter p (drop i xs)) → done ≡ whole
 all_kept f p xs whole done i past so_far =
     sym (so_far ∙ ap (λ l. done ++ map f (filter p l)) (drop_all i xs past) ∙ append-nil done)
 
@@ -97,7 +104,9 @@ module _ {Y : Type 0} where
   append-cons_option xs (Some y) ys = append_assoc xs (y ∷ []) ys
 
 module _ {X Y : Type 0} (f : X → Option Y) (xs : List X) (whole done : List Y) (i : ℕ) where
-  pub made_more : (x : X) → i < length xs → x ≡ get_or xs i x → whole ≡ done ++ filter_map f (drop i xs) → (made : Option Y) → made ≡ f x → (new : List Y) → new ≡ done ++ cons_option made [] → whole ≡ new ++ filter_map f (drop (i + 1) xs)
+  pub made_more : (x : X) → i < length xs → x ≡ get_or xs i x → whole ≡ done ++ filter_map f (drop i xs)
+      → (made : Option Y) → made ≡ f x → (new : List Y) → new ≡ done ++ cons_option made []
+      → whole ≡ new ++ filter_map f (drop (i + 1) xs)
   made_more x below is so_far made by new pushed =
       so_far
       ∙ ap (λ l. done ++ l) (at_drop_more (filter_map f) xs i x below ∙ ap (λ y. filter_map f (y ∷ drop (i + 1) xs)) (sym is))
@@ -110,31 +119,54 @@ module _ {X Y : Type 0} (f : X → Option Y) (xs : List X) (whole done : List Y)
 
 -- ---- a row that is tried finds room, or none
 
-module _ {K C : Type 0} (leave_all : Bool) (octets : C → ℕ) (n total : ℕ) (rows : List (Row K C)) (i : ℕ) (r : Row K C) (below : i < length rows) (is : r ≡ get_or rows i r) where
-  pub in_round : round leave_all r.applicant ≡ n → (rest : List (Row K C)) → first_cut leave_all octets total (rows_of_round leave_all n (drop i rows) ++ rest) ≡ first_cut leave_all octets total (r ∷ rows_of_round leave_all n (drop (i + 1) rows) ++ rest)
+module _ {K C : Type 0} (leave_all : Bool) (octets : C
+    → ℕ) (n total : ℕ) (rows : List (Row K C)) (i : ℕ) (r : Row K C) (below : i < length rows) (is : r
+    ≡ get_or rows i r) where
+  pub in_round : round leave_all r.applicant ≡ n → (rest : List (Row K C))
+      → first_limit leave_all octets total (rows_of_round leave_all n (drop i rows) ++ rest)
+      ≡ first_limit leave_all octets total (r ∷ rows_of_round leave_all n (drop (i + 1) rows) ++ rest)
   in_round at rest =
-      ap (λ l. first_cut leave_all octets total (l ++ rest)) (filter-front (λ r. round leave_all r.applicant == n) rows i r below is (eq-eqb (round leave_all r.applicant) n at))
+      ap (λ l. first_limit leave_all octets total (l ++ rest))
+      (filter-front (λ r. round leave_all r.applicant == n) rows i r below is
+      (eq-eqb (round leave_all r.applicant) n at))
 
-  pub not_in_round : round leave_all r.applicant ≢ n → (rest : List (Row K C)) → first_cut leave_all octets total (rows_of_round leave_all n (drop i rows) ++ rest) ≡ first_cut leave_all octets total (rows_of_round leave_all n (drop (i + 1) rows) ++ rest)
+  pub not_in_round : round leave_all r.applicant ≢ n → (rest : List (Row K C))
+      → first_limit leave_all octets total (rows_of_round leave_all n (drop i rows) ++ rest)
+      ≡ first_limit leave_all octets total (rows_of_round leave_all n (drop (i + 1) rows) ++ rest)
   not_in_round at rest =
-      ap (λ l. first_cut leave_all octets total (l ++ rest)) (filter-over (λ r. round leave_all r.applicant == n) rows i r below is (ne_eqb (round leave_all r.applicant) n at))
+      ap (λ l. first_limit leave_all octets total (l ++ rest))
+      (filter-over (λ r. round leave_all r.applicant == n) rows i r below is
+      (ne_eqb (round leave_all r.applicant) n at))
 
-  pub finds_room : round leave_all r.applicant ≡ n → total + octets r.content ≤ 1500 → (rest : List (Row K C)) → first_cut leave_all octets total (rows_of_round leave_all n (drop i rows) ++ rest) ≡ first_cut leave_all octets (total + octets r.content) (rows_of_round leave_all n (drop (i + 1) rows) ++ rest)
+  pub finds_room : round leave_all r.applicant ≡ n → total + octets r.content ≤ 1500 → (rest : List (Row K C))
+      → first_limit leave_all octets total (rows_of_round leave_all n (drop i rows) ++ rest)
+      ≡ first_limit leave_all octets (total + octets r.content)
+      (rows_of_round leave_all n (drop (i + 1) rows) ++ rest)
   finds_room at few rest = in_round at rest ∙ fits where
-    fits : first_cut leave_all octets total (r ∷ rows_of_round leave_all n (drop (i + 1) rows) ++ rest) ≡ first_cut leave_all octets (total + octets r.content) (rows_of_round leave_all n (drop (i + 1) rows) ++ rest)
+    fits : first_limit leave_all octets total (r ∷ rows_of_round leave_all n (drop (i + 1) rows) ++ rest)
+        ≡ first_limit leave_all octets (total + octets r.content)
+        (rows_of_round leave_all n (drop (i + 1) rows) ++ rest)
     fits = let room : nat_le (total + octets r.content) 1500 ≡ true = grind (arith, nat_tests) in rw room refl
 
-  pub finds_none : round leave_all r.applicant ≡ n → 1500 < total + octets r.content → (rest : List (Row K C)) → first_cut leave_all octets total (rows_of_round leave_all n (drop i rows) ++ rest) ≡ Some (record { round = n; key = r.key })
+  pub finds_none : round leave_all r.applicant ≡ n → 1500 < total + octets r.content → (rest : List (Row K C))
+      → first_limit leave_all octets total (rows_of_round leave_all n (drop i rows) ++ rest)
+      ≡ Some (record { round = n; key = r.key })
   finds_none at many rest = in_round at rest ∙ full ∙ ap (λ m. Some (record { round = m; key = r.key })) at where
-    full : first_cut leave_all octets total (r ∷ rows_of_round leave_all n (drop (i + 1) rows) ++ rest) ≡ Some (cut_at leave_all r)
+    full : first_limit leave_all octets total (r ∷ rows_of_round leave_all n (drop (i + 1) rows) ++ rest) ≡ Some (limit_at leave_all r)
     full = let none : nat_le (total + octets r.content) 1500 ≡ false = grind (arith, nat_tests) in rw none refl
 
 -- ---- keys that leave
 
-keys_of_leaving_by : {K C : Type 0} (now : ℕ) (r : Row K C) (rows : List (Row K C)) (b : Bool) → leave_is_due now r ≡ b → filter_map (λ (r : Row K C). if leave_is_due now r then Some r.key else None) rows ≡ map key_of (filter (leave_is_due now) rows) → filter_map (λ (r : Row K C). if leave_is_due now r then Some r.key else None) (r ∷ rows) ≡ map key_of (filter (leave_is_due now) (r ∷ rows))
+keys_of_leaving_by : {K C : Type 0} (now : ℕ) (r : Row K C) (rows : List (Row K C)) (b : Bool)
+    → leave_is_due now r ≡ b → filter_map (λ (r : Row K C). if leave_is_due now r then Some r.key else None) rows
+    ≡ map key_of (filter (leave_is_due now) rows)
+    → filter_map (λ (r : Row K C). if leave_is_due now r then Some r.key else None) (r ∷ rows)
+    ≡ map key_of (filter (leave_is_due now) (r ∷ rows))
 keys_of_leaving_by now r rows true due rest = rw due (ap (λ l. r.key ∷ l) rest)
 keys_of_leaving_by now r rows false due rest = rw due rest
 
-pub keys_of_leaving : {K C : Type 0} (now : ℕ) (rows : List (Row K C)) → filter_map (λ (r : Row K C). if leave_is_due now r then Some r.key else None) rows ≡ map key_of (filter (leave_is_due now) rows)
+pub keys_of_leaving : {K C : Type 0} (now : ℕ) (rows : List (Row K C))
+    → filter_map (λ (r : Row K C). if leave_is_due now r then Some r.key else None) rows
+    ≡ map key_of (filter (leave_is_due now) rows)
 keys_of_leaving now [] = refl
 keys_of_leaving now (r ∷ rows) = keys_of_leaving_by now r rows (leave_is_due now r) refl (keys_of_leaving now rows)

@@ -14,15 +14,15 @@ use Rattle.leaveall.specs.declared.LeaveAll.TheVariants.{Active, Passive}
 use Rattle.leaveall.specs.declared.LaEvent.TheVariants.{Tx as LaTx}
 use Rattle.leaveall.specs.Table as leaveall
 use Rattle.mrp_participant.specs.declared.row.Row.{Row}
-use Rattle.mrp_participant.specs.declared.cut.Cut.{Cut}
+use Rattle.mrp_participant.specs.declared.sending_limit.SendingLimit.{SendingLimit}
 use Rattle.mrp_participant.specs.Lookup.{key_of}
 use Rattle.mrp_participant.specs.Row.{is_live, applicant_takes, registrar_takes}
 use Rattle.mrp_participant.specs.Sending.{is_tried, is_taken, opportunity, row_after, sent_row, sent_event, order, octets_of, up_to}
-use Rattle.mrp_participant.specs.Cut.{is_in_room, first_cut}
+use Rattle.mrp_participant.specs.SendingLimit.{is_in_room, first_limit}
 use Rattle.mrp_participant.specs.State.{State, AreRows, after, is_active, is_silent, none_tried, sent_events, sent_state}
 use Rattle.mrp_participant.proofs.Transitions.{Keeps, kept-is, registrar-lives}
 use Rattle.registrar.proofs.RegistrarLemmas.{sent_leave_all-registers}
-use Rattle.mrp_participant.proofs.CutLemmas.{in_room, filter_map-same}
+use Rattle.mrp_participant.proofs.SendingLimitLemmas.{in_room, filter_map-same}
 
 -- ---- rows stay rows
 
@@ -40,7 +40,9 @@ module _ {K C : Type 0} where
   sent-key false taken leave r s e = after-key (opportunity false taken r) r s e
 
   sent-live : (leave_all taken : Bool) (leave : Cs) (r s : Row K C) → is_live r ≡ true → sent_row leave_all taken leave r ≡ Some s → is_live s ≡ true
-  sent-live true taken leave r s live e = after-live (opportunity true taken r) (registrar_takes RegTxLeaveAll leave r) s (registrar-lives RegTxLeaveAll sent_leave_all-registers leave r live) e
+  sent-live true taken leave r s live e = after-live (opportunity true taken r)
+      (registrar_takes RegTxLeaveAll leave r) s
+      (registrar-lives RegTxLeaveAll sent_leave_all-registers leave r live) e
   sent-live false taken leave r s live e = after-live (opportunity false taken r) r s live e
 
   pub sent-keeps : (leave_all : Bool) (taken : Row K C → Bool) (leave : Cs) → Keeps (λ r. sent_row leave_all (taken r) leave r)
@@ -48,31 +50,48 @@ module _ {K C : Type 0} where
     key = λ r s e. sent-key leave_all (taken r) leave r s e;
     lives = λ r s live e. sent-live leave_all (taken r) leave r s live e;
   }
-  -- ---- the cut gives what the test gives
+  -- ---- the limit gives what the test gives
 
 module _ {K C : Type 0} {cmp : K → K → Ordering} (o : IsTotalOrder cmp) where
-  pub rows-by_cut : (base : ℕ) (octets : C → ℕ) (leave_all : Bool) (leave : Cs) (rows : List (Row K C)) (cut : Option (Cut K)) → AreRows cmp rows → cut ≡ first_cut leave_all octets base (order leave_all rows) → filter_map (λ r. sent_row leave_all (is_in_room cmp leave_all cut r) leave r) rows ≡ filter_map (λ r. sent_row leave_all (is_taken base octets cmp leave_all rows r) leave r) rows
-  rows-by_cut base octets leave_all leave rows cut are is =
-      filter_map-same _ _ rows (λ r at. ap (λ t. sent_row leave_all t leave r) (ap (λ c. is_in_room cmp leave_all c r) is ∙ in_room o leave_all octets base rows r are.0 at))
+  pub rows-by_limit : (base : ℕ) (octets : C
+      → ℕ) (leave_all : Bool) (leave : Cs) (rows : List (Row K C)) (limit : Option (SendingLimit K))
+      → AreRows cmp rows → limit ≡ first_limit leave_all octets base (order leave_all rows)
+      → filter_map (λ r. sent_row leave_all (is_in_room cmp leave_all limit r) leave r) rows
+      ≡ filter_map (λ r. sent_row leave_all (is_taken base octets cmp leave_all rows r) leave r) rows
+  rows-by_limit base octets leave_all leave rows limit are is =
+      filter_map-same _ _ rows (λ r at. ap (λ t. sent_row leave_all t leave r)
+      (ap (λ c. is_in_room cmp leave_all c r) is ∙ in_room o leave_all octets base rows r are.0 at))
 
-  pub events-by_cut : (base : ℕ) (octets : C → ℕ) (leave_all : Bool) (leave : Cs) (rows : List (Row K C)) (cut : Option (Cut K)) → AreRows cmp rows → cut ≡ first_cut leave_all octets base (order leave_all rows) → filter_map (λ r. sent_event leave_all (is_in_room cmp leave_all cut r) leave r) rows ≡ filter_map (λ r. sent_event leave_all (is_taken base octets cmp leave_all rows r) leave r) rows
-  events-by_cut base octets leave_all leave rows cut are is =
-      filter_map-same _ _ rows (λ r at. ap (λ t. sent_event leave_all t leave r) (ap (λ c. is_in_room cmp leave_all c r) is ∙ in_room o leave_all octets base rows r are.0 at))
+  pub events-by_limit : (base : ℕ) (octets : C
+      → ℕ) (leave_all : Bool) (leave : Cs) (rows : List (Row K C)) (limit : Option (SendingLimit K))
+      → AreRows cmp rows → limit ≡ first_limit leave_all octets base (order leave_all rows)
+      → filter_map (λ r. sent_event leave_all (is_in_room cmp leave_all limit r) leave r) rows
+      ≡ filter_map (λ r. sent_event leave_all (is_taken base octets cmp leave_all rows r) leave r) rows
+  events-by_limit base octets leave_all leave rows limit are is =
+      filter_map-same _ _ rows (λ r at. ap (λ t. sent_event leave_all t leave r)
+      (ap (λ c. is_in_room cmp leave_all c r) is ∙ in_room o leave_all octets base rows r are.0 at))
 
 -- ---- where nothing is to be said
 
 module _ {K C : Type 0} (cmp : K → K → Ordering) (base : ℕ) (octets : C → ℕ) (leave : Cs) (all : List (Row K C)) where
-  untried_by : (r : Row K C) (b : Bool) → is_tried false r ≡ b → not b ≡ true → sent_row false (b && nat_le (base + octets_of octets (up_to cmp r.key (order false all))) 1500) leave r ≡ Some r
+  untried_by : (r : Row K C) (b : Bool) → is_tried false r ≡ b → not b ≡ true
+      → sent_row false (b && nat_le (base + octets_of octets (up_to cmp r.key (order false all))) 1500) leave r
+      ≡ Some r
   untried_by r true tried h = cc
   untried_by r false tried h = refl
 
-  silent-rows_by : (r : Row K C) (rows : List (Row K C)) (b : Bool) → not (is_tried false r) ≡ b → (b && none_tried rows) ≡ true → (none_tried rows ≡ true → filter_map (λ r. sent_row false (is_taken base octets cmp false all r) leave r) rows ≡ rows) → filter_map (λ r. sent_row false (is_taken base octets cmp false all r) leave r) (r ∷ rows) ≡ r ∷ rows
+  silent-rows_by : (r : Row K C) (rows : List (Row K C)) (b : Bool) → not (is_tried false r) ≡ b
+      → (b && none_tried rows) ≡ true → (none_tried rows ≡ true → filter_map
+      (λ r. sent_row false (is_taken base octets cmp false all r) leave r) rows ≡ rows)
+      → filter_map (λ r. sent_row false (is_taken base octets cmp false all r) leave r) (r ∷ rows) ≡ r ∷ rows
   silent-rows_by r rows true untried h rest =
-      ap (λ y. cons_option y (filter_map (λ r. sent_row false (is_taken base octets cmp false all r) leave r) rows)) (untried_by r (is_tried false r) refl untried)
+      ap (λ y. cons_option y (filter_map (λ r. sent_row false (is_taken base octets cmp false all r) leave r) rows))
+      (untried_by r (is_tried false r) refl untried)
       ∙ ap (λ l. r ∷ l) (rest h)
   silent-rows_by r rows false untried h rest = cc
 
-  pub silent-rows : (rows : List (Row K C)) → none_tried rows ≡ true → filter_map (λ r. sent_row false (is_taken base octets cmp false all r) leave r) rows ≡ rows
+  pub silent-rows : (rows : List (Row K C)) → none_tried rows ≡ true
+      → filter_map (λ r. sent_row false (is_taken base octets cmp false all r) leave r) rows ≡ rows
   silent-rows [] h = refl
   silent-rows (r ∷ rows) h = silent-rows_by r rows (not (is_tried false r)) refl h (silent-rows rows)
 
@@ -80,7 +99,10 @@ module _ {K C : Type 0} (cmp : K → K → Ordering) (base : ℕ) (octets : C �
   with_parts : State K C → List (Row K C) → LeaveAll → Bool → State K C
   with_parts s rows machine sound = record s { rows = rows; leave_all = machine; sound = sound }
 
-  silent-state_by : (s : State K C) (machine : LeaveAll) → (not (is_active machine) && none_tried s.rows) ≡ true → with_parts s s.rows machine s.sound ≡ with_parts s (filter_map (λ r. sent_row (is_active machine) (is_taken base octets cmp (is_active machine) s.rows r) (after now s.leave_time) r) s.rows) (leaveall.table LaTx machine) (is_active machine || s.sound)
+  silent-state_by : (s : State K C) (machine : LeaveAll) → (not (is_active machine) && none_tried s.rows) ≡ true
+      → with_parts s s.rows machine s.sound ≡ with_parts s (filter_map
+      (λ r. sent_row (is_active machine) (is_taken base octets cmp (is_active machine) s.rows r)
+      (after now s.leave_time) r) s.rows) (leaveall.table LaTx machine) (is_active machine || s.sound)
   silent-state_by s Active h = cc
   silent-state_by s Passive h = ap (λ rows. with_parts s rows Passive s.sound) (sym (silent-rows cmp base octets (after now s.leave_time) s.rows s.rows h))
 
@@ -91,23 +113,44 @@ module _ {K C : Type 0} (cmp : K → K → Ordering) (base : ℕ) (octets : C �
 
 -- ---- what is sent, from what the code has at hand
 
-pub events-of : {K C : Type 0} (cmp : K → K → Ordering) (base : ℕ) (octets : C → ℕ) (now : Cs) (s : State K C) (leave_all : Bool) (leave : Cs) (rows : List (Row K C)) (events : List (MrpEvent × K × C)) → leave_all ≡ is_active s.leave_all → leave ≡ after now s.leave_time → rows ≡ s.rows → events ≡ filter_map (λ r. sent_event leave_all (is_taken base octets cmp leave_all rows r) leave r) rows → events ≡ sent_events base octets cmp now s
+pub events-of : {K C : Type 0} (cmp : K → K → Ordering) (base : ℕ) (octets : C
+    → ℕ) (now : Cs) (s : State K C) (leave_all : Bool) (leave : Cs) (rows : List (Row K C))
+    (events : List (MrpEvent × K × C)) → leave_all ≡ is_active s.leave_all → leave ≡ after now s.leave_time
+    → rows ≡ s.rows → events ≡ filter_map (λ r. sent_event leave_all
+    (is_taken base octets cmp leave_all rows r) leave r) rows → events ≡ sent_events base octets cmp now s
 events-of cmp base octets now s leave_all leave rows events active moment is h =
     h
     ∙ ap (λ a. filter_map (λ r. sent_event a (is_taken base octets cmp a rows r) leave r) rows) active
     ∙ ap (λ t. filter_map (λ r. sent_event (is_active s.leave_all) (is_taken base octets cmp (is_active s.leave_all) rows r) t r) rows) moment
     ∙ ap (λ l. filter_map (λ r. sent_event (is_active s.leave_all) (is_taken base octets cmp (is_active s.leave_all) l r) (after now s.leave_time) r) l) is
 
-pub sent-parts : {K C : Type 0} (cmp : K → K → Ordering) (base : ℕ) (octets : C → ℕ) (now : Cs) (s : State K C) (leave_all : Bool) (leave : Cs) (new : List (Row K C)) (machine : LeaveAll) (sound : Bool) → leave_all ≡ is_active s.leave_all → leave ≡ after now s.leave_time → new ≡ filter_map (λ r. sent_row leave_all (is_taken base octets cmp leave_all s.rows r) leave r) s.rows → machine ≡ leaveall.table LaTx s.leave_all → sound ≡ (leave_all || s.sound) → record s { rows = new; leave_all = machine; sound = sound } ≡ sent_state base octets cmp now s
+pub sent-parts : {K C : Type 0} (cmp : K → K → Ordering) (base : ℕ) (octets : C
+    → ℕ) (now : Cs) (s : State K C) (leave_all : Bool) (leave : Cs) (new : List (Row K C)) (machine : LeaveAll)
+    (sound : Bool) → leave_all ≡ is_active s.leave_all → leave ≡ after now s.leave_time
+    → new ≡ filter_map (λ r. sent_row leave_all (is_taken base octets cmp leave_all s.rows r) leave r) s.rows
+    → machine ≡ leaveall.table LaTx s.leave_all → sound ≡ (leave_all || s.sound)
+    → record s { rows = new; leave_all = machine; sound = sound } ≡ sent_state base octets cmp now s
 sent-parts cmp base octets now s leave_all leave new machine sound active moment new_is next sound_is =
     ap (λ l. record s { rows = l; leave_all = machine; sound = sound })
     (new_is
     ∙ ap (λ a. filter_map (λ r. sent_row a (is_taken base octets cmp a s.rows r) leave r) s.rows) active
     ∙ ap (λ t. filter_map (λ r. sent_row (is_active s.leave_all) (is_taken base octets cmp (is_active s.leave_all) s.rows r) t r) s.rows) moment)
-    ∙ ap (λ m. record s { rows = filter_map (λ r. sent_row (is_active s.leave_all) (is_taken base octets cmp (is_active s.leave_all) s.rows r) (after now s.leave_time) r) s.rows; leave_all = m; sound = sound }) next
-    ∙ ap (λ b. record s { rows = filter_map (λ r. sent_row (is_active s.leave_all) (is_taken base octets cmp (is_active s.leave_all) s.rows r) (after now s.leave_time) r) s.rows; leave_all = leaveall.table LaTx s.leave_all; sound = b }) (sound_is ∙ ap (λ a. a || s.sound) active)
+    ∙ ap (λ m. record s {
+      rows = filter_map (λ r. sent_row (is_active s.leave_all)
+          (is_taken base octets cmp (is_active s.leave_all) s.rows r) (after now s.leave_time) r) s.rows;
+      leave_all = m;
+      sound = sound;
+    }) next
+    ∙ ap (λ b. record s {
+      rows = filter_map (λ r. sent_row (is_active s.leave_all)
+          (is_taken base octets cmp (is_active s.leave_all) s.rows r) (after now s.leave_time) r) s.rows;
+      leave_all = leaveall.table LaTx s.leave_all;
+      sound = b;
+    }) (sound_is ∙ ap (λ a. a || s.sound) active)
 
 -- what is not silent has a row that is tried, or a LeaveAll to say
-pub tried-one : {K C : Type 0} (s : State K C) (leave_all : Bool) (rows : List (Row K C)) → leave_all ≡ is_active s.leave_all → rows ≡ s.rows → is_silent s ≡ false → leave_all ≡ false → none_tried rows ≡ false
+pub tried-one : {K C : Type 0} (s : State K C) (leave_all : Bool) (rows : List (Row K C))
+    → leave_all ≡ is_active s.leave_all → rows ≡ s.rows → is_silent s ≡ false → leave_all ≡ false
+    → none_tried rows ≡ false
 tried-one s leave_all rows active is loud none =
     ap none_tried is ∙ (ap (λ a. not a && none_tried s.rows) (sym (sym active ∙ none)) ∙ loud)

@@ -21,7 +21,7 @@ use Rattle.registrar.specs.Table.{is_in}
 use Rattle.mrp_participant.specs.Row.{declared_in}
 use Rattle.mrp_participant.specs.Sending.{round, is_tried, is_leave, word_of, sent_event}
 use Rattle.mrp_participant.specs.State.{State, is_active, is_silent, none_tried}
-use Rattle.mrp_participant.proofs.CutLemmas.{In, find-in}
+use Rattle.mrp_participant.proofs.SendingLimitLemmas.{In, find-in}
 use Rattle.mrp_participant.proofs.Octets.{sent_is}
 use Rattle.mrp_participant.proofs.Changes.{In-contains}
 use Rattle.mrp_participant.proofs.DutyRows.{in_states}
@@ -31,7 +31,9 @@ first_holds true b h = refl
 first_holds false b h = cc
 
 module _ {K C : Type 0} where
-  said_by : (leave_all : Bool) (leave : Cs) (r : Row K C) (a : Applicant) (g : Registrar) → not (round leave_all a == 0) ≡ true → sent_event leave_all true leave (in_states a g r) ≡ Some (word_of leave_all a (is_in g), r.key, r.content)
+  said_by : (leave_all : Bool) (leave : Cs) (r : Row K C) (a : Applicant) (g : Registrar)
+      → not (round leave_all a == 0) ≡ true → sent_event leave_all true leave (in_states a g r)
+      ≡ Some (word_of leave_all a (is_in g), r.key, r.content)
   unfolding in_states
   said_by true leave r Vo g h = cc
   said_by true leave r La g h = cc
@@ -41,13 +43,20 @@ module _ {K C : Type 0} where
   said_by leave_all leave r a Leaving h = refl
   said_by leave_all leave r a Empty h = refl
 
-  said_where : (leave_all taken : Bool) (leave : Cs) (r : Row K C) → is_tried leave_all r ≡ true → taken ≡ true → sent_event leave_all taken leave r ≡ Some (word_of leave_all r.applicant (is_in r.registrar), r.key, r.content)
+  said_where : (leave_all taken : Bool) (leave : Cs) (r : Row K C) → is_tried leave_all r ≡ true → taken ≡ true
+      → sent_event leave_all taken leave r ≡ Some (
+        word_of leave_all r.applicant (is_in r.registrar),
+        r.key,
+        r.content,
+      )
   unfolding in_states
   said_where leave_all true leave r tried h = said_by leave_all leave r r.applicant r.registrar tried
   said_where leave_all false leave r tried h = cc
 
   -- a taken row says its word
-  pub taken-says : (leave_all fits : Bool) (leave : Cs) (r : Row K C) → (is_tried leave_all r && fits) ≡ true → sent_event leave_all (is_tried leave_all r && fits) leave r ≡ Some (word_of leave_all r.applicant (is_in r.registrar), r.key, r.content)
+  pub taken-says : (leave_all fits : Bool) (leave : Cs) (r : Row K C) → (is_tried leave_all r && fits) ≡ true
+      → sent_event leave_all (is_tried leave_all r && fits) leave r
+      ≡ Some (word_of leave_all r.applicant (is_in r.registrar), r.key, r.content)
   taken-says leave_all fits leave r h = said_where leave_all (is_tried leave_all r && fits) leave r (first_holds (is_tried leave_all r) fits h) h
 
   silent_by : (leave : Cs) (r : Row K C) (a : Applicant) (g : Registrar) → sent_event true false leave (in_states a g r) ≡ None
@@ -76,13 +85,18 @@ In-kept f y (x ∷ xs) at =
 
 module _ {K C : Type 0} {cmp : K → K → Ordering} (o : IsTotalOrder cmp) (leave_all : Bool) (taken : Row K C → Bool) (leave : Cs) where
   -- the row of an event that is sent
-  pub row-of_event : (rows : List (Row K C)) (e : MrpEvent × K × C) → Ascends cmp key_of rows → Contains (filter_map (λ r. sent_event leave_all (taken r) leave r) rows) e → (r : Row K C) × (find cmp e.1 rows ≡ Some r) × (sent_event leave_all (taken r) leave r ≡ Some e)
+  pub row-of_event : (rows : List (Row K C)) (e : MrpEvent × K × C) → Ascends cmp key_of rows
+      → Contains (filter_map (λ r. sent_event leave_all (taken r) leave r) rows) e → (r : Row K C)
+      × (find cmp e.1 rows ≡ Some r) × (sent_event leave_all (taken r) leave r ≡ Some e)
   row-of_event rows e up at =
-      let member = In-kept (λ r. sent_event leave_all (taken r) leave r) e rows (In-contains e (filter_map (λ r. sent_event leave_all (taken r) leave r) rows) at) in
+      let member = In-kept (λ r. sent_event leave_all (taken r) leave r) e rows
+      (In-contains e (filter_map (λ r. sent_event leave_all (taken r) leave r) rows) at) in
       let is = sent_is leave_all (taken member.0) leave member.0 e member.2 in
       (member.0, ap (λ k. find cmp k rows) is.0 ∙ find-in o member.0 rows up member.1, member.2)
 
-word-declared : {C : Type 0} (leave_all : Bool) (a : Applicant) (held : Bool) (c : C) → not (round leave_all a == 0) ≡ true → (if applicant.is_declared_in a then Some c else None) ≡ (if is_leave (word_of leave_all a held) then None else Some c)
+word-declared : {C : Type 0} (leave_all : Bool) (a : Applicant) (held : Bool) (c : C)
+    → not (round leave_all a == 0) ≡ true → (if applicant.is_declared_in a then Some c else None)
+    ≡ (if is_leave (word_of leave_all a held) then None else Some c)
 word-declared true Vo held c h = cc
 word-declared false Vo held c h = cc
 word-declared leave_all An held c h = refl
@@ -94,7 +108,9 @@ word-declared false a true c h = refl
 word-declared false a false c h = refl
 
 module _ {K C : Type 0} where
-  declared_by : (leave_all : Bool) (r : Row K C) (e : MrpEvent × K × C) (found : Option (Row K C)) → found ≡ Some r → is_tried leave_all r ≡ true → Some (word_of leave_all r.applicant (is_in r.registrar), r.key, r.content) ≡ Some e → declared_in found ≡ (if is_leave e.0 then None else Some e.2)
+  declared_by : (leave_all : Bool) (r : Row K C) (e : MrpEvent × K × C) (found : Option (Row K C)) → found ≡ Some r
+      → is_tried leave_all r ≡ true → Some (word_of leave_all r.applicant (is_in r.registrar), r.key, r.content)
+      ≡ Some e → declared_in found ≡ (if is_leave e.0 then None else Some e.2)
   declared_by leave_all r e found is tried says =
       let one : (word_of leave_all r.applicant (is_in r.registrar), r.key, r.content) ≡ e = cc in
       ap declared_in is
@@ -102,7 +118,10 @@ module _ {K C : Type 0} where
       ∙ ap (λ (x : MrpEvent × K × C). if is_leave x.0 then None else Some x.2) one)
 
   -- an event has the content that is declared of its key, or says that it isn't declared any more
-  pub event-declared : (leave_all fits : Bool) (leave : Cs) (r : Row K C) (e : MrpEvent × K × C) (found : Option (Row K C)) → found ≡ Some r → sent_event leave_all (is_tried leave_all r && fits) leave r ≡ Some e → declared_in found ≡ (if is_leave e.0 then None else Some e.2)
+  pub event-declared : (leave_all fits : Bool) (leave : Cs) (r : Row K C) (e : MrpEvent × K
+      × C) (found : Option (Row K C)) → found ≡ Some r
+      → sent_event leave_all (is_tried leave_all r && fits) leave r ≡ Some e
+      → declared_in found ≡ (if is_leave e.0 then None else Some e.2)
   event-declared leave_all fits leave r e found is says = by (is_tried leave_all r && fits) refl
     where
       by : (b : Bool) → (is_tried leave_all r && fits) ≡ b → declared_in found ≡ (if is_leave e.0 then None else Some e.2)

@@ -25,7 +25,7 @@ use Rattle.mrp_participant.specs.Row.{after_leave_due, leave_is_due, periodic_ro
 use Rattle.mrp_participant.specs.Sending.{sent_event}
 use Rattle.mrp_participant.specs.State.{State, leave_timers_state, leave_all_state, periodic_fired_state, due_leave_all_state, due_state, due_count, is_any_due, is_leave_all_due, is_periodic_due, is_active, is_still, all_settled}
 use Rattle.mrp_participant.proofs.Lookups.{none_above, same_is, find-fits}
-use Rattle.mrp_participant.proofs.CutLemmas.{In, find-in}
+use Rattle.mrp_participant.proofs.SendingLimitLemmas.{In, find-in}
 use Rattle.mrp_participant.proofs.EachKey.{each-mapped, each-kept}
 use Rattle.mrp_participant.proofs.Transitions.{leave_all_due-rows, due-keeps}
 use Rattle.mrp_participant.proofs.Changes.{find-found, In-map, In-mapped, In-contains, Contains-in}
@@ -43,22 +43,29 @@ module _ {K C : Type 0} where
   periodic_same now s false = refl
 
 module _ {K C : Type 0} {cmp : K → K → Ordering} (o : IsTotalOrder cmp) where
-  periodic_at : (now : Cs) (s : State K C) (k : K) (b : Bool) → find cmp k (if b then periodic_fired_state now s else s).rows ≡ option_map (λ r. if b then periodic_row r else r) (find cmp k s.rows)
+  periodic_at : (now : Cs) (s : State K C) (k : K) (b : Bool)
+      → find cmp k (if b then periodic_fired_state now s else s).rows
+      ≡ option_map (λ r. if b then periodic_row r else r) (find cmp k s.rows)
   periodic_at now s k true = each-mapped o periodic_row (λ r. refl) s.rows k
   periodic_at now s k false = map-itself (find cmp k s.rows)
 
-  pub each-due : (now : Cs) (s : State K C) → Ascends cmp key_of s.rows → (k : K) → find cmp k (due_state now s).rows ≡ option_map (λ r. if is_periodic_due now s then periodic_row r else r) (option_and_then (after_leave_due now.0) (find cmp k s.rows))
+  pub each-due : (now : Cs) (s : State K C) → Ascends cmp key_of s.rows → (k : K)
+      → find cmp k (due_state now s).rows ≡ option_map (λ r. if is_periodic_due now s then periodic_row r else r)
+      (option_and_then (after_leave_due now.0) (find cmp k s.rows))
   each-due now s up k =
       let first : State K C = leave_timers_state now s in
       let second : State K C = due_leave_all_state now first in
       periodic_at now second k (is_periodic_due now second)
       ∙ (ap (λ b. option_map (λ r. if b then periodic_row r else r) (find cmp k second.rows)) (periodic_same now first (is_leave_all_due now first))
-      ∙ (ap (λ rows. option_map (λ r. if is_periodic_due now s then periodic_row r else r) (find cmp k rows)) (leave_all_due-rows now first (is_leave_all_due now first))
+      ∙ (ap (λ rows. option_map (λ r. if is_periodic_due now s then periodic_row r else r) (find cmp k rows))
+      (leave_all_due-rows now first (is_leave_all_due now first))
       ∙ ap (option_map (λ r. if is_periodic_due now s then periodic_row r else r)) (each-kept o (after_leave_due now.0) (due-keeps now.0) s.rows up k)))
 
 -- ---- how many timers are due
 
-none_by : {X Y : Type 0} (f : X → Y) (p : X → Bool) (x : X) (xs : List X) (b : Bool) → ((length (map f (filter p xs)) ≡ 0) ↔ (list_any p xs ≡ false)) → (length (map f (if b then x ∷ filter p xs else filter p xs)) ≡ 0) ↔ ((b || list_any p xs) ≡ false)
+none_by : {X Y : Type 0} (f : X → Y) (p : X → Bool) (x : X) (xs : List X) (b : Bool)
+    → ((length (map f (filter p xs)) ≡ 0) ↔ (list_any p xs ≡ false))
+    → (length (map f (if b then x ∷ filter p xs else filter p xs)) ≡ 0) ↔ ((b || list_any p xs) ≡ false)
 none_by f p x xs true rest = (λ h. absurd (omega arith), λ h. cc)
 none_by f p x xs false rest = rest
 
@@ -78,8 +85,13 @@ none-due now s =
 
 -- ---- what is sent of one key
 
-module _ {K C E : Type 0} {cmp : K → K → Ordering} (o : IsTotalOrder cmp) (key : E → K) (f : Row K C → Option E) (keeps : (r : Row K C) (e : E) → f r ≡ Some e → key e ≡ r.key) where
-  one_by : (r : Row K C) (rows : List (Row K C)) (k : K) (new : Option E) (b : Bool) → f r ≡ new → same cmp r.key k ≡ b → (b ≡ true → find cmp k rows ≡ None) → ((e : E) → new ≡ Some e → same cmp (key e) k ≡ b) → filter (λ e. same cmp (key e) k) (filter_map f rows) ≡ option_to_list (option_and_then f (find cmp k rows)) → filter (λ e. same cmp (key e) k) (cons_option new (filter_map f rows)) ≡ option_to_list (option_and_then f (if b then Some r else find cmp k rows))
+module _ {K C E : Type 0} {cmp : K → K → Ordering} (o : IsTotalOrder cmp) (key : E → K) (f : Row K C
+    → Option E) (keeps : (r : Row K C) (e : E) → f r ≡ Some e → key e ≡ r.key) where
+  one_by : (r : Row K C) (rows : List (Row K C)) (k : K) (new : Option E) (b : Bool) → f r ≡ new
+      → same cmp r.key k ≡ b → (b ≡ true → find cmp k rows ≡ None) → ((e : E) → new ≡ Some e → same cmp (key e) k ≡ b)
+      → filter (λ e. same cmp (key e) k) (filter_map f rows) ≡ option_to_list (option_and_then f (find cmp k rows))
+      → filter (λ e. same cmp (key e) k) (cons_option new (filter_map f rows))
+      ≡ option_to_list (option_and_then f (if b then Some r else find cmp k rows))
   one_by r rows k None true is at none same_key rest = rest ∙ ap (λ x. option_to_list (option_and_then f x)) (none refl) ∙ ap option_to_list (sym is)
   one_by r rows k None false is at none same_key rest = rest
   one_by r rows k (Some e) true is at none same_key rest =
@@ -91,12 +103,17 @@ module _ {K C E : Type 0} {cmp : K → K → Ordering} (o : IsTotalOrder cmp) (k
       ∙ rest
 
   -- what is kept of ascending rows, at one key
-  one-kept : (rows : List (Row K C)) → Ascends cmp key_of rows → (k : K) → filter (λ e. same cmp (key e) k) (filter_map f rows) ≡ option_to_list (option_and_then f (find cmp k rows))
+  one-kept : (rows : List (Row K C)) → Ascends cmp key_of rows → (k : K)
+      → filter (λ e. same cmp (key e) k) (filter_map f rows) ≡ option_to_list (option_and_then f (find cmp k rows))
   one-kept [] up k = refl
   one-kept (r ∷ rows) up k =
-      one_by r rows k (f r) (same cmp r.key k) refl refl (λ e. none_above o r.key k rows up.0 e) (λ e h. ap (λ x. same cmp x k) (keeps r e h)) (one-kept rows up.1 k)
+      one_by r rows k (f r) (same cmp r.key k) refl refl (λ e. none_above o r.key k rows up.0 e)
+      (λ e h. ap (λ x. same cmp x k) (keeps r e h)) (one-kept rows up.1 k)
 
-pub one-sent : {K C : Type 0} {cmp : K → K → Ordering} (o : IsTotalOrder cmp) (leave_all : Bool) (taken : Row K C → Bool) (leave : Cs) (rows : List (Row K C)) → Ascends cmp key_of rows → (k : K) → filter (λ e. same cmp e.1 k) (filter_map (λ r. sent_event leave_all (taken r) leave r) rows) ≡ option_to_list (option_and_then (λ r. sent_event leave_all (taken r) leave r) (find cmp k rows))
+pub one-sent : {K C : Type 0} {cmp : K → K → Ordering} (o : IsTotalOrder cmp) (leave_all : Bool) (taken : Row K C
+    → Bool) (leave : Cs) (rows : List (Row K C)) → Ascends cmp key_of rows → (k : K)
+    → filter (λ e. same cmp e.1 k) (filter_map (λ r. sent_event leave_all (taken r) leave r) rows)
+    ≡ option_to_list (option_and_then (λ r. sent_event leave_all (taken r) leave r) (find cmp k rows))
 one-sent {K = K} {C = C} o leave_all taken leave rows up k =
     one-kept o (λ (e : MrpEvent × K × C). e.1) (λ r. sent_event leave_all (taken r) leave r) (λ r e h. (sent_is leave_all (taken r) leave r e h).0) rows up k
 
@@ -135,18 +152,24 @@ module _ {K C : Type 0} where
   AtRest r = (is_quiet (applicant_of r) ≡ true) × (is_leaving_in r ≡ false)
 
   rest_by : (r : Row K C) (later : Option (Row K C)) (b : Bool) → is_settled r ≡ true → AtRest later → AtRest (if b then Some r else later)
-  rest_by r later true h rest = let parts = both (is_quiet r.applicant) (not (is_leaving r.registrar)) h in (parts.0, not_false (is_leaving r.registrar) parts.1)
+  rest_by r later true h rest = let parts = both (is_quiet r.applicant) (not (is_leaving r.registrar)) h in (
+    parts.0,
+    not_false (is_leaving r.registrar) parts.1,
+  )
   rest_by r later false h rest = rest
 
   pub settled-at : (cmp : K → K → Ordering) (rows : List (Row K C)) → all_settled rows ≡ true → (k : K) → AtRest (find cmp k rows)
   settled-at cmp [] h k = (refl, refl)
-  settled-at cmp (r ∷ rows) h k = let parts = both (is_settled r) (all_settled rows) h in rest_by r (find cmp k rows) (same cmp r.key k) parts.0 (settled-at cmp rows parts.1 k)
+  settled-at cmp (r ∷ rows) h k = let parts = both (is_settled r) (all_settled rows) h in rest_by r (find cmp k rows)
+      (same cmp r.key k) parts.0 (settled-at cmp rows parts.1 k)
 
   all_in : (p : Row K C → Bool) (rows : List (Row K C)) → ((r : Row K C) → In r rows → p r ≡ true) → list_all p rows ≡ true
   all_in p [] f = refl
   all_in p (r ∷ rows) f = ap (λ b. b && list_all p rows) (f r (inl refl)) ∙ all_in p rows (λ s at. f s (inr at))
 
-  pub at_rest-still : {cmp : K → K → Ordering} (o : IsTotalOrder cmp) (s : State K C) → Ascends cmp key_of s.rows → s.leave_all ≡ Passive → ((k : K) → is_quiet (applicant_of (find cmp k s.rows)) ≡ true) → ((k : K) → is_leaving_in (find cmp k s.rows) ≡ false) → is_still s ≡ true
+  pub at_rest-still : {cmp : K → K → Ordering} (o : IsTotalOrder cmp) (s : State K C) → Ascends cmp key_of s.rows
+      → s.leave_all ≡ Passive → ((k : K) → is_quiet (applicant_of (find cmp k s.rows)) ≡ true)
+      → ((k : K) → is_leaving_in (find cmp k s.rows) ≡ false) → is_still s ≡ true
   at_rest-still {cmp = cmp} o s up passive quiet unleaving =
       still_of s.leave_all (all_settled s.rows) passive
       (all_in is_settled s.rows
@@ -163,10 +186,13 @@ module _ {K C : Type 0} where
   in_at (x ∷ rows) zero r h = let is : x ≡ r = cc in inl (sym is)
   in_at (x ∷ rows) (suc i) r h = inr (in_at rows i r h)
 
-  pub found-at : {cmp : K → K → Ordering} (o : IsTotalOrder cmp) (rows : List (Row K C)) → Ascends cmp key_of rows → (i : ℕ) (r : Row K C) → slice_get rows i ≡ Some r → find cmp r.key rows ≡ Some r
+  pub found-at : {cmp : K → K → Ordering} (o : IsTotalOrder cmp) (rows : List (Row K C)) → Ascends cmp key_of rows
+      → (i : ℕ) (r : Row K C) → slice_get rows i ≡ Some r → find cmp r.key rows ≡ Some r
   found-at o rows up i r h = find-in o r rows up (in_at rows i r h)
 
-  place_by : (cmp : K → K → Ordering) → ((a b : K) → cmp a b ≡ Equal → a ≡ b) → (rows : List (Row K C)) (k : K) (here : Option (Row K C)) → find cmp k rows ≡ here → IsSome here → Contains (map key_of rows) k
+  place_by : (cmp : K → K → Ordering) → ((a b : K) → cmp a b ≡ Equal → a ≡ b)
+      → (rows : List (Row K C)) (k : K) (here : Option (Row K C)) → find cmp k rows ≡ here → IsSome here
+      → Contains (map key_of rows) k
   place_by cmp one_key rows k None e h = cc
   place_by cmp one_key rows k (Some r) e h =
       let member = find-found cmp k r rows e in
@@ -180,10 +206,12 @@ module _ {K C : Type 0} where
   registered_some None h = h
   registered_some (Some r) h = refl
 
-  pub declared-place : (cmp : K → K → Ordering) → ((a b : K) → cmp a b ≡ Equal → a ≡ b) → (rows : List (Row K C)) (k : K) → IsSome (declared_in (find cmp k rows)) → Contains (map key_of rows) k
+  pub declared-place : (cmp : K → K → Ordering) → ((a b : K) → cmp a b ≡ Equal → a ≡ b)
+      → (rows : List (Row K C)) (k : K) → IsSome (declared_in (find cmp k rows)) → Contains (map key_of rows) k
   declared-place cmp one_key rows k h = place_by cmp one_key rows k (find cmp k rows) refl (declared_some (find cmp k rows) h)
 
-  pub registered-place : (cmp : K → K → Ordering) → ((a b : K) → cmp a b ≡ Equal → a ≡ b) → (rows : List (Row K C)) (k : K) → IsSome (registered_in (find cmp k rows)) → Contains (map key_of rows) k
+  pub registered-place : (cmp : K → K → Ordering) → ((a b : K) → cmp a b ≡ Equal → a ≡ b)
+      → (rows : List (Row K C)) (k : K) → IsSome (registered_in (find cmp k rows)) → Contains (map key_of rows) k
   registered-place cmp one_key rows k h = place_by cmp one_key rows k (find cmp k rows) refl (registered_some (find cmp k rows) h)
 
 -- ---- where a key has a row
@@ -199,19 +227,24 @@ idle (inl h) = h refl
 idle (inr h) = h refl
 
 module _ {K C : Type 0} where
-  row-where_kept : (found : Option (Row K C)) → ((r : Row K C) → found ≡ Some r → is_live r ≡ true) → IsSome found ↔ ((applicant_of found ≢ Vo) ⊎ (registrar_of found ≢ Empty))
+  row-where_kept : (found : Option (Row K C)) → ((r : Row K C) → found ≡ Some r → is_live r ≡ true)
+      → IsSome found ↔ ((applicant_of found ≢ Vo) ⊎ (registrar_of found ≢ Empty))
   row-where_kept None live = (λ h. cc, λ h. absurd (idle h))
   row-where_kept (Some r) live = (λ h. live_by r.applicant r.registrar (live r refl), λ h. refl)
 
   -- a key has a row exactly where something is kept of it
-  pub row-kept : {cmp : K → K → Ordering} (o : IsTotalOrder cmp) (rows : List (Row K C)) (k : K) → AllByRecursion (λ r. is_live r ≡ true) rows → IsSome (find cmp k rows) ↔ ((applicant_of (find cmp k rows) ≢ Vo) ⊎ (registrar_of (find cmp k rows) ≢ Empty))
+  pub row-kept : {cmp : K → K → Ordering} (o : IsTotalOrder cmp) (rows : List (Row K C)) (k : K)
+      → AllByRecursion (λ r. is_live r ≡ true) rows
+      → IsSome (find cmp k rows) ↔ ((applicant_of (find cmp k rows) ≢ Vo) ⊎ (registrar_of (find cmp k rows) ≢ Empty))
   row-kept {cmp = cmp} o rows k live = row-where_kept (find cmp k rows) (find-fits o k rows live).lives
 
   found_some : (cmp : K → K → Ordering) (rows : List (Row K C)) (k : K) (r : Row K C) → find cmp r.key rows ≡ Some r → k ≡ r.key → IsSome (find cmp k rows)
   found_some cmp rows k r found is = subst IsSome (sym (ap (λ q. find cmp q rows) is ∙ found)) refl
 
   -- a key has a row exactly where it is the key of one
-  pub row-place : {cmp : K → K → Ordering} (o : IsTotalOrder cmp) → ((a b : K) → cmp a b ≡ Equal → a ≡ b) → (rows : List (Row K C)) → Ascends cmp key_of rows → (k : K) → IsSome (find cmp k rows) ↔ Contains (map key_of rows) k
+  pub row-place : {cmp : K → K → Ordering} (o : IsTotalOrder cmp) → ((a b : K) → cmp a b ≡ Equal → a ≡ b)
+      → (rows : List (Row K C)) → Ascends cmp key_of rows → (k : K)
+      → IsSome (find cmp k rows) ↔ Contains (map key_of rows) k
   row-place {cmp = cmp} o one_key rows up k = (
     λ h. place_by cmp one_key rows k (find cmp k rows) refl h,
     λ at. let member = In-mapped key_of k rows (In-contains k (map key_of rows) at) in

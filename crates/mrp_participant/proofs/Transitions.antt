@@ -36,17 +36,31 @@ module _ {K C : Type 0} where
 
   declared-live_by : (eq : C → C → Bool) (c : C) (r : Row K C) (a : Applicant) → is_live (declared_row eq c (with_applicant a r)) ≡ true
   declared-live_by eq c r Vo = refl
-  declared-live_by eq c r Vp = elim (eq r.content c) as (λ b. is_live (if b then with_applicant Vp r else record r { applicant = Vn; content = c }) ≡ true) [ true ↦ refl | false ↦ refl ]
-  declared-live_by eq c r Vn = elim (eq r.content c) as (λ b. is_live (if b then with_applicant Vn r else record r { applicant = Vn; content = c }) ≡ true) [ true ↦ refl | false ↦ refl ]
-  declared-live_by eq c r An = elim (eq r.content c) as (λ b. is_live (if b then with_applicant An r else record r { applicant = Vn; content = c }) ≡ true) [ true ↦ refl | false ↦ refl ]
-  declared-live_by eq c r Aa = elim (eq r.content c) as (λ b. is_live (if b then with_applicant Aa r else record r { applicant = Vn; content = c }) ≡ true) [ true ↦ refl | false ↦ refl ]
-  declared-live_by eq c r Qa = elim (eq r.content c) as (λ b. is_live (if b then with_applicant Qa r else record r { applicant = Vn; content = c }) ≡ true) [ true ↦ refl | false ↦ refl ]
+  declared-live_by eq c r Vp = elim (eq r.content c) as
+      (λ b. is_live (if b then with_applicant Vp r else record r { applicant = Vn; content = c })
+      ≡ true) [ true ↦ refl | false ↦ refl ]
+  declared-live_by eq c r Vn = elim (eq r.content c) as
+      (λ b. is_live (if b then with_applicant Vn r else record r { applicant = Vn; content = c })
+      ≡ true) [ true ↦ refl | false ↦ refl ]
+  declared-live_by eq c r An = elim (eq r.content c) as
+      (λ b. is_live (if b then with_applicant An r else record r { applicant = Vn; content = c })
+      ≡ true) [ true ↦ refl | false ↦ refl ]
+  declared-live_by eq c r Aa = elim (eq r.content c) as
+      (λ b. is_live (if b then with_applicant Aa r else record r { applicant = Vn; content = c })
+      ≡ true) [ true ↦ refl | false ↦ refl ]
+  declared-live_by eq c r Qa = elim (eq r.content c) as
+      (λ b. is_live (if b then with_applicant Qa r else record r { applicant = Vn; content = c })
+      ≡ true) [ true ↦ refl | false ↦ refl ]
   declared-live_by eq c r La = refl
 
   declared-live : (eq : C → C → Bool) (c : C) (r : Row K C) → is_live (declared_row eq c r) ≡ true
   declared-live eq c r = declared-live_by eq c r r.applicant
 
-  declared-key_by : (eq : C → C → Bool) (c : C) (r : Row K C) (a b : Bool) → (if a then (if b then r else record r { applicant = applicant.redeclare_of r.applicant; content = c }) else record r { applicant = applicant.declare_of r.applicant; content = c }).key ≡ r.key
+  declared-key_by : (eq : C → C → Bool) (c : C) (r : Row K C) (a b : Bool)
+      → (if a then (if b then r else record r {
+        applicant = applicant.redeclare_of r.applicant;
+        content = c;
+      }) else record r { applicant = applicant.declare_of r.applicant; content = c }).key ≡ r.key
   declared-key_by eq c r true true = refl
   declared-key_by eq c r true false = refl
   declared-key_by eq c r false b = refl
@@ -60,19 +74,25 @@ module _ {K C : Type 0} where
   pub applicant-lives : (event : AppEvent) → KeepsObserver event → (r : Row K C) → is_live r ≡ true → is_live (applicant_takes event r) ≡ true
   applicant-lives event keeps r live = ap (λ b. not b || registrar.is_registered_in r.registrar) (keeps (is_in r.registrar) r.applicant) ∙ live
 
-  pub registrar-lives : (event : RegEvent) → KeepsRegistered event → (leave : Cs) (r : Row K C) → is_live r ≡ true → is_live (registrar_takes event leave r) ≡ true
-  registrar-lives event keeps leave r live = or-map_right (not (is_observer r.applicant)) (registrar.is_registered_in r.registrar) (registrar.is_registered_in (registrar.next event r.registrar)) (keeps r.registrar) live
+  pub registrar-lives : (event : RegEvent) → KeepsRegistered event → (leave : Cs) (r : Row K C) → is_live r ≡ true
+      → is_live (registrar_takes event leave r) ≡ true
+  registrar-lives event keeps leave r live = or-map_right (not (is_observer r.applicant))
+      (registrar.is_registered_in r.registrar) (registrar.is_registered_in (registrar.next event r.registrar))
+      (keeps r.registrar) live
 
   heard-live : (event : MrpEvent) (c : C) (leave : Cs) (r : Row K C) → is_live r ≡ true → is_live (heard_row event c leave r) ≡ true
   heard-live New c leave r live = registrar-lives RxNew new-registers leave r live
-  heard-live JoinIn c leave r live = applicant-lives RxIn in-keeps (with_heard c (registrar_takes RxJoin leave r)) (registrar-lives RxJoin join-registers leave r live)
+  heard-live JoinIn c leave r live = applicant-lives RxIn in-keeps (with_heard c (registrar_takes RxJoin leave r))
+      (registrar-lives RxJoin join-registers leave r live)
   heard-live OnlyIn c leave r live = applicant-lives RxIn in-keeps r live
-  heard-live JoinMt c leave r live = applicant-lives RxMt mt-keeps (with_heard c (registrar_takes RxJoin leave r)) (registrar-lives RxJoin join-registers leave r live)
+  heard-live JoinMt c leave r live = applicant-lives RxMt mt-keeps (with_heard c (registrar_takes RxJoin leave r))
+      (registrar-lives RxJoin join-registers leave r live)
   heard-live OnlyMt c leave r live = applicant-lives RxMt mt-keeps r live
   heard-live Lv c leave r live = applicant-lives AppRxLv lv-keeps (registrar_takes RegRxLv leave r) (registrar-lives RegRxLv lv-registers leave r live)
 
   pub leave_all-live : (leave : Cs) (r : Row K C) → is_live r ≡ true → is_live (leave_all_row leave r) ≡ true
-  leave_all-live leave r live = applicant-lives AppRxLeaveAll leave_all-keeps (registrar_takes RegRxLeaveAll leave r) (registrar-lives RegRxLeaveAll leave_all-registers leave r live)
+  leave_all-live leave r live = applicant-lives AppRxLeaveAll leave_all-keeps (registrar_takes RegRxLeaveAll leave r)
+      (registrar-lives RegRxLeaveAll leave_all-registers leave r live)
 
   pub periodic-live : (r : Row K C) → is_live r ≡ true → is_live (periodic_row r) ≡ true
   periodic-live r live = applicant-lives Periodic periodic-keeps r live
@@ -81,7 +101,10 @@ module _ {K C : Type 0} {cmp : K → K → Ordering} (o : IsTotalOrder cmp) wher
   -- one row of the key that is kept
   fits_some : (k : K) (r : Row K C) → cmp r.key k ≡ Equal → is_live r ≡ true → Fits o k (Some r)
   fits_some k r at live =
-      record { is_of = λ n h. let e : r ≡ n = cc in subst (λ x. cmp x.key k ≡ Equal) e at; lives = λ n h. let e : r ≡ n = cc in subst (λ x. is_live x ≡ true) e live }
+      record {
+        is_of = λ n h. let e : r ≡ n = cc in subst (λ x. cmp x.key k ≡ Equal) e at;
+        lives = λ n h. let e : r ≡ n = cc in subst (λ x. is_live x ≡ true) e live;
+      }
 
   fits_none : (k : K) → Fits {C = C} o k None
   fits_none k = record { is_of = λ n h. cc; lives = λ n h. cc }
@@ -92,7 +115,8 @@ module _ {K C : Type 0} {cmp : K → K → Ordering} (o : IsTotalOrder cmp) wher
 
   -- ---- withdrawing: the row stays, as no withdrawal ends in VO but one of VO
 
-  withdraw-live_by : (r : Row K C) (a : Applicant) → is_live (with_applicant a r) ≡ true → is_live (with_applicant (applicant.withdraw_of a) (with_applicant a r)) ≡ true
+  withdraw-live_by : (r : Row K C) (a : Applicant) → is_live (with_applicant a r) ≡ true
+      → is_live (with_applicant (applicant.withdraw_of a) (with_applicant a r)) ≡ true
   withdraw-live_by r Vo live = live
   withdraw-live_by r Vp live = refl
   withdraw-live_by r Vn live = refl
@@ -131,11 +155,13 @@ module _ {K C : Type 0} {cmp : K → K → Ordering} (o : IsTotalOrder cmp) wher
   hear-fits JoinMt k c leave None fits = fits_some k _ (tied_itself o k) refl
   hear-fits OnlyMt k c leave None fits = fits_none k
   hear-fits Lv k c leave None fits = fits_none k
-  hear-fits event k c leave (Some r) fits = fits_some k _ (ap (λ x. cmp x k) (heard-key event c leave r) ∙ fits.is_of r refl) (heard-live event c leave r (fits.lives r refl))
+  hear-fits event k c leave (Some r) fits = fits_some k _ (ap (λ x. cmp x k) (heard-key event c leave r)
+      ∙ fits.is_of r refl) (heard-live event c leave r (fits.lives r refl))
 
   -- ---- rows after a call of one key
 
-  pub AreRows-declare : (eq : C → C → Bool) (k : K) (c : C) (rows : List (Row K C)) → AreRows cmp rows → AreRows cmp (put cmp k (after_declare eq k c (find cmp k rows)) rows)
+  pub AreRows-declare : (eq : C → C → Bool) (k : K) (c : C) (rows : List (Row K C)) → AreRows cmp rows
+      → AreRows cmp (put cmp k (after_declare eq k c (find cmp k rows)) rows)
   AreRows-declare eq k c rows are = AreRows-put o k _ rows (declare-fits eq k c _ (find-fits o k rows are.1)) are
 
   pub AreRows-withdraw : (k : K) (rows : List (Row K C)) → AreRows cmp rows → AreRows cmp (put cmp k (after_withdraw (find cmp k rows)) rows)
@@ -144,27 +170,36 @@ module _ {K C : Type 0} {cmp : K → K → Ordering} (o : IsTotalOrder cmp) wher
   pub AreRows-leave : (k : K) (rows : List (Row K C)) → AreRows cmp rows → AreRows cmp (put cmp k (after_leave (find cmp k rows)) rows)
   AreRows-leave k rows are = AreRows-put o k _ rows (leave-fits k _ (find-fits o k rows are.1)) are
 
-  pub AreRows-hear : (event : MrpEvent) (k : K) (c : C) (leave : Cs) (rows : List (Row K C)) → AreRows cmp rows → AreRows cmp (put cmp k (after_hear event k c leave (find cmp k rows)) rows)
+  pub AreRows-hear : (event : MrpEvent) (k : K) (c : C) (leave : Cs) (rows : List (Row K C)) → AreRows cmp rows
+      → AreRows cmp (put cmp k (after_hear event k c leave (find cmp k rows)) rows)
   AreRows-hear event k c leave rows are = AreRows-put o k _ rows (hear-fits event k c leave _ (find-fits o k rows are.1)) are
 
 -- rows after a call that may want memory
-pub AreRows-either : {K C X E : Type 0} (cmp : K → K → Ordering) (r : Result X E) (new then_rows old : List (Row K C)) → OnOk r (new ≡ then_rows) → OnErr r (new ≡ old) → AreRows cmp then_rows → AreRows cmp old → AreRows cmp new
+pub AreRows-either : {K C X E : Type 0} (cmp : K → K → Ordering) (r : Result X E) (new then_rows old : List (Row K C))
+    → OnOk r (new ≡ then_rows) → OnErr r (new ≡ old) → AreRows cmp then_rows → AreRows cmp old → AreRows cmp new
 AreRows-either cmp (Ok x) new then_rows old ok err after before = subst (AreRows cmp) (sym ok) after
 AreRows-either cmp (Err x) new then_rows old ok err after before = subst (AreRows cmp) (sym err) before
 
 -- ---- an event at every row
 
 module _ {K C : Type 0} where
-  pub Ascends-mapped : (cmp : K → K → Ordering) (f : Row K C → Row K C) → ((r : Row K C) → (f r).key ≡ r.key) → (rows : List (Row K C)) → Ascends cmp key_of rows → Ascends cmp key_of (map f rows)
+  pub Ascends-mapped : (cmp : K → K → Ordering) (f : Row K C → Row K C) → ((r : Row K C) → (f r).key ≡ r.key)
+      → (rows : List (Row K C)) → Ascends cmp key_of rows → Ascends cmp key_of (map f rows)
   Ascends-mapped cmp f keeps [] up = tt
-  Ascends-mapped cmp f keeps (r ∷ rows) up =
-      (Each-mapped (λ y. cmp r.key y.key ≡ Less) (λ y. cmp (f r).key y.key ≡ Less) f (λ y h. rw (keeps r, keeps y) h) rows up.0, Ascends-mapped cmp f keeps rows up.1)
+  Ascends-mapped cmp f keeps (r ∷ rows) up = (
+    Each-mapped (λ y. cmp r.key y.key ≡ Less) (λ y. cmp (f r).key y.key ≡ Less) f
+        (λ y h. rw (keeps r, keeps y) h) rows up.0,
+    Ascends-mapped cmp f keeps rows up.1,
+  )
 
-  pub AreRows-mapped : (cmp : K → K → Ordering) (f : Row K C → Row K C) → ((r : Row K C) → (f r).key ≡ r.key) → ((r : Row K C) → is_live r ≡ true → is_live (f r) ≡ true) → (rows : List (Row K C)) → AreRows cmp rows → AreRows cmp (map f rows)
+  pub AreRows-mapped : (cmp : K → K → Ordering) (f : Row K C → Row K C) → ((r : Row K C) → (f r).key ≡ r.key)
+      → ((r : Row K C) → is_live r ≡ true → is_live (f r) ≡ true) → (rows : List (Row K C)) → AreRows cmp rows
+      → AreRows cmp (map f rows)
   AreRows-mapped cmp f keeps lives rows are =
       (Ascends-mapped cmp f keeps rows are.0, Each-mapped (λ r. is_live r ≡ true) (λ r. is_live r ≡ true) f lives rows are.1)
 
-  pub AreRows-leave_all : (cmp : K → K → Ordering) (leave : Cs) (rows : List (Row K C)) (leave_all : Bool) → AreRows cmp rows → AreRows cmp (if leave_all then map (leave_all_row leave) rows else rows)
+  pub AreRows-leave_all : (cmp : K → K → Ordering) (leave : Cs) (rows : List (Row K C)) (leave_all : Bool)
+      → AreRows cmp rows → AreRows cmp (if leave_all then map (leave_all_row leave) rows else rows)
   AreRows-leave_all cmp leave rows true are = AreRows-mapped cmp (leave_all_row leave) (λ r. refl) (leave_all-live leave) rows are
   AreRows-leave_all cmp leave rows false are = are
 
@@ -172,12 +207,15 @@ module _ {K C : Type 0} where
   AreRows-periodic cmp rows are = AreRows-mapped cmp periodic_row (λ r. refl) periodic-live rows are
 
 module _ {K C : Type 0} {cmp : K → K → Ordering} (o : IsTotalOrder cmp) where
-  AreRows-fold : (leave : Cs) (events : List (MrpEvent × K × C)) (rows : List (Row K C)) → AreRows cmp rows → AreRows cmp (fold (rows_hearing cmp leave) rows events)
+  AreRows-fold : (leave : Cs) (events : List (MrpEvent × K × C)) (rows : List (Row K C)) → AreRows cmp rows
+      → AreRows cmp (fold (rows_hearing cmp leave) rows events)
   AreRows-fold leave [] rows are = are
   AreRows-fold leave (e ∷ events) rows are = AreRows-fold leave events (rows_hearing cmp leave rows e) (AreRows-hear o e.0 e.1 e.2 leave rows are)
 
-  pub AreRows-receive : (leave : Cs) (leave_all : Bool) (events : List (MrpEvent × K × C)) (rows : List (Row K C)) → AreRows cmp rows → AreRows cmp (rows_after_receive cmp leave leave_all events rows)
-  AreRows-receive leave leave_all events rows are = AreRows-fold leave events (if leave_all then map (leave_all_row leave) rows else rows) (AreRows-leave_all cmp leave rows leave_all are)
+  pub AreRows-receive : (leave : Cs) (leave_all : Bool) (events : List (MrpEvent × K × C)) (rows : List (Row K C))
+      → AreRows cmp rows → AreRows cmp (rows_after_receive cmp leave leave_all events rows)
+  AreRows-receive leave leave_all events rows are = AreRows-fold leave events
+      (if leave_all then map (leave_all_row leave) rows else rows) (AreRows-leave_all cmp leave rows leave_all are)
 
 -- ---- rows that go where an event leaves nothing of them
 
@@ -186,8 +224,12 @@ module _ {K C : Type 0} where
     pub key : (r s : Row K C) → f r ≡ Some s → s.key ≡ r.key
     pub lives : (r s : Row K C) → is_live r ≡ true → f r ≡ Some s → is_live s ≡ true
 
-  pub AreRows-filter_mapped : (cmp : K → K → Ordering) (f : Row K C → Option (Row K C)) → Keeps f → (rows : List (Row K C)) → AreRows cmp rows → AreRows cmp (filter_map f rows)
-  AreRows-filter_mapped cmp f keeps rows are = (Ascends-kept cmp key_of key_of f keeps.key rows are.0, Each-kept (λ r. is_live r ≡ true) (λ r. is_live r ≡ true) f keeps.lives rows are.1)
+  pub AreRows-filter_mapped : (cmp : K → K → Ordering) (f : Row K C → Option (Row K C)) → Keeps f
+      → (rows : List (Row K C)) → AreRows cmp rows → AreRows cmp (filter_map f rows)
+  AreRows-filter_mapped cmp f keeps rows are = (
+    Ascends-kept cmp key_of key_of f keeps.key rows are.0,
+    Each-kept (λ r. is_live r ≡ true) (λ r. is_live r ≡ true) f keeps.lives rows are.1,
+  )
 
   -- a row that is kept only where something is left of it
   kept-is_by : (r s : Row K C) (b : Bool) → is_live r ≡ b → (if b then Some r else None) ≡ Some s → (s ≡ r) × (is_live s ≡ true)
@@ -219,7 +261,8 @@ module _ {K C : Type 0} where
   leave_all_due-rows now s true = refl
   leave_all_due-rows now s false = refl
 
-  periodic_due-rows : (cmp : K → K → Ordering) (now : Cs) (s : State K C) (b : Bool) → AreRows cmp s.rows → AreRows cmp (if b then periodic_fired_state now s else s).rows
+  periodic_due-rows : (cmp : K → K → Ordering) (now : Cs) (s : State K C) (b : Bool) → AreRows cmp s.rows
+      → AreRows cmp (if b then periodic_fired_state now s else s).rows
   periodic_due-rows cmp now s true are = AreRows-periodic cmp s.rows are
   periodic_due-rows cmp now s false are = are
 
@@ -228,4 +271,5 @@ module _ {K C : Type 0} where
       let first : State K C = leave_timers_state now s in
       let second : State K C = due_leave_all_state now first in
       periodic_due-rows cmp now second (is_periodic_due now second)
-      (subst (AreRows cmp) (sym (leave_all_due-rows now first (is_leave_all_due now first))) (AreRows-filter_mapped cmp (after_leave_due now.0) (due-keeps now.0) s.rows are))
+      (subst (AreRows cmp) (sym (leave_all_due-rows now first (is_leave_all_due now first)))
+      (AreRows-filter_mapped cmp (after_leave_due now.0) (due-keeps now.0) s.rows are))

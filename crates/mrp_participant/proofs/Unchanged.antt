@@ -22,7 +22,10 @@ use Rattle.mrp_participant.specs.State.{State, AreRows, with_rows}
 use Rattle.mrp_participant.proofs.Lookups.{find-above, above_all, find-fits}
 
 module _ {K C : Type 0} {cmp : K → K → Ordering} (o : IsTotalOrder cmp) where
-  put-found_at : (k : K) (r : Row K C) (rows : List (Row K C)) (c : Ordering) → cmp r.key k ≡ c → Ascends cmp key_of (r ∷ rows) → put cmp k (find cmp k rows) rows ≡ rows → put_at c (if is_eq c then Some r else find cmp k rows) r rows (put cmp k (if is_eq c then Some r else find cmp k rows) rows) ≡ r ∷ rows
+  put-found_at : (k : K) (r : Row K C) (rows : List (Row K C)) (c : Ordering) → cmp r.key k ≡ c
+      → Ascends cmp key_of (r ∷ rows) → put cmp k (find cmp k rows) rows ≡ rows
+      → put_at c (if is_eq c then Some r else find cmp k rows) r rows
+      (put cmp k (if is_eq c then Some r else find cmp k rows) rows) ≡ r ∷ rows
   put-found_at k r rows Less c up rest = ap (λ l. r ∷ l) rest
   put-found_at k r rows Equal c up rest = refl
   put-found_at k r rows Greater c up rest =
@@ -52,7 +55,8 @@ module _ {K C : Type 0} where
       let at = declared_true (applicant.is_declared_in r.applicant) r.content c h in
       ap Some (first_of r _ _ (applicant.is_declared_in r.applicant) (eq r.content c) at.0 (ap (eq r.content) (sym at.1) ∙ laws.refl r.content))
 
-  undeclared_by : (r : Row K C) (a : Applicant) → declared_in (Some (with_applicant a r)) ≡ None → after_withdraw (Some (with_applicant a r)) ≡ Some (with_applicant a r)
+  undeclared_by : (r : Row K C) (a : Applicant) → declared_in (Some (with_applicant a r)) ≡ None
+      → after_withdraw (Some (with_applicant a r)) ≡ Some (with_applicant a r)
   undeclared_by r Vo h = refl
   undeclared_by r Vp h = cc
   undeclared_by r Vn h = cc
@@ -65,7 +69,8 @@ module _ {K C : Type 0} where
   undeclared None h = refl
   undeclared (Some r) h = undeclared_by r r.applicant h
 
-  unleaving_by : (r : Row K C) (g : Registrar) → is_leaving g ≡ false → is_live (record r { registrar = g }) ≡ true → left_row (record r { registrar = g }) ≡ Some (record r { registrar = g })
+  unleaving_by : (r : Row K C) (g : Registrar) → is_leaving g ≡ false → is_live (record r { registrar = g }) ≡ true
+      → left_row (record r { registrar = g }) ≡ Some (record r { registrar = g })
   unleaving_by r Held h live = ap (λ b. if b then Some (record r { registrar = Held }) else None) live
   unleaving_by r Leaving h live = cc
   unleaving_by r Empty h live = ap (λ b. if b then Some (record r { registrar = Empty }) else None) live
@@ -77,13 +82,17 @@ module _ {K C : Type 0} where
 -- ---- calls
 
 module _ {K C : Type 0} {cmp : K → K → Ordering} (o : IsTotalOrder cmp) where
-  pub declare-same : (eq : C → C → Bool) → IsEquivalence eq → (k : K) (c : C) (rows : List (Row K C)) → AreRows cmp rows → declared_in (find cmp k rows) ≡ Some c → put cmp k (after_declare eq k c (find cmp k rows)) rows ≡ rows
+  pub declare-same : (eq : C → C → Bool) → IsEquivalence eq → (k : K) (c : C) (rows : List (Row K C))
+      → AreRows cmp rows → declared_in (find cmp k rows) ≡ Some c
+      → put cmp k (after_declare eq k c (find cmp k rows)) rows ≡ rows
   declare-same eq laws k c rows are h = ap (λ new. put cmp k new rows) (same-declared eq laws k c (find cmp k rows) h) ∙ put-found o k rows are.0
 
-  pub withdraw-undeclared : (k : K) (rows : List (Row K C)) → AreRows cmp rows → declared_in (find cmp k rows) ≡ None → put cmp k (after_withdraw (find cmp k rows)) rows ≡ rows
+  pub withdraw-undeclared : (k : K) (rows : List (Row K C)) → AreRows cmp rows → declared_in (find cmp k rows) ≡ None
+      → put cmp k (after_withdraw (find cmp k rows)) rows ≡ rows
   withdraw-undeclared k rows are h = ap (λ new. put cmp k new rows) (undeclared (find cmp k rows) h) ∙ put-found o k rows are.0
 
-  pub leave-unleaving : (k : K) (rows : List (Row K C)) → AreRows cmp rows → is_leaving_in (find cmp k rows) ≡ false → put cmp k (after_leave (find cmp k rows)) rows ≡ rows
+  pub leave-unleaving : (k : K) (rows : List (Row K C)) → AreRows cmp rows → is_leaving_in (find cmp k rows) ≡ false
+      → put cmp k (after_leave (find cmp k rows)) rows ≡ rows
   leave-unleaving k rows are h = ap (λ new. put cmp k new rows) (unleaving (find cmp k rows) (find-fits o k rows are.1).lives h) ∙ put-found o k rows are.0
 
 -- what is put is what was, so after a call that may want memory it is what was

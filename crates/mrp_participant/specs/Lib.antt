@@ -1,4 +1,4 @@
-pub mod Cut
+pub mod SendingLimit
 pub mod Duty
 pub mod Hearing
 pub mod Link

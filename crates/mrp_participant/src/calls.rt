@@ -8,8 +8,8 @@ ghost use Rattle.mrp_participant.specs.State.{declared_state, withdrawn_state, l
 
 use crate::application::MrpApp;
 use crate::lookup::place;
-use crate::model::Participant;
 use crate::outlook::{Outlook, fill_row, replace_row};
+use crate::participant::Participant;
 use crate::row::Row;
 use registrar::Registrar;
 use srp_base::NoMemory;

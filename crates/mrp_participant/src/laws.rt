@@ -102,6 +102,16 @@ pub fn none_due<A: MrpApp>()
         ≡ 0) ↔ (is_any_due now s ≡ false) }
 {}
 
+/// Where no timer is due, firing those that are changes nothing, and no key leaves.
+pub fn nothing_due_changes_nothing<A: MrpApp>()
+    ensures state { (s : State A.Key A.Content) (now : Cs) → is_any_due now s ≡ false
+        → due_state now s ≡ s }
+    ensures left { (s : State A.Key A.Content) (now : Cs) → is_any_due now s ≡ false
+        → left_keys now s ≡ [] }
+    ensures count { (s : State A.Key A.Content) (now : Cs) → is_any_due now s ≡ false
+        → due_count now s ≡ 0 }
+{}
+
 /// What `send` says of a key is the one event of its row, or nothing.
 pub fn each_key_in_what_is_sent<A: MrpApp>()
     ensures { (s : State A.Key A.Content) (now : Cs)
@@ -323,6 +333,11 @@ pub fn still_at_each_key<A: MrpApp>()
         → ((k : A.Key) → is_quiet (applicant_of (find A.Key.cmp k s.rows)) ≡ true)
         → ((k : A.Key) → is_leaving_in (find A.Key.cmp k s.rows) ≡ false)
         → is_still s ≡ true }
+{}
+
+/// A participant that is still has nothing to say.
+pub fn still_is_silent<A: MrpApp>()
+    ensures { (s : State A.Key A.Content) → is_still s ≡ true → is_silent s ≡ true }
 {}
 
 /// A key has a row exactly where its Applicant isn't VO or its Registrar isn't MT.

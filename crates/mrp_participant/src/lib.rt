@@ -37,23 +37,23 @@
 //! `src/row.rt`.
 #![tactic(auto)]
 
+mod append;
 mod application;
 mod calls;
-mod cut;
 pub mod duty_laws;
 mod event_order;
 mod hearing;
-mod kept;
 pub mod laws;
 pub mod link_laws;
 mod lookup;
-mod model;
 mod outlook;
+mod participant;
 mod receive;
 mod row;
 mod sending;
+mod sending_limit;
 mod timers;
 
 pub use application::{MrpApp, Msgs};
-pub use model::Participant;
+pub use participant::Participant;
 pub use row::Row;

@@ -4,16 +4,16 @@ ghost use Rattle.std.specs.Prelude.{◌≡◌, ◌<◌, ◌^◌, ◌+◌, ◌++�
 ghost use Rattle.std.specs.List.{filter_map};
 ghost use Rattle.mrp_participant.specs.Lookup.{Ascends};
 ghost use Rattle.mrp_participant.specs.Sending.{sent_row, sent_event, is_taken};
-ghost use Rattle.mrp_participant.specs.Cut.{is_before, is_in_room};
+ghost use Rattle.mrp_participant.specs.SendingLimit.{is_before, is_in_room};
 ghost use Rattle.mrp_participant.specs.Outlook.{IsOutlook};
 ghost use Rattle.mrp_participant.specs.State.{AreRows, is_active, is_silent, sent_events, sent_state};
 
+use crate::append::push_some;
 use crate::application::{MrpApp, Msgs};
-use crate::cut::{Cut, find_cut};
-use crate::kept::push_some;
-use crate::model::Participant;
 use crate::outlook::{Outlook, is_none_tried, outlook_of};
+use crate::participant::Participant;
 use crate::row::{Row, round};
+use crate::sending_limit::{SendingLimit, find_limit};
 use leaveall::{LaEvent, LeaveAll};
 use srp_base::{Cs, MrpEvent, NoMemory, Seq};
 
@@ -98,10 +98,10 @@ fn send_rows<A: MrpApp>(
 {
     let alloc = *rows.allocator();
     let all = rows.as_slice();
-    let cut = find_cut::<A>(all, leave_all);
+    let limit = find_limit::<A>(all, leave_all);
     let mut events = Vec::new(alloc);
     let mut after = Vec::new(alloc);
-    send_each(all, leave_all, &cut, leave, &mut events, &mut after)?;
+    send_each(all, leave_all, &limit, leave, &mut events, &mut after)?;
     *outlook = outlook_of(after.as_slice());
     *rows = after;
     Ok(Seq::from_vec(events))
@@ -111,22 +111,26 @@ fn send_rows<A: MrpApp>(
 fn is_in_room<K: Copy + Ord, C: Copy>(
     row: &Row<K, C>,
     leave_all: bool,
-    cut: &Option<Cut<K>>,
+    limit: &Option<SendingLimit<K>>,
 ) -> bool
-    ensures { result ≡ is_in_room K.cmp leave_all cut.now row.now }
+    ensures { result ≡ is_in_room K.cmp leave_all limit.now row.now }
 {
-    row.is_tried(leave_all) && is_before(row, leave_all, cut)
+    row.is_tried(leave_all) && is_before(row, leave_all, limit)
 }
 
 /// Whether a row is tried before the first one that finds no room, if there is one.
-fn is_before<K: Copy + Ord, C: Copy>(row: &Row<K, C>, leave_all: bool, cut: &Option<Cut<K>>) -> bool
-    ensures { result ≡ is_before K.cmp leave_all cut.now row.now }
+fn is_before<K: Copy + Ord, C: Copy>(
+    row: &Row<K, C>,
+    leave_all: bool,
+    limit: &Option<SendingLimit<K>>,
+) -> bool
+    ensures { result ≡ is_before K.cmp leave_all limit.now row.now }
 {
-    match cut {
+    match limit {
         None => true,
-        Some(cut) => {
+        Some(limit) => {
             let n = round(leave_all, row.applicant);
-            n < cut.round || (n == cut.round && row.key < cut.key)
+            n < limit.round || (n == limit.round && row.key < limit.key)
         }
     }
 }
@@ -136,18 +140,18 @@ fn is_before<K: Copy + Ord, C: Copy>(row: &Row<K, C>, leave_all: bool, cut: &Opt
 fn send_each<K: Copy + Ord, C: Copy>(
     rows: &[Row<K, C>],
     leave_all: bool,
-    cut: &Option<Cut<K>>,
+    limit: &Option<SendingLimit<K>>,
     leave: Cs,
     events: &mut Vec<(MrpEvent, K, C)>,
     after: &mut Vec<Row<K, C>>,
 ) -> Result<(), NoMemory>
     ensures events { OnOk result (events.new.items ≡ events.old.items ++ filter_map
-        (λ r. sent_event leave_all (is_in_room K.cmp leave_all cut.now r) leave r) rows.now) }
+        (λ r. sent_event leave_all (is_in_room K.cmp leave_all limit.now r) leave r) rows.now) }
     ensures rows { OnOk result (after.new.items ≡ after.old.items ++ filter_map
-        (λ r. sent_row leave_all (is_in_room K.cmp leave_all cut.now r) leave r) rows.now) }
+        (λ r. sent_row leave_all (is_in_room K.cmp leave_all limit.now r) leave r) rows.now) }
 {
     for row in rows {
-        let taken = is_in_room(row, leave_all, cut);
+        let taken = is_in_room(row, leave_all, limit);
         push_some(events, row.says(leave_all, taken, leave))?;
         push_some(after, row.sent(leave_all, taken, leave))?;
     }

@@ -8,10 +8,10 @@ ghost use Rattle.mrp_participant.specs.Row.{leave_is_due, after_leave_due, perio
 ghost use Rattle.mrp_participant.specs.Outlook.{IsOutlook};
 ghost use Rattle.mrp_participant.specs.State.{leave_all_state, periodic_state, is_any_due, due_leave_all_state, due_periodic_state, due_state, due_count, left_keys};
 
+use crate::append::push_some;
 use crate::application::MrpApp;
-use crate::kept::push_some;
-use crate::model::Participant;
 use crate::outlook::{Outlook, is_leave_due, outlook_of};
+use crate::participant::Participant;
 use crate::row::Row;
 use leaveall::LaEvent;
 use srp_base::{Cs, NoMemory, Seq};

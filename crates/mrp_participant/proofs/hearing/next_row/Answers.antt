@@ -5,11 +5,13 @@ use Rattle.mrp_participant.proofs.hearing.next_row.Goals as goal
 
 pub returns-then-j-heard-clause-next : goal.returns-then-j-heard-clause-next
 returns-then-j-heard-clause-next g c =
-    next-of_second g.K.Ord.cmp c.args.heard.now c.args.rows.now c.args.i c.args.j (let more = c.requires.more in let end = c.if-j-heard.true in omega arith) _ c.if-j-heard.true c.index-rows-i.is
+    next-of_second g.K.Ord.cmp c.args.heard.now c.args.rows.now c.args.i c.args.j
+    (let more = c.requires.more in let end = c.if-j-heard.true in omega arith) _ c.if-j-heard.true c.index-rows-i.is
 
 pub returns-then-i-rows-clause-next : goal.returns-then-i-rows-clause-next
 returns-then-i-rows-clause-next g c =
-    next-of_first g.K.Ord.cmp c.args.heard.now c.args.rows.now c.args.i c.args.j _ c.if-i-rows.true (let within = c.requires.within in let other = c.if-j-heard.false in omega arith) c.index-heard-j.is
+    next-of_first g.K.Ord.cmp c.args.heard.now c.args.rows.now c.args.i c.args.j _ c.if-i-rows.true
+    (let within = c.requires.within in let other = c.if-j-heard.false in omega arith) c.index-heard-j.is
 
 pub returns-in-Less-clause-next : goal.returns-in-Less-clause-next
 returns-in-Less-clause-next g c =

@@ -24,8 +24,10 @@ loop-row-preserved g c =
           ∙ ap (λ rows. put_over g.K.Ord.cmp (drop (c.loop-row.row-index + 1) c.args.heard.now) rows) (sym c.put_in.ensures.rows);
       ascends = subst (Ascends g.K.Ord.cmp key_of) (sym c.put_in.ensures.rows) (Ascends-put_row g.met.K.Ord.total _ _ c.loop-row.invariant.ascends);
       known =
-          subst (λ rows. AllByRecursion (λ u. IsSome (find g.K.Ord.cmp u.key rows)) (drop (c.loop-row.row-index + 1) c.args.heard.now)) (sym c.put_in.ensures.rows)
-          (known-put g.met.K.Ord.total _ _ _ c.loop-row.invariant.ascends (each-at_drop _ c.args.heard.now _ _ c.loop-row-test.true c.row-item.is c.loop-row.invariant.known).1);
+          subst (λ rows. AllByRecursion (λ u. IsSome (find g.K.Ord.cmp u.key rows))
+          (drop (c.loop-row.row-index + 1) c.args.heard.now)) (sym c.put_in.ensures.rows)
+          (known-put g.met.K.Ord.total _ _ _ c.loop-row.invariant.ascends
+          (each-at_drop _ c.args.heard.now _ _ c.loop-row-test.true c.row-item.is c.loop-row.invariant.known).1);
       tells = c.put_in.ensures.tells;
     }
 
@@ -42,4 +44,6 @@ pub or_anew-requires : goal.or_anew-requires
 or_anew-requires g c = subst (Tells c.loop-row.outlook) (sym c.as_slice.ensures.value) c.loop-row.invariant.tells
 
 pub returns-clause-rows : goal.returns-clause-rows
-returns-clause-rows g c = sym (c.loop-row.invariant.put ∙ ap (λ over. put_over g.K.Ord.cmp over c.loop-row.rows.items) (drop_all _ c.args.heard.now c.loop-row-test.false))
+returns-clause-rows g c = sym (c.loop-row.invariant.put
+    ∙ ap (λ over. put_over g.K.Ord.cmp over c.loop-row.rows.items)
+    (drop_all _ c.args.heard.now c.loop-row-test.false))

@@ -14,9 +14,12 @@ pub loop-event-preserved : goal.loop-event-preserved
 loop-event-preserved g c =
     record {
       heard =
-          fold-step (heard_with g.K.Ord.cmp c.args.leave_all c.args.leave c.args.rows.now) _ _ _ _ _ c.loop-event-test.true c.event-item.is c.loop-event.invariant.heard
-          ∙ ap (λ heard. fold (heard_with g.K.Ord.cmp c.args.leave_all c.args.leave c.args.rows.now) heard (drop (c.loop-event.event-index + 1) c.args.events.now)) (sym c.in_ok-hear_beside.ensures);
-      are_rows = subst (AreRows g.K.Ord.cmp) (sym c.in_ok-hear_beside.ensures) (AreRows-heard g.met.K.Ord.total c.args.leave_all c.args.leave c.args.rows.now c.requires _ _ _ _ c.loop-event.invariant.are_rows);
+          fold-step
+          (heard_with g.K.Ord.cmp c.args.leave_all c.args.leave c.args.rows.now) _ _ _ _ _ c.loop-event-test.true c.event-item.is c.loop-event.invariant.heard
+          ∙ ap (λ heard. fold (heard_with g.K.Ord.cmp c.args.leave_all c.args.leave c.args.rows.now) heard
+          (drop (c.loop-event.event-index + 1) c.args.events.now)) (sym c.in_ok-hear_beside.ensures);
+      are_rows = subst (AreRows g.K.Ord.cmp) (sym c.in_ok-hear_beside.ensures)
+          (AreRows-heard g.met.K.Ord.total c.args.leave_all c.args.leave c.args.rows.now c.requires _ _ _ _ c.loop-event.invariant.are_rows);
     }
 
 pub loop-event-init : goal.loop-event-init
@@ -43,7 +46,9 @@ returns-clause-each_key g c k =
     ap (λ heard. row_so_far g.K.Ord.cmp c.args.leave_all c.args.leave c.args.rows.now heard k)
     (sym
     (c.loop-event.invariant.heard
-    ∙ ap (λ events. fold (heard_with g.K.Ord.cmp c.args.leave_all c.args.leave c.args.rows.now) c.loop-event.heard.items events) (drop_all _ c.args.events.now c.loop-event-test.false)))
+    ∙ ap (λ events. fold
+    (heard_with g.K.Ord.cmp c.args.leave_all c.args.leave c.args.rows.now) c.loop-event.heard.items events)
+    (drop_all _ c.args.events.now c.loop-event-test.false)))
     ∙ heard-each g.met.K.Ord.total c.args.leave_all c.args.leave c.args.rows.now c.requires c.args.events.now k
 
 pub returns-clause-are_rows : goal.returns-clause-are_rows

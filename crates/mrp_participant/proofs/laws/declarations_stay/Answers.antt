@@ -32,5 +32,8 @@ returns-clause-periodic_due g c = λ s k.
 
 pub returns-clause-send : goal.returns-clause-send
 returns-clause-send g c = λ s now are k.
-    ap declared_in (each-kept g.met.A.Key.Ord.total _ (sent-keeps (is_active s.leave_all) (takes g.A.MrpApp.base g.A.MrpApp.octets g.A.Key.Ord.cmp s) (after now s.leave_time)) s.rows are.0 k)
-    ∙ sent-declared c.events_keep_declarations.ensures (is_active s.leave_all) (takes g.A.MrpApp.base g.A.MrpApp.octets g.A.Key.Ord.cmp s) (after now s.leave_time) (find g.A.Key.Ord.cmp k s.rows)
+    ap declared_in (each-kept g.met.A.Key.Ord.total _ (sent-keeps (is_active s.leave_all)
+    (takes g.A.MrpApp.base g.A.MrpApp.octets g.A.Key.Ord.cmp s) (after now s.leave_time)) s.rows are.0 k)
+    ∙ sent-declared c.events_keep_declarations.ensures (is_active s.leave_all)
+    (takes g.A.MrpApp.base g.A.MrpApp.octets g.A.Key.Ord.cmp s) (after now s.leave_time)
+    (find g.A.Key.Ord.cmp k s.rows)

@@ -5,7 +5,8 @@ use Rattle.mrp_participant.proofs.laws.receive_tells_each_change.Goals as goal
 
 pub returns-clause-told : goal.returns-clause-told
 returns-clause-told g c = λ s now leave_all events are k.
-    changes-are_told g.met.A.Key.Ord.total g.A.Content.PartialEq.eq g.met.A.MrpApp.one_key g.met.A.MrpApp.one_content (after now s.leave_time) leave_all events s.rows are k
+    changes-are_told g.met.A.Key.Ord.total g.A.Content.PartialEq.eq g.met.A.MrpApp.one_key g.met.A.MrpApp.one_content
+    (after now s.leave_time) leave_all events s.rows are k
 
 pub returns-clause-only : goal.returns-clause-only
 returns-clause-only g c = λ s now leave_all events are k.

@@ -11,12 +11,15 @@ use Rattle.mrp_participant.proofs.laws.registrations_stay.Goals as goal
 pub returns-clause-declare : goal.returns-clause-declare
 returns-clause-declare g c = λ s key content are k.
     ap registered_in (each-declare g.met.A.Key.Ord.total g.A.Content.PartialEq.eq key content s.rows are k)
-    ∙ stays-at g.met.A.Key.Ord.total registered_in (after_declare g.A.Content.PartialEq.eq key content (find g.A.Key.Ord.cmp key s.rows)) key k s.rows (declare-registered g.A.Content.PartialEq.eq key content (find g.A.Key.Ord.cmp key s.rows))
+    ∙ stays-at g.met.A.Key.Ord.total registered_in
+    (after_declare g.A.Content.PartialEq.eq key content (find g.A.Key.Ord.cmp key s.rows)) key k s.rows
+    (declare-registered g.A.Content.PartialEq.eq key content (find g.A.Key.Ord.cmp key s.rows))
 
 pub returns-clause-withdraw : goal.returns-clause-withdraw
 returns-clause-withdraw g c = λ s key are k.
     ap registered_in (each-withdraw g.met.A.Key.Ord.total key s.rows are k)
-    ∙ stays-at g.met.A.Key.Ord.total registered_in (after_withdraw (find g.A.Key.Ord.cmp key s.rows)) key k s.rows (withdraw-registered (find g.A.Key.Ord.cmp key s.rows))
+    ∙ stays-at g.met.A.Key.Ord.total registered_in (after_withdraw (find g.A.Key.Ord.cmp key s.rows)) key k s.rows
+    (withdraw-registered (find g.A.Key.Ord.cmp key s.rows))
 
 pub returns-clause-periodic_due : goal.returns-clause-periodic_due
 returns-clause-periodic_due g c = λ s k.
@@ -24,5 +27,7 @@ returns-clause-periodic_due g c = λ s k.
 
 pub returns-clause-send : goal.returns-clause-send
 returns-clause-send g c = λ s now are k.
-    ap registered_in (each-kept g.met.A.Key.Ord.total _ (sent-keeps (is_active s.leave_all) (takes g.A.MrpApp.base g.A.MrpApp.octets g.A.Key.Ord.cmp s) (after now s.leave_time)) s.rows are.0 k)
-    ∙ sent-registered (is_active s.leave_all) (takes g.A.MrpApp.base g.A.MrpApp.octets g.A.Key.Ord.cmp s) (after now s.leave_time) (find g.A.Key.Ord.cmp k s.rows)
+    ap registered_in (each-kept g.met.A.Key.Ord.total _ (sent-keeps (is_active s.leave_all)
+    (takes g.A.MrpApp.base g.A.MrpApp.octets g.A.Key.Ord.cmp s) (after now s.leave_time)) s.rows are.0 k)
+    ∙ sent-registered (is_active s.leave_all) (takes g.A.MrpApp.base g.A.MrpApp.octets g.A.Key.Ord.cmp s)
+    (after now s.leave_time) (find g.A.Key.Ord.cmp k s.rows)

@@ -26,4 +26,5 @@ returns-clause-periodic_due g c = λ s are. AreRows-periodic g.A.Key.Ord.cmp s.r
 
 pub returns-clause-send : goal.returns-clause-send
 returns-clause-send g c = λ s now are.
-    AreRows-filter_mapped g.A.Key.Ord.cmp _ (sent-keeps (is_active s.leave_all) (takes g.A.MrpApp.base g.A.MrpApp.octets g.A.Key.Ord.cmp s) (after now s.leave_time)) s.rows are
+    AreRows-filter_mapped g.A.Key.Ord.cmp _ (sent-keeps (is_active s.leave_all)
+    (takes g.A.MrpApp.base g.A.MrpApp.octets g.A.Key.Ord.cmp s) (after now s.leave_time)) s.rows are

@@ -6,4 +6,5 @@ pub returns-clause-taken : goal.returns-clause-taken
 returns-clause-taken g c = λ s now r h. taken-says (is_active s.leave_all) _ (after now s.leave_time) r h
 
 pub returns-clause-not_taken : goal.returns-clause-not_taken
-returns-clause-not_taken g c = λ s now r h. not_taken-says (is_active s.leave_all) (takes g.A.MrpApp.base g.A.MrpApp.octets g.A.Key.Ord.cmp s r) (after now s.leave_time) r h
+returns-clause-not_taken g c = λ s now r h. not_taken-says (is_active s.leave_all)
+    (takes g.A.MrpApp.base g.A.MrpApp.octets g.A.Key.Ord.cmp s r) (after now s.leave_time) r h

@@ -18,4 +18,5 @@ pub returns-clause-says : goal.returns-clause-says
 returns-clause-says g c = λ s now are some off empty.
     events-are_some g.met.A.Key.Ord.total g.A.MrpApp.octets g.A.MrpApp.base (after now s.leave_time) s.rows are.0 g.met.A.MrpApp.row_fits
     (tried-where_not_silent s some off)
-    (ap (λ b. filter_map (λ r. sent_event b (is_taken g.A.MrpApp.base g.A.MrpApp.octets g.A.Key.Ord.cmp b s.rows r) (after now s.leave_time) r) s.rows) (sym off) ∙ empty)
+    (ap (λ b. filter_map (λ r. sent_event b (is_taken g.A.MrpApp.base g.A.MrpApp.octets g.A.Key.Ord.cmp b s.rows r)
+    (after now s.leave_time) r) s.rows) (sym off) ∙ empty)

@@ -11,11 +11,15 @@ use Rattle.mrp_participant.specs.Lookup.{Ascends, key_of, IsRowAt, IsGapAt}
 use Rattle.mrp_participant.proofs.Lookups.{row_at, gap_at, rises}
 use Rattle.mrp_participant.proofs.lookup.place.Goals as goal
 
-row : {K C : Type 0} {cmp : K → K → Ordering} → IsTotalOrder cmp → (k : K) (rows : List (Row K C)) (r : Result ℕ ℕ) → Ascends cmp key_of rows → IsSearchInRange r (length rows) → IsBinarySearchResult (λ y. cmp (key_of y) k) rows r → IfOk r (λ i. IsRowAt cmp k rows i)
+row : {K C : Type 0} {cmp : K → K → Ordering} → IsTotalOrder cmp → (k : K) (rows : List (Row K C)) (r : Result ℕ ℕ)
+    → Ascends cmp key_of rows → IsSearchInRange r (length rows) → IsBinarySearchResult (λ y. cmp (key_of y) k) rows r
+    → IfOk r (λ i. IsRowAt cmp k rows i)
 row o k rows (Ok i) up below at = row_at o k rows i up below at
 row o k rows (Err i) up below at = tt
 
-gap : {K C : Type 0} {cmp : K → K → Ordering} → IsTotalOrder cmp → (k : K) (rows : List (Row K C)) (r : Result ℕ ℕ) → Ascends cmp key_of rows → IsSearchInRange r (length rows) → IsBinarySearchResult (λ y. cmp (key_of y) k) rows r → IfErr r (λ i. IsGapAt cmp k rows i)
+gap : {K C : Type 0} {cmp : K → K → Ordering} → IsTotalOrder cmp → (k : K) (rows : List (Row K C)) (r : Result ℕ ℕ)
+    → Ascends cmp key_of rows → IsSearchInRange r (length rows) → IsBinarySearchResult (λ y. cmp (key_of y) k) rows r
+    → IfErr r (λ i. IsGapAt cmp k rows i)
 gap o k rows (Ok i) up below at = tt
 gap o k rows (Err i) up below at = gap_at o k rows i up below (at (rises o k rows up))
 

@@ -8,7 +8,8 @@ without-others-requires g c = (without-at c.args.outlook.now c.args.rows.now.ite
 
 pub with-requires : goal.with-requires
 with-requires g c =
-    room-at c.args.outlook.now _ c.args.rows.now.items c.args.at c.index.result.now c.requires.within c.index.ensures (omega (arith, c.args.rows.now.small, c.args.rows.now.ok)) c.requires.tells c.without-others.ensures
+    room-at c.args.outlook.now _ c.args.rows.now.items c.args.at c.index.result.now c.requires.within c.index.ensures
+    (omega (arith, c.args.rows.now.small, c.args.rows.now.ok)) c.requires.tells c.without-others.ensures
 
 pub returns-in-Some-clause-tells : goal.returns-in-Some-clause-tells
 returns-in-Some-clause-tells g c =

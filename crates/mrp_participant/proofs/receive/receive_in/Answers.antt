@@ -57,7 +57,8 @@ returns-clause-rows g c =
 
 pub returns-clause-are_rows : goal.returns-clause-are_rows
 returns-clause-are_rows g c =
-    subst (AreRows g.K.Ord.cmp) (sym (returns-clause-rows g c)) (AreRows-receive g.met.K.Ord.total c.args.leave c.args.leave_all c.args.events.now c.args.rows.now.items c.requires.are_rows)
+    subst (AreRows g.K.Ord.cmp) (sym (returns-clause-rows g c))
+    (AreRows-receive g.met.K.Ord.total c.args.leave c.args.leave_all c.args.events.now c.args.rows.now.items c.requires.are_rows)
 
 pub returns-clause-keys : goal.returns-clause-keys
 returns-clause-keys g c =

@@ -1,12 +1,19 @@
 use Rattle.std.proofs.Common.{◌≡◌, ◌++◌, drop}
 use Rattle.std.specs.List.{filter_map}
-use Rattle.mrp_participant.specs.Cut.{is_in_room}
+use Rattle.mrp_participant.specs.SendingLimit.{is_in_room}
 use Rattle.mrp_participant.specs.Sending.{sent_event, sent_row}
 use Rattle.mrp_participant.proofs.sending.send_each.Given as goal
 
 abbrev pub invariant-loop-row : goal.invariant-loop-row
 invariant-loop-row g l =
     record {
-      events : l.fn.events.items ++ filter_map (λ r. sent_event l.fn.leave_all (is_in_room g.K.Ord.cmp l.fn.leave_all l.cut r) l.fn.leave r) l.rows ≡ l.events.items ++ filter_map (λ r. sent_event l.fn.leave_all (is_in_room g.K.Ord.cmp l.fn.leave_all l.cut r) l.fn.leave r) (drop l.row-index l.rows);
-      rows : l.fn.after.items ++ filter_map (λ r. sent_row l.fn.leave_all (is_in_room g.K.Ord.cmp l.fn.leave_all l.cut r) l.fn.leave r) l.rows ≡ l.after.items ++ filter_map (λ r. sent_row l.fn.leave_all (is_in_room g.K.Ord.cmp l.fn.leave_all l.cut r) l.fn.leave r) (drop l.row-index l.rows);
+      events : l.fn.events.items ++ filter_map
+          (λ r. sent_event l.fn.leave_all (is_in_room g.K.Ord.cmp l.fn.leave_all l.limit r) l.fn.leave r) l.rows
+          ≡ l.events.items ++ filter_map (λ r. sent_event l.fn.leave_all
+          (is_in_room g.K.Ord.cmp l.fn.leave_all l.limit r) l.fn.leave r) (drop l.row-index l.rows);
+      rows : l.fn.after.items ++ filter_map (λ r. sent_row l.fn.leave_all
+          (is_in_room g.K.Ord.cmp l.fn.leave_all l.limit r) l.fn.leave r) l.rows
+          ≡ l.after.items ++ filter_map
+          (λ r. sent_row l.fn.leave_all (is_in_room g.K.Ord.cmp l.fn.leave_all l.limit r) l.fn.leave r)
+          (drop l.row-index l.rows);
     }

@@ -12,12 +12,18 @@ use Rattle.mrp_participant.proofs.timers.fire_leaves.Goals as goal
 
 pub returns-then-not-has_due-clause-keys : goal.returns-then-not-has_due-clause-keys
 returns-then-not-has_due-clause-keys g c =
-    let none : list_any (leave_is_due c.args.now.0) c.args.rows.now.items ≡ false = sym (due-says c.args.now.0 c.args.outlook.now.first_leave c.args.rows.now.items c.requires.0.first c.requires.1) ∙ (sym c.has_due.ensures ∙ c.if-not-has_due.true) in
+    let none : list_any (leave_is_due c.args.now.0) c.args.rows.now.items
+    ≡ false = sym
+    (due-says c.args.now.0 c.args.outlook.now.first_leave c.args.rows.now.items c.requires.0.first c.requires.1)
+    ∙ (sym c.has_due.ensures ∙ c.if-not-has_due.true) in
     c.new-keys.ensures.items ∙ sym (none-leave c.args.now.0 c.args.rows.now.items _ _ refl (sym none) refl).0
 
 pub returns-then-not-has_due-clause-rows : goal.returns-then-not-has_due-clause-rows
 returns-then-not-has_due-clause-rows g c =
-    let none : list_any (leave_is_due c.args.now.0) c.args.rows.now.items ≡ false = sym (due-says c.args.now.0 c.args.outlook.now.first_leave c.args.rows.now.items c.requires.0.first c.requires.1) ∙ (sym c.has_due.ensures ∙ c.if-not-has_due.true) in
+    let none : list_any (leave_is_due c.args.now.0) c.args.rows.now.items
+    ≡ false = sym
+    (due-says c.args.now.0 c.args.outlook.now.first_leave c.args.rows.now.items c.requires.0.first c.requires.1)
+    ∙ (sym c.has_due.ensures ∙ c.if-not-has_due.true) in
     sym (none-leave c.args.now.0 c.args.rows.now.items _ _ refl (sym none) refl).1
 
 pub returns-clause-keys : goal.returns-clause-keys

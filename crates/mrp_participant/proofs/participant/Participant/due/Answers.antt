@@ -1,0 +1,63 @@
+use Rattle.std.proofs.Common.{subst, sym, ap, ◌∙◌}
+use Rattle.mrp_participant.specs.State.{State, AreRows, with_rows, leave_timers_state, due_leave_all_state, due_periodic_state, left_keys}
+use Rattle.mrp_participant.proofs.Exits.{of_error, on_error}
+use Rattle.mrp_participant.proofs.Transitions.{AreRows-filter_mapped, due-keeps}
+use Rattle.mrp_participant.proofs.Unchanged.{unchanged}
+use Rattle.mrp_participant.proofs.participant.Participant.due.Goals as goal
+
+pub invariant_of-self-2 : goal.invariant_of-self-2
+invariant_of-self-2 g c = (
+  subst (AreRows g.A.Key.Ord.cmp) (sym c.in_ok-fire_leaves.ensures.rows)
+      (AreRows-filter_mapped g.A.Key.Ord.cmp _ (due-keeps c.args.now.0) _ c.self.invariant.0),
+  c.self.invariant.1,
+  c.self.invariant.2,
+  c.in_ok-fire_leaves.ensures.outlook,
+)
+
+pub fire_leaves-requires : goal.fire_leaves-requires
+fire_leaves-requires g c = c.self.invariant.3
+
+pub invariant_of-self : goal.invariant_of-self
+invariant_of-self g c = (
+  subst (AreRows g.A.Key.Ord.cmp) (sym c.in_err-fire_leaves.ensures.err) c.self.invariant.0,
+  c.self.invariant.1,
+  c.self.invariant.2,
+  c.in_err-fire_leaves.ensures.outlook,
+)
+
+pub returns-in_err-fire_leaves-clause-after : goal.returns-in_err-fire_leaves-clause-after
+returns-in_err-fire_leaves-clause-after g c = of_error c.from_residual.result _ _ c.from_residual.ensures.1
+
+pub returns-in_err-fire_leaves-clause-fired : goal.returns-in_err-fire_leaves-clause-fired
+returns-in_err-fire_leaves-clause-fired g c = of_error c.from_residual.result _ _ c.from_residual.ensures.1
+
+pub returns-in_err-fire_leaves-clause-keys : goal.returns-in_err-fire_leaves-clause-keys
+returns-in_err-fire_leaves-clause-keys g c = of_error c.from_residual.result _ _ c.from_residual.ensures.1
+
+pub fire_leave_all-requires : goal.fire_leave_all-requires
+fire_leave_all-requires g c = c.requires
+
+pub fire_periodic-requires : goal.fire_periodic-requires
+fire_periodic-requires g c = c.requires
+
+pub returns-in_err-fire_leaves-clause-err : goal.returns-in_err-fire_leaves-clause-err
+returns-in_err-fire_leaves-clause-err g c = on_error c.from_residual.result (unchanged _ _ _ c.self.view_is c.in_err-fire_leaves.ensures.err)
+
+pub returns-clause-keys : goal.returns-clause-keys
+returns-clause-keys g c = c.from_vec-keys.ensures ∙ c.in_ok-fire_leaves.ensures.keys ∙ ap (λ (s : State _ _). left_keys c.args.now s) c.self.view_is
+
+pub returns-clause-after : goal.returns-clause-after
+returns-clause-after g c =
+    let s : State g.row.A-Key.Denot g.row.A-Content.Denot = record {
+      rows = c.self.inside.rows.items;
+      leave_all = c.self.inside.leave_all;
+      next_leave_all = c.self.inside.next_leave_all;
+      period = c.self.inside.period;
+      leave_time = c.self.inside.leave_time;
+      periodic = c.self.inside.periodic;
+      sound = c.self.inside.sound;
+    } in
+    c.fire_periodic.ensures
+    ∙ ap (due_periodic_state c.args.now)
+    (c.fire_leave_all.ensures
+    ∙ ap (due_leave_all_state c.args.now) (ap (λ rows. with_rows rows s) c.in_ok-fire_leaves.ensures.rows ∙ ap (leave_timers_state c.args.now) c.self.view_is))
