@@ -50,14 +50,30 @@ joined-known count (l ∷ links) x y known j =
     let P : Link → Type 0 = λ l. IsNode count l.a.0 × IsNode count l.b.0 in
     let ends : IsNode count l.a.0 × IsNode count l.b.0 = All-head P l links known in
     let N : ℕ → Type 0 = λ z. IsNode count z in
-    elim j [ inl e ↦ elim e [ inl e ↦ (subst N e.0 ends.0, subst N e.1 ends.1) | inr e ↦ (subst N e.1 ends.1, subst N e.0 ends.0) ] | inr k ↦ joined-known count links x y (All-tail P l links known) k ]
+    elim j [
+      | inl e ↦ elim e [
+        | inl e ↦ (subst N e.0 ends.0, subst N e.1 ends.1)
+        | inr e ↦ (
+          subst N e.1 ends.1,
+          subst N e.0 ends.0,
+        )
+      ]
+      | inr k ↦ joined-known count links x y (All-tail P l links known) k
+    ]
 
 pub joined-apart : (links : List Link) (x y : ℕ) → HasNoSelfLink links → Joined links x y → x ≢ y
 joined-apart [] x y other j = absurd j
 joined-apart (l ∷ links) x y other j =
     let P : Link → Type 0 = λ l. l.a.0 ≢ l.b.0 in
     let ne : l.a.0 ≢ l.b.0 = All-head P l links other in
-    elim j [ inl e ↦ elim e [ inl e ↦ (λ q. ne (e.0 ∙ q ∙ sym e.1)) | inr e ↦ (λ q. ne (e.0 ∙ sym q ∙ sym e.1)) ] | inr k ↦ joined-apart links x y (All-tail P l links other) k ]
+    elim j [
+      | inl e ↦ elim e [
+        | inl e ↦ (λ q. ne (e.0 ∙ q ∙ sym e.1))
+        | inr e ↦
+            (λ q. ne (e.0 ∙ sym q ∙ sym e.1))
+      ]
+      | inr k ↦ joined-apart links x y (All-tail P l links other) k
+    ]
 
 pub connected-sym : (links : List Link) (x y : ℕ) → Connected links x y → Connected links y x
 connected-sym links x y c = reaches-back (Joined links) (joined-sym links) x c.0 y c.1
@@ -76,7 +92,15 @@ ConnectedOver links l x y =
 connected_over-step : (links : List Link) (l : Link) (x v y : ℕ) → Joined links x v → ConnectedOver links l v y → ConnectedOver links l x y
 connected_over-step links l x v y j c =
     let s = reaches-step (Joined links) x v j in
-    elim c [ inl c ↦ inl (connected-through links x v y s c) | inr c ↦ elim c [ inl c ↦ inr (inl (connected-through links x v l.a.0 s c.0, c.1)) | inr c ↦ inr (inr (connected-through links x v l.b.0 s c.0, c.1)) ] ]
+    elim c [
+      | inl c ↦ inl (connected-through links x v y s c)
+      | inr c ↦ elim c [
+        | inl c ↦ inr
+            (inl (connected-through links x v l.a.0 s c.0, c.1))
+        | inr c ↦ inr
+            (inr (connected-through links x v l.b.0 s c.0, c.1))
+      ]
+    ]
 
 connected_over-link : (links : List Link) (l : Link) (x v y : ℕ) → Joins l x v → ConnectedOver links l v y → ConnectedOver links l x y
 connected_over-link links l x v y j c =
@@ -85,10 +109,38 @@ connected_over-link links l x v y j c =
     let same = reaches-same (Joined links) in
     let A : ℕ → Type 0 = λ m. C m l.a.0 in
     let B : ℕ → Type 0 = λ m. C m l.b.0 in
-    elim j [ inl e ↦ elim c [ inl c ↦ inr (inl (subst A e.0 (same l.a.0), subst F (sym e.1) c)) | inr c ↦ elim c [ inl c ↦ inr (inl (subst A e.0 (same l.a.0), c.1)) | inr c ↦ inl (subst F e.0 c.1) ] ] | inr e ↦ elim c [ inl c ↦ inr (inr (subst B e.1 (same l.b.0), subst F (sym e.0) c)) | inr c ↦ elim c [ inl c ↦ inl (subst F e.1 c.1) | inr c ↦ inr (inr (subst B e.1 (same l.b.0), c.1)) ] ] ]
+    elim j [
+      | inl e ↦ elim c [
+        | inl c ↦ inr (inl (
+          subst A e.0 (same l.a.0),
+          subst F (sym e.1) c,
+        ))
+        | inr c ↦ elim c [
+          | inl c ↦ inr (inl (subst A e.0 (same l.a.0), c.1))
+          | inr c ↦ inl
+              (subst F e.0 c.1)
+        ]
+      ]
+      | inr e ↦ elim c [
+        | inl c ↦ inr
+            (inr (subst B e.1 (same l.b.0), subst F (sym e.0) c))
+        | inr c ↦ elim c [
+          | inl c ↦ inl
+              (subst F e.1 c.1)
+          | inr c ↦ inr (inr (subst B e.1 (same l.b.0), c.1))
+        ]
+      ]
+    ]
 
 -- a walk over links of which each is one of these or the one more
-pub connected-over : (links more : List Link) (l : Link) → ((u v : ℕ) → Joined more u v → Joined links u v ⊎ Joins l u v) → (x : ℕ) (w : List ℕ) (y : ℕ) → IsWalk (Joined more) x w y → ConnectedOver links l x y
+pub connected-over : (links more : List Link) (l : Link)
+    → ((u v : ℕ) → Joined more u v → Joined links u v ⊎ Joins l u v) → (x : ℕ) (w : List ℕ) (y : ℕ)
+    → IsWalk (Joined more) x w y → ConnectedOver links l x y
 connected-over links more l f x [] y h = inl ([], h)
 connected-over links more l f x (v ∷ w) y h =
-    elim (f x v h.0) [ inl j ↦ connected_over-step links l x v y j (connected-over links more l f v w y h.1) | inr j ↦ connected_over-link links l x v y j (connected-over links more l f v w y h.1) ]
+    elim (f x v h.0) [
+      | inl j ↦ connected_over-step links l x v y j
+          (connected-over links more l f v w y h.1)
+      | inr j ↦ connected_over-link links l x v y j
+          (connected-over links more l f v w y h.1)
+    ]

@@ -29,7 +29,9 @@ neighbours-some x v l links e = ap (λ (o : Option ℕ). cons_option o (neighbou
 neighbours-none : (x : ℕ) (l : Link) (links : List Link) → far_end x l ≡ None → neighbours (l ∷ links) x ≡ neighbours links x
 neighbours-none x l links e = ap (λ (o : Option ℕ). cons_option o (neighbours links x)) e
 
-neighbour-cons : (l : Link) (links : List Link) (x v k d : ℕ) → Joins l x v → ((j : ℕ) → j < length (neighbours links x) → Joined links x (get_or (neighbours links x) j d)) → k < suc (length (neighbours links x)) → Joined (l ∷ links) x (get_or (v ∷ neighbours links x) k d)
+neighbour-cons : (l : Link) (links : List Link) (x v k d : ℕ) → Joins l x v
+    → ((j : ℕ) → j < length (neighbours links x) → Joined links x (get_or (neighbours links x) j d))
+    → k < suc (length (neighbours links x)) → Joined (l ∷ links) x (get_or (v ∷ neighbours links x) k d)
 neighbour-cons l links x v zero d j rest lt = inl j
 neighbour-cons l links x v (suc k) d j rest lt = inr (rest k (omega arith))
 
@@ -40,17 +42,24 @@ neighbour-joined (l ∷ links) x k d lt =
     let F : List ℕ → Type 0 = λ t. Joined (l ∷ links) x (get_or t k d) in
     let L : List ℕ → Type 0 = λ t. k < length t in
     elim (far_end-cases x l) [
-      | inl h ↦ (let e = neighbours-some x h.0 l links h.1 in subst F (sym e) (neighbour-cons l links x h.0 k d h.2 (λ j less. neighbour-joined links x j d less) (subst L e lt)))
+      | inl h ↦ (let e = neighbours-some x h.0 l links h.1 in subst F (sym e)
+          (neighbour-cons l links x h.0 k d h.2 (λ j less. neighbour-joined links x j d less) (subst L e lt)))
       | inr h ↦ (let e = neighbours-none x l links h.0 in subst F (sym e) (inr (neighbour-joined links x k d (subst L e lt))))
     ]
 
 -- a link leads from either end to the other
 pub far_end-joins : (x v : ℕ) (l : Link) → l.a.0 ≢ l.b.0 → Joins l x v → far_end x l ≡ Some v
 far_end-joins x v l ne j =
-    elim j [ inl e ↦ (let f : far_end x l ≡ Some l.b.0 = grind (arith, nat_tests) in f ∙ ap (λ (t : ℕ). Some t) e.1) | inr e ↦ (let n : l.a.0 ≢ x = λ q. ne (q ∙ sym e.1) in let f : far_end x l ≡ Some l.a.0 = grind (arith, nat_tests) in f ∙ ap (λ (t : ℕ). Some t) e.0) ]
+    elim j [
+      | inl e ↦ (let f : far_end x l ≡ Some l.b.0 = grind (arith, nat_tests) in f
+          ∙ ap (λ (t : ℕ). Some t) e.1)
+      | inr e ↦ (let n : l.a.0 ≢ x = λ q. ne (q ∙ sym e.1) in let f : far_end x l
+          ≡ Some l.a.0 = grind (arith, nat_tests) in f ∙ ap (λ (t : ℕ). Some t) e.0)
+    ]
 
 -- whom a node is joined with stands among its neighbours
-pub joined-neighbour : (links : List Link) → HasNoSelfLink links → (x v : ℕ) → Joined links x v → (k : ℕ) × (k < length (neighbours links x)) × ((d : ℕ) → get_or (neighbours links x) k d ≡ v)
+pub joined-neighbour : (links : List Link) → HasNoSelfLink links → (x v : ℕ) → Joined links x v → (k : ℕ)
+    × (k < length (neighbours links x)) × ((d : ℕ) → get_or (neighbours links x) k d ≡ v)
 joined-neighbour [] other x v j = absurd j
 joined-neighbour (l ∷ links) other x v j =
     let P : Link → Type 0 = λ l. l.a.0 ≢ l.b.0 in
@@ -114,7 +123,8 @@ place-at v (x ∷ xs) (suc k) d r lt e =
     place-tail v x xs n ∙ omega (arith, p)
 
 -- the port towards a neighbour exists, and leads there
-pub port-leads : (count : ℕ) (links : List Link) → IsTree count links → (x v : ℕ) → Joined links x v → IsPort count links (port_to links x v) × (far_node links (port_to links x v) ≡ v)
+pub port-leads : (count : ℕ) (links : List Link) → IsTree count links → (x v : ℕ) → Joined links x v
+    → IsPort count links (port_to links x v) × (far_node links (port_to links x v) ≡ v)
 port-leads count links tree x v j =
     let h = joined-neighbour links tree.graph.no_self x v j in
     let none = neighbours-differ links (apart-from_graph links tree.graph.no_second) x in

@@ -48,7 +48,9 @@ path-last count links tree p x h m e =
     let back = side-far count links tree y u x m (joined-sym links u y (port-joined count links p h)) e in
     let last = walk-last count links tree x y u m n h.0 (walk-begins count links tree y x u n m back) in
     let to_u = walk_between links x u in
-    ap (λ (w : List ℕ). egress_ports links x w) last ∙ egress-push links x to_u u y (walk-path count links tree x u m h.0).0 ∙ ap (λ (t : EgressPort). path_between links x u ++ t ∷ []) (sym (port-is count links tree p h))
+    ap (λ (w : List ℕ). egress_ports links x w) last
+    ∙ egress-push links x to_u u y (walk-path count links tree x u m h.0).0
+    ∙ ap (λ (t : EgressPort). path_between links x u ++ t ∷ []) (sym (port-is count links tree p h))
 
 -- more nodes lie behind the peer of a port than behind the peer of one from which frames come to it
 back-falls : (count : ℕ) (links : List Link) → IsTree count links → (p q : EgressPort) → IsPort count links p → IsPort count links q
@@ -56,7 +58,8 @@ back-falls : (count : ℕ) (links : List Link) → IsTree count links → (p q :
     → count_behind count links (peer_of links p) < count_behind count links (peer_of links q)
 back-falls count links tree p q h k e ne =
     let to = peer-port count links tree q k in
-    behind-falls count links tree (peer_of links q) (peer_of links p) to.0 (peer-port count links tree p h).0 (sym e ∙ sym to.1) (λ s. ne (sym (s ∙ peer-peer count links tree q k)))
+    behind-falls count links tree (peer_of links q) (peer_of links p) to.0 (peer-port count links tree p h).0 (sym e
+    ∙ sym to.1) (λ s. ne (sym (s ∙ peer-peer count links tree q k)))
 
 -- ---- what is propagated
 

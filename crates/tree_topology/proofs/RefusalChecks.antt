@@ -66,12 +66,17 @@ not-true-false true f = refl
 not-true-false false f = sym f
 
 joins-both : (x y : ℕ) (l : Link) → Joins l x y → joins_both x y l ≡ true
-joins-both x y l j = elim j [ inl e ↦ (let a = e.0 in let b = e.1 in grind (arith, nat_tests)) | inr e ↦ (let a = e.0 in let b = e.1 in grind (arith, nat_tests)) ]
+joins-both x y l j = elim j [
+  | inl e ↦ (let a = e.0 in let b = e.1 in grind (arith, nat_tests))
+  | inr e ↦
+      (let a = e.0 in let b = e.1 in grind (arith, nat_tests))
+]
 
 both-joins : (x y : ℕ) (l : Link) → joins_both x y l ≡ true → Joins l x y
 both-joins x y l e = by (l.a.0 == x) (l.b.0 == y) (l.a.0 == y) (l.b.0 == x) (eqb-true l.a.0 x) (eqb-true l.b.0 y) (eqb-true l.a.0 y) (eqb-true l.b.0 x) e
   where
-    by : (p q r s : Bool) → (p ≡ true → l.a.0 ≡ x) → (q ≡ true → l.b.0 ≡ y) → (r ≡ true → l.a.0 ≡ y) → (s ≡ true → l.b.0 ≡ x) → (p && q || r && s) ≡ true → Joins l x y
+    by : (p q r s : Bool) → (p ≡ true → l.a.0 ≡ x) → (q ≡ true → l.b.0 ≡ y) → (r ≡ true → l.a.0 ≡ y)
+        → (s ≡ true → l.b.0 ≡ x) → (p && q || r && s) ≡ true → Joins l x y
     by true true r s a b c d f = inl (a refl, b refl)
     by true false true true a b c d f = inr (c refl, d refl)
     by true false true false a b c d f = absurd (false≢true f)
@@ -84,7 +89,8 @@ any-joined : (links : List Link) (x y : ℕ) → list_any (joins_both x y) links
 any-joined [] x y e = absurd (false≢true e)
 any-joined (l ∷ links) x y e = by (joins_both x y l) (both-joins x y l) (any-joined links x y) e
   where
-    by : (b : Bool) → (b ≡ true → Joins l x y) → (list_any (joins_both x y) links ≡ true → Joined links x y) → (b || list_any (joins_both x y) links) ≡ true → Joined (l ∷ links) x y
+    by : (b : Bool) → (b ≡ true → Joins l x y) → (list_any (joins_both x y) links ≡ true → Joined links x y)
+        → (b || list_any (joins_both x y) links) ≡ true → Joined (l ∷ links) x y
     by true here later f = inl (here refl)
     by false here later f = inr (later f)
 
@@ -109,12 +115,19 @@ closed-loop earlier l c =
 -- ---- what a check of all links or nodes finds
 
 first-link : (test : List Link → Link → Bool) (Fault : List Link → Link → Type 0) (links : List Link) (n : ℕ)
-    → ((earlier : List Link) (l : Link) → test earlier l ≡ true → Fault earlier l) → ((earlier : List Link) (l : Link) → Fault earlier l → test earlier l ≡ true)
+    → ((earlier : List Link) (l : Link) → test earlier l ≡ true → Fault earlier l)
+    → ((earlier : List Link) (l : Link) → Fault earlier l → test earlier l ≡ true)
     → first_where test [] links ≡ Some n → IsFirstLink Fault links n
 first-link test Fault links n finds found e =
     let f = where-some test links n e in
-    let at : n ≡ f.place + 1 = omega (arith, f.number) in
-    (f.place, at, f.inside, (λ d. finds (take f.place links) (get_or links f.place d) (f.passes d)), (λ j d lt. not-found _ (Fault (take j links) (get_or links j d)) (found (take j links) (get_or links j d)) (f.fail j d lt)))
+    let at : n ≡ f.place + 1 = omega (arith, f.number) in (
+      f.place,
+      at,
+      f.inside,
+      (λ d. finds (take f.place links) (get_or links f.place d) (f.passes d)),
+      (λ j d lt. not-found _ (Fault (take j links) (get_or links j d)) (found (take j links) (get_or links j d))
+          (f.fail j d lt)),
+    )
 
 no-link : (test : List Link → Link → Bool) (Fault : List Link → Link → Type 0) (links : List Link)
     → ((earlier : List Link) (l : Link) → Fault earlier l → test earlier l ≡ true) → first_where test [] links ≡ None
@@ -125,7 +138,9 @@ no-link test Fault links found e i d lt =
 -- a test of each node, by its number and its kind
 abbrev TestsNodes : List NodeKind → (List NodeKind → NodeKind → Bool) → (ℕ → Type 0) → Type 0
 TestsNodes kinds test Fault =
-    (x : ℕ) (d : NodeKind) → IsNode (length kinds) x → (test (take (x - 1) kinds) (get_or kinds (x - 1) d) ≡ true → Fault x) × (Fault x → test (take (x - 1) kinds) (get_or kinds (x - 1) d) ≡ true)
+    (x : ℕ) (d : NodeKind) → IsNode (length kinds) x
+    → (test (take (x - 1) kinds) (get_or kinds (x - 1) d) ≡ true → Fault x)
+    × (Fault x → test (take (x - 1) kinds) (get_or kinds (x - 1) d) ≡ true)
 
 first-node : (kinds : List NodeKind) (test : List NodeKind → NodeKind → Bool) (Fault : ℕ → Type 0) (n : ℕ) → TestsNodes kinds test Fault
     → first_where test [] kinds ≡ Some n → IsFirstNode Fault (length kinds) n
@@ -134,8 +149,12 @@ first-node kinds test Fault n tests e =
     let at : n ≡ f.place + 1 = omega (arith, f.number) in
     let is : n - 1 ≡ f.place = omega (arith, at) in
     let node : IsNode (length kinds) n = (omega (arith, at), omega (arith, at, f.inside)) in
-    let T : ℕ → Type 0 = λ k. test (take k kinds) (get_or kinds k Station) ≡ true in
-    (node, (tests n Station node).0 (subst T (sym is) (f.passes Station)), (λ y low lt. (let other : IsNode (length kinds) y = (low, omega (arith, lt, node.1)) in not-found _ (Fault y) ((tests y Station other).1) (f.fail (y - 1) Station (omega (arith, lt, low, at))))))
+    let T : ℕ → Type 0 = λ k. test (take k kinds) (get_or kinds k Station) ≡ true in (
+      node,
+      (tests n Station node).0 (subst T (sym is) (f.passes Station)),
+      (λ y low lt. (let other : IsNode (length kinds) y = (low, omega (arith, lt, node.1)) in not-found _ (Fault y)
+          ((tests y Station other).1) (f.fail (y - 1) Station (omega (arith, lt, low, at))))),
+    )
 
 no-node : (kinds : List NodeKind) (test : List NodeKind → NodeKind → Bool) (Fault : ℕ → Type 0) → TestsNodes kinds test Fault
     → first_where test [] kinds ≡ None → (x : ℕ) → IsNode (length kinds) x → ¬ Fault x
@@ -171,8 +190,12 @@ stray-tests kinds links x d m =
     let N : ℕ → ℕ = λ t. length (neighbours links t) in
     let inside : x - 1 < length kinds = omega (arith, m.0, m.1) in
     let S : NodeKind → Type 0 = λ k. is_station k ≡ true in (
-      (λ e. (let p = and_parts (is_station kind) (not (N i == 1)) e in ((λ f. kind-at kinds (x - 1) f d inside ∙ station-is kind p.0), (λ q. false≢true (sym (not-flips (N i == 1) p.1) ∙ eqb-same (N i) 1 (ap N is ∙ q)))))),
-      (λ h. (let a : is_station kind ≡ true = subst S (sym (h.0 d)) refl in let b : not (N i == 1) ≡ true = not-true (N i == 1) (λ e. h.1 (ap N (sym is) ∙ eqb-true (N i) 1 e)) in rw (a, b))),
+      (λ e. (let p = and_parts (is_station kind) (not (N i == 1)) e in (
+        (λ f. kind-at kinds (x - 1) f d inside ∙ station-is kind p.0),
+        (λ q. false≢true (sym (not-flips (N i == 1) p.1) ∙ eqb-same (N i) 1 (ap N is ∙ q))),
+      ))),
+      (λ h. (let a : is_station kind ≡ true = subst S (sym (h.0 d)) refl in let b : not (N i == 1)
+          ≡ true = not-true (N i == 1) (λ e. h.1 (ap N (sym is) ∙ eqb-true (N i) 1 e)) in rw (a, b))),
     )
 
 crowd-tests : (kinds : List NodeKind) (links : List Link) → TestsNodes kinds (has_too_many_links links) (HasTooManyLinks links)
@@ -218,28 +241,54 @@ accepted-of : (kinds : List NodeKind) (links : List Link) → IsTree (length kin
 accepted-of kinds links tree leaf crowd = record {
   tree = tree;
   leaf_stations = leaf;
-  counted_ports = (λ x m. (let few = no-node kinds (has_too_many_links links) (HasTooManyLinks links) (crowd-tests kinds links) crowd x m in not-more (length (neighbours links x)) few));
+  counted_ports = (λ x m. (let few = no-node kinds (has_too_many_links links) (HasTooManyLinks links)
+      (crowd-tests kinds links) crowd x m in not-more (length (neighbours links x)) few));
 }
   where
     not-more : (n : ℕ) → ¬ (255 < n) → n ≤ 255
     not-more n few = elim (cases_lt 255 n) [ inl lt ↦ absurd (few lt) | inr le ↦ le ]
 
-all-connected : (kinds : List NodeKind) (links : List Link) → first_where (is_unconnected links) [] kinds ≡ None → (x : ℕ) → IsNode (length kinds) x → Connected links 1 x
+all-connected : (kinds : List NodeKind) (links : List Link) → first_where (is_unconnected links) [] kinds ≡ None
+    → (x : ℕ) → IsNode (length kinds) x → Connected links 1 x
 all-connected kinds links e x m =
     let i = length (take (x - 1) kinds) + 1 in
     let C : ℕ → Type 0 = λ t. Connected links 1 t in
-    let same = eqb-true (component links 1) (component links i) (not-true-false _ (where-none (is_unconnected links) kinds e (x - 1) Station (omega (arith, m.0, m.1)))) in
+    let same = eqb-true (component links 1) (component links i)
+    (not-true-false _ (where-none (is_unconnected links) kinds e (x - 1) Station (omega (arith, m.0, m.1)))) in
     subst C (number-of kinds x m) (connected-from_component links 1 i same)
 
 node_refusal-says : (kinds : List NodeKind) (links : List Link) → IsGraph (length kinds) links → HasNoLoop links → Says kinds links (node_refusal kinds links)
 unfolding node_refusal
 node_refusal-says kinds links graph free =
     let P : Option TreeErr → Type 0 = λ o. Says kinds links o in
-    refused-by P _ _ _ (λ n e. ((graph, free, first-node kinds (is_unconnected links) (λ y. ¬ Connected links 1 y) n (unconnected-tests kinds links) e), (λ q. cc))) (λ whole.
+    refused-by P _ _ _ (λ n e. (
+      (
+        graph,
+        free,
+        first-node kinds (is_unconnected links) (λ y. ¬ Connected links 1 y) n
+            (unconnected-tests kinds links) e,
+      ),
+      (λ q. cc),
+    )) (λ whole.
     (let tree = tree-from_checks (length kinds) links graph free (λ x m. all-connected kinds links whole x m) in
-    refused-by P _ _ _ (λ n e. ((tree, first-node kinds (is_stray_station links) (IsStationWithLinks kinds links) n (stray-tests kinds links) e), (λ q. cc))) (λ stations.
+    refused-by P _ _ _ (λ n e. (
+      (
+        tree,
+        first-node kinds (is_stray_station links) (IsStationWithLinks kinds links) n
+            (stray-tests kinds links) e,
+      ),
+      (λ q. cc),
+    )) (λ stations.
     (let leaf : HasLeafStations kinds links = no-node kinds (is_stray_station links) (IsStationWithLinks kinds links) (stray-tests kinds links) stations in
-    refused-by P _ _ _ (λ n e. ((tree, leaf, first-node kinds (has_too_many_links links) (HasTooManyLinks links) n (crowd-tests kinds links) e), (λ q. cc))) (λ crowd.
+    refused-by P _ _ _ (λ n e. (
+      (
+        tree,
+        leaf,
+        first-node kinds (has_too_many_links links) (HasTooManyLinks links) n
+            (crowd-tests kinds links) e,
+      ),
+      (λ q. cc),
+    )) (λ crowd.
     accepted-of kinds links tree leaf crowd)))))
 
 pub refusal-says : (kinds : List NodeKind) (links : List Link) → Says kinds links (refusal kinds links)
@@ -247,16 +296,36 @@ unfolding refusal
 refusal-says kinds links =
     let P : Option TreeErr → Type 0 = λ o. Says kinds links o in
     let count = length kinds in
-    refused-by P _ _ _ (λ n e. (first-link (has_unknown_end count) (HasUnknownEnd count) links n (unknown-end count) (end-unknown count) e, (λ q. cc))) (λ known.
+    refused-by P _ _ _ (λ n e. (
+      first-link (has_unknown_end count) (HasUnknownEnd count) links n (unknown-end count)
+          (end-unknown count) e,
+      (λ q. cc),
+    )) (λ known.
     (let ends = known-links count links known in
-    refused-by P _ _ _ (λ n e. ((ends, first-link is_self_link IsSelfLink links n (λ earlier l t. eqb-true l.a.0 l.b.0 t) (λ earlier l f. eqb-same l.a.0 l.b.0 f) e), (λ q. cc))) (λ self.
-    refused-by P _ _ _ (λ n e. ((ends, proper-links links self, first-link is_second_link IsSecondLink links n (λ earlier l t. any-joined earlier l.a.0 l.b.0 t) (λ earlier l f. joined-any earlier l.a.0 l.b.0 f) e), (λ q. cc))) (λ second.
+    refused-by P _ _ _ (λ n e. (
+      (
+        ends,
+        first-link is_self_link IsSelfLink links n
+            (λ earlier l t. eqb-true l.a.0 l.b.0 t) (λ earlier l f. eqb-same l.a.0 l.b.0 f) e,
+      ),
+      (λ q. cc),
+    )) (λ self.
+    refused-by P _ _ _ (λ n e. (
+      (
+        ends,
+        proper-links links self,
+        first-link is_second_link IsSecondLink links n
+            (λ earlier l t. any-joined earlier l.a.0 l.b.0 t) (λ earlier l f. joined-any earlier l.a.0 l.b.0 f) e,
+      ),
+      (λ q. cc),
+    )) (λ second.
     (let graph = graph-of count links known self second in
     refused-by P _ _ _ (λ n e. ((graph, first-link closes_loop ClosesLoop links n loop-closed closed-loop e), (λ q. cc))) (λ open_ends.
     node_refusal-says kinds links graph (no-link closes_loop ClosesLoop links closed-loop open_ends)))))))
 
 -- the refusal that fits is the one that the function gives
-refusal-by : (kinds : List NodeKind) (links : List Link) (e : TreeErr) (o : Option TreeErr) → Says kinds links o → IsRefusal kinds links e → e ≢ NoMemory → o ≡ Some e
+refusal-by : (kinds : List NodeKind) (links : List Link) (e : TreeErr) (o : Option TreeErr) → Says kinds links o
+    → IsRefusal kinds links e → e ≢ NoMemory → o ≡ Some e
 refusal-by kinds links e None h r m = absurd (m (accepted-refusal kinds links e h r))
 refusal-by kinds links e (Some f) h r m = ap (λ (t : TreeErr). Some t) (refusals-same kinds links f e h.1 m h.0 r)
 

@@ -30,13 +30,18 @@ tree-no_loop count links tree i d lt c =
     let ne : l.a.0 ≢ l.b.0 = tree.graph.no_self i d lt in
     let one = tree.one_path l.a.0 l.b.0 ends.0 ends.1 in
     let p = path-from_walk (Joined (take i links)) l.a.0 c.0 l.b.0 c.1 in
-    let wide : IsPath (Joined links) l.a.0 p.0 l.b.0 = (walk-widen (Joined (take i links)) (Joined links) (λ u v j. joined-take links i u v j) l.a.0 p.0 l.b.0 p.1.0, p.1.1) in
+    let wide : IsPath (Joined links) l.a.0 p.0 l.b.0 = (
+      walk-widen (Joined (take i links)) (Joined links)
+          (λ u v j. joined-take links i u v j) l.a.0 p.0 l.b.0 p.1.0,
+      p.1.1,
+    ) in
     let direct : IsPath (Joined links) l.a.0 (l.b.0 ∷ []) l.b.0 = ((link-joined links i d lt, refl), ((ne, tt), (tt, tt))) in
     let same : p.0 ≡ l.b.0 ∷ [] = one.2 p.0 wide ∙ sym (one.2 (l.b.0 ∷ []) direct) in
     let F : List ℕ → Type 0 = λ t. IsWalk (Joined (take i links)) l.a.0 t l.b.0 in
     tree.graph.no_second i d lt (subst F same p.1.0).0
 
-first_link-none : (F : List Link → Link → Type 0) (links : List Link) (n : ℕ) → ((i : ℕ) (d : Link) → i < length links → ¬ F (take i links) (get_or links i d)) → ¬ IsFirstLink F links n
+first_link-none : (F : List Link → Link → Type 0) (links : List Link) (n : ℕ)
+    → ((i : ℕ) (d : Link) → i < length links → ¬ F (take i links) (get_or links i d)) → ¬ IsFirstLink F links n
 first_link-none F links n none h = none h.0 no_link h.2 (h.3 no_link)
 
 first_link-same : (F : List Link → Link → Type 0) (links : List Link) (n m : ℕ) → IsFirstLink F links n → IsFirstLink F links m → n ≡ m
@@ -174,7 +179,8 @@ passed kinds links (TooManyLinks x) m r = record {
 passed kinds links NoMemory m r = absurd (m refl)
 
 -- and fails its own
-failed : (kinds : List NodeKind) (links : List Link) (e : TreeErr) (n : ℕ) → e ≢ NoMemory → IsRefusal kinds links e → Checks kinds links n → step_of e < n → n ≤ 6 → ⊥
+failed : (kinds : List NodeKind) (links : List Link) (e : TreeErr) (n : ℕ) → e ≢ NoMemory → IsRefusal kinds links e
+    → Checks kinds links n → step_of e < n → n ≤ 6 → ⊥
 unfolding step_of
 failed kinds links (UnknownNode k) n m r c lt le = known-no_unknown (length kinds) links k.0 (c.known lt) r
 failed kinds links (SelfLink k) n m r c lt le = no_self-none links k.0 (c.no_self lt) r.1
@@ -209,14 +215,18 @@ same-step kinds links (UnknownNode n) (UnknownNode m) r s q = ap UnknownNode (li
 same-step kinds links (SelfLink n) (SelfLink m) r s q = ap SelfLink (link_no n m (first_link-same IsSelfLink links n.0 m.0 r.1 s.1))
 same-step kinds links (SecondLink n) (SecondLink m) r s q = ap SecondLink (link_no n m (first_link-same IsSecondLink links n.0 m.0 r.2 s.2))
 same-step kinds links (Loop n) (Loop m) r s q = ap Loop (link_no n m (first_link-same ClosesLoop links n.0 m.0 r.1 s.1))
-same-step kinds links (Unconnected x) (Unconnected y) r s q = ap Unconnected (node_no x y (first_node-same (λ z. ¬ Connected links 1 z) (length kinds) x.0 y.0 r.2 s.2))
-same-step kinds links (StationWithLinks x) (StationWithLinks y) r s q = ap StationWithLinks (node_no x y (first_node-same (IsStationWithLinks kinds links) (length kinds) x.0 y.0 r.1 s.1))
-same-step kinds links (TooManyLinks x) (TooManyLinks y) r s q = ap TooManyLinks (node_no x y (first_node-same (HasTooManyLinks links) (length kinds) x.0 y.0 r.2 s.2))
+same-step kinds links (Unconnected x) (Unconnected y) r s q = ap Unconnected
+    (node_no x y (first_node-same (λ z. ¬ Connected links 1 z) (length kinds) x.0 y.0 r.2 s.2))
+same-step kinds links (StationWithLinks x) (StationWithLinks y) r s q = ap StationWithLinks
+    (node_no x y (first_node-same (IsStationWithLinks kinds links) (length kinds) x.0 y.0 r.1 s.1))
+same-step kinds links (TooManyLinks x) (TooManyLinks y) r s q = ap TooManyLinks
+    (node_no x y (first_node-same (HasTooManyLinks links) (length kinds) x.0 y.0 r.2 s.2))
 same-step kinds links NoMemory NoMemory r s q = refl
 same-step kinds links e f r s q = absurd (omega (arith, q))
 
 -- at most one refusal fits, but for want of memory
-pub refusals-same : (kinds : List NodeKind) (links : List Link) (e f : TreeErr) → e ≢ NoMemory → f ≢ NoMemory → IsRefusal kinds links e → IsRefusal kinds links f → e ≡ f
+pub refusals-same : (kinds : List NodeKind) (links : List Link) (e f : TreeErr) → e ≢ NoMemory → f ≢ NoMemory
+    → IsRefusal kinds links e → IsRefusal kinds links f → e ≡ f
 refusals-same kinds links e f m k r s =
     elim (cases_lt (step_of e) (step_of f)) [
       | inl lt ↦ absurd (failed kinds links e (step_of f) m r (passed kinds links f k s) lt (step-low f k))

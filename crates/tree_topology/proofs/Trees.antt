@@ -16,16 +16,20 @@ pub tree-connected : (count : ℕ) (links : List Link) → IsTree count links �
 tree-connected count links tree x y m n = let p = tree.one_path x y m n in (p.0, p.1.0)
 
 -- `walk_between` is a walk without a repeated node
-pub walk-path : (count : ℕ) (links : List Link) → IsTree count links → (x y : ℕ) → IsNode count x → IsNode count y → IsPath (Joined links) x (walk_between links x y) y
+pub walk-path : (count : ℕ) (links : List Link) → IsTree count links → (x y : ℕ) → IsNode count x → IsNode count y
+    → IsPath (Joined links) x (walk_between links x y) y
 walk-path count links tree x y m n =
     path-walk_between links (forest-from_tree count links tree) x y (tree-connected count links tree x y m n)
 
 -- and it is the only straight walk
-pub walk-straight : (count : ℕ) (links : List Link) → IsTree count links → (p x y : ℕ) (w : List ℕ) → IsNode count x → IsNode count y → IsStraight (Joined links) p x w y → w ≡ walk_between links x y
+pub walk-straight : (count : ℕ) (links : List Link) → IsTree count links → (p x y : ℕ) (w : List ℕ) → IsNode count x
+    → IsNode count y → IsStraight (Joined links) p x w y → w ≡ walk_between links x y
 walk-straight count links tree p x y w m n h =
-    loop_free-tree count links tree p x x y w (walk_between links x y) h (straight-path (Joined links) x (walk_between links x y) y (walk-path count links tree x y m n))
+    loop_free-tree count links tree p x x y w (walk_between links x y) h
+    (straight-path (Joined links) x (walk_between links x y) y (walk-path count links tree x y m n))
 
-pub walk-one_path : (count : ℕ) (links : List Link) → IsTree count links → (x y : ℕ) (w : List ℕ) → IsNode count x → IsNode count y → IsPath (Joined links) x w y → w ≡ walk_between links x y
+pub walk-one_path : (count : ℕ) (links : List Link) → IsTree count links → (x y : ℕ) (w : List ℕ) → IsNode count x
+    → IsNode count y → IsPath (Joined links) x w y → w ≡ walk_between links x y
 walk-one_path count links tree x y w m n h =
     walk-straight count links tree x x y w m n (straight-path (Joined links) x w y h)
 
@@ -38,13 +42,15 @@ walk-joined count links tree x v j =
     let ne = joined-apart links x v tree.graph.no_self j in
     sym (walk-straight count links tree x x v (v ∷ []) k.0 k.1 (j, (λ e. ne (sym e)), refl))
 
-first-of : (count : ℕ) (links : List Link) → IsTree count links → (x y v : ℕ) (w : List ℕ) → IsNode count x → IsNode count y → walk_between links x y ≡ v ∷ w → IsStraight (Joined links) x x (v ∷ w) y
+first-of : (count : ℕ) (links : List Link) → IsTree count links → (x y v : ℕ) (w : List ℕ) → IsNode count x
+    → IsNode count y → walk_between links x y ≡ v ∷ w → IsStraight (Joined links) x x (v ∷ w) y
 first-of count links tree x y v w m n e =
     let F : List ℕ → Type 0 = λ t. IsStraight (Joined links) x x t y in
     subst F e (straight-path (Joined links) x (walk_between links x y) y (walk-path count links tree x y m n))
 
 -- a walk begins with a neighbour, and goes on as the walk from there
-pub walk-first : (count : ℕ) (links : List Link) → IsTree count links → (x y v : ℕ) (w : List ℕ) → IsNode count x → IsNode count y → walk_between links x y ≡ v ∷ w → Joined links x v × (w ≡ walk_between links v y)
+pub walk-first : (count : ℕ) (links : List Link) → IsTree count links → (x y v : ℕ) (w : List ℕ) → IsNode count x
+    → IsNode count y → walk_between links x y ≡ v ∷ w → Joined links x v × (w ≡ walk_between links v y)
 walk-first count links tree x y v w m n e =
     let s = first-of count links tree x y v w m n e in
     let k = joined-known count links x v tree.graph.known s.0 in
@@ -61,7 +67,8 @@ begins-at v w = grind (arith, nat_tests)
 pub begins-same : (v : ℕ) (w u : List ℕ) → u ≡ v ∷ w → begins_with v u ≡ true
 begins-same v w u e = let F : List ℕ → Type 0 = λ t. begins_with v t ≡ true in subst F (sym e) (begins-at v w)
 
-pub walk-begins : (count : ℕ) (links : List Link) → IsTree count links → (x y v : ℕ) → IsNode count x → IsNode count y → begins_with v (walk_between links x y) ≡ true → walk_between links x y ≡ v ∷ walk_between links v y
+pub walk-begins : (count : ℕ) (links : List Link) → IsTree count links → (x y v : ℕ) → IsNode count x → IsNode count y
+    → begins_with v (walk_between links x y) ≡ true → walk_between links x y ≡ v ∷ walk_between links v y
 walk-begins count links tree x y v m n e =
     let b = begins-cons v (walk_between links x y) e in
     b.1 ∙ ap (λ (t : List ℕ). v ∷ t) (walk-first count links tree x y v b.0 m n b.1).1
@@ -72,25 +79,31 @@ straight-other R p q x y (v ∷ w) h e =
     let ne : v ≢ q = grind (arith, nat_tests) in (h.0, ne, h.2)
 
 -- where the walk from a neighbour doesn't come back, it goes on from here
-pub walk-on : (count : ℕ) (links : List Link) → IsTree count links → (x v y : ℕ) → IsNode count y → Joined links x v → begins_with x (walk_between links v y) ≡ false → walk_between links x y ≡ v ∷ walk_between links v y
+pub walk-on : (count : ℕ) (links : List Link) → IsTree count links → (x v y : ℕ) → IsNode count y → Joined links x v
+    → begins_with x (walk_between links v y) ≡ false → walk_between links x y ≡ v ∷ walk_between links v y
 walk-on count links tree x v y n j e =
     let k = joined-known count links x v tree.graph.known j in
     let ne = joined-apart links x v tree.graph.no_self j in
-    let s = straight-other (Joined links) v x v y (walk_between links v y) (straight-path (Joined links) v (walk_between links v y) y (walk-path count links tree v y k.1 n)) e in
+    let s = straight-other (Joined links) v x v y (walk_between links v y)
+    (straight-path (Joined links) v (walk_between links v y) y (walk-path count links tree v y k.1 n)) e in
     sym (walk-straight count links tree x x y (v ∷ walk_between links v y) k.0 n (j, (λ q. ne (sym q)), s))
 
 -- each node is on one side of a link
-pub side-far : (count : ℕ) (links : List Link) → IsTree count links → (x v y : ℕ) → IsNode count y → Joined links x v → begins_with x (walk_between links v y) ≡ false → begins_with v (walk_between links x y) ≡ true
+pub side-far : (count : ℕ) (links : List Link) → IsTree count links → (x v y : ℕ) → IsNode count y → Joined links x v
+    → begins_with x (walk_between links v y) ≡ false → begins_with v (walk_between links x y) ≡ true
 side-far count links tree x v y n j e =
     begins-same v (walk_between links v y) (walk_between links x y) (walk-on count links tree x v y n j e)
 
 -- and on one alone
-pub side-near : (count : ℕ) (links : List Link) → IsTree count links → (x v y : ℕ) → IsNode count x → IsNode count y → begins_with v (walk_between links x y) ≡ true → begins_with x (walk_between links v y) ≡ false
+pub side-near : (count : ℕ) (links : List Link) → IsTree count links → (x v y : ℕ) → IsNode count x → IsNode count y
+    → begins_with v (walk_between links x y) ≡ true → begins_with x (walk_between links v y) ≡ false
 side-near count links tree x v y m n e =
     let b = begins-cons v (walk_between links x y) e in
     let f = walk-first count links tree x y v b.0 m n b.1 in
     let s = first-of count links tree x y v b.0 m n b.1 in
-    false_from_ne_true (begins_with x (walk_between links v y)) (λ t. (let c = begins-cons x (walk_between links v y) t in let F : List ℕ → Type 0 = λ u. IsStraight (Joined links) x v u y in let back = subst F (f.1 ∙ c.1) s.2 in back.1 refl))
+    false_from_ne_true (begins_with x (walk_between links v y))
+    (λ t. (let c = begins-cons x (walk_between links v y) t in let F : List ℕ
+    → Type 0 = λ u. IsStraight (Joined links) x v u y in let back = subst F (f.1 ∙ c.1) s.2 in back.1 refl))
 
 -- a walk turned round
 walk_back : ℕ → List ℕ → List ℕ
@@ -131,22 +144,30 @@ no_repeat-reverse (v ∷ w) h =
     subst F (sym (reverse-append (v ∷ []) w)) (no_repeat-push v (reverse w) (no_repeat-reverse w h.1) (absent-reverse v w h.0))
 
 -- the walk back is the walk turned round
-pub walk-reverse : (count : ℕ) (links : List Link) → IsTree count links → (x y : ℕ) → IsNode count x → IsNode count y → y ∷ walk_between links y x ≡ reverse (x ∷ walk_between links x y)
+pub walk-reverse : (count : ℕ) (links : List Link) → IsTree count links → (x y : ℕ) → IsNode count x → IsNode count y
+    → y ∷ walk_between links y x ≡ reverse (x ∷ walk_between links x y)
 walk-reverse count links tree x y m n =
     let p = walk-path count links tree x y m n in
     let w = walk_between links x y in
     let turned = back-reverse (Joined links) x w y p.0 in
     let F : List ℕ → Type 0 = λ t. HasNoRepeat t in
-    let path : IsPath (Joined links) y (walk_back x w) x = (back-walk (Joined links) (joined-sym links) x w y p.0, subst F (sym turned) (no_repeat-reverse (x ∷ w) p.1)) in
+    let path : IsPath (Joined links) y (walk_back x w) x = (
+      back-walk (Joined links) (joined-sym links) x w y p.0,
+      subst F (sym turned) (no_repeat-reverse (x ∷ w) p.1),
+    ) in
     ap (λ (t : List ℕ). y ∷ t) (sym (walk-one_path count links tree y x (walk_back x w) n m path)) ∙ turned
 
 tail-same : (x : ℕ) (w u : List ℕ) → x ∷ w ≡ x ∷ u → w ≡ u
 tail-same x w u e = cc
 
 -- where the walk back begins with a neighbour, the walk ends with the step from that neighbour
-pub walk-last : (count : ℕ) (links : List Link) → IsTree count links → (x y u : ℕ) → IsNode count x → IsNode count y → IsNode count u → walk_between links y x ≡ u ∷ walk_between links u x → walk_between links x y ≡ walk_between links x u ++ y ∷ []
+pub walk-last : (count : ℕ) (links : List Link) → IsTree count links → (x y u : ℕ) → IsNode count x → IsNode count y
+    → IsNode count u → walk_between links y x ≡ u ∷ walk_between links u x
+    → walk_between links x y ≡ walk_between links x u ++ y ∷ []
 walk-last count links tree x y u m n k e =
     let there = walk-reverse count links tree y x n m in
     let to_u = walk-reverse count links tree u x k m in
-    let whole : x ∷ walk_between links x y ≡ (x ∷ walk_between links x u) ++ y ∷ [] = there ∙ ap (λ (t : List ℕ). reverse (y ∷ t)) e ∙ reverse-append (y ∷ []) (u ∷ walk_between links u x) ∙ ap (λ (t : List ℕ). t ++ y ∷ []) (sym to_u) in
+    let whole : x ∷ walk_between links x y ≡ (x ∷ walk_between links x u) ++ y ∷ [] = there
+    ∙ ap (λ (t : List ℕ). reverse (y ∷ t)) e ∙ reverse-append (y ∷ []) (u ∷ walk_between links u x)
+    ∙ ap (λ (t : List ℕ). t ++ y ∷ []) (sym to_u) in
     tail-same x (walk_between links x y) (walk_between links x u ++ y ∷ []) whole

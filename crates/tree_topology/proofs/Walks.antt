@@ -50,7 +50,11 @@ path-from : (R : ℕ → ℕ → Type 0) (x v : ℕ) (w : List ℕ) (y : ℕ) �
 path-from R x v [] y p =
     elim (cases_eq x v) [ inl e ↦ inr (path-here R x v [] y p e) | inr n ↦ inl (n, tt) ]
 path-from R x v (u ∷ w) y p =
-    elim (cases_eq x v) [ inl e ↦ inr (path-here R x v (u ∷ w) y p e) | inr n ↦ elim (path-from R x u w y (p.0.1, p.1.1)) [ inl a ↦ inl (n, a) | inr q ↦ inr q ] ]
+    elim (cases_eq x v) [
+      | inl e ↦ inr (path-here R x v (u ∷ w) y p e)
+      | inr n ↦ elim
+          (path-from R x u w y (p.0.1, p.1.1)) [ inl a ↦ inl (n, a) | inr q ↦ inr q ]
+    ]
 
 -- a walk can be freed of repeats
 pub path-from_walk : (R : ℕ → ℕ → Type 0) (x : ℕ) (w : List ℕ) (y : ℕ) → IsWalk R x w y → (u : List ℕ) × IsPath R x u y
@@ -103,34 +107,76 @@ crossing-now R S p x v w y a b e f h = record {
 }
 
 -- a straight walk over a relation with one link more stays without that link, or passes it
-pub crossing : (R S : ℕ → ℕ → Type 0) (a b : ℕ) → ((u v : ℕ) → S u v → R u v ⊎ (((u ≡ a) × (v ≡ b)) ⊎ ((u ≡ b) × (v ≡ a)))) → (p x : ℕ) (w : List ℕ) (y : ℕ) → IsStraight S p x w y → IsStraight R p x w y ⊎ (Crossing R S p x w y a b ⊎ Crossing R S p x w y b a)
+pub crossing : (R S : ℕ → ℕ → Type 0) (a b : ℕ)
+    → ((u v : ℕ) → S u v → R u v ⊎ (((u ≡ a) × (v ≡ b)) ⊎ ((u ≡ b) × (v ≡ a)))) → (p x : ℕ) (w : List ℕ) (y : ℕ)
+    → IsStraight S p x w y → IsStraight R p x w y ⊎ (Crossing R S p x w y a b ⊎ Crossing R S p x w y b a)
 crossing R S a b f p x [] y h = inl h
 crossing R S a b f p x (v ∷ w) y h =
-    elim (f x v h.0) [ inl r ↦ elim (crossing R S a b f x v w y h.2) [ inl s ↦ inl (r, h.1, s) | inr c ↦ elim c [ inl c ↦ inr (inl (crossing-later R S p x v w y a b r h.1 c)) | inr c ↦ inr (inr (crossing-later R S p x v w y b a r h.1 c)) ] ] | inr e ↦ elim e [ inl e ↦ inr (inl (crossing-now R S p x v w y a b e.0 e.1 h.2)) | inr e ↦ inr (inr (crossing-now R S p x v w y b a e.0 e.1 h.2)) ] ]
+    elim (f x v h.0) [
+      | inl r ↦ elim (crossing R S a b f x v w y h.2) [
+        | inl s ↦ inl (
+          r,
+          h.1,
+          s,
+        )
+        | inr c ↦ elim c [
+          | inl c ↦ inr (inl (crossing-later R S p x v w y a b r h.1 c))
+          | inr c ↦ inr
+              (inr (crossing-later R S p x v w y b a r h.1 c))
+        ]
+      ]
+      | inr e ↦ elim e [
+        | inl e ↦ inr
+            (inl (crossing-now R S p x v w y a b e.0 e.1 h.2))
+        | inr e ↦ inr
+            (inr (crossing-now R S p x v w y b a e.0 e.1 h.2))
+      ]
+    ]
 
 -- a straight walk over a relation with one link more, at whose ends nothing else meets, stays on the
 -- far side once it has passed the link
-stays-beyond : (R S : ℕ → ℕ → Type 0) (a b : ℕ) → ((u v : ℕ) → S u v → R u v ⊎ (((u ≡ a) × (v ≡ b)) ⊎ ((u ≡ b) × (v ≡ a)))) → IsLoopFree R → ¬ Reaches R b a → (w : List ℕ) (y : ℕ) → IsStraight S a b w y → IsStraight R a b w y
+stays-beyond : (R S : ℕ → ℕ → Type 0) (a b : ℕ)
+    → ((u v : ℕ) → S u v → R u v ⊎ (((u ≡ a) × (v ≡ b)) ⊎ ((u ≡ b) × (v ≡ a)))) → IsLoopFree R → ¬ Reaches R b a
+    → (w : List ℕ) (y : ℕ) → IsStraight S a b w y → IsStraight R a b w y
 stays-beyond R S a b f free apart w y h =
-    elim (crossing R S a b f a b w y h) [ inl s ↦ s | inr c ↦ elim c [ inl c ↦ absurd (apart (reaches-straight R a b c.before a c.arrives)) | inr c ↦ (let empty : c.before ≡ [] = free a a b b c.before [] c.arrives refl in let F : List ℕ → Type 0 = λ t. IsStraight S a b t y in let back = subst F (c.is ∙ ap (λ (t : List ℕ). t ++ a ∷ c.after) empty) h in absurd (back.1 refl)) ] ]
+    elim (crossing R S a b f a b w y h) [
+      | inl s ↦ s
+      | inr c ↦ elim c [
+        | inl c ↦ absurd
+            (apart (reaches-straight R a b c.before a c.arrives))
+        | inr c ↦ (let empty : c.before
+            ≡ [] = free a a b b c.before [] c.arrives refl in let F : List ℕ
+            → Type 0 = λ t. IsStraight S a b t y in let back = subst F (c.is
+            ∙ ap (λ (t : List ℕ). t ++ a ∷ c.after) empty) h in absurd (back.1 refl))
+      ]
+    ]
 
 -- two straight walks that pass the link in the same direction are the same
-same-crossing : (R S : ℕ → ℕ → Type 0) (a b : ℕ) → ((u v : ℕ) → S u v → R u v ⊎ (((u ≡ a) × (v ≡ b)) ⊎ ((u ≡ b) × (v ≡ a)))) → IsLoopFree R → ¬ Reaches R b a → (p q x y : ℕ) (w u : List ℕ) → Crossing R S p x w y a b → Crossing R S q x u y a b → w ≡ u
+same-crossing : (R S : ℕ → ℕ → Type 0) (a b : ℕ)
+    → ((u v : ℕ) → S u v → R u v ⊎ (((u ≡ a) × (v ≡ b)) ⊎ ((u ≡ b) × (v ≡ a)))) → IsLoopFree R → ¬ Reaches R b a
+    → (p q x y : ℕ) (w u : List ℕ) → Crossing R S p x w y a b → Crossing R S q x u y a b → w ≡ u
 same-crossing R S a b f free apart p q x y w u c d =
     let before : c.before ≡ d.before = free p q x a c.before d.before c.arrives d.arrives in
-    let after : c.after ≡ d.after = free a a b y c.after d.after (stays-beyond R S a b f free apart c.after y c.goes_on) (stays-beyond R S a b f free apart d.after y d.goes_on) in
+    let after : c.after ≡ d.after = free a a b y c.after d.after
+    (stays-beyond R S a b f free apart c.after y c.goes_on)
+    (stays-beyond R S a b f free apart d.after y d.goes_on) in
     c.is ∙ ap (λ (t : List ℕ). t ++ b ∷ c.after) before ∙ ap (λ (t : List ℕ). d.before ++ b ∷ t) after ∙ sym d.is
 
 -- what a passed link connects: the start with its near end, its far end with the end
-crossed-ends : (R S : ℕ → ℕ → Type 0) (a b : ℕ) → ((u v : ℕ) → S u v → R u v ⊎ (((u ≡ a) × (v ≡ b)) ⊎ ((u ≡ b) × (v ≡ a)))) → IsLoopFree R → ¬ Reaches R b a → (p x y : ℕ) (w : List ℕ) → Crossing R S p x w y a b → Reaches R x a × Reaches R b y
+crossed-ends : (R S : ℕ → ℕ → Type 0) (a b : ℕ)
+    → ((u v : ℕ) → S u v → R u v ⊎ (((u ≡ a) × (v ≡ b)) ⊎ ((u ≡ b) × (v ≡ a)))) → IsLoopFree R → ¬ Reaches R b a
+    → (p x y : ℕ) (w : List ℕ) → Crossing R S p x w y a b → Reaches R x a × Reaches R b y
 crossed-ends R S a b f free apart p x y w c =
     (reaches-straight R p x c.before a c.arrives, reaches-straight R a b c.after y (stays-beyond R S a b f free apart c.after y c.goes_on))
 
-flip : (R S : ℕ → ℕ → Type 0) (a b : ℕ) → ((u v : ℕ) → S u v → R u v ⊎ (((u ≡ a) × (v ≡ b)) ⊎ ((u ≡ b) × (v ≡ a)))) → (u v : ℕ) → S u v → R u v ⊎ (((u ≡ b) × (v ≡ a)) ⊎ ((u ≡ a) × (v ≡ b)))
+flip : (R S : ℕ → ℕ → Type 0) (a b : ℕ) → ((u v : ℕ) → S u v → R u v ⊎ (((u ≡ a) × (v ≡ b)) ⊎ ((u ≡ b) × (v ≡ a))))
+    → (u v : ℕ) → S u v → R u v ⊎ (((u ≡ b) × (v ≡ a)) ⊎ ((u ≡ a) × (v ≡ b)))
 flip R S a b f u v s = elim (f u v s) [ inl r ↦ inl r | inr e ↦ elim e [ inl e ↦ inr (inr e) | inr e ↦ inr (inl e) ] ]
 
 -- a link between two components leaves a loop-free relation loop-free
-pub loop_free-link : (R S : ℕ → ℕ → Type 0) (a b : ℕ) → ((u v : ℕ) → R u v → R v u) → ((u v : ℕ) → S u v → R u v ⊎ (((u ≡ a) × (v ≡ b)) ⊎ ((u ≡ b) × (v ≡ a)))) → IsLoopFree R → ¬ Reaches R a b → IsLoopFree S
+pub loop_free-link : (R S : ℕ → ℕ → Type 0) (a b : ℕ) → ((u v : ℕ) → R u v → R v u)
+    → ((u v : ℕ) → S u v → R u v ⊎ (((u ≡ a) × (v ≡ b)) ⊎ ((u ≡ b) × (v ≡ a)))) → IsLoopFree R → ¬ Reaches R a b
+    → IsLoopFree S
 loop_free-link R S a b s f free apart p q x y w u h k =
     let back = λ (m n : ℕ) (r : Reaches R m n). reaches-back R s m r.0 n r.1 in
     let apart' : ¬ Reaches R b a = λ r. apart (back b a r) in

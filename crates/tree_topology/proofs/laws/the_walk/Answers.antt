@@ -8,4 +8,7 @@ returns-clause-path c =
 
 pub returns-clause-behind : goal.returns-clause-behind
 returns-clause-behind c =
-    λ tree p y h port n. (behind-from_walk (length tree.kinds) tree.links h.tree p y port.0 n, walk-from_behind (length tree.kinds) tree.links h.tree p y port.0 n)
+    λ tree p y h port n. (
+      behind-from_walk (length tree.kinds) tree.links h.tree p y port.0 n,
+      walk-from_behind (length tree.kinds) tree.links h.tree p y port.0 n,
+    )

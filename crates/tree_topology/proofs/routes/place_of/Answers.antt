@@ -8,4 +8,5 @@ returns-then-u-node c =
 
 pub returns : goal.returns
 returns c =
-    sym (place-first c.args.nodes.now c.args.node (length c.args.nodes.now) (omega arith) (λ k lt. c.loop-i.invariant k (omega (arith, lt, c.loop-i-test.false))) (λ lt. absurd (omega (arith, lt))))
+    sym (place-first c.args.nodes.now c.args.node (length c.args.nodes.now) (omega arith)
+    (λ k lt. c.loop-i.invariant k (omega (arith, lt, c.loop-i-test.false))) (λ lt. absurd (omega (arith, lt))))

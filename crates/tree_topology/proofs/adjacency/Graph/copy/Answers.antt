@@ -8,7 +8,9 @@ invariant_of-result c =
     let graph = c.args.self.now in
     let kinds : c.in_ok-clone.field-0.items ≡ graph.kinds.items = same_from_all_zip _ _ _ c.in_ok-clone.ensures.cases.0 (λ x y e. e) in
     let links : c.in_ok-clone-2.field-0.items ≡ graph.links.items = same_from_all_zip _ _ _ c.in_ok-clone-2.ensures.cases.0 (λ x y e. e) in
-    let rows : c.in_ok-clone-3.field-0.items ≡ graph.rows.items = same_from_all_zip _ _ _ c.in_ok-clone-3.ensures.cases.0 (λ x y e. sym e.3 ∙ same_from_all_zip _ _ _ e.4.0 (λ x y e. e) ∙ e.2) in
+    let rows : c.in_ok-clone-3.field-0.items
+    ≡ graph.rows.items = same_from_all_zip _ _ _ c.in_ok-clone-3.ensures.cases.0 (λ x y e. sym e.3
+    ∙ same_from_all_zip _ _ _ e.4.0 (λ x y e. e) ∙ e.2) in
     let Few : ℕ → Type 0 = λ n. n < 65536 in
     record {
       few_nodes = subst Few (sym c.in_ok-clone.ensures.cases.1) graph.few_nodes;

@@ -19,4 +19,5 @@ returns-then-depth c =
 pub returns-else-depth : goal.returns-else-depth
 returns-else-depth c =
     let parent = parent-of _ _ _ _ _ _ _ _ c.depth.ensures.routed c.far_node-far.ensures.joined c.depth.ensures.depth c.depth-2.ensures.depth c.if-depth.false in
-    behind-parent _ _ c.depth.ensures.routed.accepted.tree _ _ _ _ c.requires.port c.requires.node (parent.1 ∙ c.far_node-far.ensures.far) c.is_below-else-depth.ensures
+    behind-parent _ _ c.depth.ensures.routed.accepted.tree _ _ _ _ c.requires.port c.requires.node (parent.1
+    ∙ c.far_node-far.ensures.far) c.is_below-else-depth.ensures

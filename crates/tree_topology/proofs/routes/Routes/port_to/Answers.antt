@@ -13,11 +13,15 @@ neighbours-requires c =
 pub overflow_add-result : goal.overflow_add-result
 overflow_add-result c =
     let F : Routed → Type 0 = λ r. Joined r.links c.args.node c.args.neighbour in
-    let fits = port-fits _ _ _ _ c.args.node c.args.neighbour c.place_of-place.result c.self.invariant (subst F (sym c.self.view_is) c.requires) (c.place_of-place.ensures ∙ ap (λ (t : List ℕ). index_in c.args.neighbour t) c.neighbours.ensures) in
+    let fits = port-fits _ _ _ _ c.args.node c.args.neighbour c.place_of-place.result c.self.invariant
+    (subst F (sym c.self.view_is) c.requires) (c.place_of-place.ensures
+    ∙ ap (λ (t : List ℕ). index_in c.args.neighbour t) c.neighbours.ensures) in
     omega (arith, fits.1)
 
 pub overflow_cast-result : goal.overflow_cast-result
 overflow_cast-result c =
     let F : Routed → Type 0 = λ r. Joined r.links c.args.node c.args.neighbour in
-    let fits = port-fits _ _ _ _ c.args.node c.args.neighbour c.place_of-place.result c.self.invariant (subst F (sym c.self.view_is) c.requires) (c.place_of-place.ensures ∙ ap (λ (t : List ℕ). index_in c.args.neighbour t) c.neighbours.ensures) in
+    let fits = port-fits _ _ _ _ c.args.node c.args.neighbour c.place_of-place.result c.self.invariant
+    (subst F (sym c.self.view_is) c.requires) (c.place_of-place.ensures
+    ∙ ap (λ (t : List ℕ). index_in c.args.neighbour t) c.neighbours.ensures) in
     omega (arith, fits.1)

@@ -4,11 +4,19 @@ use Rattle.tree_topology.proofs.span.Span.visit.Goals as goal
 
 pub reach-requires-clause-parents : goal.reach-requires-clause-parents
 reach-requires-clause-parents c =
-    omega (arith, c.loop-neighbour.invariant.span.parents_size, (neighbour-at _ _ _ _ _ c.args.graph.now.is_graph.known c.neighbours-neighbour-items.ensures c.loop-neighbour-test.true).1)
+    omega (
+      arith,
+      c.loop-neighbour.invariant.span.parents_size,
+      (neighbour-at _ _ _ _ _ c.args.graph.now.is_graph.known c.neighbours-neighbour-items.ensures c.loop-neighbour-test.true).1,
+    )
 
 pub reach-requires-clause-depths : goal.reach-requires-clause-depths
 reach-requires-clause-depths c =
-    omega (arith, c.loop-neighbour.invariant.span.depths_size, (neighbour-at _ _ _ _ _ c.args.graph.now.is_graph.known c.neighbours-neighbour-items.ensures c.loop-neighbour-test.true).1)
+    omega (
+      arith,
+      c.loop-neighbour.invariant.span.depths_size,
+      (neighbour-at _ _ _ _ _ c.args.graph.now.is_graph.known c.neighbours-neighbour-items.ensures c.loop-neighbour-test.true).1,
+    )
 
 pub loop-neighbour-preserved : goal.loop-neighbour-preserved
 loop-neighbour-preserved c =

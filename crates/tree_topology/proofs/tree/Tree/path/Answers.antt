@@ -14,4 +14,7 @@ returns-clause-walk c =
     let path : Topology → List EgressPort = λ t. path_between t.links c.args.from.0 c.args.to.0 in
     let tree = c.args.self.now in
     let h : IsAccepted tree.kinds tree.links = subst A c.self.view_is c.self.invariant in
-    IfOk-weaker c.find_path.result _ (λ (ports : List EgressPort). IsPortPath tree.links c.args.from.0 c.args.to.0 ports) (λ ports e. path-answer tree.kinds tree.links h c.args.from.0 c.args.to.0 ports c.requires.from c.requires.to (e ∙ ap path c.self.view_is)) c.find_path.ensures
+    IfOk-weaker c.find_path.result _
+    (λ (ports : List EgressPort). IsPortPath tree.links c.args.from.0 c.args.to.0 ports)
+    (λ ports e. path-answer tree.kinds tree.links h c.args.from.0 c.args.to.0 ports c.requires.from c.requires.to
+    (e ∙ ap path c.self.view_is)) c.find_path.ensures
