@@ -20,3 +20,4 @@ pub mod PlacesStand
 pub mod Kept
 pub mod RawLemmas
 pub mod NumberLemmas
+pub mod OctetLemmas

@@ -1,7 +1,12 @@
 -- What single octets of an MRPDU hold (IEEE Std 802.1Q-2018, 10.8.1.2, 10.8.2.10).
-use Rattle.std.specs.Prelude.{ℕ, ◌+◌, ◌*◌, ◌/◌, ◌%◌, List, [], ◌∷◌, ◌==◌, if◌then◌else◌}
+use Rattle.std.specs.Prelude.{ℕ, ◌+◌, ◌*◌, ◌/◌, ◌%◌, ◌<◌, List, [], ◌∷◌, ◌==◌, if◌then◌else◌}
+use Rattle.std.specs.List.{AllByRecursion}
 use Rattle.srp_base.specs.declared.mrp.MrpEvent.{MrpEvent}
 use Rattle.srp_base.specs.declared.mrp.MrpEvent.TheVariants.{New, JoinIn, OnlyIn, JoinMt, OnlyMt, Lv}
+
+-- each number is an octet
+abbrev pub AreOctets : List ℕ → Type 0
+AreOctets octets = AllByRecursion (λ o. o < 256) octets
 
 -- the number in two octets, the high one first
 abbrev pub number : ℕ → ℕ → ℕ

@@ -1,11 +1,12 @@
 -- What a PDU that was read looks like, and whether it has LeaveAll (IEEE Std 802.1Q-2018, 10.8.1, 10.8.2).
 use Rattle.std.specs.Prelude.{Bool, false, ◌&&◌, ◌||◌, List, length, Option, Some, None, nat_le, nat_lt, ◌==◌, if◌then◌else◌}
-use Rattle.std.specs.List.{list_all, list_any}
+use Rattle.std.specs.List.{list_all, list_any, AllByRecursion}
 use Rattle.mrpdu_codec.specs.declared.form.AppForm.{AppForm}
 use Rattle.mrpdu_codec.specs.declared.form.TypeForm.{TypeForm}
 use Rattle.mrpdu_codec.specs.declared.pdu.VectorAttr.{VectorAttr}
 use Rattle.mrpdu_codec.specs.declared.pdu.Message.{Message}
 use Rattle.mrpdu_codec.specs.declared.pdu.Pdu.{Pdu}
+use Rattle.mrpdu_codec.specs.Octets.{AreOctets}
 use Rattle.mrpdu_codec.specs.Types.{row_of}
 
 -- a parameter from 0 to 3 for each event of a four-packed type, and else none
@@ -30,6 +31,10 @@ vectors_fit (Some row) vs = list_all (vector_fits row) vs
 -- a Message of a known type whose vectors fit it: each Message that is read has this form
 abbrev pub has_form : AppForm → Message → Bool
 has_form form m = vectors_fit (row_of form m.kind) m.vectors
+
+-- the FirstValue of each vector consists of octets
+abbrev pub HasOctets : Pdu → Type 0
+HasOctets pdu = AllByRecursion (λ m. AllByRecursion (λ v. AreOctets v.first) m.vectors) pdu.messages
 
 -- ---- LeaveAll
 

@@ -7,10 +7,11 @@ ghost use Rattle.srp_base.specs.Hexadecimal.{number_high_first};
 ghost use Rattle.mrpdu_codec.specs.declared.form.AppForm.{AppForm};
 ghost use Rattle.mrpdu_codec.specs.declared.pdu.Pdu.{Pdu};
 ghost use Rattle.mrpdu_codec.specs.declared.pdu.VectorAttr.{VectorAttr};
-ghost use Rattle.mrpdu_codec.specs.Octets.{number};
+ghost use Rattle.mrpdu_codec.specs.Octets.{AreOctets, number};
 ghost use Rattle.mrpdu_codec.specs.Tree.{vectors_octets};
 ghost use Rattle.mrpdu_codec.specs.Grammar.{Spells, Breaks};
 ghost use Rattle.mrpdu_codec.specs.Reading.{reading};
+ghost use Rattle.mrpdu_codec.specs.Shape.{HasOctets};
 ghost use Rattle.mrpdu_codec.specs.Canonical.{two_octets, vectors_for, spelling, well_formed, vectors_size, pdu_size};
 
 /// The law of the grammar: all octets spell exactly one PDU, or break at exactly one place.
@@ -32,6 +33,13 @@ pub fn reading_is_the_grammar()
         → (reading form octets ≡ Ok pdu) ↔ Spells form octets pdu }
     ensures broken { (form : AppForm) (octets : List ℕ) (place : ℕ)
         → (reading form octets ≡ Err place) ↔ Breaks form octets place }
+{}
+
+/// What octets spell has octets in its FirstValues. A list of numbers is a text of octets where each is below
+/// 256, which the grammar itself doesn't ask of them.
+pub fn first_values_are_octets()
+    ensures { (form : AppForm) (octets : List ℕ) (pdu : Pdu)
+        → AreOctets octets → Spells form octets pdu → HasOctets pdu }
 {}
 
 /// The round trip: the octets in which a PDU is written spell that PDU, and are read as it.

@@ -27,7 +27,8 @@
 //! the PDU is the law `written_is_read`, and how long it is the law `written_size`. `Shape` says what each
 //! PDU that was read looks like, and whether it has LeaveAll. `Places` says where the FirstValues stand, for
 //! crates that find one of them at fault: `first_value_at` answers the offset of one, and
-//! `first_values_have_places` is its law. `ReadErr` has the words of the private readers.
+//! `first_values_have_places` is its law. That the FirstValues in a list of octets are octets is the law
+//! `first_values_are_octets`. `ReadErr` has the words of the private readers.
 //!
 //! The code reads in one pass: a reader answers a value and the octets after it, or how many octets are
 //! left from the first field on that breaks (`fields` a vector's fields, `vectors` lists of vectors,
@@ -62,10 +63,10 @@ pub use encoding::{encode, put_vector};
 pub use error::DecodeErr;
 pub use form::{AppForm, TypeForm};
 pub use laws::{
-    numbers_are_read_back, one_reading, reading_is_the_grammar, written_is_read, written_list_size,
-    written_size,
+    first_values_are_octets, numbers_are_read_back, one_reading, reading_is_the_grammar,
+    written_is_read, written_list_size, written_size,
 };
-pub use numbers::{number_in, put_number};
+pub use numbers::{are_octets, number_in, put_number};
 pub use pdu::{Message, Pdu, VectorAttr};
 pub use places::{first_value_at, first_values_have_places};
 pub use raw::{RawMessage, RawPdu, RawVector, events_in};

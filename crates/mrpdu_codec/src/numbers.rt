@@ -3,6 +3,7 @@
 ghost use Rattle.std.specs.Prelude.{◌≡◌, ◌++◌, ◌≤◌, ◌<◌, ◌^◌, length, OnOk, OnErr};
 ghost use Rattle.std.specs.Int.{bytes_high_first};
 ghost use Rattle.srp_base.specs.Hexadecimal.{number_high_first};
+ghost use Rattle.mrpdu_codec.specs.Octets.{AreOctets};
 ghost use Rattle.mrpdu_codec.specs.Octets.{number};
 ghost use Rattle.mrpdu_codec.specs.Canonical.{two_octets};
 
@@ -51,4 +52,11 @@ pub fn put_number(out: &mut Vec<u8>, number: u64, n: usize) -> Result<(), NoMemo
     let (_, low) = octets.split_at(8 - n);
     out.extend_from_slice(low)?;
     Ok(())
+}
+
+/// The numbers of a slice of octets in memory are octets, each below 256: what `first_values_are_octets` asks.
+pub fn are_octets(octets: &[u8])
+    ensures { AreOctets octets.now }
+{
+    let _ = octets;
 }
