@@ -8,3 +8,4 @@ pub mod WrittenPdu
 pub mod PlaceLemmas
 pub mod SilentLemmas
 pub mod CountLemmas
+pub mod RangeLemmas

@@ -4,6 +4,7 @@ ghost use Rattle.std.specs.Prelude.{◌≡◌, ◌↔◌, ◌≤◌, List, ℕ, 
 ghost use Rattle.msrp_codec.specs.declared.pdu.MsrpKey.{MsrpKey};
 ghost use Rattle.msrp_codec.specs.declared.pdu.MsrpPdu.{MsrpPdu};
 ghost use Rattle.std.specs.List.{AllByRecursion};
+ghost use Rattle.mrpdu_codec.specs.Octets.{AreOctets};
 ghost use Rattle.msrp_codec.specs.Content.{Belongs};
 ghost use Rattle.msrp_codec.specs.Key.{compare_keys};
 ghost use Rattle.msrp_codec.specs.Meaning.{KeyEvent, SaysMsrp, MsrpBreaks, msrp_reading};
@@ -65,3 +66,14 @@ pub fn what_is_read_belongs_to_its_keys()
     ensures { (octets : List ℕ) (read : MsrpPdu) → SaysMsrp octets read
         → AllByRecursion (λ e. Belongs e.1 e.2) read.events }
 {}
+
+/// What octets say fits in the fields in which it stands: each event's numbers do, those of a Talker, of a
+/// failure, of a Listener's stream and of a Domain. It is so of all octets, also those that no participant of
+/// this project wrote.
+pub fn what_is_read_is_in_range()
+    ensures { (octets : List ℕ) (read : MsrpPdu)
+        → AreOctets octets → msrp_reading octets ≡ Ok read → AreInRange read.events }
+{
+    reading_is_the_grammar();
+    mrpdu_codec::first_values_are_octets();
+}

@@ -19,8 +19,9 @@
 //! `MsrpBreaks` join them through the grammar, and `msrp_reading` is the same as a function. `decode` is that
 //! reading. `specs/Content` says which contents belong to which key and how many octets are stated of each, and
 //! `specs/Writing` has the one spelling. What `encode` writes takes at most 1,500 octets, and reads as the same
-//! LeaveAll and the same events in the order of types (`in_type_order`), by which no key loses its event. The
-//! words of private calls stand in `specs/InPlace` and `specs/Counts`.
+//! LeaveAll and the same events in the order of types (`in_type_order`), by which no key loses its event. What
+//! octets say fits in their fields, whoever wrote them, which is the law `what_is_read_is_in_range`. The words
+//! of private calls stand in `specs/InPlace` and `specs/Counts`.
 //!
 //! To carry another attribute type: a row of `mrpdu_codec`'s table; a variant of `AttributeType`, of the
 //! FirstValue, of `MsrpKey` and of `MsrpContent`; its fields in `specs/FirstValue`, its events in
