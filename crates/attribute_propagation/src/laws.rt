@@ -4,6 +4,7 @@
 ghost use Rattle.std.specs.Prelude.{◌≡◌, ◌&&◌, ◌||◌, not, List};
 ghost use Rattle.std.specs.Ordering.{is_eq};
 ghost use Rattle.attribute_propagation.specs.Dirty.{IsAscending, is_awaiting, with_key, all_marked, without_key};
+ghost use Rattle.attribute_propagation.specs.Ports.{HasTold};
 
 /// A key awaits once it, or a key that is the same, was marked; others await as before.
 pub fn each_key_awaits<K: Copy + Ord>()
@@ -24,4 +25,10 @@ pub fn keys_stay_ascending<K: Copy + Ord>()
         → IsAscending K.cmp (with_key K.cmp x keys) }
     ensures cleared { (x : K) (keys : List K) → IsAscending K.cmp keys
         → IsAscending K.cmp (without_key K.cmp x keys) }
+{}
+
+/// Keys that are told await at every port but the one that told them, or at every port, beside those that awaited
+/// there; where none is told all stay.
+pub fn each_port_is_told<K: Copy + Ord>()
+    ensures { HasTold K.cmp }
 {}

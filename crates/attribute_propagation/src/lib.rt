@@ -13,6 +13,10 @@
 //! goes everywhere: a port declares it exactly where another port, the application side included, has it
 //! registered.
 //!
+//! `specs/Ports.antt` has the words on the link ports of a node that every application needs: the place of a port in
+//! lists, and what awaits at each port once a key is told, of which `laws::each_port_is_told` says what it makes of each
+//! port's set.
+//!
 //! An application whose propagation isn't flat keeps its keys in a `Dirty` too, and brings a rule of its own.
 #![tactic(auto)]
 
@@ -23,4 +27,7 @@ mod ports;
 
 pub use dirty::Dirty;
 pub use flat::flat_declares;
-pub use ports::{await_elsewhere, await_everywhere, put_sets};
+pub use ports::{
+    await_elsewhere, await_everywhere, copied_sets, emptied, new_sets, none_awaits, put_sets,
+    saturated, set_at, some_awaits, told_where,
+};

@@ -1,12 +1,91 @@
-//! The keys that await settling at each port of a node.
+//! The keys that await settling at each link port of a node.
 
-ghost use Rattle.std.specs.Prelude.{◌≡◌, IfOk, if◌then◌else◌, option_map};
+ghost use Rattle.std.specs.Prelude.{◌≡◌, ◌<◌, [], length, slice_get, slice_set, IfOk, Some, if◌then◌else◌, option_map};
 ghost use Rattle.attribute_propagation.specs.Dirty.{all_marked};
-ghost use Rattle.attribute_propagation.specs.Ports.{marked_elsewhere, marked_everywhere, sets_with};
+ghost use Rattle.attribute_propagation.specs.Ports.{count_of, new_sets, none_awaits, some_awaits, marked_elsewhere, marked_everywhere, sets_with};
 
 use crate::dirty::Dirty;
-use srp_base::NoMemory;
+use srp_base::{NoMemory, PortSetup};
 use std::alloc::Global;
+
+/// A number as an answer of 32 bits, which stands still at its end.
+pub fn saturated(count: usize) -> u32
+    ensures { result ≡ count_of count }
+{
+    u32::try_from(count).unwrap_or(u32::MAX)
+}
+
+/// The sets of new ports: no key awaits at any of them.
+pub fn new_sets<K: Copy + Ord>(
+    alloc: Global,
+    ports: &[PortSetup],
+) -> Result<Vec<Dirty<K>>, NoMemory>
+    ensures { IfOk result (λ v. v.items ≡ new_sets ports.now) }
+{
+    let mut sets = Vec::with_capacity(alloc, ports.len())?;
+    for port in ports {
+        let _ = port;
+        sets.push(Dirty::new(alloc))?;
+    }
+    Ok(sets)
+}
+
+/// Other sets with the same keys.
+pub fn copied_sets<K: Copy + Ord>(
+    alloc: Global,
+    sets: &[Dirty<K>],
+) -> Result<Vec<Dirty<K>>, NoMemory>
+    ensures { IfOk result (λ v. v.items ≡ sets.now) }
+{
+    let mut copies = Vec::with_capacity(alloc, sets.len())?;
+    for set in sets {
+        copies.push(set.copy()?)?;
+    }
+    Ok(copies)
+}
+
+/// The keys that await at a place.
+pub fn set_at<K: Copy + Ord>(sets: &[Dirty<K>], at: usize) -> &Dirty<K>
+    requires { at < length sets.now }
+    ensures { slice_get sets.now at ≡ Some result.now }
+{
+    &sets[at]
+}
+
+/// What awaits at each port once nothing does at a place.
+pub fn emptied<K: Copy + Ord>(
+    alloc: Global,
+    sets: &[Dirty<K>],
+    at: usize,
+) -> Result<Vec<Dirty<K>>, NoMemory>
+    requires { at < length sets.now }
+    ensures { IfOk result (λ v. v.items ≡ slice_set sets.now at []) }
+{
+    let mut copies = copied_sets(alloc, sets)?;
+    copies[at] = Dirty::new(alloc);
+    Ok(copies)
+}
+
+/// Whether no key awaits at any port.
+pub fn none_awaits<K: Copy + Ord>(sets: &[Dirty<K>]) -> bool
+    ensures { result ≡ none_awaits sets.now }
+{
+    sets.iter().all(|set| set.is_empty())
+}
+
+/// Whether a key awaits at some port.
+pub fn some_awaits<K: Copy + Ord>(sets: &[Dirty<K>]) -> bool
+    ensures { result ≡ some_awaits sets.now }
+{
+    sets.iter().any(|set| !set.is_empty())
+}
+
+/// These keys where there are news of them, or none.
+pub fn told_where<K: Copy + Ord>(is_told: bool, keys: &[K]) -> &[K]
+    ensures { result.now ≡ (if is_told then keys.now else []) }
+{
+    if is_told { keys } else { &[] }
+}
 
 /// The sets of all ports with these keys put in at every port but the one at a place, counted from 0. None where
 /// there is no key: the sets stay as they are, and no memory is taken.
