@@ -19,7 +19,7 @@ use Rattle.msrp.specs.Part.{Part, key_cmp, registered_talker, registered_listene
 use Rattle.msrp.specs.Stream.{Registrations, registrations_of, is_talker_port, is_ready, want_of_reg, first_talker, talker_at, listener_at, stated_at, talk_of, is_listened, talkers_of, advertise_of, listener_row}
 use Rattle.msrp.specs.Settling.{all_keys_with, keys_of}
 use Rattle.msrp.specs.Side.{Streams, IsKept, IsPort, IsSettled, IsSettledAt, seen_by, at_port, with_told_port, with_port_at, with_asks, with_part, SameDeclared, TellsEach}
-use Rattle.msrp.proofs.Places.{decide, get-set_same, get-set_other, each-set, each-get, mapped_length, opened}
+use Rattle.msrp.proofs.Places.{decide, get-set_same, get-set_other, each-set, each-get, opened}
 use Rattle.msrp.proofs.Telling.{IsUntold, talker_untold, listener_untold, registrations-same, untold, Awaits, unmarked, was_set, talker_other, listener_other}
 
 -- a port's configuration, its ledger and what is registered of a stream are the same
@@ -85,7 +85,7 @@ module _ (awaits : Awaits) (side : Streams) (kept : IsKept side) (at : ℕ) (p :
 
   settled_here : IsSettledAt after at
   settled_here port set part sets =
-      let old = was_set (all_keys_with told) side.awaiting at set sets in
+      let old = was_set awaits (all_keys_with told) side.awaiting at set sets in
       let P : Port → Type 0 = λ q. IsSettled at q set (seen_by after) in
       subst P (get-set_same side.ports at (with_part t p) port part)
       (settled_changed at p (with_part t p) old.set set (seen_by side) (seen_by after) (kept.settled at p old.set here old.there) refl refl same
@@ -95,7 +95,7 @@ module _ (awaits : Awaits) (side : Streams) (kept : IsKept side) (at : ℕ) (p :
 
   settled_there : (j : ℕ) → at ≢ j → IsSettledAt after j
   settled_there j ne port set part sets =
-      let old = was_set (all_keys_with told) side.awaiting j set sets in
+      let old = was_set awaits (all_keys_with told) side.awaiting j set sets in
       settled_changed j port port old.set set (seen_by side) (seen_by after) (kept.settled j port old.set (sym (get-set_other side.ports at j (with_part t p) ne) ∙ part) old.there) refl refl (λ key. refl)
       (λ key out. (unmarked awaits key (all_keys_with told) old.set (ap (is_awaiting key_cmp key) old.is ∙ out)).1)
       (λ s out. there_same port s (talker_untold told s (unmarked awaits (keys.Talker s) (all_keys_with told) old.set (ap (is_awaiting key_cmp (keys.Talker s)) old.is ∙ out)).0))
@@ -114,7 +114,7 @@ module _ (awaits : Awaits) (side : Streams) (kept : IsKept side) (at : ℕ) (p :
   kept-retold rows contents =
       record {
         ports = each-set (IsPort side.moment) side.ports at (with_part t p) (port_after rows contents) kept.ports;
-        sets = mapped_length (all_marked key_cmp (all_keys_with told)) side.awaiting ∙ (kept.sets ∙ sym (length-set side.ports at (with_part t p)));
+        sets = awaits.as_many_everywhere (all_keys_with told) side.awaiting ∙ (kept.sets ∙ sym (length-set side.ports at (with_part t p)));
         settled = λ j. settled_after j (decide at j);
       }
 
@@ -129,10 +129,6 @@ kept-put awaits side kept at below p is t told rows contents same tells =
 
 -- ---- a participant changes in its place, and tells nothing
 
-pub none_marked : (sets : List (List MsrpKey)) → marked_everywhere key_cmp [] sets ≡ sets
-none_marked [] = refl
-none_marked (set ∷ sets) = ap (λ ss. set ∷ ss) (none_marked sets)
-
 pub kept-changed : Awaits → (side : Streams) → IsKept side → (at : ℕ) → at < length side.ports → (p : Port) → p ≡ slice_index_or side.ports at p → (t : Part)
     → (AreRows key_cmp p.part.rows → AreRows key_cmp t.rows) → (AreRows key_cmp p.part.rows → HasOwnContents p.part → HasOwnContents t)
     → (AreRows key_cmp p.part.rows → SameDeclared p.part t) → (AreRows key_cmp p.part.rows → (key : MsrpKey) → registered_at key_cmp key t ≡ registered_at key_cmp key p.part)
@@ -141,7 +137,7 @@ kept-changed awaits side kept at below p is t rows contents same registered =
     let here : slice_get side.ports at ≡ Some p = slice_get_read side.ports (length side.ports) at p refl below is in
     let port = each-get (IsPort side.moment) side.ports at p kept.ports here in
     let P : List (List MsrpKey) → Type 0 = λ sets. IsKept (record (with_port_at at (with_part t p) side) { awaiting = sets }) in
-    subst P (none_marked side.awaiting)
+    subst P (awaits.none_everywhere side.awaiting)
     (kept-retold awaits side kept at p here t [] (same port.rows) (λ key. inr (registered port.rows key)) (rows port.rows) (contents port.rows port.contents))
 
 pub at_changed : (side : Streams) (at : ℕ) (p : Port) (t : Part) (f : Part → Part) → at < length side.ports → p ≡ slice_index_or side.ports at p → t ≡ f p.part
@@ -176,9 +172,9 @@ pub kept-asked : Awaits → (side : Streams) → IsKept side → (x : StreamId) 
 kept-asked awaits side kept x talks listens talk_same listen_same =
     record {
       ports = kept.ports;
-      sets = mapped_length (all_marked key_cmp (keys_of x)) side.awaiting ∙ kept.sets;
+      sets = awaits.as_many_everywhere (keys_of x) side.awaiting ∙ kept.sets;
       settled = λ j port set part sets.
-          let old = was_set (keys_of x) side.awaiting j set sets in
+          let old = was_set awaits (keys_of x) side.awaiting j set sets in
           settled_changed j port port old.set set (seen_by side) (seen_by (with_asks x talks listens side)) (kept.settled j port old.set part old.there) refl refl (λ key. refl)
           (λ key out. (unmarked awaits key (keys_of x) old.set (ap (is_awaiting key_cmp key) old.is ∙ out)).1)
           (λ s out. as_before port s (talker_other x s (unmarked awaits (keys.Talker s) (keys_of x) old.set (ap (is_awaiting key_cmp (keys.Talker s)) old.is ∙ out)).0))

@@ -1,14 +1,14 @@
 -- What awaits at each port once one of them is settled.
-use Rattle.std.proofs.Common.{◌≡◌, ◌≢◌, ℕ, zero, suc, ◌+◌, ◌<◌, false, ◌||◌, ◌==◌, List, [], ◌∷◌, length, refl, sym, ap, ◌∙◌, arith}
-use Rattle.std.specs.Prelude.{slice_get, slice_set, Option, Some, None}
+use Rattle.std.proofs.Common.{◌≡◌, ◌≢◌, ℕ, zero, suc, ◌<◌, false, ◌||◌, ◌==◌, if◌then◌else◌, List, [], ◌∷◌, length, refl, sym, ap, ◌∙◌, arith}
+use Rattle.std.specs.Prelude.{slice_get, slice_set, Option, Some, None, option_map}
 use Rattle.std.proofs.lemmas.Bool.Decides.{nat_tests}
-use Rattle.attribute_propagation.specs.Dirty.{is_awaiting}
-use Rattle.attribute_propagation.specs.Ports.{marked_from, marked_elsewhere}
+use Rattle.attribute_propagation.specs.Dirty.{all_marked, is_awaiting}
+use Rattle.attribute_propagation.specs.Ports.{marked_elsewhere, keys_or_none}
 use Rattle.msrp_codec.specs.declared.pdu.MsrpKey.{MsrpKey}
 use Rattle.msrp.specs.declared.port.Port.{Port}
 use Rattle.msrp.specs.Part.{key_cmp}
 use Rattle.msrp.specs.Settling.{listener_keys, moved_streams}
-use Rattle.msrp.specs.Side.{Streams, awaiting_at, keys_or_none, moved_keys, settled_at, settled_streams}
+use Rattle.msrp.specs.Side.{Streams, awaiting_at, moved_keys, settled_at, settled_streams}
 use Rattle.msrp.proofs.Places.{get-set_same, get-set_other}
 use Rattle.msrp.proofs.Telling.{Awaits}
 
@@ -17,13 +17,21 @@ emptied [] at = refl
 emptied (set ∷ sets) zero = refl
 emptied (set ∷ sets) (suc at) = emptied sets at
 
-marked_there : Awaits → (new : List MsrpKey) (sets : List (List MsrpKey)) (n at j : ℕ) (key : MsrpKey) → at ≢ n + j → j < length sets
-    → is_awaiting key_cmp key (keys_or_none (slice_get (marked_from n key_cmp at new sets) j)) ≡ (is_awaiting key_cmp key new || is_awaiting key_cmp key (keys_or_none (slice_get sets j)))
-marked_there awaits new [] n at j key ne below = absurd (omega arith)
-marked_there awaits new (set ∷ sets) n at zero key ne below =
-    let other : (n == at) ≡ false = grind (arith, nat_tests, ne) in
-    rw other (awaits key new set)
-marked_there awaits new (set ∷ sets) n at (suc j) key ne below = marked_there awaits new sets (n + 1) at j key (λ e. ne (omega (arith, e))) (omega arith)
+marked_there : Awaits → (new : List MsrpKey) (sets : List (List MsrpKey)) (at j : ℕ) (key : MsrpKey) → at ≢ j → j < length sets
+    → is_awaiting key_cmp key (keys_or_none (slice_get (marked_elsewhere key_cmp at new sets) j)) ≡ (is_awaiting key_cmp key new || is_awaiting key_cmp key (keys_or_none (slice_get sets j)))
+marked_there awaits new sets at j key ne below = by (slice_get sets j) refl (awaits.elsewhere at j new sets)
+  where
+    within : (xs : List (List MsrpKey)) (i : ℕ) → i < length xs → slice_get xs i ≡ None → ⊥
+    within [] i below is = absurd (omega arith)
+    within (x ∷ xs) zero below is = cc
+    within (x ∷ xs) (suc i) below is = within xs i (omega arith) is
+
+    by : (o : Option (List MsrpKey)) → slice_get sets j ≡ o → slice_get (marked_elsewhere key_cmp at new sets) j ≡ option_map (λ set. if j == at then set else all_marked key_cmp new set) o
+        → is_awaiting key_cmp key (keys_or_none (slice_get (marked_elsewhere key_cmp at new sets) j)) ≡ (is_awaiting key_cmp key new || is_awaiting key_cmp key (keys_or_none o))
+    by None is e = absurd (within sets j below is)
+    by (Some set) is e =
+        let other : (j == at) ≡ false = grind (arith, nat_tests, ne) in
+        rw e (rw other (awaits.among key new set))
 
 -- the side once a port is settled
 after_is : (at : ℕ) (side : Streams) (p : Port) → slice_get side.ports at ≡ Some p
@@ -51,7 +59,7 @@ others_await awaits at other side before after key here there ne below =
     get-set_same side.ports at (settled_at at side before) after (sym (ap (λ (s : Streams). slice_get s.ports at) whole) ∙ there) in
     ap (λ (s : Streams). is_awaiting key_cmp key (awaiting_at other s)) whole
     ∙ (ap (λ (o : Option (List MsrpKey)). is_awaiting key_cmp key (keys_or_none o)) (get-set_other sets at other [] ne)
-    ∙ (marked_there awaits (moved_keys at side before) side.awaiting 0 at other key (λ e. ne (omega (arith, e))) below
+    ∙ (marked_there awaits (moved_keys at side before) side.awaiting at other key ne below
     ∙ ap (λ (p : Port). is_awaiting key_cmp key (listener_keys (moved_streams before.ledger p.ledger)) || is_awaiting key_cmp key (awaiting_at other side)) port))
 
 pub others_stay : (at other : ℕ) (side : Streams) → at ≢ other → slice_get (settled_streams at side).ports other ≡ slice_get side.ports other

@@ -24,7 +24,7 @@ use Rattle.msrp.specs.Proper.{AreOfRange, HasRanges, IsProper, IsRequestInRange}
 use Rattle.msrp.proofs.Places.{all_filtered, each-get, each-set}
 use Rattle.msrp.proofs.Telling.{Awaits}
 use Rattle.msrp.proofs.Talkers.{HasRows}
-use Rattle.msrp.proofs.Keeping.{kept-asked, kept-retold, none_marked, port_kept}
+use Rattle.msrp.proofs.Keeping.{kept-asked, kept-retold, port_kept}
 use Rattle.msrp.proofs.NewSide.{kept-new, shares}
 use Rattle.msrp.proofs.OtherStreams.{talks_other, talks_more, listens_more, listens_other}
 use Rattle.msrp.proofs.Clocked.{Laws, kept-clocked}
@@ -69,7 +69,7 @@ module _ (awaits : Awaits) (side : Streams) (proper : IsProper side) (at : ℕ) 
       → IsProper (with_port_at at (with_part t p) side)
   proper-replaced t rows own fit same stays =
       let P : List (List MsrpKey) → Type 0 = λ sets. IsProper (record (with_port_at at (with_part t p) side) { awaiting = sets }) in
-      subst P (none_marked side.awaiting) (proper-retold t [] rows own fit same (λ key. inr (stays key)))
+      subst P (awaits.none_everywhere side.awaiting) (proper-retold t [] rows own fit same (λ key. inr (stays key)))
 
 pub proper-at : (side : Streams) (make : Port → Streams) (o : Option Port) → IsProper side → ((p : Port) → o ≡ Some p → IsProper (make p)) → IsProper (with_port o make side)
 proper-at side make None proper h = proper

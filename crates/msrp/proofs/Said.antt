@@ -1,16 +1,9 @@
--- What is sent is of its keys, and a participant at rest has nothing to say.
+-- What is sent is of its keys.
 use Rattle.std.proofs.Common.{◌≡◌, ◌≢◌, ◌≤◌, suc, Bool, true, false, not, ◌&&◌, ◌||◌, List, [], ◌∷◌, length, refl, subst, arith}
 use Rattle.std.specs.Prelude.{nat_lt, Option, Some, None, Contains, option_map, option_to_list}
 use Rattle.std.specs.List.{AllByRecursion, list_all}
 use Rattle.std.proofs.lemmas.Bool.Decides.{nat_tests}
-use Rattle.applicant.specs.declared.Applicant.{Applicant}
-use Rattle.applicant.specs.declared.Applicant.TheVariants.{Vo, Vp, Vn, An, Aa, Qa, La}
 use Rattle.mrp_participant.specs.Lookup.{find}
-use Rattle.registrar.specs.Table.{is_leaving}
-use Rattle.applicant.specs.Table.{is_quiet}
-use Rattle.mrp_participant.specs.Row.{is_settled}
-use Rattle.mrp_participant.specs.Sending.{is_tried}
-use Rattle.mrp_participant.specs.State.{is_active, is_still, is_silent}
 use Rattle.msrp_codec.specs.declared.pdu.MsrpKey.{MsrpKey}
 use Rattle.msrp_codec.specs.declared.pdu.MsrpContent.{MsrpContent}
 use Rattle.msrp_codec.specs.declared.attribute_type.AttributeType.TheVariants.{Advertise, Failed, Listener, Domain}
@@ -32,30 +25,6 @@ stated_holds P s own key c h = by (find key_cmp key s.rows) refl h
     by : (o : Option MsrpRow) → find key_cmp key s.rows ≡ o → option_map (λ (r : MsrpRow). r.content) o ≡ Some c → P key c
     by None e k = cc
     by (Some r) e k = let is : r.content ≡ c = cc in subst (λ (x : MsrpContent). P key x) is (own key r e).content
-
-untried : (a : Applicant) (b : Bool) → (is_quiet a && b) ≡ true → (r : MsrpRow) → r.applicant ≡ a → not (is_tried false r) ≡ true
-untried Vo b h r e = rw e refl
-untried Qa b h r e = rw e refl
-untried Vp b h r e = cc
-untried Vn b h r e = cc
-untried An b h r e = cc
-untried Aa b h r e = cc
-untried La b h r e = cc
-
-both : (a b : Bool) → (a && b) ≡ true → (a ≡ true) × (b ≡ true)
-both true b h = (refl, h)
-both false b h = cc
-
-none : (rows : List MsrpRow) → list_all is_settled rows ≡ true → list_all (λ r. not (is_tried false r)) rows ≡ true
-none [] h = refl
-none (r ∷ rows) h =
-    let parts = both (is_settled r) (list_all is_settled rows) h in
-    rw (untried r.applicant (not (is_leaving r.registrar)) parts.0 r refl) (none rows parts.1)
-
-pub still_is_silent : (s : Part) → is_still s ≡ true → is_silent s ≡ true
-still_is_silent s h =
-    let parts = both (not (is_active s.leave_all)) (list_all is_settled s.rows) h in
-    rw (parts.0, none s.rows parts.1) refl
 
 -- ---- the events that are sent
 

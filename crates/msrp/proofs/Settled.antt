@@ -20,7 +20,7 @@ use Rattle.msrp_listener.specs.Merging.{listener_out}
 use Rattle.port_ledger.specs.Decision.{booked_of, IsAscending}
 use Rattle.port_ledger.specs.Book.{Book, booked_only_in, fit_for, since_of, want_of}
 use Rattle.attribute_propagation.specs.Dirty.{is_awaiting, all_marked}
-use Rattle.attribute_propagation.specs.Ports.{marked_from, marked_elsewhere}
+use Rattle.attribute_propagation.specs.Ports.{marked_elsewhere}
 use Rattle.mrp_participant.specs.State.{declared_at, registered_at}
 use Rattle.msrp_codec.specs.declared.pdu.MsrpKey.{MsrpKey}
 use Rattle.msrp_codec.specs.declared.pdu.MsrpKey.TheVariants as keys
@@ -77,18 +77,14 @@ pub record WasThere (new : List MsrpKey) (sets : List (List MsrpKey)) (j : ℕ) 
   pub there : slice_get sets j ≡ Some set
   pub is : all_marked key_cmp new set ≡ now
 
-was_there : (new : List MsrpKey) (sets : List (List MsrpKey)) (n at j : ℕ) (now : List MsrpKey) → at ≢ n + j → slice_get (marked_from n key_cmp at new sets) j ≡ Some now → WasThere new sets j now
-was_there new [] n at j now ne h = cc
-was_there new (set ∷ sets) n at zero now ne h =
-    let other : (n == at) ≡ false = grind (arith, nat_tests, ne) in
-    record { set = set; there = refl; is = let k = rw other at h in cc }
-was_there new (set ∷ sets) n at (suc j) now ne h =
-    let rest = was_there new sets (n + 1) at j now (λ e. ne (omega (arith, e))) h in
-    record { set = rest.set; there = rest.there; is = rest.is }
-
-pub marked_length : (new : List MsrpKey) (sets : List (List MsrpKey)) (n at : ℕ) → length (marked_from n key_cmp at new sets) ≡ length sets
-marked_length new [] n at = refl
-marked_length new (set ∷ sets) n at = ap suc (marked_length new sets (n + 1) at)
+was_there : Awaits → (new : List MsrpKey) (sets : List (List MsrpKey)) (at j : ℕ) (now : List MsrpKey) → at ≢ j → slice_get (marked_elsewhere key_cmp at new sets) j ≡ Some now → WasThere new sets j now
+was_there awaits new sets at j now ne h = by (slice_get sets j) refl (sym (awaits.elsewhere at j new sets) ∙ h)
+  where
+    by : (o : Option (List MsrpKey)) → slice_get sets j ≡ o → option_map (λ set. if j == at then set else all_marked key_cmp new set) o ≡ Some now → WasThere new sets j now
+    by None is e = cc
+    by (Some set) is e =
+        let other : (j == at) ≡ false = grind (arith, nat_tests, ne) in
+        record { set = set; there = is; is = let k = rw other at e in cc }
 
 same_fit : (f g : Want → Fit) (o : Option Want) → ((w : Want) → f w ≡ g w) → option_map f o ≡ option_map g o
 same_fit f g None same = refl
@@ -241,7 +237,7 @@ module _ (parts : PartLaws) (books : BookLaws) (moves : MoveLaws) (awaits : Awai
 
   settled_there : (j : ℕ) → at ≢ j → IsSettledAt after j
   settled_there j ne q more at_j sets =
-      let was = was_there (listener_keys moved) side.awaiting 0 at j more (λ e. ne (omega (arith, e))) (sym (get-set_other (marked_elsewhere key_cmp at (listener_keys moved) side.awaiting) at j [] ne) ∙ sets) in
+      let was = was_there awaits (listener_keys moved) side.awaiting at j more ne (sym (get-set_other (marked_elsewhere key_cmp at (listener_keys moved) side.awaiting) at j [] ne) ∙ sets) in
       let before = kept.settled j q was.set (sym (get-set_other side.ports at j next ne) ∙ at_j) was.there in
       record { declared = each j q more was before; wanted = λ s one two. before.wanted s (fewer more was (keys.Talker s) one) (fewer more was (keys.Listener s) two) ∙ ap (λ ts. wanted_at j q.part ts s) (sym (talkers_same s)) }
     where
@@ -280,7 +276,7 @@ module _ (parts : PartLaws) (books : BookLaws) (moves : MoveLaws) (awaits : Awai
   kept-settled =
       record {
         ports = each-set (IsPort side.moment) side.ports at next next_port kept.ports;
-        sets = length-set (marked_elsewhere key_cmp at (listener_keys moved) side.awaiting) at [] ∙ (marked_length (listener_keys moved) side.awaiting 0 at ∙ (kept.sets ∙ sym (length-set side.ports at next)));
+        sets = length-set (marked_elsewhere key_cmp at (listener_keys moved) side.awaiting) at [] ∙ (awaits.as_many_elsewhere at (listener_keys moved) side.awaiting ∙ (kept.sets ∙ sym (length-set side.ports at next)));
         settled = λ j. settled_each j (decide at j);
       }
 

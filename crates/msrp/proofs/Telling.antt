@@ -1,13 +1,13 @@
 -- Which keys are among those that are told, and what isn't told is registered as before.
 use Rattle.std.proofs.Common.{◌≡◌, ◌⊎◌, inl, inr, ℕ, zero, suc, ◌<◌, Bool, true, false, ◌||◌, ◌&&◌, ◌==◌, if◌then◌else◌, List, [], ◌∷◌, length, map, refl, sym, ap, ◌∙◌, arith}
-use Rattle.std.specs.Prelude.{slice_get, slice_set, slice_index_or, Some, None, Contains}
+use Rattle.std.specs.Prelude.{slice_get, slice_set, slice_index_or, Option, Some, None, option_map, Contains}
 use Rattle.std.specs.Ordering.{nat_cmp, is_eq}
 use Rattle.std.proofs.lemmas.List.Folds.{list_any_at}
 use Rattle.std.proofs.lemmas.Bool.Decides.{nat_tests}
 use Rattle.srp_base.specs.declared.numbers.StreamId.{StreamId}
 use Rattle.srp_base.specs.declared.streams.Talker.{Talker}
 use Rattle.attribute_propagation.specs.Dirty.{is_awaiting, all_marked}
-use Rattle.attribute_propagation.specs.Ports.{marked_everywhere}
+use Rattle.attribute_propagation.specs.Ports.{HasTold, marked_everywhere}
 use Rattle.mrp_participant.specs.Lookup.{find, same}
 use Rattle.mrp_participant.specs.Row.{is_leaving_in}
 use Rattle.mrp_participant.specs.State.{registered_at, left_state}
@@ -100,13 +100,13 @@ registrations-same talks listens ports at p t s here e f =
     ap (λ ts. record { talkers = advertise_of (talk_of s talks) ∷ ts; listens = is_listened s listens; listeners = map (listener_row s) (slice_set ports at (with_part t p)) }) one
     ∙ ap (λ ls. record { talkers = talkers_of talks ports s; listens = is_listened s listens; listeners = ls }) two
 
--- what awaits once keys were put in
+-- what keys that are told make of the sets of all ports
 abbrev pub Awaits : Type 0
-Awaits = (k : MsrpKey) (new keys : List MsrpKey) → is_awaiting key_cmp k (all_marked key_cmp new keys) ≡ (is_awaiting key_cmp k new || is_awaiting key_cmp k keys)
+Awaits = HasTold key_cmp
 
 pub unmarked : Awaits → (key : MsrpKey) (new set : List MsrpKey) → is_awaiting key_cmp key (all_marked key_cmp new set) ≡ false
     → (is_awaiting key_cmp key new ≡ false) × (is_awaiting key_cmp key set ≡ false)
-unmarked awaits key new set out = or_false (is_awaiting key_cmp key new) (is_awaiting key_cmp key set) (sym (awaits key new set) ∙ out)
+unmarked awaits key new set out = or_false (is_awaiting key_cmp key new) (is_awaiting key_cmp key set) (sym (awaits.among key new set) ∙ out)
 
 -- the set at a place before keys were put in everywhere
 pub record WasSet (new : List MsrpKey) (sets : List (List MsrpKey)) (j : ℕ) (now : List MsrpKey) : Type 0 where
@@ -114,10 +114,12 @@ pub record WasSet (new : List MsrpKey) (sets : List (List MsrpKey)) (j : ℕ) (n
   pub there : slice_get sets j ≡ Some set
   pub is : all_marked key_cmp new set ≡ now
 
-pub was_set : (new : List MsrpKey) (sets : List (List MsrpKey)) (j : ℕ) (now : List MsrpKey) → slice_get (marked_everywhere key_cmp new sets) j ≡ Some now → WasSet new sets j now
-was_set new [] j now h = cc
-was_set new (set ∷ sets) zero now h = record { set = set; there = refl; is = cc }
-was_set new (set ∷ sets) (suc j) now h = let rest = was_set new sets j now h in record { set = rest.set; there = rest.there; is = rest.is }
+pub was_set : Awaits → (new : List MsrpKey) (sets : List (List MsrpKey)) (j : ℕ) (now : List MsrpKey) → slice_get (marked_everywhere key_cmp new sets) j ≡ Some now → WasSet new sets j now
+was_set awaits new sets j now h = by (slice_get sets j) refl (sym (awaits.everywhere j new sets) ∙ h)
+  where
+    by : (o : Option (List MsrpKey)) → slice_get sets j ≡ o → option_map (all_marked key_cmp new) o ≡ Some now → WasSet new sets j now
+    by None is e = cc
+    by (Some set) is e = record { set = set; there = is; is = cc }
 
 -- of the keys of a stream, none is one of another stream
 pub talker_other : (x s : StreamId) → is_awaiting key_cmp (keys.Talker s) (keys_of x) ≡ false → (s.0 == x.0) ≡ false

@@ -1,8 +1,7 @@
 -- MSRP at a node (IEEE Std 802.1Q-2018, clause 35): its state, and the state after each call.
-use Rattle.std.specs.Prelude.{◌≡◌, ◌⊎◌, ◌≤◌, ℕ, ◌-◌, ◌==◌, Bool, true, false, not, ◌&&◌, ◌||◌, nat_lt, if◌then◌else◌, List, [], ◌∷◌, length, map, filter, min, Option, Some, None, is_some, slice_get, slice_set, Contains, Result, Ok, Err, IfSome}
+use Rattle.std.specs.Prelude.{◌≡◌, ◌⊎◌, ◌≤◌, ℕ, ◌==◌, Bool, true, false, not, ◌&&◌, ◌||◌, nat_lt, if◌then◌else◌, List, [], ◌∷◌, length, map, filter, Option, Some, None, is_some, slice_get, slice_set, Contains, Result, Ok, Err, IfSome}
 use Rattle.std.specs.List.{AllByRecursion, list_all, list_any}
 use Rattle.srp_base.specs.declared.numbers.Cs.{Cs}
-use Rattle.srp_base.specs.declared.numbers.PortNo.{PortNo}
 use Rattle.srp_base.specs.declared.numbers.BridgeId.{BridgeId}
 use Rattle.srp_base.specs.declared.numbers.StreamId.{StreamId}
 use Rattle.srp_base.specs.declared.ports.PortSetup.{PortSetup}
@@ -21,7 +20,7 @@ use Rattle.mrp_participant.specs.Lookup.{find}
 use Rattle.mrp_participant.specs.Row.{is_leaving_in}
 use Rattle.mrp_participant.specs.State.{AreRows, is_silent, is_still, is_any_due, declared_at, registered_at, new_state, left_state, left_keys, due_state, leave_all_state, periodic_state}
 use Rattle.attribute_propagation.specs.Dirty.{is_awaiting, all_marked}
-use Rattle.attribute_propagation.specs.Ports.{marked_elsewhere, marked_everywhere}
+use Rattle.attribute_propagation.specs.Ports.{count_of, keys_at, marked_elsewhere, marked_everywhere, new_sets, none_awaits, some_awaits}
 use Rattle.stream_importance.specs.Bandwidth.{caps_of}
 use Rattle.stream_importance.specs.Importance.{rank_number}
 use Rattle.port_ledger.specs.Book.{clocked_book, empty_book, has_new_booking, want_of, IsKept as IsKeptBook}
@@ -40,15 +39,6 @@ pub record Streams : Type 0 where
   pub talks : List Talker
   pub listens : List StreamId
   pub moment : ℕ
-
--- the place of a link port in these lists, counted from 0
-abbrev pub place_of : PortNo → ℕ
-place_of port = port.0 - 1
-
--- the port is one of the link ports
-pub record IsLinkPort (port : PortNo) (count : ℕ) : Type 0 where
-  pub some : 1 ≤ port.0
-  pub within : port.0 ≤ count
 
 -- what is registered of each stream, and where it is booked
 abbrev pub seen_by : Streams → StreamId → Registrations
@@ -88,7 +78,7 @@ abbrev pub new_streams : BridgeId → Cs → Bool → List PortSetup → Streams
 new_streams bridge leave_time periodic ports =
     record {
       ports = map (new_port bridge leave_time periodic) ports;
-      awaiting = map (λ _. []) ports;
+      awaiting = new_sets ports;
       talks = [];
       listens = [];
       moment = 0;
@@ -166,14 +156,9 @@ spoilt_streams at side =
     (λ p. let s : Part = p.part in with_port_at at (with_part (record s { sound = false }) p) side)
     side
 
--- the keys of a set, or none where there is no set
-abbrev pub keys_or_none : Option (List MsrpKey) → List MsrpKey
-keys_or_none None = []
-keys_or_none (Some keys) = keys
-
 -- the keys that await at a port
 abbrev pub awaiting_at : ℕ → Streams → List MsrpKey
-awaiting_at at side = keys_or_none (slice_get side.awaiting at)
+awaiting_at at side = keys_at at side.awaiting
 
 -- the port at a place once it is settled
 abbrev pub settled_at : ℕ → Streams → Port → Port
@@ -278,13 +263,13 @@ requested_streams (Unlisten stream) side =
 abbrev pub are_still : Streams → Bool
 are_still side =
     list_all (λ (p : Port). is_still p.part) side.ports
-    && list_all (λ keys. length keys == 0) side.awaiting
+    && none_awaits side.awaiting
 
 -- whether at some port a timer is due at a moment, or a key awaits
 abbrev pub is_busy : Cs → Streams → Bool
 is_busy now side =
     list_any (λ (p : Port). is_any_due now p.part) side.ports
-    || list_any (λ keys. not (length keys == 0)) side.awaiting
+    || some_awaits side.awaiting
 
 -- ---- what every side keeps
 
@@ -320,10 +305,6 @@ pub record IsKept (side : Streams) : Type 0 where
   pub settled : (at : ℕ) → IsSettledAt side at
 
 -- ---- what the calls answer
-
--- a number as an answer of 32 bits, which stands still at its end
-abbrev pub count_of : ℕ → ℕ
-count_of n = min n 4294967295
 
 -- a PDU was received: its reading has acted, or it is malformed and nothing has
 abbrev pub HasReceived : Cs → ℕ → List ℕ → Streams → Result ℕ DecodeErr → Streams → Type 0

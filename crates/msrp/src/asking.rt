@@ -11,7 +11,7 @@ ghost use Rattle.msrp.specs.declared.asking.SrpRequest.TheVariants.{Talk, Hush, 
 
 use crate::side::MsrpSide;
 use crate::stream::{is_listened, talk_of};
-use attribute_propagation::laws::each_key_awaits;
+use attribute_propagation::laws::each_port_is_told;
 use attribute_propagation::{Dirty, await_everywhere, put_sets};
 use msrp_codec::MsrpKey;
 use srp_base::{NoMemory, StreamId, Talker};
@@ -106,7 +106,7 @@ impl MsrpSide {
         ensures ok { OnOk result (self.new ≡ with_asks stream talks.items self.old.listens self.old) }
         ensures err { OnErr result (self.new ≡ self.old) }
     {
-        each_key_awaits::<MsrpKey>();
+        each_port_is_told::<MsrpKey>();
         let awaiting = both_await(alloc, self.awaiting.as_slice(), stream)?;
         put_sets(&mut self.awaiting, awaiting);
         self.talks = talks;
@@ -125,7 +125,7 @@ impl MsrpSide {
         ensures ok { OnOk result (self.new ≡ with_asks stream self.old.talks listens.items self.old) }
         ensures err { OnErr result (self.new ≡ self.old) }
     {
-        each_key_awaits::<MsrpKey>();
+        each_port_is_told::<MsrpKey>();
         let awaiting = both_await(alloc, self.awaiting.as_slice(), stream)?;
         put_sets(&mut self.awaiting, awaiting);
         self.listens = listens;

@@ -10,17 +10,18 @@ ghost use Rattle.msrp_codec.specs.declared.pdu.MsrpKey.{MsrpKey};
 ghost use Rattle.msrp.specs.declared.port.Port.{Port};
 ghost use Rattle.msrp.specs.Part.{HasOwnContents, key_cmp};
 ghost use Rattle.msrp.specs.Settling.{all_keys_with, keys_with};
-ghost use Rattle.msrp.specs.Side.{IsKept, SameDeclared, TellsEach, HasReceived, IsLinkPort, place_of, with_told_port, with_part, received_streams, due_streams, left_streams, leave_all_streams, periodic_streams, spoilt_streams, count_of};
+ghost use Rattle.attribute_propagation.specs.Ports.{IsLinkPort, place_of, count_of};
+ghost use Rattle.msrp.specs.Side.{IsKept, SameDeclared, TellsEach, HasReceived, with_told_port, with_part, received_streams, due_streams, left_streams, leave_all_streams, periodic_streams, spoilt_streams};
 
 use crate::app::MsrpApp;
 use crate::port::Port;
 use crate::side::MsrpSide;
-use attribute_propagation::laws::each_key_awaits;
-use attribute_propagation::{await_everywhere, put_sets};
+use attribute_propagation::laws::each_port_is_told;
+use attribute_propagation::{await_everywhere, put_sets, saturated, told_where};
 use mrp_participant::laws::{
     declarations_stay, due_tells_each_change, each_key_after_due, each_key_after_periodic,
-    each_key_after_receive, one_key_changes, receive_tells_each_change, registrations_stay,
-    rows_stay_rows, what_is_asked_holds,
+    each_key_after_receive, nothing_due_changes_nothing, one_key_changes,
+    receive_tells_each_change, registrations_stay, rows_stay_rows, what_is_asked_holds,
 };
 use mrp_participant::{Msgs, Participant};
 use msrp_codec::laws::what_is_read_belongs_to_its_keys;
@@ -86,6 +87,8 @@ impl MsrpSide {
             (λ p. n ≡ count_of (due_count now p.part))) }
         ensures err { OnErr result (self.new ≡ self.old) }
     {
+        each_port_is_told::<MsrpKey>();
+        nothing_due_changes_nothing::<MsrpApp>();
         let at = usize::from(port.0) - 1;
         if !port_at(self.ports.as_slice(), at).part.any_due(now) {
             return Ok(0);
@@ -145,7 +148,7 @@ impl MsrpSide {
         requires port { IsLinkPort port (length self.old.ports) }
         ensures { self.new ≡ leave_all_streams now (place_of port) self.old }
     {
-        each_key_awaits::<MsrpKey>();
+        each_port_is_told::<MsrpKey>();
         let port = &mut self.ports[usize::from(port.0) - 1];
         port.part.leaveall_due(now);
     }
@@ -156,7 +159,7 @@ impl MsrpSide {
         requires { IsLinkPort port (length self.old.ports) }
         ensures { self.new ≡ periodic_streams (place_of port) self.old }
     {
-        each_key_awaits::<MsrpKey>();
+        each_port_is_told::<MsrpKey>();
         declarations_stay::<MsrpApp>();
         registrations_stay::<MsrpApp>();
         rows_stay_rows::<MsrpApp>();
@@ -170,7 +173,7 @@ impl MsrpSide {
         requires { IsLinkPort port (length self.old.ports) }
         ensures { self.new ≡ spoilt_streams (place_of port) self.old }
     {
-        each_key_awaits::<MsrpKey>();
+        each_port_is_told::<MsrpKey>();
         let port = &mut self.ports[usize::from(port.0) - 1];
         port.part.spoil();
     }
@@ -196,7 +199,7 @@ impl MsrpSide {
             (λ p. self.new ≡ with_told_port at (with_part part p) told.now self.old)) }
         ensures err { OnErr result (self.new ≡ self.old) }
     {
-        each_key_awaits::<MsrpKey>();
+        each_port_is_told::<MsrpKey>();
         let keys = all_keys_with(alloc, told)?;
         let awaiting = await_everywhere(alloc, self.awaiting.as_slice(), keys.as_slice())?;
         put_sets(&mut self.awaiting, awaiting);
@@ -206,26 +209,12 @@ impl MsrpSide {
     }
 }
 
-// A number of 32 bits, which stands still at its end.
-pub(crate) fn saturated(count: usize) -> u32
-    ensures { result ≡ count_of count }
-{
-    u32::try_from(count).unwrap_or(u32::MAX)
-}
-
 // The port at a place.
 pub(crate) fn port_at(ports: &[Port], at: usize) -> &Port
     requires { at < length ports.now }
     ensures { slice_get ports.now at ≡ Some result.now }
 {
     &ports[at]
-}
-
-// These keys, or none.
-fn told_where(was: bool, keys: &[MsrpKey]) -> &[MsrpKey]
-    ensures { result.now ≡ (if was then keys.now else []) }
-{
-    if was { keys } else { &[] }
 }
 
 // Both keys of each stream of which a key is told.

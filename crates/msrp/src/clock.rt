@@ -12,7 +12,7 @@ use crate::port::Port;
 use crate::settling::talker_keys;
 use crate::side::MsrpSide;
 use attribute_propagation::Dirty;
-use attribute_propagation::laws::each_key_awaits;
+use attribute_propagation::laws::each_port_is_told;
 use mrp_participant::laws::a_place_for_each_key;
 use msrp_codec::MsrpKey;
 use port_ledger::laws::{every_step_keeps_a_book, fits_stay};
@@ -105,7 +105,7 @@ impl MsrpSide {
         requires still { list_any (shows_at now.0) self.old.ports ≡ false }
         ensures { self.new ≡ clocked_streams now.0 self.old }
     {
-        each_key_awaits::<MsrpKey>();
+        each_port_is_told::<MsrpKey>();
         a_place_for_each_key::<MsrpApp>();
         every_step_keeps_a_book();
         fits_stay();
@@ -120,7 +120,7 @@ impl MsrpSide {
             (talker_keys self.old.talks self.old.ports) self.old.ports self.old.awaiting }
         ensures { self.new ≡ clocked_streams now.0 self.old }
     {
-        each_key_awaits::<MsrpKey>();
+        each_port_is_told::<MsrpKey>();
         a_place_for_each_key::<MsrpApp>();
         every_step_keeps_a_book();
         fits_stay();

@@ -21,7 +21,7 @@ ghost use Rattle.msrp.specs.Side.{IsWritten, Streams, awaiting_at, clocked_strea
 ghost use Rattle.msrp.specs.Proper.{HasRanges, IsProper, IsRequestInRange, setups_of};
 
 use crate::app::MsrpApp;
-use attribute_propagation::laws::each_key_awaits;
+use attribute_propagation::laws::{each_key_awaits, each_port_is_told};
 use mrp_participant::laws::{
     a_place_for_each_key, declarations_stay, due_tells_each_change, each_key_after_due,
     each_key_after_periodic, each_key_after_receive, each_key_after_send, each_key_in_what_is_sent,
@@ -53,7 +53,7 @@ pub fn one_settling_is_enough()
         → at ≢ other
         → slice_get (settled_streams at side).ports other ≡ slice_get side.ports other }
 {
-    each_key_awaits::<MsrpKey>();
+    each_port_is_told::<MsrpKey>();
 }
 
 /// A new side keeps what every side keeps, and all of it fits in the fields in which it is sent.
@@ -81,7 +81,7 @@ pub fn every_call_keeps_a_side_proper()
     ensures send { (now : Cs) (at : ℕ) (side : Streams) → IsProper side
         → IsProper (sent_streams now at side) }
 {
-    each_key_awaits::<MsrpKey>();
+    each_port_is_told::<MsrpKey>();
     rows_stay_rows::<MsrpApp>();
     declarations_stay::<MsrpApp>();
     registrations_stay::<MsrpApp>();
@@ -104,7 +104,7 @@ pub fn settling_and_requests_keep_a_side_proper()
     ensures clock { (now : ℕ) (side : Streams) → side.moment ≤ now
         → IsProper side → IsProper (clocked_streams now side) }
 {
-    each_key_awaits::<MsrpKey>();
+    each_port_is_told::<MsrpKey>();
     each_key_awaits::<StreamId>();
     a_place_for_each_key::<MsrpApp>();
     rows_stay_rows::<MsrpApp>();

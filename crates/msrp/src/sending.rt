@@ -5,14 +5,15 @@ ghost use Rattle.std.specs.List.{AllByRecursion};
 ghost use Rattle.mrp_participant.specs.State.{AreRows, is_silent};
 ghost use Rattle.msrp_codec.specs.Content.{Belongs, base_octets, octets_of};
 ghost use Rattle.msrp.specs.Part.{HasOwnContents, key_cmp, pdu_sent, sent_part};
-ghost use Rattle.msrp.specs.Side.{HasSent, IsLinkPort, IsWritten, place_of};
+ghost use Rattle.attribute_propagation.specs.Ports.{IsLinkPort, place_of};
+ghost use Rattle.msrp.specs.Side.{HasSent, IsWritten};
 
 use crate::app::MsrpApp;
 use crate::calls::port_at;
 use crate::side::MsrpSide;
-use attribute_propagation::laws::each_key_awaits;
+use attribute_propagation::laws::each_port_is_told;
 use mrp_participant::laws::{
-    declarations_stay, each_key_after_send, registrations_stay, rows_stay_rows,
+    declarations_stay, each_key_after_send, registrations_stay, rows_stay_rows, still_is_silent,
     what_is_sent_is_declared,
 };
 use mrp_participant::{Msgs, Participant};
@@ -30,11 +31,12 @@ impl MsrpSide {
         ensures { HasSent now (place_of port) self.old result self.new }
     {
         self.keeps();
-        each_key_awaits::<MsrpKey>();
+        each_port_is_told::<MsrpKey>();
         declarations_stay::<MsrpApp>();
         registrations_stay::<MsrpApp>();
         rows_stay_rows::<MsrpApp>();
         each_key_after_send::<MsrpApp>();
+        still_is_silent::<MsrpApp>();
         let alloc = *self.ports.allocator();
         let at = usize::from(port.0) - 1;
         let before = port_at(self.ports.as_slice(), at);

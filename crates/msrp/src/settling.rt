@@ -8,16 +8,17 @@ ghost use Rattle.msrp_codec.specs.declared.pdu.MsrpKey.TheVariants as keys;
 ghost use Rattle.msrp.specs.declared.port.Port.{Port};
 ghost use Rattle.msrp.specs.Part.{settled_as, settled_part};
 ghost use Rattle.msrp.specs.Stream.{registrations_of, stated_at, talkers_of, wanted_at};
-ghost use Rattle.msrp.specs.Side.{IsLinkPort, awaiting_at, count_of, place_of, settled_streams};
+ghost use Rattle.attribute_propagation.specs.Ports.{IsLinkPort, count_of, place_of};
+ghost use Rattle.msrp.specs.Side.{awaiting_at, settled_streams};
 ghost use Rattle.msrp.specs.Settling.{book_with, book_without, with_wants, listener_keys, moved_streams, next_book, restated_port, settled_port, settling_keys, stream_in, streams_in, taken_out, talker_key_if, talker_keys, talker_keys_from, talker_keys_in};
 
 use crate::app::MsrpApp;
-use crate::calls::{port_at, saturated};
+use crate::calls::port_at;
 use crate::port::Port;
 use crate::side::MsrpSide;
 use crate::stream::{is_talker_content, stated_at, wanted_at};
-use attribute_propagation::laws::each_key_awaits;
-use attribute_propagation::{Dirty, await_elsewhere, put_sets};
+use attribute_propagation::laws::{each_key_awaits, each_port_is_told};
+use attribute_propagation::{Dirty, await_elsewhere, put_sets, saturated, set_at};
 use mrp_participant::Participant;
 use mrp_participant::laws::{
     a_place_for_each_key, one_key_changes, registrations_stay, rows_stay_rows, what_is_asked_holds,
@@ -49,6 +50,7 @@ impl MsrpSide {
         ensures err { OnErr result (self.new ≡ self.old) }
     {
         self.keeps();
+        each_port_is_told::<MsrpKey>();
         nothing_changed_where_both_lists_are_empty();
         let at = usize::from(port.0) - 1;
         if set_at(self.awaiting.as_slice(), at).is_empty() {
@@ -64,7 +66,7 @@ impl MsrpSide {
         ensures count { IfOk result (λ n. n ≡ count_of (length (awaiting_at at self.old))) }
         ensures err { OnErr result (self.new ≡ self.old) }
     {
-        each_key_awaits::<MsrpKey>();
+        each_port_is_told::<MsrpKey>();
         each_key_awaits::<StreamId>();
         what_is_asked_holds::<MsrpApp>();
         registrations_stay::<MsrpApp>();
@@ -92,14 +94,6 @@ impl MsrpSide {
         self.ports[at] = port;
         Ok(count)
     }
-}
-
-// The keys that await at a place.
-fn set_at(sets: &[Dirty<MsrpKey>], at: usize) -> &Dirty<MsrpKey>
-    requires { at < length sets.now }
-    ensures { slice_get sets.now at ≡ Some result.now }
-{
-    &sets[at]
 }
 
 // The port at a place once the keys that await there are settled, and the Listener keys of the streams whose booking

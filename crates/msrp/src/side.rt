@@ -6,12 +6,13 @@ ghost use Rattle.srp_base.specs.declared.ports.PortSetup.{PortSetup};
 ghost use Rattle.mrp_participant.specs.State.{IsTime, is_still, is_any_due};
 ghost use Rattle.msrp.specs.declared.port.Port.{Port};
 ghost use Rattle.msrp.specs.Stream.{fit_at, talkers_of};
-ghost use Rattle.msrp.specs.Side.{Streams, IsKept, IsLinkPort, are_still, has_listen, has_talk, heard_of, is_busy, new_port, new_streams, place_of, talker_of};
+ghost use Rattle.attribute_propagation.specs.Ports.{IsLinkPort, place_of};
+ghost use Rattle.msrp.specs.Side.{Streams, IsKept, are_still, has_listen, has_talk, heard_of, is_busy, new_port, new_streams, talker_of};
 
 use crate::app::MsrpApp;
 use crate::port::Port;
 use crate::stream::{fit_at, heard_of, is_listened, is_own, talk_of, talker_of};
-use attribute_propagation::Dirty;
+use attribute_propagation::{Dirty, copied_sets, new_sets, none_awaits, some_awaits};
 use mrp_participant::Participant;
 use msrp_codec::MsrpKey;
 use msrp_talker::PortConfig;
@@ -62,7 +63,7 @@ impl MsrpSide {
         ensures { IfOk result (λ side. side ≡ new_streams bridge leave_time periodic ports.now) }
     {
         every_step_keeps_a_book();
-        let awaiting = new_awaiting(alloc, ports)?;
+        let awaiting = new_sets(alloc, ports)?;
         let ports = new_ports(alloc, bridge, leave_time, periodic, ports)?;
         Ok(MsrpSide {
             ports,
@@ -89,7 +90,7 @@ impl MsrpSide {
         let alloc = *self.ports.allocator();
         Ok(MsrpSide {
             ports: copied_ports(alloc, self.ports.as_slice())?,
-            awaiting: copied_awaiting(alloc, self.awaiting.as_slice())?,
+            awaiting: copied_sets(alloc, self.awaiting.as_slice())?,
             talks: Vec::from_slice(alloc, self.talks.as_slice())?,
             listens: Vec::from_slice(alloc, self.listens.as_slice())?,
             moment: self.moment,
@@ -251,18 +252,6 @@ fn new_port(
     }
 }
 
-// No key awaits at any port.
-fn new_awaiting(alloc: Global, ports: &[PortSetup]) -> Result<Vec<Dirty<MsrpKey>>, NoMemory>
-    ensures { IfOk result (λ v. v.items ≡ map (λ _. []) ports.now) }
-{
-    let mut awaiting = Vec::with_capacity(alloc, ports.len())?;
-    for port in ports {
-        let _ = port;
-        awaiting.push(Dirty::new(alloc))?;
-    }
-    Ok(awaiting)
-}
-
 fn copied_port(port: &Port) -> Result<Port, NoMemory>
     ensures { IfOk result (λ p. p ≡ port.now) }
 {
@@ -285,16 +274,6 @@ fn copied_ports(alloc: Global, ports: &[Port]) -> Result<Vec<Port>, NoMemory>
     Ok(copies)
 }
 
-fn copied_awaiting(alloc: Global, sets: &[Dirty<MsrpKey>]) -> Result<Vec<Dirty<MsrpKey>>, NoMemory>
-    ensures { IfOk result (λ v. v.items ≡ sets.now) }
-{
-    let mut copies = Vec::with_capacity(alloc, sets.len())?;
-    for set in sets {
-        copies.push(set.copy()?)?;
-    }
-    Ok(copies)
-}
-
 fn all_still(ports: &[Port]) -> bool
     ensures { result ≡ list_all (λ p. is_still p.part) ports.now }
 {
@@ -311,16 +290,4 @@ fn any_due(ports: &[Port], now: Cs) -> bool
     ensures { result ≡ list_any (λ p. is_any_due now p.part) ports.now }
 {
     ports.iter().any(|port| port.part.any_due(now))
-}
-
-fn none_awaits(sets: &[Dirty<MsrpKey>]) -> bool
-    ensures { result ≡ list_all (λ keys. length keys == 0) sets.now }
-{
-    sets.iter().all(|set| set.is_empty())
-}
-
-fn some_awaits(sets: &[Dirty<MsrpKey>]) -> bool
-    ensures { result ≡ list_any (λ keys. not (length keys == 0)) sets.now }
-{
-    sets.iter().any(|set| !set.is_empty())
 }

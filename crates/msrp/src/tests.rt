@@ -5,7 +5,7 @@
 //! thing, so that a test's own proof is short.
 
 ghost use Rattle.std.specs.Prelude.{◌≡◌, ◌≤◌, ◌+◌, length, IfSome};
-ghost use Rattle.msrp.specs.Side.{IsLinkPort};
+ghost use Rattle.attribute_propagation.specs.Ports.{IsLinkPort};
 
 use crate::{MsrpSide, SrpRequest};
 use msrp_codec::{DecodeErr, MsrpContent, MsrpKey};

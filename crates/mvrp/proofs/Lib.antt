@@ -1,7 +1,1 @@
-mod Keeping
-mod Places
-mod SendingLemmas
-mod SettlingLemmas
-mod VidLemmas
-mod ProperLemmas
-mod ReadyLemmas
+mod Writable

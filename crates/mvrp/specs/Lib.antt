@@ -1,4 +1,3 @@
 pub mod Part
 pub mod Side
 pub mod Vids
-pub mod Ready

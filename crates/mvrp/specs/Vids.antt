@@ -1,10 +1,9 @@
 -- That what MVRP keeps at a node are VIDs, the numbers 1 to 4,094 (IEEE Std 802.1Q-2018, 9.6).
-use Rattle.std.specs.Prelude.{◌≡◌, ◌≤◌, ℕ, true, List, Some, IsSome, slice_get}
+use Rattle.std.specs.Prelude.{◌≤◌, ℕ, List}
 use Rattle.std.specs.Ordering.{nat_cmp}
-use Rattle.mrp_participant.specs.Lookup.{find}
-use Rattle.attribute_propagation.specs.Dirty.{is_awaiting}
+use Rattle.flat_side.specs.Keys as keys
 use Rattle.mvrp.specs.Part.{Part}
-use Rattle.mvrp.specs.Side.{Vlans, IsKept}
+use Rattle.mvrp.specs.Side.{Vlans}
 
 -- the number is a VID
 abbrev pub IsVid : ℕ → Type 0
@@ -12,19 +11,16 @@ IsVid vid = (1 ≤ vid) × (vid ≤ 4094)
 
 -- each row of a participant is a VID's
 abbrev pub HasVidRows : Part → Type 0
-HasVidRows s = (vid : ℕ) → IsSome (find nat_cmp vid s.rows) → IsVid vid
+HasVidRows s = keys.HasKeyRows nat_cmp IsVid s
 
 -- VIDs alone are in a set
 abbrev pub HasVidsAlone : List ℕ → Type 0
-HasVidsAlone vids = (vid : ℕ) → is_awaiting nat_cmp vid vids ≡ true → IsVid vid
+HasVidsAlone vids = keys.HasKeysAlone nat_cmp IsVid vids
 
 -- each key that a side keeps is a VID
-pub record AreOfVids (side : Vlans) : Type 0 where
-  pub parts : (at : ℕ) (s : Part) → slice_get side.parts at ≡ Some s → HasVidRows s
-  pub awaiting : (at : ℕ) (vids : List ℕ) → slice_get side.awaiting at ≡ Some vids → HasVidsAlone vids
-  pub own : HasVidsAlone side.own
+abbrev pub AreOfVids : Vlans → Type 0
+AreOfVids side = keys.KeepsKeys nat_cmp IsVid side
 
 -- what a side keeps, of VIDs
-pub record IsProper (side : Vlans) : Type 0 where
-  pub kept : IsKept side
-  pub vids : AreOfVids side
+abbrev pub IsProper : Vlans → Type 0
+IsProper side = keys.IsProper nat_cmp IsVid side

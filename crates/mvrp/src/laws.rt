@@ -13,21 +13,16 @@ ghost use Rattle.mvrp.specs.Side.{Vlans, IsWritten, new_vlans, received_vlans, d
 ghost use Rattle.mvrp.specs.Vids.{IsVid, HasVidRows, IsProper};
 
 use crate::app::MvrpApp;
-use attribute_propagation::laws::{each_key_awaits, keys_stay_ascending};
-use mrp_participant::laws::{
-    a_row_where_something_is_kept, declarations_stay, due_tells_each_change, each_key_after_due,
-    each_key_after_periodic, each_key_after_receive, each_key_after_send, one_key_changes,
-    receive_tells_each_change, registrations_stay, rows_stay_rows, told_keys_ascend,
-    what_is_asked_holds, what_is_sent_is_a_pdu, what_is_sent_is_declared,
-};
+use flat_side::laws as of_flat;
 use mvrp_codec::what_is_written_is_read;
-use srp_base::Vid;
 
 /// A new side keeps what every side keeps, of VIDs alone.
 pub fn a_new_side_is_proper()
     ensures { (leave_time : Cs) (periodic : Bool) (ports : List PortSetup)
         → IsProper (new_vlans leave_time periodic ports) }
-{}
+{
+    of_flat::a_new_side_is_proper::<MvrpApp>();
+}
 
 /// Each call on a port keeps it.
 pub fn every_call_keeps_a_side_proper()
@@ -45,20 +40,7 @@ pub fn every_call_keeps_a_side_proper()
     ensures send { (now : Cs) (at : ℕ) (side : Vlans) → IsProper side
         → IsProper (sent_vlans now at side) }
 {
-    each_key_awaits::<Vid>();
-    rows_stay_rows::<MvrpApp>();
-    declarations_stay::<MvrpApp>();
-    registrations_stay::<MvrpApp>();
-    receive_tells_each_change::<MvrpApp>();
-    due_tells_each_change::<MvrpApp>();
-    told_keys_ascend::<MvrpApp>();
-    a_row_where_something_is_kept::<MvrpApp>();
-    each_key_after_receive::<MvrpApp>();
-    each_key_after_due::<MvrpApp>();
-    each_key_after_periodic::<MvrpApp>();
-    each_key_after_send::<MvrpApp>();
-    one_key_changes::<MvrpApp>();
-    what_is_asked_holds::<MvrpApp>();
+    of_flat::every_call_keeps_a_side_proper::<MvrpApp>();
 }
 
 /// So do settling, and a request of the application that names a VID.
@@ -67,12 +49,7 @@ pub fn settling_and_requests_keep_a_side_proper()
     ensures request { (vid : ℕ) (declared : Bool) (side : Vlans)
         → IsVid vid → IsProper side → IsProper (requested_vlans vid declared side) }
 {
-    each_key_awaits::<Vid>();
-    keys_stay_ascending::<Vid>();
-    rows_stay_rows::<MvrpApp>();
-    registrations_stay::<MvrpApp>();
-    one_key_changes::<MvrpApp>();
-    what_is_asked_holds::<MvrpApp>();
+    of_flat::settling_and_requests_keep_a_side_proper::<MvrpApp>();
 }
 
 /// What a participant sends, where it isn't silent, is written in octets that read as it, at most 1,500.
@@ -80,7 +57,6 @@ pub fn what_is_sent_is_read()
     ensures { (now : Cs) (s : Part) → AreRows nat_cmp s.rows → HasVidRows s → is_silent s ≡ false
         → IsWritten (pdu_sent now s) (mvrp_spelling (pdu_sent now s)) }
 {
-    what_is_sent_is_a_pdu::<MvrpApp>();
-    what_is_sent_is_declared::<MvrpApp>();
+    of_flat::what_is_sent_can_be_written::<MvrpApp>();
     what_is_written_is_read();
 }

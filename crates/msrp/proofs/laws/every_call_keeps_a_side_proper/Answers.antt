@@ -20,7 +20,7 @@ returns-clause-receive c = λ now at pdu side belong fits proper.
     let t : Part = received_part now pdu s in
     let port = port_kept side proper.kept at p here in
     let law = c.each_key_after_receive.ensures s now pdu.leave_all pdu.events port.rows in
-    proper-retold c.each_key_awaits.ensures.all_marked side proper at p here t (told_by_receipt now pdu s) (c.rows_stay_rows.ensures.receive s now pdu.leave_all pdu.events port.rows)
+    proper-retold c.each_port_is_told.ensures side proper at p here t (told_by_receipt now pdu s) (c.rows_stay_rows.ensures.receive s now pdu.leave_all pdu.events port.rows)
     (own-received s t (after now s.leave_time) pdu.leave_all pdu.events port.contents belong law)
     (range_from t (each-received IsWithin s t (after now s.leave_time) pdu.leave_all pdu.events (range_row s (ranges_at side proper at p here)) fits law))
     (c.declarations_stay.ensures.receive s now pdu.leave_all pdu.events port.rows)
@@ -33,7 +33,7 @@ returns-clause-due c = λ now at side proper.
     let t : Part = due_state now s in
     let port = port_kept side proper.kept at p here in
     let law = c.each_key_after_due.ensures s now port.rows in
-    proper-retold c.each_key_awaits.ensures.all_marked side proper at p here t (left_keys now s) (c.rows_stay_rows.ensures.due s now port.rows)
+    proper-retold c.each_port_is_told.ensures side proper at p here t (left_keys now s) (c.rows_stay_rows.ensures.due s now port.rows)
     (own-due s t now.0 (is_periodic_due now s) port.contents law)
     (range_from t (each-due IsWithin s t now.0 (is_periodic_due now s) (range_row s (ranges_at side proper at p here)) law))
     (c.declarations_stay.ensures.due s now port.rows) (c.due_tells_each_change.ensures.told s now port.rows))
@@ -46,7 +46,7 @@ returns-clause-leave_now c = λ at key side proper.
     let port = port_kept side proper.kept at p here in
     let law = c.one_key_changes.ensures.leave_due s key port.rows in
     let fit = range_row s (ranges_at side proper at p here) in
-    proper-retold c.each_key_awaits.ensures.all_marked side proper at p here t (left_key key s) (c.rows_stay_rows.ensures.leave_due s key port.rows)
+    proper-retold c.each_port_is_told.ensures side proper at p here t (left_key key s) (c.rows_stay_rows.ensures.leave_due s key port.rows)
     (own-changed s t key (after_leave (find key_cmp key s.rows)) port.contents law (left_own Belongs key (find key_cmp key s.rows) (own_row s port.contents key)))
     (range_from t (each-changed IsWithin s t key (after_leave (find key_cmp key s.rows)) fit law (left_own IsWithin key (find key_cmp key s.rows) (fit key))))
     (c.declarations_stay.ensures.leave_due s key port.rows)
@@ -57,7 +57,7 @@ returns-clause-leaveall_now c = λ now at side proper.
     proper-at side (λ p. with_port_at at (with_part (leave_all_state now p.part) p) side) (slice_get side.ports at) proper (λ p here.
     let port = port_kept side proper.kept at p here in
     let fit = ranges_at side proper at p here in
-    proper-replaced c.each_key_awaits.ensures.all_marked side proper at p here (leave_all_state now p.part) port.rows
+    proper-replaced c.each_port_is_told.ensures side proper at p here (leave_all_state now p.part) port.rows
     (record { declared = port.contents.declared; registered = port.contents.registered }) (record { declared = fit.declared; registered = fit.registered }) (λ key. refl) (λ key. refl))
 
 pub returns-clause-spoil : goal.returns-clause-spoil
@@ -66,7 +66,7 @@ returns-clause-spoil c = λ at side proper.
     let s : Part = p.part in
     let port = port_kept side proper.kept at p here in
     let fit = ranges_at side proper at p here in
-    proper-replaced c.each_key_awaits.ensures.all_marked side proper at p here (record s { sound = false }) port.rows
+    proper-replaced c.each_port_is_told.ensures side proper at p here (record s { sound = false }) port.rows
     (record { declared = port.contents.declared; registered = port.contents.registered }) (record { declared = fit.declared; registered = fit.registered }) (λ key. refl) (λ key. refl))
 
 pub returns-clause-periodic_now : goal.returns-clause-periodic_now
@@ -76,7 +76,7 @@ returns-clause-periodic_now c = λ at side proper.
     let t : Part = periodic_state s in
     let port = port_kept side proper.kept at p here in
     let law = c.each_key_after_periodic.ensures s in
-    proper-replaced c.each_key_awaits.ensures.all_marked side proper at p here t (c.rows_stay_rows.ensures.periodic_due s port.rows)
+    proper-replaced c.each_port_is_told.ensures side proper at p here t (c.rows_stay_rows.ensures.periodic_due s port.rows)
     (own-periodic s t port.contents law) (range_from t (each-periodic IsWithin s t (range_row s (ranges_at side proper at p here)) law))
     (c.declarations_stay.ensures.periodic_due s) (c.registrations_stay.ensures.periodic_due s))
 
@@ -87,7 +87,7 @@ returns-clause-send c = λ now at side proper.
     let t : Part = sent_part now s in
     let port = port_kept side proper.kept at p here in
     let law = c.each_key_after_send.ensures s now port.rows in
-    proper-replaced c.each_key_awaits.ensures.all_marked side proper at p here t (c.rows_stay_rows.ensures.send s now port.rows)
+    proper-replaced c.each_port_is_told.ensures side proper at p here t (c.rows_stay_rows.ensures.send s now port.rows)
     (own-sent s t (is_active s.leave_all) (takes base_octets octets_of key_cmp s) (after now s.leave_time) port.contents law)
     (range_from t (each-sent IsWithin s t (is_active s.leave_all) (takes base_octets octets_of key_cmp s) (after now s.leave_time) (range_row s (ranges_at side proper at p here)) law))
     (c.declarations_stay.ensures.send s now port.rows) (c.registrations_stay.ensures.send s now port.rows))

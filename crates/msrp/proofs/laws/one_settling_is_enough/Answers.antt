@@ -5,7 +5,7 @@ pub returns-clause-here : goal.returns-clause-here
 returns-clause-here c = none_awaits
 
 pub returns-clause-elsewhere : goal.returns-clause-elsewhere
-returns-clause-elsewhere c = others_await c.each_key_awaits.ensures.all_marked
+returns-clause-elsewhere c = others_await c.each_port_is_told.ensures
 
 pub returns-clause-ports : goal.returns-clause-ports
 returns-clause-ports c = others_stay

@@ -28,12 +28,12 @@ returns-clause-settle c = λ at side proper.
       fits = c.fits_stay.ensures.booked;
       unmoved = c.what_has_not_moved_is_booked_as_before.ensures;
     } in
-    proper-settled parts books moves c.each_key_awaits.ensures.all_marked c.each_key_awaits-2.ensures.all_marked c.a_place_for_each_key.ensures.registered side proper at
+    proper-settled parts books moves c.each_port_is_told.ensures c.each_key_awaits.ensures.all_marked c.a_place_for_each_key.ensures.registered side proper at
 
 pub returns-clause-request : goal.returns-clause-request
-returns-clause-request c = λ request side fit proper. proper-requested c.each_key_awaits.ensures.all_marked side proper request fit
+returns-clause-request c = λ request side fit proper. proper-requested c.each_port_is_told.ensures side proper request fit
 
 pub returns-clause-clock : goal.returns-clause-clock
 returns-clause-clock c = λ now side up proper.
     let laws : Laws = record { kept = c.every_step_keeps_a_book.ensures.clocked; fits = c.fits_stay.ensures.clocked } in
-    proper-clocked laws c.each_key_awaits.ensures.all_marked c.a_place_for_each_key.ensures.registered side proper now up
+    proper-clocked laws c.each_port_is_told.ensures c.a_place_for_each_key.ensures.registered side proper now up

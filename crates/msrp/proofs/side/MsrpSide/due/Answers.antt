@@ -1,8 +1,9 @@
 use Rattle.std.proofs.Common.{◌≡◌, ◌-◌, ◌∙◌, false, ap, sym}
 use Rattle.std.specs.Prelude.{slice_get, Some}
 use Rattle.mrp_participant.specs.State.{due_count, is_any_due}
-use Rattle.msrp.specs.Side.{Streams, count_of, place_of}
-use Rattle.msrp.proofs.Idle.{count-none, none-due}
+use Rattle.attribute_propagation.specs.Ports.{count_of, place_of}
+use Rattle.msrp.specs.Side.{Streams}
+use Rattle.msrp.proofs.Idle.{none-due}
 use Rattle.msrp.proofs.Places.{some_is}
 use Rattle.msrp.proofs.side.MsrpSide.due.Goals as goal
 use Rattle.msrp.proofs.side.MsrpSide.due.Goals.{Then-not-any_due}
@@ -19,9 +20,9 @@ none c = sym c.any_due.ensures ∙ c.if-not-any_due.true
 
 pub returns-then-not-any_due-clause-after : goal.returns-then-not-any_due-clause-after
 returns-then-not-any_due-clause-after c =
-    sym (none-due c.args.self.now (place_of c.args.port) c.port_at.result.now (here c) c.args.now (none c))
+    sym (none-due c.each_port_is_told.ensures c.args.self.now (place_of c.args.port) c.port_at.result.now (here c) c.args.now (c.nothing_due_changes_nothing.ensures.state c.port_at.result.now.part c.args.now (none c)) (c.nothing_due_changes_nothing.ensures.left c.port_at.result.now.part c.args.now (none c)))
 
 pub returns-then-not-any_due-clause-count : goal.returns-then-not-any_due-clause-count
 returns-then-not-any_due-clause-count c =
     some_is (λ p. 0 ≡ count_of (due_count c.args.now p.part)) _ c.port_at.result.now (here c)
-    (ap count_of (sym (count-none c.args.now c.port_at.result.now.part (none c))))
+    (ap count_of (sym (c.nothing_due_changes_nothing.ensures.count c.port_at.result.now.part c.args.now (none c))))

@@ -6,7 +6,8 @@ use Rattle.mrp_participant.specs.State.{declared_at, left_state}
 use Rattle.msrp_codec.specs.Content.{Belongs}
 use Rattle.msrp.specs.declared.port.Port.{Port}
 use Rattle.msrp.specs.Part.{Part, key_cmp}
-use Rattle.msrp.specs.Side.{Streams, left_key, left_streams, place_of}
+use Rattle.attribute_propagation.specs.Ports.{place_of}
+use Rattle.msrp.specs.Side.{Streams, left_key, left_streams}
 use Rattle.msrp.proofs.Places.{one_some, some_is}
 use Rattle.msrp.proofs.Telling.{tells_as, leaving_told}
 use Rattle.msrp.proofs.Contents.{own-changed, left_own, own_row}

@@ -24,7 +24,7 @@ pub invariant_of-self : goal.invariant_of-self
 invariant_of-self c =
     let P : Streams → Type 0 = λ side. IsKept side in
     subst P (sym (passed c))
-    (kept-clocked (record { kept = c.every_step_keeps_a_book.ensures.clocked; fits = c.fits_stay.ensures.clocked }) c.each_key_awaits.ensures.all_marked c.a_place_for_each_key.ensures.registered (before c) c.self.invariant c.args.now.0 (up c))
+    (kept-clocked (record { kept = c.every_step_keeps_a_book.ensures.clocked; fits = c.fits_stay.ensures.clocked }) c.each_port_is_told.ensures c.a_place_for_each_key.ensures.registered (before c) c.self.invariant c.args.now.0 (up c))
 
 pub returns : goal.returns
 returns c = passed c ∙ ap (clocked_streams c.args.now.0) c.self.view_is

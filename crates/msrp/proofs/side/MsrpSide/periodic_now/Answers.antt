@@ -19,7 +19,7 @@ below c = omega (arith, c.from.ensures, c.requires.some, c.requires.within, ap (
 pub invariant_of-self : goal.invariant_of-self
 invariant_of-self c =
     let p : Port = c.index_mut-port.result.now in
-    kept-changed c.each_key_awaits.ensures.all_marked (before c) c.self.invariant (c.from.result - 1) (below c) p c.index_mut-port.ensures.value c.periodic_due.new.self
+    kept-changed c.each_port_is_told.ensures (before c) c.self.invariant (c.from.result - 1) (below c) p c.index_mut-port.ensures.value c.periodic_due.new.self
     (λ rows. rw c.periodic_due.ensures (c.rows_stay_rows.ensures.periodic_due p.part rows))
     (λ rows own. own-periodic p.part c.periodic_due.new.self own (λ k. ap (λ (t : Part). find key_cmp k t.rows) c.periodic_due.ensures ∙ c.each_key_after_periodic.ensures p.part k))
     (λ rows key. ap (declared_at key_cmp key) c.periodic_due.ensures ∙ c.declarations_stay.ensures.periodic_due p.part key)

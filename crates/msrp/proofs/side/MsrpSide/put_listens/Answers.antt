@@ -12,7 +12,7 @@ pub invariant_of-self : goal.invariant_of-self
 invariant_of-self c =
     let before : Streams = record { ports = c.self.inside.ports.items; awaiting = c.self.inside.awaiting.items; talks = c.self.inside.talks.items; listens = c.self.inside.listens.items; moment = c.self.inside.moment.0 } in
     let sets : c.put_sets.new.sets.items ≡ marked_everywhere key_cmp (keys_of c.args.stream) c.self.inside.awaiting.items = search rules in
-    rw sets (kept-asked c.each_key_awaits.ensures.all_marked before c.self.invariant c.args.stream c.self.inside.talks.items c.args.listens.items
+    rw sets (kept-asked c.each_port_is_told.ensures before c.self.invariant c.args.stream c.self.inside.talks.items c.args.listens.items
     (λ s e. refl)
     (λ s e. c.requires s e ∙ ap (λ (v : Streams). is_listened s v.listens) (sym c.self.view_is)))
 

@@ -6,11 +6,11 @@ use Rattle.mrp_participant.specs.Lookup.{find}
 use Rattle.msrp_codec.specs.Content.{base_octets, octets_of}
 use Rattle.msrp.specs.declared.port.Port.{Port}
 use Rattle.msrp.specs.Part.{HasOwnContents, Part, key_cmp, pdu_sent, sent_part}
-use Rattle.msrp.specs.Side.{Streams, IsWritten, place_of, sent_streams}
+use Rattle.attribute_propagation.specs.Ports.{place_of}
+use Rattle.msrp.specs.Side.{Streams, IsWritten, sent_streams}
 use Rattle.msrp.proofs.Places.{one_some, opened, some_is}
 use Rattle.msrp.proofs.Contents.{own-sent}
 use Rattle.msrp.proofs.Keeping.{at_changed, kept-changed, port_kept}
-use Rattle.msrp.proofs.Said.{still_is_silent}
 use Rattle.msrp.proofs.side.MsrpSide.send.Goals as goal
 use Rattle.msrp.proofs.side.MsrpSide.send.Goals.{Then-still, After-drop-port}
 
@@ -23,7 +23,7 @@ here c =
 
 pub returns-then-still : goal.returns-then-still
 returns-then-still c =
-    (some_is (λ p. is_silent p.part ≡ true) _ c.port_at-before.result.now (here c) (still_is_silent c.port_at-before.result.now.part (sym c.still.ensures ∙ c.if-still.true)), refl)
+    (some_is (λ p. is_silent p.part ≡ true) _ c.port_at-before.result.now (here c) (c.still_is_silent.ensures c.port_at-before.result.now.part (sym c.still.ensures ∙ c.if-still.true)), refl)
 
 pub said_by-requires-clause-contents : goal.said_by-requires-clause-contents
 said_by-requires-clause-contents c =
@@ -59,7 +59,7 @@ became c =
 pub invariant_of-self : goal.invariant_of-self
 invariant_of-self c =
     let p : Port = c.index_mut-port.result.now in
-    kept-changed c.each_key_awaits.ensures.all_marked (before c) c.self.invariant (c.from-at.result - 1) (below c) p c.index_mut-port.ensures.value c.in-Some.said.0
+    kept-changed c.each_port_is_told.ensures (before c) c.self.invariant (c.from-at.result - 1) (below c) p c.index_mut-port.ensures.value c.in-Some.said.0
     (λ rows. let P : Part → Type 0 = λ s. AreRows key_cmp s.rows in subst P (sym (became c)) (c.rows_stay_rows.ensures.send p.part c.args.now rows))
     (λ rows own. own-sent p.part c.in-Some.said.0 (is_active p.part.leave_all) (takes base_octets octets_of key_cmp p.part) (after c.args.now p.part.leave_time) own
     (λ k. ap (λ (t : Part). find key_cmp k t.rows) (became c) ∙ c.each_key_after_send.ensures p.part c.args.now rows k))

@@ -2,7 +2,8 @@ use Rattle.std.proofs.Common.{◌≡◌, ◌-◌, ◌∙◌, [], length, ap, sym
 use Rattle.std.specs.Prelude.{slice_get, Some}
 use Rattle.std.proofs.lemmas.Bool.{eqb-true}
 use Rattle.std.proofs.lemmas.List.{nil_from_length}
-use Rattle.msrp.specs.Side.{Streams, place_of}
+use Rattle.attribute_propagation.specs.Ports.{place_of}
+use Rattle.msrp.specs.Side.{Streams}
 use Rattle.msrp.proofs.Idle.{none-awaits}
 use Rattle.msrp.proofs.side.MsrpSide.settle.Goals as goal
 
@@ -14,4 +15,4 @@ returns-then-is_empty-clause-after c =
     ap (λ (v : Streams). slice_get v.awaiting (place_of c.args.port)) (sym c.self.view_is)
     ∙ (ap (λ xs. slice_get xs (place_of c.args.port)) (sym c.as_slice.ensures.value)
     ∙ (ap (λ n. slice_get c.as_slice.result.now (n - 1)) (sym c.from-at.ensures) ∙ (c.set_at.ensures ∙ ap Some none))) in
-    sym (none-awaits c.nothing_changed_where_both_lists_are_empty.ensures.empty c.args.self.now c.keeps.ensures (place_of c.args.port) set)
+    sym (none-awaits c.each_port_is_told.ensures c.nothing_changed_where_both_lists_are_empty.ensures.empty c.args.self.now c.keeps.ensures (place_of c.args.port) set)

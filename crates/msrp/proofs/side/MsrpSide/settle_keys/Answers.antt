@@ -1,14 +1,14 @@
 use Rattle.std.proofs.Common.{rules, ◌≡◌, ◌<◌, ◌∙◌, List, length, ap, sym, arith}
 use Rattle.std.specs.Prelude.{slice_get, slice_set, IfSome}
-use Rattle.attribute_propagation.specs.Ports.{marked_elsewhere}
+use Rattle.attribute_propagation.specs.Ports.{marked_elsewhere, count_of}
 use Rattle.msrp_codec.specs.declared.pdu.MsrpKey.{MsrpKey}
 use Rattle.msrp.specs.declared.port.Port.{Port}
 use Rattle.msrp.specs.Part.{key_cmp}
 use Rattle.msrp.specs.Settling.{listener_keys, moved_streams, next_book, settled_port, talker_keys}
-use Rattle.msrp.specs.Side.{Streams, awaiting_at, count_of, seen_by, settled_streams}
+use Rattle.msrp.specs.Side.{Streams, awaiting_at, seen_by, settled_streams}
 use Rattle.msrp.proofs.Ledgers.{BookLaws}
 use Rattle.msrp.proofs.Participants.{PartLaws}
-use Rattle.msrp.proofs.Settled.{HasSettled, MoveLaws, awaiting_is, marked_length, settle_is}
+use Rattle.msrp.proofs.Settled.{HasSettled, MoveLaws, awaiting_is, settle_is}
 use Rattle.msrp.proofs.side.MsrpSide.settle_keys.Goals as goal
 use Rattle.msrp.proofs.side.MsrpSide.settle_keys.Goals.{After-drop-told-2}
 
@@ -60,14 +60,14 @@ told c = rw (c.as_slice.ensures.value, c.as_slice-2.ensures.value, c.as_slice-3.
 
 done : (c : After-drop-told-2) → HasSettled (before c) c.args.at c.in_ok-port.port c.put_sets.new.sets.items
 done c =
-    settle_is (parts c) (books c) (moves c) c.each_key_awaits.ensures.all_marked c.each_key_awaits-2.ensures.all_marked c.a_place_for_each_key.ensures.registered
+    settle_is (parts c) (books c) (moves c) c.each_port_is_told.ensures c.each_key_awaits.ensures.all_marked c.a_place_for_each_key.ensures.registered
     (before c) c.self.invariant c.args.at (below c) c.index.result.now c.index.ensures c.in_ok-port.port c.in_ok-port.told.items c.put_sets.new.sets.items (next c) (told c) (sets c)
 
 pub index_mut-requires : goal.index_mut-requires
 index_mut-requires c =
     let count : length c.put_sets.new.sets.items ≡ length c.self.inside.awaiting.items =
     let is : c.put_sets.new.sets.items ≡ marked_elsewhere key_cmp c.args.at c.in_ok-port.told.items c.self.inside.awaiting.items = search rules in
-    ap (λ (xs : List (List MsrpKey)). length xs) is ∙ marked_length c.in_ok-port.told.items c.self.inside.awaiting.items 0 c.args.at in
+    ap (λ (xs : List (List MsrpKey)). length xs) is ∙ c.each_port_is_told.ensures.as_many_elsewhere c.args.at c.in_ok-port.told.items c.self.inside.awaiting.items in
     let same = c.self.invariant.sets in
     omega (arith, count, same, c.requires, ap (λ (v : Streams). length v.ports) c.self.view_is)
 

@@ -15,4 +15,4 @@ invariant_of-self c =
     let sets : c.args.sets.items ≡ clocked_sets c.args.now.0 (talker_keys before.talks before.ports) before.ports before.awaiting =
     c.requires.sets ∙ ap (λ (v : Streams). clocked_sets c.args.now.0 (talker_keys v.talks v.ports) v.ports v.awaiting) (sym c.self.view_is) in
     rw (c.clock_all.ensures, sets)
-    (kept-clocked (record { kept = c.every_step_keeps_a_book.ensures.clocked; fits = c.fits_stay.ensures.clocked }) c.each_key_awaits.ensures.all_marked c.a_place_for_each_key.ensures.registered before c.self.invariant c.args.now.0 up)
+    (kept-clocked (record { kept = c.every_step_keeps_a_book.ensures.clocked; fits = c.fits_stay.ensures.clocked }) c.each_port_is_told.ensures c.a_place_for_each_key.ensures.registered before c.self.invariant c.args.now.0 up)

@@ -17,7 +17,7 @@ below c = omega (arith, c.from.ensures, c.requires.some, c.requires.within, ap (
 pub invariant_of-self : goal.invariant_of-self
 invariant_of-self c =
     let p : Port = c.index_mut-port.result.now in
-    kept-changed c.each_key_awaits.ensures.all_marked (before c) c.self.invariant (c.from.result - 1) (below c) p c.index_mut-port.ensures.value c.spoil.new.self
+    kept-changed c.each_port_is_told.ensures (before c) c.self.invariant (c.from.result - 1) (below c) p c.index_mut-port.ensures.value c.spoil.new.self
     (λ rows. rw c.spoil.ensures rows)
     (λ rows own. rw c.spoil.ensures (record { declared = own.declared; registered = own.registered }))
     (λ rows key. ap (declared_at key_cmp key) c.spoil.ensures)

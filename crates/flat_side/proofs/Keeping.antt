@@ -1,0 +1,246 @@
+-- What every side keeps stays so: a participant takes the place of another, keys are settled, the
+-- application declares or withdraws.
+use Rattle.std.proofs.Common.{◌≡◌, ◌≢◌, ◌⊎◌, inl, inr, ℕ, zero, suc, ◌<◌, Bool, true, false, not, ◌&&◌, ◌||◌, if◌then◌else◌, List, [], ◌∷◌, length, map, refl, sym, ap, subst, ◌∙◌, arith}
+use Rattle.std.specs.Prelude.{slice_get, slice_set, slice_index_or, Option, Some, None, option_map, Contains, is_some, ◌==◌}
+use Rattle.std.specs.Cmp.{IsTotalOrder}
+use Rattle.std.specs.List.{AllByRecursion}
+use Rattle.std.proofs.lemmas.List.Folds.{list_any_at}
+use Rattle.std.proofs.lemmas.Option.{slice_get-get_or, slice_get_read}
+use Rattle.std.proofs.Math.ListN.{length-set}
+use Rattle.std.specs.declared.cmp.Ordering.{Ordering}
+use Rattle.std.specs.declared.cmp.Ordering.TheVariants.{Less, Equal, Greater}
+use Rattle.std.specs.Ordering.{is_eq, ordering_reverse}
+use Rattle.srp_base.specs.declared.numbers.Cs.{Cs}
+use Rattle.srp_base.specs.declared.ports.PortSetup.{PortSetup}
+use Rattle.mrp_participant.specs.Lookup.{find, same}
+use Rattle.mrp_participant.specs.Row.{is_leaving_in}
+use Rattle.mrp_participant.specs.State.{AreRows, new_state, left_state, registered_at}
+use Rattle.attribute_propagation.specs.Dirty.{is_awaiting, all_marked, with_key, without_key, IsAscending}
+use Rattle.attribute_propagation.specs.Flat.{is_any, elsewhere}
+use Rattle.attribute_propagation.specs.Ports.{HasTold, marked_elsewhere, marked_everywhere}
+use Rattle.flat_side.specs.Part.{Part, declares, registers}
+use Rattle.flat_side.specs.Side.{FlatState, IsKept, IsFlatAt, is_flat, has_own, places_of, new_flat, with_told_part, with_part_at, at_part, left_key, SameDeclared, TellsEach}
+use Rattle.flat_side.proofs.Places.{decide, or_false, no_or, no_and, same_length, get-set_same, get-set_other, map-set, map-set_same, elsewhere-set, each-set, each-get}
+
+-- what is known of keys: their order is one in which equal keys are one key; and what those that are told make of the
+-- sets of all ports
+pub record KeyLaws {K : Type 0} (cmp : K → K → Ordering) : Type 0 where
+  pub order : IsTotalOrder cmp
+  pub one : (a b : K) → cmp a b ≡ Equal → a ≡ b
+  pub told : HasTold cmp
+
+equal : (c : Ordering) → is_eq c ≡ true → c ≡ Equal
+equal Less h = cc
+equal Equal h = refl
+equal Greater h = cc
+
+own_reverse : (c : Ordering) → c ≡ ordering_reverse c → c ≡ Equal
+own_reverse Less h = cc
+own_reverse Equal h = refl
+own_reverse Greater h = cc
+
+-- what holds of equal participants and lists of keys
+pub tells_as : {K : Type 0} (cmp : K → K → Ordering) (key : K) (told told' : List K) (s t t' : Part K) → told' ≡ told → t' ≡ t
+    → Contains told key ⊎ (registered_at cmp key t ≡ registered_at cmp key s)
+    → Contains told' key ⊎ (registered_at cmp key t' ≡ registered_at cmp key s)
+tells_as cmp key told told' s t t' e f h = rw (e, f) h
+
+pub retold_as : {K : Type 0} (cmp : K → K → Ordering) (at : ℕ) (s t : Part K) (told told' : List K) (side : FlatState K) → s ≡ t → told ≡ told' → with_told_part cmp at s told side ≡ with_told_part cmp at t told' side
+retold_as cmp at s t told told' side e f = rw (e, f) refl
+
+pub at_changed : {K : Type 0} (side : FlatState K) (at : ℕ) (x t : Part K) (f : Part K → Part K) → at < length side.parts → x ≡ slice_index_or side.parts at x → t ≡ f x
+    → with_part_at at t side ≡ at_part at (λ s. with_part_at at (f s) side) side
+at_changed side at x t f below is e =
+    let here : slice_get side.parts at ≡ Some x = slice_get_read side.parts (length side.parts) at x refl below is in
+    rw (here, e) refl
+
+pub at_told : {K : Type 0} (side : FlatState K) (at : ℕ) (s : Part K) (make : Part K → FlatState K) → slice_get side.parts at ≡ Some s → make s ≡ at_part at make side
+at_told side at s make here = rw here refl
+
+module _ {K : Type 0} (cmp : K → K → Ordering) (laws : KeyLaws cmp) where
+  pub self : (k : K) → is_eq (cmp k k) ≡ true
+  self k = ap is_eq (own_reverse (cmp k k) (laws.order.antisymm k k))
+
+  pub same_key : (a b : K) → same cmp a b ≡ true → a ≡ b
+  same_key a b h = laws.one a b (equal (cmp a b) h)
+
+  -- a key that is in a list is among its keys
+  contained : (keys : List K) (i : ℕ) (key : K) → i < length keys → slice_index_or keys i key ≡ key → is_awaiting cmp key keys ≡ true
+  contained keys i key below at = list_any_at (λ x. is_eq (cmp x key)) keys i key below (rw at (self key))
+
+  -- a key that isn't told is registered as before
+  untold : (told : List K) (s t : Part K) (key : K) → TellsEach cmp told s t → is_awaiting cmp key told ≡ false → registers cmp key t ≡ registers cmp key s
+  untold told s t key tells out = by (tells key)
+    where
+      by : Contains told key ⊎ (registered_at cmp key t ≡ registered_at cmp key s) → registers cmp key t ≡ registers cmp key s
+      by (inl c) = let inside = contained told c.0 key c.1 c.2 in cc
+      by (inr e) = ap is_some e
+
+  -- the set at the place itself stays, and at each other place the told keys are in
+  marked_here : (at : ℕ) (told keys : List K) (sets : List (List K)) → slice_get (marked_elsewhere cmp at told sets) at ≡ Some keys → slice_get sets at ≡ Some keys
+  marked_here at told keys sets h = here (slice_get sets at) (sym (laws.told.elsewhere at at told sets) ∙ h)
+    where
+      here : (o : Option (List K)) → option_map (λ set. if at == at then set else all_marked cmp told set) o ≡ Some keys → o ≡ Some keys
+      here None e = cc
+      here (Some set) e =
+          let same : (at == at) ≡ true = grind arith in
+          let kept : (if at == at then set else all_marked cmp told set) ≡ set = rw same refl in cc
+
+  marked_there : (at j : ℕ) (told keys : List K) (sets : List (List K)) → at ≢ j → slice_get (marked_elsewhere cmp at told sets) j ≡ Some keys → (set : List K) × (slice_get sets j ≡ Some set) × (all_marked cmp told set ≡ keys)
+  marked_there at j told keys sets ne h = there (slice_get sets j) refl (sym (laws.told.elsewhere at j told sets) ∙ h)
+    where
+      there : (o : Option (List K)) → slice_get sets j ≡ o → option_map (λ set. if j == at then set else all_marked cmp told set) o ≡ Some keys → (set : List K) × (slice_get sets j ≡ Some set) × (all_marked cmp told set ≡ keys)
+      there None is e = cc
+      there (Some set) is e =
+          let other : (j == at) ≡ false = grind (arith, ne) in
+          let kept : (if j == at then set else all_marked cmp told set) ≡ all_marked cmp told set = rw other refl in
+          (set, is, cc)
+
+  marked_everywhere_at : (sets : List (List K)) (new : List K) (j : ℕ) (keys : List K) → slice_get (marked_everywhere cmp new sets) j ≡ Some keys
+      → (set : List K) × (slice_get sets j ≡ Some set) × (all_marked cmp new set ≡ keys)
+  marked_everywhere_at sets new j keys h = by (slice_get sets j) refl (sym (laws.told.everywhere j new sets) ∙ h)
+    where
+      by : (o : Option (List K)) → slice_get sets j ≡ o → option_map (all_marked cmp new) o ≡ Some keys → (set : List K) × (slice_get sets j ≡ Some set) × (all_marked cmp new set ≡ keys)
+      by None is e = cc
+      by (Some set) is e = (set, is, cc)
+
+  module _ (side : FlatState K) (kept : IsKept cmp side) (at : ℕ) (s : Part K) (here : slice_get side.parts at ≡ Some s) where
+    -- the flat rule at a place doesn't see the participant there
+    pub flat_here : (t : Part K) (sets : List (List K)) (key : K) → is_flat cmp (record side { parts = slice_set side.parts at t; awaiting = sets }) at key ≡ is_flat cmp side at key
+    flat_here t sets key =
+        ap (elsewhere (suc at)) (ap (λ bs. has_own cmp key side ∷ bs) (map-set (registers cmp key) side.parts at t))
+        ∙ elsewhere-set (suc at) (places_of cmp key side.own side.parts) (registers cmp key t)
+
+    -- where the registration of a key is as before, the rule is
+    pub flat_there : (t : Part K) (sets : List (List K)) (j : ℕ) (key : K) → registers cmp key t ≡ registers cmp key s → is_flat cmp (record side { parts = slice_set side.parts at t; awaiting = sets }) j key ≡ is_flat cmp side j key
+    flat_there t sets j key e =
+        ap (λ bs. elsewhere (suc j) (has_own cmp key side ∷ bs)) (map-set_same (registers cmp key) side.parts at s t here e)
+
+    module _ (t : Part K) (told : List K) (same : SameDeclared cmp s t) (tells : TellsEach cmp told s t) where
+      retold_here : IsFlatAt cmp (with_told_part cmp at t told side) at
+      retold_here p keys key part set out =
+          ap (declares cmp key) (sym (get-set_same side.parts at t p part))
+          ∙ (ap is_some (same key)
+          ∙ (kept.flat at s keys key here (marked_here at told keys side.awaiting set) out
+          ∙ sym (flat_here t (marked_elsewhere cmp at told side.awaiting) key)))
+
+      retold_there : (j : ℕ) → at ≢ j → IsFlatAt cmp (with_told_part cmp at t told side) j
+      retold_there j ne p keys key part set out =
+          let old = marked_there at j told keys side.awaiting ne set in
+          let outs = or_false (is_awaiting cmp key told) (is_awaiting cmp key old.0)
+          (sym (laws.told.among key told old.0) ∙ (ap (is_awaiting cmp key) old.2 ∙ out)) in
+          kept.flat j p old.0 key (sym (get-set_other side.parts at j t ne) ∙ part) old.1 outs.1
+          ∙ sym (flat_there t (marked_elsewhere cmp at told side.awaiting) j key (untold told s t key tells outs.0))
+
+      retold_flat : (j : ℕ) → (at ≡ j) ⊎ (at ≢ j) → IsFlatAt cmp (with_told_part cmp at t told side) j
+      retold_flat j (inl e) = let P : ℕ → Type 0 = λ k. IsFlatAt cmp (with_told_part cmp at t told side) k in subst P e retold_here
+      retold_flat j (inr ne) = retold_there j ne
+
+      -- a participant that declares the same takes the place, and what it tells awaits elsewhere
+      pub kept-retold : AreRows cmp t.rows → IsKept cmp (with_told_part cmp at t told side)
+      kept-retold rows =
+          record {
+            rows = each-set (λ p. AreRows cmp p.rows) side.parts at t rows kept.rows;
+            ports = laws.told.as_many_elsewhere at told side.awaiting ∙ (kept.ports ∙ sym (length-set side.parts at t));
+            own = kept.own;
+            flat = λ j. retold_flat j (decide at j);
+          }
+
+  -- the key whose leave timer ended is told, or its registration is as before
+  pub leaving_told : (s : Part K) (key v : K)
+      → registered_at cmp v (left_state cmp key s)
+      ≡ (if same cmp key v && is_leaving_in (find cmp key s.rows) then None else registered_at cmp v s)
+      → Contains (left_key cmp key s) v ⊎ (registered_at cmp v (left_state cmp key s) ≡ registered_at cmp v s)
+  leaving_told s key v law = by (same cmp key v) (is_leaving_in (find cmp key s.rows)) refl law
+    where
+      by : (one leaving : Bool) → same cmp key v ≡ one
+          → registered_at cmp v (left_state cmp key s) ≡ (if one && leaving then None else registered_at cmp v s)
+          → Contains (if leaving then key ∷ [] else []) v ⊎ (registered_at cmp v (left_state cmp key s) ≡ registered_at cmp v s)
+      by true true e h = inl (0, omega arith, same_key key v e)
+      by true false e h = inr h
+      by false true e h = inr h
+      by false false e h = inr h
+
+  pub kept-put : (side : FlatState K) → IsKept cmp side → (at : ℕ) → at < length side.parts → (t : Part K) (told : List K) → AreRows cmp t.rows
+      → ((s : Part K) → slice_get side.parts at ≡ Some s → SameDeclared cmp s t)
+      → ((s : Part K) → slice_get side.parts at ≡ Some s → TellsEach cmp told s t)
+      → IsKept cmp (with_told_part cmp at t told side)
+  kept-put side kept at below t told rows same tells =
+      let s = slice_index_or side.parts at t in
+      let here : slice_get side.parts at ≡ Some s = slice_get-get_or side.parts at t below in
+      kept-retold side kept at s here t told (same s here) (tells s here) rows
+
+  -- ---- a participant changes in its place, and tells none
+
+  pub kept-changed : (side : FlatState K) → IsKept cmp side → (at : ℕ) → at < length side.parts → (x t : Part K)
+      → x ≡ slice_index_or side.parts at x → (AreRows cmp x.rows → AreRows cmp t.rows)
+      → (AreRows cmp x.rows → SameDeclared cmp x t) → (AreRows cmp x.rows → (key : K) → registered_at cmp key t ≡ registered_at cmp key x)
+      → IsKept cmp (with_part_at at t side)
+  kept-changed side kept at below x t is rows declared registered =
+      let here : slice_get side.parts at ≡ Some x = slice_get_read side.parts (length side.parts) at x refl below is in
+      let x_rows : AreRows cmp x.rows = each-get (λ p. AreRows cmp p.rows) side.parts at x kept.rows here in
+      let P : List (List K) → Type 0 = λ sets. IsKept cmp (record (with_part_at at t side) { awaiting = sets }) in
+      subst P (laws.told.none_elsewhere at side.awaiting)
+      (kept-retold side kept at x here t [] (declared x_rows) (λ key. inr (registered x_rows key)) (rows x_rows))
+
+  -- ---- the application asks
+
+  -- the own keys change at one key, which awaits everywhere
+  pub kept-own : (side : FlatState K) → IsKept cmp side → (key : K) (own : List K) → IsAscending cmp own
+      → ((v : K) → is_eq (cmp key v) ≡ false → is_awaiting cmp v own ≡ is_awaiting cmp v side.own)
+      → IsKept cmp (record side { own = own; awaiting = marked_everywhere cmp (key ∷ []) side.awaiting })
+  kept-own side kept key own up stays =
+      record {
+        rows = kept.rows;
+        ports = laws.told.as_many_everywhere (key ∷ []) side.awaiting ∙ kept.ports;
+        own = up;
+        flat = λ j p keys v part set out.
+            let old = marked_everywhere_at side.awaiting (key ∷ []) j keys set in
+            let outs = or_false (is_awaiting cmp v (key ∷ [])) (is_awaiting cmp v old.0)
+            (sym (laws.told.among v (key ∷ []) old.0) ∙ (ap (is_awaiting cmp v) old.2 ∙ out)) in
+            kept.flat j p old.0 v part old.1 outs.1
+            ∙ ap (λ b. elsewhere (suc j) (b ∷ map (registers cmp v) side.parts)) (sym (stays v (or_false (is_eq (cmp key v)) false outs.0).0));
+      }
+
+  pub kept-requested : ((k x : K) (keys : List K) → is_awaiting cmp k (with_key cmp x keys) ≡ (is_eq (cmp x k) || is_awaiting cmp k keys))
+      → ((k x : K) (keys : List K) → is_awaiting cmp k (without_key cmp x keys) ≡ (not (is_eq (cmp x k)) && is_awaiting cmp k keys))
+      → (side : FlatState K) → IsKept cmp side → (key : K) (declared : Bool) (own : List K) (sets : List (List K)) → IsAscending cmp own
+      → own ≡ (if declared then with_key cmp key side.own else without_key cmp key side.own)
+      → sets ≡ marked_everywhere cmp (key ∷ []) side.awaiting
+      → IsKept cmp (record side { own = own; awaiting = sets })
+  kept-requested marks clears side kept key true own sets up is all =
+      rw all (kept-own side kept key own up (λ v ne. ap (is_awaiting cmp v) is ∙ (marks v key side.own ∙ no_or _ _ ne)))
+  kept-requested marks clears side kept key false own sets up is all =
+      rw all (kept-own side kept key own up (λ v ne. ap (is_awaiting cmp v) is ∙ (clears v key side.own ∙ no_and _ _ ne)))
+
+-- ---- a new side
+
+module _ {K : Type 0} (cmp : K → K → Ordering) where
+  new_rows : (leave_time : Cs) (periodic : Bool) (ports : List PortSetup) → AllByRecursion (λ (s : Part K). AreRows cmp s.rows) (map (λ p. new_state p.period leave_time periodic) ports)
+  new_rows leave_time periodic [] = tt
+  new_rows leave_time periodic (p ∷ ports) = ((tt, tt), new_rows leave_time periodic ports)
+
+  none_declared : (leave_time : Cs) (periodic : Bool) (ports : List PortSetup) (i : ℕ) (s : Part K) (key : K) → slice_get (map (λ p. new_state p.period leave_time periodic) ports) i ≡ Some s → declares cmp key s ≡ false
+  none_declared leave_time periodic [] i s key h = cc
+  none_declared leave_time periodic (p ∷ ports) zero s key h =
+      let same : new_state p.period leave_time periodic ≡ s = cc in ap (declares cmp key) (sym same)
+  none_declared leave_time periodic (p ∷ ports) (suc i) s key h = none_declared leave_time periodic ports i s key h
+
+  none_registered : (leave_time : Cs) (periodic : Bool) (ports : List PortSetup) (key : K) (p : ℕ) → elsewhere p (map (registers cmp key) (map (λ p. new_state p.period leave_time periodic) ports)) ≡ false
+  none_registered leave_time periodic [] key zero = refl
+  none_registered leave_time periodic [] key (suc p) = refl
+  none_registered leave_time periodic (q ∷ ports) key zero = all ports
+    where
+      all : (ports : List PortSetup) → is_any (map (registers cmp key) (map (λ p. new_state p.period leave_time periodic) ports)) ≡ false
+      all [] = refl
+      all (q ∷ ports) = all ports
+  none_registered leave_time periodic (q ∷ ports) key (suc p) = none_registered leave_time periodic ports key p
+
+  pub kept-new : (leave_time : Cs) (periodic : Bool) (ports : List PortSetup) → IsKept cmp (new_flat leave_time periodic ports)
+  kept-new leave_time periodic ports =
+      record {
+        rows = new_rows leave_time periodic ports;
+        ports = same_length (λ _. []) (λ p. new_state p.period leave_time periodic) ports;
+        own = tt;
+        flat = λ at s keys key part set out. none_declared leave_time periodic ports at s key part ∙ sym (none_registered leave_time periodic ports key at);
+      }

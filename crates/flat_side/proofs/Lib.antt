@@ -1,0 +1,7 @@
+mod Keeping
+mod KeyLemmas
+mod Places
+mod ProperLemmas
+mod ReadyLemmas
+mod SendingLemmas
+mod SettlingLemmas

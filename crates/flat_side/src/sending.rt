@@ -1,0 +1,94 @@
+//! What a link port sends.
+
+ghost use Rattle.std.specs.Prelude.{◌≡◌, ◌≢◌, ◌<◌, ◌≤◌, ◌+◌, ◌^◌, false, [], length, sum_by, is_none, IfOk, IfSome};
+ghost use Rattle.mrp_participant.specs.State.{is_silent, sent_state};
+ghost use Rattle.attribute_propagation.specs.Ports.{IsLinkPort, place_of};
+ghost use Rattle.flat_side.specs.Codec.{IsWritten};
+ghost use Rattle.flat_side.specs.Part.{key_events};
+ghost use Rattle.flat_side.specs.Side.{HasSent, pdu_sent};
+
+use crate::app::FlatApp;
+use crate::calls::part_at;
+use crate::side::FlatSide;
+use attribute_propagation::laws::each_port_is_told;
+use mrp_participant::laws::{
+    declarations_stay, registrations_stay, rows_stay_rows, still_is_silent,
+};
+use mrp_participant::{Msgs, Participant};
+use srp_base::{Cs, MrpEvent, NoMemory, PortNo, Seq};
+use std::alloc::{AllocError, Global};
+
+impl<A: FlatApp> FlatSide<A> {
+    /// What a link port sends at the moment `now`, in cs and below 2^62: the octets of its PDU, at most 1,500
+    /// (IEEE Std 802.1Q-2018, 10.7.6, 10.8). None exactly where its participant has nothing to say; nothing
+    /// changes then.
+    pub fn send(&mut self, now: Cs, port: PortNo) -> Result<Option<Seq<u8>>, NoMemory>
+        requires now { now.0 < 2 ^ 62 }
+        requires port { IsLinkPort port (length self.old.parts) }
+        ensures { HasSent A.Key.cmp A.codec A.base A.octets now (place_of port) self.old result
+            self.new }
+    {
+        each_port_is_told::<A::Key>();
+        still_is_silent::<A>();
+        declarations_stay::<A>();
+        registrations_stay::<A>();
+        rows_stay_rows::<A>();
+        let alloc = *self.parts.allocator();
+        let at = usize::from(port.0) - 1;
+        let part = part_at(self.parts.as_slice(), at);
+        if part.still() {
+            return Ok(None);
+        }
+        match said_by(alloc, part.copy()?, now)? {
+            Some(said) => {
+                self.parts[at] = said.0;
+                Ok(Some(said.1))
+            }
+            None => Ok(None),
+        }
+    }
+}
+
+// What a participant says, with the participant afterwards.
+fn said_by<A: FlatApp>(
+    alloc: Global,
+    part: Participant<A>,
+    now: Cs,
+) -> Result<Option<(Participant<A>, Seq<u8>)>, NoMemory>
+    requires { now.0 < 2 ^ 62 }
+    ensures silent { IfOk result (λ said. is_none said ≡ is_silent part) }
+    ensures after { IfOk result (λ said. IfSome said (λ r. r.0
+        ≡ sent_state A.base A.octets A.Key.cmp now part)) }
+    ensures written { IfOk result (λ said. IfSome said (λ r.
+        IsWritten A.codec (pdu_sent A.Key.cmp A.codec A.base A.octets now part) r.1)) }
+{
+    let mut part = part;
+    match part.send(now)? {
+        Some(msgs) => {
+            let octets = octets_of(alloc, &msgs)?;
+            Ok(Some((part, octets)))
+        }
+        None => Ok(None),
+    }
+}
+
+// The octets of what a participant says.
+fn octets_of<A: FlatApp>(alloc: Global, msgs: &Msgs<A>) -> Result<Seq<u8>, NoMemory>
+    requires fits { A.base + sum_by (λ e. A.octets e.2) msgs.now.events ≤ 1500 }
+    requires says { msgs.now.leave_all ≡ false → msgs.now.events ≢ [] }
+    ensures { IfOk result (λ octets.
+        IsWritten A.codec (A.codec.pdu_of msgs.now.leave_all (key_events msgs.now.events)) octets) }
+{
+    let events = with_keys(alloc, msgs.events.as_slice())?;
+    A::encode(alloc, msgs.leave_all, Seq::from_vec(events))
+}
+
+// Events of attributes without content as those of keys.
+fn with_keys<K: Copy>(
+    alloc: Global,
+    events: &[(MrpEvent, K, ())],
+) -> Result<Vec<(MrpEvent, K)>, AllocError>
+    ensures { IfOk result (λ v. v.items ≡ key_events events.now) }
+{
+    events.iter().map(|event| (event.0, event.1)).collect(alloc)
+}

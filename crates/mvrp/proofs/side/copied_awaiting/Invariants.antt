@@ -1,6 +1,0 @@
-use Rattle.std.proofs.Common.{◌≡◌, ◌++◌, drop}
-use Rattle.mvrp.proofs.side.copied_awaiting.Given as goal
-
--- the copies so far and those that are left are all
-abbrev pub invariant-loop-set : goal.invariant-loop-set
-invariant-loop-set l = l.copies.items ++ drop l.set-index l.sets ≡ l.sets
