@@ -64,10 +64,10 @@ pub booked_only_in-booked : (these those : List Entry)
 booked_only_in-booked these those = ap (map (λ (x : Entry). x.want.stream)) (only_in-booked these those)
 
 -- each of these is among those
-abbrev AreIn : List Entry → List Entry → Type 0
+abbrev pub AreIn : List Entry → List Entry → Type 0
 AreIn those these = AllByRecursion (λ x. list_any (same_entry x) those ≡ true) these
 
-in_own : (xs : List Entry) → AreIn xs xs
+pub in_own : (xs : List Entry) → AreIn xs xs
 in_own [] = tt
 in_own (x ∷ xs) = (
   or_left (same_entry x x) (list_any (same_entry x) xs) (same_entry-refl x),
@@ -122,7 +122,7 @@ found_behind n x (y ∷ ys) h k =
     ]
 
 -- two ascending lists that lie in each other are one
-both_in : (xs ys : List Entry) → IsAscending xs → IsAscending ys → AreIn ys xs → AreIn xs ys → xs ≡ ys
+pub both_in : (xs ys : List Entry) → IsAscending xs → IsAscending ys → AreIn ys xs → AreIn xs ys → xs ≡ ys
 both_in [] [] up down h k = refl
 both_in [] (y ∷ ys) up down h k = absurd (true≢false (sym k.0))
 both_in (x ∷ xs) [] up down h k = absurd (true≢false (sym h.0))

@@ -125,7 +125,7 @@ fit_in_book now moment caps entries one two want x fit book e tested first secon
     (e ∙ (ap (λ ys. fit_in now caps (booked_of ys) x) second ∙ ap (λ y. fit_in now caps (booked_of entries) y) (tested ∙ ap (λ ys. tested_entry ys want) first)))
 
 -- what is taken out leaves the others as they were
-all-without : (P : Entry → Type 0) (stream : StreamId) (xs : List Entry) → AllByRecursion P xs
+pub all-without : (P : Entry → Type 0) (stream : StreamId) (xs : List Entry) → AllByRecursion P xs
     → AllByRecursion P (without xs stream)
 all-without P stream [] h = tt
 all-without P stream (x ∷ xs) h =

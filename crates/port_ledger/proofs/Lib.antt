@@ -1,5 +1,8 @@
+pub mod Changing
 pub mod Comparing
+pub mod Deciding
 pub mod Finding
+pub mod Fronts
 pub mod Fitting
 pub mod Keeping
 pub mod Marking
@@ -11,7 +14,9 @@ pub mod Ranking
 pub mod Rounds
 pub mod Running
 pub mod Shares
+pub mod Settling
 pub mod Sinking
+pub mod Sorting
 pub mod Standing
 pub mod LettingIn
 pub mod TakingOut

@@ -25,12 +25,12 @@ settled-map : (now : ℕ) (b : Entry → Bool) (xs : List Entry) → with_moment
 settled-map now b [] = refl
 settled-map now b (x ∷ xs) = ap (λ ys. settled_at now b x ∷ ys) (settled-map now b xs)
 
-sum_with-cond : (sum : ℕ) (x : Entry) (let_in : Bool) → sum_with sum x let_in ≡ sum + cond let_in (entry_slope x) 0
+pub sum_with-cond : (sum : ℕ) (x : Entry) (let_in : Bool) → sum_with sum x let_in ≡ sum + cond let_in (entry_slope x) 0
 sum_with-cond sum x true = refl
 sum_with-cond sum x false = omega arith
 
 -- the sum runs on as the choice lets entries in
-runs_on : (caps : Caps) (sum : ℕ) (b : Entry → Bool) (x : Entry) (xs : List Entry) → Runs caps sum b (x ∷ xs)
+pub runs_on : (caps : Caps) (sum : ℕ) (b : Entry → Bool) (x : Entry) (xs : List Entry) → Runs caps sum b (x ∷ xs)
     → Runs caps (sum_with sum x (has_room caps sum x)) b xs
 runs_on caps sum b x xs runs =
     subst (λ (n : ℕ). Runs caps n b xs) (sym (sum_with-cond sum x (has_room caps sum x) ∙ ap (λ v. sum + cond v (entry_slope x) 0) (sym runs.0))) runs.1
@@ -106,7 +106,7 @@ with_pass_is now caps sum b (x ∷ xs) es runs different only =
     ∙ all_settled now b x xs es different.0 only.0)
 
 -- entries of different streams are each the only one of its stream
-only_own : (xs : List Entry) → AreOfDifferentStreams xs → AllByRecursion (IsOnlyIn xs) xs
+pub only_own : (xs : List Entry) → AreOfDifferentStreams xs → AllByRecursion (IsOnlyIn xs) xs
 only_own [] different = tt
 only_own (x ∷ xs) different = (
   ((λ _. refl), all_with xs different.0 different.0 (λ y ne _ e. absurd (ne (sym e)))),
@@ -220,9 +220,9 @@ with_since-own (e ∷ es) x since same only =
     by_test false h = refl
 
 -- what a pass keeps, at its i-th entry
-pub record PassesAt (now : ℕ) (caps : Caps) (first before : List Entry) (sum i : ℕ) (order es : List Entry) : Type 0 where
-  pub order_is : entries_passed now caps 0 first ≡ take i order ++ entries_passed now caps sum (drop i order)
-  pub entries_is : with_pass now caps 0 first before ≡ with_pass now caps sum (drop i order) es
+pub record PassesAt (now : ℕ) (caps : Caps) (start : ℕ) (first before : List Entry) (sum i : ℕ) (order es : List Entry) : Type 0 where
+  pub order_is : entries_passed now caps start first ≡ take i order ++ entries_passed now caps sum (drop i order)
+  pub entries_is : with_pass now caps start first before ≡ with_pass now caps sum (drop i order) es
   pub ascending : IsAscending es
   pub different : AreOfDifferentStreams (drop i order)
   pub only : AllByRecursion (IsOnlyIn es) (drop i order)
@@ -243,11 +243,11 @@ ascending-with_since (e ∷ es) x since up =
         (elim (stream_of z == stream_of x) as (λ v. stream_of y < stream_of (cond v (record z { since = since }) z)) [ true ↦ h.0 | false ↦ h.0 ], above y zs h.1)
 
 -- the head of what is left is passed
-pass_head : (now : ℕ) (caps : Caps) (first before : List Entry) (sum i : ℕ) (order es : List Entry) (x : Entry) (since : Option Cs)
+pass_head : (now : ℕ) (caps : Caps) (start : ℕ) (first before : List Entry) (sum i : ℕ) (order es : List Entry) (x : Entry) (since : Option Cs)
     → i < length order → drop i order ≡ x ∷ drop (suc i) order → since ≡ since_after now x.since (has_room caps sum x)
-    → PassesAt now caps first before sum i order es
-    → PassesAt now caps first before (sum_with sum x (has_room caps sum x)) (suc i) (set order i (record x { since = since })) (with_since es x since)
-pass_head now caps first before sum i order es x since l rest set_to at =
+    → PassesAt now caps start first before sum i order es
+    → PassesAt now caps start first before (sum_with sum x (has_room caps sum x)) (suc i) (set order i (record x { since = since })) (with_since es x since)
+pass_head now caps start first before sum i order es x since l rest set_to at =
     let y : Entry = record x { since = since } in
     let kept : drop (suc i) (set order i y) ≡ drop (suc i) order = drop-set-lt (suc i) order i y (omega arith) in
     let done : take (suc i) (set order i y) ≡ take i order ++ (y ∷ []) = take-suc-set order i y l in
@@ -272,21 +272,21 @@ pass_head now caps first before sum i order es x since l rest set_to at =
           (all_with (drop (suc i) order) left.0 only.1 (λ z ne h. only-with_since es x z since ne h));
     }
 
-pub pass_more : (now : ℕ) (caps : Caps) (first before : List Entry) (sum i : ℕ) (order es : List Entry) (d : Entry) (since : Option Cs) (sum' : ℕ)
+pub pass_more : (now : ℕ) (caps : Caps) (start : ℕ) (first before : List Entry) (sum i : ℕ) (order es : List Entry) (d : Entry) (since : Option Cs) (sum' : ℕ)
     → i < length order → since ≡ since_after now (get_or order i d).since (has_room caps sum (get_or order i d))
     → sum' ≡ sum_with sum (get_or order i d) (has_room caps sum (get_or order i d))
-    → PassesAt now caps first before sum i order es
-    → PassesAt now caps first before sum' (i + 1) (set order i (record (get_or order i d) { since = since })) (with_since es (get_or order i d) since)
-pass_more now caps first before sum i order es d since sum' l set_to next at =
-    let step = pass_head now caps first before sum i order es (get_or order i d) since l (drop-cons order i d l) set_to at in
+    → PassesAt now caps start first before sum i order es
+    → PassesAt now caps start first before sum' (i + 1) (set order i (record (get_or order i d) { since = since })) (with_since es (get_or order i d) since)
+pass_more now caps start first before sum i order es d since sum' l set_to next at =
+    let step = pass_head now caps start first before sum i order es (get_or order i d) since l (drop-cons order i d l) set_to at in
     let on : suc i ≡ i + 1 = omega arith in
-    subst (λ (n : ℕ). PassesAt now caps first before n (i + 1) (set order i (record (get_or order i d) { since = since })) (with_since es (get_or order i d) since)) (sym next)
-    (subst (λ (n : ℕ). PassesAt now caps first before (sum_with sum (get_or order i d) (has_room caps sum (get_or order i d))) n (set order i (record (get_or order i d) { since = since })) (with_since es (get_or order i d) since)) on step)
+    subst (λ (n : ℕ). PassesAt now caps start first before n (i + 1) (set order i (record (get_or order i d) { since = since })) (with_since es (get_or order i d) since)) (sym next)
+    (subst (λ (n : ℕ). PassesAt now caps start first before (sum_with sum (get_or order i d) (has_room caps sum (get_or order i d))) n (set order i (record (get_or order i d) { since = since })) (with_since es (get_or order i d) since)) on step)
 
 -- at the start nothing is passed, and at the end all is
-pub passes_first : (now : ℕ) (caps : Caps) (order es : List Entry) → IsAscending es → AreOfDifferentStreams order
-    → AllByRecursion (IsOnlyIn es) order → PassesAt now caps order es 0 0 order es
-passes_first now caps order es up different only =
+pub passes_first : (now : ℕ) (caps : Caps) (start : ℕ) (order es : List Entry) → IsAscending es → AreOfDifferentStreams order
+    → AllByRecursion (IsOnlyIn es) order → PassesAt now caps start order es start 0 order es
+passes_first now caps start order es up different only =
     record { order_is = refl; entries_is = refl; ascending = up; different = different; only = only }
 
 pub ranked_different : (now : ℕ) (es order : List Entry) → IsAscending es → IsPermutation es order
@@ -295,17 +295,17 @@ ranked_different now es order up p =
     different_permuted es (importance_order now order) (ranked_permuted now es order p) (different_from_ascending es up)
 
 -- an entry that isn't booked and finds no room is passed over
-pub pass_skip : (now : ℕ) (caps : Caps) (first before : List Entry) (sum i : ℕ) (order es : List Entry) (d : Entry)
+pub pass_skip : (now : ℕ) (caps : Caps) (start : ℕ) (first before : List Entry) (sum i : ℕ) (order es : List Entry) (d : Entry)
     → i < length order → has_room caps sum (get_or order i d) ≡ false → is_some (get_or order i d).since ≡ false
-    → PassesAt now caps first before sum i order es
-    → PassesAt now caps first before sum (i + 1) (set order i (get_or order i d)) es
-pass_skip now caps first before sum i order es d l full unbooked at =
+    → PassesAt now caps start first before sum i order es
+    → PassesAt now caps start first before sum (i + 1) (set order i (get_or order i d)) es
+pass_skip now caps start first before sum i order es d l full unbooked at =
     let x : Entry = get_or order i d in
     let none : x.since ≡ None = no_moment x.since unbooked in
     let only : AllByRecursion (IsOnlyIn es) (x ∷ drop (suc i) order) = subst (λ (ys : List Entry). AllByRecursion (IsOnlyIn es) ys) (drop-cons order i d l) at.only in
-    subst (λ (y : Entry). PassesAt now caps first before sum (i + 1) (set order i y) es) (ap (λ s. record x { since = s }) (sym none))
-    (subst (λ (ys : List Entry). PassesAt now caps first before sum (i + 1) (set order i (record x { since = None })) ys) (sym (with_since-own es x None none only.0))
-    (pass_more now caps first before sum i order es d None sum l
+    subst (λ (y : Entry). PassesAt now caps start first before sum (i + 1) (set order i y) es) (ap (λ s. record x { since = s }) (sym none))
+    (subst (λ (ys : List Entry). PassesAt now caps start first before sum (i + 1) (set order i (record x { since = None })) ys) (sym (with_since-own es x None none only.0))
+    (pass_more now caps start first before sum i order es d None sum l
     (ap (since_after now x.since) (sym full)) (ap (sum_with sum x) (sym full)) at))
   where
     no_moment : (since : Option Cs) → is_some since ≡ false → since ≡ None

@@ -10,6 +10,7 @@ use Rattle.stream_importance.specs.declared.slope.Caps.{Caps}
 use Rattle.stream_importance.specs.Bandwidth.{cap_of}
 use Rattle.stream_importance.specs.Importance.{is_more_important, IsImportanceOrder}
 use Rattle.port_ledger.specs.Decision.{stream_of, entry_slope, comes_after, above}
+pub use Rattle.port_ledger.specs.Front.{IsRanked, Runs}
 
 -- what the chosen entries of one kind take, as a sum over all entries
 abbrev pub part : (Entry → Bool) → (Entry → Bool) → List Entry → ℕ
@@ -38,17 +39,6 @@ sum-filter b kind (e ∷ es) =
 pub above-filter : (b : Entry → Bool) (now : ℕ) (x : Entry) (es : List Entry)
     → above now x (filter b es) ≡ total b now x es
 above-filter b now x es = sum-filter b (comes_after now x) es
-
--- each entry goes before all later ones
-abbrev pub IsRanked : ℕ → List Entry → Type 0
-IsRanked now [] = Unit {0}
-IsRanked now (x ∷ xs) = AllByRecursion (λ y. comes_after now y x ≡ true) xs × IsRanked now xs
-
--- the chosen ones are those that a running sum lets in
-abbrev pub Runs : Caps → ℕ → (Entry → Bool) → List Entry → Type 0
-Runs caps sum b [] = Unit {0}
-Runs caps sum b (x ∷ xs) =
-    (b x ≡ nat_le (sum + entry_slope x) (cap_of caps x.want.class)) × Runs caps (sum + cond (b x) (entry_slope x) 0) b xs
 
 -- the same by the condition on the set, beside a sum that went before
 abbrev pub Holds : ℕ → Caps → ℕ → (Entry → Bool) → List Entry → Entry → Type 0

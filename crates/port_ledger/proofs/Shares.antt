@@ -26,7 +26,7 @@ abbrev pub is_of : Class → Entry → Bool
 is_of class x = class_number x.want.class == class_number class
 
 -- of each entry one class has the slope
-class_parts : (class : Class) (slope : ℕ) (chosen : Bool)
+pub class_parts : (class : Class) (slope : ℕ) (chosen : Bool)
     → cond chosen (cond (class_number class == 0) slope 0) 0 + cond chosen (cond (class_number class == 1) slope 0) 0 ≡ cond chosen slope 0
 class_parts A slope true = omega arith
 class_parts A slope false = omega arith
@@ -43,7 +43,7 @@ step_within : (chosen : Bool) (sum slope cap most : ℕ) → chosen ≡ nat_le (
 step_within true sum slope cap most e h k = omega (arith, leb-true (sum + slope) cap (sym e))
 step_within false sum slope cap most e h k = omega arith
 
-runs_both : (caps : Caps) (sum : ℕ) (b : Entry → Bool) (xs : List Entry) → caps.class_a ≤ caps.both
+pub runs_both : (caps : Caps) (sum : ℕ) (b : Entry → Bool) (xs : List Entry) → caps.class_a ≤ caps.both
     → sum ≤ caps.both → Runs caps sum b xs → sum + (part b (is_of A) xs + part b (is_of B) xs) ≤ caps.both
 runs_both caps sum b [] shares h runs = omega (arith, h)
 runs_both caps sum b (x ∷ xs) shares h runs =

@@ -43,7 +43,7 @@ still_before p q later rest up h =
       ]
     ]
 
-still_first : (first second rest : Ordering) (p q later : ℕ) → q ≤ later
+pub still_first : (first second rest : Ordering) (p q later : ℕ) → q ≤ later
     → is_lt (ordering_then first (ordering_then second (ordering_then (nat_cmp p q) rest))) ≡ true
     → is_lt (ordering_then first (ordering_then second (ordering_then (nat_cmp p later) rest))) ≡ true
 still_first Less second rest p q later up h = refl
@@ -128,7 +128,7 @@ decision_stands now later caps xs marks up d =
     ∙ ap (λ set. map (does_fit later caps set) (with_moments now xs marks)) (sym (marked-settled now xs marks))
 
 -- entries that are booked where they have a moment are settled already
-since_own : (now : ℕ) (since : Option Cs) → since_after now since (is_some since) ≡ since
+pub since_own : (now : ℕ) (since : Option Cs) → since_after now since (is_some since) ≡ since
 since_own now None = refl
 since_own now (Some moment) = refl
 

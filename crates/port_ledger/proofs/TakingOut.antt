@@ -1,8 +1,9 @@
 -- What is left once a stream's entry is taken out.
-use Rattle.std.proofs.Common.{◌≡◌, ◌≢◌, ℕ, zero, suc, ◌+◌, ◌<◌, ◌≤◌, not, ◌==◌, cond, List, [], ◌∷◌, length, get_or, Some, None, refl, sym, ◌∙◌, ap, arith, inl, inr}
+use Rattle.std.proofs.Common.{◌≡◌, ◌≢◌, ℕ, zero, suc, ◌+◌, ◌<◌, ◌≤◌, not, ◌==◌, cond, List, [], ◌∷◌, ◌++◌, length, take, drop, get_or, Some, None, refl, sym, ◌∙◌, ap, arith, inl, inr}
 use Rattle.std.specs.Prelude.{nat_lt, position, remove}
 use Rattle.std.specs.List.{AllByRecursion, position_or_len}
 use Rattle.std.proofs.lemmas.Bool.{eq-eqb, ne_eqb, eqb-true, cases_Bool, ltb-false}
+use Rattle.std.proofs.lemmas.List.{take-append-drop}
 use Rattle.std.proofs.lemmas.List.Elements.{All-from_recursion}
 use Rattle.std.proofs.lemmas.List.Quantifiers.{position-Some}
 use Rattle.srp_base.specs.declared.numbers.StreamId.{StreamId}
@@ -12,7 +13,7 @@ use Rattle.port_ledger.specs.Book.{without}
 use Rattle.port_ledger.proofs.Finding.{blank}
 
 -- entries of other streams are left
-without-others : (stream : StreamId) (xs : List Entry) → AllByRecursion (λ x. stream_of x ≢ stream.0) xs → xs ≡ without xs stream
+pub without-others : (stream : StreamId) (xs : List Entry) → AllByRecursion (λ x. stream_of x ≢ stream.0) xs → xs ≡ without xs stream
 without-others stream [] h = refl
 without-others stream (x ∷ xs) h =
     ap (λ ys. x ∷ ys) (without-others stream xs h.1)
@@ -23,7 +24,7 @@ others_along : (n m : ℕ) (xs : List Entry) → n ≡ m → AllByRecursion (λ 
 others_along n m [] e h = tt
 others_along n m (x ∷ xs) e h = ((λ k. h.0 (e ∙ sym k)), others_along n m xs e h.1)
 
-without-at : (xs : List Entry) (stream : StreamId) (i : ℕ) (d : Entry) → AreOfDifferentStreams xs → i < length xs
+pub without-at : (xs : List Entry) (stream : StreamId) (i : ℕ) (d : Entry) → AreOfDifferentStreams xs → i < length xs
     → stream_of (get_or xs i d) ≡ stream.0 → remove xs i ≡ without xs stream
 without-at [] stream i d different l e = absurd (omega (arith, l))
 without-at (x ∷ xs) stream zero d different l e =
@@ -64,3 +65,20 @@ without_missing xs stream h =
           cc)
       | inr e ↦ without-past xs stream (ltb-false (position_or_len (λ x. stream_of x == stream.0) xs) (length xs) e)
     ]
+
+-- the same behind a place
+remove_behind : (n m i : ℕ) (xs : List Entry) → m ≡ n + i → n ≤ length xs → remove xs m ≡ take n xs ++ remove (drop n xs) i
+remove_behind zero m i [] e le = let same : m ≡ i = omega (arith, e) in ap (remove []) same
+remove_behind zero m i (x ∷ xs) e le = let same : m ≡ i = omega (arith, e) in ap (remove (x ∷ xs)) same
+remove_behind (suc n) m i [] e le = absurd (omega (arith, le))
+remove_behind (suc n) m i (x ∷ xs) e le =
+    let same : m ≡ suc (n + i) = omega (arith, e) in
+    ap (remove (x ∷ xs)) same ∙ ap (λ ys. x ∷ ys) (remove_behind n (n + i) i xs refl (omega (arith, le)))
+
+pub without_behind : (n m i : ℕ) (xs : List Entry) (stream : StreamId) → m ≡ n + i → n ≤ length xs → AreOfDifferentStreams (drop n xs)
+    → position (λ x. stream_of x == stream.0) (drop n xs) ≡ Some i → remove xs m ≡ take n xs ++ without (drop n xs) stream
+without_behind n m i xs stream e le different h = remove_behind n m i xs e le ∙ ap (λ ys. take n xs ++ ys) (without_found (drop n xs) stream i different h)
+
+pub without_nowhere : (n : ℕ) (xs : List Entry) (stream : StreamId) → position (λ x. stream_of x == stream.0) (drop n xs) ≡ None
+    → xs ≡ take n xs ++ without (drop n xs) stream
+without_nowhere n xs stream h = sym (take-append-drop n xs) ∙ ap (λ ys. take n xs ++ ys) (without_missing (drop n xs) stream h)

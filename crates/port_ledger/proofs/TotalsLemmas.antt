@@ -1,9 +1,12 @@
 -- The totals of a ledger's entries: one entry more, and a later moment.
-use Rattle.std.proofs.Common.{◌≡◌, ℕ, suc, ◌+◌, ◌<◌, ◌≤◌, ◌^◌, Bool, true, false, not, ◌&&◌, ◌||◌, ◌==◌, if◌then◌else◌, List, [], ◌∷◌, filter, drop, drop-cons, get_or, length, Option, Some, None, refl, sym, ap, ◌∙◌, arith}
+use Rattle.std.proofs.Common.{◌≡◌, ℕ, suc, ◌+◌, ◌<◌, ◌≤◌, ◌^◌, Bool, true, false, ◌&&◌, ◌||◌, ◌==◌, if◌then◌else◌, List, [], ◌∷◌, ◌++◌, filter, sum_by, take, drop, drop-cons, get_or, length, zero-add, Option, Some, None, refl, sym, ap, ◌∙◌, arith}
 use Rattle.std.specs.Prelude.{nat_lt}
 use Rattle.std.specs.List.{AllByRecursion, list_any}
+use Rattle.std.specs.List.Sorted.{IsPermutation}
+use Rattle.std.proofs.lemmas.Bool.{lt-ltb}
 use Rattle.std.proofs.lemmas.Bool.Decides.{nat_tests}
-use Rattle.std.proofs.lemmas.List.{drop_all}
+use Rattle.std.proofs.lemmas.List.Sorted.{sum_by-IsPermutation}
+use Rattle.std.proofs.lemmas.List.{drop_all, take-append-drop}
 use Rattle.std.proofs.lemmas.List.Sums.{sum_by-cons}
 use Rattle.srp_base.specs.declared.numbers.Cs.{Cs}
 use Rattle.srp_base.specs.declared.bandwidth.Class.{Class}
@@ -13,8 +16,15 @@ use Rattle.stream_importance.specs.Importance.{class_number, moment_or, IsImport
 use Rattle.port_ledger.specs.declared.totals.Totals.{Totals}
 use Rattle.port_ledger.specs.Decision.{entry_slope, is_booked}
 use Rattle.port_ledger.specs.Book.{Book, IsKept, booked_slope, is_since}
-use Rattle.port_ledger.specs.Totals.{later_totals, slope_within, totals_of}
-use Rattle.port_ledger.proofs.Shares.{book_within}
+use Rattle.port_ledger.specs.Totals.{later_totals, new_within, slope_within, together, totals_of}
+use Rattle.port_ledger.proofs.Moving.{filter_permuted}
+use Rattle.port_ledger.proofs.Shares.{book_within, is_of}
+
+abbrev totals : ℕ → ℕ → ℕ → Totals
+totals a b c = record { class_a = a; class_b = b; new_count = c }
+
+made_of : (a b c d e f : ℕ) → a ≡ d → b ≡ e → c ≡ f → totals a b c ≡ totals d e f
+made_of a b c d e f h k l = ap (λ n. totals n b c) h ∙ (ap (λ n. totals d n c) k ∙ ap (λ n. totals d e n) l)
 
 -- the slopes of a class with one entry more
 slope_by : (x : Entry) (xs : List Entry) (class : Class) (b t : Bool) → is_booked x ≡ b → class_number x.want.class == class_number class ≡ t
@@ -26,15 +36,15 @@ slope_by x xs class false t booked at = rw booked (omega arith)
 slope-cons : (x : Entry) (xs : List Entry) (class : Class) → booked_slope (x ∷ xs) class ≡ slope_within x class + booked_slope xs class
 slope-cons x xs class = slope_by x xs class (is_booked x) (class_number x.want.class == class_number class) refl refl
 
+new-small : (moment : ℕ) (x : Entry) → new_within moment x ≤ 1
+new-small moment x = elim (is_since moment x.since) as (λ v. (if v then 1 else 0) ≤ 1) [ true ↦ omega arith | false ↦ omega arith ]
+
 -- a walk over the entries: what is found so far, and what is left to find
-pub record WalksAt (moment : ℕ) (xs : List Entry) (class_a class_b : ℕ) (is_new : Bool) (i : ℕ) : Type 0 where
+pub record WalksAt (moment : ℕ) (xs : List Entry) (class_a class_b new_count i : ℕ) : Type 0 where
   pub slopes_a : booked_slope xs A ≡ class_a + booked_slope (drop i xs) A
   pub slopes_b : booked_slope xs B ≡ class_b + booked_slope (drop i xs) B
-  pub new : list_any (λ x. is_since moment x.since) xs ≡ (is_new || list_any (λ x. is_since moment x.since) (drop i xs))
-
-or-assoc : (a b c : Bool) → (a || (b || c)) ≡ ((a || b) || c)
-or-assoc true b c = refl
-or-assoc false b c = refl
+  pub new : sum_by (new_within moment) xs ≡ new_count + sum_by (new_within moment) (drop i xs)
+  pub few : new_count ≤ i
 
 module _ (xs : List Entry) (i : ℕ) (x : Entry) (below : i < length xs) (at : x ≡ get_or xs i x) where
   rest_is : drop i xs ≡ x ∷ drop (i + 1) xs
@@ -51,29 +61,33 @@ module _ (xs : List Entry) (i : ℕ) (x : Entry) (below : i < length xs) (at : x
   pub slope-room : (class : Class) (sum : ℕ) → booked_slope xs class ≡ sum + booked_slope (drop i xs) class → sum + slope_within x class ≤ booked_slope xs class
   slope-room class sum h = let more = slope-step class sum h in omega (arith, more)
 
-  pub walks-on : (moment class_a class_b : ℕ) (is_new : Bool) → WalksAt moment xs class_a class_b is_new i
-      → WalksAt moment xs (class_a + slope_within x A) (class_b + slope_within x B) (is_new || is_since moment x.since) (i + 1)
-  walks-on moment class_a class_b is_new h = record {
+  new-step : (moment count : ℕ) → sum_by (new_within moment) xs ≡ count + sum_by (new_within moment) (drop i xs) → sum_by (new_within moment) xs ≡ (count + new_within moment x) + sum_by (new_within moment) (drop (i + 1) xs)
+  new-step moment count h =
+      let here : sum_by (new_within moment) (drop i xs) ≡ new_within moment x + sum_by (new_within moment) (drop (i + 1) xs) =
+      ap (sum_by (new_within moment)) rest_is ∙ sum_by-cons (new_within moment) x (drop (i + 1) xs) in
+      omega (arith, h, here)
+
+  pub walks-on : (moment class_a class_b new_count : ℕ) → WalksAt moment xs class_a class_b new_count i
+      → WalksAt moment xs (class_a + slope_within x A) (class_b + slope_within x B) (new_count + new_within moment x) (i + 1)
+  walks-on moment class_a class_b new_count h = record {
     slopes_a = slope-step A class_a h.slopes_a;
     slopes_b = slope-step B class_b h.slopes_b;
-    new = h.new ∙ ap (λ ys. is_new || list_any (λ x. is_since moment x.since) ys) rest_is ∙ or-assoc is_new (is_since moment x.since) (list_any (λ x. is_since moment x.since) (drop (i + 1) xs));
+    new = new-step moment new_count h.new;
+    few = let small = new-small moment x in let so_far = h.few in omega (arith, small, so_far);
   }
 
 -- no entry is left
-pub walks-end : (moment : ℕ) (xs : List Entry) (class_a class_b : ℕ) (is_new : Bool) (i : ℕ) → length xs ≤ i → WalksAt moment xs class_a class_b is_new i
-    → record { class_a = class_a; class_b = class_b; is_new = is_new } ≡ totals_of moment xs
-walks-end moment xs class_a class_b is_new i le h =
+pub walks-end : (moment : ℕ) (xs : List Entry) (class_a class_b new_count i : ℕ) → length xs ≤ i → WalksAt moment xs class_a class_b new_count i
+    → record { class_a = class_a; class_b = class_b; new_count = new_count } ≡ totals_of moment xs
+walks-end moment xs class_a class_b new_count i le h =
     let none : drop i xs ≡ [] = drop_all i xs le in
     let all_a : booked_slope xs A ≡ class_a + 0 = h.slopes_a ∙ ap (λ ys. class_a + booked_slope ys A) none in
     let all_b : booked_slope xs B ≡ class_b + 0 = h.slopes_b ∙ ap (λ ys. class_b + booked_slope ys B) none in
+    let all_new : sum_by (new_within moment) xs ≡ new_count + 0 = h.new ∙ ap (λ ys. new_count + sum_by (new_within moment) ys) none in
     let a : class_a ≡ booked_slope xs A = omega (arith, all_a) in
     let b : class_b ≡ booked_slope xs B = omega (arith, all_b) in
-    let new : is_new ≡ list_any (λ x. is_since moment x.since) xs = or-false is_new ∙ sym (h.new ∙ ap (λ ys. is_new || list_any (λ x. is_since moment x.since) ys) none) in
-    cc
-  where
-    or-false : (v : Bool) → v ≡ (v || false)
-    or-false true = refl
-    or-false false = refl
+    let new : new_count ≡ sum_by (new_within moment) xs = omega (arith, all_new) in
+    made_of _ _ _ _ _ _ a b new
 
 -- what is booked in both classes has 64 bits
 pub totals_fit : (book : Book) → IsImportanceOrder book.moment → IsKept book → book.caps.both < 2 ^ 64 → booked_slope book.entries A + booked_slope book.entries B < 2 ^ 64
@@ -90,27 +104,141 @@ or-neither true b g h = cc
 or-neither false b g h = h
 
 -- no booking is of a moment after the ledger's
-none_later : (moment now : ℕ) (xs : List Entry) → AllByRecursion (λ x. moment_or moment x.since ≤ moment) xs → moment < now → list_any (λ x. is_since now x.since) xs ≡ false
+none_later : (moment now : ℕ) (xs : List Entry) → AllByRecursion (λ x. moment_or moment x.since ≤ moment) xs → moment < now → sum_by (new_within now) xs ≡ 0
 none_later moment now [] h up = refl
-none_later moment now (x ∷ xs) h up = or-neither (is_since now x.since) (list_any (λ x. is_since now x.since) xs) (none_new now x.since moment h.0 up) (none_later moment now xs h.1 up)
-
-and-false : (a : Bool) → (a && false) ≡ false
-and-false true = refl
-and-false false = refl
-
-and-true : (a : Bool) → (a && true) ≡ a
-and-true true = refl
-and-true false = refl
+none_later moment now (x ∷ xs) h up =
+    let here : new_within now x ≡ 0 = ap (λ v. if v then 1 else 0) (none_new now x.since moment h.0 up) in
+    let rest = none_later moment now xs h.1 up in
+    let both = sum_by-cons (new_within now) x xs in
+    omega (arith, here, rest, both)
 
 new_later : (moment now : ℕ) (xs : List Entry) (b : Bool) → nat_lt moment now ≡ b → AllByRecursion (λ x. moment_or moment x.since ≤ moment) xs → moment ≤ now
-    → (list_any (λ x. is_since moment x.since) xs && not b) ≡ list_any (λ x. is_since now x.since) xs
-new_later moment now xs true e h up = and-false (list_any (λ x. is_since moment x.since) xs) ∙ sym (none_later moment now xs h (grind (arith, nat_tests)))
+    → (if b then 0 else sum_by (new_within moment) xs) ≡ sum_by (new_within now) xs
+new_later moment now xs true e h up = sym (none_later moment now xs h (grind (arith, nat_tests)))
 new_later moment now xs false e h up =
     let same : moment ≡ now = grind (arith, nat_tests) in
-    and-true (list_any (λ x. is_since moment x.since) xs) ∙ ap (λ m. list_any (λ x. is_since m x.since) xs) same
+    ap (λ m. sum_by (new_within m) xs) same
 
 -- the totals at a later moment
 pub totals_later : (moment now : ℕ) (xs : List Entry) (t : Totals) (moved : Bool) → t ≡ totals_of moment xs → moved ≡ nat_lt moment now → AllByRecursion (λ x. moment_or moment x.since ≤ moment) xs → moment ≤ now
     → later_totals moved t ≡ totals_of now xs
 totals_later moment now xs t moved is moves h up =
-    ap (later_totals moved) is ∙ ap (λ b. record { class_a = booked_slope xs A; class_b = booked_slope xs B; is_new = b }) (new_later moment now xs moved (sym moves) h up)
+    ap (later_totals moved) is ∙ ap (λ n. totals (booked_slope xs A) (booked_slope xs B) n) (new_later moment now xs moved (sym moves) h up)
+
+-- some booking is of a moment exactly where they are counted
+pub new_any : (moment : ℕ) (xs : List Entry) → nat_lt 0 (sum_by (new_within moment) xs) ≡ list_any (λ x. is_since moment x.since) xs
+new_any moment [] = refl
+new_any moment (x ∷ xs) =
+    ap (nat_lt 0) (sum_by-cons (new_within moment) x xs) ∙ by_test (is_since moment x.since) (new_any moment xs)
+  where
+    by_test : (v : Bool) → nat_lt 0 (sum_by (new_within moment) xs) ≡ list_any (λ y. is_since moment y.since) xs → nat_lt 0 ((if v then 1 else 0) + sum_by (new_within moment) xs) ≡ (v || list_any (λ y. is_since moment y.since) xs)
+    by_test true h = lt-ltb 0 (1 + sum_by (new_within moment) xs) (omega arith)
+    by_test false h = ap (nat_lt 0) (zero-add (sum_by (new_within moment) xs)) ∙ h
+
+-- ---- lists together, and in another order
+
+pub slope-join : (xs ys : List Entry) (class : Class) → booked_slope (xs ++ ys) class ≡ booked_slope xs class + booked_slope ys class
+slope-join [] ys class = sym (zero-add (booked_slope ys class))
+slope-join (x ∷ xs) ys class =
+    let one = slope-cons x (xs ++ ys) class in
+    let own = slope-cons x xs class in
+    let rest = slope-join xs ys class in
+    omega (arith, one, own, rest)
+
+new-join : (moment : ℕ) (xs ys : List Entry) → sum_by (new_within moment) (xs ++ ys) ≡ sum_by (new_within moment) xs + sum_by (new_within moment) ys
+new-join moment [] ys = sym (zero-add (sum_by (new_within moment) ys))
+new-join moment (x ∷ xs) ys =
+    let one = sum_by-cons (new_within moment) x (xs ++ ys) in
+    let own = sum_by-cons (new_within moment) x xs in
+    let rest = new-join moment xs ys in
+    omega (arith, one, own, rest)
+
+pub totals-join : (moment : ℕ) (xs ys : List Entry) → totals_of moment (xs ++ ys) ≡ together (totals_of moment xs) (totals_of moment ys)
+totals-join moment xs ys = made_of _ _ _ _ _ _ (slope-join xs ys A) (slope-join xs ys B) (new-join moment xs ys)
+
+pub slope-permuted : (xs ys : List Entry) (class : Class) → IsPermutation xs ys → booked_slope ys class ≡ booked_slope xs class
+slope-permuted xs ys class p =
+    sum_by-IsPermutation entry_slope (filter (is_of class) (filter is_booked xs)) (filter (is_of class) (filter is_booked ys))
+    (filter_permuted (is_of class) (filter is_booked xs) (filter is_booked ys) (filter_permuted is_booked xs ys p))
+
+pub totals-permuted : (moment : ℕ) (xs ys : List Entry) → IsPermutation xs ys → totals_of moment ys ≡ totals_of moment xs
+totals-permuted moment xs ys p =
+    made_of _ _ _ _ _ _ (slope-permuted xs ys A p) (slope-permuted xs ys B p) (sum_by-IsPermutation (new_within moment) xs ys p)
+
+-- what is left of a whole without a part
+pub less-is : (whole front part rest : Totals) → together front part ≡ whole → whole ≡ together rest part → front ≡ rest
+less-is whole front part rest h k =
+    let both : together front part ≡ together rest part = h ∙ k in
+    let a : front.class_a + part.class_a ≡ rest.class_a + part.class_a = ap (λ (t : Totals). t.class_a) both in
+    let b : front.class_b + part.class_b ≡ rest.class_b + part.class_b = ap (λ (t : Totals). t.class_b) both in
+    let c : front.new_count + part.new_count ≡ rest.new_count + part.new_count = ap (λ (t : Totals). t.new_count) both in
+    let same_a : front.class_a ≡ rest.class_a = omega (arith, a) in
+    let same_b : front.class_b ≡ rest.class_b = omega (arith, b) in
+    let same_c : front.new_count ≡ rest.new_count = omega (arith, c) in
+    made_of _ _ _ _ _ _ same_a same_b same_c
+
+-- there are no more new ones than entries
+pub new-few : (moment : ℕ) (xs : List Entry) → sum_by (new_within moment) xs ≤ length xs
+new-few moment [] = omega arith
+new-few moment (x ∷ xs) =
+    let one = sum_by-cons (new_within moment) x xs in
+    let small = new-small moment x in
+    let rest = new-few moment xs in
+    omega (arith, one, small, rest)
+
+-- a front and what is behind it make the whole
+pub totals-parts : (moment n : ℕ) (xs : List Entry) → together (totals_of moment (take n xs)) (totals_of moment (drop n xs)) ≡ totals_of moment xs
+totals-parts moment n xs = sym (totals-join moment (take n xs) (drop n xs)) ∙ ap (totals_of moment) (take-append-drop n xs)
+
+pub slope-parts : (n : ℕ) (xs : List Entry) (class : Class) → booked_slope (take n xs) class + booked_slope (drop n xs) class ≡ booked_slope xs class
+slope-parts n xs class = sym (slope-join (take n xs) (drop n xs) class) ∙ ap (λ ys. booked_slope ys class) (take-append-drop n xs)
+
+pub rest-fits : (n : ℕ) (xs ys : List Entry) → ys ≡ drop n xs → booked_slope xs A + booked_slope xs B < 2 ^ 64 → booked_slope ys A + booked_slope ys B < 2 ^ 64
+rest-fits n xs ys e h =
+    let a = slope-parts n xs A in
+    let b = slope-parts n xs B in
+    let same_a = ap (λ zs. booked_slope zs A) e in
+    let same_b = ap (λ zs. booked_slope zs B) e in
+    omega (arith, a, b, same_a, same_b, h)
+
+-- what a front and what is behind it come to has 64 bits
+pub record PartsFit (front part : Totals) : Type 0 where
+  pub class_a : front.class_a + part.class_a < 2 ^ 64
+  pub class_b : front.class_b + part.class_b < 2 ^ 64
+  pub new_count : front.new_count + part.new_count < 2 ^ 64
+
+pub parts-fit : (moment n : ℕ) (xs ys : List Entry) (front part : Totals) → front ≡ totals_of moment (take n xs) → part ≡ totals_of moment ys → ys ≡ drop n xs
+    → booked_slope xs A + booked_slope xs B < 2 ^ 64 → length xs < 2 ^ 64 → PartsFit front part
+parts-fit moment n xs ys front part f p e h long =
+    let all : together front part ≡ totals_of moment xs =
+    ap (λ t. together t part) f ∙ (ap (together (totals_of moment (take n xs))) (p ∙ ap (totals_of moment) e) ∙ totals-parts moment n xs) in
+    let a : front.class_a + part.class_a ≡ booked_slope xs A = ap (λ (t : Totals). t.class_a) all in
+    let b : front.class_b + part.class_b ≡ booked_slope xs B = ap (λ (t : Totals). t.class_b) all in
+    let c : front.new_count + part.new_count ≡ sum_by (new_within moment) xs = ap (λ (t : Totals). t.new_count) all in
+    let few = new-few moment xs in
+    record {
+      class_a = omega (arith, a, h);
+      class_b = omega (arith, b, h);
+      new_count = omega (arith, c, few, long);
+    }
+
+-- what is behind a front is within the whole
+pub record IsPart (part whole : Totals) : Type 0 where
+  pub class_a : part.class_a ≤ whole.class_a
+  pub class_b : part.class_b ≤ whole.class_b
+  pub new_count : part.new_count ≤ whole.new_count
+
+pub part-within : (moment n : ℕ) (xs ys : List Entry) (whole part : Totals) → whole ≡ totals_of moment xs → part ≡ totals_of moment ys → ys ≡ drop n xs → IsPart part whole
+part-within moment n xs ys whole part w p e =
+    let front : Totals = totals_of moment (take n xs) in
+    let all : together front part ≡ whole = ap (together front) (p ∙ ap (totals_of moment) e) ∙ (totals-parts moment n xs ∙ sym w) in
+    let a : front.class_a + part.class_a ≡ whole.class_a = ap (λ (t : Totals). t.class_a) all in
+    let b : front.class_b + part.class_b ≡ whole.class_b = ap (λ (t : Totals). t.class_b) all in
+    let c : front.new_count + part.new_count ≡ whole.new_count = ap (λ (t : Totals). t.new_count) all in
+    record { class_a = omega (arith, a); class_b = omega (arith, b); new_count = omega (arith, c) }
+
+pub front-is : (moment n : ℕ) (xs ys : List Entry) (whole front part : Totals) → whole ≡ totals_of moment xs → part ≡ totals_of moment ys → ys ≡ drop n xs
+    → together front part ≡ whole → front ≡ totals_of moment (take n xs)
+front-is moment n xs ys whole front part w p e h =
+    less-is whole front part (totals_of moment (take n xs)) h
+    (w ∙ (sym (totals-parts moment n xs) ∙ ap (together (totals_of moment (take n xs))) (sym (p ∙ ap (totals_of moment) e))))

@@ -1,6 +1,5 @@
 -- What a walk over the entries of a ledger finds, which the ledger keeps. No public contract names it.
-use Rattle.std.specs.Prelude.{ℕ, Bool, not, ◌&&◌, ◌==◌, List, if◌then◌else◌}
-use Rattle.std.specs.List.{list_any}
+use Rattle.std.specs.Prelude.{ℕ, ◌+◌, Bool, ◌&&◌, ◌==◌, List, sum_by, if◌then◌else◌}
 use Rattle.srp_base.specs.declared.bandwidth.Class.{Class}
 use Rattle.srp_base.specs.declared.bandwidth.Class.TheVariants.{A, B}
 use Rattle.stream_importance.specs.declared.entry.Entry.{Entry}
@@ -13,13 +12,17 @@ use Rattle.port_ledger.specs.Book.{booked_slope, is_since}
 abbrev pub slope_within : Entry → Class → ℕ
 slope_within x class = if is_booked x && class_number x.want.class == class_number class then x.want.slope else 0
 
--- the booked slopes of each class in bit/s, and whether some booking is of this moment
+-- 1 where an entry is booked since this moment, else 0
+abbrev pub new_within : ℕ → Entry → ℕ
+new_within moment x = if is_since moment x.since then 1 else 0
+
+-- the booked slopes of each class in bit/s, and how many bookings are of this moment
 abbrev pub totals_of : ℕ → List Entry → Totals
 totals_of moment entries =
     record {
       class_a = booked_slope entries A;
       class_b = booked_slope entries B;
-      is_new = list_any (λ x. is_since moment x.since) entries;
+      new_count = sum_by (new_within moment) entries;
     }
 
 -- the slopes of one class
@@ -29,4 +32,13 @@ slope_of t B = t.class_b
 
 -- at a later moment no booking is of the moment
 abbrev pub later_totals : Bool → Totals → Totals
-later_totals moved t = record t { is_new = t.is_new && not moved }
+later_totals moved t = record t { new_count = if moved then 0 else t.new_count }
+
+-- the totals of two lists together
+abbrev pub together : Totals → Totals → Totals
+together t more =
+    record {
+      class_a = t.class_a + more.class_a;
+      class_b = t.class_b + more.class_b;
+      new_count = t.new_count + more.new_count;
+    }

@@ -1,9 +1,9 @@
 //! The wanting streams as a list that ascends by StreamID.
 
-ghost use Rattle.std.specs.Prelude.{◌≡◌, ◌==◌, position, ◌<◌, ◌≤◌, length, IfOk, IfErr, OnOk};
+ghost use Rattle.std.specs.Prelude.{◌≡◌, ◌<◌, ◌≤◌, length, IfOk, IfErr, OnErr, OnOk};
 ghost use Rattle.std.specs.List.{AllWithin, HoldsAt};
 ghost use Rattle.port_ledger.specs.Book.{entry_of, entry_with, with_want, without};
-ghost use Rattle.port_ledger.specs.Decision.{AreOfDifferentStreams, booked_of, IsAscending, stream_of};
+ghost use Rattle.port_ledger.specs.Decision.{booked_of, IsAscending, stream_of};
 
 use srp_base::{NoMemory, Seq, StreamId};
 use std::alloc::Global;
@@ -34,33 +34,12 @@ pub(crate) fn find_entry(entries: &[Entry], stream: StreamId) -> Option<Entry>
 
 /// The stream's entry is taken out, where there is one. It takes no memory.
 pub(crate) fn take_out(entries: &mut Vec<Entry>, stream: StreamId)
-    requires { AreOfDifferentStreams entries.old.items }
+    requires { IsAscending entries.old.items }
     ensures { entries.new.items ≡ without entries.old.items stream }
 {
-    if let Some(place) = position_of(entries, stream) {
+    if let Ok(place) = place_of(entries, stream) {
         entries.remove(place);
     }
-}
-
-/// The place of the stream's entry among entries in any order.
-fn position_of(entries: &[Entry], stream: StreamId) -> Option<usize>
-    ensures { result ≡ position (λ x. stream_of x == stream.0) entries.now }
-{
-    entries.iter().position(|x| x.want.stream == stream)
-}
-
-/// The entries once this want has come.
-pub(crate) fn entries_with(
-    alloc: Global,
-    entries: &[Entry],
-    want: Want,
-) -> Result<Vec<Entry>, NoMemory>
-    requires { IsAscending entries.now }
-    ensures { IfOk result (λ v. v.items ≡ with_want entries.now want) }
-{
-    let mut next = copy_of(alloc, entries)?;
-    put(&mut next, want)?;
-    Ok(next)
 }
 
 /// The same entries again, with room for one more.
@@ -72,9 +51,11 @@ pub(crate) fn copy_of(alloc: Global, entries: &[Entry]) -> Result<Vec<Entry>, No
     Ok(copy)
 }
 
-fn put(entries: &mut Vec<Entry>, want: Want) -> Result<(), NoMemory>
+/// The want is put at its place. After want of memory the entries are as they were.
+pub(crate) fn put(entries: &mut Vec<Entry>, want: Want) -> Result<(), NoMemory>
     requires { IsAscending entries.old.items }
-    ensures { OnOk result (entries.new.items ≡ with_want entries.old.items want) }
+    ensures ok { OnOk result (entries.new.items ≡ with_want entries.old.items want) }
+    ensures err { OnErr result (entries.new.items ≡ entries.old.items) }
 {
     match place_of(entries, want.stream) {
         Ok(place) => entries[place] = entry_with(entries[place], want),

@@ -11,11 +11,11 @@ ghost use Rattle.port_ledger.specs.Pass.{has_want};
 ghost use Rattle.port_ledger.specs.Decision.{booked_of, Decides, does_fit, is_booked, IsAscending, IsDecision, marks_of};
 
 use crate::changed::{Changed, changes};
-use crate::decide::{unwant, wanted};
+use crate::decide::{unwanted, wanted};
 use crate::entries::{bookings, copy_of, find_entry};
 use crate::fit::{fit_of, tested_entry};
+use crate::front::Standing;
 use crate::laws::nothing_changed_where_both_lists_are_empty;
-use crate::totals::{Totals, totals_of};
 use srp_base::{Class, Cs, NoMemory, Percent, Rate, Seq, StreamId};
 use std::alloc::Global;
 use std::marker::Model;
@@ -30,14 +30,13 @@ pub struct Ledger {
     entries: Vec<Entry>,
     // The same entries, in the order of importance of the last decision.
     order: Vec<Entry>,
-    // What a walk over the entries would find at the moment.
-    totals: Totals,
+    // How far the order stands, and what the entries come to, at the moment.
+    standing: Standing,
 }
 
 impl Model for Ledger {
-    ghost use Rattle.std.specs.Prelude.{IsPermutation, ◌≡◌};
     ghost use Rattle.port_ledger.specs.Book.{Book, IsKept};
-    ghost use Rattle.port_ledger.specs.Totals.{totals_of};
+    ghost use Rattle.port_ledger.specs.Front.{IsOrdered};
 
     ghost Value = { Book };
 
@@ -45,8 +44,7 @@ impl Model for Ledger {
 
     ghost invariant = { λ l.
         IsKept (record { caps = l.caps; moment = l.moment.0; entries = l.entries.items })
-        × IsPermutation l.entries.items l.order.items
-        × (l.totals ≡ totals_of l.moment.0 l.entries.items) };
+        × IsOrdered l.moment.0 l.standing l.entries.items l.order.items };
 }
 
 impl Ledger {
@@ -63,7 +61,7 @@ impl Ledger {
             moment: Cs(0),
             entries: Vec::new(alloc),
             order: Vec::new(alloc),
-            totals: Totals::empty(),
+            standing: Standing::empty(),
         }
     }
 
@@ -101,11 +99,17 @@ impl Ledger {
             self.clock(now);
             return Ok(Changed::nothing(alloc));
         }
-        let (entries, order) = wanted(alloc, now, &self.caps, &self.entries, &self.order, want)?;
-        let changed = changes(alloc, &self.entries, &entries)?;
-        self.totals = totals_of(&entries, now);
-        self.entries = entries;
-        self.order = order;
+        let before = self.standing.later(self.moment.0 < now.0);
+        let (standing, changed) = wanted(
+            alloc,
+            now,
+            &self.caps,
+            &before,
+            &mut self.entries,
+            &mut self.order,
+            want,
+        )?;
+        self.standing = standing;
         self.moment = now;
         Ok(changed)
     }
@@ -132,8 +136,16 @@ impl Ledger {
             return false;
         }
         let was_booked = self.booked(stream).is_some();
-        unwant(now, &self.caps, &mut self.entries, &mut self.order, stream);
-        self.totals = totals_of(&self.entries, now);
+        let before = self.standing.later(self.moment.0 < now.0);
+        let standing = unwanted(
+            now,
+            &self.caps,
+            &before,
+            &mut self.entries,
+            &mut self.order,
+            stream,
+        );
+        self.standing = standing;
         self.moment = now;
         was_booked
     }
@@ -147,9 +159,9 @@ impl Ledger {
         ensures shown { result ≡ (nat_lt self.old.moment now.0 && has_new_booking self.old) }
     {
         self.stands();
+        let shown = self.shows_at(now);
         let moved = self.moment.0 < now.0;
-        let shown = moved && self.totals.is_new;
-        self.totals = self.totals.later(moved);
+        self.standing = self.standing.later(moved);
         self.moment = now;
         shown
     }
@@ -158,7 +170,7 @@ impl Ledger {
     pub fn shows_at(&self, now: Cs) -> bool
         ensures { result ≡ (nat_lt self.now.moment now.0 && has_new_booking self.now) }
     {
-        self.moment < now && self.totals.is_new
+        self.moment < now && self.standing.totals.new_count > 0
     }
 
     /// The ledger's moment, in cs: the last one that was handed to it, and 0 at the start.
@@ -283,7 +295,7 @@ impl Ledger {
             moment: self.moment,
             entries,
             order,
-            totals: self.totals,
+            standing: self.standing,
         })
     }
 
@@ -291,7 +303,7 @@ impl Ledger {
     pub fn slope(&self, class: Class) -> u128
         ensures { result ≡ booked_slope self.now.entries class }
     {
-        self.totals.slope(class)
+        self.standing.totals.slope(class)
     }
 
     /// What holds of every ledger.

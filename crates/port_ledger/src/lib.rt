@@ -4,7 +4,8 @@
 //! ```text
 //! want(now, want) -----> the wanting streams, ascending by StreamID, and the same in the order of importance:
 //! unwant(now, stream) ->   |  class A, rank 0, the earlier booking, the lower StreamID
-//!                          |  each is booked where the booked ones before it leave room under its cap
+//!                          |  each is booked where the booked ones before it leave room under its cap;
+//!                          |  what stands before the first place that a call changes is left alone
 //!                          v
 //!                        what changed in the booked set
 //! clock(now) ----------> the moment alone; true where a booking is older now than what isn't booked
@@ -32,14 +33,16 @@
 //!
 //! To extend it: a new way to judge who goes first is a line of `compare_importance` in stream_importance,
 //! and nothing here changes but what time does to it (`proofs/Standing.antt`). A new step is a function of
-//! the book beside `wanted_book`, a clause of `every_step_keeps_a_book`, and a method whose body changes
-//! the entries and the order alike, calls `decide`, and finds the totals anew.
+//! the book beside `wanted_book`, a clause of `every_step_keeps_a_book`, and a function of `src/decide.rt` that
+//! cuts the order before all that the step concerns, changes the entries and what is behind the cut alike, and
+//! calls `decide` (`proofs/Changing.antt` shows how such a step leads to what `decide` asks for).
 #![tactic(auto)]
 
 mod changed;
 mod decide;
 mod entries;
 mod fit;
+mod front;
 pub mod laws;
 mod ledger;
 mod order;

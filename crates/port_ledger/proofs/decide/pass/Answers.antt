@@ -7,20 +7,20 @@ use Rattle.port_ledger.proofs.Passing.{PassesAt, pass_more, pass_skip, passes_fi
 use Rattle.port_ledger.proofs.decide.pass.Goals as goal
 
 pub loop-x-init : goal.loop-x-init
-loop-x-init c = passes_first _ _ _ _ c.requires.ascending c.requires.different c.requires.same
+loop-x-init c = passes_first _ _ _ _ _ c.requires.ascending c.requires.different c.requires.same
 
 pub loop-x-preserved : goal.loop-x-preserved
 loop-x-preserved c =
     let x : Entry = get_or c.loop-x.order c.loop-x.x-index blank in
     let within : c.loop-x.x-index < length c.loop-x.order = omega (arith, c.loop-x-test.true, c.loop-x.auto.order) in
-    subst (λ (es : List Entry). PassesAt c.args.now.0 c.args.caps.now c.args.order.now c.args.entries.now c.sum_with-sum.result (c.loop-x.x-index + 1)
+    subst (λ (es : List Entry). PassesAt c.args.now.0 c.args.caps.now c.args.taken c.args.order.now c.args.entries.now c.sum_with-sum.result (c.loop-x.x-index + 1)
     (set c.loop-x.order c.loop-x.x-index (record x { since = c.since_after-since.result })) es) (sym c.set_since.ensures)
-    (pass_more _ _ _ _ _ _ _ _ blank _ _ within
+    (pass_more _ _ _ _ _ _ _ _ _ blank _ _ within
     (c.since_after-since.ensures ∙ ap (since_after c.args.now.0 x.since) c.has_room-let_in.ensures)
     (c.sum_with-sum.ensures ∙ ap (sum_with c.loop-x.sum x) c.has_room-let_in.ensures) c.loop-x.invariant)
 
 pub loop-x-preserved-then-is_none : goal.loop-x-preserved-then-is_none
 loop-x-preserved-then-is_none c =
     let within : c.loop-x.x-index < length c.loop-x.order = omega (arith, c.loop-x-test.true, c.loop-x.auto.order) in
-    pass_skip c.args.now.0 c.args.caps.now c.args.order.now c.args.entries.now c.loop-x.sum c.loop-x.x-index c.loop-x.order c.loop-x.entries blank within
+    pass_skip c.args.now.0 c.args.caps.now c.args.taken c.args.order.now c.args.entries.now c.loop-x.sum c.loop-x.x-index c.loop-x.order c.loop-x.entries blank within
     (sym c.has_room-let_in.ensures ∙ c.if-not-let_in.true) (c.is_none.ensures ∙ ap not c.if-is_none.true) c.loop-x.invariant

@@ -1,9 +1,16 @@
-use Rattle.std.proofs.Common.{◌∙◌, sym}
-use Rattle.port_ledger.proofs.TakingOut.{without_found, without_missing}
+use Rattle.std.proofs.Common.{◌∙◌}
+use Rattle.port_ledger.proofs.Changing.{none_found}
+use Rattle.port_ledger.proofs.Finding.{blank, missing_is}
+use Rattle.port_ledger.proofs.Marking.{different_from_ascending}
+use Rattle.port_ledger.proofs.TakingOut.{without-at, without-others}
 use Rattle.port_ledger.proofs.entries.take_out.Goals as goal
 
-pub returns-in-Some : goal.returns-in-Some
-returns-in-Some c = c.remove.ensures.items ∙ without_found _ _ _ c.requires (rw c.deref.ensures.value at (sym c.position_of.ensures ∙ c.in-Some.is))
+pub returns-in-Ok : goal.returns-in-Ok
+returns-in-Ok c =
+    let found = rw c.deref.ensures.value at c.in-Ok.ensures.found in
+    c.remove.ensures.items ∙ without-at c.args.entries.now.items c.args.stream c.in-Ok.place blank (different_from_ascending _ c.requires) found.0 (found.1 blank)
 
 pub returns-in_default : goal.returns-in_default
-returns-in_default c = without_missing _ _ (rw c.deref.ensures.value at (sym c.position_of.ensures ∙ c.in_default.is))
+returns-in_default c =
+    let missing = rw c.deref.ensures.value at c.in_default.ensures.missing in
+    without-others c.args.stream c.args.entries.now.items (none_found c.args.stream c.args.entries.now.items (missing_is _ _ _ missing.1 missing.2))

@@ -1,0 +1,225 @@
+-- How a want that comes and an entry that goes lead to entries that are decided from a place of their order on.
+use Rattle.std.proofs.Common.{◌≡◌, ◌≢◌, ℕ, ◌+◌, ◌≤◌, ◌<◌, ◌^◌, Bool, true, false, not, ◌&&◌, ◌==◌, cond, List, [], ◌∷◌, ◌++◌, map, length, take, drop, Option, Some, None, is_some, refl, sym, ◌∙◌, ap, subst, arith, append_assoc, true≢false, inl, inr}
+use Rattle.std.specs.Prelude.{nat_lt}
+use Rattle.std.specs.List.{AllByRecursion}
+use Rattle.std.specs.List.Sorted.{IsPermutation}
+use Rattle.std.specs.Ordering.{is_lt, nat_cmp}
+use Rattle.std.proofs.lemmas.Bool.Decides.{nat_tests}
+use Rattle.std.proofs.lemmas.Bool.{and_from, cases_Bool, eq-eqb, eqb-true, ne_eqb, not_from_false}
+use Rattle.std.proofs.lemmas.List.{length-take-le, take-append-drop}
+use Rattle.srp_base.specs.declared.bandwidth.Class.TheVariants.{A, B}
+use Rattle.srp_base.specs.declared.numbers.StreamId.{StreamId}
+use Rattle.stream_importance.specs.declared.entry.Entry.{Entry}
+use Rattle.stream_importance.specs.declared.entry.Want.{Want}
+use Rattle.stream_importance.specs.declared.slope.Caps.{Caps}
+use Rattle.stream_importance.specs.Importance.{is_more_important, moment_or, IsImportanceOrder}
+use Rattle.port_ledger.specs.declared.front.Standing.{Standing}
+use Rattle.port_ledger.specs.declared.totals.Totals.{Totals}
+use Rattle.port_ledger.specs.Book.{Book, booked_slope, entry_of, entry_with, has_new_booking, same_want, unbooked_entry, with_want, without}
+use Rattle.port_ledger.specs.Decision.{stream_of, does_fit, is_booked, marked_set, marks_of, AreOfDifferentStreams, IsAscending}
+use Rattle.port_ledger.specs.Front.{AreBehind, ArePrior, ArePriorTo, IsFront, IsOrdered, IsOrderedBook, IsSettled, later_standing, Runs}
+use Rattle.port_ledger.specs.Pass.{order_with, with_want_in_place}
+use Rattle.port_ledger.specs.Totals.{totals_of}
+use Rattle.port_ledger.proofs.Deciding.{different_right}
+use Rattle.port_ledger.proofs.Fronts.{seam-take}
+use Rattle.port_ledger.proofs.Keeping.{all-without, ascending-with_want, ascending-without, moments-with_want}
+use Rattle.port_ledger.proofs.Marking.{choice_above, different_from_ascending, marked-map}
+use Rattle.port_ledger.proofs.Moving.{order_with_permuted, without_permuted}
+use Rattle.port_ledger.proofs.Ranking.{all_permuted, different_permuted, holds_permuted}
+use Rattle.port_ledger.proofs.Running.{all_with, Holds}
+use Rattle.port_ledger.proofs.Settling.{ahead_settled, all_join, all_left, IsAhead, IsBehind, runs_front, settled_ahead, settled_later, settled_less, settled_within}
+use Rattle.port_ledger.proofs.TotalsLemmas.{new_any, slope-permuted, totals_fit, totals_later, totals-permuted}
+
+-- ---- whose stream stands in no front
+
+pub none_found : (s : StreamId) (xs : List Entry) → entry_of xs s ≡ None → AllByRecursion (λ y. stream_of y ≢ s.0) xs
+none_found s [] h = tt
+none_found s (x ∷ xs) h =
+    elim (cases_Bool (stream_of x == s.0)) [
+      | inl e ↦ absurd (let found : entry_of (x ∷ xs) s ≡ Some x = ap (λ v. cond v (Some x) (entry_of xs s)) e in cc)
+      | inr e ↦ (
+        (λ k. true≢false (sym (eq-eqb (stream_of x) s.0 k) ∙ e)),
+        none_found s xs (sym (ap (λ v. cond v (Some x) (entry_of xs s)) e) ∙ h),
+      )
+    ]
+
+one_found : (s : StreamId) (e : Entry) (xs : List Entry) → AreOfDifferentStreams xs → entry_of xs s ≡ Some e
+    → AllByRecursion (λ y. stream_of y ≡ s.0 → y ≡ e) xs
+one_found s e [] d h = tt
+one_found s e (x ∷ xs) d h =
+    elim (cases_Bool (stream_of x == s.0)) [
+      | inl k ↦
+          (let found : entry_of (x ∷ xs) s ≡ Some x = ap (λ v. cond v (Some x) (entry_of xs s)) k in
+          let is : x ≡ e = cc in
+          ((λ _. is), all_with xs d.0 d.0 (λ y ne _ f. absurd (ne (eqb-true (stream_of x) s.0 k ∙ sym f)))))
+      | inr k ↦ (
+        (λ f. absurd (true≢false (sym (eq-eqb (stream_of x) s.0 f) ∙ k))),
+        one_found s e xs d.1 (sym (ap (λ v. cond v (Some x) (entry_of xs s)) k) ∙ h),
+      )
+    ]
+
+pub apart : (now : ℕ) (o : IsImportanceOrder now) (s : StreamId) (goes : Option Entry) (es f r : List Entry) → AreOfDifferentStreams es → IsPermutation es (f ++ r)
+    → entry_of es s ≡ goes → ArePriorTo now goes f → AllByRecursion (λ y. stream_of y ≢ s.0) f
+apart now o s None es f r d p h prior =
+    all_left (λ y. stream_of y ≢ s.0) f r (all_permuted (λ y. stream_of y ≢ s.0) es (f ++ r) p (none_found s es h))
+apart now o s (Some e) es f r d p h prior =
+    all_with f (all_left (λ y. stream_of y ≡ s.0 → y ≡ e) f r (all_permuted (λ y. stream_of y ≡ s.0 → y ≡ e) es (f ++ r) p (one_found s e es d h))) prior
+    (λ y only before same.
+    let itself : is_more_important now e e ≡ true = subst (λ (z : Entry). is_more_important now z e ≡ true) (only same) before in
+    o.strict e e itself itself)
+
+-- ---- the other entries behind a front
+
+behind_new : (now : ℕ) (x : Entry) (f : List Entry) → AllByRecursion (λ y. stream_of y ≢ stream_of x) f → ArePrior now x f → IsBehind now f x
+behind_new now x f ne prior =
+    all_with f ne prior
+    (λ y n h. and_from (not (stream_of y == stream_of x)) (is_more_important now y x) (not_from_false (stream_of y == stream_of x) (ne_eqb (stream_of y) (stream_of x) n)) h)
+
+all_in_place : (P : Entry → Type 0) (want : Want) (xs : List Entry) → P (unbooked_entry want) → AllByRecursion P xs → AllByRecursion P (with_want_in_place xs want)
+all_in_place P want [] new h = tt
+all_in_place P want (x ∷ xs) new h = (
+  elim (stream_of x == want.stream.0) as (λ v. P (cond v (entry_with x want) x)) [
+    | true ↦ elim (same_want x.want want) as (λ v. P (cond v x (unbooked_entry want))) [ true ↦ h.0 | false ↦ new ]
+    | false ↦ h.0
+  ],
+  all_in_place P want xs new h.1,
+)
+
+all_order_with : (P : Entry → Type 0) (want : Want) (known : Bool) (xs : List Entry) → P (unbooked_entry want) → AllByRecursion P xs → AllByRecursion P (order_with xs want known)
+all_order_with P want true xs new h = all_in_place P want xs new h
+all_order_with P want false xs new h = all_join P xs (unbooked_entry want ∷ []) h (new, tt)
+
+in_place_front : (want : Want) (f r : List Entry) → AllByRecursion (λ y. stream_of y ≢ want.stream.0) f
+    → with_want_in_place (f ++ r) want ≡ f ++ with_want_in_place r want
+in_place_front want [] r ne = refl
+in_place_front want (x ∷ f) r ne =
+    ap (λ v. cond v (entry_with x want) x ∷ with_want_in_place (f ++ r) want) (ne_eqb (stream_of x) want.stream.0 ne.0)
+    ∙ ap (λ ys. x ∷ ys) (in_place_front want f r ne.1)
+
+order_with_front : (want : Want) (known : Bool) (f r : List Entry) → AllByRecursion (λ y. stream_of y ≢ want.stream.0) f
+    → order_with (f ++ r) want known ≡ f ++ order_with r want known
+order_with_front want true f r ne = in_place_front want f r ne
+order_with_front want false f r ne = append_assoc f r (unbooked_entry want ∷ [])
+
+without_front : (s : StreamId) (f r : List Entry) → AllByRecursion (λ y. stream_of y ≢ s.0) f → without (f ++ r) s ≡ f ++ without r s
+without_front s [] r ne = refl
+without_front s (x ∷ f) r ne =
+    ap (λ v. cond (not v) (x ∷ without (f ++ r) s) (without (f ++ r) s)) (ne_eqb (stream_of x) s.0 ne.0)
+    ∙ ap (λ ys. x ∷ ys) (without_front s f r ne.1)
+
+-- ---- what holds of every ledger
+
+by_place : (b c : Entry → Bool) (xs : List Entry) → map b xs ≡ map c xs → AllByRecursion (λ x. b x ≡ c x) xs
+by_place b c [] h = tt
+by_place b c (x ∷ xs) h =
+    let first : b x ≡ c x = cc in
+    let rest : map b xs ≡ map c xs = cc in
+    (first, by_place b c xs rest)
+
+module _ (now : ℕ) (o : IsImportanceOrder now) (caps : Caps) (standing : Standing) (es order : List Entry) (h : IsOrderedBook now caps standing es order) where
+  holds : AllByRecursion (Holds now caps 0 is_booked order) order
+  holds =
+      let fits : AllByRecursion (λ x. is_booked x ≡ does_fit now caps (marked_set es (marks_of es)) x) es =
+      by_place is_booked (does_fit now caps (marked_set es (marks_of es))) es h.kept.decision in
+      holds_permuted now caps 0 is_booked es order h.ordered.same
+      (all_with es fits fits (λ x k _. k ∙ (ap (λ set. does_fit now caps set x) (marked-map is_booked es) ∙ sym (choice_above is_booked now caps es x))))
+
+  pub book_settled : standing.settled ≤ length order
+  book_settled = settled_within now standing.settled order h.ordered.settled
+
+  pub book_totals : standing.totals ≡ totals_of now order
+  book_totals = h.ordered.totals ∙ sym (totals-permuted now es order h.ordered.same)
+
+  pub book_range : booked_slope order A + booked_slope order B < 2 ^ 64
+  book_range =
+      let a = slope-permuted es order A h.ordered.same in
+      let b = slope-permuted es order B h.ordered.same in
+      let fits = totals_fit (record { caps = caps; moment = now; entries = es }) o h.kept h.range in
+      omega (arith, a, b, fits)
+
+  different : AreOfDifferentStreams es
+  different = different_from_ascending es h.kept.ascending
+
+  module _ (place : ℕ) (le : place ≤ standing.settled) where
+    abbrev f : List Entry
+    f = take place order
+
+    abbrev r : List Entry
+    r = drop place order
+
+    pub book_place : place ≤ length order
+    book_place = let most = book_settled in omega (arith, le, most)
+
+    parts : IsPermutation es (f ++ r)
+    parts = subst (λ (ys : List Entry). IsPermutation es ys) (sym (take-append-drop place order)) h.ordered.same
+
+    pub book_different : AreOfDifferentStreams r
+    book_different = different_right f r (different_permuted es (f ++ r) parts different)
+
+    settled_at : IsSettled now place order
+    settled_at = settled_less now place standing.settled order le h.ordered.settled
+
+    is_ahead : IsAhead now f r
+    is_ahead = settled_ahead now place order settled_at
+
+    pub book_behind : AreBehind f r es
+    book_behind = record { ascending = h.kept.ascending; same = parts }
+
+    front_of : (front : Totals) (later rest : List Entry) → front ≡ totals_of now f → IsAscending later → AllByRecursion (λ x. moment_or now x.since ≤ now) later
+        → IsPermutation later (f ++ rest) → AllByRecursion (IsBehind now f) rest → IsFront now caps place front later (f ++ rest)
+    front_of front later rest e up moments same behind =
+        let cut : take place (f ++ rest) ≡ f = seam-take place order rest book_place in
+        let long : length f ≡ place = length-take-le place order book_place in
+        record {
+          ascending = up;
+          shares = h.kept.shares;
+          range = h.range;
+          moments = moments;
+          same = same;
+          settled = ahead_settled now 0 f rest (record { booked = is_ahead.booked; ranked = is_ahead.ranked; behind = behind }) tt place (omega (arith, long));
+          stays = subst (λ (ys : List Entry). Runs caps 0 is_booked ys) (sym cut) (runs_front now o caps 0 place is_booked order settled_at holds);
+          totals = e ∙ ap (totals_of now) (sym cut);
+        }
+
+    -- a want that isn't kept comes
+    pub want_comes : (front : Totals) (want : Want) (known : Bool) (goes : Option Entry) → front ≡ totals_of now f → entry_of es want.stream ≡ goes → known ≡ is_some goes
+        → ArePriorTo now goes f → ArePrior now (unbooked_entry want) f
+        → IsFront now caps place front (with_want es want) (f ++ order_with r want known)
+    want_comes front want known goes e found k old new =
+        let ne : AllByRecursion (λ y. stream_of y ≢ want.stream.0) f = apart now o want.stream goes es f r different parts found old in
+        front_of front (with_want es want) (order_with r want known) e
+        (ascending-with_want want es h.kept.ascending) (moments-with_want now want es h.kept.moments)
+        (subst (λ (ys : List Entry). IsPermutation (with_want es want) ys) (order_with_front want known f r ne)
+        (order_with_permuted es (f ++ r) want known h.kept.ascending parts (k ∙ ap is_some (sym found))))
+        (all_order_with (IsBehind now f) want known r (behind_new now (unbooked_entry want) f ne new) is_ahead.behind)
+
+    -- an entry goes
+    pub entry_goes : (front : Totals) (s : StreamId) (goes : Option Entry) → front ≡ totals_of now f → entry_of es s ≡ goes → ArePriorTo now goes f
+        → IsFront now caps place front (without es s) (f ++ without r s)
+    entry_goes front s goes e found old =
+        let ne : AllByRecursion (λ y. stream_of y ≢ s.0) f = apart now o s goes es f r different parts found old in
+        front_of front (without es s) (without r s) e
+        (ascending-without s es h.kept.ascending) (all-without (λ x. moment_or now x.since ≤ now) s es h.kept.moments)
+        (subst (λ (ys : List Entry). IsPermutation (without es s) ys) (without_front s f r ne) (without_permuted es (f ++ r) s parts))
+        (all-without (IsBehind now f) s r is_ahead.behind)
+
+-- ---- what is kept beside the entries, at a later moment
+
+pub ordered_later : (moment now : ℕ) (moved : Bool) (standing later : Standing) (es order : List Entry) → IsOrdered moment standing es order
+    → AllByRecursion (λ x. moment_or moment x.since ≤ moment) es → moment ≤ now → moved ≡ nat_lt moment now → later ≡ later_standing moved standing
+    → IsOrdered now later es order
+ordered_later moment now moved standing later es order h moments up moves e =
+    subst (λ (s : Standing). IsOrdered now s es order) (sym e)
+    (record {
+      same = h.same;
+      settled = settled_later moment now standing.settled order up h.settled;
+      totals = totals_later moment now es standing.totals moved h.totals moves moments up;
+    })
+
+pub less_test : (a b : ℕ) → is_lt (nat_cmp a b) ≡ true → nat_lt a b ≡ true
+less_test a b h = grind (arith, nat_tests)
+
+pub new_shown : (now : ℕ) (book : Book) (t : Totals) → t ≡ totals_of book.moment book.entries → nat_lt book.moment now ≡ true
+    → nat_lt 0 t.new_count ≡ (nat_lt book.moment now && has_new_booking book)
+new_shown now book t e lt =
+    ap (λ (u : Totals). nat_lt 0 u.new_count) e ∙ (new_any book.moment book.entries ∙ ap (λ v. v && has_new_booking book) (sym lt))
