@@ -9,3 +9,5 @@ pub mod QuietLemmas
 pub mod BoundLemmas
 pub mod WindowLemmas
 pub mod DepartureLemmas
+pub mod StepLemmas
+pub mod PieceLemmas

@@ -47,7 +47,7 @@ jumped_more : (n : ℕ) (p : Port) → with_credits (jumped n p) ≡ jumped (suc
 unfolding after_bits
 jumped_more n p = refl
 
-jumped_none : (p : Port) → jumped 0 p ≡ p
+pub jumped_none : (p : Port) → jumped 0 p ≡ p
 unfolding after_bits
 jumped_none p = refl
 
@@ -82,7 +82,7 @@ no_turn_for true rate slope n c short =
 no_turn_for false rate slope n c short = refl
 
 -- a trace's queues wait where the port's do
-waits : (arrivals : List Arrival) (trace : PortTrace) (traffic : Traffic) → AreHeads arrivals trace.came trace.heads
+pub waits : (arrivals : List Arrival) (trace : PortTrace) (traffic : Traffic) → AreHeads arrivals trace.came trace.heads
     → trace.came ≤ length arrivals → does_wait traffic (waiting_of arrivals trace) ≡ has_frame trace traffic
 waits arrivals trace traffic heads within = waits_is trace.heads arrivals trace.came traffic heads within
 
@@ -111,7 +111,7 @@ idle_start arrivals sent trace t n heads within idle =
     start_idle t (jumped n p) idle.line none
 
 -- up to the next moment each bit time leaves the port alone
-quiet_bit : (input : PortInput) (sent : List Departure) (trace : PortTrace) (next k : ℕ)
+pub quiet_bit : (input : PortInput) (sent : List Departure) (trace : PortTrace) (next k : ℕ)
     → AreHeads input.arrivals trace.came trace.heads → HasReached input (trace.bit + 1) trace → HasReached input next trace
     → IsQuiet trace next → 0 < k → trace.bit + k < next
     → within_bit input (trace.bit + k) (jumped k (port_of input.arrivals sent trace)) ≡ jumped k (port_of input.arrivals sent trace)

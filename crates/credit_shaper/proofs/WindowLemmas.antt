@@ -150,3 +150,28 @@ wait_within input least most from to a b valid s low mid high wait =
     within_wait (area_a input a b) (lo_credit (bits_of input.rate) least) (hi_credit most) (credit_a_at input a) (credit_a_at input b)
     (sym (ap (credit_a_at input) at) ∙ waited_over input a (b - a) (λ t from' to'. wait t from' (omega (arith, to', at))))
     after.high before.low
+
+-- an area is no less than its least slope gives
+area_least : (input : PortInput) (least from n : ℕ) → ((t : ℕ) → from ≤ t → t < from + n → least ≤ slope_a_at input t)
+    → least * n ≤ sum_by (slope_a_at input) (range_with_len from n)
+area_least input least from zero each = omega arith
+area_least input least from (suc n) each =
+    let here : least ≤ slope_a_at input from = each from (omega arith) (omega arith) in
+    let rest : least * n ≤ sum_by (slope_a_at input) (range_with_len (from + 1) n) =
+    area_least input least (from + 1) n (λ t low high. each t (omega (arith, low)) (omega (arith, high))) in
+    let area = sum_by-cons (slope_a_at input) from (range_with_len (from + 1) n) in
+    omega (arith, here, rest, area)
+
+wait_number : (area least most rate : ℕ) → pos area ≤ℤ (hi_credit most -ℤ lo_credit rate least)
+    → area + 12336 * least ≤ 12336 * most + 12336 * rate
+wait_number area least most rate h = omega (arith, ints, h)
+
+-- so a wait takes no more bit times than the least slope gives
+pub wait_at_most : (input : PortInput) (least most from to a b : ℕ) → IsPortInput input → IsStretch input least most from to
+    → from ≤ a → a ≤ b → b ≤ to → DoesWaitA input a b → least * (b - a) + 12336 * least ≤ 12336 * most + 12336 * bits_of input.rate
+wait_at_most input least most from to a b valid s low mid high wait =
+    let area : area_a input a b + 12336 * least ≤ 12336 * most + 12336 * bits_of input.rate =
+    wait_number (area_a input a b) least most (bits_of input.rate) (wait_within input least most from to a b valid s low mid high wait) in
+    let each : least * (b - a) ≤ area_a input a b =
+    area_least input least a (b - a) (λ t from' to'. (s.slopes t (omega (arith, low, from')) (omega (arith, to', mid, high))).0) in
+    omega (arith, area, each)

@@ -1,6 +1,6 @@
 -- What class A's credit stays between, and what class A takes of the line in a window (IEEE Std
 -- 802.1Q-2018, 8.6.8.2 and Annex L in outline; with bounds for every input, own).
-use Rattle.std.specs.Prelude.{◌≡◌, ℕ, ◌-◌, ◌*◌, ◌<◌, ◌≤◌, max, Bool, true, false, List, [], ◌∷◌, count_by, sum_by, ℤ, pos, ◌+ℤ◌, ◌-ℤ◌, ◌≤ℤ◌}
+use Rattle.std.specs.Prelude.{◌≡◌, ℕ, ◌+◌, ◌-◌, ◌*◌, ◌<◌, ◌≤◌, max, Bool, true, false, List, [], ◌∷◌, All, count_by, sum_by, ℤ, pos, ◌+ℤ◌, ◌-ℤ◌, ◌≤ℤ◌}
 use Rattle.std.specs.List.{range_with_len}
 use Rattle.srp_base.specs.Bandwidth.{bits_of}
 use Rattle.credit_shaper.specs.declared.shaper.Traffic.{Traffic}
@@ -18,6 +18,14 @@ credit_a_at input t = (port_at input t).shaper.credit_a
 -- idleSlope of class A in a bit time
 abbrev pub slope_a_at : PortInput → ℕ → ℕ
 slope_a_at input t = (slopes_at input t).slope_a
+
+-- class B's credit as a bit time begins
+abbrev pub credit_b_at : PortInput → ℕ → ℤ
+credit_b_at input t = (port_at input t).shaper.credit_b
+
+-- idleSlope of class B in a bit time
+abbrev pub slope_b_at : PortInput → ℕ → ℕ
+slope_b_at input t = (slopes_at input t).slope_b
 
 -- whether a frame of a traffic is on the line in a bit time
 abbrev pub is_on_line : PortInput → Traffic → ℕ → Bool
@@ -83,3 +91,14 @@ abbrev pub IsWaitAWithin : PortInput → ℕ → ℕ → ℕ → ℕ → Type 0
 IsWaitAWithin input least most from to =
     DoesWaitA input from to
     → pos (area_a input from to) ≤ℤ (hi_credit most -ℤ lo_credit (bits_of input.rate) least)
+
+-- no slope of class A among these changes is above the one number, and no two slopes together are above
+-- the other
+abbrev pub KeepCaps : ℕ → ℕ → List SlopeChange → Type 0
+KeepCaps cap_a cap_ab slopes =
+    All (λ c. (c.slope_a ≤ cap_a) × (c.slope_a + c.slope_b ≤ cap_ab)) slopes
+
+-- the slopes in force in a bit time are within these caps
+abbrev pub AreSlopesWithin : PortInput → ℕ → ℕ → ℕ → Type 0
+AreSlopesWithin input cap_a cap_ab t =
+    (slope_a_at input t ≤ cap_a) × (slope_a_at input t + slope_b_at input t ≤ cap_ab)

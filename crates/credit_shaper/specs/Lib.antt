@@ -4,3 +4,5 @@ pub mod Trace
 pub mod Walk
 pub mod Bounds
 pub mod Departures
+pub mod Steps
+pub mod Pieces

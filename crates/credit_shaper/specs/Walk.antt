@@ -9,6 +9,7 @@ use Rattle.credit_shaper.specs.declared.port.Arrival.{Arrival}
 use Rattle.credit_shaper.specs.declared.port.PortInput.{PortInput}
 use Rattle.credit_shaper.specs.declared.port.Departure.{Departure}
 use Rattle.credit_shaper.specs.declared.trace.PortTrace.{PortTrace}
+use Rattle.credit_shaper.specs.declared.piece.Piece.{Piece}
 use Rattle.credit_shaper.specs.declared.queues.Heads.{Heads}
 use Rattle.credit_shaper.specs.Credit.{after_bits}
 use Rattle.credit_shaper.specs.Port.{is_of, no_slopes}
@@ -131,4 +132,16 @@ moved_to next bits trace =
     record trace {
       bit = next;
       shaper = after_bits bits trace.line (has_frame trace A) (has_frame trace B) trace.shaper;
+    }
+
+-- the piece of so many bit times in which a trace goes on
+abbrev pub piece_of : ℕ → PortTrace → Piece
+piece_of bits trace =
+    record {
+      bit = trace.bit;
+      bits = bits;
+      shaper = trace.shaper;
+      line = trace.line;
+      waits_a = has_frame trace A;
+      waits_b = has_frame trace B;
     }

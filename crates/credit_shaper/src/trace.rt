@@ -4,6 +4,7 @@ ghost use Rattle.std.specs.Prelude.{◌≡◌, ℕ, ◌+◌, ◌-◌, ◌*◌, �
 ghost use Rattle.credit_shaper.specs.Credit.{IsWithin};
 
 use crate::moments::{arrived_by, changed_by, newest, next_arrival, next_change};
+use crate::piece::Piece;
 use crate::port::{Arrival, Departure, Departures, PortInput, SlopeChange};
 use crate::queues::{Heads, first_of};
 use crate::shaper::{Line, Shaper, Traffic};
@@ -37,7 +38,8 @@ impl PortTrace {
     ghost use Rattle.credit_shaper.specs.Port.{IsPortInput};
     ghost use Rattle.credit_shaper.specs.Trace.{port_at, with_arrivals, sends_frame, departure_at, departures_of, fresh_port, within_bit};
     ghost use Rattle.credit_shaper.specs.Bounds.{greatest_slope_a, IsStretch, IsCreditAWithin, IsWindowAWithin};
-    ghost use Rattle.credit_shaper.specs.Walk.{AreHeads, HasReached, IsFirst, IsQuiet, IsIdle, pending, port_of, turn_in, frame_of, moved_to};
+    ghost use Rattle.credit_shaper.specs.Pieces.{IsPiece, ArePieces};
+    ghost use Rattle.credit_shaper.specs.Walk.{AreHeads, HasReached, IsFirst, IsQuiet, IsIdle, pending, port_of, turn_in, frame_of, moved_to, piece_of};
 
     /// What becomes of a port's frames: which start before the end, and when, in bit times, and which are
     /// left. The input is as `PortInput::is_valid` tests it. The answer takes a few steps a frame, however
@@ -73,6 +75,63 @@ impl PortTrace {
             sent: Seq::from_vec(sent),
             left,
         })
+    }
+
+    /// A run in pieces, in order and without a gap: bit times in a row in which the line, the classes that wait
+    /// and the slopes stay. They are a few for each frame, however long the run. The input is as
+    /// `PortInput::is_valid` tests it, and the one error is want of memory.
+    pub fn pieces(alloc: Global, input: &PortInput) -> Result<Seq<Piece>, NoMemory>
+        requires { IsPortInput input.now }
+        ensures { IfOk result (λ ps. ArePieces input.now 0 input.now.end ps) }
+    {
+        let mut sent = Vec::new(alloc);
+        let mut pieces = Vec::new(alloc);
+        let mut trace = PortTrace::new(input.rate);
+        while trace.bit < input.end {
+            trace = trace.piece(input, &mut sent, &mut pieces)?;
+        }
+        Ok(Seq::from_vec(pieces))
+    }
+
+    /// What happens in one bit time, and the piece that begins with it, up to the next moment.
+    fn piece(
+        self,
+        input: &PortInput,
+        sent: &mut Vec<Departure>,
+        pieces: &mut Vec<Piece>,
+    ) -> Result<PortTrace, NoMemory>
+        requires input { IsPortInput input.now }
+        requires bit { self.bit < input.now.end }
+        requires reached { HasReached input.now self.bit self }
+        requires port { port_of input.now.arrivals sent.old.items self
+            ≡ port_at input.now self.bit }
+        ensures later { IfOk result (λ t. self.bit < t.bit) }
+        ensures within { IfOk result (λ t. t.bit ≤ input.now.end) }
+        ensures reached { IfOk result (λ t. HasReached input.now t.bit t) }
+        ensures port { IfOk result (λ t.
+            port_of input.now.arrivals sent.new.items t ≡ port_at input.now t.bit) }
+        ensures pieces { IfOk result (λ t. (p : Piece)
+            × (pieces.new.items ≡ pieces.old.items ++ p ∷ [])
+            × (p.bit ≡ self.bit) × (self.bit + p.bits ≡ t.bit) × IsPiece input.now p) }
+    {
+        let within = self.in_bit(input, sent)?;
+        let next = within.goes_on(input);
+        pieces.push(within.piece_of(next.bit - within.bit))?;
+        Ok(next)
+    }
+
+    /// The piece of this many bit times in which a trace goes on.
+    fn piece_of(&self, bits: u64) -> Piece
+        ensures { result ≡ piece_of bits self.now }
+    {
+        Piece {
+            bit: self.bit,
+            bits,
+            shaper: self.shaper,
+            line: self.line,
+            waits_a: self.heads.a < self.came,
+            waits_b: self.heads.b < self.came,
+        }
     }
 
     /// A port before bit time 0.

@@ -10,3 +10,4 @@ pub mod DepartureFacts
 pub mod FateLemmas
 pub mod ForceLemmas
 pub mod LawLemmas
+pub mod CapLemmas

@@ -9,7 +9,7 @@ use Rattle.std.specs.declared.cmp.Ordering.{Ordering}
 use Rattle.std.specs.declared.cmp.Ordering.TheVariants.{Less, Equal, Greater}
 use Rattle.std.proofs.lemmas.Bool.{cond_both, cond-true, cond-false, cases_Bool, cases_lt, cases_order, lt-ltb, le-ltb, eq-eqb, ne_eqb, le-leb, lt-leb, or_left, or_right, or_from, and_from, and_left, and_right, false≢true}
 use Rattle.std.proofs.lemmas.List.Sums.{sum_by-cons}
-use Rattle.std.proofs.lemmas.List.Sorted.{sum_by-IsPermutation, All-permutation, sorted_far, ranks_by}
+use Rattle.std.proofs.lemmas.List.Sorted.{IsPermutation-refl, IsPermutation-sym, IsPermutation-trans, IsPermutation-cons, IsPermutation-middle, sum_by-IsPermutation, All-permutation, sorted_far, ranks_by}
 use Rattle.std.proofs.lemmas.List.Elements.{All-nil, All-cons, All-head, All-tail, All-weaker}
 use Rattle.std.proofs.lemmas.List.Kept.{AllPairs-cons}
 use Rattle.credit_shaper.proofs.PairLemmas.{pairs-head, pairs-tail, pairs-none, pairs-from-adjacent}
@@ -242,3 +242,20 @@ sorted-is frames xs ys known moved o =
     let K : FrameCopy → Type 0 = IsKnownCopy frames in
     ordered-one frames ys (in_order xs) (λ f. sum_by-IsPermutation f xs ys moved ∙ sym (sum-in_order f xs)) o (order-in_order xs)
     (All-permutation K xs ys moved known) (All-in_order K xs known)
+
+-- ---- in order they are the same copies, each as often
+
+same-with_copy : (x : FrameCopy) (ys : List FrameCopy) → IsPermutation (x ∷ ys) (with_copy x ys)
+same-with_copy x [] = IsPermutation-refl (x ∷ [])
+same-with_copy x (y ∷ ys) =
+    cond_both (is_not_after x y) (x ∷ y ∷ ys) (y ∷ with_copy x ys) (λ t. IsPermutation (x ∷ y ∷ ys) t)
+    (λ e. IsPermutation-refl (x ∷ y ∷ ys))
+    (λ e. IsPermutation-trans (x ∷ y ∷ ys) (y ∷ x ∷ ys) (y ∷ with_copy x ys)
+    (IsPermutation-sym (y ∷ x ∷ ys) (x ∷ y ∷ ys) (IsPermutation-middle (y ∷ []) x ys))
+    (IsPermutation-cons y (x ∷ ys) (with_copy x ys) (same-with_copy x ys)))
+
+pub same-in_order : (xs : List FrameCopy) → IsPermutation xs (in_order xs)
+same-in_order [] = IsPermutation-refl []
+same-in_order (x ∷ xs) =
+    IsPermutation-trans (x ∷ xs) (x ∷ in_order xs) (with_copy x (in_order xs))
+    (IsPermutation-cons x xs (in_order xs) (same-in_order xs)) (same-with_copy x (in_order xs))

@@ -328,3 +328,41 @@ one_flow s laws one other is_one is_other =
     ∙ map-same (port_flow s one) (port_flow s other) places
     (All-weaker (λ x. HasPort s.tree x.at) E (λ x h. port_flow-same s laws x one other h (agree-all s laws one other is_one is_other (level_of s.tree x))) places (places-are s.tree s.rates laws))
     ∙ sym is_other.each
+
+-- ---- and there is one: what each port's flow is once those of lower levels are
+
+-- the flows by those of the round before, of which the first has none
+flows_after : Setting → ℕ → List PortFlow
+flows_after s zero = []
+flows_after s (suc n) = map (port_flow s (flows_after s n)) (all_places s.tree.links s.rates)
+
+-- in a round the flows of one level more are as in the next
+agree-next : (s : Setting) → HasPortLaws s.tree → (one other : List PortFlow) (m : ℕ) → AgreeBelow s.tree m one other
+    → AgreeBelow s.tree (suc m) (map (port_flow s one) (all_places s.tree.links s.rates)) (map (port_flow s other) (all_places s.tree.links s.rates))
+agree-next s laws one other m before q port lt =
+    let places = all_places s.tree.links s.rates in
+    let A : Place → Type 0 = λ x. is_port x.at q ≡ true → port_flow s one x ≡ port_flow s other x in
+    let each = All-weaker (λ x. HasPort s.tree x.at) A
+    (λ x h is.
+    let same : level_of s.tree x ≡ level_at s.tree q = ap (λ (t : EgressPort). level_at s.tree t) (same-port x.at q is) in
+    port_flow-same s laws x one other h (λ r there less. before r there (omega (arith, less, same, lt)))) places (places-are s.tree s.rates laws) in
+    find-map-same (port_flow s one) (port_flow s other) q (λ x. refl) (λ x. refl) places each
+
+agree-after : (s : Setting) → HasPortLaws s.tree → (n : ℕ) → AgreeBelow s.tree n (flows_after s n) (flows_after s (suc n))
+unfolding flows_after
+agree-after s laws zero = λ q port lt. absurd (omega (arith, lt))
+agree-after s laws (suc n) = agree-next s laws (flows_after s n) (flows_after s (suc n)) n (agree-after s laws n)
+
+-- after as many rounds as there are levels nothing changes
+pub some_flow : (s : Setting) → HasPortLaws s.tree → (flows : List PortFlow) × IsFlow s flows
+unfolding flows_after
+some_flow s laws =
+    let n = length s.tree.kinds + 1 in
+    let places = all_places s.tree.links s.rates in
+    let one = flows_after s n in
+    let other = map (port_flow s one) places in
+    let E : Place → Type 0 = λ x. port_flow s one x ≡ port_flow s other x in
+    let agree : AgreeBelow s.tree n one other = agree-after s laws n in
+    let each = All-weaker (λ x. HasPort s.tree x.at) E
+    (λ x h. port_flow-same s laws x one other h (λ q port lt. agree q port (omega (arith, lt, level-few s.tree x.at)))) places (places-are s.tree s.rates laws) in
+    (other, record { each = map-same (port_flow s one) (port_flow s other) places each })

@@ -1,19 +1,22 @@
 -- What is true of every flow.
-use Rattle.std.specs.Prelude.{◌≡◌, ◌≢◌, ℕ, ◌==◌, List, [], ◌∷◌, map, filter, All, AllPairs}
+use Rattle.std.specs.Prelude.{◌≡◌, ◌≢◌, ℕ, ◌+◌, ◌≤◌, ◌==◌, List, [], ◌∷◌, map, filter, filter_map, All, AllPairs}
 use Rattle.credit_shaper.specs.declared.shaper.Traffic.{Traffic}
 use Rattle.credit_shaper.specs.declared.port.Departure.{Departure}
 use Rattle.credit_shaper.specs.declared.port.PortInput.{PortInput}
 use Rattle.credit_shaper.specs.Port.{IsNotAfter, is_of}
 use Rattle.credit_shaper.specs.Departures.{sent_of, left_of, departs_as, DepartInOrder}
+use Rattle.credit_shaper.specs.Bounds.{KeepCaps}
 use Rattle.frame_flow.specs.declared.result.Fate.{Fate}
 use Rattle.frame_flow.specs.declared.result.Fate.TheVariants.{Departed}
 use Rattle.frame_flow.specs.declared.result.PortFlow.{PortFlow}
 use Rattle.frame_flow.specs.declared.place.Place.{Place}
 use Rattle.std.specs.Prelude.{Option}
+use Rattle.srp_base.specs.declared.numbers.EgressPort.{EgressPort}
 use Rattle.srp_base.specs.declared.ports.PortChange.{PortChange}
 use Rattle.credit_shaper.specs.declared.port.SlopeChange.{SlopeChange}
 use Rattle.frame_flow.specs.Force.{first_slopes}
-use Rattle.frame_flow.specs.Copies.{arriving}
+use Rattle.frame_flow.specs.declared.frame.FrameCopy.{FrameCopy}
+use Rattle.frame_flow.specs.Copies.{arriving, copy_of, frames_reaching}
 use Rattle.frame_flow.specs.Flow.{Setting}
 
 -- the numbers of the copies that arrive at a port, in order
@@ -55,3 +58,22 @@ pub record DepartsByArrival (x : PortFlow) : Type 0 where
 -- slopes are those of what is in force: none where nothing is
 abbrev pub HasSlopes : SlopeChange → Option PortChange → Type 0
 HasSlopes e force = (e.slope_a ≡ (first_slopes force).slope_a) × (e.slope_b ≡ (first_slopes force).slope_b)
+
+-- the copies that come to a port, in no order: those of its station's frames, and those that the other
+-- ports' departures give
+abbrev pub coming : Setting → List PortFlow → Place → List FrameCopy
+coming s flows place =
+    filter_map (copy_of s.tree.links s.ticks place) (frames_reaching s.tree.links s.frames flows place.at)
+
+-- each slope of class A is at most the cap of its port
+abbrev pub KeepsCapsA : (EgressPort → ℕ) → List PortChange → Type 0
+KeepsCapsA cap changes = All (λ c. c.slope_a ≤ cap c.at) changes
+
+-- and both slopes together are at most another
+abbrev pub KeepsCaps : (EgressPort → ℕ) → (EgressPort → ℕ) → List PortChange → Type 0
+KeepsCaps cap_a cap_ab changes =
+    All (λ c. (c.slope_a ≤ cap_a c.at) × (c.slope_a + c.slope_b ≤ cap_ab c.at)) changes
+
+-- the slopes that a port's shaper is given keep the port's caps
+abbrev pub HasCaps : (EgressPort → ℕ) → (EgressPort → ℕ) → PortFlow → Type 0
+HasCaps cap_a cap_ab x = KeepCaps (cap_a x.at) (cap_ab x.at) x.input.slopes

@@ -2,6 +2,8 @@
 //! that does nothing; calling it brings the law to a proof.
 
 ghost use Rattle.std.specs.Prelude.{◌≡◌, ℕ, ◌<◌, ◌≤◌, List, map, All};
+ghost use Rattle.std.specs.List.Sorted.{IsPermutation};
+ghost use Rattle.srp_base.specs.declared.numbers.EgressPort.{EgressPort};
 ghost use Rattle.tree_topology.specs.Topology.{IsSound};
 ghost use Rattle.credit_shaper.specs.Port.{IsPortInput, slopes_at};
 ghost use Rattle.credit_shaper.specs.Bounds.{greatest_slope_a, IsWindowAWithin};
@@ -10,10 +12,10 @@ ghost use Rattle.frame_flow.specs.declared.place.Place.{Place};
 ghost use Rattle.frame_flow.specs.declared.frame.FrameCopy.{FrameCopy};
 ghost use Rattle.frame_flow.specs.Moments.{bits_of_ticks, tick_at};
 ghost use Rattle.frame_flow.specs.Force.{changes_at, in_force};
-ghost use Rattle.frame_flow.specs.Copies.{all_places};
+ghost use Rattle.frame_flow.specs.Copies.{all_places, arriving};
 ghost use Rattle.frame_flow.specs.Flow.{Setting, IsFlow, port_input};
-ghost use Rattle.frame_flow.specs.Given.{IsSetting};
-ghost use Rattle.frame_flow.specs.Laws.{arriving_numbers, fate_numbers, AreDifferent, DepartsByArrival, HasOutcomes, HasSlopes};
+ghost use Rattle.frame_flow.specs.Given.{IsSetting, IsInOrder};
+ghost use Rattle.frame_flow.specs.Laws.{arriving_numbers, fate_numbers, AreDifferent, DepartsByArrival, HasOutcomes, HasSlopes, coming, KeepsCapsA, KeepsCaps, HasCaps};
 
 use credit_shaper::laws::{class_a_stays_within_in_every_run, frames_depart_in_order};
 use tree_topology::laws::ports;
@@ -26,6 +28,22 @@ pub fn one_flow()
 {
     ports();
 }
+
+/// A flow fits whatever a flow is asked of over a tree.
+pub fn a_flow_exists()
+    ensures { (s : Setting) → IsSound s.tree → (flows : List PortFlow) × IsFlow s flows }
+{
+    ports();
+}
+
+/// What arrives at a port are the copies that come to it, each as often, in order of bit time, ties by number.
+pub fn copies_arrive_in_order()
+    ensures order { (s : Setting) (flows : List PortFlow) (place : Place)
+        → IsInOrder (arriving s.tree.links s.frames s.ticks flows place) }
+    ensures same { (s : Setting) (flows : List PortFlow) (place : Place)
+        → IsPermutation (coming s flows place)
+        (arriving s.tree.links s.frames s.ticks flows place) }
+{}
 
 /// Each copy that arrives at a port has one fate: the numbers of the fates are those of the copies, in
 /// order of arrival, and no number stands twice at a port.
@@ -52,6 +70,16 @@ pub fn slopes_are_those_in_force()
         → HasSlopes (slopes_at (port_input s.ticks place.rate (changes_at s.changes place.at) copies)
         t)
         (in_force (tick_at place.rate t) (changes_at s.changes place.at)) }
+{}
+
+/// The slopes that a port's shaper is given keep whatever caps the changes at the port keep: a cap on class A's
+/// slope, and one on both together.
+pub fn inputs_keep_the_caps_of_changes()
+    ensures class_a { (s : Setting) (flows : List PortFlow) (cap : EgressPort → ℕ)
+        → KeepsCapsA cap s.changes → IsFlow s flows
+        → All (λ x. All (λ e. e.slope_a ≤ cap x.at) x.input.slopes) flows }
+    ensures both { (s : Setting) (flows : List PortFlow) (cap_a cap_ab : EgressPort → ℕ)
+        → KeepsCaps cap_a cap_ab s.changes → IsFlow s flows → All (HasCaps cap_a cap_ab) flows }
 {}
 
 /// At each port the copies of one traffic depart in order of arrival, ties by frame number.

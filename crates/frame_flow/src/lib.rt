@@ -28,7 +28,8 @@
 //! another, and those of one rate among them share one list of all copies that come to the node: each leaves out
 //! those that came in by itself, and puts what is left in order (`specs/Incoming.antt`).
 //!
-//! Above the condition stand, as laws: each copy has one fate; it departs once where that is its fate, and
+//! Above the condition stand, as laws: over a tree there is one flow; what arrives at a port is what comes to it,
+//! in order; what its shaper is given keeps the caps that the changes keep; each copy has one fate; it departs once where that is its fate, and
 //! else never; the copies of one traffic depart in order of arrival, ties by number; and at every port every
 //! window stays within class A's bound.
 //!

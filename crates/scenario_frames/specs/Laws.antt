@@ -1,13 +1,8 @@
 -- What is true of the flow of every scenario.
-use Rattle.std.specs.Prelude.{ℕ, ◌≤◌, List, All}
+use Rattle.std.specs.Prelude.{ℕ, ◌≤◌}
 use Rattle.srp_base.specs.declared.numbers.EgressPort.{EgressPort}
-use Rattle.srp_base.specs.declared.ports.PortChange.{PortChange}
 use Rattle.credit_shaper.specs.Bounds.{greatest_slope_a, IsWindowAWithin}
 use Rattle.frame_flow.specs.declared.result.PortFlow.{PortFlow}
-
--- each slope of class A is at most the cap of its port
-abbrev pub KeepsCapsA : (EgressPort → ℕ) → List PortChange → Type 0
-KeepsCapsA cap changes = All (λ c. c.slope_a ≤ cap c.at) changes
 
 -- every window at a port stays within class A's bound, with the hiCredit of this slope
 abbrev pub HasWindowsAWithin : ℕ → PortFlow → Type 0

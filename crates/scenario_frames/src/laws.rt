@@ -6,16 +6,20 @@ ghost use Rattle.std.specs.List.{range_with_len};
 ghost use Rattle.srp_base.specs.declared.numbers.EgressPort.{EgressPort};
 ghost use Rattle.srp_base.specs.declared.ports.PortChange.{PortChange};
 ghost use Rattle.frame_flow.specs.declared.result.PortFlow.{PortFlow};
+ghost use Rattle.credit_shaper.specs.Port.{IsPortInput};
 ghost use Rattle.frame_flow.specs.Flow.{IsFlow};
 ghost use Rattle.frame_flow.specs.Given.{IsEarlier, IsSetting};
+ghost use Rattle.frame_flow.specs.Laws.{KeepsCapsA, KeepsCaps, HasCaps};
 ghost use Rattle.topology_file.specs.Frames.{frame_copies};
 ghost use Rattle.topology_file.specs.Plan.{Plan};
 ghost use Rattle.topology_file.specs.Scenario.{KeepsRules};
 ghost use Rattle.scenario_frames.specs.PlanFrames.{plan_frames};
 ghost use Rattle.scenario_frames.specs.Setting.{AreBelowRates, setting_of};
-ghost use Rattle.scenario_frames.specs.Laws.{KeepsCapsA, HasWindowsOfSlopes, HasWindowsOfCap};
+ghost use Rattle.scenario_frames.specs.Laws.{HasWindowsOfSlopes, HasWindowsOfCap};
 
-use frame_flow::laws::class_a_windows_stay_within;
+use frame_flow::laws::{
+    class_a_windows_stay_within, each_input_is_valid, inputs_keep_the_caps_of_changes,
+};
 
 /// A scenario's frames are as many as its copies, and are numbered from 1 in order.
 pub fn frames_are_numbered_from_one()
@@ -47,4 +51,21 @@ pub fn every_window_stays_within()
 {
     a_scenario_asks_a_valid_flow();
     class_a_windows_stay_within();
+    inputs_keep_the_caps_of_changes();
+}
+
+/// In a scenario's flow what each port's shaper is given is in order and in its ranges, and keeps whatever caps the
+/// changes keep: on class A's slope, and on both together.
+pub fn every_input_keeps_its_caps()
+    ensures valid { (plan : Plan) (changes : List PortChange) (flows : List PortFlow)
+        → KeepsRules plan → AllPairs IsEarlier changes → AreBelowRates plan changes
+        → IsFlow (setting_of plan changes) flows → All (λ x. IsPortInput x.input) flows }
+    ensures caps { (plan : Plan) (changes : List PortChange) (cap_a cap_ab : EgressPort → ℕ)
+        (flows : List PortFlow)
+        → KeepsCaps cap_a cap_ab changes → IsFlow (setting_of plan changes) flows
+        → All (HasCaps cap_a cap_ab) flows }
+{
+    a_scenario_asks_a_valid_flow();
+    each_input_is_valid();
+    inputs_keep_the_caps_of_changes();
 }

@@ -22,7 +22,8 @@
 //! these leave two things to ask of a run's timeline: its changes are in order, and at each port both slopes
 //! together are below the rate. The law `a_scenario_asks_a_valid_flow` says that no more is needed, so the
 //! laws of frame_flow hold of each scenario's flow; `every_window_stays_within` says the one on class A's
-//! windows in the words of a scenario, with the greatest slope of each port or with any cap on its slopes.
+//! windows in the words of a scenario, with the greatest slope of each port or with any cap on its slopes, and
+//! `every_input_keeps_its_caps` what a bound on class B asks for: that both caps hold of each port's input.
 //!
 //! To extend it: a new way for a frame of the file to go is a variant of topology_file's `FrameRoute`, an arm
 //! of `way_of` in `way` and its case in `specs/PlanFrames.antt`, and a case of `known-way` in

@@ -9,6 +9,6 @@ returns-clause-slopes c plan changes flows kept order slopes is =
 
 pub returns-clause-caps : goal.returns-clause-caps
 returns-clause-caps c plan changes cap flows kept order slopes keeps is =
-    windows-of-cap (setting_of plan changes) flows cap keeps is
+    windows-of-cap flows cap (c.inputs_keep_the_caps_of_changes.ensures.class_a (setting_of plan changes) flows cap keeps is)
     (c.class_a_windows_stay_within.ensures (setting_of plan changes) flows
     (c.a_scenario_asks_a_valid_flow.ensures plan changes kept order slopes) is)

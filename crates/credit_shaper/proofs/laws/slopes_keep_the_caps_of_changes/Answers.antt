@@ -1,0 +1,9 @@
+use Rattle.credit_shaper.proofs.PortLemmas.{slope_a_below, slope_b_below}
+use Rattle.credit_shaper.proofs.StepLemmas.{slopes_within}
+use Rattle.credit_shaper.proofs.laws.slopes_keep_the_caps_of_changes.Goals as goal
+
+pub returns-clause-caps : goal.returns-clause-caps
+returns-clause-caps c = slopes_within
+
+pub returns-clause-below : goal.returns-clause-below
+returns-clause-below c input t valid = (slope_a_below input t valid, slope_b_below input t valid)

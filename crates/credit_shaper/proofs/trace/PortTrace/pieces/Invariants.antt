@@ -1,0 +1,18 @@
+-- The trace stands for the port at its bit time, and the pieces tile the bit times before it.
+use Rattle.std.proofs.Common.{◌-◌, ◌≡◌, ◌≤◌}
+use Rattle.credit_shaper.specs.Trace.{port_at}
+use Rattle.credit_shaper.specs.Pieces.{ArePieces}
+use Rattle.credit_shaper.specs.Walk.{HasReached, port_of}
+use Rattle.credit_shaper.proofs.trace.PortTrace.pieces.Given as goal
+
+abbrev pub invariant-loop-trace : goal.invariant-loop-trace
+invariant-loop-trace l =
+    record {
+      within : l.trace.bit ≤ l.input.end;
+      reached : HasReached l.input l.trace.bit l.trace;
+      port : port_of l.input.arrivals l.sent.items l.trace ≡ port_at l.input l.trace.bit;
+      pieces : ArePieces l.input 0 l.trace.bit l.pieces.items;
+    }
+
+abbrev pub decreases-loop-trace : goal.decreases-loop-trace
+decreases-loop-trace l = l.input.end - l.trace.bit

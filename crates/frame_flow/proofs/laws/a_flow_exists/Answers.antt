@@ -1,0 +1,5 @@
+use Rattle.frame_flow.proofs.TurnLemmas.{some_flow}
+use Rattle.frame_flow.proofs.laws.a_flow_exists.Goals as goal
+
+pub returns : goal.returns
+returns c s sound = some_flow s (c.ports.ensures s.tree sound)
