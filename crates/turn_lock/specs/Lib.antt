@@ -1,0 +1,9 @@
+pub mod History
+pub mod Rule
+pub mod Steps
+pub mod Calls
+pub mod Turns
+pub mod Passes
+pub mod Closing
+pub mod Laying
+pub mod Refusal
