@@ -1,0 +1,22 @@
+-- Why a hub stays open.
+use Rattle.std.specs.Prelude.{◌≡◌, List}
+use Rattle.turn_lock.specs.Passes.{IsLowestMissing}
+use Rattle.bridge_book.specs.Steps.{Shared}
+use Rattle.bridge_book.specs.Hub.{Hub, PortPass, IsHubLock}
+use Rattle.bridge_book.specs.declared.shared.PortAsk.{PortAsk}
+use Rattle.node_core.specs.declared.types.StepReply.{StepReply}
+use Rattle.turn_lock.specs.declared.close.CloseErr.{CloseErr}
+use Rattle.turn_lock.specs.declared.close.CloseErr.TheVariants as closing
+use Rattle.bridge_book.specs.declared.hub.HubCloseErr.{HubCloseErr}
+use Rattle.bridge_book.specs.declared.hub.HubCloseErr.TheVariants.{MissingPass, NoMemory}
+
+-- what is handed back is what was given; a pass is said to be missing only where it is, and it is the lowest such one
+abbrev pub IsRefusedHub : Hub → List PortPass → HubCloseErr → Type 0
+IsRefusedHub hub passes (MissingPass number hub' passes') =
+    IsLowestMissing hub.lock.passes passes number × (hub' ≡ hub) × (passes' ≡ passes)
+IsRefusedHub hub passes (NoMemory hub' passes') = (hub' ≡ hub) × (passes' ≡ passes)
+
+-- the lock that is handed back is a hub's
+abbrev pub IsOfHub : CloseErr Shared PortAsk StepReply → Type 0
+IsOfHub (closing.MissingPass number lock passes) = IsHubLock lock
+IsOfHub (closing.NoMemory lock passes) = IsHubLock lock
