@@ -1,10 +1,13 @@
 -- What every scenario keeps of its events.
-use Rattle.std.proofs.Common.{◌≡◌, ℕ, suc, zero, ◌+◌, ◌<◌, ◌≤◌, Bool, true, false, if◌then◌else◌, List, [], ◌∷◌, Option, Some, None, option_map, refl, sym, subst, length, leb-true, ltb-true, ltb-false, IfSome, IfOk, arith}
+use Rattle.std.proofs.Common.{◌≡◌, ℕ, suc, zero, ◌+◌, ◌<◌, ◌≤◌, Bool, true, false, if◌then◌else◌, List, [], ◌∷◌, Option, Some, None, option_map, Result, Ok, Err, refl, sym, subst, length, leb-true, ltb-true, ltb-false, IfSome, IfOk, arith}
 use Rattle.std.proofs.lemmas.List.Elements.{All-nil, All-cons, All-weaker, All-map}
 use Rattle.std.specs.Cmp.Lexicographic.{pointwise}
-use Rattle.std.specs.List.{All, list_any}
+use Rattle.std.specs.List.{All, AllByRecursion, list_any}
 use Rattle.std.specs.List.Sorted.{IsNonDecreasing}
-use Rattle.std.specs.Prelude.{nat_le, nat_lt, nat_eq, codes}
+use Rattle.std.specs.Prelude.{nat_le, nat_lt, nat_eq, codes, option_and_then}
+use Rattle.hex.specs.Hex.{decode_of, IsBytes}
+use Rattle.hex.specs.declared.error.FromHexError.{FromHexError}
+use Rattle.hex.proofs.HexLemmas.{decode_of-ok}
 use Rattle.srp_base.specs.declared.numbers.NodeNo.{NodeNo}
 use Rattle.toml.specs.Data.{Members}
 use Rattle.toml_rules.specs.Fields.{number, text, has_only}
@@ -19,7 +22,7 @@ use Rattle.topology_file.specs.declared.entries.EventKind.{EventKind}
 use Rattle.topology_file.specs.declared.entries.EventKind.TheVariants as kinds
 use Rattle.topology_file.specs.Entries.{name_at, node_named, station_named, joins_both}
 use Rattle.topology_file.specs.Events.{tick_at, event_form, form_ticks, event_ticks, event_entry}
-use Rattle.topology_file.specs.Kinds.{vlan_keys, vid_at, vlan_at, talker_keys, talker_at, listener_at, both_named, listener_named, pdu_keys, index_at, joined_named, pdu_at, kind_form, vlan_form, talker_form, pdu_form, IsAtVlan, IsAtPdu, IsStationNumber, IsStreamNumber, IsNotTalker, AreJoinedNumbers, IsKnownKind}
+use Rattle.topology_file.specs.Kinds.{vlan_keys, vid_at, vlan_at, talker_keys, talker_at, listener_at, both_named, listener_named, pdu_keys, index_at, joined_named, known_pdu, pdu_at, forgery_keys, app_at, decoded, octets_of_text, octets_at, forgery_form, kind_form, vlan_form, talker_form, pdu_form, ArePduOctets, IsAtVlan, IsAtPdu, IsStationNumber, IsStreamNumber, IsNotTalker, AreJoinedNumbers, IsKnownKind}
 use Rattle.topology_file.specs.Scenario.{events_of}
 use Rattle.topology_file.specs.Streams.{stream_named, is_talker_of}
 use Rattle.topology_file.proofs.Chains.{and_then-if, map-if, made-if, when-if, unless-if, either-if, some-says, within-range, chain-if, chain-none, ok-all, ok-says, each-all, each-map, each-keeps, alike-length}
@@ -48,14 +51,17 @@ vlan-known nodes ms =
     and_then-if P _ (vid_at ms) (λ vid ev.
     (station-known name nodes, some-says (λ n. (1 ≤ n) × (n ≤ 4094)) (vid_at ms) vid ev (within-range 1 4094 (number (codes "vid") ms))))))
 
-pdu-known : (nodes : List NodeEntry) (links : List LinkEntry) (ms : Members) → IfSome (pdu_at nodes links ms) (λ p. IfSome p.0 (λ x. AreJoinedNumbers nodes links x.0.0 x.1.0) × (p.1 ≤ 65535))
-pdu-known nodes links ms =
+known-pdu-known : (nodes : List NodeEntry) (links : List LinkEntry) (ms : Members) → IfSome (known_pdu nodes links ms) (λ p. IfSome p.0 (λ x. AreJoinedNumbers nodes links x.0.0 x.1.0) × (p.1 ≤ 65535))
+known-pdu-known nodes links ms =
     let P : Option (NodeNo × NodeNo) × ℕ → Type 0 = λ p. IfSome p.0 (λ x. AreJoinedNumbers nodes links x.0.0 x.1.0) × (p.1 ≤ 65535) in
-    when-if P (has_only pdu_keys ms) _ (λ _.
     and_then-if P _ (name_at (codes "from") ms) (λ from ef.
     and_then-if P _ (name_at (codes "to") ms) (λ to et.
     and_then-if P _ (index_at ms) (λ index ei.
-    (joined-known nodes links from to, (some-says (λ n. (0 ≤ n) × (n ≤ 65535)) (index_at ms) index ei (within-range 0 65535 (number (codes "index") ms))).1)))))
+    (joined-known nodes links from to, (some-says (λ n. (0 ≤ n) × (n ≤ 65535)) (index_at ms) index ei (within-range 0 65535 (number (codes "index") ms))).1))))
+
+pdu-known : (nodes : List NodeEntry) (links : List LinkEntry) (ms : Members) → IfSome (pdu_at nodes links ms) (λ p. IfSome p.0 (λ x. AreJoinedNumbers nodes links x.0.0 x.1.0) × (p.1 ≤ 65535))
+pdu-known nodes links ms =
+    when-if (λ p. IfSome p.0 (λ x. AreJoinedNumbers nodes links x.0.0 x.1.0) × (p.1 ≤ 65535)) (has_only pdu_keys ms) (known_pdu nodes links ms) (λ _. known-pdu-known nodes links ms)
 
 -- what is made of parts that may be missing has what the parts have
 parts-if : {A : Type 0} (Part : A → Type 0) (Number : ℕ → Type 0) (P : EventKind → Type 0) (kind : A → ℕ → EventKind) (o : Option (Option A × ℕ))
@@ -64,6 +70,41 @@ parts-if : {A : Type 0} (Part : A → Type 0) (Number : ℕ → Type 0) (P : Eve
 parts-if Part Number P kind None h all = tt
 parts-if Part Number P kind (Some (None, n)) h all = tt
 parts-if Part Number P kind (Some (Some x, n)) h all = h x n all.0 all.1
+
+-- ---- forged PDUs
+
+-- octets that stand at each place stand by recursion
+octets-each : (octets : List ℕ) → IsBytes octets → AllByRecursion (λ o. o < 256) octets
+octets-each [] h = tt
+octets-each (o ∷ octets) h = (h 0, octets-each octets (λ i. h (suc i)))
+
+octets-known : (digits : List ℕ) → IfSome (octets_of_text digits) ArePduOctets
+octets-known digits = when-if ArePduOctets (nat_le (length digits) 3000) (decoded (decode_of digits)) (λ few. by few (decode_of digits) refl)
+  where
+    by : nat_le (length digits) 3000 ≡ true → (r : Result (List ℕ) FromHexError) → decode_of digits ≡ r → IfSome (decoded r) ArePduOctets
+    by few (Ok octets) e =
+        let ok = decode_of-ok digits octets e in
+        let most = leb-true (length digits) 3000 few in
+        let twice = ok.2 in
+        (omega (arith, most, twice), octets-each octets ok.3)
+    by few (Err x) e = tt
+
+forgery-known : (nodes : List NodeEntry) (links : List LinkEntry) (streams : List StreamEntry) (ms : Members) → IfSome (forgery_form nodes links ms) (λ k. IfSome k (IsKnownKind nodes links streams))
+forgery-known nodes links streams ms =
+    let K = IsKnownKind nodes links streams in
+    let P : Option EventKind → Type 0 = λ k. IfSome k K in
+    let Q : Option (NodeNo × NodeNo) × ℕ → Type 0 = λ p. IfSome p.0 (λ x. AreJoinedNumbers nodes links x.0.0 x.1.0) × (p.1 ≤ 65535) in
+    when-if P (has_only forgery_keys ms) _ (λ _.
+    and_then-if P _ (known_pdu nodes links ms) (λ p ep.
+    and_then-if P _ (app_at ms) (λ app ea.
+    and_then-if P _ (octets_at ms) (λ octets eo.
+    (let at = some-says Q (known_pdu nodes links ms) p ep (known-pdu-known nodes links ms) in
+    let are = some-says ArePduOctets (octets_at ms) octets eo (at-key (text (codes "octets") ms)) in
+    map-if K _ p.0 (λ x ex. ((some-says (λ y. AreJoinedNumbers nodes links y.0.0 y.1.0) p.0 x ex at.0, at.1), are)))))))
+  where
+    at-key : (o : Option (List ℕ)) → IfSome (option_and_then octets_of_text o) ArePduOctets
+    at-key None = tt
+    at-key (Some digits) = octets-known digits
 
 -- ---- talkers and listeners
 
@@ -132,7 +173,8 @@ kind-known nodes links streams ms word =
     either-if P (is (codes "listen")) _ _ (named-if (AreListener nodes streams) K kinds.Listen (listener_named nodes streams) ms (listener-known nodes streams) (λ p h. h)) (
     either-if P (is (codes "unlisten")) _ _ (named-if (AreBoth nodes streams) K kinds.Unlisten (both_named nodes streams) ms (both-known nodes streams) (λ p h. h)) (
     either-if P (is (codes "lose")) _ _ (at-pdu kinds.Lose (λ x y n h. h)) (
-    either-if P (is (codes "repeat")) _ _ (at-pdu kinds.Repeat (λ x y n h. h)) tt)))))))
+    either-if P (is (codes "repeat")) _ _ (at-pdu kinds.Repeat (λ x y n h. h)) (
+    either-if P (is (codes "forge")) _ _ (forgery-known nodes links streams ms) tt))))))))
   where
     at-vlan : (kind : NodeNo → ℕ → EventKind) → ((x : NodeNo) (n : ℕ) → IsAtVlan nodes x.0 n → IsKnownKind nodes links streams (kind x n)) → IfSome (vlan_form kind nodes ms) (λ k. IfSome k (IsKnownKind nodes links streams))
     at-vlan kind make =

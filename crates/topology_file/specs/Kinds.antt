@@ -1,12 +1,16 @@
 -- The kinds of events: the keys of each, what it names, and what is known of what it names. A kind is a case
 -- of `kind_form` and of `IsKnownKind`.
-use Rattle.std.specs.Prelude.{◌≡◌, ◌≢◌, ◌≤◌, ◌-◌, ℕ, true, nat_eq, if◌then◌else◌, List, [], ◌∷◌, length, codes, Option, Some, None, option_map}
+use Rattle.std.specs.Prelude.{◌≡◌, ◌≢◌, ◌≤◌, ◌<◌, ◌-◌, nat_le, ℕ, true, nat_eq, if◌then◌else◌, List, [], ◌∷◌, length, codes, Option, Some, None, option_map, option_and_then, Result, Ok, Err}
 use Rattle.std.specs.Cmp.Lexicographic.{pointwise}
-use Rattle.std.specs.List.{list_any}
+use Rattle.std.specs.List.{AllByRecursion, list_any}
 use Rattle.std.proofs.Common.{get_or}
 use Rattle.srp_base.specs.declared.numbers.NodeNo.{NodeNo}
+use Rattle.srp_base.specs.declared.mrp.App.{App}
+use Rattle.srp_base.specs.declared.mrp.App.TheVariants.{Mvrp, Msrp}
+use Rattle.hex.specs.Hex.{decode_of}
+use Rattle.hex.specs.declared.error.FromHexError.{FromHexError}
 use Rattle.toml.specs.Data.{Members}
-use Rattle.toml_rules.specs.Fields.{◌>>=◌, number, within, has_only}
+use Rattle.toml_rules.specs.Fields.{◌>>=◌, number, text, within, has_only}
 use Rattle.tree_topology.specs.Graph.{IsNode}
 use Rattle.topology_file.specs.declared.entries.NodeEntry.{NodeEntry}
 use Rattle.topology_file.specs.declared.entries.LinkEntry.{LinkEntry}
@@ -127,6 +131,48 @@ pdu_at nodes links ms = if has_only pdu_keys ms then known_pdu nodes links ms el
 abbrev pub pdu_form : (NodeNo → NodeNo → ℕ → EventKind) → List NodeEntry → List LinkEntry → Members → Option (Option EventKind)
 pdu_form kind nodes links ms = option_map (λ p. option_map (λ x. kind x.0 x.1 p.1) p.0) (pdu_at nodes links ms)
 
+-- ---- a PDU that no neighbour sent
+
+-- what an event on a link says of such a PDU: as of one that waits, with its application and its octets
+abbrev pub forgery_keys : List (List ℕ)
+forgery_keys = codes "tick" ∷ codes "kind" ∷ codes "from" ∷ codes "to" ∷ codes "index" ∷ codes "app" ∷ codes "octets" ∷ []
+
+-- an application, by its word
+abbrev pub app_of_text : List ℕ → Option App
+app_of_text word =
+    if pointwise nat_eq word (codes "mvrp") then Some Mvrp
+    else if pointwise nat_eq word (codes "msrp") then Some Msrp
+    else None
+
+-- "mvrp" or "msrp"
+abbrev pub app_at : Members → Option App
+app_at ms = option_and_then app_of_text (text (codes "app") ms)
+
+-- what was decoded, if it was
+abbrev pub decoded : Result (List ℕ) FromHexError → Option (List ℕ)
+decoded (Ok octets) = Some octets
+decoded (Err e) = None
+
+-- the octets that at most 3,000 hexadecimal digits of either case spell, two digits an octet, so 1,500 octets at most
+abbrev pub octets_of_text : List ℕ → Option (List ℕ)
+octets_of_text digits = if nat_le (length digits) 3000 then decoded (decode_of digits) else None
+
+-- the octets at their key; they may be none
+abbrev pub octets_at : Members → Option (List ℕ)
+octets_at ms = option_and_then octets_of_text (text (codes "octets") ms)
+
+-- a PDU of an application at an index, missing where no link joins nodes of these names
+abbrev pub known_forgery : List NodeEntry → List LinkEntry → Members → Option (Option EventKind)
+known_forgery nodes links ms = do
+  p ← known_pdu nodes links ms
+  app ← app_at ms
+  octets ← octets_at ms
+  Some (option_map (λ x. kinds.Forge x.0 x.1 p.1 app octets) p.0)
+
+-- the same, of an event with exactly these keys
+abbrev pub forgery_form : List NodeEntry → List LinkEntry → Members → Option (Option EventKind)
+forgery_form nodes links ms = if has_only forgery_keys ms then known_forgery nodes links ms else None
+
 -- ---- the kinds
 
 -- what happens, by the word of its kind, each with exactly its keys; missing where what it names isn't there
@@ -140,6 +186,7 @@ kind_form nodes links streams ms word =
     else if pointwise nat_eq word (codes "unlisten") then listener_form kinds.Unlisten (both_named nodes streams) ms
     else if pointwise nat_eq word (codes "lose") then pdu_form kinds.Lose nodes links ms
     else if pointwise nat_eq word (codes "repeat") then pdu_form kinds.Repeat nodes links ms
+    else if pointwise nat_eq word (codes "forge") then forgery_form nodes links ms
     else None
 
 -- ---- what is known of them
@@ -169,6 +216,10 @@ AreJoinedNumbers nodes links x y =
 abbrev pub IsAtPdu : List NodeEntry → List LinkEntry → ℕ → ℕ → ℕ → Type 0
 IsAtPdu nodes links x y index = AreJoinedNumbers nodes links x y × (index ≤ 65535)
 
+-- the octets of a PDU, which a frame of 802.3 holds
+abbrev pub ArePduOctets : List ℕ → Type 0
+ArePduOctets octets = (length octets ≤ 1500) × AllByRecursion (λ o. o < 256) octets
+
 -- the numbers in an event have their ranges, and are what its kind speaks of
 abbrev pub IsKnownKind : List NodeEntry → List LinkEntry → List StreamEntry → EventKind → Type 0
 IsKnownKind nodes links streams (kinds.Declare station vid) = IsAtVlan nodes station.0 vid
@@ -179,3 +230,4 @@ IsKnownKind nodes links streams (kinds.Listen station stream) = IsStationNumber 
 IsKnownKind nodes links streams (kinds.Unlisten station stream) = IsStationNumber nodes station.0 × IsStreamNumber streams stream
 IsKnownKind nodes links streams (kinds.Lose from to index) = IsAtPdu nodes links from.0 to.0 index
 IsKnownKind nodes links streams (kinds.Repeat from to index) = IsAtPdu nodes links from.0 to.0 index
+IsKnownKind nodes links streams (kinds.Forge from to index app octets) = IsAtPdu nodes links from.0 to.0 index × ArePduOctets octets

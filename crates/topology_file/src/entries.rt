@@ -1,7 +1,7 @@
 //! The entries of a scenario: nodes, links, streams, events and frames, with defaults filled in and names
 //! replaced by numbers.
 
-use srp_base::{BridgeId, Mac, NodeNo, Percent, Priority, Rank, Rate, Seq, StreamId, Vid};
+use srp_base::{App, BridgeId, Mac, NodeNo, Percent, Priority, Rank, Rate, Seq, StreamId, Vid};
 use tree_topology::NodeKind;
 
 /// A node.
@@ -56,7 +56,7 @@ pub struct StreamEntry {
 }
 
 /// An event of a tick.
-#[derive(Clone, Copy, PartialEq, Eq)]
+#[derive(PartialEq, Eq, Drop)]
 pub struct EventEntry {
     /// The tick in cs from the start, below the scenario's ticks.
     pub tick: u64,
@@ -64,7 +64,7 @@ pub struct EventEntry {
 }
 
 /// What happens. A stream is named by its entry's number, from 1.
-#[derive(Clone, Copy, PartialEq, Eq)]
+#[derive(Clone, PartialEq, Eq, Drop)]
 pub enum EventKind {
     /// A station's application declares a VID.
     Declare {
@@ -105,6 +105,14 @@ pub enum EventKind {
         from: NodeNo,
         to: NodeNo,
         index: u32,
+    },
+    /// A PDU that `from` didn't send stands at this index, of an application, of at most 1,500 octets.
+    Forge {
+        from: NodeNo,
+        to: NodeNo,
+        index: u32,
+        app: App,
+        octets: Seq<u8>,
     },
 }
 
@@ -152,7 +160,7 @@ pub(crate) struct StreamForm {
 }
 
 /// An event entry that has its form; what happens is missing where what it names isn't there.
-#[derive(Clone, Copy)]
+#[derive(Drop)]
 pub(crate) struct EventForm {
     pub(crate) tick: u64,
     pub(crate) kind: Option<EventKind>,

@@ -1,6 +1,6 @@
 //! The events of a scenario: rules 20 to 22.
 
-ghost use Rattle.std.specs.Prelude.{◌≡◌, ◌≤◌, map, length};
+ghost use Rattle.std.specs.Prelude.{◌≡◌, ◌≤◌, map, length, IfOk};
 ghost use Rattle.toml.specs.View.{table_view};
 ghost use Rattle.toml_rules.specs.Rules.{Reads, each_entry as each_entry_spec, first_fall as first_fall_spec};
 ghost use Rattle.topology_file.specs.Events.{known_event, event_form, event_entry, form_ticks};
@@ -9,26 +9,33 @@ ghost use Rattle.topology_file.specs.Scenario.{events_of};
 use crate::entries::{EventEntry, EventForm, LinkEntry, NodeEntry, StreamEntry};
 use crate::forms::read_tick;
 use crate::kinds::read_kind;
+use srp_base::NoMemory;
 use std::alloc::Global;
 use toml::Table;
 use toml_rules::{RuleErr, each_entry, each_table, first_fall, no_entry, text};
 
 /// The event of an entry among the first 10,000, where it has its form.
 fn read_known_event(
+    alloc: Global,
     ticks: u64,
     nodes: &[NodeEntry],
     links: &[LinkEntry],
     streams: &[StreamEntry],
     table: &Table,
-) -> Option<EventForm>
+) -> Result<Option<EventForm>, NoMemory>
     requires nodes { length nodes.now ≤ 64 }
     requires streams { length streams.now ≤ 128 }
-    ensures { result ≡ known_event ticks nodes.now links.now streams.now (table_view table.now) }
+    ensures { IfOk result (λ form. form
+        ≡ known_event ticks nodes.now links.now streams.now (table_view table.now)) }
 {
-    let tick = read_tick(ticks, table)?;
-    let word = text(table, "kind")?;
-    let kind = read_kind(nodes, links, streams, table, word)?;
-    Some(EventForm { tick, kind })
+    let Some(tick) = read_tick(ticks, table) else {
+        return Ok(None);
+    };
+    let Some(word) = text(table, "kind") else {
+        return Ok(None);
+    };
+    let kind = read_kind(alloc, nodes, links, streams, table, word)?;
+    Ok(kind.map(|kind| EventForm { tick, kind }))
 }
 
 /// The most events of a scenario.
@@ -36,22 +43,23 @@ const MOST_EVENTS: usize = 10_000;
 
 /// The event of an entry with this number, where it has its form.
 fn read_event(
+    alloc: Global,
     ticks: u64,
     nodes: &[NodeEntry],
     links: &[LinkEntry],
     streams: &[StreamEntry],
     number: usize,
     table: &Table,
-) -> Option<EventForm>
+) -> Result<Option<EventForm>, NoMemory>
     requires nodes { length nodes.now ≤ 64 }
     requires streams { length streams.now ≤ 128 }
-    ensures { result
-        ≡ event_form ticks nodes.now links.now streams.now number (table_view table.now) }
+    ensures { IfOk result (λ form. form
+        ≡ event_form ticks nodes.now links.now streams.now number (table_view table.now)) }
 {
     if number <= MOST_EVENTS {
-        read_known_event(ticks, nodes, links, streams, table)
+        read_known_event(alloc, ticks, nodes, links, streams, table)
     } else {
-        None
+        Ok(None)
     }
 }
 
@@ -71,7 +79,7 @@ fn read_forms(
         (map (λ t. table_view t.now) entries.now)) }
 {
     each_table(alloc, 20, entries, |number, table| {
-        Ok(read_event(ticks, nodes, links, streams, number, table))
+        read_event(alloc, ticks, nodes, links, streams, number, table)
     })
 }
 
@@ -83,21 +91,23 @@ fn falling_event(forms: &[EventForm]) -> Option<usize>
 }
 
 /// The event of a form, where what it names is known.
-fn named_event(form: &EventForm) -> Option<EventEntry>
-    ensures { result ≡ event_entry 0 form.now }
+fn named_event(form: &EventForm) -> Result<Option<EventEntry>, NoMemory>
+    ensures { IfOk result (λ event. event ≡ event_entry 0 form.now) }
 {
-    let kind = form.kind?;
-    Some(EventEntry {
-        tick: form.tick,
-        kind,
-    })
+    match &form.kind {
+        Some(kind) => Ok(Some(EventEntry {
+            tick: form.tick,
+            kind: kind.clone()?,
+        })),
+        None => Ok(None),
+    }
 }
 
 /// Rule 22: the names in events are known.
 fn named_events(alloc: Global, forms: &[EventForm]) -> Result<Vec<EventEntry>, RuleErr>
     ensures { Reads (λ v. v.items) result (each_entry_spec 22 event_entry 1 forms.now) }
 {
-    each_entry(alloc, 22, forms, |_, form| Ok(named_event(form)))
+    each_entry(alloc, 22, forms, |_, form| named_event(form))
 }
 
 /// The events of the entries: rules 20 to 22.

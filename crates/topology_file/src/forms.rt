@@ -1,14 +1,16 @@
 //! The form of each entry: its keys, their values and their defaults.
 
-ghost use Rattle.std.specs.Prelude.{◌≡◌};
+ghost use Rattle.std.specs.Prelude.{◌≡◌, IfOk};
 ghost use Rattle.std.specs.Option.{option_copied};
 ghost use Rattle.toml.specs.View.{table_view};
 ghost use Rattle.topology_file.specs.Entries.{is_name_char as is_name_char_spec, is_name as is_name_spec, name_at, kind_of_text, kind_at, id_at, rate_at, latency_at};
 ghost use Rattle.topology_file.specs.Events.{tick_at};
-ghost use Rattle.topology_file.specs.Kinds.{vid_at, index_at};
+ghost use Rattle.topology_file.specs.Kinds.{vid_at, index_at, app_of_text, app_at, octets_of_text, octets_at};
 ghost use Rattle.std.specs.List.{list_all};
 
-use srp_base::{Rate, Vid, read_hex16};
+use hex::FromHexError;
+use srp_base::{App, NoMemory, Rate, Seq, Vid, read_hex16};
+use std::alloc::Global;
 use toml::Table;
 use toml_rules::{number, number_or, text, value_at, within};
 use tree_topology::NodeKind;
@@ -101,6 +103,48 @@ pub(crate) fn read_index(table: &Table) -> Option<u32>
     match within(0, 65_535, number(table, "index")) {
         Some(n) => Some(n as u32),
         None => None,
+    }
+}
+
+fn app_of(word: &str) -> Option<App>
+    ensures { result ≡ app_of_text word.now }
+{
+    match word {
+        "mvrp" => Some(App::Mvrp),
+        "msrp" => Some(App::Msrp),
+        _ => None,
+    }
+}
+
+pub(crate) fn read_app(table: &Table) -> Option<App>
+    ensures { result ≡ app_at (table_view table.now) }
+{
+    app_of(text(table, "app")?)
+}
+
+/// The most octets of a PDU.
+const MOST_OCTETS: usize = 1_500;
+
+/// The octets that digits spell, 1,500 of them at most.
+fn octets_of(alloc: Global, digits: &str) -> Result<Option<Seq<u8>>, NoMemory>
+    ensures { IfOk result (λ octets. octets ≡ octets_of_text digits.now) }
+{
+    if digits.len() > 2 * MOST_OCTETS {
+        return Ok(None);
+    }
+    match hex::decode(alloc, digits) {
+        Ok(octets) => Ok(Some(Seq::from_vec(octets))),
+        Err(FromHexError::OutOfMemory) => Err(NoMemory),
+        Err(_) => Ok(None),
+    }
+}
+
+pub(crate) fn read_octets(alloc: Global, table: &Table) -> Result<Option<Seq<u8>>, NoMemory>
+    ensures { IfOk result (λ octets. octets ≡ octets_at (table_view table.now)) }
+{
+    match text(table, "octets") {
+        Some(digits) => octets_of(alloc, digits),
+        None => Ok(None),
     }
 }
 

@@ -1,17 +1,18 @@
 //! The kinds of events: the keys of each, and what it names. A kind is a reader and its arm of
 //! `read_kind`.
 
-ghost use Rattle.std.specs.Prelude.{◌≡◌, ◌≤◌, length, option_map};
+ghost use Rattle.std.specs.Prelude.{◌≡◌, ◌≤◌, length, option_map, IfOk};
 ghost use Rattle.toml.specs.View.{table_view};
-ghost use Rattle.topology_file.specs.Kinds.{known_vlan, vlan_at, known_talker, talker_at, known_listener, listener_at, both_named as both_named_spec, listener_named as listener_named_spec, joined_named, known_pdu, pdu_at, vlan_form, talker_form, listener_form, pdu_form, kind_form};
+ghost use Rattle.topology_file.specs.Kinds.{known_vlan, vlan_at, known_talker, talker_at, known_listener, listener_at, both_named as both_named_spec, listener_named as listener_named_spec, joined_named, known_pdu, pdu_at, vlan_form, talker_form, listener_form, pdu_form, known_forgery, forgery_form, kind_form};
 ghost use Rattle.topology_file.specs.declared.entries.EventKind.TheVariants.{Declare, Withdraw, Talk, Hush, Listen, Unlisten, Lose, Repeat};
 
 use crate::entries::{EventKind, LinkEntry, NodeEntry, StreamEntry};
-use crate::forms::{read_index, read_name, read_vid};
+use crate::forms::{read_app, read_index, read_name, read_octets, read_vid};
 use crate::links::are_joined;
 use crate::nodes::{node_named, station_named};
 use crate::streams::{is_talker_of, stream_named};
-use srp_base::{NodeNo, Vid};
+use srp_base::{NoMemory, NodeNo, Vid};
+use std::alloc::Global;
 use toml::Table;
 use toml_rules::has_only;
 
@@ -254,28 +255,85 @@ fn read_repeat(nodes: &[NodeEntry], links: &[LinkEntry], table: &Table) -> Optio
     Some(ends.map(|(from, to)| EventKind::Repeat { from, to, index }))
 }
 
+/// A PDU is forged: two nodes, missing where no link joins nodes of these names, an index, an application and
+/// octets, at keys that are known.
+fn read_known_forgery(
+    alloc: Global,
+    nodes: &[NodeEntry],
+    links: &[LinkEntry],
+    table: &Table,
+) -> Result<Option<Option<EventKind>>, NoMemory>
+    requires { length nodes.now ≤ 64 }
+    ensures { IfOk result (λ kind. kind ≡ known_forgery nodes.now links.now (table_view table.now)) }
+{
+    let Some((ends, index)) = read_known_pdu(nodes, links, table) else {
+        return Ok(None);
+    };
+    let Some(app) = read_app(table) else {
+        return Ok(None);
+    };
+    let Some(octets) = read_octets(alloc, table)? else {
+        return Ok(None);
+    };
+    match ends {
+        Some((from, to)) => Ok(Some(Some(EventKind::Forge {
+            from,
+            to,
+            index,
+            app,
+            octets,
+        }))),
+        None => Ok(Some(None)),
+    }
+}
+
+const FORGERY_KEYS: [&str; 7] = ["tick", "kind", "from", "to", "index", "app", "octets"];
+
+fn read_forge(
+    alloc: Global,
+    nodes: &[NodeEntry],
+    links: &[LinkEntry],
+    table: &Table,
+) -> Result<Option<Option<EventKind>>, NoMemory>
+    requires { length nodes.now ≤ 64 }
+    ensures { IfOk result (λ kind. kind ≡ forgery_form nodes.now links.now (table_view table.now)) }
+{
+    if has_only(table, &FORGERY_KEYS) {
+        read_known_forgery(alloc, nodes, links, table)
+    } else {
+        Ok(None)
+    }
+}
+
 /// What happens, by the word of its kind, each with exactly its keys; missing where what it names
 /// isn't there.
+///
+/// # Errors
+///
+/// `NoMemory` alone.
 pub(crate) fn read_kind(
+    alloc: Global,
     nodes: &[NodeEntry],
     links: &[LinkEntry],
     streams: &[StreamEntry],
     table: &Table,
     word: &str,
-) -> Option<Option<EventKind>>
+) -> Result<Option<Option<EventKind>>, NoMemory>
     requires nodes { length nodes.now ≤ 64 }
     requires streams { length streams.now ≤ 128 }
-    ensures { result ≡ kind_form nodes.now links.now streams.now (table_view table.now) word.now }
+    ensures { IfOk result (λ kind. kind
+        ≡ kind_form nodes.now links.now streams.now (table_view table.now) word.now) }
 {
     match word {
-        "declare" => read_declare(nodes, table),
-        "withdraw" => read_withdraw(nodes, table),
-        "talk" => read_talk(streams, table),
-        "hush" => read_hush(streams, table),
-        "listen" => read_listen(nodes, streams, table),
-        "unlisten" => read_unlisten(nodes, streams, table),
-        "lose" => read_lose(nodes, links, table),
-        "repeat" => read_repeat(nodes, links, table),
-        _ => None,
+        "declare" => Ok(read_declare(nodes, table)),
+        "withdraw" => Ok(read_withdraw(nodes, table)),
+        "talk" => Ok(read_talk(streams, table)),
+        "hush" => Ok(read_hush(streams, table)),
+        "listen" => Ok(read_listen(nodes, streams, table)),
+        "unlisten" => Ok(read_unlisten(nodes, streams, table)),
+        "lose" => Ok(read_lose(nodes, links, table)),
+        "repeat" => Ok(read_repeat(nodes, links, table)),
+        "forge" => read_forge(alloc, nodes, links, table),
+        _ => Ok(None),
     }
 }
