@@ -1,12 +1,12 @@
 //! A station declares VID 10, and what it says goes through a bridge of two ports; a station talks
-//! a stream, and another listens; and a PDU is lost, another comes twice, and the timers of a port
-//! that is spoilt are due.
+//! a stream, and another listens; a PDU is lost, another comes twice, and the timers of a port
+//! that is spoilt are due; and one is forged.
 //!
 //! The calls stand in functions of their own without contracts, each of which asks first whether
 //! the node has the port, so that a test's own proof is short.
 
 ghost use Rattle.std.specs.Prelude.{◌≡◌, ◌≤◌, ◌+◌, true, IfSome};
-ghost use Rattle.mvrp.specs.Side.{IsLinkPort};
+ghost use Rattle.attribute_propagation.specs.Ports.{IsLinkPort};
 ghost use Rattle.node_core.specs.State.{ports_of};
 
 use msrp_codec::{MsrpContent, MsrpKey};
@@ -149,7 +149,7 @@ fn shows(
     (vid, registrar): (Vid, Registrar),
 ) -> bool {
     has(node, port)
-        && node.waiting(port) == count
+        && node.pending_pdus(port) == count
         && node.app_at(port, 0) == app
         && node.registrar(port, NodeKey::Vlan(vid)) == registrar
 }
@@ -378,6 +378,45 @@ fn leaves_new(alloc: Global) -> bool {
     left
 }
 
+// ---- a PDU that no neighbour sent
+
+// Whether a PDU of MVRP with these octets came to stand at an index in the inbox of port 1; None where
+// memory ran out.
+fn is_forged(alloc: Global, node: &mut Node, index: u32, octets: &[u8]) -> Option<bool> {
+    if !has(node, ONE) || 1500 < octets.len() {
+        return None;
+    }
+    let octets = Seq::from_vec(Vec::from_slice(alloc, octets).ok()?);
+    let app = App::Mvrp;
+    node.forge(ONE, index, Wire { app, octets }).ok()
+}
+
+// Whether none comes to stand past those that wait.
+fn misses(alloc: Global, bridge: &mut Node) -> bool {
+    is_forged(alloc, bridge, 1, &LEAVE) == Some(false)
+}
+
+// Whether a malformed one comes to stand before a PDU that waits, and is taken before it.
+fn is_taken_first(alloc: Global, bridge: &mut Node) -> bool {
+    hears_pdu(alloc, bridge, &JOIN)
+        && is_forged(alloc, bridge, 0, &BROKEN) == Some(true)
+        && answers(
+            bridge,
+            ONE,
+            [(Work, Discarded(2)), (Work, Received(1))].as_slice(),
+        )
+}
+
+fn forges_new(alloc: Global) -> bool {
+    let mut bridge = new_bridge(alloc);
+    let forged = match &mut bridge {
+        Some(bridge) => misses(alloc, bridge) && is_taken_first(alloc, bridge),
+        None => false,
+    };
+    drop(bridge);
+    forged
+}
+
 // ---- a stream from one station to another
 
 // A Talker of a stream: one frame of 200 octets in each interval of class A, so 15,488,000 bit/s.
@@ -553,6 +592,11 @@ fn a_vid_goes_from_a_station_through_a_bridge(rt: HostRuntime) {
 #[test]
 fn a_stream_is_booked_where_a_station_listens(rt: HostRuntime) {
     assert!(rt; books_new(rt.alloc()));
+}
+
+#[test]
+fn a_forged_pdu_is_taken_at_its_place(rt: HostRuntime) {
+    assert!(rt; forges_new(rt.alloc()));
 }
 
 #[test]

@@ -3,7 +3,7 @@
 //! The calls stand in functions of their own without contracts, so that a test's own proof is short.
 
 ghost use Rattle.std.specs.Prelude.{◌≡◌, length, IfSome};
-ghost use Rattle.mvrp.specs.Side.{IsLinkPort};
+ghost use Rattle.attribute_propagation.specs.Ports.{IsLinkPort};
 
 use mvrp::MvrpSide;
 use srp_base::{Cs, NoMemory, Percent, PortNo, PortSetup, Rate, Vid};

@@ -13,7 +13,7 @@ use Rattle.mrp_participant.specs.State.{new_state}
 use Rattle.mvrp.specs.Side.{Vlans, IsKept, new_vlans}
 use Rattle.msrp.specs.Side.{Streams, IsKept as IsKeptStreams, new_port, new_streams}
 use Rattle.node_core.specs.declared.types.Wire.{Wire}
-use Rattle.node_core.specs.Wires.{IsShort, AreShort, without}
+use Rattle.node_core.specs.Wires.{IsShort, AreShort, without, with_wire}
 use Rattle.node_core.specs.State.{NodeState, box_at}
 use Rattle.node_core.specs.Links.{IsKeptNode}
 
@@ -61,12 +61,24 @@ each_repeated P i [] h = nil i
 each_repeated P zero (x ∷ xs) h = (h.0, (h.0, h.1))
 each_repeated P (suc i) (x ∷ xs) h = (h.0, each_repeated P i xs h.1)
 
+pub each_with : (P : Wire → Type 0) (i : ℕ) (x : Wire) (xs : List Wire) → P x → AllByRecursion P xs → AllByRecursion P (with_wire i x xs)
+each_with P i x [] px h = nil i
+  where
+    nil : (j : ℕ) → AllByRecursion P (with_wire j x [])
+    nil zero = (px, tt)
+    nil (suc j) = (px, tt)
+each_with P zero x (y ∷ xs) px h = (px, h)
+each_with P (suc i) x (y ∷ xs) px h = (h.0, each_with P i x xs px h.1)
+
 pub each_new : {X : Type 0} (P : Wire → Type 0) (xs : List X) → AllByRecursion (AllByRecursion P) (map (λ _. []) xs)
 each_new P [] = tt
 each_new P (x ∷ xs) = (tt, each_new P xs)
 
 pub short_repeated : (i : ℕ) (xs : List Wire) → AreShort xs → AreShort (with_repeat i xs)
 short_repeated i xs h = each_repeated IsShort i xs h
+
+pub short_with : (i : ℕ) (x : Wire) (xs : List Wire) → IsShort x → AreShort xs → AreShort (with_wire i x xs)
+short_with i x xs hx h = each_with IsShort i x xs hx h
 
 -- a copy right before its original is one right behind it
 pub insert_repeated : (xs : List Wire) (i : ℕ) (d : Wire) → i < length xs → insert xs i (slice_index_or xs i d) ≡ with_repeat i xs

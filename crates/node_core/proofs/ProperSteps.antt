@@ -24,7 +24,8 @@ use Rattle.msrp_codec.specs.Meaning.{msrp_reading}
 use Rattle.msrp_codec.specs.Writing.{AreInRange, as_written, msrp_spelling}
 use Rattle.mrp_participant.specs.State.{AreRows, is_silent, new_state}
 use Rattle.mvrp.specs.Part.{Part, pdu_sent}
-use Rattle.mvrp.specs.Side.{Vlans, IsWritten, place_of, new_vlans, received_vlans, due_vlans, left_vlans, leave_all_vlans, periodic_vlans, spoilt_vlans, settled_vlans, sent_vlans, requested_vlans}
+use Rattle.attribute_propagation.specs.Ports.{place_of}
+use Rattle.mvrp.specs.Side.{Vlans, IsWritten, new_vlans, received_vlans, due_vlans, left_vlans, leave_all_vlans, periodic_vlans, spoilt_vlans, settled_vlans, sent_vlans, requested_vlans}
 use Rattle.mvrp.specs.Vids.{IsVid, HasVidRows, IsProper}
 use Rattle.msrp.specs.declared.port.Port.{Port as SrpPort}
 use Rattle.msrp.specs.declared.asking.SrpRequest.{SrpRequest}
@@ -39,14 +40,14 @@ use Rattle.node_core.specs.declared.types.PortStep.{PortStep}
 use Rattle.node_core.specs.declared.types.PortStep.TheVariants.{Work, LeaveNow, LeaveAllNow, PeriodicNow, Due, Settle, Send}
 use Rattle.node_core.specs.declared.types.NodeEvent.{NodeEvent}
 use Rattle.node_core.specs.declared.types.NodeEvent.TheVariants.{Request, Port, Clock}
-use Rattle.node_core.specs.Wires.{IsShort, AreShort, without}
+use Rattle.node_core.specs.Wires.{IsShort, AreShort, without, with_wire}
 use Rattle.node_core.specs.State.{NodeState, box_at, new_node}
 use Rattle.node_core.specs.Step.{CanStep, node_step, port_step, after_work, worked_app, worked_mvrp, worked_msrp, sent_octets, said_mvrp, said_msrp, with_said, after_app}
-use Rattle.node_core.specs.Links.{with_outbox, with_inbox, with_carried, lost_at, repeated_at, spoilt_at}
+use Rattle.node_core.specs.Links.{with_outbox, with_inbox, with_carried, lost_at, repeated_at, forged_at, spoilt_at}
 use Rattle.node_core.specs.Proper.{IsProperNode, IsProperWire, AreProperWires, IsInRange}
 use Rattle.node_core.proofs.Sizes.{of_received, of_due, of_left, of_leave_all, of_periodic, of_sent, of_spoilt, of_settled, of_requested}
 use Rattle.node_core.proofs.StreamSizes as sizes
-use Rattle.node_core.proofs.Boxes.{each_set, each_box, each_append, each_without, each_repeated, each_new}
+use Rattle.node_core.proofs.Boxes.{each_set, each_box, each_append, each_without, each_repeated, each_with, each_new}
 
 -- the laws of MVRP at a node, as its public laws say them
 pub record SideLaws : Type 0 where
@@ -83,7 +84,7 @@ pub record StreamLaws : Type 0 where
   pub count : (a b : Streams) → setups_of a ≡ setups_of b → length a.ports ≡ length b.ports
 
 pub proper-side : (s : NodeState) → IsProperNode s → IsProper s.vlans
-proper-side s h = record { kept = h.kept.vlans; vids = h.vids }
+proper-side s h = record { kept = h.kept.vlans; keys = h.vids }
 
 pub proper-streams : (s : NodeState) → IsProperNode s → IsProperSrp s.streams
 proper-streams s h = record { kept = h.kept.streams; ranges = h.ranges }
@@ -104,7 +105,7 @@ with-vlans s v proper same h =
         short_out = h.kept.short_out;
         clock = h.kept.clock;
       };
-      vids = proper.vids;
+      vids = proper.keys;
       ranges = h.ranges;
       named = h.named;
       readable_in = h.readable_in;
@@ -226,7 +227,7 @@ proper-new kind bridge leave_time periodic ports side streams few =
         short_out = each_new IsShort ports;
         clock = omega arith;
       };
-      vids = side.vids;
+      vids = side.keys;
       ranges = streams.ranges;
       named = new-named bridge leave_time periodic ports;
       readable_in = each_new IsProperWire ports;
@@ -399,6 +400,13 @@ proper-repeated at index s h =
     with-inbox s at _
     (each_repeated IsShort index box (each_box IsShort s.inboxes at h.kept.short_in))
     (each_repeated IsProperWire index box (each_box IsProperWire s.inboxes at h.readable_in)) h
+
+pub proper-forged : (at index : ℕ) (wire : Wire) (s : NodeState) → IsShort wire → IsProperWire wire → IsProperNode s → IsProperNode (forged_at at index wire s)
+proper-forged at index wire s short proper h =
+    let box = box_at at s.inboxes in
+    with-inbox s at (with_wire index wire box)
+    (each_with IsShort index wire box short (each_box IsShort s.inboxes at h.kept.short_in))
+    (each_with IsProperWire index wire box proper (each_box IsProperWire s.inboxes at h.readable_in)) h
 
 pub proper-spoilt : ((at : ℕ) (side : Vlans) → IsProper side → IsProper (spoilt_vlans at side))
     → ((at : ℕ) (side : Streams) → IsProperSrp side → Keeps side (spoilt_streams at side))

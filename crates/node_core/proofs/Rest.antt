@@ -18,7 +18,8 @@ use Rattle.msrp.specs.declared.port.Port.{Port}
 use Rattle.msrp.specs.Settling.{talker_keys}
 use Rattle.msrp.specs.Side.{Streams, IsPort, clocked_port, clocked_sets, shows_at, is_busy as streams_are_busy}
 use Rattle.msrp.proofs.Clocked.{none_shown}
-use Rattle.mvrp.specs.Side.{Vlans, is_busy as vlans_are_busy}
+use Rattle.flat_side.specs.Side.{is_busy as vlans_are_busy}
+use Rattle.mvrp.specs.Side.{Vlans}
 use Rattle.node_core.specs.Links.{IsKeptNode}
 use Rattle.node_core.specs.State.{NodeState, are_empty, is_at_rest, is_busy_at, is_busy_node}
 use Rattle.node_core.specs.Step.{clocked_node}

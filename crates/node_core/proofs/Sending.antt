@@ -3,7 +3,8 @@ use Rattle.std.proofs.Common.{◌≡◌, ℕ, List, sym, ap, refl, ◌∙◌}
 use Rattle.std.specs.Prelude.{slice_set, length, Option, Some, None, Result, Ok, Err, IfOk, OnErr}
 use Rattle.srp_base.specs.declared.mrp.App.{App}
 use Rattle.srp_base.specs.declared.mrp.App.TheVariants.{Mvrp, Msrp}
-use Rattle.mvrp.specs.Side.{Vlans, sent_vlans, count_of}
+use Rattle.attribute_propagation.specs.Ports.{count_of}
+use Rattle.mvrp.specs.Side.{Vlans, sent_vlans}
 use Rattle.msrp.specs.Side.{Streams, sent_streams}
 use Rattle.node_core.specs.declared.types.Wire.{Wire}
 use Rattle.node_core.specs.declared.types.StepReply.{StepReply}

@@ -7,7 +7,8 @@ use Rattle.srp_base.specs.declared.numbers.Cs.{Cs}
 use Rattle.mvrp_codec.specs.declared.pdu.MvrpPdu.{MvrpPdu}
 use Rattle.mrp_participant.specs.State.{due_state, left_keys, left_state, leave_all_state, periodic_state}
 use Rattle.mvrp.specs.Part.{Part, received_part, told_by_receipt, sent_part, settled_part}
-use Rattle.mvrp.specs.Side.{Vlans, with_part, with_told_part, with_part_at, has_own, left_vids, is_flat, awaiting_at, received_vlans, due_vlans, left_vlans, leave_all_vlans, periodic_vlans, sent_vlans, spoilt_vlans, settled_vlans, requested_vlans}
+use Rattle.flat_side.specs.Side.{with_part, with_part_at, awaiting_at}
+use Rattle.mvrp.specs.Side.{Vlans, with_told_part, has_own, left_vids, is_flat, received_vlans, due_vlans, left_vlans, leave_all_vlans, periodic_vlans, sent_vlans, spoilt_vlans, settled_vlans, requested_vlans}
 
 sized : (o : Option Part) (make : Part → Vlans) (v : Vlans) → ((s : Part) → length (make s).parts ≡ length v.parts) → length (with_part o make v).parts ≡ length v.parts
 sized None make v h = refl

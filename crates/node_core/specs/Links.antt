@@ -1,5 +1,5 @@
 -- What happens to the PDUs that wait at a node's link ports, and what every node keeps.
-use Rattle.std.specs.Prelude.{◌≡◌, ◌≤◌, ◌^◌, ℕ, Bool, nat_lt, List, ◌++◌, length, slice_set}
+use Rattle.std.specs.Prelude.{◌≡◌, ◌≤◌, ◌^◌, ℕ, Bool, nat_le, nat_lt, List, ◌++◌, length, slice_set}
 use Rattle.std.specs.List.{AllByRecursion}
 use Rattle.srp_base.specs.declared.mrp.App.{App}
 use Rattle.srp_base.specs.declared.mrp.App.TheVariants.{Mvrp, Msrp}
@@ -7,7 +7,7 @@ use Rattle.mrp_participant.specs.Link.{with_repeat}
 use Rattle.mvrp.specs.Side.{IsKept, spoilt_vlans}
 use Rattle.msrp.specs.Side.{IsKept as IsKeptStreams, spoilt_streams}
 use Rattle.node_core.specs.declared.types.Wire.{Wire}
-use Rattle.node_core.specs.Wires.{AreShort, without}
+use Rattle.node_core.specs.Wires.{AreShort, without, with_wire}
 use Rattle.node_core.specs.State.{NodeState, box_at}
 
 -- these PDUs wait in the outbox at a place
@@ -33,6 +33,14 @@ lost_at at index s = with_inbox at (without index (box_at at s.inboxes)) s
 -- it is there twice, the copy right behind its original
 abbrev pub repeated_at : ℕ → ℕ → NodeState → NodeState
 repeated_at at index s = with_inbox at (with_repeat index (box_at at s.inboxes)) s
+
+-- whether an inbox reaches to an index, so that a PDU may stand there: the index is at most the number of those that wait
+abbrev pub has_place : ℕ → ℕ → NodeState → Bool
+has_place at index s = nat_le index (length (box_at at s.inboxes))
+
+-- a PDU that no neighbour sent stands at the place of an index in an inbox
+abbrev pub forged_at : ℕ → ℕ → Wire → NodeState → NodeState
+forged_at at index wire s = with_inbox at (with_wire index wire (box_at at s.inboxes)) s
 
 -- the participant of an application at a place isn't sound any more
 abbrev pub spoilt_at : App → ℕ → NodeState → NodeState

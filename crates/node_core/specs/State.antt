@@ -25,7 +25,8 @@ use Rattle.port_ledger.specs.Book.{entry_of, booked_slope}
 use Rattle.msrp_codec.specs.declared.pdu.MsrpKey.{MsrpKey}
 use Rattle.msrp_codec.specs.declared.pdu.MsrpContent.{MsrpContent}
 use Rattle.mvrp.specs.Part.{Part}
-use Rattle.mvrp.specs.Side.{Vlans, are_still, is_busy as vlans_are_busy, new_vlans}
+use Rattle.flat_side.specs.Side.{are_still, is_busy as vlans_are_busy}
+use Rattle.mvrp.specs.Side.{Vlans, new_vlans}
 use Rattle.msrp.specs.declared.port.Port.{Port}
 use Rattle.msrp.specs.Part.{key_cmp}
 use Rattle.msrp.specs.Stream.{fit_at, talkers_of}
@@ -170,9 +171,13 @@ is_at_rest until s = not (is_busy_at until s) && not (list_any (shows_at (s.cloc
 abbrev pub works : List Wire → List PortStep
 works wires = map (λ _. Work) wires
 
--- every 20 cs each application sends (IEEE Std 802.1Q-2018, 10.7.11: JoinTime)
+-- JoinTime, the time between two opportunities to send, in cs (IEEE Std 802.1Q-2018, 10.7.11)
+abbrev pub join_time : ℕ
+join_time = 20
+
+-- whether each application sends at a moment: every JoinTime
 abbrev pub is_sending_time : Cs → Bool
-is_sending_time now = now.0 % 20 == 0
+is_sending_time now = now.0 % join_time == 0
 
 -- The steps of a link port in one tick: where the node is busy, a Work for each PDU that came in at the port, Due and
 -- Settle; and at the moments of sending a Send of each application.

@@ -15,7 +15,9 @@ use Rattle.mrp_participant.specs.Lookup.{find}
 use Rattle.mrp_participant.specs.Row.{is_leaving_in}
 use Rattle.mrp_participant.specs.State.{is_silent, due_count}
 use Rattle.mvrp.specs.Part.{pdu_sent}
-use Rattle.mvrp.specs.Side.{Vlans, IsLinkPort, place_of, count_of, awaiting_at, received_vlans, due_vlans, left_vlans, leave_all_vlans, periodic_vlans, settled_vlans, sent_vlans, requested_vlans}
+use Rattle.attribute_propagation.specs.Ports.{IsLinkPort, place_of, count_of}
+use Rattle.flat_side.specs.Side.{awaiting_at}
+use Rattle.mvrp.specs.Side.{Vlans, received_vlans, due_vlans, left_vlans, leave_all_vlans, periodic_vlans, settled_vlans, sent_vlans, requested_vlans}
 use Rattle.msrp.specs.declared.asking.SrpRequest.TheVariants as asks
 use Rattle.msrp.specs.Part.{key_cmp, pdu_sent as srp_pdu_sent}
 use Rattle.msrp.specs.Side.{Streams, awaiting_at as keys_awaiting_at, received_streams, due_streams, left_streams, leave_all_streams, periodic_streams, settled_streams, sent_streams, requested_streams, clocked_streams}

@@ -1,5 +1,5 @@
 -- PDUs that wait in an inbox or an outbox.
-use Rattle.std.specs.Prelude.{◌≤◌, ℕ, suc, List, ◌++◌, length, take, drop}
+use Rattle.std.specs.Prelude.{◌≤◌, ℕ, suc, List, ◌∷◌, ◌++◌, length, take, drop}
 use Rattle.std.specs.List.{AllByRecursion}
 use Rattle.node_core.specs.declared.types.Wire.{Wire}
 
@@ -14,3 +14,7 @@ AreShort wires = AllByRecursion IsShort wires
 -- the PDUs without the one of an index, counted from 0
 abbrev pub without : ℕ → List Wire → List Wire
 without index wires = take index wires ++ drop (suc index) wires
+
+-- the PDUs with one more at the place of an index, counted from 0; those that stood there and behind come after it
+abbrev pub with_wire : ℕ → Wire → List Wire → List Wire
+with_wire index wire wires = take index wires ++ wire ∷ drop index wires

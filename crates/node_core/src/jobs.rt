@@ -1,20 +1,20 @@
 //! What a link port has to do in one tick.
 
-ghost use Rattle.std.specs.Prelude.{◌≡◌, ◌++◌, ◌∷◌, [], IfOk, if◌then◌else◌};
-ghost use Rattle.mvrp.specs.Side.{IsLinkPort, place_of};
+ghost use Rattle.std.specs.Prelude.{◌≡◌, ◌++◌, ◌∷◌, [], None, IfOk, if◌then◌else◌};
+ghost use Rattle.attribute_propagation.specs.Ports.{IsLinkPort, place_of};
 ghost use Rattle.node_core.specs.declared.types.PortStep.TheVariants.{Due, Settle, Send};
 ghost use Rattle.srp_base.specs.declared.mrp.App.TheVariants.{Mvrp, Msrp};
-ghost use Rattle.node_core.specs.State.{ports_of, is_at_rest, is_busy_at, is_busy_node, works, job_list};
+ghost use Rattle.node_core.specs.State.{ports_of, is_at_rest, is_busy_at, is_busy_node, is_sending_time, works, job_list};
 
 use crate::node::{Node, all_empty};
-use crate::types::{PortStep, Wire};
+use crate::types::{NodeKey, PortStep, Wire};
 use srp_base::{App, Cs, NoMemory, PortNo, Seq};
 use std::alloc::{AllocError, Global};
 
 impl Node {
     /// The steps of a link port in one tick. Where the node is busy, that is where a PDU came in at some port, a timer is
-    /// due or an attribute awaits: a Work for each PDU in the port's inbox, Due and Settle. At moments divisible by 20
-    /// (JoinTime; IEEE Std 802.1Q-2018, 10.7.11), of any node, a Send of each application follows.
+    /// due or an attribute awaits: a Work for each PDU in the port's inbox, Due and Settle. At moments divisible by
+    /// JoinTime, of any node, a Send of each application follows.
     pub fn jobs(&self, port: PortNo) -> Result<Seq<PortStep>, NoMemory>
         requires { IsLinkPort port (ports_of self.now) }
         ensures { IfOk result (λ steps. steps ≡ job_list (place_of port) self.now) }
@@ -22,7 +22,7 @@ impl Node {
         let alloc = *self.inboxes.allocator();
         let wires = self.inboxes[usize::from(port.0) - 1].as_slice();
         let steps = steps_where(alloc, self.is_busy(), wires)?;
-        Ok(with_send(steps, self.clock.0 % 20 == 0)?)
+        Ok(with_send(steps, is_sending_time(self.clock))?)
     }
 
     /// Whether the node is busy: a PDU came in at some port, a timer is due there, or an attribute awaits.
@@ -48,6 +48,24 @@ impl Node {
     }
 }
 
+/// JoinTime, in cs: the time between two moments at which each application sends (IEEE Std 802.1Q-2018, 10.7.11).
+pub const JOIN_TIME: u64 = 20;
+
+/// Whether each application sends at a moment.
+pub fn is_sending_time(now: Cs) -> bool
+    ensures { result ≡ is_sending_time now }
+{
+    now.0 % JOIN_TIME == 0
+}
+
+/// No attribute. A function that makes a list of steps has to have a value of a step's key beside it, so that the check
+/// finds where that type stands; it begins with this.
+pub fn no_key() -> Option<NodeKey>
+    ensures { result ≡ None }
+{
+    None
+}
+
 // Where the node is busy, a Work for each of these PDUs, Due and Settle.
 fn steps_where(alloc: Global, is_busy: bool, wires: &[Wire]) -> Result<Vec<PortStep>, AllocError>
     ensures { IfOk result (λ v. v.items
@@ -64,8 +82,7 @@ fn steps_where(alloc: Global, is_busy: bool, wires: &[Wire]) -> Result<Vec<PortS
 fn busy_steps(alloc: Global, wires: &[Wire]) -> Result<Vec<PortStep>, AllocError>
     ensures { IfOk result (λ v. v.items ≡ works wires.now ++ (Due ∷ Settle ∷ [])) }
 {
-    // A list of steps needs a value of a key's type beside it, so that the check finds where that type stands.
-    let _ = PortStep::Due.key();
+    let _ = no_key();
     let mut steps = work_steps(alloc, wires)?;
     steps.push(PortStep::Due)?;
     steps.push(PortStep::Settle)?;
@@ -84,7 +101,7 @@ fn with_send(steps: Vec<PortStep>, is_time: bool) -> Result<Seq<PortStep>, Alloc
     ensures { IfOk result (λ all. all ≡ steps.items
         ++ (if is_time then Send Mvrp ∷ Send Msrp ∷ [] else [])) }
 {
-    let _ = PortStep::Due.key();
+    let _ = no_key();
     let mut steps = steps;
     if is_time {
         steps.push(PortStep::Send(App::Mvrp))?;

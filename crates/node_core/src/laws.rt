@@ -8,15 +8,16 @@ ghost use Rattle.srp_base.specs.declared.numbers.PortNo.{PortNo};
 ghost use Rattle.srp_base.specs.declared.mrp.App.{App};
 ghost use Rattle.srp_base.specs.declared.ports.PortSetup.{PortSetup};
 ghost use Rattle.tree_topology.specs.declared.graph.NodeKind.{NodeKind};
+ghost use Rattle.mrpdu_codec.specs.Octets.{AreOctets};
 ghost use Rattle.node_core.specs.declared.types.AppRequest.{AppRequest};
 ghost use Rattle.node_core.specs.declared.types.NodeEvent.{NodeEvent};
 ghost use Rattle.node_core.specs.declared.types.PortStep.{PortStep};
 ghost use Rattle.node_core.specs.declared.types.Wire.{Wire};
-ghost use Rattle.node_core.specs.Wires.{AreShort};
+ghost use Rattle.node_core.specs.Wires.{IsShort, AreShort};
 ghost use Rattle.node_core.specs.State.{NodeState, ports_of, new_node, is_at_rest, is_busy_node};
 ghost use Rattle.node_core.specs.Step.{CanStep, node_step};
-ghost use Rattle.node_core.specs.Links.{IsKeptNode, with_outbox, with_carried, lost_at, repeated_at, spoilt_at};
-ghost use Rattle.node_core.specs.Proper.{IsProperNode, AreProperWires, IsInRange, port_setups};
+ghost use Rattle.node_core.specs.Links.{IsKeptNode, with_outbox, with_carried, lost_at, repeated_at, forged_at, spoilt_at};
+ghost use Rattle.node_core.specs.Proper.{IsProperNode, IsProperWire, AreProperWires, IsInRange, port_setups};
 
 use crate::types::NodeEvent;
 use msrp::laws as of_streams;
@@ -50,8 +51,8 @@ pub fn every_step_keeps_a_node_proper()
     msrp_codec::laws::what_is_read_belongs_to_its_keys();
 }
 
-/// So does what happens to the PDUs that wait: an outbox is taken out, short PDUs that say what fits come in, one is lost or
-/// there twice, and a participant is spoilt.
+/// So does what happens to the PDUs that wait: an outbox is taken out, short PDUs that say what fits come in, one is lost,
+/// there twice or forged, and a participant is spoilt.
 pub fn links_keep_a_node_proper()
     ensures taken { (at : ℕ) (s : NodeState) → IsProperNode s → IsProperNode (with_outbox at [] s) }
     ensures carried { (at : ℕ) (wires : List Wire) (s : NodeState) → AreShort wires
@@ -60,12 +61,21 @@ pub fn links_keep_a_node_proper()
         → IsProperNode (lost_at at index s) }
     ensures repeated { (at index : ℕ) (s : NodeState) → IsProperNode s
         → IsProperNode (repeated_at at index s) }
+    ensures forged { (at index : ℕ) (wire : Wire) (s : NodeState) → IsShort wire
+        → IsProperWire wire → IsProperNode s → IsProperNode (forged_at at index wire s) }
     ensures spoilt { (app : App) (at : ℕ) (s : NodeState) → IsProperNode s
         → IsProperNode (spoilt_at app at s) }
 {
     of_vlans::every_call_keeps_a_side_proper();
     of_streams::every_call_keeps_a_side_proper();
     of_streams::calls_keep_the_ports();
+}
+
+/// What octets say fits, whoever wrote them.
+pub fn octets_say_what_fits()
+    ensures { (wire : Wire) → AreOctets wire.octets → IsProperWire wire }
+{
+    msrp_codec::laws::what_is_read_is_in_range();
 }
 
 /// A step keeps what a node is, and how many link ports it has; and no step but the clock's moves the clock.

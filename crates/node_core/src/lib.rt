@@ -26,23 +26,22 @@
 //! What every node keeps, by its type, is `IsKeptNode` (`specs/Links.antt`): what each application keeps, as many ports
 //! in both, short PDUs, and one moment. `specs/Proper.antt` adds that VIDs are VIDs and all numbers fit in their fields.
 //!
-//! To add an application: a field of `NodeState`, a file like `streams.rt` of what a step does at it, an arm in each
-//! definition that takes an `App` or a `NodeKey` and in the function of the same name, its part in `both.rt` and in
-//! `is_busy_at`, and in `is_at_rest` what the clock may show of it. To add a step: a variant of `PortStep`, a line of `port_step` in `specs/Step.antt`, and a method in `step.rt`.
+//! To add an application: a field of `NodeState`, what a step does at it in `applications.rt`, an arm in each definition
+//! that takes an `App` or a `NodeKey` and in the function of the same name, its part in `is_busy_at`, and in `is_at_rest`
+//! what the clock may show of it. To add a step: a variant of `PortStep`, a line of `port_step` in `specs/Step.antt`, and
+//! a method in `step.rt`.
 #![tactic(auto)]
 
-mod both;
+mod applications;
+mod forwarding;
 mod jobs;
 pub mod laws;
 mod links;
 mod naming;
 mod node;
-mod outbox;
-mod parts;
 mod step;
-mod streams;
 mod types;
-mod vlans;
 
+pub use jobs::{JOIN_TIME, is_sending_time, no_key};
 pub use node::Node;
 pub use types::{AppRequest, NodeEvent, NodeKey, NodeStep, PortStep, StepReply, Wire};

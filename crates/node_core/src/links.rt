@@ -1,16 +1,15 @@
-//! The PDUs that wait at a link port: what comes in, what goes out, what is lost, and what comes twice.
+//! The PDUs that wait at a link port: what comes in, what goes out, what is lost, what comes twice, and what is forged.
 
-ghost use Rattle.std.specs.Prelude.{◌≡◌, ◌<◌, ◌++◌, [], if◌then◌else◌, length, OnOk, OnErr, IfErr, IfOk};
-ghost use Rattle.mvrp.specs.Side.{IsLinkPort, place_of};
+ghost use Rattle.std.specs.Prelude.{◌≡◌, ◌<◌, ◌≤◌, ◌++◌, [], if◌then◌else◌, length, OnOk, OnErr, IfErr, IfOk};
+ghost use Rattle.attribute_propagation.specs.Ports.{IsLinkPort, place_of};
 ghost use Rattle.node_core.specs.State.{ports_of, box_at};
-ghost use Rattle.node_core.specs.Wires.{AreShort, without};
-ghost use Rattle.node_core.specs.Links.{with_outbox, with_carried, has_index, lost_at, repeated_at, spoilt_at};
+ghost use Rattle.node_core.specs.Wires.{IsShort, AreShort, without, with_wire};
+ghost use Rattle.node_core.specs.Links.{with_outbox, with_carried, has_index, has_place, lost_at, repeated_at, forged_at, spoilt_at};
 ghost use Rattle.mrp_participant.specs.Link.{with_repeat};
 
+use crate::applications::{spoil_streams, spoil_vlans};
 use crate::node::{Node, copied_wire};
-use crate::streams::spoil_streams;
 use crate::types::Wire;
-use crate::vlans::spoil_vlans;
 use srp_base::{App, NoMemory, PortNo, Seq};
 use std::alloc::Global;
 use std::mem;
@@ -89,6 +88,28 @@ impl Node {
         Ok(true)
     }
 
+    #[tactic(auto, using(crate::proofs::Boxes::kept_inbox))]
+    /// Puts a PDU of at most 1,500 octets that no neighbour sent at the place of this index in a port's inbox, counted from
+    /// 0; those from there on come behind it. It stands for a device that doesn't run MRP as this node does, or for a frame
+    /// that was corrupted and passed its check. False exactly where the index is above the number of PDUs that wait; then
+    /// nothing changes.
+    pub fn forge(&mut self, port: PortNo, index: u32, wire: Wire) -> Result<bool, NoMemory>
+        requires port { IsLinkPort port (ports_of self.old) }
+        requires short { IsShort wire }
+        ensures done { IfOk result (λ done. done ≡ has_place (place_of port) index self.old) }
+        ensures after { IfOk result (λ done. self.new
+            ≡ (if done then forged_at (place_of port) index wire self.old else self.old)) }
+        ensures err { OnErr result (self.new ≡ self.old) }
+    {
+        let at = usize::from(port.0) - 1;
+        if self.inboxes[at].len() < index as usize {
+            return Ok(false);
+        }
+        let alloc = *self.inboxes.allocator();
+        insert(alloc, &mut self.inboxes[at], index as usize, wire)?;
+        Ok(true)
+    }
+
     /// Ends the soundness of an application's participant at a port, as after a loss on its link. It takes no memory.
     pub fn spoil(&mut self, port: PortNo, app: App)
         requires { IsLinkPort port (ports_of self.old) }
@@ -129,6 +150,23 @@ pub(crate) fn remove(alloc: Global, inbox: &mut Seq<Wire>, index: usize)
     let mut wires = mem::replace(inbox, Seq::new(alloc)).into_vec();
     let _ = wires.remove(index);
     *inbox = Seq::from_vec(wires);
+}
+
+// Puts a PDU at the place of an index in an inbox.
+#[tactic(auto, using(crate::proofs::Boxes::short_with))]
+fn insert(alloc: Global, inbox: &mut Seq<Wire>, index: usize, wire: Wire) -> Result<(), NoMemory>
+    requires index { index ≤ length inbox.old }
+    requires wire { IsShort wire }
+    requires short { AreShort inbox.old }
+    ensures ok { OnOk result (inbox.new ≡ with_wire index wire inbox.old) }
+    ensures err { OnErr result (inbox.new ≡ inbox.old) }
+    ensures short { AreShort inbox.new }
+{
+    let mut wires = mem::replace(inbox, Seq::new(alloc)).into_vec();
+    let inserted = wires.insert(index, wire);
+    *inbox = Seq::from_vec(wires);
+    inserted?;
+    Ok(())
 }
 
 // Puts a copy of the PDU of an index right behind it.

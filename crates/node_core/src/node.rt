@@ -4,7 +4,8 @@ ghost use Rattle.std.specs.Prelude.{◌<◌, ◌^◌, ◌≡◌, ◌≤◌, ◌+
 ghost use Rattle.std.specs.List.{AllByRecursion};
 ghost use Rattle.mrp_participant.specs.State.{IsTime};
 ghost use Rattle.port_ledger.specs.Book.{entry_of};
-ghost use Rattle.mvrp.specs.Side.{IsLinkPort, place_of, has_own};
+ghost use Rattle.attribute_propagation.specs.Ports.{IsLinkPort, place_of};
+ghost use Rattle.mvrp.specs.Side.{has_own};
 ghost use Rattle.msrp.specs.Side.{has_listen, has_talk, heard_of, next_sets, talker_of};
 ghost use Rattle.node_core.specs.State.{ports_of, new_node, box_at, are_empty, are_all_sound, is_still_node, is_sound_at, registrar_at, content_at, registered_keys, if_booked, booked_at, bookings_at, slope_at, fit_of};
 ghost use Rattle.node_core.specs.Links.{IsKeptNode};
@@ -160,7 +161,7 @@ impl Node {
     }
 
     /// The number of PDUs that wait in a port's inbox.
-    pub fn waiting(&self, port: PortNo) -> usize
+    pub fn pending_pdus(&self, port: PortNo) -> usize
         requires { IsLinkPort port (ports_of self.now) }
         ensures { result ≡ length (box_at (place_of port) self.now.inboxes) }
     {

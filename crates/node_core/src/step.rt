@@ -1,17 +1,18 @@
 //! One step of a node.
 
 ghost use Rattle.std.specs.Prelude.{◌+◌, ◌≡◌, ◌<◌, ◌^◌, IfOk, OnErr};
-ghost use Rattle.mvrp.specs.Side.{IsLinkPort, place_of};
+ghost use Rattle.attribute_propagation.specs.Ports.{IsLinkPort, place_of};
 ghost use Rattle.msrp.specs.Side.{next_sets};
 ghost use Rattle.node_core.specs.State.{ports_of, box_at};
 ghost use Rattle.node_core.specs.Step.{CanStep, node_step, port_step, after_asking, after_work, left_now, leave_all_now, periodic_now, fired_due, after_settling, after_send};
 
-use crate::both::{due_of, put_out, settle_of, worked_on};
+use crate::applications::{
+    ask_srp, ask_vlan, clock_by, due_of, leave_all_streams, leave_all_vlans, left_key, left_vid,
+    periodic_streams, periodic_vlans, put_out, settle_of, worked_on,
+};
 use crate::links::remove;
 use crate::node::Node;
-use crate::streams::{ask_srp, clock_by, leave_all_streams, left_key, periodic_streams};
 use crate::types::{AppRequest, NodeEvent, NodeKey, PortStep, StepReply};
-use crate::vlans::{ask_vlan, leave_all_vlans, left_vid, periodic_vlans};
 use msrp::{ClockSets, SrpRequest};
 use srp_base::{App, Cs, NoMemory, PortNo, Seq};
 use std::mem;

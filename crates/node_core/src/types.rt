@@ -7,7 +7,7 @@ use msrp_codec::MsrpKey;
 use srp_base::{App, PortNo, Seq, StreamId, Talker, Vid};
 
 /// A PDU on a link: the application that it belongs to, and its octets.
-#[derive(PartialEq, Eq, Drop)]
+#[derive(Clone, PartialEq, Eq, Drop)]
 pub struct Wire {
     pub app: App,
     pub octets: Seq<u8>,

@@ -1,8 +1,11 @@
-use Rattle.node_core.proofs.ProperSteps.{proper-repeated, proper-spoilt}
+use Rattle.node_core.proofs.ProperSteps.{proper-repeated, proper-forged, proper-spoilt}
 use Rattle.node_core.proofs.laws.links_keep_a_node_proper.Goals as goal
 
 pub returns-clause-repeated : goal.returns-clause-repeated
 returns-clause-repeated c = λ at index s h. proper-repeated at index s h
+
+pub returns-clause-forged : goal.returns-clause-forged
+returns-clause-forged c = λ at index wire s short proper h. proper-forged at index wire s short proper h
 
 pub returns-clause-spoilt : goal.returns-clause-spoilt
 returns-clause-spoilt c = λ app at s h.

@@ -2,7 +2,7 @@ use Rattle.std.proofs.Common.{◌≡◌, ◌<◌, ◌-◌, ℕ, List, [], length
 use Rattle.std.specs.Prelude.{slice_set, IfOk, OnErr}
 use Rattle.std.specs.Option.{option_map_or}
 use Rattle.std.proofs.lemmas.Option.{slice_get_read}
-use Rattle.mvrp.specs.Side.{place_of}
+use Rattle.attribute_propagation.specs.Ports.{place_of}
 use Rattle.node_core.specs.declared.types.Wire.{Wire}
 use Rattle.node_core.specs.State.{NodeState, box_at}
 use Rattle.node_core.specs.Step.{HasOneSaid, after_send}

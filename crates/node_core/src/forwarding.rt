@@ -1,7 +1,8 @@
-//! The parts of a node that say what is in force at a port.
+//! What a node hands out that says what is in force at a port: where frames of a VLAN go (IEEE Std 802.1Q-2018, 8.8), and
+//! which streams have bandwidth there.
 
 ghost use Rattle.std.specs.Prelude.{◌≡◌, slice_get, Some, IfSome};
-ghost use Rattle.mvrp.specs.Side.{IsLinkPort, place_of};
+ghost use Rattle.attribute_propagation.specs.Ports.{IsLinkPort, place_of};
 ghost use Rattle.node_core.specs.State.{ports_of};
 
 use crate::node::Node;

@@ -1,0 +1,34 @@
+use Rattle.std.proofs.Common.{◌<◌, ◌-◌, ℕ, List, length, ap, ◌∙◌, arith}
+use Rattle.std.specs.Prelude.{slice_set}
+use Rattle.node_core.specs.declared.types.Wire.{Wire}
+use Rattle.node_core.specs.Wires.{with_wire}
+use Rattle.node_core.specs.State.{NodeState}
+use Rattle.node_core.specs.Links.{forged_at}
+use Rattle.node_core.proofs.Boxes.{box_read}
+use Rattle.node_core.proofs.node.Node.forge.Goals as goal
+use Rattle.node_core.proofs.node.Node.forge.Goals.{In_ok-insert}
+
+-- the node as it was, and the place of the port
+abbrev before : In_ok-insert → NodeState
+before c =
+    record {
+      kind = c.self.inside.kind;
+      bridge = c.self.inside.bridge;
+      clock = c.self.inside.clock;
+      vlans = c.self.inside.mvrp;
+      streams = c.self.inside.msrp;
+      inboxes = c.self.inside.inboxes.items;
+      outboxes = c.self.inside.outboxes.items;
+    }
+
+abbrev at : In_ok-insert → ℕ
+at c = c.from-at.result - 1
+
+below : (c : In_ok-insert) → at c < length (before c).inboxes
+below c = omega (arith, c.from-at.ensures, c.requires.port.some, c.requires.port.within, c.self.invariant.inboxes, ap (λ (v : NodeState). length v.vlans.parts) c.self.view_is)
+
+pub returns-clause-after : goal.returns-clause-after
+returns-clause-after c =
+    ap (λ (b : List Wire). record (before c) { inboxes = slice_set (before c).inboxes (at c) b })
+    (c.in_ok-insert.ensures.ok ∙ ap (with_wire c.args.index c.args.wire) (box_read (before c).inboxes (at c) c.index_mut.result.now (below c) c.index_mut.ensures.value))
+    ∙ (ap (λ (v : NodeState). forged_at (at c) c.args.index c.args.wire v) c.self.view_is ∙ ap (λ (n : ℕ). forged_at (n - 1) c.args.index c.args.wire c.args.self.now) c.from-at.ensures)
