@@ -109,13 +109,13 @@ fn has_events(scenario: &Scenario) -> bool {
         index: 2,
     };
     match scenario.events.as_slice() {
-        [one, two] => is_event(one, 3, heard) && is_event(two, 21, lost),
+        [one, two] => is_event(one, 3, &heard) && is_event(two, 21, &lost),
         _ => false,
     }
 }
 
-fn is_event(event: &EventEntry, tick: u64, kind: EventKind) -> bool {
-    event.tick == tick && event.kind == kind
+fn is_event(event: &EventEntry, tick: u64, kind: &EventKind) -> bool {
+    event.tick == tick && event.kind == *kind
 }
 
 fn is_frame(frame: &FrameEntry) -> bool {

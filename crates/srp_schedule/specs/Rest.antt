@@ -1,8 +1,8 @@
 -- What is known of nodes that rest, so that nobody asks them in each tick.
-use Rattle.std.specs.Prelude.{◌≡◌, ◌+◌, ◌*◌, ◌/◌, nat_le, not, ◌&&◌, if◌then◌else◌, ℕ, Bool, true, false, List, length, slice_get, Some}
+use Rattle.std.specs.Prelude.{◌≡◌, ◌+◌, ◌-◌, ◌*◌, ◌/◌, nat_le, not, ◌&&◌, if◌then◌else◌, ℕ, Bool, true, false, List, length, slice_get, Some}
 use Rattle.srp_base.specs.declared.numbers.Cs.{Cs}
 use Rattle.srp_base.specs.declared.numbers.NodeNo.{NodeNo}
-use Rattle.node_core.specs.State.{NodeState, is_at_rest, is_sending_time}
+use Rattle.node_core.specs.State.{NodeState, is_at_rest, is_sending_time, join_time}
 use Rattle.world_core.specs.World.{WorldState, node_at}
 use Rattle.srp_schedule.specs.declared.rest.Rest.{Rest}
 use Rattle.srp_schedule.specs.declared.rest.Rest.TheVariants.{Unknown, Awake, UpTo}
@@ -21,7 +21,7 @@ is_rest_at now (UpTo until) = nat_le now.0 until.0 && not (is_sending_time now)
 
 -- the last moment before the next one of sending
 abbrev pub before_sending : Cs → Cs
-before_sending now = record { 0 = now.0 / 20 * 20 + 19 }
+before_sending now = record { 0 = now.0 / join_time * join_time + (join_time - 1) }
 
 -- what a node answers: whether it is at rest up to then
 abbrev pub rest_of : NodeState → Rest

@@ -7,7 +7,7 @@ ghost use Rattle.node_core.specs.State.{ports_of, job_list, is_busy_node, is_sen
 ghost use Rattle.world_core.specs.Ticks.{canonical_order};
 ghost use Rattle.srp_schedule.specs.Order.{is_in_turn, turn_from, order_of};
 
-use node_core::{Node, PortStep};
+use node_core::{Node, PortStep, is_sending_time, no_key};
 use srp_base::{NoMemory, NodeNo, PortNo, Seq};
 use std::alloc::Global;
 use world_core::World;
@@ -31,7 +31,7 @@ pub(crate) fn jobs_in_order(
     requires { HasNode world.now.tree number.0 }
     ensures { IfOk result (λ jobs. jobs.items ≡ canonical_order number world.now) }
 {
-    let _ = PortStep::Due.key();
+    let _ = no_key();
     let node = world.node(number);
     if !has_jobs(node) {
         return Ok(Vec::new(alloc));
@@ -44,7 +44,7 @@ pub(crate) fn jobs_in_order(
 fn has_jobs(node: &Node) -> bool
     ensures { result ≡ (is_busy_node node.now || is_sending_time node.now.clock) }
 {
-    node.is_busy() || node.now().0 % 20 == 0
+    node.is_busy() || is_sending_time(node.now())
 }
 
 // The jobs of each of a node's ports, ports ascending.
@@ -53,7 +53,7 @@ fn jobs_by_port(alloc: Global, node: &Node) -> Result<Vec<Seq<PortStep>>, NoMemo
         (λ v. v.items ≡ map (λ at. job_list at node.now) (range_with_len 0 (ports_of node.now))) }
     ensures few { IfOk result (λ v. length v.items ≤ 255) }
 {
-    let _ = PortStep::Due.key();
+    let _ = no_key();
     let mut jobs = Vec::new(alloc);
     for at in 0..node.ports() {
         jobs.push(node.jobs(PortNo(at + 1))?)?;
@@ -66,7 +66,7 @@ fn in_turns(alloc: Global, jobs: &[Seq<PortStep>]) -> Result<Vec<(PortNo, PortSt
     requires { length jobs.now ≤ 255 }
     ensures { IfOk result (λ v. v.items ≡ order_of jobs.now) }
 {
-    let _ = PortStep::Due.key();
+    let _ = no_key();
     let mut order = Vec::new(alloc);
     push_turn(&mut order, jobs, Turn::Works)?;
     push_turn(&mut order, jobs, Turn::Dues)?;
@@ -84,7 +84,7 @@ fn push_turn(
     requires { length jobs.now ≤ 255 }
     ensures { OnOk result (order.new.items ≡ order.old.items ++ turn_from turn 1 jobs.now) }
 {
-    let _ = PortStep::Due.key();
+    let _ = no_key();
     for (at, steps) in jobs.iter().enumerate() {
         push_steps(order, PortNo(at as u8 + 1), steps.as_slice(), turn)?;
     }
@@ -101,7 +101,7 @@ fn push_steps(
     ensures { OnOk result (order.new.items
         ≡ order.old.items ++ map (λ step. (port, step)) (filter (is_in_turn turn) steps.now)) }
 {
-    let _ = PortStep::Due.key();
+    let _ = no_key();
     for step in steps {
         if is_of(turn, *step) {
             order.push((port, *step))?;

@@ -5,8 +5,8 @@ ghost use Rattle.node_core.specs.State.{is_busy_node, is_sending_time};
 ghost use Rattle.world_core.specs.World.{WorldState};
 ghost use Rattle.srp_schedule.specs.Rest.{AreRests, IsRestOf, SaysNothing, is_rest_at, rest_of};
 
-use node_core::Node;
 use node_core::laws::a_node_at_rest_stays_so;
+use node_core::{JOIN_TIME, Node, is_sending_time};
 use srp_base::{Cs, NoMemory};
 use std::alloc::Global;
 use world_core::World;
@@ -52,7 +52,7 @@ pub(crate) fn rests_now(node: &Node, rest: Rest) -> bool
 {
     a_node_at_rest_stays_so();
     match rest {
-        Rest::UpTo(until) => node.now() <= until && node.now().0 % 20 != 0,
+        Rest::UpTo(until) => node.now() <= until && !is_sending_time(node.now()),
         Rest::Unknown | Rest::Awake => false,
     }
 }
@@ -78,7 +78,7 @@ fn asked(node: &Node) -> Rest
     ensures rest { IsRestOf result node.now }
 {
     node.keeps();
-    let until = Cs(node.now().0 / 20 * 20 + 19);
+    let until = Cs(node.now().0 / JOIN_TIME * JOIN_TIME + (JOIN_TIME - 1));
     if node.is_at_rest(until) {
         Rest::UpTo(until)
     } else {

@@ -9,8 +9,8 @@ ghost use Rattle.world_core.specs.During.{IsDuring, NamesNeighbours};
 ghost use Rattle.srp_schedule.specs.Cursor.{IsCursor};
 ghost use Rattle.srp_schedule.specs.Script.{answers_to, answer_of, after_entry};
 
-use node_core::AppRequest;
-use srp_base::{EgressPort, NoMemory, NodeNo, Talker};
+use node_core::{AppRequest, Wire};
+use srp_base::{App, EgressPort, NoMemory, NodeNo, Seq, Talker};
 use std::alloc::Global;
 use topology_file::{EventKind, Scenario, StreamEntry};
 use tree_topology::Tree;
@@ -38,12 +38,12 @@ pub(crate) fn make_events(
     let first = *cursor;
     let mut answers = Vec::new(alloc);
     for i in first..events.len() {
-        let entry = events[i];
+        let entry = &events[i];
         if entry.tick != t {
             *cursor = i;
             return Ok(answers);
         }
-        make_entry(scenario, i as u32 + 1, entry.kind, world, &mut answers)?;
+        make_entry(scenario, i as u32 + 1, &entry.kind, world, &mut answers)?;
     }
     *cursor = events.len();
     Ok(answers)
@@ -53,63 +53,77 @@ pub(crate) fn make_events(
 fn make_entry(
     scenario: &Scenario,
     number: u32,
-    kind: EventKind,
+    kind: &EventKind,
     world: &mut World,
     answers: &mut Vec<(u32, WorldReply)>,
 ) -> Result<(), NoMemory>
-    requires neighbours { NamesNeighbours scenario.now.tree.links kind }
-    requires can { IfSome (event_of scenario.now.tree.links scenario.now.streams kind)
+    requires neighbours { NamesNeighbours scenario.now.tree.links kind.now }
+    requires can { IfSome (event_of scenario.now.tree.links scenario.now.streams kind.now)
         (λ e. CanHappen e world.old) }
     ensures answer { OnOk result (answers.new.items
         ≡ answers.old.items
-        ++ answer_of number (event_of scenario.now.tree.links scenario.now.streams kind) world.old) }
+        ++ answer_of number (event_of scenario.now.tree.links scenario.now.streams kind.now) world.old) }
     ensures after { OnOk result
-        (world.new ≡ after_entry (event_of scenario.now.tree.links scenario.now.streams kind)
+        (world.new ≡ after_entry (event_of scenario.now.tree.links scenario.now.streams kind.now)
         world.old) }
 {
-    if let Some(event) = world_event(scenario, kind) {
+    if let Some(event) = world_event(scenario, kind)? {
         answers.push((number, world.step(event)?))?;
     }
     Ok(())
 }
 
 // What the file's event is in the network, if it is one there.
-fn world_event(scenario: &Scenario, kind: EventKind) -> Option<WorldEvent>
-    requires { NamesNeighbours scenario.now.tree.links kind }
-    ensures { result ≡ event_of scenario.now.tree.links scenario.now.streams kind }
+fn world_event(scenario: &Scenario, kind: &EventKind) -> Result<Option<WorldEvent>, NoMemory>
+    requires { NamesNeighbours scenario.now.tree.links kind.now }
+    ensures { IfOk result (λ event. event
+        ≡ event_of scenario.now.tree.links scenario.now.streams kind.now) }
 {
     let (tree, streams) = (&scenario.tree, scenario.streams.as_slice());
     match kind {
         EventKind::Declare { station, vid } => {
-            Some(WorldEvent::Request(station, AppRequest::Declare(vid)))
+            Ok(Some(WorldEvent::Request(*station, AppRequest::Declare(*vid))))
         }
         EventKind::Withdraw { station, vid } => {
-            Some(WorldEvent::Request(station, AppRequest::Withdraw(vid)))
+            Ok(Some(WorldEvent::Request(*station, AppRequest::Withdraw(*vid))))
         }
-        EventKind::Talk { stream } => talk(entry_of(streams, stream)?),
-        EventKind::Hush { stream } => hush(entry_of(streams, stream)?),
-        EventKind::Listen { station, stream } => {
-            let stream = entry_of(streams, stream)?.id;
-            Some(WorldEvent::Request(station, AppRequest::Listen(stream)))
-        }
-        EventKind::Unlisten { station, stream } => {
-            let stream = entry_of(streams, stream)?.id;
-            Some(WorldEvent::Request(station, AppRequest::Unlisten(stream)))
-        }
+        EventKind::Talk { stream } => Ok(talk(streams, *stream)),
+        EventKind::Hush { stream } => Ok(hush(streams, *stream)),
+        EventKind::Listen { station, stream } => Ok(listen(streams, *station, *stream)),
+        EventKind::Unlisten { station, stream } => Ok(unlisten(streams, *station, *stream)),
         EventKind::Lose { from, to, index } => {
-            Some(WorldEvent::Lose(receiving_port(tree, to, from), index))
+            Ok(Some(WorldEvent::Lose(receiving_port(tree, *to, *from), *index)))
         }
         EventKind::Repeat { from, to, index } => {
-            Some(WorldEvent::Repeat(receiving_port(tree, to, from), index))
+            Ok(Some(WorldEvent::Repeat(receiving_port(tree, *to, *from), *index)))
+        }
+        EventKind::Forge {
+            from,
+            to,
+            index,
+            app,
+            octets,
+        } => {
+            let at = receiving_port(tree, *to, *from);
+            Ok(Some(WorldEvent::Forge(at, *index, wire_of(*app, octets)?)))
         }
     }
 }
 
-// The request of a stream's station that it talks, and that it talks no more.
-fn talk(entry: &StreamEntry) -> Option<WorldEvent>
-    ensures { result ≡ Some (WorldEvent.Request entry.now.talker
-        (AppRequest.Talk (talker_of_entry entry.now))) }
+// A PDU of an application with these octets.
+fn wire_of(app: App, octets: &Seq<u8>) -> Result<Wire, NoMemory>
+    ensures { IfOk result (λ wire. wire ≡ record { app = app; octets = octets.now }) }
 {
+    let octets = octets.clone()?;
+    Ok(Wire { app, octets })
+}
+
+// What is asked of the station of a stream's number, if there is such a stream: that it talks, as its Talker states it.
+fn talk(streams: &[StreamEntry], stream: u16) -> Option<WorldEvent>
+    ensures { result ≡ option_map (λ e. WorldEvent.Request e.talker
+        (AppRequest.Talk (talker_of_entry e))) (stream_at streams.now stream) }
+{
+    let entry = entry_of(streams, stream)?;
     let talker = Talker {
         stream: entry.id,
         dest: entry.dest,
@@ -123,10 +137,31 @@ fn talk(entry: &StreamEntry) -> Option<WorldEvent>
     Some(WorldEvent::Request(entry.talker, AppRequest::Talk(talker)))
 }
 
-fn hush(entry: &StreamEntry) -> Option<WorldEvent>
-    ensures { result ≡ Some (WorldEvent.Request entry.now.talker (AppRequest.Hush entry.now.id)) }
+// That it talks no more.
+fn hush(streams: &[StreamEntry], stream: u16) -> Option<WorldEvent>
+    ensures { result ≡ option_map (λ e. WorldEvent.Request e.talker (AppRequest.Hush e.id))
+        (stream_at streams.now stream) }
 {
+    let entry = entry_of(streams, stream)?;
     Some(WorldEvent::Request(entry.talker, AppRequest::Hush(entry.id)))
+}
+
+// What is asked of a station: that it listens to the stream of a number, if there is such a stream.
+fn listen(streams: &[StreamEntry], station: NodeNo, stream: u16) -> Option<WorldEvent>
+    ensures { result ≡ option_map (λ e. WorldEvent.Request station (AppRequest.Listen e.id))
+        (stream_at streams.now stream) }
+{
+    let entry = entry_of(streams, stream)?;
+    Some(WorldEvent::Request(station, AppRequest::Listen(entry.id)))
+}
+
+// That it listens no more.
+fn unlisten(streams: &[StreamEntry], station: NodeNo, stream: u16) -> Option<WorldEvent>
+    ensures { result ≡ option_map (λ e. WorldEvent.Request station (AppRequest.Unlisten e.id))
+        (stream_at streams.now stream) }
+{
+    let entry = entry_of(streams, stream)?;
+    Some(WorldEvent::Request(station, AppRequest::Unlisten(entry.id)))
 }
 
 // The entry of a stream's number, counted from 1.

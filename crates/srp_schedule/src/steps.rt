@@ -9,7 +9,7 @@ ghost use Rattle.srp_schedule.specs.Rest.{AreRests, IsRestAt};
 
 use crate::order::jobs_in_order;
 use crate::rest::{Rest, rest_after, rests_now};
-use node_core::{NodeStep, PortStep, StepReply};
+use node_core::{NodeStep, PortStep, StepReply, no_key};
 use srp_base::{NoMemory, NodeNo, PortNo, Seq};
 use std::alloc::Global;
 use world_core::laws::what_is_allowed_may_happen;
@@ -43,7 +43,7 @@ pub(crate) fn make_steps(
 fn push_steps(made: &mut Vec<NodeSteps>, node: NodeNo, steps: Vec<NodeStep>) -> Result<(), NoMemory>
     ensures { OnOk result (made.new.items ≡ with_steps node steps.items made.old.items) }
 {
-    let _ = PortStep::Due.key();
+    let _ = no_key();
     if !steps.is_empty() {
         let steps = Seq::from_vec(steps);
         made.push(NodeSteps { node, steps })?;
@@ -80,7 +80,7 @@ fn make_steps_of(
     requires { HasNode world.old.tree number.0 }
     ensures { IfOk result (λ made. IsNodeMade number world.old world.new made.items) }
 {
-    let _ = PortStep::Due.key();
+    let _ = no_key();
     world.keeps();
     let jobs = jobs_in_order(alloc, world, number)?;
     make_all(alloc, world, number, jobs.as_slice())
@@ -102,7 +102,7 @@ fn make_all(
         (λ made. world.new ≡ world_after (events_of node made.items) world.old) }
     ensures tree { OnOk result (world.new.tree ≡ world.old.tree) }
 {
-    let _ = PortStep::Due.key();
+    let _ = no_key();
     what_is_allowed_may_happen();
     let mut made = Vec::new(alloc);
     for job in jobs {

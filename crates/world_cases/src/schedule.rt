@@ -4,7 +4,7 @@
 use crate::world::scenario_of;
 use node_core::PortStep::{Due, Send, Settle};
 use node_core::StepReply::{Fired, Sent, Settled, Silent, Taken};
-use node_core::{NodeStep, PortStep, StepReply};
+use node_core::{NodeStep, PortStep, StepReply, no_key};
 use srp_base::{App, EgressPort, NodeNo, PortChange, PortNo, StreamId, Vid};
 use srp_schedule::plain_run;
 use std::alloc::Global;
@@ -42,7 +42,7 @@ fn silent() -> [NodeStep; 2] {
 
 // Whether these are the steps of this node.
 fn has_made(found: Option<&NodeSteps>, node: NodeNo, steps: &[NodeStep]) -> bool {
-    let _ = Due.key();
+    let _ = no_key();
     match found {
         Some(found) => found.node == node && found.steps.as_slice() == steps,
         None => false,
@@ -58,7 +58,7 @@ fn have_made(nodes: &[NodeSteps]) -> bool {
 
 // Whether nothing happens in a tick.
 fn is_idle(found: Option<&Tick>) -> bool {
-    let _ = Due.key();
+    let _ = no_key();
     match found {
         Some(tick) => tick.events.is_empty() && tick.steps.is_empty(),
         None => false,
@@ -67,7 +67,7 @@ fn is_idle(found: Option<&Tick>) -> bool {
 
 // Whether the first event is taken in a tick, and the nodes act.
 fn is_taken(found: Option<&Tick>) -> bool {
-    let _ = Due.key();
+    let _ = no_key();
     match found {
         Some(tick) => {
             tick.events.as_slice() == [(1, Step(Taken))].as_slice()

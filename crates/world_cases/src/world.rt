@@ -1,5 +1,5 @@
-//! A bridge between two stations: a declaration and a Talker go over a link, a PDU is repeated and
-//! lost, the clocks go on.
+//! A bridge between two stations: a declaration and a Talker go over a link, a PDU is repeated, lost
+//! and forged, the clocks go on.
 //!
 //! An event is asked at run time whether it may happen, so that a test needs no proof of what the
 //! file's text says.
@@ -11,7 +11,7 @@ ghost use Rattle.world_core.specs.World.{CanHappen};
 use msrp_codec::MsrpKey;
 use node_core::PortStep::{Send, Settle, Work};
 use node_core::StepReply::{Nothing, Received, Sent, Settled, Silent, Taken};
-use node_core::{AppRequest, NodeKey, NodeStep, PortStep, StepReply};
+use node_core::{AppRequest, NodeKey, NodeStep, PortStep, StepReply, Wire};
 use registrar::Registrar;
 use srp_base::{
     App, Cs, EgressPort, Mac, NoMemory, NodeNo, PortNo, Priority, Rank, Seq, StreamId, Talker,
@@ -20,7 +20,7 @@ use srp_base::{
 use std::alloc::Global;
 use topology_file::{Scenario, read_scenario};
 use tree_topology::NodeKind;
-use world_core::WorldEvent::{Carry, Clock, Lose, Port, Repeat, Request};
+use world_core::WorldEvent::{Carry, Clock, Forge, Lose, Port, Repeat, Request};
 use world_core::WorldReply::{Done, Missed, Step};
 use world_core::{History, NodeSteps, World, WorldEvent, WorldReply};
 
@@ -98,22 +98,29 @@ fn goes_on(world: &World) -> bool
     world.node(NodeNo(1)).now().0 < 0x2000_0000_0000_0000
 }
 
-fn can_happen(world: &World, event: WorldEvent) -> bool
-    ensures { IsTrue result → CanHappen event world.now }
+fn can_happen(world: &World, event: &WorldEvent) -> bool
+    ensures { IsTrue result → CanHappen event.now world.now }
 {
     match event {
-        Request(node, request) => is_station(world, node, request),
-        Port(node, port, _) => has_port(world, EgressPort { node, port }),
-        Lose(at, _) => has_port(world, at),
-        Repeat(at, _) => has_port(world, at),
-        Carry(at) => has_port(world, at),
+        Request(node, request) => is_station(world, *node, *request),
+        Port(node, port, _) => has_port(
+            world,
+            EgressPort {
+                node: *node,
+                port: *port,
+            },
+        ),
+        Lose(at, _) => has_port(world, *at),
+        Repeat(at, _) => has_port(world, *at),
+        Forge(at, _, wire) => has_port(world, *at) && wire.octets.len() <= 1_500,
+        Carry(at) => has_port(world, *at),
         Clock => goes_on(world),
     }
 }
 
 // What an event answers; None where it can't happen.
 pub(crate) fn answer(world: &mut World, event: WorldEvent) -> Result<Option<WorldReply>, NoMemory> {
-    if !can_happen(world, event) {
+    if !can_happen(world, &event) {
         return Ok(None);
     }
     Ok(Some(world.step(event)?))
@@ -122,7 +129,10 @@ pub(crate) fn answer(world: &mut World, event: WorldEvent) -> Result<Option<Worl
 // Whether these events have these answers.
 pub(crate) fn has_answers(world: &mut World, cases: &[(WorldEvent, WorldReply)]) -> bool {
     for (event, reply) in cases {
-        if answer(world, *event) != Ok(Some(*reply)) {
+        let Ok(event) = event.clone() else {
+            return false;
+        };
+        if answer(world, event) != Ok(Some(*reply)) {
             return false;
         }
     }
@@ -156,7 +166,7 @@ fn sees(
         return false;
     }
     node.registrar(at.port, key) == registrar
-        && node.waiting(at.port) == count
+        && node.pending_pdus(at.port) == count
         && node.sound(at.port, App::Mvrp) == sound
 }
 
@@ -434,6 +444,52 @@ fn spoils(world: &mut World, vid: Vid) -> bool {
     declares(world, vid) && loses(world) && is_spoilt(world, vid) && is_sound_elsewhere(world, vid)
 }
 
+// A PDU of MVRP that says JoinMt of VID 10.
+fn join(alloc: Global) -> Option<Wire> {
+    let octets = Vec::from_slice(alloc, &[0, 1, 2, 0, 1, 0, 10, 0x6c, 0, 0, 0, 0]).ok()?;
+    Some(Wire {
+        app: App::Mvrp,
+        octets: Seq::from_vec(octets),
+    })
+}
+
+// Whether it is missed past the bridge's inbox, and then stands in it and is taken.
+fn is_forged(world: &mut World, past: Wire, here: Wire) -> bool {
+    let cases = [
+        (Forge(theirs(), 1, past), Missed),
+        (Forge(theirs(), 0, here), Done),
+        makes(theirs(), Work, Received(1)),
+    ];
+    has_answers(world, cases.as_slice())
+}
+
+// Whether what it says is registered, at an end that isn't sound any more, nor is the other.
+fn is_held_unsound(world: &World, vid: Vid) -> bool {
+    let seen = (Registrar::Held, 0, false);
+    sees(world, theirs(), NodeKey::Vlan(vid), seen) && is_empty(world, ours(), vid, 0, false)
+}
+
+fn forges(alloc: Global, world: &mut World, vid: Vid) -> bool {
+    match (join(alloc), join(alloc)) {
+        (Some(past), Some(here)) => {
+            is_forged(world, past, here)
+                && is_held_unsound(world, vid)
+                && is_sound_elsewhere(world, vid)
+        }
+        _ => false,
+    }
+}
+
+fn new_one_forges(alloc: Global) -> bool {
+    let mut world = world_of(alloc, SCENE);
+    let forged = match (&mut world, Vid::new(10)) {
+        (Some(world), Some(vid)) => forges(alloc, world, vid),
+        _ => false,
+    };
+    drop(world);
+    forged
+}
+
 fn new_one_spoils(alloc: Global) -> bool {
     let mut world = world_of(alloc, SCENE);
     let spoilt = match (&mut world, Vid::new(10)) {
@@ -447,4 +503,9 @@ fn new_one_spoils(alloc: Global) -> bool {
 #[test]
 fn a_loss_spoils_both_ends_of_its_link(rt: HostRuntime) {
     assert!(rt; new_one_spoils(rt.alloc()));
+}
+
+#[test]
+fn a_forged_pdu_is_registered_and_spoils_both_ends(rt: HostRuntime) {
+    assert!(rt; new_one_forges(rt.alloc()));
 }

@@ -25,7 +25,9 @@ use Rattle.mrp_participant.specs.Row.{is_live, applicant_takes}
 use Rattle.mrp_participant.specs.Sending.{opportunity, before_opportunity, row_after, sent_row}
 use Rattle.mrp_participant.specs.State.{is_active, after, takes, row_sent}
 use Rattle.mvrp.specs.Part.{Part, base, octets, sent_part}
-use Rattle.mvrp.specs.Side.{Vlans, place_of, has_own, requested_vlans, sent_vlans, spoilt_vlans, with_part_at, with_part}
+use Rattle.attribute_propagation.specs.Ports.{place_of}
+use Rattle.flat_side.specs.Side.{with_part_at, with_part}
+use Rattle.mvrp.specs.Side.{Vlans, has_own, requested_vlans, sent_vlans, spoilt_vlans}
 use Rattle.msrp.specs.declared.port.Port.{Port as SrpPort}
 use Rattle.msrp.specs.declared.asking.SrpRequest.{SrpRequest}
 use Rattle.msrp.specs.declared.asking.SrpRequest.TheVariants as asks
@@ -39,6 +41,7 @@ use Rattle.topology_file.specs.declared.entries.EventEntry.{EventEntry}
 use Rattle.topology_file.specs.declared.entries.EventKind.{EventKind}
 use Rattle.topology_file.specs.declared.entries.EventKind.TheVariants as kinds
 use Rattle.topology_file.specs.Plan.{Plan}
+use Rattle.node_core.specs.declared.types.Wire.{Wire}
 use Rattle.node_core.specs.declared.types.AppRequest.{AppRequest}
 use Rattle.node_core.specs.declared.types.AppRequest.TheVariants.{Declare, Withdraw, Talk, Hush, Listen, Unlisten}
 use Rattle.node_core.specs.declared.types.NodeEvent.{NodeEvent}
@@ -46,14 +49,14 @@ use Rattle.node_core.specs.declared.types.NodeEvent.TheVariants as node_events
 use Rattle.node_core.specs.declared.types.NodeStep.{NodeStep}
 use Rattle.node_core.specs.declared.types.PortStep.{PortStep}
 use Rattle.node_core.specs.declared.types.PortStep.TheVariants.{Work, LeaveNow, LeaveAllNow, PeriodicNow, Due, Settle, Send}
-use Rattle.node_core.specs.Links.{lost_at, repeated_at, spoilt_at}
+use Rattle.node_core.specs.Links.{lost_at, repeated_at, forged_at, spoilt_at}
 use Rattle.node_core.specs.State.{NodeState, of_part, of_port}
 use Rattle.node_core.specs.Step.{node_step, octets_to_say, sent_octets}
 use Rattle.world_core.specs.declared.events.WorldEvent.{WorldEvent}
-use Rattle.world_core.specs.declared.events.WorldEvent.TheVariants.{Request, Port, Lose, Repeat}
+use Rattle.world_core.specs.declared.events.WorldEvent.TheVariants.{Request, Port, Lose, Repeat, Forge}
 use Rattle.world_core.specs.declared.journal.NodeSteps.{NodeSteps}
 use Rattle.world_core.specs.declared.journal.Tick.{Tick}
-use Rattle.world_core.specs.World.{WorldState, node_at, app_of, with_loss, after_repeat, step_of_node, world_step, world_after}
+use Rattle.world_core.specs.World.{WorldState, node_at, app_of, reaches, with_unsound_ends, with_loss, after_repeat, with_forgery, step_of_node, world_step, world_after}
 use Rattle.world_core.specs.Ticks.{event_of, scripted_from, with_event, stream_at, talker_of_entry, step_events, after_script, after_steps, is_send, IsLegalTick}
 use Rattle.world_core.specs.Force.{no_force, is_registered_row, registered_vids}
 use Rattle.world_core.specs.Timeline.{node_force, force_at}
@@ -214,15 +217,24 @@ Keeps e = (p : EgressPort) (w : WorldState) → force_at p (world_step e w).0 �
 request_keeps : (n : NodeNo) (request : AppRequest) → Keeps (Request n request)
 request_keeps n request p w = step_keeps n (node_events.Request request) p (asked_keeps request (place_of p.port)) w
 
+ends_keep : (app : App) (q p : EgressPort) (w : WorldState) → force_at p (with_unsound_ends app q w) ≡ force_at p w
+ends_keep app q p w =
+    let k = place_of p.port in
+    force_changed _ (spoilt_at app _) p (spoilt_keeps app _ k) _ ∙ force_changed q.node (spoilt_at app (place_of q.port)) p (spoilt_keeps app (place_of q.port) k) w
+
 loss_keeps : (q : EgressPort) (index : ℕ) → Keeps (Lose q index)
 loss_keeps q index p w = by (app_of q index w)
   where
     by : (o : Option App) → force_at p (with_loss q index o w).0 ≡ force_at p w
     by None = refl
-    by (Some app) =
-        let k = place_of p.port in
-        force_changed _ (spoilt_at app _) p (spoilt_keeps app _ k) _ ∙ force_changed q.node (spoilt_at app (place_of q.port)) p (spoilt_keeps app (place_of q.port) k) _
-        ∙ force_changed q.node (lost_at (place_of q.port) index) p (λ s. refl) w
+    by (Some app) = ends_keep app q p _ ∙ force_changed q.node (lost_at (place_of q.port) index) p (λ s. refl) w
+
+forgery_keeps : (q : EgressPort) (index : ℕ) (wire : Wire) → Keeps (Forge q index wire)
+forgery_keeps q index wire p w = by (reaches q index w)
+  where
+    by : (b : Bool) → force_at p (with_forgery q index wire b w).0 ≡ force_at p w
+    by false = refl
+    by true = ends_keep wire.app q p _ ∙ force_changed q.node (forged_at (place_of q.port) index wire) p (λ s. refl) w
 
 repeat_keeps : (q : EgressPort) (index : ℕ) → Keeps (Repeat q index)
 repeat_keeps q index p w = by (app_of q index w)
@@ -249,6 +261,7 @@ scripted_keeps links streams (kinds.Listen station stream) = of_entry _ (λ e. r
 scripted_keeps links streams (kinds.Unlisten station stream) = of_entry _ (λ e. request_keeps station (Unlisten e.id)) (stream_at streams stream)
 scripted_keeps links streams (kinds.Lose from to index) = loss_keeps _ index
 scripted_keeps links streams (kinds.Repeat from to index) = repeat_keeps _ index
+scripted_keeps links streams (kinds.Forge from to index app octets) = forgery_keeps _ index _
 
 script_keeps : (links : List Link) (streams : List StreamEntry) (t n : ℕ) (entries : List EventEntry) (p : EgressPort) (w : WorldState)
     → force_at p (world_after (map (λ e. e.1) (scripted_from links streams t n entries)) w) ≡ force_at p w

@@ -1,5 +1,5 @@
 -- Each event of a network keeps its tree, its nodes as those of the tree, and one clock.
-use Rattle.std.proofs.Common.{◌≡◌, ◌+◌, ◌-◌, ℕ, zero, suc, false, List, [], ◌∷◌, length, refl, sym, ap, subst, ◌∙◌, arith}
+use Rattle.std.proofs.Common.{◌≡◌, ◌+◌, ◌-◌, ℕ, zero, suc, Bool, true, false, List, [], ◌∷◌, length, refl, sym, ap, subst, ◌∙◌, arith}
 use Rattle.std.specs.Prelude.{slice_get, Option, Some, None}
 use Rattle.std.specs.List.{AllByRecursion}
 use Rattle.std.proofs.Math.ListN.{length-set}
@@ -11,21 +11,23 @@ use Rattle.srp_base.specs.declared.mrp.App.{App}
 use Rattle.srp_base.specs.declared.mrp.App.TheVariants.{Mvrp, Msrp}
 use Rattle.tree_topology.specs.Topology.{HasPort}
 use Rattle.tree_topology.specs.Ports.{peer_of}
+use Rattle.mrpdu_codec.specs.Octets.{AreOctets}
 use Rattle.mvrp.specs.Part.{Part}
-use Rattle.mvrp.specs.Side.{IsLinkPort, place_of, with_part, with_part_at}
+use Rattle.attribute_propagation.specs.Ports.{IsLinkPort, place_of}
+use Rattle.flat_side.specs.Side.{with_part, with_part_at}
 use Rattle.node_core.specs.declared.types.Wire.{Wire}
 use Rattle.node_core.specs.declared.types.AppRequest.{AppRequest}
 use Rattle.node_core.specs.declared.types.NodeEvent.{NodeEvent}
 use Rattle.node_core.specs.declared.types.NodeEvent.TheVariants as node_events
 use Rattle.node_core.specs.declared.types.PortStep.{PortStep}
-use Rattle.node_core.specs.Wires.{AreShort}
+use Rattle.node_core.specs.Wires.{IsShort, AreShort}
 use Rattle.node_core.specs.State.{NodeState, box_at, ports_of}
 use Rattle.node_core.specs.Step.{CanStep, node_step}
-use Rattle.node_core.specs.Links.{with_outbox, with_carried, lost_at, repeated_at, spoilt_at}
-use Rattle.node_core.specs.Proper.{IsProperNode, IsInRange, AreProperWires}
+use Rattle.node_core.specs.Links.{with_outbox, with_carried, lost_at, repeated_at, forged_at, spoilt_at}
+use Rattle.node_core.specs.Proper.{IsProperNode, IsProperWire, IsInRange, AreProperWires}
 use Rattle.world_core.specs.declared.events.WorldEvent.{WorldEvent}
-use Rattle.world_core.specs.declared.events.WorldEvent.TheVariants.{Request, Port, Lose, Repeat, Carry, Clock}
-use Rattle.world_core.specs.World.{WorldState, node_at, with_changed, outbox, app_of, with_loss, after_repeat, world_step, CanHappen, IsEventInRange}
+use Rattle.world_core.specs.declared.events.WorldEvent.TheVariants.{Request, Port, Lose, Repeat, Forge, Carry, Clock}
+use Rattle.world_core.specs.World.{WorldState, node_at, with_changed, outbox, app_of, reaches, with_unsound_ends, with_loss, after_repeat, with_forgery, world_step, CanHappen, IsEventInRange}
 use Rattle.world_core.specs.Kept.{FitsTree}
 use Rattle.world_core.proofs.Lists.{one_some}
 use Rattle.world_core.proofs.Nodes.{Base, IsOfSamePlace, base_changed, stepped_is, ticked_get, ticked_length, node_there, place_within, proper_at, outbox_is}
@@ -41,6 +43,8 @@ pub record NodeLaws : Type 0 where
   pub carried : (at : ℕ) (wires : List Wire) (s : NodeState) → AreShort wires → AreProperWires wires → IsProperNode s → IsProperNode (with_carried at wires s)
   pub lost : (at index : ℕ) (s : NodeState) → IsProperNode s → IsProperNode (lost_at at index s)
   pub repeated : (at index : ℕ) (s : NodeState) → IsProperNode s → IsProperNode (repeated_at at index s)
+  pub says : (wire : Wire) → AreOctets wire.octets → IsProperWire wire
+  pub forged : (at index : ℕ) (wire : Wire) (s : NodeState) → IsShort wire → IsProperWire wire → IsProperNode s → IsProperNode (forged_at at index wire s)
   pub spoilt : (app : App) (at : ℕ) (s : NodeState) → IsProperNode s → IsProperNode (spoilt_at app at s)
 
 -- what holds of the PDUs of each box holds of those of one
@@ -94,14 +98,23 @@ module _ (nodes : NodeLaws) where
   base_spoilt : (app : App) (n : NodeNo) (at : ℕ) (w : WorldState) → Base w → Base (with_changed n (spoilt_at app at) w)
   base_spoilt app n at w base = base_changed n (spoilt_at app at) w base (λ s is. spoilt_stays app at s (proper_at w base n s is))
 
+  base_ends : (app : App) (e : EgressPort) (w : WorldState) → Base w → Base (with_unsound_ends app e w)
+  base_ends app e w base =
+      let q = peer_of w.tree.links e in
+      base_spoilt app q.node (place_of q.port) (with_changed e.node (spoilt_at app (place_of e.port)) w) (base_spoilt app e.node (place_of e.port) w base)
+
   base_lose : (e : EgressPort) (index : ℕ) (o : Option App) (w : WorldState) → Base w → Base (with_loss e index o w).0
   base_lose e index None w base = base
   base_lose e index (Some app) w base =
-      let fewer = with_changed e.node (lost_at (place_of e.port) index) w in
-      let q = peer_of fewer.tree.links e in
-      base_spoilt app q.node (place_of q.port) (with_changed e.node (spoilt_at app (place_of e.port)) fewer)
-      (base_spoilt app e.node (place_of e.port) fewer
-      (base_changed e.node (lost_at (place_of e.port) index) w base (λ s is. record { kind = refl; ports = refl; clock = refl; proper = nodes.lost (place_of e.port) index s (proper_at w base e.node s is) })))
+      base_ends app e (with_changed e.node (lost_at (place_of e.port) index) w)
+      (base_changed e.node (lost_at (place_of e.port) index) w base (λ s is. record { kind = refl; ports = refl; clock = refl; proper = nodes.lost (place_of e.port) index s (proper_at w base e.node s is) }))
+
+  base_forge : (e : EgressPort) (index : ℕ) (wire : Wire) (b : Bool) (w : WorldState) → IsShort wire → AreOctets wire.octets → Base w → Base (with_forgery e index wire b w).0
+  base_forge e index wire false w short octets base = base
+  base_forge e index wire true w short octets base =
+      base_ends wire.app e (with_changed e.node (forged_at (place_of e.port) index wire) w)
+      (base_changed e.node (forged_at (place_of e.port) index wire) w base
+      (λ s is. record { kind = refl; ports = refl; clock = refl; proper = nodes.forged (place_of e.port) index wire s short (nodes.says wire octets) (proper_at w base e.node s is) }))
 
   base_carry : (e : EgressPort) (w : WorldState) → HasPort w.tree e → Base w → Base (world_step (Carry e) w).0
   base_carry e w has base =
@@ -143,5 +156,6 @@ module _ (nodes : NodeLaws) where
   base_event (Port n port step) w can named base = base_port (record { node = n; port = port }) step w can base
   base_event (Lose p index) w can named base = base_lose p index (app_of p index w) w base
   base_event (Repeat p index) w can named base = base_repeat p index (app_of p index w) w base
+  base_event (Forge p index wire) w can named base = base_forge p index wire (reaches p index w) w can.1 named base
   base_event (Carry p) w can named base = base_carry p w can base
   base_event Clock w can named base = base_clock w can base

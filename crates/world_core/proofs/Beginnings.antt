@@ -24,7 +24,7 @@ use Rattle.msrp.specs.declared.port.Port.{Port}
 use Rattle.msrp.specs.Part.{Part as StreamPart, key_cmp}
 use Rattle.msrp.specs.Side.{new_port}
 use Rattle.mvrp.specs.Part.{Part}
-use Rattle.mvrp.specs.Side.{place_of}
+use Rattle.attribute_propagation.specs.Ports.{place_of}
 use Rattle.node_core.specs.State.{NodeState, box_at, new_node}
 use Rattle.node_core.specs.Proper.{IsProperNode}
 use Rattle.world_core.specs.Start.{setup_of, end_setup, setups_from, nodes_from, world_of}

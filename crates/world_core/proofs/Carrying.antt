@@ -19,7 +19,7 @@ use Rattle.topology_file.specs.declared.entries.EventEntry.{EventEntry}
 use Rattle.topology_file.specs.declared.entries.EventKind.{EventKind}
 use Rattle.topology_file.specs.declared.entries.EventKind.TheVariants as kinds
 use Rattle.topology_file.specs.Plan.{Plan}
-use Rattle.mvrp.specs.Side.{place_of}
+use Rattle.attribute_propagation.specs.Ports.{place_of}
 use Rattle.node_core.specs.declared.types.NodeStep.{NodeStep}
 use Rattle.node_core.specs.declared.types.NodeKey.TheVariants.{Vlan, Srp}
 use Rattle.node_core.specs.declared.types.NodeEvent.TheVariants as node_events
@@ -28,12 +28,12 @@ use Rattle.node_core.specs.declared.types.PortStep.TheVariants.{Work, LeaveNow, 
 use Rattle.node_core.specs.declared.types.Wire.{Wire}
 use Rattle.node_core.specs.State.{NodeState, box_at}
 use Rattle.node_core.specs.Step.{node_step, port_step, after_work, worked_app}
-use Rattle.node_core.specs.Links.{with_outbox, with_carried, lost_at, repeated_at, spoilt_at}
+use Rattle.node_core.specs.Links.{with_outbox, with_carried, lost_at, repeated_at, forged_at, spoilt_at}
 use Rattle.world_core.specs.declared.events.WorldEvent.{WorldEvent}
-use Rattle.world_core.specs.declared.events.WorldEvent.TheVariants.{Request, Port, Lose, Repeat, Carry, Clock}
+use Rattle.world_core.specs.declared.events.WorldEvent.TheVariants.{Request, Port, Lose, Repeat, Forge, Carry, Clock}
 use Rattle.world_core.specs.declared.journal.NodeSteps.{NodeSteps}
 use Rattle.world_core.specs.declared.journal.Tick.{Tick}
-use Rattle.world_core.specs.World.{WorldState, node_at, with_node, with_changed, outbox, app_of, with_loss, after_repeat, after_carrying, world_step, world_after}
+use Rattle.world_core.specs.World.{WorldState, node_at, with_node, with_changed, outbox, app_of, reaches, with_unsound_ends, with_loss, after_repeat, with_forgery, after_carrying, world_step, world_after}
 use Rattle.world_core.specs.Start.{world_of, nodes_from}
 use Rattle.world_core.specs.Ticks.{event_of, stream_at, with_event, scripted_from, script_at, step_events, link_ports, closing_events, tick_events, after_script, after_steps, is_send}
 use Rattle.world_core.specs.During.{IsDuring}
@@ -114,6 +114,7 @@ SendsNothing (Request n request) = Unit {0}
 SendsNothing (Port n port step) = is_send step ≡ false
 SendsNothing (Lose p index) = Unit {0}
 SendsNothing (Repeat p index) = Unit {0}
+SendsNothing (Forge p index wire) = Unit {0}
 SendsNothing (Carry p) = Unit {0}
 SendsNothing Clock = Unit {0}
 
@@ -124,15 +125,23 @@ carry_stays q p w none =
     changed_stays r.node (with_carried (place_of r.port) (outbox q w)) p (λ s h. h) taken
     (changed_stays q.node (with_outbox (place_of q.port) []) p (λ s h. box_stays s.outboxes (place_of q.port) (place_of p.port) h) w none)
 
+-- spoiling both ends of a link
+spoilt_stays : (app : App) (q p : EgressPort) (w : WorldState) → outbox p w ≡ [] → outbox p (with_unsound_ends app q w) ≡ []
+spoilt_stays app q p w none =
+    let r = peer_of w.tree.links q in
+    let own = with_changed q.node (spoilt_at app (place_of q.port)) w in
+    changed_stays r.node (spoilt_at app (place_of r.port)) p (λ s h. (spoilt_boxes app (place_of r.port) (place_of p.port) s).outbox ∙ h) own
+    (changed_stays q.node (spoilt_at app (place_of q.port)) p (λ s h. (spoilt_boxes app (place_of q.port) (place_of p.port) s).outbox ∙ h) w none)
+
 loss_stays : (q : EgressPort) (index : ℕ) (o : Option App) (p : EgressPort) (w : WorldState) → outbox p w ≡ [] → outbox p (with_loss q index o w).0 ≡ []
 loss_stays q index None p w none = none
 loss_stays q index (Some app) p w none =
-    let without = with_changed q.node (lost_at (place_of q.port) index) w in
-    let r = peer_of without.tree.links q in
-    let own = with_changed q.node (spoilt_at app (place_of q.port)) without in
-    changed_stays r.node (spoilt_at app (place_of r.port)) p (λ s h. (spoilt_boxes app (place_of r.port) (place_of p.port) s).outbox ∙ h) own
-    (changed_stays q.node (spoilt_at app (place_of q.port)) p (λ s h. (spoilt_boxes app (place_of q.port) (place_of p.port) s).outbox ∙ h) without
-    (changed_stays q.node (lost_at (place_of q.port) index) p (λ s h. h) w none))
+    spoilt_stays app q p (with_changed q.node (lost_at (place_of q.port) index) w) (changed_stays q.node (lost_at (place_of q.port) index) p (λ s h. h) w none)
+
+forgery_stays : (q : EgressPort) (index : ℕ) (wire : Wire) (b : Bool) (p : EgressPort) (w : WorldState) → outbox p w ≡ [] → outbox p (with_forgery q index wire b w).0 ≡ []
+forgery_stays q index wire false p w none = none
+forgery_stays q index wire true p w none =
+    spoilt_stays wire.app q p (with_changed q.node (forged_at (place_of q.port) index wire) w) (changed_stays q.node (forged_at (place_of q.port) index wire) p (λ s h. h) w none)
 
 repeat_stays : (q : EgressPort) (index : ℕ) (o : Option App) (p : EgressPort) (w : WorldState) → outbox p w ≡ [] → outbox p (after_repeat q index o w).0 ≡ []
 repeat_stays q index None p w none = none
@@ -149,6 +158,7 @@ event_stays (Port n port step) p w isnt none =
     (changed_stays n (λ s. (node_step event s).0) p (λ s h. step_out step (place_of port) (place_of p.port) s isnt ∙ h) w none)
 event_stays (Lose q index) p w isnt none = loss_stays q index (app_of q index w) p w none
 event_stays (Repeat q index) p w isnt none = repeat_stays q index (app_of q index w) p w none
+event_stays (Forge q index wire) p w isnt none = forgery_stays q index wire (reaches q index w) p w none
 event_stays (Carry q) p w isnt none = carry_stays q p w none
 event_stays Clock p w isnt none =
     let k = place_of p.port in
@@ -178,6 +188,7 @@ kind_sends_none links streams (kinds.Listen station stream) = asked_sends_none (
 kind_sends_none links streams (kinds.Unlisten station stream) = asked_sends_none (stream_at streams stream) _ (λ e. tt)
 kind_sends_none links streams (kinds.Lose from to index) = tt
 kind_sends_none links streams (kinds.Repeat from to index) = tt
+kind_sends_none links streams (kinds.Forge from to index app octets) = tt
 
 with_sends_none : (n : ℕ) (o : Option WorldEvent) (later : List (ℕ × WorldEvent)) → IfSome o SendsNothing
     → AllByRecursion SendsNothing (map (λ (e : ℕ × WorldEvent). e.1) later) → AllByRecursion SendsNothing (map (λ (e : ℕ × WorldEvent). e.1) (with_event n o later))

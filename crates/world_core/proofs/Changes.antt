@@ -14,7 +14,7 @@ use Rattle.tree_topology.specs.Topology.{HasPort}
 use Rattle.frame_flow.specs.Force.{is_port, changes_at, last_upto, in_force}
 use Rattle.frame_flow.specs.Given.{IsEarlier}
 use Rattle.topology_file.specs.Plan.{Plan}
-use Rattle.mvrp.specs.Side.{place_of}
+use Rattle.attribute_propagation.specs.Ports.{place_of}
 use Rattle.node_core.specs.State.{NodeState, slope_at}
 use Rattle.world_core.specs.declared.events.WorldEvent.{WorldEvent}
 use Rattle.world_core.specs.declared.journal.Tick.{Tick}

@@ -1,22 +1,22 @@
 -- What holds of each node of a network holds after an event, where the steps of the nodes keep it, and what waits in their boxes
 -- and the marks of soundness are nothing to it.
-use Rattle.std.proofs.Common.{◌≡◌, ℕ, ◌-◌, List, [], refl, subst}
+use Rattle.std.proofs.Common.{◌≡◌, ℕ, ◌-◌, Bool, true, false, List, [], refl, subst}
 use Rattle.std.specs.Prelude.{slice_get, slice_set, Option, Some, None}
 use Rattle.std.specs.Option.{option_map_or}
 use Rattle.srp_base.specs.declared.numbers.NodeNo.{NodeNo}
 use Rattle.srp_base.specs.declared.numbers.EgressPort.{EgressPort}
 use Rattle.srp_base.specs.declared.mrp.App.{App}
 use Rattle.tree_topology.specs.Ports.{peer_of}
-use Rattle.mvrp.specs.Side.{place_of}
+use Rattle.attribute_propagation.specs.Ports.{place_of}
 use Rattle.node_core.specs.declared.types.NodeEvent.{NodeEvent}
 use Rattle.node_core.specs.declared.types.NodeEvent.TheVariants as node_events
 use Rattle.node_core.specs.declared.types.Wire.{Wire}
-use Rattle.node_core.specs.Links.{spoilt_at, with_outbox, with_carried, lost_at, repeated_at}
+use Rattle.node_core.specs.Links.{spoilt_at, with_outbox, with_carried, lost_at, repeated_at, forged_at}
 use Rattle.node_core.specs.State.{NodeState}
 use Rattle.node_core.specs.Step.{node_step}
 use Rattle.world_core.specs.declared.events.WorldEvent.{WorldEvent}
-use Rattle.world_core.specs.declared.events.WorldEvent.TheVariants.{Request, Port, Lose, Repeat, Carry, Clock}
-use Rattle.world_core.specs.World.{WorldState, node_at, with_changed, step_of_node, with_unsound_ends, with_loss, after_repeat, app_of, outbox, world_step}
+use Rattle.world_core.specs.declared.events.WorldEvent.TheVariants.{Request, Port, Lose, Repeat, Forge, Carry, Clock}
+use Rattle.world_core.specs.World.{WorldState, node_at, with_changed, step_of_node, with_unsound_ends, with_loss, after_repeat, with_forgery, app_of, reaches, outbox, world_step}
 use Rattle.world_core.proofs.Lists.{set_each}
 use Rattle.world_core.proofs.Nodes.{stepped_is, ticked_get}
 
@@ -35,6 +35,7 @@ KeepsOwn P (Request n request) w = (s : NodeState) → node_at n w ≡ Some s �
 KeepsOwn P (Port n port step) w = (s : NodeState) → node_at n w ≡ Some s → P (n.0 - 1) s → P (n.0 - 1) (node_step (node_events.Port port step) s).0
 KeepsOwn P (Lose p index) w = Unit {0}
 KeepsOwn P (Repeat p index) w = Unit {0}
+KeepsOwn P (Forge p index wire) w = Unit {0}
 KeepsOwn P (Carry p) w = Unit {0}
 KeepsOwn P Clock w = (x : ℕ) (s : NodeState) → slice_get w.nodes x ≡ Some s → P x s → P x (node_step node_events.Clock s).0
 
@@ -71,6 +72,12 @@ module _ (P : ℕ → NodeState → Type 0) where
         all_spoilt app p (with_changed p.node (lost_at (place_of p.port) index) w)
         (all_changed p.node (lost_at (place_of p.port) index) w (λ s is h. sides.boxes (p.node.0 - 1) s (lost_at (place_of p.port) index s).inboxes s.outboxes h) all)
 
+    all_forged : (p : EgressPort) (index : ℕ) (wire : Wire) (b : Bool) (w : WorldState) → AllNodes P w → AllNodes P (with_forgery p index wire b w).0
+    all_forged p index wire false w all = all
+    all_forged p index wire true w all =
+        all_spoilt wire.app p (with_changed p.node (forged_at (place_of p.port) index wire) w)
+        (all_changed p.node (forged_at (place_of p.port) index wire) w (λ s is h. sides.boxes (p.node.0 - 1) s (forged_at (place_of p.port) index wire s).inboxes s.outboxes h) all)
+
     all_repeated : (p : EgressPort) (index : ℕ) (o : Option App) (w : WorldState) → AllNodes P w → AllNodes P (after_repeat p index o w).0
     all_repeated p index None w all = all
     all_repeated p index (Some app) w all =
@@ -81,6 +88,7 @@ module _ (P : ℕ → NodeState → Type 0) where
     all_keep (Port n port step) w keeps all = all_stepped n (node_events.Port port step) w keeps all
     all_keep (Lose p index) w keeps all = all_lost p index (app_of p index w) w all
     all_keep (Repeat p index) w keeps all = all_repeated p index (app_of p index w) w all
+    all_keep (Forge p index wire) w keeps all = all_forged p index wire (reaches p index w) w all
     all_keep (Carry p) w keeps all =
         let q = peer_of w.tree.links p in
         let v = with_changed p.node (with_outbox (place_of p.port) []) w in

@@ -9,7 +9,7 @@ use Rattle.tree_topology.specs.PortLaws.{HasPortLaws}
 use Rattle.tree_topology.specs.Walk.{is_behind}
 use Rattle.mrp_participant.specs.Link.{Link, AreDutiesMet, other_view}
 use Rattle.mrp_participant.specs.State.{State}
-use Rattle.mvrp.specs.Side.{place_of}
+use Rattle.attribute_propagation.specs.Ports.{place_of}
 use Rattle.node_core.specs.Proper.{IsProperNode}
 use Rattle.node_core.specs.State.{NodeState, box_at, ports_of}
 use Rattle.world_core.specs.World.{WorldState, node_at, with_changed, inbox, outbox}

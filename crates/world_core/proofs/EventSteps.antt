@@ -1,5 +1,5 @@
 -- Each event of a network keeps the duties of all links in an application, whichever it is, from what the application shows.
-use Rattle.std.proofs.Common.{◌≡◌, ◌≢◌, ◌⊎◌, inl, inr, ℕ, zero, suc, ◌-◌, List, [], ◌∷◌, ◌++◌, refl, sym, ap, subst, ◌∙◌, arith}
+use Rattle.std.proofs.Common.{◌≡◌, ◌≢◌, ◌⊎◌, inl, inr, ℕ, zero, suc, ◌-◌, Bool, true, false, List, [], ◌∷◌, ◌++◌, refl, sym, ap, subst, ◌∙◌, arith}
 use Rattle.std.specs.Prelude.{slice_get, Option, Some, None, option_map, filter_map}
 use Rattle.std.proofs.lemmas.List.{append-nil}
 use Rattle.srp_base.specs.declared.numbers.NodeNo.{NodeNo}
@@ -13,21 +13,21 @@ use Rattle.mrp_participant.specs.State.{State}
 use Rattle.mrp_participant.specs.Link.{AreDutiesMet, with_repeat as twice_in}
 use Rattle.mrp_participant.specs.Link.EndEvent.{Repeats}
 use Rattle.mrp_participant.specs.Link.LinkEvent.{AtFar}
-use Rattle.mvrp.specs.Side.{place_of}
+use Rattle.attribute_propagation.specs.Ports.{place_of}
 use Rattle.node_core.specs.declared.types.Wire.{Wire}
 use Rattle.node_core.specs.declared.types.AppRequest.{AppRequest}
 use Rattle.node_core.specs.declared.types.NodeEvent.{NodeEvent}
 use Rattle.node_core.specs.declared.types.NodeEvent.TheVariants as node_events
 use Rattle.node_core.specs.declared.types.PortStep.{PortStep}
-use Rattle.node_core.specs.Wires.{without}
+use Rattle.node_core.specs.Wires.{without, with_wire}
 use Rattle.node_core.specs.State.{NodeState, box_at}
 use Rattle.node_core.specs.Step.{node_step}
-use Rattle.node_core.specs.Links.{with_outbox, with_carried, lost_at, repeated_at, spoilt_at}
+use Rattle.node_core.specs.Links.{with_outbox, with_inbox, with_carried, lost_at, repeated_at, forged_at, spoilt_at}
 use Rattle.world_core.specs.declared.events.WorldEvent.{WorldEvent}
-use Rattle.world_core.specs.declared.events.WorldEvent.TheVariants.{Request, Port, Lose, Repeat, Carry, Clock}
-use Rattle.world_core.specs.World.{WorldState, node_at, with_changed, inbox, outbox, app_of, with_unsound_ends, with_loss, after_repeat, after_clock, world_step, CanHappen}
+use Rattle.world_core.specs.declared.events.WorldEvent.TheVariants.{Request, Port, Lose, Repeat, Forge, Carry, Clock}
+use Rattle.world_core.specs.World.{WorldState, node_at, with_changed, inbox, outbox, app_of, reaches, with_unsound_ends, with_loss, after_repeat, with_forgery, after_clock, world_step, CanHappen}
 use Rattle.world_core.specs.Duty.{part_at}
-use Rattle.world_core.proofs.Lists.{one_some, nothing_lost, said_twice}
+use Rattle.world_core.proofs.Lists.{one_some, nothing_lost, nothing_added, said_twice}
 use Rattle.world_core.proofs.Boxes.{box_got, box_other, box_none}
 use Rattle.world_core.proofs.Views.{AppView, LinkLaws, StepFacts, AreMet, KeepsLink, boxed, boxed_same, met_same, unsound}
 use Rattle.world_core.proofs.StepBoxes.{asked_boxes, step_boxes, spoilt_boxes}
@@ -212,68 +212,71 @@ module _ {K C : Type 0} (v : AppView K C) (links : LinkLaws v) (facts : StepFact
     met_carry : AreMet v (world_step (Carry e) w).0
     met_carry = on_tree v w filled tree_filled met_filled
 
-    -- ---- a loss
+    -- ---- an inbox becomes another, and both ends are spoilt for an application: a loss, and a forgery
 
-    module _ (index : ℕ) (app : App) where
-      abbrev fewer : WorldState
-      fewer = with_changed e.node (lost_at (place_of e.port) index) w
+    module _ (others : List Wire → List Wire) (app : App) where
+      abbrev other_box : NodeState → NodeState
+      other_box s = with_inbox (place_of e.port) (others (box_at (place_of e.port) s.inboxes)) s
+
+      abbrev changed : WorldState
+      changed = with_changed e.node other_box w
 
       abbrev near_spoilt : WorldState
-      near_spoilt = with_changed e.node (spoilt_at app (place_of e.port)) fewer
+      near_spoilt = with_changed e.node (spoilt_at app (place_of e.port)) changed
 
       abbrev both_spoilt : WorldState
       both_spoilt = with_changed q.node (spoilt_at app (place_of q.port)) near_spoilt
 
-      is_spoilt : both_spoilt ≡ with_unsound_ends app e fewer
+      is_spoilt : both_spoilt ≡ with_unsound_ends app e changed
       is_spoilt =
           ap (λ (t : Topology). with_changed (peer_of t.links e).node (spoilt_at app (place_of (peer_of t.links e).port)) near_spoilt)
-          (sym (same_tree e.node (lost_at (place_of e.port) index) w))
+          (sym (same_tree e.node other_box w))
 
       tree_both : both_spoilt.tree ≡ w.tree
-      tree_both = same_tree q.node (spoilt_at app (place_of q.port)) near_spoilt ∙ (same_tree e.node (spoilt_at app (place_of e.port)) fewer ∙ same_tree e.node (lost_at (place_of e.port) index) w)
+      tree_both = same_tree q.node (spoilt_at app (place_of q.port)) near_spoilt ∙ (same_tree e.node (spoilt_at app (place_of e.port)) changed ∙ same_tree e.node other_box w)
 
       else_same : (p : EgressPort) → HasPort w.tree p → p ≢ e → p ≢ q → SameAtPort v p w both_spoilt
       else_same p hp ne nq =
-          same_then v p w fewer both_spoilt
-          (same_port v e.node (lost_at (place_of e.port) index) w p (λ s is nodes.
+          same_then v p w changed both_spoilt
+          (same_port v e.node other_box w p (λ s is nodes.
           record {
             part = facts.boxes (place_of p.port) s _ s.outboxes;
             boxes = record { inbox = box_other s.inboxes (place_of e.port) (place_of p.port) _ (other_place w.tree p e hp has nodes ne); outbox = refl };
           }))
-          (same_then v p fewer near_spoilt both_spoilt
-          (same_port v e.node (spoilt_at app (place_of e.port)) fewer p (λ s is nodes.
+          (same_then v p changed near_spoilt both_spoilt
+          (same_port v e.node (spoilt_at app (place_of e.port)) changed p (λ s is nodes.
           record { part = facts.spoilt_apart app (place_of e.port) (place_of p.port) s (other_place w.tree p e hp has nodes ne); boxes = spoilt_boxes app (place_of e.port) (place_of p.port) s }))
           (same_port v q.node (spoilt_at app (place_of q.port)) near_spoilt p (λ s is nodes.
           record { part = facts.spoilt_apart app (place_of q.port) (place_of p.port) s (other_place w.tree p q hp has_q nodes nq); boxes = spoilt_boxes app (place_of q.port) (place_of p.port) s })))
 
-      abbrev lost_e : NodeState
-      lost_e = lost_at (place_of e.port) index node_e.0
+      abbrev other_e : NodeState
+      other_e = other_box node_e.0
 
-      e_both : node_at e.node both_spoilt ≡ Some (spoilt_at app (place_of e.port) lost_e)
+      e_both : node_at e.node both_spoilt ≡ Some (spoilt_at app (place_of e.port) other_e)
       e_both =
           node_other q.node (spoilt_at app (place_of q.port)) near_spoilt e.node (λ i. apart (sym i))
-          ∙ (node_same e.node (spoilt_at app (place_of e.port)) fewer
-          ∙ ap (option_map (spoilt_at app (place_of e.port))) (node_same e.node (lost_at (place_of e.port) index) w ∙ ap (option_map (lost_at (place_of e.port) index)) node_e.1))
+          ∙ (node_same e.node (spoilt_at app (place_of e.port)) changed
+          ∙ ap (option_map (spoilt_at app (place_of e.port))) (node_same e.node other_box w ∙ ap (option_map other_box) node_e.1))
 
       q_both : node_at q.node both_spoilt ≡ Some (spoilt_at app (place_of q.port) node_q.0)
       q_both =
           node_same q.node (spoilt_at app (place_of q.port)) near_spoilt
           ∙ ap (option_map (spoilt_at app (place_of q.port)))
-          (node_other e.node (spoilt_at app (place_of e.port)) fewer q.node apart
-          ∙ (node_other e.node (lost_at (place_of e.port) index) w q.node apart ∙ node_q.1))
+          (node_other e.node (spoilt_at app (place_of e.port)) changed q.node apart
+          ∙ (node_other e.node other_box w q.node apart ∙ node_q.1))
 
-      lost_part : v.part (place_of e.port) lost_e ≡ Some old_e.0
-      lost_part = facts.boxes (place_of e.port) node_e.0 _ node_e.0.outboxes ∙ old_e.1
+      same_part : v.part (place_of e.port) other_e ≡ Some old_e.0
+      same_part = facts.boxes (place_of e.port) node_e.0 _ node_e.0.outboxes ∙ old_e.1
 
-      whole_loss : MetOn v w.tree both_spoilt → AreMet v (with_unsound_ends app e fewer)
-      whole_loss on = subst (AreMet v) is_spoilt (on_tree v w both_spoilt tree_both on)
+      whole : MetOn v w.tree both_spoilt → AreMet v (with_unsound_ends app e changed)
+      whole on = subst (AreMet v) is_spoilt (on_tree v w both_spoilt tree_both on)
 
       -- a PDU of the application: neither end is sound any more
-      own_loss : app ≡ facts.app → AreMet v (with_unsound_ends app e fewer)
-      own_loss own =
-          whole_loss (one_link v w.tree laws links.turns w both_spoilt e has else_same met (λ near far a b.
+      own_spoilt : app ≡ facts.app → AreMet v (with_unsound_ends app e changed)
+      own_spoilt own =
+          whole (one_link v w.tree laws links.turns w both_spoilt e has else_same met (λ near far a b.
           let near_is : unsound old_e.0 ≡ near = one_some _ (unsound old_e.0) near
-          (ap (λ (x : App). v.part (place_of e.port) (spoilt_at x (place_of e.port) lost_e)) own ∙ facts.spoilt_own (place_of e.port) lost_e old_e.0 lost_part)
+          (ap (λ (x : App). v.part (place_of e.port) (spoilt_at x (place_of e.port) other_e)) own ∙ facts.spoilt_own (place_of e.port) other_e old_e.0 same_part)
           (sym (part_is v e both_spoilt _ e_both) ∙ a) in
           let far_is : unsound old_q.0 ≡ far = one_some _ (unsound old_q.0) far
           (ap (λ (x : App). v.part (place_of q.port) (spoilt_at x (place_of q.port) node_q.0)) own ∙ facts.spoilt_own (place_of q.port) node_q.0 old_q.0 old_q.1)
@@ -287,26 +290,25 @@ module _ {K C : Type 0} (v : AppView K C) (links : LinkLaws v) (facts : StepFact
             far_duty = links.unsound (unsound old_q.0) (unsound old_e.0) _ _ refl;
           })))
 
-      -- a PDU of another application says nothing
-      other_loss : app ≢ facts.app → app_of e index w ≡ Some app → AreMet v (with_unsound_ends app e fewer)
-      other_loss other is =
-          whole_loss (one_link v w.tree laws links.turns w both_spoilt e has else_same met (λ near far a b.
-          let near_is : old_e.0 ≡ near = one_some _ old_e.0 near (facts.spoilt_other app (place_of e.port) (place_of e.port) lost_e other ∙ lost_part) (sym (part_is v e both_spoilt _ e_both) ∙ a) in
+      -- those of another application are sound as before, and what comes in says the same
+      other_spoilt : app ≢ facts.app → filter_map v.said (others (inbox e w) ++ outbox q w) ≡ filter_map v.said (inbox e w ++ outbox q w)
+          → AreMet v (with_unsound_ends app e changed)
+      other_spoilt other same_said =
+          whole (one_link v w.tree laws links.turns w both_spoilt e has else_same met (λ near far a b.
+          let near_is : old_e.0 ≡ near = one_some _ old_e.0 near (facts.spoilt_other app (place_of e.port) (place_of e.port) other_e other ∙ same_part) (sym (part_is v e both_spoilt _ e_both) ∙ a) in
           let far_is : old_q.0 ≡ far = one_some _ old_q.0 far (facts.spoilt_other app (place_of q.port) (place_of q.port) node_q.0 other ∙ old_q.1) (sym (part_is v q both_spoilt _ q_both) ∙ b) in
           let in_far : inbox q w ≡ inbox q both_spoilt = inbox_is q w node_q.0 node_q.1 ∙ (sym (spoilt_boxes app (place_of q.port) (place_of q.port) node_q.0).inbox ∙ sym (inbox_is q both_spoilt _ q_both)) in
           let out_far : outbox q w ≡ outbox q both_spoilt = outbox_is q w node_q.0 node_q.1 ∙ (sym (spoilt_boxes app (place_of q.port) (place_of q.port) node_q.0).outbox ∙ sym (outbox_is q both_spoilt _ q_both)) in
-          let out_near : outbox e w ≡ outbox e both_spoilt = outbox_is e w node_e.0 node_e.1 ∙ (sym (spoilt_boxes app (place_of e.port) (place_of e.port) lost_e).outbox ∙ sym (outbox_is e both_spoilt _ e_both)) in
+          let out_near : outbox e w ≡ outbox e both_spoilt = outbox_is e w node_e.0 node_e.1 ∙ (sym (spoilt_boxes app (place_of e.port) (place_of e.port) other_e).outbox ∙ sym (outbox_is e both_spoilt _ e_both)) in
           let box = inbox_there node_e.0 (proper_at w base e.node node_e.0 node_e.1) (place_of e.port) (place_within w base e has node_e.0 node_e.1) in
-          let in_near : without index (inbox e w) ≡ inbox e both_spoilt =
-          ap (without index) (inbox_is e w node_e.0 node_e.1)
-          ∙ (sym (box_got node_e.0.inboxes (place_of e.port) box.0 (without index (box_at (place_of e.port) node_e.0.inboxes)) box.1)
-          ∙ (sym (spoilt_boxes app (place_of e.port) (place_of e.port) lost_e).inbox ∙ sym (inbox_is e both_spoilt _ e_both))) in
-          let wire = wire_at (inbox e w) index app is in
-          let silent = facts.others_say wire.0 (λ i. other (sym wire.2 ∙ i)) in
-          met_same v old_e.0 near old_q.0 far (inbox q w) (inbox q both_spoilt) (outbox e w) (outbox e both_spoilt) (without index (inbox e w)) (inbox e both_spoilt) (outbox q w) (outbox q both_spoilt)
+          let in_near : others (inbox e w) ≡ inbox e both_spoilt =
+          ap others (inbox_is e w node_e.0 node_e.1)
+          ∙ (sym (box_got node_e.0.inboxes (place_of e.port) box.0 (others (box_at (place_of e.port) node_e.0.inboxes)) box.1)
+          ∙ (sym (spoilt_boxes app (place_of e.port) (place_of e.port) other_e).inbox ∙ sym (inbox_is e both_spoilt _ e_both))) in
+          met_same v old_e.0 near old_q.0 far (inbox q w) (inbox q both_spoilt) (outbox e w) (outbox e both_spoilt) (others (inbox e w)) (inbox e both_spoilt) (outbox q w) (outbox q both_spoilt)
           near_is far_is in_far out_near in_near out_far
           (subst (λ ms. AreDutiesMet v.cmp (record { near = old_e.0; far = old_q.0; sent = filter_map v.said (inbox q w ++ outbox e w); coming = ms }))
-          (sym (nothing_lost v.said index (inbox e w) (outbox q w) wire.0 wire.1 silent)) met_before)))
+          (sym same_said) met_before)))
 
   met_lose : (e : EgressPort) (index : ℕ) (w : WorldState) → HasPortLaws w.tree → HasPort w.tree e → Base w → AreMet v w → AreMet v (world_step (Lose e index) w).0
   met_lose e index w laws has base met = by (app_of e index w) refl
@@ -316,8 +318,24 @@ module _ {K C : Type 0} (v : AppView K C) (links : LinkLaws v) (facts : StepFact
       by (Some app) is = either (decide_app app facts.app)
         where
           either : (app ≡ facts.app) ⊎ (app ≢ facts.app) → AreMet v (with_unsound_ends app e (with_changed e.node (lost_at (place_of e.port) index) w))
-          either (inl own) = own_loss e w laws has base met index app own
-          either (inr other) = other_loss e w laws has base met index app other is
+          either (inl own) = own_spoilt e w laws has base met (without index) app own
+          either (inr other) =
+              let wire = wire_at (inbox e w) index app is in
+              other_spoilt e w laws has base met (without index) app other
+              (nothing_lost v.said index (inbox e w) (outbox (peer_of w.tree.links e) w) wire.0 wire.1 (facts.others_say wire.0 (λ i. other (sym wire.2 ∙ i))))
+
+  met_forge : (e : EgressPort) (index : ℕ) (wire : Wire) (w : WorldState) → HasPortLaws w.tree → HasPort w.tree e → Base w → AreMet v w → AreMet v (world_step (Forge e index wire) w).0
+  met_forge e index wire w laws has base met = by (reaches e index w)
+    where
+      by : (b : Bool) → AreMet v (with_forgery e index wire b w).0
+      by false = met
+      by true = either (decide_app wire.app facts.app)
+        where
+          either : (wire.app ≡ facts.app) ⊎ (wire.app ≢ facts.app) → AreMet v (with_unsound_ends wire.app e (with_changed e.node (forged_at (place_of e.port) index wire) w))
+          either (inl own) = own_spoilt e w laws has base met (with_wire index wire) wire.app own
+          either (inr other) =
+              other_spoilt e w laws has base met (with_wire index wire) wire.app other
+              (nothing_added v.said index (inbox e w) (outbox (peer_of w.tree.links e) w) wire (facts.others_say wire other))
 
   -- ---- every event
 
@@ -326,5 +344,6 @@ module _ {K C : Type 0} (v : AppView K C) (links : LinkLaws v) (facts : StepFact
   met_event (Port n port step) w laws can base met = met_port (record { node = n; port = port }) step w laws can base met
   met_event (Lose p index) w laws can base met = met_lose p index w laws can base met
   met_event (Repeat p index) w laws can base met = met_repeat p index (app_of p index w) w laws can base met
+  met_event (Forge p index wire) w laws can base met = met_forge p index wire w laws can.0 base met
   met_event (Carry p) w laws can base met = met_carry p w laws can base met
   met_event Clock w laws can base met = met_clock w laws met

@@ -19,7 +19,7 @@ use Rattle.tree_topology.specs.Ports.{peer_of}
 use Rattle.topology_file.specs.declared.entries.NodeEntry.{NodeEntry}
 use Rattle.topology_file.specs.Plan.{Plan}
 use Rattle.mvrp.specs.Part.{Part}
-use Rattle.mvrp.specs.Side.{place_of}
+use Rattle.attribute_propagation.specs.Ports.{place_of}
 use Rattle.mrp_participant.specs.State.{new_state}
 use Rattle.msrp.specs.declared.port.Port.{Port as SrpPort}
 use Rattle.msrp.specs.Side.{new_port, clocked_port}

@@ -1,6 +1,6 @@
 -- One of a list of nodes becomes another: the list then, and where ports stand in it.
-use Rattle.std.proofs.Common.{◌≡◌, ℕ, zero, suc, ◌-◌, ◌∷◌, ◌++◌, Bool, false, List, [], length, map, take, drop, length-append, refl, sym, ap, subst, ◌∙◌, arith}
-use Rattle.std.specs.Prelude.{◌<◌, ◌≤◌, slice_get, slice_set, Option, Some, None, option_map, Result, Ok, Err, OnOk, if◌then◌else◌}
+use Rattle.std.proofs.Common.{◌≡◌, ℕ, zero, suc, ◌-◌, ◌∷◌, ◌++◌, Bool, true, false, List, [], length, map, take, drop, length-append, refl, sym, ap, subst, ◌∙◌, arith}
+use Rattle.std.specs.Prelude.{◌<◌, ◌≤◌, nat_le, slice_get, slice_set, Option, Some, None, option_map, Result, Ok, Err, OnOk, if◌then◌else◌}
 use Rattle.std.proofs.lemmas.Option.{slice_get_within, slice_get_read}
 use Rattle.std.proofs.lemmas.Bool.{lt-ltb}
 use Rattle.std.proofs.lemmas.List.{append-nil}
@@ -13,12 +13,14 @@ use Rattle.srp_base.specs.declared.mrp.App.TheVariants.{Mvrp, Msrp}
 use Rattle.mvrp.specs.Part.{Part}
 use Rattle.tree_topology.specs.Topology.{Topology}
 use Rattle.tree_topology.specs.Ports.{peer_of}
-use Rattle.mvrp.specs.Side.{IsLinkPort, place_of, with_part_at, with_part}
+use Rattle.attribute_propagation.specs.Ports.{IsLinkPort, place_of}
+use Rattle.flat_side.specs.Side.{with_part_at, with_part}
 use Rattle.node_core.specs.declared.types.Wire.{Wire}
 use Rattle.node_core.specs.State.{NodeState, box_at, ports_of}
 use Rattle.node_core.proofs.Boxes.{set_set, set_same}
-use Rattle.node_core.specs.Links.{with_outbox, with_carried, has_index, lost_at, spoilt_at}
-use Rattle.world_core.specs.World.{WorldState, StandsAt, nodes_with, with_changed, outbox, app_of, with_unsound_ends, after_carrying}
+use Rattle.node_core.specs.Links.{with_outbox, with_carried, has_index, has_place, lost_at, forged_at, spoilt_at}
+use Rattle.world_core.specs.World.{WorldState, StandsAt, nodes_with, with_changed, outbox, app_of, reaches, with_unsound_ends, with_forgery, after_carrying}
+use Rattle.world_core.specs.declared.events.WorldReply.TheVariants.{Done, Missed}
 use Rattle.world_core.proofs.Boxes.{box_none}
 use Rattle.world_core.proofs.Lists.{set_each, get_set, get_set_same}
 
@@ -106,18 +108,13 @@ done_there s t at index change done less is e = e ∙ ap (λ (b : Bool). if b th
 of_tree : Topology → List NodeState → WorldState
 of_tree tree nodes = record { tree = tree; nodes = nodes }
 
--- a port's PDU is lost, and both ends of its link are spoilt
-pub lose_is : (p q : EgressPort) (index : ℕ) (app : App) (tree : Topology) (nodes a b c : List NodeState) → q ≡ peer_of tree.links p
-    → a ≡ nodes_with p.node (lost_at (place_of p.port) index) nodes → b ≡ nodes_with p.node (spoilt_at app (place_of p.port)) a
-    → c ≡ nodes_with q.node (spoilt_at app (place_of q.port)) b
-    → with_unsound_ends app p (with_changed p.node (lost_at (place_of p.port) index) (record { tree = tree; nodes = nodes })) ≡ record { tree = tree; nodes = c }
+-- both ends of a port's link are spoilt after a change of its node
+pub spoilt_after : (p : EgressPort) (app : App) (change : NodeState → NodeState) (tree : Topology) (nodes a b : List NodeState)
+    → a ≡ nodes_with p.node change nodes → with_unsound_ends app p (record { tree = tree; nodes = a }) ≡ record { tree = tree; nodes = b }
+    → with_unsound_ends app p (with_changed p.node change (record { tree = tree; nodes = nodes })) ≡ record { tree = tree; nodes = b }
 unfolding of_tree
-lose_is p q index app tree nodes a b c eq ea eb ec =
-    let r = peer_of tree.links p in
-    ap (with_unsound_ends app p) (changed_is p.node (lost_at (place_of p.port) index) (of_tree tree nodes) ∙ ap (of_tree tree) (sym ea))
-    ∙ (ap (with_changed r.node (spoilt_at app (place_of r.port))) (changed_is p.node (spoilt_at app (place_of p.port)) (of_tree tree a) ∙ ap (of_tree tree) (sym eb))
-    ∙ (changed_is r.node (spoilt_at app (place_of r.port)) (of_tree tree b)
-    ∙ ap (of_tree tree) (ap (λ (q : EgressPort). nodes_with q.node (spoilt_at app (place_of q.port)) b) (sym eq) ∙ sym ec)))
+spoilt_after p app change tree nodes a b ea eb =
+    ap (with_unsound_ends app p) (changed_is p.node change (of_tree tree nodes) ∙ ap (of_tree tree) (sym ea)) ∙ eb
 
 -- the PDUs of a port's outbox come in at its peer
 pub carry_is : (p q : EgressPort) (tree : Topology) (nodes a b : List NodeState) (wires : List Wire) → q ≡ peer_of tree.links p
@@ -137,6 +134,46 @@ set_back : (nodes : List NodeState) (i : ℕ) (s : NodeState) → slice_get node
 set_back [] i s is = refl
 set_back (t ∷ nodes) zero s is = let e : t ≡ s = cc in ap (λ x. x ∷ nodes) (sym e)
 set_back (t ∷ nodes) (suc i) s is = ap (λ xs. t ∷ xs) (set_back nodes i s is)
+
+-- a PDU stands at an index of an inbox, where that reaches so far
+reaches_in : EgressPort → ℕ → Option NodeState → Bool
+reaches_in p index o = nat_le index (length (option_map_or (λ s. box_at (place_of p.port) s.inboxes) o []))
+
+pub reaches_is : (p : EgressPort) (index : ℕ) (tree : Topology) (nodes : List NodeState) (s : NodeState) → slice_get nodes (p.node.0 - 1) ≡ Some s
+    → has_place (place_of p.port) index s ≡ reaches p index (record { tree = tree; nodes = nodes })
+unfolding reaches_in
+reaches_is p index tree nodes s is = sym (ap (reaches_in p index) is)
+
+pub changed_if : (p : EgressPort) (change : NodeState → NodeState) (nodes : List NodeState) (i : ℕ) (s t : NodeState) (done : Bool) → StandsAt p nodes
+    → i ≡ p.node.0 - 1 → s ≡ get_or nodes i s → t ≡ (if done then change s else s) → slice_set nodes i t ≡ (if done then nodes_with p.node change nodes else nodes)
+changed_if p change nodes i s t true stands at value is = ap (slice_set nodes i) is ∙ changed_here p change nodes i s stands at value
+changed_if p change nodes i s t false stands at value is =
+    ap (slice_set nodes i) is ∙ set_back nodes i s (subst (λ (k : ℕ). slice_get nodes k ≡ Some s) (sym at) (get_there p nodes i s stands at value))
+
+pub ports_if : (change : NodeState → NodeState) (s t : NodeState) (done : Bool) → ports_of (change s) ≡ ports_of s → t ≡ (if done then change s else s) → ports_of t ≡ ports_of s
+ports_if change s t true same is = ap ports_of is ∙ same
+ports_if change s t false same is = ap ports_of is
+
+-- where an inbox doesn't reach so far, nothing happens
+pub not_reached : (p : EgressPort) (index : ℕ) (wire : Wire) (tree : Topology) (nodes a b : List NodeState) (done : Bool) → done ≡ false
+    → done ≡ reaches p index (record { tree = tree; nodes = nodes }) → a ≡ (if done then b else nodes)
+    → with_forgery p index wire (reaches p index (record { tree = tree; nodes = nodes })) (record { tree = tree; nodes = nodes }) ≡ (record { tree = tree; nodes = a }, Missed)
+unfolding of_tree
+not_reached p index wire tree nodes a b done missed is ea =
+    let same : a ≡ nodes = ea ∙ ap (λ (d : Bool). if d then b else nodes) missed in
+    ap (λ (d : Bool). with_forgery p index wire d (of_tree tree nodes)) (sym is ∙ missed) ∙ ap (λ (v : WorldState). (v, Missed)) (ap (of_tree tree) (sym same))
+
+-- where it does, a PDU stands in it, and both ends are spoilt
+pub forge_is : (p : EgressPort) (index : ℕ) (wire : Wire) (tree : Topology) (nodes a b : List NodeState) (done : Bool) → done ≡ true
+    → done ≡ reaches p index (record { tree = tree; nodes = nodes }) → a ≡ (if done then nodes_with p.node (forged_at (place_of p.port) index wire) nodes else nodes)
+    → with_unsound_ends wire.app p (record { tree = tree; nodes = a }) ≡ record { tree = tree; nodes = b }
+    → with_forgery p index wire (reaches p index (record { tree = tree; nodes = nodes })) (record { tree = tree; nodes = nodes }) ≡ (record { tree = tree; nodes = b }, Done)
+unfolding of_tree
+forge_is p index wire tree nodes a b done does is ea eb =
+    let forged : a ≡ nodes_with p.node (forged_at (place_of p.port) index wire) nodes
+    = ea ∙ ap (λ (d : Bool). if d then nodes_with p.node (forged_at (place_of p.port) index wire) nodes else nodes) does in
+    ap (λ (d : Bool). with_forgery p index wire d (of_tree tree nodes)) (sym is ∙ does)
+    ∙ ap (λ (v : WorldState). (v, Done)) (spoilt_after p wire.app (forged_at (place_of p.port) index wire) tree nodes a b forged eb)
 
 -- no PDUs behind those of an inbox leave all as it is
 none_carried : (q : EgressPort) (nodes : List NodeState) → nodes_with q.node (with_carried (place_of q.port) []) nodes ≡ nodes

@@ -17,7 +17,7 @@ use Rattle.tree_topology.specs.Topology.{Topology, HasNode, HasPort}
 use Rattle.tree_topology.specs.Ports.{neighbours}
 use Rattle.frame_flow.specs.Force.{is_port, changes_at, last_upto, in_force}
 use Rattle.frame_flow.specs.Copies.{ports_at, port_of}
-use Rattle.mvrp.specs.Side.{place_of}
+use Rattle.attribute_propagation.specs.Ports.{place_of}
 use Rattle.node_core.specs.State.{NodeState}
 use Rattle.world_core.specs.declared.journal.NodeSteps.{NodeSteps}
 use Rattle.world_core.specs.World.{WorldState, node_at}

@@ -10,7 +10,8 @@ use Rattle.mvrp_codec.specs.Meaning.{mvrp_reading}
 use Rattle.msrp_codec.specs.declared.pdu.MsrpPdu.{MsrpPdu}
 use Rattle.msrp_codec.specs.Meaning.{msrp_reading}
 use Rattle.mvrp.specs.Part.{Part}
-use Rattle.mvrp.specs.Side.{Vlans, with_part}
+use Rattle.flat_side.specs.Side.{with_part}
+use Rattle.mvrp.specs.Side.{Vlans}
 use Rattle.msrp.specs.declared.port.Port.{Port}
 use Rattle.msrp.specs.Side.{Streams, with_port}
 use Rattle.node_core.specs.declared.types.Wire.{Wire}
@@ -26,7 +27,7 @@ use Rattle.node_core.specs.Links.{spoilt_at}
 use Rattle.topology_file.specs.Plan.{Plan}
 use Rattle.topology_file.specs.declared.entries.NodeEntry.{NodeEntry}
 use Rattle.world_core.specs.declared.events.WorldEvent.{WorldEvent}
-use Rattle.world_core.specs.declared.events.WorldEvent.TheVariants.{Request, Port as PortEvent, Lose, Repeat, Carry, Clock}
+use Rattle.world_core.specs.declared.events.WorldEvent.TheVariants.{Request, Port as PortEvent, Lose, Repeat, Forge, Carry, Clock}
 use Rattle.world_core.specs.World.{WorldState, node_at, world_step, CanHappen}
 use Rattle.world_core.specs.Start.{world_of, nodes_from}
 use Rattle.world_core.specs.Kept.{IsIdleBridge, AreBridgesIdle}
@@ -149,6 +150,7 @@ idle_own (Request n request) w can = λ s at idle k. absurd (station s at (sym (
 idle_own (PortEvent n port step) w can = λ s at idle. idle_stays s (port_step step _ s).0 (stays_step step _ s) idle
 idle_own (Lose p index) w can = tt
 idle_own (Repeat p index) w can = tt
+idle_own (Forge p index wire) w can = tt
 idle_own (Carry p) w can = tt
 idle_own Clock w can = λ x s at idle. idle_stays s (clocked_node s) (stays_clocked s) idle
 

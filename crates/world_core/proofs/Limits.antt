@@ -15,7 +15,7 @@ use Rattle.port_ledger.specs.Book.{Book, IsKept as IsKeptBook, booked_slope}
 use Rattle.tree_topology.specs.Topology.{HasPort}
 use Rattle.topology_file.specs.declared.entries.LinkEntry.{LinkEntry}
 use Rattle.topology_file.specs.Plan.{Plan}
-use Rattle.mvrp.specs.Side.{place_of}
+use Rattle.attribute_propagation.specs.Ports.{place_of}
 use Rattle.msrp.specs.declared.port.Port.{Port}
 use Rattle.msrp.specs.Side.{IsPort, new_port}
 use Rattle.node_core.specs.declared.types.NodeEvent.{NodeEvent}
@@ -25,7 +25,7 @@ use Rattle.node_core.specs.Proper.{port_setups}
 use Rattle.node_core.specs.State.{NodeState, slope_at}
 use Rattle.node_core.specs.Step.{node_step}
 use Rattle.world_core.specs.declared.events.WorldEvent.{WorldEvent}
-use Rattle.world_core.specs.declared.events.WorldEvent.TheVariants.{Request, Port as PortEvent, Lose, Repeat, Carry, Clock}
+use Rattle.world_core.specs.declared.events.WorldEvent.TheVariants.{Request, Port as PortEvent, Lose, Repeat, Forge, Carry, Clock}
 use Rattle.world_core.specs.Kept.{IsKeptWorld}
 use Rattle.world_core.specs.Limits.{is_link_of, links_of, caps_of_link, no_caps, caps_at, booked_at_port, IsWithinLimits}
 use Rattle.world_core.specs.Start.{setup_of, end_setup, setups_from, world_of}
@@ -75,6 +75,7 @@ set_up_own same plan (Request n request) w = λ s is h. ap (map (λ (c : PortCon
 set_up_own same plan (PortEvent n port step) w = λ s is h. ap (map (λ (c : PortConfig × Caps). c.1)) (same (node_events.Port port step) s) ∙ h
 set_up_own same plan (Lose p index) w = tt
 set_up_own same plan (Repeat p index) w = tt
+set_up_own same plan (Forge p index wire) w = tt
 set_up_own same plan (Carry p) w = tt
 set_up_own same plan Clock w = λ x s is h. ap (map (λ (c : PortConfig × Caps). c.1)) (same node_events.Clock s) ∙ h
 

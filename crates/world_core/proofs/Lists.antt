@@ -6,7 +6,7 @@ use Rattle.std.specs.List.{cons_option, AllByRecursion}
 use Rattle.srp_base.specs.declared.numbers.EgressPort.{EgressPort}
 use Rattle.mrp_participant.specs.Link.{with_repeat}
 use Rattle.node_core.specs.declared.types.Wire.{Wire}
-use Rattle.node_core.specs.Wires.{without}
+use Rattle.node_core.specs.Wires.{without, with_wire}
 
 pub decide : (m n : ℕ) → (m ≡ n) ⊎ (m ≢ n)
 decide zero zero = inl refl
@@ -122,6 +122,16 @@ nothing_lost f i [] ys x at none = cc
 nothing_lost f zero (z ∷ xs) ys x at none =
     let is : z ≡ x = cc in sym (ap (λ o. cons_option o (filter_map f (xs ++ ys))) (ap f is ∙ none))
 nothing_lost f (suc i) (z ∷ xs) ys x at none = ap (cons_option (f z)) (nothing_lost f i xs ys x at none)
+
+-- one more that says nothing
+pub nothing_added : {Y : Type 0} (f : Wire → Option Y) (i : ℕ) (xs ys : List Wire) (x : Wire) → f x ≡ None → filter_map f (with_wire i x xs ++ ys) ≡ filter_map f (xs ++ ys)
+nothing_added f i [] ys x none = nil i
+  where
+    nil : (j : ℕ) → filter_map f (with_wire j x [] ++ ys) ≡ filter_map f ys
+    nil zero = ap (λ o. cons_option o (filter_map f ys)) none
+    nil (suc j) = ap (λ o. cons_option o (filter_map f ys)) none
+nothing_added f zero (z ∷ xs) ys x none = ap (λ o. cons_option o (filter_map f (z ∷ xs ++ ys))) none
+nothing_added f (suc i) (z ∷ xs) ys x none = ap (cons_option (f z)) (nothing_added f i xs ys x none)
 
 -- ---- an element at a place becomes another, where there is one
 

@@ -8,7 +8,7 @@ use Rattle.srp_base.specs.declared.numbers.EgressPort.{EgressPort}
 use Rattle.tree_topology.specs.Topology.{HasPort, IsSound}
 use Rattle.tree_topology.specs.Ports.{neighbours}
 use Rattle.mrp_participant.specs.State.{State}
-use Rattle.mvrp.specs.Side.{place_of}
+use Rattle.attribute_propagation.specs.Ports.{place_of}
 use Rattle.node_core.specs.declared.types.Wire.{Wire}
 use Rattle.node_core.specs.State.{NodeState, box_at, ports_of}
 use Rattle.node_core.specs.Proper.{IsProperNode}

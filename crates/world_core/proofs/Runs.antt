@@ -28,9 +28,10 @@ use Rattle.topology_file.specs.Entries.{joins_both}
 use Rattle.topology_file.specs.Plan.{Plan}
 use Rattle.topology_file.specs.Scenario.{KeepsRules, HasStreamForm, node_kinds, tree_links}
 use Rattle.topology_file.specs.Kinds.{IsKnownKind, IsStationNumber, IsStreamNumber}
-use Rattle.mvrp.specs.Side.{place_of}
+use Rattle.attribute_propagation.specs.Ports.{place_of}
 use Rattle.msrp_codec.specs.FirstValue.{IsTalker}
 use Rattle.node_core.specs.declared.types.AppRequest.{AppRequest}
+use Rattle.node_core.specs.declared.types.Wire.{Wire}
 use Rattle.node_core.specs.declared.types.AppRequest.TheVariants.{Talk, Hush, Listen, Unlisten}
 use Rattle.node_core.specs.declared.types.NodeEvent.{NodeEvent}
 use Rattle.node_core.specs.declared.types.NodeEvent.TheVariants as node_events
@@ -38,12 +39,12 @@ use Rattle.node_core.specs.declared.types.NodeStep.{NodeStep}
 use Rattle.node_core.specs.declared.types.PortStep.{PortStep}
 use Rattle.node_core.specs.State.{NodeState}
 use Rattle.node_core.specs.Step.{node_step}
-use Rattle.node_core.specs.Links.{with_outbox, with_carried, lost_at, repeated_at, spoilt_at}
+use Rattle.node_core.specs.Links.{with_outbox, with_carried, lost_at, repeated_at, forged_at, spoilt_at}
 use Rattle.world_core.specs.declared.events.WorldEvent.{WorldEvent}
-use Rattle.world_core.specs.declared.events.WorldEvent.TheVariants.{Request, Port, Lose, Repeat, Carry, Clock}
+use Rattle.world_core.specs.declared.events.WorldEvent.TheVariants.{Request, Port, Lose, Repeat, Forge, Carry, Clock}
 use Rattle.world_core.specs.declared.journal.NodeSteps.{NodeSteps}
 use Rattle.world_core.specs.declared.journal.Tick.{Tick}
-use Rattle.world_core.specs.World.{WorldState, with_changed, step_of_node, outbox, app_of, with_unsound_ends, with_loss, after_repeat, world_step, world_after, CanHappen, CanAllHappen, IsEventInRange}
+use Rattle.world_core.specs.World.{WorldState, with_changed, step_of_node, outbox, app_of, reaches, with_unsound_ends, with_loss, after_repeat, with_forgery, world_step, world_after, CanHappen, CanAllHappen, IsEventInRange}
 use Rattle.world_core.specs.Start.{world_of}
 use Rattle.world_core.specs.Ticks.{talker_of_entry, stream_at, event_of, with_event, scripted_from, script_at, step_events, link_ports, tick_events, IsLegalTick, LeadTo}
 use Rattle.world_core.specs.During.{IsDuring, IsAllowed, NamesNeighbours}
@@ -72,11 +73,17 @@ tree_repeated : (p : EgressPort) (index : ℕ) (o : Option App) (w : WorldState)
 tree_repeated p index None w = refl
 tree_repeated p index (Some app) w = same_tree p.node (repeated_at (place_of p.port) index) w
 
+tree_forged : (p : EgressPort) (index : ℕ) (wire : Wire) (b : Bool) (w : WorldState) → (with_forgery p index wire b w).0.tree ≡ w.tree
+tree_forged p index wire false w = refl
+tree_forged p index wire true w =
+    tree_spoilt wire.app p (with_changed p.node (forged_at (place_of p.port) index wire) w) ∙ same_tree p.node (forged_at (place_of p.port) index wire) w
+
 pub tree_stays : (e : WorldEvent) (w : WorldState) → (world_step e w).0.tree ≡ w.tree
 tree_stays (Request n request) w = tree_stepped n (node_events.Request request) w
 tree_stays (Port n port step) w = tree_stepped n (node_events.Port port step) w
 tree_stays (Lose p index) w = tree_lost p index (app_of p index w) w
 tree_stays (Repeat p index) w = tree_repeated p index (app_of p index w) w
+tree_stays (Forge p index wire) w = tree_forged p index wire (reaches p index w) w
 tree_stays (Carry p) w =
     let q = peer_of w.tree.links p in
     same_tree q.node (with_carried (place_of q.port) (outbox p w)) (with_changed p.node (with_outbox (place_of p.port) []) w) ∙ same_tree p.node (with_outbox (place_of p.port) []) w
@@ -177,6 +184,7 @@ module _ (laws : RunLaws) where
   clock_own tree c (Port n port step) w ok = λ s is h. ap (λ (k : Cs). k.0) (laws.clock port step s) ∙ h
   clock_own tree c (Lose p index) w ok = tt
   clock_own tree c (Repeat p index) w ok = tt
+  clock_own tree c (Forge p index wire) w ok = tt
   clock_own tree c (Carry p) w ok = tt
   clock_own tree c Clock w ok = absurd ok
 
@@ -194,6 +202,7 @@ module _ (laws : RunLaws) where
   allowed_can tree t (Port n port step) w ok run = (on_tree tree w (record { node = n; port = port }) run.tree_is ok, tt)
   allowed_can tree t (Lose p index) w ok run = (on_tree tree w p run.tree_is ok, tt)
   allowed_can tree t (Repeat p index) w ok run = (on_tree tree w p run.tree_is ok, tt)
+  allowed_can tree t (Forge p index wire) w ok run = ((on_tree tree w p run.tree_is ok.0, ok.1), ok.2)
   allowed_can tree t (Carry p) w ok run = (on_tree tree w p run.tree_is ok, tt)
   allowed_can tree t Clock w ok run = absurd ok
 
@@ -290,6 +299,7 @@ module _ (laws : RunLaws) where
         asked_allowed (λ e. Request station (Unlisten e.id)) stream known.1 (λ e is. (known.0.0.0, kind_at station.0 known.0.0 known.0.1, tt))
     known_allowed (kinds.Lose from to index) known = joined_port from.0 to.0 known.0.2
     known_allowed (kinds.Repeat from to index) known = joined_port from.0 to.0 known.0.2
+    known_allowed (kinds.Forge from to index app octets) known = (joined_port from.0 to.0 known.0.0.2, known.1.0, known.1.1)
 
     pub known_neighbours : (kind : EventKind) → IsKnownKind plan.nodes plan.links plan.streams kind → NamesNeighbours plan.tree.links kind
     known_neighbours (kinds.Declare station vid) known = tt
@@ -300,6 +310,7 @@ module _ (laws : RunLaws) where
     known_neighbours (kinds.Unlisten station stream) known = tt
     known_neighbours (kinds.Lose from to index) known = joined_nodes from.0 to.0 known.0.2
     known_neighbours (kinds.Repeat from to index) known = joined_nodes from.0 to.0 known.0.2
+    known_neighbours (kinds.Forge from to index app octets) known = joined_nodes from.0 to.0 known.0.0.2
 
     with_allowed : (n : ℕ) (o : Option WorldEvent) (later : List (ℕ × WorldEvent)) → IfSome o (IsAllowed plan.tree)
         → AllByRecursion (IsAllowed plan.tree) (map (λ (e : ℕ × WorldEvent). e.1) later) → AllByRecursion (IsAllowed plan.tree) (map (λ (e : ℕ × WorldEvent). e.1) (with_event n o later))

@@ -15,7 +15,7 @@ use Rattle.topology_file.specs.declared.entries.EventKind.TheVariants as kinds
 use Rattle.topology_file.specs.Kinds.{IsStationNumber}
 use Rattle.topology_file.specs.Plan.{Plan}
 use Rattle.topology_file.specs.Scenario.{KeepsRules}
-use Rattle.mvrp.specs.Side.{place_of}
+use Rattle.attribute_propagation.specs.Ports.{place_of}
 use Rattle.msrp.specs.Stream.{talk_of}
 use Rattle.msrp.specs.Side.{Streams, is_talk, has_talk, has_listen, with_asks, talks_without, listens_without}
 use Rattle.node_core.specs.declared.types.AppRequest.{AppRequest}
@@ -25,7 +25,7 @@ use Rattle.node_core.specs.declared.types.NodeStep.{NodeStep}
 use Rattle.node_core.specs.State.{NodeState}
 use Rattle.node_core.specs.Step.{node_step}
 use Rattle.world_core.specs.declared.events.WorldEvent.{WorldEvent}
-use Rattle.world_core.specs.declared.events.WorldEvent.TheVariants.{Request, Port, Lose, Repeat, Carry, Clock}
+use Rattle.world_core.specs.declared.events.WorldEvent.TheVariants.{Request, Port, Lose, Repeat, Forge, Carry, Clock}
 use Rattle.world_core.specs.declared.journal.NodeSteps.{NodeSteps}
 use Rattle.world_core.specs.declared.journal.Tick.{Tick}
 use Rattle.world_core.specs.Moments.{events_from}
@@ -56,6 +56,7 @@ IsPlanned plan (Request n (Unlisten stream)) = Unit {0}
 IsPlanned plan (Port n port step) = Unit {0}
 IsPlanned plan (Lose p index) = Unit {0}
 IsPlanned plan (Repeat p index) = Unit {0}
+IsPlanned plan (Forge p index wire) = Unit {0}
 IsPlanned plan (Carry p) = Unit {0}
 IsPlanned plan Clock = Unit {0}
 
@@ -104,6 +105,7 @@ talks_own plan (Request n request) w ok = λ s is h. talks_asked plan n request 
 talks_own plan (Port n port step) w ok = λ s is h. subst (AllByRecursion (IsTalkOfPlan plan (n.0 - 1 + 1))) (sym (stays_step step (place_of port) s).talks) h
 talks_own plan (Lose p index) w ok = tt
 talks_own plan (Repeat p index) w ok = tt
+talks_own plan (Forge p index wire) w ok = tt
 talks_own plan (Carry p) w ok = tt
 talks_own plan Clock w ok = λ x s is h. h
 
@@ -144,6 +146,7 @@ module _ (plan : Plan) (rules : KeepsRules plan) where
   kind_planned (kinds.Unlisten station stream) = no_talk (stream_at plan.streams stream) (λ e. Request station (Unlisten e.id)) (λ e. tt)
   kind_planned (kinds.Lose from to index) = tt
   kind_planned (kinds.Repeat from to index) = tt
+  kind_planned (kinds.Forge from to index app octets) = tt
 
   with_planned : (n : ℕ) (o : Option WorldEvent) (later : List (ℕ × WorldEvent)) → IfSome o (IsPlanned plan)
       → AllByRecursion (IsPlanned plan) (map (λ (e : ℕ × WorldEvent). e.1) later) → AllByRecursion (IsPlanned plan) (map (λ (e : ℕ × WorldEvent). e.1) (with_event n o later))

@@ -14,8 +14,10 @@ use Rattle.mvrp_codec.specs.Writing.{mvrp_spelling}
 use Rattle.mrp_participant.specs.Duty.{IsDutyMet}
 use Rattle.mrp_participant.specs.State.{Messages, AreRows, is_active, is_silent, declared_state, withdrawn_state, due_state, left_keys, left_state, leave_all_state, periodic_state, sent_messages, sent_events}
 use Rattle.mrp_participant.specs.Link.{Link, LinkEvent, AreDutiesMet, after_event, other_view}
-use Rattle.mvrp.specs.Part.{Part, base, octets, same_content, pdu_sent, received_part, told_by_receipt, sent_part, settled_vid, settled_part}
-use Rattle.mvrp.specs.Side.{Vlans, IsWritten, with_part, at_part, with_told_part, with_part_at, left_vids, has_own, is_flat, awaiting_at, received_vlans, due_vlans, left_vlans, leave_all_vlans, periodic_vlans, settled_vlans, sent_vlans, spoilt_vlans}
+use Rattle.mvrp.specs.Part.{Part, base, octets, pdu_sent, received_part, told_by_receipt, sent_part, settled_vid, settled_part}
+use Rattle.flat_side.specs.Part.{same_content}
+use Rattle.flat_side.specs.Side.{with_part, at_part, with_part_at, awaiting_at}
+use Rattle.mvrp.specs.Side.{Vlans, IsWritten, with_told_part, left_vids, has_own, is_flat, received_vlans, due_vlans, left_vlans, leave_all_vlans, periodic_vlans, settled_vlans, sent_vlans, spoilt_vlans}
 use Rattle.mvrp.specs.Vids.{HasVidRows}
 use Rattle.node_core.specs.declared.types.AppRequest.{AppRequest}
 use Rattle.node_core.specs.declared.types.AppRequest.TheVariants.{Declare, Withdraw, Talk, Hush, Listen, Unlisten}

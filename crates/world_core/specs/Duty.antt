@@ -19,7 +19,7 @@ use Rattle.msrp_codec.specs.Meaning.{msrp_reading}
 use Rattle.mrp_participant.specs.State.{State, Messages}
 use Rattle.mrp_participant.specs.Link.{Link, AreDutiesMet}
 use Rattle.mvrp.specs.Part.{Part, messages}
-use Rattle.mvrp.specs.Side.{place_of}
+use Rattle.attribute_propagation.specs.Ports.{place_of}
 use Rattle.msrp.specs.Part.{Part as StreamPart, key_cmp}
 use Rattle.node_core.specs.declared.types.Wire.{Wire}
 use Rattle.node_core.specs.State.{NodeState}

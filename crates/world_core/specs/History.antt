@@ -7,7 +7,7 @@ use Rattle.srp_base.specs.declared.ports.PortChange.{PortChange}
 use Rattle.tree_topology.specs.Topology.{Topology, HasPort}
 use Rattle.frame_flow.specs.Force.{changes_at}
 use Rattle.frame_flow.specs.Copies.{ports_at, port_of}
-use Rattle.mvrp.specs.Side.{place_of}
+use Rattle.attribute_propagation.specs.Ports.{place_of}
 use Rattle.node_core.specs.State.{NodeState}
 use Rattle.world_core.specs.declared.journal.NodeSteps.{NodeSteps}
 use Rattle.world_core.specs.World.{WorldState}

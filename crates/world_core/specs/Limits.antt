@@ -9,7 +9,7 @@ use Rattle.stream_importance.specs.Bandwidth.{caps_of}
 use Rattle.tree_topology.specs.Topology.{HasPort}
 use Rattle.topology_file.specs.declared.entries.LinkEntry.{LinkEntry}
 use Rattle.topology_file.specs.Plan.{Plan}
-use Rattle.mvrp.specs.Side.{place_of}
+use Rattle.attribute_propagation.specs.Ports.{place_of}
 use Rattle.node_core.specs.State.{slope_at}
 use Rattle.world_core.specs.World.{WorldState, node_at}
 

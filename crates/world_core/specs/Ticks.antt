@@ -14,14 +14,14 @@ use Rattle.topology_file.specs.declared.entries.EventEntry.{EventEntry}
 use Rattle.topology_file.specs.declared.entries.EventKind.{EventKind}
 use Rattle.topology_file.specs.declared.entries.EventKind.TheVariants as kinds
 use Rattle.topology_file.specs.Plan.{Plan}
-use Rattle.mvrp.specs.Side.{place_of}
+use Rattle.attribute_propagation.specs.Ports.{place_of}
 use Rattle.node_core.specs.declared.types.AppRequest.TheVariants.{Declare, Withdraw, Talk, Hush, Listen, Unlisten}
 use Rattle.node_core.specs.declared.types.NodeStep.{NodeStep}
 use Rattle.node_core.specs.declared.types.PortStep.{PortStep}
 use Rattle.node_core.specs.declared.types.PortStep.TheVariants as steps
 use Rattle.node_core.specs.State.{job_list, ports_of}
 use Rattle.world_core.specs.declared.events.WorldEvent.{WorldEvent}
-use Rattle.world_core.specs.declared.events.WorldEvent.TheVariants.{Request, Port, Lose, Repeat, Carry, Clock}
+use Rattle.world_core.specs.declared.events.WorldEvent.TheVariants.{Request, Port, Lose, Repeat, Forge, Carry, Clock}
 use Rattle.world_core.specs.declared.events.WorldReply.{WorldReply}
 use Rattle.world_core.specs.declared.events.WorldReply.TheVariants.{Step}
 use Rattle.world_core.specs.declared.journal.NodeSteps.{NodeSteps}
@@ -49,8 +49,8 @@ talker_of_entry e =
 abbrev pub stream_at : List StreamEntry → ℕ → Option StreamEntry
 stream_at streams n = slice_get streams (n - 1)
 
--- What happens to a stream is asked of its Talker's station, or of the listening one. A loss and a repeat act on the PDUs that
--- wait at `to` and come from `from`.
+-- What happens to a stream is asked of its Talker's station, or of the listening one. A loss, a repeat and a forgery act on the
+-- PDUs that wait at `to` and come from `from`.
 abbrev pub event_of : List Link → List StreamEntry → EventKind → Option WorldEvent
 event_of links streams (kinds.Declare station vid) = Some (Request station (Declare vid))
 event_of links streams (kinds.Withdraw station vid) = Some (Request station (Withdraw vid))
@@ -64,6 +64,8 @@ event_of links streams (kinds.Unlisten station stream) =
     option_map (λ e. Request station (Unlisten e.id)) (stream_at streams stream)
 event_of links streams (kinds.Lose from to index) = Some (Lose (port_to links to.0 from.0) index)
 event_of links streams (kinds.Repeat from to index) = Some (Repeat (port_to links to.0 from.0) index)
+event_of links streams (kinds.Forge from to index app octets) =
+    Some (Forge (port_to links to.0 from.0) index (record { app = app; octets = octets }))
 
 -- an event with the number of its entry, before others
 abbrev pub with_event : ℕ → Option WorldEvent → List (ℕ × WorldEvent) → List (ℕ × WorldEvent)

@@ -10,7 +10,7 @@ use Rattle.frame_flow.specs.Force.{changes_at, in_force}
 use Rattle.frame_flow.specs.Copies.{ports_at}
 use Rattle.frame_flow.specs.Given.{IsEarlier}
 use Rattle.topology_file.specs.Plan.{Plan}
-use Rattle.mvrp.specs.Side.{place_of}
+use Rattle.attribute_propagation.specs.Ports.{place_of}
 use Rattle.node_core.specs.State.{NodeState, of_part, bookings_at, slope_at}
 use Rattle.world_core.specs.declared.journal.Tick.{Tick}
 use Rattle.world_core.specs.World.{WorldState, node_at, world_after}

@@ -1,5 +1,5 @@
 -- A network as contracts see it, and one event of it: the network afterwards, and what it answers.
-use Rattle.std.specs.Prelude.{◌≡◌, ◌<◌, ◌≤◌, length, ◌^◌, ◌+◌, ◌-◌, ℕ, Bool, List, [], ◌∷◌, map, fold, Option, Some, None, option_map, slice_get, slice_set}
+use Rattle.std.specs.Prelude.{◌≡◌, ◌<◌, ◌≤◌, length, ◌^◌, ◌+◌, ◌-◌, ℕ, Bool, true, false, nat_le, List, [], ◌∷◌, map, fold, Option, Some, None, option_map, slice_get, slice_set}
 use Rattle.std.specs.Option.{option_map_or}
 use Rattle.std.specs.List.{list_all}
 use Rattle.srp_base.specs.declared.numbers.NodeNo.{NodeNo}
@@ -9,17 +9,19 @@ use Rattle.tree_topology.specs.Topology.{Topology, HasPort}
 use Rattle.tree_topology.specs.Ports.{peer_of}
 use Rattle.tree_topology.specs.declared.graph.NodeKind.TheVariants.{Station}
 use Rattle.msrp_codec.specs.declared.pdu.MsrpKey.{MsrpKey}
-use Rattle.mvrp.specs.Side.{IsLinkPort, place_of}
+use Rattle.attribute_propagation.specs.Ports.{IsLinkPort, place_of}
 use Rattle.msrp.specs.Side.{next_sets}
 use Rattle.node_core.specs.declared.types.Wire.{Wire}
 use Rattle.node_core.specs.declared.types.NodeEvent.{NodeEvent}
 use Rattle.node_core.specs.declared.types.NodeEvent.TheVariants as node_events
+use Rattle.mrpdu_codec.specs.Octets.{AreOctets}
+use Rattle.node_core.specs.Wires.{IsShort}
 use Rattle.node_core.specs.State.{NodeState, ports_of, box_at, is_still_node, are_all_sound}
 use Rattle.node_core.specs.Step.{Stepped, node_step}
 use Rattle.node_core.specs.Proper.{AsksInRange}
-use Rattle.node_core.specs.Links.{with_outbox, with_carried, lost_at, repeated_at, spoilt_at}
+use Rattle.node_core.specs.Links.{with_outbox, with_carried, lost_at, repeated_at, forged_at, spoilt_at}
 use Rattle.world_core.specs.declared.events.WorldEvent.{WorldEvent}
-use Rattle.world_core.specs.declared.events.WorldEvent.TheVariants.{Request, Port, Lose, Repeat, Carry, Clock}
+use Rattle.world_core.specs.declared.events.WorldEvent.TheVariants.{Request, Port, Lose, Repeat, Forge, Carry, Clock}
 use Rattle.world_core.specs.declared.events.WorldReply.{WorldReply}
 use Rattle.world_core.specs.declared.events.WorldReply.TheVariants.{Step, Done, Missed}
 
@@ -64,6 +66,10 @@ outbox p w = option_map_or (λ s. box_at (place_of p.port) s.outboxes) (node_at 
 abbrev pub app_of : EgressPort → ℕ → WorldState → Option App
 app_of p index w = option_map (λ wire. wire.app) (slice_get (inbox p w) index)
 
+-- whether the inbox of a port reaches to an index, so that a PDU may stand there
+abbrev pub reaches : EgressPort → ℕ → WorldState → Bool
+reaches p index w = nat_le index (length (inbox p w))
+
 -- ---- one event
 
 -- a network after an event, and its answer
@@ -94,6 +100,11 @@ abbrev pub after_repeat : EgressPort → ℕ → Option App → WorldState → H
 after_repeat p index None w = (w, Missed)
 after_repeat p index (Some app) w = (with_changed p.node (repeated_at (place_of p.port) index) w, Done)
 
+-- a PDU that no neighbour sent stands at an index in a port's inbox, where that reaches so far
+abbrev pub with_forgery : EgressPort → ℕ → Wire → Bool → WorldState → Happened
+with_forgery p index wire false w = (w, Missed)
+with_forgery p index wire true w = (with_unsound_ends wire.app p (with_changed p.node (forged_at (place_of p.port) index wire) w), Done)
+
 -- the PDUs of a port's outbox come in at its peer
 abbrev pub after_carrying : EgressPort → WorldState → WorldState
 after_carrying p w =
@@ -114,6 +125,7 @@ world_step (Request n request) w = step_of_node n (node_events.Request request) 
 world_step (Port n port step) w = step_of_node n (node_events.Port port step) w
 world_step (Lose p index) w = with_loss p index (app_of p index w) w
 world_step (Repeat p index) w = after_repeat p index (app_of p index w) w
+world_step (Forge p index wire) w = with_forgery p index wire (reaches p index w) w
 world_step (Carry p) w = (after_carrying p w, Done)
 world_step Clock w = (after_clock w, Done)
 
@@ -130,12 +142,14 @@ replies_to (e ∷ events) w = (world_step e w).1 ∷ replies_to events (world_st
 
 -- ---- when an event may happen
 
--- its nodes and ports exist, a request is made at a station, and the clock goes on from below 2^61
+-- its nodes and ports exist, a request is made at a station, a forged PDU has at most 1,500 octets, and the clock goes on from
+-- below 2^61
 abbrev pub CanHappen : WorldEvent → WorldState → Type 0
 CanHappen (Request n request) w = (1 ≤ n.0) × ((s : NodeState) × (node_at n w ≡ Some s) × (s.kind ≡ Station))
 CanHappen (Port n port step) w = HasPort w.tree (record { node = n; port = port })
 CanHappen (Lose p index) w = HasPort w.tree p
 CanHappen (Repeat p index) w = HasPort w.tree p
+CanHappen (Forge p index wire) w = HasPort w.tree p × IsShort wire
 CanHappen (Carry p) w = HasPort w.tree p
 CanHappen Clock w = (n : NodeNo) (s : NodeState) → node_at n w ≡ Some s → s.clock.0 < 2 ^ 61
 
@@ -145,12 +159,13 @@ CanAllHappen [] w = Unit {0}
 CanAllHappen (e ∷ events) w = CanHappen e w × CanAllHappen events (world_step e w).0
 
 -- the request of an event is of what fits: of a VID (IEEE Std 802.1Q-2018, 9.6), or of a Talker whose numbers fit in their fields
--- (35.2.2.8), as the type of a request has it
+-- (35.2.2.8), and a forged PDU is of octets, as the types of a request and of a PDU have it
 abbrev pub IsEventInRange : WorldEvent → Type 0
 IsEventInRange (Request n request) = AsksInRange request
 IsEventInRange (Port n port step) = Unit {0}
 IsEventInRange (Lose p index) = Unit {0}
 IsEventInRange (Repeat p index) = Unit {0}
+IsEventInRange (Forge p index wire) = AreOctets wire.octets
 IsEventInRange (Carry p) = Unit {0}
 IsEventInRange Clock = Unit {0}
 
@@ -161,7 +176,7 @@ IsEventInRange Clock = Unit {0}
 abbrev pub is_quiet : WorldState → Bool
 is_quiet w = list_all is_still_node w.nodes
 
--- whether both applications of every port of the network are sound: each has sent a LeaveAll since the last loss of one of its
--- PDUs on its link, if there was one
+-- whether both applications of every port of the network are sound: each has sent a LeaveAll since one of its PDUs
+-- was last lost or forged on its link, if one was
 abbrev pub is_in_step : WorldState → Bool
 is_in_step w = list_all are_all_sound w.nodes

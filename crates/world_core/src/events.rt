@@ -1,10 +1,10 @@
 //! What happens in a network, and what it answers.
 
-use node_core::{AppRequest, PortStep, StepReply};
+use node_core::{AppRequest, PortStep, StepReply, Wire};
 use srp_base::{EgressPort, NodeNo, PortNo};
 
-/// What happens in a network. The port of a loss and of a copy is the receiving one.
-#[derive(Clone, Copy, PartialEq, Eq)]
+/// What happens in a network. The port of a loss, of a copy and of a forgery is the receiving one.
+#[derive(Clone, PartialEq, Eq, Drop)]
 pub enum WorldEvent {
     /// The application of a station asks for something.
     Request(NodeNo, AppRequest),
@@ -14,6 +14,8 @@ pub enum WorldEvent {
     Lose(EgressPort, u32),
     /// The PDU with this index is in a port's inbox twice.
     Repeat(EgressPort, u32),
+    /// A PDU of at most 1,500 octets that no neighbour sent stands at this index in a port's inbox, before the one that had it.
+    Forge(EgressPort, u32, Wire),
     /// The PDUs of a port's outbox come in at its peer.
     Carry(EgressPort),
     /// The clock of every node goes on by 1 cs.
@@ -27,6 +29,6 @@ pub enum WorldReply {
     Step(StepReply),
     /// It was done.
     Done,
-    /// There was no PDU with that index.
+    /// There was no PDU with that index, or, for a forged one, the inbox doesn't reach to it.
     Missed,
 }

@@ -1,16 +1,16 @@
 //! What one event does to the nodes of a network.
 
-ghost use Rattle.std.specs.Prelude.{◌≡◌, ◌<◌, ◌≤◌, ◌-◌, ◌^◌, [], map, length, slice_get, Some, IfOk, OnOk, OnErr, IfErr};
+ghost use Rattle.std.specs.Prelude.{◌≡◌, ◌<◌, ◌≤◌, ◌-◌, ◌^◌, [], map, length, slice_get, Some, IfOk, OnOk, OnErr, IfErr, if◌then◌else◌};
 ghost use Rattle.std.specs.Option.{option_map_or};
 ghost use Rattle.std.specs.List.{AllByRecursion};
 ghost use Rattle.tree_topology.specs.Topology.{Topology, HasPort};
 ghost use Rattle.tree_topology.specs.Ports.{peer_of};
-ghost use Rattle.mvrp.specs.Side.{place_of};
+ghost use Rattle.attribute_propagation.specs.Ports.{place_of};
 ghost use Rattle.node_core.specs.State.{NodeState, box_at};
-ghost use Rattle.node_core.specs.Wires.{AreShort};
+ghost use Rattle.node_core.specs.Wires.{IsShort, AreShort};
 ghost use Rattle.node_core.specs.Step.{CanStep, node_step};
-ghost use Rattle.node_core.specs.Links.{with_outbox, with_carried, lost_at, repeated_at, spoilt_at};
-ghost use Rattle.world_core.specs.World.{StandsAt, sets_of, nodes_with, step_of_node, app_of, with_loss, after_repeat, world_step};
+ghost use Rattle.node_core.specs.Links.{with_outbox, with_carried, lost_at, repeated_at, forged_at, spoilt_at};
+ghost use Rattle.world_core.specs.World.{StandsAt, sets_of, nodes_with, step_of_node, app_of, reaches, with_unsound_ends, with_loss, after_repeat, with_forgery, world_step};
 
 use crate::events::{WorldEvent, WorldReply};
 use msrp::ClockSets;
@@ -101,6 +101,18 @@ fn spoil(nodes: &mut Vec<Node>, at: EgressPort, app: App)
     nodes[place(at.node)].spoil(at.port, app);
 }
 
+// Neither end of a port's link is sound any more for an application.
+fn spoil_ends(tree: &Tree, nodes: &mut Vec<Node>, at: EgressPort, app: App)
+    requires port { HasPort tree.now at }
+    requires here { StandsAt at nodes.old.items }
+    requires there { StandsAt (peer_of tree.now.links at) nodes.old.items }
+    ensures { with_unsound_ends app at (record { tree = tree.now; nodes = nodes.old.items })
+        ≡ record { tree = tree.now; nodes = nodes.new.items } }
+{
+    spoil(nodes, at, app);
+    spoil(nodes, tree.peer(at), app);
+}
+
 // The PDU of an index, which is there, is lost from a port's inbox.
 fn lose_at(nodes: &mut Vec<Node>, at: EgressPort, index: u32)
     requires here { StandsAt at nodes.old.items }
@@ -126,8 +138,7 @@ pub(crate) fn lose(tree: &Tree, nodes: &mut Vec<Node>, at: EgressPort, index: u3
         None => WorldReply::Missed,
         Some(app) => {
             lose_at(nodes, at, index);
-            spoil(nodes, at, app);
-            spoil(nodes, tree.peer(at), app);
+            spoil_ends(tree, nodes, at, app);
             WorldReply::Done
         }
     }
@@ -166,6 +177,50 @@ pub(crate) fn repeat(
             Ok(WorldReply::Done)
         }
     }
+}
+
+// A PDU stands at an index in a port's inbox, where that reaches so far.
+fn forge_at(nodes: &mut Vec<Node>, at: EgressPort, index: u32, wire: Wire) -> Result<bool, NoMemory>
+    requires here { StandsAt at nodes.old.items }
+    requires short { IsShort wire }
+    ensures done { IfOk result (λ done. (tree : Topology) → done
+        ≡ reaches at index (record { tree = tree; nodes = nodes.old.items })) }
+    ensures after { IfOk result (λ done. nodes.new.items
+        ≡ (if done
+        then nodes_with at.node (forged_at (place_of at.port) index wire) nodes.old.items
+        else nodes.old.items)) }
+    ensures err { OnErr result (nodes.new.items ≡ nodes.old.items) }
+    ensures stand { OnOk result
+        ((p : EgressPort) → StandsAt p nodes.old.items → StandsAt p nodes.new.items) }
+{
+    let done = nodes[place(at.node)].forge(at.port, index, wire)?;
+    Ok(done)
+}
+
+/// A PDU that no neighbour sent stands at an index in a port's inbox, where that reaches so far.
+pub(crate) fn forge(
+    tree: &Tree,
+    nodes: &mut Vec<Node>,
+    at: EgressPort,
+    index: u32,
+    wire: Wire,
+) -> Result<WorldReply, NoMemory>
+    requires port { HasPort tree.now at }
+    requires here { StandsAt at nodes.old.items }
+    requires there { StandsAt (peer_of tree.now.links at) nodes.old.items }
+    requires short { IsShort wire }
+    ensures ok { IfOk result
+        (λ reply. world_step (WorldEvent.Forge at index wire)
+        (record { tree = tree.now; nodes = nodes.old.items })
+        ≡ (record { tree = tree.now; nodes = nodes.new.items }, reply)) }
+    ensures err { OnErr result (nodes.new.items ≡ nodes.old.items) }
+{
+    let forged = wire.app;
+    if !forge_at(nodes, at, index, wire)? {
+        return Ok(WorldReply::Missed);
+    }
+    spoil_ends(tree, nodes, at, forged);
+    Ok(WorldReply::Done)
 }
 
 // Takes the PDUs of a port's outbox.

@@ -7,7 +7,7 @@ ghost use Rattle.srp_base.specs.declared.ports.PortChange.{PortChange};
 ghost use Rattle.tree_topology.specs.Topology.{HasNode};
 ghost use Rattle.frame_flow.specs.Force.{changes_at, in_force};
 ghost use Rattle.frame_flow.specs.Copies.{port_of};
-ghost use Rattle.mvrp.specs.Side.{IsLinkPort, place_of};
+ghost use Rattle.attribute_propagation.specs.Ports.{IsLinkPort, place_of};
 ghost use Rattle.node_core.specs.State.{ports_of};
 ghost use Rattle.world_core.specs.Timeline.{node_force, changes_noted, AreChanges};
 ghost use Rattle.world_core.specs.History.{by_port, joined_ports, all_changes_of, IsByPort, HasPortsOf, ComeUpTo, is_act, act_noted, acts_noted, node_noted, ports_noted};
@@ -15,7 +15,7 @@ ghost use Rattle.world_core.specs.History.{by_port, joined_ports, all_changes_of
 use crate::journal::NodeSteps;
 use crate::timeline::lacking_change;
 use crate::world::World;
-use node_core::{Node, PortStep};
+use node_core::{Node, PortStep, no_key};
 use srp_base::{EgressPort, NoMemory, NodeNo, PortChange, PortNo, Seq, Timeline};
 use std::alloc::Global;
 use std::collections::VecDeque;
@@ -133,7 +133,7 @@ fn note_acts(
     ensures { OnOk result (nodes.new.items ≡ by_port world.now.tree
         (λ p. act_noted tick steps.now world.now p (changes_at (all_changes_of nodes.old.items) p))) }
 {
-    let _ = PortStep::Due.key();
+    let _ = no_key();
     for made in steps {
         if has_act(made) {
             note_node(world, tick, made.node, nodes)?;

@@ -34,7 +34,7 @@ use msrp::MsrpApp;
 use mvrp::MvrpApp;
 use node_core::laws::{
     a_new_node_is_proper, a_port_stays_set_up, every_step_keeps_a_node_proper,
-    links_keep_a_node_proper, steps_keep_what_a_node_is,
+    links_keep_a_node_proper, octets_say_what_fits, steps_keep_what_a_node_is,
 };
 use port_ledger::laws::bookings_are_within_caps;
 use tree_topology::laws::ports;
@@ -68,6 +68,7 @@ pub fn every_event_keeps_it()
     msrp::laws::what_is_sent_is_read();
     every_step_keeps_a_node_proper();
     links_keep_a_node_proper();
+    octets_say_what_fits();
     steps_keep_what_a_node_is();
 }
 
@@ -87,8 +88,8 @@ pub fn every_event_of_a_run_may_happen()
 }
 
 /// What a tick of a scenario may have can happen, whatever happened before in the tick, and doesn't end the tick: each event
-/// of the file, a loss and a repeat between neighbours, each step of a port, and the carrying of each port's PDUs. The clock
-/// can go on, and then the next tick begins. The tree stays in any case.
+/// of the file, a loss, a repeat and a forgery between neighbours, each step of a port, and the carrying of each port's PDUs.
+/// The clock can go on, and then the next tick begins. The tree stays in any case.
 pub fn what_is_allowed_may_happen()
     ensures begins { (plan : Plan) → KeepsRules plan → IsDuring plan.tree 0 (world_of plan) }
     ensures can { (tree : Topology) (t : ℕ) (e : WorldEvent) (w : WorldState)
@@ -148,8 +149,8 @@ pub fn every_moment_keeps_it()
     every_event_of_a_run_may_happen();
 }
 
-/// After every list of events that may happen, losses and repeats included, no port has booked more than its link's entry
-/// allows.
+/// After every list of events that may happen, losses, repeats and forgeries included, no port has booked more than its link's
+/// entry allows.
 pub fn every_list_of_events_keeps_limits()
     ensures { (plan : Plan) (es : List WorldEvent) → KeepsRules plan
         → CanAllHappen es (world_of plan) → AllByRecursion IsEventInRange es

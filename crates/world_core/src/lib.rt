@@ -11,8 +11,8 @@
 //! function of it, `world_step`. A run is the fold of its events. Which runs are those of a scenario, in which each node's
 //! steps of a tick are some interleaving of its ports' jobs, is `specs/Ticks.antt`; the network after each event is a moment
 //! (`specs/Moments.antt`). What every network keeps by its type is `IsKeptWorld`: among it that on each link both ends meet
-//! their duty (`specs/Duty.antt`), in MVRP and in MSRP, so that it holds after every list of events, losses and repeats
-//! included. At each moment of a run no port has booked more than its link's entry allows (`specs/Limits.antt`), and the
+//! their duty (`specs/Duty.antt`), in MVRP and in MSRP, so that it holds after every list of events, losses, repeats
+//! and forgeries included. At each moment of a run no port has booked more than its link's entry allows (`specs/Limits.antt`), and the
 //! stations talk what the scenario has them talk (`specs/Talks.antt`). What is in force at each port after each tick's steps is
 //! the timeline of a run (`specs/Timeline.antt`): `World::note_tick` enters a tick by going over all ports, and a `History`
 //! (`specs/History.antt`) by going over those of the nodes that made a step other than Send.

@@ -7,10 +7,11 @@ ghost use Rattle.node_core.specs.Proper.{AsksInRange};
 ghost use Rattle.world_core.specs.World.{CanHappen, IsEventInRange, CanAllHappen, world_step, world_after, replies_to};
 
 use crate::events::{WorldEvent, WorldReply};
-use crate::happen::{carry, lose, make_step, repeat, tick_all};
+use crate::happen::{carry, forge, lose, make_step, repeat, tick_all};
 use crate::laws::every_event_keeps_it;
 use crate::world::World;
-use node_core::{AppRequest, NodeEvent};
+use mrpdu_codec::are_octets;
+use node_core::{AppRequest, NodeEvent, Wire};
 use srp_base::{NoMemory, Seq, Talker, Vid};
 use std::alloc::Global;
 use tree_topology::laws::ports;
@@ -23,8 +24,9 @@ pub struct RunErr {
 
 impl World {
     /// Lets one event happen, and answers what came of it: `Step` with the node's answer for a request and a port's step,
-    /// `Missed` exactly where no PDU has the index, `Done` for all else. The nodes and ports that the event names exist, a
-    /// request is made at a station, and the clock goes on from below 2^61. After want of memory the network is as it was.
+    /// `Missed` exactly where no PDU has the index, or the inbox doesn't reach to that of a forged one, `Done` for all else.
+    /// The nodes and ports that the event names exist, a request is made at a station, a forged PDU has at most 1,500 octets,
+    /// and the clock goes on from below 2^61. After want of memory the network is as it was.
     pub fn step(&mut self, event: WorldEvent) -> Result<WorldReply, NoMemory>
         requires { CanHappen event self.old }
         ensures ok { IfOk result (λ reply. world_step event self.old ≡ (self.new, reply)) }
@@ -42,13 +44,26 @@ impl World {
             }
             WorldEvent::Lose(at, index) => Ok(lose(&self.tree, &mut self.nodes, at, index)),
             WorldEvent::Repeat(at, index) => repeat(&mut self.nodes, at, index),
+            WorldEvent::Forge(at, index, wire) => {
+                forge(&self.tree, &mut self.nodes, at, index, wire)
+            }
             WorldEvent::Carry(at) => carry(&self.tree, &mut self.nodes, at),
             WorldEvent::Clock => tick_all(&mut self.nodes),
         }
     }
 
+    // The same of a copy of an event.
+    fn step_copy(&mut self, event: &WorldEvent) -> Result<WorldReply, NoMemory>
+        requires { CanHappen event.now self.old }
+        ensures ok { IfOk result (λ reply. world_step event.now self.old ≡ (self.new, reply)) }
+        ensures err { OnErr result (self.new ≡ self.old) }
+    {
+        let copy = copy_of(event)?;
+        self.step(copy)
+    }
+
     /// Lets a list of events happen, one after the other, and answers what came of each. After want of memory the network is
-    /// that after the first `done` events.
+    /// that after the first `done` events. Only a forged PDU is copied, once.
     pub fn run(&mut self, alloc: Global, events: &[WorldEvent]) -> Result<Seq<WorldReply>, RunErr>
         requires { CanAllHappen events.now self.old }
         ensures replies { IfOk result (λ replies. replies ≡ replies_to events.now self.old) }
@@ -62,7 +77,7 @@ impl World {
             Err(_) => return Err(RunErr { done: 0 }),
         };
         for i in 0..events.len() {
-            let Ok(reply) = self.step(events[i]) else {
+            let Ok(reply) = self.step_copy(&events[i]) else {
                 return Err(RunErr { done: i });
             };
             if replies.push(reply).is_err() {
@@ -73,12 +88,41 @@ impl World {
     }
 }
 
+// The same event, which takes memory for a forged PDU alone.
+fn copy_of(event: &WorldEvent) -> Result<WorldEvent, NoMemory>
+    ensures { IfOk result (λ copy. copy ≡ event.now) }
+{
+    match event {
+        WorldEvent::Request(node, request) => Ok(WorldEvent::Request(*node, *request)),
+        WorldEvent::Port(node, port, step) => Ok(WorldEvent::Port(*node, *port, *step)),
+        WorldEvent::Lose(at, index) => Ok(WorldEvent::Lose(*at, *index)),
+        WorldEvent::Repeat(at, index) => Ok(WorldEvent::Repeat(*at, *index)),
+        WorldEvent::Forge(at, index, wire) => {
+            Ok(WorldEvent::Forge(*at, *index, copied_wire(wire)?))
+        }
+        WorldEvent::Carry(at) => Ok(WorldEvent::Carry(*at)),
+        WorldEvent::Clock => Ok(WorldEvent::Clock),
+    }
+}
+
+// The same PDU.
+fn copied_wire(wire: &Wire) -> Result<Wire, NoMemory>
+    ensures { IfOk result (λ copy. copy ≡ wire.now) }
+{
+    let octets = wire.octets.clone()?;
+    Ok(Wire {
+        app: wire.app,
+        octets,
+    })
+}
+
 // The types of what an event asks for say that it fits.
 fn fits(event: &WorldEvent)
     ensures { IsEventInRange event.now }
 {
     match event {
         WorldEvent::Request(_, request) => asks_in_range(*request),
+        WorldEvent::Forge(_, _, wire) => are_octets(wire.octets.as_slice()),
         WorldEvent::Port(_, _, _)
         | WorldEvent::Lose(_, _)
         | WorldEvent::Repeat(_, _)

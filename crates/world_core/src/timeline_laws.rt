@@ -48,8 +48,8 @@ pub fn what_ends_a_tick_changes_nothing_in_force()
         → force_at p (world_after (closing_events tree) w) ≡ force_at p w }
 {}
 
-/// In a legal tick, what is in force at a port changes only where the port's node makes a step other than Send: requests, losses
-/// and repeats change nothing in force, a step is of its node alone, and what a node sends leaves its ledgers and what is
+/// In a legal tick, what is in force at a port changes only where the port's node makes a step other than Send: requests,
+/// losses, repeats and forgeries change nothing in force, a step is of its node alone, and what a node sends leaves its ledgers and what is
 /// registered of each VID.
 pub fn only_a_node_that_acts_changes_what_is_in_force()
     ensures { (plan : Plan) (t : ℕ) (w : WorldState) (tick : Tick) (p : EgressPort)

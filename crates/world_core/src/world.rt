@@ -76,8 +76,8 @@ impl World {
         self.nodes.iter().all(|node| node.still())
     }
 
-    /// Whether both applications of every port are sound: each has sent a LeaveAll since the last loss of one of its PDUs on
-    /// the port's link, if there was one.
+    /// Whether both applications of every port are sound: each has sent a LeaveAll since one of its PDUs was last lost or
+    /// forged on the port's link, if one was.
     pub fn in_step(&self) -> bool
         ensures { result ≡ is_in_step self.now }
     {

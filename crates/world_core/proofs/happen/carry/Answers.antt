@@ -1,5 +1,5 @@
 use Rattle.std.proofs.Common.{◌≡◌, refl, ap, ◌∙◌}
-use Rattle.mvrp.specs.Side.{place_of}
+use Rattle.attribute_propagation.specs.Ports.{place_of}
 use Rattle.node_core.specs.Links.{with_outbox}
 use Rattle.world_core.specs.declared.events.WorldReply.TheVariants.{Done}
 use Rattle.world_core.specs.World.{nodes_with}

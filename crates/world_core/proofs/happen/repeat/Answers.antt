@@ -1,6 +1,6 @@
 use Rattle.std.proofs.Common.{sym, ap, ◌∙◌, List, []}
 use Rattle.tree_topology.specs.Topology.{Topology}
-use Rattle.mvrp.specs.Side.{place_of}
+use Rattle.attribute_propagation.specs.Ports.{place_of}
 use Rattle.node_core.specs.State.{NodeState}
 use Rattle.node_core.specs.Links.{repeated_at}
 use Rattle.world_core.specs.World.{WorldState, after_repeat}

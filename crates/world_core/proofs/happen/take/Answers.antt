@@ -1,6 +1,6 @@
 use Rattle.std.proofs.Common.{sym, ap, ◌∙◌}
 use Rattle.std.specs.Prelude.{slice_set}
-use Rattle.mvrp.specs.Side.{place_of}
+use Rattle.attribute_propagation.specs.Ports.{place_of}
 use Rattle.std.specs.Prelude.{[]}
 use Rattle.std.specs.Option.{option_map_or}
 use Rattle.node_core.specs.Links.{with_outbox}

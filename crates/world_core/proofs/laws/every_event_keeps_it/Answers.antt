@@ -36,6 +36,8 @@ nodes c =
       carried = c.links_keep_a_node_proper.ensures.carried;
       lost = c.links_keep_a_node_proper.ensures.lost;
       repeated = c.links_keep_a_node_proper.ensures.repeated;
+      says = c.octets_say_what_fits.ensures;
+      forged = c.links_keep_a_node_proper.ensures.forged;
       spoilt = c.links_keep_a_node_proper.ensures.spoilt;
     }
 

@@ -6,7 +6,7 @@ use Rattle.srp_base.specs.declared.numbers.EgressPort.{EgressPort}
 use Rattle.tree_topology.specs.Ports.{neighbours}
 use Rattle.frame_flow.specs.Force.{changes_at}
 use Rattle.frame_flow.specs.Copies.{port_of}
-use Rattle.mvrp.specs.Side.{place_of}
+use Rattle.attribute_propagation.specs.Ports.{place_of}
 use Rattle.node_core.specs.State.{NodeState, ports_of}
 use Rattle.world_core.specs.Force.{no_force}
 use Rattle.world_core.specs.Timeline.{node_force, force_at, lacking}

@@ -1,6 +1,6 @@
 use Rattle.std.proofs.Common.{sym, ap, ◌∙◌}
 use Rattle.world_core.specs.declared.events.WorldEvent.{WorldEvent}
-use Rattle.world_core.specs.declared.events.WorldEvent.TheVariants.{Request, Port, Lose, Repeat, Carry, Clock}
+use Rattle.world_core.specs.declared.events.WorldEvent.TheVariants.{Request, Port, Lose, Repeat, Forge, Carry, Clock}
 use Rattle.world_core.specs.World.{world_step}
 use Rattle.world_core.proofs.Standing.{stands, peer_stands, each_node, can_as, asked_there, if_ok, kept_either}
 use Rattle.world_core.proofs.world.World.step.Goals as goal
@@ -23,6 +23,12 @@ lose-requires-clause-here c = stands (record { tree = c.self.inside.tree; nodes 
 
 pub lose-requires-clause-there : goal.lose-requires-clause-there
 lose-requires-clause-there c = peer_stands (record { tree = c.self.inside.tree; nodes = c.self.inside.nodes.items }) c.self.invariant (c.ports.ensures c.self.inside.tree c.self.invariant.tree) c.in-Lose.at (can_as c.args.event (Lose c.in-Lose.at c.in-Lose.index) c.args.self.now (record { tree = c.self.inside.tree; nodes = c.self.inside.nodes.items }) c.in-Lose.is (sym c.self.view_is) c.requires)
+
+pub forge-requires-clause-here : goal.forge-requires-clause-here
+forge-requires-clause-here c = stands (record { tree = c.self.inside.tree; nodes = c.self.inside.nodes.items }) c.self.invariant c.in-Forge.at (can_as c.args.event (Forge c.in-Forge.at c.in-Forge.index c.in-Forge.wire) c.args.self.now (record { tree = c.self.inside.tree; nodes = c.self.inside.nodes.items }) c.in-Forge.is (sym c.self.view_is) c.requires).0
+
+pub forge-requires-clause-there : goal.forge-requires-clause-there
+forge-requires-clause-there c = peer_stands (record { tree = c.self.inside.tree; nodes = c.self.inside.nodes.items }) c.self.invariant (c.ports.ensures c.self.inside.tree c.self.invariant.tree) c.in-Forge.at (can_as c.args.event (Forge c.in-Forge.at c.in-Forge.index c.in-Forge.wire) c.args.self.now (record { tree = c.self.inside.tree; nodes = c.self.inside.nodes.items }) c.in-Forge.is (sym c.self.view_is) c.requires).0
 
 pub carry-requires-clause-here : goal.carry-requires-clause-here
 carry-requires-clause-here c = stands (record { tree = c.self.inside.tree; nodes = c.self.inside.nodes.items }) c.self.invariant c.in-Carry.at (can_as c.args.event (Carry c.in-Carry.at) c.args.self.now (record { tree = c.self.inside.tree; nodes = c.self.inside.nodes.items }) c.in-Carry.is (sym c.self.view_is) c.requires)
