@@ -1,0 +1,7 @@
+use Rattle.std.proofs.Common.{◌≡◌, ◌++◌, map}
+use Rattle.std.specs.List.{range_with_len}
+use Rattle.scenario_generator.specs.Network.{bridge_entry}
+use Rattle.scenario_generator.proofs.network.push_bridges.Given as goal
+
+abbrev pub invariant-loop-i : goal.invariant-loop-i
+invariant-loop-i l = l.nodes.items ≡ l.initial.nodes.items ++ map (bridge_entry) (range_with_len 1 l.i)

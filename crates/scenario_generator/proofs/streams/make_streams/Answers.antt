@@ -1,0 +1,8 @@
+use Rattle.std.proofs.Common.{◌+◌, [], arith}
+use Rattle.scenario_generator.specs.Streams.{stream_entry}
+use Rattle.scenario_generator.proofs.PairLemmas.{push-more}
+use Rattle.scenario_generator.proofs.streams.make_streams.Goals as goal
+
+pub loop-i-preserved : goal.loop-i-preserved
+loop-i-preserved c =
+    push-more (stream_entry c.args.draws.now) 1 c.loop-i.i (c.loop-i.i + 1) [] _ _ _ (omega arith) c.loop-i.invariant c.in_ok-push.ensures.items c.in_ok-stream.ensures

@@ -1,0 +1,5 @@
+pub mod Draws
+pub mod Network
+pub mod Streams
+pub mod Events
+pub mod Generated
