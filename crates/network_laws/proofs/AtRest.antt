@@ -14,7 +14,8 @@ use Rattle.mrp_participant.specs.Link.{Link, AreDutiesMet}
 use Rattle.mrp_participant.specs.State.{State, Messages, is_still, registered_at, declared_at}
 use Rattle.msrp_codec.specs.declared.pdu.MsrpKey.{MsrpKey}
 use Rattle.mvrp.specs.Part.{Part}
-use Rattle.mvrp.specs.Side.{place_of, are_still}
+use Rattle.attribute_propagation.specs.Ports.{place_of}
+use Rattle.flat_side.specs.Side.{are_still}
 use Rattle.msrp.specs.declared.port.Port.{Port}
 use Rattle.msrp.specs.Side.{are_still as streams_are_still}
 use Rattle.node_core.specs.declared.types.Wire.{Wire}

@@ -9,7 +9,7 @@ use Rattle.node_core.specs.State.{NodeState, are_empty, box_at, ports_of}
 use Rattle.srp_base.specs.declared.numbers.EgressPort.{EgressPort}
 use Rattle.tree_topology.specs.Topology.{HasPort}
 use Rattle.tree_topology.specs.Ports.{neighbours}
-use Rattle.mvrp.specs.Side.{IsLinkPort}
+use Rattle.attribute_propagation.specs.Ports.{IsLinkPort}
 use Rattle.world_core.specs.World.{WorldState, node_at}
 use Rattle.world_core.specs.Kept.{IsKeptWorld}
 use Rattle.network_laws.proofs.Lists.{no-length}

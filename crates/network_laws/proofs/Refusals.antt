@@ -21,7 +21,8 @@ use Rattle.tree_topology.specs.Walk.{path_between}
 use Rattle.msrp_talker.specs.TalkerOut.{talker_in}
 use Rattle.msrp.specs.declared.port.Port.{Port}
 use Rattle.msrp.specs.Stream.{is_talker_port, talkers_of, first_talker as talker_in_list, fit_at, want_of_talker}
-use Rattle.msrp.specs.Side.{place_of, talker_of, has_talk}
+use Rattle.attribute_propagation.specs.Ports.{place_of}
+use Rattle.msrp.specs.Side.{talker_of, has_talk}
 use Rattle.node_core.specs.State.{NodeState, fit_of}
 use Rattle.world_core.specs.World.{WorldState, node_at}
 use Rattle.world_core.specs.Talks.{HasOneTalker}

@@ -26,7 +26,8 @@ use Rattle.msrp_talker.specs.TalkerOut.{talker_in}
 use Rattle.msrp.specs.declared.port.Port.{Port}
 use Rattle.msrp.specs.Part.{registered_talker, registered_listener, key_cmp, talker_reg_of}
 use Rattle.msrp.specs.Stream.{Registrations, is_present, is_advertised, is_number, talker_port, is_talker_port, is_ready, talk_of, first_talker, listener_at, fit_at, want_of_talker, heard_by, heard_from as heard_in}
-use Rattle.msrp.specs.Side.{place_of, seen_by, has_listen, heard_of}
+use Rattle.attribute_propagation.specs.Ports.{place_of}
+use Rattle.msrp.specs.Side.{seen_by, has_listen, heard_of}
 use Rattle.node_core.specs.State.{NodeState}
 use Rattle.world_core.specs.World.{WorldState, node_at}
 use Rattle.tree_topology.specs.Refusal.{is_station}

@@ -30,7 +30,8 @@ use Rattle.msrp.specs.declared.port.Port.{Port}
 use Rattle.msrp.specs.Part.{key_cmp, registered_talker, registered_listener, talker_reg_of, listener_kind_of}
 use Rattle.msrp.specs.Stream.{Registrations, advertise_of, talk_of, is_present, is_advertised, is_talker_port, is_ready, listener_row, first_talker, talker_at, listener_at, wanted_at, want_of_talker}
 use Rattle.msrp_talker.specs.TalkerOut.{talker_in}
-use Rattle.msrp.specs.Side.{Streams, IsKept, IsPort, IsSettled, place_of, has_talk, seen_by}
+use Rattle.attribute_propagation.specs.Ports.{place_of}
+use Rattle.msrp.specs.Side.{Streams, IsKept, IsPort, IsSettled, has_talk, seen_by}
 use Rattle.node_core.specs.State.{NodeState, if_booked, booked_at}
 use Rattle.world_core.specs.World.{WorldState, node_at}
 use Rattle.tree_topology.specs.Refusal.{is_station}

@@ -16,7 +16,8 @@ use Rattle.attribute_propagation.specs.Dirty.{is_awaiting}
 use Rattle.attribute_propagation.specs.Flat.{elsewhere}
 use Rattle.mrp_participant.specs.State.{is_still}
 use Rattle.mvrp.specs.Part.{Part, registers, declares}
-use Rattle.mvrp.specs.Side.{Vlans, place_of, has_own, is_flat}
+use Rattle.attribute_propagation.specs.Ports.{place_of}
+use Rattle.mvrp.specs.Side.{Vlans, has_own, is_flat}
 use Rattle.node_core.specs.State.{NodeState}
 use Rattle.world_core.specs.World.{WorldState, node_at}
 use Rattle.world_core.specs.Duty.{message_of, vlan_place, vlan_part}

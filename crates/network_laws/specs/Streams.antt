@@ -26,7 +26,8 @@ use Rattle.msrp_codec.specs.declared.pdu.MsrpKey.TheVariants.{Talker as TalkerKe
 use Rattle.msrp.specs.declared.port.Port.{Port}
 use Rattle.msrp.specs.Part.{talker_reg_of}
 use Rattle.msrp.specs.Stream.{is_present, talk_of, want_of_talker}
-use Rattle.msrp.specs.Side.{place_of, has_talk, has_listen, heard_of, talker_of}
+use Rattle.attribute_propagation.specs.Ports.{place_of}
+use Rattle.msrp.specs.Side.{has_talk, has_listen, heard_of, talker_of}
 use Rattle.node_core.specs.State.{NodeState, content_at, booked_at, fit_of}
 use Rattle.world_core.specs.World.{WorldState, node_at}
 use Rattle.network_laws.specs.declared.streams.Refusal.{Refusal}

@@ -3,7 +3,7 @@
 ghost use Rattle.std.specs.Prelude.{◌≡◌, ◌+◌, true, false, ◌&&◌, option_map, IfOk, IfSome, IsSome};
 ghost use Rattle.std.specs.List.{AllByRecursion, list_all};
 ghost use Rattle.tree_topology.specs.Topology.{HasNode, HasPort};
-ghost use Rattle.mvrp.specs.Side.{IsLinkPort};
+ghost use Rattle.attribute_propagation.specs.Ports.{IsLinkPort};
 ghost use Rattle.msrp.specs.Part.{talker_reg_of};
 ghost use Rattle.node_core.specs.State.{ports_of};
 ghost use Rattle.network_laws.specs.Vlans.{IsAtRest};

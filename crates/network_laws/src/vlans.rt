@@ -1,6 +1,6 @@
 //! Both sides of the law of VLANs, in any network.
 
-ghost use Rattle.std.specs.Prelude.{◌≡◌, ◌+◌, ◌&&◌, IfOk};
+ghost use Rattle.std.specs.Prelude.{◌≡◌, ◌+◌, ◌&&◌, IfOk, IsOk};
 ghost use Rattle.tree_topology.specs.Topology.{HasNode, HasPort};
 ghost use Rattle.tree_topology.specs.Walk.{is_behind};
 ghost use Rattle.network_laws.specs.Vlans.{is_registered, is_declared_at, is_declared_behind, IsAtRest};
@@ -21,12 +21,13 @@ pub struct Sides {
 }
 
 /// Whether a VID is registered at a port, and whether a station behind the port declares it (IEEE Std 802.1Q-2018, 11.2), each
-/// by its own definition in every network. The port exists.
+/// by its own definition in every network. The port exists. It takes no memory, so it always answers.
 pub fn vlans_match(world: &World, at: EgressPort, vid: Vid) -> Result<Sides, NoMemory>
     requires { HasPort world.now.tree at }
     ensures found { IfOk result (λ s. s.found ≡ is_registered world.now vid at) }
     ensures expected { IfOk result (λ s. s.expected ≡ is_declared_behind world.now vid at) }
     ensures at_rest { IsAtRest world.now → IfOk result (λ s. s.found ≡ s.expected) }
+    ensures answers { IsOk result }
 {
     vlans_are_those_declared_behind();
     world.keeps();

@@ -7,7 +7,7 @@ use Rattle.srp_base.specs.declared.numbers.EgressPort.{EgressPort}
 use Rattle.tree_topology.specs.declared.graph.Link.{Link}
 use Rattle.tree_topology.specs.Topology.{Topology, HasPort, IsSound}
 use Rattle.tree_topology.specs.Ports.{port_to, ends_of, link_at, neighbours}
-use Rattle.mvrp.specs.Side.{IsLinkPort}
+use Rattle.attribute_propagation.specs.Ports.{IsLinkPort}
 use Rattle.node_core.specs.State.{NodeState, ports_of}
 use Rattle.world_core.specs.declared.journal.Tick.{Tick}
 use Rattle.world_core.specs.World.{WorldState, node_at}

@@ -1,5 +1,5 @@
 -- The lines of a report, each by what it tells. A line ends with a line feed.
-use Rattle.std.specs.Prelude.{ℕ, ◌-◌, Bool, true, false, List, [], ◌∷◌, ◌++◌, codes, Option, Some, None, slice_get}
+use Rattle.std.specs.Prelude.{ℕ, ◌-◌, Bool, true, false, ◌==◌, if◌then◌else◌, List, [], ◌∷◌, ◌++◌, codes, Option, Some, None, slice_get}
 use Rattle.std.specs.Option.{option_map_or}
 use Rattle.std.specs.Fmt.{decimal}
 use Rattle.srp_base.specs.Hexadecimal.{hex16_text}
@@ -27,9 +27,9 @@ use Rattle.topology_file.specs.Plan.{Plan}
 use Rattle.topology_file.specs.declared.entries.NodeEntry.{NodeEntry}
 use Rattle.srp_report.specs.declared.tally.Tally.{Tally}
 
--- the name of the node of a number
+-- the name of the node of a number, from 1 on; that of a number without an entry is empty
 abbrev pub name_of : List NodeEntry → NodeNo → List ℕ
-name_of nodes x = option_map_or (λ node. node.name) (slice_get nodes (x.0 - 1)) []
+name_of nodes x = if x.0 == 0 then [] else option_map_or (λ node. node.name) (slice_get nodes (x.0 - 1)) []
 
 -- a port as `x>y`: the names of its node and of its peer's
 abbrev pub port_name : Plan → List Link → EgressPort → List ℕ

@@ -10,7 +10,7 @@ use Rattle.tree_topology.specs.declared.graph.NodeKind.TheVariants.{Station, Bri
 use Rattle.topology_file.specs.Plan.{Plan}
 use Rattle.topology_file.specs.declared.entries.StreamEntry.{StreamEntry}
 use Rattle.frame_flow.specs.declared.result.PortFlow.{PortFlow}
-use Rattle.mvrp.specs.Side.{place_of}
+use Rattle.attribute_propagation.specs.Ports.{place_of}
 use Rattle.msrp.specs.Side.{has_listen, heard_of}
 use Rattle.node_core.specs.State.{NodeState, registered_keys, registrar_at, content_at, bookings_at}
 use Rattle.node_core.specs.declared.types.NodeKey.{NodeKey}

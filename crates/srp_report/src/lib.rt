@@ -58,5 +58,6 @@ mod text;
 
 pub use departures::SentFrame;
 pub use journal::journal_text;
+pub use names::port_name;
 pub use printout::Printout;
 pub use text::report;

@@ -10,8 +10,8 @@ use std::alloc::{AllocError, Global};
 use topology_file::{NodeEntry, Scenario};
 use tree_topology::Tree;
 
-/// The name of a port: those of its node and of its peer's.
-pub(crate) fn port_name(
+/// The name of a port of a scenario's network as it is printed, `x>y`: those of its node and of its peer's.
+pub fn port_name(
     alloc: Global,
     scenario: &Scenario,
     tree: &Tree,
@@ -66,11 +66,14 @@ fn has_port(tree: &Tree, at: EgressPort) -> bool
         && at.port.0 <= tree.ports(at.node)
 }
 
-/// The name of a node.
+/// The name of a node, which is empty where the number has no entry.
 pub(crate) fn node_name(nodes: &[NodeEntry], number: NodeNo) -> &[u8]
     ensures { result.now ≡ name_of nodes.now number }
 {
-    match nodes.get(usize::from(number.0).saturating_sub(1)) {
+    if number.0 == 0 {
+        return [].as_slice();
+    }
+    match nodes.get(usize::from(number.0) - 1) {
         Some(node) => node.name.as_slice(),
         None => [].as_slice(),
     }

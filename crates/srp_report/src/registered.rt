@@ -3,7 +3,7 @@
 ghost use Rattle.std.specs.Prelude.{◌≡◌, ◌++◌, [], flat_map, OnOk};
 ghost use Rattle.std.specs.Option.{option_map_or};
 ghost use Rattle.tree_topology.specs.Topology.{HasPort};
-ghost use Rattle.mvrp.specs.Side.{IsLinkPort, place_of};
+ghost use Rattle.attribute_propagation.specs.Ports.{IsLinkPort, place_of};
 ghost use Rattle.node_core.specs.State.{ports_of};
 ghost use Rattle.world_core.specs.World.{node_at};
 ghost use Rattle.srp_report.specs.Lines.{booked_line};

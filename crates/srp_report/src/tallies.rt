@@ -6,7 +6,7 @@ ghost use Rattle.srp_report.specs.Counts.{replies_of, tally_of};
 ghost use Rattle.srp_report.specs.Tallies.{zero_row, zero_rows, step_counted, steps_counted, node_counted, nodes_counted, ticks_counted, tally_at};
 
 use crate::tally::Tally;
-use node_core::{NodeStep, PortStep};
+use node_core::{NodeStep, no_key};
 use srp_base::{EgressPort, NoMemory, PortNo};
 use std::alloc::Global;
 use std::marker::Model;
@@ -100,7 +100,7 @@ fn new_nodes(alloc: Global, last: u16) -> Result<Vec<NodeTallies>, NoMemory>
 fn count_steps(ports: &mut Vec<Tally>, made: &[NodeStep])
     ensures { ports.new.items ≡ steps_counted ports.old.items made.now }
 {
-    let _ = PortStep::Due.key();
+    let _ = no_key();
     for step in made {
         count_step(ports, step);
     }
@@ -110,7 +110,7 @@ fn count_steps(ports: &mut Vec<Tally>, made: &[NodeStep])
 fn count_step(ports: &mut Vec<Tally>, made: &NodeStep)
     ensures { ports.new.items ≡ step_counted ports.old.items made.now }
 {
-    let _ = PortStep::Due.key();
+    let _ = no_key();
     let place = usize::from(made.port.0);
     if place < ports.len() {
         ports[place] = ports[place].counted(made.reply);
@@ -128,7 +128,7 @@ fn tally_of_port(ports: &Vec<Tally>, port: PortNo) -> Option<Tally>
 fn count_ticks(nodes: &mut Vec<NodeTallies>, ticks: &[Tick])
     ensures { nodes.new.items ≡ ticks_counted nodes.old.items ticks.now }
 {
-    let _ = PortStep::Due.key();
+    let _ = no_key();
     for tick in ticks {
         count_nodes(nodes, tick.steps.as_slice());
     }
@@ -138,7 +138,7 @@ fn count_ticks(nodes: &mut Vec<NodeTallies>, ticks: &[Tick])
 fn count_nodes(nodes: &mut Vec<NodeTallies>, made: &[NodeSteps])
     ensures { nodes.new.items ≡ nodes_counted nodes.old.items made.now }
 {
-    let _ = PortStep::Due.key();
+    let _ = no_key();
     for steps in made {
         count_node(nodes, steps);
     }
@@ -148,7 +148,7 @@ fn count_nodes(nodes: &mut Vec<NodeTallies>, made: &[NodeSteps])
 fn count_node(nodes: &mut Vec<NodeTallies>, made: &NodeSteps)
     ensures { nodes.new.items ≡ node_counted nodes.old.items made.now }
 {
-    let _ = PortStep::Due.key();
+    let _ = no_key();
     let place = usize::from(made.node.0);
     if place < nodes.len() {
         nodes[place].count(made.steps.as_slice());

@@ -6,7 +6,7 @@ use Rattle.srpnet.specs.declared.words.Command.{Command}
 use Rattle.srpnet.specs.declared.outcome.Cause.{Cause}
 use Rattle.srpnet.specs.declared.outcome.Cause.TheVariants.{Done, BadWords, ReadFault, TooLong, WriteFault, NoMemory}
 use Rattle.srpnet.specs.Outcomes.{IsRefusedInput, IsWriteFault, WritesNothing}
-use Rattle.srpnet.specs.TopCall.{Wrote, WrotePart, WroteUntilNoMemory, WroteNothing, Refuses, ReadsNothing, most_octets, plain_ending}
+use Rattle.srpnet.specs.TopCall.{Wrote, WrotePart, WroteUntilNoMemory, WroteNothing, Gave, Refuses, ReadsNothing, most_octets, plain_ending}
 use Rattle.world_core.specs.declared.journal.Tick.{Tick}
 
 -- A command is carried out on a source of the type I and an out sink of the type O, before the call
@@ -26,6 +26,8 @@ pub record CarriedOut {I O : Type 0} (left : I → Option (List ℕ)) (in_faults
   -- with the causes of bad input nothing is written, and there is no journal
   pub nothing_written : WritesNothing cause → out' ≡ out
   pub no_journal : WritesNothing cause → ticks ≡ []
+  -- however it ends, also for want of memory, the source has given what was read
+  pub given : Gave (left source) (left source')
   -- a fault of reading or writing comes only where the count of that object rose in this call
   pub read_fault : cause ≡ ReadFault → Rose (in_faults source) (in_faults source')
   pub write_fault : (written : ℕ) → cause ≡ WriteFault written → Rose (out_faults out) (out_faults out')

@@ -14,6 +14,11 @@ use Rattle.world_core.specs.declared.journal.Tick.{Tick}
 abbrev pub most_octets : ℕ
 most_octets = 1048576
 
+-- a source gave octets, and nothing else became of those that it had
+pub record Gave (before after : Option (List ℕ)) : Type 0 where
+  pub octets : List ℕ
+  pub consumed : Consumes before after octets
+
 -- a source gave these octets, which are all that it had
 pub record ReadWhole (before after : Option (List ℕ)) (octets : List ℕ) : Type 0 where
   pub consumed : Consumes before after octets

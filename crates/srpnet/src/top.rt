@@ -6,7 +6,7 @@ ghost use Rattle.srp_io.specs.Faults.{Rose};
 ghost use Rattle.srp_io.specs.Whole.{TookAtMost, TookPast};
 ghost use Rattle.srpnet.specs.Outcomes.{status_of as status_of_spec, err_text, EndsAs, EndsWriting, IsRefusedInput, IsWriteFault, LacksOutput};
 ghost use Rattle.srpnet.specs.Ending.{CarriedOut, IsEnding};
-ghost use Rattle.srpnet.specs.TopCall.{plain_ending, IsOutput, Refuses, ReadsNothing, PartOf, StoppedIn, StopsWriting, GainsFront};
+ghost use Rattle.srpnet.specs.TopCall.{plain_ending, IsOutput, Gave, Refuses, ReadsNothing, PartOf, StoppedIn, StopsWriting, GainsFront};
 ghost use Rattle.srpnet.specs.Words.{command_of as command_of_spec};
 
 use crate::commands::{CommandOutput, output, reads_input};
@@ -29,6 +29,7 @@ fn read_output<I: Source>(
     ensures output { IfOk result
         (λ o. IsOutput command (I.left source.old) (I.left source.new) o.journal.ticks o.text) }
     ensures only { IfErr result LacksOutput }
+    ensures given { Gave (I.left source.old) (I.left source.new) }
 
     ensures read_fault { result ≡ Err Cause.ReadFault
         → Rose (I.faults source.old) (I.faults source.new) }

@@ -8,6 +8,7 @@ returns-in-Ok g c = record {
   memory = search rules;
   nothing_written = search rules;
   no_journal = search rules;
+  given = search rules;
   read_fault = search rules;
   write_fault = search rules;
   read_counts = search rules;
