@@ -1,0 +1,38 @@
+//! What a port may give away, by the entry of its link.
+
+ghost use Rattle.std.specs.Prelude.{◌≡◌, ◌-◌, filter, slice_get};
+ghost use Rattle.scenario_bounds.specs.Caps.{is_link_of, caps_at};
+
+use srp_base::EgressPort;
+use stream_importance::Caps;
+use topology_file::{LinkEntry, Scenario};
+
+/// The caps of a port: what its link's entry leaves to class A and to both classes (IEEE Std 802.1Q-2018, 34.3); none where the
+/// network has no such port.
+pub fn caps_at(scenario: &Scenario, at: EgressPort) -> Caps
+    ensures { result ≡ caps_at scenario.now at }
+{
+    match link_of(scenario.links.as_slice(), at) {
+        Some(link) => Caps::new(link.rate, link.delta_a, link.delta_b),
+        None => Caps {
+            class_a: 0,
+            both: 0,
+        },
+    }
+}
+
+// The link of a port: a node's links count in the order of the file.
+fn link_of(links: &[LinkEntry], at: EgressPort) -> Option<LinkEntry>
+    ensures { result ≡ slice_get (filter (is_link_of at.node.0) links.now) (at.port.0 - 1) }
+{
+    let mut before = at.port.0.saturating_sub(1);
+    for link in links {
+        if link.a.0 == at.node.0 || link.b.0 == at.node.0 {
+            if before == 0 {
+                return Some(*link);
+            }
+            before -= 1;
+        }
+    }
+    None
+}
