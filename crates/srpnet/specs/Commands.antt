@@ -2,7 +2,7 @@
 use Rattle.std.specs.Prelude.{◌≡◌, ℕ, Bool, true, false, List}
 use Rattle.world_core.specs.declared.journal.Tick.{Tick}
 use Rattle.srpnet.specs.declared.words.Command.{Command}
-use Rattle.srpnet.specs.declared.words.Command.TheVariants.{Ledger, Check, Run, RunJournal, Help, Version}
+use Rattle.srpnet.specs.declared.words.Command.TheVariants.{Ledger, Check, Run, RunJournal, RunBounds, Help, Version}
 use Rattle.srpnet.specs.declared.outcome.Cause.{Cause}
 use Rattle.srpnet.specs.declared.outcome.Cause.TheVariants.{Done}
 use Rattle.srpnet.specs.Input.{ending}
@@ -11,7 +11,7 @@ use Rattle.srpnet.specs.CheckText.{CheckOutput}
 use Rattle.srpnet.specs.LedgerInput.{ledger_input}
 use Rattle.srpnet.specs.LedgerText.{LedgerOutput}
 use Rattle.srpnet.specs.Pages.{help_page, version_page}
-use Rattle.srpnet.specs.RunText.{RunOutput, report_alone, report_and_journal}
+use Rattle.srpnet.specs.RunText.{RunOutput, report_alone, report_and_journal, report_and_bounds}
 
 -- whether it reads an input; the pages read none
 abbrev pub reads_input : Command → Bool
@@ -19,6 +19,7 @@ reads_input Ledger = true
 reads_input Check = true
 reads_input Run = true
 reads_input RunJournal = true
+reads_input RunBounds = true
 reads_input Help = false
 reads_input Version = false
 
@@ -28,6 +29,7 @@ runs Ledger = false
 runs Check = false
 runs Run = true
 runs RunJournal = true
+runs RunBounds = true
 runs Help = false
 runs Version = false
 
@@ -41,6 +43,7 @@ Output Ledger octets ticks text = LedgerOutput octets text
 Output Check octets ticks text = CheckOutput octets text
 Output Run octets ticks text = RunOutput report_alone octets ticks text
 Output RunJournal octets ticks text = RunOutput report_and_journal octets ticks text
+Output RunBounds octets ticks text = RunOutput report_and_bounds octets ticks text
 Output Help octets ticks text = text ≡ help_page
 Output Version octets ticks text = text ≡ version_page
 
@@ -50,5 +53,6 @@ ending_of Ledger octets = ending (ledger_input octets)
 ending_of Check octets = ending (scenario_input octets)
 ending_of Run octets = ending (scenario_input octets)
 ending_of RunJournal octets = ending (scenario_input octets)
+ending_of RunBounds octets = ending (scenario_input octets)
 ending_of Help octets = Done
 ending_of Version octets = Done

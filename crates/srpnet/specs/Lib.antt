@@ -14,3 +14,4 @@ pub mod RunText
 pub mod ScenarioInput
 pub mod TopCall
 pub mod Words
+pub mod BoundsText

@@ -1,5 +1,5 @@
--- What `srpnet run` and `srpnet run journal` print: the report of a run of the scenario, and behind it what happened; and
--- what holds of that run.
+-- What `srpnet run`, `srpnet run journal` and `srpnet run bounds` print: the report of a run of the scenario, and behind it what
+-- happened, or how long class B waits; and what holds of that run.
 use Rattle.std.specs.Prelude.{◌≡◌, ℕ, List, ◌++◌, All, Ok}
 use Rattle.srp_base.specs.declared.numbers.StreamId.{StreamId}
 use Rattle.srp_base.specs.declared.ports.PortChange.{PortChange}
@@ -19,6 +19,8 @@ use Rattle.network_laws.specs.Vlans.{IsAtRest, VlansMatch}
 use Rattle.network_laws.specs.Streams.{KeepsStreamLaws}
 use Rattle.srp_report.specs.Report.{report_text}
 use Rattle.srp_report.specs.JournalText.{journal_text}
+use Rattle.scenario_bounds.specs.PortBounds.{IsWithinBoundB}
+use Rattle.srpnet.specs.BoundsText.{bound_lines}
 use Rattle.srpnet.specs.ScenarioInput.{scenario_input}
 
 -- A run of a scenario with these ticks: they lead from its start to a network in the canonical order; what was in force at
@@ -49,6 +51,8 @@ pub record HoldsThroughout (plan : Plan) (ticks : List Tick) (flows : List PortF
   -- at every port, over every window of its bit times, class A has the line for no more than its bound, with the credits of
   -- the port's cap
   pub windows : All (HasWindowsOfCap (λ p. (caps_at plan p).class_a)) flows
+  -- and class B no more than its own, where no frame of it waits longer than its bound says
+  pub class_b : All (IsWithinBoundB plan) flows
 
 -- what is printed of a run: the report, and what happened behind it
 abbrev pub Text : Type 0
@@ -62,6 +66,11 @@ report_alone plan ticks world flows = report_text plan world ticks flows
 abbrev pub report_and_journal : Text
 report_and_journal plan ticks world flows =
     report_text plan world ticks flows ++ journal_text plan ticks
+
+-- what `run bounds` prints
+abbrev pub report_and_bounds : Text
+report_and_bounds plan ticks world flows =
+    report_text plan world ticks flows ++ bound_lines plan flows
 
 -- a run with these ticks, the text that is printed of just this run, and what holds of it
 pub record IsReported (text_of : Text) (plan : Plan) (ticks : List Tick) (text : List ℕ) : Type 0 where

@@ -2,7 +2,7 @@
 use Rattle.std.specs.Prelude.{ℕ, nat_eq, ◌&&◌, List, [], ◌∷◌, codes, if◌then◌else◌, Option, Some, None}
 use Rattle.std.specs.Cmp.Lexicographic.{pointwise}
 use Rattle.srpnet.specs.declared.words.Command.{Command}
-use Rattle.srpnet.specs.declared.words.Command.TheVariants.{Ledger, Check, Run, RunJournal, Help, Version}
+use Rattle.srpnet.specs.declared.words.Command.TheVariants.{Ledger, Check, Run, RunJournal, RunBounds, Help, Version}
 
 -- the rows of one word
 abbrev pub command_of_word : List ℕ → Option Command
@@ -19,6 +19,8 @@ abbrev pub command_of_pair : List ℕ → List ℕ → Option Command
 command_of_pair first second =
     if pointwise nat_eq first (codes "run") && pointwise nat_eq second (codes "journal")
     then Some RunJournal
+    else if pointwise nat_eq first (codes "run") && pointwise nat_eq second (codes "bounds")
+    then Some RunBounds
     else None
 
 -- the command of some words, where they match a row

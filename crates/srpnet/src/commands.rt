@@ -7,7 +7,7 @@ ghost use Rattle.srpnet.specs.Outcomes.{EndsAs};
 use crate::outcome::{Cause, no_journal};
 use crate::pages::{HELP, VERSION};
 use crate::words::Command;
-use crate::{check, ledger, pages, run};
+use crate::{bounds, check, ledger, pages, run};
 use srp_base::Seq;
 use srp_report::Printout;
 use std::alloc::Global;
@@ -37,7 +37,11 @@ pub fn reads_input(command: Command) -> bool
     ensures { result ≡ reads_input_spec command }
 {
     match command {
-        Command::Ledger | Command::Check | Command::Run | Command::RunJournal => true,
+        Command::Ledger
+        | Command::Check
+        | Command::Run
+        | Command::RunJournal
+        | Command::RunBounds => true,
         Command::Help | Command::Version => false,
     }
 }
@@ -54,6 +58,7 @@ pub fn output(alloc: Global, command: Command, octets: &[u8]) -> Result<CommandO
         Command::Check => Ok(text_alone(alloc, check::output(alloc, octets)?)),
         Command::Run => run::output(alloc, octets),
         Command::RunJournal => run::output_with_journal(alloc, octets),
+        Command::RunBounds => bounds::output(alloc, octets),
         Command::Help => Ok(text_alone(alloc, pages::output(alloc, HELP)?)),
         Command::Version => Ok(text_alone(alloc, pages::output(alloc, VERSION)?)),
     }

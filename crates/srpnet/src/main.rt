@@ -7,6 +7,7 @@
 //! |- ledger  bookings of one port: file, input, bookings, text
 //! |- check   what a scenario holds, by its counts: text
 //! |- run     a network and its frames through the ticks of a scenario, with its journal or without: text
+//! |- bounds  the same, with how long class B waits at each port: limits, text
 //! '- pages   --help and --version
 //! scenario   the input of the commands that read a scenario
 //! document   octets to a TOML table
@@ -22,6 +23,7 @@
 //! `err_text` of `specs/Outcomes.antt`, and in `status_of` and `tell` of `outcome`.
 #![tactic(auto)]
 
+mod bounds;
 mod check;
 mod commands;
 mod document;

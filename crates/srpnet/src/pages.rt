@@ -22,6 +22,9 @@ srpnet: the Stream Reservation Protocol (IEEE Std 802.1Q-2018) over a file
                     the stations hear, and what became of the frames
   srpnet run journal
                     prints the same, and then what happened, step by step
+  srpnet run bounds
+                    prints the report, and then how long class B waits at each
+                    port: at most, and at worst in this run
   srpnet --help     this page
   srpnet --version  the version
 

@@ -23,6 +23,7 @@ use network_laws::laws::{
     duties_are_met_in_every_run, stream_duties_are_met_in_every_run,
     streams_keep_their_laws_whenever_at_rest, vlans_match_whenever_at_rest,
 };
+use scenario_bounds::laws::class_b_stays_within_at_every_port;
 use scenario_frames::flow_of;
 use scenario_frames::laws::every_window_stays_within;
 use srp_base::NoMemory;
@@ -59,13 +60,13 @@ pub fn output_with_journal(alloc: Global, octets: &[u8]) -> Result<CommandOutput
 
 /// A run of a scenario, with the flow of its frames.
 #[derive(Drop)]
-struct RunWithFlow {
-    run: Run,
-    flow: FlowResult,
+pub struct RunWithFlow {
+    pub run: Run,
+    pub flow: FlowResult,
 }
 
-// Runs a scenario, and its frames through the shapers by what was in force.
-fn run_of(alloc: Global, scenario: &Scenario) -> Result<RunWithFlow, NoMemory>
+/// Runs a scenario, and its frames through the shapers by what was in force.
+pub fn run_of(alloc: Global, scenario: &Scenario) -> Result<RunWithFlow, NoMemory>
     ensures run { IfOk result (λ r. IsRun scenario.now r.run.journal.ticks r.run.world
         r.run.timeline.changes r.flow.ports) }
     ensures holds { IfOk result
@@ -75,6 +76,7 @@ fn run_of(alloc: Global, scenario: &Scenario) -> Result<RunWithFlow, NoMemory>
     slopes_stay_within_limits();
     what_holds_of_every_run();
     every_window_stays_within();
+    class_b_stays_within_at_every_port();
     scenario.keeps_rules();
     let run = plain_run(alloc, scenario)?;
     let flow = flow_of(alloc, scenario, &run.timeline)?;
@@ -94,8 +96,8 @@ fn what_holds_of_every_run()
     streams_keep_their_laws_whenever_at_rest();
 }
 
-// The output of a run that prints this text.
-fn output_of(run: Run, text: Printout) -> CommandOutput
+/// The output of a run that prints this text.
+pub fn output_of(run: Run, text: Printout) -> CommandOutput
     ensures text { result.text ≡ text }
     ensures journal { result.journal.ticks ≡ run.journal.ticks }
 {

@@ -16,6 +16,8 @@ pub enum Command {
     Run,
     /// `run journal`: does the same, and prints what happened behind the report.
     RunJournal,
+    /// `run bounds`: does the same, and prints how long class B waits at each port behind the report.
+    RunBounds,
     /// `--help`: prints a page of help.
     Help,
     /// `--version`: prints the version.
@@ -56,6 +58,8 @@ fn command_of_pair(first: &[u8], second: &[u8]) -> Option<Command>
 {
     if first == b"run".as_slice() && second == b"journal".as_slice() {
         Some(Command::RunJournal)
+    } else if first == b"run".as_slice() && second == b"bounds".as_slice() {
+        Some(Command::RunBounds)
     } else {
         None
     }

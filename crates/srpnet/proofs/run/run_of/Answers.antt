@@ -20,10 +20,15 @@ returns-clause-holds c =
     let legal = c.canonical_ticks_are_legal.ensures plan run.journal.ticks run.world c.in_ok-run.ensures.ticks in
     let timeline = c.in_ok-run.ensures.timeline in
     let rules = c.keeps_rules.ensures in
+    let changes = run.timeline.changes in
+    let flows = c.in_ok-flow.flow.ports in
+    let rates = c.slopes_stay_within_limits.ensures.rates plan run.journal.ticks run.world changes rules legal timeline in
+    let class_a = c.slopes_stay_within_limits.ensures.class_a plan run.journal.ticks run.world changes rules legal timeline in
+    let both = c.slopes_stay_within_limits.ensures.both plan run.journal.ticks run.world changes rules legal timeline in
     record {
       moments = λ w moment. c.what_holds_of_every_run.ensures plan run.journal.ticks run.world w rules legal moment;
-      windows = c.every_window_stays_within.ensures.caps plan run.timeline.changes (λ p. (caps_at plan p).class_a) c.in_ok-flow.flow.ports rules timeline.are.ascend
-          (c.slopes_stay_within_limits.ensures.rates plan run.journal.ticks run.world run.timeline.changes rules legal timeline)
-          (c.slopes_stay_within_limits.ensures.class_a plan run.journal.ticks run.world run.timeline.changes rules legal timeline)
+      windows = c.every_window_stays_within.ensures.caps plan changes (λ p. (caps_at plan p).class_a) flows rules timeline.are.ascend rates class_a
           c.in_ok-flow.ensures;
+      class_b = c.class_b_stays_within_at_every_port.ensures plan changes flows rules timeline.are.ascend rates
+          (λ k d below. (class_a k d below, both k d below)) c.in_ok-flow.ensures;
     }
