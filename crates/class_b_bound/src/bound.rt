@@ -36,7 +36,7 @@ pub fn bound_b(rate: Rate, cap_a: u64, cap_ab: u64) -> BoundB
     }
 }
 
-/// The tighter bound, under the same conditions: inputs come within one frame's share of it. Class A starts with
+/// The tighter bound, under the same conditions, with the caps in bit/s; worked cases come within 10 bit times of it. Class A starts with
 /// credit only, so behind another frame it takes no more than its credit at that frame's end gives.
 pub fn tight_bound_b(rate: Rate, cap_a: u64, cap_ab: u64) -> BoundB
     requires { AreCaps rate cap_a cap_ab }

@@ -11,7 +11,7 @@
 //! ```
 //!
 //! - `bound`: `BoundB`, a wait with hiCredit and loCredit of class B; `bound_b`, the bound by what class A may take in
-//!   a window, and `tight_bound_b`, the least that holds, but for whole frames; `are_caps` and `has_caps`, whether they may be
+//!   a window, and `tight_bound_b`, a tighter one, which worked cases come near; `are_caps` and `has_caps`, whether they may be
 //!   asked for and hold of an input.
 //! - `waits`: `worst_wait`, the longest wait of an input, found from event to event.
 //! - `window`: `window_b`, what class B takes of the line in a window, and the area of its idleSlope.
