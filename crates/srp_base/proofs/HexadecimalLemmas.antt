@@ -15,6 +15,12 @@ pub padded_hex16 : (ds : List ℕ)
 unfolding padded_integral char_count
 padded_hex16 ds = simp (append-nil, sub-zero)
 
+-- what `{:012x}` writes of a number
+pub padded_hex12 : (ds : List ℕ)
+    → padded_integral (format_spec 32 0 4 12 (2 ^ 64 - 1)) false [] ds ≡ replicate (12 - length ds) 48 ++ ds
+unfolding padded_integral char_count
+padded_hex12 ds = simp (append-nil, sub-zero)
+
 -- what sixteen digits decode to is the number
 pub hex16-decoded : (text : List ℕ) (r : Result (List ℕ) FromHexError) → r ≡ decode_sized text 8
     → number_of_octets r ≡ hex16 text

@@ -32,3 +32,7 @@ hex12 text = number_of_decoded (decode_sized text 6)
 -- a number below 2 ^ 64 as sixteen hexadecimal digits in lower case: its digits, with zeros before them
 unfoldable pub hex16_text : ℕ → List ℕ
 hex16_text n = let ds = digits 16 false n in replicate (16 - length ds) 48 ++ ds
+
+-- a number below 2 ^ 48 as twelve hexadecimal digits in lower case: its digits, with zeros before them
+unfoldable pub hex12_text : ℕ → List ℕ
+hex12_text n = let ds = digits 16 false n in replicate (12 - length ds) 48 ++ ds

@@ -127,6 +127,18 @@ impl Model for Mac {
     ghost inverse = { λ n. record { number = n } };
 }
 
+impl fmt::Display for Mac {
+    ghost use Rattle.std.specs.Prelude.{Some};
+    ghost use Rattle.srp_base.specs.Hexadecimal.{hex12_text};
+
+    ghost output = { λ m. Some (hex12_text m) };
+
+    #[tactic(auto, using(crate::proofs::HexadecimalLemmas::padded_hex12), unfolding(crate::specs::Hexadecimal::hex12_text))]
+    fn fmt<W: fmt::Write>(&self, f: &mut fmt::Formatter<W>) -> fmt::Result {
+        write!(f, "{:012x}", self.number)
+    }
+}
+
 impl Mac {
     /// The address of this number; None exactly at 2^48 and above.
     pub fn new(number: u64) -> Option<Mac>
