@@ -11,7 +11,7 @@ use Rattle.frame_flow.specs.Copies.{all_places}
 use Rattle.frame_flow.specs.Flow.{Setting, IsFlow, port_flow}
 use Rattle.frame_flow.specs.Force.{is_port, changes_at, last_upto, in_force, first_slopes, does_change, slopes_of_change, later_slopes, slopes_over}
 use Rattle.frame_flow.specs.Laws.{KeepsCapsA, KeepsCaps, HasCaps}
-use Rattle.frame_flow.proofs.TurnLemmas.{same-port}
+use Rattle.frame_flow.proofs.LevelLemmas.{same-port}
 
 -- two slopes keep what is asked of them, as no slopes do
 abbrev AreKept : (ℕ → ℕ → Type 0) → List SlopeChange → Type 0

@@ -31,11 +31,11 @@ use Rattle.frame_flow.specs.Force.{is_port}
 use Rattle.frame_flow.specs.Copies.{IsKnown, Reached, all_places, arriving, comes_over, copy_of, flow_at, goes_by, handed_by, in_order, port_of, ports_at, frames_reaching, sent_from}
 use Rattle.frame_flow.specs.Flow.{Setting, port_flow}
 use Rattle.frame_flow.specs.Given.{IsInOrder, IsRoute, IsSetting}
-use Rattle.frame_flow.specs.Turns.{AreAt, level_at, level_of}
+use Rattle.frame_flow.specs.Levels.{AreAt, level_at, level_of}
 use Rattle.frame_flow.specs.Incoming.{AreSourcesBelow, Incoming, AreKept, AreOfSetting, HasArriving, incoming_at, incoming_by, incoming_of, leaving, leaving_by, station_of}
 use Rattle.frame_flow.proofs.CopyLemmas.{All-any, All-filter_map, All-flat_map, All-handed_by, All-sent_from, arriving-same, known-each}
 use Rattle.frame_flow.proofs.OrderLemmas.{IsKnownCopy, All-in_order, order-in_order, ordered-one, sorted-is, sum-in_order}
-use Rattle.frame_flow.proofs.TurnLemmas.{IsPortOf, at-index, level-read, places-are, ports-are, same-port, set-apart, source-below}
+use Rattle.frame_flow.proofs.LevelLemmas.{IsPortOf, at-index, level-read, places-are, ports-are, same-port, set-apart, source-below}
 
 -- ---- what a filter_map keeps of a list
 

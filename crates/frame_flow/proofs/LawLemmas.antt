@@ -24,7 +24,7 @@ use Rattle.frame_flow.specs.Flow.{Setting, IsFlow, port_flow, force_on, fate_of,
 use Rattle.frame_flow.specs.Given.{IsSetting}
 use Rattle.frame_flow.specs.Laws.{arriving_numbers, fate_numbers, AreDifferent, departures_numbered, IsOutcome, HasOutcomes}
 use Rattle.frame_flow.proofs.SlopeLemmas.{port-input}
-use Rattle.frame_flow.proofs.TurnLemmas.{places-are}
+use Rattle.frame_flow.proofs.LevelLemmas.{places-are}
 use Rattle.frame_flow.proofs.OnceLemmas.{DifferFates, DifferCopies, once-each, once-copies}
 use Rattle.credit_shaper.proofs.PairLemmas.{AllPairs-map, pairs-head, pairs-tail}
 use Rattle.frame_flow.proofs.CopyLemmas.{All-find}

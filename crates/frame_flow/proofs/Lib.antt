@@ -3,7 +3,7 @@ pub mod NumberLemmas
 pub mod OrderLemmas
 pub mod CopyLemmas
 pub mod SlopeLemmas
-pub mod TurnLemmas
+pub mod LevelLemmas
 pub mod IncomingLemmas
 pub mod OnceLemmas
 pub mod DepartureFacts

@@ -1,14 +1,13 @@
 -- Lists that ascend by a number of their elements.
 use Rattle.std.proofs.Common.{◌≡◌, ℕ, zero, suc, ◌-◌, ◌<◌, ◌≤◌, inl, inr, Bool, true, false, cond, List, [], ◌∷◌, length, get_or, map, Option, Some, None, refl, sym, ◌∙◌, ap, subst, arith}
-use Rattle.std.specs.Prelude.{All, AllPairs, find, filter, nat_lt, ◌==◌, ◌&&◌, not}
+use Rattle.std.specs.Prelude.{All, AllPairs, find, filter, ◌==◌}
 use Rattle.std.specs.List.{AllWithin, HoldsAt}
-use Rattle.std.specs.List.Sorted.{IsNonDecreasingBy, IsStableByKey, ties}
-use Rattle.std.specs.Ordering.{nat_cmp, is_lt}
-use Rattle.std.specs.declared.cmp.Ordering.{Ordering}
-use Rattle.std.specs.declared.cmp.Ordering.TheVariants.{Less, Equal, Greater}
-use Rattle.std.proofs.lemmas.Bool.{cond-true, cond-false, cases_Bool, cases_lt, cases_order, cond_both, eq-eqb, ne_eqb, lt-ltb, le-ltb}
+use Rattle.std.specs.List.Sorted.{IsNonDecreasingBy, IsStableByKey}
+use Rattle.std.specs.Ordering.{nat_cmp}
+use Rattle.std.proofs.lemmas.Bool.{cond-true, cond-false, cases_Bool, cases_lt, eq-eqb, ne_eqb}
 use Rattle.std.proofs.lemmas.List.{get_or_default, get_or-map, length-map}
 use Rattle.std.proofs.lemmas.List.Elements.{All-head, All-tail}
+use Rattle.srp_base.proofs.SortLemmas.{of-kept}
 
 -- ---- the first element that a test passes
 
@@ -87,34 +86,7 @@ find-filter {X} p (x ∷ xs) =
           ∙ sym (ap (λ (t : List X). first_of t) (cond-false (p x) (x ∷ filter p xs) (filter p xs) nay))
     ]
 
-filter-along : {X : Type 0} (p q : X → Bool) → ((x : X) → p x ≡ q x) → (xs : List X) → filter p xs ≡ filter q xs
-filter-along p q each [] = refl
-filter-along {X} p q each (x ∷ xs) =
-    ap (λ (b : Bool). cond b (x ∷ filter p xs) (filter p xs)) (each x) ∙ ap (λ (t : List X). cond (q x) (x ∷ t) t) (filter-along p q each xs)
-
-less-is : (a b : ℕ) → a < b → is_lt (nat_cmp a b) ≡ true
-less-is a b h = ap (λ (o : Ordering). is_lt o) (cond-true (nat_lt a b) Less (cond (a == b) Equal Greater) (lt-ltb a b h))
-
-less-not : (a b : ℕ) → b ≤ a → is_lt (nat_cmp a b) ≡ false
-less-not a b h =
-    ap (λ (o : Ordering). is_lt o) (cond-false (nat_lt a b) Less (cond (a == b) Equal Greater) (le-ltb a b h))
-    ∙ cond_both (a == b) Equal Greater (λ o. is_lt o ≡ false) (λ e. refl) (λ e. refl)
-
-tied : (a b : ℕ) → (not (is_lt (nat_cmp a b)) && not (is_lt (nat_cmp b a))) ≡ (b == a)
-tied a b =
-    let first = λ (p : Bool). not p && not (is_lt (nat_cmp b a)) in
-    let second = λ (p : Bool). not false && not p in
-    elim (cases_order a b) [
-      | inl e ↦ ap first (less-not a b (omega (arith, e))) ∙ ap second (less-not b a (omega (arith, e))) ∙ sym (eq-eqb b a (sym e))
-      | inr (inl lt) ↦ ap first (less-is a b lt) ∙ sym (ne_eqb b a (λ e. omega (arith, lt, e)))
-      | inr (inr gt) ↦ ap first (less-not a b (omega (arith, gt))) ∙ ap second (less-is b a gt) ∙ sym (ne_eqb b a (λ e. omega (arith, gt, e)))
-    ]
-
 pub found-sorted : {X : Type 0} (n : X → ℕ) (xs ys : List X) (x : X) → IsStableByKey n nat_cmp xs ys → find (λ y. n y == n x) ys ≡ find (λ y. n y == n x) xs
 found-sorted {X} n xs ys x stable =
     let of_x : X → Bool = λ y. n y == n x in
-    let tie : X → Bool = ties (λ a b. is_lt (nat_cmp (n a) (n b))) x in
-    let same = λ (y : X). tied (n x) (n y) in
-    find-filter of_x ys
-    ∙ ap (λ (t : List X). first_of t) (sym (filter-along tie of_x same ys) ∙ stable x ∙ filter-along tie of_x same xs)
-    ∙ sym (find-filter of_x xs)
+    find-filter of_x ys ∙ ap (λ (t : List X). first_of t) (of-kept n xs ys x stable) ∙ sym (find-filter of_x xs)

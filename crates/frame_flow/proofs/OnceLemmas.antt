@@ -25,11 +25,11 @@ use Rattle.frame_flow.specs.Copies.{IsKnown, Reached, all_places, sent_from, fra
 use Rattle.frame_flow.specs.Flow.{Setting, IsFlow, port_flow, force_on, fate_of, port_input}
 use Rattle.credit_shaper.specs.Departures.{sent_of}
 use Rattle.credit_shaper.proofs.PairLemmas.{AllPairs-map, pairs-append, pairs-head, pairs-none, pairs-tail}
-use Rattle.frame_flow.specs.Turns.{level_at}
+use Rattle.frame_flow.specs.Levels.{level_at}
 use Rattle.frame_flow.specs.Given.{IsSetting, IsFrame}
 use Rattle.frame_flow.proofs.OrderLemmas.{All-with_copy, All-in_order}
 use Rattle.frame_flow.proofs.CopyLemmas.{All-find, All-flat_map, All-filter_map, All-any, All-sent_from, All-handed_by, All-arriving, known-each, copy-is}
-use Rattle.frame_flow.proofs.TurnLemmas.{same-port, port-itself, IsPortOf, source-below, ports-are, places-are}
+use Rattle.frame_flow.proofs.LevelLemmas.{same-port, port-itself, IsPortOf, source-below, ports-are, places-are}
 
 -- ---- pairs of a list's elements
 

@@ -21,7 +21,7 @@ use Rattle.frame_flow.specs.Moments.{bits_of_ticks, bit_from}
 use Rattle.frame_flow.specs.Copies.{IsKnown, Reached, arriving, flow_at, goes_by, handed_by, in_order, port_of, ports_at, sent_from}
 use Rattle.frame_flow.specs.Flow.{Setting}
 use Rattle.frame_flow.specs.Given.{IsRoute}
-use Rattle.frame_flow.specs.Turns.{level_at}
+use Rattle.frame_flow.specs.Levels.{level_at}
 
 -- a copy at a node, and the number of the port that it came in by; 0 is none of a node's ports
 pub record Incoming : Type 0 where

@@ -3,7 +3,7 @@ pub mod Force
 pub mod Copies
 pub mod Flow
 pub mod Given
-pub mod Turns
+pub mod Levels
 pub mod Incoming
 pub mod Steps
 pub mod Laws

@@ -10,17 +10,17 @@ ghost use Rattle.frame_flow.specs.declared.frame.Route.{Route};
 ghost use Rattle.frame_flow.specs.Given.{IsInOrder, IsRoute};
 ghost use Rattle.frame_flow.specs.Incoming.{AreOfSetting, HasArriving, incoming_by, incoming_of, leaving, station_of};
 
-use crate::asked::Asked;
 use crate::frame::{CopyOf, Frame};
 use crate::incoming::{AtNode, IncomingOf};
 use crate::moments::{bit_from, bits_of_ticks, moment_of};
 use crate::numbered::find_first;
 use crate::result::{Fate, PortFlow};
+use crate::setting::FlowSetting;
 use srp_base::{EgressPort, NoMemory, NodeNo, PortNo, Rate};
 use std::alloc::Global;
 use tree_topology::Tree;
 
-impl<'a> Asked<'a> {
+impl<'a> FlowSetting<'a> {
     /// The copies at a node, by the flows at the ports that send into it. The list `old` is emptied and filled anew,
     /// for the sake of its memory.
     pub(crate) fn copies_at(

@@ -13,7 +13,7 @@
 //!
 //! - `frame`: `Frame` with its `Route`, and `FrameCopy`, a frame at a port.
 //! - `result`: `Fate`, `PortFlow` and `FlowResult`.
-//! - `turns`: `flow`. `valid`: `is_valid`, whether it may be asked for.
+//! - `levels`: `flow`. `valid`: `is_valid`, whether it may be asked for.
 //! - `copies`: the copies that come to a node, and those of them that leave by a port, in order. `incoming`: a copy
 //!   with the port that it came in by. `by_node`: the frames of each node.
 //! - `fates`: the flow at a port. `verdicts`: which copies may be sent, by what is in `force`. `sent`: how the departure
@@ -23,15 +23,15 @@
 //! The contract of `flow` is one condition on all ports at once, `IsFlow` of `specs/Flow.antt`: the flow at
 //! each port is what the frames and the flows at the other ports give it. It speaks of no order. What comes
 //! in over a port's own link never leaves by that port, so in a tree at most one flow meets it, which is a
-//! law here. The code goes over the ports by how many nodes lie behind their peers (`specs/Turns.antt`):
+//! law here. The code goes over the ports by how many nodes lie behind their peers (`specs/Levels.antt`):
 //! what sends into a port's node over another link has fewer. A node's ports that have as many follow one
 //! another, and those of one rate among them share one list of all copies that come to the node: each leaves out
 //! those that came in by itself, and puts what is left in order (`specs/Incoming.antt`).
 //!
 //! Above the condition stand, as laws: over a tree there is one flow; what arrives at a port is what comes to it,
-//! in order; what its shaper is given keeps the caps that the changes keep; each copy has one fate; it departs once where that is its fate, and
-//! else never; the copies of one traffic depart in order of arrival, ties by number; and at every port every
-//! window stays within class A's bound.
+//! in order; what its shaper is given keeps the caps that the changes keep; each copy has one fate; it departs once
+//! where that is its fate, and else never; the copies of one traffic depart in order of arrival, ties by number; and
+//! at every port every window stays within class A's bound.
 //!
 //! To extend it: another reason to drop a copy is a variant of `Fate`, a test in `may_send` and `fate_of` of
 //! `specs/Flow.antt`, and a variant of `Verdict` with its arm in `fates`. Another way for a frame to go is a variant of `Route` and a
@@ -39,7 +39,6 @@
 //! `specs/Laws.antt`, and a lemma in `proofs/LawLemmas.antt`.
 #![tactic(auto)]
 
-mod asked;
 mod by_node;
 mod copies;
 mod fates;
@@ -47,17 +46,18 @@ mod force;
 mod frame;
 mod incoming;
 pub mod laws;
+mod levels;
 mod moments;
 mod numbered;
 mod place;
 mod result;
 mod sent;
-mod turns;
+mod setting;
 mod valid;
 mod verdicts;
 
 pub use frame::{Frame, FrameCopy, Route};
+pub use levels::flow;
 pub use place::Place;
 pub use result::{Fate, FlowResult, PortFlow};
-pub use turns::flow;
 pub use valid::is_valid;

@@ -2,7 +2,6 @@ pub mod GrownTree
 pub mod DrawLemmas
 pub mod PairLemmas
 pub mod NetworkLemmas
-pub mod SortLemmas
 pub mod StreamLemmas
 pub mod EventLemmas
 pub mod RulesKept

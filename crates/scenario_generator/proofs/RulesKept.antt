@@ -21,7 +21,7 @@ use Rattle.scenario_generator.specs.Generated.{IsDrawn}
 use Rattle.scenario_generator.proofs.DrawLemmas.{bridges-between, stations-between, streams-between}
 use Rattle.scenario_generator.proofs.NetworkLemmas.{node-count, ids-small, ids-differ, names-formed, names-differ, links-formed, network-accepted, uncrowded}
 use Rattle.scenario_generator.proofs.StreamLemmas.{streams-counted, streams-formed, stream-names-differ, stream-ids-differ, talkers-known}
-use Rattle.scenario_generator.proofs.SortLemmas.{one-order}
+use Rattle.srp_base.proofs.SortLemmas.{one-order}
 use Rattle.scenario_generator.proofs.EventLemmas.{sorted-many, sorted-within, sorted-known, sorted-order}
 
 -- a plan of these values

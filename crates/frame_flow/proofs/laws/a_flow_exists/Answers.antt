@@ -1,4 +1,4 @@
-use Rattle.frame_flow.proofs.TurnLemmas.{some_flow}
+use Rattle.frame_flow.proofs.LevelLemmas.{some_flow}
 use Rattle.frame_flow.proofs.laws.a_flow_exists.Goals as goal
 
 pub returns : goal.returns

@@ -1,4 +1,4 @@
-use Rattle.frame_flow.proofs.TurnLemmas.{one_flow}
+use Rattle.frame_flow.proofs.LevelLemmas.{one_flow}
 use Rattle.frame_flow.proofs.laws.one_flow.Goals as goal
 
 pub returns : goal.returns

@@ -1,8 +1,0 @@
-use Rattle.frame_flow.specs.Turns.{AreAt, AreDoneBefore}
-use Rattle.frame_flow.proofs.asked.Asked.add_level.Given as goal
-
-abbrev pub invariant-loop-node : goal.invariant-loop-node
-invariant-loop-node l = record {
-  at : AreAt l.places l.flows.items;
-  done : AreDoneBefore l.self l.level l.node 0 l.places l.flows.items;
-}

@@ -1,6 +1,0 @@
-use Rattle.std.proofs.Common.{◌≡◌, take}
-use Rattle.frame_flow.specs.Incoming.{leaving}
-use Rattle.frame_flow.proofs.asked.Asked.left_by.Given as goal
-
-abbrev pub invariant-loop-c : goal.invariant-loop-c
-invariant-loop-c l = l.left.items ≡ leaving l.self.tree.links l.port (take l.c-index l.copies)
