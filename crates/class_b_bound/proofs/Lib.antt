@@ -4,3 +4,4 @@ pub mod BoundLemmas
 pub mod WaitLemmas
 pub mod WindowLemmas
 pub mod PieceLemmas
+pub mod FrameLemmas

@@ -4,11 +4,13 @@
 --     class B waits            ^ ^ ^ ^ ^ ^ ^ ^ ^ ^ ^
 --     it is on the line                             B B
 --     it is kept waiting           1 2 3 4 5 6 7 8 9        a wait of 9 bit times
-use Rattle.std.specs.Prelude.{◌≡◌, ℕ, zero, suc, ◌+◌, ◌<◌, ◌≤◌, Bool, true, not, ◌&&◌, pos, int_le, max, if◌then◌else◌}
+use Rattle.std.specs.Prelude.{◌≡◌, ℕ, zero, suc, ◌+◌, ◌<◌, ◌≤◌, ◌⊎◌, Bool, true, not, ◌&&◌, Some, pos, int_le, max, if◌then◌else◌}
 use Rattle.credit_shaper.specs.declared.shaper.Traffic.TheVariants.{B}
+use Rattle.credit_shaper.specs.declared.port.Arrival.{Arrival}
 use Rattle.credit_shaper.specs.declared.port.PortInput.{PortInput}
 use Rattle.credit_shaper.specs.Bounds.{credit_b_at, is_on_line}
-use Rattle.credit_shaper.specs.Steps.{is_waiting}
+use Rattle.credit_shaper.specs.Departures.{DepartsAt}
+use Rattle.credit_shaper.specs.Steps.{head_at, is_waiting}
 
 -- whether class B is kept waiting in a bit time: a frame of it waits, its credit isn't negative, and none
 -- of it is on the line
@@ -40,3 +42,19 @@ most_waited input (suc t) = max (waited input (suc t)) (most_waited input t)
 -- the longest wait of an input, as a number
 abbrev pub worst_wait_of : PortInput → ℕ
 worst_wait_of input = most_waited input input.end
+
+-- class B is kept waiting in a bit time, with this frame at the head of its queue
+abbrev pub IsKeptWaiting : PortInput → Arrival → ℕ → Type 0
+IsKeptWaiting input x t = (head_at input B t ≡ Some x) × (is_kept_waiting input t ≡ true)
+
+-- the wait of a frame: so many bit times from the first in which it heads class B's queue with credit of at
+-- least 0 while no class B frame is on the line, up to its start or the end of the input
+pub record IsWaitOf (input : PortInput) (x : Arrival) (from bits : ℕ) : Type 0 where
+  pub each : (t : ℕ) → from ≤ t → t < from + bits → IsKeptWaiting input x t
+  pub first : (t : ℕ) → suc t ≡ from → IsKeptWaiting input x t → ⊥
+  pub last : DepartsAt input x (from + bits) ⊎ (from + bits ≡ input.end)
+
+-- the longest of all frames' waits; 0 where no frame waits
+pub record IsLongestWait (input : PortInput) (bits : ℕ) : Type 0 where
+  pub most : (x : Arrival) (from other : ℕ) → IsWaitOf input x from other → other ≤ bits
+  pub there : 0 < bits → (x : Arrival) × (from : ℕ) × IsWaitOf input x from bits

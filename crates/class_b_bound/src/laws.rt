@@ -11,12 +11,13 @@ ghost use Rattle.credit_shaper.specs.Bounds.{credit_b_at};
 ghost use Rattle.credit_shaper.specs.Steps.{Starts};
 ghost use Rattle.class_b_bound.specs.BitTimes.{BitLaws};
 ghost use Rattle.class_b_bound.specs.Bound.{AreCaps, HasCaps, bound_of, tight_bound_of, IsCreditBWithin};
-ghost use Rattle.class_b_bound.specs.Waits.{is_kept_waiting, HasWait, IsWorstWait, worst_wait_of};
+ghost use Rattle.class_b_bound.specs.Waits.{is_kept_waiting, HasWait, IsLongestWait, IsWorstWait, worst_wait_of};
 ghost use Rattle.class_b_bound.specs.Window.{IsWindowBWithin};
 
 use credit_shaper::laws::{
-    credits_go_on, each_bit_time_is_one_of_three, slopes_keep_the_caps_of_changes,
-    the_line_goes_on, what_waits_goes_on_waiting,
+    credits_go_on, departures_follow_one_another, each_bit_time_is_one_of_three,
+    slopes_keep_the_caps_of_changes, the_first_of_a_queue_stays_until_it_starts, the_line_goes_on,
+    what_waits_goes_on_waiting,
 };
 
 /// Class B's credit stays between loCredit and hiCredit at every bit time: of the bound, and of the tight one, whose
@@ -75,6 +76,18 @@ pub fn an_input_has_one_worst_wait()
     ensures one { (input : PortInput) (one other : ℕ) → IsWorstWait input one
         → IsWorstWait input other → one ≡ other }
 {}
+
+/// The longest wait of an input is that of one frame: no frame of class B waits longer, from the first bit time in which it
+/// heads its queue with credit of at least 0 while none of its class is on the line, up to its start or the end of the
+/// input; and unless it is 0 some frame waits as long.
+pub fn the_longest_wait_is_that_of_a_frame()
+    ensures { (input : PortInput) → IsPortInput input → IsLongestWait input (worst_wait_of input) }
+{
+    an_input_has_one_worst_wait();
+    a_wait_ends_with_a_start();
+    departures_follow_one_another();
+    the_first_of_a_queue_stays_until_it_starts();
+}
 
 /// The tight bound is nowhere above the other.
 pub fn the_tight_bound_is_no_greater()

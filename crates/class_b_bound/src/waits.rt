@@ -7,10 +7,12 @@ ghost use Rattle.credit_shaper.specs.Bounds.{KeepCaps};
 ghost use Rattle.credit_shaper.specs.Credit.{IsWithin, IsInRange};
 ghost use Rattle.credit_shaper.specs.Pieces.{ArePieces, IsPiece};
 ghost use Rattle.class_b_bound.specs.Bound.{AreCaps, bound_of, tight_bound_of};
-ghost use Rattle.class_b_bound.specs.Waits.{IsWorstWait, worst_wait_of};
+ghost use Rattle.class_b_bound.specs.Waits.{IsLongestWait, IsWorstWait, worst_wait_of};
 ghost use Rattle.class_b_bound.specs.Walk.{IsWaits, keeps_b};
 
-use crate::laws::{an_input_has_one_worst_wait, class_b_waits_stay_within};
+use crate::laws::{
+    an_input_has_one_worst_wait, class_b_waits_stay_within, the_longest_wait_is_that_of_a_frame,
+};
 use credit_shaper::{Piece, PortInput, PortTrace, Traffic};
 use srp_base::NoMemory;
 use std::alloc::Global;
@@ -33,11 +35,13 @@ pub fn worst_wait(
     requires slopes { KeepCaps cap_a cap_ab input.now.slopes }
     ensures exact { IfOk result (λ n. n ≡ worst_wait_of input.now) }
     ensures worst { IfOk result (λ n. IsWorstWait input.now n) }
+    ensures frame { IfOk result (λ n. IsLongestWait input.now n) }
     ensures bound { IfOk result (λ n. n ≤ (bound_of input.now.rate cap_a cap_ab).wait) }
     ensures tight { IfOk result (λ n. n ≤ (tight_bound_of input.now.rate cap_a cap_ab).wait) }
 {
     class_b_waits_stay_within();
     an_input_has_one_worst_wait();
+    the_longest_wait_is_that_of_a_frame();
     let pieces = PortTrace::pieces(alloc, input)?;
     Ok(longest(input, pieces.as_slice()))
 }

@@ -3,6 +3,8 @@ use Rattle.std.proofs.Common.{◌≡◌, ℕ, zero, suc, ◌+◌, ◌-◌, ◌<�
 use Rattle.std.specs.Prelude.{All, nat_le, is_some, ◌&&◌, ℤ, pos, negsuc, ◌≤ℤ◌, ◌<ℤ◌, int_le}
 use Rattle.std.proofs.lemmas.Bool.{cases_Bool, cases_lt, cases_eq, and_cases, and_parts, cond-true, cond-false, le-leb, lt-leb, true≢false, false≢true}
 use Rattle.std.proofs.lemmas.Int.{ints}
+use Rattle.std.specs.List.{Contains}
+use Rattle.std.proofs.lemmas.List.Elements.{Contains-append_left, Contains-push}
 use Rattle.srp_base.specs.declared.bandwidth.Rate.{Rate}
 use Rattle.srp_base.specs.Bandwidth.{bits_of}
 use Rattle.credit_shaper.specs.declared.shaper.Traffic.{Traffic}
@@ -11,15 +13,18 @@ use Rattle.credit_shaper.specs.declared.shaper.Line.TheVariants.{Sends}
 use Rattle.credit_shaper.specs.declared.shaper.Shaper.{Shaper}
 use Rattle.credit_shaper.specs.declared.port.Arrival.{Arrival}
 use Rattle.credit_shaper.specs.declared.port.PortInput.{PortInput}
+use Rattle.credit_shaper.specs.declared.port.Departure.{Departure}
 use Rattle.credit_shaper.specs.Credit.{credit_after, does_send, traffic_number}
 use Rattle.credit_shaper.specs.Port.{IsPortInput, IsFrameSize, is_of, arrivals_at, no_slopes}
-use Rattle.credit_shaper.specs.Trace.{Port, head_of, turn_of, does_wait, starts, with_arrivals, port_at, port_in}
+use Rattle.credit_shaper.specs.Trace.{Port, head_of, turn_of, does_wait, departure_at, starts, with_arrivals, port_at, port_in}
 use Rattle.credit_shaper.specs.Bounds.{credit_a_at, credit_b_at, slope_a_at, slope_b_at, is_on_line, KeepCaps, AreSlopesWithin}
-use Rattle.credit_shaper.specs.Steps.{is_waiting, was_on_line, bits_left, bits_ahead, GoesOn, Starts, Rests, IsOneOfThree, WaitsWithCreditA}
+use Rattle.credit_shaper.specs.Steps.{head_at, is_waiting, was_on_line, bits_left, bits_ahead, GoesOn, Starts, Rests, IsOneOfThree, WaitsWithCreditA}
+use Rattle.credit_shaper.specs.Departures.{sent_of, DepartsAt}
 use Rattle.credit_shaper.proofs.BoundLemmas.{HasSizes, head_traffic, head_of-other, head_within, sizes_at, with_arrivals_sizes}
 use Rattle.credit_shaper.proofs.CreditLemmas.{below_zero}
 use Rattle.credit_shaper.proofs.PortLemmas.{shaper-port_in, rate_is, last_change_all}
 use Rattle.credit_shaper.proofs.QueueLemmas.{same_traffic}
+use Rattle.credit_shaper.proofs.DepartureLemmas.{Goes, goes_by}
 
 -- ---- the credits
 
@@ -115,7 +120,7 @@ turn_is_of s w =
 record HasStarted (t : ℕ) (p q : Port) (traffic : Traffic) : Type 0 where
   size : IsFrameSize (q.free_from - t)
   line : q.line ≡ Sends traffic
-  other : (kind : Traffic) → (traffic_number traffic ≡ traffic_number kind → ⊥) → does_wait kind q.waiting ≡ does_wait kind p.waiting
+  other : (kind : Traffic) → (traffic_number traffic ≡ traffic_number kind → ⊥) → head_of kind q.waiting ≡ head_of kind p.waiting
 
 has_started : (t : ℕ) (p : Port) (x : Arrival) → head_of (turn_of p.shaper p.waiting) p.waiting ≡ Some x
     → All (λ y. IsFrameSize y.bits) p.waiting → HasStarted t p (starts t p (Some x)) (turn_of p.shaper p.waiting)
@@ -127,7 +132,7 @@ has_started t p x e sizes =
     record {
       size = subst IsFrameSize bits size;
       line = ap Sends own;
-      other = λ kind ne. ap is_some (head_of-other kind x.traffic p.waiting (λ f. ne (ap traffic_number (sym own) ∙ f)));
+      other = λ kind ne. head_of-other kind x.traffic p.waiting (λ f. ne (ap traffic_number (sym own) ∙ f));
     }
 
 -- a start of this traffic, from the port before it
@@ -143,7 +148,7 @@ starts_of input t q A is free turn has =
     }
 starts_of input t q B is free turn has =
     let facts = (turn_is_of q.shaper q.waiting).of_b turn in
-    let waits : is_waiting input A t ≡ does_wait A q.waiting = has.other A (λ f. absurd (omega (arith, f))) in
+    let waits : is_waiting input A t ≡ does_wait A q.waiting = ap is_some (has.other A (λ f. absurd (omega (arith, f)))) in
     record {
       free = free;
       size = has.size;
@@ -155,8 +160,8 @@ starts_of input t q B is free turn has =
     }
 starts_of input t q Other is free turn has =
     let facts = (turn_is_of q.shaper q.waiting).of_other turn in
-    let a : is_waiting input A t ≡ does_wait A q.waiting = has.other A (λ f. absurd (omega (arith, f))) in
-    let b : is_waiting input B t ≡ does_wait B q.waiting = has.other B (λ f. absurd (omega (arith, f))) in
+    let a : is_waiting input A t ≡ does_wait A q.waiting = ap is_some (has.other A (λ f. absurd (omega (arith, f)))) in
+    let b : is_waiting input B t ≡ does_wait B q.waiting = ap is_some (has.other B (λ f. absurd (omega (arith, f)))) in
     record {
       free = free;
       size = has.size;
@@ -287,47 +292,94 @@ waits_for_one input from bits valid wait = omega (arith, waits_for input from bi
 
 -- ---- what waits goes on waiting
 
-wait-append : (traffic : Traffic) (xs ys : List Arrival) → does_wait traffic xs ≡ true → does_wait traffic (xs ++ ys) ≡ true
-wait-append traffic [] ys w = absurd (false≢true w)
-wait-append traffic (x ∷ xs) ys w0 =
-    (elim (is_of traffic x) as (λ b. is_some (cond b (Some x) (head_of traffic xs)) ≡ true → is_some (cond b (Some x) (head_of traffic (xs ++ ys))) ≡ true) [
-      | true ↦ λ w. refl
-      | false ↦ λ w. wait-append traffic xs ys w
-    ]) w0
+-- what heads a queue heads it still once more has arrived
+head-append : (traffic : Traffic) (xs ys : List Arrival) (x : Arrival) → head_of traffic xs ≡ Some x → head_of traffic (xs ++ ys) ≡ Some x
+head-append traffic [] ys x e = absurd (false≢true (ap is_some e))
+head-append traffic (y ∷ xs) ys x e0 =
+    (elim (is_of traffic y) as (λ b. cond b (Some y) (head_of traffic xs) ≡ Some x → cond b (Some y) (head_of traffic (xs ++ ys)) ≡ Some x) [
+      | true ↦ λ e. e
+      | false ↦ λ e. head-append traffic xs ys x e
+    ]) e0
 
--- a start of another traffic, or none, leaves a queue that isn't empty
-start_waits : (input : PortInput) (t : ℕ) (traffic : Traffic) (q : Port) (o : Option Arrival) → does_wait traffic q.waiting ≡ true
+-- a start of another traffic, or none, leaves what heads the queue
+start_leaves : (input : PortInput) (t : ℕ) (traffic : Traffic) (q : Port) (x : Arrival) (o : Option Arrival) → head_of traffic q.waiting ≡ Some x
     → HasSizes t q → port_in input t ≡ starts t q o → head_of (turn_of q.shaper q.waiting) q.waiting ≡ o
     → q ≡ with_arrivals input t (port_at input t) → bits_left input t ≡ 0
-    → Starts input traffic t ⊎ (is_waiting input traffic t ≡ true)
-start_waits input t traffic q None waits sizes now e is free = inr (ap (λ p. does_wait traffic p.waiting) now ∙ waits)
-start_waits input t traffic q (Some x) waits sizes now e is free =
+    → Starts input traffic t ⊎ (head_at input traffic t ≡ Some x)
+start_leaves input t traffic q x None head sizes now e is free = inr (ap (λ p. head_of traffic p.waiting) now ∙ head)
+start_leaves input t traffic q x (Some y) head sizes now e is free =
     let turn : Traffic = turn_of q.shaper q.waiting in
-    let has : HasStarted t q (port_in input t) turn = subst (λ (p : Port). HasStarted t q p turn) (sym now) (has_started t q x e sizes.waiting) in
+    let has : HasStarted t q (port_in input t) turn = subst (λ (p : Port). HasStarted t q p turn) (sym now) (has_started t q y e sizes.waiting) in
     elim (cases_eq (traffic_number turn) (traffic_number traffic)) [
       | inl same ↦
           let one : turn ≡ traffic = same_traffic turn traffic same in
           inl (subst (λ (k : Traffic). Starts input k t) one (starts_of input t q turn is free refl has))
-      | inr ne ↦ inr (has.other traffic ne ∙ waits)
+      | inr ne ↦ inr (has.other traffic ne ∙ head)
     ]
 
-waits_within : (input : PortInput) (t : ℕ) (traffic : Traffic) → IsPortInput input → does_wait traffic (port_at input t).waiting ≡ true
-    → Starts input traffic t ⊎ (is_waiting input traffic t ≡ true)
-waits_within input t traffic valid waits =
+stays_within : (input : PortInput) (t : ℕ) (traffic : Traffic) (x : Arrival) → IsPortInput input → head_of traffic (port_at input t).waiting ≡ Some x
+    → Starts input traffic t ⊎ (head_at input traffic t ≡ Some x)
+stays_within input t traffic x valid head =
     let p : Port = port_at input t in
     let q : Port = with_arrivals input t p in
     let turn : Option Arrival = head_of (turn_of q.shaper q.waiting) q.waiting in
-    let more : does_wait traffic q.waiting ≡ true = wait-append traffic p.waiting (arrivals_at input.arrivals t) waits in
+    let more : head_of traffic q.waiting ≡ Some x = head-append traffic p.waiting (arrivals_at input.arrivals t) x head in
     elim (cases_lt t p.free_from) [
       | inl busy ↦
           let same : port_in input t ≡ q = cond-false (nat_le q.free_from t) (starts t q turn) q (lt-leb q.free_from t busy) in
-          inr (ap (λ r. does_wait traffic r.waiting) same ∙ more)
+          inr (ap (λ r. head_of traffic r.waiting) same ∙ more)
       | inr free ↦
-          start_waits input t traffic q turn more (with_arrivals_sizes input t p valid (sizes_at input t valid))
+          start_leaves input t traffic q x turn more (with_arrivals_sizes input t p valid (sizes_at input t valid))
           (cond-true (nat_le q.free_from t) (starts t q turn) q (le-leb q.free_from t free)) refl refl (omega (arith, free))
     ]
 
+pub stays_on : (input : PortInput) (traffic : Traffic) (x : Arrival) (t : ℕ) → IsPortInput input → head_at input traffic t ≡ Some x
+    → Starts input traffic (suc t) ⊎ (head_at input traffic (suc t) ≡ Some x)
+unfolding port_at
+stays_on input traffic x t valid head = stays_within input (suc t) traffic x valid head
+
+-- so a queue that isn't empty stays so
+waits_head : (o : Option Arrival) → is_some o ≡ true → (x : Arrival) × (o ≡ Some x)
+waits_head None w = absurd (false≢true w)
+waits_head (Some x) w = (x, refl)
+
 pub waits_on : (input : PortInput) (traffic : Traffic) (t : ℕ) → IsPortInput input → is_waiting input traffic t ≡ true
     → Starts input traffic (suc t) ⊎ (is_waiting input traffic (suc t) ≡ true)
+waits_on input traffic t valid waits =
+    let head = waits_head (head_at input traffic t) waits in
+    elim (stays_on input traffic head.0 t valid head.1) [ inl start ↦ inl start | inr stays ↦ inr (ap is_some stays) ]
+
+-- ---- the frame that starts is the one that headed its queue
+
+starts_first : (t : ℕ) (traffic : Traffic) (q : Port) (x : Arrival) (o : Option Arrival) → head_of traffic q.waiting ≡ Some x
+    → head_of (turn_of q.shaper q.waiting) q.waiting ≡ o → (starts t q o).line ≡ Sends traffic
+    → (starts t q o).sent ≡ q.sent ++ departure_at t x ∷ []
+starts_first t traffic q x None head e line = cc
+starts_first t traffic q x (Some y) head e line =
+    let own : y.traffic ≡ turn_of q.shaper q.waiting = head_traffic (turn_of q.shaper q.waiting) q.waiting y e in
+    let sends : y.traffic ≡ traffic = cc in
+    let both : Some y ≡ Some x = sym e ∙ (ap (λ k. head_of k q.waiting) (sym own ∙ sends) ∙ head) in
+    let one : y ≡ x = cc in
+    ap (λ z. q.sent ++ departure_at t z ∷ []) one
+
+departs_within : (input : PortInput) (t : ℕ) (traffic : Traffic) (x : Arrival) → head_of traffic (port_at input t).waiting ≡ Some x
+    → Starts input traffic t → (port_in input t).sent ≡ (port_at input t).sent ++ departure_at t x ∷ []
+departs_within input t traffic x head start =
+    let p : Port = port_at input t in
+    let q : Port = with_arrivals input t p in
+    let turn : Option Arrival = head_of (turn_of q.shaper q.waiting) q.waiting in
+    let left : p.free_from - t ≡ 0 = start.free in
+    let now : port_in input t ≡ starts t q turn = cond-true (nat_le q.free_from t) (starts t q turn) q (le-leb q.free_from t (omega (arith, left))) in
+    ap (λ r. r.sent) now
+    ∙ starts_first t traffic q x turn (head-append traffic p.waiting (arrivals_at input.arrivals t) x head) refl (ap (λ r. r.line) (sym now) ∙ start.line)
+
+pub departs_next : (input : PortInput) (traffic : Traffic) (x : Arrival) (t : ℕ) → head_at input traffic t ≡ Some x
+    → Starts input traffic (suc t) → suc t < input.end → DepartsAt input x (suc t)
 unfolding port_at
-waits_on input traffic t valid waits = waits_within input (suc t) traffic valid waits
+departs_next input traffic x t head start in_time =
+    let sent : (port_at input (suc (suc t))).sent ≡ (port_at input (suc t)).sent ++ departure_at (suc t) x ∷ [] =
+    departs_within input (suc t) traffic x head start in
+    let goes : Goes (suc (suc t)) (port_at input (suc (suc t))).sent (sent_of input) = goes_by input (suc (suc t)) input.end (omega (arith, in_time)) in
+    subst (λ (ds : List Departure). Contains ds (departure_at (suc t) x)) (sym goes.is)
+    (Contains-append_left (port_at input (suc (suc t))).sent goes.more (departure_at (suc t) x)
+    (subst (λ (ds : List Departure). Contains ds (departure_at (suc t) x)) (sym sent) (Contains-push (port_at input (suc t)).sent (departure_at (suc t) x))))

@@ -4,19 +4,24 @@
 --     as it begins         in it, once a frame has started or not
 --     bits_left        --> bits_ahead
 --     was_on_line      --> is_on_line      --> the next one, with one bit less
-use Rattle.std.specs.Prelude.{◌≡◌, ℕ, ◌+◌, ◌-◌, ◌<◌, ◌≤◌, ◌⊎◌, Bool, true, false, pos, ◌≤ℤ◌, ◌<ℤ◌}
+use Rattle.std.specs.Prelude.{◌≡◌, ℕ, ◌+◌, ◌-◌, ◌<◌, ◌≤◌, ◌⊎◌, Bool, true, false, Option, pos, ◌≤ℤ◌, ◌<ℤ◌}
 use Rattle.credit_shaper.specs.declared.shaper.Traffic.{Traffic}
 use Rattle.credit_shaper.specs.declared.shaper.Traffic.TheVariants.{A, B, Other}
 use Rattle.credit_shaper.specs.declared.shaper.Line.TheVariants.{Free, Sends}
+use Rattle.credit_shaper.specs.declared.port.Arrival.{Arrival}
 use Rattle.credit_shaper.specs.declared.port.PortInput.{PortInput}
 use Rattle.credit_shaper.specs.Credit.{does_send}
 use Rattle.credit_shaper.specs.Port.{IsFrameSize}
-use Rattle.credit_shaper.specs.Trace.{does_wait, port_at, port_in}
+use Rattle.credit_shaper.specs.Trace.{head_of, does_wait, port_at, port_in}
 use Rattle.credit_shaper.specs.Bounds.{credit_a_at, credit_b_at, is_on_line}
 
 -- whether a frame of a traffic waits in a bit time, after its start if one starts
 abbrev pub is_waiting : PortInput → Traffic → ℕ → Bool
 is_waiting input traffic t = does_wait traffic (port_in input t).waiting
+
+-- the frame that heads a traffic's queue in a bit time, after its start if one starts
+abbrev pub head_at : PortInput → Traffic → ℕ → Option Arrival
+head_at input traffic t = head_of traffic (port_in input t).waiting
 
 -- whether the frame that was on the line before a bit time, if any, is of a traffic
 abbrev pub was_on_line : PortInput → Traffic → ℕ → Bool

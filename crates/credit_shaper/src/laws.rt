@@ -1,7 +1,7 @@
 //! What is true of every run, over the definitions that the contract of `PortTrace::run` cites. Each is a
 //! function that does nothing; calling it brings the law to a proof.
 
-ghost use Rattle.std.specs.Prelude.{◌≡◌, ℕ, suc, ◌+◌, ◌-◌, ◌*◌, ◌<◌, ◌≤◌, ◌⊎◌, true, pos, List, map, filter, All, AllPairs};
+ghost use Rattle.std.specs.Prelude.{◌≡◌, ℕ, suc, ◌+◌, ◌-◌, ◌*◌, ◌<◌, ◌≤◌, ◌⊎◌, true, Some, pos, List, map, filter, All, AllPairs};
 ghost use Rattle.std.specs.List.{list_any};
 ghost use Rattle.credit_shaper.specs.declared.shaper.Traffic.{Traffic};
 ghost use Rattle.credit_shaper.specs.declared.port.Arrival.{Arrival};
@@ -12,8 +12,8 @@ ghost use Rattle.srp_base.specs.Bandwidth.{bits_of};
 ghost use Rattle.credit_shaper.specs.declared.shaper.Traffic.TheVariants.{A, B};
 ghost use Rattle.credit_shaper.specs.Credit.{credit_after};
 ghost use Rattle.credit_shaper.specs.Bounds.{credit_a_at, credit_b_at, slope_a_at, slope_b_at, is_on_line, greatest_slope_a, IsStretch, IsCreditAWithin, IsWindowAWithin, DoesWaitA, IsWaitAWithin, KeepCaps, AreSlopesWithin};
-ghost use Rattle.credit_shaper.specs.Steps.{is_waiting, was_on_line, bits_left, bits_ahead, Starts, IsOneOfThree, WaitsWithCreditA};
-ghost use Rattle.credit_shaper.specs.Departures.{sent_of, left_of, departs_as, DepartInOrder, is_sending, AgreeBefore, arrivals_before, started_before};
+ghost use Rattle.credit_shaper.specs.Steps.{head_at, is_waiting, was_on_line, bits_left, bits_ahead, Starts, IsOneOfThree, WaitsWithCreditA};
+ghost use Rattle.credit_shaper.specs.Departures.{sent_of, DepartsAt, left_of, departs_as, DepartInOrder, is_sending, AgreeBefore, arrivals_before, started_before};
 
 /// What leaves a port is what its trace has sent by the end, and the frames that wait then are left.
 pub fn what_leaves_is_sent_or_left()
@@ -103,6 +103,17 @@ pub fn what_waits_goes_on_waiting()
     ensures { (input : PortInput) (traffic : Traffic) (t : ℕ) → IsPortInput input
         → is_waiting input traffic t ≡ true
         → Starts input traffic (suc t) ⊎ (is_waiting input traffic (suc t) ≡ true) }
+{}
+
+/// The frame that heads a queue in a bit time heads it in the next too, unless a frame of its traffic starts
+/// then; and that is the one which starts.
+pub fn the_first_of_a_queue_stays_until_it_starts()
+    ensures stays { (input : PortInput) (traffic : Traffic) (x : Arrival) (t : ℕ) → IsPortInput input
+        → head_at input traffic t ≡ Some x
+        → Starts input traffic (suc t) ⊎ (head_at input traffic (suc t) ≡ Some x) }
+    ensures starts { (input : PortInput) (traffic : Traffic) (x : Arrival) (t : ℕ)
+        → head_at input traffic t ≡ Some x → Starts input traffic (suc t) → suc t < input.end
+        → DepartsAt input x (suc t) }
 {}
 
 /// What all slope changes of an input keep, its slopes keep in each bit time: class A's slope its cap, and
