@@ -12,6 +12,7 @@ pub mod Idle
 pub mod EventOrder
 pub mod Links
 pub mod Lookups
+pub mod MarkedLinks
 pub mod Octets
 pub mod OutlookLemmas
 pub mod Places

@@ -3,6 +3,7 @@ pub mod Duty
 pub mod Hearing
 pub mod Link
 pub mod Lookup
+pub mod MarkedLink
 pub mod Outlook
 pub mod Row
 pub mod Sending

@@ -27,8 +27,8 @@
 //! timers that end first ends by it.
 //!
 //! `laws` says of the calls that touch every row what each single key has afterwards; `duty_laws` what two
-//! participants on a link owe one another, call by call; `link_laws` the same of every history of a link. After
-//! want of memory a participant is as it was.
+//! participants on a link owe one another, call by call; `link_laws` the same of every history of a link, and
+//! `marked_link_laws` where a neighbour's LeaveAll makes an end sound too. After want of memory a participant is as it was.
 //!
 //! An application is a type with `MrpApp`: its keys and contents, and how many octets they take. A new call of a
 //! participant has a state after it in `specs/State.antt`, which its clause names, and is a new `EndEvent`, with its
@@ -46,6 +46,7 @@ mod hearing;
 pub mod laws;
 pub mod link_laws;
 mod lookup;
+pub mod marked_link_laws;
 mod outlook;
 mod participant;
 mod receive;
