@@ -141,6 +141,13 @@ impl<A: MrpApp> Participant<A> {
         self.sound
     }
 
+    /// The state of the LeaveAll machine: where it is Active, the next list of messages that is sent has LeaveAll.
+    pub fn leave_all(&self) -> LeaveAll
+        ensures { result ≡ self.now.leave_all }
+    {
+        self.leave_all
+    }
+
     /// Ends soundness, as after a loss on the port's link.
     pub fn spoil(&mut self)
         ensures { self.new ≡ record self.old { sound = false } }
