@@ -19,7 +19,7 @@ use tree_topology::NodeKind;
 fn is_name_char(c: u8) -> bool
     ensures { result ≡ is_name_char_spec c }
 {
-    97 <= c && c <= 122 || 48 <= c && c <= 57 || c == 45 || c == 95
+    b'a' <= c && c <= b'z' || b'0' <= c && c <= b'9' || c == b'-' || c == b'_'
 }
 
 fn has_name_chars(word: &[u8]) -> bool
