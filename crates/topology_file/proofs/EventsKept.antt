@@ -59,7 +59,7 @@ known-pdu-known nodes links ms =
     and_then-if P _ (index_at ms) (λ index ei.
     (joined-known nodes links from to, (some-says (λ n. (0 ≤ n) × (n ≤ 65535)) (index_at ms) index ei (within-range 0 65535 (number (codes "index") ms))).1))))
 
-pdu-known : (nodes : List NodeEntry) (links : List LinkEntry) (ms : Members) → IfSome (pdu_at nodes links ms) (λ p. IfSome p.0 (λ x. AreJoinedNumbers nodes links x.0.0 x.1.0) × (p.1 ≤ 65535))
+pub pdu-known : (nodes : List NodeEntry) (links : List LinkEntry) (ms : Members) → IfSome (pdu_at nodes links ms) (λ p. IfSome p.0 (λ x. AreJoinedNumbers nodes links x.0.0 x.1.0) × (p.1 ≤ 65535))
 pdu-known nodes links ms =
     when-if (λ p. IfSome p.0 (λ x. AreJoinedNumbers nodes links x.0.0 x.1.0) × (p.1 ≤ 65535)) (has_only pdu_keys ms) (known_pdu nodes links ms) (λ _. known-pdu-known nodes links ms)
 

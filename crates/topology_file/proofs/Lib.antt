@@ -3,6 +3,7 @@ pub mod Parts
 pub mod HexRanges
 pub mod TreeRules
 pub mod NetworkKept
+pub mod TimedNetworks
 pub mod StreamsKept
 pub mod EventsKept
 pub mod FramesKept

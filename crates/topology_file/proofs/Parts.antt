@@ -6,7 +6,7 @@ use Rattle.toml.specs.Data.{Members}
 use Rattle.toml_rules.specs.declared.rules.RuleErr.{RuleErr}
 use Rattle.toml_rules.specs.Fields.{truth_or, tables, has_only}
 use Rattle.toml_rules.specs.Rules.{needs, holds, no_entry}
-use Rattle.topology_file.specs.declared.scenario.Network.{Network}
+use Rattle.topology_file.specs.declared.network.Network.{Network}
 use Rattle.topology_file.specs.declared.scenario.Traffic.{Traffic}
 use Rattle.topology_file.specs.Parts.{network_of, traffic_of, entries_plan}
 use Rattle.topology_file.specs.Plan.{Plan}

@@ -8,8 +8,8 @@ use Rattle.toml_rules.specs.Fields.{truth_or, tables}
 use Rattle.toml_rules.specs.Rules.{needs, no_entry}
 use Rattle.topology_file.specs.declared.entries.NodeEntry.{NodeEntry}
 use Rattle.topology_file.specs.declared.entries.LinkEntry.{LinkEntry}
-use Rattle.topology_file.specs.declared.scenario.Network.{Network}
-use Rattle.topology_file.specs.declared.scenario.Times.{Times}
+use Rattle.topology_file.specs.declared.network.Network.{Network}
+use Rattle.topology_file.specs.declared.network.Times.{Times}
 use Rattle.topology_file.specs.declared.scenario.Traffic.{Traffic}
 use Rattle.topology_file.specs.Plan.{Plan}
 use Rattle.topology_file.specs.Scenario.{nodes_of, links_of, tree_of, is_crowded, streams_of, events_of, frames_of, leave_time_at, plan_of}

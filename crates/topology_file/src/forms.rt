@@ -35,8 +35,8 @@ fn is_name(word: &[u8]) -> bool
     1 <= word.len() && word.len() <= 32 && has_name_chars(word)
 }
 
-/// The name at a key.
-pub(crate) fn read_name<'a>(table: &'a Table, key: &str) -> Option<&'a str>
+/// The name at a key: a text of 1 to 32 characters a to z, 0 to 9, `-` and `_`. None where there is none.
+pub fn read_name<'a>(table: &'a Table, key: &str) -> Option<&'a str>
     ensures { option_copied result ≡ name_at key.now (table_view table.now) }
 {
     let word = text(table, key)?;
@@ -148,8 +148,8 @@ pub(crate) fn read_octets(alloc: Global, table: &Table) -> Result<Option<Seq<u8>
     }
 }
 
-/// The tick of an event, below the scenario's ticks.
-pub(crate) fn read_tick(ticks: u64, table: &Table) -> Option<u64>
+/// The tick of an event in cs, below the file's ticks. None where there is none.
+pub fn read_tick(ticks: u64, table: &Table) -> Option<u64>
     ensures { result ≡ tick_at ticks (table_view table.now) }
 {
     match number(table, "tick") {

@@ -154,7 +154,10 @@ fn read_known_pdu(
 
 const PDU_KEYS: [&str; 5] = ["tick", "kind", "from", "to", "index"];
 
-fn read_pdu(
+/// The two nodes of an event on a link, from the one to the other, and the index of a PDU, 0 to 65,535, at exactly
+/// the keys `tick`, `kind`, `from`, `to` and `index`; the nodes are missing where no link joins nodes of these names.
+/// None where a key or a value hasn't its form. There are at most 64 nodes.
+pub fn read_pdu(
     nodes: &[NodeEntry],
     links: &[LinkEntry],
     table: &Table,

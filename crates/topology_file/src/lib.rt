@@ -18,6 +18,9 @@
 //! listed fails the form of its entry. An entry is read with the numbers of what it names at once; where
 //! it names nothing that is there, its form is whole and its value missing, which a later rule refuses.
 //!
+//! `read_timed_network` reads the network of a file and its times alone, the rules 1 to 15, and `read_name`,
+//! `read_tick`, `station_named` and `read_pdu` read what events name: other files of a network stand on these.
+//!
 //! A new key of an entry is a reader, a field in `entries`, and one line in the reader of that entry and in
 //! its definition (`specs/Entries.antt`, `specs/Streams.antt`, `specs/Frames.antt`). A new kind of event is
 //! a variant of `EventKind`, a reader and its arm of `read_kind` (`src/kinds.rt`), and in
@@ -30,7 +33,9 @@ mod events;
 mod forms;
 mod frames;
 mod kinds;
+pub mod laws;
 mod links;
+mod network;
 mod nodes;
 mod scenario;
 mod streams;
@@ -39,5 +44,9 @@ mod tree;
 pub use entries::{
     EventEntry, EventKind, FrameEntry, FrameRoute, LinkEntry, NodeEntry, StreamEntry,
 };
+pub use forms::{read_name, read_tick};
+pub use kinds::read_pdu;
+pub use network::{Network, TimedNetwork, Times, read_timed_network};
+pub use nodes::station_named;
 pub use scenario::{Scenario, read_scenario, read_scenarios_keep_the_rules};
 pub use toml_rules::RuleErr;

@@ -152,8 +152,8 @@ pub(crate) fn node_named(nodes: &[NodeEntry], name: &str) -> Option<NodeNo>
     node_no(first_where(nodes, |_, node| has_name(name, node)))
 }
 
-/// The station of this name.
-pub(crate) fn station_named(nodes: &[NodeEntry], name: &str) -> Option<NodeNo>
+/// The station of this name among at most 64 nodes. None where no station has it.
+pub fn station_named(nodes: &[NodeEntry], name: &str) -> Option<NodeNo>
     requires { length nodes.now ≤ 64 }
     ensures { result ≡ station_named_spec nodes.now name.now }
 {

@@ -5,24 +5,20 @@ ghost use Rattle.toml.specs.Data.{Members};
 ghost use Rattle.toml.specs.View.{table_view};
 ghost use Rattle.toml_rules.specs.Rules.{Reads};
 ghost use Rattle.topology_file.specs.Frames.{frame_copies};
-ghost use Rattle.topology_file.specs.Parts.{network_of, traffic_of, times_of, rest_plan, entries_plan};
+ghost use Rattle.topology_file.specs.Parts.{traffic_of, rest_plan, entries_plan};
 ghost use Rattle.topology_file.specs.Plan.{Plan};
-ghost use Rattle.topology_file.specs.Scenario.{KeepsRules, ticks_at, leave_time_at, plan_of, scenario_of};
+ghost use Rattle.topology_file.specs.Scenario.{KeepsRules, plan_of, scenario_of};
 
 use crate::entries::{EventEntry, FrameEntry, LinkEntry, NodeEntry, StreamEntry};
 use crate::events::read_events;
 use crate::frames::{copies_of, read_frames};
-use crate::links::read_links;
-use crate::nodes::read_nodes;
+use crate::network::{Network, Times, read_network, read_ticks, read_times};
 use crate::streams::read_streams;
-use crate::tree::{crowded_node, make_tree};
 use srp_base::{Cs, Seq};
 use std::alloc::Global;
 use std::marker::Model;
 use toml::Table;
-use toml_rules::{
-    RuleErr, has_only, holds, needs, needs_tables, no_entry, number, number_or, truth_or, within,
-};
+use toml_rules::{RuleErr, has_only, holds, needs, needs_tables};
 use tree_topology::{Tree, laws};
 
 /// A scenario: a network, its times, and what happens in it.
@@ -85,60 +81,12 @@ pub fn read_scenarios_keep_the_rules()
     laws::refusals();
 }
 
-fn read_ticks(table: &Table) -> Option<u64>
-    ensures { result ≡ ticks_at (table_view table.now) }
-{
-    within(1, 12_000, number(table, "ticks"))
-}
-
-fn read_leave_time(table: &Table) -> Option<u64>
-    ensures { result ≡ leave_time_at (table_view table.now) }
-{
-    within(60, 100, number_or(table, "leave_time", 60))
-}
-
-/// The times of a scenario.
-#[derive(Clone, Copy)]
-struct Times {
-    ticks: u64,
-    leave_time: u64,
-    periodic: bool,
-}
-
-/// The nodes and links of a scenario, and their tree.
-#[derive(Drop)]
-struct Network {
-    tree: Tree,
-    nodes: Seq<NodeEntry>,
-    links: Seq<LinkEntry>,
-}
-
 /// What happens in a network.
 #[derive(Drop)]
 struct Traffic {
     streams: Seq<StreamEntry>,
     events: Seq<EventEntry>,
     frames: Seq<FrameEntry>,
-}
-
-/// The network of these entries: rules 4 to 15.
-fn read_network(
-    alloc: Global,
-    ticks: u64,
-    node_tables: &[&Table],
-    link_tables: &[&Table],
-) -> Result<Network, RuleErr>
-    requires { ticks ≤ 12000 }
-    ensures reads { Reads (λ n. n) result (network_of ticks
-        (map (λ t. table_view t.now) node_tables.now)
-        (map (λ t. table_view t.now) link_tables.now)) }
-    ensures few_nodes { IfOk result (λ n. length n.nodes ≤ 64) }
-{
-    let nodes = Seq::from_vec(read_nodes(alloc, ticks, node_tables)?);
-    let links = Seq::from_vec(read_links(alloc, nodes.as_slice(), link_tables)?);
-    let tree = make_tree(alloc, nodes.as_slice(), links.as_slice())?;
-    no_entry(15, crowded_node(nodes.as_slice(), &tree))?;
-    Ok(Network { tree, nodes, links })
 }
 
 /// What happens in a network, by these entries: rules 16 to 24.
@@ -223,22 +171,6 @@ const FILE_KEYS: [&str; 8] = [
     "event",
     "frame",
 ];
-
-/// The times of a scenario of so many ticks: rule 3.
-fn read_times(ticks: u64, table: &Table) -> Result<Times, RuleErr>
-    ensures times { result ≡ times_of ticks (table_view table.now) }
-    ensures ticks { IfOk result (λ t. t.ticks ≡ ticks) }
-    ensures least_leave { IfOk result (λ t. 60 ≤ t.leave_time) }
-    ensures leave { IfOk result (λ t. t.leave_time ≤ 100) }
-{
-    let leave_time = needs(3, read_leave_time(table))?;
-    let periodic = needs(3, truth_or(table, "periodic", false))?;
-    Ok(Times {
-        ticks,
-        leave_time,
-        periodic,
-    })
-}
 
 /// The scenario of these nodes, links and streams, and of the times, events and frames of a table: rules
 /// 2 to 24.
