@@ -1,0 +1,69 @@
+use Rattle.std.proofs.Common.{◌≡◌, ℕ, List, Option, Some, None, Result, Ok, Err, refl, sym, ap, subst, ◌∙◌, arith}
+use Rattle.std.specs.Option.{unwrap_or}
+use Rattle.mrpdu_codec.specs.declared.form.AppForm.TheVariants.{Mmrp}
+use Rattle.mrpdu_codec.specs.declared.pdu.Pdu.{Pdu}
+use Rattle.mrpdu_codec.specs.Grammar.{Spells, Breaks}
+use Rattle.mrpdu_codec.specs.Reading.{reading}
+use Rattle.mrpdu_codec.specs.Places.{first_places, AllStandAt}
+use Rattle.mmrp_codec.specs.declared.pdu.GroupPdu.{GroupPdu}
+use Rattle.mmrp_codec.specs.Meaning.{meaning, first_past, place_in, meaning_or_place, read_as, PassesEnd, MmrpBreaks}
+use Rattle.mmrp_codec.specs.Meaning.MmrpBreaks.{grammar, value}
+use Rattle.mmrp_codec.proofs.PastLemmas.{past_none, past_all, past_at, passes_end}
+use Rattle.mmrp_codec.proofs.laws.reading_is_the_grammar.Goals as goal
+
+judged_ok : (octets : List ℕ) (pdu : Pdu) (x : Option (ℕ × ℕ)) (m : GroupPdu) → meaning_or_place octets pdu x ≡ Ok m → (x ≡ None) × (m ≡ meaning pdu)
+judged_ok octets pdu None m h = (refl, cc)
+judged_ok octets pdu (Some x) m h = absurd cc
+
+judged_err : (octets : List ℕ) (pdu : Pdu) (x : Option (ℕ × ℕ)) (place : ℕ) → meaning_or_place octets pdu x ≡ Err place → (y : ℕ × ℕ) × (x ≡ Some y) × (place_in octets y ≡ place)
+judged_err octets pdu None place h = absurd cc
+judged_err octets pdu (Some x) place h = (x, refl, cc)
+
+means : (octets : List ℕ) (r : Result Pdu ℕ) (m : GroupPdu) → read_as octets r ≡ Ok m → (pdu : Pdu) × (r ≡ Ok pdu) × (first_past 0 pdu.messages ≡ None) × (m ≡ meaning pdu)
+means octets (Ok pdu) m h = let j = judged_ok octets pdu (first_past 0 pdu.messages) m h in (pdu, refl, j.0, j.1)
+means octets (Err place) m h = absurd cc
+
+module _ (octets : List ℕ) (spells : (pdu : Pdu) → reading Mmrp octets ≡ Ok pdu → Spells Mmrp octets pdu) (breaks : (place : ℕ) → reading Mmrp octets ≡ Err place → Breaks Mmrp octets place)
+    (stand : (pdu : Pdu) → Spells Mmrp octets pdu → AllStandAt octets (first_places Mmrp octets) pdu.messages) where
+  malformed : (r : Result Pdu ℕ) (place : ℕ) → reading Mmrp octets ≡ r → read_as octets r ≡ Err place → MmrpBreaks octets place
+  malformed (Ok pdu) place e h =
+      let j = judged_err octets pdu (first_past 0 pdu.messages) place h in
+      let spelled = spells pdu e in
+      value (subst (λ (p : ℕ). PassesEnd octets p) j.2 (passes_end octets pdu j.0 spelled (stand pdu spelled) j.1))
+  malformed (Err n) place e h =
+      let same : n ≡ place = cc in
+      grammar (subst (λ (p : ℕ). Breaks Mmrp octets p) same (breaks n e))
+
+passed : (octets : List ℕ) (place : ℕ) (p : PassesEnd octets place) → first_past 0 p.pdu.messages ≡ Some (p.message, p.vector)
+passed octets place p =
+    past_at 0 p.pdu.messages p.message p.vector p.m p.v p.is_message p.is_vector p.passes p.earlier_messages p.earlier_vectors
+    ∙ ap (λ (k : ℕ). let x : Option (ℕ × ℕ) = Some (k, p.vector) in x) (omega arith)
+
+pub returns-clause-reads : goal.returns-clause-reads
+returns-clause-reads c = λ octets read. (
+  λ h. let m = means octets (reading Mmrp octets) read h in record {
+    pdu = m.0;
+    spelled = (c.reading_is_the_grammar.ensures.spelled Mmrp octets m.0).0 m.1;
+    in_range = past_none 0 m.0.messages m.2;
+    meant = m.3;
+  },
+  λ r. ap (read_as octets) ((c.reading_is_the_grammar.ensures.spelled Mmrp octets r.pdu).1 r.spelled)
+      ∙ ap (meaning_or_place octets r.pdu) (past_all 0 r.pdu.messages r.in_range)
+      ∙ ap (λ (m : GroupPdu). let x : Result GroupPdu ℕ = Ok m in x) (sym r.meant),
+)
+
+pub returns-clause-broken : goal.returns-clause-broken
+returns-clause-broken c = λ octets place. (
+  λ h. malformed octets
+      (λ pdu. (c.reading_is_the_grammar.ensures.spelled Mmrp octets pdu).0)
+      (λ p. (c.reading_is_the_grammar.ensures.broken Mmrp octets p).0)
+      (λ pdu. c.first_values_have_places.ensures.one_each Mmrp octets pdu)
+      (reading Mmrp octets) place refl h,
+  λ b. elim b [
+    | grammar broken ↦ ap (read_as octets) ((c.reading_is_the_grammar.ensures.broken Mmrp octets place).1 broken)
+    | value p ↦
+        ap (read_as octets) ((c.reading_is_the_grammar.ensures.spelled Mmrp octets p.pdu).1 p.spelled)
+        ∙ ap (meaning_or_place octets p.pdu) (passed octets place p)
+        ∙ ap (λ (o : Option ℕ). let x : Result GroupPdu ℕ = Err (unwrap_or o 0) in x) p.stands
+  ],
+)
