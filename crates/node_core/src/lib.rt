@@ -41,7 +41,9 @@ mod naming;
 mod node;
 mod step;
 mod types;
+mod waiting;
 
 pub use jobs::{JOIN_TIME, is_sending_time, no_key};
 pub use node::Node;
 pub use types::{AppRequest, NodeEvent, NodeKey, NodeStep, PortStep, StepReply, Wire};
+pub use waiting::wire_leaves;

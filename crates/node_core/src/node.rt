@@ -331,7 +331,7 @@ pub(crate) fn copied_wire(alloc: Global, wire: &Wire) -> Result<Wire, AllocError
     })
 }
 
-fn copied_wires(alloc: Global, wires: &[Wire]) -> Result<Vec<Wire>, NoMemory>
+pub(crate) fn copied_wires(alloc: Global, wires: &[Wire]) -> Result<Vec<Wire>, NoMemory>
     ensures { IfOk result (λ v. v.items ≡ wires.now) }
 {
     let mut copies = Vec::with_capacity(alloc, wires.len())?;
