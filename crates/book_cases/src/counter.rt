@@ -11,8 +11,8 @@ use turn_lock::{CloseErr, Closed, Pass, Sequential, TurnLock};
 
 // A sum, modulo 2^64.
 #[derive(Drop)]
-struct Counter {
-    sum: u64,
+pub(crate) struct Counter {
+    pub(crate) sum: u64,
 }
 
 impl Sequential for Counter {

@@ -6,3 +6,5 @@
 
 #[cfg(test)]
 mod counter;
+#[cfg(test)]
+mod threads;

@@ -6,3 +6,4 @@ pub mod DealLemmas
 pub mod TurnLemmas
 pub mod PassLemmas
 pub mod CloseLemmas
+pub mod CrossingLemmas
