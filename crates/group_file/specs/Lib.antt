@@ -1,0 +1,4 @@
+pub mod Plan
+pub mod Fields
+pub mod Events
+pub mod Scenario
