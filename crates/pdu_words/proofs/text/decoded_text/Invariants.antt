@@ -1,0 +1,15 @@
+use Rattle.std.proofs.Common.{◌≡◌, ◌+◌, ◌≤◌, ◌++◌, length, string_bytes}
+use Rattle.pdu_words.specs.Capture.{lines_of}
+use Rattle.pdu_words.specs.Decoded.{lines_said, decoded_text}
+use Rattle.pdu_words.proofs.text.decoded_text.Given as goal
+
+-- the text so far with what the lines that are left say is the whole
+abbrev pub invariant-loop-rest : goal.invariant-loop-rest
+invariant-loop-rest l = record {
+  said : string_bytes l.out ++ lines_said l.app l.number (lines_of l.rest) ≡ decoded_text l.app l.capture;
+  few : l.number + length l.rest ≤ length l.capture + 1;
+  short : length l.rest ≤ length l.capture;
+}
+
+abbrev pub decreases-loop-rest : goal.decreases-loop-rest
+decreases-loop-rest l = length l.rest

@@ -1,0 +1,113 @@
+-- The lines of what an MRPDU says, one event each (IEEE Std 802.1Q-2018, 10.8.2, 11.2.3.1, 35.2.2). A line ends with a line feed.
+use Rattle.std.specs.Prelude.{ℕ, Bool, true, false, List, [], ◌∷◌, ◌++◌, flat_map, codes}
+use Rattle.std.specs.Fmt.{decimal}
+use Rattle.srp_base.specs.Hexadecimal.{hex12_text, hex16_text}
+use Rattle.srp_base.specs.Text.{whole_of}
+use Rattle.srp_base.specs.declared.bandwidth.Rank.{Rank}
+use Rattle.srp_base.specs.declared.bandwidth.Rank.TheVariants.{Emergency, Normal}
+use Rattle.srp_base.specs.declared.mrp.MrpEvent.{MrpEvent}
+use Rattle.srp_base.specs.declared.mrp.MrpEvent.TheVariants.{New, JoinIn, OnlyIn, JoinMt, OnlyMt, Lv}
+use Rattle.srp_base.specs.declared.streams.Failure.{Failure}
+use Rattle.srp_base.specs.declared.streams.ListenerKind.{ListenerKind}
+use Rattle.srp_base.specs.declared.streams.ListenerKind.TheVariants.{AskingFailed, Ready, ReadyFailed}
+use Rattle.srp_base.specs.declared.streams.Talker.{Talker}
+use Rattle.msrp_codec.specs.declared.pdu.MsrpContent.{MsrpContent}
+use Rattle.msrp_codec.specs.declared.pdu.MsrpContent.TheVariants.{Advertise, Failed, Listener, Domain}
+use Rattle.msrp_codec.specs.declared.pdu.MsrpKey.{MsrpKey}
+use Rattle.msrp_codec.specs.declared.pdu.MsrpKey.TheVariants as keys
+use Rattle.msrp_codec.specs.declared.pdu.MsrpPdu.{MsrpPdu}
+use Rattle.mvrp_codec.specs.declared.pdu.MvrpPdu.{MvrpPdu}
+
+-- ---- words
+
+-- an attribute event by its name
+abbrev pub event_name : MrpEvent → List ℕ
+event_name New = codes "new"
+event_name JoinIn = codes "joinin"
+event_name OnlyIn = codes "in"
+event_name JoinMt = codes "joinmt"
+event_name OnlyMt = codes "mt"
+event_name Lv = codes "lv"
+
+-- what a Listener declares, by its FourPackedEvent (35.2.2.7.2)
+abbrev pub kind_name : ListenerKind → List ℕ
+kind_name AskingFailed = codes "asking-failed"
+kind_name Ready = codes "ready"
+kind_name ReadyFailed = codes "ready-failed"
+
+-- the Rank bit (35.2.2.8.5)
+abbrev pub rank_digit : Rank → List ℕ
+rank_digit Emergency = codes "0"
+rank_digit Normal = codes "1"
+
+-- what a test says, as a word
+abbrev pub yes_or_no : Bool → List ℕ
+yes_or_no true = codes "yes"
+yes_or_no false = codes "no"
+
+-- ---- lines
+
+-- `joinmt vid 5`
+abbrev pub vid_line : MrpEvent × ℕ → List ℕ
+vid_line x = whole_of (event_name x.0 ∷ codes " vid " ∷ decimal x.1 ∷ codes "\n" ∷ [])
+
+-- where the stream's frames go, and their VID
+abbrev pub address_text : Talker → List ℕ
+address_text t = whole_of (codes " dest " ∷ hex12_text t.dest ∷ codes " vid " ∷ decimal t.vid ∷ [])
+
+-- how large they are at most, how many come in a class measurement interval at most, and their priority and rank
+abbrev pub traffic_text : Talker → List ℕ
+traffic_text t = whole_of (
+    codes " octets " ∷ decimal t.max_frame ∷ codes " frames " ∷ decimal t.frames
+    ∷ codes " priority " ∷ decimal t.priority ∷ codes " rank " ∷ rank_digit t.rank ∷ [])
+
+-- what a Talker declares of its frames, and the latency in ns
+abbrev pub talker_text : Talker → List ℕ
+talker_text t = whole_of (address_text t ∷ traffic_text t ∷ codes " latency " ∷ decimal t.latency ∷ codes "\n" ∷ [])
+
+-- why it failed, and where
+abbrev pub failure_text : Failure → List ℕ
+failure_text failure = whole_of (
+    codes " failed bridge " ∷ hex16_text failure.bridge.0 ∷ codes " code " ∷ decimal failure.code ∷ [])
+
+-- of what a declaration is
+abbrev pub key_text : MsrpKey → List ℕ
+key_text (keys.Talker stream) = codes " talker " ++ hex16_text stream.0
+key_text (keys.Listener stream) = codes " listener " ++ hex16_text stream.0
+key_text (keys.Domain class) = codes " domain " ++ decimal class
+
+-- what it declares, up to the end of the line
+abbrev pub content_text : MsrpContent → List ℕ
+content_text (Advertise t) = codes " advertise" ++ talker_text t
+content_text (Failed t failure) = failure_text failure ++ talker_text t
+content_text (Listener kind) = whole_of (codes " " ∷ kind_name kind ∷ codes "\n" ∷ [])
+content_text (Domain priority vid) = whole_of (
+    codes " priority " ∷ decimal priority ∷ codes " vid " ∷ decimal vid ∷ codes "\n" ∷ [])
+
+-- `joinmt talker ID advertise ..`, `joinmt talker ID failed bridge B code C ..`, `joinmt listener ID ready` or
+-- `joinmt domain 6 priority 3 vid 2`
+abbrev pub declaration_line : MrpEvent × MsrpKey × MsrpContent → List ℕ
+declaration_line x = whole_of (event_name x.0 ∷ key_text x.1 ∷ content_text x.2 ∷ [])
+
+-- ---- PDUs; each stands in a line of its own in the capture, which has this number
+
+-- `line N leaveall yes` or `line N leaveall no`
+abbrev pub leaveall_line : ℕ → Bool → List ℕ
+leaveall_line n leave_all = whole_of (
+    codes "line " ∷ decimal n ∷ codes " leaveall " ∷ yes_or_no leave_all ∷ codes "\n" ∷ [])
+
+-- `line N malformed P`, P being the offset in octets, from 0, at which it breaks
+abbrev pub malformed_line : ℕ → ℕ → List ℕ
+malformed_line n place = whole_of (codes "line " ∷ decimal n ∷ codes " malformed " ∷ decimal place ∷ codes "\n" ∷ [])
+
+-- `line N no octets`: these aren't hexadecimal digits, two an octet
+abbrev pub no_octets_line : ℕ → List ℕ
+no_octets_line n = whole_of (codes "line " ∷ decimal n ∷ codes " no octets\n" ∷ [])
+
+-- what a PDU of MVRP says
+abbrev pub vlan_lines : ℕ → MvrpPdu → List ℕ
+vlan_lines n pdu = leaveall_line n pdu.leave_all ++ flat_map vid_line pdu.events
+
+-- what a PDU of MSRP says
+abbrev pub stream_lines : ℕ → MsrpPdu → List ℕ
+stream_lines n pdu = leaveall_line n pdu.leave_all ++ flat_map declaration_line pdu.events
