@@ -1,16 +1,19 @@
 -- What rest says of each node and link, of any application: no PDU waits or is in flight, every participant is at rest and
 -- sound, no key awaits; so a port has registered what its peer declares.
-use Rattle.std.proofs.Common.{◌≡◌, ℕ, ◌-◌, ◌<◌, true, ◌&&◌, List, [], ◌++◌, length, ap, ◌∙◌, arith}
+use Rattle.std.proofs.Common.{◌≡◌, ℕ, zero, suc, ◌+◌, ◌-◌, ◌<◌, true, ◌&&◌, ◌||◌, List, [], ◌∷◌, ◌++◌, length, subst, ap, ◌∙◌, arith}
 use Rattle.std.specs.Prelude.{slice_get, filter_map, Option, Some, ◌==◌}
 use Rattle.std.specs.declared.cmp.Ordering.{Ordering}
 use Rattle.std.specs.List.{list_all}
 use Rattle.std.specs.Option.{option_map_or}
 use Rattle.std.proofs.lemmas.Bool.{and_parts}
+use Rattle.srp_base.specs.declared.numbers.NodeNo.{NodeNo}
 use Rattle.srp_base.specs.declared.numbers.EgressPort.{EgressPort}
+use Rattle.srp_base.specs.declared.mrp.App.{App}
+use Rattle.srp_base.specs.declared.mrp.App.TheVariants.{Mvrp, Msrp}
 use Rattle.tree_topology.specs.Topology.{HasPort}
 use Rattle.tree_topology.specs.Ports.{peer_of}
 use Rattle.tree_topology.specs.PortLaws.{HasPortLaws}
-use Rattle.mrp_participant.specs.Link.{Link, AreDutiesMet}
+use Rattle.mrp_participant.specs.MarkedLink.{MarkedLink, AreMarkedDutiesMet, seen_link}
 use Rattle.mrp_participant.specs.State.{State, Messages, is_still, registered_at, declared_at}
 use Rattle.msrp_codec.specs.declared.pdu.MsrpKey.{MsrpKey}
 use Rattle.mvrp.specs.Part.{Part}
@@ -19,9 +22,10 @@ use Rattle.flat_side.specs.Side.{are_still}
 use Rattle.msrp.specs.declared.port.Port.{Port}
 use Rattle.msrp.specs.Side.{are_still as streams_are_still}
 use Rattle.node_core.specs.declared.types.Wire.{Wire}
-use Rattle.node_core.specs.State.{NodeState, box_at, are_empty, is_still_node, are_all_sound}
-use Rattle.world_core.specs.World.{WorldState, node_at, inbox, outbox}
-use Rattle.world_core.specs.Duty.{in_flight, part_at, link_of, AreDutiesMetIn}
+use Rattle.node_core.specs.State.{NodeState, box_at, are_empty, is_still_node, ports_of}
+use Rattle.world_core.specs.World.{WorldState, node_at, inbox, outbox, is_sound_in, are_ports_sound, are_nodes_sound}
+use Rattle.world_core.specs.Marks.{MarksState, mark_at}
+use Rattle.world_core.specs.Duty.{in_flight, part_at, marked_link, AreDutiesMetIn}
 use Rattle.world_core.specs.Kept.{IsKeptWorld}
 use Rattle.network_laws.specs.Vlans.{IsAtRest}
 use Rattle.network_laws.proofs.Lists.{get-some, get-all}
@@ -29,9 +33,9 @@ use Rattle.network_laws.proofs.Places.{empty-box}
 
 -- what a still link registers at its near end
 abbrev pub StillLink : (K C : Type 0) → (K → K → Ordering) → Type 0
-StillLink K C cmp = (l : Link K C) → AreDutiesMet cmp l → l.sent ≡ [] → l.coming ≡ []
-    → is_still l.near ≡ true → is_still l.far ≡ true → l.far.sound ≡ true
-    → (k : K) → registered_at cmp k l.near ≡ declared_at cmp k l.far
+StillLink K C cmp = (l : MarkedLink K C) → AreMarkedDutiesMet cmp l → l.link.sent ≡ [] → l.link.coming ≡ []
+    → is_still l.link.near ≡ true → is_still l.link.far ≡ true → (seen_link l).far.sound ≡ true
+    → (k : K) → registered_at cmp k l.link.near ≡ declared_at cmp k l.link.far
 
 -- what rest says of a node
 pub record IsStillNode (s : NodeState) : Type 0 where
@@ -41,10 +45,54 @@ pub record IsStillNode (s : NodeState) : Type 0 where
   pub no_vids : list_all (λ (vids : List ℕ). length vids == 0) s.vlans.awaiting ≡ true
   pub streams : list_all (λ (p : Port). is_still p.part) s.streams.ports ≡ true
   pub no_keys : list_all (λ (keys : List MsrpKey). length keys == 0) s.streams.awaiting ≡ true
-  pub vlans_sound : list_all (λ (part : Part). part.sound) s.vlans.parts ≡ true
-  pub streams_sound : list_all (λ (p : Port). p.part.sound) s.streams.ports ≡ true
+
+-- ---- each port is sound, where all are
+
+-- both applications at a port are
+abbrev pub AreSoundAt : EgressPort → NodeState → MarksState → Type 0
+AreSoundAt p s m = (is_sound_in Mvrp p s m ≡ true) × (is_sound_in Msrp p s m ≡ true)
+
+ports-sound : (n : NodeNo) (s : NodeState) (m : MarksState) (from count : ℕ) → are_ports_sound n s m from count ≡ true → (k : ℕ) → k < count
+    → AreSoundAt (record { node = n; port = record { 0 = from + k } }) s m
+ports-sound n s m from zero all k below = absurd (omega (arith, below))
+ports-sound n s m from (suc count) all k below = by k below
+  where
+    parts : ((is_sound_in Mvrp (record { node = n; port = record { 0 = from } }) s m && is_sound_in Msrp (record { node = n; port = record { 0 = from } }) s m) ≡ true) × (are_ports_sound n s m (from + 1) count ≡ true)
+    parts = and_parts (is_sound_in Mvrp (record { node = n; port = record { 0 = from } }) s m && is_sound_in Msrp (record { node = n; port = record { 0 = from } }) s m) (are_ports_sound n s m (from + 1) count) all
+
+    by : (k : ℕ) → k < suc count → AreSoundAt (record { node = n; port = record { 0 = from + k } }) s m
+    by zero below =
+        subst (λ (i : ℕ). AreSoundAt (record { node = n; port = record { 0 = i } }) s m) (let same : from ≡ from + 0 = omega arith in same)
+        (and_parts (is_sound_in Mvrp (record { node = n; port = record { 0 = from } }) s m) (is_sound_in Msrp (record { node = n; port = record { 0 = from } }) s m) parts.0)
+    by (suc k) below =
+        subst (λ (i : ℕ). AreSoundAt (record { node = n; port = record { 0 = i } }) s m) (let same : (from + 1) + k ≡ from + suc k = omega arith in same)
+        (ports-sound n s m (from + 1) count parts.1 k (omega (arith, below)))
+
+nodes-sound : (x : ℕ) (nodes : List NodeState) (m : MarksState) → are_nodes_sound x nodes m ≡ true → (i : ℕ) (s : NodeState) → slice_get nodes i ≡ Some s
+    → are_ports_sound (record { 0 = x + i }) s m 1 (ports_of s) ≡ true
+nodes-sound x [] m all i s e = cc
+nodes-sound x (t ∷ nodes) m all zero s e =
+    let parts = and_parts (are_ports_sound (record { 0 = x }) t m 1 (ports_of t)) (are_nodes_sound (x + 1) nodes m) all in
+    let same : t ≡ s = cc in
+    subst (λ (u : NodeState). are_ports_sound (record { 0 = x + 0 }) u m 1 (ports_of u) ≡ true) same
+    (subst (λ (i : ℕ). are_ports_sound (record { 0 = i }) t m 1 (ports_of t) ≡ true) (let number : x ≡ x + 0 = omega arith in number) parts.0)
+nodes-sound x (t ∷ nodes) m all (suc i) s e =
+    let parts = and_parts (are_ports_sound (record { 0 = x }) t m 1 (ports_of t)) (are_nodes_sound (x + 1) nodes m) all in
+    subst (λ (i : ℕ). are_ports_sound (record { 0 = i }) s m 1 (ports_of s) ≡ true) (let number : (x + 1) + i ≡ x + suc i = omega arith in number)
+    (nodes-sound (x + 1) nodes m parts.1 i s e)
 
 module _ (w : WorldState) (rest : IsAtRest w) where
+  -- each port that a node has is sound
+  pub sound-at : (p : EgressPort) → HasPort w.tree p → (s : NodeState) → node_at p.node w ≡ Some s → place_of p.port < ports_of s → AreSoundAt p s w.marks
+  sound-at p h s e below =
+      let some = h.0.0 in
+      let first = h.1 in
+      let node : 1 + (p.node.0 - 1) ≡ p.node.0 = omega (arith, some) in
+      let port : 1 + (p.port.0 - 1) ≡ p.port.0 = omega (arith, first) in
+      subst (λ (k : ℕ). AreSoundAt (record { node = p.node; port = record { 0 = k } }) s w.marks) port
+      (subst (λ (x : ℕ). AreSoundAt (record { node = record { 0 = x }; port = record { 0 = 1 + place_of p.port } }) s w.marks) node
+      (ports-sound (record { 0 = 1 + (p.node.0 - 1) }) s w.marks 1 (ports_of s) (nodes-sound 1 w.nodes w.marks rest.in_step (p.node.0 - 1) s e) (place_of p.port) below))
+
   pub still-at : (x : ℕ) (s : NodeState) → slice_get w.nodes x ≡ Some s → IsStillNode s
   still-at x s e =
       let all = and_parts (are_empty s.inboxes && are_empty s.outboxes && are_still s.vlans) (streams_are_still s.streams) (get-all is_still_node w.nodes x s rest.quiet e) in
@@ -52,7 +100,6 @@ module _ (w : WorldState) (rest : IsAtRest w) where
       let boxes = and_parts (are_empty s.inboxes) (are_empty s.outboxes) first.0 in
       let vlans = and_parts (list_all is_still s.vlans.parts) (list_all (λ (vids : List ℕ). length vids == 0) s.vlans.awaiting) first.1 in
       let streams = and_parts (list_all (λ (p : Port). is_still p.part) s.streams.ports) (list_all (λ (keys : List MsrpKey). length keys == 0) s.streams.awaiting) all.1 in
-      let sound = and_parts (list_all (λ (part : Part). part.sound) s.vlans.parts) (list_all (λ (p : Port). p.part.sound) s.streams.ports) (get-all are_all_sound w.nodes x s rest.in_step e) in
       record {
         inboxes = boxes.0;
         outboxes = boxes.1;
@@ -60,8 +107,6 @@ module _ (w : WorldState) (rest : IsAtRest w) where
         no_vids = vlans.1;
         streams = streams.0;
         no_keys = streams.1;
-        vlans_sound = sound.0;
-        streams_sound = sound.1;
       }
 
   module _ (kept : IsKeptWorld w) (laws : HasPortLaws w.tree) where
@@ -88,13 +133,13 @@ module _ (w : WorldState) (rest : IsAtRest w) where
 
     -- in an application whose duties are met, a port has registered what its peer declares, where both are still and the
     -- peer is sound
-    pub registers-declared : {K C : Type 0} (cmp : K → K → Ordering) (part : ℕ → NodeState → Option (State K C)) (said : Wire → Option (Messages K C))
-        → AreDutiesMetIn cmp part said w → StillLink K C cmp
+    pub registers-declared : {K C : Type 0} (cmp : K → K → Ordering) (part : ℕ → NodeState → Option (State K C)) (said : Wire → Option (Messages K C)) (app : App)
+        → AreDutiesMetIn cmp part said app w → StillLink K C cmp
         → (p : EgressPort) → HasPort w.tree p → (near far : State K C)
         → part_at part p w ≡ Some near → part_at part (peer_of w.tree.links p) w ≡ Some far
-        → is_still near ≡ true → is_still far ≡ true → far.sound ≡ true
+        → is_still near ≡ true → is_still far ≡ true → ((mark_at app (peer_of w.tree.links p) w.marks).assured || far.sound) ≡ true
         → (k : K) → registered_at cmp k near ≡ declared_at cmp k far
-    registers-declared cmp part said duties still p h near far a b near-still far-still far-sound k =
-        still (link_of said p w near far) (duties p h near far a b)
+    registers-declared cmp part said app duties still p h near far a b near-still far-still far-sound k =
+        still (marked_link said near far (in_flight p w) (in_flight (peer_of w.tree.links p) w) (mark_at app p w.marks, mark_at app (peer_of w.tree.links p) w.marks)) (duties p h near far a b).duties
         (ap (filter_map said) (none-in-flight p h)) (ap (filter_map said) (none-in-flight (peer_of w.tree.links p) (laws.peer_port p h)))
         near-still far-still far-sound k

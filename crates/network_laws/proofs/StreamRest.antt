@@ -1,8 +1,10 @@
 -- In a network at rest the streams are still; so the laws of streams hold of it.
-use Rattle.std.proofs.Common.{◌≡◌, ℕ, ◌-◌, true, refl, sym, ap, ◌∙◌}
+use Rattle.std.proofs.Common.{◌≡◌, ℕ, ◌-◌, true, false, ◌||◌, refl, sym, ap, ◌∙◌, arith}
 use Rattle.std.specs.Prelude.{slice_get, Option, Some, None, option_map, option_and_then}
+use Rattle.std.specs.Option.{option_map_or}
 use Rattle.srp_base.specs.declared.numbers.EgressPort.{EgressPort}
 use Rattle.srp_base.specs.declared.numbers.StreamId.{StreamId}
+use Rattle.srp_base.specs.declared.mrp.App.TheVariants.{Msrp}
 use Rattle.tree_topology.specs.Topology.{HasPort}
 use Rattle.tree_topology.specs.Ports.{peer_of}
 use Rattle.tree_topology.specs.PortLaws.{HasPortLaws}
@@ -13,13 +15,14 @@ use Rattle.msrp.specs.declared.port.Port.{Port}
 use Rattle.msrp.specs.Part.{key_cmp}
 use Rattle.attribute_propagation.specs.Ports.{place_of}
 use Rattle.node_core.specs.State.{NodeState}
+use Rattle.world_core.specs.Marks.{mark_at}
 use Rattle.world_core.specs.World.{WorldState, node_at}
 use Rattle.world_core.specs.Duty.{streams_said, stream_place, stream_part}
 use Rattle.world_core.specs.Kept.{IsKeptWorld, IsIdleBridge, FitsTree}
 use Rattle.network_laws.specs.Vlans.{IsAtRest}
 use Rattle.network_laws.specs.Streams.{IsTalkedOnce, KeepsStreamLaws}
-use Rattle.network_laws.proofs.Lists.{each-get, get-all}
-use Rattle.network_laws.proofs.AtRest.{StillLink, still-at, registers-declared}
+use Rattle.network_laws.proofs.Lists.{each-get, get-within, get-all}
+use Rattle.network_laws.proofs.AtRest.{StillLink, still-at, sound-at, registers-declared}
 use Rattle.network_laws.proofs.StreamNode.{KeptWants}
 use Rattle.network_laws.proofs.StreamNet.{stream_port, AreStreamsStill}
 use Rattle.network_laws.proofs.StreamLaw.{WalkBehind, WalkPath, talkers-match, are-ready-on-path, are-refusals-shown}
@@ -45,8 +48,12 @@ module _ (w : WorldState) (kept : IsKeptWorld w) (rest : IsAtRest w) (laws : Has
   part-still : (p : EgressPort) (a : Port) → Held p a → is_still a.part ≡ true
   part-still p a h = get-all (λ (x : Port). is_still x.part) h.s.streams.ports (place_of p.port) a (still-at w rest (p.node.0 - 1) h.s h.node).streams h.has
 
-  part-sound : (p : EgressPort) (a : Port) → Held p a → a.part.sound ≡ true
-  part-sound p a h = get-all (λ (x : Port). x.part.sound) h.s.streams.ports (place_of p.port) a (still-at w rest (p.node.0 - 1) h.s h.node).streams_sound h.has
+  part-sound : (p : EgressPort) → HasPort w.tree p → (a : Port) → Held p a → ((mark_at Msrp p w.marks).assured || a.part.sound) ≡ true
+  part-sound p has a h =
+      let port = get-within h.s.streams.ports (place_of p.port) a h.has in
+      let same = (kept.nodes (p.node.0 - 1) h.s h.node).kept.kept.same_ports in
+      ap (λ (o : Option Port). (mark_at Msrp p w.marks).assured || option_map_or (λ (x : Port). x.part.sound) o false) (sym h.has)
+      ∙ (sound-at w rest p has h.s h.node (omega (arith, port, same))).1
 
   linked : (p : EgressPort) → HasPort w.tree p → (a b : Port) → stream_port p w ≡ Some a → stream_port (peer_of w.tree.links p) w ≡ Some b
       → (key : MsrpKey) → registered_at key_cmp key a.part ≡ declared_at key_cmp key b.part
@@ -54,8 +61,8 @@ module _ (w : WorldState) (kept : IsKeptWorld w) (rest : IsAtRest w) (laws : Has
       let q = peer_of w.tree.links p in
       let near = held p a x in
       let far = held q b y in
-      registers-declared w rest kept laws key_cmp stream_place streams_said kept.streams still p h a.part b.part (part-of p a near) (part-of q b far)
-      (part-still p a near) (part-still q b far) (part-sound q b far) key
+      registers-declared w rest kept laws key_cmp stream_place streams_said Msrp kept.streams still p h a.part b.part (part-of p a near) (part-of q b far)
+      (part-still p a near) (part-still q b far) (part-sound q (laws.peer_port p h) b far) key
 
   fits : (x : ℕ) (s : NodeState) → slice_get w.nodes x ≡ Some s → FitsTree w.tree x s
   fits x s e = kept.nodes x s e

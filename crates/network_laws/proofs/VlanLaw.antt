@@ -1,11 +1,12 @@
 -- In a network at rest a VID is registered at a port exactly where the far node's application, or another port of the far
 -- node, has it; and so, by the tree, exactly where a station behind the port has declared it.
-use Rattle.std.proofs.Common.{◌≡◌, ◌≢◌, ◌⊎◌, inl, inr, ℕ, suc, ◌+◌, ◌-◌, ◌<◌, Bool, true, false, ◌&&◌, List, [], ◌∷◌, length, map, refl, sym, ap, ◌∙◌, arith}
+use Rattle.std.proofs.Common.{◌≡◌, ◌≢◌, ◌⊎◌, inl, inr, ℕ, suc, ◌+◌, ◌-◌, ◌<◌, Bool, true, false, ◌&&◌, ◌||◌, List, [], ◌∷◌, length, map, refl, sym, ap, ◌∙◌, arith}
 use Rattle.std.specs.Prelude.{slice_get, Option, Some, ◌↔◌}
 use Rattle.std.specs.Option.{option_map_or, option_and_then, is_some}
 use Rattle.std.specs.Ordering.{nat_cmp}
 use Rattle.std.proofs.lemmas.Bool.{and_parts}
 use Rattle.srp_base.specs.declared.numbers.EgressPort.{EgressPort}
+use Rattle.srp_base.specs.declared.mrp.App.TheVariants.{Mvrp}
 use Rattle.tree_topology.specs.declared.graph.NodeKind.{NodeKind}
 use Rattle.tree_topology.specs.declared.graph.NodeKind.TheVariants.{Station, Bridge}
 use Rattle.tree_topology.specs.Topology.{HasNode, HasPort}
@@ -19,12 +20,13 @@ use Rattle.mvrp.specs.Part.{Part, registers, declares}
 use Rattle.attribute_propagation.specs.Ports.{place_of}
 use Rattle.mvrp.specs.Side.{Vlans, has_own, is_flat}
 use Rattle.node_core.specs.State.{NodeState}
+use Rattle.world_core.specs.Marks.{mark_at}
 use Rattle.world_core.specs.World.{WorldState, node_at}
 use Rattle.world_core.specs.Duty.{message_of, vlan_place, vlan_part}
 use Rattle.world_core.specs.Kept.{IsKeptWorld, IsIdleBridge, FitsTree}
 use Rattle.tree_topology.specs.Refusal.{is_station}
 use Rattle.network_laws.specs.Vlans.{is_registered, is_declared_at, is_declared_behind, HasDeclaredBehind, VlansMatch, IsAtRest}
-use Rattle.network_laws.proofs.AtRest.{StillLink, IsStillNode, still-at, registers-declared}
+use Rattle.network_laws.proofs.AtRest.{StillLink, IsStillNode, still-at, sound-at, registers-declared}
 use Rattle.network_laws.proofs.Lists.{each-get, get-some, get-within, get-all, get-empty}
 use Rattle.network_laws.proofs.Places.{is_other, other-at, other-from, flat-cases, flat-own, flat-other, get-map, map-get, range-from, range-at, one-test}
 
@@ -75,14 +77,16 @@ module _ (w : WorldState) (kept : IsKeptWorld w) (rest : IsAtRest w) (laws : Has
   part-still : (p : EgressPort) (a : At p) → is_still a.part ≡ true
   part-still p a = get-all is_still a.s.vlans.parts (place_of p.port) a.part (still-node p a).vlans a.has
 
-  part-sound : (p : EgressPort) (a : At p) → a.part.sound ≡ true
-  part-sound p a = get-all (λ (part : Part). part.sound) a.s.vlans.parts (place_of p.port) a.part (still-node p a).vlans_sound a.has
+  part-sound : (p : EgressPort) → HasPort w.tree p → (a : At p) → ((mark_at Mvrp p w.marks).assured || a.part.sound) ≡ true
+  part-sound p h a =
+      ap (λ (o : Option Part). (mark_at Mvrp p w.marks).assured || option_map_or (λ (part : Part). part.sound) o false) (sym a.has)
+      ∙ (sound-at w rest p h a.s a.node (get-within a.s.vlans.parts (place_of p.port) a.part a.has)).0
 
   -- what a port has registered is what its peer declares
   linked : (p : EgressPort) → HasPort w.tree p → (a : At p) (b : At (peer_of w.tree.links p)) (vid : ℕ) → registers vid a.part ≡ declares vid b.part
   linked p h a b vid =
-      ap is_some (registers-declared w rest kept laws nat_cmp vlan_place message_of kept.duties still p h a.part b.part (vlan-is p a) (vlan-is (peer_of w.tree.links p) b)
-      (part-still p a) (part-still (peer_of w.tree.links p) b) (part-sound (peer_of w.tree.links p) b) vid)
+      ap is_some (registers-declared w rest kept laws nat_cmp vlan_place message_of Mvrp kept.duties still p h a.part b.part (vlan-is p a) (vlan-is (peer_of w.tree.links p) b)
+      (part-still p a) (part-still (peer_of w.tree.links p) b) (part-sound (peer_of w.tree.links p) (laws.peer_port p h) b) vid)
 
   -- ---- the node
 

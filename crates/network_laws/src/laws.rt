@@ -19,7 +19,7 @@ ghost use Rattle.network_laws.specs.Vlans.{VlansMatch, IsAtRest, is_registered, 
 ghost use Rattle.network_laws.specs.declared.streams.Refusal.{Refusal};
 ghost use Rattle.network_laws.specs.Streams.{failure_at, hears_ready, is_listened_at, is_path_booked, is_talked_at, refusal_to, IsNamedAt, IsRefusalTo, IsTalkedOnce, KeepsStreamLaws};
 
-use mrp_participant::link_laws::a_still_link_registers_what_is_declared;
+use mrp_participant::marked_link_laws::a_still_marked_link_registers_what_is_declared;
 use msrp::MsrpApp;
 use mvrp::MvrpApp;
 use port_ledger::laws::decisions_stand;
@@ -37,7 +37,7 @@ pub fn vlans_are_those_declared_behind()
         → HasPort w.tree p
         → is_registered w vid p ≡ is_declared_behind w vid p }
 {
-    a_still_link_registers_what_is_declared::<MvrpApp>();
+    a_still_marked_link_registers_what_is_declared::<MvrpApp>();
     ports();
     the_walk();
 }
@@ -94,7 +94,7 @@ pub fn streams_keep_their_laws()
         → IsTalkedOnce w stream
         → HasNode w.tree l → IsSome (failure_at w stream l) → IsSome (refusal_to w stream l) }
 {
-    a_still_link_registers_what_is_declared::<MsrpApp>();
+    a_still_marked_link_registers_what_is_declared::<MsrpApp>();
     decisions_stand();
     ports();
     the_walk();

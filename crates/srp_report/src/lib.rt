@@ -13,7 +13,7 @@
 //!   frames s1>s2 departed 1 unbooked 0 novlan 0 left 0     where there are frames: how many came to which fate
 //!   depart s1>s2 frame 1 start 100 end 900       each that departed, in order, in bit times of its port
 //!   quiet yes                                    nothing is pending
-//!   in step yes                                  each port has sent a LeaveAll since the last loss on its link
+//!   in step yes                                  each port is sound, by a LeaveAll since the last loss
 //!
 //!   journal
 //!   0 event 1 done                               in tick 0: an event of the file, by its number

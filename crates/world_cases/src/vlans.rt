@@ -12,19 +12,19 @@ use world_core::WorldEvent::{Carry, Port, Request};
 use world_core::WorldReply::{Done, Step};
 use world_core::{World, WorldEvent, WorldReply};
 
-const PAIR: &str = "ticks = 1\n\
+pub(crate) const PAIR: &str = "ticks = 1\n\
     node = [{ name = 's1', kind = 'station' }, { name = 's2', kind = 'station' }]\n\
     link = [{ a = 's1', b = 's2' }]\n";
 
 /// The stations, and the link port of either.
-const S1: NodeNo = NodeNo(1);
+pub(crate) const S1: NodeNo = NodeNo(1);
 
-const S2: NodeNo = NodeNo(2);
+pub(crate) const S2: NodeNo = NodeNo(2);
 
 const ONE: PortNo = PortNo(1);
 
 // Whether at the port of a station so much is found and expected of a VID.
-fn has_sides(world: &World, node: NodeNo, vid: Vid, found: bool, expected: bool) -> bool {
+pub(crate) fn has_sides(world: &World, node: NodeNo, vid: Vid, found: bool, expected: bool) -> bool {
     let at = EgressPort { node, port: ONE };
     if !has_port(world, at) {
         return false;
@@ -41,16 +41,16 @@ fn shows(world: &World, vid: Vid, found: bool, expected: bool) -> bool {
 }
 
 // A step of a station with its answer, and what its PDU answers that comes in at the other.
-fn makes(node: NodeNo, step: PortStep, reply: StepReply) -> (WorldEvent, WorldReply) {
+pub(crate) fn makes(node: NodeNo, step: PortStep, reply: StepReply) -> (WorldEvent, WorldReply) {
     (Port(node, ONE, step), Step(reply))
 }
 
-fn carries(node: NodeNo) -> (WorldEvent, WorldReply) {
+pub(crate) fn carries(node: NodeNo) -> (WorldEvent, WorldReply) {
     (Carry(EgressPort { node, port: ONE }), Done)
 }
 
 // Station 1 is asked for something, and takes it.
-fn takes(request: AppRequest) -> (WorldEvent, WorldReply) {
+pub(crate) fn takes(request: AppRequest) -> (WorldEvent, WorldReply) {
     (Request(S1, request), Step(Taken))
 }
 

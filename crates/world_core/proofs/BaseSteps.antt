@@ -27,7 +27,8 @@ use Rattle.node_core.specs.Links.{with_outbox, with_carried, lost_at, repeated_a
 use Rattle.node_core.specs.Proper.{IsProperNode, IsProperWire, IsInRange, AreProperWires}
 use Rattle.world_core.specs.declared.events.WorldEvent.{WorldEvent}
 use Rattle.world_core.specs.declared.events.WorldEvent.TheVariants.{Request, Port, Lose, Repeat, Forge, Carry, Clock}
-use Rattle.world_core.specs.World.{WorldState, node_at, with_changed, outbox, app_of, reaches, with_unsound_ends, with_loss, after_repeat, with_forgery, world_step, CanHappen, IsEventInRange}
+use Rattle.world_core.specs.Marks.{MarksState}
+use Rattle.world_core.specs.World.{WorldState, node_at, with_changed, outbox, app_of, reaches, with_unsound_ends, with_loss, after_repeat, with_forgery, world_step, CanHappen, IsEventInRange, step_of_node}
 use Rattle.world_core.specs.Kept.{FitsTree}
 use Rattle.world_core.proofs.Lists.{one_some}
 use Rattle.world_core.proofs.Nodes.{Base, IsOfSamePlace, base_changed, stepped_is, ticked_get, ticked_length, node_there, place_within, proper_at, outbox_is}
@@ -53,6 +54,10 @@ box_has P none [] i hs = none
 box_has P none (b ∷ boxes) zero hs = hs.0
 box_has P none (b ∷ boxes) (suc i) hs = box_has P none boxes i hs.1
 
+-- the marks are nothing to it
+any_marks : (w : WorldState) (m : MarksState) → Base w → Base (record w { marks = m })
+any_marks w m base = record { tree = base.tree; many = base.many; nodes = base.nodes; clock = base.clock }
+
 module _ (nodes : NodeLaws) where
   base_request : (n : NodeNo) (request : AppRequest) (w : WorldState) → CanHappen (Request n request) w → IsEventInRange (Request n request) → Base w → Base (world_step (Request n request) w).0
   base_request n request w can named base =
@@ -67,7 +72,7 @@ module _ (nodes : NodeLaws) where
         proper = nodes.step event s station named (proper_at w base n s is);
       }))
 
-  base_port : (e : EgressPort) (step : PortStep) (w : WorldState) → HasPort w.tree e → Base w → Base (world_step (Port e.node e.port step) w).0
+  base_port : (e : EgressPort) (step : PortStep) (w : WorldState) → HasPort w.tree e → Base w → Base (step_of_node e.node (node_events.Port e.port step) w).0
   base_port e step w has base =
       let event : NodeEvent = node_events.Port e.port step in
       subst Base (stepped_is e.node event w)
@@ -153,9 +158,9 @@ module _ (nodes : NodeLaws) where
 
   pub base_event : (event : WorldEvent) (w : WorldState) → CanHappen event w → IsEventInRange event → Base w → Base (world_step event w).0
   base_event (Request n request) w can named base = base_request n request w can named base
-  base_event (Port n port step) w can named base = base_port (record { node = n; port = port }) step w can base
-  base_event (Lose p index) w can named base = base_lose p index (app_of p index w) w base
-  base_event (Repeat p index) w can named base = base_repeat p index (app_of p index w) w base
-  base_event (Forge p index wire) w can named base = base_forge p index wire (reaches p index w) w can.1 named base
+  base_event (Port n port step) w can named base = any_marks _ _ (base_port (record { node = n; port = port }) step w can base)
+  base_event (Lose p index) w can named base = any_marks _ _ (base_lose p index (app_of p index w) w base)
+  base_event (Repeat p index) w can named base = any_marks _ _ (base_repeat p index (app_of p index w) w base)
+  base_event (Forge p index wire) w can named base = any_marks _ _ (base_forge p index wire (reaches p index w) w can.1 named base)
   base_event (Carry p) w can named base = base_carry p w can base
   base_event Clock w can named base = base_clock w can base

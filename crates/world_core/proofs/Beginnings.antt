@@ -17,7 +17,7 @@ use Rattle.topology_file.specs.declared.entries.LinkEntry.{LinkEntry}
 use Rattle.topology_file.specs.Plan.{Plan}
 use Rattle.topology_file.specs.Scenario.{KeepsRules, tree_links, ends_of_entry}
 use Rattle.mrp_participant.specs.State.{State, new_state}
-use Rattle.mrp_participant.specs.Link.{AreDutiesMet, new_link}
+use Rattle.mrp_participant.specs.MarkedLink.{AreMarkedDutiesMet, new_marked_link}
 use Rattle.msrp_codec.specs.declared.pdu.MsrpKey.{MsrpKey}
 use Rattle.msrp_codec.specs.declared.pdu.MsrpContent.{MsrpContent}
 use Rattle.msrp.specs.declared.port.Port.{Port}
@@ -34,7 +34,11 @@ use Rattle.world_core.specs.Kept.{FitsTree, IsKeptWorld}
 use Rattle.world_core.proofs.Idle.{idle_start}
 use Rattle.world_core.proofs.Nodes.{Base, node_there, part_is, inbox_is, outbox_is}
 use Rattle.world_core.proofs.Lists.{all_each, at_each}
-use Rattle.world_core.proofs.Views.{AppView, AreMet, met_same}
+use Rattle.world_core.specs.declared.marks.EndMark.{EndMark}
+use Rattle.world_core.specs.Marks.{mark_at, no_mark}
+use Rattle.world_core.proofs.EventSteps.{HasMarks}
+use Rattle.world_core.proofs.NewMarks.{mark_none, new_of}
+use Rattle.world_core.proofs.Views.{AppView, AreMet, Boxed, met_same}
 use Rattle.world_core.proofs.VlanSteps.{vlan_view}
 use Rattle.world_core.proofs.StreamSteps.{stream_view}
 use Rattle.world_core.proofs.Keeping.{kept_whole}
@@ -145,9 +149,12 @@ module _ (plan : Plan) (rules : KeepsRules plan)
         clock = λ x y s t gs gt. ap (λ (r : NodeState). r.clock) (new_at plan plan.nodes 1 x s gs).is ∙ ap (λ (r : NodeState). r.clock) (sym (new_at plan plan.nodes 1 y t gt).is);
       }
 
+  has_marks : HasMarks (world_of plan)
+  has_marks = record { tree = refl; of = new_of plan.tree }
+
   -- what is at a port at the start, in an application
   module _ {K C : Type 0} (v : AppView K C) (there : IsNewThere v)
-      (new_duties : (near far : Cs × Cs × Bool) → AreDutiesMet v.cmp (new_link {K = K} {C = C} near far)) where
+      (new_duties : (near far : Cs × Cs × Bool) → AreMarkedDutiesMet v.cmp (new_marked_link {K = K} {C = C} near far)) where
     record AtStart (p : EgressPort) (x : State K C) : Type 0 where
       period : Cs
       part : x ≡ new_state period plan.leave_time plan.periodic
@@ -178,14 +185,23 @@ module _ (plan : Plan) (rules : KeepsRules plan)
         let here = at_start p has near a in
         let far_start = at_start q (ports.peer_port p has) far b in
         let back : inbox (peer_of plan.tree.links q) w ≡ [] = ap (λ (r : EgressPort). inbox r w) (ports.peer_twice p has) ∙ here.in_none in
-        met_same v (new_state here.period plan.leave_time plan.periodic) near (new_state far_start.period plan.leave_time plan.periodic) far
+        let no_marks_at : (r : EgressPort) → mark_at v.app r w.marks ≡ no_mark = mark_none v.app plan.tree in
+        subst (λ (x : EndMark). Boxed v near far (inbox q w) (outbox p w) (inbox (peer_of plan.tree.links q) w) (outbox q w) (x, mark_at v.app q w.marks)) (sym (no_marks_at p))
+        (subst (λ (y : EndMark). Boxed v near far (inbox q w) (outbox p w) (inbox (peer_of plan.tree.links q) w) (outbox q w) (no_mark, y)) (sym (no_marks_at q))
+        (met_same v (no_mark, no_mark) (new_state here.period plan.leave_time plan.periodic) near (new_state far_start.period plan.leave_time plan.periodic) far
         [] (inbox q w) [] (outbox p w) [] (inbox (peer_of plan.tree.links q) w) [] (outbox q w)
         (sym here.part) (sym far_start.part) (sym far_start.in_none) (sym here.out_none) (sym back) (sym far_start.out_none)
-        (new_duties (here.period, plan.leave_time, plan.periodic) (far_start.period, plan.leave_time, plan.periodic))
+        (record {
+          duties = new_duties (here.period, plan.leave_time, plan.periodic) (far_start.period, plan.leave_time, plan.periodic);
+          near_flying = refl;
+          far_flying = refl;
+          near_clear = λ is. let never : false ≡ true = is in cc;
+          far_clear = λ is. let never : false ≡ true = is in cc;
+        })))
 
-  pub begins : ((near far : Cs × Cs × Bool) → AreDutiesMet nat_cmp (new_link {K = ℕ} {C = Unit {0}} near far))
-      → ((near far : Cs × Cs × Bool) → AreDutiesMet key_cmp (new_link {K = MsrpKey} {C = MsrpContent} near far)) → IsKeptWorld (world_of plan)
+  pub begins : ((near far : Cs × Cs × Bool) → AreMarkedDutiesMet nat_cmp (new_marked_link {K = ℕ} {C = Unit {0}} near far))
+      → ((near far : Cs × Cs × Bool) → AreMarkedDutiesMet key_cmp (new_marked_link {K = MsrpKey} {C = MsrpContent} near far)) → IsKeptWorld (world_of plan)
   begins vlans streams =
-      kept_whole (world_of plan) base (idle_start plan)
+      kept_whole (world_of plan) base has_marks (idle_start plan)
       (met_start vlan_view new_vlans_there vlans)
       (met_start stream_view new_streams_there streams)

@@ -19,6 +19,7 @@ use Rattle.node_core.specs.declared.types.Wire.{Wire}
 use Rattle.node_core.specs.State.{NodeState, box_at, ports_of}
 use Rattle.node_core.proofs.Boxes.{set_set, set_same}
 use Rattle.node_core.specs.Links.{with_outbox, with_carried, has_index, has_place, lost_at, forged_at, spoilt_at}
+use Rattle.world_core.specs.Marks.{MarksState}
 use Rattle.world_core.specs.World.{WorldState, StandsAt, nodes_with, with_changed, outbox, app_of, reaches, with_unsound_ends, with_forgery, after_carrying}
 use Rattle.world_core.specs.declared.events.WorldReply.TheVariants.{Done, Missed}
 use Rattle.world_core.proofs.Boxes.{box_none}
@@ -81,10 +82,10 @@ changed_is n change w = by (slice_get w.nodes (n.0 - 1))
 app_in : EgressPort → ℕ → Option NodeState → Option App
 app_in p index o = option_map (λ wire. wire.app) (slice_get (option_map_or (λ s. box_at (place_of p.port) s.inboxes) o []) index)
 
-pub app_is : (p : EgressPort) (index : ℕ) (tree : Topology) (nodes : List NodeState) (s : NodeState) → slice_get nodes (p.node.0 - 1) ≡ Some s
-    → option_map (λ wire. wire.app) (slice_get (box_at (place_of p.port) s.inboxes) index) ≡ app_of p index (record { tree = tree; nodes = nodes })
+pub app_is : (p : EgressPort) (index : ℕ) (tree : Topology) (marks : MarksState) (nodes : List NodeState) (s : NodeState) → slice_get nodes (p.node.0 - 1) ≡ Some s
+    → option_map (λ wire. wire.app) (slice_get (box_at (place_of p.port) s.inboxes) index) ≡ app_of p index (record { tree = tree; nodes = nodes; marks = marks })
 unfolding app_in
-app_is p index tree nodes s is = sym (ap (app_in p index) is)
+app_is p index tree marks nodes s is = sym (ap (app_in p index) is)
 
 some_within : (wires : List Wire) (index : ℕ) (app : App) → option_map (λ wire. wire.app) (slice_get wires index) ≡ Some app → index < length wires
 some_within wires index app e = by (slice_get wires index) refl e
@@ -93,10 +94,10 @@ some_within wires index app e = by (slice_get wires index) refl e
     by None is e = absurd (let none : None ≡ Some app = e in cc)
     by (Some wire) is e = slice_get_within wires index wire is
 
-pub index_there : (p : EgressPort) (index : ℕ) (tree : Topology) (nodes : List NodeState) (app : App)
-    → app_of p index (record { tree = tree; nodes = nodes }) ≡ Some app
+pub index_there : (p : EgressPort) (index : ℕ) (tree : Topology) (marks : MarksState) (nodes : List NodeState) (app : App)
+    → app_of p index (record { tree = tree; nodes = nodes; marks = marks }) ≡ Some app
     → (s : NodeState) → slice_get nodes (p.node.0 - 1) ≡ Some s → index < length (box_at (place_of p.port) s.inboxes)
-index_there p index tree nodes app e s is = some_within (box_at (place_of p.port) s.inboxes) index app (app_is p index tree nodes s is ∙ e)
+index_there p index tree marks nodes app e s is = some_within (box_at (place_of p.port) s.inboxes) index app (app_is p index tree marks nodes s is ∙ e)
 
 -- where there is a PDU of the index, what was done to it was done
 pub done_there : (s t : NodeState) (at index : ℕ) (change : NodeState → NodeState) (done : Bool) → index < length (box_at at s.inboxes)
@@ -105,28 +106,28 @@ done_there s t at index change done less is e = e ∙ ap (λ (b : Bool). if b th
 
 -- ---- what is done to lists of nodes is done to the network
 
-of_tree : Topology → List NodeState → WorldState
-of_tree tree nodes = record { tree = tree; nodes = nodes }
+of_tree : Topology → MarksState → List NodeState → WorldState
+of_tree tree marks nodes = record { tree = tree; nodes = nodes; marks = marks }
 
 -- both ends of a port's link are spoilt after a change of its node
-pub spoilt_after : (p : EgressPort) (app : App) (change : NodeState → NodeState) (tree : Topology) (nodes a b : List NodeState)
-    → a ≡ nodes_with p.node change nodes → with_unsound_ends app p (record { tree = tree; nodes = a }) ≡ record { tree = tree; nodes = b }
-    → with_unsound_ends app p (with_changed p.node change (record { tree = tree; nodes = nodes })) ≡ record { tree = tree; nodes = b }
+pub spoilt_after : (p : EgressPort) (app : App) (change : NodeState → NodeState) (tree : Topology) (marks : MarksState) (nodes a b : List NodeState)
+    → a ≡ nodes_with p.node change nodes → with_unsound_ends app p (record { tree = tree; nodes = a; marks = marks }) ≡ record { tree = tree; nodes = b; marks = marks }
+    → with_unsound_ends app p (with_changed p.node change (record { tree = tree; nodes = nodes; marks = marks })) ≡ record { tree = tree; nodes = b; marks = marks }
 unfolding of_tree
-spoilt_after p app change tree nodes a b ea eb =
-    ap (with_unsound_ends app p) (changed_is p.node change (of_tree tree nodes) ∙ ap (of_tree tree) (sym ea)) ∙ eb
+spoilt_after p app change tree marks nodes a b ea eb =
+    ap (with_unsound_ends app p) (changed_is p.node change (of_tree tree marks nodes) ∙ ap (of_tree tree marks) (sym ea)) ∙ eb
 
 -- the PDUs of a port's outbox come in at its peer
-pub carry_is : (p q : EgressPort) (tree : Topology) (nodes a b : List NodeState) (wires : List Wire) → q ≡ peer_of tree.links p
-    → wires ≡ outbox p (record { tree = tree; nodes = nodes })
+pub carry_is : (p q : EgressPort) (tree : Topology) (marks : MarksState) (nodes a b : List NodeState) (wires : List Wire) → q ≡ peer_of tree.links p
+    → wires ≡ outbox p (record { tree = tree; nodes = nodes; marks = marks })
     → a ≡ nodes_with p.node (with_outbox (place_of p.port) []) nodes → b ≡ nodes_with q.node (with_carried (place_of q.port) wires) a
-    → after_carrying p (record { tree = tree; nodes = nodes }) ≡ record { tree = tree; nodes = b }
+    → after_carrying p (record { tree = tree; nodes = nodes; marks = marks }) ≡ record { tree = tree; nodes = b; marks = marks }
 unfolding of_tree
-carry_is p q tree nodes a b wires eq ew ea eb =
+carry_is p q tree marks nodes a b wires eq ew ea eb =
     let r = peer_of tree.links p in
-    ap (with_changed r.node (with_carried (place_of r.port) (outbox p (of_tree tree nodes)))) (changed_is p.node (with_outbox (place_of p.port) []) (of_tree tree nodes) ∙ ap (of_tree tree) (sym ea))
-    ∙ (changed_is r.node (with_carried (place_of r.port) (outbox p (of_tree tree nodes))) (of_tree tree a)
-    ∙ ap (of_tree tree) (ap (λ (ws : List Wire). nodes_with r.node (with_carried (place_of r.port) ws) a) (sym ew)
+    ap (with_changed r.node (with_carried (place_of r.port) (outbox p (of_tree tree marks nodes)))) (changed_is p.node (with_outbox (place_of p.port) []) (of_tree tree marks nodes) ∙ ap (of_tree tree marks) (sym ea))
+    ∙ (changed_is r.node (with_carried (place_of r.port) (outbox p (of_tree tree marks nodes))) (of_tree tree marks a)
+    ∙ ap (of_tree tree marks) (ap (λ (ws : List Wire). nodes_with r.node (with_carried (place_of r.port) ws) a) (sym ew)
     ∙ (ap (λ (q : EgressPort). nodes_with q.node (with_carried (place_of q.port) wires) a) (sym eq) ∙ sym eb)))
 
 -- what stands at a place is set to what it is
@@ -139,10 +140,10 @@ set_back (t ∷ nodes) (suc i) s is = ap (λ xs. t ∷ xs) (set_back nodes i s i
 reaches_in : EgressPort → ℕ → Option NodeState → Bool
 reaches_in p index o = nat_le index (length (option_map_or (λ s. box_at (place_of p.port) s.inboxes) o []))
 
-pub reaches_is : (p : EgressPort) (index : ℕ) (tree : Topology) (nodes : List NodeState) (s : NodeState) → slice_get nodes (p.node.0 - 1) ≡ Some s
-    → has_place (place_of p.port) index s ≡ reaches p index (record { tree = tree; nodes = nodes })
+pub reaches_is : (p : EgressPort) (index : ℕ) (tree : Topology) (marks : MarksState) (nodes : List NodeState) (s : NodeState) → slice_get nodes (p.node.0 - 1) ≡ Some s
+    → has_place (place_of p.port) index s ≡ reaches p index (record { tree = tree; nodes = nodes; marks = marks })
 unfolding reaches_in
-reaches_is p index tree nodes s is = sym (ap (reaches_in p index) is)
+reaches_is p index tree marks nodes s is = sym (ap (reaches_in p index) is)
 
 pub changed_if : (p : EgressPort) (change : NodeState → NodeState) (nodes : List NodeState) (i : ℕ) (s t : NodeState) (done : Bool) → StandsAt p nodes
     → i ≡ p.node.0 - 1 → s ≡ get_or nodes i s → t ≡ (if done then change s else s) → slice_set nodes i t ≡ (if done then nodes_with p.node change nodes else nodes)
@@ -155,25 +156,25 @@ ports_if change s t true same is = ap ports_of is ∙ same
 ports_if change s t false same is = ap ports_of is
 
 -- where an inbox doesn't reach so far, nothing happens
-pub not_reached : (p : EgressPort) (index : ℕ) (wire : Wire) (tree : Topology) (nodes a b : List NodeState) (done : Bool) → done ≡ false
-    → done ≡ reaches p index (record { tree = tree; nodes = nodes }) → a ≡ (if done then b else nodes)
-    → with_forgery p index wire (reaches p index (record { tree = tree; nodes = nodes })) (record { tree = tree; nodes = nodes }) ≡ (record { tree = tree; nodes = a }, Missed)
+pub not_reached : (p : EgressPort) (index : ℕ) (wire : Wire) (tree : Topology) (marks : MarksState) (nodes a b : List NodeState) (done : Bool) → done ≡ false
+    → done ≡ reaches p index (record { tree = tree; nodes = nodes; marks = marks }) → a ≡ (if done then b else nodes)
+    → with_forgery p index wire (reaches p index (record { tree = tree; nodes = nodes; marks = marks })) (record { tree = tree; nodes = nodes; marks = marks }) ≡ (record { tree = tree; nodes = a; marks = marks }, Missed)
 unfolding of_tree
-not_reached p index wire tree nodes a b done missed is ea =
+not_reached p index wire tree marks nodes a b done missed is ea =
     let same : a ≡ nodes = ea ∙ ap (λ (d : Bool). if d then b else nodes) missed in
-    ap (λ (d : Bool). with_forgery p index wire d (of_tree tree nodes)) (sym is ∙ missed) ∙ ap (λ (v : WorldState). (v, Missed)) (ap (of_tree tree) (sym same))
+    ap (λ (d : Bool). with_forgery p index wire d (of_tree tree marks nodes)) (sym is ∙ missed) ∙ ap (λ (v : WorldState). (v, Missed)) (ap (of_tree tree marks) (sym same))
 
 -- where it does, a PDU stands in it, and both ends are spoilt
-pub forge_is : (p : EgressPort) (index : ℕ) (wire : Wire) (tree : Topology) (nodes a b : List NodeState) (done : Bool) → done ≡ true
-    → done ≡ reaches p index (record { tree = tree; nodes = nodes }) → a ≡ (if done then nodes_with p.node (forged_at (place_of p.port) index wire) nodes else nodes)
-    → with_unsound_ends wire.app p (record { tree = tree; nodes = a }) ≡ record { tree = tree; nodes = b }
-    → with_forgery p index wire (reaches p index (record { tree = tree; nodes = nodes })) (record { tree = tree; nodes = nodes }) ≡ (record { tree = tree; nodes = b }, Done)
+pub forge_is : (p : EgressPort) (index : ℕ) (wire : Wire) (tree : Topology) (marks : MarksState) (nodes a b : List NodeState) (done : Bool) → done ≡ true
+    → done ≡ reaches p index (record { tree = tree; nodes = nodes; marks = marks }) → a ≡ (if done then nodes_with p.node (forged_at (place_of p.port) index wire) nodes else nodes)
+    → with_unsound_ends wire.app p (record { tree = tree; nodes = a; marks = marks }) ≡ record { tree = tree; nodes = b; marks = marks }
+    → with_forgery p index wire (reaches p index (record { tree = tree; nodes = nodes; marks = marks })) (record { tree = tree; nodes = nodes; marks = marks }) ≡ (record { tree = tree; nodes = b; marks = marks }, Done)
 unfolding of_tree
-forge_is p index wire tree nodes a b done does is ea eb =
+forge_is p index wire tree marks nodes a b done does is ea eb =
     let forged : a ≡ nodes_with p.node (forged_at (place_of p.port) index wire) nodes
     = ea ∙ ap (λ (d : Bool). if d then nodes_with p.node (forged_at (place_of p.port) index wire) nodes else nodes) does in
-    ap (λ (d : Bool). with_forgery p index wire d (of_tree tree nodes)) (sym is ∙ does)
-    ∙ ap (λ (v : WorldState). (v, Done)) (spoilt_after p wire.app (forged_at (place_of p.port) index wire) tree nodes a b forged eb)
+    ap (λ (d : Bool). with_forgery p index wire d (of_tree tree marks nodes)) (sym is ∙ does)
+    ∙ ap (λ (v : WorldState). (v, Done)) (spoilt_after p wire.app (forged_at (place_of p.port) index wire) tree marks nodes a b forged eb)
 
 -- no PDUs behind those of an inbox leave all as it is
 none_carried : (q : EgressPort) (nodes : List NodeState) → nodes_with q.node (with_carried (place_of q.port) []) nodes ≡ nodes
@@ -201,16 +202,16 @@ none_taken p nodes none = by (slice_get nodes (p.node.0 - 1)) refl none
         ∙ set_back nodes (p.node.0 - 1) s is
 
 -- where a port's outbox is empty, nothing else happens than that it is taken
-pub carry_nothing : (p : EgressPort) (tree : Topology) (nodes a : List NodeState) (wires : List Wire) → wires ≡ outbox p (record { tree = tree; nodes = nodes })
-    → wires ≡ [] → a ≡ nodes_with p.node (with_outbox (place_of p.port) []) nodes → after_carrying p (record { tree = tree; nodes = nodes }) ≡ record { tree = tree; nodes = a }
-carry_nothing p tree nodes a wires ew none ea =
+pub carry_nothing : (p : EgressPort) (tree : Topology) (marks : MarksState) (nodes a : List NodeState) (wires : List Wire) → wires ≡ outbox p (record { tree = tree; nodes = nodes; marks = marks })
+    → wires ≡ [] → a ≡ nodes_with p.node (with_outbox (place_of p.port) []) nodes → after_carrying p (record { tree = tree; nodes = nodes; marks = marks }) ≡ record { tree = tree; nodes = a; marks = marks }
+carry_nothing p tree marks nodes a wires ew none ea =
     let q = peer_of tree.links p in
-    carry_is p q tree nodes a a wires refl ew ea
+    carry_is p q tree marks nodes a a wires refl ew ea
     (sym (ap (λ ws. nodes_with q.node (with_carried (place_of q.port) ws) a) none ∙ none_carried q a))
 
 -- so nothing happens at all
 pub carried_none : (p : EgressPort) (w : WorldState) → outbox p w ≡ [] → after_carrying p w ≡ w
-carried_none p w none = carry_nothing p w.tree w.nodes w.nodes [] (sym none) refl (sym (none_taken p w.nodes none))
+carried_none p w none = carry_nothing p w.tree w.marks w.nodes w.nodes [] (sym none) refl (sym (none_taken p w.nodes none))
 
 -- an outbox that was taken out is put back
 pub put_back_is : (p : EgressPort) (nodes a b : List NodeState) (wires : List Wire)

@@ -9,7 +9,8 @@ use Rattle.world_core.specs.Duty.{AreVlanDutiesMet, AreStreamDutiesMet}
 use Rattle.world_core.specs.Kept.{AreBridgesIdle, IsKeptWorld}
 use Rattle.world_core.proofs.Nodes.{Base}
 use Rattle.world_core.proofs.BaseSteps.{NodeLaws, base_event}
-use Rattle.world_core.proofs.EventSteps.{met_event}
+use Rattle.world_core.proofs.EventSteps.{HasMarks, met_event}
+use Rattle.world_core.proofs.MarkEvents.{marks_event}
 use Rattle.world_core.proofs.VlanSteps.{VlanLaws, vlan_view, vlan_links, vlan_facts}
 use Rattle.world_core.proofs.StreamSteps.{StreamLaws, stream_view, stream_links, stream_facts}
 use Rattle.world_core.proofs.Idle.{idle_step}
@@ -17,9 +18,12 @@ use Rattle.world_core.proofs.Idle.{idle_step}
 pub base_kept : (w : WorldState) → IsKeptWorld w → Base w
 base_kept w kept = record { tree = kept.tree; many = kept.many; nodes = kept.nodes; clock = kept.clock }
 
-pub kept_whole : (w : WorldState) → Base w → AreBridgesIdle w → AreVlanDutiesMet w → AreStreamDutiesMet w → IsKeptWorld w
-kept_whole w base idle vlans streams =
-    record { tree = base.tree; many = base.many; nodes = base.nodes; clock = base.clock; idle = idle; duties = vlans; streams = streams }
+pub marks_kept : (w : WorldState) → IsKeptWorld w → HasMarks w
+marks_kept w kept = record { tree = kept.marks_of; of = kept.marks }
+
+pub kept_whole : (w : WorldState) → Base w → HasMarks w → AreBridgesIdle w → AreVlanDutiesMet w → AreStreamDutiesMet w → IsKeptWorld w
+kept_whole w base of idle vlans streams =
+    record { tree = base.tree; many = base.many; nodes = base.nodes; clock = base.clock; marks_of = of.tree; marks = of.of; idle = idle; duties = vlans; streams = streams }
 
 -- the laws that this rests on, as the public laws say them
 pub record KeepingLaws : Type 0 where
@@ -33,9 +37,10 @@ module _ (laws : KeepingLaws) where
   kept_event e w can fits kept =
       let base = base_kept w kept in
       let ports = laws.ports w.tree kept.tree in
-      kept_whole (world_step e w).0 (base_event laws.nodes e w can fits base) (idle_step e w can kept.idle)
-      (met_event vlan_view (vlan_links laws.vlans) (vlan_facts laws.vlans) e w ports can base kept.duties)
-      (met_event stream_view (stream_links laws.streams) (stream_facts laws.streams) e w ports can base kept.streams)
+      let of = marks_kept w kept in
+      kept_whole (world_step e w).0 (base_event laws.nodes e w can fits base) (marks_event e w ports can of) (idle_step e w can kept.idle)
+      (met_event vlan_view (vlan_links laws.vlans) (vlan_facts laws.vlans) e w ports can base of kept.duties)
+      (met_event stream_view (stream_links laws.streams) (stream_facts laws.streams) e w ports can base of kept.streams)
 
   pub kept_events : (events : List WorldEvent) (w : WorldState) → CanAllHappen events w → AllByRecursion IsEventInRange events → IsKeptWorld w → IsKeptWorld (world_after events w)
   kept_events [] w can fits kept = kept

@@ -1,18 +1,22 @@
 mod Lists
 mod Boxes
+mod Counts
 mod Views
 mod Nodes
 mod StepBoxes
 mod EachNode
 mod Ends
+mod MarkSteps
 mod SameSaid
 mod LinkSteps
 mod BaseSteps
 mod EventSteps
 mod VlanSteps
 mod StreamSteps
+mod MarkEvents
 mod Keeping
 mod Idle
+mod NewMarks
 mod Beginnings
 mod Starting
 mod Runs
@@ -20,6 +24,7 @@ mod EventLists
 mod Happenings
 mod Carrying
 mod Standing
+mod Marked
 mod Limits
 mod Talks
 mod PortOrder
@@ -32,3 +37,4 @@ mod Changes
 mod Places
 mod Acting
 mod Histories
+pub mod InStep

@@ -45,6 +45,13 @@ module _ (n : NodeNo) (change : NodeState → NodeState) (w : WorldState) where
       by None = refl
       by (Some s) = refl
 
+  pub same_marks : (with_changed n change w).marks ≡ w.marks
+  same_marks = by (node_at n w)
+    where
+      by : (o : Option NodeState) → (option_map_or (λ s. record w { nodes = slice_set w.nodes (n.0 - 1) (change s) }) o w).marks ≡ w.marks
+      by None = refl
+      by (Some s) = refl
+
 -- a node's step is its change in the network
 pub stepped_is : (n : NodeNo) (event : NodeEvent) (w : WorldState) → with_changed n (λ s. (node_step event s).0) w ≡ (step_of_node n event w).0
 stepped_is n event w = by (node_at n w)

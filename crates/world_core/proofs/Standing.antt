@@ -14,6 +14,7 @@ use Rattle.node_core.specs.declared.types.AppRequest.{AppRequest}
 use Rattle.world_core.specs.declared.events.WorldEvent.{WorldEvent}
 use Rattle.world_core.specs.declared.events.WorldEvent.TheVariants.{Request, Clock}
 use Rattle.world_core.specs.declared.events.WorldReply.{WorldReply}
+use Rattle.world_core.specs.Marks.{MarksState}
 use Rattle.world_core.specs.World.{WorldState, Happened, StandsAt, node_at, CanHappen}
 use Rattle.world_core.specs.Kept.{IsKeptWorld}
 use Rattle.world_core.proofs.Nodes.{node_there, place_within}
@@ -65,11 +66,11 @@ if_ok (Ok a) P Q f h = f a h
 if_ok (Err e) P Q f h = h
 
 -- after an event that keeps what every network keeps, or after want of memory, it is kept
-pub kept_either : {E : Type 0} (r : Result WorldReply E) (h : Happened) (tree : Topology) (nodes new : List NodeState)
-    → IfOk r (λ reply. h ≡ (record { tree = tree; nodes = new }, reply)) → OnErr r (new ≡ nodes)
-    → IsKeptWorld h.0 → IsKeptWorld (record { tree = tree; nodes = nodes }) → IsKeptWorld (record { tree = tree; nodes = new })
-kept_either (Ok reply) h tree nodes new is err after before = subst IsKeptWorld (ap (λ (x : Happened). x.0) is) after
-kept_either (Err e) h tree nodes new ok is after before = subst (λ (xs : List NodeState). IsKeptWorld (record { tree = tree; nodes = xs })) (sym is) before
+pub kept_either : {E : Type 0} (r : Result WorldReply E) (h : Happened) (tree : Topology) (marks : MarksState) (nodes new : List NodeState)
+    → IfOk r (λ reply. h ≡ (record { tree = tree; nodes = new; marks = marks }, reply)) → OnErr r (new ≡ nodes)
+    → IsKeptWorld h.0 → IsKeptWorld (record { tree = tree; nodes = nodes; marks = marks }) → IsKeptWorld (record { tree = tree; nodes = new; marks = marks })
+kept_either (Ok reply) h tree marks nodes new is err after before = subst IsKeptWorld (ap (λ (x : Happened). x.0) is) after
+kept_either (Err e) h tree marks nodes new ok is after before = subst (λ (xs : List NodeState). IsKeptWorld (record { tree = tree; nodes = xs; marks = marks })) (sym is) before
 
 -- where the clock of one node is below 2^61, the clock goes on: all nodes have one clock
 pub clock_goes_on : (w : WorldState) (t : NodeState) → IsKeptWorld w → node_at (record { 0 = 1 }) w ≡ Some t → t.clock.0 < 2 ^ 61 → CanHappen Clock w

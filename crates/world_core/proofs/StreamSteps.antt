@@ -15,8 +15,9 @@ use Rattle.msrp_codec.specs.Meaning.{msrp_reading}
 use Rattle.msrp_codec.specs.Writing.{msrp_spelling, as_written, of_key}
 use Rattle.mrp_participant.specs.Duty.{IsDutyMet}
 use Rattle.mrp_participant.specs.Lookup.{same}
-use Rattle.mrp_participant.specs.State.{Messages, AreRows, is_silent, due_state, left_keys, left_state, leave_all_state, periodic_state}
-use Rattle.mrp_participant.specs.Link.{Link, LinkEvent, AreDutiesMet, after_event, other_view}
+use Rattle.mrp_participant.specs.State.{Messages, AreRows, is_active, is_silent, due_state, left_keys, left_state, leave_all_state, periodic_state}
+use Rattle.mrp_participant.specs.Link.{LinkEvent}
+use Rattle.mrp_participant.specs.MarkedLink.{Mark, MarkedLink, IsNoMore, AreMarkedDutiesMet, after_marked_event, other_marked_view}
 use Rattle.msrp.specs.declared.port.Port.{Port}
 use Rattle.msrp.specs.declared.asking.SrpRequest.{SrpRequest}
 use Rattle.msrp.specs.declared.asking.SrpRequest.TheVariants as asks
@@ -35,30 +36,33 @@ use Rattle.node_core.specs.declared.types.PortStep.{PortStep}
 use Rattle.node_core.specs.declared.types.PortStep.TheVariants.{Work, LeaveNow, LeaveAllNow, PeriodicNow, Due, Settle, Send}
 use Rattle.node_core.specs.State.{NodeState, box_at}
 use Rattle.node_core.specs.Step.{node_step, port_step, after_work, worked_app, worked_msrp, octets_to_say, sent_octets}
+use Rattle.node_core.specs.Leaving.{vlans_leave, streams_leave, octets_leave, has_leave_all, is_leave_all_at}
 use Rattle.node_core.specs.Links.{spoilt_at}
 use Rattle.node_core.specs.Proper.{IsProperNode}
 use Rattle.world_core.specs.Duty.{said_of_streams, octets_said, streams_said, stream_place}
+use Rattle.world_core.specs.Marks.{BothMarks, is_same_app}
 use Rattle.world_core.proofs.Lists.{one_some, at_each, within, set_at, set_at_there, set_at_other}
 use Rattle.world_core.proofs.Boxes.{box_got, box_set}
-use Rattle.world_core.proofs.Views.{AppView, LinkLaws, StepFacts, KeepsLink, unsound}
+use Rattle.world_core.proofs.Views.{AppView, LinkLaws, StepFacts, KeepsLink, both_heard, both_said, both_stepped, both_same, says_leave_all, unsound}
 use Rattle.world_core.proofs.Nodes.{outbox_there}
-use Rattle.world_core.proofs.LinkSteps.{KeepsNear, HasSpoken, declares, withdraws, leaves, fires, fires_leave_all, fires_periodic, all_keep, called, hearing, taken, spoken, unheard, still}
+use Rattle.world_core.proofs.LinkSteps.{KeepsNear, HasSpoken, declares, withdraws, leaves, fires, fires_leave_all, fires_periodic, all_keep, same_near, called, hearing, taken, spoken, unheard, still}
 
 -- MSRP as the network's proofs see it
 abbrev pub stream_view : AppView MsrpKey MsrpContent
-stream_view = record { cmp = key_cmp; part = stream_place; said = streams_said }
+stream_view = record { cmp = key_cmp; part = stream_place; said = streams_said; app = Msrp }
 
 -- what the public laws of a link and of what is sent say of MSRP
 pub record StreamLaws : Type 0 where
-  pub event : (l : Link MsrpKey MsrpContent) (e : LinkEvent MsrpKey MsrpContent) → AreDutiesMet key_cmp l → AreDutiesMet key_cmp (after_event base_octets octets_of key_cmp same_content l e)
-  pub turns : (l : Link MsrpKey MsrpContent) → AreDutiesMet key_cmp l → AreDutiesMet key_cmp (other_view l)
+  pub event : (l : MarkedLink MsrpKey MsrpContent) (e : LinkEvent MsrpKey MsrpContent) → AreMarkedDutiesMet key_cmp l → AreMarkedDutiesMet key_cmp (after_marked_event base_octets octets_of key_cmp same_content l e)
+  pub turns : (l : MarkedLink MsrpKey MsrpContent) → AreMarkedDutiesMet key_cmp l → AreMarkedDutiesMet key_cmp (other_marked_view l)
+  pub fewer : (l : MarkedLink MsrpKey MsrpContent) (near far : Mark) → IsNoMore near l.near → IsNoMore far l.far → AreMarkedDutiesMet key_cmp l → AreMarkedDutiesMet key_cmp (record l { near = near; far = far })
   pub unsound : (near far : Part) (sent coming : List (Messages MsrpKey MsrpContent)) → near.sound ≡ false → IsDutyMet key_cmp near far sent coming
   pub written : (now : Cs) (s : Part) → AreRows key_cmp s.rows → HasOwnContents s → HasRanges s → is_silent s ≡ false → IsWritten (pdu_sent now s) (msrp_spelling (pdu_sent now s))
   pub each_key : (now : Cs) (s : Part) (key : MsrpKey) → AreRows key_cmp s.rows
       → of_key (λ k. same key_cmp k key) (as_written (pdu_sent now s)).events ≡ of_key (λ k. same key_cmp k key) (pdu_sent now s).events
 
 abbrev pub stream_links : StreamLaws → LinkLaws stream_view
-stream_links laws = record { base = base_octets; octets = octets_of; same = same_content; event = laws.event; turns = laws.turns; unsound = laws.unsound }
+stream_links laws = record { base = base_octets; octets = octets_of; same = same_content; event = laws.event; turns = laws.turns; fewer = laws.fewer; unsound = laws.unsound }
 
 -- ---- the ports after what is done at a place
 
@@ -152,9 +156,9 @@ spoilt_apart : (app : App) (at k : ℕ) (s : NodeState) → at ≢ k → stream_
 spoilt_apart Mvrp at k s ne = refl
 spoilt_apart Msrp at k s ne = made_apart at k (calling unsound) s.streams (spoilt_streams at s.streams) ne (spoilt_is at s.streams)
 
-spoilt_other : (app : App) (at k : ℕ) (s : NodeState) → app ≢ Msrp → stream_place k (spoilt_at app at s) ≡ stream_place k s
+spoilt_other : (app : App) (at k : ℕ) (s : NodeState) → is_same_app Msrp app ≡ false → stream_place k (spoilt_at app at s) ≡ stream_place k s
 spoilt_other Mvrp at k s ne = refl
-spoilt_other Msrp at k s ne = absurd (ne refl)
+spoilt_other Msrp at k s ne = cc
 
 -- ---- requests, and the clock
 
@@ -182,9 +186,18 @@ clocked_same now [] k = refl
 clocked_same now (p ∷ ps) zero = refl
 clocked_same now (p ∷ ps) (suc k) = clocked_same now ps k
 
-silent_app : (app : App) (os : List ℕ) → app ≢ Msrp → octets_said app os ≡ None
+silent_app : (app : App) (os : List ℕ) → is_same_app Msrp app ≡ false → octets_said app os ≡ None
 silent_app Mvrp os ne = refl
-silent_app Msrp os ne = absurd (ne refl)
+silent_app Msrp os ne = cc
+
+-- what it says has LeaveAll where its reading has
+leaves_as : (app : App) (os : List ℕ) → is_same_app Msrp app ≡ true → octets_leave app os ≡ says_leave_all (octets_said app os)
+leaves_as Mvrp os own = cc
+leaves_as Msrp os own = by (msrp_reading os)
+  where
+    by : (r : Result MsrpPdu ℕ) → streams_leave r ≡ says_leave_all (said_of_streams r)
+    by (Ok pdu) = refl
+    by (Err place) = refl
 
 -- ---- at the place itself
 
@@ -218,7 +231,7 @@ module _ (laws : StreamLaws) where
 
   -- the port at the place is another, by calls of its participant
   made_kept : (at : ℕ) (s t : NodeState) (g : Port → Port) → ((p : Port) → KeepsNear stream_view links p.part (g p).part) → MadeAt at g s.streams t.streams
-      → box_at at t.inboxes ≡ box_at at s.inboxes → box_at at t.outboxes ≡ box_at at s.outboxes → KeepsLink stream_view at s t
+      → box_at at t.inboxes ≡ box_at at s.inboxes → box_at at t.outboxes ≡ box_at at s.outboxes → KeepsLink stream_view at s t both_same
   made_kept at s t g keeps made ins outs =
       called stream_view links at s t
       (λ x y old new. near (slice_get s.streams.ports at) x y old (ap (option_map (λ (p : Port). p.part)) (sym (set_at_there at g s.streams.ports)) ∙ (ap (λ (ps : List Port). option_map (λ (p : Port). p.part) (slice_get ps at)) (sym made) ∙ new)))
@@ -233,11 +246,11 @@ module _ (laws : StreamLaws) where
 
   -- nothing of MSRP
   none_kept : (at : ℕ) (s t : NodeState) → stream_place at t ≡ stream_place at s
-      → box_at at t.inboxes ≡ box_at at s.inboxes → box_at at t.outboxes ≡ box_at at s.outboxes → KeepsLink stream_view at s t
+      → box_at at t.inboxes ≡ box_at at s.inboxes → box_at at t.outboxes ≡ box_at at s.outboxes → KeepsLink stream_view at s t both_same
   none_kept at s t same_part ins outs =
-      called stream_view links at s t (λ x y old new z sent coming met. subst (λ (p : Part). AreDutiesMet key_cmp (record { near = p; far = z; sent = sent; coming = coming })) (one_some _ x y old (sym same_part ∙ new)) met) ins outs
+      called stream_view links at s t (λ x y old new. same_near stream_view links x y (one_some _ x y old (sym same_part ∙ new))) ins outs
 
-  work_kept : (at : ℕ) (wires : List Wire) (s : NodeState) → box_at at s.inboxes ≡ wires → KeepsLink stream_view at s (after_work at wires s).0
+  work_kept : (at : ℕ) (wires : List Wire) (s : NodeState) → box_at at s.inboxes ≡ wires → KeepsLink stream_view at s (after_work at wires s).0 (both_heard Msrp (slice_get wires 0))
   work_kept at [] s is = still stream_view links at s
   work_kept at (wire ∷ wires) s is = by wire.app refl
     where
@@ -252,21 +265,21 @@ module _ (laws : StreamLaws) where
       heard (Ok pdu) = called_there at (received_part s.clock pdu) s.streams (received_streams s.clock at pdu s.streams) (received_is s.clock at pdu s.streams)
       heard (Err place) = same_there (stream_place at s)
 
-      by : (app : App) → wire.app ≡ app → KeepsLink stream_view at s (worked_app wire.app at wire.octets (record s { inboxes = slice_set s.inboxes at wires })).0
+      by : (app : App) → wire.app ≡ app → KeepsLink stream_view at s (worked_app wire.app at wire.octets (record s { inboxes = slice_set s.inboxes at wires })).0 (both_heard Msrp (Some wire))
       by Mvrp e =
-          subst (λ (a : App). KeepsLink stream_view at s (worked_app a at wire.octets (record s { inboxes = slice_set s.inboxes at wires })).0) (sym e)
-          (taken stream_view links s.clock at s (worked_app Mvrp at wire.octets (record s { inboxes = slice_set s.inboxes at wires })).0 wire wires
+          subst (λ (a : App). KeepsLink stream_view at s (worked_app a at wire.octets (record s { inboxes = slice_set s.inboxes at wires })).0 (both_heard Msrp (Some wire))) (sym e)
+          (taken stream_view links s.clock at s (worked_app Mvrp at wire.octets (record s { inboxes = slice_set s.inboxes at wires })).0 wire wires (is_same_app Msrp wire.app) refl (silent_app wire.app wire.octets) (leaves_as wire.app wire.octets)
           (subst (λ (a : App). stream_place at s ≡ option_map (hearing stream_view links s.clock (octets_said a wire.octets)) (stream_place at s)) (sym e) (same_there (stream_place at s)))
           is left refl)
       by Msrp e =
-          subst (λ (a : App). KeepsLink stream_view at s (worked_app a at wire.octets (record s { inboxes = slice_set s.inboxes at wires })).0) (sym e)
-          (taken stream_view links s.clock at s (worked_app Msrp at wire.octets (record s { inboxes = slice_set s.inboxes at wires })).0 wire wires
+          subst (λ (a : App). KeepsLink stream_view at s (worked_app a at wire.octets (record s { inboxes = slice_set s.inboxes at wires })).0 (both_heard Msrp (Some wire))) (sym e)
+          (taken stream_view links s.clock at s (worked_app Msrp at wire.octets (record s { inboxes = slice_set s.inboxes at wires })).0 wire wires (is_same_app Msrp wire.app) refl (silent_app wire.app wire.octets) (leaves_as wire.app wire.octets)
           (subst (λ (a : App). option_map (λ (p : Port). p.part) (slice_get (worked_msrp s.clock at (msrp_reading wire.octets) s.streams).0.ports at) ≡ option_map (hearing stream_view links s.clock (octets_said a wire.octets)) (stream_place at s)) (sym e) (heard (msrp_reading wire.octets)))
           is left refl)
 
   -- the octets say the same of each key as what the participant sends
   spoken_there : (at : ℕ) (s : NodeState) → IsProperNode s → (p : Port) → slice_get s.streams.ports at ≡ Some p → is_silent p.part ≡ false
-      → HasSpoken stream_view links s.clock at s (sent_octets Msrp at (Some (msrp_spelling (pdu_sent s.clock p.part))) s).0 p.part
+      → HasSpoken stream_view links s.clock at s (sent_octets Msrp at (Some (msrp_spelling (pdu_sent s.clock p.part))) s).0 (is_leave_all_at Msrp at s) p.part
   spoken_there at s proper p old loud =
       let there = out_there at s proper p old in
       let wire : Wire = record { app = Msrp; octets = msrp_spelling (pdu_sent s.clock p.part) } in
@@ -274,6 +287,8 @@ module _ (laws : StreamLaws) where
       let ranges = at_each (λ (q : Port). HasRanges q.part) s.streams.ports proper.ranges.parts at p old in
       record {
         loud = loud;
+        leave_all_is = ap (λ (o : Option Port). option_map_or (λ (q : Port). is_active q.part.leave_all) o false) old;
+        own = refl;
         part = called_there at (sent_part s.clock) s.streams (sent_streams s.clock at s.streams) (sent_is s.clock at s.streams) ∙ ap (λ (o : Option Port). option_map (sent_part s.clock) (option_map (λ (q : Port). q.part) o)) old;
         wire = wire;
         says = record { leave_all = (as_written (pdu_sent s.clock p.part)).leave_all; events = (as_written (pdu_sent s.clock p.part)).events };
@@ -286,27 +301,29 @@ module _ (laws : StreamLaws) where
   -- there is a participant, and it is silent or not
   sent_kept : (at : ℕ) (s : NodeState) → IsProperNode s → (o : Option Port) → slice_get s.streams.ports at ≡ o
       → KeepsLink stream_view at s (sent_octets Msrp at (option_map_or (λ (port : Port). if is_silent port.part then None else Some (msrp_spelling (pdu_sent s.clock port.part))) o None) s).0
+      (both_said true (is_leave_all_at Msrp at s) (sent_octets Msrp at (option_map_or (λ (port : Port). if is_silent port.part then None else Some (msrp_spelling (pdu_sent s.clock port.part))) o None) s).1)
   sent_kept at s proper None is = still stream_view links at s
   sent_kept at s proper (Some p) is = by (is_silent p.part) refl
     where
       by : (b : Bool) → is_silent p.part ≡ b → KeepsLink stream_view at s (sent_octets Msrp at (if b then None else Some (msrp_spelling (pdu_sent s.clock p.part))) s).0
+          (both_said true (is_leave_all_at Msrp at s) (sent_octets Msrp at (if b then None else Some (msrp_spelling (pdu_sent s.clock p.part))) s).1)
       by true e = still stream_view links at s
       by false e =
-          spoken stream_view links s.clock at s (sent_octets Msrp at (Some (msrp_spelling (pdu_sent s.clock p.part))) s).0
-          (λ y old. subst (λ (x : Part). HasSpoken stream_view links s.clock at s (sent_octets Msrp at (Some (msrp_spelling (pdu_sent s.clock p.part))) s).0 x)
+          spoken stream_view links (λ wire ne. silent_app wire.app wire.octets ne) s.clock at s (sent_octets Msrp at (Some (msrp_spelling (pdu_sent s.clock p.part))) s).0 (is_leave_all_at Msrp at s)
+          (λ y old. subst (λ (x : Part). HasSpoken stream_view links s.clock at s (sent_octets Msrp at (Some (msrp_spelling (pdu_sent s.clock p.part))) s).0 (is_leave_all_at Msrp at s) x)
           (one_some _ p.part y (ap (option_map (λ (q : Port). q.part)) is) old) (spoken_there at s proper p is e))
 
   -- what MVRP sends says nothing to it
-  other_sent : (at : ℕ) (o : Option (List ℕ)) (s : NodeState) → IsProperNode s → KeepsLink stream_view at s (sent_octets Mvrp at o s).0
+  other_sent : (at : ℕ) (o : Option (List ℕ)) (s : NodeState) → IsProperNode s → KeepsLink stream_view at s (sent_octets Mvrp at o s).0 (both_said false (is_leave_all_at Mvrp at s) (sent_octets Mvrp at o s).1)
   other_sent at None s proper = still stream_view links at s
-  other_sent at (Some os) s proper = λ x y z far_in far_out old new met.
+  other_sent at (Some os) s proper = λ x y z far_in far_out marks old new met.
       let port = port_of (slice_get s.streams.ports at) x old in
       let there = out_there at s proper port.0 port.1 in
       let wire : Wire = record { app = Mvrp; octets = os } in
-      unheard stream_view links at s (sent_octets Mvrp at (Some os) s).0 refl refl wire refl (box_got s.outboxes at there.0 (box_at at s.outboxes ++ (wire ∷ [])) there.1)
-      x y z far_in far_out old new met
+      unheard stream_view links at s (sent_octets Mvrp at (Some os) s).0 refl refl wire refl refl (box_got s.outboxes at there.0 (box_at at s.outboxes ++ (wire ∷ [])) there.1)
+      x y z far_in far_out marks old new met
 
-  step_kept : (step : PortStep) (at : ℕ) (s : NodeState) → IsProperNode s → KeepsLink stream_view at s (port_step step at s).0
+  step_kept : (step : PortStep) (at : ℕ) (s : NodeState) → IsProperNode s → KeepsLink stream_view at s (port_step step at s).0 (both_stepped Msrp step at s (port_step step at s).1)
   step_kept Work at s proper = work_kept at (box_at at s.inboxes) s refl
   step_kept (LeaveNow (Vlan vid)) at s proper = none_kept at s (port_step (LeaveNow (Vlan vid)) at s).0 refl refl refl
   step_kept (LeaveNow (Srp key)) at s proper = made_kept at s (port_step (LeaveNow (Srp key)) at s).0 (calling (left_state key_cmp key)) (λ p. leaves stream_view links key p.part) (left_is at key s.streams) refl refl
@@ -322,7 +339,6 @@ module _ (laws : StreamLaws) where
   pub stream_facts : StepFacts stream_view
   stream_facts =
       record {
-        app = Msrp;
         there = λ at s proper below.
             let ports = proper.kept.same_ports in
             let port = within s.streams.ports at (omega (arith, below, ports)) in

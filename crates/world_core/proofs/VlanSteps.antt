@@ -13,7 +13,8 @@ use Rattle.mvrp_codec.specs.Meaning.{mvrp_reading}
 use Rattle.mvrp_codec.specs.Writing.{mvrp_spelling}
 use Rattle.mrp_participant.specs.Duty.{IsDutyMet}
 use Rattle.mrp_participant.specs.State.{Messages, AreRows, is_active, is_silent, declared_state, withdrawn_state, due_state, left_keys, left_state, leave_all_state, periodic_state, sent_messages, sent_events}
-use Rattle.mrp_participant.specs.Link.{Link, LinkEvent, AreDutiesMet, after_event, other_view}
+use Rattle.mrp_participant.specs.Link.{LinkEvent}
+use Rattle.mrp_participant.specs.MarkedLink.{Mark, MarkedLink, IsNoMore, AreMarkedDutiesMet, after_marked_event, other_marked_view}
 use Rattle.mvrp.specs.Part.{Part, base, octets, pdu_sent, received_part, told_by_receipt, sent_part, settled_vid, settled_part}
 use Rattle.flat_side.specs.Part.{same_content}
 use Rattle.flat_side.specs.Side.{with_part, at_part, with_part_at, awaiting_at}
@@ -28,28 +29,31 @@ use Rattle.node_core.specs.declared.types.PortStep.{PortStep}
 use Rattle.node_core.specs.declared.types.PortStep.TheVariants.{Work, LeaveNow, LeaveAllNow, PeriodicNow, Due, Settle, Send}
 use Rattle.node_core.specs.State.{NodeState, box_at}
 use Rattle.node_core.specs.Step.{node_step, port_step, after_work, worked_app, worked_mvrp, octets_to_say, sent_octets}
+use Rattle.node_core.specs.Leaving.{vlans_leave, streams_leave, octets_leave, has_leave_all, is_leave_all_at}
 use Rattle.node_core.specs.Links.{spoilt_at}
 use Rattle.node_core.specs.Proper.{IsProperNode}
 use Rattle.world_core.specs.Duty.{said_by, vlans_said, message_of, vlan_place}
+use Rattle.world_core.specs.Marks.{BothMarks, is_same_app}
 use Rattle.world_core.proofs.Lists.{one_some, at_each, within, set_at, set_at_there, set_at_other}
 use Rattle.world_core.proofs.Boxes.{box_got, box_set}
-use Rattle.world_core.proofs.Views.{AppView, LinkLaws, StepFacts, KeepsLink, unsound}
+use Rattle.world_core.proofs.Views.{AppView, LinkLaws, StepFacts, KeepsLink, both_heard, both_said, both_stepped, both_same, says_leave_all, unsound}
 use Rattle.world_core.proofs.Nodes.{outbox_there}
-use Rattle.world_core.proofs.LinkSteps.{KeepsNear, HasSpoken, declares, withdraws, leaves, fires, fires_leave_all, fires_periodic, all_keep, by_call, called, hearing, taken, spoken, unheard, still}
+use Rattle.world_core.proofs.LinkSteps.{KeepsNear, HasSpoken, declares, withdraws, leaves, fires, fires_leave_all, fires_periodic, all_keep, same_near, by_call, called, hearing, taken, spoken, unheard, still}
 
 -- MVRP as the network's proofs see it
 abbrev pub vlan_view : AppView ℕ (Unit {0})
-vlan_view = record { cmp = nat_cmp; part = vlan_place; said = message_of }
+vlan_view = record { cmp = nat_cmp; part = vlan_place; said = message_of; app = Mvrp }
 
 -- what the public laws of a link and of what is sent say of MVRP
 pub record VlanLaws : Type 0 where
-  pub event : (l : Link ℕ (Unit {0})) (e : LinkEvent ℕ (Unit {0})) → AreDutiesMet nat_cmp l → AreDutiesMet nat_cmp (after_event base octets nat_cmp same_content l e)
-  pub turns : (l : Link ℕ (Unit {0})) → AreDutiesMet nat_cmp l → AreDutiesMet nat_cmp (other_view l)
+  pub event : (l : MarkedLink ℕ (Unit {0})) (e : LinkEvent ℕ (Unit {0})) → AreMarkedDutiesMet nat_cmp l → AreMarkedDutiesMet nat_cmp (after_marked_event base octets nat_cmp same_content l e)
+  pub turns : (l : MarkedLink ℕ (Unit {0})) → AreMarkedDutiesMet nat_cmp l → AreMarkedDutiesMet nat_cmp (other_marked_view l)
+  pub fewer : (l : MarkedLink ℕ (Unit {0})) (near far : Mark) → IsNoMore near l.near → IsNoMore far l.far → AreMarkedDutiesMet nat_cmp l → AreMarkedDutiesMet nat_cmp (record l { near = near; far = far })
   pub unsound : (near far : Part) (sent coming : List (Messages ℕ (Unit {0}))) → near.sound ≡ false → IsDutyMet nat_cmp near far sent coming
   pub written : (now : Cs) (s : Part) → AreRows nat_cmp s.rows → HasVidRows s → is_silent s ≡ false → IsWritten (pdu_sent now s) (mvrp_spelling (pdu_sent now s))
 
 abbrev pub vlan_links : VlanLaws → LinkLaws vlan_view
-vlan_links laws = record { base = base; octets = octets; same = same_content; event = laws.event; turns = laws.turns; unsound = laws.unsound }
+vlan_links laws = record { base = base; octets = octets; same = same_content; event = laws.event; turns = laws.turns; fewer = laws.fewer; unsound = laws.unsound }
 
 -- ---- the participants after what is done at a place
 
@@ -132,8 +136,8 @@ spoilt_apart : (app : App) (at k : ℕ) (s : NodeState) → at ≢ k → slice_g
 spoilt_apart Mvrp at k s ne = made_apart at k unsound s.vlans (spoilt_vlans at s.vlans) ne (spoilt_is at s.vlans)
 spoilt_apart Msrp at k s ne = refl
 
-spoilt_other : (app : App) (at k : ℕ) (s : NodeState) → app ≢ Mvrp → slice_get (spoilt_at app at s).vlans.parts k ≡ slice_get s.vlans.parts k
-spoilt_other Mvrp at k s ne = absurd (ne refl)
+spoilt_other : (app : App) (at k : ℕ) (s : NodeState) → is_same_app Mvrp app ≡ false → slice_get (spoilt_at app at s).vlans.parts k ≡ slice_get s.vlans.parts k
+spoilt_other Mvrp at k s ne = cc
 spoilt_other Msrp at k s ne = refl
 
 -- ---- requests
@@ -156,9 +160,18 @@ asked_same (Hush stream) k s = refl
 asked_same (Listen stream) k s = refl
 asked_same (Unlisten stream) k s = refl
 
-silent_app : (app : App) (os : List ℕ) → app ≢ Mvrp → message_of (record { app = app; octets = os }) ≡ None
-silent_app Mvrp os ne = absurd (ne refl)
+silent_app : (app : App) (os : List ℕ) → is_same_app Mvrp app ≡ false → message_of (record { app = app; octets = os }) ≡ None
+silent_app Mvrp os ne = cc
 silent_app Msrp os ne = refl
+
+-- what it says has LeaveAll where its reading has
+leaves_as : (app : App) (os : List ℕ) → is_same_app Mvrp app ≡ true → octets_leave app os ≡ says_leave_all (vlans_said app os)
+leaves_as Mvrp os own = by (mvrp_reading os)
+  where
+    by : (r : Result MvrpPdu ℕ) → vlans_leave r ≡ says_leave_all (said_by r)
+    by (Ok pdu) = refl
+    by (Err place) = refl
+leaves_as Msrp os own = cc
 
 -- ---- at the place itself
 
@@ -175,17 +188,17 @@ module _ (laws : VlanLaws) where
 
   -- a call alone
   call_kept : (at : ℕ) (s t : NodeState) (f : Part → Part) → ((x : Part) → KeepsNear vlan_view links x (f x)) → MadeAt at f s.vlans t.vlans
-      → box_at at t.inboxes ≡ box_at at s.inboxes → box_at at t.outboxes ≡ box_at at s.outboxes → KeepsLink vlan_view at s t
+      → box_at at t.inboxes ≡ box_at at s.inboxes → box_at at t.outboxes ≡ box_at at s.outboxes → KeepsLink vlan_view at s t both_same
   call_kept at s t f keeps made ins outs =
       called vlan_view links at s t (by_call vlan_view links f keeps (slice_get s.vlans.parts at) (slice_get t.vlans.parts at) (made_there at f s.vlans t.vlans made)) ins outs
 
   -- nothing of MVRP
   none_kept : (at : ℕ) (s t : NodeState) → slice_get t.vlans.parts at ≡ slice_get s.vlans.parts at
-      → box_at at t.inboxes ≡ box_at at s.inboxes → box_at at t.outboxes ≡ box_at at s.outboxes → KeepsLink vlan_view at s t
+      → box_at at t.inboxes ≡ box_at at s.inboxes → box_at at t.outboxes ≡ box_at at s.outboxes → KeepsLink vlan_view at s t both_same
   none_kept at s t same ins outs =
-      called vlan_view links at s t (λ x y old new z sent coming met. subst (λ (p : Part). AreDutiesMet nat_cmp (record { near = p; far = z; sent = sent; coming = coming })) (one_some _ x y old (sym same ∙ new)) met) ins outs
+      called vlan_view links at s t (λ x y old new. same_near vlan_view links x y (one_some _ x y old (sym same ∙ new))) ins outs
 
-  work_kept : (at : ℕ) (wires : List Wire) (s : NodeState) → box_at at s.inboxes ≡ wires → KeepsLink vlan_view at s (after_work at wires s).0
+  work_kept : (at : ℕ) (wires : List Wire) (s : NodeState) → box_at at s.inboxes ≡ wires → KeepsLink vlan_view at s (after_work at wires s).0 (both_heard Mvrp (slice_get wires 0))
   work_kept at [] s is = still vlan_view links at s
   work_kept at (wire ∷ wires) s is = by wire.app refl
     where
@@ -203,15 +216,15 @@ module _ (laws : VlanLaws) where
           same None = refl
           same (Some x) = refl
 
-      by : (app : App) → wire.app ≡ app → KeepsLink vlan_view at s (worked_app wire.app at wire.octets (record s { inboxes = slice_set s.inboxes at wires })).0
+      by : (app : App) → wire.app ≡ app → KeepsLink vlan_view at s (worked_app wire.app at wire.octets (record s { inboxes = slice_set s.inboxes at wires })).0 (both_heard Mvrp (Some wire))
       by Mvrp e =
-          subst (λ (a : App). KeepsLink vlan_view at s (worked_app a at wire.octets (record s { inboxes = slice_set s.inboxes at wires })).0) (sym e)
-          (taken vlan_view links s.clock at s (worked_app Mvrp at wire.octets (record s { inboxes = slice_set s.inboxes at wires })).0 wire wires
+          subst (λ (a : App). KeepsLink vlan_view at s (worked_app a at wire.octets (record s { inboxes = slice_set s.inboxes at wires })).0 (both_heard Mvrp (Some wire))) (sym e)
+          (taken vlan_view links s.clock at s (worked_app Mvrp at wire.octets (record s { inboxes = slice_set s.inboxes at wires })).0 wire wires (is_same_app Mvrp wire.app) refl (silent_app wire.app wire.octets) (leaves_as wire.app wire.octets)
           (subst (λ (a : App). slice_get (worked_mvrp s.clock at (mvrp_reading wire.octets) s.vlans).0.parts at ≡ option_map (hearing vlan_view links s.clock (vlans_said a wire.octets)) (slice_get s.vlans.parts at)) (sym e) (heard (mvrp_reading wire.octets)))
           is left refl)
       by Msrp e =
-          subst (λ (a : App). KeepsLink vlan_view at s (worked_app a at wire.octets (record s { inboxes = slice_set s.inboxes at wires })).0) (sym e)
-          (taken vlan_view links s.clock at s (worked_app Msrp at wire.octets (record s { inboxes = slice_set s.inboxes at wires })).0 wire wires
+          subst (λ (a : App). KeepsLink vlan_view at s (worked_app a at wire.octets (record s { inboxes = slice_set s.inboxes at wires })).0 (both_heard Mvrp (Some wire))) (sym e)
+          (taken vlan_view links s.clock at s (worked_app Msrp at wire.octets (record s { inboxes = slice_set s.inboxes at wires })).0 wire wires (is_same_app Mvrp wire.app) refl (silent_app wire.app wire.octets) (leaves_as wire.app wire.octets)
           (subst (λ (a : App). slice_get s.vlans.parts at ≡ option_map (hearing vlan_view links s.clock (vlans_said a wire.octets)) (slice_get s.vlans.parts at)) (sym e) (heard (Err 0)))
           is left refl)
 
@@ -228,13 +241,15 @@ module _ (laws : VlanLaws) where
       ∙ ap (λ (es : List (MrpEvent × ℕ × Unit {0})). let m : Messages ℕ (Unit {0}) = record { leave_all = is_active x.leave_all; events = es } in Some m) (again (sent_events base octets nat_cmp now x))
 
   spoken_there : (at : ℕ) (s : NodeState) → IsProperNode s → (x : Part) → slice_get s.vlans.parts at ≡ Some x → is_silent x ≡ false
-      → HasSpoken vlan_view links s.clock at s (sent_octets Mvrp at (Some (mvrp_spelling (pdu_sent s.clock x))) s).0 x
+      → HasSpoken vlan_view links s.clock at s (sent_octets Mvrp at (Some (mvrp_spelling (pdu_sent s.clock x))) s).0 (is_leave_all_at Mvrp at s) x
   spoken_there at s proper x old loud =
       let below = slice_get_within s.vlans.parts at x old in
       let there = outbox_there s proper at below in
       let wire : Wire = record { app = Mvrp; octets = mvrp_spelling (pdu_sent s.clock x) } in
       record {
         loud = loud;
+        leave_all_is = ap (λ (o : Option Part). option_map_or (λ (p : Part). is_active p.leave_all) o false) old;
+        own = refl;
         part = made_there at (sent_part s.clock) s.vlans (sent_vlans s.clock at s.vlans) (sent_is s.clock at s.vlans) ∙ ap (option_map (sent_part s.clock)) old;
         wire = wire;
         says = sent_messages base octets nat_cmp s.clock x;
@@ -247,26 +262,28 @@ module _ (laws : VlanLaws) where
   -- there is a participant, and it is silent or not
   sent_kept : (at : ℕ) (s : NodeState) → IsProperNode s → (o : Option Part) → slice_get s.vlans.parts at ≡ o
       → KeepsLink vlan_view at s (sent_octets Mvrp at (option_map_or (λ part. if is_silent part then None else Some (mvrp_spelling (pdu_sent s.clock part))) o None) s).0
+      (both_said true (is_leave_all_at Mvrp at s) (sent_octets Mvrp at (option_map_or (λ part. if is_silent part then None else Some (mvrp_spelling (pdu_sent s.clock part))) o None) s).1)
   sent_kept at s proper None is = still vlan_view links at s
   sent_kept at s proper (Some x) is = by (is_silent x) refl
     where
       by : (b : Bool) → is_silent x ≡ b → KeepsLink vlan_view at s (sent_octets Mvrp at (if b then None else Some (mvrp_spelling (pdu_sent s.clock x))) s).0
+          (both_said true (is_leave_all_at Mvrp at s) (sent_octets Mvrp at (if b then None else Some (mvrp_spelling (pdu_sent s.clock x))) s).1)
       by true e = still vlan_view links at s
       by false e =
-          spoken vlan_view links s.clock at s (sent_octets Mvrp at (Some (mvrp_spelling (pdu_sent s.clock x))) s).0
-          (λ y old. subst (λ (p : Part). HasSpoken vlan_view links s.clock at s (sent_octets Mvrp at (Some (mvrp_spelling (pdu_sent s.clock x))) s).0 p) (one_some _ x y is old) (spoken_there at s proper x is e))
+          spoken vlan_view links (λ wire ne. silent_app wire.app wire.octets ne) s.clock at s (sent_octets Mvrp at (Some (mvrp_spelling (pdu_sent s.clock x))) s).0 (is_leave_all_at Mvrp at s)
+          (λ y old. subst (λ (p : Part). HasSpoken vlan_view links s.clock at s (sent_octets Mvrp at (Some (mvrp_spelling (pdu_sent s.clock x))) s).0 (is_leave_all_at Mvrp at s) p) (one_some _ x y is old) (spoken_there at s proper x is e))
 
   -- what MSRP sends says nothing to it
-  other_sent : (at : ℕ) (o : Option (List ℕ)) (s : NodeState) → IsProperNode s → KeepsLink vlan_view at s (sent_octets Msrp at o s).0
+  other_sent : (at : ℕ) (o : Option (List ℕ)) (s : NodeState) → IsProperNode s → KeepsLink vlan_view at s (sent_octets Msrp at o s).0 (both_said false (is_leave_all_at Msrp at s) (sent_octets Msrp at o s).1)
   other_sent at None s proper = still vlan_view links at s
-  other_sent at (Some os) s proper = λ x y z far_in far_out old new met.
+  other_sent at (Some os) s proper = λ x y z far_in far_out marks old new met.
       let below = slice_get_within s.vlans.parts at x old in
       let there = outbox_there s proper at below in
       let wire : Wire = record { app = Msrp; octets = os } in
-      unheard vlan_view links at s (sent_octets Msrp at (Some os) s).0 refl refl wire refl (box_got s.outboxes at there.0 (box_at at s.outboxes ++ (wire ∷ [])) there.1)
-      x y z far_in far_out old new met
+      unheard vlan_view links at s (sent_octets Msrp at (Some os) s).0 refl refl wire refl refl (box_got s.outboxes at there.0 (box_at at s.outboxes ++ (wire ∷ [])) there.1)
+      x y z far_in far_out marks old new met
 
-  step_kept : (step : PortStep) (at : ℕ) (s : NodeState) → IsProperNode s → KeepsLink vlan_view at s (port_step step at s).0
+  step_kept : (step : PortStep) (at : ℕ) (s : NodeState) → IsProperNode s → KeepsLink vlan_view at s (port_step step at s).0 (both_stepped Mvrp step at s (port_step step at s).1)
   step_kept Work at s proper = work_kept at (box_at at s.inboxes) s refl
   step_kept (LeaveNow (Vlan vid)) at s proper = call_kept at s (port_step (LeaveNow (Vlan vid)) at s).0 (left_state nat_cmp vid) (leaves vlan_view links vid) (left_is at vid s.vlans) refl refl
   step_kept (LeaveNow (Srp key)) at s proper = none_kept at s (port_step (LeaveNow (Srp key)) at s).0 refl refl refl
@@ -284,7 +301,6 @@ module _ (laws : VlanLaws) where
   pub vlan_facts : StepFacts vlan_view
   vlan_facts =
       record {
-        app = Mvrp;
         there = λ at s proper below. within s.vlans.parts at below;
         others_say = λ wire ne. silent_app wire.app wire.octets ne;
         boxes = λ k s ins outs. refl;

@@ -1,7 +1,7 @@
 -- What is on each link, as messages: the octets in flight read as what they say, so that the duty of a link's two ends
 -- (mrp_participant) speaks of the network. It is said of any application, by the order of its keys, its participant at a place
 -- of a node, and what a PDU says in it.
-use Rattle.std.specs.Prelude.{◌≡◌, ℕ, List, ◌++◌, filter_map, Option, Some, None, option_map, Result, Ok, Err, slice_get}
+use Rattle.std.specs.Prelude.{◌≡◌, ℕ, true, List, ◌++◌, filter_map, Option, Some, None, option_map, Result, Ok, Err, slice_get}
 use Rattle.std.specs.declared.cmp.Ordering.{Ordering}
 use Rattle.std.specs.Option.{option_and_then}
 use Rattle.std.specs.Ordering.{nat_cmp}
@@ -17,12 +17,14 @@ use Rattle.msrp_codec.specs.declared.pdu.MsrpContent.{MsrpContent}
 use Rattle.msrp_codec.specs.declared.pdu.MsrpPdu.{MsrpPdu}
 use Rattle.msrp_codec.specs.Meaning.{msrp_reading}
 use Rattle.mrp_participant.specs.State.{State, Messages}
-use Rattle.mrp_participant.specs.Link.{Link, AreDutiesMet}
+use Rattle.mrp_participant.specs.MarkedLink.{Mark, MarkedLink, AreMarkedDutiesMet}
 use Rattle.mvrp.specs.Part.{Part, messages}
 use Rattle.attribute_propagation.specs.Ports.{place_of}
 use Rattle.msrp.specs.Part.{Part as StreamPart, key_cmp}
 use Rattle.node_core.specs.declared.types.Wire.{Wire}
 use Rattle.node_core.specs.State.{NodeState}
+use Rattle.world_core.specs.declared.marks.EndMark.{EndMark}
+use Rattle.world_core.specs.Marks.{BothMarks, mark_at, count_of}
 use Rattle.world_core.specs.World.{WorldState, node_at, inbox, outbox}
 
 -- the PDUs in flight from a port: those that came in at its peer, and then those that are to go out
@@ -35,24 +37,39 @@ in_flight p w = inbox (peer_of w.tree.links p) w ++ outbox p w
 abbrev pub part_at : {S : Type 0} → (ℕ → NodeState → Option S) → EgressPort → WorldState → Option S
 part_at part p w = option_and_then (λ s. part (place_of p.port) s) (node_at p.node w)
 
--- the link of a port with these participants at its ends
-abbrev pub link_of : {K C : Type 0} → (Wire → Option (Messages K C)) → EgressPort → WorldState
-    → State K C → State K C → Link K C
-link_of said p w near far =
+-- the marks of an end in an application, but for the number of PDUs
+abbrev pub flags_of : EndMark → Mark
+flags_of e = record { clear = e.clear; assured = e.assured }
+
+-- the link between two participants with these PDUs in flight, as messages, and the marks of both ends
+abbrev pub marked_link : {K C : Type 0} → (Wire → Option (Messages K C)) → State K C → State K C → (sent coming : List Wire)
+    → BothMarks → MarkedLink K C
+marked_link said near far sent coming marks =
     record {
-      near = near;
-      far = far;
-      sent = filter_map said (in_flight p w);
-      coming = filter_map said (in_flight (peer_of w.tree.links p) w);
+      link = record { near = near; far = far; sent = filter_map said sent; coming = filter_map said coming };
+      near = flags_of marks.0;
+      far = flags_of marks.1;
     }
 
--- on every link both ends meet their duty in an application
+-- what a link keeps in an application: both ends meet their duty, where a port is sound also by its mark; the marks count the
+-- PDUs in flight from each end; and where a way is clear, nothing is in flight from its end, malformed PDUs included, and its
+-- neighbour holds nothing of any key
+pub record IsLinkMet {K C : Type 0} (cmp : K → K → Ordering) (said : Wire → Option (Messages K C)) (app : App)
+    (near far : State K C) (sent coming : List Wire) (marks : BothMarks) : Type 0 where
+  pub duties : AreMarkedDutiesMet cmp (marked_link said near far sent coming marks)
+  pub near_flying : marks.0.flying ≡ count_of app sent
+  pub far_flying : marks.1.flying ≡ count_of app coming
+  pub near_clear : marks.0.clear ≡ true → marks.0.flying ≡ 0
+  pub far_clear : marks.1.clear ≡ true → marks.1.flying ≡ 0
+
+-- every link keeps it in an application
 abbrev pub AreDutiesMetIn : {K C : Type 0} → (K → K → Ordering) → (ℕ → NodeState → Option (State K C))
-    → (Wire → Option (Messages K C)) → WorldState → Type 0
-AreDutiesMetIn {K = K} {C = C} cmp part said w =
+    → (Wire → Option (Messages K C)) → App → WorldState → Type 0
+AreDutiesMetIn {K = K} {C = C} cmp part said app w =
     (p : EgressPort) → HasPort w.tree p → (near far : State K C)
     → part_at part p w ≡ Some near → part_at part (peer_of w.tree.links p) w ≡ Some far
-    → AreDutiesMet cmp (link_of said p w near far)
+    → IsLinkMet cmp said app near far (in_flight p w) (in_flight (peer_of w.tree.links p) w)
+    (mark_at app p w.marks, mark_at app (peer_of w.tree.links p) w.marks)
 
 -- ---- of MVRP
 
@@ -84,7 +101,7 @@ vlan_part p w = part_at vlan_place p w
 
 -- on every link both ends meet their duty in MVRP
 abbrev pub AreVlanDutiesMet : WorldState → Type 0
-AreVlanDutiesMet w = AreDutiesMetIn nat_cmp vlan_place message_of w
+AreVlanDutiesMet w = AreDutiesMetIn nat_cmp vlan_place message_of Mvrp w
 
 -- ---- of MSRP
 
@@ -112,4 +129,4 @@ stream_part p w = part_at stream_place p w
 
 -- on every link both ends meet their duty in MSRP
 abbrev pub AreStreamDutiesMet : WorldState → Type 0
-AreStreamDutiesMet w = AreDutiesMetIn key_cmp stream_place streams_said w
+AreStreamDutiesMet w = AreDutiesMetIn key_cmp stream_place streams_said Msrp w

@@ -6,6 +6,7 @@ use Rattle.tree_topology.specs.Ports.{neighbours}
 use Rattle.tree_topology.specs.declared.graph.NodeKind.TheVariants.{Bridge}
 use Rattle.node_core.specs.State.{NodeState, ports_of}
 use Rattle.node_core.specs.Proper.{IsProperNode}
+use Rattle.world_core.specs.Marks.{IsOfTree}
 use Rattle.world_core.specs.World.{WorldState}
 use Rattle.world_core.specs.Duty.{AreVlanDutiesMet, AreStreamDutiesMet}
 
@@ -29,13 +30,15 @@ IsIdleBridge s = s.kind ≡ Bridge → AsksNothing s
 abbrev pub AreBridgesIdle : WorldState → Type 0
 AreBridgesIdle w = AllByRecursion IsIdleBridge w.nodes
 
--- What every network keeps: a sound tree, the nodes of the tree, one clock, bridges that ask for nothing of their own, and
--- both duties of each link in MVRP and in MSRP.
+-- What every network keeps: a sound tree, the nodes of the tree, one clock, the marks of the tree's ports, bridges that ask for
+-- nothing of their own, and of each link, in MVRP and in MSRP, both duties and what its marks say.
 pub record IsKeptWorld (w : WorldState) : Type 0 where
   pub tree : IsSound w.tree
   pub many : length w.nodes ≡ length w.tree.kinds
   pub nodes : (x : ℕ) (s : NodeState) → slice_get w.nodes x ≡ Some s → FitsTree w.tree x s
   pub clock : (x y : ℕ) (s t : NodeState) → slice_get w.nodes x ≡ Some s → slice_get w.nodes y ≡ Some t → s.clock ≡ t.clock
+  pub marks_of : w.marks.tree ≡ w.tree
+  pub marks : IsOfTree w.marks
   pub idle : AreBridgesIdle w
   pub duties : AreVlanDutiesMet w
   pub streams : AreStreamDutiesMet w

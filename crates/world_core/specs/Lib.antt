@@ -1,5 +1,7 @@
 pub mod Start
+pub mod Marks
 pub mod World
+pub mod Marking
 pub mod Duty
 pub mod Kept
 pub mod Ticks

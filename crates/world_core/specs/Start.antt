@@ -6,6 +6,7 @@ use Rattle.topology_file.specs.declared.entries.LinkEntry.{LinkEntry}
 use Rattle.topology_file.specs.declared.entries.NodeEntry.{NodeEntry}
 use Rattle.topology_file.specs.Plan.{Plan}
 use Rattle.node_core.specs.State.{NodeState, new_node}
+use Rattle.world_core.specs.Marks.{new_marks}
 use Rattle.world_core.specs.World.{WorldState}
 
 -- the LeaveAll period of the end of a link with this number, in cs: the ends of link l have the numbers 2l - 1 and 2l, so
@@ -37,4 +38,4 @@ nodes_from plan x (n ∷ entries) =
 
 -- the network of a scenario at its start
 abbrev pub world_of : Plan → WorldState
-world_of plan = record { tree = plan.tree; nodes = nodes_from plan 1 plan.nodes }
+world_of plan = record { tree = plan.tree; nodes = nodes_from plan 1 plan.nodes; marks = new_marks plan.tree }

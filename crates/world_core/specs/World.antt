@@ -1,10 +1,11 @@
 -- A network as contracts see it, and one event of it: the network afterwards, and what it answers.
-use Rattle.std.specs.Prelude.{◌≡◌, ◌<◌, ◌≤◌, length, ◌^◌, ◌+◌, ◌-◌, ℕ, Bool, true, false, nat_le, List, [], ◌∷◌, map, fold, Option, Some, None, option_map, slice_get, slice_set}
+use Rattle.std.specs.Prelude.{◌≡◌, ◌<◌, ◌≤◌, length, ◌^◌, ◌+◌, ◌-◌, ℕ, zero, suc, Bool, true, false, ◌&&◌, ◌||◌, nat_le, List, [], ◌∷◌, map, fold, Option, Some, None, option_map, slice_get, slice_set}
 use Rattle.std.specs.Option.{option_map_or}
 use Rattle.std.specs.List.{list_all}
 use Rattle.srp_base.specs.declared.numbers.NodeNo.{NodeNo}
 use Rattle.srp_base.specs.declared.numbers.EgressPort.{EgressPort}
 use Rattle.srp_base.specs.declared.mrp.App.{App}
+use Rattle.srp_base.specs.declared.mrp.App.TheVariants.{Mvrp, Msrp}
 use Rattle.tree_topology.specs.Topology.{Topology, HasPort}
 use Rattle.tree_topology.specs.Ports.{peer_of}
 use Rattle.tree_topology.specs.declared.graph.NodeKind.TheVariants.{Station}
@@ -16,7 +17,11 @@ use Rattle.node_core.specs.declared.types.NodeEvent.{NodeEvent}
 use Rattle.node_core.specs.declared.types.NodeEvent.TheVariants as node_events
 use Rattle.mrpdu_codec.specs.Octets.{AreOctets}
 use Rattle.node_core.specs.Wires.{IsShort}
-use Rattle.node_core.specs.State.{NodeState, ports_of, box_at, is_still_node, are_all_sound}
+use Rattle.node_core.specs.declared.types.PortStep.{PortStep}
+use Rattle.node_core.specs.declared.types.PortStep.TheVariants.{Work, Send}
+use Rattle.node_core.specs.declared.types.StepReply.TheVariants.{Sent}
+use Rattle.node_core.specs.Leaving.{has_leave_all, is_leave_all_at}
+use Rattle.node_core.specs.State.{NodeState, ports_of, box_at, is_still_node, is_sound_at}
 use Rattle.node_core.specs.Step.{Stepped, node_step}
 use Rattle.node_core.specs.Proper.{AsksInRange}
 use Rattle.node_core.specs.Links.{with_outbox, with_carried, lost_at, repeated_at, forged_at, spoilt_at}
@@ -24,11 +29,13 @@ use Rattle.world_core.specs.declared.events.WorldEvent.{WorldEvent}
 use Rattle.world_core.specs.declared.events.WorldEvent.TheVariants.{Request, Port, Lose, Repeat, Forge, Carry, Clock}
 use Rattle.world_core.specs.declared.events.WorldReply.{WorldReply}
 use Rattle.world_core.specs.declared.events.WorldReply.TheVariants.{Step, Done, Missed}
+use Rattle.world_core.specs.Marks.{MarksState, mark_at, with_both, both_sent, both_took, both_lost, both_copied, both_forged}
 
--- a tree, and a state for each of its nodes in the order of their numbers
+-- a tree, a state for each of its nodes in the order of their numbers, and the marks of the ends of its links
 pub record WorldState : Type 0 where
   pub tree : Topology
   pub nodes : List NodeState
+  pub marks : MarksState
 
 -- the node of a number
 abbrev pub node_at : NodeNo → WorldState → Option NodeState
@@ -119,13 +126,60 @@ after_clock w = record w { nodes = map (λ s. (node_step node_events.Clock s).0)
 abbrev pub sets_of : List NodeState → List (Option (List (List MsrpKey)))
 sets_of nodes = map (λ s. next_sets (s.clock.0 + 1) s.streams) nodes
 
--- one event: the network afterwards, and the answer
+-- ---- the marks
+
+-- what happened, with other marks
+abbrev pub with_marks : MarksState → Happened → Happened
+with_marks m made = (record made.0 { marks = m }, made.1)
+
+-- whether the next PDU that an application sends at a port has LeaveAll
+abbrev pub has_leave_all_next : App → EgressPort → WorldState → Bool
+has_leave_all_next app p w = option_map_or (λ s. is_leave_all_at app (place_of p.port) s) (node_at p.node w) false
+
+-- the marks after a port has taken this PDU, if any: whether it has LeaveAll counts only where the way is clear
+abbrev pub marks_taking : EgressPort → Option Wire → MarksState → MarksState
+marks_taking p None m = m
+marks_taking p (Some wire) m = with_both wire.app p (both_took ((mark_at wire.app p m).clear && has_leave_all wire)) m
+
+-- after an application has sent a PDU at a port, as its answer says, or was silent
+abbrev pub marks_sending : EgressPort → App → (leave_all : Bool) → WorldReply → MarksState → MarksState
+marks_sending p app leave_all (Step (Sent octets)) m = with_both app p (both_sent leave_all) m
+marks_sending p app leave_all _ m = m
+
+-- after a step of a port with its answer
+abbrev pub marks_stepping : EgressPort → PortStep → WorldReply → WorldState → MarksState
+marks_stepping p Work reply w = marks_taking p (slice_get (inbox p w) 0) w.marks
+marks_stepping p (Send app) reply w = marks_sending p app (has_leave_all_next app p w) reply w.marks
+marks_stepping p _ reply w = w.marks
+
+-- after a loss of a PDU of an application, a copy of it, and a forgery, where there was one
+abbrev pub marks_losing : EgressPort → Option App → MarksState → MarksState
+marks_losing p None m = m
+marks_losing p (Some app) m = with_both app p both_lost m
+
+abbrev pub marks_copying : EgressPort → Option App → MarksState → MarksState
+marks_copying p None m = m
+marks_copying p (Some app) m = with_both app p both_copied m
+
+abbrev pub marks_forging : EgressPort → App → Bool → MarksState → MarksState
+marks_forging p app false m = m
+marks_forging p app true m = with_both app p both_forged m
+
+-- a step of a port, and the marks after it
+abbrev pub after_port : EgressPort → PortStep → Happened → WorldState → Happened
+after_port p step made w = with_marks (marks_stepping p step made.1 w) made
+
+-- one event: the network afterwards, with its marks, and the answer
 abbrev pub world_step : WorldEvent → WorldState → Happened
 world_step (Request n request) w = step_of_node n (node_events.Request request) w
-world_step (Port n port step) w = step_of_node n (node_events.Port port step) w
-world_step (Lose p index) w = with_loss p index (app_of p index w) w
-world_step (Repeat p index) w = after_repeat p index (app_of p index w) w
-world_step (Forge p index wire) w = with_forgery p index wire (reaches p index w) w
+world_step (Port n port step) w =
+    after_port (record { node = n; port = port }) step (step_of_node n (node_events.Port port step) w) w
+world_step (Lose p index) w =
+    with_marks (marks_losing p (app_of p index w) w.marks) (with_loss p index (app_of p index w) w)
+world_step (Repeat p index) w =
+    with_marks (marks_copying p (app_of p index w) w.marks) (after_repeat p index (app_of p index w) w)
+world_step (Forge p index wire) w =
+    with_marks (marks_forging p wire.app (reaches p index w) w.marks) (with_forgery p index wire (reaches p index w) w)
 world_step (Carry p) w = (after_carrying p w, Done)
 world_step Clock w = (after_clock w, Done)
 
@@ -176,7 +230,24 @@ IsEventInRange Clock = Unit {0}
 abbrev pub is_quiet : WorldState → Bool
 is_quiet w = list_all is_still_node w.nodes
 
--- whether both applications of every port of the network are sound: each has sent a LeaveAll since one of its PDUs
--- was last lost or forged on its link, if one was
+-- whether an application at a port is sound: it has sent a LeaveAll since one of its PDUs was last lost or forged on the port's
+-- link, if one was; or since then it took its neighbour's LeaveAll while nothing was on the way to that neighbour and it hadn't
+-- said anything since
+abbrev pub is_sound_in : App → EgressPort → NodeState → MarksState → Bool
+is_sound_in app p s m = (mark_at app p m).assured || is_sound_at app (place_of p.port) s
+
+-- whether both are, at the ports of a node from one of its ports on, of which there are so many
+abbrev pub are_ports_sound : NodeNo → NodeState → MarksState → ℕ → ℕ → Bool
+are_ports_sound n s m from zero = true
+are_ports_sound n s m from (suc count) =
+    let p : EgressPort = record { node = n; port = record { 0 = from } } in
+    is_sound_in Mvrp p s m && is_sound_in Msrp p s m && are_ports_sound n s m (from + 1) count
+
+-- the same of these nodes, of which the first has this number
+abbrev pub are_nodes_sound : ℕ → List NodeState → MarksState → Bool
+are_nodes_sound x [] m = true
+are_nodes_sound x (s ∷ nodes) m = are_ports_sound (record { 0 = x }) s m 1 (ports_of s) && are_nodes_sound (x + 1) nodes m
+
+-- whether both applications of every port of the network are sound
 abbrev pub is_in_step : WorldState → Bool
-is_in_step w = list_all are_all_sound w.nodes
+is_in_step w = are_nodes_sound 1 w.nodes w.marks

@@ -10,6 +10,7 @@ ghost use Rattle.node_core.specs.State.{NodeState, box_at};
 ghost use Rattle.node_core.specs.Wires.{IsShort, AreShort};
 ghost use Rattle.node_core.specs.Step.{CanStep, node_step};
 ghost use Rattle.node_core.specs.Links.{with_outbox, with_carried, lost_at, repeated_at, forged_at, spoilt_at};
+ghost use Rattle.world_core.specs.Marks.{MarksState};
 ghost use Rattle.world_core.specs.World.{StandsAt, sets_of, nodes_with, step_of_node, app_of, reaches, with_unsound_ends, with_loss, after_repeat, with_forgery, world_step};
 
 use crate::events::{WorldEvent, WorldReply};
@@ -19,7 +20,7 @@ use srp_base::{App, EgressPort, NoMemory, NodeNo, Seq};
 use tree_topology::Tree;
 
 // The place of a node in a list of all.
-fn place(number: NodeNo) -> usize
+pub(crate) fn place(number: NodeNo) -> usize
     requires { 1 ≤ number.0 }
     ensures { result ≡ number.0 - 1 }
 {
@@ -36,9 +37,9 @@ pub(crate) fn make_step(
     requires few { number.0 ≤ length nodes.old.items }
     requires can { (s : NodeState) → slice_get nodes.old.items (number.0 - 1) ≡ Some s
         → CanStep event s }
-    ensures ok { IfOk result (λ reply. (tree : Topology)
-        → step_of_node number event (record { tree = tree; nodes = nodes.old.items })
-        ≡ (record { tree = tree; nodes = nodes.new.items }, reply)) }
+    ensures ok { IfOk result (λ reply. (tree : Topology) (m : MarksState)
+        → step_of_node number event (record { tree = tree; nodes = nodes.old.items; marks = m })
+        ≡ (record { tree = tree; nodes = nodes.new.items; marks = m }, reply)) }
     ensures err { OnErr result (nodes.new.items ≡ nodes.old.items) }
 {
     let reply = nodes[place(number)].step(event)?;
@@ -73,8 +74,8 @@ fn tick_each(nodes: &mut Vec<Node>, sets: Vec<ClockSets>)
 pub(crate) fn tick_all(nodes: &mut Vec<Node>) -> Result<WorldReply, NoMemory>
     requires { AllByRecursion (λ s. s.clock.0 < 2 ^ 61) nodes.old.items }
     ensures ok { IfOk result (λ reply. (tree : Topology)
-        → world_step WorldEvent.Clock (record { tree = tree; nodes = nodes.old.items })
-        ≡ (record { tree = tree; nodes = nodes.new.items }, reply)) }
+        (m : MarksState) → world_step WorldEvent.Clock (record { tree = tree; nodes = nodes.old.items; marks = m })
+        ≡ (record { tree = tree; nodes = nodes.new.items; marks = m }, reply)) }
     ensures err { OnErr result (nodes.new.items ≡ nodes.old.items) }
 {
     let sets = prepare_all(nodes)?;
@@ -83,10 +84,10 @@ pub(crate) fn tick_all(nodes: &mut Vec<Node>) -> Result<WorldReply, NoMemory>
 }
 
 // The application of the PDU of an index in a port's inbox.
-fn app_at(nodes: &Vec<Node>, at: EgressPort, index: u32) -> Option<App>
+pub(crate) fn app_at(nodes: &Vec<Node>, at: EgressPort, index: u32) -> Option<App>
     requires { StandsAt at nodes.now.items }
-    ensures { (tree : Topology) → result
-        ≡ app_of at index (record { tree = tree; nodes = nodes.now.items }) }
+    ensures { (tree : Topology) (m : MarksState) → result
+        ≡ app_of at index (record { tree = tree; nodes = nodes.now.items; marks = m }) }
 {
     nodes[place(at.node)].app_at(at.port, index)
 }
@@ -106,8 +107,8 @@ fn spoil_ends(tree: &Tree, nodes: &mut Vec<Node>, at: EgressPort, app: App)
     requires port { HasPort tree.now at }
     requires here { StandsAt at nodes.old.items }
     requires there { StandsAt (peer_of tree.now.links at) nodes.old.items }
-    ensures { with_unsound_ends app at (record { tree = tree.now; nodes = nodes.old.items })
-        ≡ record { tree = tree.now; nodes = nodes.new.items } }
+    ensures { (m : MarksState) → with_unsound_ends app at (record { tree = tree.now; nodes = nodes.old.items; marks = m })
+        ≡ record { tree = tree.now; nodes = nodes.new.items; marks = m } }
 {
     spoil(nodes, at, app);
     spoil(nodes, tree.peer(at), app);
@@ -130,9 +131,9 @@ pub(crate) fn lose(tree: &Tree, nodes: &mut Vec<Node>, at: EgressPort, index: u3
     requires port { HasPort tree.now at }
     requires here { StandsAt at nodes.old.items }
     requires there { StandsAt (peer_of tree.now.links at) nodes.old.items }
-    ensures { with_loss at index (app_of at index (record { tree = tree.now; nodes = nodes.old.items }))
-        (record { tree = tree.now; nodes = nodes.old.items })
-        ≡ (record { tree = tree.now; nodes = nodes.new.items }, result) }
+    ensures { (m : MarksState) → with_loss at index (app_of at index (record { tree = tree.now; nodes = nodes.old.items; marks = m }))
+        (record { tree = tree.now; nodes = nodes.old.items; marks = m })
+        ≡ (record { tree = tree.now; nodes = nodes.new.items; marks = m }, result) }
 {
     match app_at(nodes, at, index) {
         None => WorldReply::Missed,
@@ -165,9 +166,9 @@ pub(crate) fn repeat(
 ) -> Result<WorldReply, NoMemory>
     requires { StandsAt at nodes.old.items }
     ensures ok { IfOk result (λ reply. (tree : Topology)
-        → after_repeat at index (app_of at index (record { tree = tree; nodes = nodes.old.items }))
-        (record { tree = tree; nodes = nodes.old.items })
-        ≡ (record { tree = tree; nodes = nodes.new.items }, reply)) }
+        (m : MarksState) → after_repeat at index (app_of at index (record { tree = tree; nodes = nodes.old.items; marks = m }))
+        (record { tree = tree; nodes = nodes.old.items; marks = m })
+        ≡ (record { tree = tree; nodes = nodes.new.items; marks = m }, reply)) }
     ensures err { OnErr result (nodes.new.items ≡ nodes.old.items) }
 {
     match app_at(nodes, at, index) {
@@ -183,8 +184,8 @@ pub(crate) fn repeat(
 fn forge_at(nodes: &mut Vec<Node>, at: EgressPort, index: u32, wire: Wire) -> Result<bool, NoMemory>
     requires here { StandsAt at nodes.old.items }
     requires short { IsShort wire }
-    ensures done { IfOk result (λ done. (tree : Topology) → done
-        ≡ reaches at index (record { tree = tree; nodes = nodes.old.items })) }
+    ensures done { IfOk result (λ done. (tree : Topology) (m : MarksState) → done
+        ≡ reaches at index (record { tree = tree; nodes = nodes.old.items; marks = m })) }
     ensures after { IfOk result (λ done. nodes.new.items
         ≡ (if done
         then nodes_with at.node (forged_at (place_of at.port) index wire) nodes.old.items
@@ -210,9 +211,10 @@ pub(crate) fn forge(
     requires there { StandsAt (peer_of tree.now.links at) nodes.old.items }
     requires short { IsShort wire }
     ensures ok { IfOk result
-        (λ reply. world_step (WorldEvent.Forge at index wire)
-        (record { tree = tree.now; nodes = nodes.old.items })
-        ≡ (record { tree = tree.now; nodes = nodes.new.items }, reply)) }
+        (λ reply. (m : MarksState) → with_forgery at index wire
+        (reaches at index (record { tree = tree.now; nodes = nodes.old.items; marks = m }))
+        (record { tree = tree.now; nodes = nodes.old.items; marks = m })
+        ≡ (record { tree = tree.now; nodes = nodes.new.items; marks = m }, reply)) }
     ensures err { OnErr result (nodes.new.items ≡ nodes.old.items) }
 {
     let forged = wire.app;
@@ -275,9 +277,9 @@ pub(crate) fn carry(
     requires here { StandsAt at nodes.old.items }
     requires there { StandsAt (peer_of tree.now.links at) nodes.old.items }
     ensures ok { IfOk result
-        (λ reply. world_step (WorldEvent.Carry at)
-        (record { tree = tree.now; nodes = nodes.old.items })
-        ≡ (record { tree = tree.now; nodes = nodes.new.items }, reply)) }
+        (λ reply. (m : MarksState) → world_step (WorldEvent.Carry at)
+        (record { tree = tree.now; nodes = nodes.old.items; marks = m })
+        ≡ (record { tree = tree.now; nodes = nodes.new.items; marks = m }, reply)) }
     ensures err { OnErr result (nodes.new.items ≡ nodes.old.items) }
 {
     let wires = take(nodes, at);

@@ -29,7 +29,10 @@ ghost use Rattle.world_core.specs.Limits.{IsWithinLimits};
 ghost use Rattle.world_core.specs.Talks.{AreTalksOfPlan, HasOneTalker};
 
 use mrp_participant::duty_laws::spoiling_keeps_duties;
-use mrp_participant::link_laws::{a_new_link_meets_both_duties, every_event_keeps_both_duties};
+use mrp_participant::marked_link_laws::{
+    a_new_marked_link_meets_both_duties, every_event_keeps_marked_duties,
+    fewer_marks_keep_marked_duties,
+};
 use msrp::MsrpApp;
 use mvrp::MvrpApp;
 use node_core::laws::{
@@ -44,8 +47,8 @@ pub fn a_scenario_begins_well()
     ensures { (plan : Plan) → KeepsRules plan → IsKeptWorld (world_of plan) }
 {
     ports();
-    a_new_link_meets_both_duties::<MvrpApp>();
-    a_new_link_meets_both_duties::<MsrpApp>();
+    a_new_marked_link_meets_both_duties::<MvrpApp>();
+    a_new_marked_link_meets_both_duties::<MsrpApp>();
     a_new_node_is_proper();
 }
 
@@ -58,12 +61,14 @@ pub fn every_event_keeps_it()
         → IsKeptWorld (world_after es w) }
 {
     ports();
-    a_new_link_meets_both_duties::<MvrpApp>();
-    every_event_keeps_both_duties::<MvrpApp>();
+    a_new_marked_link_meets_both_duties::<MvrpApp>();
+    every_event_keeps_marked_duties::<MvrpApp>();
+    fewer_marks_keep_marked_duties::<MvrpApp>();
     spoiling_keeps_duties::<MvrpApp>();
     mvrp::laws::what_is_sent_is_read();
-    a_new_link_meets_both_duties::<MsrpApp>();
-    every_event_keeps_both_duties::<MsrpApp>();
+    a_new_marked_link_meets_both_duties::<MsrpApp>();
+    every_event_keeps_marked_duties::<MsrpApp>();
+    fewer_marks_keep_marked_duties::<MsrpApp>();
     spoiling_keeps_duties::<MsrpApp>();
     msrp::laws::what_is_sent_is_read();
     every_step_keeps_a_node_proper();

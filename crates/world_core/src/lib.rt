@@ -29,6 +29,8 @@ mod happen;
 mod history;
 mod journal;
 pub mod laws;
+mod marking;
+mod marks;
 mod merging;
 mod start;
 mod step;
@@ -38,6 +40,7 @@ mod world;
 
 pub use events::{WorldEvent, WorldReply};
 pub use history::History;
+pub use marks::Marks;
 pub use journal::{Journal, NodeSteps, Run, Tick};
 pub use step::RunErr;
 pub use world::World;

@@ -7,12 +7,13 @@ ghost use Rattle.node_core.specs.Proper.{AsksInRange};
 ghost use Rattle.world_core.specs.World.{CanHappen, IsEventInRange, CanAllHappen, world_step, world_after, replies_to};
 
 use crate::events::{WorldEvent, WorldReply};
-use crate::happen::{carry, forge, lose, make_step, repeat, tick_all};
+use crate::happen::{carry, make_step, tick_all};
 use crate::laws::every_event_keeps_it;
+use crate::marking::{marked_forgery, marked_loss, marked_repeat, marked_step};
 use crate::world::World;
 use mrpdu_codec::are_octets;
 use node_core::{AppRequest, NodeEvent, Wire};
-use srp_base::{NoMemory, Seq, Talker, Vid};
+use srp_base::{EgressPort, NoMemory, Seq, Talker, Vid};
 use std::alloc::Global;
 use tree_topology::laws::ports;
 
@@ -40,12 +41,21 @@ impl World {
                 make_step(&mut self.nodes, node, NodeEvent::Request(request))
             }
             WorldEvent::Port(node, port, step) => {
-                make_step(&mut self.nodes, node, NodeEvent::Port(port, step))
+                let at = EgressPort { node, port };
+                marked_step(&self.tree, &mut self.nodes, &mut self.marks, at, step)
             }
-            WorldEvent::Lose(at, index) => Ok(lose(&self.tree, &mut self.nodes, at, index)),
-            WorldEvent::Repeat(at, index) => repeat(&mut self.nodes, at, index),
+            WorldEvent::Lose(at, index) => Ok(marked_loss(
+                &self.tree,
+                &mut self.nodes,
+                &mut self.marks,
+                at,
+                index,
+            )),
+            WorldEvent::Repeat(at, index) => {
+                marked_repeat(&self.tree, &mut self.nodes, &mut self.marks, at, index)
+            }
             WorldEvent::Forge(at, index, wire) => {
-                forge(&self.tree, &mut self.nodes, at, index, wire)
+                marked_forgery(&self.tree, &mut self.nodes, &mut self.marks, at, index, wire)
             }
             WorldEvent::Carry(at) => carry(&self.tree, &mut self.nodes, at),
             WorldEvent::Clock => tick_all(&mut self.nodes),

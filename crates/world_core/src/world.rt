@@ -7,6 +7,8 @@ ghost use Rattle.world_core.specs.Start.{world_of};
 ghost use Rattle.world_core.specs.Kept.{IsKeptWorld};
 
 use crate::laws::a_scenario_begins_well;
+use crate::marking::are_nodes_in_step;
+use crate::marks::Marks;
 use crate::start::new_nodes;
 use node_core::Node;
 use srp_base::{NoMemory, NodeNo};
@@ -20,6 +22,7 @@ use tree_topology::Tree;
 pub struct World {
     pub(crate) tree: Tree,
     pub(crate) nodes: Vec<Node>,
+    pub(crate) marks: Marks,
 }
 
 impl Model for World {
@@ -28,9 +31,9 @@ impl Model for World {
 
     ghost Value = { WorldState };
 
-    ghost view = { λ w. record { tree = w.tree; nodes = w.nodes.items } };
+    ghost view = { λ w. record { tree = w.tree; nodes = w.nodes.items; marks = w.marks } };
 
-    ghost invariant = { λ w. IsKeptWorld (record { tree = w.tree; nodes = w.nodes.items }) };
+    ghost invariant = { λ w. IsKeptWorld (record { tree = w.tree; nodes = w.nodes.items; marks = w.marks }) };
 }
 
 impl World {
@@ -42,7 +45,8 @@ impl World {
         scenario.keeps_rules();
         let tree = scenario.tree.copy()?;
         let nodes = new_nodes(alloc, scenario)?;
-        Ok(World { tree, nodes })
+        let marks = Marks::of(alloc, &tree)?;
+        Ok(World { tree, nodes, marks })
     }
 
     /// What every network keeps, whatever has happened in it: the nodes of its tree, one clock, and on each link both duties
@@ -77,10 +81,11 @@ impl World {
     }
 
     /// Whether both applications of every port are sound: each has sent a LeaveAll since one of its PDUs was last lost or
-    /// forged on the port's link, if one was.
+    /// forged on the port's link, if one was; or since then it took its neighbour's LeaveAll while nothing was on the way to
+    /// that neighbour and it hadn't said anything since.
     pub fn in_step(&self) -> bool
         ensures { result ≡ is_in_step self.now }
     {
-        self.nodes.iter().all(|node| node.all_sound())
+        are_nodes_in_step(&self.nodes, self.tree.nodes(), &self.marks)
     }
 }

@@ -3,10 +3,10 @@ use Rattle.network_laws.proofs.laws.vlans_are_those_declared_behind.Goals as goa
 
 pub returns-clause-law : goal.returns-clause-law
 returns-clause-law c w kept rest =
-    vlans-match w kept rest (c.ports.ensures w.tree kept.tree) c.a_still_link_registers_what_is_declared.ensures.near
+    vlans-match w kept rest (c.ports.ensures w.tree kept.tree) c.a_still_marked_link_registers_what_is_declared.ensures.near
     (λ p y h n. c.the_walk.ensures.behind w.tree p y kept.tree h n)
 
 pub returns-clause-sides : goal.returns-clause-sides
 returns-clause-sides c w p vid kept rest h =
-    sides-are-one w kept rest (c.ports.ensures w.tree kept.tree) c.a_still_link_registers_what_is_declared.ensures.near
+    sides-are-one w kept rest (c.ports.ensures w.tree kept.tree) c.a_still_marked_link_registers_what_is_declared.ensures.near
     (λ p y h n. c.the_walk.ensures.behind w.tree p y kept.tree h n) p vid h

@@ -6,6 +6,6 @@ pub app_at-requires : goal.app_at-requires
 app_at-requires c = port_there c.args.at c.args.nodes.now.items c.place.result c.index.result.now c.requires c.place.ensures c.index.ensures
 
 pub returns : goal.returns
-returns c = λ tree.
-    c.app_at.ensures ∙ app_is c.args.at c.args.index tree c.args.nodes.now.items c.index.result.now
+returns c = λ tree marks.
+    c.app_at.ensures ∙ app_is c.args.at c.args.index tree marks c.args.nodes.now.items c.index.result.now
     (get_there c.args.at c.args.nodes.now.items c.place.result c.index.result.now c.requires c.place.ensures c.index.ensures)

@@ -7,9 +7,9 @@ use Rattle.world_core.proofs.Happenings.{carry_nothing, empty_there, put_back_is
 use Rattle.world_core.proofs.happen.carry.Goals as goal
 
 pub returns-then-is_empty-clause-ok : goal.returns-then-is_empty-clause-ok
-returns-then-is_empty-clause-ok c =
+returns-then-is_empty-clause-ok c = λ marks.
     ap (λ w. (w, Done))
-    (carry_nothing c.args.at c.args.tree.now c.args.nodes.now.items c.take-wires.new.nodes.items c.take-wires.result c.take-wires.ensures.taken (c.if-is_empty.ensures.0 refl)
+    (carry_nothing c.args.at c.args.tree.now marks c.args.nodes.now.items c.take-wires.new.nodes.items c.take-wires.result c.take-wires.ensures.taken (c.if-is_empty.ensures.0 refl)
     c.take-wires.ensures.after)
 
 pub put_back-requires-clause-empty : goal.put_back-requires-clause-empty

@@ -8,9 +8,9 @@ pub forge-requires-clause-port : goal.forge-requires-clause-port
 forge-requires-clause-port c = port_there c.args.at c.args.nodes.now.items c.place.result c.index_mut.result.now c.requires.here c.place.ensures c.index_mut.ensures.value
 
 pub returns-clause-done : goal.returns-clause-done
-returns-clause-done c = λ tree.
+returns-clause-done c = λ tree marks.
     c.in_ok-done.ensures.done
-    ∙ reaches_is c.args.at c.args.index tree c.args.nodes.now.items c.index_mut.result.now
+    ∙ reaches_is c.args.at c.args.index tree marks c.args.nodes.now.items c.index_mut.result.now
     (get_there c.args.at c.args.nodes.now.items c.place.result c.index_mut.result.now c.requires.here c.place.ensures c.index_mut.ensures.value)
 
 pub returns-clause-after : goal.returns-clause-after

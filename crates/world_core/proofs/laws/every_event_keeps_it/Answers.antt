@@ -8,8 +8,9 @@ use Rattle.world_core.proofs.laws.every_event_keeps_it.Goals.{After-steps_keep_w
 vlans : After-steps_keep_what_a_node_is → VlanLaws
 vlans c =
     record {
-      event = c.every_event_keeps_both_duties.ensures.event;
-      turns = c.a_new_link_meets_both_duties.ensures.turned;
+      event = c.every_event_keeps_marked_duties.ensures.event;
+      turns = c.a_new_marked_link_meets_both_duties.ensures.turned;
+      fewer = c.fewer_marks_keep_marked_duties.ensures;
       unsound = c.spoiling_keeps_duties.ensures.own;
       written = c.what_is_sent_is_read.ensures;
     }
@@ -17,8 +18,9 @@ vlans c =
 streams : After-steps_keep_what_a_node_is → StreamLaws
 streams c =
     record {
-      event = c.every_event_keeps_both_duties-2.ensures.event;
-      turns = c.a_new_link_meets_both_duties-2.ensures.turned;
+      event = c.every_event_keeps_marked_duties-2.ensures.event;
+      turns = c.a_new_marked_link_meets_both_duties-2.ensures.turned;
+      fewer = c.fewer_marks_keep_marked_duties-2.ensures;
       unsound = c.spoiling_keeps_duties-2.ensures.own;
       written = c.what_is_sent_is_read-2.ensures.written;
       each_key = c.what_is_sent_is_read-2.ensures.each_key;

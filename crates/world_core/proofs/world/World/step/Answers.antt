@@ -6,64 +6,44 @@ use Rattle.world_core.proofs.Standing.{stands, peer_stands, each_node, can_as, a
 use Rattle.world_core.proofs.world.World.step.Goals as goal
 
 pub make_step-requires-clause-some : goal.make_step-requires-clause-some
-make_step-requires-clause-some c = (can_as c.args.event (Request c.in-Request.node c.in-Request.request) c.args.self.now (record { tree = c.self.inside.tree; nodes = c.self.inside.nodes.items }) c.in-Request.is (sym c.self.view_is) c.requires).0
+make_step-requires-clause-some c = (can_as c.args.event (Request c.in-Request.node c.in-Request.request) c.args.self.now (record { tree = c.self.inside.tree; nodes = c.self.inside.nodes.items; marks = c.self.inside.marks }) c.in-Request.is (sym c.self.view_is) c.requires).0
 
 pub make_step-requires-clause-few : goal.make_step-requires-clause-few
 make_step-requires-clause-few c =
-    asked_there c.in-Request.node c.in-Request.request (record { tree = c.self.inside.tree; nodes = c.self.inside.nodes.items })
-    (can_as c.args.event (Request c.in-Request.node c.in-Request.request) c.args.self.now (record { tree = c.self.inside.tree; nodes = c.self.inside.nodes.items }) c.in-Request.is (sym c.self.view_is) c.requires)
-
-pub make_step-requires-in-Port-clause-can : goal.make_step-requires-in-Port-clause-can
-make_step-requires-in-Port-clause-can c =
-    (stands (record { tree = c.self.inside.tree; nodes = c.self.inside.nodes.items }) c.self.invariant (record { node = c.in-Port.node; port = c.in-Port.port })
-    (can_as c.args.event (Port c.in-Port.node c.in-Port.port c.in-Port.step) c.args.self.now (record { tree = c.self.inside.tree; nodes = c.self.inside.nodes.items }) c.in-Port.is (sym c.self.view_is) c.requires)).port
-
-pub lose-requires-clause-here : goal.lose-requires-clause-here
-lose-requires-clause-here c = stands (record { tree = c.self.inside.tree; nodes = c.self.inside.nodes.items }) c.self.invariant c.in-Lose.at (can_as c.args.event (Lose c.in-Lose.at c.in-Lose.index) c.args.self.now (record { tree = c.self.inside.tree; nodes = c.self.inside.nodes.items }) c.in-Lose.is (sym c.self.view_is) c.requires)
-
-pub lose-requires-clause-there : goal.lose-requires-clause-there
-lose-requires-clause-there c = peer_stands (record { tree = c.self.inside.tree; nodes = c.self.inside.nodes.items }) c.self.invariant (c.ports.ensures c.self.inside.tree c.self.invariant.tree) c.in-Lose.at (can_as c.args.event (Lose c.in-Lose.at c.in-Lose.index) c.args.self.now (record { tree = c.self.inside.tree; nodes = c.self.inside.nodes.items }) c.in-Lose.is (sym c.self.view_is) c.requires)
-
-pub forge-requires-clause-here : goal.forge-requires-clause-here
-forge-requires-clause-here c = stands (record { tree = c.self.inside.tree; nodes = c.self.inside.nodes.items }) c.self.invariant c.in-Forge.at (can_as c.args.event (Forge c.in-Forge.at c.in-Forge.index c.in-Forge.wire) c.args.self.now (record { tree = c.self.inside.tree; nodes = c.self.inside.nodes.items }) c.in-Forge.is (sym c.self.view_is) c.requires).0
-
-pub forge-requires-clause-there : goal.forge-requires-clause-there
-forge-requires-clause-there c = peer_stands (record { tree = c.self.inside.tree; nodes = c.self.inside.nodes.items }) c.self.invariant (c.ports.ensures c.self.inside.tree c.self.invariant.tree) c.in-Forge.at (can_as c.args.event (Forge c.in-Forge.at c.in-Forge.index c.in-Forge.wire) c.args.self.now (record { tree = c.self.inside.tree; nodes = c.self.inside.nodes.items }) c.in-Forge.is (sym c.self.view_is) c.requires).0
+    asked_there c.in-Request.node c.in-Request.request (record { tree = c.self.inside.tree; nodes = c.self.inside.nodes.items; marks = c.self.inside.marks })
+    (can_as c.args.event (Request c.in-Request.node c.in-Request.request) c.args.self.now (record { tree = c.self.inside.tree; nodes = c.self.inside.nodes.items; marks = c.self.inside.marks }) c.in-Request.is (sym c.self.view_is) c.requires)
 
 pub carry-requires-clause-here : goal.carry-requires-clause-here
-carry-requires-clause-here c = stands (record { tree = c.self.inside.tree; nodes = c.self.inside.nodes.items }) c.self.invariant c.in-Carry.at (can_as c.args.event (Carry c.in-Carry.at) c.args.self.now (record { tree = c.self.inside.tree; nodes = c.self.inside.nodes.items }) c.in-Carry.is (sym c.self.view_is) c.requires)
+carry-requires-clause-here c = stands (record { tree = c.self.inside.tree; nodes = c.self.inside.nodes.items; marks = c.self.inside.marks }) c.self.invariant c.in-Carry.at (can_as c.args.event (Carry c.in-Carry.at) c.args.self.now (record { tree = c.self.inside.tree; nodes = c.self.inside.nodes.items; marks = c.self.inside.marks }) c.in-Carry.is (sym c.self.view_is) c.requires)
 
 pub carry-requires-clause-there : goal.carry-requires-clause-there
-carry-requires-clause-there c = peer_stands (record { tree = c.self.inside.tree; nodes = c.self.inside.nodes.items }) c.self.invariant (c.ports.ensures c.self.inside.tree c.self.invariant.tree) c.in-Carry.at (can_as c.args.event (Carry c.in-Carry.at) c.args.self.now (record { tree = c.self.inside.tree; nodes = c.self.inside.nodes.items }) c.in-Carry.is (sym c.self.view_is) c.requires)
-
-pub repeat-requires : goal.repeat-requires
-repeat-requires c = stands (record { tree = c.self.inside.tree; nodes = c.self.inside.nodes.items }) c.self.invariant c.in-Repeat.at (can_as c.args.event (Repeat c.in-Repeat.at c.in-Repeat.index) c.args.self.now (record { tree = c.self.inside.tree; nodes = c.self.inside.nodes.items }) c.in-Repeat.is (sym c.self.view_is) c.requires)
+carry-requires-clause-there c = peer_stands (record { tree = c.self.inside.tree; nodes = c.self.inside.nodes.items; marks = c.self.inside.marks }) c.self.invariant (c.ports.ensures c.self.inside.tree c.self.invariant.tree) c.in-Carry.at (can_as c.args.event (Carry c.in-Carry.at) c.args.self.now (record { tree = c.self.inside.tree; nodes = c.self.inside.nodes.items; marks = c.self.inside.marks }) c.in-Carry.is (sym c.self.view_is) c.requires)
 
 pub tick_all-requires : goal.tick_all-requires
-tick_all-requires c = each_node _ c.self.inside.nodes.items (can_as c.args.event (Clock) c.args.self.now (record { tree = c.self.inside.tree; nodes = c.self.inside.nodes.items }) c.in-Clock.is (sym c.self.view_is) c.requires)
+tick_all-requires c = each_node _ c.self.inside.nodes.items (can_as c.args.event (Clock) c.args.self.now (record { tree = c.self.inside.tree; nodes = c.self.inside.nodes.items; marks = c.self.inside.marks }) c.in-Clock.is (sym c.self.view_is) c.requires)
 
 pub invariant_of-self-in-Carry : goal.invariant_of-self-in-Carry
 invariant_of-self-in-Carry c =
-    kept_either c.carry.result (world_step (Carry c.in-Carry.at) (record { tree = c.self.inside.tree; nodes = c.self.inside.nodes.items })) c.self.inside.tree c.self.inside.nodes.items c.carry.new.nodes.items
-    c.carry.ensures.ok c.carry.ensures.err
-    (c.every_event_keeps_it.ensures.event (Carry c.in-Carry.at) (record { tree = c.self.inside.tree; nodes = c.self.inside.nodes.items })
-    (can_as c.args.event (Carry c.in-Carry.at) c.args.self.now (record { tree = c.self.inside.tree; nodes = c.self.inside.nodes.items }) c.in-Carry.is (sym c.self.view_is) c.requires) tt c.self.invariant)
+    kept_either c.carry.result (world_step (Carry c.in-Carry.at) (record { tree = c.self.inside.tree; nodes = c.self.inside.nodes.items; marks = c.self.inside.marks })) c.self.inside.tree c.self.inside.marks c.self.inside.nodes.items c.carry.new.nodes.items
+    (if_ok c.carry.result _ _ (λ reply h. h c.self.inside.marks) c.carry.ensures.ok) c.carry.ensures.err
+    (c.every_event_keeps_it.ensures.event (Carry c.in-Carry.at) (record { tree = c.self.inside.tree; nodes = c.self.inside.nodes.items; marks = c.self.inside.marks })
+    (can_as c.args.event (Carry c.in-Carry.at) c.args.self.now (record { tree = c.self.inside.tree; nodes = c.self.inside.nodes.items; marks = c.self.inside.marks }) c.in-Carry.is (sym c.self.view_is) c.requires) tt c.self.invariant)
     c.self.invariant
 
 pub returns-in-Carry-clause-ok : goal.returns-in-Carry-clause-ok
 returns-in-Carry-clause-ok c =
     if_ok c.carry.result _ _
-    (λ reply h. ap (λ (e : WorldEvent). world_step e c.args.self.now) c.in-Carry.is ∙ (ap (world_step (Carry c.in-Carry.at)) (sym c.self.view_is) ∙ h)) c.carry.ensures.ok
+    (λ reply h. ap (λ (e : WorldEvent). world_step e c.args.self.now) c.in-Carry.is ∙ (ap (world_step (Carry c.in-Carry.at)) (sym c.self.view_is) ∙ h c.self.inside.marks)) c.carry.ensures.ok
 
 pub invariant_of-self-in-Clock : goal.invariant_of-self-in-Clock
 invariant_of-self-in-Clock c =
-    kept_either c.tick_all.result (world_step Clock (record { tree = c.self.inside.tree; nodes = c.self.inside.nodes.items })) c.self.inside.tree c.self.inside.nodes.items c.tick_all.new.nodes.items
-    (if_ok c.tick_all.result _ _ (λ reply h. h c.self.inside.tree) c.tick_all.ensures.ok) c.tick_all.ensures.err
-    (c.every_event_keeps_it.ensures.event Clock (record { tree = c.self.inside.tree; nodes = c.self.inside.nodes.items })
-    (can_as c.args.event Clock c.args.self.now (record { tree = c.self.inside.tree; nodes = c.self.inside.nodes.items }) c.in-Clock.is (sym c.self.view_is) c.requires) tt c.self.invariant)
+    kept_either c.tick_all.result (world_step Clock (record { tree = c.self.inside.tree; nodes = c.self.inside.nodes.items; marks = c.self.inside.marks })) c.self.inside.tree c.self.inside.marks c.self.inside.nodes.items c.tick_all.new.nodes.items
+    (if_ok c.tick_all.result _ _ (λ reply h. h c.self.inside.tree c.self.inside.marks) c.tick_all.ensures.ok) c.tick_all.ensures.err
+    (c.every_event_keeps_it.ensures.event Clock (record { tree = c.self.inside.tree; nodes = c.self.inside.nodes.items; marks = c.self.inside.marks })
+    (can_as c.args.event Clock c.args.self.now (record { tree = c.self.inside.tree; nodes = c.self.inside.nodes.items; marks = c.self.inside.marks }) c.in-Clock.is (sym c.self.view_is) c.requires) tt c.self.invariant)
     c.self.invariant
 
 pub returns-in-Clock-clause-ok : goal.returns-in-Clock-clause-ok
 returns-in-Clock-clause-ok c =
     if_ok c.tick_all.result _ _
-    (λ reply h. ap (λ (e : WorldEvent). world_step e c.args.self.now) c.in-Clock.is ∙ (ap (world_step Clock) (sym c.self.view_is) ∙ h c.self.inside.tree)) c.tick_all.ensures.ok
+    (λ reply h. ap (λ (e : WorldEvent). world_step e c.args.self.now) c.in-Clock.is ∙ (ap (world_step Clock) (sym c.self.view_is) ∙ h c.self.inside.tree c.self.inside.marks)) c.tick_all.ensures.ok

@@ -1,0 +1,160 @@
+//! Two stations on a link, after both PDUs by which one said what it declares were lost: the other's LeaveAll alone puts both in
+//! step, unless the first has said something before it takes it.
+
+use crate::vlans::{PAIR, S1, S2, carries, has_sides, makes, takes};
+use crate::world::{has_answers, has_node, world_of};
+use node_core::PortStep::{LeaveAllNow, Send, Settle, Work};
+use node_core::StepReply::{Fired, Received, Sent, Settled};
+use node_core::{AppRequest, Wire, wire_leaves};
+use srp_base::{App, EgressPort, PortNo, Seq, Vid};
+use std::alloc::Global;
+use world_core::WorldEvent::Lose;
+use world_core::WorldReply::Done;
+use world_core::{World, WorldEvent, WorldReply};
+
+// What comes in at station 2 is lost.
+fn loses() -> (WorldEvent, WorldReply) {
+    let at = EgressPort {
+        node: S2,
+        port: PortNo(1),
+    };
+    (Lose(at, 0), Done)
+}
+
+// Station 1 declares a VID, and both PDUs that say it are lost.
+fn losing(vid: Vid) -> [(WorldEvent, WorldReply); 8] {
+    [
+        takes(AppRequest::Declare(vid)),
+        makes(S1, Settle, Settled(1)),
+        makes(S1, Send(App::Mvrp), Sent(12)),
+        carries(S1),
+        loses(),
+        makes(S1, Send(App::Mvrp), Sent(12)),
+        carries(S1),
+        loses(),
+    ]
+}
+
+// Station 2 sends a LeaveAll.
+fn calling() -> [(WorldEvent, WorldReply); 2] {
+    [
+        makes(S2, LeaveAllNow(App::Mvrp), Fired(1)),
+        makes(S2, Send(App::Mvrp), Sent(11)),
+    ]
+}
+
+// Station 1 declares one more VID and says so.
+fn speaking(vid: Vid) -> [(WorldEvent, WorldReply); 3] {
+    [
+        takes(AppRequest::Declare(vid)),
+        makes(S1, Settle, Settled(1)),
+        makes(S1, Send(App::Mvrp), Sent(12)),
+    ]
+}
+
+// Station 1 says again what it declares, and station 2 takes it.
+fn saying() -> [(WorldEvent, WorldReply); 3] {
+    [
+        makes(S1, Send(App::Mvrp), Sent(12)),
+        carries(S1),
+        makes(S2, Work, Received(1)),
+    ]
+}
+
+// Whether one PDU waits at station 1.
+fn has_one_waiting(world: &World) -> bool {
+    if !has_node(world, S1) {
+        return false;
+    }
+    let node = world.node(S1);
+    if node.ports() == 0 {
+        return false;
+    }
+    match node.waiting(PortNo(1)) {
+        Ok(wires) => wires.len() == 1,
+        Err(_) => false,
+    }
+}
+
+// Whether the LeaveAll waits at station 1, and is taken.
+fn hears(world: &mut World) -> bool {
+    has_answers(world, [carries(S2)].as_slice())
+        && has_one_waiting(world)
+        && has_answers(world, [makes(S1, Work, Received(0))].as_slice())
+}
+
+// Whether neither is in step after the losses.
+fn is_out_of_step(world: &mut World, vid: Vid) -> bool {
+    has_answers(world, losing(vid).as_slice()) && !world.in_step()
+}
+
+// Whether both are in step once the LeaveAll is taken, and the VID is registered in the end.
+fn comes_in_step(world: &mut World, vid: Vid) -> bool {
+    is_out_of_step(world, vid)
+        && has_answers(world, calling().as_slice())
+        && hears(world)
+        && world.in_step()
+        && has_answers(world, saying().as_slice())
+        && has_answers(world, saying().as_slice())
+        && world.quiet()
+        && has_sides(world, S2, vid, true, true)
+}
+
+// Whether they aren't where station 1 has spoken before it takes it.
+fn stays_out_of_step(world: &mut World, vid: Vid, other: Vid) -> bool {
+    is_out_of_step(world, vid)
+        && has_answers(world, calling().as_slice())
+        && has_answers(world, speaking(other).as_slice())
+        && hears(world)
+        && !world.in_step()
+}
+
+fn new_one_comes_in_step(alloc: Global) -> bool {
+    let mut world = world_of(alloc, PAIR);
+    let shown = match (&mut world, Vid::new(7)) {
+        (Some(world), Some(vid)) => comes_in_step(world, vid),
+        _ => false,
+    };
+    drop(world);
+    shown
+}
+
+fn new_one_stays_out_of_step(alloc: Global) -> bool {
+    let mut world = world_of(alloc, PAIR);
+    let shown = match (&mut world, Vid::new(7), Vid::new(8)) {
+        (Some(world), Some(vid), Some(other)) => stays_out_of_step(world, vid, other),
+        _ => false,
+    };
+    drop(world);
+    shown
+}
+
+// Whether a PDU of MVRP with these octets has LeaveAll.
+fn leaves(alloc: Global, octets: &[u8]) -> Option<bool> {
+    if octets.len() > 1_500 {
+        return None;
+    }
+    let octets = Seq::from_vec(Vec::from_slice(alloc, octets).ok()?);
+    let wire = Wire {
+        app: App::Mvrp,
+        octets,
+    };
+    wire_leaves(alloc, &wire).ok()
+}
+
+#[test]
+fn a_neighbours_leave_all_alone_puts_both_ends_in_step(rt: HostRuntime) {
+    assert!(rt; new_one_comes_in_step(rt.alloc()));
+}
+
+#[test]
+fn what_was_said_before_a_leave_all_is_taken_keeps_an_end_out_of_step(rt: HostRuntime) {
+    assert!(rt; new_one_stays_out_of_step(rt.alloc()));
+}
+
+#[test]
+fn a_pdu_has_leave_all_where_its_octets_say_so(rt: HostRuntime) {
+    let with = leaves(rt.alloc(), &[0, 1, 2, 0x20, 0, 0, 0, 0, 0, 0, 0]);
+    let without = leaves(rt.alloc(), &[0, 1, 2, 0, 1, 0, 2, 0x6c, 0, 0, 0, 0]);
+    assert!(rt; with == Some(true) && without == Some(false));
+}
