@@ -16,6 +16,7 @@ ghost use Rattle.scenario_bounds.specs.PortBounds.{IsWithinBoundB};
 
 use class_b_bound::laws::{
     an_input_has_one_worst_wait, class_b_waits_stay_within, class_b_windows_stay_within,
+    the_longest_wait_is_that_of_a_frame,
 };
 use scenario_frames::laws::every_input_keeps_its_caps;
 
@@ -40,4 +41,5 @@ pub fn class_b_stays_within_at_every_port()
     class_b_windows_stay_within();
     class_b_waits_stay_within();
     an_input_has_one_worst_wait();
+    the_longest_wait_is_that_of_a_frame();
 }

@@ -19,5 +19,6 @@ returns c plan changes flows rules order rates keeps is =
       caps = has;
       windows = λ from to up. c.class_b_windows_stay_within.ensures.bound x.input a ab from to has up;
       longest = longest;
+      frame = c.the_longest_wait_is_that_of_a_frame.ensures x.input has.valid;
       wait = c.class_b_waits_stay_within.ensures.bound x.input a ab (worst_wait_of x.input) has longest.there;
     }
