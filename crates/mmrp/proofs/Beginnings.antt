@@ -1,0 +1,185 @@
+-- The network of a file keeps what every network keeps, at its start.
+use Rattle.std.proofs.Common.{◌≡◌, ℕ, zero, suc, ◌+◌, ◌-◌, ◌*◌, Bool, true, false, if◌then◌else◌, List, [], ◌∷◌, ◌++◌, length, map, refl, sym, ap, subst, ◌∙◌, arith}
+use Rattle.std.specs.Prelude.{slice_get, Some, None, ◌==◌}
+use Rattle.std.specs.List.{AllByRecursion, cons_option}
+use Rattle.std.specs.Ordering.{nat_cmp}
+use Rattle.std.proofs.lemmas.List.{length-map}
+use Rattle.srp_base.specs.declared.numbers.Cs.{Cs}
+use Rattle.srp_base.specs.declared.numbers.EgressPort.{EgressPort}
+use Rattle.srp_base.specs.declared.ports.PortSetup.{PortSetup}
+use Rattle.tree_topology.specs.Topology.{Topology, HasPort, IsSound}
+use Rattle.tree_topology.specs.Ports.{peer_of, far_end, neighbours}
+use Rattle.tree_topology.specs.PortLaws.{HasPortLaws}
+use Rattle.topology_file.specs.declared.entries.NodeEntry.{NodeEntry}
+use Rattle.topology_file.specs.declared.entries.LinkEntry.{LinkEntry}
+use Rattle.topology_file.specs.Network.{KeepsNetworkRules}
+use Rattle.topology_file.specs.Scenario.{tree_links, ends_of_entry}
+use Rattle.mrp_participant.specs.State.{IsTime, new_state}
+use Rattle.mrp_participant.specs.Link.{AreDutiesMet, new_link}
+use Rattle.attribute_propagation.specs.Ports.{place_of}
+use Rattle.flat_side.specs.Side.{new_flat}
+use Rattle.mmrp.specs.Macs.{Part, IsProper}
+use Rattle.mmrp.specs.Node.{NodeGroups, IsProperNode, box_at, new_node, ports_of}
+use Rattle.mmrp.specs.Start.{period_of, setup_of, end_setup, setups_from, nodes_from, net_of}
+use Rattle.mmrp.specs.Net.{NetGroups, inbox, outbox}
+use Rattle.mmrp.specs.Duty.{AreGroupDutiesMet, part_at, part_in}
+use Rattle.mmrp.specs.Kept.{IsKeptNet}
+use Rattle.mmrp.proofs.Boxes.{IsShortPdu, each_new}
+use Rattle.mmrp.proofs.Nodes.{Base, node_there, part_is, inbox_is, outbox_is}
+use Rattle.mmrp.proofs.Views.{met_same}
+
+-- a port for each link of the node
+one_end : (n x : ℕ) (l : LinkEntry) (rest : List PortSetup) (others : List ℕ) → length rest ≡ length others
+    → length (end_setup n x l ++ rest) ≡ length (cons_option (far_end x (ends_of_entry l)) others)
+one_end n x l rest others e = by (l.a.0 == x) (l.b.0 == x)
+  where
+    by : (a b : Bool)
+        → length ((if a then setup_of (2 * n - 1) l ∷ [] else if b then setup_of (2 * n) l ∷ [] else []) ++ rest)
+        ≡ length (cons_option (if a then Some l.b.0 else (if b then Some l.a.0 else None)) others)
+    by true b = ap suc e
+    by false true = ap suc e
+    by false false = e
+
+pub ports_length : (n x : ℕ) (links : List LinkEntry) → length (setups_from n x links) ≡ length (neighbours (tree_links links) x)
+ports_length n x [] = refl
+ports_length n x (l ∷ links) = one_end n x l (setups_from (n + 1) x links) (neighbours (tree_links links) x) (ports_length (n + 1) x links)
+
+module _ (leave_time : Cs) (periodic : Bool) (links : List LinkEntry) where
+  -- the node at a place is a new one
+  record IsNewNode (first x : ℕ) (s : NodeGroups) : Type 0 where
+    number : ℕ
+    number_is : number ≡ first + x
+    is : s ≡ new_node leave_time periodic (setups_from 1 number links)
+
+  new_at : (entries : List NodeEntry) (first x : ℕ) (s : NodeGroups) → slice_get (nodes_from leave_time periodic links first entries) x ≡ Some s → IsNewNode first x s
+  new_at [] first x s get = cc
+  new_at (n ∷ entries) first zero s get = record { number = first; number_is = omega arith; is = cc }
+  new_at (n ∷ entries) first (suc x) s get =
+      let later = new_at entries (first + 1) x s get in
+      let place = later.number_is in
+      record { number = later.number; number_is = omega (arith, place); is = later.is }
+
+  nodes_length : (first : ℕ) (entries : List NodeEntry) → length (nodes_from leave_time periodic links first entries) ≡ length entries
+  nodes_length first [] = refl
+  nodes_length first (n ∷ entries) = ap suc (nodes_length (first + 1) entries)
+
+-- a new participant, with nothing in its boxes
+no_pdus : (ports : List PortSetup) (at : ℕ) → box_at at (map (λ _. []) ports) ≡ []
+no_pdus [] at = refl
+no_pdus (p ∷ ports) zero = refl
+no_pdus (p ∷ ports) (suc at) = no_pdus ports at
+
+new_part : (leave_time : Cs) (periodic : Bool) (ports : List PortSetup) (at : ℕ) (x : Part) → slice_get (map (λ p. new_state p.period leave_time periodic) ports) at ≡ Some x
+    → (period : Cs) × (x ≡ new_state period leave_time periodic)
+new_part leave_time periodic [] at x get = cc
+new_part leave_time periodic (p ∷ ports) zero x get = (p.period, cc)
+new_part leave_time periodic (p ∷ ports) (suc at) x get = new_part leave_time periodic ports at x get
+
+-- what the public law of a new side says
+abbrev pub NewSideLaw : Type 0
+NewSideLaw = (leave_time : Cs) (periodic : Bool) (ports : List PortSetup) → IsProper (new_flat leave_time periodic ports)
+
+pub new_proper : NewSideLaw → (leave_time : Cs) (periodic : Bool) (ports : List PortSetup) → IsProperNode (new_node leave_time periodic ports)
+new_proper law leave_time periodic ports =
+    let none : PortSetup → List (List ℕ) = λ p. [] in
+    let parts : length (map (λ (p : PortSetup). new_state {K = ℕ} {C = Unit {0}} p.period leave_time periodic) ports) ≡ length ports = length-map ports (λ (p : PortSetup). new_state p.period leave_time periodic) in
+    let boxes : length (map none ports) ≡ length ports = length-map ports none in
+    let side = law leave_time periodic ports in
+    record {
+      kept = record {
+        side = side.kept;
+        inboxes = boxes ∙ sym parts;
+        outboxes = boxes ∙ sym parts;
+        short_in = each_new IsShortPdu ports;
+        short_out = each_new IsShortPdu ports;
+      };
+      macs = side.keys;
+    }
+
+module _ (ticks : ℕ) (tree : Topology) (leave_time : Cs) (periodic : Bool) (nodes : List NodeEntry) (links : List LinkEntry) (rules : KeepsNetworkRules ticks leave_time.0 tree nodes links)
+    (laws : (t : Topology) → IsSound t → HasPortLaws t) (side : NewSideLaw) where
+  abbrev start : NetGroups
+  start = net_of tree leave_time periodic nodes links
+
+  sound : IsSound tree
+  sound = subst IsSound (sym rules.is_tree) rules.accepted
+
+  base : Base start
+  base =
+      record {
+        tree = sound;
+        many = nodes_length leave_time periodic links 1 nodes ∙ (sym (length-map nodes (λ (n : NodeEntry). n.kind)) ∙ ap (λ (t : Topology). length t.kinds) (sym rules.is_tree));
+        ports = λ x s get.
+            let new = new_at leave_time periodic links nodes 1 x s get in
+            let setups : List PortSetup = setups_from 1 new.number links in
+            let place : new.number ≡ x + 1 = (let is = new.number_is in omega (arith, is)) in
+            ap ports_of new.is
+            ∙ (length-map setups (λ (p : PortSetup). new_state p.period leave_time periodic)
+            ∙ (ports_length 1 new.number links ∙ (ap (λ (k : ℕ). length (neighbours (tree_links links) k)) place ∙ ap (λ (t : Topology). length (neighbours t.links (x + 1))) (sym rules.is_tree))));
+        proper = λ x s get.
+            let new = new_at leave_time periodic links nodes 1 x s get in
+            subst IsProperNode (sym new.is) (new_proper side leave_time periodic (setups_from 1 new.number links));
+      }
+
+  -- what is at a port at the start
+  record AtStart (p : EgressPort) (x : Part) : Type 0 where
+    period : Cs
+    part : x ≡ new_state period leave_time periodic
+    in_none : inbox p start ≡ []
+    out_none : outbox p start ≡ []
+
+  at_start : (p : EgressPort) → HasPort tree p → (x : Part) → part_at p start ≡ Some x → AtStart p x
+  at_start p has x get =
+      let node = node_there start base p has in
+      let s = node.0 in
+      let is = node.1 in
+      let new = new_at leave_time periodic links nodes 1 (p.node.0 - 1) s is in
+      let setups : List PortSetup = setups_from 1 new.number links in
+      let one = new_part leave_time periodic setups (place_of p.port) x
+      (ap (part_in (place_of p.port)) (sym new.is) ∙ (sym (part_is p start s is) ∙ get)) in
+      record {
+        period = one.0;
+        part = one.1;
+        in_none = inbox_is p start s is ∙ (ap (λ (r : NodeGroups). box_at (place_of p.port) r.inboxes) new.is ∙ no_pdus setups (place_of p.port));
+        out_none = outbox_is p start s is ∙ (ap (λ (r : NodeGroups). box_at (place_of p.port) r.outboxes) new.is ∙ no_pdus setups (place_of p.port));
+      }
+
+  met_start : ((near far : Cs × Cs × Bool) → AreDutiesMet nat_cmp (new_link {K = ℕ} {C = Unit {0}} near far)) → AreGroupDutiesMet start
+  met_start new_duties p has near far a b =
+      let q = peer_of tree.links p in
+      let ports = laws tree sound in
+      let here = at_start p has near a in
+      let far_start = at_start q (ports.peer_port p has) far b in
+      let back : inbox (peer_of tree.links q) start ≡ [] = ap (λ (r : EgressPort). inbox r start) (ports.peer_twice p has) ∙ here.in_none in
+      met_same (new_state here.period leave_time periodic) near (new_state far_start.period leave_time periodic) far
+      [] (inbox q start) [] (outbox p start) [] (inbox (peer_of tree.links q) start) [] (outbox q start)
+      (sym here.part) (sym far_start.part) (sym far_start.in_none) (sym here.out_none) (sym back) (sym far_start.out_none)
+      (new_duties (here.period, leave_time, periodic) (far_start.period, leave_time, periodic))
+
+  pub begins : ((near far : Cs × Cs × Bool) → AreDutiesMet nat_cmp (new_link {K = ℕ} {C = Unit {0}} near far)) → IsKeptNet start
+  begins new_duties =
+      record {
+        tree = base.tree;
+        many = base.many;
+        ports = base.ports;
+        proper = base.proper;
+        clock = omega arith;
+        idle = λ x s get bridge. ap (λ (r : NodeGroups). r.side.own) (new_at leave_time periodic links nodes 1 x s get).is;
+        duties = met_start new_duties;
+      }
+
+-- ---- what a new node asks of its ports
+
+-- a LeaveAll period is a time
+is_period : (n : ℕ) → IsTime (period_of n)
+is_period n = (omega arith, omega arith)
+
+pub have_periods : (n x : ℕ) (links : List LinkEntry) → AllByRecursion (λ p. IsTime p.period) (setups_from n x links)
+have_periods n x [] = tt
+have_periods n x (l ∷ links) = by (l.a.0 == x) (l.b.0 == x) (have_periods (n + 1) x links)
+  where
+    by : (a b : Bool) → AllByRecursion (λ (p : PortSetup). IsTime p.period) (setups_from (n + 1) x links)
+        → AllByRecursion (λ (p : PortSetup). IsTime p.period) ((if a then setup_of (2 * n - 1) l ∷ [] else if b then setup_of (2 * n) l ∷ [] else []) ++ setups_from (n + 1) x links)
+    by true b all = (is_period (2 * n - 1), all)
+    by false true all = (is_period (2 * n), all)
+    by false false all = all

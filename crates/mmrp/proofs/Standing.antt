@@ -1,0 +1,60 @@
+-- Where the ports of a network's tree stand among its nodes.
+use Rattle.std.proofs.Common.{◌≡◌, ◌-◌, List, sym, ap, subst, arith}
+use Rattle.std.specs.Prelude.{◌≤◌, length, Result, Ok, Err, IfOk, OnErr}
+use Rattle.std.proofs.lemmas.Option.{slice_get_within}
+use Rattle.srp_base.specs.declared.numbers.Cs.{Cs}
+use Rattle.srp_base.specs.declared.numbers.EgressPort.{EgressPort}
+use Rattle.srp_base.specs.declared.numbers.NodeNo.{NodeNo}
+use Rattle.tree_topology.specs.Topology.{Topology, HasPort}
+use Rattle.tree_topology.specs.Ports.{peer_of}
+use Rattle.tree_topology.specs.PortLaws.{HasPortLaws}
+use Rattle.mmrp.specs.declared.events.GroupEvent.{GroupEvent}
+use Rattle.mmrp.specs.declared.events.GroupReply.{GroupReply}
+use Rattle.mmrp.specs.Node.{NodeGroups}
+use Rattle.mmrp.specs.Net.{NetGroups, Happened, IsStation, StandsAt, CanHappen}
+use Rattle.mmrp.specs.Kept.{IsKeptNet}
+use Rattle.mmrp.proofs.Nodes.{node_there, place_within}
+use Rattle.mmrp.proofs.Keeping.{base_kept}
+
+-- a port of the tree stands at its node
+pub stands : (w : NetGroups) → IsKeptNet w → (p : EgressPort) → HasPort w.tree p → StandsAt p w.nodes
+stands w kept p has =
+    let base = base_kept w kept in
+    let there = node_there w base p has in
+    let first = has.1 in
+    let within = slice_get_within w.nodes (p.node.0 - 1) there.0 there.1 in
+    let some = has.0.0 in
+    record {
+      some = has.0.0;
+      few = omega (arith, within, some);
+      port = λ s is.
+          let below = place_within w base p has s is in
+          record { some = first; within = omega (arith, first, below) };
+    }
+
+-- so does its peer
+pub peer_stands : (w : NetGroups) → IsKeptNet w → HasPortLaws w.tree → (p : EgressPort) → HasPort w.tree p → StandsAt (peer_of w.tree.links p) w.nodes
+peer_stands w kept laws p has = stands w kept (peer_of w.tree.links p) (laws.peer_port p has)
+
+-- a station is a node that there is
+pub station_there : (w : NetGroups) → IsKeptNet w → (n : NodeNo) → IsStation w.tree n → n.0 ≤ length w.nodes
+station_there w kept n station =
+    let few = station.0.1 in
+    let many = kept.many in
+    omega (arith, few, many)
+
+-- an event that may happen, in other words
+pub can_as : (e f : GroupEvent) (v w : NetGroups) → e ≡ f → v ≡ w → CanHappen e v → CanHappen f w
+can_as e f v w same is can = subst (λ (x : GroupEvent). CanHappen x w) same (subst (CanHappen e) is can)
+
+-- what holds of each answer that fits holds of the answer, where there is one
+pub if_ok : {A E : Type 0} (r : Result A E) (P Q : A → Type 0) → ((a : A) → P a → Q a) → IfOk r P → IfOk r Q
+if_ok (Ok a) P Q f h = f a h
+if_ok (Err e) P Q f h = h
+
+-- after an event that keeps what every network keeps, or after want of memory, it is kept
+pub kept_either : {E : Type 0} (r : Result GroupReply E) (h : Happened) (tree : Topology) (clock : Cs) (nodes new : List NodeGroups)
+    → IfOk r (λ reply. h ≡ (record { tree = tree; clock = clock; nodes = new }, reply)) → OnErr r (new ≡ nodes)
+    → IsKeptNet h.0 → IsKeptNet (record { tree = tree; clock = clock; nodes = nodes }) → IsKeptNet (record { tree = tree; clock = clock; nodes = new })
+kept_either (Ok reply) h tree clock nodes new is err after before = subst IsKeptNet (ap (λ (x : Happened). x.0) is) after
+kept_either (Err e) h tree clock nodes new ok is after before = subst (λ (xs : List NodeGroups). IsKeptNet (record { tree = tree; clock = clock; nodes = xs })) (sym is) before

@@ -1,0 +1,106 @@
+//! What every network that runs MMRP keeps, whatever happens in it, and the law of a network at rest. Each is a function
+//! that does nothing; calling it brings the law to a proof.
+
+ghost use Rattle.std.specs.Prelude.{◌≡◌, ℕ, Bool, false, List};
+ghost use Rattle.std.specs.List.{AllByRecursion};
+ghost use Rattle.std.specs.Ordering.{nat_cmp};
+ghost use Rattle.srp_base.specs.declared.numbers.Cs.{Cs};
+ghost use Rattle.srp_base.specs.declared.numbers.EgressPort.{EgressPort};
+ghost use Rattle.tree_topology.specs.Topology.{Topology, HasPort};
+ghost use Rattle.topology_file.specs.declared.entries.LinkEntry.{LinkEntry};
+ghost use Rattle.topology_file.specs.declared.entries.NodeEntry.{NodeEntry};
+ghost use Rattle.topology_file.specs.Network.{KeepsNetworkRules};
+ghost use Rattle.mmrp_codec.specs.Writing.{mmrp_spelling};
+ghost use Rattle.mrp_participant.specs.State.{AreRows, is_silent};
+ghost use Rattle.mmrp.specs.declared.events.GroupEvent.{GroupEvent};
+ghost use Rattle.mmrp.specs.Macs.{Part, HasMacRows, IsWritten, pdu_sent};
+ghost use Rattle.mmrp.specs.Net.{NetGroups, CanAllHappen, CanHappen, IsEventInRange, group_step, groups_after};
+ghost use Rattle.mmrp.specs.Start.{net_of};
+ghost use Rattle.mmrp.specs.Kept.{IsKeptNet};
+ghost use Rattle.mmrp.specs.Match.{GroupsMatch, IsAtRest, is_joined_behind, is_registered};
+
+use crate::app::MmrpApp;
+use flat_side::laws as of_flat;
+use mmrp_codec::laws::{what_is_read_has_macs, what_is_written_is_read};
+use mrp_participant::duty_laws::spoiling_keeps_duties;
+use mrp_participant::link_laws::{
+    a_new_link_meets_both_duties, a_still_link_registers_what_is_declared,
+    every_event_keeps_both_duties,
+};
+use tree_topology::laws::{ports, the_walk};
+
+/// What a participant sends, where it isn't silent, is written in octets that read as it, at most 1,500.
+pub fn what_is_sent_is_read()
+    ensures { (now : Cs) (s : Part) → AreRows nat_cmp s.rows → HasMacRows s → is_silent s ≡ false
+        → IsWritten (pdu_sent now s) (mmrp_spelling (pdu_sent now s)) }
+{
+    of_flat::what_is_sent_can_be_written::<MmrpApp>();
+    what_is_written_is_read();
+}
+
+/// The network of a file's nodes and links keeps, at its start, what every network keeps.
+pub fn a_network_begins_well()
+    ensures { (ticks : ℕ) (tree : Topology) (leave_time : Cs) (periodic : Bool)
+        (nodes : List NodeEntry) (links : List LinkEntry)
+        → KeepsNetworkRules ticks leave_time.0 tree nodes links
+        → IsKeptNet (net_of tree leave_time periodic nodes links) }
+{
+    ports();
+    of_flat::a_new_side_is_proper::<MmrpApp>();
+    a_new_link_meets_both_duties::<MmrpApp>();
+}
+
+/// Whatever happens in a network keeps what every network keeps: both duties of each link, and at each port each MAC
+/// address that doesn't await is declared exactly where another port or the application has it registered.
+pub fn every_event_keeps_it()
+    ensures event { (e : GroupEvent) (w : NetGroups) → CanHappen e w → IsEventInRange e
+        → IsKeptNet w → IsKeptNet (group_step e w).0 }
+    ensures events { (es : List GroupEvent) (w : NetGroups) → CanAllHappen es w
+        → AllByRecursion IsEventInRange es → IsKeptNet w → IsKeptNet (groups_after es w) }
+{
+    ports();
+    of_flat::every_call_keeps_a_side_proper::<MmrpApp>();
+    of_flat::settling_and_requests_keep_a_side_proper::<MmrpApp>();
+    what_is_read_has_macs();
+    what_is_sent_is_read();
+    a_new_link_meets_both_duties::<MmrpApp>();
+    every_event_keeps_both_duties::<MmrpApp>();
+    spoiling_keeps_duties::<MmrpApp>();
+}
+
+/// In every network at rest a MAC address is registered at a port exactly where a station behind the port, in the words
+/// of the tree's walks, has joined it (IEEE Std 802.1Q-2018, 10.12); so both sides that `groups_match` answers are equal.
+pub fn groups_are_those_joined_behind()
+    ensures law { (w : NetGroups) → IsKeptNet w → IsAtRest w → GroupsMatch w }
+    ensures sides { (w : NetGroups) (p : EgressPort) (mac : ℕ) → IsKeptNet w → IsAtRest w
+        → HasPort w.tree p
+        → is_registered w mac p ≡ is_joined_behind w mac p }
+{
+    a_still_link_registers_what_is_declared::<MmrpApp>();
+    ports();
+    the_walk();
+}
+
+/// From the start of a file's network on, after every list of events that may happen, whatever is lost or repeated and in
+/// whatever order the ports make their steps, the network keeps both duties of each link and the flat rule at every port;
+/// and where it is then at rest, a MAC address is registered at a port exactly where a station behind the port has joined
+/// it.
+pub fn groups_match_after_every_list_of_events()
+    ensures kept { (ticks : ℕ) (tree : Topology) (leave_time : Cs) (periodic : Bool)
+        (nodes : List NodeEntry) (links : List LinkEntry) (es : List GroupEvent)
+        → KeepsNetworkRules ticks leave_time.0 tree nodes links
+        → CanAllHappen es (net_of tree leave_time periodic nodes links)
+        → AllByRecursion IsEventInRange es
+        → IsKeptNet (groups_after es (net_of tree leave_time periodic nodes links)) }
+    ensures at_rest { (ticks : ℕ) (tree : Topology) (leave_time : Cs) (periodic : Bool)
+        (nodes : List NodeEntry) (links : List LinkEntry) (es : List GroupEvent)
+        → KeepsNetworkRules ticks leave_time.0 tree nodes links
+        → CanAllHappen es (net_of tree leave_time periodic nodes links)
+        → AllByRecursion IsEventInRange es
+        → IsAtRest (groups_after es (net_of tree leave_time periodic nodes links))
+        → GroupsMatch (groups_after es (net_of tree leave_time periodic nodes links)) }
+{
+    a_network_begins_well();
+    every_event_keeps_it();
+    groups_are_those_joined_behind();
+}

@@ -1,0 +1,200 @@
+//! A network that runs MMRP, how it begins, what it shows, and one event of it.
+
+ghost use Rattle.std.specs.Prelude.{◌≡◌, IfOk, OnErr};
+ghost use Rattle.mmrp.specs.Kept.{IsKeptNet};
+ghost use Rattle.mmrp.specs.Net.{CanHappen, group_step, is_in_step, is_quiet};
+ghost use Rattle.mmrp.specs.Start.{net_of};
+
+use crate::events::{GroupEvent, GroupReply, GroupStep};
+use crate::happen::{ask, carry, lose, make_step, repeat};
+use crate::laws::{a_network_begins_well, every_event_keeps_it};
+use crate::node::GroupNode;
+use crate::start::new_nodes;
+use group_file::GroupScenario;
+use srp_base::{Cs, EgressPort, Mac, NoMemory, NodeNo};
+use std::alloc::Global;
+use std::marker::Model;
+use tree_topology::Tree;
+use tree_topology::laws::ports;
+
+/// A network that runs MMRP (IEEE Std 802.1Q-2018, 10.12). Contracts see a `NetGroups`.
+#[derive(Drop)]
+pub struct GroupNet {
+    tree: Tree,
+    clock: Cs,
+    nodes: Vec<GroupNode>,
+}
+
+impl Model for GroupNet {
+    ghost use Rattle.mmrp.specs.Net.{NetGroups};
+    ghost use Rattle.mmrp.specs.Kept.{IsKeptNet};
+
+    ghost Value = { NetGroups };
+
+    ghost view = { λ w. record { tree = w.tree; clock = w.clock; nodes = w.nodes.items } };
+
+    ghost invariant = { λ w. IsKeptNet (record { tree = w.tree; clock = w.clock; nodes = w.nodes.items }) };
+}
+
+impl GroupNet {
+    /// The network of a group scenario at its start: nothing is joined, no PDU waits, the clock is at 0.
+    pub fn of(alloc: Global, scenario: &GroupScenario) -> Result<GroupNet, NoMemory>
+        ensures { IfOk result (λ net. net ≡ net_of scenario.now.tree scenario.now.leave_time
+            scenario.now.periodic scenario.now.nodes scenario.now.links) }
+    {
+        begins(scenario);
+        scenario.keeps_rules();
+        let _few = scenario.tree.links();
+        let tree = scenario.tree.copy()?;
+        let nodes = new_nodes(
+            alloc,
+            scenario.leave_time,
+            scenario.periodic,
+            scenario.nodes.as_slice(),
+            scenario.links.as_slice(),
+        )?;
+        Ok(GroupNet {
+            tree,
+            clock: Cs(0),
+            nodes,
+        })
+    }
+
+    /// What every network keeps, whatever has happened in it: a node for each of its tree's, both duties of each link, and
+    /// the flat rule at every port. It is a law, and does nothing.
+    pub fn keeps(&self)
+        ensures { IsKeptNet self.now }
+    {
+        let _ = &self.tree;
+    }
+
+    /// Lets one event happen, and answers what came of it: a port's step answers as `GroupStep` says, `Missed` comes
+    /// exactly where no PDU has the index, and `Done` for all else. The nodes and ports that the event names exist, a
+    /// station joins and parts, and the clock goes on from below 2^61. After want of memory the network is as it was.
+    pub fn step(&mut self, event: GroupEvent) -> Result<GroupReply, NoMemory>
+        requires { CanHappen event self.old }
+        ensures ok { IfOk result (λ reply. group_step event self.old ≡ (self.new, reply)) }
+        ensures err { OnErr result (self.new ≡ self.old) }
+    {
+        match event {
+            GroupEvent::Join(node, mac) => self.join(node, mac),
+            GroupEvent::Part(node, mac) => self.part(node, mac),
+            GroupEvent::Port(at, step) => self.port_step(at, step),
+            GroupEvent::Lose(at, index) => Ok(self.lose(at, index)),
+            GroupEvent::Repeat(at, index) => self.repeat(at, index),
+            GroupEvent::Carry(at) => self.carry(at),
+            GroupEvent::Clock => Ok(self.tick()),
+        }
+    }
+
+    // A station joins a group.
+    fn join(&mut self, node: NodeNo, mac: Mac) -> Result<GroupReply, NoMemory>
+        requires { CanHappen (GroupEvent.Join node mac) self.old }
+        ensures ok { IfOk result (λ reply. group_step (GroupEvent.Join node mac) self.old ≡ (self.new, reply)) }
+        ensures err { OnErr result (self.new ≡ self.old) }
+    {
+        every_event_keeps_it();
+        let _mac = mac.get();
+        ask(&mut self.nodes, node, mac, true)
+    }
+
+    // A station parts from a group.
+    fn part(&mut self, node: NodeNo, mac: Mac) -> Result<GroupReply, NoMemory>
+        requires { CanHappen (GroupEvent.Part node mac) self.old }
+        ensures ok { IfOk result (λ reply. group_step (GroupEvent.Part node mac) self.old ≡ (self.new, reply)) }
+        ensures err { OnErr result (self.new ≡ self.old) }
+    {
+        every_event_keeps_it();
+        let _mac = mac.get();
+        ask(&mut self.nodes, node, mac, false)
+    }
+
+    // A link port makes a step.
+    fn port_step(&mut self, at: EgressPort, step: GroupStep) -> Result<GroupReply, NoMemory>
+        requires { CanHappen (GroupEvent.Port at step) self.old }
+        ensures ok { IfOk result (λ reply. group_step (GroupEvent.Port at step) self.old ≡ (self.new, reply)) }
+        ensures err { OnErr result (self.new ≡ self.old) }
+    {
+        every_event_keeps_it();
+        make_step(&mut self.nodes, self.clock, at, step)
+    }
+
+    // The PDU of an index is lost, where there is one.
+    fn lose(&mut self, at: EgressPort, index: u32) -> GroupReply
+        requires { CanHappen (GroupEvent.Lose at index) self.old }
+        ensures { group_step (GroupEvent.Lose at index) self.old ≡ (self.new, result) }
+    {
+        every_event_keeps_it();
+        ports();
+        lose(&self.tree, &mut self.nodes, at, index)
+    }
+
+    // It is there twice.
+    fn repeat(&mut self, at: EgressPort, index: u32) -> Result<GroupReply, NoMemory>
+        requires { CanHappen (GroupEvent.Repeat at index) self.old }
+        ensures ok { IfOk result (λ reply. group_step (GroupEvent.Repeat at index) self.old ≡ (self.new, reply)) }
+        ensures err { OnErr result (self.new ≡ self.old) }
+    {
+        every_event_keeps_it();
+        repeat(&mut self.nodes, at, index)
+    }
+
+    // The PDUs of a port's outbox come in at its peer.
+    fn carry(&mut self, at: EgressPort) -> Result<GroupReply, NoMemory>
+        requires { CanHappen (GroupEvent.Carry at) self.old }
+        ensures ok { IfOk result (λ reply. group_step (GroupEvent.Carry at) self.old ≡ (self.new, reply)) }
+        ensures err { OnErr result (self.new ≡ self.old) }
+    {
+        every_event_keeps_it();
+        ports();
+        carry(&self.tree, &mut self.nodes, at)
+    }
+
+    // The clock goes on.
+    fn tick(&mut self) -> GroupReply
+        requires { CanHappen GroupEvent.Clock self.old }
+        ensures { group_step GroupEvent.Clock self.old ≡ (self.new, result) }
+    {
+        every_event_keeps_it();
+        self.clock = Cs(self.clock.0 + 1);
+        GroupReply::Done
+    }
+
+    /// The clock, in cs from the start.
+    pub fn now(&self) -> Cs
+        ensures { result ≡ self.now.clock }
+    {
+        self.clock
+    }
+
+    /// The tree of the nodes and links.
+    pub fn tree(&self) -> &Tree
+        ensures { result.now ≡ self.now.tree }
+    {
+        &self.tree
+    }
+
+    /// Whether nothing is pending: no PDU is on its way, every Applicant is VO or QA, every Registrar IN or MT, every
+    /// LeaveAll machine Passive, and no MAC address awaits.
+    pub fn quiet(&self) -> bool
+        ensures { result ≡ is_quiet self.now }
+    {
+        self.nodes.iter().all(|node| node.still())
+    }
+
+    /// Whether every port is sound: it has sent a LeaveAll since a PDU was last lost on its link, if one was.
+    pub fn in_step(&self) -> bool
+        ensures { result ≡ is_in_step self.now }
+    {
+        self.nodes.iter().all(|node| node.all_sound())
+    }
+}
+
+// The network of a group scenario keeps, at its start, what every network keeps.
+fn begins(scenario: &GroupScenario)
+    ensures { IsKeptNet (net_of scenario.now.tree scenario.now.leave_time scenario.now.periodic
+        scenario.now.nodes scenario.now.links) }
+{
+    a_network_begins_well();
+    scenario.keeps_rules();
+}
