@@ -6,9 +6,9 @@ use Rattle.turn_lock.specs.contracts.lock.Pass as passes
 use Rattle.turn_lock.specs.contracts.lock.TurnLock as locks
 use Rattle.turn_lock.proofs.lock.TurnLock.TheSendSync as shares
 use Rattle.turn_lock.proofs.CrossingLemmas.{pass_send}
-use Rattle.book_cases.specs.contracts.counter.Counter as counters
-use Rattle.book_cases.specs.contracts.counter.CounterSequential.TheImpl as steps
-use Rattle.book_cases.proofs.counter.Counter.TheSendSync as counts
+use Rattle.book_cases.specs.contracts.sum.Counter as counters
+use Rattle.book_cases.specs.contracts.sum.CounterSequential.TheImpl as steps
+use Rattle.book_cases.proofs.sum.Counter.TheSendSync as counts
 
 number : IsSend (u64-field).row
 number = plain_send _ _ _ _ _

@@ -1,32 +1,14 @@
 //! A counter behind a lock: what its calls answer and what its history says; and a lock that is closed without
 //! one of its passes.
 
-ghost use Rattle.std.specs.Prelude.{◌≡◌, ◌+◌, ◌%◌, ◌^◌};
+ghost use Rattle.std.specs.Prelude.{◌≡◌};
 
-use srp_base::{NoMemory, Seq};
+use crate::sum::Counter;
+use srp_base::Seq;
 use std::alloc::Global;
 use std::sync::Wait;
 use std::test::Fail;
-use turn_lock::{CloseErr, Closed, Pass, Sequential, TurnLock};
-
-// A sum, modulo 2^64.
-#[derive(Drop)]
-pub(crate) struct Counter {
-    pub(crate) sum: u64,
-}
-
-impl Sequential for Counter {
-    type Ask = u64;
-
-    type Answer = u64;
-
-    ghost does = { λ counter ask. ((counter.sum + ask) % 2 ^ 64, record { sum = (counter.sum + ask) % 2 ^ 64 }) };
-
-    fn step(&mut self, ask: u64) -> Result<u64, NoMemory> {
-        self.sum = self.sum.wrapping_add(ask);
-        Ok(self.sum)
-    }
-}
+use turn_lock::{CloseErr, Closed, Pass, TurnLock};
 
 fn call<R: Wait>(
     rt: &R,

@@ -6,5 +6,5 @@
 
 #[cfg(test)]
 mod counter;
-#[cfg(test)]
+mod sum;
 mod threads;

@@ -3,13 +3,12 @@
 ghost use Rattle.std.specs.Prelude.{◌≡◌};
 ghost use Rattle.std.specs.Thread.{IsSync};
 
-use crate::counter::Counter;
+use crate::sum::Counter;
 use srp_base::Seq;
 use std::alloc::Global;
 use std::snapshot::Snapshot;
 use std::sync::Wait;
 use std::sync::atomic::{AtomicBool, AtomicU64, Ordering};
-use std::test::Fail;
 use std::thread;
 use std::thread::{Promise, Threads};
 use turn_lock::{Closed, Pass, TurnLock};
@@ -147,7 +146,7 @@ fn answers_ascend(closed: &Closed<Counter>) -> bool {
 }
 
 #[test]
-fn two_threads_add_up(rt: HostRuntime) -> Result<(), Fail> {
+fn two_threads_add_up(rt: HostRuntime) -> Result<(), std::test::Fail> {
     let inside = Inside::new();
     let Some(closed) = counted(&rt, rt.alloc(), &inside) else {
         panic!(rt; "no memory")
