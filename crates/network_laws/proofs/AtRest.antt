@@ -55,18 +55,16 @@ AreSoundAt p s m = (is_sound_in Mvrp p s m ≡ true) × (is_sound_in Msrp p s m 
 ports-sound : (n : NodeNo) (s : NodeState) (m : MarksState) (from count : ℕ) → are_ports_sound n s m from count ≡ true → (k : ℕ) → k < count
     → AreSoundAt (record { node = n; port = record { 0 = from + k } }) s m
 ports-sound n s m from zero all k below = absurd (omega (arith, below))
-ports-sound n s m from (suc count) all k below = by k below
-  where
-    parts : ((is_sound_in Mvrp (record { node = n; port = record { 0 = from } }) s m && is_sound_in Msrp (record { node = n; port = record { 0 = from } }) s m) ≡ true) × (are_ports_sound n s m (from + 1) count ≡ true)
-    parts = and_parts (is_sound_in Mvrp (record { node = n; port = record { 0 = from } }) s m && is_sound_in Msrp (record { node = n; port = record { 0 = from } }) s m) (are_ports_sound n s m (from + 1) count) all
-
-    by : (k : ℕ) → k < suc count → AreSoundAt (record { node = n; port = record { 0 = from + k } }) s m
-    by zero below =
-        subst (λ (i : ℕ). AreSoundAt (record { node = n; port = record { 0 = i } }) s m) (let same : from ≡ from + 0 = omega arith in same)
-        (and_parts (is_sound_in Mvrp (record { node = n; port = record { 0 = from } }) s m) (is_sound_in Msrp (record { node = n; port = record { 0 = from } }) s m) parts.0)
-    by (suc k) below =
-        subst (λ (i : ℕ). AreSoundAt (record { node = n; port = record { 0 = i } }) s m) (let same : (from + 1) + k ≡ from + suc k = omega arith in same)
-        (ports-sound n s m (from + 1) count parts.1 k (omega (arith, below)))
+ports-sound n s m from (suc count) all zero below =
+    let p : EgressPort = record { node = n; port = record { 0 = from } } in
+    let parts = and_parts (is_sound_in Mvrp p s m && is_sound_in Msrp p s m) (are_ports_sound n s m (from + 1) count) all in
+    subst (λ (i : ℕ). AreSoundAt (record { node = n; port = record { 0 = i } }) s m) (let same : from ≡ from + 0 = omega arith in same)
+    (and_parts (is_sound_in Mvrp p s m) (is_sound_in Msrp p s m) parts.0)
+ports-sound n s m from (suc count) all (suc k) below =
+    let p : EgressPort = record { node = n; port = record { 0 = from } } in
+    let parts = and_parts (is_sound_in Mvrp p s m && is_sound_in Msrp p s m) (are_ports_sound n s m (from + 1) count) all in
+    subst (λ (i : ℕ). AreSoundAt (record { node = n; port = record { 0 = i } }) s m) (let same : (from + 1) + k ≡ from + suc k = omega arith in same)
+    (ports-sound n s m (from + 1) count parts.1 k (omega (arith, below)))
 
 nodes-sound : (x : ℕ) (nodes : List NodeState) (m : MarksState) → are_nodes_sound x nodes m ≡ true → (i : ℕ) (s : NodeState) → slice_get nodes i ≡ Some s
     → are_ports_sound (record { 0 = x + i }) s m 1 (ports_of s) ≡ true

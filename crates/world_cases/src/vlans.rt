@@ -24,7 +24,13 @@ pub(crate) const S2: NodeNo = NodeNo(2);
 const ONE: PortNo = PortNo(1);
 
 // Whether at the port of a station so much is found and expected of a VID.
-pub(crate) fn has_sides(world: &World, node: NodeNo, vid: Vid, found: bool, expected: bool) -> bool {
+pub(crate) fn has_sides(
+    world: &World,
+    node: NodeNo,
+    vid: Vid,
+    found: bool,
+    expected: bool,
+) -> bool {
     let at = EgressPort { node, port: ONE };
     if !has_port(world, at) {
         return false;

@@ -49,7 +49,7 @@ and_second true b h = h
 and_second false b h = cc
 
 and_swapped : (c l l' : Bool) → l ≡ l' → ((c && l) && c) ≡ true → (l' && c) ≡ true
-and_swapped true true l' e h = sym (ap (λ (b : Bool). b && true) e) 
+and_swapped true true l' e h = sym (ap (λ (b : Bool). b && true) e)
 and_swapped true false l' e h = cc
 and_swapped false l l' e h = cc
 

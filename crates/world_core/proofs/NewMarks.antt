@@ -45,11 +45,16 @@ there_from links x (kind ∷ kinds) (suc i) at node port =
     (subst (λ (k : ℕ). at < length (neighbours links k)) (let same : x + suc i ≡ (x + 1) + i = omega arith in same) port)
 
 pub new_of : (tree : Topology) → IsOfTree (new_marks tree)
-new_of tree = record { there = λ p has. (no_marks, there_from tree.links 1 tree.kinds (p.node.0 - 1) (place_of p.port)
-    (let some = has.0.0 in let few = has.0.1 in omega (arith, some, few))
-    (subst (λ (k : ℕ). place_of p.port < length (neighbours tree.links k))
-    (let some = has.0.0 in let same : p.node.0 ≡ 1 + (p.node.0 - 1) = omega (arith, some) in same)
-    (let first = has.1 in let last = has.2 in omega (arith, first, last)))) }
+new_of tree = record {
+  there = λ p has. (
+    no_marks,
+    there_from tree.links 1 tree.kinds (p.node.0 - 1) (place_of p.port)
+        (let some = has.0.0 in let few = has.0.1 in omega (arith, some, few))
+        (subst (λ (k : ℕ). place_of p.port < length (neighbours tree.links k))
+        (let some = has.0.0 in let same : p.node.0 ≡ 1 + (p.node.0 - 1) = omega (arith, some) in same)
+        (let first = has.1 in let last = has.2 in omega (arith, first, last))),
+  );
+}
 
 -- the ports of one more node
 rows_more : (links : List Link) (x i : ℕ) (kinds : List NodeKind) → i < length kinds

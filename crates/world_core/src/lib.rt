@@ -40,7 +40,7 @@ mod world;
 
 pub use events::{WorldEvent, WorldReply};
 pub use history::History;
-pub use marks::Marks;
 pub use journal::{Journal, NodeSteps, Run, Tick};
+pub use marks::Marks;
 pub use step::RunErr;
 pub use world::World;

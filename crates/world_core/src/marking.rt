@@ -19,7 +19,7 @@ ghost use Rattle.world_core.specs.Marks.{MarksState, mark_at};
 ghost use Rattle.world_core.specs.World.{StandsAt, inbox, outbox, are_nodes_sound, are_ports_sound, is_sound_in, has_leave_all_next, marks_stepping, marks_losing, marks_copying, marks_forging, world_step};
 
 use crate::events::{WorldEvent, WorldReply};
-use crate::happen::{app_at, place, forge, lose, make_step, repeat};
+use crate::happen::{app_at, forge, lose, make_step, place, repeat};
 use crate::marks::Marks;
 use node_core::{Node, NodeEvent, PortStep, StepReply, Wire, wire_leaves};
 use srp_base::{App, EgressPort, NoMemory, NodeNo, PortNo};
@@ -97,12 +97,7 @@ fn leaves_next(nodes: &Vec<Node>, at: EgressPort, app: App) -> bool
 }
 
 // The PDU that a port takes next: it is read only where the port's way is clear.
-fn taking(
-    tree: &Tree,
-    nodes: &Vec<Node>,
-    marks: &Marks,
-    at: EgressPort,
-) -> Result<Noted, NoMemory>
+fn taking(tree: &Tree, nodes: &Vec<Node>, marks: &Marks, at: EgressPort) -> Result<Noted, NoMemory>
     requires port { HasPort tree.now at }
     requires kept { IsKeptWorld
         (record { tree = tree.now; nodes = nodes.now.items; marks = marks.now }) }

@@ -320,7 +320,9 @@ fn end_of(ends: &Vec<Seq<EndMarks>>, at: EgressPort) -> Option<EndMarks>
     ensures { result ≡ end_in at ends.now.items }
 {
     let row = ends.get(usize::from(at.node.0).saturating_sub(1))?;
-    row.as_slice().get(usize::from(at.port.0).saturating_sub(1)).copied()
+    row.as_slice()
+        .get(usize::from(at.port.0).saturating_sub(1))
+        .copied()
 }
 
 // Those in an application.

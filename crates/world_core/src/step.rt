@@ -55,7 +55,14 @@ impl World {
                 marked_repeat(&self.tree, &mut self.nodes, &mut self.marks, at, index)
             }
             WorldEvent::Forge(at, index, wire) => {
-                marked_forgery(&self.tree, &mut self.nodes, &mut self.marks, at, index, wire)
+                marked_forgery(
+                    &self.tree,
+                    &mut self.nodes,
+                    &mut self.marks,
+                    at,
+                    index,
+                    wire,
+                )
             }
             WorldEvent::Carry(at) => carry(&self.tree, &mut self.nodes, at),
             WorldEvent::Clock => tick_all(&mut self.nodes),
