@@ -8,6 +8,9 @@ use Rattle.mmrp_codec.specs.declared.pdu.GroupPdu.{GroupPdu}
 use Rattle.mmrp_codec.specs.Meaning.{mmrp_reading}
 use Rattle.mmrp_codec.specs.Writing.{mmrp_spelling}
 use Rattle.mrp_participant.specs.State.{sent_state}
+use Rattle.mrp_participant.specs.Lookup.{find}
+use Rattle.mrp_participant.specs.Row.{registrar_of}
+use Rattle.registrar.specs.declared.Registrar.{Registrar}
 use Rattle.flat_side.specs.Codec.{Codec, IsWritten as IsWrittenBy}
 use Rattle.flat_side.specs.Keys as keys
 use Rattle.flat_side.specs.Part as flat
@@ -65,6 +68,10 @@ sent_part now s = sent_state base octets nat_cmp now s
 -- whether a MAC address is declared: the Applicant is in any state but VO and LA
 abbrev pub declares : ℕ → Part → Bool
 declares mac s = flat.declares nat_cmp mac s
+
+-- the state of its registrar, MT where there is no row
+abbrev pub registrar_in : ℕ → Part → Registrar
+registrar_in mac s = registrar_of (find nat_cmp mac s.rows)
 
 -- whether it is registered: the Registrar is IN or LV
 abbrev pub registers : ℕ → Part → Bool

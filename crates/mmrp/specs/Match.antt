@@ -4,7 +4,6 @@
 use Rattle.std.specs.Prelude.{◌≡◌, ◌↔◌, ◌-◌, ℕ, Bool, true, false, ◌&&◌, if◌then◌else◌, List, [], Option, Some, None, length, slice_get, filter_map}
 use Rattle.std.specs.Option.{option_map_or}
 use Rattle.std.specs.List.{list_any, range_with_len}
-use Rattle.std.specs.Ordering.{nat_cmp}
 use Rattle.srp_base.specs.declared.numbers.EgressPort.{EgressPort}
 use Rattle.tree_topology.specs.Topology.{HasNode, HasPort}
 use Rattle.tree_topology.specs.Refusal.{is_station}
@@ -14,15 +13,13 @@ use Rattle.registrar.specs.declared.Registrar.{Registrar}
 use Rattle.registrar.specs.declared.Registrar.TheVariants.{Empty}
 use Rattle.registrar.specs.Table.{is_registered_in}
 use Rattle.mrp_participant.specs.declared.row.Row.{Row}
-use Rattle.mrp_participant.specs.Lookup.{find}
-use Rattle.mrp_participant.specs.Row.{registrar_of}
-use Rattle.mmrp.specs.Macs.{Part, registers, has_joined}
+use Rattle.mmrp.specs.Macs.{Part, registers, registrar_in, has_joined}
 use Rattle.mmrp.specs.Net.{NetGroups, node_at, is_quiet, is_in_step}
 use Rattle.mmrp.specs.Duty.{part_at}
 
 -- the state of the registrar of a MAC address at a port, MT where there is no row
 abbrev pub registrar_at : NetGroups → ℕ → EgressPort → Registrar
-registrar_at w mac p = option_map_or (λ (part : Part). registrar_of (find nat_cmp mac part.rows)) (part_at p w) Empty
+registrar_at w mac p = option_map_or (registrar_in mac) (part_at p w) Empty
 
 -- the MAC address of a row, where it is registered
 abbrev pub registered_mac : Row ℕ (Unit {0}) → Option ℕ

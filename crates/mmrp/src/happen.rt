@@ -6,10 +6,12 @@ ghost use Rattle.tree_topology.specs.Topology.{Topology, HasPort};
 ghost use Rattle.tree_topology.specs.Ports.{peer_of};
 ghost use Rattle.attribute_propagation.specs.Ports.{place_of};
 ghost use Rattle.mmrp.specs.Node.{NodeGroups, AreShort, box_at, lost_at, port_step, repeated_at, spoilt_at, with_carried, with_outbox};
+ghost use Rattle.mmrp.specs.Match.{registrar_at};
 ghost use Rattle.mmrp.specs.Net.{StandsAt, after_asking, after_step, group_step, has_index as has_index_spec, nodes_with};
 
 use crate::events::{GroupEvent, GroupReply, GroupStep};
 use crate::node::GroupNode;
+use registrar::Registrar;
 use srp_base::{Cs, EgressPort, Mac, NoMemory, NodeNo, Seq};
 use tree_topology::Tree;
 
@@ -64,6 +66,15 @@ fn has_index(nodes: &Vec<GroupNode>, at: EgressPort, index: u32) -> bool
         ≡ has_index_spec at index (record { tree = tree; clock = clock; nodes = nodes.now.items }) }
 {
     (index as usize) < nodes[place(at.node)].pending(at.port)
+}
+
+/// The state of the registrar of a MAC address at a port, MT where there is no row.
+pub(crate) fn registrar(nodes: &Vec<GroupNode>, at: EgressPort, mac: Mac) -> Registrar
+    requires { StandsAt at nodes.now.items }
+    ensures { (tree : Topology) (clock : Cs) → result
+        ≡ registrar_at (record { tree = tree; clock = clock; nodes = nodes.now.items }) mac at }
+{
+    nodes[place(at.node)].registrar(at.port, mac)
 }
 
 // The participant at a port is sound no more.

@@ -3,14 +3,17 @@
 ghost use Rattle.std.specs.Prelude.{◌≡◌, IfOk, OnErr};
 ghost use Rattle.mmrp.specs.Kept.{IsKeptNet};
 ghost use Rattle.mmrp.specs.Net.{CanHappen, group_step, is_in_step, is_quiet};
+ghost use Rattle.mmrp.specs.Match.{registrar_at};
 ghost use Rattle.mmrp.specs.Start.{net_of};
+ghost use Rattle.tree_topology.specs.Topology.{HasPort};
 
 use crate::events::{GroupEvent, GroupReply, GroupStep};
-use crate::happen::{ask, carry, lose, make_step, repeat};
+use crate::happen::{ask, carry, lose, make_step, registrar, repeat};
 use crate::laws::{a_network_begins_well, every_event_keeps_it};
 use crate::node::GroupNode;
 use crate::start::new_nodes;
 use group_file::GroupScenario;
+use registrar::Registrar;
 use srp_base::{Cs, EgressPort, Mac, NoMemory, NodeNo};
 use std::alloc::Global;
 use std::marker::Model;
@@ -172,6 +175,14 @@ impl GroupNet {
         ensures { result.now ≡ self.now.tree }
     {
         &self.tree
+    }
+
+    /// The state of the registrar of a MAC address at a port, MT where there is no row. The port exists.
+    pub fn registrar(&self, at: EgressPort, mac: Mac) -> Registrar
+        requires { HasPort self.now.tree at }
+        ensures { result ≡ registrar_at self.now mac at }
+    {
+        registrar(&self.nodes, at, mac)
     }
 
     /// Whether nothing is pending: no PDU is on its way, every Applicant is VO or QA, every Registrar IN or MT, every

@@ -7,13 +7,16 @@ ghost use Rattle.mrp_participant.specs.Link.{with_repeat};
 ghost use Rattle.mrp_participant.specs.State.{IsTime};
 ghost use Rattle.attribute_propagation.specs.Ports.{IsLinkPort, place_of};
 ghost use Rattle.flat_side.specs.Side.{is_busy};
-ghost use Rattle.mmrp.specs.Macs.{has_joined};
+ghost use Rattle.std.specs.Option.{option_map_or};
+ghost use Rattle.registrar.specs.declared.Registrar.TheVariants.{Empty};
+ghost use Rattle.mmrp.specs.Macs.{has_joined, registrar_in};
 ghost use Rattle.mmrp.specs.Node.{AreShort, IsKeptNode, after_send, after_work, are_all_sound, are_empty, asked, box_at, is_still_node, lost_at, new_node, port_step, ports_of, repeated_at, spoilt_at, with_carried, with_outbox, without};
 
 use crate::app::MmrpApp;
 use crate::events::{GroupReply, GroupStep};
 use crate::side::{MmrpSide, ask, fire, say, settle, spoil, take};
 use mrp_participant::Participant;
+use registrar::Registrar;
 use srp_base::{Cs, Mac, NoMemory, PortNo, PortSetup, Seq};
 use std::alloc::{AllocError, Global};
 use std::marker::Model;
@@ -80,6 +83,15 @@ impl GroupNode {
         ensures { slice_get self.now.side.parts (place_of port) ≡ Some result.now }
     {
         self.side.participant(port)
+    }
+
+    // The state of the registrar of a MAC address at a link port, MT where there is no row.
+    pub(crate) fn registrar(&self, port: PortNo, mac: Mac) -> Registrar
+        requires { IsLinkPort port (ports_of self.now) }
+        ensures { result
+            ≡ option_map_or (registrar_in mac) (slice_get self.now.side.parts (place_of port)) Empty }
+    {
+        self.participant(port).registrar(mac)
     }
 
     // Whether the application has joined a MAC address.
