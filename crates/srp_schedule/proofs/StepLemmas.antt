@@ -82,8 +82,9 @@ get_set_other (x ∷ xs) (suc i) (suc j) y ne = get_set_other xs i j y (λ e. ne
 pub answers_as_node : (n : NodeNo) (port : PortNo) (step : PortStep) (w : WorldState) (s : NodeState) (r : WorldReply) → node_at n w ≡ Some s
     → (v : WorldState) → world_step (Port n port step) w ≡ (v, r) → IsStepReply r
 answers_as_node n port step w s r is v e =
-    let made = ap (λ o. option_map_or (λ x. after_step n (node_step (node_events.Port port step) x) w) o (w, Missed)) is in
-    subst IsStepReply (ap (λ (h : Happened). h.1) (sym made ∙ e)) tt
+    let made = ap (λ o. (option_map_or (λ x. after_step n (node_step (node_events.Port port step) x) w) o (w, Missed)).1) is in
+    let answered : (world_step (Port n port step) w).1 ≡ r = ap (λ (h : Happened). h.1) e in
+    subst IsStepReply (sym made ∙ answered) tt
 
 -- and changes no other node
 step_other : (n : NodeNo) (port : PortNo) (step : PortStep) (w : WorldState) (m : ℕ) → n.0 - 1 ≢ m → slice_get (world_step (Port n port step) w).0.nodes m ≡ slice_get w.nodes m
