@@ -1,6 +1,6 @@
 -- What a port declares of a Talker that is registered at another port (IEEE Std 802.1Q-2018, 35.2.4.3). The
 -- order in which reasons to refuse are checked is this project's own.
-use Rattle.std.specs.Prelude.{◌≡◌, ℕ, ◌+◌, ◌-◌, ◌^◌, min, ◌==◌, nat_lt, if◌then◌else◌, is_none, Option, Some, None, option_map}
+use Rattle.std.specs.Prelude.{◌≡◌, ℕ, ◌+◌, ◌-◌, ◌^◌, min, ◌==◌, Bool, nat_lt, if◌then◌else◌, is_none, Option, Some, None, option_map}
 use Rattle.std.specs.Option.{option_or}
 use Rattle.srp_base.specs.declared.bandwidth.Class.{Class}
 use Rattle.srp_base.specs.declared.bandwidth.Class.TheVariants.{A, B}
@@ -29,9 +29,15 @@ abbrev pub fit_code : Fit → Option ℕ
 fit_code Fits = None
 fit_code (TooLittle more_important cap code) = Some code
 
--- the code for which a port refuses an advertised Talker: what no port can serve comes before what doesn't fit
-abbrev pub refusal_of : Talker → Fit → Option ℕ
-refusal_of talker fit = option_or (check_of talker) (fit_code fit)
+-- the failure code of a port at the boundary of an SRP domain (35.1.4): 8, "egress port is not AVB capable"
+abbrev pub boundary_code : Bool → Option ℕ
+boundary_code boundary = if boundary then Some 8 else None
+
+-- the code for which a port refuses an advertised Talker: what no port can serve comes before the domain's boundary,
+-- and that before what doesn't fit
+abbrev pub refusal_of : Talker → Bool → Fit → Option ℕ
+refusal_of talker boundary fit =
+    option_or (check_of talker) (option_or (boundary_code boundary) (fit_code fit))
 
 -- a Talker whose accumulated latency has grown, in ns; it stands still at the greatest number of 32 bits
 abbrev pub delayed_by : ℕ → Talker → Talker
@@ -42,12 +48,12 @@ abbrev pub declared_of : PortConfig → Talker → Option ℕ → TalkerReg
 declared_of config talker None = Advertise talker
 declared_of config talker (Some code) = Failed talker (record { bridge = config.bridge; code = code })
 
--- what a port declares of what is registered
-abbrev pub talker_out : TalkerReg → PortConfig → Fit → TalkerReg
-talker_out Absent config fit = Absent
-talker_out (Failed talker failure) config fit = Failed (delayed_by config.latency talker) failure
-talker_out (Advertise talker) config fit =
-    declared_of config (delayed_by config.latency talker) (refusal_of talker fit)
+-- what a port declares of what is registered; `boundary` is whether the port is one for the Talker's class
+abbrev pub talker_out : TalkerReg → PortConfig → Bool → Fit → TalkerReg
+talker_out Absent config boundary fit = Absent
+talker_out (Failed talker failure) config boundary fit = Failed (delayed_by config.latency talker) failure
+talker_out (Advertise talker) config boundary fit =
+    declared_of config (delayed_by config.latency talker) (refusal_of talker boundary fit)
 
 -- the Talker of what is registered or declared
 abbrev pub talker_in : TalkerReg → Option Talker
@@ -64,7 +70,8 @@ abbrev pub IsCarriedOn : TalkerReg → Failure → Type 0
 IsCarriedOn reg failure = (before : Talker) × (reg ≡ Failed before failure)
 
 -- a declared failure is this port's refusal of an advertised Talker
-abbrev pub IsOfPort : PortConfig → Fit → TalkerReg → Failure → Type 0
-IsOfPort config fit reg failure =
-    (before : Talker) × (reg ≡ Advertise before) × (refusal_of before fit ≡ Some failure.code)
+abbrev pub IsOfPort : PortConfig → Bool → Fit → TalkerReg → Failure → Type 0
+IsOfPort config boundary fit reg failure =
+    (before : Talker) × (reg ≡ Advertise before)
+    × (refusal_of before boundary fit ≡ Some failure.code)
     × (failure.bridge ≡ config.bridge)

@@ -1,7 +1,7 @@
 //! A port as a Talker's declaration goes out of it.
 
 ghost use Rattle.std.specs.Prelude.{◌≡◌};
-ghost use Rattle.msrp_talker.specs.TalkerOut.{fit_code, declared_of, delayed_by, refusal_of, talker_out as talker_out_spec};
+ghost use Rattle.msrp_talker.specs.TalkerOut.{boundary_code, fit_code, declared_of, delayed_by, refusal_of, talker_out as talker_out_spec};
 
 use crate::class::check;
 use srp_base::{BridgeId, Failure, Talker, TalkerReg};
@@ -16,12 +16,14 @@ pub struct PortConfig {
     pub latency: u32,
 }
 
-/// What a port declares of a Talker that is registered so at another port (IEEE Std 802.1Q-2018, 35.2.4.3);
-/// `fit` is whether the stream's want fits at this port. Absent stays so, and Failed keeps its Failure. Advertise
-/// becomes Failed with this bridge and `check`'s code, else with this bridge and the fit's code where that is
-/// `TooLittle`, else it stays Advertise. Each Talker has the port's latency added, up to the greatest u32.
-pub fn talker_out(reg: TalkerReg, config: &PortConfig, fit: Fit) -> TalkerReg
-    ensures { result ≡ talker_out_spec reg config.now fit }
+/// What a port declares of a Talker that is registered so at another port (IEEE Std 802.1Q-2018, 35.2.4.3).
+/// `boundary` is whether this port is at the boundary of the SRP domain of the Talker's class (35.1.4), and `fit`
+/// whether the stream's want fits at this port. Absent stays so, and Failed keeps its Failure. Advertise becomes
+/// Failed with this bridge and the first code that there is: `check`'s code, 8 where `boundary` holds, and the
+/// fit's code where that is `TooLittle`; else it stays Advertise. Each Talker has the port's latency added, up to
+/// the greatest u32.
+pub fn talker_out(reg: TalkerReg, config: &PortConfig, boundary: bool, fit: Fit) -> TalkerReg
+    ensures { result ≡ talker_out_spec reg config.now boundary fit }
 {
     match reg {
         TalkerReg::Absent => TalkerReg::Absent,
@@ -29,7 +31,7 @@ pub fn talker_out(reg: TalkerReg, config: &PortConfig, fit: Fit) -> TalkerReg
             TalkerReg::Failed(delayed_by(config.latency, talker), failure)
         }
         TalkerReg::Advertise(talker) => {
-            let code = refusal(&talker, fit);
+            let code = refusal(&talker, boundary, fit);
             declared(config, delayed_by(config.latency, talker), code)
         }
     }
@@ -46,10 +48,16 @@ fn delayed_by(latency: u32, talker: Talker) -> Talker
 }
 
 /// The failure code for which the port refuses an advertised Talker; None where it doesn't.
-fn refusal(talker: &Talker, fit: Fit) -> Option<u8>
-    ensures { result ≡ refusal_of talker.now fit }
+fn refusal(talker: &Talker, boundary: bool, fit: Fit) -> Option<u8>
+    ensures { result ≡ refusal_of talker.now boundary fit }
 {
-    check(talker).or(code_of(fit))
+    check(talker).or(code_at(boundary)).or(code_of(fit))
+}
+
+fn code_at(boundary: bool) -> Option<u8>
+    ensures { result ≡ boundary_code boundary }
+{
+    if boundary { Some(8) } else { None }
 }
 
 fn code_of(fit: Fit) -> Option<u8>

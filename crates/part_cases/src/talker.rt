@@ -62,8 +62,8 @@ fn the_priority_is_checked_before_the_size(rt: HostRuntime) {
 fn stands_still() -> Option<bool> {
     let near = TalkerReg::Advertise(talker(3, 200, 4_294_967_290)?);
     let greatest = TalkerReg::Advertise(talker(3, 200, 4_294_967_295)?);
-    let declared = talker_out(near, &PORT, Fit::Fits);
-    let none = talker_out(TalkerReg::Absent, &PORT, Fit::Fits);
+    let declared = talker_out(near, &PORT, false, Fit::Fits);
+    let none = talker_out(TalkerReg::Absent, &PORT, false, Fit::Fits);
     Some(declared == greatest && none == TalkerReg::Absent)
 }
 
@@ -91,7 +91,7 @@ fn registered(talker: Talker, failure: Option<Failure>) -> TalkerReg {
 fn fails(priority: u8, max_frame: u16, before: Option<Failure>, after: Failure) -> Option<bool> {
     let heard = registered(talker(priority, max_frame, 0)?, before);
     let said = TalkerReg::Failed(talker(priority, max_frame, 500)?, after);
-    Some(talker_out(heard, &PORT, TOO_LITTLE) == said)
+    Some(talker_out(heard, &PORT, false, TOO_LITTLE) == said)
 }
 
 #[test]
