@@ -8,7 +8,6 @@ use Rattle.srp_base.specs.declared.streams.TalkerReg.TheVariants.{Absent}
 use Rattle.stream_importance.specs.declared.entry.Want.{Want}
 use Rattle.stream_importance.specs.declared.entry.Fit.{Fit}
 use Rattle.stream_importance.specs.declared.entry.Fit.TheVariants.{Fits}
-use Rattle.msrp_talker.specs.declared.port_config.PortConfig.{PortConfig}
 use Rattle.msrp_talker.specs.TalkerOut.{talker_in, talker_out}
 use Rattle.port_ledger.specs.Book.{Book, clocked_book, fit_for, has_new_booking, want_of, IsKept as IsKeptBook}
 use Rattle.attribute_propagation.specs.Dirty.{is_awaiting, all_marked}
@@ -18,7 +17,7 @@ use Rattle.msrp_codec.specs.declared.pdu.MsrpKey.TheVariants as keys
 use Rattle.msrp_codec.specs.declared.pdu.MsrpContent.TheVariants as contents
 use Rattle.msrp.specs.declared.port.Port.{Port}
 use Rattle.msrp.specs.Part.{key_cmp, registered_talker, talker_content}
-use Rattle.msrp.specs.Stream.{Registrations, is_listened, is_talker_port, listener_at, listener_row, stated_at, talk_of, talker_at, first_talker, talkers_of, advertise_of, want_of_talker, wanted_at}
+use Rattle.msrp.specs.Stream.{Registrations, edge_at, is_listened, is_talker_port, listener_at, listener_row, stated_at, talk_of, talker_at, first_talker, talkers_of, advertise_of, want_of_talker, wanted_at}
 use Rattle.msrp.specs.Settling.{talker_keys}
 use Rattle.msrp.specs.Side.{Streams, IsKept, IsPort, IsSettled, clocked_port, clocked_sets, clocked_streams, seen_by, shows_at}
 use Rattle.msrp.proofs.Places.{each-get, or_false}
@@ -48,11 +47,11 @@ same_fit : (f g : Want → Fit) (o : Option Want) → ((w : Want) → f w ≡ g 
 same_fit f g None same = refl
 same_fit f g (Some w) same = ap (λ x. Some x) (same w)
 
-stated_clocked : (at : ℕ) (config : PortConfig) (book : Book) (now : ℕ) (talkers : List TalkerReg) → ((want : Want) → fit_for now book want ≡ fit_for book.moment book want)
-    → talker_at at config (clocked_book now book) talkers ≡ talker_at at config book talkers
-stated_clocked at config book now talkers same =
-    ap (λ (o : Option Fit). if is_talker_port (suc at) talkers then Absent else talker_out (first_talker talkers) config (unwrap_or (if is_talker_port (suc at) talkers then None else o) Fits))
-    (same_fit (fit_for now book) (fit_for book.moment book) (option_and_then want_of_talker (talker_in (first_talker talkers))) same)
+stated_clocked : (at : ℕ) (p : Port) (now : ℕ) (talkers : List TalkerReg) → ((want : Want) → fit_for now p.ledger want ≡ fit_for p.ledger.moment p.ledger want)
+    → talker_at at (clocked_port now p) talkers ≡ talker_at at p talkers
+stated_clocked at p now talkers same =
+    ap (λ (o : Option Fit). if is_talker_port (suc at) talkers then Absent else talker_out (first_talker talkers) p.config (edge_at p talkers) (unwrap_or (if is_talker_port (suc at) talkers then None else o) Fits))
+    (same_fit (fit_for now p.ledger) (fit_for p.ledger.moment p.ledger) (option_and_then want_of_talker (talker_in (first_talker talkers))) same)
 
 -- the port and the set at a place before
 pub record WasAt (now : ℕ) (ks : List MsrpKey) (ports : List Port) (sets : List (List MsrpKey)) (j : ℕ) (port : Port) (set : List MsrpKey) : Type 0 where
@@ -105,21 +104,21 @@ module _ (laws : Laws) (awaits : Awaits) (rows : HasRows) (side : Streams) (kept
       fewer false is key out = ap (is_awaiting key_cmp key) is ∙ out
 
       wants : (s : StreamId) → is_awaiting key_cmp (keys.Talker s) old ≡ false → is_awaiting key_cmp (keys.Listener s) old ≡ false
-          → want_of p.ledger.entries s ≡ wanted_at j p.part (seen_by (clocked_streams now side) s).talkers s
-      wants s one two = before.wanted s one two ∙ ap (λ (r : Registrations). wanted_at j p.part r.talkers s) (sym (seen_clocked now side s))
+          → want_of p.ledger.entries s ≡ wanted_at j p (seen_by (clocked_streams now side) s).talkers s
+      wants s one two = before.wanted s one two ∙ ap (λ (r : Registrations). wanted_at j p r.talkers s) (sym (seen_clocked now side s))
 
       talker : (b : Bool) → shows_at now p ≡ b → (if b then all_marked key_cmp talkers old else old) ≡ set → (s : StreamId) → is_awaiting key_cmp (keys.Talker s) set ≡ false
-          → talker_content (talker_at j p.config p.ledger (seen_by side s).talkers) ≡ talker_content (talker_at j p.config (clocked_book now p.ledger) (seen_by side s).talkers)
+          → talker_content (talker_at j p (seen_by side s).talkers) ≡ talker_content (talker_at j (clocked_port now p) (seen_by side s).talkers)
       talker true shown is s out =
           let none = no_talker rows side.talks side.ports s (unmarked awaits (keys.Talker s) talkers old (ap (is_awaiting key_cmp (keys.Talker s)) is ∙ out)).0 in
-          absent_stated j p.config p.ledger (talkers_of side.talks side.ports s) none ∙ sym (absent_stated j p.config (clocked_book now p.ledger) (talkers_of side.talks side.ports s) none)
+          absent_stated j p (talkers_of side.talks side.ports s) none ∙ sym (absent_stated j (clocked_port now p) (talkers_of side.talks side.ports s) none)
       talker false shown is s out =
-          ap talker_content (sym (stated_clocked j p.config p.ledger now (talkers_of side.talks side.ports s) (λ want. laws.fits p.ledger now want port.ledger (rw port.moment up) shown)))
+          ap talker_content (sym (stated_clocked j p now (talkers_of side.talks side.ports s) (λ want. laws.fits p.ledger now want port.ledger (rw port.moment up) shown)))
 
-      each : (key : MsrpKey) → is_awaiting key_cmp key set ≡ false → declared_at key_cmp key p.part ≡ stated_at j p.config (clocked_book now p.ledger) (seen_by (clocked_streams now side)) key
+      each : (key : MsrpKey) → is_awaiting key_cmp key set ≡ false → declared_at key_cmp key p.part ≡ stated_at j (clocked_port now p) (seen_by (clocked_streams now side)) key
       each (keys.Talker s) out =
           before.declared (keys.Talker s) (fewer b is (keys.Talker s) out)
-          ∙ (talker b shown is s out ∙ ap (λ (r : Registrations). talker_content (talker_at j p.config (clocked_book now p.ledger) r.talkers)) (sym (seen_clocked now side s)))
+          ∙ (talker b shown is s out ∙ ap (λ (r : Registrations). talker_content (talker_at j (clocked_port now p) r.talkers)) (sym (seen_clocked now side s)))
       each (keys.Listener s) out =
           before.declared (keys.Listener s) (fewer b is (keys.Listener s) out) ∙ ap (λ (r : Registrations). option_map contents.Listener (listener_at j r)) (sym (seen_clocked now side s))
       each (keys.Domain c) out = before.declared (keys.Domain c) (fewer b is (keys.Domain c) out)

@@ -12,12 +12,12 @@ use Rattle.mrp_participant.specs.State.{due_state, left_keys}
 use Rattle.msrp_codec.specs.declared.pdu.MsrpKey.{MsrpKey}
 use Rattle.msrp.specs.declared.port.Port.{Port}
 use Rattle.msrp.specs.Part.{Part, key_cmp}
-use Rattle.msrp.specs.Settling.{moved_streams, next_book}
+use Rattle.msrp.specs.Settling.{known_keys, moved_streams, next_book}
 use Rattle.msrp.specs.Side.{Streams, IsKept, awaiting_at, due_streams, with_told_port, seen_by, settled_streams, with_part}
 use Rattle.msrp.proofs.Keeping.{port_kept}
 use Rattle.msrp.proofs.Places.{set-same}
 use Rattle.msrp.proofs.Settled.{next_is}
-use Rattle.msrp.proofs.Telling.{Awaits}
+use Rattle.msrp.proofs.Telling.{Awaits, none_told}
 
 -- ---- no timer is due
 
@@ -26,7 +26,7 @@ none-due awaits side at p here now stays none =
     rw here (ap (λ (t : Part). with_told_port at (with_part t p) (left_keys now p.part) side) stays
     ∙ (ap (λ (told : List MsrpKey). with_told_port at p told side) none
     ∙ (ap (λ (ports : List Port). record side { ports = ports; awaiting = (with_told_port at p [] side).awaiting }) (set-same side.ports at p here)
-    ∙ ap (λ (sets : List (List MsrpKey)). record side { awaiting = sets }) (awaits.none_everywhere side.awaiting))))
+    ∙ ap (λ (sets : List (List MsrpKey)). record side { awaiting = sets }) (none_told awaits at p.domain (known_keys side.talks side.listens side.ports) side.awaiting))))
 
 -- ---- no key awaits
 

@@ -1,6 +1,6 @@
 -- What every side keeps stays so: a participant takes the place of another, and the application asks for something.
-use Rattle.std.proofs.Common.{◌≡◌, ◌≢◌, ◌⊎◌, inl, inr, ℕ, suc, ◌<◌, Bool, false, if◌then◌else◌, List, [], ◌∷◌, length, map, refl, sym, ap, subst, ◌∙◌}
-use Rattle.std.specs.Prelude.{slice_get, slice_index_or, Option, Some, None, IfSome, option_map, ◌==◌}
+use Rattle.std.proofs.Common.{◌≡◌, ◌≢◌, ◌⊎◌, inl, inr, ℕ, ◌<◌, Bool, true, false, List, [], ◌∷◌, length, map, refl, sym, ap, subst, ◌∙◌}
+use Rattle.std.specs.Prelude.{slice_get, slice_index_or, Option, Some, IfSome, option_map, ◌==◌}
 use Rattle.std.proofs.Math.ListN.{length-set}
 use Rattle.std.proofs.lemmas.Option.{slice_get_read}
 use Rattle.srp_base.specs.declared.numbers.StreamId.{StreamId}
@@ -8,98 +8,133 @@ use Rattle.srp_base.specs.declared.streams.Talker.{Talker}
 use Rattle.srp_base.specs.declared.streams.ListenerKind.{ListenerKind}
 use Rattle.msrp_talker.specs.declared.port_config.PortConfig.{PortConfig}
 use Rattle.port_ledger.specs.Book.{Book, want_of}
-use Rattle.attribute_propagation.specs.Dirty.{is_awaiting, all_marked}
-use Rattle.attribute_propagation.specs.Ports.{marked_everywhere}
+use Rattle.attribute_propagation.specs.Dirty.{is_awaiting}
 use Rattle.mrp_participant.specs.State.{AreRows, declared_at, registered_at}
 use Rattle.msrp_codec.specs.declared.pdu.MsrpKey.{MsrpKey}
 use Rattle.msrp_codec.specs.declared.pdu.MsrpKey.TheVariants as keys
 use Rattle.msrp_codec.specs.declared.pdu.MsrpContent.TheVariants as contents
+use Rattle.srp_base.specs.declared.streams.TalkerReg.TheVariants.{Absent}
+use Rattle.msrp.specs.declared.domain.DomainSet.{DomainSet}
 use Rattle.msrp.specs.declared.port.Port.{Port}
 use Rattle.msrp.specs.Part.{Part, key_cmp, registered_talker, registered_listener, listener_kind_of, talker_content, HasOwnContents}
-use Rattle.msrp.specs.Stream.{Registrations, registrations_of, is_talker_port, is_ready, want_of_reg, first_talker, talker_at, listener_at, stated_at, talk_of, is_listened, talkers_of, advertise_of, listener_row}
-use Rattle.msrp.specs.Settling.{all_keys_with, keys_of}
+use Rattle.msrp.specs.Domain.{domain_stated, is_edge}
+use Rattle.msrp.specs.Stream.{Registrations, edge_at, registrations_of, first_talker, listener_at, stated_at, talk_of, is_listened, talkers_of, advertise_of, listener_row}
+use Rattle.msrp.specs.Settling.{is_domain_told, keys_of, known_keys}
 use Rattle.msrp.specs.Side.{Streams, IsKept, IsPort, IsSettled, IsSettledAt, seen_by, at_port, with_told_port, with_port_at, with_asks, with_part, SameDeclared, TellsEach}
 use Rattle.msrp.proofs.Places.{decide, get-set_same, get-set_other, each-set, each-get, opened}
-use Rattle.msrp.proofs.Telling.{IsUntold, talker_untold, listener_untold, registrations-same, untold, Awaits, unmarked, was_set, talker_other, listener_other}
+use Rattle.msrp.proofs.Talkers.{HasRows, stated_by, wanted_by}
+use Rattle.msrp.proofs.Domains.{edge_alike, edge_untold, unknown_absent}
+use Rattle.msrp.proofs.Telling.{IsUntold, WasTold, as_many_told, none_heeded, none_told, was_told, talker_untold, listener_untold, registrations-same, untold, Awaits, unmarked, was_set, talker_other, listener_other}
 
--- a port's configuration, its ledger and what is registered of a stream are the same
-stated_talker : (at : ℕ) (c d : PortConfig) (b e : Book) (r q : Registrations) → c ≡ d → b ≡ e → r ≡ q → talker_content (talker_at at c b r.talkers) ≡ talker_content (talker_at at d e q.talkers)
-stated_talker at c d b e r q x y z =
-    ap (λ (k : PortConfig). talker_content (talker_at at k b r.talkers)) x
-    ∙ (ap (λ (k : Book). talker_content (talker_at at d k r.talkers)) y ∙ ap (λ (k : Registrations). talker_content (talker_at at d e k.talkers)) z)
+-- a port's configuration, its ledger, whether it is a boundary, and what is registered of a stream are the same
+stated_talker : (at : ℕ) (c d : PortConfig) (b e : Book) (x y : Bool) (r q : Registrations) → c ≡ d → b ≡ e → x ≡ y → r ≡ q
+    → talker_content (stated_by at c b x r.talkers) ≡ talker_content (stated_by at d e y q.talkers)
+stated_talker at c d b e x y r q config ledger edge seen =
+    ap (λ (k : PortConfig). talker_content (stated_by at k b x r.talkers)) config
+    ∙ (ap (λ (k : Book). talker_content (stated_by at d k x r.talkers)) ledger
+    ∙ (ap (λ (k : Bool). talker_content (stated_by at d e k r.talkers)) edge ∙ ap (λ (k : Registrations). talker_content (stated_by at d e y k.talkers)) seen))
 
-wanted_same : (at : ℕ) (k l : Option ListenerKind) (r q : Registrations) → k ≡ l → r ≡ q
-    → (if is_talker_port (suc at) r.talkers then None else if is_ready k then want_of_reg (first_talker r.talkers) else None)
-    ≡ (if is_talker_port (suc at) q.talkers then None else if is_ready l then want_of_reg (first_talker q.talkers) else None)
-wanted_same at k l r q x z =
-    ap (λ (o : Option ListenerKind). if is_talker_port (suc at) r.talkers then None else if is_ready o then want_of_reg (first_talker r.talkers) else None) x
-    ∙ ap (λ (v : Registrations). if is_talker_port (suc at) v.talkers then None else if is_ready l then want_of_reg (first_talker v.talkers) else None) z
+wanted_same : (at : ℕ) (k l : Option ListenerKind) (x y : Bool) (r q : Registrations) → k ≡ l → x ≡ y → r ≡ q
+    → wanted_by at k x r.talkers ≡ wanted_by at l y q.talkers
+wanted_same at k l x y r q kind edge seen =
+    ap (λ (o : Option ListenerKind). wanted_by at o x r.talkers) kind
+    ∙ (ap (λ (b : Bool). wanted_by at l b r.talkers) edge ∙ ap (λ (v : Registrations). wanted_by at l y v.talkers) seen)
 
 -- of a stream that a key says is as it was, everything is
 pub record IsAsBefore (q p : Port) (regs now : StreamId → Registrations) (s : StreamId) : Type 0 where
   pub seen : now s ≡ regs s
   pub listener : registered_listener s p.part ≡ registered_listener s q.part
+  pub edge : edge_at p (now s).talkers ≡ edge_at q (regs s).talkers
 
--- a port stays settled where more keys await, its declarations, its configuration and its ledger are the same, and
--- each stream is as it was of which a key doesn't await
+-- a port stays settled where more keys await, its declarations, its configuration, its Domains and its ledger are the
+-- same, and each stream is as it was of which a key doesn't await
 pub settled_changed : (at : ℕ) (q p : Port) (set more : List MsrpKey) (regs now : StreamId → Registrations)
-    → IsSettled at q set regs → p.config ≡ q.config → p.ledger ≡ q.ledger → SameDeclared q.part p.part
+    → IsSettled at q set regs → p.config ≡ q.config → p.domain ≡ q.domain → p.ledger ≡ q.ledger → SameDeclared q.part p.part
     → ((key : MsrpKey) → is_awaiting key_cmp key more ≡ false → is_awaiting key_cmp key set ≡ false)
     → ((s : StreamId) → is_awaiting key_cmp (keys.Talker s) more ≡ false → IsAsBefore q p regs now s)
     → ((s : StreamId) → is_awaiting key_cmp (keys.Listener s) more ≡ false → IsAsBefore q p regs now s)
     → IsSettled at p more now
-settled_changed at q p set more regs now old config ledger same fewer talker listener =
+settled_changed at q p set more regs now old config domain ledger same fewer talker listener =
     record {
       declared = each;
       wanted = λ s out none.
           ap (λ (b : Book). want_of b.entries s) ledger
           ∙ (old.wanted s (fewer (keys.Talker s) out) (fewer (keys.Listener s) none)
-          ∙ sym (wanted_same at (registered_listener s p.part) (registered_listener s q.part) (now s) (regs s) (talker s out).listener (talker s out).seen));
+          ∙ sym (wanted_same at (registered_listener s p.part) (registered_listener s q.part) (edge_at p (now s).talkers) (edge_at q (regs s).talkers) (now s) (regs s)
+          (talker s out).listener (talker s out).edge (talker s out).seen));
     }
   where
-    each : (key : MsrpKey) → is_awaiting key_cmp key more ≡ false → declared_at key_cmp key p.part ≡ stated_at at p.config p.ledger now key
+    each : (key : MsrpKey) → is_awaiting key_cmp key more ≡ false → declared_at key_cmp key p.part ≡ stated_at at p now key
     each (keys.Talker s) out =
         same (keys.Talker s) ∙ (old.declared (keys.Talker s) (fewer (keys.Talker s) out)
-        ∙ sym (stated_talker at p.config q.config p.ledger q.ledger (now s) (regs s) config ledger (talker s out).seen))
+        ∙ sym (stated_talker at p.config q.config p.ledger q.ledger (edge_at p (now s).talkers) (edge_at q (regs s).talkers) (now s) (regs s) config ledger (talker s out).edge (talker s out).seen))
     each (keys.Listener s) out =
         same (keys.Listener s) ∙ (old.declared (keys.Listener s) (fewer (keys.Listener s) out)
         ∙ sym (ap (λ (r : Registrations). option_map contents.Listener (listener_at at r)) (listener s out).seen))
-    each (keys.Domain c) out = same (keys.Domain c) ∙ old.declared (keys.Domain c) (fewer (keys.Domain c) out)
+    each (keys.Domain c) out =
+        same (keys.Domain c) ∙ (old.declared (keys.Domain c) (fewer (keys.Domain c) out) ∙ sym (ap (λ d. domain_stated d c) domain))
 
 -- ---- a participant takes the place of another
 
-module _ (awaits : Awaits) (side : Streams) (kept : IsKept side) (at : ℕ) (p : Port) (here : slice_get side.ports at ≡ Some p) (t : Part) (told : List MsrpKey) (same : SameDeclared p.part t) (tells : TellsEach told p.part t) where
+-- where a Domain has to be heeded, each stream has a Talker of which a key is known
+abbrev pub KnowsTalkers : Streams → DomainSet → List MsrpKey → Type 0
+KnowsTalkers side domain told =
+    is_domain_told domain told ≡ true → (s : StreamId)
+    → is_awaiting key_cmp (keys.Talker s) (known_keys side.talks side.listens side.ports) ≡ false → first_talker (seen_by side s).talkers ≡ Absent
+
+-- it is so at each node, and where nothing is told
+pub knows_talkers : HasRows → (side : Streams) (domain : DomainSet) (told : List MsrpKey) → KnowsTalkers side domain told
+knows_talkers rows side domain told heeded s out = unknown_absent rows side.talks side.listens side.ports s out
+
+pub knows_none : (side : Streams) (domain : DomainSet) → KnowsTalkers side domain []
+knows_none side domain heeded s out = absurd (let none : true ≡ false = sym heeded ∙ none_heeded domain in cc)
+
+module _ (awaits : Awaits) (side : Streams) (kept : IsKept side) (at : ℕ) (p : Port) (here : slice_get side.ports at ≡ Some p) (t : Part) (told : List MsrpKey) (same : SameDeclared p.part t) (tells : TellsEach told p.part t)
+    (knows : KnowsTalkers side p.domain told) where
   abbrev after : Streams
   after = with_told_port at (with_part t p) told side
+
+  abbrev known : List MsrpKey
+  known = known_keys side.talks side.listens side.ports
+
+  abbrev Was : ℕ → List MsrpKey → Type 0
+  Was j set = WasTold at p.domain told known side.awaiting j set
 
   -- a stream that isn't told is as it was
   seen_same : (s : StreamId) → IsUntold told s → seen_by after s ≡ seen_by side s
   seen_same s out =
       registrations-same side.talks side.listens side.ports at p t s here (untold told p.part t (keys.Talker s) tells out.talker) (untold told p.part t (keys.Listener s) tells out.listener)
 
-  here_same : (s : StreamId) → IsUntold told s → IsAsBefore p (with_part t p) (seen_by side) (seen_by after) s
-  here_same s out = record { seen = seen_same s out; listener = ap listener_kind_of (untold told p.part t (keys.Listener s) tells out.listener) }
+  -- so is whether the port is a boundary for it, where a Domain that is told makes all that are known await
+  edge_here : (s : StreamId) → IsUntold told s → (is_domain_told p.domain told ≡ true → IsUntold known s) → edge_at (with_part t p) (seen_by after s).talkers ≡ edge_at p (seen_by side s).talkers
+  edge_here s out others =
+      ap (λ (r : Registrations). is_edge p.domain t (first_talker r.talkers)) (seen_same s out) ∙ by (is_domain_told p.domain told) refl
+    where
+      by : (b : Bool) → is_domain_told p.domain told ≡ b → is_edge p.domain t (first_talker (seen_by side s).talkers) ≡ is_edge p.domain p.part (first_talker (seen_by side s).talkers)
+      by true e = edge_alike p.domain t p.part (first_talker (seen_by side s).talkers) (knows e s (others e).talker)
+      by false e = edge_untold p.domain told p.part t (first_talker (seen_by side s).talkers) (λ key. untold told p.part t key tells) e
+
+  here_same : (s : StreamId) → IsUntold told s → (is_domain_told p.domain told ≡ true → IsUntold known s) → IsAsBefore p (with_part t p) (seen_by side) (seen_by after) s
+  here_same s out others = record { seen = seen_same s out; listener = ap listener_kind_of (untold told p.part t (keys.Listener s) tells out.listener); edge = edge_here s out others }
 
   there_same : (q : Port) (s : StreamId) → IsUntold told s → IsAsBefore q q (seen_by side) (seen_by after) s
-  there_same q s out = record { seen = seen_same s out; listener = refl }
+  there_same q s out = record { seen = seen_same s out; listener = refl; edge = ap (λ (r : Registrations). edge_at q r.talkers) (seen_same s out) }
 
   settled_here : IsSettledAt after at
   settled_here port set part sets =
-      let old = was_set awaits (all_keys_with told) side.awaiting at set sets in
+      let was : Was at set = was_told awaits at p.domain told known side.awaiting at set sets in
       let P : Port → Type 0 = λ q. IsSettled at q set (seen_by after) in
       subst P (get-set_same side.ports at (with_part t p) port part)
-      (settled_changed at p (with_part t p) old.set set (seen_by side) (seen_by after) (kept.settled at p old.set here old.there) refl refl same
-      (λ key out. (unmarked awaits key (all_keys_with told) old.set (ap (is_awaiting key_cmp key) old.is ∙ out)).1)
-      (λ s out. here_same s (talker_untold told s (unmarked awaits (keys.Talker s) (all_keys_with told) old.set (ap (is_awaiting key_cmp (keys.Talker s)) old.is ∙ out)).0))
-      (λ s out. here_same s (listener_untold told s (unmarked awaits (keys.Listener s) (all_keys_with told) old.set (ap (is_awaiting key_cmp (keys.Listener s)) old.is ∙ out)).0)))
+      (settled_changed at p (with_part t p) was.set set (seen_by side) (seen_by after) (kept.settled at p was.set here was.there) refl refl refl same was.fewer
+      (λ s out. here_same s (talker_untold told s (was.untold (keys.Talker s) out)) (λ e. talker_untold known s (was.unknown refl e (keys.Talker s) out)))
+      (λ s out. here_same s (listener_untold told s (was.untold (keys.Listener s) out)) (λ e. listener_untold known s (was.unknown refl e (keys.Listener s) out))))
 
   settled_there : (j : ℕ) → at ≢ j → IsSettledAt after j
   settled_there j ne port set part sets =
-      let old = was_set awaits (all_keys_with told) side.awaiting j set sets in
-      settled_changed j port port old.set set (seen_by side) (seen_by after) (kept.settled j port old.set (sym (get-set_other side.ports at j (with_part t p) ne) ∙ part) old.there) refl refl (λ key. refl)
-      (λ key out. (unmarked awaits key (all_keys_with told) old.set (ap (is_awaiting key_cmp key) old.is ∙ out)).1)
-      (λ s out. there_same port s (talker_untold told s (unmarked awaits (keys.Talker s) (all_keys_with told) old.set (ap (is_awaiting key_cmp (keys.Talker s)) old.is ∙ out)).0))
-      (λ s out. there_same port s (listener_untold told s (unmarked awaits (keys.Listener s) (all_keys_with told) old.set (ap (is_awaiting key_cmp (keys.Listener s)) old.is ∙ out)).0))
+      let was : Was j set = was_told awaits at p.domain told known side.awaiting j set sets in
+      settled_changed j port port was.set set (seen_by side) (seen_by after) (kept.settled j port was.set (sym (get-set_other side.ports at j (with_part t p) ne) ∙ part) was.there) refl refl refl (λ key. refl) was.fewer
+      (λ s out. there_same port s (talker_untold told s (was.untold (keys.Talker s) out)))
+      (λ s out. there_same port s (listener_untold told s (was.untold (keys.Listener s) out)))
 
   settled_after : (j : ℕ) → (at ≡ j) ⊎ (at ≢ j) → IsSettledAt after j
   settled_after j (inl e) = let P : ℕ → Type 0 = λ k. IsSettledAt after k in subst P e settled_here
@@ -114,18 +149,18 @@ module _ (awaits : Awaits) (side : Streams) (kept : IsKept side) (at : ℕ) (p :
   kept-retold rows contents =
       record {
         ports = each-set (IsPort side.moment) side.ports at (with_part t p) (port_after rows contents) kept.ports;
-        sets = awaits.as_many_everywhere (all_keys_with told) side.awaiting ∙ (kept.sets ∙ sym (length-set side.ports at (with_part t p)));
+        sets = as_many_told awaits at p.domain told known side.awaiting ∙ (kept.sets ∙ sym (length-set side.ports at (with_part t p)));
         settled = λ j. settled_after j (decide at j);
       }
 
-pub kept-put : Awaits → (side : Streams) → IsKept side → (at : ℕ) → at < length side.ports → (p : Port) → p ≡ slice_index_or side.ports at p → (t : Part) (told : List MsrpKey)
+pub kept-put : Awaits → HasRows → (side : Streams) → IsKept side → (at : ℕ) → at < length side.ports → (p : Port) → p ≡ slice_index_or side.ports at p → (t : Part) (told : List MsrpKey)
     → AreRows key_cmp t.rows → HasOwnContents t
     → ((q : Port) → slice_get side.ports at ≡ Some q → SameDeclared q.part t)
     → ((q : Port) → slice_get side.ports at ≡ Some q → TellsEach told q.part t)
     → IsKept (with_told_port at (with_part t p) told side)
-kept-put awaits side kept at below p is t told rows contents same tells =
+kept-put awaits has_rows side kept at below p is t told rows contents same tells =
     let here : slice_get side.ports at ≡ Some p = slice_get_read side.ports (length side.ports) at p refl below is in
-    kept-retold awaits side kept at p here t told (same p here) (tells p here) rows contents
+    kept-retold awaits side kept at p here t told (same p here) (tells p here) (knows_talkers has_rows side p.domain told) rows contents
 
 -- ---- a participant changes in its place, and tells nothing
 
@@ -137,8 +172,8 @@ kept-changed awaits side kept at below p is t rows contents same registered =
     let here : slice_get side.ports at ≡ Some p = slice_get_read side.ports (length side.ports) at p refl below is in
     let port = each-get (IsPort side.moment) side.ports at p kept.ports here in
     let P : List (List MsrpKey) → Type 0 = λ sets. IsKept (record (with_port_at at (with_part t p) side) { awaiting = sets }) in
-    subst P (awaits.none_everywhere side.awaiting)
-    (kept-retold awaits side kept at p here t [] (same port.rows) (λ key. inr (registered port.rows key)) (rows port.rows) (contents port.rows port.contents))
+    subst P (none_told awaits at p.domain (known_keys side.talks side.listens side.ports) side.awaiting)
+    (kept-retold awaits side kept at p here t [] (same port.rows) (λ key. inr (registered port.rows key)) (knows_none side p.domain) (rows port.rows) (contents port.rows port.contents))
 
 pub at_changed : (side : Streams) (at : ℕ) (p : Port) (t : Part) (f : Part → Part) → at < length side.ports → p ≡ slice_index_or side.ports at p → t ≡ f p.part
     → with_port_at at (with_part t p) side ≡ at_port at (λ q. with_port_at at (with_part (f q.part) q) side) side
@@ -175,11 +210,13 @@ kept-asked awaits side kept x talks listens talk_same listen_same =
       sets = awaits.as_many_everywhere (keys_of x) side.awaiting ∙ kept.sets;
       settled = λ j port set part sets.
           let old = was_set awaits (keys_of x) side.awaiting j set sets in
-          settled_changed j port port old.set set (seen_by side) (seen_by (with_asks x talks listens side)) (kept.settled j port old.set part old.there) refl refl (λ key. refl)
+          settled_changed j port port old.set set (seen_by side) (seen_by (with_asks x talks listens side)) (kept.settled j port old.set part old.there) refl refl refl (λ key. refl)
           (λ key out. (unmarked awaits key (keys_of x) old.set (ap (is_awaiting key_cmp key) old.is ∙ out)).1)
           (λ s out. as_before port s (talker_other x s (unmarked awaits (keys.Talker s) (keys_of x) old.set (ap (is_awaiting key_cmp (keys.Talker s)) old.is ∙ out)).0))
           (λ s out. as_before port s (listener_other x s (unmarked awaits (keys.Listener s) (keys_of x) old.set (ap (is_awaiting key_cmp (keys.Listener s)) old.is ∙ out)).0));
     }
   where
     as_before : (q : Port) (s : StreamId) → (s.0 == x.0) ≡ false → IsAsBefore q q (seen_by side) (seen_by (with_asks x talks listens side)) s
-    as_before q s other = record { seen = same_seen side.talks talks side.listens listens side.ports s (talk_same s other) (listen_same s other); listener = refl }
+    as_before q s other =
+        let same = same_seen side.talks talks side.listens listens side.ports s (talk_same s other) (listen_same s other) in
+        record { seen = same; listener = refl; edge = ap (λ (r : Registrations). edge_at q r.talkers) same }

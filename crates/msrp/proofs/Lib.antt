@@ -1,5 +1,6 @@
 pub mod Clocked
 pub mod Contents
+pub mod Domains
 pub mod Idle
 pub mod Keeping
 pub mod KeyLemmas

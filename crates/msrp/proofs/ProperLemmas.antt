@@ -13,18 +13,20 @@ use Rattle.attribute_propagation.specs.Ports.{marked_elsewhere}
 use Rattle.mrp_participant.specs.State.{AreRows, registered_at}
 use Rattle.msrp_codec.specs.declared.pdu.MsrpKey.{MsrpKey}
 use Rattle.msrp_codec.specs.FirstValue.{IsTalker}
+use Rattle.msrp.specs.declared.domain.DomainSet.{DomainSet}
 use Rattle.msrp.specs.declared.port.Port.{Port}
 use Rattle.msrp.specs.declared.asking.SrpRequest.{SrpRequest}
 use Rattle.msrp.specs.declared.asking.SrpRequest.TheVariants.{Talk, Hush, Listen, Unlisten}
 use Rattle.msrp.specs.Part.{Part, key_cmp, HasOwnContents}
 use Rattle.msrp.specs.Stream.{is_listened, stated_at, talk_of}
-use Rattle.msrp.specs.Settling.{moved_streams, next_book, settling_keys, talker_keys}
+use Rattle.msrp.specs.Settling.{known_keys, moved_streams, next_book, settling_keys, talker_keys}
 use Rattle.msrp.specs.Side.{Streams, clocked_port, clocked_streams, has_listen, has_talk, is_talk, listens_without, moved_keys, new_port, new_streams, with_asks, with_port_at, requested_streams, with_told_port, seen_by, settled_at, settled_streams, talks_without, with_part, with_port, SameDeclared, TellsEach}
 use Rattle.msrp.specs.Proper.{AreOfRange, HasRanges, IsProper, IsRequestInRange}
 use Rattle.msrp.proofs.Places.{all_filtered, each-get, each-set}
-use Rattle.msrp.proofs.Telling.{Awaits}
+use Rattle.msrp.proofs.Telling.{Awaits, none_told}
 use Rattle.msrp.proofs.Talkers.{HasRows}
-use Rattle.msrp.proofs.Keeping.{kept-asked, kept-retold, port_kept}
+use Rattle.msrp.proofs.Domains.{new_each}
+use Rattle.msrp.proofs.Keeping.{KnowsTalkers, kept-asked, kept-retold, knows_none, knows_talkers, port_kept}
 use Rattle.msrp.proofs.NewSide.{kept-new, shares}
 use Rattle.msrp.proofs.OtherStreams.{talks_other, talks_more, listens_more, listens_other}
 use Rattle.msrp.proofs.Clocked.{Laws, kept-clocked}
@@ -32,7 +34,7 @@ use Rattle.msrp.proofs.Participants.{PartLaws, each-settled}
 use Rattle.msrp.proofs.Ledgers.{BookLaws}
 use Rattle.msrp.proofs.Rules.{AwaitsStreams}
 use Rattle.msrp.proofs.Settled.{MoveLaws, kept-settled}
-use Rattle.msrp.proofs.Ranges.{IsWithin, range_from, range_row, rule_in}
+use Rattle.msrp.proofs.Ranges.{IsWithin, range_from, range_row, rule_in, value_in}
 
 -- ---- one port
 
@@ -55,21 +57,25 @@ ranges_at side proper at p here = each-get (λ (q : Port). HasRanges q.part) sid
 
 module _ (awaits : Awaits) (side : Streams) (proper : IsProper side) (at : ℕ) (p : Port) (here : slice_get side.ports at ≡ Some p) where
   -- a participant takes the place of another, and tells keys
-  pub proper-retold : (t : Part) (told : List MsrpKey) → AreRows key_cmp t.rows → HasOwnContents t → HasRanges t → SameDeclared p.part t → TellsEach told p.part t
+  known-retold : (t : Part) (told : List MsrpKey) → KnowsTalkers side p.domain told → AreRows key_cmp t.rows → HasOwnContents t → HasRanges t → SameDeclared p.part t → TellsEach told p.part t
       → IsProper (with_told_port at (with_part t p) told side)
-  proper-retold t told rows own fit same tells =
+  known-retold t told knows rows own fit same tells =
       let after : Streams = with_told_port at (with_part t p) told side in
       record {
-        kept = kept-retold awaits side proper.kept at p here t told same tells rows own;
+        kept = kept-retold awaits side proper.kept at p here t told same tells knows rows own;
         ranges = ranges-set side proper.ranges at p here t p.ledger after.awaiting fit;
       }
+
+  pub proper-retold : HasRows → (t : Part) (told : List MsrpKey) → AreRows key_cmp t.rows → HasOwnContents t → HasRanges t → SameDeclared p.part t → TellsEach told p.part t
+      → IsProper (with_told_port at (with_part t p) told side)
+  proper-retold has_rows t told rows own fit same tells = known-retold t told (knows_talkers has_rows side p.domain told) rows own fit same tells
 
   -- or tells none
   pub proper-replaced : (t : Part) → AreRows key_cmp t.rows → HasOwnContents t → HasRanges t → SameDeclared p.part t → ((key : MsrpKey) → registered_at key_cmp key t ≡ registered_at key_cmp key p.part)
       → IsProper (with_port_at at (with_part t p) side)
   proper-replaced t rows own fit same stays =
       let P : List (List MsrpKey) → Type 0 = λ sets. IsProper (record (with_port_at at (with_part t p) side) { awaiting = sets }) in
-      subst P (awaits.none_everywhere side.awaiting) (proper-retold t [] rows own fit same (λ key. inr (stays key)))
+      subst P (none_told awaits at p.domain (known_keys side.talks side.listens side.ports) side.awaiting) (known-retold t [] (knows_none side p.domain) rows own fit same (λ key. inr (stays key)))
 
 pub proper-at : (side : Streams) (make : Port → Streams) (o : Option Port) → IsProper side → ((p : Port) → o ≡ Some p → IsProper (make p)) → IsProper (with_port o make side)
 proper-at side make None proper h = proper
@@ -77,20 +83,21 @@ proper-at side make (Some p) proper h = h p refl
 
 -- ---- a new side
 
-new_ranges : (bridge : BridgeId) (leave_time : Cs) (periodic : Bool) (ports : List PortSetup) → AllByRecursion (λ (p : Port). HasRanges p.part) (map (new_port bridge leave_time periodic) ports)
-new_ranges bridge leave_time periodic [] = tt
-new_ranges bridge leave_time periodic (p ∷ ports) = (record { declared = λ key r h. cc; registered = λ key r h. cc }, new_ranges bridge leave_time periodic ports)
+new_ranges : (bridge : BridgeId) (leave_time : Cs) (periodic : Bool) (domain : DomainSet) (ports : List PortSetup) → AllByRecursion (λ (p : Port). HasRanges p.part) (map (new_port bridge leave_time periodic domain) ports)
+new_ranges bridge leave_time periodic domain [] = tt
+new_ranges bridge leave_time periodic domain (p ∷ ports) =
+    (range_from (new_port bridge leave_time periodic domain p).part (new_each p.period leave_time periodic IsWithin value_in domain), new_ranges bridge leave_time periodic domain ports)
 
-new_bridges : (bridge : BridgeId) (leave_time : Cs) (periodic : Bool) (ports : List PortSetup) → bridge.0 < 2 ^ 64 → AllByRecursion HasBridge (map (new_port bridge leave_time periodic) ports)
-new_bridges bridge leave_time periodic [] fit = tt
-new_bridges bridge leave_time periodic (p ∷ ports) fit = (fit, new_bridges bridge leave_time periodic ports fit)
+new_bridges : (bridge : BridgeId) (leave_time : Cs) (periodic : Bool) (domain : DomainSet) (ports : List PortSetup) → bridge.0 < 2 ^ 64 → AllByRecursion HasBridge (map (new_port bridge leave_time periodic domain) ports)
+new_bridges bridge leave_time periodic domain [] fit = tt
+new_bridges bridge leave_time periodic domain (p ∷ ports) fit = (fit, new_bridges bridge leave_time periodic domain ports fit)
 
-pub proper-new : ((caps : Caps) → caps.class_a ≤ caps.both → IsKeptBook (empty_book caps)) → (bridge : BridgeId) (leave_time : Cs) (periodic : Bool) (ports : List PortSetup) → bridge.0 < 2 ^ 64
-    → IsProper (new_streams bridge leave_time periodic ports)
-proper-new empty bridge leave_time periodic ports fit =
+pub proper-new : ((caps : Caps) → caps.class_a ≤ caps.both → IsKeptBook (empty_book caps)) → (bridge : BridgeId) (leave_time : Cs) (periodic : Bool) (domain : DomainSet) (ports : List PortSetup) → bridge.0 < 2 ^ 64
+    → IsProper (new_streams bridge leave_time periodic domain ports)
+proper-new empty bridge leave_time periodic domain ports fit =
     record {
-      kept = kept-new bridge leave_time periodic empty shares ports;
-      ranges = record { parts = new_ranges bridge leave_time periodic ports; talks = tt; configs = new_bridges bridge leave_time periodic ports fit };
+      kept = kept-new bridge leave_time periodic domain empty shares ports;
+      ranges = record { parts = new_ranges bridge leave_time periodic domain ports; talks = tt; configs = new_bridges bridge leave_time periodic domain ports fit };
     }
 
 -- ---- settling
@@ -113,7 +120,7 @@ module _ (parts : PartLaws) (books : BookLaws) (moves : MoveLaws) (awaits : Awai
       let bridge = each-get HasBridge side.ports at p proper.ranges.configs here in
       let kept = kept-settled parts books moves awaits awaiting has_rows side proper.kept at p here ks set in
       let fit = range_from _
-      (each-settled parts (stated_at at p.config book (seen_by side)) IsWithin (rule_in side proper.kept.ports proper.ranges at p.config book bridge) tried p.part port.rows (range_row p.part (ranges_at side proper at p here))) in
+      (each-settled parts (stated_at at (record p { ledger = book }) (seen_by side)) IsWithin (rule_in side proper.kept.ports proper.ranges at (record p { ledger = book }) bridge) tried p.part port.rows (range_row p.part (ranges_at side proper at p here))) in
       rw set (record { kept = kept; ranges = ranges-set side proper.ranges at p here _ book _ fit })
 
   pub proper-settled : IsProper (settled_streams at side)

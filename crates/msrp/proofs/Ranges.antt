@@ -5,6 +5,8 @@ use Rattle.std.specs.Option.{option_or}
 use Rattle.std.proofs.Math.Nat.{min-le_right}
 use Rattle.std.proofs.lemmas.List.Quantifiers.{position-Some}
 use Rattle.std.specs.List.{AllByRecursion}
+use Rattle.srp_base.specs.declared.bandwidth.Class.{Class}
+use Rattle.srp_base.specs.declared.bandwidth.Class.TheVariants.{A, B}
 use Rattle.srp_base.specs.declared.numbers.StreamId.{StreamId}
 use Rattle.srp_base.specs.declared.streams.Talker.{Talker}
 use Rattle.srp_base.specs.declared.streams.ListenerKind.{ListenerKind}
@@ -18,7 +20,7 @@ use Rattle.stream_importance.specs.Bandwidth.{cap_of}
 use Rattle.port_ledger.specs.Decision.{above, booked_of, does_fit}
 use Rattle.port_ledger.specs.Book.{Book, fit_for, is_normal, tested_entry}
 use Rattle.msrp_talker.specs.declared.port_config.PortConfig.{PortConfig}
-use Rattle.msrp_talker.specs.TalkerOut.{class_of_priority, fit_code, declared_of, delayed_by, refusal_of, talker_in, talker_out}
+use Rattle.msrp_talker.specs.TalkerOut.{boundary_code, class_of_priority, fit_code, declared_of, delayed_by, refusal_of, talker_in, talker_out}
 use Rattle.mrp_participant.specs.State.{registered_at}
 use Rattle.msrp_listener.specs.Merging.{listener_out}
 use Rattle.msrp_codec.specs.declared.pdu.MsrpKey.{MsrpKey}
@@ -29,10 +31,12 @@ use Rattle.msrp_codec.specs.Content.{value_of}
 use Rattle.msrp_codec.specs.FirstValue.{IsFailure, IsFirst, IsTalker}
 use Rattle.msrp.specs.declared.port.Port.{Port}
 use Rattle.msrp.specs.Part.{Part, key_cmp, registered_talker, talker_content, talker_reg_of}
-use Rattle.msrp.specs.Stream.{advertise_of, fit_at, is_number, is_present, is_talker_port, stated_at, talk_of, other_listeners, talker_at, first_talker, talkers_of, want_of_talker}
+use Rattle.msrp.specs.Domain.{domain_content, domain_key}
+use Rattle.msrp.specs.Stream.{advertise_of, edge_at, fit_at, is_number, is_present, is_talker_port, stated_at, talk_of, other_listeners, talker_at, first_talker, talkers_of, want_of_talker}
 use Rattle.msrp.specs.Side.{Streams, IsPort, seen_by}
 use Rattle.msrp.specs.Proper.{AreOfRange, HasRanges}
 use Rattle.msrp.proofs.Contents.{HoldsOfEach}
+use Rattle.msrp.proofs.Domains.{stated_value}
 use Rattle.msrp.proofs.Rules.{IsOf, found_holds, of_talker, registered_holds}
 
 -- a content of a key fits
@@ -115,22 +119,27 @@ checked o true b h = omega arith
 checked o false true h = omega arith
 checked o false false h = h
 
-refusal_fits : (t : Talker) (fit : Fit) → IsCodeIn (fit_code fit) → IsCodeIn (refusal_of t fit)
-refusal_fits t fit h = checked (fit_code fit) (is_none (class_of_priority t.priority)) (nat_lt 1500 t.max_frame) h
+bounded : (o : Option ℕ) (edge : Bool) → IsCodeIn o → IsCodeIn (option_or (boundary_code edge) o)
+bounded o true h = omega arith
+bounded o false h = h
 
-in_out : (reg : TalkerReg) (config : PortConfig) (fit : Fit) → config.bridge.0 < 2 ^ 64 → IsRegIn reg → IsCodeIn (fit_code fit) → IsRegIn (talker_out reg config fit)
-in_out Absent config fit bridge reg code = tt
-in_out (Failed t f) config fit bridge reg code = (later_fits config.latency t reg.0, reg.1)
-in_out (Advertise t) config fit bridge reg code = in_declared config (delayed_by config.latency t) (refusal_of t fit) bridge (later_fits config.latency t reg) (refusal_fits t fit code)
+refusal_fits : (t : Talker) (edge : Bool) (fit : Fit) → IsCodeIn (fit_code fit) → IsCodeIn (refusal_of t edge fit)
+refusal_fits t edge fit h =
+    checked (option_or (boundary_code edge) (fit_code fit)) (is_none (class_of_priority t.priority)) (nat_lt 1500 t.max_frame) (bounded (fit_code fit) edge h)
 
-in_at : (at : ℕ) (config : PortConfig) (book : Book) (talkers : List TalkerReg) → config.bridge.0 < 2 ^ 64 → IsRegIn (first_talker talkers) → IsRegIn (talker_at at config book talkers)
-in_at at config book talkers bridge reg = by (is_talker_port (suc at) talkers)
+in_out : (reg : TalkerReg) (config : PortConfig) (edge : Bool) (fit : Fit) → config.bridge.0 < 2 ^ 64 → IsRegIn reg → IsCodeIn (fit_code fit) → IsRegIn (talker_out reg config edge fit)
+in_out Absent config edge fit bridge reg code = tt
+in_out (Failed t f) config edge fit bridge reg code = (later_fits config.latency t reg.0, reg.1)
+in_out (Advertise t) config edge fit bridge reg code = in_declared config (delayed_by config.latency t) (refusal_of t edge fit) bridge (later_fits config.latency t reg) (refusal_fits t edge fit code)
+
+in_at : (at : ℕ) (p : Port) (talkers : List TalkerReg) → p.config.bridge.0 < 2 ^ 64 → IsRegIn (first_talker talkers) → IsRegIn (talker_at at p talkers)
+in_at at p talkers bridge reg = by (is_talker_port (suc at) talkers)
   where
-    by : (b : Bool) → IsRegIn (if b then Absent else talker_out (first_talker talkers) config (unwrap_or (fit_at book.moment at book talkers) Fits))
+    by : (b : Bool) → IsRegIn (if b then Absent else talker_out (first_talker talkers) p.config (edge_at p talkers) (unwrap_or (fit_at p.ledger.moment at p.ledger talkers) Fits))
     by true = tt
     by false =
-        in_out (first_talker talkers) config (unwrap_or (fit_at book.moment at book talkers) Fits) bridge reg
-        (code_at book.moment book (is_talker_port (suc at) talkers) (option_and_then want_of_talker (talker_in (first_talker talkers))))
+        in_out (first_talker talkers) p.config (edge_at p talkers) (unwrap_or (fit_at p.ledger.moment at p.ledger talkers) Fits) bridge reg
+        (code_at p.ledger.moment p.ledger (is_talker_port (suc at) talkers) (option_and_then want_of_talker (talker_in (first_talker talkers))))
 
 in_stated : (s : StreamId) (reg : TalkerReg) (c : MsrpContent) → IsRegIn reg → talker_content reg ≡ Some c → IsWithin (keys.Talker s) c
 in_stated s Absent c h e = cc
@@ -166,12 +175,17 @@ listener_in : (s : StreamId) (o : Option ListenerKind) (c : MsrpContent) → s.0
 listener_in s None c within e = cc
 listener_in s (Some k) c within e = let is : contents.Listener k ≡ c = cc in subst (λ (x : MsrpContent). IsWithin (keys.Listener s) x) is within
 
+-- the Domain value of a class fits
+pub value_in : (class : Class) → IsWithin (domain_key class) (domain_content class)
+value_in A = (omega arith, omega arith, omega arith)
+value_in B = (omega arith, omega arith, omega arith)
+
 -- what the rules state of a key fits
-pub rule_in : (side : Streams) → AllByRecursion (IsPort side.moment) side.ports → AreOfRange side → (at : ℕ) (config : PortConfig) (book : Book) → config.bridge.0 < 2 ^ 64
-    → (key : MsrpKey) (c : MsrpContent) → stated_at at config book (seen_by side) key ≡ Some c → IsWithin key c
-rule_in side ports fit at config book bridge (keys.Talker s) c e =
-    in_stated s (talker_at at config book (talkers_of side.talks side.ports s)) c (in_at at config book (talkers_of side.talks side.ports s) bridge (in_talker side fit s)) e
-rule_in side ports fit at config book bridge (keys.Listener s) c e = by (is_talker_port (suc at) (talkers_of side.talks side.ports s)) refl e
+pub rule_in : (side : Streams) → AllByRecursion (IsPort side.moment) side.ports → AreOfRange side → (at : ℕ) (p : Port) → p.config.bridge.0 < 2 ^ 64
+    → (key : MsrpKey) (c : MsrpContent) → stated_at at p (seen_by side) key ≡ Some c → IsWithin key c
+rule_in side ports fit at p bridge (keys.Talker s) c e =
+    in_stated s (talker_at at p (talkers_of side.talks side.ports s)) c (in_at at p (talkers_of side.talks side.ports s) bridge (in_talker side fit s)) e
+rule_in side ports fit at p bridge (keys.Listener s) c e = by (is_talker_port (suc at) (talkers_of side.talks side.ports s)) refl e
   where
     by : (b : Bool) → is_talker_port (suc at) (talkers_of side.talks side.ports s) ≡ b
         → option_map contents.Listener (if b then listener_out (other_listeners at (seen_by side s)) else None) ≡ Some c → IsWithin (keys.Listener s) c
@@ -180,4 +194,4 @@ rule_in side ports fit at config book bridge (keys.Listener s) c e = by (is_talk
         (of_present s (first_talker (talkers_of side.talks side.ports s)) (of_talker side.moment side.talks side.ports s ports) (in_talker side fit s)
         (at_port_present (talkers_of side.talks side.ports s) (suc at) (position is_present (talkers_of side.talks side.ports s)) refl here)) k
     by false here k = cc
-rule_in side ports fit at config book bridge (keys.Domain class) c e = cc
+rule_in side ports fit at p bridge (keys.Domain id) c e = stated_value IsWithin value_in p.domain id c e

@@ -1,5 +1,5 @@
 -- What the rules state of a key is of the key, and what they want is of the stream.
-use Rattle.std.proofs.Common.{◌≡◌, ℕ, suc, Bool, true, false, ◌||◌, ◌==◌, if◌then◌else◌, List, [], ◌∷◌, ◌++◌, map, refl, sym, ap, subst, ◌∙◌, arith}
+use Rattle.std.proofs.Common.{◌≡◌, ℕ, suc, Bool, true, false, not, ◌&&◌, ◌||◌, ◌==◌, if◌then◌else◌, List, [], ◌∷◌, ◌++◌, map, refl, sym, ap, subst, ◌∙◌, arith}
 use Rattle.std.specs.Prelude.{Option, Some, None, find, is_none, option_map, unwrap_or}
 use Rattle.std.specs.List.{AllByRecursion, filter_map, list_any}
 use Rattle.std.specs.Ordering.{nat_cmp, is_eq}
@@ -14,7 +14,6 @@ use Rattle.srp_base.specs.declared.streams.TalkerReg.TheVariants.{Absent, Advert
 use Rattle.stream_importance.specs.declared.entry.Fit.{Fit}
 use Rattle.stream_importance.specs.declared.entry.Fit.TheVariants.{Fits}
 use Rattle.stream_importance.specs.declared.entry.Want.{Want}
-use Rattle.port_ledger.specs.Book.{Book}
 use Rattle.msrp_talker.specs.declared.port_config.PortConfig.{PortConfig}
 use Rattle.msrp_talker.specs.TalkerOut.{check_of, class_of_priority, declared_of, delayed_by, refusal_of, talker_out}
 use Rattle.attribute_propagation.specs.Dirty.{is_awaiting, all_marked}
@@ -28,11 +27,12 @@ use Rattle.msrp_codec.specs.declared.pdu.MsrpContent.TheVariants as contents
 use Rattle.msrp_codec.specs.Content.{Belongs}
 use Rattle.msrp.specs.declared.port.Port.{Port}
 use Rattle.msrp.specs.Part.{Part, key_cmp, stream_cmp, registered_listener, registered_talker, talker_content, talker_reg_of}
-use Rattle.msrp.specs.Stream.{advertise_of, fit_at, is_present, is_ready, is_talker_port, listener_at, stated_at, talk_of, talker_at, first_talker, talkers_of, want_in_class, want_of_reg, want_of_talker, wanted_at}
+use Rattle.msrp.specs.Stream.{advertise_of, edge_at, fit_at, is_present, is_ready, is_talker_port, listener_at, stated_at, talk_of, talker_at, first_talker, talkers_of, want_in_class, want_of_reg, want_of_talker, wanted_at}
 use Rattle.msrp.specs.Settling.{listener_keys, stream_in, streams_in}
 use Rattle.msrp.specs.Side.{Streams, IsPort, seen_by}
 use Rattle.msrp.proofs.Places.{or_false}
 use Rattle.msrp.proofs.Contents.{HoldsOfEach, MsrpRow, own_row}
+use Rattle.msrp.proofs.Domains.{stated_value}
 
 -- a Talker that is registered or declared is of a stream
 abbrev pub IsOf : StreamId → TalkerReg → Type 0
@@ -87,54 +87,54 @@ of_declared : (s : StreamId) (config : PortConfig) (t : Talker) (o : Option ℕ)
 of_declared s config t None h = h
 of_declared s config t (Some code) h = h
 
-of_out : (s : StreamId) (reg : TalkerReg) (config : PortConfig) (fit : Fit) → IsOf s reg → IsOf s (talker_out reg config fit)
-of_out s Absent config fit h = tt
-of_out s (Failed t f) config fit h = h
-of_out s (Advertise t) config fit h = of_declared s config (delayed_by config.latency t) (refusal_of t fit) h
+of_out : (s : StreamId) (reg : TalkerReg) (config : PortConfig) (edge : Bool) (fit : Fit) → IsOf s reg → IsOf s (talker_out reg config edge fit)
+of_out s Absent config edge fit h = tt
+of_out s (Failed t f) config edge fit h = h
+of_out s (Advertise t) config edge fit h = of_declared s config (delayed_by config.latency t) (refusal_of t edge fit) h
 
 of_stated : (s : StreamId) (reg : TalkerReg) (c : MsrpContent) → IsOf s reg → talker_content reg ≡ Some c → Belongs (keys.Talker s) c
 of_stated s Absent c h e = cc
 of_stated s (Advertise t) c h e = let is : contents.Advertise t ≡ c = cc in subst (λ (x : MsrpContent). Belongs (keys.Talker s) x) is h
 of_stated s (Failed t f) c h e = let is : contents.Failed t f ≡ c = cc in subst (λ (x : MsrpContent). Belongs (keys.Talker s) x) is h
 
-of_at : (s : StreamId) (at : ℕ) (config : PortConfig) (book : Book) (talkers : List TalkerReg) → IsOf s (first_talker talkers) → IsOf s (talker_at at config book talkers)
-of_at s at config book talkers h = by (is_talker_port (suc at) talkers)
+of_at : (s : StreamId) (at : ℕ) (p : Port) (talkers : List TalkerReg) → IsOf s (first_talker talkers) → IsOf s (talker_at at p talkers)
+of_at s at p talkers h = by (is_talker_port (suc at) talkers)
   where
-    by : (b : Bool) → IsOf s (if b then Absent else talker_out (first_talker talkers) config (unwrap_or (fit_at book.moment at book talkers) Fits))
+    by : (b : Bool) → IsOf s (if b then Absent else talker_out (first_talker talkers) p.config (edge_at p talkers) (unwrap_or (fit_at p.ledger.moment at p.ledger talkers) Fits))
     by true = tt
-    by false = of_out s (first_talker talkers) config (unwrap_or (fit_at book.moment at book talkers) Fits) h
+    by false = of_out s (first_talker talkers) p.config (edge_at p talkers) (unwrap_or (fit_at p.ledger.moment at p.ledger talkers) Fits) h
 
 of_listener : (s : StreamId) (o : Option ListenerKind) (c : MsrpContent) → option_map contents.Listener o ≡ Some c → Belongs (keys.Listener s) c
 of_listener s None c e = cc
 of_listener s (Some k) c e = let is : contents.Listener k ≡ c = cc in subst (λ (x : MsrpContent). Belongs (keys.Listener s) x) is tt
 
 -- what the rules state of a key is of the key
-pub rule_own : (side : Streams) → AllByRecursion (IsPort side.moment) side.ports → (at : ℕ) (config : PortConfig) (book : Book) (key : MsrpKey) (c : MsrpContent) → stated_at at config book (seen_by side) key ≡ Some c → Belongs key c
-rule_own side ports at config book (keys.Talker s) c e =
-    of_stated s (talker_at at config book (talkers_of side.talks side.ports s)) c (of_at s at config book (talkers_of side.talks side.ports s) (of_talker side.moment side.talks side.ports s ports)) e
-rule_own side ports at config book (keys.Listener s) c e = of_listener s (listener_at at (seen_by side s)) c e
-rule_own side ports at config book (keys.Domain class) c e = cc
+pub rule_own : (side : Streams) → AllByRecursion (IsPort side.moment) side.ports → (at : ℕ) (p : Port) (key : MsrpKey) (c : MsrpContent) → stated_at at p (seen_by side) key ≡ Some c → Belongs key c
+rule_own side ports at p (keys.Talker s) c e =
+    of_stated s (talker_at at p (talkers_of side.talks side.ports s)) c (of_at s at p (talkers_of side.talks side.ports s) (of_talker side.moment side.talks side.ports s ports)) e
+rule_own side ports at p (keys.Listener s) c e = of_listener s (listener_at at (seen_by side s)) c e
+rule_own side ports at p (keys.Domain id) c e = stated_value Belongs (λ class. tt) p.domain id c e
 
 -- what is wanted is of the stream
 in_class_own : (s : StreamId) (t : Talker) (o : Option Class) (w : Want) → s ≡ t.stream → option_map (want_in_class t) o ≡ Some w → w.stream ≡ s
 in_class_own s t None w h e = cc
 in_class_own s t (Some k) w h e = let is : want_in_class t k ≡ w = cc in ap (λ (x : Want). x.stream) (sym is) ∙ sym h
 
-reg_own : (s : StreamId) (reg : TalkerReg) (w : Want) → IsOf s reg → want_of_reg reg ≡ Some w → w.stream ≡ s
-reg_own s Absent w h e = cc
-reg_own s (Failed t f) w h e = cc
-reg_own s (Advertise t) w h e = by (is_none (check_of t)) e
+reg_own : (s : StreamId) (edge : Bool) (reg : TalkerReg) (w : Want) → IsOf s reg → want_of_reg edge reg ≡ Some w → w.stream ≡ s
+reg_own s edge Absent w h e = cc
+reg_own s edge (Failed t f) w h e = cc
+reg_own s edge (Advertise t) w h e = by (not edge && is_none (check_of t)) e
   where
     by : (b : Bool) → (if b then want_of_talker t else None) ≡ Some w → w.stream ≡ s
     by true k = in_class_own s t (class_of_priority t.priority) w h k
     by false k = cc
 
-pub want_own : (at : ℕ) (part : Part) (talkers : List TalkerReg) (s : StreamId) (w : Want) → IsOf s (first_talker talkers) → wanted_at at part talkers s ≡ Some w → w.stream ≡ s
-want_own at part talkers s w h e = by (is_talker_port (suc at) talkers) (is_ready (registered_listener s part)) e
+pub want_own : (at : ℕ) (p : Port) (talkers : List TalkerReg) (s : StreamId) (w : Want) → IsOf s (first_talker talkers) → wanted_at at p talkers s ≡ Some w → w.stream ≡ s
+want_own at p talkers s w h e = by (is_talker_port (suc at) talkers) (is_ready (registered_listener s p.part)) e
   where
-    by : (a b : Bool) → (if a then None else if b then want_of_reg (first_talker talkers) else None) ≡ Some w → w.stream ≡ s
+    by : (a b : Bool) → (if a then None else if b then want_of_reg (edge_at p talkers) (first_talker talkers) else None) ≡ Some w → w.stream ≡ s
     by true b k = cc
-    by false true k = reg_own s (first_talker talkers) w h k
+    by false true k = reg_own s (edge_at p talkers) (first_talker talkers) w h k
     by false false k = cc
 
 -- where a stream isn't among those of some keys, neither of its keys is among them

@@ -28,12 +28,14 @@ use Rattle.msrp_codec.specs.declared.pdu.MsrpContent.{MsrpContent}
 use Rattle.msrp_codec.specs.declared.pdu.MsrpContent.TheVariants as contents
 use Rattle.msrp.specs.declared.port.Port.{Port}
 use Rattle.msrp.specs.Part.{Part, key_cmp, stream_cmp, registered_listener, registered_talker, listener_kind_of, settled_part, talker_content, talker_reg_of}
-use Rattle.msrp.specs.Stream.{Registrations, advertise_of, is_listened, is_ready, is_talker_port, listener_at, listener_row, own_listener, stated_at, talk_of, talker_at, first_talker, talkers_of, want_of_reg, want_of_talker, wanted_at}
+use Rattle.msrp.specs.Domain.{domain_key}
+use Rattle.msrp.specs.Stream.{Registrations, advertise_of, edge_at, is_listened, is_talker_port, listener_at, listener_row, own_listener, stated_at, talk_of, talker_at, first_talker, talkers_of, want_of_talker, wanted_at}
 use Rattle.msrp.specs.Settling.{listener_keys, moved_streams, next_book, settled_book, settled_port, settling_keys, streams_in, talker_keys}
 use Rattle.msrp.specs.Side.{Streams, IsKept, IsPort, IsSettled, IsSettledAt, awaiting_at, seen_by, settled_streams}
 use Rattle.msrp.proofs.Places.{decide, each-get, each-set, get-set_other, get-set_same, map-set, map-set_same, opened, or_false}
 use Rattle.msrp.proofs.Telling.{Awaits, unmarked}
-use Rattle.msrp.proofs.Talkers.{HasRows, absent_stated, no_talker}
+use Rattle.msrp.proofs.Talkers.{HasRows, absent_stated, no_talker, stated_by, wanted_by}
+use Rattle.msrp.proofs.Domains.{edge_same}
 use Rattle.msrp.proofs.Participants.{PartLaws, declared-settled, own-settled, registered-settled, rows-settled}
 use Rattle.msrp.proofs.Ledgers.{BookLaws, IsLike, settled_like, settled_wants}
 use Rattle.msrp.proofs.Rules.{AwaitsStreams, among, among-append, of_talker, rule_own, stream_out, want_own}
@@ -91,15 +93,15 @@ same_fit f g None same = refl
 same_fit f g (Some w) same = ap (λ x. Some x) (same w)
 
 -- where the booked set is the same, what is declared of a Talker is
-talker_same : (laws : MoveLaws) (at : ℕ) (config : PortConfig) (book other : Book) (talkers : List TalkerReg) → IsAscending book.entries → IsAscending other.entries
-    → book.caps ≡ other.caps → book.moment ≡ other.moment → booked_of book.entries ≡ booked_of other.entries → talker_at at config book talkers ≡ talker_at at config other talkers
-talker_same laws at config book other talkers up down caps moment booked =
+talker_same : (laws : MoveLaws) (at : ℕ) (config : PortConfig) (edge : Bool) (book other : Book) (talkers : List TalkerReg) → IsAscending book.entries → IsAscending other.entries
+    → book.caps ≡ other.caps → book.moment ≡ other.moment → booked_of book.entries ≡ booked_of other.entries → stated_by at config book edge talkers ≡ stated_by at config other edge talkers
+talker_same laws at config edge book other talkers up down caps moment booked =
     let w = option_and_then want_of_talker (talker_in (first_talker talkers)) in
-    ap (λ (o : Option Fit). if is_talker_port (suc at) talkers then Absent else talker_out (first_talker talkers) config (unwrap_or (if is_talker_port (suc at) talkers then None else o) Fits))
+    ap (λ (o : Option Fit). if is_talker_port (suc at) talkers then Absent else talker_out (first_talker talkers) config edge (unwrap_or (if is_talker_port (suc at) talkers then None else o) Fits))
     (same_fit (fit_for book.moment book) (fit_for book.moment other) w (λ want. laws.fits book other book.moment want up down caps booked)
     ∙ ap (λ (n : ℕ). option_map (fit_for n other) w) moment)
 
-pub next_is : (at : ℕ) (regs : StreamId → Registrations) (ks : List MsrpKey) (p : Port) → next_book at regs ks p ≡ settled_book (λ s. wanted_at at p.part (regs s).talkers s) (streams_in ks) p.ledger
+pub next_is : (at : ℕ) (regs : StreamId → Registrations) (ks : List MsrpKey) (p : Port) → next_book at regs ks p ≡ settled_book (λ s. wanted_at at p (regs s).talkers s) (streams_in ks) p.ledger
 unfolding next_book
 next_is at regs ks p = refl
 
@@ -109,7 +111,7 @@ module _ (parts : PartLaws) (books : BookLaws) (moves : MoveLaws) (awaits : Awai
   regs s = seen_by side s
 
   abbrev wants : StreamId → Option Want
-  wants s = wanted_at at p.part (regs s).talkers s
+  wants s = wanted_at at p (regs s).talkers s
 
   abbrev book : Book
   book = next_book at (seen_by side) ks p
@@ -123,11 +125,15 @@ module _ (parts : PartLaws) (books : BookLaws) (moves : MoveLaws) (awaits : Awai
   abbrev tried : List MsrpKey
   tried = settling_keys moved talkers ks
 
+  -- the port with its next ledger
+  abbrev ruled : Port
+  ruled = record p { ledger = book }
+
   abbrev rule : MsrpKey → Option MsrpContent
-  rule key = stated_at at p.config book (seen_by side) key
+  rule key = stated_at at ruled (seen_by side) key
 
   abbrev part : Part
-  part = settled_part (stated_at at p.config book (seen_by side)) tried p.part
+  part = settled_part (stated_at at ruled (seen_by side)) tried p.part
 
   abbrev next : Port
   next = record p { part = part; ledger = book }
@@ -139,7 +145,7 @@ module _ (parts : PartLaws) (books : BookLaws) (moves : MoveLaws) (awaits : Awai
   port = each-get (IsPort side.moment) side.ports at p kept.ports here
 
   own_wants : (s : StreamId) (w : Want) → wants s ≡ Some w → w.stream ≡ s
-  own_wants s w e = want_own at p.part (talkers_of side.talks side.ports s) s w (of_talker side.moment side.talks side.ports s kept.ports) e
+  own_wants s w e = want_own at p (talkers_of side.talks side.ports s) s w (of_talker side.moment side.talks side.ports s kept.ports) e
 
   like : IsLike p.ledger book
   like =
@@ -150,7 +156,7 @@ module _ (parts : PartLaws) (books : BookLaws) (moves : MoveLaws) (awaits : Awai
   book_wants s = ap (λ (b : Book). want_of b.entries s) (next_is at (seen_by side) ks p) ∙ settled_wants books wants own_wants (streams_in ks) p.ledger s
 
   registered_same : (key : MsrpKey) → registered_at key_cmp key part ≡ registered_at key_cmp key p.part
-  registered_same key = registered-settled parts (stated_at at p.config book (seen_by side)) tried p.part key port.rows
+  registered_same key = registered-settled parts (stated_at at ruled (seen_by side)) tried p.part key port.rows
 
   talkers_same : (s : StreamId) → talkers_of side.talks (slice_set side.ports at next) s ≡ talkers_of side.talks side.ports s
   talkers_same s =
@@ -189,16 +195,16 @@ module _ (parts : PartLaws) (books : BookLaws) (moves : MoveLaws) (awaits : Awai
       same_booked : moved ≡ [] → booked_of book.entries ≡ booked_of p.ledger.entries
       same_booked e = (moves.empty p.ledger.entries book.entries port.ledger.ascending like.kept.ascending).0 (both_empty (booked_only_in book.entries p.ledger.entries) (booked_only_in p.ledger.entries book.entries) e)
 
-      still : moved ≡ [] → (k : MsrpKey) → stated_at at p.config p.ledger (seen_by side) k ≡ rule k
+      still : moved ≡ [] → (k : MsrpKey) → stated_at at p (seen_by side) k ≡ rule k
       still e (keys.Talker s) =
-          ap talker_content (sym (talker_same moves at p.config book p.ledger (talkers_of side.talks side.ports s) like.kept.ascending port.ledger.ascending like.caps like.moment (same_booked e)))
+          ap talker_content (sym (talker_same moves at p.config (edge_at p (talkers_of side.talks side.ports s)) book p.ledger (talkers_of side.talks side.ports s) like.kept.ascending port.ledger.ascending like.caps like.moment (same_booked e)))
       still e (keys.Listener s) = refl
       still e (keys.Domain c) = refl
 
-      none : (k : MsrpKey) → is_awaiting key_cmp k talkers ≡ false → stated_at at p.config p.ledger (seen_by side) k ≡ rule k
+      none : (k : MsrpKey) → is_awaiting key_cmp k talkers ≡ false → stated_at at p (seen_by side) k ≡ rule k
       none (keys.Talker s) h =
           let absent = no_talker has_rows side.talks side.ports s h in
-          absent_stated at p.config p.ledger (talkers_of side.talks side.ports s) absent ∙ sym (absent_stated at p.config book (talkers_of side.talks side.ports s) absent)
+          absent_stated at p (talkers_of side.talks side.ports s) absent ∙ sym (absent_stated at ruled (talkers_of side.talks side.ports s) absent)
       none (keys.Listener s) h = refl
       none (keys.Domain c) h = refl
 
@@ -210,8 +216,14 @@ module _ (parts : PartLaws) (books : BookLaws) (moves : MoveLaws) (awaits : Awai
   by_rule key true e = refl
   by_rule key false e = untried key e
 
-  rule_after : (key : MsrpKey) → rule key ≡ stated_at at p.config book (seen_by after) key
-  rule_after (keys.Talker s) = ap (λ ts. talker_content (talker_at at p.config book ts)) (sym (talkers_same s))
+  -- no Domain's registration changes, so the port is at the same boundaries
+  edge_stays : (ts : List TalkerReg) → edge_at next ts ≡ edge_at p ts
+  edge_stays ts = edge_same p.domain p.part part (first_talker ts) (λ class. registered_same (domain_key class))
+
+  rule_after : (key : MsrpKey) → rule key ≡ stated_at at next (seen_by after) key
+  rule_after (keys.Talker s) =
+      ap (λ (b : Bool). talker_content (stated_by at p.config book b (talkers_of side.talks side.ports s))) (sym (edge_stays (talkers_of side.talks side.ports s)))
+      ∙ ap (λ ts. talker_content (talker_at at next ts)) (sym (talkers_same s))
   rule_after (keys.Listener s) = ap (option_map contents.Listener) (sym (listener_here s))
   rule_after (keys.Domain c) = refl
 
@@ -219,16 +231,17 @@ module _ (parts : PartLaws) (books : BookLaws) (moves : MoveLaws) (awaits : Awai
   wanted_here s true e = refl
   wanted_here s false e = let out = stream_out awaiting ks s e in old.wanted s out.talker out.listener
 
-  wants_after : (s : StreamId) → wants s ≡ wanted_at at part (talkers_of side.talks (slice_set side.ports at next) s) s
+  wants_after : (s : StreamId) → wants s ≡ wanted_at at next (talkers_of side.talks (slice_set side.ports at next) s) s
   wants_after s =
-      ap (λ (o : Option ListenerKind). if is_talker_port (suc at) (talkers_of side.talks side.ports s) then None else if is_ready o then want_of_reg (first_talker (talkers_of side.talks side.ports s)) else None) (sym (listener_same s))
-      ∙ ap (λ ts. wanted_at at part ts s) (sym (talkers_same s))
+      ap (λ (o : Option ListenerKind). wanted_by at o (edge_at p (talkers_of side.talks side.ports s)) (talkers_of side.talks side.ports s)) (sym (listener_same s))
+      ∙ (ap (λ (b : Bool). wanted_by at (registered_listener s part) b (talkers_of side.talks side.ports s)) (sym (edge_stays (talkers_of side.talks side.ports s)))
+      ∙ ap (λ ts. wanted_at at next ts s) (sym (talkers_same s)))
 
   settled_here : IsSettled at next [] (seen_by after)
   settled_here =
       record {
         declared = λ key out.
-            declared-settled parts (stated_at at p.config book (seen_by side)) tried p.part key port.rows
+            declared-settled parts (stated_at at ruled (seen_by side)) tried p.part key port.rows
             ∙ (by_rule key (is_awaiting key_cmp key tried) refl ∙ rule_after key);
         wanted = λ s one two. book_wants s ∙ (wanted_here s (is_awaiting stream_cmp s (streams_in ks)) refl ∙ wants_after s);
       }
@@ -239,15 +252,15 @@ module _ (parts : PartLaws) (books : BookLaws) (moves : MoveLaws) (awaits : Awai
   settled_there j ne q more at_j sets =
       let was = was_there awaits (listener_keys moved) side.awaiting at j more ne (sym (get-set_other (marked_elsewhere key_cmp at (listener_keys moved) side.awaiting) at j [] ne) ∙ sets) in
       let before = kept.settled j q was.set (sym (get-set_other side.ports at j next ne) ∙ at_j) was.there in
-      record { declared = each j q more was before; wanted = λ s one two. before.wanted s (fewer more was (keys.Talker s) one) (fewer more was (keys.Listener s) two) ∙ ap (λ ts. wanted_at j q.part ts s) (sym (talkers_same s)) }
+      record { declared = each j q more was before; wanted = λ s one two. before.wanted s (fewer more was (keys.Talker s) one) (fewer more was (keys.Listener s) two) ∙ ap (λ ts. wanted_at j q ts s) (sym (talkers_same s)) }
     where
       fewer : (more : List MsrpKey) {j : ℕ} → (was : WasThere (listener_keys moved) side.awaiting j more) → (key : MsrpKey) → is_awaiting key_cmp key more ≡ false → is_awaiting key_cmp key was.set ≡ false
       fewer more was key out = (unmarked awaits key (listener_keys moved) was.set (ap (is_awaiting key_cmp key) was.is ∙ out)).1
 
       each : (j : ℕ) (q : Port) (more : List MsrpKey) → (was : WasThere (listener_keys moved) side.awaiting j more) → IsSettled j q was.set (seen_by side)
-          → (key : MsrpKey) → is_awaiting key_cmp key more ≡ false → declared_at key_cmp key q.part ≡ stated_at j q.config q.ledger (seen_by after) key
+          → (key : MsrpKey) → is_awaiting key_cmp key more ≡ false → declared_at key_cmp key q.part ≡ stated_at j q (seen_by after) key
       each j q more was before (keys.Talker s) out =
-          before.declared (keys.Talker s) (fewer more was (keys.Talker s) out) ∙ ap (λ ts. talker_content (talker_at j q.config q.ledger ts)) (sym (talkers_same s))
+          before.declared (keys.Talker s) (fewer more was (keys.Talker s) out) ∙ ap (λ ts. talker_content (talker_at j q ts)) (sym (talkers_same s))
       each j q more was before (keys.Listener s) out =
           before.declared (keys.Listener s) (fewer more was (keys.Listener s) out)
           ∙ ap (λ (r : Registrations). option_map contents.Listener (listener_at j r)) (sym (seen_same s (unmarked awaits (keys.Listener s) (listener_keys moved) was.set (ap (is_awaiting key_cmp (keys.Listener s)) was.is ∙ out)).0))
@@ -266,8 +279,8 @@ module _ (parts : PartLaws) (books : BookLaws) (moves : MoveLaws) (awaits : Awai
   next_port : IsPort side.moment next
   next_port =
       record {
-        rows = rows-settled parts (stated_at at p.config book (seen_by side)) tried p.part port.rows;
-        contents = own-settled parts (stated_at at p.config book (seen_by side)) (rule_own side kept.ports at p.config book) tried p.part port.rows port.contents;
+        rows = rows-settled parts (stated_at at ruled (seen_by side)) tried p.part port.rows;
+        contents = own-settled parts (stated_at at ruled (seen_by side)) (rule_own side kept.ports at ruled) tried p.part port.rows port.contents;
         ledger = like.kept;
         moment = like.moment ∙ port.moment;
       }

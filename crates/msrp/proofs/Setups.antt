@@ -7,7 +7,6 @@ use Rattle.stream_importance.specs.declared.slope.Caps.{Caps}
 use Rattle.port_ledger.specs.Book.{Book}
 use Rattle.attribute_propagation.specs.Ports.{marked_elsewhere}
 use Rattle.msrp_codec.specs.declared.pdu.MsrpKey.{MsrpKey}
-use Rattle.msrp_talker.specs.declared.port_config.PortConfig.{PortConfig}
 use Rattle.msrp.specs.declared.asking.SrpRequest.{SrpRequest}
 use Rattle.msrp.specs.declared.asking.SrpRequest.TheVariants.{Talk, Hush, Listen, Unlisten}
 use Rattle.msrp.specs.declared.port.Port.{Port}
@@ -15,13 +14,9 @@ use Rattle.msrp.specs.Part.{Part, key_cmp}
 use Rattle.msrp.specs.Stream.{Registrations, talk_of, wanted_at}
 use Rattle.msrp.specs.Settling.{book_with, book_without, with_wants, next_book, streams_in, taken_out}
 use Rattle.msrp.specs.Side.{Streams, at_port, awaiting_at, clocked_port, clocked_streams, has_listen, has_talk, is_talk, moved_keys, with_port_at, requested_streams, with_told_port, seen_by, settled_at, settled_streams, with_part, with_port}
-use Rattle.msrp.specs.Proper.{setups_of}
+use Rattle.msrp.specs.Proper.{Setup, setup_of, setups_of}
 use Rattle.msrp.proofs.Places.{map-set_same, mapped_length}
 use Rattle.msrp.proofs.Clocked.{map_twice}
-
--- how one port is set up
-abbrev setup_of : Port → PortConfig × Caps
-setup_of p = (p.config, p.ledger.caps)
 
 pub setups-at : (side : Streams) (make : Port → Streams) (o : Option Port) → ((p : Port) → o ≡ Some p → setups_of (make p) ≡ setups_of side) → setups_of (with_port o make side) ≡ setups_of side
 setups-at side make None h = refl
@@ -58,7 +53,7 @@ in_caps wants (s ∷ streams) book = in_caps wants streams (book_with (wants s) 
 next_caps : (at : ℕ) (regs : StreamId → Registrations) (ks : List MsrpKey) (p : Port) → (next_book at regs ks p).caps ≡ p.ledger.caps
 unfolding next_book
 next_caps at regs ks p =
-    let wants : StreamId → Option Want = λ s. wanted_at at p.part (regs s).talkers s in
+    let wants : StreamId → Option Want = λ s. wanted_at at p (regs s).talkers s in
     in_caps wants (streams_in ks) (taken_out wants (streams_in ks) p.ledger) ∙ out_caps wants (streams_in ks) p.ledger
 
 pub setups-settled : (at : ℕ) (side : Streams) → setups_of (settled_streams at side) ≡ setups_of side
@@ -66,7 +61,7 @@ setups-settled at side =
     setups-at side
     (λ (p : Port). record side { ports = slice_set side.ports at (settled_at at side p); awaiting = slice_set (marked_elsewhere key_cmp at (moved_keys at side p) side.awaiting) at [] })
     (slice_get side.ports at)
-    (λ p here. map-set_same setup_of side.ports at p (settled_at at side p) here (ap (λ (c : Caps). (p.config, c)) (next_caps at (seen_by side) (awaiting_at at side) p)))
+    (λ p here. map-set_same setup_of side.ports at p (settled_at at side p) here (ap (λ (c : Caps). let setup : Setup = record { config = p.config; caps = c; domain = p.domain } in setup) (next_caps at (seen_by side) (awaiting_at at side) p)))
 
 -- ---- requests, and the clock
 
@@ -84,4 +79,4 @@ pub setups-clocked : (now : ℕ) (side : Streams) → setups_of (clocked_streams
 setups-clocked now side = map_twice setup_of (clocked_port now) side.ports (λ p. refl)
 
 pub same_count : (a b : Streams) → setups_of a ≡ setups_of b → length a.ports ≡ length b.ports
-same_count a b e = sym (mapped_length setup_of a.ports) ∙ (ap (λ (xs : List (PortConfig × Caps)). length xs) e ∙ mapped_length setup_of b.ports)
+same_count a b e = sym (mapped_length setup_of a.ports) ∙ (ap (λ (xs : List Setup). length xs) e ∙ mapped_length setup_of b.ports)

@@ -1,6 +1,6 @@
 -- A stream without a Talker: what a port states and wants of it, and which Talker keys there are.
 use Rattle.std.proofs.Common.{◌≡◌, ℕ, zero, suc, ◌<◌, Bool, true, false, ◌||◌, ◌==◌, if◌then◌else◌, List, [], ◌∷◌, ◌++◌, length, map, refl, sym, ap, ◌∙◌, arith}
-use Rattle.std.specs.Prelude.{Option, Some, None, IsSome, find, position, Contains, slice_index_or}
+use Rattle.std.specs.Prelude.{Option, Some, None, IsSome, find, position, Contains, slice_index_or, unwrap_or}
 use Rattle.std.specs.List.{AllByRecursion, flat_map, list_any}
 use Rattle.std.specs.Ordering.{nat_cmp, is_eq}
 use Rattle.std.proofs.lemmas.List.Quantifiers.{position-Some}
@@ -9,7 +9,11 @@ use Rattle.srp_base.specs.declared.numbers.StreamId.{StreamId}
 use Rattle.srp_base.specs.declared.streams.Talker.{Talker}
 use Rattle.srp_base.specs.declared.streams.TalkerReg.{TalkerReg}
 use Rattle.srp_base.specs.declared.streams.TalkerReg.TheVariants.{Absent}
+use Rattle.srp_base.specs.declared.streams.ListenerKind.{ListenerKind}
+use Rattle.stream_importance.specs.declared.entry.Fit.TheVariants.{Fits}
+use Rattle.stream_importance.specs.declared.entry.Want.{Want}
 use Rattle.msrp_talker.specs.declared.port_config.PortConfig.{PortConfig}
+use Rattle.msrp_talker.specs.TalkerOut.{talker_out}
 use Rattle.port_ledger.specs.Book.{Book}
 use Rattle.attribute_propagation.specs.Dirty.{is_awaiting}
 use Rattle.mrp_participant.specs.Lookup.{key_of}
@@ -20,15 +24,26 @@ use Rattle.msrp_codec.specs.declared.pdu.MsrpContent.{MsrpContent}
 use Rattle.msrp.specs.declared.port.Port.{Port}
 use Rattle.msrp.proofs.KeyLemmas.{key_self}
 use Rattle.msrp.specs.Part.{Part, key_cmp, registered_talker, talker_content, talker_reg_of}
-use Rattle.msrp.specs.Stream.{is_present, is_talker_port, talk_of, talker_at, first_talker, talkers_of}
+use Rattle.msrp.specs.Stream.{fit_at, is_present, is_ready, is_talker_port, want_of_reg, talk_of, talker_at, first_talker, talkers_of}
 use Rattle.msrp.specs.Settling.{talker_key_if, talker_keys, talker_keys_in}
 use Rattle.msrp.proofs.Places.{or_false}
 
--- nothing is stated and nothing wanted of a stream without a Talker
-pub absent_stated : (at : ℕ) (config : PortConfig) (book : Book) (talkers : List TalkerReg) → first_talker talkers ≡ Absent → talker_content (talker_at at config book talkers) ≡ None
-absent_stated at config book talkers none = by (is_talker_port (suc at) talkers) refl
+-- what a port states of a Talker and wants for it, by what it looks at
+abbrev pub stated_by : ℕ → PortConfig → Book → Bool → List TalkerReg → TalkerReg
+stated_by at config book edge talkers =
+    if is_talker_port (suc at) talkers then Absent
+    else talker_out (first_talker talkers) config edge (unwrap_or (fit_at book.moment at book talkers) Fits)
+
+abbrev pub wanted_by : ℕ → Option ListenerKind → Bool → List TalkerReg → Option Want
+wanted_by at kind edge talkers =
+    if is_talker_port (suc at) talkers then None
+    else if is_ready kind then want_of_reg edge (first_talker talkers) else None
+
+-- nothing is stated of a stream without a Talker
+pub absent_stated : (at : ℕ) (p : Port) (talkers : List TalkerReg) → first_talker talkers ≡ Absent → talker_content (talker_at at p talkers) ≡ None
+absent_stated at p talkers none = by (is_talker_port (suc at) talkers) refl
   where
-    by : (b : Bool) → is_talker_port (suc at) talkers ≡ b → talker_content (talker_at at config book talkers) ≡ None
+    by : (b : Bool) → is_talker_port (suc at) talkers ≡ b → talker_content (talker_at at p talkers) ≡ None
     by true e = rw e refl
     by false e = rw (e, none) refl
 
@@ -68,7 +83,7 @@ any-append p (x ∷ xs) ys = ap (λ b. p x || b) (any-append p xs ys) ∙ joined
     joined true b c = refl
     joined false b c = refl
 
-not_in : (key : MsrpKey) (xs ys : List MsrpKey) → is_awaiting key_cmp key (xs ++ ys) ≡ false → (is_awaiting key_cmp key xs ≡ false) × (is_awaiting key_cmp key ys ≡ false)
+pub not_in : (key : MsrpKey) (xs ys : List MsrpKey) → is_awaiting key_cmp key (xs ++ ys) ≡ false → (is_awaiting key_cmp key xs ≡ false) × (is_awaiting key_cmp key ys ≡ false)
 not_in key xs ys h = or_false (is_awaiting key_cmp key xs) (is_awaiting key_cmp key ys) (sym (any-append (λ x. is_eq (key_cmp x key)) xs ys) ∙ h)
 
 -- what a key that is there gives is among what all keys give
@@ -102,7 +117,7 @@ absent_in rows s x h = by (registered_at key_cmp (keys.Talker x) s) refl
         ∙ here (registered_at key_cmp (keys.Talker x) s)
         (from_flat (keys.Talker x) (λ key. talker_key_if key (registered_at key_cmp key s)) (map key_of s.rows) at.0 (keys.Talker x) at.1 at.2 h)
 
-own_absent : (talks : List Talker) (x : StreamId) → is_awaiting key_cmp (keys.Talker x) (map (λ (t : Talker). keys.Talker t.stream) talks) ≡ false → talk_of x talks ≡ None
+pub own_absent : (talks : List Talker) (x : StreamId) → is_awaiting key_cmp (keys.Talker x) (map (λ (t : Talker). keys.Talker t.stream) talks) ≡ false → talk_of x talks ≡ None
 own_absent [] x h = refl
 own_absent (t ∷ talks) x h =
     let parts = or_false (is_eq (nat_cmp t.stream.0 x.0)) (is_awaiting key_cmp (keys.Talker x) (map (λ (t : Talker). keys.Talker t.stream) talks)) h in

@@ -1,25 +1,28 @@
 -- Which keys are among those that are told, and what isn't told is registered as before.
-use Rattle.std.proofs.Common.{◌≡◌, ◌⊎◌, inl, inr, ℕ, zero, suc, ◌<◌, Bool, true, false, ◌||◌, ◌&&◌, ◌==◌, if◌then◌else◌, List, [], ◌∷◌, length, map, refl, sym, ap, ◌∙◌, arith}
+use Rattle.std.proofs.Common.{◌≡◌, ◌≢◌, ◌⊎◌, inl, inr, ℕ, zero, suc, ◌<◌, Bool, true, false, ◌||◌, ◌&&◌, ◌==◌, if◌then◌else◌, List, [], ◌∷◌, length, map, refl, sym, ap, ◌∙◌, arith}
 use Rattle.std.specs.Prelude.{slice_get, slice_set, slice_index_or, Option, Some, None, option_map, Contains}
 use Rattle.std.specs.Ordering.{nat_cmp, is_eq}
 use Rattle.std.proofs.lemmas.List.Folds.{list_any_at}
+use Rattle.std.proofs.Math.ListN.{length-set}
 use Rattle.std.proofs.lemmas.Bool.Decides.{nat_tests}
 use Rattle.srp_base.specs.declared.numbers.StreamId.{StreamId}
 use Rattle.srp_base.specs.declared.streams.Talker.{Talker}
 use Rattle.attribute_propagation.specs.Dirty.{is_awaiting, all_marked}
-use Rattle.attribute_propagation.specs.Ports.{HasTold, marked_everywhere}
+use Rattle.attribute_propagation.specs.Ports.{HasTold, keys_or_none, marked_everywhere}
 use Rattle.mrp_participant.specs.Lookup.{find, same}
 use Rattle.mrp_participant.specs.Row.{is_leaving_in}
 use Rattle.mrp_participant.specs.State.{registered_at, left_state}
 use Rattle.msrp_codec.specs.declared.pdu.MsrpKey.{MsrpKey}
 use Rattle.msrp_codec.specs.declared.pdu.MsrpKey.TheVariants as keys
+use Rattle.msrp.specs.declared.domain.DomainSet.{DomainSet}
+use Rattle.msrp.specs.declared.domain.DomainSet.TheVariants.{Off, Nothing, OnlyA, Both}
 use Rattle.msrp.specs.declared.port.Port.{Port}
 use Rattle.msrp.proofs.KeyLemmas.{key_is, key_self}
 use Rattle.msrp.specs.Part.{Part, key_cmp, registered_talker, talker_reg_of}
 use Rattle.msrp.specs.Stream.{listener_row, registrations_of, talkers_of, advertise_of, talk_of, is_listened}
-use Rattle.msrp.specs.Settling.{all_keys_with, keys_of}
+use Rattle.msrp.specs.Settling.{all_keys_with, is_domain_told, keys_of, marked_here, told_sets}
 use Rattle.msrp.specs.Side.{TellsEach, left_key, with_part}
-use Rattle.msrp.proofs.Places.{or_false, map-set_same}
+use Rattle.msrp.proofs.Places.{decide, get-set_other, get-set_same, or_false, map-set_same}
 
 -- a key that is in a list is among its keys
 pub contained : (told : List MsrpKey) (k : ℕ) (key : MsrpKey) → k < length told → slice_index_or told k key ≡ key → is_awaiting key_cmp key told ≡ true
@@ -120,6 +123,74 @@ was_set awaits new sets j now h = by (slice_get sets j) refl (sym (awaits.everyw
     by : (o : Option (List MsrpKey)) → slice_get sets j ≡ o → option_map (all_marked key_cmp new) o ≡ Some now → WasSet new sets j now
     by None is e = cc
     by (Some set) is e = record { set = set; there = is; is = cc }
+
+-- a list that has an element at a place where one was put had one before
+had_one : {X : Type 0} (xs : List X) (i : ℕ) (y z : X) → slice_get (slice_set xs i y) i ≡ Some z → (x : X) × (slice_get xs i ≡ Some x)
+had_one [] i y z h = cc
+had_one (x ∷ xs) zero y z h = (x, refl)
+had_one (x ∷ xs) (suc i) y z h = had_one xs i y z h
+
+-- the set at a place before keys were told at a port of a node: what doesn't await now is neither of a told stream nor
+-- awaited before, and where a Domain had to be heeded it isn't of a known stream at the port that told it
+pub record WasTold (at : ℕ) (domain : DomainSet) (told known : List MsrpKey) (sets : List (List MsrpKey)) (j : ℕ) (now : List MsrpKey) : Type 0 where
+  pub set : List MsrpKey
+  pub there : slice_get sets j ≡ Some set
+  pub untold : (key : MsrpKey) → is_awaiting key_cmp key now ≡ false → is_awaiting key_cmp key (all_keys_with told) ≡ false
+  pub fewer : (key : MsrpKey) → is_awaiting key_cmp key now ≡ false → is_awaiting key_cmp key set ≡ false
+  pub unknown : at ≡ j → is_domain_told domain told ≡ true → (key : MsrpKey) → is_awaiting key_cmp key now ≡ false → is_awaiting key_cmp key (all_keys_with known) ≡ false
+
+-- the sets once keys were told everywhere
+abbrev everywhere : List MsrpKey → List (List MsrpKey) → List (List MsrpKey)
+everywhere told sets = marked_everywhere key_cmp (all_keys_with told) sets
+
+pub was_told : Awaits → (at : ℕ) (domain : DomainSet) (told known : List MsrpKey) (sets : List (List MsrpKey)) (j : ℕ) (now : List MsrpKey)
+    → slice_get (told_sets at domain told known sets) j ≡ Some now → WasTold at domain told known sets j now
+was_told awaits at domain told known sets j now h = by (is_domain_told domain told) refl h
+  where
+    -- of a set with the told keys put in
+    from : (mid : List MsrpKey) → slice_get (everywhere told sets) j ≡ Some mid → ((key : MsrpKey) → is_awaiting key_cmp key now ≡ false → is_awaiting key_cmp key mid ≡ false)
+        → (at ≡ j → is_domain_told domain told ≡ true → (key : MsrpKey) → is_awaiting key_cmp key now ≡ false → is_awaiting key_cmp key (all_keys_with known) ≡ false) → WasTold at domain told known sets j now
+    from mid there less more =
+        let was = was_set awaits (all_keys_with told) sets j mid there in
+        let apart : (key : MsrpKey) → is_awaiting key_cmp key now ≡ false → (is_awaiting key_cmp key (all_keys_with told) ≡ false) × (is_awaiting key_cmp key was.set ≡ false) =
+        λ key out. unmarked awaits key (all_keys_with told) was.set (ap (is_awaiting key_cmp key) was.is ∙ less key out) in
+        record { set = was.set; there = was.there; untold = λ key out. (apart key out).0; fewer = λ key out. (apart key out).1; unknown = more }
+
+    there_or_here : (at ≡ j) ⊎ (at ≢ j) → is_domain_told domain told ≡ true → slice_get (marked_here at (all_keys_with known) (everywhere told sets)) j ≡ Some now → WasTold at domain told known sets j now
+    there_or_here (inr ne) e k = from now (sym (get-set_other (everywhere told sets) at j _ ne) ∙ k) (λ key out. out) (λ same. absurd (ne same))
+    there_or_here (inl same) e k =
+        let k_at : slice_get (marked_here at (all_keys_with known) (everywhere told sets)) at ≡ Some now = ap (λ n. slice_get (marked_here at (all_keys_with known) (everywhere told sets)) n) same ∙ k in
+        let mid = had_one (everywhere told sets) at _ now k_at in
+        let is : all_marked key_cmp (all_keys_with known) mid.0 ≡ now =
+        ap (λ o. all_marked key_cmp (all_keys_with known) (keys_or_none o)) (sym mid.1) ∙ get-set_same (everywhere told sets) at _ now k_at in
+        let apart : (key : MsrpKey) → is_awaiting key_cmp key now ≡ false → (is_awaiting key_cmp key (all_keys_with known) ≡ false) × (is_awaiting key_cmp key mid.0 ≡ false) =
+        λ key out. unmarked awaits key (all_keys_with known) mid.0 (ap (is_awaiting key_cmp key) is ∙ out) in
+        from mid.0 (ap (λ n. slice_get (everywhere told sets) n) (sym same) ∙ mid.1) (λ key out. (apart key out).1) (λ _ _ key out. (apart key out).0)
+
+    by : (b : Bool) → is_domain_told domain told ≡ b
+        → slice_get (if b then marked_here at (all_keys_with known) (everywhere told sets) else (everywhere told sets)) j ≡ Some now → WasTold at domain told known sets j now
+    by true e k = there_or_here (decide at j) e k
+    by false e k = from now k (λ key out. out) (λ _ f. absurd (let none : true ≡ false = sym f ∙ e in cc))
+
+-- there are as many sets once keys are told
+pub as_many_told : Awaits → (at : ℕ) (domain : DomainSet) (told known : List MsrpKey) (sets : List (List MsrpKey)) → length (told_sets at domain told known sets) ≡ length sets
+as_many_told awaits at domain told known sets = by (is_domain_told domain told)
+  where
+    by : (b : Bool)
+        → length (if b then marked_here at (all_keys_with known) (marked_everywhere key_cmp (all_keys_with told) sets) else marked_everywhere key_cmp (all_keys_with told) sets) ≡ length sets
+    by true = length-set (marked_everywhere key_cmp (all_keys_with told) sets) at _ ∙ awaits.as_many_everywhere (all_keys_with told) sets
+    by false = awaits.as_many_everywhere (all_keys_with told) sets
+
+-- where no key is told none has to be heeded, and all sets stay
+pub none_heeded : (domain : DomainSet) → is_domain_told domain [] ≡ false
+none_heeded Off = refl
+none_heeded Nothing = refl
+none_heeded OnlyA = refl
+none_heeded Both = refl
+
+pub none_told : Awaits → (at : ℕ) (domain : DomainSet) (known : List MsrpKey) (sets : List (List MsrpKey)) → told_sets at domain [] known sets ≡ sets
+none_told awaits at domain known sets =
+    ap (λ b. if b then marked_here at (all_keys_with known) (marked_everywhere key_cmp [] sets) else marked_everywhere key_cmp [] sets) (none_heeded domain) ∙ awaits.none_everywhere sets
 
 -- of the keys of a stream, none is one of another stream
 pub talker_other : (x s : StreamId) → is_awaiting key_cmp (keys.Talker s) (keys_of x) ≡ false → (s.0 == x.0) ≡ false

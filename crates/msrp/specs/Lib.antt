@@ -1,5 +1,6 @@
 pub mod Part
 pub mod SameContent
+pub mod Domain
 pub mod Stream
 pub mod Settling
 pub mod Side

@@ -10,6 +10,7 @@ use Rattle.msrp_codec.specs.declared.pdu.MsrpKey.{MsrpKey}
 use Rattle.msrp_codec.specs.declared.pdu.MsrpContent.{MsrpContent}
 use Rattle.msrp_codec.specs.Content.{value_of}
 use Rattle.msrp_codec.specs.FirstValue.{IsFirst, IsTalker}
+use Rattle.msrp.specs.declared.domain.DomainSet.{DomainSet}
 use Rattle.msrp.specs.declared.port.Port.{Port}
 use Rattle.msrp.specs.declared.asking.SrpRequest.{SrpRequest}
 use Rattle.msrp.specs.declared.asking.SrpRequest.TheVariants.{Talk, Hush, Listen, Unlisten}
@@ -42,6 +43,15 @@ IsRequestInRange (Hush stream) = Unit {0}
 IsRequestInRange (Listen stream) = Unit {0}
 IsRequestInRange (Unlisten stream) = Unit {0}
 
--- how each link port is set up: its BridgeID and its latency, and the caps of its ledger
-abbrev pub setups_of : Streams → List (PortConfig × Caps)
-setups_of side = map (λ (p : Port). (p.config, p.ledger.caps)) side.ports
+-- how a link port is set up: its BridgeID and its latency, the caps of its ledger, and the Domain values of its node
+pub record Setup : Type 0 where
+  pub config : PortConfig
+  pub caps : Caps
+  pub domain : DomainSet
+
+abbrev pub setup_of : Port → Setup
+setup_of p = record { config = p.config; caps = p.ledger.caps; domain = p.domain }
+
+-- how each link port is set up
+abbrev pub setups_of : Streams → List Setup
+setups_of side = map setup_of side.ports

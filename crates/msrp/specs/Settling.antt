@@ -1,18 +1,21 @@
 -- Settling the keys that await at a link port: its ledger, and what it declares (IEEE Std 802.1Q-2018, 35.2.4).
-use Rattle.std.specs.Prelude.{ℕ, if◌then◌else◌, List, [], ◌∷◌, ◌++◌, map, drop, fold, Option, Some, None}
-use Rattle.std.specs.List.{filter_map, flat_map}
+use Rattle.std.specs.Prelude.{ℕ, Bool, true, false, ◌&&◌, if◌then◌else◌, List, [], ◌∷◌, ◌++◌, map, filter, fold, Option, Some, None, is_some, slice_set}
+use Rattle.std.specs.List.{filter_map, flat_map, list_any}
 use Rattle.srp_base.specs.declared.numbers.StreamId.{StreamId}
 use Rattle.srp_base.specs.declared.streams.Talker.{Talker}
 use Rattle.stream_importance.specs.declared.entry.Want.{Want}
 use Rattle.port_ledger.specs.Book.{Book, wanted_book, unwanted_book, booked_only_in}
 use Rattle.attribute_propagation.specs.Dirty.{all_marked}
+use Rattle.attribute_propagation.specs.Ports.{keys_at, marked_everywhere}
 use Rattle.mrp_participant.specs.Lookup.{key_of}
 use Rattle.mrp_participant.specs.State.{registered_at}
 use Rattle.msrp_codec.specs.declared.pdu.MsrpKey.{MsrpKey}
 use Rattle.msrp_codec.specs.declared.pdu.MsrpKey.TheVariants.{Talker as TalkerKey, Listener as ListenerKey, Domain as DomainKey}
 use Rattle.msrp_codec.specs.declared.pdu.MsrpContent.{MsrpContent}
+use Rattle.msrp.specs.declared.domain.DomainSet.{DomainSet}
 use Rattle.msrp.specs.declared.port.Port.{Port}
 use Rattle.msrp.specs.Part.{Part, key_cmp, stream_cmp, settled_part, talker_reg_of}
+use Rattle.msrp.specs.Domain.{are_counted}
 use Rattle.msrp.specs.Stream.{Registrations, is_present, wanted_at, stated_at}
 
 -- the stream of a key; a Domain has none
@@ -29,7 +32,7 @@ streams_in keys = all_marked stream_cmp (filter_map stream_in keys) []
 abbrev pub keys_of : StreamId → List MsrpKey
 keys_of stream = TalkerKey stream ∷ ListenerKey stream ∷ []
 
--- both keys of the stream of a key; a Domain's change is nothing to any port
+-- both keys of the stream of a key; a Domain has none
 abbrev pub keys_with : MsrpKey → List MsrpKey
 keys_with (TalkerKey stream) = keys_of stream
 keys_with (ListenerKey stream) = keys_of stream
@@ -51,17 +54,47 @@ abbrev pub talker_keys_in : Part → List MsrpKey
 talker_keys_in s =
     flat_map (λ key. talker_key_if key (registered_at key_cmp key s)) (map key_of s.rows)
 
--- those of the rows from a place on
-abbrev pub talker_keys_from : ℕ → Part → List MsrpKey
-talker_keys_from place s =
-    flat_map (λ key. talker_key_if key (registered_at key_cmp key s))
-    (drop place (map key_of s.rows))
-
 -- the Talker keys of all streams with a Talker, of the application or registered at a link port
 abbrev pub talker_keys : List Talker → List Port → List MsrpKey
 talker_keys talks ports =
     map (λ (t : Talker). TalkerKey t.stream) talks
     ++ flat_map (λ (p : Port). talker_keys_in p.part) ports
+
+-- the keys that a participant has registered
+abbrev pub registered_keys : Part → List MsrpKey
+registered_keys s = filter (λ key. is_some (registered_at key_cmp key s)) (map key_of s.rows)
+
+-- the keys that are registered at a node: the Talkers of the application, the streams that it listens to, and what each
+-- link port has registered
+abbrev pub known_keys : List Talker → List StreamId → List Port → List MsrpKey
+known_keys talks listens ports =
+    map (λ (t : Talker). TalkerKey t.stream) talks
+    ++ (map (λ (s : StreamId). ListenerKey s) listens
+    ++ flat_map (λ (p : Port). registered_keys p.part) ports)
+
+-- ---- what awaits once keys are told
+
+-- whether a key is a Domain's
+abbrev pub is_domain : MsrpKey → Bool
+is_domain (TalkerKey stream) = false
+is_domain (ListenerKey stream) = false
+is_domain (DomainKey class) = true
+
+-- whether a node that declares these Domains has to heed one that is told: it heeds Domains, and one is told
+abbrev pub is_domain_told : DomainSet → List MsrpKey → Bool
+is_domain_told domain told = are_counted domain && list_any is_domain told
+
+-- these keys await at the port at a place, beside its own
+abbrev pub marked_here : ℕ → List MsrpKey → List (List MsrpKey) → List (List MsrpKey)
+marked_here at keys sets = slice_set sets at (all_marked key_cmp keys (keys_at at sets))
+
+-- what awaits at each port once keys are told at the port at a place: both keys of each of their streams everywhere; and
+-- where a Domain is told, which may make the port a boundary or none, both keys of each known stream at that port alone
+abbrev pub told_sets : ℕ → DomainSet → List MsrpKey → List MsrpKey → List (List MsrpKey) → List (List MsrpKey)
+told_sets at domain told known sets =
+    if is_domain_told domain told
+    then marked_here at (all_keys_with known) (marked_everywhere key_cmp (all_keys_with told) sets)
+    else marked_everywhere key_cmp (all_keys_with told) sets
 
 -- ---- the ledger
 
@@ -105,15 +138,15 @@ abbrev pub settling_keys : List StreamId → List MsrpKey → List MsrpKey → L
 settling_keys [] talkers awaiting = awaiting
 settling_keys (s ∷ moved) talkers awaiting = all_marked key_cmp talkers awaiting
 
--- the port with another ledger, which declares these keys as that has it
+-- the port once it has declared these keys as the rules state them
 abbrev pub restated_port : ℕ → (StreamId → Registrations) → List MsrpKey → Port → Port
 restated_port at regs keys port =
-    record port { part = settled_part (stated_at at port.config port.ledger regs) keys port.part }
+    record port { part = settled_part (stated_at at port regs) keys port.part }
 
 -- the ledger of a port once its awaiting keys are settled
 unfoldable pub next_book : ℕ → (StreamId → Registrations) → List MsrpKey → Port → Book
 next_book at regs awaiting port =
-    settled_book (λ s. wanted_at at port.part (regs s).talkers s) (streams_in awaiting) port.ledger
+    settled_book (λ s. wanted_at at port (regs s).talkers s) (streams_in awaiting) port.ledger
 
 -- the port once its awaiting keys are settled, beside the Talker keys of all streams with a Talker
 abbrev pub settled_port : ℕ → (StreamId → Registrations) → List MsrpKey → List MsrpKey → Port → Port

@@ -24,12 +24,14 @@ use Rattle.attribute_propagation.specs.Ports.{count_of, keys_at, marked_elsewher
 use Rattle.stream_importance.specs.Bandwidth.{caps_of}
 use Rattle.stream_importance.specs.Importance.{rank_number}
 use Rattle.port_ledger.specs.Book.{clocked_book, empty_book, has_new_booking, want_of, IsKept as IsKeptBook}
+use Rattle.msrp.specs.declared.domain.DomainSet.{DomainSet}
 use Rattle.msrp.specs.declared.port.Port.{Port}
 use Rattle.msrp.specs.declared.asking.SrpRequest.{SrpRequest}
 use Rattle.msrp.specs.declared.asking.SrpRequest.TheVariants.{Talk, Hush, Listen, Unlisten}
 use Rattle.msrp.specs.Part.{Part, key_cmp, received_part, told_by_receipt, pdu_sent, sent_part, HasOwnContents}
+use Rattle.msrp.specs.Domain.{domain_part}
 use Rattle.msrp.specs.Stream.{Registrations, registrations_of, talkers_of, talk_of, is_listened, wanted_at, stated_at, heard_by, first_talker as talker_in}
-use Rattle.msrp.specs.Settling.{keys_of, all_keys_with, listener_keys, talker_keys, moved_streams, next_book, settled_port}
+use Rattle.msrp.specs.Settling.{keys_of, known_keys, listener_keys, talker_keys, told_sets, moved_streams, next_book, settled_port}
 
 -- the link ports in their order; the keys that await settling at each, ascending; the Talkers of the application,
 -- the latest first, and the streams that it listens to; and the moment of the clock in cs
@@ -64,32 +66,34 @@ heard_of stream side = heard_by (seen_by side stream)
 
 -- ---- the side after a call
 
--- a new port: nothing is declared, registered or booked at it
-abbrev pub new_port : BridgeId → Cs → Bool → PortSetup → Port
-new_port bridge leave_time periodic p =
+-- a new port: nothing but the node's Domain values is declared, and nothing is registered or booked at it
+abbrev pub new_port : BridgeId → Cs → Bool → DomainSet → PortSetup → Port
+new_port bridge leave_time periodic domain p =
     record {
       config = record { bridge = bridge; latency = p.latency };
-      part = new_state p.period leave_time periodic;
+      domain = domain;
+      part = domain_part domain (new_state p.period leave_time periodic);
       ledger = empty_book (caps_of p.rate p.delta_a p.delta_b);
     }
 
 -- a new side: new ports, no key awaits, the application asks for nothing, and the clock stands at 0
-abbrev pub new_streams : BridgeId → Cs → Bool → List PortSetup → Streams
-new_streams bridge leave_time periodic ports =
+abbrev pub new_streams : BridgeId → Cs → Bool → DomainSet → List PortSetup → Streams
+new_streams bridge leave_time periodic domain ports =
     record {
-      ports = map (new_port bridge leave_time periodic) ports;
+      ports = map (new_port bridge leave_time periodic domain) ports;
       awaiting = new_sets ports;
       talks = [];
       listens = [];
       moment = 0;
     }
 
--- the port at a place has another participant, and both keys of each stream of which it told a key await everywhere
+-- the port at a place has another participant, which told keys: both keys of each of their streams await everywhere, and
+-- where it told a Domain those of each known stream await at the port
 abbrev pub with_told_port : ℕ → Port → List MsrpKey → Streams → Streams
 with_told_port at port told side =
     record side {
       ports = slice_set side.ports at port;
-      awaiting = marked_everywhere key_cmp (all_keys_with told) side.awaiting;
+      awaiting = told_sets at port.domain told (known_keys side.talks side.listens side.ports) side.awaiting;
     }
 
 -- the port at a place is another one, and nothing is told
@@ -281,15 +285,15 @@ pub record IsPort (now : ℕ) (port : Port) : Type 0 where
   pub ledger : IsKeptBook port.ledger
   pub moment : port.ledger.moment ≡ now
 
--- at a link port each key that doesn't await is declared exactly as the rules for Talkers and Listeners state it, and
+-- at a link port each key that doesn't await is declared exactly as the rules state it, a Domain for good, and
 -- a stream of which neither key awaits is kept as wanting exactly where it wants bandwidth, with its class, rank and
 -- slope
 pub record IsSettled (at : ℕ) (port : Port) (awaiting : List MsrpKey) (regs : StreamId → Registrations) : Type 0 where
   pub declared : (key : MsrpKey) → is_awaiting key_cmp key awaiting ≡ false
-      → declared_at key_cmp key port.part ≡ stated_at at port.config port.ledger regs key
+      → declared_at key_cmp key port.part ≡ stated_at at port regs key
   pub wanted : (stream : StreamId) → is_awaiting key_cmp (TalkerKey stream) awaiting ≡ false
       → is_awaiting key_cmp (ListenerKey stream) awaiting ≡ false
-      → want_of port.ledger.entries stream ≡ wanted_at at port.part (regs stream).talkers stream
+      → want_of port.ledger.entries stream ≡ wanted_at at port (regs stream).talkers stream
 
 -- the port at a place, where there is one, is settled but for the keys that await there
 abbrev pub IsSettledAt : Streams → ℕ → Type 0

@@ -16,7 +16,6 @@ use Rattle.stream_importance.specs.declared.entry.Fit.{Fit}
 use Rattle.stream_importance.specs.declared.entry.Fit.TheVariants.{Fits}
 use Rattle.stream_importance.specs.Bandwidth.{slope_of_frames}
 use Rattle.port_ledger.specs.Book.{Book, since_of, fit_for}
-use Rattle.msrp_talker.specs.declared.port_config.PortConfig.{PortConfig}
 use Rattle.msrp_talker.specs.TalkerOut.{check_of, class_of_priority, talker_in, talker_out}
 use Rattle.msrp_listener.specs.declared.port_listener.PortListener.{PortListener}
 use Rattle.msrp_listener.specs.Merging.{listener_out}
@@ -25,7 +24,8 @@ use Rattle.msrp_codec.specs.declared.pdu.MsrpKey.TheVariants as keys
 use Rattle.msrp_codec.specs.declared.pdu.MsrpContent.{MsrpContent}
 use Rattle.msrp_codec.specs.declared.pdu.MsrpContent.TheVariants as contents
 use Rattle.msrp.specs.declared.port.Port.{Port}
-use Rattle.msrp.specs.Part.{Part, registered_talker, registered_listener, talker_content}
+use Rattle.msrp.specs.Part.{registered_talker, registered_listener, talker_content}
+use Rattle.msrp.specs.Domain.{domain_stated, is_edge}
 
 -- what is registered of one stream at a node's ports, and where it is booked
 pub record Registrations : Type 0 where
@@ -113,11 +113,17 @@ want_in_class talker class =
 abbrev pub want_of_talker : Talker → Option Want
 want_of_talker talker = option_map (want_in_class talker) (class_of_priority talker.priority)
 
--- what is wanted for a registered Talker: only one that is advertised, and that no port refuses anyway, is served
-abbrev pub want_of_reg : TalkerReg → Option Want
-want_of_reg Absent = None
-want_of_reg (Failed talker failure) = None
-want_of_reg (Advertise talker) = if is_none (check_of talker) then want_of_talker talker else None
+-- whether a link port is at the boundary of the SRP domain of a stream's class, that of the Talker at the Talker's port
+abbrev pub edge_at : Port → List TalkerReg → Bool
+edge_at port talkers = is_edge port.domain port.part (first_talker talkers)
+
+-- what is wanted for a registered Talker: only one that is advertised is served, where the port is no boundary for it and
+-- where it isn't refused by each port anyway
+abbrev pub want_of_reg : Bool → TalkerReg → Option Want
+want_of_reg edge Absent = None
+want_of_reg edge (Failed talker failure) = None
+want_of_reg edge (Advertise talker) =
+    if not edge && is_none (check_of talker) then want_of_talker talker else None
 
 -- whether by what is declared of Listeners some of them can have the stream: Ready or Ready Failed
 abbrev pub is_ready_kind : ListenerKind → Bool
@@ -130,12 +136,14 @@ abbrev pub is_ready : Option ListenerKind → Bool
 is_ready None = false
 is_ready (Some kind) = is_ready_kind kind
 
--- what the link port at a place, with its participant, wants for a stream: the advertised Talker's bandwidth, where
--- the Talker's port is another one and Listener Ready or Ready Failed is registered here
-abbrev pub wanted_at : ℕ → Part → List TalkerReg → StreamId → Option Want
-wanted_at at s talkers stream =
+-- what a link port, at a place, wants for a stream: the advertised Talker's bandwidth, where the Talker's port is
+-- another one, Listener Ready or Ready Failed is registered here, and the port is no boundary for the Talker
+abbrev pub wanted_at : ℕ → Port → List TalkerReg → StreamId → Option Want
+wanted_at at port talkers stream =
     if is_talker_port (suc at) talkers then None
-    else if is_ready (registered_listener stream s) then want_of_reg (first_talker talkers) else None
+    else if is_ready (registered_listener stream port.part)
+    then want_of_reg (edge_at port talkers) (first_talker talkers)
+    else None
 
 -- ---- what a link port declares
 
@@ -147,12 +155,13 @@ fit_at now at book talkers =
     else option_map (fit_for now book)
     (option_and_then want_of_talker (talker_in (first_talker talkers)))
 
--- what the link port at a place, with its configuration and its ledger, declares of the Talker: nothing at the
--- Talker's own port, and elsewhere what `talker_out` makes of what is registered there (35.2.4.3)
-abbrev pub talker_at : ℕ → PortConfig → Book → List TalkerReg → TalkerReg
-talker_at at config book talkers =
+-- what a link port, at a place, declares of the Talker: nothing at the Talker's own port, and elsewhere what `talker_out`
+-- makes of what is registered there (35.2.4.3)
+abbrev pub talker_at : ℕ → Port → List TalkerReg → TalkerReg
+talker_at at port talkers =
     if is_talker_port (suc at) talkers then Absent
-    else talker_out (first_talker talkers) config (unwrap_or (fit_at book.moment at book talkers) Fits)
+    else talker_out (first_talker talkers) port.config (edge_at port talkers)
+    (unwrap_or (fit_at port.ledger.moment at port.ledger talkers) Fits)
 
 -- whether a Talker is advertised
 abbrev pub is_advertised : TalkerReg → Bool
@@ -177,14 +186,14 @@ abbrev pub listener_at : ℕ → Registrations → Option ListenerKind
 listener_at at r =
     if is_talker_port (suc at) r.talkers then listener_out (other_listeners at r) else None
 
--- what the link port at a place declares of a key, by what is registered of each stream; no Domain is declared
-abbrev pub stated_at : ℕ → PortConfig → Book → (StreamId → Registrations)
-    → MsrpKey → Option MsrpContent
-stated_at at config book regs (keys.Talker stream) =
-    talker_content (talker_at at config book (regs stream).talkers)
-stated_at at config book regs (keys.Listener stream) =
+-- what a link port, at a place, declares of a key, by what is registered of each stream; a Domain is declared for good,
+-- whatever is registered anywhere
+abbrev pub stated_at : ℕ → Port → (StreamId → Registrations) → MsrpKey → Option MsrpContent
+stated_at at port regs (keys.Talker stream) =
+    talker_content (talker_at at port (regs stream).talkers)
+stated_at at port regs (keys.Listener stream) =
     option_map contents.Listener (listener_at at (regs stream))
-stated_at at config book regs (keys.Domain class) = None
+stated_at at port regs (keys.Domain class) = domain_stated port.domain class
 
 -- ---- what the application hears
 

@@ -1,6 +1,6 @@
 //! What comes in at a link port, and its timers.
 
-ghost use Rattle.std.specs.Prelude.{◌≡◌, ◌++◌, ◌<◌, ◌≤◌, ◌^◌, if◌then◌else◌, [], length, slice_get, Some, Ok, IfOk, IfSome, OnOk, OnErr};
+ghost use Rattle.std.specs.Prelude.{◌≡◌, ◌<◌, ◌≤◌, ◌^◌, if◌then◌else◌, [], length, slice_get, Some, Ok, IfOk, IfSome, OnOk, OnErr};
 ghost use Rattle.mrp_participant.specs.Lookup.{find};
 ghost use Rattle.mrp_participant.specs.Row.{is_leaving_in};
 ghost use Rattle.mrp_participant.specs.State.{AreRows, due_count};
@@ -9,18 +9,18 @@ ghost use Rattle.msrp_codec.specs.Content.{Belongs};
 ghost use Rattle.msrp_codec.specs.declared.pdu.MsrpKey.{MsrpKey};
 ghost use Rattle.msrp.specs.declared.port.Port.{Port};
 ghost use Rattle.msrp.specs.Part.{HasOwnContents, key_cmp};
-ghost use Rattle.msrp.specs.Settling.{all_keys_with, keys_with};
 ghost use Rattle.attribute_propagation.specs.Ports.{IsLinkPort, place_of, count_of};
 ghost use Rattle.msrp.specs.Side.{IsKept, SameDeclared, TellsEach, HasReceived, with_told_port, with_part, received_streams, due_streams, left_streams, leave_all_streams, periodic_streams, spoilt_streams};
 
 use crate::app::MsrpApp;
 use crate::port::Port;
 use crate::side::MsrpSide;
+use crate::told::told_sets;
 use attribute_propagation::laws::each_port_is_told;
-use attribute_propagation::{await_everywhere, put_sets, saturated, told_where};
+use attribute_propagation::{put_sets, saturated, told_where};
 use mrp_participant::laws::{
-    declarations_stay, due_tells_each_change, each_key_after_due, each_key_after_periodic,
-    each_key_after_receive, nothing_due_changes_nothing, one_key_changes,
+    a_place_for_each_key, declarations_stay, due_tells_each_change, each_key_after_due,
+    each_key_after_periodic, each_key_after_receive, nothing_due_changes_nothing, one_key_changes,
     receive_tells_each_change, registrations_stay, rows_stay_rows, what_is_asked_holds,
 };
 use mrp_participant::{Msgs, Participant};
@@ -33,7 +33,8 @@ impl MsrpSide {
     /// Takes the octets of a PDU that came in at a link port at the moment `now`, in cs and below 2^62: its
     /// LeaveAll first, then its events in order (IEEE Std 802.1Q-2018, 10.7.5). Answers the number of its
     /// events. Where what is registered of a stream's Talker or Listeners changes, both keys of the stream await at
-    /// every link port.
+    /// every link port. Where what is registered of a Domain changes, and Domains aren't off, both keys of each stream
+    /// with a Talker or Listeners at the node await at this port alone.
     ///
     /// # Errors
     ///
@@ -179,7 +180,8 @@ impl MsrpSide {
     }
 
     // Puts a participant in the place of another, whose declarations it has; the keys whose registration differs are
-    // told, and both keys of their streams await at every port.
+    // told, and both keys of their streams await at every port; where a Domain is told, those of all known streams await
+    // at this one.
     fn put(
         &mut self,
         alloc: Global,
@@ -200,8 +202,17 @@ impl MsrpSide {
         ensures err { OnErr result (self.new ≡ self.old) }
     {
         each_port_is_told::<MsrpKey>();
-        let keys = all_keys_with(alloc, told)?;
-        let awaiting = await_everywhere(alloc, self.awaiting.as_slice(), keys.as_slice())?;
+        a_place_for_each_key::<MsrpApp>();
+        let awaiting = told_sets(
+            alloc,
+            self.awaiting.as_slice(),
+            at,
+            told,
+            self.talks.as_slice(),
+            self.listens.as_slice(),
+            self.ports.as_slice(),
+            port_at(self.ports.as_slice(), at).domain,
+        )?;
         put_sets(&mut self.awaiting, awaiting);
         let port = &mut self.ports[at];
         port.part = part;
@@ -215,34 +226,4 @@ pub(crate) fn port_at(ports: &[Port], at: usize) -> &Port
     ensures { slice_get ports.now at ≡ Some result.now }
 {
     &ports[at]
-}
-
-// Both keys of each stream of which a key is told.
-fn all_keys_with(alloc: Global, told: &[MsrpKey]) -> Result<Vec<MsrpKey>, NoMemory>
-    ensures { IfOk result (λ v. v.items ≡ all_keys_with told.now) }
-{
-    let mut keys = Vec::with_capacity(alloc, told.len().saturating_mul(2))?;
-    for key in told {
-        push_keys_with(&mut keys, *key)?;
-    }
-    Ok(keys)
-}
-
-// Puts both keys of the stream of a key at the end.
-fn push_keys_with(out: &mut Vec<MsrpKey>, key: MsrpKey) -> Result<(), NoMemory>
-    ensures { OnOk result (out.new.items ≡ out.old.items ++ keys_with key) }
-{
-    match key {
-        MsrpKey::Talker(stream) => {
-            out.push(key)?;
-            out.push(MsrpKey::Listener(stream))?;
-            Ok(())
-        }
-        MsrpKey::Listener(stream) => {
-            out.push(MsrpKey::Talker(stream))?;
-            out.push(key)?;
-            Ok(())
-        }
-        MsrpKey::Domain(_) => Ok(()),
-    }
 }

@@ -1,22 +1,33 @@
 //! What settling a port does to the keys that await, what MSRP at a node keeps at each call, and what it sends: laws
 //! over the states that contracts see. Each is a function that does nothing; calling it brings the law to a proof.
 
-ghost use Rattle.std.specs.Prelude.{◌≡◌, ◌≢◌, ◌||◌, ◌<◌, ◌≤◌, ◌^◌, ℕ, Bool, false, List, [], length, slice_get, Some};
+ghost use Rattle.std.specs.Prelude.{◌≡◌, ◌≢◌, ◌⊎◌, ◌↔◌, ◌||◌, ◌<◌, ◌≤◌, ◌^◌, ℕ, suc, Bool, true, false, List, [], length, slice_get, Some, None};
 ghost use Rattle.std.specs.List.{AllByRecursion};
 ghost use Rattle.srp_base.specs.declared.numbers.BridgeId.{BridgeId};
 ghost use Rattle.srp_base.specs.declared.numbers.Cs.{Cs};
+ghost use Rattle.srp_base.specs.declared.bandwidth.Class.{Class};
+ghost use Rattle.srp_base.specs.declared.numbers.StreamId.{StreamId};
 ghost use Rattle.srp_base.specs.declared.ports.PortSetup.{PortSetup};
+ghost use Rattle.srp_base.specs.declared.streams.Talker.{Talker};
+ghost use Rattle.srp_base.specs.declared.streams.TalkerReg.{TalkerReg};
+ghost use Rattle.srp_base.specs.declared.streams.TalkerReg.TheVariants.{Advertise, Failed};
 ghost use Rattle.attribute_propagation.specs.Dirty.{is_awaiting};
+ghost use Rattle.attribute_propagation.specs.Ports.{marked_everywhere};
 ghost use Rattle.mrp_participant.specs.Lookup.{Ascends, same};
-ghost use Rattle.mrp_participant.specs.State.{AreRows, is_silent};
+ghost use Rattle.mrp_participant.specs.State.{AreRows, is_silent, registered_at};
 ghost use Rattle.msrp_codec.specs.declared.pdu.MsrpKey.{MsrpKey};
 ghost use Rattle.msrp_codec.specs.declared.pdu.MsrpPdu.{MsrpPdu};
 ghost use Rattle.msrp_codec.specs.Content.{Belongs};
 ghost use Rattle.msrp_codec.specs.Writing.{AreInRange, as_written, msrp_spelling, of_key};
 ghost use Rattle.msrp.specs.declared.asking.SrpRequest.{SrpRequest};
+ghost use Rattle.msrp_talker.specs.TalkerOut.{check_of, delayed_by};
+ghost use Rattle.msrp.specs.declared.domain.DomainSet.{DomainSet};
+ghost use Rattle.msrp.specs.declared.domain.DomainSet.TheVariants.{Off};
 ghost use Rattle.msrp.specs.declared.port.Port.{Port};
 ghost use Rattle.msrp.specs.Part.{HasOwnContents, Part, key_cmp, pdu_sent};
-ghost use Rattle.msrp.specs.Settling.{listener_keys, moved_streams};
+ghost use Rattle.msrp.specs.Domain.{are_counted, domain_content, domain_key, domain_part, domain_stated, has_class, is_boundary, is_edge};
+ghost use Rattle.msrp.specs.Stream.{edge_at, first_talker, is_talker_port, talker_at, wanted_at};
+ghost use Rattle.msrp.specs.Settling.{all_keys_with, listener_keys, moved_streams, told_sets};
 ghost use Rattle.msrp.specs.Side.{IsWritten, Streams, awaiting_at, clocked_streams, due_streams, leave_all_streams, left_streams, new_streams, periodic_streams, received_streams, requested_streams, sent_streams, settled_streams, spoilt_streams};
 ghost use Rattle.msrp.specs.Proper.{HasRanges, IsProper, IsRequestInRange, setups_of};
 
@@ -58,8 +69,9 @@ pub fn one_settling_is_enough()
 
 /// A new side keeps what every side keeps, and all of it fits in the fields in which it is sent.
 pub fn a_new_side_is_proper()
-    ensures { (bridge : BridgeId) (leave_time : Cs) (periodic : Bool) (ports : List PortSetup)
-        → bridge.0 < 2 ^ 64 → IsProper (new_streams bridge leave_time periodic ports) }
+    ensures { (bridge : BridgeId) (leave_time : Cs) (periodic : Bool) (domain : DomainSet)
+        (ports : List PortSetup)
+        → bridge.0 < 2 ^ 64 → IsProper (new_streams bridge leave_time periodic domain ports) }
 {
     every_step_keeps_a_book();
 }
@@ -82,6 +94,7 @@ pub fn every_call_keeps_a_side_proper()
         → IsProper (sent_streams now at side) }
 {
     each_port_is_told::<MsrpKey>();
+    a_place_for_each_key::<MsrpApp>();
     rows_stay_rows::<MsrpApp>();
     declarations_stay::<MsrpApp>();
     registrations_stay::<MsrpApp>();
@@ -168,4 +181,36 @@ pub fn calls_keep_the_ports()
     ensures clock { (now : ℕ) (side : Streams)
         → setups_of (clocked_streams now side) ≡ setups_of side }
     ensures count { (a b : Streams) → setups_of a ≡ setups_of b → length a.ports ≡ length b.ports }
+{}
+
+/// A port is at the boundary of a class's SRP domain exactly where Domains are heeded, and its node doesn't declare the
+/// Domain value of the class, or something else than that very value is registered there, or nothing.
+pub fn a_boundary_lacks_the_domain_value()
+    ensures { (domain : DomainSet) (s : Part) (class : Class)
+        → (is_boundary domain s class ≡ true)
+        ↔ ((are_counted domain ≡ true) × ((has_class domain class ≡ false)
+        ⊎ (registered_at key_cmp (domain_key class) s ≢ Some (domain_content class)))) }
+{}
+
+/// At the boundary of the domain of its class no stream is wanted, and an advertised Talker that each port could serve is
+/// declared failed, with this bridge and code 8.
+pub fn a_boundary_serves_no_stream()
+    ensures wanted { (at : ℕ) (port : Port) (talkers : List TalkerReg) (stream : StreamId)
+        → edge_at port talkers ≡ true → wanted_at at port talkers stream ≡ None }
+    ensures refused { (at : ℕ) (port : Port) (talkers : List TalkerReg) (talker : Talker)
+        → edge_at port talkers ≡ true → is_talker_port (suc at) talkers ≡ false
+        → first_talker talkers ≡ Advertise talker → check_of talker ≡ None
+        → talker_at at port talkers ≡ Failed (delayed_by port.config.latency talker)
+        (record { bridge = port.config.bridge; code = 8 }) }
+{}
+
+/// Where Domains are off a port is at no boundary, declares none, and one that is told makes no more await than if there
+/// were none.
+pub fn domains_that_are_off_are_nothing()
+    ensures boundary { (s : Part) (reg : TalkerReg) → is_edge Off s reg ≡ false }
+    ensures made { (s : Part) → domain_part Off s ≡ s }
+    ensures stated { (id : ℕ) → domain_stated Off id ≡ None }
+    ensures told { (at : ℕ) (told known : List MsrpKey) (sets : List (List MsrpKey))
+        → told_sets at Off told known sets
+        ≡ marked_everywhere key_cmp (all_keys_with told) sets }
 {}

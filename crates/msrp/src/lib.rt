@@ -1,9 +1,13 @@
 //! MSRP at a node (IEEE Std 802.1Q-2018, 35.2): a participant and a ledger at each link port, the keys that await
-//! settling there, and what the application of a station talks and listens to.
+//! settling there, and what the application of a station talks and listens to. A node may also keep to SRP domains
+//! (`DomainSet`): then a port whose neighbour doesn't declare the Domain value of a class is a boundary, at which no
+//! stream of the class gets through.
 //!
 //! ```text
 //!  link --octets--> receive --> participant of the port --keys that changed--> both keys of their streams
-//!                   due, leave_now                                             await at every link port
+//!                   due, leave_now                                             await at every link port;
+//!                                                                              of a Domain: those of all
+//!                                                                              known streams, at this port
 //!  application --request--> Talkers, Listeners --their streams' keys---------------------^   |
 //!                                                                                            v
 //!  clock --moment--> ledger of each port --where it shows: the Talker keys-------------> settle
@@ -17,12 +21,14 @@
 //!
 //! Contracts see a `Streams` (`specs/Side.antt`): the link ports, each a `Port` with its participant's state and
 //! its ledger's book, the awaiting keys, and what the application asked for, all as lists; each call's clause is
-//! the whole side after it. `specs/Stream.antt` says of one stream which port is the Talker's, what each link port
-//! declares of the Talker and of the Listeners, and what it wants, looking at all ports; `specs/Settling.antt` what
+//! the whole side after it. `specs/Domain.antt` says which Domain values a port declares, and where it is a boundary.
+//! `specs/Stream.antt` says of one stream which port is the Talker's, what each link port declares of the Talker and of
+//! the Listeners, and what it wants, looking at all ports; `specs/Settling.antt` what awaits once keys are told, and what
 //! settling a port does.
 //!
 //! What every side keeps, by its type, is `IsKept`: at each link port each Talker or Listener key that doesn't await
-//! is declared exactly as those rules state it, with its content; a stream of which neither key awaits is kept by the
+//! is declared exactly as those rules state it, with its content, and each Domain as the port declares it for good, from
+//! the start and whatever comes in; a stream of which neither key awaits is kept by the
 //! port's ledger as wanting exactly where it wants bandwidth, with its class, rank and slope; and each ledger is a
 //! ledger, so that its booked slopes keep to its caps. After want of memory a side is as it was.
 //!
@@ -36,14 +42,15 @@
 //! ports are set up; and what a participant sends reads as what it said, at most one event of each key.
 //!
 //! To add a key: its variants in msrp_codec; what it is declared as, a line of `stated_at`; which changes make it
-//! await, a line of `keys_with`. To add a reason for which a port wants nothing of a stream: `want_of_reg`, and
-//! msrp_talker for its code.
+//! await, a line of `keys_with`, or of `told_sets` where its change is news of other keys. To add a reason for which a
+//! port wants nothing of a stream, as a boundary is: `want_of_reg`, and msrp_talker for its code.
 #![tactic(auto)]
 
 mod app;
 mod asking;
 mod calls;
 mod clock;
+mod domain;
 pub mod laws;
 mod port;
 mod sending;
@@ -52,9 +59,11 @@ mod side;
 mod stream;
 #[cfg(test)]
 mod tests;
+mod told;
 
 pub use app::MsrpApp;
 pub use asking::SrpRequest;
 pub use clock::ClockSets;
+pub use domain::DomainSet;
 pub use port::Port;
 pub use side::MsrpSide;

@@ -1,16 +1,18 @@
 //! Settling the keys that await at a link port.
 
-ghost use Rattle.std.specs.Prelude.{◌≡◌, ◌++◌, ◌+◌, ◌<◌, map, length, slice_get, Some, IfOk, IfSome, OnOk, OnErr};
-ghost use Rattle.std.specs.List.{filter_map};
+ghost use Rattle.std.specs.Prelude.{◌≡◌, ◌++◌, ◌+◌, ◌<◌, map, drop, length, slice_get, Some, IfOk, IfSome, OnOk, OnErr};
+ghost use Rattle.std.specs.List.{filter_map, flat_map};
 ghost use Rattle.srp_base.specs.declared.numbers.StreamId.{StreamId};
 ghost use Rattle.srp_base.specs.declared.streams.Talker.{Talker};
 ghost use Rattle.msrp_codec.specs.declared.pdu.MsrpKey.TheVariants as keys;
 ghost use Rattle.msrp.specs.declared.port.Port.{Port};
-ghost use Rattle.msrp.specs.Part.{settled_as, settled_part};
+ghost use Rattle.msrp.specs.Part.{key_cmp, settled_as, settled_part};
 ghost use Rattle.msrp.specs.Stream.{registrations_of, stated_at, talkers_of, wanted_at};
 ghost use Rattle.attribute_propagation.specs.Ports.{IsLinkPort, count_of, place_of};
 ghost use Rattle.msrp.specs.Side.{awaiting_at, settled_streams};
-ghost use Rattle.msrp.specs.Settling.{book_with, book_without, with_wants, listener_keys, moved_streams, next_book, restated_port, settled_port, settling_keys, stream_in, streams_in, taken_out, talker_key_if, talker_keys, talker_keys_from, talker_keys_in};
+ghost use Rattle.msrp.specs.Settling.{book_with, book_without, with_wants, listener_keys, moved_streams, next_book, restated_port, settled_port, settling_keys, stream_in, streams_in, taken_out, talker_key_if, talker_keys, talker_keys_in};
+ghost use Rattle.mrp_participant.specs.Lookup.{key_of};
+ghost use Rattle.mrp_participant.specs.State.{registered_at};
 
 use crate::app::MsrpApp;
 use crate::calls::port_at;
@@ -24,7 +26,6 @@ use mrp_participant::laws::{
     a_place_for_each_key, one_key_changes, registrations_stay, rows_stay_rows, what_is_asked_holds,
 };
 use msrp_codec::{MsrpContent, MsrpKey};
-use msrp_talker::PortConfig;
 use port_ledger::laws::{
     every_step_keeps_a_book, fits_stay, nothing_changed_where_both_lists_are_empty,
     other_wants_stay, what_has_not_moved_is_booked_as_before,
@@ -189,8 +190,11 @@ fn push_talker_at(
     part: &Participant<MsrpApp>,
     place: usize,
 ) -> Result<(), NoMemory>
-    ensures { OnOk result (out.new.items ++ talker_keys_from (place + 1) part.now
-        ≡ out.old.items ++ talker_keys_from place part.now) }
+    ensures { OnOk result (out.new.items ++ flat_map
+        (λ key. talker_key_if key (registered_at key_cmp key part.now))
+        (drop (place + 1) (map key_of part.now.rows))
+        ≡ out.old.items ++ flat_map (λ key. talker_key_if key (registered_at key_cmp key part.now))
+        (drop place (map key_of part.now.rows))) }
 {
     match part.key_at(place) {
         Some(key) => push_talker(out, key, part.registered(key)),
@@ -199,7 +203,7 @@ fn push_talker_at(
 }
 
 // The Talker keys of the application.
-fn own_talker_keys(alloc: Global, talks: &[Talker]) -> Result<Vec<MsrpKey>, AllocError>
+pub(crate) fn own_talker_keys(alloc: Global, talks: &[Talker]) -> Result<Vec<MsrpKey>, AllocError>
     ensures { IfOk result (λ v. v.items ≡ map (λ t. keys.Talker t.stream) talks.now) }
 {
     talks
@@ -263,15 +267,15 @@ fn take_out_all(
     talks: &[Talker],
     ports: &[Port],
     at: usize,
-    part: &Participant<MsrpApp>,
+    port: &Port,
     streams: &[StreamId],
 )
     ensures { ledger.new
-        ≡ taken_out (λ s. wanted_at at part.now (talkers_of talks.now ports.now s) s)
+        ≡ taken_out (λ s. wanted_at at port.now (talkers_of talks.now ports.now s) s)
         streams.now ledger.old }
 {
     for stream in streams {
-        let want = wanted_at(talks, ports, at, part, *stream);
+        let want = wanted_at(talks, ports, at, port, *stream);
         take_out(ledger, *stream, want);
     }
 }
@@ -296,15 +300,15 @@ fn enter_all(
     talks: &[Talker],
     ports: &[Port],
     at: usize,
-    part: &Participant<MsrpApp>,
+    port: &Port,
     streams: &[StreamId],
 ) -> Result<(), NoMemory>
     ensures { OnOk result (ledger.new
-        ≡ with_wants (λ s. wanted_at at part.now (talkers_of talks.now ports.now s) s)
+        ≡ with_wants (λ s. wanted_at at port.now (talkers_of talks.now ports.now s) s)
         streams.now ledger.old) }
 {
     for stream in streams {
-        let want = wanted_at(talks, ports, at, part, *stream);
+        let want = wanted_at(talks, ports, at, port, *stream);
         enter(ledger, want)?;
     }
     Ok(())
@@ -327,22 +331,8 @@ fn next_ledger(
     let _ = listens;
     let streams = streams_in(alloc, awaiting)?;
     let mut ledger = port.ledger.copy()?;
-    take_out_all(
-        &mut ledger,
-        talks,
-        ports,
-        at,
-        &port.part,
-        streams.as_slice(),
-    );
-    enter_all(
-        &mut ledger,
-        talks,
-        ports,
-        at,
-        &port.part,
-        streams.as_slice(),
-    )?;
+    take_out_all(&mut ledger, talks, ports, at, port, streams.as_slice());
+    enter_all(&mut ledger, talks, ports, at, port, streams.as_slice())?;
     Ok(ledger)
 }
 
@@ -358,7 +348,7 @@ fn moved_streams(before: &Ledger, after: &Ledger) -> Result<Vec<StreamId>, NoMem
 }
 
 // The Listener keys of streams.
-fn listener_keys(alloc: Global, streams: &[StreamId]) -> Result<Vec<MsrpKey>, AllocError>
+pub(crate) fn listener_keys(alloc: Global, streams: &[StreamId]) -> Result<Vec<MsrpKey>, AllocError>
     ensures { IfOk result (λ v. v.items ≡ listener_keys streams.now) }
 {
     streams
@@ -386,7 +376,7 @@ fn settle_as(
     }
 }
 
-// These keys are declared or withdrawn, in this order.
+// These keys are declared or withdrawn, in this order, as a port's rules state them by another ledger.
 fn settle_all(
     alloc: Global,
     part: &mut Participant<MsrpApp>,
@@ -394,18 +384,19 @@ fn settle_all(
     listens: &[StreamId],
     ports: &[Port],
     at: usize,
-    config: &PortConfig,
+    port: &Port,
     ledger: &Ledger,
     keys: &[MsrpKey],
 ) -> Result<(), NoMemory>
     requires { at < length ports.now }
     ensures { OnOk result (part.new
         ≡ settled_part
-        (stated_at at config.now ledger.now (registrations_of talks.now listens.now ports.now))
+        (stated_at at (record port.now { ledger = ledger.now })
+        (registrations_of talks.now listens.now ports.now))
         keys.now part.old) }
 {
     for key in keys {
-        let content = stated_at(alloc, talks, listens, ports, at, config, ledger, *key)?;
+        let content = stated_at(alloc, talks, listens, ports, at, port, ledger, *key)?;
         settle_as(part, *key, content)?;
     }
     Ok(())
@@ -429,13 +420,13 @@ fn restated(
         (record port { ledger = ledger }))) }
 {
     let port = &ports[at];
-    let config = port.config;
     let mut part = port.part.copy()?;
     settle_all(
-        alloc, &mut part, talks, listens, ports, at, &config, &ledger, keys,
+        alloc, &mut part, talks, listens, ports, at, port, &ledger, keys,
     )?;
     Ok(Port {
-        config,
+        config: port.config,
+        domain: port.domain,
         part,
         ledger,
     })

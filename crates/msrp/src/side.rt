@@ -10,6 +10,7 @@ ghost use Rattle.attribute_propagation.specs.Ports.{IsLinkPort, place_of};
 ghost use Rattle.msrp.specs.Side.{Streams, IsKept, are_still, has_listen, has_talk, heard_of, is_busy, new_port, new_streams, talker_of};
 
 use crate::app::MsrpApp;
+use crate::domain::{DomainSet, declare_domains};
 use crate::port::Port;
 use crate::stream::{fit_at, heard_of, is_listened, is_own, talk_of, talker_of};
 use attribute_propagation::{Dirty, copied_sets, new_sets, none_awaits, some_awaits};
@@ -47,24 +48,25 @@ impl Model for MsrpSide {
 }
 
 impl MsrpSide {
-    /// The side of a node with this BridgeID and these link ports: nothing is declared, registered or booked, and
-    /// nothing awaits. LeaveTime and each port's period are 1 to 10,000 cs, and the two shares of each port sum to
-    /// at most 90 percent.
+    /// The side of a node with this BridgeID and these link ports, at each of which it declares these Domain values for
+    /// good: nothing else is declared, nothing is registered or booked, and nothing awaits. LeaveTime and each port's
+    /// period are 1 to 10,000 cs, and the two shares of each port sum to at most 90 percent.
     pub fn new(
         alloc: Global,
         bridge: BridgeId,
         leave_time: Cs,
         periodic: bool,
         ports: &[PortSetup],
+        domain: DomainSet,
     ) -> Result<MsrpSide, NoMemory>
         requires leave_time { IsTime leave_time }
         requires periods { AllByRecursion (λ p. IsTime p.period) ports.now }
         requires shares { AllByRecursion (λ p. p.delta_a + p.delta_b ≤ 90) ports.now }
-        ensures { IfOk result (λ side. side ≡ new_streams bridge leave_time periodic ports.now) }
+        ensures { IfOk result (λ side. side ≡ new_streams bridge leave_time periodic domain ports.now) }
     {
         every_step_keeps_a_book();
         let awaiting = new_sets(alloc, ports)?;
-        let ports = new_ports(alloc, bridge, leave_time, periodic, ports)?;
+        let ports = new_ports(alloc, bridge, leave_time, periodic, ports, domain)?;
         Ok(MsrpSide {
             ports,
             awaiting,
@@ -216,15 +218,18 @@ fn new_ports(
     leave_time: Cs,
     periodic: bool,
     ports: &[PortSetup],
+    domain: DomainSet,
 ) -> Result<Vec<Port>, NoMemory>
     requires leave_time { IsTime leave_time }
     requires periods { AllByRecursion (λ p. IsTime p.period) ports.now }
     requires shares { AllByRecursion (λ p. p.delta_a + p.delta_b ≤ 90) ports.now }
-    ensures { IfOk result (λ v. v.items ≡ map (new_port bridge leave_time periodic) ports.now) }
+    ensures { IfOk result (λ v. v.items
+        ≡ map (new_port bridge leave_time periodic domain) ports.now) }
 {
     let mut all = Vec::with_capacity(alloc, ports.len())?;
     for port in ports {
-        all.push(new_port(alloc, bridge, leave_time, periodic, port))?;
+        let made = new_port(alloc, bridge, leave_time, periodic, port, domain)?;
+        all.push(made)?;
     }
     Ok(all)
 }
@@ -236,20 +241,24 @@ fn new_port(
     leave_time: Cs,
     periodic: bool,
     port: &PortSetup,
-) -> Port
+    domain: DomainSet,
+) -> Result<Port, NoMemory>
     requires leave_time { IsTime leave_time }
     requires period { IsTime port.now.period }
     requires shares { port.now.delta_a + port.now.delta_b ≤ 90 }
-    ensures { result ≡ new_port bridge leave_time periodic port.now }
+    ensures { IfOk result (λ p. p ≡ new_port bridge leave_time periodic domain port.now) }
 {
-    Port {
+    let mut part = Participant::new(alloc, port.period, leave_time, periodic);
+    declare_domains(&mut part, domain)?;
+    Ok(Port {
         config: PortConfig {
             bridge,
             latency: port.latency,
         },
-        part: Participant::new(alloc, port.period, leave_time, periodic),
+        domain,
+        part,
         ledger: Ledger::new(alloc, port.rate, port.delta_a, port.delta_b),
-    }
+    })
 }
 
 fn copied_port(port: &Port) -> Result<Port, NoMemory>
@@ -259,6 +268,7 @@ fn copied_port(port: &Port) -> Result<Port, NoMemory>
     let ledger = port.ledger.copy()?;
     Ok(Port {
         config: port.config,
+        domain: port.domain,
         part,
         ledger,
     })

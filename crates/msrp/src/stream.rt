@@ -15,11 +15,12 @@ ghost use Rattle.msrp.specs.Part.{talker_reg_of, listener_kind_of, registered_ta
 ghost use Rattle.msrp.specs.Stream.{talk_of, is_listened, listener_row, registrations_of, talkers_of, want_in_class, is_number, is_present, first_talker, is_talker_port, want_of_talker, want_of_reg, is_ready, wanted_at, fit_at, talker_at, is_advertised, own_listener, other_listeners, heard_from, listener_at, stated_at};
 
 use crate::app::MsrpApp;
+use crate::domain::{domain_stated, is_edge};
 use crate::port::Port;
 use mrp_participant::Participant;
 use msrp_codec::{MsrpContent, MsrpKey};
 use msrp_listener::{PortListener, listener_out};
-use msrp_talker::{PortConfig, check, class_of, talker_out};
+use msrp_talker::{check, class_of, talker_out};
 use port_ledger::Ledger;
 use srp_base::{Class, Cs, ListenerKind, NoMemory, StreamId, Talker, TalkerReg};
 use std::alloc::Global;
@@ -223,15 +224,15 @@ fn want_in_class(talker: &Talker, class: Class) -> Want
     }
 }
 
-// What is wanted for a registered Talker.
-fn want_of_reg(reg: TalkerReg) -> Option<Want>
-    ensures { result ≡ want_of_reg reg }
+// What is wanted for a registered Talker, at a port that is at the boundary of its domain or not.
+fn want_of_reg(edge: bool, reg: TalkerReg) -> Option<Want>
+    ensures { result ≡ want_of_reg edge reg }
 {
     match reg {
         TalkerReg::Absent => None,
         TalkerReg::Failed(_, _) => None,
         TalkerReg::Advertise(talker) => {
-            if check(&talker).is_none() {
+            if !edge && check(&talker).is_none() {
                 want_of_talker(&talker)
             } else {
                 None
@@ -252,30 +253,31 @@ fn is_ready(kind: Option<ListenerKind>) -> bool
     }
 }
 
-// What the link port at a place, with its participant, wants for a stream.
+// What a link port, at a place, wants for a stream.
 pub(crate) fn wanted_at(
     talks: &[Talker],
     ports: &[Port],
     at: usize,
-    part: &Participant<MsrpApp>,
+    port: &Port,
     stream: StreamId,
 ) -> Option<Want>
-    ensures { result ≡ wanted_at at part.now (talkers_of talks.now ports.now stream) stream }
+    ensures { result ≡ wanted_at at port.now (talkers_of talks.now ports.now stream) stream }
 {
-    if !is_ready(registered_listener(part, stream)) {
+    if !is_ready(registered_listener(&port.part, stream)) {
         return None;
     }
     let seen = seen_from(talks, ports, at, stream);
     if seen.is_here {
         return None;
     }
-    want_of_reg(seen.reg)
+    let edge = is_edge(port.domain, &port.part, seen.reg);
+    want_of_reg(edge, seen.reg)
 }
 
 // ---- what a link port declares
 
 // The Talker of what is registered.
-fn talker_in(reg: TalkerReg) -> Option<Talker>
+pub(crate) fn talker_in(reg: TalkerReg) -> Option<Talker>
     ensures { result ≡ talker_in reg }
 {
     match reg {
@@ -317,23 +319,25 @@ pub(crate) fn fit_at(
     fit_of(seen.reg, ledger, now)
 }
 
-// What the link port at a place declares of a stream's Talker, with its configuration and by a ledger.
+// What a link port, at a place, declares of a stream's Talker by another ledger.
 fn talker_at(
     talks: &[Talker],
     ports: &[Port],
     at: usize,
-    config: &PortConfig,
+    port: &Port,
     ledger: &Ledger,
     stream: StreamId,
 ) -> TalkerReg
-    ensures { result ≡ talker_at at config.now ledger.now (talkers_of talks.now ports.now stream) }
+    ensures { result ≡ talker_at at (record port.now { ledger = ledger.now })
+        (talkers_of talks.now ports.now stream) }
 {
     let seen = seen_from(talks, ports, at, stream);
     if seen.is_here {
         return TalkerReg::Absent;
     }
+    let edge = is_edge(port.domain, &port.part, seen.reg);
     let fit = fit_of(seen.reg, ledger, ledger.moment()).unwrap_or(Fit::Fits);
-    talker_out(seen.reg, config, fit)
+    talker_out(seen.reg, &port.config, edge, fit)
 }
 
 // The application as a port with a Listener, by what is registered at the Talker's port.
@@ -450,32 +454,32 @@ fn listener_content(kind: Option<ListenerKind>) -> Option<MsrpContent>
     }
 }
 
-// What the link port at a place declares of a key, with its configuration and by a ledger.
+// What a link port, at a place, declares of a key by another ledger.
 pub(crate) fn stated_at(
     alloc: Global,
     talks: &[Talker],
     listens: &[StreamId],
     ports: &[Port],
     at: usize,
-    config: &PortConfig,
+    port: &Port,
     ledger: &Ledger,
     key: MsrpKey,
 ) -> Result<Option<MsrpContent>, NoMemory>
     requires { at < length ports.now }
     ensures { IfOk result (λ c. c
-        ≡ stated_at at config.now ledger.now (registrations_of talks.now listens.now ports.now)
-        key) }
+        ≡ stated_at at (record port.now { ledger = ledger.now })
+        (registrations_of talks.now listens.now ports.now) key) }
 {
     match key {
         MsrpKey::Talker(stream) => {
-            let reg = talker_at(talks, ports, at, config, ledger, stream);
+            let reg = talker_at(talks, ports, at, port, ledger, stream);
             Ok(talker_content(reg))
         }
         MsrpKey::Listener(stream) => {
             let kind = listener_at(alloc, talks, listens, ports, at, stream)?;
             Ok(listener_content(kind))
         }
-        MsrpKey::Domain(_) => Ok(None),
+        MsrpKey::Domain(class) => Ok(domain_stated(port.domain, class)),
     }
 }
 

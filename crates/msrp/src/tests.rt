@@ -7,7 +7,7 @@
 ghost use Rattle.std.specs.Prelude.{◌≡◌, ◌≤◌, ◌+◌, length, IfSome};
 ghost use Rattle.attribute_propagation.specs.Ports.{IsLinkPort};
 
-use crate::{MsrpSide, SrpRequest};
+use crate::{DomainSet, MsrpSide, SrpRequest};
 use msrp_codec::{DecodeErr, MsrpContent, MsrpKey};
 use srp_base::{
     BridgeId, Cs, Failure, ListenerKind, Mac, Percent, PortNo, PortSetup, Priority, Rank, Rate,
@@ -45,6 +45,17 @@ const URGENT: [u8; 37] = [
     1, 0x60, 0, 0, 1, 0xf4, 0x6c, 0, 0, 0, 0,
 ];
 
+// The same of two frames and of priority 1, which no SR class has.
+const CLASSLESS: [u8; 37] = [
+    0, 1, 25, 0, 30, 0, 1, 2, 0, 0, 0, 0, 1, 0, 1, 0x91, 0xe0, 0xf0, 0, 0xfe, 1, 0, 2, 0, 200, 0,
+    2, 0x30, 0, 0, 1, 0xf4, 0x6c, 0, 0, 0, 0,
+];
+
+// JoinMt of the Domain values of classes B and A; and JoinMt of SRclassID 6 with priority 2.
+const DOMAINS: [u8; 16] = [0, 4, 4, 0, 9, 0, 2, 5, 2, 0, 2, 0x7e, 0, 0, 0, 0];
+
+const OTHER_DOMAIN: [u8; 16] = [0, 4, 4, 0, 9, 0, 1, 6, 2, 0, 2, 0x6c, 0, 0, 0, 0];
+
 // JoinMt and Lv of Listener Ready of stream 1, and JoinMt of stream 2.
 const READY: [u8; 21] = [
     0, 3, 8, 0, 14, 0, 1, 2, 0, 0, 0, 0, 1, 0, 1, 0x6c, 0x80, 0, 0, 0, 0,
@@ -77,33 +88,64 @@ fn setup(share: u64) -> Option<PortSetup>
 // Nodes with one, two and three ports. At the first two a stream of 15,488,000 bit/s fits, and no second one.
 fn station(alloc: Global) -> Option<MsrpSide> {
     let one = setup(20)?;
-    MsrpSide::new(alloc, BRIDGE, Cs(60), false, [one].as_slice()).ok()
+    MsrpSide::new(
+        alloc,
+        BRIDGE,
+        Cs(60),
+        false,
+        [one].as_slice(),
+        DomainSet::Off,
+    )
+    .ok()
 }
 
 fn bridge(alloc: Global) -> Option<MsrpSide> {
+    bridge_of(alloc, DomainSet::Off)
+}
+
+fn bridge_of(alloc: Global, domain: DomainSet) -> Option<MsrpSide> {
     let one = setup(20)?;
     let two = setup(20)?;
-    MsrpSide::new(alloc, BRIDGE, Cs(60), false, [one, two].as_slice()).ok()
+    MsrpSide::new(alloc, BRIDGE, Cs(60), false, [one, two].as_slice(), domain).ok()
 }
 
 fn wide_bridge(alloc: Global) -> Option<MsrpSide> {
     let one = setup(20)?;
     let two = setup(20)?;
     let three = setup(75)?;
-    MsrpSide::new(alloc, BRIDGE, Cs(60), false, [one, two, three].as_slice()).ok()
+    let setups = [one, two, three];
+    MsrpSide::new(
+        alloc,
+        BRIDGE,
+        Cs(60),
+        false,
+        setups.as_slice(),
+        DomainSet::Off,
+    )
+    .ok()
 }
 
 // ---- what is declared
 
 // The Talker of the octets above, with its frames, its rank and its latency in ns.
 fn new_talker(stream: StreamId, frames: u16, rank: Rank, latency: u32) -> Option<Talker> {
+    talker_of(stream, 3, frames, rank, latency)
+}
+
+fn talker_of(
+    stream: StreamId,
+    priority: u8,
+    frames: u16,
+    rank: Rank,
+    latency: u32,
+) -> Option<Talker> {
     Some(Talker {
         stream,
         dest: Mac::new(0x91e0_f000_fe01)?,
         vid: 2,
         max_frame: 200,
         frames,
-        priority: Priority::new(3)?,
+        priority: Priority::new(priority)?,
         rank,
         latency,
     })
@@ -115,7 +157,11 @@ fn advertised(latency: u32) -> Option<MsrpContent> {
 }
 
 fn failed(frames: u16, code: u8) -> Option<MsrpContent> {
-    let talker = new_talker(ONE, frames, Rank::Normal, 1_500)?;
+    failed_of(3, frames, code)
+}
+
+fn failed_of(priority: u8, frames: u16, code: u8) -> Option<MsrpContent> {
+    let talker = talker_of(ONE, priority, frames, Rank::Normal, 1_500)?;
     let failure = Failure {
         bridge: BRIDGE,
         code,
@@ -142,10 +188,14 @@ fn receive(side: &mut MsrpSide, number: u8, octets: &[u8]) -> Option<Result<u32,
     Some(side.receive(Cs(1), port, octets))
 }
 
-// Whether a PDU of one event was read, and whether one was malformed at this place.
+// Whether a PDU of one event was read, or one of as many; and whether one was malformed at this place.
 fn receives(side: &mut MsrpSide, number: u8, octets: &[u8]) -> bool {
+    receives_events(side, number, octets, 1)
+}
+
+fn receives_events(side: &mut MsrpSide, number: u8, octets: &[u8], events: u32) -> bool {
     match receive(side, number, octets) {
-        Some(Ok(count)) => count == 1,
+        Some(Ok(count)) => count == events,
         _ => false,
     }
 }
@@ -429,5 +479,103 @@ fn timers_act_and_faults_do_not(rt: HostRuntime) -> Result<(), Fail> {
     assert!(rt; awaits(&other, 1, 2));
     assert!(rt; disturb(&mut side, 1));
     assert!(rt; says_leave_all(&mut side, 1));
+    Ok(())
+}
+
+// ---- SRP domains
+
+// Whether port 2 of a bridge declares stream 1 so, once its Talker came in at port 1 and a Listener at port 2.
+fn fails_at_two(
+    alloc: Global,
+    domain: DomainSet,
+    octets: &[u8],
+    said: Option<MsrpContent>,
+) -> bool {
+    match bridge_of(alloc, domain) {
+        Some(side) => {
+            let mut side = side;
+            receives(&mut side, 1, octets)
+                && receives(&mut side, 2, READY.as_slice())
+                && settles(&mut side, 2, 2)
+                && declares_talker(&side, 2, said)
+                && is_booked(&side, 2, ONE, None)
+        }
+        None => false,
+    }
+}
+
+#[test]
+fn a_boundary_fails_a_talker_behind_check_and_before_the_fit(rt: HostRuntime) {
+    let alloc = rt.alloc();
+    assert!(rt; fails_at_two(alloc, DomainSet::Both, ADVERTISE.as_slice(), failed(1, 8)));
+    assert!(rt;
+        fails_at_two(
+            alloc,
+            DomainSet::Nothing,
+            ADVERTISE.as_slice(),
+            failed(1, 8)
+        )
+    );
+    assert!(rt; fails_at_two(alloc, DomainSet::Both, TOO_DEAR.as_slice(), failed(2, 8)));
+    assert!(rt;
+        fails_at_two(
+            alloc,
+            DomainSet::Both,
+            CLASSLESS.as_slice(),
+            failed_of(1, 2, 13)
+        )
+    );
+    assert!(rt; fails_at_two(alloc, DomainSet::Off, TOO_DEAR.as_slice(), failed(2, 1)));
+}
+
+fn declares_domain(side: &MsrpSide, number: u8, id: u8, priority: Option<u8>) -> bool {
+    let content = priority.map(|priority| MsrpContent::Domain { priority, vid: 2 });
+    declares(side, number, MsrpKey::Domain(id), content)
+}
+
+#[test]
+fn domains_are_declared_for_good_and_not_passed_on(rt: HostRuntime) -> Result<(), Fail> {
+    let mut side = bridge_of(rt.alloc(), DomainSet::OnlyA).ok_or("a bridge")?;
+    assert!(rt; declares_domain(&side, 1, 6, Some(3)) && declares_domain(&side, 2, 6, Some(3)));
+    assert!(rt; receives_events(&mut side, 1, DOMAINS.as_slice(), 2));
+    assert!(rt; awaits(&side, 1, 0) && awaits(&side, 2, 0));
+    assert!(rt; settles(&mut side, 2, 0));
+    assert!(rt; declares_domain(&side, 2, 6, Some(3)) && declares_domain(&side, 2, 5, None));
+    Ok(())
+}
+
+// Whether a stream goes from port 1 to port 2 of a bridge, is settled at both, and fails at port 2 as a boundary.
+fn stands_at_a_boundary(side: &mut MsrpSide) -> bool {
+    receives(side, 1, ADVERTISE.as_slice())
+        && receives(side, 2, READY.as_slice())
+        && settles(side, 1, 2)
+        && settles(side, 2, 2)
+        && declares_talker(side, 2, failed(1, 8))
+}
+
+#[test]
+fn a_domain_that_comes_makes_known_streams_await_there(rt: HostRuntime) -> Result<(), Fail> {
+    let mut side = bridge_of(rt.alloc(), DomainSet::Both).ok_or("a bridge")?;
+    assert!(rt; stands_at_a_boundary(&mut side));
+    assert!(rt; receives(&mut side, 2, OTHER_DOMAIN.as_slice()));
+    assert!(rt; awaits(&side, 1, 0) && awaits(&side, 2, 2));
+    assert!(rt; settles(&mut side, 2, 2));
+    assert!(rt; declares_talker(&side, 2, failed(1, 8)));
+    assert!(rt; is_booked(&side, 2, ONE, None));
+    assert!(rt; receives_events(&mut side, 2, DOMAINS.as_slice(), 2));
+    assert!(rt; awaits(&side, 1, 0) && awaits(&side, 2, 2));
+    assert!(rt; settles(&mut side, 2, 2));
+    assert!(rt; declares_talker(&side, 2, advertised(1_500)));
+    assert!(rt; is_booked(&side, 2, ONE, Some(Cs(0))));
+    Ok(())
+}
+
+#[test]
+fn a_domain_is_nothing_where_domains_are_off(rt: HostRuntime) -> Result<(), Fail> {
+    let mut side = bridge(rt.alloc()).ok_or("a bridge")?;
+    assert!(rt; receives(&mut side, 1, ADVERTISE.as_slice()));
+    assert!(rt; settles(&mut side, 2, 2));
+    assert!(rt; receives_events(&mut side, 2, DOMAINS.as_slice(), 2));
+    assert!(rt; awaits(&side, 2, 0) && declares_domain(&side, 2, 6, None));
     Ok(())
 }

@@ -20,7 +20,7 @@ returns-clause-receive c = λ now at pdu side belong fits proper.
     let t : Part = received_part now pdu s in
     let port = port_kept side proper.kept at p here in
     let law = c.each_key_after_receive.ensures s now pdu.leave_all pdu.events port.rows in
-    proper-retold c.each_port_is_told.ensures side proper at p here t (told_by_receipt now pdu s) (c.rows_stay_rows.ensures.receive s now pdu.leave_all pdu.events port.rows)
+    proper-retold c.each_port_is_told.ensures side proper at p here c.a_place_for_each_key.ensures.registered t (told_by_receipt now pdu s) (c.rows_stay_rows.ensures.receive s now pdu.leave_all pdu.events port.rows)
     (own-received s t (after now s.leave_time) pdu.leave_all pdu.events port.contents belong law)
     (range_from t (each-received IsWithin s t (after now s.leave_time) pdu.leave_all pdu.events (range_row s (ranges_at side proper at p here)) fits law))
     (c.declarations_stay.ensures.receive s now pdu.leave_all pdu.events port.rows)
@@ -33,7 +33,7 @@ returns-clause-due c = λ now at side proper.
     let t : Part = due_state now s in
     let port = port_kept side proper.kept at p here in
     let law = c.each_key_after_due.ensures s now port.rows in
-    proper-retold c.each_port_is_told.ensures side proper at p here t (left_keys now s) (c.rows_stay_rows.ensures.due s now port.rows)
+    proper-retold c.each_port_is_told.ensures side proper at p here c.a_place_for_each_key.ensures.registered t (left_keys now s) (c.rows_stay_rows.ensures.due s now port.rows)
     (own-due s t now.0 (is_periodic_due now s) port.contents law)
     (range_from t (each-due IsWithin s t now.0 (is_periodic_due now s) (range_row s (ranges_at side proper at p here)) law))
     (c.declarations_stay.ensures.due s now port.rows) (c.due_tells_each_change.ensures.told s now port.rows))
@@ -46,7 +46,7 @@ returns-clause-leave_now c = λ at key side proper.
     let port = port_kept side proper.kept at p here in
     let law = c.one_key_changes.ensures.leave_due s key port.rows in
     let fit = range_row s (ranges_at side proper at p here) in
-    proper-retold c.each_port_is_told.ensures side proper at p here t (left_key key s) (c.rows_stay_rows.ensures.leave_due s key port.rows)
+    proper-retold c.each_port_is_told.ensures side proper at p here c.a_place_for_each_key.ensures.registered t (left_key key s) (c.rows_stay_rows.ensures.leave_due s key port.rows)
     (own-changed s t key (after_leave (find key_cmp key s.rows)) port.contents law (left_own Belongs key (find key_cmp key s.rows) (own_row s port.contents key)))
     (range_from t (each-changed IsWithin s t key (after_leave (find key_cmp key s.rows)) fit law (left_own IsWithin key (find key_cmp key s.rows) (fit key))))
     (c.declarations_stay.ensures.leave_due s key port.rows)

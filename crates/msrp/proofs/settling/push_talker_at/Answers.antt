@@ -5,7 +5,7 @@ use Rattle.mrp_participant.specs.Lookup.{key_of}
 use Rattle.mrp_participant.specs.State.{registered_at}
 use Rattle.msrp_codec.specs.declared.pdu.MsrpKey.{MsrpKey}
 use Rattle.msrp.specs.Part.{Part, key_cmp}
-use Rattle.msrp.specs.Settling.{talker_key_if, talker_keys_from}
+use Rattle.msrp.specs.Settling.{talker_key_if}
 use Rattle.msrp.proofs.settling.push_talker_at.Goals as goal
 
 -- the element at a place and those after it, and nothing where there is none
@@ -22,6 +22,10 @@ no_more f (k ∷ ks) (suc i) h = no_more f ks i h
 
 abbrev by_key : Part → MsrpKey → List MsrpKey
 by_key s key = talker_key_if key (registered_at key_cmp key s)
+
+-- the Talker keys of the rows from a place on
+abbrev talker_keys_from : ℕ → Part → List MsrpKey
+talker_keys_from place s = flat_map (by_key s) (drop place (map key_of s.rows))
 
 pushed : (s : Part) (i : ℕ) (key : MsrpKey) (old new : List MsrpKey) → slice_get (map key_of s.rows) i ≡ Some key → new ≡ old ++ by_key s key
     → new ++ talker_keys_from (i + 1) s ≡ old ++ talker_keys_from i s

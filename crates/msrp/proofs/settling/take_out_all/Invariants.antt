@@ -6,5 +6,5 @@ use Rattle.msrp.proofs.settling.take_out_all.Given as goal
 -- with the streams that are left taken out too, all are
 abbrev pub invariant-loop-stream : goal.invariant-loop-stream
 invariant-loop-stream l =
-    taken_out (λ s. wanted_at l.at l.part (talkers_of l.talks l.ports s) s) (drop l.stream-index l.streams) l.ledger
-    ≡ taken_out (λ s. wanted_at l.at l.part (talkers_of l.talks l.ports s) s) l.streams l.fn.ledger
+    taken_out (λ s. wanted_at l.at l.port (talkers_of l.talks l.ports s) s) (drop l.stream-index l.streams) l.ledger
+    ≡ taken_out (λ s. wanted_at l.at l.port (talkers_of l.talks l.ports s) s) l.streams l.fn.ledger

@@ -16,8 +16,8 @@ new_port-requires-clause-shares c =
 
 pub loop-port-preserved : goal.loop-port-preserved
 loop-port-preserved c =
-    let new = port_of c.args.bridge c.args.leave_time c.args.periodic in
+    let new = port_of c.args.bridge c.args.leave_time c.args.periodic c.args.domain in
     one_more (map new) (λ (p : PortSetup). new p ∷ []) c.args.ports.now c.loop-port.port-index c.port-item.result c.loop-port.all.items c.push.new.self.items _
     (λ p ps. refl) c.loop-port-test.true
-    (c.in_ok-push.ensures.items ∙ ap (λ (p : Port). c.loop-port.all.items ++ p ∷ []) (c.new_port.ensures ∙ ap new c.port-item.is))
+    (c.in_ok-push.ensures.items ∙ ap (λ (p : Port). c.loop-port.all.items ++ p ∷ []) (c.in_ok-made.ensures ∙ ap new c.port-item.is))
     c.loop-port.invariant

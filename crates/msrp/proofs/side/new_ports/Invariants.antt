@@ -5,5 +5,5 @@ use Rattle.msrp.proofs.side.new_ports.Given as goal
 -- the ports so far and those that are left are all
 abbrev pub invariant-loop-port : goal.invariant-loop-port
 invariant-loop-port l =
-    l.all.items ++ map (new_port l.bridge l.leave_time l.periodic) (drop l.port-index l.ports)
-    ≡ map (new_port l.bridge l.leave_time l.periodic) l.ports
+    l.all.items ++ map (new_port l.bridge l.leave_time l.periodic l.domain) (drop l.port-index l.ports)
+    ≡ map (new_port l.bridge l.leave_time l.periodic l.domain) l.ports

@@ -1,0 +1,13 @@
+use Rattle.std.proofs.Common.{◌≡◌, ◌++◌, drop, map}
+use Rattle.std.specs.Prelude.{filter, is_some}
+use Rattle.mrp_participant.specs.Lookup.{key_of}
+use Rattle.mrp_participant.specs.State.{registered_at}
+use Rattle.msrp.specs.Part.{key_cmp}
+use Rattle.msrp.specs.Settling.{registered_keys}
+use Rattle.msrp.proofs.told.push_registered.Given as goal
+
+-- what was put there, with those of the rows that are left, is all
+abbrev pub invariant-loop-place : goal.invariant-loop-place
+invariant-loop-place l =
+    l.out.items ++ filter (λ key. is_some (registered_at key_cmp key l.part)) (drop l.place (map key_of l.part.rows))
+    ≡ l.fn.out.items ++ registered_keys l.part

@@ -1,0 +1,202 @@
+//! What awaits at each link port once keys are told at one of them.
+
+ghost use Rattle.std.specs.Prelude.{◌≡◌, ◌++◌, ◌∷◌, ◌+◌, ◌<◌, [], drop, filter, is_some, length, map, option_map, IfOk, OnOk};
+ghost use Rattle.std.specs.List.{flat_map, list_any};
+ghost use Rattle.attribute_propagation.specs.Ports.{sets_with};
+ghost use Rattle.mrp_participant.specs.Lookup.{key_of};
+ghost use Rattle.mrp_participant.specs.State.{registered_at};
+ghost use Rattle.msrp.specs.Part.{key_cmp};
+ghost use Rattle.msrp.specs.Settling.{all_keys_with, is_domain, is_domain_told, keys_with, known_keys, marked_here, registered_keys, told_sets};
+
+use crate::app::MsrpApp;
+use crate::domain::DomainSet;
+use crate::port::Port;
+use crate::settling::{listener_keys, own_talker_keys};
+use attribute_propagation::laws::each_port_is_told;
+use attribute_propagation::{Dirty, await_everywhere, copied_sets};
+use mrp_participant::Participant;
+use msrp_codec::MsrpKey;
+use srp_base::{NoMemory, StreamId, Talker};
+use std::alloc::Global;
+
+// What awaits at each link port once keys are told at the one at a place; None where that stays as it is. Memory for
+// all sets is taken only where a key is told.
+pub(crate) fn told_sets(
+    alloc: Global,
+    sets: &[Dirty<MsrpKey>],
+    at: usize,
+    told: &[MsrpKey],
+    talks: &[Talker],
+    listens: &[StreamId],
+    ports: &[Port],
+    domain: DomainSet,
+) -> Result<Option<Vec<Dirty<MsrpKey>>>, NoMemory>
+    requires { at < length sets.now }
+    ensures { IfOk result (λ o. sets_with (option_map (λ v. v.items) o) sets.now
+        ≡ told_sets at domain told.now (known_keys talks.now listens.now ports.now) sets.now) }
+{
+    each_port_is_told::<MsrpKey>();
+    let keys = all_keys_with(alloc, told)?;
+    let everywhere = await_everywhere(alloc, sets, keys.as_slice())?;
+    if !is_domain_told(domain, told) {
+        return Ok(everywhere);
+    }
+    let known = known_keys(alloc, talks, listens, ports)?;
+    let here = all_keys_with(alloc, known.as_slice())?;
+    let all = marked_here(alloc, sets, everywhere, at, here.as_slice())?;
+    Ok(Some(all))
+}
+
+// Whether a node that declares these Domains has to heed one that is told.
+fn is_domain_told(domain: DomainSet, told: &[MsrpKey]) -> bool
+    ensures { result ≡ is_domain_told domain told.now }
+{
+    domain.are_counted() && any_domain(told)
+}
+
+fn any_domain(told: &[MsrpKey]) -> bool
+    ensures { result ≡ list_any is_domain told.now }
+{
+    told.iter().any(|key| is_domain(*key))
+}
+
+fn is_domain(key: MsrpKey) -> bool
+    ensures { result ≡ is_domain key }
+{
+    match key {
+        MsrpKey::Talker(_) => false,
+        MsrpKey::Listener(_) => false,
+        MsrpKey::Domain(_) => true,
+    }
+}
+
+// These sets, or others in their place, with these keys put in at a place.
+fn marked_here(
+    alloc: Global,
+    sets: &[Dirty<MsrpKey>],
+    others: Option<Vec<Dirty<MsrpKey>>>,
+    at: usize,
+    keys: &[MsrpKey],
+) -> Result<Vec<Dirty<MsrpKey>>, NoMemory>
+    requires { at < length (sets_with (option_map (λ v. v.items) others) sets.now) }
+    ensures { IfOk result (λ v. v.items
+        ≡ marked_here at keys.now (sets_with (option_map (λ v. v.items) others) sets.now)) }
+{
+    let mut all = owned(alloc, sets, others)?;
+    let set = all[at].with_all(keys)?;
+    all[at] = set;
+    Ok(all)
+}
+
+// Sets of one's own: those that are to take their place, or copies.
+fn owned(
+    alloc: Global,
+    sets: &[Dirty<MsrpKey>],
+    others: Option<Vec<Dirty<MsrpKey>>>,
+) -> Result<Vec<Dirty<MsrpKey>>, NoMemory>
+    ensures { IfOk result (λ v. v.items ≡ sets_with (option_map (λ v. v.items) others) sets.now) }
+{
+    match others {
+        Some(others) => Ok(others),
+        None => copied_sets(alloc, sets),
+    }
+}
+
+// ---- both keys of a stream
+
+// Both keys of each stream of which a key is told.
+fn all_keys_with(alloc: Global, told: &[MsrpKey]) -> Result<Vec<MsrpKey>, NoMemory>
+    ensures { IfOk result (λ v. v.items ≡ all_keys_with told.now) }
+{
+    let mut keys = Vec::with_capacity(alloc, told.len().saturating_mul(2))?;
+    for key in told {
+        push_keys_with(&mut keys, *key)?;
+    }
+    Ok(keys)
+}
+
+// Puts both keys of the stream of a key at the end.
+fn push_keys_with(out: &mut Vec<MsrpKey>, key: MsrpKey) -> Result<(), NoMemory>
+    ensures { OnOk result (out.new.items ≡ out.old.items ++ keys_with key) }
+{
+    match key {
+        MsrpKey::Talker(stream) => {
+            out.push(key)?;
+            out.push(MsrpKey::Listener(stream))?;
+            Ok(())
+        }
+        MsrpKey::Listener(stream) => {
+            out.push(MsrpKey::Talker(stream))?;
+            out.push(key)?;
+            Ok(())
+        }
+        MsrpKey::Domain(_) => Ok(()),
+    }
+}
+
+// ---- what is registered at a node
+
+// The keys that are registered at a node: those of its application, and what each link port has registered.
+fn known_keys(
+    alloc: Global,
+    talks: &[Talker],
+    listens: &[StreamId],
+    ports: &[Port],
+) -> Result<Vec<MsrpKey>, NoMemory>
+    ensures { IfOk result (λ v. v.items ≡ known_keys talks.now listens.now ports.now) }
+{
+    let mut keys = own_talker_keys(alloc, talks)?;
+    let heard = listener_keys(alloc, listens)?;
+    keys.extend_from_slice(heard.as_slice())?;
+    push_all_registered(&mut keys, ports)?;
+    Ok(keys)
+}
+
+// Puts the keys that these link ports have registered at the end.
+fn push_all_registered(out: &mut Vec<MsrpKey>, ports: &[Port]) -> Result<(), NoMemory>
+    ensures { OnOk result (out.new.items
+        ≡ out.old.items ++ flat_map (λ p. registered_keys p.part) ports.now) }
+{
+    for port in ports {
+        push_registered(out, &port.part)?;
+    }
+    Ok(())
+}
+
+// Puts the keys that a participant has registered at the end.
+fn push_registered(out: &mut Vec<MsrpKey>, part: &Participant<MsrpApp>) -> Result<(), NoMemory>
+    ensures { OnOk result (out.new.items ≡ out.old.items ++ registered_keys part.now) }
+{
+    for place in 0..part.rows() {
+        push_registered_at(out, part, place)?;
+    }
+    Ok(())
+}
+
+// Puts the key of a row at the end, where something is registered in it.
+fn push_registered_at(
+    out: &mut Vec<MsrpKey>,
+    part: &Participant<MsrpApp>,
+    place: usize,
+) -> Result<(), NoMemory>
+    ensures { OnOk result (out.new.items ++ filter
+        (λ key. is_some (registered_at key_cmp key part.now))
+        (drop (place + 1) (map key_of part.now.rows))
+        ≡ out.old.items ++ filter (λ key. is_some (registered_at key_cmp key part.now))
+        (drop place (map key_of part.now.rows))) }
+{
+    match part.key_at(place) {
+        Some(key) => push_where(out, part.registered(key).is_some(), key),
+        None => Ok(()),
+    }
+}
+
+// Puts a key at the end, or nothing.
+fn push_where(out: &mut Vec<MsrpKey>, is_in: bool, key: MsrpKey) -> Result<(), NoMemory>
+    ensures { OnOk result (out.new.items ≡ out.old.items ++ filter (λ _. is_in) (key ∷ [])) }
+{
+    if is_in {
+        out.push(key)?;
+    }
+    Ok(())
+}
