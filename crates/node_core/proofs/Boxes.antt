@@ -11,6 +11,7 @@ use Rattle.srp_base.specs.declared.ports.PortSetup.{PortSetup}
 use Rattle.tree_topology.specs.declared.graph.NodeKind.{NodeKind}
 use Rattle.mrp_participant.specs.State.{new_state}
 use Rattle.mvrp.specs.Side.{Vlans, IsKept, new_vlans}
+use Rattle.msrp.specs.declared.domain.DomainSet.{DomainSet}
 use Rattle.msrp.specs.Side.{Streams, IsKept as IsKeptStreams, new_port, new_streams}
 use Rattle.node_core.specs.declared.types.Wire.{Wire}
 use Rattle.node_core.specs.Wires.{IsShort, AreShort, without, with_wire}
@@ -91,16 +92,16 @@ pub repeated_of : (xs : List Wire) (i : ℕ) (x d : Wire) → i < length xs → 
 repeated_of xs i x d h e = ap (λ y. insert xs i y) e ∙ insert_repeated xs i d h
 
 -- a new node keeps what every node keeps
-pub new_boxes_kept : (ports : List PortSetup) (kind : NodeKind) (bridge : BridgeId) (leave_time : Cs) (periodic : Bool)
+pub new_boxes_kept : (ports : List PortSetup) (kind : NodeKind) (bridge : BridgeId) (leave_time : Cs) (periodic : Bool) (domain : DomainSet)
     (v : Vlans) (t : Streams) (ins outs : List (List Wire))
     → length ports ≤ 255 → IsKept v → v ≡ new_vlans leave_time periodic ports
-    → IsKeptStreams t → t ≡ new_streams bridge leave_time periodic ports
+    → IsKeptStreams t → t ≡ new_streams bridge leave_time periodic domain ports
     → ins ≡ map (λ _. []) ports → outs ≡ map (λ _. []) ports
     → IsKeptNode (record { kind = kind; bridge = bridge; clock = record { 0 = 0 }; vlans = v; streams = t; inboxes = ins; outboxes = outs })
-new_boxes_kept ports kind bridge leave_time periodic v t ins outs few kept is kept_streams streams_is in_is out_is =
+new_boxes_kept ports kind bridge leave_time periodic domain v t ins outs few kept is kept_streams streams_is in_is out_is =
     let none : PortSetup → List Wire = λ p. [] in
     let parts : length v.parts ≡ length ports = ap (λ (w : Vlans). length w.parts) is ∙ length-map ports (λ (p : PortSetup). new_state p.period leave_time periodic) in
-    let links : length t.ports ≡ length ports = ap (λ (u : Streams). length u.ports) streams_is ∙ length-map ports (new_port bridge leave_time periodic) in
+    let links : length t.ports ≡ length ports = ap (λ (u : Streams). length u.ports) streams_is ∙ length-map ports (new_port bridge leave_time periodic domain) in
     let boxes : length (map none ports) ≡ length ports = length-map ports none in
     record {
       vlans = kept;

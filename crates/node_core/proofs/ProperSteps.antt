@@ -11,7 +11,6 @@ use Rattle.srp_base.specs.declared.mrp.App.{App}
 use Rattle.srp_base.specs.declared.mrp.App.TheVariants.{Mvrp, Msrp}
 use Rattle.srp_base.specs.declared.numbers.BridgeId.{BridgeId}
 use Rattle.srp_base.specs.declared.ports.PortSetup.{PortSetup}
-use Rattle.stream_importance.specs.declared.slope.Caps.{Caps}
 use Rattle.msrp_talker.specs.declared.port_config.PortConfig.{PortConfig}
 use Rattle.tree_topology.specs.declared.graph.NodeKind.{NodeKind}
 use Rattle.mvrp_codec.specs.declared.pdu.MvrpPdu.{MvrpPdu}
@@ -31,8 +30,9 @@ use Rattle.msrp.specs.declared.port.Port.{Port as SrpPort}
 use Rattle.msrp.specs.declared.asking.SrpRequest.{SrpRequest}
 use Rattle.msrp.specs.declared.asking.SrpRequest.TheVariants as asks
 use Rattle.msrp.specs.Part.{Part as SrpPart, HasOwnContents, key_cmp, pdu_sent as srp_pdu_sent}
+use Rattle.msrp.specs.declared.domain.DomainSet.{DomainSet}
 use Rattle.msrp.specs.Side.{Streams, IsPort, IsWritten as IsSrpWritten, new_port, new_streams, received_streams, due_streams, left_streams, leave_all_streams, periodic_streams, spoilt_streams, settled_streams, sent_streams, requested_streams, clocked_streams}
-use Rattle.msrp.specs.Proper.{HasRanges, IsProper as IsProperSrp, IsRequestInRange, setups_of}
+use Rattle.msrp.specs.Proper.{HasRanges, IsProper as IsProperSrp, IsRequestInRange, Setup, setup_of, setups_of}
 use Rattle.node_core.specs.declared.types.Wire.{Wire}
 use Rattle.node_core.specs.declared.types.AppRequest.TheVariants.{Declare, Withdraw, Talk, Hush, Listen, Unlisten}
 use Rattle.node_core.specs.declared.types.NodeKey.TheVariants.{Vlan, Srp}
@@ -112,18 +112,15 @@ with-vlans s v proper same h =
       readable_out = h.readable_out;
     }
 
--- how a port is set up; ports that are set up alike have the same BridgeIDs
-abbrev setup : SrpPort → PortConfig × Caps
-setup p = (p.config, p.ledger.caps)
-
-named-alike : (b : BridgeId) (xs ys : List SrpPort) → map setup xs ≡ map setup ys
+-- ports that are set up alike have the same BridgeIDs
+named-alike : (b : BridgeId) (xs ys : List SrpPort) → map setup_of xs ≡ map setup_of ys
     → AllByRecursion (λ (p : SrpPort). p.config.bridge ≡ b) ys → AllByRecursion (λ (p : SrpPort). p.config.bridge ≡ b) xs
 named-alike b [] ys e h = tt
 named-alike b (x ∷ xs) [] e h = cc
 named-alike b (x ∷ xs) (y ∷ ys) e h =
-    let heads : setup x ≡ setup y = cc in
-    let first : x.config ≡ y.config = ap (λ (s : PortConfig × Caps). s.0) heads in
-    let rest : map setup xs ≡ map setup ys = cc in
+    let heads : setup_of x ≡ setup_of y = cc in
+    let first : x.config ≡ y.config = ap (λ (s : Setup). s.config) heads in
+    let rest : map setup_of xs ≡ map setup_of ys = cc in
     (ap (λ (c : PortConfig). c.bridge) first ∙ h.0, named-alike b xs ys rest h.1)
 
 -- MSRP has become another at a moment, and the clock is there
@@ -203,16 +200,16 @@ with-outbox s at wires short proper h =
       readable_out = each_set AreProperWires s.outboxes at wires proper h.readable_out;
     }
 
-new-named : (bridge : BridgeId) (leave_time : Cs) (periodic : Bool) (ports : List PortSetup) → AllByRecursion (λ (p : SrpPort). p.config.bridge ≡ bridge) (map (new_port bridge leave_time periodic) ports)
-new-named bridge leave_time periodic [] = tt
-new-named bridge leave_time periodic (p ∷ ports) = (refl, new-named bridge leave_time periodic ports)
+new-named : (bridge : BridgeId) (leave_time : Cs) (periodic : Bool) (domain : DomainSet) (ports : List PortSetup) → AllByRecursion (λ (p : SrpPort). p.config.bridge ≡ bridge) (map (new_port bridge leave_time periodic domain) ports)
+new-named bridge leave_time periodic domain [] = tt
+new-named bridge leave_time periodic domain (p ∷ ports) = (refl, new-named bridge leave_time periodic domain ports)
 
-pub proper-new : (kind : NodeKind) (bridge : BridgeId) (leave_time : Cs) (periodic : Bool) (ports : List PortSetup)
-    → IsProper (new_vlans leave_time periodic ports) → IsProperSrp (new_streams bridge leave_time periodic ports) → length ports ≤ 255 → IsProperNode (new_node kind bridge leave_time periodic ports)
-proper-new kind bridge leave_time periodic ports side streams few =
+pub proper-new : (kind : NodeKind) (bridge : BridgeId) (leave_time : Cs) (periodic : Bool) (domain : DomainSet) (ports : List PortSetup)
+    → IsProper (new_vlans leave_time periodic ports) → IsProperSrp (new_streams bridge leave_time periodic domain ports) → length ports ≤ 255 → IsProperNode (new_node kind bridge leave_time periodic domain ports)
+proper-new kind bridge leave_time periodic domain ports side streams few =
     let none : PortSetup → List Wire = λ p. [] in
     let parts = length-map ports (λ (p : PortSetup). new_state {K = ℕ} {C = Unit {0}} p.period leave_time periodic) in
-    let links = length-map ports (new_port bridge leave_time periodic) in
+    let links = length-map ports (new_port bridge leave_time periodic domain) in
     let boxes = length-map ports none in
     record {
       kept = record {
@@ -229,7 +226,7 @@ proper-new kind bridge leave_time periodic ports side streams few =
       };
       vids = side.keys;
       ranges = streams.ranges;
-      named = new-named bridge leave_time periodic ports;
+      named = new-named bridge leave_time periodic domain ports;
       readable_in = each_new IsProperWire ports;
       readable_out = each_new IsProperWire ports;
     }

@@ -4,15 +4,13 @@ use Rattle.std.specs.Prelude.{◌≡◌, ℕ, List, Ok}
 use Rattle.std.specs.List.{AllByRecursion}
 use Rattle.srp_base.specs.declared.mrp.App.{App}
 use Rattle.srp_base.specs.declared.mrp.App.TheVariants.{Mvrp, Msrp}
-use Rattle.stream_importance.specs.declared.slope.Caps.{Caps}
-use Rattle.msrp_talker.specs.declared.port_config.PortConfig.{PortConfig}
 use Rattle.msrp_codec.specs.declared.pdu.MsrpPdu.{MsrpPdu}
 use Rattle.msrp_codec.specs.FirstValue.{IsTalker}
 use Rattle.msrp_codec.specs.Meaning.{msrp_reading}
 use Rattle.msrp_codec.specs.Writing.{AreInRange}
 use Rattle.mvrp.specs.Vids.{IsVid, AreOfVids}
 use Rattle.msrp.specs.declared.port.Port.{Port as SrpPort}
-use Rattle.msrp.specs.Proper.{AreOfRange, setups_of}
+use Rattle.msrp.specs.Proper.{AreOfRange, Setup, setups_of}
 use Rattle.node_core.specs.declared.types.Wire.{Wire}
 use Rattle.node_core.specs.declared.types.AppRequest.{AppRequest}
 use Rattle.node_core.specs.declared.types.AppRequest.TheVariants.{Declare, Withdraw, Talk, Hush, Listen, Unlisten}
@@ -60,6 +58,7 @@ IsInRange (Request request) = AsksInRange request
 IsInRange (Port port step) = Unit {0}
 IsInRange Clock = Unit {0}
 
--- how each link port of a node is set up: its BridgeID and its latency, and the caps of its ledger
-abbrev pub port_setups : NodeState → List (PortConfig × Caps)
+-- how each link port of a node is set up: its BridgeID and its latency, the caps of its ledger, and the Domain values
+-- that it declares
+abbrev pub port_setups : NodeState → List Setup
 port_setups s = setups_of s.streams

@@ -27,6 +27,7 @@ use Rattle.msrp_codec.specs.declared.pdu.MsrpContent.{MsrpContent}
 use Rattle.mvrp.specs.Part.{Part}
 use Rattle.flat_side.specs.Side.{are_still, is_busy as vlans_are_busy}
 use Rattle.mvrp.specs.Side.{Vlans, new_vlans}
+use Rattle.msrp.specs.declared.domain.DomainSet.{DomainSet}
 use Rattle.msrp.specs.declared.port.Port.{Port}
 use Rattle.msrp.specs.Part.{key_cmp}
 use Rattle.msrp.specs.Stream.{fit_at, talkers_of}
@@ -52,15 +53,16 @@ pub record NodeState : Type 0 where
 abbrev pub ports_of : NodeState → ℕ
 ports_of s = length s.vlans.parts
 
--- a new node with these ports: nothing is declared, registered or booked, and no PDU waits
-abbrev pub new_node : NodeKind → BridgeId → Cs → Bool → List PortSetup → NodeState
-new_node kind bridge leave_time periodic ports =
+-- a new node with these ports: nothing but its Domain values is declared, nothing is registered or booked, and no PDU
+-- waits
+abbrev pub new_node : NodeKind → BridgeId → Cs → Bool → DomainSet → List PortSetup → NodeState
+new_node kind bridge leave_time periodic domain ports =
     record {
       kind = kind;
       bridge = bridge;
       clock = record { 0 = 0 };
       vlans = new_vlans leave_time periodic ports;
-      streams = new_streams bridge leave_time periodic ports;
+      streams = new_streams bridge leave_time periodic domain ports;
       inboxes = map (λ _. []) ports;
       outboxes = map (λ _. []) ports;
     }

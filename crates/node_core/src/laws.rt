@@ -17,6 +17,7 @@ ghost use Rattle.node_core.specs.Wires.{IsShort, AreShort};
 ghost use Rattle.node_core.specs.State.{NodeState, ports_of, new_node, is_at_rest, is_busy_node};
 ghost use Rattle.node_core.specs.Step.{CanStep, node_step};
 ghost use Rattle.node_core.specs.Links.{IsKeptNode, with_outbox, with_carried, lost_at, repeated_at, forged_at, spoilt_at};
+ghost use Rattle.msrp.specs.declared.domain.DomainSet.{DomainSet};
 ghost use Rattle.node_core.specs.Proper.{IsProperNode, IsProperWire, AreProperWires, IsInRange, port_setups};
 
 use crate::types::NodeEvent;
@@ -26,9 +27,9 @@ use mvrp::laws as of_vlans;
 /// A new node keeps what every node keeps, where its BridgeID is a number of 64 bits.
 pub fn a_new_node_is_proper()
     ensures { (kind : NodeKind) (bridge : BridgeId) (leave_time : Cs) (periodic : Bool)
-        (ports : List PortSetup)
+        (domain : DomainSet) (ports : List PortSetup)
         → length ports ≤ 255 → bridge.0 < 2 ^ 64
-        → IsProperNode (new_node kind bridge leave_time periodic ports) }
+        → IsProperNode (new_node kind bridge leave_time periodic domain ports) }
 {
     of_vlans::a_new_side_is_proper();
     of_streams::a_new_side_is_proper();
@@ -91,7 +92,8 @@ pub fn steps_keep_what_a_node_is()
     of_streams::calls_keep_the_ports();
 }
 
-/// A step keeps the node's BridgeID, and how each link port is set up: its BridgeID, its latency and the caps of its ledger.
+/// A step keeps the node's BridgeID, and how each link port is set up: its BridgeID, its latency, the caps of its ledger and
+/// the Domain values that it declares.
 pub fn a_port_stays_set_up()
     ensures bridge { (event : NodeEvent) (s : NodeState) → (node_step event s).0.bridge ≡ s.bridge }
     ensures ports { (event : NodeEvent) (s : NodeState) → port_setups (node_step event s).0

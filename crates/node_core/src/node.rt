@@ -12,7 +12,7 @@ ghost use Rattle.node_core.specs.Links.{IsKeptNode};
 
 use crate::naming::push_keys;
 use crate::types::{NodeKey, Wire};
-use msrp::{ClockSets, MsrpSide};
+use msrp::{ClockSets, DomainSet, MsrpSide};
 use msrp_codec::{MsrpContent, MsrpKey};
 use mvrp::MvrpSide;
 use port_ledger::Ledger;
@@ -66,7 +66,8 @@ impl Model for Node {
 }
 
 impl Node {
-    /// A node with these link ports, at the moment 0: nothing is declared, registered or booked, and no PDU waits.
+    /// A node with these link ports, at the moment 0: at each of them it declares these Domain values of MSRP for good
+    /// (IEEE Std 802.1Q-2018, 35.2.2.9), nothing else is declared, nothing is registered or booked, and no PDU waits.
     /// LeaveTime and each port's period are 1 to 10,000 cs, and the two shares of each port sum to at most 90 percent.
     pub fn new(
         alloc: Global,
@@ -75,16 +76,18 @@ impl Node {
         leave_time: Cs,
         periodic: bool,
         ports: &[PortSetup],
+        domain: DomainSet,
     ) -> Result<Node, NoMemory>
         requires few { length ports.now ≤ 255 }
         requires shares { AllByRecursion (λ p. p.delta_a + p.delta_b ≤ 90) ports.now }
         requires leave_time { IsTime leave_time }
         requires periods { AllByRecursion (λ p. IsTime p.period) ports.now }
-        ensures { IfOk result (λ node. node ≡ new_node kind bridge leave_time periodic ports.now) }
+        ensures { IfOk result (λ node. node
+            ≡ new_node kind bridge leave_time periodic domain ports.now) }
     {
         let mvrp = MvrpSide::new(alloc, leave_time, periodic, ports)?;
         mvrp.keeps();
-        let msrp = MsrpSide::new(alloc, bridge, leave_time, periodic, ports)?;
+        let msrp = MsrpSide::new(alloc, bridge, leave_time, periodic, ports, domain)?;
         msrp.keeps();
         let inboxes = new_boxes(alloc, ports)?;
         let outboxes = new_boxes(alloc, ports)?;
