@@ -35,8 +35,8 @@ HasDeclaredBehind w vid p = (y : ℕ) × HasNode w.tree y × LiesBehind w.tree.l
 abbrev pub VlansMatch : WorldState → Type 0
 VlansMatch w = (p : EgressPort) (vid : ℕ) → HasPort w.tree p → (is_registered w vid p ≡ true) ↔ HasDeclaredBehind w vid p
 
--- nothing is pending, and every port is sound: it has sent a LeaveAll since one of its PDUs was last lost or forged on its link,
--- or since then took its neighbour's while nothing was on the way to that neighbour and it hadn't said anything since
+-- nothing is pending, and every port is sound in each application: it has sent a LeaveAll since a PDU of the application was
+-- last lost or forged on its link, or since then took one of its neighbour's on a clear way (`is_sound_in` of world_core)
 pub record IsAtRest (w : WorldState) : Type 0 where
   pub quiet : is_quiet w ≡ true
   pub in_step : is_in_step w ≡ true

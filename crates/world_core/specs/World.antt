@@ -230,9 +230,9 @@ IsEventInRange Clock = Unit {0}
 abbrev pub is_quiet : WorldState → Bool
 is_quiet w = list_all is_still_node w.nodes
 
--- whether an application at a port is sound: it has sent a LeaveAll since one of its PDUs was last lost or forged on the port's
--- link, if one was; or since then it took its neighbour's LeaveAll while nothing was on the way to that neighbour and it hadn't
--- said anything since
+-- whether an application at a port is sound: it has sent a LeaveAll since a PDU of the application was last lost or forged on the
+-- port's link, if one was; or since then it took one of its neighbour's on a clear way: the neighbour had sent one while nothing
+-- was on the way to it, and the port hadn't said anything since
 abbrev pub is_sound_in : App → EgressPort → NodeState → MarksState → Bool
 is_sound_in app p s m = (mark_at app p m).assured || is_sound_at app (place_of p.port) s
 

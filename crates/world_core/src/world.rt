@@ -80,9 +80,9 @@ impl World {
         self.nodes.iter().all(|node| node.still())
     }
 
-    /// Whether both applications of every port are sound: each has sent a LeaveAll since one of its PDUs was last lost or
-    /// forged on the port's link, if one was; or since then it took its neighbour's LeaveAll while nothing was on the way to
-    /// that neighbour and it hadn't said anything since.
+    /// Whether both applications of every port are sound: each has sent a LeaveAll since a PDU of it was last lost or forged
+    /// on the port's link, if one was; or since then it took one of its neighbour's on a clear way: the neighbour had sent one
+    /// while nothing was on the way to it, and the port hadn't said anything since.
     pub fn in_step(&self) -> bool
         ensures { result ≡ is_in_step self.now }
     {
