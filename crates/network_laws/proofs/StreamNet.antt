@@ -28,7 +28,7 @@ use Rattle.msrp_codec.specs.declared.pdu.MsrpKey.TheVariants as keys
 use Rattle.msrp_listener.specs.declared.port_listener.PortListener.{PortListener}
 use Rattle.msrp.specs.declared.port.Port.{Port}
 use Rattle.msrp.specs.Part.{key_cmp, registered_talker, registered_listener, talker_reg_of, listener_kind_of}
-use Rattle.msrp.specs.Stream.{Registrations, advertise_of, talk_of, is_present, is_advertised, is_talker_port, is_ready, listener_row, first_talker, talker_at, listener_at, wanted_at, want_of_talker}
+use Rattle.msrp.specs.Stream.{Registrations, advertise_of, talk_of, is_present, is_advertised, is_talker_port, is_ready, listener_row, first_talker, edge_at, talker_at, listener_at, wanted_at, want_of_talker}
 use Rattle.msrp_talker.specs.TalkerOut.{talker_in}
 use Rattle.attribute_propagation.specs.Ports.{place_of}
 use Rattle.msrp.specs.Side.{Streams, IsKept, IsPort, IsSettled, has_talk, seen_by}
@@ -174,18 +174,18 @@ module _ (w : WorldState) (still : AreStreamsStill w) (stream : StreamId) (kept-
   pub port-kept : (p : EgressPort) (a : At p) → IsPort a.s.streams.moment a.port
   port-kept p a = each-get (IsPort a.s.streams.moment) a.s.streams.ports (place_of p.port) a.port (side-kept p a).ports a.has
 
-  pub wanted : (p : EgressPort) (a : At p) → want_of a.port.ledger.entries stream ≡ wanted_at (place_of p.port) a.port.part (regs a).talkers stream
+  pub wanted : (p : EgressPort) (a : At p) → want_of a.port.ledger.entries stream ≡ wanted_at (place_of p.port) a.port (regs a).talkers stream
   wanted p a = (settled p a).wanted stream refl refl
 
   -- what a port's peer has registered is what the rules state there
-  pub far-talker : (p : EgressPort) → HasPort w.tree p → (a : At p) → reg (q_of p) ≡ talker_at (place_of p.port) a.port.config a.port.ledger (regs a).talkers
+  pub far-talker : (p : EgressPort) → HasPort w.tree p → (a : At p) → reg (q_of p) ≡ talker_at (place_of p.port) a.port (regs a).talkers
   far-talker p h a =
       let hq = laws.peer_port p h in
       let b = at-port (q_of p) hq in
       let back : stream_port (peer_of w.tree.links (q_of p)) w ≡ Some a.port = ap (λ x. stream_port x w) (laws.peer_twice p h) ∙ port-is p a in
       reg-is (q_of p) b
       ∙ (ap talker_reg_of (still.linked (q_of p) hq b.port a.port (port-is (q_of p) b) back (keys.Talker stream) ∙ (settled p a).declared (keys.Talker stream) refl)
-      ∙ reg-content (talker_at (place_of p.port) a.port.config a.port.ledger (regs a).talkers))
+      ∙ reg-content (talker_at (place_of p.port) a.port (regs a).talkers))
 
   pub far-listener : (p : EgressPort) → HasPort w.tree p → (a : At p) → kind_at (q_of p) ≡ listener_at (place_of p.port) (regs a)
   far-listener p h a =
@@ -266,7 +266,7 @@ module _ (w : WorldState) (still : AreStreamsStill w) (stream : StreamId) (kept-
   other-place : (q r : EgressPort) → HasPort w.tree q → HasPort w.tree r → q.node ≡ r.node → q ≢ r → place_of q.port ≢ place_of r.port
   other-place q r hq hr e ne f = ne (same-port-is q r hq hr e f)
 
-  pub near-talker : (p : EgressPort) → HasPort w.tree p → (b : At (q_of p)) → reg p ≡ talker_at (place_of (q_of p).port) b.port.config b.port.ledger (regs b).talkers
+  pub near-talker : (p : EgressPort) → HasPort w.tree p → (b : At (q_of p)) → reg p ≡ talker_at (place_of (q_of p).port) b.port (regs b).talkers
   near-talker p h b = ap reg (sym (laws.peer_twice p h)) ∙ far-talker (q_of p) (laws.peer_port p h) b
 
   -- where a Talker is registered, the far node's application talks, or one is registered at another port of the far node
@@ -275,7 +275,7 @@ module _ (w : WorldState) (still : AreStreamsStill w) (stream : StreamId) (kept-
       let q = q_of p in
       let hq = laws.peer_port p h in
       let b = at-port q hq in
-      let parts = declared-present (place_of q.port) b.port.config b.port.ledger (regs b).talkers (sym (ap is_present (near-talker p h b)) ∙ t) in
+      let parts = declared-present (place_of q.port) b.port (regs b).talkers (sym (ap is_present (near-talker p h b)) ∙ t) in
       let n = port-of-present (regs b).talkers parts.1 in
       by b n.0 (sym (is-port (regs b).talkers n.0 n.1 (suc (place_of q.port)) n.2) ∙ parts.0) (talkers-at q hq b n.0 n.1 n.2)
     where
@@ -295,7 +295,7 @@ module _ (w : WorldState) (still : AreStreamsStill w) (stream : StreamId) (kept-
       first-is (advertise_of (talk_of stream b.s.streams.talks)) (map (λ (x : Port). registered_talker stream x.part) b.s.streams.ports) talk in
       let away : is_talker_port (suc (place_of q.port)) (regs b).talkers ≡ false = is-port (regs b).talkers 0 (advertise_of (talk_of stream b.s.streams.talks)) (suc (place_of q.port)) first ∙ other-port 0 (suc (place_of q.port)) (λ e. absurd (omega arith)) in
       ap is_present (near-talker p h b)
-      ∙ present-declared (place_of q.port) b.port.config b.port.ledger (regs b).talkers away (ap is_present first.is ∙ talk)
+      ∙ present-declared (place_of q.port) b.port (regs b).talkers away (ap is_present first.is ∙ talk)
 
   -- where one is registered at another port of the far node, and none at that which leads back, one is registered
   backward-beyond : (p : EgressPort) → HasPort w.tree p → HasBeyond w.tree test p → test (q_of p) ≡ false → test p ≡ true
@@ -308,7 +308,7 @@ module _ (w : WorldState) (still : AreStreamsStill w) (stream : StreamId) (kept-
       let away : is_talker_port (suc (place_of q.port)) (regs b).talkers ≡ false =
       is-port (regs b).talkers n.0 n.1 (suc (place_of q.port)) n.2 ∙ other-port n.0 (suc (place_of q.port)) (λ e. not-there b n.0 n.1 n.2 e) in
       ap is_present (near-talker p h b)
-      ∙ present-declared (place_of q.port) b.port.config b.port.ledger (regs b).talkers away (ap is_present n.2.is ∙ n.2.present)
+      ∙ present-declared (place_of q.port) b.port (regs b).talkers away (ap is_present n.2.is ∙ n.2.present)
     where
       not-there : (b : At (q_of p)) (n : ℕ) (x : TalkerReg) → IsTalkers (regs b).talkers n x → n ≡ suc (place_of (q_of p).port) → ⊥
       not-there b n x t e =
@@ -467,7 +467,7 @@ module _ (w : WorldState) (still : AreStreamsStill w) (stream : StreamId) (kept-
         let some : is_some (since_of a.port.ledger.entries stream) ≡ true = sym (booked-is p a) ∙ k in
         let why = booked-wants kept-wants (place_of p.port) a.port (regs a).talkers stream kept (wanted p a) some in
         let advertised-r : reg r ≡ Advertise why.0 = sym b.is_reg ∙ why.2.advertised in
-        let told : is_advertised (talker_at (place_of (q_of r).port) c.port.config c.port.ledger (regs c).talkers) ≡ true =
+        let told : is_advertised (talker_at (place_of (q_of r).port) c.port (regs c).talkers) ≡ true =
         ap is_advertised (sym (near-talker r hr c) ∙ advertised-r) in
         let ready-r : is_ready (listener_at (place_of r.port) (regs b.sib.at)) ≡ true = ready-there why.0 why.1 why.2 some in
         let ready : is_ready (registered_listener stream c.port.part) ≡ true =
@@ -475,7 +475,7 @@ module _ (w : WorldState) (still : AreStreamsStill w) (stream : StreamId) (kept-
         booked-is (q_of r) c
         ∙ advertised-booked kept-wants (place_of (q_of r).port) c.port (regs c).talkers stream (port-kept (q_of r) c).ledger (wanted (q_of r) c) told ready
       where
-        ready-there : (u : Talker) (v : Want) → Wants (place_of p.port) a.port.part (regs a).talkers stream u v → is_some (since_of a.port.ledger.entries stream) ≡ true
+        ready-there : (u : Talker) (v : Want) → Wants (place_of p.port) a.port (regs a).talkers stream u v → is_some (since_of a.port.ledger.entries stream) ≡ true
             → is_ready (listener_at (place_of r.port) (regs b.sib.at)) ≡ true
         ready-there u v why some = of (registered_listener stream a.port.part) refl
           where
@@ -543,9 +543,9 @@ module _ (w : WorldState) (still : AreStreamsStill w) (stream : StreamId) (kept-
     states (suc n) p h lt k s e =
         let hq = laws.peer_port p h in
         let b = at-port (q_of p) hq in
-        let parts = declared-present (place_of (q_of p).port) b.port.config b.port.ledger (regs b).talkers (sym (ap is_present (near-talker p h b)) ∙ behind-registered p h k) in
-        ap asked (near-talker p h b ∙ declares (place_of (q_of p).port) b.port.config b.port.ledger (regs b).talkers parts.0)
-        ∙ (out-wants (first_talker (regs b).talkers) b.port.config (fit_of_reg b.port.ledger (first_talker (regs b).talkers))
+        let parts = declared-present (place_of (q_of p).port) b.port (regs b).talkers (sym (ap is_present (near-talker p h b)) ∙ behind-registered p h k) in
+        ap asked (near-talker p h b ∙ declares (place_of (q_of p).port) b.port (regs b).talkers parts.0)
+        ∙ (out-wants (first_talker (regs b).talkers) b.port.config (edge_at b.port (regs b).talkers) (fit_of_reg b.port.ledger (first_talker (regs b).talkers))
         ∙ by b (step-back (q_of p) hq b (other-side p h k)) (λ r hr less b. states n r hr less b s e))
       where
         by : (b : At (q_of p)) → ((q_of p).node.0 ≡ t) ⊎ ((r : EgressPort) × Towards (q_of p) b r)
@@ -604,15 +604,15 @@ module _ (w : WorldState) (still : AreStreamsStill w) (stream : StreamId) (kept-
     refusing zero p h lt off s e u f k code = absurd (omega arith)
     refusing (suc n) p h lt off s e u f k code =
         let a = at-port p h in
-        by a (step-back p h a off) (failed-at (place_of p.port) a.port.config a.port.ledger (regs a).talkers u f (sym (far-talker p h a) ∙ k) code)
+        by a (step-back p h a off) (failed-at (place_of p.port) a.port (regs a).talkers u f (sym (far-talker p h a) ∙ k) code)
         (λ q hq less away v g. refusing n q hq less away s e v f g code)
       where
         wants-here : (a : At p) → (p.node.0 ≡ t) ⊎ ((r : EgressPort) × Towards p a r) → asked (first_talker (regs a).talkers) ≡ wants_of s
         wants-here a (inl f) = asks-there p h a f s e
         wants-here a (inr r) = ap asked r.1.is_reg ∙ states-the-same r.0 r.1.sib.port r.1.leads s e
 
-        elsewhere : (a : At p) → is_present (talker_at (place_of p.port) a.port.config a.port.ledger (regs a).talkers) ≡ true → is_talker_port (suc (place_of p.port)) (regs a).talkers ≡ false
-        elsewhere a x = (declared-present (place_of p.port) a.port.config a.port.ledger (regs a).talkers x).0
+        elsewhere : (a : At p) → is_present (talker_at (place_of p.port) a.port (regs a).talkers) ≡ true → is_talker_port (suc (place_of p.port)) (regs a).talkers ≡ false
+        elsewhere a x = (declared-present (place_of p.port) a.port (regs a).talkers x).0
 
         by : (a : At p) → (p.node.0 ≡ t) ⊎ ((r : EgressPort) × Towards p a r)
             → ((v : Talker) × (first_talker (regs a).talkers ≡ Failed v f)) ⊎ Refuses a.port.config a.port.ledger (first_talker (regs a).talkers) f

@@ -26,8 +26,8 @@ use Rattle.msrp_listener.specs.declared.port_listener.PortListener.{PortListener
 use Rattle.msrp_listener.specs.Merging.{merge_of, counted_kind, listener_out}
 use Rattle.msrp_codec.specs.declared.pdu.MsrpContent.TheVariants as contents
 use Rattle.msrp.specs.declared.port.Port.{Port}
-use Rattle.msrp.specs.Part.{Part, registered_listener, talker_content, talker_reg_of, listener_kind_of}
-use Rattle.msrp.specs.Stream.{Registrations, is_present, is_advertised, is_number, is_talker_port, is_ready, is_ready_kind, talker_port, first_talker, talker_at, want_of_talker, want_of_reg, want_in_class, wanted_at, listener_at, own_listener, other_listeners}
+use Rattle.msrp.specs.Part.{registered_listener, talker_content, talker_reg_of, listener_kind_of}
+use Rattle.msrp.specs.Stream.{Registrations, is_present, is_advertised, is_number, is_talker_port, is_ready, is_ready_kind, talker_port, first_talker, edge_at, talker_at, want_of_talker, want_of_reg, want_in_class, wanted_at, listener_at, own_listener, other_listeners}
 
 -- ---- the Talker's port
 
@@ -114,48 +114,48 @@ other-port n m ne = by (n == m) refl
 abbrev pub fit_of_reg : Book → TalkerReg → Fit
 fit_of_reg book reg = unwrap_or (option_map (fit_for book.moment book) (option_and_then want_of_talker (talker_in reg))) Fits
 
-pub declares-none : (at : ℕ) (config : PortConfig) (book : Book) (xs : List TalkerReg) → is_talker_port (suc at) xs ≡ true → talker_at at config book xs ≡ Absent
-declares-none at config book xs e = rw e refl
+pub declares-none : (at : ℕ) (port : Port) (xs : List TalkerReg) → is_talker_port (suc at) xs ≡ true → talker_at at port xs ≡ Absent
+declares-none at port xs e = rw e refl
 
-pub declares : (at : ℕ) (config : PortConfig) (book : Book) (xs : List TalkerReg) → is_talker_port (suc at) xs ≡ false
-    → talker_at at config book xs ≡ talker_out (first_talker xs) config (fit_of_reg book (first_talker xs))
-declares at config book xs e = rw e refl
+pub declares : (at : ℕ) (port : Port) (xs : List TalkerReg) → is_talker_port (suc at) xs ≡ false
+    → talker_at at port xs ≡ talker_out (first_talker xs) port.config (edge_at port xs) (fit_of_reg port.ledger (first_talker xs))
+declares at port xs e = rw e refl
 
 -- a Talker is declared where one is registered
-pub out-present : (reg : TalkerReg) (config : PortConfig) (fit : Fit) → is_present (talker_out reg config fit) ≡ is_present reg
-out-present Absent config fit = refl
-out-present (Failed t f) config fit = refl
-out-present (Advertise t) config fit = by (refusal_of t fit)
+pub out-present : (reg : TalkerReg) (config : PortConfig) (edge : Bool) (fit : Fit) → is_present (talker_out reg config edge fit) ≡ is_present reg
+out-present Absent config edge fit = refl
+out-present (Failed t f) config edge fit = refl
+out-present (Advertise t) config edge fit = by (refusal_of t edge fit)
   where
     by : (o : Option ℕ) → is_present (declared_of config (delayed_by config.latency t) o) ≡ true
     by None = refl
     by (Some c) = refl
 
 -- what it wants stays the same
-pub out-wants : (reg : TalkerReg) (config : PortConfig) (fit : Fit)
-    → option_and_then want_of_talker (talker_in (talker_out reg config fit)) ≡ option_and_then want_of_talker (talker_in reg)
-out-wants Absent config fit = refl
-out-wants (Failed t f) config fit = refl
-out-wants (Advertise t) config fit = by (refusal_of t fit)
+pub out-wants : (reg : TalkerReg) (config : PortConfig) (edge : Bool) (fit : Fit)
+    → option_and_then want_of_talker (talker_in (talker_out reg config edge fit)) ≡ option_and_then want_of_talker (talker_in reg)
+out-wants Absent config edge fit = refl
+out-wants (Failed t f) config edge fit = refl
+out-wants (Advertise t) config edge fit = by (refusal_of t edge fit)
   where
     by : (o : Option ℕ) → option_and_then want_of_talker (talker_in (declared_of config (delayed_by config.latency t) o)) ≡ want_of_talker t
     by None = refl
     by (Some c) = refl
 
 -- a port declares a Talker only where it isn't the Talker's port, and one is registered there
-pub declared-present : (at : ℕ) (config : PortConfig) (book : Book) (xs : List TalkerReg) → is_present (talker_at at config book xs) ≡ true
+pub declared-present : (at : ℕ) (port : Port) (xs : List TalkerReg) → is_present (talker_at at port xs) ≡ true
     → (is_talker_port (suc at) xs ≡ false) × (is_present (first_talker xs) ≡ true)
-declared-present at config book xs h = by (is_talker_port (suc at) xs) refl
+declared-present at port xs h = by (is_talker_port (suc at) xs) refl
   where
     by : (b : Bool) → is_talker_port (suc at) xs ≡ b → (is_talker_port (suc at) xs ≡ false) × (is_present (first_talker xs) ≡ true)
-    by true e = let none : is_present (talker_at at config book xs) ≡ false = ap is_present (declares-none at config book xs e) in cc
+    by true e = let none : is_present (talker_at at port xs) ≡ false = ap is_present (declares-none at port xs e) in cc
     by false e =
-        (e, sym (out-present (first_talker xs) config (fit_of_reg book (first_talker xs))) ∙ (ap is_present (sym (declares at config book xs e)) ∙ h))
+        (e, sym (out-present (first_talker xs) port.config (edge_at port xs) (fit_of_reg port.ledger (first_talker xs))) ∙ (ap is_present (sym (declares at port xs e)) ∙ h))
 
-pub present-declared : (at : ℕ) (config : PortConfig) (book : Book) (xs : List TalkerReg) → is_talker_port (suc at) xs ≡ false → is_present (first_talker xs) ≡ true
-    → is_present (talker_at at config book xs) ≡ true
-present-declared at config book xs e h =
-    ap is_present (declares at config book xs e) ∙ (out-present (first_talker xs) config (fit_of_reg book (first_talker xs)) ∙ h)
+pub present-declared : (at : ℕ) (port : Port) (xs : List TalkerReg) → is_talker_port (suc at) xs ≡ false → is_present (first_talker xs) ≡ true
+    → is_present (talker_at at port xs) ≡ true
+present-declared at port xs e h =
+    ap is_present (declares at port xs e) ∙ (out-present (first_talker xs) port.config (edge_at port xs) (fit_of_reg port.ledger (first_talker xs)) ∙ h)
 
 -- ---- what is registered at the other end of a port's link
 
@@ -207,67 +207,76 @@ booked-want entries s h = by (entry_of entries s) refl
     by (Some x) e = (x.want, rw e refl)
 
 -- why a port wants a stream
-pub record Wants (at : ℕ) (s : Part) (xs : List TalkerReg) (stream : StreamId) (t : Talker) (w : Want) : Type 0 where
+pub record Wants (at : ℕ) (port : Port) (xs : List TalkerReg) (stream : StreamId) (t : Talker) (w : Want) : Type 0 where
   pub elsewhere : is_talker_port (suc at) xs ≡ false
-  pub ready : is_ready (registered_listener stream s) ≡ true
+  pub ready : is_ready (registered_listener stream port.part) ≡ true
+  pub inside : edge_at port xs ≡ false
   pub advertised : first_talker xs ≡ Advertise t
   pub checked : check_of t ≡ None
   pub want : want_of_talker t ≡ Some w
 
-wanted-reg : (reg : TalkerReg) (w : Want) → want_of_reg reg ≡ Some w → (t : Talker) × (reg ≡ Advertise t) × (check_of t ≡ None) × (want_of_talker t ≡ Some w)
-wanted-reg Absent w h = cc
-wanted-reg (Failed t f) w h = cc
-wanted-reg (Advertise t) w h = by (check_of t) refl
+wanted-reg : (edge : Bool) (reg : TalkerReg) (w : Want) → want_of_reg edge reg ≡ Some w
+    → (t : Talker) × (reg ≡ Advertise t) × (edge ≡ false) × (check_of t ≡ None) × (want_of_talker t ≡ Some w)
+wanted-reg edge Absent w h = cc
+wanted-reg edge (Failed t f) w h = cc
+wanted-reg true (Advertise t) w h = cc
+wanted-reg false (Advertise t) w h = by (check_of t) refl
   where
-    by : (o : Option ℕ) → check_of t ≡ o → (u : Talker) × (Advertise t ≡ Advertise u) × (check_of u ≡ None) × (want_of_talker u ≡ Some w)
-    by None e = let here : want_of_reg (Advertise t) ≡ want_of_talker t = rw e refl in (t, refl, e, sym here ∙ h)
-    by (Some c) e = let none : want_of_reg (Advertise t) ≡ None = rw e refl in cc
+    by : (o : Option ℕ) → check_of t ≡ o → (u : Talker) × (Advertise t ≡ Advertise u) × (false ≡ false) × (check_of u ≡ None) × (want_of_talker u ≡ Some w)
+    by None e = let here : want_of_reg false (Advertise t) ≡ want_of_talker t = rw e refl in (t, refl, refl, e, sym here ∙ h)
+    by (Some c) e = let none : want_of_reg false (Advertise t) ≡ None = rw e refl in cc
 
-pub wants : (at : ℕ) (s : Part) (xs : List TalkerReg) (stream : StreamId) (w : Want) → wanted_at at s xs stream ≡ Some w → (t : Talker) × Wants at s xs stream t w
-wants at s xs stream w h = by (is_talker_port (suc at) xs) (is_ready (registered_listener stream s)) refl refl
+reg-wanted : (edge : Bool) (reg : TalkerReg) (t : Talker) (w : Want) → reg ≡ Advertise t → edge ≡ false → check_of t ≡ None → want_of_talker t ≡ Some w
+    → want_of_reg edge reg ≡ Some w
+reg-wanted edge reg t w is inside checked want = rw is (rw inside (rw checked want))
+
+pub wants : (at : ℕ) (port : Port) (xs : List TalkerReg) (stream : StreamId) (w : Want) → wanted_at at port xs stream ≡ Some w → (t : Talker) × Wants at port xs stream t w
+wants at port xs stream w h = by (is_talker_port (suc at) xs) (is_ready (registered_listener stream port.part)) refl refl
   where
-    by : (b r : Bool) → is_talker_port (suc at) xs ≡ b → is_ready (registered_listener stream s) ≡ r → (t : Talker) × Wants at s xs stream t w
-    by true r e f = let none : wanted_at at s xs stream ≡ None = rw e refl in cc
-    by false false e f = let none : wanted_at at s xs stream ≡ None = rw e (rw f refl) in cc
+    by : (b r : Bool) → is_talker_port (suc at) xs ≡ b → is_ready (registered_listener stream port.part) ≡ r → (t : Talker) × Wants at port xs stream t w
+    by true r e f = let none : wanted_at at port xs stream ≡ None = rw e refl in cc
+    by false false e f = let none : wanted_at at port xs stream ≡ None = rw e (rw f refl) in cc
     by false true e f =
-        let here : wanted_at at s xs stream ≡ want_of_reg (first_talker xs) = rw e (rw f refl) in
-        let reg = wanted-reg (first_talker xs) w (sym here ∙ h) in
-        (reg.0, record { elsewhere = e; ready = f; advertised = reg.1; checked = reg.2; want = reg.3 })
+        let here : wanted_at at port xs stream ≡ want_of_reg (edge_at port xs) (first_talker xs) = rw e (rw f refl) in
+        let reg = wanted-reg (edge_at port xs) (first_talker xs) w (sym here ∙ h) in
+        (reg.0, record { elsewhere = e; ready = f; inside = reg.2; advertised = reg.1; checked = reg.3; want = reg.4 })
 
-pub wants-from : (at : ℕ) (s : Part) (xs : List TalkerReg) (stream : StreamId) (t : Talker) (w : Want) → Wants at s xs stream t w → wanted_at at s xs stream ≡ Some w
-wants-from at s xs stream t w h =
-    rw h.elsewhere (rw h.ready (rw h.advertised (rw h.checked h.want)))
+pub wants-from : (at : ℕ) (port : Port) (xs : List TalkerReg) (stream : StreamId) (t : Talker) (w : Want) → Wants at port xs stream t w → wanted_at at port xs stream ≡ Some w
+wants-from at port xs stream t w h =
+    let here : wanted_at at port xs stream ≡ want_of_reg (edge_at port xs) (first_talker xs) = rw h.elsewhere (rw h.ready refl) in
+    here ∙ reg-wanted (edge_at port xs) (first_talker xs) t w h.advertised h.inside h.checked h.want
 
 fit-is : (book : Book) (xs : List TalkerReg) (t : Talker) (w : Want) → first_talker xs ≡ Advertise t → want_of_talker t ≡ Some w
     → fit_of_reg book (first_talker xs) ≡ fit_for book.moment book w
 fit-is book xs t w a h = rw a (rw h refl)
 
 module _ (kept : KeptWants) (at : ℕ) (port : Port) (xs : List TalkerReg) (stream : StreamId)
-    (book : IsKept port.ledger) (wanted : want_of port.ledger.entries stream ≡ wanted_at at port.part xs stream) where
+    (book : IsKept port.ledger) (wanted : want_of port.ledger.entries stream ≡ wanted_at at port xs stream) where
   -- a stream that is booked at a port is wanted there
-  pub booked-wants : is_some (since_of port.ledger.entries stream) ≡ true → (t : Talker) × (w : Want) × Wants at port.part xs stream t w
+  pub booked-wants : is_some (since_of port.ledger.entries stream) ≡ true → (t : Talker) × (w : Want) × Wants at port xs stream t w
   booked-wants h =
       let w = booked-want port.ledger.entries stream h in
-      let r = wants at port.part xs stream w.0 (sym wanted ∙ w.1) in
+      let r = wants at port xs stream w.0 (sym wanted ∙ w.1) in
       (r.0, w.0, r.1)
 
   -- and its Talker is advertised onwards
-  pub booked-advertises : is_some (since_of port.ledger.entries stream) ≡ true → is_advertised (talker_at at port.config port.ledger xs) ≡ true
+  pub booked-advertises : is_some (since_of port.ledger.entries stream) ≡ true → is_advertised (talker_at at port xs) ≡ true
   booked-advertises h =
       let w = booked-want port.ledger.entries stream h in
-      let r = wants at port.part xs stream w.0 (sym wanted ∙ w.1) in
+      let r = wants at port xs stream w.0 (sym wanted ∙ w.1) in
       let of : w.0.stream ≡ stream = want-stream port.ledger.entries stream w.0 w.1 in
       let own : want_of port.ledger.entries w.0.stream ≡ Some w.0 = ap (λ (s : StreamId). want_of port.ledger.entries s) of ∙ w.1 in
       let some : IsSome (since_of port.ledger.entries w.0.stream) =
       ap (λ (s : StreamId). is_some (since_of port.ledger.entries s)) of ∙ h in
       let fits : fit_for port.ledger.moment port.ledger w.0 ≡ Fits = (kept port.ledger port.ledger.moment w.0 book (omega arith) own).1 some in
-      ap is_advertised (declares at port.config port.ledger xs r.1.elsewhere)
-      ∙ (ap (λ f. is_advertised (talker_out (first_talker xs) port.config f)) (fit-is port.ledger xs r.0 w.0 r.1.advertised r.1.want ∙ fits)
-      ∙ (ap (λ reg. is_advertised (talker_out reg port.config Fits)) r.1.advertised
-      ∙ ap (λ o. is_advertised (declared_of port.config (delayed_by port.config.latency r.0) (option_or o None))) r.1.checked))
+      ap is_advertised (declares at port xs r.1.elsewhere)
+      ∙ (ap (λ f. is_advertised (talker_out (first_talker xs) port.config (edge_at port xs) f)) (fit-is port.ledger xs r.0 w.0 r.1.advertised r.1.want ∙ fits)
+      ∙ (ap (λ edge. is_advertised (talker_out (first_talker xs) port.config edge Fits)) r.1.inside
+      ∙ (ap (λ reg. is_advertised (talker_out reg port.config false Fits)) r.1.advertised
+      ∙ ap (λ o. is_advertised (declared_of port.config (delayed_by port.config.latency r.0) (option_or o None))) r.1.checked)))
 
   -- where a Talker is advertised onwards and some Listener behind can have the stream, it is booked
-  pub advertised-booked : is_advertised (talker_at at port.config port.ledger xs) ≡ true → is_ready (registered_listener stream port.part) ≡ true
+  pub advertised-booked : is_advertised (talker_at at port xs) ≡ true → is_ready (registered_listener stream port.part) ≡ true
       → is_some (since_of port.ledger.entries stream) ≡ true
   advertised-booked h ready = by (is_talker_port (suc at) xs) refl
     where
@@ -278,34 +287,36 @@ module _ (kept : KeptWants) (at : ℕ) (port : Port) (xs : List TalkerReg) (stre
           of None f = let bad : check_of t ≡ Some 13 = rw f refl in cc
           of (Some class) f = (want_in_class t class, rw f refl)
 
-      fit-here : (fit : Fit) (t : Talker) → is_advertised (declared_of port.config (delayed_by port.config.latency t) (refusal_of t fit)) ≡ true
-          → (check_of t ≡ None) × (fit ≡ Fits)
-      fit-here fit t e = of (check_of t) refl fit e
+      fit-here : (edge : Bool) (fit : Fit) (t : Talker) → is_advertised (declared_of port.config (delayed_by port.config.latency t) (refusal_of t edge fit)) ≡ true
+          → (check_of t ≡ None) × (edge ≡ false) × (fit ≡ Fits)
+      fit-here edge fit t e = of (check_of t) refl edge fit e
         where
-          of : (o : Option ℕ) → check_of t ≡ o → (fit : Fit) → is_advertised (declared_of port.config (delayed_by port.config.latency t) (refusal_of t fit)) ≡ true → (check_of t ≡ None) × (fit ≡ Fits)
-          of (Some c) f fit e = let off : is_advertised (declared_of port.config (delayed_by port.config.latency t) (refusal_of t fit)) ≡ false = rw f refl in cc
-          of None f Fits e = (f, refl)
-          of None f (TooLittle more cap code) e =
-              let off : is_advertised (declared_of port.config (delayed_by port.config.latency t) (refusal_of t (TooLittle more cap code))) ≡ false = rw f refl in cc
+          of : (o : Option ℕ) → check_of t ≡ o → (edge : Bool) (fit : Fit) → is_advertised (declared_of port.config (delayed_by port.config.latency t) (refusal_of t edge fit)) ≡ true
+              → (check_of t ≡ None) × (edge ≡ false) × (fit ≡ Fits)
+          of (Some c) f edge fit e = let off : is_advertised (declared_of port.config (delayed_by port.config.latency t) (refusal_of t edge fit)) ≡ false = rw f refl in cc
+          of None f true fit e = let off : is_advertised (declared_of port.config (delayed_by port.config.latency t) (refusal_of t true fit)) ≡ false = rw f refl in cc
+          of None f false Fits e = (f, refl, refl)
+          of None f false (TooLittle more cap code) e =
+              let off : is_advertised (declared_of port.config (delayed_by port.config.latency t) (refusal_of t false (TooLittle more cap code))) ≡ false = rw f refl in cc
 
-      of-reg : (reg : TalkerReg) → first_talker xs ≡ reg → is_talker_port (suc at) xs ≡ false → is_advertised (talker_out reg port.config (fit_of_reg port.ledger (first_talker xs))) ≡ true
+      of-reg : (reg : TalkerReg) → first_talker xs ≡ reg → is_talker_port (suc at) xs ≡ false → is_advertised (talker_out reg port.config (edge_at port xs) (fit_of_reg port.ledger (first_talker xs))) ≡ true
           → is_some (since_of port.ledger.entries stream) ≡ true
       of-reg Absent r e k = cc
       of-reg (Failed t f) r e k = cc
       of-reg (Advertise t) r e k =
-          let parts = fit-here (fit_of_reg port.ledger (first_talker xs)) t k in
+          let parts = fit-here (edge_at port xs) (fit_of_reg port.ledger (first_talker xs)) t k in
           let w = class-is t parts.0 in
-          let here : Wants at port.part xs stream t w.0 = record { elsewhere = e; ready = ready; advertised = r; checked = parts.0; want = w.1 } in
-          let want : want_of port.ledger.entries stream ≡ Some w.0 = wanted ∙ wants-from at port.part xs stream t w.0 here in
+          let here : Wants at port xs stream t w.0 = record { elsewhere = e; ready = ready; inside = parts.1; advertised = r; checked = parts.0; want = w.1 } in
+          let want : want_of port.ledger.entries stream ≡ Some w.0 = wanted ∙ wants-from at port xs stream t w.0 here in
           let of : w.0.stream ≡ stream = want-stream port.ledger.entries stream w.0 want in
           let own : want_of port.ledger.entries w.0.stream ≡ Some w.0 = ap (λ (s : StreamId). want_of port.ledger.entries s) of ∙ want in
-          let fits : fit_for port.ledger.moment port.ledger w.0 ≡ Fits = sym (fit-is port.ledger xs t w.0 r w.1) ∙ parts.1 in
+          let fits : fit_for port.ledger.moment port.ledger w.0 ≡ Fits = sym (fit-is port.ledger xs t w.0 r w.1) ∙ parts.2 in
           let some = (kept port.ledger port.ledger.moment w.0 book (omega arith) own).0 fits in
           ap (λ (s : StreamId). is_some (since_of port.ledger.entries s)) (sym of) ∙ some
 
       by : (b : Bool) → is_talker_port (suc at) xs ≡ b → is_some (since_of port.ledger.entries stream) ≡ true
-      by true e = let none : is_advertised (talker_at at port.config port.ledger xs) ≡ false = ap is_advertised (declares-none at port.config port.ledger xs e) in cc
-      by false e = of-reg (first_talker xs) refl e (ap is_advertised (sym (declares at port.config port.ledger xs e)) ∙ h)
+      by true e = let none : is_advertised (talker_at at port xs) ≡ false = ap is_advertised (declares-none at port xs e) in cc
+      by false e = of-reg (first_talker xs) refl e (ap is_advertised (sym (declares at port xs e)) ∙ h)
 
 -- ---- failures
 
@@ -335,36 +346,46 @@ check-codes t c h code = by (is_none (class_of_priority t.priority)) (nat_lt 150
     by false true e f = let is : check_of t ≡ Some 14 = rw e (rw f refl) in let same : 14 ≡ c = cc in none 14 same (inr refl)
     by false false e f = let is : check_of t ≡ None = rw e (rw f refl) in cc
 
--- a failure of bandwidth that a port declares was registered at the Talker's port, or is the port's own refusal
-pub failed-at : (at : ℕ) (config : PortConfig) (book : Book) (xs : List TalkerReg) (t : Talker) (f : Failure) → talker_at at config book xs ≡ Failed t f → IsOfBandwidth f.code
-    → ((u : Talker) × (first_talker xs ≡ Failed u f)) ⊎ Refuses config book (first_talker xs) f
-failed-at at config book xs t f h code = by (is_talker_port (suc at) xs) refl
-  where
-    own : (u : Talker) → first_talker xs ≡ Advertise u → (fit : Fit) → fit_of_reg book (first_talker xs) ≡ fit
-        → declared_of config (delayed_by config.latency u) (refusal_of u fit) ≡ Failed t f → Refuses config book (first_talker xs) f
-    own u a fit k d = of (check_of u) refl fit k d
-      where
-        want-is : (more cap c : ℕ) (o : Option Want) → want_of_talker u ≡ o → fit_of_reg book (first_talker xs) ≡ TooLittle more cap c
-            → (w : Want) × (want_of_talker u ≡ Some w) × (fit_for book.moment book w ≡ TooLittle more cap c)
-        want-is more cap c None e k = let off : fit_of_reg book (first_talker xs) ≡ Fits = rw a (rw e refl) in cc
-        want-is more cap c (Some w) e k = (w, e, sym (fit-is book xs u w a e) ∙ k)
+-- the code of a port at the boundary of a domain is none of bandwidth
+not-eight : (n : ℕ) → 8 ≡ n → IsOfBandwidth n → ⊥
+not-eight n e (inl h) = omega (arith, e, h)
+not-eight n e (inr h) = omega (arith, e, h)
 
-        of : (o : Option ℕ) → check_of u ≡ o → (fit : Fit) → fit_of_reg book (first_talker xs) ≡ fit
-            → declared_of config (delayed_by config.latency u) (refusal_of u fit) ≡ Failed t f → Refuses config book (first_talker xs) f
-        of (Some c) e fit k d =
-            let is : declared_of config (delayed_by config.latency u) (refusal_of u fit) ≡ Failed (delayed_by config.latency u) (record { bridge = config.bridge; code = c }) = rw e refl in
+-- the code of what is declared as failed
+failure_code : TalkerReg → ℕ
+failure_code Absent = 0
+failure_code (Advertise v) = 0
+failure_code (Failed v g) = g.code
+
+-- a failure of bandwidth that a port declares was registered at the Talker's port, or is the port's own refusal
+pub failed-at : (at : ℕ) (port : Port) (xs : List TalkerReg) (t : Talker) (f : Failure) → talker_at at port xs ≡ Failed t f → IsOfBandwidth f.code
+    → ((u : Talker) × (first_talker xs ≡ Failed u f)) ⊎ Refuses port.config port.ledger (first_talker xs) f
+unfolding failure_code
+failed-at at port xs t f h code = by (is_talker_port (suc at) xs) refl
+  where
+    own : (u : Talker) → first_talker xs ≡ Advertise u → (edge : Bool) (fit : Fit) → fit_of_reg port.ledger (first_talker xs) ≡ fit
+        → declared_of port.config (delayed_by port.config.latency u) (refusal_of u edge fit) ≡ Failed t f → Refuses port.config port.ledger (first_talker xs) f
+    own u a edge fit k d = of (check_of u) refl edge fit k d
+      where
+        want-is : (more cap c : ℕ) (o : Option Want) → want_of_talker u ≡ o → fit_of_reg port.ledger (first_talker xs) ≡ TooLittle more cap c
+            → (w : Want) × (want_of_talker u ≡ Some w) × (fit_for port.ledger.moment port.ledger w ≡ TooLittle more cap c)
+        want-is more cap c None e k = let off : fit_of_reg port.ledger (first_talker xs) ≡ Fits = rw a (rw e refl) in cc
+        want-is more cap c (Some w) e k = (w, e, sym (fit-is port.ledger xs u w a e) ∙ k)
+
+        of : (o : Option ℕ) → check_of u ≡ o → (edge : Bool) (fit : Fit) → fit_of_reg port.ledger (first_talker xs) ≡ fit
+            → declared_of port.config (delayed_by port.config.latency u) (refusal_of u edge fit) ≡ Failed t f → Refuses port.config port.ledger (first_talker xs) f
+        of (Some c) e edge fit k d =
+            let is : declared_of port.config (delayed_by port.config.latency u) (refusal_of u edge fit) ≡ Failed (delayed_by port.config.latency u) (record { bridge = port.config.bridge; code = c }) = rw e refl in
             let same : c ≡ f.code = ap failure_code (sym is ∙ d) in
             absurd (check-codes u f.code (e ∙ ap Some same) code)
-          where
-            failure_code : TalkerReg → ℕ
-            failure_code Absent = 0
-            failure_code (Advertise v) = 0
-            failure_code (Failed v g) = g.code
-        of None e Fits k d = let is : declared_of config (delayed_by config.latency u) (refusal_of u Fits) ≡ Advertise (delayed_by config.latency u) = rw e refl in cc
-        of None e (TooLittle more cap c) k d =
-            let is : declared_of config (delayed_by config.latency u) (refusal_of u (TooLittle more cap c)) ≡ Failed (delayed_by config.latency u) (record { bridge = config.bridge; code = c }) = rw e refl in
-            let same : Failed (delayed_by config.latency u) (record { bridge = config.bridge; code = c }) ≡ Failed t f = sym is ∙ d in
-            let failure : (record { bridge = config.bridge; code = c }) ≡ f = cc in
+        of None e true fit k d =
+            let is : declared_of port.config (delayed_by port.config.latency u) (refusal_of u true fit) ≡ Failed (delayed_by port.config.latency u) (record { bridge = port.config.bridge; code = 8 }) = rw e refl in
+            absurd (not-eight f.code (ap failure_code (sym is ∙ d)) code)
+        of None e false Fits k d = let is : declared_of port.config (delayed_by port.config.latency u) (refusal_of u false Fits) ≡ Advertise (delayed_by port.config.latency u) = rw e refl in cc
+        of None e false (TooLittle more cap c) k d =
+            let is : declared_of port.config (delayed_by port.config.latency u) (refusal_of u false (TooLittle more cap c)) ≡ Failed (delayed_by port.config.latency u) (record { bridge = port.config.bridge; code = c }) = rw e refl in
+            let same : Failed (delayed_by port.config.latency u) (record { bridge = port.config.bridge; code = c }) ≡ Failed t f = sym is ∙ d in
+            let failure : (record { bridge = port.config.bridge; code = c }) ≡ f = cc in
             let code-is : c ≡ f.code = ap (λ (g : Failure). g.code) failure in
             let r = want-is more cap c (want_of_talker u) refl k in
             record {
@@ -378,15 +399,15 @@ failed-at at config book xs t f h code = by (is_talker_port (suc at) xs) refl
               bridge = ap (λ (g : Failure). g.bridge) (sym failure);
             }
 
-    of-reg : (reg : TalkerReg) → first_talker xs ≡ reg → talker_out reg config (fit_of_reg book (first_talker xs)) ≡ Failed t f
-        → ((u : Talker) × (first_talker xs ≡ Failed u f)) ⊎ Refuses config book (first_talker xs) f
+    of-reg : (reg : TalkerReg) → first_talker xs ≡ reg → talker_out reg port.config (edge_at port xs) (fit_of_reg port.ledger (first_talker xs)) ≡ Failed t f
+        → ((u : Talker) × (first_talker xs ≡ Failed u f)) ⊎ Refuses port.config port.ledger (first_talker xs) f
     of-reg Absent r k = cc
     of-reg (Failed u g) r k = let same : g ≡ f = cc in inl (u, r ∙ ap (λ x. Failed u x) same)
-    of-reg (Advertise u) r k = inr (own u r (fit_of_reg book (first_talker xs)) refl k)
+    of-reg (Advertise u) r k = inr (own u r (edge_at port xs) (fit_of_reg port.ledger (first_talker xs)) refl k)
 
-    by : (b : Bool) → is_talker_port (suc at) xs ≡ b → ((u : Talker) × (first_talker xs ≡ Failed u f)) ⊎ Refuses config book (first_talker xs) f
-    by true e = let none : talker_at at config book xs ≡ Absent = declares-none at config book xs e in cc
-    by false e = of-reg (first_talker xs) refl (sym (declares at config book xs e) ∙ h)
+    by : (b : Bool) → is_talker_port (suc at) xs ≡ b → ((u : Talker) × (first_talker xs ≡ Failed u f)) ⊎ Refuses port.config port.ledger (first_talker xs) f
+    by true e = let none : talker_at at port xs ≡ Absent = declares-none at port xs e in cc
+    by false e = of-reg (first_talker xs) refl (sym (declares at port xs e) ∙ h)
 
 -- ---- Listeners
 

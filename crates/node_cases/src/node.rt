@@ -9,6 +9,7 @@ ghost use Rattle.std.specs.Prelude.{◌≡◌, ◌≤◌, ◌+◌, true, IfSome}
 ghost use Rattle.attribute_propagation.specs.Ports.{IsLinkPort};
 ghost use Rattle.node_core.specs.State.{ports_of};
 
+use msrp::DomainSet;
 use msrp_codec::{MsrpContent, MsrpKey};
 use node_core::PortStep::{Due, LeaveAllNow, LeaveNow, PeriodicNow, Send, Settle, Work};
 use node_core::StepReply::{Discarded, Fired, Nothing, Received, Sent, Settled, Silent, Taken};
@@ -52,14 +53,32 @@ fn setup(period: u64) -> Option<PortSetup>
 fn new_station(alloc: Global) -> Option<Node> {
     let ports = [setup(1_008)?];
     let (kind, id) = (NodeKind::Station, BridgeId(17));
-    Node::new(alloc, kind, id, Cs(60), false, ports.as_slice()).ok()
+    Node::new(
+        alloc,
+        kind,
+        id,
+        Cs(60),
+        false,
+        ports.as_slice(),
+        DomainSet::Off,
+    )
+    .ok()
 }
 
 // A bridge of two link ports, whose LeaveAll timers are due at 3 and at 1,015.
 fn new_bridge(alloc: Global) -> Option<Node> {
     let ports = [setup(3)?, setup(1_015)?];
     let (kind, id) = (NodeKind::Bridge, BridgeId(18));
-    Node::new(alloc, kind, id, Cs(60), false, ports.as_slice()).ok()
+    Node::new(
+        alloc,
+        kind,
+        id,
+        Cs(60),
+        false,
+        ports.as_slice(),
+        DomainSet::Off,
+    )
+    .ok()
 }
 
 fn has(node: &Node, port: PortNo) -> bool

@@ -22,6 +22,8 @@ use Rattle.msrp_codec.specs.declared.pdu.MsrpKey.{MsrpKey}
 use Rattle.msrp_codec.specs.declared.pdu.MsrpContent.{MsrpContent}
 use Rattle.msrp.specs.declared.port.Port.{Port}
 use Rattle.msrp.specs.Part.{Part as StreamPart, key_cmp}
+use Rattle.msrp.specs.declared.domain.DomainSet.{DomainSet}
+use Rattle.msrp.specs.declared.domain.DomainSet.TheVariants.{Off}
 use Rattle.msrp.specs.Side.{new_port}
 use Rattle.mvrp.specs.Part.{Part}
 use Rattle.attribute_propagation.specs.Ports.{place_of}
@@ -70,7 +72,7 @@ pub record IsNewNode (plan : Plan) (entries : List NodeEntry) (first x : ℕ) (s
   pub kind_at : slice_get (map (λ (n : NodeEntry). n.kind) entries) x ≡ Some entry.kind
   pub number : ℕ
   pub number_is : number ≡ first + x
-  pub is : s ≡ new_node entry.kind entry.id plan.leave_time plan.periodic (setups_from 1 number plan.links)
+  pub is : s ≡ new_node entry.kind entry.id plan.leave_time plan.periodic Off (setups_from 1 number plan.links)
 
 pub new_at : (plan : Plan) (entries : List NodeEntry) (first x : ℕ) (s : NodeState) → slice_get (nodes_from plan first entries) x ≡ Some s → IsNewNode plan entries first x s
 new_at plan [] first x s get = cc
@@ -94,7 +96,7 @@ no_wires (p ∷ ports) (suc at) = no_wires ports at
 abbrev pub IsNewThere : {K C : Type 0} → AppView K C → Type 0
 IsNewThere {K = K} {C = C} v =
     (kind : NodeKind) (bridge : BridgeId) (leave_time : Cs) (periodic : Bool) (ports : List PortSetup) (at : ℕ) (x : State K C)
-    → v.part at (new_node kind bridge leave_time periodic ports) ≡ Some x → (period : Cs) × (x ≡ new_state period leave_time periodic)
+    → v.part at (new_node kind bridge leave_time periodic Off ports) ≡ Some x → (period : Cs) × (x ≡ new_state period leave_time periodic)
 
 new_part : (leave_time : Cs) (periodic : Bool) (ports : List PortSetup) (at : ℕ) (x : Part) → slice_get (map (λ p. new_state p.period leave_time periodic) ports) at ≡ Some x
     → (period : Cs) × (x ≡ new_state period leave_time periodic)
@@ -103,7 +105,7 @@ new_part leave_time periodic (p ∷ ports) zero x get = (p.period, cc)
 new_part leave_time periodic (p ∷ ports) (suc at) x get = new_part leave_time periodic ports at x get
 
 new_stream_part : (bridge : BridgeId) (leave_time : Cs) (periodic : Bool) (ports : List PortSetup) (at : ℕ) (x : StreamPart)
-    → option_map (λ (p : Port). p.part) (slice_get (map (new_port bridge leave_time periodic) ports) at) ≡ Some x → (period : Cs) × (x ≡ new_state period leave_time periodic)
+    → option_map (λ (p : Port). p.part) (slice_get (map (new_port bridge leave_time periodic Off) ports) at) ≡ Some x → (period : Cs) × (x ≡ new_state period leave_time periodic)
 new_stream_part bridge leave_time periodic [] at x get = cc
 new_stream_part bridge leave_time periodic (p ∷ ports) zero x get = (p.period, cc)
 new_stream_part bridge leave_time periodic (p ∷ ports) (suc at) x get = new_stream_part bridge leave_time periodic ports at x get
@@ -116,7 +118,7 @@ new_streams_there kind bridge leave_time periodic ports at x get = new_stream_pa
 
 module _ (plan : Plan) (rules : KeepsRules plan)
     (laws : (tree : Topology) → IsSound tree → HasPortLaws tree)
-    (proper : (kind : NodeKind) (bridge : BridgeId) (leave_time : Cs) (periodic : Bool) (ports : List PortSetup) → length ports ≤ 255 → bridge.0 < 2 ^ 64 → IsProperNode (new_node kind bridge leave_time periodic ports)) where
+    (proper : (kind : NodeKind) (bridge : BridgeId) (leave_time : Cs) (periodic : Bool) (domain : DomainSet) (ports : List PortSetup) → length ports ≤ 255 → bridge.0 < 2 ^ 64 → IsProperNode (new_node kind bridge leave_time periodic domain ports)) where
   sound : IsSound plan.tree
   sound = subst IsSound (sym rules.tree) rules.accepted
 
@@ -132,7 +134,7 @@ module _ (plan : Plan) (rules : KeepsRules plan)
       (record {
         kind = ap (λ (t : Topology). slice_get t.kinds x) rules.tree ∙ new.kind_at;
         ports = mapped_length _ setups ∙ count;
-        kept = proper new.entry.kind new.entry.id plan.leave_time plan.periodic setups (omega (arith, count, few, same))
+        kept = proper new.entry.kind new.entry.id plan.leave_time plan.periodic Off setups (omega (arith, count, few, same))
             (at_each (λ (n : NodeEntry). n.id.0 < 2 ^ 64) plan.nodes (all_each _ plan.nodes rules.node_ids) x new.entry new.at);
       })
 

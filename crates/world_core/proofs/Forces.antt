@@ -22,6 +22,7 @@ use Rattle.mvrp.specs.Part.{Part}
 use Rattle.attribute_propagation.specs.Ports.{place_of}
 use Rattle.mrp_participant.specs.State.{new_state}
 use Rattle.msrp.specs.declared.port.Port.{Port as SrpPort}
+use Rattle.msrp.specs.declared.domain.DomainSet.TheVariants.{Off}
 use Rattle.msrp.specs.Side.{new_port, clocked_port}
 use Rattle.node_core.specs.State.{NodeState, new_node}
 use Rattle.node_core.specs.Step.{clocked_node, node_step}
@@ -77,12 +78,12 @@ clock_keeps at s =
     refl
 
 -- nothing is in force at a new node
-new_has_none : (kind : NodeKind) (bridge : BridgeId) (leave_time : Cs) (periodic : Bool) (ports : List PortSetup) (at : ℕ) → node_force at (new_node kind bridge leave_time periodic ports) ≡ no_force
+new_has_none : (kind : NodeKind) (bridge : BridgeId) (leave_time : Cs) (periodic : Bool) (ports : List PortSetup) (at : ℕ) → node_force at (new_node kind bridge leave_time periodic Off ports) ≡ no_force
 new_has_none kind bridge leave_time periodic ports at =
-    same_force (node_force at (new_node kind bridge leave_time periodic ports)) no_force
-    (ap (map (λ (x : Entry). x.want.stream)) (read_made (λ (p : SrpPort). booked_of p.ledger.entries) [] (new_port bridge leave_time periodic) (λ s. refl) ports at))
-    (read_made (λ (p : SrpPort). booked_slope p.ledger.entries A) 0 (new_port bridge leave_time periodic) (λ s. refl) ports at)
-    (read_made (λ (p : SrpPort). booked_slope p.ledger.entries B) 0 (new_port bridge leave_time periodic) (λ s. refl) ports at)
+    same_force (node_force at (new_node kind bridge leave_time periodic Off ports)) no_force
+    (ap (map (λ (x : Entry). x.want.stream)) (read_made (λ (p : SrpPort). booked_of p.ledger.entries) [] (new_port bridge leave_time periodic Off) (λ s. refl) ports at))
+    (read_made (λ (p : SrpPort). booked_slope p.ledger.entries A) 0 (new_port bridge leave_time periodic Off) (λ s. refl) ports at)
+    (read_made (λ (p : SrpPort). booked_slope p.ledger.entries B) 0 (new_port bridge leave_time periodic Off) (λ s. refl) ports at)
     (read_made (λ (p : Part). registered_vids p.rows) [] (λ (q : PortSetup). new_state q.period leave_time periodic) (λ s. refl) ports at)
 
 -- what a port has in force by its participant and its ledger

@@ -10,13 +10,14 @@ use Rattle.srp_base.specs.declared.ports.PortSetup.{PortSetup}
 use Rattle.srp_base.specs.declared.mrp.App.{App}
 use Rattle.srp_base.specs.declared.mrp.App.TheVariants.{Mvrp, Msrp}
 use Rattle.stream_importance.specs.declared.slope.Caps.{Caps}
-use Rattle.msrp_talker.specs.declared.port_config.PortConfig.{PortConfig}
 use Rattle.port_ledger.specs.Book.{Book, IsKept as IsKeptBook, booked_slope}
 use Rattle.tree_topology.specs.Topology.{HasPort}
 use Rattle.topology_file.specs.declared.entries.LinkEntry.{LinkEntry}
 use Rattle.topology_file.specs.Plan.{Plan}
 use Rattle.attribute_propagation.specs.Ports.{place_of}
+use Rattle.msrp.specs.declared.domain.DomainSet.TheVariants.{Off}
 use Rattle.msrp.specs.declared.port.Port.{Port}
+use Rattle.msrp.specs.Proper.{Setup, setup_of as port_setup}
 use Rattle.msrp.specs.Side.{IsPort, new_port}
 use Rattle.node_core.specs.declared.types.NodeEvent.{NodeEvent}
 use Rattle.node_core.specs.declared.types.NodeEvent.TheVariants as node_events
@@ -40,7 +41,7 @@ use Rattle.world_core.proofs.Views.{unsound}
 
 -- what the ports of a node may give away, by how they are set up
 abbrev caps_in : NodeState → List Caps
-caps_in s = map (λ (c : PortConfig × Caps). c.1) (port_setups s)
+caps_in s = map (λ (c : Setup). c.caps) (port_setups s)
 
 -- the ports of the node at a place are those of its links
 abbrev pub IsSetUp : Plan → ℕ → NodeState → Type 0
@@ -62,39 +63,39 @@ map_set_at {X = X} {Y = Y} h (suc at) g (x ∷ xs) same = by (slice_get xs at) (
 spoilt_setups : (app : App) (at : ℕ) (s : NodeState) → port_setups (spoilt_at app at s) ≡ port_setups s
 spoilt_setups Mvrp at s = refl
 spoilt_setups Msrp at s =
-    ap (map (λ (p : Port). (p.config, p.ledger.caps))) (spoilt_is at s.streams)
-    ∙ map_set_at (λ (p : Port). let c : PortConfig × Caps = (p.config, p.ledger.caps) in c) at (calling unsound) s.streams.ports (λ p. refl)
+    ap (map port_setup) (spoilt_is at s.streams)
+    ∙ map_set_at port_setup at (calling unsound) s.streams.ports (λ p. refl)
 
 pub set_up_sides : (plan : Plan) → IsOfSides (IsSetUp plan)
 set_up_sides plan =
-    record { boxes = λ x s ins outs h. h; marks = λ app at x s h. ap (map (λ (c : PortConfig × Caps). c.1)) (spoilt_setups app at s) ∙ h }
+    record { boxes = λ x s ins outs h. h; marks = λ app at x s h. ap (map (λ (c : Setup). c.caps)) (spoilt_setups app at s) ∙ h }
 
 -- the steps of a node leave its ports set up
 pub set_up_own : ((event : NodeEvent) (s : NodeState) → port_setups (node_step event s).0 ≡ port_setups s) → (plan : Plan) (e : WorldEvent) (w : WorldState) → KeepsOwn (IsSetUp plan) e w
-set_up_own same plan (Request n request) w = λ s is h. ap (map (λ (c : PortConfig × Caps). c.1)) (same (node_events.Request request) s) ∙ h
-set_up_own same plan (PortEvent n port step) w = λ s is h. ap (map (λ (c : PortConfig × Caps). c.1)) (same (node_events.Port port step) s) ∙ h
+set_up_own same plan (Request n request) w = λ s is h. ap (map (λ (c : Setup). c.caps)) (same (node_events.Request request) s) ∙ h
+set_up_own same plan (PortEvent n port step) w = λ s is h. ap (map (λ (c : Setup). c.caps)) (same (node_events.Port port step) s) ∙ h
 set_up_own same plan (Lose p index) w = tt
 set_up_own same plan (Repeat p index) w = tt
 set_up_own same plan (Forge p index wire) w = tt
 set_up_own same plan (Carry p) w = tt
-set_up_own same plan Clock w = λ x s is h. ap (map (λ (c : PortConfig × Caps). c.1)) (same node_events.Clock s) ∙ h
+set_up_own same plan Clock w = λ x s is h. ap (map (λ (c : Setup). c.caps)) (same node_events.Clock s) ∙ h
 
 -- ---- at the start
 
 one_end : (n x : ℕ) (l : LinkEntry) (rest : List PortSetup) (links : List LinkEntry) (bridge : BridgeId) (leave_time : Cs) (periodic : Bool)
-    → map (λ (c : PortConfig × Caps). c.1) (map (λ (p : Port). (p.config, p.ledger.caps)) (map (new_port bridge leave_time periodic) rest)) ≡ map caps_of_link (filter (is_link_of x) links)
-    → map (λ (c : PortConfig × Caps). c.1) (map (λ (p : Port). (p.config, p.ledger.caps)) (map (new_port bridge leave_time periodic) (end_setup n x l ++ rest))) ≡ map caps_of_link (filter (is_link_of x) (l ∷ links))
+    → map (λ (c : Setup). c.caps) (map port_setup (map (new_port bridge leave_time periodic Off) rest)) ≡ map caps_of_link (filter (is_link_of x) links)
+    → map (λ (c : Setup). c.caps) (map port_setup (map (new_port bridge leave_time periodic Off) (end_setup n x l ++ rest))) ≡ map caps_of_link (filter (is_link_of x) (l ∷ links))
 one_end n x l rest links bridge leave_time periodic e = by (l.a.0 == x) (l.b.0 == x)
   where
     by : (a b : Bool)
-        → map (λ (c : PortConfig × Caps). c.1) (map (λ (p : Port). (p.config, p.ledger.caps)) (map (new_port bridge leave_time periodic) ((if a then setup_of (2 * n - 1) l ∷ [] else if b then setup_of (2 * n) l ∷ [] else []) ++ rest)))
+        → map (λ (c : Setup). c.caps) (map port_setup (map (new_port bridge leave_time periodic Off) ((if a then setup_of (2 * n - 1) l ∷ [] else if b then setup_of (2 * n) l ∷ [] else []) ++ rest)))
         ≡ map caps_of_link (if a || b then l ∷ filter (is_link_of x) links else filter (is_link_of x) links)
     by true b = ap (λ cs. caps_of_link l ∷ cs) e
     by false true = ap (λ cs. caps_of_link l ∷ cs) e
     by false false = e
 
 caps_of_setups : (n x : ℕ) (links : List LinkEntry) (bridge : BridgeId) (leave_time : Cs) (periodic : Bool)
-    → map (λ (c : PortConfig × Caps). c.1) (map (λ (p : Port). (p.config, p.ledger.caps)) (map (new_port bridge leave_time periodic) (setups_from n x links))) ≡ map caps_of_link (filter (is_link_of x) links)
+    → map (λ (c : Setup). c.caps) (map port_setup (map (new_port bridge leave_time periodic Off) (setups_from n x links))) ≡ map caps_of_link (filter (is_link_of x) links)
 caps_of_setups n x [] bridge leave_time periodic = refl
 caps_of_setups n x (l ∷ links) bridge leave_time periodic =
     one_end n x l (setups_from (n + 1) x links) links bridge leave_time periodic (caps_of_setups (n + 1) x links bridge leave_time periodic)
@@ -115,7 +116,7 @@ got_map f (x ∷ xs) (suc i) = got_map f xs i
 
 -- the caps of a port by how it is set up
 port_caps : (ports : List Port) (i : ℕ) (p : Port) → slice_get ports i ≡ Some p
-    → slice_get (map (λ (c : PortConfig × Caps). c.1) (map (λ (q : Port). (q.config, q.ledger.caps)) ports)) i ≡ Some p.ledger.caps
+    → slice_get (map (λ (c : Setup). c.caps) (map port_setup ports)) i ≡ Some p.ledger.caps
 port_caps [] i p is = cc
 port_caps (q ∷ ports) zero p is = let same : q ≡ p = cc in ap (λ (x : Port). Some x.ledger.caps) same
 port_caps (q ∷ ports) (suc i) p is = port_caps ports i p is

@@ -227,7 +227,7 @@ module _ (laws : StreamLaws) where
   settles_port : (at : ℕ) (v : Streams) (p : Port) → KeepsNear stream_view links p.part (settled_at at v p).part
   settles_port at v p =
       let book = next_book at (seen_by v) (awaiting_at at v) p in
-      settles_all (stated_at at p.config book (seen_by v)) (settling_keys (moved_streams p.ledger book) (talker_keys v.talks v.ports) (awaiting_at at v)) p.part
+      settles_all (stated_at at (record p { ledger = book }) (seen_by v)) (settling_keys (moved_streams p.ledger book) (talker_keys v.talks v.ports) (awaiting_at at v)) p.part
 
   -- the port at the place is another, by calls of its participant
   made_kept : (at : ℕ) (s t : NodeState) (g : Port → Port) → ((p : Port) → KeepsNear stream_view links p.part (g p).part) → MadeAt at g s.streams t.streams

@@ -5,6 +5,7 @@ use Rattle.srp_base.specs.declared.ports.PortSetup.{PortSetup}
 use Rattle.topology_file.specs.declared.entries.LinkEntry.{LinkEntry}
 use Rattle.topology_file.specs.declared.entries.NodeEntry.{NodeEntry}
 use Rattle.topology_file.specs.Plan.{Plan}
+use Rattle.msrp.specs.declared.domain.DomainSet.TheVariants.{Off}
 use Rattle.node_core.specs.State.{NodeState, new_node}
 use Rattle.world_core.specs.Marks.{new_marks}
 use Rattle.world_core.specs.World.{WorldState}
@@ -30,11 +31,11 @@ abbrev pub setups_from : ℕ → ℕ → List LinkEntry → List PortSetup
 setups_from n x [] = []
 setups_from n x (l ∷ links) = end_setup n x l ++ setups_from (n + 1) x links
 
--- the nodes of these entries, the first of which has number x
+-- the nodes of these entries, the first of which has number x; no node declares a Domain
 abbrev pub nodes_from : Plan → ℕ → List NodeEntry → List NodeState
 nodes_from plan x [] = []
 nodes_from plan x (n ∷ entries) =
-    new_node n.kind n.id plan.leave_time plan.periodic (setups_from 1 x plan.links) ∷ nodes_from plan (x + 1) entries
+    new_node n.kind n.id plan.leave_time plan.periodic Off (setups_from 1 x plan.links) ∷ nodes_from plan (x + 1) entries
 
 -- the network of a scenario at its start
 abbrev pub world_of : Plan → WorldState

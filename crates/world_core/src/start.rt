@@ -5,6 +5,7 @@ ghost use Rattle.tree_topology.specs.Graph.{IsNode};
 ghost use Rattle.node_core.specs.State.{new_node};
 ghost use Rattle.world_core.specs.Start.{setup_of, end_setup, setups_from, nodes_from};
 
+use msrp::DomainSet;
 use node_core::Node;
 use srp_base::{Cs, NoMemory, PortSetup};
 use std::alloc::Global;
@@ -43,7 +44,7 @@ fn new_node_of(
 ) -> Result<Node, NoMemory>
     requires { IsNode (length scenario.now.nodes) number }
     ensures { IfOk result (λ node. node ≡ new_node entry.now.kind entry.now.id
-        scenario.now.leave_time scenario.now.periodic (setups_from 1 number scenario.now.links)) }
+        scenario.now.leave_time scenario.now.periodic DomainSet.Off (setups_from 1 number scenario.now.links)) }
 {
     scenario.keeps_rules();
     let setups = new_setups(alloc, scenario, number)?;
@@ -54,6 +55,7 @@ fn new_node_of(
         scenario.leave_time,
         scenario.periodic,
         setups.as_slice(),
+        DomainSet::Off,
     )
 }
 
