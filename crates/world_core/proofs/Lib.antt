@@ -20,6 +20,7 @@ mod NewMarks
 mod Beginnings
 mod Starting
 mod Runs
+mod OwnSteps
 mod EventLists
 mod Happenings
 mod Carrying

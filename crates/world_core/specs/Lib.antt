@@ -5,6 +5,7 @@ pub mod Marking
 pub mod Duty
 pub mod Kept
 pub mod Ticks
+pub mod Apart
 pub mod Moments
 pub mod During
 pub mod Carrying

@@ -4,6 +4,7 @@
 ghost use Rattle.std.specs.Prelude.{◌≡◌, ◌≢◌, ◌<◌, ◌-◌, ◌^◌, ◌++◌, ◌∷◌, [], ℕ, suc, List, map, Some, IfSome, false};
 ghost use Rattle.srp_base.specs.declared.numbers.NodeNo.{NodeNo};
 ghost use Rattle.srp_base.specs.declared.numbers.PortNo.{PortNo};
+ghost use Rattle.node_core.specs.declared.types.NodeStep.{NodeStep};
 ghost use Rattle.node_core.specs.declared.types.PortStep.{PortStep};
 ghost use Rattle.node_core.specs.State.{NodeState};
 ghost use Rattle.node_core.specs.Step.{node_step};
@@ -17,11 +18,13 @@ ghost use Rattle.node_core.specs.declared.types.NodeEvent.TheVariants.{Port as p
 ghost use Rattle.world_core.specs.declared.events.WorldEvent.{WorldEvent};
 ghost use Rattle.world_core.specs.declared.events.WorldEvent.TheVariants.{Port as port_event};
 ghost use Rattle.world_core.specs.declared.events.WorldReply.TheVariants.{Step as step_reply};
+ghost use Rattle.world_core.specs.declared.journal.NodeSteps.{NodeSteps};
 ghost use Rattle.world_core.specs.declared.journal.Tick.{Tick};
-ghost use Rattle.world_core.specs.World.{WorldState, CanHappen, CanAllHappen, IsEventInRange, node_at, world_step, world_after};
+ghost use Rattle.world_core.specs.World.{WorldState, CanHappen, CanAllHappen, IsEventInRange, node_at, world_step, world_after, replies_to};
 ghost use Rattle.world_core.specs.Start.{world_of};
 ghost use Rattle.world_core.specs.Kept.{IsKeptWorld};
-ghost use Rattle.world_core.specs.Ticks.{event_of, script_at, link_ports, after_steps, LeadTo, AreLegalTicks, AreCanonicalTicks, IsLegalTick, IsCanonicalTick, tick_events};
+ghost use Rattle.world_core.specs.Apart.{events_of, replies_of, HaveOwnReplies, after_own, after_nodes, AreMadeApart};
+ghost use Rattle.world_core.specs.Ticks.{event_of, script_at, link_ports, step_events, step_replies, after_steps, LeadTo, AreLegalTicks, AreCanonicalTicks, IsLegalTick, IsCanonicalTick, tick_events};
 ghost use Rattle.world_core.specs.During.{IsDuring, IsAllowed, NamesNeighbours};
 ghost use Rattle.world_core.specs.Carrying.{NothingWaits, has_send};
 ghost use Rattle.world_core.specs.Moments.{IsMoment, events_from};
@@ -209,6 +212,27 @@ pub fn a_step_is_of_its_node_alone()
         → n.0 - 1 ≢ m.0 - 1
         → node_at m (world_step (port_event n port step) w).0 ≡ node_at m w }
 {}
+
+/// Nodes may make the steps of their ports apart from the network, each from the state that it had there and by itself: with its
+/// own answers, such a node is what the same steps as events make of the network, and the marks have followed what its ports took
+/// and sent (`marks_of_steps`). So it is with steps of all nodes, nodes ascending: nodes and marks after them are the network
+/// after these events, with the answers that these have, and keep what every network keeps.
+pub fn steps_made_apart_keep_it()
+    ensures one { (n : NodeNo) (made : List NodeStep) (w : WorldState) (s : NodeState)
+        → node_at n w ≡ Some s → HaveOwnReplies made s
+        → world_after (events_of n made) w ≡ after_own n made s w }
+    ensures own { (n : NodeNo) (made : List NodeStep) (w : WorldState) (s : NodeState)
+        → node_at n w ≡ Some s → HaveOwnReplies made s
+        → replies_of made ≡ replies_to (events_of n made) w }
+    ensures all { (made : List NodeSteps) (w : WorldState) → AreMadeApart w made
+        → world_after (step_events made) w ≡ after_nodes made w }
+    ensures replies { (made : List NodeSteps) (w : WorldState) → AreMadeApart w made
+        → step_replies made ≡ replies_to (step_events made) w }
+    ensures keeps { (made : List NodeSteps) (w : WorldState) → AreMadeApart w made
+        → IsKeptWorld w → IsKeptWorld (after_nodes made w) }
+{
+    every_event_keeps_it();
+}
 
 /// Nothing waits to be carried when a network begins, nor at the end of a tick at whose beginning nothing did. Where no step of such
 /// a tick was Send, the carrying at its end changes nothing, since a Send alone puts a PDU in an outbox.

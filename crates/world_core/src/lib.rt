@@ -17,12 +17,17 @@
 //! the timeline of a run (`specs/Timeline.antt`): `World::note_tick` enters a tick by going over all ports, and a `History`
 //! (`specs/History.antt`) by going over those of the nodes that made a step other than Send.
 //!
+//! A step of a port is of its node alone. So a network can be taken apart (`World::part`), its nodes make the steps of their
+//! ports each by itself, the marks follow in the order of the nodes, and `World::join` puts all together: what comes of it is
+//! the network after all these steps as its own events (`specs/Apart.antt`, law `steps_made_apart_keep_it`).
+//!
 //! A further kind of event is a variant of `WorldEvent`, a line in `world_step`, `CanHappen`, `IsEventInRange` and `IsAllowed`,
 //! an arm in `World::step`, and a lemma that it keeps the duties of any application (`proofs/EventSteps.antt`); all places
 //! stand in docs/ARCHITECTURE.md. A further application is a use of
 //! `AreDutiesMetIn` in `IsKeptWorld`, and a file like `proofs/StreamSteps.antt` of what a node's steps make of its participants.
 #![tactic(auto)]
 
+mod apart;
 mod events;
 mod force;
 mod happen;
@@ -38,6 +43,7 @@ mod timeline;
 pub mod timeline_laws;
 mod world;
 
+pub use apart::WorldRest;
 pub use events::{WorldEvent, WorldReply};
 pub use history::History;
 pub use journal::{Journal, NodeSteps, Run, Tick};

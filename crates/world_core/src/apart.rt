@@ -1,0 +1,49 @@
+//! A network taken apart: its nodes, each of which may make the steps of its ports by itself, and what is left of it.
+
+ghost use Rattle.std.specs.Prelude.{◌≡◌};
+ghost use Rattle.world_core.specs.Kept.{IsKeptWorld};
+
+use crate::marks::Marks;
+use crate::world::World;
+use node_core::Node;
+use srp_base::Seq;
+use tree_topology::Tree;
+
+/// What is left of a network without its nodes: its tree, and the marks of its ports, which whoever lets the nodes make their
+/// steps has to follow up.
+#[derive(Drop)]
+pub struct WorldRest {
+    pub tree: Tree,
+    pub marks: Marks,
+}
+
+impl World {
+    /// Takes a network apart: what is left without its nodes, and the nodes, ascending by number. Nothing is changed in them,
+    /// and no memory is taken.
+    pub fn part(self) -> (WorldRest, Seq<Node>)
+        ensures tree { result.0.tree ≡ self.tree }
+        ensures marks { result.0.marks ≡ self.marks }
+        ensures nodes { result.1 ≡ self.nodes }
+        ensures kept { IsKeptWorld
+            (record { tree = result.0.tree; nodes = result.1; marks = result.0.marks }) }
+    {
+        let World { tree, nodes, marks } = self;
+        (WorldRest { tree, marks }, Seq::from_vec(nodes))
+    }
+
+    /// Puts a network together from what was left and nodes ascending by number, which with the tree and the marks keep what
+    /// every network keeps. That they do after steps which the nodes have made apart is the law `steps_made_apart_keep_it`.
+    /// Nothing is changed in them, and no memory is taken.
+    pub fn join(rest: WorldRest, nodes: Seq<Node>) -> World
+        requires { IsKeptWorld
+            (record { tree = rest.tree; nodes = nodes; marks = rest.marks }) }
+        ensures { result ≡ record { tree = rest.tree; nodes = nodes; marks = rest.marks } }
+    {
+        let WorldRest { tree, marks } = rest;
+        World {
+            tree,
+            nodes: nodes.into_vec(),
+            marks,
+        }
+    }
+}
