@@ -77,7 +77,7 @@ fn has_one_waiting(world: &World) -> bool {
 }
 
 // Whether the LeaveAll waits at station 1, and is taken.
-fn hears(world: &mut World) -> bool {
+pub(crate) fn hears(world: &mut World) -> bool {
     has_answers(world, [carries(S2)].as_slice())
         && has_one_waiting(world)
         && has_answers(world, [makes(S1, Work, Received(0))].as_slice())
@@ -88,22 +88,27 @@ fn is_out_of_step(world: &mut World, vid: Vid) -> bool {
     has_answers(world, losing(vid).as_slice()) && !world.in_step()
 }
 
-// Whether both are in step once the LeaveAll is taken, and the VID is registered in the end.
-fn comes_in_step(world: &mut World, vid: Vid) -> bool {
-    is_out_of_step(world, vid)
-        && has_answers(world, calling().as_slice())
-        && hears(world)
-        && world.in_step()
-        && has_answers(world, saying().as_slice())
+// Whether neither is in step after the losses, and then station 2 sends its LeaveAll.
+pub(crate) fn begins(world: &mut World, vid: Vid) -> bool {
+    is_out_of_step(world, vid) && has_answers(world, calling().as_slice())
+}
+
+// Whether station 1 says again what it declares, so that the VID is registered in the end.
+pub(crate) fn says_again(world: &mut World, vid: Vid) -> bool {
+    has_answers(world, saying().as_slice())
         && has_answers(world, saying().as_slice())
         && world.quiet()
         && has_sides(world, S2, vid, true, true)
 }
 
+// Whether both are in step once the LeaveAll is taken, and the VID is registered in the end.
+fn comes_in_step(world: &mut World, vid: Vid) -> bool {
+    begins(world, vid) && hears(world) && world.in_step() && says_again(world, vid)
+}
+
 // Whether they aren't where station 1 has spoken before it takes it.
 fn stays_out_of_step(world: &mut World, vid: Vid, other: Vid) -> bool {
-    is_out_of_step(world, vid)
-        && has_answers(world, calling().as_slice())
+    begins(world, vid)
         && has_answers(world, speaking(other).as_slice())
         && hears(world)
         && !world.in_step()
