@@ -176,6 +176,16 @@ tree_stays (Repeat p index) w = tree_repeat p index (has_index p index w) w
 tree_stays (Carry p) w = refl
 tree_stays Clock w = refl
 
+-- none but the clock's own changes the clock
+pub clock_stays : (e : GroupEvent) (w : NetGroups) → (e ≡ Clock → ⊥) → (group_step e w).0.clock ≡ w.clock
+clock_stays (Join n mac) w other = refl
+clock_stays (Parted n mac) w other = refl
+clock_stays (Port p step) w other = refl
+clock_stays (Lose p index) w other = clock_lose p index (has_index p index w) w
+clock_stays (Repeat p index) w other = clock_repeat p index (has_index p index w) w
+clock_stays (Carry p) w other = refl
+clock_stays Clock w other = absurd (other refl)
+
 module _ (laws : KeepingLaws) where
   pub kept_event : (e : GroupEvent) (w : NetGroups) → CanHappen e w → IsEventInRange e → IsKeptNet w → IsKeptNet (group_step e w).0
   kept_event e w can small kept =

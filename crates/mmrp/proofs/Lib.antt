@@ -16,3 +16,4 @@ pub mod Sizes
 pub mod Saying
 pub mod Happenings
 pub mod Standing
+pub mod Registered

@@ -1,11 +1,17 @@
 -- Where the ports of a network's tree stand among its nodes.
-use Rattle.std.proofs.Common.{◌≡◌, ◌-◌, List, sym, ap, subst, arith}
-use Rattle.std.specs.Prelude.{◌≤◌, length, Result, Ok, Err, IfOk, OnErr}
+use Rattle.std.proofs.Common.{◌≡◌, ◌-◌, ◌&&◌, ℕ, false, List, refl, sym, ap, subst, ◌∙◌, arith}
+use Rattle.std.specs.Prelude.{◌≤◌, length, slice_get, Option, Some, None, Result, Ok, Err, IfOk, OnErr}
+use Rattle.std.specs.Option.{option_map_or}
+use Rattle.std.specs.Ordering.{nat_cmp}
 use Rattle.std.proofs.lemmas.Option.{slice_get_within}
 use Rattle.srp_base.specs.declared.numbers.Cs.{Cs}
 use Rattle.srp_base.specs.declared.numbers.EgressPort.{EgressPort}
 use Rattle.srp_base.specs.declared.numbers.NodeNo.{NodeNo}
-use Rattle.tree_topology.specs.Topology.{Topology, HasPort}
+use Rattle.attribute_propagation.specs.Dirty.{is_awaiting}
+use Rattle.tree_topology.specs.declared.graph.NodeKind.{NodeKind}
+use Rattle.tree_topology.specs.declared.graph.NodeKind.TheVariants.{Station, Bridge}
+use Rattle.tree_topology.specs.Refusal.{is_station}
+use Rattle.tree_topology.specs.Topology.{Topology, HasNode, HasPort}
 use Rattle.tree_topology.specs.Ports.{peer_of}
 use Rattle.tree_topology.specs.PortLaws.{HasPortLaws}
 use Rattle.mmrp.specs.declared.events.GroupEvent.{GroupEvent}
@@ -13,6 +19,9 @@ use Rattle.mmrp.specs.declared.events.GroupReply.{GroupReply}
 use Rattle.mmrp.specs.Node.{NodeGroups}
 use Rattle.mmrp.specs.Net.{NetGroups, Happened, IsStation, StandsAt, CanHappen}
 use Rattle.mmrp.specs.Kept.{IsKeptNet}
+use Rattle.mmrp.specs.Macs.{has_joined}
+use Rattle.mmrp.specs.Match.{is_joined_at}
+use Rattle.mmrp.proofs.Lists.{within}
 use Rattle.mmrp.proofs.Nodes.{node_there, place_within}
 use Rattle.mmrp.proofs.Keeping.{base_kept}
 
@@ -58,3 +67,22 @@ pub kept_either : {E : Type 0} (r : Result GroupReply E) (h : Happened) (tree : 
     → IsKeptNet h.0 → IsKeptNet (record { tree = tree; clock = clock; nodes = nodes }) → IsKeptNet (record { tree = tree; clock = clock; nodes = new })
 kept_either (Ok reply) h tree clock nodes new is err after before = subst IsKeptNet (ap (λ (x : Happened). x.0) is) after
 kept_either (Err e) h tree clock nodes new ok is after before = subst (λ (xs : List NodeGroups). IsKeptNet (record { tree = tree; clock = clock; nodes = xs })) (sym is) before
+
+-- a node is a station that has joined a MAC address exactly where its application has joined it, since no bridge's has
+pub joined_is : (w : NetGroups) → IsKeptNet w → (mac y : ℕ) → HasNode w.tree y
+    → is_joined_at w mac y ≡ option_map_or (λ s. has_joined mac s.side) (slice_get w.nodes (y - 1)) false
+joined_is w kept mac y has =
+    let first = has.0 in
+    let last = has.1 in
+    let kind = within w.tree.kinds (y - 1) (omega (arith, first, last)) in
+    by kind.0 kind.1
+  where
+    none : slice_get w.tree.kinds (y - 1) ≡ Some Bridge → (o : Option NodeGroups) → slice_get w.nodes (y - 1) ≡ o → option_map_or (λ s. has_joined mac s.side) o false ≡ false
+    none bridge None is = refl
+    none bridge (Some s) is = ap (λ (own : List ℕ). is_awaiting nat_cmp mac own) (kept.idle (y - 1) s is bridge)
+
+    by : (k : NodeKind) → slice_get w.tree.kinds (y - 1) ≡ Some k → is_joined_at w mac y ≡ option_map_or (λ s. has_joined mac s.side) (slice_get w.nodes (y - 1)) false
+    by Station is = ap (λ o. option_map_or is_station o false && option_map_or (λ (s : NodeGroups). has_joined mac s.side) (slice_get w.nodes (y - 1)) false) is
+    by Bridge is =
+        ap (λ o. option_map_or is_station o false && option_map_or (λ (s : NodeGroups). has_joined mac s.side) (slice_get w.nodes (y - 1)) false) is
+        ∙ sym (none is (slice_get w.nodes (y - 1)) refl)

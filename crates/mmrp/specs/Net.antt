@@ -14,7 +14,7 @@ use Rattle.mmrp.specs.declared.events.GroupReply.TheVariants.{Done, Missed}
 use Rattle.mmrp.specs.declared.events.GroupEvent.{GroupEvent}
 use Rattle.mmrp.specs.declared.events.GroupEvent.TheVariants as events
 use Rattle.mmrp.specs.Macs.{IsMac}
-use Rattle.mmrp.specs.Node.{NodeGroups, Stepped, Waiting, asked, box_at, is_still_node, are_all_sound, lost_at, port_step, ports_of, repeated_at, spoilt_at, with_carried, with_outbox}
+use Rattle.mmrp.specs.Node.{NodeGroups, Stepped, Waiting, asked, box_at, is_busy_node, is_still_node, are_all_sound, lost_at, port_step, ports_of, repeated_at, spoilt_at, with_carried, with_outbox}
 
 -- a tree, one clock, and what each node keeps, in the order of their numbers
 pub record NetGroups : Type 0 where
@@ -146,6 +146,10 @@ IsEventInRange events.Clock = Unit {0}
 -- LeaveAll machine Passive, and no MAC address awaits
 abbrev pub is_quiet : NetGroups → Bool
 is_quiet w = list_all is_still_node w.nodes
+
+-- whether a node is busy: a PDU came in at some port, a timer is due there, or a MAC address awaits
+abbrev pub is_busy_at : NodeNo → NetGroups → Bool
+is_busy_at n w = option_map_or (is_busy_node w.clock) (node_at n w) false
 
 -- whether every port is sound: it has sent a LeaveAll since a PDU was last lost on its link, if one was
 abbrev pub is_in_step : NetGroups → Bool

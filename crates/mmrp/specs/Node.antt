@@ -1,5 +1,5 @@
 -- A node that runs MMRP, and one step of one of its link ports: the node afterwards, and what it answers.
-use Rattle.std.specs.Prelude.{◌≡◌, ◌≤◌, ℕ, suc, ◌==◌, Bool, ◌&&◌, if◌then◌else◌, List, [], ◌∷◌, ◌++◌, length, map, take, drop, Option, Some, None, slice_get, slice_set, Result, Ok, Err}
+use Rattle.std.specs.Prelude.{◌≡◌, ◌≤◌, ℕ, suc, ◌==◌, Bool, not, ◌&&◌, ◌||◌, if◌then◌else◌, List, [], ◌∷◌, ◌++◌, length, map, take, drop, Option, Some, None, slice_get, slice_set, Result, Ok, Err}
 use Rattle.std.specs.Option.{option_map_or}
 use Rattle.std.specs.List.{list_all, AllByRecursion}
 use Rattle.std.specs.Ordering.{nat_cmp}
@@ -13,7 +13,7 @@ use Rattle.mrp_participant.specs.Link.{with_repeat}
 use Rattle.mrp_participant.specs.State.{is_silent, due_count}
 use Rattle.attribute_propagation.specs.Ports.{count_of}
 use Rattle.flat_side.specs.Keys.{KeepsKeys}
-use Rattle.flat_side.specs.Side.{IsKept, are_still, awaiting_at, new_flat, received_flat, due_flat, settled_flat, sent_flat, requested_flat, spoilt_flat}
+use Rattle.flat_side.specs.Side.{IsKept, are_still, is_busy, awaiting_at, new_flat, received_flat, due_flat, settled_flat, sent_flat, requested_flat, spoilt_flat}
 use Rattle.mmrp.specs.declared.events.GroupStep.{GroupStep}
 use Rattle.mmrp.specs.declared.events.GroupStep.TheVariants.{Work, Due, Settle, Send}
 use Rattle.mmrp.specs.declared.events.GroupReply.{GroupReply}
@@ -60,6 +60,10 @@ are_empty boxes = list_all (λ pdus. length pdus == 0) boxes
 -- whether nothing is pending at a node: no PDU waits, every participant is at rest, and no MAC address awaits
 abbrev pub is_still_node : NodeGroups → Bool
 is_still_node s = are_empty s.inboxes && are_empty s.outboxes && are_still s.side
+
+-- whether a node is busy at a moment: a PDU came in at some port, a timer is due there, or a MAC address awaits
+abbrev pub is_busy_node : Cs → NodeGroups → Bool
+is_busy_node now s = not (are_empty s.inboxes) || is_busy now s.side
 
 -- whether every participant is sound
 abbrev pub are_all_sound : NodeGroups → Bool

@@ -1,16 +1,20 @@
 //! What one event does to the nodes of a network.
 
-ghost use Rattle.std.specs.Prelude.{◌≡◌, ◌<◌, ◌≤◌, ◌-◌, ◌^◌, [], length, slice_get, Some, IfOk, OnOk, OnErr, IfErr};
+ghost use Rattle.std.specs.Prelude.{◌≡◌, ◌<◌, ◌≤◌, ◌-◌, ◌^◌, [], false, length, slice_get, Some, IfOk, OnOk, OnErr, IfErr};
 ghost use Rattle.std.specs.Option.{option_map_or};
 ghost use Rattle.tree_topology.specs.Topology.{Topology, HasPort};
 ghost use Rattle.tree_topology.specs.Ports.{peer_of};
 ghost use Rattle.attribute_propagation.specs.Ports.{place_of};
 ghost use Rattle.mmrp.specs.Node.{NodeGroups, AreShort, box_at, lost_at, port_step, repeated_at, spoilt_at, with_carried, with_outbox};
+ghost use Rattle.mmrp.specs.Duty.{part_at};
+ghost use Rattle.mmrp.specs.Macs.{has_joined as has_joined_spec};
 ghost use Rattle.mmrp.specs.Match.{registrar_at};
-ghost use Rattle.mmrp.specs.Net.{StandsAt, after_asking, after_step, group_step, has_index as has_index_spec, nodes_with};
+ghost use Rattle.mmrp.specs.Net.{StandsAt, after_asking, after_step, group_step, has_index as has_index_spec, inbox, is_busy_at, nodes_with};
 
+use crate::app::MmrpApp;
 use crate::events::{GroupEvent, GroupReply, GroupStep};
 use crate::node::GroupNode;
+use mrp_participant::Participant;
 use registrar::Registrar;
 use srp_base::{Cs, EgressPort, Mac, NoMemory, NodeNo, Seq};
 use tree_topology::Tree;
@@ -59,6 +63,25 @@ pub(crate) fn make_step(
     Ok(reply)
 }
 
+/// The number of PDUs that came in at a port.
+pub(crate) fn pending(nodes: &Vec<GroupNode>, at: EgressPort) -> usize
+    requires { StandsAt at nodes.now.items }
+    ensures { (tree : Topology) (clock : Cs) → result
+        ≡ length (inbox at (record { tree = tree; clock = clock; nodes = nodes.now.items })) }
+{
+    nodes[place(at.node)].pending(at.port)
+}
+
+/// Whether a node is busy at the moment `now`.
+pub(crate) fn is_busy(nodes: &Vec<GroupNode>, now: Cs, number: NodeNo) -> bool
+    requires some { 1 ≤ number.0 }
+    requires few { number.0 ≤ length nodes.now.items }
+    ensures { (tree : Topology) → result
+        ≡ is_busy_at number (record { tree = tree; clock = now; nodes = nodes.now.items }) }
+{
+    nodes[place(number)].is_busy(now)
+}
+
 // Whether a PDU has an index in a port's inbox.
 fn has_index(nodes: &Vec<GroupNode>, at: EgressPort, index: u32) -> bool
     requires { StandsAt at nodes.now.items }
@@ -75,6 +98,25 @@ pub(crate) fn registrar(nodes: &Vec<GroupNode>, at: EgressPort, mac: Mac) -> Reg
         ≡ registrar_at (record { tree = tree; clock = clock; nodes = nodes.now.items }) mac at }
 {
     nodes[place(at.node)].registrar(at.port, mac)
+}
+
+/// The participant of a port.
+pub(crate) fn participant(nodes: &Vec<GroupNode>, at: EgressPort) -> &Participant<MmrpApp>
+    requires { StandsAt at nodes.now.items }
+    ensures { (tree : Topology) (clock : Cs)
+        → part_at at (record { tree = tree; clock = clock; nodes = nodes.now.items }) ≡ Some result.now }
+{
+    nodes[place(at.node)].participant(at.port)
+}
+
+/// Whether the application of a node has joined a MAC address.
+pub(crate) fn has_joined(nodes: &Vec<GroupNode>, number: NodeNo, mac: Mac) -> bool
+    requires some { 1 ≤ number.0 }
+    requires few { number.0 ≤ length nodes.now.items }
+    ensures { result ≡ option_map_or
+        (λ s. has_joined_spec mac s.side) (slice_get nodes.now.items (number.0 - 1)) false }
+{
+    nodes[place(number)].has_joined(mac)
 }
 
 // The participant at a port is sound no more.

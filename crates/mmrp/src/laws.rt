@@ -1,11 +1,12 @@
 //! What every network that runs MMRP keeps, whatever happens in it, and the law of a network at rest. Each is a function
 //! that does nothing; calling it brings the law to a proof.
 
-ghost use Rattle.std.specs.Prelude.{◌≡◌, ℕ, Bool, false, List};
+ghost use Rattle.std.specs.Prelude.{◌≡◌, ◌≢◌, ◌-◌, ℕ, Bool, false, List};
 ghost use Rattle.std.specs.List.{AllByRecursion};
 ghost use Rattle.std.specs.Ordering.{nat_cmp};
 ghost use Rattle.srp_base.specs.declared.numbers.Cs.{Cs};
 ghost use Rattle.srp_base.specs.declared.numbers.EgressPort.{EgressPort};
+ghost use Rattle.srp_base.specs.declared.numbers.NodeNo.{NodeNo};
 ghost use Rattle.tree_topology.specs.Topology.{Topology, HasPort};
 ghost use Rattle.topology_file.specs.declared.entries.LinkEntry.{LinkEntry};
 ghost use Rattle.topology_file.specs.declared.entries.NodeEntry.{NodeEntry};
@@ -13,8 +14,9 @@ ghost use Rattle.topology_file.specs.Network.{KeepsNetworkRules};
 ghost use Rattle.mmrp_codec.specs.Writing.{mmrp_spelling};
 ghost use Rattle.mrp_participant.specs.State.{AreRows, is_silent};
 ghost use Rattle.mmrp.specs.declared.events.GroupEvent.{GroupEvent};
+ghost use Rattle.mmrp.specs.declared.events.GroupStep.{GroupStep};
 ghost use Rattle.mmrp.specs.Macs.{Part, HasMacRows, IsWritten, pdu_sent};
-ghost use Rattle.mmrp.specs.Net.{NetGroups, CanAllHappen, CanHappen, IsEventInRange, group_step, groups_after};
+ghost use Rattle.mmrp.specs.Net.{NetGroups, CanAllHappen, CanHappen, IsEventInRange, group_step, groups_after, node_at};
 ghost use Rattle.mmrp.specs.Start.{net_of};
 ghost use Rattle.mmrp.specs.Kept.{IsKeptNet};
 ghost use Rattle.mmrp.specs.Match.{GroupsMatch, IsAtRest, is_joined_behind, is_registered};
@@ -67,6 +69,16 @@ pub fn every_event_keeps_it()
     every_event_keeps_both_duties::<MmrpApp>();
     spoiling_keeps_duties::<MmrpApp>();
 }
+
+/// No event changes the tree, none but the clock's the clock; and a step of a port changes its own node alone.
+pub fn what_events_leave_alone()
+    ensures tree { (e : GroupEvent) (w : NetGroups) → (group_step e w).0.tree ≡ w.tree }
+    ensures clock { (e : GroupEvent) (w : NetGroups) → e ≢ GroupEvent.Clock
+        → (group_step e w).0.clock ≡ w.clock }
+    ensures nodes { (p : EgressPort) (step : GroupStep) (n : NodeNo) (w : NetGroups)
+        → p.node.0 - 1 ≢ n.0 - 1
+        → node_at n (group_step (GroupEvent.Port p step) w).0 ≡ node_at n w }
+{}
 
 /// In every network at rest a MAC address is registered at a port exactly where a station behind the port, in the words
 /// of the tree's walks, has joined it (IEEE Std 802.1Q-2018, 10.12); so both sides that `groups_match` answers are equal.

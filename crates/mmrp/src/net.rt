@@ -1,18 +1,23 @@
 //! A network that runs MMRP, how it begins, what it shows, and one event of it.
 
-ghost use Rattle.std.specs.Prelude.{◌≡◌, IfOk, OnErr};
+ghost use Rattle.std.specs.Prelude.{◌≡◌, length, Some, IfOk, OnErr};
 ghost use Rattle.mmrp.specs.Kept.{IsKeptNet};
-ghost use Rattle.mmrp.specs.Net.{CanHappen, group_step, is_in_step, is_quiet};
-ghost use Rattle.mmrp.specs.Match.{registrar_at};
+ghost use Rattle.mmrp.specs.Net.{CanHappen, group_step, inbox, is_busy_at, is_in_step, is_quiet};
+ghost use Rattle.mmrp.specs.Duty.{part_at};
+ghost use Rattle.mmrp.specs.Match.{is_joined_at, registrar_at};
 ghost use Rattle.mmrp.specs.Start.{net_of};
-ghost use Rattle.tree_topology.specs.Topology.{HasPort};
+ghost use Rattle.tree_topology.specs.Topology.{HasNode, HasPort};
 
+use crate::app::MmrpApp;
 use crate::events::{GroupEvent, GroupReply, GroupStep};
-use crate::happen::{ask, carry, lose, make_step, registrar, repeat};
+use crate::happen::{
+    ask, carry, has_joined, is_busy, lose, make_step, participant, pending, registrar, repeat,
+};
 use crate::laws::{a_network_begins_well, every_event_keeps_it};
 use crate::node::GroupNode;
 use crate::start::new_nodes;
 use group_file::GroupScenario;
+use mrp_participant::Participant;
 use registrar::Registrar;
 use srp_base::{Cs, EgressPort, Mac, NoMemory, NodeNo};
 use std::alloc::Global;
@@ -183,6 +188,43 @@ impl GroupNet {
         ensures { result ≡ registrar_at self.now mac at }
     {
         registrar(&self.nodes, at, mac)
+    }
+
+    /// The number of PDUs that came in at a port and wait there. The port exists.
+    pub fn pending(&self, at: EgressPort) -> usize
+        requires { HasPort self.now.tree at }
+        ensures { result ≡ length (inbox at self.now) }
+    {
+        pending(&self.nodes, at)
+    }
+
+    /// Whether a node is busy: a PDU came in at some port, a timer is due there, or a MAC address awaits. The node exists.
+    pub fn is_busy(&self, node: NodeNo) -> bool
+        requires { HasNode self.now.tree node.0 }
+        ensures { result ≡ is_busy_at node self.now }
+    {
+        is_busy(&self.nodes, self.clock, node)
+    }
+
+    // The participant of a port.
+    pub(crate) fn participant(&self, at: EgressPort) -> &Participant<MmrpApp>
+        requires { HasPort self.now.tree at }
+        ensures { part_at at self.now ≡ Some result.now }
+    {
+        participant(&self.nodes, at)
+    }
+
+    // Whether a node is a station that has joined a MAC address. The node exists.
+    pub(crate) fn has_joined(&self, node: NodeNo, mac: Mac) -> bool
+        requires { HasNode self.now.tree node.0 }
+        ensures { result ≡ is_joined_at self.now mac node.0 }
+    {
+        has_joined(&self.nodes, node, mac)
+    }
+
+    // The allocator that the network was made with.
+    pub(crate) fn allocator(&self) -> Global {
+        *self.nodes.allocator()
     }
 
     /// Whether nothing is pending: no PDU is on its way, every Applicant is VO or QA, every Registrar IN or MT, every

@@ -6,11 +6,10 @@ ghost use Rattle.std.specs.Ordering.{nat_cmp};
 ghost use Rattle.mrp_participant.specs.Link.{with_repeat};
 ghost use Rattle.mrp_participant.specs.State.{IsTime};
 ghost use Rattle.attribute_propagation.specs.Ports.{IsLinkPort, place_of};
-ghost use Rattle.flat_side.specs.Side.{is_busy};
 ghost use Rattle.std.specs.Option.{option_map_or};
 ghost use Rattle.registrar.specs.declared.Registrar.TheVariants.{Empty};
 ghost use Rattle.mmrp.specs.Macs.{has_joined, registrar_in};
-ghost use Rattle.mmrp.specs.Node.{AreShort, IsKeptNode, after_send, after_work, are_all_sound, are_empty, asked, box_at, is_still_node, lost_at, new_node, port_step, ports_of, repeated_at, spoilt_at, with_carried, with_outbox, without};
+ghost use Rattle.mmrp.specs.Node.{AreShort, IsKeptNode, after_send, after_work, are_all_sound, are_empty, asked, box_at, is_busy_node, is_still_node, lost_at, new_node, port_step, ports_of, repeated_at, spoilt_at, with_carried, with_outbox, without};
 
 use crate::app::MmrpApp;
 use crate::events::{GroupReply, GroupStep};
@@ -117,18 +116,11 @@ impl GroupNode {
         self.side.all_sound()
     }
 
-    // Whether no PDU came in.
-    pub(crate) fn none_came(&self) -> bool
-        ensures { result ≡ are_empty self.now.inboxes }
+    // Whether the node is busy at a moment: a PDU came in at some port, a timer is due there, or a MAC address awaits.
+    pub(crate) fn is_busy(&self, now: Cs) -> bool
+        ensures { result ≡ is_busy_node now self.now }
     {
-        all_empty(self.inboxes.as_slice())
-    }
-
-    // Whether a timer is due at a moment, or a MAC address awaits.
-    pub(crate) fn is_due(&self, now: Cs) -> bool
-        ensures { result ≡ is_busy now self.now.side }
-    {
-        self.side.is_busy(now)
+        !all_empty(self.inboxes.as_slice()) || self.side.is_busy(now)
     }
 
     // The number of PDUs that wait in a port's inbox.

@@ -1,0 +1,17 @@
+use Rattle.std.proofs.Common.{◌≡◌, ◌<◌, ◌+◌, ◌-◌, ◌&&◌, ℕ, Bool, false, length, sym, ap, ◌∙◌, arith}
+use Rattle.std.specs.List.{list_any, range_with_len}
+use Rattle.tree_topology.specs.Topology.{Topology}
+use Rattle.tree_topology.specs.Walk.{is_behind}
+use Rattle.mmrp.specs.Match.{is_joined_at}
+use Rattle.mmrp.proofs.Places.{any-later}
+use Rattle.mmrp.proofs.matching.is_joined_by_some.Goals as goal
+
+pub loop-y-preserved : goal.loop-y-preserved
+loop-y-preserved c =
+    let test : ℕ → Bool = λ y. is_behind c.args.net.now.tree.links c.args.at y && is_joined_at c.args.net.now c.args.mac y in
+    let count = length c.args.net.now.tree.kinds in
+    let end : c.nodes-y-end.result ≡ count = c.nodes-y-end.ensures ∙ ap (λ (t : Topology). length t.kinds) c.tree.ensures in
+    let lt : 0 < count - c.loop-y.y = omega (arith, c.loop-y-test.true, end) in
+    let less : count - c.loop-y.y - 1 ≡ count - (c.loop-y.y + 1) = omega arith in
+    let no : test (c.loop-y.y + 1) ≡ false = sym c.is_joined_there.ensures ∙ c.if-is_joined_there.false in
+    c.loop-y.invariant ∙ (any-later test (c.loop-y.y + 1) (count - c.loop-y.y) lt no ∙ ap (λ n. list_any test (range_with_len (c.loop-y.y + 1 + 1) n)) less)
