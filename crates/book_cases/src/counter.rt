@@ -48,6 +48,23 @@ fn a_counter_answers_the_sums(rt: HostRuntime) -> Result<(), Fail> {
     Ok(())
 }
 
+// What the one pass of a lock is answered, and what the lock holds at the end.
+fn counted_alone<R: Wait>(rt: &R, alloc: Global) -> Option<(u64, u64)> {
+    let (lock, passes) = TurnLock::begin(alloc, Counter { sum: 1 }, 1).ok()?;
+    let mut passes = passes.into_vec();
+    let mut only = passes.pop()?;
+    let answer = call(rt, &lock, &mut only, 4)?;
+    passes.push(only).ok()?;
+    let closed = lock.close(Seq::from_vec(passes)).ok()?;
+    Some((answer, closed.state.sum))
+}
+
+#[test]
+fn a_lock_of_one_pass_counts_too(rt: HostRuntime) -> Result<(), Fail> {
+    assert!(rt; counted_alone(&rt, rt.alloc()) == Some((5, 5)));
+    Ok(())
+}
+
 // The number that is missing when a lock of two passes is closed with the second alone, and what it holds when
 // it is closed with both.
 fn closed_without_the_first(alloc: Global) -> Option<(u32, u32, u64)> {
