@@ -2,14 +2,16 @@
 use Rattle.std.specs.Prelude.{ℕ, ◌+◌, ◌/◌, length, if◌then◌else◌, List, [], ◌∷◌, ◌++◌, Result, Ok, Err}
 use Rattle.hex.specs.Hex.{decode_sized}
 use Rattle.hex.specs.declared.error.FromHexError.{FromHexError}
-use Rattle.srp_base.specs.declared.mrp.App.{App}
-use Rattle.srp_base.specs.declared.mrp.App.TheVariants.{Mvrp, Msrp}
+use Rattle.mmrp_codec.specs.Meaning.{mmrp_reading}
+use Rattle.mmrp_codec.specs.declared.pdu.GroupPdu.{GroupPdu}
+use Rattle.mrpdu_codec.specs.declared.form.AppForm.{AppForm}
+use Rattle.mrpdu_codec.specs.declared.form.AppForm.TheVariants.{Mvrp, Msrp, Mmrp}
 use Rattle.msrp_codec.specs.Meaning.{msrp_reading}
 use Rattle.msrp_codec.specs.declared.pdu.MsrpPdu.{MsrpPdu}
 use Rattle.mvrp_codec.specs.Meaning.{mvrp_reading}
 use Rattle.mvrp_codec.specs.declared.pdu.MvrpPdu.{MvrpPdu}
 use Rattle.pdu_words.specs.Capture.{lines_of, digits_of, is_passed_over}
-use Rattle.pdu_words.specs.Events.{vlan_lines, stream_lines, malformed_line, no_octets_line}
+use Rattle.pdu_words.specs.Events.{vlan_lines, stream_lines, group_lines, malformed_line, no_octets_line}
 
 -- what octets say of VIDs, or where they break
 abbrev pub vlans_said : ℕ → Result MvrpPdu ℕ → List ℕ
@@ -21,29 +23,35 @@ abbrev pub streams_said : ℕ → Result MsrpPdu ℕ → List ℕ
 streams_said n (Ok pdu) = stream_lines n pdu
 streams_said n (Err place) = malformed_line n place
 
+-- what octets say of groups, or where they break
+abbrev pub groups_said : ℕ → Result GroupPdu ℕ → List ℕ
+groups_said n (Ok pdu) = group_lines n pdu
+groups_said n (Err place) = malformed_line n place
+
 -- what octets say, as a PDU of this application
-abbrev pub octets_said : App → ℕ → List ℕ → List ℕ
+abbrev pub octets_said : AppForm → ℕ → List ℕ → List ℕ
 octets_said Mvrp n octets = vlans_said n (mvrp_reading octets)
 octets_said Msrp n octets = streams_said n (msrp_reading octets)
+octets_said Mmrp n octets = groups_said n (mmrp_reading octets)
 
 -- what the octets of some digits say, if they are two hexadecimal digits an octet
-abbrev pub digits_said : App → ℕ → Result (List ℕ) FromHexError → List ℕ
-digits_said app n (Ok octets) = octets_said app n octets
-digits_said app n (Err e) = no_octets_line n
+abbrev pub digits_said : AppForm → ℕ → Result (List ℕ) FromHexError → List ℕ
+digits_said form n (Ok octets) = octets_said form n octets
+digits_said form n (Err e) = no_octets_line n
 
 -- the octets that hexadecimal digits of either case spell, two digits an octet
 abbrev pub octets_of : List ℕ → Result (List ℕ) FromHexError
 octets_of digits = decode_sized digits (length digits / 2)
 
 -- what the PDU in a line of this number says; an empty line and a remark say nothing
-abbrev pub line_said : App → ℕ → List ℕ → List ℕ
-line_said app n line = if is_passed_over line then [] else digits_said app n (octets_of (digits_of line))
+abbrev pub line_said : AppForm → ℕ → List ℕ → List ℕ
+line_said form n line = if is_passed_over line then [] else digits_said form n (octets_of (digits_of line))
 
 -- the same of some lines, of which the first has number n
-abbrev pub lines_said : App → ℕ → List (List ℕ) → List ℕ
-lines_said app n [] = []
-lines_said app n (line ∷ lines) = line_said app n line ++ lines_said app (n + 1) lines
+abbrev pub lines_said : AppForm → ℕ → List (List ℕ) → List ℕ
+lines_said form n [] = []
+lines_said form n (line ∷ lines) = line_said form n line ++ lines_said form (n + 1) lines
 
 -- what a capture of PDUs of an application says
-abbrev pub decoded_text : App → List ℕ → List ℕ
-decoded_text app capture = lines_said app 1 (lines_of capture)
+abbrev pub decoded_text : AppForm → List ℕ → List ℕ
+decoded_text form capture = lines_said form 1 (lines_of capture)

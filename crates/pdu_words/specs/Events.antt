@@ -1,4 +1,5 @@
--- The lines of what an MRPDU says, one event each (IEEE Std 802.1Q-2018, 10.8.2, 11.2.3.1, 35.2.2). A line ends with a line feed.
+-- The lines of what an MRPDU says, one event each (IEEE Std 802.1Q-2018, 10.8.2, 10.12.1, 11.2.3.1, 35.2.2). A line ends with a
+-- line feed.
 use Rattle.std.specs.Prelude.{ℕ, Bool, true, false, List, [], ◌∷◌, ◌++◌, flat_map, codes}
 use Rattle.std.specs.Fmt.{decimal}
 use Rattle.srp_base.specs.Hexadecimal.{hex12_text, hex16_text}
@@ -11,6 +12,7 @@ use Rattle.srp_base.specs.declared.streams.Failure.{Failure}
 use Rattle.srp_base.specs.declared.streams.ListenerKind.{ListenerKind}
 use Rattle.srp_base.specs.declared.streams.ListenerKind.TheVariants.{AskingFailed, Ready, ReadyFailed}
 use Rattle.srp_base.specs.declared.streams.Talker.{Talker}
+use Rattle.mmrp_codec.specs.declared.pdu.GroupPdu.{GroupPdu}
 use Rattle.msrp_codec.specs.declared.pdu.MsrpContent.{MsrpContent}
 use Rattle.msrp_codec.specs.declared.pdu.MsrpContent.TheVariants.{Advertise, Failed, Listener, Domain}
 use Rattle.msrp_codec.specs.declared.pdu.MsrpKey.{MsrpKey}
@@ -50,6 +52,10 @@ yes_or_no false = codes "no"
 -- `joinmt vid 5`
 abbrev pub vid_line : MrpEvent × ℕ → List ℕ
 vid_line x = whole_of (event_name x.0 ∷ codes " vid " ∷ decimal x.1 ∷ codes "\n" ∷ [])
+
+-- `joinmt mac 01005e000001`
+abbrev pub mac_line : MrpEvent × ℕ → List ℕ
+mac_line x = whole_of (event_name x.0 ∷ codes " mac " ∷ hex12_text x.1 ∷ codes "\n" ∷ [])
 
 -- where the stream's frames go, and their VID
 abbrev pub address_text : Talker → List ℕ
@@ -111,3 +117,7 @@ vlan_lines n pdu = leaveall_line n pdu.leave_all ++ flat_map vid_line pdu.events
 -- what a PDU of MSRP says
 abbrev pub stream_lines : ℕ → MsrpPdu → List ℕ
 stream_lines n pdu = leaveall_line n pdu.leave_all ++ flat_map declaration_line pdu.events
+
+-- what a PDU of MMRP says
+abbrev pub group_lines : ℕ → GroupPdu → List ℕ
+group_lines n pdu = leaveall_line n pdu.leave_all ++ flat_map mac_line pdu.events

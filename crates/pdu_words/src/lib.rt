@@ -9,14 +9,15 @@
 //! ```
 //!
 //! Blanks, tabs, colons and a carriage return may stand between the digits (`specs/Capture`). What octets say is the
-//! reading of mvrp_codec or msrp_codec and nothing else (`specs/Decoded`): the laws of those crates join it with the
+//! reading of mvrp_codec, msrp_codec or mmrp_codec and nothing else (`specs/Decoded`): the laws of those crates join it with the
 //! grammar. `specs/Events` has each printed line once. `decoded_text` has the text of a whole capture as its contract.
 //!
-//! A further application is a case of `octets_said` with its lines in `specs/Events` and its writer beside `vlans` and
-//! `streams`; a further kind of attribute of MSRP is a case of `key_text` and `content_text`, with its arm in `streams`.
+//! A further application is a case of `octets_said` with its lines in `specs/Events` and its writer beside `vlans`, `streams`
+//! and `groups`; a further kind of attribute of MSRP is a case of `key_text` and `content_text`, with its arm in `streams`.
 #![tactic(auto)]
 
 mod capture;
+mod groups;
 mod streams;
 mod text;
 mod vlans;

@@ -5,23 +5,24 @@ ghost use Rattle.pdu_words.specs.Decoded.{decoded_text as decoded_text_spec, lin
 
 use crate::capture::{digits_of, first_line, is_remark};
 use crate::words::write_no_octets;
-use crate::{streams, vlans};
-use srp_base::{App, NoMemory};
+use crate::{groups, streams, vlans};
+use mrpdu_codec::AppForm;
+use srp_base::NoMemory;
 use std::alloc::Global;
 
 /// What a capture of PDUs of an application says: of each line, in order, whether its PDU has a LeaveAll and then its events in
 /// the order of the octets, a line each; or the offset in octets, from 0, of the first field that breaks its rule (IEEE Std
 /// 802.1Q-2018, 10.8, 11.2.3.1, 35.2.2); or that it has no octets. An empty line and a line that begins with `#` say nothing.
-pub fn decoded_text(alloc: Global, app: App, capture: &[u8]) -> Result<String, NoMemory>
+pub fn decoded_text(alloc: Global, form: AppForm, capture: &[u8]) -> Result<String, NoMemory>
     requires { length capture.now < 2 ^ 32 }
-    ensures { IfOk result (λ text. string_bytes text ≡ decoded_text_spec app capture.now) }
+    ensures { IfOk result (λ text. string_bytes text ≡ decoded_text_spec form capture.now) }
 {
     let mut out = String::new(alloc);
     let mut rest = capture;
     let mut number: u64 = 1;
     while !rest.is_empty() {
         let (line, behind) = first_line(rest);
-        write_line(alloc, &mut out, app, number, line)?;
+        write_line(alloc, &mut out, form, number, line)?;
         rest = behind;
         number += 1;
     }
@@ -32,36 +33,36 @@ pub fn decoded_text(alloc: Global, app: App, capture: &[u8]) -> Result<String, N
 fn write_line(
     alloc: Global,
     out: &mut String,
-    app: App,
+    form: AppForm,
     number: u64,
     line: &[u8],
 ) -> Result<(), NoMemory>
     requires { length line.now < 2 ^ 32 }
     ensures { OnOk result (string_bytes out.new
-        ≡ string_bytes out.old ++ line_said app number line.now) }
+        ≡ string_bytes out.old ++ line_said form number line.now) }
 {
     let digits = digits_of(alloc, line)?;
     if is_remark(line) || digits.is_empty() {
         return Ok(());
     }
-    write_digits(alloc, out, app, number, digits.as_slice())
+    write_digits(alloc, out, form, number, digits.as_slice())
 }
 
 // What the octets of these digits say.
 fn write_digits(
     alloc: Global,
     out: &mut String,
-    app: App,
+    form: AppForm,
     number: u64,
     digits: &[u8],
 ) -> Result<(), NoMemory>
     requires { length digits.now < 2 ^ 32 }
     ensures { OnOk result (string_bytes out.new
-        ≡ string_bytes out.old ++ digits_said app number (octets_of digits.now)) }
+        ≡ string_bytes out.old ++ digits_said form number (octets_of digits.now)) }
 {
     let mut octets = vec![in alloc; 0; digits.len() / 2]?;
     match hex::decode_to_slice(digits, &mut octets) {
-        Ok(()) => write_octets(alloc, out, app, number, octets.as_slice()),
+        Ok(()) => write_octets(alloc, out, form, number, octets.as_slice()),
         Err(_) => Ok(write_no_octets(out, number)?),
     }
 }
@@ -70,16 +71,17 @@ fn write_digits(
 fn write_octets(
     alloc: Global,
     out: &mut String,
-    app: App,
+    form: AppForm,
     number: u64,
     octets: &[u8],
 ) -> Result<(), NoMemory>
     requires { length octets.now < 2 ^ 32 }
     ensures { OnOk result (string_bytes out.new
-        ≡ string_bytes out.old ++ octets_said app number octets.now) }
+        ≡ string_bytes out.old ++ octets_said form number octets.now) }
 {
-    match app {
-        App::Mvrp => vlans::write_octets(alloc, out, number, octets),
-        App::Msrp => streams::write_octets(alloc, out, number, octets),
+    match form {
+        AppForm::Mvrp => vlans::write_octets(alloc, out, number, octets),
+        AppForm::Msrp => streams::write_octets(alloc, out, number, octets),
+        AppForm::Mmrp => groups::write_octets(alloc, out, number, octets),
     }
 }

@@ -6,7 +6,7 @@ use Rattle.pdu_words.proofs.text.decoded_text.Given as goal
 -- the text so far with what the lines that are left say is the whole
 abbrev pub invariant-loop-rest : goal.invariant-loop-rest
 invariant-loop-rest l = record {
-  said : string_bytes l.out ++ lines_said l.app l.number (lines_of l.rest) ≡ decoded_text l.app l.capture;
+  said : string_bytes l.out ++ lines_said l.form l.number (lines_of l.rest) ≡ decoded_text l.form l.capture;
   few : l.number + length l.rest ≤ length l.capture + 1;
   short : length l.rest ≤ length l.capture;
 }
