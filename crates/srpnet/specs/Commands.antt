@@ -1,8 +1,9 @@
 -- The commands. Each has a line in `reads_input`, `runs`, `Output` and `ending_of`, and a row in the table of words.
 use Rattle.std.specs.Prelude.{◌≡◌, ℕ, Bool, true, false, List}
 use Rattle.world_core.specs.declared.journal.Tick.{Tick}
+use Rattle.pdu_words.specs.Decoded.{decoded_text}
 use Rattle.srpnet.specs.declared.words.Command.{Command}
-use Rattle.srpnet.specs.declared.words.Command.TheVariants.{Ledger, Check, Run, RunJournal, RunBounds, Help, Version}
+use Rattle.srpnet.specs.declared.words.Command.TheVariants.{Ledger, Check, Run, RunJournal, RunBounds, Decode, Help, Version}
 use Rattle.srpnet.specs.declared.outcome.Cause.{Cause}
 use Rattle.srpnet.specs.declared.outcome.Cause.TheVariants.{Done}
 use Rattle.srpnet.specs.Input.{ending}
@@ -20,6 +21,7 @@ reads_input Check = true
 reads_input Run = true
 reads_input RunJournal = true
 reads_input RunBounds = true
+reads_input (Decode form) = true
 reads_input Help = false
 reads_input Version = false
 
@@ -30,6 +32,7 @@ runs Check = false
 runs Run = true
 runs RunJournal = true
 runs RunBounds = true
+runs (Decode form) = false
 runs Help = false
 runs Version = false
 
@@ -44,6 +47,7 @@ Output Check octets ticks text = CheckOutput octets text
 Output Run octets ticks text = RunOutput report_alone octets ticks text
 Output RunJournal octets ticks text = RunOutput report_and_journal octets ticks text
 Output RunBounds octets ticks text = RunOutput report_and_bounds octets ticks text
+Output (Decode form) octets ticks text = text ≡ decoded_text form octets
 Output Help octets ticks text = text ≡ help_page
 Output Version octets ticks text = text ≡ version_page
 
@@ -54,5 +58,6 @@ ending_of Check octets = ending (scenario_input octets)
 ending_of Run octets = ending (scenario_input octets)
 ending_of RunJournal octets = ending (scenario_input octets)
 ending_of RunBounds octets = ending (scenario_input octets)
+ending_of (Decode form) octets = Done
 ending_of Help octets = Done
 ending_of Version octets = Done

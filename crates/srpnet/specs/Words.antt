@@ -1,8 +1,10 @@
 -- The table of the program's words.
-use Rattle.std.specs.Prelude.{ℕ, nat_eq, ◌&&◌, List, [], ◌∷◌, codes, if◌then◌else◌, Option, Some, None}
+use Rattle.std.specs.Prelude.{ℕ, nat_eq, ◌&&◌, List, [], ◌∷◌, codes, if◌then◌else◌, Option, Some, None, option_map}
 use Rattle.std.specs.Cmp.Lexicographic.{pointwise}
+use Rattle.mrpdu_codec.specs.declared.form.AppForm.{AppForm}
+use Rattle.mrpdu_codec.specs.declared.form.AppForm.TheVariants.{Mvrp, Msrp, Mmrp}
 use Rattle.srpnet.specs.declared.words.Command.{Command}
-use Rattle.srpnet.specs.declared.words.Command.TheVariants.{Ledger, Check, Run, RunJournal, RunBounds, Help, Version}
+use Rattle.srpnet.specs.declared.words.Command.TheVariants.{Ledger, Check, Run, RunJournal, RunBounds, Decode, Help, Version}
 
 -- the rows of one word
 abbrev pub command_of_word : List ℕ → Option Command
@@ -14,6 +16,18 @@ command_of_word word =
     else if pointwise nat_eq word (codes "--version") then Some Version
     else None
 
+-- an application of MRP, by its word
+abbrev pub form_of_word : List ℕ → Option AppForm
+form_of_word word =
+    if pointwise nat_eq word (codes "mvrp") then Some Mvrp
+    else if pointwise nat_eq word (codes "msrp") then Some Msrp
+    else if pointwise nat_eq word (codes "mmrp") then Some Mmrp
+    else None
+
+-- the reading of PDUs of an application, by its word
+abbrev pub decoding_of_word : List ℕ → Option Command
+decoding_of_word word = option_map Decode (form_of_word word)
+
 -- the rows of two words
 abbrev pub command_of_pair : List ℕ → List ℕ → Option Command
 command_of_pair first second =
@@ -21,6 +35,7 @@ command_of_pair first second =
     then Some RunJournal
     else if pointwise nat_eq first (codes "run") && pointwise nat_eq second (codes "bounds")
     then Some RunBounds
+    else if pointwise nat_eq first (codes "decode") then decoding_of_word second
     else None
 
 -- the command of some words, where they match a row

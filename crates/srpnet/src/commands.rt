@@ -1,13 +1,14 @@
 //! The commands: which of them read an input, and what each makes of its octets.
 
-ghost use Rattle.std.specs.Prelude.{◌≡◌, [], IfOk, IfErr};
+ghost use Rattle.std.specs.Prelude.{◌≡◌, ◌≤◌, [], length, IfOk, IfErr};
 ghost use Rattle.srpnet.specs.Commands.{reads_input as reads_input_spec, ending_of, Output, RunsNothing};
 ghost use Rattle.srpnet.specs.Outcomes.{EndsAs};
+ghost use Rattle.srpnet.specs.TopCall.{most_octets};
 
 use crate::outcome::{Cause, no_journal};
 use crate::pages::{HELP, VERSION};
 use crate::words::Command;
-use crate::{bounds, check, ledger, pages, run};
+use crate::{bounds, check, decode, ledger, pages, run};
 use srp_base::Seq;
 use srp_report::Printout;
 use std::alloc::Global;
@@ -41,13 +42,15 @@ pub fn reads_input(command: Command) -> bool
         | Command::Check
         | Command::Run
         | Command::RunJournal
-        | Command::RunBounds => true,
+        | Command::RunBounds
+        | Command::Decode(_) => true,
         Command::Help | Command::Version => false,
     }
 }
 
 /// What a command prints for the octets of its input, with the journal of its run, or why there is nothing to print.
 pub fn output(alloc: Global, command: Command, octets: &[u8]) -> Result<CommandOutput, Cause>
+    requires { length octets.now ≤ most_octets }
     ensures output { IfOk result (λ o. Output command octets.now o.journal.ticks o.text) }
     ensures no_journal { RunsNothing command → IfOk result (λ o. o.journal.ticks ≡ []) }
     ensures ends { EndsAs (ending_of command octets.now) result }
@@ -59,6 +62,7 @@ pub fn output(alloc: Global, command: Command, octets: &[u8]) -> Result<CommandO
         Command::Run => run::output(alloc, octets),
         Command::RunJournal => run::output_with_journal(alloc, octets),
         Command::RunBounds => bounds::output(alloc, octets),
+        Command::Decode(form) => Ok(text_alone(alloc, decode::output(alloc, form, octets)?)),
         Command::Help => Ok(text_alone(alloc, pages::output(alloc, HELP)?)),
         Command::Version => Ok(text_alone(alloc, pages::output(alloc, VERSION)?)),
     }

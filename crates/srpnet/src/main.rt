@@ -8,6 +8,7 @@
 //! |- check   what a scenario holds, by its counts: text
 //! |- run     a network and its frames through the ticks of a scenario, with its journal or without: text
 //! |- bounds  the same, with how long class B waits at each port: limits, text
+//! |- decode  what captured PDUs say
 //! '- pages   --help and --version
 //! scenario   the input of the commands that read a scenario
 //! document   octets to a TOML table
@@ -26,6 +27,7 @@
 mod bounds;
 mod check;
 mod commands;
+mod decode;
 mod document;
 mod ledger;
 mod outcome;

@@ -25,6 +25,12 @@ srpnet: the Stream Reservation Protocol (IEEE Std 802.1Q-2018) over a file
   srpnet run bounds
                     prints the report, and then how long class B waits at each
                     port: at most, and at worst in this run
+  srpnet decode mvrp
+  srpnet decode msrp
+  srpnet decode mmrp
+                    reads captured PDUs of that application on standard input,
+                    one in a line as hexadecimal digits, and prints what each
+                    says, or where it breaks
   srpnet --help     this page
   srpnet --version  the version
 

@@ -1,8 +1,9 @@
 //! The words of the command line.
 
 ghost use Rattle.std.specs.Prelude.{◌≡◌};
-ghost use Rattle.srpnet.specs.Words.{command_of as command_of_spec, command_of_pair, command_of_word};
+ghost use Rattle.srpnet.specs.Words.{command_of as command_of_spec, command_of_pair, command_of_word, form_of_word, decoding_of_word};
 
+use mrpdu_codec::AppForm;
 use srp_base::Seq;
 
 /// What the program can be asked to do, by a row of the table of words each.
@@ -18,6 +19,8 @@ pub enum Command {
     RunJournal,
     /// `run bounds`: does the same, and prints how long class B waits at each port behind the report.
     RunBounds,
+    /// `decode mvrp`, `decode msrp` or `decode mmrp`: reads a capture of PDUs of that application and prints what each says.
+    Decode(AppForm),
     /// `--help`: prints a page of help.
     Help,
     /// `--version`: prints the version.
@@ -60,6 +63,32 @@ fn command_of_pair(first: &[u8], second: &[u8]) -> Option<Command>
         Some(Command::RunJournal)
     } else if first == b"run".as_slice() && second == b"bounds".as_slice() {
         Some(Command::RunBounds)
+    } else if first == b"decode".as_slice() {
+        decoding_of_word(second)
+    } else {
+        None
+    }
+}
+
+// What is to be read as PDUs, by the application's word.
+fn decoding_of_word(word: &[u8]) -> Option<Command>
+    ensures { result ≡ decoding_of_word word.now }
+{
+    match form_of_word(word) {
+        Some(form) => Some(Command::Decode(form)),
+        None => None,
+    }
+}
+
+fn form_of_word(word: &[u8]) -> Option<AppForm>
+    ensures { result ≡ form_of_word word.now }
+{
+    if word == b"mvrp".as_slice() {
+        Some(AppForm::Mvrp)
+    } else if word == b"msrp".as_slice() {
+        Some(AppForm::Msrp)
+    } else if word == b"mmrp".as_slice() {
+        Some(AppForm::Mmrp)
     } else {
         None
     }
