@@ -5,6 +5,7 @@ pub mod AtRest
 pub mod VlanLaw
 pub mod StreamNode
 pub mod StreamNet
+pub mod BookingLaw
 pub mod StreamLaw
 pub mod StreamRest
 pub mod Refusals

@@ -90,7 +90,7 @@ talks-present None = refl
 talks-present (Some t) = refl
 
 -- an entry is a booked one exactly where it has a moment
-entry-booked : (o : Option Entry) → is_some (option_and_then if_booked o) ≡ is_some (option_and_then (λ (x : Entry). x.since) o)
+pub entry-booked : (o : Option Entry) → is_some (option_and_then if_booked o) ≡ is_some (option_and_then (λ (x : Entry). x.since) o)
 entry-booked None = refl
 entry-booked (Some x) = by (is_some x.since) refl
   where

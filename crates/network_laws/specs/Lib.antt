@@ -1,2 +1,3 @@
 pub mod Vlans
 pub mod Streams
+pub mod Bookings

@@ -1,6 +1,6 @@
 //! The laws of a network at rest. Each is a function that does nothing; calling it brings the law to a proof.
 
-ghost use Rattle.std.specs.Prelude.{◌≡◌, ◌↔◌, ℕ, true, false, List, Some, IsSome};
+ghost use Rattle.std.specs.Prelude.{◌≡◌, ◌↔◌, ℕ, true, false, List, Some, IsSome, slice_get};
 ghost use Rattle.std.specs.List.{AllByRecursion};
 ghost use Rattle.srp_base.specs.declared.numbers.EgressPort.{EgressPort};
 ghost use Rattle.srp_base.specs.declared.numbers.StreamId.{StreamId};
@@ -9,18 +9,26 @@ ghost use Rattle.topology_file.specs.Plan.{Plan};
 ghost use Rattle.topology_file.specs.Scenario.{KeepsRules};
 ghost use Rattle.world_core.specs.declared.events.WorldEvent.{WorldEvent};
 ghost use Rattle.world_core.specs.declared.journal.Tick.{Tick};
-ghost use Rattle.world_core.specs.World.{WorldState, CanAllHappen, IsEventInRange, world_after};
+ghost use Rattle.world_core.specs.World.{WorldState, CanAllHappen, IsEventInRange, is_quiet, world_after};
 ghost use Rattle.world_core.specs.Start.{world_of};
 ghost use Rattle.world_core.specs.Duty.{AreStreamDutiesMet, AreVlanDutiesMet};
 ghost use Rattle.world_core.specs.Kept.{IsKeptWorld};
 ghost use Rattle.world_core.specs.Moments.{IsMoment};
 ghost use Rattle.world_core.specs.Ticks.{AreLegalTicks};
+ghost use Rattle.attribute_propagation.specs.Dirty.{is_awaiting};
+ghost use Rattle.msrp.specs.declared.port.Port.{Port};
+ghost use Rattle.msrp.specs.Part.{key_cmp};
+ghost use Rattle.msrp.specs.Side.{awaiting_at};
+ghost use Rattle.node_core.specs.Links.{IsKeptNode};
+ghost use Rattle.node_core.specs.State.{NodeState};
+ghost use Rattle.network_laws.specs.Bookings.{BookingsMatch, IsBookedAsAdvertised};
 ghost use Rattle.network_laws.specs.Vlans.{VlansMatch, IsAtRest, is_registered, is_declared_behind};
 ghost use Rattle.network_laws.specs.declared.streams.Refusal.{Refusal};
 ghost use Rattle.network_laws.specs.Streams.{failure_at, hears_ready, is_listened_at, is_path_booked, is_talked_at, refusal_to, IsNamedAt, IsRefusalTo, IsTalkedOnce, KeepsStreamLaws};
 
 use mrp_participant::marked_link_laws::a_still_marked_link_registers_what_is_declared;
 use msrp::MsrpApp;
+use msrp_codec::MsrpKey;
 use mvrp::MvrpApp;
 use port_ledger::laws::decisions_stand;
 use tree_topology::laws::{ports, the_walk};
@@ -143,4 +151,19 @@ pub fn stream_duties_are_met_in_every_run()
         → IsMoment plan ticks w → AreStreamDutiesMet w }
 {
     every_moment_keeps_it();
+}
+
+/// At every link port of every node a stream of which neither key awaits there is booked, and so goes out there, exactly where
+/// the port declares a Talker Advertise of it and has Listener Ready or Ready Failed of it registered (IEEE Std 802.1Q-2018,
+/// 35.2.4). In a network in which nothing is pending, whatever was lost, it is so of every stream at every port.
+pub fn booked_where_advertised_and_ready()
+    ensures port { (s : NodeState) (at : ℕ) (port : Port) (stream : StreamId) → IsKeptNode s
+        → slice_get s.streams.ports at ≡ Some port
+        → is_awaiting key_cmp (MsrpKey.Talker stream) (awaiting_at at s.streams) ≡ false
+        → is_awaiting key_cmp (MsrpKey.Listener stream) (awaiting_at at s.streams) ≡ false
+        → IsBookedAsAdvertised stream port }
+    ensures network { (w : WorldState) (stream : StreamId) → IsKeptWorld w → is_quiet w ≡ true
+        → BookingsMatch w stream }
+{
+    decisions_stand();
 }
