@@ -1,0 +1,80 @@
+-- What the value at a key has to be: whether a value has a form, and the words of a form. Where a file's definition reads a
+-- value, its reading is cited.
+use Rattle.std.specs.Prelude.{ℕ, Bool, true, false, nat_eq, ◌||◌, List, [], ◌∷◌, codes, Option, Some, None, option_and_then}
+use Rattle.std.specs.Cmp.Lexicographic.{pointwise}
+use Rattle.std.specs.Fmt.{decimal}
+use Rattle.std.specs.List.{list_any}
+use Rattle.std.specs.Option.{is_some}
+use Rattle.srp_base.specs.Bandwidth.{rate_of_mbit}
+use Rattle.srp_base.specs.Hexadecimal.{hex12, hex16}
+use Rattle.srp_base.specs.Text.{whole_of}
+use Rattle.toml.specs.Data.{Members}
+use Rattle.toml_rules.specs.Fields.{number, truth_or, within, text, tables}
+use Rattle.topology_file.specs.Entries.{name_at, kind_of_text}
+use Rattle.topology_file.specs.Kinds.{app_of_text, octets_of_text}
+use Rattle.rule_words.specs.declared.forms.ValueForm.{ValueForm}
+use Rattle.rule_words.specs.declared.forms.ValueForm.TheVariants.{Name, Digits16, Digits12, PduDigits, Number, Within, Rate, Truth, NodeKind, EventKind, App, Class, Tables}
+
+-- ---- values
+
+-- class A or B, by its letter
+abbrev pub class_is_known : List ℕ → Bool
+class_is_known word = pointwise nat_eq word (codes "A") || pointwise nat_eq word (codes "B")
+
+-- the kinds of events
+abbrev pub event_kinds : List (List ℕ)
+event_kinds =
+    codes "declare" ∷ codes "withdraw" ∷ codes "talk" ∷ codes "hush" ∷ codes "listen" ∷ codes "unlisten"
+    ∷ codes "lose" ∷ codes "repeat" ∷ codes "forge" ∷ []
+
+-- one of them
+abbrev pub event_kind_is_known : List ℕ → Bool
+event_kind_is_known word = list_any (λ kind. pointwise nat_eq word kind) event_kinds
+
+-- there is a text, and it passes
+abbrev pub passes : (List ℕ → Bool) → Option (List ℕ) → Bool
+passes test None = false
+passes test (Some word) = test word
+
+-- there is a value of this form at a key
+abbrev pub has_form : ValueForm → List ℕ → Members → Bool
+has_form Name key ms = is_some (name_at key ms)
+has_form Digits16 key ms = is_some (option_and_then hex16 (text key ms))
+has_form Digits12 key ms = is_some (option_and_then hex12 (text key ms))
+has_form PduDigits key ms = is_some (option_and_then octets_of_text (text key ms))
+has_form Number key ms = is_some (number key ms)
+has_form (Within low high) key ms = is_some (within low high (number key ms))
+has_form Rate key ms = is_some (option_and_then rate_of_mbit (number key ms))
+has_form Truth key ms = is_some (truth_or key false ms)
+has_form NodeKind key ms = is_some (option_and_then kind_of_text (text key ms))
+has_form EventKind key ms = passes event_kind_is_known (text key ms)
+has_form App key ms = is_some (option_and_then app_of_text (text key ms))
+has_form Class key ms = passes class_is_known (text key ms)
+has_form Tables key ms = is_some (tables key ms)
+
+-- ---- words
+
+-- the words of a form that are the same at each time
+abbrev pub fixed_words : ValueForm → List ℕ
+fixed_words Name = codes "a text of 1 to 32 characters out of a to z, 0 to 9, - and _"
+fixed_words Digits16 = codes "a text of 16 hexadecimal digits"
+fixed_words Digits12 = codes "a text of 12 hexadecimal digits"
+fixed_words PduDigits = codes "a text of at most 3000 hexadecimal digits, two an octet"
+fixed_words Number = codes "a whole number, 0 or more"
+fixed_words (Within low high) = []
+fixed_words Rate = codes "100, 1000 or 10000"
+fixed_words Truth = codes "true or false"
+fixed_words NodeKind = codes "station or bridge, as a text"
+fixed_words EventKind = codes "declare, withdraw, talk, hush, listen, unlisten, lose, repeat or forge, as a text"
+fixed_words App = codes "mvrp or msrp, as a text"
+fixed_words Class = codes "A or B, as a text"
+fixed_words Tables = codes "an array of tables"
+
+-- a whole number of a range
+abbrev pub range_words : ℕ → ℕ → List ℕ
+range_words low high = whole_of (codes "from " ∷ decimal low ∷ codes " to " ∷ decimal high ∷ codes ", a whole number" ∷ [])
+
+-- what a form asks of a value
+abbrev pub form_words : ValueForm → List ℕ
+form_words (Within low high) = range_words low high
+form_words form = fixed_words form

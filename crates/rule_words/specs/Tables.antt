@@ -1,0 +1,50 @@
+-- The tables of the files: which keys each may have.
+use Rattle.std.specs.Prelude.{Bool, true, false, List, [], ◌∷◌}
+use Rattle.rule_words.specs.declared.keys.Key.{Key}
+use Rattle.rule_words.specs.declared.keys.Key.TheVariants.{Ticks, LeaveTime, Periodic, Nodes, Links, Streams, Events, Frames, Wants, Name, NodeKind, NodeId, A, B, LinkRate, PortRate, DeltaA, DeltaB, Latency, StreamId, Talker, Dest, StreamOctets, IntervalFrames, StreamVid, Priority, Rank, Tick, EventKind, Station, EventVid, StreamName, From, To, Index, App, PduOctets, FrameOctets, At, Count, Every, WantStream, WantClass, WantTick}
+use Rattle.rule_words.specs.declared.tables.TableForm.{TableForm}
+use Rattle.rule_words.specs.declared.tables.TableForm.TheVariants as tables
+
+-- the keys that a table of this form may have, in the order in which they are read
+abbrev pub keys_of : TableForm → List Key
+keys_of tables.Times = Ticks ∷ []
+keys_of tables.Scenario = Nodes ∷ Links ∷ Streams ∷ Events ∷ Frames ∷ Ticks ∷ LeaveTime ∷ Periodic ∷ []
+keys_of tables.Timers = LeaveTime ∷ Periodic ∷ []
+keys_of tables.Node = Name ∷ NodeKind ∷ NodeId ∷ []
+keys_of tables.Link = A ∷ B ∷ LinkRate ∷ DeltaA ∷ DeltaB ∷ Latency ∷ []
+keys_of tables.Stream = Name ∷ Talker ∷ StreamId ∷ Dest ∷ StreamOctets ∷ IntervalFrames ∷ StreamVid ∷ Priority ∷ Rank ∷ []
+keys_of tables.AnyEvent = Tick ∷ EventKind ∷ []
+keys_of tables.VlanEvent = Tick ∷ EventKind ∷ Station ∷ EventVid ∷ []
+keys_of tables.TalkerEvent = Tick ∷ EventKind ∷ StreamName ∷ []
+keys_of tables.ListenerEvent = Tick ∷ EventKind ∷ Station ∷ StreamName ∷ []
+keys_of tables.PduEvent = Tick ∷ EventKind ∷ From ∷ To ∷ Index ∷ []
+keys_of tables.ForgeryEvent = Tick ∷ EventKind ∷ From ∷ To ∷ Index ∷ App ∷ PduOctets ∷ []
+keys_of tables.StreamFrame = StreamName ∷ FrameOctets ∷ At ∷ Count ∷ Every ∷ []
+keys_of tables.PairFrame = From ∷ To ∷ StreamVid ∷ FrameOctets ∷ At ∷ Count ∷ Every ∷ []
+keys_of tables.Port = PortRate ∷ DeltaA ∷ DeltaB ∷ Wants ∷ []
+keys_of tables.Shares = DeltaA ∷ DeltaB ∷ []
+keys_of tables.WantArray = Wants ∷ []
+keys_of tables.Want = WantStream ∷ WantClass ∷ Rank ∷ IntervalFrames ∷ FrameOctets ∷ WantTick ∷ []
+
+-- whether a table of this form has no other keys; of the others only a part is looked at
+abbrev pub is_closed : TableForm → Bool
+is_closed tables.Times = false
+is_closed tables.Timers = false
+is_closed tables.AnyEvent = false
+is_closed tables.Shares = false
+is_closed tables.WantArray = false
+is_closed _ = true
+
+-- the keys whose values, each right by itself, may be wrong together or beside the file's times
+abbrev pub keys_together : TableForm → List Key
+keys_together tables.Link = DeltaA ∷ DeltaB ∷ []
+keys_together tables.AnyEvent = Tick ∷ []
+keys_together tables.VlanEvent = Tick ∷ []
+keys_together tables.TalkerEvent = Tick ∷ []
+keys_together tables.ListenerEvent = Tick ∷ []
+keys_together tables.PduEvent = Tick ∷ []
+keys_together tables.ForgeryEvent = Tick ∷ []
+keys_together tables.StreamFrame = At ∷ Count ∷ Every ∷ []
+keys_together tables.PairFrame = At ∷ Count ∷ Every ∷ []
+keys_together tables.Shares = DeltaA ∷ DeltaB ∷ []
+keys_together _ = []

@@ -1,0 +1,176 @@
+//! What each rule asks, and of which array it names an entry.
+
+ghost use Rattle.std.specs.Prelude.{◌≡◌};
+ghost use Rattle.rule_words.specs.Asked.{file_asks as file_asks_spec, node_asks as node_asks_spec, link_asks as link_asks_spec, stream_asks as stream_asks_spec, event_asks as event_asks_spec, frame_asks as frame_asks_spec, ledger_asks as ledger_asks_spec, what_rule_asks as what_rule_asks_spec, array_of as array_of_spec, asks_of_file as asks_of_file_spec};
+
+use crate::keys::Key;
+
+// What the rules on a scenario's file as a whole ask.
+fn file_asks(rule: u8) -> &'static str
+    ensures { result.now ≡ file_asks_spec rule }
+{
+    if rule == 1 {
+        "ticks is a whole number from 1 to 12000"
+    } else if rule == 2 {
+        "the keys of the file are known, and node, link, stream, event and frame are arrays of tables"
+    } else if rule == 3 {
+        "leave_time is a whole number from 60 to 100, and periodic true or false"
+    } else if rule == 5 {
+        "there are 2 to 64 nodes, and nodes times ticks are at most 400000"
+    } else {
+        ""
+    }
+}
+
+// What those on nodes ask.
+fn node_asks(rule: u8) -> &'static str
+    ensures { result.now ≡ node_asks_spec rule }
+{
+    if rule == 4 {
+        "each node has its form: known keys alone, none missing that has no default, each in its range"
+    } else if rule == 6 {
+        "node names differ"
+    } else if rule == 7 {
+        "node ids differ, defaults included"
+    } else if rule == 13 {
+        "every node is reached from the first one"
+    } else if rule == 14 {
+        "each station has exactly one link"
+    } else if rule == 15 {
+        "each node has at most 16 links"
+    } else {
+        ""
+    }
+}
+
+// What those on links ask.
+fn link_asks(rule: u8) -> &'static str
+    ensures { result.now ≡ link_asks_spec rule }
+{
+    if rule == 8 {
+        "each link has its form: known keys alone, none missing that has no default, each in its range, delta_a and delta_b together at most 90"
+    } else if rule == 9 {
+        "the ends of each link are names of nodes"
+    } else if rule == 10 {
+        "no link joins a node with itself"
+    } else if rule == 11 {
+        "no two links join the same nodes"
+    } else if rule == 12 {
+        "no link joins nodes that earlier links already join"
+    } else {
+        ""
+    }
+}
+
+// What those on streams ask.
+fn stream_asks(rule: u8) -> &'static str
+    ensures { result.now ≡ stream_asks_spec rule }
+{
+    if rule == 16 {
+        "each stream has its form: known keys alone, none missing that has no default, each in its range; and there are at most 128"
+    } else if rule == 17 {
+        "stream names differ"
+    } else if rule == 18 {
+        "stream ids differ"
+    } else if rule == 19 {
+        "the talker of each stream is a station"
+    } else {
+        ""
+    }
+}
+
+// What those on events ask.
+fn event_asks(rule: u8) -> &'static str
+    ensures { result.now ≡ event_asks_spec rule }
+{
+    if rule == 20 {
+        "each event has its form: the keys of its kind alone, each in its range, its tick below the ticks of the file; and there are at most 10000"
+    } else if rule == 21 {
+        "the ticks of events do not fall"
+    } else if rule == 22 {
+        "what events name is known: stations are stations, streams are streams, from and to are joined by a link, and who listens to a stream does not talk in it"
+    } else {
+        ""
+    }
+}
+
+// What those on frames ask.
+fn frame_asks(rule: u8) -> &'static str
+    ensures { result.now ≡ frame_asks_spec rule }
+{
+    if rule == 23 {
+        "each frame has its form: known keys alone, none missing that has no default, each in its range, its last copy before the end of the run; and the copies so far are at most 100000"
+    } else if rule == 24 {
+        "the stream of each frame is known, or from and to are two different stations"
+    } else {
+        ""
+    }
+}
+
+// What the rules of a ledger file ask.
+fn ledger_asks(rule: u8) -> &'static str
+    ensures { result.now ≡ ledger_asks_spec rule }
+{
+    if rule == 31 {
+        "the keys of the file are known, and rate is there and is 100, 1000 or 10000"
+    } else if rule == 32 {
+        "delta_a and delta_b are 0 to 90, and together at most 90"
+    } else if rule == 33 {
+        "want is an array of at most 10000 tables, each with its form: known keys alone, none missing that has no default, each in its range"
+    } else if rule == 34 {
+        "the ticks of wants do not fall"
+    } else if rule == 35 {
+        "there are at most 128 different streams"
+    } else {
+        ""
+    }
+}
+
+/// What a rule asks; a number that is no rule's has no words.
+pub fn what_rule_asks(rule: u8) -> &'static str
+    ensures { result.now ≡ what_rule_asks_spec rule }
+{
+    match array_of(rule) {
+        Some(Key::Nodes) => node_asks(rule),
+        Some(Key::Links) => link_asks(rule),
+        Some(Key::Streams) => stream_asks(rule),
+        Some(Key::Events) => event_asks(rule),
+        Some(Key::Frames) => frame_asks(rule),
+        Some(Key::Wants) => ledger_asks(rule),
+        _ => asks_of_file(rule),
+    }
+}
+
+/// The array of the entries that a rule speaks of; None where it speaks of the file as a whole.
+pub(crate) fn array_of(rule: u8) -> Option<Key>
+    ensures { result ≡ array_of_spec rule }
+{
+    if rule == 4 || rule == 6 || rule == 7 {
+        Some(Key::Nodes)
+    } else if 8 <= rule && rule <= 12 {
+        Some(Key::Links)
+    } else if 13 <= rule && rule <= 15 {
+        Some(Key::Nodes)
+    } else if 16 <= rule && rule <= 19 {
+        Some(Key::Streams)
+    } else if 20 <= rule && rule <= 22 {
+        Some(Key::Events)
+    } else if 23 <= rule && rule <= 24 {
+        Some(Key::Frames)
+    } else if 33 <= rule && rule <= 35 {
+        Some(Key::Wants)
+    } else {
+        None
+    }
+}
+
+// What a rule on a file as a whole asks: a scenario's, or a ledger file's.
+fn asks_of_file(rule: u8) -> &'static str
+    ensures { result.now ≡ asks_of_file_spec rule }
+{
+    if rule <= 30 {
+        file_asks(rule)
+    } else {
+        ledger_asks(rule)
+    }
+}

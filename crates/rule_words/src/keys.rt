@@ -1,0 +1,204 @@
+//! The keys of the files: the word of each, what its value has to be, and whether it has to be there.
+
+ghost use Rattle.std.specs.Prelude.{◌≡◌};
+ghost use Rattle.rule_words.specs.Keys.{word_of as word_of_spec, form_of as form_of_spec, is_needed as is_needed_spec};
+
+use crate::forms::ValueForm;
+
+/// A key of a file. Two keys of one word have each its own form, or only one of them has a default.
+#[derive(Clone, Copy, PartialEq, Eq)]
+pub(crate) enum Key {
+    /// The keys of a scenario's file: how long its run is.
+    Ticks,
+    /// LeaveTime of MRP.
+    LeaveTime,
+    /// Whether participants transmit periodically.
+    Periodic,
+    /// Its arrays of tables.
+    Nodes,
+    Links,
+    Streams,
+    Events,
+    Frames,
+    /// The array of tables of a ledger file.
+    Wants,
+    /// The name of a node or of a stream.
+    Name,
+    /// The keys of a node.
+    NodeKind,
+    NodeId,
+    /// The keys of a link: its ends.
+    A,
+    B,
+    /// Its rate.
+    LinkRate,
+    /// The rate of a ledger file's port.
+    PortRate,
+    /// The shares of the SR classes A and B.
+    DeltaA,
+    DeltaB,
+    /// The latency of a link.
+    Latency,
+    /// The keys of a stream.
+    StreamId,
+    Talker,
+    Dest,
+    StreamOctets,
+    IntervalFrames,
+    /// The VID of a stream, or of a frame beside the streams.
+    StreamVid,
+    Priority,
+    Rank,
+    /// The keys of an event.
+    Tick,
+    EventKind,
+    Station,
+    EventVid,
+    StreamName,
+    From,
+    To,
+    Index,
+    App,
+    PduOctets,
+    /// The octets of a frame, and of the frames of a want.
+    FrameOctets,
+    /// The moments of a frame's copies.
+    At,
+    Count,
+    Every,
+    /// The keys of a want.
+    WantStream,
+    WantClass,
+    WantTick,
+}
+
+/// The word of a key, as it stands in a file.
+pub(crate) fn word_of(key: Key) -> &'static str
+    ensures { result.now ≡ word_of_spec key }
+{
+    match key {
+        Key::Ticks => "ticks",
+        Key::LeaveTime => "leave_time",
+        Key::Periodic => "periodic",
+        Key::Nodes => "node",
+        Key::Links => "link",
+        Key::Streams | Key::StreamName | Key::WantStream => "stream",
+        Key::Events => "event",
+        Key::Frames => "frame",
+        Key::Wants => "want",
+        Key::Name => "name",
+        Key::NodeKind | Key::EventKind => "kind",
+        Key::NodeId | Key::StreamId => "id",
+        Key::A => "a",
+        Key::B => "b",
+        Key::LinkRate | Key::PortRate => "rate",
+        Key::DeltaA => "delta_a",
+        Key::DeltaB => "delta_b",
+        Key::Latency => "latency",
+        Key::Talker => "talker",
+        Key::Dest => "dest",
+        Key::StreamOctets | Key::PduOctets | Key::FrameOctets => "octets",
+        Key::IntervalFrames => "frames",
+        Key::StreamVid | Key::EventVid => "vid",
+        Key::Priority => "priority",
+        Key::Rank => "rank",
+        Key::Tick | Key::WantTick => "tick",
+        Key::Station => "station",
+        Key::From => "from",
+        Key::To => "to",
+        Key::Index => "index",
+        Key::App => "app",
+        Key::At => "at",
+        Key::Count => "count",
+        Key::Every => "every",
+        Key::WantClass => "class",
+    }
+}
+
+/// What the value at a key has to be.
+pub(crate) fn form_of(key: Key) -> ValueForm
+    ensures { result ≡ form_of_spec key }
+{
+    match key {
+        Key::Ticks => ValueForm::Within {
+            low: 1,
+            high: 12_000,
+        },
+        Key::LeaveTime => ValueForm::Within { low: 60, high: 100 },
+        Key::Periodic => ValueForm::Truth,
+        Key::Nodes | Key::Links | Key::Streams | Key::Events | Key::Frames | Key::Wants =>
+            ValueForm::Tables,
+        Key::Name
+        | Key::A
+        | Key::B
+        | Key::Talker
+        | Key::Station
+        | Key::StreamName
+        | Key::From
+        | Key::To => ValueForm::Name,
+        Key::NodeKind => ValueForm::NodeKind,
+        Key::NodeId | Key::StreamId | Key::WantStream => ValueForm::Digits16,
+        Key::LinkRate | Key::PortRate => ValueForm::Rate,
+        Key::DeltaA | Key::DeltaB => ValueForm::Within { low: 0, high: 90 },
+        Key::Latency => ValueForm::Within {
+            low: 0,
+            high: 4_294_967_295,
+        },
+        Key::Dest => ValueForm::Digits12,
+        Key::StreamOctets | Key::IntervalFrames | Key::Index => ValueForm::Within {
+            low: 0,
+            high: 65_535,
+        },
+        Key::StreamVid | Key::EventVid => ValueForm::Within {
+            low: 1,
+            high: 4_094,
+        },
+        Key::Priority => ValueForm::Within { low: 0, high: 7 },
+        Key::Rank => ValueForm::Within { low: 0, high: 1 },
+        Key::Tick | Key::At | Key::Every => ValueForm::Number,
+        Key::EventKind => ValueForm::EventKind,
+        Key::App => ValueForm::App,
+        Key::PduOctets => ValueForm::PduDigits,
+        Key::FrameOctets => ValueForm::Within {
+            low: 0,
+            high: 1_500,
+        },
+        Key::Count => ValueForm::Within {
+            low: 1,
+            high: 100_000,
+        },
+        Key::WantClass => ValueForm::Class,
+        Key::WantTick => ValueForm::Within {
+            low: 0,
+            high: 11_999,
+        },
+    }
+}
+
+/// Whether a key has to be there; the others have a default.
+pub(crate) fn is_needed(key: Key) -> bool
+    ensures { result ≡ is_needed_spec key }
+{
+    match key {
+        Key::LeaveTime
+        | Key::Periodic
+        | Key::Nodes
+        | Key::Links
+        | Key::Streams
+        | Key::Events
+        | Key::Frames
+        | Key::Wants
+        | Key::NodeId
+        | Key::LinkRate
+        | Key::DeltaA
+        | Key::DeltaB
+        | Key::Latency
+        | Key::StreamVid
+        | Key::Priority
+        | Key::Rank
+        | Key::Count
+        | Key::Every
+        | Key::WantTick => false,
+        _ => true,
+    }
+}
