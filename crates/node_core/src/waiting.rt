@@ -1,13 +1,12 @@
 //! What waits at a link port, and whether it has LeaveAll, or what is next sent there.
 
-ghost use Rattle.std.specs.Prelude.{◌≡◌, ◌≤◌, length, IfOk};
+ghost use Rattle.std.specs.Prelude.{◌≡◌, ◌<◌, ◌^◌, length, IfOk};
 ghost use Rattle.attribute_propagation.specs.Ports.{IsLinkPort, place_of};
 ghost use Rattle.mvrp_codec.specs.Meaning.{mvrp_reading};
 ghost use Rattle.msrp_codec.specs.Meaning.{msrp_reading};
 ghost use Rattle.mrp_participant.specs.State.{is_active};
 ghost use Rattle.node_core.specs.Leaving.{vlans_leave, streams_leave, has_leave_all, is_leave_all_at};
 ghost use Rattle.node_core.specs.State.{ports_of, box_at};
-ghost use Rattle.node_core.specs.Wires.{IsShort};
 
 use crate::node::{Node, copied_wires};
 use crate::types::Wire;
@@ -48,9 +47,10 @@ impl Node {
     }
 }
 
-/// Whether what the octets of a PDU of at most 1,500 octets say has LeaveAll; malformed octets say nothing.
+/// Whether what the octets of a PDU say has LeaveAll; malformed octets say nothing. There are fewer than 2^32 octets, as each
+/// `decode` asks.
 pub fn wire_leaves(alloc: Global, wire: &Wire) -> Result<bool, NoMemory>
-    requires { IsShort wire.now }
+    requires { length wire.now.octets < 2 ^ 32 }
     ensures { IfOk result (λ leaves. leaves ≡ has_leave_all wire.now) }
 {
     match wire.app {
@@ -68,7 +68,7 @@ fn is_on(machine: LeaveAll) -> bool
 
 // Whether octets of MVRP have LeaveAll.
 fn vlans_leave_in(alloc: Global, octets: &[u8]) -> Result<bool, NoMemory>
-    requires { length octets.now ≤ 1500 }
+    requires { length octets.now < 2 ^ 32 }
     ensures { IfOk result (λ leaves. leaves ≡ vlans_leave (mvrp_reading octets.now)) }
 {
     match mvrp_codec::decode(alloc, octets) {
@@ -80,7 +80,7 @@ fn vlans_leave_in(alloc: Global, octets: &[u8]) -> Result<bool, NoMemory>
 
 // Whether octets of MSRP have LeaveAll.
 fn streams_leave_in(alloc: Global, octets: &[u8]) -> Result<bool, NoMemory>
-    requires { length octets.now ≤ 1500 }
+    requires { length octets.now < 2 ^ 32 }
     ensures { IfOk result (λ leaves. leaves ≡ streams_leave (msrp_reading octets.now)) }
 {
     match msrp_codec::decode(alloc, octets) {
