@@ -1,6 +1,6 @@
 //! Streams that come to a port and leave. More of them, by what is printed, are the files of examples/.
 
-ghost use Rattle.std.specs.Prelude.{◌≡◌, ◌≤◌, IfSome, OnOk};
+ghost use Rattle.std.specs.Prelude.{◌≡◌, ◌+◌, ◌^◌, ◌≤◌, ◌<◌, IfSome, OnOk};
 
 use port_ledger::{Changed, Ledger};
 use srp_base::{Class, Cs, NoMemory, Percent, Rank, Rate, StreamId};
@@ -13,10 +13,16 @@ const SMALL: u64 = 15_488_000;
 fn new_ledger(alloc: Global, delta_a: u64, delta_b: u64) -> Option<Ledger>
     ensures { IfSome result (λ l. l.moment ≡ 0) }
 {
+    new_ledger_of(alloc, Rate::M100, delta_a, delta_b)
+}
+
+fn new_ledger_of(alloc: Global, rate: Rate, delta_a: u64, delta_b: u64) -> Option<Ledger>
+    ensures { IfSome result (λ l. l.moment ≡ 0) }
+{
     let a = Percent::new(delta_a)?;
     let b = Percent::new(delta_b)?;
     if a.get() + b.get() <= 90 {
-        Some(Ledger::new(alloc, Rate::M100, a, b))
+        Some(Ledger::new(alloc, rate, a, b))
     } else {
         None
     }
@@ -215,4 +221,132 @@ fn is_evicted(alloc: Global) -> bool {
 #[test]
 fn entries_ascend_and_bookings_are_compared(rt: HostRuntime) {
     assert!(rt; is_evicted(rt.alloc()));
+}
+
+/// A want of class B and rank 1, of 400 octets and one frame.
+fn large_of_class_b(stream: u64) -> Want {
+    want_of(stream, Class::B, Rank::Normal, 14_144_000)
+}
+
+/// Whether three small streams are taken at moment 0, and one of class B at 1.
+fn takes_both_classes(ledger: &mut Ledger) -> Result<bool, NoMemory>
+    requires { ledger.old.moment ≡ 0 }
+    ensures { OnOk result (ledger.new.moment ≤ 1) }
+{
+    for stream in 1..4u64 {
+        if !takes(ledger, Cs(0), small(stream), &[StreamId(stream)])? {
+            return Ok(false);
+        }
+    }
+    takes(ledger, Cs(1), large_of_class_b(4), &[StreamId(4)])
+}
+
+/// Whether a fourth small stream is refused at moment 2.
+fn refuses_the_fourth(ledger: &mut Ledger) -> Result<bool, NoMemory>
+    requires { ledger.old.moment ≤ 2 }
+    ensures { OnOk result (ledger.new.moment ≡ 2) }
+{
+    let refused = Fit::TooLittle {
+        more_important: 46_464_000,
+        cap: 50_000_000,
+        code: 1,
+    };
+    let kept = takes(ledger, Cs(2), small(5), &[])?;
+    Ok(kept && ledger.booked(StreamId(5)).is_none() && ledger.fits(Cs(2), &small(5)) == refused)
+}
+
+/// Whether the refused stream is booked once the first has left, and that of class B stays.
+fn takes_the_first_one_out(ledger: &mut Ledger) -> bool
+    requires { ledger.old.moment ≤ 3 }
+{
+    let slopes = (ledger.slope(Class::A), ledger.slope(Class::B));
+    ledger.unwant(Cs(3), StreamId(1))
+        && slopes == (46_464_000, 14_144_000)
+        && is_booked(ledger, 5, 3)
+        && is_booked(ledger, 4, 1)
+}
+
+fn fill_a_place(ledger: &mut Ledger) -> Result<bool, NoMemory>
+    requires { ledger.old.moment ≡ 0 }
+{
+    Ok(
+        takes_both_classes(ledger)?
+            && refuses_the_fourth(ledger)?
+            && takes_the_first_one_out(ledger),
+    )
+}
+
+/// Whether in a new ledger, of 50 and 25 percent, a place that comes free is filled.
+fn is_filled(alloc: Global) -> bool {
+    match new_ledger(alloc, 50, 25) {
+        Some(mut ledger) => fill_a_place(&mut ledger) == Ok(true),
+        None => false,
+    }
+}
+
+#[test]
+fn a_place_that_comes_free_is_filled(rt: HostRuntime) {
+    assert!(rt; is_filled(rt.alloc()));
+}
+
+/// Takes streams of slope 1, from the first up to the last, each at the moment before its number.
+fn take_many(ledger: &mut Ledger, class: Class, first: u64, last: u64) -> Result<(), NoMemory>
+    requires first { ledger.old.moment + 1 ≤ first }
+    requires last { last < 2 ^ 63 }
+{
+    for stream in first..last + 1 {
+        ledger.want(Cs(stream - 1), want_of(stream, class, Rank::Normal, 1))?;
+    }
+    Ok(())
+}
+
+/// How many streams come in turn. Where each call decided all of them, that would take days.
+const MANY: u64 = 1_000_000;
+
+fn takes_a_million(ledger: &mut Ledger) -> Result<bool, NoMemory>
+    requires { ledger.old.moment ≡ 0 }
+{
+    take_many(ledger, Class::A, 1, MANY)?;
+    let total = u128::from(MANY);
+    Ok(
+        is_booked(ledger, 1, 0)
+            && is_booked(ledger, MANY, MANY - 1)
+            && ledger.slope(Class::A) == total,
+    )
+}
+
+/// Whether a new ledger of 10 Gb/s and 75 percent takes so many streams in turn.
+fn are_a_million_taken(alloc: Global) -> bool {
+    match new_ledger_of(alloc, Rate::G10, 75, 0) {
+        Some(mut ledger) => takes_a_million(&mut ledger) == Ok(true),
+        None => false,
+    }
+}
+
+#[test]
+fn a_million_streams_come_in_turn(rt: HostRuntime) {
+    assert!(rt; are_a_million_taken(rt.alloc()));
+}
+
+/// The same behind a stream that doesn't fit: one that waits doesn't make the others be decided at each call.
+fn takes_a_million_behind_one(ledger: &mut Ledger) -> Result<bool, NoMemory>
+    requires { ledger.old.moment ≡ 0 }
+{
+    let waiting = want_of(0, Class::A, Rank::Normal, 10_000_000_000);
+    let waits = takes(ledger, Cs(0), waiting, &[])?;
+    take_many(ledger, Class::B, 1, MANY)?;
+    let total = u128::from(MANY);
+    Ok(waits && is_booked(ledger, MANY, MANY - 1) && ledger.slope(Class::B) == total)
+}
+
+fn are_a_million_taken_behind_one(alloc: Global) -> bool {
+    match new_ledger_of(alloc, Rate::G10, 25, 50) {
+        Some(mut ledger) => takes_a_million_behind_one(&mut ledger) == Ok(true),
+        None => false,
+    }
+}
+
+#[test]
+fn a_million_streams_come_in_turn_behind_one_that_waits(rt: HostRuntime) {
+    assert!(rt; are_a_million_taken_behind_one(rt.alloc()));
 }

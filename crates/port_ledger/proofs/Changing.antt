@@ -1,11 +1,11 @@
 -- How a want that comes and an entry that goes lead to entries that are decided from a place of their order on.
-use Rattle.std.proofs.Common.{◌≡◌, ◌≢◌, ℕ, ◌+◌, ◌≤◌, ◌<◌, ◌^◌, Bool, true, false, not, ◌&&◌, ◌==◌, cond, List, [], ◌∷◌, ◌++◌, map, length, take, drop, Option, Some, None, is_some, refl, sym, ◌∙◌, ap, subst, arith, append_assoc, true≢false, inl, inr}
+use Rattle.std.proofs.Common.{◌≡◌, ◌≢◌, ℕ, ◌+◌, ◌≤◌, ◌<◌, ◌^◌, Bool, true, false, not, ◌&&◌, ◌||◌, ◌==◌, cond, List, [], ◌∷◌, ◌++◌, map, length, take, drop, Option, Some, None, is_some, refl, sym, ◌∙◌, ap, subst, arith, append_assoc, true≢false, inl, inr}
 use Rattle.std.specs.Prelude.{nat_lt}
 use Rattle.std.specs.List.{AllByRecursion}
 use Rattle.std.specs.List.Sorted.{IsPermutation}
 use Rattle.std.specs.Ordering.{is_lt, nat_cmp}
 use Rattle.std.proofs.lemmas.Bool.Decides.{nat_tests}
-use Rattle.std.proofs.lemmas.Bool.{and_from, cases_Bool, eq-eqb, eqb-true, ne_eqb, not_from_false}
+use Rattle.std.proofs.lemmas.Bool.{and_from, and_parts, cases_Bool, eq-eqb, eqb-true, ne_eqb, not_from_false}
 use Rattle.std.proofs.lemmas.List.{length-take-le, take-append-drop}
 use Rattle.srp_base.specs.declared.bandwidth.Class.TheVariants.{A, B}
 use Rattle.srp_base.specs.declared.numbers.StreamId.{StreamId}
@@ -16,8 +16,8 @@ use Rattle.stream_importance.specs.Importance.{is_more_important, moment_or, IsI
 use Rattle.port_ledger.specs.declared.front.Standing.{Standing}
 use Rattle.port_ledger.specs.declared.totals.Totals.{Totals}
 use Rattle.port_ledger.specs.Book.{Book, booked_slope, entry_of, entry_with, has_new_booking, same_want, unbooked_entry, with_want, without}
-use Rattle.port_ledger.specs.Decision.{stream_of, does_fit, is_booked, marked_set, marks_of, AreOfDifferentStreams, IsAscending}
-use Rattle.port_ledger.specs.Front.{AreBehind, ArePrior, ArePriorTo, IsFront, IsOrdered, IsOrderedBook, IsSettled, later_standing, Runs}
+use Rattle.port_ledger.specs.Decision.{stream_of, comes_after, does_fit, is_booked, marked_set, marks_of, AreOfDifferentStreams, IsAscending}
+use Rattle.port_ledger.specs.Front.{AreBehind, ArePriorTo, IsAhead, IsBehind, IsFront, IsOrdered, IsOrderedBook, IsSettled, later_standing, Runs, same_level}
 use Rattle.port_ledger.specs.Pass.{order_with, with_want_in_place}
 use Rattle.port_ledger.specs.Totals.{totals_of}
 use Rattle.port_ledger.proofs.Deciding.{different_right}
@@ -27,7 +27,7 @@ use Rattle.port_ledger.proofs.Marking.{choice_above, different_from_ascending, m
 use Rattle.port_ledger.proofs.Moving.{order_with_permuted, without_permuted}
 use Rattle.port_ledger.proofs.Ranking.{all_permuted, different_permuted, holds_permuted}
 use Rattle.port_ledger.proofs.Running.{all_with, Holds}
-use Rattle.port_ledger.proofs.Settling.{ahead_settled, all_join, all_left, IsAhead, IsBehind, runs_front, settled_ahead, settled_later, settled_less, settled_within}
+use Rattle.port_ledger.proofs.Settling.{all_join, all_left, runs_front, settled_later, settled_seam}
 use Rattle.port_ledger.proofs.TotalsLemmas.{new_any, slope-permuted, totals_fit, totals_later, totals-permuted}
 
 -- ---- whose stream stands in no front
@@ -65,15 +65,20 @@ apart now o s None es f r d p h prior =
 apart now o s (Some e) es f r d p h prior =
     all_with f (all_left (λ y. stream_of y ≡ s.0 → y ≡ e) f r (all_permuted (λ y. stream_of y ≡ s.0 → y ≡ e) es (f ++ r) p (one_found s e es d h))) prior
     (λ y only before same.
-    let itself : is_more_important now e e ≡ true = subst (λ (z : Entry). is_more_important now z e ≡ true) (only same) before in
+    let first = (and_parts (is_more_important now y e) (is_booked y || not (same_level y e)) before).0 in
+    let itself : is_more_important now e e ≡ true = subst (λ (z : Entry). is_more_important now z e ≡ true) (only same) first in
     o.strict e e itself itself)
 
 -- ---- the other entries behind a front
 
-behind_new : (now : ℕ) (x : Entry) (f : List Entry) → AllByRecursion (λ y. stream_of y ≢ stream_of x) f → ArePrior now x f → IsBehind now f x
+behind_new : (now : ℕ) (x : Entry) (f : List Entry) → AllByRecursion (λ y. stream_of y ≢ stream_of x) f → ArePriorTo now (Some x) f → IsBehind now f x
 behind_new now x f ne prior =
     all_with f ne prior
-    (λ y n h. and_from (not (stream_of y == stream_of x)) (is_more_important now y x) (not_from_false (stream_of y == stream_of x) (ne_eqb (stream_of y) (stream_of x) n)) h)
+    (λ y n h.
+    let parts = and_parts (is_more_important now y x) (is_booked y || not (same_level y x)) h in
+    and_from (comes_after now x y) (is_booked y || not (same_level y x))
+    (and_from (not (stream_of y == stream_of x)) (is_more_important now y x) (not_from_false (stream_of y == stream_of x) (ne_eqb (stream_of y) (stream_of x) n)) parts.0)
+    parts.1)
 
 all_in_place : (P : Entry → Type 0) (want : Want) (xs : List Entry) → P (unbooked_entry want) → AllByRecursion P xs → AllByRecursion P (with_want_in_place xs want)
 all_in_place P want [] new h = tt
@@ -125,7 +130,7 @@ module _ (now : ℕ) (o : IsImportanceOrder now) (caps : Caps) (standing : Stand
       (all_with es fits fits (λ x k _. k ∙ (ap (λ set. does_fit now caps set x) (marked-map is_booked es) ∙ sym (choice_above is_booked now caps es x))))
 
   pub book_settled : standing.settled ≤ length order
-  book_settled = settled_within now standing.settled order h.ordered.settled
+  book_settled = h.ordered.settled.within
 
   pub book_totals : standing.totals ≡ totals_of now order
   book_totals = h.ordered.totals ∙ sym (totals-permuted now es order h.ordered.same)
@@ -140,7 +145,7 @@ module _ (now : ℕ) (o : IsImportanceOrder now) (caps : Caps) (standing : Stand
   different : AreOfDifferentStreams es
   different = different_from_ascending es h.kept.ascending
 
-  module _ (place : ℕ) (le : place ≤ standing.settled) where
+  module _ (place : ℕ) (s : IsSettled now place order) where
     abbrev f : List Entry
     f = take place order
 
@@ -148,7 +153,7 @@ module _ (now : ℕ) (o : IsImportanceOrder now) (caps : Caps) (standing : Stand
     r = drop place order
 
     pub book_place : place ≤ length order
-    book_place = let most = book_settled in omega (arith, le, most)
+    book_place = s.within
 
     parts : IsPermutation es (f ++ r)
     parts = subst (λ (ys : List Entry). IsPermutation es ys) (sym (take-append-drop place order)) h.ordered.same
@@ -156,11 +161,11 @@ module _ (now : ℕ) (o : IsImportanceOrder now) (caps : Caps) (standing : Stand
     pub book_different : AreOfDifferentStreams r
     book_different = different_right f r (different_permuted es (f ++ r) parts different)
 
-    settled_at : IsSettled now place order
-    settled_at = settled_less now place standing.settled order le h.ordered.settled
-
     is_ahead : IsAhead now f r
-    is_ahead = settled_ahead now place order settled_at
+    is_ahead = s.ahead
+
+    all_holds : AllByRecursion (Holds now caps 0 is_booked (f ++ r)) (f ++ r)
+    all_holds = subst (λ (ys : List Entry). AllByRecursion (Holds now caps 0 is_booked ys) ys) (sym (take-append-drop place order)) holds
 
     pub book_behind : AreBehind f r es
     book_behind = record { ascending = h.kept.ascending; same = parts }
@@ -176,14 +181,14 @@ module _ (now : ℕ) (o : IsImportanceOrder now) (caps : Caps) (standing : Stand
           range = h.range;
           moments = moments;
           same = same;
-          settled = ahead_settled now 0 f rest (record { booked = is_ahead.booked; ranked = is_ahead.ranked; behind = behind }) tt place (omega (arith, long));
-          stays = subst (λ (ys : List Entry). Runs caps 0 is_booked ys) (sym cut) (runs_front now o caps 0 place is_booked order settled_at holds);
+          settled = settled_seam now place f rest long (record { lasting = is_ahead.lasting; behind = behind });
+          stays = subst (λ (ys : List Entry). Runs caps 0 is_booked ys) (sym cut) (runs_front now o caps 0 is_booked f r is_ahead all_holds);
           totals = e ∙ ap (totals_of now) (sym cut);
         }
 
     -- a want that isn't kept comes
     pub want_comes : (front : Totals) (want : Want) (known : Bool) (goes : Option Entry) → front ≡ totals_of now f → entry_of es want.stream ≡ goes → known ≡ is_some goes
-        → ArePriorTo now goes f → ArePrior now (unbooked_entry want) f
+        → ArePriorTo now goes f → ArePriorTo now (Some (unbooked_entry want)) f
         → IsFront now caps place front (with_want es want) (f ++ order_with r want known)
     want_comes front want known goes e found k old new =
         let ne : AllByRecursion (λ y. stream_of y ≢ want.stream.0) f = apart now o want.stream goes es f r different parts found old in

@@ -10,16 +10,17 @@ use Rattle.stream_importance.specs.Importance.{moment_or, IsImportanceOrder}
 use Rattle.port_ledger.specs.declared.totals.Totals.{Totals}
 use Rattle.port_ledger.specs.Book.{booked_slope}
 use Rattle.port_ledger.specs.Decision.{entry_slope, is_booked, since_after, decided_entries, IsAscending, AreOfDifferentStreams}
-use Rattle.port_ledger.specs.Front.{booked_front, IsOrdered}
+use Rattle.port_ledger.specs.Front.{settled_front, IsAhead, IsBehind, IsOrdered}
 use Rattle.port_ledger.specs.Pass.{importance_order, has_room, sum_with, entries_passed, with_pass, IsOnlyIn}
 use Rattle.port_ledger.specs.Totals.{together, totals_of}
 use Rattle.port_ledger.proofs.Keeping.{ascending_after}
+use Rattle.port_ledger.proofs.Levels.{behind_decided}
 use Rattle.port_ledger.proofs.Marking.{different_from_ascending}
 use Rattle.port_ledger.proofs.Passing.{only_own, pass_decides, pass_keeps, ranked_only, runs_on, sum_with-cond, with_since-own}
 use Rattle.port_ledger.proofs.Ranking.{IsPermutation-ranked, ranked_is_ranked, all_permuted, different_permuted}
 use Rattle.port_ledger.proofs.Rounds.{decided_decides}
 use Rattle.port_ledger.proofs.Running.{all_with, part, sum-filter, Runs}
-use Rattle.port_ledger.proofs.Settling.{ahead_ranked, ahead_settled, all_left, all_right, booked_settled, IsAhead, IsBehind, ranked_own, sinks}
+use Rattle.port_ledger.proofs.Settling.{ahead_ranked, ahead_settled, all_left, all_right, ranked_own, ranked_settled, settled_short}
 use Rattle.port_ledger.proofs.Shares.{class_parts, is_of}
 use Rattle.port_ledger.proofs.Standing.{since_own}
 use Rattle.port_ledger.proofs.TotalsLemmas.{totals-join, totals-permuted}
@@ -101,7 +102,7 @@ module _ (now : ℕ) (o : IsImportanceOrder now) (caps : Caps) (es f r : List En
   own : importance_order now (f ++ ranked) ≡ f ++ ranked
   own =
       ranked_own now (f ++ ranked)
-      (ahead_ranked now f ranked (record { booked = a.booked; ranked = a.ranked; behind = all_permuted (IsBehind now f) r ranked (IsPermutation-ranked now r) a.behind })
+      (ahead_ranked now f ranked (record { lasting = a.lasting; behind = all_permuted (IsBehind now f) r ranked (IsPermutation-ranked now r) a.behind })
       (ranked_is_ranked now o r rest_different))
 
   only_all : AllByRecursion (IsOnlyIn es) (f ++ ranked)
@@ -138,19 +139,18 @@ module _ (now : ℕ) (o : IsImportanceOrder now) (caps : Caps) (es f r : List En
         all_right (λ x. moment_or now x.since ≤ now) f ranked (all_permuted (λ x. moment_or now x.since ≤ now) es (f ++ ranked) to_ranked moments) in
         let behind : AllByRecursion (IsBehind now f) ranked = all_permuted (IsBehind now f) r ranked (IsPermutation-ranked now r) a.behind in
         record {
-          booked = a.booked;
-          ranked = a.ranked;
+          lasting = a.lasting;
           behind =
               all_permuted (IsBehind now f) passed after (IsPermutation-ranked now passed)
               (all_passed now caps (λ y. IsBehind now f y × (moment_or now y.since ≤ now)) (IsBehind now f) (taken f) ranked
-              (λ y mark h. all_with f h.0 h.0 (λ x k _. sinks now x y mark h.1 k))
+              (λ y mark h. all_with f h.0 h.0 (λ x k _. behind_decided now x y mark h.1 k))
               (all_with ranked behind past (λ y h k. (h, k))));
         }
 
-    pub ordered_over : (n : ℕ) (front t : Totals) → n ≡ length f + booked_front after → front ≡ totals_of now f
+    pub ordered_over : (n : ℕ) (front t : Totals) → n ≡ length f + settled_front after → front ≡ totals_of now f
         → t ≡ together front (totals_of now after) → IsOrdered now (record { settled = n; totals = t }) decided (f ++ after)
     ordered_over n front t e k l = record {
       same = after_same;
-      settled = ahead_settled now (booked_front after) f after after_ahead (booked_settled now after (ranked_is_ranked now o passed passed_different)) n e;
+      settled = ahead_settled now (settled_front after) n f after after_ahead (settled_short after) (ranked_settled now after (ranked_is_ranked now o passed passed_different)) e;
       totals = l ∙ (ap (λ g. together g (totals_of now after)) k ∙ (sym (totals-join now f after) ∙ totals-permuted now decided (f ++ after) after_same));
     }

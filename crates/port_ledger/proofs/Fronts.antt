@@ -11,7 +11,7 @@ use Rattle.stream_importance.specs.Importance.{IsImportanceOrder}
 use Rattle.port_ledger.specs.declared.totals.Totals.{Totals}
 use Rattle.port_ledger.specs.Book.{booked_slope, unbooked_entry}
 use Rattle.port_ledger.specs.Decision.{decided_entries, AreOfDifferentStreams}
-use Rattle.port_ledger.specs.Front.{AreBehind, booked_front, decided_behind, IsFront, IsOrdered}
+use Rattle.port_ledger.specs.Front.{AreBehind, settled_front, decided_behind, IsAhead, IsFront, IsOrdered}
 use Rattle.port_ledger.specs.Pass.{importance_order, order_with, with_pass, IsOnlyIn}
 use Rattle.port_ledger.specs.Totals.{together, totals_of}
 use Rattle.port_ledger.proofs.Deciding.{after_same, decided_over, different_right, ordered_over, rest_different, rest_only, taken, taken-slopes}
@@ -19,7 +19,6 @@ use Rattle.port_ledger.proofs.Keeping.{ascending_after, kept_after}
 use Rattle.port_ledger.proofs.Marking.{different_from_ascending}
 use Rattle.port_ledger.proofs.Ranking.{different_permuted}
 use Rattle.port_ledger.proofs.Rounds.{decided_decides}
-use Rattle.port_ledger.proofs.Settling.{settled_ahead, settled_within, IsAhead}
 use Rattle.port_ledger.proofs.Shares.{runs_both}
 use Rattle.port_ledger.proofs.TotalsLemmas.{slope-permuted, totals_fit}
 
@@ -41,13 +40,13 @@ module _ (now : ℕ) (o : IsImportanceOrder now) (caps : Caps) (place : ℕ) (fr
   same = subst (λ (ys : List Entry). IsPermutation es ys) (sym (take-append-drop place order)) h.same
 
   is_ahead : IsAhead now ahead rest
-  is_ahead = settled_ahead now place order h.settled
+  is_ahead = h.settled.ahead
 
   taken_is : both_of front ≡ taken ahead
   taken_is = ap both_of h.totals ∙ taken-slopes ahead
 
   pub front_place : place ≤ length order
-  front_place = settled_within now place order h.settled
+  front_place = h.settled.within
 
   pub front_taken : both_of front < 2 ^ 64
   front_taken =
@@ -81,14 +80,14 @@ module _ (now : ℕ) (o : IsImportanceOrder now) (caps : Caps) (place : ℕ) (fr
       (kept_after caps now es decided h.shares h.ascending h.moments (decided_decides now o caps es (different_from_ascending es h.ascending))) h.range in
       omega (arith, a, b, fits)
 
-  pub front_ordered : (n : ℕ) (t : Totals) → n ≡ place + booked_front later → t ≡ together front (totals_of now later)
+  pub front_ordered : (n : ℕ) (t : Totals) → n ≡ place + settled_front later → t ≡ together front (totals_of now later)
       → IsOrdered now (record { settled = n; totals = t }) (decided_entries now caps es) (ahead ++ later)
   front_ordered n t e k =
       let long : length ahead ≡ place = length-take-le place order front_place in
       let on : decided_behind now caps (taken ahead) rest ≡ later = ap (λ m. decided_behind now caps m rest) (sym taken_is) in
       subst (λ (ys : List Entry). IsOrdered now (record { settled = n; totals = t }) (decided_entries now caps es) (ahead ++ ys)) on
       (ordered_over now o caps es ahead rest h.ascending same is_ahead h.stays h.moments n front t
-      (e ∙ (ap (λ m. m + booked_front later) (sym long) ∙ ap (λ ys. length ahead + booked_front ys) (sym on)))
+      (e ∙ (ap (λ m. m + settled_front later) (sym long) ∙ ap (λ ys. length ahead + settled_front ys) (sym on)))
       h.totals (k ∙ ap (λ ys. together front (totals_of now ys)) (sym on)))
 
   pub front_behind : AreBehind ahead later (decided_entries now caps es)

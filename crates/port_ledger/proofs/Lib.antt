@@ -19,6 +19,7 @@ pub mod Sinking
 pub mod Sorting
 pub mod Standing
 pub mod LettingIn
+pub mod Levels
 pub mod TakingOut
 pub mod TotalsLemmas
 pub mod Unmoved

@@ -1,23 +1,21 @@
 -- A front of the order of importance: what it is, that it stays as time passes, and how it grows.
-use Rattle.std.proofs.Common.{◌≡◌, ℕ, zero, suc, ◌+◌, ◌<◌, ◌≤◌, Bool, true, false, not, ◌==◌, cond, get_or, List, [], ◌∷◌, ◌++◌, length, take, drop, Option, Some, None, is_some, refl, sym, ◌∙◌, ap, subst, arith, inl, inr}
+use Rattle.std.proofs.Common.{◌≡◌, ℕ, zero, suc, ◌+◌, ◌<◌, ◌≤◌, Bool, true, false, not, ◌&&◌, ◌||◌, cond, get_or, List, [], ◌∷◌, ◌++◌, length, take, drop, Option, Some, refl, sym, ◌∙◌, ap, subst, arith, append_assoc, inl, inr}
 use Rattle.std.specs.Prelude.{nat_le}
-use Rattle.std.specs.Ordering.{nat_cmp}
 use Rattle.std.specs.List.{AllByRecursion}
 use Rattle.std.specs.List.Sorted.{IsPartitionedBy}
-use Rattle.std.proofs.lemmas.Bool.{and_parts, and_from, cases_Bool, cases_lt}
+use Rattle.std.proofs.lemmas.Bool.{and_cases, and_from, and_left, and_parts, and_right, cases_Bool, cases_lt, not_from_false, or_left, or_right}
+use Rattle.std.proofs.lemmas.List.{drop_at, length-append, length-take-le, take_at, take-append-drop}
 use Rattle.std.proofs.lemmas.List.Elements.{All-from_recursion}
-use Rattle.srp_base.specs.declared.numbers.Cs.{Cs}
 use Rattle.stream_importance.specs.declared.entry.Entry.{Entry}
-use Rattle.stream_importance.specs.declared.entry.Want.{Want}
 use Rattle.stream_importance.specs.declared.slope.Caps.{Caps}
 use Rattle.stream_importance.specs.Bandwidth.{cap_of}
-use Rattle.stream_importance.specs.Importance.{class_number, rank_number, moment_or, is_more_important, IsImportanceOrder}
-use Rattle.port_ledger.specs.Decision.{stream_of, entry_slope, comes_after, is_booked, since_after}
-use Rattle.port_ledger.specs.Front.{ArePriorTo, booked_front, IsSettled}
+use Rattle.stream_importance.specs.Importance.{IsImportanceOrder}
+use Rattle.port_ledger.specs.Decision.{entry_slope, comes_after, is_booked}
+use Rattle.port_ledger.specs.Front.{AreLasting, first_booked, has_level, is_prior_to, IsAhead, IsBehind, IsSettled, same_level, settled_front, stays_after, stays_behind}
 use Rattle.port_ledger.specs.Pass.{place, importance_order}
+use Rattle.port_ledger.proofs.Levels.{after_behind, after_later, after_parts, behind_later, behind_parts, below_from, comes_level, differ, level, not_same, prior_back, prior_beyond, same_is}
 use Rattle.port_ledger.proofs.Marking.{all_of}
 use Rattle.port_ledger.proofs.Running.{all_with, Holds, IsRanked, Runs, total, total-head, total-tail}
-use Rattle.port_ledger.proofs.Standing.{still_first}
 
 -- ---- lists of facts
 
@@ -45,114 +43,190 @@ all_dropped P zero (x ∷ xs) p = p
 all_dropped P (suc n) [] p = tt
 all_dropped P (suc n) (x ∷ xs) p = all_dropped P n xs p.1
 
--- ---- a booked entry that goes before another goes on doing so
+pub taken_within : {X : Type 0} (P : X → Type 0) (n : ℕ) (xs : List X) → n ≤ length xs → ((k : ℕ) (d : X) → k < n → P (get_or xs k d))
+    → AllByRecursion P (take n xs)
+taken_within P zero [] le h = tt
+taken_within P zero (x ∷ xs) le h = tt
+taken_within P (suc n) [] le h = tt
+taken_within P (suc n) (x ∷ xs) le h = (h 0 x (omega arith), taken_within P n xs (omega (arith, le)) (λ k d l. h (suc k) d (omega (arith, l))))
 
-stays_by : (now later : ℕ) (x y : Want) (mine other : Option Cs) → is_some mine ≡ true → now ≤ later
-    → comes_after now (record { want = y; since = other }) (record { want = x; since = mine }) ≡ true
-    → comes_after later (record { want = y; since = other }) (record { want = x; since = mine }) ≡ true
-stays_by now later x y None other b up h = cc
-stays_by now later x y (Some c) (Some d) b up h = h
-stays_by now later x y (Some c) None b up h =
-    let parts = and_parts (not (x.stream.0 == y.stream.0)) (is_more_important now (record { want = x; since = Some c }) (record { want = y; since = None })) h in
-    and_from (not (x.stream.0 == y.stream.0)) (is_more_important later (record { want = x; since = Some c }) (record { want = y; since = None })) parts.0
-    (still_first (nat_cmp (class_number x.class) (class_number y.class)) (nat_cmp (rank_number x.rank) (rank_number y.rank)) (nat_cmp x.stream.0 y.stream.0)
-    c.0 now later up parts.1)
+pub dropped_within : {X : Type 0} (P : X → Type 0) (n : ℕ) (xs : List X) → ((k : ℕ) (d : X) → n ≤ k → k < length xs → P (get_or xs k d))
+    → AllByRecursion P (drop n xs)
+dropped_within P zero [] h = tt
+dropped_within P zero (x ∷ xs) h = (h 0 x (omega arith) (omega arith), dropped_within P zero xs (λ k d le l. h (suc k) d (omega arith) (omega (arith, l))))
+dropped_within P (suc n) [] h = tt
+dropped_within P (suc n) (x ∷ xs) h = dropped_within P n xs (λ k d le l. h (suc k) d (omega (arith, le)) (omega (arith, l)))
 
-stays : (now later : ℕ) (x y : Entry) → is_booked x ≡ true → now ≤ later → comes_after now y x ≡ true → comes_after later y x ≡ true
-stays now later x y b up h = stays_by now later x.want y.want x.since y.since b up h
+-- ---- an order that lasts
 
--- what is decided anew doesn't come before what went before it
-pub sinks : (now : ℕ) (x y : Entry) (mark : Bool) → moment_or now y.since ≤ now → comes_after now y x ≡ true
-    → comes_after now (record y { since = since_after now y.since mark }) x ≡ true
-sinks now x y true past h = h
-sinks now x y false past h =
-    let parts = and_parts (not (stream_of x == stream_of y)) (is_more_important now x y) h in
-    and_from (not (stream_of x == stream_of y)) (is_more_important now x (record y { since = None })) parts.0
-    (still_first (nat_cmp (class_number x.want.class) (class_number y.want.class)) (nat_cmp (rank_number x.want.rank) (rank_number y.want.rank)) (nat_cmp (stream_of x) (stream_of y))
-    (moment_or now x.since) (moment_or now y.since) now past parts.1)
+pub lasting_ranked : (now : ℕ) (xs : List Entry) → AreLasting now xs → IsRanked now xs
+lasting_ranked now [] h = tt
+lasting_ranked now (x ∷ xs) h = (all_with xs h.0 h.0 (λ y k _. (after_parts now x y k).0), lasting_ranked now xs h.1)
 
--- ---- a settled front
-
-pub settled_less : (now m n : ℕ) (xs : List Entry) → m ≤ n → IsSettled now n xs → IsSettled now m xs
-settled_less now zero n xs le s = tt
-settled_less now (suc m) zero xs le s = absurd (omega (arith, le))
-settled_less now (suc m) (suc n) [] le s = s
-settled_less now (suc m) (suc n) (x ∷ xs) le s = (s.0, s.1, settled_less now m n xs (omega (arith, le)) s.2)
-
-pub settled_within : (now n : ℕ) (xs : List Entry) → IsSettled now n xs → n ≤ length xs
-settled_within now zero xs s = omega arith
-settled_within now (suc n) [] s = absurd s
-settled_within now (suc n) (x ∷ xs) s = let rest = settled_within now n xs s.2 in omega (arith, rest)
+lasting_later : (now later : ℕ) (xs : List Entry) → now ≤ later → AreLasting now xs → AreLasting later xs
+lasting_later now later [] up h = tt
+lasting_later now later (x ∷ xs) up h = (all_with xs h.0 h.0 (λ y k _. after_later now later x y up k), lasting_later now later xs up h.1)
 
 pub settled_later : (now later n : ℕ) (xs : List Entry) → now ≤ later → IsSettled now n xs → IsSettled later n xs
-settled_later now later zero xs up s = tt
-settled_later now later (suc n) [] up s = s
-settled_later now later (suc n) (x ∷ xs) up s =
-    (s.0, all_with xs s.1 s.1 (λ y h _. stays now later x y s.0 up h), settled_later now later n xs up s.2)
+settled_later now later n xs up s = record {
+  within = s.within;
+  ahead = record {
+    lasting = lasting_later now later (take n xs) up s.ahead.lasting;
+    behind = all_with (drop n xs) s.ahead.behind s.ahead.behind (λ y h _. all_with (take n xs) h h (λ x k _. behind_later now later x y up k));
+  };
+}
 
--- an entry that comes after each of a front
-abbrev pub IsBehind : ℕ → List Entry → Entry → Type 0
-IsBehind now front y = AllByRecursion (λ x. comes_after now y x ≡ true) front
-
--- a front and what is behind it
-pub record IsAhead (now : ℕ) (front rest : List Entry) : Type 0 where
-  pub booked : AllByRecursion (λ x. is_booked x ≡ true) front
-  pub ranked : IsRanked now front
-  pub behind : AllByRecursion (IsBehind now front) rest
-
-pub settled_ahead : (now n : ℕ) (xs : List Entry) → IsSettled now n xs → IsAhead now (take n xs) (drop n xs)
-settled_ahead now zero [] s = record { booked = tt; ranked = tt; behind = tt }
-settled_ahead now zero (x ∷ xs) s = record { booked = tt; ranked = tt; behind = (tt, all_of xs (λ y. tt)) }
-settled_ahead now (suc n) [] s = absurd s
-settled_ahead now (suc n) (x ∷ xs) s =
-    let rest : IsAhead now (take n xs) (drop n xs) = settled_ahead now n xs s.2 in
-    record {
-      booked = (s.0, rest.booked);
-      ranked = (all_taken (λ y. comes_after now y x ≡ true) n xs s.1, rest.ranked);
-      behind = all_with (drop n xs) (all_dropped (λ y. comes_after now y x ≡ true) n xs s.1) rest.behind (λ y h k. (h, k));
-    }
+pub nothing_ahead : (now : ℕ) (xs : List Entry) → IsAhead now [] xs
+nothing_ahead now xs = record { lasting = tt; behind = all_of xs (λ y. tt) }
 
 ahead_tail : (now : ℕ) (x : Entry) (front rest : List Entry) → IsAhead now (x ∷ front) rest → IsAhead now front rest
-ahead_tail now x front rest a =
-    record { booked = a.booked.1; ranked = a.ranked.1; behind = all_with rest a.behind a.behind (λ y h _. h.1) }
+ahead_tail now x front rest a = record { lasting = a.lasting.1; behind = all_with rest a.behind a.behind (λ y h _. h.1) }
 
 ahead_first : (now : ℕ) (x : Entry) (front rest : List Entry) → IsAhead now (x ∷ front) rest → AllByRecursion (λ y. comes_after now y x ≡ true) (front ++ rest)
-ahead_first now x front rest a = all_join (λ y. comes_after now y x ≡ true) front rest a.ranked.0 (all_with rest a.behind a.behind (λ y h _. h.0))
+ahead_first now x front rest a =
+    all_join (λ y. comes_after now y x ≡ true) front rest
+    (all_with front a.lasting.0 a.lasting.0 (λ y h _. (after_parts now x y h).0))
+    (all_with rest a.behind a.behind (λ y h _. (behind_parts now x y h.0).0))
 
 pub ahead_ranked : (now : ℕ) (front rest : List Entry) → IsAhead now front rest → IsRanked now rest → IsRanked now (front ++ rest)
 ahead_ranked now [] rest a r = r
 ahead_ranked now (x ∷ front) rest a r = (ahead_first now x front rest a, ahead_ranked now front rest (ahead_tail now x front rest a) r)
 
-pub ahead_settled : (now k : ℕ) (front rest : List Entry) → IsAhead now front rest → IsSettled now k rest → (n : ℕ) → n ≡ length front + k
-    → IsSettled now n (front ++ rest)
-ahead_settled now k [] rest a s n e =
-    let same : k ≡ n = omega (arith, e) in
-    subst (λ (m : ℕ). IsSettled now m rest) same s
-ahead_settled now k (x ∷ front) rest a s n e =
-    let all : IsSettled now (suc (length front + k)) (x ∷ (front ++ rest)) =
-    (a.booked.0, ahead_first now x front rest a, ahead_settled now k front rest (ahead_tail now x front rest a) s (length front + k) refl) in
-    let same : suc (length front + k) ≡ n = omega (arith, e) in
-    subst (λ (m : ℕ). IsSettled now m (x ∷ (front ++ rest))) same all
+-- a front grows by what is ahead of the others behind it
+lasting_join : (now : ℕ) (f g : List Entry) → AreLasting now f → AllByRecursion (IsBehind now f) g → AreLasting now g → AreLasting now (f ++ g)
+lasting_join now [] g a b c = c
+lasting_join now (x ∷ f) g a b c = (
+  all_join (λ y. stays_after now y x ≡ true) f g a.0 (all_with g b b (λ y h _. after_behind now x y h.0)),
+  lasting_join now f g a.1 (all_with g b b (λ y h _. h.1)) c,
+)
 
-pub booked_settled : (now : ℕ) (xs : List Entry) → IsRanked now xs → IsSettled now (booked_front xs) xs
-booked_settled now [] r = tt
-booked_settled now (x ∷ xs) r =
-    elim (cases_Bool (is_booked x)) [
-      | inl b ↦ subst (λ (v : Bool). IsSettled now (cond v (suc (booked_front xs)) 0) (x ∷ xs)) (sym b) (b, r.0, booked_settled now xs r.1)
-      | inr b ↦ subst (λ (v : Bool). IsSettled now (cond v (suc (booked_front xs)) 0) (x ∷ xs)) (sym b) tt
+ahead_more : (now : ℕ) (f g r : List Entry) → IsAhead now f (g ++ r) → IsAhead now g r → IsAhead now (f ++ g) r
+ahead_more now f g r a b = record {
+  lasting = lasting_join now f g a.lasting (all_left (IsBehind now f) g r a.behind) b.lasting;
+  behind = all_with r (all_right (IsBehind now f) g r a.behind) b.behind (λ y h k. all_join (λ x. stays_behind now y x ≡ true) f g h k);
+}
+
+-- what is ahead of the others is settled
+pub settled_seam : (now n : ℕ) (f r : List Entry) → length f ≡ n → IsAhead now f r → IsSettled now n (f ++ r)
+settled_seam now n f r e a = record {
+  within = omega (arith, e, length-append f r);
+  ahead =
+      subst (λ (xs : List Entry). IsAhead now xs (drop n (f ++ r))) (sym (take_at f r n e))
+      (subst (λ (xs : List Entry). IsAhead now f xs) (sym (drop_at f r n e)) a);
+}
+
+pub ahead_settled : (now k n : ℕ) (f r : List Entry) → IsAhead now f r → k ≤ length r → IsAhead now (take k r) (drop k r) → n ≡ length f + k
+    → IsSettled now n (f ++ r)
+ahead_settled now k n f r a le b e =
+    let parts : take k r ++ drop k r ≡ r = take-append-drop k r in
+    let more : IsAhead now (f ++ take k r) (drop k r) = ahead_more now f (take k r) (drop k r) (subst (λ (xs : List Entry). IsAhead now f xs) (sym parts) a) b in
+    subst (λ (xs : List Entry). IsSettled now n xs) (append_assoc f (take k r) (drop k r) ∙ ap (λ xs. f ++ xs) parts)
+    (settled_seam now n (f ++ take k r) (drop k r) (omega (arith, e, length-append f (take k r), length-take-le k r le)) more)
+
+-- ---- how much of a ranked list is settled
+
+pub settled_short : (xs : List Entry) → settled_front xs ≤ length xs
+settled_short [] = omega arith
+settled_short (x ∷ xs) =
+    let rest = settled_short xs in
+    elim (not (is_booked x) && has_level x (first_booked xs)) as (λ v. cond v 0 (suc (settled_front xs)) ≤ suc (length xs)) [
+      | true ↦ omega arith
+      | false ↦ omega (arith, rest)
+    ]
+
+-- no entry behind x that is booked is of its level
+abbrev NoneBooked : Entry → List Entry → Type 0
+NoneBooked x xs = AllByRecursion (λ y. (is_booked y && same_level x y) ≡ false) xs
+
+no_booked : (now : ℕ) (x : Entry) (xs : List Entry) → AllByRecursion (λ y. comes_after now y x ≡ true) xs → IsRanked now xs
+    → has_level x (first_booked xs) ≡ false → NoneBooked x xs
+no_booked now x [] c r h = tt
+no_booked now x (y ∷ ys) c r h =
+    elim (cases_Bool (is_booked y)) [
+      | inl b ↦
+          (let other : same_level x y ≡ false = sym (ap (λ v. has_level x (cond v (Some y) (first_booked ys))) b) ∙ h in
+          let below = below_from (level x) (level y) (comes_level now x y c.0) (differ x y other) in (
+            and_right (is_booked y) (same_level x y) other,
+            all_with ys r.0 r.0
+                (λ z k _. and_right (is_booked z) (same_level x z) (not_same x z (λ e. let up = comes_level now y z k in absurd (omega (arith, e, up, below))))),
+          ))
+      | inr b ↦ (
+        and_left (is_booked y) (same_level x y) b,
+        no_booked now x ys c.1 r.1 (sym (ap (λ v. has_level x (cond v (Some y) (first_booked ys))) b) ∙ h),
+      )
+    ]
+
+not_found : (x y : Entry) (ys : List Entry) → has_level y (first_booked ys) ≡ true → NoneBooked x ys → level x ≡ level y → ⊥
+not_found x y [] h n e = cc
+not_found x y (z ∷ zs) h n e =
+    elim (cases_Bool (is_booked z)) [
+      | inl b ↦
+          (let one : level y ≡ level z = same_is y z (sym (ap (λ v. has_level y (cond v (Some z) (first_booked zs))) b) ∙ h) in
+          let other : same_level x z ≡ false = sym (ap (λ v. v && same_level x z) b) ∙ n.0 in
+          differ x z other (e ∙ one))
+      | inr b ↦ not_found x y zs (sym (ap (λ v. has_level y (cond v (Some z) (first_booked zs))) b) ∙ h) n.1 e
+    ]
+
+-- what isn't settled is of another level than an entry before it
+far_behind : (now : ℕ) (x : Entry) (xs : List Entry) → AllByRecursion (λ y. comes_after now y x ≡ true) xs → IsRanked now xs → NoneBooked x xs
+    → AllByRecursion (λ z. same_level x z ≡ false) (drop (settled_front xs) xs)
+far_behind now x [] c r n = tt
+far_behind now x (y ∷ ys) c r n =
+    elim (cases_Bool (not (is_booked y) && has_level y (first_booked ys))) [
+      | inl f ↦
+          (let found = (and_parts (not (is_booked y)) (has_level y (first_booked ys)) f).1 in
+          let ne = not_found x y ys found n.1 in
+          let below = below_from (level x) (level y) (comes_level now x y c.0) ne in
+          subst (λ (v : Bool). AllByRecursion (λ z. same_level x z ≡ false) (drop (cond v 0 (suc (settled_front ys))) (y ∷ ys))) (sym f)
+          (not_same x y ne, all_with ys r.0 r.0 (λ z k _. not_same x z (λ e. let up = comes_level now y z k in absurd (omega (arith, e, up, below))))))
+      | inr f ↦ subst (λ (v : Bool). AllByRecursion (λ z. same_level x z ≡ false) (drop (cond v 0 (suc (settled_front ys))) (y ∷ ys))) (sym f)
+          (far_behind now x ys c.1 r.1 n.1)
+    ]
+
+one_more : (now k : ℕ) (x : Entry) (xs : List Entry) → AllByRecursion (λ y. stays_after now y x ≡ true) xs → AllByRecursion (λ z. stays_behind now z x ≡ true) (drop k xs)
+    → IsAhead now (take k xs) (drop k xs) → IsAhead now (x ∷ take k xs) (drop k xs)
+one_more now k x xs after behind a = record {
+  lasting = (all_taken (λ y. stays_after now y x ≡ true) k xs after, a.lasting);
+  behind = all_with (drop k xs) behind a.behind (λ y h g. (h, g));
+}
+
+pub ranked_settled : (now : ℕ) (xs : List Entry) → IsRanked now xs → IsAhead now (take (settled_front xs) xs) (drop (settled_front xs) xs)
+ranked_settled now [] r = nothing_ahead now []
+ranked_settled now (x ∷ xs) r =
+    let k : ℕ = settled_front xs in
+    elim (cases_Bool (not (is_booked x) && has_level x (first_booked xs))) [
+      | inl f ↦ subst (λ (v : Bool). IsAhead now (take (cond v 0 (suc k)) (x ∷ xs)) (drop (cond v 0 (suc k)) (x ∷ xs))) (sym f) (nothing_ahead now (x ∷ xs))
+      | inr f ↦ subst (λ (v : Bool). IsAhead now (take (cond v 0 (suc k)) (x ∷ xs)) (drop (cond v 0 (suc k)) (x ∷ xs))) (sym f)
+          (elim (cases_Bool (is_booked x)) [
+            | inl b ↦ one_more now k x xs
+                (all_with xs r.0 r.0
+                (λ y h _. and_from (comes_after now y x) (is_booked x || not (is_booked y && same_level x y)) h (or_left (is_booked x) (not (is_booked y && same_level x y)) b)))
+                (all_dropped (λ y. stays_behind now y x ≡ true) k xs
+                (all_with xs r.0 r.0 (λ y h _. and_from (comes_after now y x) (is_booked x || not (same_level x y)) h (or_left (is_booked x) (not (same_level x y)) b))))
+                (ranked_settled now xs r.1)
+            | inr b ↦ (
+                let none : NoneBooked x xs = no_booked now x xs r.0 r.1 (sym (ap (λ v. not v && has_level x (first_booked xs)) b) ∙ f) in
+                one_more now k x xs
+                (all_with xs r.0 none
+                (λ y h n. and_from (comes_after now y x) (is_booked x || not (is_booked y && same_level x y)) h
+                (or_right (is_booked x) (not (is_booked y && same_level x y)) (not_from_false (is_booked y && same_level x y) n))))
+                (all_with (drop k xs) (all_dropped (λ y. comes_after now y x ≡ true) k xs r.0) (far_behind now x xs r.0 r.1 none)
+                (λ y h n. and_from (comes_after now y x) (is_booked x || not (same_level x y)) h (or_right (is_booked x) (not (same_level x y)) (not_from_false (same_level x y) n))))
+                (ranked_settled now xs r.1))
+          ])
     ]
 
 -- the bookings of a front are those of a running sum
-pub runs_front : (now : ℕ) (o : IsImportanceOrder now) (caps : Caps) (sum n : ℕ) (b : Entry → Bool) (xs : List Entry)
-    → IsSettled now n xs → AllByRecursion (Holds now caps sum b xs) xs → Runs caps sum b (take n xs)
-runs_front now o caps sum zero b [] s holds = tt
-runs_front now o caps sum zero b (x ∷ xs) s holds = tt
-runs_front now o caps sum (suc n) b [] s holds = tt
-runs_front now o caps sum (suc n) b (x ∷ xs) s holds =
-    let none : sum + total b now x (x ∷ xs) ≡ sum = omega (arith, total-head b now o x xs s.1) in
-    let rest : AllByRecursion (Holds now caps (sum + cond (b x) (entry_slope x) 0) b xs) xs = all_with xs s.1 holds.1 (λ y before h. h ∙ ap (λ n. nat_le (n + entry_slope y) (cap_of caps y.want.class)) (sym (total-tail b now x y xs sum before))) in (
+pub runs_front : (now : ℕ) (o : IsImportanceOrder now) (caps : Caps) (sum : ℕ) (b : Entry → Bool) (f r : List Entry)
+    → IsAhead now f r → AllByRecursion (Holds now caps sum b (f ++ r)) (f ++ r) → Runs caps sum b f
+runs_front now o caps sum b [] r a holds = tt
+runs_front now o caps sum b (x ∷ f) r a holds =
+    let xs : List Entry = f ++ r in
+    let first : AllByRecursion (λ y. comes_after now y x ≡ true) xs = ahead_first now x f r a in
+    let none : sum + total b now x (x ∷ xs) ≡ sum = omega (arith, total-head b now o x xs first) in
+    let rest : AllByRecursion (Holds now caps (sum + cond (b x) (entry_slope x) 0) b xs) xs = all_with xs first holds.1 (λ y before h. h ∙ ap (λ n. nat_le (n + entry_slope y) (cap_of caps y.want.class)) (sym (total-tail b now x y xs sum before))) in (
       holds.0 ∙ ap (λ n. nat_le (n + entry_slope x) (cap_of caps x.want.class)) none,
-      runs_front now o caps (sum + cond (b x) (entry_slope x) 0) n b xs s.2 rest,
+      runs_front now o caps (sum + cond (b x) (entry_slope x) 0) b f r (ahead_tail now x f r a) rest,
     )
 
 -- what is ranked is in the order of importance
@@ -164,40 +238,68 @@ pub ranked_own : (now : ℕ) (xs : List Entry) → IsRanked now xs → importanc
 ranked_own now [] r = refl
 ranked_own now (x ∷ xs) r = ap (place now x) (ranked_own now xs r.1) ∙ place_own now x xs r.0
 
--- ---- how much of a ranked list goes before an entry
+-- ---- how much of what is settled goes before two entries
 
-ranked_at : (now : ℕ) (xs : List Entry) → IsRanked now xs → (i j : ℕ) (d : Entry) → i < j → j < length xs
-    → comes_after now (get_or xs j d) (get_or xs i d) ≡ true
-ranked_at now [] r i j d l k = absurd (omega (arith, k))
-ranked_at now (x ∷ xs) r i zero d l k = absurd (omega (arith, l))
-ranked_at now (x ∷ xs) r zero (suc j) d l k = All-from_recursion (λ y. comes_after now y x ≡ true) xs r.0 j d (omega (arith, k))
-ranked_at now (x ∷ xs) r (suc i) (suc j) d l k = ranked_at now xs r.1 i j d (omega (arith, l)) (omega (arith, k))
+lasting_at : (now : ℕ) (xs : List Entry) → AreLasting now xs → (i j : ℕ) (d : Entry) → i < j → j < length xs
+    → stays_after now (get_or xs j d) (get_or xs i d) ≡ true
+lasting_at now [] r i j d l k = absurd (omega (arith, k))
+lasting_at now (x ∷ xs) r i zero d l k = absurd (omega (arith, l))
+lasting_at now (x ∷ xs) r zero (suc j) d l k = All-from_recursion (λ y. stays_after now y x ≡ true) xs r.0 j d (omega (arith, k))
+lasting_at now (x ∷ xs) r (suc i) (suc j) d l k = lasting_at now xs r.1 i j d (omega (arith, l)) (omega (arith, k))
 
-pub prior_parts : (now : ℕ) (o : IsImportanceOrder now) (x : Entry) (xs : List Entry) → IsRanked now xs
-    → IsPartitionedBy (λ y. is_more_important now y x) xs
-prior_parts now o x xs r i j d le within h =
+abbrev pub is_prior_to_both : ℕ → Option Entry → Option Entry → Entry → Bool
+is_prior_to_both now goes comes y = is_prior_to now goes y && is_prior_to now comes y
+
+pub prior_parted : (now : ℕ) (o : IsImportanceOrder now) (goes comes : Option Entry) (xs : List Entry) → AreLasting now xs
+    → IsPartitionedBy (is_prior_to_both now goes comes) xs
+prior_parted now o goes comes xs r i j d le within h =
     elim (cases_lt i j) [
       | inl l ↦
           (let y : Entry = get_or xs i d in
           let z : Entry = get_or xs j d in
-          o.transitive y z x (and_parts (not (stream_of y == stream_of z)) (is_more_important now y z) (ranked_at now xs r i j d l within)).1 h)
-      | inr l ↦ (let same : i ≡ j = omega (arith, le, l) in subst (λ (k : ℕ). is_more_important now (get_or xs k d) x ≡ true) (sym same) h)
+          let on = lasting_at now xs r i j d l within in
+          let parts = and_parts (is_prior_to now goes z) (is_prior_to now comes z) h in
+          and_from (is_prior_to now goes y) (is_prior_to now comes y) (prior_back now o goes y z on parts.0) (prior_back now o comes y z on parts.1))
+      | inr l ↦ (let same : i ≡ j = omega (arith, le, l) in subst (λ (k : ℕ). is_prior_to_both now goes comes (get_or xs k d) ≡ true) (sym same) h)
     ]
 
-pub taken_within : {X : Type 0} (P : X → Type 0) (n : ℕ) (xs : List X) → n ≤ length xs → ((k : ℕ) (d : X) → k < n → P (get_or xs k d))
-    → AllByRecursion P (take n xs)
-taken_within P zero [] le h = tt
-taken_within P zero (x ∷ xs) le h = tt
-taken_within P (suc n) [] le h = tt
-taken_within P (suc n) (x ∷ xs) le h = (h 0 x (omega arith), taken_within P n xs (omega (arith, le)) (λ k d l. h (suc k) d (omega (arith, l))))
+-- an entry behind the cut is of no level that waits before it
+cut_behind : (now : ℕ) (goes comes : Option Entry) (y z : Entry) → stays_after now z y ≡ true → is_prior_to_both now goes comes y ≡ true
+    → is_prior_to_both now goes comes z ≡ false → stays_behind now z y ≡ true
+cut_behind now goes comes y z s h k =
+    let parts = and_parts (is_prior_to now goes y) (is_prior_to now comes y) h in
+    elim (and_cases (is_prior_to now goes z) (is_prior_to now comes z) k) [
+      | inl g ↦ prior_beyond now goes y z s parts.0 g
+      | inr g ↦ prior_beyond now comes y z s parts.1 g
+    ]
 
-pub taken_less : {X : Type 0} (P : X → Type 0) (m n : ℕ) (xs : List X) → m ≤ n → AllByRecursion P (take n xs) → AllByRecursion P (take m xs)
-taken_less P zero n [] le h = tt
-taken_less P zero n (x ∷ xs) le h = tt
-taken_less P (suc m) n [] le h = tt
-taken_less P (suc m) zero (x ∷ xs) le h = absurd (omega (arith, le))
-taken_less P (suc m) (suc n) (x ∷ xs) le h = (h.0, taken_less P m n xs (omega (arith, le)) h.1)
+cut_ahead : (now n : ℕ) (goes comes : Option Entry) (xs : List Entry) → AreLasting now xs → AllByRecursion (λ y. is_prior_to_both now goes comes y ≡ true) (take n xs)
+    → AllByRecursion (λ y. is_prior_to_both now goes comes y ≡ false) (drop n xs) → IsAhead now (take n xs) (drop n xs)
+cut_ahead now zero goes comes [] l p q = nothing_ahead now []
+cut_ahead now zero goes comes (x ∷ xs) l p q = nothing_ahead now (x ∷ xs)
+cut_ahead now (suc n) goes comes [] l p q = nothing_ahead now []
+cut_ahead now (suc n) goes comes (x ∷ xs) l p q =
+    one_more now n x xs l.0
+    (all_with (drop n xs) (all_dropped (λ y. stays_after now y x ≡ true) n xs l.0) q (λ z h k. cut_behind now goes comes x z h p.0 k))
+    (cut_ahead now n goes comes xs l.1 p.1 q)
 
-pub prior_less : (now m n : ℕ) (goes : Option Entry) (xs : List Entry) → m ≤ n → ArePriorTo now goes (take n xs) → ArePriorTo now goes (take m xs)
-prior_less now m n None xs le h = tt
-prior_less now m n (Some x) xs le h = taken_less (λ y. is_more_important now y x ≡ true) m n xs le h
+pub cut_settled : (now n : ℕ) (goes comes : Option Entry) (f r : List Entry) → IsAhead now f r → n ≤ length f
+    → AllByRecursion (λ y. is_prior_to_both now goes comes y ≡ true) (take n f) → AllByRecursion (λ y. is_prior_to_both now goes comes y ≡ false) (drop n f)
+    → IsSettled now n (f ++ r)
+cut_settled now n goes comes f r a le p q =
+    let inner : IsAhead now (take n f) (drop n f) = cut_ahead now n goes comes f a.lasting p q in
+    let whole : IsAhead now (take n f) (drop n f ++ r) =
+    record {
+      lasting = inner.lasting;
+      behind = all_join (IsBehind now (take n f)) (drop n f) r inner.behind (all_with r a.behind a.behind (λ z h _. all_taken (λ x. stays_behind now z x ≡ true) n f h));
+    } in
+    subst (λ (xs : List Entry). IsSettled now n xs) (sym (append_assoc (take n f) (drop n f) r) ∙ ap (λ xs. xs ++ r) (take-append-drop n f))
+    (settled_seam now n (take n f) (drop n f ++ r) (length-take-le n f le) whole)
+
+-- ---- whether a front's entries go before each of two
+
+pub prior_goes : (now : ℕ) (goes comes : Option Entry) (xs : List Entry) → AllByRecursion (λ y. is_prior_to_both now goes comes y ≡ true) xs → AllByRecursion (λ y. is_prior_to now goes y ≡ true) xs
+prior_goes now goes comes xs h = all_with xs h h (λ y k _. (and_parts (is_prior_to now goes y) (is_prior_to now comes y) k).0)
+
+pub prior_comes : (now : ℕ) (goes comes : Option Entry) (xs : List Entry) → AllByRecursion (λ y. is_prior_to_both now goes comes y ≡ true) xs → AllByRecursion (λ y. is_prior_to now comes y ≡ true) xs
+prior_comes now goes comes xs h = all_with xs h h (λ y k _. (and_parts (is_prior_to now goes y) (is_prior_to now comes y) k).1)

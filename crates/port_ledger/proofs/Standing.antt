@@ -20,10 +20,10 @@ use Rattle.port_ledger.proofs.Running.{sum-filter-cons}
 pub less_is_below : (p q : ℕ) → p < q → nat_cmp p q ≡ Less
 less_is_below p q h = grind (arith, nat_tests)
 
-same_is_equal : (p q : ℕ) → p ≡ q → nat_cmp p q ≡ Equal
+pub same_is_equal : (p q : ℕ) → p ≡ q → nat_cmp p q ≡ Equal
 same_is_equal p q h = grind (arith, nat_tests)
 
-above_is_greater : (p q : ℕ) → q < p → nat_cmp p q ≡ Greater
+pub above_is_greater : (p q : ℕ) → q < p → nat_cmp p q ≡ Greater
 above_is_greater p q h = grind (arith, nat_tests)
 
 still_before : (p q later : ℕ) (rest : Ordering) → q ≤ later → is_lt (ordering_then (nat_cmp p q) rest) ≡ true

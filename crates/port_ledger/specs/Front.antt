@@ -1,11 +1,11 @@
 -- How the code knows from which place of the order of importance on a call decides anew: the entries before that
 -- place, the front, stay as they are, and what they take is known. No public contract names it.
-use Rattle.std.specs.Prelude.{ℕ, zero, suc, ◌+◌, ◌≡◌, ◌≤◌, ◌<◌, ◌^◌, ◌++◌, Bool, true, nat_le, List, [], ◌∷◌, Option, Some, None, IsPermutation, take, if◌then◌else◌}
+use Rattle.std.specs.Prelude.{ℕ, suc, ◌+◌, ◌≡◌, ◌≤◌, ◌<◌, ◌^◌, ◌++◌, Bool, true, false, not, ◌&&◌, ◌||◌, ◌==◌, nat_le, List, [], ◌∷◌, Option, Some, None, IsPermutation, length, take, drop, if◌then◌else◌}
 use Rattle.std.specs.List.{AllByRecursion}
 use Rattle.stream_importance.specs.declared.entry.Entry.{Entry}
 use Rattle.stream_importance.specs.declared.slope.Caps.{Caps}
 use Rattle.stream_importance.specs.Bandwidth.{cap_of}
-use Rattle.stream_importance.specs.Importance.{is_more_important, moment_or}
+use Rattle.stream_importance.specs.Importance.{class_number, rank_number, is_more_important, moment_or}
 use Rattle.port_ledger.specs.declared.front.Standing.{Standing}
 use Rattle.port_ledger.specs.declared.totals.Totals.{Totals}
 use Rattle.port_ledger.specs.Decision.{comes_after, entry_slope, is_booked, IsAscending}
@@ -24,27 +24,66 @@ Runs caps sum b [] = Unit {0}
 Runs caps sum b (x ∷ xs) =
     (b x ≡ nat_le (sum + entry_slope x) (cap_of caps x.want.class)) × Runs caps (sum + (if b x then entry_slope x else 0)) b xs
 
--- each of the first entries, as many as a number says, is booked and goes before all that are behind it: at this
--- moment, and as it is booked at every later one
-abbrev pub IsSettled : ℕ → ℕ → List Entry → Type 0
-IsSettled now zero xs = Unit {0}
-IsSettled now (suc n) [] = ⊥
-IsSettled now (suc n) (x ∷ xs) =
-    (is_booked x ≡ true) × AllByRecursion (λ y. comes_after now y x ≡ true) xs × IsSettled now n xs
+-- of the same class and rank
+abbrev pub same_level : Entry → Entry → Bool
+same_level x y = (class_number x.want.class == class_number y.want.class) && (rank_number x.want.rank == rank_number y.want.rank)
 
--- the number of entries before the first that isn't booked
-abbrev pub booked_front : List Entry → ℕ
-booked_front [] = 0
-booked_front (x ∷ xs) = if is_booked x then suc (booked_front xs) else 0
+-- y comes after x at a moment, and so at every later one: an entry that isn't booked counts with the moment, so that
+-- one of its level that is booked comes before it in the end
+abbrev pub stays_after : ℕ → Entry → Entry → Bool
+stays_after now y x = comes_after now y x && (is_booked x || not (is_booked y && same_level x y))
 
--- each of these is more important than an entry
-abbrev pub ArePrior : ℕ → Entry → List Entry → Type 0
-ArePrior now x ys = AllByRecursion (λ y. is_more_important now y x ≡ true) ys
+-- the same, however y is decided at this moment
+abbrev pub stays_behind : ℕ → Entry → Entry → Bool
+stays_behind now y x = comes_after now y x && (is_booked x || not (same_level x y))
 
--- and than another, where there is one
+-- each entry goes before all later ones, at this moment and at every later one
+abbrev pub AreLasting : ℕ → List Entry → Type 0
+AreLasting now [] = Unit {0}
+AreLasting now (x ∷ xs) = AllByRecursion (λ y. stays_after now y x ≡ true) xs × AreLasting now xs
+
+-- an entry comes after each of a front, however it is decided
+abbrev pub IsBehind : ℕ → List Entry → Entry → Type 0
+IsBehind now front y = AllByRecursion (λ x. stays_behind now y x ≡ true) front
+
+-- a front and what is behind it
+pub record IsAhead (now : ℕ) (front rest : List Entry) : Type 0 where
+  pub lasting : AreLasting now front
+  pub behind : AllByRecursion (IsBehind now front) rest
+
+-- the first entries, as many as a number says, stand before all behind them and in their order, at this moment and at
+-- every later one, however what is behind them is decided
+pub record IsSettled (now n : ℕ) (order : List Entry) : Type 0 where
+  pub within : n ≤ length order
+  pub ahead : IsAhead now (take n order) (drop n order)
+
+-- the first entry that is booked
+abbrev pub first_booked : List Entry → Option Entry
+first_booked [] = None
+first_booked (x ∷ xs) = if is_booked x then Some x else first_booked xs
+
+-- whether an entry is of the level of another, where there is one
+abbrev pub has_level : Entry → Option Entry → Bool
+has_level x None = false
+has_level x (Some y) = same_level x y
+
+-- the number of entries before the first that isn't booked and has one behind it that is booked, of its level
+abbrev pub settled_front : List Entry → ℕ
+settled_front [] = 0
+settled_front (x ∷ xs) = if not (is_booked x) && has_level x (first_booked xs) then 0 else suc (settled_front xs)
+
+-- y is more important than x, and stays so when x is booked anew
+abbrev pub is_prior : ℕ → Entry → Entry → Bool
+is_prior now x y = is_more_important now y x && (is_booked y || not (same_level y x))
+
+-- the same of x, where there is one
+abbrev pub is_prior_to : ℕ → Option Entry → Entry → Bool
+is_prior_to now None y = true
+is_prior_to now (Some x) y = is_prior now x y
+
+-- each of these is more important than an entry, where there is one, and stays so
 abbrev pub ArePriorTo : ℕ → Option Entry → List Entry → Type 0
-ArePriorTo now None ys = Unit {0}
-ArePriorTo now (Some x) ys = ArePrior now x ys
+ArePriorTo now x ys = AllByRecursion (λ y. is_prior_to now x y ≡ true) ys
 
 -- the entries behind a front that takes so much, once they are decided, in the order of importance
 abbrev pub decided_behind : ℕ → Caps → ℕ → List Entry → List Entry

@@ -6,14 +6,14 @@ ghost use Rattle.std.specs.List.{AllByRecursion};
 ghost use Rattle.srp_base.specs.declared.bandwidth.Class.TheVariants.{A, B};
 ghost use Rattle.port_ledger.specs.Book.{booked_only_in, booked_slope, same_since, with_want, without};
 ghost use Rattle.port_ledger.specs.Decision.{AreOfDifferentStreams, decided_entries, IsAscending, since_after};
-ghost use Rattle.port_ledger.specs.Front.{booked_front, decided_behind, IsFront, IsOrdered, IsOrderedBook};
+ghost use Rattle.port_ledger.specs.Front.{settled_front, decided_behind, IsFront, IsOrdered, IsOrderedBook};
 ghost use Rattle.port_ledger.specs.Pass.{has_room, importance_order, IsOnlyIn, entries_passed, order_with, with_pass, sum_with, with_since};
 ghost use Rattle.port_ledger.specs.Totals.{together, totals_of};
 ghost use Rattle.stream_importance.specs.Bandwidth.{cap_of};
 
 use crate::changed::{Changed, changes_behind};
 use crate::entries::{find_entry, place_of, put, take_out};
-use crate::front::{Front, Standing, behind, booked_front, cut};
+use crate::front::{Front, Standing, behind, cut, settled_front};
 use crate::order::{change, leave, order_with, rank};
 use crate::totals::{Totals, totals_of};
 use srp_base::{Cs, NoMemory, StreamId};
@@ -184,12 +184,12 @@ fn standing_of(now: Cs, at: usize, front: &Totals, order: &[Entry]) -> Standing
     requires place { at ≤ length order.now }
     requires range { booked_slope order.now A + booked_slope order.now B < 2 ^ 64 }
     requires front { front.now ≡ totals_of now.0 (take at order.now) }
-    ensures settled { result.settled ≡ at + booked_front (drop at order.now) }
+    ensures settled { result.settled ≡ at + settled_front (drop at order.now) }
     ensures totals { result.totals ≡ together front.now (totals_of now.0 (drop at order.now)) }
 {
     let rest = behind(order, at);
     Standing {
-        settled: at + booked_front(rest),
+        settled: at + settled_front(rest),
         totals: front.plus(totals_of(rest, now)),
     }
 }

@@ -1,11 +1,13 @@
-//! From which place of the order of importance on a call decides anew. The entries before it, the front, are booked
-//! and stay as they are: none of them is touched, and what they take together is known from the totals.
+//! From which place of the order of importance on a call decides anew. The entries before it, the front, stay as they
+//! are, booked or not: none of them is touched, and what they take together is known from the totals.
 
-ghost use Rattle.std.specs.Prelude.{◌≡◌, ◌≤◌, ◌<◌, ◌+◌, ◌^◌, length, take, drop};
+ghost use Rattle.std.specs.Prelude.{◌≡◌, ◌≤◌, ◌<◌, ◌+◌, ◌^◌, ◌&&◌, not, true, false, length, take, drop, Some, if◌then◌else◌};
+ghost use Rattle.std.specs.List.{AllByRecursion};
 ghost use Rattle.srp_base.specs.declared.bandwidth.Class.TheVariants.{A, B};
 ghost use Rattle.port_ledger.specs.Book.{booked_slope};
+ghost use Rattle.port_ledger.specs.Decision.{is_booked};
 ghost use Rattle.port_ledger.specs.Totals.{totals_of};
-ghost use Rattle.port_ledger.specs.Front.{ArePrior, ArePriorTo, booked_front, IsRanked, IsSettled, later_standing};
+ghost use Rattle.port_ledger.specs.Front.{AreLasting, ArePriorTo, has_level, is_prior, is_prior_to, IsSettled, later_standing, same_level, settled_front};
 
 use crate::totals::{Totals, totals_of};
 use srp_base::Cs;
@@ -14,7 +16,7 @@ use stream_importance::{Entry, importance_is_an_order, more_important};
 /// What a ledger keeps beside its entries and their order.
 #[derive(Clone, Copy)]
 pub(crate) struct Standing {
-    /// So many of the first entries of the order are booked and go before all behind them, now and later.
+    /// So many of the first entries of the order go before all behind them, now and later.
     pub settled: usize,
     /// What a walk over the entries would find.
     pub totals: Totals,
@@ -60,13 +62,12 @@ pub(crate) fn cut(
     requires settled { IsSettled now.0 standing.now.settled order.now }
     requires totals { standing.now.totals ≡ totals_of now.0 order.now }
     requires range { booked_slope order.now A + booked_slope order.now B < 2 ^ 64 }
-    ensures place { result.place ≤ standing.now.settled }
+    ensures settled { IsSettled now.0 result.place order.now }
     ensures totals { result.totals ≡ totals_of now.0 (take result.place order.now) }
     ensures goes { ArePriorTo now.0 goes (take result.place order.now) }
     ensures comes { ArePriorTo now.0 comes (take result.place order.now) }
 {
-    let settled = ahead(order, standing.settled);
-    let place = first_of(now, settled, goes).min(first_of(now, settled, comes));
+    let place = prior_to_both(now, ahead(order, standing.settled), goes, comes);
     let rest = totals_of(behind(order, place), now);
     Front {
         place,
@@ -74,26 +75,39 @@ pub(crate) fn cut(
     }
 }
 
-/// How many of the entries, which stand in the order of importance, are more important than another, where there is one.
-fn first_of(now: Cs, ranked: &[Entry], x: Option<Entry>) -> usize
-    requires { IsRanked now.0 ranked.now }
+/// How many of the entries, which stand in an order that lasts, are more important than two others and stay so.
+fn prior_to_both(now: Cs, ranked: &[Entry], goes: Option<Entry>, comes: Option<Entry>) -> usize
+    requires { AreLasting now.0 ranked.now }
     ensures bound { result ≤ length ranked.now }
-    ensures prior { ArePriorTo now.0 x (take result ranked.now) }
+    ensures prior { AllByRecursion (λ y. (is_prior_to now.0 goes y && is_prior_to now.0 comes y) ≡ true)
+        (take result ranked.now) }
+    ensures rest { AllByRecursion (λ y. (is_prior_to now.0 goes y && is_prior_to now.0 comes y) ≡ false)
+        (drop result ranked.now) }
+{
+    importance_is_an_order();
+    ranked.partition_point(|y| is_prior_to(now, goes, y) && is_prior_to(now, comes, y))
+}
+
+fn is_prior_to(now: Cs, x: Option<Entry>, y: &Entry) -> bool
+    ensures { result ≡ is_prior_to now.0 x y.now }
 {
     match x {
-        Some(x) => prior_to(now, ranked, &x),
-        None => ranked.len(),
+        Some(x) => is_prior(now, &x, y),
+        None => true,
     }
 }
 
-/// How many of the entries, which stand in the order of importance, are more important than another.
-fn prior_to(now: Cs, ranked: &[Entry], x: &Entry) -> usize
-    requires { IsRanked now.0 ranked.now }
-    ensures bound { result ≤ length ranked.now }
-    ensures prior { ArePrior now.0 x.now (take result ranked.now) }
+/// Whether y is more important than x, and stays so when x is booked anew.
+fn is_prior(now: Cs, x: &Entry, y: &Entry) -> bool
+    ensures { result ≡ is_prior now.0 x.now y.now }
 {
-    importance_is_an_order();
-    ranked.partition_point(|y| more_important(now, y, x))
+    more_important(now, y, x) && (y.since.is_some() || !same_level(y, x))
+}
+
+fn same_level(x: &Entry, y: &Entry) -> bool
+    ensures { result ≡ same_level x.now y.now }
+{
+    x.want.class == y.want.class && x.want.rank == y.want.rank
 }
 
 /// The entries before a place.
@@ -112,14 +126,48 @@ pub(crate) fn behind(order: &[Entry], at: usize) -> &[Entry]
     &order[at..]
 }
 
-/// The number of entries before the first that isn't booked.
-pub(crate) fn booked_front(entries: &[Entry]) -> usize
-    ensures value { result ≡ booked_front entries.now }
+/// The number of entries before the first that isn't booked and has one behind it that is booked, of its level: that
+/// one comes before it as soon as the moment moves.
+pub(crate) fn settled_front(entries: &[Entry]) -> usize
+    ensures value { result ≡ settled_front entries.now }
     ensures bound { result ≤ length entries.now }
 {
-    let mut at = 0;
-    while at < entries.len() && entries[at].since.is_some() {
-        at += 1;
+    let mut settled = 0;
+    let mut booked = None;
+    let mut at = entries.len();
+    while at > 0 {
+        at -= 1;
+        let x = entries[at];
+        settled = settled_with(&x, booked, settled);
+        booked = first_booked(x, booked);
     }
-    at
+    settled
+}
+
+/// The number with an entry in front, where this is the first booked entry behind it.
+fn settled_with(x: &Entry, booked: Option<Entry>, settled: usize) -> usize
+    requires { settled + 1 < 2 ^ 64 }
+    ensures { result
+        ≡ (if not (is_booked x.now) && has_level x.now booked then 0 else settled + 1) }
+{
+    if x.since.is_none() && has_level(x, booked) {
+        0
+    } else {
+        settled + 1
+    }
+}
+
+fn has_level(x: &Entry, booked: Option<Entry>) -> bool
+    ensures { result ≡ has_level x.now booked }
+{
+    match booked {
+        Some(y) => same_level(x, &y),
+        None => false,
+    }
+}
+
+fn first_booked(x: Entry, booked: Option<Entry>) -> Option<Entry>
+    ensures { result ≡ (if is_booked x then Some x else booked) }
+{
+    if x.since.is_some() { Some(x) } else { booked }
 }

@@ -3,7 +3,7 @@ use Rattle.srp_base.specs.declared.bandwidth.Class.TheVariants.{A, B}
 use Rattle.stream_importance.specs.declared.entry.Entry.{Entry}
 use Rattle.port_ledger.specs.Book.{booked_slope}
 use Rattle.port_ledger.specs.Decision.{decided_entries}
-use Rattle.port_ledger.specs.Front.{booked_front, decided_behind, IsOrdered}
+use Rattle.port_ledger.specs.Front.{settled_front, decided_behind, IsOrdered}
 use Rattle.port_ledger.specs.Pass.{importance_order, with_pass}
 use Rattle.port_ledger.specs.Totals.{together, totals_of}
 use Rattle.port_ledger.proofs.Fronts.{front_decided, front_different, front_only, front_ordered, front_place, front_range, front_taken, later, seam-drop, seam-take, seam-within}
@@ -54,5 +54,5 @@ returns-clause-ordered c =
     subst (λ (xs : List Entry). IsOrdered c.args.now.0 c.standing_of.result xs c.decide_part.new.order) (sym (returns-clause-decided c))
     (subst (λ (xs : List Entry). IsOrdered c.args.now.0 c.standing_of.result (decided_entries c.args.now.0 c.args.caps.now c.args.entries.now) xs) (sym (left c.before))
     (front_ordered c.args.now.0 (c.importance_is_an_order.ensures c.args.now.0) c.args.caps.now c.args.front.now.place c.args.front.now.totals c.args.entries.now c.args.order.now c.requires c.standing_of.result.settled c.standing_of.result.totals
-    (c.standing_of.ensures.settled ∙ ap (λ ys. c.args.front.now.place + booked_front ys) rest)
+    (c.standing_of.ensures.settled ∙ ap (λ ys. c.args.front.now.place + settled_front ys) rest)
     (c.standing_of.ensures.totals ∙ ap (λ ys. together c.args.front.now.totals (totals_of c.args.now.0 ys)) rest)))
