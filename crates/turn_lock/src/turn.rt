@@ -7,14 +7,19 @@ ghost use Rattle.turn_lock.specs.declared.board.View.TheVariants.{Living};
 use crate::board::{Board, Kept, Place};
 use crate::plays::{Advance, Draw, Look};
 use crate::sequential::Sequential;
-use crossbeam_utils::Backoff;
 use srp_base::NoMemory;
 use std::sync::Wait;
+use std::{hint, thread};
 
 // The word with the next ticket to be drawn, and the word with the ticket that is served.
 const NEXT: usize = 0;
 
 const SERVED: usize = 1;
+
+// How many times a waiting thread looks again after a pause, and then after it gave way to other threads.
+const PAUSES: u32 = 100;
+
+const YIELDS: u32 = 100;
 
 // Draws a ticket.
 fn draw<S: Sequential>(board: &Board<S>, seat: &mut Place<S>) -> u64
@@ -34,19 +39,30 @@ fn await_turn<S: Sequential, R: Wait>(rt: &R, board: &Board<S>, seat: &mut Place
     ensures seat { seat.new.table_id ≡ seat.old.table_id }
     ensures takes { Takes S.does seat.old.me seat.new.me }
 {
-    let backoff = Backoff::new();
+    let mut looks = 0u32;
     for _ in rt.forever() {
         let served = board.load::<Look<S>>(seat, SERVED);
         if served == ticket {
             return;
         }
-        if backoff.is_completed() {
-            board.park(rt, SERVED, low_half(served));
-        } else {
-            backoff.snooze();
-        }
+        rest(rt, board, looks, served);
+        looks = looks.saturating_add(1);
     }
     unreachable!()
+}
+
+// What a waiting thread does until it looks again, after so many looks: a pause, then it gives way, then it sleeps
+// until another ticket is served than the one that it saw.
+fn rest<S: Sequential, R: Wait>(rt: &R, board: &Board<S>, looks: u32, served: u64)
+    requires { IsBoard board.now.table_id }
+{
+    if looks < PAUSES {
+        hint::spin_loop();
+    } else if looks - PAUSES < YIELDS {
+        thread::yield_now();
+    } else {
+        board.park(rt, SERVED, low_half(served));
+    }
 }
 
 // The low 32 bits of a word.
