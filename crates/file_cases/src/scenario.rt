@@ -8,8 +8,8 @@ use srp_base::{NodeNo, Rank};
 use std::alloc::Global;
 use toml::Table;
 use topology_file::{
-    EventEntry, EventKind, FrameEntry, FrameRoute, LinkEntry, NodeEntry, RuleErr, Scenario,
-    StreamEntry, read_scenario,
+    DomainWord, EventEntry, EventKind, FrameEntry, FrameRoute, LinkEntry, NodeEntry, RuleErr,
+    Scenario, StreamEntry, read_scenario,
 };
 use tree_topology::NodeKind;
 
@@ -27,6 +27,10 @@ const PAIR: &str = "ticks = 22\n\
 const TWINS: &str = "ticks = 1\nlink = [{ a = 'a', b = 'b' }]\n\
     node = [{ name = 'a', kind = 'bridge' }, { name = 'a', kind = 'bridge' }]\n";
 
+/// Two stations, the first of which is in no SRP domain.
+const DOMAINS: &str = "ticks = 1\ndomains = true\nlink = [{ a = 'a', b = 'b' }]\n\
+    node = [{ name = 'a', kind = 'station', domain = 'none' }, { name = 'b', kind = 'station' }]\n";
+
 /// The scenario that a text is.
 fn scenario_of(alloc: Global, text: &str) -> Option<Scenario> {
     match toml::table_from_str(alloc, text) {
@@ -36,7 +40,8 @@ fn scenario_of(alloc: Global, text: &str) -> Option<Scenario> {
 }
 
 fn has_times(scenario: &Scenario) -> bool {
-    scenario.ticks == 22 && scenario.leave_time.0 == 60 && !scenario.periodic
+    let plain = !scenario.periodic && !scenario.domains;
+    plain && scenario.ticks == 22 && scenario.leave_time.0 == 60
 }
 
 fn is_station(node: &NodeEntry, name: &str, id: u64) -> bool {
@@ -154,6 +159,32 @@ fn pair_is_read(alloc: Global) -> bool {
 #[test]
 fn a_pair_is_read_with_its_defaults_its_events_and_its_frame(rt: HostRuntime) {
     assert!(rt; pair_is_read(rt.alloc()));
+}
+
+fn are_domains(scenario: &Scenario) -> bool {
+    match scenario.nodes.as_slice() {
+        [a, b] => a.domain == DomainWord::Nothing && b.domain == DomainWord::Both,
+        _ => false,
+    }
+}
+
+fn has_domains(read: &Option<Scenario>) -> bool {
+    match read {
+        Some(scenario) => scenario.domains && are_domains(scenario),
+        None => false,
+    }
+}
+
+fn domains_are_read(alloc: Global) -> bool {
+    let read = scenario_of(alloc, DOMAINS);
+    let has = has_domains(&read);
+    drop(read);
+    has
+}
+
+#[test]
+fn a_node_is_in_the_domain_that_it_names_or_in_both(rt: HostRuntime) {
+    assert!(rt; domains_are_read(rt.alloc()));
 }
 
 /// Whether the reading fails with a rule, at an entry.
