@@ -8,14 +8,14 @@ abbrev pub file_asks : ℕ → List ℕ
 file_asks rule =
     if rule == 1 then codes "ticks is a whole number from 1 to 12000"
     else if rule == 2 then codes "the keys of the file are known, and node, link, stream, event and frame are arrays of tables"
-    else if rule == 3 then codes "leave_time is a whole number from 60 to 100, and periodic true or false"
+    else if rule == 3 then codes "leave_time is a whole number from 60 to 100, and periodic and domains are true or false"
     else if rule == 5 then codes "there are 2 to 64 nodes, and nodes times ticks are at most 400000"
     else []
 
 -- what those on nodes ask
 abbrev pub node_asks : ℕ → List ℕ
 node_asks rule =
-    if rule == 4 then codes "each node has its form: known keys alone, none missing that has no default, each in its range"
+    if rule == 4 then codes "each node has its form: known keys alone, domain only where the file has domains = true, none missing that has no default, each in its range"
     else if rule == 6 then codes "node names differ"
     else if rule == 7 then codes "node ids differ, defaults included"
     else if rule == 13 then codes "every node is reached from the first one"

@@ -10,10 +10,10 @@ use Rattle.srp_base.specs.Hexadecimal.{hex12, hex16}
 use Rattle.srp_base.specs.Text.{whole_of}
 use Rattle.toml.specs.Data.{Members}
 use Rattle.toml_rules.specs.Fields.{number, truth_or, within, text, tables}
-use Rattle.topology_file.specs.Entries.{name_at, kind_of_text}
+use Rattle.topology_file.specs.Entries.{name_at, kind_of_text, domain_of_text}
 use Rattle.topology_file.specs.Kinds.{app_of_text, octets_of_text}
 use Rattle.rule_words.specs.declared.forms.ValueForm.{ValueForm}
-use Rattle.rule_words.specs.declared.forms.ValueForm.TheVariants.{Name, Digits16, Digits12, PduDigits, Number, Within, Rate, Truth, NodeKind, EventKind, App, Class, Tables}
+use Rattle.rule_words.specs.declared.forms.ValueForm.TheVariants.{Name, Digits16, Digits12, PduDigits, Number, Within, Rate, Truth, NodeKind, Domain, EventKind, App, Class, Tables}
 
 -- ---- values
 
@@ -47,6 +47,7 @@ has_form (Within low high) key ms = is_some (within low high (number key ms))
 has_form Rate key ms = is_some (option_and_then rate_of_mbit (number key ms))
 has_form Truth key ms = is_some (truth_or key false ms)
 has_form NodeKind key ms = is_some (option_and_then kind_of_text (text key ms))
+has_form Domain key ms = is_some (option_and_then domain_of_text (text key ms))
 has_form EventKind key ms = passes event_kind_is_known (text key ms)
 has_form App key ms = is_some (option_and_then app_of_text (text key ms))
 has_form Class key ms = passes class_is_known (text key ms)
@@ -65,6 +66,7 @@ fixed_words (Within low high) = []
 fixed_words Rate = codes "100, 1000 or 10000"
 fixed_words Truth = codes "true or false"
 fixed_words NodeKind = codes "station or bridge, as a text"
+fixed_words Domain = codes "both, a or none, as a text"
 fixed_words EventKind = codes "declare, withdraw, talk, hush, listen, unlisten, lose, repeat or forge, as a text"
 fixed_words App = codes "mvrp or msrp, as a text"
 fixed_words Class = codes "A or B, as a text"

@@ -3,13 +3,14 @@ use Rattle.std.specs.Prelude.{ℕ, Bool, true, false, List, codes}
 use Rattle.rule_words.specs.declared.forms.ValueForm.{ValueForm}
 use Rattle.rule_words.specs.declared.forms.ValueForm.TheVariants as forms
 use Rattle.rule_words.specs.declared.keys.Key.{Key}
-use Rattle.rule_words.specs.declared.keys.Key.TheVariants.{Ticks, LeaveTime, Periodic, Nodes, Links, Streams, Events, Frames, Wants, Name, NodeKind, NodeId, A, B, LinkRate, PortRate, DeltaA, DeltaB, Latency, StreamId, Talker, Dest, StreamOctets, IntervalFrames, StreamVid, Priority, Rank, Tick, EventKind, Station, EventVid, StreamName, From, To, Index, App, PduOctets, FrameOctets, At, Count, Every, WantStream, WantClass, WantTick}
+use Rattle.rule_words.specs.declared.keys.Key.TheVariants.{Ticks, LeaveTime, Periodic, Domains, Nodes, Links, Streams, Events, Frames, Wants, Name, NodeKind, NodeId, NodeDomain, A, B, LinkRate, PortRate, DeltaA, DeltaB, Latency, StreamId, Talker, Dest, StreamOctets, IntervalFrames, StreamVid, Priority, Rank, Tick, EventKind, Station, EventVid, StreamName, From, To, Index, App, PduOctets, FrameOctets, At, Count, Every, WantStream, WantClass, WantTick}
 
 -- the word of a key, as it stands in a file
 abbrev pub word_of : Key → List ℕ
 word_of Ticks = codes "ticks"
 word_of LeaveTime = codes "leave_time"
 word_of Periodic = codes "periodic"
+word_of Domains = codes "domains"
 word_of Nodes = codes "node"
 word_of Links = codes "link"
 word_of Streams = codes "stream"
@@ -19,6 +20,7 @@ word_of Wants = codes "want"
 word_of Name = codes "name"
 word_of NodeKind = codes "kind"
 word_of NodeId = codes "id"
+word_of NodeDomain = codes "domain"
 word_of A = codes "a"
 word_of B = codes "b"
 word_of LinkRate = codes "rate"
@@ -57,6 +59,7 @@ abbrev pub form_of : Key → ValueForm
 form_of Ticks = forms.Within 1 12000
 form_of LeaveTime = forms.Within 60 100
 form_of Periodic = forms.Truth
+form_of Domains = forms.Truth
 form_of Nodes = forms.Tables
 form_of Links = forms.Tables
 form_of Streams = forms.Tables
@@ -66,6 +69,7 @@ form_of Wants = forms.Tables
 form_of Name = forms.Name
 form_of NodeKind = forms.NodeKind
 form_of NodeId = forms.Digits16
+form_of NodeDomain = forms.Domain
 form_of A = forms.Name
 form_of B = forms.Name
 form_of LinkRate = forms.Rate
@@ -103,6 +107,7 @@ form_of WantTick = forms.Within 0 11999
 abbrev pub is_needed : Key → Bool
 is_needed LeaveTime = false
 is_needed Periodic = false
+is_needed Domains = false
 is_needed Nodes = false
 is_needed Links = false
 is_needed Streams = false
@@ -110,6 +115,7 @@ is_needed Events = false
 is_needed Frames = false
 is_needed Wants = false
 is_needed NodeId = false
+is_needed NodeDomain = false
 is_needed LinkRate = false
 is_needed DeltaA = false
 is_needed DeltaB = false

@@ -3,7 +3,7 @@ use Rattle.std.specs.Prelude.{ℕ, Bool, true, false, nat_eq, ◌==◌, ◌&&◌
 use Rattle.std.specs.Cmp.Lexicographic.{pointwise}
 use Rattle.std.specs.Option.{is_some}
 use Rattle.toml.specs.Data.{Members, get_member}
-use Rattle.toml_rules.specs.Fields.{text}
+use Rattle.toml_rules.specs.Fields.{text, truth_or}
 use Rattle.rule_words.specs.declared.keys.Key.{Key}
 use Rattle.rule_words.specs.declared.keys.Key.TheVariants.{Name, NodeId, A, B, StreamId, Talker, Tick, Station, StreamName, From, To, Nodes, Ticks, WantTick, WantStream}
 use Rattle.rule_words.specs.declared.tables.TableForm.{TableForm}
@@ -40,13 +40,27 @@ frame_form ms = if is_some (get_member (codes "stream") ms) then tables.StreamFr
 abbrev pub want_form : ℕ → TableForm
 want_form entry = if entry == 0 then tables.WantArray else tables.Want
 
--- the form that a rule asks of its table, if it asks one
-abbrev pub form_asked : ℕ → ℕ → Members → Option TableForm
-form_asked rule entry ms =
+-- what is given, or no
+abbrev pub is_so : Option Bool → Bool
+is_so None = false
+is_so (Some b) = b
+
+-- a file has SRP domains
+abbrev pub has_domains : Members → Bool
+has_domains ms = is_so (truth_or (codes "domains") false ms)
+
+-- the form of a node, of a file with or without domains
+abbrev pub node_form : Bool → TableForm
+node_form true = tables.DomainNode
+node_form false = tables.Node
+
+-- the form that a rule asks of its table, if it asks one, in a file with or without domains
+abbrev pub form_asked : Bool → ℕ → ℕ → Members → Option TableForm
+form_asked domains rule entry ms =
     if rule == 1 then Some tables.Times
     else if rule == 2 then Some tables.Scenario
     else if rule == 3 then Some tables.Timers
-    else if rule == 4 then Some tables.Node
+    else if rule == 4 then Some (node_form domains)
     else if rule == 8 then Some tables.Link
     else if rule == 16 then Some tables.Stream
     else if rule == 20 then Some (event_form ms)

@@ -1,6 +1,6 @@
 -- What is said of the first rule that a file breaks: a line of its number and its entry, one of what it asks, one of the entry's
 -- place and name, and then the key with what it has to be and what stands there.
-use Rattle.std.specs.Prelude.{ℕ, ◌-◌, ◌==◌, if◌then◌else◌, List, [], ◌∷◌, ◌++◌, codes, flat_map, Option, Some, None}
+use Rattle.std.specs.Prelude.{ℕ, Bool, ◌-◌, ◌==◌, if◌then◌else◌, List, [], ◌∷◌, ◌++◌, codes, flat_map, Option, Some, None}
 use Rattle.std.specs.Fmt.{decimal}
 use Rattle.srp_base.specs.Text.{whole_of}
 use Rattle.toml.specs.Data.{Data, Members, get_member, at, as_table}
@@ -12,7 +12,7 @@ use Rattle.rule_words.specs.Asked.{what_rule_asks, array_of}
 use Rattle.rule_words.specs.Faults.{stray_key, wrong_key}
 use Rattle.rule_words.specs.Forms.{form_words}
 use Rattle.rule_words.specs.Keys.{word_of, form_of}
-use Rattle.rule_words.specs.Matters.{form_asked, keys_asked}
+use Rattle.rule_words.specs.Matters.{has_domains, form_asked, keys_asked}
 use Rattle.rule_words.specs.Tables.{keys_of, keys_together}
 use Rattle.rule_words.specs.Values.{quoted, value_words}
 
@@ -81,9 +81,9 @@ abbrev pub matter_lines : ℕ → Members → Option TableForm → List ℕ
 matter_lines rule ms (Some form) = fault_lines form ms (stray_key form ms)
 matter_lines rule ms None = flat_map (there_line ms) (keys_asked rule ms)
 
--- what is wrong at the table of which a rule speaks
-abbrev pub table_lines : ℕ → ℕ → Members → List ℕ
-table_lines rule entry ms = matter_lines rule ms (form_asked rule entry ms)
+-- what is wrong at the table of which a rule speaks, in a file with or without domains
+abbrev pub table_lines : Bool → ℕ → ℕ → Members → List ℕ
+table_lines domains rule entry ms = matter_lines rule ms (form_asked domains rule entry ms)
 
 -- ---- the entry
 
@@ -95,18 +95,18 @@ entry_of array entry ms = do
   as_table x
 
 -- an entry with what is wrong at it
-abbrev pub lines_of_entry : ℕ → Key → ℕ → Option Members → List ℕ
-lines_of_entry rule array entry None = []
-lines_of_entry rule array entry (Some ms) = entry_line array entry ms ++ table_lines rule entry ms
+abbrev pub lines_of_entry : Bool → ℕ → Key → ℕ → Option Members → List ℕ
+lines_of_entry domains rule array entry None = []
+lines_of_entry domains rule array entry (Some ms) = entry_line array entry ms ++ table_lines domains rule entry ms
 
 -- the entry of the array of which a rule speaks
 abbrev pub lines_in_array : ℕ → ℕ → Members → Option Key → List ℕ
 lines_in_array rule entry ms None = []
-lines_in_array rule entry ms (Some array) = lines_of_entry rule array entry (entry_of array entry ms)
+lines_in_array rule entry ms (Some array) = lines_of_entry (has_domains ms) rule array entry (entry_of array entry ms)
 
 -- what is wrong in a file: at one of its entries, or in the file as a whole, which is the entry 0
 abbrev pub place_lines : ℕ → ℕ → Members → List ℕ
-place_lines rule entry ms = if entry == 0 then table_lines rule 0 ms else lines_in_array rule entry ms (array_of rule)
+place_lines rule entry ms = if entry == 0 then table_lines (has_domains ms) rule 0 ms else lines_in_array rule entry ms (array_of rule)
 
 -- what is said of a rule that a file of these members breaks first at this entry
 abbrev pub refusal_text : ℕ → ℕ → Members → List ℕ

@@ -1,16 +1,17 @@
 -- The tables of the files: which keys each may have.
 use Rattle.std.specs.Prelude.{Bool, true, false, List, [], ◌∷◌}
 use Rattle.rule_words.specs.declared.keys.Key.{Key}
-use Rattle.rule_words.specs.declared.keys.Key.TheVariants.{Ticks, LeaveTime, Periodic, Nodes, Links, Streams, Events, Frames, Wants, Name, NodeKind, NodeId, A, B, LinkRate, PortRate, DeltaA, DeltaB, Latency, StreamId, Talker, Dest, StreamOctets, IntervalFrames, StreamVid, Priority, Rank, Tick, EventKind, Station, EventVid, StreamName, From, To, Index, App, PduOctets, FrameOctets, At, Count, Every, WantStream, WantClass, WantTick}
+use Rattle.rule_words.specs.declared.keys.Key.TheVariants.{Ticks, LeaveTime, Periodic, Domains, Nodes, Links, Streams, Events, Frames, Wants, Name, NodeKind, NodeId, NodeDomain, A, B, LinkRate, PortRate, DeltaA, DeltaB, Latency, StreamId, Talker, Dest, StreamOctets, IntervalFrames, StreamVid, Priority, Rank, Tick, EventKind, Station, EventVid, StreamName, From, To, Index, App, PduOctets, FrameOctets, At, Count, Every, WantStream, WantClass, WantTick}
 use Rattle.rule_words.specs.declared.tables.TableForm.{TableForm}
 use Rattle.rule_words.specs.declared.tables.TableForm.TheVariants as tables
 
 -- the keys that a table of this form may have, in the order in which they are read
 abbrev pub keys_of : TableForm → List Key
 keys_of tables.Times = Ticks ∷ []
-keys_of tables.Scenario = Nodes ∷ Links ∷ Streams ∷ Events ∷ Frames ∷ Ticks ∷ LeaveTime ∷ Periodic ∷ []
-keys_of tables.Timers = LeaveTime ∷ Periodic ∷ []
+keys_of tables.Scenario = Nodes ∷ Links ∷ Streams ∷ Events ∷ Frames ∷ Ticks ∷ LeaveTime ∷ Periodic ∷ Domains ∷ []
+keys_of tables.Timers = LeaveTime ∷ Periodic ∷ Domains ∷ []
 keys_of tables.Node = Name ∷ NodeKind ∷ NodeId ∷ []
+keys_of tables.DomainNode = Name ∷ NodeKind ∷ NodeId ∷ NodeDomain ∷ []
 keys_of tables.Link = A ∷ B ∷ LinkRate ∷ DeltaA ∷ DeltaB ∷ Latency ∷ []
 keys_of tables.Stream = Name ∷ Talker ∷ StreamId ∷ Dest ∷ StreamOctets ∷ IntervalFrames ∷ StreamVid ∷ Priority ∷ Rank ∷ []
 keys_of tables.AnyEvent = Tick ∷ EventKind ∷ []

@@ -14,7 +14,7 @@ fn file_asks(rule: u8) -> &'static str
     } else if rule == 2 {
         "the keys of the file are known, and node, link, stream, event and frame are arrays of tables"
     } else if rule == 3 {
-        "leave_time is a whole number from 60 to 100, and periodic true or false"
+        "leave_time is a whole number from 60 to 100, and periodic and domains are true or false"
     } else if rule == 5 {
         "there are 2 to 64 nodes, and nodes times ticks are at most 400000"
     } else {
@@ -27,7 +27,7 @@ fn node_asks(rule: u8) -> &'static str
     ensures { result.now ≡ node_asks_spec rule }
 {
     if rule == 4 {
-        "each node has its form: known keys alone, none missing that has no default, each in its range"
+        "each node has its form: known keys alone, domain only where the file has domains = true, none missing that has no default, each in its range"
     } else if rule == 6 {
         "node names differ"
     } else if rule == 7 {

@@ -3,7 +3,7 @@
 ghost use Rattle.std.specs.Prelude.{◌≡◌, ◌++◌, IfOk, OnOk};
 ghost use Rattle.std.specs.Option.{is_some};
 ghost use Rattle.toml.specs.View.{table_view};
-ghost use Rattle.topology_file.specs.Entries.{kind_of_text};
+ghost use Rattle.topology_file.specs.Entries.{kind_of_text, domain_of_text};
 ghost use Rattle.topology_file.specs.Kinds.{app_of_text, octets_of_text};
 ghost use Rattle.rule_words.specs.Forms.{class_is_known as class_is_known_spec, event_kind_is_known as event_kind_is_known_spec, passes as passes_spec, has_form as has_form_spec, fixed_words as fixed_words_spec, form_words as form_words_spec, range_words};
 
@@ -27,6 +27,7 @@ pub(crate) enum ValueForm {
     Rate,
     Truth,
     NodeKind,
+    Domain,
     EventKind,
     App,
     Class,
@@ -38,6 +39,13 @@ fn is_node_kind(word: &str) -> bool
     ensures { result ≡ is_some (kind_of_text word.now) }
 {
     matches!(word, "station" | "bridge")
+}
+
+// The SR classes of an SRP domain.
+fn is_domain(word: &str) -> bool
+    ensures { result ≡ is_some (domain_of_text word.now) }
+{
+    matches!(word, "both" | "a" | "none")
 }
 
 // An application whose PDUs may be forged.
@@ -141,6 +149,15 @@ fn has_node_kind(table: &Table, key: &str) -> bool
     }
 }
 
+fn has_domain(table: &Table, key: &str) -> bool
+    ensures { result ≡ has_form_spec ValueForm.Domain key.now (table_view table.now) }
+{
+    match text(table, key) {
+        Some(word) => is_domain(word),
+        None => false,
+    }
+}
+
 fn has_event_kind(table: &Table, key: &str) -> bool
     ensures { result ≡ has_form_spec ValueForm.EventKind key.now (table_view table.now) }
 {
@@ -187,6 +204,7 @@ pub(crate) fn has_form(
         ValueForm::Rate => Ok(has_rate(table, key)),
         ValueForm::Truth => Ok(truth_or(table, key, false).is_some()),
         ValueForm::NodeKind => Ok(has_node_kind(table, key)),
+        ValueForm::Domain => Ok(has_domain(table, key)),
         ValueForm::EventKind => Ok(has_event_kind(table, key)),
         ValueForm::App => Ok(has_app(table, key)),
         ValueForm::Class => Ok(has_class(table, key)),
@@ -208,6 +226,7 @@ fn fixed_words(form: ValueForm) -> &'static str
         ValueForm::Rate => "100, 1000 or 10000",
         ValueForm::Truth => "true or false",
         ValueForm::NodeKind => "station or bridge, as a text",
+        ValueForm::Domain => "both, a or none, as a text",
         ValueForm::EventKind => {
             "declare, withdraw, talk, hush, listen, unlisten, lose, repeat or forge, as a text"
         }

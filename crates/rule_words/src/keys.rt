@@ -14,6 +14,8 @@ pub(crate) enum Key {
     LeaveTime,
     /// Whether participants transmit periodically.
     Periodic,
+    /// Whether nodes have SRP domains.
+    Domains,
     /// Its arrays of tables.
     Nodes,
     Links,
@@ -27,6 +29,8 @@ pub(crate) enum Key {
     /// The keys of a node.
     NodeKind,
     NodeId,
+    /// The SRP domain of a node.
+    NodeDomain,
     /// The keys of a link: its ends.
     A,
     B,
@@ -80,6 +84,7 @@ pub(crate) fn word_of(key: Key) -> &'static str
         Key::Ticks => "ticks",
         Key::LeaveTime => "leave_time",
         Key::Periodic => "periodic",
+        Key::Domains => "domains",
         Key::Nodes => "node",
         Key::Links => "link",
         Key::Streams | Key::StreamName | Key::WantStream => "stream",
@@ -89,6 +94,7 @@ pub(crate) fn word_of(key: Key) -> &'static str
         Key::Name => "name",
         Key::NodeKind | Key::EventKind => "kind",
         Key::NodeId | Key::StreamId => "id",
+        Key::NodeDomain => "domain",
         Key::A => "a",
         Key::B => "b",
         Key::LinkRate | Key::PortRate => "rate",
@@ -125,7 +131,7 @@ pub(crate) fn form_of(key: Key) -> ValueForm
             high: 12_000,
         },
         Key::LeaveTime => ValueForm::Within { low: 60, high: 100 },
-        Key::Periodic => ValueForm::Truth,
+        Key::Periodic | Key::Domains => ValueForm::Truth,
         Key::Nodes | Key::Links | Key::Streams | Key::Events | Key::Frames | Key::Wants =>
             ValueForm::Tables,
         Key::Name
@@ -137,6 +143,7 @@ pub(crate) fn form_of(key: Key) -> ValueForm
         | Key::From
         | Key::To => ValueForm::Name,
         Key::NodeKind => ValueForm::NodeKind,
+        Key::NodeDomain => ValueForm::Domain,
         Key::NodeId | Key::StreamId | Key::WantStream => ValueForm::Digits16,
         Key::LinkRate | Key::PortRate => ValueForm::Rate,
         Key::DeltaA | Key::DeltaB => ValueForm::Within { low: 0, high: 90 },
@@ -182,6 +189,7 @@ pub(crate) fn is_needed(key: Key) -> bool
     match key {
         Key::LeaveTime
         | Key::Periodic
+        | Key::Domains
         | Key::Nodes
         | Key::Links
         | Key::Streams
@@ -189,6 +197,7 @@ pub(crate) fn is_needed(key: Key) -> bool
         | Key::Frames
         | Key::Wants
         | Key::NodeId
+        | Key::NodeDomain
         | Key::LinkRate
         | Key::DeltaA
         | Key::DeltaB

@@ -2,12 +2,12 @@
 
 ghost use Rattle.std.specs.Prelude.{◌≡◌};
 ghost use Rattle.toml.specs.View.{table_view};
-ghost use Rattle.rule_words.specs.Matters.{form_of_kind as form_of_kind_spec, event_form as event_form_spec, frame_form as frame_form_spec, form_asked as form_asked_spec, want_form as want_form_spec, names_in as names_in_spec, keys_asked as keys_asked_spec};
+ghost use Rattle.rule_words.specs.Matters.{form_of_kind as form_of_kind_spec, has_domains as has_domains_spec, node_form as node_form_spec, event_form as event_form_spec, frame_form as frame_form_spec, form_asked as form_asked_spec, want_form as want_form_spec, names_in as names_in_spec, keys_asked as keys_asked_spec};
 
 use crate::keys::Key;
 use crate::tables::TableForm;
 use toml::Table;
-use toml_rules::{text, value_at};
+use toml_rules::{text, truth_or, value_at};
 
 // The form of an event, by the word of its kind.
 fn form_of_kind(word: &str) -> TableForm
@@ -53,15 +53,35 @@ fn want_form(entry: u32) -> TableForm
     }
 }
 
-/// The form that a rule asks of its table, if it asks one.
-pub(crate) fn form_asked(rule: u8, entry: u32, table: &Table) -> Option<TableForm>
-    ensures { result ≡ form_asked_spec rule entry (table_view table.now) }
+/// Whether a file has SRP domains.
+pub(crate) fn has_domains(table: &Table) -> bool
+    ensures { result ≡ has_domains_spec (table_view table.now) }
+{
+    match truth_or(table, "domains", false) {
+        Some(domains) => domains,
+        None => false,
+    }
+}
+
+fn node_form(domains: bool) -> TableForm
+    ensures { result ≡ node_form_spec domains }
+{
+    if domains {
+        TableForm::DomainNode
+    } else {
+        TableForm::Node
+    }
+}
+
+/// The form that a rule asks of its table, if it asks one, in a file with or without SRP domains.
+pub(crate) fn form_asked(domains: bool, rule: u8, entry: u32, table: &Table) -> Option<TableForm>
+    ensures { result ≡ form_asked_spec domains rule entry (table_view table.now) }
 {
     match rule {
         1 => Some(TableForm::Times),
         2 => Some(TableForm::Scenario),
         3 => Some(TableForm::Timers),
-        4 => Some(TableForm::Node),
+        4 => Some(node_form(domains)),
         8 => Some(TableForm::Link),
         16 => Some(TableForm::Stream),
         20 => Some(event_form(table)),

@@ -17,7 +17,7 @@ use crate::asked::{array_of, what_rule_asks};
 use crate::faults::{unknown_key, wrong_key};
 use crate::forms::put_form;
 use crate::keys::{Key, form_of, word_of};
-use crate::matters::{form_asked, keys_asked};
+use crate::matters::{form_asked, has_domains, keys_asked};
 use crate::pieces::{put, put_number};
 use crate::tables::{TableForm, is_closed, keys_of, keys_together};
 use crate::values::{put_quoted, put_value};
@@ -223,11 +223,17 @@ fn put_fault(out: &mut Vec<u8>, form: TableForm, table: &Table) -> Result<(), No
 }
 
 // What is wrong at the table of which a rule speaks.
-fn put_table(out: &mut Vec<u8>, rule: u8, entry: u32, table: &Table) -> Result<(), NoMemory>
+fn put_table(
+    out: &mut Vec<u8>,
+    domains: bool,
+    rule: u8,
+    entry: u32,
+    table: &Table,
+) -> Result<(), NoMemory>
     ensures { OnOk result (out.new.items
-        ≡ out.old.items ++ table_lines rule entry (table_view table.now)) }
+        ≡ out.old.items ++ table_lines domains rule entry (table_view table.now)) }
 {
-    match form_asked(rule, entry, table) {
+    match form_asked(domains, rule, entry, table) {
         Some(form) => put_fault(out, form, table),
         None => put_each_there(out, table, keys_asked(rule, table)),
     }
@@ -247,21 +253,23 @@ fn entry_of(array: Key, entry: u32, table: &Table) -> Option<&Table>
 // An entry with what is wrong at it.
 fn put_entry_and_table(
     out: &mut Vec<u8>,
+    domains: bool,
     rule: u8,
     array: Key,
     entry: u32,
     table: &Table,
 ) -> Result<(), NoMemory>
     ensures { OnOk result (out.new.items
-        ≡ out.old.items ++ lines_of_entry rule array entry (Some (table_view table.now))) }
+        ≡ out.old.items ++ lines_of_entry domains rule array entry (Some (table_view table.now))) }
 {
     put_entry(out, array, entry, table)?;
-    put_table(out, rule, entry, table)
+    put_table(out, domains, rule, entry, table)
 }
 
 // The entry of an array, if it is there.
 fn put_in_array(
     out: &mut Vec<u8>,
+    domains: bool,
     rule: u8,
     array: Key,
     entry: u32,
@@ -269,10 +277,10 @@ fn put_in_array(
 ) -> Result<(), NoMemory>
     requires { 1 ≤ entry }
     ensures { OnOk result (out.new.items ≡ out.old.items
-        ++ lines_of_entry rule array entry (entry_of_spec array entry (table_view table.now))) }
+        ++ lines_of_entry domains rule array entry (entry_of_spec array entry (table_view table.now))) }
 {
     match entry_of(array, entry, table) {
-        Some(found) => put_entry_and_table(out, rule, array, entry, found),
+        Some(found) => put_entry_and_table(out, domains, rule, array, entry, found),
         None => Ok(()),
     }
 }
@@ -284,7 +292,7 @@ fn put_of_array(out: &mut Vec<u8>, rule: u8, entry: u32, table: &Table) -> Resul
         ++ lines_in_array rule entry (table_view table.now) (array_of_spec rule)) }
 {
     match array_of(rule) {
-        Some(array) => put_in_array(out, rule, array, entry, table),
+        Some(array) => put_in_array(out, has_domains(table), rule, array, entry, table),
         None => Ok(()),
     }
 }
@@ -295,7 +303,7 @@ fn put_place(out: &mut Vec<u8>, rule: u8, entry: u32, table: &Table) -> Result<(
         ≡ out.old.items ++ place_lines rule entry (table_view table.now)) }
 {
     if entry == 0 {
-        put_table(out, rule, 0, table)
+        put_table(out, has_domains(table), rule, 0, table)
     } else {
         put_of_array(out, rule, entry, table)
     }

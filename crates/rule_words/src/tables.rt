@@ -12,10 +12,12 @@ pub(crate) enum TableForm {
     Times,
     /// A scenario's file.
     Scenario,
-    /// A scenario's file, as far as the times of MRP go.
+    /// A scenario's file, as far as the times of MRP and the domains go.
     Timers,
     /// A node.
     Node,
+    /// A node of a file with SRP domains.
+    DomainNode,
     /// A link.
     Link,
     /// A stream.
@@ -48,7 +50,7 @@ pub(crate) enum TableForm {
 
 const TIMES_KEYS: [Key; 1] = [Key::Ticks];
 
-const SCENARIO_KEYS: [Key; 8] = [
+const SCENARIO_KEYS: [Key; 9] = [
     Key::Nodes,
     Key::Links,
     Key::Streams,
@@ -57,11 +59,14 @@ const SCENARIO_KEYS: [Key; 8] = [
     Key::Ticks,
     Key::LeaveTime,
     Key::Periodic,
+    Key::Domains,
 ];
 
-const TIMERS_KEYS: [Key; 2] = [Key::LeaveTime, Key::Periodic];
+const TIMERS_KEYS: [Key; 3] = [Key::LeaveTime, Key::Periodic, Key::Domains];
 
 const NODE_KEYS: [Key; 3] = [Key::Name, Key::NodeKind, Key::NodeId];
+
+const DOMAIN_NODE_KEYS: [Key; 4] = [Key::Name, Key::NodeKind, Key::NodeId, Key::NodeDomain];
 
 const LINK_KEYS: [Key; 6] = [
     Key::A,
@@ -146,6 +151,7 @@ pub(crate) fn keys_of(form: TableForm) -> &'static [Key]
         TableForm::Scenario => SCENARIO_KEYS.as_slice(),
         TableForm::Timers => TIMERS_KEYS.as_slice(),
         TableForm::Node => NODE_KEYS.as_slice(),
+        TableForm::DomainNode => DOMAIN_NODE_KEYS.as_slice(),
         TableForm::Link => LINK_KEYS.as_slice(),
         TableForm::Stream => STREAM_KEYS.as_slice(),
         TableForm::AnyEvent => ANY_EVENT_KEYS.as_slice(),

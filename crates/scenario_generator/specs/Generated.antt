@@ -7,11 +7,12 @@ use Rattle.scenario_generator.specs.Streams.{drawn_streams}
 use Rattle.scenario_generator.specs.Events.{drawn_events, IsSortedByTick}
 
 -- 4,000 ticks of its nodes, links, streams and events, by the draws of the number; LeaveTime is 60 cs, nothing is
--- transmitted periodically, and there are no frames
+-- transmitted periodically, and there are no SRP domains and no frames
 pub record IsDrawn (number : ℕ) (p : Plan) : Type 0 where
   pub ticks : p.ticks ≡ 4000
   pub leave_time : p.leave_time ≡ record { 0 = 60 }
   pub periodic : p.periodic ≡ false
+  pub domains : p.domains ≡ false
   pub nodes : p.nodes ≡ drawn_nodes number
   pub links : p.links ≡ drawn_links number
   pub streams : p.streams ≡ drawn_streams number

@@ -4,6 +4,7 @@ use Rattle.std.specs.List.{range_with_len}
 use Rattle.std.specs.Fmt.{decimal}
 use Rattle.srp_base.specs.declared.bandwidth.Rate.TheVariants.{M100}
 use Rattle.tree_topology.specs.declared.graph.NodeKind.TheVariants.{Station, Bridge}
+use Rattle.topology_file.specs.declared.entries.DomainWord.TheVariants.{Both}
 use Rattle.topology_file.specs.declared.entries.NodeEntry.{NodeEntry}
 use Rattle.topology_file.specs.declared.entries.LinkEntry.{LinkEntry}
 use Rattle.scenario_generator.specs.Draws.{draw}
@@ -34,7 +35,7 @@ numbered_name word n = word ++ decimal n
 
 -- bridge n, which is node n
 abbrev pub bridge_entry : ℕ → NodeEntry
-bridge_entry n = record { name = numbered_name (codes "b") n; kind = Bridge; id = record { 0 = n } }
+bridge_entry n = record { name = numbered_name (codes "b") n; kind = Bridge; id = record { 0 = n }; domain = Both }
 
 -- the node that station n is, behind so many bridges
 abbrev pub station_node : ℕ → ℕ → ℕ
@@ -43,7 +44,7 @@ station_node bridges n = bridges + n
 -- station n
 abbrev pub station_entry : ℕ → ℕ → NodeEntry
 station_entry bridges n =
-    record { name = numbered_name (codes "s") n; kind = Station; id = record { 0 = station_node bridges n } }
+    record { name = numbered_name (codes "s") n; kind = Station; id = record { 0 = station_node bridges n }; domain = Both }
 
 -- the nodes of so many bridges and stations
 abbrev pub entries_of_nodes : ℕ → ℕ → List NodeEntry

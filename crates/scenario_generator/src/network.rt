@@ -7,7 +7,7 @@ ghost use Rattle.scenario_generator.specs.Network.{numbered_name, bridge_entry, 
 use crate::draws::Draws;
 use srp_base::{BridgeId, NoMemory, NodeNo, Percent, Rate, Seq};
 use std::alloc::Global;
-use topology_file::{LinkEntry, NodeEntry};
+use topology_file::{DomainWord, LinkEntry, NodeEntry};
 use tree_topology::NodeKind;
 
 /// The most nodes of a number.
@@ -33,6 +33,7 @@ fn bridge(alloc: Global, n: u16) -> Result<NodeEntry, NoMemory>
         name,
         kind: NodeKind::Bridge,
         id: BridgeId(u64::from(n)),
+        domain: DomainWord::Both,
     })
 }
 
@@ -47,6 +48,7 @@ fn station(alloc: Global, bridges: u16, n: u16) -> Result<NodeEntry, NoMemory>
         name,
         kind: NodeKind::Station,
         id: BridgeId(u64::from(bridges + n)),
+        domain: DomainWord::Both,
     })
 }
 

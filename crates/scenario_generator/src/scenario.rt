@@ -127,6 +127,7 @@ pub fn generate(alloc: Global, number: u32) -> Result<Scenario, NoMemory>
         ticks: 4_000,
         leave_time: Cs(60),
         periodic: false,
+        domains: false,
         tree: network.tree,
         nodes: network.nodes,
         links: network.links,

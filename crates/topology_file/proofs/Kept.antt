@@ -21,12 +21,12 @@ use Rattle.topology_file.proofs.EventsKept.{EventsKeep, events-keep}
 use Rattle.topology_file.proofs.FramesKept.{FramesKeep, frames-keep}
 
 -- what a scenario keeps, from what its parts were read as
-plan-keeps : AcceptedLaw → (ticks leave_time : ℕ) (periodic : Bool) (tree : Topology) (nodes : List NodeEntry) (links : List LinkEntry) (streams : List StreamEntry) (events : List EventEntry) (frames : List FrameEntry)
+plan-keeps : AcceptedLaw → (ticks leave_time : ℕ) (periodic domains : Bool) (tree : Topology) (nodes : List NodeEntry) (links : List LinkEntry) (streams : List StreamEntry) (events : List EventEntry) (frames : List FrameEntry)
     → (1 ≤ ticks) × (ticks ≤ 12000) → (60 ≤ leave_time) × (leave_time ≤ 100)
     → NodesKeep ticks nodes → All (IsKnownLink nodes) links → (tree ≡ topology_of nodes links) × (refusal (node_kinds nodes) (tree_links links) ≡ None)
     → first_where (is_crowded tree.links) [] nodes ≡ None → StreamsKeep nodes streams → EventsKeep ticks nodes links streams events → FramesKeep ticks nodes streams frames
-    → KeepsRules (record { ticks = ticks; leave_time = record { 0 = leave_time }; periodic = periodic; tree = tree; nodes = nodes; links = links; streams = streams; events = events; frames = frames })
-plan-keeps law ticks leave_time periodic tree nodes links streams events frames t l n k r crowd s e f =
+    → KeepsRules (record { ticks = ticks; leave_time = record { 0 = leave_time }; periodic = periodic; domains = domains; tree = tree; nodes = nodes; links = links; streams = streams; events = events; frames = frames })
+plan-keeps law ticks leave_time periodic domains tree nodes links streams events frames t l n k r crowd s e f =
     let small = small-parts ticks nodes n.small in
     let C : Topology → Type 0 = λ t. first_where (is_crowded t.links) [] nodes ≡ None in
     record {
@@ -56,19 +56,19 @@ plan-keeps law ticks leave_time periodic tree nodes links streams events frames 
       tree = r.0;
     }
 
-pub plan_of-keeps : AcceptedLaw → (ticks leave_time : ℕ) (periodic : Bool) (node_tables link_tables stream_tables event_tables frame_tables : List Members)
+pub plan_of-keeps : AcceptedLaw → (ticks leave_time : ℕ) (periodic domains : Bool) (node_tables link_tables stream_tables event_tables frame_tables : List Members)
     → (1 ≤ ticks) × (ticks ≤ 12000) → (60 ≤ leave_time) × (leave_time ≤ 100)
-    → IfOk (plan_of ticks leave_time periodic node_tables link_tables stream_tables event_tables frame_tables) KeepsRules
-plan_of-keeps law ticks leave_time periodic node_tables link_tables stream_tables event_tables frame_tables t l =
+    → IfOk (plan_of ticks leave_time periodic domains node_tables link_tables stream_tables event_tables frame_tables) KeepsRules
+plan_of-keeps law ticks leave_time periodic domains node_tables link_tables stream_tables event_tables frame_tables t l =
     let P = KeepsRules in
-    chain-if P _ (nodes_of ticks node_tables) _ (nodes-keep ticks node_tables) (λ nodes n.
+    chain-if P _ (nodes_of ticks domains node_tables) _ (nodes-keep ticks domains node_tables) (λ nodes n.
     chain-if P _ (links_of nodes link_tables) _ (links-keep nodes link_tables) (λ links k.
     chain-if P _ (tree_of nodes links) _ (tree-keeps nodes links) (λ tree r.
     chain-none P 15 (first_where (is_crowded tree.links) [] nodes) _ (λ crowd.
     chain-if P _ (streams_of nodes stream_tables) _ (streams-keep nodes stream_tables) (λ streams s.
     chain-if P _ (events_of ticks nodes links streams event_tables) _ (events-keep ticks nodes links streams event_tables) (λ events e.
     chain-if P _ (frames_of ticks nodes streams frame_tables) _ (frames-keep ticks nodes streams frame_tables) (λ frames f.
-    plan-keeps law ticks leave_time periodic tree nodes links streams events frames t l n k r crowd s e f)))))))
+    plan-keeps law ticks leave_time periodic domains tree nodes links streams events frames t l n k r crowd s e f)))))))
 
 pub scenario-keeps : AcceptedLaw → (ms : Members) → IfOk (scenario_of ms) KeepsRules
 scenario-keeps law ms =
@@ -82,6 +82,7 @@ scenario-keeps law ms =
     chain-needs P 2 (tables (codes "frame") ms) _ (λ frame_tables _.
     chain-needs P 3 (leave_time_at ms) _ (λ leave_time e2.
     chain-needs P 3 (truth_or (codes "periodic") false ms) _ (λ periodic _.
-    plan_of-keeps law ticks leave_time periodic node_tables link_tables stream_tables event_tables frame_tables
+    chain-needs P 3 (truth_or (codes "domains") false ms) _ (λ domains _.
+    plan_of-keeps law ticks leave_time periodic domains node_tables link_tables stream_tables event_tables frame_tables
     (some-says (λ n. (1 ≤ n) × (n ≤ 12000)) (ticks_at ms) ticks e1 (within-range 1 12000 (number (codes "ticks") ms)))
-    (some-says (λ n. (60 ≤ n) × (n ≤ 100)) (leave_time_at ms) leave_time e2 (within-range 60 100 (number_or (codes "leave_time") 60 ms))))))))))))
+    (some-says (λ n. (60 ≤ n) × (n ≤ 100)) (leave_time_at ms) leave_time e2 (within-range 60 100 (number_or (codes "leave_time") 60 ms)))))))))))))

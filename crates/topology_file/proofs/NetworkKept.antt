@@ -25,7 +25,7 @@ use Rattle.tree_topology.specs.Refusal.{refusal}
 use Rattle.topology_file.specs.declared.entries.NodeEntry.{NodeEntry}
 use Rattle.topology_file.specs.declared.entries.LinkEntry.{LinkEntry}
 use Rattle.tree_topology.specs.Refusal.{is_station}
-use Rattle.topology_file.specs.Entries.{is_name, name_of_text, name_at, kind_at, id_of_data, id_at, node_keys, node_entry, has_name, node_no, node_named, station_named, link_keys, rate_at, latency_at, link_between, link_form}
+use Rattle.topology_file.specs.Entries.{is_name, name_of_text, name_at, kind_at, id_of_data, id_at, domain_at, node_keys, node_entry, has_name, node_no, node_named, station_named, link_keys, rate_at, latency_at, link_between, link_form}
 use Rattle.topology_file.specs.Kinds.{IsStationNumber}
 use Rattle.topology_file.specs.Scenario.{has_name_of, has_id_of, is_small, nodes_of, links_of, tree_links, node_kinds, topology_of, unless_refused, tree_of, is_crowded}
 use Rattle.topology_file.proofs.Chains.{and_then-if, when-if, some-says, within-range, chain-if, chain-holds, chain-none, ok-says, an_element, ok-both, each-all, each-numbered}
@@ -45,14 +45,15 @@ name-form key ms =
     and_then-if (λ name. is_name name ≡ true) name_of_text (text key ms) (λ word is.
     when-if (λ name. is_name name ≡ true) (is_name word) (Some word) (λ e. e))
 
-node-form : (n : ℕ) (ms : Members) → IfSome (node_entry n ms) (λ x. is_name x.name ≡ true)
-node-form n ms =
+node-form : (domains : Bool) (n : ℕ) (ms : Members) → IfSome (node_entry domains n ms) (λ x. is_name x.name ≡ true)
+node-form domains n ms =
     let P : NodeEntry → Type 0 = λ x. is_name x.name ≡ true in
-    when-if P (has_only node_keys ms) _ (λ _.
+    when-if P (has_only (node_keys domains) ms) _ (λ _.
     and_then-if P _ (name_at (codes "name") ms) (λ name en.
     and_then-if P _ (kind_at ms) (λ kind ek.
     and_then-if P _ (id_at n ms) (λ id ei.
-    some-says (λ w. is_name w ≡ true) (name_at (codes "name") ms) name en (name-form (codes "name") ms)))))
+    and_then-if P _ (domain_at ms) (λ domain ed.
+    some-says (λ w. is_name w ≡ true) (name_at (codes "name") ms) name en (name-form (codes "name") ms))))))
 
 -- an id is that of its digits, or the entry's number
 abbrev IsIdOf : ℕ → NodeEntry → Type 0
@@ -62,12 +63,14 @@ id-later : (j k : ℕ) (x : NodeEntry) → j ≤ k → IsIdOf j x → IsIdOf k x
 id-later j k x le (inl small) = inl small
 id-later j k x le (inr below) = inr (omega (arith, le, below))
 
-node-id : (n : ℕ) (ms : Members) → IfSome (node_entry n ms) (IsIdOf (n + 1))
-node-id n ms =
-    when-if (IsIdOf (n + 1)) (has_only node_keys ms) _ (λ _.
+node-id : (domains : Bool) (n : ℕ) (ms : Members) → IfSome (node_entry domains n ms) (IsIdOf (n + 1))
+node-id domains n ms =
+    when-if (IsIdOf (n + 1)) (has_only (node_keys domains) ms) _ (λ _.
     and_then-if (IsIdOf (n + 1)) _ (name_at (codes "name") ms) (λ name en.
     and_then-if (IsIdOf (n + 1)) _ (kind_at ms) (λ kind ek.
-    and_then-if (IsIdOf (n + 1)) _ (id_at n ms) (λ id ei. some-says (λ i. (i < 2 ^ 64) ⊎ (i < n + 1)) (id_at n ms) id ei (by (get_member (codes "id") ms))))))
+    and_then-if (IsIdOf (n + 1)) _ (id_at n ms) (λ id ei.
+    and_then-if (IsIdOf (n + 1)) _ (domain_at ms) (λ domain ed.
+    some-says (λ i. (i < 2 ^ 64) ⊎ (i < n + 1)) (id_at n ms) id ei (by (get_member (codes "id") ms)))))))
   where
     by : (o : Option Data) → IfSome (or_default n id_of_data o) (λ i. (i < 2 ^ 64) ⊎ (i < n + 1))
     by None = inr (omega arith)
@@ -88,15 +91,15 @@ pub record NodesKeep (ticks : ℕ) (nodes : List NodeEntry) : Type 0 where
   pub names : first_where has_name_of [] nodes ≡ None
   pub ids : first_where has_id_of [] nodes ≡ None
 
-pub nodes-keep : (ticks : ℕ) (entries : List Members) → IfOk (nodes_of ticks entries) (NodesKeep ticks)
-nodes-keep ticks entries =
+pub nodes-keep : (ticks : ℕ) (domains : Bool) (entries : List Members) → IfOk (nodes_of ticks domains entries) (NodesKeep ticks)
+nodes-keep ticks domains entries =
     let P = NodesKeep ticks in
     let F : NodeEntry → Type 0 = λ x. is_name x.name ≡ true in
     let N : List NodeEntry → Type 0 = λ nodes. All (IsIdOf (1 + length nodes)) nodes in
-    chain-if P (λ nodes. All F nodes × N nodes) (each_entry 4 node_entry 1 entries) _
-    (ok-both (All F) N (each_entry 4 node_entry 1 entries)
-    (each-all Any F 4 node_entry (λ n x _. node-form n x) 1 entries (all-any entries))
-    (each-numbered IsIdOf 4 node_entry id-later node-id 1 entries)) (λ nodes forms.
+    chain-if P (λ nodes. All F nodes × N nodes) (each_entry 4 (node_entry domains) 1 entries) _
+    (ok-both (All F) N (each_entry 4 (node_entry domains) 1 entries)
+    (each-all Any F 4 (node_entry domains) (λ n x _. node-form domains n x) 1 entries (all-any entries))
+    (each-numbered IsIdOf 4 (node_entry domains) id-later (node-id domains) 1 entries)) (λ nodes forms.
     chain-holds P 5 (is_small ticks nodes) _ (λ small.
     chain-none P 6 (first_where has_name_of [] nodes) _ (λ names.
     chain-none P 7 (first_where has_id_of [] nodes) _ (λ ids. record { forms = forms.0; numbers = forms.1; small = small; names = names; ids = ids }))))
@@ -110,9 +113,9 @@ small-parts ticks nodes e =
     (leb-true 2 n q.0, leb-true n 64 q.1, leb-true (n * ticks) 400000 p.1)
 
 -- no more nodes are read than a scenario may have
-pub few-nodes : (ticks : ℕ) (nodes : List NodeEntry) (entries : List Members) → nodes_of ticks entries ≡ Ok nodes → length nodes ≤ 64
-few-nodes ticks nodes entries is =
-    let keep = ok-says (NodesKeep ticks) (nodes_of ticks entries) nodes is (nodes-keep ticks entries) in
+pub few-nodes : (ticks : ℕ) (domains : Bool) (nodes : List NodeEntry) (entries : List Members) → nodes_of ticks domains entries ≡ Ok nodes → length nodes ≤ 64
+few-nodes ticks domains nodes entries is =
+    let keep = ok-says (NodesKeep ticks) (nodes_of ticks domains entries) nodes is (nodes-keep ticks domains entries) in
     (small-parts ticks nodes keep.small).1
 
 -- few nodes have ids of 64 bits

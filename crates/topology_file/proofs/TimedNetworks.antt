@@ -1,5 +1,5 @@
 -- What every network of a file keeps, from the rules that its table passed.
-use Rattle.std.proofs.Common.{◌≡◌, ℕ, ◌≤◌, false, List, [], None, refl, subst, IfOk, arith}
+use Rattle.std.proofs.Common.{◌≡◌, ℕ, ◌≤◌, Bool, false, List, [], None, refl, subst, IfOk, arith}
 use Rattle.std.proofs.lemmas.List.Elements.{All-weaker}
 use Rattle.std.specs.List.{All}
 use Rattle.std.specs.Prelude.{codes}
@@ -41,12 +41,12 @@ network-keeps law ticks leave_time tree nodes links t l n k r crowd =
       is_tree = r.0;
     }
 
-network_of-keeps : AcceptedLaw → (ticks leave_time : ℕ) (node_tables link_tables : List Members)
+network_of-keeps : AcceptedLaw → (ticks leave_time : ℕ) (domains : Bool) (node_tables link_tables : List Members)
     → (1 ≤ ticks) × (ticks ≤ 12000) → (60 ≤ leave_time) × (leave_time ≤ 100)
-    → IfOk (network_of ticks node_tables link_tables) (λ n. KeepsNetworkRules ticks leave_time n.tree n.nodes n.links)
-network_of-keeps law ticks leave_time node_tables link_tables t l =
+    → IfOk (network_of ticks domains node_tables link_tables) (λ n. KeepsNetworkRules ticks leave_time n.tree n.nodes n.links)
+network_of-keeps law ticks leave_time domains node_tables link_tables t l =
     let P : Network → Type 0 = λ n. KeepsNetworkRules ticks leave_time n.tree n.nodes n.links in
-    chain-if P _ (nodes_of ticks node_tables) _ (nodes-keep ticks node_tables) (λ nodes n.
+    chain-if P _ (nodes_of ticks domains node_tables) _ (nodes-keep ticks domains node_tables) (λ nodes n.
     chain-if P _ (links_of nodes link_tables) _ (links-keep nodes link_tables) (λ links k.
     chain-if P _ (tree_of nodes links) _ (tree-keeps nodes links) (λ tree r.
     chain-none P 15 (first_where (is_crowded tree.links) [] nodes) _ (λ crowd.
@@ -70,5 +70,5 @@ timed-keeps law ms =
     chain-if P _ (times_of ticks ms) _ (times-keep ticks ms) (λ times t.
     (let range = some-says (λ n. (1 ≤ n) × (n ≤ 12000)) (ticks_at ms) ticks e (within-range 1 12000 (number (codes "ticks") ms)) in
     let in_range : (1 ≤ times.ticks) × (times.ticks ≤ 12000) = (omega (arith, range.0, t.0), omega (arith, range.1, t.0)) in
-    chain-if P _ (network_of times.ticks node_tables link_tables) _
-    (network_of-keeps law times.ticks times.leave_time node_tables link_tables in_range (t.1, t.2)) (λ network k. k))))))
+    chain-if P _ (network_of times.ticks false node_tables link_tables) _
+    (network_of-keeps law times.ticks times.leave_time false node_tables link_tables in_range (t.1, t.2)) (λ network k. k))))))

@@ -1,6 +1,6 @@
 -- The nodes and links of a file: their keys, their values and their defaults, and the numbers of the nodes
 -- that they name.
-use Rattle.std.specs.Prelude.{ℕ, ◌==◌, Bool, ◌&&◌, ◌||◌, nat_le, nat_eq, if◌then◌else◌, List, [], ◌∷◌, length, codes, Option, Some, None, option_map, option_and_then}
+use Rattle.std.specs.Prelude.{ℕ, ◌==◌, Bool, true, false, ◌&&◌, ◌||◌, nat_le, nat_eq, if◌then◌else◌, List, [], ◌∷◌, length, codes, Option, Some, None, option_map, option_and_then}
 use Rattle.std.specs.Cmp.Lexicographic.{pointwise}
 use Rattle.std.specs.List.{list_all}
 use Rattle.srp_base.specs.declared.bandwidth.Rate.{Rate}
@@ -14,6 +14,8 @@ use Rattle.toml_rules.specs.Shares.{shares_at}
 use Rattle.tree_topology.specs.declared.graph.NodeKind.{NodeKind}
 use Rattle.tree_topology.specs.declared.graph.NodeKind.TheVariants.{Station, Bridge}
 use Rattle.tree_topology.specs.Refusal.{is_station}
+use Rattle.topology_file.specs.declared.entries.DomainWord.{DomainWord}
+use Rattle.topology_file.specs.declared.entries.DomainWord.TheVariants.{Both, OnlyA, Nothing}
 use Rattle.topology_file.specs.declared.entries.NodeEntry.{NodeEntry}
 use Rattle.topology_file.specs.declared.entries.LinkEntry.{LinkEntry}
 
@@ -48,9 +50,23 @@ kind_of_text word =
 abbrev pub id_of_data : Data → Option ℕ
 id_of_data d = option_and_then hex16 (as_str d)
 
--- what a `[[node]]` table may say: what the node is called, what it is, and its BridgeID
-abbrev pub node_keys : List (List ℕ)
-node_keys = codes "name" ∷ codes "kind" ∷ codes "id" ∷ []
+-- the SR classes for which a node's ports are in the SRP domain, by their word
+abbrev pub domain_of_text : List ℕ → Option DomainWord
+domain_of_text word =
+    if pointwise nat_eq word (codes "both") then Some Both
+    else if pointwise nat_eq word (codes "a") then Some OnlyA
+    else if pointwise nat_eq word (codes "none") then Some Nothing
+    else None
+
+-- those that a text gives
+abbrev pub domain_of_data : Data → Option DomainWord
+domain_of_data d = option_and_then domain_of_text (as_str d)
+
+-- what a `[[node]]` table may say: what the node is called, what it is, its BridgeID, and where the file has
+-- domains the node's
+abbrev pub node_keys : Bool → List (List ℕ)
+node_keys false = codes "name" ∷ codes "kind" ∷ codes "id" ∷ []
+node_keys true = codes "name" ∷ codes "kind" ∷ codes "id" ∷ codes "domain" ∷ []
 
 -- "station" or "bridge"
 abbrev pub kind_at : Members → Option NodeKind
@@ -60,17 +76,22 @@ kind_at ms = option_and_then kind_of_text (text (codes "kind") ms)
 abbrev pub id_at : ℕ → Members → Option ℕ
 id_at n ms = or_default n id_of_data (get_member (codes "id") ms)
 
+-- "both", "a" or "none", both where none is given
+abbrev pub domain_at : Members → Option DomainWord
+domain_at ms = or_default Both domain_of_data (get_member (codes "domain") ms)
+
 -- the node of entry n, whose keys are known
 abbrev pub known_node : ℕ → Members → Option NodeEntry
 known_node n ms = do
   name ← name_at (codes "name") ms
   kind ← kind_at ms
   id ← id_at n ms
-  Some (record { name = name; kind = kind; id = record { 0 = id } })
+  domain ← domain_at ms
+  Some (record { name = name; kind = kind; id = record { 0 = id }; domain = domain })
 
--- the node of entry n
-abbrev pub node_entry : ℕ → Members → Option NodeEntry
-node_entry n ms = if has_only node_keys ms then known_node n ms else None
+-- the node of entry n, in a file with or without domains
+abbrev pub node_entry : Bool → ℕ → Members → Option NodeEntry
+node_entry domains n ms = if has_only (node_keys domains) ms then known_node n ms else None
 
 -- the node is called so, byte by byte
 abbrev pub has_name : List ℕ → NodeEntry → Bool

@@ -8,6 +8,7 @@ plan_of_fields s = record {
   ticks = s.ticks;
   leave_time = s.leave_time;
   periodic = s.periodic;
+  domains = s.domains;
   tree = s.tree;
   nodes = s.nodes;
   links = s.links;

@@ -1,5 +1,5 @@
 -- The network of a table and its times, for each file that has such.
-use Rattle.std.specs.Prelude.{◌≡◌, ◌≢◌, ◌≤◌, ◌<◌, ◌^◌, All, AllPairs, ℕ, ◌+◌, ◌*◌, true, List, length, codes, Result, Ok}
+use Rattle.std.specs.Prelude.{◌≡◌, ◌≢◌, ◌≤◌, ◌<◌, ◌^◌, All, AllPairs, ℕ, ◌+◌, ◌*◌, true, false, List, length, codes, Result, Ok}
 use Rattle.srp_base.specs.Results.{◌>>=◌}
 use Rattle.toml.specs.Data.{Members}
 use Rattle.toml_rules.specs.declared.rules.RuleErr.{RuleErr}
@@ -17,14 +17,14 @@ use Rattle.topology_file.specs.Parts.{network_of, times_of}
 use Rattle.topology_file.specs.Scenario.{ticks_at, tree_links, node_kinds, topology_of}
 
 -- The network of a table with its times, or the first rule that fails, with its first failing entry, by the keys
--- `ticks`, `leave_time`, `periodic`, `node` and `link` alone: the rules 1 to 15 of a scenario's file
+-- `ticks`, `leave_time`, `periodic`, `node` and `link` alone: the rules 1 to 15 of a scenario's file without domains
 abbrev pub timed_network_of : Members → Result TimedNetwork RuleErr
 timed_network_of ms = do
   ticks ← needs 1 (ticks_at ms)
   node_tables ← needs 2 (tables (codes "node") ms)
   link_tables ← needs 2 (tables (codes "link") ms)
   times ← times_of ticks ms
-  network ← network_of times.ticks node_tables link_tables
+  network ← network_of times.ticks false node_tables link_tables
   Ok (record { times = times; network = network })
 
 -- What every network of a file keeps: its numbers have their ranges, names and ids differ, and its nodes and links

@@ -1,5 +1,5 @@
 -- The parts of a scenario: its network, and what happens in it.
-use Rattle.std.specs.Prelude.{ℕ, false, List, [], codes, Result, Ok}
+use Rattle.std.specs.Prelude.{ℕ, Bool, false, List, [], codes, Result, Ok}
 use Rattle.srp_base.specs.Firsts.{first_where}
 use Rattle.srp_base.specs.Results.{◌>>=◌}
 use Rattle.toml.specs.Data.{Members}
@@ -15,9 +15,9 @@ use Rattle.topology_file.specs.Plan.{Plan}
 use Rattle.topology_file.specs.Scenario.{nodes_of, links_of, tree_of, is_crowded, streams_of, events_of, frames_of, leave_time_at, plan_of}
 
 -- the nodes, the links and their tree
-abbrev pub network_of : ℕ → List Members → List Members → Result Network RuleErr
-network_of ticks node_tables link_tables = do
-  nodes ← nodes_of ticks node_tables
+abbrev pub network_of : ℕ → Bool → List Members → List Members → Result Network RuleErr
+network_of ticks domains node_tables link_tables = do
+  nodes ← nodes_of ticks domains node_tables
   links ← links_of nodes link_tables
   tree ← tree_of nodes links
   _ ← no_entry 15 (first_where (is_crowded tree.links) [] nodes)
@@ -45,7 +45,8 @@ rest_plan ticks ms node_tables link_tables stream_tables = do
   event_tables ← needs 2 (tables (codes "event") ms)
   frame_tables ← needs 2 (tables (codes "frame") ms)
   times ← times_of ticks ms
-  plan_of times.ticks times.leave_time times.periodic node_tables link_tables stream_tables event_tables frame_tables
+  domains ← needs 3 (truth_or (codes "domains") false ms)
+  plan_of times.ticks times.leave_time times.periodic domains node_tables link_tables stream_tables event_tables frame_tables
 
 -- the scenario of so many ticks, of a table whose keys are known
 abbrev pub entries_plan : ℕ → Members → Result Plan RuleErr

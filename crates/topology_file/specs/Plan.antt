@@ -13,6 +13,7 @@ pub record Plan : Type 0 where
   pub ticks : ℕ
   pub leave_time : Cs
   pub periodic : Bool
+  pub domains : Bool
   pub tree : Topology
   pub nodes : List NodeEntry
   pub links : List LinkEntry

@@ -48,9 +48,9 @@ is_small ticks nodes =
     nat_le 2 (length nodes) && nat_le (length nodes) 64 && nat_le (length nodes * ticks) 400000
 
 -- rules 4 to 7: the end stations and bridges, numbered from 1 in the order of the file
-abbrev pub nodes_of : ℕ → List Members → Result (List NodeEntry) RuleErr
-nodes_of ticks entries = do
-  nodes ← each_entry 4 node_entry 1 entries
+abbrev pub nodes_of : ℕ → Bool → List Members → Result (List NodeEntry) RuleErr
+nodes_of ticks domains entries = do
+  nodes ← each_entry 4 (node_entry domains) 1 entries
   _ ← holds 5 (is_small ticks nodes)
   _ ← no_entry 6 (first_where has_name_of [] nodes)
   _ ← no_entry 7 (first_where has_id_of [] nodes)
@@ -153,8 +153,8 @@ frames_of ticks nodes streams entries = do
 -- what a file may say: its times, and its arrays of tables
 abbrev pub file_keys : List (List ℕ)
 file_keys =
-    codes "ticks" ∷ codes "leave_time" ∷ codes "periodic" ∷ codes "node" ∷ codes "link" ∷ codes "stream"
-    ∷ codes "event" ∷ codes "frame" ∷ []
+    codes "ticks" ∷ codes "leave_time" ∷ codes "periodic" ∷ codes "domains" ∷ codes "node" ∷ codes "link"
+    ∷ codes "stream" ∷ codes "event" ∷ codes "frame" ∷ []
 
 -- how long the run is, in cs
 abbrev pub ticks_at : Members → Option ℕ
@@ -165,21 +165,21 @@ abbrev pub leave_time_at : Members → Option ℕ
 leave_time_at ms = within 60 100 (number_or (codes "leave_time") 60 ms)
 
 -- the scenario of these times and entries
-abbrev pub plan_of : ℕ → ℕ → Bool → List Members → List Members → List Members → List Members → List Members → Result Plan RuleErr
-plan_of ticks leave_time periodic node_tables link_tables stream_tables event_tables frame_tables = do
-  nodes ← nodes_of ticks node_tables
+abbrev pub plan_of : ℕ → ℕ → Bool → Bool → List Members → List Members → List Members → List Members → List Members → Result Plan RuleErr
+plan_of ticks leave_time periodic domains node_tables link_tables stream_tables event_tables frame_tables = do
+  nodes ← nodes_of ticks domains node_tables
   links ← links_of nodes link_tables
   tree ← tree_of nodes links
   _ ← no_entry 15 (first_where (is_crowded tree.links) [] nodes)
   streams ← streams_of nodes stream_tables
   events ← events_of ticks nodes links streams event_tables
   frames ← frames_of ticks nodes streams frame_tables
-  Ok (record { ticks = ticks; leave_time = record { 0 = leave_time }; periodic = periodic; tree = tree; nodes = nodes; links = links; streams = streams; events = events; frames = frames })
+  Ok (record { ticks = ticks; leave_time = record { 0 = leave_time }; periodic = periodic; domains = domains; tree = tree; nodes = nodes; links = links; streams = streams; events = events; frames = frames })
 
 -- The scenario of a table, or the first rule that fails, with its first failing entry:
 --  1  `ticks` is 1 to 12,000
 --  2  the keys are known; nodes, links, streams, events and frames are arrays of tables
---  3  `leave_time` is 60 to 100, `periodic` a truth value
+--  3  `leave_time` is 60 to 100, `periodic` and `domains` are truth values
 --  4  each node has its form                  5  there are 2 to 64 nodes, and not too many ticks
 --  6  node names differ                       7  node ids differ
 --  8  each link has its form                  9  each link's names are nodes
@@ -203,7 +203,8 @@ scenario_of ms = do
   frame_tables ← needs 2 (tables (codes "frame") ms)
   leave_time ← needs 3 (leave_time_at ms)
   periodic ← needs 3 (truth_or (codes "periodic") false ms)
-  plan_of ticks leave_time periodic node_tables link_tables stream_tables event_tables frame_tables
+  domains ← needs 3 (truth_or (codes "domains") false ms)
+  plan_of ticks leave_time periodic domains node_tables link_tables stream_tables event_tables frame_tables
 
 -- ---- what every scenario keeps
 

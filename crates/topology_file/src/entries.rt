@@ -13,6 +13,19 @@ pub struct NodeEntry {
     pub kind: NodeKind,
     /// Its identifier, the node's number where the file gives none.
     pub id: BridgeId,
+    /// The SRP domain that its ports say they are in, where the scenario has domains.
+    pub domain: DomainWord,
+}
+
+/// For which SR classes a node's ports are in the SRP domain (IEEE Std 802.1Q-2018, 35.1.4, 35.2.2.9).
+#[derive(Clone, Copy, PartialEq, Eq)]
+pub enum DomainWord {
+    /// For SR class A and for SR class B.
+    Both,
+    /// For SR class A alone.
+    OnlyA,
+    /// For none.
+    Nothing,
 }
 
 /// A link, with values that hold in both its directions.

@@ -3,11 +3,12 @@
 ghost use Rattle.std.specs.Prelude.{◌≡◌, IfOk};
 ghost use Rattle.std.specs.Option.{option_copied};
 ghost use Rattle.toml.specs.View.{table_view};
-ghost use Rattle.topology_file.specs.Entries.{is_name_char as is_name_char_spec, is_name as is_name_spec, name_at, kind_of_text, kind_at, id_at, rate_at, latency_at};
+ghost use Rattle.topology_file.specs.Entries.{is_name_char as is_name_char_spec, is_name as is_name_spec, name_at, kind_of_text, kind_at, id_at, domain_of_text, domain_at, rate_at, latency_at};
 ghost use Rattle.topology_file.specs.Events.{tick_at};
 ghost use Rattle.topology_file.specs.Kinds.{vid_at, index_at, app_of_text, app_at, octets_of_text, octets_at};
 ghost use Rattle.std.specs.List.{list_all};
 
+use crate::entries::DomainWord;
 use hex::FromHexError;
 use srp_base::{App, NoMemory, Rate, Seq, Vid, read_hex16};
 use std::alloc::Global;
@@ -70,6 +71,27 @@ pub(crate) fn read_id(number: usize, table: &Table) -> Option<u64>
     match value_at(table, "id") {
         Some(value) => read_hex16(value.as_str()?),
         None => Some(number as u64),
+    }
+}
+
+fn domain_of(word: &str) -> Option<DomainWord>
+    ensures { result ≡ domain_of_text word.now }
+{
+    match word {
+        "both" => Some(DomainWord::Both),
+        "a" => Some(DomainWord::OnlyA),
+        "none" => Some(DomainWord::Nothing),
+        _ => None,
+    }
+}
+
+/// The domain of its word, "both" where there is none.
+pub(crate) fn read_domain(table: &Table) -> Option<DomainWord>
+    ensures { result ≡ domain_at (table_view table.now) }
+{
+    match value_at(table, "domain") {
+        Some(value) => domain_of(value.as_str()?),
+        None => Some(DomainWord::Both),
     }
 }
 

@@ -42,7 +42,7 @@ mod streams;
 mod tree;
 
 pub use entries::{
-    EventEntry, EventKind, FrameEntry, FrameRoute, LinkEntry, NodeEntry, StreamEntry,
+    DomainWord, EventEntry, EventKind, FrameEntry, FrameRoute, LinkEntry, NodeEntry, StreamEntry,
 };
 pub use forms::{read_name, read_tick};
 pub use kinds::read_pdu;

@@ -79,16 +79,17 @@ pub(crate) fn read_times(ticks: u64, table: &Table) -> Result<Times, RuleErr>
 pub(crate) fn read_network(
     alloc: Global,
     ticks: u64,
+    domains: bool,
     node_tables: &[&Table],
     link_tables: &[&Table],
 ) -> Result<Network, RuleErr>
     requires { ticks ≤ 12000 }
-    ensures reads { Reads (λ n. n) result (network_of ticks
+    ensures reads { Reads (λ n. n) result (network_of ticks domains
         (map (λ t. table_view t.now) node_tables.now)
         (map (λ t. table_view t.now) link_tables.now)) }
     ensures few_nodes { IfOk result (λ n. length n.nodes ≤ 64) }
 {
-    let nodes = Seq::from_vec(read_nodes(alloc, ticks, node_tables)?);
+    let nodes = Seq::from_vec(read_nodes(alloc, ticks, domains, node_tables)?);
     let links = Seq::from_vec(read_links(alloc, nodes.as_slice(), link_tables)?);
     let tree = make_tree(alloc, nodes.as_slice(), links.as_slice())?;
     no_entry(15, crowded_node(nodes.as_slice(), &tree))?;
@@ -96,8 +97,8 @@ pub(crate) fn read_network(
 }
 
 /// The network of a table with its times, or the first rule that fails with its first failing entry: rules
-/// 1 to 15, of the keys `ticks`, `leave_time`, `periodic`, `node` and `link` alone. What else the table may
-/// have is judged by whoever reads it.
+/// 1 to 15, of the keys `ticks`, `leave_time`, `periodic`, `node` and `link` alone, without SRP domains. What
+/// else the table may have is judged by whoever reads it.
 ///
 /// # Errors
 ///
@@ -111,6 +112,6 @@ pub fn read_timed_network(alloc: Global, table: &Table) -> Result<TimedNetwork, 
     let nodes = needs_tables(alloc, 2, table, "node")?;
     let links = needs_tables(alloc, 2, table, "link")?;
     let times = read_times(ticks, table)?;
-    let network = read_network(alloc, times.ticks, &nodes, &links)?;
+    let network = read_network(alloc, times.ticks, false, &nodes, &links)?;
     Ok(TimedNetwork { times, network })
 }

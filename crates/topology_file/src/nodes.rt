@@ -3,13 +3,14 @@
 ghost use Rattle.std.specs.Prelude.{◌≡◌, ◌&&◌, ◌≤◌, [], map, length, option_map, IfOk, IfSome};
 ghost use Rattle.srp_base.specs.Firsts.{first_where as first_where_spec};
 ghost use Rattle.toml.specs.View.{table_view};
+ghost use Rattle.toml_rules.specs.Fields.{has_only as has_only_spec};
 ghost use Rattle.toml_rules.specs.Rules.{Reads, each_entry};
 ghost use Rattle.tree_topology.specs.Refusal.{is_station as is_station_spec};
-ghost use Rattle.topology_file.specs.Entries.{node_entry, has_name as has_name_spec, node_no as node_no_spec, node_named as node_named_spec, station_named as station_named_spec};
+ghost use Rattle.topology_file.specs.Entries.{node_keys, node_entry, has_name as has_name_spec, node_no as node_no_spec, node_named as node_named_spec, station_named as station_named_spec};
 ghost use Rattle.topology_file.specs.Scenario.{has_name_of as has_name_of_spec, has_id_of as has_id_of_spec, is_small as is_small_spec, nodes_of};
 
 use crate::entries::NodeEntry;
-use crate::forms::{read_id, read_kind, read_name};
+use crate::forms::{read_domain, read_id, read_kind, read_name};
 use srp_base::{BridgeId, NoMemory, NodeNo, Seq};
 use std::alloc::Global;
 use toml::Table;
@@ -26,11 +27,29 @@ pub(crate) fn copy_name(alloc: Global, name: &[u8]) -> Result<Seq<u8>, NoMemory>
 
 const NODE_KEYS: [&str; 3] = ["name", "kind", "id"];
 
-/// The node of an entry with this number, where it has its form.
-fn read_node(alloc: Global, number: usize, table: &Table) -> Result<Option<NodeEntry>, NoMemory>
-    ensures { IfOk result (λ node. node ≡ node_entry number (table_view table.now)) }
+const DOMAIN_NODE_KEYS: [&str; 4] = ["name", "kind", "id", "domain"];
+
+/// Whether a node's entry has no other keys than it may have; its domain is one where the file has domains.
+fn has_node_keys(domains: bool, table: &Table) -> bool
+    ensures { result ≡ has_only_spec (node_keys domains) (table_view table.now) }
 {
-    if !has_only(table, &NODE_KEYS) {
+    if domains {
+        has_only(table, &DOMAIN_NODE_KEYS)
+    } else {
+        has_only(table, &NODE_KEYS)
+    }
+}
+
+/// The node of an entry with this number, where it has its form.
+fn read_node(
+    alloc: Global,
+    domains: bool,
+    number: usize,
+    table: &Table,
+) -> Result<Option<NodeEntry>, NoMemory>
+    ensures { IfOk result (λ node. node ≡ node_entry domains number (table_view table.now)) }
+{
+    if !has_node_keys(domains, table) {
         return Ok(None);
     }
     let Some(name) = read_name(table, "name") else {
@@ -42,24 +61,28 @@ fn read_node(alloc: Global, number: usize, table: &Table) -> Result<Option<NodeE
     let Some(id) = read_id(number, table) else {
         return Ok(None);
     };
+    let Some(domain) = read_domain(table) else {
+        return Ok(None);
+    };
     let name = copy_name(alloc, name.as_bytes())?;
     Ok(Some(NodeEntry {
         name,
         kind,
         id: BridgeId(id),
+        domain,
     }))
 }
 
 /// Rule 4: each node has its form.
-fn read_forms(alloc: Global, entries: &[&Table]) -> Result<Vec<NodeEntry>, RuleErr>
-    ensures { Reads (λ v. v.items) result (each_entry 4 node_entry 1 (map
+fn read_forms(alloc: Global, domains: bool, entries: &[&Table]) -> Result<Vec<NodeEntry>, RuleErr>
+    ensures { Reads (λ v. v.items) result (each_entry 4 (node_entry domains) 1 (map
         (λ t. table_view t.now) entries.now)) }
 {
     each_table(
         alloc,
         4,
         entries,
-        |number, table| read_node(alloc, number, table),
+        |number, table| read_node(alloc, domains, number, table),
     )
 }
 
@@ -101,14 +124,15 @@ fn repeated_id(nodes: &[NodeEntry]) -> Option<usize>
 pub(crate) fn read_nodes(
     alloc: Global,
     ticks: u64,
+    domains: bool,
     entries: &[&Table],
 ) -> Result<Vec<NodeEntry>, RuleErr>
     requires { ticks ≤ 12000 }
-    ensures nodes { Reads (λ v. v.items) result (nodes_of ticks (map
+    ensures nodes { Reads (λ v. v.items) result (nodes_of ticks domains (map
         (λ t. table_view t.now) entries.now)) }
     ensures few { IfOk result (λ v. length v.items ≤ 64) }
 {
-    let nodes = read_forms(alloc, entries)?;
+    let nodes = read_forms(alloc, domains, entries)?;
     holds(5, is_small(ticks, &nodes))?;
     no_entry(6, repeated_name(&nodes))?;
     no_entry(7, repeated_id(&nodes))?;

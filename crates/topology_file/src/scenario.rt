@@ -18,7 +18,7 @@ use srp_base::{Cs, Seq};
 use std::alloc::Global;
 use std::marker::Model;
 use toml::Table;
-use toml_rules::{RuleErr, has_only, holds, needs, needs_tables};
+use toml_rules::{RuleErr, has_only, holds, needs, needs_tables, truth_or};
 use tree_topology::{Tree, laws};
 
 /// A scenario: a network, its times, and what happens in it.
@@ -30,6 +30,8 @@ pub struct Scenario {
     pub leave_time: Cs,
     /// Whether participants transmit periodically.
     pub periodic: bool,
+    /// Whether nodes say which SRP domain they are in, and ports at its edge refuse streams.
+    pub domains: bool,
     /// The tree of the nodes and links.
     pub tree: Tree,
     /// The nodes in the order of their numbers, 2 to 64.
@@ -122,6 +124,7 @@ fn read_traffic(
 fn read_plan(
     alloc: Global,
     times: Times,
+    domains: bool,
     node_tables: &[&Table],
     link_tables: &[&Table],
     stream_tables: &[&Table],
@@ -132,14 +135,14 @@ fn read_plan(
     requires ticks { times.ticks ≤ 12000 }
     requires least_leave { 60 ≤ times.leave_time }
     requires leave { times.leave_time ≤ 100 }
-    ensures { Reads (λ s. s) result (plan_of times.ticks times.leave_time times.periodic
+    ensures { Reads (λ s. s) result (plan_of times.ticks times.leave_time times.periodic domains
         (map (λ t. table_view t.now) node_tables.now) (map (λ t. table_view t.now) link_tables.now)
         (map (λ t. table_view t.now) stream_tables.now)
         (map (λ t. table_view t.now) event_tables.now)
         (map (λ t. table_view t.now) frame_tables.now)) }
 {
     laws::refusals();
-    let network = read_network(alloc, times.ticks, node_tables, link_tables)?;
+    let network = read_network(alloc, times.ticks, domains, node_tables, link_tables)?;
     let traffic = read_traffic(
         alloc,
         times.ticks,
@@ -152,6 +155,7 @@ fn read_plan(
         ticks: times.ticks,
         leave_time: Cs(times.leave_time),
         periodic: times.periodic,
+        domains,
         tree: network.tree,
         nodes: network.nodes,
         links: network.links,
@@ -161,10 +165,11 @@ fn read_plan(
     })
 }
 
-const FILE_KEYS: [&str; 8] = [
+const FILE_KEYS: [&str; 9] = [
     "ticks",
     "leave_time",
     "periodic",
+    "domains",
     "node",
     "link",
     "stream",
@@ -191,9 +196,11 @@ fn read_events_and_frames(
     let event_tables = needs_tables(alloc, 2, table, "event")?;
     let frame_tables = needs_tables(alloc, 2, table, "frame")?;
     let times = read_times(ticks, table)?;
+    let domains = needs(3, truth_or(table, "domains", false))?;
     read_plan(
         alloc,
         times,
+        domains,
         node_tables,
         link_tables,
         stream_tables,

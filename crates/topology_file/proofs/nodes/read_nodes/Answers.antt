@@ -5,4 +5,4 @@ use Rattle.topology_file.proofs.nodes.read_nodes.Goals as goal
 
 pub returns-clause-few : goal.returns-clause-few
 returns-clause-few c =
-    few-nodes c.args.ticks c.in_ok-nodes.nodes.items (map (λ t. table_view t.now) c.args.entries.now) (search rules)
+    few-nodes c.args.ticks c.args.domains c.in_ok-nodes.nodes.items (map (λ t. table_view t.now) c.args.entries.now) (search rules)
