@@ -1,4 +1,4 @@
-pub mod ScriptLemmas
+mod Compared
 pub mod OrderLemmas
 pub mod StepLemmas
 pub mod RestLemmas

@@ -19,7 +19,7 @@ use Rattle.world_core.specs.Ticks.{is_work, is_due, is_settle, is_send, jobs_of,
 use Rattle.srp_schedule.specs.declared.order.Turn.{Turn}
 use Rattle.srp_schedule.specs.declared.order.Turn.TheVariants.{Works, Dues, Settles, Sends}
 use Rattle.srp_schedule.specs.Order.{is_in_turn, turn_from, order_of}
-use Rattle.srp_schedule.proofs.ScriptLemmas.{same_is, other_is}
+use Rattle.srp_schedule.proofs.Compared.{same_is, other_is}
 
 -- four lists one after the other
 four : {X : Type 0} (a b c d p q r s : List X) → a ≡ p → b ≡ q → c ≡ r → d ≡ s → a ++ b ++ c ++ d ≡ p ++ q ++ r ++ s

@@ -23,7 +23,6 @@ use Rattle.world_core.specs.Ticks.{after_script, script_at}
 use Rattle.srp_schedule.specs.Made.{IsNodeMade, events_of}
 use Rattle.srp_schedule.specs.declared.rest.Rest.{Rest}
 use Rattle.srp_schedule.specs.declared.rest.Rest.TheVariants.{Unknown, Awake, UpTo}
-use Rattle.srp_schedule.specs.Script.{answers_to}
 use Rattle.srp_schedule.specs.Rest.{AreRests, IsRestAt, IsRestOf, SaysNothing}
 use Rattle.srp_schedule.proofs.OrderLemmas.{idle_order}
 use Rattle.srp_schedule.proofs.StepLemmas.{steps_other, get_set_other}
@@ -143,14 +142,14 @@ empty_as [] b e nay = refl
 empty_as (x ∷ xs) b e nay =
     let some = ne_eqb (length (x ∷ xs)) 0 (λ none. omega (arith, none)) in absurd (true≢false (sym (ap not (e ∙ some)) ∙ nay))
 
--- nothing has happened where no event has an answer
-script_none : (es : List (ℕ × WorldEvent)) (w : WorldState) → answers_to es w ≡ [] → es ≡ []
-script_none [] w none = refl
-script_none (e ∷ es) w none = absurd (cc)
+-- nothing has happened where no event has a number
+script_none : (es : List (ℕ × WorldEvent)) → map (λ e. e.0) es ≡ [] → es ≡ []
+script_none [] none = refl
+script_none (e ∷ es) none = absurd (cc)
 
-pub script_rests : (plan : Plan) (t : ℕ) (w v : WorldState) (answers : List (ℕ × WorldReply)) (rests : List Rest) → answers ≡ answers_to (script_at plan t) w
+pub script_rests : (plan : Plan) (t : ℕ) (w v : WorldState) (answers : List (ℕ × WorldReply)) (rests : List Rest) → map (λ e. e.0) answers ≡ map (λ e. e.0) (script_at plan t)
     → v ≡ after_script plan t w → answers ≡ [] → AreRests w rests → AreRests v rests
 script_rests plan t w v answers rests are after none rest =
-    let empty = script_none (script_at plan t) w (sym are ∙ none) in
+    let empty = script_none (script_at plan t) (sym are ∙ ap (λ (es : List (ℕ × WorldReply)). map (λ e. e.0) es) none) in
     let same : v ≡ w = after ∙ ap (λ (es : List (ℕ × WorldEvent)). world_after (map (λ (e : ℕ × WorldEvent). e.1) es) w) empty in
     subst (λ (u : WorldState). AreRests u rests) (sym same) rest

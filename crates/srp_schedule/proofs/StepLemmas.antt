@@ -27,7 +27,7 @@ use Rattle.world_core.specs.Kept.{IsKeptWorld}
 use Rattle.world_core.specs.World.{WorldState, Happened, node_at, after_step, world_step, world_after, replies_to}
 use Rattle.world_core.specs.Ticks.{step_events, step_replies, steps_at_port, steps_of, jobs_of, canonical_order, AscendByNode}
 use Rattle.srp_schedule.specs.Made.{AreSteps, IsNodeMade, IsStepReply, events_of, replies_of, with_steps}
-use Rattle.srp_schedule.proofs.ScriptLemmas.{same_is, other_is}
+use Rattle.srp_schedule.proofs.Compared.{same_is, other_is}
 use Rattle.srp_schedule.proofs.OrderLemmas.{at_port, canonical_is, order_of_port, order_ports}
 
 same_number : (x y : ℕ) → (x == y) ≡ true → x ≡ y

@@ -1,13 +1,9 @@
 -- One tick from its parts, and one tick more of a run.
-use Rattle.std.proofs.Common.{◌≡◌, ℕ, zero, suc, ◌+◌, ◌-◌, ◌<◌, ◌≤◌, ◌^◌, false, List, [], ◌∷◌, ◌++◌, length, map, drop, get_or, refl, sym, ap, subst, ◌∙◌, arith}
-use Rattle.std.specs.List.{AllByRecursion, flat_map}
-use Rattle.std.proofs.Math.Seq.{drop-cons}
-use Rattle.srp_base.specs.declared.numbers.EgressPort.{EgressPort}
+use Rattle.std.proofs.Common.{◌≡◌, ℕ, suc, ◌+◌, ◌<◌, ◌^◌, false, List, [], ◌∷◌, ◌++◌, length, map, refl, sym, ap, subst, ◌∙◌, arith}
+use Rattle.std.specs.List.{AllByRecursion}
 use Rattle.srp_base.specs.declared.numbers.NodeNo.{NodeNo}
 use Rattle.srp_base.specs.declared.ports.PortChange.{PortChange}
-use Rattle.tree_topology.specs.declared.graph.Link.{Link}
 use Rattle.tree_topology.specs.Topology.{Topology, HasPort}
-use Rattle.tree_topology.specs.Ports.{port_to, ends_of}
 use Rattle.topology_file.specs.Plan.{Plan}
 use Rattle.topology_file.specs.Scenario.{KeepsRules}
 use Rattle.node_core.specs.declared.types.NodeStep.{NodeStep}
@@ -16,63 +12,16 @@ use Rattle.world_core.specs.declared.events.WorldEvent.TheVariants.{Port, Carry,
 use Rattle.world_core.specs.declared.events.WorldReply.{WorldReply}
 use Rattle.world_core.specs.declared.journal.NodeSteps.{NodeSteps}
 use Rattle.world_core.specs.declared.journal.Tick.{Tick}
-use Rattle.world_core.specs.World.{WorldState, Happened, CanHappen, world_step, world_after}
+use Rattle.world_core.specs.World.{WorldState, CanHappen, world_step, world_after, replies_to}
 use Rattle.world_core.specs.Start.{world_of}
 use Rattle.world_core.specs.Ticks.{script_at, after_script, after_steps, step_events, link_ports, tick_events, LeadTo, IsCanonicalTick}
 use Rattle.world_core.specs.During.{IsDuring, IsAllowed}
 use Rattle.world_core.specs.Carrying.{NothingWaits, has_send}
 use Rattle.world_core.specs.History.{HasPortsOf, acts_noted}
-use Rattle.srp_schedule.specs.Cursor.{IsCursor}
-use Rattle.srp_schedule.specs.Script.{answers_to}
-use Rattle.srp_schedule.specs.Made.{AreSteps, carried_ends}
+use Rattle.world_core.specs.Cursor.{IsCursor}
+use Rattle.srp_schedule.specs.Made.{AreSteps}
 use Rattle.srp_schedule.specs.Tick.{DuringLaws}
-use Rattle.srp_schedule.proofs.ScriptLemmas.{numbers_are, answers_are}
 use Rattle.srp_schedule.proofs.StepLemmas.{after_append}
-
--- ---- the carrying, link by link
-
--- both ends of a link, one after the other
-pub both_carried : (tree : Topology) (n : ℕ) (ends : EgressPort × EgressPort) (w v u : WorldState) (first second : WorldReply) → ends ≡ ends_of tree.links n
-    → world_step (Carry ends.0) w ≡ (v, first) → world_step (Carry ends.1) v ≡ (u, second) → u ≡ world_after (carried_ends tree n) w
-both_carried tree n ends w v u first second are one two =
-    ap (λ (h : Happened). h.0) (sym {A = Happened} two)
-    ∙ (ap (λ (h : Happened). (world_step (Carry ends.1) h.0).0) (sym {A = Happened} one)
-    ∙ ap (λ (e : EgressPort × EgressPort). (world_step (Carry e.1) (world_step (Carry e.0) w).0).0) are)
-
--- the first n links have been carried
-pub record IsCarriedTo (n : ℕ) (start w : WorldState) : Type 0 where
-  pub after : world_after (map Carry (flat_map (λ l. port_to start.tree.links l.a.0 l.b.0 ∷ port_to start.tree.links l.b.0 l.a.0 ∷ []) (drop n start.tree.links))) w
-      ≡ world_after (map Carry (link_ports start.tree)) start
-  pub tree : w.tree ≡ start.tree
-
-pub one_carried : (n : ℕ) (start w v : WorldState) → n < length start.tree.links → v ≡ world_after (carried_ends w.tree (n + 1)) w → v.tree ≡ w.tree
-    → IsCarriedTo n start w → IsCarriedTo (n + 1) start v
-one_carried n start w v lt after tree c =
-    let links : List Link = start.tree.links in
-    let none : Link = record { a = record { 0 = 0 }; b = record { 0 = 0 } } in
-    let ports : List Link → List EgressPort = λ ls. flat_map (λ l. port_to links l.a.0 l.b.0 ∷ port_to links l.b.0 l.a.0 ∷ []) ls in
-    let less : n + 1 - 1 ≡ n = omega arith in
-    let next : suc n ≡ n + 1 = omega arith in
-    let cut : drop n links ≡ get_or links (n + 1 - 1) none ∷ drop (n + 1) links =
-    drop-cons links n none lt ∙ (ap (λ (k : ℕ). get_or links k none ∷ drop (suc n) links) (sym less) ∙ ap (λ (k : ℕ). get_or links (n + 1 - 1) none ∷ drop k links) next)
-    in
-    record {
-      after =
-          ap (λ (u : WorldState). world_after (map Carry (ports (drop (n + 1) links))) u) (after ∙ ap (λ (t : Topology). world_after (carried_ends t (n + 1)) w) c.tree)
-          ∙ (ap (λ (ls : List Link). world_after (map Carry (ports ls)) w) (sym cut) ∙ c.after);
-      tree = tree ∙ c.tree;
-    }
-
-drop_all : {X : Type 0} (xs : List X) (i : ℕ) → length xs ≤ i → drop i xs ≡ []
-drop_all [] zero le = refl
-drop_all [] (suc i) le = refl
-drop_all (x ∷ xs) zero le = absurd (omega (arith, le))
-drop_all (x ∷ xs) (suc i) le = drop_all xs i (omega (arith, le))
-
-pub all_carried : (n : ℕ) (start w : WorldState) → length start.tree.links ≤ n → IsCarriedTo n start w → w ≡ world_after (map Carry (link_ports start.tree)) start
-all_carried n start w le c =
-    let links : List Link = start.tree.links in
-    ap (λ (ls : List Link). world_after (map Carry (flat_map (λ l. port_to links l.a.0 l.b.0 ∷ port_to links l.b.0 l.a.0 ∷ []) ls)) w) (sym (drop_all links n le)) ∙ c.after
 
 -- nothing is carried where the steps sent nothing
 pub nothing_carried : ((plan : Plan) (t : ℕ) (w : WorldState) (tick : Tick) → IsDuring plan.tree t w → NothingWaits w → has_send tick.steps ≡ false
@@ -86,7 +35,8 @@ nothing_carried law plan t w during waits v tick is tree isnt =
 
 -- what the parts of a tick have made of a network, one after the other: the script, the steps, the carrying and the clock
 pub record AreTickParts (plan : Plan) (t : ℕ) (w w1 w2 w3 w4 : WorldState) (tick : Tick) : Type 0 where
-  pub answers : tick.events ≡ answers_to (script_at plan t) w
+  pub numbers : map (λ e. e.0) tick.events ≡ map (λ e. e.0) (script_at plan t)
+  pub answers : map (λ e. e.1) tick.events ≡ replies_to (map (λ e. e.1) (script_at plan t)) w
   pub script : w1 ≡ after_script plan t w
   pub steps : AreSteps (length w1.tree.kinds) w1 tick.steps
   pub stepped : w2 ≡ world_after (step_events tick.steps) w1
@@ -94,12 +44,14 @@ pub record AreTickParts (plan : Plan) (t : ℕ) (w w1 w2 w3 w4 : WorldState) (ti
   pub clock : w4 ≡ (world_step Clock w3).0
 
 pub tick_parts : (plan : Plan) (t : ℕ) (w w1 w2 w3 w4 : WorldState) (events : List (ℕ × WorldReply)) (steps : List NodeSteps) (tick : Tick)
-    → tick.events ≡ events → tick.steps ≡ steps → events ≡ answers_to (script_at plan t) w → w1 ≡ after_script plan t w → AreSteps (length w1.tree.kinds) w1 steps
+    → tick.events ≡ events → tick.steps ≡ steps → map (λ e. e.0) events ≡ map (λ e. e.0) (script_at plan t)
+    → map (λ e. e.1) events ≡ replies_to (map (λ e. e.1) (script_at plan t)) w → w1 ≡ after_script plan t w → AreSteps (length w1.tree.kinds) w1 steps
     → w2 ≡ world_after (step_events steps) w1 → w3 ≡ world_after (map Carry (link_ports w2.tree)) w2 → w4 ≡ (world_step Clock w3).0
     → AreTickParts plan t w w1 w2 w3 w4 tick
-tick_parts plan t w w1 w2 w3 w4 events steps tick e s answers script made stepped carried clock =
+tick_parts plan t w w1 w2 w3 w4 events steps tick e s numbers answers script made stepped carried clock =
     record {
-      answers = e ∙ answers;
+      numbers = ap (λ (es : List (ℕ × WorldReply)). map (λ x. x.0) es) e ∙ numbers;
+      answers = ap (λ (es : List (ℕ × WorldReply)). map (λ x. x.1) es) e ∙ answers;
       script = script;
       steps = subst (λ (x : List NodeSteps). AreSteps (length w1.tree.kinds) w1 x) (sym s) made;
       stepped = stepped ∙ ap (λ (x : List NodeSteps). world_after (step_events x) w1) (sym s);
@@ -186,8 +138,8 @@ module _ (laws : DuringLaws) (plan : Plan) (rules : KeepsRules plan) (t : ℕ) (
         let tree : there.tree ≡ plan.tree = (scripted_stays there refl).tree_is in
         record {
           legal = record {
-            numbers = ap (λ (es : List (ℕ × WorldReply)). map (λ e. e.0) es) made.answers ∙ numbers_are (script_at plan t) w;
-            answers = ap (λ (es : List (ℕ × WorldReply)). map (λ e. e.1) es) made.answers ∙ answers_are (script_at plan t) w;
+            numbers = made.numbers;
+            answers = made.answers;
             nodes = steps.nodes;
             some = steps.some;
             known = subst (λ (r : Topology). AllByRecursion (λ ns. AllByRecursion (λ st. HasPort r (record { node = ns.node; port = st.port })) ns.steps) tick.steps) tree steps.known;

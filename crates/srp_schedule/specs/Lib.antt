@@ -1,5 +1,3 @@
-pub mod Cursor
-pub mod Script
 pub mod Order
 pub mod Made
 pub mod Rest

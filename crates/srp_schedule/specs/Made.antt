@@ -1,15 +1,14 @@
--- The steps that nodes have made in a tick, and the carrying of a link.
+-- The steps that nodes have made in a tick.
 use Rattle.std.specs.Prelude.{◌≡◌, ◌≢◌, ◌≤◌, ℕ, List, [], ◌∷◌, ◌++◌, map}
 use Rattle.std.specs.List.{AllByRecursion}
 use Rattle.srp_base.specs.declared.numbers.NodeNo.{NodeNo}
 use Rattle.srp_base.specs.declared.numbers.PortNo.{PortNo}
 use Rattle.srp_base.specs.declared.numbers.EgressPort.{EgressPort}
 use Rattle.tree_topology.specs.Topology.{Topology, HasPort}
-use Rattle.tree_topology.specs.Ports.{ends_of}
 use Rattle.node_core.specs.declared.types.NodeStep.{NodeStep}
 use Rattle.node_core.specs.declared.types.PortStep.{PortStep}
 use Rattle.world_core.specs.declared.events.WorldEvent.{WorldEvent}
-use Rattle.world_core.specs.declared.events.WorldEvent.TheVariants.{Port, Carry}
+use Rattle.world_core.specs.declared.events.WorldEvent.TheVariants.{Port}
 use Rattle.world_core.specs.declared.events.WorldReply.{WorldReply}
 use Rattle.world_core.specs.declared.events.WorldReply.TheVariants.{Step, Done, Missed}
 use Rattle.world_core.specs.declared.journal.NodeSteps.{NodeSteps}
@@ -69,7 +68,3 @@ pub record AreSteps (x : ℕ) (w : WorldState) (made : List NodeSteps) : Type 0 
   pub jobs : (p : EgressPort) → HasPort w.tree p → p.node.0 ≤ x → steps_of p made ≡ jobs_of p w
   pub replies : step_replies made ≡ replies_to (step_events made) w
   pub canonical : AllByRecursion (λ ns. jobs_done ns.steps ≡ canonical_order ns.node w) made
-
--- the carrying of a link's two ends, end `a` first
-abbrev pub carried_ends : Topology → ℕ → List WorldEvent
-carried_ends tree n = Carry (ends_of tree.links n).0 ∷ Carry (ends_of tree.links n).1 ∷ []

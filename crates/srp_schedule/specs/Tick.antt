@@ -12,7 +12,7 @@ use Rattle.world_core.specs.Ticks.{script_at, link_ports, tick_events, after_ste
 use Rattle.world_core.specs.During.{IsDuring, IsAllowed}
 use Rattle.world_core.specs.Carrying.{NothingWaits}
 use Rattle.world_core.specs.History.{HistoryState, acts_noted}
-use Rattle.srp_schedule.specs.Cursor.{IsCursor}
+use Rattle.world_core.specs.Cursor.{IsCursor}
 
 -- what happens in a tick leaves it as it is until the clock goes on, and then the next tick begins
 pub record DuringLaws : Type 0 where

@@ -5,14 +5,12 @@ ghost use Rattle.world_core.specs.Ticks.{AreCanonicalTicks};
 ghost use Rattle.world_core.specs.World.{CanHappen, world_step};
 ghost use Rattle.world_core.specs.During.{IsDuring};
 ghost use Rattle.world_core.specs.Carrying.{NothingWaits};
+ghost use Rattle.world_core.specs.Cursor.{IsCursor};
 ghost use Rattle.world_core.specs.Timeline.{AreChanges, IsTimelineOf};
-ghost use Rattle.srp_schedule.specs.Cursor.{IsCursor};
 ghost use Rattle.srp_schedule.specs.Rest.{AreRests};
 ghost use Rattle.srp_schedule.specs.Tick.{DuringLaws, IsTickMade};
 
-use crate::carry::carry_sent;
 use crate::rest::{Rest, forget_if, nothing_known};
-use crate::script::make_events;
 use crate::steps::make_steps;
 use node_core::laws::a_node_at_rest_stays_so;
 use srp_base::{NoMemory, Seq};
@@ -24,7 +22,7 @@ use world_core::timeline_laws::{
     only_a_node_that_acts_changes_what_is_in_force, what_ends_a_tick_changes_nothing_in_force,
     what_is_noted_is_in_force,
 };
-use world_core::{History, Journal, Run, Tick, World, WorldEvent};
+use world_core::{History, Journal, Run, Tick, World, WorldEvent, carry_sent, make_events};
 
 /// Runs a scenario to its end: in each tick its events, each node's steps in the canonical order (all Works, then all Dues,
 /// then all Settles, then all Sends, ports ascending in each), the carrying of each port's PDUs, and the clock. Answers the

@@ -1,9 +1,9 @@
 -- The network of a scenario keeps what every network keeps.
-use Rattle.std.proofs.Common.{◌≡◌, ℕ, zero, suc, ◌+◌, ◌-◌, ◌*◌, ◌<◌, ◌≤◌, ◌^◌, Bool, true, false, if◌then◌else◌, List, [], ◌∷◌, ◌++◌, length, map, refl, sym, ap, subst, ◌∙◌, arith}
+use Rattle.std.proofs.Common.{◌≡◌, ℕ, zero, suc, ◌+◌, ◌-◌, ◌*◌, ◌<◌, ◌≤◌, ◌^◌, Bool, true, false, if◌then◌else◌, List, [], ◌∷◌, ◌++◌, length, map, fold, refl, sym, ap, subst, ◌∙◌, arith}
 use Rattle.std.specs.Prelude.{slice_get, Some, None, option_map, ◌==◌}
 use Rattle.std.specs.List.{cons_option}
-use Rattle.std.specs.Ordering.{nat_cmp}
 use Rattle.std.proofs.lemmas.Option.{slice_get_within}
+use Rattle.srp_base.specs.declared.bandwidth.Class.{Class}
 use Rattle.srp_base.specs.declared.numbers.Cs.{Cs}
 use Rattle.srp_base.specs.declared.numbers.EgressPort.{EgressPort}
 use Rattle.srp_base.specs.declared.numbers.BridgeId.{BridgeId}
@@ -16,20 +16,24 @@ use Rattle.topology_file.specs.declared.entries.NodeEntry.{NodeEntry}
 use Rattle.topology_file.specs.declared.entries.LinkEntry.{LinkEntry}
 use Rattle.topology_file.specs.Plan.{Plan}
 use Rattle.topology_file.specs.Scenario.{KeepsRules, tree_links, ends_of_entry}
-use Rattle.mrp_participant.specs.State.{State, new_state}
-use Rattle.mrp_participant.specs.MarkedLink.{AreMarkedDutiesMet, new_marked_link}
+use Rattle.mrp_participant.specs.Link.{LinkEvent}
+use Rattle.mrp_participant.specs.Link.EndEvent.{Declares}
+use Rattle.mrp_participant.specs.Link.LinkEvent.{AtNear}
+use Rattle.mrp_participant.specs.State.{State, new_state, declared_state}
+use Rattle.mrp_participant.specs.MarkedLink.{MarkedLink, AreMarkedDutiesMet, unmarked, new_marked_link, other_marked_view, after_marked_event}
 use Rattle.msrp_codec.specs.declared.pdu.MsrpKey.{MsrpKey}
 use Rattle.msrp_codec.specs.declared.pdu.MsrpContent.{MsrpContent}
+use Rattle.msrp_codec.specs.Content.{base_octets, octets_of}
 use Rattle.msrp.specs.declared.port.Port.{Port}
-use Rattle.msrp.specs.Part.{Part as StreamPart, key_cmp}
+use Rattle.msrp.specs.Part.{Part as StreamPart, key_cmp, same_content}
 use Rattle.msrp.specs.declared.domain.DomainSet.{DomainSet}
-use Rattle.msrp.specs.declared.domain.DomainSet.TheVariants.{Off}
+use Rattle.msrp.specs.Domain.{classes_of, domain_key, domain_content, domain_part}
 use Rattle.msrp.specs.Side.{new_port}
 use Rattle.mvrp.specs.Part.{Part}
 use Rattle.attribute_propagation.specs.Ports.{place_of}
 use Rattle.node_core.specs.State.{NodeState, box_at, new_node}
 use Rattle.node_core.specs.Proper.{IsProperNode}
-use Rattle.world_core.specs.Start.{setup_of, end_setup, setups_from, nodes_from, world_of}
+use Rattle.world_core.specs.Start.{domain_set, setup_of, end_setup, setups_from, nodes_from, world_of}
 use Rattle.world_core.specs.World.{inbox, outbox}
 use Rattle.world_core.specs.Duty.{part_at}
 use Rattle.world_core.specs.Kept.{FitsTree, IsKeptWorld}
@@ -72,7 +76,7 @@ pub record IsNewNode (plan : Plan) (entries : List NodeEntry) (first x : ℕ) (s
   pub kind_at : slice_get (map (λ (n : NodeEntry). n.kind) entries) x ≡ Some entry.kind
   pub number : ℕ
   pub number_is : number ≡ first + x
-  pub is : s ≡ new_node entry.kind entry.id plan.leave_time plan.periodic Off (setups_from 1 number plan.links)
+  pub is : s ≡ new_node entry.kind entry.id plan.leave_time plan.periodic (domain_set plan.domains entry.domain) (setups_from 1 number plan.links)
 
 pub new_at : (plan : Plan) (entries : List NodeEntry) (first x : ℕ) (s : NodeState) → slice_get (nodes_from plan first entries) x ≡ Some s → IsNewNode plan entries first x s
 new_at plan [] first x s get = cc
@@ -92,29 +96,75 @@ no_wires [] at = refl
 no_wires (p ∷ ports) zero = refl
 no_wires (p ∷ ports) (suc at) = no_wires ports at
 
--- a participant of an application at a place of a new node is a new one
-abbrev pub IsNewThere : {K C : Type 0} → AppView K C → Type 0
-IsNewThere {K = K} {C = C} v =
-    (kind : NodeKind) (bridge : BridgeId) (leave_time : Cs) (periodic : Bool) (ports : List PortSetup) (at : ℕ) (x : State K C)
-    → v.part at (new_node kind bridge leave_time periodic Off ports) ≡ Some x → (period : Cs) × (x ≡ new_state period leave_time periodic)
+-- ---- a link between two participants as a network begins with them
 
+module _ {K C : Type 0} (v : AppView K C) where
+  -- nothing is in flight, and no mark is set
+  abbrev pub BeginsWith : State K C → State K C → Type 0
+  BeginsWith x z = AreMarkedDutiesMet v.cmp (record { link = record { near = x; far = z; sent = []; coming = [] }; near = unmarked; far = unmarked })
+
+  abbrev pub new_of_times : Cs × Cs × Bool → State K C
+  new_of_times t = new_state t.0 t.1 t.2
+
+  -- a participant that has declared since it was new: what a new link keeps with a new one it keeps with this one
+  abbrev pub IsBegun : State K C → Type 0
+  IsBegun x = (t : Cs × Cs × Bool) × ((z : State K C) → BeginsWith (new_of_times t) z → BeginsWith x z)
+
+  -- a participant of an application at a place of a new node
+  abbrev pub IsNewThere : Type 0
+  IsNewThere =
+      (kind : NodeKind) (bridge : BridgeId) (leave_time : Cs) (periodic : Bool) (domain : DomainSet) (ports : List PortSetup) (at : ℕ) (x : State K C)
+      → v.part at (new_node kind bridge leave_time periodic domain ports) ≡ Some x → IsBegun x
+
+  -- what the public law says of new links
+  pub record NewLinks : Type 0 where
+    pub new : (near far : Cs × Cs × Bool) → AreMarkedDutiesMet v.cmp (new_marked_link {K = K} {C = C} near far)
+    pub turns : (l : MarkedLink K C) → AreMarkedDutiesMet v.cmp l → AreMarkedDutiesMet v.cmp (other_marked_view l)
+
+  -- two that have declared: first the one, and then, as the other end sees the link, the other
+  both_begun : NewLinks → (x z : State K C) → IsBegun x → IsBegun z → BeginsWith x z
+  both_begun links x z near far =
+      let turned : (a b : State K C) → BeginsWith a b → BeginsWith b a = λ a b met. links.turns (record { link = record { near = a; far = b; sent = []; coming = [] }; near = unmarked; far = unmarked }) met in
+      turned z x (far.1 x (turned x (new_of_times far.0) (near.1 (new_of_times far.0) (links.new near.0 far.0))))
+
+-- VIDs: a new participant
 new_part : (leave_time : Cs) (periodic : Bool) (ports : List PortSetup) (at : ℕ) (x : Part) → slice_get (map (λ p. new_state p.period leave_time periodic) ports) at ≡ Some x
-    → (period : Cs) × (x ≡ new_state period leave_time periodic)
+    → IsBegun vlan_view x
 new_part leave_time periodic [] at x get = cc
-new_part leave_time periodic (p ∷ ports) zero x get = (p.period, cc)
+new_part leave_time periodic (p ∷ ports) zero x get =
+    let is : new_state p.period leave_time periodic ≡ x = cc in
+    ((p.period, leave_time, periodic), λ z met. subst (λ (y : Part). BeginsWith vlan_view y z) is met)
 new_part leave_time periodic (p ∷ ports) (suc at) x get = new_part leave_time periodic ports at x get
 
-new_stream_part : (bridge : BridgeId) (leave_time : Cs) (periodic : Bool) (ports : List PortSetup) (at : ℕ) (x : StreamPart)
-    → option_map (λ (p : Port). p.part) (slice_get (map (new_port bridge leave_time periodic Off) ports) at) ≡ Some x → (period : Cs) × (x ≡ new_state period leave_time periodic)
-new_stream_part bridge leave_time periodic [] at x get = cc
-new_stream_part bridge leave_time periodic (p ∷ ports) zero x get = (p.period, cc)
-new_stream_part bridge leave_time periodic (p ∷ ports) (suc at) x get = new_stream_part bridge leave_time periodic ports at x get
+new_vlans_there : IsNewThere vlan_view
+new_vlans_there kind bridge leave_time periodic domain ports at x get = new_part leave_time periodic ports at x get
 
-pub new_vlans_there : IsNewThere vlan_view
-new_vlans_there kind bridge leave_time periodic ports at x get = new_part leave_time periodic ports at x get
+-- what the public law says of events on a link of MSRP
+abbrev pub HasStreamEvents : Type 0
+HasStreamEvents =
+    (l : MarkedLink MsrpKey MsrpContent) (e : LinkEvent MsrpKey MsrpContent) → AreMarkedDutiesMet key_cmp l
+    → AreMarkedDutiesMet key_cmp (after_marked_event base_octets octets_of key_cmp same_content l e)
 
-pub new_streams_there : IsNewThere stream_view
-new_streams_there kind bridge leave_time periodic ports at x get = new_stream_part bridge leave_time periodic ports at x get
+-- streams: a new participant that has declared its node's Domain values
+module _ (event : HasStreamEvents) where
+  declares_each : (classes : List Class) (x z : StreamPart) → BeginsWith stream_view x z
+      → BeginsWith stream_view (fold (λ (t : StreamPart) (class : Class). declared_state key_cmp same_content (domain_key class) (domain_content class) t) x classes) z
+  declares_each [] x z met = met
+  declares_each (class ∷ classes) x z met =
+      declares_each classes (declared_state key_cmp same_content (domain_key class) (domain_content class) x) z
+      (event (record { link = record { near = x; far = z; sent = []; coming = [] }; near = unmarked; far = unmarked }) (AtNear (Declares (domain_key class) (domain_content class))) met)
+
+  new_stream_part : (bridge : BridgeId) (leave_time : Cs) (periodic : Bool) (domain : DomainSet) (ports : List PortSetup) (at : ℕ) (x : StreamPart)
+      → option_map (λ (p : Port). p.part) (slice_get (map (new_port bridge leave_time periodic domain) ports) at) ≡ Some x → IsBegun stream_view x
+  new_stream_part bridge leave_time periodic domain [] at x get = cc
+  new_stream_part bridge leave_time periodic domain (p ∷ ports) zero x get =
+      let new : StreamPart = new_state p.period leave_time periodic in
+      let is : domain_part domain new ≡ x = cc in
+      ((p.period, leave_time, periodic), λ z met. subst (λ (y : StreamPart). BeginsWith stream_view y z) is (declares_each (classes_of domain) new z met))
+  new_stream_part bridge leave_time periodic domain (p ∷ ports) (suc at) x get = new_stream_part bridge leave_time periodic domain ports at x get
+
+  new_streams_there : IsNewThere stream_view
+  new_streams_there kind bridge leave_time periodic domain ports at x get = new_stream_part bridge leave_time periodic domain ports at x get
 
 module _ (plan : Plan) (rules : KeepsRules plan)
     (laws : (tree : Topology) → IsSound tree → HasPortLaws tree)
@@ -134,7 +184,7 @@ module _ (plan : Plan) (rules : KeepsRules plan)
       (record {
         kind = ap (λ (t : Topology). slice_get t.kinds x) rules.tree ∙ new.kind_at;
         ports = mapped_length _ setups ∙ count;
-        kept = proper new.entry.kind new.entry.id plan.leave_time plan.periodic Off setups (omega (arith, count, few, same))
+        kept = proper new.entry.kind new.entry.id plan.leave_time plan.periodic (domain_set plan.domains new.entry.domain) setups (omega (arith, count, few, same))
             (at_each (λ (n : NodeEntry). n.id.0 < 2 ^ 64) plan.nodes (all_each _ plan.nodes rules.node_ids) x new.entry new.at);
       })
 
@@ -155,11 +205,9 @@ module _ (plan : Plan) (rules : KeepsRules plan)
   has_marks = record { tree = refl; of = new_of plan.tree }
 
   -- what is at a port at the start, in an application
-  module _ {K C : Type 0} (v : AppView K C) (there : IsNewThere v)
-      (new_duties : (near far : Cs × Cs × Bool) → AreMarkedDutiesMet v.cmp (new_marked_link {K = K} {C = C} near far)) where
+  module _ {K C : Type 0} (v : AppView K C) (there : IsNewThere v) (links : NewLinks v) where
     record AtStart (p : EgressPort) (x : State K C) : Type 0 where
-      period : Cs
-      part : x ≡ new_state period plan.leave_time plan.periodic
+      begun : IsBegun v x
       in_none : inbox p (world_of plan) ≡ []
       out_none : outbox p (world_of plan) ≡ []
 
@@ -170,11 +218,10 @@ module _ (plan : Plan) (rules : KeepsRules plan)
         let is = node.1 in
         let new = new_at plan plan.nodes 1 (p.node.0 - 1) s is in
         let setups : List PortSetup = setups_from 1 new.number plan.links in
-        let one = there new.entry.kind new.entry.id plan.leave_time plan.periodic setups (place_of p.port) x
+        let one = there new.entry.kind new.entry.id plan.leave_time plan.periodic (domain_set plan.domains new.entry.domain) setups (place_of p.port) x
         (ap (v.part (place_of p.port)) (sym new.is) ∙ (sym (part_is v p (world_of plan) s is) ∙ get)) in
         record {
-          period = one.0;
-          part = one.1;
+          begun = one;
           in_none = inbox_is p (world_of plan) s is ∙ (ap (λ (r : NodeState). box_at (place_of p.port) r.inboxes) new.is ∙ no_wires setups (place_of p.port));
           out_none = outbox_is p (world_of plan) s is ∙ (ap (λ (r : NodeState). box_at (place_of p.port) r.outboxes) new.is ∙ no_wires setups (place_of p.port));
         }
@@ -190,20 +237,19 @@ module _ (plan : Plan) (rules : KeepsRules plan)
         let no_marks_at : (r : EgressPort) → mark_at v.app r w.marks ≡ no_mark = mark_none v.app plan.tree in
         subst (λ (x : EndMark). Boxed v near far (inbox q w) (outbox p w) (inbox (peer_of plan.tree.links q) w) (outbox q w) (x, mark_at v.app q w.marks)) (sym (no_marks_at p))
         (subst (λ (y : EndMark). Boxed v near far (inbox q w) (outbox p w) (inbox (peer_of plan.tree.links q) w) (outbox q w) (no_mark, y)) (sym (no_marks_at q))
-        (met_same v (no_mark, no_mark) (new_state here.period plan.leave_time plan.periodic) near (new_state far_start.period plan.leave_time plan.periodic) far
+        (met_same v (no_mark, no_mark) near near far far
         [] (inbox q w) [] (outbox p w) [] (inbox (peer_of plan.tree.links q) w) [] (outbox q w)
-        (sym here.part) (sym far_start.part) (sym far_start.in_none) (sym here.out_none) (sym back) (sym far_start.out_none)
+        refl refl (sym far_start.in_none) (sym here.out_none) (sym back) (sym far_start.out_none)
         (record {
-          duties = new_duties (here.period, plan.leave_time, plan.periodic) (far_start.period, plan.leave_time, plan.periodic);
+          duties = both_begun v links near far here.begun far_start.begun;
           near_flying = refl;
           far_flying = refl;
           near_clear = λ is. let never : false ≡ true = is in cc;
           far_clear = λ is. let never : false ≡ true = is in cc;
         })))
 
-  pub begins : ((near far : Cs × Cs × Bool) → AreMarkedDutiesMet nat_cmp (new_marked_link {K = ℕ} {C = Unit {0}} near far))
-      → ((near far : Cs × Cs × Bool) → AreMarkedDutiesMet key_cmp (new_marked_link {K = MsrpKey} {C = MsrpContent} near far)) → IsKeptWorld (world_of plan)
-  begins vlans streams =
+  pub begins : NewLinks vlan_view → NewLinks stream_view → HasStreamEvents → IsKeptWorld (world_of plan)
+  begins vlans streams event =
       kept_whole (world_of plan) base has_marks (idle_start plan)
       (met_start vlan_view new_vlans_there vlans)
-      (met_start stream_view new_streams_there streams)
+      (met_start stream_view (new_streams_there event) streams)

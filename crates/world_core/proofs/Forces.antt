@@ -22,7 +22,7 @@ use Rattle.mvrp.specs.Part.{Part}
 use Rattle.attribute_propagation.specs.Ports.{place_of}
 use Rattle.mrp_participant.specs.State.{new_state}
 use Rattle.msrp.specs.declared.port.Port.{Port as SrpPort}
-use Rattle.msrp.specs.declared.domain.DomainSet.TheVariants.{Off}
+use Rattle.msrp.specs.declared.domain.DomainSet.{DomainSet}
 use Rattle.msrp.specs.Side.{new_port, clocked_port}
 use Rattle.node_core.specs.State.{NodeState, new_node}
 use Rattle.node_core.specs.Step.{clocked_node, node_step}
@@ -30,7 +30,7 @@ use Rattle.node_core.specs.declared.types.NodeEvent.TheVariants as node_events
 use Rattle.node_core.specs.Links.{with_outbox, with_carried}
 use Rattle.world_core.specs.declared.events.WorldEvent.TheVariants.{Carry, Clock}
 use Rattle.world_core.specs.World.{WorldState, node_at, with_node, with_changed, outbox, after_carrying, after_clock, world_after}
-use Rattle.world_core.specs.Start.{world_of, nodes_from, setups_from}
+use Rattle.world_core.specs.Start.{world_of, domain_set, nodes_from, setups_from}
 use Rattle.world_core.specs.Ticks.{link_ports, closing_events}
 use Rattle.world_core.specs.Force.{Force, no_force, booked_streams, registered_vids, force_of}
 use Rattle.world_core.specs.Timeline.{node_force, force_at}
@@ -78,12 +78,12 @@ clock_keeps at s =
     refl
 
 -- nothing is in force at a new node
-new_has_none : (kind : NodeKind) (bridge : BridgeId) (leave_time : Cs) (periodic : Bool) (ports : List PortSetup) (at : ℕ) → node_force at (new_node kind bridge leave_time periodic Off ports) ≡ no_force
-new_has_none kind bridge leave_time periodic ports at =
-    same_force (node_force at (new_node kind bridge leave_time periodic Off ports)) no_force
-    (ap (map (λ (x : Entry). x.want.stream)) (read_made (λ (p : SrpPort). booked_of p.ledger.entries) [] (new_port bridge leave_time periodic Off) (λ s. refl) ports at))
-    (read_made (λ (p : SrpPort). booked_slope p.ledger.entries A) 0 (new_port bridge leave_time periodic Off) (λ s. refl) ports at)
-    (read_made (λ (p : SrpPort). booked_slope p.ledger.entries B) 0 (new_port bridge leave_time periodic Off) (λ s. refl) ports at)
+new_has_none : (kind : NodeKind) (bridge : BridgeId) (leave_time : Cs) (periodic : Bool) (domain : DomainSet) (ports : List PortSetup) (at : ℕ) → node_force at (new_node kind bridge leave_time periodic domain ports) ≡ no_force
+new_has_none kind bridge leave_time periodic domain ports at =
+    same_force (node_force at (new_node kind bridge leave_time periodic domain ports)) no_force
+    (ap (map (λ (x : Entry). x.want.stream)) (read_made (λ (p : SrpPort). booked_of p.ledger.entries) [] (new_port bridge leave_time periodic domain) (λ s. refl) ports at))
+    (read_made (λ (p : SrpPort). booked_slope p.ledger.entries A) 0 (new_port bridge leave_time periodic domain) (λ s. refl) ports at)
+    (read_made (λ (p : SrpPort). booked_slope p.ledger.entries B) 0 (new_port bridge leave_time periodic domain) (λ s. refl) ports at)
     (read_made (λ (p : Part). registered_vids p.rows) [] (λ (q : PortSetup). new_state q.period leave_time periodic) (λ s. refl) ports at)
 
 -- what a port has in force by its participant and its ledger
@@ -134,7 +134,7 @@ closing_keeps tree w p = ports_keep (link_ports tree) p w
 
 nodes_have_none : (plan : Plan) (x : ℕ) (entries : List NodeEntry) (i at : ℕ) → option_map_or (node_force at) (slice_get (nodes_from plan x entries) i) no_force ≡ no_force
 nodes_have_none plan x [] i at = refl
-nodes_have_none plan x (n ∷ entries) zero at = new_has_none n.kind n.id plan.leave_time plan.periodic (setups_from 1 x plan.links) at
+nodes_have_none plan x (n ∷ entries) zero at = new_has_none n.kind n.id plan.leave_time plan.periodic (domain_set plan.domains n.domain) (setups_from 1 x plan.links) at
 nodes_have_none plan x (n ∷ entries) (suc i) at = nodes_have_none plan (x + 1) entries i at
 
 -- nothing is in force at the start

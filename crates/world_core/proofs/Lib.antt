@@ -21,9 +21,13 @@ mod Beginnings
 mod Starting
 mod Runs
 mod OwnSteps
+mod OneByOne
+mod TickRuns
 mod EventLists
 mod Happenings
 mod Carrying
+mod LinksCarried
+mod Scripts
 mod Standing
 mod Marked
 mod Limits
@@ -38,4 +42,5 @@ mod Changes
 mod Places
 mod Acting
 mod Histories
+mod NotedRuns
 pub mod InStep

@@ -15,7 +15,7 @@ use Rattle.tree_topology.specs.Topology.{HasPort}
 use Rattle.topology_file.specs.declared.entries.LinkEntry.{LinkEntry}
 use Rattle.topology_file.specs.Plan.{Plan}
 use Rattle.attribute_propagation.specs.Ports.{place_of}
-use Rattle.msrp.specs.declared.domain.DomainSet.TheVariants.{Off}
+use Rattle.msrp.specs.declared.domain.DomainSet.{DomainSet}
 use Rattle.msrp.specs.declared.port.Port.{Port}
 use Rattle.msrp.specs.Proper.{Setup, setup_of as port_setup}
 use Rattle.msrp.specs.Side.{IsPort, new_port}
@@ -29,7 +29,7 @@ use Rattle.world_core.specs.declared.events.WorldEvent.{WorldEvent}
 use Rattle.world_core.specs.declared.events.WorldEvent.TheVariants.{Request, Port as PortEvent, Lose, Repeat, Forge, Carry, Clock}
 use Rattle.world_core.specs.Kept.{IsKeptWorld}
 use Rattle.world_core.specs.Limits.{is_link_of, links_of, caps_of_link, no_caps, caps_at, booked_at_port, IsWithinLimits}
-use Rattle.world_core.specs.Start.{setup_of, end_setup, setups_from, world_of}
+use Rattle.world_core.specs.Start.{domain_set, setup_of, end_setup, setups_from, world_of}
 use Rattle.world_core.specs.World.{WorldState}
 use Rattle.world_core.proofs.Lists.{at_each, within, set_at}
 use Rattle.world_core.proofs.Beginnings.{new_at}
@@ -82,30 +82,30 @@ set_up_own same plan Clock w = λ x s is h. ap (map (λ (c : Setup). c.caps)) (s
 
 -- ---- at the start
 
-one_end : (n x : ℕ) (l : LinkEntry) (rest : List PortSetup) (links : List LinkEntry) (bridge : BridgeId) (leave_time : Cs) (periodic : Bool)
-    → map (λ (c : Setup). c.caps) (map port_setup (map (new_port bridge leave_time periodic Off) rest)) ≡ map caps_of_link (filter (is_link_of x) links)
-    → map (λ (c : Setup). c.caps) (map port_setup (map (new_port bridge leave_time periodic Off) (end_setup n x l ++ rest))) ≡ map caps_of_link (filter (is_link_of x) (l ∷ links))
-one_end n x l rest links bridge leave_time periodic e = by (l.a.0 == x) (l.b.0 == x)
+one_end : (n x : ℕ) (l : LinkEntry) (rest : List PortSetup) (links : List LinkEntry) (bridge : BridgeId) (leave_time : Cs) (periodic : Bool) (domain : DomainSet)
+    → map (λ (c : Setup). c.caps) (map port_setup (map (new_port bridge leave_time periodic domain) rest)) ≡ map caps_of_link (filter (is_link_of x) links)
+    → map (λ (c : Setup). c.caps) (map port_setup (map (new_port bridge leave_time periodic domain) (end_setup n x l ++ rest))) ≡ map caps_of_link (filter (is_link_of x) (l ∷ links))
+one_end n x l rest links bridge leave_time periodic domain e = by (l.a.0 == x) (l.b.0 == x)
   where
     by : (a b : Bool)
-        → map (λ (c : Setup). c.caps) (map port_setup (map (new_port bridge leave_time periodic Off) ((if a then setup_of (2 * n - 1) l ∷ [] else if b then setup_of (2 * n) l ∷ [] else []) ++ rest)))
+        → map (λ (c : Setup). c.caps) (map port_setup (map (new_port bridge leave_time periodic domain) ((if a then setup_of (2 * n - 1) l ∷ [] else if b then setup_of (2 * n) l ∷ [] else []) ++ rest)))
         ≡ map caps_of_link (if a || b then l ∷ filter (is_link_of x) links else filter (is_link_of x) links)
     by true b = ap (λ cs. caps_of_link l ∷ cs) e
     by false true = ap (λ cs. caps_of_link l ∷ cs) e
     by false false = e
 
-caps_of_setups : (n x : ℕ) (links : List LinkEntry) (bridge : BridgeId) (leave_time : Cs) (periodic : Bool)
-    → map (λ (c : Setup). c.caps) (map port_setup (map (new_port bridge leave_time periodic Off) (setups_from n x links))) ≡ map caps_of_link (filter (is_link_of x) links)
-caps_of_setups n x [] bridge leave_time periodic = refl
-caps_of_setups n x (l ∷ links) bridge leave_time periodic =
-    one_end n x l (setups_from (n + 1) x links) links bridge leave_time periodic (caps_of_setups (n + 1) x links bridge leave_time periodic)
+caps_of_setups : (n x : ℕ) (links : List LinkEntry) (bridge : BridgeId) (leave_time : Cs) (periodic : Bool) (domain : DomainSet)
+    → map (λ (c : Setup). c.caps) (map port_setup (map (new_port bridge leave_time periodic domain) (setups_from n x links))) ≡ map caps_of_link (filter (is_link_of x) links)
+caps_of_setups n x [] bridge leave_time periodic domain = refl
+caps_of_setups n x (l ∷ links) bridge leave_time periodic domain =
+    one_end n x l (setups_from (n + 1) x links) links bridge leave_time periodic domain (caps_of_setups (n + 1) x links bridge leave_time periodic domain)
 
 pub set_up_start : (plan : Plan) → AllNodes (IsSetUp plan) (world_of plan)
 set_up_start plan x s get =
     let new = new_at plan plan.nodes 1 x s get in
     let number = new.number_is in
     let place : new.number ≡ x + 1 = omega (arith, number) in
-    ap caps_in new.is ∙ (caps_of_setups 1 new.number plan.links new.entry.id plan.leave_time plan.periodic ∙ ap (λ (k : ℕ). map caps_of_link (links_of k plan)) place)
+    ap caps_in new.is ∙ (caps_of_setups 1 new.number plan.links new.entry.id plan.leave_time plan.periodic (domain_set plan.domains new.entry.domain) ∙ ap (λ (k : ℕ). map caps_of_link (links_of k plan)) place)
 
 -- ---- bookings are within the caps
 

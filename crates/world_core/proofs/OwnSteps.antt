@@ -140,7 +140,7 @@ all_after (ns ∷ made) w ascend own =
     (nodes_after made (option_map_or (λ x. slice_set w.nodes (ns.node.0 - 1) (node_after ns.steps x)) o w.nodes))
     (marks_of_nodes made w.nodes (option_map_or (λ x. marks_of_steps ns.node ns.steps x w.marks) o w.marks))) is))))
 
-replies_append : (es fs : List WorldEvent) (w : WorldState) → replies_to (es ++ fs) w ≡ replies_to es w ++ replies_to fs (world_after es w)
+pub replies_append : (es fs : List WorldEvent) (w : WorldState) → replies_to (es ++ fs) w ≡ replies_to es w ++ replies_to fs (world_after es w)
 replies_append [] fs w = refl
 replies_append (e ∷ es) fs w = ap (λ rs. (world_step e w).1 ∷ rs) (replies_append es fs (world_step e w).0)
 

@@ -6,12 +6,17 @@ pub mod Duty
 pub mod Kept
 pub mod Ticks
 pub mod Apart
+pub mod OneByOne
+pub mod Missed
 pub mod Moments
 pub mod During
 pub mod Carrying
+pub mod Cursor
+pub mod Script
 pub mod Limits
 pub mod Talks
 pub mod Force
 pub mod Merging
 pub mod Timeline
 pub mod History
+pub mod NotedRuns

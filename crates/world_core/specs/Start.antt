@@ -1,11 +1,15 @@
--- The network of a scenario at its start: its tree, and each node with its ports, nothing declared and no PDU anywhere.
-use Rattle.std.specs.Prelude.{ℕ, ◌+◌, ◌*◌, ◌-◌, ◌%◌, ◌==◌, if◌then◌else◌, List, [], ◌∷◌, ◌++◌}
+-- The network of a scenario at its start: its tree, and each node with its ports, nothing declared but the Domain values of its
+-- nodes, and no PDU anywhere.
+use Rattle.std.specs.Prelude.{ℕ, Bool, true, false, ◌+◌, ◌*◌, ◌-◌, ◌%◌, ◌==◌, if◌then◌else◌, List, [], ◌∷◌, ◌++◌}
 use Rattle.srp_base.specs.declared.numbers.Cs.{Cs}
 use Rattle.srp_base.specs.declared.ports.PortSetup.{PortSetup}
+use Rattle.topology_file.specs.declared.entries.DomainWord.{DomainWord}
+use Rattle.topology_file.specs.declared.entries.DomainWord.TheVariants as words
 use Rattle.topology_file.specs.declared.entries.LinkEntry.{LinkEntry}
 use Rattle.topology_file.specs.declared.entries.NodeEntry.{NodeEntry}
 use Rattle.topology_file.specs.Plan.{Plan}
-use Rattle.msrp.specs.declared.domain.DomainSet.TheVariants.{Off}
+use Rattle.msrp.specs.declared.domain.DomainSet.{DomainSet}
+use Rattle.msrp.specs.declared.domain.DomainSet.TheVariants.{Off, Nothing, OnlyA, Both}
 use Rattle.node_core.specs.State.{NodeState, new_node}
 use Rattle.world_core.specs.Marks.{new_marks}
 use Rattle.world_core.specs.World.{WorldState}
@@ -31,11 +35,20 @@ abbrev pub setups_from : ℕ → ℕ → List LinkEntry → List PortSetup
 setups_from n x [] = []
 setups_from n x (l ∷ links) = end_setup n x l ++ setups_from (n + 1) x links
 
--- the nodes of these entries, the first of which has number x; no node declares a Domain
+-- the Domain values that a node declares at each of its ports, by the word of its entry; where the scenario has no domains,
+-- they are off
+abbrev pub domain_set : Bool → DomainWord → DomainSet
+domain_set false word = Off
+domain_set true words.Both = Both
+domain_set true words.OnlyA = OnlyA
+domain_set true words.Nothing = Nothing
+
+-- the nodes of these entries, the first of which has number x
 abbrev pub nodes_from : Plan → ℕ → List NodeEntry → List NodeState
 nodes_from plan x [] = []
 nodes_from plan x (n ∷ entries) =
-    new_node n.kind n.id plan.leave_time plan.periodic Off (setups_from 1 x plan.links) ∷ nodes_from plan (x + 1) entries
+    new_node n.kind n.id plan.leave_time plan.periodic (domain_set plan.domains n.domain) (setups_from 1 x plan.links)
+    ∷ nodes_from plan (x + 1) entries
 
 -- the network of a scenario at its start
 abbrev pub world_of : Plan → WorldState

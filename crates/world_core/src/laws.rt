@@ -52,6 +52,7 @@ pub fn a_scenario_begins_well()
     ports();
     a_new_marked_link_meets_both_duties::<MvrpApp>();
     a_new_marked_link_meets_both_duties::<MsrpApp>();
+    every_event_keeps_marked_duties::<MsrpApp>();
     a_new_node_is_proper();
 }
 

@@ -17,9 +17,18 @@
 //! the timeline of a run (`specs/Timeline.antt`): `World::note_tick` enters a tick by going over all ports, and a `History`
 //! (`specs/History.antt`) by going over those of the nodes that made a step other than Send.
 //!
+//! A run tick by tick is made of calls: `make_events` lets the scripted events of a tick happen, from a place in the list of
+//! events on (`specs/Cursor.antt`), `World::step` the ports' jobs, in whichever order a schedule has them, and the clock;
+//! `carry_sent` carries what was sent.
+//!
 //! A step of a port is of its node alone. So a network can be taken apart (`World::part`), its nodes make the steps of their
 //! ports each by itself, the marks follow in the order of the nodes, and `World::join` puts all together: what comes of it is
 //! the network after all these steps as its own events (`specs/Apart.antt`, law `steps_made_apart_keep_it`).
+//!
+//! A legal tick is one whose steps can be made one by one (`specs/OneByOne.antt`): each is the next of the jobs that some port of the
+//! node has left, whichever port that is, until no port has any, and then the next node has its turn. From each network during a tick
+//! the tick and the run can be made legally to their ends (`tick_laws`), and a legal run goes on with what it has noted
+//! (`specs/NotedRuns.antt`): who runs ports in any order, or reads what another ran, rests on these.
 //!
 //! A further kind of event is a variant of `WorldEvent`, a line in `world_step`, `CanHappen`, `IsEventInRange` and `IsAllowed`,
 //! an arm in `World::step`, and a lemma that it keeps the duties of any application (`proofs/EventSteps.antt`); all places
@@ -28,6 +37,7 @@
 #![tactic(auto)]
 
 mod apart;
+mod carry;
 mod events;
 mod force;
 mod happen;
@@ -37,16 +47,20 @@ pub mod laws;
 mod marking;
 mod marks;
 mod merging;
+mod script;
 mod start;
 mod step;
+pub mod tick_laws;
 mod timeline;
 pub mod timeline_laws;
 mod world;
 
 pub use apart::WorldRest;
+pub use carry::carry_sent;
 pub use events::{WorldEvent, WorldReply};
 pub use history::History;
 pub use journal::{Journal, NodeSteps, Run, Tick};
 pub use marks::Marks;
+pub use script::make_events;
 pub use step::RunErr;
 pub use world::World;

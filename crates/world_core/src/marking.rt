@@ -23,6 +23,7 @@ use crate::happen::{app_at, forge, lose, make_step, place, repeat};
 use crate::marks::Marks;
 use node_core::{Node, NodeEvent, PortStep, StepReply, Wire, wire_leaves};
 use srp_base::{App, EgressPort, NoMemory, NodeNo, PortNo};
+use std::alloc::Global;
 use tree_topology::Tree;
 use tree_topology::laws::ports;
 
@@ -140,9 +141,17 @@ fn front_leaves(nodes: &Vec<Node>, at: EgressPort) -> Result<bool, NoMemory>
     node.keeps();
     let wires = node.waiting(at.port)?;
     match wires.as_slice().first() {
-        Some(wire) => wire_leaves(*nodes.allocator(), wire),
+        Some(wire) => short_leaves(*nodes.allocator(), wire),
         None => Ok(false),
     }
+}
+
+// Whether a PDU of at most 1,500 octets has LeaveAll.
+fn short_leaves(alloc: Global, wire: &Wire) -> Result<bool, NoMemory>
+    requires { IsShort wire.now }
+    ensures { IfOk result (λ leaves. leaves ≡ has_leave_all wire.now) }
+{
+    wire_leaves(alloc, wire)
 }
 
 // The marks after a step with its answer.

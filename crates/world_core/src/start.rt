@@ -3,13 +3,13 @@
 ghost use Rattle.std.specs.Prelude.{◌≡◌, ◌≤◌, ◌++◌, length, IfOk};
 ghost use Rattle.tree_topology.specs.Graph.{IsNode};
 ghost use Rattle.node_core.specs.State.{new_node};
-ghost use Rattle.world_core.specs.Start.{setup_of, end_setup, setups_from, nodes_from};
+ghost use Rattle.world_core.specs.Start.{domain_set, setup_of, end_setup, setups_from, nodes_from};
 
 use msrp::DomainSet;
 use node_core::Node;
 use srp_base::{Cs, NoMemory, PortSetup};
 use std::alloc::Global;
-use topology_file::{LinkEntry, NodeEntry, Scenario};
+use topology_file::{DomainWord, LinkEntry, NodeEntry, Scenario};
 
 /// The nodes of a scenario at its start, in the order of their numbers.
 pub(crate) fn new_nodes(alloc: Global, scenario: &Scenario) -> Result<Vec<Node>, NoMemory>
@@ -35,6 +35,20 @@ fn nodes_of_entries(
     Ok(nodes)
 }
 
+/// The Domain values that a node declares, by the word of its entry, where the scenario has domains.
+fn domain_of(domains: bool, word: DomainWord) -> DomainSet
+    ensures { result ≡ domain_set domains word }
+{
+    if !domains {
+        return DomainSet::Off;
+    }
+    match word {
+        DomainWord::Both => DomainSet::Both,
+        DomainWord::OnlyA => DomainSet::OnlyA,
+        DomainWord::Nothing => DomainSet::Nothing,
+    }
+}
+
 /// The node of this number and entry, with a port for each of its links.
 fn new_node_of(
     alloc: Global,
@@ -44,7 +58,8 @@ fn new_node_of(
 ) -> Result<Node, NoMemory>
     requires { IsNode (length scenario.now.nodes) number }
     ensures { IfOk result (λ node. node ≡ new_node entry.now.kind entry.now.id
-        scenario.now.leave_time scenario.now.periodic DomainSet.Off (setups_from 1 number scenario.now.links)) }
+        scenario.now.leave_time scenario.now.periodic
+        (domain_set scenario.now.domains entry.now.domain) (setups_from 1 number scenario.now.links)) }
 {
     scenario.keeps_rules();
     let setups = new_setups(alloc, scenario, number)?;
@@ -55,7 +70,7 @@ fn new_node_of(
         scenario.leave_time,
         scenario.periodic,
         setups.as_slice(),
-        DomainSet::Off,
+        domain_of(scenario.domains, entry.domain),
     )
 }
 

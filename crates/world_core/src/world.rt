@@ -37,7 +37,8 @@ impl Model for World {
 }
 
 impl World {
-    /// The network of a scenario at its start: nothing is declared, no PDU waits, the clock is at 0.
+    /// The network of a scenario at its start: nothing is declared but the Domain values of its nodes, where it has domains,
+    /// no PDU waits, the clock is at 0.
     pub fn of(alloc: Global, scenario: &Scenario) -> Result<World, NoMemory>
         ensures { IfOk result (λ world. world ≡ world_of scenario.now) }
     {

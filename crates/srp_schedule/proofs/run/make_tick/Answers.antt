@@ -60,7 +60,7 @@ make_steps-requires c =
     c.forget_if.ensures c.make_events.new.world
     (c.requires.rests.count ∙ ap (λ (r : Topology). length r.kinds) (c.requires.during.tree_is ∙ sym there.tree_is))
     (λ none. script_rests plan c.args.t c.args.world.now c.make_events.new.world c.in_ok-events.events.items c.args.rests.now.items
-    c.in_ok-events.ensures.answers c.in_ok-events.ensures.after (empty_as c.in_ok-events.events.items c.is_empty.result (c.is_empty.ensures ∙ ap (λ (n : ℕ). n == 0) count) none) c.requires.rests)
+    c.in_ok-events.ensures.numbers c.in_ok-events.ensures.after (empty_as c.in_ok-events.events.items c.is_empty.result (c.is_empty.ensures ∙ ap (λ (n : ℕ). n == 0) count) none) c.requires.rests)
 
 pub returns-clause-rests : goal.returns-clause-rests
 returns-clause-rests c =
@@ -89,7 +89,7 @@ returns-clause-made c =
     let end = c.let_clocks_go_on.new.world in
     let tick : Tick = record { events = c.from_vec.result; steps = c.from_vec-2.result } in
     let parts = tick_parts plan t w scripted stepped carried end c.in_ok-events.events.items c.in_ok-steps.steps.items tick c.from_vec.ensures c.from_vec-2.ensures
-    c.in_ok-events.ensures.answers c.in_ok-events.ensures.after c.in_ok-steps.ensures.steps c.in_ok-steps.ensures.after c.in_ok-has_carried.ensures.carried c.in_ok-let_clocks_go_on.ensures.after in
+    c.in_ok-events.ensures.numbers c.in_ok-events.ensures.answers c.in_ok-events.ensures.after c.in_ok-steps.ensures.steps c.in_ok-steps.ensures.after c.in_ok-has_carried.ensures.carried c.in_ok-let_clocks_go_on.ensures.after in
     let after = after_tick laws plan rules t c.requires.within w c.requires.during scripted stepped carried end tick parts in
     record {
       tick = canonical_tick laws plan rules t c.requires.within w c.requires.during scripted stepped carried end tick parts;

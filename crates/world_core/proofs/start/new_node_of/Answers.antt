@@ -5,10 +5,10 @@ use Rattle.mrp_participant.specs.State.{IsTime}
 use Rattle.world_core.specs.Start.{setups_from}
 use Rattle.world_core.proofs.Starting.{few_ports, have_shares, have_periods}
 use Rattle.world_core.proofs.start.new_node_of.Goals as goal
-use Rattle.world_core.proofs.start.new_node_of.Goals.{After-as_slice}
+use Rattle.world_core.proofs.start.new_node_of.Goals.{After-domain_of}
 
 -- the ports are those of the node's links
-setups_are : (c : After-as_slice) → c.as_slice.result.now ≡ setups_from 1 c.args.number c.args.scenario.now.links
+setups_are : (c : After-domain_of) → c.as_slice.result.now ≡ setups_from 1 c.args.number c.args.scenario.now.links
 setups_are c = c.as_slice.ensures.value ∙ c.in_ok-setups.ensures
 
 pub new-requires-clause-few : goal.new-requires-clause-few

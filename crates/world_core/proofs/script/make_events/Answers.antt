@@ -1,17 +1,29 @@
-use Rattle.std.proofs.Common.{◌≡◌, ◌<◌, suc, List, length, get_or, refl, sym, ap, subst, ◌∙◌, arith}
+use Rattle.std.proofs.Common.{◌≡◌, ◌<◌, ℕ, suc, List, length, map, get_or, refl, sym, ap, subst, ◌∙◌, arith}
 use Rattle.std.proofs.lemmas.Option.{IfSome_then}
 use Rattle.topology_file.specs.declared.entries.EventEntry.{EventEntry}
 use Rattle.topology_file.specs.Kinds.{IsKnownKind}
 use Rattle.topology_file.specs.Plan.{Plan}
-use Rattle.world_core.specs.Ticks.{event_of}
-use Rattle.srp_schedule.specs.Cursor.{IsCursor}
-use Rattle.srp_schedule.proofs.ScriptLemmas.{IsScripted, begins, one_entry, stops, runs_out}
-use Rattle.srp_schedule.proofs.script.make_events.Goals as goal
+use Rattle.world_core.specs.declared.events.WorldReply.{WorldReply}
+use Rattle.world_core.specs.Ticks.{event_of, script_at}
+use Rattle.world_core.specs.Cursor.{IsCursor}
+use Rattle.world_core.proofs.Scripts.{IsScripted, begins, one_entry, stops, runs_out, numbers_are, answers_are}
+use Rattle.world_core.proofs.script.make_events.Goals as goal
 
 pub loop-i-init : goal.loop-i-init
 loop-i-init c =
     subst (IsScripted c.args.scenario.now c.args.t c.args.cursor.now c.args.world.now c.args.world.now) (sym c.new-answers.ensures.items)
     (begins c.args.scenario.now c.args.t c.args.cursor.now c.args.world.now c.requires.during c.requires.cursor)
+
+pub returns-then-entry-t-clause-numbers : goal.returns-then-entry-t-clause-numbers
+returns-then-entry-t-clause-numbers c =
+    let plan = c.args.scenario.now in
+    let e = c.index-events-i.result in
+    let events = c.as_slice-events.ensures ∙ ap (λ (p : Plan). p.events) c.scenario.view_is in
+    let test = c.loop-i-test.true in
+    let lt : c.loop-i.i < length plan.events = omega (arith, test, ap length events) in
+    let here : e ≡ get_or plan.events c.loop-i.i e = c.index-events-i.is ∙ ap (λ (es : List EventEntry). get_or es c.loop-i.i e) events in
+    let done = (stops plan c.args.t c.loop-i.i c.args.world.now c.loop-i.world e c.loop-i.answers.items c.keeps_rules.ensures.events_order lt here c.if-entry-t.true c.loop-i.invariant).0 in
+    ap (λ (es : List (ℕ × WorldReply)). map (λ e. e.0) es) done ∙ numbers_are (script_at plan c.args.t) c.args.world.now
 
 pub returns-then-entry-t-clause-answers : goal.returns-then-entry-t-clause-answers
 returns-then-entry-t-clause-answers c =
@@ -21,7 +33,8 @@ returns-then-entry-t-clause-answers c =
     let test = c.loop-i-test.true in
     let lt : c.loop-i.i < length plan.events = omega (arith, test, ap length events) in
     let here : e ≡ get_or plan.events c.loop-i.i e = c.index-events-i.is ∙ ap (λ (es : List EventEntry). get_or es c.loop-i.i e) events in
-    (stops plan c.args.t c.loop-i.i c.args.world.now c.loop-i.world e c.loop-i.answers.items c.keeps_rules.ensures.events_order lt here c.if-entry-t.true c.loop-i.invariant).0
+    let done = (stops plan c.args.t c.loop-i.i c.args.world.now c.loop-i.world e c.loop-i.answers.items c.keeps_rules.ensures.events_order lt here c.if-entry-t.true c.loop-i.invariant).0 in
+    ap (λ (es : List (ℕ × WorldReply)). map (λ e. e.1) es) done ∙ answers_are (script_at plan c.args.t) c.args.world.now
 
 pub returns-then-entry-t-clause-after : goal.returns-then-entry-t-clause-after
 returns-then-entry-t-clause-after c =
@@ -81,3 +94,27 @@ returns-clause-cursor c =
     let end : c.loop-i.i ≡ length c.as_slice-events.result.now = omega (arith, test, last) in
     subst (IsCursor plan.events (suc c.args.t)) end
     (runs_out plan c.args.t c.loop-i.i c.args.world.now c.loop-i.world c.loop-i.answers.items all c.loop-i.invariant).2
+
+pub returns-clause-numbers : goal.returns-clause-numbers
+returns-clause-numbers c =
+    let plan = c.args.scenario.now in
+    let events = c.as_slice-events.ensures ∙ ap (λ (p : Plan). p.events) c.scenario.view_is in
+    let test = c.loop-i-test.false in
+    let many = ap length events in
+    let within = c.requires.cursor.within in
+    let last = c.loop-i.auto.i-end (omega (arith, within, many)) in
+    let all : c.loop-i.i ≡ length plan.events = omega (arith, test, last, many) in
+    let done = (runs_out plan c.args.t c.loop-i.i c.args.world.now c.loop-i.world c.loop-i.answers.items all c.loop-i.invariant).0 in
+    ap (λ (es : List (ℕ × WorldReply)). map (λ e. e.0) es) done ∙ numbers_are (script_at plan c.args.t) c.args.world.now
+
+pub returns-clause-answers : goal.returns-clause-answers
+returns-clause-answers c =
+    let plan = c.args.scenario.now in
+    let events = c.as_slice-events.ensures ∙ ap (λ (p : Plan). p.events) c.scenario.view_is in
+    let test = c.loop-i-test.false in
+    let many = ap length events in
+    let within = c.requires.cursor.within in
+    let last = c.loop-i.auto.i-end (omega (arith, within, many)) in
+    let all : c.loop-i.i ≡ length plan.events = omega (arith, test, last, many) in
+    let done = (runs_out plan c.args.t c.loop-i.i c.args.world.now c.loop-i.world c.loop-i.answers.items all c.loop-i.invariant).0 in
+    ap (λ (es : List (ℕ × WorldReply)). map (λ e. e.1) es) done ∙ answers_are (script_at plan c.args.t) c.args.world.now

@@ -17,8 +17,8 @@ use Rattle.world_core.specs.declared.events.WorldReply.{WorldReply}
 use Rattle.world_core.specs.World.{WorldState, world_step, world_after, replies_to}
 use Rattle.world_core.specs.Ticks.{event_of, with_event, scripted_from, script_at, after_script}
 use Rattle.world_core.specs.During.{IsDuring, IsAllowed}
-use Rattle.srp_schedule.specs.Cursor.{IsCursor}
-use Rattle.srp_schedule.specs.Script.{answers_to, answer_of, after_entry}
+use Rattle.world_core.specs.Cursor.{IsCursor}
+use Rattle.world_core.specs.Script.{answers_to, answer_of, after_entry}
 
 pub same_is : (x y : ℕ) → x ≡ y → (x == y) ≡ true
 same_is x y e = grind (arith, nat_tests, e)

@@ -1,9 +1,9 @@
 use Rattle.std.proofs.Common.{◌≡◌, ◌+◌, length, ap, ◌∙◌, arith}
 use Rattle.tree_topology.specs.Topology.{Topology}
 use Rattle.world_core.specs.World.{WorldState}
-use Rattle.srp_schedule.specs.Made.{carried_ends}
-use Rattle.srp_schedule.proofs.TickLemmas.{one_carried}
-use Rattle.srp_schedule.proofs.carry.carry_all.Goals as goal
+use Rattle.world_core.specs.Carrying.{carried_ends}
+use Rattle.world_core.proofs.LinksCarried.{one_carried}
+use Rattle.world_core.proofs.carry.carry_all.Goals as goal
 
 pub loop-n-preserved : goal.loop-n-preserved
 loop-n-preserved c =

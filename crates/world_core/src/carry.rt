@@ -1,20 +1,21 @@
-//! The carrying at the end of one tick.
+//! The carrying at the end of one tick: a part of a tick, for those who run a scenario tick by tick.
 
 ghost use Rattle.std.specs.Prelude.{◌≡◌, false, map, IfOk, OnOk};
 ghost use Rattle.std.specs.List.{list_any};
 ghost use Rattle.tree_topology.specs.Topology.{HasLink};
 ghost use Rattle.world_core.specs.Ticks.{link_ports, is_send};
 ghost use Rattle.world_core.specs.World.{world_after};
-ghost use Rattle.world_core.specs.Carrying.{has_send};
-ghost use Rattle.srp_schedule.specs.Made.{carried_ends};
+ghost use Rattle.world_core.specs.Carrying.{has_send, carried_ends};
 
+use crate::events::WorldEvent;
+use crate::journal::NodeSteps;
+use crate::laws::what_is_allowed_may_happen;
+use crate::world::World;
 use node_core::PortStep;
 use srp_base::{LinkNo, NoMemory};
-use world_core::laws::what_is_allowed_may_happen;
-use world_core::{NodeSteps, World, WorldEvent};
 
 /// Where a step of the tick was Send, lets the PDUs of every port be carried; else no PDU waits. Answers which.
-pub(crate) fn carry_sent(world: &mut World, steps: &[NodeSteps]) -> Result<bool, NoMemory>
+pub fn carry_sent(world: &mut World, steps: &[NodeSteps]) -> Result<bool, NoMemory>
     requires { has_send steps.now ≡ false
         → world_after (map WorldEvent.Carry (link_ports world.old.tree)) world.old ≡ world.old }
     ensures carried { OnOk result

@@ -1,8 +1,8 @@
 use Rattle.std.proofs.Common.{ap, ◌∙◌}
 use Rattle.tree_topology.specs.Topology.{Topology}
 use Rattle.tree_topology.specs.Ports.{ends_of}
-use Rattle.srp_schedule.proofs.TickLemmas.{both_carried}
-use Rattle.srp_schedule.proofs.carry.carry_link.Goals as goal
+use Rattle.world_core.proofs.LinksCarried.{both_carried}
+use Rattle.world_core.proofs.carry.carry_link.Goals as goal
 
 pub returns : goal.returns
 returns c =

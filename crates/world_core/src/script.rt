@@ -1,25 +1,26 @@
-//! The scripted events of one tick.
+//! The scripted events of one tick: a part of a tick, for those who run a scenario tick by tick.
 
-ghost use Rattle.std.specs.Prelude.{◌≡◌, ◌++◌, suc, Some, option_map, IfSome, IfOk, OnOk};
+ghost use Rattle.std.specs.Prelude.{◌≡◌, ◌++◌, suc, Some, map, option_map, IfSome, IfOk, OnOk};
 ghost use Rattle.tree_topology.specs.Graph.{Joined};
 ghost use Rattle.tree_topology.specs.Ports.{port_to};
 ghost use Rattle.world_core.specs.Ticks.{event_of, script_at, after_script, stream_at, talker_of_entry};
-ghost use Rattle.world_core.specs.World.{CanHappen};
+ghost use Rattle.world_core.specs.World.{CanHappen, replies_to};
 ghost use Rattle.world_core.specs.During.{IsDuring, NamesNeighbours};
-ghost use Rattle.srp_schedule.specs.Cursor.{IsCursor};
-ghost use Rattle.srp_schedule.specs.Script.{answers_to, answer_of, after_entry};
+ghost use Rattle.world_core.specs.Cursor.{IsCursor};
+ghost use Rattle.world_core.specs.Script.{answer_of, after_entry};
 
+use crate::events::{WorldEvent, WorldReply};
+use crate::laws::what_is_allowed_may_happen;
+use crate::world::World;
 use node_core::{AppRequest, Wire};
 use srp_base::{App, EgressPort, NoMemory, NodeNo, Seq, Talker};
 use std::alloc::Global;
 use topology_file::{EventKind, Scenario, StreamEntry};
 use tree_topology::Tree;
-use world_core::laws::what_is_allowed_may_happen;
-use world_core::{World, WorldEvent, WorldReply};
 
 /// Lets the events of tick t happen, from the cursor on, and answers each with the number of its entry. The cursor then stands
 /// at the first event of a later tick.
-pub(crate) fn make_events(
+pub fn make_events(
     alloc: Global,
     scenario: &Scenario,
     t: u64,
@@ -28,7 +29,10 @@ pub(crate) fn make_events(
 ) -> Result<Vec<(u32, WorldReply)>, NoMemory>
     requires during { IsDuring scenario.now.tree t world.old }
     requires cursor { IsCursor scenario.now.events t cursor.old }
-    ensures answers { IfOk result (λ v. v.items ≡ answers_to (script_at scenario.now t) world.old) }
+    ensures numbers { IfOk result (λ v. map (λ e. e.0) v.items
+        ≡ map (λ e. e.0) (script_at scenario.now t)) }
+    ensures answers { IfOk result (λ v. map (λ e. e.1) v.items
+        ≡ replies_to (map (λ e. e.1) (script_at scenario.now t)) world.old) }
     ensures after { OnOk result (world.new ≡ after_script scenario.now t world.old) }
     ensures cursor { OnOk result (IsCursor scenario.now.events (suc t) cursor.new) }
 {

@@ -1,5 +1,0 @@
-use Rattle.srp_schedule.proofs.TickLemmas.{IsCarriedTo}
-use Rattle.srp_schedule.proofs.carry.carry_all.Given as goal
-
-abbrev pub invariant-loop-n : goal.invariant-loop-n
-invariant-loop-n l = IsCarriedTo l.n l.initial.world l.world

@@ -1,0 +1,86 @@
+-- A legal run with what it has noted, and one tick more.
+use Rattle.std.proofs.Common.{◌≡◌, ℕ, suc, ◌+◌, false, List, [], ◌∷◌, ◌++◌, length, map, sym, ap, subst, ◌∙◌, arith}
+use Rattle.std.proofs.lemmas.List.{length_push}
+use Rattle.srp_base.specs.declared.numbers.EgressPort.{EgressPort}
+use Rattle.srp_base.specs.declared.ports.PortChange.{PortChange}
+use Rattle.tree_topology.specs.Topology.{Topology, HasPort}
+use Rattle.topology_file.specs.Plan.{Plan}
+use Rattle.world_core.specs.declared.events.WorldEvent.{WorldEvent}
+use Rattle.world_core.specs.declared.journal.NodeSteps.{NodeSteps}
+use Rattle.world_core.specs.declared.journal.Tick.{Tick}
+use Rattle.world_core.specs.World.{WorldState, world_after}
+use Rattle.world_core.specs.Start.{world_of}
+use Rattle.world_core.specs.Ticks.{script_at, step_events, after_script, after_steps, closing_events, tick_events, IsLegalTick, LeadTo}
+use Rattle.world_core.specs.During.{IsDuring}
+use Rattle.world_core.specs.Timeline.{force_at, with_notes, AreChanges, Says, SaysFrom, world_after_ticks, IsTimelineOf}
+use Rattle.world_core.specs.History.{has_acted, acts_noted}
+use Rattle.world_core.specs.NotedRuns.{IsNotedRun}
+use Rattle.world_core.proofs.Runs.{after_append}
+
+-- what this rests on, as the public laws say it
+pub record NotingLaws : Type 0 where
+  pub goes_on : (plan : Plan) (ticks : List Tick) (tick : Tick) (changes : List PortChange) (w : WorldState) → IsTimelineOf plan ticks changes
+      → w ≡ after_steps plan (length ticks) tick (world_after_ticks plan ticks) → w.tree ≡ plan.tree → IsTimelineOf plan (ticks ++ tick ∷ []) (with_notes (length ticks) w changes)
+  pub next : (plan : Plan) (ticks : List Tick) (tick : Tick)
+      → world_after_ticks plan (ticks ++ tick ∷ []) ≡ world_after (closing_events plan.tree) (after_steps plan (length ticks) tick (world_after_ticks plan ticks))
+  pub from : (tick : ℕ) (w : WorldState) (changes : List PortChange) → AreChanges w.tree tick changes → SaysFrom tick (with_notes tick w changes) w
+  pub closing : (tree : Topology) (w : WorldState) (p : EgressPort) → force_at p (world_after (closing_events tree) w) ≡ force_at p w
+  pub trees : (es : List WorldEvent) (w : WorldState) → (world_after es w).tree ≡ w.tree
+  pub quiet : (plan : Plan) (t : ℕ) (w : WorldState) (tick : Tick) (p : EgressPort) → IsLegalTick plan t w tick → HasPort plan.tree p → has_acted p.node tick.steps ≡ false
+      → force_at p (after_steps plan t tick w) ≡ force_at p w
+  pub all : (tick : ℕ) (steps : List NodeSteps) (w : WorldState) (changes : List PortChange)
+      → ((p : EgressPort) → HasPort w.tree p → has_acted p.node steps ≡ false → Says tick changes p (force_at p w)) → acts_noted tick steps w changes ≡ with_notes tick w changes
+
+pub changes_are : (plan : Plan) (t : ℕ) (ticks : List Tick) (w : WorldState) (changes : List PortChange) → IsNotedRun plan t ticks w changes → AreChanges plan.tree t changes
+changes_are plan t ticks w changes h = subst (λ (k : ℕ). AreChanges plan.tree k changes) h.many h.timeline.are
+
+module _ (laws : NotingLaws) (plan : Plan) (t : ℕ) (ticks : List Tick) (w : WorldState) (tick : Tick) (changes : List PortChange) (before : IsNotedRun plan t ticks w changes)
+    (legal : IsLegalTick plan t w tick) where
+  abbrev u : WorldState
+  u = after_steps plan t tick w
+
+  abbrev v : WorldState
+  v = world_after (tick_events plan t tick) w
+
+  u_reached : u ≡ after_steps plan (length ticks) tick (world_after_ticks plan ticks)
+  u_reached =
+      ap (λ (x : WorldState). after_steps plan t tick x) before.reached ∙ ap (λ (k : ℕ). after_steps plan k tick (world_after_ticks plan ticks)) (sym before.many)
+
+  u_tree : u.tree ≡ plan.tree
+  u_tree = laws.trees (step_events tick.steps) (after_script plan t w) ∙ laws.trees (map (λ (e : ℕ × WorldEvent). e.1) (script_at plan t)) w ∙ before.during.tree_is
+
+  v_closes : v ≡ world_after (closing_events plan.tree) u
+  v_closes =
+      let script : List WorldEvent = map (λ (e : ℕ × WorldEvent). e.1) (script_at plan t) in
+      let steps : List WorldEvent = step_events tick.steps in
+      let closing : List WorldEvent = closing_events plan.tree in
+      sym (after_append (script ++ steps) closing w) ∙ sym (ap (λ (x : WorldState). world_after closing x) (after_append script steps w))
+
+  says_later : (cs : List PortChange) → SaysFrom t cs u → SaysFrom (suc t) cs v
+  says_later cs says p has k le =
+      let tree : v.tree ≡ u.tree = ap (λ (x : WorldState). x.tree) v_closes ∙ laws.trees (closing_events plan.tree) u in
+      says p (subst (λ (r : Topology). HasPort r p) tree has) k (omega (arith, le)) ∙ sym (ap (force_at p) v_closes ∙ laws.closing plan.tree u p)
+
+  are : AreChanges u.tree t changes
+  are = subst (λ (r : Topology). AreChanges r t changes) (sym u_tree) (changes_are plan t ticks w changes before)
+
+  -- the nodes that have acted are all that have anything to note
+  is_noted : acts_noted t tick.steps u changes ≡ with_notes t u changes
+  is_noted =
+      laws.all t tick.steps u changes
+      (λ p has none.
+      let here = subst (λ (r : Topology). HasPort r p) u_tree has in
+      before.says p (subst (λ (r : Topology). HasPort r p) (sym before.during.tree_is) here) t (omega arith) ∙ sym (laws.quiet plan t w tick p legal here none))
+
+  pub noted_on : LeadTo (IsLegalTick plan) plan 0 (world_of plan) (ticks ++ tick ∷ []) (suc t) v → IsDuring plan.tree (suc t) v
+      → IsNotedRun plan (suc t) (ticks ++ tick ∷ []) v (acts_noted t tick.steps u changes)
+  noted_on leads during =
+      record {
+        leads = leads;
+        during = during;
+        many = length_push ticks tick ∙ (ap (λ (k : ℕ). k + 1) before.many ∙ omega arith);
+        reached = v_closes ∙ ap (λ (x : WorldState). world_after (closing_events plan.tree) x) u_reached ∙ sym (laws.next plan ticks tick);
+        timeline = subst (λ (cs : List PortChange). IsTimelineOf plan (ticks ++ tick ∷ []) cs) (ap (λ (k : ℕ). with_notes k u changes) before.many ∙ sym is_noted)
+            (laws.goes_on plan ticks tick changes u before.timeline u_reached u_tree);
+        says = subst (λ (cs : List PortChange). SaysFrom (suc t) cs v) (sym is_noted) (says_later (with_notes t u changes) (laws.from t u changes are));
+      }
