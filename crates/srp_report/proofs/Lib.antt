@@ -2,6 +2,6 @@ pub mod DepartureLemmas
 pub mod FateLemmas
 pub mod HeardLemmas
 pub mod LinkPorts
-pub mod PeerLemmas
 pub mod PrintoutLemmas
 pub mod TallyLemmas
+pub mod TotalLemmas

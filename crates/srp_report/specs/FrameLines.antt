@@ -8,7 +8,7 @@ use Rattle.frame_flow.specs.declared.result.Fate.{Fate}
 use Rattle.frame_flow.specs.declared.result.Fate.TheVariants.{Unbooked, NoVlan, Departed, Left}
 use Rattle.frame_flow.specs.declared.result.PortFlow.{PortFlow}
 use Rattle.srp_report.specs.declared.departures.SentFrame.{SentFrame}
-use Rattle.srp_report.specs.Lines.{port_name}
+use Rattle.journal_lines.specs.Names.{port_name}
 
 -- ---- the fates
 

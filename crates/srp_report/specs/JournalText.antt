@@ -1,79 +1,18 @@
 -- What is printed of a run's journal: in each tick the scripted events with what became of them, and then the steps
 -- in the journal's order. A tick in which nothing happened prints nothing.
 use Rattle.std.specs.Prelude.{ℕ, ◌+◌, List, [], ◌∷◌, ◌++◌, codes, flat_map}
-use Rattle.std.specs.Fmt.{decimal}
-use Rattle.srp_base.specs.Text.{whole_of}
-use Rattle.srp_base.specs.declared.numbers.NodeNo.{NodeNo}
-use Rattle.srp_base.specs.declared.mrp.App.{App}
-use Rattle.srp_base.specs.declared.mrp.App.TheVariants.{Mvrp, Msrp}
 use Rattle.topology_file.specs.Plan.{Plan}
-use Rattle.node_core.specs.declared.types.NodeStep.{NodeStep}
-use Rattle.node_core.specs.declared.types.PortStep.{PortStep}
-use Rattle.node_core.specs.declared.types.PortStep.TheVariants.{Work, LeaveNow, LeaveAllNow, PeriodicNow, Due, Settle, Send}
-use Rattle.node_core.specs.declared.types.StepReply.{StepReply}
-use Rattle.node_core.specs.declared.types.StepReply.TheVariants.{Nothing, Discarded, Received, Fired, Settled, Silent, Sent, Taken}
 use Rattle.world_core.specs.declared.events.WorldReply.{WorldReply}
-use Rattle.world_core.specs.declared.events.WorldReply.TheVariants.{Step, Done, Missed}
 use Rattle.world_core.specs.declared.journal.NodeSteps.{NodeSteps}
 use Rattle.world_core.specs.declared.journal.Tick.{Tick}
-use Rattle.srp_report.specs.Lines.{port_name}
-
--- ---- the words
-
--- an application by its name
-abbrev pub app_name : App → List ℕ
-app_name Mvrp = codes "mvrp"
-app_name Msrp = codes "msrp"
-
--- a step; those that fire one timer whatever the moment are in no tick
-abbrev pub step_name : PortStep → List ℕ
-step_name Work = codes "work"
-step_name (LeaveNow key) = codes "leave"
-step_name (LeaveAllNow app) = whole_of (codes "leaveall " ∷ app_name app ∷ [])
-step_name (PeriodicNow app) = whole_of (codes "periodic " ∷ app_name app ∷ [])
-step_name Due = codes "due"
-step_name Settle = codes "settle"
-step_name (Send app) = whole_of (codes "send " ∷ app_name app ∷ [])
-
--- a step's answer; no step of a port is answered by `taken`
-abbrev pub reply_name : StepReply → List ℕ
-reply_name Nothing = codes "nothing"
-reply_name (Discarded place) = whole_of (codes "discarded " ∷ decimal place ∷ [])
-reply_name (Received count) = whole_of (codes "received " ∷ decimal count ∷ [])
-reply_name (Fired count) = whole_of (codes "fired " ∷ decimal count ∷ [])
-reply_name (Settled count) = whole_of (codes "settled " ∷ decimal count ∷ [])
-reply_name Silent = codes "silent"
-reply_name (Sent octets) = whole_of (codes "sent " ∷ decimal octets ∷ [])
-reply_name Taken = codes "taken"
-
--- what became of a scripted event
-abbrev pub event_name : WorldReply → List ℕ
-event_name (Step reply) = codes "done"
-event_name Done = codes "done"
-event_name Missed = codes "missed"
+use Rattle.world_core.specs.Missed.{is_missed}
+use Rattle.journal_lines.specs.Lines.{event_line, line_at}
 
 -- ---- the lines of a tick
 
--- `T event E done` or `T event E missed`
-abbrev pub event_line : ℕ → ℕ × WorldReply → List ℕ
-event_line t e = whole_of (
-    decimal t ∷ codes " event " ∷ decimal e.0 ∷ codes " " ∷ event_name e.1 ∷ codes "\n" ∷ [])
-
--- `T P `, by which the line of a step begins: the tick and the port
-abbrev pub place_text : ℕ → List ℕ → List ℕ
-place_text t port = whole_of (decimal t ∷ codes " " ∷ port ∷ codes " " ∷ [])
-
--- `STEP REPLY`, by which the line of a step ends: the step and its answer
-abbrev pub made_text : NodeStep → List ℕ
-made_text st = whole_of (step_name st.step ∷ codes " " ∷ reply_name st.reply ∷ codes "\n" ∷ [])
-
--- `T P STEP REPLY`
-abbrev pub step_line : ℕ → List ℕ → NodeStep → List ℕ
-step_line t port st = place_text t port ++ made_text st
-
--- a step of a node
-abbrev pub line_at : Plan → ℕ → NodeNo → NodeStep → List ℕ
-line_at plan t node st = step_line t (port_name plan plan.tree.links (record { node = node; port = st.port })) st
+-- an event with its answer, by the number of its entry
+abbrev pub answer_line : ℕ → ℕ × WorldReply → List ℕ
+answer_line t e = event_line t e.0 (is_missed e.1)
 
 -- the steps of a node
 abbrev pub step_lines : Plan → ℕ → NodeSteps → List ℕ
@@ -81,7 +20,7 @@ step_lines plan t ns = flat_map (line_at plan t ns.node) ns.steps
 
 -- a tick
 abbrev pub tick_lines : Plan → ℕ → Tick → List ℕ
-tick_lines plan t tick = flat_map (event_line t) tick.events ++ flat_map (step_lines plan t) tick.steps
+tick_lines plan t tick = flat_map (answer_line t) tick.events ++ flat_map (step_lines plan t) tick.steps
 
 -- ---- the text
 

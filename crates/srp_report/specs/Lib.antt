@@ -5,4 +5,5 @@ pub mod JournalText
 pub mod Lines
 pub mod Printout
 pub mod Report
+pub mod Summary
 pub mod Tallies

@@ -1,14 +1,11 @@
 -- The lines of a report, each by what it tells. A line ends with a line feed.
-use Rattle.std.specs.Prelude.{ℕ, ◌-◌, Bool, true, false, ◌==◌, if◌then◌else◌, List, [], ◌∷◌, ◌++◌, codes, Option, Some, None, slice_get}
-use Rattle.std.specs.Option.{option_map_or}
+use Rattle.std.specs.Prelude.{ℕ, Bool, true, false, if◌then◌else◌, List, [], ◌∷◌, ◌++◌, codes, Option, Some, None}
 use Rattle.std.specs.Fmt.{decimal}
 use Rattle.srp_base.specs.Hexadecimal.{hex16_text}
 use Rattle.srp_base.specs.Text.{whole_of}
 use Rattle.srp_base.specs.declared.bandwidth.Class.{Class}
 use Rattle.srp_base.specs.declared.bandwidth.Class.TheVariants.{A, B}
 use Rattle.srp_base.specs.declared.numbers.Cs.{Cs}
-use Rattle.srp_base.specs.declared.numbers.NodeNo.{NodeNo}
-use Rattle.srp_base.specs.declared.numbers.EgressPort.{EgressPort}
 use Rattle.srp_base.specs.declared.numbers.StreamId.{StreamId}
 use Rattle.srp_base.specs.declared.streams.Failure.{Failure}
 use Rattle.srp_base.specs.declared.streams.ListenerKind.{ListenerKind}
@@ -18,22 +15,10 @@ use Rattle.stream_importance.specs.declared.entry.Want.{Want}
 use Rattle.msrp_codec.specs.declared.pdu.MsrpKey.{MsrpKey}
 use Rattle.msrp_codec.specs.declared.pdu.MsrpKey.TheVariants as keys
 use Rattle.msrp_codec.specs.declared.pdu.MsrpContent.{MsrpContent}
-use Rattle.msrp_codec.specs.declared.pdu.MsrpContent.TheVariants.{Advertise, Failed, Listener}
-use Rattle.tree_topology.specs.declared.graph.Link.{Link}
-use Rattle.tree_topology.specs.Ports.{peer_of}
+use Rattle.msrp_codec.specs.declared.pdu.MsrpContent.TheVariants.{Advertise, Failed, Listener, Domain}
 use Rattle.registrar.specs.declared.Registrar.{Registrar}
 use Rattle.registrar.specs.declared.Registrar.TheVariants.{Held, Leaving, Empty}
-use Rattle.topology_file.specs.Plan.{Plan}
-use Rattle.topology_file.specs.declared.entries.NodeEntry.{NodeEntry}
 use Rattle.srp_report.specs.declared.tally.Tally.{Tally}
-
--- the name of the node of a number, from 1 on; that of a number without an entry is empty
-abbrev pub name_of : List NodeEntry → NodeNo → List ℕ
-name_of nodes x = if x.0 == 0 then [] else option_map_or (λ node. node.name) (slice_get nodes (x.0 - 1)) []
-
--- a port as `x>y`: the names of its node and of its peer's
-abbrev pub port_name : Plan → List Link → EgressPort → List ℕ
-port_name plan links p = whole_of (name_of plan.nodes p.node ∷ codes ">" ∷ name_of plan.nodes (peer_of links p).node ∷ [])
 
 -- a Registrar's state by its name (IEEE Std 802.1Q-2018, 10.7.8); that of what is registered is IN or LV
 abbrev pub state_name : Registrar → List ℕ
@@ -108,11 +93,18 @@ listener_line port stream (Some (Listener kind)) state = whole_of (
     ∷ codes " " ∷ state_name state ∷ codes "\n" ∷ [])
 listener_line port stream _ state = []
 
--- the line of an attribute of MSRP that is registered with this content; a Domain has none
-abbrev pub srp_line : List ℕ → MsrpKey → Option MsrpContent → Registrar → List ℕ
-srp_line port (keys.Talker stream) content state = talker_line port stream content state
-srp_line port (keys.Listener stream) content state = listener_line port stream content state
-srp_line port (keys.Domain class) content state = []
+-- `domain P C priority Q vid V S`, with the SRclassID C; of Domains nothing but a Domain's value is registered, as above
+abbrev pub domain_line : List ℕ → ℕ → Option MsrpContent → Registrar → List ℕ
+domain_line port class (Some (Domain priority vid)) state = whole_of (
+    codes "domain " ∷ port ∷ codes " " ∷ decimal class ∷ codes " priority " ∷ decimal priority ∷ codes " vid " ∷ decimal vid
+    ∷ codes " " ∷ state_name state ∷ codes "\n" ∷ [])
+domain_line port class _ state = []
+
+-- the line of an attribute of MSRP that is registered with this content; where the scenario has no SRP domains a Domain has none
+abbrev pub srp_line : Bool → List ℕ → MsrpKey → Option MsrpContent → Registrar → List ℕ
+srp_line domains port (keys.Talker stream) content state = talker_line port stream content state
+srp_line domains port (keys.Listener stream) content state = listener_line port stream content state
+srp_line domains port (keys.Domain class) content state = if domains then domain_line port class content state else []
 
 -- `booked P ID A slope S since T`, or with `B`; S in bit/s and T in cs; what is booked has a moment
 abbrev pub want_line : List ℕ → Want → Option Cs → List ℕ

@@ -1,6 +1,6 @@
 -- What is printed of a run: its length, each port with what it sent, what is registered there and which streams are booked,
 -- what each station hears of the streams that it listens to, what became of the frames, and how the network is at the end.
-use Rattle.std.specs.Prelude.{ℕ, ◌+◌, if◌then◌else◌, List, [], ◌∷◌, ◌++◌, flat_map}
+use Rattle.std.specs.Prelude.{ℕ, Bool, ◌+◌, if◌then◌else◌, List, [], ◌∷◌, ◌++◌, flat_map}
 use Rattle.std.specs.Option.{option_map_or}
 use Rattle.srp_base.specs.Text.{whole_of}
 use Rattle.srp_base.specs.declared.numbers.EgressPort.{EgressPort}
@@ -20,26 +20,27 @@ use Rattle.world_core.specs.World.{WorldState, node_at, is_quiet, is_in_step}
 use Rattle.world_core.specs.Ticks.{link_ports}
 use Rattle.srp_report.specs.Counts.{replies_of, tally_of}
 use Rattle.srp_report.specs.FrameLines.{flow_parts}
-use Rattle.srp_report.specs.Lines.{name_of, port_name, ticks_line, port_line, vlan_line, srp_line, booked_line, heard_line, end_lines}
+use Rattle.journal_lines.specs.Names.{name_of, port_name}
+use Rattle.srp_report.specs.Lines.{ticks_line, port_line, vlan_line, srp_line, booked_line, heard_line, end_lines}
 
 -- ---- what is registered and booked at a place of a node
 
 -- the line of an attribute there, by its Registrar and what is registered of it
-abbrev pub key_line : List ℕ → ℕ → NodeState → NodeKey → List ℕ
-key_line port at s (Vlan vid) = vlan_line port vid (registrar_at (Vlan vid) at s)
-key_line port at s (Srp key) = srp_line port key (content_at key at s) (registrar_at (Srp key) at s)
+abbrev pub key_line : Bool → List ℕ → ℕ → NodeState → NodeKey → List ℕ
+key_line domains port at s (Vlan vid) = vlan_line port vid (registrar_at (Vlan vid) at s)
+key_line domains port at s (Srp key) = srp_line domains port key (content_at key at s) (registrar_at (Srp key) at s)
 
--- VIDs, then Talkers, then Listeners, each ascending
-abbrev pub registered_lines : List ℕ → ℕ → NodeState → List ℕ
-registered_lines port at s = flat_map (key_line port at s) (registered_keys at s)
+-- VIDs, then Talkers, then Listeners, then Domains where the scenario has SRP domains, each ascending
+abbrev pub registered_lines : Bool → List ℕ → ℕ → NodeState → List ℕ
+registered_lines domains port at s = flat_map (key_line domains port at s) (registered_keys at s)
 
 -- ascending by StreamID
 abbrev pub booked_lines : List ℕ → ℕ → NodeState → List ℕ
 booked_lines port at s = flat_map (booked_line port) (bookings_at at s)
 
 -- the lines of a place of a node: of what is registered there, and then of what is booked there
-abbrev pub place_lines : List ℕ → ℕ → NodeState → List ℕ
-place_lines port at s = registered_lines port at s ++ booked_lines port at s
+abbrev pub place_lines : Bool → List ℕ → ℕ → NodeState → List ℕ
+place_lines domains port at s = registered_lines domains port at s ++ booked_lines port at s
 
 -- ---- the ports, link by link, end `a` first
 
@@ -48,7 +49,7 @@ abbrev pub port_part : Plan → WorldState → List Tick → EgressPort → List
 port_part plan w ticks p =
     let port = port_name plan w.tree.links p in
     port_line port (tally_of (replies_of p ticks))
-    ++ option_map_or (place_lines port (place_of p.port)) (node_at p.node w) []
+    ++ option_map_or (place_lines plan.domains port (place_of p.port)) (node_at p.node w) []
 
 -- those of all ports
 abbrev pub port_parts : Plan → WorldState → List Tick → List ℕ

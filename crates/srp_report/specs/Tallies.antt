@@ -30,6 +30,15 @@ with_reply t (Sent octets) = record t { sent = count_of (t.sent + 1); octets = c
 with_reply t (Discarded place) = record t { discarded = count_of (t.discarded + 1) }
 with_reply t _ = t
 
+-- two tallies together
+abbrev pub with_tally : Tally → Tally → Tally
+with_tally t more =
+    record {
+      sent = count_of (t.sent + more.sent);
+      octets = count_of (t.octets + more.octets);
+      discarded = count_of (t.discarded + more.discarded);
+    }
+
 -- the tallies of a node's ports with one step more
 abbrev pub step_counted : List Tally → NodeStep → List Tally
 step_counted row st = option_map_or (λ t. slice_set row st.port.0 (with_reply t st.reply)) (slice_get row st.port.0) row

@@ -7,9 +7,8 @@ ghost use Rattle.srp_report.specs.FrameLines.{frames_line, depart_line, fates_li
 ghost use Rattle.srp_report.specs.Fates.{fate_counts, line_start as line_start_spec, line_from};
 
 use crate::departures::{FateCounts, Outcomes, SentFrame};
-use crate::lines::{put, put_number};
-use crate::names::port_name;
 use frame_flow::{FlowResult, PortFlow};
+use journal_lines::{port_name, put, put_number};
 use srp_base::NoMemory;
 use std::alloc::{AllocError, Global};
 use topology_file::Scenario;

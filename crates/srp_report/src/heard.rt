@@ -4,7 +4,7 @@ ghost use Rattle.std.specs.Prelude.{◌≡◌, ◌++◌, flat_map, OnOk};
 ghost use Rattle.srp_report.specs.Report.{stream_heard, node_heard, nodes_heard};
 
 use crate::lines::put_heard;
-use crate::names::node_name;
+use journal_lines::node_name;
 use node_core::Node;
 use srp_base::NodeNo;
 use std::alloc::AllocError;

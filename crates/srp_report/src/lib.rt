@@ -1,10 +1,11 @@
 //! The texts of a run: its report, which tells what each port of the network sent, what is registered and booked there at
-//! the end, what the stations hear, what became of the frames, and how the network is then; and its journal.
+//! the end, what the stations hear, what became of the frames, and how the network is then; the run in short; and its journal.
 //!
 //! ```text
 //!   ticks 1062
 //!   port s1>s2 sent 5 octets 60 discarded 0      each port, link by link, end `a` first
 //!   listener s1>s2 0200000000010001 ready IN     what is registered there: VIDs, Talkers, Listeners, each ascending
+//!   domain s1>s2 6 priority 3 vid 2 IN           and where there are SRP domains, Domains by SRclassID
 //!   booked s1>s2 0200000000010001 A slope 15488000 since 41     the booked streams, in bit/s and cs, ascending
 //!   port s2>s1 sent 1 octets 11 discarded 0
 //!   vlan s2>s1 7 IN
@@ -28,6 +29,9 @@
 //! report tells what happened, and none of it is what the tree or the stations would have one expect. `journal_text`
 //! (`specs/JournalText.antt`) is a function of the scenario and any ticks.
 //!
+//! `summary_text` (`specs/Summary.antt`) is the run in short: the sizes of its scenario, what all ports sent together, how many
+//! bookings there are and how often Ready is heard at its end, each by the same counts and questions, over all ports and nodes.
+//!
 //! The report can be made whole (`report`), or piece by piece as it goes out (`Printout` of `printout.rt`): the lines of a port's
 //! frames are then made when they are asked for, so that only one port's are kept at a time.
 //!
@@ -39,8 +43,9 @@
 //! in `lines.rt` with its arm of `put_key` or `put_srp`. A further line of a port is a definition there and a piece at the
 //! end of `place_lines`, with its writer in `registered.rt`; one of the network is a piece of
 //! `before_frames` or `behind_frames`, which `report_text` is made of, with its writer in `text.rt`. A further count is a field of
-//! `Tally`, a line of `tally_of` and one of `Tally::counted`. A further step or answer is a case of `step_name` or `reply_name`
-//! with its arm in `journal.rt`.
+//! `Tally`, a line of `tally_of` and one of `Tally::counted`. The names of ports and the lines of a journal's events and steps are
+//! those of `journal_lines`. A further sum of a summary is a definition over the ports or nodes of the network with its loop
+//! in `totals.rt`, and a piece of `summary_text` with its writer in `short.rt`.
 #![tactic(auto)]
 
 mod departures;
@@ -48,16 +53,17 @@ mod flows;
 mod heard;
 mod journal;
 mod lines;
-mod names;
 mod ports;
 mod printout;
 mod registered;
+mod short;
 mod tallies;
 mod tally;
 mod text;
+mod totals;
 
 pub use departures::SentFrame;
 pub use journal::journal_text;
-pub use names::port_name;
 pub use printout::Printout;
+pub use short::summary;
 pub use text::report;

@@ -2,30 +2,15 @@
 
 ghost use Rattle.std.specs.Prelude.{◌≡◌, ◌++◌, OnOk, Some};
 ghost use Rattle.std.specs.Fmt.{decimal};
-ghost use Rattle.srp_report.specs.Lines.{ticks_line, port_line, vlan_line, talker_start, failure_text, talker_end, talker_line, listener_line, srp_line, want_line, booked_line, heard_line, end_lines, state_name as state_name_spec, kind_name as kind_name_spec, heard_name as heard_name_spec, class_name as class_name_spec, yes_or_no as yes_or_no_spec};
+ghost use Rattle.srp_report.specs.Lines.{ticks_line, port_line, vlan_line, talker_start, failure_text, talker_end, talker_line, listener_line, domain_line, srp_line, want_line, booked_line, heard_line, end_lines, state_name as state_name_spec, kind_name as kind_name_spec, heard_name as heard_name_spec, class_name as class_name_spec, yes_or_no as yes_or_no_spec};
 
 use crate::tally::Tally;
-use itoa::Buffer;
+use journal_lines::{put, put_number};
 use msrp_codec::{MsrpContent, MsrpKey};
 use registrar::Registrar;
 use srp_base::{Class, Cs, Failure, ListenerKind, StreamId, Talker, Vid};
 use std::alloc::AllocError;
 use stream_importance::{Entry, Want};
-
-/// Puts a text at the end.
-pub(crate) fn put(out: &mut Vec<u8>, text: &str) -> Result<(), AllocError>
-    ensures { OnOk result (out.new.items ≡ out.old.items ++ text.now) }
-{
-    out.extend_from_slice(text.as_bytes())
-}
-
-/// Puts a number at the end.
-pub(crate) fn put_number(out: &mut Vec<u8>, number: u64) -> Result<(), AllocError>
-    ensures { OnOk result (out.new.items ≡ out.old.items ++ decimal number) }
-{
-    let mut digits = Buffer::new();
-    out.extend_from_slice(digits.format(number).as_bytes())
-}
 
 /// The line of a run's length.
 pub(crate) fn put_ticks(out: &mut Vec<u8>, ticks: u64) -> Result<(), AllocError>
@@ -81,20 +66,28 @@ pub(crate) fn put_vlan(
     put(out, &registered)
 }
 
-/// The line of an attribute of MSRP that is registered at a port with this content; a Domain has none.
+/// The line of an attribute of MSRP that is registered at a port with this content; where there are no SRP domains a Domain
+/// has none.
 pub(crate) fn put_srp(
     out: &mut Vec<u8>,
+    domains: bool,
     port: &[u8],
     key: MsrpKey,
     content: Option<MsrpContent>,
     state: Registrar,
 ) -> Result<(), AllocError>
-    ensures { OnOk result (out.new.items ≡ out.old.items ++ srp_line port.now key content state) }
+    ensures { OnOk result (out.new.items ≡ out.old.items ++ srp_line domains port.now key content state) }
 {
     match key {
         MsrpKey::Talker(stream) => put_talker(out, port, stream, content, state),
         MsrpKey::Listener(stream) => put_listener(out, port, stream, content, state),
-        MsrpKey::Domain(_) => Ok(()),
+        MsrpKey::Domain(class) => {
+            if domains {
+                put_domain(out, port, class, content, state)
+            } else {
+                Ok(())
+            }
+        }
     }
 }
 
@@ -230,6 +223,48 @@ fn put_listening(
     let name = state_name(state);
     let registered = format!(in alloc; " {stream} {word} {name}\n")?;
     put(out, "listener ")?;
+    out.extend_from_slice(port)?;
+    put(out, &registered)
+}
+
+// The line of the Domain of an SR class, by its SRclassID.
+fn put_domain(
+    out: &mut Vec<u8>,
+    port: &[u8],
+    class: u8,
+    content: Option<MsrpContent>,
+    state: Registrar,
+) -> Result<(), AllocError>
+    ensures { OnOk result (out.new.items
+        ≡ out.old.items ++ domain_line port.now class content state) }
+{
+    match content {
+        Some(MsrpContent::Domain { priority, vid }) => {
+            put_domain_value(out, port, class, priority, vid, state)
+        }
+        Some(MsrpContent::Advertise(_))
+        | Some(MsrpContent::Failed(_, _))
+        | Some(MsrpContent::Listener(_))
+        | None => Ok(()),
+    }
+}
+
+// The line of a Domain of this SRclassPriority and SRclassVID.
+fn put_domain_value(
+    out: &mut Vec<u8>,
+    port: &[u8],
+    class: u8,
+    priority: u8,
+    vid: u16,
+    state: Registrar,
+) -> Result<(), AllocError>
+    ensures { OnOk result (out.new.items ≡ out.old.items
+        ++ domain_line port.now class (Some (MsrpContent.Domain priority vid)) state) }
+{
+    let alloc = *out.allocator();
+    let name = state_name(state);
+    let registered = format!(in alloc; " {class} priority {priority} vid {vid} {name}\n")?;
+    put(out, "domain ")?;
     out.extend_from_slice(port)?;
     put(out, &registered)
 }

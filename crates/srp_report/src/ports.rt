@@ -8,10 +8,10 @@ ghost use Rattle.srp_report.specs.Report.{port_part, port_parts};
 ghost use Rattle.srp_report.specs.Tallies.{AreTallies};
 
 use crate::lines::put_tally;
-use crate::names::port_name;
 use crate::registered::put_place;
 use crate::tallies::Tallies;
 use crate::tally::Tally;
+use journal_lines::port_name;
 use srp_base::{EgressPort, LinkNo, NoMemory};
 use std::alloc::Global;
 use topology_file::Scenario;
@@ -55,8 +55,8 @@ fn put_each(
     Ok(())
 }
 
-// The ports of all links, link by link, end `a` first.
-fn ports_of_links(alloc: Global, tree: &Tree) -> Result<Vec<EgressPort>, NoMemory>
+/// The ports of all links, link by link, end `a` first.
+pub(crate) fn ports_of_links(alloc: Global, tree: &Tree) -> Result<Vec<EgressPort>, NoMemory>
     ensures ports { IfOk result (λ v. v.items ≡ link_ports tree.now) }
     ensures known { IfOk result (λ v. AllByRecursion (HasPort tree.now) v.items) }
 {
@@ -88,5 +88,5 @@ fn put_port(
     let port = port_name(alloc, scenario, world.tree(), at)?;
     let tally = tallies.at(at).unwrap_or(Tally::zero());
     put_tally(out, port.as_slice(), tally)?;
-    put_place(out, port.as_slice(), world, at)
+    put_place(out, scenario.domains, port.as_slice(), world, at)
 }

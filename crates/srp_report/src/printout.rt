@@ -7,9 +7,9 @@ ghost use Rattle.srp_report.specs.Printout.{IsFront};
 ghost use Rattle.srp_report.specs.Report.{report_text};
 
 use crate::flows::put_fates;
-use crate::names::port_name;
 use crate::text::{put_behind, text_before};
 use frame_flow::{FlowResult, PortFlow};
+use journal_lines::port_name;
 use srp_base::NoMemory;
 use std::alloc::Global;
 use std::collections::VecDeque;

@@ -19,18 +19,19 @@ use world_core::World;
 /// The lines of what is registered and booked at a port.
 pub(crate) fn put_place(
     out: &mut Vec<u8>,
+    domains: bool,
     port: &[u8],
     world: &World,
     at: EgressPort,
 ) -> Result<(), NoMemory>
     requires { HasPort world.now.tree at }
     ensures { OnOk result (out.new.items ≡ out.old.items
-        ++ option_map_or (place_lines port.now (place_of at.port)) (node_at at.node world.now) []) }
+        ++ option_map_or (place_lines domains port.now (place_of at.port)) (node_at at.node world.now) []) }
 {
     world.keeps();
     let node = world.node(at.node);
     let keys = node.keys(at.port)?;
-    put_keys(out, port, node, at.port, keys.as_slice())?;
+    put_keys(out, domains, port, node, at.port, keys.as_slice())?;
     let entries = node.bookings(at.port)?;
     put_entries(out, port, entries.as_slice())?;
     Ok(())
@@ -39,6 +40,7 @@ pub(crate) fn put_place(
 // The lines of these attributes at a port of a node.
 fn put_keys(
     out: &mut Vec<u8>,
+    domains: bool,
     port: &[u8],
     node: &Node,
     at: PortNo,
@@ -46,10 +48,10 @@ fn put_keys(
 ) -> Result<(), AllocError>
     requires { IsLinkPort at (ports_of node.now) }
     ensures { OnOk result (out.new.items
-        ≡ out.old.items ++ flat_map (key_line port.now (place_of at) node.now) keys.now) }
+        ≡ out.old.items ++ flat_map (key_line domains port.now (place_of at) node.now) keys.now) }
 {
     for key in keys {
-        put_key(out, port, node, at, key)?;
+        put_key(out, domains, port, node, at, key)?;
     }
     Ok(())
 }
@@ -57,6 +59,7 @@ fn put_keys(
 // The line of an attribute, by its Registrar and what is registered of it.
 fn put_key(
     out: &mut Vec<u8>,
+    domains: bool,
     port: &[u8],
     node: &Node,
     at: PortNo,
@@ -64,12 +67,12 @@ fn put_key(
 ) -> Result<(), AllocError>
     requires { IsLinkPort at (ports_of node.now) }
     ensures { OnOk result (out.new.items
-        ≡ out.old.items ++ key_line port.now (place_of at) node.now key.now) }
+        ≡ out.old.items ++ key_line domains port.now (place_of at) node.now key.now) }
 {
     let state = node.registrar(at, *key);
     match key {
         NodeKey::Vlan(vid) => put_vlan(out, port, *vid, state),
-        NodeKey::Srp(key) => put_srp(out, port, *key, node.content(at, *key), state),
+        NodeKey::Srp(key) => put_srp(out, domains, port, *key, node.content(at, *key), state),
     }
 }
 

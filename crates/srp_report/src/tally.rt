@@ -1,7 +1,7 @@
 //! What a port sent and discarded.
 
 ghost use Rattle.std.specs.Prelude.{◌≡◌};
-ghost use Rattle.srp_report.specs.Tallies.{zero_tally, with_reply};
+ghost use Rattle.srp_report.specs.Tallies.{zero_tally, with_reply, with_tally};
 
 use node_core::StepReply;
 
@@ -25,6 +25,17 @@ impl Tally {
             sent: 0,
             octets: 0,
             discarded: 0,
+        }
+    }
+
+    /// The tally with another one, of other steps.
+    pub(crate) fn with(self, more: Tally) -> Tally
+        ensures { result ≡ with_tally self more }
+    {
+        Tally {
+            sent: self.sent.saturating_add(more.sent),
+            octets: self.octets.saturating_add(more.octets),
+            discarded: self.discarded.saturating_add(more.discarded),
         }
     }
 

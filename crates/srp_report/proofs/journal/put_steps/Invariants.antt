@@ -1,6 +1,6 @@
 use Rattle.std.proofs.Common.{◌≡◌, ◌++◌, drop}
 use Rattle.std.specs.Prelude.{flat_map}
-use Rattle.srp_report.specs.JournalText.{line_at}
+use Rattle.journal_lines.specs.Lines.{line_at}
 use Rattle.srp_report.proofs.journal.put_steps.Given as goal
 
 -- the text so far with the lines of the steps that are left is the whole

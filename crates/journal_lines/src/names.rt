@@ -3,7 +3,7 @@
 ghost use Rattle.std.specs.Prelude.{◌≡◌, ◌++◌, ◌↔◌, IfOk, OnOk, IsTrue};
 ghost use Rattle.tree_topology.specs.Topology.{HasPort};
 ghost use Rattle.tree_topology.specs.Ports.{peer_of};
-ghost use Rattle.srp_report.specs.Lines.{name_of, port_name as port_name_spec};
+ghost use Rattle.journal_lines.specs.Names.{name_of, port_name as port_name_spec};
 
 use srp_base::{EgressPort, NodeNo, PortNo};
 use std::alloc::{AllocError, Global};
@@ -25,7 +25,7 @@ pub fn port_name(
 }
 
 /// Puts the name of a port at the end of a text.
-pub(crate) fn put_port_name(
+pub fn put_port_name(
     out: &mut Vec<u8>,
     scenario: &Scenario,
     tree: &Tree,
@@ -67,7 +67,7 @@ fn has_port(tree: &Tree, at: EgressPort) -> bool
 }
 
 /// The name of a node, which is empty where the number has no entry.
-pub(crate) fn node_name(nodes: &[NodeEntry], number: NodeNo) -> &[u8]
+pub fn node_name(nodes: &[NodeEntry], number: NodeNo) -> &[u8]
     ensures { result.now ≡ name_of nodes.now number }
 {
     if number.0 == 0 {
