@@ -1,0 +1,236 @@
+-- What happens in a tick may happen.
+use Rattle.std.proofs.Common.{◌≡◌, ◌≢◌, ◌⊎◌, inl, inr, ℕ, zero, suc, ◌+◌, ◌-◌, ◌<◌, ◌≤◌, Bool, true, false, ◌&&◌, ◌||◌, List, [], ◌∷◌, ◌++◌, length, map, filter, get_or, refl, sym, ap, subst, ◌∙◌, arith}
+use Rattle.std.specs.Prelude.{slice_get, Some, ◌==◌, if◌then◌else◌, flat_map, replicate, All}
+use Rattle.std.specs.List.{AllByRecursion, list_any, range_with_len}
+use Rattle.std.proofs.lemmas.Bool.Decides.{nat_tests}
+use Rattle.srp_base.specs.declared.numbers.Cs.{Cs}
+use Rattle.srp_base.specs.declared.numbers.NodeNo.{NodeNo}
+use Rattle.srp_base.specs.declared.numbers.EgressPort.{EgressPort}
+use Rattle.tree_topology.specs.declared.graph.Link.{Link}
+use Rattle.tree_topology.specs.declared.graph.NodeKind.{NodeKind}
+use Rattle.tree_topology.specs.declared.graph.NodeKind.TheVariants.{Station, Bridge}
+use Rattle.tree_topology.specs.Graph.{Joins, Joined}
+use Rattle.tree_topology.specs.Topology.{Topology, HasNode, HasPort, IsSound}
+use Rattle.tree_topology.specs.Ports.{neighbours, port_to}
+use Rattle.tree_topology.specs.PortLaws.{HasPortLaws}
+use Rattle.tree_topology.specs.Refusal.{is_station}
+use Rattle.topology_file.specs.declared.entries.NodeEntry.{NodeEntry}
+use Rattle.topology_file.specs.declared.entries.LinkEntry.{LinkEntry}
+use Rattle.topology_file.specs.Entries.{joins_both}
+use Rattle.topology_file.specs.Kinds.{IsStationNumber}
+use Rattle.topology_file.specs.Scenario.{node_kinds, tree_links}
+use Rattle.group_file.specs.declared.entries.GroupEntry.{GroupEntry}
+use Rattle.group_file.specs.declared.entries.GroupKind.{GroupKind}
+use Rattle.group_file.specs.declared.entries.GroupKind.TheVariants as kinds
+use Rattle.group_file.specs.Events.{IsKnownGroup}
+use Rattle.group_file.specs.Plan.{GroupPlan}
+use Rattle.group_file.specs.Scenario.{KeepsGroupRules}
+use Rattle.mmrp.specs.declared.events.GroupEvent.{GroupEvent}
+use Rattle.mmrp.specs.declared.events.GroupEvent.TheVariants.{Join, Part, Port, Lose, Repeat, Carry, Clock}
+use Rattle.mmrp.specs.declared.events.GroupStep.{GroupStep}
+use Rattle.mmrp.specs.declared.events.GroupStep.TheVariants.{Work, Due, Settle, Send}
+use Rattle.mmrp.specs.Net.{NetGroups, CanHappen, IsStation, group_step, inbox, is_busy_at}
+use Rattle.group_run.specs.Allowed.{AreAllowed, IsAllowed, IsInTick, NamesNeighbours}
+use Rattle.group_run.specs.Ticks.{busy_steps, carries, each_makes, event_of, is_sending_time, link_ports, net_steps, node_ports, node_steps, port_at, script_at, works_at}
+
+-- ---- within a tick
+
+-- what events leave alone, as the public law says it
+pub record LeaveAlone : Type 0 where
+  pub tree : (e : GroupEvent) (w : NetGroups) → (group_step e w).0.tree ≡ w.tree
+  pub clock : (e : GroupEvent) (w : NetGroups) → e ≢ Clock → (group_step e w).0.clock ≡ w.clock
+
+no_clock : (tree : Topology) (e : GroupEvent) → IsAllowed tree e → e ≢ Clock
+no_clock tree (Join n mac) ok = λ is. cc
+no_clock tree (Part n mac) ok = λ is. cc
+no_clock tree (Port p step) ok = λ is. cc
+no_clock tree (Lose p index) ok = λ is. cc
+no_clock tree (Repeat p index) ok = λ is. cc
+no_clock tree (Carry p) ok = λ is. cc
+no_clock tree Clock ok = absurd ok
+
+pub allowed_can : (tree : Topology) (t : ℕ) (e : GroupEvent) (w : NetGroups) → IsAllowed tree e → IsInTick tree t w → CanHappen e w
+allowed_can tree t (Join n mac) w ok at = subst (λ (r : Topology). IsStation r n) (sym at.tree_is) ok
+allowed_can tree t (Part n mac) w ok at = subst (λ (r : Topology). IsStation r n) (sym at.tree_is) ok
+allowed_can tree t (Port p step) w ok at = subst (λ (r : Topology). HasPort r p) (sym at.tree_is) ok
+allowed_can tree t (Lose p index) w ok at = subst (λ (r : Topology). HasPort r p) (sym at.tree_is) ok
+allowed_can tree t (Repeat p index) w ok at = subst (λ (r : Topology). HasPort r p) (sym at.tree_is) ok
+allowed_can tree t (Carry p) w ok at = subst (λ (r : Topology). HasPort r p) (sym at.tree_is) ok
+allowed_can tree t Clock w ok at = absurd ok
+
+pub allowed_stays : LeaveAlone → (tree : Topology) (t : ℕ) (e : GroupEvent) (w : NetGroups) → IsAllowed tree e → IsInTick tree t w → IsInTick tree t (group_step e w).0
+allowed_stays alone tree t e w ok at =
+    record {
+      tree_is = alone.tree e w ∙ at.tree_is;
+      clock_is = ap (λ (c : Cs). c.0) (alone.clock e w (no_clock tree e ok)) ∙ at.clock_is;
+    }
+
+-- ---- lists of events
+
+append : {X : Type 0} (P : X → Type 0) (xs ys : List X) → AllByRecursion P xs → AllByRecursion P ys → AllByRecursion P (xs ++ ys)
+append P [] ys h k = k
+append P (x ∷ xs) ys h k = (h.0, append P xs ys h.1 k)
+
+flat : {X A : Type 0} (P : A → Type 0) (f : X → List A) (xs : List X) → AllByRecursion (λ x. AllByRecursion P (f x)) xs → AllByRecursion P (flat_map f xs)
+flat P f [] h = tt
+flat P f (x ∷ xs) h = append P (f x) (flat_map f xs) h.0 (flat P f xs h.1)
+
+mapped : {X A : Type 0} (P : A → Type 0) (f : X → A) (xs : List X) → AllByRecursion (λ x. P (f x)) xs → AllByRecursion P (map f xs)
+mapped P f [] h = tt
+mapped P f (x ∷ xs) h = (h.0, mapped P f xs h.1)
+
+repeated : {X : Type 0} (P : X → Type 0) (n : ℕ) (x : X) → P x → AllByRecursion P (replicate n x)
+repeated P zero x h = tt
+repeated P (suc n) x h = (h, repeated P n x h)
+
+where_so : {X : Type 0} (P : X → Type 0) (b : Bool) (xs : List X) → AllByRecursion P xs → AllByRecursion P (if b then xs else [])
+where_so P true xs h = h
+where_so P false xs h = tt
+
+kept_of : {X : Type 0} (P : X → Type 0) (test : X → Bool) (xs : List X) → AllByRecursion P xs → AllByRecursion P (filter test xs)
+kept_of P test [] h = tt
+kept_of P test (x ∷ xs) h = by (test x) refl (kept_of P test xs h.1)
+  where
+    by : (b : Bool) → test x ≡ b → AllByRecursion P (filter test xs) → AllByRecursion P (filter test (x ∷ xs))
+    by true is later = rw is (h.0, later)
+    by false is later = rw is later
+
+each_of : {X : Type 0} (P : X → Type 0) (xs : List X) → All P xs → AllByRecursion P xs
+each_of P [] h = tt
+each_of P (x ∷ xs) h = (h 0 x (omega arith), each_of P xs (λ k d lt. h (suc k) d (omega (arith, lt))))
+
+numbers : (P : ℕ → Type 0) (a n : ℕ) → ((k : ℕ) → a ≤ k → k < a + n → P k) → AllByRecursion P (range_with_len a n)
+numbers P a zero h = tt
+numbers P a (suc n) h = (h a (omega arith) (omega arith), numbers P (a + 1) n (λ k low high. h k (omega (arith, low)) (omega (arith, high))))
+
+-- ---- the steps of nodes
+
+ports_there : (tree : Topology) (n : NodeNo) → HasNode tree n.0 → AllByRecursion (HasPort tree) (node_ports tree n)
+ports_there tree n has =
+    let count = length (neighbours tree.links n.0) in
+    mapped (HasPort tree) (port_at n) (range_with_len 1 count)
+    (numbers (λ k. HasPort tree (port_at n k)) 1 count (λ k low high. (has, low, omega (arith, high))))
+
+same : {X : Type 0} (P Q : X → Type 0) (xs : List X) → ((x : X) → P x → Q x) → AllByRecursion P xs → AllByRecursion Q xs
+same P Q [] f h = tt
+same P Q (x ∷ xs) f h = (f x h.0, same P Q xs f h.1)
+
+each_allowed : (tree : Topology) (step : GroupStep) (ports : List EgressPort) → AllByRecursion (HasPort tree) ports → AreAllowed tree (each_makes step ports)
+each_allowed tree step ports h = mapped (IsAllowed tree) (λ p. Port p step) ports h
+
+works_allowed : (w : NetGroups) (ports : List EgressPort) → AllByRecursion (HasPort w.tree) ports → AreAllowed w.tree (flat_map (works_at w) ports)
+works_allowed w ports h =
+    flat (IsAllowed w.tree) (works_at w) ports
+    (same (HasPort w.tree) (λ p. AreAllowed w.tree (works_at w p)) ports
+    (λ p has. repeated (IsAllowed w.tree) (length (inbox p w)) (Port p Work) has) h)
+
+busy_allowed : (w : NetGroups) (ports : List EgressPort) → AllByRecursion (HasPort w.tree) ports → AreAllowed w.tree (busy_steps w ports)
+busy_allowed w ports h =
+    append (IsAllowed w.tree) (flat_map (works_at w) ports ++ each_makes Due ports) (each_makes Settle ports)
+    (append (IsAllowed w.tree) (flat_map (works_at w) ports) (each_makes Due ports) (works_allowed w ports h) (each_allowed w.tree Due ports h))
+    (each_allowed w.tree Settle ports h)
+
+node_allowed : (w : NetGroups) (n : NodeNo) → HasNode w.tree n.0 → AreAllowed w.tree (node_steps w n)
+node_allowed w n has =
+    let ports = node_ports w.tree n in
+    let there = ports_there w.tree n has in
+    append (IsAllowed w.tree) (if is_busy_at n w then busy_steps w ports else []) (if is_sending_time w.clock then each_makes Send ports else [])
+    (where_so (IsAllowed w.tree) (is_busy_at n w) (busy_steps w ports) (busy_allowed w ports there))
+    (where_so (IsAllowed w.tree) (is_sending_time w.clock) (each_makes Send ports) (each_allowed w.tree Send ports there))
+
+pub steps_allowed : (w : NetGroups) → AreAllowed w.tree (net_steps w)
+steps_allowed w =
+    let count = length w.tree.kinds in
+    flat (IsAllowed w.tree) (λ x. node_steps w (record { 0 = x })) (range_with_len 1 count)
+    (numbers (λ x. AreAllowed w.tree (node_steps w (record { 0 = x }))) 1 count
+    (λ x low high. node_allowed w (record { 0 = x }) (low, omega (arith, high))))
+
+-- ---- the events of a file
+
+a_station : (k : NodeKind) → is_station k ≡ true → k ≡ Station
+a_station Station h = refl
+a_station Bridge h = cc
+
+station_kind : (nodes : List NodeEntry) (i : ℕ) → i < length nodes → ((d : NodeEntry) → is_station (get_or nodes i d).kind ≡ true) → slice_get (node_kinds nodes) i ≡ Some Station
+station_kind [] i lt h = absurd (omega arith)
+station_kind (n ∷ nodes) zero lt h = ap Some (a_station n.kind (h n))
+station_kind (n ∷ nodes) (suc i) lt h = let less : i < length nodes = omega arith in station_kind nodes i less h
+
+kinds_many : (nodes : List NodeEntry) → length (node_kinds nodes) ≡ length nodes
+kinds_many [] = refl
+kinds_many (n ∷ nodes) = ap suc (kinds_many nodes)
+
+or_true : (a b : Bool) → (a || b) ≡ true → (a ≡ true) ⊎ (b ≡ true)
+or_true true b h = inl refl
+or_true false b h = inr h
+
+and_true : (a b : Bool) → (a && b) ≡ true → (a ≡ true) × (b ≡ true)
+and_true true b h = (refl, h)
+and_true false b h = cc
+
+same_number : (x y : ℕ) → (x == y) ≡ true → x ≡ y
+same_number x y h = grind (arith, nat_tests, h)
+
+-- a link that joins two nodes joins them the other way round
+link_joins : (l : LinkEntry) (x y : ℕ) → joins_both x y l ≡ true → Joins (record { a = l.a; b = l.b }) y x
+link_joins l x y h = by (or_true (l.a.0 == x && l.b.0 == y) (l.a.0 == y && l.b.0 == x) h)
+  where
+    by : ((l.a.0 == x && l.b.0 == y) ≡ true) ⊎ ((l.a.0 == y && l.b.0 == x) ≡ true) → Joins (record { a = l.a; b = l.b }) y x
+    by (inl e) = let both = and_true _ _ e in inr (same_number l.a.0 x both.0, same_number l.b.0 y both.1)
+    by (inr e) = let both = and_true _ _ e in inl (same_number l.a.0 y both.0, same_number l.b.0 x both.1)
+
+some_joins : (ls : List LinkEntry) (x y : ℕ) → list_any (joins_both x y) ls ≡ true → Joined (tree_links ls) y x
+some_joins [] x y h = cc
+some_joins (l ∷ ls) x y h = by (or_true (joins_both x y l) (list_any (joins_both x y) ls) h) (some_joins ls x y)
+  where
+    by : (joins_both x y l ≡ true) ⊎ (list_any (joins_both x y) ls ≡ true) → (list_any (joins_both x y) ls ≡ true → Joined (tree_links ls) y x) → Joined (tree_links (l ∷ ls)) y x
+    by (inl e) later = inl (link_joins l x y e)
+    by (inr e) later = inr (later e)
+
+module _ (plan : GroupPlan) (rules : KeepsGroupRules plan) where
+  joined_nodes : (x y : ℕ) → list_any (joins_both x y) plan.links ≡ true → Joined plan.tree.links y x
+  joined_nodes x y h = subst (λ (r : Topology). Joined r.links y x) (sym rules.network.is_tree) (some_joins plan.links x y h)
+
+  pub known_neighbours : (kind : GroupKind) → IsKnownGroup plan.nodes plan.links kind → NamesNeighbours plan.tree.links kind
+  known_neighbours (kinds.Join station mac) known = tt
+  known_neighbours (kinds.Part station mac) known = tt
+  known_neighbours (kinds.Lose from to index) known = joined_nodes from.0 to.0 known.0.2
+  known_neighbours (kinds.Repeat from to index) known = joined_nodes from.0 to.0 known.0.2
+
+  known_station : (n : NodeNo) → IsStationNumber plan.nodes n.0 → IsStation plan.tree n
+  known_station n known =
+      let first = known.0.0 in
+      let last = known.0.1 in
+      let count : length plan.tree.kinds ≡ length plan.nodes = ap (λ (r : Topology). length r.kinds) rules.network.is_tree ∙ kinds_many plan.nodes in
+      let kind = ap (λ (r : Topology). slice_get r.kinds (n.0 - 1)) rules.network.is_tree ∙ station_kind plan.nodes (n.0 - 1) (omega (arith, first, last)) known.1 in
+      ((first, omega (arith, last, count)), kind)
+
+  module _ (ports : HasPortLaws plan.tree) where
+    known_allowed : (kind : GroupKind) → IsKnownGroup plan.nodes plan.links kind → IsAllowed plan.tree (event_of plan.tree.links kind)
+    known_allowed (kinds.Join station mac) known = known_station station known
+    known_allowed (kinds.Part station mac) known = known_station station known
+    known_allowed (kinds.Lose from to index) known = ports.joined_port to.0 from.0 (joined_nodes from.0 to.0 known.0.2)
+    known_allowed (kinds.Repeat from to index) known = ports.joined_port to.0 from.0 (joined_nodes from.0 to.0 known.0.2)
+
+    pub scripted_allowed : (t : ℕ) → AreAllowed plan.tree (script_at plan t)
+    scripted_allowed t =
+        let Known : GroupEntry → Type 0 = λ e. IsKnownGroup plan.nodes plan.links e.kind in
+        let entries = filter (λ (e : GroupEntry). e.tick == t) plan.events in
+        mapped (IsAllowed plan.tree) (λ e. event_of plan.tree.links e.kind) entries
+        (same Known (λ e. IsAllowed plan.tree (event_of plan.tree.links e.kind)) entries (λ e known. known_allowed e.kind known)
+        (kept_of Known (λ e. e.tick == t) plan.events (each_of Known plan.events rules.events_known)))
+
+    ends_there : (ls : List Link) → ((x y : ℕ) → Joined ls x y → Joined plan.tree.links x y)
+        → AllByRecursion (HasPort plan.tree) (flat_map (λ (l : Link). port_to plan.tree.links l.a.0 l.b.0 ∷ port_to plan.tree.links l.b.0 l.a.0 ∷ []) ls)
+    ends_there [] inside = tt
+    ends_there (l ∷ ls) inside = (
+      ports.joined_port l.a.0 l.b.0 (inside l.a.0 l.b.0 (inl (inl (refl, refl)))),
+      (ports.joined_port l.b.0 l.a.0 (inside l.b.0 l.a.0 (inl (inr (refl, refl)))), ends_there ls (λ x y j. inside x y (inr j))),
+    )
+
+    pub carries_allowed : AreAllowed plan.tree (carries plan.tree)
+    carries_allowed = mapped (IsAllowed plan.tree) Carry (link_ports plan.tree) (ends_there plan.tree.links (λ x y j. j))
+
+-- the laws on ports, of a plan's tree
+pub plan_ports : (laws : (tree : Topology) → IsSound tree → HasPortLaws tree) (plan : GroupPlan) → KeepsGroupRules plan → HasPortLaws plan.tree
+plan_ports laws plan rules = laws plan.tree (subst IsSound (sym rules.network.is_tree) rules.network.accepted)

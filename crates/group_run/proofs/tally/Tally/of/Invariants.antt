@@ -1,0 +1,9 @@
+use Rattle.std.proofs.Common.{◌≡◌, drop}
+use Rattle.std.specs.Prelude.{fold}
+use Rattle.group_run.specs.Counts.{replies_of, with_reply, zero_tally}
+use Rattle.group_run.proofs.tally.Tally.of.Given as goal
+
+-- what is left to count leads to what all leads to
+abbrev pub invariant-loop-made : goal.invariant-loop-made
+invariant-loop-made l =
+    fold with_reply zero_tally (replies_of l.at l.replies) ≡ fold with_reply l.tally (replies_of l.at (drop l.made-index l.replies))

@@ -1,0 +1,5 @@
+pub mod Ticks
+pub mod Allowed
+pub mod Counts
+pub mod Lines
+pub mod Text
