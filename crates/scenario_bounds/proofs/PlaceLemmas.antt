@@ -1,13 +1,13 @@
 -- What each port may give away is below the rate of its link.
-use Rattle.std.proofs.Common.{◌≡◌, ◌≢◌, ℕ, zero, suc, ◌+◌, ◌-◌, ◌*◌, ◌/◌, ◌<◌, ◌≤◌, ◌⊎◌, inl, inr, true, false, cond, List, [], ◌∷◌, length, get_or, map, take, Option, Some, None, refl, sym, ap, subst, ◌∙◌, arith}
-use Rattle.std.specs.Prelude.{All, filter, flat_map, slice_get, not, ◌==◌}
+use Rattle.std.proofs.Common.{◌≡◌, ◌≢◌, ℕ, zero, suc, ◌+◌, ◌-◌, ◌*◌, ◌/◌, ◌^◌, ◌<◌, ◌≤◌, ◌⊎◌, inl, inr, true, false, cond, List, [], ◌∷◌, length, get_or, map, take, Option, Some, None, refl, sym, ap, subst, ◌∙◌, arith}
+use Rattle.std.specs.Prelude.{All, filter, flat_map, slice_get, not, ◌==◌, IfSome}
 use Rattle.std.specs.Option.{option_map_or}
 use Rattle.std.specs.List.{cons_option, range_with_len, position_or_len}
 use Rattle.std.proofs.Math.Nat.{mul-le-mul_right}
 use Rattle.std.proofs.lemmas.Bool.{cond-true, cond-false, cases_Bool, eqb-true, eq-eqb, ne_eqb, or_left, or_right, or_from, not_from_true, not_from_false}
-use Rattle.std.proofs.lemmas.Option.{none-some, same_Some}
+use Rattle.std.proofs.lemmas.Option.{get_or_from_slice_get, none-some, same_Some, slice_get_within}
 use Rattle.std.proofs.lemmas.List.{length-map}
-use Rattle.std.proofs.lemmas.List.Elements.{All-nil, All-cons, All-head, All-tail, All-append, All-map}
+use Rattle.std.proofs.lemmas.List.Elements.{All-nil, All-cons, All-head, All-tail, All-append, All-filter, All-get_or, All-map}
 use Rattle.std.proofs.lemmas.List.FromFn.{get_or-range_with_len, length-range_with_len}
 use Rattle.srp_base.specs.declared.numbers.EgressPort.{EgressPort}
 use Rattle.srp_base.specs.declared.bandwidth.Rate.{Rate}
@@ -28,7 +28,7 @@ use Rattle.frame_flow.specs.Copies.{places_of_link, all_places}
 use Rattle.frame_flow.specs.Flow.{IsFlow, port_flow}
 use Rattle.scenario_frames.specs.Setting.{plan_rates, setting_of}
 use Rattle.class_b_bound.specs.Bound.{AreCaps}
-use Rattle.scenario_bounds.specs.Caps.{is_link_of, links_of, caps_of_link, no_caps, caps_at}
+use Rattle.scenario_bounds.specs.Caps.{is_link_of, links_of, link_at as link_of_port, caps_of_link, no_caps, caps_at}
 
 -- ---- a link among those of its end
 
@@ -246,3 +246,15 @@ module _ (plan : Plan) (rules : KeepsRules plan) where
       let places = all_places plan.tree.links (plan_rates plan) in
       subst (λ (t : List PortFlow). All P t) (sym is.each)
       (All-map P (port_flow (setting_of plan changes) flows) places (λ k d few. (caps_ordered plan (get_or places k d).at, below k d few)))
+
+-- so the caps of a port's link are below its rate
+pub link_caps : (plan : Plan) → KeepsRules plan → (p : EgressPort) (found : Option LinkEntry) → link_of_port plan p ≡ found
+    → IfSome found (λ l. AreCaps l.rate (caps_of_link l).class_a (caps_of_link l).both)
+link_caps plan rules p None is = tt
+link_caps plan rules p (Some l) is =
+    let P : LinkEntry → Type 0 = λ e. (e.delta_a + e.delta_b ≤ 90) × (e.latency < 2 ^ 32) in
+    let links' : List LinkEntry = links_of p.node.0 plan in
+    let place = p.port.0 - 1 in
+    let form : P l = subst P (get_or_from_slice_get links' place l l is)
+    (All-get_or P links' place l (slice_get_within links' place l is) (All-filter (is_link_of p.node.0) P plan.links rules.link_forms)) in
+    (shares_ordered l.delta_a l.delta_b (bits_of l.rate), share_below (l.delta_a + l.delta_b) l.rate form.0)

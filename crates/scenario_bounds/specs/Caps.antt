@@ -1,5 +1,5 @@
 -- What a port may give away, by the entry of its link (IEEE Std 802.1Q-2018, 34.3).
-use Rattle.std.specs.Prelude.{ℕ, ◌-◌, ◌==◌, Bool, ◌||◌, List, filter, slice_get}
+use Rattle.std.specs.Prelude.{ℕ, ◌-◌, ◌==◌, Bool, ◌||◌, List, filter, slice_get, Option}
 use Rattle.std.specs.Option.{option_map_or}
 use Rattle.srp_base.specs.declared.numbers.EgressPort.{EgressPort}
 use Rattle.stream_importance.specs.declared.slope.Caps.{Caps}
@@ -23,6 +23,10 @@ caps_of_link l = caps_of l.rate l.delta_a l.delta_b
 abbrev pub no_caps : Caps
 no_caps = record { class_a = 0; both = 0 }
 
+-- the link of a port: a node's links are those of its ports, in order
+abbrev pub link_at : Plan → EgressPort → Option LinkEntry
+link_at plan p = slice_get (links_of p.node.0 plan) (p.port.0 - 1)
+
 -- what a port may give away, by the entry of its link; where there is no such link, nothing
 abbrev pub caps_at : Plan → EgressPort → Caps
-caps_at plan p = option_map_or caps_of_link (slice_get (links_of p.node.0 plan) (p.port.0 - 1)) no_caps
+caps_at plan p = option_map_or caps_of_link (link_at plan p) no_caps

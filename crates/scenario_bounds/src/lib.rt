@@ -7,7 +7,7 @@
 //!   a run's flow: what each port's shaper is given ------+---> class_b_bound::worst_wait ---> worst
 //! ```
 //!
-//! - `caps`: `caps_at`, what a port may give away.
+//! - `caps`: `link_at`, the link of a port, and `caps_at`, what the port may give away.
 //! - `port`: `PortBound`, and `bound_of_port`.
 //! - `laws`: that class B stays within its bound at every port.
 //!
@@ -23,5 +23,5 @@ mod caps;
 pub mod laws;
 mod port;
 
-pub use caps::caps_at;
+pub use caps::{caps_at, link_at};
 pub use port::{PortBound, bound_of_port};

@@ -1,0 +1,10 @@
+use Rattle.std.proofs.Common.{◌≡◌, ◌++◌, drop}
+use Rattle.std.specs.Prelude.{flat_map}
+use Rattle.port_margins.specs.Margins.{port_lines}
+use Rattle.port_margins.proofs.ports.put_each.Given as goal
+
+-- the text so far with the lines of the ports that are left is the whole
+abbrev pub invariant-loop-i : goal.invariant-loop-i
+invariant-loop-i l =
+    l.out.items ++ flat_map (port_lines l.scenario l.world) (drop l.i l.ports)
+    ≡ l.fn.out.items ++ flat_map (port_lines l.scenario l.world) l.ports

@@ -1,0 +1,26 @@
+use Rattle.std.proofs.Common.{ℕ, List, [], ◌++◌, sym, ap, ◌∙◌, Option}
+use Rattle.std.specs.Option.{option_map_or}
+use Rattle.attribute_propagation.specs.Ports.{place_of}
+use Rattle.tree_topology.specs.Topology.{Topology}
+use Rattle.node_core.specs.State.{NodeState}
+use Rattle.journal_lines.specs.Names.{port_name}
+use Rattle.srp_report.proofs.LinkPorts.{link-port}
+use Rattle.port_margins.specs.Margins.{place_lines}
+use Rattle.port_margins.proofs.ports.put_on_link.Goals as goal
+
+pub put_place-requires-clause-port : goal.put_place-requires-clause-port
+put_place-requires-clause-port c = link-port c.args.world.now c.keeps.ensures c.args.at c.requires.port c.node-node.result.now c.node-node.ensures
+
+pub returns : goal.returns
+returns c =
+    let out = c.args.out.now.items in
+    let plan = c.args.scenario.now in
+    let w = c.args.world.now in
+    let at = c.args.at in
+    let link = c.args.link.now in
+    let place = place_of at.port in
+    let s = c.node-node.result.now in
+    c.in_ok-put_place.ensures
+    ∙ (ap (λ (port : List ℕ). out ++ place_lines port link plan.streams place s)
+    (c.as_slice.ensures.value ∙ (c.in_ok-port.ensures ∙ ap (λ (t : Topology). port_name plan t.links at) c.tree.ensures))
+    ∙ ap (λ (o : Option NodeState). out ++ option_map_or (place_lines (port_name plan w.tree.links at) link plan.streams place) o []) (sym c.node-node.ensures))

@@ -1,0 +1,23 @@
+use Rattle.std.proofs.Common.{ℕ, ◌++◌, ap, ◌∙◌}
+use Rattle.stream_importance.specs.declared.slope.Caps.{Caps}
+use Rattle.srp_base.specs.declared.bandwidth.Class.TheVariants.{A}
+use Rattle.attribute_propagation.specs.Ports.{place_of}
+use Rattle.node_core.specs.State.{slope_at}
+use Rattle.scenario_bounds.specs.Caps.{caps_of_link}
+use Rattle.port_margins.specs.Margins.{lines_by, refused_lines}
+use Rattle.port_margins.proofs.Pieces.{three_pieces}
+use Rattle.port_margins.proofs.ports.put_place.Goals as goal
+
+pub returns : goal.returns
+returns c =
+    let out = c.args.out.now.items in
+    let port = c.args.port.now in
+    let s = c.args.node.now in
+    let place = place_of c.args.at in
+    let rate = c.args.link.now.rate in
+    let refused = refused_lines port place s c.args.scenario.now.streams in
+    let caps = caps_of_link c.args.link.now in
+    three_pieces out _ _ _ _ refused _ c.in_ok-put_margins.ensures c.in_ok-put_refusals.ensures c.in_ok-put_shapers.ensures
+    ∙ (ap (λ (k : Caps). out ++ lines_by port rate k c.slope-class_a.result c.slope-class_b.result refused) c.new-caps.ensures
+    ∙ (ap (λ (a : ℕ). out ++ lines_by port rate caps a c.slope-class_b.result refused) c.slope-class_a.ensures
+    ∙ ap (λ (b : ℕ). out ++ lines_by port rate caps (slope_at A place s) b refused) c.slope-class_b.ensures))

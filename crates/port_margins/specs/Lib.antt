@@ -1,0 +1,3 @@
+pub mod Cbs
+pub mod Lines
+pub mod Margins

@@ -1,0 +1,94 @@
+-- What each port of a network has booked and has left, which streams it refuses, and the shapers of its classes.
+use Rattle.std.specs.Prelude.{ℕ, ◌+◌, ◌==◌, Bool, if◌then◌else◌, List, [], ◌++◌, codes, flat_map, Option, Some, option_and_then, is_some}
+use Rattle.std.specs.Option.{option_map_or}
+use Rattle.srp_base.specs.declared.bandwidth.Class.TheVariants.{A, B}
+use Rattle.srp_base.specs.declared.bandwidth.Rate.{Rate}
+use Rattle.srp_base.specs.declared.numbers.EgressPort.{EgressPort}
+use Rattle.srp_base.specs.declared.numbers.StreamId.{StreamId}
+use Rattle.stream_importance.specs.declared.entry.Fit.{Fit}
+use Rattle.stream_importance.specs.declared.entry.Fit.TheVariants.{TooLittle}
+use Rattle.stream_importance.specs.declared.entry.Want.{Want}
+use Rattle.stream_importance.specs.declared.slope.Caps.{Caps}
+use Rattle.class_b_bound.specs.Bound.{tight_bound_of}
+use Rattle.msrp_talker.specs.TalkerOut.{talker_in}
+use Rattle.msrp_codec.specs.declared.pdu.MsrpKey.TheVariants.{Listener}
+use Rattle.msrp.specs.Stream.{want_of_talker}
+use Rattle.msrp.specs.Side.{talker_of}
+use Rattle.topology_file.specs.Plan.{Plan}
+use Rattle.topology_file.specs.declared.entries.LinkEntry.{LinkEntry}
+use Rattle.topology_file.specs.declared.entries.StreamEntry.{StreamEntry}
+use Rattle.attribute_propagation.specs.Ports.{place_of}
+use Rattle.node_core.specs.State.{NodeState, content_at, fit_of, slope_at}
+use Rattle.scenario_bounds.specs.Caps.{caps_of_link, link_at}
+use Rattle.world_core.specs.World.{WorldState, node_at}
+use Rattle.world_core.specs.Ticks.{link_ports}
+use Rattle.journal_lines.specs.Names.{port_name}
+use Rattle.port_margins.specs.Cbs.{cbs_of}
+use Rattle.port_margins.specs.Lines.{margin_line, refused_line, cbs_line}
+
+-- ---- what is booked, and what is left
+
+-- of class A by itself, and of both classes together, whose cap class B has to keep
+abbrev pub margin_lines : List ℕ → Caps → ℕ → ℕ → List ℕ
+margin_lines port caps class_a class_b =
+    margin_line port (codes "A") class_a caps.class_a ++ margin_line port (codes "A+B") (class_a + class_b) caps.both
+
+-- ---- what is refused
+
+-- what a stream's Talker, as it is registered at a node, asks of each other port
+abbrev pub asked_of : StreamId → NodeState → Option Want
+asked_of stream s = option_and_then want_of_talker (talker_in (talker_of stream s.streams))
+
+-- whether Listeners of a stream are registered at a place, so that somebody goes without it
+abbrev pub has_listeners : StreamId → ℕ → NodeState → Bool
+has_listeners stream at s = is_some (content_at (Listener stream) at s)
+
+-- the line of a want that doesn't fit
+abbrev pub fit_line : List ℕ → Bool → Option Want → Option Fit → List ℕ
+fit_line port heard (Some want) (Some (TooLittle more cap code)) = refused_line port want more cap code heard
+fit_line port heard _ _ = []
+
+-- that of a stream at a place, by the ledger there and at the moment of the node's clock
+abbrev pub stream_line : List ℕ → ℕ → NodeState → StreamEntry → List ℕ
+stream_line port at s e = fit_line port (has_listeners e.id at s) (asked_of e.id s) (fit_of at e.id s)
+
+-- those of a scenario's streams, in file order
+abbrev pub refused_lines : List ℕ → ℕ → NodeState → List StreamEntry → List ℕ
+refused_lines port at s streams = flat_map (stream_line port at s) streams
+
+-- ---- the shapers
+
+-- the line of a class with a wait that has booked something
+abbrev pub shaper_line : List ℕ → List ℕ → Rate → ℕ → ℕ → List ℕ
+shaper_line port class rate wait slope = if slope == 0 then [] else cbs_line port class (cbs_of rate wait slope)
+
+-- class A waits for one frame of other traffic at most, and class B for that and for what class A has credit for
+abbrev pub shaper_lines : List ℕ → Rate → Caps → ℕ → ℕ → List ℕ
+shaper_lines port rate caps class_a class_b =
+    shaper_line port (codes "A") rate 12336 class_a
+    ++ shaper_line port (codes "B") rate (tight_bound_of rate caps.class_a caps.both).wait class_b
+
+-- ---- the ports
+
+-- the lines of a port of this rate and these caps, by what its classes have booked, with those of what it refuses
+abbrev pub lines_by : List ℕ → Rate → Caps → ℕ → ℕ → List ℕ → List ℕ
+lines_by port rate caps class_a class_b refused =
+    margin_lines port caps class_a class_b ++ (refused ++ shaper_lines port rate caps class_a class_b)
+
+-- those of a place of a node, on this link
+abbrev pub place_lines : List ℕ → LinkEntry → List StreamEntry → ℕ → NodeState → List ℕ
+place_lines port link streams at s =
+    lines_by port link.rate (caps_of_link link) (slope_at A at s) (slope_at B at s) (refused_lines port at s streams)
+
+-- those of a port that is on a link
+abbrev pub lines_on_link : Plan → WorldState → EgressPort → LinkEntry → List ℕ
+lines_on_link plan w p link =
+    option_map_or (place_lines (port_name plan w.tree.links p) link plan.streams (place_of p.port)) (node_at p.node w) []
+
+-- those of a port
+abbrev pub port_lines : Plan → WorldState → EgressPort → List ℕ
+port_lines plan w p = option_map_or (lines_on_link plan w p) (link_at plan p) []
+
+-- those of all ports of a network, link by link, end `a` first
+abbrev pub margins_text : Plan → WorldState → List ℕ
+margins_text plan w = flat_map (port_lines plan w) (link_ports w.tree)

@@ -1,0 +1,176 @@
+//! The lines of a port's margins. Each is put at the end of a text.
+
+ghost use Rattle.std.specs.Prelude.{◌≡◌, ◌++◌, OnOk};
+ghost use Rattle.srp_report.specs.Lines.{class_name as class_name_spec, yes_or_no as yes_or_no_spec};
+ghost use Rattle.port_margins.specs.Lines.{line_start, margin_end, margin_line, refused_start, refused_end, refused_line, cbs_slopes, cbs_credits, cbs_end, cbs_line, shortfall};
+
+use crate::cbs::Cbs;
+use srp_base::Class;
+use std::alloc::AllocError;
+use stream_importance::Want;
+
+// Puts a text at the end.
+fn put(out: &mut Vec<u8>, text: &str) -> Result<(), AllocError>
+    ensures { OnOk result (out.new.items ≡ out.old.items ++ text.now) }
+{
+    out.extend_from_slice(text.as_bytes())
+}
+
+// How the line of some classes at a port begins.
+fn put_start(out: &mut Vec<u8>, word: &str, port: &[u8], classes: &str) -> Result<(), AllocError>
+    ensures { OnOk result (out.new.items
+        ≡ out.old.items ++ line_start word.now port.now classes.now) }
+{
+    put(out, word)?;
+    out.extend_from_slice(port)?;
+    put(out, " ")?;
+    put(out, classes)
+}
+
+// What is booked, the cap, and what is left of it.
+fn put_margin_end(out: &mut Vec<u8>, booked: u64, cap: u64) -> Result<(), AllocError>
+    ensures { OnOk result (out.new.items ≡ out.old.items ++ margin_end booked cap) }
+{
+    let alloc = *out.allocator();
+    let left = cap.saturating_sub(booked);
+    let numbers = format!(in alloc; " booked {booked} cap {cap} left {left}\n")?;
+    put(out, &numbers)
+}
+
+/// The line of what some classes have booked at a port, with their cap and what is left of it, in bit/s.
+pub(crate) fn put_margin(
+    out: &mut Vec<u8>,
+    port: &[u8],
+    classes: &str,
+    booked: u64,
+    cap: u64,
+) -> Result<(), AllocError>
+    ensures { OnOk result (out.new.items
+        ≡ out.old.items ++ margin_line port.now classes.now booked cap) }
+{
+    put_start(out, "margin ", port, classes)?;
+    put_margin_end(out, booked, cap)
+}
+
+// An SR class by its letter.
+fn class_name(class: Class) -> &'static str
+    ensures { result.now ≡ class_name_spec class }
+{
+    match class {
+        Class::A => "A",
+        Class::B => "B",
+    }
+}
+
+// What a test says, as a word.
+fn yes_or_no(test: bool) -> &'static str
+    ensures { result.now ≡ yes_or_no_spec test }
+{
+    if test { "yes" } else { "no" }
+}
+
+// Which stream a port refuses.
+fn put_refused_start(out: &mut Vec<u8>, port: &[u8], want: &Want) -> Result<(), AllocError>
+    ensures { OnOk result (out.new.items ≡ out.old.items ++ refused_start port.now want.now) }
+{
+    let alloc = *out.allocator();
+    let stream = want.stream;
+    let class = class_name(want.class);
+    let slope = want.slope;
+    let asked = format!(in alloc; " {stream} {class} slope {slope}")?;
+    put(out, "refused ")?;
+    out.extend_from_slice(port)?;
+    put(out, &asked)
+}
+
+/// What a port has for a stream that doesn't fit there: the more important bookings and the cap, in bit/s, and the failure code.
+#[derive(Clone, Copy)]
+pub(crate) struct Lack {
+    pub more_important: u128,
+    pub cap: u128,
+    pub code: u8,
+}
+
+// By how much a slope misses.
+fn short_of(slope: u64, lack: Lack) -> u128
+    ensures { result ≡ shortfall slope lack.more_important lack.cap }
+{
+    u128::from(slope).saturating_sub(lack.cap.saturating_sub(lack.more_important))
+}
+
+// Why it does.
+fn put_refused_end(out: &mut Vec<u8>, slope: u64, lack: Lack, heard: bool) -> Result<(), AllocError>
+    ensures { OnOk result (out.new.items ≡ out.old.items
+        ++ refused_end slope lack.more_important lack.cap lack.code heard) }
+{
+    let alloc = *out.allocator();
+    let short = short_of(slope, lack);
+    let Lack {
+        more_important,
+        cap,
+        code,
+    } = lack;
+    let listeners = yes_or_no(heard);
+    let why = format!(in alloc;
+        " more {more_important} cap {cap} short {short} code {code} listeners {listeners}\n"
+    )?;
+    put(out, &why)
+}
+
+/// The line of a stream that a port refuses, with whether Listeners of it are registered there.
+pub(crate) fn put_refused(
+    out: &mut Vec<u8>,
+    port: &[u8],
+    want: &Want,
+    lack: Lack,
+    heard: bool,
+) -> Result<(), AllocError>
+    ensures { OnOk result (out.new.items ≡ out.old.items
+        ++ refused_line port.now want.now lack.more_important lack.cap lack.code heard) }
+{
+    put_refused_start(out, port, want)?;
+    put_refused_end(out, want.slope, lack, heard)
+}
+
+// The slopes of a class's shaper, up to its credits.
+fn put_slopes(out: &mut Vec<u8>, cbs: Cbs) -> Result<(), AllocError>
+    ensures { OnOk result (out.new.items ≡ out.old.items ++ cbs_slopes cbs) }
+{
+    let alloc = *out.allocator();
+    let idle = cbs.idle_slope;
+    let send = cbs.send_slope;
+    let slopes = format!(in alloc; " idleslope {idle} sendslope -{send} hicredit ")?;
+    put(out, &slopes)
+}
+
+// These.
+fn put_credits(out: &mut Vec<u8>, cbs: Cbs) -> Result<(), AllocError>
+    ensures { OnOk result (out.new.items ≡ out.old.items ++ cbs_credits cbs) }
+{
+    let alloc = *out.allocator();
+    let hi = cbs.hi_credit;
+    let lo = cbs.lo_credit;
+    let credits = format!(in alloc; "{hi} locredit -{lo}\n")?;
+    put(out, &credits)
+}
+
+// Both.
+fn put_cbs_end(out: &mut Vec<u8>, cbs: Cbs) -> Result<(), AllocError>
+    ensures { OnOk result (out.new.items ≡ out.old.items ++ cbs_end cbs) }
+{
+    put_slopes(out, cbs)?;
+    put_credits(out, cbs)
+}
+
+/// The line of the shaper of a class at a port.
+pub(crate) fn put_cbs(
+    out: &mut Vec<u8>,
+    port: &[u8],
+    class: &str,
+    cbs: Cbs,
+) -> Result<(), AllocError>
+    ensures { OnOk result (out.new.items ≡ out.old.items ++ cbs_line port.now class.now cbs) }
+{
+    put_start(out, "cbs ", port, class)?;
+    put_cbs_end(out, cbs)
+}
