@@ -1,12 +1,50 @@
 //! Two stations on a link that are taken apart and put together again, while a LeaveAll that will put them in step is on its way:
 //! they are as before, and go on.
 
-use crate::leaving::{begins, hears, says_again};
-use crate::vlans::{PAIR, S1, S2};
-use crate::world::{has_node, world_of};
-use srp_base::{NodeNo, PortNo, Vid};
+use crate::leaving::{calling, hears, says_again};
+use crate::vlans::{PAIR, S1, S2, carries, makes, takes};
+use crate::world::{has_answers, has_node, world_of};
+use node_core::AppRequest;
+use node_core::PortStep::{Send, Settle};
+use node_core::StepReply::{Sent, Settled};
+use srp_base::{App, EgressPort, NodeNo, PortNo, Vid};
 use std::alloc::Global;
-use world_core::World;
+use world_core::WorldEvent::Lose;
+use world_core::WorldReply::Done;
+use world_core::{World, WorldEvent, WorldReply};
+
+// What comes in at station 2 is lost.
+fn loses() -> (WorldEvent, WorldReply) {
+    let at = EgressPort {
+        node: S2,
+        port: PortNo(1),
+    };
+    (Lose(at, 0), Done)
+}
+
+// Station 1 declares a VID, and both PDUs that say it are lost.
+fn losing(vid: Vid) -> [(WorldEvent, WorldReply); 8] {
+    [
+        takes(AppRequest::Declare(vid)),
+        makes(S1, Settle, Settled(1)),
+        makes(S1, Send(App::Mvrp), Sent(12)),
+        carries(S1),
+        loses(),
+        makes(S1, Send(App::Mvrp), Sent(12)),
+        carries(S1),
+        loses(),
+    ]
+}
+
+// Whether neither is in step after the losses.
+fn is_out_of_step(world: &mut World, vid: Vid) -> bool {
+    has_answers(world, losing(vid).as_slice()) && !world.in_step()
+}
+
+// Whether neither is in step after the losses, and then station 2 sends its LeaveAll.
+fn begins(world: &mut World, vid: Vid) -> bool {
+    is_out_of_step(world, vid) && has_answers(world, calling().as_slice())
+}
 
 // The network again, once it has been taken apart.
 fn put_together(world: World) -> World {

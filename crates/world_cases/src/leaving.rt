@@ -1,42 +1,26 @@
-//! Two stations on a link, after both PDUs by which one said what it declares were lost: the other's LeaveAll alone puts both in
-//! step, unless the first has said something before it takes it.
+//! Two stations on a link, at the end of a run in which both PDUs by which one said what it declares were lost: the other's
+//! LeaveAll alone puts both in step, unless the first has said something before it takes it.
 
-use crate::vlans::{PAIR, S1, S2, carries, has_sides, makes, takes};
-use crate::world::{has_answers, has_node, world_of};
+use crate::schedule::run_of_text;
+use crate::vlans::{S1, S2, carries, has_sides, makes, takes};
+use crate::world::{has_answers, has_node};
 use node_core::PortStep::{LeaveAllNow, Send, Settle, Work};
 use node_core::StepReply::{Fired, Received, Sent, Settled};
 use node_core::{AppRequest, Wire, wire_leaves};
-use srp_base::{App, EgressPort, PortNo, Seq, Vid};
+use srp_base::{App, PortNo, Seq, Vid};
 use std::alloc::Global;
-use world_core::WorldEvent::Lose;
-use world_core::WorldReply::Done;
 use world_core::{World, WorldEvent, WorldReply};
 
-// What comes in at station 2 is lost.
-fn loses() -> (WorldEvent, WorldReply) {
-    let at = EgressPort {
-        node: S2,
-        port: PortNo(1),
-    };
-    (Lose(at, 0), Done)
-}
-
 // Station 1 declares a VID, and both PDUs that say it are lost.
-fn losing(vid: Vid) -> [(WorldEvent, WorldReply); 8] {
-    [
-        takes(AppRequest::Declare(vid)),
-        makes(S1, Settle, Settled(1)),
-        makes(S1, Send(App::Mvrp), Sent(12)),
-        carries(S1),
-        loses(),
-        makes(S1, Send(App::Mvrp), Sent(12)),
-        carries(S1),
-        loses(),
-    ]
-}
+const LOSING: &str = "ticks = 22\n\
+    node = [{ name = 's1', kind = 'station' }, { name = 's2', kind = 'station' }]\n\
+    link = [{ a = 's1', b = 's2' }]\n\
+    event = [{ tick = 0, kind = 'declare', station = 's1', vid = 7 }, \
+    { tick = 1, kind = 'lose', from = 's1', to = 's2', index = 0 }, \
+    { tick = 21, kind = 'lose', from = 's1', to = 's2', index = 0 }]\n";
 
 // Station 2 sends a LeaveAll.
-fn calling() -> [(WorldEvent, WorldReply); 2] {
+pub(crate) fn calling() -> [(WorldEvent, WorldReply); 2] {
     [
         makes(S2, LeaveAllNow(App::Mvrp), Fired(1)),
         makes(S2, Send(App::Mvrp), Sent(11)),
@@ -83,14 +67,9 @@ pub(crate) fn hears(world: &mut World) -> bool {
         && has_answers(world, [makes(S1, Work, Received(0))].as_slice())
 }
 
-// Whether neither is in step after the losses.
-fn is_out_of_step(world: &mut World, vid: Vid) -> bool {
-    has_answers(world, losing(vid).as_slice()) && !world.in_step()
-}
-
-// Whether neither is in step after the losses, and then station 2 sends its LeaveAll.
-pub(crate) fn begins(world: &mut World, vid: Vid) -> bool {
-    is_out_of_step(world, vid) && has_answers(world, calling().as_slice())
+// Whether nothing is pending and an end is out of step, and then station 2 sends its LeaveAll.
+fn calls(world: &mut World) -> bool {
+    world.quiet() && !world.in_step() && has_answers(world, calling().as_slice())
 }
 
 // Whether station 1 says again what it declares, so that the VID is registered in the end.
@@ -103,34 +82,34 @@ pub(crate) fn says_again(world: &mut World, vid: Vid) -> bool {
 
 // Whether both are in step once the LeaveAll is taken, and the VID is registered in the end.
 fn comes_in_step(world: &mut World, vid: Vid) -> bool {
-    begins(world, vid) && hears(world) && world.in_step() && says_again(world, vid)
+    calls(world) && hears(world) && world.in_step() && says_again(world, vid)
 }
 
 // Whether they aren't where station 1 has spoken before it takes it.
-fn stays_out_of_step(world: &mut World, vid: Vid, other: Vid) -> bool {
-    begins(world, vid)
+fn stays_out_of_step(world: &mut World, other: Vid) -> bool {
+    calls(world)
         && has_answers(world, speaking(other).as_slice())
         && hears(world)
         && !world.in_step()
 }
 
-fn new_one_comes_in_step(alloc: Global) -> bool {
-    let mut world = world_of(alloc, PAIR);
-    let shown = match (&mut world, Vid::new(7)) {
-        (Some(world), Some(vid)) => comes_in_step(world, vid),
+fn comes_in_step_after_the_losses(alloc: Global) -> bool {
+    let mut run = run_of_text(alloc, LOSING);
+    let shown = match (&mut run, Vid::new(7)) {
+        (Some(run), Some(vid)) => comes_in_step(&mut run.world, vid),
         _ => false,
     };
-    drop(world);
+    drop(run);
     shown
 }
 
-fn new_one_stays_out_of_step(alloc: Global) -> bool {
-    let mut world = world_of(alloc, PAIR);
-    let shown = match (&mut world, Vid::new(7), Vid::new(8)) {
-        (Some(world), Some(vid), Some(other)) => stays_out_of_step(world, vid, other),
+fn stays_out_of_step_after_the_losses(alloc: Global) -> bool {
+    let mut run = run_of_text(alloc, LOSING);
+    let shown = match (&mut run, Vid::new(8)) {
+        (Some(run), Some(other)) => stays_out_of_step(&mut run.world, other),
         _ => false,
     };
-    drop(world);
+    drop(run);
     shown
 }
 
@@ -149,12 +128,12 @@ fn leaves(alloc: Global, octets: &[u8]) -> Option<bool> {
 
 #[test]
 fn a_neighbours_leave_all_alone_puts_both_ends_in_step(rt: HostRuntime) {
-    assert!(rt; new_one_comes_in_step(rt.alloc()));
+    assert!(rt; comes_in_step_after_the_losses(rt.alloc()));
 }
 
 #[test]
 fn what_was_said_before_a_leave_all_is_taken_keeps_an_end_out_of_step(rt: HostRuntime) {
-    assert!(rt; new_one_stays_out_of_step(rt.alloc()));
+    assert!(rt; stays_out_of_step_after_the_losses(rt.alloc()));
 }
 
 #[test]

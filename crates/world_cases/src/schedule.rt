@@ -90,7 +90,7 @@ fn run_of(alloc: Global, read: &Option<Scenario>) -> Option<Run> {
 }
 
 // The run of a scenario that a text is.
-fn run_of_text(alloc: Global, text: &str) -> Option<Run> {
+pub(crate) fn run_of_text(alloc: Global, text: &str) -> Option<Run> {
     let read = scenario_of(alloc, text);
     let run = run_of(alloc, &read);
     drop(read);
