@@ -6,7 +6,7 @@ use Rattle.class_b_bound.specs.Waits.{worst_wait_of}
 use Rattle.frame_flow.specs.declared.result.PortFlow.{PortFlow}
 use Rattle.topology_file.specs.Plan.{Plan}
 use Rattle.scenario_bounds.specs.PortBounds.{bound_at}
-use Rattle.srp_report.specs.Lines.{port_name}
+use Rattle.journal_lines.specs.Names.{port_name}
 
 -- `bound P wait W worst N`, in bit times of the port
 abbrev pub wait_line : List ℕ → ℕ → ℕ → List ℕ

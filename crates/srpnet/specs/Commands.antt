@@ -3,25 +3,34 @@ use Rattle.std.specs.Prelude.{◌≡◌, ℕ, Bool, true, false, List}
 use Rattle.world_core.specs.declared.journal.Tick.{Tick}
 use Rattle.pdu_words.specs.Decoded.{decoded_text}
 use Rattle.srpnet.specs.declared.words.Command.{Command}
-use Rattle.srpnet.specs.declared.words.Command.TheVariants.{Ledger, Check, Run, RunJournal, RunBounds, Decode, Help, Version}
+use Rattle.srpnet.specs.declared.words.Command.TheVariants.{Ledger, Check, Explain, ExplainLedger, Run, RunJournal, RunBounds, Margins, Groups, Decode, Generate, Help, Version}
 use Rattle.srpnet.specs.declared.outcome.Cause.{Cause}
 use Rattle.srpnet.specs.declared.outcome.Cause.TheVariants.{Done}
 use Rattle.srpnet.specs.Input.{ending}
 use Rattle.srpnet.specs.ScenarioInput.{scenario_input}
 use Rattle.srpnet.specs.CheckText.{CheckOutput}
+use Rattle.srpnet.specs.ExplainText.{explanation, table_in}
+use Rattle.srpnet.specs.GeneratedText.{GeneratedOutput}
+use Rattle.srpnet.specs.GroupsText.{GroupsOutput, group_input}
 use Rattle.srpnet.specs.LedgerInput.{ledger_input}
 use Rattle.srpnet.specs.LedgerText.{LedgerOutput}
+use Rattle.srpnet.specs.MarginsText.{margins_alone}
 use Rattle.srpnet.specs.Pages.{help_page, version_page}
 use Rattle.srpnet.specs.RunText.{RunOutput, report_alone, report_and_journal, report_and_bounds}
 
--- whether it reads an input; the pages read none
+-- whether it reads an input; the pages read none, and neither does what makes its scenario of a number
 abbrev pub reads_input : Command → Bool
 reads_input Ledger = true
 reads_input Check = true
+reads_input Explain = true
+reads_input ExplainLedger = true
 reads_input Run = true
 reads_input RunJournal = true
 reads_input RunBounds = true
+reads_input Margins = true
+reads_input Groups = true
 reads_input (Decode form) = true
+reads_input (Generate number) = false
 reads_input Help = false
 reads_input Version = false
 
@@ -29,10 +38,15 @@ reads_input Version = false
 abbrev pub runs : Command → Bool
 runs Ledger = false
 runs Check = false
+runs Explain = false
+runs ExplainLedger = false
 runs Run = true
 runs RunJournal = true
 runs RunBounds = true
+runs Margins = true
+runs Groups = false
 runs (Decode form) = false
+runs (Generate number) = true
 runs Help = false
 runs Version = false
 
@@ -44,10 +58,15 @@ RunsNothing command = runs command ≡ false
 abbrev pub Output : Command → List ℕ → List Tick → List ℕ → Type 0
 Output Ledger octets ticks text = LedgerOutput octets text
 Output Check octets ticks text = CheckOutput octets text
+Output Explain octets ticks text = text ≡ explanation (ending (scenario_input octets)) (table_in octets)
+Output ExplainLedger octets ticks text = text ≡ explanation (ending (ledger_input octets)) (table_in octets)
 Output Run octets ticks text = RunOutput report_alone octets ticks text
 Output RunJournal octets ticks text = RunOutput report_and_journal octets ticks text
 Output RunBounds octets ticks text = RunOutput report_and_bounds octets ticks text
+Output Margins octets ticks text = RunOutput margins_alone octets ticks text
+Output Groups octets ticks text = GroupsOutput octets text
 Output (Decode form) octets ticks text = text ≡ decoded_text form octets
+Output (Generate number) octets ticks text = GeneratedOutput number ticks text
 Output Help octets ticks text = text ≡ help_page
 Output Version octets ticks text = text ≡ version_page
 
@@ -55,9 +74,14 @@ Output Version octets ticks text = text ≡ version_page
 abbrev pub ending_of : Command → List ℕ → Cause
 ending_of Ledger octets = ending (ledger_input octets)
 ending_of Check octets = ending (scenario_input octets)
+ending_of Explain octets = Done
+ending_of ExplainLedger octets = Done
 ending_of Run octets = ending (scenario_input octets)
 ending_of RunJournal octets = ending (scenario_input octets)
 ending_of RunBounds octets = ending (scenario_input octets)
+ending_of Margins octets = ending (scenario_input octets)
+ending_of Groups octets = ending (group_input octets)
 ending_of (Decode form) octets = Done
+ending_of (Generate number) octets = Done
 ending_of Help octets = Done
 ending_of Version octets = Done

@@ -47,10 +47,12 @@ pub record CarriedOut {I O : Type 0} (left : I → Option (List ℕ)) (in_faults
   pub ends : (octets : List ℕ) → left source ≡ Some octets
       → (Rose (in_faults source) (in_faults source') → ⊥) → (Rose (out_faults out) (out_faults out') → ⊥)
       → (cause ≡ plain_ending command octets) ⊎ (cause ≡ NoMemory)
-  -- the pages of help and of the version read nothing, and go out whatever the source is
-  pub page_unread : ReadsNothing command → source' ≡ source
-  pub page_ends : ReadsNothing command → (Rose (out_faults out) (out_faults out') → ⊥)
+  -- a command that reads no input leaves the source as it was, and goes out whatever the source is: no cause of bad input
+  -- comes, so that it ends as done, by a write fault, or for want of memory
+  pub unread : ReadsNothing command → source' ≡ source
+  pub unread_ends : ReadsNothing command → (Rose (out_faults out) (out_faults out') → ⊥)
       → (cause ≡ Done) ⊎ (cause ≡ NoMemory)
+  pub unread_unrefused : ReadsNothing command → WritesNothing cause → ⊥
 
 -- the words match no row: nothing is read and nothing written
 pub record WordsRefused {I O : Type 0} (source source' : I) (out out' : O) (cause : Cause) (ticks : List Tick) : Type 0 where

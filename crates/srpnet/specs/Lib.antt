@@ -2,12 +2,16 @@ pub mod CheckText
 pub mod Commands
 pub mod Document
 pub mod Ending
+pub mod ExplainText
+pub mod GeneratedText
+pub mod GroupsText
 pub mod Input
 pub mod LedgerFile
 pub mod LedgerInput
 pub mod LedgerRun
 pub mod LedgerText
 pub mod LedgerWant
+pub mod MarginsText
 pub mod Outcomes
 pub mod Pages
 pub mod RunText

@@ -1,17 +1,22 @@
 -- The table of the program's words.
-use Rattle.std.specs.Prelude.{ℕ, nat_eq, ◌&&◌, List, [], ◌∷◌, codes, if◌then◌else◌, Option, Some, None, option_map}
+use Rattle.std.specs.Prelude.{ℕ, ◌^◌, nat_eq, nat_lt, ◌&&◌, List, [], ◌∷◌, codes, if◌then◌else◌, Option, Some, None, option_map}
 use Rattle.std.specs.Cmp.Lexicographic.{pointwise}
+use Rattle.std.specs.Fmt.{decimal}
+use Rattle.std.specs.Str.Parse.{digits_value}
 use Rattle.mrpdu_codec.specs.declared.form.AppForm.{AppForm}
 use Rattle.mrpdu_codec.specs.declared.form.AppForm.TheVariants.{Mvrp, Msrp, Mmrp}
 use Rattle.srpnet.specs.declared.words.Command.{Command}
-use Rattle.srpnet.specs.declared.words.Command.TheVariants.{Ledger, Check, Run, RunJournal, RunBounds, Decode, Help, Version}
+use Rattle.srpnet.specs.declared.words.Command.TheVariants.{Ledger, Check, Explain, ExplainLedger, Run, RunJournal, RunBounds, Margins, Groups, Decode, Generate, Help, Version}
 
 -- the rows of one word
 abbrev pub command_of_word : List ℕ → Option Command
 command_of_word word =
     if pointwise nat_eq word (codes "ledger") then Some Ledger
     else if pointwise nat_eq word (codes "check") then Some Check
+    else if pointwise nat_eq word (codes "explain") then Some Explain
     else if pointwise nat_eq word (codes "run") then Some Run
+    else if pointwise nat_eq word (codes "margins") then Some Margins
+    else if pointwise nat_eq word (codes "groups") then Some Groups
     else if pointwise nat_eq word (codes "--help") then Some Help
     else if pointwise nat_eq word (codes "--version") then Some Version
     else None
@@ -28,6 +33,18 @@ form_of_word word =
 abbrev pub decoding_of_word : List ℕ → Option Command
 decoding_of_word word = option_map Decode (form_of_word word)
 
+-- the number below 2 ^ 32 that a word writes: it is what is written of the number in decimal, so that it has no sign and no
+-- leading zero
+abbrev pub number_of_word : List ℕ → Option ℕ
+number_of_word word =
+    if nat_lt (digits_value 10 word) (2 ^ 32) && pointwise nat_eq word (decimal (digits_value 10 word))
+    then Some (digits_value 10 word)
+    else None
+
+-- the making of a scenario, by its number
+abbrev pub generation_of_word : List ℕ → Option Command
+generation_of_word word = option_map Generate (number_of_word word)
+
 -- the rows of two words
 abbrev pub command_of_pair : List ℕ → List ℕ → Option Command
 command_of_pair first second =
@@ -35,7 +52,10 @@ command_of_pair first second =
     then Some RunJournal
     else if pointwise nat_eq first (codes "run") && pointwise nat_eq second (codes "bounds")
     then Some RunBounds
+    else if pointwise nat_eq first (codes "explain") && pointwise nat_eq second (codes "ledger")
+    then Some ExplainLedger
     else if pointwise nat_eq first (codes "decode") then decoding_of_word second
+    else if pointwise nat_eq first (codes "gen") then generation_of_word second
     else None
 
 -- the command of some words, where they match a row

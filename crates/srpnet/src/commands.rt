@@ -8,7 +8,7 @@ ghost use Rattle.srpnet.specs.TopCall.{most_octets};
 use crate::outcome::{Cause, no_journal};
 use crate::pages::{HELP, VERSION};
 use crate::words::Command;
-use crate::{bounds, check, decode, ledger, pages, run};
+use crate::{bounds, check, decode, explain, generator, groups, ledger, margins, pages, run};
 use srp_base::Seq;
 use srp_report::Printout;
 use std::alloc::Global;
@@ -33,18 +33,22 @@ fn text_alone(alloc: Global, text: Seq<u8>) -> CommandOutput
     }
 }
 
-/// Whether a command reads an input; the pages read none.
+/// Whether a command reads an input; the pages read none, and neither does what makes its scenario of a number.
 pub fn reads_input(command: Command) -> bool
     ensures { result ≡ reads_input_spec command }
 {
     match command {
         Command::Ledger
         | Command::Check
+        | Command::Explain
+        | Command::ExplainLedger
         | Command::Run
         | Command::RunJournal
         | Command::RunBounds
+        | Command::Margins
+        | Command::Groups
         | Command::Decode(_) => true,
-        Command::Help | Command::Version => false,
+        Command::Generate(_) | Command::Help | Command::Version => false,
     }
 }
 
@@ -59,10 +63,15 @@ pub fn output(alloc: Global, command: Command, octets: &[u8]) -> Result<CommandO
     match command {
         Command::Ledger => Ok(text_alone(alloc, ledger::output(alloc, octets)?)),
         Command::Check => Ok(text_alone(alloc, check::output(alloc, octets)?)),
+        Command::Explain => Ok(text_alone(alloc, explain::output(alloc, octets)?)),
+        Command::ExplainLedger => Ok(text_alone(alloc, explain::ledger_output(alloc, octets)?)),
         Command::Run => run::output(alloc, octets),
         Command::RunJournal => run::output_with_journal(alloc, octets),
         Command::RunBounds => bounds::output(alloc, octets),
+        Command::Margins => margins::output(alloc, octets),
+        Command::Groups => Ok(text_alone(alloc, groups::output(alloc, octets)?)),
         Command::Decode(form) => Ok(text_alone(alloc, decode::output(alloc, form, octets)?)),
+        Command::Generate(number) => generator::output(alloc, number),
         Command::Help => Ok(text_alone(alloc, pages::output(alloc, HELP)?)),
         Command::Version => Ok(text_alone(alloc, pages::output(alloc, VERSION)?)),
     }

@@ -6,9 +6,13 @@
 //! commands   what each command makes of the octets of an input: its arm
 //! |- ledger  bookings of one port: file, input, bookings, text
 //! |- check   what a scenario holds, by its counts: text
+//! |- explain why a file is refused, in words
 //! |- run     a network and its frames through the ticks of a scenario, with its journal or without: text
 //! |- bounds  the same, with how long class B waits at each port: limits, text
+//! |- margins what each port has left at the end of a run
+//! |- groups  a network that runs MMRP through the ticks of a group scenario: input, text
 //! |- decode  what captured PDUs say
+//! |- generator  the scenario of a number, its run in short
 //! '- pages   --help and --version
 //! scenario   the input of the commands that read a scenario
 //! document   octets to a TOML table
@@ -29,7 +33,11 @@ mod check;
 mod commands;
 mod decode;
 mod document;
+mod explain;
+mod generator;
+mod groups;
 mod ledger;
+mod margins;
 mod outcome;
 mod pages;
 mod run;

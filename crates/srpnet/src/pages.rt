@@ -16,6 +16,11 @@ srpnet: the Stream Reservation Protocol (IEEE Std 802.1Q-2018) over a file
                     the rest is refused
   srpnet check      reads a scenario file on standard input, a network and
                     what happens in it, and prints its counts
+  srpnet explain    reads a scenario file on standard input and says in words
+                    which rule it breaks, at which entry and key, and what
+                    stands there, or that it keeps all rules
+  srpnet explain ledger
+                    says the same of a ledger file
   srpnet run        reads a scenario file on standard input, runs its network
                     through the ticks and its frames through the shapers, and
                     prints what is registered and booked at each port, what
@@ -25,12 +30,21 @@ srpnet: the Stream Reservation Protocol (IEEE Std 802.1Q-2018) over a file
   srpnet run bounds
                     prints the report, and then how long class B waits at each
                     port: at most, and at worst in this run
+  srpnet margins    reads and runs a scenario file too, and prints what is left
+                    at each port, by how much each refused stream misses, and
+                    the shapers of the classes as tc-cbs(8) takes them
+  srpnet groups     reads a file of groups on standard input, a network whose
+                    stations join and part from groups by their addresses,
+                    runs MMRP through its ticks, and prints which groups are
+                    registered at each port
   srpnet decode mvrp
   srpnet decode msrp
   srpnet decode mmrp
                     reads captured PDUs of that application on standard input,
                     one in a line as hexadecimal digits, and prints what each
                     says, or where it breaks
+  srpnet gen N      makes the scenario of the number N, 0 to 4294967295, runs
+                    it, and prints the run in short; reads no input
   srpnet --help     this page
   srpnet --version  the version
 

@@ -44,8 +44,8 @@ fn read_output<I: Source>(
     ensures ends { (octets : List ℕ) → I.left source.old ≡ Some octets
         → (Rose (I.faults source.old) (I.faults source.new) → ⊥)
         → EndsAs (plain_ending command octets) result }
-    ensures page_unread { ReadsNothing command → source.new ≡ source.old }
-    ensures page_ends { ReadsNothing command → EndsAs Cause.Done result }
+    ensures unread { ReadsNothing command → source.new ≡ source.old }
+    ensures unread_ends { ReadsNothing command → EndsAs Cause.Done result }
 {
     if !reads_input(command) {
         return output(alloc, command, b"".as_slice());

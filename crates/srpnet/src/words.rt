@@ -1,10 +1,12 @@
 //! The words of the command line.
 
 ghost use Rattle.std.specs.Prelude.{◌≡◌};
-ghost use Rattle.srpnet.specs.Words.{command_of as command_of_spec, command_of_pair, command_of_word, form_of_word, decoding_of_word};
+ghost use Rattle.srpnet.specs.Words.{command_of as command_of_spec, command_of_pair, command_of_word, form_of_word, decoding_of_word, generation_of_word, number_of_word as number_of_word_spec};
 
+use itoa::Buffer;
 use mrpdu_codec::AppForm;
 use srp_base::Seq;
+use std::str;
 
 /// What the program can be asked to do, by a row of the table of words each.
 #[derive(Clone, Copy)]
@@ -13,14 +15,24 @@ pub enum Command {
     Ledger,
     /// `check`: reads a scenario and prints its counts.
     Check,
+    /// `explain`: reads a scenario and prints why it is refused, in words, or that it keeps all rules.
+    Explain,
+    /// `explain ledger`: does the same of a ledger file.
+    ExplainLedger,
     /// `run`: reads a scenario, runs the network through its ticks and prints the report.
     Run,
     /// `run journal`: does the same, and prints what happened behind the report.
     RunJournal,
     /// `run bounds`: does the same, and prints how long class B waits at each port behind the report.
     RunBounds,
+    /// `margins`: reads a scenario, runs it, and prints what each port has left at its end.
+    Margins,
+    /// `groups`: reads a group scenario, runs MMRP through its ticks and prints which groups are registered where.
+    Groups,
     /// `decode mvrp`, `decode msrp` or `decode mmrp`: reads a capture of PDUs of that application and prints what each says.
     Decode(AppForm),
+    /// `gen N`: makes the scenario of a number, runs it and prints the summary of its run.
+    Generate(u32),
     /// `--help`: prints a page of help.
     Help,
     /// `--version`: prints the version.
@@ -45,8 +57,14 @@ fn command_of_word(word: &[u8]) -> Option<Command>
         Some(Command::Ledger)
     } else if word == b"check".as_slice() {
         Some(Command::Check)
+    } else if word == b"explain".as_slice() {
+        Some(Command::Explain)
     } else if word == b"run".as_slice() {
         Some(Command::Run)
+    } else if word == b"margins".as_slice() {
+        Some(Command::Margins)
+    } else if word == b"groups".as_slice() {
+        Some(Command::Groups)
     } else if word == b"--help".as_slice() {
         Some(Command::Help)
     } else if word == b"--version".as_slice() {
@@ -63,8 +81,12 @@ fn command_of_pair(first: &[u8], second: &[u8]) -> Option<Command>
         Some(Command::RunJournal)
     } else if first == b"run".as_slice() && second == b"bounds".as_slice() {
         Some(Command::RunBounds)
+    } else if first == b"explain".as_slice() && second == b"ledger".as_slice() {
+        Some(Command::ExplainLedger)
     } else if first == b"decode".as_slice() {
         decoding_of_word(second)
+    } else if first == b"gen".as_slice() {
+        generation_of_word(second)
     } else {
         None
     }
@@ -89,6 +111,41 @@ fn form_of_word(word: &[u8]) -> Option<AppForm>
         Some(AppForm::Msrp)
     } else if word == b"mmrp".as_slice() {
         Some(AppForm::Mmrp)
+    } else {
+        None
+    }
+}
+
+// The scenario that is to be made, by its number.
+fn generation_of_word(word: &[u8]) -> Option<Command>
+    ensures { result ≡ generation_of_word word.now }
+{
+    match number_of_word(word) {
+        Some(number) => Some(Command::Generate(number)),
+        None => None,
+    }
+}
+
+// The number of 32 bits that a word writes in decimal, without a sign and without a leading zero.
+fn number_of_word(word: &[u8]) -> Option<u32>
+    ensures { result ≡ number_of_word_spec word.now }
+{
+    match str::from_utf8(word) {
+        Ok(text) => number_of_text(text),
+        Err(_) => None,
+    }
+}
+
+// The number that a text writes: the one that is read of it, where the text is what is written of that number.
+fn number_of_text(text: &str) -> Option<u32>
+    ensures { result ≡ number_of_word_spec text.now }
+{
+    let Ok(number) = text.parse::<u32>() else {
+        return None;
+    };
+    let mut digits = Buffer::new();
+    if text == digits.format(number) {
+        Some(number)
     } else {
         None
     }

@@ -6,9 +6,10 @@ ghost use Rattle.srpnet.specs.BoundsText.{bound_line, bound_lines, wait_line};
 ghost use Rattle.srpnet.specs.RunText.{report_and_bounds};
 
 use frame_flow::{FlowResult, PortFlow};
+use journal_lines::port_name;
 use scenario_bounds::{PortBound, bound_of_port};
 use srp_base::NoMemory;
-use srp_report::{Printout, port_name};
+use srp_report::Printout;
 use std::alloc::{AllocError, Global};
 use topology_file::Scenario;
 use world_core::Run;

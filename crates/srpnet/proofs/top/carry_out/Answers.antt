@@ -18,6 +18,7 @@ returns-in-Ok g c = record {
   refused = search rules;
   good_words = search rules;
   ends = search rules;
-  page_unread = search rules;
-  page_ends = search rules;
+  unread = search rules;
+  unread_ends = search rules;
+  unread_unrefused = search rules;
 }

@@ -1,0 +1,35 @@
+//! The command `gen`: the scenario of a number, through its run, to the summary of that run.
+
+ghost use Rattle.std.specs.Prelude.{◌≡◌, IfOk, IfErr};
+ghost use Rattle.srpnet.specs.GeneratedText.{GeneratedOutput, summary_alone};
+ghost use Rattle.srpnet.specs.Outcomes.{EndsAs};
+ghost use Rattle.srpnet.specs.RunText.{IsReported};
+
+use crate::commands::CommandOutput;
+use crate::outcome::Cause;
+use crate::run::{output_of, run_of};
+use srp_report::{Printout, summary};
+use srp_schedule::generate;
+use std::alloc::Global;
+use topology_file::Scenario;
+
+/// What `gen` prints for a number with the journal of its run, or that memory ran out: every number has a scenario.
+pub fn output(alloc: Global, number: u32) -> Result<CommandOutput, Cause>
+    ensures output { IfOk result (λ o. GeneratedOutput number o.journal.ticks o.text) }
+    ensures ends { EndsAs Cause.Done result }
+    ensures not_done { IfErr result (λ c. c ≡ Cause.Done → ⊥) }
+{
+    let scenario = generate(alloc, number)?;
+    summed_up(alloc, &scenario)
+}
+
+// The summary of a scenario's run.
+fn summed_up(alloc: Global, scenario: &Scenario) -> Result<CommandOutput, Cause>
+    ensures output { IfOk result
+        (λ o. IsReported summary_alone scenario.now o.journal.ticks o.text) }
+    ensures memory { IfErr result (λ c. c ≡ Cause.NoMemory) }
+{
+    let ran = run_of(alloc, scenario)?;
+    let text = summary(alloc, scenario, &ran.run)?;
+    Ok(output_of(ran.run, Printout::of(text)))
+}
