@@ -14,6 +14,7 @@ use Rattle.tree_topology.specs.Graph.{IsNode, Connected, IsGraph, IsTree}
 use Rattle.tree_topology.specs.Ports.{neighbours}
 use Rattle.tree_topology.specs.Refusal.{IsAccepted, HasNoLoop, is_station}
 use Rattle.tree_topology.specs.Topology.{Topology}
+use Rattle.topology_file.specs.declared.entries.DomainWord.TheVariants.{Both}
 use Rattle.topology_file.specs.declared.entries.NodeEntry.{NodeEntry}
 use Rattle.topology_file.specs.declared.entries.LinkEntry.{LinkEntry}
 use Rattle.topology_file.specs.Entries.{is_name, joins_both}
@@ -84,6 +85,12 @@ names-formed number =
     All-append (λ (x : NodeEntry). is_name x.name ≡ true) (map bridge_entry (range_with_len 1 (bridge_count number))) (map (station_entry (bridge_count number)) (range_with_len 1 (station_count number)))
     (all-of-range (λ (x : NodeEntry). is_name x.name ≡ true) bridge_entry 1 (bridge_count number) (λ k lt. numbered-is-name 98 (1 + k) refl (omega (arith, b, lt))))
     (all-of-range (λ (x : NodeEntry). is_name x.name ≡ true) (station_entry (bridge_count number)) 1 (station_count number) (λ k lt. numbered-is-name 115 (1 + k) refl (omega (arith, s, lt))))
+
+pub words-drawn : (number : ℕ) → All (λ x. x.domain ≡ Both) (drawn_nodes number)
+words-drawn number =
+    All-append (λ (x : NodeEntry). x.domain ≡ Both) (map bridge_entry (range_with_len 1 (bridge_count number))) (map (station_entry (bridge_count number)) (range_with_len 1 (station_count number)))
+    (all-of-range (λ (x : NodeEntry). x.domain ≡ Both) bridge_entry 1 (bridge_count number) (λ k lt. refl))
+    (all-of-range (λ (x : NodeEntry). x.domain ≡ Both) (station_entry (bridge_count number)) 1 (station_count number) (λ k lt. refl))
 
 -- two bridges, two stations, or a bridge and a station have different names
 names-apart : (number i j : ℕ) (d : NodeEntry) → i < j → j < bridge_count number + station_count number

@@ -19,7 +19,7 @@ use Rattle.scenario_generator.specs.Streams.{drawn_streams}
 use Rattle.scenario_generator.specs.Events.{drawn_events, IsSortedByTick}
 use Rattle.scenario_generator.specs.Generated.{IsDrawn}
 use Rattle.scenario_generator.proofs.DrawLemmas.{bridges-between, stations-between, streams-between}
-use Rattle.scenario_generator.proofs.NetworkLemmas.{node-count, ids-small, ids-differ, names-formed, names-differ, links-formed, network-accepted, uncrowded}
+use Rattle.scenario_generator.proofs.NetworkLemmas.{node-count, ids-small, words-drawn, ids-differ, names-formed, names-differ, links-formed, network-accepted, uncrowded}
 use Rattle.scenario_generator.proofs.StreamLemmas.{streams-counted, streams-formed, stream-names-differ, stream-ids-differ, talkers-known}
 use Rattle.srp_base.proofs.SortLemmas.{one-order}
 use Rattle.scenario_generator.proofs.EventLemmas.{sorted-many, sorted-within, sorted-known, sorted-order}
@@ -62,6 +62,7 @@ plan-keeps number events sorted tree =
       leave_time = (omega arith, omega arith);
       node_forms = names-formed number;
       node_ids = ids-small number;
+      words = λ off. words-drawn number;
       node_count = (omega (arith, n, two), omega (arith, n, few, small));
       size = omega (arith, n, few, small);
       names = names-differ number;

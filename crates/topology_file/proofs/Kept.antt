@@ -23,7 +23,7 @@ use Rattle.topology_file.proofs.FramesKept.{FramesKeep, frames-keep}
 -- what a scenario keeps, from what its parts were read as
 plan-keeps : AcceptedLaw → (ticks leave_time : ℕ) (periodic domains : Bool) (tree : Topology) (nodes : List NodeEntry) (links : List LinkEntry) (streams : List StreamEntry) (events : List EventEntry) (frames : List FrameEntry)
     → (1 ≤ ticks) × (ticks ≤ 12000) → (60 ≤ leave_time) × (leave_time ≤ 100)
-    → NodesKeep ticks nodes → All (IsKnownLink nodes) links → (tree ≡ topology_of nodes links) × (refusal (node_kinds nodes) (tree_links links) ≡ None)
+    → NodesKeep ticks domains nodes → All (IsKnownLink nodes) links → (tree ≡ topology_of nodes links) × (refusal (node_kinds nodes) (tree_links links) ≡ None)
     → first_where (is_crowded tree.links) [] nodes ≡ None → StreamsKeep nodes streams → EventsKeep ticks nodes links streams events → FramesKeep ticks nodes streams frames
     → KeepsRules (record { ticks = ticks; leave_time = record { 0 = leave_time }; periodic = periodic; domains = domains; tree = tree; nodes = nodes; links = links; streams = streams; events = events; frames = frames })
 plan-keeps law ticks leave_time periodic domains tree nodes links streams events frames t l n k r crowd s e f =
@@ -33,7 +33,8 @@ plan-keeps law ticks leave_time periodic domains tree nodes links streams events
       ticks = t;
       leave_time = l;
       node_forms = n.forms;
-      node_ids = ids-fit ticks nodes n;
+      node_ids = ids-fit ticks domains nodes n;
+      words = λ off i d lt. n.words i d lt off;
       node_count = (small.0, small.1);
       size = small.2;
       names = names-differ nodes n.names;

@@ -1,19 +1,23 @@
 -- What every scenario keeps of its nodes, links and tree, from the rules that its table passed.
-use Rattle.std.proofs.Common.{◌≡◌, ◌≢◌, ◌⊎◌, inl, inr, ℕ, ◌+◌, ◌-◌, ◌*◌, ◌^◌, ◌<◌, ◌≤◌, Bool, true, ◌&&◌, List, [], Option, Some, None, option_map, Ok, refl, sym, ap, subst, ◌∙◌, length, get_or, take, get_or-take, eqb, leb-true, ltb-false, IfSome, IfOk, arith}
+use Rattle.std.proofs.Common.{◌≡◌, ◌≢◌, ◌⊎◌, inl, inr, ℕ, ◌+◌, ◌-◌, ◌*◌, ◌^◌, ◌<◌, ◌≤◌, Bool, true, false, ◌&&◌, List, [], Option, Some, None, option_map, Ok, refl, sym, ap, subst, ◌∙◌, length, get_or, take, get_or-take, eqb, leb-true, ltb-false, IfSome, IfOk, arith}
 use Rattle.std.proofs.lemmas.Bool.{and_parts, false≢true}
 use Rattle.std.proofs.lemmas.Bool.Decides.{nat_tests}
 use Rattle.std.proofs.lemmas.List.{length-take-le}
 use Rattle.std.proofs.lemmas.List.Elements.{All-weaker}
 use Rattle.std.proofs.lemmas.List.Folds.{list_any_at}
-use Rattle.std.specs.Cmp.Lexicographic.{pointwise, bytes_decides}
+use Rattle.std.proofs.lemmas.Map.Lookups.{exact_bytes}
+use Rattle.std.specs.declared.cmp.Ordering.{Ordering}
+use Rattle.std.specs.declared.cmp.Ordering.TheVariants.{Less, Equal, Greater}
+use Rattle.std.specs.Ordering.{nat_cmp, match_ordering}
+use Rattle.std.specs.Cmp.Lexicographic.{pointwise, slice_cmp, bytes_decides}
 use Rattle.std.specs.List.{All, list_any}
 use Rattle.std.specs.Prelude.{AllPairs, ◌↔◌, nat_le, nat_eq, codes}
 use Rattle.srp_base.specs.declared.numbers.NodeNo.{NodeNo}
 use Rattle.srp_base.specs.Firsts.{first_where}
 use Rattle.srp_base.specs.Hexadecimal.{hex16}
 use Rattle.srp_base.proofs.FirstLemmas.{where-some, where-none}
-use Rattle.toml.specs.Data.{Data, Members, get_member, as_str}
-use Rattle.toml_rules.specs.Fields.{or_default, number_or, text, has_only}
+use Rattle.toml.specs.Data.{Data, Members, no_members, member, get_member, as_str}
+use Rattle.toml_rules.specs.Fields.{or_default, number_or, text, is_known, has_only}
 use Rattle.toml_rules.specs.Rules.{each_entry}
 use Rattle.toml_rules.specs.Shares.{share_at, shares_at}
 use Rattle.tree_topology.specs.Topology.{Topology, IsSound}
@@ -22,10 +26,12 @@ use Rattle.tree_topology.specs.declared.graph.TreeErr.{TreeErr}
 use Rattle.tree_topology.specs.Graph.{IsNode}
 use Rattle.tree_topology.specs.Ports.{neighbours}
 use Rattle.tree_topology.specs.Refusal.{refusal}
+use Rattle.topology_file.specs.declared.entries.DomainWord.{DomainWord}
+use Rattle.topology_file.specs.declared.entries.DomainWord.TheVariants.{Both}
 use Rattle.topology_file.specs.declared.entries.NodeEntry.{NodeEntry}
 use Rattle.topology_file.specs.declared.entries.LinkEntry.{LinkEntry}
 use Rattle.tree_topology.specs.Refusal.{is_station}
-use Rattle.topology_file.specs.Entries.{is_name, name_of_text, name_at, kind_at, id_of_data, id_at, domain_at, node_keys, node_entry, has_name, node_no, node_named, station_named, link_keys, rate_at, latency_at, link_between, link_form}
+use Rattle.topology_file.specs.Entries.{is_name, name_of_text, name_at, kind_at, id_of_data, id_at, domain_of_data, domain_at, node_keys, node_entry, has_name, node_no, node_named, station_named, link_keys, rate_at, latency_at, link_between, link_form}
 use Rattle.topology_file.specs.Kinds.{IsStationNumber}
 use Rattle.topology_file.specs.Scenario.{has_name_of, has_id_of, is_small, nodes_of, links_of, tree_links, node_kinds, topology_of, unless_refused, tree_of, is_crowded}
 use Rattle.topology_file.proofs.Chains.{and_then-if, when-if, some-says, within-range, chain-if, chain-holds, chain-none, ok-says, an_element, ok-both, each-all, each-numbered}
@@ -54,6 +60,37 @@ node-form domains n ms =
     and_then-if P _ (id_at n ms) (λ id ei.
     and_then-if P _ (domain_at ms) (λ domain ed.
     some-says (λ w. is_name w ≡ true) (name_at (codes "name") ms) name en (name-form (codes "name") ms))))))
+
+-- a table of known keys alone has nothing at another key
+member-known : (known : List (List ℕ)) (key : List ℕ) (ms : Members) → is_known known key ≡ false → has_only known ms ≡ true → get_member key ms ≡ None
+member-known known key no_members other only = refl
+member-known known key (member k d ms) other only =
+    let p = and_parts (is_known known k) (has_only known ms) only in
+    by (slice_cmp nat_cmp key k) refl p.0 (member-known known key ms other p.1)
+  where
+    by : (o : Ordering) → slice_cmp nat_cmp key k ≡ o → is_known known k ≡ true → get_member key ms ≡ None → match_ordering o (get_member key ms) (Some d) (get_member key ms) ≡ None
+    by Less is has rest = rest
+    by Equal is has rest =
+        let same : key ≡ k = exact_bytes key k is in
+        let F : List ℕ → Type 0 = λ c. is_known known c ≡ true in
+        absurd (false≢true (sym other ∙ subst F (sym same) has))
+    by Greater is has rest = rest
+
+-- without domains a node has no word of its own
+node-word : (domains : Bool) (n : ℕ) (ms : Members) → IfSome (node_entry domains n ms) (λ x. domains ≡ false → x.domain ≡ Both)
+node-word domains n ms =
+    let P : NodeEntry → Type 0 = λ x. domains ≡ false → x.domain ≡ Both in
+    when-if P (has_only (node_keys domains) ms) _ (λ only.
+    and_then-if P _ (name_at (codes "name") ms) (λ name en.
+    and_then-if P _ (kind_at ms) (λ kind ek.
+    and_then-if P _ (id_at n ms) (λ id ei.
+    and_then-if P _ (domain_at ms) (λ domain ed off.
+    (let F : Bool → Type 0 = λ d. has_only (node_keys d) ms ≡ true in
+    let missing = member-known (node_keys false) (codes "domain") ms refl (subst F off only) in
+    let read : Option Data → Option DomainWord = λ o. or_default Both domain_of_data o in
+    let one : domain_at ms ≡ Some Both = ap read missing in
+    let same : Some domain ≡ Some Both = sym ed ∙ one in
+    cc))))))
 
 -- an id is that of its digits, or the entry's number
 abbrev IsIdOf : ℕ → NodeEntry → Type 0
@@ -84,25 +121,30 @@ id-fits : (n : ℕ) (x : NodeEntry) → n ≤ 65 → IsIdOf n x → x.id.0 < 2 ^
 id-fits n x few (inl small) = small
 id-fits n x few (inr below) = omega (arith, few, below)
 
-pub record NodesKeep (ticks : ℕ) (nodes : List NodeEntry) : Type 0 where
+pub record NodesKeep (ticks : ℕ) (domains : Bool) (nodes : List NodeEntry) : Type 0 where
   pub forms : All (λ x. is_name x.name ≡ true) nodes
+  pub words : All (λ x. domains ≡ false → x.domain ≡ Both) nodes
   pub numbers : All (IsIdOf (1 + length nodes)) nodes
   pub small : is_small ticks nodes ≡ true
   pub names : first_where has_name_of [] nodes ≡ None
   pub ids : first_where has_id_of [] nodes ≡ None
 
-pub nodes-keep : (ticks : ℕ) (domains : Bool) (entries : List Members) → IfOk (nodes_of ticks domains entries) (NodesKeep ticks)
+pub nodes-keep : (ticks : ℕ) (domains : Bool) (entries : List Members) → IfOk (nodes_of ticks domains entries) (NodesKeep ticks domains)
 nodes-keep ticks domains entries =
-    let P = NodesKeep ticks in
+    let P = NodesKeep ticks domains in
     let F : NodeEntry → Type 0 = λ x. is_name x.name ≡ true in
+    let W : NodeEntry → Type 0 = λ x. domains ≡ false → x.domain ≡ Both in
     let N : List NodeEntry → Type 0 = λ nodes. All (IsIdOf (1 + length nodes)) nodes in
-    chain-if P (λ nodes. All F nodes × N nodes) (each_entry 4 (node_entry domains) 1 entries) _
-    (ok-both (All F) N (each_entry 4 (node_entry domains) 1 entries)
+    let forms = each_entry 4 (node_entry domains) 1 entries in
+    chain-if P (λ nodes. All F nodes × (All W nodes × N nodes)) forms _
+    (ok-both (All F) (λ nodes. All W nodes × N nodes) forms
     (each-all Any F 4 (node_entry domains) (λ n x _. node-form domains n x) 1 entries (all-any entries))
-    (each-numbered IsIdOf 4 (node_entry domains) id-later (node-id domains) 1 entries)) (λ nodes forms.
+    (ok-both (All W) N forms
+    (each-all Any W 4 (node_entry domains) (λ n x _. node-word domains n x) 1 entries (all-any entries))
+    (each-numbered IsIdOf 4 (node_entry domains) id-later (node-id domains) 1 entries))) (λ nodes forms.
     chain-holds P 5 (is_small ticks nodes) _ (λ small.
     chain-none P 6 (first_where has_name_of [] nodes) _ (λ names.
-    chain-none P 7 (first_where has_id_of [] nodes) _ (λ ids. record { forms = forms.0; numbers = forms.1; small = small; names = names; ids = ids }))))
+    chain-none P 7 (first_where has_id_of [] nodes) _ (λ ids. record { forms = forms.0; words = forms.1.0; numbers = forms.1.1; small = small; names = names; ids = ids }))))
 
 pub small-parts : (ticks : ℕ) (nodes : List NodeEntry) → is_small ticks nodes ≡ true
     → (2 ≤ length nodes) × (length nodes ≤ 64) × (length nodes * ticks ≤ 400000)
@@ -115,12 +157,12 @@ small-parts ticks nodes e =
 -- no more nodes are read than a scenario may have
 pub few-nodes : (ticks : ℕ) (domains : Bool) (nodes : List NodeEntry) (entries : List Members) → nodes_of ticks domains entries ≡ Ok nodes → length nodes ≤ 64
 few-nodes ticks domains nodes entries is =
-    let keep = ok-says (NodesKeep ticks) (nodes_of ticks domains entries) nodes is (nodes-keep ticks domains entries) in
+    let keep = ok-says (NodesKeep ticks domains) (nodes_of ticks domains entries) nodes is (nodes-keep ticks domains entries) in
     (small-parts ticks nodes keep.small).1
 
 -- few nodes have ids of 64 bits
-pub ids-fit : (ticks : ℕ) (nodes : List NodeEntry) → NodesKeep ticks nodes → All (λ x. x.id.0 < 2 ^ 64) nodes
-ids-fit ticks nodes n =
+pub ids-fit : (ticks : ℕ) (domains : Bool) (nodes : List NodeEntry) → NodesKeep ticks domains nodes → All (λ x. x.id.0 < 2 ^ 64) nodes
+ids-fit ticks domains nodes n =
     let few = (small-parts ticks nodes n.small).1 in
     All-weaker (IsIdOf (1 + length nodes)) (λ x. x.id.0 < 2 ^ 64) (λ x h. id-fits (1 + length nodes) x (omega (arith, few)) h) nodes n.numbers
 

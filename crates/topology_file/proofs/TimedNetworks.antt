@@ -21,7 +21,7 @@ use Rattle.topology_file.proofs.NetworkKept.{NodesKeep, nodes-keep, small-parts,
 -- what a network keeps, from what its parts were read as
 network-keeps : AcceptedLaw → (ticks leave_time : ℕ) (tree : Topology) (nodes : List NodeEntry) (links : List LinkEntry)
     → (1 ≤ ticks) × (ticks ≤ 12000) → (60 ≤ leave_time) × (leave_time ≤ 100)
-    → NodesKeep ticks nodes → All (IsKnownLink nodes) links → (tree ≡ topology_of nodes links) × (refusal (node_kinds nodes) (tree_links links) ≡ None)
+    → NodesKeep ticks false nodes → All (IsKnownLink nodes) links → (tree ≡ topology_of nodes links) × (refusal (node_kinds nodes) (tree_links links) ≡ None)
     → first_where (is_crowded tree.links) [] nodes ≡ None → KeepsNetworkRules ticks leave_time tree nodes links
 network-keeps law ticks leave_time tree nodes links t l n k r crowd =
     let small = small-parts ticks nodes n.small in
@@ -30,7 +30,7 @@ network-keeps law ticks leave_time tree nodes links t l n k r crowd =
       ticks_many = t;
       leave = l;
       node_forms = n.forms;
-      node_ids = ids-fit ticks nodes n;
+      node_ids = ids-fit ticks false nodes n;
       node_count = (small.0, small.1);
       size = small.2;
       names = names-differ nodes n.names;
@@ -41,12 +41,12 @@ network-keeps law ticks leave_time tree nodes links t l n k r crowd =
       is_tree = r.0;
     }
 
-network_of-keeps : AcceptedLaw → (ticks leave_time : ℕ) (domains : Bool) (node_tables link_tables : List Members)
+network_of-keeps : AcceptedLaw → (ticks leave_time : ℕ) (node_tables link_tables : List Members)
     → (1 ≤ ticks) × (ticks ≤ 12000) → (60 ≤ leave_time) × (leave_time ≤ 100)
-    → IfOk (network_of ticks domains node_tables link_tables) (λ n. KeepsNetworkRules ticks leave_time n.tree n.nodes n.links)
-network_of-keeps law ticks leave_time domains node_tables link_tables t l =
+    → IfOk (network_of ticks false node_tables link_tables) (λ n. KeepsNetworkRules ticks leave_time n.tree n.nodes n.links)
+network_of-keeps law ticks leave_time node_tables link_tables t l =
     let P : Network → Type 0 = λ n. KeepsNetworkRules ticks leave_time n.tree n.nodes n.links in
-    chain-if P _ (nodes_of ticks domains node_tables) _ (nodes-keep ticks domains node_tables) (λ nodes n.
+    chain-if P _ (nodes_of ticks false node_tables) _ (nodes-keep ticks false node_tables) (λ nodes n.
     chain-if P _ (links_of nodes link_tables) _ (links-keep nodes link_tables) (λ links k.
     chain-if P _ (tree_of nodes links) _ (tree-keeps nodes links) (λ tree r.
     chain-none P 15 (first_where (is_crowded tree.links) [] nodes) _ (λ crowd.
@@ -71,4 +71,4 @@ timed-keeps law ms =
     (let range = some-says (λ n. (1 ≤ n) × (n ≤ 12000)) (ticks_at ms) ticks e (within-range 1 12000 (number (codes "ticks") ms)) in
     let in_range : (1 ≤ times.ticks) × (times.ticks ≤ 12000) = (omega (arith, range.0, t.0), omega (arith, range.1, t.0)) in
     chain-if P _ (network_of times.ticks false node_tables link_tables) _
-    (network_of-keeps law times.ticks times.leave_time false node_tables link_tables in_range (t.1, t.2)) (λ network k. k))))))
+    (network_of-keeps law times.ticks times.leave_time node_tables link_tables in_range (t.1, t.2)) (λ network k. k))))))

@@ -19,6 +19,7 @@ use Rattle.tree_topology.specs.Graph.{IsNode}
 use Rattle.tree_topology.specs.Ports.{neighbours}
 use Rattle.tree_topology.specs.Refusal.{IsAccepted, is_self_link, is_second_link, refusal}
 use Rattle.tree_topology.specs.Topology.{Topology}
+use Rattle.topology_file.specs.declared.entries.DomainWord.TheVariants.{Both}
 use Rattle.topology_file.specs.declared.entries.NodeEntry.{NodeEntry}
 use Rattle.topology_file.specs.declared.entries.LinkEntry.{LinkEntry}
 use Rattle.topology_file.specs.declared.entries.EventEntry.{EventEntry}
@@ -220,12 +221,13 @@ pub record HasStreamForm (s : StreamEntry) : Type 0 where
 
 -- What every scenario keeps: its numbers have their ranges, names and ids differ, its nodes and links are
 -- an accepted tree, its talkers are stations, its events are in order and speak of what is known, and its frames
--- end in time, are few, and go where they can.
+-- end in time, are few, and go where they can. Where it has no domains, each node's word is both.
 pub record KeepsRules (p : Plan) : Type 0 where
   pub ticks : (1 ≤ p.ticks) × (p.ticks ≤ 12000)
   pub leave_time : (60 ≤ p.leave_time.0) × (p.leave_time.0 ≤ 100)
   pub node_forms : All (λ x. is_name x.name ≡ true) p.nodes
   pub node_ids : All (λ x. x.id.0 < 2 ^ 64) p.nodes
+  pub words : p.domains ≡ false → All (λ x. x.domain ≡ Both) p.nodes
   pub node_count : (2 ≤ length p.nodes) × (length p.nodes ≤ 64)
   pub size : length p.nodes * p.ticks ≤ 400000
   pub names : AllPairs (λ x y. x.name ≢ y.name) p.nodes
