@@ -1,6 +1,6 @@
 //! The events of a group scenario: rules 41 to 43.
 
-ghost use Rattle.std.specs.Prelude.{◌≡◌, ◌≤◌, map, length};
+ghost use Rattle.std.specs.Prelude.{◌≡◌, map};
 ghost use Rattle.toml.specs.View.{table_view};
 ghost use Rattle.toml_rules.specs.Rules.{Reads, each_entry as each_entry_spec, first_fall as first_fall_spec};
 ghost use Rattle.group_file.specs.Events.{event_form, form_ticks, group_entry, known_event};
@@ -11,21 +11,15 @@ use crate::kinds::read_kind;
 use std::alloc::Global;
 use toml::Table;
 use toml_rules::{RuleErr, each_entry, each_table, first_fall, no_entry, text};
-use topology_file::{LinkEntry, NodeEntry, read_tick};
+use topology_file::{Names, read_tick};
 
 /// The event of an entry among the first 10,000, where it has its form.
-fn read_known_event(
-    ticks: u64,
-    nodes: &[NodeEntry],
-    links: &[LinkEntry],
-    table: &Table,
-) -> Option<GroupForm>
-    requires { length nodes.now ≤ 64 }
-    ensures { result ≡ known_event ticks nodes.now links.now (table_view table.now) }
+fn read_known_event(ticks: u64, names: &Names, table: &Table) -> Option<GroupForm>
+    ensures { result ≡ known_event ticks names.now.nodes names.now.links (table_view table.now) }
 {
     let tick = read_tick(ticks, table)?;
     let word = text(table, "kind")?;
-    let kind = read_kind(nodes, links, table, word)?;
+    let kind = read_kind(names, table, word)?;
     Some(GroupForm { tick, kind })
 }
 
@@ -33,18 +27,12 @@ fn read_known_event(
 const MOST_EVENTS: usize = 10_000;
 
 /// The event of an entry with this number, where it has its form.
-fn read_event(
-    ticks: u64,
-    nodes: &[NodeEntry],
-    links: &[LinkEntry],
-    number: usize,
-    table: &Table,
-) -> Option<GroupForm>
-    requires { length nodes.now ≤ 64 }
-    ensures { result ≡ event_form ticks nodes.now links.now number (table_view table.now) }
+fn read_event(ticks: u64, names: &Names, number: usize, table: &Table) -> Option<GroupForm>
+    ensures { result ≡ event_form ticks names.now.nodes names.now.links number
+        (table_view table.now) }
 {
     if number <= MOST_EVENTS {
-        read_known_event(ticks, nodes, links, table)
+        read_known_event(ticks, names, table)
     } else {
         None
     }
@@ -54,20 +42,18 @@ fn read_event(
 fn read_forms(
     alloc: Global,
     ticks: u64,
-    nodes: &[NodeEntry],
-    links: &[LinkEntry],
+    names: &Names,
     entries: &[&Table],
 ) -> Result<Vec<GroupForm>, RuleErr>
-    requires { length nodes.now ≤ 64 }
     ensures { Reads (λ v. v.items) result
-        (each_entry_spec 41 (event_form ticks nodes.now links.now) 1
+        (each_entry_spec 41 (event_form ticks names.now.nodes names.now.links) 1
         (map (λ t. table_view t.now) entries.now)) }
 {
     each_table(
         alloc,
         41,
         entries,
-        |number, table| Ok(read_event(ticks, nodes, links, number, table)),
+        |number, table| Ok(read_event(ticks, names, number, table)),
     )
 }
 
@@ -102,15 +88,14 @@ fn named_events(alloc: Global, forms: &[GroupForm]) -> Result<Vec<GroupEntry>, R
 pub(crate) fn read_events(
     alloc: Global,
     ticks: u64,
-    nodes: &[NodeEntry],
-    links: &[LinkEntry],
+    names: &Names,
     entries: &[&Table],
 ) -> Result<Vec<GroupEntry>, RuleErr>
-    requires { length nodes.now ≤ 64 }
     ensures { Reads (λ v. v.items) result
-        (groups_of ticks nodes.now links.now (map (λ t. table_view t.now) entries.now)) }
+        (groups_of ticks names.now.nodes names.now.links
+        (map (λ t. table_view t.now) entries.now)) }
 {
-    let forms = read_forms(alloc, ticks, nodes, links, entries)?;
+    let forms = read_forms(alloc, ticks, names, entries)?;
     no_entry(42, falling_event(&forms))?;
     named_events(alloc, &forms)
 }

@@ -13,7 +13,7 @@ use std::marker::Model;
 use toml::Table;
 use toml_rules::{RuleErr, has_only, holds, needs_tables};
 use topology_file::laws::what_events_name_is_known;
-use topology_file::{LinkEntry, NodeEntry, read_timed_network};
+use topology_file::{LinkEntry, Names, NodeEntry, read_timed_network};
 use tree_topology::Tree;
 
 /// A group scenario: a network, its times, and which stations join and part from which groups.
@@ -71,13 +71,9 @@ fn read_groups(
 {
     what_events_name_is_known();
     let read = read_timed_network(alloc, table)?;
-    let events = read_events(
-        alloc,
-        read.times.ticks,
-        read.network.nodes.as_slice(),
-        read.network.links.as_slice(),
-        event_tables,
-    )?;
+    let nodes = read.network.nodes.as_slice();
+    let names = Names::of_network(nodes, read.network.links.as_slice());
+    let events = read_events(alloc, read.times.ticks, &names, event_tables)?;
     Ok(GroupScenario {
         ticks: read.times.ticks,
         leave_time: Cs(read.times.leave_time),

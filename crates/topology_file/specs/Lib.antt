@@ -3,6 +3,7 @@ pub mod Events
 pub mod Fields
 pub mod Frames
 pub mod Kinds
+pub mod Names
 pub mod Network
 pub mod Parts
 pub mod Plan

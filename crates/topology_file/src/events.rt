@@ -1,14 +1,15 @@
 //! The events of a scenario: rules 20 to 22.
 
-ghost use Rattle.std.specs.Prelude.{◌≡◌, ◌≤◌, map, length, IfOk};
+ghost use Rattle.std.specs.Prelude.{◌≡◌, map, IfOk};
 ghost use Rattle.toml.specs.View.{table_view};
 ghost use Rattle.toml_rules.specs.Rules.{Reads, each_entry as each_entry_spec, first_fall as first_fall_spec};
 ghost use Rattle.topology_file.specs.Events.{known_event, event_form, event_entry, form_ticks};
 ghost use Rattle.topology_file.specs.Scenario.{events_of};
 
-use crate::entries::{EventEntry, EventForm, LinkEntry, NodeEntry, StreamEntry};
+use crate::entries::{EventEntry, EventForm};
 use crate::forms::read_tick;
 use crate::kinds::read_kind;
+use crate::names::Names;
 use srp_base::NoMemory;
 use std::alloc::Global;
 use toml::Table;
@@ -18,15 +19,12 @@ use toml_rules::{RuleErr, each_entry, each_table, first_fall, no_entry, text};
 fn read_known_event(
     alloc: Global,
     ticks: u64,
-    nodes: &[NodeEntry],
-    links: &[LinkEntry],
-    streams: &[StreamEntry],
+    names: &Names,
     table: &Table,
 ) -> Result<Option<EventForm>, NoMemory>
-    requires nodes { length nodes.now ≤ 64 }
-    requires streams { length streams.now ≤ 128 }
     ensures { IfOk result (λ form. form
-        ≡ known_event ticks nodes.now links.now streams.now (table_view table.now)) }
+        ≡ known_event ticks names.now.nodes names.now.links names.now.streams
+        (table_view table.now)) }
 {
     let Some(tick) = read_tick(ticks, table) else {
         return Ok(None);
@@ -34,7 +32,7 @@ fn read_known_event(
     let Some(word) = text(table, "kind") else {
         return Ok(None);
     };
-    let kind = read_kind(alloc, nodes, links, streams, table, word)?;
+    let kind = read_kind(alloc, names, table, word)?;
     Ok(kind.map(|kind| EventForm { tick, kind }))
 }
 
@@ -45,19 +43,16 @@ const MOST_EVENTS: usize = 10_000;
 fn read_event(
     alloc: Global,
     ticks: u64,
-    nodes: &[NodeEntry],
-    links: &[LinkEntry],
-    streams: &[StreamEntry],
+    names: &Names,
     number: usize,
     table: &Table,
 ) -> Result<Option<EventForm>, NoMemory>
-    requires nodes { length nodes.now ≤ 64 }
-    requires streams { length streams.now ≤ 128 }
     ensures { IfOk result (λ form. form
-        ≡ event_form ticks nodes.now links.now streams.now number (table_view table.now)) }
+        ≡ event_form ticks names.now.nodes names.now.links names.now.streams number
+        (table_view table.now)) }
 {
     if number <= MOST_EVENTS {
-        read_known_event(alloc, ticks, nodes, links, streams, table)
+        read_known_event(alloc, ticks, names, table)
     } else {
         Ok(None)
     }
@@ -67,19 +62,15 @@ fn read_event(
 fn read_forms(
     alloc: Global,
     ticks: u64,
-    nodes: &[NodeEntry],
-    links: &[LinkEntry],
-    streams: &[StreamEntry],
+    names: &Names,
     entries: &[&Table],
 ) -> Result<Vec<EventForm>, RuleErr>
-    requires nodes { length nodes.now ≤ 64 }
-    requires streams { length streams.now ≤ 128 }
     ensures { Reads (λ v. v.items) result
-        (each_entry_spec 20 (event_form ticks nodes.now links.now streams.now) 1
+        (each_entry_spec 20 (event_form ticks names.now.nodes names.now.links names.now.streams) 1
         (map (λ t. table_view t.now) entries.now)) }
 {
     each_table(alloc, 20, entries, |number, table| {
-        read_event(alloc, ticks, nodes, links, streams, number, table)
+        read_event(alloc, ticks, names, number, table)
     })
 }
 
@@ -114,18 +105,14 @@ fn named_events(alloc: Global, forms: &[EventForm]) -> Result<Vec<EventEntry>, R
 pub(crate) fn read_events(
     alloc: Global,
     ticks: u64,
-    nodes: &[NodeEntry],
-    links: &[LinkEntry],
-    streams: &[StreamEntry],
+    names: &Names,
     entries: &[&Table],
 ) -> Result<Vec<EventEntry>, RuleErr>
-    requires nodes { length nodes.now ≤ 64 }
-    requires streams { length streams.now ≤ 128 }
     ensures { Reads (λ v. v.items) result
-        (events_of ticks nodes.now links.now streams.now
+        (events_of ticks names.now.nodes names.now.links names.now.streams
         (map (λ t. table_view t.now) entries.now)) }
 {
-    let forms = read_forms(alloc, ticks, nodes, links, streams, entries)?;
+    let forms = read_forms(alloc, ticks, names, entries)?;
     no_entry(21, falling_event(&forms))?;
     named_events(alloc, &forms)
 }

@@ -1,13 +1,14 @@
 //! The frames of a scenario: rules 23 and 24.
 
-ghost use Rattle.std.specs.Prelude.{◌≡◌, ◌≤◌, map, length};
+ghost use Rattle.std.specs.Prelude.{◌≡◌, ◌≤◌, map};
 ghost use Rattle.toml.specs.View.{table_view};
 ghost use Rattle.toml_rules.specs.Rules.{Reads, each_entry as each_entry_spec, each_within as each_within_spec};
 ghost use Rattle.topology_file.specs.Frames.{stream_route, apart_named, pair_route, route_at, count_at, times_at, ends_in as ends_in_spec, times_in, frame_octets_at, frame_form, form_copies, frame_entry, frame_copies};
 ghost use Rattle.topology_file.specs.Scenario.{frames_of};
 
-use crate::entries::{FrameEntry, FrameForm, FrameRoute, FrameTimes, NodeEntry, StreamEntry};
+use crate::entries::{FrameEntry, FrameForm, FrameRoute, FrameTimes};
 use crate::forms::read_name;
+use crate::names::Names;
 use crate::nodes::station_named;
 use crate::streams::{read_vid, small, stream_named};
 use srp_base::NodeNo;
@@ -16,35 +17,32 @@ use toml::Table;
 use toml_rules::{RuleErr, each_entry, each_table_within, has_only, number, number_or, within};
 
 /// The stream of a frame, missing where there is none of this name, at keys that are known.
-fn read_stream_route(streams: &[StreamEntry], table: &Table) -> Option<Option<FrameRoute>>
-    requires { length streams.now ≤ 128 }
-    ensures { result ≡ stream_route streams.now (table_view table.now) }
+fn read_stream_route(names: &Names, table: &Table) -> Option<Option<FrameRoute>>
+    ensures { result ≡ stream_route names.now.streams (table_view table.now) }
 {
     let name = read_name(table, "stream")?;
-    let stream = stream_named(streams, name);
+    let stream = stream_named(names, name);
     Some(stream.map(|stream| FrameRoute::OfStream { stream }))
 }
 
 /// The stations of these names, where they are two.
-fn stations_apart(nodes: &[NodeEntry], from: &str, to: &str) -> Option<(NodeNo, NodeNo)>
-    requires { length nodes.now ≤ 64 }
-    ensures { result ≡ apart_named nodes.now from.now to.now }
+fn stations_apart(names: &Names, from: &str, to: &str) -> Option<(NodeNo, NodeNo)>
+    ensures { result ≡ apart_named names.now.nodes from.now to.now }
 {
-    let x = station_named(nodes, from)?;
-    let y = station_named(nodes, to)?;
+    let x = station_named(names, from)?;
+    let y = station_named(names, to)?;
     if x.0 == y.0 { None } else { Some((x, y)) }
 }
 
 /// The stations and the VID of a frame, missing where these names aren't two different stations, at
 /// keys that are known.
-fn read_pair_route(nodes: &[NodeEntry], table: &Table) -> Option<Option<FrameRoute>>
-    requires { length nodes.now ≤ 64 }
-    ensures { result ≡ pair_route nodes.now (table_view table.now) }
+fn read_pair_route(names: &Names, table: &Table) -> Option<Option<FrameRoute>>
+    ensures { result ≡ pair_route names.now.nodes (table_view table.now) }
 {
     let from = read_name(table, "from")?;
     let to = read_name(table, "to")?;
     let vid = read_vid(table)?;
-    let ends = stations_apart(nodes, from, to);
+    let ends = stations_apart(names, from, to);
     Some(ends.map(|(from, to)| FrameRoute::Between { from, to, vid }))
 }
 
@@ -53,20 +51,14 @@ const STREAM_FRAME_KEYS: [&str; 5] = ["stream", "octets", "at", "count", "every"
 const PAIR_FRAME_KEYS: [&str; 7] = ["from", "to", "vid", "octets", "at", "count", "every"];
 
 /// The route of a frame: a stream alone, or two stations with a VID.
-fn read_route(
-    nodes: &[NodeEntry],
-    streams: &[StreamEntry],
-    table: &Table,
-) -> Option<Option<FrameRoute>>
-    requires nodes { length nodes.now ≤ 64 }
-    requires streams { length streams.now ≤ 128 }
-    ensures { result ≡ route_at nodes.now streams.now (table_view table.now) }
+fn read_route(names: &Names, table: &Table) -> Option<Option<FrameRoute>>
+    ensures { result ≡ route_at names.now.nodes names.now.streams (table_view table.now) }
 {
     if has_only(table, &STREAM_FRAME_KEYS) {
-        return read_stream_route(streams, table);
+        return read_stream_route(names, table);
     }
     if has_only(table, &PAIR_FRAME_KEYS) {
-        return read_pair_route(nodes, table);
+        return read_pair_route(names, table);
     }
     None
 }
@@ -122,18 +114,11 @@ fn read_octets(table: &Table) -> Option<u16>
 }
 
 /// The frame of an entry, where it has its form.
-fn read_frame(
-    ticks: u64,
-    nodes: &[NodeEntry],
-    streams: &[StreamEntry],
-    table: &Table,
-) -> Option<FrameForm>
+fn read_frame(ticks: u64, names: &Names, table: &Table) -> Option<FrameForm>
     requires ticks { ticks ≤ 12000 }
-    requires nodes { length nodes.now ≤ 64 }
-    requires streams { length streams.now ≤ 128 }
-    ensures { result ≡ frame_form ticks nodes.now streams.now 0 (table_view table.now) }
+    ensures { result ≡ frame_form ticks names.now.nodes names.now.streams 0 (table_view table.now) }
 {
-    let route = read_route(nodes, streams, table)?;
+    let route = read_route(names, table)?;
     let octets = read_octets(table)?;
     let times = read_times_in(ticks, table)?;
     Some(FrameForm {
@@ -150,16 +135,13 @@ const MOST_COPIES: u64 = 100_000;
 fn read_forms(
     alloc: Global,
     ticks: u64,
-    nodes: &[NodeEntry],
-    streams: &[StreamEntry],
+    names: &Names,
     entries: &[&Table],
 ) -> Result<Vec<FrameForm>, RuleErr>
     requires ticks { ticks ≤ 12000 }
-    requires nodes { length nodes.now ≤ 64 }
-    requires streams { length streams.now ≤ 128 }
     ensures { Reads (λ v. v.items) result
-        (each_within_spec 23 form_copies (frame_form ticks nodes.now streams.now) 1 100000
-        (map (λ t. table_view t.now) entries.now)) }
+        (each_within_spec 23 form_copies (frame_form ticks names.now.nodes names.now.streams) 1
+        100000 (map (λ t. table_view t.now) entries.now)) }
 {
     each_table_within(
         alloc,
@@ -167,7 +149,7 @@ fn read_forms(
         MOST_COPIES,
         entries,
         |form: &FrameForm| u64::from(form.times.count),
-        |_, table| Ok(read_frame(ticks, nodes, streams, table)),
+        |_, table| Ok(read_frame(ticks, names, table)),
     )
 }
 
@@ -197,17 +179,14 @@ fn routed_frames(alloc: Global, forms: &[FrameForm]) -> Result<Vec<FrameEntry>, 
 pub(crate) fn read_frames(
     alloc: Global,
     ticks: u64,
-    nodes: &[NodeEntry],
-    streams: &[StreamEntry],
+    names: &Names,
     entries: &[&Table],
 ) -> Result<Vec<FrameEntry>, RuleErr>
     requires ticks { ticks ≤ 12000 }
-    requires nodes { length nodes.now ≤ 64 }
-    requires streams { length streams.now ≤ 128 }
-    ensures { Reads (λ v. v.items) result (frames_of ticks nodes.now streams.now (map
+    ensures { Reads (λ v. v.items) result (frames_of ticks names.now.nodes names.now.streams (map
         (λ t. table_view t.now) entries.now)) }
 {
-    let forms = read_forms(alloc, ticks, nodes, streams, entries)?;
+    let forms = read_forms(alloc, ticks, names, entries)?;
     routed_frames(alloc, &forms)
 }
 

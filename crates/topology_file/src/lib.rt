@@ -35,6 +35,7 @@ mod frames;
 mod kinds;
 pub mod laws;
 mod links;
+mod names;
 mod network;
 mod nodes;
 mod scenario;
@@ -46,6 +47,7 @@ pub use entries::{
 };
 pub use forms::{read_name, read_tick};
 pub use kinds::read_pdu;
+pub use names::Names;
 pub use network::{Network, TimedNetwork, Times, read_timed_network};
 pub use nodes::station_named;
 pub use scenario::{Scenario, read_scenario, read_scenarios_keep_the_rules};

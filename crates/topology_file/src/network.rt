@@ -9,6 +9,7 @@ ghost use Rattle.topology_file.specs.Scenario.{ticks_at, leave_time_at};
 
 use crate::entries::{LinkEntry, NodeEntry};
 use crate::links::read_links;
+use crate::names::Names;
 use crate::nodes::read_nodes;
 use crate::tree::{crowded_node, make_tree};
 use srp_base::Seq;
@@ -90,7 +91,8 @@ pub(crate) fn read_network(
     ensures few_nodes { IfOk result (λ n. length n.nodes ≤ 64) }
 {
     let nodes = Seq::from_vec(read_nodes(alloc, ticks, domains, node_tables)?);
-    let links = Seq::from_vec(read_links(alloc, nodes.as_slice(), link_tables)?);
+    let names = Names::of_network(nodes.as_slice(), &[]);
+    let links = Seq::from_vec(read_links(alloc, &names, link_tables)?);
     let tree = make_tree(alloc, nodes.as_slice(), links.as_slice())?;
     no_entry(15, crowded_node(nodes.as_slice(), &tree))?;
     Ok(Network { tree, nodes, links })

@@ -11,6 +11,7 @@ ghost use Rattle.topology_file.specs.Scenario.{has_name_of as has_name_of_spec, 
 
 use crate::entries::NodeEntry;
 use crate::forms::{read_domain, read_id, read_kind, read_name};
+use crate::names::Names;
 use srp_base::{BridgeId, NoMemory, NodeNo, Seq};
 use std::alloc::Global;
 use toml::Table;
@@ -169,17 +170,15 @@ fn node_no(number: Option<usize>) -> Option<NodeNo>
 }
 
 /// The node of this name.
-pub(crate) fn node_named(nodes: &[NodeEntry], name: &str) -> Option<NodeNo>
-    requires { length nodes.now ≤ 64 }
-    ensures { result ≡ node_named_spec nodes.now name.now }
+pub(crate) fn node_named(names: &Names, name: &str) -> Option<NodeNo>
+    ensures { result ≡ node_named_spec names.now.nodes name.now }
 {
-    node_no(first_where(nodes, |_, node| has_name(name, node)))
+    node_no(first_where(names.nodes, |_, node| has_name(name, node)))
 }
 
-/// The station of this name among at most 64 nodes. None where no station has it.
-pub fn station_named(nodes: &[NodeEntry], name: &str) -> Option<NodeNo>
-    requires { length nodes.now ≤ 64 }
-    ensures { result ≡ station_named_spec nodes.now name.now }
+/// The station of this name. None where no station has it.
+pub fn station_named(names: &Names, name: &str) -> Option<NodeNo>
+    ensures { result ≡ station_named_spec names.now.nodes name.now }
 {
-    node_no(first_where(nodes, |_, node| is_station_named(name, node)))
+    node_no(first_where(names.nodes, |_, node| is_station_named(name, node)))
 }

@@ -12,6 +12,7 @@ ghost use Rattle.topology_file.specs.Scenario.{KeepsRules, plan_of, scenario_of}
 use crate::entries::{EventEntry, FrameEntry, LinkEntry, NodeEntry, StreamEntry};
 use crate::events::read_events;
 use crate::frames::{copies_of, read_frames};
+use crate::names::Names;
 use crate::network::{Network, Times, read_network, read_ticks, read_times};
 use crate::streams::read_streams;
 use srp_base::{Cs, Seq};
@@ -107,12 +108,11 @@ fn read_traffic(
         (map (λ t. table_view t.now) event_tables.now)
         (map (λ t. table_view t.now) frame_tables.now)) }
 {
-    let nodes = network.nodes.as_slice();
-    let links = network.links.as_slice();
-    let streams = Seq::from_vec(read_streams(alloc, nodes, stream_tables)?);
-    let known = streams.as_slice();
-    let events = Seq::from_vec(read_events(alloc, ticks, nodes, links, known, event_tables)?);
-    let frames = Seq::from_vec(read_frames(alloc, ticks, nodes, known, frame_tables)?);
+    let network = Names::of_network(network.nodes.as_slice(), network.links.as_slice());
+    let streams = Seq::from_vec(read_streams(alloc, &network, stream_tables)?);
+    let names = network.with_streams(streams.as_slice());
+    let events = Seq::from_vec(read_events(alloc, ticks, &names, event_tables)?);
+    let frames = Seq::from_vec(read_frames(alloc, ticks, &names, frame_tables)?);
     Ok(Traffic {
         streams,
         events,

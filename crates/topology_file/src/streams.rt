@@ -7,8 +7,9 @@ ghost use Rattle.toml_rules.specs.Rules.{Reads, each_entry as each_entry_spec};
 ghost use Rattle.topology_file.specs.Scenario.{has_stream_name_of as has_name_of_spec, has_stream_id_of as has_id_of_spec, streams_of};
 ghost use Rattle.topology_file.specs.Streams.{stream_id_at, dest_at, octets_at, frames_at, stream_vid_at, priority_at, rank_of_number, rank_at, values_at, known_stream, stream_form, stream_entry, is_stream_named, stream_named as stream_named_spec, is_talker_of as is_talker_of_spec};
 
-use crate::entries::{NodeEntry, StreamEntry, StreamForm, StreamValues};
+use crate::entries::{StreamEntry, StreamForm, StreamValues};
 use crate::forms::read_name;
+use crate::names::Names;
 use crate::nodes::{copy_name, station_named};
 use srp_base::{Mac, NoMemory, Priority, Rank, StreamId, Vid, read_hex12, read_hex16};
 use std::alloc::Global;
@@ -113,11 +114,10 @@ fn read_values(table: &Table) -> Option<StreamValues>
 /// The stream of an entry whose keys are known, where its values have their form.
 fn read_known_stream(
     alloc: Global,
-    nodes: &[NodeEntry],
+    names: &Names,
     table: &Table,
 ) -> Result<Option<StreamForm>, NoMemory>
-    requires { length nodes.now ≤ 64 }
-    ensures { IfOk result (λ form. form ≡ known_stream nodes.now (table_view table.now)) }
+    ensures { IfOk result (λ form. form ≡ known_stream names.now.nodes (table_view table.now)) }
 {
     let Some(name) = read_name(table, "name") else {
         return Ok(None);
@@ -128,7 +128,7 @@ fn read_known_stream(
     let Some(values) = read_values(table) else {
         return Ok(None);
     };
-    let talker = station_named(nodes, talker);
+    let talker = station_named(names, talker);
     let name = copy_name(alloc, name.as_bytes())?;
     Ok(Some(StreamForm {
         name,
@@ -147,35 +147,30 @@ const MOST_STREAMS: usize = 128;
 /// The stream of an entry with this number, where it has its form.
 fn read_stream(
     alloc: Global,
-    nodes: &[NodeEntry],
+    names: &Names,
     number: usize,
     table: &Table,
 ) -> Result<Option<StreamForm>, NoMemory>
-    requires { length nodes.now ≤ 64 }
-    ensures { IfOk result (λ form. form ≡ stream_form nodes.now number (table_view table.now)) }
+    ensures { IfOk result (λ form. form
+        ≡ stream_form names.now.nodes number (table_view table.now)) }
 {
     if number <= MOST_STREAMS && has_only(table, &STREAM_KEYS) {
-        read_known_stream(alloc, nodes, table)
+        read_known_stream(alloc, names, table)
     } else {
         Ok(None)
     }
 }
 
 /// Rule 16: each stream has its form.
-fn read_forms(
-    alloc: Global,
-    nodes: &[NodeEntry],
-    entries: &[&Table],
-) -> Result<Vec<StreamForm>, RuleErr>
-    requires { length nodes.now ≤ 64 }
-    ensures { Reads (λ v. v.items) result (each_entry_spec 16 (stream_form nodes.now) 1 (map
+fn read_forms(alloc: Global, names: &Names, entries: &[&Table]) -> Result<Vec<StreamForm>, RuleErr>
+    ensures { Reads (λ v. v.items) result (each_entry_spec 16 (stream_form names.now.nodes) 1 (map
         (λ t. table_view t.now) entries.now)) }
 {
     each_table(
         alloc,
         16,
         entries,
-        |number, table| read_stream(alloc, nodes, number, table),
+        |number, table| read_stream(alloc, names, number, table),
     )
 }
 
@@ -239,15 +234,14 @@ fn talking_streams(alloc: Global, forms: &[StreamForm]) -> Result<Vec<StreamEntr
 /// The streams of the entries: rules 16 to 19.
 pub(crate) fn read_streams(
     alloc: Global,
-    nodes: &[NodeEntry],
+    names: &Names,
     entries: &[&Table],
 ) -> Result<Vec<StreamEntry>, RuleErr>
-    requires { length nodes.now ≤ 64 }
-    ensures streams { Reads (λ v. v.items) result (streams_of nodes.now (map
+    ensures streams { Reads (λ v. v.items) result (streams_of names.now.nodes (map
         (λ t. table_view t.now) entries.now)) }
     ensures few { IfOk result (λ v. length v.items ≤ 128) }
 {
-    let forms = read_forms(alloc, nodes, entries)?;
+    let forms = read_forms(alloc, names, entries)?;
     no_entry(17, repeated_name(&forms))?;
     no_entry(18, repeated_id(&forms))?;
     let streams = talking_streams(alloc, &forms)?;
@@ -272,11 +266,10 @@ fn stream_no(number: Option<usize>) -> Option<u16>
 }
 
 /// The number of the stream of this name.
-pub(crate) fn stream_named(streams: &[StreamEntry], name: &str) -> Option<u16>
-    requires { length streams.now ≤ 128 }
-    ensures { result ≡ stream_named_spec streams.now name.now }
+pub(crate) fn stream_named(names: &Names, name: &str) -> Option<u16>
+    ensures { result ≡ stream_named_spec names.now.streams name.now }
 {
-    stream_no(first_where(streams, |_, stream| is_named(name, stream)))
+    stream_no(first_where(names.streams, |_, stream| is_named(name, stream)))
 }
 
 fn has_talker(name: &str, x: u16, stream: &StreamEntry) -> bool
@@ -286,8 +279,11 @@ fn has_talker(name: &str, x: u16, stream: &StreamEntry) -> bool
 }
 
 /// Whether this station talks in the stream of this name.
-pub(crate) fn is_talker_of(streams: &[StreamEntry], name: &str, x: u16) -> bool
-    ensures { result ≡ is_talker_of_spec streams.now name.now x }
+pub(crate) fn is_talker_of(names: &Names, name: &str, x: u16) -> bool
+    ensures { result ≡ is_talker_of_spec names.now.streams name.now x }
 {
-    streams.iter().any(|stream| has_talker(name, x, stream))
+    names
+        .streams
+        .iter()
+        .any(|stream| has_talker(name, x, stream))
 }

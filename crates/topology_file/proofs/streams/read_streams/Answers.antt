@@ -5,4 +5,4 @@ use Rattle.topology_file.proofs.streams.read_streams.Goals as goal
 
 pub returns-clause-few : goal.returns-clause-few
 returns-clause-few c =
-    few-streams c.args.nodes.now c.in_ok-streams.streams.items (map (λ t. table_view t.now) c.args.entries.now) (search rules)
+    few-streams c.args.names.now.nodes c.in_ok-streams.streams.items (map (λ t. table_view t.now) c.args.entries.now) (search rules)
