@@ -18,6 +18,7 @@ mod Keeping
 mod Idle
 mod NewMarks
 mod Beginnings
+mod NewRows
 mod Starting
 mod Runs
 mod OwnSteps

@@ -1,6 +1,7 @@
 -- The network of a scenario at its start: its tree, and each node with its ports, nothing declared but the Domain values of its
 -- nodes, and no PDU anywhere.
-use Rattle.std.specs.Prelude.{ℕ, Bool, true, false, ◌+◌, ◌*◌, ◌-◌, ◌%◌, ◌==◌, if◌then◌else◌, List, [], ◌∷◌, ◌++◌}
+use Rattle.std.specs.Prelude.{◌≡◌, ℕ, Bool, true, false, ◌+◌, ◌*◌, ◌-◌, ◌%◌, ◌==◌, if◌then◌else◌, List, [], ◌∷◌, ◌++◌}
+use Rattle.std.specs.List.{AllByRecursion}
 use Rattle.srp_base.specs.declared.numbers.Cs.{Cs}
 use Rattle.srp_base.specs.declared.ports.PortSetup.{PortSetup}
 use Rattle.topology_file.specs.declared.entries.DomainWord.{DomainWord}
@@ -8,9 +9,22 @@ use Rattle.topology_file.specs.declared.entries.DomainWord.TheVariants as words
 use Rattle.topology_file.specs.declared.entries.LinkEntry.{LinkEntry}
 use Rattle.topology_file.specs.declared.entries.NodeEntry.{NodeEntry}
 use Rattle.topology_file.specs.Plan.{Plan}
+use Rattle.applicant.specs.declared.Applicant.TheVariants.{Vp}
+use Rattle.registrar.specs.declared.Registrar.TheVariants.{Empty}
+use Rattle.leaveall.specs.declared.LeaveAll.TheVariants.{Passive}
+use Rattle.mrp_participant.specs.declared.row.Row.{Row}
+use Rattle.mrp_participant.specs.State.{State}
+use Rattle.msrp_codec.specs.declared.pdu.MsrpKey.{MsrpKey}
+use Rattle.msrp_codec.specs.declared.pdu.MsrpKey.TheVariants.{Domain as DomainKey}
+use Rattle.msrp_codec.specs.declared.pdu.MsrpContent.{MsrpContent}
+use Rattle.msrp_codec.specs.declared.pdu.MsrpContent.TheVariants.{Domain as DomainContent}
+use Rattle.mvrp.specs.Part.{Part}
+use Rattle.msrp.specs.declared.port.Port.{Port}
 use Rattle.msrp.specs.declared.domain.DomainSet.{DomainSet}
 use Rattle.msrp.specs.declared.domain.DomainSet.TheVariants.{Off, Nothing, OnlyA, Both}
+use Rattle.node_core.specs.declared.types.Wire.{Wire}
 use Rattle.node_core.specs.State.{NodeState, new_node}
+use Rattle.world_core.specs.Kept.{AsksNothing}
 use Rattle.world_core.specs.Marks.{new_marks}
 use Rattle.world_core.specs.World.{WorldState}
 
@@ -53,3 +67,42 @@ nodes_from plan x (n ∷ entries) =
 -- the network of a scenario at its start
 abbrev pub world_of : Plan → WorldState
 world_of plan = record { tree = plan.tree; nodes = nodes_from plan 1 plan.nodes; marks = new_marks plan.tree }
+
+-- ---- what there is at the start, in plain numbers
+
+-- a port's row of the Domain value of an SR class, with the VID 2: it is declared, nothing of it was said yet, and none is
+-- registered (IEEE Std 802.1Q-2018, 35.2.2.9)
+abbrev pub domain_row : ℕ → ℕ → Row MsrpKey MsrpContent
+domain_row id priority = record {
+  key = DomainKey id;
+  applicant = Vp;
+  content = DomainContent priority 2;
+  registrar = Empty;
+  heard = DomainContent priority 2;
+  leave = record { 0 = 0 };
+}
+
+-- the rows of MSRP at each link port, by the word of its node: class A has the ID 6 and the priority 3, class B 5 and 2; where
+-- the scenario has no domains there are none
+abbrev pub domain_rows : Bool → DomainWord → List (Row MsrpKey MsrpContent)
+domain_rows false word = []
+domain_rows true words.Both = domain_row 5 2 ∷ domain_row 6 3 ∷ []
+domain_rows true words.OnlyA = domain_row 6 3 ∷ []
+domain_rows true words.Nothing = []
+
+-- a participant has these rows alone, is to send no LeaveAll, and is sound
+pub record HasRowsAlone {K C : Type 0} (those : List (Row K C)) (part : State K C) : Type 0 where
+  pub rows : part.rows ≡ those
+  pub leave_all : part.leave_all ≡ Passive
+  pub sound : part.sound ≡ true
+
+-- A node at its start: its clock is at 0, at no port anything is kept of a VID, and of MSRP these rows alone, nothing is
+-- booked, no PDU waits, and its application asks for nothing.
+pub record IsAtStart (rows : List (Row MsrpKey MsrpContent)) (s : NodeState) : Type 0 where
+  pub clock : s.clock.0 ≡ 0
+  pub vlans : AllByRecursion (λ (part : Part). HasRowsAlone [] part) s.vlans.parts
+  pub streams : AllByRecursion (λ (port : Port). HasRowsAlone rows port.part) s.streams.ports
+  pub booked : AllByRecursion (λ (port : Port). port.ledger.entries ≡ []) s.streams.ports
+  pub inboxes : AllByRecursion (λ (wires : List Wire). wires ≡ []) s.inboxes
+  pub outboxes : AllByRecursion (λ (wires : List Wire). wires ≡ []) s.outboxes
+  pub asks : AsksNothing s

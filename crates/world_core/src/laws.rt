@@ -1,7 +1,7 @@
 //! What every network keeps, whatever happens in it: laws over the states that contracts see. Each is a function that does
 //! nothing; calling it brings the law to a proof.
 
-ghost use Rattle.std.specs.Prelude.{◌≡◌, ◌≢◌, ◌<◌, ◌-◌, ◌^◌, ◌++◌, ◌∷◌, [], ℕ, suc, List, map, Some, IfSome, false};
+ghost use Rattle.std.specs.Prelude.{◌≡◌, ◌≢◌, ◌<◌, ◌-◌, ◌^◌, ◌++◌, ◌∷◌, [], ℕ, suc, List, map, slice_get, Some, IfSome, false};
 ghost use Rattle.srp_base.specs.declared.numbers.NodeNo.{NodeNo};
 ghost use Rattle.srp_base.specs.declared.numbers.PortNo.{PortNo};
 ghost use Rattle.node_core.specs.declared.types.NodeStep.{NodeStep};
@@ -11,6 +11,7 @@ ghost use Rattle.node_core.specs.Step.{node_step};
 ghost use Rattle.std.specs.List.{AllByRecursion};
 ghost use Rattle.tree_topology.specs.Topology.{Topology};
 ghost use Rattle.topology_file.specs.declared.entries.EventKind.{EventKind};
+ghost use Rattle.topology_file.specs.declared.entries.NodeEntry.{NodeEntry};
 ghost use Rattle.topology_file.specs.Kinds.{IsKnownKind};
 ghost use Rattle.topology_file.specs.Plan.{Plan};
 ghost use Rattle.topology_file.specs.Scenario.{KeepsRules};
@@ -21,7 +22,7 @@ ghost use Rattle.world_core.specs.declared.events.WorldReply.TheVariants.{Step a
 ghost use Rattle.world_core.specs.declared.journal.NodeSteps.{NodeSteps};
 ghost use Rattle.world_core.specs.declared.journal.Tick.{Tick};
 ghost use Rattle.world_core.specs.World.{WorldState, CanHappen, CanAllHappen, IsEventInRange, node_at, world_step, world_after, replies_to};
-ghost use Rattle.world_core.specs.Start.{world_of};
+ghost use Rattle.world_core.specs.Start.{world_of, domain_rows, IsAtStart};
 ghost use Rattle.world_core.specs.Kept.{IsKeptWorld};
 ghost use Rattle.world_core.specs.Apart.{events_of, replies_of, HaveOwnReplies, after_own, after_nodes, AreMadeApart};
 ghost use Rattle.world_core.specs.Ticks.{event_of, script_at, link_ports, step_events, step_replies, after_steps, LeadTo, AreLegalTicks, AreCanonicalTicks, IsLegalTick, IsCanonicalTick, tick_events};
@@ -55,6 +56,14 @@ pub fn a_scenario_begins_well()
     every_event_keeps_marked_duties::<MsrpApp>();
     a_new_node_is_proper();
 }
+
+/// It begins with nothing but the Domain values that its nodes declare, none of them said yet: where the scenario has domains,
+/// each link port of a node has the rows that the word of the node's entry names, and no port has any other row.
+pub fn a_scenario_begins_with_domains_alone()
+    ensures { (plan : Plan) (x : ℕ) (entry : NodeEntry) (s : NodeState)
+        → slice_get plan.nodes x ≡ Some entry → slice_get (world_of plan).nodes x ≡ Some s
+        → IsAtStart (domain_rows plan.domains entry.domain) s }
+{}
 
 /// Each event that may happen keeps it, where what a request asks for fits, and so does each list of such events.
 pub fn every_event_keeps_it()
