@@ -18,6 +18,9 @@
 //! listed fails the form of its entry. An entry is read with the numbers of what it names at once; where
 //! it names nothing that is there, its form is whole and its value missing, which a later rule refuses.
 //!
+//! What links, streams, events and frames may name is one value, `Names`: the nodes, links and streams that were
+//! read before them, with the most that there may be as its invariant.
+//!
 //! `read_timed_network` reads the network of a file and its times alone, the rules 1 to 15, and `read_name`,
 //! `read_tick`, `station_named` and `read_pdu` read what events name: other files of a network stand on these.
 //!
