@@ -37,6 +37,10 @@ pub record WorldState : Type 0 where
   pub nodes : List NodeState
   pub marks : MarksState
 
+-- the network of a tree, of these nodes and marks
+abbrev pub world_with : Topology → List NodeState → MarksState → WorldState
+world_with tree nodes marks = record { tree = tree; nodes = nodes; marks = marks }
+
 -- the node of a number
 abbrev pub node_at : NodeNo → WorldState → Option NodeState
 node_at n w = slice_get w.nodes (n.0 - 1)

@@ -2,6 +2,7 @@
 
 ghost use Rattle.std.specs.Prelude.{◌≡◌};
 ghost use Rattle.world_core.specs.Kept.{IsKeptWorld};
+ghost use Rattle.world_core.specs.World.{world_with};
 
 use crate::marks::Marks;
 use crate::world::World;
@@ -24,8 +25,7 @@ impl World {
         ensures tree { result.0.tree ≡ self.tree }
         ensures marks { result.0.marks ≡ self.marks }
         ensures nodes { result.1 ≡ self.nodes }
-        ensures kept { IsKeptWorld
-            (record { tree = result.0.tree; nodes = result.1; marks = result.0.marks }) }
+        ensures kept { IsKeptWorld (world_with result.0.tree result.1 result.0.marks) }
     {
         let World { tree, nodes, marks } = self;
         (WorldRest { tree, marks }, Seq::from_vec(nodes))
@@ -35,9 +35,8 @@ impl World {
     /// every network keeps. That they do after steps which the nodes have made apart is the law `steps_made_apart_keep_it`.
     /// Nothing is changed in them, and no memory is taken.
     pub fn join(rest: WorldRest, nodes: Seq<Node>) -> World
-        requires { IsKeptWorld
-            (record { tree = rest.tree; nodes = nodes; marks = rest.marks }) }
-        ensures { result ≡ record { tree = rest.tree; nodes = nodes; marks = rest.marks } }
+        requires { IsKeptWorld (world_with rest.tree nodes rest.marks) }
+        ensures { result ≡ world_with rest.tree nodes rest.marks }
     {
         let WorldRest { tree, marks } = rest;
         World {

@@ -11,7 +11,7 @@ ghost use Rattle.node_core.specs.Wires.{IsShort, AreShort};
 ghost use Rattle.node_core.specs.Step.{CanStep, node_step};
 ghost use Rattle.node_core.specs.Links.{with_outbox, with_carried, lost_at, repeated_at, forged_at, spoilt_at};
 ghost use Rattle.world_core.specs.Marks.{MarksState};
-ghost use Rattle.world_core.specs.World.{StandsAt, sets_of, nodes_with, step_of_node, app_of, reaches, with_unsound_ends, with_loss, after_repeat, with_forgery, world_step};
+ghost use Rattle.world_core.specs.World.{StandsAt, sets_of, nodes_with, step_of_node, app_of, reaches, with_unsound_ends, with_loss, after_repeat, with_forgery, world_step, world_with};
 
 use crate::events::{WorldEvent, WorldReply};
 use msrp::ClockSets;
@@ -38,8 +38,8 @@ pub(crate) fn make_step(
     requires can { (s : NodeState) → slice_get nodes.old.items (number.0 - 1) ≡ Some s
         → CanStep event s }
     ensures ok { IfOk result (λ reply. (tree : Topology) (m : MarksState)
-        → step_of_node number event (record { tree = tree; nodes = nodes.old.items; marks = m })
-        ≡ (record { tree = tree; nodes = nodes.new.items; marks = m }, reply)) }
+        → step_of_node number event (world_with tree nodes.old.items m)
+        ≡ (world_with tree nodes.new.items m, reply)) }
     ensures err { OnErr result (nodes.new.items ≡ nodes.old.items) }
 {
     let reply = nodes[place(number)].step(event)?;
@@ -73,9 +73,9 @@ fn tick_each(nodes: &mut Vec<Node>, sets: Vec<ClockSets>)
 /// The clock of every node goes on, or that of none where memory runs out.
 pub(crate) fn tick_all(nodes: &mut Vec<Node>) -> Result<WorldReply, NoMemory>
     requires { AllByRecursion (λ s. s.clock.0 < 2 ^ 61) nodes.old.items }
-    ensures ok { IfOk result (λ reply. (tree : Topology)
-        (m : MarksState) → world_step WorldEvent.Clock (record { tree = tree; nodes = nodes.old.items; marks = m })
-        ≡ (record { tree = tree; nodes = nodes.new.items; marks = m }, reply)) }
+    ensures ok { IfOk result (λ reply. (tree : Topology) (m : MarksState)
+        → world_step WorldEvent.Clock (world_with tree nodes.old.items m)
+        ≡ (world_with tree nodes.new.items m, reply)) }
     ensures err { OnErr result (nodes.new.items ≡ nodes.old.items) }
 {
     let sets = prepare_all(nodes)?;
@@ -87,7 +87,7 @@ pub(crate) fn tick_all(nodes: &mut Vec<Node>) -> Result<WorldReply, NoMemory>
 pub(crate) fn app_at(nodes: &Vec<Node>, at: EgressPort, index: u32) -> Option<App>
     requires { StandsAt at nodes.now.items }
     ensures { (tree : Topology) (m : MarksState) → result
-        ≡ app_of at index (record { tree = tree; nodes = nodes.now.items; marks = m }) }
+        ≡ app_of at index (world_with tree nodes.now.items m) }
 {
     nodes[place(at.node)].app_at(at.port, index)
 }
@@ -107,8 +107,9 @@ fn spoil_ends(tree: &Tree, nodes: &mut Vec<Node>, at: EgressPort, app: App)
     requires port { HasPort tree.now at }
     requires here { StandsAt at nodes.old.items }
     requires there { StandsAt (peer_of tree.now.links at) nodes.old.items }
-    ensures { (m : MarksState) → with_unsound_ends app at (record { tree = tree.now; nodes = nodes.old.items; marks = m })
-        ≡ record { tree = tree.now; nodes = nodes.new.items; marks = m } }
+    ensures { (m : MarksState)
+        → with_unsound_ends app at (world_with tree.now nodes.old.items m)
+        ≡ world_with tree.now nodes.new.items m }
 {
     spoil(nodes, at, app);
     spoil(nodes, tree.peer(at), app);
@@ -131,9 +132,10 @@ pub(crate) fn lose(tree: &Tree, nodes: &mut Vec<Node>, at: EgressPort, index: u3
     requires port { HasPort tree.now at }
     requires here { StandsAt at nodes.old.items }
     requires there { StandsAt (peer_of tree.now.links at) nodes.old.items }
-    ensures { (m : MarksState) → with_loss at index (app_of at index (record { tree = tree.now; nodes = nodes.old.items; marks = m }))
-        (record { tree = tree.now; nodes = nodes.old.items; marks = m })
-        ≡ (record { tree = tree.now; nodes = nodes.new.items; marks = m }, result) }
+    ensures { (m : MarksState)
+        → with_loss at index (app_of at index (world_with tree.now nodes.old.items m))
+        (world_with tree.now nodes.old.items m)
+        ≡ (world_with tree.now nodes.new.items m, result) }
 {
     match app_at(nodes, at, index) {
         None => WorldReply::Missed,
@@ -165,10 +167,10 @@ pub(crate) fn repeat(
     index: u32,
 ) -> Result<WorldReply, NoMemory>
     requires { StandsAt at nodes.old.items }
-    ensures ok { IfOk result (λ reply. (tree : Topology)
-        (m : MarksState) → after_repeat at index (app_of at index (record { tree = tree; nodes = nodes.old.items; marks = m }))
-        (record { tree = tree; nodes = nodes.old.items; marks = m })
-        ≡ (record { tree = tree; nodes = nodes.new.items; marks = m }, reply)) }
+    ensures ok { IfOk result (λ reply. (tree : Topology) (m : MarksState)
+        → after_repeat at index (app_of at index (world_with tree nodes.old.items m))
+        (world_with tree nodes.old.items m)
+        ≡ (world_with tree nodes.new.items m, reply)) }
     ensures err { OnErr result (nodes.new.items ≡ nodes.old.items) }
 {
     match app_at(nodes, at, index) {
@@ -185,7 +187,7 @@ fn forge_at(nodes: &mut Vec<Node>, at: EgressPort, index: u32, wire: Wire) -> Re
     requires here { StandsAt at nodes.old.items }
     requires short { IsShort wire }
     ensures done { IfOk result (λ done. (tree : Topology) (m : MarksState) → done
-        ≡ reaches at index (record { tree = tree; nodes = nodes.old.items; marks = m })) }
+        ≡ reaches at index (world_with tree nodes.old.items m)) }
     ensures after { IfOk result (λ done. nodes.new.items
         ≡ (if done
         then nodes_with at.node (forged_at (place_of at.port) index wire) nodes.old.items
@@ -212,9 +214,9 @@ pub(crate) fn forge(
     requires short { IsShort wire }
     ensures ok { IfOk result
         (λ reply. (m : MarksState) → with_forgery at index wire
-        (reaches at index (record { tree = tree.now; nodes = nodes.old.items; marks = m }))
-        (record { tree = tree.now; nodes = nodes.old.items; marks = m })
-        ≡ (record { tree = tree.now; nodes = nodes.new.items; marks = m }, reply)) }
+        (reaches at index (world_with tree.now nodes.old.items m))
+        (world_with tree.now nodes.old.items m)
+        ≡ (world_with tree.now nodes.new.items m, reply)) }
     ensures err { OnErr result (nodes.new.items ≡ nodes.old.items) }
 {
     let forged = wire.app;
@@ -278,8 +280,8 @@ pub(crate) fn carry(
     requires there { StandsAt (peer_of tree.now.links at) nodes.old.items }
     ensures ok { IfOk result
         (λ reply. (m : MarksState) → world_step (WorldEvent.Carry at)
-        (record { tree = tree.now; nodes = nodes.old.items; marks = m })
-        ≡ (record { tree = tree.now; nodes = nodes.new.items; marks = m }, reply)) }
+        (world_with tree.now nodes.old.items m)
+        ≡ (world_with tree.now nodes.new.items m, reply)) }
     ensures err { OnErr result (nodes.new.items ≡ nodes.old.items) }
 {
     let wires = take(nodes, at);

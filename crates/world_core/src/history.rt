@@ -130,8 +130,8 @@ fn note_acts(
     requires by_port { IsByPort world.now.tree nodes.old.items }
     requires changes { AreChanges world.now.tree tick (all_changes_of nodes.old.items) }
     requires ports { AllByRecursion (HasPortsOf world.now.tree) steps.now }
-    ensures { OnOk result (nodes.new.items ≡ by_port world.now.tree
-        (λ p. act_noted tick steps.now world.now p (changes_at (all_changes_of nodes.old.items) p))) }
+    ensures { OnOk result (nodes.new.items ≡ by_port world.now.tree (λ p.
+        act_noted tick steps.now world.now p (changes_at (all_changes_of nodes.old.items) p))) }
 {
     let _ = no_key();
     for made in steps {

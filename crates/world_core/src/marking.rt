@@ -16,7 +16,7 @@ ghost use Rattle.world_core.specs.Kept.{IsKeptWorld};
 ghost use Rattle.node_core.specs.Leaving.{has_leave_all};
 ghost use Rattle.world_core.specs.Marking.{marks_noted, is_done, CanNote};
 ghost use Rattle.world_core.specs.Marks.{MarksState, mark_at};
-ghost use Rattle.world_core.specs.World.{StandsAt, inbox, outbox, are_nodes_sound, are_ports_sound, is_sound_in, has_leave_all_next, marks_stepping, marks_losing, marks_copying, marks_forging, world_step};
+ghost use Rattle.world_core.specs.World.{StandsAt, inbox, outbox, are_nodes_sound, are_ports_sound, is_sound_in, has_leave_all_next, marks_stepping, marks_losing, marks_copying, marks_forging, world_step, world_with};
 
 use crate::events::{WorldEvent, WorldReply};
 use crate::happen::{app_at, forge, lose, make_step, place, repeat};
@@ -45,11 +45,10 @@ pub(crate) fn marked_step(
     step: PortStep,
 ) -> Result<WorldReply, NoMemory>
     requires port { HasPort tree.now at }
-    requires kept { IsKeptWorld
-        (record { tree = tree.now; nodes = nodes.old.items; marks = marks.old }) }
+    requires kept { IsKeptWorld (world_with tree.now nodes.old.items marks.old) }
     ensures ok { IfOk result (λ reply. world_step (WorldEvent.Port at.node at.port step)
-        (record { tree = tree.now; nodes = nodes.old.items; marks = marks.old })
-        ≡ (record { tree = tree.now; nodes = nodes.new.items; marks = marks.new }, reply)) }
+        (world_with tree.now nodes.old.items marks.old)
+        ≡ (world_with tree.now nodes.new.items marks.new, reply)) }
     ensures err { OnErr result (nodes.new.items ≡ nodes.old.items) }
     ensures err_marks { OnErr result (marks.new ≡ marks.old) }
 {
@@ -70,11 +69,10 @@ fn noted_of(
     step: &PortStep,
 ) -> Result<Noted, NoMemory>
     requires port { HasPort tree.now at }
-    requires kept { IsKeptWorld
-        (record { tree = tree.now; nodes = nodes.now.items; marks = marks.now }) }
-    ensures noted { IfOk result (λ noted. (reply : WorldReply) → marks_noted at noted reply marks.now
-        ≡ marks_stepping at step.now reply
-        (record { tree = tree.now; nodes = nodes.now.items; marks = marks.now })) }
+    requires kept { IsKeptWorld (world_with tree.now nodes.now.items marks.now) }
+    ensures noted { IfOk result (λ noted. (reply : WorldReply)
+        → marks_noted at noted reply marks.now
+        ≡ marks_stepping at step.now reply (world_with tree.now nodes.now.items marks.now)) }
     ensures can { IfOk result (λ noted. CanNote at noted marks.now) }
 {
     match step {
@@ -92,7 +90,7 @@ fn noted_of(
 fn leaves_next(nodes: &Vec<Node>, at: EgressPort, app: App) -> bool
     requires { StandsAt at nodes.now.items }
     ensures { (tree : Topology) (m : MarksState) → result
-        ≡ has_leave_all_next app at (record { tree = tree; nodes = nodes.now.items; marks = m }) }
+        ≡ has_leave_all_next app at (world_with tree nodes.now.items m) }
 {
     nodes[place(at.node)].leaves_next(at.port, app)
 }
@@ -100,11 +98,10 @@ fn leaves_next(nodes: &Vec<Node>, at: EgressPort, app: App) -> bool
 // The PDU that a port takes next: it is read only where the port's way is clear.
 fn taking(tree: &Tree, nodes: &Vec<Node>, marks: &Marks, at: EgressPort) -> Result<Noted, NoMemory>
     requires port { HasPort tree.now at }
-    requires kept { IsKeptWorld
-        (record { tree = tree.now; nodes = nodes.now.items; marks = marks.now }) }
-    ensures noted { IfOk result (λ noted. (reply : WorldReply) → marks_noted at noted reply marks.now
-        ≡ marks_stepping at PortStep.Work reply
-        (record { tree = tree.now; nodes = nodes.now.items; marks = marks.now })) }
+    requires kept { IsKeptWorld (world_with tree.now nodes.now.items marks.now) }
+    ensures noted { IfOk result (λ noted. (reply : WorldReply)
+        → marks_noted at noted reply marks.now
+        ≡ marks_stepping at PortStep.Work reply (world_with tree.now nodes.now.items marks.now)) }
     ensures can { IfOk result (λ noted. CanNote at noted marks.now) }
 {
     ports();
@@ -122,7 +119,7 @@ fn counts(nodes: &Vec<Node>, marks: &Marks, at: EgressPort, app: App) -> Result<
     requires { StandsAt at nodes.now.items }
     ensures { IfOk result (λ leaves. (tree : Topology) (m : MarksState) → leaves
         ≡ ((mark_at app at marks.now).clear && option_map_or has_leave_all (slice_get
-        (inbox at (record { tree = tree; nodes = nodes.now.items; marks = m })) 0) false)) }
+        (inbox at (world_with tree nodes.now.items m)) 0) false)) }
 {
     if !marks.is_clear(at, app) {
         return Ok(false);
@@ -135,7 +132,7 @@ fn front_leaves(nodes: &Vec<Node>, at: EgressPort) -> Result<bool, NoMemory>
     requires { StandsAt at nodes.now.items }
     ensures { IfOk result (λ leaves. (tree : Topology) (m : MarksState) → leaves
         ≡ option_map_or has_leave_all (slice_get
-        (inbox at (record { tree = tree; nodes = nodes.now.items; marks = m })) 0) false) }
+        (inbox at (world_with tree nodes.now.items m)) 0) false) }
 {
     let node = &nodes[place(at.node)];
     node.keeps();
@@ -181,11 +178,10 @@ pub(crate) fn marked_loss(
     index: u32,
 ) -> WorldReply
     requires port { HasPort tree.now at }
-    requires kept { IsKeptWorld
-        (record { tree = tree.now; nodes = nodes.old.items; marks = marks.old }) }
+    requires kept { IsKeptWorld (world_with tree.now nodes.old.items marks.old) }
     ensures { world_step (WorldEvent.Lose at index)
-        (record { tree = tree.now; nodes = nodes.old.items; marks = marks.old })
-        ≡ (record { tree = tree.now; nodes = nodes.new.items; marks = marks.new }, result) }
+        (world_with tree.now nodes.old.items marks.old)
+        ≡ (world_with tree.now nodes.new.items marks.new, result) }
 {
     ports();
     let app = app_at(nodes, at, index);
@@ -214,11 +210,10 @@ pub(crate) fn marked_repeat(
     index: u32,
 ) -> Result<WorldReply, NoMemory>
     requires port { HasPort tree.now at }
-    requires kept { IsKeptWorld
-        (record { tree = tree.now; nodes = nodes.old.items; marks = marks.old }) }
+    requires kept { IsKeptWorld (world_with tree.now nodes.old.items marks.old) }
     ensures ok { IfOk result (λ reply. world_step (WorldEvent.Repeat at index)
-        (record { tree = tree.now; nodes = nodes.old.items; marks = marks.old })
-        ≡ (record { tree = tree.now; nodes = nodes.new.items; marks = marks.new }, reply)) }
+        (world_with tree.now nodes.old.items marks.old)
+        ≡ (world_with tree.now nodes.new.items marks.new, reply)) }
     ensures err { OnErr result (nodes.new.items ≡ nodes.old.items) }
     ensures err_marks { OnErr result (marks.new ≡ marks.old) }
 {
@@ -254,12 +249,11 @@ pub(crate) fn marked_forgery(
     wire: Wire,
 ) -> Result<WorldReply, NoMemory>
     requires port { HasPort tree.now at }
-    requires kept { IsKeptWorld
-        (record { tree = tree.now; nodes = nodes.old.items; marks = marks.old }) }
+    requires kept { IsKeptWorld (world_with tree.now nodes.old.items marks.old) }
     requires short { IsShort wire }
     ensures ok { IfOk result (λ reply. world_step (WorldEvent.Forge at index wire)
-        (record { tree = tree.now; nodes = nodes.old.items; marks = marks.old })
-        ≡ (record { tree = tree.now; nodes = nodes.new.items; marks = marks.new }, reply)) }
+        (world_with tree.now nodes.old.items marks.old)
+        ≡ (world_with tree.now nodes.new.items marks.new, reply)) }
     ensures err { OnErr result (nodes.new.items ≡ nodes.old.items) }
     ensures err_marks { OnErr result (marks.new ≡ marks.old) }
 {
@@ -286,8 +280,7 @@ fn note_forgery(marks: &mut Marks, at: EgressPort, app: App, reply: WorldReply)
 // Few PDUs are on their way from a port, since they wait in lists. It does nothing.
 fn few_wait(tree: &Tree, nodes: &Vec<Node>, marks: &Marks, at: EgressPort)
     requires port { HasPort tree.now at }
-    requires kept { IsKeptWorld
-        (record { tree = tree.now; nodes = nodes.now.items; marks = marks.now }) }
+    requires kept { IsKeptWorld (world_with tree.now nodes.now.items marks.now) }
     ensures { (app : App) → (mark_at app at marks.now).flying < 2 ^ 100 }
 {
     ports();
@@ -300,7 +293,7 @@ fn out_count(nodes: &Vec<Node>, at: EgressPort) -> usize
     requires { StandsAt at nodes.now.items }
     ensures few { result < 2 ^ 64 }
     ensures count { (tree : Topology) (m : MarksState) → result
-        ≡ length (outbox at (record { tree = tree; nodes = nodes.now.items; marks = m })) }
+        ≡ length (outbox at (world_with tree nodes.now.items m)) }
 {
     nodes[place(at.node)].outgoing_pdus(at.port)
 }
@@ -310,7 +303,7 @@ fn in_count(nodes: &Vec<Node>, at: EgressPort) -> usize
     requires { StandsAt at nodes.now.items }
     ensures few { result < 2 ^ 64 }
     ensures count { (tree : Topology) (m : MarksState) → result
-        ≡ length (inbox at (record { tree = tree; nodes = nodes.now.items; marks = m })) }
+        ≡ length (inbox at (world_with tree nodes.now.items m)) }
 {
     nodes[place(at.node)].pending_pdus(at.port)
 }

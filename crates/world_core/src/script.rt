@@ -66,7 +66,8 @@ fn make_entry(
         (λ e. CanHappen e world.old) }
     ensures answer { OnOk result (answers.new.items
         ≡ answers.old.items
-        ++ answer_of number (event_of scenario.now.tree.links scenario.now.streams kind.now) world.old) }
+        ++ answer_of number (event_of scenario.now.tree.links scenario.now.streams kind.now)
+        world.old) }
     ensures after { OnOk result
         (world.new ≡ after_entry (event_of scenario.now.tree.links scenario.now.streams kind.now)
         world.old) }

@@ -59,7 +59,8 @@ fn new_node_of(
     requires { IsNode (length scenario.now.nodes) number }
     ensures { IfOk result (λ node. node ≡ new_node entry.now.kind entry.now.id
         scenario.now.leave_time scenario.now.periodic
-        (domain_set scenario.now.domains entry.now.domain) (setups_from 1 number scenario.now.links)) }
+        (domain_set scenario.now.domains entry.now.domain)
+        (setups_from 1 number scenario.now.links)) }
 {
     scenario.keeps_rules();
     let setups = new_setups(alloc, scenario, number)?;

@@ -26,7 +26,8 @@ impl World {
     /// in order, and none is at that tick or after it. After want of memory the timeline is as it was.
     pub fn note_tick(&self, tick: u64, timeline: &mut Timeline) -> Result<(), NoMemory>
         requires { AreChanges self.now.tree tick timeline.old.changes }
-        ensures ok { OnOk result (timeline.new.changes ≡ with_notes tick self.now timeline.old.changes) }
+        ensures ok { OnOk result (timeline.new.changes
+            ≡ with_notes tick self.now timeline.old.changes) }
         ensures err { OnErr result (timeline.new ≡ timeline.old) }
     {
         let alloc = *self.nodes.allocator();

@@ -34,7 +34,8 @@ pub fn noting_keeps_changes()
 pub fn what_is_noted_is_in_force()
     ensures before { (tick t : ℕ) (w : WorldState) (changes : List PortChange) (p : EgressPort)
         → AreChanges w.tree tick changes → HasPort w.tree p → t < tick
-        → in_force t (changes_at (with_notes tick w changes) p) ≡ in_force t (changes_at changes p) }
+        → in_force t (changes_at (with_notes tick w changes) p)
+        ≡ in_force t (changes_at changes p) }
     ensures from { (tick : ℕ) (w : WorldState) (changes : List PortChange)
         → AreChanges w.tree tick changes
         → SaysFrom tick (with_notes tick w changes) w }

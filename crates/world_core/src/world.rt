@@ -26,14 +26,14 @@ pub struct World {
 }
 
 impl Model for World {
-    ghost use Rattle.world_core.specs.World.{WorldState};
+    ghost use Rattle.world_core.specs.World.{WorldState, world_with};
     ghost use Rattle.world_core.specs.Kept.{IsKeptWorld};
 
     ghost Value = { WorldState };
 
-    ghost view = { λ w. record { tree = w.tree; nodes = w.nodes.items; marks = w.marks } };
+    ghost view = { λ w. world_with w.tree w.nodes.items w.marks };
 
-    ghost invariant = { λ w. IsKeptWorld (record { tree = w.tree; nodes = w.nodes.items; marks = w.marks }) };
+    ghost invariant = { λ w. IsKeptWorld (world_with w.tree w.nodes.items w.marks) };
 }
 
 impl World {
