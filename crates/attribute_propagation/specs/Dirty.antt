@@ -5,6 +5,12 @@ use Rattle.std.specs.declared.cmp.Ordering.TheVariants.{Less, Equal, Greater}
 use Rattle.std.specs.Ordering.{is_eq}
 use Rattle.std.specs.List.{AllByRecursion, list_any}
 
+-- a set of keys as contracts see it: its keys, ascending strictly, and its spare: so many more keys find room without
+-- memory being taken
+pub record KeySet (K : Type 0) : Type 0 where
+  pub keys : List K
+  pub spare : ℕ
+
 -- each key is below all later ones
 abbrev pub IsAscending : {K : Type 0} → (K → K → Ordering) → List K → Type 0
 IsAscending cmp [] = Unit {0}

@@ -4,7 +4,7 @@ use Rattle.std.specs.List.{list_all, list_any}
 use Rattle.std.specs.declared.cmp.Ordering.{Ordering}
 use Rattle.srp_base.specs.declared.numbers.PortNo.{PortNo}
 use Rattle.srp_base.specs.declared.ports.PortSetup.{PortSetup}
-use Rattle.attribute_propagation.specs.Dirty.{all_marked, is_awaiting}
+use Rattle.attribute_propagation.specs.Dirty.{KeySet, all_marked, is_awaiting}
 
 -- the place of a link port in a list that has something for each, counted from 0
 abbrev pub place_of : PortNo → ℕ
@@ -20,6 +20,14 @@ abbrev pub count_of : ℕ → ℕ
 count_of n = min n 4294967295
 
 -- ---- what awaits at each port
+
+-- the keys of each of some sets
+abbrev pub keys_in : {K : Type 0} → List (KeySet K) → List (List K)
+keys_in sets = map (λ set. set.keys) sets
+
+-- the keys of each of some sets, where there are any sets
+abbrev pub keys_in_some : {K : Type 0} → Option (List (KeySet K)) → Option (List (List K))
+keys_in_some sets = option_map keys_in sets
 
 -- at new ports no key awaits
 abbrev pub new_sets : {K : Type 0} → List PortSetup → List (List K)

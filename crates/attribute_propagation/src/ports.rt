@@ -1,8 +1,9 @@
 //! The keys that await settling at each link port of a node.
 
-ghost use Rattle.std.specs.Prelude.{◌≡◌, ◌<◌, [], length, slice_get, slice_set, IfOk, Some, if◌then◌else◌, option_map};
+ghost use Rattle.std.specs.Prelude.{◌≡◌, ◌<◌, ◌==◌, not, [], length, slice_get, slice_set, IfOk, Some, if◌then◌else◌, option_map};
+ghost use Rattle.std.specs.List.{list_all, list_any};
 ghost use Rattle.attribute_propagation.specs.Dirty.{all_marked};
-ghost use Rattle.attribute_propagation.specs.Ports.{count_of, new_sets, none_awaits, some_awaits, marked_elsewhere, marked_everywhere, sets_with};
+ghost use Rattle.attribute_propagation.specs.Ports.{count_of, keys_in, keys_in_some, new_sets, none_awaits, some_awaits, marked_elsewhere, marked_everywhere, sets_with};
 
 use crate::dirty::Dirty;
 use srp_base::{NoMemory, PortSetup};
@@ -20,7 +21,7 @@ pub fn new_sets<K: Copy + Ord>(
     alloc: Global,
     ports: &[PortSetup],
 ) -> Result<Vec<Dirty<K>>, NoMemory>
-    ensures { IfOk result (λ v. v.items ≡ new_sets ports.now) }
+    ensures { IfOk result (λ v. keys_in v.items ≡ new_sets ports.now) }
 {
     let mut sets = Vec::with_capacity(alloc, ports.len())?;
     for port in ports {
@@ -35,7 +36,7 @@ pub fn copied_sets<K: Copy + Ord>(
     alloc: Global,
     sets: &[Dirty<K>],
 ) -> Result<Vec<Dirty<K>>, NoMemory>
-    ensures { IfOk result (λ v. v.items ≡ sets.now) }
+    ensures { IfOk result (λ v. keys_in v.items ≡ keys_in sets.now) }
 {
     let mut copies = Vec::with_capacity(alloc, sets.len())?;
     for set in sets {
@@ -47,7 +48,7 @@ pub fn copied_sets<K: Copy + Ord>(
 /// The keys that await at a place.
 pub fn set_at<K: Copy + Ord>(sets: &[Dirty<K>], at: usize) -> &Dirty<K>
     requires { at < length sets.now }
-    ensures { slice_get sets.now at ≡ Some result.now }
+    ensures { slice_get (keys_in sets.now) at ≡ Some result.now.keys }
 {
     &sets[at]
 }
@@ -59,7 +60,7 @@ pub fn emptied<K: Copy + Ord>(
     at: usize,
 ) -> Result<Vec<Dirty<K>>, NoMemory>
     requires { at < length sets.now }
-    ensures { IfOk result (λ v. v.items ≡ slice_set sets.now at []) }
+    ensures { IfOk result (λ v. keys_in v.items ≡ slice_set (keys_in sets.now) at []) }
 {
     let mut copies = copied_sets(alloc, sets)?;
     copies[at] = Dirty::new(alloc);
@@ -68,14 +69,28 @@ pub fn emptied<K: Copy + Ord>(
 
 /// Whether no key awaits at any port.
 pub fn none_awaits<K: Copy + Ord>(sets: &[Dirty<K>]) -> bool
-    ensures { result ≡ none_awaits sets.now }
+    ensures { result ≡ none_awaits (keys_in sets.now) }
+{
+    are_empty(sets)
+}
+
+// Whether no key is in any of these sets.
+fn are_empty<K: Copy + Ord>(sets: &[Dirty<K>]) -> bool
+    ensures { result ≡ list_all (λ set. length set.keys == 0) sets.now }
 {
     sets.iter().all(|set| set.is_empty())
 }
 
 /// Whether a key awaits at some port.
 pub fn some_awaits<K: Copy + Ord>(sets: &[Dirty<K>]) -> bool
-    ensures { result ≡ some_awaits sets.now }
+    ensures { result ≡ some_awaits (keys_in sets.now) }
+{
+    is_any_filled(sets)
+}
+
+// Whether a key is in one of these sets.
+fn is_any_filled<K: Copy + Ord>(sets: &[Dirty<K>]) -> bool
+    ensures { result ≡ list_any (λ set. not (length set.keys == 0)) sets.now }
 {
     sets.iter().any(|set| !set.is_empty())
 }
@@ -95,8 +110,8 @@ pub fn await_elsewhere<K: Copy + Ord>(
     at: usize,
     keys: &[K],
 ) -> Result<Option<Vec<Dirty<K>>>, NoMemory>
-    ensures { IfOk result (λ o. sets_with (option_map (λ v. v.items) o) sets.now
-        ≡ marked_elsewhere K.cmp at keys.now sets.now) }
+    ensures { IfOk result (λ o. sets_with (keys_in_some (option_map (λ v. v.items) o)) (keys_in sets.now)
+        ≡ marked_elsewhere K.cmp at keys.now (keys_in sets.now)) }
 {
     if keys.is_empty() {
         return Ok(None);
@@ -112,8 +127,8 @@ pub fn await_everywhere<K: Copy + Ord>(
     sets: &[Dirty<K>],
     keys: &[K],
 ) -> Result<Option<Vec<Dirty<K>>>, NoMemory>
-    ensures { IfOk result (λ o. sets_with (option_map (λ v. v.items) o) sets.now
-        ≡ marked_everywhere K.cmp keys.now sets.now) }
+    ensures { IfOk result (λ o. sets_with (keys_in_some (option_map (λ v. v.items) o)) (keys_in sets.now)
+        ≡ marked_everywhere K.cmp keys.now (keys_in sets.now)) }
 {
     if keys.is_empty() {
         return Ok(None);
@@ -124,7 +139,8 @@ pub fn await_everywhere<K: Copy + Ord>(
 
 /// Puts these sets in the place of those that are there, where there are any. It takes no memory.
 pub fn put_sets<K: Copy + Ord>(sets: &mut Vec<Dirty<K>>, new: Option<Vec<Dirty<K>>>)
-    ensures { sets.new.items ≡ sets_with (option_map (λ v. v.items) new) sets.old.items }
+    ensures { keys_in sets.new.items
+        ≡ sets_with (keys_in_some (option_map (λ v. v.items) new)) (keys_in sets.old.items) }
 {
     if let Some(new) = new {
         *sets = new;
@@ -138,7 +154,7 @@ fn marked_elsewhere<K: Copy + Ord>(
     at: usize,
     keys: &[K],
 ) -> Result<Vec<Dirty<K>>, NoMemory>
-    ensures { IfOk result (λ v. v.items ≡ marked_elsewhere K.cmp at keys.now sets.now) }
+    ensures { IfOk result (λ v. keys_in v.items ≡ marked_elsewhere K.cmp at keys.now (keys_in sets.now)) }
 {
     let mut all = Vec::with_capacity(alloc, sets.len())?;
     for (place, set) in sets.iter().enumerate() {
@@ -154,7 +170,7 @@ fn marked_everywhere<K: Copy + Ord>(
     sets: &[Dirty<K>],
     keys: &[K],
 ) -> Result<Vec<Dirty<K>>, NoMemory>
-    ensures { IfOk result (λ v. v.items ≡ marked_everywhere K.cmp keys.now sets.now) }
+    ensures { IfOk result (λ v. keys_in v.items ≡ marked_everywhere K.cmp keys.now (keys_in sets.now)) }
 {
     let mut all = Vec::with_capacity(alloc, sets.len())?;
     for set in sets {
@@ -170,8 +186,8 @@ fn marked_unless<K: Copy + Ord>(
     stays: bool,
     keys: &[K],
 ) -> Result<Dirty<K>, NoMemory>
-    ensures { IfOk result (λ d. d
-        ≡ (if stays then set.now else all_marked K.cmp keys.now set.now)) }
+    ensures { IfOk result (λ d. d.keys
+        ≡ (if stays then set.now.keys else all_marked K.cmp keys.now set.now.keys)) }
 {
     if stays {
         set.copy()

@@ -242,8 +242,9 @@ fn without_content<K: Copy>(
 
 // The keys that the application declares after it has declared one or withdrawn it.
 fn own_after<K: Copy + Ord>(own: &Dirty<K>, key: K, declared: bool) -> Result<Dirty<K>, NoMemory>
-    ensures { IfOk result (λ d. d
-        ≡ (if declared then with_key K.cmp key own.now else without_key K.cmp key own.now)) }
+    ensures { IfOk result (λ d. d.keys
+        ≡ (if declared then with_key K.cmp key own.now.keys
+        else without_key K.cmp key own.now.keys)) }
 {
     let mut after = own.copy()?;
     if declared {

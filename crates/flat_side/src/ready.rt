@@ -33,11 +33,12 @@ pub struct Ready<A: FlatApp> {
 
 impl<A: FlatApp> Model for Ready<A> {
     ghost use Rattle.std.specs.Prelude.{option_map};
+    ghost use Rattle.attribute_propagation.specs.Ports.{keys_in_some};
     ghost use Rattle.flat_side.specs.Ready.{ReadyPort};
 
     ghost Value = { ReadyPort A.Key };
 
-    ghost view = { λ r. record { at = r.at; part = r.part; awaiting = option_map (λ v. v.items) r.awaiting; count = r.count } };
+    ghost view = { λ r. record { at = r.at; part = r.part; awaiting = keys_in_some (option_map (λ v. v.items) r.awaiting); count = r.count } };
 }
 
 impl<A: FlatApp> Ready<A> {

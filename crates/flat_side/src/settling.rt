@@ -43,7 +43,7 @@ pub(crate) fn settled<A: FlatApp>(
 ) -> Result<Participant<A>, NoMemory>
     requires { at < length parts.now }
     ensures settled { IfOk result (λ p. IfSome (slice_get parts.now at)
-        (λ s. p ≡ settled_part A.Key.cmp (rule_at A.Key.cmp at own.now parts.now) keys.now s)) }
+        (λ s. p ≡ settled_part A.Key.cmp (rule_at A.Key.cmp at own.now.keys parts.now) keys.now s)) }
     ensures rows { IfOk result (λ p. AreRows A.Key.cmp p.rows) }
 {
     let mut part = part_at(parts, at).copy()?;
@@ -63,7 +63,7 @@ fn settle_all<A: FlatApp>(
 ) -> Result<(), NoMemory>
     requires { at < length parts.now }
     ensures { OnOk result (part.new
-        ≡ settled_part A.Key.cmp (rule_at A.Key.cmp at own.now parts.now) keys.now part.old) }
+        ≡ settled_part A.Key.cmp (rule_at A.Key.cmp at own.now.keys parts.now) keys.now part.old) }
 {
     for key in keys {
         let is_flat = is_flat_at(alloc, parts, own, at, *key)?;
@@ -81,7 +81,7 @@ fn is_flat_at<A: FlatApp>(
     key: A::Key,
 ) -> Result<bool, NoMemory>
     requires { at < length parts.now }
-    ensures { IfOk result (λ b. b ≡ rule_at A.Key.cmp at own.now parts.now key) }
+    ensures { IfOk result (λ b. b ≡ rule_at A.Key.cmp at own.now.keys parts.now key) }
 {
     let places = registered_places(alloc, parts, own, key)?;
     Ok(flat_declares(places.as_slice(), at + 1))
@@ -111,7 +111,7 @@ fn registered_places<A: FlatApp>(
     key: A::Key,
 ) -> Result<Vec<bool>, NoMemory>
     ensures { IfOk result (λ v. v.items
-        ≡ places_of A.Key.cmp key own.now parts.now) }
+        ≡ places_of A.Key.cmp key own.now.keys parts.now) }
 {
     let mut places = Vec::with_capacity(alloc, parts.len() + 1)?;
     places.push(own.awaits(key))?;

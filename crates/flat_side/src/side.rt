@@ -8,7 +8,7 @@ ghost use Rattle.attribute_propagation.specs.Ports.{IsLinkPort, place_of};
 ghost use Rattle.flat_side.specs.Side.{IsKept, are_still, is_busy, has_own, new_flat};
 
 use crate::app::FlatApp;
-use attribute_propagation::{Dirty, copied_sets, new_sets, none_awaits, some_awaits};
+use attribute_propagation::{Dirty, copied_sets, new_sets, none_awaits, set_at, some_awaits};
 use mrp_participant::Participant;
 use srp_base::{Cs, NoMemory, PortNo, PortSetup};
 use std::alloc::Global;
@@ -24,13 +24,14 @@ pub struct FlatSide<A: FlatApp> {
 }
 
 impl<A: FlatApp> Model for FlatSide<A> {
+    ghost use Rattle.attribute_propagation.specs.Ports.{keys_in};
     ghost use Rattle.flat_side.specs.Side.{FlatState, IsKept};
 
     ghost Value = { FlatState A.Key };
 
-    ghost view = { λ s. record { parts = s.parts.items; awaiting = s.awaiting.items; own = s.own } };
+    ghost view = { λ s. record { parts = s.parts.items; awaiting = keys_in s.awaiting.items; own = s.own.keys } };
 
-    ghost invariant = { λ s. IsKept A.Key.cmp (record { parts = s.parts.items; awaiting = s.awaiting.items; own = s.own }) };
+    ghost invariant = { λ s. IsKept A.Key.cmp (record { parts = s.parts.items; awaiting = keys_in s.awaiting.items; own = s.own.keys }) };
 }
 
 impl<A: FlatApp> FlatSide<A> {
@@ -88,7 +89,7 @@ impl<A: FlatApp> FlatSide<A> {
         requires { IsLinkPort port (length self.now.parts) }
         ensures { slice_get (map length self.now.awaiting) (place_of port) ≡ Some result }
     {
-        self.awaiting[usize::from(port.0) - 1].len()
+        set_at(self.awaiting.as_slice(), usize::from(port.0) - 1).len()
     }
 
     /// The number of link ports.

@@ -1,6 +1,6 @@
 -- One place of a list is changed: what stands there, and what a function makes of the list.
 use Rattle.std.proofs.Common.{◌≡◌, ◌≢◌, ◌⊎◌, inl, inr, ℕ, zero, suc, Bool, true, false, ◌||◌, if◌then◌else◌, List, [], ◌∷◌, ◌++◌, length, map, drop, get_or, refl, sym, ap, subst, ◌∙◌, ◌+◌, ◌<◌, append_assoc, arith}
-use Rattle.std.specs.Prelude.{filter, slice_get, slice_set, Option, Some, None, IfSome, Result, Ok, Err, OnOk}
+use Rattle.std.specs.Prelude.{filter, slice_get, slice_index_or, slice_set, Option, Some, None, IfSome, Result, Ok, Err, OnOk}
 use Rattle.std.specs.List.{AllByRecursion}
 use Rattle.std.proofs.lemmas.List.{drop_more}
 
@@ -30,6 +30,12 @@ get-set_other (x ∷ xs) zero zero y ne = absurd (ne refl)
 get-set_other (x ∷ xs) zero (suc j) y ne = refl
 get-set_other (x ∷ xs) (suc i) zero y ne = refl
 get-set_other (x ∷ xs) (suc i) (suc j) y ne = get-set_other xs i j y (λ e. ne (ap suc e))
+
+-- what is read at a place is what stands there
+pub read-get : {X : Type 0} (xs : List X) (i : ℕ) (x : X) → slice_get xs i ≡ Some x → x ≡ slice_index_or xs i x
+read-get [] i x h = refl
+read-get (y ∷ xs) zero x h = cc
+read-get (y ∷ xs) (suc i) x h = read-get xs i x h
 
 -- what is put in the place where it is changes nothing
 pub set-same : {X : Type 0} (xs : List X) (i : ℕ) (x : X) → slice_get xs i ≡ Some x → slice_set xs i x ≡ xs

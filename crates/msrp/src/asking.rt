@@ -2,7 +2,7 @@
 
 ghost use Rattle.std.specs.Prelude.{◌≡◌, ◌∷◌, false, filter, ◌==◌, option_map, IfOk, OnOk, OnErr};
 ghost use Rattle.srp_base.specs.declared.numbers.StreamId.{StreamId};
-ghost use Rattle.attribute_propagation.specs.Ports.{marked_everywhere, sets_with};
+ghost use Rattle.attribute_propagation.specs.Ports.{keys_in, keys_in_some, marked_everywhere, sets_with};
 ghost use Rattle.msrp.specs.Part.{key_cmp};
 ghost use Rattle.msrp.specs.Settling.{keys_of};
 ghost use Rattle.msrp.specs.Stream.{talk_of, is_listened};
@@ -139,8 +139,8 @@ fn both_await(
     sets: &[Dirty<MsrpKey>],
     stream: StreamId,
 ) -> Result<Option<Vec<Dirty<MsrpKey>>>, NoMemory>
-    ensures { IfOk result (λ o. sets_with (option_map (λ v. v.items) o) sets.now
-        ≡ marked_everywhere key_cmp (keys_of stream) sets.now) }
+    ensures { IfOk result (λ o. sets_with (keys_in_some (option_map (λ v. v.items) o)) (keys_in sets.now)
+        ≡ marked_everywhere key_cmp (keys_of stream) (keys_in sets.now)) }
 {
     let keys = [MsrpKey::Talker(stream), MsrpKey::Listener(stream)];
     await_everywhere(alloc, sets, keys.as_slice())

@@ -3,6 +3,7 @@
 ghost use Rattle.std.specs.Prelude.{◌≡◌, ◌≤◌, false, length, map, if◌then◌else◌, IfOk, OnOk, OnErr};
 ghost use Rattle.std.specs.List.{AllByRecursion, list_any};
 ghost use Rattle.attribute_propagation.specs.Dirty.{all_marked};
+ghost use Rattle.attribute_propagation.specs.Ports.{keys_in};
 ghost use Rattle.msrp.specs.Part.{key_cmp};
 ghost use Rattle.msrp.specs.Settling.{talker_keys};
 ghost use Rattle.msrp.specs.Side.{clocked_port, clocked_sets, clocked_streams, next_sets, shows_at};
@@ -29,11 +30,12 @@ pub struct ClockSets {
 
 impl Model for ClockSets {
     ghost use Rattle.std.specs.Prelude.{List, Option, option_map};
+    ghost use Rattle.attribute_propagation.specs.Ports.{keys_in_some};
     ghost use Rattle.msrp_codec.specs.declared.pdu.MsrpKey.{MsrpKey};
 
     ghost Value = { Option (List (List MsrpKey)) };
 
-    ghost view = { λ c. option_map (λ v. v.items) c.sets };
+    ghost view = { λ c. keys_in_some (option_map (λ v. v.items) c.sets) };
 }
 
 impl MsrpSide {
@@ -85,7 +87,7 @@ impl MsrpSide {
 
     // The awaiting keys of each port, with the Talker keys of all streams with a Talker where the clock shows.
     fn sets_at(&self, now: Cs) -> Result<Vec<Dirty<MsrpKey>>, NoMemory>
-        ensures { IfOk result (λ v. v.items ≡ clocked_sets now.0
+        ensures { IfOk result (λ v. keys_in v.items ≡ clocked_sets now.0
             (talker_keys self.now.talks self.now.ports) self.now.ports self.now.awaiting) }
     {
         let alloc = *self.ports.allocator();
@@ -116,7 +118,7 @@ impl MsrpSide {
     // Sets the moment, and the awaiting keys of each port as the clock has them.
     fn show(&mut self, now: Cs, sets: Vec<Dirty<MsrpKey>>)
         requires moment { self.old.moment ≤ now.0 }
-        requires sets { sets.items ≡ clocked_sets now.0
+        requires sets { keys_in sets.items ≡ clocked_sets now.0
             (talker_keys self.old.talks self.old.ports) self.old.ports self.old.awaiting }
         ensures { self.new ≡ clocked_streams now.0 self.old }
     {
@@ -138,8 +140,9 @@ fn clocked_sets(
     now: Cs,
     keys: &[MsrpKey],
 ) -> Result<Vec<Dirty<MsrpKey>>, NoMemory>
-    requires { length sets.now ≡ length ports.now }
-    ensures { IfOk result (λ v. v.items ≡ clocked_sets now.0 keys.now ports.now sets.now) }
+    requires { length (keys_in sets.now) ≡ length ports.now }
+    ensures { IfOk result (λ v. keys_in v.items
+        ≡ clocked_sets now.0 keys.now ports.now (keys_in sets.now)) }
 {
     let mut all = Vec::with_capacity(alloc, sets.len())?;
     for (place, set) in sets.iter().enumerate() {
@@ -155,8 +158,8 @@ fn marked_where(
     shows: bool,
     keys: &[MsrpKey],
 ) -> Result<Dirty<MsrpKey>, NoMemory>
-    ensures { IfOk result (λ d. d
-        ≡ (if shows then all_marked key_cmp keys.now set.now else set.now)) }
+    ensures { IfOk result (λ d. d.keys
+        ≡ (if shows then all_marked key_cmp keys.now set.now.keys else set.now.keys)) }
 {
     if shows {
         set.with_all(keys)

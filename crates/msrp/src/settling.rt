@@ -19,6 +19,7 @@ use crate::calls::port_at;
 use crate::port::Port;
 use crate::side::MsrpSide;
 use crate::stream::{is_talker_content, stated_at, wanted_at};
+use crate::told::put_set;
 use attribute_propagation::laws::{each_key_awaits, each_port_is_told};
 use attribute_propagation::{Dirty, await_elsewhere, put_sets, saturated, set_at};
 use mrp_participant::Participant;
@@ -86,12 +87,12 @@ impl MsrpSide {
             self.listens.as_slice(),
             self.ports.as_slice(),
             at,
-            &self.awaiting[at],
+            set_at(self.awaiting.as_slice(), at),
         )?;
         let others = await_elsewhere(alloc, self.awaiting.as_slice(), at, told.as_slice())?;
-        let count = saturated(self.awaiting[at].len());
+        let count = saturated(set_at(self.awaiting.as_slice(), at).len());
         put_sets(&mut self.awaiting, others);
-        self.awaiting[at] = Dirty::new(alloc);
+        put_set(&mut self.awaiting, at, Dirty::new(alloc));
         self.ports[at] = port;
         Ok(count)
     }
@@ -110,10 +111,10 @@ fn settled(
     requires { at < length ports.now }
     ensures port { IfOk result (λ r. IfSome (slice_get ports.now at) (λ p. r.0
         ≡ settled_port at (registrations_of talks.now listens.now ports.now)
-        (talker_keys talks.now ports.now) awaiting.now p)) }
+        (talker_keys talks.now ports.now) awaiting.now.keys p)) }
     ensures told { IfOk result (λ r. IfSome (slice_get ports.now at) (λ p. r.1.items
         ≡ listener_keys (moved_streams p.ledger
-        (next_book at (registrations_of talks.now listens.now ports.now) awaiting.now p)))) }
+        (next_book at (registrations_of talks.now listens.now ports.now) awaiting.now.keys p)))) }
 {
     let port = port_at(ports, at);
     let ledger = next_ledger(alloc, talks, listens, ports, at, port, awaiting.as_slice())?;
@@ -146,7 +147,7 @@ fn streams_of(alloc: Global, keys: &[MsrpKey]) -> Result<Vec<StreamId>, AllocErr
 
 // The streams of which a key is among these, ascending.
 fn streams_in(alloc: Global, keys: &[MsrpKey]) -> Result<Dirty<StreamId>, NoMemory>
-    ensures { IfOk result (λ d. d ≡ streams_in keys.now) }
+    ensures { IfOk result (λ d. d.keys ≡ streams_in keys.now) }
 {
     let streams = streams_of(alloc, keys)?;
     let none = Dirty::new(alloc);
@@ -236,8 +237,8 @@ fn settling_keys(
     moved: &[StreamId],
     awaiting: &Dirty<MsrpKey>,
 ) -> Result<Dirty<MsrpKey>, NoMemory>
-    ensures { IfOk result (λ d. d
-        ≡ settling_keys moved.now (talker_keys talks.now ports.now) awaiting.now) }
+    ensures { IfOk result (λ d. d.keys
+        ≡ settling_keys moved.now (talker_keys talks.now ports.now) awaiting.now.keys) }
 {
     if moved.is_empty() {
         return awaiting.copy();

@@ -13,7 +13,7 @@ use crate::app::MsrpApp;
 use crate::domain::{DomainSet, declare_domains};
 use crate::port::Port;
 use crate::stream::{fit_at, heard_of, is_listened, is_own, talk_of, talker_of};
-use attribute_propagation::{Dirty, copied_sets, new_sets, none_awaits, some_awaits};
+use attribute_propagation::{Dirty, copied_sets, new_sets, none_awaits, set_at, some_awaits};
 use mrp_participant::Participant;
 use msrp_codec::MsrpKey;
 use msrp_talker::PortConfig;
@@ -38,13 +38,14 @@ pub struct MsrpSide {
 }
 
 impl Model for MsrpSide {
+    ghost use Rattle.attribute_propagation.specs.Ports.{keys_in};
     ghost use Rattle.msrp.specs.Side.{Streams, IsKept};
 
     ghost Value = { Streams };
 
-    ghost view = { λ s. record { ports = s.ports.items; awaiting = s.awaiting.items; talks = s.talks.items; listens = s.listens.items; moment = s.moment.0 } };
+    ghost view = { λ s. record { ports = s.ports.items; awaiting = keys_in s.awaiting.items; talks = s.talks.items; listens = s.listens.items; moment = s.moment.0 } };
 
-    ghost invariant = { λ s. IsKept (record { ports = s.ports.items; awaiting = s.awaiting.items; talks = s.talks.items; listens = s.listens.items; moment = s.moment.0 }) };
+    ghost invariant = { λ s. IsKept (record { ports = s.ports.items; awaiting = keys_in s.awaiting.items; talks = s.talks.items; listens = s.listens.items; moment = s.moment.0 }) };
 }
 
 impl MsrpSide {
@@ -120,7 +121,7 @@ impl MsrpSide {
         requires { IsLinkPort port (length self.now.ports) }
         ensures { slice_get (map length self.now.awaiting) (place_of port) ≡ Some result }
     {
-        self.awaiting[usize::from(port.0) - 1].len()
+        set_at(self.awaiting.as_slice(), usize::from(port.0) - 1).len()
     }
 
     /// The number of link ports.

@@ -1,8 +1,8 @@
 //! What awaits at each link port once keys are told at one of them.
 
-ghost use Rattle.std.specs.Prelude.{◌≡◌, ◌++◌, ◌∷◌, ◌+◌, ◌<◌, [], drop, filter, is_some, length, map, option_map, IfOk, OnOk};
+ghost use Rattle.std.specs.Prelude.{◌≡◌, ◌++◌, ◌∷◌, ◌+◌, ◌<◌, [], drop, filter, is_some, length, map, option_map, slice_set, IfOk, OnOk};
 ghost use Rattle.std.specs.List.{flat_map, list_any};
-ghost use Rattle.attribute_propagation.specs.Ports.{sets_with};
+ghost use Rattle.attribute_propagation.specs.Ports.{keys_in, keys_in_some, sets_with};
 ghost use Rattle.mrp_participant.specs.Lookup.{key_of};
 ghost use Rattle.mrp_participant.specs.State.{registered_at};
 ghost use Rattle.msrp.specs.Part.{key_cmp};
@@ -13,7 +13,7 @@ use crate::domain::DomainSet;
 use crate::port::Port;
 use crate::settling::{listener_keys, own_talker_keys};
 use attribute_propagation::laws::each_port_is_told;
-use attribute_propagation::{Dirty, await_everywhere, copied_sets};
+use attribute_propagation::{Dirty, await_everywhere, copied_sets, set_at};
 use mrp_participant::Participant;
 use msrp_codec::MsrpKey;
 use srp_base::{NoMemory, StreamId, Talker};
@@ -31,9 +31,10 @@ pub(crate) fn told_sets(
     ports: &[Port],
     domain: DomainSet,
 ) -> Result<Option<Vec<Dirty<MsrpKey>>>, NoMemory>
-    requires { at < length sets.now }
-    ensures { IfOk result (λ o. sets_with (option_map (λ v. v.items) o) sets.now
-        ≡ told_sets at domain told.now (known_keys talks.now listens.now ports.now) sets.now) }
+    requires { at < length (keys_in sets.now) }
+    ensures { IfOk result (λ o. sets_with (keys_in_some (option_map (λ v. v.items) o)) (keys_in sets.now)
+        ≡ told_sets at domain told.now (known_keys talks.now listens.now ports.now)
+        (keys_in sets.now)) }
 {
     each_port_is_told::<MsrpKey>();
     let keys = all_keys_with(alloc, told)?;
@@ -78,14 +79,33 @@ fn marked_here(
     at: usize,
     keys: &[MsrpKey],
 ) -> Result<Vec<Dirty<MsrpKey>>, NoMemory>
-    requires { at < length (sets_with (option_map (λ v. v.items) others) sets.now) }
-    ensures { IfOk result (λ v. v.items
-        ≡ marked_here at keys.now (sets_with (option_map (λ v. v.items) others) sets.now)) }
+    requires { at < length
+        (sets_with (keys_in_some (option_map (λ v. v.items) others)) (keys_in sets.now)) }
+    ensures { IfOk result (λ v. keys_in v.items ≡ marked_here at keys.now
+        (sets_with (keys_in_some (option_map (λ v. v.items) others)) (keys_in sets.now))) }
 {
     let mut all = owned(alloc, sets, others)?;
-    let set = all[at].with_all(keys)?;
-    all[at] = set;
+    mark_here(&mut all, at, keys)?;
     Ok(all)
+}
+
+// Puts these keys in at a place.
+fn mark_here(sets: &mut Vec<Dirty<MsrpKey>>, at: usize, keys: &[MsrpKey]) -> Result<(), NoMemory>
+    requires { at < length (keys_in sets.old.items) }
+    ensures { OnOk result (keys_in sets.new.items
+        ≡ marked_here at keys.now (keys_in sets.old.items)) }
+{
+    let set = set_at(sets.as_slice(), at).with_all(keys)?;
+    put_set(sets, at, set);
+    Ok(())
+}
+
+// Puts a set in the place of another.
+pub(crate) fn put_set(sets: &mut Vec<Dirty<MsrpKey>>, at: usize, set: Dirty<MsrpKey>)
+    requires { at < length (keys_in sets.old.items) }
+    ensures { keys_in sets.new.items ≡ slice_set (keys_in sets.old.items) at set.keys }
+{
+    sets[at] = set;
 }
 
 // Sets of one's own: those that are to take their place, or copies.
@@ -94,7 +114,8 @@ fn owned(
     sets: &[Dirty<MsrpKey>],
     others: Option<Vec<Dirty<MsrpKey>>>,
 ) -> Result<Vec<Dirty<MsrpKey>>, NoMemory>
-    ensures { IfOk result (λ v. v.items ≡ sets_with (option_map (λ v. v.items) others) sets.now) }
+    ensures { IfOk result (λ v. keys_in v.items
+        ≡ sets_with (keys_in_some (option_map (λ v. v.items) others)) (keys_in sets.now)) }
 {
     match others {
         Some(others) => Ok(others),

@@ -76,6 +76,22 @@ fn a_cleared_key_awaits_no_more(rt: HostRuntime) -> Result<(), Fail> {
     Ok(())
 }
 
+// Whether a key that is marked in a new set, once room is made for it, awaits.
+fn awaits_in_room(alloc: Global, key: u16) -> Result<bool, NoMemory> {
+    let mut set = Dirty::new(alloc);
+    set.room(1)?;
+    let is_empty = set.is_empty();
+    set.mark(key)?;
+    Ok(is_empty && set.awaits(key))
+}
+
+#[test]
+fn a_key_for_which_room_was_made_awaits(rt: HostRuntime) -> Result<(), Fail> {
+    let awaits = awaits_in_room(rt.alloc(), 7)?;
+    assert!(rt; awaits);
+    Ok(())
+}
+
 // Whether the ports declare this, where this is registered.
 fn declare(registered: &[bool], declared: &[bool]) -> bool {
     for port in 0..declared.len() {

@@ -1,11 +1,11 @@
 use Rattle.std.proofs.Common.{◌≡◌, ◌∙◌, [], length, sym, ap}
 use Rattle.std.proofs.lemmas.Bool.{eqb-true}
 use Rattle.std.proofs.lemmas.List.{nil_from_length}
-use Rattle.attribute_propagation.specs.Ports.{marked_everywhere}
+use Rattle.attribute_propagation.specs.Ports.{keys_in, marked_everywhere}
 use Rattle.attribute_propagation.proofs.PortsLemmas.{everywhere-none}
 use Rattle.attribute_propagation.proofs.ports.await_everywhere.Goals as goal
 
 pub returns-then-is_empty : goal.returns-then-is_empty
 returns-then-is_empty g c =
     let none : c.args.keys.now ≡ [] = nil_from_length c.args.keys.now (eqb-true (length c.args.keys.now) 0 (sym c.is_empty.ensures ∙ c.if-is_empty.true)) in
-    sym (ap (λ keys. marked_everywhere g.K.Ord.cmp keys c.args.sets.now) none ∙ everywhere-none g.K.Ord.cmp c.args.sets.now)
+    sym (ap (λ keys. marked_everywhere g.K.Ord.cmp keys (keys_in c.args.sets.now)) none ∙ everywhere-none g.K.Ord.cmp (keys_in c.args.sets.now))

@@ -7,4 +7,4 @@ use Rattle.flat_side.proofs.settling.registered_places.Given as goal
 abbrev pub invariant-loop-part : goal.invariant-loop-part
 invariant-loop-part g l =
     l.places.items ++ map (registers g.A.Key.Ord.cmp l.key) (drop l.part-index l.parts)
-    ≡ is_awaiting g.A.Key.Ord.cmp l.key l.own ∷ map (registers g.A.Key.Ord.cmp l.key) l.parts
+    ≡ is_awaiting g.A.Key.Ord.cmp l.key l.own.keys ∷ map (registers g.A.Key.Ord.cmp l.key) l.parts

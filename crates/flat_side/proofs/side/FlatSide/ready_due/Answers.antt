@@ -1,7 +1,7 @@
 use Rattle.std.proofs.Common.{rules, ◌≡◌, ◌-◌, ◌<◌, ◌∙◌, length, ap, sym, false, arith}
 use Rattle.std.specs.Prelude.{slice_get, option_map, Some}
 use Rattle.mrp_participant.specs.State.{AreRows, declared_at, due_state, due_count, left_keys, is_any_due}
-use Rattle.attribute_propagation.specs.Ports.{count_of, place_of, marked_elsewhere, sets_with}
+use Rattle.attribute_propagation.specs.Ports.{count_of, keys_in_some, marked_elsewhere, place_of, sets_with}
 use Rattle.flat_side.specs.Part.{Part}
 use Rattle.flat_side.specs.Side.{FlatState, SameDeclared, TellsEach}
 use Rattle.flat_side.specs.Ready.{with_ready}
@@ -57,6 +57,6 @@ pub returns-clause-kept : goal.returns-clause-kept
 returns-clause-kept g c =
     let at = c.from-at.result - 1 in
     let below : at < length c.args.self.now.parts = omega (arith, c.from-at.ensures, c.requires.port.some, c.requires.port.within) in
-    let sets : sets_with (option_map (λ v. v.items) c.in_ok-awaiting.awaiting) c.args.self.now.awaiting
+    let sets : sets_with (keys_in_some (option_map (λ v. v.items) c.in_ok-awaiting.awaiting)) c.args.self.now.awaiting
     ≡ marked_elsewhere g.A.Key.Ord.cmp at c.as_slice-3.result.now c.args.self.now.awaiting = search rules in
     rw sets (kept-put g.A.Key.Ord.cmp (record { order = g.met.A.Key.Ord.total; one = g.met.A.MrpApp.one_key; told = c.each_port_is_told.ensures }) c.args.self.now c.keeps.ensures at below c.due.new.self c.as_slice-3.result.now c.rows_ascend.ensures.rows (declared g c) (told g c))

@@ -1,7 +1,7 @@
 use Rattle.std.proofs.Common.{◌≡◌, ◌-◌, ◌<◌, ◌∙◌, length, true, ap, sym, arith, refl}
 use Rattle.std.specs.Prelude.{slice_get, Some}
 use Rattle.mrp_participant.specs.State.{declared_at, registered_at, is_silent, sent_state}
-use Rattle.attribute_propagation.specs.Ports.{place_of}
+use Rattle.attribute_propagation.specs.Ports.{keys_in, place_of}
 use Rattle.flat_side.specs.Side.{FlatState}
 use Rattle.flat_side.proofs.Places.{some_is, one_some, opened}
 use Rattle.flat_side.proofs.Keeping.{kept-changed}
@@ -22,7 +22,7 @@ returns-then-still g c =
 
 -- the side as it was, and the place of the port in it
 abbrev before : (g : given.Over) (c : goal.After-drop-index_mut g) → FlatState g.row.A-Key.Denot
-before g c = record { parts = c.self.inside.parts.items; awaiting = c.self.inside.awaiting.items; own = c.self.inside.own }
+before g c = record { parts = c.self.inside.parts.items; awaiting = keys_in c.self.inside.awaiting.items; own = c.self.inside.own.keys }
 
 below : (g : given.Over) (c : goal.After-drop-index_mut g) → c.from-at.result - 1 < length (before g c).parts
 below g c = omega (arith, c.from-at.ensures, c.requires.port.some, c.requires.port.within, ap (λ (v : FlatState g.row.A-Key.Denot). length v.parts) c.self.view_is)

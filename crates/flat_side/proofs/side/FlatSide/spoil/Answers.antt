@@ -1,5 +1,6 @@
 use Rattle.std.proofs.Common.{◌-◌, ◌<◌, ◌∙◌, ℕ, length, false, ap, arith}
 use Rattle.mrp_participant.specs.State.{declared_at, registered_at}
+use Rattle.attribute_propagation.specs.Ports.{keys_in}
 use Rattle.flat_side.specs.Part.{Part}
 use Rattle.flat_side.specs.Side.{FlatState, spoilt_flat}
 use Rattle.flat_side.proofs.Keeping.{kept-changed, at_changed}
@@ -8,7 +9,7 @@ use Rattle.flat_side.proofs.side.FlatSide.spoil.Goals as goal
 
 -- the side as it was, and the place of the port in it
 abbrev before : (g : given.Over) (c : goal.After-self-1 g) → FlatState g.row.A-Key.Denot
-before g c = record { parts = c.self.inside.parts.items; awaiting = c.self.inside.awaiting.items; own = c.self.inside.own }
+before g c = record { parts = c.self.inside.parts.items; awaiting = keys_in c.self.inside.awaiting.items; own = c.self.inside.own.keys }
 
 below : (g : given.Over) (c : goal.After-self-1 g) → c.from.result - 1 < length (before g c).parts
 below g c = omega (arith, c.from.ensures, c.requires.some, c.requires.within, ap (λ (v : FlatState g.row.A-Key.Denot). length v.parts) c.self.view_is)

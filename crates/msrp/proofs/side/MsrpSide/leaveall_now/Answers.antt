@@ -1,5 +1,6 @@
 use Rattle.std.proofs.Common.{◌-◌, ◌<◌, ◌∙◌, ℕ, length, ap, arith}
 use Rattle.mrp_participant.specs.State.{declared_at, registered_at, leave_all_state}
+use Rattle.attribute_propagation.specs.Ports.{keys_in}
 use Rattle.msrp.specs.declared.port.Port.{Port}
 use Rattle.msrp.specs.Part.{key_cmp}
 use Rattle.msrp.specs.Side.{Streams, leave_all_streams}
@@ -9,7 +10,7 @@ use Rattle.msrp.proofs.side.MsrpSide.leaveall_now.Goals.{After-self-1}
 
 -- the side as it was, and the place of the port in it
 abbrev before : After-self-1 → Streams
-before c = record { ports = c.self.inside.ports.items; awaiting = c.self.inside.awaiting.items; talks = c.self.inside.talks.items; listens = c.self.inside.listens.items; moment = c.self.inside.moment.0 }
+before c = record { ports = c.self.inside.ports.items; awaiting = keys_in c.self.inside.awaiting.items; talks = c.self.inside.talks.items; listens = c.self.inside.listens.items; moment = c.self.inside.moment.0 }
 
 below : (c : After-self-1) → c.from.result - 1 < length (before c).ports
 below c = omega (arith, c.from.ensures, c.requires.port.some, c.requires.port.within, ap (λ (v : Streams). length v.ports) c.self.view_is)

@@ -1,12 +1,13 @@
 use Rattle.std.proofs.Common.{◌≡◌, ◌≤◌, ◌∙◌, sym, ap, subst}
 use Rattle.std.specs.List.{list_any}
+use Rattle.attribute_propagation.specs.Ports.{keys_in}
 use Rattle.msrp.specs.Side.{Streams, IsKept, clocked_streams, shows_at}
 use Rattle.msrp.proofs.Clocked.{kept-clocked, moments_before, passed_is}
 use Rattle.msrp.proofs.side.MsrpSide.pass.Goals as goal
 use Rattle.msrp.proofs.side.MsrpSide.pass.Goals.{After-now-1}
 
 abbrev before : After-now-1 → Streams
-before c = record { ports = c.self.inside.ports.items; awaiting = c.self.inside.awaiting.items; talks = c.self.inside.talks.items; listens = c.self.inside.listens.items; moment = c.self.inside.moment.0 }
+before c = record { ports = c.self.inside.ports.items; awaiting = keys_in c.self.inside.awaiting.items; talks = c.self.inside.talks.items; listens = c.self.inside.listens.items; moment = c.self.inside.moment.0 }
 
 up : (c : After-now-1) → (before c).moment ≤ c.args.now.0
 up c = rw (ap (λ (v : Streams). v.moment) c.self.view_is) c.requires.moment

@@ -1,6 +1,7 @@
 use Rattle.std.proofs.Common.{rules, ◌≡◌, ◌<◌, ◌∙◌, length, refl, ap, sym, arith}
 use Rattle.std.specs.Prelude.{slice_get, Some}
 use Rattle.std.proofs.lemmas.Option.{slice_get_read}
+use Rattle.attribute_propagation.specs.Ports.{keys_in}
 use Rattle.msrp.specs.Settling.{known_keys, told_sets}
 use Rattle.msrp.specs.declared.port.Port.{Port}
 use Rattle.msrp.specs.Side.{Streams}
@@ -10,12 +11,12 @@ use Rattle.msrp.proofs.side.MsrpSide.put.Goals as goal
 
 pub invariant_of-self : goal.invariant_of-self
 invariant_of-self c =
-    let before : Streams = record { ports = c.self.inside.ports.items; awaiting = c.self.inside.awaiting.items; talks = c.self.inside.talks.items; listens = c.self.inside.listens.items; moment = c.self.inside.moment.0 } in
+    let before : Streams = record { ports = c.self.inside.ports.items; awaiting = keys_in c.self.inside.awaiting.items; talks = c.self.inside.talks.items; listens = c.self.inside.listens.items; moment = c.self.inside.moment.0 } in
     let below : c.args.at < length before.ports = omega (arith, c.requires.place, ap (λ (v : Streams). length v.ports) c.self.view_is) in
     let one : slice_get before.ports c.args.at ≡ Some c.port_at.result.now = ap (λ xs. slice_get xs c.args.at) (sym c.as_slice-5.ensures.value) ∙ c.port_at.ensures in
     let two : slice_get before.ports c.args.at ≡ Some c.index_mut-port.result.now = slice_get_read before.ports (length before.ports) c.args.at c.index_mut-port.result.now refl below c.index_mut-port.ensures.value in
-    let told : c.put_sets.new.sets.items ≡ told_sets c.args.at c.port_at.result.now.domain c.args.told.now (known_keys before.talks before.listens before.ports) before.awaiting = search rules in
-    let sets : c.put_sets.new.sets.items ≡ told_sets c.args.at c.index_mut-port.result.now.domain c.args.told.now (known_keys before.talks before.listens before.ports) before.awaiting =
+    let told : keys_in c.put_sets.new.sets.items ≡ told_sets c.args.at c.port_at.result.now.domain c.args.told.now (known_keys before.talks before.listens before.ports) before.awaiting = search rules in
+    let sets : keys_in c.put_sets.new.sets.items ≡ told_sets c.args.at c.index_mut-port.result.now.domain c.args.told.now (known_keys before.talks before.listens before.ports) before.awaiting =
     told ∙ ap (λ (p : Port). told_sets c.args.at p.domain c.args.told.now (known_keys before.talks before.listens before.ports) before.awaiting) (one_some _ _ _ one two) in
     rw sets (kept-put c.each_port_is_told.ensures c.a_place_for_each_key.ensures.registered before c.self.invariant c.args.at below c.index_mut-port.result.now c.index_mut-port.ensures.value
     c.args.part c.args.told.now c.requires.rows c.requires.contents

@@ -6,7 +6,7 @@ use Rattle.mrp_participant.specs.Lookup.{find}
 use Rattle.msrp_codec.specs.Content.{base_octets, octets_of}
 use Rattle.msrp.specs.declared.port.Port.{Port}
 use Rattle.msrp.specs.Part.{HasOwnContents, Part, key_cmp, pdu_sent, sent_part}
-use Rattle.attribute_propagation.specs.Ports.{place_of}
+use Rattle.attribute_propagation.specs.Ports.{keys_in, place_of}
 use Rattle.msrp.specs.Side.{Streams, IsWritten, sent_streams}
 use Rattle.msrp.proofs.Places.{one_some, opened, some_is}
 use Rattle.msrp.proofs.Contents.{own-sent}
@@ -37,7 +37,7 @@ said_by-requires-clause-contents c =
 
 -- the side as it was, and the place of the port in it
 abbrev before : After-drop-port → Streams
-before c = record { ports = c.self.inside.ports.items; awaiting = c.self.inside.awaiting.items; talks = c.self.inside.talks.items; listens = c.self.inside.listens.items; moment = c.self.inside.moment.0 }
+before c = record { ports = c.self.inside.ports.items; awaiting = keys_in c.self.inside.awaiting.items; talks = c.self.inside.talks.items; listens = c.self.inside.listens.items; moment = c.self.inside.moment.0 }
 
 below : (c : After-drop-port) → c.from-at.result - 1 < length (before c).ports
 below c = omega (arith, c.from-at.ensures, c.requires.port.some, c.requires.port.within, ap (λ (v : Streams). length v.ports) c.self.view_is)

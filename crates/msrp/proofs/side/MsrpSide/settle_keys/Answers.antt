@@ -1,6 +1,7 @@
-use Rattle.std.proofs.Common.{rules, ◌≡◌, ◌<◌, ◌∙◌, List, length, ap, sym, arith}
-use Rattle.std.specs.Prelude.{slice_get, slice_set, IfSome}
-use Rattle.attribute_propagation.specs.Ports.{marked_elsewhere, count_of}
+use Rattle.std.proofs.Common.{rules, ◌≡◌, ◌<◌, ◌∙◌, [], List, length, ap, sym, arith}
+use Rattle.std.specs.Prelude.{slice_get, slice_index_or, slice_set, IfSome}
+use Rattle.attribute_propagation.specs.Dirty.{KeySet}
+use Rattle.attribute_propagation.specs.Ports.{count_of, keys_in, marked_elsewhere}
 use Rattle.msrp_codec.specs.declared.pdu.MsrpKey.{MsrpKey}
 use Rattle.msrp.specs.declared.port.Port.{Port}
 use Rattle.msrp.specs.Part.{key_cmp}
@@ -8,13 +9,14 @@ use Rattle.msrp.specs.Settling.{listener_keys, moved_streams, next_book, settled
 use Rattle.msrp.specs.Side.{Streams, awaiting_at, seen_by, settled_streams}
 use Rattle.msrp.proofs.Ledgers.{BookLaws}
 use Rattle.msrp.proofs.Participants.{PartLaws}
+use Rattle.msrp.proofs.Places.{read-get}
 use Rattle.msrp.proofs.Settled.{HasSettled, MoveLaws, awaiting_is, settle_is}
 use Rattle.msrp.proofs.side.MsrpSide.settle_keys.Goals as goal
 use Rattle.msrp.proofs.side.MsrpSide.settle_keys.Goals.{After-drop-told-2}
 
 -- the side as it was, and the place of the port in it
 abbrev before : After-drop-told-2 → Streams
-before c = record { ports = c.self.inside.ports.items; awaiting = c.self.inside.awaiting.items; talks = c.self.inside.talks.items; listens = c.self.inside.listens.items; moment = c.self.inside.moment.0 }
+before c = record { ports = c.self.inside.ports.items; awaiting = keys_in c.self.inside.awaiting.items; talks = c.self.inside.talks.items; listens = c.self.inside.listens.items; moment = c.self.inside.moment.0 }
 
 below : (c : After-drop-told-2) → c.args.at < length (before c).ports
 below c = omega (arith, c.requires, ap (λ (v : Streams). length v.ports) c.self.view_is)
@@ -49,41 +51,49 @@ moves c =
       unmoved = c.what_has_not_moved_is_booked_as_before.ensures;
     }
 
-sets : (c : After-drop-told-2) → c.put_sets.new.sets.items ≡ marked_elsewhere key_cmp c.args.at c.in_ok-port.told.items (before c).awaiting
+-- the keys that await at the port
+keys : (c : After-drop-told-2) → c.set_at.result.now.keys ≡ slice_index_or (before c).awaiting c.args.at c.set_at.result.now.keys
+keys c = read-get (before c).awaiting c.args.at c.set_at.result.now.keys (ap (λ xs. slice_get (keys_in xs) c.args.at) (sym c.as_slice-4.ensures.value) ∙ c.set_at.ensures)
+
+sets : (c : After-drop-told-2) → keys_in c.put_sets.new.sets.items ≡ marked_elsewhere key_cmp c.args.at c.in_ok-port.told.items (before c).awaiting
 sets c = search rules
 
-next : (c : After-drop-told-2) → IfSome (slice_get (before c).ports c.args.at) (λ (p : Port). c.in_ok-port.port ≡ settled_port c.args.at (seen_by (before c)) (talker_keys (before c).talks (before c).ports) c.index.result.now p)
+next : (c : After-drop-told-2) → IfSome (slice_get (before c).ports c.args.at) (λ (p : Port). c.in_ok-port.port ≡ settled_port c.args.at (seen_by (before c)) (talker_keys (before c).talks (before c).ports) c.set_at.result.now.keys p)
 next c = rw (c.as_slice.ensures.value, c.as_slice-2.ensures.value, c.as_slice-3.ensures.value) at c.in_ok-port.ensures.port
 
-told : (c : After-drop-told-2) → IfSome (slice_get (before c).ports c.args.at) (λ (p : Port). c.in_ok-port.told.items ≡ listener_keys (moved_streams p.ledger (next_book c.args.at (seen_by (before c)) c.index.result.now p)))
+told : (c : After-drop-told-2) → IfSome (slice_get (before c).ports c.args.at) (λ (p : Port). c.in_ok-port.told.items ≡ listener_keys (moved_streams p.ledger (next_book c.args.at (seen_by (before c)) c.set_at.result.now.keys p)))
 told c = rw (c.as_slice.ensures.value, c.as_slice-2.ensures.value, c.as_slice-3.ensures.value) at c.in_ok-port.ensures.told
 
-done : (c : After-drop-told-2) → HasSettled (before c) c.args.at c.in_ok-port.port c.put_sets.new.sets.items
+done : (c : After-drop-told-2) → HasSettled (before c) c.args.at c.in_ok-port.port (keys_in c.put_sets.new.sets.items)
 done c =
     settle_is (parts c) (books c) (moves c) c.each_port_is_told.ensures c.each_key_awaits.ensures.all_marked c.a_place_for_each_key.ensures.registered
-    (before c) c.self.invariant c.args.at (below c) c.index.result.now c.index.ensures c.in_ok-port.port c.in_ok-port.told.items c.put_sets.new.sets.items (next c) (told c) (sets c)
+    (before c) c.self.invariant c.args.at (below c) c.set_at.result.now.keys (keys c) c.in_ok-port.port c.in_ok-port.told.items (keys_in c.put_sets.new.sets.items) (next c) (told c) (sets c)
 
-pub index_mut-requires : goal.index_mut-requires
-index_mut-requires c =
-    let count : length c.put_sets.new.sets.items ≡ length c.self.inside.awaiting.items =
-    let is : c.put_sets.new.sets.items ≡ marked_elsewhere key_cmp c.args.at c.in_ok-port.told.items c.self.inside.awaiting.items = search rules in
-    ap (λ (xs : List (List MsrpKey)). length xs) is ∙ c.each_port_is_told.ensures.as_many_elsewhere c.args.at c.in_ok-port.told.items c.self.inside.awaiting.items in
+pub put_set-requires : goal.put_set-requires
+put_set-requires c =
+    let count : length (keys_in c.put_sets.new.sets.items) ≡ length (keys_in c.self.inside.awaiting.items) =
+    let is : keys_in c.put_sets.new.sets.items ≡ marked_elsewhere key_cmp c.args.at c.in_ok-port.told.items (keys_in c.self.inside.awaiting.items) = search rules in
+    ap (λ (xs : List (List MsrpKey)). length xs) is ∙ c.each_port_is_told.ensures.as_many_elsewhere c.args.at c.in_ok-port.told.items (keys_in c.self.inside.awaiting.items) in
     let same = c.self.invariant.sets in
     omega (arith, count, same, c.requires, ap (λ (v : Streams). length v.ports) c.self.view_is)
 
+-- none awaits at the port
+emptied : (c : After-drop-told-2) → keys_in c.put_set.new.sets.items ≡ slice_set (keys_in c.put_sets.new.sets.items) c.args.at []
+emptied c = c.put_set.ensures ∙ ap (λ (set : KeySet MsrpKey). slice_set (keys_in c.put_sets.new.sets.items) c.args.at set.keys) c.new.ensures
+
 pub invariant_of-self : goal.invariant_of-self
-invariant_of-self c = rw c.new.ensures (done c).kept
+invariant_of-self c = rw (emptied c) (done c).kept
 
 pub returns-clause-after : goal.returns-clause-after
 returns-clause-after c =
-    ap (λ (none : List MsrpKey). record { ports = slice_set (before c).ports c.args.at c.in_ok-port.port; awaiting = slice_set c.put_sets.new.sets.items c.args.at none; talks = (before c).talks; listens = (before c).listens; moment = (before c).moment }) c.new.ensures
+    ap (λ (sets : List (List MsrpKey)). record { ports = slice_set (before c).ports c.args.at c.in_ok-port.port; awaiting = sets; talks = (before c).talks; listens = (before c).listens; moment = (before c).moment }) (emptied c)
     ∙ ((done c).is ∙ ap (λ (v : Streams). settled_streams c.args.at v) c.self.view_is)
 
 pub returns-clause-count : goal.returns-clause-count
 returns-clause-count c =
     c.saturated-count.ensures
     ∙ ap count_of (c.len.ensures
-    ∙ ap length (sym (awaiting_is (before c) c.self.invariant c.args.at (below c) c.index-2.result.now c.index-2.ensures)
+    ∙ ap length (sym (awaiting_is (before c) c.self.invariant c.args.at (below c) c.set_at-2.result.now.keys (read-get (before c).awaiting c.args.at c.set_at-2.result.now.keys (ap (λ xs. slice_get (keys_in xs) c.args.at) (sym c.as_slice-7.ensures.value) ∙ c.set_at-2.ensures)))
     ∙ ap (λ (v : Streams). awaiting_at c.args.at v) c.self.view_is))
 
 pub settled-requires : goal.settled-requires
