@@ -6,8 +6,6 @@ use Rattle.node_core.specs.Step.{node_step}
 use Rattle.node_core.specs.declared.types.NodeEvent.{NodeEvent}
 use Rattle.node_core.specs.declared.types.NodeEvent.TheVariants.{Port}
 use Rattle.node_core.specs.declared.types.NodeStep.{NodeStep}
-use Rattle.node_core.specs.declared.types.StepReply.{StepReply}
-use Rattle.node_core.specs.declared.types.StepReply.TheVariants.{Nothing}
 use Rattle.turn_lock.specs.History.{ask_of, answer_of, last_state, IsHistory}
 use Rattle.turn_lock.specs.Calls.{HasCalled, HasLooked}
 use Rattle.turn_lock.specs.Closing.{HasClosed}
@@ -16,9 +14,11 @@ use Rattle.turn_lock.specs.Refusal.{IsRefused}
 use Rattle.turn_lock.specs.declared.close.CloseErr.{CloseErr}
 use Rattle.turn_lock.specs.declared.close.CloseErr.TheVariants.{MissingPass, NoMemory}
 use Rattle.bridge_book.specs.Refusal.{IsOfHub}
+use Rattle.bridge_book.specs.declared.notice.Notice.{Notice}
+use Rattle.bridge_book.specs.declared.notice.Told.{Told}
 use Rattle.bridge_book.specs.declared.shared.PortAsk.{PortAsk}
-use Rattle.bridge_book.specs.Steps.{Shared, is_port, node_does, shared_does}
-use Rattle.bridge_book.specs.Hub.{Hub, Steps, PortPass, IsHubLock, step_of, HasClosedHub}
+use Rattle.bridge_book.specs.Steps.{Shared, is_port, told_nothing, port_does, node_does, shared_does}
+use Rattle.bridge_book.specs.Hub.{Hub, Steps, PortPass, IsHubLock, step_of, notice_in, HasClosedHub}
 
 -- the node after a history, and what was noted
 pub node_after : (shared : Shared) (history : Steps) → (last_state shared_does shared history).node ≡ last_state node_does shared.node history
@@ -37,13 +37,23 @@ notes_after shared (e ∷ history) legal =
     let said : answer_of e ≡ (node_does shared.node (ask_of e)).0 = legal [] history e refl in
     let next : Shared = (shared_does shared (ask_of e)).1 in
     notes_after next history (λ earlier later n is. legal (e ∷ earlier) later n (ap (λ (l : Steps). e ∷ l) is))
-    ∙ (append_assoc shared.steps (record { port = (ask_of e).port; step = (ask_of e).step; reply = (node_does shared.node (ask_of e)).0 } ∷ []) (map step_of history)
-    ∙ ap (λ (r : StepReply). shared.steps ++ record { port = (ask_of e).port; step = (ask_of e).step; reply = r } ∷ map step_of history) (sym said))
+    ∙ (append_assoc shared.steps (record { port = (ask_of e).port; step = (ask_of e).step; reply = (node_does shared.node (ask_of e)).0.reply } ∷ []) (map step_of history)
+    ∙ ap (λ (r : Told). shared.steps ++ record { port = (ask_of e).port; step = (ask_of e).step; reply = r.reply } ∷ map step_of history) (sym said))
+
+-- so are the notices
+pub notices_after : (shared : Shared) (history : Steps) → IsHistory shared_does shared history → (last_state shared_does shared history).notices ≡ shared.notices ++ map notice_in history
+notices_after shared [] legal = sym (append-nil shared.notices)
+notices_after shared (e ∷ history) legal =
+    let said : answer_of e ≡ (node_does shared.node (ask_of e)).0 = legal [] history e refl in
+    let next : Shared = (shared_does shared (ask_of e)).1 in
+    notices_after next history (λ earlier later n is. legal (e ∷ earlier) later n (ap (λ (l : Steps). e ∷ l) is))
+    ∙ (append_assoc shared.notices ((node_does shared.node (ask_of e)).0.notice ∷ []) (map notice_in history)
+    ∙ ap (λ (r : Told). shared.notices ++ r.notice ∷ map notice_in history) (sym said))
 
 module _ (shared : Shared) where
   -- a call, and a look, said of the node
-  pub called_of_node : (number : _) (before after : Steps) (ask : PortAsk) (reply : StepReply) → HasCalled shared_does shared number before ask reply after → HasCalled node_does shared.node number before ask reply after
-  called_of_node number before after ask reply h = record {
+  pub called_of_node : (number : _) (before after : Steps) (ask : PortAsk) (told : Told) → HasCalled shared_does shared number before ask told after → HasCalled node_does shared.node number before ask told after
+  called_of_node number before after ask told h = record {
     earlier = h.earlier;
     call_is_last = h.call_is_last;
     front = h.front;
@@ -56,10 +66,12 @@ module _ (shared : Shared) where
   looked_of_node number before after h = record { front = h.front; legal = history_of_node shared after h.legal; own = h.own }
 
 -- a closed lock round a node is a closed hub
-pub closed_hub : (hub : Hub) (passes : List PortPass) (state : Shared) (history : Steps) → hub.lock.start.steps ≡ [] → HasClosed shared_does hub.lock passes state history → HasClosedHub hub passes state.node state.steps
-closed_hub hub passes state history none h = record {
+pub closed_hub : (hub : Hub) (passes : List PortPass) (state : Shared) (history : Steps) → hub.lock.start.steps ≡ [] → hub.lock.start.notices ≡ [] → HasClosed shared_does hub.lock passes state history
+    → HasClosedHub hub passes state.node state.steps state.notices
+closed_hub hub passes state history none quiet h = record {
   history = history;
   steps_are = ap (λ (s : Shared). s.steps) h.last ∙ (notes_after hub.lock.start history h.legal ∙ ap (λ (l : List NodeStep). l ++ map step_of history) none);
+  notices_are = ap (λ (s : Shared). s.notices) h.last ∙ (notices_after hub.lock.start history h.legal ∙ ap (λ (l : List Notice). l ++ map notice_in history) quiet);
   legal = history_of_node hub.lock.start history h.legal;
   last = ap (λ (s : Shared). s.node) h.last ∙ node_after hub.lock.start history;
   calls = h.calls;
@@ -67,7 +79,7 @@ closed_hub hub passes state history none h = record {
   given = h.given;
 }
 
-by_port : (b : Bool) (x y : StepReply × NodeState) (node : NodeState) → ports_of x.1 ≡ ports_of node → ports_of y.1 ≡ ports_of node → ports_of (cond b x y).1 ≡ ports_of node
+by_port : (b : Bool) (x y : Told × NodeState) (node : NodeState) → ports_of x.1 ≡ ports_of node → ports_of y.1 ≡ ports_of node → ports_of (cond b x y).1 ≡ ports_of node
 by_port true x y node p q = p
 by_port false x y node p q = q
 
@@ -77,18 +89,16 @@ pub ports_after : ((event : NodeEvent) (s : NodeState) → ports_of (node_step e
 ports_after keeps node [] = refl
 ports_after keeps node (e ∷ history) =
     let ask = ask_of e in
-    let done = node_step (Port ask.port ask.step) node in
-    ports_after keeps (node_does node ask).1 history ∙ by_port (is_port ask.port (ports_of node)) (done.1, done.0) (Nothing, node) node (keeps (Port ask.port ask.step) node) refl
+    ports_after keeps (node_does node ask).1 history
+    ∙ by_port (is_port ask.port (ports_of node)) (port_does node ask) (told_nothing, node) node (keeps (Port ask.port ask.step) node) refl
 
 -- what a link port does is the node's own step
-pub port_does : ((event : NodeEvent) (s : NodeState) → ports_of (node_step event s).0 ≡ ports_of s)
+pub port_steps : ((event : NodeEvent) (s : NodeState) → ports_of (node_step event s).0 ≡ ports_of s)
     → (node : NodeState) (history : Steps) (ask : PortAsk) → is_port ask.port (ports_of node) ≡ true
-    → node_does (last_state node_does node history) ask
-    ≡ ((node_step (Port ask.port ask.step) (last_state node_does node history)).1, (node_step (Port ask.port ask.step) (last_state node_does node history)).0)
-port_does keeps node history ask there =
+    → node_does (last_state node_does node history) ask ≡ port_does (last_state node_does node history) ask
+port_steps keeps node history ask there =
     let last = last_state node_does node history in
-    let done = node_step (Port ask.port ask.step) last in
-    ap (λ (b : Bool). cond b (done.1, done.0) (Nothing, last)) (ap (is_port ask.port) (ports_after keeps node history) ∙ there)
+    ap (λ (b : Bool). cond b (port_does last ask) (told_nothing, last)) (ap (is_port ask.port) (ports_after keeps node history) ∙ there)
 
 -- what a call answers, said otherwise
 pub ok_as : {T E : Type 0} (P Q : T → Type 0) (r : Result T E) → ((x : T) → P x → Q x) → IfOk r P → IfOk r Q
@@ -100,6 +110,6 @@ err_as P Q (Ok x) f h = tt
 err_as P Q (Err e) f h = f h
 
 -- a hub's lock that is handed back is the hub's
-pub of_hub : (lock : Lock Shared) (passes : List PortPass) (refused : CloseErr Shared PortAsk StepReply) → IsRefused lock passes refused → IsHubLock lock → IsOfHub refused
+pub of_hub : (lock : Lock Shared) (passes : List PortPass) (refused : CloseErr Shared PortAsk Told) → IsRefused lock passes refused → IsHubLock lock → IsOfHub refused
 of_hub lock passes (MissingPass number back given) is whole = subst IsHubLock (sym is.1) whole
 of_hub lock passes (NoMemory back given) is whole = subst IsHubLock (sym is.0) whole

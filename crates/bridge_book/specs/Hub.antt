@@ -5,10 +5,13 @@ use Rattle.srp_base.specs.declared.numbers.NodeNo.{NodeNo}
 use Rattle.node_core.specs.State.{NodeState, ports_of}
 use Rattle.node_core.specs.declared.types.NodeStep.{NodeStep}
 use Rattle.node_core.specs.declared.types.PortStep.{PortStep}
-use Rattle.node_core.specs.declared.types.StepReply.{StepReply}
 use Rattle.turn_lock.specs.History.{Entry, Log, ask_of, answer_of, calls_of, last_state, IsHistory}
 use Rattle.turn_lock.specs.Passes.{Lock, PassOf, is_given}
+use Rattle.turn_lock.specs.Calls.{HasCalled}
 use Rattle.turn_lock.specs.Closing.{HasCallsOf}
+use Rattle.node_core.specs.declared.types.StepReply.{StepReply}
+use Rattle.bridge_book.specs.declared.notice.Notice.{Notice}
+use Rattle.bridge_book.specs.declared.notice.Told.{Told}
 use Rattle.bridge_book.specs.declared.shared.PortAsk.{PortAsk}
 use Rattle.bridge_book.specs.Steps.{Shared, node_does, noted}
 
@@ -19,11 +22,11 @@ pub record Hub : Type 0 where
 
 -- the steps of ports, in order, as a history of the node
 abbrev pub Steps : Type 0
-Steps = Log PortAsk StepReply
+Steps = Log PortAsk Told
 
 -- a pass for one port
 abbrev pub PortPass : Type 0
-PortPass = PassOf Shared PortAsk StepReply
+PortPass = PassOf Shared PortAsk Told
 
 -- the node that a hub began with
 abbrev pub first_node : Hub → NodeState
@@ -31,7 +34,7 @@ first_node hub = hub.lock.start.node
 
 -- a lock of a hub: it began with a node of which no step was noted, and has a pass for each of its link ports
 abbrev pub IsHubLock : Lock Shared → Type 0
-IsHubLock lock = (lock.start.steps ≡ []) × (lock.passes ≡ ports_of lock.start.node) × (lock.passes ≤ 255)
+IsHubLock lock = (lock.start.steps ≡ []) × (lock.start.notices ≡ []) × (lock.passes ≡ ports_of lock.start.node) × (lock.passes ≤ 255)
 
 -- the port of a pass, and what is asked for it
 abbrev pub port_of : PortPass → PortNo
@@ -41,13 +44,23 @@ abbrev pub ask_by : PortPass → PortStep → PortAsk
 ask_by pass step = record { port = port_of pass; step = step }
 
 -- an entry of a history as a step of its port
-abbrev pub step_of : Entry PortAsk StepReply → NodeStep
-step_of entry = noted (ask_of entry) (answer_of entry)
+abbrev pub step_of : Entry PortAsk Told → NodeStep
+step_of entry = noted (ask_of entry) (answer_of entry).reply
+
+-- what an entry's step did to the PDUs on its port's link
+abbrev pub notice_in : Entry PortAsk Told → Notice
+notice_in entry = (answer_of entry).notice
+
+-- a pass has made a step that was answered so, with some notice of the PDUs on its port's link
+abbrev pub HasStepped : Hub → PortPass → PortStep → StepReply → (after : Steps) → Type 0
+HasStepped hub pass step reply after =
+    (notice : Notice) × HasCalled node_does (first_node hub) pass.number pass.seen (ask_by pass step) (record { reply = reply; notice = notice }) after
 
 -- a closed hub: a history of the node's steps from the node that it began with, and the node that it leaves
-pub record HasClosedHub (hub : Hub) (passes : List PortPass) (node : NodeState) (steps : List NodeStep) : Type 0 where
+pub record HasClosedHub (hub : Hub) (passes : List PortPass) (node : NodeState) (steps : List NodeStep) (notices : List Notice) : Type 0 where
   pub history : Steps
   pub steps_are : steps ≡ map step_of history
+  pub notices_are : notices ≡ map notice_in history
   pub legal : IsHistory node_does (first_node hub) history
   pub last : node ≡ last_state node_does (first_node hub) history
   -- each pass has seen a front of the history, whose entries of its number are exactly its calls

@@ -4,7 +4,7 @@ use Rattle.turn_lock.specs.Passes.{IsLowestMissing}
 use Rattle.bridge_book.specs.Steps.{Shared}
 use Rattle.bridge_book.specs.Hub.{Hub, PortPass, IsHubLock}
 use Rattle.bridge_book.specs.declared.shared.PortAsk.{PortAsk}
-use Rattle.node_core.specs.declared.types.StepReply.{StepReply}
+use Rattle.bridge_book.specs.declared.notice.Told.{Told}
 use Rattle.turn_lock.specs.declared.close.CloseErr.{CloseErr}
 use Rattle.turn_lock.specs.declared.close.CloseErr.TheVariants as closing
 use Rattle.bridge_book.specs.declared.hub.HubCloseErr.{HubCloseErr}
@@ -17,6 +17,6 @@ IsRefusedHub hub passes (MissingPass number hub' passes') =
 IsRefusedHub hub passes (NoMemory hub' passes') = (hub' ≡ hub) × (passes' ≡ passes)
 
 -- the lock that is handed back is a hub's
-abbrev pub IsOfHub : CloseErr Shared PortAsk StepReply → Type 0
+abbrev pub IsOfHub : CloseErr Shared PortAsk Told → Type 0
 IsOfHub (closing.MissingPass number lock passes) = IsHubLock lock
 IsOfHub (closing.NoMemory lock passes) = IsHubLock lock

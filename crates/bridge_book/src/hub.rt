@@ -5,11 +5,12 @@ ghost use Rattle.node_core.specs.State.{ports_of};
 ghost use Rattle.turn_lock.specs.Passes.{first_passes};
 ghost use Rattle.turn_lock.specs.Calls.{HasCalled, HasLooked};
 ghost use Rattle.bridge_book.specs.Steps.{is_port, node_does};
-ghost use Rattle.bridge_book.specs.Hub.{first_node, port_of, ask_by, HasClosedHub};
+ghost use Rattle.bridge_book.specs.Hub.{first_node, port_of, ask_by, HasStepped, HasClosedHub};
 ghost use Rattle.bridge_book.specs.Refusal.{IsOfHub, IsRefusedHub};
 ghost use Rattle.turn_lock.specs.Refusal.{IsRefused};
 
 use crate::gate::Gate;
+use crate::notice::{Notice, Told};
 use crate::shared::{PortAsk, SharedNode};
 use node_core::{Node, NodeStep, PortStep, StepReply};
 use srp_base::{NoMemory, NodeNo, PortNo, Seq};
@@ -38,11 +39,13 @@ impl Model for NodeHub {
     ghost invariant = { λ h. IsHubLock h.lock };
 }
 
-/// What a hub held: the node, and the steps that were made of it, in their order.
+/// What a hub held: the node, and the steps that were made of it, in their order, with what each did to the PDUs on its
+/// port's link.
 #[derive(Drop)]
 pub struct HubClosed {
     pub node: Node,
     pub steps: Seq<NodeStep>,
+    pub notices: Seq<Notice>,
 }
 
 /// Why a hub stays open. Both hand everything back.
@@ -63,13 +66,20 @@ pub enum HubCloseErr {
 
 // What a closed lock round a node leaves.
 fn opened(closed: Closed<SharedNode>) -> HubClosed
-    ensures { (result.node ≡ closed.state.node) × (result.steps ≡ closed.state.steps) }
+    ensures node { result.node ≡ closed.state.node }
+    ensures steps { result.steps ≡ closed.state.steps }
+    ensures notices { result.notices ≡ closed.state.notices }
 {
     let Closed { state, history: _ } = closed;
-    let SharedNode { node, steps } = state;
+    let SharedNode {
+        node,
+        steps,
+        notices,
+    } = state;
     HubClosed {
         node,
         steps: Seq::from_vec(steps),
+        notices: Seq::from_vec(notices),
     }
 }
 
@@ -110,11 +120,19 @@ impl NodeHub {
         ensures no_memory { IfErr result (λ e. e.1 ≡ node) }
     {
         let ports = u32::from(node.ports());
-        let steps = Vec::new(alloc);
-        match TurnLock::begin(alloc, SharedNode { node, steps }, ports) {
+        let shared = SharedNode {
+            node,
+            steps: Vec::new(alloc),
+            notices: Vec::new(alloc),
+        };
+        match TurnLock::begin(alloc, shared, ports) {
             Ok((lock, passes)) => Ok((NodeHub { number, lock }, passes)),
             Err((no_memory, shared)) => {
-                let SharedNode { node, steps: _ } = shared;
+                let SharedNode {
+                    node,
+                    steps: _,
+                    notices: _,
+                } = shared;
                 Err((no_memory, node))
             }
         }
@@ -133,8 +151,28 @@ impl NodeHub {
         requires { pass.old.lock ≡ self.now.lock }
         ensures pass { (pass.new.lock ≡ self.now.lock) × (pass.new.number ≡ pass.old.number) }
         ensures port { is_port (port_of pass.old) (ports_of (first_node self.now)) ≡ true }
-        ensures stepped { IfOk result (λ reply. HasCalled node_does (first_node self.now)
-            pass.old.number pass.old.seen (ask_by pass.old step) reply pass.new.seen) }
+        ensures stepped { IfOk result (λ reply. HasStepped self.now pass.old step reply
+            pass.new.seen) }
+        ensures no_memory { OnErr result (HasLooked node_does (first_node self.now)
+            pass.old.number pass.old.seen pass.new.seen) }
+    {
+        let told = self.call(rt, gate, pass, step)?;
+        Ok(told.reply)
+    }
+
+    // The same, with what the step did to the PDUs on the port's link.
+    fn call<R: Wait, G: Gate>(
+        &self,
+        rt: &R,
+        gate: &G,
+        pass: &mut PortPass,
+        step: PortStep,
+    ) -> Result<Told, NoMemory>
+        requires { pass.old.lock ≡ self.now.lock }
+        ensures pass { (pass.new.lock ≡ self.now.lock) × (pass.new.number ≡ pass.old.number) }
+        ensures port { is_port (port_of pass.old) (ports_of (first_node self.now)) ≡ true }
+        ensures called { IfOk result (λ told. HasCalled node_does (first_node self.now)
+            pass.old.number pass.old.seen (ask_by pass.old step) told pass.new.seen) }
         ensures no_memory { OnErr result (HasLooked node_does (first_node self.now)
             pass.old.number pass.old.seen pass.new.seen) }
     {
@@ -144,11 +182,12 @@ impl NodeHub {
         self.lock.call(rt, pass, ask, &|| gate.within(number, port))
     }
 
-    /// Closes the hub with all its passes, in any order, and answers its node and the steps that were made of it. Where a
-    /// pass is missing everything comes back.
+    /// Closes the hub with all its passes, in any order, and answers its node and the steps that were made of it, with what
+    /// each did to the PDUs on its port's link. Where a pass is missing everything comes back.
     pub fn close(self, passes: Seq<PortPass>) -> Result<HubClosed, HubCloseErr>
         requires { All (λ p. p.lock ≡ self.lock) passes }
-        ensures closed { IfOk result (λ c. HasClosedHub self passes c.node c.steps) }
+        ensures closed { IfOk result (λ c. HasClosedHub self passes
+            c.node c.steps c.notices) }
         ensures refused { IfErr result (λ e. IsRefusedHub self passes e) }
     {
         let NodeHub { number, lock } = self;

@@ -2,11 +2,9 @@
 
 ghost use Rattle.std.specs.Prelude.{◌≡◌, true};
 ghost use Rattle.node_core.specs.State.{NodeState, ports_of};
-ghost use Rattle.node_core.specs.Step.{node_step};
-ghost use Rattle.node_core.specs.declared.types.NodeEvent.TheVariants.{Port};
 ghost use Rattle.turn_lock.specs.History.{last_state};
 ghost use Rattle.bridge_book.specs.declared.shared.PortAsk.{PortAsk};
-ghost use Rattle.bridge_book.specs.Steps.{is_port, node_does};
+ghost use Rattle.bridge_book.specs.Steps.{is_port, node_does, port_does};
 ghost use Rattle.bridge_book.specs.Hub.{Steps};
 
 use node_core::laws::steps_keep_what_a_node_is;
@@ -18,10 +16,7 @@ pub fn ports_make_their_steps()
     ensures step { (node : NodeState) (history : Steps) (ask : PortAsk)
         → is_port ask.port (ports_of node) ≡ true
         → node_does (last_state node_does node history) ask
-        ≡ (
-          (node_step (Port ask.port ask.step) (last_state node_does node history)).1,
-          (node_step (Port ask.port ask.step) (last_state node_does node history)).0,
-        ) }
+        ≡ port_does (last_state node_does node history) ask }
 {
     steps_keep_what_a_node_is();
 }

@@ -21,6 +21,8 @@
 //! which begins with all that the pass had seen and ends with this step; of the pass's own steps it has the
 //! earlier ones and this one. `NodeHub::close` gives the node that the history leaves and its entries as steps;
 //! each pass has seen a front of it, and its entries of a pass's number are exactly those that the pass made.
+//! Beside each step stands a `Notice`: which PDU the step took off its port's link or put on it, if any, and
+//! whether it has LeaveAll; so who counts the PDUs of a network's links can go by the history alone.
 //!
 //! So whatever the threads do, in whichever order they run, the node is one that one thread makes of it by the
 //! steps in that order, and each law of a node's steps holds of it. `laws` says that no history changes the
@@ -41,8 +43,10 @@
 mod gate;
 mod hub;
 pub mod laws;
+mod notice;
 mod shared;
 
 pub use gate::{Gate, NoGate};
 pub use hub::{HubCloseErr, HubClosed, NodeHub, PortPass};
+pub use notice::{Notice, Told};
 pub use shared::{PortAsk, SharedNode};

@@ -1,6 +1,7 @@
 use Rattle.std.proofs.Common.{List, sym, subst}
 use Rattle.node_core.specs.State.{NodeState}
 use Rattle.node_core.specs.declared.types.NodeStep.{NodeStep}
+use Rattle.bridge_book.specs.declared.notice.Notice.{Notice}
 use Rattle.bridge_book.specs.Hub.{Hub, HasClosedHub}
 use Rattle.bridge_book.specs.Refusal.{IsRefusedHub}
 use Rattle.bridge_book.proofs.StepsLemmas.{closed_hub, of_hub}
@@ -12,8 +13,9 @@ returns-in-Ok-clause-closed c =
     let closed = c.in-Ok.closed in
     let hub : Hub = record { number = inside.number; lock = inside.lock } in
     let said = c.opened.ensures in
-    subst (λ (x : Hub × NodeState × List NodeStep). HasClosedHub x.0 c.args.passes x.1 x.2) (λ i. (c.self.view_is i, sym said.0 i, sym said.1 i))
-    (closed_hub hub c.args.passes closed.state closed.history c.self.invariant.0 c.in-Ok.ensures.closed)
+    subst (λ (x : Hub × NodeState × List NodeStep × List Notice). HasClosedHub x.0 c.args.passes x.1 x.2 x.3)
+    (λ i. (c.self.view_is i, sym said.node i, sym said.steps i, sym said.notices i))
+    (closed_hub hub c.args.passes closed.state closed.history c.self.invariant.0 c.self.invariant.1 c.in-Ok.ensures.closed)
 
 pub handed_back-requires : goal.handed_back-requires
 handed_back-requires c = of_hub c.self.inside.lock c.args.passes c.in-Err.refused c.in-Err.ensures.refused c.self.invariant
