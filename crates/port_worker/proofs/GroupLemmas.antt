@@ -1,0 +1,168 @@
+-- Nodes in groups, the numbers of nodes, and what is gathered of them, one more at a time.
+use Rattle.std.proofs.Common.{◌≡◌, ℕ, zero, suc, ◌+◌, ◌<◌, ◌≤◌, List, [], ◌∷◌, ◌++◌, length, map, drop, get_or, refl, sym, ap, subst, ◌∙◌, append_assoc, arith}
+use Rattle.std.specs.Prelude.{slice_get, Some, Result, Ok, IfOk}
+use Rattle.std.proofs.Math.Seq.{drop-cons}
+use Rattle.std.proofs.lemmas.List.{append-nil, map-append}
+use Rattle.std.proofs.lemmas.Grind.{flat_map-append}
+use Rattle.std.proofs.lemmas.Option.{slice_get-get_or}
+use Rattle.srp_base.specs.declared.memory.NoMemory.{NoMemory}
+use Rattle.srp_base.specs.declared.numbers.NodeNo.{NodeNo}
+use Rattle.node_core.specs.declared.types.NodeStep.{NodeStep}
+use Rattle.bridge_book.specs.declared.notice.Notice.{Notice}
+use Rattle.world_core.specs.declared.journal.NodeSteps.{NodeSteps}
+use Rattle.world_core.specs.Marks.{MarksState}
+use Rattle.world_core.specs.OneByOne.{steps_before}
+use Rattle.port_worker.specs.declared.node.Task.{Task}
+use Rattle.port_worker.specs.declared.node.Worked.{Worked}
+use Rattle.port_worker.specs.Worked.{IsWorked}
+use Rattle.port_worker.specs.Marked.{mark_by, CanMark, marks_by, CanMarkAll}
+use Rattle.port_worker.specs.Gathered.{AreNumbered, AreWorked, AreParts, joined, steps_made, marks_made}
+use Rattle.port_worker.proofs.Lists.{one_some}
+
+-- ---- groups
+
+pub joined_push : {X : Type 0} (groups next : List (List X)) (group : List X) → next ≡ groups ++ group ∷ [] → joined next ++ [] ≡ joined groups ++ group
+joined_push {X = X} groups next group push =
+    append-nil (joined next)
+    ∙ (ap (λ (gs : List (List X)). joined gs) push
+    ∙ (flat_map-append (λ (xs : List X). xs) groups (group ∷ []) ∙ ap (λ (xs : List X). joined groups ++ xs) (append-nil group)))
+
+pub grouped_more : {X : Type 0} (groups next : List (List X)) (group ended pushed yielded : List X) (x : X) → joined groups ++ group ≡ yielded → joined next ++ ended ≡ joined groups ++ group
+    → pushed ≡ ended ++ x ∷ [] → joined next ++ pushed ≡ yielded ++ x ∷ []
+grouped_more groups next group ended pushed yielded x so_far same push =
+    ap (λ xs. joined next ++ xs) push ∙ (sym (append_assoc (joined next) ended (x ∷ [])) ∙ ap (λ xs. xs ++ x ∷ []) (same ∙ so_far))
+
+pub grouped_all : {X : Type 0} (groups next : List (List X)) (group ended all : List X) → joined groups ++ group ≡ all → joined next ++ ended ≡ joined groups ++ group → ended ≡ [] → joined next ≡ all
+grouped_all groups next group ended all so_far same none = sym (append-nil (joined next)) ∙ (ap (λ xs. joined next ++ xs) (sym none) ∙ (same ∙ so_far))
+
+pub worked_more : (tasks : List Task) (all next : List Worked) (task : Task) (worked : Worked) → AreWorked tasks all → IsWorked task worked → next ≡ all ++ worked ∷ []
+    → AreWorked (tasks ++ task ∷ []) next
+worked_more tasks all next task worked so_far is push = subst (AreWorked (tasks ++ task ∷ [])) (sym push) (more tasks all so_far)
+  where
+    more : (ts : List Task) (ws : List Worked) → AreWorked ts ws → AreWorked (ts ++ task ∷ []) (ws ++ worked ∷ [])
+    more [] [] h = (is, tt)
+    more [] (w ∷ ws) h = absurd h
+    more (t ∷ ts) [] h = absurd h
+    more (t ∷ ts) (w ∷ ws) h = (h.0, more ts ws h.1)
+
+worked_append : (ts us : List Task) (ws vs : List Worked) → AreWorked ts ws → AreWorked us vs → AreWorked (ts ++ us) (ws ++ vs)
+worked_append [] us [] vs h k = k
+worked_append [] us (w ∷ ws) vs h k = absurd h
+worked_append (t ∷ ts) us [] vs h k = absurd h
+worked_append (t ∷ ts) us (w ∷ ws) vs h k = (h.0, worked_append ts us ws vs h.1 k)
+
+-- one part more
+pub parts_more : {X : Type 0} (each : List (Result (List X) NoMemory)) (all next part : List X) → AreParts each all → next ≡ all ++ part → AreParts (each ++ Ok part ∷ []) next
+parts_more {X = X} each all next part h push =
+    let parts : List (List X) = h.0 in (
+      parts ++ part ∷ [],
+      ap (λ (rs : List (Result (List X) NoMemory)). rs ++ Ok part ∷ []) h.1 ∙ sym (map-append (λ (xs : List X). Ok xs) parts (part ∷ [])),
+      push
+          ∙ (ap (λ (xs : List X). xs ++ part) h.2
+          ∙ (ap (λ (xs : List X). joined parts ++ xs) (sym (append-nil part)) ∙ sym (flat_map-append (λ (xs : List X). xs) parts (part ∷ [])))),
+    )
+
+-- what each part is, all are
+pub parts_worked : (groups : List (List Task)) (each : List (Result (List Worked) NoMemory)) (all : List Worked) → length each ≡ length groups
+    → ((k : ℕ) (group : List Task) (r : Result (List Worked) NoMemory) → slice_get groups k ≡ Some group → slice_get each k ≡ Some r → IfOk r (AreWorked group))
+    → AreParts each all → AreWorked (joined groups) all
+parts_worked groups each all count h parts =
+    subst (AreWorked (joined groups)) (sym parts.2)
+    (by groups parts.0 (sym (length-map' parts.0) ∙ (sym (ap (λ (rs : List (Result (List Worked) NoMemory)). length rs) parts.1) ∙ count))
+    (λ k group part at there. h k group (Ok part) at (ap (λ (rs : List (Result (List Worked) NoMemory)). slice_get rs k) parts.1 ∙ get_ok parts.0 k part there)))
+  where
+    ok : List Worked → Result (List Worked) NoMemory
+    ok p = Ok p
+
+    length-map' : (ps : List (List Worked)) → length (map ok ps) ≡ length ps
+    length-map' [] = refl
+    length-map' (p ∷ ps) = ap suc (length-map' ps)
+
+    get_ok : (ps : List (List Worked)) (k : ℕ) (p : List Worked) → slice_get ps k ≡ Some p → slice_get (map ok ps) k ≡ Some (ok p)
+    get_ok [] k p e = cc
+    get_ok (q ∷ ps) zero p e = let own : q ≡ p = cc in ap (λ (x : List Worked). Some (ok x)) own
+    get_ok (q ∷ ps) (suc k) p e = get_ok ps k p e
+
+    by : (gs : List (List Task)) (ps : List (List Worked)) → length ps ≡ length gs
+        → ((k : ℕ) (group : List Task) (part : List Worked) → slice_get gs k ≡ Some group → slice_get ps k ≡ Some part → AreWorked group part) → AreWorked (joined gs) (joined ps)
+    by [] [] long each = tt
+    by [] (p ∷ ps) long each = absurd (omega (arith, long))
+    by (g ∷ gs) [] long each = absurd (omega (arith, long))
+    by (g ∷ gs) (p ∷ ps) long each =
+        worked_append g (joined gs) p (joined ps) (each 0 g p refl refl) (by gs ps (omega (arith, long)) (λ k group part at there. each (suc k) group part at there))
+
+-- ---- numbers
+
+pub numbered_more : (x : ℕ) (tasks : List Task) (task : Task) → AreNumbered x tasks → task.number.0 ≡ x + length tasks + 1 → AreNumbered x (tasks ++ task ∷ [])
+numbered_more x [] task h number = (omega (arith, number), tt)
+numbered_more x (t ∷ tasks) task h number = (h.0, numbered_more (x + 1) tasks task h.1 (omega (arith, number)))
+
+-- ---- what is gathered
+
+before_more : (n : NodeNo) (made : List NodeStep) (later more : List NodeSteps) → steps_before n made (later ++ more) ≡ steps_before n made later ++ more
+before_more n [] later more = refl
+before_more n (st ∷ made) later more = refl
+
+pub steps_more : (all : List Worked) (worked : Worked) → steps_made (all ++ worked ∷ []) ≡ steps_made all ++ steps_before worked.number worked.steps []
+steps_more [] worked = refl
+steps_more (w ∷ all) worked =
+    ap (λ (later : List NodeSteps). steps_before w.number w.steps later) (steps_more all worked)
+    ∙ before_more w.number w.steps (steps_made all) (steps_before worked.number worked.steps [])
+
+pub marks_more : (all : List Worked) (worked : Worked) (m : MarksState) → marks_made (all ++ worked ∷ []) m ≡ marks_by worked.number worked.steps worked.notices (marks_made all m)
+marks_more [] worked m = refl
+marks_more (w ∷ all) worked m = marks_more all worked (marks_by w.number w.steps w.notices m)
+
+pub none_before : (n : NodeNo) (made : List NodeStep) (so_far : List NodeSteps) → made ≡ [] → so_far ≡ so_far ++ steps_before n made []
+none_before n made so_far none = sym (append-nil so_far) ∙ ap (λ (ss : List NodeStep). so_far ++ steps_before n ss []) (sym none)
+
+pub some_before : (n : NodeNo) (made : List NodeStep) → (made ≡ [] → ⊥) → steps_before n made [] ≡ record { node = n; steps = made } ∷ []
+some_before n [] some = absurd (some refl)
+some_before n (st ∷ made) some = refl
+
+-- ---- the marks follow one step more
+
+pub record HasFollowed (n : NodeNo) (steps : List NodeStep) (notices : List Notice) (i : ℕ) (st : NodeStep) (notice : Notice) (m : MarksState) : Type 0 where
+  pub can : CanMark (record { node = n; port = st.port }) notice m
+  pub next : CanMarkAll n (drop (i + 1) steps) (drop (i + 1) notices) (mark_by (record { node = n; port = st.port }) notice m)
+  pub same : marks_by n (drop i steps) (drop i notices) m ≡ marks_by n (drop (i + 1) steps) (drop (i + 1) notices) (mark_by (record { node = n; port = st.port }) notice m)
+
+cut_at : {X : Type 0} (xs : List X) (i : ℕ) (x : X) → i < length xs → x ≡ get_or xs i x → drop i xs ≡ x ∷ drop (i + 1) xs
+cut_at xs i x lt here =
+    let next : suc i ≡ i + 1 = omega arith in
+    drop-cons xs i x lt ∙ (ap (λ y. y ∷ drop (suc i) xs) (sym here) ∙ ap (λ (k : ℕ). x ∷ drop k xs) next)
+
+pub followed : (n : NodeNo) (steps : List NodeStep) (notices : List Notice) (i : ℕ) (st : NodeStep) (notice : Notice) (m : MarksState) → i < length steps → i < length notices
+    → st ≡ get_or steps i st → notice ≡ get_or notices i notice → CanMarkAll n (drop i steps) (drop i notices) m → HasFollowed n steps notices i st notice m
+followed n steps notices i st notice m lt few here there can =
+    let cut = cut_at steps i st lt here in
+    let cut' = cut_at notices i notice few there in
+    let all = subst (λ (x : List NodeStep). CanMarkAll n x (notice ∷ drop (i + 1) notices) m) cut (subst (λ (x : List Notice). CanMarkAll n (drop i steps) x m) cut' can) in
+    record {
+      can = all.0;
+      next = all.1;
+      same = ap (λ (x : List NodeStep). marks_by n x (drop i notices) m) cut ∙ ap (λ (x : List Notice). marks_by n (st ∷ drop (i + 1) steps) x m) cut';
+    }
+
+get_same : {X : Type 0} (xs : List X) (i : ℕ) (d e : X) → i < length xs → get_or xs i d ≡ get_or xs i e
+get_same xs i d e lt = one_some (slice_get xs i) (get_or xs i d) (get_or xs i e) (slice_get-get_or xs i d lt) (slice_get-get_or xs i e lt)
+
+pub followed_at : (n : NodeNo) (steps : List NodeStep) (notices : List Notice) (i : ℕ) (d : NodeStep) (e : Notice) (m : MarksState) → i < length steps → i < length notices
+    → CanMarkAll n (drop i steps) (drop i notices) m → HasFollowed n steps notices i (get_or steps i d) (get_or notices i e) m
+followed_at n steps notices i d e m lt few can =
+    followed n steps notices i (get_or steps i d) (get_or notices i e) m lt few
+    (get_same steps i d (get_or steps i d) lt) (get_same notices i e (get_or notices i e) few) can
+
+drop_all : {X : Type 0} (xs : List X) (i : ℕ) → length xs ≤ i → drop i xs ≡ []
+drop_all [] zero le = refl
+drop_all [] (suc i) le = refl
+drop_all (x ∷ xs) zero le = absurd (omega (arith, le))
+drop_all (x ∷ xs) (suc i) le = drop_all xs i (omega (arith, le))
+
+pub none_followed : (n : NodeNo) (steps : List NodeStep) (notices : List Notice) (i : ℕ) (st : NodeStep) (m : MarksState) → i < length steps → length notices ≤ i
+    → CanMarkAll n (drop i steps) (drop i notices) m → ⊥
+none_followed n steps notices i st m lt le can =
+    subst (λ (x : List NodeStep). CanMarkAll n x [] m) (cut_at steps i (get_or steps i st) lt (get_same steps i st (get_or steps i st) lt)) (subst (λ (x : List Notice). CanMarkAll n (drop i steps) x m) (drop_all notices i le) can)
+
+pub all_followed : (n : NodeNo) (steps : List NodeStep) (notices : List Notice) (i : ℕ) (m : MarksState) → length steps ≤ i → marks_by n (drop i steps) (drop i notices) m ≡ m
+all_followed n steps notices i m le = ap (λ (x : List NodeStep). marks_by n x (drop i notices) m) (drop_all steps i le)

@@ -1,0 +1,9 @@
+mod Lists
+mod TurnLemmas
+mod CrossingLemmas
+mod WorkedLemmas
+mod MarkLemmas
+mod GatherLemmas
+mod GroupLemmas
+mod TickLemmas
+mod RunLemmas

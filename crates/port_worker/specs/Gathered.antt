@@ -1,0 +1,52 @@
+-- The steps of all nodes of a network in a tick.
+use Rattle.std.specs.Prelude.{◌≡◌, ℕ, ◌+◌, List, [], ◌∷◌, map, flat_map, Result, Ok}
+use Rattle.node_core.specs.State.{NodeState}
+use Rattle.srp_base.specs.declared.memory.NoMemory.{NoMemory}
+use Rattle.world_core.specs.declared.journal.NodeSteps.{NodeSteps}
+use Rattle.world_core.specs.OneByOne.{steps_before}
+use Rattle.world_core.specs.Marks.{MarksState}
+use Rattle.port_worker.specs.declared.node.Task.{Task}
+use Rattle.port_worker.specs.declared.node.Worked.{Worked}
+use Rattle.port_worker.specs.Worked.{IsWorked}
+use Rattle.port_worker.specs.Marked.{marks_by, CanMarkAll}
+
+-- the nodes behind node x have these numbers
+abbrev pub AreNumbered : ℕ → List Task → Type 0
+AreNumbered x [] = Unit {0}
+AreNumbered x (task ∷ tasks) = (task.number.0 ≡ x + 1) × AreNumbered (x + 1) tasks
+
+-- these nodes have become those, each by its own steps
+abbrev pub AreWorked : List Task → List Worked → Type 0
+AreWorked [] [] = Unit {0}
+AreWorked [] (worked ∷ later) = ⊥
+AreWorked (task ∷ tasks) [] = ⊥
+AreWorked (task ∷ tasks) (worked ∷ later) = IsWorked task worked × AreWorked tasks later
+
+-- lists one after the other
+abbrev pub joined : {X : Type 0} → List (List X) → List X
+joined lists = flat_map (λ xs. xs) lists
+
+-- there was memory for all parts, and this is all of them
+abbrev pub AreParts : {X : Type 0} → List (Result (List X) NoMemory) → List X → Type 0
+AreParts {X = X} each all = (parts : List (List X)) × (each ≡ map Ok parts) × (all ≡ joined parts)
+
+-- the steps of these nodes, of those that made some
+abbrev pub steps_made : List Worked → List NodeSteps
+steps_made [] = []
+steps_made (worked ∷ later) = steps_before worked.number worked.steps (steps_made later)
+
+-- the marks after them
+abbrev pub marks_made : List Worked → MarksState → MarksState
+marks_made [] m = m
+marks_made (worked ∷ later) m = marks_made later (marks_by worked.number worked.steps worked.notices m)
+
+-- they can follow them all
+abbrev pub CanFollow : List Worked → MarksState → Type 0
+CanFollow [] m = Unit {0}
+CanFollow (worked ∷ later) m =
+    CanMarkAll worked.number worked.steps worked.notices m
+    × CanFollow later (marks_by worked.number worked.steps worked.notices m)
+
+-- the nodes of these
+abbrev pub nodes_of : List Worked → List NodeState
+nodes_of all = map (λ worked. worked.node) all
