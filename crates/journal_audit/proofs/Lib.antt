@@ -1,0 +1,12 @@
+pub mod TextLemmas
+pub mod FormLemmas
+pub mod ListLemmas
+pub mod OptionLemmas
+pub mod TotalLemmas
+pub mod ReadingLemmas
+pub mod FollowLemmas
+pub mod PartLemmas
+pub mod LeftLemmas
+pub mod StepLemmas
+pub mod RunLemmas
+pub mod OneTextLemmas

@@ -1,0 +1,8 @@
+pub mod Texts
+pub mod Form
+pub mod Reading
+pub mod Journal
+pub mod Follow
+pub mod Left
+pub mod Replay
+pub mod Audit
