@@ -1,21 +1,26 @@
 -- How a command ends where its octets are judged: it is done, or they are refused; so where making its output fails, neither
 -- reading nor writing is the cause.
-use Rattle.std.proofs.Common.{◌≡◌, ℕ, List, refl, sym, subst, inl, inr, Option, Some, None, Ok, Err}
+use Rattle.std.proofs.Common.{◌≡◌, ℕ, true, List, refl, sym, subst, inl, inr, Option, Some, None, Ok, Err}
 use Rattle.std.specs.Prelude.{Result, IfErr}
 use Rattle.srp_base.specs.Results.{◌>>=◌}
 use Rattle.toml.specs.Data.{Members}
 use Rattle.toml_rules.specs.declared.rules.RuleErr.{RuleErr}
 use Rattle.toml_rules.specs.declared.rules.RuleErr.TheVariants.{Rule, NoMemory as no_memory}
 use Rattle.srpnet.specs.declared.words.Command.{Command}
-use Rattle.srpnet.specs.declared.words.Command.TheVariants.{Ledger, Check, Explain, ExplainLedger, Run, RunJournal, RunBounds, Margins, Groups, Decode, Generate, Help, Version}
+use Rattle.srpnet.specs.declared.words.Command.TheVariants.{Ledger, Check, Explain, ExplainLedger, Run, RunJournal, RunBounds, Ports, PortsJournal, Margins, Audit, Groups, Decode, Generate, Help, Version}
 use Rattle.srpnet.specs.declared.outcome.Cause.{Cause}
-use Rattle.srpnet.specs.declared.outcome.Cause.TheVariants.{Done, BadWords, ReadFault, TooLong, NotToml, BadScenario, WriteFault, NoMemory}
-use Rattle.srpnet.specs.Commands.{ending_of}
+use Rattle.srpnet.specs.declared.outcome.Cause.TheVariants.{Done, BadWords, ReadFault, TooLong, NotToml, BadScenario, WriteFault, AuditNo, NoMemory}
+use Rattle.srpnet.specs.AuditParts.{AuditParts, audit_parts}
+use Rattle.srpnet.specs.AuditText.{IsAudited, IsAuditedBy, IsAuditedOf}
+use Rattle.srpnet.specs.Commands.{IsEndingOf, reads_input}
 use Rattle.srpnet.specs.Document.{document, or_not_toml}
+use Rattle.srpnet.specs.Words.{starts_threads}
 use Rattle.srpnet.specs.Input.{by_rules, ending, input_of}
 use Rattle.srpnet.specs.LedgerFile.{ledger_file}
-use Rattle.srpnet.specs.Outcomes.{EndsAs, LacksOutput}
+use Rattle.srpnet.specs.Outcomes.{EndsAs, EndsBy, LacksOutput}
+use Rattle.topology_file.specs.Plan.{Plan}
 use Rattle.topology_file.specs.Scenario.{scenario_of}
+use Rattle.srpnet.specs.ScenarioInput.{scenario_input}
 use Rattle.group_file.specs.Scenario.{group_scenario_of}
 
 -- the causes with which octets may end that are judged
@@ -23,6 +28,7 @@ abbrev pub IsJudged : Cause → Type 0
 IsJudged Done = Unit {0}
 IsJudged NotToml = Unit {0}
 IsJudged (BadScenario rule entry) = Unit {0}
+IsJudged (AuditNo line why) = Unit {0}
 IsJudged NoMemory = Unit {0}
 IsJudged BadWords = ⊥
 IsJudged ReadFault = ⊥
@@ -39,32 +45,65 @@ document_judged : {A : Type 0} (rules : Members → Result A RuleErr) (d : Optio
 document_judged rules None = tt
 document_judged rules (Some ms) = rules_judge (rules ms)
 
+-- what ends as octets are judged has such a cause
+judged_as : (cause judged : Cause) → IsJudged judged → cause ≡ judged → IsJudged cause
+judged_as cause judged is same = subst IsJudged (sym same) is
+
+audited : (plan : Plan) (parts : AuditParts) (cause : Cause) → IsAudited plan parts cause → IsJudged cause
+audited plan parts Done is = tt
+audited plan parts (AuditNo line why) is = tt
+audited plan parts BadWords is = absurd is
+audited plan parts ReadFault is = absurd is
+audited plan parts TooLong is = absurd is
+audited plan parts NotToml is = tt
+audited plan parts (BadScenario rule entry) is = tt
+audited plan parts (WriteFault written) is = absurd is
+audited plan parts NoMemory is = tt
+
+audited_by : (parts : AuditParts) (scenario : Result Plan Cause) (cause : Cause) → IsJudged (ending scenario) → IsAuditedBy parts scenario cause → IsJudged cause
+audited_by parts (Ok plan) cause judged is = audited plan parts cause is
+audited_by parts (Err refusal) cause judged is = judged_as cause refusal judged is
+
+audit_judged : (parts : Option AuditParts) (cause : Cause) → IsAuditedOf parts cause → IsJudged cause
+audit_judged None cause is = judged_as cause (AuditNo 0 1) tt is
+audit_judged (Some parts) cause is = audited_by parts (scenario_input parts.scenario) cause (document_judged scenario_of (document parts.scenario)) is
+
 -- the octets of every command are judged
-pub command_judges : (command : Command) (octets : List ℕ) → IsJudged (ending_of command octets)
-command_judges Ledger octets = document_judged ledger_file (document octets)
-command_judges Check octets = document_judged scenario_of (document octets)
-command_judges Explain octets = tt
-command_judges ExplainLedger octets = tt
-command_judges Run octets = document_judged scenario_of (document octets)
-command_judges RunJournal octets = document_judged scenario_of (document octets)
-command_judges RunBounds octets = document_judged scenario_of (document octets)
-command_judges Margins octets = document_judged scenario_of (document octets)
-command_judges Groups octets = document_judged group_scenario_of (document octets)
-command_judges (Decode form) octets = tt
-command_judges (Generate number) octets = tt
-command_judges Help octets = tt
-command_judges Version octets = tt
+pub command_judges : (command : Command) (octets : List ℕ) (cause : Cause) → IsEndingOf command octets cause → IsJudged cause
+command_judges Ledger octets cause is = judged_as cause _ (document_judged ledger_file (document octets)) is
+command_judges Check octets cause is = judged_as cause _ (document_judged scenario_of (document octets)) is
+command_judges Explain octets cause is = judged_as cause Done tt is
+command_judges ExplainLedger octets cause is = judged_as cause Done tt is
+command_judges Run octets cause is = judged_as cause _ (document_judged scenario_of (document octets)) is
+command_judges RunJournal octets cause is = judged_as cause _ (document_judged scenario_of (document octets)) is
+command_judges RunBounds octets cause is = judged_as cause _ (document_judged scenario_of (document octets)) is
+command_judges Ports octets cause is = judged_as cause _ (document_judged scenario_of (document octets)) is
+command_judges PortsJournal octets cause is = judged_as cause _ (document_judged scenario_of (document octets)) is
+command_judges Margins octets cause is = judged_as cause _ (document_judged scenario_of (document octets)) is
+command_judges Audit octets cause is = audit_judged (audit_parts octets) cause is
+command_judges Groups octets cause is = judged_as cause _ (document_judged group_scenario_of (document octets)) is
+command_judges (Decode form) octets cause is = judged_as cause Done tt is
+command_judges (Generate number) octets cause is = judged_as cause Done tt is
+command_judges Help octets cause is = judged_as cause Done tt is
+command_judges Version octets cause is = judged_as cause Done tt is
 
 -- an answer that ends so has such a cause, where it has one
-pub judged_err : {X : Type 0} (cause : Cause) (answer : Result X Cause) → IsJudged cause → EndsAs cause answer → IfErr answer IsJudged
-judged_err cause (Ok x) judged ends = tt
-judged_err cause (Err other) judged (inl is) = subst IsJudged (sym is) judged
-judged_err cause (Err other) judged (inr is) = subst IsJudged (sym is) tt
+pub judged_err : {X : Type 0} (IsRight : Cause → Type 0) (answer : Result X Cause) → ((cause : Cause) → IsRight cause → IsJudged cause)
+    → EndsBy IsRight answer → IfErr answer IsJudged
+judged_err IsRight (Ok x) judged ends = tt
+judged_err IsRight (Err cause) judged (inl is) = judged cause is
+judged_err IsRight (Err cause) judged (inr is) = subst IsJudged (sym is) tt
+
+-- an answer that ends as one cause ends by it
+pub ends_by : {X : Type 0} (cause : Cause) (answer : Result X Cause) → EndsAs cause answer → EndsBy (λ c. c ≡ cause) answer
+ends_by cause (Ok x) is = sym is
+ends_by cause (Err other) is = is
 
 cause_lacks : (cause : Cause) → IsJudged cause → (cause ≡ Done → ⊥) → LacksOutput cause
 cause_lacks Done judged not_done = not_done refl
 cause_lacks NotToml judged not_done = tt
 cause_lacks (BadScenario rule entry) judged not_done = tt
+cause_lacks (AuditNo line why) judged not_done = tt
 cause_lacks NoMemory judged not_done = tt
 cause_lacks BadWords judged not_done = absurd judged
 cause_lacks ReadFault judged not_done = absurd judged
@@ -80,3 +119,22 @@ lacks_output (Err cause) judged not_done = cause_lacks cause judged not_done
 -- neither reading nor writing is its cause
 pub not_reading : {X : Type 0} (cause : Cause) (answer : Result X Cause) → IfErr answer IsJudged → answer ≡ Err cause → IsJudged cause
 not_reading cause answer judged is = subst (λ r. IfErr r IsJudged) is judged
+
+-- a command that starts threads reads an input
+pub threads_read : (command : Command) → starts_threads command ≡ true → reads_input command ≡ true
+threads_read Ledger threads = refl
+threads_read Check threads = refl
+threads_read Explain threads = refl
+threads_read ExplainLedger threads = refl
+threads_read Run threads = refl
+threads_read RunJournal threads = refl
+threads_read RunBounds threads = refl
+threads_read Ports threads = refl
+threads_read PortsJournal threads = refl
+threads_read Margins threads = refl
+threads_read Audit threads = refl
+threads_read Groups threads = refl
+threads_read (Decode form) threads = refl
+threads_read (Generate number) threads = threads
+threads_read Help threads = threads
+threads_read Version threads = threads

@@ -5,3 +5,8 @@ pub mod Documents
 pub mod EndLemmas
 pub mod NumberWords
 pub mod PrintLemmas
+pub mod Carried
+pub mod Reported
+pub mod LineLemmas
+pub mod AuditLemmas
+pub mod Inputs

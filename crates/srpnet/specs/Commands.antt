@@ -1,13 +1,15 @@
--- The commands. Each has a line in `reads_input`, `runs`, `Output` and `ending_of`, and a row in the table of words.
+-- The commands. Each has a line in `reads_input`, `runs`, `Output` and `IsEndingOf`, and a row in the table of words.
 use Rattle.std.specs.Prelude.{◌≡◌, ℕ, Bool, true, false, List}
 use Rattle.world_core.specs.declared.journal.Tick.{Tick}
+use Rattle.world_core.specs.Ticks.{AreCanonicalTicks, AreLegalTicks}
 use Rattle.pdu_words.specs.Decoded.{decoded_text}
 use Rattle.srpnet.specs.declared.words.Command.{Command}
-use Rattle.srpnet.specs.declared.words.Command.TheVariants.{Ledger, Check, Explain, ExplainLedger, Run, RunJournal, RunBounds, Margins, Groups, Decode, Generate, Help, Version}
+use Rattle.srpnet.specs.declared.words.Command.TheVariants.{Ledger, Check, Explain, ExplainLedger, Run, RunJournal, RunBounds, Ports, PortsJournal, Margins, Audit, Groups, Decode, Generate, Help, Version}
 use Rattle.srpnet.specs.declared.outcome.Cause.{Cause}
 use Rattle.srpnet.specs.declared.outcome.Cause.TheVariants.{Done}
 use Rattle.srpnet.specs.Input.{ending}
 use Rattle.srpnet.specs.ScenarioInput.{scenario_input}
+use Rattle.srpnet.specs.AuditText.{AuditOutput, IsAuditEnding}
 use Rattle.srpnet.specs.CheckText.{CheckOutput}
 use Rattle.srpnet.specs.ExplainText.{explanation, table_in}
 use Rattle.srpnet.specs.GeneratedText.{GeneratedOutput}
@@ -27,7 +29,10 @@ reads_input ExplainLedger = true
 reads_input Run = true
 reads_input RunJournal = true
 reads_input RunBounds = true
+reads_input Ports = true
+reads_input PortsJournal = true
 reads_input Margins = true
+reads_input Audit = true
 reads_input Groups = true
 reads_input (Decode form) = true
 reads_input (Generate number) = false
@@ -43,7 +48,10 @@ runs ExplainLedger = false
 runs Run = true
 runs RunJournal = true
 runs RunBounds = true
+runs Ports = true
+runs PortsJournal = true
 runs Margins = true
+runs Audit = false
 runs Groups = false
 runs (Decode form) = false
 runs (Generate number) = true
@@ -60,28 +68,34 @@ Output Ledger octets ticks text = LedgerOutput octets text
 Output Check octets ticks text = CheckOutput octets text
 Output Explain octets ticks text = text ≡ explanation (ending (scenario_input octets)) (table_in octets)
 Output ExplainLedger octets ticks text = text ≡ explanation (ending (ledger_input octets)) (table_in octets)
-Output Run octets ticks text = RunOutput report_alone octets ticks text
-Output RunJournal octets ticks text = RunOutput report_and_journal octets ticks text
-Output RunBounds octets ticks text = RunOutput report_and_bounds octets ticks text
-Output Margins octets ticks text = RunOutput margins_alone octets ticks text
+Output Run octets ticks text = RunOutput AreCanonicalTicks report_alone octets ticks text
+Output RunJournal octets ticks text = RunOutput AreCanonicalTicks report_and_journal octets ticks text
+Output RunBounds octets ticks text = RunOutput AreCanonicalTicks report_and_bounds octets ticks text
+Output Ports octets ticks text = RunOutput AreLegalTicks report_alone octets ticks text
+Output PortsJournal octets ticks text = RunOutput AreLegalTicks report_and_journal octets ticks text
+Output Margins octets ticks text = RunOutput AreCanonicalTicks margins_alone octets ticks text
+Output Audit octets ticks text = AuditOutput octets text
 Output Groups octets ticks text = GroupsOutput octets text
 Output (Decode form) octets ticks text = text ≡ decoded_text form octets
 Output (Generate number) octets ticks text = GeneratedOutput number ticks text
 Output Help octets ticks text = text ≡ help_page
 Output Version octets ticks text = text ≡ version_page
 
--- how it ends for the octets of an input, where nothing fails and memory lasts
-abbrev pub ending_of : Command → List ℕ → Cause
-ending_of Ledger octets = ending (ledger_input octets)
-ending_of Check octets = ending (scenario_input octets)
-ending_of Explain octets = Done
-ending_of ExplainLedger octets = Done
-ending_of Run octets = ending (scenario_input octets)
-ending_of RunJournal octets = ending (scenario_input octets)
-ending_of RunBounds octets = ending (scenario_input octets)
-ending_of Margins octets = ending (scenario_input octets)
-ending_of Groups octets = ending (group_input octets)
-ending_of (Decode form) octets = Done
-ending_of (Generate number) octets = Done
-ending_of Help octets = Done
-ending_of Version octets = Done
+-- whether it ends so for the octets of an input, where nothing fails and memory lasts
+abbrev pub IsEndingOf : Command → List ℕ → Cause → Type 0
+IsEndingOf Ledger octets cause = cause ≡ ending (ledger_input octets)
+IsEndingOf Check octets cause = cause ≡ ending (scenario_input octets)
+IsEndingOf Explain octets cause = cause ≡ Done
+IsEndingOf ExplainLedger octets cause = cause ≡ Done
+IsEndingOf Run octets cause = cause ≡ ending (scenario_input octets)
+IsEndingOf RunJournal octets cause = cause ≡ ending (scenario_input octets)
+IsEndingOf RunBounds octets cause = cause ≡ ending (scenario_input octets)
+IsEndingOf Ports octets cause = cause ≡ ending (scenario_input octets)
+IsEndingOf PortsJournal octets cause = cause ≡ ending (scenario_input octets)
+IsEndingOf Margins octets cause = cause ≡ ending (scenario_input octets)
+IsEndingOf Audit octets cause = IsAuditEnding octets cause
+IsEndingOf Groups octets cause = cause ≡ ending (group_input octets)
+IsEndingOf (Decode form) octets cause = cause ≡ Done
+IsEndingOf (Generate number) octets cause = cause ≡ Done
+IsEndingOf Help octets cause = cause ≡ Done
+IsEndingOf Version octets cause = cause ≡ Done

@@ -6,7 +6,7 @@ use Rattle.srpnet.specs.declared.words.Command.{Command}
 use Rattle.srpnet.specs.declared.outcome.Cause.{Cause}
 use Rattle.srpnet.specs.declared.outcome.Cause.TheVariants.{Done, BadWords, ReadFault, TooLong, WriteFault, NoMemory}
 use Rattle.srpnet.specs.Outcomes.{IsRefusedInput, IsWriteFault, WritesNothing}
-use Rattle.srpnet.specs.TopCall.{Wrote, WrotePart, WroteUntilNoMemory, WroteNothing, Gave, Refuses, ReadsNothing, most_octets, plain_ending}
+use Rattle.srpnet.specs.TopCall.{Wrote, WrotePart, WroteUntilNoMemory, WroteNothing, Gave, Refuses, ReadsNothing, most_octets, IsPlainEnding}
 use Rattle.world_core.specs.declared.journal.Tick.{Tick}
 
 -- A command is carried out on a source of the type I and an out sink of the type O, before the call
@@ -46,7 +46,7 @@ pub record CarriedOut {I O : Type 0} (left : I → Option (List ℕ)) (in_faults
   -- octets that the source tells, or want of memory
   pub ends : (octets : List ℕ) → left source ≡ Some octets
       → (Rose (in_faults source) (in_faults source') → ⊥) → (Rose (out_faults out) (out_faults out') → ⊥)
-      → (cause ≡ plain_ending command octets) ⊎ (cause ≡ NoMemory)
+      → IsPlainEnding command octets cause ⊎ (cause ≡ NoMemory)
   -- a command that reads no input leaves the source as it was, and goes out whatever the source is: no cause of bad input
   -- comes, so that it ends as done, by a write fault, or for want of memory
   pub unread : ReadsNothing command → source' ≡ source

@@ -3,6 +3,7 @@ use Rattle.std.specs.Prelude.{ℕ, List}
 use Rattle.scenario_generator.specs.Generated.{IsDrawn}
 use Rattle.topology_file.specs.Plan.{Plan}
 use Rattle.world_core.specs.declared.journal.Tick.{Tick}
+use Rattle.world_core.specs.Ticks.{AreCanonicalTicks}
 use Rattle.srp_report.specs.Summary.{summary_text}
 use Rattle.srpnet.specs.RunText.{IsReported, Text}
 
@@ -15,4 +16,4 @@ summary_alone plan ticks world flows = summary_text plan world ticks
 pub record GeneratedOutput (number : ℕ) (ticks : List Tick) (text : List ℕ) : Type 0 where
   pub plan : Plan
   pub drawn : IsDrawn number plan
-  pub reported : IsReported summary_alone plan ticks text
+  pub reported : IsReported AreCanonicalTicks summary_alone plan ticks text

@@ -1,5 +1,8 @@
+pub mod AuditParts
+pub mod AuditText
 pub mod CheckText
 pub mod Commands
+pub mod Differ
 pub mod Document
 pub mod Ending
 pub mod ExplainText
@@ -11,6 +14,7 @@ pub mod LedgerInput
 pub mod LedgerRun
 pub mod LedgerText
 pub mod LedgerWant
+pub mod Made
 pub mod MarginsText
 pub mod Outcomes
 pub mod Pages

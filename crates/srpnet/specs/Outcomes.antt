@@ -8,7 +8,7 @@ use Rattle.srp_io.specs.declared.whole.ReadErr.TheVariants.{Fault as fault, TooL
 use Rattle.toml_rules.specs.declared.rules.RuleErr.{RuleErr}
 use Rattle.toml_rules.specs.declared.rules.RuleErr.TheVariants.{Rule, NoMemory as no_memory}
 use Rattle.srpnet.specs.declared.outcome.Cause.{Cause}
-use Rattle.srpnet.specs.declared.outcome.Cause.TheVariants.{Done, BadWords, ReadFault, TooLong, NotToml, BadScenario, WriteFault, NoMemory}
+use Rattle.srpnet.specs.declared.outcome.Cause.TheVariants.{Done, BadWords, ReadFault, TooLong, NotToml, BadScenario, WriteFault, AuditNo, NoMemory}
 
 -- where in the call a cause comes up
 pub data Place : Type 0 where
@@ -34,6 +34,7 @@ place_of_cause TooLong = reading
 place_of_cause NotToml = judging
 place_of_cause (BadScenario rule entry) = judging
 place_of_cause (WriteFault written) = writing
+place_of_cause (AuditNo line why) = judging
 place_of_cause NoMemory = anywhere
 
 -- the exit status
@@ -45,6 +46,7 @@ status_of TooLong = 4
 status_of NotToml = 5
 status_of (BadScenario rule entry) = 6
 status_of (WriteFault written) = 7
+status_of (AuditNo line why) = 8
 status_of NoMemory = 9
 
 -- the text of a cause that is the same at each time
@@ -56,12 +58,16 @@ fixed_text TooLong = codes "srpnet: input too long\n"
 fixed_text NotToml = codes "srpnet: not TOML\n"
 fixed_text (BadScenario rule entry) = []
 fixed_text (WriteFault written) = codes "srpnet: write fault\n"
+fixed_text (AuditNo line why) = []
 fixed_text NoMemory = codes "srpnet: no memory\n"
 
--- the text of a cause; a broken rule is named by its number and its first failing entry
+-- the text of a cause; a broken rule is named by its number and its first failing entry, and what an audit refuses by its line
+-- and by why
 abbrev pub err_text : Cause → List ℕ
 err_text (BadScenario rule entry) = whole_of (
     codes "srpnet: rule " ∷ decimal rule ∷ codes " entry " ∷ decimal entry ∷ codes "\n" ∷ [])
+err_text (AuditNo line why) = whole_of (
+    codes "srpnet: audit line " ∷ decimal line ∷ codes " why " ∷ decimal why ∷ codes "\n" ∷ [])
 err_text cause = fixed_text cause
 
 -- ---- Facts of causes, by their places
@@ -112,6 +118,11 @@ IsOfWriting anywhere = Unit {0}
 -- the causes with which writing ends
 abbrev pub EndsWriting : Cause → Type 0
 EndsWriting cause = IsOfWriting (place_of_cause cause)
+
+-- an answer ends by a cause that is right, or memory ran out
+abbrev pub EndsBy : {X : Type 0} → (Cause → Type 0) → Result X Cause → Type 0
+EndsBy IsRight (Ok x) = IsRight Done
+EndsBy IsRight (Err cause) = IsRight cause ⊎ (cause ≡ NoMemory)
 
 -- an answer ends so, or memory ran out
 abbrev pub EndsAs : {X : Type 0} → Cause → Result X Cause → Type 0

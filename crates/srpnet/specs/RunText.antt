@@ -1,5 +1,5 @@
--- What `srpnet run`, `srpnet run journal` and `srpnet run bounds` print: the report of a run of the scenario, and behind it what
--- happened, or how long class B waits; and what holds of that run.
+-- What `srpnet run`, `srpnet ports`, both with `journal` behind them, and `srpnet run bounds` print: the report of a run of the
+-- scenario, and behind it what happened, or how long class B waits; and what holds of that run.
 use Rattle.std.specs.Prelude.{◌≡◌, ℕ, List, ◌++◌, All, Ok}
 use Rattle.srp_base.specs.declared.numbers.StreamId.{StreamId}
 use Rattle.srp_base.specs.declared.ports.PortChange.{PortChange}
@@ -13,7 +13,6 @@ use Rattle.world_core.specs.World.{WorldState}
 use Rattle.world_core.specs.Duty.{AreVlanDutiesMet, AreStreamDutiesMet}
 use Rattle.world_core.specs.Limits.{caps_at, IsWithinLimits}
 use Rattle.world_core.specs.Moments.{IsMoment}
-use Rattle.world_core.specs.Ticks.{AreCanonicalTicks}
 use Rattle.world_core.specs.Timeline.{IsTimelineOf}
 use Rattle.network_laws.specs.Vlans.{IsAtRest, VlansMatch}
 use Rattle.network_laws.specs.Streams.{KeepsStreamLaws}
@@ -23,11 +22,12 @@ use Rattle.scenario_bounds.specs.PortBounds.{IsWithinBoundB}
 use Rattle.srpnet.specs.BoundsText.{bound_lines}
 use Rattle.srpnet.specs.ScenarioInput.{scenario_input}
 
--- A run of a scenario with these ticks: they lead from its start to a network in the canonical order; what was in force at
--- each port in each tick; and the flow of the scenario's frames through the shapers by what was in force.
-pub record IsRun (plan : Plan) (ticks : List Tick) (world : WorldState) (changes : List PortChange)
-    (flows : List PortFlow) : Type 0 where
-  pub canonical : AreCanonicalTicks plan ticks world
+-- A run of a scenario with these ticks: they lead from its start to a network, in the canonical order where one thread runs it,
+-- in one of the legal orders where each port has a thread; what was in force at each port in each tick; and the flow of the
+-- scenario's frames through the shapers by what was in force.
+pub record IsRun (Lead : Plan → List Tick → WorldState → Type 0) (plan : Plan) (ticks : List Tick) (world : WorldState)
+    (changes : List PortChange) (flows : List PortFlow) : Type 0 where
+  pub lead : Lead plan ticks world
   pub in_force : IsTimelineOf plan ticks changes
   pub flow : IsFlow (setting_of plan changes) flows
 
@@ -58,11 +58,11 @@ pub record HoldsThroughout (plan : Plan) (ticks : List Tick) (flows : List PortF
 abbrev pub Text : Type 0
 Text = Plan → List Tick → WorldState → List PortFlow → List ℕ
 
--- what `run` prints
+-- what `run` and `ports` print
 abbrev pub report_alone : Text
 report_alone plan ticks world flows = report_text plan world ticks flows
 
--- what `run journal` prints
+-- what `run journal` and `ports journal` print
 abbrev pub report_and_journal : Text
 report_and_journal plan ticks world flows =
     report_text plan world ticks flows ++ journal_text plan ticks
@@ -72,18 +72,20 @@ abbrev pub report_and_bounds : Text
 report_and_bounds plan ticks world flows =
     report_text plan world ticks flows ++ bound_lines plan flows
 
--- a run with these ticks, the text that is printed of just this run, and what holds of it
-pub record IsReported (text_of : Text) (plan : Plan) (ticks : List Tick) (text : List ℕ) : Type 0 where
+-- a run with these ticks, in such an order, the text that is printed of just this run, and what holds of it
+pub record IsReported (Lead : Plan → List Tick → WorldState → Type 0) (text_of : Text) (plan : Plan) (ticks : List Tick)
+    (text : List ℕ) : Type 0 where
   pub world : WorldState
   pub changes : List PortChange
   pub flows : List PortFlow
-  pub run : IsRun plan ticks world changes flows
+  pub run : IsRun Lead plan ticks world changes flows
   pub printed : text ≡ text_of plan ticks world flows
   pub holds : HoldsThroughout plan ticks flows
 
 -- The output of a command that runs a network, for an input of these octets, with the ticks of its run: they are a scenario,
 -- and the text is what is printed of that run of it.
-pub record RunOutput (text_of : Text) (octets : List ℕ) (ticks : List Tick) (text : List ℕ) : Type 0 where
+pub record RunOutput (Lead : Plan → List Tick → WorldState → Type 0) (text_of : Text) (octets : List ℕ) (ticks : List Tick)
+    (text : List ℕ) : Type 0 where
   pub plan : Plan
   pub read : scenario_input octets ≡ Ok plan
-  pub reported : IsReported text_of plan ticks text
+  pub reported : IsReported Lead text_of plan ticks text

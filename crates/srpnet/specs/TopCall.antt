@@ -1,11 +1,11 @@
 -- What the top call does: how a source is read and a text written, and how a command ends.
-use Rattle.std.specs.Prelude.{◌≡◌, ℕ, ◌<◌, ◌≤◌, ◌+◌, nat_le, true, false, not, ◌&&◌, if◌then◌else◌, List, [], length, take, Option}
+use Rattle.std.specs.Prelude.{◌≡◌, ℕ, ◌<◌, ◌≤◌, ◌+◌, nat_le, Bool, true, false, not, ◌&&◌, List, [], length, take, Option}
 use Rattle.std.specs.Io.KnownBytes.{Appends, Consumes, IsAtEnd}
 use Rattle.srpnet.specs.declared.words.Command.{Command}
 use Rattle.srpnet.specs.declared.outcome.Cause.{Cause}
 use Rattle.srpnet.specs.declared.outcome.Cause.TheVariants.{Done, TooLong}
 use Rattle.srpnet.specs.Outcomes.{EndsWriting}
-use Rattle.srpnet.specs.Commands.{reads_input, Output, RunsNothing, ending_of}
+use Rattle.srpnet.specs.Commands.{reads_input, Output, RunsNothing, IsEndingOf}
 use Rattle.world_core.specs.declared.journal.Tick.{Tick}
 
 -- ---- Reading
@@ -30,7 +30,7 @@ pub record Refuses (command : Command) (before after : Option (List ℕ)) (cause
     : Type 0 where
   pub octets : List ℕ
   pub whole : ReadWhole before after octets
-  pub refused : ending_of command octets ≡ cause
+  pub refused : IsEndingOf command octets cause
 
 -- ---- Writing
 
@@ -98,7 +98,15 @@ pub record GainsFront (held now : Option (List ℕ)) (text : List ℕ) : Type 0 
 abbrev pub ReadsNothing : Command → Type 0
 ReadsNothing command = reads_input command ≡ false
 
--- how a command ends where a source tells these octets, nothing fails and memory lasts
-abbrev pub plain_ending : Command → List ℕ → Cause
-plain_ending command octets =
-    if reads_input command && not (nat_le (length octets) most_octets) then TooLong else ending_of command octets
+-- whether an input of these octets is too long for a command
+abbrev pub is_too_long : Command → List ℕ → Bool
+is_too_long command octets = reads_input command && not (nat_le (length octets) most_octets)
+
+-- a command ends so where its input is too long, or isn't
+abbrev pub IsEndingWhere : Bool → Command → List ℕ → Cause → Type 0
+IsEndingWhere true command octets cause = cause ≡ TooLong
+IsEndingWhere false command octets cause = IsEndingOf command octets cause
+
+-- a command ends so where a source tells these octets, nothing fails and memory lasts
+abbrev pub IsPlainEnding : Command → List ℕ → Cause → Type 0
+IsPlainEnding command octets cause = IsEndingWhere (is_too_long command octets) command octets cause

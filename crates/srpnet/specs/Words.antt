@@ -1,12 +1,12 @@
 -- The table of the program's words.
-use Rattle.std.specs.Prelude.{ℕ, ◌^◌, nat_eq, nat_lt, ◌&&◌, List, [], ◌∷◌, codes, if◌then◌else◌, Option, Some, None, option_map}
+use Rattle.std.specs.Prelude.{◌≡◌, ℕ, ◌^◌, nat_eq, nat_lt, ◌&&◌, Bool, true, false, List, [], ◌∷◌, codes, if◌then◌else◌, Option, Some, None, option_map}
 use Rattle.std.specs.Cmp.Lexicographic.{pointwise}
 use Rattle.std.specs.Fmt.{decimal}
 use Rattle.std.specs.Str.Parse.{digits_value}
 use Rattle.mrpdu_codec.specs.declared.form.AppForm.{AppForm}
 use Rattle.mrpdu_codec.specs.declared.form.AppForm.TheVariants.{Mvrp, Msrp, Mmrp}
 use Rattle.srpnet.specs.declared.words.Command.{Command}
-use Rattle.srpnet.specs.declared.words.Command.TheVariants.{Ledger, Check, Explain, ExplainLedger, Run, RunJournal, RunBounds, Margins, Groups, Decode, Generate, Help, Version}
+use Rattle.srpnet.specs.declared.words.Command.TheVariants.{Ledger, Check, Explain, ExplainLedger, Run, RunJournal, RunBounds, Ports, PortsJournal, Margins, Audit, Groups, Decode, Generate, Help, Version}
 
 -- the rows of one word
 abbrev pub command_of_word : List ℕ → Option Command
@@ -15,7 +15,9 @@ command_of_word word =
     else if pointwise nat_eq word (codes "check") then Some Check
     else if pointwise nat_eq word (codes "explain") then Some Explain
     else if pointwise nat_eq word (codes "run") then Some Run
+    else if pointwise nat_eq word (codes "ports") then Some Ports
     else if pointwise nat_eq word (codes "margins") then Some Margins
+    else if pointwise nat_eq word (codes "audit") then Some Audit
     else if pointwise nat_eq word (codes "groups") then Some Groups
     else if pointwise nat_eq word (codes "--help") then Some Help
     else if pointwise nat_eq word (codes "--version") then Some Version
@@ -52,6 +54,8 @@ command_of_pair first second =
     then Some RunJournal
     else if pointwise nat_eq first (codes "run") && pointwise nat_eq second (codes "bounds")
     then Some RunBounds
+    else if pointwise nat_eq first (codes "ports") && pointwise nat_eq second (codes "journal")
+    then Some PortsJournal
     else if pointwise nat_eq first (codes "explain") && pointwise nat_eq second (codes "ledger")
     then Some ExplainLedger
     else if pointwise nat_eq first (codes "decode") then decoding_of_word second
@@ -63,3 +67,35 @@ abbrev pub command_of : List (List ℕ) → Option Command
 command_of (word ∷ []) = command_of_word word
 command_of (first ∷ second ∷ []) = command_of_pair first second
 command_of _ = None
+
+-- whether a command starts threads, a thread for each port that has something to do
+abbrev pub starts_threads : Command → Bool
+starts_threads Ledger = false
+starts_threads Check = false
+starts_threads Explain = false
+starts_threads ExplainLedger = false
+starts_threads Run = false
+starts_threads RunJournal = false
+starts_threads RunBounds = false
+starts_threads Ports = true
+starts_threads PortsJournal = true
+starts_threads Margins = false
+starts_threads Audit = false
+starts_threads Groups = false
+starts_threads (Decode form) = false
+starts_threads (Generate number) = false
+starts_threads Help = false
+starts_threads Version = false
+
+-- a command that starts no thread
+abbrev pub IsPlain : Command → Type 0
+IsPlain command = starts_threads command ≡ false
+
+-- what is left of a command for whoever has one thread alone
+abbrev pub plain_of : Option Command → Option Command
+plain_of None = None
+plain_of (Some command) = if starts_threads command then None else Some command
+
+-- the command of some words on one thread: the words of a command that starts threads match no row
+abbrev pub plain_command_of : List (List ℕ) → Option Command
+plain_command_of words = plain_of (command_of words)

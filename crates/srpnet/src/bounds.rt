@@ -3,6 +3,7 @@
 pub mod text;
 
 ghost use Rattle.std.specs.Prelude.{◌≡◌, IfOk, IfErr};
+ghost use Rattle.world_core.specs.Ticks.{AreCanonicalTicks};
 ghost use Rattle.srpnet.specs.Input.{ending};
 ghost use Rattle.srpnet.specs.Outcomes.{EndsAs};
 ghost use Rattle.srpnet.specs.RunText.{RunOutput, IsReported, report_and_bounds};
@@ -19,7 +20,7 @@ use topology_file::Scenario;
 /// What `run bounds` prints with its journal, or why there is none.
 pub fn output(alloc: Global, octets: &[u8]) -> Result<CommandOutput, Cause>
     ensures output { IfOk result
-        (λ o. RunOutput report_and_bounds octets.now o.journal.ticks o.text) }
+        (λ o. RunOutput AreCanonicalTicks report_and_bounds octets.now o.journal.ticks o.text) }
     ensures ends { EndsAs (ending (scenario_input_spec octets.now)) result }
     ensures not_done { IfErr result (λ c. c ≡ Cause.Done → ⊥) }
 {
@@ -30,7 +31,7 @@ pub fn output(alloc: Global, octets: &[u8]) -> Result<CommandOutput, Cause>
 // The report, and behind it class B's bounds.
 fn bounded(alloc: Global, scenario: &Scenario) -> Result<CommandOutput, Cause>
     ensures output { IfOk result
-        (λ o. IsReported report_and_bounds scenario.now o.journal.ticks o.text) }
+        (λ o. IsReported AreCanonicalTicks report_and_bounds scenario.now o.journal.ticks o.text) }
     ensures memory { IfErr result (λ c. c ≡ Cause.NoMemory) }
 {
     let ran = run_of(alloc, scenario)?;

@@ -1,17 +1,22 @@
 //! The commands: which of them read an input, and what each makes of its octets.
 
-ghost use Rattle.std.specs.Prelude.{◌≡◌, ◌≤◌, [], length, IfOk, IfErr};
-ghost use Rattle.srpnet.specs.Commands.{reads_input as reads_input_spec, ending_of, Output, RunsNothing};
-ghost use Rattle.srpnet.specs.Outcomes.{EndsAs};
+ghost use Rattle.std.specs.Prelude.{◌≡◌, ◌≤◌, true, [], length, IfOk, IfErr};
+ghost use Rattle.srpnet.specs.Commands.{reads_input as reads_input_spec, IsEndingOf, Output, RunsNothing};
+ghost use Rattle.srpnet.specs.Outcomes.{EndsBy};
 ghost use Rattle.srpnet.specs.TopCall.{most_octets};
+ghost use Rattle.srpnet.specs.Words.{IsPlain, starts_threads};
 
 use crate::outcome::{Cause, no_journal};
 use crate::pages::{HELP, VERSION};
 use crate::words::Command;
-use crate::{bounds, check, decode, explain, generator, groups, ledger, margins, pages, run};
+use crate::{
+    audit, bounds, check, decode, explain, generator, groups, ledger, margins, pages, ports, run,
+};
 use srp_base::Seq;
 use srp_report::Printout;
 use std::alloc::Global;
+use std::sync::Wait;
+use std::thread::Threads;
 use world_core::Journal;
 
 /// What a command makes: the text that it prints, which is made piece by piece, and the journal of the run that it made,
@@ -45,19 +50,24 @@ pub fn reads_input(command: Command) -> bool
         | Command::Run
         | Command::RunJournal
         | Command::RunBounds
+        | Command::Ports
+        | Command::PortsJournal
         | Command::Margins
+        | Command::Audit
         | Command::Groups
         | Command::Decode(_) => true,
         Command::Generate(_) | Command::Help | Command::Version => false,
     }
 }
 
-/// What a command prints for the octets of its input, with the journal of its run, or why there is nothing to print.
+/// What a command that starts no thread prints for the octets of its input, with the journal of its run, or why there is
+/// nothing to print.
 pub fn output(alloc: Global, command: Command, octets: &[u8]) -> Result<CommandOutput, Cause>
-    requires { length octets.now ≤ most_octets }
+    requires few { length octets.now ≤ most_octets }
+    requires plain { IsPlain command }
     ensures output { IfOk result (λ o. Output command octets.now o.journal.ticks o.text) }
     ensures no_journal { RunsNothing command → IfOk result (λ o. o.journal.ticks ≡ []) }
-    ensures ends { EndsAs (ending_of command octets.now) result }
+    ensures ends { EndsBy (IsEndingOf command octets.now) result }
     ensures not_done { IfErr result (λ c. c ≡ Cause.Done → ⊥) }
 {
     match command {
@@ -68,11 +78,34 @@ pub fn output(alloc: Global, command: Command, octets: &[u8]) -> Result<CommandO
         Command::Run => run::output(alloc, octets),
         Command::RunJournal => run::output_with_journal(alloc, octets),
         Command::RunBounds => bounds::output(alloc, octets),
+        Command::Ports | Command::PortsJournal => unreachable!(),
         Command::Margins => margins::output(alloc, octets),
+        Command::Audit => Ok(text_alone(alloc, audit::output(alloc, octets)?)),
         Command::Groups => Ok(text_alone(alloc, groups::output(alloc, octets)?)),
         Command::Decode(form) => Ok(text_alone(alloc, decode::output(alloc, form, octets)?)),
         Command::Generate(number) => generator::output(alloc, number),
         Command::Help => Ok(text_alone(alloc, pages::output(alloc, HELP)?)),
         Command::Version => Ok(text_alone(alloc, pages::output(alloc, VERSION)?)),
+    }
+}
+
+/// What a command that starts threads prints for the octets of its input, with the journal of its run, or why there is nothing
+/// to print.
+pub fn output_by_threads<R: Threads + Wait + Sync>(
+    rt: &R,
+    alloc: Global,
+    command: Command,
+    octets: &[u8],
+) -> Result<CommandOutput, Cause>
+    requires { starts_threads command ≡ true }
+    ensures output { IfOk result (λ o. Output command octets.now o.journal.ticks o.text) }
+    ensures no_journal { RunsNothing command → IfOk result (λ o. o.journal.ticks ≡ []) }
+    ensures ends { EndsBy (IsEndingOf command octets.now) result }
+    ensures not_done { IfErr result (λ c. c ≡ Cause.Done → ⊥) }
+{
+    match command {
+        Command::Ports => ports::output(rt, alloc, octets),
+        Command::PortsJournal => ports::output_with_journal(rt, alloc, octets),
+        _ => unreachable!(),
     }
 }

@@ -1,6 +1,7 @@
 //! The command `gen`: the scenario of a number, through its run, to the summary of that run.
 
 ghost use Rattle.std.specs.Prelude.{◌≡◌, IfOk, IfErr};
+ghost use Rattle.world_core.specs.Ticks.{AreCanonicalTicks};
 ghost use Rattle.srpnet.specs.GeneratedText.{GeneratedOutput, summary_alone};
 ghost use Rattle.srpnet.specs.Outcomes.{EndsAs};
 ghost use Rattle.srpnet.specs.RunText.{IsReported};
@@ -26,7 +27,7 @@ pub fn output(alloc: Global, number: u32) -> Result<CommandOutput, Cause>
 // The summary of a scenario's run.
 fn summed_up(alloc: Global, scenario: &Scenario) -> Result<CommandOutput, Cause>
     ensures output { IfOk result
-        (λ o. IsReported summary_alone scenario.now o.journal.ticks o.text) }
+        (λ o. IsReported AreCanonicalTicks summary_alone scenario.now o.journal.ticks o.text) }
     ensures memory { IfErr result (λ c. c ≡ Cause.NoMemory) }
 {
     let ran = run_of(alloc, scenario)?;

@@ -8,8 +8,10 @@
 //! |- check   what a scenario holds, by its counts: text
 //! |- explain why a file is refused, in words
 //! |- run     a network and its frames through the ticks of a scenario, with its journal or without: text
-//! |- bounds  the same, with how long class B waits at each port: limits, text
+//! |- ports   the same with a thread for each port that has something to do
+//! |- bounds  the same as run, with how long class B waits at each port: limits, text
 //! |- margins what each port has left at the end of a run
+//! |- audit   whether a journal and a report are those of a legal run: parts, where two texts differ
 //! |- groups  a network that runs MMRP through the ticks of a group scenario: input, text
 //! |- decode  what captured PDUs say
 //! |- generator  the scenario of a number, its run in short
@@ -28,6 +30,7 @@
 //! `err_text` of `specs/Outcomes.antt`, and in `status_of` and `tell` of `outcome`.
 #![tactic(auto)]
 
+mod audit;
 mod bounds;
 mod check;
 mod commands;
@@ -40,6 +43,7 @@ mod ledger;
 mod margins;
 mod outcome;
 mod pages;
+mod ports;
 mod run;
 mod scenario;
 mod top;

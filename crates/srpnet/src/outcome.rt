@@ -3,7 +3,7 @@
 ghost use Rattle.std.specs.Prelude.{◌≡◌, [], take, IfOk, string_bytes};
 ghost use Rattle.std.specs.Io.KnownBytes.{Appends};
 ghost use Rattle.srpnet.specs.Outcomes.{status_of as status_of_spec, err_text as err_text_spec, fixed_text as fixed_text_spec, cause_of_rules, cause_of_reading};
-ghost use Rattle.srpnet.specs.declared.outcome.Cause.TheVariants.{BadScenario, NoMemory as no_memory};
+ghost use Rattle.srpnet.specs.declared.outcome.Cause.TheVariants.{BadScenario, AuditNo, NoMemory as no_memory};
 
 use srp_base::{NoMemory, Seq};
 use srp_io::{ReadErr, Sink, WriteErr, write_whole};
@@ -30,6 +30,10 @@ pub enum Cause {
     /// The out sink counted a fault; exactly the first `written` octets of the output went out.
     /// Status 7.
     WriteFault { written: u64 },
+    /// The answer of an audit is no: at this line of the output, counted from 1, or 0 where a line is missing that parts the
+    /// input (`why` 1); 2: the line isn't of the form of a journal; 3: no legal journal agrees with it; 4: the report differs.
+    /// Status 8.
+    AuditNo { line: u64, why: u8 },
     /// Want of memory. Status 9.
     NoMemory,
 }
@@ -124,6 +128,7 @@ pub fn status_of(cause: Cause) -> u8
         Cause::NotToml => 5,
         Cause::BadScenario { .. } => 6,
         Cause::WriteFault { .. } => 7,
+        Cause::AuditNo { .. } => 8,
         Cause::NoMemory => 9,
     }
 }
@@ -140,6 +145,7 @@ fn fixed_text(cause: Cause) -> &'static str
         Cause::NotToml => "srpnet: not TOML\n",
         Cause::BadScenario { .. } => "",
         Cause::WriteFault { .. } => "srpnet: write fault\n",
+        Cause::AuditNo { .. } => "",
         Cause::NoMemory => "srpnet: no memory\n",
     }
 }
@@ -149,6 +155,13 @@ fn rule_text(alloc: Global, rule: u8, entry: u32) -> Result<String, AllocError>
     ensures { IfOk result (λ s. string_bytes s ≡ err_text_spec (BadScenario rule entry)) }
 {
     format!(in alloc; "srpnet: rule {rule} entry {entry}\n")
+}
+
+/// The text that names a line of what is audited, and why the answer is no.
+fn audit_text(alloc: Global, line: u64, why: u8) -> Result<String, AllocError>
+    ensures { IfOk result (λ s. string_bytes s ≡ err_text_spec (AuditNo line why)) }
+{
+    format!(in alloc; "srpnet: audit line {line} why {why}\n")
 }
 
 /// Writes what it can of a text, and says how many octets went out.
@@ -168,6 +181,10 @@ pub fn tell<E: Sink>(alloc: Global, err: &mut E, cause: Cause) -> usize
 {
     match cause {
         Cause::BadScenario { rule, entry } => match rule_text(alloc, rule, entry) {
+            Ok(text) => put(err, text.as_bytes()),
+            Err(_) => 0,
+        },
+        Cause::AuditNo { line, why } => match audit_text(alloc, line, why) {
             Ok(text) => put(err, text.as_bytes()),
             Err(_) => 0,
         },

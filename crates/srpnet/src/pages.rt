@@ -27,12 +27,21 @@ srpnet: the Stream Reservation Protocol (IEEE Std 802.1Q-2018) over a file
                     the stations hear, and what became of the frames
   srpnet run journal
                     prints the same, and then what happened, step by step
+  srpnet ports
+  srpnet ports journal
+                    do what run and run journal do, with a thread for each
+                    port that has something to do; the ports of a node step
+                    it in any order, so reports may differ
   srpnet run bounds
                     prints the report, and then how long class B waits at each
                     port: at most, and at worst in this run
   srpnet margins    reads and runs a scenario file too, and prints what is left
                     at each port, by how much each refused stream misses, and
                     the shapers of the classes as tc-cbs(8) takes them
+  srpnet audit      reads a scenario file on standard input, a line that is
+                    === output, and what run journal or ports journal printed
+                    of it, and says whether a legal run prints just that; else
+                    the line where it doesn't, and why, on standard error
   srpnet groups     reads a file of groups on standard input, a network whose
                     stations join and part from groups by their addresses,
                     runs MMRP through its ticks, and prints which groups are

@@ -4,12 +4,15 @@
 pub mod text;
 
 ghost use Rattle.std.specs.Prelude.{◌≡◌, List, IfOk, IfErr};
+ghost use Rattle.frame_flow.specs.Flow.{IsFlow};
+ghost use Rattle.scenario_frames.specs.Setting.{setting_of};
 ghost use Rattle.topology_file.specs.Plan.{Plan};
 ghost use Rattle.topology_file.specs.Scenario.{KeepsRules};
 ghost use Rattle.world_core.specs.declared.journal.Tick.{Tick};
 ghost use Rattle.world_core.specs.World.{WorldState};
 ghost use Rattle.world_core.specs.Moments.{IsMoment};
-ghost use Rattle.world_core.specs.Ticks.{AreLegalTicks};
+ghost use Rattle.world_core.specs.Ticks.{AreCanonicalTicks, AreLegalTicks};
+ghost use Rattle.world_core.specs.Timeline.{IsTimelineOf};
 ghost use Rattle.srpnet.specs.Input.{ending};
 ghost use Rattle.srpnet.specs.Outcomes.{EndsAs};
 ghost use Rattle.srpnet.specs.RunText.{RunOutput, IsReported, IsRun, HoldsAt, HoldsThroughout, report_alone, report_and_journal};
@@ -39,7 +42,7 @@ use world_core::timeline_laws::slopes_stay_within_limits;
 /// What `run` prints with its journal, or why there is none.
 pub fn output(alloc: Global, octets: &[u8]) -> Result<CommandOutput, Cause>
     ensures output { IfOk result
-        (λ o. RunOutput report_alone octets.now o.journal.ticks o.text) }
+        (λ o. RunOutput AreCanonicalTicks report_alone octets.now o.journal.ticks o.text) }
     ensures ends { EndsAs (ending (scenario_input_spec octets.now)) result }
     ensures not_done { IfErr result (λ c. c ≡ Cause.Done → ⊥) }
 {
@@ -50,7 +53,7 @@ pub fn output(alloc: Global, octets: &[u8]) -> Result<CommandOutput, Cause>
 /// What `run journal` prints with its journal, or why there is none.
 pub fn output_with_journal(alloc: Global, octets: &[u8]) -> Result<CommandOutput, Cause>
     ensures output { IfOk result
-        (λ o. RunOutput report_and_journal octets.now o.journal.ticks o.text) }
+        (λ o. RunOutput AreCanonicalTicks report_and_journal octets.now o.journal.ticks o.text) }
     ensures ends { EndsAs (ending (scenario_input_spec octets.now)) result }
     ensures not_done { IfErr result (λ c. c ≡ Cause.Done → ⊥) }
 {
@@ -65,20 +68,33 @@ pub struct RunWithFlow {
     pub flow: FlowResult,
 }
 
-/// Runs a scenario, and its frames through the shapers by what was in force.
+/// Runs a scenario on one thread, and its frames through the shapers by what was in force.
 pub fn run_of(alloc: Global, scenario: &Scenario) -> Result<RunWithFlow, NoMemory>
-    ensures run { IfOk result (λ r. IsRun scenario.now r.run.journal.ticks r.run.world
-        r.run.timeline.changes r.flow.ports) }
+    ensures run { IfOk result (λ r. IsRun AreCanonicalTicks scenario.now r.run.journal.ticks
+        r.run.world r.run.timeline.changes r.flow.ports) }
     ensures holds { IfOk result
         (λ r. HoldsThroughout scenario.now r.run.journal.ticks r.flow.ports) }
 {
     canonical_ticks_are_legal();
+    let run = plain_run(alloc, scenario)?;
+    with_flow(alloc, scenario, run)
+}
+
+/// A scenario's run with the flow of its frames through the shapers by what was in force in it; and what holds of every run.
+pub fn with_flow(alloc: Global, scenario: &Scenario, run: Run) -> Result<RunWithFlow, NoMemory>
+    requires legal { AreLegalTicks scenario.now run.journal.ticks run.world }
+    requires timeline { IsTimelineOf scenario.now run.journal.ticks run.timeline.changes }
+    ensures run { IfOk result (λ r. r.run ≡ run) }
+    ensures flow { IfOk result
+        (λ r. IsFlow (setting_of scenario.now run.timeline.changes) r.flow.ports) }
+    ensures holds { IfOk result
+        (λ r. HoldsThroughout scenario.now run.journal.ticks r.flow.ports) }
+{
     slopes_stay_within_limits();
     what_holds_of_every_run();
     every_window_stays_within();
     class_b_stays_within_at_every_port();
     scenario.keeps_rules();
-    let run = plain_run(alloc, scenario)?;
     let flow = flow_of(alloc, scenario, &run.timeline)?;
     Ok(RunWithFlow { run, flow })
 }
@@ -110,7 +126,7 @@ pub fn output_of(run: Run, text: Printout) -> CommandOutput
 // The report of a scenario's run.
 fn reported(alloc: Global, scenario: &Scenario) -> Result<CommandOutput, Cause>
     ensures output { IfOk result
-        (λ o. IsReported report_alone scenario.now o.journal.ticks o.text) }
+        (λ o. IsReported AreCanonicalTicks report_alone scenario.now o.journal.ticks o.text) }
     ensures memory { IfErr result (λ c. c ≡ Cause.NoMemory) }
 {
     let ran = run_of(alloc, scenario)?;
@@ -122,7 +138,7 @@ fn reported(alloc: Global, scenario: &Scenario) -> Result<CommandOutput, Cause>
 // The report, and behind it the journal's text.
 fn reported_with_journal(alloc: Global, scenario: &Scenario) -> Result<CommandOutput, Cause>
     ensures output { IfOk result
-        (λ o. IsReported report_and_journal scenario.now o.journal.ticks o.text) }
+        (λ o. IsReported AreCanonicalTicks report_and_journal scenario.now o.journal.ticks o.text) }
     ensures memory { IfErr result (λ c. c ≡ Cause.NoMemory) }
 {
     let ran = run_of(alloc, scenario)?;

@@ -1,57 +1,56 @@
 //! The top call: from the program's words and streams to its outcome.
 
-ghost use Rattle.std.specs.Prelude.{◌≡◌, ℕ, ◌<◌, ◌+◌, List, length, take, Some, Err, IfOk, IfErr, OnOk};
+ghost use Rattle.std.specs.Prelude.{◌≡◌, ℕ, ◌<◌, ◌+◌, true, List, length, take, Some, Err, IfOk, IfErr, IfSome, OnOk};
 ghost use Rattle.std.specs.Io.KnownBytes.{Appends};
 ghost use Rattle.srp_io.specs.Faults.{Rose};
 ghost use Rattle.srp_io.specs.Whole.{TookAtMost, TookPast};
 ghost use Rattle.srpnet.specs.Outcomes.{status_of as status_of_spec, err_text, EndsAs, EndsWriting, IsRefusedInput, IsWriteFault, LacksOutput};
 ghost use Rattle.srpnet.specs.Ending.{CarriedOut, IsEnding};
-ghost use Rattle.srpnet.specs.TopCall.{plain_ending, IsOutput, Gave, Refuses, ReadsNothing, PartOf, StoppedIn, StopsWriting, GainsFront};
-ghost use Rattle.srpnet.specs.Words.{command_of as command_of_spec};
+ghost use Rattle.srpnet.specs.Made.{IsMade, IsLetOut, IsPrinted};
+ghost use Rattle.srpnet.specs.TopCall.{PartOf, StoppedIn, StopsWriting, GainsFront};
+ghost use Rattle.srpnet.specs.Words.{command_of as command_of_spec, plain_command_of as plain_command_of_spec, starts_threads, IsPlain};
 
-use crate::commands::{CommandOutput, output, reads_input};
+use crate::commands::{CommandOutput, output, output_by_threads, reads_input};
 use crate::outcome::{Cause, Ending, Outcome, status_of, tell};
-use crate::words::{Command, command_of};
+use crate::words::{Command, plain_command_of, threads_command_of};
 use srp_base::Seq;
 use srp_io::{Sink, Source, WriteErr, read_all, write_whole};
 use srp_report::Printout;
 use std::alloc::Global;
+use std::sync::Wait;
+use std::thread::Threads;
 
 /// The most octets of an input.
 const MOST_OCTETS: usize = 1_048_576;
 
-/// Reads the input of a command to its end, where it reads one, and makes the command's output.
+/// Reads the input of a command that starts no thread to its end, where it reads one, and makes the command's output.
 fn read_output<I: Source>(
     alloc: Global,
     command: Command,
     source: &mut I,
 ) -> Result<CommandOutput, Cause>
-    ensures output { IfOk result
-        (λ o. IsOutput command (I.left source.old) (I.left source.new) o.journal.ticks o.text) }
-    ensures only { IfErr result LacksOutput }
-    ensures given { Gave (I.left source.old) (I.left source.new) }
-
-    ensures read_fault { result ≡ Err Cause.ReadFault
-        → Rose (I.faults source.old) (I.faults source.new) }
-    ensures in_time { result ≡ Err Cause.ReadFault
-        → TookAtMost MOST_OCTETS (I.left source.old) (I.left source.new) }
-    ensures counts { (result ≡ Err Cause.ReadFault → ⊥)
-        → I.faults source.new ≡ I.faults source.old }
-    ensures too_long { result ≡ Err Cause.TooLong
-        → TookPast MOST_OCTETS (I.left source.old) (I.left source.new) }
-    ensures refused { IfErr result (λ c. IsRefusedInput c
-        → Refuses command (I.left source.old) (I.left source.new) c) }
-    ensures ends { (octets : List ℕ) → I.left source.old ≡ Some octets
-        → (Rose (I.faults source.old) (I.faults source.new) → ⊥)
-        → EndsAs (plain_ending command octets) result }
-    ensures unread { ReadsNothing command → source.new ≡ source.old }
-    ensures unread_ends { ReadsNothing command → EndsAs Cause.Done result }
+    requires { IsPlain command }
+    ensures { IsMade I.left I.faults command source.old source.new result }
 {
     if !reads_input(command) {
         return output(alloc, command, b"".as_slice());
     }
     let octets = read_all(alloc, source, MOST_OCTETS)?;
     output(alloc, command, octets.as_slice())
+}
+
+/// Reads the input of a command that starts threads to its end, and makes the command's output.
+fn read_output_by_threads<R: Threads + Wait + Sync, I: Source>(
+    rt: &R,
+    alloc: Global,
+    command: Command,
+    source: &mut I,
+) -> Result<CommandOutput, Cause>
+    requires { starts_threads command ≡ true }
+    ensures { IsMade I.left I.faults command source.old source.new result }
+{
+    let whole = read_all(alloc, source, MOST_OCTETS)?;
+    output_by_threads(rt, alloc, command, whole.as_slice())
 }
 
 /// Writes a text to the out sink, piece by piece.
@@ -109,18 +108,12 @@ fn print_piece<O: Sink>(out: &mut O, written: u64, piece: &[u8]) -> Result<u64, 
     }
 }
 
-/// Does what a command asks for.
-fn carry_out<I: Source, O: Sink>(
-    alloc: Global,
-    command: Command,
-    source: &mut I,
-    out: &mut O,
-) -> Ending
-    ensures { CarriedOut I.left I.faults O.held O.faults command source.old source.new out.old
-        out.new
-        result.cause result.journal.ticks }
+/// Lets the output of a command go out, or ends as it was made.
+fn let_out<O: Sink>(alloc: Global, made: Result<CommandOutput, Cause>, out: &mut O) -> Ending
+    ensures { IsLetOut O.held O.faults out.old out.new made result.cause
+        result.journal.ticks }
 {
-    match read_output(alloc, command, source) {
+    match made {
         Ok(made) => Ending {
             cause: print(out, made.text),
             journal: made.journal,
@@ -129,13 +122,47 @@ fn carry_out<I: Source, O: Sink>(
     }
 }
 
-/// Carries out the command that was found in the table of words, if any.
+/// Does what a command asks for that starts no thread.
+fn carry_out<I: Source, O: Sink>(
+    alloc: Global,
+    command: Command,
+    source: &mut I,
+    out: &mut O,
+) -> Ending
+    requires { IsPlain command }
+    ensures { CarriedOut I.left I.faults O.held O.faults command source.old source.new out.old
+        out.new
+        result.cause result.journal.ticks }
+{
+    let made = read_output(alloc, command, source);
+    let_out(alloc, made, out)
+}
+
+/// Does what a command asks for that starts threads.
+fn carry_out_by_threads<R: Threads + Wait + Sync, I: Source, O: Sink>(
+    rt: &R,
+    alloc: Global,
+    command: Command,
+    source: &mut I,
+    out: &mut O,
+) -> Ending
+    requires { starts_threads command ≡ true }
+    ensures { CarriedOut I.left I.faults O.held O.faults command source.old source.new out.old
+        out.new
+        result.cause result.journal.ticks }
+{
+    let made = read_output_by_threads(rt, alloc, command, source);
+    let_out(alloc, made, out)
+}
+
+/// Carries out the command that was found in the table of words of one thread, if any.
 fn end_of<I: Source, O: Sink>(
     alloc: Global,
     found: Option<Command>,
     source: &mut I,
     out: &mut O,
 ) -> Ending
+    requires { IfSome found IsPlain }
     ensures { IsEnding I.left I.faults O.held O.faults found source.old source.new out.old out.new
         result.cause result.journal.ticks }
 {
@@ -145,22 +172,13 @@ fn end_of<I: Source, O: Sink>(
     }
 }
 
-/// Does what the words ask for, on one thread, and returns for every source and sink. Want of memory may
-/// come at any place after the words; the order of the other refusals is bad words, reading, TOML, the
-/// file's rules, writing. Faults and want of memory of the err sink change nothing.
-pub fn srp_plain<I: Source, O: Sink, E: Sink>(
-    alloc: Global,
-    words: &Seq<Seq<u8>>,
-    source: &mut I,
-    out: &mut O,
-    err: &mut E,
-) -> Outcome
+/// The outcome of an ending, which is told to the err sink.
+fn outcome_of<E: Sink>(alloc: Global, ended: Ending, err: &mut E) -> Outcome
     ensures status { result.status ≡ status_of_spec result.cause }
-    ensures ending { IsEnding I.left I.faults O.held O.faults (command_of_spec words.now)
-        source.old source.new out.old out.new result.cause result.journal.ticks }
+    ensures cause { result.cause ≡ ended.cause }
+    ensures journal { result.journal ≡ ended.journal }
     ensures told { GainsFront (E.held err.old) (E.held err.new) (err_text result.cause) }
 {
-    let ended = end_of(alloc, command_of(words), source, out);
     tell(alloc, err, ended.cause);
     Outcome {
         status: status_of(ended.cause),
@@ -169,8 +187,28 @@ pub fn srp_plain<I: Source, O: Sink, E: Sink>(
     }
 }
 
-/// The call of the program's main, with the runtime that it was given.
-pub fn srp_main<R: AllocGlobal, I: Source, O: Sink, E: Sink>(
+/// Does what the words ask for, on one thread, and returns for every source and sink: the words of the commands that start
+/// threads match no row of its table. Want of memory may come at any place after the words; the order of the other refusals is
+/// bad words, reading, TOML, the file's rules, writing. Faults and want of memory of the err sink change nothing.
+pub fn srp_plain<I: Source, O: Sink, E: Sink>(
+    alloc: Global,
+    words: &Seq<Seq<u8>>,
+    source: &mut I,
+    out: &mut O,
+    err: &mut E,
+) -> Outcome
+    ensures status { result.status ≡ status_of_spec result.cause }
+    ensures ending { IsEnding I.left I.faults O.held O.faults (plain_command_of_spec words.now)
+        source.old source.new out.old out.new result.cause result.journal.ticks }
+    ensures told { GainsFront (E.held err.old) (E.held err.new) (err_text result.cause) }
+{
+    let ended = end_of(alloc, plain_command_of(words), source, out);
+    outcome_of(alloc, ended, err)
+}
+
+/// The call of the program's main, with the runtime that it was given: it does the commands that start threads, which may wait
+/// and meet the same clauses if they return, and hands all other words to `srp_plain`.
+pub fn srp_main<R: AllocGlobal + Threads + Wait + Sync, I: Source, O: Sink, E: Sink>(
     rt: &R,
     words: &Seq<Seq<u8>>,
     source: &mut I,
@@ -182,5 +220,9 @@ pub fn srp_main<R: AllocGlobal, I: Source, O: Sink, E: Sink>(
         source.old source.new out.old out.new result.cause result.journal.ticks }
     ensures told { GainsFront (E.held err.old) (E.held err.new) (err_text result.cause) }
 {
-    srp_plain(rt.alloc(), words, source, out, err)
+    let Some(command) = threads_command_of(words) else {
+        return srp_plain(rt.alloc(), words, source, out, err);
+    };
+    let ended = carry_out_by_threads(rt, rt.alloc(), command, source, out);
+    outcome_of(rt.alloc(), ended, err)
 }

@@ -1,7 +1,7 @@
 //! The words of the command line.
 
-ghost use Rattle.std.specs.Prelude.{◌≡◌};
-ghost use Rattle.srpnet.specs.Words.{command_of as command_of_spec, command_of_pair, command_of_word, form_of_word, decoding_of_word, generation_of_word, number_of_word as number_of_word_spec};
+ghost use Rattle.std.specs.Prelude.{◌≡◌, true, Some, None, IfSome};
+ghost use Rattle.srpnet.specs.Words.{command_of as command_of_spec, plain_command_of as plain_command_of_spec, plain_of, starts_threads as starts_threads_spec, IsPlain, command_of_pair, command_of_word, form_of_word, decoding_of_word, generation_of_word, number_of_word as number_of_word_spec};
 
 use itoa::Buffer;
 use mrpdu_codec::AppForm;
@@ -25,8 +25,14 @@ pub enum Command {
     RunJournal,
     /// `run bounds`: does the same, and prints how long class B waits at each port behind the report.
     RunBounds,
+    /// `ports`: does what `run` does, with a thread for each port that has something to do.
+    Ports,
+    /// `ports journal`: does the same, and prints what happened behind the report.
+    PortsJournal,
     /// `margins`: reads a scenario, runs it, and prints what each port has left at its end.
     Margins,
+    /// `audit`: reads a scenario and what was printed of a run of it with its journal, and prints that they are right.
+    Audit,
     /// `groups`: reads a group scenario, runs MMRP through its ticks and prints which groups are registered where.
     Groups,
     /// `decode mvrp`, `decode msrp` or `decode mmrp`: reads a capture of PDUs of that application and prints what each says.
@@ -50,6 +56,48 @@ pub fn command_of(words: &Seq<Seq<u8>>) -> Option<Command>
     }
 }
 
+/// Whether a command starts threads.
+pub fn starts_threads(command: Command) -> bool
+    ensures { result ≡ starts_threads_spec command }
+{
+    matches!(command, Command::Ports | Command::PortsJournal)
+}
+
+/// The command of the words on one thread; None exactly where they match no row but one that starts threads. It takes no memory.
+pub fn plain_command_of(words: &Seq<Seq<u8>>) -> Option<Command>
+    ensures found { result ≡ plain_command_of_spec words.now }
+    ensures plain { IfSome result IsPlain }
+{
+    plain_of(command_of(words))
+}
+
+/// The command of the words that starts threads; None exactly where they match no row of such a one. It takes no memory.
+pub fn threads_command_of(words: &Seq<Seq<u8>>) -> Option<Command>
+    ensures found { IfSome result (λ c. command_of_spec words.now ≡ Some c) }
+    ensures threads { IfSome result (λ c. starts_threads_spec c ≡ true) }
+    ensures none { result ≡ None → plain_command_of_spec words.now ≡ command_of_spec words.now }
+{
+    let command = command_of(words)?;
+    if starts_threads(command) {
+        Some(command)
+    } else {
+        None
+    }
+}
+
+// What is left of a command for whoever has one thread alone.
+fn plain_of(found: Option<Command>) -> Option<Command>
+    ensures found { result ≡ plain_of found }
+    ensures plain { IfSome result IsPlain }
+{
+    let command = found?;
+    if starts_threads(command) {
+        None
+    } else {
+        Some(command)
+    }
+}
+
 fn command_of_word(word: &[u8]) -> Option<Command>
     ensures { result ≡ command_of_word word.now }
 {
@@ -61,8 +109,12 @@ fn command_of_word(word: &[u8]) -> Option<Command>
         Some(Command::Explain)
     } else if word == b"run".as_slice() {
         Some(Command::Run)
+    } else if word == b"ports".as_slice() {
+        Some(Command::Ports)
     } else if word == b"margins".as_slice() {
         Some(Command::Margins)
+    } else if word == b"audit".as_slice() {
+        Some(Command::Audit)
     } else if word == b"groups".as_slice() {
         Some(Command::Groups)
     } else if word == b"--help".as_slice() {
@@ -81,6 +133,8 @@ fn command_of_pair(first: &[u8], second: &[u8]) -> Option<Command>
         Some(Command::RunJournal)
     } else if first == b"run".as_slice() && second == b"bounds".as_slice() {
         Some(Command::RunBounds)
+    } else if first == b"ports".as_slice() && second == b"journal".as_slice() {
+        Some(Command::PortsJournal)
     } else if first == b"explain".as_slice() && second == b"ledger".as_slice() {
         Some(Command::ExplainLedger)
     } else if first == b"decode".as_slice() {

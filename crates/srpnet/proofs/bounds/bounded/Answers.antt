@@ -1,5 +1,7 @@
-use Rattle.std.proofs.Common.{sym, subst, ◌∙◌}
-use Rattle.srpnet.specs.RunText.{IsReported, report_and_bounds}
+use Rattle.std.proofs.Common.{◌∙◌}
+use Rattle.world_core.specs.Ticks.{AreCanonicalTicks}
+use Rattle.srpnet.specs.RunText.{report_and_bounds}
+use Rattle.srpnet.proofs.Reported.{reported_as}
 use Rattle.srpnet.proofs.bounds.bounded.Goals as goal
 
 pub run_bounds_text-requires : goal.run_bounds_text-requires
@@ -7,13 +9,8 @@ run_bounds_text-requires c = c.in_ok-ran.ensures.holds.class_b
 
 pub returns-clause-output : goal.returns-clause-output
 returns-clause-output c =
+    let ran = c.in_ok-ran.ran in
     let made = c.output_of.result in
-    subst (λ ticks. IsReported report_and_bounds c.args.scenario.now ticks made.text) (sym c.output_of.ensures.journal)
-    (record {
-      world = c.in_ok-ran.ran.run.world;
-      changes = c.in_ok-ran.ran.run.timeline.changes;
-      flows = c.in_ok-ran.ran.flow.ports;
-      run = c.in_ok-ran.ensures.run;
-      printed = c.output_of.ensures.text ∙ c.in_ok-text.ensures;
-      holds = c.in_ok-ran.ensures.holds;
-    })
+    reported_as AreCanonicalTicks report_and_bounds c.args.scenario.now ran.run.journal.ticks ran.run.world ran.run.timeline.changes ran.flow.ports
+    c.in_ok-ran.ensures.run c.in_ok-ran.ensures.holds made.journal.ticks made.text c.output_of.ensures.journal
+    (c.output_of.ensures.text ∙ c.in_ok-text.ensures)

@@ -1,24 +1,21 @@
 use Rattle.world_core.specs.Limits.{caps_at}
-use Rattle.srpnet.proofs.run.run_of.Goals as goal
+use Rattle.srpnet.proofs.run.with_flow.Goals as goal
 
 pub flow_of-requires-clause-order : goal.flow_of-requires-clause-order
-flow_of-requires-clause-order c = c.in_ok-run.ensures.timeline.are.ascend
+flow_of-requires-clause-order c = c.requires.timeline.are.ascend
 
 pub flow_of-requires-clause-slopes : goal.flow_of-requires-clause-slopes
 flow_of-requires-clause-slopes c =
-    let run = c.in_ok-run.run' in
+    let run = c.args.run in
     c.slopes_stay_within_limits.ensures.rates c.args.scenario.now run.journal.ticks run.world run.timeline.changes c.keeps_rules.ensures
-    (c.canonical_ticks_are_legal.ensures c.args.scenario.now run.journal.ticks run.world c.in_ok-run.ensures.ticks) c.in_ok-run.ensures.timeline
-
-pub returns-clause-run : goal.returns-clause-run
-returns-clause-run c = record { canonical = c.in_ok-run.ensures.ticks; in_force = c.in_ok-run.ensures.timeline; flow = c.in_ok-flow.ensures }
+    c.requires.legal c.requires.timeline
 
 pub returns-clause-holds : goal.returns-clause-holds
 returns-clause-holds c =
     let plan = c.args.scenario.now in
-    let run = c.in_ok-run.run' in
-    let legal = c.canonical_ticks_are_legal.ensures plan run.journal.ticks run.world c.in_ok-run.ensures.ticks in
-    let timeline = c.in_ok-run.ensures.timeline in
+    let run = c.args.run in
+    let legal = c.requires.legal in
+    let timeline = c.requires.timeline in
     let rules = c.keeps_rules.ensures in
     let changes = run.timeline.changes in
     let flows = c.in_ok-flow.flow.ports in

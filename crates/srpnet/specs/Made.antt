@@ -1,0 +1,44 @@
+-- What the top call does in two: a command's output is made of what a source gives, and goes out.
+use Rattle.std.specs.Prelude.{◌≡◌, ◌<◌, ℕ, List, [], length, take, Option, Some, Result, Ok, Err, IfOk, IfErr}
+use Rattle.std.specs.Io.KnownBytes.{Appends}
+use Rattle.srp_io.specs.Faults.{Rose}
+use Rattle.srp_io.specs.Whole.{TookAtMost, TookPast}
+use Rattle.srpnet.specs.declared.commands.CommandOutput.{CommandOutput}
+use Rattle.srpnet.specs.declared.outcome.Cause.{Cause}
+use Rattle.srpnet.specs.declared.words.Command.{Command}
+use Rattle.world_core.specs.declared.journal.Tick.{Tick}
+use Rattle.srpnet.specs.declared.outcome.Cause.TheVariants.{Done, ReadFault, TooLong, WriteFault, NoMemory}
+use Rattle.srpnet.specs.Outcomes.{EndsAs, EndsBy, EndsWriting, IsRefusedInput, IsWriteFault, LacksOutput}
+use Rattle.srpnet.specs.TopCall.{most_octets, IsPlainEnding, IsOutput, Gave, Refuses, ReadsNothing, PartOf}
+
+-- A command's output was made of what a source gave, or why there is none.
+pub record IsMade {I : Type 0} (left : I → Option (List ℕ)) (faults : I → ℕ) (command : Command) (source source' : I)
+    (made : Result CommandOutput Cause) : Type 0 where
+  pub output : IfOk made (λ o. IsOutput command (left source) (left source') o.journal.ticks o.text)
+  pub only : IfErr made LacksOutput
+  pub given : Gave (left source) (left source')
+  pub read_fault : made ≡ Err ReadFault → Rose (faults source) (faults source')
+  pub in_time : made ≡ Err ReadFault → TookAtMost most_octets (left source) (left source')
+  pub counts : (made ≡ Err ReadFault → ⊥) → faults source' ≡ faults source
+  pub too_long : made ≡ Err TooLong → TookPast most_octets (left source) (left source')
+  pub refused : IfErr made (λ c. IsRefusedInput c → Refuses command (left source) (left source') c)
+  pub ends : (octets : List ℕ) → left source ≡ Some octets → (Rose (faults source) (faults source') → ⊥)
+      → EndsBy (IsPlainEnding command octets) made
+  pub unread : ReadsNothing command → source' ≡ source
+  pub unread_ends : ReadsNothing command → EndsAs Done made
+
+-- A text was let out to a sink, and writing ended for this cause.
+pub record IsPrinted {O : Type 0} (held : O → Option (List ℕ)) (faults : O → ℕ) (out out' : O) (text : List ℕ) (cause : Cause)
+    : Type 0 where
+  pub done : cause ≡ Done → Appends (held out) (held out') text
+  pub part : (written : ℕ) → cause ≡ WriteFault written → Appends (held out) (held out') (take written text)
+  pub short : (written : ℕ) → cause ≡ WriteFault written → written < length text
+  pub fault : (written : ℕ) → cause ≡ WriteFault written → Rose (faults out) (faults out')
+  pub counts : (IsWriteFault cause → ⊥) → faults out' ≡ faults out
+  pub memory : cause ≡ NoMemory → PartOf (held out) (held out') text
+  pub only : EndsWriting cause
+
+-- What was made was let out, with the ticks of its run; or nothing was, for the cause for which there is none.
+abbrev pub IsLetOut : {O : Type 0} → (O → Option (List ℕ)) → (O → ℕ) → O → O → Result CommandOutput Cause → Cause → List Tick → Type 0
+IsLetOut held faults out out' (Ok made) cause ticks = IsPrinted held faults out out' made.text cause × (ticks ≡ made.journal.ticks)
+IsLetOut held faults out out' (Err why) cause ticks = (cause ≡ why) × (ticks ≡ []) × (out' ≡ out)
