@@ -18,7 +18,7 @@ use Rattle.port_ledger.proofs.Marking.{different_from_ascending}
 use Rattle.port_ledger.proofs.Rounds.{decided_by_choice}
 
 -- an entry with the moment that a choice gives it
-abbrev settled_at : ℕ → (Entry → Bool) → Entry → Entry
+abbrev pub settled_at : ℕ → (Entry → Bool) → Entry → Entry
 settled_at now b x = record x { since = since_after now x.since (b x) }
 
 settled-map : (now : ℕ) (b : Entry → Bool) (xs : List Entry) → with_moments now xs (map b xs) ≡ map (settled_at now b) xs
@@ -35,7 +35,7 @@ pub runs_on : (caps : Caps) (sum : ℕ) (b : Entry → Bool) (x : Entry) (xs : L
 runs_on caps sum b x xs runs =
     subst (λ (n : ℕ). Runs caps n b xs) (sym (sum_with-cond sum x (has_room caps sum x) ∙ ap (λ v. sum + cond v (entry_slope x) 0) (sym runs.0))) runs.1
 
-passed_is : (now : ℕ) (caps : Caps) (sum : ℕ) (b : Entry → Bool) (xs : List Entry) → Runs caps sum b xs
+pub passed_is : (now : ℕ) (caps : Caps) (sum : ℕ) (b : Entry → Bool) (xs : List Entry) → Runs caps sum b xs
     → entries_passed now caps sum xs ≡ map (settled_at now b) xs
 passed_is now caps sum b [] runs = refl
 passed_is now caps sum b (x ∷ xs) runs =
