@@ -18,7 +18,7 @@ use Rattle.port_ledger.specs.declared.totals.Totals.{Totals}
 use Rattle.port_ledger.specs.Book.{booked_only_in, entry_of, same_entry, same_since, same_want, unbooked_entry, with_want, without}
 use Rattle.port_ledger.specs.Decision.{stream_of, decided_entries, is_booked, since_after, AreOfDifferentStreams, IsAscending}
 use Rattle.port_ledger.specs.Front.{AreBehind, IsFront}
-use Rattle.port_ledger.specs.Notes.{booking_of, gains, loses, noted, stream_where, streams_passed, AreRising}
+use Rattle.port_ledger.specs.Notes.{booking_of, gains, has_loss, loses, noted, stream_where, streams_passed, AreRising}
 use Rattle.port_ledger.specs.Totals.{both_of}
 use Rattle.port_ledger.specs.Pass.{entries_passed, exchanged, has_room, has_same, has_want, importance_order, sum_with}
 use Rattle.port_ledger.proofs.Comparing.{in_own, only_in}
@@ -82,6 +82,37 @@ module _ (caps : Caps) (sum i room : ℕ) (order : List Entry) (d y : Entry) (wh
   skipped_loses unbooked h =
       noted-more loses caps sum sum i room room order d y whole done done l no_sum refl
       (ap (λ v. noted room done (stream_where v (get_or order i d))) (sym (ap (loses (get_or order i d)) full ∙ unbooked))) h
+
+-- the same of whether a booking is lost
+pub loss-more : (caps : Caps) (sum sum' i : ℕ) (order : List Entry) (d y : Entry) (whole lost lost' : Bool) → i < length order
+    → sum' ≡ sum_with sum (get_or order i d) (has_room caps sum (get_or order i d))
+    → lost' ≡ (lost || loses (get_or order i d) (has_room caps sum (get_or order i d)))
+    → whole ≡ (lost || has_loss caps sum (drop i order)) → whole ≡ (lost' || has_loss caps sum' (drop (i + 1) (set order i y)))
+loss-more caps sum sum' i order d y whole lost lost' l next new h =
+    let x : Entry = get_or order i d in
+    let b : Bool = has_room caps sum x in
+    let on : suc i ≡ i + 1 = omega arith in
+    let kept : drop (i + 1) (set order i y) ≡ drop (suc i) order = ap (λ n. drop n (set order i y)) (sym on) ∙ drop-set-lt (suc i) order i y (omega arith) in
+    h
+    ∙ (ap (λ ys. lost || has_loss caps sum ys) (drop-cons order i d l)
+    ∙ (or_again lost (loses x b) (has_loss caps (sum_with sum x b) (drop (suc i) order))
+    ∙ (ap (λ v. v || has_loss caps (sum_with sum x b) (drop (suc i) order)) (sym new)
+    ∙ (ap (λ n. lost' || has_loss caps n (drop (suc i) order)) (sym next)
+    ∙ ap (λ ys. lost' || has_loss caps sum' ys) (sym kept)))))
+  where
+    or_again : (p q r : Bool) → (p || (q || r)) ≡ ((p || q) || r)
+    or_again true q r = refl
+    or_again false q r = refl
+
+pub skipped_loss : (caps : Caps) (sum i : ℕ) (order : List Entry) (d y : Entry) (whole lost : Bool) → i < length order → has_room caps sum (get_or order i d) ≡ false
+    → is_some (get_or order i d).since ≡ false → whole ≡ (lost || has_loss caps sum (drop i order)) → whole ≡ (lost || has_loss caps sum (drop (i + 1) (set order i y)))
+skipped_loss caps sum i order d y whole lost l full unbooked h =
+    loss-more caps sum sum i order d y whole lost lost l (ap (sum_with sum (get_or order i d)) (sym full))
+    (sym (or_right' lost (loses (get_or order i d) (has_room caps sum (get_or order i d))) (ap (loses (get_or order i d)) full ∙ unbooked))) h
+  where
+    or_right' : (p q : Bool) → q ≡ false → (p || q) ≡ p
+    or_right' true q e = refl
+    or_right' false q e = e
 
 pub streams_short : (test : Entry → Bool → Bool) (caps : Caps) (sum : ℕ) (xs : List Entry) → length (streams_passed test caps sum xs) ≤ length xs
 streams_short test caps sum [] = omega arith

@@ -1,5 +1,5 @@
 -- What a decision changes in the booked set, as the code notes it. No public contract names it.
-use Rattle.std.specs.Prelude.{ℕ, ◌≤◌, Bool, not, ◌&&◌, nat_lt, List, [], ◌∷◌, ◌++◌, length, Option, Some, None, if◌then◌else◌}
+use Rattle.std.specs.Prelude.{ℕ, ◌≤◌, Bool, false, not, ◌&&◌, ◌||◌, nat_lt, List, [], ◌∷◌, ◌++◌, length, Option, Some, None, if◌then◌else◌}
 use Rattle.std.specs.List.{AllByRecursion}
 use Rattle.srp_base.specs.declared.numbers.StreamId.{StreamId}
 use Rattle.stream_importance.specs.declared.entry.Entry.{Entry}
@@ -24,6 +24,12 @@ abbrev pub streams_passed : (Entry → Bool → Bool) → Caps → ℕ → List 
 streams_passed test caps sum [] = []
 streams_passed test caps sum (x ∷ xs) =
     stream_where (test x (has_room caps sum x)) x ++ streams_passed test caps (sum_with sum x (has_room caps sum x)) xs
+
+-- whether a pass ends any booking
+abbrev pub has_loss : Caps → ℕ → List Entry → Bool
+has_loss caps sum [] = false
+has_loss caps sum (x ∷ xs) =
+    loses x (has_room caps sum x) || has_loss caps (sum_with sum x (has_room caps sum x)) xs
 
 -- the stream of an entry, where there is one and it is booked
 abbrev pub booking_of : Option Entry → List StreamId

@@ -1,13 +1,13 @@
 //! Which entries are booked at a moment: one pass with a running sum over the entries in the order of
 //! importance, from the first place that a call changes, and the moments set accordingly.
 
-ghost use Rattle.std.specs.Prelude.{◌≡◌, ◌≢◌, ◌+◌, ◌≤◌, ◌<◌, ◌^◌, ◌++◌, true, false, length, take, drop, vec_capacity, vec_len, IfOk, OnErr, OnOk};
+ghost use Rattle.std.specs.Prelude.{◌≡◌, ◌≢◌, ◌+◌, ◌≤◌, ◌<◌, ◌^◌, ◌++◌, ◌||◌, true, false, length, take, drop, vec_capacity, vec_len, IfOk, OnErr, OnOk};
 ghost use Rattle.std.specs.List.{AllByRecursion};
 ghost use Rattle.srp_base.specs.declared.bandwidth.Class.TheVariants.{A, B};
 ghost use Rattle.port_ledger.specs.Book.{booked_only_in, booked_slope, entry_of, same_since, with_want, without};
 ghost use Rattle.port_ledger.specs.Decision.{AreOfDifferentStreams, decided_entries, IsAscending, since_after, stream_of};
 ghost use Rattle.port_ledger.specs.Front.{settled_front, decided_behind, AreBehind, IsFront, IsOrdered, IsOrderedBook};
-ghost use Rattle.port_ledger.specs.Notes.{booking_of, gains, loses, noted, streams_passed};
+ghost use Rattle.port_ledger.specs.Notes.{booking_of, gains, has_loss, loses, noted, streams_passed};
 ghost use Rattle.port_ledger.specs.Pass.{exchanged, has_room, has_want, importance_order, IsOnlyIn, entries_passed, with_pass, sum_with, with_since};
 ghost use Rattle.port_ledger.specs.Totals.{both_of, together, totals_of};
 ghost use Rattle.stream_importance.specs.Bandwidth.{cap_of};
@@ -275,12 +275,25 @@ fn decide_behind(
         ≡ noted (vec_capacity notes.old.dropped) notes.old.dropped.items
         (streams_passed loses caps.now taken (importance_order now.0 behind.old)) }
 {
+    importance_is_an_order();
     rank(now, behind);
-    pass(now, caps, taken, behind, entries, notes);
-    rank(now, behind);
+    let lost = pass(now, caps, taken, behind, entries, notes);
+    rank_where(now, lost, behind);
 }
 
-/// Lets in what there is room for beside what is taken, in bit/s, in the order given, and sets the moments.
+/// Puts the entries into the order of importance again where a booking was lost. Else none has moved: what is booked
+/// anew has the moment that it counted with before.
+fn rank_where(now: Cs, lost: bool, entries: &mut [Entry])
+    requires { lost ≡ false → entries.old ≡ importance_order now.0 entries.old }
+    ensures { entries.new ≡ importance_order now.0 entries.old }
+{
+    if lost {
+        rank(now, entries);
+    }
+}
+
+/// Lets in what there is room for beside what is taken, in bit/s, in the order given, and sets the moments. The answer
+/// is whether a booking is lost.
 fn pass(
     now: Cs,
     caps: &Caps,
@@ -288,7 +301,7 @@ fn pass(
     order: &mut [Entry],
     entries: &mut [Entry],
     notes: &mut Notes,
-)
+) -> bool
     requires ascending { IsAscending entries.old }
     requires different { AreOfDifferentStreams order.old }
     requires same { AllByRecursion (IsOnlyIn entries.old) order.old }
@@ -299,19 +312,30 @@ fn pass(
     ensures dropped { notes.new.dropped.items
         ≡ noted (vec_capacity notes.old.dropped) notes.old.dropped.items
         (streams_passed loses caps.now taken order.old) }
+    ensures lost { result ≡ has_loss caps.now taken order.old }
 {
     let mut sum: u64 = taken;
+    let mut lost = false;
     for x in order.iter_mut() {
         let let_in = has_room(caps, sum, x);
         if !let_in && x.since.is_none() {
             continue;
         }
         let since = since_after(now, x.since, let_in);
+        lost = or_loses(lost, x, let_in);
         notes.pass(x, let_in);
         set_since(entries, x, since);
         x.since = since;
         sum = sum_with(caps, sum, x, let_in);
     }
+    lost
+}
+
+/// Whether a booking was lost before, or this entry loses its own as it is let in or not.
+fn or_loses(lost: bool, x: &Entry, let_in: bool) -> bool
+    ensures { result ≡ (lost || loses x.now let_in) }
+{
+    lost || (!let_in && x.since.is_some())
 }
 
 /// Whether an entry's slope, beside what is taken, stays at or under its cap.
