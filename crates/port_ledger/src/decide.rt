@@ -72,7 +72,8 @@ fn cut_for(
     ensures place { result.place ≤ length order.now }
     ensures behind { AreBehind (take result.place order.now) (drop result.place order.now)
         entries.now }
-    ensures apart { AllByRecursion (λ y. stream_of y ≢ want.stream.0) (take result.place order.now) }
+    ensures apart { AllByRecursion (λ y. stream_of y ≢ want.stream.0)
+        (take result.place order.now) }
     ensures front { IsFront now.0 caps.now result.place result.totals
         (with_want entries.now want)
         (take result.place order.now ++ exchanged (drop result.place order.now) want) }
@@ -110,7 +111,8 @@ fn entered(
     ensures decided { entries.new.items
         ≡ decided_entries now.0 caps.now (with_want entries.old.items want) }
     ensures ordered { IsOrdered now.0 result entries.new.items order.new.items }
-    ensures booked { notes.new.booked.items ≡ noted (vec_capacity notes.old.booked) notes.old.booked.items
+    ensures booked { notes.new.booked.items
+        ≡ noted (vec_capacity notes.old.booked) notes.old.booked.items
         (streams_passed gains caps.now (both_of front.now.totals)
         (importance_order now.0 (exchanged (drop front.now.place order.old.items) want))) }
     ensures dropped { notes.new.dropped.items
@@ -161,7 +163,8 @@ fn decide(
         entries.old.items order.old.items }
     ensures decided { entries.new.items ≡ decided_entries now.0 caps.now entries.old.items }
     ensures ordered { IsOrdered now.0 result entries.new.items order.new.items }
-    ensures booked { notes.new.booked.items ≡ noted (vec_capacity notes.old.booked) notes.old.booked.items
+    ensures booked { notes.new.booked.items
+        ≡ noted (vec_capacity notes.old.booked) notes.old.booked.items
         (streams_passed gains caps.now (both_of front.now.totals)
         (importance_order now.0 (drop front.now.place order.old.items))) }
     ensures dropped { notes.new.dropped.items
@@ -191,7 +194,8 @@ fn decide_from(
         entries.old order.old }
     ensures decided { entries.new ≡ decided_entries now.0 caps.now entries.old }
     ensures ordered { IsOrdered now.0 result entries.new order.new }
-    ensures booked { notes.new.booked.items ≡ noted (vec_capacity notes.old.booked) notes.old.booked.items
+    ensures booked { notes.new.booked.items
+        ≡ noted (vec_capacity notes.old.booked) notes.old.booked.items
         (streams_passed gains caps.now (both_of front.now.totals)
         (importance_order now.0 (drop front.now.place order.old))) }
     ensures dropped { notes.new.dropped.items
@@ -245,7 +249,8 @@ fn decide_part(
         ≡ take at order.old ++ decided_behind now.0 caps.now taken (drop at order.old) }
     ensures entries { entries.new
         ≡ with_pass now.0 caps.now taken (importance_order now.0 (drop at order.old)) entries.old }
-    ensures booked { notes.new.booked.items ≡ noted (vec_capacity notes.old.booked) notes.old.booked.items
+    ensures booked { notes.new.booked.items
+        ≡ noted (vec_capacity notes.old.booked) notes.old.booked.items
         (streams_passed gains caps.now taken (importance_order now.0 (drop at order.old))) }
     ensures dropped { notes.new.dropped.items
         ≡ noted (vec_capacity notes.old.dropped) notes.old.dropped.items
@@ -269,7 +274,8 @@ fn decide_behind(
     ensures behind { behind.new ≡ decided_behind now.0 caps.now taken behind.old }
     ensures entries { entries.new
         ≡ with_pass now.0 caps.now taken (importance_order now.0 behind.old) entries.old }
-    ensures booked { notes.new.booked.items ≡ noted (vec_capacity notes.old.booked) notes.old.booked.items
+    ensures booked { notes.new.booked.items
+        ≡ noted (vec_capacity notes.old.booked) notes.old.booked.items
         (streams_passed gains caps.now taken (importance_order now.0 behind.old)) }
     ensures dropped { notes.new.dropped.items
         ≡ noted (vec_capacity notes.old.dropped) notes.old.dropped.items
@@ -307,7 +313,8 @@ fn pass(
     requires same { AllByRecursion (IsOnlyIn entries.old) order.old }
     ensures order { order.new ≡ entries_passed now.0 caps.now taken order.old }
     ensures entries { entries.new ≡ with_pass now.0 caps.now taken order.old entries.old }
-    ensures booked { notes.new.booked.items ≡ noted (vec_capacity notes.old.booked) notes.old.booked.items
+    ensures booked { notes.new.booked.items
+        ≡ noted (vec_capacity notes.old.booked) notes.old.booked.items
         (streams_passed gains caps.now taken order.old) }
     ensures dropped { notes.new.dropped.items
         ≡ noted (vec_capacity notes.old.dropped) notes.old.dropped.items

@@ -42,9 +42,11 @@ impl Notes {
     /// Notes an entry that is let in or not.
     pub(crate) fn pass(&mut self, x: &Entry, let_in: bool)
         ensures booked { self.new.booked.items
-            ≡ noted (vec_capacity self.old.booked) self.old.booked.items (stream_where (gains x.now let_in) x.now) }
+            ≡ noted (vec_capacity self.old.booked) self.old.booked.items
+            (stream_where (gains x.now let_in) x.now) }
         ensures dropped { self.new.dropped.items
-            ≡ noted (vec_capacity self.old.dropped) self.old.dropped.items (stream_where (loses x.now let_in) x.now) }
+            ≡ noted (vec_capacity self.old.dropped) self.old.dropped.items
+            (stream_where (loses x.now let_in) x.now) }
         ensures booked_room { vec_capacity self.new.booked ≡ vec_capacity self.old.booked }
         ensures dropped_room { vec_capacity self.new.dropped ≡ vec_capacity self.old.dropped }
     {
@@ -107,7 +109,8 @@ fn ascending(streams: Vec<StreamId>) -> Seq<StreamId>
 }
 
 fn sort(streams: &mut [StreamId])
-    ensures { (xs : List StreamId) → AreRising xs → IsPermutation streams.old xs → streams.new ≡ xs }
+    ensures { (xs : List StreamId) → AreRising xs → IsPermutation streams.old xs
+        → streams.new ≡ xs }
 {
     streams.sort_unstable_by_key(|x| x.0);
 }

@@ -26,7 +26,8 @@ pub(crate) fn exchange(order: &mut Vec<Entry>, at: usize, want: Want)
 pub(crate) fn leave(order: &mut Vec<Entry>, at: usize, stream: StreamId)
     requires place { at ≤ length order.old.items }
     requires different { AreOfDifferentStreams (drop at order.old.items) }
-    ensures items { order.new.items ≡ take at order.old.items ++ without (drop at order.old.items) stream }
+    ensures items { order.new.items
+        ≡ take at order.old.items ++ without (drop at order.old.items) stream }
     ensures len { vec_len order.new ≤ vec_len order.old }
     ensures room { vec_capacity order.new ≡ vec_capacity order.old }
 {
