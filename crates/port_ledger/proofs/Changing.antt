@@ -1,5 +1,5 @@
 -- How a want that comes and an entry that goes lead to entries that are decided from a place of their order on.
-use Rattle.std.proofs.Common.{◌≡◌, ◌≢◌, ℕ, ◌+◌, ◌≤◌, ◌<◌, ◌^◌, Bool, true, false, not, ◌&&◌, ◌||◌, ◌==◌, cond, List, [], ◌∷◌, ◌++◌, map, length, take, drop, Option, Some, None, is_some, refl, sym, ◌∙◌, ap, subst, arith, append_assoc, true≢false, inl, inr}
+use Rattle.std.proofs.Common.{◌≡◌, ◌≢◌, ℕ, ◌+◌, ◌≤◌, ◌<◌, ◌^◌, Bool, true, false, not, ◌&&◌, ◌||◌, ◌==◌, cond, List, [], ◌∷◌, ◌++◌, map, length, take, drop, Option, Some, None, refl, sym, ◌∙◌, ap, subst, arith, append_assoc, true≢false, inl, inr}
 use Rattle.std.specs.Prelude.{nat_lt}
 use Rattle.std.specs.List.{AllByRecursion}
 use Rattle.std.specs.List.Sorted.{IsPermutation}
@@ -7,6 +7,7 @@ use Rattle.std.specs.Ordering.{is_lt, nat_cmp}
 use Rattle.std.proofs.lemmas.Bool.Decides.{nat_tests}
 use Rattle.std.proofs.lemmas.Bool.{and_from, and_parts, cases_Bool, eq-eqb, eqb-true, ne_eqb, not_from_false}
 use Rattle.std.proofs.lemmas.List.{length-take-le, take-append-drop}
+use Rattle.std.proofs.lemmas.List.Sorted.{IsPermutation-cons, IsPermutation-sym, IsPermutation-to_front, IsPermutation-trans}
 use Rattle.srp_base.specs.declared.bandwidth.Class.TheVariants.{A, B}
 use Rattle.srp_base.specs.declared.numbers.StreamId.{StreamId}
 use Rattle.stream_importance.specs.declared.entry.Entry.{Entry}
@@ -15,16 +16,16 @@ use Rattle.stream_importance.specs.declared.slope.Caps.{Caps}
 use Rattle.stream_importance.specs.Importance.{is_more_important, moment_or, IsImportanceOrder}
 use Rattle.port_ledger.specs.declared.front.Standing.{Standing}
 use Rattle.port_ledger.specs.declared.totals.Totals.{Totals}
-use Rattle.port_ledger.specs.Book.{Book, booked_slope, entry_of, entry_with, has_new_booking, same_want, unbooked_entry, with_want, without}
+use Rattle.port_ledger.specs.Book.{Book, booked_slope, entry_of, has_new_booking, unbooked_entry, with_want, without}
 use Rattle.port_ledger.specs.Decision.{stream_of, comes_after, does_fit, is_booked, marked_set, marks_of, AreOfDifferentStreams, IsAscending}
 use Rattle.port_ledger.specs.Front.{AreBehind, ArePriorTo, IsAhead, IsBehind, IsFront, IsOrdered, IsOrderedBook, IsSettled, later_standing, Runs, same_level}
-use Rattle.port_ledger.specs.Pass.{order_with, with_want_in_place}
+use Rattle.port_ledger.specs.Pass.{exchanged, has_want}
 use Rattle.port_ledger.specs.Totals.{totals_of}
 use Rattle.port_ledger.proofs.Deciding.{different_right}
 use Rattle.port_ledger.proofs.Fronts.{seam-take}
 use Rattle.port_ledger.proofs.Keeping.{all-without, ascending-with_want, ascending-without, moments-with_want}
 use Rattle.port_ledger.proofs.Marking.{choice_above, different_from_ascending, marked-map}
-use Rattle.port_ledger.proofs.Moving.{order_with_permuted, without_permuted}
+use Rattle.port_ledger.proofs.Moving.{with_want_exchanged, without_permuted}
 use Rattle.port_ledger.proofs.Ranking.{all_permuted, different_permuted, holds_permuted}
 use Rattle.port_ledger.proofs.Running.{all_with, Holds}
 use Rattle.port_ledger.proofs.Settling.{all_join, all_left, runs_front, settled_later, settled_seam}
@@ -79,32 +80,6 @@ behind_new now x f ne prior =
     and_from (comes_after now x y) (is_booked y || not (same_level y x))
     (and_from (not (stream_of y == stream_of x)) (is_more_important now y x) (not_from_false (stream_of y == stream_of x) (ne_eqb (stream_of y) (stream_of x) n)) parts.0)
     parts.1)
-
-all_in_place : (P : Entry → Type 0) (want : Want) (xs : List Entry) → P (unbooked_entry want) → AllByRecursion P xs → AllByRecursion P (with_want_in_place xs want)
-all_in_place P want [] new h = tt
-all_in_place P want (x ∷ xs) new h = (
-  elim (stream_of x == want.stream.0) as (λ v. P (cond v (entry_with x want) x)) [
-    | true ↦ elim (same_want x.want want) as (λ v. P (cond v x (unbooked_entry want))) [ true ↦ h.0 | false ↦ new ]
-    | false ↦ h.0
-  ],
-  all_in_place P want xs new h.1,
-)
-
-all_order_with : (P : Entry → Type 0) (want : Want) (known : Bool) (xs : List Entry) → P (unbooked_entry want) → AllByRecursion P xs → AllByRecursion P (order_with xs want known)
-all_order_with P want true xs new h = all_in_place P want xs new h
-all_order_with P want false xs new h = all_join P xs (unbooked_entry want ∷ []) h (new, tt)
-
-in_place_front : (want : Want) (f r : List Entry) → AllByRecursion (λ y. stream_of y ≢ want.stream.0) f
-    → with_want_in_place (f ++ r) want ≡ f ++ with_want_in_place r want
-in_place_front want [] r ne = refl
-in_place_front want (x ∷ f) r ne =
-    ap (λ v. cond v (entry_with x want) x ∷ with_want_in_place (f ++ r) want) (ne_eqb (stream_of x) want.stream.0 ne.0)
-    ∙ ap (λ ys. x ∷ ys) (in_place_front want f r ne.1)
-
-order_with_front : (want : Want) (known : Bool) (f r : List Entry) → AllByRecursion (λ y. stream_of y ≢ want.stream.0) f
-    → order_with (f ++ r) want known ≡ f ++ order_with r want known
-order_with_front want true f r ne = in_place_front want f r ne
-order_with_front want false f r ne = append_assoc f r (unbooked_entry want ∷ [])
 
 without_front : (s : StreamId) (f r : List Entry) → AllByRecursion (λ y. stream_of y ≢ s.0) f → without (f ++ r) s ≡ f ++ without r s
 without_front s [] r ne = refl
@@ -186,17 +161,27 @@ module _ (now : ℕ) (o : IsImportanceOrder now) (caps : Caps) (standing : Stand
           totals = e ∙ ap (totals_of now) (sym cut);
         }
 
+    -- of a stream whose entry goes, or that has none, nothing stands in the front
+    pub front_apart : (s : StreamId) (goes : Option Entry) → entry_of es s ≡ goes → ArePriorTo now goes f → AllByRecursion (λ y. stream_of y ≢ s.0) f
+    front_apart s goes found old = apart now o s goes es f r different parts found old
+
     -- a want that isn't kept comes
-    pub want_comes : (front : Totals) (want : Want) (known : Bool) (goes : Option Entry) → front ≡ totals_of now f → entry_of es want.stream ≡ goes → known ≡ is_some goes
+    pub want_comes : (front : Totals) (want : Want) (goes : Option Entry) → front ≡ totals_of now f → entry_of es want.stream ≡ goes → has_want es want ≡ false
         → ArePriorTo now goes f → ArePriorTo now (Some (unbooked_entry want)) f
-        → IsFront now caps place front (with_want es want) (f ++ order_with r want known)
-    want_comes front want known goes e found k old new =
-        let ne : AllByRecursion (λ y. stream_of y ≢ want.stream.0) f = apart now o want.stream goes es f r different parts found old in
-        front_of front (with_want es want) (order_with r want known) e
+        → IsFront now caps place front (with_want es want) (f ++ exchanged r want)
+    want_comes front want goes e found other old new =
+        let ne : AllByRecursion (λ y. stream_of y ≢ want.stream.0) f = front_apart want.stream goes found old in
+        let rest : IsPermutation (without es want.stream) (f ++ without r want.stream) =
+        subst (λ (ys : List Entry). IsPermutation (without es want.stream) ys) (without_front want.stream f r ne) (without_permuted es (f ++ r) want.stream parts) in
+        front_of front (with_want es want) (exchanged r want) e
         (ascending-with_want want es h.kept.ascending) (moments-with_want now want es h.kept.moments)
-        (subst (λ (ys : List Entry). IsPermutation (with_want es want) ys) (order_with_front want known f r ne)
-        (order_with_permuted es (f ++ r) want known h.kept.ascending parts (k ∙ ap is_some (sym found))))
-        (all_order_with (IsBehind now f) want known r (behind_new now (unbooked_entry want) f ne new) is_ahead.behind)
+        (subst (λ (ys : List Entry). IsPermutation (with_want es want) ys) (append_assoc f (without r want.stream) (unbooked_entry want ∷ []))
+        (IsPermutation-trans (with_want es want) (unbooked_entry want ∷ without es want.stream) ((f ++ without r want.stream) ++ unbooked_entry want ∷ [])
+        (with_want_exchanged want es h.kept.ascending other)
+        (IsPermutation-trans (unbooked_entry want ∷ without es want.stream) (unbooked_entry want ∷ (f ++ without r want.stream)) ((f ++ without r want.stream) ++ unbooked_entry want ∷ [])
+        (IsPermutation-cons (unbooked_entry want) (without es want.stream) (f ++ without r want.stream) rest)
+        (IsPermutation-sym ((f ++ without r want.stream) ++ unbooked_entry want ∷ []) (unbooked_entry want ∷ (f ++ without r want.stream)) (IsPermutation-to_front (f ++ without r want.stream) (unbooked_entry want))))))
+        (all_join (IsBehind now f) (without r want.stream) (unbooked_entry want ∷ []) (all-without (IsBehind now f) want.stream r is_ahead.behind) (behind_new now (unbooked_entry want) f ne new, tt))
 
     -- an entry goes
     pub entry_goes : (front : Totals) (s : StreamId) (goes : Option Entry) → front ≡ totals_of now f → entry_of es s ≡ goes → ArePriorTo now goes f

@@ -1,18 +1,18 @@
 -- What is known of entries that are decided from a place of their order on, and how a call comes to such.
-use Rattle.std.proofs.Common.{◌≡◌, ℕ, ◌+◌, ◌-◌, ◌≤◌, ◌<◌, ◌^◌, Bool, false, List, [], ◌∷◌, ◌++◌, length, take, drop, sym, ◌∙◌, ap, subst, arith, append_assoc}
+use Rattle.std.proofs.Common.{◌≡◌, ℕ, ◌+◌, ◌-◌, ◌≤◌, ◌<◌, ◌^◌, List, [], ◌++◌, length, take, drop, sym, ◌∙◌, ap, subst, arith}
 use Rattle.std.specs.List.{AllByRecursion}
 use Rattle.std.specs.List.Sorted.{IsPermutation}
 use Rattle.std.proofs.lemmas.List.{drop_all, drop_at, length-append, length-drop, length-take-le, take-append-drop, take_all, take_at}
 use Rattle.srp_base.specs.declared.bandwidth.Class.TheVariants.{A, B}
 use Rattle.stream_importance.specs.declared.entry.Entry.{Entry}
-use Rattle.stream_importance.specs.declared.entry.Want.{Want}
 use Rattle.stream_importance.specs.declared.slope.Caps.{Caps}
 use Rattle.stream_importance.specs.Importance.{IsImportanceOrder}
 use Rattle.port_ledger.specs.declared.totals.Totals.{Totals}
-use Rattle.port_ledger.specs.Book.{booked_slope, unbooked_entry}
+use Rattle.port_ledger.specs.Book.{booked_slope}
 use Rattle.port_ledger.specs.Decision.{decided_entries, AreOfDifferentStreams}
 use Rattle.port_ledger.specs.Front.{AreBehind, settled_front, decided_behind, IsAhead, IsFront, IsOrdered}
-use Rattle.port_ledger.specs.Pass.{importance_order, order_with, with_pass, IsOnlyIn}
+use Rattle.port_ledger.specs.Pass.{importance_order, with_pass, IsOnlyIn}
+pub use Rattle.port_ledger.specs.Totals.{both_of}
 use Rattle.port_ledger.specs.Totals.{together, totals_of}
 use Rattle.port_ledger.proofs.Deciding.{after_same, decided_over, different_right, ordered_over, rest_different, rest_only, taken, taken-slopes}
 use Rattle.port_ledger.proofs.Keeping.{ascending_after, kept_after}
@@ -21,10 +21,6 @@ use Rattle.port_ledger.proofs.Ranking.{different_permuted}
 use Rattle.port_ledger.proofs.Rounds.{decided_decides}
 use Rattle.port_ledger.proofs.Shares.{runs_both}
 use Rattle.port_ledger.proofs.TotalsLemmas.{slope-permuted, totals_fit}
-
--- what both classes take
-abbrev pub both_of : Totals → ℕ
-both_of t = t.class_a + t.class_b
 
 module _ (now : ℕ) (o : IsImportanceOrder now) (caps : Caps) (place : ℕ) (front : Totals) (es order : List Entry) (h : IsFront now caps place front es order) where
   abbrev pub ahead : List Entry
@@ -112,11 +108,6 @@ rest-whole n xs = take_all (length xs - n) (drop n xs) (omega (arith, length-dro
 
 pub none-past : (n : ℕ) (xs : List Entry) → drop (length xs - n) (drop n xs) ≡ []
 none-past n xs = drop_all (length xs - n) (drop n xs) (omega (arith, length-drop n xs))
-
-pub pushed-behind : (n : ℕ) (xs : List Entry) (want : Want) (known : Bool) → known ≡ false → xs ++ unbooked_entry want ∷ [] ≡ take n xs ++ order_with (drop n xs) want known
-pushed-behind n xs want known new =
-    ap (λ ys. ys ++ unbooked_entry want ∷ []) (sym (take-append-drop n xs))
-    ∙ (append_assoc (take n xs) (drop n xs) (unbooked_entry want ∷ []) ∙ ap (λ v. take n xs ++ order_with (drop n xs) want v) (sym new))
 
 pub behind_different : (front rest es : List Entry) → AreBehind front rest es → AreOfDifferentStreams rest
 behind_different front rest es b = different_right front rest (different_permuted es (front ++ rest) b.same (different_from_ascending es b.ascending))

@@ -8,6 +8,7 @@ pub mod Keeping
 pub mod Marking
 pub mod Merging
 pub mod Moving
+pub mod Noting
 pub mod Passing
 pub mod PerStream
 pub mod Ranking

@@ -1,20 +1,20 @@
 -- The order has the entries of the list that ascends, whatever a call takes out, changes or adds.
-use Rattle.std.proofs.Common.{◌≡◌, ℕ, suc, ◌+◌, ◌<◌, Bool, true, false, not, ◌==◌, cond, List, [], ◌∷◌, ◌++◌, filter, sum_by, length, get_or, Option, Some, None, is_some, refl, sym, ◌∙◌, ap, subst, arith, inl, inr, zero-add}
+use Rattle.std.proofs.Common.{◌≡◌, ℕ, suc, ◌+◌, ◌<◌, Bool, true, false, not, ◌==◌, cond, List, [], ◌∷◌, filter, sum_by, length, get_or, Some, refl, sym, ◌∙◌, ap, subst, arith, inl, inr, zero-add}
 use Rattle.std.specs.Prelude.{remove}
-use Rattle.std.specs.List.{AllByRecursion}
 use Rattle.std.specs.List.Sorted.{IsPermutation}
 use Rattle.std.proofs.lemmas.Bool.{cases_Bool, cases_order, eq-eqb, ne_eqb}
 use Rattle.std.proofs.lemmas.List.Sums.{sum_by-cons}
-use Rattle.std.proofs.lemmas.List.Sorted.{IsPermutation-cons, IsPermutation-map, IsPermutation-refl, IsPermutation-remove, IsPermutation-sym, IsPermutation-to_front, IsPermutation-trans, IsPermutation-swap, sum_by-IsPermutation}
+use Rattle.std.proofs.lemmas.List.Sorted.{IsPermutation-cons, IsPermutation-refl, IsPermutation-remove, IsPermutation-sym, IsPermutation-trans, IsPermutation-swap, sum_by-IsPermutation}
 use Rattle.srp_base.specs.declared.numbers.StreamId.{StreamId}
 use Rattle.stream_importance.specs.declared.entry.Entry.{Entry}
 use Rattle.stream_importance.specs.declared.entry.Want.{Want}
 use Rattle.port_ledger.specs.Decision.{stream_of, IsAscending}
-use Rattle.port_ledger.specs.Book.{entry_of, entry_with, same_entry, unbooked_entry, with_want, without}
-use Rattle.port_ledger.specs.Pass.{order_with, with_want_in_place}
-use Rattle.port_ledger.proofs.Finding.{none_of, with_want-higher, with_want-lower, with_want-same}
+use Rattle.port_ledger.specs.Book.{entry_of, same_entry, same_want, unbooked_entry, with_want, without}
+use Rattle.port_ledger.specs.Pass.{has_same, has_want}
+use Rattle.port_ledger.proofs.Finding.{with_want-higher, with_want-lower, with_want-same}
 use Rattle.port_ledger.proofs.PerStream.{same_entry-is, same_entry-refl}
 use Rattle.port_ledger.proofs.Running.{all_with}
+use Rattle.port_ledger.proofs.TakingOut.{without-others}
 
 abbrev one : Entry → ℕ
 one y = 1
@@ -80,63 +80,35 @@ pub without_permuted : (es order : List Entry) (stream : StreamId) → IsPermuta
     → IsPermutation (without es stream) (without order stream)
 without_permuted es order stream p = filter_permuted (λ x. not (stream_of x == stream.0)) es order p
 
--- a want that no entry is of is added
-none_in_place : (want : Want) (xs : List Entry) → AllByRecursion (λ y. want.stream.0 < stream_of y) xs → with_want_in_place xs want ≡ xs
-none_in_place want [] h = refl
-none_in_place want (x ∷ xs) h =
-    ap (λ v. cond v (entry_with x want) x ∷ with_want_in_place xs want) (ne_eqb (stream_of x) want.stream.0 (λ e. let l : want.stream.0 < stream_of x = h.0 in omega (arith, e, l)))
-    ∙ ap (λ ys. x ∷ ys) (none_in_place want xs h.1)
-
-pub with_want-known : (want : Want) (xs : List Entry) (e : Entry) → IsAscending xs → entry_of xs want.stream ≡ Some e
-    → with_want xs want ≡ with_want_in_place xs want
-with_want-known want [] e up h = cc
-with_want-known want (x ∷ xs) e up h =
+-- a want comes in place of what its stream wanted, which was another
+pub with_want_exchanged : (want : Want) (xs : List Entry) → IsAscending xs → has_want xs want ≡ false
+    → IsPermutation (with_want xs want) (unbooked_entry want ∷ without xs want.stream)
+with_want_exchanged want [] up other = IsPermutation-refl (unbooked_entry want ∷ [])
+with_want_exchanged want (x ∷ xs) up other =
     elim (cases_order want.stream.0 (stream_of x)) [
       | inl same ↦
+          (let here : stream_of x == want.stream.0 ≡ true = eq-eqb (stream_of x) want.stream.0 (sym same) in
+          let unlike : same_want x.want want ≡ false = sym (ap (λ v. has_same (cond v (Some x) (entry_of xs want.stream)) want) here) ∙ other in
+          let whole : with_want (x ∷ xs) want ≡ unbooked_entry want ∷ without (x ∷ xs) want.stream =
           with_want-same x xs want (sym same)
-          ∙ (ap (λ ys. entry_with x want ∷ ys) (sym (none_in_place want xs (subst (λ (n : ℕ). AllByRecursion (λ y. n < stream_of y) xs) (sym same) up.0)))
-          ∙ ap (λ v. cond v (entry_with x want) x ∷ with_want_in_place xs want) (sym (eq-eqb (stream_of x) want.stream.0 (sym same))))
+          ∙ (ap (λ v. cond v x (unbooked_entry want) ∷ xs) unlike
+          ∙ (ap (λ ys. unbooked_entry want ∷ ys) (without-others want.stream xs (all_with xs up.0 up.0 (λ y l _ e. omega (arith, same, l, e))))
+          ∙ ap (λ v. unbooked_entry want ∷ cond (not v) (x ∷ without xs want.stream) (without xs want.stream)) (sym here))) in
+          subst (λ (ys : List Entry). IsPermutation ys (unbooked_entry want ∷ without (x ∷ xs) want.stream)) (sym whole) (IsPermutation-refl (unbooked_entry want ∷ without (x ∷ xs) want.stream)))
       | inr c ↦ elim c [
-        | inl lower ↦ absurd (let none : entry_of (x ∷ xs) want.stream ≡ None = none_of want.stream (x ∷ xs) (lower, all_with xs up.0 up.0 (λ y l _. omega (arith, l, lower))) in cc)
+        | inl lower ↦
+            (let whole : with_want (x ∷ xs) want ≡ unbooked_entry want ∷ without (x ∷ xs) want.stream =
+            with_want-lower x xs want lower
+            ∙ ap (λ ys. unbooked_entry want ∷ ys) (without-others want.stream (x ∷ xs) ((λ e. omega (arith, lower, e)), all_with xs up.0 up.0 (λ y l _ e. omega (arith, lower, l, e)))) in
+            subst (λ (ys : List Entry). IsPermutation ys (unbooked_entry want ∷ without (x ∷ xs) want.stream)) (sym whole) (IsPermutation-refl (unbooked_entry want ∷ without (x ∷ xs) want.stream)))
         | inr higher ↦
             (let past : stream_of x == want.stream.0 ≡ false = ne_eqb (stream_of x) want.stream.0 (λ f. omega (arith, f, higher)) in
-            with_want-higher x xs want higher
-            ∙ (ap (λ ys. x ∷ ys) (with_want-known want xs e up.1 (sym (ap (λ v. cond v (Some x) (entry_of xs want.stream)) past) ∙ h))
-            ∙ ap (λ v. cond v (entry_with x want) x ∷ with_want_in_place xs want) (sym past)))
+            let rest : has_want xs want ≡ false = sym (ap (λ v. has_same (cond v (Some x) (entry_of xs want.stream)) want) past) ∙ other in
+            let left : x ∷ without xs want.stream ≡ without (x ∷ xs) want.stream = ap (λ v. cond (not v) (x ∷ without xs want.stream) (without xs want.stream)) (sym past) in
+            subst (λ (ys : List Entry). IsPermutation ys (unbooked_entry want ∷ without (x ∷ xs) want.stream)) (sym (with_want-higher x xs want higher))
+            (subst (λ (ys : List Entry). IsPermutation (x ∷ with_want xs want) (unbooked_entry want ∷ ys)) left
+            (IsPermutation-trans (x ∷ with_want xs want) (x ∷ unbooked_entry want ∷ without xs want.stream) (unbooked_entry want ∷ x ∷ without xs want.stream)
+            (IsPermutation-cons x (with_want xs want) (unbooked_entry want ∷ without xs want.stream) (with_want_exchanged want xs up.1 rest))
+            (IsPermutation-swap (x ∷ unbooked_entry want ∷ without xs want.stream) (unbooked_entry want ∷ x ∷ without xs want.stream) 0 1 (omega arith) (omega arith) refl))))
       ]
     ]
-
-with_want-new : (want : Want) (xs : List Entry) → entry_of xs want.stream ≡ None
-    → IsPermutation (unbooked_entry want ∷ xs) (with_want xs want)
-with_want-new want [] h = IsPermutation-refl (unbooked_entry want ∷ [])
-with_want-new want (x ∷ xs) h =
-    elim (cases_order want.stream.0 (stream_of x)) [
-      | inl same ↦ absurd (let found : entry_of (x ∷ xs) want.stream ≡ Some x = ap (λ v. cond v (Some x) (entry_of xs want.stream)) (eq-eqb (stream_of x) want.stream.0 (sym same)) in cc)
-      | inr c ↦ elim c [
-        | inl lower ↦ subst (λ (ys : List Entry). IsPermutation (unbooked_entry want ∷ x ∷ xs) ys) (sym (with_want-lower x xs want lower)) (IsPermutation-refl (unbooked_entry want ∷ x ∷ xs))
-        | inr higher ↦
-            (let past : stream_of x == want.stream.0 ≡ false = ne_eqb (stream_of x) want.stream.0 (λ f. omega (arith, f, higher)) in
-            let rest : entry_of xs want.stream ≡ None = sym (ap (λ v. cond v (Some x) (entry_of xs want.stream)) past) ∙ h in
-            subst (λ (ys : List Entry). IsPermutation (unbooked_entry want ∷ x ∷ xs) ys) (sym (with_want-higher x xs want higher))
-            (IsPermutation-trans (unbooked_entry want ∷ x ∷ xs) (x ∷ unbooked_entry want ∷ xs) (x ∷ with_want xs want)
-            (IsPermutation-swap (unbooked_entry want ∷ x ∷ xs) (x ∷ unbooked_entry want ∷ xs) 0 1 (omega arith) (omega arith) refl)
-            (IsPermutation-cons x (unbooked_entry want ∷ xs) (with_want xs want) (with_want-new want xs rest))))
-      ]
-    ]
-
--- the order with a want has the entries with that want
-pub order_with_permuted : (es order : List Entry) (want : Want) (known : Bool) → IsAscending es → IsPermutation es order
-    → known ≡ is_some (entry_of es want.stream) → IsPermutation (with_want es want) (order_with order want known)
-order_with_permuted es order want known up p h =
-    subst (λ (v : Bool). IsPermutation (with_want es want) (order_with order want v)) (sym h) (by_entry (entry_of es want.stream) refl)
-  where
-    by_entry : (o : Option Entry) → entry_of es want.stream ≡ o → IsPermutation (with_want es want) (order_with order want (is_some o))
-    by_entry None e =
-        IsPermutation-trans (with_want es want) (unbooked_entry want ∷ es) (order ++ unbooked_entry want ∷ [])
-        (IsPermutation-sym (unbooked_entry want ∷ es) (with_want es want) (with_want-new want es e))
-        (IsPermutation-trans (unbooked_entry want ∷ es) (unbooked_entry want ∷ order) (order ++ unbooked_entry want ∷ [])
-        (IsPermutation-cons (unbooked_entry want) es order p)
-        (IsPermutation-sym (order ++ unbooked_entry want ∷ []) (unbooked_entry want ∷ order) (IsPermutation-to_front order (unbooked_entry want))))
-    by_entry (Some x) e =
-        subst (λ (ys : List Entry). IsPermutation ys (with_want_in_place order want)) (sym (with_want-known want es x up e))
-        (IsPermutation-map (λ (y : Entry). cond (stream_of y == want.stream.0) (entry_with y want) y) es order p)

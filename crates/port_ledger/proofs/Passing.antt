@@ -1,5 +1,5 @@
 -- One pass in the order of importance sets the moments of a decision, in the order and among the entries.
-use Rattle.std.proofs.Common.{◌≡◌, ◌≢◌, ℕ, zero, suc, ◌+◌, ◌<◌, Bool, true, false, ◌==◌, ◌||◌, cond, List, [], ◌∷◌, ◌++◌, map, length, get_or, set, take, drop, Option, refl, sym, ◌∙◌, ap, subst, arith, inl, inr, append_assoc, drop-cons, drop-set-lt, take-suc-set, Some, None, is_some}
+use Rattle.std.proofs.Common.{◌≡◌, ◌≢◌, ℕ, zero, suc, ◌+◌, ◌<◌, Bool, true, false, not, ◌&&◌, ◌==◌, ◌||◌, cond, List, [], ◌∷◌, ◌++◌, map, length, get_or, set, take, drop, Option, refl, sym, ◌∙◌, ap, subst, arith, inl, inr, append_assoc, drop-cons, drop-set-lt, take-suc-set, Some, None, is_some}
 use Rattle.std.specs.List.{AllByRecursion, AllWithin, list_any}
 use Rattle.std.specs.List.Sorted.{IsPermutation}
 use Rattle.std.proofs.lemmas.Bool.{eq-eqb, ne_eqb, eqb-true, cases_Bool, cases_lt, or_from, or_left, or_right, cond-true, cond-false}
@@ -8,17 +8,19 @@ use Rattle.std.proofs.lemmas.List.Sorted.{IsPermutation-map, IsPermutation-trans
 use Rattle.srp_base.specs.declared.numbers.Cs.{Cs}
 use Rattle.stream_importance.specs.declared.entry.Entry.{Entry}
 use Rattle.stream_importance.specs.declared.slope.Caps.{Caps}
-use Rattle.stream_importance.specs.Importance.{IsImportanceOrder}
-use Rattle.port_ledger.specs.Decision.{stream_of, entry_slope, with_moments, since_after, decided_entries, IsAscending, AreOfDifferentStreams}
-use Rattle.port_ledger.specs.Pass.{importance_order, has_room, sum_with, entries_passed, with_pass, with_since, IsOnlyIn}
-use Rattle.port_ledger.proofs.Running.{Holds, Runs, all_with, holds_from_runs}
+use Rattle.stream_importance.specs.Importance.{class_number, moment_or, rank_number, IsImportanceOrder}
+use Rattle.std.specs.Ordering.{is_lt, nat_cmp, ordering_then}
+use Rattle.port_ledger.specs.Decision.{stream_of, comes_after, entry_slope, with_moments, since_after, decided_entries, IsAscending, AreOfDifferentStreams}
+use Rattle.port_ledger.specs.Pass.{importance_order, has_room, place, sum_with, entries_passed, with_pass, with_since, IsOnlyIn}
+use Rattle.port_ledger.specs.Notes.{has_loss, loses}
+use Rattle.port_ledger.proofs.Running.{Holds, IsRanked, Runs, all_with, holds_from_runs}
 use Rattle.port_ledger.proofs.Ranking.{IsPermutation-ranked, ranked_is_ranked, holds_permuted, all_permuted, different_permuted}
 use Rattle.port_ledger.proofs.LettingIn.{is_among, streams_let_in, taken_runs}
 use Rattle.port_ledger.proofs.Marking.{different_from_ascending}
 use Rattle.port_ledger.proofs.Rounds.{decided_by_choice}
 
 -- an entry with the moment that a choice gives it
-abbrev settled_at : ℕ → (Entry → Bool) → Entry → Entry
+abbrev pub settled_at : ℕ → (Entry → Bool) → Entry → Entry
 settled_at now b x = record x { since = since_after now x.since (b x) }
 
 settled-map : (now : ℕ) (b : Entry → Bool) (xs : List Entry) → with_moments now xs (map b xs) ≡ map (settled_at now b) xs
@@ -35,7 +37,7 @@ pub runs_on : (caps : Caps) (sum : ℕ) (b : Entry → Bool) (x : Entry) (xs : L
 runs_on caps sum b x xs runs =
     subst (λ (n : ℕ). Runs caps n b xs) (sym (sum_with-cond sum x (has_room caps sum x) ∙ ap (λ v. sum + cond v (entry_slope x) 0) (sym runs.0))) runs.1
 
-passed_is : (now : ℕ) (caps : Caps) (sum : ℕ) (b : Entry → Bool) (xs : List Entry) → Runs caps sum b xs
+pub passed_is : (now : ℕ) (caps : Caps) (sum : ℕ) (b : Entry → Bool) (xs : List Entry) → Runs caps sum b xs
     → entries_passed now caps sum xs ≡ map (settled_at now b) xs
 passed_is now caps sum b [] runs = refl
 passed_is now caps sum b (x ∷ xs) runs =
@@ -311,3 +313,56 @@ pass_skip now caps start first before sum i order es d l full unbooked at =
     no_moment : (since : Option Cs) → is_some since ≡ false → since ≡ None
     no_moment None h = refl
     no_moment (Some c) h = cc
+
+-- ---- where no booking is lost, a pass moves nobody
+
+-- who is in order stays where he is
+pub in_order : (now : ℕ) (xs : List Entry) → IsRanked now xs → importance_order now xs ≡ xs
+in_order now [] r = refl
+in_order now (x ∷ xs) r = ap (place now x) (in_order now xs r.1) ∙ first xs r.0
+  where
+    first : (ys : List Entry) → AllByRecursion (λ y. comes_after now y x ≡ true) ys → place now x ys ≡ x ∷ ys
+    first [] h = refl
+    first (y ∷ ys) h = ap (λ v. cond v (x ∷ y ∷ ys) (y ∷ place now x ys)) h.0
+
+-- which of two entries comes after the other goes by their moments, and by nothing else that a pass sets
+abbrev after_at : ℕ → ℕ → Entry → Entry → Bool
+after_at m n y x =
+    not (stream_of x == stream_of y)
+    && is_lt (ordering_then (nat_cmp (class_number x.want.class) (class_number y.want.class))
+    (ordering_then (nat_cmp (rank_number x.want.rank) (rank_number y.want.rank))
+    (ordering_then (nat_cmp m n) (nat_cmp x.want.stream.0 y.want.stream.0))))
+
+-- a pass moves the moment of an entry from none to this one, or not at all, where it ends no booking
+moment_stays : (now : ℕ) (x : Entry) (s : Option Cs) (v : Bool) → x.since ≡ s → loses x v ≡ false → moment_or now (since_after now s v) ≡ moment_or now s
+moment_stays now x None true e h = refl
+moment_stays now x None false e h = refl
+moment_stays now x (Some t) true e h = refl
+moment_stays now x (Some t) false e h = absurd (let lost : true ≡ false = sym (ap is_some e) ∙ h in cc)
+
+or_none : (p q : Bool) → (p || q) ≡ false → (p ≡ false) × (q ≡ false)
+or_none true q h = absurd (let none : true ≡ false = h in cc)
+or_none false q h = (refl, h)
+
+module _ (now : ℕ) (caps : Caps) where
+  all_passed : (x : Entry) (v : Bool) (sum : ℕ) (ys : List Entry) → loses x v ≡ false → AllByRecursion (λ y. comes_after now y x ≡ true) ys → has_loss caps sum ys ≡ false
+      → AllByRecursion (λ y. comes_after now y (record x { since = since_after now x.since v }) ≡ true) (entries_passed now caps sum ys)
+  all_passed x v sum [] stays h none = tt
+  all_passed x v sum (y ∷ ys) stays h none =
+      let w : Bool = has_room caps sum y in
+      let parts = or_none (loses y w) (has_loss caps (sum_with sum y w) ys) none in (
+        ap (λ m. after_at m (moment_or now (since_after now y.since w)) y x) (moment_stays now x x.since v refl stays)
+            ∙ (ap (λ n. after_at (moment_or now x.since) n y x) (moment_stays now y y.since w refl parts.0) ∙ h.0),
+        all_passed x v (sum_with sum y w) ys stays h.1 parts.1,
+      )
+
+  ranked_passed : (sum : ℕ) (xs : List Entry) → IsRanked now xs → has_loss caps sum xs ≡ false → IsRanked now (entries_passed now caps sum xs)
+  ranked_passed sum [] r none = tt
+  ranked_passed sum (x ∷ xs) r none =
+      let v : Bool = has_room caps sum x in
+      let parts = or_none (loses x v) (has_loss caps (sum_with sum x v) xs) none in
+      (all_passed x v (sum_with sum x v) xs parts.0 r.0 parts.1, ranked_passed (sum_with sum x v) xs r.1 parts.1)
+
+  pub stays_ranked : (sum : ℕ) (xs : List Entry) → IsRanked now xs → has_loss caps sum xs ≡ false
+      → entries_passed now caps sum xs ≡ importance_order now (entries_passed now caps sum xs)
+  stays_ranked sum xs r none = sym (in_order now (entries_passed now caps sum xs) (ranked_passed sum xs r none))

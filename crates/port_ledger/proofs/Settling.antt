@@ -11,7 +11,7 @@ use Rattle.stream_importance.specs.declared.slope.Caps.{Caps}
 use Rattle.stream_importance.specs.Bandwidth.{cap_of}
 use Rattle.stream_importance.specs.Importance.{IsImportanceOrder}
 use Rattle.port_ledger.specs.Decision.{entry_slope, comes_after, is_booked}
-use Rattle.port_ledger.specs.Front.{AreLasting, first_booked, has_level, is_prior_to, IsAhead, IsBehind, IsSettled, same_level, settled_front, stays_after, stays_behind}
+use Rattle.port_ledger.specs.Front.{AreLasting, first_booked, first_level, has_level, is_of_level, is_prior_to, level_of, IsAhead, IsBehind, IsSettled, same_level, settled_front, settled_levels, stays_after, stays_behind}
 use Rattle.port_ledger.specs.Pass.{place, importance_order}
 use Rattle.port_ledger.proofs.Levels.{after_behind, after_later, after_parts, behind_later, behind_parts, below_from, comes_level, differ, level, not_same, prior_back, prior_beyond, same_is}
 use Rattle.port_ledger.proofs.Marking.{all_of}
@@ -124,6 +124,22 @@ ahead_settled now k n f r a le b e =
     (settled_seam now n (f ++ take k r) (drop k r) (omega (arith, e, length-append f (take k r), length-take-le k r le)) more)
 
 -- ---- how much of a ranked list is settled
+
+-- what is counted by the levels alone is the settled front
+level_same : (x : Entry) (xs : List Entry) → is_of_level x (first_level xs) ≡ has_level x (first_booked xs)
+level_same x [] = refl
+level_same x (y ∷ ys) = by_test (is_booked y) (level_same x ys)
+  where
+    by_test : (v : Bool) → is_of_level x (first_level ys) ≡ has_level x (first_booked ys)
+        → is_of_level x (cond v (Some (level_of y)) (first_level ys)) ≡ has_level x (cond v (Some y) (first_booked ys))
+    by_test true h = refl
+    by_test false h = h
+
+pub levels_settled : (xs : List Entry) → settled_levels xs ≡ settled_front xs
+levels_settled [] = refl
+levels_settled (x ∷ xs) =
+    ap (λ v. cond (not (is_booked x) && v) 0 (suc (settled_levels xs))) (level_same x xs)
+    ∙ ap (λ n. cond (not (is_booked x) && has_level x (first_booked xs)) 0 (suc n)) (levels_settled xs)
 
 pub settled_short : (xs : List Entry) → settled_front xs ≤ length xs
 settled_short [] = omega arith

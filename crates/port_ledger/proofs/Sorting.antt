@@ -1,15 +1,14 @@
 -- What changed between two lists is what changed between those of their entries that they don't share.
-use Rattle.std.proofs.Common.{◌≡◌, ◌≢◌, suc, ◌≤◌, ◌<◌, Bool, true, false, not, ◌&&◌, ◌||◌, cond, List, [], ◌∷◌, ◌++◌, map, filter, get_or, refl, sym, ◌∙◌, ap, subst, arith, inl, inr}
+use Rattle.std.proofs.Common.{◌≡◌, ◌≢◌, ◌<◌, Bool, true, false, not, ◌&&◌, ◌||◌, cond, List, [], ◌∷◌, ◌++◌, filter, refl, sym, ◌∙◌, ap, subst}
 use Rattle.std.specs.List.{AllByRecursion, list_any}
-use Rattle.std.specs.List.Sorted.{IsNonDecreasingBy, IsPermutation}
-use Rattle.std.proofs.lemmas.Bool.{cases_lt, or_from, or_left}
-use Rattle.std.proofs.lemmas.List.Elements.{All-from_recursion, recursion_from_All}
-use Rattle.std.proofs.lemmas.List.Sorted.{IsPermutation-sym, IsPermutation-trans, list_any-IsPermutation}
+use Rattle.std.specs.List.Sorted.{IsPermutation}
+use Rattle.std.proofs.lemmas.Bool.{or_from, or_left}
+use Rattle.std.proofs.lemmas.List.Sorted.{list_any-IsPermutation}
 use Rattle.stream_importance.specs.declared.entry.Entry.{Entry}
 use Rattle.port_ledger.specs.Decision.{stream_of, is_booked, AreOfDifferentStreams, IsAscending}
-use Rattle.port_ledger.specs.Book.{booked_only_in, same_entry}
+use Rattle.port_ledger.specs.Book.{same_entry}
 use Rattle.port_ledger.specs.Front.{AreBehind}
-use Rattle.port_ledger.proofs.Comparing.{both_in, in_own, only_in, AreIn}
+use Rattle.port_ledger.proofs.Comparing.{in_own, only_in}
 use Rattle.port_ledger.proofs.Finding.{differ}
 use Rattle.port_ledger.proofs.Marking.{different_from_ascending}
 use Rattle.port_ledger.proofs.Moving.{filter_permuted}
@@ -17,37 +16,18 @@ use Rattle.port_ledger.proofs.Ranking.{different_permuted}
 use Rattle.port_ledger.proofs.Rounds.{filter_agree}
 use Rattle.port_ledger.proofs.Running.{all_with}
 
--- entries of different streams that don't fall ascend
-pub ascending_from_sorted : (xs : List Entry) → AreOfDifferentStreams xs → IsNonDecreasingBy stream_of xs → IsAscending xs
-ascending_from_sorted [] d up = tt
-ascending_from_sorted (x ∷ xs) d up = (
-  recursion_from_All (λ y. stream_of x < stream_of y) xs
-      (λ k e l.
-      let le : stream_of x ≤ stream_of (get_or xs k e) = up 0 (suc k) e (omega arith) (omega (arith, l)) in
-      let ne : stream_of x ≢ stream_of (get_or xs k e) = All-from_recursion (λ y. stream_of x ≢ stream_of y) xs d.0 k e l in
-      elim (cases_lt (stream_of x) (stream_of (get_or xs k e))) [ inl under ↦ under | inr over ↦ absurd (ne (omega (arith, le, over))) ]),
-  ascending_from_sorted xs d.1 (λ i j e le l. up (suc i) (suc j) e (omega (arith, le)) (omega (arith, l))),
-)
-
 all_filtered : (P : Entry → Type 0) (p : Entry → Bool) (xs : List Entry) → AllByRecursion P xs → AllByRecursion P (filter p xs)
 all_filtered P p [] h = tt
 all_filtered P p (x ∷ xs) h =
     elim (p x) as (λ v. AllByRecursion P (cond v (x ∷ filter p xs) (filter p xs))) [ true ↦ (h.0, all_filtered P p xs h.1) | false ↦ all_filtered P p xs h.1 ]
 
-ascending-filter : (p : Entry → Bool) (xs : List Entry) → IsAscending xs → IsAscending (filter p xs)
+pub ascending-filter : (p : Entry → Bool) (xs : List Entry) → IsAscending xs → IsAscending (filter p xs)
 ascending-filter p [] up = tt
 ascending-filter p (x ∷ xs) up =
     elim (p x) as (λ v. IsAscending (cond v (x ∷ filter p xs) (filter p xs))) [
       | true ↦ (all_filtered (λ y. stream_of x < stream_of y) p xs up.0, ascending-filter p xs up.1)
       | false ↦ ascending-filter p xs up.1
     ]
-
--- ascending lists of the same entries are one
-permuted_in : (xs ys : List Entry) → IsPermutation xs ys → AreIn ys xs
-permuted_in xs ys p = all_with xs (in_own xs) (in_own xs) (λ x h _. sym (list_any-IsPermutation (same_entry x) xs ys p) ∙ h)
-
-one_list : (xs ys : List Entry) → IsAscending xs → IsAscending ys → IsPermutation xs ys → xs ≡ ys
-one_list xs ys up down p = both_in xs ys up down (permuted_in xs ys p) (permuted_in ys xs (IsPermutation-sym xs ys p))
 
 any_join : (p : Entry → Bool) (xs ys : List Entry) → list_any p (xs ++ ys) ≡ (list_any p xs || list_any p ys)
 any_join p [] ys = refl
@@ -58,7 +38,7 @@ any_join p (x ∷ xs) ys = ap (λ v. p x || v) (any_join p xs ys) ∙ or_assoc (
     or_assoc false b c = refl
 
 -- what is shared counts for nothing
-none_filtered : (p : Entry → Bool) (xs ys : List Entry) → AllByRecursion (λ x. p x ≡ false) xs → filter p (xs ++ ys) ≡ filter p ys
+pub none_filtered : (p : Entry → Bool) (xs ys : List Entry) → AllByRecursion (λ x. p x ≡ false) xs → filter p (xs ++ ys) ≡ filter p ys
 none_filtered p [] ys h = refl
 none_filtered p (x ∷ xs) ys h = ap (λ v. cond v (x ∷ filter p (xs ++ ys)) (filter p (xs ++ ys))) h.0 ∙ none_filtered p xs ys h.1
 
@@ -80,28 +60,20 @@ others_apart (f ∷ front) xs d =
     right [] zs h = h
     right (y ∷ ys) zs h = right ys zs h.1
 
-only_same : (front xs ys these those a b : List Entry) → AreBehind front xs these → AreBehind front ys those → IsAscending a → IsPermutation xs a
-    → IsPermutation ys b → only_in a b ≡ only_in these those
-only_same front xs ys these those a b new old up p q =
+pub only_permuted : (front xs ys these those : List Entry) → AreBehind front xs these → AreBehind front ys those → IsPermutation (only_in these those) (only_in xs ys)
+only_permuted front xs ys these those new old =
     let whole : Entry → Bool = λ x. is_booked x && not (list_any (same_entry x) those) in
-    let part : Entry → Bool = λ x. is_booked x && not (list_any (same_entry x) b) in
+    let part : Entry → Bool = λ x. is_booked x && not (list_any (same_entry x) ys) in
     let shared : AllByRecursion (λ x. whole x ≡ false) front =
     all_with front (in_own front) (in_own front)
     (λ x h _. no_booking (is_booked x) (list_any (same_entry x) those)
     (list_any-IsPermutation (same_entry x) those (front ++ ys) old.same ∙ (any_join (same_entry x) front ys ∙ or_left (list_any (same_entry x) front) (list_any (same_entry x) ys) h))) in
+    let away : AllByRecursion (λ x. list_any (same_entry x) front ≡ false) xs =
+    others_apart front xs (different_permuted these (front ++ xs) new.same (different_from_ascending these new.ascending)) in
     let agree : AllByRecursion (λ x. whole x ≡ part x) xs =
-    all_with xs
-    (others_apart front xs (different_permuted these (front ++ xs) new.same (different_from_ascending these new.ascending)))
-    (others_apart front xs (different_permuted these (front ++ xs) new.same (different_from_ascending these new.ascending)))
+    all_with xs away away
     (λ x h _. ap (λ v. is_booked x && not v)
     (list_any-IsPermutation (same_entry x) those (front ++ ys) old.same
-    ∙ (any_join (same_entry x) front ys ∙ (ap (λ v. v || list_any (same_entry x) ys) h ∙ list_any-IsPermutation (same_entry x) ys b q)))) in
+    ∙ (any_join (same_entry x) front ys ∙ ap (λ v. v || list_any (same_entry x) ys) h))) in
     let cut : filter whole (front ++ xs) ≡ filter part xs = none_filtered whole front xs shared ∙ filter_agree whole part xs agree in
-    let same : IsPermutation (filter whole these) (filter part xs) =
-    subst (λ (zs : List Entry). IsPermutation (filter whole these) zs) cut (filter_permuted whole these (front ++ xs) new.same) in
-    sym (one_list (filter whole these) (filter part a) (ascending-filter whole these new.ascending) (ascending-filter part a up)
-    (IsPermutation-trans (filter whole these) (filter part xs) (filter part a) same (filter_permuted part xs a p)))
-
-pub changed_behind : (front xs ys these those a b : List Entry) → AreBehind front xs these → AreBehind front ys those → IsAscending a → IsPermutation xs a
-    → IsPermutation ys b → booked_only_in a b ≡ booked_only_in these those
-changed_behind front xs ys these those a b new old up p q = ap (map (λ (x : Entry). x.want.stream)) (only_same front xs ys these those a b new old up p q)
+    subst (λ (zs : List Entry). IsPermutation (filter whole these) zs) cut (filter_permuted whole these (front ++ xs) new.same)

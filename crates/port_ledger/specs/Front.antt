@@ -6,6 +6,7 @@ use Rattle.stream_importance.specs.declared.entry.Entry.{Entry}
 use Rattle.stream_importance.specs.declared.slope.Caps.{Caps}
 use Rattle.stream_importance.specs.Bandwidth.{cap_of}
 use Rattle.stream_importance.specs.Importance.{class_number, rank_number, is_more_important, moment_or}
+use Rattle.port_ledger.specs.declared.front.Level.{Level}
 use Rattle.port_ledger.specs.declared.front.Standing.{Standing}
 use Rattle.port_ledger.specs.declared.totals.Totals.{Totals}
 use Rattle.port_ledger.specs.Decision.{comes_after, entry_slope, is_booked, IsAscending}
@@ -71,6 +72,25 @@ has_level x (Some y) = same_level x y
 abbrev pub settled_front : List Entry → ℕ
 settled_front [] = 0
 settled_front (x ∷ xs) = if not (is_booked x) && has_level x (first_booked xs) then 0 else suc (settled_front xs)
+
+-- the class and the rank of an entry
+abbrev pub level_of : Entry → Level
+level_of x = record { class = x.want.class; rank = x.want.rank }
+
+-- whether an entry is of a level, where there is one
+abbrev pub is_of_level : Entry → Option Level → Bool
+is_of_level x None = false
+is_of_level x (Some l) = (class_number x.want.class == class_number l.class) && (rank_number x.want.rank == rank_number l.rank)
+
+-- the level of the first entry that is booked
+abbrev pub first_level : List Entry → Option Level
+first_level [] = None
+first_level (x ∷ xs) = if is_booked x then Some (level_of x) else first_level xs
+
+-- the same number by the levels alone
+abbrev pub settled_levels : List Entry → ℕ
+settled_levels [] = 0
+settled_levels (x ∷ xs) = if not (is_booked x) && is_of_level x (first_level xs) then 0 else suc (settled_levels xs)
 
 -- y is more important than x, and stays so when x is booked anew
 abbrev pub is_prior : ℕ → Entry → Entry → Bool

@@ -11,7 +11,7 @@ use Rattle.stream_importance.specs.declared.entry.Want.{Want}
 use Rattle.stream_importance.specs.declared.slope.Caps.{Caps}
 use Rattle.stream_importance.specs.Bandwidth.{cap_of}
 use Rattle.port_ledger.specs.Decision.{stream_of, entry_slope, is_booked, comes_after, since_after}
-use Rattle.port_ledger.specs.Book.{entry_of, entry_with, is_normal, same_entry, same_want, unbooked_entry}
+use Rattle.port_ledger.specs.Book.{entry_of, is_normal, same_entry, same_want, unbooked_entry, without}
 
 -- an entry among entries in the order of importance: before the first that it precedes
 abbrev pub place : ℕ → Entry → List Entry → List Entry
@@ -59,11 +59,6 @@ with_pass now caps sum (x ∷ xs) entries =
 abbrev pub IsOnlyIn : List Entry → Entry → Type 0
 IsOnlyIn entries x = AllByRecursion (λ e. stream_of e ≡ stream_of x → e ≡ x) entries
 
--- the entries once a want of a stream that has an entry has come
-abbrev pub with_want_in_place : List Entry → Want → List Entry
-with_want_in_place entries want =
-    map (λ x. if stream_of x == want.stream.0 then entry_with x want else x) entries
-
 -- whether an entry, where there is one, has this want
 abbrev pub has_same : Option Entry → Want → Bool
 has_same None want = false
@@ -73,9 +68,9 @@ has_same (Some x) want = same_want x.want want
 abbrev pub has_want : List Entry → Want → Bool
 has_want entries want = has_same (entry_of entries want.stream) want
 
--- the order once a want has come, of a stream that has an entry in it or is new and goes last
-abbrev pub order_with : List Entry → Want → Bool → List Entry
-order_with order want known = if known then with_want_in_place order want else order ++ unbooked_entry want ∷ []
+-- the order once a want has come in place of what its stream wanted: it goes last
+abbrev pub exchanged : List Entry → Want → List Entry
+exchanged order want = without order want.stream ++ unbooked_entry want ∷ []
 
 -- the stream of an entry that is booked
 abbrev pub booked_stream : Entry → List StreamId

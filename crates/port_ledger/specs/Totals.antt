@@ -42,3 +42,7 @@ together t more =
       class_b = t.class_b + more.class_b;
       new_count = t.new_count + more.new_count;
     }
+
+-- what both classes take
+abbrev pub both_of : Totals → ℕ
+both_of t = t.class_a + t.class_b

@@ -1,13 +1,10 @@
 //! What a call changed in the booked set.
 
-ghost use Rattle.std.specs.Prelude.{◌≡◌, ◌<◌, ◌++◌, List, [], length, drop, IfOk, IsPermutation, OnOk};
+ghost use Rattle.std.specs.Prelude.{◌≡◌, ◌<◌, ◌++◌, [], length, drop, IfOk, OnOk};
 ghost use Rattle.port_ledger.specs.Book.{booked_only_in, same_entry};
-ghost use Rattle.port_ledger.specs.Decision.{AreOfDifferentStreams, IsAscending};
-ghost use Rattle.port_ledger.specs.Front.{AreBehind};
-ghost use Rattle.stream_importance.specs.declared.entry.Entry.{Entry};
+ghost use Rattle.port_ledger.specs.Decision.{IsAscending};
 ghost use Rattle.port_ledger.specs.Pass.{begins_with_entry, from_stream, booked_stream, booked_streams_below};
 
-use crate::entries::copy_of;
 use srp_base::{NoMemory, Seq, StreamId};
 use std::alloc::Global;
 use stream_importance::Entry;
@@ -32,47 +29,6 @@ impl Changed {
             dropped: Seq::new(alloc),
         }
     }
-}
-
-/// What changed in the booked set where these entries stood behind a front and those stand there now. Whatever else
-/// there is, is the same before and after, and so counts for nothing.
-pub(crate) fn changes_behind(
-    alloc: Global,
-    before: &[Entry],
-    after: &[Entry],
-) -> Result<Changed, NoMemory>
-    requires before { AreOfDifferentStreams before.now }
-    requires after { AreOfDifferentStreams after.now }
-    ensures booked { IfOk result (λ c. (front old new : List Entry)
-        → AreBehind front before.now old → AreBehind front after.now new
-        → c.booked ≡ booked_only_in new old) }
-    ensures dropped { IfOk result (λ c. (front old new : List Entry)
-        → AreBehind front before.now old → AreBehind front after.now new
-        → c.dropped ≡ booked_only_in old new) }
-{
-    let before = by_stream(alloc, before)?;
-    let after = by_stream(alloc, after)?;
-    let changed = changes(alloc, &before, &after)?;
-    Ok(changed)
-}
-
-/// The entries in ascending order.
-fn by_stream(alloc: Global, entries: &[Entry]) -> Result<Vec<Entry>, NoMemory>
-    requires { AreOfDifferentStreams entries.now }
-    ensures ascending { IfOk result (λ v. IsAscending v.items) }
-    ensures same { IfOk result (λ v. IsPermutation entries.now v.items) }
-{
-    let mut sorted = copy_of(alloc, entries)?;
-    sort(&mut sorted);
-    Ok(sorted)
-}
-
-fn sort(entries: &mut [Entry])
-    requires { AreOfDifferentStreams entries.old }
-    ensures ascending { IsAscending entries.new }
-    ensures same { IsPermutation entries.old entries.new }
-{
-    entries.sort_unstable_by_key(|x| x.want.stream.0);
 }
 
 /// What changed in the booked set between two lists of entries: one walk along both.

@@ -1,20 +1,22 @@
 //! Which entries are booked at a moment: one pass with a running sum over the entries in the order of
 //! importance, from the first place that a call changes, and the moments set accordingly.
 
-ghost use Rattle.std.specs.Prelude.{◌≡◌, ◌+◌, ◌≤◌, ◌<◌, ◌^◌, ◌++◌, true, length, take, drop, IfOk, OnErr, OnOk};
+ghost use Rattle.std.specs.Prelude.{◌≡◌, ◌≢◌, ◌+◌, ◌≤◌, ◌<◌, ◌^◌, ◌++◌, ◌||◌, true, false, length, take, drop, vec_capacity, vec_len, IfOk, OnErr, OnOk};
 ghost use Rattle.std.specs.List.{AllByRecursion};
 ghost use Rattle.srp_base.specs.declared.bandwidth.Class.TheVariants.{A, B};
-ghost use Rattle.port_ledger.specs.Book.{booked_only_in, booked_slope, same_since, with_want, without};
-ghost use Rattle.port_ledger.specs.Decision.{AreOfDifferentStreams, decided_entries, IsAscending, since_after};
-ghost use Rattle.port_ledger.specs.Front.{settled_front, decided_behind, IsFront, IsOrdered, IsOrderedBook};
-ghost use Rattle.port_ledger.specs.Pass.{has_room, importance_order, IsOnlyIn, entries_passed, order_with, with_pass, sum_with, with_since};
-ghost use Rattle.port_ledger.specs.Totals.{together, totals_of};
+ghost use Rattle.port_ledger.specs.Book.{booked_only_in, booked_slope, entry_of, same_since, with_want, without};
+ghost use Rattle.port_ledger.specs.Decision.{AreOfDifferentStreams, decided_entries, IsAscending, since_after, stream_of};
+ghost use Rattle.port_ledger.specs.Front.{settled_front, decided_behind, AreBehind, IsFront, IsOrdered, IsOrderedBook};
+ghost use Rattle.port_ledger.specs.Notes.{booking_of, gains, has_loss, loses, noted, streams_passed};
+ghost use Rattle.port_ledger.specs.Pass.{exchanged, has_room, has_want, importance_order, IsOnlyIn, entries_passed, with_pass, sum_with, with_since};
+ghost use Rattle.port_ledger.specs.Totals.{both_of, together, totals_of};
 ghost use Rattle.stream_importance.specs.Bandwidth.{cap_of};
 
-use crate::changed::{Changed, changes_behind};
+use crate::changed::Changed;
 use crate::entries::{find_entry, place_of, put, take_out};
 use crate::front::{Front, Standing, behind, cut, settled_front};
-use crate::order::{change, leave, order_with, rank};
+use crate::notes::Notes;
+use crate::order::{exchange, leave, rank};
 use crate::totals::{Totals, totals_of};
 use srp_base::{Cs, NoMemory, StreamId};
 use std::alloc::Global;
@@ -30,8 +32,9 @@ pub(crate) fn wanted(
     order: &mut Vec<Entry>,
     want: Want,
 ) -> Result<(Standing, Changed), NoMemory>
-    requires { IsOrderedBook now.0 caps.now standing.now
+    requires book { IsOrderedBook now.0 caps.now standing.now
         entries.old.items order.old.items }
+    requires other { has_want entries.old.items want ≡ false }
     ensures decided { OnOk result (entries.new.items
         ≡ decided_entries now.0 caps.now (with_want entries.old.items want)) }
     ensures ordered { IfOk result (λ r. IsOrdered now.0 r.0
@@ -43,59 +46,84 @@ pub(crate) fn wanted(
     ensures entries_stay { OnErr result (entries.new.items ≡ entries.old.items) }
     ensures order_stays { OnErr result (order.new.items ≡ order.old.items) }
 {
-    let plan = plan_want(alloc, now, caps, standing, entries, order, want)?;
+    importance_is_an_order();
+    let goes = find_entry(entries, want.stream);
+    let front = cut_for(now, caps, standing, entries, order, goes, want);
+    let mut notes = Notes::with_room(alloc, order.len() - front.place + 2)?;
+    entries.reserve(1)?;
     order.reserve(1)?;
-    put(entries, want)?;
-    change(order, plan.front.place, want, plan.known);
-    let next = decide(now, caps, &plan.front, order, entries);
-    Ok((next, plan.changed))
+    let next = entered(now, caps, &front, entries, order, goes, want, &mut notes);
+    Ok((next, notes.changed()))
 }
 
-/// What a want will change.
-#[derive(Drop)]
-struct Plan {
-    known: bool,
-    front: Front,
-    changed: Changed,
-}
-
-fn plan_want(
-    alloc: Global,
+/// Cuts the order before all that a want concerns, which isn't kept yet.
+fn cut_for(
     now: Cs,
     caps: &Caps,
     standing: &Standing,
     entries: &[Entry],
     order: &[Entry],
+    goes: Option<Entry>,
     want: Want,
-) -> Result<Plan, NoMemory>
-    requires { IsOrderedBook now.0 caps.now standing.now entries.now order.now }
-    ensures place { IfOk result (λ p. p.front.place ≤ length order.now) }
-    ensures front { IfOk result (λ p. IsFront now.0 caps.now p.front.place p.front.totals
+) -> Front
+    requires book { IsOrderedBook now.0 caps.now standing.now entries.now order.now }
+    requires goes { goes ≡ entry_of entries.now want.stream }
+    requires other { has_want entries.now want ≡ false }
+    ensures place { result.place ≤ length order.now }
+    ensures behind { AreBehind (take result.place order.now) (drop result.place order.now)
+        entries.now }
+    ensures apart { AllByRecursion (λ y. stream_of y ≢ want.stream.0)
+        (take result.place order.now) }
+    ensures front { IsFront now.0 caps.now result.place result.totals
         (with_want entries.now want)
-        (take p.front.place order.now ++ order_with (drop p.front.place order.now) want p.known)) }
-    ensures booked { IfOk result (λ p. p.changed.booked
-        ≡ booked_only_in (decided_entries now.0 caps.now (with_want entries.now want)) entries.now) }
-    ensures dropped { IfOk result (λ p. p.changed.dropped
-        ≡ booked_only_in entries.now (decided_entries now.0 caps.now (with_want entries.now want))) }
+        (take result.place order.now ++ exchanged (drop result.place order.now) want) }
 {
     importance_is_an_order();
-    let goes = find_entry(entries, want.stream);
-    let known = goes.is_some();
-    let front = cut(
+    cut(
         now,
         standing,
         order,
         goes,
         Some(Entry { want, since: None }),
-    );
-    let rest = behind(order, front.place);
-    let next = decided_copy(alloc, now, caps, front.totals.taken(), rest, want, known)?;
-    let changed = changes_behind(alloc, rest, &next)?;
-    Ok(Plan {
-        known,
-        front,
-        changed,
-    })
+    )
+}
+
+/// Puts a want in behind a front, where room is at hand, and decides. The notes have what changes in the booked set.
+fn entered(
+    now: Cs,
+    caps: &Caps,
+    front: &Front,
+    entries: &mut Vec<Entry>,
+    order: &mut Vec<Entry>,
+    goes: Option<Entry>,
+    want: Want,
+    notes: &mut Notes,
+) -> Standing
+    requires place { front.now.place ≤ length order.old.items }
+    requires behind { AreBehind (take front.now.place order.old.items)
+        (drop front.now.place order.old.items) entries.old.items }
+    requires front { IsFront now.0 caps.now front.now.place front.now.totals
+        (with_want entries.old.items want)
+        (take front.now.place order.old.items
+        ++ exchanged (drop front.now.place order.old.items) want) }
+    requires entries_room { vec_len entries.old < vec_capacity entries.old }
+    requires order_room { vec_len order.old < vec_capacity order.old }
+    ensures decided { entries.new.items
+        ≡ decided_entries now.0 caps.now (with_want entries.old.items want) }
+    ensures ordered { IsOrdered now.0 result entries.new.items order.new.items }
+    ensures booked { notes.new.booked.items
+        ≡ noted (vec_capacity notes.old.booked) notes.old.booked.items
+        (streams_passed gains caps.now (both_of front.now.totals)
+        (importance_order now.0 (exchanged (drop front.now.place order.old.items) want))) }
+    ensures dropped { notes.new.dropped.items
+        ≡ noted (vec_capacity notes.old.dropped) notes.old.dropped.items
+        (booking_of goes ++ streams_passed loses caps.now (both_of front.now.totals)
+        (importance_order now.0 (exchanged (drop front.now.place order.old.items) want))) }
+{
+    put(entries, want);
+    exchange(order, front.place, want);
+    notes.go(goes);
+    decide(now, caps, front, order, entries, notes)
 }
 
 /// Takes the entry of a stream out, decided at a moment. It takes no memory.
@@ -117,26 +145,8 @@ pub(crate) fn unwanted(
     let front = cut(now, standing, order, goes, None);
     take_out(entries, stream);
     leave(order, front.place, stream);
-    decide(now, caps, &front, order, entries)
-}
-
-/// The entries behind a front as they will be decided once this want has come, of a stream that is known or new.
-fn decided_copy(
-    alloc: Global,
-    now: Cs,
-    caps: &Caps,
-    taken: u64,
-    behind: &[Entry],
-    want: Want,
-    known: bool,
-) -> Result<Vec<Entry>, NoMemory>
-    requires { AreOfDifferentStreams (order_with behind.now want known) }
-    ensures { IfOk result (λ v. v.items
-        ≡ decided_behind now.0 caps.now taken (order_with behind.now want known)) }
-{
-    let mut next = order_with(alloc, behind, want, known)?;
-    decide_behind(now, caps, taken, &mut next, &mut []);
-    Ok(next)
+    let mut notes = Notes::without_room(*order.allocator());
+    decide(now, caps, &front, order, entries, &mut notes)
 }
 
 /// Decides the entries at a moment, from a place of their order on: those that are booked keep their moment or get
@@ -147,11 +157,20 @@ fn decide(
     front: &Front,
     order: &mut Vec<Entry>,
     entries: &mut Vec<Entry>,
+    notes: &mut Notes,
 ) -> Standing
     requires { IsFront now.0 caps.now front.now.place front.now.totals
         entries.old.items order.old.items }
     ensures decided { entries.new.items ≡ decided_entries now.0 caps.now entries.old.items }
     ensures ordered { IsOrdered now.0 result entries.new.items order.new.items }
+    ensures booked { notes.new.booked.items
+        ≡ noted (vec_capacity notes.old.booked) notes.old.booked.items
+        (streams_passed gains caps.now (both_of front.now.totals)
+        (importance_order now.0 (drop front.now.place order.old.items))) }
+    ensures dropped { notes.new.dropped.items
+        ≡ noted (vec_capacity notes.old.dropped) notes.old.dropped.items
+        (streams_passed loses caps.now (both_of front.now.totals)
+        (importance_order now.0 (drop front.now.place order.old.items))) }
 {
     decide_from(
         now,
@@ -159,6 +178,7 @@ fn decide(
         front,
         order.as_mut_slice(),
         entries.as_mut_slice(),
+        notes,
     )
 }
 
@@ -168,14 +188,31 @@ fn decide_from(
     front: &Front,
     order: &mut [Entry],
     entries: &mut [Entry],
+    notes: &mut Notes,
 ) -> Standing
     requires { IsFront now.0 caps.now front.now.place front.now.totals
         entries.old order.old }
     ensures decided { entries.new ≡ decided_entries now.0 caps.now entries.old }
     ensures ordered { IsOrdered now.0 result entries.new order.new }
+    ensures booked { notes.new.booked.items
+        ≡ noted (vec_capacity notes.old.booked) notes.old.booked.items
+        (streams_passed gains caps.now (both_of front.now.totals)
+        (importance_order now.0 (drop front.now.place order.old))) }
+    ensures dropped { notes.new.dropped.items
+        ≡ noted (vec_capacity notes.old.dropped) notes.old.dropped.items
+        (streams_passed loses caps.now (both_of front.now.totals)
+        (importance_order now.0 (drop front.now.place order.old))) }
 {
     importance_is_an_order();
-    decide_part(now, caps, front.totals.taken(), front.place, order, entries);
+    decide_part(
+        now,
+        caps,
+        front.totals.taken(),
+        front.place,
+        order,
+        entries,
+        notes,
+    );
     standing_of(now, front.place, &front.totals, order)
 }
 
@@ -202,6 +239,7 @@ fn decide_part(
     at: usize,
     order: &mut [Entry],
     entries: &mut [Entry],
+    notes: &mut Notes,
 )
     requires place { at ≤ length order.old }
     requires ascending { IsAscending entries.old }
@@ -211,43 +249,100 @@ fn decide_part(
         ≡ take at order.old ++ decided_behind now.0 caps.now taken (drop at order.old) }
     ensures entries { entries.new
         ≡ with_pass now.0 caps.now taken (importance_order now.0 (drop at order.old)) entries.old }
+    ensures booked { notes.new.booked.items
+        ≡ noted (vec_capacity notes.old.booked) notes.old.booked.items
+        (streams_passed gains caps.now taken (importance_order now.0 (drop at order.old))) }
+    ensures dropped { notes.new.dropped.items
+        ≡ noted (vec_capacity notes.old.dropped) notes.old.dropped.items
+        (streams_passed loses caps.now taken (importance_order now.0 (drop at order.old))) }
 {
-    decide_behind(now, caps, taken, &mut order[at..], entries);
+    decide_behind(now, caps, taken, &mut order[at..], entries, notes);
 }
 
 /// Decides the entries behind a front that takes so much, in bit/s, and ranks them again.
-fn decide_behind(now: Cs, caps: &Caps, taken: u64, behind: &mut [Entry], entries: &mut [Entry])
+fn decide_behind(
+    now: Cs,
+    caps: &Caps,
+    taken: u64,
+    behind: &mut [Entry],
+    entries: &mut [Entry],
+    notes: &mut Notes,
+)
     requires ascending { IsAscending entries.old }
     requires different { AreOfDifferentStreams behind.old }
     requires same { AllByRecursion (IsOnlyIn entries.old) behind.old }
     ensures behind { behind.new ≡ decided_behind now.0 caps.now taken behind.old }
     ensures entries { entries.new
         ≡ with_pass now.0 caps.now taken (importance_order now.0 behind.old) entries.old }
+    ensures booked { notes.new.booked.items
+        ≡ noted (vec_capacity notes.old.booked) notes.old.booked.items
+        (streams_passed gains caps.now taken (importance_order now.0 behind.old)) }
+    ensures dropped { notes.new.dropped.items
+        ≡ noted (vec_capacity notes.old.dropped) notes.old.dropped.items
+        (streams_passed loses caps.now taken (importance_order now.0 behind.old)) }
 {
+    importance_is_an_order();
     rank(now, behind);
-    pass(now, caps, taken, behind, entries);
-    rank(now, behind);
+    let lost = pass(now, caps, taken, behind, entries, notes);
+    rank_where(now, lost, behind);
 }
 
-/// Lets in what there is room for beside what is taken, in bit/s, in the order given, and sets the moments.
-fn pass(now: Cs, caps: &Caps, taken: u64, order: &mut [Entry], entries: &mut [Entry])
+/// Puts the entries into the order of importance again where a booking was lost. Else none has moved: what is booked
+/// anew has the moment that it counted with before.
+fn rank_where(now: Cs, lost: bool, entries: &mut [Entry])
+    requires { lost ≡ false → entries.old ≡ importance_order now.0 entries.old }
+    ensures { entries.new ≡ importance_order now.0 entries.old }
+{
+    if lost {
+        rank(now, entries);
+    }
+}
+
+/// Lets in what there is room for beside what is taken, in bit/s, in the order given, and sets the moments. The answer
+/// is whether a booking is lost.
+fn pass(
+    now: Cs,
+    caps: &Caps,
+    taken: u64,
+    order: &mut [Entry],
+    entries: &mut [Entry],
+    notes: &mut Notes,
+) -> bool
     requires ascending { IsAscending entries.old }
     requires different { AreOfDifferentStreams order.old }
     requires same { AllByRecursion (IsOnlyIn entries.old) order.old }
     ensures order { order.new ≡ entries_passed now.0 caps.now taken order.old }
     ensures entries { entries.new ≡ with_pass now.0 caps.now taken order.old entries.old }
+    ensures booked { notes.new.booked.items
+        ≡ noted (vec_capacity notes.old.booked) notes.old.booked.items
+        (streams_passed gains caps.now taken order.old) }
+    ensures dropped { notes.new.dropped.items
+        ≡ noted (vec_capacity notes.old.dropped) notes.old.dropped.items
+        (streams_passed loses caps.now taken order.old) }
+    ensures lost { result ≡ has_loss caps.now taken order.old }
 {
     let mut sum: u64 = taken;
+    let mut lost = false;
     for x in order.iter_mut() {
         let let_in = has_room(caps, sum, x);
         if !let_in && x.since.is_none() {
             continue;
         }
         let since = since_after(now, x.since, let_in);
+        lost = or_loses(lost, x, let_in);
+        notes.pass(x, let_in);
         set_since(entries, x, since);
         x.since = since;
         sum = sum_with(caps, sum, x, let_in);
     }
+    lost
+}
+
+/// Whether a booking was lost before, or this entry loses its own as it is let in or not.
+fn or_loses(lost: bool, x: &Entry, let_in: bool) -> bool
+    ensures { result ≡ (lost || loses x.now let_in) }
+{
+    lost || (!let_in && x.since.is_some())
 }
 
 /// Whether an entry's slope, beside what is taken, stays at or under its cap.

@@ -1,6 +1,6 @@
 //! The wanting streams as a list that ascends by StreamID.
 
-ghost use Rattle.std.specs.Prelude.{◌≡◌, ◌<◌, ◌≤◌, length, IfOk, IfErr, OnErr, OnOk};
+ghost use Rattle.std.specs.Prelude.{◌≡◌, ◌<◌, ◌≤◌, insert, length, vec_capacity, vec_len, IfOk, IfErr};
 ghost use Rattle.std.specs.List.{AllWithin, HoldsAt};
 ghost use Rattle.port_ledger.specs.Book.{entry_of, entry_with, with_want, without};
 ghost use Rattle.port_ledger.specs.Decision.{booked_of, IsAscending, stream_of};
@@ -51,20 +51,30 @@ pub(crate) fn copy_of(alloc: Global, entries: &[Entry]) -> Result<Vec<Entry>, No
     Ok(copy)
 }
 
-/// The want is put at its place. After want of memory the entries are as they were.
-pub(crate) fn put(entries: &mut Vec<Entry>, want: Want) -> Result<(), NoMemory>
-    requires { IsAscending entries.old.items }
-    ensures ok { OnOk result (entries.new.items ≡ with_want entries.old.items want) }
-    ensures err { OnErr result (entries.new.items ≡ entries.old.items) }
+/// The want is put at its place, where room is at hand.
+pub(crate) fn put(entries: &mut Vec<Entry>, want: Want)
+    requires ascending { IsAscending entries.old.items }
+    requires room { vec_len entries.old < vec_capacity entries.old }
+    ensures { entries.new.items ≡ with_want entries.old.items want }
 {
     match place_of(entries, want.stream) {
         Ok(place) => entries[place] = entry_with(entries[place], want),
-        Err(place) => entries.insert(place, Entry { want, since: None })?,
+        Err(place) => insert_reserved(entries, place, Entry { want, since: None }),
     }
-    Ok(())
 }
 
-pub(crate) fn entry_with(entry: Entry, want: Want) -> Entry
+fn insert_reserved(entries: &mut Vec<Entry>, place: usize, x: Entry)
+    requires place { place ≤ length entries.old.items }
+    requires room { vec_len entries.old < vec_capacity entries.old }
+    ensures { entries.new.items ≡ insert entries.old.items place x }
+{
+    match entries.insert(place, x) {
+        Ok(()) => {}
+        Err(_) => unreachable!(),
+    }
+}
+
+fn entry_with(entry: Entry, want: Want) -> Entry
     ensures { result ≡ entry_with entry want }
 {
     if entry.want != want {

@@ -7,10 +7,10 @@ ghost use Rattle.srp_base.specs.declared.bandwidth.Class.TheVariants.{A, B};
 ghost use Rattle.port_ledger.specs.Book.{booked_slope};
 ghost use Rattle.port_ledger.specs.Decision.{is_booked};
 ghost use Rattle.port_ledger.specs.Totals.{totals_of};
-ghost use Rattle.port_ledger.specs.Front.{AreLasting, ArePriorTo, has_level, is_prior, is_prior_to, IsSettled, later_standing, same_level, settled_front};
+ghost use Rattle.port_ledger.specs.Front.{AreLasting, ArePriorTo, is_of_level, is_prior, is_prior_to, IsSettled, later_standing, level_of, same_level, settled_front};
 
 use crate::totals::{Totals, totals_of};
-use srp_base::Cs;
+use srp_base::{Class, Cs, Rank};
 use stream_importance::{Entry, importance_is_an_order, more_important};
 
 /// What a ledger keeps beside its entries and their order.
@@ -126,6 +126,13 @@ pub(crate) fn behind(order: &[Entry], at: usize) -> &[Entry]
     &order[at..]
 }
 
+/// A class with a rank.
+#[derive(Clone, Copy)]
+pub(crate) struct Level {
+    pub class: Class,
+    pub rank: Rank,
+}
+
 /// The number of entries before the first that isn't booked and has one behind it that is booked, of its level: that
 /// one comes before it as soon as the moment moves.
 pub(crate) fn settled_front(entries: &[Entry]) -> usize
@@ -137,37 +144,43 @@ pub(crate) fn settled_front(entries: &[Entry]) -> usize
     let mut at = entries.len();
     while at > 0 {
         at -= 1;
-        let x = entries[at];
-        settled = settled_with(&x, booked, settled);
-        booked = first_booked(x, booked);
+        settled = settled_with(&entries[at], booked, settled);
+        booked = first_level(&entries[at], booked);
     }
     settled
 }
 
-/// The number with an entry in front, where this is the first booked entry behind it.
-fn settled_with(x: &Entry, booked: Option<Entry>, settled: usize) -> usize
+/// The number with an entry in front, where this is the level of the first booked entry behind it.
+fn settled_with(x: &Entry, booked: Option<Level>, settled: usize) -> usize
     requires { settled + 1 < 2 ^ 64 }
     ensures { result
-        ≡ (if not (is_booked x.now) && has_level x.now booked then 0 else settled + 1) }
+        ≡ (if not (is_booked x.now) && is_of_level x.now booked then 0 else settled + 1) }
 {
-    if x.since.is_none() && has_level(x, booked) {
+    if x.since.is_none() && is_of_level(x, booked) {
         0
     } else {
         settled + 1
     }
 }
 
-fn has_level(x: &Entry, booked: Option<Entry>) -> bool
-    ensures { result ≡ has_level x.now booked }
+fn is_of_level(x: &Entry, level: Option<Level>) -> bool
+    ensures { result ≡ is_of_level x.now level }
 {
-    match booked {
-        Some(y) => same_level(x, &y),
+    match level {
+        Some(level) => x.want.class == level.class && x.want.rank == level.rank,
         None => false,
     }
 }
 
-fn first_booked(x: Entry, booked: Option<Entry>) -> Option<Entry>
-    ensures { result ≡ (if is_booked x then Some x else booked) }
+fn first_level(x: &Entry, booked: Option<Level>) -> Option<Level>
+    ensures { result ≡ (if is_booked x.now then Some (level_of x.now) else booked) }
 {
-    if x.since.is_some() { Some(x) } else { booked }
+    if x.since.is_some() {
+        Some(Level {
+            class: x.want.class,
+            rank: x.want.rank,
+        })
+    } else {
+        booked
+    }
 }

@@ -45,6 +45,7 @@ mod fit;
 mod front;
 pub mod laws;
 mod ledger;
+mod notes;
 mod order;
 mod totals;
 

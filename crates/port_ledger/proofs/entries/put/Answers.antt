@@ -6,14 +6,15 @@ use Rattle.port_ledger.proofs.entries.put.Goals as goal
 pub returns-in-Ok : goal.returns-in-Ok
 returns-in-Ok c =
     let found = rw c.deref.ensures.value at c.in-Ok.ensures.found in
-    record {
-      ok =
-          ap (set c.args.entries.now.items c.in-Ok.place) (c.entry_with.ensures ∙ ap (λ e. entry_with e c.args.want) c.index.ensures)
-          ∙ with_want-found _ _ _ _ c.requires found.0 (found.1 c.index.result.now);
-      err = tt;
-    }
+    ap (set c.args.entries.now.items c.in-Ok.place) (c.entry_with.ensures ∙ ap (λ e. entry_with e c.args.want) c.index.ensures)
+    ∙ with_want-found _ _ _ _ c.requires.ascending found.0 (found.1 c.index.result.now)
 
-pub returns-in_ok-insert-in-Err : goal.returns-in_ok-insert-in-Err
-returns-in_ok-insert-in-Err c =
+pub insert_reserved-requires-clause-place : goal.insert_reserved-requires-clause-place
+insert_reserved-requires-clause-place c =
     let missing = rw c.deref.ensures.value at c.in-Err.ensures.missing in
-    record { ok = c.in_ok-insert-in-Err.ensures.items ∙ with_want-missing _ _ _ missing.0 missing.1 missing.2; err = tt }
+    missing.0
+
+pub returns-in-Err : goal.returns-in-Err
+returns-in-Err c =
+    let missing = rw c.deref.ensures.value at c.in-Err.ensures.missing in
+    c.insert_reserved.ensures ∙ with_want-missing _ _ _ missing.0 missing.1 missing.2

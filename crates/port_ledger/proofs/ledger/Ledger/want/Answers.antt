@@ -13,8 +13,8 @@ use Rattle.port_ledger.proofs.Rounds.{decided_decides}
 use Rattle.port_ledger.proofs.Changing.{ordered_later}
 use Rattle.port_ledger.proofs.ledger.Ledger.want.Goals as goal
 
-pub wanted-requires : goal.wanted-requires
-wanted-requires c =
+pub wanted-requires-clause-book : goal.wanted-requires-clause-book
+wanted-requires-clause-book c =
     let book : Book = record { caps = c.self.inside.caps; moment = c.self.inside.moment.0; entries = c.self.inside.entries.items } in
     let up : book.moment ≤ c.args.now.0 = subst (λ (b : Book). b.moment ≤ c.args.now.0) (sym c.self.view_is) c.requires in
     record {
