@@ -19,7 +19,7 @@
 //!  link <--octets-- send <--- participant of the port
 //! ```
 //!
-//! Contracts see a `Streams` (`specs/Side.antt`): the link ports, each a `Port` with its participant's state and
+//! Contracts see a `Streams` (`specs/Side.antt`): the link ports, each a `PortState` with its participant's state and
 //! its ledger's book, the awaiting keys, and what the application asked for, all as lists; each call's clause is
 //! the whole side after it. `specs/Domain.antt` says which Domain values a port declares, and where it is a boundary.
 //! `specs/Stream.antt` says of one stream which port is the Talker's, what each link port declares of the Talker and of
@@ -65,5 +65,4 @@ pub use app::MsrpApp;
 pub use asking::SrpRequest;
 pub use clock::ClockSets;
 pub use domain::DomainSet;
-pub use port::Port;
 pub use side::MsrpSide;

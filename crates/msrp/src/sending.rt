@@ -40,13 +40,13 @@ impl MsrpSide {
         let alloc = *self.ports.allocator();
         let at = usize::from(port.0) - 1;
         let before = port_at(self.ports.as_slice(), at);
-        if before.part.still() {
+        if before.part().still() {
             return Ok(None);
         }
-        match said_by(alloc, before.part.copy()?, now)? {
+        match said_by(alloc, before.part().copy()?, now)? {
             Some(said) => {
                 let port = &mut self.ports[at];
-                port.part = said.0;
+                port.put_part(said.0);
                 Ok(Some(said.1))
             }
             None => Ok(None),

@@ -5,7 +5,6 @@ ghost use Rattle.std.specs.List.{filter_map, flat_map};
 ghost use Rattle.srp_base.specs.declared.numbers.StreamId.{StreamId};
 ghost use Rattle.srp_base.specs.declared.streams.Talker.{Talker};
 ghost use Rattle.msrp_codec.specs.declared.pdu.MsrpKey.TheVariants as keys;
-ghost use Rattle.msrp.specs.declared.port.Port.{Port};
 ghost use Rattle.msrp.specs.Part.{key_cmp, settled_as, settled_part};
 ghost use Rattle.msrp.specs.Stream.{registrations_of, stated_at, talkers_of, wanted_at};
 ghost use Rattle.attribute_propagation.specs.Ports.{IsLinkPort, count_of, place_of};
@@ -118,7 +117,7 @@ fn settled(
 {
     let port = port_at(ports, at);
     let ledger = next_ledger(alloc, talks, listens, ports, at, port, awaiting.as_slice())?;
-    let moved = moved_streams(&port.ledger, &ledger)?;
+    let moved = moved_streams(port.ledger(), &ledger)?;
     let keys = settling_keys(alloc, talks, ports, moved.as_slice(), awaiting)?;
     let told = listener_keys(alloc, moved.as_slice())?;
     let after = restated(alloc, talks, listens, ports, at, ledger, keys.as_slice())?;
@@ -223,7 +222,7 @@ pub(crate) fn talker_keys(
 {
     let mut keys = own_talker_keys(alloc, talks)?;
     for port in ports {
-        push_talkers(&mut keys, &port.part)?;
+        push_talkers(&mut keys, port.part())?;
     }
     Ok(keys)
 }
@@ -331,7 +330,7 @@ fn next_ledger(
 {
     let _ = listens;
     let streams = streams_in(alloc, awaiting)?;
-    let mut ledger = port.ledger.copy()?;
+    let mut ledger = port.ledger().copy()?;
     take_out_all(&mut ledger, talks, ports, at, port, streams.as_slice());
     enter_all(&mut ledger, talks, ports, at, port, streams.as_slice())?;
     Ok(ledger)
@@ -421,14 +420,9 @@ fn restated(
         (record port { ledger = ledger }))) }
 {
     let port = &ports[at];
-    let mut part = port.part.copy()?;
+    let mut part = port.part().copy()?;
     settle_all(
         alloc, &mut part, talks, listens, ports, at, port, &ledger, keys,
     )?;
-    Ok(Port {
-        config: port.config,
-        domain: port.domain,
-        part,
-        ledger,
-    })
+    Ok(port.with(part, ledger))
 }

@@ -10,7 +10,7 @@ ghost use Rattle.srp_base.specs.declared.streams.ListenerKind.TheVariants.{Ready
 ghost use Rattle.port_ledger.specs.Book.{fit_for};
 ghost use Rattle.msrp_talker.specs.TalkerOut.{talker_in};
 ghost use Rattle.msrp_codec.specs.declared.pdu.MsrpContent.TheVariants as contents;
-ghost use Rattle.msrp.specs.declared.port.Port.{Port};
+ghost use Rattle.msrp.specs.PortState.{PortState};
 ghost use Rattle.msrp.specs.Part.{talker_reg_of, listener_kind_of, registered_talker, registered_listener, talker_content};
 ghost use Rattle.msrp.specs.Stream.{talk_of, is_listened, listener_row, registrations_of, talkers_of, want_in_class, is_number, is_present, first_talker, is_talker_port, want_of_talker, want_of_reg, is_ready, wanted_at, fit_at, talker_at, is_advertised, own_listener, other_listeners, heard_from, listener_at, stated_at};
 
@@ -99,8 +99,8 @@ pub(crate) fn is_listened(listens: &[StreamId], stream: StreamId) -> bool
 fn listener_row(port: &Port, stream: StreamId) -> Option<PortListener>
     ensures { result ≡ listener_row stream port.now }
 {
-    let booked = port.ledger.booked(stream).is_some();
-    registered_listener(&port.part, stream).map(|kind| PortListener { kind, booked })
+    let booked = port.ledger().booked(stream).is_some();
+    registered_listener(port.part(), stream).map(|kind| PortListener { kind, booked })
 }
 
 // Whether a Talker is registered.
@@ -142,7 +142,7 @@ fn talker_port(ports: &[Port], stream: StreamId) -> Option<TalkerPort>
         ≡ find is_present (map (λ p. registered_talker stream p.part) ports.now) }
 {
     for (place, port) in ports.iter().enumerate() {
-        let reg = registered_talker(&port.part, stream);
+        let reg = registered_talker(port.part(), stream);
         if is_present(&reg) {
             return Some(TalkerPort { place, reg });
         }
@@ -159,7 +159,7 @@ pub(crate) fn talker_of(talks: &[Talker], ports: &[Port], stream: StreamId) -> T
 
 // Whether the application is a stream's Talker's port.
 pub(crate) fn is_own(talks: &[Talker], stream: StreamId) -> bool
-    ensures { (ports : List Port) → result ≡ is_talker_port 0 (talkers_of talks.now ports stream) }
+    ensures { (ports : List PortState) → result ≡ is_talker_port 0 (talkers_of talks.now ports stream) }
 {
     talk_of(talks, stream).is_some()
 }
@@ -263,14 +263,14 @@ pub(crate) fn wanted_at(
 ) -> Option<Want>
     ensures { result ≡ wanted_at at port.now (talkers_of talks.now ports.now stream) stream }
 {
-    if !is_ready(registered_listener(&port.part, stream)) {
+    if !is_ready(registered_listener(port.part(), stream)) {
         return None;
     }
     let seen = seen_from(talks, ports, at, stream);
     if seen.is_here {
         return None;
     }
-    let edge = is_edge(port.domain, &port.part, seen.reg);
+    let edge = is_edge(port.domain(), port.part(), seen.reg);
     want_of_reg(edge, seen.reg)
 }
 
@@ -335,9 +335,9 @@ fn talker_at(
     if seen.is_here {
         return TalkerReg::Absent;
     }
-    let edge = is_edge(port.domain, &port.part, seen.reg);
+    let edge = is_edge(port.domain(), port.part(), seen.reg);
     let fit = fit_of(seen.reg, ledger, ledger.moment()).unwrap_or(Fit::Fits);
-    talker_out(seen.reg, &port.config, edge, fit)
+    talker_out(seen.reg, port.config(), edge, fit)
 }
 
 // The application as a port with a Listener, by what is registered at the Talker's port.
@@ -479,7 +479,7 @@ pub(crate) fn stated_at(
             let kind = listener_at(alloc, talks, listens, ports, at, stream)?;
             Ok(listener_content(kind))
         }
-        MsrpKey::Domain(class) => Ok(domain_stated(port.domain, class)),
+        MsrpKey::Domain(class) => Ok(domain_stated(port.domain(), class)),
     }
 }
 

@@ -179,7 +179,7 @@ fn push_all_registered(out: &mut Vec<MsrpKey>, ports: &[Port]) -> Result<(), NoM
         ≡ out.old.items ++ flat_map (λ p. registered_keys p.part) ports.now) }
 {
     for port in ports {
-        push_registered(out, &port.part)?;
+        push_registered(out, port.part())?;
     }
     Ok(())
 }

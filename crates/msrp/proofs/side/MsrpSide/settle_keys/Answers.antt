@@ -3,7 +3,7 @@ use Rattle.std.specs.Prelude.{slice_get, slice_index_or, slice_set, IfSome}
 use Rattle.attribute_propagation.specs.Dirty.{KeySet}
 use Rattle.attribute_propagation.specs.Ports.{count_of, keys_in, marked_elsewhere}
 use Rattle.msrp_codec.specs.declared.pdu.MsrpKey.{MsrpKey}
-use Rattle.msrp.specs.declared.port.Port.{Port}
+use Rattle.msrp.specs.PortState.{PortState}
 use Rattle.msrp.specs.Part.{key_cmp}
 use Rattle.msrp.specs.Settling.{listener_keys, moved_streams, next_book, settled_port, talker_keys}
 use Rattle.msrp.specs.Side.{Streams, awaiting_at, seen_by, settled_streams}
@@ -58,10 +58,10 @@ keys c = read-get (before c).awaiting c.args.at c.set_at.result.now.keys (ap (λ
 sets : (c : After-drop-told-2) → keys_in c.put_sets.new.sets.items ≡ marked_elsewhere key_cmp c.args.at c.in_ok-port.told.items (before c).awaiting
 sets c = search rules
 
-next : (c : After-drop-told-2) → IfSome (slice_get (before c).ports c.args.at) (λ (p : Port). c.in_ok-port.port ≡ settled_port c.args.at (seen_by (before c)) (talker_keys (before c).talks (before c).ports) c.set_at.result.now.keys p)
+next : (c : After-drop-told-2) → IfSome (slice_get (before c).ports c.args.at) (λ (p : PortState). c.in_ok-port.port ≡ settled_port c.args.at (seen_by (before c)) (talker_keys (before c).talks (before c).ports) c.set_at.result.now.keys p)
 next c = rw (c.as_slice.ensures.value, c.as_slice-2.ensures.value, c.as_slice-3.ensures.value) at c.in_ok-port.ensures.port
 
-told : (c : After-drop-told-2) → IfSome (slice_get (before c).ports c.args.at) (λ (p : Port). c.in_ok-port.told.items ≡ listener_keys (moved_streams p.ledger (next_book c.args.at (seen_by (before c)) c.set_at.result.now.keys p)))
+told : (c : After-drop-told-2) → IfSome (slice_get (before c).ports c.args.at) (λ (p : PortState). c.in_ok-port.told.items ≡ listener_keys (moved_streams p.ledger (next_book c.args.at (seen_by (before c)) c.set_at.result.now.keys p)))
 told c = rw (c.as_slice.ensures.value, c.as_slice-2.ensures.value, c.as_slice-3.ensures.value) at c.in_ok-port.ensures.told
 
 done : (c : After-drop-told-2) → HasSettled (before c) c.args.at c.in_ok-port.port (keys_in c.put_sets.new.sets.items)
@@ -97,4 +97,4 @@ returns-clause-count c =
     ∙ ap (λ (v : Streams). awaiting_at c.args.at v) c.self.view_is))
 
 pub settled-requires : goal.settled-requires
-settled-requires c = omega (arith, c.requires, ap (λ (v : Streams). length v.ports) c.self.view_is, ap (λ (ps : List Port). length ps) c.as_slice-3.ensures.value)
+settled-requires c = omega (arith, c.requires, ap (λ (v : Streams). length v.ports) c.self.view_is, ap (λ (ps : List PortState). length ps) c.as_slice-3.ensures.value)
