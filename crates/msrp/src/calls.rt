@@ -203,16 +203,9 @@ impl MsrpSide {
     {
         each_port_is_told::<MsrpKey>();
         a_place_for_each_key::<MsrpApp>();
-        let awaiting = told_sets(
-            alloc,
-            self.awaiting.as_slice(),
-            at,
-            told,
-            self.talks.as_slice(),
-            self.listens.as_slice(),
-            self.ports.as_slice(),
-            port_at(self.ports.as_slice(), at).domain(),
-        )?;
+        let view = self.view(at);
+        let domain = view.port().domain();
+        let awaiting = told_sets(alloc, &view, domain, self.awaiting.as_slice(), told)?;
         put_sets(&mut self.awaiting, awaiting);
         let port = &mut self.ports[at];
         port.put_part(part);

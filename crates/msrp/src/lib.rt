@@ -60,6 +60,7 @@ mod stream;
 #[cfg(test)]
 mod tests;
 mod told;
+mod view;
 
 pub use app::MsrpApp;
 pub use asking::SrpRequest;

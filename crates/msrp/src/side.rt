@@ -134,7 +134,7 @@ impl MsrpSide {
     pub fn talker(&self, stream: StreamId) -> TalkerReg
         ensures { result ≡ talker_of stream self.now }
     {
-        talker_of(self.talks.as_slice(), self.ports.as_slice(), stream)
+        talker_of(&self.view(0), stream)
     }
 
     /// Whether the application talks a stream.
@@ -163,7 +163,7 @@ impl MsrpSide {
         if is_own(self.talks.as_slice(), stream) {
             return None;
         }
-        heard_of(talker_of(self.talks.as_slice(), self.ports.as_slice(), stream))
+        heard_of(talker_of(&self.view(0), stream))
     }
 
     /// Whether what a stream's Talker asks for fits at a link port, by its ledger, at a moment in cs that isn't before
@@ -178,14 +178,7 @@ impl MsrpSide {
     {
         let at = usize::from(port.0) - 1;
         let port = &self.ports[at];
-        fit_at(
-            self.talks.as_slice(),
-            self.ports.as_slice(),
-            at,
-            port.ledger(),
-            now,
-            stream,
-        )
+        fit_at(&self.view(at), port.ledger(), now, stream)
     }
 
     /// Whether nothing is pending at any port: every participant is at rest, and no key awaits.
