@@ -1,7 +1,7 @@
 //! What a link port sends.
 
 ghost use Rattle.std.specs.Prelude.{◌≡◌, ◌≢◌, ◌<◌, ◌≤◌, ◌+◌, ◌^◌, false, [], length, sum_by, is_none, IfOk, IfSome};
-ghost use Rattle.mrp_participant.specs.State.{is_silent, sent_state};
+ghost use Rattle.mrp_participant.specs.State.{is_silent};
 ghost use Rattle.attribute_propagation.specs.Ports.{IsLinkPort, place_of};
 ghost use Rattle.flat_side.specs.Codec.{IsWritten};
 ghost use Rattle.flat_side.specs.Part.{key_events};
@@ -11,9 +11,7 @@ use crate::app::FlatApp;
 use crate::calls::part_at;
 use crate::side::FlatSide;
 use attribute_propagation::laws::each_port_is_told;
-use mrp_participant::laws::{
-    declarations_stay, registrations_stay, rows_stay_rows, still_is_silent,
-};
+use mrp_participant::laws::{declarations_stay, registrations_stay};
 use mrp_participant::{Msgs, Participant};
 use srp_base::{Cs, MrpEvent, NoMemory, PortNo, Seq};
 use std::alloc::{AllocError, Global};
@@ -29,50 +27,39 @@ impl<A: FlatApp> FlatSide<A> {
             self.new }
     {
         each_port_is_told::<A::Key>();
-        still_is_silent::<A>();
         declarations_stay::<A>();
         registrations_stay::<A>();
-        rows_stay_rows::<A>();
         let alloc = *self.parts.allocator();
         let at = usize::from(port.0) - 1;
-        let part = part_at(self.parts.as_slice(), at);
-        if part.still() {
-            return Ok(None);
-        }
-        match said_by(alloc, part.copy()?, now)? {
-            Some(said) => {
-                self.parts[at] = said.0;
-                Ok(Some(said.1))
-            }
-            None => Ok(None),
-        }
-    }
-}
-
-// What a participant says, with the participant afterwards.
-fn said_by<A: FlatApp>(
-    alloc: Global,
-    part: Participant<A>,
-    now: Cs,
-) -> Result<Option<(Participant<A>, Seq<u8>)>, NoMemory>
-    requires { now.0 < 2 ^ 62 }
-    ensures silent { IfOk result (λ said. is_none said ≡ is_silent part) }
-    ensures after { IfOk result (λ said. IfSome said (λ r. r.0
-        ≡ sent_state A.base A.octets A.Key.cmp now part)) }
-    ensures written { IfOk result (λ said. IfSome said (λ r.
-        IsWritten A.codec (pdu_sent A.Key.cmp A.codec A.base A.octets now part) r.1)) }
-{
-    let mut part = part;
-    match part.send(now)? {
-        Some(msgs) => {
-            let octets = octets_of(alloc, &msgs)?;
-            Ok(Some((part, octets)))
-        }
-        None => Ok(None),
+        let octets = match said_by(alloc, part_at(self.parts.as_slice(), at), now)? {
+            Some(octets) => octets,
+            None => return Ok(None),
+        };
+        let part = &mut self.parts[at];
+        part.sent(now);
+        part.rows_ascend();
+        Ok(Some(octets))
     }
 }
 
 // The octets of what a participant says.
+fn said_by<A: FlatApp>(
+    alloc: Global,
+    part: &Participant<A>,
+    now: Cs,
+) -> Result<Option<Seq<u8>>, NoMemory>
+    requires { now.0 < 2 ^ 62 }
+    ensures silent { IfOk result (λ said. is_none said ≡ is_silent part.now) }
+    ensures written { IfOk result (λ said. IfSome said (λ octets.
+        IsWritten A.codec (pdu_sent A.Key.cmp A.codec A.base A.octets now part.now) octets)) }
+{
+    match part.plan(now)? {
+        Some(msgs) => Ok(Some(octets_of(alloc, &msgs)?)),
+        None => Ok(None),
+    }
+}
+
+// The octets of a list of messages.
 fn octets_of<A: FlatApp>(alloc: Global, msgs: &Msgs<A>) -> Result<Seq<u8>, NoMemory>
     requires fits { A.base + sum_by (λ e. A.octets e.2) msgs.now.events ≤ 1500 }
     requires says { msgs.now.leave_all ≡ false → msgs.now.events ≢ [] }

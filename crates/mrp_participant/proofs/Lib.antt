@@ -19,5 +19,6 @@ pub mod Places
 pub mod Sendings
 pub mod SentEvents
 pub mod StateLemmas
+pub mod Thinning
 pub mod Transitions
 pub mod Unchanged

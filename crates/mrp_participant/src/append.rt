@@ -1,6 +1,6 @@
-//! Lists of what is kept of some rows, made row by row.
+//! Lists of what is kept of some rows, made row by row, beside the rows or in their place.
 
-ghost use Rattle.std.specs.Prelude.{◌≡◌, ◌++◌, [], OnOk};
+ghost use Rattle.std.specs.Prelude.{◌≡◌, ◌<◌, ◌≤◌, ◌++◌, ℕ, [], take, drop, length, suc, OnOk};
 ghost use Rattle.std.specs.List.{cons_option};
 
 use srp_base::NoMemory;
@@ -13,4 +13,22 @@ pub(crate) fn push_some<T: Copy>(items: &mut Vec<T>, item: Option<T>) -> Result<
         items.push(item)?;
     }
     Ok(())
+}
+
+/// Puts an element, if there is one, at the end of the first `kept`, and answers how many those are then. The elements
+/// after that place stay.
+pub(crate) fn keep_at<T: Copy>(items: &mut Vec<T>, kept: usize, item: Option<T>) -> usize
+    requires { kept < length items.old.items }
+    ensures kept { take result items.new.items ≡ take kept items.old.items ++ cons_option item [] }
+    ensures few { result ≤ suc kept }
+    ensures rest { (n : ℕ) → kept < n → drop n items.new.items ≡ drop n items.old.items }
+    ensures length { length items.new.items ≡ length items.old.items }
+{
+    match item {
+        Some(item) => {
+            items[kept] = item;
+            kept + 1
+        }
+        None => kept,
+    }
 }

@@ -11,7 +11,7 @@ ghost use Rattle.mrp_participant.specs.Outlook.{IsOutlook, Tells};
 ghost use Rattle.mrp_participant.specs.State.{AreRows};
 ghost use Rattle.mrp_participant.specs.Hearing.{first_of, begun_row, row_so_far, heard_with, rows_as_one, put_over};
 
-use crate::lookup::{fill_at, find_row, place, replace_at};
+use crate::lookup::{fill_at, find_near, place, place_near, replace_at};
 use crate::outlook::{Outlook, exchange_row, outlook_of};
 use crate::row::{Row, makes_row};
 use srp_base::{Cs, MrpEvent, NoMemory};
@@ -33,16 +33,18 @@ pub(crate) fn rows_heard<K: Copy + Ord, C: Copy>(
         ≡ row_after_receive K.cmp leave leave_all events.now k (find K.cmp k rows.now)) }
 {
     let mut heard = Vec::new(alloc);
+    let mut near = 0;
     for event in events {
-        hear_beside(&mut heard, rows, leave_all, *event, leave)?;
+        hear_beside(&mut heard, rows, &mut near, leave_all, *event, leave)?;
     }
     Ok(heard)
 }
 
-/// Lets the row of a key hear an event, beside the rows.
+/// Lets the row of a key hear an event, beside the rows, in which it may stand at `near`.
 fn hear_beside<K: Copy + Ord, C: Copy>(
     heard: &mut Vec<Row<K, C>>,
     rows: &[Row<K, C>],
+    near: &mut usize,
     leave_all: bool,
     said: (MrpEvent, K, C),
     leave: Cs,
@@ -59,16 +61,17 @@ fn hear_beside<K: Copy + Ord, C: Copy>(
             replace_at(heard, at, Some(row.hears(event, content, leave)));
             Ok(())
         }
-        Err(at) => match first_heard(rows, leave_all, event, key, content, leave) {
+        Err(at) => match first_heard(rows, near, leave_all, event, key, content, leave) {
             Some(row) => fill_at(heard, at, row),
             None => Ok(()),
         },
     }
 }
 
-/// The row of a key after the first event of it.
+/// The row of a key, which may stand at `near`, after the first event of it.
 fn first_heard<K: Copy + Ord, C: Copy>(
     rows: &[Row<K, C>],
+    near: &mut usize,
     leave_all: bool,
     event: MrpEvent,
     key: K,
@@ -80,7 +83,7 @@ fn first_heard<K: Copy + Ord, C: Copy>(
         ≡ after_hear event key content leave
         (option_map (begun_row leave_all leave) (find K.cmp key rows.now)) }
 {
-    match find_row(rows, &key) {
+    match find_near(rows, &key, near) {
         Some(row) => Some(row.begun(leave_all, leave).hears(event, content, leave)),
         None => {
             if makes_row(event) {
@@ -147,8 +150,9 @@ fn are_known<K: Copy + Ord, C: Copy>(rows: &[Row<K, C>], heard: &[Row<K, C>]) ->
     requires { Ascends K.cmp key_of rows.now }
     ensures { result ≡ list_all (λ u. is_some (find K.cmp u.key rows.now)) heard.now }
 {
+    let mut near = 0;
     for row in heard {
-        if find_row(rows, &row.key).is_none() {
+        if find_near(rows, &row.key, &mut near).is_none() {
             return false;
         }
     }
@@ -243,21 +247,31 @@ fn put_known<K: Copy + Ord, C: Copy>(
     ensures rows { rows.new.items ≡ put_over K.cmp heard.now rows.old.items }
     ensures outlook { IsOutlook outlook.new rows.new.items }
 {
+    let mut near = 0;
     for row in heard {
-        put_in(rows, outlook, *row);
+        near = put_in(rows, outlook, near, *row);
     }
     *outlook = outlook.or_anew(rows.as_slice());
 }
 
-/// Puts a row in the place of that of its key.
-fn put_in<K: Copy + Ord, C: Copy>(rows: &mut Vec<Row<K, C>>, outlook: &mut Outlook, row: Row<K, C>)
+/// Puts a row in the place of that of its key, which may stand at `near`, and answers the place behind it.
+fn put_in<K: Copy + Ord, C: Copy>(
+    rows: &mut Vec<Row<K, C>>,
+    outlook: &mut Outlook,
+    near: usize,
+    row: Row<K, C>,
+) -> usize
     requires rows { Ascends K.cmp key_of rows.old.items }
     requires known { IsSome (find K.cmp row.key rows.old.items) }
     requires tells { Tells outlook.old rows.old.items }
     ensures rows { rows.new.items ≡ put K.cmp row.key (Some row) rows.old.items }
     ensures tells { Tells outlook.new rows.new.items }
 {
-    if let Ok(at) = place(rows.as_slice(), &row.key) {
-        exchange_row(rows, outlook, at, Some(row));
+    match place_near(rows.as_slice(), &row.key, near) {
+        Ok(at) => {
+            exchange_row(rows, outlook, at, Some(row));
+            at + 1
+        }
+        Err(at) => at,
     }
 }

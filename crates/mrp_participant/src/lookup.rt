@@ -1,11 +1,12 @@
 //! Rows ascending by key: where a key has its place, and the rows with another row for a key.
 
-ghost use Rattle.std.specs.Prelude.{◌≡◌, suc, ◌<◌, ◌≤◌, ◌++◌, take, drop, length, Some, IfOk, IfErr, OnOk, OnErr};
+ghost use Rattle.std.specs.Prelude.{◌≡◌, suc, ◌<◌, ◌≤◌, ◌++◌, take, drop, length, true, Some, IfOk, IfErr, OnOk, OnErr};
 ghost use Rattle.std.specs.List.{cons_option};
 ghost use Rattle.mrp_participant.specs.Lookup.{Ascends, key_of, find, IsRowAt, IsGapAt};
 
 use crate::row::Row;
 use srp_base::NoMemory;
+use std::cmp::Ordering;
 
 /// The place of a key's row, or the place at which a row of it would stand.
 pub(crate) fn place<K: Copy + Ord, C: Copy>(rows: &[Row<K, C>], key: &K) -> Result<usize, usize>
@@ -24,6 +25,59 @@ pub(crate) fn find_row<K: Copy + Ord, C: Copy>(rows: &[Row<K, C>], key: &K) -> O
     match place(rows, key) {
         Ok(at) => Some(rows[at]),
         Err(_) => None,
+    }
+}
+
+/// The same, where the row may stand at `near`: then it isn't searched for.
+pub(crate) fn place_near<K: Copy + Ord, C: Copy>(
+    rows: &[Row<K, C>],
+    key: &K,
+    near: usize,
+) -> Result<usize, usize>
+    requires { Ascends K.cmp key_of rows.now }
+    ensures row { IfOk result (λ i. IsRowAt K.cmp key.now rows.now i) }
+    ensures gap { IfErr result (λ i. IsGapAt K.cmp key.now rows.now i) }
+{
+    if stands_at(rows, key, near) {
+        Ok(near)
+    } else {
+        place(rows, key)
+    }
+}
+
+/// Whether a key's row stands at a place.
+fn stands_at<K: Copy + Ord, C: Copy>(rows: &[Row<K, C>], key: &K, at: usize) -> bool
+    requires { Ascends K.cmp key_of rows.now }
+    ensures { result ≡ true → IsRowAt K.cmp key.now rows.now at }
+{
+    if rows.len() <= at {
+        return false;
+    }
+    match rows[at].key.cmp(key) {
+        Ordering::Equal => true,
+        _ => false,
+    }
+}
+
+/// The row of a key that may stand at `near`, which is afterwards the place behind the key's: where keys come in
+/// order, most aren't searched for.
+pub(crate) fn find_near<K: Copy + Ord, C: Copy>(
+    rows: &[Row<K, C>],
+    key: &K,
+    near: &mut usize,
+) -> Option<Row<K, C>>
+    requires { Ascends K.cmp key_of rows.now }
+    ensures { result ≡ find K.cmp key.now rows.now }
+{
+    match place_near(rows, key, *near) {
+        Ok(at) => {
+            *near = at + 1;
+            Some(rows[at])
+        }
+        Err(at) => {
+            *near = at;
+            None
+        }
     }
 }
 

@@ -11,7 +11,7 @@ ghost use Rattle.mrp_participant.specs.State.{AreRows, rows_after_receive, chang
 use crate::application::{MrpApp, Msgs};
 use crate::event_order::{by_key, keys_ascend};
 use crate::hearing::{put_heard, rows_heard};
-use crate::lookup::find_row;
+use crate::lookup::find_near;
 use crate::outlook::Outlook;
 use crate::participant::Participant;
 use crate::row::Row;
@@ -110,8 +110,9 @@ fn changed<K: Copy + Ord, C: Copy + Eq>(
     ensures { IfOk result (λ keys. keys.items ≡ changed_keys K.cmp C.eq old.now new.now) }
 {
     let mut keys = Vec::new(alloc);
+    let mut near = 0;
     for row in new {
-        if !differs(old, row) {
+        if !differs(old, &mut near, row) {
             continue;
         }
         keys.push(row.key)?;
@@ -119,14 +120,19 @@ fn changed<K: Copy + Ord, C: Copy + Eq>(
     Ok(keys)
 }
 
-/// Whether what is registered in a row differs from what was registered of its key.
-fn differs<K: Copy + Ord, C: Copy + Eq>(old: &[Row<K, C>], row: &Row<K, C>) -> bool
+/// Whether what is registered in a row differs from what was registered of its key, whose row may have stood at
+/// `near`.
+fn differs<K: Copy + Ord, C: Copy + Eq>(
+    old: &[Row<K, C>],
+    near: &mut usize,
+    row: &Row<K, C>,
+) -> bool
     requires { Ascends K.cmp key_of old.now }
     ensures { result
         ≡ not (option_eq C.eq (registered_in (find K.cmp row.now.key old.now))
         (registered_in (Some row.now))) }
 {
-    let before = match find_row(old, &row.key) {
+    let before = match find_near(old, &row.key, near) {
         Some(row) => row.registered(),
         None => None,
     };

@@ -1,6 +1,6 @@
 //! What a participant sends (IEEE Std 802.1Q-2018, 10.7.6 and 10.8).
 
-ghost use Rattle.std.specs.Prelude.{◌≡◌, ◌<◌, ◌^◌, ◌+◌, ◌++◌, ◌≤◌, ◌≢◌, ◌||◌, false, [], sum_by, OnOk, OnErr, IfOk, IfSome, IfNone, is_none};
+ghost use Rattle.std.specs.Prelude.{◌≡◌, ◌<◌, ◌^◌, ◌+◌, ◌++◌, ◌≤◌, ◌≢◌, ◌||◌, true, false, [], sum_by, OnOk, OnErr, IfOk, IfSome, IfNone, is_none};
 ghost use Rattle.std.specs.List.{filter_map};
 ghost use Rattle.mrp_participant.specs.Lookup.{Ascends};
 ghost use Rattle.mrp_participant.specs.Sending.{sent_row, sent_event, is_taken};
@@ -8,7 +8,7 @@ ghost use Rattle.mrp_participant.specs.SendingLimit.{is_before, is_in_room};
 ghost use Rattle.mrp_participant.specs.Outlook.{IsOutlook};
 ghost use Rattle.mrp_participant.specs.State.{AreRows, is_active, is_silent, sent_events, sent_state};
 
-use crate::append::push_some;
+use crate::append::{keep_at, push_some};
 use crate::application::{MrpApp, Msgs};
 use crate::outlook::{Outlook, is_none_tried, outlook_of};
 use crate::participant::Participant;
@@ -16,14 +16,62 @@ use crate::row::{Row, round};
 use crate::sending_limit::{SendingLimit, find_limit};
 use leaveall::{LaEvent, LeaveAll};
 use srp_base::{Cs, MrpEvent, NoMemory, Seq};
+use std::alloc::Global;
 
 impl<A: MrpApp> Participant<A> {
-    /// What the participant sends at the moment `now`, in cs and below 2^62 (IEEE Std 802.1Q-2018, 10.7.6).
+    /// What `send` answers at the moment `now`, in cs and below 2^62; nothing changes (IEEE Std 802.1Q-2018, 10.7.6).
     ///
     /// The rows in VP, VN and LA, then those in AN and AA, each ascending by key, while the PDU stays within
     /// 1,500 octets. With LeaveAll those in VP and VN, in AN and AA, then also those in QA; LA then says nothing.
     /// A Join is JoinIn where the row's own Registrar is IN, else JoinMt; LeaveAll takes each Registrar out of
     /// IN first. The events stand ascending by key.
+    ///
+    /// None exactly where no row is VP, VN, AN, AA or LA and LeaveAll is Passive.
+    pub fn plan(&self, now: Cs) -> Result<Option<Msgs<A>>, NoMemory>
+        requires { now.0 < 2 ^ 62 }
+
+        ensures silent { IfOk result (λ planned. is_none planned ≡ is_silent self.now) }
+        ensures leave_all { IfOk result (λ planned. IfSome planned (λ msgs. msgs.leave_all
+            ≡ is_active self.now.leave_all)) }
+        ensures events { IfOk result (λ planned. IfSome planned (λ msgs. msgs.events
+            ≡ sent_events A.base A.octets A.Key.cmp now self.now)) }
+        ensures ascending { IfOk result (λ planned. IfSome planned (λ msgs. Ascends A.Key.cmp
+            (λ e. e.1) msgs.events)) }
+        ensures fits { IfOk result (λ planned. IfSome planned (λ msgs. A.base + sum_by
+            (λ e. A.octets e.2) msgs.events ≤ 1500)) }
+        ensures says { IfOk result (λ planned. IfSome planned (λ msgs. msgs.leave_all ≡ false
+            → msgs.events ≢ [])) }
+    {
+        if self.has_nothing_to_say() {
+            return Ok(None);
+        }
+        let leave_all = is_active(self.leave_all);
+        let leave = Cs(now.0 + self.leave_time.0);
+        let alloc = *self.rows.allocator();
+        let events = planned::<A>(alloc, self.rows.as_slice(), leave_all, leave)?;
+        Ok(Some(Msgs { leave_all, events }))
+    }
+
+    /// The change that `send` makes at the moment `now`, in cs and below 2^62, once what `plan` answers goes out
+    /// (IEEE Std 802.1Q-2018, 10.7.6): each row gets its transmission opportunity, LeaveAll is Passive, and a
+    /// LeaveAll makes the participant sound. Where nothing is to be said nothing changes. It takes no memory.
+    pub fn sent(&mut self, now: Cs)
+        requires { now.0 < 2 ^ 62 }
+        ensures after { self.new ≡ sent_state A.base A.octets A.Key.cmp now self.old }
+        ensures stays { is_silent self.old ≡ true → self.new ≡ self.old }
+    {
+        if self.has_nothing_to_say() {
+            return;
+        }
+        let leave_all = is_active(self.leave_all);
+        let leave = Cs(now.0 + self.leave_time.0);
+        step_rows::<A>(&mut self.rows, &mut self.outlook, leave_all, leave);
+        self.leave_all = self.leave_all.step(LaEvent::Tx);
+        self.sound = sound_after(self.sound, leave_all);
+    }
+
+    /// What the participant sends at the moment `now`, in cs and below 2^62 (IEEE Std 802.1Q-2018, 10.7.6): what
+    /// `plan` answers, with the change of `sent`.
     ///
     /// None exactly where no row is VP, VN, AN, AA or LA and LeaveAll is Passive; nothing changes then. A LeaveAll
     /// makes the participant sound. After want of memory it is as it was.
@@ -45,15 +93,9 @@ impl<A: MrpApp> Participant<A> {
         ensures stays { IfOk result (λ sent. IfNone sent (self.new ≡ self.old)) }
         ensures err { OnErr result (self.new ≡ self.old) }
     {
-        if self.has_nothing_to_say() {
-            return Ok(None);
-        }
-        let leave_all = is_active(self.leave_all);
-        let leave = Cs(now.0 + self.leave_time.0);
-        let events = send_rows::<A>(&mut self.rows, &mut self.outlook, leave_all, leave)?;
-        self.leave_all = self.leave_all.step(LaEvent::Tx);
-        self.sound = sound_after(self.sound, leave_all);
-        Ok(Some(Msgs { leave_all, events }))
+        let planned = self.plan(now)?;
+        self.sent(now);
+        Ok(planned)
     }
 
     /// Whether there is nothing to say.
@@ -78,33 +120,39 @@ fn sound_after(sound: bool, leave_all: bool) -> bool
     leave_all || sound
 }
 
-/// Sends the rows, and answers what is sent. After want of memory the rows are as they were.
-fn send_rows<A: MrpApp>(
+/// What the rows say in the PDU.
+fn planned<A: MrpApp>(
+    alloc: Global,
+    rows: &[Row<A::Key, A::Content>],
+    leave_all: bool,
+    leave: Cs,
+) -> Result<Seq<(MrpEvent, A::Key, A::Content)>, NoMemory>
+    requires { AreRows A.Key.cmp rows.now }
+    ensures { IfOk result (λ events. events
+        ≡ filter_map (λ r. sent_event leave_all
+        (is_taken A.base A.octets A.Key.cmp leave_all rows.now r) leave r) rows.now) }
+{
+    let limit = find_limit::<A>(rows, leave_all);
+    let events = say_each(alloc, rows, leave_all, &limit, leave)?;
+    Ok(Seq::from_vec(events))
+}
+
+/// Gives each row its opportunity, in place.
+fn step_rows<A: MrpApp>(
     rows: &mut Vec<Row<A::Key, A::Content>>,
     outlook: &mut Outlook,
     leave_all: bool,
     leave: Cs,
-) -> Result<Seq<(MrpEvent, A::Key, A::Content)>, NoMemory>
-    requires are_rows { AreRows A.Key.cmp rows.old.items }
-    requires outlook { IsOutlook outlook.old rows.old.items }
-    ensures rows { OnOk result (rows.new.items
+)
+    requires { AreRows A.Key.cmp rows.old.items }
+    ensures rows { rows.new.items
         ≡ filter_map (λ r. sent_row leave_all
-        (is_taken A.base A.octets A.Key.cmp leave_all rows.old.items r) leave r) rows.old.items) }
-    ensures events { IfOk result (λ events. events
-        ≡ filter_map (λ r. sent_event leave_all
-        (is_taken A.base A.octets A.Key.cmp leave_all rows.old.items r) leave r) rows.old.items) }
-    ensures err { OnErr result (rows.new.items ≡ rows.old.items) }
+        (is_taken A.base A.octets A.Key.cmp leave_all rows.old.items r) leave r) rows.old.items }
     ensures outlook { IsOutlook outlook.new rows.new.items }
 {
-    let alloc = *rows.allocator();
-    let all = rows.as_slice();
-    let limit = find_limit::<A>(all, leave_all);
-    let mut events = Vec::new(alloc);
-    let mut after = Vec::new(alloc);
-    send_each(all, leave_all, &limit, leave, &mut events, &mut after)?;
-    *outlook = outlook_of(after.as_slice());
-    *rows = after;
-    Ok(Seq::from_vec(events))
+    let limit = find_limit::<A>(rows.as_slice(), leave_all);
+    step_each(rows, leave_all, &limit, leave);
+    *outlook = outlook_of(rows.as_slice());
 }
 
 /// Whether a row is tried, and before the first one that finds no room.
@@ -135,25 +183,42 @@ fn is_before<K: Copy + Ord, C: Copy>(
     }
 }
 
-/// Sends row by row: puts what the rows say, ascending by key, at the end of a list, and the rows after it at the
-/// end of another.
-fn send_each<K: Copy + Ord, C: Copy>(
+/// What the rows say, ascending by key.
+fn say_each<K: Copy + Ord, C: Copy>(
+    alloc: Global,
     rows: &[Row<K, C>],
     leave_all: bool,
     limit: &Option<SendingLimit<K>>,
     leave: Cs,
-    events: &mut Vec<(MrpEvent, K, C)>,
-    after: &mut Vec<Row<K, C>>,
-) -> Result<(), NoMemory>
-    ensures events { OnOk result (events.new.items ≡ events.old.items ++ filter_map
+) -> Result<Vec<(MrpEvent, K, C)>, NoMemory>
+    ensures { IfOk result (λ v. v.items ≡ filter_map
         (λ r. sent_event leave_all (is_in_room K.cmp leave_all limit.now r) leave r) rows.now) }
-    ensures rows { OnOk result (after.new.items ≡ after.old.items ++ filter_map
-        (λ r. sent_row leave_all (is_in_room K.cmp leave_all limit.now r) leave r) rows.now) }
 {
+    let mut events = Vec::new(alloc);
     for row in rows {
         let taken = is_in_room(row, leave_all, limit);
-        push_some(events, row.says(leave_all, taken, leave))?;
-        push_some(after, row.sent(leave_all, taken, leave))?;
+        push_some(&mut events, row.says(leave_all, taken, leave))?;
     }
-    Ok(())
+    Ok(events)
+}
+
+/// Puts each row after sending in its place, and closes the gaps of those of which nothing is kept.
+fn step_each<K: Copy + Ord, C: Copy>(
+    rows: &mut Vec<Row<K, C>>,
+    leave_all: bool,
+    limit: &Option<SendingLimit<K>>,
+    leave: Cs,
+)
+    ensures { rows.new.items ≡ filter_map
+        (λ r. sent_row leave_all (is_in_room K.cmp leave_all limit.now r) leave r) rows.old.items }
+{
+    let mut kept = 0;
+    let mut at = 0;
+    while at < rows.len() {
+        let row = rows[at];
+        let taken = is_in_room(&row, leave_all, limit);
+        kept = keep_at(rows, kept, row.sent(leave_all, taken, leave));
+        at += 1;
+    }
+    rows.truncate(kept);
 }

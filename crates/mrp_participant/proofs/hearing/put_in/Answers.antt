@@ -4,8 +4,8 @@ use Rattle.std.specs.declared.option.Option.TheVariants.{Some}
 use Rattle.mrp_participant.specs.Lookup.{Ascends, key_of, put}
 use Rattle.mrp_participant.proofs.hearing.put_in.Goals as goal
 
-pub place-requires : goal.place-requires
-place-requires g c = subst (Ascends g.K.Ord.cmp key_of) (sym c.as_slice.ensures.value) c.requires.rows
+pub place_near-requires : goal.place_near-requires
+place_near-requires g c = subst (Ascends g.K.Ord.cmp key_of) (sym c.as_slice.ensures.value) c.requires.rows
 
 pub exchange_row-requires-clause-within : goal.exchange_row-requires-clause-within
 exchange_row-requires-clause-within g c = subst (λ rows. c.in-Ok.at < length rows) c.as_slice.ensures.value c.in-Ok.ensures.row.within
