@@ -2,7 +2,7 @@
 
 ghost use Rattle.std.specs.Prelude.{◌≡◌, ◌+◌, ◌≤◌, ◌<◌, ◌^◌, false, IfOk};
 ghost use Rattle.mrp_participant.specs.State.{IsTime, leave_all_state, periodic_state};
-ghost use Rattle.msrp.specs.Part.{Part};
+ghost use Rattle.msrp.specs.Part.{Part, sent_part};
 ghost use Rattle.msrp.specs.Side.{clocked_port, new_port, shows_at, with_part};
 
 use crate::app::MsrpApp;
@@ -120,6 +120,14 @@ impl Port {
         ensures { self.new ≡ with_part part self.old }
     {
         self.part = part;
+    }
+
+    // What the participant had to say has gone out.
+    pub(crate) fn sent(&mut self, now: Cs)
+        requires { now.0 < 2 ^ 62 }
+        ensures { self.new ≡ with_part (sent_part now self.old.part) self.old }
+    {
+        self.part.sent(now);
     }
 
     // The LeaveAll timer fires.
