@@ -15,7 +15,7 @@ use Rattle.mrp_participant.specs.State.{declared_at}
 use Rattle.msrp_codec.specs.declared.pdu.MsrpKey.{MsrpKey}
 use Rattle.msrp_codec.specs.declared.pdu.MsrpKey.TheVariants as keys
 use Rattle.msrp_codec.specs.declared.pdu.MsrpContent.TheVariants as contents
-use Rattle.msrp.specs.declared.port.Port.{Port}
+use Rattle.msrp.specs.PortState.{PortState}
 use Rattle.msrp.specs.Part.{key_cmp, registered_talker, talker_content}
 use Rattle.msrp.specs.Stream.{Registrations, edge_at, is_listened, is_talker_port, listener_at, listener_row, stated_at, talk_of, talker_at, first_talker, talkers_of, advertise_of, want_of_talker, wanted_at}
 use Rattle.msrp.specs.Settling.{talker_keys}
@@ -38,7 +38,7 @@ map_twice f g (x ∷ xs) same = ap (λ y. y ∷ map f (map g xs)) (same x) ∙ a
 seen_clocked : (now : ℕ) (side : Streams) (s : StreamId) → seen_by (clocked_streams now side) s ≡ seen_by side s
 seen_clocked now side s =
     ap (λ ts. record { talkers = advertise_of (talk_of s side.talks) ∷ ts; listens = is_listened s side.listens; listeners = map (listener_row s) (map (clocked_port now) side.ports) })
-    (map_twice (λ (q : Port). registered_talker s q.part) (clocked_port now) side.ports (λ q. refl))
+    (map_twice (λ (q : PortState). registered_talker s q.part) (clocked_port now) side.ports (λ q. refl))
     ∙ ap (λ ls. record { talkers = talkers_of side.talks side.ports s; listens = is_listened s side.listens; listeners = ls })
     (map_twice (listener_row s) (clocked_port now) side.ports (λ q. refl))
 
@@ -47,22 +47,22 @@ same_fit : (f g : Want → Fit) (o : Option Want) → ((w : Want) → f w ≡ g 
 same_fit f g None same = refl
 same_fit f g (Some w) same = ap (λ x. Some x) (same w)
 
-stated_clocked : (at : ℕ) (p : Port) (now : ℕ) (talkers : List TalkerReg) → ((want : Want) → fit_for now p.ledger want ≡ fit_for p.ledger.moment p.ledger want)
+stated_clocked : (at : ℕ) (p : PortState) (now : ℕ) (talkers : List TalkerReg) → ((want : Want) → fit_for now p.ledger want ≡ fit_for p.ledger.moment p.ledger want)
     → talker_at at (clocked_port now p) talkers ≡ talker_at at p talkers
 stated_clocked at p now talkers same =
     ap (λ (o : Option Fit). if is_talker_port (suc at) talkers then Absent else talker_out (first_talker talkers) p.config (edge_at p talkers) (unwrap_or (if is_talker_port (suc at) talkers then None else o) Fits))
     (same_fit (fit_for now p.ledger) (fit_for p.ledger.moment p.ledger) (option_and_then want_of_talker (talker_in (first_talker talkers))) same)
 
 -- the port and the set at a place before
-pub record WasAt (now : ℕ) (ks : List MsrpKey) (ports : List Port) (sets : List (List MsrpKey)) (j : ℕ) (port : Port) (set : List MsrpKey) : Type 0 where
-  pub p : Port
+pub record WasAt (now : ℕ) (ks : List MsrpKey) (ports : List PortState) (sets : List (List MsrpKey)) (j : ℕ) (port : PortState) (set : List MsrpKey) : Type 0 where
+  pub p : PortState
   pub old : List MsrpKey
   pub there : slice_get ports j ≡ Some p
   pub awaited : slice_get sets j ≡ Some old
   pub is : clocked_port now p ≡ port
   pub awaits : (if shows_at now p then all_marked key_cmp ks old else old) ≡ set
 
-was_at : (now : ℕ) (ks : List MsrpKey) (ports : List Port) (sets : List (List MsrpKey)) (j : ℕ) (port : Port) (set : List MsrpKey)
+was_at : (now : ℕ) (ks : List MsrpKey) (ports : List PortState) (sets : List (List MsrpKey)) (j : ℕ) (port : PortState) (set : List MsrpKey)
     → slice_get (map (clocked_port now) ports) j ≡ Some port → slice_get (clocked_sets now ks ports sets) j ≡ Some set → WasAt now ks ports sets j port set
 was_at now ks [] sets j port set a b = cc
 was_at now ks (p ∷ ports) [] j port set a b = cc
@@ -71,13 +71,13 @@ was_at now ks (p ∷ ports) (old ∷ sets) (suc j) port set a b =
     let rest = was_at now ks ports sets j port set a b in
     record { p = rest.p; old = rest.old; there = rest.there; awaited = rest.awaited; is = rest.is; awaits = rest.awaits }
 
-clocked_length : (now : ℕ) (ks : List MsrpKey) (ports : List Port) (sets : List (List MsrpKey)) → length sets ≡ length ports → length (clocked_sets now ks ports sets) ≡ length (map (clocked_port now) ports)
+clocked_length : (now : ℕ) (ks : List MsrpKey) (ports : List PortState) (sets : List (List MsrpKey)) → length sets ≡ length ports → length (clocked_sets now ks ports sets) ≡ length (map (clocked_port now) ports)
 clocked_length now ks [] sets e = refl
 clocked_length now ks (p ∷ ports) [] e = absurd (omega (arith, e))
 clocked_length now ks (p ∷ ports) (set ∷ sets) e = ap suc (clocked_length now ks ports sets (omega (arith, e)))
 
 -- where the clock shows nothing, the sets are as they were
-pub none_shown : (now : ℕ) (ks : List MsrpKey) (ports : List Port) (sets : List (List MsrpKey)) → length sets ≡ length ports → list_any (shows_at now) ports ≡ false → clocked_sets now ks ports sets ≡ sets
+pub none_shown : (now : ℕ) (ks : List MsrpKey) (ports : List PortState) (sets : List (List MsrpKey)) → length sets ≡ length ports → list_any (shows_at now) ports ≡ false → clocked_sets now ks ports sets ≡ sets
 none_shown now ks [] [] e h = refl
 none_shown now ks [] (set ∷ sets) e h = absurd (omega (arith, e))
 none_shown now ks (p ∷ ports) [] e h = absurd (omega (arith, e))
@@ -85,7 +85,7 @@ none_shown now ks (p ∷ ports) (set ∷ sets) e h =
     let parts = or_false (shows_at now p) (list_any (shows_at now) ports) h in
     ap (λ b. (if b then all_marked key_cmp ks set else set) ∷ clocked_sets now ks ports sets) parts.0 ∙ ap (λ ss. set ∷ ss) (none_shown now ks ports sets (omega (arith, e)) parts.1)
 
-clocked_ports : Laws → (moment now : ℕ) (ports : List Port) → moment ≤ now → AllByRecursion (IsPort moment) ports → AllByRecursion (IsPort now) (map (clocked_port now) ports)
+clocked_ports : Laws → (moment now : ℕ) (ports : List PortState) → moment ≤ now → AllByRecursion (IsPort moment) ports → AllByRecursion (IsPort now) (map (clocked_port now) ports)
 clocked_ports laws moment now [] up all = tt
 clocked_ports laws moment now (p ∷ ports) up all =
     (record { rows = all.0.rows; contents = all.0.contents; ledger = laws.kept p.ledger now all.0.ledger (rw all.0.moment up); moment = refl }, clocked_ports laws moment now ports up all.1)
@@ -94,7 +94,7 @@ module _ (laws : Laws) (awaits : Awaits) (rows : HasRows) (side : Streams) (kept
   abbrev talkers : List MsrpKey
   talkers = talker_keys side.talks side.ports
 
-  settled_as : (j : ℕ) (p : Port) (old set : List MsrpKey) → IsPort side.moment p → IsSettled j p old (seen_by side) → (b : Bool) → shows_at now p ≡ b
+  settled_as : (j : ℕ) (p : PortState) (old set : List MsrpKey) → IsPort side.moment p → IsSettled j p old (seen_by side) → (b : Bool) → shows_at now p ≡ b
       → (if b then all_marked key_cmp talkers old else old) ≡ set → IsSettled j (clocked_port now p) set (seen_by (clocked_streams now side))
   settled_as j p old set port before b shown is = record { declared = each; wanted = λ s one two. wants s (fewer b is (keys.Talker s) one) (fewer b is (keys.Listener s) two) }
     where
@@ -130,18 +130,18 @@ module _ (laws : Laws) (awaits : Awaits) (rows : HasRows) (side : Streams) (kept
         sets = clocked_length now talkers side.ports side.awaiting kept.sets;
         settled = λ j port set part sets.
             let was = was_at now talkers side.ports side.awaiting j port set part sets in
-            let P : Port → Type 0 = λ q. IsSettled j q set (seen_by (clocked_streams now side)) in
+            let P : PortState → Type 0 = λ q. IsSettled j q set (seen_by (clocked_streams now side)) in
             subst P was.is
             (settled_as j was.p was.old set (each-get (IsPort side.moment) side.ports j was.p kept.ports was.there) (kept.settled j was.p was.old was.there was.awaited) (shows_at now was.p) refl was.awaits);
       }
 
 -- each port's ledger is of a moment that isn't later
-pub moments_before : (moment now : ℕ) (ports : List Port) → moment ≤ now → AllByRecursion (IsPort moment) ports → AllByRecursion (λ (p : Port). p.ledger.moment ≤ now) ports
+pub moments_before : (moment now : ℕ) (ports : List PortState) → moment ≤ now → AllByRecursion (IsPort moment) ports → AllByRecursion (λ (p : PortState). p.ledger.moment ≤ now) ports
 moments_before moment now [] up all = tt
 moments_before moment now (p ∷ ports) up all = (rw all.0.moment up, moments_before moment now ports up all.1)
 
 -- the side afterwards, where the clock shows nothing
-pub passed_is : (side : Streams) → IsKept side → (now : ℕ) (ports : List Port) → list_any (shows_at now) side.ports ≡ false → ports ≡ map (clocked_port now) side.ports
+pub passed_is : (side : Streams) → IsKept side → (now : ℕ) (ports : List PortState) → list_any (shows_at now) side.ports ≡ false → ports ≡ map (clocked_port now) side.ports
     → record { ports = ports; awaiting = side.awaiting; talks = side.talks; listens = side.listens; moment = now } ≡ clocked_streams now side
 passed_is side kept now ports still is =
     ap (λ ps. record { ports = ps; awaiting = side.awaiting; talks = side.talks; listens = side.listens; moment = now }) is

@@ -21,7 +21,7 @@ use Rattle.msrp_codec.specs.declared.pdu.MsrpKey.TheVariants as keys
 use Rattle.msrp_codec.specs.declared.pdu.MsrpContent.{MsrpContent}
 use Rattle.msrp.specs.declared.domain.DomainSet.{DomainSet}
 use Rattle.msrp.specs.declared.domain.DomainSet.TheVariants.{Off, Nothing, OnlyA, Both}
-use Rattle.msrp.specs.declared.port.Port.{Port}
+use Rattle.msrp.specs.PortState.{PortState}
 use Rattle.msrp.specs.Part.{Part, key_cmp, same_content, registered_talker, talker_reg_of}
 use Rattle.msrp.specs.Domain.{are_counted, class_id, class_in, classes_of, domain_content, domain_key, domain_part, domain_stated, has_class, is_boundary_of, is_edge, is_value}
 use Rattle.msrp.specs.Stream.{first_talker, is_present, talkers_of}
@@ -104,20 +104,20 @@ unregistered rows s key h = by (registered_at key_cmp key s) refl
         let at = rows s key some in
         absurd (among_tested (is_in s) key (map key_of s.rows) at.0 at.1 at.2 (ap is_some e) h)
 
-ports_unknown : HasRows → (ports : List Port) (x : StreamId) → is_awaiting key_cmp (keys.Talker x) (flat_map (λ (p : Port). registered_keys p.part) ports) ≡ false
-    → find is_present (map (λ (p : Port). registered_talker x p.part) ports) ≡ None
+ports_unknown : HasRows → (ports : List PortState) (x : StreamId) → is_awaiting key_cmp (keys.Talker x) (flat_map (λ (p : PortState). registered_keys p.part) ports) ≡ false
+    → find is_present (map (λ (p : PortState). registered_talker x p.part) ports) ≡ None
 ports_unknown rows [] x h = refl
 ports_unknown rows (p ∷ ports) x h =
-    let parts = not_in (keys.Talker x) (registered_keys p.part) (flat_map (λ (q : Port). registered_keys q.part) ports) h in
+    let parts = not_in (keys.Talker x) (registered_keys p.part) (flat_map (λ (q : PortState). registered_keys q.part) ports) h in
     let absent : is_present (registered_talker x p.part) ≡ false = ap (λ o. is_present (talker_reg_of o)) (unregistered rows p.part (keys.Talker x) parts.0) in
     rw absent (ports_unknown rows ports x parts.1)
 
 -- a stream of which no key is known at a node has no Talker there
-pub unknown_absent : HasRows → (talks : List Talker) (listens : List StreamId) (ports : List Port) (x : StreamId) → is_awaiting key_cmp (keys.Talker x) (known_keys talks listens ports) ≡ false
+pub unknown_absent : HasRows → (talks : List Talker) (listens : List StreamId) (ports : List PortState) (x : StreamId) → is_awaiting key_cmp (keys.Talker x) (known_keys talks listens ports) ≡ false
     → first_talker (talkers_of talks ports x) ≡ Absent
 unknown_absent rows talks listens ports x h =
     let own = not_in (keys.Talker x) (map (λ (t : Talker). keys.Talker t.stream) talks) _ h in
-    let rest = not_in (keys.Talker x) (map (λ (s : StreamId). keys.Listener s) listens) (flat_map (λ (p : Port). registered_keys p.part) ports) own.1 in
+    let rest = not_in (keys.Talker x) (map (λ (s : StreamId). keys.Listener s) listens) (flat_map (λ (p : PortState). registered_keys p.part) ports) own.1 in
     let one = own_absent talks x own.0 in
     let two = ports_unknown rows ports x rest.1 in
     rw (one, two) refl

@@ -15,7 +15,7 @@ use Rattle.msrp_codec.specs.declared.pdu.MsrpKey.TheVariants as keys
 use Rattle.msrp_codec.specs.declared.pdu.MsrpContent.TheVariants as contents
 use Rattle.srp_base.specs.declared.streams.TalkerReg.TheVariants.{Absent}
 use Rattle.msrp.specs.declared.domain.DomainSet.{DomainSet}
-use Rattle.msrp.specs.declared.port.Port.{Port}
+use Rattle.msrp.specs.PortState.{PortState}
 use Rattle.msrp.specs.Part.{Part, key_cmp, registered_talker, registered_listener, listener_kind_of, talker_content, HasOwnContents}
 use Rattle.msrp.specs.Domain.{domain_stated, is_edge}
 use Rattle.msrp.specs.Stream.{Registrations, edge_at, registrations_of, first_talker, listener_at, stated_at, talk_of, is_listened, talkers_of, advertise_of, listener_row}
@@ -41,14 +41,14 @@ wanted_same at k l x y r q kind edge seen =
     ∙ (ap (λ (b : Bool). wanted_by at l b r.talkers) edge ∙ ap (λ (v : Registrations). wanted_by at l y v.talkers) seen)
 
 -- of a stream that a key says is as it was, everything is
-pub record IsAsBefore (q p : Port) (regs now : StreamId → Registrations) (s : StreamId) : Type 0 where
+pub record IsAsBefore (q p : PortState) (regs now : StreamId → Registrations) (s : StreamId) : Type 0 where
   pub seen : now s ≡ regs s
   pub listener : registered_listener s p.part ≡ registered_listener s q.part
   pub edge : edge_at p (now s).talkers ≡ edge_at q (regs s).talkers
 
 -- a port stays settled where more keys await, its declarations, its configuration, its Domains and its ledger are the
 -- same, and each stream is as it was of which a key doesn't await
-pub settled_changed : (at : ℕ) (q p : Port) (set more : List MsrpKey) (regs now : StreamId → Registrations)
+pub settled_changed : (at : ℕ) (q p : PortState) (set more : List MsrpKey) (regs now : StreamId → Registrations)
     → IsSettled at q set regs → p.config ≡ q.config → p.domain ≡ q.domain → p.ledger ≡ q.ledger → SameDeclared q.part p.part
     → ((key : MsrpKey) → is_awaiting key_cmp key more ≡ false → is_awaiting key_cmp key set ≡ false)
     → ((s : StreamId) → is_awaiting key_cmp (keys.Talker s) more ≡ false → IsAsBefore q p regs now s)
@@ -89,7 +89,7 @@ knows_talkers rows side domain told heeded s out = unknown_absent rows side.talk
 pub knows_none : (side : Streams) (domain : DomainSet) → KnowsTalkers side domain []
 knows_none side domain heeded s out = absurd (let none : true ≡ false = sym heeded ∙ none_heeded domain in cc)
 
-module _ (awaits : Awaits) (side : Streams) (kept : IsKept side) (at : ℕ) (p : Port) (here : slice_get side.ports at ≡ Some p) (t : Part) (told : List MsrpKey) (same : SameDeclared p.part t) (tells : TellsEach told p.part t)
+module _ (awaits : Awaits) (side : Streams) (kept : IsKept side) (at : ℕ) (p : PortState) (here : slice_get side.ports at ≡ Some p) (t : Part) (told : List MsrpKey) (same : SameDeclared p.part t) (tells : TellsEach told p.part t)
     (knows : KnowsTalkers side p.domain told) where
   abbrev after : Streams
   after = with_told_port at (with_part t p) told side
@@ -117,13 +117,13 @@ module _ (awaits : Awaits) (side : Streams) (kept : IsKept side) (at : ℕ) (p :
   here_same : (s : StreamId) → IsUntold told s → (is_domain_told p.domain told ≡ true → IsUntold known s) → IsAsBefore p (with_part t p) (seen_by side) (seen_by after) s
   here_same s out others = record { seen = seen_same s out; listener = ap listener_kind_of (untold told p.part t (keys.Listener s) tells out.listener); edge = edge_here s out others }
 
-  there_same : (q : Port) (s : StreamId) → IsUntold told s → IsAsBefore q q (seen_by side) (seen_by after) s
+  there_same : (q : PortState) (s : StreamId) → IsUntold told s → IsAsBefore q q (seen_by side) (seen_by after) s
   there_same q s out = record { seen = seen_same s out; listener = refl; edge = ap (λ (r : Registrations). edge_at q r.talkers) (seen_same s out) }
 
   settled_here : IsSettledAt after at
   settled_here port set part sets =
       let was : Was at set = was_told awaits at p.domain told known side.awaiting at set sets in
-      let P : Port → Type 0 = λ q. IsSettled at q set (seen_by after) in
+      let P : PortState → Type 0 = λ q. IsSettled at q set (seen_by after) in
       subst P (get-set_same side.ports at (with_part t p) port part)
       (settled_changed at p (with_part t p) was.set set (seen_by side) (seen_by after) (kept.settled at p was.set here was.there) refl refl refl same was.fewer
       (λ s out. here_same s (talker_untold told s (was.untold (keys.Talker s) out)) (λ e. talker_untold known s (was.unknown refl e (keys.Talker s) out)))
@@ -153,10 +153,10 @@ module _ (awaits : Awaits) (side : Streams) (kept : IsKept side) (at : ℕ) (p :
         settled = λ j. settled_after j (decide at j);
       }
 
-pub kept-put : Awaits → HasRows → (side : Streams) → IsKept side → (at : ℕ) → at < length side.ports → (p : Port) → p ≡ slice_index_or side.ports at p → (t : Part) (told : List MsrpKey)
+pub kept-put : Awaits → HasRows → (side : Streams) → IsKept side → (at : ℕ) → at < length side.ports → (p : PortState) → p ≡ slice_index_or side.ports at p → (t : Part) (told : List MsrpKey)
     → AreRows key_cmp t.rows → HasOwnContents t
-    → ((q : Port) → slice_get side.ports at ≡ Some q → SameDeclared q.part t)
-    → ((q : Port) → slice_get side.ports at ≡ Some q → TellsEach told q.part t)
+    → ((q : PortState) → slice_get side.ports at ≡ Some q → SameDeclared q.part t)
+    → ((q : PortState) → slice_get side.ports at ≡ Some q → TellsEach told q.part t)
     → IsKept (with_told_port at (with_part t p) told side)
 kept-put awaits has_rows side kept at below p is t told rows contents same tells =
     let here : slice_get side.ports at ≡ Some p = slice_get_read side.ports (length side.ports) at p refl below is in
@@ -164,40 +164,41 @@ kept-put awaits has_rows side kept at below p is t told rows contents same tells
 
 -- ---- a participant changes in its place, and tells nothing
 
-pub kept-changed : Awaits → (side : Streams) → IsKept side → (at : ℕ) → at < length side.ports → (p : Port) → p ≡ slice_index_or side.ports at p → (t : Part)
+pub kept-changed : Awaits → (side : Streams) → IsKept side → (at : ℕ) → at < length side.ports → (p q : PortState) → p ≡ slice_index_or side.ports at p → (t : Part) → q ≡ with_part t p
     → (AreRows key_cmp p.part.rows → AreRows key_cmp t.rows) → (AreRows key_cmp p.part.rows → HasOwnContents p.part → HasOwnContents t)
     → (AreRows key_cmp p.part.rows → SameDeclared p.part t) → (AreRows key_cmp p.part.rows → (key : MsrpKey) → registered_at key_cmp key t ≡ registered_at key_cmp key p.part)
-    → IsKept (with_port_at at (with_part t p) side)
-kept-changed awaits side kept at below p is t rows contents same registered =
+    → IsKept (with_port_at at q side)
+kept-changed awaits side kept at below p q is t e rows contents same registered =
     let here : slice_get side.ports at ≡ Some p = slice_get_read side.ports (length side.ports) at p refl below is in
     let port = each-get (IsPort side.moment) side.ports at p kept.ports here in
     let P : List (List MsrpKey) → Type 0 = λ sets. IsKept (record (with_port_at at (with_part t p) side) { awaiting = sets }) in
-    subst P (none_told awaits at p.domain (known_keys side.talks side.listens side.ports) side.awaiting)
-    (kept-retold awaits side kept at p here t [] (same port.rows) (λ key. inr (registered port.rows key)) (knows_none side p.domain) (rows port.rows) (contents port.rows port.contents))
+    let Q : PortState → Type 0 = λ x. IsKept (with_port_at at x side) in
+    subst Q (sym e) (subst P (none_told awaits at p.domain (known_keys side.talks side.listens side.ports) side.awaiting)
+    (kept-retold awaits side kept at p here t [] (same port.rows) (λ key. inr (registered port.rows key)) (knows_none side p.domain) (rows port.rows) (contents port.rows port.contents)))
 
-pub at_changed : (side : Streams) (at : ℕ) (p : Port) (t : Part) (f : Part → Part) → at < length side.ports → p ≡ slice_index_or side.ports at p → t ≡ f p.part
-    → with_port_at at (with_part t p) side ≡ at_port at (λ q. with_port_at at (with_part (f q.part) q) side) side
-at_changed side at p t f below is e =
+pub at_changed : (side : Streams) (at : ℕ) (p q : PortState) (f : Part → Part) → at < length side.ports → p ≡ slice_index_or side.ports at p → q ≡ with_part (f p.part) p
+    → with_port_at at q side ≡ at_port at (λ r. with_port_at at (with_part (f r.part) r) side) side
+at_changed side at p q f below is e =
     let here : slice_get side.ports at ≡ Some p = slice_get_read side.ports (length side.ports) at p refl below is in
     rw (here, e) refl
 
 -- the side once the port's participant was put there, by what the port had
-pub at_put : (side new : Streams) (at : ℕ) (p : Port) (t : Part) (told : List MsrpKey) (f : Part → Part) (g : Part → List MsrpKey) → slice_get side.ports at ≡ Some p
+pub at_put : (side new : Streams) (at : ℕ) (p : PortState) (t : Part) (told : List MsrpKey) (f : Part → Part) (g : Part → List MsrpKey) → slice_get side.ports at ≡ Some p
     → IfSome (slice_get side.ports at) (λ q. new ≡ with_told_port at (with_part t q) told side) → t ≡ f p.part → told ≡ g p.part
     → new ≡ at_port at (λ q. with_told_port at (with_part (f q.part) q) (g q.part) side) side
 at_put side new at p t told f g here is e h =
     opened (λ q. new ≡ with_told_port at (with_part t q) told side) (slice_get side.ports at) p here is ∙ rw (here, e, h) refl
 
 -- what every side keeps of the port at a place
-pub port_kept : (side : Streams) → IsKept side → (at : ℕ) (p : Port) → slice_get side.ports at ≡ Some p → IsPort side.moment p
+pub port_kept : (side : Streams) → IsKept side → (at : ℕ) (p : PortState) → slice_get side.ports at ≡ Some p → IsPort side.moment p
 port_kept side kept at p here = each-get (IsPort side.moment) side.ports at p kept.ports here
 
 -- ---- the application asks
 
-same_seen : (talks more : List Talker) (listens less : List StreamId) (ports : List Port) (s : StreamId) → talk_of s more ≡ talk_of s talks → is_listened s less ≡ is_listened s listens
+same_seen : (talks more : List Talker) (listens less : List StreamId) (ports : List PortState) (s : StreamId) → talk_of s more ≡ talk_of s talks → is_listened s less ≡ is_listened s listens
     → registrations_of more less ports s ≡ registrations_of talks listens ports s
 same_seen talks more listens less ports s e f =
-    ap (λ (o : Option Talker). record { talkers = advertise_of o ∷ map (λ (q : Port). registered_talker s q.part) ports; listens = is_listened s less; listeners = map (listener_row s) ports }) e
+    ap (λ (o : Option Talker). record { talkers = advertise_of o ∷ map (λ (q : PortState). registered_talker s q.part) ports; listens = is_listened s less; listeners = map (listener_row s) ports }) e
     ∙ ap (λ (b : Bool). record { talkers = talkers_of talks ports s; listens = b; listeners = map (listener_row s) ports }) f
 
 pub kept-asked : Awaits → (side : Streams) → IsKept side → (x : StreamId) (talks : List Talker) (listens : List StreamId)
@@ -216,7 +217,7 @@ kept-asked awaits side kept x talks listens talk_same listen_same =
           (λ s out. as_before port s (listener_other x s (unmarked awaits (keys.Listener s) (keys_of x) old.set (ap (is_awaiting key_cmp (keys.Listener s)) old.is ∙ out)).0));
     }
   where
-    as_before : (q : Port) (s : StreamId) → (s.0 == x.0) ≡ false → IsAsBefore q q (seen_by side) (seen_by (with_asks x talks listens side)) s
+    as_before : (q : PortState) (s : StreamId) → (s.0 == x.0) ≡ false → IsAsBefore q q (seen_by side) (seen_by (with_asks x talks listens side)) s
     as_before q s other =
         let same = same_seen side.talks talks side.listens listens side.ports s (talk_same s other) (listen_same s other) in
         record { seen = same; listener = refl; edge = ap (λ (r : Registrations). edge_at q r.talkers) same }

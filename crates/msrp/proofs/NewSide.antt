@@ -19,7 +19,7 @@ use Rattle.msrp_codec.specs.Content.{Belongs}
 use Rattle.msrp_codec.specs.declared.pdu.MsrpContent.{MsrpContent}
 use Rattle.msrp_codec.specs.declared.pdu.MsrpContent.TheVariants as contents
 use Rattle.msrp.specs.declared.domain.DomainSet.{DomainSet}
-use Rattle.msrp.specs.declared.port.Port.{Port}
+use Rattle.msrp.specs.PortState.{PortState}
 use Rattle.msrp.specs.Part.{key_cmp, listener_kind_of, registered_listener, registered_talker, talker_reg_of}
 use Rattle.srp_base.specs.declared.streams.TalkerReg.TheVariants.{Absent}
 use Rattle.msrp.specs.Stream.{edge_at, first_talker, is_number, is_present, is_ready, is_talker_port, other_listeners, stated_at, talkers_of, want_of_reg, wanted_at}
@@ -39,10 +39,10 @@ wanted_where here ready want = if here then None else if ready then want else No
 
 -- no Talker is registered anywhere
 module _ (bridge : BridgeId) (leave_time : Cs) (periodic : Bool) (domain : DomainSet) where
-  abbrev made : PortSetup → Port
+  abbrev made : PortSetup → PortState
   made p = new_port bridge leave_time periodic domain p
 
-  all_absent : (ports : List PortSetup) (s : StreamId) → AllByRecursion (λ x. x ≡ Absent) (map (λ (p : Port). registered_talker s p.part) (map made ports))
+  all_absent : (ports : List PortSetup) (s : StreamId) → AllByRecursion (λ x. x ≡ Absent) (map (λ (p : PortState). registered_talker s p.part) (map made ports))
   all_absent [] s = tt
   all_absent (p ∷ ports) s = (ap talker_reg_of (new_registered p.period leave_time periodic domain (keys.Talker s)), all_absent ports s)
 
@@ -50,18 +50,18 @@ module _ (bridge : BridgeId) (leave_time : Cs) (periodic : Bool) (domain : Domai
   no_talker_port : (ports : List PortSetup) (s : StreamId) (n : ℕ) → is_talker_port n (talkers_of [] (map made ports) s) ≡ false
   no_talker_port ports s n = ap (is_number n) (no_port (talkers_of [] (map made ports) s) (refl, all_absent ports s))
 
-  none_found : (ports : List PortSetup) (s : StreamId) → find is_present (map (λ (p : Port). registered_talker s p.part) (map made ports)) ≡ None
+  none_found : (ports : List PortSetup) (s : StreamId) → find is_present (map (λ (p : PortState). registered_talker s p.part) (map made ports)) ≡ None
   none_found [] s = refl
   none_found (p ∷ ports) s =
-      ap (λ (o : Option MsrpContent). if is_present (talker_reg_of o) then Some (talker_reg_of o) else find is_present (map (λ (q : Port). registered_talker s q.part) (map made ports))) (new_registered p.period leave_time periodic domain (keys.Talker s))
+      ap (λ (o : Option MsrpContent). if is_present (talker_reg_of o) then Some (talker_reg_of o) else find is_present (map (λ (q : PortState). registered_talker s q.part) (map made ports))) (new_registered p.period leave_time periodic domain (keys.Talker s))
       ∙ none_found ports s
 
-  settled-new : (setups : List PortSetup) (at : ℕ) (p : Port) (ports : List PortSetup) (set : List MsrpKey)
+  settled-new : (setups : List PortSetup) (at : ℕ) (p : PortState) (ports : List PortSetup) (set : List MsrpKey)
       → slice_get (map made ports) at ≡ Some p → (place : ℕ) → IsSettled place p set (seen_by (new_streams bridge leave_time periodic domain setups))
   settled-new setups at p [] set h place = cc
   settled-new setups zero p (q ∷ ports) set h place =
       let is : made q ≡ p = cc in
-      subst (λ (x : Port). IsSettled place x set (seen_by (new_streams bridge leave_time periodic domain setups))) is (record {
+      subst (λ (x : PortState). IsSettled place x set (seen_by (new_streams bridge leave_time periodic domain setups))) is (record {
         declared = λ key out. each key;
         wanted = λ s out none. sym (nothing_wanted s);
       })

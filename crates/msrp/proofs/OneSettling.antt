@@ -5,7 +5,7 @@ use Rattle.std.proofs.lemmas.Bool.Decides.{nat_tests}
 use Rattle.attribute_propagation.specs.Dirty.{all_marked, is_awaiting}
 use Rattle.attribute_propagation.specs.Ports.{marked_elsewhere, keys_or_none}
 use Rattle.msrp_codec.specs.declared.pdu.MsrpKey.{MsrpKey}
-use Rattle.msrp.specs.declared.port.Port.{Port}
+use Rattle.msrp.specs.PortState.{PortState}
 use Rattle.msrp.specs.Part.{key_cmp}
 use Rattle.msrp.specs.Settling.{listener_keys, moved_streams}
 use Rattle.msrp.specs.Side.{Streams, awaiting_at, moved_keys, settled_at, settled_streams}
@@ -34,7 +34,7 @@ marked_there awaits new sets at j key ne below = by (slice_get sets j) refl (awa
         rw e (rw other (awaits.among key new set))
 
 -- the side once a port is settled
-after_is : (at : ℕ) (side : Streams) (p : Port) → slice_get side.ports at ≡ Some p
+after_is : (at : ℕ) (side : Streams) (p : PortState) → slice_get side.ports at ≡ Some p
     → settled_streams at side
     ≡ record side {
       ports = slice_set side.ports at (settled_at at side p);
@@ -42,12 +42,12 @@ after_is : (at : ℕ) (side : Streams) (p : Port) → slice_get side.ports at �
     }
 after_is at side p here = rw here refl
 
-pub none_awaits : (at : ℕ) (side : Streams) (p : Port) → slice_get side.ports at ≡ Some p → awaiting_at at (settled_streams at side) ≡ []
+pub none_awaits : (at : ℕ) (side : Streams) (p : PortState) → slice_get side.ports at ≡ Some p → awaiting_at at (settled_streams at side) ≡ []
 none_awaits at side p here =
     ap (λ (s : Streams). awaiting_at at s) (after_is at side p here)
     ∙ emptied (marked_elsewhere key_cmp at (moved_keys at side p) side.awaiting) at
 
-pub others_await : Awaits → (at other : ℕ) (side : Streams) (before after : Port) (key : MsrpKey)
+pub others_await : Awaits → (at other : ℕ) (side : Streams) (before after : PortState) (key : MsrpKey)
     → slice_get side.ports at ≡ Some before → slice_get (settled_streams at side).ports at ≡ Some after
     → at ≢ other → other < length side.awaiting
     → is_awaiting key_cmp key (awaiting_at other (settled_streams at side))
@@ -60,11 +60,11 @@ others_await awaits at other side before after key here there ne below =
     ap (λ (s : Streams). is_awaiting key_cmp key (awaiting_at other s)) whole
     ∙ (ap (λ (o : Option (List MsrpKey)). is_awaiting key_cmp key (keys_or_none o)) (get-set_other sets at other [] ne)
     ∙ (marked_there awaits (moved_keys at side before) side.awaiting at other key ne below
-    ∙ ap (λ (p : Port). is_awaiting key_cmp key (listener_keys (moved_streams before.ledger p.ledger)) || is_awaiting key_cmp key (awaiting_at other side)) port))
+    ∙ ap (λ (p : PortState). is_awaiting key_cmp key (listener_keys (moved_streams before.ledger p.ledger)) || is_awaiting key_cmp key (awaiting_at other side)) port))
 
 pub others_stay : (at other : ℕ) (side : Streams) → at ≢ other → slice_get (settled_streams at side).ports other ≡ slice_get side.ports other
 others_stay at other side ne = by (slice_get side.ports at) refl
   where
-    by : (o : Option Port) → slice_get side.ports at ≡ o → slice_get (settled_streams at side).ports other ≡ slice_get side.ports other
+    by : (o : Option PortState) → slice_get side.ports at ≡ o → slice_get (settled_streams at side).ports other ≡ slice_get side.ports other
     by None e = rw e refl
     by (Some p) e = ap (λ (s : Streams). slice_get s.ports other) (after_is at side p e) ∙ get-set_other side.ports at other (settled_at at side p) ne

@@ -14,7 +14,7 @@ use Rattle.mrp_participant.specs.State.{AreRows, registered_at}
 use Rattle.msrp_codec.specs.declared.pdu.MsrpKey.{MsrpKey}
 use Rattle.msrp_codec.specs.FirstValue.{IsTalker}
 use Rattle.msrp.specs.declared.domain.DomainSet.{DomainSet}
-use Rattle.msrp.specs.declared.port.Port.{Port}
+use Rattle.msrp.specs.PortState.{PortState}
 use Rattle.msrp.specs.declared.asking.SrpRequest.{SrpRequest}
 use Rattle.msrp.specs.declared.asking.SrpRequest.TheVariants.{Talk, Hush, Listen, Unlisten}
 use Rattle.msrp.specs.Part.{Part, key_cmp, HasOwnContents}
@@ -39,23 +39,23 @@ use Rattle.msrp.proofs.Ranges.{IsWithin, range_from, range_row, rule_in, value_i
 -- ---- one port
 
 -- the BridgeID of a port fits
-abbrev HasBridge : Port → Type 0
+abbrev HasBridge : PortState → Type 0
 HasBridge p = p.config.bridge.0 < 2 ^ 64
 
 -- the port at a place is another one, which has its BridgeID and whose contents fit
-ranges-set : (side : Streams) → AreOfRange side → (at : ℕ) (p : Port) → slice_get side.ports at ≡ Some p → (t : Part) (book : Book) (sets : List (List MsrpKey)) → HasRanges t
+ranges-set : (side : Streams) → AreOfRange side → (at : ℕ) (p : PortState) → slice_get side.ports at ≡ Some p → (t : Part) (book : Book) (sets : List (List MsrpKey)) → HasRanges t
     → AreOfRange (record side { ports = slice_set side.ports at (record p { part = t; ledger = book }); awaiting = sets })
 ranges-set side fit at p here t book sets own =
     record {
-      parts = each-set (λ (q : Port). HasRanges q.part) side.ports at (record p { part = t; ledger = book }) own fit.parts;
+      parts = each-set (λ (q : PortState). HasRanges q.part) side.ports at (record p { part = t; ledger = book }) own fit.parts;
       talks = fit.talks;
       configs = each-set HasBridge side.ports at (record p { part = t; ledger = book }) (each-get HasBridge side.ports at p fit.configs here) fit.configs;
     }
 
-pub ranges_at : (side : Streams) → IsProper side → (at : ℕ) (p : Port) → slice_get side.ports at ≡ Some p → HasRanges p.part
-ranges_at side proper at p here = each-get (λ (q : Port). HasRanges q.part) side.ports at p proper.ranges.parts here
+pub ranges_at : (side : Streams) → IsProper side → (at : ℕ) (p : PortState) → slice_get side.ports at ≡ Some p → HasRanges p.part
+ranges_at side proper at p here = each-get (λ (q : PortState). HasRanges q.part) side.ports at p proper.ranges.parts here
 
-module _ (awaits : Awaits) (side : Streams) (proper : IsProper side) (at : ℕ) (p : Port) (here : slice_get side.ports at ≡ Some p) where
+module _ (awaits : Awaits) (side : Streams) (proper : IsProper side) (at : ℕ) (p : PortState) (here : slice_get side.ports at ≡ Some p) where
   -- a participant takes the place of another, and tells keys
   known-retold : (t : Part) (told : List MsrpKey) → KnowsTalkers side p.domain told → AreRows key_cmp t.rows → HasOwnContents t → HasRanges t → SameDeclared p.part t → TellsEach told p.part t
       → IsProper (with_told_port at (with_part t p) told side)
@@ -77,13 +77,13 @@ module _ (awaits : Awaits) (side : Streams) (proper : IsProper side) (at : ℕ) 
       let P : List (List MsrpKey) → Type 0 = λ sets. IsProper (record (with_port_at at (with_part t p) side) { awaiting = sets }) in
       subst P (none_told awaits at p.domain (known_keys side.talks side.listens side.ports) side.awaiting) (known-retold t [] (knows_none side p.domain) rows own fit same (λ key. inr (stays key)))
 
-pub proper-at : (side : Streams) (make : Port → Streams) (o : Option Port) → IsProper side → ((p : Port) → o ≡ Some p → IsProper (make p)) → IsProper (with_port o make side)
+pub proper-at : (side : Streams) (make : PortState → Streams) (o : Option PortState) → IsProper side → ((p : PortState) → o ≡ Some p → IsProper (make p)) → IsProper (with_port o make side)
 proper-at side make None proper h = proper
 proper-at side make (Some p) proper h = h p refl
 
 -- ---- a new side
 
-new_ranges : (bridge : BridgeId) (leave_time : Cs) (periodic : Bool) (domain : DomainSet) (ports : List PortSetup) → AllByRecursion (λ (p : Port). HasRanges p.part) (map (new_port bridge leave_time periodic domain) ports)
+new_ranges : (bridge : BridgeId) (leave_time : Cs) (periodic : Bool) (domain : DomainSet) (ports : List PortSetup) → AllByRecursion (λ (p : PortState). HasRanges p.part) (map (new_port bridge leave_time periodic domain) ports)
 new_ranges bridge leave_time periodic domain [] = tt
 new_ranges bridge leave_time periodic domain (p ∷ ports) =
     (range_from (new_port bridge leave_time periodic domain p).part (new_each p.period leave_time periodic IsWithin value_in domain), new_ranges bridge leave_time periodic domain ports)
@@ -111,7 +111,7 @@ paired (x ∷ xs) (z ∷ ys) zero y e get = (x, refl)
 paired (x ∷ xs) (z ∷ ys) (suc at) y e get = let shorter : length xs ≡ length ys = omega arith in paired xs ys at y shorter get
 
 module _ (parts : PartLaws) (books : BookLaws) (moves : MoveLaws) (awaits : Awaits) (awaiting : AwaitsStreams) (has_rows : HasRows) (side : Streams) (proper : IsProper side) (at : ℕ) where
-  settled_with : (p : Port) → slice_get side.ports at ≡ Some p → (ks : List MsrpKey) × (slice_get side.awaiting at ≡ Some ks)
+  settled_with : (p : PortState) → slice_get side.ports at ≡ Some p → (ks : List MsrpKey) × (slice_get side.awaiting at ≡ Some ks)
       → IsProper (record side { ports = slice_set side.ports at (settled_at at side p); awaiting = slice_set (marked_elsewhere key_cmp at (moved_keys at side p) side.awaiting) at [] })
   settled_with p here (ks, set) =
       let book : Book = next_book at (seen_by side) ks p in
@@ -126,7 +126,7 @@ module _ (parts : PartLaws) (books : BookLaws) (moves : MoveLaws) (awaits : Awai
   pub proper-settled : IsProper (settled_streams at side)
   proper-settled =
       proper-at side
-      (λ (p : Port). record side { ports = slice_set side.ports at (settled_at at side p); awaiting = slice_set (marked_elsewhere key_cmp at (moved_keys at side p) side.awaiting) at [] })
+      (λ (p : PortState). record side { ports = slice_set side.ports at (settled_at at side p); awaiting = slice_set (marked_elsewhere key_cmp at (moved_keys at side p) side.awaiting) at [] })
       (slice_get side.ports at) proper (λ p here. settled_with p here (paired side.awaiting side.ports at p proper.kept.sets here))
 
 -- ---- requests
@@ -162,11 +162,11 @@ module _ (awaits : Awaits) (side : Streams) (proper : IsProper side) where
 
 -- ---- the clock
 
-clocked_ranges : (now : ℕ) (ports : List Port) → AllByRecursion (λ (p : Port). HasRanges p.part) ports → AllByRecursion (λ (p : Port). HasRanges p.part) (map (clocked_port now) ports)
+clocked_ranges : (now : ℕ) (ports : List PortState) → AllByRecursion (λ (p : PortState). HasRanges p.part) ports → AllByRecursion (λ (p : PortState). HasRanges p.part) (map (clocked_port now) ports)
 clocked_ranges now [] all = tt
 clocked_ranges now (p ∷ ports) all = (all.0, clocked_ranges now ports all.1)
 
-clocked_bridges : (now : ℕ) (ports : List Port) → AllByRecursion HasBridge ports → AllByRecursion HasBridge (map (clocked_port now) ports)
+clocked_bridges : (now : ℕ) (ports : List PortState) → AllByRecursion HasBridge ports → AllByRecursion HasBridge (map (clocked_port now) ports)
 clocked_bridges now [] all = tt
 clocked_bridges now (p ∷ ports) all = (all.0, clocked_bridges now ports all.1)
 

@@ -29,7 +29,7 @@ use Rattle.msrp_codec.specs.declared.pdu.MsrpContent.{MsrpContent}
 use Rattle.msrp_codec.specs.declared.pdu.MsrpContent.TheVariants as contents
 use Rattle.msrp_codec.specs.Content.{value_of}
 use Rattle.msrp_codec.specs.FirstValue.{IsFailure, IsFirst, IsTalker}
-use Rattle.msrp.specs.declared.port.Port.{Port}
+use Rattle.msrp.specs.PortState.{PortState}
 use Rattle.msrp.specs.Part.{Part, key_cmp, registered_talker, talker_content, talker_reg_of}
 use Rattle.msrp.specs.Domain.{domain_content, domain_key}
 use Rattle.msrp.specs.Stream.{advertise_of, edge_at, fit_at, is_number, is_present, is_talker_port, stated_at, talk_of, other_listeners, talker_at, first_talker, talkers_of, want_of_talker}
@@ -70,7 +70,7 @@ in_own (t ∷ talks) s all = by (t.stream.0 == s.0) (in_own talks s all.1)
     by true rest = all.0
     by false rest = rest
 
-in_ports : (ports : List Port) (s : StreamId) → AllByRecursion (λ (p : Port). HasRanges p.part) ports → AllByRecursion IsRegIn (map (λ (p : Port). registered_talker s p.part) ports)
+in_ports : (ports : List PortState) (s : StreamId) → AllByRecursion (λ (p : PortState). HasRanges p.part) ports → AllByRecursion IsRegIn (map (λ (p : PortState). registered_talker s p.part) ports)
 in_ports [] s all = tt
 in_ports (p ∷ ports) s all =
     (in_content s (registered_at key_cmp (keys.Talker s) p.part) (λ c h. registered_holds IsWithin p.part (range_row p.part all.0) (keys.Talker s) c h), in_ports ports s all.1)
@@ -132,7 +132,7 @@ in_out Absent config edge fit bridge reg code = tt
 in_out (Failed t f) config edge fit bridge reg code = (later_fits config.latency t reg.0, reg.1)
 in_out (Advertise t) config edge fit bridge reg code = in_declared config (delayed_by config.latency t) (refusal_of t edge fit) bridge (later_fits config.latency t reg) (refusal_fits t edge fit code)
 
-in_at : (at : ℕ) (p : Port) (talkers : List TalkerReg) → p.config.bridge.0 < 2 ^ 64 → IsRegIn (first_talker talkers) → IsRegIn (talker_at at p talkers)
+in_at : (at : ℕ) (p : PortState) (talkers : List TalkerReg) → p.config.bridge.0 < 2 ^ 64 → IsRegIn (first_talker talkers) → IsRegIn (talker_at at p talkers)
 in_at at p talkers bridge reg = by (is_talker_port (suc at) talkers)
   where
     by : (b : Bool) → IsRegIn (if b then Absent else talker_out (first_talker talkers) p.config (edge_at p talkers) (unwrap_or (fit_at p.ledger.moment at p.ledger talkers) Fits))
@@ -181,7 +181,7 @@ value_in A = (omega arith, omega arith, omega arith)
 value_in B = (omega arith, omega arith, omega arith)
 
 -- what the rules state of a key fits
-pub rule_in : (side : Streams) → AllByRecursion (IsPort side.moment) side.ports → AreOfRange side → (at : ℕ) (p : Port) → p.config.bridge.0 < 2 ^ 64
+pub rule_in : (side : Streams) → AllByRecursion (IsPort side.moment) side.ports → AreOfRange side → (at : ℕ) (p : PortState) → p.config.bridge.0 < 2 ^ 64
     → (key : MsrpKey) (c : MsrpContent) → stated_at at p (seen_by side) key ≡ Some c → IsWithin key c
 rule_in side ports fit at p bridge (keys.Talker s) c e =
     in_stated s (talker_at at p (talkers_of side.talks side.ports s)) c (in_at at p (talkers_of side.talks side.ports s) bridge (in_talker side fit s)) e

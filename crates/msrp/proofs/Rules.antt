@@ -25,7 +25,7 @@ use Rattle.msrp_codec.specs.declared.pdu.MsrpKey.TheVariants as keys
 use Rattle.msrp_codec.specs.declared.pdu.MsrpContent.{MsrpContent}
 use Rattle.msrp_codec.specs.declared.pdu.MsrpContent.TheVariants as contents
 use Rattle.msrp_codec.specs.Content.{Belongs}
-use Rattle.msrp.specs.declared.port.Port.{Port}
+use Rattle.msrp.specs.PortState.{PortState}
 use Rattle.msrp.specs.Part.{Part, key_cmp, stream_cmp, registered_listener, registered_talker, talker_content, talker_reg_of}
 use Rattle.msrp.specs.Stream.{advertise_of, edge_at, fit_at, is_present, is_ready, is_talker_port, listener_at, stated_at, talk_of, talker_at, first_talker, talkers_of, want_in_class, want_of_reg, want_of_talker, wanted_at}
 use Rattle.msrp.specs.Settling.{listener_keys, stream_in, streams_in}
@@ -67,7 +67,7 @@ of_own (t ∷ talks) s = by (t.stream.0 == s.0) refl (of_own talks s)
     by true e rest = let n : s.0 ≡ t.stream.0 = grind (arith, nat_tests, e) in ap (λ m. record { 0 = m }) n
     by false e rest = rest
 
-of_ports : (moment : ℕ) (ports : List Port) (s : StreamId) → AllByRecursion (IsPort moment) ports → AllByRecursion (IsOf s) (map (λ (p : Port). registered_talker s p.part) ports)
+of_ports : (moment : ℕ) (ports : List PortState) (s : StreamId) → AllByRecursion (IsPort moment) ports → AllByRecursion (IsOf s) (map (λ (p : PortState). registered_talker s p.part) ports)
 of_ports moment [] s all = tt
 of_ports moment (p ∷ ports) s all = (of_content s (registered_at key_cmp (keys.Talker s) p.part) (λ c h. registered_holds Belongs p.part (own_row p.part all.0.contents) (keys.Talker s) c h), of_ports moment ports s all.1)
 
@@ -80,7 +80,7 @@ found_holds P absent (x ∷ xs) all = by (is_present x) (found_holds P absent xs
     by true rest = all.0
     by false rest = rest
 
-pub of_talker : (moment : ℕ) (talks : List Talker) (ports : List Port) (s : StreamId) → AllByRecursion (IsPort moment) ports → IsOf s (first_talker (talkers_of talks ports s))
+pub of_talker : (moment : ℕ) (talks : List Talker) (ports : List PortState) (s : StreamId) → AllByRecursion (IsPort moment) ports → IsOf s (first_talker (talkers_of talks ports s))
 of_talker moment talks ports s all = found_holds (IsOf s) tt (talkers_of talks ports s) (of_own talks s, of_ports moment ports s all)
 
 of_declared : (s : StreamId) (config : PortConfig) (t : Talker) (o : Option ℕ) → s ≡ t.stream → IsOf s (declared_of config t o)
@@ -97,7 +97,7 @@ of_stated s Absent c h e = cc
 of_stated s (Advertise t) c h e = let is : contents.Advertise t ≡ c = cc in subst (λ (x : MsrpContent). Belongs (keys.Talker s) x) is h
 of_stated s (Failed t f) c h e = let is : contents.Failed t f ≡ c = cc in subst (λ (x : MsrpContent). Belongs (keys.Talker s) x) is h
 
-of_at : (s : StreamId) (at : ℕ) (p : Port) (talkers : List TalkerReg) → IsOf s (first_talker talkers) → IsOf s (talker_at at p talkers)
+of_at : (s : StreamId) (at : ℕ) (p : PortState) (talkers : List TalkerReg) → IsOf s (first_talker talkers) → IsOf s (talker_at at p talkers)
 of_at s at p talkers h = by (is_talker_port (suc at) talkers)
   where
     by : (b : Bool) → IsOf s (if b then Absent else talker_out (first_talker talkers) p.config (edge_at p talkers) (unwrap_or (fit_at p.ledger.moment at p.ledger talkers) Fits))
@@ -109,7 +109,7 @@ of_listener s None c e = cc
 of_listener s (Some k) c e = let is : contents.Listener k ≡ c = cc in subst (λ (x : MsrpContent). Belongs (keys.Listener s) x) is tt
 
 -- what the rules state of a key is of the key
-pub rule_own : (side : Streams) → AllByRecursion (IsPort side.moment) side.ports → (at : ℕ) (p : Port) (key : MsrpKey) (c : MsrpContent) → stated_at at p (seen_by side) key ≡ Some c → Belongs key c
+pub rule_own : (side : Streams) → AllByRecursion (IsPort side.moment) side.ports → (at : ℕ) (p : PortState) (key : MsrpKey) (c : MsrpContent) → stated_at at p (seen_by side) key ≡ Some c → Belongs key c
 rule_own side ports at p (keys.Talker s) c e =
     of_stated s (talker_at at p (talkers_of side.talks side.ports s)) c (of_at s at p (talkers_of side.talks side.ports s) (of_talker side.moment side.talks side.ports s ports)) e
 rule_own side ports at p (keys.Listener s) c e = of_listener s (listener_at at (seen_by side s)) c e
@@ -129,7 +129,7 @@ reg_own s edge (Advertise t) w h e = by (not edge && is_none (check_of t)) e
     by true k = in_class_own s t (class_of_priority t.priority) w h k
     by false k = cc
 
-pub want_own : (at : ℕ) (p : Port) (talkers : List TalkerReg) (s : StreamId) (w : Want) → IsOf s (first_talker talkers) → wanted_at at p talkers s ≡ Some w → w.stream ≡ s
+pub want_own : (at : ℕ) (p : PortState) (talkers : List TalkerReg) (s : StreamId) (w : Want) → IsOf s (first_talker talkers) → wanted_at at p talkers s ≡ Some w → w.stream ≡ s
 want_own at p talkers s w h e = by (is_talker_port (suc at) talkers) (is_ready (registered_listener s p.part)) e
   where
     by : (a b : Bool) → (if a then None else if b then want_of_reg (edge_at p talkers) (first_talker talkers) else None) ≡ Some w → w.stream ≡ s

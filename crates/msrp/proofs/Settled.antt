@@ -1,5 +1,5 @@
 -- What every side keeps stays so when a port is settled.
-use Rattle.std.proofs.Common.{◌≡◌, ◌≢◌, ◌⊎◌, ◌↔◌, inl, inr, ℕ, zero, suc, ◌+◌, ◌<◌, Bool, true, false, ◌==◌, if◌then◌else◌, List, [], ◌∷◌, ◌++◌, length, map, take, drop, refl, sym, ap, subst, ◌∙◌, arith}
+use Rattle.std.proofs.Common.{◌≡◌, ◌≢◌, ◌⊎◌, ◌↔◌, inl, inr, ℕ, zero, suc, ◌<◌, Bool, true, false, ◌==◌, if◌then◌else◌, List, [], ◌∷◌, ◌++◌, length, map, take, drop, refl, sym, ap, subst, ◌∙◌, arith}
 use Rattle.std.specs.Prelude.{slice_get, slice_set, slice_index_or, IfSome, Option, Some, None, is_some, option_map, option_and_then, unwrap_or}
 use Rattle.std.specs.List.{filter_map, list_any}
 use Rattle.std.proofs.Math.ListN.{length-set}
@@ -26,7 +26,7 @@ use Rattle.msrp_codec.specs.declared.pdu.MsrpKey.{MsrpKey}
 use Rattle.msrp_codec.specs.declared.pdu.MsrpKey.TheVariants as keys
 use Rattle.msrp_codec.specs.declared.pdu.MsrpContent.{MsrpContent}
 use Rattle.msrp_codec.specs.declared.pdu.MsrpContent.TheVariants as contents
-use Rattle.msrp.specs.declared.port.Port.{Port}
+use Rattle.msrp.specs.PortState.{PortState}
 use Rattle.msrp.specs.Part.{Part, key_cmp, stream_cmp, registered_listener, registered_talker, listener_kind_of, settled_part, talker_content, talker_reg_of}
 use Rattle.msrp.specs.Domain.{domain_key}
 use Rattle.msrp.specs.Stream.{Registrations, advertise_of, edge_at, is_listened, is_talker_port, listener_at, listener_row, own_listener, stated_at, talk_of, talker_at, first_talker, talkers_of, want_of_talker, wanted_at}
@@ -101,12 +101,12 @@ talker_same laws at config edge book other talkers up down caps moment booked =
     (same_fit (fit_for book.moment book) (fit_for book.moment other) w (λ want. laws.fits book other book.moment want up down caps booked)
     ∙ ap (λ (n : ℕ). option_map (fit_for n other) w) moment)
 
-pub next_is : (at : ℕ) (regs : StreamId → Registrations) (ks : List MsrpKey) (p : Port) → next_book at regs ks p ≡ settled_book (λ s. wanted_at at p (regs s).talkers s) (streams_in ks) p.ledger
+pub next_is : (at : ℕ) (regs : StreamId → Registrations) (ks : List MsrpKey) (p : PortState) → next_book at regs ks p ≡ settled_book (λ s. wanted_at at p (regs s).talkers s) (streams_in ks) p.ledger
 unfolding next_book
 next_is at regs ks p = refl
 
 module _ (parts : PartLaws) (books : BookLaws) (moves : MoveLaws) (awaits : Awaits) (awaiting : AwaitsStreams) (has_rows : HasRows)
-    (side : Streams) (kept : IsKept side) (at : ℕ) (p : Port) (here : slice_get side.ports at ≡ Some p) (ks : List MsrpKey) (set : slice_get side.awaiting at ≡ Some ks) where
+    (side : Streams) (kept : IsKept side) (at : ℕ) (p : PortState) (here : slice_get side.ports at ≡ Some p) (ks : List MsrpKey) (set : slice_get side.awaiting at ≡ Some ks) where
   abbrev regs : StreamId → Registrations
   regs s = seen_by side s
 
@@ -126,7 +126,7 @@ module _ (parts : PartLaws) (books : BookLaws) (moves : MoveLaws) (awaits : Awai
   tried = settling_keys moved talkers ks
 
   -- the port with its next ledger
-  abbrev ruled : Port
+  abbrev ruled : PortState
   ruled = record p { ledger = book }
 
   abbrev rule : MsrpKey → Option MsrpContent
@@ -135,7 +135,7 @@ module _ (parts : PartLaws) (books : BookLaws) (moves : MoveLaws) (awaits : Awai
   abbrev part : Part
   part = settled_part (stated_at at ruled (seen_by side)) tried p.part
 
-  abbrev next : Port
+  abbrev next : PortState
   next = record p { part = part; ledger = book }
 
   abbrev after : Streams
@@ -160,7 +160,7 @@ module _ (parts : PartLaws) (books : BookLaws) (moves : MoveLaws) (awaits : Awai
 
   talkers_same : (s : StreamId) → talkers_of side.talks (slice_set side.ports at next) s ≡ talkers_of side.talks side.ports s
   talkers_same s =
-      ap (λ ts. advertise_of (talk_of s side.talks) ∷ ts) (map-set_same (λ (q : Port). registered_talker s q.part) side.ports at p next here (ap talker_reg_of (registered_same (keys.Talker s))))
+      ap (λ ts. advertise_of (talk_of s side.talks) ∷ ts) (map-set_same (λ (q : PortState). registered_talker s q.part) side.ports at p next here (ap talker_reg_of (registered_same (keys.Talker s))))
 
   listener_same : (s : StreamId) → registered_listener s part ≡ registered_listener s p.part
   listener_same s = ap listener_kind_of (registered_same (keys.Listener s))
@@ -257,7 +257,7 @@ module _ (parts : PartLaws) (books : BookLaws) (moves : MoveLaws) (awaits : Awai
       fewer : (more : List MsrpKey) {j : ℕ} → (was : WasThere (listener_keys moved) side.awaiting j more) → (key : MsrpKey) → is_awaiting key_cmp key more ≡ false → is_awaiting key_cmp key was.set ≡ false
       fewer more was key out = (unmarked awaits key (listener_keys moved) was.set (ap (is_awaiting key_cmp key) was.is ∙ out)).1
 
-      each : (j : ℕ) (q : Port) (more : List MsrpKey) → (was : WasThere (listener_keys moved) side.awaiting j more) → IsSettled j q was.set (seen_by side)
+      each : (j : ℕ) (q : PortState) (more : List MsrpKey) → (was : WasThere (listener_keys moved) side.awaiting j more) → IsSettled j q was.set (seen_by side)
           → (key : MsrpKey) → is_awaiting key_cmp key more ≡ false → declared_at key_cmp key q.part ≡ stated_at j q (seen_by after) key
       each j q more was before (keys.Talker s) out =
           before.declared (keys.Talker s) (fewer more was (keys.Talker s) out) ∙ ap (λ ts. talker_content (talker_at j q ts)) (sym (talkers_same s))
@@ -270,7 +270,7 @@ module _ (parts : PartLaws) (books : BookLaws) (moves : MoveLaws) (awaits : Awai
   settled_each j (inl e) =
       let P : ℕ → Type 0 = λ k. IsSettledAt after k in
       subst P e (λ q more at_j sets.
-      let Q : Port → Type 0 = λ x. IsSettled at x more (seen_by after) in
+      let Q : PortState → Type 0 = λ x. IsSettled at x more (seen_by after) in
       subst Q (get-set_same side.ports at next q at_j)
       (let R : List MsrpKey → Type 0 = λ x. IsSettled at next x (seen_by after) in
       subst R (get-set_same (marked_elsewhere key_cmp at (listener_keys moved) side.awaiting) at [] more sets) settled_here))
@@ -294,26 +294,26 @@ module _ (parts : PartLaws) (books : BookLaws) (moves : MoveLaws) (awaits : Awai
       }
 
 -- what `settle` leaves is kept, and is what it should be
-pub record HasSettled (side : Streams) (at : ℕ) (next : Port) (sets : List (List MsrpKey)) : Type 0 where
+pub record HasSettled (side : Streams) (at : ℕ) (next : PortState) (sets : List (List MsrpKey)) : Type 0 where
   pub kept : IsKept (record side { ports = slice_set side.ports at next; awaiting = slice_set sets at [] })
   pub is : record side { ports = slice_set side.ports at next; awaiting = slice_set sets at [] } ≡ settled_streams at side
 
 pub settle_is : PartLaws → BookLaws → MoveLaws → Awaits → AwaitsStreams → HasRows → (side : Streams) → IsKept side → (at : ℕ) → at < length side.ports
-    → (ks : List MsrpKey) → ks ≡ slice_index_or side.awaiting at ks → (next : Port) (told : List MsrpKey) (sets : List (List MsrpKey))
+    → (ks : List MsrpKey) → ks ≡ slice_index_or side.awaiting at ks → (next : PortState) (told : List MsrpKey) (sets : List (List MsrpKey))
     → IfSome (slice_get side.ports at) (λ p. next ≡ settled_port at (seen_by side) (talker_keys side.talks side.ports) ks p)
     → IfSome (slice_get side.ports at) (λ p. told ≡ listener_keys (moved_streams p.ledger (next_book at (seen_by side) ks p)))
     → sets ≡ marked_elsewhere key_cmp at told side.awaiting → HasSettled side at next sets
 settle_is parts books moves awaits awaiting rows side kept at below ks ks_is next told sets next_is told_is sets_is =
-    let p : Port = slice_index_or side.ports at next in
+    let p : PortState = slice_index_or side.ports at next in
     let here : slice_get side.ports at ≡ Some p = slice_get-get_or side.ports at next below in
     let count = kept.sets in
     let set : slice_get side.awaiting at ≡ Some ks = slice_get_read side.awaiting (length side.awaiting) at ks refl (omega (arith, count)) ks_is in
-    let one = opened (λ (q : Port). next ≡ settled_port at (seen_by side) (talker_keys side.talks side.ports) ks q) (slice_get side.ports at) p here next_is in
-    let two = opened (λ (q : Port). told ≡ listener_keys (moved_streams q.ledger (next_book at (seen_by side) ks q))) (slice_get side.ports at) p here told_is in
+    let one = opened (λ (q : PortState). next ≡ settled_port at (seen_by side) (talker_keys side.talks side.ports) ks q) (slice_get side.ports at) p here next_is in
+    let two = opened (λ (q : PortState). told ≡ listener_keys (moved_streams q.ledger (next_book at (seen_by side) ks q))) (slice_get side.ports at) p here told_is in
     let three : sets ≡ marked_elsewhere key_cmp at (listener_keys (moved_streams p.ledger (next_book at (seen_by side) ks p))) side.awaiting = sets_is ∙ ap (λ xs. marked_elsewhere key_cmp at xs side.awaiting) two in
     let whole : record side { ports = slice_set side.ports at next; awaiting = slice_set sets at [] }
     ≡ record side { ports = slice_set side.ports at (settled_port at (seen_by side) (talker_keys side.talks side.ports) ks p); awaiting = slice_set (marked_elsewhere key_cmp at (listener_keys (moved_streams p.ledger (next_book at (seen_by side) ks p))) side.awaiting) at [] } =
-    ap (λ (q : Port). record side { ports = slice_set side.ports at q; awaiting = slice_set sets at [] }) one
+    ap (λ (q : PortState). record side { ports = slice_set side.ports at q; awaiting = slice_set sets at [] }) one
     ∙ ap (λ (ss : List (List MsrpKey)). record side { ports = slice_set side.ports at (settled_port at (seen_by side) (talker_keys side.talks side.ports) ks p); awaiting = slice_set ss at [] }) three in
     let P : Streams → Type 0 = λ s. IsKept s in
     record {

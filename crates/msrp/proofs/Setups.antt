@@ -9,7 +9,7 @@ use Rattle.attribute_propagation.specs.Ports.{marked_elsewhere}
 use Rattle.msrp_codec.specs.declared.pdu.MsrpKey.{MsrpKey}
 use Rattle.msrp.specs.declared.asking.SrpRequest.{SrpRequest}
 use Rattle.msrp.specs.declared.asking.SrpRequest.TheVariants.{Talk, Hush, Listen, Unlisten}
-use Rattle.msrp.specs.declared.port.Port.{Port}
+use Rattle.msrp.specs.PortState.{PortState}
 use Rattle.msrp.specs.Part.{Part, key_cmp}
 use Rattle.msrp.specs.Stream.{Registrations, talk_of, wanted_at}
 use Rattle.msrp.specs.Settling.{book_with, book_without, with_wants, next_book, streams_in, taken_out}
@@ -18,7 +18,7 @@ use Rattle.msrp.specs.Proper.{Setup, setup_of, setups_of}
 use Rattle.msrp.proofs.Places.{map-set_same, mapped_length}
 use Rattle.msrp.proofs.Clocked.{map_twice}
 
-pub setups-at : (side : Streams) (make : Port → Streams) (o : Option Port) → ((p : Port) → o ≡ Some p → setups_of (make p) ≡ setups_of side) → setups_of (with_port o make side) ≡ setups_of side
+pub setups-at : (side : Streams) (make : PortState → Streams) (o : Option PortState) → ((p : PortState) → o ≡ Some p → setups_of (make p) ≡ setups_of side) → setups_of (with_port o make side) ≡ setups_of side
 setups-at side make None h = refl
 setups-at side make (Some p) h = h p refl
 
@@ -50,7 +50,7 @@ in_caps wants (s ∷ streams) book = in_caps wants streams (book_with (wants s) 
     by None = refl
     by (Some w) = refl
 
-next_caps : (at : ℕ) (regs : StreamId → Registrations) (ks : List MsrpKey) (p : Port) → (next_book at regs ks p).caps ≡ p.ledger.caps
+next_caps : (at : ℕ) (regs : StreamId → Registrations) (ks : List MsrpKey) (p : PortState) → (next_book at regs ks p).caps ≡ p.ledger.caps
 unfolding next_book
 next_caps at regs ks p =
     let wants : StreamId → Option Want = λ s. wanted_at at p (regs s).talkers s in
@@ -59,7 +59,7 @@ next_caps at regs ks p =
 pub setups-settled : (at : ℕ) (side : Streams) → setups_of (settled_streams at side) ≡ setups_of side
 setups-settled at side =
     setups-at side
-    (λ (p : Port). record side { ports = slice_set side.ports at (settled_at at side p); awaiting = slice_set (marked_elsewhere key_cmp at (moved_keys at side p) side.awaiting) at [] })
+    (λ (p : PortState). record side { ports = slice_set side.ports at (settled_at at side p); awaiting = slice_set (marked_elsewhere key_cmp at (moved_keys at side p) side.awaiting) at [] })
     (slice_get side.ports at)
     (λ p here. map-set_same setup_of side.ports at p (settled_at at side p) here (ap (λ (c : Caps). let setup : Setup = record { config = p.config; caps = c; domain = p.domain } in setup) (next_caps at (seen_by side) (awaiting_at at side) p)))
 

@@ -21,7 +21,7 @@ use Rattle.mrp_participant.specs.State.{registered_at}
 use Rattle.msrp_codec.specs.declared.pdu.MsrpKey.{MsrpKey}
 use Rattle.msrp_codec.specs.declared.pdu.MsrpKey.TheVariants as keys
 use Rattle.msrp_codec.specs.declared.pdu.MsrpContent.{MsrpContent}
-use Rattle.msrp.specs.declared.port.Port.{Port}
+use Rattle.msrp.specs.PortState.{PortState}
 use Rattle.msrp.proofs.KeyLemmas.{key_self}
 use Rattle.msrp.specs.Part.{Part, key_cmp, registered_talker, talker_content, talker_reg_of}
 use Rattle.msrp.specs.Stream.{fit_at, is_present, is_ready, is_talker_port, want_of_reg, talk_of, talker_at, first_talker, talkers_of}
@@ -40,7 +40,7 @@ wanted_by at kind edge talkers =
     else if is_ready kind then want_of_reg edge (first_talker talkers) else None
 
 -- nothing is stated of a stream without a Talker
-pub absent_stated : (at : ℕ) (p : Port) (talkers : List TalkerReg) → first_talker talkers ≡ Absent → talker_content (talker_at at p talkers) ≡ None
+pub absent_stated : (at : ℕ) (p : PortState) (talkers : List TalkerReg) → first_talker talkers ≡ Absent → talker_content (talker_at at p talkers) ≡ None
 absent_stated at p talkers none = by (is_talker_port (suc at) talkers) refl
   where
     by : (b : Bool) → is_talker_port (suc at) talkers ≡ b → talker_content (talker_at at p talkers) ≡ None
@@ -124,17 +124,17 @@ own_absent (t ∷ talks) x h =
     let other : (t.stream.0 == x.0) ≡ false = grind (arith, nat_tests, parts.0) in
     rw other (own_absent talks x parts.1)
 
-ports_absent : HasRows → (ports : List Port) (x : StreamId) → is_awaiting key_cmp (keys.Talker x) (flat_map (λ (p : Port). talker_keys_in p.part) ports) ≡ false
-    → find is_present (map (λ (p : Port). registered_talker x p.part) ports) ≡ None
+ports_absent : HasRows → (ports : List PortState) (x : StreamId) → is_awaiting key_cmp (keys.Talker x) (flat_map (λ (p : PortState). talker_keys_in p.part) ports) ≡ false
+    → find is_present (map (λ (p : PortState). registered_talker x p.part) ports) ≡ None
 ports_absent rows [] x h = refl
 ports_absent rows (p ∷ ports) x h =
-    let parts = not_in (keys.Talker x) (talker_keys_in p.part) (flat_map (λ (q : Port). talker_keys_in q.part) ports) h in
+    let parts = not_in (keys.Talker x) (talker_keys_in p.part) (flat_map (λ (q : PortState). talker_keys_in q.part) ports) h in
     rw (absent_in rows p.part x parts.0) (ports_absent rows ports x parts.1)
 
 -- a stream whose Talker key isn't among those of all streams with a Talker has none
-pub no_talker : HasRows → (talks : List Talker) (ports : List Port) (x : StreamId) → is_awaiting key_cmp (keys.Talker x) (talker_keys talks ports) ≡ false → first_talker (talkers_of talks ports x) ≡ Absent
+pub no_talker : HasRows → (talks : List Talker) (ports : List PortState) (x : StreamId) → is_awaiting key_cmp (keys.Talker x) (talker_keys talks ports) ≡ false → first_talker (talkers_of talks ports x) ≡ Absent
 no_talker rows talks ports x h =
-    let parts = not_in (keys.Talker x) (map (λ (t : Talker). keys.Talker t.stream) talks) (flat_map (λ (p : Port). talker_keys_in p.part) ports) h in
+    let parts = not_in (keys.Talker x) (map (λ (t : Talker). keys.Talker t.stream) talks) (flat_map (λ (p : PortState). talker_keys_in p.part) ports) h in
     let one = own_absent talks x parts.0 in
     let two = ports_absent rows ports x parts.1 in
     rw (one, two) refl

@@ -1,5 +1,5 @@
 -- Which keys are among those that are told, and what isn't told is registered as before.
-use Rattle.std.proofs.Common.{◌≡◌, ◌≢◌, ◌⊎◌, inl, inr, ℕ, zero, suc, ◌<◌, Bool, true, false, ◌||◌, ◌&&◌, ◌==◌, if◌then◌else◌, List, [], ◌∷◌, length, map, refl, sym, ap, ◌∙◌, arith}
+use Rattle.std.proofs.Common.{◌≡◌, ◌≢◌, ◌⊎◌, inl, inr, ℕ, zero, suc, ◌<◌, Bool, true, false, ◌&&◌, ◌==◌, if◌then◌else◌, List, [], ◌∷◌, length, map, refl, sym, ap, ◌∙◌, arith}
 use Rattle.std.specs.Prelude.{slice_get, slice_set, slice_index_or, Option, Some, None, option_map, Contains}
 use Rattle.std.specs.Ordering.{nat_cmp, is_eq}
 use Rattle.std.proofs.lemmas.List.Folds.{list_any_at}
@@ -16,7 +16,7 @@ use Rattle.msrp_codec.specs.declared.pdu.MsrpKey.{MsrpKey}
 use Rattle.msrp_codec.specs.declared.pdu.MsrpKey.TheVariants as keys
 use Rattle.msrp.specs.declared.domain.DomainSet.{DomainSet}
 use Rattle.msrp.specs.declared.domain.DomainSet.TheVariants.{Off, Nothing, OnlyA, Both}
-use Rattle.msrp.specs.declared.port.Port.{Port}
+use Rattle.msrp.specs.PortState.{PortState}
 use Rattle.msrp.proofs.KeyLemmas.{key_is, key_self}
 use Rattle.msrp.specs.Part.{Part, key_cmp, registered_talker, talker_reg_of}
 use Rattle.msrp.specs.Stream.{listener_row, registrations_of, talkers_of, advertise_of, talk_of, is_listened}
@@ -91,14 +91,14 @@ listener_untold (keys.Domain c ∷ told) s h =
     record { talker = rest.talker; listener = rest.listener }
 
 -- what is registered of a stream, once the participant at a place is another that has the stream's registrations
-pub registrations-same : (talks : List Talker) (listens : List StreamId) (ports : List Port) (at : ℕ) (p : Port) (t : Part) (s : StreamId)
+pub registrations-same : (talks : List Talker) (listens : List StreamId) (ports : List PortState) (at : ℕ) (p : PortState) (t : Part) (s : StreamId)
     → slice_get ports at ≡ Some p
     → registered_at key_cmp (keys.Talker s) t ≡ registered_at key_cmp (keys.Talker s) p.part
     → registered_at key_cmp (keys.Listener s) t ≡ registered_at key_cmp (keys.Listener s) p.part
     → registrations_of talks listens (slice_set ports at (with_part t p)) s ≡ registrations_of talks listens ports s
 registrations-same talks listens ports at p t s here e f =
     let g : listener_row s (with_part t p) ≡ listener_row s p = rw f refl in
-    let one = map-set_same (λ (q : Port). registered_talker s q.part) ports at p (with_part t p) here (ap talker_reg_of e) in
+    let one = map-set_same (λ (q : PortState). registered_talker s q.part) ports at p (with_part t p) here (ap talker_reg_of e) in
     let two = map-set_same (listener_row s) ports at p (with_part t p) here g in
     ap (λ ts. record { talkers = advertise_of (talk_of s talks) ∷ ts; listens = is_listened s listens; listeners = map (listener_row s) (slice_set ports at (with_part t p)) }) one
     ∙ ap (λ ls. record { talkers = talkers_of talks ports s; listens = is_listened s listens; listeners = ls }) two

@@ -11,7 +11,7 @@ use Rattle.msrp_codec.specs.declared.pdu.MsrpContent.{MsrpContent}
 use Rattle.msrp_codec.specs.Content.{value_of}
 use Rattle.msrp_codec.specs.FirstValue.{IsFirst, IsTalker}
 use Rattle.msrp.specs.declared.domain.DomainSet.{DomainSet}
-use Rattle.msrp.specs.declared.port.Port.{Port}
+use Rattle.msrp.specs.PortState.{PortState}
 use Rattle.msrp.specs.declared.asking.SrpRequest.{SrpRequest}
 use Rattle.msrp.specs.declared.asking.SrpRequest.TheVariants.{Talk, Hush, Listen, Unlisten}
 use Rattle.msrp.specs.Part.{Part, key_cmp}
@@ -27,9 +27,9 @@ pub record HasRanges (s : Part) : Type 0 where
 -- all that a side keeps fits: the contents at its link ports, the Talkers of its application, and the BridgeID of
 -- each port. Of the latency that a port adds nothing is asked, since the sum stands still at the field's end
 pub record AreOfRange (side : Streams) : Type 0 where
-  pub parts : AllByRecursion (λ (p : Port). HasRanges p.part) side.ports
+  pub parts : AllByRecursion (λ (p : PortState). HasRanges p.part) side.ports
   pub talks : AllByRecursion IsTalker side.talks
-  pub configs : AllByRecursion (λ (p : Port). p.config.bridge.0 < 2 ^ 64) side.ports
+  pub configs : AllByRecursion (λ (p : PortState). p.config.bridge.0 < 2 ^ 64) side.ports
 
 -- what a side keeps, of contents that fit
 pub record IsProper (side : Streams) : Type 0 where
@@ -49,7 +49,7 @@ pub record Setup : Type 0 where
   pub caps : Caps
   pub domain : DomainSet
 
-abbrev pub setup_of : Port → Setup
+abbrev pub setup_of : PortState → Setup
 setup_of p = record { config = p.config; caps = p.ledger.caps; domain = p.domain }
 
 -- how each link port is set up

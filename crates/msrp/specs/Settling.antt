@@ -13,7 +13,7 @@ use Rattle.msrp_codec.specs.declared.pdu.MsrpKey.{MsrpKey}
 use Rattle.msrp_codec.specs.declared.pdu.MsrpKey.TheVariants.{Talker as TalkerKey, Listener as ListenerKey, Domain as DomainKey}
 use Rattle.msrp_codec.specs.declared.pdu.MsrpContent.{MsrpContent}
 use Rattle.msrp.specs.declared.domain.DomainSet.{DomainSet}
-use Rattle.msrp.specs.declared.port.Port.{Port}
+use Rattle.msrp.specs.PortState.{PortState}
 use Rattle.msrp.specs.Part.{Part, key_cmp, stream_cmp, settled_part, talker_reg_of}
 use Rattle.msrp.specs.Domain.{are_counted}
 use Rattle.msrp.specs.Stream.{Registrations, is_present, wanted_at, stated_at}
@@ -55,10 +55,10 @@ talker_keys_in s =
     flat_map (λ key. talker_key_if key (registered_at key_cmp key s)) (map key_of s.rows)
 
 -- the Talker keys of all streams with a Talker, of the application or registered at a link port
-abbrev pub talker_keys : List Talker → List Port → List MsrpKey
+abbrev pub talker_keys : List Talker → List PortState → List MsrpKey
 talker_keys talks ports =
     map (λ (t : Talker). TalkerKey t.stream) talks
-    ++ flat_map (λ (p : Port). talker_keys_in p.part) ports
+    ++ flat_map (λ (p : PortState). talker_keys_in p.part) ports
 
 -- the keys that a participant has registered
 abbrev pub registered_keys : Part → List MsrpKey
@@ -66,11 +66,11 @@ registered_keys s = filter (λ key. is_some (registered_at key_cmp key s)) (map 
 
 -- the keys that are registered at a node: the Talkers of the application, the streams that it listens to, and what each
 -- link port has registered
-abbrev pub known_keys : List Talker → List StreamId → List Port → List MsrpKey
+abbrev pub known_keys : List Talker → List StreamId → List PortState → List MsrpKey
 known_keys talks listens ports =
     map (λ (t : Talker). TalkerKey t.stream) talks
     ++ (map (λ (s : StreamId). ListenerKey s) listens
-    ++ flat_map (λ (p : Port). registered_keys p.part) ports)
+    ++ flat_map (λ (p : PortState). registered_keys p.part) ports)
 
 -- ---- what awaits once keys are told
 
@@ -139,17 +139,17 @@ settling_keys [] talkers awaiting = awaiting
 settling_keys (s ∷ moved) talkers awaiting = all_marked key_cmp talkers awaiting
 
 -- the port once it has declared these keys as the rules state them
-abbrev pub restated_port : ℕ → (StreamId → Registrations) → List MsrpKey → Port → Port
+abbrev pub restated_port : ℕ → (StreamId → Registrations) → List MsrpKey → PortState → PortState
 restated_port at regs keys port =
     record port { part = settled_part (stated_at at port regs) keys port.part }
 
 -- the ledger of a port once its awaiting keys are settled
-unfoldable pub next_book : ℕ → (StreamId → Registrations) → List MsrpKey → Port → Book
+unfoldable pub next_book : ℕ → (StreamId → Registrations) → List MsrpKey → PortState → Book
 next_book at regs awaiting port =
     settled_book (λ s. wanted_at at port (regs s).talkers s) (streams_in awaiting) port.ledger
 
 -- the port once its awaiting keys are settled, beside the Talker keys of all streams with a Talker
-abbrev pub settled_port : ℕ → (StreamId → Registrations) → List MsrpKey → List MsrpKey → Port → Port
+abbrev pub settled_port : ℕ → (StreamId → Registrations) → List MsrpKey → List MsrpKey → PortState → PortState
 settled_port at regs talkers awaiting port =
     restated_port at regs
     (settling_keys (moved_streams port.ledger (next_book at regs awaiting port)) talkers awaiting)

@@ -25,7 +25,7 @@ use Rattle.stream_importance.specs.Bandwidth.{caps_of}
 use Rattle.stream_importance.specs.Importance.{rank_number}
 use Rattle.port_ledger.specs.Book.{clocked_book, empty_book, has_new_booking, want_of, IsKept as IsKeptBook}
 use Rattle.msrp.specs.declared.domain.DomainSet.{DomainSet}
-use Rattle.msrp.specs.declared.port.Port.{Port}
+use Rattle.msrp.specs.PortState.{PortState}
 use Rattle.msrp.specs.declared.asking.SrpRequest.{SrpRequest}
 use Rattle.msrp.specs.declared.asking.SrpRequest.TheVariants.{Talk, Hush, Listen, Unlisten}
 use Rattle.msrp.specs.Part.{Part, key_cmp, received_part, told_by_receipt, pdu_sent, sent_part, HasOwnContents}
@@ -36,7 +36,7 @@ use Rattle.msrp.specs.Settling.{keys_of, known_keys, listener_keys, talker_keys,
 -- the link ports in their order; the keys that await settling at each, ascending; the Talkers of the application,
 -- the latest first, and the streams that it listens to; and the moment of the clock in cs
 pub record Streams : Type 0 where
-  pub ports : List Port
+  pub ports : List PortState
   pub awaiting : List (List MsrpKey)
   pub talks : List Talker
   pub listens : List StreamId
@@ -67,7 +67,7 @@ heard_of stream side = heard_by (seen_by side stream)
 -- ---- the side after a call
 
 -- a new port: nothing but the node's Domain values is declared, and nothing is registered or booked at it
-abbrev pub new_port : BridgeId → Cs → Bool → DomainSet → PortSetup → Port
+abbrev pub new_port : BridgeId → Cs → Bool → DomainSet → PortSetup → PortState
 new_port bridge leave_time periodic domain p =
     record {
       config = record { bridge = bridge; latency = p.latency };
@@ -89,7 +89,7 @@ new_streams bridge leave_time periodic domain ports =
 
 -- the port at a place has another participant, which told keys: both keys of each of their streams await everywhere, and
 -- where it told a Domain those of each known stream await at the port
-abbrev pub with_told_port : ℕ → Port → List MsrpKey → Streams → Streams
+abbrev pub with_told_port : ℕ → PortState → List MsrpKey → Streams → Streams
 with_told_port at port told side =
     record side {
       ports = slice_set side.ports at port;
@@ -97,20 +97,20 @@ with_told_port at port told side =
     }
 
 -- the port at a place is another one, and nothing is told
-abbrev pub with_port_at : ℕ → Port → Streams → Streams
+abbrev pub with_port_at : ℕ → PortState → Streams → Streams
 with_port_at at port side = record side { ports = slice_set side.ports at port }
 
 -- the side that is made with a port; where there is none, it stays as it is
-abbrev pub with_port : Option Port → (Port → Streams) → Streams → Streams
+abbrev pub with_port : Option PortState → (PortState → Streams) → Streams → Streams
 with_port None make side = side
 with_port (Some port) make side = make port
 
 -- the side that is made with the port at a place; where no port is there, it stays as it is
-abbrev pub at_port : ℕ → (Port → Streams) → Streams → Streams
+abbrev pub at_port : ℕ → (PortState → Streams) → Streams → Streams
 at_port at make side = with_port (slice_get side.ports at) make side
 
 -- a port with another participant
-abbrev pub with_part : Part → Port → Port
+abbrev pub with_part : Part → PortState → PortState
 with_part s port = record port { part = s }
 
 -- the port at a place received a PDU, and the streams of which that changed what is registered await everywhere
@@ -165,12 +165,12 @@ abbrev pub awaiting_at : ℕ → Streams → List MsrpKey
 awaiting_at at side = keys_at at side.awaiting
 
 -- the port at a place once it is settled
-abbrev pub settled_at : ℕ → Streams → Port → Port
+abbrev pub settled_at : ℕ → Streams → PortState → PortState
 settled_at at side port =
     settled_port at (seen_by side) (talker_keys side.talks side.ports) (awaiting_at at side) port
 
 -- the Listener keys of the streams that settling books or drops there
-abbrev pub moved_keys : ℕ → Streams → Port → List MsrpKey
+abbrev pub moved_keys : ℕ → Streams → PortState → List MsrpKey
 moved_keys at side port =
     listener_keys
     (moved_streams port.ledger (next_book at (seen_by side) (awaiting_at at side) port))
@@ -184,18 +184,18 @@ settled_streams at side = at_port at (λ p. record side {
 }) side
 
 -- whether a clock shows at a port that a want which isn't booked may fit otherwise than before
-abbrev pub shows_at : ℕ → Port → Bool
+abbrev pub shows_at : ℕ → PortState → Bool
 shows_at now port = nat_lt port.ledger.moment now && has_new_booking port.ledger
 
 -- the awaiting keys of each port, with these keys at each where the clock shows
-abbrev pub clocked_sets : ℕ → List MsrpKey → List Port → List (List MsrpKey) → List (List MsrpKey)
+abbrev pub clocked_sets : ℕ → List MsrpKey → List PortState → List (List MsrpKey) → List (List MsrpKey)
 clocked_sets now keys [] sets = []
 clocked_sets now keys (p ∷ ports) [] = []
 clocked_sets now keys (p ∷ ports) (set ∷ sets) =
     (if shows_at now p then all_marked key_cmp keys set else set) ∷ clocked_sets now keys ports sets
 
 -- the port with its ledger at another moment
-abbrev pub clocked_port : ℕ → Port → Port
+abbrev pub clocked_port : ℕ → PortState → PortState
 clocked_port now port = record port { ledger = clocked_book now port.ledger }
 
 -- the clock goes on, and the Talker keys of all streams with a Talker await where it shows
@@ -266,20 +266,20 @@ requested_streams (Unlisten stream) side =
 -- whether nothing is pending at any port: every participant is at rest, and no key awaits
 abbrev pub are_still : Streams → Bool
 are_still side =
-    list_all (λ (p : Port). is_still p.part) side.ports
+    list_all (λ (p : PortState). is_still p.part) side.ports
     && none_awaits side.awaiting
 
 -- whether at some port a timer is due at a moment, or a key awaits
 abbrev pub is_busy : Cs → Streams → Bool
 is_busy now side =
-    list_any (λ (p : Port). is_any_due now p.part) side.ports
+    list_any (λ (p : PortState). is_any_due now p.part) side.ports
     || some_awaits side.awaiting
 
 -- ---- what every side keeps
 
 -- a port's participant has a participant's rows, with contents of their keys, and its ledger is a ledger at the
 -- moment of the side
-pub record IsPort (now : ℕ) (port : Port) : Type 0 where
+pub record IsPort (now : ℕ) (port : PortState) : Type 0 where
   pub rows : AreRows key_cmp port.part.rows
   pub contents : HasOwnContents port.part
   pub ledger : IsKeptBook port.ledger
@@ -288,7 +288,7 @@ pub record IsPort (now : ℕ) (port : Port) : Type 0 where
 -- at a link port each key that doesn't await is declared exactly as the rules state it, a Domain for good, and
 -- a stream of which neither key awaits is kept as wanting exactly where it wants bandwidth, with its class, rank and
 -- slope
-pub record IsSettled (at : ℕ) (port : Port) (awaiting : List MsrpKey) (regs : StreamId → Registrations) : Type 0 where
+pub record IsSettled (at : ℕ) (port : PortState) (awaiting : List MsrpKey) (regs : StreamId → Registrations) : Type 0 where
   pub declared : (key : MsrpKey) → is_awaiting key_cmp key awaiting ≡ false
       → declared_at key_cmp key port.part ≡ stated_at at port regs key
   pub wanted : (stream : StreamId) → is_awaiting key_cmp (TalkerKey stream) awaiting ≡ false
@@ -298,7 +298,7 @@ pub record IsSettled (at : ℕ) (port : Port) (awaiting : List MsrpKey) (regs : 
 -- the port at a place, where there is one, is settled but for the keys that await there
 abbrev pub IsSettledAt : Streams → ℕ → Type 0
 IsSettledAt side at =
-    (port : Port) (keys : List MsrpKey)
+    (port : PortState) (keys : List MsrpKey)
     → slice_get side.ports at ≡ Some port → slice_get side.awaiting at ≡ Some keys
     → IsSettled at port keys (seen_by side)
 

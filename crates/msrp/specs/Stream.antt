@@ -23,7 +23,7 @@ use Rattle.msrp_codec.specs.declared.pdu.MsrpKey.{MsrpKey}
 use Rattle.msrp_codec.specs.declared.pdu.MsrpKey.TheVariants as keys
 use Rattle.msrp_codec.specs.declared.pdu.MsrpContent.{MsrpContent}
 use Rattle.msrp_codec.specs.declared.pdu.MsrpContent.TheVariants as contents
-use Rattle.msrp.specs.declared.port.Port.{Port}
+use Rattle.msrp.specs.PortState.{PortState}
 use Rattle.msrp.specs.Part.{registered_talker, registered_listener, talker_content}
 use Rattle.msrp.specs.Domain.{domain_stated, is_edge}
 
@@ -52,19 +52,19 @@ abbrev pub is_listened : StreamId → List StreamId → Bool
 is_listened stream listens = list_any (λ (x : StreamId). x.0 == stream.0) listens
 
 -- the Listeners of a stream at a link port
-abbrev pub listener_row : StreamId → Port → Option PortListener
+abbrev pub listener_row : StreamId → PortState → Option PortListener
 listener_row stream port =
     option_map
     (λ kind. record { kind = kind; booked = is_some (since_of port.ledger.entries stream) })
     (registered_listener stream port.part)
 
 -- what is registered of a stream's Talker at each port, the application first
-abbrev pub talkers_of : List Talker → List Port → StreamId → List TalkerReg
+abbrev pub talkers_of : List Talker → List PortState → StreamId → List TalkerReg
 talkers_of talks ports stream =
-    advertise_of (talk_of stream talks) ∷ map (λ (p : Port). registered_talker stream p.part) ports
+    advertise_of (talk_of stream talks) ∷ map (λ (p : PortState). registered_talker stream p.part) ports
 
 -- what is registered of a stream, from the application's Talkers, the streams that it listens to, and the link ports
-abbrev pub registrations_of : List Talker → List StreamId → List Port → StreamId → Registrations
+abbrev pub registrations_of : List Talker → List StreamId → List PortState → StreamId → Registrations
 registrations_of talks listens ports stream =
     record {
       talkers = talkers_of talks ports stream;
@@ -114,7 +114,7 @@ abbrev pub want_of_talker : Talker → Option Want
 want_of_talker talker = option_map (want_in_class talker) (class_of_priority talker.priority)
 
 -- whether a link port is at the boundary of the SRP domain of a stream's class, that of the Talker at the Talker's port
-abbrev pub edge_at : Port → List TalkerReg → Bool
+abbrev pub edge_at : PortState → List TalkerReg → Bool
 edge_at port talkers = is_edge port.domain port.part (first_talker talkers)
 
 -- what is wanted for a registered Talker: only one that is advertised is served, where the port is no boundary for it and
@@ -138,7 +138,7 @@ is_ready (Some kind) = is_ready_kind kind
 
 -- what a link port, at a place, wants for a stream: the advertised Talker's bandwidth, where the Talker's port is
 -- another one, Listener Ready or Ready Failed is registered here, and the port is no boundary for the Talker
-abbrev pub wanted_at : ℕ → Port → List TalkerReg → StreamId → Option Want
+abbrev pub wanted_at : ℕ → PortState → List TalkerReg → StreamId → Option Want
 wanted_at at port talkers stream =
     if is_talker_port (suc at) talkers then None
     else if is_ready (registered_listener stream port.part)
@@ -157,7 +157,7 @@ fit_at now at book talkers =
 
 -- what a link port, at a place, declares of the Talker: nothing at the Talker's own port, and elsewhere what `talker_out`
 -- makes of what is registered there (35.2.4.3)
-abbrev pub talker_at : ℕ → Port → List TalkerReg → TalkerReg
+abbrev pub talker_at : ℕ → PortState → List TalkerReg → TalkerReg
 talker_at at port talkers =
     if is_talker_port (suc at) talkers then Absent
     else talker_out (first_talker talkers) port.config (edge_at port talkers)
@@ -188,7 +188,7 @@ listener_at at r =
 
 -- what a link port, at a place, declares of a key, by what is registered of each stream; a Domain is declared for good,
 -- whatever is registered anywhere
-abbrev pub stated_at : ℕ → Port → (StreamId → Registrations) → MsrpKey → Option MsrpContent
+abbrev pub stated_at : ℕ → PortState → (StreamId → Registrations) → MsrpKey → Option MsrpContent
 stated_at at port regs (keys.Talker stream) =
     talker_content (talker_at at port (regs stream).talkers)
 stated_at at port regs (keys.Listener stream) =

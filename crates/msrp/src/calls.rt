@@ -7,7 +7,7 @@ ghost use Rattle.mrp_participant.specs.State.{AreRows, due_count};
 ghost use Rattle.std.specs.List.{AllByRecursion};
 ghost use Rattle.msrp_codec.specs.Content.{Belongs};
 ghost use Rattle.msrp_codec.specs.declared.pdu.MsrpKey.{MsrpKey};
-ghost use Rattle.msrp.specs.declared.port.Port.{Port};
+ghost use Rattle.msrp.specs.PortState.{PortState};
 ghost use Rattle.msrp.specs.Part.{HasOwnContents, key_cmp};
 ghost use Rattle.attribute_propagation.specs.Ports.{IsLinkPort, place_of, count_of};
 ghost use Rattle.msrp.specs.Side.{IsKept, SameDeclared, TellsEach, HasReceived, with_told_port, with_part, received_streams, due_streams, left_streams, leave_all_streams, periodic_streams, spoilt_streams};
@@ -71,7 +71,7 @@ impl MsrpSide {
             leave_all: pdu.leave_all,
             events: pdu.events,
         };
-        let mut part = port_at(self.ports.as_slice(), at).part.copy()?;
+        let mut part = port_at(self.ports.as_slice(), at).part().copy()?;
         let told = part.receive(now, &msgs)?;
         part.rows_ascend();
         self.put(alloc, at, part, told.as_slice())
@@ -91,7 +91,7 @@ impl MsrpSide {
         each_port_is_told::<MsrpKey>();
         nothing_due_changes_nothing::<MsrpApp>();
         let at = usize::from(port.0) - 1;
-        if !port_at(self.ports.as_slice(), at).part.any_due(now) {
+        if !port_at(self.ports.as_slice(), at).part().any_due(now) {
             return Ok(0);
         }
         self.fire(now, at)
@@ -111,7 +111,7 @@ impl MsrpSide {
         due_tells_each_change::<MsrpApp>();
         each_key_after_due::<MsrpApp>();
         let alloc = *self.ports.allocator();
-        let mut part = port_at(self.ports.as_slice(), at).part.copy()?;
+        let mut part = port_at(self.ports.as_slice(), at).part().copy()?;
         let (fired, left) = part.due(now)?;
         part.rows_ascend();
         self.put(alloc, at, part, left.as_slice())?;
@@ -134,7 +134,7 @@ impl MsrpSide {
         one_key_changes::<MsrpApp>();
         let alloc = *self.ports.allocator();
         let at = usize::from(port.0) - 1;
-        let mut part = port_at(self.ports.as_slice(), at).part.copy()?;
+        let mut part = port_at(self.ports.as_slice(), at).part().copy()?;
         let told = [key];
         let was = part.leave_due(key);
         part.rows_ascend();
@@ -151,7 +151,7 @@ impl MsrpSide {
     {
         each_port_is_told::<MsrpKey>();
         let port = &mut self.ports[usize::from(port.0) - 1];
-        port.part.leaveall_due(now);
+        port.leaveall_due(now);
     }
 
     /// Gives the periodic event to each key of a link port, also where periodic transmission is off (IEEE Std
@@ -166,7 +166,7 @@ impl MsrpSide {
         rows_stay_rows::<MsrpApp>();
         each_key_after_periodic::<MsrpApp>();
         let port = &mut self.ports[usize::from(port.0) - 1];
-        port.part.periodic_due();
+        port.periodic_due();
     }
 
     /// Ends the soundness of a link port's participant, as after a loss on its link.
@@ -176,7 +176,7 @@ impl MsrpSide {
     {
         each_port_is_told::<MsrpKey>();
         let port = &mut self.ports[usize::from(port.0) - 1];
-        port.part.spoil();
+        port.spoil();
     }
 
     // Puts a participant in the place of another, whose declarations it has; the keys whose registration differs are
@@ -193,9 +193,9 @@ impl MsrpSide {
         requires kept { IsKept self.old }
         requires rows { AreRows key_cmp part.rows }
         requires contents { HasOwnContents part }
-        requires declared { (p : Port) → slice_get self.old.ports at ≡ Some p
+        requires declared { (p : PortState) → slice_get self.old.ports at ≡ Some p
             → SameDeclared p.part part }
-        requires told { (p : Port) → slice_get self.old.ports at ≡ Some p
+        requires told { (p : PortState) → slice_get self.old.ports at ≡ Some p
             → TellsEach told.now p.part part }
         ensures ok { OnOk result (IfSome (slice_get self.old.ports at)
             (λ p. self.new ≡ with_told_port at (with_part part p) told.now self.old)) }
@@ -203,19 +203,12 @@ impl MsrpSide {
     {
         each_port_is_told::<MsrpKey>();
         a_place_for_each_key::<MsrpApp>();
-        let awaiting = told_sets(
-            alloc,
-            self.awaiting.as_slice(),
-            at,
-            told,
-            self.talks.as_slice(),
-            self.listens.as_slice(),
-            self.ports.as_slice(),
-            port_at(self.ports.as_slice(), at).domain,
-        )?;
+        let view = self.view(at);
+        let domain = view.port().domain();
+        let awaiting = told_sets(alloc, &view, domain, self.awaiting.as_slice(), told)?;
         put_sets(&mut self.awaiting, awaiting);
         let port = &mut self.ports[at];
-        port.part = part;
+        port.put_part(part);
         Ok(())
     }
 }

@@ -57,7 +57,7 @@ impl MsrpSide {
     pub fn clock_shows(&self, now: Cs) -> bool
         ensures { result ≡ list_any (shows_at now.0) self.now.ports }
     {
-        self.ports.iter().any(|port| port.ledger.shows_at(now))
+        self.ports.iter().any(|port| port.shows_at(now))
     }
 
     /// Takes all memory that setting the clock to a moment in cs needs, so that the clocks of many nodes can be set
@@ -146,7 +146,7 @@ fn clocked_sets(
 {
     let mut all = Vec::with_capacity(alloc, sets.len())?;
     for (place, set) in sets.iter().enumerate() {
-        let marked = marked_where(set, ports[place].ledger.shows_at(now), keys)?;
+        let marked = marked_where(set, ports[place].shows_at(now), keys)?;
         all.push(marked)?;
     }
     Ok(all)
@@ -174,14 +174,6 @@ fn clock_all(ports: &mut Vec<Port>, now: Cs)
     ensures { ports.new.items ≡ map (clocked_port now.0) ports.old.items }
 {
     for port in ports.iter_mut() {
-        clock_port(port, now);
+        port.clock(now);
     }
-}
-
-// Sets the moment of a port's ledger.
-fn clock_port(port: &mut Port, now: Cs)
-    requires { port.old.ledger.moment ≤ now.0 }
-    ensures { port.new ≡ clocked_port now.0 port.old }
-{
-    port.ledger.clock(now);
 }

@@ -23,7 +23,7 @@ ghost use Rattle.msrp.specs.declared.asking.SrpRequest.{SrpRequest};
 ghost use Rattle.msrp_talker.specs.TalkerOut.{check_of, delayed_by};
 ghost use Rattle.msrp.specs.declared.domain.DomainSet.{DomainSet};
 ghost use Rattle.msrp.specs.declared.domain.DomainSet.TheVariants.{Off};
-ghost use Rattle.msrp.specs.declared.port.Port.{Port};
+ghost use Rattle.msrp.specs.PortState.{PortState};
 ghost use Rattle.msrp.specs.Part.{HasOwnContents, Part, key_cmp, pdu_sent};
 ghost use Rattle.msrp.specs.Domain.{are_counted, domain_content, domain_key, domain_part, domain_stated, has_class, is_boundary, is_edge};
 ghost use Rattle.msrp.specs.Stream.{edge_at, first_talker, is_talker_port, talker_at, wanted_at};
@@ -50,10 +50,10 @@ use srp_base::StreamId;
 /// Settling a port once leaves nothing awaiting there. At each other port it leaves what awaits, and adds exactly the
 /// Listener keys of the streams that it booked or dropped; of the ports it changes its own alone.
 pub fn one_settling_is_enough()
-    ensures here { (at : ℕ) (side : Streams) (port : Port)
+    ensures here { (at : ℕ) (side : Streams) (port : PortState)
         → slice_get side.ports at ≡ Some port
         → awaiting_at at (settled_streams at side) ≡ [] }
-    ensures elsewhere { (at other : ℕ) (side : Streams) (before after : Port) (key : MsrpKey)
+    ensures elsewhere { (at other : ℕ) (side : Streams) (before after : PortState) (key : MsrpKey)
         → slice_get side.ports at ≡ Some before
         → slice_get (settled_streams at side).ports at ≡ Some after
         → at ≢ other → other < length side.awaiting
@@ -195,9 +195,9 @@ pub fn a_boundary_lacks_the_domain_value()
 /// At the boundary of the domain of its class no stream is wanted, and an advertised Talker that each port could serve is
 /// declared failed, with this bridge and code 8.
 pub fn a_boundary_serves_no_stream()
-    ensures wanted { (at : ℕ) (port : Port) (talkers : List TalkerReg) (stream : StreamId)
+    ensures wanted { (at : ℕ) (port : PortState) (talkers : List TalkerReg) (stream : StreamId)
         → edge_at port talkers ≡ true → wanted_at at port talkers stream ≡ None }
-    ensures refused { (at : ℕ) (port : Port) (talkers : List TalkerReg) (talker : Talker)
+    ensures refused { (at : ℕ) (port : PortState) (talkers : List TalkerReg) (talker : Talker)
         → edge_at port talkers ≡ true → is_talker_port (suc at) talkers ≡ false
         → first_talker talkers ≡ Advertise talker → check_of talker ≡ None
         → talker_at at port talkers ≡ Failed (delayed_by port.config.latency talker)

@@ -19,7 +19,7 @@
 //!  link <--octets-- send <--- participant of the port
 //! ```
 //!
-//! Contracts see a `Streams` (`specs/Side.antt`): the link ports, each a `Port` with its participant's state and
+//! Contracts see a `Streams` (`specs/Side.antt`): the link ports, each a `PortState` with its participant's state and
 //! its ledger's book, the awaiting keys, and what the application asked for, all as lists; each call's clause is
 //! the whole side after it. `specs/Domain.antt` says which Domain values a port declares, and where it is a boundary.
 //! `specs/Stream.antt` says of one stream which port is the Talker's, what each link port declares of the Talker and of
@@ -33,7 +33,7 @@
 //! ledger, so that its booked slopes keep to its caps. After want of memory a side is as it was.
 //!
 //! A call on a port copies at most that port's participant and ledger, and the awaiting keys where some key comes to
-//! await; where no timer is due `due` copies nothing, nor does `settle` where no key awaits. The clock stands in two
+//! await; `send` copies nothing, nor does `due` where no timer is due, nor `settle` where no key awaits. The clock stands in two
 //! parts: `prepare_clock` takes all memory, none where the clock shows nothing, and `clock_by` sets the clock without
 //! any, so that the clocks of a whole network are set together or not at all.
 //!
@@ -60,10 +60,10 @@ mod stream;
 #[cfg(test)]
 mod tests;
 mod told;
+mod view;
 
 pub use app::MsrpApp;
 pub use asking::SrpRequest;
 pub use clock::ClockSets;
 pub use domain::DomainSet;
-pub use port::Port;
 pub use side::MsrpSide;

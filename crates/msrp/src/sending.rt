@@ -4,7 +4,7 @@ ghost use Rattle.std.specs.Prelude.{◌≡◌, ◌≢◌, ◌<◌, ◌≤◌, �
 ghost use Rattle.std.specs.List.{AllByRecursion};
 ghost use Rattle.mrp_participant.specs.State.{AreRows, is_silent};
 ghost use Rattle.msrp_codec.specs.Content.{Belongs, base_octets, octets_of};
-ghost use Rattle.msrp.specs.Part.{HasOwnContents, key_cmp, pdu_sent, sent_part};
+ghost use Rattle.msrp.specs.Part.{HasOwnContents, key_cmp, pdu_sent};
 ghost use Rattle.attribute_propagation.specs.Ports.{IsLinkPort, place_of};
 ghost use Rattle.msrp.specs.Side.{HasSent, IsWritten};
 
@@ -13,7 +13,7 @@ use crate::calls::port_at;
 use crate::side::MsrpSide;
 use attribute_propagation::laws::each_port_is_told;
 use mrp_participant::laws::{
-    declarations_stay, each_key_after_send, registrations_stay, rows_stay_rows, still_is_silent,
+    declarations_stay, each_key_after_send, registrations_stay, rows_stay_rows,
     what_is_sent_is_declared,
 };
 use mrp_participant::{Msgs, Participant};
@@ -36,43 +36,33 @@ impl MsrpSide {
         registrations_stay::<MsrpApp>();
         rows_stay_rows::<MsrpApp>();
         each_key_after_send::<MsrpApp>();
-        still_is_silent::<MsrpApp>();
         let alloc = *self.ports.allocator();
         let at = usize::from(port.0) - 1;
-        let before = port_at(self.ports.as_slice(), at);
-        if before.part.still() {
-            return Ok(None);
-        }
-        match said_by(alloc, before.part.copy()?, now)? {
-            Some(said) => {
+        match said_by(alloc, port_at(self.ports.as_slice(), at).part(), now)? {
+            Some(octets) => {
                 let port = &mut self.ports[at];
-                port.part = said.0;
-                Ok(Some(said.1))
+                port.sent(now);
+                Ok(Some(octets))
             }
             None => Ok(None),
         }
     }
 }
 
-// What a participant says, with the participant afterwards.
-fn said_by(
-    alloc: Global,
-    part: Participant<MsrpApp>,
-    now: Cs,
-) -> Result<Option<(Participant<MsrpApp>, Seq<u8>)>, NoMemory>
+// The octets of what a participant would say; None where it has nothing to say.
+fn said_by(alloc: Global, part: &Participant<MsrpApp>, now: Cs) -> Result<Option<Seq<u8>>, NoMemory>
     requires now { now.0 < 2 ^ 62 }
-    requires rows { AreRows key_cmp part.rows }
-    requires contents { HasOwnContents part }
-    ensures silent { IfOk result (λ said. is_none said ≡ is_silent part) }
-    ensures after { IfOk result (λ said. IfSome said (λ r. r.0 ≡ sent_part now part)) }
-    ensures written { IfOk result (λ said. IfSome said (λ r. IsWritten (pdu_sent now part) r.1)) }
+    requires rows { AreRows key_cmp part.now.rows }
+    requires contents { HasOwnContents part.now }
+    ensures silent { IfOk result (λ said. is_none said ≡ is_silent part.now) }
+    ensures written { IfOk result (λ said. IfSome said (λ octets.
+        IsWritten (pdu_sent now part.now) octets)) }
 {
     what_is_sent_is_declared::<MsrpApp>();
-    let mut part = part;
-    match part.send(now)? {
+    match part.plan(now)? {
         Some(msgs) => {
             let octets = octets_of(alloc, msgs)?;
-            Ok(Some((part, octets)))
+            Ok(Some(octets))
         }
         None => Ok(None),
     }

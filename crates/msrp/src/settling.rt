@@ -5,9 +5,9 @@ ghost use Rattle.std.specs.List.{filter_map, flat_map};
 ghost use Rattle.srp_base.specs.declared.numbers.StreamId.{StreamId};
 ghost use Rattle.srp_base.specs.declared.streams.Talker.{Talker};
 ghost use Rattle.msrp_codec.specs.declared.pdu.MsrpKey.TheVariants as keys;
-ghost use Rattle.msrp.specs.declared.port.Port.{Port};
 ghost use Rattle.msrp.specs.Part.{key_cmp, settled_as, settled_part};
-ghost use Rattle.msrp.specs.Stream.{registrations_of, stated_at, talkers_of, wanted_at};
+ghost use Rattle.msrp.specs.Stream.{stated_at, wanted_at};
+ghost use Rattle.msrp.specs.View.{registrations_from, talkers_from};
 ghost use Rattle.attribute_propagation.specs.Ports.{IsLinkPort, count_of, place_of};
 ghost use Rattle.msrp.specs.Side.{awaiting_at, settled_streams};
 ghost use Rattle.msrp.specs.Settling.{book_with, book_without, with_wants, listener_keys, moved_streams, next_book, restated_port, settled_port, settling_keys, stream_in, streams_in, taken_out, talker_key_if, talker_keys, talker_keys_in};
@@ -15,11 +15,11 @@ ghost use Rattle.mrp_participant.specs.Lookup.{key_of};
 ghost use Rattle.mrp_participant.specs.State.{registered_at};
 
 use crate::app::MsrpApp;
-use crate::calls::port_at;
 use crate::port::Port;
 use crate::side::MsrpSide;
 use crate::stream::{is_talker_content, stated_at, wanted_at};
 use crate::told::put_set;
+use crate::view::PortView;
 use attribute_propagation::laws::{each_key_awaits, each_port_is_told};
 use attribute_propagation::{Dirty, await_elsewhere, put_sets, saturated, set_at};
 use mrp_participant::Participant;
@@ -81,14 +81,7 @@ impl MsrpSide {
         what_has_not_moved_is_booked_as_before();
         nothing_changed_where_both_lists_are_empty();
         let alloc = *self.ports.allocator();
-        let (port, told) = settled(
-            alloc,
-            self.talks.as_slice(),
-            self.listens.as_slice(),
-            self.ports.as_slice(),
-            at,
-            set_at(self.awaiting.as_slice(), at),
-        )?;
+        let (port, told) = settled(alloc, &self.view(at), set_at(self.awaiting.as_slice(), at))?;
         let others = await_elsewhere(alloc, self.awaiting.as_slice(), at, told.as_slice())?;
         let count = saturated(set_at(self.awaiting.as_slice(), at).len());
         put_sets(&mut self.awaiting, others);
@@ -98,30 +91,26 @@ impl MsrpSide {
     }
 }
 
-// The port at a place once the keys that await there are settled, and the Listener keys of the streams whose booking
-// that moves.
+// A port once the keys that await there are settled, and the Listener keys of the streams whose booking that moves.
 fn settled(
     alloc: Global,
-    talks: &[Talker],
-    listens: &[StreamId],
-    ports: &[Port],
-    at: usize,
+    view: &PortView<'_>,
     awaiting: &Dirty<MsrpKey>,
 ) -> Result<(Port, Vec<MsrpKey>), NoMemory>
-    requires { at < length ports.now }
-    ensures port { IfOk result (λ r. IfSome (slice_get ports.now at) (λ p. r.0
-        ≡ settled_port at (registrations_of talks.now listens.now ports.now)
-        (talker_keys talks.now ports.now) awaiting.now.keys p)) }
-    ensures told { IfOk result (λ r. IfSome (slice_get ports.now at) (λ p. r.1.items
+    requires { view.now.at < length view.now.ports.now }
+    ensures port { IfOk result (λ r. IfSome (slice_get view.now.ports.now view.now.at) (λ p. r.0
+        ≡ settled_port view.now.at (registrations_from view.now)
+        (talker_keys view.now.talks.now view.now.ports.now) awaiting.now.keys p)) }
+    ensures told { IfOk result (λ r. IfSome (slice_get view.now.ports.now view.now.at) (λ p. r.1.items
         ≡ listener_keys (moved_streams p.ledger
-        (next_book at (registrations_of talks.now listens.now ports.now) awaiting.now.keys p)))) }
+        (next_book view.now.at (registrations_from view.now) awaiting.now.keys p)))) }
 {
-    let port = port_at(ports, at);
-    let ledger = next_ledger(alloc, talks, listens, ports, at, port, awaiting.as_slice())?;
-    let moved = moved_streams(&port.ledger, &ledger)?;
-    let keys = settling_keys(alloc, talks, ports, moved.as_slice(), awaiting)?;
+    let port = view.port();
+    let ledger = next_ledger(alloc, view, port, awaiting.as_slice())?;
+    let moved = moved_streams(port.ledger(), &ledger)?;
+    let keys = settling_keys(alloc, view, moved.as_slice(), awaiting)?;
     let told = listener_keys(alloc, moved.as_slice())?;
-    let after = restated(alloc, talks, listens, ports, at, ledger, keys.as_slice())?;
+    let after = restated(alloc, view, ledger, keys.as_slice())?;
     Ok((after, told))
 }
 
@@ -223,7 +212,7 @@ pub(crate) fn talker_keys(
 {
     let mut keys = own_talker_keys(alloc, talks)?;
     for port in ports {
-        push_talkers(&mut keys, &port.part)?;
+        push_talkers(&mut keys, port.part())?;
     }
     Ok(keys)
 }
@@ -232,18 +221,17 @@ pub(crate) fn talker_keys(
 // streams with a Talker.
 fn settling_keys(
     alloc: Global,
-    talks: &[Talker],
-    ports: &[Port],
+    view: &PortView<'_>,
     moved: &[StreamId],
     awaiting: &Dirty<MsrpKey>,
 ) -> Result<Dirty<MsrpKey>, NoMemory>
     ensures { IfOk result (λ d. d.keys
-        ≡ settling_keys moved.now (talker_keys talks.now ports.now) awaiting.now.keys) }
+        ≡ settling_keys moved.now (talker_keys view.now.talks.now view.now.ports.now) awaiting.now.keys) }
 {
     if moved.is_empty() {
         return awaiting.copy();
     }
-    let talkers = talker_keys(alloc, talks, ports)?;
+    let talkers = talker_keys(alloc, view.talks, view.ports)?;
     awaiting.with_all(talkers.as_slice())
 }
 
@@ -263,20 +251,13 @@ fn take_out(ledger: &mut Ledger, stream: StreamId, want: Option<Want>)
 }
 
 // Those of these streams that want nothing are taken out.
-fn take_out_all(
-    ledger: &mut Ledger,
-    talks: &[Talker],
-    ports: &[Port],
-    at: usize,
-    port: &Port,
-    streams: &[StreamId],
-)
+fn take_out_all(ledger: &mut Ledger, view: &PortView<'_>, port: &Port, streams: &[StreamId])
     ensures { ledger.new
-        ≡ taken_out (λ s. wanted_at at port.now (talkers_of talks.now ports.now s) s)
+        ≡ taken_out (λ s. wanted_at view.now.at port.now (talkers_from view.now s) s)
         streams.now ledger.old }
 {
     for stream in streams {
-        let want = wanted_at(talks, ports, at, port, *stream);
+        let want = wanted_at(view, port, *stream);
         take_out(ledger, *stream, want);
     }
 }
@@ -298,18 +279,16 @@ fn enter(ledger: &mut Ledger, want: Option<Want>) -> Result<(), NoMemory>
 // Those of these streams that want bandwidth are entered.
 fn enter_all(
     ledger: &mut Ledger,
-    talks: &[Talker],
-    ports: &[Port],
-    at: usize,
+    view: &PortView<'_>,
     port: &Port,
     streams: &[StreamId],
 ) -> Result<(), NoMemory>
     ensures { OnOk result (ledger.new
-        ≡ with_wants (λ s. wanted_at at port.now (talkers_of talks.now ports.now s) s)
+        ≡ with_wants (λ s. wanted_at view.now.at port.now (talkers_from view.now s) s)
         streams.now ledger.old) }
 {
     for stream in streams {
-        let want = wanted_at(talks, ports, at, port, *stream);
+        let want = wanted_at(view, port, *stream);
         enter(ledger, want)?;
     }
     Ok(())
@@ -319,21 +298,17 @@ fn enter_all(
 #[tactic(auto, unfolding(crate::specs::Settling::next_book))]
 fn next_ledger(
     alloc: Global,
-    talks: &[Talker],
-    listens: &[StreamId],
-    ports: &[Port],
-    at: usize,
+    view: &PortView<'_>,
     port: &Port,
     awaiting: &[MsrpKey],
 ) -> Result<Ledger, NoMemory>
     ensures { IfOk result (λ l. l
-        ≡ next_book at (registrations_of talks.now listens.now ports.now) awaiting.now port.now) }
+        ≡ next_book view.now.at (registrations_from view.now) awaiting.now port.now) }
 {
-    let _ = listens;
     let streams = streams_in(alloc, awaiting)?;
-    let mut ledger = port.ledger.copy()?;
-    take_out_all(&mut ledger, talks, ports, at, port, streams.as_slice());
-    enter_all(&mut ledger, talks, ports, at, port, streams.as_slice())?;
+    let mut ledger = port.ledger().copy()?;
+    take_out_all(&mut ledger, view, port, streams.as_slice());
+    enter_all(&mut ledger, view, port, streams.as_slice())?;
     Ok(ledger)
 }
 
@@ -381,23 +356,19 @@ fn settle_as(
 fn settle_all(
     alloc: Global,
     part: &mut Participant<MsrpApp>,
-    talks: &[Talker],
-    listens: &[StreamId],
-    ports: &[Port],
-    at: usize,
+    view: &PortView<'_>,
     port: &Port,
     ledger: &Ledger,
     keys: &[MsrpKey],
 ) -> Result<(), NoMemory>
-    requires { at < length ports.now }
+    requires { view.now.at < length view.now.ports.now }
     ensures { OnOk result (part.new
         ≡ settled_part
-        (stated_at at (record port.now { ledger = ledger.now })
-        (registrations_of talks.now listens.now ports.now))
+        (stated_at view.now.at (record port.now { ledger = ledger.now }) (registrations_from view.now))
         keys.now part.old) }
 {
     for key in keys {
-        let content = stated_at(alloc, talks, listens, ports, at, port, ledger, *key)?;
+        let content = stated_at(alloc, view, port, ledger, *key)?;
         settle_as(part, *key, content)?;
     }
     Ok(())
@@ -408,27 +379,17 @@ fn settle_all(
 // A port with another ledger, which has declared these keys by it.
 fn restated(
     alloc: Global,
-    talks: &[Talker],
-    listens: &[StreamId],
-    ports: &[Port],
-    at: usize,
+    view: &PortView<'_>,
     ledger: Ledger,
     keys: &[MsrpKey],
 ) -> Result<Port, NoMemory>
-    requires { at < length ports.now }
-    ensures { IfOk result (λ p. IfSome (slice_get ports.now at)
-        (λ port. p ≡ restated_port at (registrations_of talks.now listens.now ports.now) keys.now
+    requires { view.now.at < length view.now.ports.now }
+    ensures { IfOk result (λ p. IfSome (slice_get view.now.ports.now view.now.at)
+        (λ port. p ≡ restated_port view.now.at (registrations_from view.now) keys.now
         (record port { ledger = ledger }))) }
 {
-    let port = &ports[at];
-    let mut part = port.part.copy()?;
-    settle_all(
-        alloc, &mut part, talks, listens, ports, at, port, &ledger, keys,
-    )?;
-    Ok(Port {
-        config: port.config,
-        domain: port.domain,
-        part,
-        ledger,
-    })
+    let port = view.port();
+    let mut part = port.part().copy()?;
+    settle_all(alloc, &mut part, view, port, &ledger, keys)?;
+    Ok(port.with(part, ledger))
 }

@@ -4,19 +4,17 @@ ghost use Rattle.std.specs.Prelude.{◌≡◌, ◌≤◌, ◌+◌, ◌==◌, not
 ghost use Rattle.std.specs.List.{AllByRecursion, list_all, list_any};
 ghost use Rattle.srp_base.specs.declared.ports.PortSetup.{PortSetup};
 ghost use Rattle.mrp_participant.specs.State.{IsTime, is_still, is_any_due};
-ghost use Rattle.msrp.specs.declared.port.Port.{Port};
 ghost use Rattle.msrp.specs.Stream.{fit_at, talkers_of};
 ghost use Rattle.attribute_propagation.specs.Ports.{IsLinkPort, place_of};
 ghost use Rattle.msrp.specs.Side.{Streams, IsKept, are_still, has_listen, has_talk, heard_of, is_busy, new_port, new_streams, talker_of};
 
 use crate::app::MsrpApp;
-use crate::domain::{DomainSet, declare_domains};
+use crate::domain::DomainSet;
 use crate::port::Port;
 use crate::stream::{fit_at, heard_of, is_listened, is_own, talk_of, talker_of};
 use attribute_propagation::{Dirty, copied_sets, new_sets, none_awaits, set_at, some_awaits};
 use mrp_participant::Participant;
 use msrp_codec::MsrpKey;
-use msrp_talker::PortConfig;
 use port_ledger::Ledger;
 use port_ledger::laws::every_step_keeps_a_book;
 use srp_base::{
@@ -105,7 +103,7 @@ impl MsrpSide {
         requires { IsLinkPort port (length self.now.ports) }
         ensures { IfSome (slice_get self.now.ports (place_of port)) (λ p. result.now ≡ p.part) }
     {
-        &self.ports[usize::from(port.0) - 1].part
+        self.ports[usize::from(port.0) - 1].part()
     }
 
     /// The ledger of a link port.
@@ -113,7 +111,7 @@ impl MsrpSide {
         requires { IsLinkPort port (length self.now.ports) }
         ensures { IfSome (slice_get self.now.ports (place_of port)) (λ p. result.now ≡ p.ledger) }
     {
-        &self.ports[usize::from(port.0) - 1].ledger
+        self.ports[usize::from(port.0) - 1].ledger()
     }
 
     /// The number of keys that await settling at a link port.
@@ -136,7 +134,7 @@ impl MsrpSide {
     pub fn talker(&self, stream: StreamId) -> TalkerReg
         ensures { result ≡ talker_of stream self.now }
     {
-        talker_of(self.talks.as_slice(), self.ports.as_slice(), stream)
+        talker_of(&self.view(0), stream)
     }
 
     /// Whether the application talks a stream.
@@ -165,7 +163,7 @@ impl MsrpSide {
         if is_own(self.talks.as_slice(), stream) {
             return None;
         }
-        heard_of(talker_of(self.talks.as_slice(), self.ports.as_slice(), stream))
+        heard_of(talker_of(&self.view(0), stream))
     }
 
     /// Whether what a stream's Talker asks for fits at a link port, by its ledger, at a moment in cs that isn't before
@@ -180,14 +178,7 @@ impl MsrpSide {
     {
         let at = usize::from(port.0) - 1;
         let port = &self.ports[at];
-        fit_at(
-            self.talks.as_slice(),
-            self.ports.as_slice(),
-            at,
-            &port.ledger,
-            now,
-            stream,
-        )
+        fit_at(&self.view(at), port.ledger(), now, stream)
     }
 
     /// Whether nothing is pending at any port: every participant is at rest, and no key awaits.
@@ -229,58 +220,19 @@ fn new_ports(
 {
     let mut all = Vec::with_capacity(alloc, ports.len())?;
     for port in ports {
-        let made = new_port(alloc, bridge, leave_time, periodic, port, domain)?;
+        let made = Port::new(alloc, bridge, leave_time, periodic, port, domain)?;
         all.push(made)?;
     }
     Ok(all)
 }
 
-// A new port.
-fn new_port(
-    alloc: Global,
-    bridge: BridgeId,
-    leave_time: Cs,
-    periodic: bool,
-    port: &PortSetup,
-    domain: DomainSet,
-) -> Result<Port, NoMemory>
-    requires leave_time { IsTime leave_time }
-    requires period { IsTime port.now.period }
-    requires shares { port.now.delta_a + port.now.delta_b ≤ 90 }
-    ensures { IfOk result (λ p. p ≡ new_port bridge leave_time periodic domain port.now) }
-{
-    let mut part = Participant::new(alloc, port.period, leave_time, periodic);
-    declare_domains(&mut part, domain)?;
-    Ok(Port {
-        config: PortConfig {
-            bridge,
-            latency: port.latency,
-        },
-        domain,
-        part,
-        ledger: Ledger::new(alloc, port.rate, port.delta_a, port.delta_b),
-    })
-}
-
-fn copied_port(port: &Port) -> Result<Port, NoMemory>
-    ensures { IfOk result (λ p. p ≡ port.now) }
-{
-    let part = port.part.copy()?;
-    let ledger = port.ledger.copy()?;
-    Ok(Port {
-        config: port.config,
-        domain: port.domain,
-        part,
-        ledger,
-    })
-}
-
+// Ports with the same states.
 fn copied_ports(alloc: Global, ports: &[Port]) -> Result<Vec<Port>, NoMemory>
     ensures { IfOk result (λ v. v.items ≡ ports.now) }
 {
     let mut copies = Vec::with_capacity(alloc, ports.len())?;
     for port in ports {
-        copies.push(copied_port(port)?)?;
+        copies.push(port.copy()?)?;
     }
     Ok(copies)
 }
@@ -288,17 +240,17 @@ fn copied_ports(alloc: Global, ports: &[Port]) -> Result<Vec<Port>, NoMemory>
 fn all_still(ports: &[Port]) -> bool
     ensures { result ≡ list_all (λ p. is_still p.part) ports.now }
 {
-    ports.iter().all(|port| port.part.still())
+    ports.iter().all(|port| port.part().still())
 }
 
 fn all_sound(ports: &[Port]) -> bool
     ensures { result ≡ list_all (λ p. p.part.sound) ports.now }
 {
-    ports.iter().all(|port| port.part.sound())
+    ports.iter().all(|port| port.part().sound())
 }
 
 fn any_due(ports: &[Port], now: Cs) -> bool
     ensures { result ≡ list_any (λ p. is_any_due now p.part) ports.now }
 {
-    ports.iter().any(|port| port.part.any_due(now))
+    ports.iter().any(|port| port.part().any_due(now))
 }

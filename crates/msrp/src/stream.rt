@@ -10,13 +10,15 @@ ghost use Rattle.srp_base.specs.declared.streams.ListenerKind.TheVariants.{Ready
 ghost use Rattle.port_ledger.specs.Book.{fit_for};
 ghost use Rattle.msrp_talker.specs.TalkerOut.{talker_in};
 ghost use Rattle.msrp_codec.specs.declared.pdu.MsrpContent.TheVariants as contents;
-ghost use Rattle.msrp.specs.declared.port.Port.{Port};
+ghost use Rattle.msrp.specs.PortState.{PortState};
 ghost use Rattle.msrp.specs.Part.{talker_reg_of, listener_kind_of, registered_talker, registered_listener, talker_content};
-ghost use Rattle.msrp.specs.Stream.{talk_of, is_listened, listener_row, registrations_of, talkers_of, want_in_class, is_number, is_present, first_talker, is_talker_port, want_of_talker, want_of_reg, is_ready, wanted_at, fit_at, talker_at, is_advertised, own_listener, other_listeners, heard_from, listener_at, stated_at};
+ghost use Rattle.msrp.specs.View.{registrations_from, talkers_from};
+ghost use Rattle.msrp.specs.Stream.{talk_of, is_listened, listener_row, talkers_of, want_in_class, is_number, is_present, first_talker, is_talker_port, want_of_talker, want_of_reg, is_ready, wanted_at, fit_at, talker_at, is_advertised, own_listener, other_listeners, heard_from, listener_at, stated_at};
 
 use crate::app::MsrpApp;
 use crate::domain::{domain_stated, is_edge};
 use crate::port::Port;
+use crate::view::PortView;
 use mrp_participant::Participant;
 use msrp_codec::{MsrpContent, MsrpKey};
 use msrp_listener::{PortListener, listener_out};
@@ -99,8 +101,8 @@ pub(crate) fn is_listened(listens: &[StreamId], stream: StreamId) -> bool
 fn listener_row(port: &Port, stream: StreamId) -> Option<PortListener>
     ensures { result ≡ listener_row stream port.now }
 {
-    let booked = port.ledger.booked(stream).is_some();
-    registered_listener(&port.part, stream).map(|kind| PortListener { kind, booked })
+    let booked = port.ledger().booked(stream).is_some();
+    registered_listener(port.part(), stream).map(|kind| PortListener { kind, booked })
 }
 
 // Whether a Talker is registered.
@@ -142,7 +144,7 @@ fn talker_port(ports: &[Port], stream: StreamId) -> Option<TalkerPort>
         ≡ find is_present (map (λ p. registered_talker stream p.part) ports.now) }
 {
     for (place, port) in ports.iter().enumerate() {
-        let reg = registered_talker(&port.part, stream);
+        let reg = registered_talker(port.part(), stream);
         if is_present(&reg) {
             return Some(TalkerPort { place, reg });
         }
@@ -151,15 +153,15 @@ fn talker_port(ports: &[Port], stream: StreamId) -> Option<TalkerPort>
 }
 
 // What is registered of a stream at its Talker's port.
-pub(crate) fn talker_of(talks: &[Talker], ports: &[Port], stream: StreamId) -> TalkerReg
-    ensures { result ≡ first_talker (talkers_of talks.now ports.now stream) }
+pub(crate) fn talker_of(view: &PortView<'_>, stream: StreamId) -> TalkerReg
+    ensures { result ≡ first_talker (talkers_from view.now stream) }
 {
-    seen_from(talks, ports, 0, stream).reg
+    seen_from(view, stream).reg
 }
 
 // Whether the application is a stream's Talker's port.
 pub(crate) fn is_own(talks: &[Talker], stream: StreamId) -> bool
-    ensures { (ports : List Port) → result ≡ is_talker_port 0 (talkers_of talks.now ports stream) }
+    ensures { (ports : List PortState) → result ≡ is_talker_port 0 (talkers_of talks.now ports stream) }
 {
     talk_of(talks, stream).is_some()
 }
@@ -171,18 +173,17 @@ struct TalkerSeen {
     reg: TalkerReg,
 }
 
-// A stream's Talker as the link port at a place sees it.
-fn seen_from(talks: &[Talker], ports: &[Port], at: usize, stream: StreamId) -> TalkerSeen
-    ensures here { result.is_here ≡ is_talker_port (suc at)
-        (talkers_of talks.now ports.now stream) }
-    ensures reg { result.reg ≡ first_talker (talkers_of talks.now ports.now stream) }
+// A stream's Talker as a link port sees it.
+fn seen_from(view: &PortView<'_>, stream: StreamId) -> TalkerSeen
+    ensures here { result.is_here ≡ is_talker_port (suc view.now.at) (talkers_from view.now stream) }
+    ensures reg { result.reg ≡ first_talker (talkers_from view.now stream) }
 {
-    match talk_of(talks, stream) {
+    match talk_of(view.talks, stream) {
         Some(talker) => TalkerSeen {
             is_here: false,
             reg: TalkerReg::Advertise(talker),
         },
-        None => seen_at(talker_port(ports, stream), at),
+        None => seen_at(talker_port(view.ports, stream), view.at),
     }
 }
 
@@ -253,24 +254,18 @@ fn is_ready(kind: Option<ListenerKind>) -> bool
     }
 }
 
-// What a link port, at a place, wants for a stream.
-pub(crate) fn wanted_at(
-    talks: &[Talker],
-    ports: &[Port],
-    at: usize,
-    port: &Port,
-    stream: StreamId,
-) -> Option<Want>
-    ensures { result ≡ wanted_at at port.now (talkers_of talks.now ports.now stream) stream }
+// What a link port wants for a stream, by what it sees.
+pub(crate) fn wanted_at(view: &PortView<'_>, port: &Port, stream: StreamId) -> Option<Want>
+    ensures { result ≡ wanted_at view.now.at port.now (talkers_from view.now stream) stream }
 {
-    if !is_ready(registered_listener(&port.part, stream)) {
+    if !is_ready(registered_listener(port.part(), stream)) {
         return None;
     }
-    let seen = seen_from(talks, ports, at, stream);
+    let seen = seen_from(view, stream);
     if seen.is_here {
         return None;
     }
-    let edge = is_edge(port.domain, &port.part, seen.reg);
+    let edge = is_edge(port.domain(), port.part(), seen.reg);
     want_of_reg(edge, seen.reg)
 }
 
@@ -300,44 +295,30 @@ fn fit_of(reg: TalkerReg, ledger: &Ledger, now: Cs) -> Option<Fit>
     }
 }
 
-// Whether what a stream's Talker asks for fits at the link port at a place, by a ledger at a moment in cs.
-pub(crate) fn fit_at(
-    talks: &[Talker],
-    ports: &[Port],
-    at: usize,
-    ledger: &Ledger,
-    now: Cs,
-    stream: StreamId,
-) -> Option<Fit>
+// Whether what a stream's Talker asks for fits at a link port, by a ledger at a moment in cs.
+pub(crate) fn fit_at(view: &PortView<'_>, ledger: &Ledger, now: Cs, stream: StreamId) -> Option<Fit>
     requires { ledger.now.moment ≤ now.0 }
-    ensures { result ≡ fit_at now.0 at ledger.now (talkers_of talks.now ports.now stream) }
+    ensures { result ≡ fit_at now.0 view.now.at ledger.now (talkers_from view.now stream) }
 {
-    let seen = seen_from(talks, ports, at, stream);
+    let seen = seen_from(view, stream);
     if seen.is_here {
         return None;
     }
     fit_of(seen.reg, ledger, now)
 }
 
-// What a link port, at a place, declares of a stream's Talker by another ledger.
-fn talker_at(
-    talks: &[Talker],
-    ports: &[Port],
-    at: usize,
-    port: &Port,
-    ledger: &Ledger,
-    stream: StreamId,
-) -> TalkerReg
-    ensures { result ≡ talker_at at (record port.now { ledger = ledger.now })
-        (talkers_of talks.now ports.now stream) }
+// What a link port declares of a stream's Talker by another ledger.
+fn talker_at(view: &PortView<'_>, port: &Port, ledger: &Ledger, stream: StreamId) -> TalkerReg
+    ensures { result ≡ talker_at view.now.at (record port.now { ledger = ledger.now })
+        (talkers_from view.now stream) }
 {
-    let seen = seen_from(talks, ports, at, stream);
+    let seen = seen_from(view, stream);
     if seen.is_here {
         return TalkerReg::Absent;
     }
-    let edge = is_edge(port.domain, &port.part, seen.reg);
+    let edge = is_edge(port.domain(), port.part(), seen.reg);
     let fit = fit_of(seen.reg, ledger, ledger.moment()).unwrap_or(Fit::Fits);
-    talker_out(seen.reg, &port.config, edge, fit)
+    talker_out(seen.reg, port.config(), edge, fit)
 }
 
 // The application as a port with a Listener, by what is registered at the Talker's port.
@@ -391,45 +372,39 @@ fn after(ports: &[Port], at: usize) -> &[Port]
     &ports[at + 1..]
 }
 
-// The Listeners of a stream at all ports but the link port at a place, by what is registered at the Talker's port.
+// The Listeners of a stream at all ports but one, by what is registered at the Talker's port.
 fn other_listeners(
     alloc: Global,
-    listens: &[StreamId],
-    ports: &[Port],
-    at: usize,
+    view: &PortView<'_>,
     stream: StreamId,
     talker: &TalkerReg,
 ) -> Result<Vec<PortListener>, NoMemory>
-    requires { at < length ports.now }
-    ensures { (talks : List Talker) → talker.now ≡ first_talker (talkers_of talks ports.now stream)
-        → IfOk result (λ v. v.items
-        ≡ other_listeners at (registrations_of talks listens.now ports.now stream)) }
+    requires { view.now.at < length view.now.ports.now }
+    ensures { talker.now ≡ first_talker (talkers_from view.now stream)
+        → IfOk result (λ v. v.items ≡ other_listeners view.now.at (registrations_from view.now stream)) }
 {
-    let mut others = Vec::with_capacity(alloc, ports.len())?;
-    push_row(&mut others, own_listener(listens, stream, talker))?;
-    push_rows(&mut others, before(ports, at), stream)?;
-    push_rows(&mut others, after(ports, at), stream)?;
+    let mut others = Vec::with_capacity(alloc, view.ports.len())?;
+    push_row(&mut others, own_listener(view.listens, stream, talker))?;
+    push_rows(&mut others, before(view.ports, view.at), stream)?;
+    push_rows(&mut others, after(view.ports, view.at), stream)?;
     Ok(others)
 }
 
-// What the link port at a place declares of a stream's Listeners.
+// What a link port declares of a stream's Listeners.
 fn listener_at(
     alloc: Global,
-    talks: &[Talker],
-    listens: &[StreamId],
-    ports: &[Port],
-    at: usize,
+    view: &PortView<'_>,
     stream: StreamId,
 ) -> Result<Option<ListenerKind>, NoMemory>
-    requires { at < length ports.now }
+    requires { view.now.at < length view.now.ports.now }
     ensures { IfOk result (λ kind. kind
-        ≡ listener_at at (registrations_of talks.now listens.now ports.now stream)) }
+        ≡ listener_at view.now.at (registrations_from view.now stream)) }
 {
-    let seen = seen_from(talks, ports, at, stream);
+    let seen = seen_from(view, stream);
     if !seen.is_here {
         return Ok(None);
     }
-    let rows = other_listeners(alloc, listens, ports, at, stream, &seen.reg)?;
+    let rows = other_listeners(alloc, view, stream, &seen.reg)?;
     Ok(listener_out(rows.as_slice()))
 }
 
@@ -454,32 +429,29 @@ fn listener_content(kind: Option<ListenerKind>) -> Option<MsrpContent>
     }
 }
 
-// What a link port, at a place, declares of a key by another ledger.
+// What a link port declares of a key by another ledger.
 pub(crate) fn stated_at(
     alloc: Global,
-    talks: &[Talker],
-    listens: &[StreamId],
-    ports: &[Port],
-    at: usize,
+    view: &PortView<'_>,
     port: &Port,
     ledger: &Ledger,
     key: MsrpKey,
 ) -> Result<Option<MsrpContent>, NoMemory>
-    requires { at < length ports.now }
+    requires { view.now.at < length view.now.ports.now }
     ensures { IfOk result (λ c. c
-        ≡ stated_at at (record port.now { ledger = ledger.now })
-        (registrations_of talks.now listens.now ports.now) key) }
+        ≡ stated_at view.now.at (record port.now { ledger = ledger.now })
+        (registrations_from view.now) key) }
 {
     match key {
         MsrpKey::Talker(stream) => {
-            let reg = talker_at(talks, ports, at, port, ledger, stream);
+            let reg = talker_at(view, port, ledger, stream);
             Ok(talker_content(reg))
         }
         MsrpKey::Listener(stream) => {
-            let kind = listener_at(alloc, talks, listens, ports, at, stream)?;
+            let kind = listener_at(alloc, view, stream)?;
             Ok(listener_content(kind))
         }
-        MsrpKey::Domain(class) => Ok(domain_stated(port.domain, class)),
+        MsrpKey::Domain(class) => Ok(domain_stated(port.domain(), class)),
     }
 }
 

@@ -12,29 +12,27 @@ use crate::app::MsrpApp;
 use crate::domain::DomainSet;
 use crate::port::Port;
 use crate::settling::{listener_keys, own_talker_keys};
+use crate::view::PortView;
 use attribute_propagation::laws::each_port_is_told;
 use attribute_propagation::{Dirty, await_everywhere, copied_sets, set_at};
 use mrp_participant::Participant;
 use msrp_codec::MsrpKey;
-use srp_base::{NoMemory, StreamId, Talker};
+use srp_base::NoMemory;
 use std::alloc::Global;
 
-// What awaits at each link port once keys are told at the one at a place; None where that stays as it is. Memory for
-// all sets is taken only where a key is told.
+// What awaits at each link port once keys are told at one that declares these Domains; None where that stays as it is.
+// Memory for all sets is taken only where a key is told.
 pub(crate) fn told_sets(
     alloc: Global,
-    sets: &[Dirty<MsrpKey>],
-    at: usize,
-    told: &[MsrpKey],
-    talks: &[Talker],
-    listens: &[StreamId],
-    ports: &[Port],
+    view: &PortView<'_>,
     domain: DomainSet,
+    sets: &[Dirty<MsrpKey>],
+    told: &[MsrpKey],
 ) -> Result<Option<Vec<Dirty<MsrpKey>>>, NoMemory>
-    requires { at < length (keys_in sets.now) }
+    requires { view.now.at < length (keys_in sets.now) }
     ensures { IfOk result (λ o. sets_with (keys_in_some (option_map (λ v. v.items) o)) (keys_in sets.now)
-        ≡ told_sets at domain told.now (known_keys talks.now listens.now ports.now)
-        (keys_in sets.now)) }
+        ≡ told_sets view.now.at domain told.now
+        (known_keys view.now.talks.now view.now.listens.now view.now.ports.now) (keys_in sets.now)) }
 {
     each_port_is_told::<MsrpKey>();
     let keys = all_keys_with(alloc, told)?;
@@ -42,9 +40,9 @@ pub(crate) fn told_sets(
     if !is_domain_told(domain, told) {
         return Ok(everywhere);
     }
-    let known = known_keys(alloc, talks, listens, ports)?;
+    let known = known_keys(alloc, view)?;
     let here = all_keys_with(alloc, known.as_slice())?;
-    let all = marked_here(alloc, sets, everywhere, at, here.as_slice())?;
+    let all = marked_here(alloc, sets, everywhere, view.at, here.as_slice())?;
     Ok(Some(all))
 }
 
@@ -158,18 +156,14 @@ fn push_keys_with(out: &mut Vec<MsrpKey>, key: MsrpKey) -> Result<(), NoMemory>
 // ---- what is registered at a node
 
 // The keys that are registered at a node: those of its application, and what each link port has registered.
-fn known_keys(
-    alloc: Global,
-    talks: &[Talker],
-    listens: &[StreamId],
-    ports: &[Port],
-) -> Result<Vec<MsrpKey>, NoMemory>
-    ensures { IfOk result (λ v. v.items ≡ known_keys talks.now listens.now ports.now) }
+fn known_keys(alloc: Global, view: &PortView<'_>) -> Result<Vec<MsrpKey>, NoMemory>
+    ensures { IfOk result (λ v. v.items
+        ≡ known_keys view.now.talks.now view.now.listens.now view.now.ports.now) }
 {
-    let mut keys = own_talker_keys(alloc, talks)?;
-    let heard = listener_keys(alloc, listens)?;
+    let mut keys = own_talker_keys(alloc, view.talks)?;
+    let heard = listener_keys(alloc, view.listens)?;
     keys.extend_from_slice(heard.as_slice())?;
-    push_all_registered(&mut keys, ports)?;
+    push_all_registered(&mut keys, view.ports)?;
     Ok(keys)
 }
 
@@ -179,7 +173,7 @@ fn push_all_registered(out: &mut Vec<MsrpKey>, ports: &[Port]) -> Result<(), NoM
         ≡ out.old.items ++ flat_map (λ p. registered_keys p.part) ports.now) }
 {
     for port in ports {
-        push_registered(out, &port.part)?;
+        push_registered(out, port.part())?;
     }
     Ok(())
 }

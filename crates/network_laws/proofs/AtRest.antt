@@ -19,7 +19,7 @@ use Rattle.msrp_codec.specs.declared.pdu.MsrpKey.{MsrpKey}
 use Rattle.mvrp.specs.Part.{Part}
 use Rattle.attribute_propagation.specs.Ports.{place_of}
 use Rattle.flat_side.specs.Side.{are_still}
-use Rattle.msrp.specs.declared.port.Port.{Port}
+use Rattle.msrp.specs.PortState.{PortState}
 use Rattle.msrp.specs.Side.{are_still as streams_are_still}
 use Rattle.node_core.specs.declared.types.Wire.{Wire}
 use Rattle.node_core.specs.State.{NodeState, box_at, are_empty, is_still_node, ports_of}
@@ -43,7 +43,7 @@ pub record IsStillNode (s : NodeState) : Type 0 where
   pub outboxes : are_empty s.outboxes ≡ true
   pub vlans : list_all is_still s.vlans.parts ≡ true
   pub no_vids : list_all (λ (vids : List ℕ). length vids == 0) s.vlans.awaiting ≡ true
-  pub streams : list_all (λ (p : Port). is_still p.part) s.streams.ports ≡ true
+  pub streams : list_all (λ (p : PortState). is_still p.part) s.streams.ports ≡ true
   pub no_keys : list_all (λ (keys : List MsrpKey). length keys == 0) s.streams.awaiting ≡ true
 
 -- ---- each port is sound, where all are
@@ -97,7 +97,7 @@ module _ (w : WorldState) (rest : IsAtRest w) where
       let first = and_parts (are_empty s.inboxes && are_empty s.outboxes) (are_still s.vlans) all.0 in
       let boxes = and_parts (are_empty s.inboxes) (are_empty s.outboxes) first.0 in
       let vlans = and_parts (list_all is_still s.vlans.parts) (list_all (λ (vids : List ℕ). length vids == 0) s.vlans.awaiting) first.1 in
-      let streams = and_parts (list_all (λ (p : Port). is_still p.part) s.streams.ports) (list_all (λ (keys : List MsrpKey). length keys == 0) s.streams.awaiting) all.1 in
+      let streams = and_parts (list_all (λ (p : PortState). is_still p.part) s.streams.ports) (list_all (λ (keys : List MsrpKey). length keys == 0) s.streams.awaiting) all.1 in
       record {
         inboxes = boxes.0;
         outboxes = boxes.1;

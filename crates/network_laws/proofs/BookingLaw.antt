@@ -15,7 +15,7 @@ use Rattle.tree_topology.specs.Ports.{neighbours}
 use Rattle.mrp_participant.specs.State.{declared_at, is_still}
 use Rattle.msrp_codec.specs.declared.pdu.MsrpKey.{MsrpKey}
 use Rattle.msrp_codec.specs.declared.pdu.MsrpKey.TheVariants as keys
-use Rattle.msrp.specs.declared.port.Port.{Port}
+use Rattle.msrp.specs.PortState.{PortState}
 use Rattle.msrp.specs.Part.{key_cmp, talker_reg_of}
 use Rattle.msrp.specs.Stream.{is_advertised, talker_at, wanted_at}
 use Rattle.msrp.specs.Side.{Streams, IsKept, IsPort, IsSettled, awaiting_at, seen_by, are_still as streams_are_still}
@@ -31,7 +31,7 @@ use Rattle.network_laws.proofs.Lists.{each-get, get-all, get-empty, get-some, ge
 use Rattle.network_laws.proofs.StreamNode.{KeptWants, advertised-booked, booked-advertises, booked-wants, reg-content}
 use Rattle.network_laws.proofs.StreamNet.{entry-booked}
 
-module _ (kept-wants : KeptWants) (side : Streams) (kept : IsKept side) (at : ℕ) (port : Port) (stream : StreamId)
+module _ (kept-wants : KeptWants) (side : Streams) (kept : IsKept side) (at : ℕ) (port : PortState) (stream : StreamId)
     (has : slice_get side.ports at ≡ Some port) where
   -- at a port where neither key of the stream is among those that await
   settled-booked : (awaiting : List MsrpKey) → slice_get side.awaiting at ≡ Some awaiting
@@ -62,9 +62,9 @@ module _ (kept-wants : KeptWants) (w : WorldState) (stream : StreamId) (kept : I
   none-awaits : (x : ℕ) (s : NodeState) → slice_get w.nodes x ≡ Some s → list_all (λ (keys : List MsrpKey). length keys == 0) s.streams.awaiting ≡ true
   none-awaits x s e =
       let all = and_parts (are_empty s.inboxes && are_empty s.outboxes && are_still s.vlans) (streams_are_still s.streams) (get-all is_still_node w.nodes x s quiet e) in
-      (and_parts (list_all (λ (p : Port). is_still p.part) s.streams.ports) (list_all (λ (keys : List MsrpKey). length keys == 0) s.streams.awaiting) all.1).1
+      (and_parts (list_all (λ (p : PortState). is_still p.part) s.streams.ports) (list_all (λ (keys : List MsrpKey). length keys == 0) s.streams.awaiting) all.1).1
 
-  of-node : (p : EgressPort) (s : NodeState) (port : Port) → node_at p.node w ≡ Some s → slice_get s.streams.ports (place_of p.port) ≡ Some port
+  of-node : (p : EgressPort) (s : NodeState) (port : PortState) → node_at p.node w ≡ Some s → slice_get s.streams.ports (place_of p.port) ≡ Some port
       → (has_booked w stream p ≡ true)
       ↔ ((at_port_of (declares_advertise stream) p w ≡ true) × (at_port_of (registers_ready stream) p w ≡ true))
   of-node p s port node has =
@@ -76,9 +76,9 @@ module _ (kept-wants : KeptWants) (w : WorldState) (stream : StreamId) (kept : I
       let law : IsBookedAsAdvertised stream port = settled-booked kept-wants s.streams side (place_of p.port) port stream has [] (found.1 ∙ ap Some none) refl refl in
       let booked : has_booked w stream p ≡ is_booked_in stream port =
       ap (λ o. option_map_or (λ (t : NodeState). is_some (booked_at stream (place_of p.port) t)) o false) node
-      ∙ (ap (λ o. is_some (option_map_or (λ (x : Port). option_and_then if_booked (entry_of x.ledger.entries stream)) o None)) has
+      ∙ (ap (λ o. is_some (option_map_or (λ (x : PortState). option_and_then if_booked (entry_of x.ledger.entries stream)) o None)) has
       ∙ entry-booked (entry_of port.ledger.entries stream)) in
-      let test : (f : Port → Bool) → at_port_of f p w ≡ f port =
+      let test : (f : PortState → Bool) → at_port_of f p w ≡ f port =
       λ f. ap (λ o. option_map_or (λ (t : NodeState). of_port f false (place_of p.port) t.streams) o false) node
       ∙ ap (λ o. option_map_or f o false) has in (
         (λ h. (let both = law.0 (sym booked ∙ h) in (test (declares_advertise stream) ∙ both.0, test (registers_ready stream) ∙ both.1))),

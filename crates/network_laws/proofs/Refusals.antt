@@ -19,7 +19,7 @@ use Rattle.port_ledger.specs.Book.{Book, fit_for, tested_entry, code_of}
 use Rattle.tree_topology.specs.Topology.{HasNode}
 use Rattle.tree_topology.specs.Walk.{path_between}
 use Rattle.msrp_talker.specs.TalkerOut.{talker_in}
-use Rattle.msrp.specs.declared.port.Port.{Port}
+use Rattle.msrp.specs.PortState.{PortState}
 use Rattle.msrp.specs.Stream.{is_talker_port, talkers_of, first_talker as talker_in_list, fit_at, want_of_talker}
 use Rattle.attribute_propagation.specs.Ports.{place_of}
 use Rattle.msrp.specs.Side.{talker_of, has_talk}
@@ -145,10 +145,10 @@ fit-passes now at book xs more cap code h = by (is_talker_port (suc at) xs) refl
 node-passes : (stream : StreamId) (at : ℕ) (s : NodeState) (more cap code : ℕ) → fit_of at stream s ≡ Some (TooLittle more cap code) → cap < more + slope_of_reg (talker_of stream s.streams)
 node-passes stream at s more cap code h = by (slice_get s.streams.ports at) refl
   where
-    abbreviated : Option Port → Option Fit
-    abbreviated o = option_map_or (λ (port : Port). fit_at s.clock.0 at port.ledger (talkers_of s.streams.talks s.streams.ports stream)) o None
+    abbreviated : Option PortState → Option Fit
+    abbreviated o = option_map_or (λ (port : PortState). fit_at s.clock.0 at port.ledger (talkers_of s.streams.talks s.streams.ports stream)) o None
 
-    by : (o : Option Port) → slice_get s.streams.ports at ≡ o → cap < more + slope_of_reg (talker_of stream s.streams)
+    by : (o : Option PortState) → slice_get s.streams.ports at ≡ o → cap < more + slope_of_reg (talker_of stream s.streams)
     by None e = let none : fit_of at stream s ≡ None = ap abbreviated e in cc
     by (Some port) e =
         fit-passes s.clock.0 at port.ledger (talkers_of s.streams.talks s.streams.ports stream) more cap code (sym (ap abbreviated e) ∙ h)
@@ -278,7 +278,7 @@ module _ (w : WorldState) (still : AreStreamsStill w) (stream : StreamId) (kept 
         named = sym (still.named (r.p.node.0 - 1) r.a.s (place_of r.p.port) r.a.port r.a.node r.a.has) ∙ sym r.refuses.bridge;
         more = r.refuses.more;
         cap = r.refuses.cap;
-        fit = ap (λ o. option_map_or (λ (port : Port). fit_at r.a.s.clock.0 (place_of r.p.port) port.ledger (talkers_of r.a.s.streams.talks r.a.s.streams.ports stream)) o None) r.a.has
+        fit = ap (λ o. option_map_or (λ (port : PortState). fit_at r.a.s.clock.0 (place_of r.p.port) port.ledger (talkers_of r.a.s.streams.talks r.a.s.streams.ports stream)) o None) r.a.has
             ∙ fit-there w still stream kept once l f d r.a.s.clock.0 (moment-is w still stream kept once r.p r.a);
       })
 

@@ -23,7 +23,7 @@ use Rattle.tree_topology.specs.Walk.{is_behind, path_between}
 use Rattle.mrp_participant.specs.State.{registered_at}
 use Rattle.msrp_codec.specs.declared.pdu.MsrpKey.TheVariants as keys
 use Rattle.msrp_talker.specs.TalkerOut.{talker_in}
-use Rattle.msrp.specs.declared.port.Port.{Port}
+use Rattle.msrp.specs.PortState.{PortState}
 use Rattle.msrp.specs.Part.{registered_talker, registered_listener, key_cmp, talker_reg_of}
 use Rattle.msrp.specs.Stream.{Registrations, is_present, is_advertised, is_number, talker_port, is_talker_port, is_ready, talk_of, first_talker, listener_at, fit_at, want_of_talker, heard_by, heard_from as heard_in}
 use Rattle.attribute_propagation.specs.Ports.{place_of}
@@ -135,8 +135,8 @@ pushed-out now book want more cap code h = by (does_fit now book.caps (booked_of
         record { passes = grind (arith, nat_tests, e); code_is = ap code_in (sym h ∙ not_) }
 
 -- the failure of what stands at a station's port, or at a node
-abbrev registered_in : StreamId → Option Port → Option Failure
-registered_in stream o = bandwidth_failure (talker_reg_of (option_map_or (λ (x : Port). registered_at key_cmp (keys.Talker stream) x.part) o None))
+abbrev registered_in : StreamId → Option PortState → Option Failure
+registered_in stream o = bandwidth_failure (talker_reg_of (option_map_or (λ (x : PortState). registered_at key_cmp (keys.Talker stream) x.part) o None))
 
 abbrev failure_in : StreamId → Option NodeState → Option Failure
 failure_in stream o = option_and_then (λ (s : NodeState). bandwidth_failure (talker_at_place stream 0 s)) o
@@ -146,7 +146,7 @@ module _ (w : WorldState) (still : AreStreamsStill w) (stream : StreamId) (kept 
   test-is p h =
       let a = at-port w still stream kept p h in
       ap (λ o. option_map_or (λ (s : NodeState). is_present (talker_at_place stream (place_of p.port) s)) o false) a.node
-      ∙ (ap (λ o. is_present (talker_reg_of (option_map_or (λ (x : Port). registered_at key_cmp (keys.Talker stream) x.part) o None))) a.has
+      ∙ (ap (λ o. is_present (talker_reg_of (option_map_or (λ (x : PortState). registered_at key_cmp (keys.Talker stream) x.part) o None))) a.has
       ∙ sym (ap is_present (reg-is w still stream kept p a)))
 
   module _ (once : IsTalkedOnce w stream) where
@@ -284,7 +284,7 @@ module _ (w : WorldState) (still : AreStreamsStill w) (stream : StreamId) (kept 
             let zero-is : is_talker_port 0 (seen_by n.s.streams stream).talkers ≡ true = is-port (seen_by n.s.streams stream).talkers 0 x 0 m in
             cc
         at-port-of parts (suc j) x m =
-            let at = get-map (λ (y : Port). registered_talker stream y.part) n.s.streams.ports j x m.at in
+            let at = get-map (λ (y : PortState). registered_talker stream y.part) n.s.streams.ports j x m.at in
             let q : EgressPort = record { node = record { 0 = l }; port = record { 0 = j + 1 } } in
             let up : l - 1 + 1 ≡ l = omega (arith, node.0) in
             let ports : length n.s.streams.ports ≡ length (neighbours w.tree.links l) = still.ports (l - 1) n.s n.node ∙ ap (λ y. length (neighbours w.tree.links y)) up in
@@ -353,7 +353,7 @@ module _ (w : WorldState) (still : AreStreamsStill w) (stream : StreamId) (kept 
     failed-port : (l : ℕ) → HasNode w.tree l → (f : Failure) → failure_at w stream l ≡ Some f → FailedAt l f
     failed-port l node f h = by-node (node_at (record { 0 = l }) w) refl
       where
-        by-port : (s : NodeState) → node_at (record { 0 = l }) w ≡ Some s → (o : Option Port) → slice_get s.streams.ports 0 ≡ o → FailedAt l f
+        by-port : (s : NodeState) → node_at (record { 0 = l }) w ≡ Some s → (o : Option PortState) → slice_get s.streams.ports 0 ≡ o → FailedAt l f
         by-port s e None g = let none : failure_at w stream l ≡ None = ap (failure_in stream) e ∙ ap (registered_in stream) g in cc
         by-port s e (Some x) g =
             let up : l - 1 + 1 ≡ l = omega (arith, node.0) in

@@ -26,7 +26,7 @@ use Rattle.port_ledger.specs.Book.{entry_of, since_of, want_of}
 use Rattle.msrp_codec.specs.declared.pdu.MsrpKey.{MsrpKey}
 use Rattle.msrp_codec.specs.declared.pdu.MsrpKey.TheVariants as keys
 use Rattle.msrp_listener.specs.declared.port_listener.PortListener.{PortListener}
-use Rattle.msrp.specs.declared.port.Port.{Port}
+use Rattle.msrp.specs.PortState.{PortState}
 use Rattle.msrp.specs.Part.{key_cmp, registered_talker, registered_listener, talker_reg_of, listener_kind_of}
 use Rattle.msrp.specs.Stream.{Registrations, advertise_of, talk_of, is_present, is_advertised, is_talker_port, is_ready, listener_row, first_talker, edge_at, talker_at, listener_at, wanted_at, want_of_talker}
 use Rattle.msrp_talker.specs.TalkerOut.{talker_in}
@@ -40,7 +40,7 @@ use Rattle.network_laws.proofs.Lists.{each-get, get-some, get-within, get-empty}
 use Rattle.network_laws.proofs.StreamNode.{IsTalkers, first-is, port-of, port-of-present, is-port, same-port, other-port, declares, declared-present, present-declared, out-wants, reg-content, kind-content, KeptWants, Wants, booked-wants, advertised-booked, fit_of_reg, IsOfBandwidth, Refuses, failed-at, can_have, forwards}
 
 -- what MSRP keeps of a port
-abbrev pub stream_port : EgressPort → WorldState → Option Port
+abbrev pub stream_port : EgressPort → WorldState → Option PortState
 stream_port p w = option_and_then (λ (s : NodeState). slice_get s.streams.ports (place_of p.port)) (node_at p.node w)
 
 -- what holds of the streams of a network at rest
@@ -51,9 +51,9 @@ pub record AreStreamsStill (w : WorldState) : Type 0 where
   pub ports : (x : ℕ) (s : NodeState) → slice_get w.nodes x ≡ Some s → length s.streams.ports ≡ length (neighbours w.tree.links (x + 1))
   pub none_await : (x : ℕ) (s : NodeState) → slice_get w.nodes x ≡ Some s → list_all (λ (keys : List MsrpKey). length keys == 0) s.streams.awaiting ≡ true
   pub moment : (x : ℕ) (s : NodeState) → slice_get w.nodes x ≡ Some s → s.streams.moment ≡ s.clock.0
-  pub named : (x : ℕ) (s : NodeState) (i : ℕ) (port : Port) → slice_get w.nodes x ≡ Some s → slice_get s.streams.ports i ≡ Some port → port.config.bridge ≡ s.bridge
+  pub named : (x : ℕ) (s : NodeState) (i : ℕ) (port : PortState) → slice_get w.nodes x ≡ Some s → slice_get s.streams.ports i ≡ Some port → port.config.bridge ≡ s.bridge
   pub idle : (x : ℕ) (s : NodeState) → slice_get w.nodes x ≡ Some s → s.kind ≡ Bridge → s.streams.talks ≡ []
-  pub linked : (p : EgressPort) → HasPort w.tree p → (a b : Port) → stream_port p w ≡ Some a → stream_port (peer_of w.tree.links p) w ≡ Some b
+  pub linked : (p : EgressPort) → HasPort w.tree p → (a b : PortState) → stream_port p w ≡ Some a → stream_port (peer_of w.tree.links p) w ≡ Some b
       → (key : MsrpKey) → registered_at key_cmp key a.part ≡ declared_at key_cmp key b.part
 
 one : {X : Type 0} (o : Option X) (x y : X) → o ≡ Some x → o ≡ Some y → x ≡ y
@@ -107,7 +107,7 @@ module _ (w : WorldState) (still : AreStreamsStill w) (stream : StreamId) (kept-
   pub record At (p : EgressPort) : Type 0 where
     pub s : NodeState
     pub node : node_at p.node w ≡ Some s
-    pub port : Port
+    pub port : PortState
     pub has : slice_get s.streams.ports (place_of p.port) ≡ Some port
 
   laws : HasPortLaws w.tree
@@ -143,16 +143,16 @@ module _ (w : WorldState) (still : AreStreamsStill w) (stream : StreamId) (kept-
 
   -- what is registered of the Talker at a port, and of Listeners
   abbrev pub reg : EgressPort → TalkerReg
-  reg p = option_map_or (λ (x : Port). registered_talker stream x.part) (stream_port p w) Absent
+  reg p = option_map_or (λ (x : PortState). registered_talker stream x.part) (stream_port p w) Absent
 
   abbrev pub kind_at : EgressPort → Option ListenerKind
-  kind_at p = option_and_then (λ (x : Port). registered_listener stream x.part) (stream_port p w)
+  kind_at p = option_and_then (λ (x : PortState). registered_listener stream x.part) (stream_port p w)
 
   pub reg-is : (p : EgressPort) (a : At p) → reg p ≡ registered_talker stream a.port.part
-  reg-is p a = ap (λ o. option_map_or (λ (x : Port). registered_talker stream x.part) o Absent) (port-is p a)
+  reg-is p a = ap (λ o. option_map_or (λ (x : PortState). registered_talker stream x.part) o Absent) (port-is p a)
 
   pub kind-is : (p : EgressPort) (a : At p) → kind_at p ≡ registered_listener stream a.port.part
-  kind-is p a = ap (λ o. option_and_then (λ (x : Port). registered_listener stream x.part) o) (port-is p a)
+  kind-is p a = ap (λ o. option_and_then (λ (x : PortState). registered_listener stream x.part) o) (port-is p a)
 
   -- what is registered at all ports of a port's node
   abbrev pub regs : {p : EgressPort} → At p → Registrations
@@ -232,7 +232,7 @@ module _ (w : WorldState) (still : AreStreamsStill w) (stream : StreamId) (kept-
 
   -- what stands of a link port among all that is registered
   link-at : (p : EgressPort) (a : At p) → slice_get (regs a).talkers (suc (place_of p.port)) ≡ Some (reg p)
-  link-at p a = map-get (λ (x : Port). registered_talker stream x.part) a.s.streams.ports (place_of p.port) a.port a.has ∙ ap Some (sym (reg-is p a))
+  link-at p a = map-get (λ (x : PortState). registered_talker stream x.part) a.s.streams.ports (place_of p.port) a.port a.has ∙ ap Some (sym (reg-is p a))
 
   sibling-at : (p : EgressPort) (a : At p) (r : EgressPort) → Sibling p a r → slice_get (regs a).talkers (suc (place_of r.port)) ≡ Some (reg r)
   sibling-at p a r b = ap (λ (s : NodeState). slice_get (seen_by s.streams stream).talkers (suc (place_of r.port))) (sym b.same) ∙ link-at r b.at
@@ -247,7 +247,7 @@ module _ (w : WorldState) (still : AreStreamsStill w) (stream : StreamId) (kept-
       let same : advertise_of (talk_of stream a.s.streams.talks) ≡ x = one (Some x) (advertise_of (talk_of stream a.s.streams.talks)) x (sym t.at) refl in
       at-app refl (sym (talks-present (talk_of stream a.s.streams.talks)) ∙ (ap is_present same ∙ t.present))
   talkers-at p h a (suc j) x t =
-      let at = get-map (λ (y : Port). registered_talker stream y.part) a.s.streams.ports j x t.at in
+      let at = get-map (λ (y : PortState). registered_talker stream y.part) a.s.streams.ports j x t.at in
       let r : EgressPort = record { node = p.node; port = record { 0 = j + 1 } } in
       let few : j < length (neighbours w.tree.links p.node.0) = omega (arith, get-within a.s.streams.ports j at.0 at.1, ports-are p a.s h a.node) in
       let hr : HasPort w.tree r = (h.0, omega arith, omega (arith, few)) in
@@ -292,7 +292,7 @@ module _ (w : WorldState) (still : AreStreamsStill w) (stream : StreamId) (kept-
       let b = at-port q hq in
       let talk : is_present (advertise_of (talk_of stream b.s.streams.talks)) ≡ true = talks-present (talk_of stream b.s.streams.talks) ∙ own-talk q b t in
       let first : IsTalkers (regs b).talkers 0 (advertise_of (talk_of stream b.s.streams.talks)) =
-      first-is (advertise_of (talk_of stream b.s.streams.talks)) (map (λ (x : Port). registered_talker stream x.part) b.s.streams.ports) talk in
+      first-is (advertise_of (talk_of stream b.s.streams.talks)) (map (λ (x : PortState). registered_talker stream x.part) b.s.streams.ports) talk in
       let away : is_talker_port (suc (place_of q.port)) (regs b).talkers ≡ false = is-port (regs b).talkers 0 (advertise_of (talk_of stream b.s.streams.talks)) (suc (place_of q.port)) first ∙ other-port 0 (suc (place_of q.port)) (λ e. absurd (omega arith)) in
       ap is_present (near-talker p h b)
       ∙ present-declared (place_of q.port) b.port (regs b).talkers away (ap is_present first.is ∙ talk)
@@ -454,7 +454,7 @@ module _ (w : WorldState) (still : AreStreamsStill w) (stream : StreamId) (kept-
     pub booked-is : (p : EgressPort) (a : At p) → booked p ≡ is_some (since_of a.port.ledger.entries stream)
     booked-is p a =
         ap (λ o. option_map_or (λ (s : NodeState). is_some (booked_at stream (place_of p.port) s)) o false) a.node
-        ∙ (ap (λ o. is_some (option_map_or (λ (x : Port). option_and_then if_booked (entry_of x.ledger.entries stream)) o None)) a.has
+        ∙ (ap (λ o. is_some (option_map_or (λ (x : PortState). option_and_then if_booked (entry_of x.ledger.entries stream)) o None)) a.has
         ∙ entry-booked (entry_of a.port.ledger.entries stream))
 
     -- where a port away from the station has booked, so has the one before it

@@ -25,7 +25,7 @@ use Rattle.msrp_talker.specs.TalkerOut.{check_of, class_of_priority, refusal_of,
 use Rattle.msrp_listener.specs.declared.port_listener.PortListener.{PortListener}
 use Rattle.msrp_listener.specs.Merging.{merge_of, counted_kind, listener_out}
 use Rattle.msrp_codec.specs.declared.pdu.MsrpContent.TheVariants as contents
-use Rattle.msrp.specs.declared.port.Port.{Port}
+use Rattle.msrp.specs.PortState.{PortState}
 use Rattle.msrp.specs.Part.{registered_listener, talker_content, talker_reg_of, listener_kind_of}
 use Rattle.msrp.specs.Stream.{Registrations, is_present, is_advertised, is_number, is_talker_port, is_ready, is_ready_kind, talker_port, first_talker, edge_at, talker_at, want_of_talker, want_of_reg, want_in_class, wanted_at, listener_at, own_listener, other_listeners}
 
@@ -114,10 +114,10 @@ other-port n m ne = by (n == m) refl
 abbrev pub fit_of_reg : Book → TalkerReg → Fit
 fit_of_reg book reg = unwrap_or (option_map (fit_for book.moment book) (option_and_then want_of_talker (talker_in reg))) Fits
 
-pub declares-none : (at : ℕ) (port : Port) (xs : List TalkerReg) → is_talker_port (suc at) xs ≡ true → talker_at at port xs ≡ Absent
+pub declares-none : (at : ℕ) (port : PortState) (xs : List TalkerReg) → is_talker_port (suc at) xs ≡ true → talker_at at port xs ≡ Absent
 declares-none at port xs e = rw e refl
 
-pub declares : (at : ℕ) (port : Port) (xs : List TalkerReg) → is_talker_port (suc at) xs ≡ false
+pub declares : (at : ℕ) (port : PortState) (xs : List TalkerReg) → is_talker_port (suc at) xs ≡ false
     → talker_at at port xs ≡ talker_out (first_talker xs) port.config (edge_at port xs) (fit_of_reg port.ledger (first_talker xs))
 declares at port xs e = rw e refl
 
@@ -143,7 +143,7 @@ out-wants (Advertise t) config edge fit = by (refusal_of t edge fit)
     by (Some c) = refl
 
 -- a port declares a Talker only where it isn't the Talker's port, and one is registered there
-pub declared-present : (at : ℕ) (port : Port) (xs : List TalkerReg) → is_present (talker_at at port xs) ≡ true
+pub declared-present : (at : ℕ) (port : PortState) (xs : List TalkerReg) → is_present (talker_at at port xs) ≡ true
     → (is_talker_port (suc at) xs ≡ false) × (is_present (first_talker xs) ≡ true)
 declared-present at port xs h = by (is_talker_port (suc at) xs) refl
   where
@@ -152,7 +152,7 @@ declared-present at port xs h = by (is_talker_port (suc at) xs) refl
     by false e =
         (e, sym (out-present (first_talker xs) port.config (edge_at port xs) (fit_of_reg port.ledger (first_talker xs))) ∙ (ap is_present (sym (declares at port xs e)) ∙ h))
 
-pub present-declared : (at : ℕ) (port : Port) (xs : List TalkerReg) → is_talker_port (suc at) xs ≡ false → is_present (first_talker xs) ≡ true
+pub present-declared : (at : ℕ) (port : PortState) (xs : List TalkerReg) → is_talker_port (suc at) xs ≡ false → is_present (first_talker xs) ≡ true
     → is_present (talker_at at port xs) ≡ true
 present-declared at port xs e h =
     ap is_present (declares at port xs e) ∙ (out-present (first_talker xs) port.config (edge_at port xs) (fit_of_reg port.ledger (first_talker xs)) ∙ h)
@@ -207,7 +207,7 @@ booked-want entries s h = by (entry_of entries s) refl
     by (Some x) e = (x.want, rw e refl)
 
 -- why a port wants a stream
-pub record Wants (at : ℕ) (port : Port) (xs : List TalkerReg) (stream : StreamId) (t : Talker) (w : Want) : Type 0 where
+pub record Wants (at : ℕ) (port : PortState) (xs : List TalkerReg) (stream : StreamId) (t : Talker) (w : Want) : Type 0 where
   pub elsewhere : is_talker_port (suc at) xs ≡ false
   pub ready : is_ready (registered_listener stream port.part) ≡ true
   pub inside : edge_at port xs ≡ false
@@ -230,7 +230,7 @@ reg-wanted : (edge : Bool) (reg : TalkerReg) (t : Talker) (w : Want) → reg ≡
     → want_of_reg edge reg ≡ Some w
 reg-wanted edge reg t w is inside checked want = rw is (rw inside (rw checked want))
 
-pub wants : (at : ℕ) (port : Port) (xs : List TalkerReg) (stream : StreamId) (w : Want) → wanted_at at port xs stream ≡ Some w → (t : Talker) × Wants at port xs stream t w
+pub wants : (at : ℕ) (port : PortState) (xs : List TalkerReg) (stream : StreamId) (w : Want) → wanted_at at port xs stream ≡ Some w → (t : Talker) × Wants at port xs stream t w
 wants at port xs stream w h = by (is_talker_port (suc at) xs) (is_ready (registered_listener stream port.part)) refl refl
   where
     by : (b r : Bool) → is_talker_port (suc at) xs ≡ b → is_ready (registered_listener stream port.part) ≡ r → (t : Talker) × Wants at port xs stream t w
@@ -241,7 +241,7 @@ wants at port xs stream w h = by (is_talker_port (suc at) xs) (is_ready (registe
         let reg = wanted-reg (edge_at port xs) (first_talker xs) w (sym here ∙ h) in
         (reg.0, record { elsewhere = e; ready = f; inside = reg.2; advertised = reg.1; checked = reg.3; want = reg.4 })
 
-pub wants-from : (at : ℕ) (port : Port) (xs : List TalkerReg) (stream : StreamId) (t : Talker) (w : Want) → Wants at port xs stream t w → wanted_at at port xs stream ≡ Some w
+pub wants-from : (at : ℕ) (port : PortState) (xs : List TalkerReg) (stream : StreamId) (t : Talker) (w : Want) → Wants at port xs stream t w → wanted_at at port xs stream ≡ Some w
 wants-from at port xs stream t w h =
     let here : wanted_at at port xs stream ≡ want_of_reg (edge_at port xs) (first_talker xs) = rw h.elsewhere (rw h.ready refl) in
     here ∙ reg-wanted (edge_at port xs) (first_talker xs) t w h.advertised h.inside h.checked h.want
@@ -250,7 +250,7 @@ fit-is : (book : Book) (xs : List TalkerReg) (t : Talker) (w : Want) → first_t
     → fit_of_reg book (first_talker xs) ≡ fit_for book.moment book w
 fit-is book xs t w a h = rw a (rw h refl)
 
-module _ (kept : KeptWants) (at : ℕ) (port : Port) (xs : List TalkerReg) (stream : StreamId)
+module _ (kept : KeptWants) (at : ℕ) (port : PortState) (xs : List TalkerReg) (stream : StreamId)
     (book : IsKept port.ledger) (wanted : want_of port.ledger.entries stream ≡ wanted_at at port xs stream) where
   -- a stream that is booked at a port is wanted there
   pub booked-wants : is_some (since_of port.ledger.entries stream) ≡ true → (t : Talker) × (w : Want) × Wants at port xs stream t w
@@ -358,7 +358,7 @@ failure_code (Advertise v) = 0
 failure_code (Failed v g) = g.code
 
 -- a failure of bandwidth that a port declares was registered at the Talker's port, or is the port's own refusal
-pub failed-at : (at : ℕ) (port : Port) (xs : List TalkerReg) (t : Talker) (f : Failure) → talker_at at port xs ≡ Failed t f → IsOfBandwidth f.code
+pub failed-at : (at : ℕ) (port : PortState) (xs : List TalkerReg) (t : Talker) (f : Failure) → talker_at at port xs ≡ Failed t f → IsOfBandwidth f.code
     → ((u : Talker) × (first_talker xs ≡ Failed u f)) ⊎ Refuses port.config port.ledger (first_talker xs) f
 unfolding failure_code
 failed-at at port xs t f h code = by (is_talker_port (suc at) xs) refl

@@ -11,7 +11,7 @@ use Rattle.tree_topology.specs.PortLaws.{HasPortLaws}
 use Rattle.mrp_participant.specs.State.{is_still, registered_at, declared_at}
 use Rattle.msrp_codec.specs.declared.pdu.MsrpKey.{MsrpKey}
 use Rattle.msrp_codec.specs.declared.pdu.MsrpContent.{MsrpContent}
-use Rattle.msrp.specs.declared.port.Port.{Port}
+use Rattle.msrp.specs.PortState.{PortState}
 use Rattle.msrp.specs.Part.{key_cmp}
 use Rattle.attribute_propagation.specs.Ports.{place_of}
 use Rattle.node_core.specs.State.{NodeState}
@@ -29,33 +29,33 @@ use Rattle.network_laws.proofs.StreamLaw.{WalkBehind, WalkPath, talkers-match, a
 
 module _ (w : WorldState) (kept : IsKeptWorld w) (rest : IsAtRest w) (laws : HasPortLaws w.tree) (still : StillLink MsrpKey MsrpContent key_cmp) where
   -- the node and the place of what MSRP keeps of a port
-  record Held (p : EgressPort) (a : Port) : Type 0 where
+  record Held (p : EgressPort) (a : PortState) : Type 0 where
     s : NodeState
     node : node_at p.node w ≡ Some s
     has : slice_get s.streams.ports (place_of p.port) ≡ Some a
 
-  held : (p : EgressPort) (a : Port) → stream_port p w ≡ Some a → Held p a
+  held : (p : EgressPort) (a : PortState) → stream_port p w ≡ Some a → Held p a
   held p a h = by (node_at p.node w) refl
     where
       by : (o : Option NodeState) → node_at p.node w ≡ o → Held p a
       by None e = let none : stream_port p w ≡ None = ap (λ o. option_and_then (λ (s : NodeState). slice_get s.streams.ports (place_of p.port)) o) e in cc
       by (Some s) e = record { s = s; node = e; has = sym (ap (λ o. option_and_then (λ (s : NodeState). slice_get s.streams.ports (place_of p.port)) o) e) ∙ h }
 
-  part-of : (p : EgressPort) (a : Port) → Held p a → stream_part p w ≡ Some a.part
+  part-of : (p : EgressPort) (a : PortState) → Held p a → stream_part p w ≡ Some a.part
   part-of p a h =
-      ap (λ o. option_and_then (stream_place (place_of p.port)) o) h.node ∙ ap (λ o. option_map (λ (x : Port). x.part) o) h.has
+      ap (λ o. option_and_then (stream_place (place_of p.port)) o) h.node ∙ ap (λ o. option_map (λ (x : PortState). x.part) o) h.has
 
-  part-still : (p : EgressPort) (a : Port) → Held p a → is_still a.part ≡ true
-  part-still p a h = get-all (λ (x : Port). is_still x.part) h.s.streams.ports (place_of p.port) a (still-at w rest (p.node.0 - 1) h.s h.node).streams h.has
+  part-still : (p : EgressPort) (a : PortState) → Held p a → is_still a.part ≡ true
+  part-still p a h = get-all (λ (x : PortState). is_still x.part) h.s.streams.ports (place_of p.port) a (still-at w rest (p.node.0 - 1) h.s h.node).streams h.has
 
-  part-sound : (p : EgressPort) → HasPort w.tree p → (a : Port) → Held p a → ((mark_at Msrp p w.marks).assured || a.part.sound) ≡ true
+  part-sound : (p : EgressPort) → HasPort w.tree p → (a : PortState) → Held p a → ((mark_at Msrp p w.marks).assured || a.part.sound) ≡ true
   part-sound p has a h =
       let port = get-within h.s.streams.ports (place_of p.port) a h.has in
       let same = (kept.nodes (p.node.0 - 1) h.s h.node).kept.kept.same_ports in
-      ap (λ (o : Option Port). (mark_at Msrp p w.marks).assured || option_map_or (λ (x : Port). x.part.sound) o false) (sym h.has)
+      ap (λ (o : Option PortState). (mark_at Msrp p w.marks).assured || option_map_or (λ (x : PortState). x.part.sound) o false) (sym h.has)
       ∙ (sound-at w rest p has h.s h.node (omega (arith, port, same))).1
 
-  linked : (p : EgressPort) → HasPort w.tree p → (a b : Port) → stream_port p w ≡ Some a → stream_port (peer_of w.tree.links p) w ≡ Some b
+  linked : (p : EgressPort) → HasPort w.tree p → (a b : PortState) → stream_port p w ≡ Some a → stream_port (peer_of w.tree.links p) w ≡ Some b
       → (key : MsrpKey) → registered_at key_cmp key a.part ≡ declared_at key_cmp key b.part
   linked p h a b x y key =
       let q = peer_of w.tree.links p in
@@ -76,7 +76,7 @@ module _ (w : WorldState) (kept : IsKeptWorld w) (rest : IsAtRest w) (laws : Has
         ports = λ x s e. (fits x s e).kept.kept.same_ports ∙ (fits x s e).ports;
         none_await = λ x s e. (still-at w rest x s e).no_keys;
         moment = λ x s e. (fits x s e).kept.kept.moment;
-        named = λ x s i port e g. each-get (λ (p : Port). p.config.bridge ≡ s.bridge) s.streams.ports i port (fits x s e).kept.named g;
+        named = λ x s i port e g. each-get (λ (p : PortState). p.config.bridge ≡ s.bridge) s.streams.ports i port (fits x s e).kept.named g;
         idle = λ x s e k. (each-get IsIdleBridge w.nodes x s kept.idle e k).talks;
         linked = linked;
       }

@@ -9,7 +9,7 @@ use Rattle.port_ledger.specs.Book.{since_of}
 use Rattle.tree_topology.specs.Topology.{HasPort}
 use Rattle.mrp_participant.specs.State.{declared_at}
 use Rattle.msrp_codec.specs.declared.pdu.MsrpKey.TheVariants.{Talker as TalkerKey}
-use Rattle.msrp.specs.declared.port.Port.{Port}
+use Rattle.msrp.specs.PortState.{PortState}
 use Rattle.msrp.specs.Part.{key_cmp, registered_listener, talker_reg_of}
 use Rattle.msrp.specs.Stream.{is_advertised, is_ready}
 use Rattle.attribute_propagation.specs.Ports.{place_of}
@@ -20,20 +20,20 @@ use Rattle.network_laws.specs.Streams.{has_booked}
 -- ---- at a link port
 
 -- whether a port's ledger has booked a stream
-abbrev pub is_booked_in : StreamId → Port → Bool
+abbrev pub is_booked_in : StreamId → PortState → Bool
 is_booked_in stream port = is_some (since_of port.ledger.entries stream)
 
 -- whether a port declares a Talker Advertise of a stream
-abbrev pub declares_advertise : StreamId → Port → Bool
+abbrev pub declares_advertise : StreamId → PortState → Bool
 declares_advertise stream port = is_advertised (talker_reg_of (declared_at key_cmp (TalkerKey stream) port.part))
 
 -- whether Listener Ready or Ready Failed of a stream is registered at a port
-abbrev pub registers_ready : StreamId → Port → Bool
+abbrev pub registers_ready : StreamId → PortState → Bool
 registers_ready stream port = is_ready (registered_listener stream port.part)
 
 -- a port has booked a stream exactly where it declares a Talker Advertise of it and has Listener Ready or Ready Failed of it
 -- registered
-abbrev pub IsBookedAsAdvertised : StreamId → Port → Type 0
+abbrev pub IsBookedAsAdvertised : StreamId → PortState → Type 0
 IsBookedAsAdvertised stream port =
     (is_booked_in stream port ≡ true)
     ↔ ((declares_advertise stream port ≡ true) × (registers_ready stream port ≡ true))
@@ -41,7 +41,7 @@ IsBookedAsAdvertised stream port =
 -- ---- in a network
 
 -- what a test says of a port of a network; false where there is no such port
-abbrev pub at_port_of : (Port → Bool) → EgressPort → WorldState → Bool
+abbrev pub at_port_of : (PortState → Bool) → EgressPort → WorldState → Bool
 at_port_of test p w =
     option_map_or (λ (s : NodeState). of_port test false (place_of p.port) s.streams) (node_at p.node w) false
 

@@ -23,7 +23,7 @@ use Rattle.tree_topology.specs.Ports.{LiesBehind, IsPortPath}
 use Rattle.tree_topology.specs.Walk.{path_between}
 use Rattle.msrp_talker.specs.TalkerOut.{talker_in}
 use Rattle.msrp_codec.specs.declared.pdu.MsrpKey.TheVariants.{Talker as TalkerKey}
-use Rattle.msrp.specs.declared.port.Port.{Port}
+use Rattle.msrp.specs.PortState.{PortState}
 use Rattle.msrp.specs.Part.{talker_reg_of}
 use Rattle.msrp.specs.Stream.{is_present, talk_of, want_of_talker}
 use Rattle.attribute_propagation.specs.Ports.{place_of}
@@ -163,7 +163,7 @@ pub record IsRefusedAt (w : WorldState) (stream : StreamId) (t : ℕ) (failure :
   pub node : NodeState
   pub node_is : node_at p.node w ≡ Some node
   pub named : node.bridge ≡ failure.bridge
-  pub port : Port
+  pub port : PortState
   pub port_is : slice_get node.streams.ports (place_of p.port) ≡ Some port
   pub want : Want
   pub want_is : want_at w stream t ≡ Some want

@@ -16,7 +16,7 @@ ghost use Rattle.world_core.specs.Kept.{IsKeptWorld};
 ghost use Rattle.world_core.specs.Moments.{IsMoment};
 ghost use Rattle.world_core.specs.Ticks.{AreLegalTicks};
 ghost use Rattle.attribute_propagation.specs.Dirty.{is_awaiting};
-ghost use Rattle.msrp.specs.declared.port.Port.{Port};
+ghost use Rattle.msrp.specs.PortState.{PortState};
 ghost use Rattle.msrp.specs.Part.{key_cmp};
 ghost use Rattle.msrp.specs.Side.{awaiting_at};
 ghost use Rattle.node_core.specs.Links.{IsKeptNode};
@@ -157,7 +157,7 @@ pub fn stream_duties_are_met_in_every_run()
 /// the port declares a Talker Advertise of it and has Listener Ready or Ready Failed of it registered (IEEE Std 802.1Q-2018,
 /// 35.2.4). In a network in which nothing is pending, whatever was lost, it is so of every stream at every port.
 pub fn booked_where_advertised_and_ready()
-    ensures port { (s : NodeState) (at : ℕ) (port : Port) (stream : StreamId) → IsKeptNode s
+    ensures port { (s : NodeState) (at : ℕ) (port : PortState) (stream : StreamId) → IsKeptNode s
         → slice_get s.streams.ports at ≡ Some port
         → is_awaiting key_cmp (MsrpKey.Talker stream) (awaiting_at at s.streams) ≡ false
         → is_awaiting key_cmp (MsrpKey.Listener stream) (awaiting_at at s.streams) ≡ false

@@ -26,7 +26,7 @@ use Rattle.mvrp.specs.Part.{Part, pdu_sent}
 use Rattle.attribute_propagation.specs.Ports.{place_of}
 use Rattle.mvrp.specs.Side.{Vlans, IsWritten, new_vlans, received_vlans, due_vlans, left_vlans, leave_all_vlans, periodic_vlans, spoilt_vlans, settled_vlans, sent_vlans, requested_vlans}
 use Rattle.mvrp.specs.Vids.{IsVid, HasVidRows, IsProper}
-use Rattle.msrp.specs.declared.port.Port.{Port as SrpPort}
+use Rattle.msrp.specs.PortState.{PortState}
 use Rattle.msrp.specs.declared.asking.SrpRequest.{SrpRequest}
 use Rattle.msrp.specs.declared.asking.SrpRequest.TheVariants as asks
 use Rattle.msrp.specs.Part.{Part as SrpPart, HasOwnContents, key_cmp, pdu_sent as srp_pdu_sent}
@@ -113,8 +113,8 @@ with-vlans s v proper same h =
     }
 
 -- ports that are set up alike have the same BridgeIDs
-named-alike : (b : BridgeId) (xs ys : List SrpPort) → map setup_of xs ≡ map setup_of ys
-    → AllByRecursion (λ (p : SrpPort). p.config.bridge ≡ b) ys → AllByRecursion (λ (p : SrpPort). p.config.bridge ≡ b) xs
+named-alike : (b : BridgeId) (xs ys : List PortState) → map setup_of xs ≡ map setup_of ys
+    → AllByRecursion (λ (p : PortState). p.config.bridge ≡ b) ys → AllByRecursion (λ (p : PortState). p.config.bridge ≡ b) xs
 named-alike b [] ys e h = tt
 named-alike b (x ∷ xs) [] e h = cc
 named-alike b (x ∷ xs) (y ∷ ys) e h =
@@ -200,7 +200,7 @@ with-outbox s at wires short proper h =
       readable_out = each_set AreProperWires s.outboxes at wires proper h.readable_out;
     }
 
-new-named : (bridge : BridgeId) (leave_time : Cs) (periodic : Bool) (domain : DomainSet) (ports : List PortSetup) → AllByRecursion (λ (p : SrpPort). p.config.bridge ≡ bridge) (map (new_port bridge leave_time periodic domain) ports)
+new-named : (bridge : BridgeId) (leave_time : Cs) (periodic : Bool) (domain : DomainSet) (ports : List PortSetup) → AllByRecursion (λ (p : PortState). p.config.bridge ≡ bridge) (map (new_port bridge leave_time periodic domain) ports)
 new-named bridge leave_time periodic domain [] = tt
 new-named bridge leave_time periodic domain (p ∷ ports) = (refl, new-named bridge leave_time periodic domain ports)
 
@@ -302,13 +302,13 @@ module _ (laws : SideLaws) (streams : StreamLaws) where
   fit-streams : (at : ℕ) (s : NodeState) (octets : List ℕ) → IsProperNode s → said_msrp s.clock at s.streams ≡ Some octets → IsFitToSend Msrp octets
   fit-streams at s octets h is = by (slice_get s.streams.ports at) refl is
     where
-      by : (o : Option SrpPort) → slice_get s.streams.ports at ≡ o
-          → option_map_or (λ (p : SrpPort). if is_silent p.part then None else Some (msrp_spelling (srp_pdu_sent s.clock p.part))) o None ≡ Some octets → IsFitToSend Msrp octets
+      by : (o : Option PortState) → slice_get s.streams.ports at ≡ o
+          → option_map_or (λ (p : PortState). if is_silent p.part then None else Some (msrp_spelling (srp_pdu_sent s.clock p.part))) o None ≡ Some octets → IsFitToSend Msrp octets
       by None here e = cc
       by (Some p) here e =
           let port = at-place (IsPort s.streams.moment) s.streams.ports at p h.kept.streams.ports here in
           said-streams s.clock p.part octets (is_silent p.part) refl port.rows port.contents
-          (at-place (λ (q : SrpPort). HasRanges q.part) s.streams.ports at p h.ranges.parts here) e
+          (at-place (λ (q : PortState). HasRanges q.part) s.streams.ports at p h.ranges.parts here) e
 
   -- an outbox with a PDU more
   with-said : (app : App) (at : ℕ) (octets : List ℕ) (s : NodeState) → IsFitToSend app octets → IsProperNode s → IsProperNode (with_said app at octets s)

@@ -14,7 +14,7 @@ use Rattle.stream_importance.specs.declared.entry.Entry.{Entry}
 use Rattle.stream_importance.specs.Importance.{moment_or}
 use Rattle.port_ledger.specs.Book.{clocked_book, has_new_booking, is_since}
 use Rattle.msrp_codec.specs.declared.pdu.MsrpKey.{MsrpKey}
-use Rattle.msrp.specs.declared.port.Port.{Port}
+use Rattle.msrp.specs.PortState.{PortState}
 use Rattle.msrp.specs.Settling.{talker_keys}
 use Rattle.msrp.specs.Side.{Streams, IsPort, clocked_port, clocked_sets, shows_at, is_busy as streams_are_busy}
 use Rattle.msrp.proofs.Clocked.{none_shown}
@@ -71,7 +71,7 @@ vlans-sooner soon late le side nay =
 
 streams-sooner : (soon late : Cs) → soon.0 ≤ late.0 → (side : Streams) → streams_are_busy late side ≡ false → streams_are_busy soon side ≡ false
 streams-sooner soon late le side nay =
-    let due : Cs → Port → Bool = λ now p. is_any_due now p.part in
+    let due : Cs → PortState → Bool = λ now p. is_any_due now p.part in
     let awaits = list_any (λ keys. not (length keys == 0)) side.awaiting in
     let parts = or_parts (list_any (due late) side.ports) awaits nay in
     or_from (list_any (due soon) side.ports) awaits
@@ -124,7 +124,7 @@ rest-sooner soon late s le h =
 
 -- ---- once the clock has gone on
 
-due-clocked : (until : Cs) (now : ℕ) (ports : List Port) → list_any (λ (p : Port). is_any_due until p.part) (map (clocked_port now) ports) ≡ list_any (λ (p : Port). is_any_due until p.part) ports
+due-clocked : (until : Cs) (now : ℕ) (ports : List PortState) → list_any (λ (p : PortState). is_any_due until p.part) (map (clocked_port now) ports) ≡ list_any (λ (p : PortState). is_any_due until p.part) ports
 due-clocked until now [] = refl
 due-clocked until now (p ∷ ports) = ap (λ b. is_any_due until p.part || b) (due-clocked until now ports)
 
@@ -139,7 +139,7 @@ none-since moment now lt [] all = refl
 none-since moment now lt (x ∷ entries) all =
     or_from (is_since now x.since) (list_any (λ y. is_since now y.since) entries) (not-since moment now lt x.since all.0) (none-since moment now lt entries all.1)
 
-shows-none : (moment now : ℕ) → moment < now → (ports : List Port) → AllByRecursion (IsPort moment) ports → list_any (shows_at (now + 1)) (map (clocked_port now) ports) ≡ false
+shows-none : (moment now : ℕ) → moment < now → (ports : List PortState) → AllByRecursion (IsPort moment) ports → list_any (shows_at (now + 1)) (map (clocked_port now) ports) ≡ false
 shows-none moment now lt [] all = refl
 shows-none moment now lt (p ∷ ports) all =
     let later : p.ledger.moment < now = omega (arith, all.0.moment, lt) in
@@ -154,11 +154,11 @@ rest-clocked until s kept h =
     let now = s.clock.0 + 1 in
     let keys = talker_keys side.talks side.ports in
     let some : List (List MsrpKey) → Bool = λ sets. list_any (λ ks. not (length ks == 0)) sets in
-    let two = or_parts (list_any (λ (p : Port). is_any_due until p.part) side.ports) (some side.awaiting) parts.streams in
+    let two = or_parts (list_any (λ (p : PortState). is_any_due until p.part) side.ports) (some side.awaiting) parts.streams in
     rest-from until (clocked_node s) (record {
       inboxes = parts.inboxes;
       vlans = parts.vlans;
-      streams = or_from (list_any (λ (p : Port). is_any_due until p.part) (map (clocked_port now) side.ports)) (some (clocked_sets now keys side.ports side.awaiting))
+      streams = or_from (list_any (λ (p : PortState). is_any_due until p.part) (map (clocked_port now) side.ports)) (some (clocked_sets now keys side.ports side.awaiting))
           (due-clocked until now side.ports ∙ two.0) (ap some (none_shown now keys side.ports side.awaiting kept.streams.sets parts.shows) ∙ two.1);
       shows = shows-none side.moment now (omega (arith, kept.moment)) side.ports kept.streams.ports;
     })

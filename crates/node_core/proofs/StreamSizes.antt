@@ -9,7 +9,7 @@ use Rattle.msrp_codec.specs.declared.pdu.MsrpKey.{MsrpKey}
 use Rattle.msrp_codec.specs.declared.pdu.MsrpPdu.{MsrpPdu}
 use Rattle.msrp.specs.declared.asking.SrpRequest.{SrpRequest}
 use Rattle.msrp.specs.declared.asking.SrpRequest.TheVariants.{Talk, Hush, Listen, Unlisten}
-use Rattle.msrp.specs.declared.port.Port.{Port}
+use Rattle.msrp.specs.PortState.{PortState}
 use Rattle.msrp.specs.Part.{Part, key_cmp, received_part, sent_part}
 use Rattle.msrp.specs.Stream.{talk_of}
 use Rattle.msrp.specs.Side.{Streams, with_port, with_part, settled_at, clocked_port, is_talk, has_talk, has_listen, received_streams, due_streams, left_streams, leave_all_streams, periodic_streams, sent_streams, spoilt_streams, settled_streams, requested_streams, clocked_streams}
@@ -19,12 +19,12 @@ pub record IsSame (a b : Streams) : Type 0 where
   pub ports : length a.ports ≡ length b.ports
   pub moment : a.moment ≡ b.moment
 
-same : (o : Option Port) (make : Port → Streams) (v : Streams) → ((p : Port) → IsSame (make p) v) → IsSame (with_port o make v) v
+same : (o : Option PortState) (make : PortState → Streams) (v : Streams) → ((p : PortState) → IsSame (make p) v) → IsSame (with_port o make v) v
 same None make v h = record { ports = refl; moment = refl }
 same (Some p) make v h = h p
 
 -- a port is replaced
-set : (v w : Streams) (at : ℕ) (p : Port) → w.ports ≡ slice_set v.ports at p → w.moment ≡ v.moment → IsSame w v
+set : (v w : Streams) (at : ℕ) (p : PortState) → w.ports ≡ slice_set v.ports at p → w.moment ≡ v.moment → IsSame w v
 set v w at p is moment = record { ports = rw is (length-set v.ports at p); moment = moment }
 
 pub received : (now : Cs) (at : ℕ) (pdu : MsrpPdu) (v : Streams) → IsSame (received_streams now at pdu v) v

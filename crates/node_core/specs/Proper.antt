@@ -9,7 +9,7 @@ use Rattle.msrp_codec.specs.FirstValue.{IsTalker}
 use Rattle.msrp_codec.specs.Meaning.{msrp_reading}
 use Rattle.msrp_codec.specs.Writing.{AreInRange}
 use Rattle.mvrp.specs.Vids.{IsVid, AreOfVids}
-use Rattle.msrp.specs.declared.port.Port.{Port as SrpPort}
+use Rattle.msrp.specs.PortState.{PortState}
 use Rattle.msrp.specs.Proper.{AreOfRange, Setup, setups_of}
 use Rattle.node_core.specs.declared.types.Wire.{Wire}
 use Rattle.node_core.specs.declared.types.AppRequest.{AppRequest}
@@ -39,7 +39,7 @@ pub record IsProperNode (s : NodeState) : Type 0 where
   pub kept : IsKeptNode s
   pub vids : AreOfVids s.vlans
   pub ranges : AreOfRange s.streams
-  pub named : AllByRecursion (λ (p : SrpPort). p.config.bridge ≡ s.bridge) s.streams.ports
+  pub named : AllByRecursion (λ (p : PortState). p.config.bridge ≡ s.bridge) s.streams.ports
   pub readable_in : AllByRecursion AreProperWires s.inboxes
   pub readable_out : AllByRecursion AreProperWires s.outboxes
 

@@ -28,7 +28,7 @@ use Rattle.mvrp.specs.Part.{Part}
 use Rattle.flat_side.specs.Side.{are_still, is_busy as vlans_are_busy}
 use Rattle.mvrp.specs.Side.{Vlans, new_vlans}
 use Rattle.msrp.specs.declared.domain.DomainSet.{DomainSet}
-use Rattle.msrp.specs.declared.port.Port.{Port}
+use Rattle.msrp.specs.PortState.{PortState}
 use Rattle.msrp.specs.Part.{key_cmp}
 use Rattle.msrp.specs.Stream.{fit_at, talkers_of}
 use Rattle.msrp.specs.Side.{Streams, are_still as streams_are_still, is_busy as streams_are_busy, new_streams, shows_at}
@@ -76,7 +76,7 @@ abbrev pub of_part : {X : Type 0} → (Part → X) → X → ℕ → Vlans → X
 of_part f none at vlans = option_map_or f (slice_get vlans.parts at) none
 
 -- what of MSRP's port at a place, or what there is for none
-abbrev pub of_port : {X : Type 0} → (Port → X) → X → ℕ → Streams → X
+abbrev pub of_port : {X : Type 0} → (PortState → X) → X → ℕ → Streams → X
 of_port f none at streams = option_map_or f (slice_get streams.ports at) none
 
 -- ---- what the readers say
@@ -100,7 +100,7 @@ is_sound_at Msrp at s = of_port (λ port. port.part.sound) false at s.streams
 abbrev pub are_all_sound : NodeState → Bool
 are_all_sound s =
     list_all (λ part. part.sound) s.vlans.parts
-    && list_all (λ (port : Port). port.part.sound) s.streams.ports
+    && list_all (λ (port : PortState). port.part.sound) s.streams.ports
 
 -- the state of the registrar of an attribute at a place
 abbrev pub registrar_at : NodeKey → ℕ → NodeState → Registrar

@@ -10,7 +10,7 @@ use Rattle.tree_topology.specs.Topology.{Topology, HasPort}
 use Rattle.tree_topology.specs.Ports.{peer_of, neighbours}
 use Rattle.tree_topology.specs.PortLaws.{HasPortLaws}
 use Rattle.attribute_propagation.specs.Ports.{IsLinkPort, place_of}
-use Rattle.msrp.specs.declared.port.Port.{Port as StreamPort}
+use Rattle.msrp.specs.PortState.{PortState}
 use Rattle.node_core.specs.declared.types.Wire.{Wire}
 use Rattle.node_core.specs.declared.types.NodeStep.{NodeStep}
 use Rattle.node_core.specs.declared.types.PortStep.{PortStep}
@@ -191,8 +191,8 @@ counted w kept laws Msrp p has =
     let near = get_within here.node.streams.ports (place_of p.port) here.within_streams in
     let far = get_within there.node.streams.ports (place_of q.port) there.within_streams in
     (kept.streams p has near.0.part far.0.part
-    (ap (λ (o : Option NodeState). option_and_then (λ s. stream_place (place_of p.port) s) o) here.at ∙ ap (option_map (λ (x : StreamPort). x.part)) near.1)
-    (ap (λ (o : Option NodeState). option_and_then (λ s. stream_place (place_of q.port) s) o) there.at ∙ ap (option_map (λ (x : StreamPort). x.part)) far.1)).near_flying
+    (ap (λ (o : Option NodeState). option_and_then (λ s. stream_place (place_of p.port) s) o) here.at ∙ ap (option_map (λ (x : PortState). x.part)) near.1)
+    (ap (λ (o : Option NodeState). option_and_then (λ s. stream_place (place_of q.port) s) o) there.at ∙ ap (option_map (λ (x : PortState). x.part)) far.1)).near_flying
 
 count_append : (app : App) (xs ys : List Wire) → count_of app (xs ++ ys) ≡ count_of app xs + count_of app ys
 count_append app [] ys = omega arith

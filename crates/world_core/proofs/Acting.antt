@@ -28,7 +28,7 @@ use Rattle.mvrp.specs.Part.{Part, base, octets, sent_part}
 use Rattle.attribute_propagation.specs.Ports.{place_of}
 use Rattle.flat_side.specs.Side.{with_part_at, with_part}
 use Rattle.mvrp.specs.Side.{Vlans, has_own, requested_vlans, sent_vlans, spoilt_vlans}
-use Rattle.msrp.specs.declared.port.Port.{Port as SrpPort}
+use Rattle.msrp.specs.PortState.{PortState}
 use Rattle.msrp.specs.declared.asking.SrpRequest.{SrpRequest}
 use Rattle.msrp.specs.declared.asking.SrpRequest.TheVariants as asks
 use Rattle.msrp.specs.Part.{Part as SrpPart, sent_part as srp_sent_part}
@@ -142,10 +142,10 @@ part_replaced at k change same side None is = refl
 part_replaced at k change same side (Some s) is = read_set (λ (part : Part). registered_vids part.rows) [] side.parts at k s (change s) is (same s)
 
 -- a port has another participant of MSRP, and its ledger
-port_replaced : {X : Type 0} (f : Book → X) (none : X) (at k : ℕ) (change : SrpPart → SrpPart) (side : Streams) (o : Option SrpPort) → slice_get side.ports at ≡ o
+port_replaced : {X : Type 0} (f : Book → X) (none : X) (at k : ℕ) (change : SrpPart → SrpPart) (side : Streams) (o : Option PortState) → slice_get side.ports at ≡ o
     → of_port (λ port. f port.ledger) none k (with_port o (λ p. streams_replaced at (with_srp_part (change p.part) p) side) side) ≡ of_port (λ port. f port.ledger) none k side
 port_replaced f none at k change side None is = refl
-port_replaced f none at k change side (Some p) is = read_set (λ (port : SrpPort). f port.ledger) none side.ports at k p (with_srp_part (change p.part) p) is refl
+port_replaced f none at k change side (Some p) is = read_set (λ (port : PortState). f port.ledger) none side.ports at k p (with_srp_part (change p.part) p) is refl
 
 -- what is in force at a node with other streams, or with other VIDs
 with_vlans : (k : ℕ) (s : NodeState) (v : Vlans) → vids_at k v ≡ vids_at k s.vlans → node_force k (record s { vlans = v }) ≡ node_force k s
@@ -194,7 +194,7 @@ asked_vlans vid declared k s =
 asked_streams : (request : SrpRequest) (k : ℕ) (s : NodeState) → node_force k (record s { streams = requested_streams request s.streams }) ≡ node_force k s
 asked_streams request k s =
     with_streams k s (requested_streams request s.streams)
-    (λ X f none. ap (λ (ports : List SrpPort). option_map_or (λ (p : SrpPort). f p.ledger) (slice_get ports k) none) (streams_asked request s.streams))
+    (λ X f none. ap (λ (ports : List PortState). option_map_or (λ (p : PortState). f p.ledger) (slice_get ports k) none) (streams_asked request s.streams))
 
 asked_keeps : (request : AppRequest) (k : ℕ) (s : NodeState) → node_force k (node_step (node_events.Request request) s).0 ≡ node_force k s
 asked_keeps (Declare vid) k s = asked_vlans vid true k s

@@ -24,7 +24,7 @@ use Rattle.mrp_participant.specs.MarkedLink.{MarkedLink, AreMarkedDutiesMet, unm
 use Rattle.msrp_codec.specs.declared.pdu.MsrpKey.{MsrpKey}
 use Rattle.msrp_codec.specs.declared.pdu.MsrpContent.{MsrpContent}
 use Rattle.msrp_codec.specs.Content.{base_octets, octets_of}
-use Rattle.msrp.specs.declared.port.Port.{Port}
+use Rattle.msrp.specs.PortState.{PortState}
 use Rattle.msrp.specs.Part.{Part as StreamPart, key_cmp, same_content}
 use Rattle.msrp.specs.declared.domain.DomainSet.{DomainSet}
 use Rattle.msrp.specs.Domain.{classes_of, domain_key, domain_content, domain_part}
@@ -155,7 +155,7 @@ module _ (event : HasStreamEvents) where
       (event (record { link = record { near = x; far = z; sent = []; coming = [] }; near = unmarked; far = unmarked }) (AtNear (Declares (domain_key class) (domain_content class))) met)
 
   new_stream_part : (bridge : BridgeId) (leave_time : Cs) (periodic : Bool) (domain : DomainSet) (ports : List PortSetup) (at : ℕ) (x : StreamPart)
-      → option_map (λ (p : Port). p.part) (slice_get (map (new_port bridge leave_time periodic domain) ports) at) ≡ Some x → IsBegun stream_view x
+      → option_map (λ (p : PortState). p.part) (slice_get (map (new_port bridge leave_time periodic domain) ports) at) ≡ Some x → IsBegun stream_view x
   new_stream_part bridge leave_time periodic domain [] at x get = cc
   new_stream_part bridge leave_time periodic domain (p ∷ ports) zero x get =
       let new : StreamPart = new_state p.period leave_time periodic in

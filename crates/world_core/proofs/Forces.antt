@@ -21,7 +21,7 @@ use Rattle.topology_file.specs.Plan.{Plan}
 use Rattle.mvrp.specs.Part.{Part}
 use Rattle.attribute_propagation.specs.Ports.{place_of}
 use Rattle.mrp_participant.specs.State.{new_state}
-use Rattle.msrp.specs.declared.port.Port.{Port as SrpPort}
+use Rattle.msrp.specs.PortState.{PortState}
 use Rattle.msrp.specs.declared.domain.DomainSet.{DomainSet}
 use Rattle.msrp.specs.Side.{new_port, clocked_port}
 use Rattle.node_core.specs.State.{NodeState, new_node}
@@ -72,29 +72,29 @@ clock_keeps : (at : ℕ) (s : NodeState) → node_force at (node_step node_event
 clock_keeps at s =
     let t = clocked_node s in
     same_force (node_force at t) (node_force at s)
-    (ap (map (λ (x : Entry). x.want.stream)) (read_map (λ (p : SrpPort). booked_of p.ledger.entries) [] (clocked_port (s.clock.0 + 1)) (λ p. refl) s.streams.ports at))
-    (read_map (λ (p : SrpPort). booked_slope p.ledger.entries A) 0 (clocked_port (s.clock.0 + 1)) (λ p. refl) s.streams.ports at)
-    (read_map (λ (p : SrpPort). booked_slope p.ledger.entries B) 0 (clocked_port (s.clock.0 + 1)) (λ p. refl) s.streams.ports at)
+    (ap (map (λ (x : Entry). x.want.stream)) (read_map (λ (p : PortState). booked_of p.ledger.entries) [] (clocked_port (s.clock.0 + 1)) (λ p. refl) s.streams.ports at))
+    (read_map (λ (p : PortState). booked_slope p.ledger.entries A) 0 (clocked_port (s.clock.0 + 1)) (λ p. refl) s.streams.ports at)
+    (read_map (λ (p : PortState). booked_slope p.ledger.entries B) 0 (clocked_port (s.clock.0 + 1)) (λ p. refl) s.streams.ports at)
     refl
 
 -- nothing is in force at a new node
 new_has_none : (kind : NodeKind) (bridge : BridgeId) (leave_time : Cs) (periodic : Bool) (domain : DomainSet) (ports : List PortSetup) (at : ℕ) → node_force at (new_node kind bridge leave_time periodic domain ports) ≡ no_force
 new_has_none kind bridge leave_time periodic domain ports at =
     same_force (node_force at (new_node kind bridge leave_time periodic domain ports)) no_force
-    (ap (map (λ (x : Entry). x.want.stream)) (read_made (λ (p : SrpPort). booked_of p.ledger.entries) [] (new_port bridge leave_time periodic domain) (λ s. refl) ports at))
-    (read_made (λ (p : SrpPort). booked_slope p.ledger.entries A) 0 (new_port bridge leave_time periodic domain) (λ s. refl) ports at)
-    (read_made (λ (p : SrpPort). booked_slope p.ledger.entries B) 0 (new_port bridge leave_time periodic domain) (λ s. refl) ports at)
+    (ap (map (λ (x : Entry). x.want.stream)) (read_made (λ (p : PortState). booked_of p.ledger.entries) [] (new_port bridge leave_time periodic domain) (λ s. refl) ports at))
+    (read_made (λ (p : PortState). booked_slope p.ledger.entries A) 0 (new_port bridge leave_time periodic domain) (λ s. refl) ports at)
+    (read_made (λ (p : PortState). booked_slope p.ledger.entries B) 0 (new_port bridge leave_time periodic domain) (λ s. refl) ports at)
     (read_made (λ (p : Part). registered_vids p.rows) [] (λ (q : PortSetup). new_state q.period leave_time periodic) (λ s. refl) ports at)
 
 -- what a port has in force by its participant and its ledger
-port_force : (s : NodeState) (at : ℕ) (part : Part) (book : Book) (o : Option Part) (q : Option SrpPort) → o ≡ Some part → q ≢ None → IfSome q (λ p. book ≡ p.ledger)
+port_force : (s : NodeState) (at : ℕ) (part : Part) (book : Book) (o : Option Part) (q : Option PortState) → o ≡ Some part → q ≢ None → IfSome q (λ p. book ≡ p.ledger)
     → slice_get s.vlans.parts at ≡ o → slice_get s.streams.ports at ≡ q → node_force at s ≡ force_of part book
 port_force s at part book o None there some is e f = absurd (some refl)
 port_force s at part book o (Some p) there some is e f =
     same_force (node_force at s) (force_of part book)
-    (ap (λ (r : Option SrpPort). map (λ (x : Entry). x.want.stream) (option_map_or (λ (y : SrpPort). booked_of y.ledger.entries) r [])) f ∙ ap (λ (b : Book). booked_streams b.entries) (sym is))
-    (ap (λ (r : Option SrpPort). option_map_or (λ (y : SrpPort). booked_slope y.ledger.entries A) r 0) f ∙ ap (λ (b : Book). booked_slope b.entries A) (sym is))
-    (ap (λ (r : Option SrpPort). option_map_or (λ (y : SrpPort). booked_slope y.ledger.entries B) r 0) f ∙ ap (λ (b : Book). booked_slope b.entries B) (sym is))
+    (ap (λ (r : Option PortState). map (λ (x : Entry). x.want.stream) (option_map_or (λ (y : PortState). booked_of y.ledger.entries) r [])) f ∙ ap (λ (b : Book). booked_streams b.entries) (sym is))
+    (ap (λ (r : Option PortState). option_map_or (λ (y : PortState). booked_slope y.ledger.entries A) r 0) f ∙ ap (λ (b : Book). booked_slope b.entries A) (sym is))
+    (ap (λ (r : Option PortState). option_map_or (λ (y : PortState). booked_slope y.ledger.entries B) r 0) f ∙ ap (λ (b : Book). booked_slope b.entries B) (sym is))
     (ap (λ (r : Option Part). option_map_or (λ (y : Part). registered_vids y.rows) r []) (e ∙ there))
 
 pub force_is : (s : NodeState) (at : ℕ) (part : Part) (book : Book) → at < length s.streams.ports → slice_get s.vlans.parts at ≡ Some part → IfSome (slice_get s.streams.ports at) (λ p. book ≡ p.ledger)

@@ -12,7 +12,7 @@ use Rattle.msrp_codec.specs.Meaning.{msrp_reading}
 use Rattle.mvrp.specs.Part.{Part}
 use Rattle.flat_side.specs.Side.{with_part}
 use Rattle.mvrp.specs.Side.{Vlans}
-use Rattle.msrp.specs.declared.port.Port.{Port}
+use Rattle.msrp.specs.PortState.{PortState}
 use Rattle.msrp.specs.Side.{Streams, with_port}
 use Rattle.node_core.specs.declared.types.Wire.{Wire}
 use Rattle.node_core.specs.declared.types.AppRequest.{AppRequest}
@@ -52,7 +52,7 @@ record SameAsks (v u : Streams) : Type 0 where
   talks : u.talks ≡ v.talks
   listens : u.listens ≡ v.listens
 
-asks_port : (o : Option Port) (make : Port → Streams) (v : Streams) → ((p : Port) → SameAsks v (make p)) → SameAsks v (with_port o make v)
+asks_port : (o : Option PortState) (make : PortState → Streams) (v : Streams) → ((p : PortState) → SameAsks v (make p)) → SameAsks v (with_port o make v)
 asks_port None make v h = record { talks = refl; listens = refl }
 asks_port (Some p) make v h = h p
 
@@ -69,7 +69,7 @@ of_both s u v own asks = record { kind = refl; own = own; talks = asks.talks; li
 own_at : (at : ℕ) (make : Part → Vlans) (v : Vlans) → ((s : Part) → (make s).own ≡ v.own) → (with_part (slice_get v.parts at) make v).own ≡ v.own
 own_at at make v h = own_part (slice_get v.parts at) make v h
 
-asks_at : (at : ℕ) (make : Port → Streams) (v : Streams) → ((p : Port) → SameAsks v (make p)) → SameAsks v (with_port (slice_get v.ports at) make v)
+asks_at : (at : ℕ) (make : PortState → Streams) (v : Streams) → ((p : PortState) → SameAsks v (make p)) → SameAsks v (with_port (slice_get v.ports at) make v)
 asks_at at make v h = asks_port (slice_get v.ports at) make v h
 
 stays_app : (app : App) (at : ℕ) (octets : List ℕ) (s : NodeState) → SameKindAndAsks s (worked_app app at octets s).0

@@ -16,7 +16,7 @@ use Rattle.topology_file.specs.declared.entries.LinkEntry.{LinkEntry}
 use Rattle.topology_file.specs.Plan.{Plan}
 use Rattle.attribute_propagation.specs.Ports.{place_of}
 use Rattle.msrp.specs.declared.domain.DomainSet.{DomainSet}
-use Rattle.msrp.specs.declared.port.Port.{Port}
+use Rattle.msrp.specs.PortState.{PortState}
 use Rattle.msrp.specs.Proper.{Setup, setup_of as port_setup}
 use Rattle.msrp.specs.Side.{IsPort, new_port}
 use Rattle.node_core.specs.declared.types.NodeEvent.{NodeEvent}
@@ -115,10 +115,10 @@ got_map f (x ∷ xs) zero = refl
 got_map f (x ∷ xs) (suc i) = got_map f xs i
 
 -- the caps of a port by how it is set up
-port_caps : (ports : List Port) (i : ℕ) (p : Port) → slice_get ports i ≡ Some p
+port_caps : (ports : List PortState) (i : ℕ) (p : PortState) → slice_get ports i ≡ Some p
     → slice_get (map (λ (c : Setup). c.caps) (map port_setup ports)) i ≡ Some p.ledger.caps
 port_caps [] i p is = cc
-port_caps (q ∷ ports) zero p is = let same : q ≡ p = cc in ap (λ (x : Port). Some x.ledger.caps) same
+port_caps (q ∷ ports) zero p is = let same : q ≡ p = cc in ap (λ (x : PortState). Some x.ledger.caps) same
 port_caps (q ∷ ports) (suc i) p is = port_caps ports i p is
 
 -- a port's caps are those of its link
@@ -152,7 +152,7 @@ within_limits laws plan w tree kept set_up p has =
     ∙ got_map caps_of_link (links_of (p.node.0 - 1 + 1) plan) (place_of p.port))) in
     let slope : (class : Class) → booked_at_port class p w ≡ booked_slope port.0.ledger.entries class =
     λ class. ap (λ (o : Option NodeState). option_map_or (slope_at class (place_of p.port)) o 0) node.1
-    ∙ ap (λ (o : Option Port). option_map_or (λ (q : Port). booked_slope q.ledger.entries class) o 0) port.1 in
+    ∙ ap (λ (o : Option PortState). option_map_or (λ (q : PortState). booked_slope q.ledger.entries class) o 0) port.1 in
     let a = slope A in
     let b = slope B in
     let first = laws.class_a port.0.ledger book in

@@ -9,7 +9,7 @@ use Rattle.tree_topology.specs.Topology.{Topology, HasPort}
 use Rattle.tree_topology.specs.Ports.{peer_of}
 use Rattle.tree_topology.specs.PortLaws.{HasPortLaws}
 use Rattle.mrp_participant.specs.State.{State}
-use Rattle.msrp.specs.declared.port.Port.{Port}
+use Rattle.msrp.specs.PortState.{PortState}
 use Rattle.attribute_propagation.specs.Ports.{place_of}
 use Rattle.node_core.specs.declared.types.Wire.{Wire}
 use Rattle.node_core.specs.declared.types.NodeEvent.TheVariants as node_events
@@ -103,7 +103,7 @@ streams_there : (at : ℕ) (s : NodeState) → IsProperNode s → at < ports_of 
 streams_there at s proper below =
     let ports = proper.kept.same_ports in
     let port = within s.streams.ports at (omega (arith, below, ports)) in
-    (port.0.part, ap (option_map (λ (p : Port). p.part)) port.1)
+    (port.0.part, ap (option_map (λ (p : PortState). p.part)) port.1)
 
 -- the PDUs from a port, and those to it
 pub counted_from : (w : WorldState) → IsKeptWorld w → HasPortLaws w.tree → (app : App) (e : EgressPort) → HasPort w.tree e

@@ -12,7 +12,7 @@ use Rattle.topology_file.specs.declared.entries.NodeEntry.{NodeEntry}
 use Rattle.topology_file.specs.Plan.{Plan}
 use Rattle.mrp_participant.specs.State.{new_state}
 use Rattle.mvrp.specs.Part.{Part}
-use Rattle.msrp.specs.declared.port.Port.{Port}
+use Rattle.msrp.specs.PortState.{PortState}
 use Rattle.msrp.specs.Domain.{domain_part}
 use Rattle.msrp.specs.Side.{new_port}
 use Rattle.node_core.specs.declared.types.Wire.{Wire}
@@ -39,8 +39,8 @@ at_start domains word kind bridge leave_time periodic ports =
     record {
       clock = refl;
       vlans = each_made (λ (part : Part). HasRowsAlone [] part) (λ p. new_state p.period leave_time periodic) (λ p. record { rows = refl; leave_all = refl; sound = refl }) ports;
-      streams = each_made (λ (port : Port). HasRowsAlone (domain_rows domains word) port.part) (new_port bridge leave_time periodic (domain_set domains word)) (λ p. declared domains word p.period leave_time periodic) ports;
-      booked = each_made (λ (port : Port). port.ledger.entries ≡ []) (new_port bridge leave_time periodic (domain_set domains word)) (λ p. refl) ports;
+      streams = each_made (λ (port : PortState). HasRowsAlone (domain_rows domains word) port.part) (new_port bridge leave_time periodic (domain_set domains word)) (λ p. declared domains word p.period leave_time periodic) ports;
+      booked = each_made (λ (port : PortState). port.ledger.entries ≡ []) (new_port bridge leave_time periodic (domain_set domains word)) (λ p. refl) ports;
       inboxes = each_made (λ (wires : List Wire). wires ≡ []) (λ p. []) (λ p. refl) ports;
       outboxes = each_made (λ (wires : List Wire). wires ≡ []) (λ p. []) (λ p. refl) ports;
       asks = record { own = refl; talks = refl; listens = refl };

@@ -18,7 +18,7 @@ use Rattle.mrp_participant.specs.Lookup.{same}
 use Rattle.mrp_participant.specs.State.{Messages, AreRows, is_active, is_silent, due_state, left_keys, left_state, leave_all_state, periodic_state}
 use Rattle.mrp_participant.specs.Link.{LinkEvent}
 use Rattle.mrp_participant.specs.MarkedLink.{Mark, MarkedLink, IsNoMore, AreMarkedDutiesMet, after_marked_event, other_marked_view}
-use Rattle.msrp.specs.declared.port.Port.{Port}
+use Rattle.msrp.specs.PortState.{PortState}
 use Rattle.msrp.specs.declared.asking.SrpRequest.{SrpRequest}
 use Rattle.msrp.specs.declared.asking.SrpRequest.TheVariants as asks
 use Rattle.msrp.specs.Part.{Part, HasOwnContents, key_cmp, same_content, pdu_sent, received_part, told_by_receipt, sent_part, settled_as, settled_part}
@@ -67,19 +67,19 @@ stream_links laws = record { base = base_octets; octets = octets_of; same = same
 -- ---- the ports after what is done at a place
 
 -- one of them is another
-ports_are : (at : ℕ) (make : Port → Streams) (g : Port → Port) (v : Streams) → ((p : Port) → (make p).ports ≡ slice_set v.ports at (g p)) → (at_port at make v).ports ≡ set_at at g v.ports
+ports_are : (at : ℕ) (make : PortState → Streams) (g : PortState → PortState) (v : Streams) → ((p : PortState) → (make p).ports ≡ slice_set v.ports at (g p)) → (at_port at make v).ports ≡ set_at at g v.ports
 ports_are at make g v is = by (slice_get v.ports at)
   where
-    by : (o : Option Port) → (with_port o make v).ports ≡ option_map_or (λ x. slice_set v.ports at (g x)) o v.ports
+    by : (o : Option PortState) → (with_port o make v).ports ≡ option_map_or (λ x. slice_set v.ports at (g x)) o v.ports
     by None = refl
     by (Some p) = is p
 
 -- what a step makes of the ports: the one at its place is another
-abbrev pub MadeAt : ℕ → (Port → Port) → Streams → Streams → Type 0
+abbrev pub MadeAt : ℕ → (PortState → PortState) → Streams → Streams → Type 0
 MadeAt at g v u = u.ports ≡ set_at at g v.ports
 
 -- a port with what a call makes of its participant
-abbrev pub calling : (Part → Part) → Port → Port
+abbrev pub calling : (Part → Part) → PortState → PortState
 calling f p = with_part (f p.part) p
 
 received_is : (now : Cs) (at : ℕ) (pdu : MsrpPdu) (v : Streams) → MadeAt at (calling (received_part now pdu)) v (received_streams now at pdu v)
@@ -108,16 +108,16 @@ sent_is now at v = ports_are at (λ p. with_port_at at (with_part (sent_part now
 pub spoilt_is : (at : ℕ) (v : Streams) → MadeAt at (calling unsound) v (spoilt_streams at v)
 spoilt_is at v = ports_are at (λ p. with_port_at at (with_part (unsound p.part) p) v) (calling unsound) v (λ p. refl)
 
-made_apart : (at k : ℕ) (g : Port → Port) (v u : Streams) → at ≢ k → MadeAt at g v u → option_map (λ (p : Port). p.part) (slice_get u.ports k) ≡ option_map (λ (p : Port). p.part) (slice_get v.ports k)
-made_apart at k g v u ne is = ap (option_map (λ (p : Port). p.part)) (ap (λ (ps : List Port). slice_get ps k) is ∙ set_at_other at k g v.ports ne)
+made_apart : (at k : ℕ) (g : PortState → PortState) (v u : Streams) → at ≢ k → MadeAt at g v u → option_map (λ (p : PortState). p.part) (slice_get u.ports k) ≡ option_map (λ (p : PortState). p.part) (slice_get v.ports k)
+made_apart at k g v u ne is = ap (option_map (λ (p : PortState). p.part)) (ap (λ (ps : List PortState). slice_get ps k) is ∙ set_at_other at k g v.ports ne)
 
 -- the participant there is what a call makes of it
 called_there : (at : ℕ) (f : Part → Part) (v u : Streams) → MadeAt at (calling f) v u
-    → option_map (λ (p : Port). p.part) (slice_get u.ports at) ≡ option_map f (option_map (λ (p : Port). p.part) (slice_get v.ports at))
+    → option_map (λ (p : PortState). p.part) (slice_get u.ports at) ≡ option_map f (option_map (λ (p : PortState). p.part) (slice_get v.ports at))
 called_there at f v u is =
-    ap (option_map (λ (p : Port). p.part)) (ap (λ (ps : List Port). slice_get ps at) is ∙ set_at_there at (calling f) v.ports) ∙ by (slice_get v.ports at)
+    ap (option_map (λ (p : PortState). p.part)) (ap (λ (ps : List PortState). slice_get ps at) is ∙ set_at_there at (calling f) v.ports) ∙ by (slice_get v.ports at)
   where
-    by : (o : Option Port) → option_map (λ (p : Port). p.part) (option_map (calling f) o) ≡ option_map f (option_map (λ (p : Port). p.part) o)
+    by : (o : Option PortState) → option_map (λ (p : PortState). p.part) (option_map (calling f) o) ≡ option_map f (option_map (λ (p : PortState). p.part) o)
     by None = refl
     by (Some p) = refl
 
@@ -127,7 +127,7 @@ worked_apart : (app : App) (at k : ℕ) (os : List ℕ) (s : NodeState) → at �
 worked_apart Mvrp at k os s ne = refl
 worked_apart Msrp at k os s ne = by (msrp_reading os)
   where
-    by : (r : Result MsrpPdu ℕ) → option_map (λ (p : Port). p.part) (slice_get (worked_msrp s.clock at r s.streams).0.ports k) ≡ option_map (λ (p : Port). p.part) (slice_get s.streams.ports k)
+    by : (r : Result MsrpPdu ℕ) → option_map (λ (p : PortState). p.part) (slice_get (worked_msrp s.clock at r s.streams).0.ports k) ≡ option_map (λ (p : PortState). p.part) (slice_get s.streams.ports k)
     by (Ok pdu) = made_apart at k (calling (received_part s.clock pdu)) s.streams (received_streams s.clock at pdu s.streams) ne (received_is s.clock at pdu s.streams)
     by (Err place) = refl
 
@@ -176,12 +176,12 @@ asked_ports (asks.Unlisten stream) v = either_ports (has_listen stream v) v (wit
 asked_same : (request : AppRequest) (k : ℕ) (s : NodeState) → stream_place k (node_step (node_events.Request request) s).0 ≡ stream_place k s
 asked_same (Declare vid) k s = refl
 asked_same (Withdraw vid) k s = refl
-asked_same (Talk talker) k s = ap (λ (ps : List Port). option_map (λ (p : Port). p.part) (slice_get ps k)) (asked_ports (asks.Talk talker) s.streams)
-asked_same (Hush stream) k s = ap (λ (ps : List Port). option_map (λ (p : Port). p.part) (slice_get ps k)) (asked_ports (asks.Hush stream) s.streams)
-asked_same (Listen stream) k s = ap (λ (ps : List Port). option_map (λ (p : Port). p.part) (slice_get ps k)) (asked_ports (asks.Listen stream) s.streams)
-asked_same (Unlisten stream) k s = ap (λ (ps : List Port). option_map (λ (p : Port). p.part) (slice_get ps k)) (asked_ports (asks.Unlisten stream) s.streams)
+asked_same (Talk talker) k s = ap (λ (ps : List PortState). option_map (λ (p : PortState). p.part) (slice_get ps k)) (asked_ports (asks.Talk talker) s.streams)
+asked_same (Hush stream) k s = ap (λ (ps : List PortState). option_map (λ (p : PortState). p.part) (slice_get ps k)) (asked_ports (asks.Hush stream) s.streams)
+asked_same (Listen stream) k s = ap (λ (ps : List PortState). option_map (λ (p : PortState). p.part) (slice_get ps k)) (asked_ports (asks.Listen stream) s.streams)
+asked_same (Unlisten stream) k s = ap (λ (ps : List PortState). option_map (λ (p : PortState). p.part) (slice_get ps k)) (asked_ports (asks.Unlisten stream) s.streams)
 
-clocked_same : (now : ℕ) (ps : List Port) (k : ℕ) → option_map (λ (p : Port). p.part) (slice_get (map (clocked_port now) ps) k) ≡ option_map (λ (p : Port). p.part) (slice_get ps k)
+clocked_same : (now : ℕ) (ps : List PortState) (k : ℕ) → option_map (λ (p : PortState). p.part) (slice_get (map (clocked_port now) ps) k) ≡ option_map (λ (p : PortState). p.part) (slice_get ps k)
 clocked_same now [] k = refl
 clocked_same now (p ∷ ps) zero = refl
 clocked_same now (p ∷ ps) (suc k) = clocked_same now ps k
@@ -202,12 +202,12 @@ leaves_as Msrp os own = by (msrp_reading os)
 -- ---- at the place itself
 
 -- the port of a participant
-port_of : (o : Option Port) (x : Part) → option_map (λ (p : Port). p.part) o ≡ Some x → (p : Port) × (o ≡ Some p) × (p.part ≡ x)
+port_of : (o : Option PortState) (x : Part) → option_map (λ (p : PortState). p.part) o ≡ Some x → (p : PortState) × (o ≡ Some p) × (p.part ≡ x)
 port_of None x e = cc
 port_of (Some p) x e = (p, refl, cc)
 
 -- its outbox is there
-out_there : (at : ℕ) (s : NodeState) → IsProperNode s → (p : Port) → slice_get s.streams.ports at ≡ Some p → (ws : List Wire) × (slice_get s.outboxes at ≡ Some ws)
+out_there : (at : ℕ) (s : NodeState) → IsProperNode s → (p : PortState) → slice_get s.streams.ports at ≡ Some p → (ws : List Wire) × (slice_get s.outboxes at ≡ Some ws)
 out_there at s proper p is =
     let below = slice_get_within s.streams.ports at p is in
     let ports = proper.kept.same_ports in
@@ -224,20 +224,20 @@ module _ (laws : StreamLaws) where
   settles_all : (rule : MsrpKey → Option MsrpContent) (keys : List MsrpKey) (x : Part) → KeepsNear stream_view links x (settled_part rule keys x)
   settles_all rule keys x = all_keep stream_view links (λ (t : Part) (key : MsrpKey). settled_as key (rule key) t) (λ y key. settles key (rule key) y) keys x
 
-  settles_port : (at : ℕ) (v : Streams) (p : Port) → KeepsNear stream_view links p.part (settled_at at v p).part
+  settles_port : (at : ℕ) (v : Streams) (p : PortState) → KeepsNear stream_view links p.part (settled_at at v p).part
   settles_port at v p =
       let book = next_book at (seen_by v) (awaiting_at at v) p in
       settles_all (stated_at at (record p { ledger = book }) (seen_by v)) (settling_keys (moved_streams p.ledger book) (talker_keys v.talks v.ports) (awaiting_at at v)) p.part
 
   -- the port at the place is another, by calls of its participant
-  made_kept : (at : ℕ) (s t : NodeState) (g : Port → Port) → ((p : Port) → KeepsNear stream_view links p.part (g p).part) → MadeAt at g s.streams t.streams
+  made_kept : (at : ℕ) (s t : NodeState) (g : PortState → PortState) → ((p : PortState) → KeepsNear stream_view links p.part (g p).part) → MadeAt at g s.streams t.streams
       → box_at at t.inboxes ≡ box_at at s.inboxes → box_at at t.outboxes ≡ box_at at s.outboxes → KeepsLink stream_view at s t both_same
   made_kept at s t g keeps made ins outs =
       called stream_view links at s t
-      (λ x y old new. near (slice_get s.streams.ports at) x y old (ap (option_map (λ (p : Port). p.part)) (sym (set_at_there at g s.streams.ports)) ∙ (ap (λ (ps : List Port). option_map (λ (p : Port). p.part) (slice_get ps at)) (sym made) ∙ new)))
+      (λ x y old new. near (slice_get s.streams.ports at) x y old (ap (option_map (λ (p : PortState). p.part)) (sym (set_at_there at g s.streams.ports)) ∙ (ap (λ (ps : List PortState). option_map (λ (p : PortState). p.part) (slice_get ps at)) (sym made) ∙ new)))
       ins outs
     where
-      near : (o : Option Port) (x y : Part) → option_map (λ (p : Port). p.part) o ≡ Some x → option_map (λ (p : Port). p.part) (option_map g o) ≡ Some y → KeepsNear stream_view links x y
+      near : (o : Option PortState) (x y : Part) → option_map (λ (p : PortState). p.part) o ≡ Some x → option_map (λ (p : PortState). p.part) (option_map g o) ≡ Some y → KeepsNear stream_view links x y
       near None x y old new = cc
       near (Some p) x y old new =
           let ex : p.part ≡ x = cc in
@@ -261,7 +261,7 @@ module _ (laws : StreamLaws) where
       same_there None = refl
       same_there (Some x) = refl
 
-      heard : (r : Result MsrpPdu ℕ) → option_map (λ (p : Port). p.part) (slice_get (worked_msrp s.clock at r s.streams).0.ports at) ≡ option_map (hearing stream_view links s.clock (said_of_streams r)) (stream_place at s)
+      heard : (r : Result MsrpPdu ℕ) → option_map (λ (p : PortState). p.part) (slice_get (worked_msrp s.clock at r s.streams).0.ports at) ≡ option_map (hearing stream_view links s.clock (said_of_streams r)) (stream_place at s)
       heard (Ok pdu) = called_there at (received_part s.clock pdu) s.streams (received_streams s.clock at pdu s.streams) (received_is s.clock at pdu s.streams)
       heard (Err place) = same_there (stream_place at s)
 
@@ -274,22 +274,22 @@ module _ (laws : StreamLaws) where
       by Msrp e =
           subst (λ (a : App). KeepsLink stream_view at s (worked_app a at wire.octets (record s { inboxes = slice_set s.inboxes at wires })).0 (both_heard Msrp (Some wire))) (sym e)
           (taken stream_view links s.clock at s (worked_app Msrp at wire.octets (record s { inboxes = slice_set s.inboxes at wires })).0 wire wires (is_same_app Msrp wire.app) refl (silent_app wire.app wire.octets) (leaves_as wire.app wire.octets)
-          (subst (λ (a : App). option_map (λ (p : Port). p.part) (slice_get (worked_msrp s.clock at (msrp_reading wire.octets) s.streams).0.ports at) ≡ option_map (hearing stream_view links s.clock (octets_said a wire.octets)) (stream_place at s)) (sym e) (heard (msrp_reading wire.octets)))
+          (subst (λ (a : App). option_map (λ (p : PortState). p.part) (slice_get (worked_msrp s.clock at (msrp_reading wire.octets) s.streams).0.ports at) ≡ option_map (hearing stream_view links s.clock (octets_said a wire.octets)) (stream_place at s)) (sym e) (heard (msrp_reading wire.octets)))
           is left refl)
 
   -- the octets say the same of each key as what the participant sends
-  spoken_there : (at : ℕ) (s : NodeState) → IsProperNode s → (p : Port) → slice_get s.streams.ports at ≡ Some p → is_silent p.part ≡ false
+  spoken_there : (at : ℕ) (s : NodeState) → IsProperNode s → (p : PortState) → slice_get s.streams.ports at ≡ Some p → is_silent p.part ≡ false
       → HasSpoken stream_view links s.clock at s (sent_octets Msrp at (Some (msrp_spelling (pdu_sent s.clock p.part))) s).0 (is_leave_all_at Msrp at s) p.part
   spoken_there at s proper p old loud =
       let there = out_there at s proper p old in
       let wire : Wire = record { app = Msrp; octets = msrp_spelling (pdu_sent s.clock p.part) } in
       let port = at_each (IsPort s.streams.moment) s.streams.ports proper.kept.streams.ports at p old in
-      let ranges = at_each (λ (q : Port). HasRanges q.part) s.streams.ports proper.ranges.parts at p old in
+      let ranges = at_each (λ (q : PortState). HasRanges q.part) s.streams.ports proper.ranges.parts at p old in
       record {
         loud = loud;
-        leave_all_is = ap (λ (o : Option Port). option_map_or (λ (q : Port). is_active q.part.leave_all) o false) old;
+        leave_all_is = ap (λ (o : Option PortState). option_map_or (λ (q : PortState). is_active q.part.leave_all) o false) old;
         own = refl;
-        part = called_there at (sent_part s.clock) s.streams (sent_streams s.clock at s.streams) (sent_is s.clock at s.streams) ∙ ap (λ (o : Option Port). option_map (sent_part s.clock) (option_map (λ (q : Port). q.part) o)) old;
+        part = called_there at (sent_part s.clock) s.streams (sent_streams s.clock at s.streams) (sent_is s.clock at s.streams) ∙ ap (λ (o : Option PortState). option_map (sent_part s.clock) (option_map (λ (q : PortState). q.part) o)) old;
         wire = wire;
         says = record { leave_all = (as_written (pdu_sent s.clock p.part)).leave_all; events = (as_written (pdu_sent s.clock p.part)).events };
         read = ap said_of_streams (laws.written s.clock p.part port.rows port.contents ranges loud).reads;
@@ -299,9 +299,9 @@ module _ (laws : StreamLaws) where
       }
 
   -- there is a participant, and it is silent or not
-  sent_kept : (at : ℕ) (s : NodeState) → IsProperNode s → (o : Option Port) → slice_get s.streams.ports at ≡ o
-      → KeepsLink stream_view at s (sent_octets Msrp at (option_map_or (λ (port : Port). if is_silent port.part then None else Some (msrp_spelling (pdu_sent s.clock port.part))) o None) s).0
-      (both_said true (is_leave_all_at Msrp at s) (sent_octets Msrp at (option_map_or (λ (port : Port). if is_silent port.part then None else Some (msrp_spelling (pdu_sent s.clock port.part))) o None) s).1)
+  sent_kept : (at : ℕ) (s : NodeState) → IsProperNode s → (o : Option PortState) → slice_get s.streams.ports at ≡ o
+      → KeepsLink stream_view at s (sent_octets Msrp at (option_map_or (λ (port : PortState). if is_silent port.part then None else Some (msrp_spelling (pdu_sent s.clock port.part))) o None) s).0
+      (both_said true (is_leave_all_at Msrp at s) (sent_octets Msrp at (option_map_or (λ (port : PortState). if is_silent port.part then None else Some (msrp_spelling (pdu_sent s.clock port.part))) o None) s).1)
   sent_kept at s proper None is = still stream_view links at s
   sent_kept at s proper (Some p) is = by (is_silent p.part) refl
     where
@@ -311,7 +311,7 @@ module _ (laws : StreamLaws) where
       by false e =
           spoken stream_view links (λ wire ne. silent_app wire.app wire.octets ne) s.clock at s (sent_octets Msrp at (Some (msrp_spelling (pdu_sent s.clock p.part))) s).0 (is_leave_all_at Msrp at s)
           (λ y old. subst (λ (x : Part). HasSpoken stream_view links s.clock at s (sent_octets Msrp at (Some (msrp_spelling (pdu_sent s.clock p.part))) s).0 (is_leave_all_at Msrp at s) x)
-          (one_some _ p.part y (ap (option_map (λ (q : Port). q.part)) is) old) (spoken_there at s proper p is e))
+          (one_some _ p.part y (ap (option_map (λ (q : PortState). q.part)) is) old) (spoken_there at s proper p is e))
 
   -- what MVRP sends says nothing to it
   other_sent : (at : ℕ) (o : Option (List ℕ)) (s : NodeState) → IsProperNode s → KeepsLink stream_view at s (sent_octets Mvrp at o s).0 (both_said false (is_leave_all_at Mvrp at s) (sent_octets Mvrp at o s).1)
@@ -342,7 +342,7 @@ module _ (laws : StreamLaws) where
         there = λ at s proper below.
             let ports = proper.kept.same_ports in
             let port = within s.streams.ports at (omega (arith, below, ports)) in
-            (port.0.part, ap (option_map (λ (p : Port). p.part)) port.1);
+            (port.0.part, ap (option_map (λ (p : PortState). p.part)) port.1);
         others_say = λ wire ne. silent_app wire.app wire.octets ne;
         boxes = λ k s ins outs. refl;
         asked = asked_same;

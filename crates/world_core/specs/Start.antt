@@ -19,7 +19,7 @@ use Rattle.msrp_codec.specs.declared.pdu.MsrpKey.TheVariants.{Domain as DomainKe
 use Rattle.msrp_codec.specs.declared.pdu.MsrpContent.{MsrpContent}
 use Rattle.msrp_codec.specs.declared.pdu.MsrpContent.TheVariants.{Domain as DomainContent}
 use Rattle.mvrp.specs.Part.{Part}
-use Rattle.msrp.specs.declared.port.Port.{Port}
+use Rattle.msrp.specs.PortState.{PortState}
 use Rattle.msrp.specs.declared.domain.DomainSet.{DomainSet}
 use Rattle.msrp.specs.declared.domain.DomainSet.TheVariants.{Off, Nothing, OnlyA, Both}
 use Rattle.node_core.specs.declared.types.Wire.{Wire}
@@ -101,8 +101,8 @@ pub record HasRowsAlone {K C : Type 0} (those : List (Row K C)) (part : State K 
 pub record IsAtStart (rows : List (Row MsrpKey MsrpContent)) (s : NodeState) : Type 0 where
   pub clock : s.clock.0 ≡ 0
   pub vlans : AllByRecursion (λ (part : Part). HasRowsAlone [] part) s.vlans.parts
-  pub streams : AllByRecursion (λ (port : Port). HasRowsAlone rows port.part) s.streams.ports
-  pub booked : AllByRecursion (λ (port : Port). port.ledger.entries ≡ []) s.streams.ports
+  pub streams : AllByRecursion (λ (port : PortState). HasRowsAlone rows port.part) s.streams.ports
+  pub booked : AllByRecursion (λ (port : PortState). port.ledger.entries ≡ []) s.streams.ports
   pub inboxes : AllByRecursion (λ (wires : List Wire). wires ≡ []) s.inboxes
   pub outboxes : AllByRecursion (λ (wires : List Wire). wires ≡ []) s.outboxes
   pub asks : AsksNothing s

@@ -2,25 +2,25 @@ use Rattle.std.proofs.Common.{◌∙◌, ◌≤◌, ◌<◌, ◌++◌, ℕ, zero
 use Rattle.std.specs.Prelude.{slice_index_or, slice_set}
 use Rattle.std.specs.List.{AllByRecursion}
 use Rattle.std.proofs.lemmas.List.Edits.{map_over_more}
-use Rattle.msrp.specs.declared.port.Port.{Port}
+use Rattle.msrp.specs.PortState.{PortState}
 use Rattle.msrp.specs.Side.{clocked_port}
 use Rattle.msrp.proofs.clock.clock_all.Goals as goal
 
 -- the port that comes next is as it was
-in_rest : (now : ℕ) (xs : List Port) (i : ℕ) (d : Port) → i < length xs → AllByRecursion (λ (p : Port). p.ledger.moment ≤ now) xs
+in_rest : (now : ℕ) (xs : List PortState) (i : ℕ) (d : PortState) → i < length xs → AllByRecursion (λ (p : PortState). p.ledger.moment ≤ now) xs
     → (slice_index_or (map (clocked_port now) (take i xs) ++ drop i xs) i d).ledger.moment ≤ now
 in_rest now [] i d below all = absurd (omega arith)
 in_rest now (x ∷ xs) zero d below all = all.0
 in_rest now (x ∷ xs) (suc i) d below all = in_rest now xs i d (omega arith) all.1
 
-pub clock_port-requires : goal.clock_port-requires
-clock_port-requires c =
-    let below : c.loop-port.port-index < length c.args.ports.now.items = omega (arith, c.loop-port-test.true, ap (λ (xs : List Port). length xs) c.deref_mut-port-items.ensures.value) in
-    let P : List Port → Type 0 = λ xs. (slice_index_or xs c.loop-port.port-index c.port-item.result).ledger.moment ≤ c.args.now.0 in
+pub clock-requires : goal.clock-requires
+clock-requires c =
+    let below : c.loop-port.port-index < length c.args.ports.now.items = omega (arith, c.loop-port-test.true, ap (λ (xs : List PortState). length xs) c.deref_mut-port-items.ensures.value) in
+    let P : List PortState → Type 0 = λ xs. (slice_index_or xs c.loop-port.port-index c.port-item.result).ledger.moment ≤ c.args.now.0 in
     subst P (sym c.loop-port.invariant) (in_rest c.args.now.0 c.args.ports.now.items c.loop-port.port-index c.port-item.result below c.requires)
 
 pub loop-port-preserved : goal.loop-port-preserved
 loop-port-preserved c =
-    let below : c.loop-port.port-index < length c.args.ports.now.items = omega (arith, c.loop-port-test.true, ap (λ (xs : List Port). length xs) c.deref_mut-port-items.ensures.value) in
-    ap (λ (p : Port). slice_set c.loop-port.port-items c.loop-port.port-index p) (c.clock_port.ensures ∙ ap (clocked_port c.args.now.0) (sym c.port-item.is))
+    let below : c.loop-port.port-index < length c.args.ports.now.items = omega (arith, c.loop-port-test.true, ap (λ (xs : List PortState). length xs) c.deref_mut-port-items.ensures.value) in
+    ap (λ (p : PortState). slice_set c.loop-port.port-items c.loop-port.port-index p) (c.clock.ensures ∙ ap (clocked_port c.args.now.0) (sym c.port-item.is))
     ∙ map_over_more (clocked_port c.args.now.0) c.args.ports.now.items c.loop-port.port-items c.loop-port.port-index c.port-item.result below c.loop-port.invariant c.port-item.is

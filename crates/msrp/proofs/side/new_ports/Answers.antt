@@ -1,17 +1,17 @@
 use Rattle.std.proofs.Common.{◌+◌, ◌≤◌, [], ◌∷◌, ◌++◌, map, refl, ap, ◌∙◌}
 use Rattle.mrp_participant.specs.State.{IsTime}
 use Rattle.srp_base.specs.declared.ports.PortSetup.{PortSetup}
-use Rattle.msrp.specs.declared.port.Port.{Port}
+use Rattle.msrp.specs.PortState.{PortState}
 use Rattle.msrp.specs.Side.{new_port as port_of}
 use Rattle.msrp.proofs.Places.{each-at, one_more}
 use Rattle.msrp.proofs.side.new_ports.Goals as goal
 
-pub new_port-requires-clause-period : goal.new_port-requires-clause-period
-new_port-requires-clause-period c =
+pub new-requires-clause-period : goal.new-requires-clause-period
+new-requires-clause-period c =
     each-at (λ (p : PortSetup). IsTime p.period) c.args.ports.now c.loop-port.port-index c.port-item.result c.loop-port-test.true c.port-item.is c.requires.periods
 
-pub new_port-requires-clause-shares : goal.new_port-requires-clause-shares
-new_port-requires-clause-shares c =
+pub new-requires-clause-shares : goal.new-requires-clause-shares
+new-requires-clause-shares c =
     each-at (λ (p : PortSetup). p.delta_a + p.delta_b ≤ 90) c.args.ports.now c.loop-port.port-index c.port-item.result c.loop-port-test.true c.port-item.is c.requires.shares
 
 pub loop-port-preserved : goal.loop-port-preserved
@@ -19,5 +19,5 @@ loop-port-preserved c =
     let new = port_of c.args.bridge c.args.leave_time c.args.periodic c.args.domain in
     one_more (map new) (λ (p : PortSetup). new p ∷ []) c.args.ports.now c.loop-port.port-index c.port-item.result c.loop-port.all.items c.push.new.self.items _
     (λ p ps. refl) c.loop-port-test.true
-    (c.in_ok-push.ensures.items ∙ ap (λ (p : Port). c.loop-port.all.items ++ p ∷ []) (c.in_ok-made.ensures ∙ ap new c.port-item.is))
+    (c.in_ok-push.ensures.items ∙ ap (λ (p : PortState). c.loop-port.all.items ++ p ∷ []) (c.in_ok-made.ensures ∙ ap new c.port-item.is))
     c.loop-port.invariant

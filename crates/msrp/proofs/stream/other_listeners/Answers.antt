@@ -23,15 +23,15 @@ joined own rows at a b c d ea eb ec ed =
     ∙ sym (filter_map-append (λ (row : Option PortListener). row) (own ∷ []) (take at rows ++ drop (suc at) rows)))))
 
 pub returns : goal.returns
-returns c talks e =
-    let rows : List (Option PortListener) = map (listener_row c.args.stream) c.args.ports.now in
+returns c e =
+    let rows : List (Option PortListener) = map (listener_row c.args.stream) c.args.view.now.ports.now in
     let own = c.own_listener.result in
     let a : c.in_ok-others.others.items ≡ [] = c.in_ok-others.ensures.items in
     let b : c.push_row.new.out.items ≡ c.in_ok-others.others.items ++ there (own ∷ []) = search rules in
-    let front : c.push_rows.new.out.items ≡ c.push_row.new.out.items ++ there (map (listener_row c.args.stream) (take c.args.at c.args.ports.now)) = search rules in
-    let back : c.push_rows-2.new.out.items ≡ c.push_rows.new.out.items ++ there (map (listener_row c.args.stream) (drop (suc c.args.at) c.args.ports.now)) = search rules in
-    joined own rows c.args.at c.in_ok-others.others.items c.push_row.new.out.items c.push_rows.new.out.items c.push_rows-2.new.out.items a b
-    (front ∙ ap (λ xs. c.push_row.new.out.items ++ there xs) (sym (take-map (listener_row c.args.stream) c.args.at c.args.ports.now)))
-    (back ∙ ap (λ xs. c.push_rows.new.out.items ++ there xs) (sym (drop-map (listener_row c.args.stream) (suc c.args.at) c.args.ports.now)))
-    ∙ ap (λ x. there (x ∷ (take c.args.at rows ++ drop (suc c.args.at) rows)))
-    (c.own_listener.ensures ∙ ap (λ (reg : TalkerReg). if is_listened c.args.stream c.args.listens.now then Some (record { kind = Ready; booked = is_advertised reg }) else None) e)
+    let front : c.push_rows.new.out.items ≡ c.push_row.new.out.items ++ there (map (listener_row c.args.stream) (take c.args.view.now.at c.args.view.now.ports.now)) = search rules in
+    let back : c.push_rows-2.new.out.items ≡ c.push_rows.new.out.items ++ there (map (listener_row c.args.stream) (drop (suc c.args.view.now.at) c.args.view.now.ports.now)) = search rules in
+    joined own rows c.args.view.now.at c.in_ok-others.others.items c.push_row.new.out.items c.push_rows.new.out.items c.push_rows-2.new.out.items a b
+    (front ∙ ap (λ xs. c.push_row.new.out.items ++ there xs) (sym (take-map (listener_row c.args.stream) c.args.view.now.at c.args.view.now.ports.now)))
+    (back ∙ ap (λ xs. c.push_rows.new.out.items ++ there xs) (sym (drop-map (listener_row c.args.stream) (suc c.args.view.now.at) c.args.view.now.ports.now)))
+    ∙ ap (λ x. there (x ∷ (take c.args.view.now.at rows ++ drop (suc c.args.view.now.at) rows)))
+    (c.own_listener.ensures ∙ ap (λ (reg : TalkerReg). if is_listened c.args.stream c.args.view.now.listens.now then Some (record { kind = Ready; booked = is_advertised reg }) else None) e)

@@ -2,6 +2,7 @@ use Rattle.std.proofs.Common.{◌≡◌, ◌-◌, ◌∙◌, false, ap, sym}
 use Rattle.std.specs.Prelude.{slice_get, Some}
 use Rattle.mrp_participant.specs.State.{due_count, is_any_due}
 use Rattle.attribute_propagation.specs.Ports.{count_of, place_of}
+use Rattle.msrp.specs.Part.{Part}
 use Rattle.msrp.specs.Side.{Streams}
 use Rattle.msrp.proofs.Idle.{none-due}
 use Rattle.msrp.proofs.Places.{some_is}
@@ -16,7 +17,7 @@ here c =
     ∙ (ap (λ n. slice_get c.as_slice.result.now (n - 1)) (sym c.from-at.ensures) ∙ c.port_at.ensures))
 
 none : (c : Then-not-any_due) → is_any_due c.args.now c.port_at.result.now.part ≡ false
-none c = sym c.any_due.ensures ∙ c.if-not-any_due.true
+none c = ap (λ (s : Part). is_any_due c.args.now s) (sym c.part.ensures) ∙ (sym c.any_due.ensures ∙ c.if-not-any_due.true)
 
 pub returns-then-not-any_due-clause-after : goal.returns-then-not-any_due-clause-after
 returns-then-not-any_due-clause-after c =

@@ -1,8 +1,7 @@
-use Rattle.std.proofs.Common.{◌-◌, ◌<◌, ◌∙◌, ℕ, length, ap, arith}
-use Rattle.mrp_participant.specs.State.{declared_at, registered_at, leave_all_state}
+use Rattle.std.proofs.Common.{◌-◌, ◌<◌, ◌∙◌, ℕ, length, ap, arith, refl}
+use Rattle.mrp_participant.specs.State.{leave_all_state}
 use Rattle.attribute_propagation.specs.Ports.{keys_in}
-use Rattle.msrp.specs.declared.port.Port.{Port}
-use Rattle.msrp.specs.Part.{key_cmp}
+use Rattle.msrp.specs.PortState.{PortState}
 use Rattle.msrp.specs.Side.{Streams, leave_all_streams}
 use Rattle.msrp.proofs.Keeping.{kept-changed, at_changed}
 use Rattle.msrp.proofs.side.MsrpSide.leaveall_now.Goals as goal
@@ -17,12 +16,9 @@ below c = omega (arith, c.from.ensures, c.requires.port.some, c.requires.port.wi
 
 pub invariant_of-self : goal.invariant_of-self
 invariant_of-self c =
-    let p : Port = c.index_mut-port.result.now in
-    kept-changed c.each_port_is_told.ensures (before c) c.self.invariant (c.from.result - 1) (below c) p c.index_mut-port.ensures.value c.leaveall_due.new.self
-    (λ rows. rw c.leaveall_due.ensures rows)
-    (λ rows own. rw c.leaveall_due.ensures (record { declared = own.declared; registered = own.registered }))
-    (λ rows key. ap (declared_at key_cmp key) c.leaveall_due.ensures)
-    (λ rows key. ap (registered_at key_cmp key) c.leaveall_due.ensures)
+    let p : PortState = c.index_mut-port.result.now in
+    kept-changed c.each_port_is_told.ensures (before c) c.self.invariant (c.from.result - 1) (below c) p c.leaveall_due.new.self c.index_mut-port.ensures.value (leave_all_state c.args.now p.part) c.leaveall_due.ensures
+    (λ rows. rows) (λ rows own. record { declared = own.declared; registered = own.registered }) (λ rows key. refl) (λ rows key. refl)
 
 pub returns : goal.returns
 returns c =

@@ -1,9 +1,7 @@
 use Rattle.std.proofs.Common.{◌-◌, ◌<◌, ◌∙◌, ℕ, length, ap, arith}
-use Rattle.mrp_participant.specs.Lookup.{find}
-use Rattle.mrp_participant.specs.State.{declared_at, registered_at, periodic_state}
+use Rattle.mrp_participant.specs.State.{periodic_state}
 use Rattle.attribute_propagation.specs.Ports.{keys_in}
-use Rattle.msrp.specs.declared.port.Port.{Port}
-use Rattle.msrp.specs.Part.{Part, key_cmp}
+use Rattle.msrp.specs.PortState.{PortState}
 use Rattle.msrp.specs.Side.{Streams, periodic_streams}
 use Rattle.msrp.proofs.Contents.{own-periodic}
 use Rattle.msrp.proofs.Keeping.{kept-changed, at_changed}
@@ -19,12 +17,12 @@ below c = omega (arith, c.from.ensures, c.requires.some, c.requires.within, ap (
 
 pub invariant_of-self : goal.invariant_of-self
 invariant_of-self c =
-    let p : Port = c.index_mut-port.result.now in
-    kept-changed c.each_port_is_told.ensures (before c) c.self.invariant (c.from.result - 1) (below c) p c.index_mut-port.ensures.value c.periodic_due.new.self
-    (λ rows. rw c.periodic_due.ensures (c.rows_stay_rows.ensures.periodic_due p.part rows))
-    (λ rows own. own-periodic p.part c.periodic_due.new.self own (λ k. ap (λ (t : Part). find key_cmp k t.rows) c.periodic_due.ensures ∙ c.each_key_after_periodic.ensures p.part k))
-    (λ rows key. ap (declared_at key_cmp key) c.periodic_due.ensures ∙ c.declarations_stay.ensures.periodic_due p.part key)
-    (λ rows key. ap (registered_at key_cmp key) c.periodic_due.ensures ∙ c.registrations_stay.ensures.periodic_due p.part key)
+    let p : PortState = c.index_mut-port.result.now in
+    kept-changed c.each_port_is_told.ensures (before c) c.self.invariant (c.from.result - 1) (below c) p c.periodic_due.new.self c.index_mut-port.ensures.value (periodic_state p.part) c.periodic_due.ensures
+    (λ rows. c.rows_stay_rows.ensures.periodic_due p.part rows)
+    (λ rows own. own-periodic p.part (periodic_state p.part) own (λ k. c.each_key_after_periodic.ensures p.part k))
+    (λ rows key. c.declarations_stay.ensures.periodic_due p.part key)
+    (λ rows key. c.registrations_stay.ensures.periodic_due p.part key)
 
 pub returns : goal.returns
 returns c =

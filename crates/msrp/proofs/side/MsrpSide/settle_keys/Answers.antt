@@ -3,7 +3,7 @@ use Rattle.std.specs.Prelude.{slice_get, slice_index_or, slice_set, IfSome}
 use Rattle.attribute_propagation.specs.Dirty.{KeySet}
 use Rattle.attribute_propagation.specs.Ports.{count_of, keys_in, marked_elsewhere}
 use Rattle.msrp_codec.specs.declared.pdu.MsrpKey.{MsrpKey}
-use Rattle.msrp.specs.declared.port.Port.{Port}
+use Rattle.msrp.specs.PortState.{PortState}
 use Rattle.msrp.specs.Part.{key_cmp}
 use Rattle.msrp.specs.Settling.{listener_keys, moved_streams, next_book, settled_port, talker_keys}
 use Rattle.msrp.specs.Side.{Streams, awaiting_at, seen_by, settled_streams}
@@ -53,16 +53,26 @@ moves c =
 
 -- the keys that await at the port
 keys : (c : After-drop-told-2) → c.set_at.result.now.keys ≡ slice_index_or (before c).awaiting c.args.at c.set_at.result.now.keys
-keys c = read-get (before c).awaiting c.args.at c.set_at.result.now.keys (ap (λ xs. slice_get (keys_in xs) c.args.at) (sym c.as_slice-4.ensures.value) ∙ c.set_at.ensures)
+keys c = read-get (before c).awaiting c.args.at c.set_at.result.now.keys (ap (λ xs. slice_get (keys_in xs) c.args.at) (sym c.as_slice.ensures.value) ∙ c.set_at.ensures)
 
 sets : (c : After-drop-told-2) → keys_in c.put_sets.new.sets.items ≡ marked_elsewhere key_cmp c.args.at c.in_ok-port.told.items (before c).awaiting
 sets c = search rules
 
-next : (c : After-drop-told-2) → IfSome (slice_get (before c).ports c.args.at) (λ (p : Port). c.in_ok-port.port ≡ settled_port c.args.at (seen_by (before c)) (talker_keys (before c).talks (before c).ports) c.set_at.result.now.keys p)
-next c = rw (c.as_slice.ensures.value, c.as_slice-2.ensures.value, c.as_slice-3.ensures.value) at c.in_ok-port.ensures.port
+-- what the port sees
+talks_are : (c : After-drop-told-2) → c.view.result.talks.now ≡ (before c).talks
+talks_are c = c.view.ensures.talks ∙ ap (λ (v : Streams). v.talks) (sym c.self.view_is)
 
-told : (c : After-drop-told-2) → IfSome (slice_get (before c).ports c.args.at) (λ (p : Port). c.in_ok-port.told.items ≡ listener_keys (moved_streams p.ledger (next_book c.args.at (seen_by (before c)) c.set_at.result.now.keys p)))
-told c = rw (c.as_slice.ensures.value, c.as_slice-2.ensures.value, c.as_slice-3.ensures.value) at c.in_ok-port.ensures.told
+listens_are : (c : After-drop-told-2) → c.view.result.listens.now ≡ (before c).listens
+listens_are c = c.view.ensures.listens ∙ ap (λ (v : Streams). v.listens) (sym c.self.view_is)
+
+ports_are : (c : After-drop-told-2) → c.view.result.ports.now ≡ (before c).ports
+ports_are c = c.view.ensures.ports ∙ ap (λ (v : Streams). v.ports) (sym c.self.view_is)
+
+next : (c : After-drop-told-2) → IfSome (slice_get (before c).ports c.args.at) (λ (p : PortState). c.in_ok-port.port ≡ settled_port c.args.at (seen_by (before c)) (talker_keys (before c).talks (before c).ports) c.set_at.result.now.keys p)
+next c = rw (talks_are c, listens_are c, ports_are c, c.view.ensures.at) at c.in_ok-port.ensures.port
+
+told : (c : After-drop-told-2) → IfSome (slice_get (before c).ports c.args.at) (λ (p : PortState). c.in_ok-port.told.items ≡ listener_keys (moved_streams p.ledger (next_book c.args.at (seen_by (before c)) c.set_at.result.now.keys p)))
+told c = rw (talks_are c, listens_are c, ports_are c, c.view.ensures.at) at c.in_ok-port.ensures.told
 
 done : (c : After-drop-told-2) → HasSettled (before c) c.args.at c.in_ok-port.port (keys_in c.put_sets.new.sets.items)
 done c =
@@ -93,8 +103,8 @@ pub returns-clause-count : goal.returns-clause-count
 returns-clause-count c =
     c.saturated-count.ensures
     ∙ ap count_of (c.len.ensures
-    ∙ ap length (sym (awaiting_is (before c) c.self.invariant c.args.at (below c) c.set_at-2.result.now.keys (read-get (before c).awaiting c.args.at c.set_at-2.result.now.keys (ap (λ xs. slice_get (keys_in xs) c.args.at) (sym c.as_slice-7.ensures.value) ∙ c.set_at-2.ensures)))
+    ∙ ap length (sym (awaiting_is (before c) c.self.invariant c.args.at (below c) c.set_at-2.result.now.keys (read-get (before c).awaiting c.args.at c.set_at-2.result.now.keys (ap (λ xs. slice_get (keys_in xs) c.args.at) (sym c.as_slice-4.ensures.value) ∙ c.set_at-2.ensures)))
     ∙ ap (λ (v : Streams). awaiting_at c.args.at v) c.self.view_is))
 
 pub settled-requires : goal.settled-requires
-settled-requires c = omega (arith, c.requires, ap (λ (v : Streams). length v.ports) c.self.view_is, ap (λ (ps : List Port). length ps) c.as_slice-3.ensures.value)
+settled-requires c = omega (arith, c.requires, c.view.ensures.at, ap (λ (ps : List PortState). length ps) c.view.ensures.ports)

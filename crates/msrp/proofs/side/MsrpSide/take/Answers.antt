@@ -2,7 +2,7 @@ use Rattle.std.proofs.Common.{◌≡◌, ◌∙◌, ap, sym}
 use Rattle.std.specs.Prelude.{slice_get, Some}
 use Rattle.mrp_participant.specs.Lookup.{find}
 use Rattle.mrp_participant.specs.State.{after, changed_keys, declared_at}
-use Rattle.msrp.specs.declared.port.Port.{Port}
+use Rattle.msrp.specs.PortState.{PortState}
 use Rattle.msrp.specs.Part.{Part, key_cmp, same_content, received_part, told_by_receipt}
 use Rattle.msrp.specs.Side.{Streams}
 use Rattle.msrp.proofs.Places.{on_ok, one_some}
@@ -18,31 +18,34 @@ here c =
     ap (λ (v : Streams). slice_get v.ports c.args.at) (sym c.self.view_is)
     ∙ (ap (λ xs. slice_get xs c.args.at) (sym c.as_slice.ensures.value) ∙ c.port_at.ensures)
 
+copied : (c : After-as_slice-2) → c.in_ok-part.part ≡ c.port_at.result.now.part
+copied c = c.in_ok-part.ensures ∙ c.part.ensures
+
 pub put-requires-clause-contents : goal.put-requires-clause-contents
 put-requires-clause-contents c =
-    let p : Port = c.port_at.result.now in
+    let p : PortState = c.port_at.result.now in
     let port = port_kept c.args.self.now c.keeps.ensures c.args.at p (here c) in
     own-received p.part _ (after c.args.now p.part.leave_time) c.args.pdu.leave_all c.args.pdu.events port.contents c.requires.belong
-    (λ k. ap (λ (t : Part). find key_cmp k t.rows) (c.in_ok-told.ensures.after ∙ ap (received_part c.args.now c.args.pdu) c.in_ok-part.ensures)
+    (λ k. ap (λ (t : Part). find key_cmp k t.rows) (c.in_ok-told.ensures.after ∙ ap (received_part c.args.now c.args.pdu) (copied c))
     ∙ c.each_key_after_receive.ensures p.part c.args.now c.args.pdu.leave_all c.args.pdu.events port.rows k)
 
 pub returns-clause-ok : goal.returns-clause-ok
 returns-clause-ok c =
-    let p : Port = c.port_at.result.now in
+    let p : PortState = c.port_at.result.now in
     let found : slice_get c.args.self.now.ports c.args.at ≡ Some p =
     ap (λ (v : Streams). slice_get v.ports c.args.at) (sym c.self.view_is)
     ∙ (ap (λ xs. slice_get xs c.args.at) (sym c.as_slice.ensures.value) ∙ c.port_at.ensures) in
-    let became : c.receive.new.self ≡ received_part c.args.now c.args.pdu p.part = c.in_ok-told.ensures.after ∙ ap (received_part c.args.now c.args.pdu) c.in_ok-part.ensures in
+    let became : c.receive.new.self ≡ received_part c.args.now c.args.pdu p.part = c.in_ok-told.ensures.after ∙ ap (received_part c.args.now c.args.pdu) (c.in_ok-part.ensures ∙ c.part.ensures) in
     on_ok c.put.result c.put.ensures.ok (λ ok.
     at_put c.args.self.now c.put.new.self c.args.at p _ _ (received_part c.args.now c.args.pdu) (told_by_receipt c.args.now c.args.pdu) found ok became
     (c.as_slice-2.ensures ∙ (c.in_ok-told.ensures.keys
-    ∙ (ap (λ (s : Part). changed_keys key_cmp same_content s.rows c.receive.new.self.rows) c.in_ok-part.ensures
+    ∙ (ap (λ (s : Part). changed_keys key_cmp same_content s.rows c.receive.new.self.rows) (c.in_ok-part.ensures ∙ c.part.ensures)
     ∙ ap (λ (t : Part). changed_keys key_cmp same_content p.part.rows t.rows) became))))
 
 -- the participant afterwards is what the PDU makes of the one at the place
-became_of : (c : After-as_slice-2) (q : Port) → slice_get c.args.self.now.ports c.args.at ≡ Some q → c.receive.new.self ≡ received_part c.args.now c.args.pdu q.part
+became_of : (c : After-as_slice-2) (q : PortState) → slice_get c.args.self.now.ports c.args.at ≡ Some q → c.receive.new.self ≡ received_part c.args.now c.args.pdu q.part
 became_of c q at =
-    c.in_ok-told.ensures.after ∙ ap (received_part c.args.now c.args.pdu) (c.in_ok-part.ensures ∙ ap (λ (x : Port). x.part) (one_some _ _ _ (here c) at))
+    c.in_ok-told.ensures.after ∙ ap (received_part c.args.now c.args.pdu) (copied c ∙ ap (λ (x : PortState). x.part) (one_some _ _ _ (here c) at))
 
 pub put-requires-clause-declared : goal.put-requires-clause-declared
 put-requires-clause-declared c q at key =
@@ -51,7 +54,7 @@ put-requires-clause-declared c q at key =
 
 pub put-requires-clause-told : goal.put-requires-clause-told
 put-requires-clause-told c q at key =
-    let was : c.in_ok-part.part ≡ q.part = c.in_ok-part.ensures ∙ ap (λ (x : Port). x.part) (one_some _ _ _ (here c) at) in
+    let was : c.in_ok-part.part ≡ q.part = copied c ∙ ap (λ (x : PortState). x.part) (one_some _ _ _ (here c) at) in
     let told : c.as_slice-2.result.now ≡ told_by_receipt c.args.now c.args.pdu q.part =
     c.as_slice-2.ensures ∙ (c.in_ok-told.ensures.keys
     ∙ (ap (λ (s : Part). changed_keys key_cmp same_content s.rows c.receive.new.self.rows) was
