@@ -30,9 +30,9 @@ ssize_t write(int file, const void *from, size_t most) {
   return real(file, from, most);
 }
 
-/* The program's allocator asks by these; those of the loader before main aren't counted. */
+/* The program's allocator asks by these, each thread of it; those of the loader before main aren't counted. */
 static int ready;
-static int refuses(void) { return ready && ++growths == wanted("FAIL_MEMORY"); }
+static int refuses(void) { return ready && __atomic_add_fetch(&growths, 1, __ATOMIC_RELAXED) == wanted("FAIL_MEMORY"); }
 
 extern void *__libc_malloc(size_t), *__libc_realloc(void *, size_t), *__libc_calloc(size_t, size_t), *__libc_memalign(size_t, size_t);
 

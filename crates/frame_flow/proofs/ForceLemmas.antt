@@ -43,7 +43,7 @@ last-later t last (e ∷ es) all =
     let here = cond-false (nat_le e.bit t) e last (lt-leb e.bit t (All-head P e es all)) in
     ap (λ (x : SlopeChange). last_change t x es) here ∙ last-later t last es (All-tail P e es all)
 
-upto-later : (tick : ℕ) (newest : Option PortChange) (cs : List PortChange) → All (λ c. tick < c.tick) cs → last_upto tick newest cs ≡ newest
+pub upto-later : (tick : ℕ) (newest : Option PortChange) (cs : List PortChange) → All (λ c. tick < c.tick) cs → last_upto tick newest cs ≡ newest
 upto-later tick newest [] all = refl
 upto-later tick newest (c ∷ cs) all =
     let P : PortChange → Type 0 = λ x. tick < x.tick in
@@ -75,7 +75,7 @@ last-come to tick newest (x ∷ xs) (suc k) d few come later =
     (λ j e from lt. later (suc j) e (omega (arith, from)) (omega (arith, lt)))
 
 -- slopes that aren't new are those that were
-same-slopes : (ticks : ℕ) (last : SlopeChange) (c : PortChange) → does_change ticks last c ≡ false → 0 < c.tick → c.tick < ticks
+pub same-slopes : (ticks : ℕ) (last : SlopeChange) (c : PortChange) → does_change ticks last c ≡ false → 0 < c.tick → c.tick < ticks
     → (c.slope_a ≡ last.slope_a) × (c.slope_b ≡ last.slope_b)
 same-slopes ticks last c nay some few =
     let a = c.slope_a == last.slope_a in

@@ -11,3 +11,4 @@ pub mod FateLemmas
 pub mod ForceLemmas
 pub mod LawLemmas
 pub mod CapLemmas
+pub mod SayingLemmas

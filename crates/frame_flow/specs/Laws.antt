@@ -1,5 +1,5 @@
 -- What is true of every flow.
-use Rattle.std.specs.Prelude.{◌≡◌, ◌≢◌, ℕ, ◌+◌, ◌≤◌, ◌==◌, List, [], ◌∷◌, map, filter, filter_map, All, AllPairs}
+use Rattle.std.specs.Prelude.{◌≡◌, ◌≢◌, ℕ, ◌+◌, ◌<◌, ◌≤◌, ◌==◌, List, [], ◌∷◌, map, filter, filter_map, All, AllPairs}
 use Rattle.credit_shaper.specs.declared.shaper.Traffic.{Traffic}
 use Rattle.credit_shaper.specs.declared.port.Departure.{Departure}
 use Rattle.credit_shaper.specs.declared.port.PortInput.{PortInput}
@@ -12,9 +12,10 @@ use Rattle.frame_flow.specs.declared.result.PortFlow.{PortFlow}
 use Rattle.frame_flow.specs.declared.place.Place.{Place}
 use Rattle.std.specs.Prelude.{Option}
 use Rattle.srp_base.specs.declared.numbers.EgressPort.{EgressPort}
+use Rattle.srp_base.specs.declared.numbers.StreamId.{StreamId}
 use Rattle.srp_base.specs.declared.ports.PortChange.{PortChange}
 use Rattle.credit_shaper.specs.declared.port.SlopeChange.{SlopeChange}
-use Rattle.frame_flow.specs.Force.{first_slopes}
+use Rattle.frame_flow.specs.Force.{changes_at, first_slopes, has_booked, has_vid, in_force}
 use Rattle.frame_flow.specs.declared.frame.FrameCopy.{FrameCopy}
 use Rattle.frame_flow.specs.Copies.{arriving, copy_of, frames_reaching}
 use Rattle.frame_flow.specs.Flow.{Setting}
@@ -77,3 +78,15 @@ KeepsCaps cap_a cap_ab changes =
 -- the slopes that a port's shaper is given keep the port's caps
 abbrev pub HasCaps : (EgressPort → ℕ) → (EgressPort → ℕ) → PortFlow → Type 0
 HasCaps cap_a cap_ab x = KeepCaps (cap_a x.at) (cap_ab x.at) x.input.slopes
+
+-- the same is in force by both: streams, VIDs and slopes
+pub record IsSameForce (one other : Option PortChange) : Type 0 where
+  pub booked : (stream : StreamId) → has_booked stream one ≡ has_booked stream other
+  pub vids : (vid : ℕ) → has_vid vid one ≡ has_vid vid other
+  pub slope_a : (first_slopes one).slope_a ≡ (first_slopes other).slope_a
+  pub slope_b : (first_slopes one).slope_b ≡ (first_slopes other).slope_b
+
+-- two lists of changes say the same of a port in each of so many ticks, however often they say it
+abbrev pub SayTheSame : ℕ → List PortChange → List PortChange → EgressPort → Type 0
+SayTheSame ticks one other p =
+    (t : ℕ) → t < ticks → IsSameForce (in_force t (changes_at one p)) (in_force t (changes_at other p))

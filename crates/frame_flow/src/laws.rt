@@ -1,10 +1,11 @@
 //! What is true of every flow, over the definitions that the contract of `flow` cites. Each is a function
 //! that does nothing; calling it brings the law to a proof.
 
-ghost use Rattle.std.specs.Prelude.{◌≡◌, ℕ, ◌<◌, ◌≤◌, List, map, All};
+ghost use Rattle.std.specs.Prelude.{◌≡◌, ℕ, ◌<◌, ◌≤◌, List, map, All, AllPairs};
 ghost use Rattle.std.specs.List.Sorted.{IsPermutation};
 ghost use Rattle.srp_base.specs.declared.numbers.EgressPort.{EgressPort};
-ghost use Rattle.tree_topology.specs.Topology.{IsSound};
+ghost use Rattle.srp_base.specs.declared.ports.PortChange.{PortChange};
+ghost use Rattle.tree_topology.specs.Topology.{HasPort, IsSound};
 ghost use Rattle.credit_shaper.specs.Port.{IsPortInput, slopes_at};
 ghost use Rattle.credit_shaper.specs.Bounds.{greatest_slope_a, IsWindowAWithin};
 ghost use Rattle.frame_flow.specs.declared.result.PortFlow.{PortFlow};
@@ -14,8 +15,8 @@ ghost use Rattle.frame_flow.specs.Moments.{bits_of_ticks, tick_at};
 ghost use Rattle.frame_flow.specs.Force.{changes_at, in_force};
 ghost use Rattle.frame_flow.specs.Copies.{all_places, arriving};
 ghost use Rattle.frame_flow.specs.Flow.{Setting, IsFlow, port_input};
-ghost use Rattle.frame_flow.specs.Given.{IsSetting, IsInOrder};
-ghost use Rattle.frame_flow.specs.Laws.{arriving_numbers, fate_numbers, AreDifferent, DepartsByArrival, HasOutcomes, HasSlopes, coming, KeepsCapsA, KeepsCaps, HasCaps};
+ghost use Rattle.frame_flow.specs.Given.{IsEarlier, IsSetting, IsInOrder};
+ghost use Rattle.frame_flow.specs.Laws.{arriving_numbers, fate_numbers, AreDifferent, DepartsByArrival, HasOutcomes, HasSlopes, coming, KeepsCapsA, KeepsCaps, HasCaps, SayTheSame};
 
 use credit_shaper::laws::{class_a_stays_within_in_every_run, frames_depart_in_order};
 use tree_topology::laws::ports;
@@ -32,6 +33,18 @@ pub fn one_flow()
 /// A flow fits whatever a flow is asked of over a tree.
 pub fn a_flow_exists()
     ensures { (s : Setting) → IsSound s.tree → (flows : List PortFlow) × IsFlow s flows }
+{
+    ports();
+}
+
+/// What is in force decides a flow, and not how often the changes say it: where other changes say the same of each port in
+/// each tick, the same flow fits.
+pub fn what_is_in_force_decides_a_flow()
+    ensures { (s : Setting) (changes : List PortChange) (flows : List PortFlow)
+        → IsSound s.tree → 0 < s.ticks
+        → AllPairs IsEarlier s.changes → AllPairs IsEarlier changes
+        → ((p : EgressPort) → HasPort s.tree p → SayTheSame s.ticks s.changes changes p)
+        → IsFlow s flows → IsFlow (record s { changes = changes }) flows }
 {
     ports();
 }

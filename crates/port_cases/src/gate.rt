@@ -2,7 +2,7 @@
 
 use bridge_book::Gate;
 use srp_base::{NodeNo, PortNo};
-use std::sync::atomic::{AtomicBool, AtomicU64, Ordering};
+use std::sync::atomic::{AtomicU64, Ordering};
 
 // How many times a port that is held looks whether the other has answered.
 const TURNS: u64 = 100_000_000;
@@ -14,13 +14,16 @@ pub(crate) enum Place {
     Within,
 }
 
-/// Holds a port until another has answered once, for at most so many looks.
+/// Holds a port until another has answered, once or in each tick anew, for at most so many looks.
 #[derive(Drop)]
 pub(crate) struct Holding {
     place: Place,
     held: (u16, u8),
     other: (u16, u8),
-    has_answered: AtomicBool,
+    // Whether the port is held in each tick in which it comes by, and not only until the other's first answer.
+    anew: bool,
+    // In how many ticks the other has answered.
+    answers: AtomicU64,
     // How often all looks were spent.
     spent: AtomicU64,
     // How often the port came by.
@@ -34,7 +37,22 @@ impl Holding {
             place,
             held,
             other,
-            has_answered: AtomicBool::new(false),
+            anew: false,
+            answers: AtomicU64::new(0),
+            spent: AtomicU64::new(0),
+            calls: AtomicU64::new(0),
+        }
+    }
+
+    /// Holds port `held` of a node before its steps of each tick until port `other` of a node has answered in that tick. Both
+    /// have to have steps in the same ticks.
+    pub(crate) fn in_each_tick(held: (u16, u8), other: (u16, u8)) -> Holding {
+        Holding {
+            place: Place::Arriving,
+            held,
+            other,
+            anew: true,
+            answers: AtomicU64::new(0),
             spent: AtomicU64::new(0),
             calls: AtomicU64::new(0),
         }
@@ -45,18 +63,25 @@ impl Holding {
         self.calls.load(Ordering::SeqCst) > 0 && self.spent.load(Ordering::SeqCst) == 0
     }
 
-    // Holds the port that is to be held at a place.
+    /// Whether both ports came by in as many ticks, in more than these.
+    pub(crate) fn was_passed_more_than(&self, ticks: u64) -> bool {
+        let calls = self.calls.load(Ordering::SeqCst);
+        calls > ticks && self.answers.load(Ordering::SeqCst) == calls
+    }
+
+    // Holds the port that is to be held at a place, until all looks were spent once.
     fn hold(&self, place: Place, node: NodeNo, port: PortNo) {
-        if place == self.place && self.held == (node.0, port.0) {
-            self.calls.fetch_add(1, Ordering::SeqCst);
-            self.wait();
+        let is_spent = self.spent.load(Ordering::SeqCst) > 0;
+        if !is_spent && place == self.place && self.held == (node.0, port.0) {
+            let earlier = self.calls.fetch_add(1, Ordering::SeqCst);
+            self.wait(if self.anew { earlier } else { 0 });
         }
     }
 
-    // Looks until the other port has answered.
-    fn wait(&self) {
+    // Looks until the other port has answered in more ticks than these.
+    fn wait(&self, earlier: u64) {
         for _ in 0..TURNS {
-            if self.has_answered.load(Ordering::SeqCst) {
+            if self.answers.load(Ordering::SeqCst) > earlier {
                 return;
             }
         }
@@ -75,7 +100,7 @@ impl Gate for Holding {
 
     fn answered(&self, node: NodeNo, port: PortNo) {
         if self.other == (node.0, port.0) {
-            self.has_answered.store(true, Ordering::SeqCst);
+            self.answers.fetch_add(1, Ordering::SeqCst);
         }
     }
 }

@@ -35,7 +35,16 @@ const FIRST_TICK: &str = "ticks = 1\n\
     { name = 'b2', kind = 'bridge' }, { name = 'l1', kind = 'station' }, \
     { name = 'l2', kind = 'station' }, { name = 'l3', kind = 'station' }]\n\
     link = [{ a = 't1', b = 'b1' }, { a = 'b1', b = 'b2' }, { a = 'b1', b = 'l1' }, \
-    { a = 'b2', b = 'l2' }, { a = 'b2', b = 'l3' }]\n";
+    { a = 'b2', b = 'l2' }, { a = 'b2', b = 'l3' }]\n\
+    stream = [{ name = 'k', id = '0200000000010001', talker = 't1', dest = '91e0f0000001', \
+    octets = 200, frames = 1 }]\n\
+    event = [{ tick = 0, kind = 'declare', station = 'l1', vid = 2 }, \
+    { tick = 0, kind = 'declare', station = 'l2', vid = 2 }, \
+    { tick = 0, kind = 'declare', station = 'l3', vid = 2 }, \
+    { tick = 0, kind = 'talk', stream = 'k' }, \
+    { tick = 0, kind = 'listen', station = 'l1', stream = 'k' }, \
+    { tick = 0, kind = 'listen', station = 'l2', stream = 'k' }, \
+    { tick = 0, kind = 'listen', station = 'l3', stream = 'k' }]\n";
 
 const STREAM: StreamId = StreamId(0x0200_0000_0001_0001);
 
@@ -156,4 +165,24 @@ fn so_is_the_other_port(rt: HostRuntime) {
     let gate = Holding::new(Place::Arriving, (2, 2), (2, 1));
     assert!(rt; goes_on(&rt, rt.alloc(), &gate, 2, 1));
     assert!(rt; gate.was_let_go());
+}
+
+// Whether the Listeners hear the stream in the end of a run in which a port is held in each tick, in more than these ticks.
+fn goes_on_anew<R: Threads + Wait + Sync>(rt: &R, alloc: Global, gate: &Holding) -> bool {
+    let run = by_ports(rt, alloc, SCENE, gate);
+    let so = is_ready(&run);
+    drop(run);
+    so && gate.was_let_go() && gate.was_passed_more_than(10)
+}
+
+#[test]
+fn in_each_tick_a_port_is_held_until_another_of_its_bridge_has_answered(rt: HostRuntime) {
+    let gate = Holding::in_each_tick((3, 2), (3, 3));
+    assert!(rt; goes_on_anew(&rt, rt.alloc(), &gate));
+}
+
+#[test]
+fn in_each_tick_so_is_the_other_port(rt: HostRuntime) {
+    let gate = Holding::in_each_tick((3, 3), (3, 2));
+    assert!(rt; goes_on_anew(&rt, rt.alloc(), &gate));
 }

@@ -1,6 +1,6 @@
 -- The canonical order of a node's jobs is that of its turns, and at each port it is the port's own order.
 use Rattle.std.proofs.Common.{◌≡◌, ◌≢◌, ℕ, zero, suc, ◌+◌, ◌-◌, ◌<◌, ◌≤◌, Bool, true, false, ◌||◌, List, [], ◌∷◌, ◌++◌, length, map, drop, get_or, refl, sym, ap, ◌∙◌, append_assoc, arith}
-use Rattle.std.specs.Prelude.{slice_get, Some, ◌==◌, if◌then◌else◌, filter}
+use Rattle.std.specs.Prelude.{Result, Ok, Err, IfOk, slice_get, Some, ◌==◌, if◌then◌else◌, filter, replicate}
 use Rattle.std.specs.Option.{option_map_or}
 use Rattle.std.specs.List.{AllByRecursion, flat_map, range_with_len}
 use Rattle.std.proofs.Math.Seq.{drop-cons}
@@ -24,6 +24,11 @@ use Rattle.srp_schedule.proofs.Compared.{same_is, other_is}
 -- four lists one after the other
 four : {X : Type 0} (a b c d p q r s : List X) → a ≡ p → b ≡ q → c ≡ r → d ≡ s → a ++ b ++ c ++ d ≡ p ++ q ++ r ++ s
 four a b c d p q r s e f g h = cc
+
+-- what holds of each answer that fits holds of the answer, where there is one
+pub if_ok : {A E : Type 0} (r : Result A E) (P Q : A → Type 0) → ((a : A) → P a → Q a) → IfOk r P → IfOk r Q
+if_ok (Ok a) P Q f h = f a h
+if_ok (Err e) P Q f h = h
 
 -- ---- the definition's order is that of the turns
 
@@ -55,25 +60,62 @@ canonical_is n w s is = four _ _ _ _ _ _ _ _ (that Works) (that Dues) (that Sett
         ap (λ (c : ℕ). flat_map (λ p. map (λ step. (p.port, step)) (filter (is_in_turn turn) (jobs_of p w))) (map (λ k. record { node = n; port = record { 0 = k } }) (range_with_len 1 c))) count
         ∙ turn_is turn n (λ p. jobs_of p w) (λ at. job_list at s) (jobs_are n w s is) 0 (ports_of s)
 
--- ---- a node with nothing to do
+-- ---- a node that isn't busy
 
-no_jobs : (b c : Bool) (busy sending : List PortStep) → (b || c) ≡ false → (if b then busy else []) ++ (if c then sending else []) ≡ []
-no_jobs true c busy sending h = cc
-no_jobs false true busy sending h = cc
-no_jobs false false busy sending h = refl
+-- its jobs are two Sends at a moment of sending, and else none
+still_jobs : (b c : Bool) (busy sending : List PortStep) → b ≡ false → (if b then busy else []) ++ (if c then sending else []) ≡ (if c then sending else [])
+still_jobs true c busy sending h = cc
+still_jobs false c busy sending h = refl
 
-idle_turn : (turn : Turn) (f : ℕ → List PortStep) → ((at : ℕ) → f at ≡ []) → (k a c : ℕ) → turn_from turn k (map f (range_with_len a c)) ≡ []
-idle_turn turn f none k a zero = refl
-idle_turn turn f none k a (suc c) =
-    ap (λ (x : List PortStep). map (λ step. (record { 0 = k }, step)) (filter (is_in_turn turn) x) ++ turn_from turn (k + 1) (map f (range_with_len (a + 1) c))) (none a)
-    ∙ idle_turn turn f none (k + 1) (a + 1) c
+each_same : (f : ℕ → List PortStep) (steps : List PortStep) → ((at : ℕ) → f at ≡ steps) → (a c : ℕ) → map f (range_with_len a c) ≡ replicate c steps
+each_same f steps same a zero = refl
+each_same f steps same a (suc c) =
+    ap (λ (x : List PortStep). x ∷ map f (range_with_len (a + 1) c)) (same a) ∙ ap (λ (x : List (List PortStep)). steps ∷ x) (each_same f steps same (a + 1) c)
 
-pub idle_order : (n : NodeNo) (w : WorldState) (s : NodeState) → node_at n w ≡ Some s → (is_busy_node s || is_sending_time s.clock) ≡ false → [] ≡ canonical_order n w
-idle_order n w s is idle =
-    let none : (at : ℕ) → job_list at s ≡ [] = λ at. no_jobs (is_busy_node s) (is_sending_time s.clock) _ _ idle in
-    let f : ℕ → List PortStep = λ at. job_list at s in
-    sym (canonical_is n w s is
-    ∙ four _ _ _ _ [] [] [] [] (idle_turn Works f none 1 0 (ports_of s)) (idle_turn Dues f none 1 0 (ports_of s)) (idle_turn Settles f none 1 0 (ports_of s)) (idle_turn Sends f none 1 0 (ports_of s)))
+-- a turn in which none of their steps is made
+no_turn : (turn : Turn) (steps : List PortStep) → filter (is_in_turn turn) steps ≡ [] → (k c : ℕ) → turn_from turn k (replicate c steps) ≡ []
+no_turn turn steps none k zero = refl
+no_turn turn steps none k (suc c) =
+    ap (λ (x : List PortStep). map (λ step. (record { 0 = k }, step)) x ++ turn_from turn (k + 1) (replicate c steps)) none ∙ no_turn turn steps none (k + 1) c
+
+quiet_lists : (s : NodeState) (c : Bool) → is_sending_time s.clock ≡ c → is_busy_node s ≡ false
+    → map (λ at. job_list at s) (range_with_len 0 (ports_of s)) ≡ replicate (ports_of s) (if c then Send Mvrp ∷ Send Msrp ∷ [] else [])
+quiet_lists s c time still =
+    let sends : Bool → List PortStep = λ b. if b then Send Mvrp ∷ Send Msrp ∷ [] else [] in
+    each_same (λ at. job_list at s) (sends c)
+    (λ at. still_jobs (is_busy_node s) (is_sending_time s.clock) _ (Send Mvrp ∷ Send Msrp ∷ []) still ∙ ap sends time) 0 (ports_of s)
+
+pub sends_order : (s : NodeState) → is_busy_node s ≡ false → is_sending_time s.clock ≡ true
+    → turn_from Sends 1 (replicate (ports_of s) (Send Mvrp ∷ Send Msrp ∷ [])) ≡ order_of (map (λ at. job_list at s) (range_with_len 0 (ports_of s)))
+sends_order s still time =
+    let steps : List PortStep = Send Mvrp ∷ Send Msrp ∷ [] in
+    let n = ports_of s in
+    sym (ap order_of (quiet_lists s true time still)
+    ∙ four _ _ _ _ [] [] [] (turn_from Sends 1 (replicate n steps)) (no_turn Works steps refl 1 n) (no_turn Dues steps refl 1 n) (no_turn Settles steps refl 1 n) refl)
+
+pub no_order : (s : NodeState) → is_busy_node s ≡ false → is_sending_time s.clock ≡ false
+    → [] ≡ order_of (map (λ at. job_list at s) (range_with_len 0 (ports_of s)))
+no_order s still time =
+    let n = ports_of s in
+    sym (ap order_of (quiet_lists s false time still)
+    ∙ four _ _ _ _ [] [] [] [] (no_turn Works [] refl 1 n) (no_turn Dues [] refl 1 n) (no_turn Settles [] refl 1 n) (no_turn Sends [] refl 1 n))
+
+-- two Sends of one port more
+pub sends_more : (at n : ℕ) (order one both : List (PortNo × PortStep)) (all : List (PortNo × PortStep)) → at < n
+    → one ≡ order ++ (record { 0 = at + 1 }, Send Mvrp) ∷ [] → both ≡ one ++ (record { 0 = at + 1 }, Send Msrp) ∷ []
+    → order ++ turn_from Sends (at + 1) (replicate (n - at) (Send Mvrp ∷ Send Msrp ∷ [])) ≡ all
+    → both ++ turn_from Sends (at + 1 + 1) (replicate (n - (at + 1)) (Send Mvrp ∷ Send Msrp ∷ [])) ≡ all
+sends_more at n order one both all lt is_one is_both so_far =
+    let steps : List PortStep = Send Mvrp ∷ Send Msrp ∷ [] in
+    let port : PortNo = record { 0 = at + 1 } in
+    let rest : ℕ → List (PortNo × PortStep) = λ k. turn_from Sends (at + 1 + 1) (replicate k steps) in
+    let less : n - at ≡ suc (n - (at + 1)) = omega (arith, lt) in
+    let left = rest (n - (at + 1)) in
+    ap (λ (x : List (PortNo × PortStep)). x ++ left) (is_both ∙ ap (λ (x : List (PortNo × PortStep)). x ++ (port, Send Msrp) ∷ []) is_one)
+    ∙ ap (λ (x : List (PortNo × PortStep)). x ++ left) (append_assoc order ((port, Send Mvrp) ∷ []) ((port, Send Msrp) ∷ []))
+    ∙ append_assoc order ((port, Send Mvrp) ∷ (port, Send Msrp) ∷ []) left
+    ∙ ap (λ (k : ℕ). order ++ turn_from Sends (at + 1) (replicate k steps)) (sym less)
+    ∙ so_far
 
 -- ---- the ports of the order
 

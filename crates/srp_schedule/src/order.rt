@@ -1,14 +1,16 @@
 //! The jobs of a node in one tick, in the canonical order.
 
-ghost use Rattle.std.specs.Prelude.{◌≡◌, ◌≤◌, ◌++◌, ◌||◌, length, map, filter, IfOk, OnOk};
+ghost use Rattle.std.specs.Prelude.{◌≡◌, ◌≤◌, ◌++◌, ◌∷◌, [], false, length, map, filter, replicate, IfOk, OnOk};
 ghost use Rattle.std.specs.List.{range_with_len};
 ghost use Rattle.tree_topology.specs.Topology.{HasNode};
-ghost use Rattle.node_core.specs.State.{ports_of, job_list, is_busy_node, is_sending_time};
+ghost use Rattle.srp_base.specs.declared.mrp.App.TheVariants.{Mvrp, Msrp};
+ghost use Rattle.node_core.specs.declared.types.PortStep.TheVariants.{Send};
+ghost use Rattle.node_core.specs.State.{ports_of, job_list, is_busy_node};
 ghost use Rattle.world_core.specs.Ticks.{canonical_order};
 ghost use Rattle.srp_schedule.specs.Order.{is_in_turn, turn_from, order_of};
 
 use node_core::{Node, PortStep, is_sending_time, no_key};
-use srp_base::{NoMemory, NodeNo, PortNo, Seq};
+use srp_base::{App, NoMemory, NodeNo, PortNo, Seq};
 use std::alloc::Global;
 use world_core::World;
 
@@ -33,18 +35,39 @@ pub(crate) fn jobs_in_order(
 {
     let _ = no_key();
     let node = world.node(number);
-    if !has_jobs(node) {
-        return Ok(Vec::new(alloc));
+    if !node.is_busy() {
+        return quiet_jobs(alloc, node);
     }
     let jobs = jobs_by_port(alloc, node)?;
     in_turns(alloc, jobs.as_slice())
 }
 
-// Whether a node has a job: it is busy, or it is time to send.
-fn has_jobs(node: &Node) -> bool
-    ensures { result ≡ (is_busy_node node.now || is_sending_time node.now.clock) }
+// The jobs of a node that isn't busy: it has nothing to do but send, at a moment of sending.
+fn quiet_jobs(alloc: Global, node: &Node) -> Result<Vec<(PortNo, PortStep)>, NoMemory>
+    requires { is_busy_node node.now ≡ false }
+    ensures { IfOk result (λ v. v.items
+        ≡ order_of (map (λ at. job_list at node.now) (range_with_len 0 (ports_of node.now)))) }
 {
-    node.is_busy() || is_sending_time(node.now())
+    let _ = no_key();
+    if is_sending_time(node.now()) {
+        sends(alloc, node.ports())
+    } else {
+        Ok(Vec::new(alloc))
+    }
+}
+
+// A Send of each application at each of so many ports.
+fn sends(alloc: Global, ports: u8) -> Result<Vec<(PortNo, PortStep)>, NoMemory>
+    ensures { IfOk result (λ v. v.items
+        ≡ turn_from Turn.Sends 1 (replicate ports (Send Mvrp ∷ Send Msrp ∷ []))) }
+{
+    let _ = no_key();
+    let mut order = Vec::with_capacity(alloc, usize::from(ports) * 2)?;
+    for at in 0..ports {
+        order.push((PortNo(at + 1), PortStep::Send(App::Mvrp)))?;
+        order.push((PortNo(at + 1), PortStep::Send(App::Msrp)))?;
+    }
+    Ok(order)
 }
 
 // The jobs of each of a node's ports, ports ascending.

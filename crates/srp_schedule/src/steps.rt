@@ -104,7 +104,7 @@ fn make_all(
 {
     let _ = no_key();
     what_is_allowed_may_happen();
-    let mut made = Vec::new(alloc);
+    let mut made = Vec::with_capacity(alloc, jobs.len())?;
     for job in jobs {
         made.push(make_one(world, node, job)?)?;
     }

@@ -9,7 +9,16 @@ use Rattle.topology_file.specs.Plan.{Plan}
 use Rattle.journal_audit.specs.Texts.{lines_of, with_octet}
 use Rattle.journal_audit.specs.Form.{AreFormed, IsFirstUnformed}
 use Rattle.journal_audit.specs.Journal.{ticks_lines}
-use Rattle.journal_audit.specs.Audit.{AgreesFor, IsFirstIllegal, IsRefusal, known_of}
+use Rattle.journal_audit.specs.Audit.{AgreesFor, IsFirstIllegal, IsJournalOf, IsRefusal, known_of}
+use Rattle.world_core.specs.declared.journal.Tick.{Tick}
+use Rattle.world_core.specs.Ticks.{AreLegalTicks}
+use Rattle.world_core.specs.World.{WorldState}
+use Rattle.frame_flow.specs.declared.result.PortFlow.{PortFlow}
+use Rattle.srp_base.specs.declared.ports.PortChange.{PortChange}
+use Rattle.srp_report.specs.Report.{report_text}
+use Rattle.srpnet.specs.AuditParts.{AuditParts}
+use Rattle.srpnet.specs.AuditText.{IsApproved, IsRunOf}
+use Rattle.srpnet.specs.RunText.{IsRun}
 use Rattle.srpnet.specs.Differ.{DifferAtOnce, IsFirstDifferent, line_feeds}
 use Rattle.srpnet.proofs.LineLemmas.{differ_behind}
 
@@ -188,3 +197,44 @@ module _ (given wanted rest : List ℕ) (at lines : ℕ) (so_far : IsCompared gi
         subst (λ (k : ℕ). IsFirstDifferent given wanted k) (sym feeds_are)
         (subst (λ (g : List ℕ). IsFirstDifferent g wanted (line_feeds front)) given_is
         (subst (λ (w : List ℕ). IsFirstDifferent (front ++ one) w (line_feeds front)) wanted_is differs))
+
+-- ---- no only where yes doesn't hold
+
+-- with a text of which no legal ticks are, the answer isn't yes
+pub none_approved : (plan : Plan) (parts : AuditParts) → ((ticks : List Tick) (world : WorldState) → IsJournalOf plan parts.journal ticks world → ⊥)
+    → IsApproved plan parts → ⊥
+none_approved plan parts none yes = none yes.ticks yes.world (record { legal = yes.run.run.lead; text_is = yes.run.spelled })
+
+-- a run of a text, and its journal
+pub run_of_journal : (plan : Plan) (text : List ℕ) (ticks : List Tick) (world : WorldState) (flows : List PortFlow) → IsRunOf plan text ticks world flows
+    → IsJournalOf plan text ticks world
+run_of_journal plan text ticks world flows run = record { legal = run.run.lead; text_is = run.spelled }
+
+module _ (plan : Plan)
+    (one_journal : (text : List ℕ) (ticks others : List Tick) (end last : WorldState) → IsJournalOf plan text ticks end → IsJournalOf plan text others last → ticks ≡ others)
+    (one_end : (text : List ℕ) (ticks others : List Tick) (end last : WorldState) → IsJournalOf plan text ticks end → IsJournalOf plan text others last → end ≡ last)
+    (one_flow : (ticks : List Tick) (world : WorldState) (changes others : List PortChange) (flows last : List PortFlow)
+      → IsRun AreLegalTicks plan ticks world changes flows → IsRun AreLegalTicks plan ticks world others last → flows ≡ last)
+    (parts : AuditParts) where
+  -- two legal runs with one text have one report
+  pub same_run : (ticks others : List Tick) (world end : WorldState) (flows last : List PortFlow) → IsRunOf plan parts.journal ticks world flows
+      → IsRunOf plan parts.journal others end last → report_text plan world ticks flows ≡ report_text plan end others last
+  same_run ticks others world end flows last one other =
+      let here = run_of_journal plan parts.journal ticks world flows one in
+      let there = run_of_journal plan parts.journal others end last other in
+      let ticks_are : ticks ≡ others = one_journal parts.journal ticks others world end here there in
+      let world_is : world ≡ end = one_end parts.journal ticks others world end here there in
+      let moved : IsRun AreLegalTicks plan others end one.changes flows =
+      subst (λ (w : WorldState). IsRun AreLegalTicks plan others w one.changes flows) world_is
+      (subst (λ (ts : List Tick). IsRun AreLegalTicks plan ts world one.changes flows) ticks_are one.run) in
+      let flows_are : flows ≡ last = one_flow others end one.changes other.changes flows last moved other.run in
+      ap (λ (w : WorldState). report_text plan w ticks flows) world_is ∙ ap (λ (ts : List Tick). report_text plan end ts flows) ticks_are
+      ∙ ap (λ (fs : List PortFlow). report_text plan end others fs) flows_are
+
+  -- nor is it yes with a report that differs from that of a legal run with this text
+  pub other_report : (ticks : List Tick) (world : WorldState) (flows : List PortFlow) (count : ℕ) → IsRunOf plan parts.journal ticks world flows
+      → IsFirstDifferent parts.report (report_text plan world ticks flows) count → IsApproved plan parts → ⊥
+  other_report ticks world flows count run differs yes =
+      differs.here
+      (ap (λ (text : List ℕ). take (suc count) (lines_of text))
+      (yes.reported ∙ same_run yes.ticks ticks yes.world world yes.flows flows yes.run run))

@@ -10,3 +10,5 @@ pub mod Reported
 pub mod LineLemmas
 pub mod AuditLemmas
 pub mod Inputs
+pub mod RunLemmas
+pub mod EndingLemmas

@@ -7,7 +7,7 @@ use Rattle.world_core.specs.declared.journal.Tick.{Tick}
 use Rattle.world_core.specs.Ticks.{AreLegalTicks}
 use Rattle.world_core.specs.World.{WorldState}
 use Rattle.journal_audit.specs.Journal.{journal_text}
-use Rattle.journal_audit.specs.Audit.{IsRefusal}
+use Rattle.journal_audit.specs.Audit.{IsJournalOf, IsRefusal}
 use Rattle.srp_report.specs.Report.{report_text}
 use Rattle.srpnet.specs.declared.outcome.Cause.{Cause}
 use Rattle.srpnet.specs.declared.outcome.Cause.TheVariants.{Done, AuditNo}
@@ -35,6 +35,7 @@ pub record IsApproved (plan : Plan) (parts : AuditParts) : Type 0 where
 pub record IsJournalRefused (plan : Plan) (parts : AuditParts) (line why : ℕ) : Type 0 where
   pub number : ℕ
   pub refused : IsRefusal plan parts.journal number why
+  pub none : (ticks : List Tick) (world : WorldState) → IsJournalOf plan parts.journal ticks world → ⊥
   pub line_is : line ≡ parts.marked + number
 
 -- no, in the report: the journal is of a legal run, and this line is the first in which the report isn't that of the run, or
@@ -49,10 +50,11 @@ pub record IsReportRefused (plan : Plan) (parts : AuditParts) (line why : ℕ) :
   pub line_is : line ≡ suc count
   pub why_is : why ≡ 4
 
--- whether it ends so for these parts
+-- whether it ends so for these parts: no only where yes doesn't hold
 abbrev pub IsAudited : Plan → AuditParts → Cause → Type 0
 IsAudited plan parts Done = IsApproved plan parts
-IsAudited plan parts (AuditNo line why) = IsJournalRefused plan parts line why ⊎ IsReportRefused plan parts line why
+IsAudited plan parts (AuditNo line why) =
+    (IsJournalRefused plan parts line why ⊎ IsReportRefused plan parts line why) × (IsApproved plan parts → ⊥)
 IsAudited plan parts cause = ⊥
 
 -- whether it ends so for these parts, whose scenario is this or is refused

@@ -2,6 +2,7 @@
 //! made them is trusted, and neither is the order in which `run` takes the steps.
 
 pub mod differ;
+pub mod laws;
 pub mod parts;
 
 ghost use Rattle.std.specs.Prelude.{◌≡◌, IfOk, IfErr};
@@ -16,7 +17,9 @@ use crate::run::text::run_text;
 use crate::run::with_flow;
 use crate::scenario::scenario_input;
 use differ::differing_line;
+use journal_audit::laws::one_text_has_one_journal;
 use journal_audit::{Verdict, audit};
+use laws::a_run_has_one_flow;
 use parts::{AuditParts, audit_parts};
 use srp_base::Seq;
 use std::alloc::Global;
@@ -41,6 +44,7 @@ pub fn output(alloc: Global, octets: &[u8]) -> Result<Seq<u8>, Cause>
 }
 
 // How an audit of these parts ends, whose scenario this is.
+#[tactic(auto, using(crate::proofs::AuditLemmas::none_approved))]
 fn judged(alloc: Global, scenario: &Scenario, parts: &AuditParts<'_>) -> Result<(), Cause>
     ensures ends { EndsBy (IsAudited scenario.now parts.now) result }
     ensures not_done { IfErr result (λ c. c ≡ Cause.Done → ⊥) }
@@ -67,6 +71,9 @@ fn compared(
     ensures ends { EndsBy (IsAudited scenario.now parts.now) result }
     ensures not_done { IfErr result (λ c. c ≡ Cause.Done → ⊥) }
 {
+    one_text_has_one_journal();
+    a_run_has_one_flow();
+    scenario.keeps_rules();
     let ran = with_flow(alloc, scenario, run)?;
     let flow = ran.flow;
     let wanted = run_text(alloc, scenario, &ran.run, flow)?;

@@ -1,0 +1,153 @@
+-- An audit ends one way: what is refused, where and why is told by its input alone.
+use Rattle.std.proofs.Common.{◌≡◌, ◌≢◌, ℕ, zero, suc, ◌+◌, ◌-◌, ◌<◌, ◌≤◌, List, [], ◌∷◌, take, refl, sym, ap, subst, ◌∙◌, inl, inr, arith, take-take}
+use Rattle.std.proofs.lemmas.Bool.{cases_lt}
+use Rattle.topology_file.specs.Plan.{Plan}
+use Rattle.world_core.specs.declared.journal.Tick.{Tick}
+use Rattle.world_core.specs.Ticks.{AreLegalTicks}
+use Rattle.world_core.specs.World.{WorldState}
+use Rattle.frame_flow.specs.declared.result.PortFlow.{PortFlow}
+use Rattle.srp_base.specs.declared.ports.PortChange.{PortChange}
+use Rattle.journal_audit.specs.declared.form.Known.{Known}
+use Rattle.journal_audit.specs.Audit.{AgreesFor, IsFirstIllegal, IsJournalOf, IsRefusal, known_of}
+use Rattle.journal_audit.specs.Form.{AreFormed, IsFirstUnformed}
+use Rattle.journal_audit.specs.Journal.{ticks_lines}
+use Rattle.journal_audit.specs.Texts.{lines_of}
+use Rattle.srp_report.specs.Report.{report_text}
+use Rattle.srpnet.specs.declared.outcome.Cause.{Cause}
+use Rattle.srpnet.specs.declared.outcome.Cause.TheVariants.{Done, AuditNo, BadWords, ReadFault, TooLong, NotToml, BadScenario, WriteFault, NoMemory}
+use Rattle.srpnet.specs.AuditParts.{AuditParts}
+use Rattle.srpnet.specs.AuditText.{IsAudited, IsJournalRefused, IsReportRefused, IsRunOf}
+use Rattle.srpnet.specs.Differ.{IsFirstDifferent}
+use Rattle.srpnet.specs.RunText.{IsRun}
+use Rattle.srpnet.proofs.AuditLemmas.{run_of_journal, same_run}
+
+-- ---- the first of some numbers from which something doesn't hold
+
+-- what holds of a number and of each lower one doesn't first fail behind two of them
+one_first : (P : ℕ → Type 0) → ((m n : ℕ) → m ≤ n → P n → P m) → (a b : ℕ) → P a → (P (suc a) → ⊥) → P b → (P (suc b) → ⊥) → a ≡ b
+one_first P down a b at_a past_a at_b past_b =
+    elim (cases_lt a b) [
+      | inl lt ↦ absurd (past_a (down (suc a) b (omega (arith, lt)) at_b))
+      | inr le ↦
+          elim (cases_lt b a) [
+            | inl lt ↦ absurd (past_b (down (suc b) a (omega (arith, lt)) at_a))
+            | inr other ↦ omega (arith, le, other)
+          ]
+    ]
+
+formed_down : (known : Known) (t : ℕ) (lines : List (List ℕ)) (m n : ℕ) → m ≤ n → AreFormed known t (take n lines) → AreFormed known t (take m lines)
+formed_down known t lines zero n le h = tt
+formed_down known t [] (suc m) n le h = tt
+formed_down known t (line ∷ lines) (suc m) zero le h = absurd (omega (arith, le))
+formed_down known t (line ∷ lines) (suc m) (suc n) le h =
+    (h.0, h.1, h.2, h.3, formed_down known h.0 lines m n (omega (arith, le)) h.4)
+
+all_formed : (known : Known) (t : ℕ) (lines : List (List ℕ)) (m : ℕ) → AreFormed known t lines → AreFormed known t (take m lines)
+all_formed known t lines zero h = tt
+all_formed known t [] (suc m) h = tt
+all_formed known t (line ∷ lines) (suc m) h = (h.0, h.1, h.2, h.3, all_formed known h.0 lines m h.4)
+
+agrees_down : (plan : Plan) (text : List ℕ) (m n : ℕ) → m ≤ n → AgreesFor plan text n → AgreesFor plan text m
+agrees_down plan text m n le h =
+    let made = ticks_lines plan 0 h.0 in
+    (
+      h.0, h.1, h.2,
+      sym (take-take m n made le) ∙ ap (λ (l : List (List ℕ)). take m l) h.3 ∙ take-take m n (lines_of text) le,
+    )
+
+same_down : (one other : List (List ℕ)) (m n : ℕ) → m ≤ n → take n one ≡ take n other → take m one ≡ take m other
+same_down one other m n le is = sym (take-take m n one le) ∙ ap (λ (l : List (List ℕ)). take m l) is ∙ take-take m n other le
+
+-- ---- one refusal
+
+-- a text is refused at one line, for one cause
+one_refusal : (plan : Plan) (text : List ℕ) (line why line' why' : ℕ) → IsRefusal plan text line why → IsRefusal plan text line' why'
+    → (line ≡ line') × (why ≡ why')
+one_refusal plan text line why line' why' one other =
+    let known = known_of plan in
+    let lines = lines_of text in
+    let from = one.0 in
+    let from' = other.0 in
+    elim one.1 [
+      | inl here ↦
+          elim other.1 [
+            | inl there ↦ (
+                let at = one_first (λ n. AreFormed known 0 (take n lines)) (formed_down known 0 lines) (line - 1) (line' - 1)
+                here.1.before here.1.here there.1.before there.1.here in
+                (omega (arith, at, from, from'), here.0 ∙ sym there.0))
+            | inr there ↦ absurd (here.1.here (all_formed known 0 lines (suc (line - 1)) there.1))
+          ]
+      | inr here ↦
+          elim other.1 [
+            | inl there ↦ absurd (there.1.here (all_formed known 0 lines (suc (line' - 1)) here.1))
+            | inr there ↦ (
+                let at = one_first (AgreesFor plan text) (agrees_down plan text) (line - 1) (line' - 1)
+                here.2.before here.2.here there.2.before there.2.here in
+                (omega (arith, at, from, from'), here.0 ∙ sym there.0))
+          ]
+    ]
+
+no_at : (line why line' why' : ℕ) → line ≡ line' → why ≡ why' → AuditNo line why ≡ AuditNo line' why'
+no_at line why line' why' same_line same_why = ap (λ (l : ℕ). AuditNo l why) same_line ∙ ap (λ (w : ℕ). AuditNo line' w) same_why
+
+-- ---- one ending
+
+module _ (plan : Plan)
+    (one_journal : (text : List ℕ) (ticks others : List Tick) (end last : WorldState) → IsJournalOf plan text ticks end → IsJournalOf plan text others last → ticks ≡ others)
+    (one_end : (text : List ℕ) (ticks others : List Tick) (end last : WorldState) → IsJournalOf plan text ticks end → IsJournalOf plan text others last → end ≡ last)
+    (one_flow : (ticks : List Tick) (world : WorldState) (changes others : List PortChange) (flows last : List PortFlow)
+      → IsRun AreLegalTicks plan ticks world changes flows → IsRun AreLegalTicks plan ticks world others last → flows ≡ last)
+    (parts : AuditParts) where
+  one_report : (line why line' why' : ℕ) → IsReportRefused plan parts line why → IsReportRefused plan parts line' why' → AuditNo line why ≡ AuditNo line' why'
+  one_report line why line' why' one other =
+      let text_is = same_run plan one_journal one_end one_flow parts one.ticks other.ticks one.world other.world one.flows other.flows one.run other.run in
+      let given = lines_of parts.report in
+      let wanted = lines_of (report_text plan other.world other.ticks other.flows) in
+      let moved = subst (λ (t : List ℕ). IsFirstDifferent parts.report t one.count) text_is one.differs in
+      let at = one_first (λ n. take n given ≡ take n wanted) (same_down given wanted) one.count other.count
+      moved.before moved.here other.differs.before other.differs.here in
+      no_at line why line' why' (one.line_is ∙ ap suc at ∙ sym other.line_is) (one.why_is ∙ sym other.why_is)
+
+  one_no : (line why line' why' : ℕ) → IsAudited plan parts (AuditNo line why) → IsAudited plan parts (AuditNo line' why') → AuditNo line why ≡ AuditNo line' why'
+  one_no line why line' why' one other =
+      elim one.0 [
+        | inl here ↦
+            elim other.0 [
+              | inl there ↦ (
+                  let same = one_refusal plan parts.journal here.number why there.number why' here.refused there.refused in
+                  no_at line why line' why' (here.line_is ∙ ap (λ (n : ℕ). parts.marked + n) same.0 ∙ sym there.line_is) same.1)
+              | inr there ↦ absurd (here.none there.ticks there.world (run_of_journal plan parts.journal there.ticks there.world there.flows there.run))
+            ]
+        | inr here ↦
+            elim other.0 [
+              | inl there ↦ absurd (there.none here.ticks here.world (run_of_journal plan parts.journal here.ticks here.world here.flows here.run))
+              | inr there ↦ one_report line why line' why' here there
+            ]
+      ]
+
+  pub one_ending : (one other : Cause) → IsAudited plan parts one → IsAudited plan parts other → one ≡ other
+  one_ending Done Done one other = refl
+  one_ending Done (AuditNo line why) one other = absurd (other.1 one)
+  one_ending (AuditNo line why) Done one other = absurd (one.1 other)
+  one_ending (AuditNo line why) (AuditNo line' why') one other = one_no line why line' why' one other
+  one_ending Done BadWords one other = absurd other
+  one_ending Done ReadFault one other = absurd other
+  one_ending Done TooLong one other = absurd other
+  one_ending Done NotToml one other = absurd other
+  one_ending Done (BadScenario rule entry) one other = absurd other
+  one_ending Done (WriteFault written) one other = absurd other
+  one_ending Done NoMemory one other = absurd other
+  one_ending (AuditNo line why) BadWords one other = absurd other
+  one_ending (AuditNo line why) ReadFault one other = absurd other
+  one_ending (AuditNo line why) TooLong one other = absurd other
+  one_ending (AuditNo line why) NotToml one other = absurd other
+  one_ending (AuditNo line why) (BadScenario rule entry) one other = absurd other
+  one_ending (AuditNo line why) (WriteFault written) one other = absurd other
+  one_ending (AuditNo line why) NoMemory one other = absurd other
+  one_ending BadWords other one is = absurd one
+  one_ending ReadFault other one is = absurd one
+  one_ending TooLong other one is = absurd one
+  one_ending NotToml other one is = absurd one
+  one_ending (BadScenario rule entry) other one is = absurd one
+  one_ending (WriteFault written) other one is = absurd one
+  one_ending NoMemory other one is = absurd one
