@@ -1,22 +1,11 @@
 -- One box of a node changes: the others stay, and all are short.
-use Rattle.std.proofs.Common.{◌≡◌, ◌≤◌, sym, Bool, ℕ, zero, suc, ◌<◌, ◌++◌, List, [], ◌∷◌, length, map, refl, ap, subst, ◌∙◌, arith}
+use Rattle.std.proofs.Common.{◌≡◌, sym, ℕ, zero, suc, ◌<◌, ◌++◌, List, [], ◌∷◌, length, map, refl, ap, subst, ◌∙◌, arith}
 use Rattle.std.specs.Prelude.{slice_set, slice_index_or}
 use Rattle.std.specs.List.{AllByRecursion, insert}
 use Rattle.mrp_participant.specs.Link.{with_repeat}
-use Rattle.std.proofs.lemmas.List.{length-map}
-use Rattle.std.proofs.Math.ListN.{length-set}
-use Rattle.srp_base.specs.declared.numbers.Cs.{Cs}
-use Rattle.srp_base.specs.declared.numbers.BridgeId.{BridgeId}
-use Rattle.srp_base.specs.declared.ports.PortSetup.{PortSetup}
-use Rattle.tree_topology.specs.declared.graph.NodeKind.{NodeKind}
-use Rattle.mrp_participant.specs.State.{new_state}
-use Rattle.mvrp.specs.Side.{Vlans, IsKept, new_vlans}
-use Rattle.msrp.specs.declared.domain.DomainSet.{DomainSet}
-use Rattle.msrp.specs.Side.{Streams, IsKept as IsKeptStreams, new_port, new_streams}
 use Rattle.node_core.specs.declared.types.Wire.{Wire}
-use Rattle.node_core.specs.Wires.{IsShort, AreShort, without, with_wire}
-use Rattle.node_core.specs.State.{NodeState, box_at}
-use Rattle.node_core.specs.Links.{IsKeptNode}
+use Rattle.node_core.specs.Wires.{without, with_wire}
+use Rattle.node_core.specs.State.{box_at}
 
 -- what stands at a place is set there twice, or is set to what it is
 pub set_set : {X : Type 0} (xs : List X) (i : ℕ) (x y : X) → slice_set (slice_set xs i x) i y ≡ slice_set xs i y
@@ -75,12 +64,6 @@ pub each_new : {X : Type 0} (P : Wire → Type 0) (xs : List X) → AllByRecursi
 each_new P [] = tt
 each_new P (x ∷ xs) = (tt, each_new P xs)
 
-pub short_repeated : (i : ℕ) (xs : List Wire) → AreShort xs → AreShort (with_repeat i xs)
-short_repeated i xs h = each_repeated IsShort i xs h
-
-pub short_with : (i : ℕ) (x : Wire) (xs : List Wire) → IsShort x → AreShort xs → AreShort (with_wire i x xs)
-short_with i x xs hx h = each_with IsShort i x xs hx h
-
 -- a copy right before its original is one right behind it
 pub insert_repeated : (xs : List Wire) (i : ℕ) (d : Wire) → i < length xs → insert xs i (slice_index_or xs i d) ≡ with_repeat i xs
 insert_repeated [] i d h = absurd (omega arith)
@@ -90,31 +73,6 @@ insert_repeated (x ∷ xs) (suc i) d h = let lt : i < length xs = omega arith in
 -- a copy of the PDU at a place is put in there
 pub repeated_of : (xs : List Wire) (i : ℕ) (x d : Wire) → i < length xs → x ≡ slice_index_or xs i d → insert xs i x ≡ with_repeat i xs
 repeated_of xs i x d h e = ap (λ y. insert xs i y) e ∙ insert_repeated xs i d h
-
--- a new node keeps what every node keeps
-pub new_boxes_kept : (ports : List PortSetup) (kind : NodeKind) (bridge : BridgeId) (leave_time : Cs) (periodic : Bool) (domain : DomainSet)
-    (v : Vlans) (t : Streams) (ins outs : List (List Wire))
-    → length ports ≤ 255 → IsKept v → v ≡ new_vlans leave_time periodic ports
-    → IsKeptStreams t → t ≡ new_streams bridge leave_time periodic domain ports
-    → ins ≡ map (λ _. []) ports → outs ≡ map (λ _. []) ports
-    → IsKeptNode (record { kind = kind; bridge = bridge; clock = record { 0 = 0 }; vlans = v; streams = t; inboxes = ins; outboxes = outs })
-new_boxes_kept ports kind bridge leave_time periodic domain v t ins outs few kept is kept_streams streams_is in_is out_is =
-    let none : PortSetup → List Wire = λ p. [] in
-    let parts : length v.parts ≡ length ports = ap (λ (w : Vlans). length w.parts) is ∙ length-map ports (λ (p : PortSetup). new_state p.period leave_time periodic) in
-    let links : length t.ports ≡ length ports = ap (λ (u : Streams). length u.ports) streams_is ∙ length-map ports (new_port bridge leave_time periodic domain) in
-    let boxes : length (map none ports) ≡ length ports = length-map ports none in
-    record {
-      vlans = kept;
-      streams = kept_streams;
-      same_ports = links ∙ sym parts;
-      inboxes = ap length in_is ∙ (boxes ∙ sym parts);
-      outboxes = ap length out_is ∙ (boxes ∙ sym parts);
-      few = omega arith;
-      short_in = rw in_is (each_new IsShort ports);
-      short_out = rw out_is (each_new IsShort ports);
-      clock = omega arith;
-      moment = ap (λ (u : Streams). u.moment) streams_is;
-    }
 
 -- a box that is read is the one at its place
 pub box_read : (boxes : List (List Wire)) (i : ℕ) (b : List Wire) → i < length boxes → b ≡ slice_index_or boxes i b → b ≡ box_at i boxes
@@ -127,19 +85,3 @@ pub each_read : (P : Wire → Type 0) (ws : List Wire) (i : ℕ) (w : Wire) → 
 each_read P [] i w below is hs = absurd (omega arith)
 each_read P (x ∷ ws) zero w below is hs = subst P (sym is) hs.0
 each_read P (x ∷ ws) (suc i) w below is hs = each_read P ws i w (omega arith) is hs.1
-
--- a node with other short PDUs in an inbox keeps what it kept
-pub kept_inbox : (s : NodeState) (at : ℕ) (wires : List Wire) → IsKeptNode s → AreShort wires → IsKeptNode (record s { inboxes = slice_set s.inboxes at wires })
-kept_inbox s at wires kept short =
-    record {
-      vlans = kept.vlans;
-      streams = kept.streams;
-      same_ports = kept.same_ports;
-      inboxes = length-set s.inboxes at wires ∙ kept.inboxes;
-      outboxes = kept.outboxes;
-      few = kept.few;
-      short_in = each_set AreShort s.inboxes at wires short kept.short_in;
-      short_out = kept.short_out;
-      clock = kept.clock;
-      moment = kept.moment;
-    }

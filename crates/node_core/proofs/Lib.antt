@@ -1,7 +1,7 @@
-pub mod Sizes
-pub mod StreamSizes
+mod Stays
 pub mod Boxes
 pub mod Sending
 mod Registered
 pub mod ProperSteps
 pub mod Rest
+mod Steps

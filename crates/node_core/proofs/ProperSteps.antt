@@ -13,6 +13,7 @@ use Rattle.srp_base.specs.declared.numbers.BridgeId.{BridgeId}
 use Rattle.srp_base.specs.declared.ports.PortSetup.{PortSetup}
 use Rattle.msrp_talker.specs.declared.port_config.PortConfig.{PortConfig}
 use Rattle.tree_topology.specs.declared.graph.NodeKind.{NodeKind}
+use Rattle.tree_topology.specs.declared.graph.NodeKind.TheVariants.{Station, Bridge}
 use Rattle.mvrp_codec.specs.declared.pdu.MvrpPdu.{MvrpPdu}
 use Rattle.mvrp_codec.specs.Meaning.{mvrp_reading}
 use Rattle.mvrp_codec.specs.Writing.{AreVids, mvrp_spelling}
@@ -45,8 +46,7 @@ use Rattle.node_core.specs.State.{NodeState, box_at, new_node}
 use Rattle.node_core.specs.Step.{CanStep, node_step, port_step, after_work, worked_app, worked_mvrp, worked_msrp, sent_octets, said_mvrp, said_msrp, with_said, after_app}
 use Rattle.node_core.specs.Links.{with_outbox, with_inbox, with_carried, lost_at, repeated_at, forged_at, spoilt_at}
 use Rattle.node_core.specs.Proper.{IsProperNode, IsProperWire, AreProperWires, IsInRange}
-use Rattle.node_core.proofs.Sizes.{of_received, of_due, of_left, of_leave_all, of_periodic, of_sent, of_spoilt, of_settled, of_requested}
-use Rattle.node_core.proofs.StreamSizes as sizes
+use Rattle.node_core.proofs.Stays.{StaysVlans, StaysStreams, vlans_received, vlans_due, vlans_left, vlans_leave_all, vlans_periodic, vlans_sent, vlans_spoilt, vlans_settled, count_requested, streams_received, streams_due, streams_left, streams_leave_all, streams_periodic, streams_sent, streams_spoilt, streams_settled, moment_requested}
 use Rattle.node_core.proofs.Boxes.{each_set, each_box, each_append, each_without, each_repeated, each_with, each_new}
 
 -- the laws of MVRP at a node, as its public laws say them
@@ -89,9 +89,10 @@ proper-side s h = record { kept = h.kept.vlans; keys = h.vids }
 pub proper-streams : (s : NodeState) → IsProperNode s → IsProperSrp s.streams
 proper-streams s h = record { kept = h.kept.streams; ranges = h.ranges }
 
--- MVRP has become another with as many ports
-pub with-vlans : (s : NodeState) (v : Vlans) → IsProper v → length v.parts ≡ length s.vlans.parts → IsProperNode s → IsProperNode (record s { vlans = v })
-with-vlans s v proper same h =
+-- MVRP has become another with as many ports, of which a bridge asks nothing
+with-vlans : (s : NodeState) (v : Vlans) → IsProper v → length v.parts ≡ length s.vlans.parts → (s.kind ≡ Bridge → v.own ≡ [])
+    → IsProperNode s → IsProperNode (record s { vlans = v })
+with-vlans s v proper same own h =
     record {
       kept = record {
         vlans = proper.kept;
@@ -110,7 +111,12 @@ with-vlans s v proper same h =
       named = h.named;
       readable_in = h.readable_in;
       readable_out = h.readable_out;
+      idle = λ k. record { own = own k; talks = (h.idle k).talks; listens = (h.idle k).listens };
     }
+
+-- MVRP has made a call of a port
+vlans-node : (s : NodeState) (v : Vlans) → StaysVlans s.vlans v → (IsProper s.vlans → IsProper v) → IsProperNode s → IsProperNode (record s { vlans = v })
+vlans-node s v stays proper h = with-vlans s v (proper (proper-side s h)) stays.count (λ k. stays.own ∙ (h.idle k).own) h
 
 -- ports that are set up alike have the same BridgeIDs
 named-alike : (b : BridgeId) (xs ys : List PortState) → map setup_of xs ≡ map setup_of ys
@@ -123,10 +129,16 @@ named-alike b (x ∷ xs) (y ∷ ys) e h =
     let rest : map setup_of xs ≡ map setup_of ys = cc in
     (ap (λ (c : PortConfig). c.bridge) first ∙ h.0, named-alike b xs ys rest h.1)
 
--- MSRP has become another at a moment, and the clock is there
+-- MSRP asks nothing
+record AsksNone (v : Streams) : Type 0 where
+  talks : v.talks ≡ []
+  listens : v.listens ≡ []
+
+-- MSRP has become another at a moment, of which a bridge asks nothing, and the clock is there
 record IsNewMoment (s : NodeState) (v : Streams) (clock : Cs) : Type 0 where
   moment : v.moment ≡ clock.0
   end : clock.0 ≤ 2 ^ 61
+  none : s.kind ≡ Bridge → AsksNone v
 
 at-moment : (count : (a b : Streams) → setups_of a ≡ setups_of b → length a.ports ≡ length b.ports) (s : NodeState) (v : Streams) (clock : Cs)
     → IsNewMoment s v clock → Keeps s.streams v → IsProperNode s → IsProperNode (record s { streams = v; clock = clock })
@@ -149,11 +161,20 @@ at-moment count s v clock new kept h =
       named = named-alike s.bridge v.ports s.streams.ports kept.setups h.named;
       readable_in = h.readable_in;
       readable_out = h.readable_out;
+      idle = λ k. record { own = (h.idle k).own; talks = (new.none k).talks; listens = (new.none k).listens };
     }
 
-pub with-streams : (count : (a b : Streams) → setups_of a ≡ setups_of b → length a.ports ≡ length b.ports) (s : NodeState) (v : Streams)
-    → v.moment ≡ s.streams.moment → Keeps s.streams v → IsProperNode s → IsProperNode (record s { streams = v })
-with-streams count s v same kept h = at-moment count s v s.clock (record { moment = same ∙ h.kept.moment; end = h.kept.clock }) kept h
+-- MSRP has made a call at the moment where it is
+with-streams : (count : (a b : Streams) → setups_of a ≡ setups_of b → length a.ports ≡ length b.ports) (s : NodeState) (v : Streams)
+    → v.moment ≡ s.streams.moment → (s.kind ≡ Bridge → AsksNone v) → Keeps s.streams v → IsProperNode s → IsProperNode (record s { streams = v })
+with-streams count s v same none kept h = at-moment count s v s.clock (record { moment = same ∙ h.kept.moment; end = h.kept.clock; none = none }) kept h
+
+-- it has made a call of a port
+streams-node : (count : (a b : Streams) → setups_of a ≡ setups_of b → length a.ports ≡ length b.ports) (s : NodeState) (v : Streams)
+    → StaysStreams s.streams v → (IsProperSrp s.streams → Keeps s.streams v) → IsProperNode s → IsProperNode (record s { streams = v })
+streams-node count s v stays kept h =
+    with-streams count s v stays.moment (λ k. record { talks = stays.talks ∙ (h.idle k).talks; listens = stays.listens ∙ (h.idle k).listens })
+    (kept (proper-streams s h)) h
 
 -- proper and short PDUs are in a box
 pub with-inbox : (s : NodeState) (at : ℕ) (wires : List Wire) → AreShort wires → AreProperWires wires → IsProperNode s → IsProperNode (with_inbox at wires s)
@@ -176,6 +197,7 @@ with-inbox s at wires short proper h =
       named = h.named;
       readable_in = each_set AreProperWires s.inboxes at wires proper h.readable_in;
       readable_out = h.readable_out;
+      idle = λ k. record { own = (h.idle k).own; talks = (h.idle k).talks; listens = (h.idle k).listens };
     }
 
 pub with-outbox : (s : NodeState) (at : ℕ) (wires : List Wire) → AreShort wires → AreProperWires wires → IsProperNode s → IsProperNode (with_outbox at wires s)
@@ -198,6 +220,7 @@ with-outbox s at wires short proper h =
       named = h.named;
       readable_in = h.readable_in;
       readable_out = each_set AreProperWires s.outboxes at wires proper h.readable_out;
+      idle = λ k. record { own = (h.idle k).own; talks = (h.idle k).talks; listens = (h.idle k).listens };
     }
 
 new-named : (bridge : BridgeId) (leave_time : Cs) (periodic : Bool) (domain : DomainSet) (ports : List PortSetup) → AllByRecursion (λ (p : PortState). p.config.bridge ≡ bridge) (map (new_port bridge leave_time periodic domain) ports)
@@ -229,6 +252,7 @@ proper-new kind bridge leave_time periodic domain ports side streams few =
       named = new-named bridge leave_time periodic domain ports;
       readable_in = each_new IsProperWire ports;
       readable_out = each_new IsProperWire ports;
+      idle = λ k. record { own = refl; talks = refl; listens = refl };
     }
 
 -- what holds of each holds of the one at a place
@@ -242,20 +266,24 @@ record IsFitToSend (app : App) (octets : List ℕ) : Type 0 where
   short : length octets ≤ 1500
   proper : IsProperWire (record { app = app; octets = octets })
 
+-- a station is no bridge
+no-bridge : (kind : NodeKind) → kind ≡ Station → kind ≡ Bridge → ⊥
+no-bridge kind station bridge = cc
+
 module _ (laws : SideLaws) (streams : StreamLaws) where
   -- ---- Work
 
   worked-vlans : (at : ℕ) (octets : List ℕ) (r : Result MvrpPdu ℕ) (s : NodeState) → mvrp_reading octets ≡ r → IsProperNode s
       → IsProperNode (record s { vlans = (worked_mvrp s.clock at r s.vlans).0 })
   worked-vlans at octets (Ok pdu) s is h =
-      with-vlans s (received_vlans s.clock at pdu s.vlans) (laws.receive s.clock at pdu s.vlans (laws.reads octets pdu is) (proper-side s h)) (of_received s.clock at pdu s.vlans) h
+      vlans-node s (received_vlans s.clock at pdu s.vlans) (vlans_received s.clock at pdu s.vlans) (laws.receive s.clock at pdu s.vlans (laws.reads octets pdu is)) h
   worked-vlans at octets (Err place) s is h = h
 
   worked-streams : (at : ℕ) (octets : List ℕ) (r : Result MsrpPdu ℕ) (s : NodeState) → msrp_reading octets ≡ r → IsProperWire (record { app = Msrp; octets = octets }) → IsProperNode s
       → IsProperNode (record s { streams = (worked_msrp s.clock at r s.streams).0 })
   worked-streams at octets (Ok pdu) s is fits h =
-      with-streams streams.count s (received_streams s.clock at pdu s.streams) (sizes.moment_received s.clock at pdu s.streams)
-      (streams.receive s.clock at pdu s.streams (streams.reads octets pdu is) (fits pdu is) (proper-streams s h)) h
+      streams-node streams.count s (received_streams s.clock at pdu s.streams) (streams_received s.clock at pdu s.streams)
+      (streams.receive s.clock at pdu s.streams (streams.reads octets pdu is) (fits pdu is)) h
   worked-streams at octets (Err place) s is fits h = h
 
   worked-wire : (at : ℕ) (app : App) (octets : List ℕ) (s : NodeState) → IsProperWire (record { app = app; octets = octets }) → IsProperNode s → IsProperNode (worked_app app at octets s).0
@@ -323,55 +351,57 @@ module _ (laws : SideLaws) (streams : StreamLaws) where
   sent-vlans at None s is h = h
   sent-vlans at (Some octets) s is h =
       with-said Mvrp at octets (after_app Mvrp at s) (fit-vlans at s octets h is)
-      (with-vlans s (sent_vlans s.clock at s.vlans) (laws.send s.clock at s.vlans (proper-side s h)) (of_sent s.clock at s.vlans) h)
+      (vlans-node s (sent_vlans s.clock at s.vlans) (vlans_sent s.clock at s.vlans) (laws.send s.clock at s.vlans) h)
 
   sent-streams : (at : ℕ) (o : Option (List ℕ)) (s : NodeState) → said_msrp s.clock at s.streams ≡ o → IsProperNode s → IsProperNode (sent_octets Msrp at o s).0
   sent-streams at None s is h = h
   sent-streams at (Some octets) s is h =
       with-said Msrp at octets (after_app Msrp at s) (fit-streams at s octets h is)
-      (with-streams streams.count s (sent_streams s.clock at s.streams) (sizes.moment_sent s.clock at s.streams) (streams.send s.clock at s.streams (proper-streams s h)) h)
+      (streams-node streams.count s (sent_streams s.clock at s.streams) (streams_sent s.clock at s.streams) (streams.send s.clock at s.streams) h)
 
   -- ---- all steps
 
-  -- MSRP has done its part of a step with the same moment
-  streams-node : (s : NodeState) (v : Streams) → v.moment ≡ s.streams.moment → (IsProperSrp s.streams → Keeps s.streams v) → IsProperNode s → IsProperNode (record s { streams = v })
-  streams-node s v same kept h = with-streams streams.count s v same (kept (proper-streams s h)) h
-
   step-node : (step : PortStep) (at : ℕ) (s : NodeState) → IsProperNode s → IsProperNode (port_step step at s).0
   step-node Work at s h = worked-node at (box_at at s.inboxes) s (each_box IsShort s.inboxes at h.kept.short_in) (each_box IsProperWire s.inboxes at h.readable_in) h
-  step-node (LeaveNow (Vlan vid)) at s h = with-vlans s (left_vlans at vid s.vlans) (laws.leave_now at vid s.vlans (proper-side s h)) (of_left at vid s.vlans) h
-  step-node (LeaveNow (Srp key)) at s h = streams-node s (left_streams at key s.streams) (sizes.moment_left at key s.streams) (streams.leave_now at key s.streams) h
-  step-node (LeaveAllNow Mvrp) at s h = with-vlans s (leave_all_vlans s.clock at s.vlans) (laws.leaveall_now s.clock at s.vlans (proper-side s h)) (of_leave_all s.clock at s.vlans) h
-  step-node (LeaveAllNow Msrp) at s h = streams-node s (leave_all_streams s.clock at s.streams) (sizes.moment_leave_all s.clock at s.streams) (streams.leaveall_now s.clock at s.streams) h
-  step-node (PeriodicNow Mvrp) at s h = with-vlans s (periodic_vlans at s.vlans) (laws.periodic_now at s.vlans (proper-side s h)) (of_periodic at s.vlans) h
-  step-node (PeriodicNow Msrp) at s h = streams-node s (periodic_streams at s.streams) (sizes.moment_periodic at s.streams) (streams.periodic_now at s.streams) h
+  step-node (LeaveNow (Vlan vid)) at s h = vlans-node s (left_vlans at vid s.vlans) (vlans_left at vid s.vlans) (laws.leave_now at vid s.vlans) h
+  step-node (LeaveNow (Srp key)) at s h = streams-node streams.count s (left_streams at key s.streams) (streams_left at key s.streams) (streams.leave_now at key s.streams) h
+  step-node (LeaveAllNow Mvrp) at s h = vlans-node s (leave_all_vlans s.clock at s.vlans) (vlans_leave_all s.clock at s.vlans) (laws.leaveall_now s.clock at s.vlans) h
+  step-node (LeaveAllNow Msrp) at s h =
+      streams-node streams.count s (leave_all_streams s.clock at s.streams) (streams_leave_all s.clock at s.streams) (streams.leaveall_now s.clock at s.streams) h
+  step-node (PeriodicNow Mvrp) at s h = vlans-node s (periodic_vlans at s.vlans) (vlans_periodic at s.vlans) (laws.periodic_now at s.vlans) h
+  step-node (PeriodicNow Msrp) at s h = streams-node streams.count s (periodic_streams at s.streams) (streams_periodic at s.streams) (streams.periodic_now at s.streams) h
   step-node Due at s h =
-      streams-node (record s { vlans = due_vlans s.clock at s.vlans }) (due_streams s.clock at s.streams) (sizes.moment_due s.clock at s.streams) (streams.due s.clock at s.streams)
-      (with-vlans s (due_vlans s.clock at s.vlans) (laws.due s.clock at s.vlans (proper-side s h)) (of_due s.clock at s.vlans) h)
+      streams-node streams.count (record s { vlans = due_vlans s.clock at s.vlans }) (due_streams s.clock at s.streams) (streams_due s.clock at s.streams) (streams.due s.clock at s.streams)
+      (vlans-node s (due_vlans s.clock at s.vlans) (vlans_due s.clock at s.vlans) (laws.due s.clock at s.vlans) h)
   step-node Settle at s h =
-      streams-node (record s { vlans = settled_vlans at s.vlans }) (settled_streams at s.streams) (sizes.moment_settled at s.streams) (streams.settle at s.streams)
-      (with-vlans s (settled_vlans at s.vlans) (laws.settle at s.vlans (proper-side s h)) (of_settled at s.vlans) h)
+      streams-node streams.count (record s { vlans = settled_vlans at s.vlans }) (settled_streams at s.streams) (streams_settled at s.streams) (streams.settle at s.streams)
+      (vlans-node s (settled_vlans at s.vlans) (vlans_settled at s.vlans) (laws.settle at s.vlans) h)
   step-node (Send Mvrp) at s h = sent-vlans at (said_mvrp s.clock at s.vlans) s refl h
   step-node (Send Msrp) at s h = sent-streams at (said_msrp s.clock at s.streams) s refl h
 
-  asked-streams : (request : SrpRequest) (s : NodeState) → IsRequestInRange request → IsProperNode s → IsProperNode (record s { streams = requested_streams request s.streams })
-  asked-streams request s fits h = streams-node s (requested_streams request s.streams) (sizes.moment_requested request s.streams) (streams.request request s.streams fits) h
+  -- a station's application asks for something
+  asked-streams : (request : SrpRequest) (s : NodeState) → s.kind ≡ Station → IsRequestInRange request → IsProperNode s → IsProperNode (record s { streams = requested_streams request s.streams })
+  asked-streams request s station fits h =
+      with-streams streams.count s (requested_streams request s.streams) (moment_requested request s.streams) (λ k. absurd (no-bridge s.kind station k))
+      (streams.request request s.streams fits (proper-streams s h)) h
 
-  asked-vlans : (vid : ℕ) (declared : Bool) (s : NodeState) → IsVid vid → IsProperNode s → IsProperNode (record s { vlans = requested_vlans vid declared s.vlans })
-  asked-vlans vid declared s fits h = with-vlans s (requested_vlans vid declared s.vlans) (laws.request vid declared s.vlans fits (proper-side s h)) (of_requested vid declared s.vlans) h
+  asked-vlans : (vid : ℕ) (declared : Bool) (s : NodeState) → s.kind ≡ Station → IsVid vid → IsProperNode s → IsProperNode (record s { vlans = requested_vlans vid declared s.vlans })
+  asked-vlans vid declared s station fits h =
+      with-vlans s (requested_vlans vid declared s.vlans) (laws.request vid declared s.vlans fits (proper-side s h)) (count_requested vid declared s.vlans)
+      (λ k. absurd (no-bridge s.kind station k)) h
 
   pub proper-step : (event : NodeEvent) (s : NodeState) → CanStep event s → IsInRange event → IsProperNode s → IsProperNode (node_step event s).0
-  proper-step (Request (Declare vid)) s can fits h = asked-vlans vid true s fits h
-  proper-step (Request (Withdraw vid)) s can fits h = asked-vlans vid false s fits h
-  proper-step (Request (Talk talker)) s can fits h = asked-streams (asks.Talk talker) s fits h
-  proper-step (Request (Hush stream)) s can fits h = asked-streams (asks.Hush stream) s tt h
-  proper-step (Request (Listen stream)) s can fits h = asked-streams (asks.Listen stream) s tt h
-  proper-step (Request (Unlisten stream)) s can fits h = asked-streams (asks.Unlisten stream) s tt h
+  proper-step (Request (Declare vid)) s can fits h = asked-vlans vid true s can fits h
+  proper-step (Request (Withdraw vid)) s can fits h = asked-vlans vid false s can fits h
+  proper-step (Request (Talk talker)) s can fits h = asked-streams (asks.Talk talker) s can fits h
+  proper-step (Request (Hush stream)) s can fits h = asked-streams (asks.Hush stream) s can tt h
+  proper-step (Request (Listen stream)) s can fits h = asked-streams (asks.Listen stream) s can tt h
+  proper-step (Request (Unlisten stream)) s can fits h = asked-streams (asks.Unlisten stream) s can tt h
   proper-step (Port port step) s can fits h = step-node step (place_of port) s h
   proper-step Clock s can fits h =
       let moment = h.kept.moment in
       at-moment streams.count s (clocked_streams (s.clock.0 + 1) s.streams) (record { 0 = s.clock.0 + 1 })
-      (record { moment = refl; end = omega (arith, can) })
+      (record { moment = refl; end = omega (arith, can); none = λ k. record { talks = (h.idle k).talks; listens = (h.idle k).listens } })
       (streams.clock (s.clock.0 + 1) s.streams (omega (arith, moment)) (proper-streams s h)) h
 
 -- ---- the PDUs that wait
@@ -383,6 +413,9 @@ proper-carried at wires s short proper h =
     with-inbox s at (box ++ wires)
     (each_append IsShort box wires (each_box IsShort s.inboxes at h.kept.short_in) short)
     (each_append IsProperWire box wires (each_box IsProperWire s.inboxes at h.readable_in) proper) h
+
+pub proper-given : (at : ℕ) (wires : List Wire) (s : NodeState) → AreShort wires → AreProperWires wires → IsProperNode s → IsProperNode (with_outbox at wires s)
+proper-given at wires s short proper h = with-outbox s at wires short proper h
 
 pub proper-lost : (at index : ℕ) (s : NodeState) → IsProperNode s → IsProperNode (lost_at at index s)
 proper-lost at index s h =
@@ -409,5 +442,5 @@ pub proper-spoilt : ((at : ℕ) (side : Vlans) → IsProper side → IsProper (s
     → ((at : ℕ) (side : Streams) → IsProperSrp side → Keeps side (spoilt_streams at side))
     → ((a b : Streams) → setups_of a ≡ setups_of b → length a.ports ≡ length b.ports)
     → (app : App) (at : ℕ) (s : NodeState) → IsProperNode s → IsProperNode (spoilt_at app at s)
-proper-spoilt law streams count Mvrp at s h = with-vlans s (spoilt_vlans at s.vlans) (law at s.vlans (proper-side s h)) (of_spoilt at s.vlans) h
-proper-spoilt law streams count Msrp at s h = with-streams count s (spoilt_streams at s.streams) (sizes.moment_spoilt at s.streams) (streams at s.streams (proper-streams s h)) h
+proper-spoilt law streams count Mvrp at s h = vlans-node s (spoilt_vlans at s.vlans) (vlans_spoilt at s.vlans) (law at s.vlans) h
+proper-spoilt law streams count Msrp at s h = streams-node count s (spoilt_streams at s.streams) (streams_spoilt at s.streams) (streams at s.streams) h

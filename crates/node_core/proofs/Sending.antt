@@ -11,7 +11,8 @@ use Rattle.node_core.specs.declared.types.StepReply.{StepReply}
 use Rattle.node_core.specs.declared.types.StepReply.TheVariants.{Silent, Sent}
 use Rattle.node_core.specs.State.{NodeState, box_at}
 use Rattle.srp_base.specs.declared.memory.NoMemory.{NoMemory}
-use Rattle.node_core.specs.Step.{after_send, sent_octets, said_mvrp, said_msrp, with_wire, with_said, after_app, outcome_of_saying, HasOneSaid}
+use Rattle.node_core.specs.Calls.{outcome_of_saying, HasOneSaid}
+use Rattle.node_core.specs.Step.{after_send, sent_octets, said_mvrp, said_msrp, with_wire, with_said, after_app}
 use Rattle.node_core.proofs.Boxes.{set_same}
 
 -- the node that has these VLANs and streams and, at a place, this outbox

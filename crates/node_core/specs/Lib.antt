@@ -1,6 +1,7 @@
 pub mod Wires
 pub mod State
 pub mod Step
+pub mod Calls
 pub mod Leaving
 pub mod Links
 pub mod Proper

@@ -1,6 +1,6 @@
--- What every node keeps, of VIDs and of numbers that fit in their fields (IEEE Std 802.1Q-2018, 9.6, 35.2.2.8), and the
--- steps that name none but such.
-use Rattle.std.specs.Prelude.{◌≡◌, ℕ, List, Ok}
+-- What every node keeps: VIDs, numbers that fit in their fields (IEEE Std 802.1Q-2018, 9.6, 35.2.2.8), and a bridge that
+-- asks for nothing of its own; and the steps that name none but such.
+use Rattle.std.specs.Prelude.{◌≡◌, ℕ, List, [], Ok}
 use Rattle.std.specs.List.{AllByRecursion}
 use Rattle.srp_base.specs.declared.mrp.App.{App}
 use Rattle.srp_base.specs.declared.mrp.App.TheVariants.{Mvrp, Msrp}
@@ -11,6 +11,7 @@ use Rattle.msrp_codec.specs.Writing.{AreInRange}
 use Rattle.mvrp.specs.Vids.{IsVid, AreOfVids}
 use Rattle.msrp.specs.PortState.{PortState}
 use Rattle.msrp.specs.Proper.{AreOfRange, Setup, setups_of}
+use Rattle.tree_topology.specs.declared.graph.NodeKind.TheVariants.{Bridge}
 use Rattle.node_core.specs.declared.types.Wire.{Wire}
 use Rattle.node_core.specs.declared.types.AppRequest.{AppRequest}
 use Rattle.node_core.specs.declared.types.AppRequest.TheVariants.{Declare, Withdraw, Talk, Hush, Listen, Unlisten}
@@ -33,8 +34,18 @@ IsProperWire wire = SayWhatFits wire.app wire.octets
 abbrev pub AreProperWires : List Wire → Type 0
 AreProperWires wires = AllByRecursion IsProperWire wires
 
+-- an application that asks for nothing: it declares no VID, talks no stream and listens to none
+pub record AsksNothing (s : NodeState) : Type 0 where
+  pub own : s.vlans.own ≡ []
+  pub talks : s.streams.talks ≡ []
+  pub listens : s.streams.listens ≡ []
+
+-- a bridge has no application that asks for anything
+abbrev pub IsIdleBridge : NodeState → Type 0
+IsIdleBridge s = s.kind ≡ Bridge → AsksNothing s
+
 -- What a node keeps: each key of MVRP is a VID, what MSRP keeps fits in its fields, its ports have the node's BridgeID,
--- and so with the PDUs that wait.
+-- so it is with the PDUs that wait, and a bridge asks for nothing.
 pub record IsProperNode (s : NodeState) : Type 0 where
   pub kept : IsKeptNode s
   pub vids : AreOfVids s.vlans
@@ -42,6 +53,7 @@ pub record IsProperNode (s : NodeState) : Type 0 where
   pub named : AllByRecursion (λ (p : PortState). p.config.bridge ≡ s.bridge) s.streams.ports
   pub readable_in : AllByRecursion AreProperWires s.inboxes
   pub readable_out : AllByRecursion AreProperWires s.outboxes
+  pub idle : IsIdleBridge s
 
 -- what the application asks for is of a VID, or of a Talker that fits in its fields
 abbrev pub AsksInRange : AppRequest → Type 0

@@ -32,7 +32,6 @@ use Rattle.node_core.specs.declared.types.NodeEvent.{NodeEvent}
 use Rattle.node_core.specs.declared.types.NodeEvent.TheVariants.{Request, Port, Clock}
 use Rattle.node_core.specs.declared.types.StepReply.{StepReply}
 use Rattle.node_core.specs.declared.types.StepReply.TheVariants.{Nothing, Discarded, Received, Fired, Settled, Silent, Sent, Taken}
-use Rattle.srp_base.specs.declared.memory.NoMemory.{NoMemory}
 use Rattle.tree_topology.specs.declared.graph.NodeKind.TheVariants.{Station}
 use Rattle.node_core.specs.State.{NodeState, ports_of, box_at, of_part, of_port}
 
@@ -234,32 +233,3 @@ abbrev pub CanStep : NodeEvent → NodeState → Type 0
 CanStep (Request request) s = s.kind ≡ Station
 CanStep (Port port step) s = IsLinkPort port (ports_of s)
 CanStep Clock s = s.clock.0 < 2 ^ 61
-
--- ---- what the applications at a port become
-
--- one of both applications has taken a PDU, and the other one is as it was
-abbrev pub HasOneTaken : App → Cs → ℕ → List ℕ → Vlans → Streams → StepReply → Vlans → Streams → Type 0
-HasOneTaken Mvrp now at octets v t reply v' t' =
-    (worked_mvrp now at (mvrp_reading octets) v ≡ (v', reply)) × (t' ≡ t)
-HasOneTaken Msrp now at octets v t reply v' t' =
-    (worked_msrp now at (msrp_reading octets) t ≡ (t', reply)) × (v' ≡ v)
-
--- an application and its outbox once these octets are said, or nothing, and what the port answers
-abbrev pub outcome_of_saying : {S : Type 0} → App → Option (List ℕ) → S → S → List Wire → S × List Wire × StepReply
-outcome_of_saying app None before after outbox = (before, outbox, Silent)
-outcome_of_saying app (Some octets) before after outbox =
-    (after, with_wire app octets outbox, Sent (count_of (length octets)))
-
--- what an application has to say is said into its outbox; after want of memory both are as they were
-abbrev pub IsSaying : {S : Type 0} → App → Option (List ℕ) → S → S → List Wire → Result StepReply NoMemory → S → List Wire → Type 0
-IsSaying app octets before after outbox (Ok reply) side outbox' =
-    outcome_of_saying app octets before after outbox ≡ (side, outbox', reply)
-IsSaying app octets before after outbox (Err e) side outbox' =
-    (side ≡ before) × (outbox' ≡ outbox)
-
--- one of both applications has said what it has to say so, and the other one is as it was
-abbrev pub HasOneSaid : App → Cs → ℕ → Vlans → Streams → List Wire → Result StepReply NoMemory → Vlans → Streams → List Wire → Type 0
-HasOneSaid Mvrp now at v t outbox result v' t' outbox' =
-    IsSaying Mvrp (said_mvrp now at v) v (sent_vlans now at v) outbox result v' outbox' × (t' ≡ t)
-HasOneSaid Msrp now at v t outbox result v' t' outbox' =
-    IsSaying Msrp (said_msrp now at t) t (sent_streams now at t) outbox result t' outbox' × (v' ≡ v)

@@ -35,7 +35,8 @@ pub fn a_new_node_is_proper()
     of_streams::a_new_side_is_proper();
 }
 
-/// Each step that may be made keeps it, where what a request asks for fits.
+/// Each step that may be made keeps it, where what a request asks for fits: of a bridge that it asks for nothing, since a
+/// request is made at a station.
 pub fn every_step_keeps_a_node_proper()
     ensures { (event : NodeEvent) (s : NodeState)
         → CanStep event s → IsInRange event → IsProperNode s → IsProperNode (node_step event s).0 }
@@ -52,10 +53,12 @@ pub fn every_step_keeps_a_node_proper()
     msrp_codec::laws::what_is_read_belongs_to_its_keys();
 }
 
-/// So does what happens to the PDUs that wait: an outbox is taken out, short PDUs that say what fits come in, one is lost,
-/// there twice or forged, and a participant is spoilt.
+/// So does what happens to the PDUs that wait: an outbox is taken out or becomes short PDUs that say what fits, such PDUs come
+/// in, one is lost, there twice or forged, and a participant is spoilt.
 pub fn links_keep_a_node_proper()
     ensures taken { (at : ℕ) (s : NodeState) → IsProperNode s → IsProperNode (with_outbox at [] s) }
+    ensures given { (at : ℕ) (wires : List Wire) (s : NodeState) → AreShort wires
+        → AreProperWires wires → IsProperNode s → IsProperNode (with_outbox at wires s) }
     ensures carried { (at : ℕ) (wires : List Wire) (s : NodeState) → AreShort wires
         → AreProperWires wires → IsProperNode s → IsProperNode (with_carried at wires s) }
     ensures lost { (at index : ℕ) (s : NodeState) → IsProperNode s

@@ -23,8 +23,10 @@
 //! link. What happens to the PDUs that wait is `specs/Links.antt`. A step of a link port touches what is kept at that
 //! port, and the attributes that await at the others.
 //!
-//! What every node keeps, by its type, is `IsKeptNode` (`specs/Links.antt`): what each application keeps, as many ports
-//! in both, short PDUs, and one moment. `specs/Proper.antt` adds that VIDs are VIDs and all numbers fit in their fields.
+//! What every node keeps, by its type, is `IsProperNode` (`specs/Proper.antt`): what each application keeps, as many ports
+//! in both, short PDUs and one moment (`IsKeptNode` of `specs/Links.antt`); that VIDs are VIDs and all numbers fit in their
+//! fields, also those that a PDU at a port says; and that a bridge asks for nothing. Each call that changes a node brings the
+//! law of it (`laws.rt`) to its proof.
 //!
 //! To add an application: a field of `NodeState`, what a step does at it in `applications.rt`, an arm in each definition
 //! that takes an `App` or a `NodeKey` and in the function of the same name, its part in `is_busy_at`, and in `is_at_rest`

@@ -4,10 +4,12 @@ ghost use Rattle.std.specs.Prelude.{◌≡◌, ◌<◌, ◌≤◌, ◌++◌, [],
 ghost use Rattle.attribute_propagation.specs.Ports.{IsLinkPort, place_of};
 ghost use Rattle.node_core.specs.State.{ports_of, box_at};
 ghost use Rattle.node_core.specs.Wires.{IsShort, AreShort, without, with_wire};
+ghost use Rattle.node_core.specs.Proper.{AreProperWires};
 ghost use Rattle.node_core.specs.Links.{with_outbox, with_carried, has_index, has_place, lost_at, repeated_at, forged_at, spoilt_at};
 ghost use Rattle.mrp_participant.specs.Link.{with_repeat};
 
 use crate::applications::{spoil_streams, spoil_vlans};
+use crate::laws::{links_keep_a_node_proper, octets_say_what_fits};
 use crate::node::{Node, copied_wire};
 use crate::types::Wire;
 use srp_base::{App, NoMemory, PortNo, Seq};
@@ -22,6 +24,7 @@ impl Node {
         ensures short { AreShort result }
         ensures after { self.new ≡ with_outbox (place_of port) [] self.old }
     {
+        links_keep_a_node_proper();
         let alloc = *self.inboxes.allocator();
         let at = usize::from(port.0) - 1;
         mem::replace(&mut self.outboxes[at], Seq::new(alloc))
@@ -36,6 +39,8 @@ impl Node {
         ensures err { OnErr result (self.new ≡ self.old) }
         ensures back { IfErr result (λ e. e.1 ≡ wires) }
     {
+        links_keep_a_node_proper();
+        each_says_what_fits(wires.as_slice());
         let at = usize::from(port.0) - 1;
         let alloc = *self.inboxes.allocator();
         append(alloc, &mut self.inboxes[at], wires)
@@ -48,6 +53,8 @@ impl Node {
         requires empty { box_at (place_of port) self.old.outboxes ≡ [] }
         ensures { self.new ≡ with_outbox (place_of port) wires self.old }
     {
+        links_keep_a_node_proper();
+        each_says_what_fits(wires.as_slice());
         let at = usize::from(port.0) - 1;
         self.outboxes[at] = wires;
     }
@@ -64,12 +71,12 @@ impl Node {
         if self.inboxes[at].len() <= index as usize {
             return false;
         }
+        links_keep_a_node_proper();
         let alloc = *self.inboxes.allocator();
         remove(alloc, &mut self.inboxes[at], index as usize);
         true
     }
 
-    #[tactic(auto, using(crate::proofs::Boxes::kept_inbox))]
     /// Puts a copy of the PDU with this index in a port's inbox right behind it. False exactly where no PDU has the index;
     /// then nothing changes.
     pub fn repeat(&mut self, port: PortNo, index: u32) -> Result<bool, NoMemory>
@@ -83,12 +90,12 @@ impl Node {
         if self.inboxes[at].len() <= index as usize {
             return Ok(false);
         }
+        links_keep_a_node_proper();
         let alloc = *self.inboxes.allocator();
         repeat_wire(alloc, &mut self.inboxes[at], index as usize)?;
         Ok(true)
     }
 
-    #[tactic(auto, using(crate::proofs::Boxes::kept_inbox))]
     /// Puts a PDU of at most 1,500 octets that no neighbour sent at the place of this index in a port's inbox, counted from
     /// 0; those from there on come behind it. It stands for a device that doesn't run MRP as this node does, or for a frame
     /// that was corrupted and passed its check. False exactly where the index is above the number of PDUs that wait; then
@@ -105,6 +112,9 @@ impl Node {
         if self.inboxes[at].len() < index as usize {
             return Ok(false);
         }
+        links_keep_a_node_proper();
+        octets_say_what_fits();
+        wire.keeps();
         let alloc = *self.inboxes.allocator();
         insert(alloc, &mut self.inboxes[at], index as usize, wire)?;
         Ok(true)
@@ -115,10 +125,21 @@ impl Node {
         requires { IsLinkPort port (ports_of self.old) }
         ensures { self.new ≡ spoilt_at app (place_of port) self.old }
     {
+        links_keep_a_node_proper();
         match app {
             App::Mvrp => spoil_vlans(&mut self.mvrp, port),
             App::Msrp => spoil_streams(&mut self.msrp, port),
         }
+    }
+}
+
+// What each of these PDUs says fits: it is of octets.
+fn each_says_what_fits(wires: &[Wire])
+    ensures { AreProperWires wires.now }
+{
+    octets_say_what_fits();
+    for wire in wires {
+        wire.keeps();
     }
 }
 
@@ -153,14 +174,10 @@ pub(crate) fn remove(alloc: Global, inbox: &mut Seq<Wire>, index: usize)
 }
 
 // Puts a PDU at the place of an index in an inbox.
-#[tactic(auto, using(crate::proofs::Boxes::short_with))]
 fn insert(alloc: Global, inbox: &mut Seq<Wire>, index: usize, wire: Wire) -> Result<(), NoMemory>
-    requires index { index ≤ length inbox.old }
-    requires wire { IsShort wire }
-    requires short { AreShort inbox.old }
+    requires { index ≤ length inbox.old }
     ensures ok { OnOk result (inbox.new ≡ with_wire index wire inbox.old) }
     ensures err { OnErr result (inbox.new ≡ inbox.old) }
-    ensures short { AreShort inbox.new }
 {
     let mut wires = mem::replace(inbox, Seq::new(alloc)).into_vec();
     let inserted = wires.insert(index, wire);
@@ -170,13 +187,11 @@ fn insert(alloc: Global, inbox: &mut Seq<Wire>, index: usize, wire: Wire) -> Res
 }
 
 // Puts a copy of the PDU of an index right behind it.
-#[tactic(auto, using(crate::proofs::Boxes::repeated_of, crate::proofs::Boxes::short_repeated))]
+#[tactic(auto, using(crate::proofs::Boxes::repeated_of))]
 fn repeat_wire(alloc: Global, inbox: &mut Seq<Wire>, index: usize) -> Result<(), NoMemory>
-    requires index { index < length inbox.old }
-    requires short { AreShort inbox.old }
+    requires { index < length inbox.old }
     ensures ok { OnOk result (inbox.new ≡ with_repeat index inbox.old) }
     ensures err { OnErr result (inbox.new ≡ inbox.old) }
-    ensures short { AreShort inbox.new }
 {
     let copy = copied_wire(alloc, &inbox.as_slice()[index])?;
     let mut wires = mem::replace(inbox, Seq::new(alloc)).into_vec();

@@ -9,7 +9,9 @@ ghost use Rattle.mvrp.specs.Side.{has_own};
 ghost use Rattle.msrp.specs.Side.{has_listen, has_talk, heard_of, next_sets, talker_of};
 ghost use Rattle.node_core.specs.State.{ports_of, new_node, box_at, are_empty, are_all_sound, is_still_node, is_sound_at, registrar_at, content_at, registered_keys, if_booked, booked_at, bookings_at, slope_at, fit_of};
 ghost use Rattle.node_core.specs.Links.{IsKeptNode};
+ghost use Rattle.node_core.specs.Proper.{IsProperNode};
 
+use crate::laws::a_new_node_is_proper;
 use crate::naming::push_keys;
 use crate::types::{NodeKey, Wire};
 use msrp::{ClockSets, DomainSet, MsrpSide};
@@ -40,7 +42,7 @@ pub struct Node {
 
 impl Model for Node {
     ghost use Rattle.node_core.specs.State.{NodeState};
-    ghost use Rattle.node_core.specs.Links.{IsKeptNode};
+    ghost use Rattle.node_core.specs.Proper.{IsProperNode};
 
     ghost Value = { NodeState };
 
@@ -54,7 +56,7 @@ impl Model for Node {
       outboxes = n.outboxes.items;
     } };
 
-    ghost invariant = { λ n. IsKeptNode (record {
+    ghost invariant = { λ n. IsProperNode (record {
       kind = n.kind;
       bridge = n.bridge;
       clock = n.clock;
@@ -85,10 +87,9 @@ impl Node {
         ensures { IfOk result (λ node. node
             ≡ new_node kind bridge leave_time periodic domain ports.now) }
     {
+        a_new_node_is_proper();
         let mvrp = MvrpSide::new(alloc, leave_time, periodic, ports)?;
-        mvrp.keeps();
         let msrp = MsrpSide::new(alloc, bridge, leave_time, periodic, ports, domain)?;
-        msrp.keeps();
         let inboxes = new_boxes(alloc, ports)?;
         let outboxes = new_boxes(alloc, ports)?;
         Ok(Node {
@@ -106,6 +107,14 @@ impl Node {
     /// short PDUs alone. It is a law, and does nothing.
     pub fn keeps(&self)
         ensures { IsKeptNode self.now }
+    {
+        let _ = &self.mvrp;
+    }
+
+    /// All that every node keeps, that and more: each VID is one, each number that it keeps or that a PDU at a port says fits
+    /// in its field, and a bridge asks for nothing. It is a law, and does nothing.
+    pub fn keeps_all(&self)
+        ensures { IsProperNode self.now }
     {
         let _ = &self.mvrp;
     }

@@ -2,19 +2,24 @@
 
 ghost use Rattle.std.specs.Prelude.{◌+◌, ◌≡◌, ◌<◌, ◌^◌, IfOk, OnErr};
 ghost use Rattle.attribute_propagation.specs.Ports.{IsLinkPort, place_of};
-ghost use Rattle.msrp.specs.Side.{next_sets};
+ghost use Rattle.mvrp.specs.Side.{requested_vlans};
+ghost use Rattle.msrp.specs.Side.{next_sets, requested_streams};
+ghost use Rattle.tree_topology.specs.declared.graph.NodeKind.TheVariants.{Station};
 ghost use Rattle.node_core.specs.State.{ports_of, box_at};
-ghost use Rattle.node_core.specs.Step.{CanStep, node_step, port_step, after_asking, after_work, left_now, leave_all_now, periodic_now, fired_due, after_settling, after_send};
+ghost use Rattle.node_core.specs.Step.{CanStep, node_step, on_vlans, on_streams, port_step, after_asking, after_work, left_now, leave_all_now, periodic_now, fired_due, after_settling, after_send};
 
 use crate::applications::{
     ask_srp, ask_vlan, clock_by, due_of, leave_all_streams, leave_all_vlans, left_key, left_vid,
     periodic_streams, periodic_vlans, put_out, settle_of, worked_on,
 };
+use crate::laws::every_step_keeps_a_node_proper;
 use crate::links::remove;
 use crate::node::Node;
-use crate::types::{AppRequest, NodeEvent, NodeKey, PortStep, StepReply};
+use crate::types::{
+    AppRequest, NodeEvent, NodeKey, PortStep, StepReply, srp_in_range, vid_in_range,
+};
 use msrp::{ClockSets, SrpRequest};
-use srp_base::{App, Cs, NoMemory, PortNo, Seq};
+use srp_base::{App, Cs, NoMemory, PortNo, Seq, Vid};
 use std::mem;
 
 impl Node {
@@ -38,6 +43,7 @@ impl Node {
         requires sets { sets ≡ next_sets (self.old.clock.0 + 1) self.old.streams }
         ensures { self.new ≡ (node_step NodeEvent.Clock self.old).0 }
     {
+        every_step_keeps_a_node_proper();
         let now = Cs(self.clock.0 + 1);
         clock_by(&mut self.msrp, now, sets);
         self.clock = now;
@@ -54,19 +60,44 @@ impl Node {
         Ok(StepReply::Taken)
     }
 
-    // What the application asks for.
+    // What the application of a station asks for.
     fn request(&mut self, request: AppRequest) -> Result<StepReply, NoMemory>
+        requires { self.old.kind ≡ Station }
         ensures ok { IfOk result (λ reply. after_asking request self.old ≡ (self.new, reply)) }
         ensures err { OnErr result (self.new ≡ self.old) }
     {
         match request {
-            AppRequest::Declare(vid) => ask_vlan(&mut self.mvrp, vid, true),
-            AppRequest::Withdraw(vid) => ask_vlan(&mut self.mvrp, vid, false),
-            AppRequest::Talk(talker) => ask_srp(&mut self.msrp, SrpRequest::Talk(talker)),
-            AppRequest::Hush(stream) => ask_srp(&mut self.msrp, SrpRequest::Hush(stream)),
-            AppRequest::Listen(stream) => ask_srp(&mut self.msrp, SrpRequest::Listen(stream)),
-            AppRequest::Unlisten(stream) => ask_srp(&mut self.msrp, SrpRequest::Unlisten(stream)),
+            AppRequest::Declare(vid) => self.ask_vlan(vid, true),
+            AppRequest::Withdraw(vid) => self.ask_vlan(vid, false),
+            AppRequest::Talk(talker) => self.ask_srp(SrpRequest::Talk(talker)),
+            AppRequest::Hush(stream) => self.ask_srp(SrpRequest::Hush(stream)),
+            AppRequest::Listen(stream) => self.ask_srp(SrpRequest::Listen(stream)),
+            AppRequest::Unlisten(stream) => self.ask_srp(SrpRequest::Unlisten(stream)),
         }
+    }
+
+    // The application of a station declares a VID, or withdraws it.
+    fn ask_vlan(&mut self, vid: Vid, declared: bool) -> Result<StepReply, NoMemory>
+        requires { self.old.kind ≡ Station }
+        ensures ok { IfOk result (λ reply. on_vlans self.old
+            (requested_vlans vid declared self.old.vlans, StepReply.Taken) ≡ (self.new, reply)) }
+        ensures err { OnErr result (self.new ≡ self.old) }
+    {
+        every_step_keeps_a_node_proper();
+        vid_in_range(vid);
+        ask_vlan(&mut self.mvrp, vid, declared)
+    }
+
+    // The application of a station asks MSRP for something.
+    fn ask_srp(&mut self, request: SrpRequest) -> Result<StepReply, NoMemory>
+        requires { self.old.kind ≡ Station }
+        ensures ok { IfOk result (λ reply. on_streams self.old
+            (requested_streams request self.old.streams, StepReply.Taken) ≡ (self.new, reply)) }
+        ensures err { OnErr result (self.new ≡ self.old) }
+    {
+        every_step_keeps_a_node_proper();
+        srp_in_range(&request);
+        ask_srp(&mut self.msrp, request)
     }
 
     // A step of a link port.
@@ -94,6 +125,7 @@ impl Node {
             ≡ (self.new, reply)) }
         ensures err { OnErr result (self.new ≡ self.old) }
     {
+        every_step_keeps_a_node_proper();
         match key {
             NodeKey::Vlan(vid) => left_vid(&mut self.mvrp, port, vid),
             NodeKey::Srp(key) => left_key(&mut self.msrp, port, key),
@@ -105,6 +137,7 @@ impl Node {
         requires { IsLinkPort port (ports_of self.old) }
         ensures { leave_all_now app (place_of port) self.old ≡ (self.new, result) }
     {
+        every_step_keeps_a_node_proper();
         match app {
             App::Mvrp => leave_all_vlans(&mut self.mvrp, self.clock, port),
             App::Msrp => leave_all_streams(&mut self.msrp, self.clock, port),
@@ -116,6 +149,7 @@ impl Node {
         requires { IsLinkPort port (ports_of self.old) }
         ensures { periodic_now app (place_of port) self.old ≡ (self.new, result) }
     {
+        every_step_keeps_a_node_proper();
         match app {
             App::Mvrp => periodic_vlans(&mut self.mvrp, port),
             App::Msrp => periodic_streams(&mut self.msrp, port),
@@ -128,6 +162,7 @@ impl Node {
         ensures ok { IfOk result (λ reply. fired_due (place_of port) self.old ≡ (self.new, reply)) }
         ensures err { OnErr result (self.new ≡ self.old) }
     {
+        every_step_keeps_a_node_proper();
         due_of(&mut self.mvrp, &mut self.msrp, self.clock, port)
     }
 
@@ -137,6 +172,7 @@ impl Node {
         ensures ok { IfOk result (λ reply. after_settling (place_of port) self.old ≡ (self.new, reply)) }
         ensures err { OnErr result (self.new ≡ self.old) }
     {
+        every_step_keeps_a_node_proper();
         settle_of(&mut self.mvrp, &mut self.msrp, self.clock, port)
     }
 
@@ -152,6 +188,7 @@ impl Node {
         if self.inboxes[at].is_empty() {
             return Ok(StepReply::Nothing);
         }
+        every_step_keeps_a_node_proper();
         let reply = worked_on(
             &mut self.mvrp,
             &mut self.msrp,
@@ -170,6 +207,7 @@ impl Node {
         ensures ok { IfOk result (λ reply. after_send app (place_of port) self.old ≡ (self.new, reply)) }
         ensures err { OnErr result (self.new ≡ self.old) }
     {
+        every_step_keeps_a_node_proper();
         let alloc = *self.inboxes.allocator();
         let at = usize::from(port.0) - 1;
         let mut outbox = mem::replace(&mut self.outboxes[at], Seq::new(alloc)).into_vec();

@@ -1,8 +1,15 @@
 //! What happens at a node, and what it answers.
 
 ghost use Rattle.std.specs.Prelude.{◌≡◌};
+ghost use Rattle.msrp_codec.specs.FirstValue.{IsTalker};
+ghost use Rattle.mrpdu_codec.specs.Octets.{AreOctets};
+ghost use Rattle.msrp.specs.Proper.{IsRequestInRange};
+ghost use Rattle.mvrp.specs.Vids.{IsVid};
+ghost use Rattle.node_core.specs.Proper.{AsksInRange};
 ghost use Rattle.node_core.specs.Step.{key_of_step};
 
+use mrpdu_codec::are_octets;
+use msrp::SrpRequest;
 use msrp_codec::MsrpKey;
 use srp_base::{App, PortNo, Seq, StreamId, Talker, Vid};
 
@@ -11,6 +18,15 @@ use srp_base::{App, PortNo, Seq, StreamId, Talker, Vid};
 pub struct Wire {
     pub app: App,
     pub octets: Seq<u8>,
+}
+
+impl Wire {
+    /// What every PDU keeps by its type: each of its octets is below 256. It is a law, and does nothing.
+    pub fn keeps(&self)
+        ensures { AreOctets self.now.octets }
+    {
+        are_octets(self.octets.as_slice())
+    }
 }
 
 /// What the application of a station asks for.
@@ -29,6 +45,44 @@ pub enum AppRequest {
     Listen(StreamId),
     /// It listens to a stream no more.
     Unlisten(StreamId),
+}
+
+impl AppRequest {
+    /// What every request keeps by its type: its VID is one (IEEE Std 802.1Q-2018, 9.6), and its Talker's numbers fit in
+    /// their fields (35.2.2.8). It is a law, and does nothing.
+    pub fn keeps(&self)
+        ensures { AsksInRange self.now }
+    {
+        match self {
+            AppRequest::Declare(vid) | AppRequest::Withdraw(vid) => vid_in_range(*vid),
+            AppRequest::Talk(talker) => talker_in_range(*talker),
+            AppRequest::Hush(_) | AppRequest::Listen(_) | AppRequest::Unlisten(_) => {}
+        }
+    }
+}
+
+// A VID is one by its type.
+pub(crate) fn vid_in_range(vid: Vid)
+    ensures { IsVid vid }
+{
+    let _ = vid.get();
+}
+
+// Each field of a Talker fits by its type.
+fn talker_in_range(talker: Talker)
+    ensures { IsTalker talker }
+{
+    let _ = (talker.dest.get(), talker.priority.get());
+}
+
+// What MSRP is asked for fits by its type.
+pub(crate) fn srp_in_range(request: &SrpRequest)
+    ensures { IsRequestInRange request.now }
+{
+    match request {
+        SrpRequest::Talk(talker) => talker_in_range(*talker),
+        SrpRequest::Hush(_) | SrpRequest::Listen(_) | SrpRequest::Unlisten(_) => {}
+    }
 }
 
 /// An attribute of some application.

@@ -1,5 +1,8 @@
-use Rattle.node_core.proofs.ProperSteps.{proper-repeated, proper-forged, proper-spoilt}
+use Rattle.node_core.proofs.ProperSteps.{proper-given, proper-repeated, proper-forged, proper-spoilt}
 use Rattle.node_core.proofs.laws.links_keep_a_node_proper.Goals as goal
+
+pub returns-clause-given : goal.returns-clause-given
+returns-clause-given c = λ at wires s short proper h. proper-given at wires s short proper h
 
 pub returns-clause-repeated : goal.returns-clause-repeated
 returns-clause-repeated c = λ at index s h. proper-repeated at index s h

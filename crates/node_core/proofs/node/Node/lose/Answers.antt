@@ -1,10 +1,11 @@
 use Rattle.std.proofs.Common.{◌≡◌, ◌<◌, ◌-◌, ℕ, List, length, sym, subst, ap, ◌∙◌, arith}
 use Rattle.std.specs.Prelude.{slice_set}
 use Rattle.node_core.specs.declared.types.Wire.{Wire}
-use Rattle.node_core.specs.Wires.{AreShort, IsShort, without}
+use Rattle.node_core.specs.Wires.{without}
 use Rattle.node_core.specs.State.{NodeState, box_at}
 use Rattle.node_core.specs.Links.{lost_at}
-use Rattle.node_core.proofs.Boxes.{box_read, each_box, each_without, kept_inbox}
+use Rattle.node_core.specs.Proper.{IsProperNode}
+use Rattle.node_core.proofs.Boxes.{box_read}
 use Rattle.node_core.proofs.node.Node.lose.Goals as goal
 use Rattle.node_core.proofs.node.Node.lose.Goals.{After-self-1}
 
@@ -25,19 +26,18 @@ abbrev at : After-self-1 → ℕ
 at c = c.from-at.result - 1
 
 below : (c : After-self-1) → at c < length (before c).inboxes
-below c = omega (arith, c.from-at.ensures, c.requires.some, c.requires.within, c.self.invariant.inboxes, ap (λ (v : NodeState). length v.vlans.parts) c.self.view_is)
+below c = omega (arith, c.from-at.ensures, c.requires.some, c.requires.within, c.self.invariant.kept.inboxes, ap (λ (v : NodeState). length v.vlans.parts) c.self.view_is)
 
 -- the inbox is without the PDU
 left : (c : After-self-1) → c.remove.new.inbox ≡ without c.args.index (box_at (at c) (before c).inboxes)
 left c = c.remove.ensures ∙ ap (without c.args.index) (box_read (before c).inboxes (at c) c.index_mut.result.now (below c) c.index_mut.ensures.value)
 
-pub invariant_of-self : goal.invariant_of-self
-invariant_of-self c =
-    kept_inbox (before c) (at c) c.remove.new.inbox c.self.invariant
-    (subst AreShort (sym (left c))
-    (each_without IsShort c.args.index (box_at (at c) (before c).inboxes) (each_box IsShort (before c).inboxes (at c) c.self.invariant.short_in)))
-
 pub returns-clause-after : goal.returns-clause-after
 returns-clause-after c =
     ap (λ (b : List Wire). record (before c) { inboxes = slice_set (before c).inboxes (at c) b }) (left c)
     ∙ (ap (λ (v : NodeState). lost_at (at c) c.args.index v) c.self.view_is ∙ ap (λ (n : ℕ). lost_at (n - 1) c.args.index c.args.self.now) c.from-at.ensures)
+
+pub invariant_of-self : goal.invariant_of-self
+invariant_of-self c =
+    subst IsProperNode (ap (λ (b : List Wire). record (before c) { inboxes = slice_set (before c).inboxes (at c) b }) (sym (left c)))
+    (c.links_keep_a_node_proper.ensures.lost (at c) c.args.index (before c) c.self.invariant)

@@ -5,9 +5,12 @@ use Rattle.std.proofs.lemmas.Option.{slice_get_read}
 use Rattle.attribute_propagation.specs.Ports.{place_of}
 use Rattle.node_core.specs.declared.types.Wire.{Wire}
 use Rattle.node_core.specs.State.{NodeState, box_at}
-use Rattle.node_core.specs.Step.{HasOneSaid, after_send}
+use Rattle.node_core.specs.Calls.{HasOneSaid}
+use Rattle.node_core.specs.Step.{after_send}
 use Rattle.node_core.proofs.Boxes.{set_set}
+use Rattle.node_core.specs.declared.types.PortStep.TheVariants.{Send}
 use Rattle.node_core.proofs.Sending.{with_both, put_ok, put_err}
+use Rattle.node_core.proofs.Steps.{made_or_not, port_kept}
 use Rattle.node_core.proofs.node.Node.send.Goals as goal
 use Rattle.node_core.proofs.node.Node.send.Goals.{After-drop-index_mut}
 
@@ -37,7 +40,7 @@ after c =
     }
 
 below : (c : After-drop-index_mut) → at c < length (before c).outboxes
-below c = omega (arith, c.from-at.ensures, c.requires.some, c.requires.within, c.self.invariant.outboxes, ap (λ (v : NodeState). length v.vlans.parts) c.self.view_is)
+below c = omega (arith, c.from-at.ensures, c.requires.some, c.requires.within, c.self.invariant.kept.outboxes, ap (λ (v : NodeState). length v.vlans.parts) c.self.view_is)
 
 -- what was put into is the port's outbox
 here : (c : After-drop-index_mut) → box_at (place_of c.args.port) (before c).outboxes ≡ c.into_vec-outbox.result.items
@@ -70,3 +73,11 @@ returns-clause-err c =
     let P : NodeState → Type 0 = λ s. OnErr c.put_out-reply.result (after c ≡ s) in
     subst P c.self.view_is
     (put_err (before c) (after c) c.args.app (place_of c.args.port) c.put_out-reply.result c.put_out-reply.new.mvrp c.put_out-reply.new.msrp c.put_out-reply.new.outbox.items (put c) (changed c))
+
+pub invariant_of-self : goal.invariant_of-self
+invariant_of-self c =
+    made_or_not (after_send c.args.app (place_of c.args.port) (before c)) (before c) (after c) c.put_out-reply.result
+    (put_ok (before c) (after c) c.args.app (place_of c.args.port) c.put_out-reply.result c.put_out-reply.new.mvrp c.put_out-reply.new.msrp c.put_out-reply.new.outbox.items (put c) (changed c))
+    (put_err (before c) (after c) c.args.app (place_of c.args.port) c.put_out-reply.result c.put_out-reply.new.mvrp c.put_out-reply.new.msrp c.put_out-reply.new.outbox.items (put c) (changed c))
+    c.self.invariant
+    (port_kept c.every_step_keeps_a_node_proper.ensures c.args.port (Send c.args.app) (before c) c.args.self.now c.self.view_is c.requires c.self.invariant)
