@@ -1,4 +1,4 @@
-use Rattle.std.proofs.Common.{◌<◌, ◌+◌, not, List, length, get_or, set, arith, ◌∙◌, ap, refl, subst, sym, vec_capacity, rules, ◌||◌}
+use Rattle.std.proofs.Common.{◌<◌, ◌+◌, not, List, length, get_or, set, arith, ◌∙◌, ap, refl, subst, sym, vec_capacity, ◌||◌}
 use Rattle.stream_importance.specs.declared.entry.Entry.{Entry}
 use Rattle.port_ledger.specs.Decision.{since_after}
 use Rattle.port_ledger.specs.Notes.{gains, loses, noted, stream_where}
