@@ -18,7 +18,7 @@ use Rattle.node_core.specs.State.{NodeState}
 use Rattle.world_core.specs.Marks.{mark_at}
 use Rattle.world_core.specs.World.{WorldState, node_at}
 use Rattle.world_core.specs.Duty.{streams_said, stream_place, stream_part}
-use Rattle.world_core.specs.Kept.{IsKeptWorld, IsIdleBridge, FitsTree}
+use Rattle.world_core.specs.Kept.{IsKeptWorld, FitsTree}
 use Rattle.network_laws.specs.Vlans.{IsAtRest}
 use Rattle.network_laws.specs.Streams.{IsTalkedOnce, KeepsStreamLaws}
 use Rattle.network_laws.proofs.Lists.{each-get, get-within, get-all}
@@ -77,7 +77,7 @@ module _ (w : WorldState) (kept : IsKeptWorld w) (rest : IsAtRest w) (laws : Has
         none_await = λ x s e. (still-at w rest x s e).no_keys;
         moment = λ x s e. (fits x s e).kept.kept.moment;
         named = λ x s i port e g. each-get (λ (p : PortState). p.config.bridge ≡ s.bridge) s.streams.ports i port (fits x s e).kept.named g;
-        idle = λ x s e k. (each-get IsIdleBridge w.nodes x s kept.idle e k).talks;
+        idle = λ x s e k. ((kept.nodes x s e).kept.idle k).talks;
         linked = linked;
       }
 

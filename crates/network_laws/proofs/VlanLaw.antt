@@ -23,7 +23,7 @@ use Rattle.node_core.specs.State.{NodeState}
 use Rattle.world_core.specs.Marks.{mark_at}
 use Rattle.world_core.specs.World.{WorldState, node_at}
 use Rattle.world_core.specs.Duty.{message_of, vlan_place, vlan_part}
-use Rattle.world_core.specs.Kept.{IsKeptWorld, IsIdleBridge, FitsTree}
+use Rattle.world_core.specs.Kept.{IsKeptWorld, FitsTree}
 use Rattle.tree_topology.specs.Refusal.{is_station}
 use Rattle.network_laws.specs.Vlans.{is_registered, is_declared_at, is_declared_behind, HasDeclaredBehind, VlansMatch, IsAtRest}
 use Rattle.network_laws.proofs.AtRest.{StillLink, IsStillNode, still-at, sound-at, registers-declared}
@@ -135,7 +135,7 @@ module _ (w : WorldState) (kept : IsKeptWorld w) (rest : IsAtRest w) (laws : Has
 
       by : (has_own vid b.s.vlans ≡ true) ⊎ (is_other (place_of (peer_of w.tree.links p).port) (map (registers vid) b.s.vlans.parts) ≡ true)
           → (is_declared_at w vid (far_node w.tree.links p) ≡ true) ⊎ HasBeyond w.tree (is_registered w vid) p
-      by (inl o) = inl (declared-is p b vid ∙ station-own vid b.s.kind b.s.vlans (λ k. (each-get IsIdleBridge w.nodes ((peer_of w.tree.links p).node.0 - 1) b.s kept.idle b.node k).own) o)
+      by (inl o) = inl (declared-is p b vid ∙ station-own vid b.s.kind b.s.vlans (λ k. ((kept.nodes ((peer_of w.tree.links p).node.0 - 1) b.s b.node).kept.idle k).own) o)
       by (inr r) =
           let j = other-at (place_of (peer_of w.tree.links p).port) (map (registers vid) b.s.vlans.parts) r in
           let x = get-map (registers vid) b.s.vlans.parts j.0 j.2 in

@@ -14,7 +14,7 @@ use Rattle.msrp_codec.specs.declared.pdu.MsrpKey.{MsrpKey}
 use Rattle.msrp_codec.specs.declared.pdu.MsrpPdu.{MsrpPdu}
 use Rattle.msrp.specs.declared.asking.SrpRequest.{SrpRequest}
 use Rattle.msrp.specs.declared.asking.SrpRequest.TheVariants.{Talk, Hush, Listen, Unlisten}
-use Rattle.msrp.specs.declared.port.Port.{Port}
+use Rattle.msrp.specs.PortState.{PortState}
 use Rattle.msrp.specs.Stream.{talk_of}
 use Rattle.msrp.specs.Side.{Streams, with_port, is_talk, has_talk, has_listen, received_streams, due_streams, left_streams, leave_all_streams, periodic_streams, sent_streams, spoilt_streams, settled_streams, requested_streams}
 
@@ -72,11 +72,11 @@ pub record StaysStreams (v u : Streams) : Type 0 where
   pub talks : u.talks ≡ v.talks
   pub listens : u.listens ≡ v.listens
 
-port : (o : Option Port) (make : Port → Streams) (v : Streams) → ((p : Port) → StaysStreams v (make p)) → StaysStreams v (with_port o make v)
+port : (o : Option PortState) (make : PortState → Streams) (v : Streams) → ((p : PortState) → StaysStreams v (make p)) → StaysStreams v (with_port o make v)
 port None make v h = record { moment = refl; talks = refl; listens = refl }
 port (Some p) make v h = h p
 
-streams_at : (at : ℕ) (make : Port → Streams) (v : Streams) → ((p : Port) → StaysStreams v (make p)) → StaysStreams v (with_port (slice_get v.ports at) make v)
+streams_at : (at : ℕ) (make : PortState → Streams) (v : Streams) → ((p : PortState) → StaysStreams v (make p)) → StaysStreams v (with_port (slice_get v.ports at) make v)
 streams_at at make v h = port (slice_get v.ports at) make v h
 
 pub streams_received : (now : Cs) (at : ℕ) (pdu : MsrpPdu) (v : Streams) → StaysStreams v (received_streams now at pdu v)

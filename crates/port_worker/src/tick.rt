@@ -19,7 +19,7 @@ use topology_file::Scenario;
 use tree_topology::laws::ports;
 use world_core::laws::{
     a_tick_carries_what_it_has_sent, every_event_keeps_it, steps_made_apart_keep_it,
-    what_is_allowed_may_happen,
+    what_is_allowed_may_happen, what_is_kept_is_whole,
 };
 use world_core::{History, NodeSteps, Tick, World, WorldEvent, WorldRest, carry_sent, make_events};
 
@@ -69,6 +69,7 @@ fn make_steps<R: Threads + Wait + Sync, G: Gate>(
     ensures { IfOk result (λ made. AreSteps world made.0 made.1.items) }
 {
     laws_of_steps();
+    what_is_kept_is_whole();
     world.keeps();
     few_are_on_their_way(&world);
     let count = world.tree().nodes();

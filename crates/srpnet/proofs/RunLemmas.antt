@@ -21,7 +21,7 @@ use Rattle.node_core.specs.declared.types.NodeStep.{NodeStep}
 use Rattle.world_core.specs.declared.events.WorldReply.{WorldReply}
 use Rattle.world_core.specs.declared.journal.NodeSteps.{NodeSteps}
 use Rattle.world_core.specs.declared.journal.Tick.{Tick}
-use Rattle.world_core.specs.Force.{Force, said_by}
+use Rattle.world_core.specs.Reservation.{Reservation, said_by}
 use Rattle.world_core.specs.Start.{world_of}
 use Rattle.world_core.specs.Ticks.{AreLegalTicks, IsLegalTick, LeadTo, after_steps, tick_events}
 use Rattle.world_core.specs.Timeline.{IsAfterSteps, IsTimelineOf, world_after_ticks}
@@ -59,10 +59,10 @@ slope_b_said (Some c) = refl
 -- where changes say the same, the same is in force
 same_force : (f g : Option PortChange) → said_by f ≡ said_by g → IsSameForce f g
 same_force f g is = record {
-  booked = λ stream. booked_said stream f ∙ ap (λ (x : Force). list_any (λ (s : StreamId). s.0 == stream.0) x.booked) is ∙ sym (booked_said stream g);
-  vids = λ vid. vid_said vid f ∙ ap (λ (x : Force). list_any (λ (v : ℕ). v == vid) x.vids) is ∙ sym (vid_said vid g);
-  slope_a = slope_a_said f ∙ ap (λ (x : Force). x.slope_a) is ∙ sym (slope_a_said g);
-  slope_b = slope_b_said f ∙ ap (λ (x : Force). x.slope_b) is ∙ sym (slope_b_said g);
+  booked = λ stream. booked_said stream f ∙ ap (λ (x : Reservation). list_any (λ (s : StreamId). s.0 == stream.0) x.booked) is ∙ sym (booked_said stream g);
+  vids = λ vid. vid_said vid f ∙ ap (λ (x : Reservation). list_any (λ (v : ℕ). v == vid) x.vids) is ∙ sym (vid_said vid g);
+  slope_a = slope_a_said f ∙ ap (λ (x : Reservation). x.slope_a) is ∙ sym (slope_a_said g);
+  slope_b = slope_b_said f ∙ ap (λ (x : Reservation). x.slope_b) is ∙ sym (slope_b_said g);
 }
 
 -- two timelines of one run say the same of a port in each tick

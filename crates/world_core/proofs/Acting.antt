@@ -58,11 +58,11 @@ use Rattle.world_core.specs.declared.journal.NodeSteps.{NodeSteps}
 use Rattle.world_core.specs.declared.journal.Tick.{Tick}
 use Rattle.world_core.specs.World.{WorldState, node_at, app_of, reaches, with_unsound_ends, with_loss, after_repeat, with_forgery, step_of_node, world_step, world_after}
 use Rattle.world_core.specs.Ticks.{event_of, scripted_from, with_event, stream_at, talker_of_entry, step_events, after_script, after_steps, is_send, IsLegalTick}
-use Rattle.world_core.specs.Force.{no_force, is_registered_row, registered_vids}
+use Rattle.world_core.specs.Reservation.{no_reservation, is_registered_row, registered_vids}
 use Rattle.world_core.specs.Timeline.{node_force, force_at}
 use Rattle.world_core.specs.History.{HasPortsOf, is_act, acts_at, has_acted}
 use Rattle.world_core.proofs.Nodes.{node_other, stepped_is}
-use Rattle.world_core.proofs.Forces.{same_force, read_set, force_changed}
+use Rattle.world_core.proofs.Reservations.{same_force, read_set, force_changed}
 use Rattle.world_core.proofs.Timelines.{after_both}
 
 or_both : (a b : Bool) → (a || b) ≡ false → (a ≡ false) × (b ≡ false)
@@ -298,7 +298,7 @@ send_keeps n port (Send app) is =
 other_keeps : (n : NodeNo) (port : PortNo) (step : PortStep) (p : EgressPort) (w : WorldState) → n.0 - 1 ≢ p.node.0 - 1 → force_at p (world_step (Port n port step) w).0 ≡ force_at p w
 other_keeps n port step p w apart =
     let event = node_events.Port port step in
-    ap (λ (o : Option NodeState). option_map_or (node_force (place_of p.port)) o no_force)
+    ap (λ (o : Option NodeState). option_map_or (node_force (place_of p.port)) o no_reservation)
     (ap (node_at p.node) (sym (stepped_is n event w)) ∙ node_other n (λ (s : NodeState). (node_step event s).0) w p.node apart)
 
 sends_keep : (n : NodeNo) (made : List NodeStep) (p : EgressPort) (w : WorldState) → list_any (λ st. not (is_send st.step)) made ≡ false

@@ -37,7 +37,6 @@ use Rattle.world_core.specs.Start.{domain_set, setup_of, end_setup, setups_from,
 use Rattle.world_core.specs.World.{inbox, outbox}
 use Rattle.world_core.specs.Duty.{part_at}
 use Rattle.world_core.specs.Kept.{FitsTree, IsKeptWorld}
-use Rattle.world_core.proofs.Idle.{idle_start}
 use Rattle.world_core.proofs.Nodes.{Base, node_there, part_is, inbox_is, outbox_is}
 use Rattle.world_core.proofs.Lists.{all_each, at_each}
 use Rattle.world_core.specs.declared.marks.EndMark.{EndMark}
@@ -250,6 +249,6 @@ module _ (plan : Plan) (rules : KeepsRules plan)
 
   pub begins : NewLinks vlan_view → NewLinks stream_view → HasStreamEvents → IsKeptWorld (world_of plan)
   begins vlans streams event =
-      kept_whole (world_of plan) base has_marks (idle_start plan)
+      kept_whole (world_of plan) base has_marks
       (met_start vlan_view new_vlans_there vlans)
       (met_start stream_view (new_streams_there event) streams)

@@ -41,7 +41,7 @@ use Rattle.world_core.specs.Carrying.{NothingWaits, has_send}
 use Rattle.world_core.proofs.Lists.{get_set}
 use Rattle.world_core.proofs.Nodes.{stepped_is}
 use Rattle.world_core.proofs.StepBoxes.{asked_boxes, spoilt_boxes}
-use Rattle.world_core.proofs.Forces.{read_map}
+use Rattle.world_core.proofs.Reservations.{read_map}
 use Rattle.world_core.proofs.Happenings.{carried_none}
 use Rattle.world_core.proofs.Runs.{after_append, each_append, trees_stay}
 

@@ -23,7 +23,7 @@ use Rattle.world_core.specs.Start.{world_of}
 use Rattle.world_core.specs.Ticks.{script_at, step_events, after_steps, closing_events, tick_events}
 use Rattle.world_core.specs.Moments.{events_from, IsMoment}
 use Rattle.world_core.specs.Limits.{caps_at, booked_at_port, IsWithinLimits}
-use Rattle.world_core.specs.Force.{Force, no_force, said_by}
+use Rattle.world_core.specs.Reservation.{Reservation, no_reservation, said_by}
 use Rattle.world_core.specs.Timeline.{node_force, force_at, world_after_ticks, IsAfterSteps, IsTimelineOf}
 use Rattle.world_core.proofs.Lists.{within}
 use Rattle.world_core.proofs.PortOrder.{AreInOrder, port_itself, same_port, before_other, earlier_is, order_from_pairs, at_append, each_weaker, upto_append}
@@ -109,11 +109,11 @@ steps_are_moment plan ticks t w h =
 
 -- ---- the slopes of a change
 
-slope_a_is : (p : EgressPort) (w : WorldState) (o : Option NodeState) → (option_map_or (node_force (place_of p.port)) o no_force).slope_a ≡ option_map_or (slope_at A (place_of p.port)) o 0
+slope_a_is : (p : EgressPort) (w : WorldState) (o : Option NodeState) → (option_map_or (node_force (place_of p.port)) o no_reservation).slope_a ≡ option_map_or (slope_at A (place_of p.port)) o 0
 slope_a_is p w None = refl
 slope_a_is p w (Some s) = refl
 
-slope_b_is : (p : EgressPort) (w : WorldState) (o : Option NodeState) → (option_map_or (node_force (place_of p.port)) o no_force).slope_b ≡ option_map_or (slope_at B (place_of p.port)) o 0
+slope_b_is : (p : EgressPort) (w : WorldState) (o : Option NodeState) → (option_map_or (node_force (place_of p.port)) o no_reservation).slope_b ≡ option_map_or (slope_at B (place_of p.port)) o 0
 slope_b_is p w None = refl
 slope_b_is p w (Some s) = refl
 
@@ -134,8 +134,8 @@ module _ (plan : Plan) (ticks : List Tick) (changes : List PortChange) (timeline
         let said = said_then c has lt is in
         let w = said.0 in
         let caps = limits w (steps_are_moment plan ticks c.tick w said.1) c.at has in
-        let a : c.slope_a ≡ booked_at_port A c.at w = ap (λ (f : Force). f.slope_a) said.2 ∙ slope_a_is c.at w (node_at c.at.node w) in
-        let b : c.slope_b ≡ booked_at_port B c.at w = ap (λ (f : Force). f.slope_b) said.2 ∙ slope_b_is c.at w (node_at c.at.node w) in
+        let a : c.slope_a ≡ booked_at_port A c.at w = ap (λ (f : Reservation). f.slope_a) said.2 ∙ slope_a_is c.at w (node_at c.at.node w) in
+        let b : c.slope_b ≡ booked_at_port B c.at w = ap (λ (f : Reservation). f.slope_b) said.2 ∙ slope_b_is c.at w (node_at c.at.node w) in
         (omega (arith, a, caps.class_a), omega (arith, a, b, caps.both))
 
     both_each : (cs : List PortChange) → AllByRecursion (λ c. HasPort plan.tree c.at) cs → AllByRecursion (λ c. c.tick < length ticks) cs

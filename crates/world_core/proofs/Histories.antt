@@ -21,7 +21,7 @@ use Rattle.attribute_propagation.specs.Ports.{place_of}
 use Rattle.node_core.specs.State.{NodeState}
 use Rattle.world_core.specs.declared.journal.NodeSteps.{NodeSteps}
 use Rattle.world_core.specs.World.{WorldState, node_at}
-use Rattle.world_core.specs.Force.{Force, no_force, said_by, is_same, are_same_streams, are_same_vids, change_of}
+use Rattle.world_core.specs.Reservation.{Reservation, no_reservation, said_by, is_same, are_same_streams, are_same_vids, change_of}
 use Rattle.world_core.specs.Timeline.{node_force, force_at, lacking, changes_noted, tree_ports, with_notes, AreChanges, Says}
 use Rattle.world_core.specs.History.{by_port, joined_ports, all_changes_of, IsByPort, ComeUpTo, is_act, acts_at, has_acted, act_noted, acts_noted, node_noted, ports_noted}
 use Rattle.world_core.proofs.PortOrder.{AreAt, each_append, each_weaker, each_filter, are_at, flat_at, same_flat, one_more_from}
@@ -113,7 +113,7 @@ node_pushed f k nodes node before is =
 
 -- ---- noting a port
 
-same_self : (f : Force) → is_same f f ≡ true
+same_self : (f : Reservation) → is_same f f ≡ true
 same_self f =
     let s = are_same_streams f.booked f.booked in
     let a = f.slope_a == f.slope_a in
@@ -124,11 +124,11 @@ same_self f =
     ((pointwise_decides same_vid f.vids f.vids).1 refl)
 
 -- where the changes say it, nothing is lacking
-pub says_noted : (tick : ℕ) (p : EgressPort) (f : Force) (cs : List PortChange) → said_by (in_force tick cs) ≡ f → cs ≡ changes_noted tick p f cs
-says_noted tick p f cs says = lacks_none tick p f cs cs (ap (λ (g : Force). is_same g f) says ∙ same_self f)
+pub says_noted : (tick : ℕ) (p : EgressPort) (f : Reservation) (cs : List PortChange) → said_by (in_force tick cs) ≡ f → cs ≡ changes_noted tick p f cs
+says_noted tick p f cs says = lacks_none tick p f cs cs (ap (λ (g : Reservation). is_same g f) says ∙ same_self f)
 
 -- once they are noted, they say it
-noted_says : (tick : ℕ) (p : EgressPort) (f : Force) (cs : List PortChange) → changes_noted tick p f cs ≡ changes_noted tick p f (changes_noted tick p f cs)
+noted_says : (tick : ℕ) (p : EgressPort) (f : Reservation) (cs : List PortChange) → changes_noted tick p f cs ≡ changes_noted tick p f (changes_noted tick p f cs)
 noted_says tick p f cs =
     elim (cases_Bool (is_same (said_by (in_force tick cs)) f)) [
       | inl is ↦ (
@@ -140,7 +140,7 @@ noted_says tick p f cs =
           says_noted tick p f (changes_noted tick p f cs) (ap (λ (ds : List PortChange). said_by (in_force tick ds)) now ∙ ap said_by (one_more_from tick cs one (omega arith))))
     ]
 
-noted_upto : (tick : ℕ) (p : EgressPort) (f : Force) (cs : List PortChange) → ComeUpTo tick cs → ComeUpTo tick (changes_noted tick p f cs)
+noted_upto : (tick : ℕ) (p : EgressPort) (f : Reservation) (cs : List PortChange) → ComeUpTo tick cs → ComeUpTo tick (changes_noted tick p f cs)
 noted_upto tick p f cs upto =
     each_append (λ (c : PortChange). c.tick ≤ tick) cs (lacking tick p f cs) upto
     (cond_both (is_same (said_by (in_force tick cs)) f) [] (change_of tick p f ∷ []) (AllByRecursion (λ (c : PortChange). c.tick ≤ tick)) (λ is. tt) (λ nay. (omega arith, tt)))
@@ -210,8 +210,8 @@ module _ (tick : ℕ) (n : NodeNo) (w : WorldState) (own : EgressPort → List P
   own_ports s here [] = refl
   own_ports s here (k ∷ ks) =
       let p = port_of n.0 k in
-      let force : node_force (place_of p.port) s ≡ force_at p w = sym (ap (λ (o : Option NodeState). option_map_or (node_force (place_of p.port)) o no_force) here) in
-      let one = ap (λ (f : Force). changes_noted tick p f (own p)) force ∙ sym (cond-true (n.0 == n.0) (changes_noted tick p (force_at p w) (own p)) (own p) (eq-eqb n.0 n.0 refl)) in
+      let force : node_force (place_of p.port) s ≡ force_at p w = sym (ap (λ (o : Option NodeState). option_map_or (node_force (place_of p.port)) o no_reservation) here) in
+      let one = ap (λ (f : Reservation). changes_noted tick p f (own p)) force ∙ sym (cond-true (n.0 == n.0) (changes_noted tick p (force_at p w) (own p)) (own p) (eq-eqb n.0 n.0 refl)) in
       ap (λ (cs : List PortChange). cs ∷ map (λ q. changes_noted tick q (node_force (place_of q.port) s) (own q)) (map (port_of n.0) ks)) one
       ∙ ap (λ (css : List (List PortChange)). after_node p ∷ css) (own_ports s here ks)
 

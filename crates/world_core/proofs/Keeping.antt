@@ -6,14 +6,13 @@ use Rattle.tree_topology.specs.PortLaws.{HasPortLaws}
 use Rattle.world_core.specs.declared.events.WorldEvent.{WorldEvent}
 use Rattle.world_core.specs.World.{WorldState, world_step, world_after, CanHappen, CanAllHappen, IsEventInRange}
 use Rattle.world_core.specs.Duty.{AreVlanDutiesMet, AreStreamDutiesMet}
-use Rattle.world_core.specs.Kept.{AreBridgesIdle, IsKeptWorld}
+use Rattle.world_core.specs.Kept.{IsKeptWorld}
 use Rattle.world_core.proofs.Nodes.{Base}
 use Rattle.world_core.proofs.BaseSteps.{NodeLaws, base_event}
 use Rattle.world_core.proofs.EventSteps.{HasMarks, met_event}
 use Rattle.world_core.proofs.MarkEvents.{marks_event}
 use Rattle.world_core.proofs.VlanSteps.{VlanLaws, vlan_view, vlan_links, vlan_facts}
 use Rattle.world_core.proofs.StreamSteps.{StreamLaws, stream_view, stream_links, stream_facts}
-use Rattle.world_core.proofs.Idle.{idle_step}
 
 pub base_kept : (w : WorldState) → IsKeptWorld w → Base w
 base_kept w kept = record { tree = kept.tree; many = kept.many; nodes = kept.nodes; clock = kept.clock }
@@ -21,9 +20,9 @@ base_kept w kept = record { tree = kept.tree; many = kept.many; nodes = kept.nod
 pub marks_kept : (w : WorldState) → IsKeptWorld w → HasMarks w
 marks_kept w kept = record { tree = kept.marks_of; of = kept.marks }
 
-pub kept_whole : (w : WorldState) → Base w → HasMarks w → AreBridgesIdle w → AreVlanDutiesMet w → AreStreamDutiesMet w → IsKeptWorld w
-kept_whole w base of idle vlans streams =
-    record { tree = base.tree; many = base.many; nodes = base.nodes; clock = base.clock; marks_of = of.tree; marks = of.of; idle = idle; duties = vlans; streams = streams }
+pub kept_whole : (w : WorldState) → Base w → HasMarks w → AreVlanDutiesMet w → AreStreamDutiesMet w → IsKeptWorld w
+kept_whole w base of vlans streams =
+    record { tree = base.tree; many = base.many; nodes = base.nodes; clock = base.clock; marks_of = of.tree; marks = of.of; duties = vlans; streams = streams }
 
 -- the laws that this rests on, as the public laws say them
 pub record KeepingLaws : Type 0 where
@@ -38,7 +37,7 @@ module _ (laws : KeepingLaws) where
       let base = base_kept w kept in
       let ports = laws.ports w.tree kept.tree in
       let of = marks_kept w kept in
-      kept_whole (world_step e w).0 (base_event laws.nodes e w can fits base) (marks_event e w ports can of) (idle_step e w can kept.idle)
+      kept_whole (world_step e w).0 (base_event laws.nodes e w can fits base) (marks_event e w ports can of)
       (met_event vlan_view (vlan_links laws.vlans) (vlan_facts laws.vlans) e w ports can base of kept.duties)
       (met_event stream_view (stream_links laws.streams) (stream_facts laws.streams) e w ports can base of kept.streams)
 

@@ -15,7 +15,7 @@ mod VlanSteps
 mod StreamSteps
 mod MarkEvents
 mod Keeping
-mod Idle
+mod Asks
 mod NewMarks
 mod Beginnings
 mod NewRows
@@ -37,7 +37,7 @@ mod PortOrder
 mod Noting
 mod Picked
 mod LastChange
-mod Forces
+mod Reservations
 mod Timelines
 mod Changes
 mod Places
@@ -45,3 +45,4 @@ mod Acting
 mod Histories
 mod NotedRuns
 pub mod InStep
+mod Whole

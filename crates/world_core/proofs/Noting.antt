@@ -16,7 +16,7 @@ use Rattle.tree_topology.specs.Ports.{neighbours}
 use Rattle.frame_flow.specs.Force.{is_port, changes_at, in_force}
 use Rattle.frame_flow.specs.Copies.{ports_at, port_of}
 use Rattle.frame_flow.specs.Given.{IsEarlier}
-use Rattle.world_core.specs.Force.{Force, said_by, are_same_streams, are_same_vids, is_same, change_of}
+use Rattle.world_core.specs.Reservation.{Reservation, said_by, are_same_streams, are_same_vids, is_same, change_of}
 use Rattle.world_core.specs.Timeline.{lacking, changes_noted, tree_ports, AreChanges}
 use Rattle.world_core.specs.Merging.{changes_among}
 use Rattle.world_core.proofs.PortOrder.{IsBefore, Ascend, IsIn, AreAt, AreInOrder, each_append, each_weaker, each_flat, each_filter, order_filter, order_from_pairs, pairs_from_order, earlier_tick, are_at, flat_at, flat_order, port_by_port, merged_flat, upto_all, one_more_before, one_more_from}
@@ -114,7 +114,7 @@ same_stream x y =
 pub same_vid : (x y : ℕ) → ((x == y) ≡ true → x ≡ y) × (x ≡ y → (x == y) ≡ true)
 same_vid x y = (eqb-true x y, eq-eqb x y)
 
-pub same_is : (f g : Force) → is_same f g ≡ true → f ≡ g
+pub same_is : (f g : Reservation) → is_same f g ≡ true → f ≡ g
 same_is f g is =
     let s = are_same_streams f.booked g.booked in
     let a = f.slope_a == g.slope_a in
@@ -130,24 +130,24 @@ same_is f g is =
     ∙ ap (λ (x : ℕ). record { booked = g.booked; slope_a = g.slope_a; slope_b = x; vids = f.vids }) (eqb-true f.slope_b g.slope_b third.1)
     ∙ ap (λ (x : List ℕ). record { booked = g.booked; slope_a = g.slope_a; slope_b = g.slope_b; vids = x }) vids
 
-pub lacking_at : (tick : ℕ) (p : EgressPort) (f : Force) (cs : List PortChange) → AreAt p (lacking tick p f cs)
+pub lacking_at : (tick : ℕ) (p : EgressPort) (f : Reservation) (cs : List PortChange) → AreAt p (lacking tick p f cs)
 lacking_at tick p f cs =
     cond_both (is_same (said_by (in_force tick cs)) f) [] (change_of tick p f ∷ []) (AreAt p) (λ is. tt) (λ nay. (refl, tt))
 
-pub lacks_none : (tick : ℕ) (p : EgressPort) (f : Force) (cs items : List PortChange) → is_same (said_by (in_force tick cs)) f ≡ true → items ≡ items ++ lacking tick p f cs
+pub lacks_none : (tick : ℕ) (p : EgressPort) (f : Reservation) (cs items : List PortChange) → is_same (said_by (in_force tick cs)) f ≡ true → items ≡ items ++ lacking tick p f cs
 lacks_none tick p f cs items is =
     sym (ap (λ (ds : List PortChange). items ++ ds) (cond-true (is_same (said_by (in_force tick cs)) f) [] (change_of tick p f ∷ []) is) ∙ append-nil items)
 
-pub lacks_one : (tick : ℕ) (p : EgressPort) (f : Force) (cs items : List PortChange) → is_same (said_by (in_force tick cs)) f ≡ false → items ++ change_of tick p f ∷ [] ≡ items ++ lacking tick p f cs
+pub lacks_one : (tick : ℕ) (p : EgressPort) (f : Reservation) (cs items : List PortChange) → is_same (said_by (in_force tick cs)) f ≡ false → items ++ change_of tick p f ∷ [] ≡ items ++ lacking tick p f cs
 lacks_one tick p f cs items nay =
     sym (ap (λ (ds : List PortChange). items ++ ds) (cond-false (is_same (said_by (in_force tick cs)) f) [] (change_of tick p f ∷ []) nay))
 
 -- ---- the changes of one tick more
 
-abbrev pub noted_by : ℕ → (EgressPort → Force) → List EgressPort → List PortChange → List PortChange
+abbrev pub noted_by : ℕ → (EgressPort → Reservation) → List EgressPort → List PortChange → List PortChange
 noted_by tick force ports changes = flat_map (λ p. changes_noted tick p (force p) (changes_at changes p)) ports
 
-module _ (tick : ℕ) (force : EgressPort → Force) (changes : List PortChange) where
+module _ (tick : ℕ) (force : EgressPort → Reservation) (changes : List PortChange) where
   abbrev of_port : EgressPort → List PortChange
   of_port p = changes_at changes p ++ lacking tick p (force p) (changes_at changes p)
 
@@ -226,7 +226,7 @@ module _ (tick : ℕ) (force : EgressPort → Force) (changes : List PortChange)
       ∙ merged_flat (changes_at changes) lack (λ p. are_at p changes) (λ p. lacking_at tick p (force p) (changes_at changes p)) ps up
 
 -- so it is at the ports of a tree
-module _ (tree : Topology) (tick : ℕ) (force : EgressPort → Force) (changes : List PortChange) (are : AreChanges tree tick changes) where
+module _ (tree : Topology) (tick : ℕ) (force : EgressPort → Reservation) (changes : List PortChange) (are : AreChanges tree tick changes) where
   order : AreInOrder changes
   order = order_from_pairs changes are.ascend
 

@@ -36,7 +36,7 @@ use Rattle.world_core.specs.World.{WorldState}
 use Rattle.world_core.proofs.Lists.{all_each, at_each, decide}
 use Rattle.world_core.proofs.Beginnings.{new_at}
 use Rattle.world_core.proofs.EachNode.{AllNodes, IsOfSides, KeepsOwn}
-use Rattle.world_core.proofs.Idle.{stays_step, stays_spoilt}
+use Rattle.world_core.proofs.Asks.{stays_step, stays_spoilt}
 use Rattle.world_core.proofs.Runs.{each_append, same_number}
 
 -- ---- what is kept of a node

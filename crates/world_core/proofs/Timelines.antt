@@ -14,9 +14,9 @@ use Rattle.world_core.specs.World.{WorldState, world_step, world_after}
 use Rattle.world_core.specs.Start.{world_of}
 use Rattle.world_core.specs.Ticks.{script_at, step_events, after_steps, closing_events, tick_events}
 use Rattle.world_core.specs.Moments.{events_from}
-use Rattle.world_core.specs.Force.{said_by}
+use Rattle.world_core.specs.Reservation.{said_by}
 use Rattle.world_core.specs.Timeline.{force_at, with_notes, AreChanges, SaysFrom, world_after_ticks, IsAfterSteps, IsTimelineOf}
-use Rattle.world_core.proofs.Forces.{start_has_none}
+use Rattle.world_core.proofs.Reservations.{start_has_none}
 use Rattle.world_core.proofs.Noting.{tree_noted, tree_before, tree_from}
 
 -- ---- noted in a network

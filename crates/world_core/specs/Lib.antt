@@ -15,7 +15,7 @@ pub mod Cursor
 pub mod Script
 pub mod Limits
 pub mod Talks
-pub mod Force
+pub mod Reservation
 pub mod Merging
 pub mod Timeline
 pub mod History

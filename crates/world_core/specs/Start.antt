@@ -24,7 +24,7 @@ use Rattle.msrp.specs.declared.domain.DomainSet.{DomainSet}
 use Rattle.msrp.specs.declared.domain.DomainSet.TheVariants.{Off, Nothing, OnlyA, Both}
 use Rattle.node_core.specs.declared.types.Wire.{Wire}
 use Rattle.node_core.specs.State.{NodeState, new_node}
-use Rattle.world_core.specs.Kept.{AsksNothing}
+use Rattle.node_core.specs.Proper.{AsksNothing}
 use Rattle.world_core.specs.Marks.{new_marks}
 use Rattle.world_core.specs.World.{WorldState}
 

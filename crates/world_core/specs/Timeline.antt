@@ -17,12 +17,12 @@ use Rattle.world_core.specs.World.{WorldState, node_at, world_after}
 use Rattle.world_core.specs.Start.{world_of}
 use Rattle.world_core.specs.Ticks.{after_steps}
 use Rattle.world_core.specs.Moments.{events_from}
-use Rattle.world_core.specs.Force.{Force, no_force, said_by, registered_vids, is_same, change_of}
+use Rattle.world_core.specs.Reservation.{Reservation, no_reservation, said_by, registered_vids, is_same, change_of}
 
 -- ---- what is in force in a network
 
 -- at a node's port of a place
-abbrev pub node_force : ℕ → NodeState → Force
+abbrev pub node_force : ℕ → NodeState → Reservation
 node_force at s =
     record {
       booked = map (λ x. x.want.stream) (bookings_at at s);
@@ -32,18 +32,18 @@ node_force at s =
     }
 
 -- at a port
-abbrev pub force_at : EgressPort → WorldState → Force
-force_at p w = option_map_or (node_force (place_of p.port)) (node_at p.node w) no_force
+abbrev pub force_at : EgressPort → WorldState → Reservation
+force_at p w = option_map_or (node_force (place_of p.port)) (node_at p.node w) no_reservation
 
 -- ---- the changes of one tick more
 
 -- the change that a port's changes lack to say in a tick what is in force there: none where they say it
-abbrev pub lacking : ℕ → EgressPort → Force → List PortChange → List PortChange
+abbrev pub lacking : ℕ → EgressPort → Reservation → List PortChange → List PortChange
 lacking tick p force changes =
     if is_same (said_by (in_force tick changes)) force then [] else change_of tick p force ∷ []
 
 -- a port's changes with the one that they lack
-abbrev pub changes_noted : ℕ → EgressPort → Force → List PortChange → List PortChange
+abbrev pub changes_noted : ℕ → EgressPort → Reservation → List PortChange → List PortChange
 changes_noted tick p force changes = changes ++ lacking tick p force changes
 
 -- the ports of a tree, ascending by node and port
@@ -62,7 +62,7 @@ pub record AreChanges (tree : Topology) (tick : ℕ) (changes : List PortChange)
   pub before : All (λ c. c.tick < tick) changes
 
 -- changes say of a port what is in force there in a tick
-abbrev pub Says : ℕ → List PortChange → EgressPort → Force → Type 0
+abbrev pub Says : ℕ → List PortChange → EgressPort → Reservation → Type 0
 Says tick changes p force = said_by (in_force tick (changes_at changes p)) ≡ force
 
 -- they say from a tick on what is in force at each port of a network

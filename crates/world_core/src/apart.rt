@@ -1,9 +1,12 @@
 //! A network taken apart: its nodes, each of which may make the steps of its ports by itself, and what is left of it.
 
 ghost use Rattle.std.specs.Prelude.{◌≡◌};
-ghost use Rattle.world_core.specs.Kept.{IsKeptWorld};
+ghost use Rattle.std.specs.List.{AllByRecursion};
+ghost use Rattle.node_core.specs.Proper.{IsProperNode};
+ghost use Rattle.world_core.specs.Kept.{IsKeptWorld, IsWhole};
 ghost use Rattle.world_core.specs.World.{world_with};
 
+use crate::laws::what_is_kept_is_whole;
 use crate::marks::Marks;
 use crate::world::World;
 use node_core::Node;
@@ -26,23 +29,37 @@ impl World {
         ensures marks { result.0.marks ≡ self.marks }
         ensures nodes { result.1 ≡ self.nodes }
         ensures kept { IsKeptWorld (world_with result.0.tree result.1 result.0.marks) }
+        ensures whole { IsWhole (world_with result.0.tree result.1 result.0.marks) }
     {
+        what_is_kept_is_whole();
         let World { tree, nodes, marks } = self;
         (WorldRest { tree, marks }, Seq::from_vec(nodes))
     }
 
-    /// Puts a network together from what was left and nodes ascending by number, which with the tree and the marks keep what
-    /// every network keeps. That they do after steps which the nodes have made apart is the law `steps_made_apart_keep_it`.
-    /// Nothing is changed in them, and no memory is taken.
+    /// Puts a network together from what was left and nodes ascending by number, which stand in the tree and with it and the
+    /// marks keep one clock and what each link keeps; what each node keeps by itself is known of it. That they do after
+    /// steps which the nodes have made apart is the law `steps_made_apart_keep_it`. Nothing is changed in them, and no memory
+    /// is taken.
     pub fn join(rest: WorldRest, nodes: Seq<Node>) -> World
-        requires { IsKeptWorld (world_with rest.tree nodes rest.marks) }
+        requires { IsWhole (world_with rest.tree nodes rest.marks) }
         ensures { result ≡ world_with rest.tree nodes rest.marks }
     {
+        what_is_kept_is_whole();
+        each_is_proper(nodes.as_slice());
         let WorldRest { tree, marks } = rest;
         World {
             tree,
             nodes: nodes.into_vec(),
             marks,
         }
+    }
+}
+
+// What each of these nodes keeps, by its type.
+fn each_is_proper(nodes: &[Node])
+    ensures { AllByRecursion IsProperNode nodes.now }
+{
+    for node in nodes {
+        node.keeps_all();
     }
 }

@@ -6,6 +6,7 @@ ghost use Rattle.srp_base.specs.declared.numbers.NodeNo.{NodeNo};
 ghost use Rattle.srp_base.specs.declared.numbers.PortNo.{PortNo};
 ghost use Rattle.node_core.specs.declared.types.NodeStep.{NodeStep};
 ghost use Rattle.node_core.specs.declared.types.PortStep.{PortStep};
+ghost use Rattle.node_core.specs.Proper.{IsProperNode};
 ghost use Rattle.node_core.specs.State.{NodeState};
 ghost use Rattle.node_core.specs.Step.{node_step};
 ghost use Rattle.std.specs.List.{AllByRecursion};
@@ -23,7 +24,7 @@ ghost use Rattle.world_core.specs.declared.journal.NodeSteps.{NodeSteps};
 ghost use Rattle.world_core.specs.declared.journal.Tick.{Tick};
 ghost use Rattle.world_core.specs.World.{WorldState, CanHappen, CanAllHappen, IsEventInRange, node_at, world_step, world_after, replies_to};
 ghost use Rattle.world_core.specs.Start.{world_of, domain_rows, IsAtStart};
-ghost use Rattle.world_core.specs.Kept.{IsKeptWorld};
+ghost use Rattle.world_core.specs.Kept.{IsKeptWorld, IsWhole};
 ghost use Rattle.world_core.specs.Apart.{events_of, replies_of, HaveOwnReplies, after_own, after_nodes, AreMadeApart};
 ghost use Rattle.world_core.specs.Ticks.{event_of, script_at, link_ports, step_events, step_replies, after_steps, LeadTo, AreLegalTicks, AreCanonicalTicks, IsLegalTick, IsCanonicalTick, tick_events};
 ghost use Rattle.world_core.specs.During.{IsDuring, IsAllowed, NamesNeighbours};
@@ -243,6 +244,13 @@ pub fn steps_made_apart_keep_it()
 {
     every_event_keeps_it();
 }
+
+/// What every network keeps is what it keeps beside its nodes, and what each of them keeps by itself, which its type says.
+pub fn what_is_kept_is_whole()
+    ensures whole { (w : WorldState) → IsKeptWorld w → IsWhole w }
+    ensures kept { (w : WorldState) → IsWhole w → AllByRecursion IsProperNode w.nodes
+        → IsKeptWorld w }
+{}
 
 /// Nothing waits to be carried when a network begins, nor at the end of a tick at whose beginning nothing did. Where no step of such
 /// a tick was Send, the carrying at its end changes nothing, since a Send alone puts a PDU in an outbox.

@@ -39,7 +39,6 @@
 mod apart;
 mod carry;
 mod events;
-mod force;
 mod happen;
 mod history;
 mod journal;
@@ -47,6 +46,7 @@ pub mod laws;
 mod marking;
 mod marks;
 mod merging;
+mod reservation;
 mod script;
 mod start;
 mod step;

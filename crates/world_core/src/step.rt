@@ -1,9 +1,6 @@
 //! One event of a network, and lists of them.
 
 ghost use Rattle.std.specs.Prelude.{◌≡◌, ◌≤◌, length, take, IfOk, IfErr, OnErr};
-ghost use Rattle.msrp_codec.specs.FirstValue.{IsTalker};
-ghost use Rattle.mvrp.specs.Vids.{IsVid};
-ghost use Rattle.node_core.specs.Proper.{AsksInRange};
 ghost use Rattle.world_core.specs.World.{CanHappen, IsEventInRange, CanAllHappen, world_step, world_after, replies_to};
 
 use crate::events::{WorldEvent, WorldReply};
@@ -11,9 +8,8 @@ use crate::happen::{carry, make_step, tick_all};
 use crate::laws::every_event_keeps_it;
 use crate::marking::{marked_forgery, marked_loss, marked_repeat, marked_step};
 use crate::world::World;
-use mrpdu_codec::are_octets;
-use node_core::{AppRequest, NodeEvent, Wire};
-use srp_base::{EgressPort, NoMemory, Seq, Talker, Vid};
+use node_core::{NodeEvent, Wire};
+use srp_base::{EgressPort, NoMemory, Seq};
 use std::alloc::Global;
 use tree_topology::laws::ports;
 
@@ -133,43 +129,17 @@ fn copied_wire(wire: &Wire) -> Result<Wire, NoMemory>
     })
 }
 
-// The types of what an event asks for say that it fits.
+// The types of a request and of a PDU say that an event fits.
 fn fits(event: &WorldEvent)
     ensures { IsEventInRange event.now }
 {
     match event {
-        WorldEvent::Request(_, request) => asks_in_range(*request),
-        WorldEvent::Forge(_, _, wire) => are_octets(wire.octets.as_slice()),
+        WorldEvent::Request(_, request) => request.keeps(),
+        WorldEvent::Forge(_, _, wire) => wire.keeps(),
         WorldEvent::Port(_, _, _)
         | WorldEvent::Lose(_, _)
         | WorldEvent::Repeat(_, _)
         | WorldEvent::Carry(_)
         | WorldEvent::Clock => {}
     }
-}
-
-// They say it of a request.
-fn asks_in_range(request: AppRequest)
-    ensures { AsksInRange request }
-{
-    match request {
-        AppRequest::Declare(vid) => in_range(vid),
-        AppRequest::Withdraw(vid) => in_range(vid),
-        AppRequest::Talk(talker) => talker_in_range(talker),
-        AppRequest::Hush(_) | AppRequest::Listen(_) | AppRequest::Unlisten(_) => {}
-    }
-}
-
-// They say it of a VID.
-fn in_range(vid: Vid)
-    ensures { IsVid vid }
-{
-    let _ = vid.get();
-}
-
-// They say it of each field of a Talker.
-fn talker_in_range(talker: Talker)
-    ensures { IsTalker talker }
-{
-    let _ = (talker.dest.get(), talker.priority.get());
 }

@@ -1,7 +1,7 @@
 use Rattle.std.proofs.Common.{◌≡◌, ◌<◌, List, length, ap, sym, subst, ◌∙◌, arith, rules}
 use Rattle.tree_topology.specs.Topology.{Topology}
 use Rattle.node_core.specs.State.{NodeState}
-use Rattle.world_core.specs.Kept.{IsKeptWorld}
+use Rattle.world_core.specs.Kept.{IsWhole}
 use Rattle.world_core.specs.Marks.{MarksState}
 use Rattle.world_core.specs.World.{WorldState}
 use Rattle.port_worker.specs.Gathered.{CanFollow, marks_made}
@@ -35,7 +35,7 @@ join-joined-requires g c =
     let tree = c.part-rest.ensures.tree in
     let nodes = c.from_vec.ensures ∙ c.in_ok-after.ensures.nodes in
     let marks = c.in_ok-after.ensures.marks ∙ ap (λ (m : MarksState). marks_made c.in_ok-all.all.items m) c.part-rest.ensures.marks in
-    subst (λ (x : Topology × List NodeState × MarksState). IsKeptWorld (whole x)) (λ i. (sym tree i, sym nodes i, sym marks i)) all.kept
+    subst (λ (x : Topology × List NodeState × MarksState). IsWhole (whole x)) (λ i. (sym tree i, sym nodes i, sym marks i)) (c.what_is_kept_is_whole.ensures.whole _ all.kept)
 
 pub returns : goal.returns
 returns g c =

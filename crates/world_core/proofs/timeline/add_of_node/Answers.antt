@@ -8,7 +8,7 @@ use Rattle.frame_flow.specs.Force.{changes_at}
 use Rattle.frame_flow.specs.Copies.{port_of}
 use Rattle.attribute_propagation.specs.Ports.{place_of}
 use Rattle.node_core.specs.State.{NodeState, ports_of}
-use Rattle.world_core.specs.Force.{no_force}
+use Rattle.world_core.specs.Reservation.{no_reservation}
 use Rattle.world_core.specs.Timeline.{node_force, force_at, lacking}
 use Rattle.world_core.proofs.Noting.{more_of_port}
 use Rattle.world_core.proofs.timeline.add_of_node.Goals as goal
@@ -21,7 +21,7 @@ loop-k-preserved c =
     let at = place_of q.port in
     more_of_port (λ p. lacking c.args.tick p (force_at p w) (changes_at cs p)) c.args.number.0 c.loop-k.k c.args.fresh.now.items c.loop-k.fresh.items c.add_of_port.new.fresh.items c.loop-k.invariant
     (c.in_ok-add_of_port.ensures
-    ∙ ap (λ (o : Option NodeState). c.loop-k.fresh.items ++ lacking c.args.tick q (option_map_or (node_force at) o no_force) (changes_at cs q)) (sym c.node-node.ensures))
+    ∙ ap (λ (o : Option NodeState). c.loop-k.fresh.items ++ lacking c.args.tick q (option_map_or (node_force at) o no_reservation) (changes_at cs q)) (sym c.node-node.ensures))
 
 pub returns : goal.returns
 returns c =

@@ -1,10 +1,8 @@
--- What the application of a node asks for stays at each step of a port and of the clock. So nothing asks a bridge for anything.
-use Rattle.std.proofs.Common.{◌≡◌, ℕ, ◌+◌, List, [], ◌∷◌, refl, sym, ap, ◌∙◌}
+-- What the application of a node asks for stays at each step of a port.
+use Rattle.std.proofs.Common.{◌≡◌, ℕ, List, [], ◌∷◌, refl}
 use Rattle.std.specs.Prelude.{slice_get, slice_set, Option, Some, None, Result, Ok, Err}
-use Rattle.std.specs.List.{AllByRecursion}
 use Rattle.srp_base.specs.declared.mrp.App.{App}
 use Rattle.srp_base.specs.declared.mrp.App.TheVariants.{Mvrp, Msrp}
-use Rattle.tree_topology.specs.declared.graph.NodeKind.TheVariants.{Station, Bridge}
 use Rattle.mvrp_codec.specs.declared.pdu.MvrpPdu.{MvrpPdu}
 use Rattle.mvrp_codec.specs.Meaning.{mvrp_reading}
 use Rattle.msrp_codec.specs.declared.pdu.MsrpPdu.{MsrpPdu}
@@ -15,26 +13,12 @@ use Rattle.mvrp.specs.Side.{Vlans}
 use Rattle.msrp.specs.PortState.{PortState}
 use Rattle.msrp.specs.Side.{Streams, with_port}
 use Rattle.node_core.specs.declared.types.Wire.{Wire}
-use Rattle.node_core.specs.declared.types.AppRequest.{AppRequest}
-use Rattle.node_core.specs.declared.types.AppRequest.TheVariants.{Declare, Withdraw, Talk, Hush, Listen, Unlisten}
-use Rattle.node_core.specs.declared.types.NodeEvent.TheVariants as node_events
 use Rattle.node_core.specs.declared.types.NodeKey.TheVariants.{Vlan, Srp}
 use Rattle.node_core.specs.declared.types.PortStep.{PortStep}
 use Rattle.node_core.specs.declared.types.PortStep.TheVariants.{Work, LeaveNow, LeaveAllNow, PeriodicNow, Due, Settle, Send}
 use Rattle.node_core.specs.State.{NodeState, box_at}
-use Rattle.node_core.specs.Step.{node_step, port_step, after_work, worked_mvrp, worked_msrp, worked_app, octets_to_say, sent_octets, clocked_node}
+use Rattle.node_core.specs.Step.{port_step, after_work, worked_mvrp, worked_msrp, worked_app, octets_to_say, sent_octets}
 use Rattle.node_core.specs.Links.{spoilt_at}
-use Rattle.topology_file.specs.Plan.{Plan}
-use Rattle.topology_file.specs.declared.entries.NodeEntry.{NodeEntry}
-use Rattle.world_core.specs.declared.events.WorldEvent.{WorldEvent}
-use Rattle.world_core.specs.declared.events.WorldEvent.TheVariants.{Request, Port as PortEvent, Lose, Repeat, Forge, Carry, Clock}
-use Rattle.world_core.specs.World.{WorldState, node_at, world_step, CanHappen}
-use Rattle.world_core.specs.Start.{world_of, nodes_from}
-use Rattle.world_core.specs.Kept.{IsIdleBridge, AreBridgesIdle}
-use Rattle.world_core.proofs.Lists.{one_some, each_of, at_each}
-use Rattle.world_core.proofs.EachNode.{IsOfSides, KeepsOwn, all_keep}
-
--- ---- a node
 
 -- the kind stays, and so does what the application asks for
 pub record SameKindAndAsks (s t : NodeState) : Type 0 where
@@ -112,56 +96,3 @@ stays_step (Send app) at s = stays_sent app at (octets_to_say app at s) s
 pub stays_spoilt : (app : App) (at : ℕ) (s : NodeState) → SameKindAndAsks s (spoilt_at app at s)
 stays_spoilt Mvrp at s = of_vlans s _ (own_at at _ s.vlans (λ p. refl))
 stays_spoilt Msrp at s = of_streams s _ (asks_at at _ s.streams (λ p. record { talks = refl; listens = refl }))
-
-pub stays_clocked : (s : NodeState) → SameKindAndAsks s (clocked_node s)
-stays_clocked s = record { kind = refl; own = refl; talks = refl; listens = refl }
-
--- ---- a bridge
-
-idle_stays : (s t : NodeState) → SameKindAndAsks s t → IsIdleBridge s → IsIdleBridge t
-idle_stays s t h idle k =
-    let was = idle (sym h.kind ∙ k) in
-    record { own = h.own ∙ was.own; talks = h.talks ∙ was.talks; listens = h.listens ∙ was.listens }
-
-abbrev IsIdleAt : ℕ → NodeState → Type 0
-IsIdleAt x s = IsIdleBridge s
-
-idle_sides : IsOfSides IsIdleAt
-idle_sides = record { boxes = λ x s ins outs h. idle_stays s (record s { inboxes = ins; outboxes = outs }) (record { kind = refl; own = refl; talks = refl; listens = refl }) h; marks = λ app at x s h. idle_stays s (spoilt_at app at s) (stays_spoilt app at s) h }
-
-asked_kind : (request : AppRequest) (s : NodeState) → (node_step (node_events.Request request) s).0.kind ≡ s.kind
-asked_kind (Declare vid) s = refl
-asked_kind (Withdraw vid) s = refl
-asked_kind (Talk talker) s = refl
-asked_kind (Hush stream) s = refl
-asked_kind (Listen stream) s = refl
-asked_kind (Unlisten stream) s = refl
-
--- the steps of a node leave a bridge idle, and a request is of a station
-idle_own : (e : WorldEvent) (w : WorldState) → CanHappen e w → KeepsOwn IsIdleAt e w
-idle_own (Request n request) w can = λ s at idle k. absurd (station s at (sym (asked_kind request s) ∙ k))
-  where
-    station : (s : NodeState) → node_at n w ≡ Some s → s.kind ≡ Bridge → ⊥
-    station s at k =
-        let there = can.1 in
-        let same : there.0 ≡ s = one_some (node_at n w) there.0 s there.1 at in
-        let kind : s.kind ≡ Station = ap (λ (t : NodeState). t.kind) (sym same) ∙ there.2 in
-        cc
-idle_own (PortEvent n port step) w can = λ s at idle. idle_stays s (port_step step _ s).0 (stays_step step _ s) idle
-idle_own (Lose p index) w can = tt
-idle_own (Repeat p index) w can = tt
-idle_own (Forge p index wire) w can = tt
-idle_own (Carry p) w can = tt
-idle_own Clock w can = λ x s at idle. idle_stays s (clocked_node s) (stays_clocked s) idle
-
--- what happens in a network leaves its bridges idle
-pub idle_step : (e : WorldEvent) (w : WorldState) → CanHappen e w → AreBridgesIdle w → AreBridgesIdle (world_step e w).0
-idle_step e w can idle = each_of IsIdleBridge (world_step e w).0.nodes (all_keep IsIdleAt idle_sides e w (idle_own e w can) (at_each IsIdleBridge w.nodes idle))
-
-idle_from : (plan : Plan) (x : ℕ) (entries : List NodeEntry) → AllByRecursion IsIdleBridge (nodes_from plan x entries)
-idle_from plan x [] = tt
-idle_from plan x (n ∷ entries) = ((λ k. record { own = refl; talks = refl; listens = refl }), idle_from plan (x + 1) entries)
-
--- the bridges of a scenario are idle at its start
-pub idle_start : (plan : Plan) → AreBridgesIdle (world_of plan)
-idle_start plan = idle_from plan 1 plan.nodes

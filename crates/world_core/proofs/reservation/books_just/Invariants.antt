@@ -1,6 +1,6 @@
 use Rattle.std.proofs.Common.{◌≡◌, ◌≤◌, length, drop}
-use Rattle.world_core.specs.Force.{booked_streams, are_same_streams}
-use Rattle.world_core.proofs.force.books_just.Given as goal
+use Rattle.world_core.specs.Reservation.{booked_streams, are_same_streams}
+use Rattle.world_core.proofs.reservation.books_just.Given as goal
 
 abbrev pub invariant-loop-i : goal.invariant-loop-i
 invariant-loop-i l =

@@ -32,7 +32,7 @@ use Rattle.world_core.specs.declared.events.WorldEvent.TheVariants.{Carry, Clock
 use Rattle.world_core.specs.World.{WorldState, node_at, with_node, with_changed, outbox, after_carrying, after_clock, world_after}
 use Rattle.world_core.specs.Start.{world_of, domain_set, nodes_from, setups_from}
 use Rattle.world_core.specs.Ticks.{link_ports, closing_events}
-use Rattle.world_core.specs.Force.{Force, no_force, booked_streams, registered_vids, force_of}
+use Rattle.world_core.specs.Reservation.{Reservation, no_reservation, booked_streams, registered_vids, reservation_of}
 use Rattle.world_core.specs.Timeline.{node_force, force_at}
 use Rattle.world_core.proofs.Lists.{within}
 
@@ -60,7 +60,7 @@ read_set f none (z ∷ xs) (suc i) (suc j) x y is same = read_set f none xs i j 
 
 -- ---- at a node
 
-pub same_force : (f g : Force) → f.booked ≡ g.booked → f.slope_a ≡ g.slope_a → f.slope_b ≡ g.slope_b → f.vids ≡ g.vids → f ≡ g
+pub same_force : (f g : Reservation) → f.booked ≡ g.booked → f.slope_a ≡ g.slope_a → f.slope_b ≡ g.slope_b → f.vids ≡ g.vids → f ≡ g
 same_force f g booked a b vids =
     ap (λ (x : List StreamId). record { booked = x; slope_a = f.slope_a; slope_b = f.slope_b; vids = f.vids }) booked
     ∙ ap (λ (x : ℕ). record { booked = g.booked; slope_a = x; slope_b = f.slope_b; vids = f.vids }) a
@@ -78,9 +78,9 @@ clock_keeps at s =
     refl
 
 -- nothing is in force at a new node
-new_has_none : (kind : NodeKind) (bridge : BridgeId) (leave_time : Cs) (periodic : Bool) (domain : DomainSet) (ports : List PortSetup) (at : ℕ) → node_force at (new_node kind bridge leave_time periodic domain ports) ≡ no_force
+new_has_none : (kind : NodeKind) (bridge : BridgeId) (leave_time : Cs) (periodic : Bool) (domain : DomainSet) (ports : List PortSetup) (at : ℕ) → node_force at (new_node kind bridge leave_time periodic domain ports) ≡ no_reservation
 new_has_none kind bridge leave_time periodic domain ports at =
-    same_force (node_force at (new_node kind bridge leave_time periodic domain ports)) no_force
+    same_force (node_force at (new_node kind bridge leave_time periodic domain ports)) no_reservation
     (ap (map (λ (x : Entry). x.want.stream)) (read_made (λ (p : PortState). booked_of p.ledger.entries) [] (new_port bridge leave_time periodic domain) (λ s. refl) ports at))
     (read_made (λ (p : PortState). booked_slope p.ledger.entries A) 0 (new_port bridge leave_time periodic domain) (λ s. refl) ports at)
     (read_made (λ (p : PortState). booked_slope p.ledger.entries B) 0 (new_port bridge leave_time periodic domain) (λ s. refl) ports at)
@@ -88,17 +88,17 @@ new_has_none kind bridge leave_time periodic domain ports at =
 
 -- what a port has in force by its participant and its ledger
 port_force : (s : NodeState) (at : ℕ) (part : Part) (book : Book) (o : Option Part) (q : Option PortState) → o ≡ Some part → q ≢ None → IfSome q (λ p. book ≡ p.ledger)
-    → slice_get s.vlans.parts at ≡ o → slice_get s.streams.ports at ≡ q → node_force at s ≡ force_of part book
+    → slice_get s.vlans.parts at ≡ o → slice_get s.streams.ports at ≡ q → node_force at s ≡ reservation_of part book
 port_force s at part book o None there some is e f = absurd (some refl)
 port_force s at part book o (Some p) there some is e f =
-    same_force (node_force at s) (force_of part book)
+    same_force (node_force at s) (reservation_of part book)
     (ap (λ (r : Option PortState). map (λ (x : Entry). x.want.stream) (option_map_or (λ (y : PortState). booked_of y.ledger.entries) r [])) f ∙ ap (λ (b : Book). booked_streams b.entries) (sym is))
     (ap (λ (r : Option PortState). option_map_or (λ (y : PortState). booked_slope y.ledger.entries A) r 0) f ∙ ap (λ (b : Book). booked_slope b.entries A) (sym is))
     (ap (λ (r : Option PortState). option_map_or (λ (y : PortState). booked_slope y.ledger.entries B) r 0) f ∙ ap (λ (b : Book). booked_slope b.entries B) (sym is))
     (ap (λ (r : Option Part). option_map_or (λ (y : Part). registered_vids y.rows) r []) (e ∙ there))
 
 pub force_is : (s : NodeState) (at : ℕ) (part : Part) (book : Book) → at < length s.streams.ports → slice_get s.vlans.parts at ≡ Some part → IfSome (slice_get s.streams.ports at) (λ p. book ≡ p.ledger)
-    → node_force at s ≡ force_of part book
+    → node_force at s ≡ reservation_of part book
 force_is s at part book lt there is =
     port_force s at part book (slice_get s.vlans.parts at) (slice_get s.streams.ports at) there
     (λ none. let w = within s.streams.ports at lt in none-some w.0 (sym none ∙ w.1)) is refl refl
@@ -109,7 +109,7 @@ force_is s at part book lt there is =
 found_changed : (n : NodeNo) (change : NodeState → NodeState) (p : EgressPort) → ((s : NodeState) → node_force (place_of p.port) (change s) ≡ node_force (place_of p.port) s) → (w : WorldState)
     (o : Option NodeState) → node_at n w ≡ o → force_at p (option_map_or (λ s. with_node n (change s) w) o w) ≡ force_at p w
 found_changed n change p same w None is = refl
-found_changed n change p same w (Some s) is = read_set (node_force (place_of p.port)) no_force w.nodes (n.0 - 1) (p.node.0 - 1) s (change s) is (same s)
+found_changed n change p same w (Some s) is = read_set (node_force (place_of p.port)) no_reservation w.nodes (n.0 - 1) (p.node.0 - 1) s (change s) is (same s)
 
 pub force_changed : (n : NodeNo) (change : NodeState → NodeState) (p : EgressPort) → ((s : NodeState) → node_force (place_of p.port) (change s) ≡ node_force (place_of p.port) s) → (w : WorldState)
     → force_at p (with_changed n change w) ≡ force_at p w
@@ -122,7 +122,7 @@ carry_keeps q p w =
     force_changed r.node (with_carried (place_of r.port) (outbox q w)) p (λ s. refl) taken ∙ force_changed q.node (with_outbox (place_of q.port) []) p (λ s. refl) w
 
 tick_keeps : (p : EgressPort) (w : WorldState) → force_at p (after_clock w) ≡ force_at p w
-tick_keeps p w = read_map (node_force (place_of p.port)) no_force (λ s. (node_step node_events.Clock s).0) (clock_keeps (place_of p.port)) w.nodes (p.node.0 - 1)
+tick_keeps p w = read_map (node_force (place_of p.port)) no_reservation (λ s. (node_step node_events.Clock s).0) (clock_keeps (place_of p.port)) w.nodes (p.node.0 - 1)
 
 ports_keep : (qs : List EgressPort) (p : EgressPort) (w : WorldState) → force_at p (world_after (map Carry qs ++ (Clock ∷ [])) w) ≡ force_at p w
 ports_keep [] p w = tick_keeps p w
@@ -132,11 +132,11 @@ ports_keep (q ∷ qs) p w = ports_keep qs p (after_carrying q w) ∙ carry_keeps
 pub closing_keeps : (tree : Topology) (w : WorldState) (p : EgressPort) → force_at p (world_after (closing_events tree) w) ≡ force_at p w
 closing_keeps tree w p = ports_keep (link_ports tree) p w
 
-nodes_have_none : (plan : Plan) (x : ℕ) (entries : List NodeEntry) (i at : ℕ) → option_map_or (node_force at) (slice_get (nodes_from plan x entries) i) no_force ≡ no_force
+nodes_have_none : (plan : Plan) (x : ℕ) (entries : List NodeEntry) (i at : ℕ) → option_map_or (node_force at) (slice_get (nodes_from plan x entries) i) no_reservation ≡ no_reservation
 nodes_have_none plan x [] i at = refl
 nodes_have_none plan x (n ∷ entries) zero at = new_has_none n.kind n.id plan.leave_time plan.periodic (domain_set plan.domains n.domain) (setups_from 1 x plan.links) at
 nodes_have_none plan x (n ∷ entries) (suc i) at = nodes_have_none plan (x + 1) entries i at
 
 -- nothing is in force at the start
-pub start_has_none : (plan : Plan) (p : EgressPort) → force_at p (world_of plan) ≡ no_force
+pub start_has_none : (plan : Plan) (p : EgressPort) → force_at p (world_of plan) ≡ no_reservation
 start_has_none plan p = nodes_have_none plan 1 plan.nodes (p.node.0 - 1) (place_of p.port)

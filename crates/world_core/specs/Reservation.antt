@@ -16,19 +16,19 @@ use Rattle.mvrp.specs.Part.{Part}
 
 -- what is in force at a port: the booked streams ascending, their slopes of each class together in bit/s, and the
 -- registered VIDs ascending
-pub record Force : Type 0 where
+pub record Reservation : Type 0 where
   pub booked : List StreamId
   pub slope_a : ℕ
   pub slope_b : ℕ
   pub vids : List ℕ
 
 -- nothing is
-abbrev pub no_force : Force
-no_force = record { booked = []; slope_a = 0; slope_b = 0; vids = [] }
+abbrev pub no_reservation : Reservation
+no_reservation = record { booked = []; slope_a = 0; slope_b = 0; vids = [] }
 
 -- what a change says, and what is said before the first
-abbrev pub said_by : Option PortChange → Force
-said_by None = no_force
+abbrev pub said_by : Option PortChange → Reservation
+said_by None = no_reservation
 said_by (Some c) =
     record { booked = c.booked; slope_a = c.slope_a; slope_b = c.slope_b; vids = c.vids }
 
@@ -45,8 +45,8 @@ abbrev pub registered_vids : List (Row ℕ (Unit {0})) → List ℕ
 registered_vids rows = map key_of (filter is_registered_row rows)
 
 -- what a port has in force, by its participant of MVRP and its ledger
-abbrev pub force_of : Part → Book → Force
-force_of part book =
+abbrev pub reservation_of : Part → Book → Reservation
+reservation_of part book =
     record {
       booked = booked_streams book.entries;
       slope_a = booked_slope book.entries A;
@@ -63,13 +63,13 @@ abbrev pub are_same_vids : List ℕ → List ℕ → Bool
 are_same_vids xs ys = pointwise (λ x y. x == y) xs ys
 
 -- whether the same is in force by both: booked streams, slopes and VIDs
-abbrev pub is_same : Force → Force → Bool
+abbrev pub is_same : Reservation → Reservation → Bool
 is_same f g =
     are_same_streams f.booked g.booked && (f.slope_a == g.slope_a) && (f.slope_b == g.slope_b)
     && are_same_vids f.vids g.vids
 
 -- the change in a tick that says what is in force at a port
-abbrev pub change_of : ℕ → EgressPort → Force → PortChange
+abbrev pub change_of : ℕ → EgressPort → Reservation → PortChange
 change_of tick p f =
     record {
       at = p;

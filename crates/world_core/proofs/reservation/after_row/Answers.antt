@@ -1,10 +1,10 @@
 use Rattle.std.proofs.Common.{sym}
 use Rattle.std.specs.Prelude.{◌==◌}
 use Rattle.mrp_participant.specs.Lookup.{key_of}
-use Rattle.world_core.specs.Force.{is_registered_row}
+use Rattle.world_core.specs.Reservation.{is_registered_row}
 use Rattle.world_core.proofs.Picked.{pass_none, pass_same, pass_other, pass_end}
-use Rattle.world_core.proofs.force.after_row.Goals as goal
-use Rattle.world_core.proofs.force.after_row.Goals.{else-next-vids-via-then-next-vids+else-eq, else-next-vids-via-else-next-vids}
+use Rattle.world_core.proofs.reservation.after_row.Goals as goal
+use Rattle.world_core.proofs.reservation.after_row.Goals.{else-next-vids-via-then-next-vids+else-eq, else-next-vids-via-else-next-vids}
 
 pub returns-in_default-clause-same : goal.returns-in_default-clause-same
 returns-in_default-clause-same c =

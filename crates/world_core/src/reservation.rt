@@ -2,7 +2,7 @@
 
 ghost use Rattle.std.specs.Prelude.{◌≡◌, ◌≤◌, ◌<◌, ◌+◌, true, false, length, drop, map, option_map, HoldsAt, MatchOption, IfOk, IfSome, IfNone};
 ghost use Rattle.port_ledger.specs.Decision.{is_booked};
-ghost use Rattle.world_core.specs.Force.{said_by, booked_streams, is_registered_row, registered_vids, force_of, are_same_streams, are_same_vids, is_same, change_of};
+ghost use Rattle.world_core.specs.Reservation.{said_by, booked_streams, is_registered_row, registered_vids, reservation_of, are_same_streams, are_same_vids, is_same, change_of};
 
 use mrp_participant::Participant;
 use mvrp::MvrpApp;
@@ -18,7 +18,7 @@ pub(crate) fn is_said(
     force: Option<&PortChange>,
 ) -> bool
     ensures { result ≡ is_same (said_by (option_map (λ c. c.now) force.entry))
-        (force_of part.now ledger.now) }
+        (reservation_of part.now ledger.now) }
 {
     match force {
         Some(c) => is_said_by(part, ledger, c),
@@ -28,7 +28,7 @@ pub(crate) fn is_said(
 
 // Whether it is what this change says.
 fn is_said_by(part: &Participant<MvrpApp>, ledger: &Ledger, c: &PortChange) -> bool
-    ensures { result ≡ is_same (said_by (Some c.now)) (force_of part.now ledger.now) }
+    ensures { result ≡ is_same (said_by (Some c.now)) (reservation_of part.now ledger.now) }
 {
     books_just(ledger, c.booked.as_slice())
         && u128::from(c.slope_a) == ledger.slope(Class::A)
@@ -38,7 +38,7 @@ fn is_said_by(part: &Participant<MvrpApp>, ledger: &Ledger, c: &PortChange) -> b
 
 // Whether nothing is in force.
 fn has_nothing(part: &Participant<MvrpApp>, ledger: &Ledger) -> bool
-    ensures { result ≡ is_same (said_by None) (force_of part.now ledger.now) }
+    ensures { result ≡ is_same (said_by None) (reservation_of part.now ledger.now) }
 {
     books_just(ledger, &[])
         && ledger.slope(Class::A) == 0
@@ -154,7 +154,7 @@ pub(crate) fn new_change(
     part: &Participant<MvrpApp>,
     ledger: &Ledger,
 ) -> Result<PortChange, NoMemory>
-    ensures { IfOk result (λ c. c ≡ change_of tick at (force_of part.now ledger.now)) }
+    ensures { IfOk result (λ c. c ≡ change_of tick at (reservation_of part.now ledger.now)) }
 {
     ledger.within_caps();
     let booked = streams_of(alloc, ledger)?;
