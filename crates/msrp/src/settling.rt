@@ -101,8 +101,8 @@ fn settled(
     ensures port { IfOk result (λ r. IfSome (slice_get view.now.ports.now view.now.at) (λ p. r.0
         ≡ settled_port view.now.at (registrations_from view.now)
         (talker_keys view.now.talks.now view.now.ports.now) awaiting.now.keys p)) }
-    ensures told { IfOk result (λ r. IfSome (slice_get view.now.ports.now view.now.at) (λ p. r.1.items
-        ≡ listener_keys (moved_streams p.ledger
+    ensures told { IfOk result (λ r. IfSome (slice_get view.now.ports.now view.now.at)
+        (λ p. r.1.items ≡ listener_keys (moved_streams p.ledger
         (next_book view.now.at (registrations_from view.now) awaiting.now.keys p)))) }
 {
     let port = view.port();
@@ -226,7 +226,8 @@ fn settling_keys(
     awaiting: &Dirty<MsrpKey>,
 ) -> Result<Dirty<MsrpKey>, NoMemory>
     ensures { IfOk result (λ d. d.keys
-        ≡ settling_keys moved.now (talker_keys view.now.talks.now view.now.ports.now) awaiting.now.keys) }
+        ≡ settling_keys moved.now (talker_keys view.now.talks.now view.now.ports.now)
+        awaiting.now.keys) }
 {
     if moved.is_empty() {
         return awaiting.copy();
@@ -364,7 +365,8 @@ fn settle_all(
     requires { view.now.at < length view.now.ports.now }
     ensures { OnOk result (part.new
         ≡ settled_part
-        (stated_at view.now.at (record port.now { ledger = ledger.now }) (registrations_from view.now))
+        (stated_at view.now.at (record port.now { ledger = ledger.now })
+        (registrations_from view.now))
         keys.now part.old) }
 {
     for key in keys {

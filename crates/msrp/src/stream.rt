@@ -175,7 +175,8 @@ struct TalkerSeen {
 
 // A stream's Talker as a link port sees it.
 fn seen_from(view: &PortView<'_>, stream: StreamId) -> TalkerSeen
-    ensures here { result.is_here ≡ is_talker_port (suc view.now.at) (talkers_from view.now stream) }
+    ensures here { result.is_here
+        ≡ is_talker_port (suc view.now.at) (talkers_from view.now stream) }
     ensures reg { result.reg ≡ first_talker (talkers_from view.now stream) }
 {
     match talk_of(view.talks, stream) {
@@ -381,7 +382,8 @@ fn other_listeners(
 ) -> Result<Vec<PortListener>, NoMemory>
     requires { view.now.at < length view.now.ports.now }
     ensures { talker.now ≡ first_talker (talkers_from view.now stream)
-        → IfOk result (λ v. v.items ≡ other_listeners view.now.at (registrations_from view.now stream)) }
+        → IfOk result (λ v. v.items
+        ≡ other_listeners view.now.at (registrations_from view.now stream)) }
 {
     let mut others = Vec::with_capacity(alloc, view.ports.len())?;
     push_row(&mut others, own_listener(view.listens, stream, talker))?;

@@ -32,7 +32,8 @@ pub(crate) fn told_sets(
     requires { view.now.at < length (keys_in sets.now) }
     ensures { IfOk result (λ o. sets_with (keys_in_some (option_map (λ v. v.items) o)) (keys_in sets.now)
         ≡ told_sets view.now.at domain told.now
-        (known_keys view.now.talks.now view.now.listens.now view.now.ports.now) (keys_in sets.now)) }
+        (known_keys view.now.talks.now view.now.listens.now view.now.ports.now)
+        (keys_in sets.now)) }
 {
     each_port_is_told::<MsrpKey>();
     let keys = all_keys_with(alloc, told)?;
