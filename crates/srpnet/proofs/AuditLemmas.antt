@@ -203,7 +203,7 @@ module _ (given wanted rest : List ℕ) (at lines : ℕ) (so_far : IsCompared gi
 -- with a text of which no legal ticks are, the answer isn't yes
 pub none_approved : (plan : Plan) (parts : AuditParts) → ((ticks : List Tick) (world : WorldState) → IsJournalOf plan parts.journal ticks world → ⊥)
     → IsApproved plan parts → ⊥
-none_approved plan parts none yes = none yes.ticks yes.world (record { legal = yes.run.run.lead; text_is = yes.run.spelled })
+none_approved plan parts none approved = none approved.ticks approved.world (record { legal = approved.run.run.lead; text_is = approved.run.spelled })
 
 -- a run of a text, and its journal
 pub run_of_journal : (plan : Plan) (text : List ℕ) (ticks : List Tick) (world : WorldState) (flows : List PortFlow) → IsRunOf plan text ticks world flows
@@ -214,7 +214,7 @@ module _ (plan : Plan)
     (one_journal : (text : List ℕ) (ticks others : List Tick) (end last : WorldState) → IsJournalOf plan text ticks end → IsJournalOf plan text others last → ticks ≡ others)
     (one_end : (text : List ℕ) (ticks others : List Tick) (end last : WorldState) → IsJournalOf plan text ticks end → IsJournalOf plan text others last → end ≡ last)
     (one_flow : (ticks : List Tick) (world : WorldState) (changes others : List PortChange) (flows last : List PortFlow)
-      → IsRun AreLegalTicks plan ticks world changes flows → IsRun AreLegalTicks plan ticks world others last → flows ≡ last)
+    → IsRun AreLegalTicks plan ticks world changes flows → IsRun AreLegalTicks plan ticks world others last → flows ≡ last)
     (parts : AuditParts) where
   -- two legal runs with one text have one report
   pub same_run : (ticks others : List Tick) (world end : WorldState) (flows last : List PortFlow) → IsRunOf plan parts.journal ticks world flows
@@ -234,7 +234,7 @@ module _ (plan : Plan)
   -- nor is it yes with a report that differs from that of a legal run with this text
   pub other_report : (ticks : List Tick) (world : WorldState) (flows : List PortFlow) (count : ℕ) → IsRunOf plan parts.journal ticks world flows
       → IsFirstDifferent parts.report (report_text plan world ticks flows) count → IsApproved plan parts → ⊥
-  other_report ticks world flows count run differs yes =
+  other_report ticks world flows count run differs approved =
       differs.here
       (ap (λ (text : List ℕ). take (suc count) (lines_of text))
-      (yes.reported ∙ same_run yes.ticks ticks yes.world world yes.flows flows yes.run run))
+      (approved.reported ∙ same_run approved.ticks ticks approved.world world approved.flows flows approved.run run))

@@ -7,7 +7,6 @@ use Rattle.world_core.specs.Ticks.{AreLegalTicks}
 use Rattle.world_core.specs.World.{WorldState}
 use Rattle.frame_flow.specs.declared.result.PortFlow.{PortFlow}
 use Rattle.srp_base.specs.declared.ports.PortChange.{PortChange}
-use Rattle.journal_audit.specs.declared.form.Known.{Known}
 use Rattle.journal_audit.specs.Audit.{AgreesFor, IsFirstIllegal, IsJournalOf, IsRefusal, known_of}
 use Rattle.journal_audit.specs.Form.{AreFormed, IsFirstUnformed}
 use Rattle.journal_audit.specs.Journal.{ticks_lines}
@@ -35,23 +34,25 @@ one_first P down a b at_a past_a at_b past_b =
           ]
     ]
 
-formed_down : (known : Known) (t : ℕ) (lines : List (List ℕ)) (m n : ℕ) → m ≤ n → AreFormed known t (take n lines) → AreFormed known t (take m lines)
-formed_down known t lines zero n le h = tt
-formed_down known t [] (suc m) n le h = tt
-formed_down known t (line ∷ lines) (suc m) zero le h = absurd (omega (arith, le))
-formed_down known t (line ∷ lines) (suc m) (suc n) le h =
-    (h.0, h.1, h.2, h.3, formed_down known h.0 lines m n (omega (arith, le)) h.4)
+formed_down : (plan : Plan) (t : ℕ) (lines : List (List ℕ)) (m n : ℕ) → m ≤ n → AreFormed (known_of plan) t (take n lines)
+    → AreFormed (known_of plan) t (take m lines)
+formed_down plan t lines zero n le h = tt
+formed_down plan t [] (suc m) n le h = tt
+formed_down plan t (line ∷ lines) (suc m) zero le h = absurd (omega (arith, le))
+formed_down plan t (line ∷ lines) (suc m) (suc n) le h =
+    (h.0, h.1, h.2, h.3, formed_down plan h.0 lines m n (omega (arith, le)) h.4)
 
-all_formed : (known : Known) (t : ℕ) (lines : List (List ℕ)) (m : ℕ) → AreFormed known t lines → AreFormed known t (take m lines)
-all_formed known t lines zero h = tt
-all_formed known t [] (suc m) h = tt
-all_formed known t (line ∷ lines) (suc m) h = (h.0, h.1, h.2, h.3, all_formed known h.0 lines m h.4)
+all_formed : (plan : Plan) (t : ℕ) (lines : List (List ℕ)) (m : ℕ) → AreFormed (known_of plan) t lines → AreFormed (known_of plan) t (take m lines)
+all_formed plan t lines zero h = tt
+all_formed plan t [] (suc m) h = tt
+all_formed plan t (line ∷ lines) (suc m) h = (h.0, h.1, h.2, h.3, all_formed plan h.0 lines m h.4)
 
 agrees_down : (plan : Plan) (text : List ℕ) (m n : ℕ) → m ≤ n → AgreesFor plan text n → AgreesFor plan text m
 agrees_down plan text m n le h =
-    let made = ticks_lines plan 0 h.0 in
-    (
-      h.0, h.1, h.2,
+    let made = ticks_lines plan 0 h.0 in (
+      h.0,
+      h.1,
+      h.2,
       sym (take-take m n made le) ∙ ap (λ (l : List (List ℕ)). take m l) h.3 ∙ take-take m n (lines_of text) le,
     )
 
@@ -64,7 +65,6 @@ same_down one other m n le is = sym (take-take m n one le) ∙ ap (λ (l : List 
 one_refusal : (plan : Plan) (text : List ℕ) (line why line' why' : ℕ) → IsRefusal plan text line why → IsRefusal plan text line' why'
     → (line ≡ line') × (why ≡ why')
 one_refusal plan text line why line' why' one other =
-    let known = known_of plan in
     let lines = lines_of text in
     let from = one.0 in
     let from' = other.0 in
@@ -72,14 +72,14 @@ one_refusal plan text line why line' why' one other =
       | inl here ↦
           elim other.1 [
             | inl there ↦ (
-                let at = one_first (λ n. AreFormed known 0 (take n lines)) (formed_down known 0 lines) (line - 1) (line' - 1)
+                let at = one_first (λ n. AreFormed (known_of plan) 0 (take n lines)) (formed_down plan 0 lines) (line - 1) (line' - 1)
                 here.1.before here.1.here there.1.before there.1.here in
                 (omega (arith, at, from, from'), here.0 ∙ sym there.0))
-            | inr there ↦ absurd (here.1.here (all_formed known 0 lines (suc (line - 1)) there.1))
+            | inr there ↦ absurd (here.1.here (all_formed plan 0 lines (suc (line - 1)) there.1))
           ]
       | inr here ↦
           elim other.1 [
-            | inl there ↦ absurd (there.1.here (all_formed known 0 lines (suc (line' - 1)) here.1))
+            | inl there ↦ absurd (there.1.here (all_formed plan 0 lines (suc (line' - 1)) here.1))
             | inr there ↦ (
                 let at = one_first (AgreesFor plan text) (agrees_down plan text) (line - 1) (line' - 1)
                 here.2.before here.2.here there.2.before there.2.here in
@@ -96,7 +96,7 @@ module _ (plan : Plan)
     (one_journal : (text : List ℕ) (ticks others : List Tick) (end last : WorldState) → IsJournalOf plan text ticks end → IsJournalOf plan text others last → ticks ≡ others)
     (one_end : (text : List ℕ) (ticks others : List Tick) (end last : WorldState) → IsJournalOf plan text ticks end → IsJournalOf plan text others last → end ≡ last)
     (one_flow : (ticks : List Tick) (world : WorldState) (changes others : List PortChange) (flows last : List PortFlow)
-      → IsRun AreLegalTicks plan ticks world changes flows → IsRun AreLegalTicks plan ticks world others last → flows ≡ last)
+    → IsRun AreLegalTicks plan ticks world changes flows → IsRun AreLegalTicks plan ticks world others last → flows ≡ last)
     (parts : AuditParts) where
   one_report : (line why line' why' : ℕ) → IsReportRefused plan parts line why → IsReportRefused plan parts line' why' → AuditNo line why ≡ AuditNo line' why'
   one_report line why line' why' one other =

@@ -12,8 +12,8 @@ ghost use Rattle.node_core.specs.State.{ports_of};
 ghost use Rattle.world_core.specs.Timeline.{node_force, force_at, lacking, tree_ports, with_notes, AreChanges};
 ghost use Rattle.world_core.specs.Merging.{precedes};
 
-use crate::reservation::{is_said, new_change};
 use crate::merging::{precedes, put_among};
+use crate::reservation::{is_said, new_change};
 use crate::world::World;
 use node_core::Node;
 use srp_base::{EgressPort, NoMemory, NodeNo, PortChange, PortNo, Timeline};
