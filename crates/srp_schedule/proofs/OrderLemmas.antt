@@ -100,6 +100,17 @@ no_order s still time =
     sym (ap order_of (quiet_lists s false time still)
     ∙ four _ _ _ _ [] [] [] [] (no_turn Works [] refl 1 n) (no_turn Dues [] refl 1 n) (no_turn Settles [] refl 1 n) (no_turn Sends [] refl 1 n))
 
+neither : (b c : Bool) → (b || c) ≡ false → (b ≡ false) × (c ≡ false)
+neither false false h = (refl, refl)
+neither false true h = (cc, cc)
+neither true c h = (cc, cc)
+
+-- a node that has nothing to do has no jobs in the order
+pub idle_order : (n : NodeNo) (w : WorldState) (s : NodeState) → node_at n w ≡ Some s → (is_busy_node s || is_sending_time s.clock) ≡ false → [] ≡ canonical_order n w
+idle_order n w s is idle =
+    let both = neither (is_busy_node s) (is_sending_time s.clock) idle in
+    no_order s both.0 both.1 ∙ sym (canonical_is n w s is)
+
 -- two Sends of one port more
 pub sends_more : (at n : ℕ) (order one both : List (PortNo × PortStep)) (all : List (PortNo × PortStep)) → at < n
     → one ≡ order ++ (record { 0 = at + 1 }, Send Mvrp) ∷ [] → both ≡ one ++ (record { 0 = at + 1 }, Send Msrp) ∷ []
