@@ -11,13 +11,13 @@ use stream_importance::{Entry, Fit, Want};
 const SMALL: u64 = 15_488_000;
 
 fn new_ledger(alloc: Global, delta_a: u64, delta_b: u64) -> Option<Ledger>
-    ensures { IfSome result (λ l. l.moment ≡ 0) }
+    ensures { IfSome result (λ l. l.book.moment ≡ 0) }
 {
     new_ledger_of(alloc, Rate::M100, delta_a, delta_b)
 }
 
 fn new_ledger_of(alloc: Global, rate: Rate, delta_a: u64, delta_b: u64) -> Option<Ledger>
-    ensures { IfSome result (λ l. l.moment ≡ 0) }
+    ensures { IfSome result (λ l. l.book.moment ≡ 0) }
 {
     let a = Percent::new(delta_a)?;
     let b = Percent::new(delta_b)?;
@@ -44,8 +44,8 @@ fn small(stream: u64) -> Want {
 
 /// Whether a want is taken with these streams newly booked, and no others dropped.
 fn takes(ledger: &mut Ledger, now: Cs, want: Want, booked: &[StreamId]) -> Result<bool, NoMemory>
-    requires { ledger.old.moment ≤ now.0 }
-    ensures { OnOk result (ledger.new.moment ≡ now.0) }
+    requires { ledger.old.book.moment ≤ now.0 }
+    ensures { OnOk result (ledger.new.book.moment ≡ now.0) }
 {
     let changed = ledger.want(now, want)?;
     let expected = changed.booked.as_slice() == booked && changed.dropped.is_empty();
@@ -54,7 +54,7 @@ fn takes(ledger: &mut Ledger, now: Cs, want: Want, booked: &[StreamId]) -> Resul
 
 /// Whether the fifth of five small streams is refused at moment 0, and the fourth booked.
 fn refuses_the_fifth(ledger: &Ledger) -> bool
-    requires { ledger.now.moment ≡ 0 }
+    requires { ledger.now.book.moment ≡ 0 }
 {
     let refused = Fit::TooLittle {
         more_important: 61_952_000,
@@ -67,7 +67,7 @@ fn refuses_the_fifth(ledger: &Ledger) -> bool
 
 /// Whether four of five small streams are taken, and no more.
 fn takes_four_of_five(ledger: &mut Ledger) -> Result<bool, NoMemory>
-    requires { ledger.old.moment ≡ 0 }
+    requires { ledger.old.book.moment ≡ 0 }
 {
     for stream in 1..6u64 {
         let new = [StreamId(stream)];
@@ -109,7 +109,7 @@ fn four_are_booked(ledger: &Ledger) -> bool {
 /// Whether the fifth of five small streams is booked once the first has left, which it does once, and
 /// time shows something then and not again.
 fn decides_anew(ledger: &mut Ledger) -> Result<bool, NoMemory>
-    requires { ledger.old.moment ≡ 0 }
+    requires { ledger.old.book.moment ≡ 0 }
 {
     for stream in 1..6u64 {
         ledger.want(Cs(stream - 1), small(stream))?;
@@ -134,9 +134,34 @@ fn what_a_stream_leaves_is_decided_anew(rt: HostRuntime) {
     assert!(rt; is_decided_anew(rt.alloc()));
 }
 
+/// The first of five equal streams, whose StreamIDs follow one another.
+const FIRST: u64 = 0x0200_0000_0001_0001;
+
+/// Whether the first stream enters in room that is made for it, and is booked.
+fn enters_in_room(ledger: &mut Ledger) -> Result<bool, NoMemory>
+    requires { ledger.old.book.moment ≡ 0 }
+{
+    ledger.room(1)?;
+    let changed = ledger.enter(Cs(0), small(FIRST));
+    Ok(changed && is_booked(ledger, FIRST, 0))
+}
+
+/// Whether it does so in a new ledger, of 75 percent.
+fn is_entered(alloc: Global) -> bool {
+    match new_ledger(alloc, 75, 0) {
+        Some(mut ledger) => enters_in_room(&mut ledger) == Ok(true),
+        None => false,
+    }
+}
+
+#[test]
+fn a_stream_enters_in_room_that_is_made(rt: HostRuntime) {
+    assert!(rt; is_entered(rt.alloc()));
+}
+
 /// An emergency stream, 3, takes the place of another, 9.
 fn evict(ledger: &mut Ledger) -> Result<(), NoMemory>
-    requires { ledger.old.moment ≡ 0 }
+    requires { ledger.old.book.moment ≡ 0 }
 {
     ledger.want(Cs(0), small(9))?;
     ledger.want(Cs(1), want_of(3, Class::A, Rank::Emergency, SMALL))?;
@@ -202,7 +227,7 @@ fn has_changed(ledger: &Ledger) -> bool {
 
 /// Whether the emergency stream takes the other's place, in the ledger and in what it tells.
 fn evicts(ledger: &mut Ledger) -> bool
-    requires { ledger.old.moment ≡ 0 }
+    requires { ledger.old.book.moment ≡ 0 }
 {
     evict(ledger).is_ok()
         && has_entries(ledger)
@@ -230,8 +255,8 @@ fn large_of_class_b(stream: u64) -> Want {
 
 /// Whether three small streams are taken at moment 0, and one of class B at 1.
 fn takes_both_classes(ledger: &mut Ledger) -> Result<bool, NoMemory>
-    requires { ledger.old.moment ≡ 0 }
-    ensures { OnOk result (ledger.new.moment ≤ 1) }
+    requires { ledger.old.book.moment ≡ 0 }
+    ensures { OnOk result (ledger.new.book.moment ≤ 1) }
 {
     for stream in 1..4u64 {
         if !takes(ledger, Cs(0), small(stream), &[StreamId(stream)])? {
@@ -243,8 +268,8 @@ fn takes_both_classes(ledger: &mut Ledger) -> Result<bool, NoMemory>
 
 /// Whether a fourth small stream is refused at moment 2.
 fn refuses_the_fourth(ledger: &mut Ledger) -> Result<bool, NoMemory>
-    requires { ledger.old.moment ≤ 2 }
-    ensures { OnOk result (ledger.new.moment ≡ 2) }
+    requires { ledger.old.book.moment ≤ 2 }
+    ensures { OnOk result (ledger.new.book.moment ≡ 2) }
 {
     let refused = Fit::TooLittle {
         more_important: 46_464_000,
@@ -257,7 +282,7 @@ fn refuses_the_fourth(ledger: &mut Ledger) -> Result<bool, NoMemory>
 
 /// Whether the refused stream is booked once the first has left, and that of class B stays.
 fn takes_the_first_one_out(ledger: &mut Ledger) -> bool
-    requires { ledger.old.moment ≤ 3 }
+    requires { ledger.old.book.moment ≤ 3 }
 {
     let slopes = (ledger.slope(Class::A), ledger.slope(Class::B));
     ledger.unwant(Cs(3), StreamId(1))
@@ -267,7 +292,7 @@ fn takes_the_first_one_out(ledger: &mut Ledger) -> bool
 }
 
 fn fill_a_place(ledger: &mut Ledger) -> Result<bool, NoMemory>
-    requires { ledger.old.moment ≡ 0 }
+    requires { ledger.old.book.moment ≡ 0 }
 {
     Ok(
         takes_both_classes(ledger)?
@@ -291,7 +316,7 @@ fn a_place_that_comes_free_is_filled(rt: HostRuntime) {
 
 /// Takes streams of slope 1, from the first up to the last, each at the moment before its number.
 fn take_many(ledger: &mut Ledger, class: Class, first: u64, last: u64) -> Result<(), NoMemory>
-    requires first { ledger.old.moment + 1 ≤ first }
+    requires first { ledger.old.book.moment + 1 ≤ first }
     requires last { last < 2 ^ 63 }
 {
     for stream in first..last + 1 {
@@ -304,7 +329,7 @@ fn take_many(ledger: &mut Ledger, class: Class, first: u64, last: u64) -> Result
 const MANY: u64 = 1_000_000;
 
 fn takes_a_million(ledger: &mut Ledger) -> Result<bool, NoMemory>
-    requires { ledger.old.moment ≡ 0 }
+    requires { ledger.old.book.moment ≡ 0 }
 {
     take_many(ledger, Class::A, 1, MANY)?;
     let total = u128::from(MANY);
@@ -330,7 +355,7 @@ fn a_million_streams_come_in_turn(rt: HostRuntime) {
 
 /// The same behind a stream that doesn't fit: one that waits doesn't make the others be decided at each call.
 fn takes_a_million_behind_one(ledger: &mut Ledger) -> Result<bool, NoMemory>
-    requires { ledger.old.moment ≡ 0 }
+    requires { ledger.old.book.moment ≡ 0 }
 {
     let waiting = want_of(0, Class::A, Rank::Normal, 10_000_000_000);
     let waits = takes(ledger, Cs(0), waiting, &[])?;

@@ -10,7 +10,7 @@ use Rattle.stream_importance.specs.declared.entry.Want.{Want}
 use Rattle.stream_importance.specs.declared.slope.Caps.{Caps}
 use Rattle.stream_importance.specs.Importance.{moment_or, IsImportanceOrder}
 use Rattle.port_ledger.specs.Decision.{booked_of, stream_of, IsAscending, decided_entries, Decides, marks_of, with_moments, since_after}
-use Rattle.port_ledger.specs.Book.{Book, IsKept, clocked_book, fit_in, tested_entry, same_want, unbooked_entry, unwanted_book, wanted_book, entry_with, with_want, without}
+use Rattle.port_ledger.specs.Book.{BookWithRoom, Book, IsKept, clocked_book, fit_in, tested_entry, same_want, unbooked_entry, unwanted_book, wanted_book, entry_with, with_want, without}
 use Rattle.port_ledger.proofs.Running.{all_with}
 use Rattle.port_ledger.proofs.Finding.{with_want-lower, with_want-same, with_want-higher}
 use Rattle.port_ledger.proofs.Marking.{different_from_ascending}
@@ -22,6 +22,10 @@ moment_later : (since : Option Cs) (moment now : ℕ) → moment ≤ now → mom
     → moment_or now since ≤ now
 moment_later None moment now up h = omega arith
 moment_later (Some c) moment now up h = omega (arith, h, up)
+
+-- what a ledger is seen as has one book
+pub book_is : {v w : BookWithRoom} → v ≡ w → v.book ≡ w.book
+book_is e = ap (λ (v : BookWithRoom). v.book) e
 
 pub moments_later : (moment now : ℕ) (xs : List Entry) → moment ≤ now
     → AllByRecursion (λ x. moment_or moment x.since ≤ moment) xs

@@ -1,5 +1,5 @@
 -- What a pass notes of the entries behind a front is what changed in the booked set.
-use Rattle.std.proofs.Common.{◌≡◌, ◌≢◌, ℕ, suc, ◌+◌, ◌≤◌, ◌<◌, Bool, true, false, not, ◌&&◌, ◌||◌, ◌==◌, cond, List, [], ◌∷◌, ◌++◌, map, filter, sum_by, length, get_or, set, take, drop, Option, Some, None, option_to_list, is_some, refl, sym, ◌∙◌, ap, subst, arith, inl, inr, append_assoc, append-nil, drop-cons, drop-set-lt, true≢false}
+use Rattle.std.proofs.Common.{◌≡◌, ◌≢◌, ◌↔◌, IsTrue, ℕ, suc, ◌+◌, ◌≤◌, ◌<◌, Bool, true, false, not, ◌&&◌, ◌||◌, ◌==◌, cond, List, [], ◌∷◌, ◌++◌, map, filter, sum_by, length, get_or, set, take, drop, Option, Some, None, option_to_list, is_some, refl, sym, ◌∙◌, ap, subst, arith, inl, inr, append_assoc, append-nil, drop-cons, drop-set-lt, true≢false}
 use Rattle.std.specs.Prelude.{nat_lt}
 use Rattle.std.specs.List.{AllByRecursion, list_any}
 use Rattle.std.specs.List.Sorted.{IsNonDecreasingBy, IsPermutation}
@@ -16,12 +16,12 @@ use Rattle.stream_importance.specs.declared.slope.Caps.{Caps}
 use Rattle.stream_importance.specs.Importance.{IsImportanceOrder}
 use Rattle.port_ledger.specs.declared.totals.Totals.{Totals}
 use Rattle.port_ledger.specs.Book.{booked_only_in, entry_of, same_entry, same_since, same_want, unbooked_entry, with_want, without}
-use Rattle.port_ledger.specs.Decision.{stream_of, decided_entries, is_booked, since_after, AreOfDifferentStreams, IsAscending}
+use Rattle.port_ledger.specs.Decision.{stream_of, booked_of, decided_entries, is_booked, since_after, AreOfDifferentStreams, IsAscending}
 use Rattle.port_ledger.specs.Front.{AreBehind, IsFront}
-use Rattle.port_ledger.specs.Notes.{booking_of, gains, has_loss, loses, noted, stream_where, streams_passed, AreRising}
+use Rattle.port_ledger.specs.Notes.{booking_of, gains, has_booking, has_move, has_passed, loses, moves, noted, stream_where, streams_passed, AreRising}
 use Rattle.port_ledger.specs.Totals.{both_of}
 use Rattle.port_ledger.specs.Pass.{entries_passed, exchanged, has_room, has_same, has_want, importance_order, sum_with}
-use Rattle.port_ledger.proofs.Comparing.{in_own, only_in}
+use Rattle.port_ledger.proofs.Comparing.{in_own, nothing_changed, only_in}
 use Rattle.port_ledger.proofs.Finding.{differ}
 use Rattle.port_ledger.proofs.Fronts.{behind_different, joined_behind, joined_different}
 use Rattle.port_ledger.proofs.Keeping.{all-without}
@@ -83,32 +83,32 @@ module _ (caps : Caps) (sum i room : ℕ) (order : List Entry) (d y : Entry) (wh
       noted-more loses caps sum sum i room room order d y whole done done l no_sum refl
       (ap (λ v. noted room done (stream_where v (get_or order i d))) (sym (ap (loses (get_or order i d)) full ∙ unbooked))) h
 
--- the same of whether a booking is lost
-pub loss-more : (caps : Caps) (sum sum' i : ℕ) (order : List Entry) (d y : Entry) (whole lost lost' : Bool) → i < length order
+-- the same of whether a test holds of any
+pub passed-more : (test : Entry → Bool → Bool) (caps : Caps) (sum sum' i : ℕ) (order : List Entry) (d y : Entry) (whole lost lost' : Bool) → i < length order
     → sum' ≡ sum_with sum (get_or order i d) (has_room caps sum (get_or order i d))
-    → lost' ≡ (lost || loses (get_or order i d) (has_room caps sum (get_or order i d)))
-    → whole ≡ (lost || has_loss caps sum (drop i order)) → whole ≡ (lost' || has_loss caps sum' (drop (i + 1) (set order i y)))
-loss-more caps sum sum' i order d y whole lost lost' l next new h =
+    → lost' ≡ (lost || test (get_or order i d) (has_room caps sum (get_or order i d)))
+    → whole ≡ (lost || has_passed test caps sum (drop i order)) → whole ≡ (lost' || has_passed test caps sum' (drop (i + 1) (set order i y)))
+passed-more test caps sum sum' i order d y whole lost lost' l next new h =
     let x : Entry = get_or order i d in
     let b : Bool = has_room caps sum x in
     let on : suc i ≡ i + 1 = omega arith in
     let kept : drop (i + 1) (set order i y) ≡ drop (suc i) order = ap (λ n. drop n (set order i y)) (sym on) ∙ drop-set-lt (suc i) order i y (omega arith) in
     h
-    ∙ (ap (λ ys. lost || has_loss caps sum ys) (drop-cons order i d l)
-    ∙ (or_again lost (loses x b) (has_loss caps (sum_with sum x b) (drop (suc i) order))
-    ∙ (ap (λ v. v || has_loss caps (sum_with sum x b) (drop (suc i) order)) (sym new)
-    ∙ (ap (λ n. lost' || has_loss caps n (drop (suc i) order)) (sym next)
-    ∙ ap (λ ys. lost' || has_loss caps sum' ys) (sym kept)))))
+    ∙ (ap (λ ys. lost || has_passed test caps sum ys) (drop-cons order i d l)
+    ∙ (or_again lost (test x b) (has_passed test caps (sum_with sum x b) (drop (suc i) order))
+    ∙ (ap (λ v. v || has_passed test caps (sum_with sum x b) (drop (suc i) order)) (sym new)
+    ∙ (ap (λ n. lost' || has_passed test caps n (drop (suc i) order)) (sym next)
+    ∙ ap (λ ys. lost' || has_passed test caps sum' ys) (sym kept)))))
   where
     or_again : (p q r : Bool) → (p || (q || r)) ≡ ((p || q) || r)
     or_again true q r = refl
     or_again false q r = refl
 
-pub skipped_loss : (caps : Caps) (sum i : ℕ) (order : List Entry) (d y : Entry) (whole lost : Bool) → i < length order → has_room caps sum (get_or order i d) ≡ false
-    → is_some (get_or order i d).since ≡ false → whole ≡ (lost || has_loss caps sum (drop i order)) → whole ≡ (lost || has_loss caps sum (drop (i + 1) (set order i y)))
-skipped_loss caps sum i order d y whole lost l full unbooked h =
-    loss-more caps sum sum i order d y whole lost lost l (ap (sum_with sum (get_or order i d)) (sym full))
-    (sym (or_right' lost (loses (get_or order i d) (has_room caps sum (get_or order i d))) (ap (loses (get_or order i d)) full ∙ unbooked))) h
+pub skipped_passed : (test : Entry → Bool → Bool) (caps : Caps) (sum i : ℕ) (order : List Entry) (d y : Entry) (whole lost : Bool) → i < length order → has_room caps sum (get_or order i d) ≡ false
+    → test (get_or order i d) false ≡ false → whole ≡ (lost || has_passed test caps sum (drop i order)) → whole ≡ (lost || has_passed test caps sum (drop (i + 1) (set order i y)))
+skipped_passed test caps sum i order d y whole lost l full off h =
+    passed-more test caps sum sum i order d y whole lost lost l (ap (sum_with sum (get_or order i d)) (sym full))
+    (sym (or_right' lost (test (get_or order i d) (has_room caps sum (get_or order i d))) (ap (test (get_or order i d)) full ∙ off))) h
   where
     or_right' : (p q : Bool) → q ≡ false → (p || q) ≡ p
     or_right' true q e = refl
@@ -441,6 +441,88 @@ module _ (now : ℕ) (caps : Caps) (sum : ℕ) (want : Want) (goes : Option Entr
           by_test true = omega arith
           by_test false = omega arith
 
+-- ---- whether anything is noted
+
+empty_permuted : (xs ys : List StreamId) → IsPermutation xs ys → ys ≡ [] → xs ≡ []
+empty_permuted [] ys p e = refl
+empty_permuted (x ∷ xs) ys p e =
+    let same = length_permutation (x ∷ xs) ys p in
+    let none = ap length e in
+    absurd (omega (arith, same, none))
+
+or_both : (p q : Bool) → (p || q) ≡ false → (p ≡ false) × (q ≡ false)
+or_both true q h = absurd (true≢false h)
+or_both false q h = (refl, h)
+
+empty_where : (v : Bool) (x : Entry) (ys : List StreamId) → stream_where v x ++ ys ≡ [] → (v ≡ false) × (ys ≡ [])
+empty_where true x ys e = let long : suc (length ys) ≡ 0 = ap length e in absurd (omega (arith, long))
+empty_where false x ys e = (refl, e)
+
+quiet_pass : (caps : Caps) (sum : ℕ) (xs : List Entry) → has_move caps sum xs ≡ false
+    → (streams_passed gains caps sum xs ≡ []) × (streams_passed loses caps sum xs ≡ [])
+quiet_pass caps sum [] h = (refl, refl)
+quiet_pass caps sum (x ∷ xs) h =
+    let b : Bool = has_room caps sum x in
+    let parts = or_both (moves x b) (has_move caps (sum_with sum x b) xs) h in
+    let here = or_both (gains x b) (loses x b) parts.0 in
+    let rest = quiet_pass caps (sum_with sum x b) xs parts.1 in (
+      ap (λ v. stream_where v x ++ streams_passed gains caps (sum_with sum x b) xs) here.0 ∙ rest.0,
+      ap (λ v. stream_where v x ++ streams_passed loses caps (sum_with sum x b) xs) here.1 ∙ rest.1,
+    )
+
+loud_pass : (caps : Caps) (sum : ℕ) (xs : List Entry) → streams_passed gains caps sum xs ≡ [] → streams_passed loses caps sum xs ≡ []
+    → has_move caps sum xs ≡ false
+loud_pass caps sum [] gain loss = refl
+loud_pass caps sum (x ∷ xs) gain loss =
+    let b : Bool = has_room caps sum x in
+    let more = empty_where (gains x b) x (streams_passed gains caps (sum_with sum x b) xs) gain in
+    let less = empty_where (loses x b) x (streams_passed loses caps (sum_with sum x b) xs) loss in
+    or_from (moves x b) (has_move caps (sum_with sum x b) xs) (or_from (gains x b) (loses x b) more.0 less.0)
+    (loud_pass caps (sum_with sum x b) xs more.1 less.1)
+
+none_quiet : (goes : Option Entry) (caps : Caps) (sum : ℕ) (xs : List Entry) → (has_booking goes || has_move caps sum xs) ≡ false
+    → (streams_passed gains caps sum xs ≡ []) × (booking_of goes ++ streams_passed loses caps sum xs ≡ [])
+none_quiet None caps sum xs h = quiet_pass caps sum xs h
+none_quiet (Some x) caps sum xs h =
+    let parts = or_both (is_booked x) (has_move caps sum xs) h in
+    let rest = quiet_pass caps sum xs parts.1 in (
+      rest.0,
+      ap (λ v. stream_where v x ++ streams_passed loses caps sum xs) parts.0 ∙ rest.1,
+    )
+
+none_loud : (goes : Option Entry) (caps : Caps) (sum : ℕ) (xs : List Entry) → streams_passed gains caps sum xs ≡ []
+    → booking_of goes ++ streams_passed loses caps sum xs ≡ [] → (has_booking goes || has_move caps sum xs) ≡ false
+none_loud None caps sum xs gain loss = loud_pass caps sum xs gain loss
+none_loud (Some x) caps sum xs gain loss =
+    let less = empty_where (is_booked x) x (streams_passed loses caps sum xs) loss in
+    or_from (is_booked x) (has_move caps sum xs) less.0 (loud_pass caps sum xs gain less.1)
+
+-- what is behind a front has an entry of a stream exactly where all entries have one, if the front has none
+module _ (s : StreamId) (front were es : List Entry) (was : AreBehind front were es) (off : AllByRecursion (λ y. stream_of y ≢ s.0) front) where
+  counted : (one other : Option Entry) → length (option_to_list one) ≡ length (option_to_list other) → is_some one ≡ is_some other
+  counted None None e = refl
+  counted None (Some y) e = absurd (omega (arith, e))
+  counted (Some x) None e = absurd (omega (arith, e))
+  counted (Some x) (Some y) e = refl
+
+  pub found_behind : is_some (entry_of were s) ≡ is_some (entry_of es s)
+  found_behind =
+      let here = ap length (one_of_stream s were (behind_different front were es was)) in
+      let all = ap length (one_of_stream s es (different_from_ascending es was.ascending)) in
+      let moved =
+      length_permutation (of_stream s es) (of_stream s were)
+      (subst (λ (ys : List Entry). IsPermutation (of_stream s es) ys)
+      (none_filtered (λ x. stream_of x == s.0) front were (all_with front off off (λ y ne _. ne_eqb (stream_of y) s.0 ne)))
+      (filter_permuted (λ x. stream_of x == s.0) es (front ++ were) was.same)) in
+      counted (entry_of were s) (entry_of es s) (omega (arith, here, all, moved))
+
+  pub none_behind : entry_of were s ≡ None → entry_of es s ≡ None
+  none_behind e = by_test (entry_of es s) (sym found_behind ∙ ap is_some e)
+    where
+      by_test : (o : Option Entry) → is_some o ≡ false → o ≡ None
+      by_test None h = refl
+      by_test (Some x) h = absurd (true≢false h)
+
 -- what is noted of a want that comes, where there is room for all
 module _ (now : ℕ) (o : IsImportanceOrder now) (caps : Caps) (place : ℕ) (totals : Totals) (es new order : List Entry) (want : Want) (goes : Option Entry) (le : place ≤ length order) (was : AreBehind (take place order) (drop place order) es) (h : IsFront now caps place totals (with_want es want) (take place order ++ exchanged (drop place order) want)) (decided : new ≡ decided_entries now caps (with_want es want)) (found : entry_of es want.stream ≡ goes) (other : has_want es want ≡ false) (off : AllByRecursion (λ y. stream_of y ≢ want.stream.0) (take place order)) where
   abbrev behind : List Entry
@@ -471,6 +553,41 @@ module _ (now : ℕ) (o : IsImportanceOrder now) (caps : Caps) (place : ℕ) (to
       subst (λ (ys : List StreamId). IsPermutation ys (booked_only_in es new))
       (sym (e ∙ (ap (λ ys. noted room ys all) none ∙ noted-all room [] all (omega (arith, short, long)))))
       (notes_lost now caps (both_of totals) want goes (take place order) behind es new was is d found other off)
+
+  abbrev behind_ranked : List Entry
+  behind_ranked = importance_order now (exchanged behind want)
+
+  abbrev all_gains : List StreamId
+  all_gains = streams_passed gains caps (both_of totals) behind_ranked
+
+  abbrev all_losses : List StreamId
+  all_losses = booking_of goes ++ streams_passed loses caps (both_of totals) behind_ranked
+
+  gain : IsPermutation all_gains (booked_only_in new es)
+  gain = notes_gained now caps (both_of totals) want goes (take place order) behind es new was is d found other off
+
+  loss : IsPermutation all_losses (booked_only_in es new)
+  loss = notes_lost now caps (both_of totals) want goes (take place order) behind es new was is d found other off
+
+  -- whether anything is to be noted: exactly where the booked set changes
+  pub any_changed : IsAscending es → IsAscending new
+      → IsTrue (has_booking goes || has_move caps (both_of totals) (importance_order now (exchanged behind want))) ↔ (booked_of new ≢ booked_of es)
+  any_changed up after = (
+    (λ t same.
+        let empty = (nothing_changed es new up after).1 same in
+        true≢false (sym t ∙ none_loud goes caps (both_of totals) behind_ranked (empty_permuted all_gains (booked_only_in new es) gain empty.0)
+        (empty_permuted all_losses (booked_only_in es new) loss empty.1))),
+    (λ changed.
+        elim (cases_Bool (has_booking goes || has_move caps (both_of totals) behind_ranked)) [
+          | inl on ↦ on
+          | inr off' ↦
+              (let quiet = none_quiet goes caps (both_of totals) behind_ranked off' in
+              absurd (changed ((nothing_changed es new up after).0 (
+                empty_permuted (booked_only_in new es) all_gains (IsPermutation-sym all_gains (booked_only_in new es) gain) quiet.0,
+                empty_permuted (booked_only_in es new) all_losses (IsPermutation-sym all_losses (booked_only_in es new) loss) quiet.1,
+              ))))
+        ]),
+  )
 
 -- ---- one order of a list that doesn't fall
 

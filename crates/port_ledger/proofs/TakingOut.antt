@@ -1,5 +1,5 @@
 -- What is left once a stream's entry is taken out.
-use Rattle.std.proofs.Common.{◌≡◌, ◌≢◌, ℕ, zero, suc, ◌+◌, ◌<◌, ◌≤◌, not, ◌==◌, cond, List, [], ◌∷◌, ◌++◌, length, take, drop, get_or, Some, None, refl, sym, ◌∙◌, ap, arith, inl, inr}
+use Rattle.std.proofs.Common.{◌≡◌, ◌≢◌, ℕ, zero, suc, ◌+◌, ◌<◌, ◌≤◌, not, ◌==◌, cond, List, [], ◌∷◌, ◌++◌, length, take, drop, get_or, Some, None, refl, sym, ◌∙◌, ap, arith, inl, inr, is_some, false, true≢false}
 use Rattle.std.specs.Prelude.{nat_lt, position, remove}
 use Rattle.std.specs.List.{AllByRecursion, position_or_len}
 use Rattle.std.proofs.lemmas.Bool.{eq-eqb, ne_eqb, eqb-true, cases_Bool, ltb-false}
@@ -9,7 +9,7 @@ use Rattle.std.proofs.lemmas.List.Quantifiers.{position-Some}
 use Rattle.srp_base.specs.declared.numbers.StreamId.{StreamId}
 use Rattle.stream_importance.specs.declared.entry.Entry.{Entry}
 use Rattle.port_ledger.specs.Decision.{stream_of, AreOfDifferentStreams}
-use Rattle.port_ledger.specs.Book.{without}
+use Rattle.port_ledger.specs.Book.{entry_of, without}
 use Rattle.port_ledger.proofs.Finding.{blank}
 
 -- entries of other streams are left
@@ -82,3 +82,27 @@ without_behind n m i xs stream e le different h = remove_behind n m i xs e le �
 pub without_nowhere : (n : ℕ) (xs : List Entry) (stream : StreamId) → position (λ x. stream_of x == stream.0) (drop n xs) ≡ None
     → xs ≡ take n xs ++ without (drop n xs) stream
 without_nowhere n xs stream h = sym (take-append-drop n xs) ∙ ap (λ ys. take n xs ++ ys) (without_missing (drop n xs) stream h)
+
+-- a stream that stands nowhere has no entry
+past-none : (xs : List Entry) (stream : StreamId) → length xs ≤ position_or_len (λ x. stream_of x == stream.0) xs → is_some (entry_of xs stream) ≡ false
+past-none [] stream le = refl
+past-none (x ∷ xs) stream le =
+    elim (cases_Bool (stream_of x == stream.0)) [
+      | inl e ↦
+          (let none : position_or_len (λ y. stream_of y == stream.0) (x ∷ xs) ≡ 0 = ap (λ v. cond (not v) (1 + position_or_len (λ y. stream_of y == stream.0) xs) 0) e in
+          absurd (omega (arith, le, none)))
+      | inr e ↦
+          (let more : position_or_len (λ y. stream_of y == stream.0) (x ∷ xs) ≡ 1 + position_or_len (λ y. stream_of y == stream.0) xs =
+          ap (λ v. cond (not v) (1 + position_or_len (λ y. stream_of y == stream.0) xs) 0) e in
+          ap (λ v. is_some (cond v (Some x) (entry_of xs stream))) e ∙ past-none xs stream (omega (arith, le, more)))
+    ]
+
+pub nowhere-none : (xs : List Entry) (stream : StreamId) → position (λ x. stream_of x == stream.0) xs ≡ None → is_some (entry_of xs stream) ≡ false
+nowhere-none xs stream h =
+    elim (cases_Bool (nat_lt (position_or_len (λ x. stream_of x == stream.0) xs) (length xs))) [
+      | inl e ↦
+          (let found : position (λ x. stream_of x == stream.0) xs ≡ Some (position_or_len (λ x. stream_of x == stream.0) xs) =
+          ap (λ v. cond v (Some (position_or_len (λ x. stream_of x == stream.0) xs)) None) e in
+          absurd (true≢false (ap is_some (sym found ∙ h))))
+      | inr e ↦ past-none xs stream (ltb-false (position_or_len (λ x. stream_of x == stream.0) xs) (length xs) e)
+    ]

@@ -19,6 +19,11 @@ pub record Book : Type 0 where
   pub moment : ℕ
   pub entries : List Entry
 
+-- a ledger with its room: its book, and for how many more streams there is room
+pub record BookWithRoom : Type 0 where
+  pub book : Book
+  pub spare : ℕ
+
 -- what holds of every ledger
 pub record IsKept (book : Book) : Type 0 where
   pub ascending : IsAscending book.entries

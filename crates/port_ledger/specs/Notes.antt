@@ -15,6 +15,10 @@ gains x let_in = let_in && not (is_booked x)
 abbrev pub loses : Entry → Bool → Bool
 loses x let_in = not let_in && is_booked x
 
+-- whether its booking changes
+abbrev pub moves : Entry → Bool → Bool
+moves x let_in = gains x let_in || loses x let_in
+
 -- the stream of an entry of which a test holds
 abbrev pub stream_where : Bool → Entry → List StreamId
 stream_where holds x = if holds then x.want.stream ∷ [] else []
@@ -25,11 +29,24 @@ streams_passed test caps sum [] = []
 streams_passed test caps sum (x ∷ xs) =
     stream_where (test x (has_room caps sum x)) x ++ streams_passed test caps (sum_with sum x (has_room caps sum x)) xs
 
+-- whether a test holds of any entry as a pass lets it in or not, beside a sum that is taken already
+abbrev pub has_passed : (Entry → Bool → Bool) → Caps → ℕ → List Entry → Bool
+has_passed test caps sum [] = false
+has_passed test caps sum (x ∷ xs) =
+    test x (has_room caps sum x) || has_passed test caps (sum_with sum x (has_room caps sum x)) xs
+
 -- whether a pass ends any booking
 abbrev pub has_loss : Caps → ℕ → List Entry → Bool
-has_loss caps sum [] = false
-has_loss caps sum (x ∷ xs) =
-    loses x (has_room caps sum x) || has_loss caps (sum_with sum x (has_room caps sum x)) xs
+has_loss caps sum xs = has_passed loses caps sum xs
+
+-- whether a pass changes any booking
+abbrev pub has_move : Caps → ℕ → List Entry → Bool
+has_move caps sum xs = has_passed moves caps sum xs
+
+-- whether there is an entry, and it is booked
+abbrev pub has_booking : Option Entry → Bool
+has_booking None = false
+has_booking (Some x) = is_booked x
 
 -- the stream of an entry, where there is one and it is booked
 abbrev pub booking_of : Option Entry → List StreamId

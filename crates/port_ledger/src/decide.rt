@@ -1,13 +1,13 @@
 //! Which entries are booked at a moment: one pass with a running sum over the entries in the order of
 //! importance, from the first place that a call changes, and the moments set accordingly.
 
-ghost use Rattle.std.specs.Prelude.{◌≡◌, ◌≢◌, ◌+◌, ◌≤◌, ◌<◌, ◌^◌, ◌++◌, ◌||◌, true, false, length, take, drop, vec_capacity, vec_len, IfOk, OnErr, OnOk};
+ghost use Rattle.std.specs.Prelude.{◌≡◌, ◌≢◌, ◌↔◌, ◌+◌, ◌-◌, ◌≤◌, ◌<◌, ◌^◌, ◌++◌, ◌||◌, None, IsSome, IsTrue, true, false, length, take, drop, vec_capacity, vec_len, IfOk, OnErr, OnOk};
 ghost use Rattle.std.specs.List.{AllByRecursion};
 ghost use Rattle.srp_base.specs.declared.bandwidth.Class.TheVariants.{A, B};
 ghost use Rattle.port_ledger.specs.Book.{booked_only_in, booked_slope, entry_of, same_since, with_want, without};
-ghost use Rattle.port_ledger.specs.Decision.{AreOfDifferentStreams, decided_entries, IsAscending, since_after, stream_of};
+ghost use Rattle.port_ledger.specs.Decision.{AreOfDifferentStreams, booked_of, decided_entries, IsAscending, since_after, stream_of};
 ghost use Rattle.port_ledger.specs.Front.{settled_front, decided_behind, AreBehind, IsFront, IsOrdered, IsOrderedBook};
-ghost use Rattle.port_ledger.specs.Notes.{booking_of, gains, has_loss, loses, noted, streams_passed};
+ghost use Rattle.port_ledger.specs.Notes.{booking_of, gains, has_booking, has_loss, has_move, loses, noted, streams_passed};
 ghost use Rattle.port_ledger.specs.Pass.{exchanged, has_room, has_want, importance_order, IsOnlyIn, entries_passed, with_pass, sum_with, with_since};
 ghost use Rattle.port_ledger.specs.Totals.{both_of, together, totals_of};
 ghost use Rattle.stream_importance.specs.Bandwidth.{cap_of};
@@ -56,6 +56,45 @@ pub(crate) fn wanted(
     Ok((next, notes.changed()))
 }
 
+/// Takes in a want that isn't kept yet as `wanted` does, in room that is at hand, which a stream with an entry doesn't
+/// need. It takes no memory, and answers whether the booked set changed.
+pub(crate) fn wanted_in_room(
+    now: Cs,
+    caps: &Caps,
+    standing: &Standing,
+    entries: &mut Vec<Entry>,
+    order: &mut Vec<Entry>,
+    want: Want,
+) -> (Standing, bool)
+    requires book { IsOrderedBook now.0 caps.now standing.now
+        entries.old.items order.old.items }
+    requires other { has_want entries.old.items want ≡ false }
+    requires entries_room { entry_of entries.old.items want.stream ≡ None
+        → vec_len entries.old < vec_capacity entries.old }
+    requires order_room { entry_of entries.old.items want.stream ≡ None
+        → vec_len order.old < vec_capacity order.old }
+    ensures decided { entries.new.items
+        ≡ decided_entries now.0 caps.now (with_want entries.old.items want) }
+    ensures ordered { IsOrdered now.0 result.0 entries.new.items order.new.items }
+    ensures changed { IsTrue result.1
+        ↔ (booked_of entries.new.items ≢ booked_of entries.old.items) }
+    ensures entries_capacity { vec_capacity entries.new ≡ vec_capacity entries.old }
+    ensures order_capacity { vec_capacity order.new ≡ vec_capacity order.old }
+    ensures entries_used { vec_len entries.new ≤ vec_len entries.old + 1 }
+    ensures order_used { vec_len order.new ≤ vec_len order.old + 1 }
+    ensures entries_stay { IsSome (entry_of entries.old.items want.stream)
+        → vec_len entries.new ≤ vec_len entries.old }
+    ensures order_stays { IsSome (entry_of entries.old.items want.stream)
+        → vec_len order.new ≤ vec_len order.old }
+{
+    importance_is_an_order();
+    let goes = find_entry(entries, want.stream);
+    let front = cut_for(now, caps, standing, entries, order, goes, want);
+    let mut notes = Notes::without_room(*order.allocator());
+    let next = entered(now, caps, &front, entries, order, goes, want, &mut notes);
+    (next, notes.any)
+}
+
 /// Cuts the order before all that a want concerns, which isn't kept yet.
 fn cut_for(
     now: Cs,
@@ -88,7 +127,8 @@ fn cut_for(
     )
 }
 
-/// Puts a want in behind a front, where room is at hand, and decides. The notes have what changes in the booked set.
+/// Puts a want in behind a front, where room is at hand or its stream has an entry, and decides. The notes have what
+/// changes in the booked set.
 fn entered(
     now: Cs,
     caps: &Caps,
@@ -106,11 +146,24 @@ fn entered(
         (with_want entries.old.items want)
         (take front.now.place order.old.items
         ++ exchanged (drop front.now.place order.old.items) want) }
-    requires entries_room { vec_len entries.old < vec_capacity entries.old }
-    requires order_room { vec_len order.old < vec_capacity order.old }
+    requires entries_room { entry_of entries.old.items want.stream ≡ None
+        → vec_len entries.old < vec_capacity entries.old }
+    requires order_room { entry_of (drop front.now.place order.old.items) want.stream ≡ None
+        → vec_len order.old < vec_capacity order.old }
     ensures decided { entries.new.items
         ≡ decided_entries now.0 caps.now (with_want entries.old.items want) }
     ensures ordered { IsOrdered now.0 result entries.new.items order.new.items }
+    ensures any { notes.new.any ≡ ((notes.old.any || has_booking goes)
+        || has_move caps.now (both_of front.now.totals)
+        (importance_order now.0 (exchanged (drop front.now.place order.old.items) want))) }
+    ensures entries_capacity { vec_capacity entries.new ≡ vec_capacity entries.old }
+    ensures order_capacity { vec_capacity order.new ≡ vec_capacity order.old }
+    ensures entries_used { vec_len entries.new ≤ vec_len entries.old + 1 }
+    ensures order_used { vec_len order.new ≤ vec_len order.old + 1 }
+    ensures entries_stay { IsSome (entry_of entries.old.items want.stream)
+        → vec_len entries.new ≤ vec_len entries.old }
+    ensures order_stays { IsSome (entry_of (drop front.now.place order.old.items) want.stream)
+        → vec_len order.new ≤ vec_len order.old }
     ensures booked { notes.new.booked.items
         ≡ noted (vec_capacity notes.old.booked) notes.old.booked.items
         (streams_passed gains caps.now (both_of front.now.totals)
@@ -139,6 +192,10 @@ pub(crate) fn unwanted(
     ensures decided { entries.new.items
         ≡ decided_entries now.0 caps.now (without entries.old.items stream) }
     ensures ordered { IsOrdered now.0 result entries.new.items order.new.items }
+    ensures entries_room { vec_capacity entries.old - vec_len entries.old
+        ≤ vec_capacity entries.new - vec_len entries.new }
+    ensures order_room { vec_capacity order.old - vec_len order.old
+        ≤ vec_capacity order.new - vec_len order.new }
 {
     importance_is_an_order();
     let goes = find_entry(entries, stream);
@@ -163,6 +220,13 @@ fn decide(
         entries.old.items order.old.items }
     ensures decided { entries.new.items ≡ decided_entries now.0 caps.now entries.old.items }
     ensures ordered { IsOrdered now.0 result entries.new.items order.new.items }
+    ensures entries_capacity { vec_capacity entries.new ≡ vec_capacity entries.old }
+    ensures order_capacity { vec_capacity order.new ≡ vec_capacity order.old }
+    ensures entries_len { vec_len entries.new ≡ vec_len entries.old }
+    ensures order_len { vec_len order.new ≡ vec_len order.old }
+    ensures any { notes.new.any ≡ (notes.old.any
+        || has_move caps.now (both_of front.now.totals)
+        (importance_order now.0 (drop front.now.place order.old.items))) }
     ensures booked { notes.new.booked.items
         ≡ noted (vec_capacity notes.old.booked) notes.old.booked.items
         (streams_passed gains caps.now (both_of front.now.totals)
@@ -194,6 +258,9 @@ fn decide_from(
         entries.old order.old }
     ensures decided { entries.new ≡ decided_entries now.0 caps.now entries.old }
     ensures ordered { IsOrdered now.0 result entries.new order.new }
+    ensures any { notes.new.any ≡ (notes.old.any
+        || has_move caps.now (both_of front.now.totals)
+        (importance_order now.0 (drop front.now.place order.old))) }
     ensures booked { notes.new.booked.items
         ≡ noted (vec_capacity notes.old.booked) notes.old.booked.items
         (streams_passed gains caps.now (both_of front.now.totals)
@@ -255,6 +322,8 @@ fn decide_part(
     ensures dropped { notes.new.dropped.items
         ≡ noted (vec_capacity notes.old.dropped) notes.old.dropped.items
         (streams_passed loses caps.now taken (importance_order now.0 (drop at order.old))) }
+    ensures any { notes.new.any ≡ (notes.old.any
+        || has_move caps.now taken (importance_order now.0 (drop at order.old))) }
 {
     decide_behind(now, caps, taken, &mut order[at..], entries, notes);
 }
@@ -280,6 +349,8 @@ fn decide_behind(
     ensures dropped { notes.new.dropped.items
         ≡ noted (vec_capacity notes.old.dropped) notes.old.dropped.items
         (streams_passed loses caps.now taken (importance_order now.0 behind.old)) }
+    ensures any { notes.new.any ≡ (notes.old.any
+        || has_move caps.now taken (importance_order now.0 behind.old)) }
 {
     importance_is_an_order();
     rank(now, behind);
@@ -320,6 +391,7 @@ fn pass(
         ≡ noted (vec_capacity notes.old.dropped) notes.old.dropped.items
         (streams_passed loses caps.now taken order.old) }
     ensures lost { result ≡ has_loss caps.now taken order.old }
+    ensures any { notes.new.any ≡ (notes.old.any || has_move caps.now taken order.old) }
 {
     let mut sum: u64 = taken;
     let mut lost = false;

@@ -1,6 +1,6 @@
 //! The wanting streams as a list that ascends by StreamID.
 
-ghost use Rattle.std.specs.Prelude.{◌≡◌, ◌<◌, ◌≤◌, insert, length, vec_capacity, vec_len, IfOk, IfErr};
+ghost use Rattle.std.specs.Prelude.{◌≡◌, ◌<◌, ◌≤◌, ◌+◌, ◌-◌, IsSome, None, insert, length, vec_capacity, vec_len, IfOk, IfErr};
 ghost use Rattle.std.specs.List.{AllWithin, HoldsAt};
 ghost use Rattle.port_ledger.specs.Book.{entry_of, entry_with, with_want, without};
 ghost use Rattle.port_ledger.specs.Decision.{booked_of, IsAscending, stream_of};
@@ -35,7 +35,9 @@ pub(crate) fn find_entry(entries: &[Entry], stream: StreamId) -> Option<Entry>
 /// The stream's entry is taken out, where there is one. It takes no memory.
 pub(crate) fn take_out(entries: &mut Vec<Entry>, stream: StreamId)
     requires { IsAscending entries.old.items }
-    ensures { entries.new.items ≡ without entries.old.items stream }
+    ensures items { entries.new.items ≡ without entries.old.items stream }
+    ensures room { vec_capacity entries.old - vec_len entries.old
+        ≤ vec_capacity entries.new - vec_len entries.new }
 {
     if let Ok(place) = place_of(entries, stream) {
         entries.remove(place);
@@ -51,11 +53,16 @@ pub(crate) fn copy_of(alloc: Global, entries: &[Entry]) -> Result<Vec<Entry>, No
     Ok(copy)
 }
 
-/// The want is put at its place, where room is at hand.
+/// The want is put at its place, where room is at hand or its stream has an entry.
 pub(crate) fn put(entries: &mut Vec<Entry>, want: Want)
     requires ascending { IsAscending entries.old.items }
-    requires room { vec_len entries.old < vec_capacity entries.old }
-    ensures { entries.new.items ≡ with_want entries.old.items want }
+    requires room { entry_of entries.old.items want.stream ≡ None
+        → vec_len entries.old < vec_capacity entries.old }
+    ensures items { entries.new.items ≡ with_want entries.old.items want }
+    ensures capacity { vec_capacity entries.new ≡ vec_capacity entries.old }
+    ensures len { vec_len entries.new ≤ vec_len entries.old + 1 }
+    ensures stays { IsSome (entry_of entries.old.items want.stream)
+        → vec_len entries.new ≡ vec_len entries.old }
 {
     match place_of(entries, want.stream) {
         Ok(place) => entries[place] = entry_with(entries[place], want),
@@ -66,7 +73,9 @@ pub(crate) fn put(entries: &mut Vec<Entry>, want: Want)
 fn insert_reserved(entries: &mut Vec<Entry>, place: usize, x: Entry)
     requires place { place ≤ length entries.old.items }
     requires room { vec_len entries.old < vec_capacity entries.old }
-    ensures { entries.new.items ≡ insert entries.old.items place x }
+    ensures items { entries.new.items ≡ insert entries.old.items place x }
+    ensures len { vec_len entries.new ≡ vec_len entries.old + 1 }
+    ensures capacity { vec_capacity entries.new ≡ vec_capacity entries.old }
 {
     match entries.insert(place, x) {
         Ok(()) => {}

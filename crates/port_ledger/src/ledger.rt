@@ -11,7 +11,7 @@ ghost use Rattle.port_ledger.specs.Pass.{has_want};
 ghost use Rattle.port_ledger.specs.Decision.{booked_of, Decides, does_fit, is_booked, IsAscending, IsDecision, marks_of};
 
 use crate::changed::{Changed, changes};
-use crate::decide::{unwanted, wanted};
+use crate::decide::{unwanted, wanted, wanted_in_room};
 use crate::entries::{bookings, copy_of, find_entry};
 use crate::fit::{fit_of, tested_entry};
 use crate::front::Standing;
@@ -21,8 +21,9 @@ use std::alloc::Global;
 use std::marker::Model;
 use stream_importance::{Caps, Entry, Fit, Want, importance_is_an_order};
 
-/// The streams that want one egress port, and which of them are booked. Contracts see the caps, the
-/// moment, and the entries, ascending by StreamID.
+/// The streams that want one egress port, and which of them are booked. Contracts see the book, which is
+/// the caps, the moment, and the entries, ascending by StreamID; and for how many more streams there is
+/// room.
 #[derive(Drop)]
 pub struct Ledger {
     caps: Caps,
@@ -35,12 +36,17 @@ pub struct Ledger {
 }
 
 impl Model for Ledger {
-    ghost use Rattle.port_ledger.specs.Book.{Book, IsKept};
+    ghost use Rattle.std.specs.Prelude.{◌-◌, min, vec_capacity, vec_len};
+    ghost use Rattle.port_ledger.specs.Book.{BookWithRoom, IsKept};
     ghost use Rattle.port_ledger.specs.Front.{IsOrdered};
 
-    ghost Value = { Book };
+    ghost Value = { BookWithRoom };
 
-    ghost view = { λ l. record { caps = l.caps; moment = l.moment.0; entries = l.entries.items } };
+    ghost view = { λ l. record {
+      book = record { caps = l.caps; moment = l.moment.0; entries = l.entries.items };
+      spare = min (vec_capacity l.entries - vec_len l.entries)
+          (vec_capacity l.order - vec_len l.order);
+    } };
 
     ghost invariant = { λ l.
         IsKept (record { caps = l.caps; moment = l.moment.0; entries = l.entries.items })
@@ -53,7 +59,7 @@ impl Ledger {
     /// its moment is 0.
     pub fn new(alloc: Global, rate: Rate, delta_a: Percent, delta_b: Percent) -> Ledger
         requires { delta_a + delta_b ≤ 90 }
-        ensures { result
+        ensures { result.book
             ≡ record { caps = caps_of rate delta_a delta_b; moment = 0; entries = [] } }
     {
         Ledger {
@@ -67,29 +73,30 @@ impl Ledger {
 
     /// Takes a want at a moment in cs, which isn't before the ledger's, and decides anew. The same want
     /// again keeps its booking; one with another class, rank or slope loses it first. What changed in the
-    /// booked set is answered. After want of memory, the one error, the ledger is as it was.
+    /// booked set is answered. After want of memory, the one error, the book is as it was.
     pub fn want(&mut self, now: Cs, want: Want) -> Result<Changed, NoMemory>
-        requires { self.old.moment ≤ now.0 }
+        requires { self.old.book.moment ≤ now.0 }
 
         ensures decided { OnOk result
-            (Decides now.0 self.old.caps (with_want self.old.entries want) self.new.entries) }
-        ensures book { OnOk result (self.new ≡ wanted_book now.0 want self.old) }
-        ensures rest { OnOk result (self.new
-            ≡ record self.old { moment = now.0; entries = self.new.entries }) }
+            (Decides now.0 self.old.book.caps
+            (with_want self.old.book.entries want) self.new.book.entries) }
+        ensures book { OnOk result (self.new.book ≡ wanted_book now.0 want self.old.book) }
+        ensures rest { OnOk result (self.new.book
+            ≡ record self.old.book { moment = now.0; entries = self.new.book.entries }) }
 
         ensures booked { IfOk result (λ c. c.booked
-            ≡ booked_only_in self.new.entries self.old.entries) }
+            ≡ booked_only_in self.new.book.entries self.old.book.entries) }
         ensures dropped { IfOk result (λ c. c.dropped
-            ≡ booked_only_in self.old.entries self.new.entries) }
+            ≡ booked_only_in self.old.book.entries self.new.book.entries) }
 
         // Of its own stream this want is kept, of each other stream the want that it had.
-        ensures kept { OnOk result ((s : StreamId) → want_of self.new.entries s
-            ≡ (if s.0 == want.stream.0 then Some want else want_of self.old.entries s)) }
+        ensures kept { OnOk result ((s : StreamId) → want_of self.new.book.entries s
+            ≡ (if s.0 == want.stream.0 then Some want else want_of self.old.book.entries s)) }
         // The same want again changes nothing but the moment.
-        ensures again { OnOk result (want_of self.old.entries want.stream ≡ Some want
-            → self.new.entries ≡ self.old.entries) }
+        ensures again { OnOk result (want_of self.old.book.entries want.stream ≡ Some want
+            → self.new.book.entries ≡ self.old.book.entries) }
 
-        ensures err { OnErr result (self.new ≡ self.old) }
+        ensures err { OnErr result (self.new.book ≡ self.old.book) }
     {
         self.stands();
         self.within_caps();
@@ -114,19 +121,81 @@ impl Ledger {
         Ok(changed)
     }
 
+    /// Makes room for so many streams beside those that have an entry. After want of memory, the one error, there is no
+    /// less room than before. The book is as it was, whatever is answered.
+    pub fn room(&mut self, wants: usize) -> Result<(), NoMemory>
+        ensures book { self.new.book ≡ self.old.book }
+        ensures spare { OnOk result (wants ≤ self.new.spare) }
+        ensures stays { self.old.spare ≤ self.new.spare }
+    {
+        self.entries.reserve(wants)?;
+        self.order.reserve(wants)?;
+        Ok(())
+    }
+
+    /// Takes a want as `want` does, in room that is at hand, which a stream with an entry doesn't need. It takes no
+    /// memory. The answer is whether the booked set changed.
+    pub fn enter(&mut self, now: Cs, want: Want) -> bool
+        requires moment { self.old.book.moment ≤ now.0 }
+        requires spare { entry_of self.old.book.entries want.stream ≡ None → 1 ≤ self.old.spare }
+
+        ensures decided { Decides now.0 self.old.book.caps
+            (with_want self.old.book.entries want) self.new.book.entries }
+        ensures book { self.new.book ≡ wanted_book now.0 want self.old.book }
+        ensures rest { self.new.book
+            ≡ record self.old.book { moment = now.0; entries = self.new.book.entries } }
+
+        ensures changed { IsTrue result
+            ↔ (booked_of self.new.book.entries ≢ booked_of self.old.book.entries) }
+
+        // Of its own stream this want is kept, of each other stream the want that it had.
+        ensures kept { (s : StreamId) → want_of self.new.book.entries s
+            ≡ (if s.0 == want.stream.0 then Some want else want_of self.old.book.entries s) }
+        // The same want again changes nothing but the moment.
+        ensures again { want_of self.old.book.entries want.stream ≡ Some want
+            → self.new.book.entries ≡ self.old.book.entries }
+
+        // A stream with an entry uses no room, and another one room for one stream.
+        ensures room { IsSome (entry_of self.old.book.entries want.stream)
+            → self.old.spare ≤ self.new.spare }
+        ensures used { self.old.spare ≤ self.new.spare + 1 }
+    {
+        self.stands();
+        self.within_caps();
+        importance_is_an_order();
+        if self.has_want(&want) {
+            self.clock(now);
+            return false;
+        }
+        let before = self.standing.later(self.moment.0 < now.0);
+        let (standing, changed) = wanted_in_room(
+            now,
+            &self.caps,
+            &before,
+            &mut self.entries,
+            &mut self.order,
+            want,
+        );
+        self.standing = standing;
+        self.moment = now;
+        changed
+    }
+
     /// Takes the stream's want out at a moment in cs, which isn't before the ledger's, and decides anew; a stream
     /// that isn't kept changes nothing but the moment. It takes no memory. The answer is whether the booked set
     /// changed, which it does exactly where the stream was booked.
     pub fn unwant(&mut self, now: Cs, stream: StreamId) -> bool
-        requires { self.old.moment ≤ now.0 }
-        ensures book { self.new ≡ unwanted_book now.0 stream self.old }
+        requires { self.old.book.moment ≤ now.0 }
+        ensures book { self.new.book ≡ unwanted_book now.0 stream self.old.book }
         ensures changed { IsTrue result
-            ↔ (booked_of self.new.entries ≢ booked_of self.old.entries) }
-        ensures was_booked { result ≡ is_some (since_of self.old.entries stream) }
+            ↔ (booked_of self.new.book.entries ≢ booked_of self.old.book.entries) }
+        ensures was_booked { result ≡ is_some (since_of self.old.book.entries stream) }
 
         // No want is kept of this stream, and of each other stream the want that it had.
-        ensures kept { (s : StreamId) → want_of self.new.entries s
-            ≡ (if s.0 == stream.0 then None else want_of self.old.entries s) }
+        ensures kept { (s : StreamId) → want_of self.new.book.entries s
+            ≡ (if s.0 == stream.0 then None else want_of self.old.book.entries s) }
+
+        ensures room { self.old.spare ≤ self.new.spare }
     {
         self.stands();
         self.within_caps();
@@ -154,9 +223,11 @@ impl Ledger {
     /// The answer is whether a want that isn't booked may fit otherwise than before: exactly where time moved,
     /// and some booking was of the moment before, which is older now than what isn't booked.
     pub fn clock(&mut self, now: Cs) -> bool
-        requires { self.old.moment ≤ now.0 }
-        ensures book { self.new ≡ clocked_book now.0 self.old }
-        ensures shown { result ≡ (nat_lt self.old.moment now.0 && has_new_booking self.old) }
+        requires { self.old.book.moment ≤ now.0 }
+        ensures book { self.new.book ≡ clocked_book now.0 self.old.book }
+        ensures shown { result
+            ≡ (nat_lt self.old.book.moment now.0 && has_new_booking self.old.book) }
+        ensures room { self.old.spare ≤ self.new.spare }
     {
         self.stands();
         let shown = self.shows_at(now);
@@ -168,28 +239,28 @@ impl Ledger {
 
     /// What `clock` would answer at this moment, in cs: whether a want that isn't booked may fit otherwise then.
     pub fn shows_at(&self, now: Cs) -> bool
-        ensures { result ≡ (nat_lt self.now.moment now.0 && has_new_booking self.now) }
+        ensures { result ≡ (nat_lt self.now.book.moment now.0 && has_new_booking self.now.book) }
     {
         self.moment < now && self.standing.totals.new_count > 0
     }
 
     /// The ledger's moment, in cs: the last one that was handed to it, and 0 at the start.
     pub fn moment(&self) -> Cs
-        ensures { result.0 ≡ self.now.moment }
+        ensures { result.0 ≡ self.now.book.moment }
     {
         self.moment
     }
 
     /// The moment since when the stream is booked, in cs; None exactly where it isn't booked.
     pub fn booked(&self, stream: StreamId) -> Option<Cs>
-        ensures { result ≡ since_of self.now.entries stream }
+        ensures { result ≡ since_of self.now.book.entries stream }
     {
         find_entry(&self.entries, stream).and_then(|x| x.since)
     }
 
     /// Whether the stream is kept as wanting the port.
     pub fn wants(&self, stream: StreamId) -> bool
-        ensures { result ≡ is_some (entry_of self.now.entries stream) }
+        ensures { result ≡ is_some (entry_of self.now.book.entries stream) }
     {
         find_entry(&self.entries, stream).is_some()
     }
@@ -201,13 +272,13 @@ impl Ledger {
     /// without the own slope and that cap, both in bit/s, and the failure code 1 or 6 of a Talker Failed
     /// (IEEE Std 802.1Q-2018, 35.2.2.8.7).
     pub fn fits(&self, now: Cs, want: &Want) -> Fit
-        requires { self.now.moment ≤ now.0 }
-        ensures value { result ≡ fit_for now.0 self.now want.now }
+        requires { self.now.book.moment ≤ now.0 }
+        ensures value { result ≡ fit_for now.0 self.now.book want.now }
         // A want that is kept fits exactly where it is booked.
-        ensures kept { want_of self.now.entries want.now.stream ≡ Some want.now
-            → (result ≡ Fits) ↔ IsSome (since_of self.now.entries want.now.stream) }
+        ensures kept { want_of self.now.book.entries want.now.stream ≡ Some want.now
+            → (result ≡ Fits) ↔ IsSome (since_of self.now.book.entries want.now.stream) }
         // Both sums that it carries are at most the cap of both classes.
-        ensures within { IsFitWithin self.now.caps.both result }
+        ensures within { IsFitWithin self.now.book.caps.both result }
     {
         self.stands();
         self.within_caps();
@@ -217,7 +288,7 @@ impl Ledger {
 
     /// The booked entries, ascending by StreamID.
     pub fn bookings(&self) -> Result<Seq<Entry>, NoMemory>
-        ensures booked { IfOk result (λ s. s ≡ booked_of self.now.entries) }
+        ensures booked { IfOk result (λ s. s ≡ booked_of self.now.book.entries) }
         ensures ascending { IfOk result (λ s. IsAscending s) }
     {
         self.stands();
@@ -228,11 +299,12 @@ impl Ledger {
     /// `bookings` of an earlier moment, say. Both lists are empty exactly where it is the same.
     pub fn changes_since(&self, before: &[Entry]) -> Result<Changed, NoMemory>
         requires { IsAscending before.now }
-        ensures booked { IfOk result (λ c. c.booked ≡ booked_only_in self.now.entries before.now) }
+        ensures booked { IfOk result (λ c. c.booked
+            ≡ booked_only_in self.now.book.entries before.now) }
         ensures dropped { IfOk result (λ c. c.dropped
-            ≡ booked_only_in before.now self.now.entries) }
+            ≡ booked_only_in before.now self.now.book.entries) }
         ensures same { IfOk result (λ c. ((c.booked ≡ []) × (c.dropped ≡ []))
-            ↔ (booked_of self.now.entries ≡ booked_of before.now)) }
+            ↔ (booked_of self.now.book.entries ≡ booked_of before.now)) }
     {
         nothing_changed_where_both_lists_are_empty();
         self.stands();
@@ -242,9 +314,9 @@ impl Ledger {
     /// What changed in the booked set since it was that of this ledger.
     pub fn changes_after(&self, before: &Ledger) -> Result<Changed, NoMemory>
         ensures booked { IfOk result (λ c. c.booked
-            ≡ booked_only_in self.now.entries before.now.entries) }
+            ≡ booked_only_in self.now.book.entries before.now.book.entries) }
         ensures dropped { IfOk result (λ c. c.dropped
-            ≡ booked_only_in before.now.entries self.now.entries) }
+            ≡ booked_only_in before.now.book.entries self.now.book.entries) }
     {
         self.stands();
         before.stands();
@@ -253,14 +325,14 @@ impl Ledger {
 
     /// The stream's entry, booked or not; None exactly where none is kept.
     pub fn entry(&self, stream: StreamId) -> Option<Entry>
-        ensures { result ≡ entry_of self.now.entries stream }
+        ensures { result ≡ entry_of self.now.book.entries stream }
     {
         find_entry(&self.entries, stream)
     }
 
     /// Whether this want is kept of its stream.
     fn has_want(&self, want: &Want) -> bool
-        ensures { result ≡ has_want self.now.entries want.now }
+        ensures { result ≡ has_want self.now.book.entries want.now }
     {
         match self.entry(want.stream) {
             Some(x) => x.want == *want,
@@ -270,7 +342,7 @@ impl Ledger {
 
     /// The number of entries, booked or not.
     pub fn len(&self) -> usize
-        ensures { result ≡ length self.now.entries }
+        ensures { result ≡ length self.now.book.entries }
     {
         self.entries.len()
     }
@@ -278,14 +350,14 @@ impl Ledger {
     /// The entry at this place, counted from 0 and ascending by StreamID; None exactly where the index isn't
     /// below `len`.
     pub fn entry_at(&self, index: usize) -> Option<Entry>
-        ensures { result ≡ slice_get self.now.entries index }
+        ensures { result ≡ slice_get self.now.book.entries index }
     {
         self.entries.get(index).copied()
     }
 
-    /// The same ledger again.
+    /// A ledger of the same book.
     pub fn copy(&self) -> Result<Ledger, NoMemory>
-        ensures { IfOk result (λ l. l ≡ self.now) }
+        ensures { IfOk result (λ l. l.book ≡ self.now.book) }
     {
         let alloc = *self.entries.allocator();
         let entries = copy_of(alloc, &self.entries)?;
@@ -301,14 +373,14 @@ impl Ledger {
 
     /// The slopes of the booked streams of a class together, in bit/s.
     pub fn slope(&self, class: Class) -> u128
-        ensures { result ≡ booked_slope self.now.entries class }
+        ensures { result ≡ booked_slope self.now.book.entries class }
     {
         self.standing.totals.slope(class)
     }
 
     /// What holds of every ledger.
     pub fn keeps(&self)
-        ensures { IsKept self.now }
+        ensures { IsKept self.now.book }
     {
         let _ = &self.entries;
     }
@@ -316,18 +388,20 @@ impl Ledger {
     /// The booked set of every ledger is the decided set of its entries, at its moment and at every later
     /// one, so that time passing changes no booking.
     pub fn stands(&self)
-        ensures ascending { IsAscending self.now.entries }
-        ensures decided { (later : ℕ) → self.now.moment ≤ later
-            → IsDecision later self.now.caps self.now.entries (marks_of self.now.entries) }
+        ensures ascending { IsAscending self.now.book.entries }
+        ensures decided { (later : ℕ) → self.now.book.moment ≤ later
+            → IsDecision later self.now.book.caps self.now.book.entries
+            (marks_of self.now.book.entries) }
         // Of every stream: its entry is booked exactly where it fits among the booked ones.
-        ensures booked { (later : ℕ) → self.now.moment ≤ later → (s : StreamId)
-            → IfSome (entry_of self.now.entries s)
-            (λ x. is_booked x ≡ does_fit later self.now.caps (booked_of self.now.entries) x) }
+        ensures booked { (later : ℕ) → self.now.book.moment ≤ later → (s : StreamId)
+            → IfSome (entry_of self.now.book.entries s)
+            (λ x. is_booked x
+            ≡ does_fit later self.now.book.caps (booked_of self.now.book.entries) x) }
         // A want that is kept fits exactly where it is booked.
-        ensures kept { (later : ℕ) → self.now.moment ≤ later → (want : Want)
-            → want_of self.now.entries want.stream ≡ Some want
-            → (fit_for later self.now want ≡ Fits)
-            ↔ IsSome (since_of self.now.entries want.stream) }
+        ensures kept { (later : ℕ) → self.now.book.moment ≤ later → (want : Want)
+            → want_of self.now.book.entries want.stream ≡ Some want
+            → (fit_for later self.now.book want ≡ Fits)
+            ↔ IsSome (since_of self.now.book.entries want.stream) }
     {
         let _ = &self.entries;
     }
@@ -335,11 +409,11 @@ impl Ledger {
     /// The booked slopes of every ledger stay within its caps, of which that of class A is at most that of
     /// both classes, and both have 64 bits.
     pub fn within_caps(&self)
-        ensures class_a { booked_slope self.now.entries A ≤ self.now.caps.class_a }
-        ensures both { booked_slope self.now.entries A + booked_slope self.now.entries B
-            ≤ self.now.caps.both }
-        ensures shares { self.now.caps.class_a ≤ self.now.caps.both }
-        ensures range { self.now.caps.both < 2 ^ 64 }
+        ensures class_a { booked_slope self.now.book.entries A ≤ self.now.book.caps.class_a }
+        ensures both { booked_slope self.now.book.entries A + booked_slope self.now.book.entries B
+            ≤ self.now.book.caps.both }
+        ensures shares { self.now.book.caps.class_a ≤ self.now.book.caps.both }
+        ensures range { self.now.book.caps.both < 2 ^ 64 }
     {
         importance_is_an_order();
         let _ = &self.entries;

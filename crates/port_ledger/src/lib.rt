@@ -11,7 +11,8 @@
 //! clock(now) ----------> the moment alone; true where a booking is older now than what isn't booked
 //! ```
 //!
-//! Contracts see a ledger as a `Book`: its caps, the last moment that was handed to it, and the entries.
+//! Contracts see the book, and for how many more streams there is room (`BookWithRoom`). A `Book` has the caps,
+//! the last moment that was handed to the ledger, and the entries.
 //! The booked set is stated as a condition on a set, and not as a way to find it: an entry is booked
 //! exactly where the slopes of the booked entries of other streams that are more important, with its
 //! own, stay at or under its cap. There is exactly one such set (`one_decision`), and it stays the same
@@ -28,8 +29,12 @@
 //! stream's (`Ledger::want`, `Ledger::unwant`), a stream is booked exactly where its entry fits among the
 //! booked ones, and a want that is kept fits exactly where it is booked (`Ledger::stands`,
 //! `Ledger::fits`). `clock`, `shows_at` and `slope` go over no entry. No order of the entries but that of
-//! StreamIDs stands in a contract. A call that takes no memory (`unwant`, `clock`, the readers but
-//! `bookings`, `changes_since` and `copy`) can't fail.
+//! StreamIDs stands in a contract. A call that takes no memory (`enter`, `unwant`, `clock`, the
+//! readers but `bookings`, `changes_since` and `copy`) can't fail.
+//!
+//! Who may not fail in the middle of a step makes room first: after `Ledger::room`, `Ledger::enter` takes as many
+//! new streams as there is room for, and takes no memory. A stream that has an entry needs no room, and neither
+//! `unwant` nor `clock` gives any away.
 //!
 //! To extend it: a new way to judge who goes first is a line of `compare_importance` in stream_importance,
 //! and nothing here changes but what time does to it (`proofs/Standing.antt`). A new step is a function of

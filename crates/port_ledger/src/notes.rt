@@ -1,8 +1,8 @@
 //! What a decision changes in the booked set, noted as it goes along.
 
-ghost use Rattle.std.specs.Prelude.{◌≡◌, ◌++◌, ◌∷◌, [], List, vec_capacity, IfOk, IsPermutation};
+ghost use Rattle.std.specs.Prelude.{◌≡◌, ◌||◌, false, ◌++◌, ◌∷◌, [], List, vec_capacity, IfOk, IsPermutation};
 ghost use Rattle.srp_base.specs.declared.numbers.StreamId.{StreamId};
-ghost use Rattle.port_ledger.specs.Notes.{booking_of, gains, loses, noted, stream_where, AreRising};
+ghost use Rattle.port_ledger.specs.Notes.{booking_of, gains, has_booking, loses, moves, noted, stream_where, AreRising};
 
 use crate::changed::Changed;
 use srp_base::{NoMemory, Seq, StreamId};
@@ -10,11 +10,12 @@ use std::alloc::Global;
 use stream_importance::Entry;
 
 /// The streams whose booking is new and those whose booking is gone, in the order in which a decision came to them,
-/// as far as there is room for them.
+/// as far as there is room for them; and whether there was any, with room for it or not.
 #[derive(Drop)]
 pub(crate) struct Notes {
     pub booked: Vec<StreamId>,
     pub dropped: Vec<StreamId>,
+    pub any: bool,
 }
 
 impl Notes {
@@ -28,14 +29,18 @@ impl Notes {
         Ok(Notes {
             booked: Vec::with_capacity(alloc, count)?,
             dropped: Vec::with_capacity(alloc, count)?,
+            any: false,
         })
     }
 
     /// Nothing noted, and no room for any stream.
-    pub(crate) fn without_room(alloc: Global) -> Notes {
+    pub(crate) fn without_room(alloc: Global) -> Notes
+        ensures { result.any ≡ false }
+    {
         Notes {
             booked: Vec::new(alloc),
             dropped: Vec::new(alloc),
+            any: false,
         }
     }
 
@@ -49,10 +54,12 @@ impl Notes {
             (stream_where (loses x.now let_in) x.now) }
         ensures booked_room { vec_capacity self.new.booked ≡ vec_capacity self.old.booked }
         ensures dropped_room { vec_capacity self.new.dropped ≡ vec_capacity self.old.dropped }
+        ensures any { self.new.any ≡ (self.old.any || moves x.now let_in) }
     {
         if let_in == x.since.is_some() {
             return;
         }
+        self.any = true;
         if let_in {
             note(&mut self.booked, x.want.stream);
         } else {
@@ -67,10 +74,12 @@ impl Notes {
         ensures dropped { self.new.dropped.items
             ≡ noted (vec_capacity self.old.dropped) self.old.dropped.items (booking_of goes) }
         ensures dropped_room { vec_capacity self.new.dropped ≡ vec_capacity self.old.dropped }
+        ensures any { self.new.any ≡ (self.old.any || has_booking goes) }
     {
         if let Some(x) = goes
             && x.since.is_some()
         {
+            self.any = true;
             note(&mut self.dropped, x.want.stream);
         }
     }

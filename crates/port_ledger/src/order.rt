@@ -1,7 +1,7 @@
 //! The wanting streams in the order of importance, as they are kept between two decisions.
 
-ghost use Rattle.std.specs.Prelude.{◌≡◌, ◌≤◌, ◌<◌, ◌++◌, ◌==◌, position, length, take, drop, vec_capacity, vec_len};
-ghost use Rattle.port_ledger.specs.Book.{without};
+ghost use Rattle.std.specs.Prelude.{◌≡◌, ◌≤◌, ◌<◌, ◌+◌, ◌++◌, IsSome, None, ◌==◌, position, length, take, drop, vec_capacity, vec_len};
+ghost use Rattle.port_ledger.specs.Book.{entry_of, without};
 ghost use Rattle.port_ledger.specs.Decision.{AreOfDifferentStreams, stream_of};
 ghost use Rattle.port_ledger.specs.Pass.{exchanged, place_first, importance_order};
 
@@ -10,13 +10,19 @@ use crate::front::behind;
 use srp_base::{Cs, StreamId};
 use stream_importance::{Entry, Want};
 
-/// The want comes behind a front in place of what its stream wanted. It goes last, where room is at hand.
+/// The want comes behind a front in place of what its stream wanted. It goes last, where room is at hand or its stream
+/// has an entry behind the front.
 pub(crate) fn exchange(order: &mut Vec<Entry>, at: usize, want: Want)
     requires place { at ≤ length order.old.items }
     requires different { AreOfDifferentStreams (drop at order.old.items) }
-    requires room { vec_len order.old < vec_capacity order.old }
-    ensures { order.new.items
+    requires room { entry_of (drop at order.old.items) want.stream ≡ None
+        → vec_len order.old < vec_capacity order.old }
+    ensures items { order.new.items
         ≡ take at order.old.items ++ exchanged (drop at order.old.items) want }
+    ensures capacity { vec_capacity order.new ≡ vec_capacity order.old }
+    ensures len { vec_len order.new ≤ vec_len order.old + 1 }
+    ensures stays { IsSome (entry_of (drop at order.old.items) want.stream)
+        → vec_len order.new ≤ vec_len order.old }
 {
     leave(order, at, want.stream);
     order.push_reserved(Entry { want, since: None });
@@ -29,6 +35,8 @@ pub(crate) fn leave(order: &mut Vec<Entry>, at: usize, stream: StreamId)
     ensures items { order.new.items
         ≡ take at order.old.items ++ without (drop at order.old.items) stream }
     ensures len { vec_len order.new ≤ vec_len order.old }
+    ensures gone { IsSome (entry_of (drop at order.old.items) stream)
+        → vec_len order.new + 1 ≡ vec_len order.old }
     ensures room { vec_capacity order.new ≡ vec_capacity order.old }
 {
     if let Some(place) = position_of(behind(order, at), stream) {

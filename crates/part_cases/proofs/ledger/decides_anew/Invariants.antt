@@ -2,4 +2,4 @@ use Rattle.std.proofs.Common.{◌≤◌, ◌+◌}
 use Rattle.part_cases.proofs.ledger.decides_anew.Given as goal
 
 abbrev pub invariant-loop-stream : goal.invariant-loop-stream
-invariant-loop-stream l = l.ledger.moment + 1 ≤ l.stream
+invariant-loop-stream l = l.ledger.book.moment + 1 ≤ l.stream

@@ -1,15 +1,15 @@
 use Rattle.std.proofs.Common.{◌<◌, ◌+◌, not, List, length, get_or, set, arith, ◌∙◌, ap, refl, subst, sym, vec_capacity, ◌||◌}
 use Rattle.stream_importance.specs.declared.entry.Entry.{Entry}
 use Rattle.port_ledger.specs.Decision.{since_after}
-use Rattle.port_ledger.specs.Notes.{gains, loses, noted, stream_where}
+use Rattle.port_ledger.specs.Notes.{gains, loses, moves, noted, stream_where}
 use Rattle.port_ledger.specs.Pass.{sum_with}
 use Rattle.port_ledger.proofs.Finding.{blank}
-use Rattle.port_ledger.proofs.Noting.{loss-more, noted-more, skipped_loss, skipped_gains, skipped_loses}
+use Rattle.port_ledger.proofs.Noting.{noted-more, passed-more, skipped_gains, skipped_loses, skipped_passed}
 use Rattle.port_ledger.proofs.Passing.{PassesAt, pass_more, pass_skip, passes_first}
 use Rattle.port_ledger.proofs.decide.pass.Goals as goal
 
 pub loop-x-init : goal.loop-x-init
-loop-x-init c = (passes_first _ _ _ _ _ c.requires.ascending c.requires.different c.requires.same, refl, refl, refl)
+loop-x-init c = (passes_first _ _ _ _ _ c.requires.ascending c.requires.different c.requires.same, refl, refl, refl, refl)
 
 pub loop-x-preserved : goal.loop-x-preserved
 loop-x-preserved c =
@@ -27,7 +27,9 @@ loop-x-preserved c =
       noted-more loses c.args.caps.now c.loop-x.sum c.sum_with-sum.result c.loop-x.x-index (vec_capacity c.loop-x.notes.dropped) (vec_capacity c.pass.new.self.dropped) c.loop-x.order blank _ _ c.loop-x.notes.dropped.items c.pass.new.self.dropped.items within next c.pass.ensures.dropped_room
           (c.pass.ensures.dropped ∙ ap (λ v. noted (vec_capacity c.loop-x.notes.dropped) c.loop-x.notes.dropped.items (stream_where (loses x v) x)) c.has_room-let_in.ensures)
           c.loop-x.invariant.2,
-      loss-more c.args.caps.now c.loop-x.sum c.sum_with-sum.result c.loop-x.x-index c.loop-x.order blank _ _ c.loop-x.lost _ within next (c.or_loses-lost.ensures ∙ ap (λ v. c.loop-x.lost || loses x v) c.has_room-let_in.ensures) c.loop-x.invariant.3,
+      passed-more loses c.args.caps.now c.loop-x.sum c.sum_with-sum.result c.loop-x.x-index c.loop-x.order blank _ _ c.loop-x.lost _ within next (c.or_loses-lost.ensures ∙ ap (λ v. c.loop-x.lost || loses x v) c.has_room-let_in.ensures) c.loop-x.invariant.3,
+      passed-more moves c.args.caps.now c.loop-x.sum c.sum_with-sum.result c.loop-x.x-index c.loop-x.order blank _ _ c.loop-x.notes.any _ within next
+          (c.pass.ensures.any ∙ ap (λ v. c.loop-x.notes.any || moves x v) c.has_room-let_in.ensures) c.loop-x.invariant.4,
     )
 
 pub loop-x-preserved-then-is_none : goal.loop-x-preserved-then-is_none
@@ -38,5 +40,6 @@ loop-x-preserved-then-is_none c =
       pass_skip c.args.now.0 c.args.caps.now c.args.taken c.args.order.now c.args.entries.now c.loop-x.sum c.loop-x.x-index c.loop-x.order c.loop-x.entries blank within full unbooked c.loop-x.invariant.0,
       skipped_gains c.args.caps.now c.loop-x.sum c.loop-x.x-index (vec_capacity c.loop-x.notes.booked) c.loop-x.order blank _ _ c.loop-x.notes.booked.items within full c.loop-x.invariant.1,
       skipped_loses c.args.caps.now c.loop-x.sum c.loop-x.x-index (vec_capacity c.loop-x.notes.dropped) c.loop-x.order blank _ _ c.loop-x.notes.dropped.items within full unbooked c.loop-x.invariant.2,
-      skipped_loss c.args.caps.now c.loop-x.sum c.loop-x.x-index c.loop-x.order blank _ _ c.loop-x.lost within full unbooked c.loop-x.invariant.3,
+      skipped_passed loses c.args.caps.now c.loop-x.sum c.loop-x.x-index c.loop-x.order blank _ _ c.loop-x.lost within full unbooked c.loop-x.invariant.3,
+      skipped_passed moves c.args.caps.now c.loop-x.sum c.loop-x.x-index c.loop-x.order blank _ _ c.loop-x.notes.any within full unbooked c.loop-x.invariant.4,
     )

@@ -1,5 +1,5 @@
 use Rattle.std.proofs.Common.{◌≡◌, ◌||◌, drop, vec_capacity}
-use Rattle.port_ledger.specs.Notes.{gains, has_loss, loses, noted, streams_passed}
+use Rattle.port_ledger.specs.Notes.{gains, has_loss, has_move, loses, noted, streams_passed}
 use Rattle.port_ledger.proofs.Passing.{PassesAt}
 use Rattle.port_ledger.proofs.decide.pass.Given as goal
 
@@ -11,3 +11,4 @@ invariant-loop-x l =
     × (noted (vec_capacity l.fn.notes.dropped) l.fn.notes.dropped.items (streams_passed loses l.caps l.taken l.fn.order)
     ≡ noted (vec_capacity l.notes.dropped) l.notes.dropped.items (streams_passed loses l.caps l.sum (drop l.x-index l.order)))
     × (has_loss l.caps l.taken l.fn.order ≡ (l.lost || has_loss l.caps l.sum (drop l.x-index l.order)))
+    × ((l.fn.notes.any || has_move l.caps l.taken l.fn.order) ≡ (l.notes.any || has_move l.caps l.sum (drop l.x-index l.order)))

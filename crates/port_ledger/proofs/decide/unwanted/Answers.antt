@@ -24,7 +24,7 @@ leave-requires-clause-different c = book_different c.args.now.0 (c.importance_is
 
 pub decide-requires : goal.decide-requires
 decide-requires c =
-    subst (λ (es : List Entry). IsFront c.args.now.0 c.args.caps.now c.cut-front.result.place c.cut-front.result.totals es c.leave.new.order.items) (sym c.take_out.ensures)
+    subst (λ (es : List Entry). IsFront c.args.now.0 c.args.caps.now c.cut-front.result.place c.cut-front.result.totals es c.leave.new.order.items) (sym c.take_out.ensures.items)
     (subst (λ (xs : List Entry). IsFront c.args.now.0 c.args.caps.now c.cut-front.result.place c.cut-front.result.totals (without c.args.entries.now.items c.args.stream) xs) (sym c.leave.ensures.items)
     (entry_goes c.args.now.0 (c.importance_is_an_order.ensures c.args.now.0) c.args.caps.now c.args.standing.now c.args.entries.now.items c.args.order.now.items c.requires c.cut-front.result.place (told _ _ _ _ c.deref-2.ensures.value c.cut-front.ensures.settled) c.cut-front.result.totals c.args.stream c.find_entry-goes.result
     (c.cut-front.ensures.totals ∙ ap (λ xs. totals_of c.args.now.0 (take c.cut-front.result.place xs)) c.deref-2.ensures.value)

@@ -5,12 +5,12 @@ use Rattle.port_ledger.proofs.Marking.{different_from_ascending}
 use Rattle.port_ledger.proofs.TakingOut.{without-at, without-others}
 use Rattle.port_ledger.proofs.entries.take_out.Goals as goal
 
-pub returns-in-Ok : goal.returns-in-Ok
-returns-in-Ok c =
+pub returns-in-Ok-clause-items : goal.returns-in-Ok-clause-items
+returns-in-Ok-clause-items c =
     let found = rw c.deref.ensures.value at c.in-Ok.ensures.found in
     c.remove.ensures.items ∙ without-at c.args.entries.now.items c.args.stream c.in-Ok.place blank (different_from_ascending _ c.requires) found.0 (found.1 blank)
 
-pub returns-in_default : goal.returns-in_default
-returns-in_default c =
+pub returns-in_default-clause-items : goal.returns-in_default-clause-items
+returns-in_default-clause-items c =
     let missing = rw c.deref.ensures.value at c.in_default.ensures.missing in
     without-others c.args.stream c.args.entries.now.items (none_found c.args.stream c.args.entries.now.items (missing_is _ _ _ missing.1 missing.2))

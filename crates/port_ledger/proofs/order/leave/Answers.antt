@@ -1,7 +1,7 @@
-use Rattle.std.proofs.Common.{◌≡◌, Some, None, refl, drop, ap, sym, ◌==◌, ◌∙◌}
+use Rattle.std.proofs.Common.{◌≡◌, Some, None, refl, drop, ap, sym, ◌==◌, ◌∙◌, true≢false}
 use Rattle.std.specs.Prelude.{position}
 use Rattle.port_ledger.specs.Decision.{stream_of}
-use Rattle.port_ledger.proofs.TakingOut.{without_behind, without_nowhere}
+use Rattle.port_ledger.proofs.TakingOut.{nowhere-none, without_behind, without_nowhere}
 use Rattle.port_ledger.proofs.order.leave.Goals as goal
 
 pub returns-in-Some-clause-items : goal.returns-in-Some-clause-items
@@ -15,3 +15,9 @@ returns-in_default-clause-items c =
     let at : position (λ x. stream_of x == c.args.stream.0) (drop c.args.at c.args.order.now.items) ≡ None =
     ap (position (λ x. stream_of x == c.args.stream.0)) (sym (c.behind.ensures ∙ ap (drop c.args.at) c.deref.ensures.value)) ∙ (sym c.position_of.ensures ∙ c.in_default.is) in
     without_nowhere c.args.at c.args.order.now.items c.args.stream at
+
+pub returns-in_default-clause-gone : goal.returns-in_default-clause-gone
+returns-in_default-clause-gone c = λ some.
+    let at : position (λ x. stream_of x == c.args.stream.0) (drop c.args.at c.args.order.now.items) ≡ None =
+    ap (position (λ x. stream_of x == c.args.stream.0)) (sym (c.behind.ensures ∙ ap (drop c.args.at) c.deref.ensures.value)) ∙ (sym c.position_of.ensures ∙ c.in_default.is) in
+    absurd (true≢false (sym some ∙ nowhere-none (drop c.args.at c.args.order.now.items) c.args.stream at))
