@@ -6,8 +6,10 @@ pub mod Duties
 pub mod DutyRows
 pub mod EachKey
 pub mod Exits
+pub mod Few
 pub mod Flying
 pub mod Hearings
+pub mod Holdings
 pub mod Idle
 pub mod EventOrder
 pub mod Links

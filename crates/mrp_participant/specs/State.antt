@@ -30,6 +30,14 @@ pub record State (K C : Type 0) : Type 0 where
   pub periodic : Periodic
   pub sound : Bool
 
+-- what a participant holds, as contracts see it: its state; its spare, so many rows more find room without memory
+-- being taken; and whether it is ready, so that its timers fire without memory being taken. What a participant does
+-- is said of its state alone.
+pub record Holding (K C : Type 0) : Type 0 where
+  pub state : State K C
+  pub spare : ℕ
+  pub ready : Bool
+
 -- a list of messages of an application: whether it has LeaveAll, and the attribute events with their keys and
 -- contents, in order (10.8)
 pub record Messages (K C : Type 0) : Type 0 where

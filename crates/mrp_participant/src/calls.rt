@@ -1,6 +1,6 @@
 //! What the user asks of one key, and the end of one leave timer.
 
-ghost use Rattle.std.specs.Prelude.{◌≡◌, false, Some, None, OnOk, OnErr};
+ghost use Rattle.std.specs.Prelude.{◌≡◌, ◌≤◌, ◌+◌, false, Some, None, is_none, vec_capacity, vec_len, OnOk, OnErr};
 ghost use Rattle.mrp_participant.specs.Lookup.{Ascends, ChangesOnly, key_of, find, put};
 ghost use Rattle.mrp_participant.specs.Row.{after_declare, after_withdraw, after_leave, is_leaving_in, declared_in};
 ghost use Rattle.mrp_participant.specs.Outlook.{IsOutlook};
@@ -16,50 +16,69 @@ use srp_base::NoMemory;
 
 impl<A: MrpApp> Participant<A> {
     /// Declares a key with a content: Join! in VO, New! in LA (IEEE Std 802.1Q-2018, 10.7.7). The same content
-    /// again changes nothing, another content is declared anew, by New!. After want of memory, which comes only
-    /// for a key without a row, the participant is as it was.
+    /// again changes nothing, another content is declared anew, by New!. A key without a row uses one of the spare.
+    /// It ends readiness. After want of memory, which comes only for a key without a row and without spare, the
+    /// participant is as it was.
     pub fn declare(&mut self, key: A::Key, content: A::Content) -> Result<(), NoMemory>
-        ensures ok { OnOk result (self.new
-            ≡ declared_state A.Key.cmp A.Content.eq key content self.old) }
-        ensures same_content { declared_in (find A.Key.cmp key self.old.rows) ≡ Some content
-            → self.new ≡ self.old }
-        ensures err { OnErr result (self.new ≡ self.old) }
-        ensures room { OnErr result (find A.Key.cmp key self.old.rows ≡ None) }
-        ensures each_key { OnOk result
-            (ChangesOnly A.Key.cmp key (after_declare A.Content.eq key content (find A.Key.cmp key self.old.rows))
-            self.old.rows self.new.rows) }
+        ensures ok { OnOk result (self.new.state
+            ≡ declared_state A.Key.cmp A.Content.eq key content self.old.state) }
+        ensures same_content { declared_in (find A.Key.cmp key self.old.state.rows) ≡ Some content
+            → self.new.state ≡ self.old.state }
+        ensures err { OnErr result (self.new.state ≡ self.old.state) }
+        // Want of memory comes only for a key without a row, where there is no spare.
+        ensures room { OnErr result (find A.Key.cmp key self.old.state.rows ≡ None) }
+        ensures full { OnErr result (self.old.spare ≡ 0) }
+        ensures each_key { OnOk result (ChangesOnly A.Key.cmp key
+            (after_declare A.Content.eq key content (find A.Key.cmp key self.old.state.rows))
+            self.old.state.rows self.new.state.rows) }
+        // A key without a row lowers the spare by one at most, one with a row lowers nothing.
+        ensures spare { self.old.spare ≤ self.new.spare + 1 }
+        ensures known { is_none (find A.Key.cmp key self.old.state.rows) ≡ false
+            → self.old.spare ≤ self.new.spare }
+        ensures ready { self.new.ready ≡ false }
     {
-        declare_in(&mut self.rows, &mut self.outlook, key, content)
+        let done = declare_in(&mut self.rows, &mut self.outlook, key, content);
+        self.ready = false;
+        done
     }
 
     /// Withdraws a key: New! and then Lv! in VP, nothing in VO and LA, Lv! in the others
     /// (IEEE Std 802.1Q-2018, 10.7.7). So each withdrawal says Lv, or rides on a LeaveAll. What isn't declared
-    /// stays as it is.
+    /// stays as it is. It lowers no spare, and ends readiness.
     pub fn withdraw(&mut self, key: A::Key)
-        ensures after { self.new ≡ withdrawn_state A.Key.cmp key self.old }
-        ensures undeclared { declared_in (find A.Key.cmp key self.old.rows) ≡ None → self.new
-            ≡ self.old }
+        ensures after { self.new.state ≡ withdrawn_state A.Key.cmp key self.old.state }
+        ensures undeclared { declared_in (find A.Key.cmp key self.old.state.rows) ≡ None
+            → self.new.state ≡ self.old.state }
         ensures each_key { ChangesOnly A.Key.cmp key
-            (after_withdraw (find A.Key.cmp key self.old.rows)) self.old.rows self.new.rows }
+            (after_withdraw (find A.Key.cmp key self.old.state.rows))
+            self.old.state.rows self.new.state.rows }
+        ensures spare { self.old.spare ≤ self.new.spare }
+        ensures ready { self.new.ready ≡ false }
     {
         withdraw_in(&mut self.rows, &mut self.outlook, key);
+        self.ready = false;
     }
 
     /// Ends a key's leave timer: LV becomes MT (IEEE Std 802.1Q-2018, 10.7.8). True exactly where the Registrar
-    /// was LV; where it wasn't, nothing changes.
+    /// was LV; where it wasn't, nothing changes. It lowers no spare, and ends readiness.
     pub fn leave_due(&mut self, key: A::Key) -> bool
-        ensures was { result ≡ is_leaving_in (find A.Key.cmp key self.old.rows) }
-        ensures after { self.new ≡ left_state A.Key.cmp key self.old }
-        ensures stays { result ≡ false → self.new ≡ self.old }
+        ensures was { result ≡ is_leaving_in (find A.Key.cmp key self.old.state.rows) }
+        ensures after { self.new.state ≡ left_state A.Key.cmp key self.old.state }
+        ensures stays { result ≡ false → self.new.state ≡ self.old.state }
         ensures each_key { ChangesOnly A.Key.cmp key
-            (after_leave (find A.Key.cmp key self.old.rows)) self.old.rows self.new.rows }
+            (after_leave (find A.Key.cmp key self.old.state.rows))
+            self.old.state.rows self.new.state.rows }
+        ensures spare { self.old.spare ≤ self.new.spare }
+        ensures ready { self.new.ready ≡ false }
     {
-        leave_in(&mut self.rows, &mut self.outlook, key)
+        let was = leave_in(&mut self.rows, &mut self.outlook, key);
+        self.ready = false;
+        was
     }
 }
 
-/// Declares a key. After want of memory, which comes only for a key without a row, the rows are as they
-/// were.
+/// Declares a key. After want of memory, which comes only for a key without a row where there is no spare capacity,
+/// the rows are as they were.
 pub(crate) fn declare_in<K: Copy + Ord, C: Copy + Eq>(
     rows: &mut Vec<Row<K, C>>,
     outlook: &mut Outlook,
@@ -73,6 +92,11 @@ pub(crate) fn declare_in<K: Copy + Ord, C: Copy + Eq>(
         rows.old.items) }
     ensures err { OnErr result (rows.new.items ≡ rows.old.items) }
     ensures room { OnErr result (find K.cmp key rows.old.items ≡ None) }
+    ensures full { OnErr result (vec_capacity rows.old ≤ vec_len rows.old) }
+    ensures capacity { vec_capacity rows.old ≤ vec_capacity rows.new }
+    ensures len { vec_len rows.new ≤ vec_len rows.old + 1 }
+    ensures known { is_none (find K.cmp key rows.old.items) ≡ false
+        → vec_len rows.new ≤ vec_len rows.old }
     ensures outlook { IsOutlook outlook.new rows.new.items }
 {
     match place(rows.as_slice(), &key) {
@@ -98,6 +122,8 @@ pub(crate) fn withdraw_in<K: Copy + Ord, C: Copy>(
     requires outlook { IsOutlook outlook.old rows.old.items }
     ensures rows { rows.new.items
         ≡ put K.cmp key (after_withdraw (find K.cmp key rows.old.items)) rows.old.items }
+    ensures capacity { vec_capacity rows.new ≡ vec_capacity rows.old }
+    ensures len { vec_len rows.new ≤ vec_len rows.old }
     ensures outlook { IsOutlook outlook.new rows.new.items }
 {
     if let Ok(at) = place(rows.as_slice(), &key) {
@@ -117,6 +143,8 @@ pub(crate) fn leave_in<K: Copy + Ord, C: Copy>(
     ensures was { result ≡ is_leaving_in (find K.cmp key rows.old.items) }
     ensures rows { rows.new.items
         ≡ put K.cmp key (after_leave (find K.cmp key rows.old.items)) rows.old.items }
+    ensures capacity { vec_capacity rows.new ≡ vec_capacity rows.old }
+    ensures len { vec_len rows.new ≤ vec_len rows.old }
     ensures outlook { IsOutlook outlook.new rows.new.items }
 {
     match place(rows.as_slice(), &key) {

@@ -1,7 +1,7 @@
 //! What each key has after each call that touches every row: laws over the states that contracts see.
 //! Each is a function that does nothing; calling it brings the law to a proof.
 
-ghost use Rattle.std.specs.Prelude.{◌≡◌, ◌≢◌, ◌⊎◌, ◌↔◌, ℕ, ◌+◌, ◌≤◌, Bool, true, false, not, ◌&&◌, if◌then◌else◌, List, [], map, filter, sum_by, slice_get, Contains, IsSome, None, Some, option_map, option_and_then, option_to_list};
+ghost use Rattle.std.specs.Prelude.{◌≡◌, ◌≢◌, ◌⊎◌, ◌↔◌, ℕ, ◌+◌, ◌≤◌, Bool, true, false, not, ◌&&◌, if◌then◌else◌, List, [], length, map, filter, sum_by, slice_get, Contains, IsSome, None, Some, option_map, option_and_then, option_to_list};
 ghost use Rattle.srp_base.specs.declared.numbers.Cs.{Cs};
 ghost use Rattle.srp_base.specs.declared.mrp.MrpEvent.{MrpEvent};
 ghost use Rattle.leaveall.specs.declared.LeaveAll.TheVariants.{Passive};
@@ -226,6 +226,17 @@ pub fn due_tells_each_change<A: MrpApp>()
         → (k : A.Key)
         → Contains (left_keys now s) k
         → registered_at A.Key.cmp k (due_state now s) ≡ None }
+{}
+
+/// `receive` tells no more keys than it has events, and `due` no more than there are rows.
+pub fn told_keys_are_few<A: MrpApp>()
+    ensures receive { (s : State A.Key A.Content) (now : Cs) (leave_all : Bool)
+        (events : List (MrpEvent × A.Key × A.Content))
+        → AreRows A.Key.cmp s.rows
+        → length (changed_keys A.Key.cmp A.Content.eq s.rows
+        (received_state A.Key.cmp now leave_all events s).rows) ≤ length events }
+    ensures due { (s : State A.Key A.Content) (now : Cs)
+        → length (left_keys now s) ≤ length s.rows }
 {}
 
 /// The keys that `receive` and `due` tell ascend strictly, and each has a row: after `receive`, and before `due`.

@@ -10,8 +10,8 @@
 //!                                LeaveAll and its timer, periodic, sound
 //! ```
 //!
-//! A key has a row exactly where its Applicant isn't VO or its Registrar isn't MT. Contracts see the
-//! participant as one `State` (`specs/State.antt`), and each call's clause is the whole state after it:
+//! A key has a row exactly where its Applicant isn't VO or its Registrar isn't MT. Contracts see of the
+//! participant one `State` (`specs/State.antt`), and each call's clause is the whole state after it:
 //!
 //! - `declare`, `withdraw` and `leave_due` change the row of one key, by the tables of the machines
 //!   (`specs/Row.antt`), and no other;
@@ -25,6 +25,11 @@
 //! `any_due`, `due`, `still` and `send` look at no row. `receive` searches for the rows of the keys that it hears
 //! of, and goes over all rows only with LeaveAll, for a key that has no row yet, and where the last of the leave
 //! timers that end first ends by it.
+//!
+//! Beside the state contracts see what memory the participant has taken ahead (`Holding`). `room` takes that of rows,
+//! its spare, and `declare` of a key without a row uses one of it. `due_room` takes that of the keys that leave, and
+//! makes the participant ready: then `due` answers Ok. Each call that changes the participant ends its readiness. With
+//! `plan` and `sent`, each change can so be made after all memory for it was taken.
 //!
 //! `laws` says of the calls that touch every row what each single key has afterwards; `duty_laws` what two
 //! participants on a link owe one another, call by call; `link_laws` the same of every history of a link, and

@@ -1,6 +1,6 @@
 //! Rows ascending by key: where a key has its place, and the rows with another row for a key.
 
-ghost use Rattle.std.specs.Prelude.{◌≡◌, suc, ◌<◌, ◌≤◌, ◌++◌, take, drop, length, true, Some, IfOk, IfErr, OnOk, OnErr};
+ghost use Rattle.std.specs.Prelude.{◌≡◌, suc, ◌+◌, ◌<◌, ◌≤◌, ◌++◌, take, drop, length, true, Some, vec_capacity, vec_len, IfOk, IfErr, OnOk, OnErr};
 ghost use Rattle.std.specs.List.{cons_option};
 ghost use Rattle.mrp_participant.specs.Lookup.{Ascends, key_of, find, IsRowAt, IsGapAt};
 
@@ -88,8 +88,10 @@ pub(crate) fn replace_at<K: Copy, C: Copy>(
     new: Option<Row<K, C>>,
 )
     requires { at < length rows.old.items }
-    ensures { rows.new.items
+    ensures rows { rows.new.items
         ≡ take at rows.old.items ++ cons_option new (drop (suc at) rows.old.items) }
+    ensures capacity { vec_capacity rows.new ≡ vec_capacity rows.old }
+    ensures len { vec_len rows.new ≤ vec_len rows.old }
 {
     match new {
         Some(row) => {
@@ -111,6 +113,9 @@ pub(crate) fn fill_at<K: Copy, C: Copy>(
     ensures ok { OnOk result (rows.new.items
         ≡ take at rows.old.items ++ cons_option (Some new) (drop at rows.old.items)) }
     ensures err { OnErr result (rows.new.items ≡ rows.old.items) }
+    ensures full { OnErr result (vec_capacity rows.old ≤ vec_len rows.old) }
+    ensures capacity { vec_capacity rows.old ≤ vec_capacity rows.new }
+    ensures len { vec_len rows.new ≤ vec_len rows.old + 1 }
 {
     rows.insert(at, new)?;
     Ok(())

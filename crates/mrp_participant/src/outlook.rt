@@ -2,7 +2,7 @@
 //! many rows are tried. So a participant at which nothing happens costs the same however many rows it has, and a row
 //! that changes costs no walk over the others, but where it was the last one whose leave timer ends first.
 
-ghost use Rattle.std.specs.Prelude.{◌≡◌, ◌<◌, ◌≤◌, ◌+◌, ◌^◌, ◌++◌, suc, take, drop, length, Some, OnOk, OnErr};
+ghost use Rattle.std.specs.Prelude.{◌≡◌, ◌<◌, ◌≤◌, ◌+◌, ◌^◌, ◌++◌, suc, take, drop, length, Some, vec_capacity, vec_len, OnOk, OnErr};
 ghost use Rattle.std.specs.List.{cons_option, list_any};
 ghost use Rattle.mrp_participant.specs.Row.{leave_is_due};
 ghost use Rattle.mrp_participant.specs.Outlook.{Counts, HasRoom, IsCounted, IsOutlook, Tells, empty_outlook, ends_at, first_with, first_without, firsts, has_due, has_one, is_at_rest, outlook_with, outlook_without};
@@ -160,6 +160,8 @@ pub(crate) fn exchange_row<K: Copy, C: Copy>(
     requires tells { Tells outlook.old rows.old.items }
     ensures rows { rows.new.items
         ≡ take at rows.old.items ++ cons_option new (drop (suc at) rows.old.items) }
+    ensures capacity { vec_capacity rows.new ≡ vec_capacity rows.old }
+    ensures len { vec_len rows.new ≤ vec_len rows.old }
     ensures tells { Tells outlook.new rows.new.items }
 {
     let others = outlook.without(&rows[at]);
@@ -182,6 +184,8 @@ pub(crate) fn replace_row<K: Copy, C: Copy>(
     requires outlook { IsOutlook outlook.old rows.old.items }
     ensures rows { rows.new.items
         ≡ take at rows.old.items ++ cons_option new (drop (suc at) rows.old.items) }
+    ensures capacity { vec_capacity rows.new ≡ vec_capacity rows.old }
+    ensures len { vec_len rows.new ≤ vec_len rows.old }
     ensures outlook { IsOutlook outlook.new rows.new.items }
 {
     exchange_row(rows, outlook, at, new);
@@ -200,6 +204,9 @@ pub(crate) fn fill_row<K: Copy, C: Copy>(
     ensures ok { OnOk result (rows.new.items
         ≡ take at rows.old.items ++ cons_option (Some new) (drop at rows.old.items)) }
     ensures err { OnErr result (rows.new.items ≡ rows.old.items) }
+    ensures full { OnErr result (vec_capacity rows.old ≤ vec_len rows.old) }
+    ensures capacity { vec_capacity rows.old ≤ vec_capacity rows.new }
+    ensures len { vec_len rows.new ≤ vec_len rows.old + 1 }
     ensures outlook { IsOutlook outlook.new rows.new.items }
 {
     fill_at(rows, at, new)?;

@@ -1,6 +1,8 @@
 //! What a received list of messages makes of the rows (IEEE Std 802.1Q-2018, 10.7.5 and 10.7.6).
 
-ghost use Rattle.std.specs.Prelude.{◌≡◌, ◌<◌, ◌^◌, not, Some, OnOk, OnErr, IfOk};
+ghost use Rattle.std.specs.Prelude.{◌≡◌, ◌<◌, ◌^◌, not, if◌then◌else◌, false, Some, OnOk, OnErr, IfOk};
+ghost use Rattle.leaveall.specs.declared.LaEvent.TheVariants.{Rx};
+ghost use Rattle.leaveall.specs.Table.{table};
 ghost use Rattle.std.specs.Option.{option_eq};
 ghost use Rattle.mrp_participant.specs.Lookup.{Ascends, key_of, find};
 ghost use Rattle.mrp_participant.specs.Row.{registered_in, row_after_receive};
@@ -15,7 +17,7 @@ use crate::lookup::find_near;
 use crate::outlook::Outlook;
 use crate::participant::Participant;
 use crate::row::Row;
-use leaveall::LaEvent;
+use leaveall::{LaEvent, LeaveAll};
 use srp_base::{Cs, MrpEvent, NoMemory, Seq};
 use std::alloc::Global;
 
@@ -23,16 +25,17 @@ impl<A: MrpApp> Participant<A> {
     /// Takes what the neighbour sent at the moment `now`, in cs and below 2^62: LeaveAll first, then the events
     /// in order (IEEE Std 802.1Q-2018, 10.7.5). Answers, ascending, the keys whose registration or registered
     /// content differs from before. It goes over all rows with LeaveAll, for a key that has no row yet, and once
-    /// where the events end the last of the leave timers that would end first. After want of memory the
-    /// participant is as it was.
+    /// where the events end the last of the leave timers that would end first. It ends readiness. After want of
+    /// memory the participant is as it was.
     pub fn receive(&mut self, now: Cs, msgs: &Msgs<A>) -> Result<Seq<A::Key>, NoMemory>
         requires { now.0 < 2 ^ 62 }
 
-        ensures after { OnOk result (self.new
-            ≡ received_state A.Key.cmp now msgs.now.leave_all msgs.now.events self.old) }
+        ensures after { OnOk result (self.new.state
+            ≡ received_state A.Key.cmp now msgs.now.leave_all msgs.now.events self.old.state) }
         ensures keys { IfOk result (λ keys. keys
-            ≡ changed_keys A.Key.cmp A.Content.eq self.old.rows self.new.rows) }
-        ensures err { OnErr result (self.new ≡ self.old) }
+            ≡ changed_keys A.Key.cmp A.Content.eq self.old.state.rows self.new.state.rows) }
+        ensures err { OnErr result (self.new.state ≡ self.old.state) }
+        ensures ready { OnOk result (self.new.ready ≡ false) }
     {
         let leave = Cs(now.0 + self.leave_time.0);
         let keys = receive_in(
@@ -42,12 +45,30 @@ impl<A: MrpApp> Participant<A> {
             msgs.events.as_slice(),
             leave,
         )?;
-        if msgs.leave_all {
-            self.leave_all = self.leave_all.step(LaEvent::Rx);
-            self.next_leave_all = Cs(now.0 + self.period.0);
-        }
+        let restart = Cs(now.0 + self.period.0);
+        self.leave_all = machine_after(self.leave_all, msgs.leave_all);
+        self.next_leave_all = moment_after(self.next_leave_all, msgs.leave_all, restart);
+        self.ready = false;
         Ok(keys)
     }
+}
+
+/// A LeaveAll machine after a list of messages was received.
+fn machine_after(machine: LeaveAll, leave_all: bool) -> LeaveAll
+    ensures { result ≡ (if leave_all then table Rx machine else machine) }
+{
+    if leave_all {
+        machine.step(LaEvent::Rx)
+    } else {
+        machine
+    }
+}
+
+/// The moment of the LeaveAll timer after a list of messages was received.
+fn moment_after(next: Cs, leave_all: bool, restart: Cs) -> Cs
+    ensures { result ≡ (if leave_all then restart else next) }
+{
+    if leave_all { restart } else { next }
 }
 
 /// Lets the rows hear a list of messages: LeaveAll first, then the events in order. Answers the keys whose

@@ -30,11 +30,11 @@ impl<A: MrpApp> Participant<A> {
     pub fn plan(&self, now: Cs) -> Result<Option<Msgs<A>>, NoMemory>
         requires { now.0 < 2 ^ 62 }
 
-        ensures silent { IfOk result (λ planned. is_none planned ≡ is_silent self.now) }
+        ensures silent { IfOk result (λ planned. is_none planned ≡ is_silent self.now.state) }
         ensures leave_all { IfOk result (λ planned. IfSome planned (λ msgs. msgs.leave_all
-            ≡ is_active self.now.leave_all)) }
+            ≡ is_active self.now.state.leave_all)) }
         ensures events { IfOk result (λ planned. IfSome planned (λ msgs. msgs.events
-            ≡ sent_events A.base A.octets A.Key.cmp now self.now)) }
+            ≡ sent_events A.base A.octets A.Key.cmp now self.now.state)) }
         ensures ascending { IfOk result (λ planned. IfSome planned (λ msgs. Ascends A.Key.cmp
             (λ e. e.1) msgs.events)) }
         ensures fits { IfOk result (λ planned. IfSome planned (λ msgs. A.base + sum_by
@@ -54,11 +54,13 @@ impl<A: MrpApp> Participant<A> {
 
     /// The change that `send` makes at the moment `now`, in cs and below 2^62, once what `plan` answers goes out
     /// (IEEE Std 802.1Q-2018, 10.7.6): each row gets its transmission opportunity, LeaveAll is Passive, and a
-    /// LeaveAll makes the participant sound. Where nothing is to be said nothing changes. It takes no memory.
+    /// LeaveAll makes the participant sound, and readiness ends. Where nothing is to be said nothing changes. It
+    /// takes no memory.
     pub fn sent(&mut self, now: Cs)
         requires { now.0 < 2 ^ 62 }
-        ensures after { self.new ≡ sent_state A.base A.octets A.Key.cmp now self.old }
-        ensures stays { is_silent self.old ≡ true → self.new ≡ self.old }
+        ensures after { self.new.state ≡ sent_state A.base A.octets A.Key.cmp now self.old.state }
+        ensures stays { is_silent self.old.state ≡ true → self.new ≡ self.old }
+        ensures ready { is_silent self.old.state ≡ false → self.new.ready ≡ false }
     {
         if self.has_nothing_to_say() {
             return;
@@ -68,30 +70,33 @@ impl<A: MrpApp> Participant<A> {
         step_rows::<A>(&mut self.rows, &mut self.outlook, leave_all, leave);
         self.leave_all = self.leave_all.step(LaEvent::Tx);
         self.sound = sound_after(self.sound, leave_all);
+        self.ready = false;
     }
 
     /// What the participant sends at the moment `now`, in cs and below 2^62 (IEEE Std 802.1Q-2018, 10.7.6): what
     /// `plan` answers, with the change of `sent`.
     ///
     /// None exactly where no row is VP, VN, AN, AA or LA and LeaveAll is Passive; nothing changes then. A LeaveAll
-    /// makes the participant sound. After want of memory it is as it was.
+    /// makes the participant sound. What is sent ends readiness. After want of memory the participant is as it was.
     pub fn send(&mut self, now: Cs) -> Result<Option<Msgs<A>>, NoMemory>
         requires { now.0 < 2 ^ 62 }
 
-        ensures silent { IfOk result (λ sent. is_none sent ≡ is_silent self.old) }
+        ensures silent { IfOk result (λ sent. is_none sent ≡ is_silent self.old.state) }
         ensures leave_all { IfOk result (λ sent. IfSome sent (λ msgs. msgs.leave_all
-            ≡ is_active self.old.leave_all)) }
+            ≡ is_active self.old.state.leave_all)) }
         ensures events { IfOk result (λ sent. IfSome sent (λ msgs. msgs.events
-            ≡ sent_events A.base A.octets A.Key.cmp now self.old)) }
+            ≡ sent_events A.base A.octets A.Key.cmp now self.old.state)) }
         ensures ascending { IfOk result (λ sent. IfSome sent (λ msgs. Ascends A.Key.cmp
             (λ e. e.1) msgs.events)) }
         ensures fits { IfOk result (λ sent. IfSome sent (λ msgs. A.base + sum_by
             (λ e. A.octets e.2) msgs.events ≤ 1500)) }
         ensures says { IfOk result (λ sent. IfSome sent (λ msgs. msgs.leave_all ≡ false
             → msgs.events ≢ [])) }
-        ensures after { OnOk result (self.new ≡ sent_state A.base A.octets A.Key.cmp now self.old) }
+        ensures after { OnOk result (self.new.state
+            ≡ sent_state A.base A.octets A.Key.cmp now self.old.state) }
         ensures stays { IfOk result (λ sent. IfNone sent (self.new ≡ self.old)) }
-        ensures err { OnErr result (self.new ≡ self.old) }
+        ensures err { OnErr result (self.new.state ≡ self.old.state) }
+        ensures ready { OnOk result (is_silent self.old.state ≡ false → self.new.ready ≡ false) }
     {
         let planned = self.plan(now)?;
         self.sent(now);
@@ -100,7 +105,7 @@ impl<A: MrpApp> Participant<A> {
 
     /// Whether there is nothing to say.
     fn has_nothing_to_say(&self) -> bool
-        ensures { result ≡ is_silent self.now }
+        ensures { result ≡ is_silent self.now.state }
     {
         self.leave_all == LeaveAll::Passive && is_none_tried(self.rows.as_slice(), self.outlook)
     }

@@ -173,6 +173,40 @@ fn full_pdus(rt: HostRuntime) {
     assert!(rt; fills_three(&mut participant));
 }
 
+// Whether messages say, without LeaveAll, that two keys are joined.
+fn says_two(msgs: &Msgs<Numbers>, first: u32, last: u32) -> bool {
+    are_sent(msgs, false, 2, (MrpEvent::JoinMt, first, last))
+}
+
+// Whether what is planned at a moment is two keys, and is then sent.
+fn sends_as_planned(participant: &mut Participant<Numbers>, now: u32, keys: (u32, u32)) -> bool {
+    let (first, last) = keys;
+    match participant.plan(Cs(u64::from(now))) {
+        Ok(Some(msgs)) => {
+            says_two(&msgs, first, last)
+                && sends(participant, now, false, 2, (MrpEvent::JoinMt, first, last))
+        }
+        _ => false,
+    }
+}
+
+// Whether two keys are declared in the room that was made for them.
+fn declares_in_room(participant: &mut Participant<Numbers>, first: u32, last: u32) -> bool {
+    participant.room(2).is_ok()
+        && declares(participant, first, first)
+        && declares(participant, last, last)
+}
+
+// Two keys are declared in room made ahead, and planned and sent alike; the timers of a participant that was made ready
+// fire.
+#[test]
+fn memory_taken_first(rt: HostRuntime) {
+    let mut participant = new_participant(rt.alloc(), false);
+    assert!(rt; declares_in_room(&mut participant, 7, 9));
+    assert!(rt; sends_as_planned(&mut participant, 20, (7, 9)));
+    assert!(rt; participant.due_room().is_ok() && fires(&mut participant, 1001, 1, &[]));
+}
+
 fn is_sound_and_busy(participant: &Participant<Numbers>) -> bool {
     participant.sound() && !participant.still()
 }

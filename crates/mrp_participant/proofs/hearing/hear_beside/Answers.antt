@@ -14,7 +14,7 @@ returns-in-Ok g c =
     (λ r. after_hear c.args.said.0 c.args.said.1 c.args.said.2 c.args.leave
     (first_of r (option_map (begun_row c.args.leave_all c.args.leave)
     (find g.K.Ord.cmp c.args.said.1 c.args.rows.now))))
-    _ c.index-row.result.now _ c.in-Ok.ensures.row c.index-row.ensures (ap Some c.hears.ensures) c.replace_at.ensures
+    _ c.index-row.result.now _ c.in-Ok.ensures.row c.index-row.ensures (ap Some c.hears.ensures) c.replace_at.ensures.rows
 
 pub returns-in-Some : goal.returns-in-Some
 returns-in-Some g c =

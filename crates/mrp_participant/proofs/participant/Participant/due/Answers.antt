@@ -3,6 +3,7 @@ use Rattle.mrp_participant.specs.State.{State, AreRows, with_rows, leave_timers_
 use Rattle.mrp_participant.proofs.Exits.{of_error, on_error}
 use Rattle.mrp_participant.proofs.Transitions.{AreRows-filter_mapped, due-keeps}
 use Rattle.mrp_participant.proofs.Unchanged.{unchanged}
+use Rattle.mrp_participant.proofs.Holdings.{state_is, same-room}
 use Rattle.mrp_participant.proofs.participant.Participant.due.Goals as goal
 
 pub invariant_of-self-2 : goal.invariant_of-self-2
@@ -12,10 +13,15 @@ invariant_of-self-2 g c = (
   c.self.invariant.1,
   c.self.invariant.2,
   c.in_ok-fire_leaves.ensures.outlook,
+  c.taken-keys.ensures.empty,
+  λ on. cc,
 )
 
-pub fire_leaves-requires : goal.fire_leaves-requires
-fire_leaves-requires g c = c.self.invariant.3
+pub fire_leaves-requires-clause-outlook : goal.fire_leaves-requires-clause-outlook
+fire_leaves-requires-clause-outlook g c = c.self.invariant.3
+
+pub fire_leaves-requires-clause-empty : goal.fire_leaves-requires-clause-empty
+fire_leaves-requires-clause-empty g c = c.self.invariant.4
 
 pub invariant_of-self : goal.invariant_of-self
 invariant_of-self g c = (
@@ -23,6 +29,8 @@ invariant_of-self g c = (
   c.self.invariant.1,
   c.self.invariant.2,
   c.in_err-fire_leaves.ensures.outlook,
+  c.in_err-fire_leaves.ensures.stays.0,
+  λ on. same-room _ _ _ _ c.in_err-fire_leaves.ensures.err c.in_err-fire_leaves.ensures.stays.1 (c.self.invariant.5 on),
 )
 
 pub returns-in_err-fire_leaves-clause-after : goal.returns-in_err-fire_leaves-clause-after
@@ -41,10 +49,10 @@ pub fire_periodic-requires : goal.fire_periodic-requires
 fire_periodic-requires g c = c.requires
 
 pub returns-in_err-fire_leaves-clause-err : goal.returns-in_err-fire_leaves-clause-err
-returns-in_err-fire_leaves-clause-err g c = on_error c.from_residual.result (unchanged _ _ _ c.self.view_is c.in_err-fire_leaves.ensures.err)
+returns-in_err-fire_leaves-clause-err g c = on_error c.from_residual.result (unchanged _ _ _ (state_is c.self.view_is) c.in_err-fire_leaves.ensures.err)
 
 pub returns-clause-keys : goal.returns-clause-keys
-returns-clause-keys g c = c.from_vec-keys.ensures ∙ c.in_ok-fire_leaves.ensures.keys ∙ ap (λ (s : State _ _). left_keys c.args.now s) c.self.view_is
+returns-clause-keys g c = c.taken-keys.ensures.taken ∙ c.in_ok-fire_leaves.ensures.keys ∙ ap (λ (s : State _ _). left_keys c.args.now s) (state_is c.self.view_is)
 
 pub returns-clause-after : goal.returns-clause-after
 returns-clause-after g c =
@@ -57,7 +65,7 @@ returns-clause-after g c =
       periodic = c.self.inside.periodic;
       sound = c.self.inside.sound;
     } in
-    c.fire_periodic.ensures
+    c.fire_periodic.ensures.after
     ∙ ap (due_periodic_state c.args.now)
-    (c.fire_leave_all.ensures
-    ∙ ap (due_leave_all_state c.args.now) (ap (λ rows. with_rows rows s) c.in_ok-fire_leaves.ensures.rows ∙ ap (leave_timers_state c.args.now) c.self.view_is))
+    (c.fire_leave_all.ensures.after
+    ∙ ap (due_leave_all_state c.args.now) (ap (λ rows. with_rows rows s) c.in_ok-fire_leaves.ensures.rows ∙ ap (leave_timers_state c.args.now) (state_is c.self.view_is)))

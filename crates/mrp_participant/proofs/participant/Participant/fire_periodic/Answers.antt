@@ -9,4 +9,6 @@ invariant_of-self g c = (
   c.self.invariant.1,
   c.self.invariant.2,
   c.all_periodic.ensures.outlook,
+  c.self.invariant.4,
+  λ on. cc,
 )

@@ -8,14 +8,17 @@ use Rattle.mrp_participant.specs.State.{State, AreRows}
 use Rattle.mrp_participant.proofs.EachKey.{each-leave}
 use Rattle.mrp_participant.proofs.Transitions.{AreRows-leave}
 use Rattle.mrp_participant.proofs.Unchanged.{leave-unleaving, unchanged}
+use Rattle.mrp_participant.proofs.Holdings.{state_is}
 use Rattle.mrp_participant.proofs.participant.Participant.leave_due.Goals as goal
 
 pub invariant_of-self : goal.invariant_of-self
 invariant_of-self g c = (
-  subst (AreRows g.A.Key.Ord.cmp) (sym c.leave_in.ensures.rows) (AreRows-leave g.met.A.Key.Ord.total _ _ c.self.invariant.0),
+  subst (AreRows g.A.Key.Ord.cmp) (sym c.leave_in-was.ensures.rows) (AreRows-leave g.met.A.Key.Ord.total _ _ c.self.invariant.0),
   c.self.invariant.1,
   c.self.invariant.2,
-  c.leave_in.ensures.outlook,
+  c.leave_in-was.ensures.outlook,
+  c.self.invariant.4,
+  λ on. cc,
 )
 
 left-each : {K C : Type 0} {cmp : K → K → Ordering} → IsTotalOrder cmp
@@ -28,9 +31,9 @@ left-each {cmp = cmp} o key inside old new is are left k =
     ∙ ap (λ (s : State _ _). if same cmp key k then after_leave (find cmp key s.rows) else find cmp k s.rows) is
 
 pub returns-clause-each_key : goal.returns-clause-each_key
-returns-clause-each_key g c = left-each g.met.A.Key.Ord.total c.args.key _ _ _ c.self.view_is c.self.invariant.0 c.leave_in.ensures.rows
+returns-clause-each_key g c = left-each g.met.A.Key.Ord.total c.args.key _ _ _ (state_is c.self.view_is) c.self.invariant.0 c.leave_in-was.ensures.rows
 
 pub returns-clause-stays : goal.returns-clause-stays
 returns-clause-stays g c h =
-    unchanged _ _ _ c.self.view_is
-    (c.leave_in.ensures.rows ∙ leave-unleaving g.met.A.Key.Ord.total c.args.key c.self.inside.rows.items c.self.invariant.0 (sym c.leave_in.ensures.was ∙ h))
+    unchanged _ _ _ (state_is c.self.view_is)
+    (c.leave_in-was.ensures.rows ∙ leave-unleaving g.met.A.Key.Ord.total c.args.key c.self.inside.rows.items c.self.invariant.0 (sym c.leave_in-was.ensures.was ∙ h))

@@ -10,6 +10,7 @@ use Rattle.mrp_participant.specs.Sending.{is_taken, sent_event}
 use Rattle.mrp_participant.specs.State.{State, after, is_active, none_tried}
 use Rattle.mrp_participant.proofs.Octets.{events-ascend, events-fit, events-are_some}
 use Rattle.mrp_participant.proofs.Sendings.{events-of, tried-one}
+use Rattle.mrp_participant.proofs.Holdings.{state_is}
 use Rattle.mrp_participant.proofs.participant.Participant.plan.Goals as goal
 
 pub returns-then-has_nothing_to_say-clause-silent : goal.returns-then-has_nothing_to_say-clause-silent
@@ -20,10 +21,10 @@ returns-clause-silent g c = sym c.if-has_nothing_to_say.false ∙ c.has_nothing_
 
 pub returns-clause-events : goal.returns-clause-events
 returns-clause-events g c =
-    events-of g.A.Key.Ord.cmp g.A.MrpApp.base g.A.MrpApp.octets c.args.now c.args.self.now _ _ _ _
-    (c.is_active-leave_all.ensures ∙ ap (λ (s : State _ _). is_active s.leave_all) c.self.view_is)
-    (ap (λ (s : State _ _). after c.args.now s.leave_time) c.self.view_is)
-    (c.as_slice.ensures.value ∙ ap (λ (s : State _ _). s.rows) c.self.view_is) c.in_ok-events.ensures
+    events-of g.A.Key.Ord.cmp g.A.MrpApp.base g.A.MrpApp.octets c.args.now c.args.self.now.state _ _ _ _
+    (c.is_active-leave_all.ensures ∙ ap (λ (s : State _ _). is_active s.leave_all) (state_is c.self.view_is))
+    (ap (λ (s : State _ _). after c.args.now s.leave_time) (state_is c.self.view_is))
+    (c.as_slice.ensures.value ∙ ap (λ (s : State _ _). s.rows) (state_is c.self.view_is)) c.in_ok-events.ensures
 
 pub returns-clause-ascending : goal.returns-clause-ascending
 returns-clause-ascending g c =
@@ -51,7 +52,7 @@ pub returns-clause-says : goal.returns-clause-says
 returns-clause-says g c off =
     says g.met.A.Key.Ord.total g.A.MrpApp.octets g.A.MrpApp.base _ c.as_slice.result.now _ _
     (subst (Ascends g.A.Key.Ord.cmp key_of) (sym c.as_slice.ensures.value) c.self.invariant.0.0) g.met.A.MrpApp.row_fits c.in_ok-events.ensures off
-    (tried-one c.args.self.now _ _ (c.is_active-leave_all.ensures
-    ∙ ap (λ (s : State _ _). is_active s.leave_all) c.self.view_is)
-    (c.as_slice.ensures.value ∙ ap (λ (s : State _ _). s.rows) c.self.view_is)
+    (tried-one c.args.self.now.state _ _ (c.is_active-leave_all.ensures
+    ∙ ap (λ (s : State _ _). is_active s.leave_all) (state_is c.self.view_is))
+    (c.as_slice.ensures.value ∙ ap (λ (s : State _ _). s.rows) (state_is c.self.view_is))
     (sym c.has_nothing_to_say.ensures ∙ c.if-has_nothing_to_say.false) off)

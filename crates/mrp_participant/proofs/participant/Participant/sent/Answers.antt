@@ -3,11 +3,12 @@ use Rattle.mrp_participant.specs.Sending.{is_taken}
 use Rattle.mrp_participant.specs.State.{AreRows, sent_state}
 use Rattle.mrp_participant.proofs.Sendings.{silent-state, sent-parts, sent-keeps}
 use Rattle.mrp_participant.proofs.Transitions.{AreRows-filter_mapped}
+use Rattle.mrp_participant.proofs.Holdings.{state_is}
 use Rattle.mrp_participant.proofs.participant.Participant.sent.Goals as goal
 
 pub returns-then-has_nothing_to_say-clause-after : goal.returns-then-has_nothing_to_say-clause-after
 returns-then-has_nothing_to_say-clause-after g c =
-    silent-state g.A.Key.Ord.cmp g.A.MrpApp.base g.A.MrpApp.octets c.args.now c.args.self.now (sym c.has_nothing_to_say.ensures ∙ c.if-has_nothing_to_say.true)
+    silent-state g.A.Key.Ord.cmp g.A.MrpApp.base g.A.MrpApp.octets c.args.now c.args.self.now.state (sym c.has_nothing_to_say.ensures ∙ c.if-has_nothing_to_say.true)
 
 pub step_rows-requires : goal.step_rows-requires
 step_rows-requires g c = c.self.invariant.0
@@ -21,6 +22,8 @@ invariant_of-self g c = (
   c.self.invariant.1,
   c.self.invariant.2,
   c.step_rows.ensures.outlook,
+  c.self.invariant.4,
+  λ on. cc,
 )
 
 pub returns-clause-after : goal.returns-clause-after
@@ -36,7 +39,7 @@ returns-clause-after g c =
       sound = c.self.inside.sound;
     })
     _ _ _ _ _ c.is_active-leave_all.ensures refl c.step_rows.ensures.rows c.step-self-inside.ensures c.sound_after-self-inside.ensures
-    ∙ ap (sent_state g.A.MrpApp.base g.A.MrpApp.octets g.A.Key.Ord.cmp c.args.now) c.self.view_is
+    ∙ ap (sent_state g.A.MrpApp.base g.A.MrpApp.octets g.A.Key.Ord.cmp c.args.now) (state_is c.self.view_is)
 
 pub returns-clause-stays : goal.returns-clause-stays
 returns-clause-stays g c silent = cc

@@ -5,6 +5,7 @@ use Rattle.mrp_participant.specs.State.{State, AreRows}
 use Rattle.mrp_participant.proofs.EachKey.{each-withdraw}
 use Rattle.mrp_participant.proofs.Transitions.{AreRows-withdraw}
 use Rattle.mrp_participant.proofs.Unchanged.{withdraw-undeclared, unchanged}
+use Rattle.mrp_participant.proofs.Holdings.{state_is}
 use Rattle.mrp_participant.proofs.participant.Participant.withdraw.Goals as goal
 
 pub invariant_of-self : goal.invariant_of-self
@@ -13,6 +14,8 @@ invariant_of-self g c = (
   c.self.invariant.1,
   c.self.invariant.2,
   c.withdraw_in.ensures.outlook,
+  c.self.invariant.4,
+  λ on. cc,
 )
 
 pub returns-clause-each_key : goal.returns-clause-each_key
@@ -22,11 +25,11 @@ returns-clause-each_key g c k =
     ∙ ap
     (λ (s : State g.row.A-Key.Denot g.row.A-Content.Denot). if same g.A.Key.Ord.cmp c.args.key k then after_withdraw
     (find g.A.Key.Ord.cmp c.args.key s.rows) else find g.A.Key.Ord.cmp k s.rows)
-    c.self.view_is
+    (state_is c.self.view_is)
 
 pub returns-clause-undeclared : goal.returns-clause-undeclared
 returns-clause-undeclared g c h =
-    unchanged _ _ _ c.self.view_is
+    unchanged _ _ _ (state_is c.self.view_is)
     (c.withdraw_in.ensures.rows
     ∙ withdraw-undeclared g.met.A.Key.Ord.total c.args.key c.self.inside.rows.items c.self.invariant.0
-    (ap (λ (s : State g.row.A-Key.Denot g.row.A-Content.Denot). declared_in (find g.A.Key.Ord.cmp c.args.key s.rows)) c.self.view_is ∙ h))
+    (ap (λ (s : State g.row.A-Key.Denot g.row.A-Content.Denot). declared_in (find g.A.Key.Ord.cmp c.args.key s.rows)) (state_is c.self.view_is) ∙ h))

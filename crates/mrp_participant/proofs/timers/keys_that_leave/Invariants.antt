@@ -1,8 +1,9 @@
-use Rattle.std.proofs.Common.{◌≡◌, ◌++◌, drop, if◌then◌else◌}
+use Rattle.std.proofs.Common.{◌≡◌, ◌≤◌, ◌+◌, ◌++◌, drop, if◌then◌else◌}
+use Rattle.std.specs.Vec.{vec_len, vec_capacity}
 use Rattle.std.specs.List.{filter_map}
 use Rattle.std.specs.declared.option.Option.TheVariants.{Some, None}
-use Rattle.mrp_participant.specs.Row.{leave_is_due, after_leave_due}
-use Rattle.mrp_participant.proofs.timers.fire_each.Given as goal
+use Rattle.mrp_participant.specs.Row.{leave_is_due}
+use Rattle.mrp_participant.proofs.timers.keys_that_leave.Given as goal
 
 abbrev pub invariant-loop-row : goal.invariant-loop-row
 invariant-loop-row g l =
@@ -10,6 +11,6 @@ invariant-loop-row g l =
       keys : l.fn.keys.items ++ filter_map (λ r. if leave_is_due l.fn.now.0 r then Some r.key else None) l.rows
           ≡ l.keys.items ++ filter_map (λ r. if leave_is_due l.fn.now.0 r then Some r.key else None)
           (drop l.row-index l.rows);
-      rows : l.fn.after.items ++ filter_map (after_leave_due l.fn.now.0) l.rows
-          ≡ l.after.items ++ filter_map (after_leave_due l.fn.now.0) (drop l.row-index l.rows);
+      len : vec_len l.keys ≤ vec_len l.fn.keys + l.row-index;
+      capacity : vec_capacity l.keys ≡ vec_capacity l.fn.keys;
     }

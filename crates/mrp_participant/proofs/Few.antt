@@ -1,0 +1,133 @@
+-- What receiving and the timers tell is no more than what happens: each key that is told had an event, and no two are one.
+use Rattle.std.proofs.Common.{◌≡◌, ◌≤◌, ℕ, zero, suc, Bool, true, false, not, ◌||◌, if◌then◌else◌, List, [], ◌∷◌, map, filter, fold, length, refl, sym, ap, ◌∙◌, subst, arith, inl, inr, option_map}
+use Rattle.std.specs.Prelude.{◌⊎◌, Contains}
+use Rattle.std.specs.declared.option.Option.{Option}
+use Rattle.std.specs.declared.option.Option.TheVariants.{None, Some}
+use Rattle.std.specs.declared.cmp.Ordering.{Ordering}
+use Rattle.std.specs.declared.cmp.Ordering.TheVariants.{Less, Equal}
+use Rattle.std.specs.Ordering.{is_eq}
+use Rattle.std.specs.Cmp.{IsTotalOrder, IsEquivalence}
+use Rattle.std.specs.List.{AllByRecursion, list_any}
+use Rattle.registrar.specs.declared.Registrar.{Registrar}
+use Rattle.registrar.specs.declared.Registrar.TheVariants.{Held, Leaving, Empty}
+use Rattle.registrar.specs.Table.{is_registered_in}
+use Rattle.srp_base.specs.declared.numbers.Cs.{Cs}
+use Rattle.srp_base.specs.declared.mrp.MrpEvent.{MrpEvent}
+use Rattle.mrp_participant.specs.declared.row.Row.{Row}
+use Rattle.mrp_participant.specs.Lookup.{Ascends, key_of, same, find}
+use Rattle.mrp_participant.specs.Row.{after_hear, leave_all_row, registered_in, row_after_receive, row_hearing}
+use Rattle.mrp_participant.specs.State.{AreRows, changed_keys, rows_after_receive}
+use Rattle.mrp_participant.proofs.Changes.{told-are_changes, told-ascend}
+use Rattle.mrp_participant.proofs.EachKey.{each-receive}
+use Rattle.mrp_participant.proofs.Lookups.{same_is}
+use Rattle.mrp_participant.proofs.Transitions.{AreRows-receive}
+
+-- ---- lists
+
+pub filter-fewer : {X Y : Type 0} (p : X → Bool) (f : X → Y) (xs : List X) → length (map f (filter p xs)) ≤ length xs
+filter-fewer p f [] = omega arith
+filter-fewer p f (x ∷ xs) = by (p x) (filter-fewer p f xs)
+  where
+    by : (b : Bool) → length (map f (filter p xs)) ≤ length xs → length (map f (if b then x ∷ filter p xs else filter p xs)) ≤ suc (length xs)
+    by true h = omega (arith, h)
+    by false h = omega (arith, h)
+
+-- what is contained is of each
+each-contained : {X : Type 0} (P : X → Type 0) (xs : List X) → ((x : X) → Contains xs x → P x) → AllByRecursion P xs
+each-contained P [] h = tt
+each-contained P (x ∷ xs) h = (h x (zero, omega arith, refl), each-contained P xs (λ y at. h y (suc at.0, omega (arith, at.1), at.2)))
+
+-- a list without the first element that passes a test
+abbrev without_first : {X : Type 0} → (X → Bool) → List X → List X
+without_first p [] = []
+without_first p (x ∷ xs) = if p x then xs else x ∷ without_first p xs
+
+one_fewer : {X : Type 0} (p : X → Bool) (xs : List X) → list_any p xs ≡ true → length xs ≡ suc (length (without_first p xs))
+one_fewer p [] h = cc
+one_fewer p (x ∷ xs) h = by (p x) h (one_fewer p xs)
+  where
+    by : (b : Bool) → (b || list_any p xs) ≡ true → (list_any p xs ≡ true → length xs ≡ suc (length (without_first p xs)))
+        → suc (length xs) ≡ suc (length (if b then xs else x ∷ without_first p xs))
+    by true h rest = refl
+    by false h rest = ap suc (rest h)
+
+-- another test still finds what it found
+still_any : {X : Type 0} (p q : X → Bool) → ((x : X) → p x ≡ true → q x ≡ false) → (xs : List X) → list_any q xs ≡ true → list_any q (without_first p xs) ≡ true
+still_any p q apart [] h = cc
+still_any p q apart (x ∷ xs) h = by (p x) refl (q x) refl (still_any p q apart xs)
+  where
+    by : (a : Bool) → p x ≡ a → (b : Bool) → q x ≡ b → (list_any q xs ≡ true → list_any q (without_first p xs) ≡ true)
+        → list_any q (if a then xs else x ∷ without_first p xs) ≡ true
+    by true is true was rest = let no : true ≡ false = sym was ∙ apart x is in cc
+    by true is false was rest = ap (λ b. b || list_any q xs) (sym was) ∙ h
+    by false is true was rest = ap (λ b. b || list_any q (without_first p xs)) was
+    by false is false was rest = ap (λ b. b || list_any q (without_first p xs)) was ∙ rest (ap (λ b. b || list_any q xs) (sym was) ∙ h)
+
+module _ {K C : Type 0} {cmp : K → K → Ordering} (o : IsTotalOrder cmp) (one_key : (a b : K) → cmp a b ≡ Equal → a ≡ b) where
+  -- whether there is an event of a key
+  abbrev is_heard : List (MrpEvent × K × C) → K → Bool
+  is_heard events k = list_any (λ e. same cmp e.1 k) events
+
+  -- distinct keys with an event each are no more than the events
+  as_many_events : (keys : List K) (events : List (MrpEvent × K × C)) → Ascends cmp (λ k. k) keys
+      → AllByRecursion (λ k. is_heard events k ≡ true) keys → length keys ≤ length events
+  as_many_events [] events up heard = omega arith
+  as_many_events (k ∷ keys) events up heard =
+      let p : MrpEvent × K × C → Bool = λ e. same cmp e.1 k in
+      let fewer : length events ≡ suc (length (without_first p events)) = one_fewer p events heard.0 in
+      let rest : length keys ≤ length (without_first p events) = as_many_events keys (without_first p events) up.1 (others keys up.0 heard.1) in
+      omega (arith, fewer, rest)
+    where
+      apart : (q : K) → cmp k q ≡ Less → (e : MrpEvent × K × C) → same cmp e.1 k ≡ true → same cmp e.1 q ≡ false
+      apart q less e is = ap (λ x. same cmp x q) (one_key e.1 k (same_is cmp e.1 k is)) ∙ ap is_eq less
+
+      others : (qs : List K) → AllByRecursion (λ q. cmp k q ≡ Less) qs → AllByRecursion (λ q. is_heard events q ≡ true) qs
+          → AllByRecursion (λ q. is_heard (without_first (λ e. same cmp e.1 k) events) q ≡ true) qs
+      others [] less h = tt
+      others (q ∷ qs) less h =
+          (still_any (λ e. same cmp e.1 k) (λ e. same cmp e.1 q) (apart q less.0) events h.0, others qs less.1 h.1)
+
+  -- without an event of its own a key's row hears nothing
+  unheard : (leave : Cs) (k : K) (events : List (MrpEvent × K × C)) (r : Option (Row K C)) → is_heard events k ≡ false → fold (row_hearing cmp leave k) r events ≡ r
+  unheard leave k [] r h = refl
+  unheard leave k (e ∷ events) r h = by (same cmp e.1 k) refl h (unheard leave k events)
+    where
+      by : (b : Bool) → same cmp e.1 k ≡ b → (b || is_heard events k) ≡ false
+          → ((r : Option (Row K C)) → is_heard events k ≡ false → fold (row_hearing cmp leave k) r events ≡ r)
+          → fold (row_hearing cmp leave k) (row_hearing cmp leave k r e) events ≡ r
+      by true is h rest = cc
+      by false is h rest = rest (row_hearing cmp leave k r e) h ∙ ap (λ b. if b then after_hear e.0 e.1 e.2 leave r else r) is
+
+  -- LeaveAll changes no registration
+  leave_all_registered : (leave : Cs) (r : Row K C) (was : Registrar) → r.registrar ≡ was → registered_in (Some (leave_all_row leave r)) ≡ registered_in (Some r)
+  leave_all_registered leave r Held is = rw is refl
+  leave_all_registered leave r Leaving is = rw is refl
+  leave_all_registered leave r Empty is = rw is refl
+
+  begun_registered : (leave : Cs) (leave_all : Bool) (r : Option (Row K C)) → registered_in (if leave_all then option_map (leave_all_row leave) r else r) ≡ registered_in r
+  begun_registered leave true None = refl
+  begun_registered leave true (Some r) = leave_all_registered leave r r.registrar refl
+  begun_registered leave false r = refl
+
+  -- a key that is told had an event
+  told_heard : (eq : C → C → Bool) → IsEquivalence eq → (leave : Cs) (leave_all : Bool) (events : List (MrpEvent × K × C)) (old : List (Row K C)) → AreRows cmp old
+      → (k : K) → Contains (changed_keys cmp eq old (rows_after_receive cmp leave leave_all events old)) k → is_heard events k ≡ true
+  told_heard eq laws leave leave_all events old are k at = by (is_heard events k) refl
+    where
+      new : List (Row K C)
+      new = rows_after_receive cmp leave leave_all events old
+
+      by : (b : Bool) → is_heard events k ≡ b → b ≡ true
+      by true h = refl
+      by false h = absurd (told-are_changes o eq one_key laws old (rows_after_receive cmp leave leave_all events old)
+          (AreRows-receive o leave leave_all events old are).0 k at
+          (ap registered_in (each-receive o leave leave_all events old are k
+          ∙ unheard leave k events (if leave_all then option_map (leave_all_row leave) (find cmp k old) else find cmp k old) h)
+          ∙ begun_registered leave leave_all (find cmp k old)))
+
+  pub told_few : (eq : C → C → Bool) → IsEquivalence eq → (leave : Cs) (leave_all : Bool) (events : List (MrpEvent × K × C)) (old : List (Row K C)) → AreRows cmp old
+      → length (changed_keys cmp eq old (rows_after_receive cmp leave leave_all events old)) ≤ length events
+  told_few eq laws leave leave_all events old are =
+      as_many_events (changed_keys cmp eq old (rows_after_receive cmp leave leave_all events old)) events
+      (told-ascend cmp key_of _ (rows_after_receive cmp leave leave_all events old) (AreRows-receive o leave leave_all events old are).0)
+      (each-contained _ _ (told_heard eq laws leave leave_all events old are))
