@@ -1,4 +1,5 @@
 mod AwaitingLemmas
 mod DirtyLemmas
 mod FlatLemmas
+mod InPlace
 mod PortsLemmas

@@ -1,6 +1,6 @@
 -- The link ports of a node, and the keys that await settling at each, port by port.
 use Rattle.std.specs.Prelude.{◌≡◌, ◌≤◌, ℕ, ◌+◌, ◌-◌, ◌==◌, Bool, not, ◌||◌, if◌then◌else◌, List, [], ◌∷◌, length, map, min, Option, Some, None, option_map, slice_get}
-use Rattle.std.specs.List.{list_all, list_any}
+use Rattle.std.specs.List.{AllByRecursion, list_all, list_any}
 use Rattle.std.specs.declared.cmp.Ordering.{Ordering}
 use Rattle.srp_base.specs.declared.numbers.PortNo.{PortNo}
 use Rattle.srp_base.specs.declared.ports.PortSetup.{PortSetup}
@@ -24,6 +24,10 @@ count_of n = min n 4294967295
 -- the keys of each of some sets
 abbrev pub keys_in : {K : Type 0} → List (KeySet K) → List (List K)
 keys_in sets = map (λ set. set.keys) sets
+
+-- at each port there is room for so many more keys
+abbrev pub HasRoom : {K : Type 0} → ℕ → List (KeySet K) → Type 0
+HasRoom count sets = AllByRecursion (λ set. count ≤ set.spare) sets
 
 -- the keys of each of some sets, where there are any sets
 abbrev pub keys_in_some : {K : Type 0} → Option (List (KeySet K)) → Option (List (List K))

@@ -79,6 +79,36 @@ impl<K: Copy + Ord> Dirty<K> {
         Ok(all)
     }
 
+    /// Puts these keys in, in this order. It takes no memory: there is room for as many.
+    pub fn mark_all(&mut self, keys: &[K])
+        requires { length keys.now ≤ self.old.spare }
+        ensures { self.new.keys ≡ all_marked K.cmp keys.now self.old.keys }
+    {
+        for key in keys {
+            self.mark_within(*key);
+        }
+    }
+
+    // Puts a key in where there is room for one more.
+    fn mark_within(&mut self, key: K)
+        requires { 1 ≤ self.old.spare }
+        ensures keys { self.new.keys ≡ with_key K.cmp key self.old.keys }
+        ensures spare { self.old.spare ≤ self.new.spare + 1 }
+    {
+        match self.mark(key) {
+            Ok(()) => {}
+            Err(_) => unreachable!(),
+        }
+    }
+
+    /// Takes all keys out. It takes no memory, and lowers no spare.
+    pub fn empty(&mut self)
+        ensures keys { self.new.keys ≡ [] }
+        ensures spare { self.old.spare ≤ self.new.spare }
+    {
+        self.keys.truncate(0);
+    }
+
     /// Takes a key out, where it is in. It takes no memory, and lowers no spare.
     pub fn clear(&mut self, key: K)
         ensures keys { self.new.keys ≡ without_key K.cmp key self.old.keys }

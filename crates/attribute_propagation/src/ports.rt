@@ -1,9 +1,9 @@
 //! The keys that await settling at each link port of a node.
 
-ghost use Rattle.std.specs.Prelude.{◌≡◌, ◌<◌, ◌==◌, not, [], length, slice_get, slice_set, IfOk, Some, if◌then◌else◌, option_map};
+ghost use Rattle.std.specs.Prelude.{◌≡◌, ◌<◌, ◌==◌, not, [], ◌≤◌, length, slice_get, slice_set, IfOk, OnOk, Some, if◌then◌else◌, option_map};
 ghost use Rattle.std.specs.List.{list_all, list_any};
 ghost use Rattle.attribute_propagation.specs.Dirty.{all_marked};
-ghost use Rattle.attribute_propagation.specs.Ports.{count_of, keys_in, keys_in_some, new_sets, none_awaits, some_awaits, marked_elsewhere, marked_everywhere, sets_with};
+ghost use Rattle.attribute_propagation.specs.Ports.{HasRoom, count_of, keys_in, keys_in_some, new_sets, none_awaits, some_awaits, marked_elsewhere, marked_everywhere, sets_with};
 
 use crate::dirty::Dirty;
 use srp_base::{NoMemory, PortSetup};
@@ -137,6 +137,47 @@ pub fn await_everywhere<K: Copy + Ord>(
     Ok(Some(all))
 }
 
+/// Makes room for this many more keys at each port. After want of memory, as before it, each port has the keys
+/// that it had.
+pub fn room_everywhere<K: Copy + Ord>(sets: &mut Vec<Dirty<K>>, keys: usize) -> Result<(), NoMemory>
+    ensures room { OnOk result (HasRoom keys sets.new.items) }
+    ensures keys { keys_in sets.new.items ≡ keys_in sets.old.items }
+{
+    for place in 0..sets.len() {
+        sets[place].room(keys)?;
+    }
+    Ok(())
+}
+
+/// Puts these keys in at every port but the one at a place, counted from 0. It takes no memory: at each port there
+/// is room for as many.
+pub fn tell_elsewhere<K: Copy + Ord>(sets: &mut Vec<Dirty<K>>, at: usize, keys: &[K])
+    requires { HasRoom (length keys.now) sets.old.items }
+    ensures { keys_in sets.new.items ≡ marked_elsewhere K.cmp at keys.now (keys_in sets.old.items) }
+{
+    for place in 0..sets.len() {
+        mark_unless(&mut sets[place], place == at, keys);
+    }
+}
+
+/// Puts these keys in at every port. It takes no memory: at each port there is room for as many.
+pub fn tell_everywhere<K: Copy + Ord>(sets: &mut Vec<Dirty<K>>, keys: &[K])
+    requires { HasRoom (length keys.now) sets.old.items }
+    ensures { keys_in sets.new.items ≡ marked_everywhere K.cmp keys.now (keys_in sets.old.items) }
+{
+    for place in 0..sets.len() {
+        sets[place].mark_all(keys);
+    }
+}
+
+/// Takes all keys out that await at a place. It takes no memory.
+pub fn empty_at<K: Copy + Ord>(sets: &mut Vec<Dirty<K>>, at: usize)
+    requires { at < length sets.old.items }
+    ensures { keys_in sets.new.items ≡ slice_set (keys_in sets.old.items) at [] }
+{
+    sets[at].empty();
+}
+
 /// Puts these sets in the place of those that are there, where there are any. It takes no memory.
 pub fn put_sets<K: Copy + Ord>(sets: &mut Vec<Dirty<K>>, new: Option<Vec<Dirty<K>>>)
     ensures { keys_in sets.new.items
@@ -193,5 +234,16 @@ fn marked_unless<K: Copy + Ord>(
         set.copy()
     } else {
         set.with_all(keys)
+    }
+}
+
+// A set stays, or gets these keys, for which it has room.
+fn mark_unless<K: Copy + Ord>(set: &mut Dirty<K>, stays: bool, keys: &[K])
+    requires { length keys.now ≤ set.old.spare }
+    ensures { set.new.keys
+        ≡ (if stays then set.old.keys else all_marked K.cmp keys.now set.old.keys) }
+{
+    if !stays {
+        set.mark_all(keys);
     }
 }

@@ -5,7 +5,6 @@ use Rattle.std.specs.Prelude.{slice_get, slice_set, slice_index_or, Option, Some
 use Rattle.std.specs.Cmp.{IsTotalOrder}
 use Rattle.std.specs.List.{AllByRecursion}
 use Rattle.std.proofs.lemmas.List.Folds.{list_any_at}
-use Rattle.std.proofs.lemmas.Option.{slice_get-get_or, slice_get_read}
 use Rattle.std.proofs.Math.ListN.{length-set}
 use Rattle.std.specs.declared.cmp.Ordering.{Ordering}
 use Rattle.std.specs.declared.cmp.Ordering.TheVariants.{Less, Equal, Greater}
@@ -19,7 +18,7 @@ use Rattle.attribute_propagation.specs.Dirty.{is_awaiting, all_marked, with_key,
 use Rattle.attribute_propagation.specs.Flat.{is_any, elsewhere}
 use Rattle.attribute_propagation.specs.Ports.{HasTold, marked_elsewhere, marked_everywhere}
 use Rattle.flat_side.specs.Part.{Part, declares, registers}
-use Rattle.flat_side.specs.Side.{FlatState, IsKept, IsFlatAt, is_flat, has_own, places_of, new_flat, with_told_part, with_part_at, at_part, left_key, SameDeclared, TellsEach}
+use Rattle.flat_side.specs.Side.{FlatState, IsKept, IsFlatAt, is_flat, has_own, places_of, new_flat, with_part, with_told_part, with_part_at, left_key, requested_flat, SameDeclared, TellsEach}
 use Rattle.flat_side.proofs.Places.{decide, or_false, no_or, no_and, same_length, get-set_same, get-set_other, map-set, map-set_same, elsewhere-set, each-set, each-get}
 
 -- what is known of keys: their order is one in which equal keys are one key; and what those that are told make of the
@@ -38,24 +37,6 @@ own_reverse : (c : Ordering) → c ≡ ordering_reverse c → c ≡ Equal
 own_reverse Less h = cc
 own_reverse Equal h = refl
 own_reverse Greater h = cc
-
--- what holds of equal participants and lists of keys
-pub tells_as : {K : Type 0} (cmp : K → K → Ordering) (key : K) (told told' : List K) (s t t' : Part K) → told' ≡ told → t' ≡ t
-    → Contains told key ⊎ (registered_at cmp key t ≡ registered_at cmp key s)
-    → Contains told' key ⊎ (registered_at cmp key t' ≡ registered_at cmp key s)
-tells_as cmp key told told' s t t' e f h = rw (e, f) h
-
-pub retold_as : {K : Type 0} (cmp : K → K → Ordering) (at : ℕ) (s t : Part K) (told told' : List K) (side : FlatState K) → s ≡ t → told ≡ told' → with_told_part cmp at s told side ≡ with_told_part cmp at t told' side
-retold_as cmp at s t told told' side e f = rw (e, f) refl
-
-pub at_changed : {K : Type 0} (side : FlatState K) (at : ℕ) (x t : Part K) (f : Part K → Part K) → at < length side.parts → x ≡ slice_index_or side.parts at x → t ≡ f x
-    → with_part_at at t side ≡ at_part at (λ s. with_part_at at (f s) side) side
-at_changed side at x t f below is e =
-    let here : slice_get side.parts at ≡ Some x = slice_get_read side.parts (length side.parts) at x refl below is in
-    rw (here, e) refl
-
-pub at_told : {K : Type 0} (side : FlatState K) (at : ℕ) (s : Part K) (make : Part K → FlatState K) → slice_get side.parts at ≡ Some s → make s ≡ at_part at make side
-at_told side at s make here = rw here refl
 
 module _ {K : Type 0} (cmp : K → K → Ordering) (laws : KeyLaws cmp) where
   pub self : (k : K) → is_eq (cmp k k) ≡ true
@@ -146,6 +127,22 @@ module _ {K : Type 0} (cmp : K → K → Ordering) (laws : KeyLaws cmp) where
             flat = λ j. retold_flat j (decide at j);
           }
 
+    -- one that declares and registers the same takes the place, and tells none
+    pub kept-replaced : (t : Part K) → AreRows cmp t.rows → SameDeclared cmp s t → ((key : K) → registered_at cmp key t ≡ registered_at cmp key s) → IsKept cmp (with_part_at at t side)
+    kept-replaced t rows same stays =
+        let P : List (List K) → Type 0 = λ sets. IsKept cmp (record (with_part_at at t side) { awaiting = sets }) in
+        subst P (laws.told.none_elsewhere at side.awaiting) (kept-retold t [] same (λ key. inr (stays key)) rows)
+
+  -- a side that is made with the participant at a place, if one is there
+  pub kept-at : (side : FlatState K) (make : Part K → FlatState K) (o : Option (Part K)) → IsKept cmp side → ((s : Part K) → o ≡ Some s → AreRows cmp s.rows → IsKept cmp (make s))
+      → ((s : Part K) → o ≡ Some s → AreRows cmp s.rows) → IsKept cmp (with_part o make side)
+  kept-at side make None kept h rows = kept
+  kept-at side make (Some s) kept h rows = h s refl (rows s refl)
+
+  -- the rows of the participant at a place
+  pub rows-at : (side : FlatState K) (at : ℕ) → IsKept cmp side → (s : Part K) → slice_get side.parts at ≡ Some s → AreRows cmp s.rows
+  rows-at side at kept s here = each-get (λ p. AreRows cmp p.rows) side.parts at s kept.rows here
+
   -- the key whose leave timer ended is told, or its registration is as before
   pub leaving_told : (s : Part K) (key v : K)
       → registered_at cmp v (left_state cmp key s)
@@ -160,28 +157,6 @@ module _ {K : Type 0} (cmp : K → K → Ordering) (laws : KeyLaws cmp) where
       by true false e h = inr h
       by false true e h = inr h
       by false false e h = inr h
-
-  pub kept-put : (side : FlatState K) → IsKept cmp side → (at : ℕ) → at < length side.parts → (t : Part K) (told : List K) → AreRows cmp t.rows
-      → ((s : Part K) → slice_get side.parts at ≡ Some s → SameDeclared cmp s t)
-      → ((s : Part K) → slice_get side.parts at ≡ Some s → TellsEach cmp told s t)
-      → IsKept cmp (with_told_part cmp at t told side)
-  kept-put side kept at below t told rows same tells =
-      let s = slice_index_or side.parts at t in
-      let here : slice_get side.parts at ≡ Some s = slice_get-get_or side.parts at t below in
-      kept-retold side kept at s here t told (same s here) (tells s here) rows
-
-  -- ---- a participant changes in its place, and tells none
-
-  pub kept-changed : (side : FlatState K) → IsKept cmp side → (at : ℕ) → at < length side.parts → (x t : Part K)
-      → x ≡ slice_index_or side.parts at x → (AreRows cmp x.rows → AreRows cmp t.rows)
-      → (AreRows cmp x.rows → SameDeclared cmp x t) → (AreRows cmp x.rows → (key : K) → registered_at cmp key t ≡ registered_at cmp key x)
-      → IsKept cmp (with_part_at at t side)
-  kept-changed side kept at below x t is rows declared registered =
-      let here : slice_get side.parts at ≡ Some x = slice_get_read side.parts (length side.parts) at x refl below is in
-      let x_rows : AreRows cmp x.rows = each-get (λ p. AreRows cmp p.rows) side.parts at x kept.rows here in
-      let P : List (List K) → Type 0 = λ sets. IsKept cmp (record (with_part_at at t side) { awaiting = sets }) in
-      subst P (laws.told.none_elsewhere at side.awaiting)
-      (kept-retold side kept at x here t [] (declared x_rows) (λ key. inr (registered x_rows key)) (rows x_rows))
 
   -- ---- the application asks
 
@@ -212,6 +187,22 @@ module _ {K : Type 0} (cmp : K → K → Ordering) (laws : KeyLaws cmp) where
       rw all (kept-own side kept key own up (λ v ne. ap (is_awaiting cmp v) is ∙ (marks v key side.own ∙ no_or _ _ ne)))
   kept-requested marks clears side kept key false own sets up is all =
       rw all (kept-own side kept key own up (λ v ne. ap (is_awaiting cmp v) is ∙ (clears v key side.own ∙ no_and _ _ ne)))
+
+  chosen : (b : Bool) (x y : FlatState K) → IsKept cmp x → IsKept cmp y → IsKept cmp (if b then x else y)
+  chosen true x y h k = h
+  chosen false x y h k = k
+
+  pub request-keeps : ((k x : K) (keys : List K) → is_awaiting cmp k (with_key cmp x keys) ≡ (is_eq (cmp x k) || is_awaiting cmp k keys))
+      → ((k x : K) (keys : List K) → is_awaiting cmp k (without_key cmp x keys) ≡ (not (is_eq (cmp x k)) && is_awaiting cmp k keys))
+      → ((x : K) (keys : List K) → IsAscending cmp keys → IsAscending cmp (with_key cmp x keys))
+      → ((x : K) (keys : List K) → IsAscending cmp keys → IsAscending cmp (without_key cmp x keys))
+      → (key : K) (side : FlatState K) → IsKept cmp side → (declared : Bool) → IsKept cmp (requested_flat cmp key declared side)
+  request-keeps marks clears marks_up clears_up key side kept true =
+      chosen (has_own cmp key side) _ _ kept
+      (kept-requested marks clears side kept key true (with_key cmp key side.own) (marked_everywhere cmp (key ∷ []) side.awaiting) (marks_up key side.own kept.own) refl refl)
+  request-keeps marks clears marks_up clears_up key side kept false =
+      chosen (has_own cmp key side) _ _
+      (kept-requested marks clears side kept key false (without_key cmp key side.own) (marked_everywhere cmp (key ∷ []) side.awaiting) (clears_up key side.own kept.own) refl refl) kept
 
 -- ---- a new side
 

@@ -1,7 +1,7 @@
+mod Changing
 mod Keeping
 mod KeyLemmas
 mod Places
 mod ProperLemmas
-mod ReadyLemmas
 mod SendingLemmas
 mod SettlingLemmas

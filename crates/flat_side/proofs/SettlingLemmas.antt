@@ -1,16 +1,15 @@
 -- What settling keys leaves: each of them is declared by the rule, and no registration changes.
-use Rattle.std.proofs.Common.{◌≡◌, ◌≢◌, ◌⊎◌, inl, inr, ℕ, ◌<◌, Bool, true, false, ◌||◌, if◌then◌else◌, List, [], ◌∷◌, length, refl, sym, ap, subst, ◌∙◌}
-use Rattle.std.specs.Prelude.{slice_get, slice_set, slice_index_or, IfSome, Option, Some, None, is_some}
+use Rattle.std.proofs.Common.{◌≡◌, ◌≢◌, ◌⊎◌, inl, inr, ℕ, zero, suc, Bool, true, false, ◌||◌, if◌then◌else◌, List, [], ◌∷◌, length, refl, sym, ap, subst, ◌∙◌, arith}
+use Rattle.std.specs.Prelude.{slice_get, slice_set, Option, Some, None, is_some}
 use Rattle.std.specs.declared.cmp.Ordering.{Ordering}
 use Rattle.std.proofs.Math.ListN.{length-set}
-use Rattle.std.proofs.lemmas.Option.{slice_get-get_or}
 use Rattle.mrp_participant.specs.Lookup.{same}
 use Rattle.mrp_participant.specs.State.{AreRows, declared_at, registered_at, declared_state, withdrawn_state}
 use Rattle.attribute_propagation.specs.Dirty.{is_awaiting}
 use Rattle.flat_side.specs.Part.{Part, same_content, declares, settled_key, settled_part}
-use Rattle.flat_side.specs.Side.{FlatState, IsKept, IsFlatAt, is_flat, rule_at, settled_flat}
-use Rattle.flat_side.proofs.Places.{decide, opened, get-set_same, get-set_other, each-set, each-get}
-use Rattle.flat_side.proofs.Keeping.{KeyLaws, same_key, flat_here, flat_there}
+use Rattle.flat_side.specs.Side.{FlatState, IsKept, IsFlatAt, awaiting_at, is_flat, settled_flat}
+use Rattle.flat_side.proofs.Places.{decide, get-set_same, get-set_other, each-set, each-get}
+use Rattle.flat_side.proofs.Keeping.{KeyLaws, same_key, flat_here, flat_there, kept-at, rows-at}
 
 -- the laws of a participant that settling rests on
 pub record Laws {K : Type 0} (cmp : K → K → Ordering) : Type 0 where
@@ -37,11 +36,6 @@ some_or false o = refl
 none_or : (b : Bool) (o : Option (Unit {0})) → is_some (if b then None else o) ≡ (if b then false else is_some o)
 none_or true o = refl
 none_or false o = refl
-
--- what settling leaves is kept, and is what it should be
-pub record HasSettled {K : Type 0} (cmp : K → K → Ordering) (side : FlatState K) (at : ℕ) (t : Part K) : Type 0 where
-  pub kept : IsKept cmp (record side { parts = slice_set side.parts at t; awaiting = slice_set side.awaiting at [] })
-  pub is : record side { parts = slice_set side.parts at t; awaiting = slice_set side.awaiting at [] } ≡ settled_flat cmp at side
 
 module _ {K : Type 0} (cmp : K → K → Ordering) (laws : KeyLaws cmp) where
   module _ (acts : Laws cmp) (rule : K → Bool) where
@@ -124,13 +118,19 @@ module _ {K : Type 0} (cmp : K → K → Ordering) (laws : KeyLaws cmp) where
           flat = λ j. flat_settled j (decide at j);
         }
 
-  pub settle_is : Laws cmp → (side : FlatState K) → IsKept cmp side → (at : ℕ) → at < length side.parts → (keys : List K) → slice_get side.awaiting at ≡ Some keys → (t : Part K)
-      → IfSome (slice_get side.parts at) (λ s. t ≡ settled_part cmp (rule_at cmp at side.own side.parts) keys s) → HasSettled cmp side at t
-  settle_is acts side kept at below keys set t t_is =
-      let x : Part K = slice_index_or side.parts at t in
-      let here : slice_get side.parts at ≡ Some x = slice_get-get_or side.parts at t below in
-      let became : t ≡ settled_part cmp (is_flat cmp side at) keys x = opened (λ s. t ≡ settled_part cmp (rule_at cmp at side.own side.parts) keys s) (slice_get side.parts at) x here t_is in
-      record {
-        kept = rw became (kept-settled acts side kept at x keys here set);
-        is = rw (became, here, set) refl;
-      }
+  -- a list of the same length has an element at the same place
+  paired : (sets : List (List K)) (parts : List (Part K)) (at : ℕ) (s : Part K) → length sets ≡ length parts → slice_get parts at ≡ Some s → (keys : List K) × (slice_get sets at ≡ Some keys)
+  paired [] [] at s e get = cc
+  paired [] (z ∷ parts) at s e get = absurd (omega arith)
+  paired (keys ∷ sets) [] at s e get = absurd (omega arith)
+  paired (keys ∷ sets) (z ∷ parts) zero s e get = (keys, refl)
+  paired (keys ∷ sets) (z ∷ parts) (suc at) s e get = let shorter : length sets ≡ length parts = omega arith in paired sets parts at s shorter get
+
+  pub settle-keeps : Laws cmp → (at : ℕ) (side : FlatState K) → IsKept cmp side → IsKept cmp (settled_flat cmp at side)
+  settle-keeps acts at side kept =
+      kept-at cmp laws side (λ s. record side { parts = slice_set side.parts at (settled_part cmp (is_flat cmp side at) (awaiting_at at side) s); awaiting = slice_set side.awaiting at [] })
+      (slice_get side.parts at) kept (λ s here rows. by s here (paired side.awaiting side.parts at s kept.ports here)) (rows-at cmp laws side at kept)
+    where
+      by : (s : Part K) → slice_get side.parts at ≡ Some s → (keys : List K) × (slice_get side.awaiting at ≡ Some keys)
+          → IsKept cmp (record side { parts = slice_set side.parts at (settled_part cmp (is_flat cmp side at) (awaiting_at at side) s); awaiting = slice_set side.awaiting at [] })
+      by s here (keys, set) = rw set (kept-settled acts side kept at s keys here set)

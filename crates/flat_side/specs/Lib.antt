@@ -1,5 +1,5 @@
 pub mod Part
 pub mod Codec
 pub mod Side
+pub mod Holding
 pub mod Keys
-pub mod Ready

@@ -11,11 +11,11 @@ use Rattle.mrpdu_codec.specs.declared.error.DecodeErr.{DecodeErr}
 use Rattle.mrpdu_codec.specs.declared.error.DecodeErr.TheVariants as errors
 use Rattle.mrp_participant.specs.Lookup.{find}
 use Rattle.mrp_participant.specs.Row.{is_leaving_in}
-use Rattle.mrp_participant.specs.State.{AreRows, is_active, is_silent, is_still, is_any_due, declared_at, registered_at, new_state, left_state, left_keys, due_state, leave_all_state, periodic_state, sent_events, sent_state}
+use Rattle.mrp_participant.specs.State.{AreRows, is_active, is_silent, is_still, is_any_due, declared_at, registered_at, new_state, left_state, left_keys, due_state, received_state, changed_keys, leave_all_state, periodic_state, sent_events, sent_state}
 use Rattle.attribute_propagation.specs.Dirty.{IsAscending, is_awaiting, with_key, without_key}
 use Rattle.attribute_propagation.specs.Flat.{elsewhere}
 use Rattle.attribute_propagation.specs.Ports.{count_of, keys_at, marked_elsewhere, marked_everywhere, new_sets, none_awaits, some_awaits}
-use Rattle.flat_side.specs.Part.{Part, key_events, received_part, told_by_receipt, declares, registers, settled_part}
+use Rattle.flat_side.specs.Part.{Part, same_content, key_events, received_part, told_by_receipt, declares, registers, settled_part}
 use Rattle.flat_side.specs.Codec.{Codec, IsWritten}
 
 -- the participants of the link ports, in the order of the ports; the keys that await settling at each, ascending; and
@@ -34,6 +34,11 @@ module _ {K : Type 0} where
   -- the side that is made with the participant at a place; where none is there, it stays as it is
   abbrev pub at_part : ℕ → (Part K → FlatState K) → FlatState K → FlatState K
   at_part at make side = with_part (slice_get side.parts at) make side
+
+  -- the participants that are made with one of them; where there is none, they stay as they are
+  abbrev pub parts_by : Option (Part K) → (Part K → List (Part K)) → List (Part K) → List (Part K)
+  parts_by None make parts = parts
+  parts_by (Some s) make parts = make s
 
   -- a participant has become another and has told none
   abbrev pub with_part_at : ℕ → Part K → FlatState K → FlatState K
@@ -103,6 +108,14 @@ module _ {K : Type 0} (cmp : K → K → Ordering) where
       (λ s. with_told_part at (received_part cmp now leave_all events s) (told_by_receipt cmp now leave_all events s) side)
       side
 
+  -- the same, for messages as a participant takes them
+  abbrev pub heard_flat : Cs → ℕ → Bool → List (MrpEvent × K × Unit {0}) → FlatState K → FlatState K
+  heard_flat now at leave_all events side =
+      at_part at
+      (λ s. with_told_part at (received_state cmp now leave_all events s)
+      (changed_keys cmp same_content s.rows (received_state cmp now leave_all events s).rows) side)
+      side
+
   -- all timers that are due at a place have fired, and the keys that left await at every other port
   abbrev pub due_flat : Cs → ℕ → FlatState K → FlatState K
   due_flat now at side = at_part at (λ s. with_told_part at (due_state now s) (left_keys now s) side) side
@@ -118,6 +131,11 @@ module _ {K : Type 0} (cmp : K → K → Ordering) where
   -- the participant at a place has sent its PDU, of which some octets are stated, and some of each key
   abbrev pub sent_flat : ℕ → (Unit {0} → ℕ) → Cs → ℕ → FlatState K → FlatState K
   sent_flat base octets now at side = at_part at (λ s. with_part_at at (sent_state base octets cmp now s) side) side
+
+  -- the participants once these keys are settled at a place by the flat rule, in this order
+  abbrev pub parts_settled : ℕ → List K → List K → List (Part K) → List (Part K)
+  parts_settled at own keys parts =
+      parts_by (slice_get parts at) (λ s. slice_set parts at (settled_part cmp (rule_at at own parts) keys s)) parts
 
   -- the keys that await at a port are settled by the flat rule, ascending, and none awaits there
   abbrev pub settled_flat : ℕ → FlatState K → FlatState K

@@ -1,29 +1,46 @@
 //! What comes in and goes out at a link port, and what the application asks for.
 
-ghost use Rattle.std.specs.Prelude.{◌≡◌, ◌<◌, ◌≤◌, ◌^◌, ◌∷◌, [], if◌then◌else◌, length, slice_get, Some, IfOk, IfSome, OnOk, OnErr};
+ghost use Rattle.std.specs.Prelude.{◌≡◌, ◌<◌, ◌≤◌, ◌^◌, ◌∷◌, [], IsTrue, if◌then◌else◌, length, slice_get, None, Some, IfOk, IfSome, IsOk, OnOk, OnErr};
 ghost use Rattle.mrp_participant.specs.Lookup.{find};
 ghost use Rattle.mrp_participant.specs.Row.{is_leaving_in};
-ghost use Rattle.mrp_participant.specs.State.{AreRows, due_count};
+ghost use Rattle.mrp_participant.specs.State.{due_count};
 ghost use Rattle.attribute_propagation.specs.Dirty.{with_key, without_key};
-ghost use Rattle.attribute_propagation.specs.Ports.{IsLinkPort, count_of, place_of};
-ghost use Rattle.flat_side.specs.Part.{Part, said_events};
-ghost use Rattle.flat_side.specs.Side.{IsKept, SameDeclared, TellsEach, HasReceived, with_told_part, received_flat, due_flat, left_flat, leave_all_flat, periodic_flat, spoilt_flat, requested_flat};
+ghost use Rattle.attribute_propagation.specs.Ports.{IsLinkPort, count_of, keys_in, marked_everywhere, place_of};
+ghost use Rattle.flat_side.specs.Part.{said_events};
+ghost use Rattle.flat_side.specs.Side.{HasReceived, received_flat, due_flat, left_flat, leave_all_flat, periodic_flat, spoilt_flat, requested_flat};
 
 use crate::app::FlatApp;
-use crate::side::FlatSide;
-use attribute_propagation::laws::{each_key_awaits, each_port_is_told};
-use attribute_propagation::{
-    Dirty, await_elsewhere, await_everywhere, put_sets, saturated, told_where,
-};
-use mrp_participant::laws::{
-    declarations_stay, receive_tells_each_change, registrations_stay, what_is_asked_holds,
-};
-use mrp_participant::{Msgs, Participant};
+use crate::laws::every_call_keeps_a_side;
+use crate::port::{fire_at, leave_all_at, leave_at, periodic_at, receive_at, room_at, spoil_at};
+use crate::side::{FlatSide, part_at};
+use attribute_propagation::laws::each_port_is_told;
+use attribute_propagation::{Dirty, room_everywhere, saturated, tell_everywhere};
+use mrp_participant::Msgs;
+use mrp_participant::laws::nothing_due_changes_nothing;
 use mrpdu_codec::DecodeErr;
 use srp_base::{Cs, MrpEvent, NoMemory, PortNo, Seq};
 use std::alloc::{AllocError, Global};
 
 impl<A: FlatApp> FlatSide<A> {
+    /// Makes the side ready at a link port: afterwards `due` and `settle` of that port take no memory, and all else is
+    /// as before. Each call that may change the side ends its readiness. After want of memory, which comes only
+    /// where the side isn't ready at the port, it is ready nowhere.
+    pub fn room(&mut self, port: PortNo) -> Result<(), NoMemory>
+        requires { IsLinkPort port (length self.old.state.parts) }
+        ensures state { self.new.state ≡ self.old.state }
+        ensures ready { OnOk result (self.new.ready ≡ Some (place_of port)) }
+        ensures again { self.old.ready ≡ Some (place_of port) → IsOk result }
+    {
+        let at = usize::from(port.0) - 1;
+        if is_at(self.ready, at) {
+            return Ok(());
+        }
+        self.ready = None;
+        room_at(&mut self.parts, &mut self.awaiting, at)?;
+        self.ready = Some(at);
+        Ok(())
+    }
+
     /// Takes the octets of a PDU that came in at a link port at the moment `now`, in cs and below 2^62: its
     /// LeaveAll first, then its events in order (IEEE Std 802.1Q-2018, 10.7.5). Answers the number of its
     /// events. Keys whose registration changes await at every other link port.
@@ -33,10 +50,11 @@ impl<A: FlatApp> FlatSide<A> {
     /// `Malformed` exactly where the octets are, with the offset; then nothing changes.
     pub fn receive(&mut self, now: Cs, port: PortNo, octets: &[u8]) -> Result<u32, DecodeErr>
         requires now { now.0 < 2 ^ 62 }
-        requires port { IsLinkPort port (length self.old.parts) }
+        requires port { IsLinkPort port (length self.old.state.parts) }
         requires short { length octets.now ≤ 1500 }
-        ensures { HasReceived A.Key.cmp A.codec now (place_of port) octets.now self.old result
-            self.new }
+        ensures received { HasReceived A.Key.cmp A.codec now (place_of port) octets.now
+            self.old.state result self.new.state }
+        ensures ready { OnOk result (self.new.ready ≡ None) }
     {
         let alloc = *self.parts.allocator();
         let pdu = A::decode(alloc, octets)?;
@@ -58,148 +76,171 @@ impl<A: FlatApp> FlatSide<A> {
         events: &[(MrpEvent, A::Key)],
     ) -> Result<(), NoMemory>
         requires now { now.0 < 2 ^ 62 }
-        requires place { at < length self.old.parts }
-        ensures ok { OnOk result (self.new
-            ≡ received_flat A.Key.cmp now at leave_all events.now self.old) }
-        ensures err { OnErr result (self.new ≡ self.old) }
+        requires place { at < length self.old.state.parts }
+        ensures ok { OnOk result (self.new.state
+            ≡ received_flat A.Key.cmp now at leave_all events.now self.old.state) }
+        ensures err { OnErr result (self.new.state ≡ self.old.state) }
+        ensures ready { OnOk result (self.new.ready ≡ None) }
     {
+        every_call_keeps_a_side::<A>();
         self.keeps();
-        declarations_stay::<A>();
-        receive_tells_each_change::<A>();
         let msgs = msgs_of::<A>(alloc, leave_all, events)?;
-        let mut part = part_at(self.parts.as_slice(), at).copy()?;
-        let told = part.receive(now, &msgs)?;
-        part.rows_ascend();
-        self.put(alloc, at, part, told.as_slice())
+        self.ready = None;
+        receive_at(&mut self.parts, &mut self.awaiting, at, now, &msgs)
     }
 
     /// Fires the timers of a link port that are due at the moment `now`, in cs and below 2^62 (IEEE Std
-    /// 802.1Q-2018, 10.7.4). Answers their number. Keys that leave await at every other link port.
+    /// 802.1Q-2018, 10.7.4). Answers their number. Keys that leave await at every other link port. Want of memory
+    /// comes only where the side isn't ready at the port.
     pub fn due(&mut self, now: Cs, port: PortNo) -> Result<u32, NoMemory>
         requires now { now.0 < 2 ^ 62 }
-        requires port { IsLinkPort port (length self.old.parts) }
-        ensures after { OnOk result (self.new ≡ due_flat A.Key.cmp now (place_of port) self.old) }
-        ensures count { IfOk result (λ n. IfSome (slice_get self.old.parts (place_of port))
+        requires port { IsLinkPort port (length self.old.state.parts) }
+        ensures after { OnOk result (self.new.state
+            ≡ due_flat A.Key.cmp now (place_of port) self.old.state) }
+        ensures count { IfOk result (λ n. IfSome (slice_get self.old.state.parts (place_of port))
             (λ s. n ≡ count_of (due_count now s))) }
-        ensures err { OnErr result (self.new ≡ self.old) }
+        ensures err { OnErr result (self.new.state ≡ self.old.state) }
+        ensures room { self.old.ready ≡ Some (place_of port) → IsOk result }
+        ensures ready { OnOk result (self.new.ready ≡ None) }
     {
-        let ready = self.ready_due(now, port)?;
-        let fired = ready.count();
-        self.apply(ready);
-        Ok(fired)
+        each_port_is_told::<A::Key>();
+        nothing_due_changes_nothing::<A>();
+        let at = usize::from(port.0) - 1;
+        if !part_at(self.parts.as_slice(), at).any_due(now) {
+            self.ready = None;
+            return Ok(0);
+        }
+        self.room(port)?;
+        Ok(self.fire(now, at))
+    }
+
+    // Fires the timers at the place where the side is ready.
+    fn fire(&mut self, now: Cs, at: usize) -> u32
+        requires now { now.0 < 2 ^ 62 }
+        requires place { at < length self.old.state.parts }
+        requires ready { self.old.ready ≡ Some at }
+        ensures after { self.new.state ≡ due_flat A.Key.cmp now at self.old.state }
+        ensures count { IfSome (slice_get self.old.state.parts at)
+            (λ s. result ≡ count_of (due_count now s)) }
+        ensures ready { self.new.ready ≡ None }
+    {
+        every_call_keeps_a_side::<A>();
+        let fired = fire_at(&mut self.parts, &mut self.awaiting, at, now);
+        self.ready = None;
+        fired
     }
 
     /// Ends the leave timer of one key at a link port, whatever the moment: LV becomes MT, and the key awaits
     /// at every other link port. True exactly where the registrar was LV; where it wasn't, nothing changes.
     pub fn leave_now(&mut self, port: PortNo, key: A::Key) -> Result<bool, NoMemory>
-        requires { IsLinkPort port (length self.old.parts) }
-        ensures after { OnOk result (self.new ≡ left_flat A.Key.cmp (place_of port) key self.old) }
-        ensures was { IfOk result (λ b. IfSome (slice_get self.old.parts (place_of port))
+        requires { IsLinkPort port (length self.old.state.parts) }
+        ensures after { OnOk result (self.new.state
+            ≡ left_flat A.Key.cmp (place_of port) key self.old.state) }
+        ensures was { IfOk result (λ b. IfSome (slice_get self.old.state.parts (place_of port))
             (λ s. b ≡ is_leaving_in (find A.Key.cmp key s.rows))) }
-        ensures err { OnErr result (self.new ≡ self.old) }
+        ensures err { OnErr result (self.new.state ≡ self.old.state) }
+        ensures ready { OnOk result (self.new.ready ≡ None) }
     {
-        self.keeps();
-        declarations_stay::<A>();
-        what_is_asked_holds::<A>();
-        each_port_is_told::<A::Key>();
-        let alloc = *self.parts.allocator();
+        every_call_keeps_a_side::<A>();
+        let keys = only(*self.parts.allocator(), key)?;
+        self.ready = None;
+        room_everywhere(&mut self.awaiting, 1)?;
         let at = usize::from(port.0) - 1;
-        let mut part = part_at(self.parts.as_slice(), at).copy()?;
-        let told = only(alloc, key)?;
-        let was = part.leave_due(key);
-        part.rows_ascend();
-        self.put(alloc, at, part, told_where(was, told.as_slice()))?;
-        Ok(was)
+        let keys = keys.as_slice();
+        Ok(leave_at(&mut self.parts, &mut self.awaiting, at, key, keys))
     }
 
     /// Fires the LeaveAll timer of a link port at the moment `now`, in cs and below 2^62, whatever its own
     /// moment: the machine is Active, and the timer starts anew (IEEE Std 802.1Q-2018, 10.7.9).
     pub fn leaveall_now(&mut self, now: Cs, port: PortNo)
         requires now { now.0 < 2 ^ 62 }
-        requires port { IsLinkPort port (length self.old.parts) }
-        ensures { self.new ≡ leave_all_flat now (place_of port) self.old }
+        requires port { IsLinkPort port (length self.old.state.parts) }
+        ensures after { self.new.state ≡ leave_all_flat now (place_of port) self.old.state }
+        ensures ready { self.new.ready ≡ None }
     {
-        each_port_is_told::<A::Key>();
-        self.parts[usize::from(port.0) - 1].leaveall_due(now);
+        every_call_keeps_a_side::<A>();
+        leave_all_at(&mut self.parts, usize::from(port.0) - 1, now);
+        self.ready = None;
     }
 
     /// Gives the periodic event to each key of a link port, also where periodic transmission is off (IEEE Std
     /// 802.1Q-2018, 10.7.10).
     pub fn periodic_now(&mut self, port: PortNo)
-        requires { IsLinkPort port (length self.old.parts) }
-        ensures { self.new ≡ periodic_flat (place_of port) self.old }
+        requires { IsLinkPort port (length self.old.state.parts) }
+        ensures after { self.new.state ≡ periodic_flat (place_of port) self.old.state }
+        ensures ready { self.new.ready ≡ None }
     {
-        each_port_is_told::<A::Key>();
-        declarations_stay::<A>();
-        registrations_stay::<A>();
-        let part = &mut self.parts[usize::from(port.0) - 1];
-        part.periodic_due();
-        part.rows_ascend();
+        every_call_keeps_a_side::<A>();
+        periodic_at(&mut self.parts, usize::from(port.0) - 1);
+        self.ready = None;
     }
 
     /// Ends the soundness of a link port's participant, as after a loss on its link.
     pub fn spoil(&mut self, port: PortNo)
-        requires { IsLinkPort port (length self.old.parts) }
-        ensures { self.new ≡ spoilt_flat (place_of port) self.old }
+        requires { IsLinkPort port (length self.old.state.parts) }
+        ensures after { self.new.state ≡ spoilt_flat (place_of port) self.old.state }
+        ensures ready { self.new.ready ≡ None }
     {
-        each_port_is_told::<A::Key>();
-        self.parts[usize::from(port.0) - 1].spoil();
+        every_call_keeps_a_side::<A>();
+        spoil_at(&mut self.parts, usize::from(port.0) - 1);
+        self.ready = None;
     }
 
-    /// Declares a key for the application where `declared` is true, and else withdraws it. Where that changes what the application declares, the key awaits at every link
-    /// port.
+    /// Declares a key for the application where `declared` is true, and else withdraws it. Where that changes what
+    /// the application declares, the key awaits at every link port.
     pub fn request(&mut self, key: A::Key, declared: bool) -> Result<(), NoMemory>
-        ensures ok { OnOk result (self.new ≡ requested_flat A.Key.cmp key declared self.old) }
-        ensures err { OnErr result (self.new ≡ self.old) }
+        ensures ok { OnOk result (self.new.state
+            ≡ requested_flat A.Key.cmp key declared self.old.state) }
+        ensures err { OnErr result (self.new.state ≡ self.old.state) }
+        ensures ready { OnOk result (self.new.ready ≡ None) }
     {
-        each_key_awaits::<A::Key>();
-        each_port_is_told::<A::Key>();
-        if declared == self.own.awaits(key) {
+        every_call_keeps_a_side::<A>();
+        self.ready = None;
+        if agree(declared, self.own.awaits(key)) {
             return Ok(());
         }
-        let alloc = *self.parts.allocator();
-        let told = only(alloc, key)?;
-        let awaiting = await_everywhere(alloc, self.awaiting.as_slice(), told.as_slice())?;
-        let own = own_after(&self.own, key, declared)?;
-        own.ascends();
-        put_sets(&mut self.awaiting, awaiting);
-        self.own = own;
-        Ok(())
-    }
-
-    // Puts a participant in the place of another, whose declarations it has; the keys whose registration
-    // differs are told, and await at every other port.
-    fn put(
-        &mut self,
-        alloc: Global,
-        at: usize,
-        part: Participant<A>,
-        told: &[A::Key],
-    ) -> Result<(), NoMemory>
-        requires place { at < length self.old.parts }
-        requires kept { IsKept A.Key.cmp self.old }
-        requires rows { AreRows A.Key.cmp part.rows }
-        requires declared { (s : Part A.Key) → slice_get self.old.parts at ≡ Some s
-            → SameDeclared A.Key.cmp s part }
-        requires told { (s : Part A.Key) → slice_get self.old.parts at ≡ Some s
-            → TellsEach A.Key.cmp told.now s part }
-        ensures ok { OnOk result (self.new ≡ with_told_part A.Key.cmp at part told.now self.old) }
-        ensures err { OnErr result (self.new ≡ self.old) }
-    {
-        each_port_is_told::<A::Key>();
-        let awaiting = await_elsewhere(alloc, self.awaiting.as_slice(), at, told)?;
-        put_sets(&mut self.awaiting, awaiting);
-        self.parts[at] = part;
-        Ok(())
+        ask(&mut self.awaiting, &mut self.own, key, declared)
     }
 }
 
-// The participant at a place.
-pub(crate) fn part_at<A: FlatApp>(parts: &[Participant<A>], at: usize) -> &Participant<A>
-    requires { at < length parts.now }
-    ensures { slice_get parts.now at ≡ Some result.now }
+// Whether a place is this one.
+fn is_at(place: Option<usize>, at: usize) -> bool
+    ensures yes { IsTrue result → place ≡ Some at }
+    ensures no { place ≡ Some at → IsTrue result }
 {
-    &parts[at]
+    match place {
+        Some(place) => place == at,
+        None => false,
+    }
+}
+
+// Whether two answers are one.
+fn agree(one: bool, other: bool) -> bool
+    ensures same { IsTrue result → one ≡ other }
+    ensures only { one ≡ other → IsTrue result }
+{
+    one == other
+}
+
+// A key is declared, or withdrawn, and awaits at every port. After want of memory all are as they were.
+fn ask<K: Copy + Ord>(
+    sets: &mut Vec<Dirty<K>>,
+    own: &mut Dirty<K>,
+    key: K,
+    declared: bool,
+) -> Result<(), NoMemory>
+    ensures sets { OnOk result (keys_in sets.new.items
+        ≡ marked_everywhere K.cmp (key ∷ []) (keys_in sets.old.items)) }
+    ensures own { OnOk result (own.new.keys ≡ (if declared then with_key K.cmp key own.old.keys
+        else without_key K.cmp key own.old.keys)) }
+    ensures same_sets { OnErr result (keys_in sets.new.items ≡ keys_in sets.old.items) }
+    ensures same_own { OnErr result (own.new.keys ≡ own.old.keys) }
+{
+    let keys = only(*sets.allocator(), key)?;
+    room_everywhere(sets, 1)?;
+    change(own, key, declared)?;
+    tell_everywhere(sets, keys.as_slice());
+    Ok(())
 }
 
 // A list of one key.
@@ -209,6 +250,20 @@ fn only<K: Copy>(alloc: Global, key: K) -> Result<Vec<K>, NoMemory>
     let mut keys = Vec::with_capacity(alloc, 1)?;
     keys.push(key)?;
     Ok(keys)
+}
+
+// A key is put in, or taken out.
+fn change<K: Copy + Ord>(own: &mut Dirty<K>, key: K, declared: bool) -> Result<(), NoMemory>
+    ensures ok { OnOk result (own.new.keys ≡ (if declared then with_key K.cmp key own.old.keys
+        else without_key K.cmp key own.old.keys)) }
+    ensures err { OnErr result (own.new.keys ≡ own.old.keys) }
+{
+    if declared {
+        own.mark(key)
+    } else {
+        own.clear(key);
+        Ok(())
+    }
 }
 
 // What a PDU says to a participant.
@@ -238,19 +293,4 @@ fn without_content<K: Copy>(
         .iter()
         .map(|event| (event.0, event.1, ()))
         .collect(alloc)
-}
-
-// The keys that the application declares after it has declared one or withdrawn it.
-fn own_after<K: Copy + Ord>(own: &Dirty<K>, key: K, declared: bool) -> Result<Dirty<K>, NoMemory>
-    ensures { IfOk result (λ d. d.keys
-        ≡ (if declared then with_key K.cmp key own.now.keys
-        else without_key K.cmp key own.now.keys)) }
-{
-    let mut after = own.copy()?;
-    if declared {
-        after.mark(key)?;
-    } else {
-        after.clear(key);
-    }
-    Ok(after)
 }

@@ -8,7 +8,7 @@ ghost use Rattle.srp_base.specs.declared.ports.PortSetup.{PortSetup};
 ghost use Rattle.mrp_participant.specs.State.{AreRows, is_active, is_silent, sent_events};
 ghost use Rattle.flat_side.specs.Part.{Part, key_events};
 ghost use Rattle.flat_side.specs.Codec.{IsFitting};
-ghost use Rattle.flat_side.specs.Side.{FlatState, new_flat, received_flat, due_flat, left_flat, leave_all_flat, periodic_flat, spoilt_flat, settled_flat, sent_flat, requested_flat};
+ghost use Rattle.flat_side.specs.Side.{FlatState, IsKept, new_flat, received_flat, due_flat, left_flat, leave_all_flat, periodic_flat, spoilt_flat, settled_flat, sent_flat, requested_flat};
 ghost use Rattle.flat_side.specs.Keys.{AreOfKeys, HasKeyRows, IsProper};
 
 use crate::app::FlatApp;
@@ -26,6 +26,40 @@ pub fn a_new_side_is_proper<A: FlatApp>()
         → IsProper A.Key.cmp A.is_key (new_flat leave_time periodic ports) }
 {
     each_port_is_told::<A::Key>();
+}
+
+/// What each call leaves keeps what every side keeps.
+pub(crate) fn every_call_keeps_a_side<A: FlatApp>()
+    ensures receive { (now : Cs) (at : ℕ) (leave_all : Bool) (events : List (MrpEvent × A.Key))
+        (side : FlatState A.Key) → IsKept A.Key.cmp side
+        → IsKept A.Key.cmp (received_flat A.Key.cmp now at leave_all events side) }
+    ensures due { (now : Cs) (at : ℕ) (side : FlatState A.Key) → IsKept A.Key.cmp side
+        → IsKept A.Key.cmp (due_flat A.Key.cmp now at side) }
+    ensures leave_now { (at : ℕ) (key : A.Key) (side : FlatState A.Key) → IsKept A.Key.cmp side
+        → IsKept A.Key.cmp (left_flat A.Key.cmp at key side) }
+    ensures leaveall_now { (now : Cs) (at : ℕ) (side : FlatState A.Key) → IsKept A.Key.cmp side
+        → IsKept A.Key.cmp (leave_all_flat now at side) }
+    ensures periodic_now { (at : ℕ) (side : FlatState A.Key) → IsKept A.Key.cmp side
+        → IsKept A.Key.cmp (periodic_flat at side) }
+    ensures spoil { (at : ℕ) (side : FlatState A.Key) → IsKept A.Key.cmp side
+        → IsKept A.Key.cmp (spoilt_flat at side) }
+    ensures send { (now : Cs) (at : ℕ) (side : FlatState A.Key) → IsKept A.Key.cmp side
+        → IsKept A.Key.cmp (sent_flat A.Key.cmp A.base A.octets now at side) }
+    ensures settle { (at : ℕ) (side : FlatState A.Key) → IsKept A.Key.cmp side
+        → IsKept A.Key.cmp (settled_flat A.Key.cmp at side) }
+    ensures request { (key : A.Key) (declared : Bool) (side : FlatState A.Key)
+        → IsKept A.Key.cmp side
+        → IsKept A.Key.cmp (requested_flat A.Key.cmp key declared side) }
+{
+    each_key_awaits::<A::Key>();
+    each_port_is_told::<A::Key>();
+    keys_stay_ascending::<A::Key>();
+    rows_stay_rows::<A>();
+    declarations_stay::<A>();
+    registrations_stay::<A>();
+    receive_tells_each_change::<A>();
+    due_tells_each_change::<A>();
+    what_is_asked_holds::<A>();
 }
 
 /// Each call on a port keeps it, a received PDU where its events are of such keys.

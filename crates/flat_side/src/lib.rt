@@ -10,27 +10,28 @@
 //! ```
 //!
 //! Contracts see a `FlatState` (`specs/Side.antt`): the participants' states, the awaiting keys and the own ones, all as
-//! lists; each call's clause is the whole side after it. What every side keeps, by its type, is `IsKept`: at each port
+//! lists; each call's clause is the whole state after it. What every side keeps, by its type, is `IsKept`: at each port
 //! each key that doesn't await is declared exactly where another port or the application has it registered. After want
-//! of memory a side is as it was.
+//! of memory the state is as it was.
 //!
-//! A call on a port copies at most that port's participant, and the awaiting keys of the other ports where some key
-//! changed.
+//! No call copies a participant or a set of awaiting keys: it takes the memory first, and then all changes in its place
+//! (`src/port.rt`). Beside the state contracts see at which port a side is ready (`specs/Holding.antt`): `room` takes the
+//! memory for `due` and `settle` there, so that a node fires and settles several applications, or none of them.
 //!
 //! An application is a type with `FlatApp`: beside what `MrpApp` asks, its PDUs, what octets read as and how a PDU is
 //! written (`Codec`, `specs/Codec.antt`), and which keys it has. Its side is `FlatSide` of that type. A further call on a
-//! port is a function of the side in `specs/Side.antt`, a method in `calls.rt`, and a lemma that it keeps `IsKept`: which
-//! declarations and registrations it leaves alone, and that it marks what changed.
+//! port is a function of the side in `specs/Side.antt`, what the participant does in `port.rt`, a method in `calls.rt`, and a
+//! clause of `every_call_keeps_a_side`: which declarations and registrations it leaves alone, and that it marks what
+//! changed.
 #![tactic(auto)]
 
 mod app;
 mod calls;
 pub mod laws;
-mod ready;
+mod port;
 mod sending;
 mod settling;
 mod side;
 
 pub use app::FlatApp;
-pub use ready::Ready;
 pub use side::FlatSide;

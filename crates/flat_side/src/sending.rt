@@ -1,6 +1,6 @@
 //! What a link port sends.
 
-ghost use Rattle.std.specs.Prelude.{◌≡◌, ◌≢◌, ◌<◌, ◌≤◌, ◌+◌, ◌^◌, false, [], length, sum_by, is_none, IfOk, IfSome};
+ghost use Rattle.std.specs.Prelude.{◌≡◌, ◌≢◌, ◌<◌, ◌≤◌, ◌+◌, ◌^◌, false, [], length, sum_by, is_none, None, IfOk, IfSome, OnOk};
 ghost use Rattle.mrp_participant.specs.State.{is_silent};
 ghost use Rattle.attribute_propagation.specs.Ports.{IsLinkPort, place_of};
 ghost use Rattle.flat_side.specs.Codec.{IsWritten};
@@ -8,10 +8,9 @@ ghost use Rattle.flat_side.specs.Part.{key_events};
 ghost use Rattle.flat_side.specs.Side.{HasSent, pdu_sent};
 
 use crate::app::FlatApp;
-use crate::calls::part_at;
-use crate::side::FlatSide;
-use attribute_propagation::laws::each_port_is_told;
-use mrp_participant::laws::{declarations_stay, registrations_stay};
+use crate::laws::every_call_keeps_a_side;
+use crate::port::sent_at;
+use crate::side::{FlatSide, part_at};
 use mrp_participant::{Msgs, Participant};
 use srp_base::{Cs, MrpEvent, NoMemory, PortNo, Seq};
 use std::alloc::{AllocError, Global};
@@ -22,22 +21,21 @@ impl<A: FlatApp> FlatSide<A> {
     /// changes then.
     pub fn send(&mut self, now: Cs, port: PortNo) -> Result<Option<Seq<u8>>, NoMemory>
         requires now { now.0 < 2 ^ 62 }
-        requires port { IsLinkPort port (length self.old.parts) }
-        ensures { HasSent A.Key.cmp A.codec A.base A.octets now (place_of port) self.old result
-            self.new }
+        requires port { IsLinkPort port (length self.old.state.parts) }
+        ensures sent { HasSent A.Key.cmp A.codec A.base A.octets now (place_of port)
+            self.old.state result self.new.state }
+        ensures ready { OnOk result (self.new.ready ≡ None) }
     {
-        each_port_is_told::<A::Key>();
-        declarations_stay::<A>();
-        registrations_stay::<A>();
+        every_call_keeps_a_side::<A>();
         let alloc = *self.parts.allocator();
         let at = usize::from(port.0) - 1;
-        let octets = match said_by(alloc, part_at(self.parts.as_slice(), at), now)? {
+        let said = said_by(alloc, part_at(self.parts.as_slice(), at), now)?;
+        self.ready = None;
+        let octets = match said {
             Some(octets) => octets,
             None => return Ok(None),
         };
-        let part = &mut self.parts[at];
-        part.sent(now);
-        part.rows_ascend();
+        sent_at(&mut self.parts, at, now);
         Ok(Some(octets))
     }
 }
@@ -49,9 +47,9 @@ fn said_by<A: FlatApp>(
     now: Cs,
 ) -> Result<Option<Seq<u8>>, NoMemory>
     requires { now.0 < 2 ^ 62 }
-    ensures silent { IfOk result (λ said. is_none said ≡ is_silent part.now) }
+    ensures silent { IfOk result (λ said. is_none said ≡ is_silent part.now.state) }
     ensures written { IfOk result (λ said. IfSome said (λ octets.
-        IsWritten A.codec (pdu_sent A.Key.cmp A.codec A.base A.octets now part.now) octets)) }
+        IsWritten A.codec (pdu_sent A.Key.cmp A.codec A.base A.octets now part.now.state) octets)) }
 {
     match part.plan(now)? {
         Some(msgs) => Ok(Some(octets_of(alloc, &msgs)?)),

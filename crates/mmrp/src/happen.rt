@@ -104,7 +104,7 @@ pub(crate) fn registrar(nodes: &Vec<GroupNode>, at: EgressPort, mac: Mac) -> Reg
 pub(crate) fn participant(nodes: &Vec<GroupNode>, at: EgressPort) -> &Participant<MmrpApp>
     requires { StandsAt at nodes.now.items }
     ensures { (tree : Topology) (clock : Cs)
-        → part_at at (record { tree = tree; clock = clock; nodes = nodes.now.items }) ≡ Some result.now }
+        → part_at at (record { tree = tree; clock = clock; nodes = nodes.now.items }) ≡ Some result.now.state }
 {
     nodes[place(at.node)].participant(at.port)
 }

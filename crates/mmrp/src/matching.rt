@@ -80,7 +80,7 @@ fn is_joined_there(net: &GroupNet, at: EgressPort, mac: Mac, y: u16) -> bool
 
 // The MAC addresses that a participant has registered, ascending.
 fn macs_of(alloc: Global, part: &Participant<MmrpApp>) -> Result<Seq<Mac>, NoMemory>
-    ensures { IfOk result (λ macs. macs ≡ registered_in part.now) }
+    ensures { IfOk result (λ macs. macs ≡ registered_in part.now.state) }
 {
     let mut macs = Vec::new(alloc);
     push_macs(&mut macs, part)?;
@@ -89,7 +89,7 @@ fn macs_of(alloc: Global, part: &Participant<MmrpApp>) -> Result<Seq<Mac>, NoMem
 
 // They go to the end of a list.
 fn push_macs(macs: &mut Vec<Mac>, part: &Participant<MmrpApp>) -> Result<(), NoMemory>
-    ensures { OnOk result (macs.new.items ≡ macs.old.items ++ registered_in part.now) }
+    ensures { OnOk result (macs.new.items ≡ macs.old.items ++ registered_in part.now.state) }
 {
     for i in 0..part.rows() {
         push_mac(macs, part, i)?;
@@ -100,7 +100,7 @@ fn push_macs(macs: &mut Vec<Mac>, part: &Participant<MmrpApp>) -> Result<(), NoM
 // The MAC address of the row at a place goes to the end of a list, where it is registered.
 fn push_mac(macs: &mut Vec<Mac>, part: &Participant<MmrpApp>, i: usize) -> Result<(), NoMemory>
     ensures { OnOk result (macs.new.items ≡ macs.old.items
-        ++ option_to_list (option_and_then registered_mac (slice_get part.now.rows i))) }
+        ++ option_to_list (option_and_then registered_mac (slice_get part.now.state.rows i))) }
 {
     if let Some(mac) = mac_at(part, i) {
         macs.push(mac)?;
@@ -110,7 +110,7 @@ fn push_mac(macs: &mut Vec<Mac>, part: &Participant<MmrpApp>, i: usize) -> Resul
 
 // The MAC address of the row at a place, where it is registered.
 fn mac_at(part: &Participant<MmrpApp>, i: usize) -> Option<Mac>
-    ensures { result ≡ option_and_then registered_mac (slice_get part.now.rows i) }
+    ensures { result ≡ option_and_then registered_mac (slice_get part.now.state.rows i) }
 {
     let mac = part.key_at(i)?;
     let registrar = part.registrar_at(i)?;

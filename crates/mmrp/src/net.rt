@@ -209,7 +209,7 @@ impl GroupNet {
     // The participant of a port.
     pub(crate) fn participant(&self, at: EgressPort) -> &Participant<MmrpApp>
         requires { HasPort self.now.tree at }
-        ensures { part_at at self.now ≡ Some result.now }
+        ensures { part_at at self.now ≡ Some result.now.state }
     {
         participant(&self.nodes, at)
     }

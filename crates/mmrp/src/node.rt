@@ -34,9 +34,9 @@ impl Model for GroupNode {
 
     ghost Value = { NodeGroups };
 
-    ghost view = { λ n. record { side = n.side; inboxes = n.inboxes.items; outboxes = n.outboxes.items } };
+    ghost view = { λ n. record { side = n.side.state; inboxes = n.inboxes.items; outboxes = n.outboxes.items } };
 
-    ghost invariant = { λ n. IsKeptNode (record { side = n.side; inboxes = n.inboxes.items; outboxes = n.outboxes.items }) };
+    ghost invariant = { λ n. IsKeptNode (record { side = n.side.state; inboxes = n.inboxes.items; outboxes = n.outboxes.items }) };
 }
 
 impl GroupNode {
@@ -79,7 +79,7 @@ impl GroupNode {
     // The participant of a link port.
     pub(crate) fn participant(&self, port: PortNo) -> &Participant<MmrpApp>
         requires { IsLinkPort port (ports_of self.now) }
-        ensures { slice_get self.now.side.parts (place_of port) ≡ Some result.now }
+        ensures { slice_get self.now.side.parts (place_of port) ≡ Some result.now.state }
     {
         self.side.participant(port)
     }

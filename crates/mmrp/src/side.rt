@@ -22,10 +22,10 @@ pub(crate) type MmrpSide = FlatSide<MmrpApp>;
 // The application joins a MAC address, or parts from it.
 #[tactic(auto, using(crate::proofs::Sizes::of_requested))]
 pub(crate) fn ask(side: &mut MmrpSide, mac: Mac, joined: bool) -> Result<(), NoMemory>
-    ensures ok { OnOk result (side.new ≡ requested_flat nat_cmp mac joined side.old) }
-    ensures err { OnErr result (side.new ≡ side.old) }
-    ensures ports { length side.new.parts ≡ length side.old.parts }
-    ensures kept { IsKept nat_cmp side.new }
+    ensures ok { OnOk result (side.new.state ≡ requested_flat nat_cmp mac joined side.old.state) }
+    ensures err { OnErr result (side.new.state ≡ side.old.state) }
+    ensures ports { length side.new.state.parts ≡ length side.old.state.parts }
+    ensures kept { IsKept nat_cmp side.new.state }
 {
     let asked = side.request(mac, joined);
     side.keeps();
@@ -42,13 +42,13 @@ pub(crate) fn take(
     pdu: &Seq<u8>,
 ) -> Result<GroupReply, NoMemory>
     requires now { now.0 < 2 ^ 62 }
-    requires port { IsLinkPort port (length side.old.parts) }
+    requires port { IsLinkPort port (length side.old.state.parts) }
     requires short { length pdu.now ≤ 1500 }
-    ensures ok { IfOk result (λ reply. worked now (place_of port) (mmrp_reading pdu.now) side.old
-        ≡ (side.new, reply)) }
-    ensures err { OnErr result (side.new ≡ side.old) }
-    ensures ports { length side.new.parts ≡ length side.old.parts }
-    ensures kept { IsKept nat_cmp side.new }
+    ensures ok { IfOk result (λ reply. worked now (place_of port) (mmrp_reading pdu.now) side.old.state
+        ≡ (side.new.state, reply)) }
+    ensures err { OnErr result (side.new.state ≡ side.old.state) }
+    ensures ports { length side.new.state.parts ≡ length side.old.state.parts }
+    ensures kept { IsKept nat_cmp side.new.state }
 {
     let received = side.receive(now, port, pdu.as_slice());
     side.keeps();
@@ -63,13 +63,13 @@ pub(crate) fn take(
 #[tactic(auto, using(crate::proofs::Sizes::of_due, crate::proofs::Sizes::due_counted))]
 pub(crate) fn fire(side: &mut MmrpSide, now: Cs, port: PortNo) -> Result<GroupReply, NoMemory>
     requires now { now.0 < 2 ^ 62 }
-    requires port { IsLinkPort port (length side.old.parts) }
+    requires port { IsLinkPort port (length side.old.state.parts) }
     ensures fired { IfOk result (λ reply. reply
-        ≡ GroupReply.Fired (count_of (of_part (due_count now) 0 (place_of port) side.old))) }
-    ensures ok { OnOk result (side.new ≡ due_flat nat_cmp now (place_of port) side.old) }
-    ensures err { OnErr result (side.new ≡ side.old) }
-    ensures ports { length side.new.parts ≡ length side.old.parts }
-    ensures kept { IsKept nat_cmp side.new }
+        ≡ GroupReply.Fired (count_of (of_part (due_count now) 0 (place_of port) side.old.state))) }
+    ensures ok { OnOk result (side.new.state ≡ due_flat nat_cmp now (place_of port) side.old.state) }
+    ensures err { OnErr result (side.new.state ≡ side.old.state) }
+    ensures ports { length side.new.state.parts ≡ length side.old.state.parts }
+    ensures kept { IsKept nat_cmp side.new.state }
 {
     let fired = side.due(now, port);
     side.keeps();
@@ -80,13 +80,13 @@ pub(crate) fn fire(side: &mut MmrpSide, now: Cs, port: PortNo) -> Result<GroupRe
 #[tactic(auto, using(crate::proofs::Sizes::of_settled))]
 pub(crate) fn settle(side: &mut MmrpSide, now: Cs, port: PortNo) -> Result<GroupReply, NoMemory>
     requires now { now.0 < 2 ^ 62 }
-    requires port { IsLinkPort port (length side.old.parts) }
+    requires port { IsLinkPort port (length side.old.state.parts) }
     ensures settled { IfOk result (λ reply. reply
-        ≡ GroupReply.Settled (count_of (length (awaiting_at (place_of port) side.old)))) }
-    ensures ok { OnOk result (side.new ≡ settled_flat nat_cmp (place_of port) side.old) }
-    ensures err { OnErr result (side.new ≡ side.old) }
-    ensures ports { length side.new.parts ≡ length side.old.parts }
-    ensures kept { IsKept nat_cmp side.new }
+        ≡ GroupReply.Settled (count_of (length (awaiting_at (place_of port) side.old.state)))) }
+    ensures ok { OnOk result (side.new.state ≡ settled_flat nat_cmp (place_of port) side.old.state) }
+    ensures err { OnErr result (side.new.state ≡ side.old.state) }
+    ensures ports { length side.new.state.parts ≡ length side.old.state.parts }
+    ensures kept { IsKept nat_cmp side.new.state }
 {
     let settled = side.settle(now, port);
     side.keeps();
@@ -102,14 +102,14 @@ pub(crate) fn say(
     outbox: &mut Vec<Seq<u8>>,
 ) -> Result<GroupReply, NoMemory>
     requires now { now.0 < 2 ^ 62 }
-    requires port { IsLinkPort port (length side.old.parts) }
+    requires port { IsLinkPort port (length side.old.state.parts) }
     requires short { AreShort outbox.old.items }
-    ensures put { IsSaying (said now (place_of port) side.old) side.old
-        (sent_flat nat_cmp base stated_octets now (place_of port) side.old) outbox.old.items result
-        side.new outbox.new.items }
+    ensures put { IsSaying (said now (place_of port) side.old.state) side.old.state
+        (sent_flat nat_cmp base stated_octets now (place_of port) side.old.state) outbox.old.items result
+        side.new.state outbox.new.items }
     ensures short { AreShort outbox.new.items }
-    ensures ports { length side.new.parts ≡ length side.old.parts }
-    ensures kept { IsKept nat_cmp side.new }
+    ensures ports { length side.new.state.parts ≡ length side.old.state.parts }
+    ensures kept { IsKept nat_cmp side.new.state }
 {
     side.keeps();
     outbox.try_reserve(1)?;
@@ -124,10 +124,10 @@ pub(crate) fn say(
 // Ends the soundness of the participant at a port.
 #[tactic(auto, using(crate::proofs::Sizes::of_spoilt))]
 pub(crate) fn spoil(side: &mut MmrpSide, port: PortNo)
-    requires { IsLinkPort port (length side.old.parts) }
-    ensures after { side.new ≡ spoilt_flat (place_of port) side.old }
-    ensures ports { length side.new.parts ≡ length side.old.parts }
-    ensures kept { IsKept nat_cmp side.new }
+    requires { IsLinkPort port (length side.old.state.parts) }
+    ensures after { side.new.state ≡ spoilt_flat (place_of port) side.old.state }
+    ensures ports { length side.new.state.parts ≡ length side.old.state.parts }
+    ensures kept { IsKept nat_cmp side.new.state }
 {
     side.spoil(port);
     side.keeps();

@@ -23,5 +23,4 @@ pub mod laws;
 mod side;
 
 pub use app::MvrpApp;
-pub use flat_side::Ready;
 pub use side::MvrpSide;

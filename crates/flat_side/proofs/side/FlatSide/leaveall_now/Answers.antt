@@ -1,28 +1,24 @@
-use Rattle.std.proofs.Common.{◌-◌, ◌<◌, ◌∙◌, ℕ, length, ap, arith}
-use Rattle.mrp_participant.specs.State.{declared_at, registered_at, leave_all_state}
-use Rattle.attribute_propagation.specs.Ports.{keys_in}
-use Rattle.flat_side.specs.Side.{FlatState, leave_all_flat}
-use Rattle.flat_side.proofs.Keeping.{kept-changed, at_changed}
+use Rattle.std.proofs.Common.{◌-◌, ◌∙◌, ◌≡◌, ℕ, ap, sym, subst}
+use Rattle.flat_side.specs.Side.{FlatState, IsKept, leave_all_flat}
+use Rattle.flat_side.specs.Holding.{SideHolding, flat_of}
 use Rattle.flat_side.proofs.side.FlatSide.leaveall_now.Given as given
 use Rattle.flat_side.proofs.side.FlatSide.leaveall_now.Goals as goal
 
--- the side as it was, and the place of the port in it
+-- the side as it was
 abbrev before : (g : given.Over) (c : goal.After-self-1 g) → FlatState g.row.A-Key.Denot
-before g c = record { parts = c.self.inside.parts.items; awaiting = keys_in c.self.inside.awaiting.items; own = c.self.inside.own.keys }
+before g c = flat_of c.self.inside.parts.items c.self.inside.awaiting.items c.self.inside.own.keys
 
-below : (g : given.Over) (c : goal.After-self-1 g) → c.from.result - 1 < length (before g c).parts
-below g c = omega (arith, c.from.ensures, c.requires.port.some, c.requires.port.within, ap (λ (v : FlatState g.row.A-Key.Denot). length v.parts) c.self.view_is)
+-- what it has become
+became : (g : given.Over) (c : goal.After-self-1 g)
+    → flat_of c.leave_all_at.new.parts.items c.self.inside.awaiting.items c.self.inside.own.keys ≡ leave_all_flat c.args.now (c.from.result - 1) (before g c)
+became g c = c.leave_all_at.ensures c.self.inside.awaiting.items c.self.inside.own.keys
 
 pub invariant_of-self : goal.invariant_of-self
 invariant_of-self g c =
-    kept-changed g.A.Key.Ord.cmp (record { order = g.met.A.Key.Ord.total; one = g.met.A.MrpApp.one_key; told = c.each_port_is_told.ensures })
-    (before g c) c.self.invariant (c.from.result - 1) (below g c)
-    c.index_mut.result.now c.leaveall_due.new.self c.index_mut.ensures.value
-    (λ rows. rw c.leaveall_due.ensures rows)
-    (λ rows key. ap (declared_at g.A.Key.Ord.cmp key) c.leaveall_due.ensures)
-    (λ rows key. ap (registered_at g.A.Key.Ord.cmp key) c.leaveall_due.ensures)
+    (subst (IsKept g.A.Key.Ord.cmp) (sym (became g c)) (c.every_call_keeps_a_side.ensures.leaveall_now c.args.now (c.from.result - 1) (before g c) c.self.invariant.0), tt)
 
-pub returns : goal.returns
-returns g c =
-    at_changed (before g c) (c.from.result - 1) c.index_mut.result.now c.leaveall_due.new.self (leave_all_state c.args.now) (below g c) c.index_mut.ensures.value c.leaveall_due.ensures
-    ∙ (ap (λ (v : FlatState g.row.A-Key.Denot). leave_all_flat c.args.now (c.from.result - 1) v) c.self.view_is ∙ ap (λ (n : ℕ). leave_all_flat c.args.now (n - 1) c.args.self.now) c.from.ensures)
+pub returns-clause-after : goal.returns-clause-after
+returns-clause-after g c =
+    became g c
+    ∙ (ap (λ (v : SideHolding g.row.A-Key.Denot). leave_all_flat c.args.now (c.from.result - 1) v.state) c.self.view_is
+    ∙ ap (λ (n : ℕ). leave_all_flat c.args.now (n - 1) c.args.self.now.state) c.from.ensures)

@@ -10,7 +10,7 @@ use Rattle.mmrp.proofs.node.GroupNode.lose.Goals.{After-self-1}
 abbrev before : After-self-1 → NodeGroups
 before c =
     record {
-      side = c.self.inside.side;
+      side = c.self.inside.side.state;
       inboxes = c.self.inside.inboxes.items;
       outboxes = c.self.inside.outboxes.items;
     }
