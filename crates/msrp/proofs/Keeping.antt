@@ -19,7 +19,7 @@ use Rattle.msrp.specs.PortState.{PortState}
 use Rattle.msrp.specs.Part.{Part, key_cmp, registered_talker, registered_listener, listener_kind_of, talker_content, HasOwnContents}
 use Rattle.msrp.specs.Domain.{domain_stated, is_edge}
 use Rattle.msrp.specs.Stream.{Registrations, edge_at, registrations_of, first_talker, listener_at, stated_at, talk_of, is_listened, talkers_of, advertise_of, listener_row}
-use Rattle.msrp.specs.Settling.{is_domain_told, keys_of, known_keys}
+use Rattle.msrp.specs.Settling.{is_domain_told, keys_of, known_keys, told_sets}
 use Rattle.msrp.specs.Side.{Streams, IsKept, IsPort, IsSettled, IsSettledAt, seen_by, at_port, with_told_port, with_port_at, with_asks, with_part, SameDeclared, TellsEach}
 use Rattle.msrp.proofs.Places.{decide, get-set_same, get-set_other, each-set, each-get, opened}
 use Rattle.msrp.proofs.Talkers.{HasRows, stated_by, wanted_by}
@@ -181,6 +181,28 @@ pub at_changed : (side : Streams) (at : ℕ) (p q : PortState) (f : Part → Par
 at_changed side at p q f below is e =
     let here : slice_get side.ports at ≡ Some p = slice_get_read side.ports (length side.ports) at p refl below is in
     rw (here, e) refl
+
+-- ---- a participant changes in its place, and tells keys
+
+pub kept-told : Awaits → HasRows → (side : Streams) → IsKept side → (at : ℕ) → at < length side.ports → (p q : PortState) → p ≡ slice_index_or side.ports at p → (t : Part) (told : List MsrpKey) (sets : List (List MsrpKey))
+    → q ≡ with_part t p → sets ≡ told_sets at p.domain told (known_keys side.talks side.listens side.ports) side.awaiting
+    → (AreRows key_cmp p.part.rows → AreRows key_cmp t.rows) → (AreRows key_cmp p.part.rows → HasOwnContents p.part → HasOwnContents t)
+    → (AreRows key_cmp p.part.rows → SameDeclared p.part t) → (AreRows key_cmp p.part.rows → TellsEach told p.part t)
+    → IsKept (record (with_port_at at q side) { awaiting = sets })
+kept-told awaits has_rows side kept at below p q is t told sets e h rows contents same tells =
+    let here : slice_get side.ports at ≡ Some p = slice_get_read side.ports (length side.ports) at p refl below is in
+    let port = each-get (IsPort side.moment) side.ports at p kept.ports here in
+    let P : List (List MsrpKey) → Type 0 = λ xs. IsKept (record (with_port_at at (with_part t p) side) { awaiting = xs }) in
+    let Q : PortState → Type 0 = λ x. IsKept (record (with_port_at at x side) { awaiting = sets }) in
+    subst Q (sym e) (subst P (sym h)
+    (kept-retold awaits side kept at p here t told (same port.rows) (tells port.rows) (knows_talkers has_rows side p.domain told) (rows port.rows) (contents port.rows port.contents)))
+
+pub at_told : (side : Streams) (at : ℕ) (p q : PortState) (sets : List (List MsrpKey)) (f : Part → Part) (g : Part → List MsrpKey) → at < length side.ports → p ≡ slice_index_or side.ports at p → q ≡ with_part (f p.part) p
+    → sets ≡ told_sets at p.domain (g p.part) (known_keys side.talks side.listens side.ports) side.awaiting
+    → record (with_port_at at q side) { awaiting = sets } ≡ at_port at (λ r. with_told_port at (with_part (f r.part) r) (g r.part) side) side
+at_told side at p q sets f g below is e h =
+    let here : slice_get side.ports at ≡ Some p = slice_get_read side.ports (length side.ports) at p refl below is in
+    rw (here, e, h) refl
 
 -- the side once the port's participant was put there, by what the port had
 pub at_put : (side new : Streams) (at : ℕ) (p : PortState) (t : Part) (told : List MsrpKey) (f : Part → Part) (g : Part → List MsrpKey) → slice_get side.ports at ≡ Some p

@@ -3,6 +3,9 @@ use Rattle.std.proofs.Common.{◌≡◌, ◌≢◌, ◌⊎◌, inl, inr, ℕ, ze
 use Rattle.std.specs.Prelude.{filter, slice_get, slice_index_or, slice_set, Option, Some, None, IfSome, Result, Ok, Err, OnOk}
 use Rattle.std.specs.List.{AllByRecursion}
 use Rattle.std.proofs.lemmas.List.{drop_more}
+use Rattle.registrar.specs.Table.{is_leaving}
+use Rattle.mrp_participant.specs.declared.row.Row.{Row}
+use Rattle.mrp_participant.specs.Row.{is_leaving_in, registrar_of}
 
 -- one number is another, or not
 pub decide : (m n : ℕ) → (m ≡ n) ⊎ (m ≢ n)
@@ -114,3 +117,8 @@ mapped_length f (x ∷ xs) = ap suc (mapped_length f xs)
 pub on_ok : {T F P Q : Type 0} (r : Result T F) → OnOk r P → (P → Q) → OnOk r Q
 on_ok (Ok x) h f = f h
 on_ok (Err e) h f = tt
+
+-- whether a registrar is LV, of a row or of none
+pub leaving_is : {K C : Type 0} (o : Option (Row K C)) → is_leaving_in o ≡ is_leaving (registrar_of o)
+leaving_is None = refl
+leaving_is (Some r) = refl

@@ -1,6 +1,6 @@
 //! What comes in at a link port, and its timers.
 
-ghost use Rattle.std.specs.Prelude.{◌≡◌, ◌<◌, ◌≤◌, ◌^◌, if◌then◌else◌, [], length, slice_get, Some, Ok, IfOk, IfSome, OnOk, OnErr};
+ghost use Rattle.std.specs.Prelude.{◌≡◌, ◌<◌, ◌≤◌, ◌^◌, if◌then◌else◌, [], length, option_map, slice_get, Some, Ok, IfOk, IfSome, OnOk, OnErr};
 ghost use Rattle.mrp_participant.specs.Lookup.{find};
 ghost use Rattle.mrp_participant.specs.Row.{is_leaving_in};
 ghost use Rattle.mrp_participant.specs.State.{AreRows, due_count};
@@ -9,7 +9,8 @@ ghost use Rattle.msrp_codec.specs.Content.{Belongs};
 ghost use Rattle.msrp_codec.specs.declared.pdu.MsrpKey.{MsrpKey};
 ghost use Rattle.msrp.specs.PortState.{PortState};
 ghost use Rattle.msrp.specs.Part.{HasOwnContents, key_cmp};
-ghost use Rattle.attribute_propagation.specs.Ports.{IsLinkPort, place_of, count_of};
+ghost use Rattle.attribute_propagation.specs.Ports.{IsLinkPort, place_of, count_of, keys_in_some, sets_with};
+ghost use Rattle.msrp.specs.Settling.{known_keys, told_sets};
 ghost use Rattle.msrp.specs.Side.{IsKept, SameDeclared, TellsEach, HasReceived, with_told_port, with_part, received_streams, due_streams, left_streams, leave_all_streams, periodic_streams, spoilt_streams};
 
 use crate::app::MsrpApp;
@@ -17,7 +18,7 @@ use crate::port::Port;
 use crate::side::MsrpSide;
 use crate::told::told_sets;
 use attribute_propagation::laws::each_port_is_told;
-use attribute_propagation::{put_sets, saturated, told_where};
+use attribute_propagation::{Dirty, put_sets, saturated, told_where};
 use mrp_participant::laws::{
     a_place_for_each_key, declarations_stay, due_tells_each_change, each_key_after_due,
     each_key_after_periodic, each_key_after_receive, nothing_due_changes_nothing, one_key_changes,
@@ -128,17 +129,19 @@ impl MsrpSide {
             (λ p. b ≡ is_leaving_in (find key_cmp key p.part.rows))) }
         ensures err { OnErr result (self.new ≡ self.old) }
     {
-        self.keeps();
+        each_port_is_told::<MsrpKey>();
+        a_place_for_each_key::<MsrpApp>();
+        rows_stay_rows::<MsrpApp>();
         declarations_stay::<MsrpApp>();
         what_is_asked_holds::<MsrpApp>();
         one_key_changes::<MsrpApp>();
-        let alloc = *self.ports.allocator();
         let at = usize::from(port.0) - 1;
-        let mut part = port_at(self.ports.as_slice(), at).part().copy()?;
         let told = [key];
-        let was = part.leave_due(key);
-        part.rows_ascend();
-        self.put(alloc, at, part, told_where(was, told.as_slice()))?;
+        let was = port_at(self.ports.as_slice(), at).is_leaving(key);
+        let news = self.news(at, told_where(was, told.as_slice()))?;
+        put_sets(&mut self.awaiting, news);
+        let port = &mut self.ports[at];
+        port.leave_due(key);
         Ok(was)
     }
 
@@ -179,6 +182,21 @@ impl MsrpSide {
         port.spoil();
     }
 
+    // What awaits at each link port once keys are told at the one at a place; None where that stays as it is.
+    fn news(&self, at: usize, told: &[MsrpKey]) -> Result<Option<Vec<Dirty<MsrpKey>>>, NoMemory>
+        requires { at < length self.now.ports }
+        ensures { IfOk result (λ o. IfSome (slice_get self.now.ports at)
+            (λ p. sets_with (keys_in_some (option_map (λ v. v.items) o)) self.now.awaiting
+            ≡ told_sets at p.domain told.now
+            (known_keys self.now.talks self.now.listens self.now.ports) self.now.awaiting)) }
+    {
+        self.keeps();
+        let alloc = *self.ports.allocator();
+        let view = self.view(at);
+        let domain = view.port().domain();
+        told_sets(alloc, &view, domain, self.awaiting.as_slice(), told)
+    }
+
     // Puts a participant in the place of another, whose declarations it has; the keys whose registration differs are
     // told, and both keys of their streams await at every port; where a Domain is told, those of all known streams await
     // at this one.
@@ -191,14 +209,14 @@ impl MsrpSide {
     ) -> Result<(), NoMemory>
         requires place { at < length self.old.ports }
         requires kept { IsKept self.old }
-        requires rows { AreRows key_cmp part.rows }
-        requires contents { HasOwnContents part }
+        requires rows { AreRows key_cmp part.state.rows }
+        requires contents { HasOwnContents part.state }
         requires declared { (p : PortState) → slice_get self.old.ports at ≡ Some p
-            → SameDeclared p.part part }
+            → SameDeclared p.part part.state }
         requires told { (p : PortState) → slice_get self.old.ports at ≡ Some p
-            → TellsEach told.now p.part part }
+            → TellsEach told.now p.part part.state }
         ensures ok { OnOk result (IfSome (slice_get self.old.ports at)
-            (λ p. self.new ≡ with_told_port at (with_part part p) told.now self.old)) }
+            (λ p. self.new ≡ with_told_port at (with_part part.state p) told.now self.old)) }
         ensures err { OnErr result (self.new ≡ self.old) }
     {
         each_port_is_told::<MsrpKey>();

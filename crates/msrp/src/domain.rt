@@ -104,8 +104,8 @@ fn is_value(class: Class, content: Option<MsrpContent>) -> bool
 
 // Declares the Domain value of a class.
 fn declare_domain(part: &mut Participant<MsrpApp>, class: Class) -> Result<(), NoMemory>
-    ensures { OnOk result (part.new
-        ≡ declared_state key_cmp same_content (domain_key class) (domain_content class) part.old) }
+    ensures { OnOk result (part.new.state
+        ≡ declared_state key_cmp same_content (domain_key class) (domain_content class) part.old.state) }
 {
     part.declare(domain_key(class), domain_content(class))
 }
@@ -115,7 +115,7 @@ pub(crate) fn declare_domains(
     part: &mut Participant<MsrpApp>,
     domain: DomainSet,
 ) -> Result<(), NoMemory>
-    ensures { OnOk result (part.new ≡ domain_part domain part.old) }
+    ensures { OnOk result (part.new.state ≡ domain_part domain part.old.state) }
 {
     match domain {
         DomainSet::Off => Ok(()),
@@ -143,7 +143,7 @@ pub(crate) fn domain_stated(domain: DomainSet, id: u8) -> Option<MsrpContent>
 
 // Whether a port, with its participant, is at the boundary of the domain of a class.
 fn is_boundary(domain: DomainSet, part: &Participant<MsrpApp>, class: Class) -> bool
-    ensures { result ≡ is_boundary domain part.now class }
+    ensures { result ≡ is_boundary domain part.now.state class }
 {
     if !domain.are_counted() {
         return false;
@@ -156,7 +156,7 @@ fn is_boundary(domain: DomainSet, part: &Participant<MsrpApp>, class: Class) -> 
 
 // Whether there is a class, and the port is at the boundary of its domain.
 fn is_boundary_of(domain: DomainSet, part: &Participant<MsrpApp>, class: Option<Class>) -> bool
-    ensures { result ≡ is_boundary_of domain part.now class }
+    ensures { result ≡ is_boundary_of domain part.now.state class }
 {
     match class {
         Some(class) => is_boundary(domain, part, class),
@@ -176,7 +176,7 @@ fn class_in(reg: TalkerReg) -> Option<Class>
 
 // Whether a port, with its participant, is at the boundary of the domain of a registered Talker's class.
 pub(crate) fn is_edge(domain: DomainSet, part: &Participant<MsrpApp>, reg: TalkerReg) -> bool
-    ensures { result ≡ is_edge domain part.now reg }
+    ensures { result ≡ is_edge domain part.now.state reg }
 {
     domain.are_counted() && is_boundary_of(domain, part, class_in(reg))
 }

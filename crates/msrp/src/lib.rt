@@ -33,9 +33,10 @@
 //! ledger, so that its booked slopes keep to its caps. After want of memory a side is as it was.
 //!
 //! A call on a port copies at most that port's participant and ledger, and the awaiting keys where some key comes to
-//! await; `send` copies nothing, nor does `due` where no timer is due, nor `settle` where no key awaits. The clock
-//! stands in two parts: `prepare_clock` takes all memory, none where the clock shows nothing, and `clock_by` sets the
-//! clock without any, so that the clocks of a whole network are set together or not at all.
+//! await; `leave_now` copies no participant, and `send` copies nothing, nor does `due` where no timer is due, nor `settle`
+//! where no key awaits. The clock stands in two parts: `prepare_clock` takes all memory, none where the clock shows
+//! nothing, and `clock_by` sets the clock without any, so that the clocks of a whole network are set together or not at
+//! all.
 //!
 //! `laws` has what a network's laws rest on, over these states alone: a side is proper (`specs/Proper.antt`) where it
 //! is kept and all that it keeps fits in the fields in which it is sent; every call keeps it so, and keeps how the

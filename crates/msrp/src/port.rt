@@ -1,15 +1,19 @@
 //! A link port of a node as MSRP has it.
 
 ghost use Rattle.std.specs.Prelude.{◌≡◌, ◌+◌, ◌≤◌, ◌<◌, ◌^◌, false, IfOk};
-ghost use Rattle.mrp_participant.specs.State.{IsTime, leave_all_state, periodic_state};
-ghost use Rattle.msrp.specs.Part.{Part, sent_part};
+ghost use Rattle.mrp_participant.specs.Lookup.{find};
+ghost use Rattle.mrp_participant.specs.Row.{is_leaving_in};
+ghost use Rattle.mrp_participant.specs.State.{IsTime, leave_all_state, left_state, periodic_state};
+ghost use Rattle.msrp.specs.Part.{Part, key_cmp, sent_part};
 ghost use Rattle.msrp.specs.Side.{clocked_port, new_port, shows_at, with_part};
 
 use crate::app::MsrpApp;
 use crate::domain::{DomainSet, declare_domains};
 use mrp_participant::Participant;
+use msrp_codec::MsrpKey;
 use msrp_talker::PortConfig;
 use port_ledger::Ledger;
+use registrar::Registrar;
 use srp_base::{BridgeId, Cs, NoMemory, PortSetup};
 use std::alloc::Global;
 use std::marker::Model;
@@ -32,7 +36,7 @@ impl Model for Port {
 
     ghost Value = { PortState };
 
-    ghost view = { λ p. record { config = p.config; domain = p.domain; part = p.part; ledger = p.ledger } };
+    ghost view = { λ p. record { config = p.config; domain = p.domain; part = p.part.state; ledger = p.ledger.book } };
 }
 
 impl Port {
@@ -74,7 +78,7 @@ impl Port {
 
     // The port with another participant and another ledger.
     pub(crate) fn with(&self, part: Participant<MsrpApp>, ledger: Ledger) -> Port
-        ensures { result ≡ record self.now { part = part; ledger = ledger } }
+        ensures { result ≡ record self.now { part = part.state; ledger = ledger.book } }
     {
         Port {
             config: self.config,
@@ -97,13 +101,13 @@ impl Port {
     }
 
     pub(crate) fn part(&self) -> &Participant<MsrpApp>
-        ensures { result.now ≡ self.now.part }
+        ensures { result.now.state ≡ self.now.part }
     {
         &self.part
     }
 
     pub(crate) fn ledger(&self) -> &Ledger
-        ensures { result.now ≡ self.now.ledger }
+        ensures { result.now.book ≡ self.now.ledger }
     {
         &self.ledger
     }
@@ -115,9 +119,28 @@ impl Port {
         self.ledger.shows_at(now)
     }
 
+    // Whether the participant's registrar of a key is LV.
+    #[tactic(auto, using(crate::proofs::Places::leaving_is))]
+    pub(crate) fn is_leaving(&self, key: MsrpKey) -> bool
+        ensures { result ≡ is_leaving_in (find key_cmp key self.now.part.rows) }
+    {
+        match self.part.registrar(key) {
+            Registrar::Held => false,
+            Registrar::Leaving => true,
+            Registrar::Empty => false,
+        }
+    }
+
+    // The leave timer of a key ends.
+    pub(crate) fn leave_due(&mut self, key: MsrpKey)
+        ensures { self.new ≡ with_part (left_state key_cmp key self.old.part) self.old }
+    {
+        let _ = self.part.leave_due(key);
+    }
+
     // Puts a participant in the place of the one that was there.
     pub(crate) fn put_part(&mut self, part: Participant<MsrpApp>)
-        ensures { self.new ≡ with_part part self.old }
+        ensures { self.new ≡ with_part part.state self.old }
     {
         self.part = part;
     }

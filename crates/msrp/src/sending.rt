@@ -52,11 +52,11 @@ impl MsrpSide {
 // The octets of what a participant would say; None where it has nothing to say.
 fn said_by(alloc: Global, part: &Participant<MsrpApp>, now: Cs) -> Result<Option<Seq<u8>>, NoMemory>
     requires now { now.0 < 2 ^ 62 }
-    requires rows { AreRows key_cmp part.now.rows }
-    requires contents { HasOwnContents part.now }
-    ensures silent { IfOk result (λ said. is_none said ≡ is_silent part.now) }
+    requires rows { AreRows key_cmp part.now.state.rows }
+    requires contents { HasOwnContents part.now.state }
+    ensures silent { IfOk result (λ said. is_none said ≡ is_silent part.now.state) }
     ensures written { IfOk result (λ said. IfSome said (λ octets.
-        IsWritten (pdu_sent now part.now) octets)) }
+        IsWritten (pdu_sent now part.now.state) octets)) }
 {
     what_is_sent_is_declared::<MsrpApp>();
     match part.plan(now)? {

@@ -166,7 +166,7 @@ fn push_talker(
 
 // Puts the Talker keys that a participant has registered at the end.
 fn push_talkers(out: &mut Vec<MsrpKey>, part: &Participant<MsrpApp>) -> Result<(), NoMemory>
-    ensures { OnOk result (out.new.items ≡ out.old.items ++ talker_keys_in part.now) }
+    ensures { OnOk result (out.new.items ≡ out.old.items ++ talker_keys_in part.now.state) }
 {
     for place in 0..part.rows() {
         push_talker_at(out, part, place)?;
@@ -181,10 +181,10 @@ fn push_talker_at(
     place: usize,
 ) -> Result<(), NoMemory>
     ensures { OnOk result (out.new.items ++ flat_map
-        (λ key. talker_key_if key (registered_at key_cmp key part.now))
-        (drop (place + 1) (map key_of part.now.rows))
-        ≡ out.old.items ++ flat_map (λ key. talker_key_if key (registered_at key_cmp key part.now))
-        (drop place (map key_of part.now.rows))) }
+        (λ key. talker_key_if key (registered_at key_cmp key part.now.state))
+        (drop (place + 1) (map key_of part.now.state.rows))
+        ≡ out.old.items ++ flat_map (λ key. talker_key_if key (registered_at key_cmp key part.now.state))
+        (drop place (map key_of part.now.state.rows))) }
 {
     match part.key_at(place) {
         Some(key) => push_talker(out, key, part.registered(key)),
@@ -240,7 +240,7 @@ fn settling_keys(
 
 // A stream that wants nothing is taken out.
 fn take_out(ledger: &mut Ledger, stream: StreamId, want: Option<Want>)
-    ensures { ledger.new ≡ book_without stream want ledger.old }
+    ensures { ledger.new.book ≡ book_without stream want ledger.old.book }
 {
     match want {
         Some(_) => {}
@@ -253,9 +253,9 @@ fn take_out(ledger: &mut Ledger, stream: StreamId, want: Option<Want>)
 
 // Those of these streams that want nothing are taken out.
 fn take_out_all(ledger: &mut Ledger, view: &PortView<'_>, port: &Port, streams: &[StreamId])
-    ensures { ledger.new
+    ensures { ledger.new.book
         ≡ taken_out (λ s. wanted_at view.now.at port.now (talkers_from view.now s) s)
-        streams.now ledger.old }
+        streams.now ledger.old.book }
 {
     for stream in streams {
         let want = wanted_at(view, port, *stream);
@@ -265,7 +265,7 @@ fn take_out_all(ledger: &mut Ledger, view: &PortView<'_>, port: &Port, streams: 
 
 // A stream that wants bandwidth is entered.
 fn enter(ledger: &mut Ledger, want: Option<Want>) -> Result<(), NoMemory>
-    ensures { OnOk result (ledger.new ≡ book_with want ledger.old) }
+    ensures { OnOk result (ledger.new.book ≡ book_with want ledger.old.book) }
 {
     match want {
         Some(want) => {
@@ -284,9 +284,9 @@ fn enter_all(
     port: &Port,
     streams: &[StreamId],
 ) -> Result<(), NoMemory>
-    ensures { OnOk result (ledger.new
+    ensures { OnOk result (ledger.new.book
         ≡ with_wants (λ s. wanted_at view.now.at port.now (talkers_from view.now s) s)
-        streams.now ledger.old) }
+        streams.now ledger.old.book) }
 {
     for stream in streams {
         let want = wanted_at(view, port, *stream);
@@ -303,7 +303,7 @@ fn next_ledger(
     port: &Port,
     awaiting: &[MsrpKey],
 ) -> Result<Ledger, NoMemory>
-    ensures { IfOk result (λ l. l
+    ensures { IfOk result (λ l. l.book
         ≡ next_book view.now.at (registrations_from view.now) awaiting.now port.now) }
 {
     let streams = streams_in(alloc, awaiting)?;
@@ -315,7 +315,7 @@ fn next_ledger(
 
 // The streams whose booking is another than before.
 fn moved_streams(before: &Ledger, after: &Ledger) -> Result<Vec<StreamId>, NoMemory>
-    ensures { IfOk result (λ v. v.items ≡ moved_streams before.now after.now) }
+    ensures { IfOk result (λ v. v.items ≡ moved_streams before.now.book after.now.book) }
 {
     let changed = after.changes_after(before)?;
     let Changed { booked, dropped } = changed;
@@ -342,7 +342,7 @@ fn settle_as(
     key: MsrpKey,
     content: Option<MsrpContent>,
 ) -> Result<(), NoMemory>
-    ensures { OnOk result (part.new ≡ settled_as key content part.old) }
+    ensures { OnOk result (part.new.state ≡ settled_as key content part.old.state) }
 {
     match content {
         Some(content) => part.declare(key, content),
@@ -363,11 +363,11 @@ fn settle_all(
     keys: &[MsrpKey],
 ) -> Result<(), NoMemory>
     requires { view.now.at < length view.now.ports.now }
-    ensures { OnOk result (part.new
+    ensures { OnOk result (part.new.state
         ≡ settled_part
-        (stated_at view.now.at (record port.now { ledger = ledger.now })
+        (stated_at view.now.at (record port.now { ledger = ledger.now.book })
         (registrations_from view.now))
-        keys.now part.old) }
+        keys.now part.old.state) }
 {
     for key in keys {
         let content = stated_at(alloc, view, port, ledger, *key)?;
@@ -388,7 +388,7 @@ fn restated(
     requires { view.now.at < length view.now.ports.now }
     ensures { IfOk result (λ p. IfSome (slice_get view.now.ports.now view.now.at)
         (λ port. p ≡ restated_port view.now.at (registrations_from view.now) keys.now
-        (record port { ledger = ledger }))) }
+        (record port { ledger = ledger.book }))) }
 {
     let port = view.port();
     let mut part = port.part().copy()?;

@@ -101,7 +101,7 @@ impl MsrpSide {
     /// The participant of a link port.
     pub fn participant(&self, port: PortNo) -> &Participant<MsrpApp>
         requires { IsLinkPort port (length self.now.ports) }
-        ensures { IfSome (slice_get self.now.ports (place_of port)) (λ p. result.now ≡ p.part) }
+        ensures { IfSome (slice_get self.now.ports (place_of port)) (λ p. result.now.state ≡ p.part) }
     {
         self.ports[usize::from(port.0) - 1].part()
     }
@@ -109,7 +109,7 @@ impl MsrpSide {
     /// The ledger of a link port.
     pub fn ledger(&self, port: PortNo) -> &Ledger
         requires { IsLinkPort port (length self.now.ports) }
-        ensures { IfSome (slice_get self.now.ports (place_of port)) (λ p. result.now ≡ p.ledger) }
+        ensures { IfSome (slice_get self.now.ports (place_of port)) (λ p. result.now.book ≡ p.ledger) }
     {
         self.ports[usize::from(port.0) - 1].ledger()
     }

@@ -66,14 +66,14 @@ pub(crate) fn is_talker_content(content: Option<MsrpContent>) -> bool
 
 // What is registered of a stream's Talker at a port.
 pub(crate) fn registered_talker(part: &Participant<MsrpApp>, stream: StreamId) -> TalkerReg
-    ensures { result ≡ registered_talker stream part.now }
+    ensures { result ≡ registered_talker stream part.now.state }
 {
     talker_reg_of(part.registered(MsrpKey::Talker(stream)))
 }
 
 // What is registered of a stream's Listeners at a port.
 fn registered_listener(part: &Participant<MsrpApp>, stream: StreamId) -> Option<ListenerKind>
-    ensures { result ≡ registered_listener stream part.now }
+    ensures { result ≡ registered_listener stream part.now.state }
 {
     listener_kind_of(part.registered(MsrpKey::Listener(stream)))
 }
@@ -285,9 +285,9 @@ pub(crate) fn talker_in(reg: TalkerReg) -> Option<Talker>
 
 // Whether what a registered Talker asks for fits, by a ledger at a moment in cs; None where it asks for nothing.
 fn fit_of(reg: TalkerReg, ledger: &Ledger, now: Cs) -> Option<Fit>
-    requires { ledger.now.moment ≤ now.0 }
+    requires { ledger.now.book.moment ≤ now.0 }
     ensures { result
-        ≡ option_map (fit_for now.0 ledger.now) (option_and_then want_of_talker (talker_in reg)) }
+        ≡ option_map (fit_for now.0 ledger.now.book) (option_and_then want_of_talker (talker_in reg)) }
 {
     let want = talker_in(reg).and_then(|talker| want_of_talker(&talker));
     match want {
@@ -298,8 +298,8 @@ fn fit_of(reg: TalkerReg, ledger: &Ledger, now: Cs) -> Option<Fit>
 
 // Whether what a stream's Talker asks for fits at a link port, by a ledger at a moment in cs.
 pub(crate) fn fit_at(view: &PortView<'_>, ledger: &Ledger, now: Cs, stream: StreamId) -> Option<Fit>
-    requires { ledger.now.moment ≤ now.0 }
-    ensures { result ≡ fit_at now.0 view.now.at ledger.now (talkers_from view.now stream) }
+    requires { ledger.now.book.moment ≤ now.0 }
+    ensures { result ≡ fit_at now.0 view.now.at ledger.now.book (talkers_from view.now stream) }
 {
     let seen = seen_from(view, stream);
     if seen.is_here {
@@ -310,7 +310,7 @@ pub(crate) fn fit_at(view: &PortView<'_>, ledger: &Ledger, now: Cs, stream: Stre
 
 // What a link port declares of a stream's Talker by another ledger.
 fn talker_at(view: &PortView<'_>, port: &Port, ledger: &Ledger, stream: StreamId) -> TalkerReg
-    ensures { result ≡ talker_at view.now.at (record port.now { ledger = ledger.now })
+    ensures { result ≡ talker_at view.now.at (record port.now { ledger = ledger.now.book })
         (talkers_from view.now stream) }
 {
     let seen = seen_from(view, stream);
@@ -441,7 +441,7 @@ pub(crate) fn stated_at(
 ) -> Result<Option<MsrpContent>, NoMemory>
     requires { view.now.at < length view.now.ports.now }
     ensures { IfOk result (λ c. c
-        ≡ stated_at view.now.at (record port.now { ledger = ledger.now })
+        ≡ stated_at view.now.at (record port.now { ledger = ledger.now.book })
         (registrations_from view.now) key) }
 {
     match key {

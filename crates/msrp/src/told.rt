@@ -181,7 +181,7 @@ fn push_all_registered(out: &mut Vec<MsrpKey>, ports: &[Port]) -> Result<(), NoM
 
 // Puts the keys that a participant has registered at the end.
 fn push_registered(out: &mut Vec<MsrpKey>, part: &Participant<MsrpApp>) -> Result<(), NoMemory>
-    ensures { OnOk result (out.new.items ≡ out.old.items ++ registered_keys part.now) }
+    ensures { OnOk result (out.new.items ≡ out.old.items ++ registered_keys part.now.state) }
 {
     for place in 0..part.rows() {
         push_registered_at(out, part, place)?;
@@ -196,10 +196,10 @@ fn push_registered_at(
     place: usize,
 ) -> Result<(), NoMemory>
     ensures { OnOk result (out.new.items ++ filter
-        (λ key. is_some (registered_at key_cmp key part.now))
-        (drop (place + 1) (map key_of part.now.rows))
-        ≡ out.old.items ++ filter (λ key. is_some (registered_at key_cmp key part.now))
-        (drop place (map key_of part.now.rows))) }
+        (λ key. is_some (registered_at key_cmp key part.now.state))
+        (drop (place + 1) (map key_of part.now.state.rows))
+        ≡ out.old.items ++ filter (λ key. is_some (registered_at key_cmp key part.now.state))
+        (drop place (map key_of part.now.state.rows))) }
 {
     match part.key_at(place) {
         Some(key) => push_where(out, part.registered(key).is_some(), key),

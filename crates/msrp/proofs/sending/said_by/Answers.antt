@@ -13,8 +13,8 @@ use Rattle.msrp.proofs.sending.said_by.Goals as goal
 
 pub octets_of-requires-clause-belong : goal.octets_of-requires-clause-belong
 octets_of-requires-clause-belong c =
-    let es : c.in-Some.msgs.events ≡ sent_events base_octets octets_of key_cmp c.args.now c.args.part.now =
-    opened (λ m. m.events ≡ sent_events base_octets octets_of key_cmp c.args.now c.args.part.now) c.in_ok-msgs.field-0 c.in-Some.msgs c.in-Some.is c.in_ok-msgs.ensures.events in
+    let es : c.in-Some.msgs.events ≡ sent_events base_octets octets_of key_cmp c.args.now c.args.part.now.state =
+    opened (λ m. m.events ≡ sent_events base_octets octets_of key_cmp c.args.now c.args.part.now.state) c.in_ok-msgs.field-0 c.in-Some.msgs c.in-Some.is c.in_ok-msgs.ensures.events in
     let P : List (MrpEvent × MsrpKey × MsrpContent) → Type 0 = λ xs. AllByRecursion (λ e. Belongs e.1 e.2) xs in
-    subst P (sym es) (all_said Belongs c.args.part.now (own_row c.args.part.now c.requires.contents) (sent_events base_octets octets_of key_cmp c.args.now c.args.part.now)
-    (λ e h. c.what_is_sent_is_declared.ensures.content c.args.part.now c.args.now e c.requires.rows h))
+    subst P (sym es) (all_said Belongs c.args.part.now.state (own_row c.args.part.now.state c.requires.contents) (sent_events base_octets octets_of key_cmp c.args.now c.args.part.now.state)
+    (λ e h. c.what_is_sent_is_declared.ensures.content c.args.part.now.state c.args.now e c.requires.rows h))

@@ -7,5 +7,5 @@ use Rattle.msrp.proofs.settling.enter_all.Given as goal
 -- with the streams that are left entered too, all are
 abbrev pub invariant-loop-stream : goal.invariant-loop-stream
 invariant-loop-stream l =
-    with_wants (λ s. wanted_at l.view.at l.port (talkers_from l.view s) s) (drop l.stream-index l.streams) l.ledger
-    ≡ with_wants (λ s. wanted_at l.view.at l.port (talkers_from l.view s) s) l.streams l.fn.ledger
+    with_wants (λ s. wanted_at l.view.at l.port (talkers_from l.view s) s) (drop l.stream-index l.streams) l.ledger.book
+    ≡ with_wants (λ s. wanted_at l.view.at l.port (talkers_from l.view s) s) l.streams l.fn.ledger.book

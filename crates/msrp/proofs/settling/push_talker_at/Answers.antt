@@ -41,11 +41,11 @@ on_ok (Err e) h f = tt
 pub returns-in-Some : goal.returns-in-Some
 returns-in-Some c =
     on_ok c.push_talker.result c.push_talker.ensures
-    (λ e. pushed c.args.part.now c.args.place c.in-Some.key c.args.out.now.items c.push_talker.new.out.items (sym c.key_at.ensures ∙ c.in-Some.is)
+    (λ e. pushed c.args.part.now.state c.args.place c.in-Some.key c.args.out.now.items c.push_talker.new.out.items (sym c.key_at.ensures ∙ c.in-Some.is)
     (e ∙ ap (λ x. c.args.out.now.items ++ talker_key_if c.in-Some.key x) c.registered.ensures))
 
 pub returns-in-None : goal.returns-in-None
 returns-in-None c =
     ap (λ xs. c.args.out.now.items ++ xs)
-    (ap (λ n. talker_keys_from n c.args.part.now) (add-one c.args.place)
-    ∙ sym (no_more (by_key c.args.part.now) (map key_of c.args.part.now.rows) c.args.place (sym c.key_at.ensures ∙ c.in-None.is)))
+    (ap (λ n. talker_keys_from n c.args.part.now.state) (add-one c.args.place)
+    ∙ sym (no_more (by_key c.args.part.now.state) (map key_of c.args.part.now.state.rows) c.args.place (sym c.key_at.ensures ∙ c.in-None.is)))

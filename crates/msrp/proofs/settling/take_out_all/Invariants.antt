@@ -7,5 +7,5 @@ use Rattle.msrp.proofs.settling.take_out_all.Given as goal
 -- with the streams that are left taken out too, all are
 abbrev pub invariant-loop-stream : goal.invariant-loop-stream
 invariant-loop-stream l =
-    taken_out (λ s. wanted_at l.view.at l.port (talkers_from l.view s) s) (drop l.stream-index l.streams) l.ledger
-    ≡ taken_out (λ s. wanted_at l.view.at l.port (talkers_from l.view s) s) l.streams l.fn.ledger
+    taken_out (λ s. wanted_at l.view.at l.port (talkers_from l.view s) s) (drop l.stream-index l.streams) l.ledger.book
+    ≡ taken_out (λ s. wanted_at l.view.at l.port (talkers_from l.view s) s) l.streams l.fn.ledger.book

@@ -9,5 +9,5 @@ use Rattle.msrp.proofs.told.push_registered.Given as goal
 -- what was put there, with those of the rows that are left, is all
 abbrev pub invariant-loop-place : goal.invariant-loop-place
 invariant-loop-place l =
-    l.out.items ++ filter (λ key. is_some (registered_at key_cmp key l.part)) (drop l.place (map key_of l.part.rows))
-    ≡ l.fn.out.items ++ registered_keys l.part
+    l.out.items ++ filter (λ key. is_some (registered_at key_cmp key l.part.state)) (drop l.place (map key_of l.part.state.rows))
+    ≡ l.fn.out.items ++ registered_keys l.part.state

@@ -3,4 +3,4 @@ use Rattle.msrp.specs.PortState.{PortState}
 use Rattle.msrp.proofs.port.Port.with.Goals as goal
 
 pub returns : goal.returns
-returns c = ap (λ (p : PortState). record p { part = c.args.part; ledger = c.args.ledger }) c.self.view_is
+returns c = ap (λ (p : PortState). record p { part = c.args.part.state; ledger = c.args.ledger.book }) c.self.view_is

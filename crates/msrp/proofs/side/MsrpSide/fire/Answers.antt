@@ -18,7 +18,7 @@ here c =
     ap (λ (v : Streams). slice_get v.ports c.args.at) (sym c.self.view_is)
     ∙ (ap (λ xs. slice_get xs c.args.at) (sym c.as_slice.ensures.value) ∙ c.port_at.ensures)
 
-copied : (c : After-as_slice-2) → c.in_ok-part.part ≡ c.port_at.result.now.part
+copied : (c : After-as_slice-2) → c.in_ok-part.part.state ≡ c.port_at.result.now.part
 copied c = c.in_ok-part.ensures ∙ c.part.ensures
 
 pub put-requires-clause-contents : goal.put-requires-clause-contents
@@ -46,7 +46,7 @@ put-requires-clause-declared c q at key =
 
 pub put-requires-clause-told : goal.put-requires-clause-told
 put-requires-clause-told c q at key =
-    let was : c.in_ok-part.part ≡ q.part = copied c ∙ ap (λ (x : PortState). x.part) (one_some _ _ _ (here c) at) in
+    let was : c.in_ok-part.part.state ≡ q.part = copied c ∙ ap (λ (x : PortState). x.part) (one_some _ _ _ (here c) at) in
     tells_as key (left_keys c.args.now q.part) _ q.part (due_state c.args.now q.part) _
     (c.as_slice-2.ensures ∙ (c.in_ok-fired.ensures.keys ∙ ap (left_keys c.args.now) was)) (c.in_ok-fired.ensures.after ∙ ap (due_state c.args.now) was)
     (c.due_tells_each_change.ensures.told q.part c.args.now (port_kept c.args.self.now c.keeps.ensures c.args.at q at).rows key)

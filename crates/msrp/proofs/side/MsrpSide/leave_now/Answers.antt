@@ -1,78 +1,81 @@
-use Rattle.std.proofs.Common.{◌≡◌, ◌-◌, ◌∙◌, ℕ, [], ◌∷◌, if◌then◌else◌, ap, sym}
-use Rattle.std.specs.Prelude.{slice_get, Some}
+use Rattle.std.proofs.Common.{◌≡◌, ◌-◌, ◌<◌, ◌∙◌, ℕ, List, [], ◌∷◌, if◌then◌else◌, length, refl, ap, sym, subst, arith}
+use Rattle.std.specs.Prelude.{slice_get, option_map, Some}
+use Rattle.std.proofs.lemmas.Option.{slice_get_read}
 use Rattle.mrp_participant.specs.Lookup.{find}
 use Rattle.mrp_participant.specs.Row.{is_leaving_in, after_leave}
-use Rattle.mrp_participant.specs.State.{declared_at, left_state}
+use Rattle.mrp_participant.specs.State.{left_state}
+use Rattle.attribute_propagation.specs.Ports.{keys_in, keys_in_some, place_of, sets_with}
+use Rattle.msrp_codec.specs.declared.pdu.MsrpKey.{MsrpKey}
 use Rattle.msrp_codec.specs.Content.{Belongs}
 use Rattle.msrp.specs.PortState.{PortState}
 use Rattle.msrp.specs.Part.{Part, key_cmp}
-use Rattle.attribute_propagation.specs.Ports.{place_of}
+use Rattle.msrp.specs.Settling.{known_keys, told_sets}
 use Rattle.msrp.specs.Side.{Streams, left_key, left_streams}
-use Rattle.msrp.proofs.Places.{one_some, some_is}
-use Rattle.msrp.proofs.Telling.{tells_as, leaving_told}
+use Rattle.msrp.proofs.Places.{one_some, opened, some_is}
+use Rattle.msrp.proofs.Telling.{leaving_told}
 use Rattle.msrp.proofs.Contents.{own-changed, left_own, own_row}
-use Rattle.msrp.proofs.Keeping.{at_put, port_kept}
+use Rattle.msrp.proofs.Keeping.{kept-told, at_told}
 use Rattle.msrp.proofs.side.MsrpSide.leave_now.Goals as goal
-use Rattle.msrp.proofs.side.MsrpSide.leave_now.Goals.{After-told_where}
+use Rattle.msrp.proofs.side.MsrpSide.leave_now.Goals.{After-self-1}
 
--- the port that was copied is the one at the place
-here : (c : After-told_where) → slice_get c.args.self.now.ports (c.from-at.result - 1) ≡ Some c.port_at.result.now
-here c =
-    ap (λ (v : Streams). slice_get v.ports (c.from-at.result - 1)) (sym c.self.view_is)
-    ∙ (ap (λ xs. slice_get xs (c.from-at.result - 1)) (sym c.as_slice.ensures.value) ∙ c.port_at.ensures)
+-- the side as it was, and the place of the port in it
+abbrev before : After-self-1 → Streams
+before c = record { ports = c.self.inside.ports.items; awaiting = keys_in c.self.inside.awaiting.items; talks = c.self.inside.talks.items; listens = c.self.inside.listens.items; moment = c.self.inside.moment.0 }
 
-copied : (c : After-told_where) → c.in_ok-part.part ≡ c.port_at.result.now.part
-copied c = c.in_ok-part.ensures ∙ c.part.ensures
+abbrev place : After-self-1 → ℕ
+place c = c.from-at.result - 1
 
-became : (c : After-told_where) → c.leave_due-was.new.self ≡ left_state key_cmp c.args.key c.port_at.result.now.part
-became c = c.leave_due-was.ensures.after ∙ ap (left_state key_cmp c.args.key) (copied c)
+below : (c : After-self-1) → place c < length (before c).ports
+below c = omega (arith, c.from-at.ensures, c.requires.some, c.requires.within, ap (λ (v : Streams). length v.ports) c.self.view_is)
 
-pub put-requires-clause-contents : goal.put-requires-clause-contents
-put-requires-clause-contents c =
-    let p : PortState = c.port_at.result.now in
-    let port = port_kept c.args.self.now c.keeps.ensures (c.from-at.result - 1) p (here c) in
-    own-changed p.part _ c.args.key (after_leave (find key_cmp c.args.key p.part.rows)) port.contents
-    (λ k. ap (λ (t : Part). find key_cmp k t.rows) (became c) ∙ c.one_key_changes.ensures.leave_due p.part c.args.key port.rows k)
-    (left_own Belongs c.args.key (find key_cmp c.args.key p.part.rows) (own_row p.part port.contents c.args.key))
+-- the port that was looked at is the one that is changed
+here : (c : After-self-1) → slice_get (before c).ports (place c) ≡ Some c.index_mut-port.result.now
+here c = slice_get_read (before c).ports (length (before c).ports) (place c) c.index_mut-port.result.now refl (below c) c.index_mut-port.ensures.value
 
-pub put-requires-clause-told : goal.put-requires-clause-told
-put-requires-clause-told c q at key =
-    let one : c.port_at.result.now ≡ q = one_some _ _ _ (here c) at in
-    let told : c.told_where.result.now ≡ left_key c.args.key q.part =
+looked : (c : After-self-1) → slice_get (before c).ports (place c) ≡ Some c.port_at.result.now
+looked c = ap (λ xs. slice_get xs (place c)) (sym c.as_slice.ensures.value) ∙ c.port_at.ensures
+
+one : (c : After-self-1) → c.port_at.result.now ≡ c.index_mut-port.result.now
+one c = one_some _ _ _ (looked c) (here c)
+
+-- the key that is told
+told : (c : After-self-1) → c.told_where.result.now ≡ left_key c.args.key c.index_mut-port.result.now.part
+told c =
     c.told_where.ensures
-    ∙ (ap (λ xs. if c.leave_due-was.result then xs else []) c.as_slice-2.ensures
-    ∙ (ap (λ b. if b then c.args.key ∷ [] else []) (c.leave_due-was.ensures.was ∙ ap (λ (s : Part). is_leaving_in (find key_cmp c.args.key s.rows)) (copied c))
-    ∙ ap (λ (x : PortState). left_key c.args.key x.part) one)) in
-    tells_as key (left_key c.args.key q.part) _ q.part (left_state key_cmp c.args.key q.part) _ told
-    (became c ∙ ap (λ (x : PortState). left_state key_cmp c.args.key x.part) one)
-    (leaving_told q.part c.args.key key (c.what_is_asked_holds.ensures.leave_due q.part c.args.key (port_kept c.args.self.now c.keeps.ensures (c.from-at.result - 1) q at).rows key))
+    ∙ (ap (λ xs. if c.is_leaving-was.result then xs else []) c.as_slice-2.ensures
+    ∙ (ap (λ b. if b then c.args.key ∷ [] else []) c.is_leaving-was.ensures ∙ ap (λ (x : PortState). left_key c.args.key x.part) (one c)))
 
-pub put-requires-clause-declared : goal.put-requires-clause-declared
-put-requires-clause-declared c q at key =
-    let one : c.port_at.result.now ≡ q = one_some _ _ _ (here c) at in
-    ap (declared_at key_cmp key) (became c ∙ ap (λ (x : PortState). left_state key_cmp c.args.key x.part) one)
-    ∙ c.declarations_stay.ensures.leave_due q.part c.args.key (port_kept c.args.self.now c.keeps.ensures (c.from-at.result - 1) q at).rows key
+-- what awaits then
+abbrev known : Streams → List MsrpKey
+known v = known_keys v.talks v.listens v.ports
 
-pub put-requires-clause-kept : goal.put-requires-clause-kept
-put-requires-clause-kept c = c.keeps.ensures
+sets : (c : After-self-1) → keys_in c.put_sets.new.sets.items
+    ≡ told_sets (place c) c.index_mut-port.result.now.domain (left_key c.args.key c.index_mut-port.result.now.part) (known (before c)) (before c).awaiting
+sets c =
+    let p : PortState = c.index_mut-port.result.now in
+    let news : List (List MsrpKey) → List (List MsrpKey) = sets_with (keys_in_some (option_map (λ v. v.items) c.in_ok-news.news)) in
+    let P : Streams → Type 0 = λ v. slice_get v.ports (place c) ≡ Some p in
+    let Q : Streams → Type 0 = λ v. news v.awaiting ≡ told_sets (place c) p.domain c.told_where.result.now (known v) v.awaiting in
+    let now : Q c.args.self.now =
+    opened (λ (q : PortState). news c.args.self.now.awaiting ≡ told_sets (place c) q.domain c.told_where.result.now (known c.args.self.now) c.args.self.now.awaiting) _ p
+    (subst P c.self.view_is (here c)) c.in_ok-news.ensures in
+    c.put_sets.ensures ∙ (subst Q (sym c.self.view_is) now ∙ ap (λ (ks : List MsrpKey). told_sets (place c) p.domain ks (known (before c)) (before c).awaiting) (told c))
 
-pub put-requires-clause-rows : goal.put-requires-clause-rows
-put-requires-clause-rows c = c.rows_ascend.ensures.rows
+pub invariant_of-self : goal.invariant_of-self
+invariant_of-self c =
+    let s : Part = c.index_mut-port.result.now.part in
+    kept-told c.each_port_is_told.ensures c.a_place_for_each_key.ensures.registered (before c) c.self.invariant (place c) (below c) c.index_mut-port.result.now c.leave_due.new.self c.index_mut-port.ensures.value
+    (left_state key_cmp c.args.key s) (left_key c.args.key s) _ c.leave_due.ensures (sets c)
+    (λ rows. c.rows_stay_rows.ensures.leave_due s c.args.key rows)
+    (λ rows own. own-changed s _ c.args.key (after_leave (find key_cmp c.args.key s.rows)) own (c.one_key_changes.ensures.leave_due s c.args.key rows)
+    (left_own Belongs c.args.key (find key_cmp c.args.key s.rows) (own_row s own c.args.key)))
+    (λ rows key. c.declarations_stay.ensures.leave_due s c.args.key rows key)
+    (λ rows key. leaving_told s c.args.key key (c.what_is_asked_holds.ensures.leave_due s c.args.key rows key))
 
 pub returns-clause-after : goal.returns-clause-after
 returns-clause-after c =
-    let p : PortState = c.port_at.result.now in
-    let at = c.from-at.result - 1 in
-    let found : slice_get c.args.self.now.ports at ≡ Some p =
-    ap (λ (v : Streams). slice_get v.ports at) (sym c.self.view_is)
-    ∙ (ap (λ xs. slice_get xs at) (sym c.as_slice.ensures.value) ∙ c.port_at.ensures) in
-    let told : c.told_where.result.now ≡ left_key c.args.key p.part =
-    c.told_where.ensures
-    ∙ (ap (λ xs. if c.leave_due-was.result then xs else []) c.as_slice-2.ensures
-    ∙ ap (λ b. if b then c.args.key ∷ [] else []) (c.leave_due-was.ensures.was ∙ ap (λ (s : Part). is_leaving_in (find key_cmp c.args.key s.rows)) (c.in_ok-part.ensures ∙ c.part.ensures))) in
-    at_put c.args.self.now c.put.new.self at p _ _ (left_state key_cmp c.args.key) (left_key c.args.key) found c.in_ok-put.ensures.ok
-    (c.leave_due-was.ensures.after ∙ ap (left_state key_cmp c.args.key) (c.in_ok-part.ensures ∙ c.part.ensures)) told
-    ∙ ap (λ (n : ℕ). left_streams (n - 1) c.args.key c.args.self.now) c.from-at.ensures
+    at_told (before c) (place c) c.index_mut-port.result.now c.leave_due.new.self _ (left_state key_cmp c.args.key) (left_key c.args.key) (below c) c.index_mut-port.ensures.value c.leave_due.ensures (sets c)
+    ∙ (ap (λ (v : Streams). left_streams (place c) c.args.key v) c.self.view_is ∙ ap (λ (n : ℕ). left_streams (n - 1) c.args.key c.args.self.now) c.from-at.ensures)
 
 pub returns-clause-was : goal.returns-clause-was
 returns-clause-was c =
@@ -81,5 +84,4 @@ returns-clause-was c =
     ap (λ (v : Streams). slice_get v.ports (place_of c.args.port)) (sym c.self.view_is)
     ∙ (ap (λ xs. slice_get xs (place_of c.args.port)) (sym c.as_slice.ensures.value)
     ∙ (ap (λ n. slice_get c.as_slice.result.now (n - 1)) (sym c.from-at.ensures) ∙ c.port_at.ensures)) in
-    some_is (λ (q : PortState). c.leave_due-was.result ≡ is_leaving_in (find key_cmp c.args.key q.part.rows)) _ p found
-    (c.leave_due-was.ensures.was ∙ ap (λ (s : Part). is_leaving_in (find key_cmp c.args.key s.rows)) (c.in_ok-part.ensures ∙ c.part.ensures))
+    some_is (λ (q : PortState). c.is_leaving-was.result ≡ is_leaving_in (find key_cmp c.args.key q.part.rows)) _ p found c.is_leaving-was.ensures

@@ -21,6 +21,6 @@ invariant_of-self c =
     let sets : keys_in c.put_sets.new.sets.items ≡ told_sets c.args.at c.index_mut-port.result.now.domain c.args.told.now (known_keys before.talks before.listens before.ports) before.awaiting =
     told ∙ ap (λ (p : PortState). told_sets c.args.at p.domain c.args.told.now (known_keys before.talks before.listens before.ports) before.awaiting) (one_some _ _ _ one two) in
     rw (c.put_part.ensures, sets) (kept-put c.each_port_is_told.ensures c.a_place_for_each_key.ensures.registered before c.self.invariant c.args.at below c.index_mut-port.result.now c.index_mut-port.ensures.value
-    c.args.part c.args.told.now c.requires.rows c.requires.contents
+    c.args.part.state c.args.told.now c.requires.rows c.requires.contents
     (λ q h. c.requires.declared q (ap (λ (v : Streams). slice_get v.ports c.args.at) (sym c.self.view_is) ∙ h))
     (λ q h. c.requires.told q (ap (λ (v : Streams). slice_get v.ports c.args.at) (sym c.self.view_is) ∙ h)))

@@ -57,7 +57,7 @@ returns-in-Some c =
     ap (λ (s : Part). is_silent s) (sym c.part.ensures) ∙ (sym c.in_ok-octets.ensures.silent ∙ ap is_none c.in-Some.is) in
     let written : IsWritten (pdu_sent c.args.now q.part) c.in-Some.octets =
     let P : Part → Type 0 = λ s. IsWritten (pdu_sent c.args.now s) c.in-Some.octets in
-    subst P c.part.ensures (opened (λ r. IsWritten (pdu_sent c.args.now c.part.result.now) r) _ _ c.in-Some.is c.in_ok-octets.ensures.written) in (
+    subst P c.part.ensures (opened (λ r. IsWritten (pdu_sent c.args.now c.part.result.now.state) r) _ _ c.in-Some.is c.in_ok-octets.ensures.written) in (
       some_is (λ p. (is_silent p.part ≡ false) × IsWritten (pdu_sent c.args.now p.part) c.in-Some.octets) _ q found (loud, written),
       at_changed (before c) (c.from-at.result - 1) c.index_mut-port.result.now c.sent.new.self (sent_part c.args.now) (below c) c.index_mut-port.ensures.value c.sent.ensures
           ∙ (ap (λ (v : Streams). sent_streams c.args.now (c.from-at.result - 1) v) c.self.view_is ∙ ap (λ (n : ℕ). sent_streams c.args.now (n - 1) c.args.self.now) c.from-at.ensures),

@@ -18,7 +18,7 @@ here c =
     ap (λ (v : Streams). slice_get v.ports c.args.at) (sym c.self.view_is)
     ∙ (ap (λ xs. slice_get xs c.args.at) (sym c.as_slice.ensures.value) ∙ c.port_at.ensures)
 
-copied : (c : After-as_slice-2) → c.in_ok-part.part ≡ c.port_at.result.now.part
+copied : (c : After-as_slice-2) → c.in_ok-part.part.state ≡ c.port_at.result.now.part
 copied c = c.in_ok-part.ensures ∙ c.part.ensures
 
 pub put-requires-clause-contents : goal.put-requires-clause-contents
@@ -35,15 +35,15 @@ returns-clause-ok c =
     let found : slice_get c.args.self.now.ports c.args.at ≡ Some p =
     ap (λ (v : Streams). slice_get v.ports c.args.at) (sym c.self.view_is)
     ∙ (ap (λ xs. slice_get xs c.args.at) (sym c.as_slice.ensures.value) ∙ c.port_at.ensures) in
-    let became : c.receive.new.self ≡ received_part c.args.now c.args.pdu p.part = c.in_ok-told.ensures.after ∙ ap (received_part c.args.now c.args.pdu) (c.in_ok-part.ensures ∙ c.part.ensures) in
+    let became : c.receive.new.self.state ≡ received_part c.args.now c.args.pdu p.part = c.in_ok-told.ensures.after ∙ ap (received_part c.args.now c.args.pdu) (c.in_ok-part.ensures ∙ c.part.ensures) in
     on_ok c.put.result c.put.ensures.ok (λ ok.
     at_put c.args.self.now c.put.new.self c.args.at p _ _ (received_part c.args.now c.args.pdu) (told_by_receipt c.args.now c.args.pdu) found ok became
     (c.as_slice-2.ensures ∙ (c.in_ok-told.ensures.keys
-    ∙ (ap (λ (s : Part). changed_keys key_cmp same_content s.rows c.receive.new.self.rows) (c.in_ok-part.ensures ∙ c.part.ensures)
+    ∙ (ap (λ (s : Part). changed_keys key_cmp same_content s.rows c.receive.new.self.state.rows) (c.in_ok-part.ensures ∙ c.part.ensures)
     ∙ ap (λ (t : Part). changed_keys key_cmp same_content p.part.rows t.rows) became))))
 
 -- the participant afterwards is what the PDU makes of the one at the place
-became_of : (c : After-as_slice-2) (q : PortState) → slice_get c.args.self.now.ports c.args.at ≡ Some q → c.receive.new.self ≡ received_part c.args.now c.args.pdu q.part
+became_of : (c : After-as_slice-2) (q : PortState) → slice_get c.args.self.now.ports c.args.at ≡ Some q → c.receive.new.self.state ≡ received_part c.args.now c.args.pdu q.part
 became_of c q at =
     c.in_ok-told.ensures.after ∙ ap (received_part c.args.now c.args.pdu) (copied c ∙ ap (λ (x : PortState). x.part) (one_some _ _ _ (here c) at))
 
@@ -54,10 +54,10 @@ put-requires-clause-declared c q at key =
 
 pub put-requires-clause-told : goal.put-requires-clause-told
 put-requires-clause-told c q at key =
-    let was : c.in_ok-part.part ≡ q.part = copied c ∙ ap (λ (x : PortState). x.part) (one_some _ _ _ (here c) at) in
+    let was : c.in_ok-part.part.state ≡ q.part = copied c ∙ ap (λ (x : PortState). x.part) (one_some _ _ _ (here c) at) in
     let told : c.as_slice-2.result.now ≡ told_by_receipt c.args.now c.args.pdu q.part =
     c.as_slice-2.ensures ∙ (c.in_ok-told.ensures.keys
-    ∙ (ap (λ (s : Part). changed_keys key_cmp same_content s.rows c.receive.new.self.rows) was
+    ∙ (ap (λ (s : Part). changed_keys key_cmp same_content s.rows c.receive.new.self.state.rows) was
     ∙ ap (λ (t : Part). changed_keys key_cmp same_content q.part.rows t.rows) (became_of c q at))) in
     tells_as key (told_by_receipt c.args.now c.args.pdu q.part) _ q.part (received_part c.args.now c.args.pdu q.part) _ told (became_of c q at)
     (c.receive_tells_each_change.ensures.told q.part c.args.now c.args.pdu.leave_all c.args.pdu.events (port_kept c.args.self.now c.keeps.ensures c.args.at q at).rows key)
