@@ -347,18 +347,10 @@ fn is_worked_on(bridge: &mut Node) -> bool {
         && says_at_two(bridge, &JOIN)
 }
 
-// Whether a copy of a bridge isn't sound.
-fn has_unsound_copy(bridge: &Node) -> bool {
-    match bridge.copy() {
-        Ok(copy) => !copy.all_sound(),
-        Err(_) => false,
-    }
-}
-
 // Whether MVRP at port 1 isn't sound once it is spoilt, and MSRP is.
 fn is_spoilt(bridge: &mut Node) -> bool {
     spoil(bridge, ONE);
-    is_sound(bridge, ONE, false, true) && has_unsound_copy(bridge)
+    is_sound(bridge, ONE, false, true) && !bridge.all_sound()
 }
 
 // Whether a LeaveAll of both applications is due at port 1 after 3 cs, which makes it sound.

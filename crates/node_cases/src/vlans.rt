@@ -41,7 +41,7 @@ fn bridge(alloc: Global) -> Result<Option<MvrpSide>, NoMemory> {
 
 // Whether the participant of a port has VID 7 registered, and whether it declares it.
 fn states(side: &MvrpSide, port: PortNo, vid: Vid) -> (bool, bool)
-    requires { IsLinkPort port (length side.now.parts) }
+    requires { IsLinkPort port (length side.now.state.parts) }
 {
     let part = side.participant(port);
     (part.registered(vid).is_some(), part.declared(vid).is_some())
@@ -49,7 +49,7 @@ fn states(side: &MvrpSide, port: PortNo, vid: Vid) -> (bool, bool)
 
 // What is seen when a Join comes in at port 1, is settled at port 2 and sent there.
 fn join(side: &mut MvrpSide, vid: Vid) -> Result<[bool; 6], NoMemory>
-    requires { length side.old.parts ≡ 2 }
+    requires { length side.old.state.parts ≡ 2 }
 {
     let (one, two) = (PortNo(1), PortNo(2));
     let received = side.receive(Cs(1), one, JOIN.as_slice()) == Ok(1);
@@ -64,7 +64,7 @@ fn join(side: &mut MvrpSide, vid: Vid) -> Result<[bool; 6], NoMemory>
 
 // What is seen when a Lv comes in there, and its leave timer ends.
 fn leave(side: &mut MvrpSide, vid: Vid) -> Result<[bool; 5], NoMemory>
-    requires { length side.old.parts ≡ 2 }
+    requires { length side.old.state.parts ≡ 2 }
 {
     let (one, two) = (PortNo(1), PortNo(2));
     let received = side.receive(Cs(21), one, LEAVE.as_slice()) == Ok(1);

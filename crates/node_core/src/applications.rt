@@ -1,10 +1,12 @@
 //! What a step of a node does at its applications, MVRP and MSRP. Each function says what it makes of them, as the words of
 //! `specs/Step.antt` have it; what stays of a node at each step is a law over those (`every_step_keeps_a_node_proper`).
 
-ghost use Rattle.std.specs.Prelude.{◌≡◌, ◌<◌, ◌≤◌, ◌^◌, length, vec_len, vec_capacity, IfOk, OnOk, OnErr};
+ghost use Rattle.std.specs.Prelude.{◌≡◌, ◌<◌, ◌≤◌, ◌^◌, length, slice_get, vec_len, vec_capacity, Some, IfOk, IfSome, OnOk, OnErr};
+ghost use Rattle.mrp_participant.specs.State.{due_count};
 ghost use Rattle.attribute_propagation.specs.Ports.{IsLinkPort, place_of, count_of};
 ghost use Rattle.mvrp_codec.specs.Meaning.{mvrp_reading};
 ghost use Rattle.msrp_codec.specs.Meaning.{msrp_reading};
+ghost use Rattle.flat_side.specs.Side.{awaiting_at};
 ghost use Rattle.mvrp.specs.Side.{requested_vlans, due_vlans, leave_all_vlans, periodic_vlans, settled_vlans, spoilt_vlans, sent_vlans};
 ghost use Rattle.msrp.specs.Side.{next_sets, clocked_streams, requested_streams, due_streams, leave_all_streams, periodic_streams, settled_streams, spoilt_streams, sent_streams};
 ghost use Rattle.node_core.specs.Calls.{HasOneTaken, HasOneSaid, IsSaying};
@@ -29,12 +31,12 @@ pub(crate) fn worked_on(
     wire: &Wire,
 ) -> Result<StepReply, NoMemory>
     requires now { now.0 < 2 ^ 62 }
-    requires port { IsLinkPort port (length mvrp.old.parts) }
-    requires same { length msrp.old.ports ≡ length mvrp.old.parts }
+    requires port { IsLinkPort port (length mvrp.old.state.parts) }
+    requires same { length msrp.old.ports ≡ length mvrp.old.state.parts }
     requires short { IsShort wire.now }
     ensures ok { IfOk result (λ reply.
-        HasOneTaken wire.now.app now (place_of port) wire.now.octets mvrp.old msrp.old reply mvrp.new msrp.new) }
-    ensures err_vlans { OnErr result (mvrp.new ≡ mvrp.old) }
+        HasOneTaken wire.now.app now (place_of port) wire.now.octets mvrp.old.state msrp.old reply mvrp.new.state msrp.new) }
+    ensures err_vlans { OnErr result (mvrp.new.state ≡ mvrp.old.state) }
     ensures err_streams { OnErr result (msrp.new ≡ msrp.old) }
 {
     match wire.app {
@@ -53,10 +55,10 @@ pub(crate) fn put_out(
     outbox: &mut Vec<Wire>,
 ) -> Result<StepReply, NoMemory>
     requires now { now.0 < 2 ^ 62 }
-    requires port { IsLinkPort port (length mvrp.old.parts) }
-    requires same { length msrp.old.ports ≡ length mvrp.old.parts }
-    ensures put { HasOneSaid app now (place_of port) mvrp.old msrp.old outbox.old.items result
-        mvrp.new msrp.new outbox.new.items }
+    requires port { IsLinkPort port (length mvrp.old.state.parts) }
+    requires same { length msrp.old.ports ≡ length mvrp.old.state.parts }
+    ensures put { HasOneSaid app now (place_of port) mvrp.old.state msrp.old outbox.old.items result
+        mvrp.new.state msrp.new outbox.new.items }
 {
     match app {
         App::Mvrp => put_vlans(mvrp, now, port, outbox),
@@ -72,19 +74,18 @@ pub(crate) fn due_of(
     port: PortNo,
 ) -> Result<StepReply, NoMemory>
     requires now { now.0 < 2 ^ 62 }
-    requires port { IsLinkPort port (length mvrp.old.parts) }
-    requires same { length msrp.old.ports ≡ length mvrp.old.parts }
+    requires port { IsLinkPort port (length mvrp.old.state.parts) }
+    requires same { length msrp.old.ports ≡ length mvrp.old.state.parts }
     ensures fired { IfOk result (λ reply. reply
-        ≡ StepReply.Fired (count_of (all_due now (place_of port) mvrp.old msrp.old))) }
-    ensures ok_vlans { OnOk result (mvrp.new ≡ due_vlans now (place_of port) mvrp.old) }
+        ≡ StepReply.Fired (count_of (all_due now (place_of port) mvrp.old.state msrp.old))) }
+    ensures ok_vlans { OnOk result (mvrp.new.state ≡ due_vlans now (place_of port) mvrp.old.state) }
     ensures ok_streams { OnOk result (msrp.new ≡ due_streams now (place_of port) msrp.old) }
-    ensures err_vlans { OnErr result (mvrp.new ≡ mvrp.old) }
+    ensures err_vlans { OnErr result (mvrp.new.state ≡ mvrp.old.state) }
     ensures err_streams { OnErr result (msrp.new ≡ msrp.old) }
 {
-    let ready = mvrp.ready_due(now, port)?;
+    mvrp.room(port)?;
     let fired = msrp.due(now, port)?;
-    let count = ready.count();
-    mvrp.apply(ready);
+    let count = fire_vlans(mvrp, now, port);
     Ok(StepReply::Fired(count.saturating_add(fired)))
 }
 
@@ -97,19 +98,18 @@ pub(crate) fn settle_of(
 ) -> Result<StepReply, NoMemory>
     requires now { now.0 < 2 ^ 62 }
     requires moment { now.0 ≡ msrp.old.moment }
-    requires port { IsLinkPort port (length mvrp.old.parts) }
-    requires same { length msrp.old.ports ≡ length mvrp.old.parts }
+    requires port { IsLinkPort port (length mvrp.old.state.parts) }
+    requires same { length msrp.old.ports ≡ length mvrp.old.state.parts }
     ensures settled { IfOk result (λ reply. reply
-        ≡ StepReply.Settled (count_of (all_awaiting (place_of port) mvrp.old msrp.old))) }
-    ensures ok_vlans { OnOk result (mvrp.new ≡ settled_vlans (place_of port) mvrp.old) }
+        ≡ StepReply.Settled (count_of (all_awaiting (place_of port) mvrp.old.state msrp.old))) }
+    ensures ok_vlans { OnOk result (mvrp.new.state ≡ settled_vlans (place_of port) mvrp.old.state) }
     ensures ok_streams { OnOk result (msrp.new ≡ settled_streams (place_of port) msrp.old) }
-    ensures err_vlans { OnErr result (mvrp.new ≡ mvrp.old) }
+    ensures err_vlans { OnErr result (mvrp.new.state ≡ mvrp.old.state) }
     ensures err_streams { OnErr result (msrp.new ≡ msrp.old) }
 {
-    let ready = mvrp.ready_settle(now, port)?;
+    mvrp.room(port)?;
     let settled = msrp.settle(now, port)?;
-    let count = ready.count();
-    mvrp.apply(ready);
+    let count = settle_vlans(mvrp, now, port);
     Ok(StepReply::Settled(count.saturating_add(settled)))
 }
 
@@ -117,9 +117,9 @@ pub(crate) fn settle_of(
 
 // A VID is declared or withdrawn.
 pub(crate) fn ask_vlan(side: &mut MvrpSide, vid: Vid, declared: bool) -> Result<StepReply, NoMemory>
-    ensures ok { OnOk result (side.new ≡ requested_vlans vid declared side.old) }
+    ensures ok { OnOk result (side.new.state ≡ requested_vlans vid declared side.old.state) }
     ensures taken { IfOk result (λ reply. reply ≡ StepReply.Taken) }
-    ensures err { OnErr result (side.new ≡ side.old) }
+    ensures err { OnErr result (side.new.state ≡ side.old.state) }
 {
     side.request(vid, declared)?;
     Ok(StepReply::Taken)
@@ -133,12 +133,12 @@ pub(crate) fn receive_vlans(
     wire: &Wire,
 ) -> Result<StepReply, NoMemory>
     requires now { now.0 < 2 ^ 62 }
-    requires port { IsLinkPort port (length side.old.parts) }
+    requires port { IsLinkPort port (length side.old.state.parts) }
     requires short { IsShort wire.now }
     ensures ok { IfOk result (λ reply.
-        worked_mvrp now (place_of port) (mvrp_reading wire.now.octets) side.old
-        ≡ (side.new, reply)) }
-    ensures err { OnErr result (side.new ≡ side.old) }
+        worked_mvrp now (place_of port) (mvrp_reading wire.now.octets) side.old.state
+        ≡ (side.new.state, reply)) }
+    ensures err { OnErr result (side.new.state ≡ side.old.state) }
 {
     match side.receive(now, port, wire.octets.as_slice()) {
         Ok(events) => Ok(StepReply::Received(events)),
@@ -147,12 +147,41 @@ pub(crate) fn receive_vlans(
     }
 }
 
+// Fires the timers of a port that are due, for which the memory is taken. Answers how many.
+fn fire_vlans(side: &mut MvrpSide, now: Cs, port: PortNo) -> u32
+    requires now { now.0 < 2 ^ 62 }
+    requires port { IsLinkPort port (length side.old.state.parts) }
+    requires ready { side.old.ready ≡ Some (place_of port) }
+    ensures after { side.new.state ≡ due_vlans now (place_of port) side.old.state }
+    ensures count { IfSome (slice_get side.old.state.parts (place_of port))
+        (λ s. result ≡ count_of (due_count now s)) }
+{
+    match side.due(now, port) {
+        Ok(fired) => fired,
+        Err(_) => unreachable!(),
+    }
+}
+
+// Settles the VIDs that await at a port, for which the memory is taken. Answers how many.
+fn settle_vlans(side: &mut MvrpSide, now: Cs, port: PortNo) -> u32
+    requires now { now.0 < 2 ^ 62 }
+    requires port { IsLinkPort port (length side.old.state.parts) }
+    requires ready { side.old.ready ≡ Some (place_of port) }
+    ensures after { side.new.state ≡ settled_vlans (place_of port) side.old.state }
+    ensures count { result ≡ count_of (length (awaiting_at (place_of port) side.old.state)) }
+{
+    match side.settle(now, port) {
+        Ok(settled) => settled,
+        Err(_) => unreachable!(),
+    }
+}
+
 // Ends the leave timer of a VID.
 pub(crate) fn left_vid(side: &mut MvrpSide, port: PortNo, vid: Vid) -> Result<StepReply, NoMemory>
-    requires { IsLinkPort port (length side.old.parts) }
-    ensures ok { IfOk result (λ reply. left_vid_now vid (place_of port) side.old
-        ≡ (side.new, reply)) }
-    ensures err { OnErr result (side.new ≡ side.old) }
+    requires { IsLinkPort port (length side.old.state.parts) }
+    ensures ok { IfOk result (λ reply. left_vid_now vid (place_of port) side.old.state
+        ≡ (side.new.state, reply)) }
+    ensures err { OnErr result (side.new.state ≡ side.old.state) }
 {
     let was = side.leave_now(port, vid)?;
     Ok(StepReply::Fired(u32::from(was)))
@@ -161,8 +190,8 @@ pub(crate) fn left_vid(side: &mut MvrpSide, port: PortNo, vid: Vid) -> Result<St
 // Fires the LeaveAll timer.
 pub(crate) fn leave_all_vlans(side: &mut MvrpSide, now: Cs, port: PortNo) -> StepReply
     requires now { now.0 < 2 ^ 62 }
-    requires port { IsLinkPort port (length side.old.parts) }
-    ensures after { side.new ≡ leave_all_vlans now (place_of port) side.old }
+    requires port { IsLinkPort port (length side.old.state.parts) }
+    ensures after { side.new.state ≡ leave_all_vlans now (place_of port) side.old.state }
     ensures fired { result ≡ StepReply.Fired 1 }
 {
     side.leaveall_now(now, port);
@@ -171,8 +200,8 @@ pub(crate) fn leave_all_vlans(side: &mut MvrpSide, now: Cs, port: PortNo) -> Ste
 
 // Fires the periodic timer.
 pub(crate) fn periodic_vlans(side: &mut MvrpSide, port: PortNo) -> StepReply
-    requires { IsLinkPort port (length side.old.parts) }
-    ensures after { side.new ≡ periodic_vlans (place_of port) side.old }
+    requires { IsLinkPort port (length side.old.state.parts) }
+    ensures after { side.new.state ≡ periodic_vlans (place_of port) side.old.state }
     ensures fired { result ≡ StepReply.Fired 1 }
 {
     side.periodic_now(port);
@@ -187,9 +216,9 @@ pub(crate) fn put_vlans(
     outbox: &mut Vec<Wire>,
 ) -> Result<StepReply, NoMemory>
     requires now { now.0 < 2 ^ 62 }
-    requires port { IsLinkPort port (length side.old.parts) }
-    ensures put { IsSaying App.Mvrp (said_mvrp now (place_of port) side.old) side.old
-        (sent_vlans now (place_of port) side.old) outbox.old.items result side.new outbox.new.items }
+    requires port { IsLinkPort port (length side.old.state.parts) }
+    ensures put { IsSaying App.Mvrp (said_mvrp now (place_of port) side.old.state) side.old.state
+        (sent_vlans now (place_of port) side.old.state) outbox.old.items result side.new.state outbox.new.items }
 {
     outbox.try_reserve(1)?;
     match side.send(now, port)? {
@@ -200,8 +229,8 @@ pub(crate) fn put_vlans(
 
 // Ends the soundness of the participant at a port.
 pub(crate) fn spoil_vlans(side: &mut MvrpSide, port: PortNo)
-    requires { IsLinkPort port (length side.old.parts) }
-    ensures { side.new ≡ spoilt_vlans (place_of port) side.old }
+    requires { IsLinkPort port (length side.old.state.parts) }
+    ensures { side.new.state ≡ spoilt_vlans (place_of port) side.old.state }
 {
     side.spoil(port);
 }

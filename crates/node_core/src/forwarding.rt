@@ -15,7 +15,7 @@ impl Node {
     /// The participant of MVRP at a port.
     pub fn vlan_part(&self, port: PortNo) -> &Participant<MvrpApp>
         requires { IsLinkPort port (ports_of self.now) }
-        ensures { slice_get self.now.vlans.parts (place_of port) ≡ Some result.now }
+        ensures { slice_get self.now.vlans.parts (place_of port) ≡ Some result.now.state }
     {
         self.mvrp.participant(port)
     }
@@ -24,7 +24,7 @@ impl Node {
     pub fn ledger(&self, port: PortNo) -> &Ledger
         requires { IsLinkPort port (ports_of self.now) }
         ensures { IfSome (slice_get self.now.streams.ports (place_of port))
-            (λ p. result.now ≡ p.ledger) }
+            (λ p. result.now.book ≡ p.ledger) }
     {
         self.msrp.ledger(port)
     }

@@ -42,7 +42,7 @@ pub(crate) fn push_keys<A: NodeApp>(
     keys: &mut Vec<NodeKey>,
     part: &Participant<A>,
 ) -> Result<(), NoMemory>
-    ensures { OnOk result (keys.new.items ≡ keys.old.items ++ registered_in A.name part.now) }
+    ensures { OnOk result (keys.new.items ≡ keys.old.items ++ registered_in A.name part.now.state) }
 {
     for i in 0..part.rows() {
         push_key(keys, part, i)?;
@@ -58,7 +58,7 @@ fn push_key<A: NodeApp>(
 ) -> Result<(), NoMemory>
     ensures { OnOk result (keys.new.items
         ≡ keys.old.items
-        ++ option_to_list (option_and_then (registered_key A.name) (slice_get part.now.rows i))) }
+        ++ option_to_list (option_and_then (registered_key A.name) (slice_get part.now.state.rows i))) }
 {
     if let Some(key) = key_at(part, i) {
         keys.push(key)?;
@@ -68,7 +68,7 @@ fn push_key<A: NodeApp>(
 
 // The attribute of the row at a place, where it is registered.
 fn key_at<A: NodeApp>(part: &Participant<A>, i: usize) -> Option<NodeKey>
-    ensures { result ≡ option_and_then (registered_key A.name) (slice_get part.now.rows i) }
+    ensures { result ≡ option_and_then (registered_key A.name) (slice_get part.now.state.rows i) }
 {
     let key = part.key_at(i)?;
     let registrar = part.registrar_at(i)?;

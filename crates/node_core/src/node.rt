@@ -50,7 +50,7 @@ impl Model for Node {
       kind = n.kind;
       bridge = n.bridge;
       clock = n.clock;
-      vlans = n.mvrp;
+      vlans = n.mvrp.state;
       streams = n.msrp;
       inboxes = n.inboxes.items;
       outboxes = n.outboxes.items;
@@ -60,7 +60,7 @@ impl Model for Node {
       kind = n.kind;
       bridge = n.bridge;
       clock = n.clock;
-      vlans = n.mvrp;
+      vlans = n.mvrp.state;
       streams = n.msrp;
       inboxes = n.inboxes.items;
       outboxes = n.outboxes.items;
@@ -117,22 +117,6 @@ impl Node {
         ensures { IsProperNode self.now }
     {
         let _ = &self.mvrp;
-    }
-
-    /// Another node with the same state.
-    pub fn copy(&self) -> Result<Node, NoMemory>
-        ensures { IfOk result (λ node. node ≡ self.now) }
-    {
-        let alloc = *self.inboxes.allocator();
-        Ok(Node {
-            kind: self.kind,
-            bridge: self.bridge,
-            clock: self.clock,
-            mvrp: self.mvrp.copy()?,
-            msrp: self.msrp.copy()?,
-            inboxes: copied_boxes(alloc, self.inboxes.as_slice())?,
-            outboxes: copied_boxes(alloc, self.outboxes.as_slice())?,
-        })
     }
 
     /// The clock, in cs.
@@ -353,16 +337,6 @@ pub(crate) fn copied_wires(alloc: Global, wires: &[Wire]) -> Result<Vec<Wire>, N
     Ok(copies)
 }
 
-fn copied_boxes(alloc: Global, boxes: &[Seq<Wire>]) -> Result<Vec<Seq<Wire>>, NoMemory>
-    ensures { IfOk result (λ v. v.items ≡ boxes.now) }
-{
-    let mut copies = Vec::with_capacity(alloc, boxes.len())?;
-    for wires in boxes {
-        copies.push(Seq::from_vec(copied_wires(alloc, wires.as_slice())?))?;
-    }
-    Ok(copies)
-}
-
 // The PDU of an index.
 fn wire_at(wires: &Seq<Wire>, index: usize) -> Option<&Wire>
     ensures { option_map (λ w. w.now) result ≡ slice_get wires.now index }
@@ -372,7 +346,7 @@ fn wire_at(wires: &Seq<Wire>, index: usize) -> Option<&Wire>
 
 // An entry of a stream in a ledger, where it is booked.
 fn booked_entry(ledger: &Ledger, stream: StreamId) -> Option<Entry>
-    ensures { result ≡ option_and_then if_booked (entry_of ledger.now.entries stream) }
+    ensures { result ≡ option_and_then if_booked (entry_of ledger.now.book.entries stream) }
 {
     ledger.entry(stream).filter(|entry| entry.since.is_some())
 }

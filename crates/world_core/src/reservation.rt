@@ -18,7 +18,7 @@ pub(crate) fn is_said(
     force: Option<&PortChange>,
 ) -> bool
     ensures { result ≡ is_same (said_by (option_map (λ c. c.now) force.entry))
-        (reservation_of part.now ledger.now) }
+        (reservation_of part.now.state ledger.now.book) }
 {
     match force {
         Some(c) => is_said_by(part, ledger, c),
@@ -28,7 +28,7 @@ pub(crate) fn is_said(
 
 // Whether it is what this change says.
 fn is_said_by(part: &Participant<MvrpApp>, ledger: &Ledger, c: &PortChange) -> bool
-    ensures { result ≡ is_same (said_by (Some c.now)) (reservation_of part.now ledger.now) }
+    ensures { result ≡ is_same (said_by (Some c.now)) (reservation_of part.now.state ledger.now.book) }
 {
     books_just(ledger, c.booked.as_slice())
         && u128::from(c.slope_a) == ledger.slope(Class::A)
@@ -38,7 +38,7 @@ fn is_said_by(part: &Participant<MvrpApp>, ledger: &Ledger, c: &PortChange) -> b
 
 // Whether nothing is in force.
 fn has_nothing(part: &Participant<MvrpApp>, ledger: &Ledger) -> bool
-    ensures { result ≡ is_same (said_by None) (reservation_of part.now ledger.now) }
+    ensures { result ≡ is_same (said_by None) (reservation_of part.now.state ledger.now.book) }
 {
     books_just(ledger, &[])
         && ledger.slope(Class::A) == 0
@@ -48,7 +48,7 @@ fn has_nothing(part: &Participant<MvrpApp>, ledger: &Ledger) -> bool
 
 // Whether a ledger has booked just these streams.
 fn books_just(ledger: &Ledger, streams: &[StreamId]) -> bool
-    ensures { result ≡ are_same_streams streams.now (booked_streams ledger.now.entries) }
+    ensures { result ≡ are_same_streams streams.now (booked_streams ledger.now.book.entries) }
 {
     let mut next = 0;
     for i in 0..ledger.len() {
@@ -63,15 +63,15 @@ fn books_just(ledger: &Ledger, streams: &[StreamId]) -> bool
 // The place after one in these streams, once the entry of an index has been compared: the next one where it is booked and
 // of the stream at that place, the same where it isn't booked; else None.
 fn after_entry(ledger: &Ledger, i: usize, streams: &[StreamId], next: usize) -> Option<usize>
-    requires index { i < length ledger.now.entries }
+    requires index { i < length ledger.now.book.entries }
     requires place { next ≤ length streams.now }
     ensures within { IfSome result (λ n. n ≤ length streams.now) }
     ensures same { IfSome result (λ n. are_same_streams (drop next streams.now)
-        (booked_streams (drop i ledger.now.entries))
+        (booked_streams (drop i ledger.now.book.entries))
         ≡ are_same_streams (drop n streams.now)
-        (booked_streams (drop (i + 1) ledger.now.entries))) }
+        (booked_streams (drop (i + 1) ledger.now.book.entries))) }
     ensures other { IfNone result (are_same_streams (drop next streams.now)
-        (booked_streams (drop i ledger.now.entries)) ≡ false) }
+        (booked_streams (drop i ledger.now.book.entries)) ≡ false) }
 {
     let Some(stream) = booked_entry(ledger, i) else {
         return Some(next);
@@ -85,9 +85,9 @@ fn after_entry(ledger: &Ledger, i: usize, streams: &[StreamId], next: usize) -> 
 
 // The stream of the entry of an index, where it is booked.
 fn booked_entry(ledger: &Ledger, i: usize) -> Option<StreamId>
-    requires { i < length ledger.now.entries }
-    ensures { MatchOption result (HoldsAt (λ x. is_booked x ≡ false) ledger.now.entries i)
-        (λ s. HoldsAt (λ x. (is_booked x ≡ true) × (s ≡ x.want.stream)) ledger.now.entries i) }
+    requires { i < length ledger.now.book.entries }
+    ensures { MatchOption result (HoldsAt (λ x. is_booked x ≡ false) ledger.now.book.entries i)
+        (λ s. HoldsAt (λ x. (is_booked x ≡ true) × (s ≡ x.want.stream)) ledger.now.book.entries i) }
 {
     let entry = ledger.entry_at(i)?;
     if entry.since.is_some() {
@@ -99,7 +99,7 @@ fn booked_entry(ledger: &Ledger, i: usize) -> Option<StreamId>
 
 // Whether a participant has registered just these VIDs.
 fn registers_just(part: &Participant<MvrpApp>, vids: &[Vid]) -> bool
-    ensures { result ≡ are_same_vids vids.now (registered_vids part.now.rows) }
+    ensures { result ≡ are_same_vids vids.now (registered_vids part.now.state.rows) }
 {
     let mut next = 0;
     for i in 0..part.rows() {
@@ -113,14 +113,14 @@ fn registers_just(part: &Participant<MvrpApp>, vids: &[Vid]) -> bool
 
 // The place after one in these VIDs, once the row of an index has been compared.
 fn after_row(part: &Participant<MvrpApp>, i: usize, vids: &[Vid], next: usize) -> Option<usize>
-    requires index { i < length part.now.rows }
+    requires index { i < length part.now.state.rows }
     requires place { next ≤ length vids.now }
     ensures within { IfSome result (λ n. n ≤ length vids.now) }
     ensures same { IfSome result (λ n. are_same_vids (drop next vids.now)
-        (registered_vids (drop i part.now.rows))
-        ≡ are_same_vids (drop n vids.now) (registered_vids (drop (i + 1) part.now.rows))) }
+        (registered_vids (drop i part.now.state.rows))
+        ≡ are_same_vids (drop n vids.now) (registered_vids (drop (i + 1) part.now.state.rows))) }
     ensures other { IfNone result (are_same_vids (drop next vids.now)
-        (registered_vids (drop i part.now.rows)) ≡ false) }
+        (registered_vids (drop i part.now.state.rows)) ≡ false) }
 {
     let Some(vid) = registered_row(part, i) else {
         return Some(next);
@@ -134,9 +134,9 @@ fn after_row(part: &Participant<MvrpApp>, i: usize, vids: &[Vid], next: usize) -
 
 // The VID of the row of an index, where it is registered.
 fn registered_row(part: &Participant<MvrpApp>, i: usize) -> Option<Vid>
-    requires { i < length part.now.rows }
-    ensures { MatchOption result (HoldsAt (λ r. is_registered_row r ≡ false) part.now.rows i)
-        (λ v. HoldsAt (λ r. (is_registered_row r ≡ true) × (v ≡ r.key)) part.now.rows i) }
+    requires { i < length part.now.state.rows }
+    ensures { MatchOption result (HoldsAt (λ r. is_registered_row r ≡ false) part.now.state.rows i)
+        (λ v. HoldsAt (λ r. (is_registered_row r ≡ true) × (v ≡ r.key)) part.now.state.rows i) }
 {
     let vid = part.key_at(i)?;
     if part.registrar_at(i)?.is_registered() {
@@ -154,7 +154,7 @@ pub(crate) fn new_change(
     part: &Participant<MvrpApp>,
     ledger: &Ledger,
 ) -> Result<PortChange, NoMemory>
-    ensures { IfOk result (λ c. c ≡ change_of tick at (reservation_of part.now ledger.now)) }
+    ensures { IfOk result (λ c. c ≡ change_of tick at (reservation_of part.now.state ledger.now.book)) }
 {
     ledger.within_caps();
     let booked = streams_of(alloc, ledger)?;
@@ -171,7 +171,7 @@ pub(crate) fn new_change(
 
 // The streams that a ledger has booked, ascending.
 fn streams_of(alloc: Global, ledger: &Ledger) -> Result<Seq<StreamId>, NoMemory>
-    ensures { IfOk result (λ s. s ≡ booked_streams ledger.now.entries) }
+    ensures { IfOk result (λ s. s ≡ booked_streams ledger.now.book.entries) }
 {
     let bookings = ledger.bookings()?;
     Ok(Seq::from_vec(streams_in(alloc, bookings.as_slice())?))
@@ -186,7 +186,7 @@ fn streams_in(alloc: Global, entries: &[Entry]) -> Result<Vec<StreamId>, NoMemor
 
 // The VIDs that a participant has registered, ascending.
 fn vids_of(alloc: Global, part: &Participant<MvrpApp>) -> Result<Seq<Vid>, NoMemory>
-    ensures { IfOk result (λ v. v ≡ registered_vids part.now.rows) }
+    ensures { IfOk result (λ v. v ≡ registered_vids part.now.state.rows) }
 {
     let mut vids = Vec::new(alloc);
     for i in 0..part.rows() {

@@ -5,4 +5,4 @@ use Rattle.world_core.proofs.reservation.books_just.Given as goal
 abbrev pub invariant-loop-i : goal.invariant-loop-i
 invariant-loop-i l =
     (l.next ≤ length l.streams)
-    × (are_same_streams l.streams (booked_streams l.ledger.entries) ≡ are_same_streams (drop l.next l.streams) (booked_streams (drop l.i l.ledger.entries)))
+    × (are_same_streams l.streams (booked_streams l.ledger.book.entries) ≡ are_same_streams (drop l.next l.streams) (booked_streams (drop l.i l.ledger.book.entries)))

@@ -7,7 +7,7 @@ use Rattle.world_core.proofs.reservation.vids_of.Goals.{in-Some+in_ok-push, in_d
 
 pub loop-i-preserved : goal.loop-i-preserved
 loop-i-preserved c =
-    let rows = c.args.part.now.rows in
+    let rows = c.args.part.now.state.rows in
     let i = c.loop-i.i in
     elim c.match-registered_row.branch [
       | in-Some+in_ok-push w ↦ rw w.vids-is (rw w.in_ok-push.ensures.items

@@ -3,4 +3,4 @@ use Rattle.world_core.specs.Reservation.{registered_vids}
 use Rattle.world_core.proofs.reservation.vids_of.Given as goal
 
 abbrev pub invariant-loop-i : goal.invariant-loop-i
-invariant-loop-i l = l.vids.items ++ registered_vids (drop l.i l.part.rows) ≡ registered_vids l.part.rows
+invariant-loop-i l = l.vids.items ++ registered_vids (drop l.i l.part.state.rows) ≡ registered_vids l.part.state.rows
