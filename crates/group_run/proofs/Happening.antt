@@ -19,6 +19,7 @@ use Rattle.topology_file.specs.declared.entries.LinkEntry.{LinkEntry}
 use Rattle.topology_file.specs.Entries.{joins_both}
 use Rattle.topology_file.specs.Kinds.{IsStationNumber}
 use Rattle.topology_file.specs.Scenario.{node_kinds, tree_links}
+use Rattle.report_words.specs.Ports.{link_ports}
 use Rattle.group_file.specs.declared.entries.GroupEntry.{GroupEntry}
 use Rattle.group_file.specs.declared.entries.GroupKind.{GroupKind}
 use Rattle.group_file.specs.declared.entries.GroupKind.TheVariants as kinds
@@ -31,7 +32,7 @@ use Rattle.mmrp.specs.declared.events.GroupStep.{GroupStep}
 use Rattle.mmrp.specs.declared.events.GroupStep.TheVariants.{Work, Due, Settle, Send}
 use Rattle.mmrp.specs.Net.{NetGroups, CanHappen, IsStation, group_step, inbox, is_busy_at}
 use Rattle.group_run.specs.Allowed.{AreAllowed, IsAllowed, IsInTick, NamesNeighbours}
-use Rattle.group_run.specs.Ticks.{busy_steps, carries, each_makes, event_of, is_sending_time, link_ports, net_steps, node_ports, node_steps, port_at, script_at, works_at}
+use Rattle.group_run.specs.Ticks.{busy_steps, carries, each_makes, event_of, is_sending_time, net_steps, node_ports, node_steps, port_at, script_at, works_at}
 
 -- ---- within a tick
 

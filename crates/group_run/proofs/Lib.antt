@@ -1,3 +1,2 @@
 pub mod Happening
 pub mod Listed
-pub mod Counting

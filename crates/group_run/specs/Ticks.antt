@@ -8,6 +8,7 @@ use Rattle.srp_base.specs.declared.numbers.EgressPort.{EgressPort}
 use Rattle.tree_topology.specs.declared.graph.Link.{Link}
 use Rattle.tree_topology.specs.Topology.{Topology}
 use Rattle.tree_topology.specs.Ports.{neighbours, port_to}
+use Rattle.report_words.specs.Ports.{link_ports}
 use Rattle.group_file.specs.declared.entries.GroupKind.{GroupKind}
 use Rattle.group_file.specs.declared.entries.GroupKind.TheVariants as kinds
 use Rattle.group_file.specs.Plan.{GroupPlan}
@@ -75,11 +76,7 @@ net_steps w = flat_map (λ x. node_steps w (record { 0 = x })) (range_with_len 1
 
 -- ---- the end of a tick
 
--- the ports of all links, link by link, end `a` first
-abbrev pub link_ports : Topology → List EgressPort
-link_ports tree = flat_map (λ l. port_to tree.links l.a.0 l.b.0 ∷ port_to tree.links l.b.0 l.a.0 ∷ []) tree.links
-
--- the PDUs of every port are carried to its peer
+-- the PDUs of every port are carried to its peer, link by link, those of end `a` first
 abbrev pub carries : Topology → List GroupEvent
 carries tree = map events.Carry (link_ports tree)
 

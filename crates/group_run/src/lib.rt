@@ -13,8 +13,9 @@
 //! A tick's steps are a list that is made before the first of them: a step of a port changes its own node alone, so what each
 //! node has to do is known when the script has ended. That each event may happen is a law of its own (`laws`).
 //!
-//! `group_text` is what the program prints of a run (`specs/Text.antt`), a line for each fact (`specs/Lines.antt`); what a port
-//! sent is counted over the answers of its own steps (`specs/Counts.antt`).
+//! `group_text` is what the program prints of a run (`specs/Text.antt`), a line for each fact: that of a group
+//! (`specs/Lines.antt`), and those that every report has (`report_words`); what a port sent is counted over the answers of its
+//! own steps (`specs/Counts.antt`).
 //!
 //! A further kind of event is a case of `event_of`, of `step_port` and of `IsAllowed`, with its arm in `src/script.rt`; a further
 //! line of a port is a piece of `port_part` with its writer in `src/lines.rt`.
@@ -29,5 +30,4 @@ mod tally;
 mod text;
 
 pub use run::{GroupRun, run_groups};
-pub use tally::Tally;
 pub use text::group_text;

@@ -1,12 +1,12 @@
 //! The steps of all nodes in one tick, and what is carried at its end.
 
 ghost use Rattle.std.specs.Prelude.{◌≡◌, ◌++◌, flat_map, IfOk, OnOk};
-ghost use Rattle.std.specs.List.{AllByRecursion};
 ghost use Rattle.tree_topology.specs.Topology.{HasNode, HasPort};
-ghost use Rattle.group_run.specs.Ticks.{busy_steps, carries, each_makes, is_sending_time as is_sending_time_spec, link_ports, net_steps, node_ports, node_steps, port_at, works_at};
+ghost use Rattle.group_run.specs.Ticks.{busy_steps, carries, each_makes, is_sending_time as is_sending_time_spec, net_steps, node_ports, node_steps, port_at, works_at};
 
 use mmrp::{GroupEvent, GroupNet, GroupStep};
-use srp_base::{Cs, EgressPort, LinkNo, NoMemory, NodeNo, PortNo};
+use report_words::ports_of_links;
+use srp_base::{Cs, EgressPort, NoMemory, NodeNo, PortNo};
 use std::alloc::Global;
 use tree_topology::Tree;
 
@@ -120,19 +120,4 @@ pub(crate) fn carries_of(alloc: Global, tree: &Tree) -> Result<Vec<GroupEvent>, 
         carried.push(GroupEvent::Carry(*port))?;
     }
     Ok(carried)
-}
-
-/// The ports of all links, link by link, end `a` first.
-pub(crate) fn ports_of_links(alloc: Global, tree: &Tree) -> Result<Vec<EgressPort>, NoMemory>
-    ensures ports { IfOk result (λ v. v.items ≡ link_ports tree.now) }
-    ensures known { IfOk result (λ v. AllByRecursion (HasPort tree.now) v.items) }
-{
-    tree.keeps();
-    let mut ports = Vec::new(alloc);
-    for i in 0..tree.links() {
-        let (a, b) = tree.ends(LinkNo(i + 1));
-        ports.push(a)?;
-        ports.push(b)?;
-    }
-    Ok(ports)
 }

@@ -5,12 +5,12 @@ ghost use Rattle.std.specs.List.{AllByRecursion};
 ghost use Rattle.tree_topology.specs.Topology.{HasPort};
 ghost use Rattle.group_run.specs.Text.{group_at, group_text as group_text_spec, port_part, port_parts};
 
-use crate::lines::{put_end, put_group, put_port_name, put_tally, put_ticks};
+use crate::lines::put_group;
 use crate::run::GroupRun;
-use crate::steps::ports_of_links;
-use crate::tally::Tally;
+use crate::tally::tally_of;
 use group_file::GroupScenario;
 use mmrp::GroupNet;
+use report_words::{port_name, ports_of_links, put_end, put_tally, put_ticks};
 use srp_base::{EgressPort, Mac, NoMemory};
 use std::alloc::Global;
 
@@ -68,9 +68,9 @@ fn put_port(
     requires { HasPort run.now.net.tree at }
     ensures { OnOk result (out.new.items ≡ out.old.items ++ port_part scenario.now run.now at) }
 {
-    let mut port = Vec::new(*out.allocator());
-    put_port_name(&mut port, scenario.nodes.as_slice(), run.net.tree(), at)?;
-    put_tally(out, port.as_slice(), Tally::of(run.replies.as_slice(), at))?;
+    let alloc = *out.allocator();
+    let port = port_name(alloc, scenario.nodes.as_slice(), run.net.tree(), at)?;
+    put_tally(out, port.as_slice(), tally_of(run.replies.as_slice(), at))?;
     let macs = run.net.groups(at)?;
     put_groups(out, port.as_slice(), &run.net, at, macs.as_slice())
 }

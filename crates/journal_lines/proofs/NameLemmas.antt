@@ -18,7 +18,7 @@ use Rattle.topology_file.specs.declared.entries.NodeEntry.{NodeEntry}
 use Rattle.topology_file.specs.Entries.{is_name_char}
 use Rattle.topology_file.specs.Plan.{Plan}
 use Rattle.topology_file.specs.Scenario.{KeepsRules, node_kinds}
-use Rattle.journal_lines.specs.Names.{name_of, port_name}
+use Rattle.report_words.specs.Names.{name_of, port_name}
 
 -- ---- texts without a certain octet
 
@@ -121,7 +121,7 @@ module _ (plan : Plan) (rules : KeepsRules plan) where
         (has.0.0, omega (arith, last, many))
 
     -- no name of a port has a line feed
-    pub port_plain : (p : EgressPort) → HasPort plan.tree p → Lacks 10 (port_name plan plan.tree.links p)
+    pub port_plain : (p : EgressPort) → HasPort plan.tree p → Lacks 10 (port_name plan.nodes plan.tree.links p)
     port_plain p has =
         let k = own_known p has in
         let l = peer_known p has in
@@ -136,14 +136,14 @@ module _ (plan : Plan) (rules : KeepsRules plan) where
 
     -- ports of one node with one name are one, whatever follows a space behind the name
     pub ports_tell : (p q : EgressPort) (a b : List ℕ) → HasPort plan.tree p → HasPort plan.tree q → p.node ≡ q.node
-        → port_name plan plan.tree.links p ++ 32 ∷ a ≡ port_name plan plan.tree.links q ++ 32 ∷ b → p ≡ q
+        → port_name plan.nodes plan.tree.links p ++ 32 ∷ a ≡ port_name plan.nodes plan.tree.links q ++ 32 ∷ b → p ≡ q
     ports_tell p q a b has has' same e =
         let links : List Link = plan.tree.links in
         let far : List ℕ = name_of plan.nodes (peer_of links p).node in
         let far' : List ℕ = name_of plan.nodes (peer_of links q).node in
         let near : List ℕ = name_of plan.nodes p.node in
-        let left : port_name plan links p ++ 32 ∷ a ≡ near ++ (62 ∷ (far ++ 32 ∷ a)) = spelled near far (32 ∷ a) in
-        let right : port_name plan links q ++ 32 ∷ b ≡ near ++ (62 ∷ (far' ++ 32 ∷ b)) =
+        let left : port_name plan.nodes links p ++ 32 ∷ a ≡ near ++ (62 ∷ (far ++ 32 ∷ a)) = spelled near far (32 ∷ a) in
+        let right : port_name plan.nodes links q ++ 32 ∷ b ≡ near ++ (62 ∷ (far' ++ 32 ∷ b)) =
         spelled (name_of plan.nodes q.node) far' (32 ∷ b) ∙ ap (λ (n : NodeNo). name_of plan.nodes n ++ (62 ∷ (far' ++ 32 ∷ b))) (sym same)
         in
         let behind : 62 ∷ (far ++ 32 ∷ a) ≡ 62 ∷ (far' ++ 32 ∷ b) = behind_same near _ _ (sym left ∙ (e ∙ right)) in

@@ -12,7 +12,7 @@ use Rattle.node_core.specs.declared.types.PortStep.{PortStep}
 use Rattle.node_core.specs.declared.types.PortStep.TheVariants.{Work, LeaveNow, LeaveAllNow, PeriodicNow, Due, Settle, Send}
 use Rattle.node_core.specs.declared.types.StepReply.{StepReply}
 use Rattle.node_core.specs.declared.types.StepReply.TheVariants.{Nothing, Discarded, Received, Fired, Settled, Silent, Sent, Taken}
-use Rattle.journal_lines.specs.Names.{port_name}
+use Rattle.report_words.specs.Names.{port_name}
 
 -- ---- the words
 
@@ -68,7 +68,7 @@ step_line t port st = place_text t port ++ made_text st
 
 -- a step of a node
 abbrev pub line_at : Plan → ℕ → NodeNo → NodeStep → List ℕ
-line_at plan t node st = step_line t (port_name plan plan.tree.links (record { node = node; port = st.port })) st
+line_at plan t node st = step_line t (port_name plan.nodes plan.tree.links (record { node = node; port = st.port })) st
 
 -- a text is one line: it ends with its only line feed
 pub record IsLine (text : List ℕ) : Type 0 where

@@ -7,8 +7,8 @@ ghost use Rattle.srp_base.specs.declared.numbers.NodeNo.{NodeNo};
 ghost use Rattle.tree_topology.specs.Topology.{HasPort};
 ghost use Rattle.topology_file.specs.Plan.{Plan};
 ghost use Rattle.topology_file.specs.Scenario.{KeepsRules};
+ghost use Rattle.report_words.specs.Names.{port_name};
 ghost use Rattle.node_core.specs.declared.types.NodeStep.{NodeStep};
-ghost use Rattle.journal_lines.specs.Names.{port_name};
 ghost use Rattle.journal_lines.specs.Lines.{event_line, place_text, line_at, IsLine};
 
 use tree_topology::laws::ports;
@@ -18,8 +18,8 @@ use tree_topology::laws::ports;
 pub fn a_line_tells_its_port()
     ensures { (plan : Plan) (t : ℕ) (p q : EgressPort) (a b : List ℕ) → KeepsRules plan
         → HasPort plan.tree p → HasPort plan.tree q → p.node ≡ q.node
-        → place_text t (port_name plan plan.tree.links p) ++ a
-        ≡ place_text t (port_name plan plan.tree.links q) ++ b → p ≡ q }
+        → place_text t (port_name plan.nodes plan.tree.links p) ++ a
+        ≡ place_text t (port_name plan.nodes plan.tree.links q) ++ b → p ≡ q }
 {
     ports();
 }

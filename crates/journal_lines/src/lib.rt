@@ -1,4 +1,4 @@
-//! The lines of a run's journal: the names of nodes and ports, and what is printed of one event and of one step.
+//! The lines of a run's journal: what is printed of one event and of one step.
 //!
 //! ```text
 //!   0 event 1 done                               in tick 0: an event of the file, by its number
@@ -8,17 +8,15 @@
 //!   tick
 //! ```
 //!
-//! Each line is a definition (`specs/Lines.antt`) and a function that puts it at the end of a text. A port is printed by the names
-//! of its node and of its peer's (`specs/Names.antt`). Names have neither a space nor `>` in them, and two nodes have two names,
-//! so that a line says at its beginning of which port it is (law `a_line_tells_its_port`): who prints a journal and who reads one
-//! rest on the same words.
+//! Each line is a definition (`specs/Lines.antt`) and a function that puts it at the end of a text. A port is printed by the
+//! names of its node and of its peer's, as in every report (`report_words`). Names have neither a space nor `>` in them, and
+//! two nodes have two names, so that a line says at its beginning of which port it is (law `a_line_tells_its_port`): who prints
+//! a journal and who reads one rest on the same words.
 //!
 //! A further step or answer is a case of `step_name` or `reply_name` with its arm in `lines.rt`.
 #![tactic(auto)]
 
 pub mod laws;
 mod lines;
-mod names;
 
-pub use lines::{put, put_event, put_number, put_place, put_step};
-pub use names::{node_name, port_name, put_port_name};
+pub use lines::{put_event, put_place, put_step};

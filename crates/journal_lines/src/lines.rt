@@ -2,30 +2,14 @@
 
 ghost use Rattle.std.specs.Prelude.{◌≡◌, ◌++◌, OnOk};
 ghost use Rattle.std.specs.Fmt.{decimal};
-ghost use Rattle.journal_lines.specs.Names.{port_name};
+ghost use Rattle.report_words.specs.Names.{port_name};
 ghost use Rattle.journal_lines.specs.Lines.{app_name as app_name_spec, step_name, reply_name, event_name as event_name_spec, event_line, place_text, made_text, line_at};
 
-use crate::names::put_port_name;
-use itoa::Buffer;
 use node_core::{NodeStep, PortStep, StepReply};
+use report_words::{put, put_number, put_port_name};
 use srp_base::{App, EgressPort, NodeNo};
 use std::alloc::AllocError;
 use topology_file::Scenario;
-
-/// Puts a text at the end.
-pub fn put(out: &mut Vec<u8>, text: &str) -> Result<(), AllocError>
-    ensures { OnOk result (out.new.items ≡ out.old.items ++ text.now) }
-{
-    out.extend_from_slice(text.as_bytes())
-}
-
-/// Puts a number at the end, in decimal.
-pub fn put_number(out: &mut Vec<u8>, number: u64) -> Result<(), AllocError>
-    ensures { OnOk result (out.new.items ≡ out.old.items ++ decimal number) }
-{
-    let mut digits = Buffer::new();
-    out.extend_from_slice(digits.format(number).as_bytes())
-}
 
 /// Puts down the line of a scripted event: its tick, the number of its entry, and `missed` or `done`.
 pub fn put_event(out: &mut Vec<u8>, t: u64, entry: u32, missed: bool) -> Result<(), AllocError>
@@ -71,11 +55,11 @@ pub fn put_place(
     at: EgressPort,
 ) -> Result<(), AllocError>
     ensures { OnOk result (out.new.items
-        ≡ out.old.items ++ place_text t (port_name scenario.now scenario.now.tree.links at)) }
+        ≡ out.old.items ++ place_text t (port_name scenario.now.nodes scenario.now.tree.links at)) }
 {
     put_number(out, t)?;
     put(out, " ")?;
-    put_port_name(out, scenario, &scenario.tree, at)?;
+    put_port_name(out, scenario.nodes.as_slice(), &scenario.tree, at)?;
     put(out, " ")
 }
 

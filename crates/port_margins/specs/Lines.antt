@@ -4,7 +4,7 @@ use Rattle.std.specs.Fmt.{decimal}
 use Rattle.srp_base.specs.Hexadecimal.{hex16_text}
 use Rattle.srp_base.specs.Text.{whole_of}
 use Rattle.stream_importance.specs.declared.entry.Want.{Want}
-use Rattle.srp_report.specs.Lines.{class_name, yes_or_no}
+use Rattle.report_words.specs.Words.{class_name, yes_or_no}
 use Rattle.port_margins.specs.declared.cbs.Cbs.{Cbs}
 
 -- how the line of some classes at a port begins: `margin P A`, `cbs P A`

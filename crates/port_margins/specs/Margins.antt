@@ -21,8 +21,8 @@ use Rattle.attribute_propagation.specs.Ports.{place_of}
 use Rattle.node_core.specs.State.{NodeState, content_at, fit_of, slope_at}
 use Rattle.scenario_bounds.specs.Caps.{caps_of_link, link_at}
 use Rattle.world_core.specs.World.{WorldState, node_at}
-use Rattle.world_core.specs.Ticks.{link_ports}
-use Rattle.journal_lines.specs.Names.{port_name}
+use Rattle.report_words.specs.Names.{port_name}
+use Rattle.report_words.specs.Ports.{link_ports}
 use Rattle.port_margins.specs.Cbs.{cbs_of}
 use Rattle.port_margins.specs.Lines.{margin_line, refused_line, cbs_line}
 
@@ -83,7 +83,7 @@ place_lines port link streams at s =
 -- those of a port that is on a link
 abbrev pub lines_on_link : Plan → WorldState → EgressPort → LinkEntry → List ℕ
 lines_on_link plan w p link =
-    option_map_or (place_lines (port_name plan w.tree.links p) link plan.streams (place_of p.port)) (node_at p.node w) []
+    option_map_or (place_lines (port_name plan.nodes w.tree.links p) link plan.streams (place_of p.port)) (node_at p.node w) []
 
 -- those of a port
 abbrev pub port_lines : Plan → WorldState → EgressPort → List ℕ

@@ -1,20 +1,12 @@
 //! The lines of a port's margins. Each is put at the end of a text.
 
 ghost use Rattle.std.specs.Prelude.{◌≡◌, ◌++◌, OnOk};
-ghost use Rattle.srp_report.specs.Lines.{class_name as class_name_spec, yes_or_no as yes_or_no_spec};
 ghost use Rattle.port_margins.specs.Lines.{line_start, margin_end, margin_line, refused_start, refused_end, refused_line, cbs_slopes, cbs_credits, cbs_end, cbs_line, shortfall};
 
 use crate::cbs::Cbs;
-use srp_base::Class;
+use report_words::{class_name, put, yes_or_no};
 use std::alloc::AllocError;
 use stream_importance::Want;
-
-// Puts a text at the end.
-fn put(out: &mut Vec<u8>, text: &str) -> Result<(), AllocError>
-    ensures { OnOk result (out.new.items ≡ out.old.items ++ text.now) }
-{
-    out.extend_from_slice(text.as_bytes())
-}
 
 // How the line of some classes at a port begins.
 fn put_start(out: &mut Vec<u8>, word: &str, port: &[u8], classes: &str) -> Result<(), AllocError>
@@ -50,23 +42,6 @@ pub(crate) fn put_margin(
 {
     put_start(out, "margin ", port, classes)?;
     put_margin_end(out, booked, cap)
-}
-
-// An SR class by its letter.
-fn class_name(class: Class) -> &'static str
-    ensures { result.now ≡ class_name_spec class }
-{
-    match class {
-        Class::A => "A",
-        Class::B => "B",
-    }
-}
-
-// What a test says, as a word.
-fn yes_or_no(test: bool) -> &'static str
-    ensures { result.now ≡ yes_or_no_spec test }
-{
-    if test { "yes" } else { "no" }
 }
 
 // Which stream a port refuses.

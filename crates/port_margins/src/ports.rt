@@ -9,20 +9,18 @@ ghost use Rattle.class_b_bound.specs.Bound.{AreCaps};
 ghost use Rattle.node_core.specs.State.{ports_of, slope_at};
 ghost use Rattle.scenario_bounds.specs.Caps.{caps_of_link};
 ghost use Rattle.world_core.specs.Limits.{booked_at_port, IsWithinCaps, IsWithinLimits};
-ghost use Rattle.world_core.specs.Ticks.{link_ports};
 ghost use Rattle.port_margins.specs.Margins.{lines_on_link, margin_lines, margins_text as margins_text_spec, place_lines, port_lines};
 
 use crate::lines::put_margin;
 use crate::refused::put_refusals;
 use crate::shapers::put_shapers;
-use journal_lines::port_name;
 use node_core::Node;
+use report_words::{port_name, ports_of_links};
 use scenario_bounds::link_at;
-use srp_base::{Class, EgressPort, LinkNo, NoMemory, PortNo};
+use srp_base::{Class, EgressPort, NoMemory, PortNo};
 use std::alloc::{AllocError, Global};
 use stream_importance::Caps;
 use topology_file::{LinkEntry, Scenario};
-use tree_topology::Tree;
 use world_core::World;
 
 /// What the ports of a scenario's network have left, link by link, end `a` first: what class A and both classes have booked, their
@@ -40,21 +38,6 @@ pub fn margins_text(alloc: Global, scenario: &Scenario, world: &World) -> Result
     let ports = ports_of_links(alloc, world.tree())?;
     put_each(&mut out, scenario, world, ports.as_slice())?;
     Ok(out)
-}
-
-// The ports of all links, link by link, end `a` first.
-fn ports_of_links(alloc: Global, tree: &Tree) -> Result<Vec<EgressPort>, NoMemory>
-    ensures ports { IfOk result (λ v. v.items ≡ link_ports tree.now) }
-    ensures known { IfOk result (λ v. AllByRecursion (HasPort tree.now) v.items) }
-{
-    tree.keeps();
-    let mut ports = Vec::new(alloc);
-    for i in 0..tree.links() {
-        let (a, b) = tree.ends(LinkNo(i + 1));
-        ports.push(a)?;
-        ports.push(b)?;
-    }
-    Ok(ports)
 }
 
 // The lines of these ports.
@@ -113,7 +96,8 @@ fn put_on_link(
 {
     world.keeps();
     let alloc = *out.allocator();
-    let port = port_name(alloc, scenario, world.tree(), at)?;
+    let nodes = scenario.nodes.as_slice();
+    let port = port_name(alloc, nodes, world.tree(), at)?;
     let node = world.node(at.node);
     put_place(out, port.as_slice(), link, scenario, node, at.port)?;
     Ok(())

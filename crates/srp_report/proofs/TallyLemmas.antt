@@ -1,19 +1,20 @@
 -- The tallies that are kept while the journal is read are the counts over each port's answers.
-use Rattle.std.proofs.Common.{◌≡◌, ◌≢◌, ℕ, zero, suc, ◌+◌, ◌<◌, ◌≤◌, Bool, true, false, List, [], ◌∷◌, ◌++◌, length, refl, sym, ap, subst, ◌∙◌, arith}
-use Rattle.std.specs.Prelude.{◌-◌, ◌^◌, ◌==◌, if◌then◌else◌, min, fold, filter, sum, replicate, slice_get, slice_set, Option, Some, None, option_map}
+use Rattle.std.proofs.Common.{◌≡◌, ◌≢◌, ℕ, zero, suc, ◌+◌, ◌<◌, ◌≤◌, Bool, true, false, List, [], ◌∷◌, ◌++◌, refl, sym, ap, subst, ◌∙◌, arith}
+use Rattle.std.specs.Prelude.{◌==◌, if◌then◌else◌, fold, replicate, slice_get, slice_set, Option, Some, None, option_map}
 use Rattle.std.specs.Option.{option_map_or, option_and_then}
 use Rattle.std.proofs.lemmas.Bool.{eqb-true, eqb-false}
-use Rattle.std.proofs.lemmas.List.Sums.{fold-append, sum_by-cons}
+use Rattle.std.proofs.lemmas.List.Sums.{fold-append}
 use Rattle.srp_base.specs.declared.numbers.PortNo.{PortNo}
 use Rattle.srp_base.specs.declared.numbers.EgressPort.{EgressPort}
 use Rattle.node_core.specs.declared.types.NodeStep.{NodeStep}
 use Rattle.node_core.specs.declared.types.StepReply.{StepReply}
-use Rattle.node_core.specs.declared.types.StepReply.TheVariants.{Nothing, Discarded, Received, Fired, Settled, Silent, Sent, Taken}
 use Rattle.world_core.specs.declared.journal.NodeSteps.{NodeSteps}
 use Rattle.world_core.specs.declared.journal.Tick.{Tick}
-use Rattle.srp_report.specs.declared.tally.Tally.{Tally}
-use Rattle.srp_report.specs.Counts.{replies_at, replies_in, replies_of, sizes_sent, is_discarded, count_of, tally_of}
-use Rattle.srp_report.specs.Tallies.{zero_tally, zero_row, zero_rows, with_reply, step_counted, steps_counted, node_counted, nodes_counted, ticks_counted, tally_at}
+use Rattle.report_words.specs.declared.tally.Tally.{Tally}
+use Rattle.report_words.specs.Tally.{zero_tally}
+use Rattle.report_words.proofs.Counting.{all-counted}
+use Rattle.srp_report.specs.Counts.{replies_at, replies_in, replies_of, octets_sent, is_discarded, tally_of}
+use Rattle.srp_report.specs.Tallies.{zero_row, zero_rows, with_reply, step_counted, steps_counted, node_counted, nodes_counted, ticks_counted, tally_at}
 
 -- ---- one place of a list becomes what is made of it
 
@@ -142,57 +143,6 @@ ticks-place p (tick ∷ ticks) rows =
     ∙ (ap (λ o. option_map (λ t. fold with_reply t (replies_of p ticks)) o) (nodes-place p tick.steps rows)
     ∙ more (replies_in p tick.steps) (replies_of p ticks) (tally_at p rows))
 
--- ---- what is counted one by one is the counts of all
-
-abbrev tally_with : ℕ → ℕ → ℕ → Tally
-tally_with sent octets discarded = record { sent = sent; octets = octets; discarded = discarded }
-
-abbrev tally : ℕ → ℕ → ℕ → Tally
-tally a b c = tally_with (count_of a) (count_of b) (count_of c)
-
-abbrev tally_after : ℕ → ℕ → ℕ → List StepReply → Tally
-tally_after a b c replies =
-    tally (a + length (sizes_sent replies)) (b + sum (sizes_sent replies)) (c + length (filter is_discarded replies))
-
--- a count that stands still at m goes on alike
-stands : (m a k : ℕ) → min (min a m + k) m ≡ min (a + k) m
-stands m a k = omega arith
-
-same-counts : (a a' b b' c c' : ℕ) → a ≡ a' → b ≡ b' → c ≡ c' → tally a b c ≡ tally a' b' c'
-same-counts a a' b b' c c' ea eb ec = ap (λ x. tally x b c) ea ∙ (ap (λ x. tally a' x c) eb ∙ ap (λ x. tally a' b' x) ec)
-
-sent-once : (a b c k : ℕ) → with_reply (tally a b c) (Sent k) ≡ tally (a + 1) (b + k) c
-sent-once a b c k =
-    ap (λ x. tally_with x (count_of (count_of b + k)) (count_of c)) (stands (2 ^ 64 - 1) a 1)
-    ∙ ap (λ x. tally_with (count_of (a + 1)) x (count_of c)) (stands (2 ^ 64 - 1) b k)
-
-discarded-once : (a b c place : ℕ) → with_reply (tally a b c) (Discarded place) ≡ tally a b (c + 1)
-discarded-once a b c place = ap (λ x. tally_with (count_of a) (count_of b) x) (stands (2 ^ 64 - 1) c 1)
-
-counts : (a b c : ℕ) (replies : List StepReply) → fold with_reply (tally a b c) replies ≡ tally_after a b c replies
-counts a b c [] = same-counts a (a + 0) b (b + 0) c (c + 0) (omega arith) (omega arith) (omega arith)
-counts a b c (Nothing ∷ replies) = counts a b c replies
-counts a b c (Received n ∷ replies) = counts a b c replies
-counts a b c (Fired n ∷ replies) = counts a b c replies
-counts a b c (Settled n ∷ replies) = counts a b c replies
-counts a b c (Silent ∷ replies) = counts a b c replies
-counts a b c (Taken ∷ replies) = counts a b c replies
-counts a b c (Sent k ∷ replies) =
-    let many = length (sizes_sent replies) in
-    let all = sum (sizes_sent replies) in
-    let lost = length (filter is_discarded replies) in
-    ap (λ t. fold with_reply t replies) (sent-once a b c k)
-    ∙ (counts (a + 1) (b + k) c replies
-    ∙ same-counts (a + 1 + many) (a + (suc many)) (b + k + all) (b + sum (k ∷ sizes_sent replies)) (c + lost) (c + lost)
-    (omega arith) (omega (arith, sum_by-cons (λ (x : ℕ). x) k (sizes_sent replies))) refl)
-counts a b c (Discarded place ∷ replies) =
-    let many = length (sizes_sent replies) in
-    let all = sum (sizes_sent replies) in
-    let lost = length (filter is_discarded replies) in
-    ap (λ t. fold with_reply t replies) (discarded-once a b c place)
-    ∙ (counts a b (c + 1) replies
-    ∙ same-counts (a + many) (a + many) (b + all) (b + all) (c + 1 + lost) (c + (suc lost)) refl refl (omega arith))
-
 -- ---- from nothing
 
 get-replicate : {X : Type 0} (n i : ℕ) (x : X) → i < n → slice_get (replicate n x) i ≡ Some x
@@ -200,17 +150,13 @@ get-replicate zero i x h = absurd (omega (arith, h))
 get-replicate (suc n) zero x h = refl
 get-replicate (suc n) (suc i) x h = let lt : i < n = omega (arith, h) in get-replicate n i x lt
 
-pub all-counted : (last : ℕ) (ticks : List Tick) (p : EgressPort) → p.node.0 ≤ last → p.port.0 < 256
+pub tallies-counted : (last : ℕ) (ticks : List Tick) (p : EgressPort) → p.node.0 ≤ last → p.port.0 < 256
     → tally_at p (ticks_counted (zero_rows last) ticks) ≡ Some (tally_of (replies_of p ticks))
-all-counted last ticks p few port =
+tallies-counted last ticks p few port =
     let some : p.node.0 < last + 1 = omega (arith, few) in
-    let replies = replies_of p ticks in
-    let many = length (sizes_sent replies) in
-    let all = sum (sizes_sent replies) in
-    let lost = length (filter is_discarded replies) in
     let start : tally_at p (zero_rows last) ≡ Some zero_tally
     = ap (λ o. option_and_then (λ row. slice_get row p.port.0) o) (get-replicate (last + 1) p.node.0 zero_row some)
     ∙ get-replicate 256 p.port.0 zero_tally port in
     ticks-place p ticks (zero_rows last)
     ∙ (ap (λ o. option_map (λ t. fold with_reply t (replies_of p ticks)) o) start
-    ∙ ap Some (counts 0 0 0 replies ∙ same-counts (0 + many) many (0 + all) all (0 + lost) lost (omega arith) (omega arith) (omega arith)))
+    ∙ ap Some (all-counted octets_sent is_discarded (replies_of p ticks)))

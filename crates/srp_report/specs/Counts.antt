@@ -1,5 +1,5 @@
 -- What a port sent and discarded in a run, as its journal tells.
-use Rattle.std.specs.Prelude.{ℕ, ◌-◌, ◌^◌, min, ◌==◌, Bool, true, false, if◌then◌else◌, List, [], length, map, filter, filter_map, flat_map, sum, Option, Some, None}
+use Rattle.std.specs.Prelude.{ℕ, ◌==◌, Bool, true, false, if◌then◌else◌, List, [], map, filter, flat_map, Option, Some, None}
 use Rattle.srp_base.specs.declared.numbers.PortNo.{PortNo}
 use Rattle.srp_base.specs.declared.numbers.EgressPort.{EgressPort}
 use Rattle.node_core.specs.declared.types.NodeStep.{NodeStep}
@@ -7,7 +7,8 @@ use Rattle.node_core.specs.declared.types.StepReply.{StepReply}
 use Rattle.node_core.specs.declared.types.StepReply.TheVariants.{Sent, Discarded}
 use Rattle.world_core.specs.declared.journal.NodeSteps.{NodeSteps}
 use Rattle.world_core.specs.declared.journal.Tick.{Tick}
-use Rattle.srp_report.specs.declared.tally.Tally.{Tally}
+use Rattle.report_words.specs.declared.tally.Tally.{Tally}
+use Rattle.report_words.specs.Tally.{tally_by}
 
 -- ---- what the steps of a port answered, in order
 
@@ -30,24 +31,11 @@ abbrev pub octets_sent : StepReply → Option ℕ
 octets_sent (Sent octets) = Some octets
 octets_sent _ = None
 
--- the sizes of the PDUs that were sent, in order
-abbrev pub sizes_sent : List StepReply → List ℕ
-sizes_sent replies = filter_map octets_sent replies
-
 -- whether a step took a malformed PDU from the inbox
 abbrev pub is_discarded : StepReply → Bool
 is_discarded (Discarded place) = true
 is_discarded _ = false
 
--- a count, which stands still at the end of its type, 64 bits
-abbrev pub count_of : ℕ → ℕ
-count_of n = min n (2 ^ 64 - 1)
-
 -- the number of PDUs sent, the sum of their octets, and the number of malformed PDUs
 abbrev pub tally_of : List StepReply → Tally
-tally_of replies =
-    record {
-      sent = count_of (length (sizes_sent replies));
-      octets = count_of (sum (sizes_sent replies));
-      discarded = count_of (length (filter is_discarded replies));
-    }
+tally_of replies = tally_by octets_sent is_discarded replies

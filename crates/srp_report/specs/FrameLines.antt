@@ -7,8 +7,8 @@ use Rattle.topology_file.specs.Plan.{Plan}
 use Rattle.frame_flow.specs.declared.result.Fate.{Fate}
 use Rattle.frame_flow.specs.declared.result.Fate.TheVariants.{Unbooked, NoVlan, Departed, Left}
 use Rattle.frame_flow.specs.declared.result.PortFlow.{PortFlow}
+use Rattle.report_words.specs.Names.{port_name}
 use Rattle.srp_report.specs.declared.departures.SentFrame.{SentFrame}
-use Rattle.journal_lines.specs.Names.{port_name}
 
 -- ---- the fates
 
@@ -79,7 +79,7 @@ fates_lines port fates = frames_line port fates ++ flat_map (depart_line port) (
 
 -- the lines of a port's flow, with the port by its name
 abbrev pub flow_part : Plan → List Link → PortFlow → List ℕ
-flow_part plan links flow = fates_lines (port_name plan links flow.at) flow.fates
+flow_part plan links flow = fates_lines (port_name plan.nodes links flow.at) flow.fates
 
 -- those of all ports, in the order of their flows, where the scenario has frames
 abbrev pub flow_parts : Plan → List Link → List PortFlow → List ℕ

@@ -1,10 +1,8 @@
--- The lines of a report, each by what it tells. A line ends with a line feed.
-use Rattle.std.specs.Prelude.{ℕ, Bool, true, false, if◌then◌else◌, List, [], ◌∷◌, ◌++◌, codes, Option, Some, None}
+-- The lines of a network of streams, beside those that every report has, each by what it tells. A line ends with a line feed.
+use Rattle.std.specs.Prelude.{ℕ, Bool, if◌then◌else◌, List, [], ◌∷◌, ◌++◌, codes, Option, Some, None}
 use Rattle.std.specs.Fmt.{decimal}
 use Rattle.srp_base.specs.Hexadecimal.{hex16_text}
 use Rattle.srp_base.specs.Text.{whole_of}
-use Rattle.srp_base.specs.declared.bandwidth.Class.{Class}
-use Rattle.srp_base.specs.declared.bandwidth.Class.TheVariants.{A, B}
 use Rattle.srp_base.specs.declared.numbers.Cs.{Cs}
 use Rattle.srp_base.specs.declared.numbers.StreamId.{StreamId}
 use Rattle.srp_base.specs.declared.streams.Failure.{Failure}
@@ -17,19 +15,7 @@ use Rattle.msrp_codec.specs.declared.pdu.MsrpKey.TheVariants as keys
 use Rattle.msrp_codec.specs.declared.pdu.MsrpContent.{MsrpContent}
 use Rattle.msrp_codec.specs.declared.pdu.MsrpContent.TheVariants.{Advertise, Failed, Listener, Domain}
 use Rattle.registrar.specs.declared.Registrar.{Registrar}
-use Rattle.registrar.specs.declared.Registrar.TheVariants.{Held, Leaving, Empty}
-use Rattle.srp_report.specs.declared.tally.Tally.{Tally}
-
--- a Registrar's state by its name (IEEE Std 802.1Q-2018, 10.7.8); that of what is registered is IN or LV
-abbrev pub state_name : Registrar → List ℕ
-state_name Held = codes "IN"
-state_name Leaving = codes "LV"
-state_name Empty = codes "MT"
-
--- what a test says, as a word
-abbrev pub yes_or_no : Bool → List ℕ
-yes_or_no true = codes "yes"
-yes_or_no false = codes "no"
+use Rattle.report_words.specs.Words.{class_name, state_name}
 
 -- what a Listener declares, by its FourPackedEvent (IEEE Std 802.1Q-2018, 35.2.2.7.2)
 abbrev pub kind_name : ListenerKind → List ℕ
@@ -42,22 +28,7 @@ abbrev pub heard_name : Option ListenerKind → List ℕ
 heard_name None = codes "nothing"
 heard_name (Some kind) = kind_name kind
 
--- an SR class by its letter
-abbrev pub class_name : Class → List ℕ
-class_name A = codes "A"
-class_name B = codes "B"
-
 -- ---- the lines
-
--- `ticks T`
-abbrev pub ticks_line : ℕ → List ℕ
-ticks_line ticks = whole_of (codes "ticks " ∷ decimal ticks ∷ codes "\n" ∷ [])
-
--- `port P sent N octets O discarded D`
-abbrev pub port_line : List ℕ → Tally → List ℕ
-port_line port tally = whole_of (
-    codes "port " ∷ port ∷ codes " sent " ∷ decimal tally.sent ∷ codes " octets " ∷ decimal tally.octets
-    ∷ codes " discarded " ∷ decimal tally.discarded ∷ codes "\n" ∷ [])
 
 -- `vlan P V S`
 abbrev pub vlan_line : List ℕ → ℕ → Registrar → List ℕ
@@ -121,8 +92,3 @@ booked_line port x = want_line port x.want x.since
 abbrev pub heard_line : List ℕ → StreamId → Option ListenerKind → List ℕ
 heard_line name stream heard = whole_of (
     codes "heard " ∷ name ∷ codes " " ∷ hex16_text stream.0 ∷ codes " " ∷ heard_name heard ∷ codes "\n" ∷ [])
-
--- `quiet yes` or `quiet no`, then `in step yes` or `in step no`
-abbrev pub end_lines : Bool → Bool → List ℕ
-end_lines quiet in_step = whole_of (
-    codes "quiet " ∷ yes_or_no quiet ∷ codes "\nin step " ∷ yes_or_no in_step ∷ codes "\n" ∷ [])

@@ -17,11 +17,12 @@ use Rattle.node_core.specs.declared.types.NodeKey.{NodeKey}
 use Rattle.node_core.specs.declared.types.NodeKey.TheVariants.{Vlan, Srp}
 use Rattle.world_core.specs.declared.journal.Tick.{Tick}
 use Rattle.world_core.specs.World.{WorldState, node_at, is_quiet, is_in_step}
-use Rattle.world_core.specs.Ticks.{link_ports}
+use Rattle.report_words.specs.Lines.{ticks_line, port_line, end_lines}
+use Rattle.report_words.specs.Names.{name_of, port_name}
+use Rattle.report_words.specs.Ports.{link_ports}
 use Rattle.srp_report.specs.Counts.{replies_of, tally_of}
 use Rattle.srp_report.specs.FrameLines.{flow_parts}
-use Rattle.journal_lines.specs.Names.{name_of, port_name}
-use Rattle.srp_report.specs.Lines.{ticks_line, port_line, vlan_line, srp_line, booked_line, heard_line, end_lines}
+use Rattle.srp_report.specs.Lines.{vlan_line, srp_line, booked_line, heard_line}
 
 -- ---- what is registered and booked at a place of a node
 
@@ -47,7 +48,7 @@ place_lines domains port at s = registered_lines domains port at s ++ booked_lin
 -- the lines of a port
 abbrev pub port_part : Plan → WorldState → List Tick → EgressPort → List ℕ
 port_part plan w ticks p =
-    let port = port_name plan w.tree.links p in
+    let port = port_name plan.nodes w.tree.links p in
     port_line port (tally_of (replies_of p ticks))
     ++ option_map_or (place_lines plan.domains port (place_of p.port)) (node_at p.node w) []
 

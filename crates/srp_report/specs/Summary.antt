@@ -18,9 +18,10 @@ use Rattle.node_core.specs.State.{NodeState, bookings_at}
 use Rattle.node_core.specs.declared.types.StepReply.{StepReply}
 use Rattle.world_core.specs.declared.journal.Tick.{Tick}
 use Rattle.world_core.specs.World.{WorldState, node_at}
-use Rattle.world_core.specs.Ticks.{link_ports}
-use Rattle.srp_report.specs.declared.tally.Tally.{Tally}
-use Rattle.srp_report.specs.Counts.{replies_of, count_of, tally_of}
+use Rattle.report_words.specs.declared.tally.Tally.{Tally}
+use Rattle.report_words.specs.Ports.{link_ports}
+use Rattle.report_words.specs.Tally.{count_of}
+use Rattle.srp_report.specs.Counts.{replies_of, tally_of}
 use Rattle.srp_report.specs.Report.{behind_frames}
 
 -- ---- what the ports sent

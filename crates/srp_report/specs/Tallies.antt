@@ -6,15 +6,11 @@ use Rattle.srp_base.specs.declared.numbers.EgressPort.{EgressPort}
 use Rattle.tree_topology.specs.Topology.{Topology, HasPort}
 use Rattle.node_core.specs.declared.types.NodeStep.{NodeStep}
 use Rattle.node_core.specs.declared.types.StepReply.{StepReply}
-use Rattle.node_core.specs.declared.types.StepReply.TheVariants.{Sent, Discarded}
 use Rattle.world_core.specs.declared.journal.NodeSteps.{NodeSteps}
 use Rattle.world_core.specs.declared.journal.Tick.{Tick}
-use Rattle.srp_report.specs.declared.tally.Tally.{Tally}
-use Rattle.srp_report.specs.Counts.{replies_of, count_of, tally_of}
-
--- a port has sent and discarded nothing
-abbrev pub zero_tally : Tally
-zero_tally = record { sent = 0; octets = 0; discarded = 0 }
+use Rattle.report_words.specs.declared.tally.Tally.{Tally}
+use Rattle.report_words.specs.Tally.{with_answer, zero_tally}
+use Rattle.srp_report.specs.Counts.{octets_sent, is_discarded, replies_of, tally_of}
 
 -- no port of a node has sent or discarded anything: a tally for each number of a port, 0 to 255
 abbrev pub zero_row : List Tally
@@ -26,18 +22,7 @@ zero_rows last = replicate (last + 1) zero_row
 
 -- the tally with one answer more
 abbrev pub with_reply : Tally → StepReply → Tally
-with_reply t (Sent octets) = record t { sent = count_of (t.sent + 1); octets = count_of (t.octets + octets) }
-with_reply t (Discarded place) = record t { discarded = count_of (t.discarded + 1) }
-with_reply t _ = t
-
--- two tallies together
-abbrev pub with_tally : Tally → Tally → Tally
-with_tally t more =
-    record {
-      sent = count_of (t.sent + more.sent);
-      octets = count_of (t.octets + more.octets);
-      discarded = count_of (t.discarded + more.discarded);
-    }
+with_reply t reply = with_answer octets_sent is_discarded t reply
 
 -- the tallies of a node's ports with one step more
 abbrev pub step_counted : List Tally → NodeStep → List Tally

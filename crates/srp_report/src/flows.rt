@@ -8,7 +8,7 @@ ghost use Rattle.srp_report.specs.Fates.{fate_counts, line_start as line_start_s
 
 use crate::departures::{FateCounts, Outcomes, SentFrame};
 use frame_flow::{FlowResult, PortFlow};
-use journal_lines::{port_name, put, put_number};
+use report_words::{port_name, put, put_number};
 use srp_base::NoMemory;
 use std::alloc::{AllocError, Global};
 use topology_file::Scenario;
@@ -60,7 +60,7 @@ fn put_flow(
         ≡ out.old.items ++ flow_part scenario.now tree.now.links flow.now) }
 {
     let alloc = *out.allocator();
-    let port = port_name(alloc, scenario, tree, flow.at)?;
+    let port = port_name(alloc, scenario.nodes.as_slice(), tree, flow.at)?;
     put_fates(out, port.as_slice(), flow)
 }
 

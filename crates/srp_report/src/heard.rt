@@ -4,8 +4,8 @@ ghost use Rattle.std.specs.Prelude.{◌≡◌, ◌++◌, flat_map, OnOk};
 ghost use Rattle.srp_report.specs.Report.{stream_heard, node_heard, nodes_heard};
 
 use crate::lines::put_heard;
-use journal_lines::node_name;
 use node_core::Node;
+use report_words::node_name;
 use srp_base::NodeNo;
 use std::alloc::AllocError;
 use topology_file::{Scenario, StreamEntry};

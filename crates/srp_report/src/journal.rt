@@ -4,8 +4,9 @@ ghost use Rattle.std.specs.Prelude.{◌≡◌, ◌++◌, flat_map, IfOk, OnOk};
 ghost use Rattle.journal_lines.specs.Lines.{line_at};
 ghost use Rattle.srp_report.specs.JournalText.{answer_line, step_lines, tick_lines, ticks_lines, journal_text as journal_text_spec};
 
-use journal_lines::{put, put_event, put_step};
+use journal_lines::{put_event, put_step};
 use node_core::NodeStep;
+use report_words::put;
 use srp_base::{NoMemory, NodeNo};
 use std::alloc::{AllocError, Global};
 use topology_file::Scenario;

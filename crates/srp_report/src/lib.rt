@@ -22,12 +22,12 @@
 //! ```
 //!
 //! `report_text` (`specs/Report.antt`) is the text as a function of the scenario, the network at the end of its run,
-//! the ticks of the journal and the flow of the frames. It is made of the lines of `specs/Lines.antt` and
-//! `specs/FrameLines.antt`, one definition each. What a port sent is counted over the answers of the port's own steps
-//! in the journal (`specs/Counts.antt`); what is registered is asked of the port's Registrars, what is booked of its
-//! ledger, and what a station hears of the station; what became of the frames is the fates of the port's flow. So the
-//! report tells what happened, and none of it is what the tree or the stations would have one expect. `journal_text`
-//! (`specs/JournalText.antt`) is a function of the scenario and any ticks.
+//! the ticks of the journal and the flow of the frames. It is made of the lines that every report has (`report_words`)
+//! and of those of `specs/Lines.antt` and `specs/FrameLines.antt`, one definition each. What a port sent is counted
+//! over the answers of the port's own steps in the journal (`specs/Counts.antt`); what is registered is asked of the
+//! port's Registrars, what is booked of its ledger, and what a station hears of the station; what became of the frames
+//! is the fates of the port's flow. So the report tells what happened, and none of it is what the tree or the stations
+//! would have one expect. `journal_text` (`specs/JournalText.antt`) is a function of the scenario and any ticks.
 //!
 //! `summary_text` (`specs/Summary.antt`) is the run in short: the sizes of its scenario, what all ports sent together, how many
 //! bookings there are and how often Ready is heard at its end, each by the same counts and questions, over all ports and nodes.
@@ -39,13 +39,13 @@
 //! in `tallies.rt`. The report asks for the tally of a port when it comes to its line. The fates of a port are read once
 //! too, in `departures.rt`; its departures are then sorted by start at once, where the definition puts each in its place.
 //!
-//! A further kind of attribute is a line in `specs/Lines.antt` with its case of `key_line` or `srp_line`, and its writer
-//! in `lines.rt` with its arm of `put_key` or `put_srp`. A further line of a port is a definition there and a piece at the
-//! end of `place_lines`, with its writer in `registered.rt`; one of the network is a piece of
-//! `before_frames` or `behind_frames`, which `report_text` is made of, with its writer in `text.rt`. A further count is a field of
-//! `Tally`, a line of `tally_of` and one of `Tally::counted`. The names of ports and the lines of a journal's events and steps are
-//! those of `journal_lines`. A further sum of a summary is a definition over the ports or nodes of the network with its loop
-//! in `totals.rt`, and a piece of `summary_text` with its writer in `short.rt`.
+//! A further kind of attribute is a line in `specs/Lines.antt` with its case of `key_line` or `srp_line`, and its writer in
+//! `lines.rt` with its arm of `put_key` or `put_srp`. A further line of a port is a definition there and a piece at the end
+//! of `place_lines`, with its writer in `registered.rt`; one of the network is a piece of `before_frames` or
+//! `behind_frames`, which `report_text` is made of, with its writer in `text.rt`. A further count is a field of `Tally` of
+//! `report_words`, with an arm of `counted` in `tally.rt`. The lines of a journal's events and steps are those of
+//! `journal_lines`. A further sum of a summary is a definition over the ports or nodes of the network with its loop in
+//! `totals.rt`, and a piece of `summary_text` with its writer in `short.rt`.
 #![tactic(auto)]
 
 mod departures;

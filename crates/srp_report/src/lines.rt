@@ -1,52 +1,14 @@
-//! The lines of a report. Each is put at the end of a text.
+//! The lines of a network of streams. Each is put at the end of a text.
 
 ghost use Rattle.std.specs.Prelude.{◌≡◌, ◌++◌, OnOk, Some};
-ghost use Rattle.std.specs.Fmt.{decimal};
-ghost use Rattle.srp_report.specs.Lines.{ticks_line, port_line, vlan_line, talker_start, failure_text, talker_end, talker_line, listener_line, domain_line, srp_line, want_line, booked_line, heard_line, end_lines, state_name as state_name_spec, kind_name as kind_name_spec, heard_name as heard_name_spec, class_name as class_name_spec, yes_or_no as yes_or_no_spec};
+ghost use Rattle.srp_report.specs.Lines.{vlan_line, talker_start, failure_text, talker_end, talker_line, listener_line, domain_line, srp_line, want_line, booked_line, heard_line, kind_name as kind_name_spec, heard_name as heard_name_spec};
 
-use crate::tally::Tally;
-use journal_lines::{put, put_number};
 use msrp_codec::{MsrpContent, MsrpKey};
 use registrar::Registrar;
-use srp_base::{Class, Cs, Failure, ListenerKind, StreamId, Talker, Vid};
+use report_words::{class_name, put, state_name};
+use srp_base::{Cs, Failure, ListenerKind, StreamId, Talker, Vid};
 use std::alloc::AllocError;
 use stream_importance::{Entry, Want};
-
-/// The line of a run's length.
-pub(crate) fn put_ticks(out: &mut Vec<u8>, ticks: u64) -> Result<(), AllocError>
-    ensures { OnOk result (out.new.items ≡ out.old.items ++ ticks_line ticks) }
-{
-    put(out, "ticks ")?;
-    put_number(out, ticks)?;
-    put(out, "\n")
-}
-
-/// The line of what a port sent and discarded.
-pub(crate) fn put_tally(out: &mut Vec<u8>, port: &[u8], tally: Tally) -> Result<(), AllocError>
-    ensures { OnOk result (out.new.items ≡ out.old.items ++ port_line port.now tally) }
-{
-    let alloc = *out.allocator();
-    let Tally {
-        sent,
-        octets,
-        discarded,
-    } = tally;
-    let counts = format!(in alloc; " sent {sent} octets {octets} discarded {discarded}\n")?;
-    put(out, "port ")?;
-    out.extend_from_slice(port)?;
-    put(out, &counts)
-}
-
-// A Registrar's state by its name.
-fn state_name(state: Registrar) -> &'static str
-    ensures { result.now ≡ state_name_spec state }
-{
-    match state {
-        Registrar::Held => "IN",
-        Registrar::Leaving => "LV",
-        Registrar::Empty => "MT",
-    }
-}
 
 /// The line of a VID that is registered at a port.
 pub(crate) fn put_vlan(
@@ -269,16 +231,6 @@ fn put_domain_value(
     put(out, &registered)
 }
 
-// An SR class by its letter.
-fn class_name(class: Class) -> &'static str
-    ensures { result.now ≡ class_name_spec class }
-{
-    match class {
-        Class::A => "A",
-        Class::B => "B",
-    }
-}
-
 /// The line of a stream that is booked at a port.
 pub(crate) fn put_booked(out: &mut Vec<u8>, port: &[u8], entry: Entry) -> Result<(), AllocError>
     ensures { OnOk result (out.new.items ≡ out.old.items ++ booked_line port.now entry) }
@@ -334,22 +286,4 @@ pub(crate) fn put_heard(
     put(out, "heard ")?;
     out.extend_from_slice(name)?;
     put(out, &line)
-}
-
-// The word of an answer.
-fn yes_or_no(answer: bool) -> &'static str
-    ensures { result.now ≡ yes_or_no_spec answer }
-{
-    if answer { "yes" } else { "no" }
-}
-
-/// The lines at the end of a report.
-pub(crate) fn put_end(out: &mut Vec<u8>, quiet: bool, in_step: bool) -> Result<(), AllocError>
-    ensures { OnOk result (out.new.items ≡ out.old.items ++ end_lines quiet in_step) }
-{
-    put(out, "quiet ")?;
-    put(out, yes_or_no(quiet))?;
-    put(out, "\nin step ")?;
-    put(out, yes_or_no(in_step))?;
-    put(out, "\n")
 }

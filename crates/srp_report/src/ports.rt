@@ -1,21 +1,16 @@
 //! The lines of the ports.
 
-ghost use Rattle.std.specs.Prelude.{◌≡◌, ◌++◌, flat_map, IfOk, OnOk};
+ghost use Rattle.std.specs.Prelude.{◌≡◌, ◌++◌, flat_map, OnOk};
 ghost use Rattle.std.specs.List.{AllByRecursion};
 ghost use Rattle.tree_topology.specs.Topology.{HasPort};
-ghost use Rattle.world_core.specs.Ticks.{link_ports};
 ghost use Rattle.srp_report.specs.Report.{port_part, port_parts};
 ghost use Rattle.srp_report.specs.Tallies.{AreTallies};
 
-use crate::lines::put_tally;
 use crate::registered::put_place;
 use crate::tallies::Tallies;
-use crate::tally::Tally;
-use journal_lines::port_name;
-use srp_base::{EgressPort, LinkNo, NoMemory};
-use std::alloc::Global;
+use report_words::{Tally, port_name, ports_of_links, put_tally};
+use srp_base::{EgressPort, NoMemory};
 use topology_file::Scenario;
-use tree_topology::Tree;
 use world_core::{Tick, World};
 
 /// The lines of all ports, in the order of the links, end `a` first.
@@ -55,21 +50,6 @@ fn put_each(
     Ok(())
 }
 
-/// The ports of all links, link by link, end `a` first.
-pub(crate) fn ports_of_links(alloc: Global, tree: &Tree) -> Result<Vec<EgressPort>, NoMemory>
-    ensures ports { IfOk result (λ v. v.items ≡ link_ports tree.now) }
-    ensures known { IfOk result (λ v. AllByRecursion (HasPort tree.now) v.items) }
-{
-    tree.keeps();
-    let mut ports = Vec::new(alloc);
-    for i in 0..tree.links() {
-        let (a, b) = tree.ends(LinkNo(i + 1));
-        ports.push(a)?;
-        ports.push(b)?;
-    }
-    Ok(ports)
-}
-
 // The lines of a port.
 fn put_port(
     out: &mut Vec<u8>,
@@ -85,7 +65,7 @@ fn put_port(
         ≡ out.old.items ++ port_part scenario.now world.now ticks.now at) }
 {
     let alloc = *out.allocator();
-    let port = port_name(alloc, scenario, world.tree(), at)?;
+    let port = port_name(alloc, scenario.nodes.as_slice(), world.tree(), at)?;
     let tally = tallies.at(at).unwrap_or(Tally::zero());
     put_tally(out, port.as_slice(), tally)?;
     put_place(out, scenario.domains, port.as_slice(), world, at)

@@ -9,7 +9,7 @@ ghost use Rattle.srp_report.specs.Report.{report_text};
 use crate::flows::put_fates;
 use crate::text::{put_behind, text_before};
 use frame_flow::{FlowResult, PortFlow};
-use journal_lines::port_name;
+use report_words::port_name;
 use srp_base::NoMemory;
 use std::alloc::Global;
 use std::collections::VecDeque;
@@ -158,7 +158,7 @@ fn lines_of(
     let mut ports = VecDeque::new(alloc);
     let mut rest = VecDeque::from(flow.ports.into_vec());
     while let Some(flow) = rest.pop_front() {
-        let port = port_name(alloc, scenario, tree, flow.at)?;
+        let port = port_name(alloc, scenario.nodes.as_slice(), tree, flow.at)?;
         ports.push_back(PortLines { port, flow })?;
     }
     Ok(ports)

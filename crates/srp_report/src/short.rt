@@ -3,10 +3,9 @@
 ghost use Rattle.std.specs.Prelude.{◌≡◌, ◌++◌, IfOk, OnOk};
 ghost use Rattle.srp_report.specs.Summary.{size_lines, total_lines, count_lines, summary_text};
 
-use crate::tally::Tally;
 use crate::text::put_behind;
 use crate::totals::{booked_in_all, ready_in_all, total_of_all};
-use journal_lines::put;
+use report_words::{Tally, put};
 use srp_base::NoMemory;
 use std::alloc::{AllocError, Global};
 use topology_file::Scenario;

@@ -5,8 +5,9 @@ ghost use Rattle.srp_base.specs.declared.numbers.EgressPort.{EgressPort};
 ghost use Rattle.srp_report.specs.Counts.{replies_of, tally_of};
 ghost use Rattle.srp_report.specs.Tallies.{zero_row, zero_rows, step_counted, steps_counted, node_counted, nodes_counted, ticks_counted, tally_at};
 
-use crate::tally::Tally;
+use crate::tally::counted;
 use node_core::{NodeStep, no_key};
+use report_words::Tally;
 use srp_base::{EgressPort, NoMemory, PortNo};
 use std::alloc::Global;
 use std::marker::Model;
@@ -20,7 +21,7 @@ pub(crate) struct NodeTallies {
 
 impl Model for NodeTallies {
     ghost use Rattle.std.specs.Prelude.{List};
-    ghost use Rattle.srp_report.specs.declared.tally.Tally.{Tally};
+    ghost use Rattle.report_words.specs.declared.tally.Tally.{Tally};
 
     ghost Value = { List Tally };
 
@@ -35,7 +36,7 @@ pub(crate) struct Tallies {
 
 impl Model for Tallies {
     ghost use Rattle.std.specs.Prelude.{List};
-    ghost use Rattle.srp_report.specs.declared.tally.Tally.{Tally};
+    ghost use Rattle.report_words.specs.declared.tally.Tally.{Tally};
 
     ghost Value = { List (List Tally) };
 
@@ -113,7 +114,7 @@ fn count_step(ports: &mut Vec<Tally>, made: &NodeStep)
     let _ = no_key();
     let place = usize::from(made.port.0);
     if place < ports.len() {
-        ports[place] = ports[place].counted(made.reply);
+        ports[place] = counted(ports[place], made.reply);
     }
 }
 

@@ -5,9 +5,9 @@ ghost use Rattle.srp_report.specs.Report.{before_frames, behind_frames, report_t
 
 use crate::flows::put_flows;
 use crate::heard::put_nodes;
-use crate::lines::{put_end, put_ticks};
 use crate::ports::put_ports;
 use frame_flow::FlowResult;
+use report_words::{put_end, put_ticks};
 use srp_base::NoMemory;
 use std::alloc::Global;
 use topology_file::Scenario;

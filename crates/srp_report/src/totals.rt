@@ -3,14 +3,14 @@
 ghost use Rattle.std.specs.Prelude.{◌≡◌, count_by, sum_by, IfOk};
 ghost use Rattle.std.specs.List.{AllByRecursion};
 ghost use Rattle.tree_topology.specs.Topology.{HasPort};
-ghost use Rattle.srp_report.specs.Counts.{count_of, replies_of, tally_of};
+ghost use Rattle.report_words.specs.Tally.{count_of};
+ghost use Rattle.srp_report.specs.Counts.{replies_of, tally_of};
 ghost use Rattle.srp_report.specs.Summary.{replies_of_ports, total_of, booked_at as booked_at_spec, booked_count, hears_ready as hears_ready_spec, ready_at as ready_at_spec, ready_count};
 ghost use Rattle.srp_report.specs.Tallies.{AreTallies};
 
-use crate::ports::ports_of_links;
 use crate::tallies::Tallies;
-use crate::tally::Tally;
 use node_core::Node;
+use report_words::{Tally, ports_of_links};
 use srp_base::{EgressPort, ListenerKind, NoMemory, NodeNo};
 use std::alloc::Global;
 use topology_file::{Scenario, StreamEntry};

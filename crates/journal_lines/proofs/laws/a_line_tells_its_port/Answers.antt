@@ -2,7 +2,7 @@ use Rattle.std.proofs.Common.{◌≡◌, ℕ, List, [], ◌∷◌, ◌++◌, sym
 use Rattle.std.specs.Prelude.{codes}
 use Rattle.std.specs.Fmt.{decimal}
 use Rattle.tree_topology.specs.Topology.{IsSound}
-use Rattle.journal_lines.specs.Names.{port_name}
+use Rattle.report_words.specs.Names.{port_name}
 use Rattle.journal_lines.specs.Lines.{place_text}
 use Rattle.journal_lines.proofs.NameLemmas.{behind_same, ports_tell}
 use Rattle.journal_lines.proofs.laws.a_line_tells_its_port.Goals as goal
@@ -15,4 +15,4 @@ placed t port rest =
 pub returns : goal.returns
 returns c plan t p q a b rules has has' same e =
     ports_tell plan rules (c.ports.ensures plan.tree (subst IsSound (sym rules.tree) rules.accepted)) p q a b has has' same
-    (behind_same (decimal t ++ codes " ") _ _ (sym (placed t (port_name plan plan.tree.links p) a) ∙ (e ∙ placed t (port_name plan plan.tree.links q) b)))
+    (behind_same (decimal t ++ codes " ") _ _ (sym (placed t (port_name plan.nodes plan.tree.links p) a) ∙ (e ∙ placed t (port_name plan.nodes plan.tree.links q) b)))

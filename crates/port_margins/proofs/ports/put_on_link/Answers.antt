@@ -1,9 +1,11 @@
-use Rattle.std.proofs.Common.{ℕ, List, [], ◌++◌, sym, ap, ◌∙◌, Option}
+use Rattle.std.proofs.Common.{◌≡◌, ℕ, List, [], ◌++◌, sym, ap, ◌∙◌, Option}
 use Rattle.std.specs.Option.{option_map_or}
 use Rattle.attribute_propagation.specs.Ports.{place_of}
 use Rattle.tree_topology.specs.Topology.{Topology}
+use Rattle.topology_file.specs.Plan.{Plan}
+use Rattle.topology_file.specs.declared.entries.NodeEntry.{NodeEntry}
 use Rattle.node_core.specs.State.{NodeState}
-use Rattle.journal_lines.specs.Names.{port_name}
+use Rattle.report_words.specs.Names.{port_name}
 use Rattle.srp_report.proofs.LinkPorts.{link-port}
 use Rattle.port_margins.specs.Margins.{place_lines}
 use Rattle.port_margins.proofs.ports.put_on_link.Goals as goal
@@ -20,7 +22,10 @@ returns c =
     let link = c.args.link.now in
     let place = place_of at.port in
     let s = c.node-node.result.now in
+    let nodes : c.as_slice-nodes.result.now ≡ plan.nodes = c.as_slice-nodes.ensures ∙ ap (λ (p : Plan). p.nodes) c.scenario.view_is in
+    let name = c.in_ok-port.ensures
+    ∙ (ap (λ (t : Topology). port_name c.as_slice-nodes.result.now t.links at) c.tree.ensures ∙ ap (λ (ns : List NodeEntry). port_name ns w.tree.links at) nodes) in
     c.in_ok-put_place.ensures
     ∙ (ap (λ (port : List ℕ). out ++ place_lines port link plan.streams place s)
-    (c.as_slice.ensures.value ∙ (c.in_ok-port.ensures ∙ ap (λ (t : Topology). port_name plan t.links at) c.tree.ensures))
-    ∙ ap (λ (o : Option NodeState). out ++ option_map_or (place_lines (port_name plan w.tree.links at) link plan.streams place) o []) (sym c.node-node.ensures))
+    (c.as_slice.ensures.value ∙ name)
+    ∙ ap (λ (o : Option NodeState). out ++ option_map_or (place_lines (port_name plan.nodes w.tree.links at) link plan.streams place) o []) (sym c.node-node.ensures))

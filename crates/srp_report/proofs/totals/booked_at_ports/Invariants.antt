@@ -1,6 +1,6 @@
 use Rattle.std.proofs.Common.{◌≡◌, take}
 use Rattle.std.specs.Prelude.{sum_by}
-use Rattle.srp_report.specs.Counts.{count_of}
+use Rattle.report_words.specs.Tally.{count_of}
 use Rattle.srp_report.specs.Summary.{booked_at}
 use Rattle.srp_report.proofs.totals.booked_at_ports.Given as goal
 

@@ -1,6 +1,6 @@
 use Rattle.std.proofs.Common.{ap, ◌∙◌}
 use Rattle.std.specs.Prelude.{replicate}
-use Rattle.srp_report.specs.declared.tally.Tally.{Tally}
+use Rattle.report_words.specs.declared.tally.Tally.{Tally}
 use Rattle.srp_report.proofs.tallies.NodeTallies.new.Goals as goal
 
 pub returns : goal.returns

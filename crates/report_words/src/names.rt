@@ -1,40 +1,39 @@
-//! The names of ports.
+//! The names of nodes and ports.
 
 ghost use Rattle.std.specs.Prelude.{◌≡◌, ◌++◌, ◌↔◌, IfOk, OnOk, IsTrue};
 ghost use Rattle.tree_topology.specs.Topology.{HasPort};
 ghost use Rattle.tree_topology.specs.Ports.{peer_of};
-ghost use Rattle.journal_lines.specs.Names.{name_of, port_name as port_name_spec};
+ghost use Rattle.report_words.specs.Names.{name_of, port_name as port_name_spec};
 
 use srp_base::{EgressPort, NodeNo, PortNo};
 use std::alloc::{AllocError, Global};
-use topology_file::{NodeEntry, Scenario};
+use topology_file::NodeEntry;
 use tree_topology::Tree;
 
-/// The name of a port of a scenario's network as it is printed, `x>y`: those of its node and of its peer's.
+/// The name of a port of a network as it is printed, `x>y`: those of its node and of its peer's.
 pub fn port_name(
     alloc: Global,
-    scenario: &Scenario,
+    nodes: &[NodeEntry],
     tree: &Tree,
     at: EgressPort,
 ) -> Result<Vec<u8>, AllocError>
-    ensures { IfOk result (λ v. v.items ≡ port_name_spec scenario.now tree.now.links at) }
+    ensures { IfOk result (λ v. v.items ≡ port_name_spec nodes.now tree.now.links at) }
 {
     let mut name = Vec::new(alloc);
-    put_port_name(&mut name, scenario, tree, at)?;
+    put_port_name(&mut name, nodes, tree, at)?;
     Ok(name)
 }
 
 /// Puts the name of a port at the end of a text.
 pub fn put_port_name(
     out: &mut Vec<u8>,
-    scenario: &Scenario,
+    nodes: &[NodeEntry],
     tree: &Tree,
     at: EgressPort,
 ) -> Result<(), AllocError>
     ensures { OnOk result (out.new.items
-        ≡ out.old.items ++ port_name_spec scenario.now tree.now.links at) }
+        ≡ out.old.items ++ port_name_spec nodes.now tree.now.links at) }
 {
-    let nodes = scenario.nodes.as_slice();
     out.extend_from_slice(node_name(nodes, at.node))?;
     out.push(b'>')?;
     out.extend_from_slice(node_name(nodes, peer_node(tree, at)))

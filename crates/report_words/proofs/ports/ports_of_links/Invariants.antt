@@ -2,9 +2,9 @@ use Rattle.std.proofs.Common.{◌≡◌, ◌++◌, drop}
 use Rattle.std.specs.Prelude.{flat_map}
 use Rattle.std.specs.List.{AllByRecursion}
 use Rattle.tree_topology.specs.Topology.{HasPort}
-use Rattle.world_core.specs.Ticks.{link_ports}
-use Rattle.srp_report.proofs.LinkPorts.{both_ends}
-use Rattle.srp_report.proofs.ports.ports_of_links.Given as goal
+use Rattle.report_words.specs.Ports.{link_ports}
+use Rattle.report_words.proofs.LinkPorts.{both_ends}
+use Rattle.report_words.proofs.ports.ports_of_links.Given as goal
 
 -- the ports so far with those of the links that are left are all, and each is a port of the tree
 abbrev pub invariant-loop-i : goal.invariant-loop-i

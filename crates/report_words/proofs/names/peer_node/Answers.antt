@@ -4,8 +4,8 @@ use Rattle.std.proofs.lemmas.Bool.{false≢true}
 use Rattle.srp_base.specs.declared.numbers.EgressPort.{EgressPort}
 use Rattle.tree_topology.specs.Topology.{HasPort}
 use Rattle.tree_topology.specs.Ports.{neighbours, far_node}
-use Rattle.journal_lines.proofs.PeerLemmas.{no-far-node}
-use Rattle.journal_lines.proofs.names.peer_node.Goals as goal
+use Rattle.report_words.proofs.PeerLemmas.{no-far-node}
+use Rattle.report_words.proofs.names.peer_node.Goals as goal
 
 pub returns-else-has_port : goal.returns-else-has_port
 returns-else-has_port c =

@@ -6,7 +6,6 @@ use Rattle.srp_base.specs.declared.numbers.NodeNo.{NodeNo}
 use Rattle.srp_base.specs.declared.numbers.EgressPort.{EgressPort}
 use Rattle.tree_topology.specs.declared.graph.Link.{Link}
 use Rattle.tree_topology.specs.Ports.{peer_of}
-use Rattle.topology_file.specs.Plan.{Plan}
 use Rattle.topology_file.specs.declared.entries.NodeEntry.{NodeEntry}
 
 -- the name of the node of a number, from 1 on; that of a number without an entry is empty
@@ -14,5 +13,5 @@ abbrev pub name_of : List NodeEntry → NodeNo → List ℕ
 name_of nodes x = if x.0 == 0 then [] else option_map_or (λ node. node.name) (slice_get nodes (x.0 - 1)) []
 
 -- a port as `x>y`: the names of its node and of its peer's
-abbrev pub port_name : Plan → List Link → EgressPort → List ℕ
-port_name plan links p = whole_of (name_of plan.nodes p.node ∷ codes ">" ∷ name_of plan.nodes (peer_of links p).node ∷ [])
+abbrev pub port_name : List NodeEntry → List Link → EgressPort → List ℕ
+port_name nodes links p = whole_of (name_of nodes p.node ∷ codes ">" ∷ name_of nodes (peer_of links p).node ∷ [])

@@ -4,8 +4,8 @@ use Rattle.std.specs.List.{AllByRecursion}
 use Rattle.srp_base.specs.declared.numbers.EgressPort.{EgressPort}
 use Rattle.tree_topology.specs.Topology.{HasPort, HasLink}
 use Rattle.tree_topology.specs.Ports.{ends_of}
-use Rattle.srp_report.proofs.LinkPorts.{both_ends, next-link, each-two}
-use Rattle.port_margins.proofs.ports.ports_of_links.Goals as goal
+use Rattle.report_words.proofs.LinkPorts.{both_ends, next-link, each-two}
+use Rattle.report_words.proofs.ports.ports_of_links.Goals as goal
 
 pub loop-i-preserved : goal.loop-i-preserved
 loop-i-preserved c =

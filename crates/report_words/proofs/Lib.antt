@@ -1,0 +1,3 @@
+pub mod PeerLemmas
+pub mod LinkPorts
+pub mod Counting

@@ -1,0 +1,5 @@
+pub mod Words
+pub mod Names
+pub mod Ports
+pub mod Tally
+pub mod Lines
