@@ -24,7 +24,7 @@ use Rattle.world_core.specs.Apart.{events_of}
 use Rattle.world_core.specs.Ticks.{script_at, after_script, link_ports, step_events, closing_events, tick_events, IsLegalTick, LeadTo}
 use Rattle.world_core.specs.During.{IsDuring}
 use Rattle.world_core.specs.OneByOne.{node_jobs, IsNextJob, MakeLeft, steps_before, MakeAll, IsOneByOne}
-use Rattle.journal_lines.specs.Names.{port_name}
+use Rattle.report_words.specs.Names.{port_name}
 use Rattle.journal_lines.specs.Lines.{place_text, made_text, line_at}
 use Rattle.journal_audit.specs.Texts.{lines_of}
 use Rattle.journal_audit.specs.Reading.{Reading, IsStuck}
@@ -273,7 +273,8 @@ module _ (plan : Plan) (laws : ReplayLaws plan) where
         (whole, jobs)
 
     pub ports_same : (st other : NodeStep) (rest more : List PortStep) (a b : List ℕ) → IsNextJob (node x) left w st rest → IsNextJob (node x) left w other more
-        → place_text t (port_name plan plan.tree.links (record { node = node x; port = st.port })) ++ a ≡ place_text t (port_name plan plan.tree.links (record { node = node x; port = other.port })) ++ b
+        → place_text t (port_name plan.nodes plan.tree.links (record { node = node x; port = st.port })) ++ a
+        ≡ place_text t (port_name plan.nodes plan.tree.links (record { node = node x; port = other.port })) ++ b
         → st.port ≡ other.port
     ports_same st other rest more a b one two e =
         ap (λ (p : EgressPort). p.port)

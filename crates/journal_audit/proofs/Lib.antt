@@ -10,3 +10,7 @@ pub mod LeftLemmas
 pub mod StepLemmas
 pub mod RunLemmas
 pub mod OneTextLemmas
+pub mod PlaceLemmas
+pub mod ReplyLemmas
+pub mod FormedLemmas
+pub mod VerdictLemmas

@@ -28,7 +28,7 @@ same_behind [] ys zs e = e
 same_behind (x ∷ xs) ys zs e = let rest : xs ++ ys ≡ xs ++ zs = cc in same_behind xs ys zs rest
 
 -- what is equal up to a place is so before
-take_less : {A : Type 0} (n k : ℕ) (xs ys : List A) → take (n + k) xs ≡ take (n + k) ys → take n xs ≡ take n ys
+pub take_less : {A : Type 0} (n k : ℕ) (xs ys : List A) → take (n + k) xs ≡ take (n + k) ys → take n xs ≡ take n ys
 take_less zero k xs ys e = refl
 take_less (suc n) k [] [] e = refl
 take_less (suc n) k [] (y ∷ ys) e =

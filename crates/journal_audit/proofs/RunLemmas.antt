@@ -48,7 +48,7 @@ lines_whole : (lines : Lines) → AllByRecursion IsLine lines → lines_of (whol
 lines_whole [] all = refl
 lines_whole (line ∷ lines) all = line_first line (whole_of lines) all.0 ∙ ap (λ (ls : Lines). line ∷ ls) (lines_whole lines all.1)
 
-each_append : {X : Type 0} (P : X → Type 0) (xs ys : List X) → AllByRecursion P xs → AllByRecursion P ys → AllByRecursion P (xs ++ ys)
+pub each_append : {X : Type 0} (P : X → Type 0) (xs ys : List X) → AllByRecursion P xs → AllByRecursion P ys → AllByRecursion P (xs ++ ys)
 each_append P [] ys h k = k
 each_append P (x ∷ xs) ys h k = (h.0, each_append P xs ys h.1 k)
 

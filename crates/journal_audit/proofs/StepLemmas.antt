@@ -17,7 +17,7 @@ use Rattle.world_core.specs.declared.events.WorldReply.TheVariants.{Step}
 use Rattle.world_core.specs.World.{WorldState, Happened, world_step}
 use Rattle.world_core.specs.During.{IsDuring}
 use Rattle.world_core.specs.OneByOne.{IsNextJob}
-use Rattle.journal_lines.specs.Names.{port_name}
+use Rattle.report_words.specs.Names.{port_name}
 use Rattle.journal_lines.specs.Lines.{place_text, made_text, line_at}
 use Rattle.journal_audit.specs.Texts.{lines_of}
 use Rattle.journal_audit.specs.Left.{LeftState, jobs_left, place_at, ArePortsLeft, MayBeNext, is_any_left}
@@ -160,10 +160,10 @@ module _ (plan : Plan) (laws : ReplayLaws plan) (t x : ℕ) (ports : List LeftSt
 
   -- how the line of a next job begins
   line_begins : (st : NodeStep) (rest : List PortStep) (from : Reading) (lines : List (List ℕ)) → lines_of from.rest ≡ line_at plan t (node x) st ∷ lines
-      → from.rest ≡ place_text t (port_name plan plan.tree.links (record { node = node x; port = st.port })) ++ (made_text st ++ whole_of lines)
+      → from.rest ≡ place_text t (port_name plan.nodes plan.tree.links (record { node = node x; port = st.port })) ++ (made_text st ++ whole_of lines)
   line_begins st rest from lines e =
       first_begins from.rest (line_at plan t (node x) st) lines e
-      ∙ append_assoc (place_text t (port_name plan plan.tree.links (record { node = node x; port = st.port }))) (made_text st) (whole_of lines)
+      ∙ append_assoc (place_text t (port_name plan.nodes plan.tree.links (record { node = node x; port = st.port }))) (made_text st) (whole_of lines)
 
   -- the next line is of a step of no port
   pub none_stuck : (from : Reading) → t < plan.ticks → IsDuring plan.tree t w → is_any_left ports ≡ true → ((at : ℕ) (p : LeftState) → slice_get ports at ≡ Some p → MayBeNext from p → ⊥)
@@ -177,8 +177,8 @@ module _ (plan : Plan) (laws : ReplayLaws plan) (t x : ℕ) (ports : List LeftSt
       by st rest lines next e (p, get, jobs) =
           let first = next.port in
           let number : place_of st.port + 1 ≡ st.port.0 = omega (arith, first) in
-          let same : p.place ≡ place_text t (port_name plan plan.tree.links (record { node = node x; port = st.port })) =
-          are.places (place_of st.port) p get ∙ ap (λ (k : ℕ). place_text t (port_name plan plan.tree.links (record { node = node x; port = record { 0 = k } }))) number
+          let same : p.place ≡ place_text t (port_name plan.nodes plan.tree.links (record { node = node x; port = st.port })) =
+          are.places (place_of st.port) p get ∙ ap (λ (k : ℕ). place_text t (port_name plan.nodes plan.tree.links (record { node = node x; port = record { 0 = k } }))) number
           in
           let many : length p.jobs ≡ suc (length rest) = ap (λ (js : List PortStep). length js) jobs in
           none (place_of st.port) p get (record {
@@ -197,11 +197,11 @@ module _ (plan : Plan) (laws : ReplayLaws plan) (t x : ℕ) (ports : List LeftSt
       by : (other : NodeStep) (rest : List PortStep) (lines : List (List ℕ)) → IsNextJob (node x) (jobs_left ports) w other rest → lines_of from.rest ≢ line_at plan t (node x) other ∷ lines
       by other rest lines next e =
           let one = next_job at p q step st w2 get jobs port is made in
-          let own : p.place ≡ place_text t (port_name plan plan.tree.links (record { node = node x; port = st.port })) =
-          are.places at p get ∙ ap (λ (k : PortNo). place_text t (port_name plan plan.tree.links (record { node = node x; port = k }))) (sym port)
+          let own : p.place ≡ place_text t (port_name plan.nodes plan.tree.links (record { node = node x; port = st.port })) =
+          are.places at p get ∙ ap (λ (k : PortNo). place_text t (port_name plan.nodes plan.tree.links (record { node = node x; port = k }))) (sym port)
           in
-          let begins : place_text t (port_name plan plan.tree.links (record { node = node x; port = st.port })) ++ may.rest
-          ≡ place_text t (port_name plan plan.tree.links (record { node = node x; port = other.port })) ++ (made_text other ++ whole_of lines) =
+          let begins : place_text t (port_name plan.nodes plan.tree.links (record { node = node x; port = st.port })) ++ may.rest
+          ≡ place_text t (port_name plan.nodes plan.tree.links (record { node = node x; port = other.port })) ++ (made_text other ++ whole_of lines) =
           ap (λ (front : List ℕ). front ++ may.rest) (sym own) ∙ (sym may.begins ∙ line_begins other rest from lines e)
           in
           let same_port = ports_same plan laws t x (jobs_left ports) w known are.long st other q.jobs rest may.rest (made_text other ++ whole_of lines) one next begins in

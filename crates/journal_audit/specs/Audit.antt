@@ -8,7 +8,7 @@ use Rattle.world_core.specs.declared.journal.Tick.{Tick}
 use Rattle.world_core.specs.World.{WorldState}
 use Rattle.world_core.specs.Ticks.{AreLegalTicks}
 use Rattle.world_core.specs.Timeline.{IsTimelineOf}
-use Rattle.journal_lines.specs.Names.{port_name}
+use Rattle.report_words.specs.Names.{port_name}
 use Rattle.journal_audit.specs.declared.form.Known.{Known}
 use Rattle.journal_audit.specs.declared.verdict.Verdict.{Verdict}
 use Rattle.journal_audit.specs.declared.verdict.Verdict.TheVariants.{Legal, No}
@@ -18,7 +18,8 @@ use Rattle.journal_audit.specs.Journal.{ticks_lines, journal_text}
 
 -- the names of a node's ports
 abbrev pub names_at : Plan → ℕ → List (List ℕ)
-names_at plan x = map (λ k. port_name plan plan.tree.links (port_of x k)) (range_with_len 1 (length (neighbours plan.tree.links x)))
+names_at plan x =
+    map (λ k. port_name plan.nodes plan.tree.links (port_of x k)) (range_with_len 1 (length (neighbours plan.tree.links x)))
 
 -- what a scenario's journal may name: its ticks, its events, and the ports of its tree
 abbrev pub known_of : Plan → Known
@@ -57,3 +58,7 @@ abbrev pub IsVerdict : Plan → List ℕ → Verdict → Type 0
 IsVerdict plan text (Legal run) =
     IsJournalOf plan text run.journal.ticks run.world × IsTimelineOf plan run.journal.ticks run.timeline.changes
 IsVerdict plan text (No line why) = IsRefusal plan text line why × ((ticks : List Tick) (end : WorldState) → IsJournalOf plan text ticks end → ⊥)
+
+-- a verdict refuses the line behind so many, with this why
+abbrev pub RefusesBehind : ℕ → Verdict → ℕ → Type 0
+RefusesBehind why verdict count = verdict ≡ No (suc count) why

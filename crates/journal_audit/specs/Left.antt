@@ -6,7 +6,7 @@ use Rattle.tree_topology.specs.Ports.{neighbours}
 use Rattle.topology_file.specs.Plan.{Plan}
 use Rattle.node_core.specs.declared.types.PortStep.{PortStep}
 use Rattle.node_core.specs.State.{NodeState, ports_of, job_list}
-use Rattle.journal_lines.specs.Names.{port_name}
+use Rattle.report_words.specs.Names.{port_name}
 use Rattle.journal_lines.specs.Lines.{place_text}
 use Rattle.journal_audit.specs.Reading.{Reading}
 
@@ -21,7 +21,7 @@ jobs_left ports = map (λ p. p.jobs) ports
 
 -- how the lines of the port at a place begin
 abbrev pub place_at : Plan → ℕ → NodeNo → ℕ → List ℕ
-place_at plan t n at = place_text t (port_name plan plan.tree.links (record { node = n; port = record { 0 = at + 1 } }))
+place_at plan t n at = place_text t (port_name plan.nodes plan.tree.links (record { node = n; port = record { 0 = at + 1 } }))
 
 -- each port has the words of its place
 abbrev pub ArePlaces : Plan → ℕ → NodeNo → List LeftState → Type 0

@@ -26,7 +26,7 @@ use Rattle.world_core.specs.History.{HistoryState}
 use Rattle.world_core.specs.NotedRuns.{IsNotedRun}
 use Rattle.world_core.specs.During.{IsDuring, IsAllowed}
 use Rattle.world_core.specs.OneByOne.{node_jobs, IsNextJob, MakeLeft, MakeAll, IsOneByOne}
-use Rattle.journal_lines.specs.Names.{port_name}
+use Rattle.report_words.specs.Names.{port_name}
 use Rattle.journal_lines.specs.Lines.{place_text, event_line, line_at, IsLine}
 use Rattle.journal_audit.specs.Texts.{lines_of}
 use Rattle.journal_audit.specs.Reading.{Reading, IsTaken, AreTaken, HasRead}
@@ -51,7 +51,8 @@ pub record ReplayLaws (plan : Plan) : Type 0 where
   pub scripted : (t : ℕ) → AllByRecursion (IsAllowed plan.tree) (map (λ (e : ℕ × WorldEvent). e.1) (script_at plan t))
   pub carried : AllByRecursion (IsAllowed plan.tree) (map Carry (link_ports plan.tree))
   pub tells : (t : ℕ) (p q : EgressPort) (a b : List ℕ) → HasPort plan.tree p → HasPort plan.tree q → p.node ≡ q.node
-      → place_text t (port_name plan plan.tree.links p) ++ a ≡ place_text t (port_name plan plan.tree.links q) ++ b → p ≡ q
+      → place_text t (port_name plan.nodes plan.tree.links p) ++ a ≡ place_text t (port_name plan.nodes plan.tree.links q) ++ b
+      → p ≡ q
   pub event : (t entry : ℕ) (missed : Bool) → IsLine (event_line t entry missed)
   pub next_tick : (t : ℕ) (w : WorldState) (tick : Tick) → t < plan.ticks → IsDuring plan.tree t w → IsLegalTick plan t w tick → IsDuring plan.tree (suc t) (world_after (tick_events plan t tick) w)
   pub line : (t : ℕ) (n : NodeNo) (st : NodeStep) → HasPort plan.tree (record { node = n; port = st.port }) → IsLine (line_at plan t n st)

@@ -23,9 +23,14 @@
 //! first line with which no legal journal agrees' and 'the one past the last' are one case. Law `one_text_has_one_journal`: legal
 //! journals of one scenario with one text are one.
 //!
-//! The form of a line (`specs/Form.antt`) is judged only where the replay has stopped, over the whole text.
+//! The form of a line (`specs/Form.antt`) is judged only where the replay has stopped, over the
+//! whole text. The lines of a legal journal are of it (law `a_legal_journal_is_of_the_form`), so a
+//! text with a line that isn't never passes: each of both whys is answered exactly where its cause
+//! is (law `each_why_has_its_line`).
 //!
-//! A further kind of step or answer is a word in `specs/Form.antt` with its test in `src/form.rt`, beside its case in journal_lines.
+//! A further kind of step or answer is a word in `specs/Form.antt` with its test in `src/form.rt`
+//! and its case in `proofs/ReplyLemmas.antt` and `proofs/FormedLemmas.antt`, beside its case in
+//! journal_lines.
 #![tactic(auto)]
 
 mod form;

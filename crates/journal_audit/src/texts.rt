@@ -36,7 +36,8 @@ fn line_feed(text: &[u8]) -> Option<usize>
     text.iter().position(|c| *c == b'\n')
 }
 
-/// The first line of a text with its line feed, if it has one, and what stands behind it.
+/// The first line of a text that isn't empty, with its line feed, if it has one, and what stands
+/// behind it.
 pub fn first_line(text: &[u8]) -> (&[u8], &[u8])
     requires { 1 ≤ length text.now }
     ensures lines { lines_of text.now ≡ result.0.now ∷ lines_of result.1.now }

@@ -10,7 +10,7 @@ use crate::form::{Known, first_unformed};
 use crate::laws::laws_of_replay;
 use crate::reading::Reader;
 use crate::replay::replay;
-use journal_lines::port_name;
+use report_words::port_name;
 use srp_base::{EgressPort, NoMemory, NodeNo, PortNo, Seq};
 use std::alloc::Global;
 use topology_file::Scenario;
@@ -91,7 +91,7 @@ fn push_names(
             node,
             port: PortNo(k + 1),
         };
-        let name = port_name(alloc, scenario, &scenario.tree, port)?;
+        let name = port_name(alloc, scenario.nodes.as_slice(), &scenario.tree, port)?;
         names.push(Seq::from_vec(name))?;
     }
     Ok(())

@@ -12,3 +12,5 @@ pub mod AuditLemmas
 pub mod Inputs
 pub mod RunLemmas
 pub mod EndingLemmas
+pub mod WhyLemmas
+pub mod PartingLemmas

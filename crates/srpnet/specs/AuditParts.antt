@@ -1,5 +1,6 @@
 -- The parts of what is audited: a scenario, the line `=== output`, and what was printed of a run of it, with its journal.
-use Rattle.std.specs.Prelude.{ℕ, ◌+◌, nat_eq, ◌||◌, if◌then◌else◌, Bool, List, [], ◌∷◌, ◌++◌, codes, length, Option, Some, None}
+use Rattle.std.specs.Prelude.{◌≡◌, ℕ, ◌+◌, nat_eq, ◌||◌, if◌then◌else◌, Bool, false, List, [], ◌∷◌, ◌++◌, codes, length, Option, Some, None}
+use Rattle.std.specs.List.{AllByRecursion}
 use Rattle.std.specs.Cmp.Lexicographic.{pointwise}
 use Rattle.srp_base.specs.Text.{whole_of}
 use Rattle.journal_audit.specs.Texts.{lines_of}
@@ -49,3 +50,19 @@ by_cut (Some parts) = with_scenario parts.before (parted_at (codes "journal") pa
 -- the parts of the octets of an input
 abbrev pub audit_parts : List ℕ → Option AuditParts
 audit_parts octets = by_cut (parted_at (codes "=== output") octets)
+
+-- ---- what is put together of parts
+
+-- the last octet of a text, where it has one, is a line feed
+abbrev pub EndsItsLines : List ℕ → Type 0
+EndsItsLines [] = Unit {0}
+EndsItsLines (c ∷ []) = c ≡ 10
+EndsItsLines (c ∷ d ∷ text) = EndsItsLines (d ∷ text)
+
+-- no line of a text is this word
+abbrev pub LacksLine : List ℕ → List ℕ → Type 0
+LacksLine word text = AllByRecursion (λ line. is_line word line ≡ false) (lines_of text)
+
+-- a scenario, the cut, a report, the line `journal`, and a journal
+abbrev pub put_together : List ℕ → List ℕ → List ℕ → List ℕ
+put_together scenario report journal = scenario ++ (codes "=== output\n" ++ (report ++ (codes "journal\n" ++ journal)))

@@ -57,6 +57,10 @@ IsAudited plan parts (AuditNo line why) =
     (IsJournalRefused plan parts line why ⊎ IsReportRefused plan parts line why) × (IsApproved plan parts → ⊥)
 IsAudited plan parts cause = ⊥
 
+-- it is no at the line of the journal behind so many of its lines, for this cause
+abbrev pub RefusesBehind : AuditParts → ℕ → Cause → ℕ → Type 0
+RefusesBehind parts why cause count = cause ≡ AuditNo (parts.marked + suc count) why
+
 -- whether it ends so for these parts, whose scenario is this or is refused
 abbrev pub IsAuditedBy : AuditParts → Result Plan Cause → Cause → Type 0
 IsAuditedBy parts (Ok plan) cause = IsAudited plan parts cause

@@ -6,7 +6,7 @@ use Rattle.class_b_bound.specs.Waits.{worst_wait_of}
 use Rattle.frame_flow.specs.declared.result.PortFlow.{PortFlow}
 use Rattle.topology_file.specs.Plan.{Plan}
 use Rattle.scenario_bounds.specs.PortBounds.{bound_at}
-use Rattle.journal_lines.specs.Names.{port_name}
+use Rattle.report_words.specs.Names.{port_name}
 
 -- `bound P wait W worst N`, in bit times of the port
 abbrev pub wait_line : List ℕ → ℕ → ℕ → List ℕ
@@ -15,7 +15,7 @@ wait_line port wait worst = whole_of (
 
 -- the line of a port
 abbrev pub bound_line : Plan → PortFlow → List ℕ
-bound_line plan x = wait_line (port_name plan plan.tree.links x.at) (bound_at plan x).wait (worst_wait_of x.input)
+bound_line plan x = wait_line (port_name plan.nodes plan.tree.links x.at) (bound_at plan x).wait (worst_wait_of x.input)
 
 -- those of all ports, in the order of their flows, where the scenario has frames
 abbrev pub bound_lines : Plan → List PortFlow → List ℕ

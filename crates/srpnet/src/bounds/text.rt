@@ -6,7 +6,7 @@ ghost use Rattle.srpnet.specs.BoundsText.{bound_line, bound_lines, wait_line};
 ghost use Rattle.srpnet.specs.RunText.{report_and_bounds};
 
 use frame_flow::{FlowResult, PortFlow};
-use journal_lines::port_name;
+use report_words::port_name;
 use scenario_bounds::{PortBound, bound_of_port};
 use srp_base::NoMemory;
 use srp_report::Printout;
@@ -62,7 +62,7 @@ fn put_bound(out: &mut Vec<u8>, scenario: &Scenario, flow: &PortFlow) -> Result<
 {
     let alloc = *out.allocator();
     let PortBound { wait, worst } = bound_of_port(alloc, scenario, flow)?;
-    let port = port_name(alloc, scenario, &scenario.tree, flow.at)?;
+    let port = port_name(alloc, scenario.nodes.as_slice(), &scenario.tree, flow.at)?;
     put_line(out, port.as_slice(), wait, worst)?;
     Ok(())
 }

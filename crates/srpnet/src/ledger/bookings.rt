@@ -17,11 +17,11 @@ use std::alloc::Global;
 pub fn bookings(alloc: Global, file: &LedgerFile) -> Result<(Ledger, Cs), NoMemory>
     requires shares { file.now.delta_a + file.now.delta_b ≤ 90 }
     requires ticks { first_fall 1 0 (want_ticks file.now.wants) ≡ None }
-    ensures applied { IfOk result (λ r. Leads (fresh file.now) file.now.wants r.0) }
-    ensures caps { IfOk result (λ r. r.0.caps
+    ensures applied { IfOk result (λ r. Leads (fresh file.now) file.now.wants r.0.book) }
+    ensures caps { IfOk result (λ r. r.0.book.caps
         ≡ caps_of file.now.rate file.now.delta_a file.now.delta_b) }
-    ensures lines { IfOk result (λ r. HasLines r.0 file.now.wants) }
-    ensures moment { IfOk result (λ r. r.1.0 ≡ r.0.moment) }
+    ensures lines { IfOk result (λ r. HasLines r.0.book file.now.wants) }
+    ensures moment { IfOk result (λ r. r.1.0 ≡ r.0.book.moment) }
 {
     let mut ledger = Ledger::new(alloc, file.rate, file.delta_a, file.delta_b);
     let mut now = Cs(0);

@@ -53,10 +53,10 @@ fn write_sum(out: &mut String, classes: &str, sum: u64, cap: u64) -> Result<(), 
 
 /// The line of a stream that isn't booked. Each want that a ledger keeps and hasn't booked doesn't fit.
 fn write_unbooked(out: &mut String, ledger: &Ledger, now: Cs, want: &Want) -> Result<(), AllocError>
-    requires now { now.0 ≡ ledger.now.moment }
+    requires now { now.0 ≡ ledger.now.book.moment }
     ensures { OnOk result (string_bytes out.new
         ≡ string_bytes out.old
-        ++ line_by want.now (fit_for ledger.now.moment ledger.now want.now) None) }
+        ++ line_by want.now (fit_for ledger.now.book.moment ledger.now.book want.now) None) }
 {
     ledger.within_caps();
     match ledger.fits(now, want) {
@@ -71,9 +71,9 @@ fn write_unbooked(out: &mut String, ledger: &Ledger, now: Cs, want: &Want) -> Re
 
 /// The line of a stream's want.
 fn write_want(out: &mut String, ledger: &Ledger, now: Cs, want: &Want) -> Result<(), AllocError>
-    requires now { now.0 ≡ ledger.now.moment }
+    requires now { now.0 ≡ ledger.now.book.moment }
     ensures { OnOk result (string_bytes out.new
-        ≡ string_bytes out.old ++ want_line ledger.now want.now) }
+        ≡ string_bytes out.old ++ want_line ledger.now.book want.now) }
 {
     match ledger.booked(want.stream) {
         Some(since) => write_booked(out, want, since),
@@ -99,9 +99,9 @@ fn write_stream(
     wants: &[LedgerWant],
     stream: StreamId,
 ) -> Result<(), AllocError>
-    requires now { now.0 ≡ ledger.now.moment }
+    requires now { now.0 ≡ ledger.now.book.moment }
     ensures { OnOk result (string_bytes out.new
-        ≡ string_bytes out.old ++ stream_line ledger.now wants.now stream) }
+        ≡ string_bytes out.old ++ stream_line ledger.now.book wants.now stream) }
 {
     match last_want(wants, stream) {
         Some(want) => write_want(out, ledger, now, &want),
@@ -116,9 +116,9 @@ fn write_streams(
     now: Cs,
     file: &LedgerFile,
 ) -> Result<(), AllocError>
-    requires now { now.0 ≡ ledger.now.moment }
+    requires now { now.0 ≡ ledger.now.book.moment }
     ensures { OnOk result (string_bytes out.new
-        ≡ string_bytes out.old ++ stream_lines ledger.now file.now.wants file.now.streams) }
+        ≡ string_bytes out.old ++ stream_lines ledger.now.book file.now.wants file.now.streams) }
 {
     let wants = file.wants.as_slice();
     let streams = file.streams.as_slice();
@@ -130,8 +130,8 @@ fn write_streams(
 
 /// The two lines of sums.
 fn write_sums(out: &mut String, ledger: &Ledger, file: &LedgerFile) -> Result<(), AllocError>
-    requires caps { ledger.now.caps ≡ caps_of file.now.rate file.now.delta_a file.now.delta_b }
-    ensures { OnOk result (string_bytes out.new ≡ string_bytes out.old ++ sum_lines ledger.now) }
+    requires caps { ledger.now.book.caps ≡ caps_of file.now.rate file.now.delta_a file.now.delta_b }
+    ensures { OnOk result (string_bytes out.new ≡ string_bytes out.old ++ sum_lines ledger.now.book) }
 {
     let caps = Caps::new(file.rate, file.delta_a, file.delta_b);
     let class_a = ledger.slope(Class::A);
@@ -148,9 +148,9 @@ pub fn ledger_text(
     ledger: &Ledger,
     now: Cs,
 ) -> Result<String, AllocError>
-    requires now { now.0 ≡ ledger.now.moment }
-    requires caps { ledger.now.caps ≡ caps_of file.now.rate file.now.delta_a file.now.delta_b }
-    ensures { IfOk result (λ s. string_bytes s ≡ ledger_text_spec file.now ledger.now) }
+    requires now { now.0 ≡ ledger.now.book.moment }
+    requires caps { ledger.now.book.caps ≡ caps_of file.now.rate file.now.delta_a file.now.delta_b }
+    ensures { IfOk result (λ s. string_bytes s ≡ ledger_text_spec file.now ledger.now.book) }
 {
     let mut out = String::new(alloc);
     write_streams(&mut out, ledger, now, file)?;

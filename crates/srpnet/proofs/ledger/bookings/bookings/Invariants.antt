@@ -9,9 +9,9 @@ use Rattle.srpnet.proofs.ledger.bookings.bookings.Given as goal
 
 abbrev pub invariant-loop-want : goal.invariant-loop-want
 invariant-loop-want l = record {
-  caps : l.ledger.caps ≡ l.initial.ledger.caps;
-  moment : l.now.0 ≡ l.ledger.moment;
+  caps : l.ledger.book.caps ≡ l.initial.ledger.book.caps;
+  moment : l.now.0 ≡ l.ledger.book.moment;
   ticks : first_fall (l.want-index + 1) l.now.0 (want_ticks (drop l.want-index l.wants)) ≡ None;
-  kept : (s : StreamId) → want_of l.ledger.entries s ≡ last_want (take l.want-index l.wants) s;
-  leads : (end : Book) → Leads l.ledger (drop l.want-index l.wants) end → Leads l.initial.ledger l.wants end;
+  kept : (s : StreamId) → want_of l.ledger.book.entries s ≡ last_want (take l.want-index l.wants) s;
+  leads : (end : Book) → Leads l.ledger.book (drop l.want-index l.wants) end → Leads l.initial.ledger.book l.wants end;
 }
