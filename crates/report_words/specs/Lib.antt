@@ -1,5 +1,4 @@
 pub mod Words
 pub mod Names
-pub mod Ports
 pub mod Tally
 pub mod Lines

@@ -2,8 +2,7 @@
 
 ghost use Rattle.std.specs.Prelude.{◌≡◌, IfOk};
 ghost use Rattle.std.specs.List.{AllByRecursion};
-ghost use Rattle.tree_topology.specs.Topology.{HasPort};
-ghost use Rattle.report_words.specs.Ports.{link_ports};
+ghost use Rattle.tree_topology.specs.Topology.{HasPort, link_ports};
 
 use srp_base::{EgressPort, LinkNo, NoMemory};
 use std::alloc::Global;

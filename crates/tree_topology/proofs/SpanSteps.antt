@@ -173,7 +173,8 @@ span-more count links parents depths order u v known h m reached j free =
             → Type 0 = λ t. get_or d' t 0 < get_or d' v 0 in subst F (sym e)
             (subst G (sym p_v) (omega (arith, d_x u uv, d_v))))
         | inr ne ↦ (let G : ℕ
-            → Type 0 = λ t. get_or d' t 0 < get_or d' x 0 in let w = was x ne q in let pv = parent_old x k w o in subst G (sym (p_x x ne)) (omega (arith, d_x x ne, d_x (get_or parents x 0) pv, h.falls x k w o)))
+            → Type 0 = λ t. get_or d' t 0 < get_or d' x 0 in let w = was x ne q in
+            let pv = parent_old x k w o in subst G (sym (p_x x ne)) (omega (arith, d_x x ne, d_x (get_or parents x 0) pv, h.falls x k w o)))
       ]);
       shallow = (λ x le. elim (cases_eq x v) [
         | inl e ↦ (let F : ℕ → Type 0 = λ t. get_or d' t 0 ≤ length o' in subst F (sym e) (omega (arith, d_v, h.shallow u m.1, size)))

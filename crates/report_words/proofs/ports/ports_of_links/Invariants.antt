@@ -1,8 +1,7 @@
 use Rattle.std.proofs.Common.{◌≡◌, ◌++◌, drop}
 use Rattle.std.specs.Prelude.{flat_map}
 use Rattle.std.specs.List.{AllByRecursion}
-use Rattle.tree_topology.specs.Topology.{HasPort}
-use Rattle.report_words.specs.Ports.{link_ports}
+use Rattle.tree_topology.specs.Topology.{HasPort, link_ports}
 use Rattle.report_words.proofs.LinkPorts.{both_ends}
 use Rattle.report_words.proofs.ports.ports_of_links.Given as goal
 

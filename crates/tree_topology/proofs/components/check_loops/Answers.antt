@@ -21,7 +21,11 @@ loop-i-preserved c =
     let along = c.loop-i.invariant.0.along in
     let size = c.loop-i.components.leaders.ok.0 in
     let here : HasComponents (length c.args.nodes.now) (take (c.loop-i.i + 1) c.args.links.now)
-    (joined_leaders c.loop-i.components.leaders.items c.loop-i.components.ranks.items c.leader-a.result c.leader-b.result) (joined_ranks c.loop-i.components.ranks.items c.leader-a.result c.leader-b.result) × IsLoopFreeTo c.args.links.now (c.loop-i.i + 1) = loop_free-step _ _ _ _ _ _ _ _ c.loop-i.invariant.0 c.requires.few_links c.loop-i.invariant.1 c.loop-i-test.true (omega (arith, size, c.leader-a.ensures.within)) (omega (arith, size, c.leader-b.ensures.within)) c.if-a-b.false c.leader-a.ensures.leader c.leader-b.ensures.leader (c.leader-a.ensures.connected earlier along) (c.leader-b.ensures.connected earlier along) in
+    (joined_leaders c.loop-i.components.leaders.items c.loop-i.components.ranks.items c.leader-a.result c.leader-b.result)
+    (joined_ranks c.loop-i.components.ranks.items c.leader-a.result c.leader-b.result) × IsLoopFreeTo c.args.links.now (c.loop-i.i + 1) =
+    loop_free-step _ _ _ _ _ _ _ _ c.loop-i.invariant.0 c.requires.few_links c.loop-i.invariant.1 c.loop-i-test.true
+    (omega (arith, size, c.leader-a.ensures.within)) (omega (arith, size, c.leader-b.ensures.within)) c.if-a-b.false c.leader-a.ensures.leader
+    c.leader-b.ensures.leader (c.leader-a.ensures.connected earlier along) (c.leader-b.ensures.connected earlier along) in
     components-as _ _ _ _ _ _ _ _ here c.join.ensures.leaders c.join.ensures.ranks
 
 pub returns-clause-ok : goal.returns-clause-ok

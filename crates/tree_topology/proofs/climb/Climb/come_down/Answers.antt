@@ -7,4 +7,5 @@ port_to-port-requires c = joined-sym c.args.routes.now.links c.args.self.now.the
 
 pub returns-clause-path : goal.returns-clause-path
 returns-clause-path c =
-    step-down _ _ _ _ _ _ _ _ _ _ _ c.parent-next.ensures.routed c.requires.here c.requires.there c.requires.apart c.requires.deeper c.parent-next.ensures.parent c.port_to-port.ensures c.in_ok-push.ensures.items
+    step-down _ _ _ _ _ _ _ _ _ _ _ c.parent-next.ensures.routed c.requires.here c.requires.there c.requires.apart
+    c.requires.deeper c.parent-next.ensures.parent c.port_to-port.ensures c.in_ok-push.ensures.items

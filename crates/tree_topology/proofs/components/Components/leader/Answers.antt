@@ -12,5 +12,8 @@ loop-next-preserved c =
     let leaders = c.args.self.now.leaders.items in
     let h = c.loop-next.invariant in
     let F : ℕ → Type 0 = λ t. t < length leaders in
-    let within : c.loop-next.next < length leaders = subst F (sym h.1) (c.requires.led.within c.loop-next.at h.0) in
-    (within, read-at leaders c.loop-next.next c.from-in-loop-next.result c.index-next-in-loop-next.result.now 0 c.from-in-loop-next.ensures within c.index-next-in-loop-next.ensures, (λ links along. leads-further links leaders c.args.node c.loop-next.at c.loop-next.next along h.0 h.1 (h.2 links along)))
+    let within : c.loop-next.next < length leaders = subst F (sym h.1) (c.requires.led.within c.loop-next.at h.0) in (
+      within,
+      read-at leaders c.loop-next.next c.from-in-loop-next.result c.index-next-in-loop-next.result.now 0 c.from-in-loop-next.ensures within c.index-next-in-loop-next.ensures,
+      (λ links along. leads-further links leaders c.args.node c.loop-next.at c.loop-next.next along h.0 h.1 (h.2 links along)),
+    )

@@ -8,9 +8,11 @@ parent-at-requires-clause-not_first c =
 pub loop-at-preserved : goal.loop-at-preserved
 loop-at-preserved c = record {
   node = c.parent-at.ensures.node;
-  side = climb-step _ _ _ _ _ _ _ _ _ _ c.depth.ensures.routed c.requires.top c.loop-at.invariant.node c.requires.not_first c.depth-depth.ensures.depth c.depth.ensures.depth c.loop-at-test.true c.parent-at.ensures.parent c.loop-at.invariant.side;
+  side = climb-step _ _ _ _ _ _ _ _ _ _ c.depth.ensures.routed c.requires.top c.loop-at.invariant.node c.requires.not_first
+      c.depth-depth.ensures.depth c.depth.ensures.depth c.loop-at-test.true c.parent-at.ensures.parent c.loop-at.invariant.side;
 }
 
 pub returns : goal.returns
 returns c =
-    climb-end _ _ _ _ _ _ _ _ _ c.depth.ensures.routed c.requires.top c.loop-at.invariant.node c.requires.not_first c.depth-depth.ensures.depth c.depth.ensures.depth c.loop-at-test.false c.loop-at.invariant.side
+    climb-end _ _ _ _ _ _ _ _ _ c.depth.ensures.routed c.requires.top c.loop-at.invariant.node c.requires.not_first
+    c.depth-depth.ensures.depth c.depth.ensures.depth c.loop-at-test.false c.loop-at.invariant.side

@@ -20,7 +20,9 @@ reach-requires-clause-depths c =
 
 pub loop-neighbour-preserved : goal.loop-neighbour-preserved
 loop-neighbour-preserved c =
-    let s = visit-step _ _ _ _ _ _ _ _ _ _ _ _ _ c.args.graph.now.is_graph.known c.neighbours-neighbour-items.ensures c.loop-neighbour-test.true c.loop-neighbour.invariant.span c.loop-neighbour.invariant.grows c.loop-neighbour.invariant.reached c.requires.node c.requires.reached c.in_ok-reach.ensures.parents c.in_ok-reach.ensures.depths c.in_ok-reach.ensures.order in
+    let s = visit-step _ _ _ _ _ _ _ _ _ _ _ _ _ c.args.graph.now.is_graph.known c.neighbours-neighbour-items.ensures
+    c.loop-neighbour-test.true c.loop-neighbour.invariant.span c.loop-neighbour.invariant.grows c.loop-neighbour.invariant.reached
+    c.requires.node c.requires.reached c.in_ok-reach.ensures.parents c.in_ok-reach.ensures.depths c.in_ok-reach.ensures.order in
     record { span = s.0; grows = s.1; reached = s.2 }
 
 pub returns-clause-neighbours : goal.returns-clause-neighbours
