@@ -20,7 +20,8 @@ pub(crate) fn by_key<K: Copy + Ord, C: Copy>(
     alloc: Global,
     events: &[(MrpEvent, K, C)],
 ) -> Result<Vec<(MrpEvent, K, C)>, NoMemory>
-    ensures { IfOk result (λ v. (leave : Moment) (leave_all : Bool) (k : K) (row : Option (RowOf K C))
+    ensures { IfOk result (λ v. (leave : Moment) (leave_all : Bool) (k : K)
+        (row : Option (RowOf K C))
         → row_after_receive K.cmp leave leave_all v.items k row
         ≡ row_after_receive K.cmp leave leave_all events.now k row) }
 {

@@ -58,15 +58,15 @@ pub fn a_neighbours_leave_all_assures<A: MrpApp>()
     ensures clears { (l : MarkedLink A.Key A.Content) (now : Cs)
         → is_active l.link.far.leave_all ≡ true
         → l.link.sent ≡ []
-        → (after_marked_event A.base A.octets A.Key.cmp A.Content.eq l (AtFar (Sends now))).near.clear
-        ≡ true }
+        → (after_marked_event A.base A.octets A.Key.cmp A.Content.eq l
+        (AtFar (Sends now))).near.clear ≡ true }
     ensures assures { (l : MarkedLink A.Key A.Content) (now : Cs) (m : Messages A.Key A.Content)
         (coming : List (Messages A.Key A.Content))
         → l.link.coming ≡ m ∷ coming
         → m.leave_all ≡ true
         → l.near.clear ≡ true
-        → (after_marked_event A.base A.octets A.Key.cmp A.Content.eq l (AtNear (Receives now))).near.assured
-        ≡ true }
+        → (after_marked_event A.base A.octets A.Key.cmp A.Content.eq l
+        (AtNear (Receives now))).near.assured ≡ true }
 {}
 
 /// After every history of a link with marks: where its near end is sound, by its own LeaveAll or by a mark, both ends are

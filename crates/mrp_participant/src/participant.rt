@@ -44,9 +44,26 @@ impl<A: MrpApp> Model for Participant<A> {
 
     ghost Value = { Holding A.Key A.Content };
 
-    ghost view = { λ p. record { state = record { rows = p.rows.items; leave_all = p.leave_all; next_leave_all = p.next_leave_all; period = p.period; leave_time = p.leave_time; periodic = p.periodic; sound = p.sound }; spare = vec_capacity p.rows - vec_len p.rows; ready = p.ready } };
+    ghost view = { λ p. record {
+      state = record {
+        rows = p.rows.items;
+        leave_all = p.leave_all;
+        next_leave_all = p.next_leave_all;
+        period = p.period;
+        leave_time = p.leave_time;
+        periodic = p.periodic;
+        sound = p.sound;
+      };
+      spare = vec_capacity p.rows - vec_len p.rows;
+      ready = p.ready;
+    } };
 
-    ghost invariant = { λ p. AreRows A.Key.cmp p.rows.items × IsTime p.period × IsTime p.leave_time × IsOutlook p.outlook p.rows.items × (p.left.items ≡ []) × (p.ready ≡ true → length p.rows.items ≤ vec_capacity p.left) };
+    ghost invariant = { λ p. AreRows A.Key.cmp p.rows.items
+        × IsTime p.period
+        × IsTime p.leave_time
+        × IsOutlook p.outlook p.rows.items
+        × (p.left.items ≡ [])
+        × (p.ready ≡ true → length p.rows.items ≤ vec_capacity p.left) };
 }
 
 impl<A: MrpApp> Participant<A> {

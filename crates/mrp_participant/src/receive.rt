@@ -111,7 +111,8 @@ fn hear<K: Copy + Ord, C: Copy>(
 ) -> Result<Vec<Row<K, C>>, NoMemory>
     requires { AreRows K.cmp rows.now }
     ensures are_rows { IfOk result (λ v. AreRows K.cmp v.items) }
-    ensures each_key { IfOk result (λ v. (k : K) → row_so_far K.cmp leave_all leave rows.now v.items k
+    ensures each_key { IfOk result (λ v. (k : K)
+        → row_so_far K.cmp leave_all leave rows.now v.items k
         ≡ row_after_receive K.cmp leave leave_all events.now k (find K.cmp k rows.now)) }
 {
     if keys_ascend(events) {

@@ -17,16 +17,19 @@ pub returns-in-Less-clause-next : goal.returns-in-Less-clause-next
 returns-in-Less-clause-next g c =
     let below : c.args.j < length c.args.heard.now = let within = c.requires.within in let other = c.if-j-heard.false in omega arith in
     let within : c.args.i < length c.args.rows.now = let within = c.requires.within in let other = c.if-i-rows.false in omega arith in
-    next-of_both g.K.Ord.cmp c.args.heard.now c.args.rows.now c.args.i c.args.j within Less c.index-heard-j-2.result c.index-rows-i-2.result below c.index-heard-j-2.is c.index-rows-i-2.is (sym c.in-Less.ensures)
+    next-of_both g.K.Ord.cmp c.args.heard.now c.args.rows.now c.args.i c.args.j within Less c.index-heard-j-2.result
+    c.index-rows-i-2.result below c.index-heard-j-2.is c.index-rows-i-2.is (sym c.in-Less.ensures)
 
 pub returns-in-Equal-clause-next : goal.returns-in-Equal-clause-next
 returns-in-Equal-clause-next g c =
     let below : c.args.j < length c.args.heard.now = let within = c.requires.within in let other = c.if-j-heard.false in omega arith in
     let within : c.args.i < length c.args.rows.now = let within = c.requires.within in let other = c.if-i-rows.false in omega arith in
-    next-of_both g.K.Ord.cmp c.args.heard.now c.args.rows.now c.args.i c.args.j within Equal c.index-heard-j-2.result c.index-rows-i-2.result below c.index-heard-j-2.is c.index-rows-i-2.is (sym c.in-Equal.ensures)
+    next-of_both g.K.Ord.cmp c.args.heard.now c.args.rows.now c.args.i c.args.j within Equal c.index-heard-j-2.result
+    c.index-rows-i-2.result below c.index-heard-j-2.is c.index-rows-i-2.is (sym c.in-Equal.ensures)
 
 pub returns-in-Greater-clause-next : goal.returns-in-Greater-clause-next
 returns-in-Greater-clause-next g c =
     let below : c.args.j < length c.args.heard.now = let within = c.requires.within in let other = c.if-j-heard.false in omega arith in
     let within : c.args.i < length c.args.rows.now = let within = c.requires.within in let other = c.if-i-rows.false in omega arith in
-    next-of_both g.K.Ord.cmp c.args.heard.now c.args.rows.now c.args.i c.args.j within Greater c.index-heard-j-2.result c.index-rows-i-2.result below c.index-heard-j-2.is c.index-rows-i-2.is (sym c.in-Greater.ensures)
+    next-of_both g.K.Ord.cmp c.args.heard.now c.args.rows.now c.args.i c.args.j within Greater c.index-heard-j-2.result
+    c.index-rows-i-2.result below c.index-heard-j-2.is c.index-rows-i-2.is (sym c.in-Greater.ensures)

@@ -13,7 +13,8 @@ with-requires g c =
 
 pub returns-in-Some-clause-tells : goal.returns-in-Some-clause-tells
 returns-in-Some-clause-tells g c =
-    replaced-some c.args.outlook.now _ c.with.result c.args.rows.now.items _ c.args.at c.index.result.now c.in-Some.row c.requires.within c.index.ensures c.requires.tells c.without-others.ensures c.with.ensures
+    replaced-some c.args.outlook.now _ c.with.result c.args.rows.now.items _ c.args.at c.index.result.now
+    c.in-Some.row c.requires.within c.index.ensures c.requires.tells c.without-others.ensures c.with.ensures
     (c.replace_at.ensures.rows ∙ ap (λ new. take c.args.at c.args.rows.now.items ++ cons_option new (drop (suc c.args.at) c.args.rows.now.items)) c.in-Some.is)
 
 pub returns-in-None-clause-tells : goal.returns-in-None-clause-tells

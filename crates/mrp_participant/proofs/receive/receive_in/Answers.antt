@@ -53,7 +53,8 @@ returns-in_err-put_heard g c =
 
 pub returns-clause-rows : goal.returns-clause-rows
 returns-clause-rows g c =
-    rows-received g.met.K.Ord.total c.args.leave_all c.args.leave c.args.events.now c.args.rows.now.items _ _ _ c.as_slice-all.ensures.value c.as_slice-2.ensures.value c.requires.are_rows c.in_ok-heard.ensures.each_key _ c.in_ok-put_heard.ensures.ascends c.in_ok-put_heard.ensures.each_key
+    rows-received g.met.K.Ord.total c.args.leave_all c.args.leave c.args.events.now c.args.rows.now.items _ _ _ c.as_slice-all.ensures.value
+    c.as_slice-2.ensures.value c.requires.are_rows c.in_ok-heard.ensures.each_key _ c.in_ok-put_heard.ensures.ascends c.in_ok-put_heard.ensures.each_key
 
 pub returns-clause-are_rows : goal.returns-clause-are_rows
 returns-clause-are_rows g c =
@@ -63,7 +64,8 @@ returns-clause-are_rows g c =
 pub returns-clause-keys : goal.returns-clause-keys
 returns-clause-keys g c =
     c.from_vec.ensures
-    ∙ keys-told g.met.K.Ord.total c.args.leave_all c.args.leave c.args.events.now c.args.rows.now.items _ _ _ c.as_slice-all.ensures.value c.as_slice.ensures.value c.requires.are_rows c.in_ok-heard.ensures.each_key g.C.PartialEq.eq g.met.C.Eq.laws _ _ c.in_ok-heard.ensures.are_rows.0 c.as_slice-all.ensures.value c.in_ok-keys.ensures
+    ∙ keys-told g.met.K.Ord.total c.args.leave_all c.args.leave c.args.events.now c.args.rows.now.items _ _ _ c.as_slice-all.ensures.value c.as_slice.ensures.value
+    c.requires.are_rows c.in_ok-heard.ensures.each_key g.C.PartialEq.eq g.met.C.Eq.laws _ _ c.in_ok-heard.ensures.are_rows.0 c.as_slice-all.ensures.value c.in_ok-keys.ensures
 
 pub returns-clause-outlook : goal.returns-clause-outlook
 returns-clause-outlook g c = c.in_ok-put_heard.ensures.outlook

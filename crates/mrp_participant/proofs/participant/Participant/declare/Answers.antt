@@ -27,7 +27,9 @@ returns-clause-each_key g c =
     ap (find g.A.Key.Ord.cmp k) is
     ∙ each-declare g.met.A.Key.Ord.total g.A.Content.PartialEq.eq c.args.key c.args.content c.self.inside.rows.items c.self.invariant.0 k
     ∙ ap
-    (λ (s : State g.row.A-Key.Denot g.row.A-Content.Denot). if same g.A.Key.Ord.cmp c.args.key k then after_declare g.A.Content.PartialEq.eq c.args.key c.args.content (find g.A.Key.Ord.cmp c.args.key s.rows) else find g.A.Key.Ord.cmp k s.rows)
+    (λ (s : State g.row.A-Key.Denot g.row.A-Content.Denot). if same g.A.Key.Ord.cmp c.args.key k
+    then after_declare g.A.Content.PartialEq.eq c.args.key c.args.content (find g.A.Key.Ord.cmp c.args.key s.rows)
+    else find g.A.Key.Ord.cmp k s.rows)
     (state_is c.self.view_is))
     c.declare_in-done.ensures.ok
 
