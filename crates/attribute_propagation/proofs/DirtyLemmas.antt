@@ -123,7 +123,8 @@ module _ {K : Type 0} {cmp : K → K → Ordering} (o : IsTotalOrder cmp) where
   Each-marked P k [] h hs = (h, tt)
   Each-marked P k (x ∷ keys) h hs = Each-marked_at P k x keys (with_key cmp k keys) (cmp x k) h hs (Each-marked P k keys h hs.1)
 
-  ascending-marked_at : (k x : K) (keys later : List K) (c : Ordering) → cmp x k ≡ c → IsAscending cmp (x ∷ keys) → (cmp x k ≡ Less → AreAbove x later) → IsAscending cmp later → IsAscending cmp (marked_at c k x keys later)
+  ascending-marked_at : (k x : K) (keys later : List K) (c : Ordering) → cmp x k ≡ c → IsAscending cmp (x ∷ keys)
+      → (cmp x k ≡ Less → AreAbove x later) → IsAscending cmp later → IsAscending cmp (marked_at c k x keys later)
   ascending-marked_at k x keys later Less c up above rest = (above c, rest)
   ascending-marked_at k x keys later Equal c up above rest = up
   ascending-marked_at k x keys later Greater c up above rest = ((less k x c, above_all k x keys (less k x c) up.0), up)

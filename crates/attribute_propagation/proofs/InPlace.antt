@@ -4,7 +4,7 @@ use Rattle.std.specs.Prelude.{◌==◌}
 use Rattle.std.specs.List.{AllByRecursion}
 use Rattle.std.specs.declared.cmp.Ordering.{Ordering}
 use Rattle.attribute_propagation.specs.Dirty.{KeySet, all_marked}
-use Rattle.attribute_propagation.specs.Ports.{keys_in, marked_from, marked_everywhere}
+use Rattle.attribute_propagation.specs.Ports.{HasRoom, keys_in, marked_from, marked_everywhere}
 
 module _ {K : Type 0} where
   -- the first so many of these sets, the first at place n, have become others, each as its place asks; the rest are as they were
@@ -78,14 +78,20 @@ module _ {K : Type 0} where
       subst (λ j. AreDone Becomes 0 j old (set new i y)) more
       (one_more_done Becomes 0 i old new d y done below (subst (λ m. Becomes m (get_or new i d) y) place to))
 
-  -- what each is, where all have become others
-  pub all_hold : (Holds : KeySet K → Type 0) (Becomes : ℕ → KeySet K → KeySet K → Type 0) (n i : ℕ) (old new : List (KeySet K))
-      → AreDone Becomes n i old new → length new ≤ i → ((m : ℕ) (x y : KeySet K) → Becomes m x y → Holds y) → AllByRecursion Holds new
-  all_hold Holds Becomes n i old [] done end each = tt
-  all_hold Holds Becomes n zero old (y ∷ new) done end each = absurd (omega (arith, end))
-  all_hold Holds Becomes n (suc i) [] (y ∷ new) done end each = absurd done
-  all_hold Holds Becomes n (suc i) (x ∷ old) (y ∷ new) done end each =
-      (each n x y done.0, all_hold Holds Becomes (n + 1) i old new done.1 (omega (arith, end)) each)
+  -- what each is, where all have become others, by what each was
+  pub all_hold : (Held Holds : KeySet K → Type 0) (Becomes : ℕ → KeySet K → KeySet K → Type 0) (n i : ℕ) (old new : List (KeySet K))
+      → AreDone Becomes n i old new → length new ≤ i → ((m : ℕ) (x y : KeySet K) → Becomes m x y → Held x → Holds y)
+      → AllByRecursion Held old → AllByRecursion Holds new
+  all_hold Held Holds Becomes n i old [] done end each were = tt
+  all_hold Held Holds Becomes n zero old (y ∷ new) done end each were = absurd (omega (arith, end))
+  all_hold Held Holds Becomes n (suc i) [] (y ∷ new) done end each were = absurd done
+  all_hold Held Holds Becomes n (suc i) (x ∷ old) (y ∷ new) done end each were =
+      (each n x y done.0 were.0, all_hold Held Holds Becomes (n + 1) i old new done.1 (omega (arith, end)) each were.1)
+
+  -- what asks nothing holds of each set
+  pub ask_nothing : (sets : List (KeySet K)) → AllByRecursion (λ set. Unit {0}) sets
+  ask_nothing [] = tt
+  ask_nothing (x ∷ sets) = (tt, ask_nothing sets)
 
   -- where each keeps its keys, all do
   pub keys_stay : (Becomes : ℕ → KeySet K → KeySet K → Type 0) (n i : ℕ) (old new : List (KeySet K))
@@ -123,9 +129,9 @@ module _ {K : Type 0} (cmp : K → K → Ordering) where
       ap (λ ks. ks ∷ keys_in new) done.0
       ∙ ap (λ rest. (if n == at then x.keys else all_marked cmp keys x.keys) ∷ rest) (told_elsewhere at keys (n + 1) i old new done.1 (omega (arith, end)))
 
-  -- a set is told these keys
+  -- a set is told these keys, each of which lowers its spare by one at most
   abbrev pub IsToldToo : List K → ℕ → KeySet K → KeySet K → Type 0
-  IsToldToo keys m x y = y.keys ≡ all_marked cmp keys x.keys
+  IsToldToo keys m x y = (y.keys ≡ all_marked cmp keys x.keys) × (x.spare ≤ y.spare + length keys)
 
   pub told_everywhere : (keys : List K) (n i : ℕ) (old new : List (KeySet K))
       → AreDone (IsToldToo keys) n i old new → length new ≤ i → keys_in new ≡ marked_everywhere cmp keys (keys_in old)
@@ -135,5 +141,12 @@ module _ {K : Type 0} (cmp : K → K → Ordering) where
   told_everywhere keys n (suc i) [] (y ∷ new) done end = absurd done
   told_everywhere keys n (suc i) (x ∷ old) [] done end = absurd done
   told_everywhere keys n (suc i) (x ∷ old) (y ∷ new) done end =
-      ap (λ ks. ks ∷ keys_in new) done.0
+      ap (λ ks. ks ∷ keys_in new) done.0.0
       ∙ ap (λ rest. all_marked cmp keys x.keys ∷ rest) (told_everywhere keys (n + 1) i old new done.1 (omega (arith, end)))
+
+  -- room for these keys and n more leaves room for n
+  pub room_left : (keys : List K) (m i : ℕ) (old new : List (KeySet K)) → AreDone (IsToldToo keys) m i old new → length new ≤ i
+      → (n : ℕ) → HasRoom (length keys + n) old → HasRoom n new
+  room_left keys m i old new done end n room =
+      all_hold (λ set. length keys + n ≤ set.spare) (λ set. n ≤ set.spare) (IsToldToo keys) m i old new done end
+      (λ k x y to was. omega (arith, to.1, was)) room

@@ -1,4 +1,4 @@
--- A set of keys as the list of its keys, ascending strictly.
+-- A set of keys as the list of its keys, ascending strictly, with the room that it has for more.
 use Rattle.std.specs.Prelude.{◌≡◌, ◌≤◌, ◌<◌, ℕ, suc, Bool, true, false, not, List, [], ◌∷◌, ◌++◌, length, filter, fold, take, drop, Result, Ok, Err}
 use Rattle.std.specs.declared.cmp.Ordering.{Ordering}
 use Rattle.std.specs.declared.cmp.Ordering.TheVariants.{Less, Equal, Greater}

@@ -20,7 +20,10 @@ impl<K: Copy + Ord> Model for Dirty<K> {
 
     ghost Value = { KeySet K };
 
-    ghost view = { λ d. record { keys = d.keys.items; spare = vec_capacity d.keys - vec_len d.keys } };
+    ghost view = { λ d. record {
+      keys = d.keys.items;
+      spare = vec_capacity d.keys - vec_len d.keys;
+    } };
 
     ghost invariant = { λ d. IsAscending K.cmp d.keys.items };
 }
@@ -79,10 +82,12 @@ impl<K: Copy + Ord> Dirty<K> {
         Ok(all)
     }
 
-    /// Puts these keys in, in this order. It takes no memory: there is room for as many.
+    /// Puts these keys in, in this order. It takes no memory: there is room for as many. Each lowers the spare by one
+    /// at most.
     pub fn mark_all(&mut self, keys: &[K])
         requires { length keys.now ≤ self.old.spare }
-        ensures { self.new.keys ≡ all_marked K.cmp keys.now self.old.keys }
+        ensures keys { self.new.keys ≡ all_marked K.cmp keys.now self.old.keys }
+        ensures spare { self.old.spare ≤ self.new.spare + length keys.now }
     {
         for key in keys {
             self.mark_within(*key);

@@ -1,5 +1,5 @@
-//! What awaits after a set has changed, key by key: laws over the lists that contracts see. Each is a
-//! function that does nothing; calling it brings the law to a proof.
+//! What awaits after a set has changed, key by key: laws over the lists of keys. Each is a function that does nothing;
+//! calling it brings the law to a proof.
 
 ghost use Rattle.std.specs.Prelude.{◌≡◌, ◌&&◌, ◌||◌, not, List};
 ghost use Rattle.std.specs.Ordering.{is_eq};

@@ -1,6 +1,6 @@
 //! The keys that await settling at each link port of a node.
 
-ghost use Rattle.std.specs.Prelude.{◌≡◌, ◌<◌, ◌==◌, not, [], ◌≤◌, length, slice_get, slice_set, IfOk, OnOk, Some, if◌then◌else◌, option_map};
+ghost use Rattle.std.specs.Prelude.{◌≡◌, ◌<◌, ◌==◌, ◌+◌, ℕ, not, [], ◌≤◌, length, slice_get, slice_set, IfOk, OnOk, Some, if◌then◌else◌, option_map};
 ghost use Rattle.std.specs.List.{list_all, list_any};
 ghost use Rattle.attribute_propagation.specs.Dirty.{all_marked};
 ghost use Rattle.attribute_propagation.specs.Ports.{HasRoom, count_of, keys_in, keys_in_some, new_sets, none_awaits, some_awaits, marked_elsewhere, marked_everywhere, sets_with};
@@ -160,10 +160,15 @@ pub fn tell_elsewhere<K: Copy + Ord>(sets: &mut Vec<Dirty<K>>, at: usize, keys: 
     }
 }
 
-/// Puts these keys in at every port. It takes no memory: at each port there is room for as many.
+/// Puts these keys in at every port. It takes no memory: at each port there is room for as many. Where there was room
+/// for more than these, the rest of it is left.
 pub fn tell_everywhere<K: Copy + Ord>(sets: &mut Vec<Dirty<K>>, keys: &[K])
     requires { HasRoom (length keys.now) sets.old.items }
-    ensures { keys_in sets.new.items ≡ marked_everywhere K.cmp keys.now (keys_in sets.old.items) }
+    ensures keys { keys_in sets.new.items
+        ≡ marked_everywhere K.cmp keys.now (keys_in sets.old.items) }
+    // Room for these keys and n more leaves room for n.
+    ensures room { (n : ℕ) → HasRoom (length keys.now + n) sets.old.items
+        → HasRoom n sets.new.items }
 {
     for place in 0..sets.len() {
         sets[place].mark_all(keys);

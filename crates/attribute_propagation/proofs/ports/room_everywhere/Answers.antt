@@ -1,6 +1,6 @@
 use Rattle.std.proofs.Common.{◌≡◌, ◌<◌, ◌≤◌, ◌+◌, ℕ, List, length, get_or, sym, ap, subst, ◌∙◌, arith, rules}
 use Rattle.attribute_propagation.specs.Dirty.{KeySet}
-use Rattle.attribute_propagation.proofs.InPlace.{HasRoomNow, all_hold, as_many, keys_stay, none_yet, one_more, same_keys}
+use Rattle.attribute_propagation.proofs.InPlace.{HasRoomNow, all_hold, as_many, ask_nothing, keys_stay, none_yet, one_more, same_keys}
 use Rattle.attribute_propagation.proofs.ports.room_everywhere.Goals as goal
 
 pub loop-place-init : goal.loop-place-init
@@ -26,7 +26,8 @@ pub returns-clause-room : goal.returns-clause-room
 returns-clause-room g c =
     let end : length c.loop-place.sets.items ≤ c.loop-place.place =
     omega (arith, c.loop-place-test.false, c.len-place-end.ensures, as_many _ _ _ _ _ c.loop-place.invariant) in
-    all_hold (λ (set : KeySet g.row.K.Denot). c.args.keys ≤ set.spare) (HasRoomNow c.args.keys) 0 c.loop-place.place _ _ c.loop-place.invariant end (λ m x y now. now.1)
+    all_hold _ (λ (set : KeySet g.row.K.Denot). c.args.keys ≤ set.spare) (HasRoomNow c.args.keys) 0 c.loop-place.place _ _ c.loop-place.invariant end
+    (λ m x y now was. now.1) (ask_nothing c.args.sets.now.items)
 
 pub returns-clause-keys : goal.returns-clause-keys
 returns-clause-keys g c = keys_stay _ _ _ _ _ c.loop-place.invariant (λ m x y same. same.0)

@@ -1,6 +1,6 @@
 use Rattle.std.proofs.Common.{◌≡◌, ◌<◌, ◌≤◌, ◌+◌, ℕ, List, length, get_or, sym, ap, subst, ◌∙◌, arith}
 use Rattle.attribute_propagation.specs.Dirty.{KeySet}
-use Rattle.attribute_propagation.proofs.InPlace.{IsToldToo, as_many, next, none_yet, one_more, told_everywhere}
+use Rattle.attribute_propagation.proofs.InPlace.{IsToldToo, as_many, next, none_yet, one_more, room_left, told_everywhere}
 use Rattle.attribute_propagation.proofs.ports.tell_everywhere.Goals as goal
 
 pub loop-place-init : goal.loop-place-init
@@ -19,10 +19,17 @@ loop-place-preserved g c =
     omega (arith, c.loop-place-test.true, c.len-place-end.ensures, as_many _ _ _ _ _ c.loop-place.invariant) in
     one_more (IsToldToo g.K.Ord.cmp c.args.keys.now) c.loop-place.place c.args.sets.now.items c.loop-place.sets.items c.index_mut.result.now c.mark_all.new.self
     c.loop-place.invariant below
-    (subst (λ (set : KeySet g.row.K.Denot). IsToldToo g.K.Ord.cmp c.args.keys.now c.loop-place.place set c.mark_all.new.self) c.index_mut.ensures.value c.mark_all.ensures)
+    (subst (λ (set : KeySet g.row.K.Denot). IsToldToo g.K.Ord.cmp c.args.keys.now c.loop-place.place set c.mark_all.new.self) c.index_mut.ensures.value
+    (c.mark_all.ensures.keys, c.mark_all.ensures.spare))
 
-pub returns : goal.returns
-returns g c =
+pub returns-clause-keys : goal.returns-clause-keys
+returns-clause-keys g c =
     let end : length c.loop-place.sets.items ≤ c.loop-place.place =
     omega (arith, c.loop-place-test.false, c.len-place-end.ensures, as_many _ _ _ _ _ c.loop-place.invariant) in
     told_everywhere g.K.Ord.cmp c.args.keys.now 0 c.loop-place.place c.args.sets.now.items c.loop-place.sets.items c.loop-place.invariant end
+
+pub returns-clause-room : goal.returns-clause-room
+returns-clause-room g c =
+    let end : length c.loop-place.sets.items ≤ c.loop-place.place =
+    omega (arith, c.loop-place-test.false, c.len-place-end.ensures, as_many _ _ _ _ _ c.loop-place.invariant) in
+    room_left g.K.Ord.cmp c.args.keys.now 0 c.loop-place.place c.args.sets.now.items c.loop-place.sets.items c.loop-place.invariant end
