@@ -200,13 +200,6 @@ fn has_booking(ledger: &Ledger) -> bool {
     }
 }
 
-fn has_booking_in_copy(ledger: &Ledger) -> bool {
-    match ledger.copy() {
-        Ok(copy) => has_booking(&copy),
-        Err(_) => false,
-    }
-}
-
 /// Whether the emergency stream was booked and the other dropped.
 fn are_changed(changed: &Changed) -> bool {
     changed.booked.as_slice() == [StreamId(3)].as_slice()
@@ -225,20 +218,33 @@ fn has_changed(ledger: &Ledger) -> bool {
     }
 }
 
+/// Whether both streams are moved since then: the emergency stream, which is booked, before the other.
+fn has_moved(alloc: Global, ledger: &Ledger) -> Result<bool, NoMemory> {
+    let before = Entry {
+        want: small(9),
+        since: Some(Cs(0)),
+    };
+    let count = ledger.len().checked_add(1).ok_or(NoMemory)?;
+    let mut moved = Vec::with_capacity(alloc, count)?;
+    ledger.push_moved([before].as_slice(), &mut moved);
+    Ok(moved.as_slice() == [StreamId(3), StreamId(9)].as_slice())
+}
+
 /// Whether the emergency stream takes the other's place, in the ledger and in what it tells.
-fn evicts(ledger: &mut Ledger) -> bool
+fn evicts(alloc: Global, ledger: &mut Ledger) -> bool
     requires { ledger.old.book.moment ≡ 0 }
 {
     evict(ledger).is_ok()
         && has_entries(ledger)
-        && has_booking_in_copy(ledger)
+        && has_booking(ledger)
         && has_changed(ledger)
+        && has_moved(alloc, ledger) == Ok(true)
 }
 
 /// Whether in a new ledger, of 20 percent, it takes the place.
 fn is_evicted(alloc: Global) -> bool {
     match new_ledger(alloc, 20, 0) {
-        Some(mut ledger) => evicts(&mut ledger),
+        Some(mut ledger) => evicts(alloc, &mut ledger),
         None => false,
     }
 }

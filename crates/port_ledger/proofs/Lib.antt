@@ -1,3 +1,4 @@
+pub mod Among
 pub mod Changing
 pub mod Comparing
 pub mod Deciding

@@ -1,42 +1,18 @@
 -- A stream whose booking isn't among what changed is booked as before, or not booked as before.
-use Rattle.std.proofs.Common.{◌≡◌, ◌<◌, Bool, true, false, not, ◌&&◌, ◌||◌, ◌==◌, if◌then◌else◌, List, [], ◌∷◌, map, Some, refl, sym, ap, subst, arith}
-use Rattle.std.specs.Prelude.{find, filter, is_some}
-use Rattle.std.specs.List.{AllByRecursion, list_any}
+use Rattle.std.proofs.Common.{◌≡◌, Bool, true, false, not, ◌&&◌, ◌==◌, if◌then◌else◌, List, [], ◌∷◌, map, refl, ap, arith}
+use Rattle.std.specs.Prelude.{filter, is_some}
+use Rattle.std.specs.List.{list_any}
 use Rattle.std.proofs.lemmas.Bool.{or_parts}
 use Rattle.std.proofs.lemmas.Bool.Decides.{nat_tests}
 use Rattle.srp_base.specs.declared.numbers.StreamId.{StreamId}
 use Rattle.stream_importance.specs.declared.entry.Entry.{Entry}
 use Rattle.port_ledger.specs.Decision.{is_booked, stream_of, IsAscending}
-use Rattle.port_ledger.specs.Book.{booked_only_in, entry_of, same_entry, since_of}
-use Rattle.port_ledger.proofs.PerStream.{same_entry-is}
+use Rattle.port_ledger.specs.Book.{booked_only_in, same_entry, since_of}
+use Rattle.port_ledger.proofs.Among.{found_in}
 
 -- whether a stream is among streams
 abbrev pub is_among : StreamId → List StreamId → Bool
 is_among s streams = list_any (λ (x : StreamId). x.0 == s.0) streams
-
--- what holds of all holds of what is found
-all_found : (P : Entry → Type 0) (p : Entry → Bool) (xs : List Entry) (x : Entry) → AllByRecursion P xs → find p xs ≡ Some x → P x
-all_found P p [] x all h = cc
-all_found P p (y ∷ xs) x all h = by (p y) h (all_found P p xs x all.1)
-  where
-    by : (b : Bool) → (if b then Some y else find p xs) ≡ Some x → (find p xs ≡ Some x → P x) → P x
-    by true k rest = let same : y ≡ x = cc in subst P same all.0
-    by false k rest = rest k
-
--- the entry that is one of some entries is the one of its stream
-found_in : (x : Entry) (those : List Entry) → IsAscending those → list_any (same_entry x) those ≡ true → entry_of those x.want.stream ≡ Some x
-found_in x [] up h = cc
-found_in x (y ∷ ys) up h = by (same_entry x y) refl h (found_in x ys up.1)
-  where
-    by : (b : Bool) → same_entry x y ≡ b → (b || list_any (same_entry x) ys) ≡ true → (list_any (same_entry x) ys ≡ true → entry_of ys x.want.stream ≡ Some x) → entry_of (y ∷ ys) x.want.stream ≡ Some x
-    by true e k rest =
-        let same : x ≡ y = same_entry-is x y e in
-        let own : (stream_of y == x.want.stream.0) ≡ true = subst (λ (z : Entry). (stream_of z == x.want.stream.0) ≡ true) same (grind (arith, nat_tests)) in
-        rw own (ap (λ z. Some z) (sym same))
-    by false e k rest =
-        let below : stream_of y < stream_of x = all_found (λ z. stream_of y < stream_of z) (λ z. stream_of z == x.want.stream.0) ys x up.0 (rest k) in
-        let other : (stream_of y == x.want.stream.0) ≡ false = grind (arith, nat_tests, below) in
-        rw other (rest k)
 
 -- a booked stream that isn't among those booked in these alone is booked in those
 still_booked : (these those : List Entry) (s : StreamId) → IsAscending those → is_among s (booked_only_in these those) ≡ false → is_some (since_of these s) ≡ true → is_some (since_of those s) ≡ true

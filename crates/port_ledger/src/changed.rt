@@ -1,10 +1,12 @@
 //! What a call changed in the booked set.
 
-ghost use Rattle.std.specs.Prelude.{◌≡◌, ◌<◌, ◌++◌, [], length, drop, IfOk, OnOk};
+ghost use Rattle.std.specs.Prelude.{◌≡◌, ◌<◌, ◌≤◌, ◌+◌, ◌++◌, ◌∷◌, ◌&&◌, [], not, length, drop, vec_capacity, vec_len, if◌then◌else◌, IfOk, OnOk};
+ghost use Rattle.std.specs.List.{list_any};
 ghost use Rattle.port_ledger.specs.Book.{booked_only_in, same_entry};
-ghost use Rattle.port_ledger.specs.Decision.{IsAscending};
+ghost use Rattle.port_ledger.specs.Decision.{is_booked, IsAscending};
 ghost use Rattle.port_ledger.specs.Pass.{begins_with_entry, from_stream, booked_stream, booked_streams_below};
 
+use crate::entries::find_entry;
 use srp_base::{NoMemory, Seq, StreamId};
 use std::alloc::Global;
 use stream_importance::Entry;
@@ -128,4 +130,49 @@ fn same_entry(x: &Entry, y: &Entry) -> bool
     ensures { result ≡ same_entry x.now y.now }
 {
     *x == *y
+}
+
+/// Puts the streams whose booked entry is in these and not in those at the end, in room that is at hand.
+pub(crate) fn push_only_in(moved: &mut Vec<StreamId>, these: &[Entry], those: &[Entry])
+    requires those { IsAscending those.now }
+    requires room { length these.now + vec_len moved.old ≤ vec_capacity moved.old }
+    ensures items { moved.new.items ≡ moved.old.items ++ booked_only_in these.now those.now }
+    ensures len { vec_len moved.new ≤ length these.now + vec_len moved.old }
+    ensures capacity { vec_capacity moved.new ≡ vec_capacity moved.old }
+{
+    for x in these {
+        let new = is_only_here(x, those);
+        push_where(moved, new, x.want.stream);
+    }
+}
+
+/// Puts a stream at the end where a test holds, in room that is at hand.
+fn push_where(moved: &mut Vec<StreamId>, holds: bool, stream: StreamId)
+    requires { vec_len moved.old < vec_capacity moved.old }
+    ensures items { moved.new.items ≡ moved.old.items ++ (if holds then stream ∷ [] else []) }
+    ensures len { vec_len moved.new ≤ vec_len moved.old + 1 }
+    ensures capacity { vec_capacity moved.new ≡ vec_capacity moved.old }
+{
+    if holds {
+        moved.push_reserved(stream);
+    }
+}
+
+/// Whether an entry is booked, and isn't among those.
+fn is_only_here(x: &Entry, those: &[Entry]) -> bool
+    requires { IsAscending those.now }
+    ensures { result ≡ (is_booked x.now && not (list_any (same_entry x.now) those.now)) }
+{
+    x.since.is_some() && !is_among(x, those)
+}
+
+/// Whether an entry is among those.
+fn is_among(x: &Entry, those: &[Entry]) -> bool
+    requires { IsAscending those.now }
+    ensures { result ≡ list_any (same_entry x.now) those.now }
+{
+    match find_entry(those, x.want.stream) {
+        Some(y) => same_entry(x, &y),
+        None => false,
+    }
 }

@@ -44,15 +44,6 @@ pub(crate) fn take_out(entries: &mut Vec<Entry>, stream: StreamId)
     }
 }
 
-/// The same entries again, with room for one more.
-pub(crate) fn copy_of(alloc: Global, entries: &[Entry]) -> Result<Vec<Entry>, NoMemory>
-    ensures { IfOk result (λ v. v.items ≡ entries.now) }
-{
-    let mut copy = Vec::with_capacity(alloc, entries.len() + 1)?;
-    copy.extend_from_slice(entries)?;
-    Ok(copy)
-}
-
 /// The want is put at its place, where room is at hand or its stream has an entry.
 pub(crate) fn put(entries: &mut Vec<Entry>, want: Want)
     requires ascending { IsAscending entries.old.items }

@@ -1,6 +1,6 @@
 //! The ledger of one egress port.
 
-ghost use Rattle.std.specs.Prelude.{◌≡◌, ◌≢◌, ◌↔◌, ◌+◌, ◌≤◌, ◌<◌, ◌^◌, ◌==◌, ◌&&◌, nat_lt, ℕ, [], length, slice_get, Some, None, IsTrue, if◌then◌else◌, IfOk, IfSome, IsSome, OnOk, OnErr, is_some};
+ghost use Rattle.std.specs.Prelude.{◌≡◌, ◌≢◌, ◌↔◌, ◌+◌, ◌≤◌, ◌<◌, ◌^◌, ◌++◌, ◌==◌, ◌&&◌, nat_lt, ℕ, [], length, slice_get, vec_capacity, vec_len, Some, None, IsTrue, if◌then◌else◌, IfOk, IfSome, IsSome, OnOk, OnErr, is_some};
 ghost use Rattle.srp_base.specs.declared.bandwidth.Class.TheVariants.{A, B};
 ghost use Rattle.srp_base.specs.declared.numbers.StreamId.{StreamId};
 ghost use Rattle.stream_importance.specs.declared.entry.Fit.TheVariants.{Fits};
@@ -10,9 +10,9 @@ ghost use Rattle.port_ledger.specs.Book.{booked_only_in, booked_slope, clocked_b
 ghost use Rattle.port_ledger.specs.Pass.{has_want};
 ghost use Rattle.port_ledger.specs.Decision.{booked_of, Decides, does_fit, is_booked, IsAscending, IsDecision, marks_of};
 
-use crate::changed::{Changed, changes};
+use crate::changed::{Changed, changes, push_only_in};
 use crate::decide::{unwanted, wanted, wanted_in_room};
-use crate::entries::{bookings, copy_of, find_entry};
+use crate::entries::{bookings, find_entry};
 use crate::fit::{fit_of, tested_entry};
 use crate::front::Standing;
 use crate::laws::nothing_changed_where_both_lists_are_empty;
@@ -311,16 +311,20 @@ impl Ledger {
         changes(*self.entries.allocator(), before, &self.entries)
     }
 
-    /// What changed in the booked set since it was that of this ledger.
-    pub fn changes_after(&self, before: &Ledger) -> Result<Changed, NoMemory>
-        ensures booked { IfOk result (λ c. c.booked
-            ≡ booked_only_in self.now.book.entries before.now.book.entries) }
-        ensures dropped { IfOk result (λ c. c.dropped
-            ≡ booked_only_in before.now.book.entries self.now.book.entries) }
+    /// Puts what changed in the booked set since it was that of these entries, which ascend by StreamID, at the end of a
+    /// list with room for as many as both have: first the streams whose booking is new, ascending, and then those whose
+    /// booking is gone, ascending. A stream that is booked anew with another want comes twice. It takes no memory.
+    pub fn push_moved(&self, before: &[Entry], moved: &mut Vec<StreamId>)
+        requires before { IsAscending before.now }
+        requires room { length self.now.book.entries + length before.now + vec_len moved.old
+            ≤ vec_capacity moved.old }
+        ensures { moved.new.items ≡ moved.old.items
+            ++ (booked_only_in self.now.book.entries before.now
+            ++ booked_only_in before.now self.now.book.entries) }
     {
         self.stands();
-        before.stands();
-        changes(*self.entries.allocator(), &before.entries, &self.entries)
+        push_only_in(moved, &self.entries, before);
+        push_only_in(moved, before, &self.entries);
     }
 
     /// The stream's entry, booked or not; None exactly where none is kept.
@@ -353,22 +357,6 @@ impl Ledger {
         ensures { result ≡ slice_get self.now.book.entries index }
     {
         self.entries.get(index).copied()
-    }
-
-    /// A ledger of the same book.
-    pub fn copy(&self) -> Result<Ledger, NoMemory>
-        ensures { IfOk result (λ l. l.book ≡ self.now.book) }
-    {
-        let alloc = *self.entries.allocator();
-        let entries = copy_of(alloc, &self.entries)?;
-        let order = copy_of(alloc, &self.order)?;
-        Ok(Ledger {
-            caps: self.caps,
-            moment: self.moment,
-            entries,
-            order,
-            standing: self.standing,
-        })
     }
 
     /// The slopes of the booked streams of a class together, in bit/s.

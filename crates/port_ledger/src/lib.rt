@@ -30,7 +30,7 @@
 //! booked ones, and a want that is kept fits exactly where it is booked (`Ledger::stands`,
 //! `Ledger::fits`). `clock`, `shows_at` and `slope` go over no entry. No order of the entries but that of
 //! StreamIDs stands in a contract. A call that takes no memory (`enter`, `unwant`, `clock`, the
-//! readers but `bookings`, `changes_since` and `copy`) can't fail.
+//! readers but `bookings` and `changes_since`) can't fail.
 //!
 //! Who may not fail in the middle of a step makes room first: after `Ledger::room`, `Ledger::enter` takes as many
 //! new streams as there is room for, and takes no memory. A stream that has an entry needs no room, and neither
