@@ -5,10 +5,13 @@ use Rattle.std.specs.List.{list_any}
 use Rattle.std.specs.declared.cmp.Ordering.{Ordering}
 use Rattle.std.proofs.lemmas.Option.{slice_get-map, slice_get_read}
 use Rattle.srp_base.specs.declared.numbers.Cs.{Cs}
+use Rattle.registrar.specs.Table.{is_leaving}
+use Rattle.mrp_participant.specs.declared.row.Row.{Row}
+use Rattle.mrp_participant.specs.Row.{is_leaving_in, registrar_of}
 use Rattle.mrp_participant.specs.State.{declared_state, due_state, left_keys, withdrawn_state}
 use Rattle.attribute_propagation.specs.Dirty.{KeySet, is_awaiting, with_key, without_key}
 use Rattle.attribute_propagation.specs.Flat.{elsewhere, is_any}
-use Rattle.attribute_propagation.specs.Ports.{HasRoom, HasTold, keys_in, marked_elsewhere, marked_everywhere}
+use Rattle.attribute_propagation.specs.Ports.{HasRoom, HasTold, keys_at, keys_in, marked_elsewhere, marked_everywhere}
 use Rattle.flat_side.specs.Part.{Part, registers, same_content, settled_key, settled_part}
 use Rattle.flat_side.specs.Side.{FlatState, IsKept, at_part, awaiting_at, due_flat, has_own, parts_by, parts_settled, places_of, requested_flat, rule_at, settled_flat, with_part_at, with_told_part}
 use Rattle.flat_side.specs.Holding.{PartHolding, flat_of, parts_in}
@@ -39,7 +42,8 @@ module _ {K : Type 0} where
       rw (here, states-set parts at y, e) refl
 
   -- it changes, and tells keys
-  pub told_is : (cmp : K → K → Ordering) (parts : List (PartHolding K)) (old new : List (KeySet K)) (own : List K) (at : ℕ) (x y : PartHolding K) (f : Part K → Part K) (told : List K) (h : Part K → List K)
+  pub told_is : (cmp : K → K → Ordering) (parts : List (PartHolding K)) (old new : List (KeySet K))
+      (own : List K) (at : ℕ) (x y : PartHolding K) (f : Part K → Part K) (told : List K) (h : Part K → List K)
       → at < length parts → x ≡ slice_index_or parts at x → y.state ≡ f x.state → told ≡ h x.state → keys_in new ≡ marked_elsewhere cmp at told (keys_in old)
       → flat_of (slice_set parts at y) new own ≡ at_part at (λ s. with_told_part cmp at (f s) (h s) (flat_of parts old own)) (flat_of parts old own)
   told_is cmp parts old new own at x y f told h below is e said marked =
@@ -75,10 +79,6 @@ pub on_ok : {X E P Q : Type 0} (r : Result X E) → (P → Q) → OnOk r P → O
 on_ok (Ok x) f h = f h
 on_ok (Err e) f h = tt
 
-pub one_or_none : {X : Type 0} (b : Bool) (x : X) → length (if b then x ∷ [] else []) ≤ 1
-one_or_none true x = omega arith
-one_or_none false x = omega arith
-
 -- ---- the flat rule, and settling by it
 
 module _ {K : Type 0} (cmp : K → K → Ordering) where
@@ -103,7 +103,8 @@ module _ {K : Type 0} (cmp : K → K → Ordering) where
 
   pub rule_split : (at : ℕ) (own : List K) (parts : List (PartHolding K)) (key : K)
       → rule_at cmp at own (parts_in parts) key
-      ≡ ((is_awaiting cmp key own || list_any (λ (p : PartHolding K). registers cmp key p.state) (take at parts)) || list_any (λ (p : PartHolding K). registers cmp key p.state) (drop 1 (drop at parts)))
+      ≡ ((is_awaiting cmp key own || list_any (λ (p : PartHolding K). registers cmp key p.state) (take at parts))
+      || list_any (λ (p : PartHolding K). registers cmp key p.state) (drop 1 (drop at parts)))
   rule_split at own parts key =
       let q : PartHolding K → Bool = λ p. registers cmp key p.state in
       ap (λ bs. (is_awaiting cmp key own || is_any (take at bs)) || is_any (drop 1 (drop at bs))) (map-map (registers cmp key) (λ (p : PartHolding K). p.state) parts)
@@ -215,6 +216,32 @@ none_due cmp told side at s here now same none =
     let stays : slice_set side.parts at s ≡ side.parts = set-same cmp side.parts at s here in
     let all : marked_elsewhere cmp at [] side.awaiting ≡ side.awaiting = told.none_elsewhere at side.awaiting in
     rw (here, same, none, stays, all) refl
+
+-- where no key awaits settling changes nothing
+pub none_settled : {K : Type 0} (cmp : K → K → Ordering) (side : FlatState K) (at : ℕ) → awaiting_at at side ≡ [] → settled_flat cmp at side ≡ side
+none_settled {K} cmp side at none = by (slice_get side.parts at) refl
+  where
+    empty_stays : (sets : List (List K)) (i : ℕ) → keys_at i sets ≡ [] → slice_set sets i [] ≡ sets
+    empty_stays [] i h = refl
+    empty_stays (set ∷ sets) zero h = ap (λ keys. keys ∷ sets) (sym h)
+    empty_stays (set ∷ sets) (suc i) h = ap (λ others. set ∷ others) (empty_stays sets i h)
+
+    by : (o : Option (Part K)) → slice_get side.parts at ≡ o → settled_flat cmp at side ≡ side
+    by None here = rw here refl
+    by (Some s) here =
+        let stays : slice_set side.parts at s ≡ side.parts = set-same cmp side.parts at s here in
+        let all : slice_set side.awaiting at [] ≡ side.awaiting = empty_stays side.awaiting at none in
+        rw (here, none, stays, all) refl
+
+-- whether a key's registrar is LV
+pub leaving_of : {K C : Type 0} (row : Option (Row K C)) → is_leaving_in row ≡ is_leaving (registrar_of row)
+leaving_of None = refl
+leaving_of (Some r) = refl
+
+-- room for no key asks nothing
+pub no_room : {K : Type 0} (sets : List (KeySet K)) → HasRoom 0 sets
+no_room [] = tt
+no_room (set ∷ sets) = (omega arith, no_room sets)
 
 -- a key that the application declares, and didn't before, or withdraws, and did before, awaits everywhere
 pub asked_is : {K : Type 0} (cmp : K → K → Ordering) (key : K) (declared had : Bool) (side : FlatState K) (own : List K) (sets : List (List K)) → had ≡ has_own cmp key side → (declared ≡ had → ⊥)

@@ -67,10 +67,12 @@ module _ {K : Type 0} (cmp : K → K → Ordering) (laws : KeyLaws cmp) where
           let same : (at == at) ≡ true = grind arith in
           let kept : (if at == at then set else all_marked cmp told set) ≡ set = rw same refl in cc
 
-  marked_there : (at j : ℕ) (told keys : List K) (sets : List (List K)) → at ≢ j → slice_get (marked_elsewhere cmp at told sets) j ≡ Some keys → (set : List K) × (slice_get sets j ≡ Some set) × (all_marked cmp told set ≡ keys)
+  marked_there : (at j : ℕ) (told keys : List K) (sets : List (List K)) → at ≢ j → slice_get (marked_elsewhere cmp at told sets) j ≡ Some keys
+      → (set : List K) × (slice_get sets j ≡ Some set) × (all_marked cmp told set ≡ keys)
   marked_there at j told keys sets ne h = there (slice_get sets j) refl (sym (laws.told.elsewhere at j told sets) ∙ h)
     where
-      there : (o : Option (List K)) → slice_get sets j ≡ o → option_map (λ set. if j == at then set else all_marked cmp told set) o ≡ Some keys → (set : List K) × (slice_get sets j ≡ Some set) × (all_marked cmp told set ≡ keys)
+      there : (o : Option (List K)) → slice_get sets j ≡ o → option_map (λ set. if j == at then set else all_marked cmp told set) o ≡ Some keys
+          → (set : List K) × (slice_get sets j ≡ Some set) × (all_marked cmp told set ≡ keys)
       there None is e = cc
       there (Some set) is e =
           let other : (j == at) ≡ false = grind (arith, ne) in
@@ -93,7 +95,8 @@ module _ {K : Type 0} (cmp : K → K → Ordering) (laws : KeyLaws cmp) where
         ∙ elsewhere-set (suc at) (places_of cmp key side.own side.parts) (registers cmp key t)
 
     -- where the registration of a key is as before, the rule is
-    pub flat_there : (t : Part K) (sets : List (List K)) (j : ℕ) (key : K) → registers cmp key t ≡ registers cmp key s → is_flat cmp (record side { parts = slice_set side.parts at t; awaiting = sets }) j key ≡ is_flat cmp side j key
+    pub flat_there : (t : Part K) (sets : List (List K)) (j : ℕ) (key : K) → registers cmp key t ≡ registers cmp key s
+        → is_flat cmp (record side { parts = slice_set side.parts at t; awaiting = sets }) j key ≡ is_flat cmp side j key
     flat_there t sets j key e =
         ap (λ bs. elsewhere (suc j) (has_own cmp key side ∷ bs)) (map-set_same (registers cmp key) side.parts at s t here e)
 
@@ -211,13 +214,15 @@ module _ {K : Type 0} (cmp : K → K → Ordering) where
   new_rows leave_time periodic [] = tt
   new_rows leave_time periodic (p ∷ ports) = ((tt, tt), new_rows leave_time periodic ports)
 
-  none_declared : (leave_time : Cs) (periodic : Bool) (ports : List PortSetup) (i : ℕ) (s : Part K) (key : K) → slice_get (map (λ p. new_state p.period leave_time periodic) ports) i ≡ Some s → declares cmp key s ≡ false
+  none_declared : (leave_time : Cs) (periodic : Bool) (ports : List PortSetup) (i : ℕ) (s : Part K) (key : K)
+      → slice_get (map (λ p. new_state p.period leave_time periodic) ports) i ≡ Some s → declares cmp key s ≡ false
   none_declared leave_time periodic [] i s key h = cc
   none_declared leave_time periodic (p ∷ ports) zero s key h =
       let same : new_state p.period leave_time periodic ≡ s = cc in ap (declares cmp key) (sym same)
   none_declared leave_time periodic (p ∷ ports) (suc i) s key h = none_declared leave_time periodic ports i s key h
 
-  none_registered : (leave_time : Cs) (periodic : Bool) (ports : List PortSetup) (key : K) (p : ℕ) → elsewhere p (map (registers cmp key) (map (λ p. new_state p.period leave_time periodic) ports)) ≡ false
+  none_registered : (leave_time : Cs) (periodic : Bool) (ports : List PortSetup) (key : K) (p : ℕ)
+      → elsewhere p (map (registers cmp key) (map (λ p. new_state p.period leave_time periodic) ports)) ≡ false
   none_registered leave_time periodic [] key zero = refl
   none_registered leave_time periodic [] key (suc p) = refl
   none_registered leave_time periodic (q ∷ ports) key zero = all ports

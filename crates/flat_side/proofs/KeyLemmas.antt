@@ -59,7 +59,8 @@ module _ {K : Type 0} (cmp : K → K → Ordering) (laws : KeyLaws cmp) (IsKey :
 
   module _ (side : FlatState K) (proper : IsProper cmp IsKey side) (at : ℕ) (s : Part K) (here : slice_get side.parts at ≡ Some s) where
     -- a participant takes the place of another, and tells keys
-    pub proper-retold : (t : Part K) (told : List K) → AreRows cmp t.rows → SameDeclared cmp s t → TellsEach cmp told s t → HasKeyRows cmp IsKey t → HasKeysAlone cmp IsKey told → IsProper cmp IsKey (with_told_part cmp at t told side)
+    pub proper-retold : (t : Part K) (told : List K) → AreRows cmp t.rows → SameDeclared cmp s t → TellsEach cmp told s t
+        → HasKeyRows cmp IsKey t → HasKeysAlone cmp IsKey told → IsProper cmp IsKey (with_told_part cmp at t told side)
     proper-retold t told rows same tells own alone =
         record {
           kept = kept-retold cmp laws side proper.kept at s here t told same tells rows;
@@ -71,13 +72,15 @@ module _ {K : Type 0} (cmp : K → K → Ordering) (laws : KeyLaws cmp) (IsKey :
         }
 
     -- or tells none
-    pub proper-replaced : (t : Part K) → AreRows cmp t.rows → SameDeclared cmp s t → ((key : K) → registered_at cmp key t ≡ registered_at cmp key s) → HasKeyRows cmp IsKey t → IsProper cmp IsKey (with_part_at at t side)
+    pub proper-replaced : (t : Part K) → AreRows cmp t.rows → SameDeclared cmp s t
+        → ((key : K) → registered_at cmp key t ≡ registered_at cmp key s) → HasKeyRows cmp IsKey t → IsProper cmp IsKey (with_part_at at t side)
     proper-replaced t rows same stays own =
         let P : List (List K) → Type 0 = λ sets. IsProper cmp IsKey (record (with_part_at at t side) { awaiting = sets }) in
         subst P (laws.told.none_elsewhere at side.awaiting)
         (proper-retold t [] rows same (λ key. inr (stays key)) own (λ key e. absurd (cc)))
 
-  pub proper-at : (side : FlatState K) (make : Part K → FlatState K) (o : Option (Part K)) → IsProper cmp IsKey side → ((s : Part K) → o ≡ Some s → IsProper cmp IsKey (make s)) → IsProper cmp IsKey (with_part o make side)
+  pub proper-at : (side : FlatState K) (make : Part K → FlatState K) (o : Option (Part K)) → IsProper cmp IsKey side
+      → ((s : Part K) → o ≡ Some s → IsProper cmp IsKey (make s)) → IsProper cmp IsKey (with_part o make side)
   proper-at side make None proper h = proper
   proper-at side make (Some s) proper h = h s refl
 
@@ -146,7 +149,8 @@ module _ {K : Type 0} (cmp : K → K → Ordering) (laws : KeyLaws cmp) (IsKey :
       by true e i rest = (0, omega arith, same_key cmp laws k key e)
       by false e i rest = later (rest i)
 
-  pub told-alone : (t : Part K) (keys all : List K) → HasKeyRows cmp IsKey t → ((k : K) → Contains keys k → Contains all k) → ((k : K) → Contains all k → IsSome (find cmp k t.rows)) → HasKeysAlone cmp IsKey keys
+  pub told-alone : (t : Part K) (keys all : List K) → HasKeyRows cmp IsKey t → ((k : K) → Contains keys k → Contains all k)
+      → ((k : K) → Contains all k → IsSome (find cmp k t.rows)) → HasKeysAlone cmp IsKey keys
   told-alone t keys all h told place key is = h key (place key (told key (contains key keys is)))
 
   -- ---- receiving
@@ -171,4 +175,5 @@ module _ {K : Type 0} (cmp : K → K → Ordering) (laws : KeyLaws cmp) (IsKey :
       → ((k : K) → find cmp k t.rows ≡ fold (row_hearing cmp leave k) (if leave_all then option_map (leave_all_row leave) (find cmp k s.rows) else find cmp k s.rows) (said_events es))
       → HasKeyRows cmp IsKey t
   rows-received s t leave leave_all es h keys law key is =
-      heard leave key es (if leave_all then option_map (leave_all_row leave) (find cmp key s.rows) else find cmp key s.rows) keys (λ i. h key (some_begun leave_all leave _ i)) (sym (ap is_some (law key)) ∙ is)
+      heard leave key es (if leave_all then option_map (leave_all_row leave) (find cmp key s.rows)
+      else find cmp key s.rows) keys (λ i. h key (some_begun leave_all leave _ i)) (sym (ap is_some (law key)) ∙ is)

@@ -42,7 +42,8 @@ paired (x ∷ xs) (z ∷ ys) (suc at) y e get = let shorter : length xs ≡ leng
 module _ {K : Type 0} (cmp : K → K → Ordering) (laws : KeyLaws cmp) (IsKey : K → Type 0) where
   -- ---- a new side
 
-  new_parts : (leave_time : Cs) (periodic : Bool) (ports : List PortSetup) (at : ℕ) (s : Part K) → slice_get (map (λ p. new_state p.period leave_time periodic) ports) at ≡ Some s → HasKeyRows cmp IsKey s
+  new_parts : (leave_time : Cs) (periodic : Bool) (ports : List PortSetup) (at : ℕ) (s : Part K)
+      → slice_get (map (λ p. new_state p.period leave_time periodic) ports) at ≡ Some s → HasKeyRows cmp IsKey s
   new_parts leave_time periodic [] at s get = cc
   new_parts leave_time periodic (p ∷ ports) zero s get =
       let is : new_state p.period leave_time periodic ≡ s = cc in subst (HasKeyRows cmp IsKey) is (λ key h. absurd (cc))
@@ -71,13 +72,18 @@ module _ {K : Type 0} (cmp : K → K → Ordering) (laws : KeyLaws cmp) (IsKey :
     one_settled s key own h = by (rule key)
       where
         by : (b : Bool) → OwnPart (if b then declared_state cmp same_content key tt s else withdrawn_state cmp key s)
-        by true = (acts.declare_rows s key h.0, rows-changed cmp laws IsKey s (declared_state cmp same_content key tt s) key (after_declare same_content key tt (find cmp key s.rows)) h.1 (λ i. own) (changes.declare s key h.0))
+        by true = (
+          acts.declare_rows s key h.0,
+          rows-changed cmp laws IsKey s (declared_state cmp same_content key tt s) key
+              (after_declare same_content key tt (find cmp key s.rows)) h.1 (λ i. own) (changes.declare s key h.0),
+        )
         by false = (acts.withdraw_rows s key h.0, rows-changed cmp laws IsKey s (withdrawn_state cmp key s) key (after_withdraw (find cmp key s.rows)) h.1 (λ i. own) (changes.withdraw s key h.0))
 
     pub all_settled : (keys : List K) (s : Part K) → HasKeysAlone cmp IsKey keys → OwnPart s → OwnPart (settled_part cmp rule keys s)
     all_settled [] s alone h = h
     all_settled (x ∷ keys) s alone h =
-        all_settled keys (settled_key cmp rule s x) (λ v i. alone v (later (is_eq (cmp x v)) (is_awaiting cmp v keys) i)) (one_settled s x (alone x (first (is_eq (cmp x x)) (is_awaiting cmp x keys) (self cmp laws x))) h)
+        all_settled keys (settled_key cmp rule s x) (λ v i. alone v (later (is_eq (cmp x v)) (is_awaiting cmp v keys) i))
+        (one_settled s x (alone x (first (is_eq (cmp x x)) (is_awaiting cmp x keys) (self cmp laws x))) h)
       where
         later : (a b : Bool) → b ≡ true → (a || b) ≡ true
         later true b i = refl

@@ -84,7 +84,8 @@ module _ {K : Type 0} (cmp : K → K → Ordering) (laws : KeyLaws cmp) where
         ∙ (ap (λ d. if is_awaiting cmp v keys then rule v else d) (key_declared s x v rows)
         ∙ either (is_awaiting cmp v keys) (same cmp x v) (rule v) (declares cmp v s))
 
-  module _ (acts : Laws cmp) (side : FlatState K) (kept : IsKept cmp side) (at : ℕ) (s : Part K) (keys : List K) (here : slice_get side.parts at ≡ Some s) (set : slice_get side.awaiting at ≡ Some keys) where
+  module _ (acts : Laws cmp) (side : FlatState K) (kept : IsKept cmp side) (at : ℕ) (s : Part K) (keys : List K)
+      (here : slice_get side.parts at ≡ Some s) (set : slice_get side.awaiting at ≡ Some keys) where
     abbrev pub settled_here : Part K
     settled_here = settled_part cmp (is_flat cmp side at) keys s
 

@@ -1,6 +1,6 @@
 //! What comes in and goes out at a link port, and what the application asks for.
 
-ghost use Rattle.std.specs.Prelude.{◌≡◌, ◌<◌, ◌≤◌, ◌^◌, ◌∷◌, [], IsTrue, if◌then◌else◌, length, slice_get, None, Some, IfOk, IfSome, IsOk, OnOk, OnErr};
+ghost use Rattle.std.specs.Prelude.{◌≡◌, ◌<◌, ◌≤◌, ◌^◌, ◌∷◌, [], false, IsTrue, if◌then◌else◌, length, slice_get, None, Some, IfOk, IfSome, IsOk, OnOk, OnErr};
 ghost use Rattle.mrp_participant.specs.Lookup.{find};
 ghost use Rattle.mrp_participant.specs.Row.{is_leaving_in};
 ghost use Rattle.mrp_participant.specs.State.{due_count};
@@ -11,7 +11,9 @@ ghost use Rattle.flat_side.specs.Side.{HasReceived, received_flat, due_flat, lef
 
 use crate::app::FlatApp;
 use crate::laws::every_call_keeps_a_side;
-use crate::port::{fire_at, leave_all_at, leave_at, periodic_at, receive_at, room_at, spoil_at};
+use crate::port::{
+    fire_at, leave_all_at, leave_at, leave_room, periodic_at, receive_at, room_at, spoil_at,
+};
 use crate::side::{FlatSide, part_at};
 use attribute_propagation::laws::each_port_is_told;
 use attribute_propagation::{Dirty, room_everywhere, saturated, tell_everywhere};
@@ -29,6 +31,7 @@ impl<A: FlatApp> FlatSide<A> {
         requires { IsLinkPort port (length self.old.state.parts) }
         ensures state { self.new.state ≡ self.old.state }
         ensures ready { OnOk result (self.new.ready ≡ Some (place_of port)) }
+        ensures err { OnErr result (self.new.ready ≡ None) }
         ensures again { self.old.ready ≡ Some (place_of port) → IsOk result }
     {
         let at = usize::from(port.0) - 1;
@@ -131,7 +134,8 @@ impl<A: FlatApp> FlatSide<A> {
     }
 
     /// Ends the leave timer of one key at a link port, whatever the moment: LV becomes MT, and the key awaits
-    /// at every other link port. True exactly where the registrar was LV; where it wasn't, nothing changes.
+    /// at every other link port. True exactly where the registrar was LV; where it wasn't, nothing changes, and no
+    /// memory is taken.
     pub fn leave_now(&mut self, port: PortNo, key: A::Key) -> Result<bool, NoMemory>
         requires { IsLinkPort port (length self.old.state.parts) }
         ensures after { OnOk result (self.new.state
@@ -139,13 +143,16 @@ impl<A: FlatApp> FlatSide<A> {
         ensures was { IfOk result (λ b. IfSome (slice_get self.old.state.parts (place_of port))
             (λ s. b ≡ is_leaving_in (find A.Key.cmp key s.rows))) }
         ensures err { OnErr result (self.new.state ≡ self.old.state) }
+        // Want of memory comes only where the registrar is LV.
+        ensures stays { IfSome (slice_get self.old.state.parts (place_of port))
+            (λ s. is_leaving_in (find A.Key.cmp key s.rows) ≡ false → IsOk result) }
         ensures ready { OnOk result (self.new.ready ≡ None) }
     {
         every_call_keeps_a_side::<A>();
-        let keys = only(*self.parts.allocator(), key)?;
-        self.ready = None;
-        room_everywhere(&mut self.awaiting, 1)?;
         let at = usize::from(port.0) - 1;
+        self.ready = None;
+        let part = part_at(self.parts.as_slice(), at);
+        let keys = leave_room(&mut self.awaiting, part, key)?;
         let keys = keys.as_slice();
         Ok(leave_at(&mut self.parts, &mut self.awaiting, at, key, keys))
     }
@@ -243,8 +250,8 @@ fn ask<K: Copy + Ord>(
     Ok(())
 }
 
-// A list of one key.
-fn only<K: Copy>(alloc: Global, key: K) -> Result<Vec<K>, NoMemory>
+/// A list of one key.
+pub(crate) fn only<K: Copy>(alloc: Global, key: K) -> Result<Vec<K>, NoMemory>
     ensures { IfOk result (λ v. v.items ≡ key ∷ []) }
 {
     let mut keys = Vec::with_capacity(alloc, 1)?;

@@ -9,14 +9,16 @@
 //!  link <--octets-- send <----- participant of the port <--declare, withdraw---- settle, by the flat rule
 //! ```
 //!
-//! Contracts see a `FlatState` (`specs/Side.antt`): the participants' states, the awaiting keys and the own ones, all as
-//! lists; each call's clause is the whole state after it. What every side keeps, by its type, is `IsKept`: at each port
-//! each key that doesn't await is declared exactly where another port or the application has it registered. After want
-//! of memory the state is as it was.
+//! Contracts see a `SideHolding` (`specs/Holding.antt`): the side's state, and at which port it is ready. The state is a
+//! `FlatState` (`specs/Side.antt`): the participants' states, the awaiting keys and the own ones, all as lists; each
+//! call's clause is the whole state after it. What every side keeps, by its type, is `IsKept`: at each port each key that
+//! doesn't await is declared exactly where another port or the application has it registered. After want of memory the
+//! state is as it was.
 //!
 //! No call copies a participant or a set of awaiting keys: it takes the memory first, and then all changes in its place
-//! (`src/port.rt`). Beside the state contracts see at which port a side is ready (`specs/Holding.antt`): `room` takes the
-//! memory for `due` and `settle` there, so that a node fires and settles several applications, or none of them.
+//! (`src/port.rt`). `room` makes the side ready at a port: it takes the memory for `due` and `settle` there, so that a
+//! node fires and settles several applications, or none of them. Where no timer is due `due` takes none, where no key
+//! awaits `settle` takes none, and where a key's registrar isn't LV `leave_now` takes none.
 //!
 //! An application is a type with `FlatApp`: beside what `MrpApp` asks, its PDUs, what octets read as and how a PDU is
 //! written (`Codec`, `specs/Codec.antt`), and which keys it has. Its side is `FlatSide` of that type. A further call on a

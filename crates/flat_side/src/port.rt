@@ -1,20 +1,22 @@
 //! What the participant at a place does, in its place, and what it tells the ports. None of this takes memory but what
 //! answers that there was none.
 
-ghost use Rattle.std.specs.Prelude.{◌≡◌, ◌≤◌, ◌<◌, ◌^◌, ◌∷◌, [], true, List, length, slice_get, IfOk, IfSome, OnOk, OnErr};
+ghost use Rattle.std.specs.Prelude.{◌≡◌, ◌≤◌, ◌<◌, ◌^◌, true, false, List, length, slice_get, IfOk, IfSome, IsOk, OnOk, OnErr};
 ghost use Rattle.std.specs.List.{AllByRecursion};
 ghost use Rattle.mrp_participant.specs.Lookup.{find};
 ghost use Rattle.mrp_participant.specs.Row.{is_leaving_in};
 ghost use Rattle.mrp_participant.specs.State.{AreRows, due_count, due_state, left_keys};
 ghost use Rattle.attribute_propagation.specs.Dirty.{KeySet};
 ghost use Rattle.attribute_propagation.specs.Ports.{HasRoom, count_of, keys_in};
-ghost use Rattle.flat_side.specs.Side.{due_flat, heard_flat, leave_all_flat, left_flat, periodic_flat, sent_flat, spoilt_flat};
+ghost use Rattle.flat_side.specs.Side.{due_flat, heard_flat, leave_all_flat, left_flat, left_key, periodic_flat, sent_flat, spoilt_flat};
 ghost use Rattle.flat_side.specs.Holding.{HasRoomAt, flat_of, parts_in};
 
 use crate::app::FlatApp;
-use attribute_propagation::{Dirty, room_everywhere, set_at, tell_elsewhere, told_where};
+use crate::calls::only;
+use attribute_propagation::{Dirty, room_everywhere, set_at, tell_elsewhere};
 use mrp_participant::laws::told_keys_are_few;
 use mrp_participant::{Msgs, Participant};
+use registrar::Registrar;
 use srp_base::{Cs, NoMemory, Seq};
 
 // ---- room
@@ -46,6 +48,36 @@ fn part_room<A: FlatApp>(part: &mut Participant<A>, waiting: usize) -> Result<us
     part.room(waiting)?;
     part.due_room()?;
     Ok(part.rows())
+}
+
+/// Takes the memory for what the end of a key's leave timer tells. Answers the keys that are told: the key where its
+/// registrar is LV, and else none, and then no memory is taken.
+#[tactic(auto, using(crate::proofs::Changing::no_room))]
+pub(crate) fn leave_room<A: FlatApp>(
+    sets: &mut Vec<Dirty<A::Key>>,
+    part: &Participant<A>,
+    key: A::Key,
+) -> Result<Vec<A::Key>, NoMemory>
+    ensures told { IfOk result (λ v. v.items ≡ left_key A.Key.cmp key part.now.state) }
+    ensures room { IfOk result (λ v. HasRoom (length v.items) sets.new.items) }
+    ensures sets { keys_in sets.new.items ≡ keys_in sets.old.items }
+    ensures stays { is_leaving_in (find A.Key.cmp key part.now.state.rows) ≡ false
+        → IsOk result }
+{
+    let alloc = *sets.allocator();
+    if !is_leaving(part, key) {
+        return Ok(Vec::new(alloc));
+    }
+    room_everywhere(sets, 1)?;
+    only(alloc, key)
+}
+
+// Whether the registrar of a key is LV.
+#[tactic(auto, using(crate::proofs::Changing::leaving_of))]
+fn is_leaving<A: FlatApp>(part: &Participant<A>, key: A::Key) -> bool
+    ensures { result ≡ is_leaving_in (find A.Key.cmp key part.now.state.rows) }
+{
+    part.registrar(key) == Registrar::Leaving
 }
 
 // ---- what tells none
@@ -151,8 +183,8 @@ fn fired<A: FlatApp>(part: &mut Participant<A>, now: Cs) -> (u32, Seq<A::Key>)
     }
 }
 
-/// The leave timer of one key ends at a place, and where the key leaves, it awaits at every other port: it is handed in
-/// as a list too. There is room for it. True exactly where its registrar was LV.
+/// The leave timer of one key ends at a place, and the keys that leave, it or none, await at every other port. There is
+/// room for them. True exactly where its registrar was LV.
 pub(crate) fn leave_at<A: FlatApp>(
     parts: &mut Vec<Participant<A>>,
     sets: &mut Vec<Dirty<A::Key>>,
@@ -161,14 +193,15 @@ pub(crate) fn leave_at<A: FlatApp>(
     keys: &[A::Key],
 ) -> bool
     requires place { at < length parts.old.items }
-    requires keys { keys.now ≡ key ∷ [] }
-    requires room { HasRoom 1 sets.old.items }
+    requires keys { IfSome (slice_get (parts_in parts.old.items) at)
+        (λ s. keys.now ≡ left_key A.Key.cmp key s) }
+    requires room { HasRoom (length keys.now) sets.old.items }
     ensures after { (own : List A.Key) → flat_of parts.new.items sets.new.items own
         ≡ left_flat A.Key.cmp at key (flat_of parts.old.items sets.old.items own) }
     ensures was { IfSome (slice_get (parts_in parts.old.items) at)
         (λ s. result ≡ is_leaving_in (find A.Key.cmp key s.rows)) }
 {
     let was = parts[at].leave_due(key);
-    tell_elsewhere(sets, at, told_where(was, keys));
+    tell_elsewhere(sets, at, keys);
     was
 }

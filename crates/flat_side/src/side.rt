@@ -33,7 +33,10 @@ impl<A: FlatApp> Model for FlatSide<A> {
 
     ghost Value = { SideHolding A.Key };
 
-    ghost view = { λ s. record { state = flat_of s.parts.items s.awaiting.items s.own.keys; ready = s.ready } };
+    ghost view = { λ s. record {
+      state = flat_of s.parts.items s.awaiting.items s.own.keys;
+      ready = s.ready;
+    } };
 
     ghost invariant = { λ s. IsKept A.Key.cmp (flat_of s.parts.items s.awaiting.items s.own.keys)
         × IsReadyAs s.ready s.parts.items s.awaiting.items };

@@ -8,7 +8,8 @@
 //!
 //! MVRP is a flat application: what one port has registered is declared at every other. So its side is `flat_side`'s, and
 //! here stand what is MVRP's own: the octets that VIDs take, which numbers are VIDs, and its codec. Contracts see a
-//! `Vlans` (`specs/Side.antt`), where the words on a flat side have their names for VIDs.
+//! `SideHolding`: its state, a `Vlans` (`specs/Side.antt`, where the words on a flat side have their names for VIDs), and
+//! the link port at which the side is ready, if it is at one.
 //!
 //! What every side keeps, by its type, is `IsKept`: at each port each VID that doesn't await is declared exactly where
 //! another port or the application has it registered. `laws` says that a side keeps VIDs alone, and that what is sent

@@ -24,12 +24,14 @@ returns-clause-receive g c = λ now at leave_all events side keys proper.
     let rows = rows_at cmp IsKey side at s proper here in
     let t : Part g.row.A-Key.Denot = received_part cmp now leave_all events s in
     let new_rows = c.rows_stay_rows.ensures.receive s now leave_all (said_events events) rows in
-    let own : HasKeyRows cmp IsKey t = rows-received cmp laws IsKey s t (after now s.leave_time) leave_all events (proper.keys.parts at s here) keys (c.each_key_after_receive.ensures s now leave_all (said_events events) rows) in
+    let own : HasKeyRows cmp IsKey t = rows-received cmp laws IsKey s t (after now s.leave_time) leave_all events
+    (proper.keys.parts at s here) keys (c.each_key_after_receive.ensures s now leave_all (said_events events) rows) in
     proper-retold cmp laws IsKey side proper at s here t (told_by_receipt cmp now leave_all events s) new_rows
     (c.declarations_stay.ensures.receive s now leave_all (said_events events) rows)
     (c.receive_tells_each_change.ensures.told s now leave_all (said_events events) rows)
     own
-    (told-alone cmp laws IsKey t (told_by_receipt cmp now leave_all events s) (map key_of t.rows) own (λ k. c.told_keys_ascend.ensures.receive_rows s.rows t.rows k) (λ k. (c.a_row_where_something_is_kept.ensures.place t new_rows k).1)))
+    (told-alone cmp laws IsKey t (told_by_receipt cmp now leave_all events s) (map key_of t.rows) own
+    (λ k. c.told_keys_ascend.ensures.receive_rows s.rows t.rows k) (λ k. (c.a_row_where_something_is_kept.ensures.place t new_rows k).1)))
 
 pub returns-clause-due : goal.returns-clause-due
 returns-clause-due g c = λ now at side proper.

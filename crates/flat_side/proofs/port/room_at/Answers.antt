@@ -20,7 +20,8 @@ returns-clause-room g c =
     ∙ (ap (λ (sets : List (KeySet g.row.A-Key.Denot)). length (keys_at c.args.at (keys_in sets))) (sym c.as_slice.ensures.value)
     ∙ (ap (λ o. length (keys_or_none o)) c.set_at.ensures ∙ sym c.len-waiting.ensures)) in
     on_ok c.room_everywhere.result (λ room.
-    set_holds (HasPortRoom (length (keys_at c.args.at (keys_in c.room_everywhere.new.sets.items))) c.room_everywhere.new.sets.items) c.args.parts.now.items c.args.at c.part_room.new.part c.requires.part
+    set_holds (HasPortRoom (length (keys_at c.args.at (keys_in c.room_everywhere.new.sets.items))) c.room_everywhere.new.sets.items)
+    c.args.parts.now.items c.args.at c.part_room.new.part c.requires.part
     (record {
       fires = c.in_ok-rows.ensures.ready;
       settles = subst (λ n. n ≤ c.part_room.new.part.spare) (sym awaits) c.in_ok-rows.ensures.spare;

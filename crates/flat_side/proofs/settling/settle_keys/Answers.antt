@@ -14,7 +14,8 @@ settle_key-requires g c =
     let below : c.args.at < length c.loop-key.parts.items = omega (arith, c.requires.place, c.loop-key.invariant.many) in
     let more = drop_more c.args.keys.now c.loop-key.key-index c.key-item.result c.loop-key-test.true c.key-item.is in
     let left : length (drop c.loop-key.key-index c.args.keys.now) ≤ c.index_mut.result.now.spare =
-    holds_at (λ (p : PartHolding g.row.A-Key.Denot). length (drop c.loop-key.key-index c.args.keys.now) ≤ p.spare) c.loop-key.parts.items c.args.at c.index_mut.result.now below c.index_mut.ensures.value c.loop-key.invariant.room in
+    holds_at (λ (p : PartHolding g.row.A-Key.Denot). length (drop c.loop-key.key-index c.args.keys.now) ≤ p.spare)
+    c.loop-key.parts.items c.args.at c.index_mut.result.now below c.index_mut.ensures.value c.loop-key.invariant.room in
     omega (arith, left, ap (λ (keys : List g.row.A-Key.Denot). length keys) more)
 
 pub loop-key-preserved : goal.loop-key-preserved
@@ -28,7 +29,8 @@ loop-key-preserved g c =
     c.is_flat_at-is_flat.ensures ∙ ap (λ parts. rule_at cmp c.args.at c.args.own.now.keys (parts_in parts) c.key-item.result) c.as_slice.ensures.value in
     record {
       settled =
-          ap (parts_settled cmp c.args.at c.args.own.now.keys rest) (states-set c.loop-key.parts.items c.args.at c.settle_key.new.part ∙ ap (slice_set (parts_in c.loop-key.parts.items) c.args.at) c.settle_key.ensures.state)
+          ap (parts_settled cmp c.args.at c.args.own.now.keys rest) (states-set c.loop-key.parts.items c.args.at c.settle_key.new.part
+          ∙ ap (slice_set (parts_in c.loop-key.parts.items) c.args.at) c.settle_key.ensures.state)
           ∙ (settle_more cmp c.args.at c.args.own.now.keys (parts_in c.loop-key.parts.items) c.index_mut.result.now.state c.is_flat_at-is_flat.result c.key-item.result rest here rule
           ∙ (ap (λ keys. parts_settled cmp c.args.at c.args.own.now.keys keys (parts_in c.loop-key.parts.items)) (sym more) ∙ c.loop-key.invariant.settled));
       room = one_less c.loop-key.parts.items c.args.at (length (drop c.loop-key.key-index c.args.keys.now)) (length rest) c.index_mut.result.now c.settle_key.new.part below c.index_mut.ensures.value
