@@ -1,6 +1,6 @@
 -- What every side keeps stays so when the clock goes on.
-use Rattle.std.proofs.Common.{◌≡◌, ℕ, zero, suc, ◌≤◌, Bool, true, false, ◌&&◌, if◌then◌else◌, List, [], ◌∷◌, length, map, refl, sym, ap, subst, ◌∙◌, arith, nat_lt}
-use Rattle.std.specs.Prelude.{slice_get, Option, Some, None, option_map, option_and_then, unwrap_or}
+use Rattle.std.proofs.Common.{◌≡◌, ℕ, zero, suc, ◌≤◌, Bool, true, false, ◌&&◌, if◌then◌else◌, List, [], ◌∷◌, ◌++◌, ◌+◌, ◌<◌, length, map, take, drop, refl, sym, ap, subst, ◌∙◌, add-one, arith, nat_lt}
+use Rattle.std.specs.Prelude.{slice_get, slice_index_or, slice_set, Option, Some, None, option_map, option_and_then, unwrap_or}
 use Rattle.std.specs.List.{AllByRecursion, list_any}
 use Rattle.srp_base.specs.declared.numbers.StreamId.{StreamId}
 use Rattle.srp_base.specs.declared.streams.TalkerReg.{TalkerReg}
@@ -10,7 +10,8 @@ use Rattle.stream_importance.specs.declared.entry.Fit.{Fit}
 use Rattle.stream_importance.specs.declared.entry.Fit.TheVariants.{Fits}
 use Rattle.msrp_talker.specs.TalkerOut.{talker_in, talker_out}
 use Rattle.port_ledger.specs.Book.{Book, clocked_book, fit_for, has_new_booking, want_of, IsKept as IsKeptBook}
-use Rattle.attribute_propagation.specs.Dirty.{is_awaiting, all_marked}
+use Rattle.attribute_propagation.specs.Dirty.{KeySet, is_awaiting, all_marked}
+use Rattle.attribute_propagation.specs.Ports.{HasRoom, keys_in}
 use Rattle.mrp_participant.specs.State.{declared_at}
 use Rattle.msrp_codec.specs.declared.pdu.MsrpKey.{MsrpKey}
 use Rattle.msrp_codec.specs.declared.pdu.MsrpKey.TheVariants as keys
@@ -147,3 +148,67 @@ passed_is side kept now ports still is =
     ap (λ ps. record { ports = ps; awaiting = side.awaiting; talks = side.talks; listens = side.listens; moment = now }) is
     ∙ ap (λ sets. record { ports = map (clocked_port now) side.ports; awaiting = sets; talks = side.talks; listens = side.listens; moment = now })
     (sym (none_shown now (talker_keys side.talks side.ports) side.ports side.awaiting kept.sets still))
+
+-- and where it shows
+pub shown_is : (side : Streams) (now : ℕ) (ports : List PortState) (sets : List (List MsrpKey)) → ports ≡ map (clocked_port now) side.ports
+    → sets ≡ clocked_sets now (talker_keys side.talks side.ports) side.ports side.awaiting
+    → record { ports = ports; awaiting = sets; talks = side.talks; listens = side.listens; moment = now } ≡ clocked_streams now side
+shown_is side now ports sets p s = rw (p, s) refl
+
+-- ---- sets that are changed in place, one after the other
+
+-- one set more has become another where the clock shows
+pub show_more : (now : ℕ) (ks : List MsrpKey) (ports : List PortState) (sets : List (KeySet MsrpKey)) (i : ℕ) (p : PortState) (x y : KeySet MsrpKey) (shows : Bool)
+    → i < length sets → slice_get ports i ≡ Some p → x ≡ slice_index_or sets i x → shows ≡ shows_at now p → y.keys ≡ (if shows then all_marked key_cmp ks x.keys else x.keys)
+    → take (i + 1) (keys_in (slice_set sets i y)) ++ clocked_sets now ks (drop (i + 1) ports) (drop (i + 1) (keys_in (slice_set sets i y)))
+    ≡ take i (keys_in sets) ++ clocked_sets now ks (drop i ports) (drop i (keys_in sets))
+show_more now ks ports sets i p x y shows below here is test became =
+    let more : i + 1 ≡ suc i = add-one i in
+    ap (λ n. take n (keys_in (slice_set sets i y)) ++ clocked_sets now ks (drop n ports) (drop n (keys_in (slice_set sets i y)))) more
+    ∙ step ports sets i below here is
+  where
+    step : (ports : List PortState) (sets : List (KeySet MsrpKey)) (i : ℕ) → i < length sets → slice_get ports i ≡ Some p → x ≡ slice_index_or sets i x
+        → take (suc i) (keys_in (slice_set sets i y)) ++ clocked_sets now ks (drop (suc i) ports) (drop (suc i) (keys_in (slice_set sets i y)))
+        ≡ take i (keys_in sets) ++ clocked_sets now ks (drop i ports) (drop i (keys_in sets))
+    step ports [] i below here is = absurd (omega arith)
+    step [] (z ∷ sets) i below here is = cc
+    step (q ∷ ports) (z ∷ sets) zero below here is =
+        let port : q ≡ p = cc in
+        ap (λ k. k ∷ clocked_sets now ks ports (keys_in sets))
+        (became ∙ (ap (λ b. if b then all_marked key_cmp ks x.keys else x.keys) (test ∙ ap (shows_at now) (sym port))
+        ∙ ap (λ (w : KeySet MsrpKey). if shows_at now q then all_marked key_cmp ks w.keys else w.keys) is))
+    step (q ∷ ports) (z ∷ sets) (suc i) below here is = ap (λ kss. z.keys ∷ kss) (step ports sets i (omega (arith, below)) here is)
+
+-- at the end all have
+none_left : (now : ℕ) (ks : List MsrpKey) (ports : List PortState) → clocked_sets now ks ports [] ≡ []
+none_left now ks [] = refl
+none_left now ks (p ∷ ports) = refl
+
+all_taken : (sets : List (KeySet MsrpKey)) (i : ℕ) → length sets ≤ i → take i (keys_in sets) ++ [] ≡ keys_in sets
+all_taken [] zero end = refl
+all_taken [] (suc i) end = refl
+all_taken (set ∷ sets) zero end = absurd (omega (arith, end))
+all_taken (set ∷ sets) (suc i) end = ap (λ kss. set.keys ∷ kss) (all_taken sets i (omega (arith, end)))
+
+pub all_shown : (now : ℕ) (ks : List MsrpKey) (ports : List PortState) (sets : List (KeySet MsrpKey)) (i : ℕ) → length sets ≤ i
+    → take i (keys_in sets) ++ clocked_sets now ks (drop i ports) (drop i (keys_in sets)) ≡ keys_in sets
+all_shown now ks ports [] zero end = none_left now ks ports
+all_shown now ks ports [] (suc i) end = none_left now ks (drop (suc i) ports)
+all_shown now ks ports (set ∷ sets) zero end = absurd (omega (arith, end))
+all_shown now ks [] (set ∷ sets) (suc i) end = ap (λ kss. set.keys ∷ kss) (all_taken sets i (omega (arith, end)))
+all_shown now ks (p ∷ ports) (set ∷ sets) (suc i) end = ap (λ kss. set.keys ∷ kss) (all_shown now ks ports sets i (omega (arith, end)))
+
+-- the next set has room, and so have those that are left
+pub next_room : (n : ℕ) (sets : List (KeySet MsrpKey)) (i : ℕ) (x : KeySet MsrpKey) → i < length sets → x ≡ slice_index_or sets i x → HasRoom n (drop i sets) → n ≤ x.spare
+next_room n [] i x below is room = absurd (omega arith)
+next_room n (set ∷ sets) zero x below is room = let P : KeySet MsrpKey → Type 0 = λ s. n ≤ s.spare in subst P (sym is) room.0
+next_room n (set ∷ sets) (suc i) x below is room = next_room n sets i x (omega (arith, below)) is room
+
+pub left_room : (n : ℕ) (sets : List (KeySet MsrpKey)) (i : ℕ) (y : KeySet MsrpKey) → HasRoom n (drop i sets) → HasRoom n (drop (i + 1) (slice_set sets i y))
+left_room n sets i y room = let P : ℕ → Type 0 = λ m. HasRoom n (drop m (slice_set sets i y)) in subst P (sym (add-one i)) (rest sets i room)
+  where
+    rest : (sets : List (KeySet MsrpKey)) (i : ℕ) → HasRoom n (drop i sets) → HasRoom n (drop (suc i) (slice_set sets i y))
+    rest [] zero room = tt
+    rest [] (suc i) room = tt
+    rest (set ∷ sets) zero room = room.1
+    rest (set ∷ sets) (suc i) room = rest sets i room

@@ -1,8 +1,7 @@
 -- What every side keeps stays so: a participant takes the place of another, and the application asks for something.
-use Rattle.std.proofs.Common.{◌≡◌, ◌≢◌, ◌⊎◌, inl, inr, ℕ, ◌<◌, Bool, true, false, List, [], ◌∷◌, length, map, refl, sym, ap, subst, ◌∙◌}
-use Rattle.std.specs.Prelude.{slice_get, slice_index_or, Option, Some, IfSome, option_map, ◌==◌}
+use Rattle.std.proofs.Common.{◌≡◌, ◌≢◌, ◌⊎◌, inl, inr, ℕ, Bool, true, false, List, [], ◌∷◌, length, map, refl, sym, ap, subst, ◌∙◌}
+use Rattle.std.specs.Prelude.{slice_get, Option, Some, None, option_map, ◌==◌}
 use Rattle.std.proofs.Math.ListN.{length-set}
-use Rattle.std.proofs.lemmas.Option.{slice_get_read}
 use Rattle.srp_base.specs.declared.numbers.StreamId.{StreamId}
 use Rattle.srp_base.specs.declared.streams.Talker.{Talker}
 use Rattle.srp_base.specs.declared.streams.ListenerKind.{ListenerKind}
@@ -19,9 +18,9 @@ use Rattle.msrp.specs.PortState.{PortState}
 use Rattle.msrp.specs.Part.{Part, key_cmp, registered_talker, registered_listener, listener_kind_of, talker_content, HasOwnContents}
 use Rattle.msrp.specs.Domain.{domain_stated, is_edge}
 use Rattle.msrp.specs.Stream.{Registrations, edge_at, registrations_of, first_talker, listener_at, stated_at, talk_of, is_listened, talkers_of, advertise_of, listener_row}
-use Rattle.msrp.specs.Settling.{is_domain_told, keys_of, known_keys, told_sets}
-use Rattle.msrp.specs.Side.{Streams, IsKept, IsPort, IsSettled, IsSettledAt, seen_by, at_port, with_told_port, with_port_at, with_asks, with_part, SameDeclared, TellsEach}
-use Rattle.msrp.proofs.Places.{decide, get-set_same, get-set_other, each-set, each-get, opened}
+use Rattle.msrp.specs.Settling.{is_domain_told, keys_of, known_keys}
+use Rattle.msrp.specs.Side.{Streams, IsKept, IsPort, IsSettled, IsSettledAt, seen_by, with_port, with_told_port, with_port_at, with_asks, with_part, SameDeclared, TellsEach}
+use Rattle.msrp.proofs.Places.{decide, get-set_same, get-set_other, each-set, each-get}
 use Rattle.msrp.proofs.Talkers.{HasRows, stated_by, wanted_by}
 use Rattle.msrp.proofs.Domains.{edge_alike, edge_untold, unknown_absent}
 use Rattle.msrp.proofs.Telling.{IsUntold, WasTold, as_many_told, none_heeded, none_told, was_told, talker_untold, listener_untold, registrations-same, untold, Awaits, unmarked, was_set, talker_other, listener_other}
@@ -153,63 +152,24 @@ module _ (awaits : Awaits) (side : Streams) (kept : IsKept side) (at : ℕ) (p :
         settled = λ j. settled_after j (decide at j);
       }
 
-pub kept-put : Awaits → HasRows → (side : Streams) → IsKept side → (at : ℕ) → at < length side.ports → (p : PortState) → p ≡ slice_index_or side.ports at p → (t : Part) (told : List MsrpKey)
-    → AreRows key_cmp t.rows → HasOwnContents t
-    → ((q : PortState) → slice_get side.ports at ≡ Some q → SameDeclared q.part t)
-    → ((q : PortState) → slice_get side.ports at ≡ Some q → TellsEach told q.part t)
-    → IsKept (with_told_port at (with_part t p) told side)
-kept-put awaits has_rows side kept at below p is t told rows contents same tells =
-    let here : slice_get side.ports at ≡ Some p = slice_get_read side.ports (length side.ports) at p refl below is in
-    kept-retold awaits side kept at p here t told (same p here) (tells p here) (knows_talkers has_rows side p.domain told) rows contents
+-- a side that is made with the port at a place, if one is there
+pub kept-at : (side : Streams) (make : PortState → Streams) (o : Option PortState) → IsKept side → ((p : PortState) → o ≡ Some p → IsKept (make p)) → IsKept (with_port o make side)
+kept-at side make None kept h = kept
+kept-at side make (Some p) kept h = h p refl
 
--- ---- a participant changes in its place, and tells nothing
+module _ (awaits : Awaits) where
+  -- a participant that tells keys
+  pub kept-heard : HasRows → (side : Streams) → IsKept side → (at : ℕ) (p : PortState) → slice_get side.ports at ≡ Some p → (t : Part) (told : List MsrpKey) → AreRows key_cmp t.rows → HasOwnContents t
+      → SameDeclared p.part t → TellsEach told p.part t → IsKept (with_told_port at (with_part t p) told side)
+  kept-heard has_rows side kept at p here t told rows contents same tells = kept-retold awaits side kept at p here t told same tells (knows_talkers has_rows side p.domain told) rows contents
 
-pub kept-changed : Awaits → (side : Streams) → IsKept side → (at : ℕ) → at < length side.ports → (p q : PortState) → p ≡ slice_index_or side.ports at p → (t : Part) → q ≡ with_part t p
-    → (AreRows key_cmp p.part.rows → AreRows key_cmp t.rows) → (AreRows key_cmp p.part.rows → HasOwnContents p.part → HasOwnContents t)
-    → (AreRows key_cmp p.part.rows → SameDeclared p.part t) → (AreRows key_cmp p.part.rows → (key : MsrpKey) → registered_at key_cmp key t ≡ registered_at key_cmp key p.part)
-    → IsKept (with_port_at at q side)
-kept-changed awaits side kept at below p q is t e rows contents same registered =
-    let here : slice_get side.ports at ≡ Some p = slice_get_read side.ports (length side.ports) at p refl below is in
-    let port = each-get (IsPort side.moment) side.ports at p kept.ports here in
-    let P : List (List MsrpKey) → Type 0 = λ sets. IsKept (record (with_port_at at (with_part t p) side) { awaiting = sets }) in
-    let Q : PortState → Type 0 = λ x. IsKept (with_port_at at x side) in
-    subst Q (sym e) (subst P (none_told awaits at p.domain (known_keys side.talks side.listens side.ports) side.awaiting)
-    (kept-retold awaits side kept at p here t [] (same port.rows) (λ key. inr (registered port.rows key)) (knows_none side p.domain) (rows port.rows) (contents port.rows port.contents)))
-
-pub at_changed : (side : Streams) (at : ℕ) (p q : PortState) (f : Part → Part) → at < length side.ports → p ≡ slice_index_or side.ports at p → q ≡ with_part (f p.part) p
-    → with_port_at at q side ≡ at_port at (λ r. with_port_at at (with_part (f r.part) r) side) side
-at_changed side at p q f below is e =
-    let here : slice_get side.ports at ≡ Some p = slice_get_read side.ports (length side.ports) at p refl below is in
-    rw (here, e) refl
-
--- ---- a participant changes in its place, and tells keys
-
-pub kept-told : Awaits → HasRows → (side : Streams) → IsKept side → (at : ℕ) → at < length side.ports → (p q : PortState) → p ≡ slice_index_or side.ports at p → (t : Part) (told : List MsrpKey) (sets : List (List MsrpKey))
-    → q ≡ with_part t p → sets ≡ told_sets at p.domain told (known_keys side.talks side.listens side.ports) side.awaiting
-    → (AreRows key_cmp p.part.rows → AreRows key_cmp t.rows) → (AreRows key_cmp p.part.rows → HasOwnContents p.part → HasOwnContents t)
-    → (AreRows key_cmp p.part.rows → SameDeclared p.part t) → (AreRows key_cmp p.part.rows → TellsEach told p.part t)
-    → IsKept (record (with_port_at at q side) { awaiting = sets })
-kept-told awaits has_rows side kept at below p q is t told sets e h rows contents same tells =
-    let here : slice_get side.ports at ≡ Some p = slice_get_read side.ports (length side.ports) at p refl below is in
-    let port = each-get (IsPort side.moment) side.ports at p kept.ports here in
-    let P : List (List MsrpKey) → Type 0 = λ xs. IsKept (record (with_port_at at (with_part t p) side) { awaiting = xs }) in
-    let Q : PortState → Type 0 = λ x. IsKept (record (with_port_at at x side) { awaiting = sets }) in
-    subst Q (sym e) (subst P (sym h)
-    (kept-retold awaits side kept at p here t told (same port.rows) (tells port.rows) (knows_talkers has_rows side p.domain told) (rows port.rows) (contents port.rows port.contents)))
-
-pub at_told : (side : Streams) (at : ℕ) (p q : PortState) (sets : List (List MsrpKey)) (f : Part → Part) (g : Part → List MsrpKey) → at < length side.ports → p ≡ slice_index_or side.ports at p → q ≡ with_part (f p.part) p
-    → sets ≡ told_sets at p.domain (g p.part) (known_keys side.talks side.listens side.ports) side.awaiting
-    → record (with_port_at at q side) { awaiting = sets } ≡ at_port at (λ r. with_told_port at (with_part (f r.part) r) (g r.part) side) side
-at_told side at p q sets f g below is e h =
-    let here : slice_get side.ports at ≡ Some p = slice_get_read side.ports (length side.ports) at p refl below is in
-    rw (here, e, h) refl
-
--- the side once the port's participant was put there, by what the port had
-pub at_put : (side new : Streams) (at : ℕ) (p : PortState) (t : Part) (told : List MsrpKey) (f : Part → Part) (g : Part → List MsrpKey) → slice_get side.ports at ≡ Some p
-    → IfSome (slice_get side.ports at) (λ q. new ≡ with_told_port at (with_part t q) told side) → t ≡ f p.part → told ≡ g p.part
-    → new ≡ at_port at (λ q. with_told_port at (with_part (f q.part) q) (g q.part) side) side
-at_put side new at p t told f g here is e h =
-    opened (λ q. new ≡ with_told_port at (with_part t q) told side) (slice_get side.ports at) p here is ∙ rw (here, e, h) refl
+  -- and one that tells none
+  pub kept-replaced : (side : Streams) → IsKept side → (at : ℕ) (p : PortState) → slice_get side.ports at ≡ Some p → (t : Part) → AreRows key_cmp t.rows → HasOwnContents t
+      → SameDeclared p.part t → ((key : MsrpKey) → registered_at key_cmp key t ≡ registered_at key_cmp key p.part) → IsKept (with_port_at at (with_part t p) side)
+  kept-replaced side kept at p here t rows contents same stays =
+      let P : List (List MsrpKey) → Type 0 = λ sets. IsKept (record (with_port_at at (with_part t p) side) { awaiting = sets }) in
+      subst P (none_told awaits at p.domain (known_keys side.talks side.listens side.ports) side.awaiting)
+      (kept-retold awaits side kept at p here t [] same (λ key. inr (stays key)) (knows_none side p.domain) rows contents)
 
 -- what every side keeps of the port at a place
 pub port_kept : (side : Streams) → IsKept side → (at : ℕ) (p : PortState) → slice_get side.ports at ≡ Some p → IsPort side.moment p

@@ -1,10 +1,13 @@
+pub mod Carried
 pub mod Clocked
 pub mod Contents
 pub mod Domains
 pub mod Idle
 pub mod Keeping
 pub mod KeyLemmas
+pub mod InPlace
 pub mod Ledgers
+pub mod Marking
 pub mod NewSide
 pub mod OneSettling
 pub mod OtherStreams

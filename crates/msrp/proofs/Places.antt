@@ -122,3 +122,11 @@ on_ok (Err e) h f = tt
 pub leaving_is : {K C : Type 0} (o : Option (Row K C)) → is_leaving_in o ≡ is_leaving (registrar_of o)
 leaving_is None = refl
 leaving_is (Some r) = refl
+
+-- a list of the same length has an element at the same place
+pub paired : {X Y : Type 0} (xs : List X) (ys : List Y) (at : ℕ) (y : Y) → length xs ≡ length ys → slice_get ys at ≡ Some y → (x : X) × (slice_get xs at ≡ Some x)
+paired [] [] at y e get = cc
+paired [] (z ∷ ys) at y e get = absurd (omega arith)
+paired (x ∷ xs) [] at y e get = absurd (omega arith)
+paired (x ∷ xs) (z ∷ ys) zero y e get = (x, refl)
+paired (x ∷ xs) (z ∷ ys) (suc at) y e get = let shorter : length xs ≡ length ys = omega arith in paired xs ys at y shorter get

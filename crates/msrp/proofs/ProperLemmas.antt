@@ -22,7 +22,7 @@ use Rattle.msrp.specs.Stream.{is_listened, stated_at, talk_of}
 use Rattle.msrp.specs.Settling.{known_keys, moved_streams, next_book, settling_keys, talker_keys}
 use Rattle.msrp.specs.Side.{Streams, clocked_port, clocked_streams, has_listen, has_talk, is_talk, listens_without, moved_keys, new_port, new_streams, with_asks, with_port_at, requested_streams, with_told_port, seen_by, settled_at, settled_streams, talks_without, with_part, with_port, SameDeclared, TellsEach}
 use Rattle.msrp.specs.Proper.{AreOfRange, HasRanges, IsProper, IsRequestInRange}
-use Rattle.msrp.proofs.Places.{all_filtered, each-get, each-set}
+use Rattle.msrp.proofs.Places.{all_filtered, each-get, each-set, paired}
 use Rattle.msrp.proofs.Telling.{Awaits, none_told}
 use Rattle.msrp.proofs.Talkers.{HasRows}
 use Rattle.msrp.proofs.Domains.{new_each}
@@ -101,14 +101,6 @@ proper-new empty bridge leave_time periodic domain ports fit =
     }
 
 -- ---- settling
-
--- a list of the same length has an element at the same place
-paired : {X Y : Type 0} (xs : List X) (ys : List Y) (at : ℕ) (y : Y) → length xs ≡ length ys → slice_get ys at ≡ Some y → (x : X) × (slice_get xs at ≡ Some x)
-paired [] [] at y e get = cc
-paired [] (z ∷ ys) at y e get = absurd (omega arith)
-paired (x ∷ xs) [] at y e get = absurd (omega arith)
-paired (x ∷ xs) (z ∷ ys) zero y e get = (x, refl)
-paired (x ∷ xs) (z ∷ ys) (suc at) y e get = let shorter : length xs ≡ length ys = omega arith in paired xs ys at y shorter get
 
 module _ (parts : PartLaws) (books : BookLaws) (moves : MoveLaws) (awaits : Awaits) (awaiting : AwaitsStreams) (has_rows : HasRows) (side : Streams) (proper : IsProper side) (at : ℕ) where
   settled_with : (p : PortState) → slice_get side.ports at ≡ Some p → (ks : List MsrpKey) × (slice_get side.awaiting at ≡ Some ks)

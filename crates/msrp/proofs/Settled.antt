@@ -32,7 +32,7 @@ use Rattle.msrp.specs.Domain.{domain_key}
 use Rattle.msrp.specs.Stream.{Registrations, advertise_of, edge_at, is_listened, is_talker_port, listener_at, listener_row, own_listener, stated_at, talk_of, talker_at, first_talker, talkers_of, want_of_talker, wanted_at}
 use Rattle.msrp.specs.Settling.{listener_keys, moved_streams, next_book, settled_book, settled_port, settling_keys, streams_in, talker_keys}
 use Rattle.msrp.specs.Side.{Streams, IsKept, IsPort, IsSettled, IsSettledAt, awaiting_at, seen_by, settled_streams}
-use Rattle.msrp.proofs.Places.{decide, each-get, each-set, get-set_other, get-set_same, map-set, map-set_same, opened, or_false}
+use Rattle.msrp.proofs.Places.{decide, each-get, each-set, get-set_other, get-set_same, map-set, map-set_same, or_false, paired}
 use Rattle.msrp.proofs.Telling.{Awaits, unmarked}
 use Rattle.msrp.proofs.Talkers.{HasRows, absent_stated, no_talker, stated_by, wanted_by}
 use Rattle.msrp.proofs.Domains.{edge_same}
@@ -66,7 +66,7 @@ drop-set (x ∷ xs) zero y = refl
 drop-set (x ∷ xs) (suc i) y = drop-set xs i y
 
 -- what stands at a port itself doesn't count among the other Listeners
-others-set : (at : ℕ) (ts : List TalkerReg) (b : Bool) (ls : List (Option PortListener)) (x : Option PortListener)
+pub others-set : (at : ℕ) (ts : List TalkerReg) (b : Bool) (ls : List (Option PortListener)) (x : Option PortListener)
     → listener_at at (record { talkers = ts; listens = b; listeners = slice_set ls at x }) ≡ listener_at at (record { talkers = ts; listens = b; listeners = ls })
 others-set at ts b ls x =
     let r : Registrations = record { talkers = ts; listens = b; listeners = ls } in
@@ -293,35 +293,13 @@ module _ (parts : PartLaws) (books : BookLaws) (moves : MoveLaws) (awaits : Awai
         settled = λ j. settled_each j (decide at j);
       }
 
--- what `settle` leaves is kept, and is what it should be
-pub record HasSettled (side : Streams) (at : ℕ) (next : PortState) (sets : List (List MsrpKey)) : Type 0 where
-  pub kept : IsKept (record side { ports = slice_set side.ports at next; awaiting = slice_set sets at [] })
-  pub is : record side { ports = slice_set side.ports at next; awaiting = slice_set sets at [] } ≡ settled_streams at side
+-- what settling a port leaves is kept
+pub settle-keeps : PartLaws → BookLaws → MoveLaws → Awaits → AwaitsStreams → HasRows → (at : ℕ) (side : Streams) → IsKept side → IsKept (settled_streams at side)
+settle-keeps parts books moves awaits awaiting rows at side kept = by (slice_get side.ports at) refl
+  where
+    with_set : (p : PortState) → slice_get side.ports at ≡ Some p → (ks : List MsrpKey) × (slice_get side.awaiting at ≡ Some ks) → IsKept (settled_streams at side)
+    with_set p here (ks, set) = rw (here, set) (kept-settled parts books moves awaits awaiting rows side kept at p here ks set)
 
-pub settle_is : PartLaws → BookLaws → MoveLaws → Awaits → AwaitsStreams → HasRows → (side : Streams) → IsKept side → (at : ℕ) → at < length side.ports
-    → (ks : List MsrpKey) → ks ≡ slice_index_or side.awaiting at ks → (next : PortState) (told : List MsrpKey) (sets : List (List MsrpKey))
-    → IfSome (slice_get side.ports at) (λ p. next ≡ settled_port at (seen_by side) (talker_keys side.talks side.ports) ks p)
-    → IfSome (slice_get side.ports at) (λ p. told ≡ listener_keys (moved_streams p.ledger (next_book at (seen_by side) ks p)))
-    → sets ≡ marked_elsewhere key_cmp at told side.awaiting → HasSettled side at next sets
-settle_is parts books moves awaits awaiting rows side kept at below ks ks_is next told sets next_is told_is sets_is =
-    let p : PortState = slice_index_or side.ports at next in
-    let here : slice_get side.ports at ≡ Some p = slice_get-get_or side.ports at next below in
-    let count = kept.sets in
-    let set : slice_get side.awaiting at ≡ Some ks = slice_get_read side.awaiting (length side.awaiting) at ks refl (omega (arith, count)) ks_is in
-    let one = opened (λ (q : PortState). next ≡ settled_port at (seen_by side) (talker_keys side.talks side.ports) ks q) (slice_get side.ports at) p here next_is in
-    let two = opened (λ (q : PortState). told ≡ listener_keys (moved_streams q.ledger (next_book at (seen_by side) ks q))) (slice_get side.ports at) p here told_is in
-    let three : sets ≡ marked_elsewhere key_cmp at (listener_keys (moved_streams p.ledger (next_book at (seen_by side) ks p))) side.awaiting = sets_is ∙ ap (λ xs. marked_elsewhere key_cmp at xs side.awaiting) two in
-    let whole : record side { ports = slice_set side.ports at next; awaiting = slice_set sets at [] }
-    ≡ record side { ports = slice_set side.ports at (settled_port at (seen_by side) (talker_keys side.talks side.ports) ks p); awaiting = slice_set (marked_elsewhere key_cmp at (listener_keys (moved_streams p.ledger (next_book at (seen_by side) ks p))) side.awaiting) at [] } =
-    ap (λ (q : PortState). record side { ports = slice_set side.ports at q; awaiting = slice_set sets at [] }) one
-    ∙ ap (λ (ss : List (List MsrpKey)). record side { ports = slice_set side.ports at (settled_port at (seen_by side) (talker_keys side.talks side.ports) ks p); awaiting = slice_set ss at [] }) three in
-    let P : Streams → Type 0 = λ s. IsKept s in
-    record {
-      kept = subst P (sym whole) (kept-settled parts books moves awaits awaiting rows side kept at p here ks set);
-      is = whole ∙ rw (here, set) refl;
-    }
-
-pub awaiting_is : (side : Streams) → IsKept side → (at : ℕ) → at < length side.ports → (ks : List MsrpKey) → ks ≡ slice_index_or side.awaiting at ks → awaiting_at at side ≡ ks
-awaiting_is side kept at below ks is =
-    let count = kept.sets in
-    rw (slice_get_read side.awaiting (length side.awaiting) at ks refl (omega (arith, count)) is) refl
+    by : (o : Option PortState) → slice_get side.ports at ≡ o → IsKept (settled_streams at side)
+    by None e = rw e kept
+    by (Some p) e = with_set p e (paired side.awaiting side.ports at p kept.sets e)

@@ -36,12 +36,6 @@ untold told s t key tells out = by (tells key)
     by (inl c) = let inside = contained told c.0 key c.1 c.2 in cc
     by (inr e) = e
 
--- what holds of equal participants and lists of keys
-pub tells_as : (key : MsrpKey) (told told' : List MsrpKey) (s t t' : Part) → told' ≡ told → t' ≡ t
-    → Contains told key ⊎ (registered_at key_cmp key t ≡ registered_at key_cmp key s)
-    → Contains told' key ⊎ (registered_at key_cmp key t' ≡ registered_at key_cmp key s)
-tells_as key told told' s t t' e f h = rw (e, f) h
-
 -- the key whose leave timer ended is told, or its registration is as before
 pub leaving_told : (s : Part) (x key : MsrpKey)
     → registered_at key_cmp key (left_state key_cmp x s)

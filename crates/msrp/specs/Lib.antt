@@ -6,4 +6,6 @@ pub mod Stream
 pub mod View
 pub mod Settling
 pub mod Side
+pub mod Holding
+pub mod Plan
 pub mod Proper

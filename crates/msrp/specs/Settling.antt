@@ -7,6 +7,8 @@ use Rattle.stream_importance.specs.declared.entry.Want.{Want}
 use Rattle.port_ledger.specs.Book.{Book, wanted_book, unwanted_book, booked_only_in}
 use Rattle.attribute_propagation.specs.Dirty.{all_marked}
 use Rattle.attribute_propagation.specs.Ports.{keys_at, marked_everywhere}
+use Rattle.registrar.specs.Table.{is_leaving}
+use Rattle.mrp_participant.specs.declared.row.Row.{Row}
 use Rattle.mrp_participant.specs.Lookup.{key_of}
 use Rattle.mrp_participant.specs.State.{registered_at}
 use Rattle.msrp_codec.specs.declared.pdu.MsrpKey.{MsrpKey}
@@ -79,6 +81,10 @@ abbrev pub is_domain : MsrpKey → Bool
 is_domain (TalkerKey stream) = false
 is_domain (ListenerKey stream) = false
 is_domain (DomainKey class) = true
+
+-- whether a row is of a Domain, and its registrar is LV
+abbrev pub is_domain_leaving : Row MsrpKey MsrpContent → Bool
+is_domain_leaving r = is_domain r.key && is_leaving r.registrar
 
 -- whether a node that declares these Domains has to heed one that is told: it heeds Domains, and one is told
 abbrev pub is_domain_told : DomainSet → List MsrpKey → Bool

@@ -1,8 +1,8 @@
 //! What the application of a station asks for.
 
-ghost use Rattle.std.specs.Prelude.{◌≡◌, ◌∷◌, false, filter, ◌==◌, option_map, IfOk, OnOk, OnErr};
+ghost use Rattle.std.specs.Prelude.{◌≡◌, ◌∷◌, false, filter, ◌==◌, IfOk, OnOk, OnErr};
 ghost use Rattle.srp_base.specs.declared.numbers.StreamId.{StreamId};
-ghost use Rattle.attribute_propagation.specs.Ports.{keys_in, keys_in_some, marked_everywhere, sets_with};
+ghost use Rattle.attribute_propagation.specs.Ports.{keys_in, marked_everywhere};
 ghost use Rattle.msrp.specs.Part.{key_cmp};
 ghost use Rattle.msrp.specs.Settling.{keys_of};
 ghost use Rattle.msrp.specs.Stream.{talk_of, is_listened};
@@ -11,8 +11,9 @@ ghost use Rattle.msrp.specs.declared.asking.SrpRequest.TheVariants.{Talk, Hush, 
 
 use crate::side::MsrpSide;
 use crate::stream::{is_listened, talk_of};
+use crate::told::tell_both;
 use attribute_propagation::laws::each_port_is_told;
-use attribute_propagation::{Dirty, await_everywhere, put_sets};
+use attribute_propagation::{Dirty, room_everywhere};
 use msrp_codec::MsrpKey;
 use srp_base::{NoMemory, StreamId, Talker};
 use std::alloc::{AllocError, Global};
@@ -35,8 +36,9 @@ impl MsrpSide {
     /// 802.1Q-2018, 35.2.3.1). Where that changes what the application has asked for, the Talker key and the
     /// Listener key of the stream await at every link port.
     pub fn request(&mut self, request: SrpRequest) -> Result<(), NoMemory>
-        ensures ok { OnOk result (self.new ≡ requested_streams request self.old) }
-        ensures err { OnErr result (self.new ≡ self.old) }
+        ensures ok { OnOk result (self.new.state ≡ requested_streams request self.old.state) }
+        ensures err { OnErr result (self.new.state ≡ self.old.state) }
+        ensures ready { OnOk result (self.new.ready ≡ false) }
     {
         match request {
             SrpRequest::Talk(talker) => self.talk(talker),
@@ -47,103 +49,105 @@ impl MsrpSide {
     }
 
     fn talk(&mut self, talker: Talker) -> Result<(), NoMemory>
-        ensures ok { OnOk result (self.new ≡ requested_streams (Talk talker) self.old) }
-        ensures err { OnErr result (self.new ≡ self.old) }
+        ensures ok { OnOk result (self.new.state ≡ requested_streams (Talk talker) self.old.state) }
+        ensures err { OnErr result (self.new.state ≡ self.old.state) }
+        ensures ready { self.new.ready ≡ false }
     {
+        self.ready = false;
         if is_talk(talk_of(self.talks.as_slice(), talker.stream), &talker) {
             return Ok(());
         }
         let alloc = *self.ports.allocator();
         let talks = talks_with(alloc, self.talks.as_slice(), talker)?;
-        self.put_talks(alloc, talker.stream, talks)
+        self.put_talks(talker.stream, talks)
     }
 
     fn hush(&mut self, stream: StreamId) -> Result<(), NoMemory>
-        ensures ok { OnOk result (self.new ≡ requested_streams (Hush stream) self.old) }
-        ensures err { OnErr result (self.new ≡ self.old) }
+        ensures ok { OnOk result (self.new.state ≡ requested_streams (Hush stream) self.old.state) }
+        ensures err { OnErr result (self.new.state ≡ self.old.state) }
+        ensures ready { self.new.ready ≡ false }
     {
+        self.ready = false;
         if talk_of(self.talks.as_slice(), stream).is_none() {
             return Ok(());
         }
         let alloc = *self.ports.allocator();
         let talks = talks_without(alloc, self.talks.as_slice(), stream)?;
-        self.put_talks(alloc, stream, talks)
+        self.put_talks(stream, talks)
     }
 
     fn listen(&mut self, stream: StreamId) -> Result<(), NoMemory>
-        ensures ok { OnOk result (self.new ≡ requested_streams (Listen stream) self.old) }
-        ensures err { OnErr result (self.new ≡ self.old) }
+        ensures ok { OnOk result (self.new.state
+            ≡ requested_streams (Listen stream) self.old.state) }
+        ensures err { OnErr result (self.new.state ≡ self.old.state) }
+        ensures ready { self.new.ready ≡ false }
     {
+        self.ready = false;
         if is_listened(self.listens.as_slice(), stream) {
             return Ok(());
         }
         let alloc = *self.ports.allocator();
         let listens = listens_with(alloc, self.listens.as_slice(), stream)?;
-        self.put_listens(alloc, stream, listens)
+        self.put_listens(stream, listens)
     }
 
     fn unlisten(&mut self, stream: StreamId) -> Result<(), NoMemory>
-        ensures ok { OnOk result (self.new ≡ requested_streams (Unlisten stream) self.old) }
-        ensures err { OnErr result (self.new ≡ self.old) }
+        ensures ok { OnOk result (self.new.state
+            ≡ requested_streams (Unlisten stream) self.old.state) }
+        ensures err { OnErr result (self.new.state ≡ self.old.state) }
+        ensures ready { self.new.ready ≡ false }
     {
+        self.ready = false;
         if !is_listened(self.listens.as_slice(), stream) {
             return Ok(());
         }
         let alloc = *self.ports.allocator();
         let listens = listens_without(alloc, self.listens.as_slice(), stream)?;
-        self.put_listens(alloc, stream, listens)
+        self.put_listens(stream, listens)
     }
 
     // The application's Talkers are these, which differ from before at one stream: its keys await at every link port.
-    fn put_talks(
-        &mut self,
-        alloc: Global,
-        stream: StreamId,
-        talks: Vec<Talker>,
-    ) -> Result<(), NoMemory>
+    fn put_talks(&mut self, stream: StreamId, talks: Vec<Talker>) -> Result<(), NoMemory>
         requires { (s : StreamId) → (s.0 == stream.0) ≡ false
-            → talk_of s talks.items ≡ talk_of s self.old.talks }
-        ensures ok { OnOk result (self.new ≡ with_asks stream talks.items self.old.listens self.old) }
-        ensures err { OnErr result (self.new ≡ self.old) }
+            → talk_of s talks.items ≡ talk_of s self.old.state.talks }
+        ensures ok { OnOk result (self.new.state
+            ≡ with_asks stream talks.items self.old.state.listens self.old.state) }
+        ensures err { OnErr result (self.new.state ≡ self.old.state) }
+        ensures ready { self.new.ready ≡ false }
     {
         each_port_is_told::<MsrpKey>();
-        let awaiting = both_await(alloc, self.awaiting.as_slice(), stream)?;
-        put_sets(&mut self.awaiting, awaiting);
+        self.ready = false;
+        both_await(&mut self.awaiting, stream)?;
         self.talks = talks;
         Ok(())
     }
 
     // The application listens to these streams, which differ from before at one: its keys await at every link port.
-    fn put_listens(
-        &mut self,
-        alloc: Global,
-        stream: StreamId,
-        listens: Vec<StreamId>,
-    ) -> Result<(), NoMemory>
+    fn put_listens(&mut self, stream: StreamId, listens: Vec<StreamId>) -> Result<(), NoMemory>
         requires { (s : StreamId) → (s.0 == stream.0) ≡ false
-            → is_listened s listens.items ≡ is_listened s self.old.listens }
-        ensures ok { OnOk result (self.new ≡ with_asks stream self.old.talks listens.items self.old) }
-        ensures err { OnErr result (self.new ≡ self.old) }
+            → is_listened s listens.items ≡ is_listened s self.old.state.listens }
+        ensures ok { OnOk result (self.new.state
+            ≡ with_asks stream self.old.state.talks listens.items self.old.state) }
+        ensures err { OnErr result (self.new.state ≡ self.old.state) }
+        ensures ready { self.new.ready ≡ false }
     {
         each_port_is_told::<MsrpKey>();
-        let awaiting = both_await(alloc, self.awaiting.as_slice(), stream)?;
-        put_sets(&mut self.awaiting, awaiting);
+        self.ready = false;
+        both_await(&mut self.awaiting, stream)?;
         self.listens = listens;
         Ok(())
     }
 }
 
-// The awaiting keys of each port once both keys of a stream await there.
-fn both_await(
-    alloc: Global,
-    sets: &[Dirty<MsrpKey>],
-    stream: StreamId,
-) -> Result<Option<Vec<Dirty<MsrpKey>>>, NoMemory>
-    ensures { IfOk result (λ o. sets_with (keys_in_some (option_map (λ v. v.items) o)) (keys_in sets.now)
-        ≡ marked_everywhere key_cmp (keys_of stream) (keys_in sets.now)) }
+// Both keys of a stream await at each link port. After want of memory the keys there are as before.
+fn both_await(sets: &mut Vec<Dirty<MsrpKey>>, stream: StreamId) -> Result<(), NoMemory>
+    ensures ok { OnOk result (keys_in sets.new.items
+        ≡ marked_everywhere key_cmp (keys_of stream) (keys_in sets.old.items)) }
+    ensures err { OnErr result (keys_in sets.new.items ≡ keys_in sets.old.items) }
 {
-    let keys = [MsrpKey::Talker(stream), MsrpKey::Listener(stream)];
-    await_everywhere(alloc, sets, keys.as_slice())
+    room_everywhere(sets, 2)?;
+    tell_both(sets, stream);
+    Ok(())
 }
 
 // Whether the application has this Talker already.

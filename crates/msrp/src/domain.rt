@@ -105,7 +105,8 @@ fn is_value(class: Class, content: Option<MsrpContent>) -> bool
 // Declares the Domain value of a class.
 fn declare_domain(part: &mut Participant<MsrpApp>, class: Class) -> Result<(), NoMemory>
     ensures { OnOk result (part.new.state
-        ≡ declared_state key_cmp same_content (domain_key class) (domain_content class) part.old.state) }
+        ≡ declared_state key_cmp same_content (domain_key class)
+        (domain_content class) part.old.state) }
 {
     part.declare(domain_key(class), domain_content(class))
 }

@@ -28,7 +28,7 @@ ghost use Rattle.msrp.specs.Part.{HasOwnContents, Part, key_cmp, pdu_sent};
 ghost use Rattle.msrp.specs.Domain.{are_counted, domain_content, domain_key, domain_part, domain_stated, has_class, is_boundary, is_edge};
 ghost use Rattle.msrp.specs.Stream.{edge_at, first_talker, is_talker_port, talker_at, wanted_at};
 ghost use Rattle.msrp.specs.Settling.{all_keys_with, listener_keys, moved_streams, told_sets};
-ghost use Rattle.msrp.specs.Side.{IsWritten, Streams, awaiting_at, clocked_streams, due_streams, leave_all_streams, left_streams, new_streams, periodic_streams, received_streams, requested_streams, sent_streams, settled_streams, spoilt_streams};
+ghost use Rattle.msrp.specs.Side.{IsKept, IsWritten, Streams, awaiting_at, clocked_streams, due_streams, leave_all_streams, left_streams, new_streams, periodic_streams, received_streams, requested_streams, sent_streams, settled_streams, spoilt_streams};
 ghost use Rattle.msrp.specs.Proper.{HasRanges, IsProper, IsRequestInRange, setups_of};
 
 use crate::app::MsrpApp;
@@ -74,6 +74,42 @@ pub fn a_new_side_is_proper()
         → bridge.0 < 2 ^ 64 → IsProper (new_streams bridge leave_time periodic domain ports) }
 {
     every_step_keeps_a_book();
+}
+
+// What every side keeps, each call keeps, where what is received is of its keys.
+pub(crate) fn every_call_keeps_a_side()
+    ensures receive { (now : Cs) (at : ℕ) (pdu : MsrpPdu) (side : Streams)
+        → AllByRecursion (λ e. Belongs e.1 e.2) pdu.events
+        → IsKept side → IsKept (received_streams now at pdu side) }
+    ensures due { (now : Cs) (at : ℕ) (side : Streams) → IsKept side
+        → IsKept (due_streams now at side) }
+    ensures leave_now { (at : ℕ) (key : MsrpKey) (side : Streams) → IsKept side
+        → IsKept (left_streams at key side) }
+    ensures leaveall_now { (now : Cs) (at : ℕ) (side : Streams) → IsKept side
+        → IsKept (leave_all_streams now at side) }
+    ensures periodic_now { (at : ℕ) (side : Streams) → IsKept side
+        → IsKept (periodic_streams at side) }
+    ensures spoil { (at : ℕ) (side : Streams) → IsKept side → IsKept (spoilt_streams at side) }
+    ensures send { (now : Cs) (at : ℕ) (side : Streams) → IsKept side
+        → IsKept (sent_streams now at side) }
+    ensures clock { (now : ℕ) (side : Streams) → side.moment ≤ now
+        → IsKept side → IsKept (clocked_streams now side) }
+{
+    each_port_is_told::<MsrpKey>();
+    a_place_for_each_key::<MsrpApp>();
+    rows_stay_rows::<MsrpApp>();
+    declarations_stay::<MsrpApp>();
+    registrations_stay::<MsrpApp>();
+    receive_tells_each_change::<MsrpApp>();
+    due_tells_each_change::<MsrpApp>();
+    each_key_after_receive::<MsrpApp>();
+    each_key_after_due::<MsrpApp>();
+    each_key_after_periodic::<MsrpApp>();
+    each_key_after_send::<MsrpApp>();
+    one_key_changes::<MsrpApp>();
+    what_is_asked_holds::<MsrpApp>();
+    every_step_keeps_a_book();
+    fits_stay();
 }
 
 /// Each call on a port keeps it, where what is received is of its keys and fits.

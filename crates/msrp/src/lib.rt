@@ -19,12 +19,12 @@
 //!  link <--octets-- send <--- participant of the port
 //! ```
 //!
-//! Contracts see a `Streams` (`specs/Side.antt`): the link ports, each a `PortState` with its participant's state and
-//! its ledger's book, the awaiting keys, and what the application asked for, all as lists; each call's clause is
-//! the whole side after it. `specs/Domain.antt` says which Domain values a port declares, and where it is a boundary.
-//! `specs/Stream.antt` says of one stream which port is the Talker's, what each link port declares of the Talker and of
-//! the Listeners, and what it wants, looking at all ports; `specs/Settling.antt` what awaits once keys are told, and what
-//! settling a port does.
+//! Contracts see a `SideHolding` (`specs/Holding.antt`): whether the side is ready for the clock, and its `Streams`
+//! (`specs/Side.antt`), the link ports, each a `PortState` with its participant's state and its ledger's book, the awaiting
+//! keys, and what the application asked for, all as lists; each call's clause is the whole `Streams` after it.
+//! `specs/Domain.antt` says which Domain values a port declares, and where it is a boundary. `specs/Stream.antt` says of one
+//! stream which port is the Talker's, what each link port declares of the Talker and of the Listeners, and what it wants,
+//! looking at all ports; `specs/Settling.antt` what awaits once keys are told, and what settling a port does.
 //!
 //! What every side keeps, by its type, is `IsKept`: at each link port each Talker or Listener key that doesn't await
 //! is declared exactly as those rules state it, with its content, and each Domain as the port declares it for good, from
@@ -32,11 +32,11 @@
 //! port's ledger as wanting exactly where it wants bandwidth, with its class, rank and slope; and each ledger is a
 //! ledger, so that its booked slopes keep to its caps. After want of memory a side is as it was.
 //!
-//! A call on a port copies at most that port's participant and ledger, and the awaiting keys where some key comes to
-//! await; `leave_now` copies no participant, and `send` copies nothing, nor does `due` where no timer is due, nor `settle`
-//! where no key awaits. The clock stands in two parts: `prepare_clock` takes all memory, none where the clock shows
-//! nothing, and `clock_by` sets the clock without any, so that the clocks of a whole network are set together or not at
-//! all.
+//! No call on a port copies a participant, a ledger or a set of awaiting keys: each takes its memory first, and then changes
+//! all in its place. `clock_room` makes a side ready for the clock, by counting what is registered: where it is ready, `clock`
+//! takes no memory. Each call that may change the side ends its readiness. A clock that shows nothing takes no memory, ready
+//! or not. For the clocks of a whole network, which are set together or not at all, `prepare_clock` makes the sets of awaiting
+//! keys apart where the clock shows something, and `clock_by` puts them in place.
 //!
 //! `laws` has what a network's laws rest on, over these states alone: a side is proper (`specs/Proper.antt`) where it
 //! is kept and all that it keeps fits in the fields in which it is sent; every call keeps it so, and keeps how the
@@ -52,12 +52,16 @@ mod asking;
 mod calls;
 mod clock;
 mod domain;
+mod in_place;
 pub mod laws;
+mod plan;
 mod port;
+mod prepared;
 mod sending;
 mod settling;
 mod side;
 mod stream;
+mod talker_keys;
 #[cfg(test)]
 mod tests;
 mod told;
@@ -65,6 +69,6 @@ mod view;
 
 pub use app::MsrpApp;
 pub use asking::SrpRequest;
-pub use clock::ClockSets;
 pub use domain::DomainSet;
+pub use prepared::ClockSets;
 pub use side::MsrpSide;

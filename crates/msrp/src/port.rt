@@ -1,24 +1,33 @@
 //! A link port of a node as MSRP has it.
 
-ghost use Rattle.std.specs.Prelude.{◌≡◌, ◌+◌, ◌≤◌, ◌<◌, ◌^◌, false, IfOk};
+ghost use Rattle.std.specs.Prelude.{◌≡◌, ◌+◌, ◌≤◌, ◌<◌, ◌^◌, ◌++◌, false, length, vec_capacity, vec_len, IfOk, OnOk, OnErr};
 ghost use Rattle.mrp_participant.specs.Lookup.{find};
 ghost use Rattle.mrp_participant.specs.Row.{is_leaving_in};
-ghost use Rattle.mrp_participant.specs.State.{IsTime, leave_all_state, left_state, periodic_state};
-ghost use Rattle.msrp.specs.Part.{Part, key_cmp, sent_part};
+ghost use Rattle.mrp_participant.specs.State.{IsTime, changed_keys, due_count, due_state, leave_all_state, left_keys, left_state, periodic_state, received_state};
+ghost use Rattle.attribute_propagation.specs.Ports.{count_of};
+ghost use Rattle.msrp.specs.Part.{Part, key_cmp, same_content, sent_part};
+ghost use Rattle.msrp.specs.Holding.{PortHolding};
+ghost use Rattle.msrp.specs.Plan.{asked_book, stated_part};
+ghost use Rattle.port_ledger.specs.Book.{booked_only_in};
+ghost use Rattle.port_ledger.specs.Decision.{IsAscending};
 ghost use Rattle.msrp.specs.Side.{clocked_port, new_port, shows_at, with_part};
 
 use crate::app::MsrpApp;
 use crate::domain::{DomainSet, declare_domains};
-use mrp_participant::Participant;
+use crate::plan::{Asked, Stated};
+use crate::settling::{declare_all, enter_all, take_out_all};
+use mrp_participant::{Msgs, Participant};
 use msrp_codec::MsrpKey;
 use msrp_talker::PortConfig;
 use port_ledger::Ledger;
 use registrar::Registrar;
-use srp_base::{BridgeId, Cs, NoMemory, PortSetup};
+use srp_base::{BridgeId, Cs, NoMemory, PortSetup, Seq, StreamId};
 use std::alloc::Global;
 use std::marker::Model;
+use stream_importance::Entry;
 
-// A link port of a node as MSRP has it (IEEE Std 802.1Q-2018, 35.2). Contracts see a `PortState`.
+// A link port of a node as MSRP has it (IEEE Std 802.1Q-2018, 35.2). Contracts see a `PortHolding`: the `PortState`, and
+// for how many new keys and streams there is room.
 #[derive(Drop)]
 pub(crate) struct Port {
     // The node's bridge, and the latency in ns that the port adds to a Talker's.
@@ -32,11 +41,15 @@ pub(crate) struct Port {
 }
 
 impl Model for Port {
-    ghost use Rattle.msrp.specs.PortState.{PortState};
+    ghost use Rattle.msrp.specs.Holding.{PortHolding};
 
-    ghost Value = { PortState };
+    ghost Value = { PortHolding };
 
-    ghost view = { λ p. record { config = p.config; domain = p.domain; part = p.part.state; ledger = p.ledger.book } };
+    ghost view = { λ p. record {
+      state = record { config = p.config; domain = p.domain; part = p.part.state; ledger = p.ledger.book };
+      rows = p.part.spare;
+      wants = p.ledger.spare;
+    } };
 }
 
 impl Port {
@@ -52,7 +65,8 @@ impl Port {
         requires leave_time { IsTime leave_time }
         requires period { IsTime setup.now.period }
         requires shares { setup.now.delta_a + setup.now.delta_b ≤ 90 }
-        ensures { IfOk result (λ p. p ≡ new_port bridge leave_time periodic domain setup.now) }
+        ensures { IfOk result (λ p. p.state
+            ≡ new_port bridge leave_time periodic domain setup.now) }
     {
         let mut part = Participant::new(alloc, setup.period, leave_time, periodic);
         declare_domains(&mut part, domain)?;
@@ -67,54 +81,33 @@ impl Port {
         })
     }
 
-    // Another port with the same state.
-    pub(crate) fn copy(&self) -> Result<Port, NoMemory>
-        ensures { IfOk result (λ p. p ≡ self.now) }
-    {
-        let part = self.part.copy()?;
-        let ledger = self.ledger.copy()?;
-        Ok(self.with(part, ledger))
-    }
-
-    // The port with another participant and another ledger.
-    pub(crate) fn with(&self, part: Participant<MsrpApp>, ledger: Ledger) -> Port
-        ensures { result ≡ record self.now { part = part.state; ledger = ledger.book } }
-    {
-        Port {
-            config: self.config,
-            domain: self.domain,
-            part,
-            ledger,
-        }
-    }
-
     pub(crate) fn config(&self) -> &PortConfig
-        ensures { result.now ≡ self.now.config }
+        ensures { result.now ≡ self.now.state.config }
     {
         &self.config
     }
 
     pub(crate) fn domain(&self) -> DomainSet
-        ensures { result ≡ self.now.domain }
+        ensures { result ≡ self.now.state.domain }
     {
         self.domain
     }
 
     pub(crate) fn part(&self) -> &Participant<MsrpApp>
-        ensures { result.now.state ≡ self.now.part }
+        ensures { result.now.state ≡ self.now.state.part }
     {
         &self.part
     }
 
     pub(crate) fn ledger(&self) -> &Ledger
-        ensures { result.now.book ≡ self.now.ledger }
+        ensures { result.now.book ≡ self.now.state.ledger }
     {
         &self.ledger
     }
 
     // Whether a clock that is set to a moment shows that a want which isn't booked may fit otherwise than before.
     pub(crate) fn shows_at(&self, now: Cs) -> bool
-        ensures { result ≡ shows_at now.0 self.now }
+        ensures { result ≡ shows_at now.0 self.now.state }
     {
         self.ledger.shows_at(now)
     }
@@ -122,7 +115,7 @@ impl Port {
     // Whether the participant's registrar of a key is LV.
     #[tactic(auto, using(crate::proofs::Places::leaving_is))]
     pub(crate) fn is_leaving(&self, key: MsrpKey) -> bool
-        ensures { result ≡ is_leaving_in (find key_cmp key self.now.part.rows) }
+        ensures { result ≡ is_leaving_in (find key_cmp key self.now.state.part.rows) }
     {
         match self.part.registrar(key) {
             Registrar::Held => false,
@@ -131,24 +124,48 @@ impl Port {
         }
     }
 
-    // The leave timer of a key ends.
-    pub(crate) fn leave_due(&mut self, key: MsrpKey)
-        ensures { self.new ≡ with_part (left_state key_cmp key self.old.part) self.old }
+    // Receives messages. Answers the keys whose registration that changes. After want of memory the state is as it was.
+    pub(crate) fn receive(
+        &mut self,
+        now: Cs,
+        msgs: &Msgs<MsrpApp>,
+    ) -> Result<Seq<MsrpKey>, NoMemory>
+        requires { now.0 < 2 ^ 62 }
+        ensures after { OnOk result (self.new.state ≡ with_part
+            (received_state key_cmp now msgs.now.leave_all msgs.now.events self.old.state.part)
+            self.old.state) }
+        ensures keys { IfOk result (λ keys. keys ≡ changed_keys key_cmp same_content
+            self.old.state.part.rows self.new.state.part.rows) }
+        ensures err { OnErr result (self.new.state ≡ self.old.state) }
     {
-        let _ = self.part.leave_due(key);
+        self.part.receive(now, msgs)
     }
 
-    // Puts a participant in the place of the one that was there.
-    pub(crate) fn put_part(&mut self, part: Participant<MsrpApp>)
-        ensures { self.new ≡ with_part part.state self.old }
+    // Fires the timers that are due. Answers how many, and the keys that leave. After want of memory the state is as it
+    // was.
+    pub(crate) fn due(&mut self, now: Cs) -> Result<(u32, Seq<MsrpKey>), NoMemory>
+        requires { now.0 < 2 ^ 62 }
+        ensures after { OnOk result (self.new.state
+            ≡ with_part (due_state now self.old.state.part) self.old.state) }
+        ensures count { IfOk result (λ r. r.0 ≡ count_of (due_count now self.old.state.part)) }
+        ensures keys { IfOk result (λ r. r.1 ≡ left_keys now self.old.state.part) }
+        ensures err { OnErr result (self.new.state ≡ self.old.state) }
     {
-        self.part = part;
+        self.part.due(now)
+    }
+
+    // The leave timer of a key ends.
+    pub(crate) fn leave_due(&mut self, key: MsrpKey)
+        ensures { self.new.state
+            ≡ with_part (left_state key_cmp key self.old.state.part) self.old.state }
+    {
+        let _ = self.part.leave_due(key);
     }
 
     // What the participant had to say has gone out.
     pub(crate) fn sent(&mut self, now: Cs)
         requires { now.0 < 2 ^ 62 }
-        ensures { self.new ≡ with_part (sent_part now self.old.part) self.old }
+        ensures { self.new.state ≡ with_part (sent_part now self.old.state.part) self.old.state }
     {
         self.part.sent(now);
     }
@@ -156,31 +173,72 @@ impl Port {
     // The LeaveAll timer fires.
     pub(crate) fn leaveall_due(&mut self, now: Cs)
         requires { now.0 < 2 ^ 62 }
-        ensures { self.new ≡ with_part (leave_all_state now self.old.part) self.old }
+        ensures { self.new.state
+            ≡ with_part (leave_all_state now self.old.state.part) self.old.state }
     {
         self.part.leaveall_due(now);
     }
 
     // Each key takes the periodic event.
     pub(crate) fn periodic_due(&mut self)
-        ensures { self.new ≡ with_part (periodic_state self.old.part) self.old }
+        ensures { self.new.state ≡ with_part (periodic_state self.old.state.part) self.old.state }
     {
         self.part.periodic_due();
     }
 
     // The participant isn't sound any more.
     pub(crate) fn spoil(&mut self)
-        ensures { let s : Part = self.old.part in
-            self.new ≡ with_part (record s { sound = false }) self.old }
+        ensures { let s : Part = self.old.state.part in
+            self.new.state ≡ with_part (record s { sound = false }) self.old.state }
     {
         self.part.spoil();
     }
 
     // Sets the moment of the ledger.
     pub(crate) fn clock(&mut self, now: Cs)
-        requires { self.old.ledger.moment ≤ now.0 }
-        ensures { self.new ≡ clocked_port now.0 self.old }
+        requires { self.old.state.ledger.moment ≤ now.0 }
+        ensures { self.new.state ≡ clocked_port now.0 self.old.state }
     {
         self.ledger.clock(now);
+    }
+
+    // ---- settling
+
+    // Makes room for so many new keys and streams. The state is as it was.
+    pub(crate) fn room(&mut self, rows: usize, wants: usize) -> Result<(), NoMemory>
+        ensures state { self.new.state ≡ self.old.state }
+        ensures rows { OnOk result (rows ≤ self.new.rows) }
+        ensures wants { OnOk result (wants ≤ self.new.wants) }
+    {
+        self.part.room(rows)?;
+        self.ledger.room(wants)
+    }
+
+    // Those of these streams that want nothing are taken out of the ledger, and then those that want bandwidth entered.
+    // What that changed in the booked set, by the bookings before, is put at the end of a list. There is room for all.
+    pub(crate) fn decide(&mut self, asked: &[Asked], before: &[Entry], moved: &mut Vec<StreamId>)
+        requires wants { length asked.now ≤ self.old.wants }
+        requires before { IsAscending before.now }
+        requires room { length self.old.state.ledger.entries + length before.now + length asked.now
+            + vec_len moved.old ≤ vec_capacity moved.old }
+        ensures state { self.new.state
+            ≡ record self.old.state { ledger = asked_book asked.now self.old.state.ledger } }
+        ensures rows { self.new.rows ≡ self.old.rows }
+        ensures moved { moved.new.items ≡ moved.old.items
+            ++ (booked_only_in (asked_book asked.now self.old.state.ledger).entries before.now
+            ++ booked_only_in before.now (asked_book asked.now self.old.state.ledger).entries) }
+    {
+        take_out_all(&mut self.ledger, asked);
+        enter_all(&mut self.ledger, asked);
+        self.ledger.push_moved(before, moved);
+    }
+
+    // Each of these keys is declared or withdrawn, in this order. There is room for as many.
+    pub(crate) fn restate(&mut self, stated: &[Stated])
+        requires { length stated.now ≤ self.old.rows }
+        ensures { self.new.state
+            ≡ with_part (stated_part stated.now self.old.state.part) self.old.state }
+    {
+        declare_all(&mut self.part, stated);
     }
 }

@@ -1,6 +1,6 @@
 //! What a link port sends.
 
-ghost use Rattle.std.specs.Prelude.{◌≡◌, ◌≢◌, ◌<◌, ◌≤◌, ◌+◌, ◌^◌, false, [], length, sum_by, is_none, IfOk, IfSome};
+ghost use Rattle.std.specs.Prelude.{◌≡◌, ◌≢◌, ◌<◌, ◌≤◌, ◌+◌, ◌^◌, false, [], length, sum_by, is_none, IfOk, IfSome, OnOk};
 ghost use Rattle.std.specs.List.{AllByRecursion};
 ghost use Rattle.mrp_participant.specs.State.{AreRows, is_silent};
 ghost use Rattle.msrp_codec.specs.Content.{Belongs, base_octets, octets_of};
@@ -9,15 +9,13 @@ ghost use Rattle.attribute_propagation.specs.Ports.{IsLinkPort, place_of};
 ghost use Rattle.msrp.specs.Side.{HasSent, IsWritten};
 
 use crate::app::MsrpApp;
-use crate::calls::port_at;
+use crate::in_place::sent_at;
+use crate::laws::every_call_keeps_a_side;
 use crate::side::MsrpSide;
-use attribute_propagation::laws::each_port_is_told;
-use mrp_participant::laws::{
-    declarations_stay, each_key_after_send, registrations_stay, rows_stay_rows,
-    what_is_sent_is_declared,
-};
+use crate::view::port_at;
+use mrp_participant::laws::what_is_sent_is_declared;
 use mrp_participant::{Msgs, Participant};
-use msrp_codec::{MsrpKey, MsrpPdu, encode};
+use msrp_codec::{MsrpPdu, encode};
 use srp_base::{Cs, NoMemory, PortNo, Seq};
 use std::alloc::Global;
 
@@ -27,25 +25,22 @@ impl MsrpSide {
     /// changes then.
     pub fn send(&mut self, now: Cs, port: PortNo) -> Result<Option<Seq<u8>>, NoMemory>
         requires now { now.0 < 2 ^ 62 }
-        requires port { IsLinkPort port (length self.old.ports) }
-        ensures { HasSent now (place_of port) self.old result self.new }
+        requires port { IsLinkPort port (length self.old.state.ports) }
+        ensures sent { HasSent now (place_of port) self.old.state result self.new.state }
+        ensures ready { OnOk result (self.new.ready ≡ false) }
     {
+        every_call_keeps_a_side();
         self.keeps();
-        each_port_is_told::<MsrpKey>();
-        declarations_stay::<MsrpApp>();
-        registrations_stay::<MsrpApp>();
-        rows_stay_rows::<MsrpApp>();
-        each_key_after_send::<MsrpApp>();
         let alloc = *self.ports.allocator();
         let at = usize::from(port.0) - 1;
-        match said_by(alloc, port_at(self.ports.as_slice(), at).part(), now)? {
-            Some(octets) => {
-                let port = &mut self.ports[at];
-                port.sent(now);
-                Ok(Some(octets))
-            }
-            None => Ok(None),
-        }
+        let said = said_by(alloc, port_at(self.ports.as_slice(), at).part(), now)?;
+        self.ready = false;
+        let octets = match said {
+            Some(octets) => octets,
+            None => return Ok(None),
+        };
+        sent_at(&mut self.ports, at, now);
+        Ok(Some(octets))
     }
 }
 

@@ -1,6 +1,6 @@
 //! One stream at a node: its Talker's port, and what each link port declares of it and wants for it.
 
-ghost use Rattle.std.specs.Prelude.{◌≡◌, ◌++◌, ◌∷◌, ◌<◌, ◌≤◌, suc, List, [], Some, None, if◌then◌else◌, length, map, take, drop, find, position, option_map, option_and_then, IfOk, OnOk};
+ghost use Rattle.std.specs.Prelude.{◌≡◌, ◌++◌, ◌∷◌, ◌+◌, ◌<◌, ◌≤◌, suc, List, [], Some, None, if◌then◌else◌, length, map, take, drop, find, position, option_map, option_and_then, vec_capacity, vec_len};
 ghost use Rattle.std.specs.List.{filter_map};
 ghost use Rattle.std.specs.Option.{unwrap_or};
 ghost use Rattle.srp_base.specs.declared.numbers.StreamId.{StreamId};
@@ -12,6 +12,7 @@ ghost use Rattle.msrp_talker.specs.TalkerOut.{talker_in};
 ghost use Rattle.msrp_codec.specs.declared.pdu.MsrpContent.TheVariants as contents;
 ghost use Rattle.msrp.specs.PortState.{PortState};
 ghost use Rattle.msrp.specs.Part.{talker_reg_of, listener_kind_of, registered_talker, registered_listener, talker_content};
+ghost use Rattle.msrp.specs.Holding.{ports_in};
 ghost use Rattle.msrp.specs.View.{registrations_from, talkers_from};
 ghost use Rattle.msrp.specs.Stream.{talk_of, is_listened, listener_row, talkers_of, want_in_class, is_number, is_present, first_talker, is_talker_port, want_of_talker, want_of_reg, is_ready, wanted_at, fit_at, talker_at, is_advertised, own_listener, other_listeners, heard_from, listener_at, stated_at};
 
@@ -24,8 +25,7 @@ use msrp_codec::{MsrpContent, MsrpKey};
 use msrp_listener::{PortListener, listener_out};
 use msrp_talker::{check, class_of, talker_out};
 use port_ledger::Ledger;
-use srp_base::{Class, Cs, ListenerKind, NoMemory, StreamId, Talker, TalkerReg};
-use std::alloc::Global;
+use srp_base::{Class, Cs, ListenerKind, StreamId, Talker, TalkerReg};
 use stream_importance::{Fit, Want, slope_of};
 
 // ---- what is registered
@@ -99,7 +99,7 @@ pub(crate) fn is_listened(listens: &[StreamId], stream: StreamId) -> bool
 
 // The Listeners of a stream at a port, with whether it has the stream booked.
 fn listener_row(port: &Port, stream: StreamId) -> Option<PortListener>
-    ensures { result ≡ listener_row stream port.now }
+    ensures { result ≡ listener_row stream port.now.state }
 {
     let booked = port.ledger().booked(stream).is_some();
     registered_listener(port.part(), stream).map(|kind| PortListener { kind, booked })
@@ -139,9 +139,9 @@ struct TalkerPort {
 // The lowest of these link ports where a stream's Talker is registered.
 fn talker_port(ports: &[Port], stream: StreamId) -> Option<TalkerPort>
     ensures place { option_map (λ r. r.place) result
-        ≡ position is_present (map (λ p. registered_talker stream p.part) ports.now) }
+        ≡ position is_present (map (λ p. registered_talker stream p.part) (ports_in ports.now)) }
     ensures reg { option_map (λ r. r.reg) result
-        ≡ find is_present (map (λ p. registered_talker stream p.part) ports.now) }
+        ≡ find is_present (map (λ p. registered_talker stream p.part) (ports_in ports.now)) }
 {
     for (place, port) in ports.iter().enumerate() {
         let reg = registered_talker(port.part(), stream);
@@ -161,7 +161,8 @@ pub(crate) fn talker_of(view: &PortView<'_>, stream: StreamId) -> TalkerReg
 
 // Whether the application is a stream's Talker's port.
 pub(crate) fn is_own(talks: &[Talker], stream: StreamId) -> bool
-    ensures { (ports : List PortState) → result ≡ is_talker_port 0 (talkers_of talks.now ports stream) }
+    ensures { (ports : List PortState) → result
+        ≡ is_talker_port 0 (talkers_of talks.now ports stream) }
 {
     talk_of(talks, stream).is_some()
 }
@@ -257,7 +258,8 @@ fn is_ready(kind: Option<ListenerKind>) -> bool
 
 // What a link port wants for a stream, by what it sees.
 pub(crate) fn wanted_at(view: &PortView<'_>, port: &Port, stream: StreamId) -> Option<Want>
-    ensures { result ≡ wanted_at view.now.at port.now (talkers_from view.now stream) stream }
+    ensures { result
+        ≡ wanted_at view.now.at port.now.state (talkers_from view.now stream) stream }
 {
     if !is_ready(registered_listener(port.part(), stream)) {
         return None;
@@ -287,7 +289,8 @@ pub(crate) fn talker_in(reg: TalkerReg) -> Option<Talker>
 fn fit_of(reg: TalkerReg, ledger: &Ledger, now: Cs) -> Option<Fit>
     requires { ledger.now.book.moment ≤ now.0 }
     ensures { result
-        ≡ option_map (fit_for now.0 ledger.now.book) (option_and_then want_of_talker (talker_in reg)) }
+        ≡ option_map (fit_for now.0 ledger.now.book) (option_and_then want_of_talker
+        (talker_in reg)) }
 {
     let want = talker_in(reg).and_then(|talker| want_of_talker(&talker));
     match want {
@@ -308,16 +311,16 @@ pub(crate) fn fit_at(view: &PortView<'_>, ledger: &Ledger, now: Cs, stream: Stre
     fit_of(seen.reg, ledger, now)
 }
 
-// What a link port declares of a stream's Talker by another ledger.
-fn talker_at(view: &PortView<'_>, port: &Port, ledger: &Ledger, stream: StreamId) -> TalkerReg
-    ensures { result ≡ talker_at view.now.at (record port.now { ledger = ledger.now.book })
-        (talkers_from view.now stream) }
+// What a link port declares of a stream's Talker.
+fn talker_at(view: &PortView<'_>, port: &Port, stream: StreamId) -> TalkerReg
+    ensures { result ≡ talker_at view.now.at port.now.state (talkers_from view.now stream) }
 {
     let seen = seen_from(view, stream);
     if seen.is_here {
         return TalkerReg::Absent;
     }
     let edge = is_edge(port.domain(), port.part(), seen.reg);
+    let ledger = port.ledger();
     let fit = fit_of(seen.reg, ledger, ledger.moment()).unwrap_or(Fit::Fits);
     talker_out(seen.reg, port.config(), edge, fit)
 }
@@ -337,25 +340,30 @@ fn own_listener(listens: &[StreamId], stream: StreamId, talker: &TalkerReg) -> O
     }
 }
 
-// Puts a row that is there at the end.
-fn push_row(out: &mut Vec<PortListener>, row: Option<PortListener>) -> Result<(), NoMemory>
-    ensures { OnOk result (out.new.items ≡ out.old.items ++ filter_map (λ row. row) (row ∷ [])) }
+// Puts a row that is there at the end. There is room for it.
+fn push_row(out: &mut Vec<PortListener>, row: Option<PortListener>)
+    requires { vec_len out.old < vec_capacity out.old }
+    ensures items { out.new.items ≡ out.old.items ++ filter_map (λ row. row) (row ∷ []) }
+    ensures len { vec_len out.new ≤ vec_len out.old + 1 }
+    ensures capacity { vec_capacity out.new ≡ vec_capacity out.old }
 {
     if let Some(row) = row {
-        out.push(row)?;
+        out.push_reserved(row);
     }
-    Ok(())
 }
 
-// Puts the Listeners of a stream at each of these ports at the end.
-fn push_rows(out: &mut Vec<PortListener>, ports: &[Port], stream: StreamId) -> Result<(), NoMemory>
-    ensures { OnOk result (out.new.items
-        ≡ out.old.items ++ filter_map (λ row. row) (map (listener_row stream) ports.now)) }
+// Puts the Listeners of a stream at each of these ports at the end. There is room for one of each.
+fn push_rows(out: &mut Vec<PortListener>, ports: &[Port], stream: StreamId)
+    requires { vec_len out.old + length ports.now ≤ vec_capacity out.old }
+    ensures items { out.new.items
+        ≡ out.old.items
+        ++ filter_map (λ row. row) (map (listener_row stream) (ports_in ports.now)) }
+    ensures len { vec_len out.new ≤ vec_len out.old + length ports.now }
+    ensures capacity { vec_capacity out.new ≡ vec_capacity out.old }
 {
     for port in ports {
-        push_row(out, listener_row(port, stream))?;
+        push_row(out, listener_row(port, stream));
     }
-    Ok(())
 }
 
 // The ports before a place, and those after it.
@@ -373,41 +381,43 @@ fn after(ports: &[Port], at: usize) -> &[Port]
     &ports[at + 1..]
 }
 
-// The Listeners of a stream at all ports but one, by what is registered at the Talker's port.
-fn other_listeners(
-    alloc: Global,
+// Puts the Listeners of a stream at all ports but one, by what is registered at the Talker's port, in the place of what
+// a list has. There is room for one of each port and the application.
+fn put_other_listeners(
+    rows: &mut Vec<PortListener>,
     view: &PortView<'_>,
     stream: StreamId,
     talker: &TalkerReg,
-) -> Result<Vec<PortListener>, NoMemory>
-    requires { view.now.at < length view.now.ports.now }
-    ensures { talker.now ≡ first_talker (talkers_from view.now stream)
-        → IfOk result (λ v. v.items
-        ≡ other_listeners view.now.at (registrations_from view.now stream)) }
+)
+    requires place { view.now.at < length view.now.ports.now }
+    requires room { length view.now.ports.now < vec_capacity rows.old }
+    ensures rows { talker.now ≡ first_talker (talkers_from view.now stream)
+        → rows.new.items ≡ other_listeners view.now.at (registrations_from view.now stream) }
+    ensures capacity { vec_capacity rows.new ≡ vec_capacity rows.old }
 {
-    let mut others = Vec::with_capacity(alloc, view.ports.len())?;
-    push_row(&mut others, own_listener(view.listens, stream, talker))?;
-    push_rows(&mut others, before(view.ports, view.at), stream)?;
-    push_rows(&mut others, after(view.ports, view.at), stream)?;
-    Ok(others)
+    rows.clear();
+    push_row(rows, own_listener(view.listens, stream, talker));
+    push_rows(rows, before(view.ports, view.at), stream);
+    push_rows(rows, after(view.ports, view.at), stream);
 }
 
-// What a link port declares of a stream's Listeners.
+// What a link port declares of a stream's Listeners. The list has room for one of each port and the application.
 fn listener_at(
-    alloc: Global,
+    rows: &mut Vec<PortListener>,
     view: &PortView<'_>,
     stream: StreamId,
-) -> Result<Option<ListenerKind>, NoMemory>
-    requires { view.now.at < length view.now.ports.now }
-    ensures { IfOk result (λ kind. kind
-        ≡ listener_at view.now.at (registrations_from view.now stream)) }
+) -> Option<ListenerKind>
+    requires place { view.now.at < length view.now.ports.now }
+    requires room { length view.now.ports.now < vec_capacity rows.old }
+    ensures kind { result ≡ listener_at view.now.at (registrations_from view.now stream) }
+    ensures capacity { vec_capacity rows.new ≡ vec_capacity rows.old }
 {
     let seen = seen_from(view, stream);
     if !seen.is_here {
-        return Ok(None);
+        return None;
     }
-    let rows = other_listeners(alloc, view, stream, &seen.reg)?;
-    Ok(listener_out(rows.as_slice()))
+    put_other_listeners(rows, view, stream, &seen.reg);
+    listener_out(rows.as_slice())
 }
 
 // The content by which a Talker is declared.
@@ -431,29 +441,29 @@ fn listener_content(kind: Option<ListenerKind>) -> Option<MsrpContent>
     }
 }
 
-// What a link port declares of a key by another ledger.
+// What a link port declares of a key. The list has room for one of each port and the application.
 pub(crate) fn stated_at(
-    alloc: Global,
+    rows: &mut Vec<PortListener>,
     view: &PortView<'_>,
     port: &Port,
-    ledger: &Ledger,
     key: MsrpKey,
-) -> Result<Option<MsrpContent>, NoMemory>
-    requires { view.now.at < length view.now.ports.now }
-    ensures { IfOk result (λ c. c
-        ≡ stated_at view.now.at (record port.now { ledger = ledger.now.book })
-        (registrations_from view.now) key) }
+) -> Option<MsrpContent>
+    requires place { view.now.at < length view.now.ports.now }
+    requires room { length view.now.ports.now < vec_capacity rows.old }
+    ensures content { result
+        ≡ stated_at view.now.at port.now.state (registrations_from view.now) key }
+    ensures capacity { vec_capacity rows.new ≡ vec_capacity rows.old }
 {
     match key {
         MsrpKey::Talker(stream) => {
-            let reg = talker_at(view, port, ledger, stream);
-            Ok(talker_content(reg))
+            let reg = talker_at(view, port, stream);
+            talker_content(reg)
         }
         MsrpKey::Listener(stream) => {
-            let kind = listener_at(alloc, view, stream)?;
-            Ok(listener_content(kind))
+            let kind = listener_at(rows, view, stream);
+            listener_content(kind)
         }
-        MsrpKey::Domain(class) => Ok(domain_stated(port.domain(), class)),
+        MsrpKey::Domain(class) => domain_stated(port.domain(), class),
     }
 }
 

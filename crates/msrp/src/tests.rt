@@ -172,7 +172,7 @@ fn failed_of(priority: u8, frames: u16, code: u8) -> Option<MsrpContent> {
 // ---- the calls
 
 fn link_port(side: &MsrpSide, number: u8) -> Option<PortNo>
-    ensures { IfSome result (λ port. IsLinkPort port (length side.now.ports)) }
+    ensures { IfSome result (λ port. IsLinkPort port (length side.now.state.ports)) }
 {
     if number == 0 || usize::from(number) > side.ports() {
         return None;
@@ -289,19 +289,15 @@ fn clocks(side: &mut MsrpSide, now: u64) -> bool {
     now >= side.moment.0 && side.clock(Cs(now)).is_ok()
 }
 
-// Whether the clock was prepared, where it shows or not, and then set.
-fn clocks_prepared(side: &mut MsrpSide, now: u64, shows: bool) -> bool {
+// Whether the side was made ready, also a second time, and then the clock set, which shows or doesn't.
+fn clocks_ready(side: &mut MsrpSide, now: u64, shows: bool) -> bool {
     if now < side.moment.0 {
         return false;
     }
-    match side.prepare_clock(Cs(now)) {
-        Ok(sets) => {
-            let shown = sets.sets.is_some() == shows;
-            side.clock_by(Cs(now), sets);
-            shown
-        }
-        Err(_) => false,
-    }
+    side.clock_room().is_ok()
+        && side.clock_room().is_ok()
+        && side.clock_shows(Cs(now)) == shows
+        && side.clock(Cs(now)).is_ok()
 }
 
 // Whether the application asked.
@@ -426,13 +422,13 @@ fn an_emergency_stream_takes_anothers_place(rt: HostRuntime) -> Result<(), Fail>
 }
 
 #[test]
-fn a_clock_is_prepared_and_then_set(rt: HostRuntime) -> Result<(), Fail> {
+fn a_side_that_is_ready_sets_its_clock(rt: HostRuntime) -> Result<(), Fail> {
     let mut side = wide_bridge(rt.alloc()).ok_or("a bridge")?;
     assert!(rt; books_twice(&mut side));
     assert!(rt; side.all_sound() && awaits(&side, 2, 0));
-    assert!(rt; clocks_prepared(&mut side, 5, true));
+    assert!(rt; clocks_ready(&mut side, 5, true));
     assert!(rt; awaits(&side, 2, 1));
-    assert!(rt; clocks_prepared(&mut side, 6, false));
+    assert!(rt; clocks_ready(&mut side, 6, false));
     assert!(rt; awaits(&side, 2, 1));
     Ok(())
 }
@@ -471,14 +467,22 @@ fn timers_act_and_faults_do_not(rt: HostRuntime) -> Result<(), Fail> {
     assert!(rt; !side.still() && side.is_busy(Cs(1)));
     assert!(rt; receives(&mut side, 2, LEAVES.as_slice()));
     assert!(rt; settles(&mut side, 1, 2));
-    let mut other = side.copy()?;
     assert!(rt; fires(&mut side, 60, 2, 0));
     assert!(rt; fires(&mut side, 61, 2, 1));
     assert!(rt; awaits(&side, 1, 2));
-    assert!(rt; leaves(&mut other, 2, MsrpKey::Listener(ONE)));
-    assert!(rt; awaits(&other, 1, 2));
     assert!(rt; disturb(&mut side, 1));
     assert!(rt; says_leave_all(&mut side, 1));
+    Ok(())
+}
+
+#[test]
+fn a_key_leaves_at_once(rt: HostRuntime) -> Result<(), Fail> {
+    let mut side = bridge(rt.alloc()).ok_or("a bridge")?;
+    assert!(rt; receives(&mut side, 2, READY.as_slice()));
+    assert!(rt; receives(&mut side, 2, LEAVES.as_slice()));
+    assert!(rt; settles(&mut side, 1, 2));
+    assert!(rt; leaves(&mut side, 2, MsrpKey::Listener(ONE)));
+    assert!(rt; awaits(&side, 1, 2));
     Ok(())
 }
 

@@ -1,8 +1,8 @@
 //! What a link port sees at its node.
 
 ghost use Rattle.std.specs.Prelude.{◌≡◌, ◌<◌, length, slice_get, Some};
+ghost use Rattle.msrp.specs.Holding.{ports_in};
 
-use crate::calls::port_at;
 use crate::port::Port;
 use crate::side::MsrpSide;
 use srp_base::{StreamId, Talker};
@@ -30,9 +30,9 @@ impl<'a> PortView<'a> {
 impl MsrpSide {
     // What the link port at a place sees.
     pub(crate) fn view(&self, at: usize) -> PortView<'_>
-        ensures talks { result.talks.now ≡ self.now.talks }
-        ensures listens { result.listens.now ≡ self.now.listens }
-        ensures ports { result.ports.now ≡ self.now.ports }
+        ensures talks { result.talks.now ≡ self.now.state.talks }
+        ensures listens { result.listens.now ≡ self.now.state.listens }
+        ensures ports { ports_in result.ports.now ≡ self.now.state.ports }
         ensures at { result.at ≡ at }
     {
         PortView {
@@ -42,4 +42,12 @@ impl MsrpSide {
             at,
         }
     }
+}
+
+// The port at a place.
+pub(crate) fn port_at(ports: &[Port], at: usize) -> &Port
+    requires { at < length ports.now }
+    ensures { slice_get ports.now at ≡ Some result.now }
+{
+    &ports[at]
 }

@@ -1,8 +1,9 @@
 use Rattle.std.proofs.Common.{◌≡◌, ◌++◌, take, drop, map}
+use Rattle.msrp.specs.Holding.{ports_in}
 use Rattle.msrp.specs.Side.{clocked_port}
 use Rattle.msrp.proofs.clock.clock_all.Given as goal
 
 -- the ports so far are clocked, and the others are as they were
 abbrev pub invariant-loop-port : goal.invariant-loop-port
 invariant-loop-port l =
-    l.port-items ≡ map (clocked_port l.now.0) (take l.port-index l.fn.ports.items) ++ drop l.port-index l.fn.ports.items
+    ports_in l.port-items ≡ map (clocked_port l.now.0) (take l.port-index (ports_in l.fn.ports.items)) ++ drop l.port-index (ports_in l.fn.ports.items)

@@ -1,11 +1,10 @@
-use Rattle.std.proofs.Common.{◌≡◌, drop}
-use Rattle.msrp.specs.Stream.{wanted_at}
-use Rattle.msrp.specs.View.{talkers_from}
-use Rattle.msrp.specs.Settling.{with_wants}
+use Rattle.std.proofs.Common.{◌≡◌, ◌≤◌, length, drop}
+use Rattle.msrp.specs.Plan.{asked_in}
 use Rattle.msrp.proofs.settling.enter_all.Given as goal
 
--- with the streams that are left entered too, all are
-abbrev pub invariant-loop-stream : goal.invariant-loop-stream
-invariant-loop-stream l =
-    with_wants (λ s. wanted_at l.view.at l.port (talkers_from l.view s) s) (drop l.stream-index l.streams) l.ledger.book
-    ≡ with_wants (λ s. wanted_at l.view.at l.port (talkers_from l.view s) s) l.streams l.fn.ledger.book
+-- with those of the streams that are left entered too, all are; and there is room for those that are left
+abbrev pub invariant-loop-one : goal.invariant-loop-one
+invariant-loop-one l = record {
+  book : asked_in (drop l.one-index l.asked) l.ledger.book ≡ asked_in l.asked l.fn.ledger.book;
+  room : length (drop l.one-index l.asked) ≤ l.ledger.spare;
+}

@@ -3,6 +3,8 @@ use Rattle.mrp_participant.specs.State.{IsTime}
 use Rattle.srp_base.specs.declared.ports.PortSetup.{PortSetup}
 use Rattle.msrp.specs.PortState.{PortState}
 use Rattle.msrp.specs.Side.{new_port as port_of}
+use Rattle.msrp.specs.Holding.{ports_in}
+use Rattle.msrp.proofs.InPlace.{states_joined}
 use Rattle.msrp.proofs.Places.{each-at, one_more}
 use Rattle.msrp.proofs.side.new_ports.Goals as goal
 
@@ -17,7 +19,8 @@ new-requires-clause-shares c =
 pub loop-port-preserved : goal.loop-port-preserved
 loop-port-preserved c =
     let new = port_of c.args.bridge c.args.leave_time c.args.periodic c.args.domain in
-    one_more (map new) (λ (p : PortSetup). new p ∷ []) c.args.ports.now c.loop-port.port-index c.port-item.result c.loop-port.all.items c.push.new.self.items _
+    one_more (map new) (λ (p : PortSetup). new p ∷ []) c.args.ports.now c.loop-port.port-index c.port-item.result (ports_in c.loop-port.all.items) (ports_in c.push.new.self.items) _
     (λ p ps. refl) c.loop-port-test.true
-    (c.in_ok-push.ensures.items ∙ ap (λ (p : PortState). c.loop-port.all.items ++ p ∷ []) (c.in_ok-made.ensures ∙ ap new c.port-item.is))
+    (ap ports_in c.in_ok-push.ensures.items ∙ (states_joined c.loop-port.all.items c.in_ok-made.made
+    ∙ ap (λ (p : PortState). ports_in c.loop-port.all.items ++ p ∷ []) (c.in_ok-made.ensures ∙ ap new c.port-item.is)))
     c.loop-port.invariant

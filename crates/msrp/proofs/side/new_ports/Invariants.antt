@@ -1,9 +1,10 @@
 use Rattle.std.proofs.Common.{◌≡◌, ◌++◌, map, drop}
+use Rattle.msrp.specs.Holding.{ports_in}
 use Rattle.msrp.specs.Side.{new_port}
 use Rattle.msrp.proofs.side.new_ports.Given as goal
 
 -- the ports so far and those that are left are all
 abbrev pub invariant-loop-port : goal.invariant-loop-port
 invariant-loop-port l =
-    l.all.items ++ map (new_port l.bridge l.leave_time l.periodic l.domain) (drop l.port-index l.ports)
+    ports_in l.all.items ++ map (new_port l.bridge l.leave_time l.periodic l.domain) (drop l.port-index l.ports)
     ≡ map (new_port l.bridge l.leave_time l.periodic l.domain) l.ports

@@ -3,6 +3,7 @@ use Rattle.std.specs.Prelude.{find}
 use Rattle.std.specs.List.{position_from}
 use Rattle.msrp.specs.PortState.{PortState}
 use Rattle.msrp.specs.Part.{registered_talker}
+use Rattle.msrp.specs.Holding.{ports_in}
 use Rattle.msrp.specs.Stream.{is_present}
 use Rattle.msrp.proofs.stream.talker_port.Given as goal
 
@@ -10,8 +11,8 @@ use Rattle.msrp.proofs.stream.talker_port.Given as goal
 abbrev pub invariant-loop-place : goal.invariant-loop-place
 invariant-loop-place l =
     record {
-      place : position_from is_present l.place (map (λ (p : PortState). registered_talker l.stream p.part) (drop l.place l.ports))
-          ≡ position_from is_present 0 (map (λ (p : PortState). registered_talker l.stream p.part) l.ports);
-      reg : find is_present (map (λ (p : PortState). registered_talker l.stream p.part) (drop l.place l.ports))
-          ≡ find is_present (map (λ (p : PortState). registered_talker l.stream p.part) l.ports);
+      place : position_from is_present l.place (map (λ (p : PortState). registered_talker l.stream p.part) (ports_in (drop l.place l.ports)))
+          ≡ position_from is_present 0 (map (λ (p : PortState). registered_talker l.stream p.part) (ports_in l.ports));
+      reg : find is_present (map (λ (p : PortState). registered_talker l.stream p.part) (ports_in (drop l.place l.ports)))
+          ≡ find is_present (map (λ (p : PortState). registered_talker l.stream p.part) (ports_in l.ports));
     }

@@ -6,5 +6,5 @@ use Rattle.msrp.proofs.side.MsrpSide.hush.Goals as goal
 
 pub put_talks-requires : goal.put_talks-requires
 put_talks-requires c s e =
-    let is : c.in_ok-talks.talks.items ≡ talks_without c.args.stream c.args.self.now.talks = search rules in
-    ap (talk_of s) is ∙ talks_other c.args.stream s c.args.self.now.talks e
+    let is : c.in_ok-talks.talks.items ≡ talks_without c.args.stream c.self.inside.talks.items = search rules in
+    ap (talk_of s) is ∙ talks_other c.args.stream s c.self.inside.talks.items e

@@ -1,24 +1,22 @@
-use Rattle.std.proofs.Common.{rules, ◌≡◌, ◌∙◌, List, ap, sym, refl}
+use Rattle.std.proofs.Common.{◌∙◌, List, ap, sym, refl}
 use Rattle.msrp_codec.specs.declared.pdu.MsrpKey.{MsrpKey}
-use Rattle.attribute_propagation.specs.Ports.{keys_in, marked_everywhere}
-use Rattle.msrp.specs.Part.{key_cmp}
 use Rattle.msrp.specs.Stream.{talk_of}
-use Rattle.msrp.specs.Settling.{keys_of}
 use Rattle.msrp.specs.Side.{Streams, with_asks}
+use Rattle.msrp.specs.Holding.{SideHolding, streams_of}
 use Rattle.msrp.proofs.Keeping.{kept-asked}
 use Rattle.msrp.proofs.side.MsrpSide.put_talks.Goals as goal
 
-pub invariant_of-self : goal.invariant_of-self
-invariant_of-self c =
-    let before : Streams = record { ports = c.self.inside.ports.items; awaiting = keys_in c.self.inside.awaiting.items; talks = c.self.inside.talks.items; listens = c.self.inside.listens.items; moment = c.self.inside.moment.0 } in
-    let sets : keys_in c.put_sets.new.sets.items ≡ marked_everywhere key_cmp (keys_of c.args.stream) (keys_in c.self.inside.awaiting.items) = search rules in
-    rw sets (kept-asked c.each_port_is_told.ensures before c.self.invariant c.args.stream c.args.talks.items c.self.inside.listens.items
-    (λ s e. c.requires s e ∙ ap (λ (v : Streams). talk_of s v.talks) (sym c.self.view_is))
-    (λ s e. refl))
+pub invariant_of-self-2 : goal.invariant_of-self-2
+invariant_of-self-2 c =
+    let before : Streams = streams_of c.self.inside.ports.items c.self.inside.awaiting.items c.self.inside.talks.items c.self.inside.listens.items c.self.inside.moment.0 in (
+      rw c.in_ok-both_await.ensures.ok (kept-asked c.each_port_is_told.ensures before c.self.invariant.0 c.args.stream c.args.talks.items c.self.inside.listens.items
+          (λ s e. c.requires s e ∙ ap (λ (v : SideHolding). talk_of s v.state.talks) (sym c.self.view_is))
+          (λ s e. refl)),
+      tt,
+    )
 
 pub returns-clause-ok : goal.returns-clause-ok
 returns-clause-ok c =
-    let before : Streams = record { ports = c.self.inside.ports.items; awaiting = keys_in c.self.inside.awaiting.items; talks = c.self.inside.talks.items; listens = c.self.inside.listens.items; moment = c.self.inside.moment.0 } in
-    let sets : keys_in c.put_sets.new.sets.items ≡ marked_everywhere key_cmp (keys_of c.args.stream) (keys_in c.self.inside.awaiting.items) = search rules in
-    ap (λ (xs : List (List MsrpKey)). record before { talks = c.args.talks.items; awaiting = xs }) sets
-    ∙ ap (λ (v : Streams). with_asks c.args.stream c.args.talks.items v.listens v) c.self.view_is
+    let before : Streams = streams_of c.self.inside.ports.items c.self.inside.awaiting.items c.self.inside.talks.items c.self.inside.listens.items c.self.inside.moment.0 in
+    ap (λ (xs : List (List MsrpKey)). record before { talks = c.args.talks.items; awaiting = xs }) c.in_ok-both_await.ensures.ok
+    ∙ ap (λ (v : SideHolding). with_asks c.args.stream c.args.talks.items v.state.listens v.state) c.self.view_is

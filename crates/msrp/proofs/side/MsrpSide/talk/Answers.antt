@@ -6,5 +6,5 @@ use Rattle.msrp.proofs.side.MsrpSide.talk.Goals as goal
 
 pub put_talks-requires : goal.put_talks-requires
 put_talks-requires c s e =
-    let is : c.in_ok-talks.talks.items ≡ c.args.talker ∷ talks_without c.args.talker.stream c.args.self.now.talks = search rules in
-    ap (talk_of s) is ∙ talks_more c.args.talker s c.args.self.now.talks e
+    let is : c.in_ok-talks.talks.items ≡ c.args.talker ∷ talks_without c.args.talker.stream c.self.inside.talks.items = search rules in
+    ap (talk_of s) is ∙ talks_more c.args.talker s c.self.inside.talks.items e

@@ -6,5 +6,5 @@ use Rattle.msrp.proofs.side.MsrpSide.unlisten.Goals as goal
 
 pub put_listens-requires : goal.put_listens-requires
 put_listens-requires c s e =
-    let is : c.in_ok-listens.listens.items ≡ listens_without c.args.stream c.args.self.now.listens = search rules in
-    ap (is_listened s) is ∙ listens_other c.args.stream s c.args.self.now.listens e
+    let is : c.in_ok-listens.listens.items ≡ listens_without c.args.stream c.self.inside.listens.items = search rules in
+    ap (is_listened s) is ∙ listens_other c.args.stream s c.self.inside.listens.items e

@@ -1,0 +1,37 @@
+use Rattle.std.proofs.Common.{◌≡◌, ◌∙◌, ℕ, List, length, ap, sym, arith}
+use Rattle.std.specs.Prelude.{slice_get, Some, IfSome}
+use Rattle.attribute_propagation.specs.Dirty.{KeySet}
+use Rattle.attribute_propagation.specs.Ports.{count_of, keys_at, keys_in, keys_or_none}
+use Rattle.msrp_codec.specs.declared.pdu.MsrpKey.{MsrpKey}
+use Rattle.msrp.specs.PortState.{PortState}
+use Rattle.msrp.specs.Side.{Streams, settled_streams}
+use Rattle.msrp.specs.Holding.{PortHolding, ports_in, streams_of}
+use Rattle.msrp.specs.Plan.{IsPlan}
+use Rattle.msrp.proofs.Carried.{same_many, same_sets}
+use Rattle.msrp.proofs.InPlace.{same_streams, state_is}
+use Rattle.msrp.proofs.Places.{some_is}
+use Rattle.msrp.proofs.settling.settle_at.Goals as goal
+
+pub carry_out-requires-clause-place : goal.carry_out-requires-clause-place
+carry_out-requires-clause-place c = omega (arith, c.requires.place, same_many _ _ c.room_at.ensures.ports)
+
+pub carry_out-requires-clause-sets : goal.carry_out-requires-clause-sets
+carry_out-requires-clause-sets c = omega (arith, c.requires.sets, same_many _ _ c.room_at.ensures.ports, same_sets _ _ c.room_at.ensures.sets)
+
+pub carry_out-requires-clause-plan : goal.carry_out-requires-clause-plan
+carry_out-requires-clause-plan c =
+    let ports : List PortHolding = c.args.ports.now.items in
+    let sets : List (KeySet MsrpKey) = c.args.sets.now.items in
+    let here : slice_get (ports_in ports) c.args.at ≡ Some c.port.result.now.state =
+    ap (λ xs. slice_get (ports_in xs) c.args.at) (sym c.as_slice-2.ensures.value) ∙ state_is c.as_slice-2.result.now c.args.at c.port.result.now c.port.ensures in
+    let keys : c.as_slice-3.result.now ≡ keys_at c.args.at (keys_in sets) =
+    c.as_slice-3.ensures ∙ sym (ap (λ (xs : List (KeySet MsrpKey)). keys_at c.args.at (keys_in xs)) (sym c.as_slice.ensures.value) ∙ ap (λ o. keys_or_none o) c.set_at-keys.ensures) in
+    let plan : IsPlan c.args.at c.args.talks.now (ports_in ports) (keys_at c.args.at (keys_in sets)) c.in_ok-plan.plan c.port.result.now.state =
+    rw (sym keys, sym c.as_slice-2.ensures.value) c.in_ok-plan.ensures in
+    rw (c.room_at.ensures.ports, c.room_at.ensures.sets)
+    (some_is (IsPlan c.args.at c.args.talks.now (ports_in ports) (keys_at c.args.at (keys_in sets)) c.in_ok-plan.plan) (slice_get (ports_in ports) c.args.at) c.port.result.now.state here plan)
+
+pub returns-clause-after : goal.returns-clause-after
+returns-clause-after c = λ moment.
+    c.carry_out.ensures moment
+    ∙ ap (λ (s : Streams). settled_streams c.args.at s) (same_streams _ _ _ _ c.args.talks.now c.args.listens.now moment c.room_at.ensures.ports c.room_at.ensures.sets)
