@@ -69,7 +69,8 @@ pub record Keeps (before after : Streams) : Type 0 where
 
 -- the laws of MSRP at a node, by its public laws
 pub record StreamLaws : Type 0 where
-  pub receive : (now : Cs) (at : ℕ) (pdu : MsrpPdu) (side : Streams) → AllByRecursion (λ e. Belongs e.1 e.2) pdu.events → AreInRange pdu.events → IsProperSrp side → Keeps side (received_streams now at pdu side)
+  pub receive : (now : Cs) (at : ℕ) (pdu : MsrpPdu) (side : Streams) → AllByRecursion (λ e. Belongs e.1 e.2) pdu.events → AreInRange pdu.events
+      → IsProperSrp side → Keeps side (received_streams now at pdu side)
   pub due : (now : Cs) (at : ℕ) (side : Streams) → IsProperSrp side → Keeps side (due_streams now at side)
   pub leave_now : (at : ℕ) (key : MsrpKey) (side : Streams) → IsProperSrp side → Keeps side (left_streams at key side)
   pub leaveall_now : (now : Cs) (at : ℕ) (side : Streams) → IsProperSrp side → Keeps side (leave_all_streams now at side)
@@ -223,12 +224,14 @@ with-outbox s at wires short proper h =
       idle = λ k. record { own = (h.idle k).own; talks = (h.idle k).talks; listens = (h.idle k).listens };
     }
 
-new-named : (bridge : BridgeId) (leave_time : Cs) (periodic : Bool) (domain : DomainSet) (ports : List PortSetup) → AllByRecursion (λ (p : PortState). p.config.bridge ≡ bridge) (map (new_port bridge leave_time periodic domain) ports)
+new-named : (bridge : BridgeId) (leave_time : Cs) (periodic : Bool) (domain : DomainSet) (ports : List PortSetup)
+    → AllByRecursion (λ (p : PortState). p.config.bridge ≡ bridge) (map (new_port bridge leave_time periodic domain) ports)
 new-named bridge leave_time periodic domain [] = tt
 new-named bridge leave_time periodic domain (p ∷ ports) = (refl, new-named bridge leave_time periodic domain ports)
 
 pub proper-new : (kind : NodeKind) (bridge : BridgeId) (leave_time : Cs) (periodic : Bool) (domain : DomainSet) (ports : List PortSetup)
-    → IsProper (new_vlans leave_time periodic ports) → IsProperSrp (new_streams bridge leave_time periodic domain ports) → length ports ≤ 255 → IsProperNode (new_node kind bridge leave_time periodic domain ports)
+    → IsProper (new_vlans leave_time periodic ports) → IsProperSrp (new_streams bridge leave_time periodic domain ports)
+    → length ports ≤ 255 → IsProperNode (new_node kind bridge leave_time periodic domain ports)
 proper-new kind bridge leave_time periodic domain ports side streams few =
     let none : PortSetup → List Wire = λ p. [] in
     let parts = length-map ports (λ (p : PortSetup). new_state {K = ℕ} {C = Unit {0}} p.period leave_time periodic) in

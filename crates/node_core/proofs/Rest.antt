@@ -124,7 +124,8 @@ rest-sooner soon late s le h =
 
 -- ---- once the clock has gone on
 
-due-clocked : (until : Cs) (now : ℕ) (ports : List PortState) → list_any (λ (p : PortState). is_any_due until p.part) (map (clocked_port now) ports) ≡ list_any (λ (p : PortState). is_any_due until p.part) ports
+due-clocked : (until : Cs) (now : ℕ) (ports : List PortState)
+    → list_any (λ (p : PortState). is_any_due until p.part) (map (clocked_port now) ports) ≡ list_any (λ (p : PortState). is_any_due until p.part) ports
 due-clocked until now [] = refl
 due-clocked until now (p ∷ ports) = ap (λ b. is_any_due until p.part || b) (due-clocked until now ports)
 

@@ -32,12 +32,13 @@ pub(crate) fn worked_on(
 ) -> Result<StepReply, NoMemory>
     requires now { now.0 < 2 ^ 62 }
     requires port { IsLinkPort port (length mvrp.old.state.parts) }
-    requires same { length msrp.old.ports ≡ length mvrp.old.state.parts }
+    requires same { length msrp.old.state.ports ≡ length mvrp.old.state.parts }
     requires short { IsShort wire.now }
     ensures ok { IfOk result (λ reply.
-        HasOneTaken wire.now.app now (place_of port) wire.now.octets mvrp.old.state msrp.old reply mvrp.new.state msrp.new) }
+        HasOneTaken wire.now.app now (place_of port) wire.now.octets mvrp.old.state msrp.old.state
+        reply mvrp.new.state msrp.new.state) }
     ensures err_vlans { OnErr result (mvrp.new.state ≡ mvrp.old.state) }
-    ensures err_streams { OnErr result (msrp.new ≡ msrp.old) }
+    ensures err_streams { OnErr result (msrp.new.state ≡ msrp.old.state) }
 {
     match wire.app {
         App::Mvrp => receive_vlans(mvrp, now, port, wire),
@@ -56,9 +57,9 @@ pub(crate) fn put_out(
 ) -> Result<StepReply, NoMemory>
     requires now { now.0 < 2 ^ 62 }
     requires port { IsLinkPort port (length mvrp.old.state.parts) }
-    requires same { length msrp.old.ports ≡ length mvrp.old.state.parts }
-    ensures put { HasOneSaid app now (place_of port) mvrp.old.state msrp.old outbox.old.items result
-        mvrp.new.state msrp.new outbox.new.items }
+    requires same { length msrp.old.state.ports ≡ length mvrp.old.state.parts }
+    ensures put { HasOneSaid app now (place_of port) mvrp.old.state msrp.old.state outbox.old.items
+        result mvrp.new.state msrp.new.state outbox.new.items }
 {
     match app {
         App::Mvrp => put_vlans(mvrp, now, port, outbox),
@@ -75,13 +76,14 @@ pub(crate) fn due_of(
 ) -> Result<StepReply, NoMemory>
     requires now { now.0 < 2 ^ 62 }
     requires port { IsLinkPort port (length mvrp.old.state.parts) }
-    requires same { length msrp.old.ports ≡ length mvrp.old.state.parts }
+    requires same { length msrp.old.state.ports ≡ length mvrp.old.state.parts }
     ensures fired { IfOk result (λ reply. reply
-        ≡ StepReply.Fired (count_of (all_due now (place_of port) mvrp.old.state msrp.old))) }
+        ≡ StepReply.Fired (count_of (all_due now (place_of port) mvrp.old.state msrp.old.state))) }
     ensures ok_vlans { OnOk result (mvrp.new.state ≡ due_vlans now (place_of port) mvrp.old.state) }
-    ensures ok_streams { OnOk result (msrp.new ≡ due_streams now (place_of port) msrp.old) }
+    ensures ok_streams { OnOk result
+        (msrp.new.state ≡ due_streams now (place_of port) msrp.old.state) }
     ensures err_vlans { OnErr result (mvrp.new.state ≡ mvrp.old.state) }
-    ensures err_streams { OnErr result (msrp.new ≡ msrp.old) }
+    ensures err_streams { OnErr result (msrp.new.state ≡ msrp.old.state) }
 {
     mvrp.room(port)?;
     let fired = msrp.due(now, port)?;
@@ -97,15 +99,17 @@ pub(crate) fn settle_of(
     port: PortNo,
 ) -> Result<StepReply, NoMemory>
     requires now { now.0 < 2 ^ 62 }
-    requires moment { now.0 ≡ msrp.old.moment }
+    requires moment { now.0 ≡ msrp.old.state.moment }
     requires port { IsLinkPort port (length mvrp.old.state.parts) }
-    requires same { length msrp.old.ports ≡ length mvrp.old.state.parts }
+    requires same { length msrp.old.state.ports ≡ length mvrp.old.state.parts }
     ensures settled { IfOk result (λ reply. reply
-        ≡ StepReply.Settled (count_of (all_awaiting (place_of port) mvrp.old.state msrp.old))) }
+        ≡ StepReply.Settled
+        (count_of (all_awaiting (place_of port) mvrp.old.state msrp.old.state))) }
     ensures ok_vlans { OnOk result (mvrp.new.state ≡ settled_vlans (place_of port) mvrp.old.state) }
-    ensures ok_streams { OnOk result (msrp.new ≡ settled_streams (place_of port) msrp.old) }
+    ensures ok_streams { OnOk result
+        (msrp.new.state ≡ settled_streams (place_of port) msrp.old.state) }
     ensures err_vlans { OnErr result (mvrp.new.state ≡ mvrp.old.state) }
-    ensures err_streams { OnErr result (msrp.new ≡ msrp.old) }
+    ensures err_streams { OnErr result (msrp.new.state ≡ msrp.old.state) }
 {
     mvrp.room(port)?;
     let settled = msrp.settle(now, port)?;
@@ -218,7 +222,8 @@ pub(crate) fn put_vlans(
     requires now { now.0 < 2 ^ 62 }
     requires port { IsLinkPort port (length side.old.state.parts) }
     ensures put { IsSaying App.Mvrp (said_mvrp now (place_of port) side.old.state) side.old.state
-        (sent_vlans now (place_of port) side.old.state) outbox.old.items result side.new.state outbox.new.items }
+        (sent_vlans now (place_of port) side.old.state) outbox.old.items
+        result side.new.state outbox.new.items }
 {
     outbox.try_reserve(1)?;
     match side.send(now, port)? {
@@ -239,9 +244,9 @@ pub(crate) fn spoil_vlans(side: &mut MvrpSide, port: PortNo)
 
 // The application asks for something.
 pub(crate) fn ask_srp(side: &mut MsrpSide, request: SrpRequest) -> Result<StepReply, NoMemory>
-    ensures ok { OnOk result (side.new ≡ requested_streams request side.old) }
+    ensures ok { OnOk result (side.new.state ≡ requested_streams request side.old.state) }
     ensures taken { IfOk result (λ reply. reply ≡ StepReply.Taken) }
-    ensures err { OnErr result (side.new ≡ side.old) }
+    ensures err { OnErr result (side.new.state ≡ side.old.state) }
 {
     side.request(request)?;
     Ok(StepReply::Taken)
@@ -255,12 +260,12 @@ pub(crate) fn receive_streams(
     wire: &Wire,
 ) -> Result<StepReply, NoMemory>
     requires now { now.0 < 2 ^ 62 }
-    requires port { IsLinkPort port (length side.old.ports) }
+    requires port { IsLinkPort port (length side.old.state.ports) }
     requires short { IsShort wire.now }
     ensures ok { IfOk result (λ reply.
-        worked_msrp now (place_of port) (msrp_reading wire.now.octets) side.old
-        ≡ (side.new, reply)) }
-    ensures err { OnErr result (side.new ≡ side.old) }
+        worked_msrp now (place_of port) (msrp_reading wire.now.octets) side.old.state
+        ≡ (side.new.state, reply)) }
+    ensures err { OnErr result (side.new.state ≡ side.old.state) }
 {
     match side.receive(now, port, wire.octets.as_slice()) {
         Ok(events) => Ok(StepReply::Received(events)),
@@ -275,10 +280,10 @@ pub(crate) fn left_key(
     port: PortNo,
     key: MsrpKey,
 ) -> Result<StepReply, NoMemory>
-    requires { IsLinkPort port (length side.old.ports) }
-    ensures ok { IfOk result (λ reply. left_key_now key (place_of port) side.old
-        ≡ (side.new, reply)) }
-    ensures err { OnErr result (side.new ≡ side.old) }
+    requires { IsLinkPort port (length side.old.state.ports) }
+    ensures ok { IfOk result (λ reply. left_key_now key (place_of port) side.old.state
+        ≡ (side.new.state, reply)) }
+    ensures err { OnErr result (side.new.state ≡ side.old.state) }
 {
     let was = side.leave_now(port, key)?;
     Ok(StepReply::Fired(u32::from(was)))
@@ -287,8 +292,8 @@ pub(crate) fn left_key(
 // Fires the LeaveAll timer.
 pub(crate) fn leave_all_streams(side: &mut MsrpSide, now: Cs, port: PortNo) -> StepReply
     requires now { now.0 < 2 ^ 62 }
-    requires port { IsLinkPort port (length side.old.ports) }
-    ensures after { side.new ≡ leave_all_streams now (place_of port) side.old }
+    requires port { IsLinkPort port (length side.old.state.ports) }
+    ensures after { side.new.state ≡ leave_all_streams now (place_of port) side.old.state }
     ensures fired { result ≡ StepReply.Fired 1 }
 {
     side.leaveall_now(now, port);
@@ -297,8 +302,8 @@ pub(crate) fn leave_all_streams(side: &mut MsrpSide, now: Cs, port: PortNo) -> S
 
 // Fires the periodic timer.
 pub(crate) fn periodic_streams(side: &mut MsrpSide, port: PortNo) -> StepReply
-    requires { IsLinkPort port (length side.old.ports) }
-    ensures after { side.new ≡ periodic_streams (place_of port) side.old }
+    requires { IsLinkPort port (length side.old.state.ports) }
+    ensures after { side.new.state ≡ periodic_streams (place_of port) side.old.state }
     ensures fired { result ≡ StepReply.Fired 1 }
 {
     side.periodic_now(port);
@@ -313,9 +318,10 @@ pub(crate) fn put_streams(
     outbox: &mut Vec<Wire>,
 ) -> Result<StepReply, NoMemory>
     requires now { now.0 < 2 ^ 62 }
-    requires port { IsLinkPort port (length side.old.ports) }
-    ensures put { IsSaying App.Msrp (said_msrp now (place_of port) side.old) side.old
-        (sent_streams now (place_of port) side.old) outbox.old.items result side.new outbox.new.items }
+    requires port { IsLinkPort port (length side.old.state.ports) }
+    ensures put { IsSaying App.Msrp (said_msrp now (place_of port) side.old.state) side.old.state
+        (sent_streams now (place_of port) side.old.state) outbox.old.items
+        result side.new.state outbox.new.items }
 {
     outbox.try_reserve(1)?;
     match side.send(now, port)? {
@@ -326,17 +332,17 @@ pub(crate) fn put_streams(
 
 // Ends the soundness of the participant at a port.
 pub(crate) fn spoil_streams(side: &mut MsrpSide, port: PortNo)
-    requires { IsLinkPort port (length side.old.ports) }
-    ensures { side.new ≡ spoilt_streams (place_of port) side.old }
+    requires { IsLinkPort port (length side.old.state.ports) }
+    ensures { side.new.state ≡ spoilt_streams (place_of port) side.old.state }
 {
     side.spoil(port);
 }
 
 // The clock goes on to a moment that isn't before the last.
 pub(crate) fn clock_by(side: &mut MsrpSide, now: Cs, sets: ClockSets)
-    requires moment { side.old.moment ≤ now.0 }
-    requires sets { sets ≡ next_sets now.0 side.old }
-    ensures { side.new ≡ clocked_streams now.0 side.old }
+    requires moment { side.old.state.moment ≤ now.0 }
+    requires sets { sets ≡ next_sets now.0 side.old.state }
+    ensures { side.new.state ≡ clocked_streams now.0 side.old.state }
 {
     side.clock_by(now, sets);
 }

@@ -58,7 +58,8 @@ fn push_key<A: NodeApp>(
 ) -> Result<(), NoMemory>
     ensures { OnOk result (keys.new.items
         ≡ keys.old.items
-        ++ option_to_list (option_and_then (registered_key A.name) (slice_get part.now.state.rows i))) }
+        ++ option_to_list
+        (option_and_then (registered_key A.name) (slice_get part.now.state.rows i))) }
 {
     if let Some(key) = key_at(part, i) {
         keys.push(key)?;

@@ -51,7 +51,7 @@ impl Model for Node {
       bridge = n.bridge;
       clock = n.clock;
       vlans = n.mvrp.state;
-      streams = n.msrp;
+      streams = n.msrp.state;
       inboxes = n.inboxes.items;
       outboxes = n.outboxes.items;
     } };
@@ -61,7 +61,7 @@ impl Model for Node {
       bridge = n.bridge;
       clock = n.clock;
       vlans = n.mvrp.state;
-      streams = n.msrp;
+      streams = n.msrp.state;
       inboxes = n.inboxes.items;
       outboxes = n.outboxes.items;
     }) };

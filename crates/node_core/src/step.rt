@@ -169,7 +169,8 @@ impl Node {
     // Settles what awaits at a port, of both applications.
     fn settle(&mut self, port: PortNo) -> Result<StepReply, NoMemory>
         requires { IsLinkPort port (ports_of self.old) }
-        ensures ok { IfOk result (λ reply. after_settling (place_of port) self.old ≡ (self.new, reply)) }
+        ensures ok { IfOk result (λ reply. after_settling (place_of port) self.old
+            ≡ (self.new, reply)) }
         ensures err { OnErr result (self.new ≡ self.old) }
     {
         every_step_keeps_a_node_proper();
@@ -204,7 +205,8 @@ impl Node {
     // Sends what an application has to say at a port.
     fn send(&mut self, port: PortNo, app: App) -> Result<StepReply, NoMemory>
         requires { IsLinkPort port (ports_of self.old) }
-        ensures ok { IfOk result (λ reply. after_send app (place_of port) self.old ≡ (self.new, reply)) }
+        ensures ok { IfOk result (λ reply. after_send app (place_of port) self.old
+            ≡ (self.new, reply)) }
         ensures err { OnErr result (self.new ≡ self.old) }
     {
         every_step_keeps_a_node_proper();

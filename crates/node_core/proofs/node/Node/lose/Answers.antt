@@ -17,7 +17,7 @@ before c =
       bridge = c.self.inside.bridge;
       clock = c.self.inside.clock;
       vlans = c.self.inside.mvrp.state;
-      streams = c.self.inside.msrp;
+      streams = c.self.inside.msrp.state;
       inboxes = c.self.inside.inboxes.items;
       outboxes = c.self.inside.outboxes.items;
     }

@@ -12,5 +12,5 @@ invariant_of-result c =
     = λ x. record { kind = c.args.kind; bridge = c.args.bridge; clock = record { 0 = 0 }; vlans = x.0; streams = x.1; inboxes = x.2; outboxes = x.3 } in
     let fits : c.args.bridge.0 < 2 ^ 64 = search rules in
     subst (λ (x : Vlans × Streams × List (List Wire) × List (List Wire)). IsProperNode (of x))
-    (λ i. ((sym c.in_ok-mvrp.ensures i).state, sym c.in_ok-msrp.ensures i, sym c.in_ok-inboxes.ensures i, sym c.in_ok-outboxes.ensures i))
+    (λ i. ((sym c.in_ok-mvrp.ensures i).state, (sym c.in_ok-msrp.ensures i).state, sym c.in_ok-inboxes.ensures i, sym c.in_ok-outboxes.ensures i))
     (c.a_new_node_is_proper.ensures c.args.kind c.args.bridge c.args.leave_time c.args.periodic c.args.domain c.args.ports.now c.requires.few fits)

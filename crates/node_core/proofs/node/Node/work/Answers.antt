@@ -24,7 +24,7 @@ before c =
       bridge = c.self.inside.bridge;
       clock = c.self.inside.clock;
       vlans = c.self.inside.mvrp.state;
-      streams = c.self.inside.msrp;
+      streams = c.self.inside.msrp.state;
       inboxes = c.self.inside.inboxes.items;
       outboxes = c.self.inside.outboxes.items;
     }
@@ -33,7 +33,7 @@ abbrev after : goal.After-self-1 → NodeState
 after c =
     record (before c) {
       vlans = c.worked_on.new.mvrp.state;
-      streams = c.worked_on.new.msrp;
+      streams = c.worked_on.new.msrp.state;
       inboxes = slice_set c.self.inside.inboxes.items (c.from-at.result - 1) c.remove.new.inbox;
     }
 
@@ -84,7 +84,8 @@ took c =
     let read : c.as_slice.result.now ≡ box_at i boxes = c.as_slice.ensures ∙ box_read boxes i c.index-2.result.now below c.index-2.ensures in
     let P : List Wire → Type 0 = λ ws. 0 < length ws in
     let some : 0 < length c.as_slice.result.now = subst P (first ∙ sym read) (is_some c.index.result.now c.if-is_empty.ensures.1) in
-    work_made (place_of c.args.port) i (before c) c.index-as_slice-0.result c.as_slice.result.now c.remove.new.inbox c.index_mut.result.now c.in_ok-reply.reply c.worked_on.new.mvrp.state c.worked_on.new.msrp
+    work_made (place_of c.args.port) i (before c) c.index-as_slice-0.result c.as_slice.result.now c.remove.new.inbox c.index_mut.result.now c.in_ok-reply.reply
+    c.worked_on.new.mvrp.state c.worked_on.new.msrp.state
     (ap (λ (n : ℕ). n - 1) c.from-at.ensures) read (box_read boxes i c.index_mut.result.now below c.index_mut.ensures.value) c.remove.ensures some c.index-as_slice-0.is c.in_ok-reply.ensures.ok
 
 pub invariant_of-self-2 : goal.invariant_of-self-2
