@@ -1,11 +1,14 @@
 -- What the tests' own conditions rest on.
-use Rattle.std.proofs.Common.{◌≡◌, ℕ, ◌-◌, ◌<◌, ◌^◌, List, [], Some, sym, subst, arith}
+use Rattle.std.proofs.Common.{◌≡◌, ℕ, ◌-◌, ◌<◌, ◌^◌, List, [], Some, refl, sym, ap, subst, arith}
 use Rattle.srp_base.specs.declared.numbers.Cs.{Cs}
 use Rattle.srp_base.specs.declared.ports.PortChange.{PortChange}
 use Rattle.tree_topology.specs.Topology.{Topology}
 use Rattle.node_core.specs.State.{NodeState}
+use Rattle.std.specs.List.{AllByRecursion}
+use Rattle.world_core.specs.declared.events.WorldEvent.{WorldEvent}
 use Rattle.world_core.specs.declared.events.WorldEvent.TheVariants.{Clock}
-use Rattle.world_core.specs.World.{WorldState, node_at, CanHappen}
+use Rattle.world_core.specs.World.{WorldState, node_at, CanHappen, CanAllHappen}
+use Rattle.world_core.specs.During.{IsAllowed, IsDuring}
 use Rattle.world_core.specs.Kept.{IsKeptWorld}
 use Rattle.world_core.specs.Timeline.{AreChanges}
 
@@ -18,3 +21,11 @@ pub none_are : (tree : Topology) (tick : ℕ) (changes : List PortChange) → ch
 none_are tree tick changes none =
     subst (AreChanges tree tick) (sym none)
     (record { ascend = λ i j d lt below. absurd (omega (arith, below)); ports = λ k d below. absurd (omega (arith, below)); before = λ k d below. absurd (omega (arith, below)) })
+
+-- what is allowed at any time may happen, one after the other
+pub all_can : (w : WorldState) (t : NodeState) (es : List WorldEvent) → IsKeptWorld w → node_at (record { 0 = 1 }) w ≡ Some t
+    → ((tree : Topology) (moment : ℕ) (es : List WorldEvent) (w : WorldState) → AllByRecursion (IsAllowed tree) es → IsDuring tree moment w → CanAllHappen es w)
+    → AllByRecursion (IsAllowed w.tree) es → CanAllHappen es w
+all_can w t es kept there can allowed =
+    can w.tree t.clock.0 es w allowed
+    (record { kept = kept; tree_is = refl; clock = λ x s is. ap (λ (c : Cs). c.0) (kept.clock x 0 s t is there) })

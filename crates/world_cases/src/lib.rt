@@ -10,6 +10,8 @@ mod apart;
 #[cfg(test)]
 mod leaving;
 #[cfg(test)]
+mod parts;
+#[cfg(test)]
 mod schedule;
 #[cfg(test)]
 mod streams;

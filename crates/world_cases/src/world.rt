@@ -26,7 +26,7 @@ use world_core::{History, NodeSteps, World, WorldEvent, WorldReply};
 
 /// Station 1, bridge 2 and station 3; port 1 of the bridge leads to station 1, and port 2 to
 /// station 3.
-const SCENE: &str = "ticks = 60\n\
+pub(crate) const SCENE: &str = "ticks = 60\n\
     node = [{ name = 'a', kind = 'station' }, { name = 'm', kind = 'bridge' }, \
     { name = 'b', kind = 'station' }]\n\
     link = [{ a = 'a', b = 'm' }, { a = 'm', b = 'b' }]\n";
@@ -55,7 +55,7 @@ pub(crate) fn world_of(alloc: Global, text: &str) -> Option<World> {
     world
 }
 
-fn port(node: u16, port: u8) -> EgressPort {
+pub(crate) fn port(node: u16, port: u8) -> EgressPort {
     EgressPort {
         node: NodeNo(node),
         port: PortNo(port),
@@ -197,11 +197,11 @@ fn takes(request: AppRequest) -> (WorldEvent, WorldReply) {
 }
 
 // The ports of the first link: that of station 1, and the bridge's.
-fn ours() -> EgressPort {
+pub(crate) fn ours() -> EgressPort {
     port(1, 1)
 }
 
-fn theirs() -> EgressPort {
+pub(crate) fn theirs() -> EgressPort {
     port(2, 1)
 }
 
@@ -217,7 +217,7 @@ fn declaring(vid: Vid) -> [(WorldEvent, WorldReply); 6] {
     ]
 }
 
-fn declares(world: &mut World, vid: Vid) -> bool {
+pub(crate) fn declares(world: &mut World, vid: Vid) -> bool {
     has_answers(world, declaring(vid).as_slice())
 }
 

@@ -155,7 +155,8 @@ with_streams : (k : ℕ) (s : NodeState) (t : Streams) → ((X : Type 0) (f : Bo
     → node_force k (record s { streams = t }) ≡ node_force k s
 with_streams k s t same =
     same_force (node_force k (record s { streams = t })) (node_force k s)
-    (ap (map (λ (x : Entry). x.want.stream)) (same (List Entry) (λ (b : Book). booked_of b.entries) [])) (same ℕ (λ (b : Book). booked_slope b.entries A) 0) (same ℕ (λ (b : Book). booked_slope b.entries B) 0) refl
+    (ap (map (λ (x : Entry). x.want.stream)) (same (List Entry) (λ (b : Book). booked_of b.entries) []))
+    (same ℕ (λ (b : Book). booked_slope b.entries A) 0) (same ℕ (λ (b : Book). booked_slope b.entries B) 0) refl
 
 sent_keeps : (app : App) (at k : ℕ) (o : Option (List ℕ)) (s : NodeState) → node_force k (sent_octets app at o s).0 ≡ node_force k s
 sent_keeps app at k None s = refl
@@ -346,6 +347,7 @@ quiet_node_keeps plan t w tick p legal has none =
 pub acting_node : (tree : Topology) (made : NodeSteps) → HasPortsOf tree made → is_act made ≡ true → HasNode tree made.node.0
 acting_node tree made known act = by made.steps known act
   where
-    by : (steps : List NodeStep) → AllByRecursion (λ st. HasPort tree (record { node = made.node; port = st.port })) steps → list_any (λ st. not (is_send st.step)) steps ≡ true → HasNode tree made.node.0
+    by : (steps : List NodeStep) → AllByRecursion (λ st. HasPort tree (record { node = made.node; port = st.port })) steps
+        → list_any (λ st. not (is_send st.step)) steps ≡ true → HasNode tree made.node.0
     by [] known act = absurd (false≢true act)
     by (st ∷ steps) known act = known.0.0

@@ -90,7 +90,8 @@ module _ (nodes : NodeLaws) where
   base_repeat : (e : EgressPort) (index : ℕ) (o : Option App) (w : WorldState) → Base w → Base (after_repeat e index o w).0
   base_repeat e index None w base = base
   base_repeat e index (Some app) w base =
-      base_changed e.node (repeated_at (place_of e.port) index) w base (λ s is. record { kind = refl; ports = refl; clock = refl; proper = nodes.repeated (place_of e.port) index s (proper_at w base e.node s is) })
+      base_changed e.node (repeated_at (place_of e.port) index) w base
+      (λ s is. record { kind = refl; ports = refl; clock = refl; proper = nodes.repeated (place_of e.port) index s (proper_at w base e.node s is) })
 
   spoilt_stays : (app : App) (at : ℕ) (s : NodeState) → IsProperNode s → IsOfSamePlace s (spoilt_at app at s)
   spoilt_stays Mvrp at s proper = record { kind = refl; ports = by (slice_get s.vlans.parts at); clock = refl; proper = nodes.spoilt Mvrp at s proper }
@@ -112,7 +113,8 @@ module _ (nodes : NodeLaws) where
   base_lose e index None w base = base
   base_lose e index (Some app) w base =
       base_ends app e (with_changed e.node (lost_at (place_of e.port) index) w)
-      (base_changed e.node (lost_at (place_of e.port) index) w base (λ s is. record { kind = refl; ports = refl; clock = refl; proper = nodes.lost (place_of e.port) index s (proper_at w base e.node s is) }))
+      (base_changed e.node (lost_at (place_of e.port) index) w base
+      (λ s is. record { kind = refl; ports = refl; clock = refl; proper = nodes.lost (place_of e.port) index s (proper_at w base e.node s is) }))
 
   base_forge : (e : EgressPort) (index : ℕ) (wire : Wire) (b : Bool) (w : WorldState) → IsShort wire → AreOctets wire.octets → Base w → Base (with_forgery e index wire b w).0
   base_forge e index wire false w short octets base = base
@@ -130,8 +132,10 @@ module _ (nodes : NodeLaws) where
       let short : AreShort (outbox e w) = subst AreShort out (box_has AreShort tt there.0.outboxes (place_of e.port) proper.kept.short_out) in
       let fits : AreProperWires (outbox e w) = subst AreProperWires out (box_has AreProperWires tt there.0.outboxes (place_of e.port) proper.readable_out) in
       let emptied = with_changed e.node (with_outbox (place_of e.port) []) w in
-      let fewer : Base emptied = base_changed e.node (with_outbox (place_of e.port) []) w base (λ s is. record { kind = refl; ports = refl; clock = refl; proper = nodes.taken (place_of e.port) s (proper_at w base e.node s is) }) in
-      base_changed q.node (with_carried (place_of q.port) (outbox e w)) emptied fewer (λ s is. record { kind = refl; ports = refl; clock = refl; proper = nodes.carried (place_of q.port) (outbox e w) s short fits (proper_at emptied fewer q.node s is) })
+      let fewer : Base emptied = base_changed e.node (with_outbox (place_of e.port) []) w base
+      (λ s is. record { kind = refl; ports = refl; clock = refl; proper = nodes.taken (place_of e.port) s (proper_at w base e.node s is) }) in
+      base_changed q.node (with_carried (place_of q.port) (outbox e w)) emptied fewer
+      (λ s is. record { kind = refl; ports = refl; clock = refl; proper = nodes.carried (place_of q.port) (outbox e w) s short fits (proper_at emptied fewer q.node s is) })
 
   base_clock : (w : WorldState) → CanHappen Clock w → Base w → Base (world_step Clock w).0
   base_clock w can base =

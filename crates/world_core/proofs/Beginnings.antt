@@ -123,7 +123,8 @@ module _ {K C : Type 0} (v : AppView K C) where
   -- two that have declared: first the one, and then, as the other end sees the link, the other
   both_begun : NewLinks → (x z : State K C) → IsBegun x → IsBegun z → BeginsWith x z
   both_begun links x z near far =
-      let turned : (a b : State K C) → BeginsWith a b → BeginsWith b a = λ a b met. links.turns (record { link = record { near = a; far = b; sent = []; coming = [] }; near = unmarked; far = unmarked }) met in
+      let turned : (a b : State K C) → BeginsWith a b → BeginsWith b a = λ a b met. links.turns
+      (record { link = record { near = a; far = b; sent = []; coming = [] }; near = unmarked; far = unmarked }) met in
       turned z x (far.1 x (turned x (new_of_times far.0) (near.1 (new_of_times far.0) (links.new near.0 far.0))))
 
 -- VIDs: a new participant
@@ -167,7 +168,8 @@ module _ (event : HasStreamEvents) where
 
 module _ (plan : Plan) (rules : KeepsRules plan)
     (laws : (tree : Topology) → IsSound tree → HasPortLaws tree)
-    (proper : (kind : NodeKind) (bridge : BridgeId) (leave_time : Cs) (periodic : Bool) (domain : DomainSet) (ports : List PortSetup) → length ports ≤ 255 → bridge.0 < 2 ^ 64 → IsProperNode (new_node kind bridge leave_time periodic domain ports)) where
+    (proper : (kind : NodeKind) (bridge : BridgeId) (leave_time : Cs) (periodic : Bool) (domain : DomainSet) (ports : List PortSetup)
+    → length ports ≤ 255 → bridge.0 < 2 ^ 64 → IsProperNode (new_node kind bridge leave_time periodic domain ports)) where
   sound : IsSound plan.tree
   sound = subst IsSound (sym rules.tree) rules.accepted
 

@@ -10,7 +10,7 @@ use Rattle.srp_base.specs.declared.mrp.App.{App}
 use Rattle.srp_base.specs.declared.mrp.App.TheVariants.{Mvrp, Msrp}
 use Rattle.tree_topology.specs.declared.graph.Link.{Link}
 use Rattle.tree_topology.specs.Graph.{Joined}
-use Rattle.tree_topology.specs.Topology.{Topology, HasPort, IsSound}
+use Rattle.tree_topology.specs.Topology.{Topology, HasPort, IsSound, link_ports}
 use Rattle.tree_topology.specs.Ports.{port_to, peer_of}
 use Rattle.tree_topology.specs.PortLaws.{HasPortLaws}
 use Rattle.topology_file.specs.declared.entries.NodeEntry.{NodeEntry}
@@ -35,7 +35,7 @@ use Rattle.world_core.specs.declared.journal.NodeSteps.{NodeSteps}
 use Rattle.world_core.specs.declared.journal.Tick.{Tick}
 use Rattle.world_core.specs.World.{WorldState, node_at, with_node, with_changed, outbox, app_of, reaches, with_unsound_ends, with_loss, after_repeat, with_forgery, after_carrying, world_step, world_after}
 use Rattle.world_core.specs.Start.{world_of, nodes_from}
-use Rattle.world_core.specs.Ticks.{event_of, stream_at, with_event, scripted_from, script_at, step_events, link_ports, closing_events, tick_events, after_script, after_steps, is_send}
+use Rattle.world_core.specs.Ticks.{event_of, stream_at, with_event, scripted_from, script_at, step_events, closing_events, tick_events, after_script, after_steps, is_send}
 use Rattle.world_core.specs.During.{IsDuring}
 use Rattle.world_core.specs.Carrying.{NothingWaits, has_send}
 use Rattle.world_core.proofs.Lists.{get_set}

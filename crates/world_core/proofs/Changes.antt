@@ -153,9 +153,11 @@ module _ (plan : Plan) (ticks : List Tick) (changes : List PortChange) (timeline
     pub within_caps_a : All (λ c. c.slope_a ≤ (caps_at plan c.at).class_a) changes
     within_caps_a =
         All-from_recursion (λ (c : PortChange). c.slope_a ≤ (caps_at plan c.at).class_a) changes
-        (each_weaker (λ (c : PortChange). (c.slope_a ≤ (caps_at plan c.at).class_a) × (c.slope_a + c.slope_b ≤ (caps_at plan c.at).both)) (λ (c : PortChange). c.slope_a ≤ (caps_at plan c.at).class_a) (λ c h. h.0) changes each_within)
+        (each_weaker (λ (c : PortChange). (c.slope_a ≤ (caps_at plan c.at).class_a) × (c.slope_a + c.slope_b ≤ (caps_at plan c.at).both))
+        (λ (c : PortChange). c.slope_a ≤ (caps_at plan c.at).class_a) (λ c h. h.0) changes each_within)
 
     pub within_caps : All (λ c. c.slope_a + c.slope_b ≤ (caps_at plan c.at).both) changes
     within_caps =
         All-from_recursion (λ (c : PortChange). c.slope_a + c.slope_b ≤ (caps_at plan c.at).both) changes
-        (each_weaker (λ (c : PortChange). (c.slope_a ≤ (caps_at plan c.at).class_a) × (c.slope_a + c.slope_b ≤ (caps_at plan c.at).both)) (λ (c : PortChange). c.slope_a + c.slope_b ≤ (caps_at plan c.at).both) (λ c h. h.1) changes each_within)
+        (each_weaker (λ (c : PortChange). (c.slope_a ≤ (caps_at plan c.at).class_a) × (c.slope_a + c.slope_b ≤ (caps_at plan c.at).both))
+        (λ (c : PortChange). c.slope_a + c.slope_b ≤ (caps_at plan c.at).both) (λ c h. h.1) changes each_within)

@@ -150,7 +150,8 @@ module _ {K C : Type 0} (v : AppView K C) where
           absurd (other_node w.tree laws e has (omega (arith, nodes, some, first))))
 
       here : (near far : State K C) → part_at v.part e (with_changed e.node change w) ≡ Some near → part_at v.part (peer_of w.tree.links e) (with_changed e.node change w) ≡ Some far
-          → Boxed v near far (inbox (peer_of w.tree.links e) (with_changed e.node change w)) (outbox e (with_changed e.node change w)) (inbox e (with_changed e.node change w)) (outbox (peer_of w.tree.links e) (with_changed e.node change w))
+          → Boxed v near far (inbox (peer_of w.tree.links e) (with_changed e.node change w)) (outbox e (with_changed e.node change w))
+          (inbox e (with_changed e.node change w)) (outbox (peer_of w.tree.links e) (with_changed e.node change w))
           (mark_at v.app e m', mark_at v.app (peer_of w.tree.links e) m')
       here near far a b =
           let u = with_changed e.node change w in
@@ -162,10 +163,12 @@ module _ {K C : Type 0} (v : AppView K C) where
           let old = part_there v parts w base e has s is in
           let marks : BothMarks = (mark_at v.app e w.marks, mark_at v.app q w.marks) in
           let before : Boxed v old.0 far (inbox q w) (box_at (place_of e.port) s.outboxes) (box_at (place_of e.port) s.inboxes) (outbox q w) marks
-          = met_same v marks old.0 old.0 far far (inbox q w) (inbox q w) (outbox e w) (box_at (place_of e.port) s.outboxes) (inbox (peer_of w.tree.links q) w) (box_at (place_of e.port) s.inboxes) (outbox q w) (outbox q w)
+          = met_same v marks old.0 old.0 far far (inbox q w) (inbox q w) (outbox e w) (box_at (place_of e.port) s.outboxes)
+          (inbox (peer_of w.tree.links q) w) (box_at (place_of e.port) s.inboxes) (outbox q w) (outbox q w)
           refl refl refl (outbox_is e w s is) (ap (λ (r : EgressPort). inbox r w) (laws.peer_twice e has) ∙ inbox_is e w s is) refl
           (met e has old.0 far (part_is v e w s is ∙ old.1) (sym far_same.part ∙ b)) in
           subst (λ (ms : BothMarks). Boxed v near far (inbox q u) (outbox e u) (inbox e u) (outbox q u) ms) (sym (marks_here s is))
-          (met_same v (after s marks) near near far far (inbox q w) (inbox q u) (box_at (place_of e.port) (change s).outboxes) (outbox e u) (box_at (place_of e.port) (change s).inboxes) (inbox e u) (outbox q w) (outbox q u)
+          (met_same v (after s marks) near near far far (inbox q w) (inbox q u) (box_at (place_of e.port) (change s).outboxes)
+          (outbox e u) (box_at (place_of e.port) (change s).inboxes) (inbox e u) (outbox q w) (outbox q u)
           refl refl (sym far_same.inbox) (sym (outbox_is e u (change s) new)) (sym (inbox_is e u (change s) new)) (sym far_same.outbox)
           (keeps s is old.0 near far (inbox q w) (outbox q w) marks old.1 (sym (part_is v e u (change s) new) ∙ a) before))

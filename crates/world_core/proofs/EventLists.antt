@@ -19,7 +19,8 @@ split events i e lt is =
     let next : suc i ≡ i + 1 = omega arith in
     drop-cons events i e lt ∙ (ap (λ x. x ∷ drop (suc i) events) (sym is) ∙ ap (λ (n : ℕ). e ∷ drop n events) next)
 
-pub can_next : (events : List WorldEvent) (i : ℕ) (e : WorldEvent) (w start : WorldState) (done : List WorldReply) → i < length events → e ≡ get_or events i e → IsSoFar events i w start done → CanHappen e w
+pub can_next : (events : List WorldEvent) (i : ℕ) (e : WorldEvent) (w start : WorldState) (done : List WorldReply)
+    → i < length events → e ≡ get_or events i e → IsSoFar events i w start done → CanHappen e w
 can_next events i e w start done lt is s = (subst (λ (es : List WorldEvent). CanAllHappen es w) (split events i e lt is) s.can).0
 
 pub one_event : (events : List WorldEvent) (i : ℕ) (e : WorldEvent) (w v start : WorldState) (reply : WorldReply) (done : List WorldReply) → i < length events → e ≡ get_or events i e
@@ -56,3 +57,20 @@ all_replies events i w start done le s =
 
 pub all_after : (events : List WorldEvent) (i : ℕ) (w start : WorldState) (done : List WorldReply) → length events ≤ i → IsSoFar events i w start done → w ≡ world_after events start
 all_after events i w start done le s = ap (λ (es : List WorldEvent). world_after es w) (sym (drop_all events i le)) ∙ s.after
+
+-- ---- a list of events in two parts
+
+pub rest_can : (done : ℕ) (es : List WorldEvent) (w : WorldState) → CanAllHappen es w → CanAllHappen (drop done es) (world_after (take done es) w)
+rest_can zero es w can = can
+rest_can (suc done) [] w can = can
+rest_can (suc done) (e ∷ es) w can = rest_can done es (world_step e w).0 can.1
+
+pub rest_after : (done : ℕ) (es : List WorldEvent) (w : WorldState) → world_after (drop done es) (world_after (take done es) w) ≡ world_after es w
+rest_after zero es w = refl
+rest_after (suc done) [] w = refl
+rest_after (suc done) (e ∷ es) w = rest_after done es (world_step e w).0
+
+pub rest_replies : (done : ℕ) (es : List WorldEvent) (w : WorldState) → replies_to (take done es) w ++ replies_to (drop done es) (world_after (take done es) w) ≡ replies_to es w
+rest_replies zero es w = refl
+rest_replies (suc done) [] w = refl
+rest_replies (suc done) (e ∷ es) w = ap (λ (rs : List WorldReply). (world_step e w).1 ∷ rs) (rest_replies done es (world_step e w).0)

@@ -125,22 +125,26 @@ module _ {K C : Type 0} (v : AppView K C) (links : LinkLaws v) (facts : StepFact
       silent false = refl
   sending_as e w laws has of app l (Discarded place) = silent (is_same_app v.app app)
     where
-      silent : (b : Bool) → (mark_at v.app e w.marks, mark_at v.app (peer_of w.tree.links e) w.marks) ≡ both_said b l (Discarded place) (mark_at v.app e w.marks, mark_at v.app (peer_of w.tree.links e) w.marks)
+      silent : (b : Bool) → (mark_at v.app e w.marks, mark_at v.app (peer_of w.tree.links e) w.marks) ≡ both_said b l
+          (Discarded place) (mark_at v.app e w.marks, mark_at v.app (peer_of w.tree.links e) w.marks)
       silent true = refl
       silent false = refl
   sending_as e w laws has of app l (Received n) = silent (is_same_app v.app app)
     where
-      silent : (b : Bool) → (mark_at v.app e w.marks, mark_at v.app (peer_of w.tree.links e) w.marks) ≡ both_said b l (Received n) (mark_at v.app e w.marks, mark_at v.app (peer_of w.tree.links e) w.marks)
+      silent : (b : Bool) → (mark_at v.app e w.marks, mark_at v.app (peer_of w.tree.links e) w.marks) ≡ both_said b l
+          (Received n) (mark_at v.app e w.marks, mark_at v.app (peer_of w.tree.links e) w.marks)
       silent true = refl
       silent false = refl
   sending_as e w laws has of app l (Fired n) = silent (is_same_app v.app app)
     where
-      silent : (b : Bool) → (mark_at v.app e w.marks, mark_at v.app (peer_of w.tree.links e) w.marks) ≡ both_said b l (Fired n) (mark_at v.app e w.marks, mark_at v.app (peer_of w.tree.links e) w.marks)
+      silent : (b : Bool) → (mark_at v.app e w.marks, mark_at v.app (peer_of w.tree.links e) w.marks) ≡ both_said b l
+          (Fired n) (mark_at v.app e w.marks, mark_at v.app (peer_of w.tree.links e) w.marks)
       silent true = refl
       silent false = refl
   sending_as e w laws has of app l (Settled n) = silent (is_same_app v.app app)
     where
-      silent : (b : Bool) → (mark_at v.app e w.marks, mark_at v.app (peer_of w.tree.links e) w.marks) ≡ both_said b l (Settled n) (mark_at v.app e w.marks, mark_at v.app (peer_of w.tree.links e) w.marks)
+      silent : (b : Bool) → (mark_at v.app e w.marks, mark_at v.app (peer_of w.tree.links e) w.marks) ≡ both_said b l
+          (Settled n) (mark_at v.app e w.marks, mark_at v.app (peer_of w.tree.links e) w.marks)
       silent true = refl
       silent false = refl
   sending_as e w laws has of app l Silent = silent (is_same_app v.app app)
@@ -237,7 +241,8 @@ module _ {K C : Type 0} (v : AppView K C) (links : LinkLaws v) (facts : StepFact
       → KeepsLink v at s (repeated_at at index s) (λ marks. if own then both_copied marks else marks)
   repeat_kept at index s app wire own get of_wire same there x y z far_in far_out marks old new met =
       let is : x ≡ y = one_some (v.part at s) x y old (sym (facts.boxes at s (repeated_at at index s).inboxes s.outboxes) ∙ new) in
-      met_same v (if own then both_copied marks else marks) x y z z far_in far_in (box_at at s.outboxes) (box_at at s.outboxes) (twice_in index (box_at at s.inboxes)) (box_at at (repeated_at at index s).inboxes) far_out far_out
+      met_same v (if own then both_copied marks else marks) x y z z far_in far_in (box_at at s.outboxes) (box_at at s.outboxes)
+      (twice_in index (box_at at s.inboxes)) (box_at at (repeated_at at index s).inboxes) far_out far_out
       is refl refl refl (sym (box_got s.inboxes at there.0 (twice_in index (box_at at s.inboxes)) there.1)) refl
       (as_marked own same)
     where
@@ -248,10 +253,12 @@ module _ {K C : Type 0} (v : AppView K C) (links : LinkLaws v) (facts : StepFact
           ⊎ ((j : ℕ) × (filter_map v.said (twice_in index (box_at at s.inboxes) ++ far_out) ≡ twice_in j (filter_map v.said (box_at at s.inboxes ++ far_out))))
           → AreMarkedDutiesMet v.cmp (marked_link v.said x z (far_in ++ box_at at s.outboxes) (twice_in index (box_at at s.inboxes) ++ far_out) marks)
       said (inl e) =
-          subst (λ (ms : List (Messages K C)). AreMarkedDutiesMet v.cmp (record { link = record { near = x; far = z; sent = filter_map v.said (far_in ++ box_at at s.outboxes); coming = ms }; near = flags_of marks.0; far = flags_of marks.1 }))
+          subst (λ (ms : List (Messages K C)). AreMarkedDutiesMet v.cmp
+          (record { link = record { near = x; far = z; sent = filter_map v.said (far_in ++ box_at at s.outboxes); coming = ms }; near = flags_of marks.0; far = flags_of marks.1 }))
           (sym e) met.duties
       said (inr (j, e)) =
-          subst (λ (ms : List (Messages K C)). AreMarkedDutiesMet v.cmp (record { link = record { near = x; far = z; sent = filter_map v.said (far_in ++ box_at at s.outboxes); coming = ms }; near = flags_of marks.0; far = flags_of marks.1 }))
+          subst (λ (ms : List (Messages K C)). AreMarkedDutiesMet v.cmp
+          (record { link = record { near = x; far = z; sent = filter_map v.said (far_in ++ box_at at s.outboxes); coming = ms }; near = flags_of marks.0; far = flags_of marks.1 }))
           (sym e) (links.event (marked_link v.said x z (far_in ++ box_at at s.outboxes) (box_at at s.inboxes ++ far_out) marks) (AtFar (Repeats j)) met.duties)
 
       same_wire : (b : Bool) → is_same_app v.app app ≡ b → is_same_app v.app wire.app ≡ b
@@ -530,7 +537,8 @@ module _ {K C : Type 0} (v : AppView K C) (links : LinkLaws v) (facts : StepFact
           let sent : List Wire = inbox q w ++ outbox e w in
           let coming : List Wire = others (inbox e w) ++ outbox q w in
           subst (λ (ms : BothMarks). Boxed v near far (inbox q both_spoilt) (outbox e both_spoilt) (inbox e both_spoilt) (outbox q both_spoilt) ms) (sym (are.here v.app true own))
-          (met_same v (both_spoiling recount marks) (unsound old_e.0) near (unsound old_q.0) far (inbox q w) (inbox q both_spoilt) (outbox e w) (outbox e both_spoilt) (others (inbox e w)) (inbox e both_spoilt) (outbox q w) (outbox q both_spoilt)
+          (met_same v (both_spoiling recount marks) (unsound old_e.0) near (unsound old_q.0) far (inbox q w) (inbox q both_spoilt)
+          (outbox e w) (outbox e both_spoilt) (others (inbox e w)) (inbox e both_spoilt) (outbox q w) (outbox q both_spoilt)
           near_is far_is in_far out_near in_near out_far
           (record {
             duties = record {
@@ -558,10 +566,12 @@ module _ {K C : Type 0} (v : AppView K C) (links : LinkLaws v) (facts : StepFact
           let near_is : old_e.0 ≡ near = one_some _ old_e.0 near (facts.spoilt_other app (place_of e.port) (place_of e.port) other_e other ∙ same_part) (sym (part_is v e both_spoilt _ e_both) ∙ a) in
           let far_is : old_q.0 ≡ far = one_some _ old_q.0 far (facts.spoilt_other app (place_of q.port) (place_of q.port) node_q.0 other ∙ old_q.1) (sym (part_is v q both_spoilt _ q_both) ∙ b) in
           subst (λ (ms : BothMarks). Boxed v near far (inbox q both_spoilt) (outbox e both_spoilt) (inbox e both_spoilt) (outbox q both_spoilt) ms) (sym (are.here v.app false other))
-          (met_same v marks old_e.0 near old_q.0 far (inbox q w) (inbox q both_spoilt) (outbox e w) (outbox e both_spoilt) (others (inbox e w)) (inbox e both_spoilt) (outbox q w) (outbox q both_spoilt)
+          (met_same v marks old_e.0 near old_q.0 far (inbox q w) (inbox q both_spoilt) (outbox e w)
+          (outbox e both_spoilt) (others (inbox e w)) (inbox e both_spoilt) (outbox q w) (outbox q both_spoilt)
           near_is far_is in_far out_near in_near out_far
           (record {
-            duties = subst (λ (ms : List (Messages K C)). AreMarkedDutiesMet v.cmp (record { link = record { near = old_e.0; far = old_q.0; sent = filter_map v.said (inbox q w ++ outbox e w); coming = ms }; near = flags_of marks.0; far = flags_of marks.1 }))
+            duties = subst (λ (ms : List (Messages K C)). AreMarkedDutiesMet v.cmp
+                (record { link = record { near = old_e.0; far = old_q.0; sent = filter_map v.said (inbox q w ++ outbox e w); coming = ms }; near = flags_of marks.0; far = flags_of marks.1 }))
                 (sym same_said) met_before.duties;
             near_flying = met_before.near_flying;
             far_flying = counted;

@@ -125,7 +125,8 @@ pub carry_is : (p q : EgressPort) (tree : Topology) (marks : MarksState) (nodes 
 unfolding of_tree
 carry_is p q tree marks nodes a b wires eq ew ea eb =
     let r = peer_of tree.links p in
-    ap (with_changed r.node (with_carried (place_of r.port) (outbox p (of_tree tree marks nodes)))) (changed_is p.node (with_outbox (place_of p.port) []) (of_tree tree marks nodes) ∙ ap (of_tree tree marks) (sym ea))
+    ap (with_changed r.node (with_carried (place_of r.port) (outbox p (of_tree tree marks nodes))))
+    (changed_is p.node (with_outbox (place_of p.port) []) (of_tree tree marks nodes) ∙ ap (of_tree tree marks) (sym ea))
     ∙ (changed_is r.node (with_carried (place_of r.port) (outbox p (of_tree tree marks nodes))) (of_tree tree marks a)
     ∙ ap (of_tree tree marks) (ap (λ (ws : List Wire). nodes_with r.node (with_carried (place_of r.port) ws) a) (sym ew)
     ∙ (ap (λ (q : EgressPort). nodes_with q.node (with_carried (place_of q.port) wires) a) (sym eq) ∙ sym eb)))
@@ -158,7 +159,8 @@ ports_if change s t false same is = ap ports_of is
 -- where an inbox doesn't reach so far, nothing happens
 pub not_reached : (p : EgressPort) (index : ℕ) (wire : Wire) (tree : Topology) (marks : MarksState) (nodes a b : List NodeState) (done : Bool) → done ≡ false
     → done ≡ reaches p index (record { tree = tree; nodes = nodes; marks = marks }) → a ≡ (if done then b else nodes)
-    → with_forgery p index wire (reaches p index (record { tree = tree; nodes = nodes; marks = marks })) (record { tree = tree; nodes = nodes; marks = marks }) ≡ (record { tree = tree; nodes = a; marks = marks }, Missed)
+    → with_forgery p index wire (reaches p index (record { tree = tree; nodes = nodes; marks = marks }))
+    (record { tree = tree; nodes = nodes; marks = marks }) ≡ (record { tree = tree; nodes = a; marks = marks }, Missed)
 unfolding of_tree
 not_reached p index wire tree marks nodes a b done missed is ea =
     let same : a ≡ nodes = ea ∙ ap (λ (d : Bool). if d then b else nodes) missed in
@@ -168,7 +170,8 @@ not_reached p index wire tree marks nodes a b done missed is ea =
 pub forge_is : (p : EgressPort) (index : ℕ) (wire : Wire) (tree : Topology) (marks : MarksState) (nodes a b : List NodeState) (done : Bool) → done ≡ true
     → done ≡ reaches p index (record { tree = tree; nodes = nodes; marks = marks }) → a ≡ (if done then nodes_with p.node (forged_at (place_of p.port) index wire) nodes else nodes)
     → with_unsound_ends wire.app p (record { tree = tree; nodes = a; marks = marks }) ≡ record { tree = tree; nodes = b; marks = marks }
-    → with_forgery p index wire (reaches p index (record { tree = tree; nodes = nodes; marks = marks })) (record { tree = tree; nodes = nodes; marks = marks }) ≡ (record { tree = tree; nodes = b; marks = marks }, Done)
+    → with_forgery p index wire (reaches p index (record { tree = tree; nodes = nodes; marks = marks }))
+    (record { tree = tree; nodes = nodes; marks = marks }) ≡ (record { tree = tree; nodes = b; marks = marks }, Done)
 unfolding of_tree
 forge_is p index wire tree marks nodes a b done does is ea eb =
     let forged : a ≡ nodes_with p.node (forged_at (place_of p.port) index wire) nodes
@@ -203,7 +206,8 @@ none_taken p nodes none = by (slice_get nodes (p.node.0 - 1)) refl none
 
 -- where a port's outbox is empty, nothing else happens than that it is taken
 pub carry_nothing : (p : EgressPort) (tree : Topology) (marks : MarksState) (nodes a : List NodeState) (wires : List Wire) → wires ≡ outbox p (record { tree = tree; nodes = nodes; marks = marks })
-    → wires ≡ [] → a ≡ nodes_with p.node (with_outbox (place_of p.port) []) nodes → after_carrying p (record { tree = tree; nodes = nodes; marks = marks }) ≡ record { tree = tree; nodes = a; marks = marks }
+    → wires ≡ [] → a ≡ nodes_with p.node (with_outbox (place_of p.port) []) nodes
+    → after_carrying p (record { tree = tree; nodes = nodes; marks = marks }) ≡ record { tree = tree; nodes = a; marks = marks }
 carry_nothing p tree marks nodes a wires ew none ea =
     let q = peer_of tree.links p in
     carry_is p q tree marks nodes a a wires refl ew ea

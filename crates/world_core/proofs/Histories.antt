@@ -200,7 +200,8 @@ module _ (tick : ℕ) (n : NodeNo) (w : WorldState) (own : EgressPort → List P
   other_ports links x differ (k ∷ ks) =
       elim (cases_Bool (n.0 == x)) [
         | inl is ↦ absurd (differ (eqb-true n.0 x is))
-        | inr nay ↦ ap (λ (cs : List PortChange). cs ∷ map own (map (port_of x) ks)) (sym (cond-false (n.0 == x) (changes_noted tick (port_of x k) (force_at (port_of x k) w) (own (port_of x k))) (own (port_of x k)) nay))
+        | inr nay ↦ ap (λ (cs : List PortChange). cs ∷ map own (map (port_of x) ks))
+            (sym (cond-false (n.0 == x) (changes_noted tick (port_of x k) (force_at (port_of x k) w) (own (port_of x k))) (own (port_of x k)) nay))
             ∙ ap (λ (css : List (List PortChange)). after_node (port_of x k) ∷ css) (other_ports links x differ ks)
       ]
 
@@ -221,7 +222,8 @@ module _ (tick : ℕ) (n : NodeNo) (w : WorldState) (own : EgressPort → List P
   others_from : (links : List Link) (a count : ℕ) → n.0 < a → map (ports_by own links) (range_with_len a count) ≡ map (ports_by after_node links) (range_with_len a count)
   others_from links a zero lt = refl
   others_from links a (suc count) lt =
-      ap (λ (css : List (List PortChange)). css ∷ map (ports_by own links) (range_with_len (a + 1) count)) (other_ports links a (λ e. absurd (omega (arith, lt, e))) (range_with_len 1 (length (neighbours links a))))
+      ap (λ (css : List (List PortChange)). css ∷ map (ports_by own links) (range_with_len (a + 1) count))
+      (other_ports links a (λ e. absurd (omega (arith, lt, e))) (range_with_len 1 (length (neighbours links a))))
       ∙ ap (λ (rest : List (List (List PortChange))). ports_by after_node links a ∷ rest) (others_from links (a + 1) count (omega (arith, lt)))
 
   -- one of the nodes from number a on is noted
@@ -232,7 +234,8 @@ module _ (tick : ℕ) (n : NodeNo) (w : WorldState) (own : EgressPort → List P
       ap (λ (ds : List (List PortChange)). ds ∷ map (ports_by own links) (range_with_len (a + 1) count)) (is ∙ ap (ports_by after_node links) (let e : n.0 ≡ a = omega (arith, at) in e))
       ∙ ap (λ (rest : List (List (List PortChange))). ports_by after_node links a ∷ rest) (others_from links (a + 1) count (omega (arith, at)))
   node_set links a (suc count) (suc i) css lt at is =
-      ap (λ (ds : List (List PortChange)). ds ∷ set (map (ports_by own links) (range_with_len (a + 1) count)) i css) (other_ports links a (λ e. absurd (omega (arith, at, e))) (range_with_len 1 (length (neighbours links a))))
+      ap (λ (ds : List (List PortChange)). ds ∷ set (map (ports_by own links) (range_with_len (a + 1) count)) i css)
+      (other_ports links a (λ e. absurd (omega (arith, at, e))) (range_with_len 1 (length (neighbours links a))))
       ∙ ap (λ (rest : List (List (List PortChange))). ports_by after_node links a ∷ rest) (node_set links (a + 1) count i css (omega (arith, lt)) (omega (arith, at)) is)
 
   get_node : (links : List Link) (a count i : ℕ) (css : List (List PortChange)) → i < count → n.0 ≡ a + i → css ≡ get_or (map (ports_by own links) (range_with_len a count)) i css
@@ -335,7 +338,8 @@ table_upto tick tree own upto = table_nodes tick own upto (ports_at tree.links) 
 pub changes_upto : (tree : Topology) (tick : ℕ) (changes : List PortChange) → AreChanges tree tick changes → (p : EgressPort) → ComeUpTo tick (changes_at changes p)
 changes_upto tree tick changes are p =
     each_filter (λ (c : PortChange). c.tick ≤ tick) (λ (c : PortChange). is_port c.at p) changes
-    (each_weaker (λ (c : PortChange). c.tick < tick) (λ (c : PortChange). c.tick ≤ tick) (λ c lt. omega (arith, lt)) changes (recursion_from_All (λ (c : PortChange). c.tick < tick) changes are.before))
+    (each_weaker (λ (c : PortChange). c.tick < tick) (λ (c : PortChange). c.tick ≤ tick)
+    (λ c lt. omega (arith, lt)) changes (recursion_from_All (λ (c : PortChange). c.tick < tick) changes are.before))
 
 -- what is noted at a port is of it
 acts_at_port : (tick : ℕ) (made : List NodeSteps) (w : WorldState) (p : EgressPort) (cs : List PortChange) → AreAt p cs → AreAt p (act_noted tick made w p cs)
@@ -343,7 +347,8 @@ acts_at_port tick made w p cs own =
     cond_both (has_acted p.node made) (changes_noted tick p (force_at p w) cs) cs (AreAt p)
     (λ is. each_append (λ (c : PortChange). c.at ≡ p) cs (lacking tick p (force_at p w) cs) own (lacking_at tick p (force_at p w) cs)) (λ nay. own)
 
-pub acts_by_port : (tick : ℕ) (made : List NodeSteps) (w : WorldState) (tree : Topology) (changes : List PortChange) → IsByPort tree (by_port tree (λ p. act_noted tick made w p (changes_at changes p)))
+pub acts_by_port : (tick : ℕ) (made : List NodeSteps) (w : WorldState) (tree : Topology) (changes : List PortChange)
+    → IsByPort tree (by_port tree (λ p. act_noted tick made w p (changes_at changes p)))
 acts_by_port tick made w tree changes =
     is_by_port tree (λ p. act_noted tick made w p (changes_at changes p)) (λ p. acts_at_port tick made w p (changes_at changes p) (are_at p changes))
 
@@ -364,12 +369,14 @@ acts_are_all tick steps w changes says =
 
 -- ---- one step more of a tick
 
-module _ (tick : ℕ) (w : WorldState) (tree : Topology) (own : EgressPort → List PortChange) (steps : List NodeSteps) (i : ℕ) (made : NodeSteps) (lt : i < length steps) (at : made ≡ get_or steps i made)
+module _ (tick : ℕ) (w : WorldState) (tree : Topology) (own : EgressPort → List PortChange)
+    (steps : List NodeSteps) (i : ℕ) (made : NodeSteps) (lt : i < length steps) (at : made ≡ get_or steps i made)
     (nodes : List (List (List PortChange))) (before : nodes ≡ by_port tree (λ p. act_noted tick (take i steps) w p (own p))) where
   cut : take (i + 1) steps ≡ take i steps ++ made ∷ []
   cut = take_more steps i made lt ∙ ap (λ (x : NodeSteps). take i steps ++ x ∷ []) (sym at)
 
-  pub next_act : (now : List (List (List PortChange))) → ((g : EgressPort → List PortChange) → nodes ≡ by_port tree g → now ≡ by_port tree (λ p. node_noted tick made.node w p (g p))) → is_act made ≡ true
+  pub next_act : (now : List (List (List PortChange))) → ((g : EgressPort → List PortChange)
+      → nodes ≡ by_port tree g → now ≡ by_port tree (λ p. node_noted tick made.node w p (g p))) → is_act made ≡ true
       → now ≡ by_port tree (λ p. act_noted tick (take (i + 1) steps) w p (own p))
   next_act now after act =
       after (λ p. act_noted tick (take i steps) w p (own p)) before
@@ -386,7 +393,8 @@ module _ (tick : ℕ) (w : WorldState) (tree : Topology) (own : EgressPort → L
 
 -- ---- the last of changes is in force from then on
 
-last_of_all : (tick : ℕ) (newest : Option PortChange) (cs : List PortChange) (n : ℕ) (last : PortChange) → length cs ≡ suc n → last ≡ get_or cs n last → ComeUpTo tick cs → last_upto tick newest cs ≡ Some last
+last_of_all : (tick : ℕ) (newest : Option PortChange) (cs : List PortChange) (n : ℕ) (last : PortChange)
+    → length cs ≡ suc n → last ≡ get_or cs n last → ComeUpTo tick cs → last_upto tick newest cs ≡ Some last
 last_of_all tick newest [] n last e at upto = absurd (omega (arith, e))
 last_of_all tick newest (c ∷ []) zero last e at upto = cond-true (nat_le c.tick tick) (Some c) newest (le-leb c.tick tick upto.0) ∙ ap Some (sym at)
 last_of_all tick newest (c ∷ []) (suc n) last e at upto = absurd (omega (arith, e))

@@ -88,7 +88,8 @@ one_end : (n x : ℕ) (l : LinkEntry) (rest : List PortSetup) (links : List Link
 one_end n x l rest links bridge leave_time periodic domain e = by (l.a.0 == x) (l.b.0 == x)
   where
     by : (a b : Bool)
-        → map (λ (c : Setup). c.caps) (map port_setup (map (new_port bridge leave_time periodic domain) ((if a then setup_of (2 * n - 1) l ∷ [] else if b then setup_of (2 * n) l ∷ [] else []) ++ rest)))
+        → map (λ (c : Setup). c.caps) (map port_setup (map (new_port bridge leave_time periodic domain)
+        ((if a then setup_of (2 * n - 1) l ∷ [] else if b then setup_of (2 * n) l ∷ [] else []) ++ rest)))
         ≡ map caps_of_link (if a || b then l ∷ filter (is_link_of x) links else filter (is_link_of x) links)
     by true b = ap (λ cs. caps_of_link l ∷ cs) e
     by false true = ap (λ cs. caps_of_link l ∷ cs) e
@@ -105,7 +106,8 @@ set_up_start plan x s get =
     let new = new_at plan plan.nodes 1 x s get in
     let number = new.number_is in
     let place : new.number ≡ x + 1 = omega (arith, number) in
-    ap caps_in new.is ∙ (caps_of_setups 1 new.number plan.links new.entry.id plan.leave_time plan.periodic (domain_set plan.domains new.entry.domain) ∙ ap (λ (k : ℕ). map caps_of_link (links_of k plan)) place)
+    ap caps_in new.is ∙ (caps_of_setups 1 new.number plan.links new.entry.id plan.leave_time plan.periodic (domain_set plan.domains new.entry.domain)
+    ∙ ap (λ (k : ℕ). map caps_of_link (links_of k plan)) place)
 
 -- ---- bookings are within the caps
 

@@ -284,7 +284,8 @@ module _ {K C : Type 0} (v : AppView K C) (laws : LinkLaws v) where
       both_true (is_active x.leave_all) (is_nothing (filter_map v.said coming))
       (sym h.leave_all_is ∙ and_first leave_all (marks.1.flying == 0) e)
       (nothing_there (filter_map v.said coming) (none (is_none marks.1.flying (and_second leave_all (marks.1.flying == 0) e)))) in
-      met_same v (both_sent leave_all marks) (sent_state laws.base laws.octets v.cmp now x) y z z far_in far_in (out ++ (h.wire ∷ [])) (box_at at t.outboxes) (box_at at s.inboxes) (box_at at t.inboxes) far_out far_out
+      met_same v (both_sent leave_all marks) (sent_state laws.base laws.octets v.cmp now x) y z z far_in far_in
+      (out ++ (h.wire ∷ [])) (box_at at t.outboxes) (box_at at s.inboxes) (box_at at t.inboxes) far_out far_out
       became refl refl (sym h.outs) (sym h.ins) refl
       (record {
         duties = laws.fewer _ (flags_of (after_saying marks.0)) (flags_of (after_hearing_of leave_all marks.1))

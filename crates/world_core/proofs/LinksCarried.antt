@@ -4,12 +4,11 @@ use Rattle.std.specs.List.{flat_map}
 use Rattle.std.proofs.Math.Seq.{drop-cons}
 use Rattle.srp_base.specs.declared.numbers.EgressPort.{EgressPort}
 use Rattle.tree_topology.specs.declared.graph.Link.{Link}
-use Rattle.tree_topology.specs.Topology.{Topology}
+use Rattle.tree_topology.specs.Topology.{Topology, link_ports}
 use Rattle.tree_topology.specs.Ports.{port_to, ends_of}
 use Rattle.world_core.specs.declared.events.WorldEvent.TheVariants.{Carry}
 use Rattle.world_core.specs.declared.events.WorldReply.{WorldReply}
 use Rattle.world_core.specs.World.{WorldState, Happened, world_step, world_after}
-use Rattle.world_core.specs.Ticks.{link_ports}
 use Rattle.world_core.specs.Carrying.{carried_ends}
 
 -- both ends of a link, one after the other

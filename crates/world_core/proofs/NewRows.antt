@@ -26,7 +26,8 @@ each_made P make each [] = tt
 each_made P make each (p ∷ ports) = (each p, each_made P make each ports)
 
 -- the rows that a new port of MSRP has declared
-declared : (domains : Bool) (word : DomainWord) (period leave_time : Cs) (periodic : Bool) → HasRowsAlone (domain_rows domains word) (domain_part (domain_set domains word) (new_state period leave_time periodic))
+declared : (domains : Bool) (word : DomainWord) (period leave_time : Cs) (periodic : Bool)
+    → HasRowsAlone (domain_rows domains word) (domain_part (domain_set domains word) (new_state period leave_time periodic))
 declared false word period leave_time periodic = record { rows = refl; leave_all = refl; sound = refl }
 declared true words.Both period leave_time periodic = record { rows = refl; leave_all = refl; sound = refl }
 declared true words.OnlyA period leave_time periodic = record { rows = refl; leave_all = refl; sound = refl }
@@ -39,7 +40,8 @@ at_start domains word kind bridge leave_time periodic ports =
     record {
       clock = refl;
       vlans = each_made (λ (part : Part). HasRowsAlone [] part) (λ p. new_state p.period leave_time periodic) (λ p. record { rows = refl; leave_all = refl; sound = refl }) ports;
-      streams = each_made (λ (port : PortState). HasRowsAlone (domain_rows domains word) port.part) (new_port bridge leave_time periodic (domain_set domains word)) (λ p. declared domains word p.period leave_time periodic) ports;
+      streams = each_made (λ (port : PortState). HasRowsAlone (domain_rows domains word) port.part)
+          (new_port bridge leave_time periodic (domain_set domains word)) (λ p. declared domains word p.period leave_time periodic) ports;
       booked = each_made (λ (port : PortState). port.ledger.entries ≡ []) (new_port bridge leave_time periodic (domain_set domains word)) (λ p. refl) ports;
       inboxes = each_made (λ (wires : List Wire). wires ≡ []) (λ p. []) (λ p. refl) ports;
       outboxes = each_made (λ (wires : List Wire). wires ≡ []) (λ p. []) (λ p. refl) ports;

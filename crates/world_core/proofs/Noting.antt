@@ -138,7 +138,8 @@ pub lacks_none : (tick : ℕ) (p : EgressPort) (f : Reservation) (cs items : Lis
 lacks_none tick p f cs items is =
     sym (ap (λ (ds : List PortChange). items ++ ds) (cond-true (is_same (said_by (in_force tick cs)) f) [] (change_of tick p f ∷ []) is) ∙ append-nil items)
 
-pub lacks_one : (tick : ℕ) (p : EgressPort) (f : Reservation) (cs items : List PortChange) → is_same (said_by (in_force tick cs)) f ≡ false → items ++ change_of tick p f ∷ [] ≡ items ++ lacking tick p f cs
+pub lacks_one : (tick : ℕ) (p : EgressPort) (f : Reservation) (cs items : List PortChange)
+    → is_same (said_by (in_force tick cs)) f ≡ false → items ++ change_of tick p f ∷ [] ≡ items ++ lacking tick p f cs
 lacks_one tick p f cs items nay =
     sym (ap (λ (ds : List PortChange). items ++ ds) (cond-false (is_same (said_by (in_force tick cs)) f) [] (change_of tick p f ∷ []) nay))
 
@@ -237,7 +238,8 @@ module _ (tree : Topology) (tick : ℕ) (force : EgressPort → Reservation) (ch
   tree_noted =
       record {
         ascend = pairs_from_order (noted_by tick force (tree_ports tree) changes) (noted_order tick force changes early order (tree_ports tree) (tree_ports_ascend tree));
-        ports = All-from_recursion (λ (c : PortChange). HasPort tree c.at) (noted_by tick force (tree_ports tree) changes) (noted_ports tick force changes (HasPort tree) (tree_ports tree) (each_port_has tree));
+        ports = All-from_recursion (λ (c : PortChange). HasPort tree c.at) (noted_by tick force (tree_ports tree) changes)
+            (noted_ports tick force changes (HasPort tree) (tree_ports tree) (each_port_has tree));
         before = All-from_recursion (λ (c : PortChange). c.tick < suc tick) (noted_by tick force (tree_ports tree) changes) (noted_before tick force changes early (tree_ports tree));
       }
 
@@ -276,13 +278,16 @@ module _ (f : EgressPort → List PortChange) where
       let grown : map (port_of n) (range_with_len 1 (k + 1)) ≡ done ++ q ∷ [] =
       ap (map (port_of n)) (range_push 1 k) ∙ map-append (port_of n) (range_with_len 1 k) ((1 + k) ∷ []) ∙ ap (λ (j : ℕ). done ++ port_of n j ∷ []) (let e : 1 + k ≡ k + 1 = omega arith in e) in
       now ∙ ap (λ (cs : List PortChange). cs ++ f q) before ∙ append_assoc start (flat_map f done) (f q)
-      ∙ sym (ap (λ (ps : List EgressPort). start ++ flat_map f ps) grown ∙ ap (λ (cs : List PortChange). start ++ cs) (flat_map-append f done (q ∷ []) ∙ ap (λ (cs : List PortChange). flat_map f done ++ cs) (flat_one f q)))
+      ∙ sym (ap (λ (ps : List EgressPort). start ++ flat_map f ps) grown
+      ∙ ap (λ (cs : List PortChange). start ++ cs) (flat_map-append f done (q ∷ []) ∙ ap (λ (cs : List PortChange). flat_map f done ++ cs) (flat_one f q)))
 
-  pub more_of_node : (links : List Link) (x : ℕ) (items more : List PortChange) → items ≡ flat_map f (flat_map (ports_at links) (range_with_len 1 x)) → more ≡ items ++ flat_map f (ports_at links (x + 1))
+  pub more_of_node : (links : List Link) (x : ℕ) (items more : List PortChange)
+      → items ≡ flat_map f (flat_map (ports_at links) (range_with_len 1 x)) → more ≡ items ++ flat_map f (ports_at links (x + 1))
       → more ≡ flat_map f (flat_map (ports_at links) (range_with_len 1 (x + 1)))
   more_of_node links x items more before now =
       let P : ℕ → List EgressPort = ports_at links in
       let done = range_with_len 1 x in
       let grown : flat_map P (range_with_len 1 (x + 1)) ≡ flat_map P done ++ P (x + 1) =
-      ap (flat_map P) (range_push 1 x) ∙ flat_map-append P done ((1 + x) ∷ []) ∙ ap (λ (ps : List EgressPort). flat_map P done ++ ps) (append-nil (P (1 + x))) ∙ ap (λ (j : ℕ). flat_map P done ++ P j) (let e : 1 + x ≡ x + 1 = omega arith in e) in
+      ap (flat_map P) (range_push 1 x) ∙ flat_map-append P done ((1 + x) ∷ []) ∙ ap (λ (ps : List EgressPort). flat_map P done ++ ps) (append-nil (P (1 + x)))
+      ∙ ap (λ (j : ℕ). flat_map P done ++ P j) (let e : 1 + x ≡ x + 1 = omega arith in e) in
       now ∙ ap (λ (cs : List PortChange). cs ++ flat_map f (P (x + 1))) before ∙ sym (ap (flat_map f) grown ∙ flat_map-append f (flat_map P done) (P (x + 1)))

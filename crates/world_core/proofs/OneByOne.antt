@@ -363,7 +363,8 @@ module _ (tree : Topology) (t : ℕ) (stays : (es : List WorldEvent) (w : WorldS
       by (inr ne) later =
           let from = legal.from.0 in
           let lt : x < ns.node.0 = omega (arith, from, ne) in
-          let after : AllByRecursion (λ (q : NodeSteps). x < q.node.0) (ns ∷ steps) = (lt, each_more (λ (q : NodeSteps). ns.node.0 < q.node.0) (λ (q : NodeSteps). x < q.node.0) steps (λ q gt. omega (arith, gt, lt)) legal.nodes.0) in
+          let after : AllByRecursion (λ (q : NodeSteps). x < q.node.0)
+          (ns ∷ steps) = (lt, each_more (λ (q : NodeSteps). ns.node.0 < q.node.0) (λ (q : NodeSteps). x < q.node.0) steps (λ q gt. omega (arith, gt, lt)) legal.nodes.0) in
           let last : x ≤ length tree.kinds = omega (arith, all) in
           ([], (ns ∷ steps, refl, none_left x (suc count) w (ns ∷ steps) run first last legal after, later w (ns ∷ steps) run (skipped x count w (ns ∷ steps) legal after)))
 
@@ -493,7 +494,8 @@ answered : (n : NodeNo) (port : PortNo) (step : PortStep) (w : WorldState) (s : 
 answered n port step w s is = ap (λ (o : Option NodeState). (option_map_or (λ x. after_step n (node_step (node_events.Port port step) x) w) o (w, Missed)).1) is
 
 -- the first port that has a job left makes it, and what is left then can be made
-next_made : (n : NodeNo) (left : List (List PortStep)) (w : WorldState) (s : NodeState) → node_at n w ≡ Some s → (at : ℕ) (step : PortStep) (rest : List PortStep) → slice_get left at ≡ Some (step ∷ rest)
+next_made : (n : NodeNo) (left : List (List PortStep)) (w : WorldState) (s : NodeState) → node_at n w ≡ Some s
+    → (at : ℕ) (step : PortStep) (rest : List PortStep) → slice_get left at ≡ Some (step ∷ rest)
     → ((v : WorldState) (r : NodeState) → node_at n v ≡ Some r → (made : List NodeStep) × MakeLeft n (slice_set left at rest) v made)
     → (made : List NodeStep) × MakeLeft n left w made
 next_made n left w s is at step rest get on =

@@ -177,7 +177,8 @@ module _ (g : EgressPort → List PortChange) (own : (p : EgressPort) → AreAt 
             ap (λ (cs : List PortChange). changes_at (g q) p ++ cs) none ∙ append-nil (changes_at (g q) p) ∙ all ∙ ap g e)
         | inr later ↦ (
             let lt = is_after p q qs up.0 later in
-            let none = kept_none p (g q) (each_weaker (λ (c : PortChange). c.at ≡ q) (λ (c : PortChange). is_port c.at p ≡ false) (λ c e. subst (λ (r : EgressPort). is_port r p ≡ false) (sym e) (before_other q p lt)) (g q) (own q)) in
+            let none = kept_none p (g q) (each_weaker (λ (c : PortChange). c.at ≡ q) (λ (c : PortChange). is_port c.at p ≡ false)
+            (λ c e. subst (λ (r : EgressPort). is_port r p ≡ false) (sym e) (before_other q p lt)) (g q) (own q)) in
             ap (λ (cs : List PortChange). cs ++ changes_at (flat_map g qs) p) none ∙ flat_at qs up.1 p later)
       ]
 
@@ -240,7 +241,8 @@ not_here : (p : EgressPort) (ps : List EgressPort) (cs : List PortChange) → Al
 not_here p ps [] h = tt
 not_here p ps (c ∷ cs) h =
     elim (cases_Bool (is_port c.at p)) [
-      | inl is ↦ subst (AllByRecursion (λ (d : PortChange). IsIn d.at ps)) (sym (cond-false (not (is_port c.at p)) (c ∷ others p cs) (others p cs) (not_from_true (is_port c.at p) is))) (not_here p ps cs h.1)
+      | inl is ↦ subst (AllByRecursion (λ (d : PortChange). IsIn d.at ps))
+          (sym (cond-false (not (is_port c.at p)) (c ∷ others p cs) (others p cs) (not_from_true (is_port c.at p) is))) (not_here p ps cs h.1)
       | inr nay ↦ subst (AllByRecursion (λ (d : PortChange). IsIn d.at ps)) (sym (cond-true (not (is_port c.at p)) (c ∷ others p cs) (others p cs) (not_from_false (is_port c.at p) nay)))
           (elim h.0 [ inl e ↦ absurd (false≢true (sym nay ∙ is_same_port c.at p (sym e))) | inr there ↦ there ], not_here p ps cs h.1)
     ]
@@ -256,7 +258,8 @@ port_by_port (p ∷ ps) up cs order h =
     let first = each_weaker (λ (c : PortChange). IsIn c.at (p ∷ ps)) (λ (c : PortChange). (c.at ≡ p) ⊎ IsBefore p c.at)
     (λ c there. elim there [ inl e ↦ inl (sym e) | inr later ↦ inr (after_in p c.at ps up.0 later) ]) cs h in
     let rest = port_by_port ps up.1 (others p cs) (order_filter (λ (c : PortChange). not (is_port c.at p)) cs order) (not_here p ps cs h) in
-    let same = same_flat (changes_at (others p cs)) (changes_at cs) ps (each_weaker (IsBefore p) (λ (q : EgressPort). changes_at (others p cs) q ≡ changes_at cs q) (λ q lt. others_at p q cs lt) ps up.0) in
+    let same = same_flat (changes_at (others p cs)) (changes_at cs) ps
+    (each_weaker (IsBefore p) (λ (q : EgressPort). changes_at (others p cs) q ≡ changes_at cs q) (λ q lt. others_at p q cs lt) ps up.0) in
     front_of p cs first order ∙ ap (λ (ds : List PortChange). changes_at cs p ++ ds) (rest ∙ same)
 
 -- ---- changes among others
@@ -317,8 +320,10 @@ merged_here : (p : EgressPort) (gs ls fs ms : List PortChange) → AreAt p gs �
 merged_here p [] ls fs ms own more later rest = merged_later p ls fs ms more later
 merged_here p (c ∷ gs) ls fs ms own more later rest =
     let none = each_append (λ (d : PortChange). precedes d.at c.at ≡ false) ls ms
-    (each_weaker (λ (d : PortChange). d.at ≡ p) (λ (d : PortChange). precedes d.at c.at ≡ false) (λ d e. subst (λ (q : EgressPort). precedes d.at q ≡ false) (e ∙ sym own.0) (precedes_itself d.at)) ls more)
-    (each_weaker (λ (d : PortChange). IsBefore p d.at) (λ (d : PortChange). precedes d.at c.at ≡ false) (λ d lt. precedes_after c.at d.at (subst (λ (q : EgressPort). IsBefore q d.at) (sym own.0) lt)) ms rest) in
+    (each_weaker (λ (d : PortChange). d.at ≡ p) (λ (d : PortChange). precedes d.at c.at ≡ false)
+    (λ d e. subst (λ (q : EgressPort). precedes d.at q ≡ false) (e ∙ sym own.0) (precedes_itself d.at)) ls more)
+    (each_weaker (λ (d : PortChange). IsBefore p d.at) (λ (d : PortChange). precedes d.at c.at ≡ false)
+    (λ d lt. precedes_after c.at d.at (subst (λ (q : EgressPort). IsBefore q d.at) (sym own.0) lt)) ms rest) in
     let nothing = front_nothing c.at (ls ++ ms) none in
     ap (λ (ds : List PortChange). ds ++ (c ∷ changes_among (gs ++ fs) (rest_from c.at (ls ++ ms)))) nothing.0
     ∙ ap (λ (ds : List PortChange). c ∷ changes_among (gs ++ fs) ds) nothing.1

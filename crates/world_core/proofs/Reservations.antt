@@ -14,7 +14,7 @@ use Rattle.stream_importance.specs.declared.entry.Entry.{Entry}
 use Rattle.port_ledger.specs.Decision.{booked_of}
 use Rattle.port_ledger.specs.Book.{Book, booked_slope}
 use Rattle.tree_topology.specs.declared.graph.NodeKind.{NodeKind}
-use Rattle.tree_topology.specs.Topology.{Topology}
+use Rattle.tree_topology.specs.Topology.{Topology, link_ports}
 use Rattle.tree_topology.specs.Ports.{peer_of}
 use Rattle.topology_file.specs.declared.entries.NodeEntry.{NodeEntry}
 use Rattle.topology_file.specs.Plan.{Plan}
@@ -31,7 +31,7 @@ use Rattle.node_core.specs.Links.{with_outbox, with_carried}
 use Rattle.world_core.specs.declared.events.WorldEvent.TheVariants.{Carry, Clock}
 use Rattle.world_core.specs.World.{WorldState, node_at, with_node, with_changed, outbox, after_carrying, after_clock, world_after}
 use Rattle.world_core.specs.Start.{world_of, domain_set, nodes_from, setups_from}
-use Rattle.world_core.specs.Ticks.{link_ports, closing_events}
+use Rattle.world_core.specs.Ticks.{closing_events}
 use Rattle.world_core.specs.Reservation.{Reservation, no_reservation, booked_streams, registered_vids, reservation_of}
 use Rattle.world_core.specs.Timeline.{node_force, force_at}
 use Rattle.world_core.proofs.Lists.{within}
@@ -39,7 +39,8 @@ use Rattle.world_core.proofs.Lists.{within}
 -- ---- what is read at a place of a list
 
 -- of a list whose elements have become others that read the same
-pub read_map : {X Y : Type 0} (f : X → Y) (none : Y) (g : X → X) → ((x : X) → f (g x) ≡ f x) → (xs : List X) (i : ℕ) → option_map_or f (slice_get (map g xs) i) none ≡ option_map_or f (slice_get xs i) none
+pub read_map : {X Y : Type 0} (f : X → Y) (none : Y) (g : X → X) → ((x : X) → f (g x) ≡ f x)
+    → (xs : List X) (i : ℕ) → option_map_or f (slice_get (map g xs) i) none ≡ option_map_or f (slice_get xs i) none
 read_map f none g same [] i = refl
 read_map f none g same (x ∷ xs) zero = same x
 read_map f none g same (x ∷ xs) (suc i) = read_map f none g same xs i
@@ -51,7 +52,8 @@ read_made f none g nothing (s ∷ ss) zero = nothing s
 read_made f none g nothing (s ∷ ss) (suc i) = read_made f none g nothing ss i
 
 -- of a list in which one element has become another that reads the same
-pub read_set : {X Y : Type 0} (f : X → Y) (none : Y) (xs : List X) (i j : ℕ) (x y : X) → slice_get xs i ≡ Some x → f y ≡ f x → option_map_or f (slice_get (slice_set xs i y) j) none ≡ option_map_or f (slice_get xs j) none
+pub read_set : {X Y : Type 0} (f : X → Y) (none : Y) (xs : List X) (i j : ℕ) (x y : X) → slice_get xs i ≡ Some x
+    → f y ≡ f x → option_map_or f (slice_get (slice_set xs i y) j) none ≡ option_map_or f (slice_get xs j) none
 read_set f none [] i j x y is same = refl
 read_set f none (z ∷ xs) zero zero x y is same = same ∙ ap (λ o. option_map_or f o none) (sym is)
 read_set f none (z ∷ xs) zero (suc j) x y is same = refl
@@ -78,7 +80,8 @@ clock_keeps at s =
     refl
 
 -- nothing is in force at a new node
-new_has_none : (kind : NodeKind) (bridge : BridgeId) (leave_time : Cs) (periodic : Bool) (domain : DomainSet) (ports : List PortSetup) (at : ℕ) → node_force at (new_node kind bridge leave_time periodic domain ports) ≡ no_reservation
+new_has_none : (kind : NodeKind) (bridge : BridgeId) (leave_time : Cs) (periodic : Bool) (domain : DomainSet) (ports : List PortSetup) (at : ℕ)
+    → node_force at (new_node kind bridge leave_time periodic domain ports) ≡ no_reservation
 new_has_none kind bridge leave_time periodic domain ports at =
     same_force (node_force at (new_node kind bridge leave_time periodic domain ports)) no_reservation
     (ap (map (λ (x : Entry). x.want.stream)) (read_made (λ (p : PortState). booked_of p.ledger.entries) [] (new_port bridge leave_time periodic domain) (λ s. refl) ports at))
@@ -97,7 +100,8 @@ port_force s at part book o (Some p) there some is e f =
     (ap (λ (r : Option PortState). option_map_or (λ (y : PortState). booked_slope y.ledger.entries B) r 0) f ∙ ap (λ (b : Book). booked_slope b.entries B) (sym is))
     (ap (λ (r : Option Part). option_map_or (λ (y : Part). registered_vids y.rows) r []) (e ∙ there))
 
-pub force_is : (s : NodeState) (at : ℕ) (part : Part) (book : Book) → at < length s.streams.ports → slice_get s.vlans.parts at ≡ Some part → IfSome (slice_get s.streams.ports at) (λ p. book ≡ p.ledger)
+pub force_is : (s : NodeState) (at : ℕ) (part : Part) (book : Book) → at < length s.streams.ports
+    → slice_get s.vlans.parts at ≡ Some part → IfSome (slice_get s.streams.ports at) (λ p. book ≡ p.ledger)
     → node_force at s ≡ reservation_of part book
 force_is s at part book lt there is =
     port_force s at part book (slice_get s.vlans.parts at) (slice_get s.streams.ports at) there

@@ -14,7 +14,7 @@ use Rattle.tree_topology.specs.declared.graph.Link.{Link}
 use Rattle.tree_topology.specs.declared.graph.NodeKind.{NodeKind}
 use Rattle.tree_topology.specs.declared.graph.NodeKind.TheVariants.{Station, Bridge}
 use Rattle.tree_topology.specs.Graph.{Joins, Joined}
-use Rattle.tree_topology.specs.Topology.{Topology, HasPort, IsSound}
+use Rattle.tree_topology.specs.Topology.{Topology, HasPort, IsSound, link_ports}
 use Rattle.tree_topology.specs.Ports.{port_to, peer_of}
 use Rattle.tree_topology.specs.PortLaws.{HasPortLaws}
 use Rattle.topology_file.specs.declared.entries.NodeEntry.{NodeEntry}
@@ -46,7 +46,7 @@ use Rattle.world_core.specs.declared.journal.NodeSteps.{NodeSteps}
 use Rattle.world_core.specs.declared.journal.Tick.{Tick}
 use Rattle.world_core.specs.World.{WorldState, with_changed, step_of_node, outbox, app_of, reaches, with_unsound_ends, with_loss, after_repeat, with_forgery, world_step, world_after, CanHappen, CanAllHappen, IsEventInRange}
 use Rattle.world_core.specs.Start.{world_of}
-use Rattle.world_core.specs.Ticks.{talker_of_entry, stream_at, event_of, with_event, scripted_from, script_at, step_events, link_ports, tick_events, IsLegalTick, LeadTo}
+use Rattle.world_core.specs.Ticks.{talker_of_entry, stream_at, event_of, with_event, scripted_from, script_at, step_events, tick_events, IsLegalTick, LeadTo}
 use Rattle.world_core.specs.During.{IsDuring, IsAllowed, NamesNeighbours}
 use Rattle.world_core.specs.Moments.{IsMoment, events_from}
 use Rattle.world_core.specs.Kept.{IsKeptWorld}
@@ -322,8 +322,11 @@ module _ (laws : RunLaws) where
     scripted_allowed t n [] known = tt
     scripted_allowed t n (e ∷ entries) known = by (e.tick == t) (known_allowed e.kind known.0) (scripted_allowed t (n + 1) entries known.1)
       where
-        by : (b : Bool) → IfSome (event_of plan.tree.links plan.streams e.kind) (IsAllowed plan.tree) → AllByRecursion (IsAllowed plan.tree) (map (λ (e : ℕ × WorldEvent). e.1) (scripted_from plan.tree.links plan.streams t (n + 1) entries))
-            → AllByRecursion (IsAllowed plan.tree) (map (λ (e : ℕ × WorldEvent). e.1) (Rattle.std.specs.Prelude.if◌then◌else◌ b (with_event n (event_of plan.tree.links plan.streams e.kind) (scripted_from plan.tree.links plan.streams t (n + 1) entries)) (scripted_from plan.tree.links plan.streams t (n + 1) entries)))
+        by : (b : Bool) → IfSome (event_of plan.tree.links plan.streams e.kind) (IsAllowed plan.tree)
+            → AllByRecursion (IsAllowed plan.tree) (map (λ (e : ℕ × WorldEvent). e.1) (scripted_from plan.tree.links plan.streams t (n + 1) entries))
+            → AllByRecursion (IsAllowed plan.tree) (map (λ (e : ℕ × WorldEvent). e.1)
+            (Rattle.std.specs.Prelude.if◌then◌else◌ b (with_event n (event_of plan.tree.links plan.streams e.kind) (scripted_from plan.tree.links plan.streams t (n + 1) entries))
+            (scripted_from plan.tree.links plan.streams t (n + 1) entries)))
         by true here later = with_allowed n (event_of plan.tree.links plan.streams e.kind) (scripted_from plan.tree.links plan.streams t (n + 1) entries) here later
         by false here later = later
 
@@ -369,8 +372,11 @@ module _ (laws : RunLaws) where
         let count = ticks_count (tick ∷ ticks) t w end h in
         let few = rules.ticks.1 in
         let one = tick_leads t w tick (omega (arith, count, few)) h.0 run in
-        let later = ticks_lead ticks (suc t) (world_after (tick_events plan t tick) w) end h.1 one.after in
-        (can_append (tick_events plan t tick) (events_from plan (suc t) ticks) w one.can later.0, each_append IsEventInRange (tick_events plan t tick) (events_from plan (suc t) ticks) one.named later.1)
+        let later = ticks_lead ticks (suc t) (world_after (tick_events plan t tick) w) end h.1 one.after in (
+          can_append (tick_events plan t tick) (events_from plan (suc t) ticks) w one.can later.0,
+          each_append IsEventInRange
+              (tick_events plan t tick) (events_from plan (suc t) ticks) one.named later.1,
+        )
 
     pub run_leads : (ticks : List Tick) (end : WorldState) → IsKeptWorld (world_of plan) → ((x : ℕ) (s : NodeState) → slice_get (world_of plan).nodes x ≡ Some s → s.clock.0 ≡ 0)
         → LeadTo (IsLegalTick plan) plan 0 (world_of plan) ticks plan.ticks end

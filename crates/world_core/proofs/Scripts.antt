@@ -33,7 +33,8 @@ this_tick : (links : List Link) (streams : List StreamEntry) (t n : ℕ) (e : Ev
 this_tick links streams t n e es is =
     ap (λ (b : Bool). if b then with_event n (event_of links streams e.kind) (scripted_from links streams t (n + 1) es) else scripted_from links streams t (n + 1) es) (same_is e.tick t is)
 
-other_tick : (links : List Link) (streams : List StreamEntry) (t n : ℕ) (e : EventEntry) (es : List EventEntry) → e.tick ≢ t → scripted_from links streams t n (e ∷ es) ≡ scripted_from links streams t (n + 1) es
+other_tick : (links : List Link) (streams : List StreamEntry) (t n : ℕ) (e : EventEntry) (es : List EventEntry)
+    → e.tick ≢ t → scripted_from links streams t n (e ∷ es) ≡ scripted_from links streams t (n + 1) es
 other_tick links streams t n e es ne =
     ap (λ (b : Bool). if b then with_event n (event_of links streams e.kind) (scripted_from links streams t (n + 1) es) else scripted_from links streams t (n + 1) es) (other_is e.tick t ne)
 

@@ -53,9 +53,11 @@ stream_view = record { cmp = key_cmp; part = stream_place; said = streams_said; 
 
 -- what the public laws of a link and of what is sent say of MSRP
 pub record StreamLaws : Type 0 where
-  pub event : (l : MarkedLink MsrpKey MsrpContent) (e : LinkEvent MsrpKey MsrpContent) → AreMarkedDutiesMet key_cmp l → AreMarkedDutiesMet key_cmp (after_marked_event base_octets octets_of key_cmp same_content l e)
+  pub event : (l : MarkedLink MsrpKey MsrpContent) (e : LinkEvent MsrpKey MsrpContent) → AreMarkedDutiesMet key_cmp l
+      → AreMarkedDutiesMet key_cmp (after_marked_event base_octets octets_of key_cmp same_content l e)
   pub turns : (l : MarkedLink MsrpKey MsrpContent) → AreMarkedDutiesMet key_cmp l → AreMarkedDutiesMet key_cmp (other_marked_view l)
-  pub fewer : (l : MarkedLink MsrpKey MsrpContent) (near far : Mark) → IsNoMore near l.near → IsNoMore far l.far → AreMarkedDutiesMet key_cmp l → AreMarkedDutiesMet key_cmp (record l { near = near; far = far })
+  pub fewer : (l : MarkedLink MsrpKey MsrpContent) (near far : Mark) → IsNoMore near l.near → IsNoMore far l.far
+      → AreMarkedDutiesMet key_cmp l → AreMarkedDutiesMet key_cmp (record l { near = near; far = far })
   pub unsound : (near far : Part) (sent coming : List (Messages MsrpKey MsrpContent)) → near.sound ≡ false → IsDutyMet key_cmp near far sent coming
   pub written : (now : Cs) (s : Part) → AreRows key_cmp s.rows → HasOwnContents s → HasRanges s → is_silent s ≡ false → IsWritten (pdu_sent now s) (msrp_spelling (pdu_sent now s))
   pub each_key : (now : Cs) (s : Part) (key : MsrpKey) → AreRows key_cmp s.rows
@@ -67,7 +69,8 @@ stream_links laws = record { base = base_octets; octets = octets_of; same = same
 -- ---- the ports after what is done at a place
 
 -- one of them is another
-ports_are : (at : ℕ) (make : PortState → Streams) (g : PortState → PortState) (v : Streams) → ((p : PortState) → (make p).ports ≡ slice_set v.ports at (g p)) → (at_port at make v).ports ≡ set_at at g v.ports
+ports_are : (at : ℕ) (make : PortState → Streams) (g : PortState → PortState) (v : Streams)
+    → ((p : PortState) → (make p).ports ≡ slice_set v.ports at (g p)) → (at_port at make v).ports ≡ set_at at g v.ports
 ports_are at make g v is = by (slice_get v.ports at)
   where
     by : (o : Option PortState) → (with_port o make v).ports ≡ option_map_or (λ x. slice_set v.ports at (g x)) o v.ports
@@ -108,7 +111,8 @@ sent_is now at v = ports_are at (λ p. with_port_at at (with_part (sent_part now
 pub spoilt_is : (at : ℕ) (v : Streams) → MadeAt at (calling unsound) v (spoilt_streams at v)
 spoilt_is at v = ports_are at (λ p. with_port_at at (with_part (unsound p.part) p) v) (calling unsound) v (λ p. refl)
 
-made_apart : (at k : ℕ) (g : PortState → PortState) (v u : Streams) → at ≢ k → MadeAt at g v u → option_map (λ (p : PortState). p.part) (slice_get u.ports k) ≡ option_map (λ (p : PortState). p.part) (slice_get v.ports k)
+made_apart : (at k : ℕ) (g : PortState → PortState) (v u : Streams) → at ≢ k → MadeAt at g v u
+    → option_map (λ (p : PortState). p.part) (slice_get u.ports k) ≡ option_map (λ (p : PortState). p.part) (slice_get v.ports k)
 made_apart at k g v u ne is = ap (option_map (λ (p : PortState). p.part)) (ap (λ (ps : List PortState). slice_get ps k) is ∙ set_at_other at k g v.ports ne)
 
 -- the participant there is what a call makes of it
@@ -127,7 +131,8 @@ worked_apart : (app : App) (at k : ℕ) (os : List ℕ) (s : NodeState) → at �
 worked_apart Mvrp at k os s ne = refl
 worked_apart Msrp at k os s ne = by (msrp_reading os)
   where
-    by : (r : Result MsrpPdu ℕ) → option_map (λ (p : PortState). p.part) (slice_get (worked_msrp s.clock at r s.streams).0.ports k) ≡ option_map (λ (p : PortState). p.part) (slice_get s.streams.ports k)
+    by : (r : Result MsrpPdu ℕ) → option_map (λ (p : PortState). p.part)
+        (slice_get (worked_msrp s.clock at r s.streams).0.ports k) ≡ option_map (λ (p : PortState). p.part) (slice_get s.streams.ports k)
     by (Ok pdu) = made_apart at k (calling (received_part s.clock pdu)) s.streams (received_streams s.clock at pdu s.streams) ne (received_is s.clock at pdu s.streams)
     by (Err place) = refl
 
@@ -234,10 +239,12 @@ module _ (laws : StreamLaws) where
       → box_at at t.inboxes ≡ box_at at s.inboxes → box_at at t.outboxes ≡ box_at at s.outboxes → KeepsLink stream_view at s t both_same
   made_kept at s t g keeps made ins outs =
       called stream_view links at s t
-      (λ x y old new. near (slice_get s.streams.ports at) x y old (ap (option_map (λ (p : PortState). p.part)) (sym (set_at_there at g s.streams.ports)) ∙ (ap (λ (ps : List PortState). option_map (λ (p : PortState). p.part) (slice_get ps at)) (sym made) ∙ new)))
+      (λ x y old new. near (slice_get s.streams.ports at) x y old (ap (option_map (λ (p : PortState). p.part)) (sym (set_at_there at g s.streams.ports))
+      ∙ (ap (λ (ps : List PortState). option_map (λ (p : PortState). p.part) (slice_get ps at)) (sym made) ∙ new)))
       ins outs
     where
-      near : (o : Option PortState) (x y : Part) → option_map (λ (p : PortState). p.part) o ≡ Some x → option_map (λ (p : PortState). p.part) (option_map g o) ≡ Some y → KeepsNear stream_view links x y
+      near : (o : Option PortState) (x y : Part) → option_map (λ (p : PortState). p.part) o ≡ Some x
+          → option_map (λ (p : PortState). p.part) (option_map g o) ≡ Some y → KeepsNear stream_view links x y
       near None x y old new = cc
       near (Some p) x y old new =
           let ex : p.part ≡ x = cc in
@@ -261,20 +268,24 @@ module _ (laws : StreamLaws) where
       same_there None = refl
       same_there (Some x) = refl
 
-      heard : (r : Result MsrpPdu ℕ) → option_map (λ (p : PortState). p.part) (slice_get (worked_msrp s.clock at r s.streams).0.ports at) ≡ option_map (hearing stream_view links s.clock (said_of_streams r)) (stream_place at s)
+      heard : (r : Result MsrpPdu ℕ) → option_map (λ (p : PortState). p.part)
+          (slice_get (worked_msrp s.clock at r s.streams).0.ports at) ≡ option_map (hearing stream_view links s.clock (said_of_streams r)) (stream_place at s)
       heard (Ok pdu) = called_there at (received_part s.clock pdu) s.streams (received_streams s.clock at pdu s.streams) (received_is s.clock at pdu s.streams)
       heard (Err place) = same_there (stream_place at s)
 
       by : (app : App) → wire.app ≡ app → KeepsLink stream_view at s (worked_app wire.app at wire.octets (record s { inboxes = slice_set s.inboxes at wires })).0 (both_heard Msrp (Some wire))
       by Mvrp e =
           subst (λ (a : App). KeepsLink stream_view at s (worked_app a at wire.octets (record s { inboxes = slice_set s.inboxes at wires })).0 (both_heard Msrp (Some wire))) (sym e)
-          (taken stream_view links s.clock at s (worked_app Mvrp at wire.octets (record s { inboxes = slice_set s.inboxes at wires })).0 wire wires (is_same_app Msrp wire.app) refl (silent_app wire.app wire.octets) (leaves_as wire.app wire.octets)
+          (taken stream_view links s.clock at s (worked_app Mvrp at wire.octets (record s { inboxes = slice_set s.inboxes at wires })).0 wire wires
+          (is_same_app Msrp wire.app) refl (silent_app wire.app wire.octets) (leaves_as wire.app wire.octets)
           (subst (λ (a : App). stream_place at s ≡ option_map (hearing stream_view links s.clock (octets_said a wire.octets)) (stream_place at s)) (sym e) (same_there (stream_place at s)))
           is left refl)
       by Msrp e =
           subst (λ (a : App). KeepsLink stream_view at s (worked_app a at wire.octets (record s { inboxes = slice_set s.inboxes at wires })).0 (both_heard Msrp (Some wire))) (sym e)
-          (taken stream_view links s.clock at s (worked_app Msrp at wire.octets (record s { inboxes = slice_set s.inboxes at wires })).0 wire wires (is_same_app Msrp wire.app) refl (silent_app wire.app wire.octets) (leaves_as wire.app wire.octets)
-          (subst (λ (a : App). option_map (λ (p : PortState). p.part) (slice_get (worked_msrp s.clock at (msrp_reading wire.octets) s.streams).0.ports at) ≡ option_map (hearing stream_view links s.clock (octets_said a wire.octets)) (stream_place at s)) (sym e) (heard (msrp_reading wire.octets)))
+          (taken stream_view links s.clock at s (worked_app Msrp at wire.octets (record s { inboxes = slice_set s.inboxes at wires })).0 wire wires
+          (is_same_app Msrp wire.app) refl (silent_app wire.app wire.octets) (leaves_as wire.app wire.octets)
+          (subst (λ (a : App). option_map (λ (p : PortState). p.part) (slice_get (worked_msrp s.clock at (msrp_reading wire.octets) s.streams).0.ports at)
+          ≡ option_map (hearing stream_view links s.clock (octets_said a wire.octets)) (stream_place at s)) (sym e) (heard (msrp_reading wire.octets)))
           is left refl)
 
   -- the octets say the same of each key as what the participant sends
@@ -289,7 +300,8 @@ module _ (laws : StreamLaws) where
         loud = loud;
         leave_all_is = ap (λ (o : Option PortState). option_map_or (λ (q : PortState). is_active q.part.leave_all) o false) old;
         own = refl;
-        part = called_there at (sent_part s.clock) s.streams (sent_streams s.clock at s.streams) (sent_is s.clock at s.streams) ∙ ap (λ (o : Option PortState). option_map (sent_part s.clock) (option_map (λ (q : PortState). q.part) o)) old;
+        part = called_there at (sent_part s.clock) s.streams (sent_streams s.clock at s.streams) (sent_is s.clock at s.streams)
+            ∙ ap (λ (o : Option PortState). option_map (sent_part s.clock) (option_map (λ (q : PortState). q.part) o)) old;
         wire = wire;
         says = record { leave_all = (as_written (pdu_sent s.clock p.part)).leave_all; events = (as_written (pdu_sent s.clock p.part)).events };
         read = ap said_of_streams (laws.written s.clock p.part port.rows port.contents ranges loud).reads;
@@ -301,7 +313,8 @@ module _ (laws : StreamLaws) where
   -- there is a participant, and it is silent or not
   sent_kept : (at : ℕ) (s : NodeState) → IsProperNode s → (o : Option PortState) → slice_get s.streams.ports at ≡ o
       → KeepsLink stream_view at s (sent_octets Msrp at (option_map_or (λ (port : PortState). if is_silent port.part then None else Some (msrp_spelling (pdu_sent s.clock port.part))) o None) s).0
-      (both_said true (is_leave_all_at Msrp at s) (sent_octets Msrp at (option_map_or (λ (port : PortState). if is_silent port.part then None else Some (msrp_spelling (pdu_sent s.clock port.part))) o None) s).1)
+      (both_said true (is_leave_all_at Msrp at s) (sent_octets Msrp at
+      (option_map_or (λ (port : PortState). if is_silent port.part then None else Some (msrp_spelling (pdu_sent s.clock port.part))) o None) s).1)
   sent_kept at s proper None is = still stream_view links at s
   sent_kept at s proper (Some p) is = by (is_silent p.part) refl
     where
@@ -314,7 +327,8 @@ module _ (laws : StreamLaws) where
           (one_some _ p.part y (ap (option_map (λ (q : PortState). q.part)) is) old) (spoken_there at s proper p is e))
 
   -- what MVRP sends says nothing to it
-  other_sent : (at : ℕ) (o : Option (List ℕ)) (s : NodeState) → IsProperNode s → KeepsLink stream_view at s (sent_octets Mvrp at o s).0 (both_said false (is_leave_all_at Mvrp at s) (sent_octets Mvrp at o s).1)
+  other_sent : (at : ℕ) (o : Option (List ℕ)) (s : NodeState) → IsProperNode s
+      → KeepsLink stream_view at s (sent_octets Mvrp at o s).0 (both_said false (is_leave_all_at Mvrp at s) (sent_octets Mvrp at o s).1)
   other_sent at None s proper = still stream_view links at s
   other_sent at (Some os) s proper = λ x y z far_in far_out marks old new met.
       let port = port_of (slice_get s.streams.ports at) x old in
@@ -326,11 +340,14 @@ module _ (laws : StreamLaws) where
   step_kept : (step : PortStep) (at : ℕ) (s : NodeState) → IsProperNode s → KeepsLink stream_view at s (port_step step at s).0 (both_stepped Msrp step at s (port_step step at s).1)
   step_kept Work at s proper = work_kept at (box_at at s.inboxes) s refl
   step_kept (LeaveNow (Vlan vid)) at s proper = none_kept at s (port_step (LeaveNow (Vlan vid)) at s).0 refl refl refl
-  step_kept (LeaveNow (Srp key)) at s proper = made_kept at s (port_step (LeaveNow (Srp key)) at s).0 (calling (left_state key_cmp key)) (λ p. leaves stream_view links key p.part) (left_is at key s.streams) refl refl
+  step_kept (LeaveNow (Srp key)) at s proper = made_kept at s (port_step (LeaveNow (Srp key)) at s).0
+      (calling (left_state key_cmp key)) (λ p. leaves stream_view links key p.part) (left_is at key s.streams) refl refl
   step_kept (LeaveAllNow Mvrp) at s proper = none_kept at s (port_step (LeaveAllNow Mvrp) at s).0 refl refl refl
-  step_kept (LeaveAllNow Msrp) at s proper = made_kept at s (port_step (LeaveAllNow Msrp) at s).0 (calling (leave_all_state s.clock)) (λ p. fires_leave_all stream_view links s.clock p.part) (leave_all_is s.clock at s.streams) refl refl
+  step_kept (LeaveAllNow Msrp) at s proper = made_kept at s (port_step (LeaveAllNow Msrp) at s).0 (calling (leave_all_state s.clock))
+      (λ p. fires_leave_all stream_view links s.clock p.part) (leave_all_is s.clock at s.streams) refl refl
   step_kept (PeriodicNow Mvrp) at s proper = none_kept at s (port_step (PeriodicNow Mvrp) at s).0 refl refl refl
-  step_kept (PeriodicNow Msrp) at s proper = made_kept at s (port_step (PeriodicNow Msrp) at s).0 (calling periodic_state) (λ p. fires_periodic stream_view links p.part) (periodic_is at s.streams) refl refl
+  step_kept (PeriodicNow Msrp) at s proper = made_kept at s (port_step (PeriodicNow Msrp) at s).0
+      (calling periodic_state) (λ p. fires_periodic stream_view links p.part) (periodic_is at s.streams) refl refl
   step_kept Due at s proper = made_kept at s (port_step Due at s).0 (calling (due_state s.clock)) (λ p. fires stream_view links s.clock p.part) (due_is s.clock at s.streams) refl refl
   step_kept Settle at s proper = made_kept at s (port_step Settle at s).0 (settled_at at s.streams) (settles_port at s.streams) (settled_is at s.streams) refl refl
   step_kept (Send Mvrp) at s proper = other_sent at (octets_to_say Mvrp at s) s proper

@@ -8,6 +8,7 @@ use Rattle.srp_base.specs.declared.numbers.EgressPort.{EgressPort}
 use Rattle.srp_base.specs.declared.numbers.NodeNo.{NodeNo}
 use Rattle.srp_base.specs.declared.numbers.StreamId.{StreamId}
 use Rattle.srp_base.specs.declared.streams.Talker.{Talker}
+use Rattle.tree_topology.specs.Topology.{link_ports}
 use Rattle.topology_file.specs.declared.entries.StreamEntry.{StreamEntry}
 use Rattle.topology_file.specs.declared.entries.EventEntry.{EventEntry}
 use Rattle.topology_file.specs.declared.entries.EventKind.{EventKind}
@@ -31,7 +32,7 @@ use Rattle.world_core.specs.declared.journal.Tick.{Tick}
 use Rattle.world_core.specs.Moments.{events_from}
 use Rattle.world_core.specs.Start.{world_of}
 use Rattle.world_core.specs.Talks.{IsTalkOfPlan, AreTalksOfPlan, HasOneTalker}
-use Rattle.world_core.specs.Ticks.{talker_of_entry, stream_at, event_of, with_event, scripted_from, script_at, step_events, closing_events, link_ports, tick_events}
+use Rattle.world_core.specs.Ticks.{talker_of_entry, stream_at, event_of, with_event, scripted_from, script_at, step_events, closing_events, tick_events}
 use Rattle.world_core.specs.World.{WorldState}
 use Rattle.world_core.proofs.Lists.{all_each, at_each, decide}
 use Rattle.world_core.proofs.Beginnings.{new_at}
@@ -159,7 +160,8 @@ module _ (plan : Plan) (rules : KeepsRules plan) where
     where
       by : (b : Bool) → AllByRecursion (IsPlanned plan) (map (λ (e : ℕ × WorldEvent). e.1) (scripted_from plan.tree.links plan.streams t (n + 1) entries))
           → AllByRecursion (IsPlanned plan) (map (λ (e : ℕ × WorldEvent). e.1)
-          (if b then with_event n (event_of plan.tree.links plan.streams e.kind) (scripted_from plan.tree.links plan.streams t (n + 1) entries) else scripted_from plan.tree.links plan.streams t (n + 1) entries))
+          (if b then with_event n (event_of plan.tree.links plan.streams e.kind) (scripted_from plan.tree.links plan.streams t (n + 1) entries)
+          else scripted_from plan.tree.links plan.streams t (n + 1) entries))
       by true later = with_planned n (event_of plan.tree.links plan.streams e.kind) (scripted_from plan.tree.links plan.streams t (n + 1) entries) (kind_planned e.kind) later
       by false later = later
 

@@ -2,7 +2,7 @@
 use Rattle.std.proofs.Common.{◌≡◌, ◌≢◌, ℕ, zero, suc, ◌+◌, ◌-◌, ◌<◌, ◌≤◌, ◌^◌, List, [], ◌∷◌, ◌++◌, length, map, refl, ap, subst, ◌∙◌, arith}
 use Rattle.std.specs.List.{AllByRecursion}
 use Rattle.srp_base.specs.declared.numbers.NodeNo.{NodeNo}
-use Rattle.tree_topology.specs.Topology.{Topology}
+use Rattle.tree_topology.specs.Topology.{Topology, link_ports}
 use Rattle.topology_file.specs.Plan.{Plan}
 use Rattle.node_core.specs.declared.types.NodeStep.{NodeStep}
 use Rattle.world_core.specs.declared.events.WorldEvent.{WorldEvent}
@@ -11,7 +11,7 @@ use Rattle.world_core.specs.declared.events.WorldReply.{WorldReply}
 use Rattle.world_core.specs.declared.journal.NodeSteps.{NodeSteps}
 use Rattle.world_core.specs.declared.journal.Tick.{Tick}
 use Rattle.world_core.specs.World.{WorldState, world_step, world_after, replies_to}
-use Rattle.world_core.specs.Ticks.{script_at, after_script, step_events, link_ports, tick_events, IsLegalTick, LeadTo}
+use Rattle.world_core.specs.Ticks.{script_at, after_script, step_events, tick_events, IsLegalTick, LeadTo}
 use Rattle.world_core.specs.During.{IsDuring, IsAllowed}
 use Rattle.world_core.specs.Apart.{HavePorts, events_of}
 use Rattle.world_core.specs.OneByOne.{IsOneByOne}
@@ -42,7 +42,8 @@ number_known tree ns some known = by ns.steps some known
     by [] ne h = absurd (ne refl)
     by (st ∷ made) ne h = h.0.0
 
-from_first : (tree : Topology) (steps : List NodeSteps) → AllByRecursion (λ ns. ns.steps ≢ []) steps → AllByRecursion (λ ns. HavePorts tree ns.node ns.steps) steps → AllByRecursion (λ ns. 1 ≤ ns.node.0) steps
+from_first : (tree : Topology) (steps : List NodeSteps) → AllByRecursion (λ ns. ns.steps ≢ []) steps
+    → AllByRecursion (λ ns. HavePorts tree ns.node ns.steps) steps → AllByRecursion (λ ns. 1 ≤ ns.node.0) steps
 from_first tree [] some known = tt
 from_first tree (ns ∷ steps) some known = ((number_known tree ns some.0 known.0).0, from_first tree steps some.1 known.1)
 

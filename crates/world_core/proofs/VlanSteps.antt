@@ -48,7 +48,8 @@ vlan_view = record { cmp = nat_cmp; part = vlan_place; said = message_of; app = 
 pub record VlanLaws : Type 0 where
   pub event : (l : MarkedLink ℕ (Unit {0})) (e : LinkEvent ℕ (Unit {0})) → AreMarkedDutiesMet nat_cmp l → AreMarkedDutiesMet nat_cmp (after_marked_event base octets nat_cmp same_content l e)
   pub turns : (l : MarkedLink ℕ (Unit {0})) → AreMarkedDutiesMet nat_cmp l → AreMarkedDutiesMet nat_cmp (other_marked_view l)
-  pub fewer : (l : MarkedLink ℕ (Unit {0})) (near far : Mark) → IsNoMore near l.near → IsNoMore far l.far → AreMarkedDutiesMet nat_cmp l → AreMarkedDutiesMet nat_cmp (record l { near = near; far = far })
+  pub fewer : (l : MarkedLink ℕ (Unit {0})) (near far : Mark) → IsNoMore near l.near → IsNoMore far l.far
+      → AreMarkedDutiesMet nat_cmp l → AreMarkedDutiesMet nat_cmp (record l { near = near; far = far })
   pub unsound : (near far : Part) (sent coming : List (Messages ℕ (Unit {0}))) → near.sound ≡ false → IsDutyMet nat_cmp near far sent coming
   pub written : (now : Cs) (s : Part) → AreRows nat_cmp s.rows → HasVidRows s → is_silent s ≡ false → IsWritten (pdu_sent now s) (mvrp_spelling (pdu_sent now s))
 
@@ -219,12 +220,15 @@ module _ (laws : VlanLaws) where
       by : (app : App) → wire.app ≡ app → KeepsLink vlan_view at s (worked_app wire.app at wire.octets (record s { inboxes = slice_set s.inboxes at wires })).0 (both_heard Mvrp (Some wire))
       by Mvrp e =
           subst (λ (a : App). KeepsLink vlan_view at s (worked_app a at wire.octets (record s { inboxes = slice_set s.inboxes at wires })).0 (both_heard Mvrp (Some wire))) (sym e)
-          (taken vlan_view links s.clock at s (worked_app Mvrp at wire.octets (record s { inboxes = slice_set s.inboxes at wires })).0 wire wires (is_same_app Mvrp wire.app) refl (silent_app wire.app wire.octets) (leaves_as wire.app wire.octets)
-          (subst (λ (a : App). slice_get (worked_mvrp s.clock at (mvrp_reading wire.octets) s.vlans).0.parts at ≡ option_map (hearing vlan_view links s.clock (vlans_said a wire.octets)) (slice_get s.vlans.parts at)) (sym e) (heard (mvrp_reading wire.octets)))
+          (taken vlan_view links s.clock at s (worked_app Mvrp at wire.octets (record s { inboxes = slice_set s.inboxes at wires })).0 wire wires
+          (is_same_app Mvrp wire.app) refl (silent_app wire.app wire.octets) (leaves_as wire.app wire.octets)
+          (subst (λ (a : App). slice_get (worked_mvrp s.clock at (mvrp_reading wire.octets) s.vlans).0.parts at
+          ≡ option_map (hearing vlan_view links s.clock (vlans_said a wire.octets)) (slice_get s.vlans.parts at)) (sym e) (heard (mvrp_reading wire.octets)))
           is left refl)
       by Msrp e =
           subst (λ (a : App). KeepsLink vlan_view at s (worked_app a at wire.octets (record s { inboxes = slice_set s.inboxes at wires })).0 (both_heard Mvrp (Some wire))) (sym e)
-          (taken vlan_view links s.clock at s (worked_app Msrp at wire.octets (record s { inboxes = slice_set s.inboxes at wires })).0 wire wires (is_same_app Mvrp wire.app) refl (silent_app wire.app wire.octets) (leaves_as wire.app wire.octets)
+          (taken vlan_view links s.clock at s (worked_app Msrp at wire.octets (record s { inboxes = slice_set s.inboxes at wires })).0 wire wires
+          (is_same_app Mvrp wire.app) refl (silent_app wire.app wire.octets) (leaves_as wire.app wire.octets)
           (subst (λ (a : App). slice_get s.vlans.parts at ≡ option_map (hearing vlan_view links s.clock (vlans_said a wire.octets)) (slice_get s.vlans.parts at)) (sym e) (heard (Err 0)))
           is left refl)
 
@@ -238,7 +242,8 @@ module _ (laws : VlanLaws) where
       → message_of (record { app = Mvrp; octets = mvrp_spelling (pdu_sent now x) }) ≡ Some (sent_messages base octets nat_cmp now x)
   said_is now x rows own speaks =
       ap said_by (laws.written now x rows own speaks).reads
-      ∙ ap (λ (es : List (MrpEvent × ℕ × Unit {0})). let m : Messages ℕ (Unit {0}) = record { leave_all = is_active x.leave_all; events = es } in Some m) (again (sent_events base octets nat_cmp now x))
+      ∙ ap (λ (es : List (MrpEvent × ℕ × Unit {0})). let m : Messages ℕ (Unit {0}) = record { leave_all = is_active x.leave_all; events = es } in
+      Some m) (again (sent_events base octets nat_cmp now x))
 
   spoken_there : (at : ℕ) (s : NodeState) → IsProperNode s → (x : Part) → slice_get s.vlans.parts at ≡ Some x → is_silent x ≡ false
       → HasSpoken vlan_view links s.clock at s (sent_octets Mvrp at (Some (mvrp_spelling (pdu_sent s.clock x))) s).0 (is_leave_all_at Mvrp at s) x
@@ -271,10 +276,12 @@ module _ (laws : VlanLaws) where
       by true e = still vlan_view links at s
       by false e =
           spoken vlan_view links (λ wire ne. silent_app wire.app wire.octets ne) s.clock at s (sent_octets Mvrp at (Some (mvrp_spelling (pdu_sent s.clock x))) s).0 (is_leave_all_at Mvrp at s)
-          (λ y old. subst (λ (p : Part). HasSpoken vlan_view links s.clock at s (sent_octets Mvrp at (Some (mvrp_spelling (pdu_sent s.clock x))) s).0 (is_leave_all_at Mvrp at s) p) (one_some _ x y is old) (spoken_there at s proper x is e))
+          (λ y old. subst (λ (p : Part). HasSpoken vlan_view links s.clock at s (sent_octets Mvrp at (Some (mvrp_spelling (pdu_sent s.clock x))) s).0 (is_leave_all_at Mvrp at s) p)
+          (one_some _ x y is old) (spoken_there at s proper x is e))
 
   -- what MSRP sends says nothing to it
-  other_sent : (at : ℕ) (o : Option (List ℕ)) (s : NodeState) → IsProperNode s → KeepsLink vlan_view at s (sent_octets Msrp at o s).0 (both_said false (is_leave_all_at Msrp at s) (sent_octets Msrp at o s).1)
+  other_sent : (at : ℕ) (o : Option (List ℕ)) (s : NodeState) → IsProperNode s
+      → KeepsLink vlan_view at s (sent_octets Msrp at o s).0 (both_said false (is_leave_all_at Msrp at s) (sent_octets Msrp at o s).1)
   other_sent at None s proper = still vlan_view links at s
   other_sent at (Some os) s proper = λ x y z far_in far_out marks old new met.
       let below = slice_get_within s.vlans.parts at x old in
@@ -287,7 +294,8 @@ module _ (laws : VlanLaws) where
   step_kept Work at s proper = work_kept at (box_at at s.inboxes) s refl
   step_kept (LeaveNow (Vlan vid)) at s proper = call_kept at s (port_step (LeaveNow (Vlan vid)) at s).0 (left_state nat_cmp vid) (leaves vlan_view links vid) (left_is at vid s.vlans) refl refl
   step_kept (LeaveNow (Srp key)) at s proper = none_kept at s (port_step (LeaveNow (Srp key)) at s).0 refl refl refl
-  step_kept (LeaveAllNow Mvrp) at s proper = call_kept at s (port_step (LeaveAllNow Mvrp) at s).0 (leave_all_state s.clock) (fires_leave_all vlan_view links s.clock) (leave_all_is s.clock at s.vlans) refl refl
+  step_kept (LeaveAllNow Mvrp) at s proper = call_kept at s (port_step (LeaveAllNow Mvrp) at s).0
+      (leave_all_state s.clock) (fires_leave_all vlan_view links s.clock) (leave_all_is s.clock at s.vlans) refl refl
   step_kept (LeaveAllNow Msrp) at s proper = none_kept at s (port_step (LeaveAllNow Msrp) at s).0 refl refl refl
   step_kept (PeriodicNow Mvrp) at s proper = call_kept at s (port_step (PeriodicNow Mvrp) at s).0 periodic_state (fires_periodic vlan_view links) (periodic_is at s.vlans) refl refl
   step_kept (PeriodicNow Msrp) at s proper = none_kept at s (port_step (PeriodicNow Msrp) at s).0 refl refl refl

@@ -7,7 +7,7 @@ use Rattle.srp_base.specs.declared.numbers.PortNo.{PortNo}
 use Rattle.srp_base.specs.declared.numbers.EgressPort.{EgressPort}
 use Rattle.srp_base.specs.declared.streams.Talker.{Talker}
 use Rattle.tree_topology.specs.declared.graph.Link.{Link}
-use Rattle.tree_topology.specs.Topology.{Topology, HasPort}
+use Rattle.tree_topology.specs.Topology.{Topology, HasPort, link_ports}
 use Rattle.tree_topology.specs.Ports.{port_to}
 use Rattle.topology_file.specs.declared.entries.StreamEntry.{StreamEntry}
 use Rattle.topology_file.specs.declared.entries.EventEntry.{EventEntry}
@@ -89,11 +89,6 @@ script_at plan t = scripted_from plan.tree.links plan.streams t 1 plan.events
 -- the steps of a tick as events of the network, in order
 abbrev pub step_events : List NodeSteps → List WorldEvent
 step_events nodes = flat_map (λ ns. map (λ st. Port ns.node st.port st.step) ns.steps) nodes
-
--- the ports of all links, link by link, end `a` first
-abbrev pub link_ports : Topology → List EgressPort
-link_ports tree =
-    flat_map (λ l. port_to tree.links l.a.0 l.b.0 ∷ port_to tree.links l.b.0 l.a.0 ∷ []) tree.links
 
 -- at the end of a tick the PDUs of every port are carried, and the clock goes on
 abbrev pub closing_events : Topology → List WorldEvent

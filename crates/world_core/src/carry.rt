@@ -2,8 +2,8 @@
 
 ghost use Rattle.std.specs.Prelude.{◌≡◌, false, map, IfOk, OnOk};
 ghost use Rattle.std.specs.List.{list_any};
-ghost use Rattle.tree_topology.specs.Topology.{HasLink};
-ghost use Rattle.world_core.specs.Ticks.{link_ports, is_send};
+ghost use Rattle.tree_topology.specs.Topology.{HasLink, link_ports};
+ghost use Rattle.world_core.specs.Ticks.{is_send};
 ghost use Rattle.world_core.specs.World.{world_after};
 ghost use Rattle.world_core.specs.Carrying.{has_send, carried_ends};
 

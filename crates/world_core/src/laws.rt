@@ -1,7 +1,7 @@
 //! What every network keeps, whatever happens in it: laws over the states that contracts see. Each is a function that does
 //! nothing; calling it brings the law to a proof.
 
-ghost use Rattle.std.specs.Prelude.{◌≡◌, ◌≢◌, ◌<◌, ◌-◌, ◌^◌, ◌++◌, ◌∷◌, [], ℕ, suc, List, map, slice_get, Some, IfSome, false};
+ghost use Rattle.std.specs.Prelude.{◌≡◌, ◌≢◌, ◌<◌, ◌-◌, ◌^◌, ◌++◌, ◌∷◌, [], ℕ, suc, List, map, take, drop, slice_get, Some, IfSome, false};
 ghost use Rattle.srp_base.specs.declared.numbers.NodeNo.{NodeNo};
 ghost use Rattle.srp_base.specs.declared.numbers.PortNo.{PortNo};
 ghost use Rattle.node_core.specs.declared.types.NodeStep.{NodeStep};
@@ -10,7 +10,7 @@ ghost use Rattle.node_core.specs.Proper.{IsProperNode};
 ghost use Rattle.node_core.specs.State.{NodeState};
 ghost use Rattle.node_core.specs.Step.{node_step};
 ghost use Rattle.std.specs.List.{AllByRecursion};
-ghost use Rattle.tree_topology.specs.Topology.{Topology};
+ghost use Rattle.tree_topology.specs.Topology.{Topology, link_ports};
 ghost use Rattle.topology_file.specs.declared.entries.EventKind.{EventKind};
 ghost use Rattle.topology_file.specs.declared.entries.NodeEntry.{NodeEntry};
 ghost use Rattle.topology_file.specs.Kinds.{IsKnownKind};
@@ -26,7 +26,7 @@ ghost use Rattle.world_core.specs.World.{WorldState, CanHappen, CanAllHappen, Is
 ghost use Rattle.world_core.specs.Start.{world_of, domain_rows, IsAtStart};
 ghost use Rattle.world_core.specs.Kept.{IsKeptWorld, IsWhole};
 ghost use Rattle.world_core.specs.Apart.{events_of, replies_of, HaveOwnReplies, after_own, after_nodes, AreMadeApart};
-ghost use Rattle.world_core.specs.Ticks.{event_of, script_at, link_ports, step_events, step_replies, after_steps, LeadTo, AreLegalTicks, AreCanonicalTicks, IsLegalTick, IsCanonicalTick, tick_events};
+ghost use Rattle.world_core.specs.Ticks.{event_of, script_at, step_events, step_replies, after_steps, LeadTo, AreLegalTicks, AreCanonicalTicks, IsLegalTick, IsCanonicalTick, tick_events};
 ghost use Rattle.world_core.specs.During.{IsDuring, IsAllowed, NamesNeighbours};
 ghost use Rattle.world_core.specs.Carrying.{NothingWaits, has_send};
 ghost use Rattle.world_core.specs.Moments.{IsMoment, events_from};
@@ -46,6 +46,18 @@ use node_core::laws::{
 };
 use port_ledger::laws::bookings_are_within_caps;
 use tree_topology::laws::ports;
+
+/// A list of events that stopped after the first of them goes on with the rest, which may happen then: the network ends, and
+/// answers, as after all of them at once.
+pub fn a_run_goes_on_where_it_stopped()
+    ensures can { (done : ℕ) (es : List WorldEvent) (w : WorldState) → CanAllHappen es w
+        → CanAllHappen (drop done es) (world_after (take done es) w) }
+    ensures after { (done : ℕ) (es : List WorldEvent) (w : WorldState)
+        → world_after (drop done es) (world_after (take done es) w) ≡ world_after es w }
+    ensures replies { (done : ℕ) (es : List WorldEvent) (w : WorldState)
+        → replies_to (take done es) w ++ replies_to (drop done es) (world_after (take done es) w)
+        ≡ replies_to es w }
+{}
 
 /// The network of a scenario keeps what every network keeps.
 pub fn a_scenario_begins_well()

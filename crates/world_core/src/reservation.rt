@@ -28,7 +28,8 @@ pub(crate) fn is_said(
 
 // Whether it is what this change says.
 fn is_said_by(part: &Participant<MvrpApp>, ledger: &Ledger, c: &PortChange) -> bool
-    ensures { result ≡ is_same (said_by (Some c.now)) (reservation_of part.now.state ledger.now.book) }
+    ensures { result
+        ≡ is_same (said_by (Some c.now)) (reservation_of part.now.state ledger.now.book) }
 {
     books_just(ledger, c.booked.as_slice())
         && u128::from(c.slope_a) == ledger.slope(Class::A)
@@ -154,7 +155,8 @@ pub(crate) fn new_change(
     part: &Participant<MvrpApp>,
     ledger: &Ledger,
 ) -> Result<PortChange, NoMemory>
-    ensures { IfOk result (λ c. c ≡ change_of tick at (reservation_of part.now.state ledger.now.book)) }
+    ensures { IfOk result (λ c. c
+        ≡ change_of tick at (reservation_of part.now.state ledger.now.book)) }
 {
     ledger.within_caps();
     let booked = streams_of(alloc, ledger)?;

@@ -76,7 +76,8 @@ impl World {
     }
 
     /// Lets a list of events happen, one after the other, and answers what came of each. After want of memory the network is
-    /// that after the first `done` events. Only a forged PDU is copied, once.
+    /// that after the first `done` events, from which it goes on with the rest (`a_run_goes_on_where_it_stopped`). Only a forged
+    /// PDU is copied, once.
     pub fn run(&mut self, alloc: Global, events: &[WorldEvent]) -> Result<Seq<WorldReply>, RunErr>
         requires { CanAllHappen events.now self.old }
         ensures replies { IfOk result (λ replies. replies ≡ replies_to events.now self.old) }

@@ -9,7 +9,8 @@ pub put_back-requires-clause-port : goal.put_back-requires-clause-port
 put_back-requires-clause-port c = port_there c.args.at c.args.nodes.now.items c.place.result c.index_mut.result.now c.requires.here c.place.ensures c.index_mut.ensures.value
 
 pub put_back-requires-clause-empty : goal.put_back-requires-clause-empty
-put_back-requires-clause-empty c = c.requires.empty c.index_mut.result.now (get_there c.args.at c.args.nodes.now.items c.place.result c.index_mut.result.now c.requires.here c.place.ensures c.index_mut.ensures.value)
+put_back-requires-clause-empty c = c.requires.empty c.index_mut.result.now
+    (get_there c.args.at c.args.nodes.now.items c.place.result c.index_mut.result.now c.requires.here c.place.ensures c.index_mut.ensures.value)
 
 pub returns : goal.returns
 returns c =

@@ -12,7 +12,8 @@ use Rattle.world_core.proofs.history.note_acts.Goals.{then-has_act+in_ok-note_no
 pub note_node-requires-clause-node : goal.note_node-requires-clause-node
 note_node-requires-clause-node c =
     let tree = c.args.world.now.tree in
-    acting_node tree c.made-item.result (each_read (HasPortsOf tree) c.args.steps.now c.loop-made.made-index c.made-item.result c.requires.ports c.loop-made-test.true c.made-item.is) (sym c.has_act.ensures ∙ c.if-has_act.true)
+    acting_node tree c.made-item.result (each_read (HasPortsOf tree) c.args.steps.now c.loop-made.made-index c.made-item.result c.requires.ports c.loop-made-test.true c.made-item.is)
+    (sym c.has_act.ensures ∙ c.if-has_act.true)
 
 pub note_node-requires-clause-upto : goal.note_node-requires-clause-upto
 note_node-requires-clause-upto c =
@@ -20,7 +21,8 @@ note_node-requires-clause-upto c =
     let done = take c.loop-made.made-index c.args.steps.now in
     let own : EgressPort → List PortChange = changes_at (all_changes_of c.args.nodes.now.items) in
     subst (AllByRecursion (AllByRecursion (ComeUpTo c.args.tick))) (sym c.loop-made.invariant)
-    (table_upto c.args.tick w.tree (λ p. act_noted c.args.tick done w p (own p)) (λ p. acts_upto c.args.tick w done p (own p) (changes_upto w.tree c.args.tick (all_changes_of c.args.nodes.now.items) c.requires.changes p)))
+    (table_upto c.args.tick w.tree (λ p. act_noted c.args.tick done w p (own p))
+    (λ p. acts_upto c.args.tick w done p (own p) (changes_upto w.tree c.args.tick (all_changes_of c.args.nodes.now.items) c.requires.changes p)))
 
 pub loop-made-preserved : goal.loop-made-preserved
 loop-made-preserved c =
@@ -28,7 +30,9 @@ loop-made-preserved c =
     let own : EgressPort → List PortChange = changes_at (all_changes_of c.args.nodes.now.items) in
     let made = c.made-item.result in
     elim c.if-has_act.branch [
-      | then-has_act+in_ok-note_node v ↦ rw v.nodes-is (next_act c.args.tick w w.tree own c.args.steps.now c.loop-made.made-index made c.loop-made-test.true c.made-item.is c.loop-made.nodes.items c.loop-made.invariant
+      | then-has_act+in_ok-note_node v ↦ rw v.nodes-is (next_act c.args.tick w w.tree own c.args.steps.now
+          c.loop-made.made-index made c.loop-made-test.true c.made-item.is c.loop-made.nodes.items c.loop-made.invariant
           v.note_node.new.nodes.items v.in_ok-note_node.ensures (sym c.has_act.ensures ∙ v.if-has_act.true))
-      | else-has_act v ↦ rw v.nodes-is (next_idle c.args.tick w w.tree own c.args.steps.now c.loop-made.made-index made c.loop-made-test.true c.made-item.is c.loop-made.nodes.items c.loop-made.invariant (sym c.has_act.ensures ∙ v.if-has_act.false))
+      | else-has_act v ↦ rw v.nodes-is (next_idle c.args.tick w w.tree own c.args.steps.now c.loop-made.made-index made
+          c.loop-made-test.true c.made-item.is c.loop-made.nodes.items c.loop-made.invariant (sym c.has_act.ensures ∙ v.if-has_act.false))
     ]

@@ -31,11 +31,13 @@ note-requires-clause-upto c =
     let tree = c.args.world.now.tree in
     let items = c.args.nodes.now.items in
     let long : length items ≡ length tree.kinds = ap length c.requires.shape.1 ∙ by_port_long tree c.requires.shape.0 in
-    each_read (AllByRecursion (ComeUpTo c.args.tick)) items (c.from.result - 1) c.index_mut.result.now c.requires.upto (omega (arith, c.from.ensures, c.requires.node.0, c.requires.node.1, long)) c.index_mut.ensures.value
+    each_read (AllByRecursion (ComeUpTo c.args.tick)) items (c.from.result - 1) c.index_mut.result.now c.requires.upto
+    (omega (arith, c.from.ensures, c.requires.node.0, c.requires.node.1, long)) c.index_mut.ensures.value
 
 pub returns : goal.returns
 returns c =
     let w = c.args.world.now in
     on_ok c.note.result
-    (λ is own before. node_is_noted c.args.tick c.args.number w own w.tree c.args.nodes.now.items before c.requires.node (c.from.result - 1) c.node-node.result.now c.index_mut.result.now c.note.new.self
+    (λ is own before. node_is_noted c.args.tick c.args.number w own w.tree c.args.nodes.now.items before c.requires.node
+    (c.from.result - 1) c.node-node.result.now c.index_mut.result.now c.note.new.self
     (ap (λ (i : ℕ). i - 1) c.from.ensures) c.index_mut.ensures.value c.node-node.ensures is) c.note.ensures

@@ -9,7 +9,8 @@ use Rattle.world_core.proofs.Marked.{port_of_marks, few_from_peer, forged_with}
 use Rattle.world_core.proofs.marking.marked_forgery.Goals as goal
 
 pub few_wait-requires-clause-port : goal.few_wait-requires-clause-port
-few_wait-requires-clause-port c = subst (λ (r : EgressPort). HasPort c.args.tree.now r) (sym c.peer.ensures) ((c.ports.ensures c.args.tree.now c.requires.kept.tree).peer_port c.args.at c.requires.port)
+few_wait-requires-clause-port c = subst (λ (r : EgressPort). HasPort c.args.tree.now r) (sym c.peer.ensures)
+    ((c.ports.ensures c.args.tree.now c.requires.kept.tree).peer_port c.args.at c.requires.port)
 
 pub forge-requires-clause-here : goal.forge-requires-clause-here
 forge-requires-clause-here c = stands (record { tree = c.args.tree.now; nodes = c.args.nodes.now.items; marks = c.args.marks.now }) c.requires.kept c.args.at c.requires.port

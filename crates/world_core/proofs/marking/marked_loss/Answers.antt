@@ -23,4 +23,5 @@ lose-requires-clause-there c =
     peer_stands w c.requires.kept (c.ports.ensures c.args.tree.now c.requires.kept.tree) c.args.at c.requires.port
 
 pub returns : goal.returns
-returns c = lost_with c.args.at c.args.index c.args.tree.now c.args.marks.now _ c.args.nodes.now.items _ _ _ (c.app_at-app.ensures c.args.tree.now c.args.marks.now) (c.lose.ensures c.args.marks.now) c.note_loss.ensures
+returns c = lost_with c.args.at c.args.index c.args.tree.now c.args.marks.now _ c.args.nodes.now.items _ _ _
+    (c.app_at-app.ensures c.args.tree.now c.args.marks.now) (c.lose.ensures c.args.marks.now) c.note_loss.ensures

@@ -9,7 +9,8 @@ use Rattle.world_core.proofs.Marked.{port_of_marks, if_counted, few_from_peer, c
 use Rattle.world_core.proofs.marking.marked_repeat.Goals as goal
 
 pub few_wait-requires-clause-port : goal.few_wait-requires-clause-port
-few_wait-requires-clause-port c = subst (λ (r : EgressPort). HasPort c.args.tree.now r) (sym c.peer.ensures) ((c.ports.ensures c.args.tree.now c.requires.kept.tree).peer_port c.args.at c.requires.port)
+few_wait-requires-clause-port c = subst (λ (r : EgressPort). HasPort c.args.tree.now r) (sym c.peer.ensures)
+    ((c.ports.ensures c.args.tree.now c.requires.kept.tree).peer_port c.args.at c.requires.port)
 
 pub app_at-app-requires : goal.app_at-app-requires
 app_at-app-requires c = stands (record { tree = c.args.tree.now; nodes = c.args.nodes.now.items; marks = c.args.marks.now }) c.requires.kept c.args.at c.requires.port
@@ -31,4 +32,5 @@ note_copy-requires-clause-few c =
     few_from_peer w c.requires.kept c.args.at (λ app. subst (λ (r : EgressPort). (mark_at app r c.args.marks.now).flying < 2 ^ 100) c.peer.ensures (c.few_wait.ensures app))
 
 pub returns-clause-ok : goal.returns-clause-ok
-returns-clause-ok c = copied_with c.args.at c.args.index c.args.tree.now c.args.marks.now _ c.args.nodes.now.items _ _ _ (c.app_at-app.ensures c.args.tree.now c.args.marks.now) (c.in_ok-reply.ensures.ok c.args.tree.now c.args.marks.now) c.note_copy.ensures
+returns-clause-ok c = copied_with c.args.at c.args.index c.args.tree.now c.args.marks.now _ c.args.nodes.now.items _ _ _
+    (c.app_at-app.ensures c.args.tree.now c.args.marks.now) (c.in_ok-reply.ensures.ok c.args.tree.now c.args.marks.now) c.note_copy.ensures

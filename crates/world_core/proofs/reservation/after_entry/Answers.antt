@@ -15,7 +15,8 @@ returns-in_default-clause-same c =
 pub returns-then-eq-clause-same : goal.returns-then-eq-clause-same
 returns-then-eq-clause-same c =
     let here : StreamId = get_or c.args.streams.now c.args.next (record { 0 = 0 }) in
-    pass_same is_booked (λ (x : Entry). x.want.stream) (λ x y. x.0 == y.0) c.args.streams.now c.args.next c.args.i c.args.ledger.now.book.entries c.in-Some.stream here c.requires.index c.if-next-streams.true
+    pass_same is_booked (λ (x : Entry). x.want.stream) (λ x y. x.0 == y.0) c.args.streams.now c.args.next
+    c.args.i c.args.ledger.now.book.entries c.in-Some.stream here c.requires.index c.if-next-streams.true
     c.in-Some.ensures (get_or_default c.args.streams.now c.args.next (record { 0 = 0 }) here c.if-next-streams.true) (sym c.if-eq.ensures)
 
 pub returns-else-next-streams-clause-other : goal.returns-else-next-streams-clause-other
@@ -23,8 +24,10 @@ returns-else-next-streams-clause-other c =
     elim c.else-next-streams.branch [
       | else-next-streams-via-then-next-streams+else-eq w ↦
           let here : StreamId = get_or c.args.streams.now c.args.next (record { 0 = 0 }) in
-          pass_other is_booked (λ (x : Entry). x.want.stream) (λ x y. x.0 == y.0) c.args.streams.now c.args.next c.args.i c.args.ledger.now.book.entries c.in-Some.stream here c.requires.index w.if-next-streams.true
+          pass_other is_booked (λ (x : Entry). x.want.stream) (λ x y. x.0 == y.0) c.args.streams.now c.args.next
+          c.args.i c.args.ledger.now.book.entries c.in-Some.stream here c.requires.index w.if-next-streams.true
           c.in-Some.ensures (get_or_default c.args.streams.now c.args.next (record { 0 = 0 }) here w.if-next-streams.true) (sym w.if-eq.ensures)
       | else-next-streams-via-else-next-streams w ↦
-          pass_end is_booked (λ (x : Entry). x.want.stream) (λ x y. x.0 == y.0) c.args.streams.now c.args.next c.args.i c.args.ledger.now.book.entries c.in-Some.stream c.requires.index w.if-next-streams.false c.in-Some.ensures
+          pass_end is_booked (λ (x : Entry). x.want.stream) (λ x y. x.0 == y.0) c.args.streams.now c.args.next c.args.i
+          c.args.ledger.now.book.entries c.in-Some.stream c.requires.index w.if-next-streams.false c.in-Some.ensures
     ]
