@@ -1,15 +1,15 @@
 -- An audit: how many lines there may be, and what is said of a report that is compared piece by piece.
-use Rattle.std.proofs.Common.{◌≡◌, ◌≢◌, ℕ, zero, suc, ◌+◌, ◌-◌, ◌<◌, ◌≤◌, List, [], ◌∷◌, ◌++◌, length, take, drop, refl, sym, ap, subst, ◌∙◌, inl, inr, arith, Bool, true, false, eqb, cond, length-take, append-nil, append_assoc, Option, Some, None}
+use Rattle.std.proofs.Common.{◌≡◌, ◌≢◌, ℕ, zero, suc, ◌+◌, ◌-◌, ◌<◌, ◌≤◌, List, [], ◌∷◌, ◌++◌, length, take, drop, refl, sym, ap, subst, ◌∙◌, inl, inr, arith, eqb, append-nil, append_assoc, Option, Some, None}
 use Rattle.std.proofs.lemmas.Bool.{cases_Bool}
 use Rattle.std.proofs.lemmas.Bool.Decides.{nat_tests}
 use Rattle.std.specs.Prelude.{nat_le}
-use Rattle.std.proofs.lemmas.List.{length-take-le, take-append-le, length-drop, take_all, drop_all}
-use Rattle.std.proofs.Math.Seq.{take-length, take-add, drop-append_seam}
+use Rattle.std.proofs.lemmas.List.{length-take-le, length-drop, take_all}
+use Rattle.std.proofs.Math.Seq.{take-add}
 use Rattle.topology_file.specs.Plan.{Plan}
 use Rattle.journal_audit.specs.Texts.{lines_of, with_octet}
-use Rattle.journal_audit.specs.Form.{AreFormed, IsFirstUnformed}
+use Rattle.journal_audit.specs.Form.{AreFormed}
 use Rattle.journal_audit.specs.Journal.{ticks_lines}
-use Rattle.journal_audit.specs.Audit.{AgreesFor, IsFirstIllegal, IsJournalOf, IsRefusal, known_of}
+use Rattle.journal_audit.specs.Audit.{IsFirstIllegal, IsJournalOf, IsRefusal, known_of}
 use Rattle.world_core.specs.declared.journal.Tick.{Tick}
 use Rattle.world_core.specs.Ticks.{AreLegalTicks}
 use Rattle.world_core.specs.World.{WorldState}
@@ -53,7 +53,8 @@ agreed plan text count is = elim (cases_Bool (nat_le count (length (lines_of tex
       let made = ticks_lines plan 0 ticks in
       let same : take count made ≡ lines_of text = is.before.3 ∙ take_all count (lines_of text) (omega (arith, past)) in
       let short : length made ≤ count = ended made (lines_of text) count past same in
-      absurd (is.here (ticks, is.before.1, is.before.2, take_all (suc count) made (omega (arith, short)) ∙ sym (take_all count made short) ∙ same ∙ sym (take_all (suc count) (lines_of text) (omega (arith, past)))))
+      let more = take_all (suc count) made (omega (arith, short)) ∙ sym (take_all count made short) ∙ same in
+      absurd (is.here (ticks, is.before.1, is.before.2, more ∙ sym (take_all (suc count) (lines_of text) (omega (arith, past)))))
 ]
   where
     ended : (xs ys : List (List ℕ)) (n : ℕ) → length ys < n → take n xs ≡ ys → length xs ≤ n
@@ -216,20 +217,26 @@ module _ (plan : Plan)
     (one_flow : (ticks : List Tick) (world : WorldState) (changes others : List PortChange) (flows last : List PortFlow)
     → IsRun AreLegalTicks plan ticks world changes flows → IsRun AreLegalTicks plan ticks world others last → flows ≡ last)
     (parts : AuditParts) where
+  -- a legal run with this text, of which no more is known, has the report of each other
+  pub report_is : (ticks others : List Tick) (world end : WorldState) (changes : List PortChange) (flows last : List PortFlow)
+      → IsRun AreLegalTicks plan ticks world changes flows → IsJournalOf plan parts.journal ticks world → IsRunOf plan parts.journal others end last
+      → report_text plan world ticks flows ≡ report_text plan end others last
+  report_is ticks others world end changes flows last run here other =
+      let there = run_of_journal plan parts.journal others end last other in
+      let ticks_are : ticks ≡ others = one_journal parts.journal ticks others world end here there in
+      let world_is : world ≡ end = one_end parts.journal ticks others world end here there in
+      let moved : IsRun AreLegalTicks plan others end changes flows =
+      subst (λ (w : WorldState). IsRun AreLegalTicks plan others w changes flows) world_is
+      (subst (λ (ts : List Tick). IsRun AreLegalTicks plan ts world changes flows) ticks_are run) in
+      let flows_are : flows ≡ last = one_flow others end changes other.changes flows last moved other.run in
+      ap (λ (w : WorldState). report_text plan w ticks flows) world_is ∙ ap (λ (ts : List Tick). report_text plan end ts flows) ticks_are
+      ∙ ap (λ (fs : List PortFlow). report_text plan end others fs) flows_are
+
   -- two legal runs with one text have one report
   pub same_run : (ticks others : List Tick) (world end : WorldState) (flows last : List PortFlow) → IsRunOf plan parts.journal ticks world flows
       → IsRunOf plan parts.journal others end last → report_text plan world ticks flows ≡ report_text plan end others last
   same_run ticks others world end flows last one other =
-      let here = run_of_journal plan parts.journal ticks world flows one in
-      let there = run_of_journal plan parts.journal others end last other in
-      let ticks_are : ticks ≡ others = one_journal parts.journal ticks others world end here there in
-      let world_is : world ≡ end = one_end parts.journal ticks others world end here there in
-      let moved : IsRun AreLegalTicks plan others end one.changes flows =
-      subst (λ (w : WorldState). IsRun AreLegalTicks plan others w one.changes flows) world_is
-      (subst (λ (ts : List Tick). IsRun AreLegalTicks plan ts world one.changes flows) ticks_are one.run) in
-      let flows_are : flows ≡ last = one_flow others end one.changes other.changes flows last moved other.run in
-      ap (λ (w : WorldState). report_text plan w ticks flows) world_is ∙ ap (λ (ts : List Tick). report_text plan end ts flows) ticks_are
-      ∙ ap (λ (fs : List PortFlow). report_text plan end others fs) flows_are
+      report_is ticks others world end one.changes flows last one.run (run_of_journal plan parts.journal ticks world flows one) other
 
   -- nor is it yes with a report that differs from that of a legal run with this text
   pub other_report : (ticks : List Tick) (world : WorldState) (flows : List PortFlow) (count : ℕ) → IsRunOf plan parts.journal ticks world flows

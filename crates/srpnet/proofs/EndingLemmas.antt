@@ -1,5 +1,6 @@
 -- An audit ends one way: what is refused, where and why is told by its input alone.
-use Rattle.std.proofs.Common.{◌≡◌, ◌≢◌, ℕ, zero, suc, ◌+◌, ◌-◌, ◌<◌, ◌≤◌, List, [], ◌∷◌, take, refl, sym, ap, subst, ◌∙◌, inl, inr, arith, take-take}
+use Rattle.std.proofs.Common.{◌≡◌, ℕ, suc, ◌+◌, ◌-◌, ◌≤◌, List, take, refl, sym, ap, subst, ◌∙◌, inl, inr, arith, take-take}
+use Rattle.std.specs.Prelude.{◌↔◌}
 use Rattle.std.proofs.lemmas.Bool.{cases_lt}
 use Rattle.topology_file.specs.Plan.{Plan}
 use Rattle.world_core.specs.declared.journal.Tick.{Tick}
@@ -7,15 +8,16 @@ use Rattle.world_core.specs.Ticks.{AreLegalTicks}
 use Rattle.world_core.specs.World.{WorldState}
 use Rattle.frame_flow.specs.declared.result.PortFlow.{PortFlow}
 use Rattle.srp_base.specs.declared.ports.PortChange.{PortChange}
-use Rattle.journal_audit.specs.Audit.{AgreesFor, IsFirstIllegal, IsJournalOf, IsRefusal, known_of}
+use Rattle.journal_audit.specs.declared.verdict.Verdict.{Verdict}
+use Rattle.journal_audit.specs.declared.verdict.Verdict.TheVariants.{No}
+use Rattle.journal_audit.specs.Audit.{IsFirstIllegal, IsJournalOf, IsRefusal, IsVerdict, RefusesBehind, known_of}
 use Rattle.journal_audit.specs.Form.{AreFormed, IsFirstUnformed}
-use Rattle.journal_audit.specs.Journal.{ticks_lines}
 use Rattle.journal_audit.specs.Texts.{lines_of}
 use Rattle.srp_report.specs.Report.{report_text}
 use Rattle.srpnet.specs.declared.outcome.Cause.{Cause}
 use Rattle.srpnet.specs.declared.outcome.Cause.TheVariants.{Done, AuditNo, BadWords, ReadFault, TooLong, NotToml, BadScenario, WriteFault, NoMemory}
 use Rattle.srpnet.specs.AuditParts.{AuditParts}
-use Rattle.srpnet.specs.AuditText.{IsAudited, IsJournalRefused, IsReportRefused, IsRunOf}
+use Rattle.srpnet.specs.AuditText.{IsAudited, IsReportRefused}
 use Rattle.srpnet.specs.Differ.{IsFirstDifferent}
 use Rattle.srpnet.specs.RunText.{IsRun}
 use Rattle.srpnet.proofs.AuditLemmas.{run_of_journal, same_run}
@@ -34,58 +36,13 @@ one_first P down a b at_a past_a at_b past_b =
           ]
     ]
 
-formed_down : (plan : Plan) (t : ℕ) (lines : List (List ℕ)) (m n : ℕ) → m ≤ n → AreFormed (known_of plan) t (take n lines)
-    → AreFormed (known_of plan) t (take m lines)
-formed_down plan t lines zero n le h = tt
-formed_down plan t [] (suc m) n le h = tt
-formed_down plan t (line ∷ lines) (suc m) zero le h = absurd (omega (arith, le))
-formed_down plan t (line ∷ lines) (suc m) (suc n) le h =
-    (h.0, h.1, h.2, h.3, formed_down plan h.0 lines m n (omega (arith, le)) h.4)
-
-all_formed : (plan : Plan) (t : ℕ) (lines : List (List ℕ)) (m : ℕ) → AreFormed (known_of plan) t lines → AreFormed (known_of plan) t (take m lines)
-all_formed plan t lines zero h = tt
-all_formed plan t [] (suc m) h = tt
-all_formed plan t (line ∷ lines) (suc m) h = (h.0, h.1, h.2, h.3, all_formed plan h.0 lines m h.4)
-
-agrees_down : (plan : Plan) (text : List ℕ) (m n : ℕ) → m ≤ n → AgreesFor plan text n → AgreesFor plan text m
-agrees_down plan text m n le h =
-    let made = ticks_lines plan 0 h.0 in (
-      h.0,
-      h.1,
-      h.2,
-      sym (take-take m n made le) ∙ ap (λ (l : List (List ℕ)). take m l) h.3 ∙ take-take m n (lines_of text) le,
-    )
-
 same_down : (one other : List (List ℕ)) (m n : ℕ) → m ≤ n → take n one ≡ take n other → take m one ≡ take m other
 same_down one other m n le is = sym (take-take m n one le) ∙ ap (λ (l : List (List ℕ)). take m l) is ∙ take-take m n other le
 
 -- ---- one refusal
 
--- a text is refused at one line, for one cause
-one_refusal : (plan : Plan) (text : List ℕ) (line why line' why' : ℕ) → IsRefusal plan text line why → IsRefusal plan text line' why'
-    → (line ≡ line') × (why ≡ why')
-one_refusal plan text line why line' why' one other =
-    let lines = lines_of text in
-    let from = one.0 in
-    let from' = other.0 in
-    elim one.1 [
-      | inl here ↦
-          elim other.1 [
-            | inl there ↦ (
-                let at = one_first (λ n. AreFormed (known_of plan) 0 (take n lines)) (formed_down plan 0 lines) (line - 1) (line' - 1)
-                here.1.before here.1.here there.1.before there.1.here in
-                (omega (arith, at, from, from'), here.0 ∙ sym there.0))
-            | inr there ↦ absurd (here.1.here (all_formed plan 0 lines (suc (line - 1)) there.1))
-          ]
-      | inr here ↦
-          elim other.1 [
-            | inl there ↦ absurd (there.1.here (all_formed plan 0 lines (suc (line' - 1)) here.1))
-            | inr there ↦ (
-                let at = one_first (AgreesFor plan text) (agrees_down plan text) (line - 1) (line' - 1)
-                here.2.before here.2.here there.2.before there.2.here in
-                (omega (arith, at, from, from'), here.0 ∙ sym there.0))
-          ]
-    ]
+same_numbers : (number why number' why' : ℕ) → No number why ≡ No number' why' → (number ≡ number') × (why ≡ why')
+same_numbers number why number' why' e = (cc, cc)
 
 no_at : (line why line' why' : ℕ) → line ≡ line' → why ≡ why' → AuditNo line why ≡ AuditNo line' why'
 no_at line why line' why' same_line same_why = ap (λ (l : ℕ). AuditNo l why) same_line ∙ ap (λ (w : ℕ). AuditNo line' w) same_why
@@ -97,7 +54,19 @@ module _ (plan : Plan)
     (one_end : (text : List ℕ) (ticks others : List Tick) (end last : WorldState) → IsJournalOf plan text ticks end → IsJournalOf plan text others last → end ≡ last)
     (one_flow : (ticks : List Tick) (world : WorldState) (changes others : List PortChange) (flows last : List PortFlow)
     → IsRun AreLegalTicks plan ticks world changes flows → IsRun AreLegalTicks plan ticks world others last → flows ≡ last)
+    (formed_is : (text : List ℕ) (verdict : Verdict) (count : ℕ) → IsVerdict plan text verdict → (RefusesBehind 2 verdict count ↔ IsFirstUnformed (known_of plan) text count))
+    (illegal_is : (text : List ℕ) (verdict : Verdict) (count : ℕ) → IsVerdict plan text verdict
+    → (RefusesBehind 3 verdict count ↔ (AreFormed (known_of plan) 0 (lines_of text) × IsFirstIllegal plan text count)))
     (parts : AuditParts) where
+  -- a text that is refused is refused so by every verdict
+  one_refusal : (text : List ℕ) (number why number' why' : ℕ) → IsVerdict plan text (No number why) → IsRefusal plan text number' why' → No number why ≡ No number' why'
+  one_refusal text number why number' why' one (some, inl (is, first)) =
+      let at : suc (number' - 1) ≡ number' = omega (arith, some) in
+      (formed_is text (No number why) (number' - 1) one).1 first ∙ ap (λ (n : ℕ). No n 2) at ∙ ap (λ (y : ℕ). No number' y) (sym is)
+  one_refusal text number why number' why' one (some, inr (is, all, first)) =
+      let at : suc (number' - 1) ≡ number' = omega (arith, some) in
+      (illegal_is text (No number why) (number' - 1) one).1 (all, first) ∙ ap (λ (n : ℕ). No n 3) at ∙ ap (λ (y : ℕ). No number' y) (sym is)
+
   one_report : (line why line' why' : ℕ) → IsReportRefused plan parts line why → IsReportRefused plan parts line' why' → AuditNo line why ≡ AuditNo line' why'
   one_report line why line' why' one other =
       let text_is = same_run plan one_journal one_end one_flow parts one.ticks other.ticks one.world other.world one.flows other.flows one.run other.run in
@@ -114,7 +83,7 @@ module _ (plan : Plan)
         | inl here ↦
             elim other.0 [
               | inl there ↦ (
-                  let same = one_refusal plan parts.journal here.number why there.number why' here.refused there.refused in
+                  let same = same_numbers here.number why there.number why' (one_refusal parts.journal here.number why there.number why' (here.refused, here.none) there.refused) in
                   no_at line why line' why' (here.line_is ∙ ap (λ (n : ℕ). parts.marked + n) same.0 ∙ sym there.line_is) same.1)
               | inr there ↦ absurd (here.none there.ticks there.world (run_of_journal plan parts.journal there.ticks there.world there.flows there.run))
             ]

@@ -14,3 +14,5 @@ pub mod RunLemmas
 pub mod EndingLemmas
 pub mod WhyLemmas
 pub mod PartingLemmas
+pub mod ReportLemmas
+pub mod PrintedLemmas

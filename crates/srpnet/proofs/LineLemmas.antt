@@ -1,9 +1,9 @@
 -- Lines of a text.
-use Rattle.std.proofs.Common.{◌≡◌, ◌≢◌, ℕ, suc, zero, ◌+◌, ◌-◌, ◌<◌, ◌≤◌, Bool, true, false, cond, List, [], ◌∷◌, ◌++◌, length, take, drop, get_or, refl, sym, ap, subst, ◌∙◌, inl, inr, arith, eqb, Option, Some, None, append_assoc, length-append, append-nil}
+use Rattle.std.proofs.Common.{◌≡◌, ◌≢◌, ℕ, suc, zero, ◌+◌, ◌-◌, ◌<◌, ◌≤◌, Bool, true, false, cond, List, [], ◌∷◌, ◌++◌, length, take, drop, get_or, refl, sym, ap, ◌∙◌, inl, inr, arith, eqb, Option, Some, None, append_assoc, length-append, append-nil}
 use Rattle.std.proofs.lemmas.Bool.{cases_Bool, eqb-true}
 use Rattle.std.proofs.lemmas.List.{take-append-le, take_more}
-use Rattle.std.proofs.Math.Seq.{take-length, drop-append_seam}
-use Rattle.std.specs.Prelude.{codes, nat_eq, ◌||◌}
+use Rattle.std.proofs.Math.Seq.{take-length}
+use Rattle.std.specs.Prelude.{codes, nat_eq}
 use Rattle.std.specs.Cmp.Lexicographic.{pointwise, bytes_decides}
 use Rattle.srp_base.specs.Text.{whole_of}
 use Rattle.journal_audit.specs.Texts.{lines_of, with_octet}
@@ -56,7 +56,9 @@ module _ (word text : List ℕ) where
         let size = length_push so_far.done line in
         record {
           done = so_far.done ++ line ∷ [];
-          whole = so_far.whole ∙ ap (λ (t : List ℕ). whole_of so_far.done ++ t) whole ∙ sym (append_assoc (whole_of so_far.done) line behind) ∙ ap (λ (t : List ℕ). t ++ behind) (sym (whole_push so_far.done line));
+          whole =
+              so_far.whole ∙ ap (λ (t : List ℕ). whole_of so_far.done ++ t) whole ∙ sym (append_assoc (whole_of so_far.done) line behind)
+              ∙ ap (λ (t : List ℕ). t ++ behind) (sym (whole_push so_far.done line));
           count = omega (arith, count, size);
           search = so_far.search ∙ ap (parted_from word so_far.done) split ∙ rw not_it refl;
           few = omega (arith, few, less);
@@ -76,7 +78,8 @@ module _ (word text : List ℕ) where
     search_ends it =
         let found : parted_from word so_far.done (line ∷ lines_of behind) ≡ Some (so_far.done, lines_of behind) = rw it refl in
         ap as_text (so_far.search ∙ ap (parted_from word so_far.done) split ∙ found)
-        ∙ some_parts (whole_of so_far.done) (take (length text - length rest) text) (length so_far.done) lines (whole_of (lines_of behind)) behind (sym front_is) (sym so_far.count) (whole_lines behind)
+        ∙ some_parts (whole_of so_far.done) (take (length text - length rest) text) (length so_far.done) lines (whole_of (lines_of behind)) behind
+        (sym front_is) (sym so_far.count) (whole_lines behind)
       where
         some_parts : (a a' : List ℕ) (n n' : ℕ) (b b' : List ℕ) → a ≡ a' → n ≡ n' → b ≡ b'
             → ◌≡◌ {A = Option PartedText} (Some (record { before = a; lines = n; behind = b })) (Some (record { before = a'; lines = n'; behind = b' }))

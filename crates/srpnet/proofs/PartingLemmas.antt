@@ -1,11 +1,11 @@
--- What is put together of parts is parted into them.
+-- What is put together of parts is parted into them, and what has no parts lacks a line.
 use Rattle.std.proofs.Common.{◌≡◌, ℕ, ◌+◌, true, false, List, [], ◌∷◌, ◌++◌, length, refl, sym, ap, ◌∙◌, inl, inr, eqb, Option, Some, None, append_assoc, append-nil}
-use Rattle.std.specs.Prelude.{codes}
+use Rattle.std.specs.Prelude.{◌↔◌, Bool, codes, if◌then◌else◌}
 use Rattle.std.specs.List.{AllByRecursion}
 use Rattle.std.proofs.lemmas.Bool.{cases_Bool}
 use Rattle.srp_base.specs.Text.{whole_of}
 use Rattle.journal_audit.specs.Texts.{lines_of, with_octet}
-use Rattle.srpnet.specs.AuditParts.{is_line, parted_from, as_text, parted_at, PartedText, AuditParts, with_scenario, by_cut, audit_parts, EndsItsLines, LacksLine, put_together}
+use Rattle.srpnet.specs.AuditParts.{is_line, parted_from, as_text, parted_at, PartedText, AuditParts, with_scenario, by_cut, audit_parts, EndsItsLines, LacksLine, put_together, LacksPart}
 use Rattle.srpnet.proofs.LineLemmas.{whole_lines}
 
 -- ---- lines of texts one behind the other
@@ -69,3 +69,49 @@ parted_again scenario report journal scenario_ends report_ends no_cut no_mark =
     let behind : List ℕ = report ++ (codes "journal\n" ++ journal) in
     ap by_cut (parted_behind (codes "=== output") scenario (codes "=== output\n") behind refl refl scenario_ends no_cut)
     ∙ ap (with_scenario scenario) (parted_behind (codes "journal") report (codes "journal\n") journal refl refl report_ends no_mark)
+
+-- ---- a text without the line
+
+none_from : (word : List ℕ) (before lines : List (List ℕ)) → AllByRecursion (λ l. is_line word l ≡ false) lines → parted_from word before lines ≡ None
+none_from word before [] none = refl
+none_from word before (l ∷ lines) none = let first : is_line word l ≡ false = none.0 in rw first (none_from word (before ++ l ∷ []) lines none.1)
+
+from_none : (word : List ℕ) (before lines : List (List ℕ)) → parted_from word before lines ≡ None → AllByRecursion (λ l. is_line word l ≡ false) lines
+from_none word before [] none = tt
+from_none word before (l ∷ lines) none = by (is_line word l) none (λ later. from_none word (before ++ l ∷ []) lines later)
+  where
+    found : ◌≡◌ {A = Option (List (List ℕ) × List (List ℕ))} (Some (before, lines)) None → ⊥
+    found some = cc
+
+    by : (is : Bool) → ◌≡◌ {A = Option (List (List ℕ) × List (List ℕ))} (if is then Some (before, lines) else parted_from word (before ++ l ∷ []) lines) None
+        → (parted_from word (before ++ l ∷ []) lines ≡ None → AllByRecursion (λ k. is_line word k ≡ false) lines)
+        → (is ≡ false) × AllByRecursion (λ k. is_line word k ≡ false) lines
+    by true some rest = absurd (found some)
+    by false later rest = (refl, rest later)
+
+as_none : (o : Option (List (List ℕ) × List (List ℕ))) → as_text o ≡ None → o ≡ None
+as_none None none = refl
+as_none (Some parts) none = cc
+
+line_lacks : (word text : List ℕ) → LacksLine word text → parted_at word text ≡ None
+line_lacks word text lacks = ap as_text (none_from word [] (lines_of text) lacks)
+
+lacks_line : (word text : List ℕ) → parted_at word text ≡ None → LacksLine word text
+lacks_line word text none = from_none word [] (lines_of text) (as_none (parted_from word [] (lines_of text)) none)
+
+-- an input has no parts exactly where one of the lines is missing that part them
+pub no_parts : (octets : List ℕ) → (audit_parts octets ≡ None ↔ LacksPart octets)
+no_parts octets = (out (parted_at (codes "=== output") octets) refl, back)
+  where
+    no_mark : (scenario : List ℕ) (o : Option PartedText) → with_scenario scenario o ≡ None → o ≡ None
+    no_mark scenario None none = refl
+    no_mark scenario (Some parts) none = cc
+
+    out : (o : Option PartedText) → parted_at (codes "=== output") octets ≡ o → by_cut o ≡ None → LacksPart octets
+    out None is none = inl (lacks_line (codes "=== output") octets is)
+    out (Some cut) is none =
+        inr (record { cut = cut; is = is; none = lacks_line (codes "journal") cut.behind (no_mark cut.before (parted_at (codes "journal") cut.behind) none) })
+
+    back : LacksPart octets → audit_parts octets ≡ None
+    back (inl lacks) = ap by_cut (line_lacks (codes "=== output") octets lacks)
+    back (inr lacks) = ap by_cut lacks.is ∙ ap (with_scenario lacks.cut.before) (line_lacks (codes "journal") lacks.cut.behind lacks.none)

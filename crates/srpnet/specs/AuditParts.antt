@@ -1,5 +1,5 @@
 -- The parts of what is audited: a scenario, the line `=== output`, and what was printed of a run of it, with its journal.
-use Rattle.std.specs.Prelude.{◌≡◌, ℕ, ◌+◌, nat_eq, ◌||◌, if◌then◌else◌, Bool, false, List, [], ◌∷◌, ◌++◌, codes, length, Option, Some, None}
+use Rattle.std.specs.Prelude.{◌≡◌, ◌⊎◌, ℕ, ◌+◌, nat_eq, ◌||◌, if◌then◌else◌, Bool, false, List, [], ◌∷◌, ◌++◌, codes, length, Option, Some, None}
 use Rattle.std.specs.List.{AllByRecursion}
 use Rattle.std.specs.Cmp.Lexicographic.{pointwise}
 use Rattle.srp_base.specs.Text.{whole_of}
@@ -66,3 +66,15 @@ LacksLine word text = AllByRecursion (λ line. is_line word line ≡ false) (lin
 -- a scenario, the cut, a report, the line `journal`, and a journal
 abbrev pub put_together : List ℕ → List ℕ → List ℕ → List ℕ
 put_together scenario report journal = scenario ++ (codes "=== output\n" ++ (report ++ (codes "journal\n" ++ journal)))
+
+-- ---- what has no parts
+
+-- the octets of an input have their cut, and no line `journal` behind it
+pub record LacksMark (octets : List ℕ) : Type 0 where
+  pub cut : PartedText
+  pub is : parted_at (codes "=== output") octets ≡ Some cut
+  pub none : LacksLine (codes "journal") cut.behind
+
+-- they have no cut, or no line `journal` behind it
+abbrev pub LacksPart : List ℕ → Type 0
+LacksPart octets = LacksLine (codes "=== output") octets ⊎ LacksMark octets

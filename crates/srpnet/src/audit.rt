@@ -1,5 +1,6 @@
-//! The command `audit`: whether a journal is that of a legal run of a scenario, and a report that of just this run. Nobody who
-//! made them is trusted, and neither is the order in which `run` takes the steps.
+//! The command `audit`: whether a journal is that of a legal run of a scenario, and a report that
+//! of just this run. Nobody who made them is trusted, and neither is the order in which `run` takes
+//! the steps.
 
 pub mod differ;
 pub mod laws;
@@ -29,7 +30,8 @@ use world_core::Run;
 /// What is printed where the answer is yes.
 const YES: &str = "audit yes\n";
 
-/// What `audit` prints, or why there is nothing to print: a cause of its own where the answer is no.
+/// What `audit` prints, or why there is nothing to print: a cause of its own where the answer is
+/// no.
 pub fn output(alloc: Global, octets: &[u8]) -> Result<Seq<u8>, Cause>
     ensures output { IfOk result (AuditOutput octets.now) }
     ensures ends { EndsBy (IsAuditEnding octets.now) result }

@@ -1,13 +1,14 @@
 //! The first line in which two texts differ.
 
-ghost use Rattle.std.specs.Prelude.{◌≡◌, ◌==◌, ◌≤◌, if◌then◌else◌, length, take, drop, None, IfOk, IfSome};
+ghost use Rattle.std.specs.Prelude.{◌≡◌, ◌==◌, ◌≤◌, if◌then◌else◌, length, take, drop};
+ghost use Rattle.std.specs.Prelude.{None, IfOk, IfSome};
 ghost use Rattle.srpnet.specs.Differ.{DifferAtOnce, IsFirstDifferent, line_feeds};
 
 use srp_base::NoMemory;
 use srp_report::Printout;
 
-/// How many first lines a text has in common with one that is made piece by piece, where they differ; None where they are the
-/// same. The text that is made is let go as it is compared.
+/// How many first lines a text has in common with one that is made piece by piece, where they
+/// differ; None where they are the same. The text that is made is let go as it is compared.
 pub fn differing_line(given: &[u8], wanted: Printout) -> Result<Option<u64>, NoMemory>
     ensures some { IfOk result (λ o. IfSome o (IsFirstDifferent given.now wanted)) }
     ensures none { IfOk result (λ o. o ≡ None → given.now ≡ wanted) }

@@ -1,5 +1,5 @@
-//! The parts of what is audited: a scenario, the line `=== output`, and what `run journal` or `ports journal` printed of it, its
-//! report up to the line `journal`.
+//! The parts of what is audited: a scenario, the line `=== output`, and what `run journal` or
+//! `ports journal` printed of it, its report up to the line `journal`.
 
 ghost use Rattle.std.specs.Prelude.{◌≡◌, ◌<◌, ◌≤◌, ◌+◌, ◌^◌, length, Some, None, IfSome, IfNone};
 ghost use Rattle.srpnet.specs.AuditParts.{is_line, parted_at, audit_parts as audit_parts_spec};
@@ -13,8 +13,8 @@ const CUT: &[u8] = b"=== output";
 /// The line between the report and the journal.
 const MARK: &[u8] = b"journal";
 
-/// What is audited: a scenario, and a report and a journal of a run of it. Behind the cut the line `journal` has a number,
-/// counted from 1.
+/// What is audited: a scenario, and a report and a journal of a run of it. Behind the cut the line
+/// `journal` has a number, counted from 1.
 #[derive(Drop)]
 pub struct AuditParts<'a> {
     scenario: &'a [u8],
@@ -29,7 +29,12 @@ impl<'a> Model for AuditParts<'a> {
 
     ghost Value = { AuditParts };
 
-    ghost view = { λ p. record { scenario = p.scenario.now; report = p.report.now; marked = p.marked; journal = p.journal.now } };
+    ghost view = { λ p. record {
+      scenario = p.scenario.now;
+      report = p.report.now;
+      marked = p.marked;
+      journal = p.journal.now;
+    } };
 
     ghost invariant = { λ p. p.marked + length p.journal.now < 2 ^ 63 };
 }
@@ -65,7 +70,8 @@ impl<'a> AuditParts<'a> {
     }
 }
 
-/// The parts of the octets of an input; None exactly where one of the lines is missing that part them.
+/// The parts of the octets of an input; None exactly where one of the lines is missing that part
+/// them.
 pub fn audit_parts(octets: &[u8]) -> Option<AuditParts<'_>>
     ensures { result ≡ audit_parts_spec octets.now }
 {
@@ -90,7 +96,8 @@ struct Parted<'a> {
     behind: &'a [u8],
 }
 
-// What stands before and behind the first line of a text that is this word; None exactly where no line is.
+// What stands before and behind the first line of a text that is this word; None exactly where no
+// line is.
 fn parted_at<'a>(text: &'a [u8], word: &[u8]) -> Option<Parted<'a>>
     ensures some { IfSome result (λ p. parted_at word.now text.now
         ≡ Some (record { before = p.before.now; lines = p.lines; behind = p.behind.now })) }

@@ -131,7 +131,8 @@ fn write_streams(
 /// The two lines of sums.
 fn write_sums(out: &mut String, ledger: &Ledger, file: &LedgerFile) -> Result<(), AllocError>
     requires caps { ledger.now.book.caps ≡ caps_of file.now.rate file.now.delta_a file.now.delta_b }
-    ensures { OnOk result (string_bytes out.new ≡ string_bytes out.old ++ sum_lines ledger.now.book) }
+    ensures { OnOk result (string_bytes out.new
+        ≡ string_bytes out.old ++ sum_lines ledger.now.book) }
 {
     let caps = Caps::new(file.rate, file.delta_a, file.delta_b);
     let class_a = ledger.slope(Class::A);
