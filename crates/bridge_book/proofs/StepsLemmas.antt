@@ -52,7 +52,8 @@ notices_after shared (e ∷ history) legal =
 
 module _ (shared : Shared) where
   -- a call, and a look, said of the node
-  pub called_of_node : (number : _) (before after : Steps) (ask : PortAsk) (told : Told) → HasCalled shared_does shared number before ask told after → HasCalled node_does shared.node number before ask told after
+  pub called_of_node : (number : _) (before after : Steps) (ask : PortAsk) (told : Told) → HasCalled shared_does shared number before ask told after
+      → HasCalled node_does shared.node number before ask told after
   called_of_node number before after ask told h = record {
     earlier = h.earlier;
     call_is_last = h.call_is_last;

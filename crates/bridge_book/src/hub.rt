@@ -115,7 +115,8 @@ impl NodeHub {
         node: Node,
     ) -> Result<(NodeHub, Seq<PortPass>), (NoMemory, Node)>
         requires { 0 < ports_of node }
-        ensures hub { IfOk result (λ r. (r.0.number ≡ number) × (first_node r.0 ≡ node) × (r.0.lock.passes ≡ ports_of node)) }
+        ensures hub { IfOk result (λ r. (r.0.number ≡ number) × (first_node r.0 ≡ node)
+            × (r.0.lock.passes ≡ ports_of node)) }
         ensures passes { IfOk result (λ r. r.1 ≡ first_passes r.0.lock (ports_of node)) }
         ensures no_memory { IfErr result (λ e. e.1 ≡ node) }
     {

@@ -76,7 +76,8 @@ fn first(alloc: Global, node: &Node, port: PortNo) -> Result<Notice, NoMemory>
     requires { IsLinkPort port (ports_of node.now) }
     ensures value { IfOk result (λ notice. notice
         ≡ notice_of_first (slice_get (box_at (place_of port) node.now.inboxes) 0)) }
-    ensures stays { IfOk result (λ notice. (reply : reply_type) → with_reply notice reply ≡ notice) }
+    ensures stays { IfOk result (λ notice. (reply : reply_type) → with_reply notice reply
+        ≡ notice) }
 {
     node.keeps();
     let wires = node.waiting(port)?;

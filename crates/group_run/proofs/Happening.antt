@@ -10,7 +10,7 @@ use Rattle.tree_topology.specs.declared.graph.Link.{Link}
 use Rattle.tree_topology.specs.declared.graph.NodeKind.{NodeKind}
 use Rattle.tree_topology.specs.declared.graph.NodeKind.TheVariants.{Station, Bridge}
 use Rattle.tree_topology.specs.Graph.{Joins, Joined}
-use Rattle.tree_topology.specs.Topology.{Topology, HasNode, HasPort, IsSound}
+use Rattle.tree_topology.specs.Topology.{Topology, HasNode, HasPort, IsSound, link_ports}
 use Rattle.tree_topology.specs.Ports.{neighbours, port_to}
 use Rattle.tree_topology.specs.PortLaws.{HasPortLaws}
 use Rattle.tree_topology.specs.Refusal.{is_station}
@@ -19,7 +19,6 @@ use Rattle.topology_file.specs.declared.entries.LinkEntry.{LinkEntry}
 use Rattle.topology_file.specs.Entries.{joins_both}
 use Rattle.topology_file.specs.Kinds.{IsStationNumber}
 use Rattle.topology_file.specs.Scenario.{node_kinds, tree_links}
-use Rattle.report_words.specs.Ports.{link_ports}
 use Rattle.group_file.specs.declared.entries.GroupEntry.{GroupEntry}
 use Rattle.group_file.specs.declared.entries.GroupKind.{GroupKind}
 use Rattle.group_file.specs.declared.entries.GroupKind.TheVariants as kinds

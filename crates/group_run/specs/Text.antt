@@ -8,7 +8,7 @@ use Rattle.mmrp.specs.Net.{NetGroups, is_in_step, is_quiet}
 use Rattle.group_run.specs.declared.run.GroupRun.{GroupRun}
 use Rattle.report_words.specs.Lines.{end_lines, port_line, ticks_line}
 use Rattle.report_words.specs.Names.{port_name}
-use Rattle.report_words.specs.Ports.{link_ports}
+use Rattle.tree_topology.specs.Topology.{link_ports}
 use Rattle.group_run.specs.Counts.{replies_of, tally_of}
 use Rattle.group_run.specs.Lines.{group_line}
 

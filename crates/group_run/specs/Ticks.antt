@@ -6,9 +6,8 @@ use Rattle.srp_base.specs.declared.numbers.Cs.{Cs}
 use Rattle.srp_base.specs.declared.numbers.NodeNo.{NodeNo}
 use Rattle.srp_base.specs.declared.numbers.EgressPort.{EgressPort}
 use Rattle.tree_topology.specs.declared.graph.Link.{Link}
-use Rattle.tree_topology.specs.Topology.{Topology}
+use Rattle.tree_topology.specs.Topology.{Topology, link_ports}
 use Rattle.tree_topology.specs.Ports.{neighbours, port_to}
-use Rattle.report_words.specs.Ports.{link_ports}
 use Rattle.group_file.specs.declared.entries.GroupKind.{GroupKind}
 use Rattle.group_file.specs.declared.entries.GroupKind.TheVariants as kinds
 use Rattle.group_file.specs.Plan.{GroupPlan}

@@ -6,7 +6,7 @@ use Rattle.std.proofs.lemmas.Option.{slice_get_within}
 use Rattle.srp_base.specs.declared.numbers.NodeNo.{NodeNo}
 use Rattle.srp_base.specs.declared.numbers.PortNo.{PortNo}
 use Rattle.srp_base.specs.declared.numbers.EgressPort.{EgressPort}
-use Rattle.tree_topology.specs.Topology.{HasNode, HasPort}
+use Rattle.tree_topology.specs.Topology.{HasNode, HasPort, link_ports}
 use Rattle.tree_topology.specs.Ports.{neighbours}
 use Rattle.attribute_propagation.specs.Ports.{place_of}
 use Rattle.topology_file.specs.Plan.{Plan}
@@ -21,7 +21,7 @@ use Rattle.world_core.specs.declared.journal.NodeSteps.{NodeSteps}
 use Rattle.world_core.specs.declared.journal.Tick.{Tick}
 use Rattle.world_core.specs.World.{WorldState, world_step, world_after, replies_to}
 use Rattle.world_core.specs.Apart.{events_of}
-use Rattle.world_core.specs.Ticks.{script_at, after_script, link_ports, step_events, closing_events, tick_events, IsLegalTick, LeadTo}
+use Rattle.world_core.specs.Ticks.{script_at, after_script, step_events, closing_events, tick_events, IsLegalTick, LeadTo}
 use Rattle.world_core.specs.During.{IsDuring}
 use Rattle.world_core.specs.OneByOne.{node_jobs, IsNextJob, MakeLeft, steps_before, MakeAll, IsOneByOne}
 use Rattle.report_words.specs.Names.{port_name}
@@ -52,7 +52,8 @@ pairs_same (x ∷ a) (y ∷ b) e f =
     let answers : x.1 ∷ map (λ (z : ℕ × WorldReply). z.1) a ≡ y.1 ∷ map (λ (z : ℕ × WorldReply). z.1) b = f in
     let number : x.0 ≡ y.0 = cc in
     let answer : x.1 ≡ y.1 = cc in
-    let later = pairs_same a b (let g : map (λ (z : ℕ × WorldReply). z.0) a ≡ map (λ (z : ℕ × WorldReply). z.0) b = cc in g) (let g : map (λ (z : ℕ × WorldReply). z.1) a ≡ map (λ (z : ℕ × WorldReply). z.1) b = cc in g) in
+    let later = pairs_same a b (let g : map (λ (z : ℕ × WorldReply). z.0) a ≡ map (λ (z : ℕ × WorldReply). z.0) b = cc in g)
+    (let g : map (λ (z : ℕ × WorldReply). z.1) a ≡ map (λ (z : ℕ × WorldReply). z.1) b = cc in g) in
     let first : (x.0, x.1) ≡ (y.0, y.1) = ap (λ (n : ℕ). (n, x.1)) number ∙ ap (λ (r : WorldReply). (y.0, r)) answer in
     ap (λ (z : ℕ × WorldReply). z ∷ a) first ∙ ap (λ (zs : List (ℕ × WorldReply)). y ∷ zs) later
 
@@ -219,19 +220,22 @@ module _ (plan : Plan) (laws : ReplayLaws plan) where
   pub none_behind : (x : ℕ) → x ≡ suc (length plan.tree.kinds) → nodes_from plan x ≡ 0
   none_behind x last = omega (arith, last)
 
-  pub nodes_none_out : (t x : ℕ) (w : WorldState) (lines : Lines) → x ≡ suc (length plan.tree.kinds) → FollowNodes plan t x w lines → FollowTicks plan (suc t) (world_after (closing_events plan.tree) w) lines
+  pub nodes_none_out : (t x : ℕ) (w : WorldState) (lines : Lines) → x ≡ suc (length plan.tree.kinds) → FollowNodes plan t x w lines
+      → FollowTicks plan (suc t) (world_after (closing_events plan.tree) w) lines
   nodes_none_out t x w lines last h =
       let none : h.steps ≡ [] = subst (λ (k : ℕ). MakeAll x k w h.steps) (none_behind x last) h.made in
       let same : lines ≡ h.rest = h.are ∙ ap (λ (s : List NodeSteps). steps_lines plan t s ++ h.rest) none in
       subst (FollowTicks plan (suc t) (world_after (closing_events plan.tree) w)) (sym same)
       (subst (λ (s : List NodeSteps). FollowTicks plan (suc t) (world_after (closing_events plan.tree) (world_after (step_events s) w)) h.rest) none h.then)
 
-  pub nodes_none_in : (t x : ℕ) (w : WorldState) (lines : Lines) → x ≡ suc (length plan.tree.kinds) → FollowTicks plan (suc t) (world_after (closing_events plan.tree) w) lines → FollowNodes plan t x w lines
+  pub nodes_none_in : (t x : ℕ) (w : WorldState) (lines : Lines) → x ≡ suc (length plan.tree.kinds) → FollowTicks plan (suc t) (world_after (closing_events plan.tree) w) lines
+      → FollowNodes plan t x w lines
   nodes_none_in t x w lines last h = record { steps = []; rest = lines; made = subst (λ (k : ℕ). MakeAll x k w []) (sym (none_behind x last)) refl; then = h; are = refl }
 
   -- ---- a node without a job left
 
-  pub left_none_out : (t x : ℕ) (left : List (List PortStep)) (w : WorldState) (lines : Lines) → AllByRecursion (λ jobs. jobs ≡ []) left → FollowJobs plan t x left w lines → FollowNodes plan t (suc x) w lines
+  pub left_none_out : (t x : ℕ) (left : List (List PortStep)) (w : WorldState) (lines : Lines) → AllByRecursion (λ jobs. jobs ≡ []) left → FollowJobs plan t x left w lines
+      → FollowNodes plan t (suc x) w lines
   left_none_out t x left w lines none h = by h.made h.jobs h.then h.are
     where
       by : (made : List NodeStep) → MakeLeft (node x) left w made → FollowNodes plan t (suc x) (world_after (events_of (node x) made) w) h.rest
@@ -239,7 +243,8 @@ module _ (plan : Plan) (laws : ReplayLaws plan) where
       by [] jobs then are = subst (FollowNodes plan t (suc x) w) (sym are) then
       by (st ∷ made) jobs then are = absurd (none_at left (place_of st.port) st.step jobs.0 none jobs.1.job)
 
-  pub left_none_in : (t x : ℕ) (left : List (List PortStep)) (w : WorldState) (lines : Lines) → AllByRecursion (λ jobs. jobs ≡ []) left → FollowNodes plan t (suc x) w lines → FollowJobs plan t x left w lines
+  pub left_none_in : (t x : ℕ) (left : List (List PortStep)) (w : WorldState) (lines : Lines) → AllByRecursion (λ jobs. jobs ≡ []) left → FollowNodes plan t (suc x) w lines
+      → FollowJobs plan t x left w lines
   left_none_in t x left w lines none h = record { made = []; rest = lines; jobs = none; then = h; are = refl }
 
   -- ---- a step
@@ -278,7 +283,8 @@ module _ (plan : Plan) (laws : ReplayLaws plan) where
         → st.port ≡ other.port
     ports_same st other rest more a b one two e =
         ap (λ (p : EgressPort). p.port)
-        (laws.tells t (record { node = node x; port = st.port }) (record { node = node x; port = other.port }) a b (has_port x left w st rest known long one) (has_port x left w other more known long two) refl e)
+        (laws.tells t (record { node = node x; port = st.port }) (record { node = node x; port = other.port }) a b (has_port x left w st rest known long one)
+        (has_port x left w other more known long two) refl e)
 
     pub step_onto : (st : NodeStep) (rest : List PortStep) (lines : Lines) → IsNextJob (node x) left w st rest
         → FollowJobs plan t x (slice_set left (place_of st.port) rest) (world_step (Port (node x) st.port st.step) w).0 lines → FollowJobs plan t x left w (line_at plan t (node x) st ∷ lines)

@@ -107,10 +107,12 @@ module _ (plan : Plan) (laws : ReplayLaws plan) where
   step_read t x left left2 w w2 st from to known long step =
       let rest = step.rest in
       let onto : (lines : Lines) → FollowJobs plan t x left2 w2 lines → FollowJobs plan t x (slice_set left (place_of st.port) rest) (world_step (Port (node x) st.port st.step) w).0 lines =
-      λ lines h. subst (λ (v : WorldState). FollowJobs plan t x (slice_set left (place_of st.port) rest) v lines) step.reached (subst (λ (l : List (List PortStep)). FollowJobs plan t x l w2 lines) step.left_is h)
+      λ lines h. subst (λ (v : WorldState). FollowJobs plan t x (slice_set left (place_of st.port) rest) v lines) step.reached
+      (subst (λ (l : List (List PortStep)). FollowJobs plan t x l w2 lines) step.left_is h)
       in
       let back : (lines : Lines) → FollowJobs plan t x (slice_set left (place_of st.port) rest) (world_step (Port (node x) st.port st.step) w).0 lines → FollowJobs plan t x left2 w2 lines =
-      λ lines h. subst (λ (l : List (List PortStep)). FollowJobs plan t x l w2 lines) (sym step.left_is) (subst (λ (v : WorldState). FollowJobs plan t x (slice_set left (place_of st.port) rest) v lines) (sym step.reached) h)
+      λ lines h. subst (λ (l : List (List PortStep)). FollowJobs plan t x l w2 lines) (sym step.left_is)
+      (subst (λ (v : WorldState). FollowJobs plan t x (slice_set left (place_of st.port) rest) v lines) (sym step.reached) h)
       in
       read_one (FollowJobs plan t x left w) (FollowJobs plan t x left2 w2) from to (line_at plan t (node x) st) step.taken
       (λ lines h. step_onto plan laws t x left w known long st rest lines step.next (onto lines h))
@@ -128,14 +130,16 @@ module _ (plan : Plan) (laws : ReplayLaws plan) where
         during = step_stays t x left1 left2 w1 w2 st via to part.during known part.long step;
         long = ap (λ (l : List (List PortStep)). length l) step.left_is ∙ (length_set left1 (place_of st.port) step.rest ∙ part.long);
         read = subst (λ (front : Lines). HasRead (FollowJobs plan t x left w) from front (FollowJobs plan t x left2 w2) to) (sym (map_append (line_at plan t (node x)) made (st ∷ [])))
-            (read_then (FollowJobs plan t x left w) (FollowJobs plan t x left1 w1) (FollowJobs plan t x left2 w2) from via to (made_lines plan t (node x) made) (line_at plan t (node x) st ∷ []) part.read
+            (read_then (FollowJobs plan t x left w) (FollowJobs plan t x left1 w1) (FollowJobs plan t x left2 w2) from via to (made_lines plan t (node x) made) (line_at plan t (node x) st ∷ [])
+            part.read
             (step_read t x left1 left2 w1 w2 st via to known part.long step));
       }
     where
       on : (later : List NodeStep) → MakeLeft (node x) left2 w2 later → MakeLeft (node x) left w ((made ++ st ∷ []) ++ later)
       on later h =
           let here : MakeLeft (node x) (slice_set left1 (place_of st.port) step.rest) (world_step (Port (node x) st.port st.step) w1).0 later =
-          subst (λ (v : WorldState). MakeLeft (node x) (slice_set left1 (place_of st.port) step.rest) v later) step.reached (subst (λ (l : List (List PortStep)). MakeLeft (node x) l w2 later) step.left_is h)
+          subst (λ (v : WorldState). MakeLeft (node x) (slice_set left1 (place_of st.port) step.rest) v later) step.reached
+          (subst (λ (l : List (List PortStep)). MakeLeft (node x) l w2 later) step.left_is h)
           in
           subst (MakeLeft (node x) left w) (sym (append_assoc made (st ∷ []) later)) (part.goes_on (st ∷ later) (step.rest, step.next, here))
 
@@ -292,8 +296,10 @@ module _ (plan : Plan) (laws : ReplayLaws plan) where
           reached = here.reached ∙ ap (λ (s : List NodeSteps). world_after (step_events s) there) (sym made);
           during = here.during;
           read = subst (λ (front : Lines). HasRead (FollowTicks plan t w) from front (FollowTicks plan (suc t) (world_after (closing_events plan.tree) w2)) to) (sym lines)
-              (read_then (FollowTicks plan t w) (FollowNodes plan t 1 there) (FollowTicks plan (suc t) (world_after (closing_events plan.tree) w2)) from via to (answer_lines t answers) (steps_lines plan t steps)
+              (read_then (FollowTicks plan t w) (FollowNodes plan t 1 there) (FollowTicks plan (suc t) (world_after (closing_events plan.tree) w2)) from via to (answer_lines t answers)
+              (steps_lines plan t steps)
               (all_read from via taken)
-              (read_same (FollowNodes plan t 1 there) (FollowNodes plan t (suc (length plan.tree.kinds)) w2) (FollowTicks plan (suc t) (world_after (closing_events plan.tree) w2)) via (steps_lines plan t steps) to
+              (read_same (FollowNodes plan t 1 there) (FollowNodes plan t (suc (length plan.tree.kinds)) w2) (FollowTicks plan (suc t) (world_after (closing_events plan.tree) w2)) via
+              (steps_lines plan t steps) to
               (λ ls h. nodes_none_in plan laws t (suc (length plan.tree.kinds)) w2 ls last h) (λ ls h. nodes_none_out plan laws t (suc (length plan.tree.kinds)) w2 ls last h) here.read));
         }

@@ -90,7 +90,8 @@ stuck_then F G from via front read one stuck =
       before = (
         front ++ follow,
         one.onto follow stuck.before.1,
-        take_behind front follow stuck.count ∙ (ap (λ (ls : Lines). front ++ ls) stuck.before.2 ∙ (sym (take_behind front (lines_of via.rest) stuck.count) ∙ ap (take (length front + stuck.count)) (sym one.lines))),
+        take_behind front follow stuck.count ∙ (ap (λ (ls : Lines). front ++ ls) stuck.before.2
+            ∙ (sym (take_behind front (lines_of via.rest) stuck.count) ∙ ap (take (length front + stuck.count)) (sym one.lines))),
       );
       here = λ more. stuck.here (next more);
     }

@@ -5,7 +5,7 @@ use Rattle.std.proofs.lemmas.List.{append-nil}
 use Rattle.srp_base.specs.Text.{whole_of}
 use Rattle.srp_base.specs.declared.numbers.NodeNo.{NodeNo}
 use Rattle.srp_base.specs.declared.ports.PortChange.{PortChange}
-use Rattle.tree_topology.specs.Topology.{HasPort}
+use Rattle.tree_topology.specs.Topology.{HasPort, link_ports}
 use Rattle.topology_file.specs.Plan.{Plan}
 use Rattle.node_core.specs.declared.types.NodeStep.{NodeStep}
 use Rattle.world_core.specs.declared.events.WorldReply.{WorldReply}
@@ -15,7 +15,7 @@ use Rattle.world_core.specs.declared.journal.Tick.{Tick}
 use Rattle.world_core.specs.declared.journal.Run.{Run}
 use Rattle.world_core.specs.World.{WorldState, CanHappen, world_step, world_after}
 use Rattle.world_core.specs.Start.{world_of}
-use Rattle.world_core.specs.Ticks.{link_ports, closing_events, after_steps, tick_events, IsLegalTick, LeadTo}
+use Rattle.world_core.specs.Ticks.{closing_events, after_steps, tick_events, IsLegalTick, LeadTo}
 use Rattle.world_core.specs.During.{IsDuring}
 use Rattle.world_core.specs.Carrying.{NothingWaits}
 use Rattle.world_core.specs.History.{HistoryState, acts_noted}

@@ -127,7 +127,8 @@ ports_set plan t n ports next at p q get is place are =
 
 module _ (plan : Plan) (laws : ReplayLaws plan) (t x : ℕ) (ports : List LeftState) (w : WorldState) (known : HasNode plan.tree x) (are : ArePortsLeft plan t (node x) ports) where
   -- a port makes its next job
-  pub next_job : (at : ℕ) (p q : LeftState) (step : PortStep) (st : NodeStep) (w2 : WorldState) → slice_get ports at ≡ Some p → p.jobs ≡ step ∷ q.jobs → st.port ≡ record { 0 = at + 1 } → st.step ≡ step
+  pub next_job : (at : ℕ) (p q : LeftState) (step : PortStep) (st : NodeStep) (w2 : WorldState) → slice_get ports at ≡ Some p → p.jobs ≡ step ∷ q.jobs → st.port ≡ record { 0 = at + 1 }
+      → st.step ≡ step
       → world_step (Port (node x) st.port st.step) w ≡ (w2, Step st.reply) → IsNextJob (node x) (jobs_left ports) w st q.jobs
   next_job at p q step st w2 get jobs port is made =
       let number : place_of st.port ≡ at = ap (λ (k : PortNo). place_of k) port ∙ omega arith in

@@ -3,7 +3,7 @@ use Rattle.std.specs.Prelude.{◌≡◌, ◌≢◌, ◌<◌, ◌≤◌, ◌^◌,
 use Rattle.std.specs.List.{AllByRecursion}
 use Rattle.srp_base.specs.declared.numbers.NodeNo.{NodeNo}
 use Rattle.srp_base.specs.declared.numbers.EgressPort.{EgressPort}
-use Rattle.tree_topology.specs.Topology.{HasNode, HasPort}
+use Rattle.tree_topology.specs.Topology.{HasNode, HasPort, link_ports}
 use Rattle.tree_topology.specs.Ports.{neighbours}
 use Rattle.attribute_propagation.specs.Ports.{place_of}
 use Rattle.topology_file.specs.Plan.{Plan}
@@ -19,7 +19,7 @@ use Rattle.world_core.specs.declared.journal.Run.{Run}
 use Rattle.world_core.specs.declared.journal.Tick.{Tick}
 use Rattle.world_core.specs.World.{WorldState, CanHappen, world_step, world_after}
 use Rattle.world_core.specs.Apart.{events_of}
-use Rattle.world_core.specs.Ticks.{script_at, link_ports, step_events, closing_events, tick_events, after_steps, IsLegalTick, LeadTo}
+use Rattle.world_core.specs.Ticks.{script_at, step_events, closing_events, tick_events, after_steps, IsLegalTick, LeadTo}
 use Rattle.world_core.specs.Start.{world_of}
 use Rattle.world_core.specs.Carrying.{NothingWaits}
 use Rattle.world_core.specs.History.{HistoryState}
@@ -77,7 +77,8 @@ pub record IsStepRead (plan : Plan) (t x : ℕ) (left left' : List (List PortSte
   pub taken : IsTaken (line_at plan t (record { 0 = x }) st) from to
 
 -- node x has made some of the jobs that its ports had left, and their lines have been read
-pub record IsPartRead (plan : Plan) (t x : ℕ) (left : List (List PortStep)) (w : WorldState) (from : Reading) (made : List NodeStep) (left' : List (List PortStep)) (w' : WorldState) (to : Reading) : Type 0 where
+pub record IsPartRead (plan : Plan) (t x : ℕ) (left : List (List PortStep)) (w : WorldState) (from : Reading) (made : List NodeStep) (left' : List (List PortStep)) (w' : WorldState)
+    (to : Reading) : Type 0 where
   pub goes_on : (later : List NodeStep) → MakeLeft (record { 0 = x }) left' w' later → MakeLeft (record { 0 = x }) left w (made ++ later)
   pub reached : w' ≡ world_after (events_of (record { 0 = x }) made) w
   pub during : IsDuring plan.tree t w'

@@ -1,8 +1,9 @@
 //! The replay of a journal: tick by tick its lines are read as the run makes them.
 
 ghost use Rattle.std.specs.Prelude.{◌≡◌, ◌<◌, suc, false, map, IfOk, IfSome, IfNone, OnOk};
+ghost use Rattle.tree_topology.specs.Topology.{link_ports};
 ghost use Rattle.world_core.specs.World.{world_after};
-ghost use Rattle.world_core.specs.Ticks.{closing_events, link_ports};
+ghost use Rattle.world_core.specs.Ticks.{closing_events};
 ghost use Rattle.world_core.specs.During.{IsDuring};
 ghost use Rattle.world_core.specs.Carrying.{has_send};
 ghost use Rattle.world_core.specs.Cursor.{IsCursor};

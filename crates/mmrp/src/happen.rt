@@ -37,7 +37,8 @@ pub(crate) fn ask(
     requires some { 1 ≤ number.0 }
     requires few { number.0 ≤ length nodes.old.items }
     ensures ok { IfOk result (λ reply. (tree : Topology) (clock : Cs)
-        → after_asking number mac joined (record { tree = tree; clock = clock; nodes = nodes.old.items })
+        → after_asking number mac joined
+        (record { tree = tree; clock = clock; nodes = nodes.old.items })
         ≡ (record { tree = tree; clock = clock; nodes = nodes.new.items }, reply)) }
     ensures err { OnErr result (nodes.new.items ≡ nodes.old.items) }
 {
@@ -55,7 +56,8 @@ pub(crate) fn make_step(
     requires now { now.0 < 2 ^ 62 }
     requires here { StandsAt at nodes.old.items }
     ensures ok { IfOk result (λ reply. (tree : Topology)
-        → after_step at (port_step now step (place_of at.port)) (record { tree = tree; clock = now; nodes = nodes.old.items })
+        → after_step at (port_step now step (place_of at.port))
+        (record { tree = tree; clock = now; nodes = nodes.old.items })
         ≡ (record { tree = tree; clock = now; nodes = nodes.new.items }, reply)) }
     ensures err { OnErr result (nodes.new.items ≡ nodes.old.items) }
 {
@@ -104,7 +106,8 @@ pub(crate) fn registrar(nodes: &Vec<GroupNode>, at: EgressPort, mac: Mac) -> Reg
 pub(crate) fn participant(nodes: &Vec<GroupNode>, at: EgressPort) -> &Participant<MmrpApp>
     requires { StandsAt at nodes.now.items }
     ensures { (tree : Topology) (clock : Cs)
-        → part_at at (record { tree = tree; clock = clock; nodes = nodes.now.items }) ≡ Some result.now.state }
+        → part_at at (record { tree = tree; clock = clock; nodes = nodes.now.items })
+        ≡ Some result.now.state }
 {
     nodes[place(at.node)].participant(at.port)
 }
@@ -122,7 +125,8 @@ pub(crate) fn has_joined(nodes: &Vec<GroupNode>, number: NodeNo, mac: Mac) -> bo
 // The participant at a port is sound no more.
 fn spoil(nodes: &mut Vec<GroupNode>, at: EgressPort)
     requires { StandsAt at nodes.old.items }
-    ensures after { nodes.new.items ≡ nodes_with at.node (spoilt_at (place_of at.port)) nodes.old.items }
+    ensures after { nodes.new.items
+        ≡ nodes_with at.node (spoilt_at (place_of at.port)) nodes.old.items }
     ensures stand { (p : EgressPort) → StandsAt p nodes.old.items → StandsAt p nodes.new.items }
 {
     nodes[place(at.node)].spoil(at.port);
@@ -151,7 +155,8 @@ pub(crate) fn lose(
     requires here { StandsAt at nodes.old.items }
     requires there { StandsAt (peer_of tree.now.links at) nodes.old.items }
     ensures { (clock : Cs)
-        → group_step (GroupEvent.Lose at index) (record { tree = tree.now; clock = clock; nodes = nodes.old.items })
+        → group_step (GroupEvent.Lose at index)
+        (record { tree = tree.now; clock = clock; nodes = nodes.old.items })
         ≡ (record { tree = tree.now; clock = clock; nodes = nodes.new.items }, result) }
 {
     if !has_index(nodes, at, index) {
@@ -184,7 +189,8 @@ pub(crate) fn repeat(
 ) -> Result<GroupReply, NoMemory>
     requires { StandsAt at nodes.old.items }
     ensures ok { IfOk result (λ reply. (tree : Topology) (clock : Cs)
-        → group_step (GroupEvent.Repeat at index) (record { tree = tree; clock = clock; nodes = nodes.old.items })
+        → group_step (GroupEvent.Repeat at index)
+        (record { tree = tree; clock = clock; nodes = nodes.old.items })
         ≡ (record { tree = tree; clock = clock; nodes = nodes.new.items }, reply)) }
     ensures err { OnErr result (nodes.new.items ≡ nodes.old.items) }
 {
@@ -245,7 +251,8 @@ pub(crate) fn carry(
     requires here { StandsAt at nodes.old.items }
     requires there { StandsAt (peer_of tree.now.links at) nodes.old.items }
     ensures ok { IfOk result (λ reply. (clock : Cs)
-        → group_step (GroupEvent.Carry at) (record { tree = tree.now; clock = clock; nodes = nodes.old.items })
+        → group_step (GroupEvent.Carry at)
+        (record { tree = tree.now; clock = clock; nodes = nodes.old.items })
         ≡ (record { tree = tree.now; clock = clock; nodes = nodes.new.items }, reply)) }
     ensures err { OnErr result (nodes.new.items ≡ nodes.old.items) }
 {

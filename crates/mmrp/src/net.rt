@@ -98,7 +98,8 @@ impl GroupNet {
     // A station joins a group.
     fn join(&mut self, node: NodeNo, mac: Mac) -> Result<GroupReply, NoMemory>
         requires { CanHappen (GroupEvent.Join node mac) self.old }
-        ensures ok { IfOk result (λ reply. group_step (GroupEvent.Join node mac) self.old ≡ (self.new, reply)) }
+        ensures ok { IfOk result (λ reply. group_step (GroupEvent.Join node mac) self.old
+            ≡ (self.new, reply)) }
         ensures err { OnErr result (self.new ≡ self.old) }
     {
         every_event_keeps_it();
@@ -109,7 +110,8 @@ impl GroupNet {
     // A station parts from a group.
     fn part(&mut self, node: NodeNo, mac: Mac) -> Result<GroupReply, NoMemory>
         requires { CanHappen (GroupEvent.Part node mac) self.old }
-        ensures ok { IfOk result (λ reply. group_step (GroupEvent.Part node mac) self.old ≡ (self.new, reply)) }
+        ensures ok { IfOk result (λ reply. group_step (GroupEvent.Part node mac) self.old
+            ≡ (self.new, reply)) }
         ensures err { OnErr result (self.new ≡ self.old) }
     {
         every_event_keeps_it();
@@ -120,7 +122,8 @@ impl GroupNet {
     // A link port makes a step.
     fn port_step(&mut self, at: EgressPort, step: GroupStep) -> Result<GroupReply, NoMemory>
         requires { CanHappen (GroupEvent.Port at step) self.old }
-        ensures ok { IfOk result (λ reply. group_step (GroupEvent.Port at step) self.old ≡ (self.new, reply)) }
+        ensures ok { IfOk result (λ reply. group_step (GroupEvent.Port at step) self.old
+            ≡ (self.new, reply)) }
         ensures err { OnErr result (self.new ≡ self.old) }
     {
         every_event_keeps_it();
@@ -140,7 +143,8 @@ impl GroupNet {
     // It is there twice.
     fn repeat(&mut self, at: EgressPort, index: u32) -> Result<GroupReply, NoMemory>
         requires { CanHappen (GroupEvent.Repeat at index) self.old }
-        ensures ok { IfOk result (λ reply. group_step (GroupEvent.Repeat at index) self.old ≡ (self.new, reply)) }
+        ensures ok { IfOk result (λ reply. group_step (GroupEvent.Repeat at index) self.old
+            ≡ (self.new, reply)) }
         ensures err { OnErr result (self.new ≡ self.old) }
     {
         every_event_keeps_it();
@@ -150,7 +154,8 @@ impl GroupNet {
     // The PDUs of a port's outbox come in at its peer.
     fn carry(&mut self, at: EgressPort) -> Result<GroupReply, NoMemory>
         requires { CanHappen (GroupEvent.Carry at) self.old }
-        ensures ok { IfOk result (λ reply. group_step (GroupEvent.Carry at) self.old ≡ (self.new, reply)) }
+        ensures ok { IfOk result (λ reply. group_step (GroupEvent.Carry at) self.old
+            ≡ (self.new, reply)) }
         ensures err { OnErr result (self.new ≡ self.old) }
     {
         every_event_keeps_it();

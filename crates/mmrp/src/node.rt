@@ -88,7 +88,8 @@ impl GroupNode {
     pub(crate) fn registrar(&self, port: PortNo, mac: Mac) -> Registrar
         requires { IsLinkPort port (ports_of self.now) }
         ensures { result
-            ≡ option_map_or (registrar_in mac) (slice_get self.now.side.parts (place_of port)) Empty }
+            ≡ option_map_or (registrar_in mac)
+            (slice_get self.now.side.parts (place_of port)) Empty }
     {
         self.participant(port).registrar(mac)
     }
@@ -165,7 +166,8 @@ impl GroupNode {
         requires now { now.0 < 2 ^ 62 }
         requires port { IsLinkPort port (ports_of self.old) }
         ensures ok { IfOk result
-            (λ reply. after_work now (place_of port) (box_at (place_of port) self.old.inboxes) self.old
+            (λ reply. after_work now (place_of port)
+            (box_at (place_of port) self.old.inboxes) self.old
             ≡ (self.new, reply)) }
         ensures err { OnErr result (self.new ≡ self.old) }
     {
@@ -183,7 +185,8 @@ impl GroupNode {
     fn send(&mut self, now: Cs, port: PortNo) -> Result<GroupReply, NoMemory>
         requires now { now.0 < 2 ^ 62 }
         requires port { IsLinkPort port (ports_of self.old) }
-        ensures ok { IfOk result (λ reply. after_send now (place_of port) self.old ≡ (self.new, reply)) }
+        ensures ok { IfOk result (λ reply. after_send now (place_of port) self.old
+            ≡ (self.new, reply)) }
         ensures err { OnErr result (self.new ≡ self.old) }
     {
         let alloc = *self.inboxes.allocator();

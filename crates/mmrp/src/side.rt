@@ -44,7 +44,8 @@ pub(crate) fn take(
     requires now { now.0 < 2 ^ 62 }
     requires port { IsLinkPort port (length side.old.state.parts) }
     requires short { length pdu.now ≤ 1500 }
-    ensures ok { IfOk result (λ reply. worked now (place_of port) (mmrp_reading pdu.now) side.old.state
+    ensures ok { IfOk result (λ reply. worked now (place_of port)
+        (mmrp_reading pdu.now) side.old.state
         ≡ (side.new.state, reply)) }
     ensures err { OnErr result (side.new.state ≡ side.old.state) }
     ensures ports { length side.new.state.parts ≡ length side.old.state.parts }
@@ -66,7 +67,8 @@ pub(crate) fn fire(side: &mut MmrpSide, now: Cs, port: PortNo) -> Result<GroupRe
     requires port { IsLinkPort port (length side.old.state.parts) }
     ensures fired { IfOk result (λ reply. reply
         ≡ GroupReply.Fired (count_of (of_part (due_count now) 0 (place_of port) side.old.state))) }
-    ensures ok { OnOk result (side.new.state ≡ due_flat nat_cmp now (place_of port) side.old.state) }
+    ensures ok { OnOk result (side.new.state
+        ≡ due_flat nat_cmp now (place_of port) side.old.state) }
     ensures err { OnErr result (side.new.state ≡ side.old.state) }
     ensures ports { length side.new.state.parts ≡ length side.old.state.parts }
     ensures kept { IsKept nat_cmp side.new.state }
@@ -83,7 +85,8 @@ pub(crate) fn settle(side: &mut MmrpSide, now: Cs, port: PortNo) -> Result<Group
     requires port { IsLinkPort port (length side.old.state.parts) }
     ensures settled { IfOk result (λ reply. reply
         ≡ GroupReply.Settled (count_of (length (awaiting_at (place_of port) side.old.state)))) }
-    ensures ok { OnOk result (side.new.state ≡ settled_flat nat_cmp (place_of port) side.old.state) }
+    ensures ok { OnOk result (side.new.state
+        ≡ settled_flat nat_cmp (place_of port) side.old.state) }
     ensures err { OnErr result (side.new.state ≡ side.old.state) }
     ensures ports { length side.new.state.parts ≡ length side.old.state.parts }
     ensures kept { IsKept nat_cmp side.new.state }
@@ -105,7 +108,8 @@ pub(crate) fn say(
     requires port { IsLinkPort port (length side.old.state.parts) }
     requires short { AreShort outbox.old.items }
     ensures put { IsSaying (said now (place_of port) side.old.state) side.old.state
-        (sent_flat nat_cmp base stated_octets now (place_of port) side.old.state) outbox.old.items result
+        (sent_flat nat_cmp base stated_octets now (place_of port) side.old.state)
+        outbox.old.items result
         side.new.state outbox.new.items }
     ensures short { AreShort outbox.new.items }
     ensures ports { length side.new.state.parts ≡ length side.old.state.parts }

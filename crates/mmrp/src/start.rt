@@ -21,7 +21,8 @@ pub(crate) fn new_nodes(
     requires leave_time { IsTime leave_time }
     requires few { length entries.now ≤ 64 }
     requires links { length links.now ≤ 65535 }
-    ensures { IfOk result (λ nodes. nodes.items ≡ nodes_from leave_time periodic links.now 1 entries.now) }
+    ensures { IfOk result (λ nodes. nodes.items
+        ≡ nodes_from leave_time periodic links.now 1 entries.now) }
 {
     let mut nodes = Vec::with_capacity(alloc, entries.len())?;
     for (i, entry) in entries.iter().enumerate() {
@@ -41,7 +42,8 @@ fn new_node_of(
 ) -> Result<GroupNode, NoMemory>
     requires leave_time { IsTime leave_time }
     requires links { length links.now ≤ 65535 }
-    ensures { IfOk result (λ node. node ≡ new_node leave_time periodic (setups_from 1 number links.now)) }
+    ensures { IfOk result (λ node. node
+        ≡ new_node leave_time periodic (setups_from 1 number links.now)) }
 {
     let setups = new_setups(alloc, links, number)?;
     GroupNode::new(alloc, leave_time, periodic, setups.as_slice())

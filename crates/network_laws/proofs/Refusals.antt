@@ -219,7 +219,8 @@ refusal-says w stream l r h = by (failure_at w stream l) refl
     at-talker : (f : Failure) → failure_at w stream l ≡ Some f → (o : Option ℕ) → talking_node w stream ≡ o → refusal_named w stream l f ≡ Some r → IsRefusalTo w stream l r
     at-talker f e None g k = let none : refusal_named w stream l f ≡ None = ap (λ o. option_and_then (λ t. first_refusal (refusal_at w stream f) (path_between w.tree.links t l)) o) g in cc
     at-talker f e (Some t) g k =
-        let is : refusal_named w stream l f ≡ first_refusal (refusal_at w stream f) (path_between w.tree.links t l) = ap (λ o. option_and_then (λ t. first_refusal (refusal_at w stream f) (path_between w.tree.links t l)) o) g in
+        let is : refusal_named w stream l f ≡ first_refusal (refusal_at w stream f) (path_between w.tree.links t l) =
+        ap (λ o. option_and_then (λ t. first_refusal (refusal_at w stream f) (path_between w.tree.links t l)) o) g in
         let first = first-at (refusal_at w stream f) (path_between w.tree.links t l) r (sym is ∙ k) in
         says f e t g first.0 first.1 first.2 (of-node w stream f first.1 r first.3)
 

@@ -104,7 +104,8 @@ heard-parts r h = by r.listens (is_talker_port 0 r.talkers) refl refl
     by : (a b : Bool) → r.listens ≡ a → is_talker_port 0 r.talkers ≡ b → (r.listens ≡ true) × (is_talker_port 0 r.talkers ≡ false) × (is_advertised (first_talker r.talkers) ≡ true)
     by false b e f = let off : is_ready_heard (heard_by r) ≡ false = rw e refl in cc
     by true true e f = let off : is_ready_heard (heard_by r) ≡ false = rw e (rw f refl) in cc
-    by true false e f = let here : is_ready_heard (heard_by r) ≡ is_ready_heard (heard_in (first_talker r.talkers)) = rw e (rw f refl) in (e, f, heard-advertised (first_talker r.talkers) (sym here ∙ h))
+    by true false e f = let here : is_ready_heard (heard_by r) ≡ is_ready_heard (heard_in (first_talker r.talkers)) =
+        rw e (rw f refl) in (e, f, heard-advertised (first_talker r.talkers) (sym here ∙ h))
 
 -- a failure for want of bandwidth
 failure-parts : (x : TalkerReg) (f : Failure) → bandwidth_failure x ≡ Some f → (u : Talker) × (x ≡ Failed u f) × IsOfBandwidth f.code
@@ -131,7 +132,8 @@ pushed-out now book want more cap code h = by (does_fit now book.caps (booked_of
     by : (b : Bool) → does_fit now book.caps (booked_of book.entries) (tested_entry book.entries want) ≡ b → IsPushedOut now book want code
     by true e = let fits : fit_for now book want ≡ Fits = rw e refl in cc
     by false e =
-        let not_ : fit_for now book want ≡ TooLittle (above now (tested_entry book.entries want) (booked_of book.entries)) (cap_of book.caps want.class) (code_of now book.caps (booked_of book.entries) (tested_entry book.entries want)) = rw e refl in
+        let not_ : fit_for now book want ≡ TooLittle (above now (tested_entry book.entries want) (booked_of book.entries)) (cap_of book.caps want.class)
+        (code_of now book.caps (booked_of book.entries) (tested_entry book.entries want)) = rw e refl in
         record { passes = grind (arith, nat_tests, e); code_is = ap code_in (sym h ∙ not_) }
 
 -- the failure of what stands at a station's port, or at a node
@@ -212,7 +214,8 @@ module _ (w : WorldState) (still : AreStreamsStill w) (stream : StreamId) (kept 
             let path = ap (λ y. path_between w.tree.links t y) (sym far) ∙ path-last w still stream kept once t k p hp off in
             let last : has_booked w stream p ≡ true = all-last (has_booked w stream) (path_between w.tree.links t p.node.0) p (ap (list_all (has_booked w stream)) (sym path) ∙ all) in
             let a = at-port w still stream kept p hp in
-            let told = booked-advertises kept (place_of p.port) a.port (regs w still stream kept a).talkers stream (port-kept w still stream kept p a).ledger (wanted w still stream kept p a) (sym (booked-is w still stream kept once t k p a) ∙ last) in
+            let told = booked-advertises kept (place_of p.port) a.port (regs w still stream kept a).talkers stream (port-kept w still stream kept p a).ledger (wanted w still stream kept p a)
+            (sym (booked-is w still stream kept once t k p a) ∙ last) in
             let b = at-port w still stream kept q.0 hq in
             let here : is_advertised (reg w still stream kept q.0) ≡ true = ap is_advertised (near-talker w still stream kept q.0 hq a) ∙ told in
             by-port b here (towards w still stream kept once t k q.0 hq b)
@@ -246,9 +249,11 @@ module _ (w : WorldState) (still : AreStreamsStill w) (stream : StreamId) (kept 
         at-port-of parts m.0 m.1 m.2
       where
         Heard : Type 0
-        Heard = ((seen_by n.s.streams stream).listens ≡ true) × (is_talker_port 0 (seen_by n.s.streams stream).talkers ≡ false) × (is_advertised (first_talker (seen_by n.s.streams stream).talkers) ≡ true)
+        Heard = ((seen_by n.s.streams stream).listens ≡ true) × (is_talker_port 0 (seen_by n.s.streams stream).talkers ≡ false)
+            × (is_advertised (first_talker (seen_by n.s.streams stream).talkers) ≡ true)
 
-        by-port : Heard → (q : EgressPort) (hq : HasPort w.tree q) (b : At w still stream kept q) → q.node.0 ≡ l → b.s ≡ n.s → (j : ℕ) → TalkersAt w still stream kept q b (suc j) → (x : TalkerReg) → IsTalkers (regs w still stream kept b).talkers (suc j) x
+        by-port : Heard → (q : EgressPort) (hq : HasPort w.tree q) (b : At w still stream kept q) → q.node.0 ≡ l → b.s ≡ n.s → (j : ℕ) → TalkersAt w still stream kept q b (suc j) → (x : TalkerReg)
+            → IsTalkers (regs w still stream kept b).talkers (suc j) x
             → is_path_booked w stream l ≡ true
         by-port parts q hq b eq same j (at-app z o) x m = absurd (omega (arith, z))
         by-port parts q hq b eq same j (at-link r sib e o is) x m =
@@ -261,8 +266,10 @@ module _ (w : WorldState) (still : AreStreamsStill w) (stream : StreamId) (kept 
             let far : far_node w.tree.links p ≡ l = still.laws.peer_back r hr ∙ (ap (λ z. z.0) sib.node ∙ eq) in
             let c = at-port w still stream kept p hp in
             let all-same : sib.at.s ≡ n.s = sib.same ∙ same in
-            let adv : is_advertised (first_talker (seen_by sib.at.s.streams stream).talkers) ≡ true = ap (λ (s : NodeState). is_advertised (first_talker (seen_by s.streams stream).talkers)) all-same ∙ parts.2 in
-            let adv-r : is_advertised (reg w still stream kept r) ≡ true = ap is_advertised (sym is) ∙ (ap (λ (s : NodeState). is_advertised (first_talker (seen_by s.streams stream).talkers)) same ∙ parts.2) in
+            let adv : is_advertised (first_talker (seen_by sib.at.s.streams stream).talkers) ≡ true =
+            ap (λ (s : NodeState). is_advertised (first_talker (seen_by s.streams stream).talkers)) all-same ∙ parts.2 in
+            let adv-r : is_advertised (reg w still stream kept r) ≡ true =
+            ap is_advertised (sym is) ∙ (ap (λ (s : NodeState). is_advertised (first_talker (seen_by s.streams stream).talkers)) same ∙ parts.2) in
             let told = ap is_advertised (sym (near-talker w still stream kept r hr c)) ∙ adv-r in
             let port : is_talker_port (suc (place_of r.port)) (regs w still stream kept b).talkers ≡ true =
             is-port (regs w still stream kept b).talkers (suc j) x (suc (place_of r.port)) m ∙ (ap (λ i. i == suc (place_of r.port)) e ∙ same-port (suc (place_of r.port))) in

@@ -282,7 +282,14 @@ module _ (w : WorldState) (still : AreStreamsStill w) (stream : StreamId) (kept-
       by : (b : At (q_of p)) (n : ℕ) → (n == suc (place_of (q_of p).port)) ≡ false → TalkersAt (q_of p) b n → (own (far p) ≡ true) ⊎ HasBeyond w.tree test p
       by b n ne (at-app z k) = inl (own-from (q_of p) b k)
       by b n ne (at-link r s e k is) =
-          inr (r, s.port, ap (λ x. x.0) s.node, (λ f. absurd (is-not (n == suc (place_of (q_of p).port)) ne (ap (λ m. m == suc (place_of (q_of p).port)) (e ∙ ap (λ (x : EgressPort). suc (place_of x.port)) f) ∙ same-port (suc (place_of (q_of p).port))))), k)
+          inr (
+            r,
+            s.port,
+            ap (λ x. x.0) s.node,
+            (λ f. absurd (is-not (n == suc (place_of (q_of p).port)) ne
+                (ap (λ m. m == suc (place_of (q_of p).port)) (e ∙ ap (λ (x : EgressPort). suc (place_of x.port)) f) ∙ same-port (suc (place_of (q_of p).port))))),
+            k,
+          )
 
   -- where it talks, one is registered
   backward-own : (p : EgressPort) → HasPort w.tree p → own (far p) ≡ true → test p ≡ true
@@ -293,7 +300,8 @@ module _ (w : WorldState) (still : AreStreamsStill w) (stream : StreamId) (kept-
       let talk : is_present (advertise_of (talk_of stream b.s.streams.talks)) ≡ true = talks-present (talk_of stream b.s.streams.talks) ∙ own-talk q b t in
       let first : IsTalkers (regs b).talkers 0 (advertise_of (talk_of stream b.s.streams.talks)) =
       first-is (advertise_of (talk_of stream b.s.streams.talks)) (map (λ (x : PortState). registered_talker stream x.part) b.s.streams.ports) talk in
-      let away : is_talker_port (suc (place_of q.port)) (regs b).talkers ≡ false = is-port (regs b).talkers 0 (advertise_of (talk_of stream b.s.streams.talks)) (suc (place_of q.port)) first ∙ other-port 0 (suc (place_of q.port)) (λ e. absurd (omega arith)) in
+      let away : is_talker_port (suc (place_of q.port)) (regs b).talkers ≡ false =
+      is-port (regs b).talkers 0 (advertise_of (talk_of stream b.s.streams.talks)) (suc (place_of q.port)) first ∙ other-port 0 (suc (place_of q.port)) (λ e. absurd (omega arith)) in
       ap is_present (near-talker p h b)
       ∙ present-declared (place_of q.port) b.port (regs b).talkers away (ap is_present first.is ∙ talk)
 
@@ -484,7 +492,8 @@ module _ (w : WorldState) (still : AreStreamsStill w) (stream : StreamId) (kept-
             of (Some kind) e =
                 let row : PortListener = record { kind = kind; booked = is_some (since_of a.port.ledger.entries stream) } in
                 let listed : slice_get (regs a).listeners (place_of p.port) ≡ Some (Some row) =
-                map-get (listener_row stream) a.s.streams.ports (place_of p.port) a.port a.has ∙ ap (λ k. Some (option_map (λ kind. record { kind = kind; booked = is_some (since_of a.port.ledger.entries stream) }) k)) e in
+                map-get (listener_row stream) a.s.streams.ports (place_of p.port) a.port a.has
+                ∙ ap (λ k. Some (option_map (λ kind. record { kind = kind; booked = is_some (since_of a.port.ledger.entries stream) }) k)) e in
                 let kind-ready : is_ready (Some kind) ≡ true = ap is_ready (sym e) ∙ why.ready in
                 let can : can_have row ≡ true = rw some kind-ready in
                 let there_ : is_ready (listener_at (place_of r.port) (regs a)) ≡ true =

@@ -299,7 +299,8 @@ module _ (kept : KeptWants) (at : ℕ) (port : PortState) (xs : List TalkerReg) 
           of None f false (TooLittle more cap code) e =
               let off : is_advertised (declared_of port.config (delayed_by port.config.latency t) (refusal_of t false (TooLittle more cap code))) ≡ false = rw f refl in cc
 
-      of-reg : (reg : TalkerReg) → first_talker xs ≡ reg → is_talker_port (suc at) xs ≡ false → is_advertised (talker_out reg port.config (edge_at port xs) (fit_of_reg port.ledger (first_talker xs))) ≡ true
+      of-reg : (reg : TalkerReg) → first_talker xs ≡ reg → is_talker_port (suc at) xs ≡ false
+          → is_advertised (talker_out reg port.config (edge_at port xs) (fit_of_reg port.ledger (first_talker xs))) ≡ true
           → is_some (since_of port.ledger.entries stream) ≡ true
       of-reg Absent r e k = cc
       of-reg (Failed t f) r e k = cc
@@ -375,15 +376,18 @@ failed-at at port xs t f h code = by (is_talker_port (suc at) xs) refl
         of : (o : Option ℕ) → check_of u ≡ o → (edge : Bool) (fit : Fit) → fit_of_reg port.ledger (first_talker xs) ≡ fit
             → declared_of port.config (delayed_by port.config.latency u) (refusal_of u edge fit) ≡ Failed t f → Refuses port.config port.ledger (first_talker xs) f
         of (Some c) e edge fit k d =
-            let is : declared_of port.config (delayed_by port.config.latency u) (refusal_of u edge fit) ≡ Failed (delayed_by port.config.latency u) (record { bridge = port.config.bridge; code = c }) = rw e refl in
+            let is : declared_of port.config (delayed_by port.config.latency u) (refusal_of u edge fit)
+            ≡ Failed (delayed_by port.config.latency u) (record { bridge = port.config.bridge; code = c }) = rw e refl in
             let same : c ≡ f.code = ap failure_code (sym is ∙ d) in
             absurd (check-codes u f.code (e ∙ ap Some same) code)
         of None e true fit k d =
-            let is : declared_of port.config (delayed_by port.config.latency u) (refusal_of u true fit) ≡ Failed (delayed_by port.config.latency u) (record { bridge = port.config.bridge; code = 8 }) = rw e refl in
+            let is : declared_of port.config (delayed_by port.config.latency u) (refusal_of u true fit)
+            ≡ Failed (delayed_by port.config.latency u) (record { bridge = port.config.bridge; code = 8 }) = rw e refl in
             absurd (not-eight f.code (ap failure_code (sym is ∙ d)) code)
         of None e false Fits k d = let is : declared_of port.config (delayed_by port.config.latency u) (refusal_of u false Fits) ≡ Advertise (delayed_by port.config.latency u) = rw e refl in cc
         of None e false (TooLittle more cap c) k d =
-            let is : declared_of port.config (delayed_by port.config.latency u) (refusal_of u false (TooLittle more cap c)) ≡ Failed (delayed_by port.config.latency u) (record { bridge = port.config.bridge; code = c }) = rw e refl in
+            let is : declared_of port.config (delayed_by port.config.latency u) (refusal_of u false (TooLittle more cap c))
+            ≡ Failed (delayed_by port.config.latency u) (record { bridge = port.config.bridge; code = c }) = rw e refl in
             let same : Failed (delayed_by port.config.latency u) (record { bridge = port.config.bridge; code = c }) ≡ Failed t f = sym is ∙ d in
             let failure : (record { bridge = port.config.bridge; code = c }) ≡ f = cc in
             let code-is : c ≡ f.code = ap (λ (g : Failure). g.code) failure in
@@ -445,7 +449,8 @@ fold-any : (k : ListenerKind) (rows : List PortListener) → list_any can_have r
 fold-any k [] h = cc
 fold-any k (row ∷ rows) h = by (or-cases (can_have row) (list_any can_have rows) h) (λ there. fold-any (merge_of k (counted_kind row)) rows there)
   where
-    by : (can_have row ≡ true) ⊎ (list_any can_have rows ≡ true) → (list_any can_have rows ≡ true → is_ready_kind (fold merge_of k (map counted_kind (row ∷ rows))) ≡ true) → is_ready_kind (fold merge_of k (map counted_kind (row ∷ rows))) ≡ true
+    by : (can_have row ≡ true) ⊎ (list_any can_have rows ≡ true) → (list_any can_have rows ≡ true → is_ready_kind (fold merge_of k (map counted_kind (row ∷ rows))) ≡ true)
+        → is_ready_kind (fold merge_of k (map counted_kind (row ∷ rows))) ≡ true
     by (inl here) rest = fold-ready (merge_of k (counted_kind row)) (map counted_kind rows) (merge-right k (counted_kind row) here)
     by (inr there) rest = rest there
 

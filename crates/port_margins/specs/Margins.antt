@@ -22,7 +22,7 @@ use Rattle.node_core.specs.State.{NodeState, content_at, fit_of, slope_at}
 use Rattle.scenario_bounds.specs.Caps.{caps_of_link, link_at}
 use Rattle.world_core.specs.World.{WorldState, node_at}
 use Rattle.report_words.specs.Names.{port_name}
-use Rattle.report_words.specs.Ports.{link_ports}
+use Rattle.tree_topology.specs.Topology.{link_ports}
 use Rattle.port_margins.specs.Cbs.{cbs_of}
 use Rattle.port_margins.specs.Lines.{margin_line, refused_line, cbs_line}
 

@@ -162,7 +162,8 @@ drop_all (x ∷ xs) (suc i) le = drop_all xs i (omega (arith, le))
 pub none_followed : (n : NodeNo) (steps : List NodeStep) (notices : List Notice) (i : ℕ) (st : NodeStep) (m : MarksState) → i < length steps → length notices ≤ i
     → CanMarkAll n (drop i steps) (drop i notices) m → ⊥
 none_followed n steps notices i st m lt le can =
-    subst (λ (x : List NodeStep). CanMarkAll n x [] m) (cut_at steps i (get_or steps i st) lt (get_same steps i st (get_or steps i st) lt)) (subst (λ (x : List Notice). CanMarkAll n (drop i steps) x m) (drop_all notices i le) can)
+    subst (λ (x : List NodeStep). CanMarkAll n x [] m) (cut_at steps i (get_or steps i st) lt (get_same steps i st (get_or steps i st) lt))
+    (subst (λ (x : List Notice). CanMarkAll n (drop i steps) x m) (drop_all notices i le) can)
 
 pub all_followed : (n : NodeNo) (steps : List NodeStep) (notices : List Notice) (i : ℕ) (m : MarksState) → length steps ≤ i → marks_by n (drop i steps) (drop i notices) m ≡ m
 all_followed n steps notices i m le = ap (λ (x : List NodeStep). marks_by n x (drop i notices) m) (drop_all steps i le)

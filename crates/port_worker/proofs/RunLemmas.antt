@@ -19,7 +19,8 @@ first_cursor events = record { within = omega arith; past = λ k e get lt. absur
 
 pub one_tick : ((plan : Plan) (t : ℕ) (ticks : List Tick) (w : WorldState) (tick : Tick) (changes : List PortChange) → KeepsRules plan → t < plan.ticks → IsNotedRun plan t ticks w changes
     → IsLegalTick plan t w tick → IsNotedRun plan (suc t) (ticks ++ tick ∷ []) (world_after (tick_events plan t tick) w) (acts_noted t tick.steps (after_steps plan t tick w) changes))
-    → (plan : Plan) (t : ℕ) (ticks next : List Tick) (w v : WorldState) (tick : Tick) (before after : HistoryState) (cursor : ℕ) → KeepsRules plan → t < plan.ticks → IsNotedRun plan t ticks w before.changes
+    → (plan : Plan) (t : ℕ) (ticks next : List Tick) (w v : WorldState) (tick : Tick) (before after : HistoryState) (cursor : ℕ) → KeepsRules plan → t < plan.ticks
+    → IsNotedRun plan t ticks w before.changes
     → IsTickMade plan t w v cursor before after tick → next ≡ ticks ++ tick ∷ []
     → IsNotedRun plan (t + 1) next v after.changes × NothingWaits v × IsCursor plan.events (t + 1) cursor × (after.tree ≡ plan.tree)
 one_tick law plan t ticks next w v tick before after cursor rules lt run made push =

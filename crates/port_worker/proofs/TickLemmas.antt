@@ -2,7 +2,7 @@
 use Rattle.std.proofs.Common.{◌≡◌, ℕ, suc, ◌<◌, false, List, [], ◌∷◌, ◌++◌, map, sym, ap, subst, ◌∙◌, arith}
 use Rattle.std.specs.List.{AllByRecursion}
 use Rattle.srp_base.specs.declared.numbers.NodeNo.{NodeNo}
-use Rattle.tree_topology.specs.Topology.{Topology, HasPort}
+use Rattle.tree_topology.specs.Topology.{Topology, HasPort, link_ports}
 use Rattle.topology_file.specs.Plan.{Plan}
 use Rattle.topology_file.specs.Scenario.{KeepsRules}
 use Rattle.node_core.specs.declared.types.NodeStep.{NodeStep}
@@ -12,7 +12,7 @@ use Rattle.world_core.specs.declared.events.WorldReply.{WorldReply}
 use Rattle.world_core.specs.declared.journal.NodeSteps.{NodeSteps}
 use Rattle.world_core.specs.declared.journal.Tick.{Tick}
 use Rattle.world_core.specs.World.{WorldState, CanHappen, world_step, world_after, replies_to}
-use Rattle.world_core.specs.Ticks.{script_at, after_script, after_steps, step_events, link_ports, tick_events, IsLegalTick}
+use Rattle.world_core.specs.Ticks.{script_at, after_script, after_steps, step_events, tick_events, IsLegalTick}
 use Rattle.world_core.specs.During.{IsDuring, IsAllowed}
 use Rattle.world_core.specs.Carrying.{NothingWaits, has_send}
 use Rattle.world_core.specs.Cursor.{IsCursor}
@@ -24,10 +24,12 @@ use Rattle.port_worker.proofs.GatherLemmas.{after_append}
 -- nothing is carried where the steps sent nothing
 pub nothing_carried : ((plan : Plan) (t : ℕ) (w : WorldState) (tick : Tick) → IsDuring plan.tree t w → NothingWaits w → has_send tick.steps ≡ false
     → world_after (map Carry (link_ports plan.tree)) (after_steps plan t tick w) ≡ after_steps plan t tick w)
-    → (plan : Plan) (t : ℕ) (w : WorldState) → IsDuring plan.tree t w → NothingWaits w → (v : WorldState) (tick : Tick) → v ≡ after_steps plan t tick w → v.tree ≡ plan.tree → has_send tick.steps ≡ false
+    → (plan : Plan) (t : ℕ) (w : WorldState) → IsDuring plan.tree t w → NothingWaits w → (v : WorldState) (tick : Tick) → v ≡ after_steps plan t tick w → v.tree ≡ plan.tree
+    → has_send tick.steps ≡ false
     → world_after (map Carry (link_ports v.tree)) v ≡ v
 nothing_carried law plan t w during waits v tick is tree isnt =
-    ap (λ (r : Topology). world_after (map Carry (link_ports r)) v) tree ∙ (ap (λ (u : WorldState). world_after (map Carry (link_ports plan.tree)) u) is ∙ (law plan t w tick during waits isnt ∙ sym is))
+    ap (λ (r : Topology). world_after (map Carry (link_ports r)) v) tree
+    ∙ (ap (λ (u : WorldState). world_after (map Carry (link_ports plan.tree)) u) is ∙ (law plan t w tick during waits isnt ∙ sym is))
 
 made_allowed : (tree : Topology) (n : NodeNo) (made : List NodeStep) → AllByRecursion (λ st. HasPort tree (record { node = n; port = st.port })) made
     → AllByRecursion (IsAllowed tree) (map (λ st. Port n st.port st.step) made)
@@ -40,7 +42,8 @@ steps_allowed tree [] known = tt
 steps_allowed tree (ns ∷ nodes) known =
     each_append (IsAllowed tree) (map (λ st. Port ns.node st.port st.step) ns.steps) (step_events nodes) (made_allowed tree ns.node ns.steps known.0) (steps_allowed tree nodes known.1)
 
-module _ (laws : DuringLaws) (plan : Plan) (rules : KeepsRules plan) (t : ℕ) (within : t < plan.ticks) (w : WorldState) (during : IsDuring plan.tree t w) (w1 w2 w3 : WorldState) (steps : List NodeSteps)
+module _ (laws : DuringLaws) (plan : Plan) (rules : KeepsRules plan) (t : ℕ) (within : t < plan.ticks) (w : WorldState) (during : IsDuring plan.tree t w) (w1 w2 w3 : WorldState)
+    (steps : List NodeSteps)
     (script : w1 ≡ after_script plan t w) (made : AreSteps w1 w2 steps) where
   scripted_stays : IsDuring plan.tree t w1
   scripted_stays = subst (IsDuring plan.tree t) (sym script) (laws.all_stay plan.tree t (map (λ (e : ℕ × WorldEvent). e.1) (script_at plan t)) w (laws.scripted plan t rules) during)

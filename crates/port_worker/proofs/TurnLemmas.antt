@@ -42,7 +42,8 @@ first_at lock (suc n) k pass e =
     by (λ h. first_at lock n k pass h) (get_push {X = PortPass} (first_passes lock n) (record { lock = lock; number = n + 1; seen = [] }) pass k e)
   where
     by : (slice_get (first_passes lock n) k ≡ Some pass → IsFirst lock n k pass)
-        → (slice_get (first_passes lock n) k ≡ Some pass) ⊎ ((k ≡ length {A = PortPass} (first_passes lock n)) × (record { lock = lock; number = n + 1; seen = [] } ≡ pass)) → IsFirst lock (suc n) k pass
+        → (slice_get (first_passes lock n) k ≡ Some pass) ⊎ ((k ≡ length {A = PortPass} (first_passes lock n)) × (record { lock = lock; number = n + 1; seen = [] } ≡ pass))
+        → IsFirst lock (suc n) k pass
     by rec (inl h) = let there = rec h in let few = there.few in record { few = omega (arith, few); lock_is = there.lock_is; number = there.number; new = there.new }
     by rec (inr h) =
         let count = first_count lock n in

@@ -3,7 +3,7 @@ use Rattle.std.specs.Prelude.{◌≡◌, ◌≢◌, ◌<◌, ◌^◌, ℕ, suc, 
 use Rattle.std.specs.List.{AllByRecursion}
 use Rattle.srp_base.specs.declared.numbers.NodeNo.{NodeNo}
 use Rattle.srp_base.specs.declared.numbers.EgressPort.{EgressPort}
-use Rattle.tree_topology.specs.Topology.{Topology, IsSound, HasPort}
+use Rattle.tree_topology.specs.Topology.{Topology, IsSound, HasPort, link_ports}
 use Rattle.tree_topology.specs.PortLaws.{HasPortLaws}
 use Rattle.topology_file.specs.Plan.{Plan}
 use Rattle.topology_file.specs.Scenario.{KeepsRules}
@@ -16,7 +16,7 @@ use Rattle.world_core.specs.declared.journal.Tick.{Tick}
 use Rattle.world_core.specs.World.{WorldState, CanHappen, IsEventInRange, node_at, world_step, world_after, replies_to}
 use Rattle.world_core.specs.Apart.{events_of, replies_of, HavePorts, HaveOwnReplies, after_own}
 use Rattle.world_core.specs.Kept.{IsKeptWorld}
-use Rattle.world_core.specs.Ticks.{script_at, link_ports, step_events, step_replies, steps_of, jobs_of, AscendByNode, tick_events, after_steps, IsLegalTick}
+use Rattle.world_core.specs.Ticks.{script_at, step_events, step_replies, steps_of, jobs_of, AscendByNode, tick_events, after_steps, IsLegalTick}
 use Rattle.world_core.specs.During.{IsDuring, IsAllowed}
 use Rattle.world_core.specs.Carrying.{NothingWaits}
 use Rattle.world_core.specs.History.{HistoryState, acts_noted}

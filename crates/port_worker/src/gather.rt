@@ -142,7 +142,8 @@ pub(crate) fn few_are_on_their_way(world: &World)
 // So it is at each port of a node.
 fn few_from_node(world: &World, node: NodeNo)
     requires { HasNode world.now.tree node.0 }
-    ensures { (app : app_type) (port : _) → HasPort world.now.tree (record { node = node; port = port })
+    ensures { (app : app_type) (port : _)
+        → HasPort world.now.tree (record { node = node; port = port })
         → (mark_at app (record { node = node; port = port }) world.now.marks).flying < 2 ^ 65 }
 {
     for k in 0..world.tree().ports(node) {

@@ -7,6 +7,7 @@ use Rattle.srp_base.specs.declared.numbers.EgressPort.{EgressPort}
 use Rattle.srp_base.specs.declared.numbers.NodeNo.{NodeNo}
 use Rattle.tree_topology.specs.declared.graph.NodeKind.{NodeKind}
 use Rattle.tree_topology.specs.declared.graph.NodeKind.TheVariants.{Station, Bridge}
+use Rattle.tree_topology.specs.Topology.{link_ports}
 use Rattle.topology_file.specs.Plan.{Plan}
 use Rattle.topology_file.specs.declared.entries.StreamEntry.{StreamEntry}
 use Rattle.frame_flow.specs.declared.result.PortFlow.{PortFlow}
@@ -19,7 +20,6 @@ use Rattle.world_core.specs.declared.journal.Tick.{Tick}
 use Rattle.world_core.specs.World.{WorldState, node_at, is_quiet, is_in_step}
 use Rattle.report_words.specs.Lines.{ticks_line, port_line, end_lines}
 use Rattle.report_words.specs.Names.{name_of, port_name}
-use Rattle.report_words.specs.Ports.{link_ports}
 use Rattle.srp_report.specs.Counts.{replies_of, tally_of}
 use Rattle.srp_report.specs.FrameLines.{flow_parts}
 use Rattle.srp_report.specs.Lines.{vlan_line, srp_line, booked_line, heard_line}

@@ -9,7 +9,7 @@ use Rattle.srp_base.specs.declared.streams.ListenerKind.{ListenerKind}
 use Rattle.srp_base.specs.declared.streams.ListenerKind.TheVariants.{Ready}
 use Rattle.tree_topology.specs.declared.graph.NodeKind.{NodeKind}
 use Rattle.tree_topology.specs.declared.graph.NodeKind.TheVariants.{Station, Bridge}
-use Rattle.tree_topology.specs.Topology.{Topology}
+use Rattle.tree_topology.specs.Topology.{Topology, link_ports}
 use Rattle.topology_file.specs.Plan.{Plan}
 use Rattle.topology_file.specs.declared.entries.StreamEntry.{StreamEntry}
 use Rattle.attribute_propagation.specs.Ports.{place_of}
@@ -19,7 +19,6 @@ use Rattle.node_core.specs.declared.types.StepReply.{StepReply}
 use Rattle.world_core.specs.declared.journal.Tick.{Tick}
 use Rattle.world_core.specs.World.{WorldState, node_at}
 use Rattle.report_words.specs.declared.tally.Tally.{Tally}
-use Rattle.report_words.specs.Ports.{link_ports}
 use Rattle.report_words.specs.Tally.{count_of}
 use Rattle.srp_report.specs.Counts.{replies_of, tally_of}
 use Rattle.srp_report.specs.Report.{behind_frames}

@@ -46,7 +46,8 @@ impl Outcomes {
     /// What became of the copies of a port's flow, those that depart ascending by start.
     pub(crate) fn of(alloc: Global, flow: &PortFlow) -> Result<Outcomes, NoMemory>
         ensures counts { IfOk result (λ o. o.counts ≡ fate_counts flow.now.fates) }
-        ensures sent { IfOk result (λ o. o.sent.items ≡ by_start (sent_frames_spec flow.now.fates)) }
+        ensures sent { IfOk result (λ o. o.sent.items
+            ≡ by_start (sent_frames_spec flow.now.fates)) }
     {
         let Outcomes { counts, sent } = outcomes_by_arrival(alloc, flow)?;
         Ok(Outcomes {

@@ -38,7 +38,8 @@ pub(crate) fn put_srp(
     content: Option<MsrpContent>,
     state: Registrar,
 ) -> Result<(), AllocError>
-    ensures { OnOk result (out.new.items ≡ out.old.items ++ srp_line domains port.now key content state) }
+    ensures { OnOk result (out.new.items ≡ out.old.items
+        ++ srp_line domains port.now key content state) }
 {
     match key {
         MsrpKey::Talker(stream) => put_talker(out, port, stream, content, state),

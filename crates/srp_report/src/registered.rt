@@ -26,7 +26,8 @@ pub(crate) fn put_place(
 ) -> Result<(), NoMemory>
     requires { HasPort world.now.tree at }
     ensures { OnOk result (out.new.items ≡ out.old.items
-        ++ option_map_or (place_lines domains port.now (place_of at.port)) (node_at at.node world.now) []) }
+        ++ option_map_or (place_lines domains port.now (place_of at.port))
+        (node_at at.node world.now) []) }
 {
     world.keeps();
     let node = world.node(at.node);

@@ -44,10 +44,12 @@ pub record IsNotedTo (plan : Plan) (t : ℕ) (made : List Tick) (w : WorldState)
 pub changes_are : (plan : Plan) (t : ℕ) (made : List Tick) (w : WorldState) (i : ℕ) (changes : List PortChange) → IsNotedTo plan t made w i changes → AreChanges plan.tree t changes
 changes_are plan t made w i changes h = subst (λ (k : ℕ). AreChanges plan.tree k changes) h.many h.timeline.are
 
-pub none_noted : (plan : Plan) → IsDuring plan.tree 0 (world_of plan) → NothingWaits (world_of plan) → IsTimelineOf plan [] [] → SaysFrom 0 [] (world_of plan) → IsNotedTo plan 0 [] (world_of plan) 0 []
+pub none_noted : (plan : Plan) → IsDuring plan.tree 0 (world_of plan) → NothingWaits (world_of plan) → IsTimelineOf plan [] [] → SaysFrom 0 [] (world_of plan)
+    → IsNotedTo plan 0 [] (world_of plan) 0 []
 none_noted plan during waits timeline says = record { run = no_tick plan during; many = refl; reached = refl; timeline = timeline; says = says; waits = waits }
 
-module _ (laws : TimelineLaws) (plan : Plan) (t : ℕ) (ticks : List Tick) (w v : WorldState) (cursor next : ℕ) (tick : Tick) (changes after : List PortChange) (before : IsNotedTo plan t ticks w cursor changes)
+module _ (laws : TimelineLaws) (plan : Plan) (t : ℕ) (ticks : List Tick) (w v : WorldState) (cursor next : ℕ) (tick : Tick) (changes after : List PortChange)
+    (before : IsNotedTo plan t ticks w cursor changes)
     (legal : IsLegalTick plan t w tick) (made : v ≡ world_after (tick_events plan t tick) w) (is : after ≡ acts_noted t tick.steps (after_steps plan t tick w) changes) where
   abbrev u : WorldState
   u = after_steps plan t tick w

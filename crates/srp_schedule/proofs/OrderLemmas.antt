@@ -55,7 +55,8 @@ canonical_is n w s is = four _ _ _ _ _ _ _ _ (that Works) (that Dues) (that Sett
     count : option_map_or ports_of (node_at n w) 0 ≡ ports_of s
     count = ap (λ o. option_map_or ports_of o 0) is
 
-    that : (turn : Turn) → flat_map (λ p. map (λ step. (p.port, step)) (filter (is_in_turn turn) (jobs_of p w))) (node_ports n w) ≡ turn_from turn 1 (map (λ at. job_list at s) (range_with_len 0 (ports_of s)))
+    that : (turn : Turn) → flat_map (λ p. map (λ step. (p.port, step)) (filter (is_in_turn turn) (jobs_of p w))) (node_ports n w)
+        ≡ turn_from turn 1 (map (λ at. job_list at s) (range_with_len 0 (ports_of s)))
     that turn =
         ap (λ (c : ℕ). flat_map (λ p. map (λ step. (p.port, step)) (filter (is_in_turn turn) (jobs_of p w))) (map (λ k. record { node = n; port = record { 0 = k } }) (range_with_len 1 c))) count
         ∙ turn_is turn n (λ p. jobs_of p w) (λ at. job_list at s) (jobs_are n w s is) 0 (ports_of s)
@@ -172,14 +173,16 @@ at_own : (k m : ℕ) (steps : List PortStep) → m ≡ k → at_port k (map (λ 
 at_own k m [] e = refl
 at_own k m (step ∷ steps) e =
     let later : List (PortNo × PortStep) = map (λ x. (record { 0 = m }, x)) steps in
-    ap (λ (b : Bool). map (λ (j : PortNo × PortStep). j.1) (if b then (record { 0 = m }, step) ∷ filter (λ (j : PortNo × PortStep). j.0.0 == k) later else filter (λ (j : PortNo × PortStep). j.0.0 == k) later)) (same_is m k e)
+    ap (λ (b : Bool). map (λ (j : PortNo × PortStep). j.1) (if b then (record { 0 = m }, step) ∷ filter (λ (j : PortNo × PortStep). j.0.0 == k) later
+    else filter (λ (j : PortNo × PortStep). j.0.0 == k) later)) (same_is m k e)
     ∙ ap (λ x. step ∷ x) (at_own k m steps e)
 
 at_other : (k m : ℕ) (steps : List PortStep) → m ≢ k → at_port k (map (λ step. (record { 0 = m }, step)) steps) ≡ []
 at_other k m [] ne = refl
 at_other k m (step ∷ steps) ne =
     let later : List (PortNo × PortStep) = map (λ x. (record { 0 = m }, x)) steps in
-    ap (λ (b : Bool). map (λ (j : PortNo × PortStep). j.1) (if b then (record { 0 = m }, step) ∷ filter (λ (j : PortNo × PortStep). j.0.0 == k) later else filter (λ (j : PortNo × PortStep). j.0.0 == k) later)) (other_is m k ne)
+    ap (λ (b : Bool). map (λ (j : PortNo × PortStep). j.1) (if b then (record { 0 = m }, step) ∷ filter (λ (j : PortNo × PortStep). j.0.0 == k) later
+    else filter (λ (j : PortNo × PortStep). j.0.0 == k) later)) (other_is m k ne)
     ∙ at_other k m steps ne
 
 turn_below : (turn : Turn) (k m : ℕ) (jobs : List (List PortStep)) → k < m → at_port k (turn_from turn m jobs) ≡ []
@@ -241,7 +244,8 @@ joined : (ws s : List PortStep) → ws ++ [] ++ (Due ∷ []) ++ (Settle ∷ []) 
 joined [] s = refl
 joined (w ∷ ws) s = ap (λ x. w ∷ x) (joined ws s)
 
-busy_turns : {X : Type 0} (ws : List X) (c : Bool) → turns (map (λ _. Work) ws ++ (Due ∷ Settle ∷ (if c then Send Mvrp ∷ Send Msrp ∷ [] else []))) ≡ map (λ _. Work) ws ++ (Due ∷ Settle ∷ (if c then Send Mvrp ∷ Send Msrp ∷ [] else []))
+busy_turns : {X : Type 0} (ws : List X) (c : Bool) → turns (map (λ _. Work) ws ++ (Due ∷ Settle ∷ (if c then Send Mvrp ∷ Send Msrp ∷ [] else [])))
+    ≡ map (λ _. Work) ws ++ (Due ∷ Settle ∷ (if c then Send Mvrp ∷ Send Msrp ∷ [] else []))
 busy_turns ws true =
     let r : List PortStep = Due ∷ Settle ∷ Send Mvrp ∷ Send Msrp ∷ [] in
     four _ _ _ _ _ _ _ _ (works_in ws r) (dues_out ws r) (settles_out ws r) (sends_out ws r) ∙ joined (map (λ _. Work) ws) (Send Mvrp ∷ Send Msrp ∷ [])

@@ -187,7 +187,8 @@ at_pairs port (st ∷ made) = by (st.port.0 == port.0) (at_pairs port made)
   where
     by : (b : Bool) → steps_at_port port made ≡ at_port port.0 (map (λ st. (st.port, st.step)) made)
         → map (λ (s : NodeStep). s.step) (if b then st ∷ filter (λ s. s.port.0 == port.0) made else filter (λ s. s.port.0 == port.0) made)
-        ≡ map (λ (j : PortNo × PortStep). j.1) (if b then (st.port, st.step) ∷ filter (λ j. j.0.0 == port.0) (map (λ s. (s.port, s.step)) made) else filter (λ j. j.0.0 == port.0) (map (λ s. (s.port, s.step)) made))
+        ≡ map (λ (j : PortNo × PortStep). j.1) (if b then (st.port, st.step) ∷ filter (λ j. j.0.0 == port.0) (map (λ s. (s.port, s.step)) made)
+        else filter (λ j. j.0.0 == port.0) (map (λ s. (s.port, s.step)) made))
     by true e = ap (λ r. st.step ∷ r) e
     by false e = e
 
@@ -219,7 +220,8 @@ module _ (n : NodeNo) (x : ℕ) (start w v : WorldState) (made : List NodeSteps)
       ap (λ (u : WorldState). slice_get u.nodes m) after
       ∙ (steps_other n steps w m (λ e. omega (arith, e, le, number)) ∙ so_far.others m (omega (arith, le)))
 
-  own_jobs : (steps : List NodeStep) → map (λ st. (st.port, st.step)) steps ≡ canonical_order n start → (p : EgressPort) → HasPort start.tree p → p.node.0 ≡ n.0 → steps_at_port p.port steps ≡ jobs_of p start
+  own_jobs : (steps : List NodeStep) → map (λ st. (st.port, st.step)) steps ≡ canonical_order n start → (p : EgressPort) → HasPort start.tree p → p.node.0 ≡ n.0
+      → steps_at_port p.port steps ≡ jobs_of p start
   own_jobs steps order p has same =
       at_pairs p.port steps
       ∙ (ap (λ j. at_port p.port.0 j) order
@@ -257,7 +259,8 @@ module _ (n : NodeNo) (x : ℕ) (start w v : WorldState) (made : List NodeSteps)
       let order = m.order ∙ same_order in
       record {
         steps = record {
-          within = each_append (λ q. q.node.0 ≤ x + 1) made (ns ∷ []) (each_more (λ q. q.node.0 ≤ x) (λ q. q.node.0 ≤ x + 1) made (λ q le. omega (arith, le)) so_far.steps.within) (omega (arith, number), tt);
+          within = each_append (λ q. q.node.0 ≤ x + 1) made (ns ∷ []) (each_more (λ q. q.node.0 ≤ x) (λ q. q.node.0 ≤ x + 1) made (λ q le. omega (arith, le)) so_far.steps.within)
+              (omega (arith, number), tt);
           nodes = ascend_more ns x made (omega (arith, number)) so_far.steps.within so_far.steps.nodes;
           some = each_append (λ q. q.steps ≢ []) made (ns ∷ []) so_far.steps.some (λ e. cc, tt);
           known = each_append (λ q. AllByRecursion (λ r. HasPort start.tree (record { node = q.node; port = r.port })) q.steps) made (ns ∷ []) so_far.steps.known

@@ -3,7 +3,7 @@ use Rattle.std.proofs.Common.{◌≡◌, ℕ, suc, ◌+◌, ◌<◌, ◌^◌, fa
 use Rattle.std.specs.List.{AllByRecursion}
 use Rattle.srp_base.specs.declared.numbers.NodeNo.{NodeNo}
 use Rattle.srp_base.specs.declared.ports.PortChange.{PortChange}
-use Rattle.tree_topology.specs.Topology.{Topology, HasPort}
+use Rattle.tree_topology.specs.Topology.{Topology, HasPort, link_ports}
 use Rattle.topology_file.specs.Plan.{Plan}
 use Rattle.topology_file.specs.Scenario.{KeepsRules}
 use Rattle.node_core.specs.declared.types.NodeStep.{NodeStep}
@@ -14,7 +14,7 @@ use Rattle.world_core.specs.declared.journal.NodeSteps.{NodeSteps}
 use Rattle.world_core.specs.declared.journal.Tick.{Tick}
 use Rattle.world_core.specs.World.{WorldState, CanHappen, world_step, world_after, replies_to}
 use Rattle.world_core.specs.Start.{world_of}
-use Rattle.world_core.specs.Ticks.{script_at, after_script, after_steps, step_events, link_ports, tick_events, LeadTo, IsCanonicalTick}
+use Rattle.world_core.specs.Ticks.{script_at, after_script, after_steps, step_events, tick_events, LeadTo, IsCanonicalTick}
 use Rattle.world_core.specs.During.{IsDuring, IsAllowed}
 use Rattle.world_core.specs.Carrying.{NothingWaits, has_send}
 use Rattle.world_core.specs.History.{HasPortsOf, acts_noted}
@@ -26,10 +26,12 @@ use Rattle.srp_schedule.proofs.StepLemmas.{after_append}
 -- nothing is carried where the steps sent nothing
 pub nothing_carried : ((plan : Plan) (t : ℕ) (w : WorldState) (tick : Tick) → IsDuring plan.tree t w → NothingWaits w → has_send tick.steps ≡ false
     → world_after (map Carry (link_ports plan.tree)) (after_steps plan t tick w) ≡ after_steps plan t tick w)
-    → (plan : Plan) (t : ℕ) (w : WorldState) → IsDuring plan.tree t w → NothingWaits w → (v : WorldState) (tick : Tick) → v ≡ after_steps plan t tick w → v.tree ≡ plan.tree → has_send tick.steps ≡ false
+    → (plan : Plan) (t : ℕ) (w : WorldState) → IsDuring plan.tree t w → NothingWaits w → (v : WorldState) (tick : Tick) → v ≡ after_steps plan t tick w → v.tree ≡ plan.tree
+    → has_send tick.steps ≡ false
     → world_after (map Carry (link_ports v.tree)) v ≡ v
 nothing_carried law plan t w during waits v tick is tree isnt =
-    ap (λ (r : Topology). world_after (map Carry (link_ports r)) v) tree ∙ (ap (λ (u : WorldState). world_after (map Carry (link_ports plan.tree)) u) is ∙ (law plan t w tick during waits isnt ∙ sym is))
+    ap (λ (r : Topology). world_after (map Carry (link_ports r)) v) tree
+    ∙ (ap (λ (u : WorldState). world_after (map Carry (link_ports plan.tree)) u) is ∙ (law plan t w tick during waits isnt ∙ sym is))
 
 -- ---- one tick
 
@@ -81,7 +83,8 @@ module _ (laws : DuringLaws) (plan : Plan) (rules : KeepsRules plan) (t : ℕ) (
   pub scripted_stays : (w1 : WorldState) → w1 ≡ after_script plan t w → IsDuring plan.tree t w1
   scripted_stays w1 is = subst (IsDuring plan.tree t) (sym is) (laws.all_stay plan.tree t (map (λ (e : ℕ × WorldEvent). e.1) (script_at plan t)) w (laws.scripted plan t rules) during)
 
-  pub stepped_stays : (w1 w2 : WorldState) (steps : List NodeSteps) → w1 ≡ after_script plan t w → AreSteps (length w1.tree.kinds) w1 steps → w2 ≡ world_after (step_events steps) w1 → IsDuring plan.tree t w2
+  pub stepped_stays : (w1 w2 : WorldState) (steps : List NodeSteps) → w1 ≡ after_script plan t w → AreSteps (length w1.tree.kinds) w1 steps → w2 ≡ world_after (step_events steps) w1
+      → IsDuring plan.tree t w2
   stepped_stays w1 w2 steps is made after =
       let here = scripted_stays w1 is in
       let allowed = subst (λ (tree : Topology). AllByRecursion (IsAllowed tree) (step_events steps)) here.tree_is (steps_allowed w1.tree steps made.known) in
@@ -126,7 +129,8 @@ module _ (laws : DuringLaws) (plan : Plan) (rules : KeepsRules plan) (t : ℕ) (
     steps_reach : w2 ≡ after_steps plan t tick w
     steps_reach = made.stepped ∙ ap (λ (u : WorldState). world_after (step_events tick.steps) u) made.script
 
-    pub steps_noted : (steps : List NodeSteps) (before after : List PortChange) → tick.steps ≡ steps → after ≡ acts_noted t steps w2 before → after ≡ acts_noted t tick.steps (after_steps plan t tick w) before
+    pub steps_noted : (steps : List NodeSteps) (before after : List PortChange) → tick.steps ≡ steps → after ≡ acts_noted t steps w2 before
+        → after ≡ acts_noted t tick.steps (after_steps plan t tick w) before
     steps_noted steps before after same is =
         is ∙ ap (λ (nodes : List NodeSteps). acts_noted t nodes w2 before) (sym same) ∙ ap (λ (u : WorldState). acts_noted t tick.steps u before) steps_reach
 

@@ -1,14 +1,14 @@
 -- One tick of the plain run, and what it rests on.
 use Rattle.std.specs.Prelude.{◌≡◌, ◌<◌, ◌^◌, ℕ, suc, List, map}
 use Rattle.std.specs.List.{AllByRecursion}
-use Rattle.tree_topology.specs.Topology.{Topology}
+use Rattle.tree_topology.specs.Topology.{Topology, link_ports}
 use Rattle.topology_file.specs.Plan.{Plan}
 use Rattle.topology_file.specs.Scenario.{KeepsRules}
 use Rattle.world_core.specs.declared.events.WorldEvent.{WorldEvent}
 use Rattle.world_core.specs.declared.events.WorldEvent.TheVariants.{Carry, Clock}
 use Rattle.world_core.specs.declared.journal.Tick.{Tick}
 use Rattle.world_core.specs.World.{WorldState, CanHappen, world_step, world_after}
-use Rattle.world_core.specs.Ticks.{script_at, link_ports, tick_events, after_steps, IsCanonicalTick}
+use Rattle.world_core.specs.Ticks.{script_at, tick_events, after_steps, IsCanonicalTick}
 use Rattle.world_core.specs.During.{IsDuring, IsAllowed}
 use Rattle.world_core.specs.Carrying.{NothingWaits}
 use Rattle.world_core.specs.History.{HistoryState, acts_noted}

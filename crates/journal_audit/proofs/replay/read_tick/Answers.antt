@@ -20,7 +20,8 @@ returns-then-not-branch-clause-stuck c =
 pub read_nodes-requires-clause-during : goal.read_nodes-requires-clause-during
 read_nodes-requires-clause-during c =
     subst (IsDuring c.args.scenario.now.tree c.args.t) (sym c.in_ok-events.ensures.after)
-    (scripted_stays c.args.scenario.now c.laws_of_replay.ensures c.args.t c.args.world.now c.requires.during c.requires.within c.in_ok-events.events.items c.in_ok-events.ensures.numbers c.in_ok-events.ensures.answers)
+    (scripted_stays c.args.scenario.now c.laws_of_replay.ensures c.args.t c.args.world.now c.requires.during c.requires.within c.in_ok-events.events.items c.in_ok-events.ensures.numbers
+    c.in_ok-events.ensures.answers)
 
 pub returns-in_default-clause-stuck : goal.returns-in_default-clause-stuck
 returns-in_default-clause-stuck c =
@@ -28,7 +29,8 @@ returns-in_default-clause-stuck c =
     let answers = c.in_ok-events.events.items in
     steps_stuck plan c.laws_of_replay.ensures c.args.t c.args.world.now c.requires.during c.requires.within answers c.in_ok-events.ensures.numbers c.in_ok-events.ensures.answers
     c.make_events.new.world c.args.lines.now c.read_answers.new.lines c.read_nodes.new.lines.read c.in_ok-events.ensures.after
-    (subst (λ (es : List (ℕ × WorldReply)). AreTaken (answer_lines c.args.t es) c.args.lines.now c.read_answers.new.lines) c.as_slice.ensures.value (c.in_ok-read_answers.ensures.read c.if-not-branch.false))
+    (subst (λ (es : List (ℕ × WorldReply)). AreTaken (answer_lines c.args.t es) c.args.lines.now c.read_answers.new.lines) c.as_slice.ensures.value
+    (c.in_ok-read_answers.ensures.read c.if-not-branch.false))
     (of_none (IsStuck (FollowNodes plan c.args.t 1 c.make_events.new.world) c.read_answers.new.lines c.read_nodes.new.lines.read) c.in_ok-steps.field-0 c.in_default.is c.in_ok-steps.ensures.stuck)
 
 pub returns-clause-read : goal.returns-clause-read
@@ -42,6 +44,8 @@ returns-clause-read c =
     c.in_ok-steps.field-0 steps c.in-Some.is c.in_ok-steps.ensures.read
     in
     tick_read plan c.laws_of_replay.ensures c.args.t c.args.world.now c.requires.during c.requires.within answers c.in_ok-events.ensures.numbers c.in_ok-events.ensures.answers
-    c.make_events.new.world c.read_nodes.new.world c.args.lines.now c.read_answers.new.lines c.read_nodes.new.lines steps.items tick c.in_ok-events.ensures.after c.from_vec.ensures c.from_vec-2.ensures
-    (subst (λ (es : List (ℕ × WorldReply)). AreTaken (answer_lines c.args.t es) c.args.lines.now c.read_answers.new.lines) c.as_slice.ensures.value (c.in_ok-read_answers.ensures.read c.if-not-branch.false))
+    c.make_events.new.world c.read_nodes.new.world c.args.lines.now c.read_answers.new.lines c.read_nodes.new.lines steps.items tick c.in_ok-events.ensures.after c.from_vec.ensures
+    c.from_vec-2.ensures
+    (subst (λ (es : List (ℕ × WorldReply)). AreTaken (answer_lines c.args.t es) c.args.lines.now c.read_answers.new.lines) c.as_slice.ensures.value
+    (c.in_ok-read_answers.ensures.read c.if-not-branch.false))
     nodes

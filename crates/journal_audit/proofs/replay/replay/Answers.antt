@@ -43,7 +43,8 @@ loop-t-preserved c =
     let test = c.loop-t-test.true in
     let within : c.loop-t.t < plan.ticks = omega (arith, same, test) in
     let later : suc c.loop-t.t ≡ c.loop-t.t + 1 = omega arith in (
-      subst (λ (ticks : List Tick). AreTicksRead plan (c.loop-t.t + 1) c.args.lines.now ticks c.end_tick.new.world c.in_ok-history-2.history c.read_tick.new.lines) (sym {A = List Tick} c.in_ok-push.ensures.items)
+      subst (λ (ticks : List Tick). AreTicksRead plan (c.loop-t.t + 1) c.args.lines.now ticks c.end_tick.new.world c.in_ok-history-2.history c.read_tick.new.lines)
+          (sym {A = List Tick} c.in_ok-push.ensures.items)
           (ticks_more plan c.laws_of_replay.ensures c.loop-t.t c.args.lines.now c.loop-t.lines c.read_tick.new.lines c.loop-t.ticks.items tick c.loop-t.world c.read_tick.new.world c.end_tick.new.world
           c.loop-t.history c.in_ok-history-2.history
           (c.a_noted_run_goes_on.ensures.next plan c.loop-t.t c.loop-t.ticks.items c.loop-t.world tick c.loop-t.history.changes c.laws_of_replay.ensures.rules within)

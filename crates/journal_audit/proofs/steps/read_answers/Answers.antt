@@ -15,7 +15,8 @@ returns-then-not-branch-clause-other c =
     let none : ℕ × WorldReply = (0, Step Nothing) in
     let e : ℕ × WorldReply = get_or answers i none in
     λ isnt.
-    other_answer c.args.t answers (take i answers) (drop (suc i) answers) e c.args.lines.now c.loop-answer.lines c.read_answer.new.lines (at_place answers i none c.loop-answer-test.true) c.loop-answer.invariant
+    other_answer c.args.t answers (take i answers) (drop (suc i) answers) e c.args.lines.now c.loop-answer.lines c.read_answer.new.lines (at_place answers i none c.loop-answer-test.true)
+    c.loop-answer.invariant
     (subst (TakesOrStays (answer_line c.args.t e) c.loop-answer.lines c.read_answer.new.lines) c.if-not-branch.true c.in_ok-read_answer.ensures)
 
 pub loop-answer-preserved : goal.loop-answer-preserved
@@ -24,5 +25,6 @@ loop-answer-preserved c =
     let i = c.loop-answer.answer-index in
     let none : ℕ × WorldReply = (0, Step Nothing) in
     let e : ℕ × WorldReply = get_or answers i none in
-    answers_more c.args.t (take i answers) (take (i + 1) answers) e c.args.lines.now c.loop-answer.lines c.read_answer.new.lines (take_place answers i none c.loop-answer-test.true) c.loop-answer.invariant
+    answers_more c.args.t (take i answers) (take (i + 1) answers) e c.args.lines.now c.loop-answer.lines c.read_answer.new.lines (take_place answers i none c.loop-answer-test.true)
+    c.loop-answer.invariant
     (subst (TakesOrStays (answer_line c.args.t e) c.loop-answer.lines c.read_answer.new.lines) c.if-not-branch.false c.in_ok-read_answer.ensures)

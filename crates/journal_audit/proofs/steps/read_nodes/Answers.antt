@@ -18,7 +18,8 @@ returns-in_default-clause-stuck c =
     let test = c.loop-x-test.true in
     let same : length c.scenario.inside.tree.kinds ≡ length plan.tree.kinds = ap (λ (p : Plan). length p.tree.kinds) c.scenario.view_is in
     let known : HasNode plan.tree (c.loop-x.x + 1) = (omega arith, omega (arith, count, test, same)) in
-    nodes_stuck plan c.laws_of_replay.ensures c.args.t (c.loop-x.x + 1) c.args.world.now c.loop-x.world c.args.lines.now c.loop-x.lines c.loop-x.steps.items c.read_node.new.lines.read known c.loop-x.invariant
+    nodes_stuck plan c.laws_of_replay.ensures c.args.t (c.loop-x.x + 1) c.args.world.now c.loop-x.world c.args.lines.now c.loop-x.lines c.loop-x.steps.items c.read_node.new.lines.read known
+    c.loop-x.invariant
     (of_none (IsStuck (FollowJobs plan c.args.t (c.loop-x.x + 1) (node_jobs (node (c.loop-x.x + 1)) c.loop-x.world) c.loop-x.world) c.loop-x.lines c.read_node.new.lines.read)
     c.in_ok-made.field-0 c.in_default.is c.in_ok-made.ensures.stuck)
 
@@ -37,6 +38,8 @@ loop-x-preserved c =
     in
     let later : suc (c.loop-x.x + 1) ≡ c.loop-x.x + 1 + 1 = omega arith in
     subst (λ (k : ℕ). AreNodesRead plan c.args.t k c.args.world.now c.args.lines.now c.push_steps.new.steps.items c.read_node.new.world c.read_node.new.lines) later
-    (subst (λ (steps : List NodeSteps). AreNodesRead plan c.args.t (suc (c.loop-x.x + 1)) c.args.world.now c.args.lines.now steps c.read_node.new.world c.read_node.new.lines) (sym {A = List NodeSteps} c.in_ok-push_steps.ensures)
-    (nodes_more plan c.laws_of_replay.ensures c.args.t (c.loop-x.x + 1) c.args.world.now c.loop-x.world c.read_node.new.world c.args.lines.now c.loop-x.lines c.read_node.new.lines c.loop-x.steps.items made.items
+    (subst (λ (steps : List NodeSteps). AreNodesRead plan c.args.t (suc (c.loop-x.x + 1)) c.args.world.now c.args.lines.now steps c.read_node.new.world c.read_node.new.lines)
+    (sym {A = List NodeSteps} c.in_ok-push_steps.ensures)
+    (nodes_more plan c.laws_of_replay.ensures c.args.t (c.loop-x.x + 1) c.args.world.now c.loop-x.world c.read_node.new.world c.args.lines.now c.loop-x.lines c.read_node.new.lines
+    c.loop-x.steps.items made.items
     known c.loop-x.invariant one))

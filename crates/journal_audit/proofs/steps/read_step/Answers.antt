@@ -11,7 +11,8 @@ use Rattle.journal_audit.proofs.steps.read_step.Goals as goal
 
 pub returns-in_default-clause-stuck : goal.returns-in_default-clause-stuck
 returns-in_default-clause-stuck c =
-    none_stuck c.args.scenario.now c.laws_of_replay.ensures c.args.t c.args.number.0 c.args.left.now.items c.args.world.now c.requires.node c.requires.ports c.args.lines.now c.requires.within c.requires.during c.requires.some
+    none_stuck c.args.scenario.now c.laws_of_replay.ensures c.args.t c.args.number.0 c.args.left.now.items c.args.world.now c.requires.node c.requires.ports c.args.lines.now c.requires.within
+    c.requires.during c.requires.some
     (subst (λ (ps : List LeftState). (at : ℕ) (p : LeftState) → slice_get ps at ≡ Some p → MayBeNext c.args.lines.now p → ⊥) c.as_slice.ensures.value c.in_default.ensures.none)
 
 pub index_mut-requires : goal.index_mut-requires
@@ -38,23 +39,29 @@ overflow_add-place c =
 
 pub make_step-requires : goal.make_step-requires
 make_step-requires c =
-    let found = found_port c.args.left.now.items c.as_slice.result.now c.in-Some.place c.args.lines.now c.index_mut.result.now c.as_slice.ensures.value c.in-Some.ensures.some c.index_mut.ensures.value in
+    let found = found_port c.args.left.now.items c.as_slice.result.now c.in-Some.place c.args.lines.now c.index_mut.result.now c.as_slice.ensures.value c.in-Some.ensures.some
+    c.index_mut.ensures.value in
     subst (λ (tree : Topology). HasPort tree (record { node = c.args.number; port = record { 0 = c.in-Some.place + 1 } })) (sym c.requires.during.tree_is)
-    (job_port c.args.scenario.now c.laws_of_replay.ensures c.args.t c.args.number.0 c.args.left.now.items c.args.world.now c.requires.node c.requires.ports c.in-Some.place c.index_mut.result.now found.0)
+    (job_port c.args.scenario.now c.laws_of_replay.ensures c.args.t c.args.number.0 c.args.left.now.items c.args.world.now c.requires.node c.requires.ports c.in-Some.place c.index_mut.result.now
+    found.0)
 
 pub read_line-requires : goal.read_line-requires
 read_line-requires c =
-    let found = found_port c.args.left.now.items c.as_slice.result.now c.in-Some.place c.args.lines.now c.index_mut.result.now c.as_slice.ensures.value c.in-Some.ensures.some c.index_mut.ensures.value in
+    let found = found_port c.args.left.now.items c.as_slice.result.now c.in-Some.place c.args.lines.now c.index_mut.result.now c.as_slice.ensures.value c.in-Some.ensures.some
+    c.index_mut.ensures.value in
     subst (λ (p : PortNo). HasPort c.args.scenario.now.tree (record { node = c.args.number; port = p })) (sym (ap (λ (j : PortNo × PortStep). j.0) c.in_ok-made.ensures.job))
-    (job_port c.args.scenario.now c.laws_of_replay.ensures c.args.t c.args.number.0 c.args.left.now.items c.args.world.now c.requires.node c.requires.ports c.in-Some.place c.index_mut.result.now found.0)
+    (job_port c.args.scenario.now c.laws_of_replay.ensures c.args.t c.args.number.0 c.args.left.now.items c.args.world.now c.requires.node c.requires.ports c.in-Some.place c.index_mut.result.now
+    found.0)
 
 pub returns-then-taken-clause-read : goal.returns-then-taken-clause-read
 returns-then-taken-clause-read c =
     let ports = c.args.left.now.items in
     let found = found_port ports c.as_slice.result.now c.in-Some.place c.args.lines.now c.index_mut.result.now c.as_slice.ensures.value c.in-Some.ensures.some c.index_mut.ensures.value in
-    step_is c.args.scenario.now c.laws_of_replay.ensures c.args.t c.args.number.0 ports c.args.world.now c.requires.node c.requires.ports c.in-Some.place c.index_mut.result.now c.take_job-step.new.self
+    step_is c.args.scenario.now c.laws_of_replay.ensures c.args.t c.args.number.0 ports c.args.world.now c.requires.node c.requires.ports c.in-Some.place c.index_mut.result.now
+    c.take_job-step.new.self
     (slice_set ports c.in-Some.place c.take_job-step.new.self) c.take_job-step.result c.in_ok-made.made c.make_step.new.world c.args.lines.now c.read_line.new.lines found.0 c.take_job-step.ensures.job
-    (ap (λ (j : PortNo × PortStep). j.0) c.in_ok-made.ensures.job) (ap (λ (j : PortNo × PortStep). j.1) c.in_ok-made.ensures.job) c.in_ok-made.ensures.made refl (c.in_ok-taken.ensures.takes c.if-taken.true)
+    (ap (λ (j : PortNo × PortStep). j.0) c.in_ok-made.ensures.job) (ap (λ (j : PortNo × PortStep). j.1) c.in_ok-made.ensures.job) c.in_ok-made.ensures.made refl
+    (c.in_ok-taken.ensures.takes c.if-taken.true)
 
 pub returns-then-taken-clause-ports : goal.returns-then-taken-clause-ports
 returns-then-taken-clause-ports c =
@@ -67,7 +74,10 @@ pub returns-else-taken-clause-stuck : goal.returns-else-taken-clause-stuck
 returns-else-taken-clause-stuck c =
     let ports = c.args.left.now.items in
     let found = found_port ports c.as_slice.result.now c.in-Some.place c.args.lines.now c.index_mut.result.now c.as_slice.ensures.value c.in-Some.ensures.some c.index_mut.ensures.value in
-    subst (λ (r : Reading). IsStuck (FollowJobs c.args.scenario.now c.args.t c.args.number.0 (jobs_left ports) c.args.world.now) c.args.lines.now r.read) (sym (c.in_ok-taken.ensures.stays c.if-taken.false))
-    (other_stuck c.args.scenario.now c.laws_of_replay.ensures c.args.t c.args.number.0 ports c.args.world.now c.requires.node c.requires.ports c.in-Some.place c.index_mut.result.now c.take_job-step.new.self
+    subst (λ (r : Reading). IsStuck (FollowJobs c.args.scenario.now c.args.t c.args.number.0 (jobs_left ports) c.args.world.now) c.args.lines.now r.read)
+    (sym (c.in_ok-taken.ensures.stays c.if-taken.false))
+    (other_stuck c.args.scenario.now c.laws_of_replay.ensures c.args.t c.args.number.0 ports c.args.world.now c.requires.node c.requires.ports c.in-Some.place c.index_mut.result.now
+    c.take_job-step.new.self
     c.take_job-step.result c.in_ok-made.made c.make_step.new.world c.args.lines.now c.requires.within c.requires.during c.requires.some found.0 found.1 c.take_job-step.ensures.job
-    (ap (λ (j : PortNo × PortStep). j.0) c.in_ok-made.ensures.job) (ap (λ (j : PortNo × PortStep). j.1) c.in_ok-made.ensures.job) c.in_ok-made.ensures.made (c.in_ok-taken.ensures.other c.if-taken.false))
+    (ap (λ (j : PortNo × PortStep). j.0) c.in_ok-made.ensures.job) (ap (λ (j : PortNo × PortStep). j.1) c.in_ok-made.ensures.job) c.in_ok-made.ensures.made
+    (c.in_ok-taken.ensures.other c.if-taken.false))

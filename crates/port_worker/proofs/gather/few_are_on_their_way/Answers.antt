@@ -19,4 +19,5 @@ more tree m app p x has earlier here (inr e) =
 
 pub loop-x-preserved : goal.loop-x-preserved
 loop-x-preserved c = λ app p has le.
-    more c.args.world.now.tree c.args.world.now.marks app p c.loop-x.x has (λ earlier. c.loop-x.invariant app p has earlier) (λ there. c.few_from_node.ensures app p.port there) (up_to p.node.0 c.loop-x.x le)
+    more c.args.world.now.tree c.args.world.now.marks app p c.loop-x.x has (λ earlier. c.loop-x.invariant app p has earlier) (λ there. c.few_from_node.ensures app p.port there)
+    (up_to p.node.0 c.loop-x.x le)

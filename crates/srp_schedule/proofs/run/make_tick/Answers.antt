@@ -89,7 +89,8 @@ returns-clause-made c =
     let end = c.let_clocks_go_on.new.world in
     let tick : Tick = record { events = c.from_vec.result; steps = c.from_vec-2.result } in
     let parts = tick_parts plan t w scripted stepped carried end c.in_ok-events.events.items c.in_ok-steps.steps.items tick c.from_vec.ensures c.from_vec-2.ensures
-    c.in_ok-events.ensures.numbers c.in_ok-events.ensures.answers c.in_ok-events.ensures.after c.in_ok-steps.ensures.steps c.in_ok-steps.ensures.after c.in_ok-has_carried.ensures.carried c.in_ok-let_clocks_go_on.ensures.after in
+    c.in_ok-events.ensures.numbers c.in_ok-events.ensures.answers c.in_ok-events.ensures.after c.in_ok-steps.ensures.steps c.in_ok-steps.ensures.after c.in_ok-has_carried.ensures.carried
+    c.in_ok-let_clocks_go_on.ensures.after in
     let after = after_tick laws plan rules t c.requires.within w c.requires.during scripted stepped carried end tick parts in
     record {
       tick = canonical_tick laws plan rules t c.requires.within w c.requires.during scripted stepped carried end tick parts;
