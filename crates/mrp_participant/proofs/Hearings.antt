@@ -1,5 +1,5 @@
 -- Rows found beside others and put over them are what the events make of the rows one after the other.
-use Rattle.std.proofs.Common.{◌≡◌, ℕ, zero, suc, ◌+◌, ◌<◌, Bool, true, false, not, ◌&&◌, if◌then◌else◌, List, [], ◌∷◌, ◌++◌, append_assoc, length, map, filter, fold, drop, drop-cons, get_or, refl, sym, ap, ◌∙◌, subst, arith, add-one, inl, inr, option_map}
+use Rattle.std.proofs.Common.{◌≡◌, ℕ, zero, suc, ◌+◌, ◌<◌, Bool, true, false, not, ◌&&◌, if◌then◌else◌, List, [], ◌∷◌, length, map, filter, fold, drop, drop-cons, get_or, refl, sym, ap, ◌∙◌, subst, arith, add-one, inl, inr, option_map}
 use Rattle.std.specs.Prelude.{IsSome}
 use Rattle.std.specs.declared.option.Option.{Option}
 use Rattle.std.specs.declared.option.Option.TheVariants.{None, Some}
@@ -8,7 +8,7 @@ use Rattle.std.specs.declared.cmp.Ordering.TheVariants.{Less, Equal, Greater}
 use Rattle.std.specs.Ordering.{ordering_reverse, match_ordering}
 use Rattle.std.specs.Cmp.{IsTotalOrder, IsEquivalence}
 use Rattle.std.proofs.lemmas.Cmp.{tied_itself, tied_back}
-use Rattle.std.proofs.lemmas.List.{append-nil, drop_more}
+use Rattle.std.proofs.lemmas.List.{drop_more}
 use Rattle.std.specs.List.{AllByRecursion, list_all}
 use Rattle.std.specs.Option.{is_some, option_eq}
 use Rattle.srp_base.specs.declared.numbers.Cs.{Cs}
@@ -25,13 +25,13 @@ use Rattle.mrp_participant.proofs.Transitions.{hear-fits, leave_all-live, Ascend
 use Rattle.mrp_participant.proofs.EachKey.{each-mapped, each-receive}
 use Rattle.mrp_participant.proofs.Changes.{option_eq-refl}
 
-less_back : {K : Type 0} {cmp : K → K → Ordering} → IsTotalOrder cmp → (a b : K) → cmp a b ≡ Greater → cmp b a ≡ Less
+pub less_back : {K : Type 0} {cmp : K → K → Ordering} → IsTotalOrder cmp → (a b : K) → cmp a b ≡ Greater → cmp b a ≡ Less
 less_back o a b e = o.antisymm b a ∙ ap ordering_reverse e
 
 -- ---- the first of two
 
 module _ {X : Type 0} where
-  first-none : (x : Option X) → first_of x None ≡ x
+  pub first-none : (x : Option X) → first_of x None ≡ x
   first-none None = refl
   first-none (Some x) = refl
 
@@ -39,7 +39,7 @@ module _ {X : Type 0} where
   first-twice None y = refl
   first-twice (Some x) y = refl
 
-  first-if : (b : Bool) (x : X) (h f : Option X) → (if b then Some x else first_of h f) ≡ first_of (if b then Some x else h) f
+  pub first-if : (b : Bool) (x : X) (h f : Option X) → (if b then Some x else first_of h f) ≡ first_of (if b then Some x else h) f
   first-if true x h f = refl
   first-if false x h f = refl
 
@@ -149,7 +149,7 @@ module _ {K C : Type 0} {cmp : K → K → Ordering} (o : IsTotalOrder cmp) wher
       each-step P x y (rows_as_one cmp xs (y ∷ ys)) (rows_as_one cmp xs ys) (rows_as_one cmp (x ∷ xs) ys)
       (cmp x.key y.key) h.0 h'.0 (rest (y ∷ ys) h') (rest ys h'.1) (each-merged_into P x xs ys h h'.1 rest)
 
-  each-merged : (P : Row K C → Type 0) (xs ys : List (Row K C)) → AllByRecursion P xs → AllByRecursion P ys → AllByRecursion P (rows_as_one cmp xs ys)
+  pub each-merged : (P : Row K C → Type 0) (xs ys : List (Row K C)) → AllByRecursion P xs → AllByRecursion P ys → AllByRecursion P (rows_as_one cmp xs ys)
   each-merged P [] ys h h' = h'
   each-merged P (x ∷ xs) ys h h' = each-merged_into P x xs ys h h' (λ ys h'. each-merged P xs ys h.1 h')
 
@@ -411,10 +411,6 @@ module _ {K C : Type 0} (cmp : K → K → Ordering) where
   merged-alone [] = refl
   merged-alone (x ∷ xs) = refl
 
-  -- two lists at their ends
-  pub merged-end : (xs ys : List (Row K C)) (i j : ℕ) → j ≡ length xs → i ≡ length ys → rows_as_one cmp (drop j xs) (drop i ys) ≡ []
-  merged-end xs ys i j e e' = rw (drop_all xs j e) (drop_all ys i e')
-
   -- the next of two lists, where the second is at its end
   pub next-of_first : (xs ys : List (Row K C)) (i j : ℕ) (x : Row K C) → i ≡ length ys → j < length xs
       → x ≡ get_or xs j x → rows_as_one cmp (drop j xs) (drop i ys)
@@ -463,24 +459,22 @@ pub map-begun_false : {K C : Type 0} (leave : Cs) (rows : List (Row K C)) → ro
 map-begun_false leave [] = refl
 map-begun_false leave (r ∷ rows) = ap (λ l. r ∷ l) (map-begun_false leave rows)
 
-module _ {K C : Type 0} {cmp : K → K → Ordering} (o : IsTotalOrder cmp) (us slice rows : List (Row K C)) (is : slice ≡ rows) where
-  pub known-of : (answer : Bool) → answer ≡ list_all (λ u. is_some (find cmp u.key slice)) us → answer ≡ true → AreKnown o us rows
-  known-of answer e h = subst (AreKnown o us) is (each-passes (λ u. is_some (find cmp u.key slice)) us (sym e ∙ h))
+module _ {K C : Type 0} {cmp : K → K → Ordering} (o : IsTotalOrder cmp) (us rows : List (Row K C)) where
+  pub known-of : (slice : List (Row K C)) → slice ≡ rows → (answer : Bool)
+      → answer ≡ list_all (λ u. is_some (find cmp u.key slice)) us → answer ≡ true → AreKnown o us rows
+  known-of slice is answer e h = subst (AreKnown o us) is (each-passes (λ u. is_some (find cmp u.key slice)) us (sym e ∙ h))
 
-  module _ (new : List (Row K C)) (e : new ≡ rows_as_one cmp us slice) (up : Ascends cmp key_of us) (up' : Ascends cmp key_of rows) where
-    new_is : new ≡ rows_as_one cmp us rows
-    new_is = e ∙ ap (rows_as_one cmp us) is
-
+  module _ (new : List (Row K C)) (is : new ≡ rows_as_one cmp us rows) (up : Ascends cmp key_of us) (up' : Ascends cmp key_of rows) where
     pub known-after : AreKnown o us new
-    known-after = subst (AreKnown o us) (sym new_is) (known-merged o us rows up up')
+    known-after = subst (AreKnown o us) (sym is) (known-merged o us rows up up')
 
     pub each-after : (k : K) → first_of (find cmp k us) (find cmp k new) ≡ first_of (find cmp k us) (find cmp k rows)
-    each-after k = ap (λ l. first_of (find cmp k us) (find cmp k l)) new_is
+    each-after k = ap (λ l. first_of (find cmp k us) (find cmp k l)) is
         ∙ (ap (first_of (find cmp k us)) (find-merged o k us rows up up')
         ∙ first-twice (find cmp k us) (find cmp k rows))
 
     pub ascends-after : Ascends cmp key_of new
-    ascends-after = subst (Ascends cmp key_of) (sym new_is) (Ascends-merged o us rows up up')
+    ascends-after = subst (Ascends cmp key_of) (sym is) (Ascends-merged o us rows up up')
 
 module _ {K C : Type 0} {cmp : K → K → Ordering} (o : IsTotalOrder cmp) (leave_all : Bool) (leave : Cs)
     (us old rows begun : List (Row K C)) (is : begun ≡ map (begun_row leave_all leave) rows)
@@ -536,19 +530,3 @@ module _ {K C : Type 0} {cmp : K → K → Ordering} (o : IsTotalOrder cmp) (lea
       told
       ∙ (ap (λ l. changed_keys cmp eq l heard_slice) other_is
       ∙ changed-heard o eq laws leave_all leave events heard_slice rows are what_was_heard (subst (Ascends cmp key_of) (sym slice_is) up))
-
--- ---- two lists of rows are merged
-
-module _ {K C : Type 0} (cmp : K → K → Ordering) (xs ys all : List (Row K C)) (i j : ℕ)
-    (so_far : rows_as_one cmp xs ys ≡ all ++ rows_as_one cmp (drop j xs) (drop i ys)) where
-  -- one row more
-  pub merged-more : (x : Row K C) (i' j' : ℕ) (new : List (Row K C))
-      → rows_as_one cmp (drop j xs) (drop i ys) ≡ x ∷ rows_as_one cmp (drop j' xs) (drop i' ys) → new ≡ all ++ x ∷ []
-      → rows_as_one cmp xs ys ≡ new ++ rows_as_one cmp (drop j' xs) (drop i' ys)
-  merged-more x i' j' new next pushed =
-      so_far ∙ ap (λ l. all ++ l) next ∙ sym (append_assoc all (x ∷ []) (rows_as_one cmp (drop j' xs) (drop i' ys)))
-      ∙ ap (λ l. l ++ rows_as_one cmp (drop j' xs) (drop i' ys)) (sym pushed)
-
-  -- none is left
-  pub merged-all : j ≡ length xs → i ≡ length ys → all ≡ rows_as_one cmp xs ys
-  merged-all end end' = sym (so_far ∙ ap (λ l. all ++ l) (merged-end cmp xs ys i j end end') ∙ append-nil all)

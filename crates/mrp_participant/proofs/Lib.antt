@@ -15,6 +15,7 @@ pub mod EventOrder
 pub mod Links
 pub mod Lookups
 pub mod MarkedLinks
+pub mod MergeLemmas
 pub mod Octets
 pub mod OutlookLemmas
 pub mod Places

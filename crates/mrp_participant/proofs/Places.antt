@@ -61,6 +61,11 @@ module _ {X Y : Type 0} (f : X → Y) where
   past-last (y ∷ ys) zero past = absurd (omega arith)
   past-last (y ∷ ys) (suc i) past = past-last ys i (omega arith)
 
+pub get-place : {X : Type 0} (xs : List X) (i : ℕ) (x : X) → i < length xs → x ≡ get_or xs i x → slice_get xs i ≡ Some x
+get-place [] i x below is = absurd (omega arith)
+get-place (y ∷ ys) zero x below is = ap Some (sym is)
+get-place (y ∷ ys) (suc i) x below is = get-place ys i x (omega arith) is
+
 -- ---- loops
 
 module _ {X : Type 0} (p : X → Bool) (xs : List X) (i : ℕ) (x : X) (below : i < length xs) (is : x ≡ get_or xs i x) where

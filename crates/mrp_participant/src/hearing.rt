@@ -1,8 +1,9 @@
 //! What a list of messages makes of the rows, in the time of what it speaks of: the rows of its keys are found
-//! beside the participant's rows, which are then changed in place. Only where a key had no row are the rows
-//! merged with them into a new list. What wants memory comes first.
+//! beside the participant's rows, which are then changed in place. Where a key had no row the rows are merged with
+//! them, in place too and from the back, which takes the time of all rows, as a LeaveAll does. What wants memory
+//! comes first.
 
-ghost use Rattle.std.specs.Prelude.{◌≡◌, ◌<◌, ◌≤◌, ◌+◌, ◌∷◌, ◌⊎◌, map, length, drop, true, Some, IsSome, option_map, OnOk, OnErr, IfOk};
+ghost use Rattle.std.specs.Prelude.{◌≡◌, ◌<◌, ◌≤◌, ◌+◌, [], ◌∷◌, ◌++◌, ◌⊎◌, map, length, take, drop, true, Some, IsSome, option_map, OnOk, OnErr, IfOk};
 ghost use Rattle.std.specs.Option.{is_some};
 ghost use Rattle.std.specs.List.{AllByRecursion, list_all};
 ghost use Rattle.mrp_participant.specs.Lookup.{Ascends, key_of, find, put};
@@ -119,7 +120,7 @@ pub(crate) fn put_heard<K: Copy + Ord, C: Copy>(
     Ok(())
 }
 
-/// Adds the rows of keys that have none. After want of memory the rows are as they were.
+/// Puts the rows of keys that have none in, in place. After want of memory the rows are as they were.
 fn add_unknown<K: Copy + Ord, C: Copy>(
     rows: &mut Vec<Row<K, C>>,
     outlook: &mut Outlook,
@@ -140,7 +141,7 @@ fn add_unknown<K: Copy + Ord, C: Copy>(
     if are_known(rows.as_slice(), heard) {
         return Ok(());
     }
-    *rows = merge(*rows.allocator(), rows.as_slice(), heard)?;
+    merge(rows, heard)?;
     *outlook = outlook_of(rows.as_slice());
     Ok(())
 }
@@ -159,24 +160,44 @@ fn are_known<K: Copy + Ord, C: Copy>(rows: &[Row<K, C>], heard: &[Row<K, C>]) ->
     true
 }
 
-/// Two lists of rows as one; of two rows of one key that of `heard` stays.
+/// Two lists of rows as one, in the place of the first; of two rows of one key that of `heard` stays. Room is taken
+/// before a row moves: after want of memory the rows are as they were.
 fn merge<K: Copy + Ord, C: Copy>(
-    alloc: Global,
+    rows: &mut Vec<Row<K, C>>,
+    heard: &[Row<K, C>],
+) -> Result<(), NoMemory>
+    requires rows { Ascends K.cmp key_of rows.old.items }
+    requires heard { Ascends K.cmp key_of heard.now }
+    ensures ok { OnOk result (rows.new.items ≡ rows_as_one K.cmp heard.now rows.old.items) }
+    ensures err { OnErr result (rows.new.items ≡ rows.old.items) }
+{
+    if heard.is_empty() {
+        return Ok(());
+    }
+    let count = rows.len();
+    let len = merged_len(rows.as_slice(), heard)?;
+    rows.resize(len, heard[0])?;
+    merge_back(rows, count, heard);
+    Ok(())
+}
+
+/// How many rows two lists are as one.
+fn merged_len<K: Copy + Ord, C: Copy>(
     rows: &[Row<K, C>],
     heard: &[Row<K, C>],
-) -> Result<Vec<Row<K, C>>, NoMemory>
-    ensures { IfOk result (λ v. v.items ≡ rows_as_one K.cmp heard.now rows.now) }
+) -> Result<usize, NoMemory>
+    ensures { IfOk result (λ n. n ≡ length (rows_as_one K.cmp heard.now rows.now)) }
 {
-    let mut all = Vec::new(alloc);
+    let mut count = 0usize;
     let mut i = 0;
     let mut j = 0;
     while i < rows.len() || j < heard.len() {
-        let (row, after, after_heard) = next_row(rows, i, heard, j);
-        all.push(row)?;
+        let (_, after, after_heard) = next_row(rows, i, heard, j);
+        count = count.checked_add(1).ok_or(NoMemory)?;
         i = after;
         j = after_heard;
     }
-    Ok(all)
+    Ok(count)
 }
 
 /// The next row of two lists that are merged, from a place in each, and the places after it.
@@ -205,6 +226,56 @@ fn next_row<K: Copy + Ord, C: Copy>(
         Ordering::Less => (*over, i, j + 1),
         Ordering::Equal => (*over, i + 1, j + 1),
         Ordering::Greater => (*row, i + 1, j),
+    }
+}
+
+/// The first `count` rows and those of `heard` as one, where there are as many rows as that has: from the back, so
+/// that no row is overwritten before it has moved.
+fn merge_back<K: Copy + Ord, C: Copy>(rows: &mut Vec<Row<K, C>>, count: usize, heard: &[Row<K, C>])
+    requires rows { Ascends K.cmp key_of (take count rows.old.items) }
+    requires heard { Ascends K.cmp key_of heard.now }
+    requires within { count ≤ length rows.old.items }
+    requires room { length rows.old.items
+        ≡ length (rows_as_one K.cmp heard.now (take count rows.old.items)) }
+    ensures { rows.new.items ≡ rows_as_one K.cmp heard.now (take count rows.old.items) }
+{
+    let mut i = count;
+    let mut j = heard.len();
+    let mut end = rows.len();
+    while 0 < j {
+        let (row, before, before_heard) = last_row(rows.as_slice(), i, heard, j);
+        end -= 1;
+        rows[end] = row;
+        i = before;
+        j = before_heard;
+    }
+}
+
+/// The last row of the first `i` rows and the first `j` of `heard` as one, and how many of each are before it.
+fn last_row<K: Copy + Ord, C: Copy>(
+    rows: &[Row<K, C>],
+    i: usize,
+    heard: &[Row<K, C>],
+    j: usize,
+) -> (Row<K, C>, usize, usize)
+    requires rows { Ascends K.cmp key_of (take i rows.now) }
+    requires heard { Ascends K.cmp key_of (take j heard.now) }
+    requires within { (i ≤ length rows.now) × (j ≤ length heard.now) }
+    requires more { 0 < j }
+    ensures last { rows_as_one K.cmp (take j heard.now) (take i rows.now)
+        ≡ rows_as_one K.cmp (take result.2 heard.now) (take result.1 rows.now) ++ result.0 ∷ [] }
+    ensures within { (result.1 ≤ i) × (result.2 ≤ j) }
+    ensures fewer { result.1 + result.2 < i + j }
+{
+    if i == 0 {
+        return (heard[j - 1], i, j - 1);
+    }
+    let row = &rows[i - 1];
+    let over = &heard[j - 1];
+    match over.key.cmp(&row.key) {
+        Ordering::Less => (*row, i - 1, j),
+        Ordering::Equal => (*over, i - 1, j - 1),
+        Ordering::Greater => (*over, i, j - 1),
     }
 }
 

@@ -1,7 +1,7 @@
 //! The participant as contracts see it, and what it shows.
 
-ghost use Rattle.std.specs.Prelude.{◌≡◌, ◌≤◌, length, map, slice_get, true, false, IfOk, IsOk, OnOk};
-ghost use Rattle.mrp_participant.specs.Lookup.{find, key_of};
+ghost use Rattle.std.specs.Prelude.{◌≡◌, ◌≤◌, length, map, slice_get, option_map, true, false, IfOk, IfSome, IsOk, OnOk};
+ghost use Rattle.mrp_participant.specs.Lookup.{Ascends, find, key_of};
 ghost use Rattle.mrp_participant.specs.Row.{applicant_of, registrar_of, registered_in, declared_in};
 ghost use Rattle.mrp_participant.specs.State.{IsTime, AreRows, new_state, is_still};
 
@@ -131,26 +131,6 @@ impl<A: MrpApp> Participant<A> {
         Ok(())
     }
 
-    /// Another participant with the same rows, machines, timers and mark.
-    pub fn copy(&self) -> Result<Participant<A>, NoMemory>
-        ensures { IfOk result (λ p. p.state ≡ self.now.state) }
-    {
-        let alloc = *self.rows.allocator();
-        let rows = Vec::from_slice(alloc, self.rows.as_slice())?;
-        Ok(Participant {
-            rows,
-            outlook: self.outlook,
-            leave_all: self.leave_all,
-            next_leave_all: self.next_leave_all,
-            period: self.period,
-            leave_time: self.leave_time,
-            periodic: self.periodic,
-            sound: self.sound,
-            left: Vec::new(alloc),
-            ready: false,
-        })
-    }
-
     /// The content that is registered of a key; None exactly where its Registrar is MT.
     pub fn registered(&self, key: A::Key) -> Option<A::Content>
         ensures { result ≡ registered_in (find A.Key.cmp key self.now.state.rows) }
@@ -238,6 +218,17 @@ impl<A: MrpApp> Participant<A> {
         row_key(self.rows.as_slice(), index)
     }
 
+    /// The key of the row at a place, counted as for `key_at`, with the content that is registered of it, which is None
+    /// where its Registrar is MT, without a search for the key; None exactly where the index isn't below the number of
+    /// rows.
+    pub fn registration_at(&self, index: usize) -> Option<(A::Key, Option<A::Content>)>
+        ensures key { option_map (λ r. r.0) result ≡ slice_get (map key_of self.now.state.rows) index }
+        ensures content { IfSome result (λ r. r.1
+            ≡ registered_in (find A.Key.cmp r.0 self.now.state.rows)) }
+    {
+        row_registration(self.rows.as_slice(), index)
+    }
+
     /// The state of the Registrar of the row at a place, counted as for `key_at`, without a search for its
     /// key; None exactly where the index isn't below the number of rows.
     pub fn registrar_at(&self, index: usize) -> Option<Registrar>
@@ -253,6 +244,19 @@ fn row_key<K: Copy, C: Copy>(rows: &[Row<K, C>], index: usize) -> Option<K>
 {
     let row = rows.get(index)?;
     Some(row.key)
+}
+
+// The key of the row at a place, with the content that is registered of it.
+fn row_registration<K: Copy + Ord, C: Copy>(
+    rows: &[Row<K, C>],
+    index: usize,
+) -> Option<(K, Option<C>)>
+    requires { Ascends K.cmp key_of rows.now }
+    ensures key { option_map (λ r. r.0) result ≡ slice_get (map key_of rows.now) index }
+    ensures content { IfSome result (λ r. r.1 ≡ registered_in (find K.cmp r.0 rows.now)) }
+{
+    let row = rows.get(index)?;
+    Some((row.key, row.registered()))
 }
 
 // The state of the Registrar of the row at a place.

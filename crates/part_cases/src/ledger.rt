@@ -42,12 +42,23 @@ fn small(stream: u64) -> Want {
     want_of(stream, Class::A, Rank::Normal, SMALL)
 }
 
+/// What a want changes, asked once more of the same ledger where memory ran out: `tools/memory` refuses each growth in turn.
+fn want_again(ledger: &mut Ledger, now: Cs, want: Want) -> Result<Changed, NoMemory>
+    requires { ledger.old.book.moment ≤ now.0 }
+    ensures { OnOk result (ledger.new.book.moment ≡ now.0) }
+{
+    match ledger.want(now, want) {
+        Ok(changed) => Ok(changed),
+        Err(_) => ledger.want(now, want),
+    }
+}
+
 /// Whether a want is taken with these streams newly booked, and no others dropped.
 fn takes(ledger: &mut Ledger, now: Cs, want: Want, booked: &[StreamId]) -> Result<bool, NoMemory>
     requires { ledger.old.book.moment ≤ now.0 }
     ensures { OnOk result (ledger.new.book.moment ≡ now.0) }
 {
-    let changed = ledger.want(now, want)?;
+    let changed = want_again(ledger, now, want)?;
     let expected = changed.booked.as_slice() == booked && changed.dropped.is_empty();
     Ok(expected && ledger.wants(want.stream))
 }

