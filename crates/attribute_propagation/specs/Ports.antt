@@ -29,10 +29,6 @@ keys_in sets = map (λ set. set.keys) sets
 abbrev pub HasRoom : {K : Type 0} → ℕ → List (KeySet K) → Type 0
 HasRoom count sets = AllByRecursion (λ set. count ≤ set.spare) sets
 
--- the keys of each of some sets, where there are any sets
-abbrev pub keys_in_some : {K : Type 0} → Option (List (KeySet K)) → Option (List (List K))
-keys_in_some sets = option_map keys_in sets
-
 -- at new ports no key awaits
 abbrev pub new_sets : {K : Type 0} → List PortSetup → List (List K)
 new_sets ports = map (λ _. []) ports
@@ -67,11 +63,6 @@ marked_elsewhere cmp at keys sets = marked_from 0 cmp at keys sets
 -- these keys await at every port
 abbrev pub marked_everywhere : {K : Type 0} → (K → K → Ordering) → List K → List (List K) → List (List K)
 marked_everywhere cmp keys sets = map (all_marked cmp keys) sets
-
--- the sets once others have taken their place; None where they stay as they are
-abbrev pub sets_with : {K : Type 0} → Option (List (List K)) → List (List K) → List (List K)
-sets_with None sets = sets
-sets_with (Some new) sets = new
 
 -- what keys that are told make of the sets of all ports, whatever the keys are: those await that were told or awaited;
 -- each port but the one that told them, or each port, has them beside its own; there are as many sets; and where no key

@@ -71,17 +71,6 @@ impl<K: Copy + Ord> Dirty<K> {
         insert(&mut self.keys, key)
     }
 
-    /// The set with these keys put in, apart from the set itself.
-    pub fn with_all(&self, keys: &[K]) -> Result<Dirty<K>, NoMemory>
-        ensures { IfOk result (λ d. d.keys ≡ all_marked K.cmp keys.now self.now.keys) }
-    {
-        let mut all = self.with_room(keys.len())?;
-        for key in keys {
-            all.mark(*key)?;
-        }
-        Ok(all)
-    }
-
     /// Puts these keys in, in this order. It takes no memory: there is room for as many. Each lowers the spare by one
     /// at most.
     pub fn mark_all(&mut self, keys: &[K])
@@ -155,23 +144,6 @@ impl<K: Copy + Ord> Dirty<K> {
         ensures { result ≡ slice_get self.now.keys index }
     {
         self.keys.as_slice().get(index).copied()
-    }
-
-    /// Another set with the same keys.
-    pub fn copy(&self) -> Result<Dirty<K>, NoMemory>
-        ensures { IfOk result (λ d. d.keys ≡ self.now.keys) }
-    {
-        self.with_room(0)
-    }
-
-    // Another set with the same keys, and room for this many more.
-    fn with_room(&self, more: usize) -> Result<Dirty<K>, NoMemory>
-        ensures { IfOk result (λ d. d.keys ≡ self.now.keys) }
-    {
-        let count = self.keys.len().saturating_add(more);
-        let mut keys = Vec::with_capacity(*self.keys.allocator(), count)?;
-        keys.extend_from_slice(self.keys.as_slice())?;
-        Ok(Dirty { keys })
     }
 }
 

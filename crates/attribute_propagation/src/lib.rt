@@ -32,7 +32,6 @@ mod ports;
 pub use dirty::Dirty;
 pub use flat::flat_declares;
 pub use ports::{
-    await_elsewhere, await_everywhere, copied_sets, emptied, empty_at, new_sets, none_awaits,
-    put_sets, room_everywhere, saturated, set_at, some_awaits, tell_elsewhere, tell_everywhere,
-    told_where,
+    empty_at, new_sets, none_awaits, room_everywhere, saturated, set_at, some_awaits,
+    tell_elsewhere, tell_everywhere, told_where,
 };

@@ -1,9 +1,9 @@
 //! The keys that await settling at each link port of a node.
 
-ghost use Rattle.std.specs.Prelude.{◌≡◌, ◌<◌, ◌==◌, ◌+◌, ℕ, not, [], ◌≤◌, length, slice_get, slice_set, IfOk, OnOk, Some, if◌then◌else◌, option_map};
+ghost use Rattle.std.specs.Prelude.{◌≡◌, ◌<◌, ◌==◌, ◌+◌, ℕ, not, [], ◌≤◌, length, slice_get, slice_set, IfOk, OnOk, Some, if◌then◌else◌};
 ghost use Rattle.std.specs.List.{list_all, list_any};
 ghost use Rattle.attribute_propagation.specs.Dirty.{all_marked};
-ghost use Rattle.attribute_propagation.specs.Ports.{HasRoom, count_of, keys_in, keys_in_some, new_sets, none_awaits, some_awaits, marked_elsewhere, marked_everywhere, sets_with};
+ghost use Rattle.attribute_propagation.specs.Ports.{HasRoom, count_of, keys_in, new_sets, none_awaits, some_awaits, marked_elsewhere, marked_everywhere};
 
 use crate::dirty::Dirty;
 use srp_base::{NoMemory, PortSetup};
@@ -31,40 +31,12 @@ pub fn new_sets<K: Copy + Ord>(
     Ok(sets)
 }
 
-/// Other sets with the same keys.
-pub fn copied_sets<K: Copy + Ord>(
-    alloc: Global,
-    sets: &[Dirty<K>],
-) -> Result<Vec<Dirty<K>>, NoMemory>
-    ensures { IfOk result (λ v. keys_in v.items ≡ keys_in sets.now) }
-{
-    let mut copies = Vec::with_capacity(alloc, sets.len())?;
-    for set in sets {
-        copies.push(set.copy()?)?;
-    }
-    Ok(copies)
-}
-
 /// The keys that await at a place.
 pub fn set_at<K: Copy + Ord>(sets: &[Dirty<K>], at: usize) -> &Dirty<K>
     requires { at < length sets.now }
     ensures { slice_get (keys_in sets.now) at ≡ Some result.now.keys }
 {
     &sets[at]
-}
-
-/// What awaits at each port once nothing does at a place.
-pub fn emptied<K: Copy + Ord>(
-    alloc: Global,
-    sets: &[Dirty<K>],
-    at: usize,
-) -> Result<Vec<Dirty<K>>, NoMemory>
-    requires { at < length sets.now }
-    ensures { IfOk result (λ v. keys_in v.items ≡ slice_set (keys_in sets.now) at []) }
-{
-    let mut copies = copied_sets(alloc, sets)?;
-    copies[at] = Dirty::new(alloc);
-    Ok(copies)
 }
 
 /// Whether no key awaits at any port.
@@ -100,41 +72,6 @@ pub fn told_where<K: Copy + Ord>(is_told: bool, keys: &[K]) -> &[K]
     ensures { result.now ≡ (if is_told then keys.now else []) }
 {
     if is_told { keys } else { &[] }
-}
-
-/// The sets of all ports with these keys put in at every port but the one at a place, counted from 0. None where
-/// there is no key: the sets stay as they are, and no memory is taken.
-pub fn await_elsewhere<K: Copy + Ord>(
-    alloc: Global,
-    sets: &[Dirty<K>],
-    at: usize,
-    keys: &[K],
-) -> Result<Option<Vec<Dirty<K>>>, NoMemory>
-    ensures { IfOk result (λ o. sets_with (keys_in_some (option_map (λ v. v.items) o)) (keys_in sets.now)
-        ≡ marked_elsewhere K.cmp at keys.now (keys_in sets.now)) }
-{
-    if keys.is_empty() {
-        return Ok(None);
-    }
-    let all = marked_elsewhere(alloc, sets, at, keys)?;
-    Ok(Some(all))
-}
-
-/// The sets of all ports with these keys put in at every port. None where there is no key: the sets stay as they
-/// are, and no memory is taken.
-pub fn await_everywhere<K: Copy + Ord>(
-    alloc: Global,
-    sets: &[Dirty<K>],
-    keys: &[K],
-) -> Result<Option<Vec<Dirty<K>>>, NoMemory>
-    ensures { IfOk result (λ o. sets_with (keys_in_some (option_map (λ v. v.items) o)) (keys_in sets.now)
-        ≡ marked_everywhere K.cmp keys.now (keys_in sets.now)) }
-{
-    if keys.is_empty() {
-        return Ok(None);
-    }
-    let all = marked_everywhere(alloc, sets, keys)?;
-    Ok(Some(all))
 }
 
 /// Makes room for this many more keys at each port. After want of memory, as before it, each port has the keys
@@ -181,65 +118,6 @@ pub fn empty_at<K: Copy + Ord>(sets: &mut Vec<Dirty<K>>, at: usize)
     ensures { keys_in sets.new.items ≡ slice_set (keys_in sets.old.items) at [] }
 {
     sets[at].empty();
-}
-
-/// Puts these sets in the place of those that are there, where there are any. It takes no memory.
-pub fn put_sets<K: Copy + Ord>(sets: &mut Vec<Dirty<K>>, new: Option<Vec<Dirty<K>>>)
-    ensures { keys_in sets.new.items
-        ≡ sets_with (keys_in_some (option_map (λ v. v.items) new)) (keys_in sets.old.items) }
-{
-    if let Some(new) = new {
-        *sets = new;
-    }
-}
-
-// The sets with these keys put in at every place but one.
-fn marked_elsewhere<K: Copy + Ord>(
-    alloc: Global,
-    sets: &[Dirty<K>],
-    at: usize,
-    keys: &[K],
-) -> Result<Vec<Dirty<K>>, NoMemory>
-    ensures { IfOk result (λ v. keys_in v.items ≡ marked_elsewhere K.cmp at keys.now (keys_in sets.now)) }
-{
-    let mut all = Vec::with_capacity(alloc, sets.len())?;
-    for (place, set) in sets.iter().enumerate() {
-        let marked = marked_unless(set, place == at, keys)?;
-        all.push(marked)?;
-    }
-    Ok(all)
-}
-
-// The sets with these keys put in at every place.
-fn marked_everywhere<K: Copy + Ord>(
-    alloc: Global,
-    sets: &[Dirty<K>],
-    keys: &[K],
-) -> Result<Vec<Dirty<K>>, NoMemory>
-    ensures { IfOk result (λ v. keys_in v.items ≡ marked_everywhere K.cmp keys.now (keys_in sets.now)) }
-{
-    let mut all = Vec::with_capacity(alloc, sets.len())?;
-    for set in sets {
-        let marked = set.with_all(keys)?;
-        all.push(marked)?;
-    }
-    Ok(all)
-}
-
-// A set as it is, or with these keys put in.
-fn marked_unless<K: Copy + Ord>(
-    set: &Dirty<K>,
-    stays: bool,
-    keys: &[K],
-) -> Result<Dirty<K>, NoMemory>
-    ensures { IfOk result (λ d. d.keys
-        ≡ (if stays then set.now.keys else all_marked K.cmp keys.now set.now.keys)) }
-{
-    if stays {
-        set.copy()
-    } else {
-        set.with_all(keys)
-    }
 }
 
 // A set stays, or gets these keys, for which it has room.
