@@ -30,7 +30,7 @@ fn setup() -> Option<PortSetup>
 
 // A bridge of three link ports at its start.
 fn new_bridge(alloc: Global) -> Option<Node>
-    ensures { IfSome result (λ node. ports_of node ≡ 3) }
+    ensures { IfSome result (λ node. ports_of node.state ≡ 3) }
 {
     let ports = [setup()?, setup()?, setup()?];
     let (kind, id) = (NodeKind::Bridge, BridgeId(2));
@@ -48,7 +48,7 @@ fn new_bridge(alloc: Global) -> Option<Node>
 
 // A hub round a node of three link ports, and its passes.
 fn begun(alloc: Global, node: Node) -> Option<(NodeHub, Vec<PortPass>)>
-    requires { ports_of node ≡ 3 }
+    requires { ports_of node.state ≡ 3 }
     ensures { IfSome result (λ r. r.1.items ≡ first_passes r.0.lock 3) }
 {
     let (hub, passes) = NodeHub::begin(alloc, NodeNo(2), node).ok()?;

@@ -66,7 +66,7 @@ pub enum HubCloseErr {
 
 // What a closed lock round a node leaves.
 fn opened(closed: Closed<SharedNode>) -> HubClosed
-    ensures node { result.node ≡ closed.state.node }
+    ensures node { result.node.state ≡ closed.state.node }
     ensures steps { result.steps ≡ closed.state.steps }
     ensures notices { result.notices ≡ closed.state.notices }
 {
@@ -114,11 +114,11 @@ impl NodeHub {
         number: NodeNo,
         node: Node,
     ) -> Result<(NodeHub, Seq<PortPass>), (NoMemory, Node)>
-        requires { 0 < ports_of node }
-        ensures hub { IfOk result (λ r. (r.0.number ≡ number) × (first_node r.0 ≡ node)
-            × (r.0.lock.passes ≡ ports_of node)) }
-        ensures passes { IfOk result (λ r. r.1 ≡ first_passes r.0.lock (ports_of node)) }
-        ensures no_memory { IfErr result (λ e. e.1 ≡ node) }
+        requires { 0 < ports_of node.state }
+        ensures hub { IfOk result (λ r. (r.0.number ≡ number) × (first_node r.0 ≡ node.state)
+            × (r.0.lock.passes ≡ ports_of node.state)) }
+        ensures passes { IfOk result (λ r. r.1 ≡ first_passes r.0.lock (ports_of node.state)) }
+        ensures no_memory { IfErr result (λ e. e.1.state ≡ node.state) }
     {
         let ports = u32::from(node.ports());
         let shared = SharedNode {
@@ -188,7 +188,7 @@ impl NodeHub {
     pub fn close(self, passes: Seq<PortPass>) -> Result<HubClosed, HubCloseErr>
         requires { All (λ p. p.lock ≡ self.lock) passes }
         ensures closed { IfOk result (λ c. HasClosedHub self passes
-            c.node c.steps c.notices) }
+            c.node.state c.steps c.notices) }
         ensures refused { IfErr result (λ e. IsRefusedHub self passes e) }
     {
         let NodeHub { number, lock } = self;

@@ -44,9 +44,9 @@ pub(crate) fn nothing() -> Told
 
 /// Makes a step of a link port, with what it does to the PDUs on the port's link. After want of memory the node is as it was.
 pub(crate) fn make_step(alloc: Global, node: &mut Node, ask: &PortAsk) -> Result<Told, NoMemory>
-    requires { IsLinkPort ask.now.port (ports_of node.old) }
-    ensures ok { IfOk result (λ told. port_does node.old ask.now ≡ (told, node.new)) }
-    ensures err { OnErr result (node.new ≡ node.old) }
+    requires { IsLinkPort ask.now.port (ports_of node.old.state) }
+    ensures ok { IfOk result (λ told. port_does node.old.state ask.now ≡ (told, node.new.state)) }
+    ensures err { OnErr result (node.new.state ≡ node.old.state) }
 {
     let coming = coming(alloc, node, ask.port, &ask.step)?;
     let reply = node.step(NodeEvent::Port(ask.port, ask.step))?;
@@ -56,9 +56,9 @@ pub(crate) fn make_step(alloc: Global, node: &mut Node, ask: &PortAsk) -> Result
 
 // What a step of a port is going to do to the PDUs, where an application that is to say something isn't silent.
 fn coming(alloc: Global, node: &Node, port: PortNo, step: &PortStep) -> Result<Notice, NoMemory>
-    requires { IsLinkPort port (ports_of node.now) }
+    requires { IsLinkPort port (ports_of node.now.state) }
     ensures { IfOk result (λ notice. (reply : reply_type) → with_reply notice reply
-        ≡ notice_of step.now (place_of port) reply node.now) }
+        ≡ notice_of step.now (place_of port) reply node.now.state) }
 {
     match step {
         PortStep::Work => first(alloc, node, port),
@@ -73,9 +73,9 @@ fn coming(alloc: Global, node: &Node, port: PortNo, step: &PortStep) -> Result<N
 
 // What taking the PDU that waits first at a port does.
 fn first(alloc: Global, node: &Node, port: PortNo) -> Result<Notice, NoMemory>
-    requires { IsLinkPort port (ports_of node.now) }
+    requires { IsLinkPort port (ports_of node.now.state) }
     ensures value { IfOk result (λ notice. notice
-        ≡ notice_of_first (slice_get (box_at (place_of port) node.now.inboxes) 0)) }
+        ≡ notice_of_first (slice_get (box_at (place_of port) node.now.state.inboxes) 0)) }
     ensures stays { IfOk result (λ notice. (reply : reply_type) → with_reply notice reply
         ≡ notice) }
 {

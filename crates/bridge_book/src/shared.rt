@@ -31,20 +31,24 @@ impl Model for SharedNode {
 
     ghost Value = { Shared };
 
-    ghost view = { λ s. record { node = s.node; steps = s.steps.items; notices = s.notices.items } };
+    ghost view = { λ s. record {
+      node = s.node.state;
+      steps = s.steps.items;
+      notices = s.notices.items;
+    } };
 }
 
 // Whether a port is a link port of the node.
 fn is_link_port(node: &Node, port: PortNo) -> bool
-    ensures { result ≡ is_port port (ports_of node.now) }
+    ensures { result ≡ is_port port (ports_of node.now.state) }
 {
     0 < port.0 && port.0 <= node.ports()
 }
 
 // Makes a step of a link port, and tells nothing of any other.
 fn stepped(alloc: Global, node: &mut Node, ask: &PortAsk) -> Result<Told, NoMemory>
-    ensures ok { IfOk result (λ told. node_does node.old ask.now ≡ (told, node.new)) }
-    ensures err { OnErr result (node.new ≡ node.old) }
+    ensures ok { IfOk result (λ told. node_does node.old.state ask.now ≡ (told, node.new.state)) }
+    ensures err { OnErr result (node.new.state ≡ node.old.state) }
 {
     if !is_link_port(node, ask.port) {
         return Ok(nothing());
@@ -59,13 +63,13 @@ fn step_and_note(
     notices: &mut Vec<Notice>,
     ask: &PortAsk,
 ) -> Result<Told, NoMemory>
-    ensures ok { IfOk result (λ told. node_does node.old ask.now ≡ (told, node.new)) }
+    ensures ok { IfOk result (λ told. node_does node.old.state ask.now ≡ (told, node.new.state)) }
     ensures steps { IfOk result (λ told. steps.new.items
         ≡ steps.old.items ++ noted ask.now told.reply ∷ []) }
     ensures notices { IfOk result (λ told. notices.new.items
         ≡ notices.old.items ++ told.notice ∷ []) }
-    ensures err { OnErr result ((node.new ≡ node.old) × (steps.new.items ≡ steps.old.items)
-        × (notices.new.items ≡ notices.old.items)) }
+    ensures err { OnErr result ((node.new.state ≡ node.old.state)
+        × (steps.new.items ≡ steps.old.items) × (notices.new.items ≡ notices.old.items)) }
 {
     steps.reserve(1)?;
     notices.reserve(1)?;
