@@ -1,5 +1,5 @@
 -- What every side keeps stays so: a participant takes the place of another, and the application asks for something.
-use Rattle.std.proofs.Common.{◌≡◌, ◌≢◌, ◌⊎◌, inl, inr, ℕ, Bool, true, false, List, [], ◌∷◌, length, map, refl, sym, ap, subst, ◌∙◌}
+use Rattle.std.proofs.Common.{◌≡◌, ◌≢◌, ◌⊎◌, inl, inr, ℕ, Bool, true, false, List, [], ◌∷◌, map, refl, sym, ap, subst, ◌∙◌}
 use Rattle.std.specs.Prelude.{slice_get, Option, Some, None, option_map, ◌==◌}
 use Rattle.std.proofs.Math.ListN.{length-set}
 use Rattle.srp_base.specs.declared.numbers.StreamId.{StreamId}

@@ -1,6 +1,6 @@
 -- Keys that are put into sets piece by piece, in their place, and the room that this takes.
-use Rattle.std.proofs.Common.{◌≡◌, ◌≤◌, ◌<◌, ◌+◌, ℕ, zero, suc, Bool, true, false, if◌then◌else◌, List, [], ◌∷◌, ◌++◌, length, map, drop, get_or, add-one, refl, ap, sym, subst, ◌∙◌, arith}
-use Rattle.std.specs.Prelude.{slice_get, slice_index_or, slice_set, option_map, Some, None}
+use Rattle.std.proofs.Common.{◌≡◌, ◌≤◌, ◌<◌, ◌+◌, ℕ, zero, suc, Bool, true, false, if◌then◌else◌, List, [], ◌∷◌, ◌++◌, length, map, drop, get_or, add-one, refl, ap, sym, ◌∙◌, arith}
+use Rattle.std.specs.Prelude.{slice_get, slice_index_or, slice_set, option_map, Option, Some, None}
 use Rattle.std.specs.List.{flat_map}
 use Rattle.std.proofs.lemmas.List.{drop_more}
 use Rattle.std.proofs.lemmas.Option.{slice_get-map, slice_get_read}
@@ -8,6 +8,7 @@ use Rattle.attribute_propagation.specs.Dirty.{KeySet, all_marked}
 use Rattle.attribute_propagation.specs.Ports.{keys_in, keys_or_none, marked_everywhere}
 use Rattle.msrp_codec.specs.declared.pdu.MsrpKey.{MsrpKey}
 use Rattle.msrp_codec.specs.declared.pdu.MsrpKey.TheVariants as keys
+use Rattle.msrp_codec.specs.declared.pdu.MsrpContent.{MsrpContent}
 use Rattle.srp_base.specs.declared.numbers.StreamId.{StreamId}
 use Rattle.srp_base.specs.declared.streams.Talker.{Talker}
 use Rattle.mrp_participant.specs.Lookup.{key_of}
@@ -81,17 +82,19 @@ few s (key ∷ ks) = omega (arith, length_joined (by_key s key) (flat_map (by_ke
 pub few_talkers : (s : Part) → length (talker_keys_in s) ≤ length s.rows
 few_talkers s = omega (arith, few s (map key_of s.rows), mapped_count key_of s.rows)
 
--- the key at a place and those after it, and nothing where there is none
-pub talkers_more : (s : Part) (i : ℕ) (key : MsrpKey) → slice_get (map key_of s.rows) i ≡ Some key → talker_keys_from i s ≡ by_key s key ++ talker_keys_from (i + 1) s
-talkers_more s i key h = one_more (map key_of s.rows) i h ∙ ap (λ n. by_key s key ++ talker_keys_from n s) (sym (add-one i))
+-- the key at a place, where a Talker is registered, and those after it, and nothing where there is no row
+pub talkers_more : (s : Part) (i : ℕ) (key : MsrpKey) (content : Option MsrpContent) → Some key ≡ slice_get (map key_of s.rows) i → content ≡ registered_at key_cmp key s
+    → talker_keys_from i s ≡ talker_key_if key content ++ talker_keys_from (i + 1) s
+talkers_more s i key content h is =
+    one_more (map key_of s.rows) i (sym h) ∙ (ap (λ n. by_key s key ++ talker_keys_from n s) (sym (add-one i)) ∙ ap (λ o. talker_key_if key o ++ talker_keys_from (i + 1) s) (sym is))
   where
     one_more : (ks : List MsrpKey) (i : ℕ) → slice_get ks i ≡ Some key → flat_map (by_key s) (drop i ks) ≡ by_key s key ++ flat_map (by_key s) (drop (suc i) ks)
     one_more [] i h = cc
     one_more (k ∷ ks) zero h = let same : k ≡ key = cc in ap (λ x. by_key s x ++ flat_map (by_key s) ks) same
     one_more (k ∷ ks) (suc i) h = one_more ks i h
 
-pub talkers_end : (s : Part) (i : ℕ) → slice_get (map key_of s.rows) i ≡ None → talker_keys_from (i + 1) s ≡ talker_keys_from i s
-talkers_end s i h = ap (λ n. talker_keys_from n s) (add-one i) ∙ sym (no_more (map key_of s.rows) i h)
+pub talkers_end : (s : Part) (i : ℕ) → None ≡ slice_get (map key_of s.rows) i → talker_keys_from (i + 1) s ≡ talker_keys_from i s
+talkers_end s i h = ap (λ n. talker_keys_from n s) (add-one i) ∙ sym (no_more (map key_of s.rows) i (sym h))
   where
     no_more : (ks : List MsrpKey) (i : ℕ) → slice_get ks i ≡ None → flat_map (by_key s) (drop i ks) ≡ flat_map (by_key s) (drop (suc i) ks)
     no_more [] zero h = refl

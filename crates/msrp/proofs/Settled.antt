@@ -1,9 +1,8 @@
 -- What every side keeps stays so when a port is settled.
-use Rattle.std.proofs.Common.{◌≡◌, ◌≢◌, ◌⊎◌, ◌↔◌, inl, inr, ℕ, zero, suc, ◌<◌, Bool, true, false, ◌==◌, if◌then◌else◌, List, [], ◌∷◌, ◌++◌, length, map, take, drop, refl, sym, ap, subst, ◌∙◌, arith}
-use Rattle.std.specs.Prelude.{slice_get, slice_set, slice_index_or, IfSome, Option, Some, None, is_some, option_map, option_and_then, unwrap_or}
+use Rattle.std.proofs.Common.{◌≡◌, ◌≢◌, ◌⊎◌, ◌↔◌, inl, inr, ℕ, zero, suc, Bool, true, false, ◌==◌, if◌then◌else◌, List, [], ◌∷◌, ◌++◌, map, take, drop, refl, sym, ap, subst, ◌∙◌, arith}
+use Rattle.std.specs.Prelude.{slice_get, slice_set, Option, Some, None, is_some, option_map, option_and_then, unwrap_or}
 use Rattle.std.specs.List.{filter_map, list_any}
 use Rattle.std.proofs.Math.ListN.{length-set}
-use Rattle.std.proofs.lemmas.Option.{slice_get-get_or, slice_get_read}
 use Rattle.std.proofs.lemmas.Bool.Decides.{nat_tests}
 use Rattle.srp_base.specs.declared.numbers.StreamId.{StreamId}
 use Rattle.srp_base.specs.declared.streams.TalkerReg.{TalkerReg}
@@ -30,8 +29,8 @@ use Rattle.msrp.specs.PortState.{PortState}
 use Rattle.msrp.specs.Part.{Part, key_cmp, stream_cmp, registered_listener, registered_talker, listener_kind_of, settled_part, talker_content, talker_reg_of}
 use Rattle.msrp.specs.Domain.{domain_key}
 use Rattle.msrp.specs.Stream.{Registrations, advertise_of, edge_at, is_listened, is_talker_port, listener_at, listener_row, own_listener, stated_at, talk_of, talker_at, first_talker, talkers_of, want_of_talker, wanted_at}
-use Rattle.msrp.specs.Settling.{listener_keys, moved_streams, next_book, settled_book, settled_port, settling_keys, streams_in, talker_keys}
-use Rattle.msrp.specs.Side.{Streams, IsKept, IsPort, IsSettled, IsSettledAt, awaiting_at, seen_by, settled_streams}
+use Rattle.msrp.specs.Settling.{listener_keys, moved_streams, next_book, settled_book, settling_keys, streams_in, talker_keys}
+use Rattle.msrp.specs.Side.{Streams, IsKept, IsPort, IsSettled, IsSettledAt, seen_by, settled_streams}
 use Rattle.msrp.proofs.Places.{decide, each-get, each-set, get-set_other, get-set_same, map-set, map-set_same, or_false, paired}
 use Rattle.msrp.proofs.Telling.{Awaits, unmarked}
 use Rattle.msrp.proofs.Talkers.{HasRows, absent_stated, no_talker, stated_by, wanted_by}

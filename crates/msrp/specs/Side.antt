@@ -207,14 +207,6 @@ clocked_streams now side =
       moment = now;
     }
 
--- the awaiting keys of each port once the clock has gone on; None where it shows nothing at any port, so that they
--- stay as they are
-abbrev pub next_sets : ℕ → Streams → Option (List (List MsrpKey))
-next_sets now side =
-    if list_any (shows_at now) side.ports
-    then Some (clocked_sets now (talker_keys side.talks side.ports) side.ports side.awaiting)
-    else None
-
 -- the application's Talkers without that of a stream
 abbrev pub talks_without : StreamId → List Talker → List Talker
 talks_without stream talks = filter (λ (t : Talker). not (t.stream.0 == stream.0)) talks

@@ -1,12 +1,10 @@
 //! What the application of a station asks for.
 
-ghost use Rattle.std.specs.Prelude.{◌≡◌, ◌∷◌, false, filter, ◌==◌, IfOk, OnOk, OnErr};
-ghost use Rattle.srp_base.specs.declared.numbers.StreamId.{StreamId};
+ghost use Rattle.std.specs.Prelude.{◌≡◌, ◌∷◌, ◌≤◌, ◌<◌, false, vec_capacity, vec_len, OnOk, OnErr};
 ghost use Rattle.attribute_propagation.specs.Ports.{keys_in, marked_everywhere};
 ghost use Rattle.msrp.specs.Part.{key_cmp};
 ghost use Rattle.msrp.specs.Settling.{keys_of};
-ghost use Rattle.msrp.specs.Stream.{talk_of, is_listened};
-ghost use Rattle.msrp.specs.Side.{is_talk, same_talker, listens_without, with_asks, requested_streams, talks_without};
+ghost use Rattle.msrp.specs.Side.{is_talk, same_talker, listens_without, requested_streams, talks_without, with_asks};
 ghost use Rattle.msrp.specs.declared.asking.SrpRequest.TheVariants.{Talk, Hush, Listen, Unlisten};
 
 use crate::side::MsrpSide;
@@ -16,7 +14,6 @@ use attribute_propagation::laws::each_port_is_told;
 use attribute_propagation::{Dirty, room_everywhere};
 use msrp_codec::MsrpKey;
 use srp_base::{NoMemory, StreamId, Talker};
-use std::alloc::{AllocError, Global};
 
 /// What the application of a station asks of MSRP (IEEE Std 802.1Q-2018, 35.2.3.1).
 #[derive(Clone, Copy, PartialEq, Eq)]
@@ -57,9 +54,7 @@ impl MsrpSide {
         if is_talk(talk_of(self.talks.as_slice(), talker.stream), &talker) {
             return Ok(());
         }
-        let alloc = *self.ports.allocator();
-        let talks = talks_with(alloc, self.talks.as_slice(), talker)?;
-        self.put_talks(talker.stream, talks)
+        self.put_talk(talker)
     }
 
     fn hush(&mut self, stream: StreamId) -> Result<(), NoMemory>
@@ -71,9 +66,7 @@ impl MsrpSide {
         if talk_of(self.talks.as_slice(), stream).is_none() {
             return Ok(());
         }
-        let alloc = *self.ports.allocator();
-        let talks = talks_without(alloc, self.talks.as_slice(), stream)?;
-        self.put_talks(stream, talks)
+        self.drop_talk(stream)
     }
 
     fn listen(&mut self, stream: StreamId) -> Result<(), NoMemory>
@@ -86,9 +79,7 @@ impl MsrpSide {
         if is_listened(self.listens.as_slice(), stream) {
             return Ok(());
         }
-        let alloc = *self.ports.allocator();
-        let listens = listens_with(alloc, self.listens.as_slice(), stream)?;
-        self.put_listens(stream, listens)
+        self.put_listen(stream)
     }
 
     fn unlisten(&mut self, stream: StreamId) -> Result<(), NoMemory>
@@ -101,40 +92,68 @@ impl MsrpSide {
         if !is_listened(self.listens.as_slice(), stream) {
             return Ok(());
         }
-        let alloc = *self.ports.allocator();
-        let listens = listens_without(alloc, self.listens.as_slice(), stream)?;
-        self.put_listens(stream, listens)
+        self.drop_listen(stream)
     }
 
-    // The application's Talkers are these, which differ from before at one stream: its keys await at every link port.
-    fn put_talks(&mut self, stream: StreamId, talks: Vec<Talker>) -> Result<(), NoMemory>
-        requires { (s : StreamId) → (s.0 == stream.0) ≡ false
-            → talk_of s talks.items ≡ talk_of s self.old.state.talks }
-        ensures ok { OnOk result (self.new.state
-            ≡ with_asks stream talks.items self.old.state.listens self.old.state) }
+    // The application talks a stream as this Talker states it.
+    fn put_talk(&mut self, talker: Talker) -> Result<(), NoMemory>
+        ensures ok { OnOk result (self.new.state ≡ with_asks talker.stream
+            (talker ∷ talks_without talker.stream self.old.state.talks)
+            self.old.state.listens self.old.state) }
         ensures err { OnErr result (self.new.state ≡ self.old.state) }
         ensures ready { self.new.ready ≡ false }
     {
         each_port_is_told::<MsrpKey>();
         self.ready = false;
-        both_await(&mut self.awaiting, stream)?;
-        self.talks = talks;
+        self.talks.reserve(1)?;
+        both_await(&mut self.awaiting, talker.stream)?;
+        put_talker(&mut self.talks, talker);
         Ok(())
     }
 
-    // The application listens to these streams, which differ from before at one: its keys await at every link port.
-    fn put_listens(&mut self, stream: StreamId, listens: Vec<StreamId>) -> Result<(), NoMemory>
-        requires { (s : StreamId) → (s.0 == stream.0) ≡ false
-            → is_listened s listens.items ≡ is_listened s self.old.state.listens }
+    // It talks a stream no more.
+    fn drop_talk(&mut self, stream: StreamId) -> Result<(), NoMemory>
         ensures ok { OnOk result (self.new.state
-            ≡ with_asks stream self.old.state.talks listens.items self.old.state) }
+            ≡ with_asks stream (talks_without stream self.old.state.talks)
+            self.old.state.listens self.old.state) }
         ensures err { OnErr result (self.new.state ≡ self.old.state) }
         ensures ready { self.new.ready ≡ false }
     {
         each_port_is_told::<MsrpKey>();
         self.ready = false;
         both_await(&mut self.awaiting, stream)?;
-        self.listens = listens;
+        drop_talker(&mut self.talks, stream);
+        Ok(())
+    }
+
+    // It listens to a stream.
+    fn put_listen(&mut self, stream: StreamId) -> Result<(), NoMemory>
+        ensures ok { OnOk result (self.new.state
+            ≡ with_asks stream self.old.state.talks (stream ∷ self.old.state.listens)
+            self.old.state) }
+        ensures err { OnErr result (self.new.state ≡ self.old.state) }
+        ensures ready { self.new.ready ≡ false }
+    {
+        each_port_is_told::<MsrpKey>();
+        self.ready = false;
+        self.listens.reserve(1)?;
+        both_await(&mut self.awaiting, stream)?;
+        put_first(&mut self.listens, stream);
+        Ok(())
+    }
+
+    // It listens to a stream no more.
+    fn drop_listen(&mut self, stream: StreamId) -> Result<(), NoMemory>
+        ensures ok { OnOk result (self.new.state
+            ≡ with_asks stream self.old.state.talks
+            (listens_without stream self.old.state.listens) self.old.state) }
+        ensures err { OnErr result (self.new.state ≡ self.old.state) }
+        ensures ready { self.new.ready ≡ false }
+    {
+        each_port_is_told::<MsrpKey>();
+        self.ready = false;
+        both_await(&mut self.awaiting, stream)?;
+        drop_stream(&mut self.listens, stream);
         Ok(())
     }
 }
@@ -166,57 +185,38 @@ fn is_same(was: &Talker, talker: &Talker) -> bool
     *was == *talker
 }
 
-// The application's Talkers with one more, in the place of the one of its stream.
-fn talks_with(alloc: Global, talks: &[Talker], talker: Talker) -> Result<Vec<Talker>, NoMemory>
-    ensures { IfOk result (λ v. v.items ≡ talker ∷ talks_without talker.stream talks.now) }
+// Puts a Talker in front, in the place of the one of its stream. There is room for it.
+fn put_talker(talks: &mut Vec<Talker>, talker: Talker)
+    requires { vec_len talks.old < vec_capacity talks.old }
+    ensures { talks.new.items ≡ talker ∷ talks_without talker.stream talks.old.items }
 {
-    let others = talks_without(alloc, talks, talker.stream)?;
-    let mut all = Vec::with_capacity(alloc, 1)?;
-    all.push(talker)?;
-    all.extend_from_slice(others.as_slice())?;
-    Ok(all)
+    drop_talker(talks, talker.stream);
+    put_first(talks, talker);
 }
 
-// The application's Talkers without that of a stream.
-fn talks_without(
-    alloc: Global,
-    talks: &[Talker],
-    stream: StreamId,
-) -> Result<Vec<Talker>, AllocError>
-    ensures { IfOk result (λ v. v.items ≡ talks_without stream talks.now) }
+// Puts an element in front. There is room for it.
+fn put_first<T: Copy>(list: &mut Vec<T>, first: T)
+    requires { vec_len list.old < vec_capacity list.old }
+    ensures { list.new.items ≡ first ∷ list.old.items }
 {
-    talks
-        .iter()
-        .filter(|talker| talker.stream != stream)
-        .copied()
-        .collect(alloc)
+    match list.insert(0, first) {
+        Ok(()) => {}
+        Err(_) => unreachable!(),
+    }
 }
 
-// The streams that the application listens to with one more.
-fn listens_with(
-    alloc: Global,
-    listens: &[StreamId],
-    stream: StreamId,
-) -> Result<Vec<StreamId>, NoMemory>
-    ensures { IfOk result (λ v. v.items ≡ stream ∷ listens.now) }
+// Takes the Talker of a stream out.
+fn drop_talker(talks: &mut Vec<Talker>, stream: StreamId)
+    ensures talks { talks.new.items ≡ talks_without stream talks.old.items }
+    ensures len { vec_len talks.new ≤ vec_len talks.old }
+    ensures capacity { vec_capacity talks.new ≡ vec_capacity talks.old }
 {
-    let mut all = Vec::with_capacity(alloc, 1)?;
-    all.push(stream)?;
-    all.extend_from_slice(listens)?;
-    Ok(all)
+    talks.retain(|talker| talker.stream != stream);
 }
 
-// The streams that the application listens to without one.
-fn listens_without(
-    alloc: Global,
-    listens: &[StreamId],
-    stream: StreamId,
-) -> Result<Vec<StreamId>, AllocError>
-    ensures { IfOk result (λ v. v.items ≡ listens_without stream listens.now) }
+// Takes a stream out.
+fn drop_stream(listens: &mut Vec<StreamId>, stream: StreamId)
+    ensures { listens.new.items ≡ listens_without stream listens.old.items }
 {
-    listens
-        .iter()
-        .filter(|other| **other != stream)
-        .copied()
-        .collect(alloc)
+    listens.retain(|other| *other != stream);
 }

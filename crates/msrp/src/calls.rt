@@ -1,10 +1,10 @@
 //! What comes in at a link port, and its timers.
 
-ghost use Rattle.std.specs.Prelude.{◌≡◌, ◌<◌, ◌≤◌, ◌^◌, false, length, slice_get, IfOk, IfSome, OnOk, OnErr};
+ghost use Rattle.std.specs.Prelude.{◌≡◌, ◌<◌, ◌≤◌, ◌^◌, false, length, slice_get, IsOk, IfOk, IfSome, OnOk, OnErr};
 ghost use Rattle.std.specs.List.{AllByRecursion};
 ghost use Rattle.mrp_participant.specs.Lookup.{find};
 ghost use Rattle.mrp_participant.specs.Row.{is_leaving_in};
-ghost use Rattle.mrp_participant.specs.State.{due_count};
+ghost use Rattle.mrp_participant.specs.State.{due_count, is_any_due};
 ghost use Rattle.msrp_codec.specs.Content.{Belongs};
 ghost use Rattle.attribute_propagation.specs.Ports.{IsLinkPort, place_of, count_of};
 ghost use Rattle.msrp.specs.Part.{key_cmp};
@@ -89,6 +89,9 @@ impl MsrpSide {
         ensures count { IfOk result (λ n. IfSome (slice_get self.old.state.ports (place_of port))
             (λ p. n ≡ count_of (due_count now p.part))) }
         ensures err { OnErr result (self.new.state ≡ self.old.state) }
+        // Want of memory comes only where a timer is due.
+        ensures none { IfSome (slice_get self.old.state.ports (place_of port))
+            (λ p. is_any_due now p.part ≡ false → IsOk result) }
         ensures ready { OnOk result (self.new.ready ≡ false) }
     {
         each_port_is_told::<MsrpKey>();
@@ -134,6 +137,9 @@ impl MsrpSide {
         ensures was { IfOk result (λ b. IfSome (slice_get self.old.state.ports (place_of port))
             (λ p. b ≡ is_leaving_in (find key_cmp key p.part.rows))) }
         ensures err { OnErr result (self.new.state ≡ self.old.state) }
+        // Want of memory comes only where the registrar is LV.
+        ensures stays { IfSome (slice_get self.old.state.ports (place_of port))
+            (λ p. is_leaving_in (find key_cmp key p.part.rows) ≡ false → IsOk result) }
         ensures ready { OnOk result (self.new.ready ≡ false) }
     {
         every_call_keeps_a_side();

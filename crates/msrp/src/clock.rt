@@ -19,7 +19,7 @@ use srp_base::{Cs, NoMemory, Talker};
 
 impl MsrpSide {
     /// Makes the side ready for the clock: afterwards `clock` takes no memory, and all else is as before. Each call that
-    /// may change the side ends its readiness.
+    /// may change the side ends its readiness. After want of memory the state is as it was.
     pub fn clock_room(&mut self) -> Result<(), NoMemory>
         ensures state { self.new.state ≡ self.old.state }
         ensures ready { OnOk result (self.new.ready ≡ true) }
@@ -45,6 +45,8 @@ impl MsrpSide {
         ensures ok { OnOk result (self.new.state ≡ clocked_streams now.0 self.old.state) }
         ensures err { OnErr result (self.new.state ≡ self.old.state) }
         ensures room { self.old.ready ≡ true → IsOk result }
+        // A clock that shows nothing at any port takes no memory.
+        ensures none { list_any (shows_at now.0) self.old.state.ports ≡ false → IsOk result }
         ensures ready { OnOk result (self.new.ready ≡ false) }
     {
         if !self.clock_shows(now) {
@@ -65,7 +67,7 @@ impl MsrpSide {
     }
 
     // Sets the moment where the clock shows nothing at any port.
-    pub(crate) fn pass(&mut self, now: Cs)
+    fn pass(&mut self, now: Cs)
         requires moment { self.old.state.moment ≤ now.0 }
         requires still { list_any (shows_at now.0) self.old.state.ports ≡ false }
         ensures state { self.new.state ≡ clocked_streams now.0 self.old.state }
@@ -111,7 +113,7 @@ fn some_shows(ports: &[Port], now: Cs) -> bool
 }
 
 // Makes room at each port for the Talker keys of all streams with a Talker. The keys there stay.
-pub(crate) fn talker_room(
+fn talker_room(
     sets: &mut Vec<Dirty<MsrpKey>>,
     talks: &[Talker],
     ports: &[Port],
@@ -125,7 +127,7 @@ pub(crate) fn talker_room(
 }
 
 // Puts the Talker keys of all streams with a Talker in at each port where the clock shows. There is room for them.
-pub(crate) fn show_all(sets: &mut Vec<Dirty<MsrpKey>>, talks: &[Talker], ports: &[Port], now: Cs)
+fn show_all(sets: &mut Vec<Dirty<MsrpKey>>, talks: &[Talker], ports: &[Port], now: Cs)
     requires count { length sets.old.items ≡ length ports.now }
     requires room { HasRoom (length (talker_keys talks.now (ports_in ports.now))) sets.old.items }
     ensures { keys_in sets.new.items ≡ clocked_sets now.0

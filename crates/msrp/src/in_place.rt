@@ -1,7 +1,7 @@
 //! What the link port at a place does, in its place, and what it tells the ports. None of this takes memory but what
 //! answers that there was none.
 
-ghost use Rattle.std.specs.Prelude.{◌≡◌, ◌<◌, ◌^◌, length, slice_get, ℕ, List, IfOk, IfSome, OnOk, OnErr};
+ghost use Rattle.std.specs.Prelude.{◌≡◌, ◌<◌, ◌^◌, false, length, slice_get, ℕ, List, IsOk, IfOk, IfSome, OnOk, OnErr};
 ghost use Rattle.std.specs.List.{AllByRecursion};
 ghost use Rattle.srp_base.specs.declared.numbers.StreamId.{StreamId};
 ghost use Rattle.srp_base.specs.declared.streams.Talker.{Talker};
@@ -178,6 +178,8 @@ pub(crate) fn leave_at(
         (streams_of ports.old.items sets.old.items talks.now listens.now moment)) }
     ensures was { IfOk result (λ b. IfSome (slice_get (ports_in ports.old.items) at)
         (λ p. b ≡ is_leaving_in (find key_cmp key p.part.rows))) }
+    ensures stays { IfSome (slice_get (ports_in ports.old.items) at)
+        (λ p. is_leaving_in (find key_cmp key p.part.rows) ≡ false → IsOk result) }
     ensures ports { OnErr result (ports_in ports.new.items ≡ ports_in ports.old.items) }
     ensures sets { OnErr result (keys_in sets.new.items ≡ keys_in sets.old.items) }
 {

@@ -35,8 +35,7 @@
 //! No call on a port copies a participant, a ledger or a set of awaiting keys: each takes its memory first, and then changes
 //! all in its place. `clock_room` makes a side ready for the clock, by counting what is registered: where it is ready, `clock`
 //! takes no memory. Each call that may change the side ends its readiness. A clock that shows nothing takes no memory, ready
-//! or not. For the clocks of a whole network, which are set together or not at all, `prepare_clock` makes the sets of awaiting
-//! keys apart where the clock shows something, and `clock_by` puts them in place.
+//! or not; nor do `due` where no timer is due, `settle` where nothing awaits, and `leave_now` of a key that doesn't leave.
 //!
 //! `laws` has what a network's laws rest on, over these states alone: a side is proper (`specs/Proper.antt`) where it
 //! is kept and all that it keeps fits in the fields in which it is sent; every call keeps it so, and keeps how the
@@ -56,7 +55,6 @@ mod in_place;
 pub mod laws;
 mod plan;
 mod port;
-mod prepared;
 mod sending;
 mod settling;
 mod side;
@@ -70,5 +68,4 @@ mod view;
 pub use app::MsrpApp;
 pub use asking::SrpRequest;
 pub use domain::DomainSet;
-pub use prepared::ClockSets;
 pub use side::MsrpSide;

@@ -1,6 +1,6 @@
 //! Settling the keys that await at a link port.
 
-ghost use Rattle.std.specs.Prelude.{◌≡◌, ◌+◌, ◌≤◌, ◌<◌, ◌++◌, ℕ, [], length, map, slice_get, vec_capacity, vec_len, false, IfOk, IfSome, OnOk, OnErr};
+ghost use Rattle.std.specs.Prelude.{◌≡◌, ◌+◌, ◌≤◌, ◌<◌, ◌++◌, ℕ, [], length, map, slice_get, vec_capacity, vec_len, false, IsOk, IfOk, IfSome, OnOk, OnErr};
 ghost use Rattle.attribute_propagation.specs.Ports.{HasRoom, IsLinkPort, count_of, keys_at, keys_in, marked_elsewhere, place_of};
 ghost use Rattle.mrp_participant.specs.State.{declared_state};
 ghost use Rattle.port_ledger.specs.Book.{entry_of};
@@ -50,6 +50,7 @@ impl MsrpSide {
         ensures count { IfOk result (λ n. n
             ≡ count_of (length (awaiting_at (place_of port) self.old.state))) }
         ensures err { OnErr result (self.new.state ≡ self.old.state) }
+        ensures none { awaiting_at (place_of port) self.old.state ≡ [] → IsOk result }
         ensures ready { OnOk result (self.new.ready ≡ false) }
     {
         self.keeps();

@@ -108,8 +108,8 @@ fn mark_row(set: &mut Dirty<MsrpKey>, part: &Participant<MsrpApp>, place: usize)
         (flat_map (λ key. talker_key_if key (registered_at key_cmp key part.now.state))
         (drop place (map key_of part.now.state.rows))) }
 {
-    match part.key_at(place) {
-        Some(key) => mark_talker(set, key, part.registered(key)),
+    match part.registration_at(place) {
+        Some((key, content)) => mark_talker(set, key, content),
         None => {}
     }
 }

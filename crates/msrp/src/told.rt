@@ -1,6 +1,6 @@
 //! What awaits at each link port once keys are told at one of them.
 
-ghost use Rattle.std.specs.Prelude.{◌≡◌, ◌&&◌, ◌++◌, ◌∷◌, ◌+◌, ◌<◌, ◌≤◌, ℕ, true, [], drop, filter, if◌then◌else◌, is_some, length, map, slice_get, IfOk, IfSome, OnOk};
+ghost use Rattle.std.specs.Prelude.{◌≡◌, ◌&&◌, ◌++◌, ◌∷◌, ◌+◌, ◌<◌, ◌≤◌, ℕ, true, false, [], drop, filter, if◌then◌else◌, is_some, length, map, slice_get, IsOk, IfOk, IfSome, OnOk};
 ghost use Rattle.std.specs.List.{flat_map, list_any};
 ghost use Rattle.registrar.specs.Table.{is_leaving};
 ghost use Rattle.attribute_propagation.specs.Dirty.{all_marked};
@@ -36,7 +36,12 @@ pub(crate) fn room_to_tell(
 ) -> Result<(), NoMemory>
     ensures room { OnOk result (HasRoom ((told + told) + (known + known)) sets.new.items) }
     ensures keys { keys_in sets.new.items ≡ keys_in sets.old.items }
+    // For none no memory is taken.
+    ensures none { told + known ≡ 0 → IsOk result }
 {
+    if told == 0 && known == 0 {
+        return Ok(());
+    }
     let keys = sum(sum(told, told)?, sum(known, known)?)?;
     room_everywhere(sets, keys)
 }
@@ -218,9 +223,10 @@ pub(crate) fn known_where(
     is_asked: bool,
     view: &PortView<'_>,
 ) -> Result<Vec<MsrpKey>, NoMemory>
-    ensures { IfOk result (λ v. v.items ≡ (if is_asked
+    ensures keys { IfOk result (λ v. v.items ≡ (if is_asked
         then known_keys view.now.talks.now view.now.listens.now (ports_in view.now.ports.now)
         else [])) }
+    ensures none { is_asked ≡ false → IsOk result }
 {
     if is_asked {
         known_keys(alloc, view)
@@ -294,8 +300,8 @@ fn push_registered_at(
         ≡ out.old.items ++ filter (λ key. is_some (registered_at key_cmp key part.now.state))
         (drop place (map key_of part.now.state.rows))) }
 {
-    match part.key_at(place) {
-        Some(key) => push_where(out, part.registered(key).is_some(), key),
+    match part.registration_at(place) {
+        Some((key, content)) => push_where(out, content.is_some(), key),
         None => Ok(()),
     }
 }

@@ -1,4 +1,4 @@
-use Rattle.std.proofs.Common.{◌≡◌, ◌≤◌, ◌+◌, ◌&&◌, Bool, true, List, [], ◌∷◌, if◌then◌else◌, length, ap, sym, ◌∙◌, arith}
+use Rattle.std.proofs.Common.{◌≡◌, ◌&&◌, true, List, [], if◌then◌else◌, length, ap, sym, ◌∙◌, arith}
 use Rattle.std.specs.Prelude.{slice_get, Some}
 use Rattle.std.specs.List.{list_any}
 use Rattle.mrp_participant.specs.State.{due_count, due_state, left_keys}
@@ -41,7 +41,7 @@ returns-clause-ok c =
     c.tell.ensures ∙ (ap (λ d. told_sets c.args.at d c.as_slice-2.result.now c.as_slice-3.result.now (keys_in c.room_to_tell.new.sets.items)) domain
     ∙ ap (λ s. told_sets c.args.at x.state.domain c.as_slice-2.result.now c.as_slice-3.result.now s) c.in_ok-room_to_tell.ensures.keys) in
     let is : c.as_slice-3.result.now ≡ (if are_counted x.state.domain && c.may_leave.result then known_keys c.args.talks.now c.args.listens.now (ports_in c.args.ports.now.items) else []) =
-    c.as_slice-3.ensures.value ∙ (c.in_ok-known.ensures
+    c.as_slice-3.ensures.value ∙ (c.in_ok-known.ensures.keys
     ∙ (ap (λ b. if b then known_keys c.args.talks.now c.args.listens.now (ports_in c.as_slice.result.now) else []) (c.heeds.ensures ∙ ap (λ d. are_counted d && c.may_leave.result) domain)
     ∙ ap (λ ps. if are_counted x.state.domain && c.may_leave.result then known_keys c.args.talks.now c.args.listens.now (ports_in ps) else []) c.as_slice.ensures.value)) in
     let only : list_any is_domain c.as_slice-2.result.now ≡ true → c.may_leave.result ≡ true =

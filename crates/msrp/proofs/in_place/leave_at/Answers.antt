@@ -1,6 +1,5 @@
-use Rattle.std.proofs.Common.{◌≡◌, ◌≤◌, ◌+◌, ◌&&◌, Bool, true, List, [], ◌∷◌, if◌then◌else◌, length, ap, sym, ◌∙◌, arith}
+use Rattle.std.proofs.Common.{◌≡◌, ◌&&◌, List, [], ◌∷◌, if◌then◌else◌, ap, sym, ◌∙◌}
 use Rattle.std.specs.Prelude.{slice_get, Some}
-use Rattle.std.specs.List.{list_any}
 use Rattle.mrp_participant.specs.Lookup.{find}
 use Rattle.mrp_participant.specs.Row.{is_leaving_in}
 use Rattle.mrp_participant.specs.State.{left_state}
@@ -9,7 +8,7 @@ use Rattle.msrp_codec.specs.declared.pdu.MsrpKey.{MsrpKey}
 use Rattle.msrp.specs.Part.{key_cmp}
 use Rattle.msrp.specs.Domain.{are_counted}
 use Rattle.msrp.specs.Holding.{PortHolding, ports_in}
-use Rattle.msrp.specs.Settling.{is_domain, known_keys, told_sets}
+use Rattle.msrp.specs.Settling.{known_keys, told_sets}
 use Rattle.msrp.specs.Side.{left_key}
 use Rattle.msrp.proofs.InPlace.{known_there, port_is, state_is, told_is}
 use Rattle.msrp.proofs.Places.{one_some, some_is}
@@ -29,7 +28,7 @@ returns-clause-ok c =
     c.tell.ensures ∙ (ap (λ d. told_sets c.args.at d c.told_where-told.result.now c.as_slice-3.result.now (keys_in c.room_to_tell.new.sets.items)) domain
     ∙ ap (λ s. told_sets c.args.at x.state.domain c.told_where-told.result.now c.as_slice-3.result.now s) c.in_ok-room_to_tell.ensures.keys) in
     let is : c.as_slice-3.result.now ≡ (if are_counted x.state.domain && c.any_domain.result then known_keys c.args.talks.now c.args.listens.now (ports_in c.args.ports.now.items) else []) =
-    c.as_slice-3.ensures.value ∙ (c.in_ok-known.ensures
+    c.as_slice-3.ensures.value ∙ (c.in_ok-known.ensures.keys
     ∙ (ap (λ b. if b then known_keys c.args.talks.now c.args.listens.now (ports_in c.as_slice.result.now) else []) (c.heeds.ensures ∙ ap (λ d. are_counted d && c.any_domain.result) domain)
     ∙ ap (λ ps. if are_counted x.state.domain && c.any_domain.result then known_keys c.args.talks.now c.args.listens.now (ports_in ps) else []) c.as_slice.ensures.value)) in
     λ moment.

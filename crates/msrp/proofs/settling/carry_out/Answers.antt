@@ -1,21 +1,20 @@
-use Rattle.std.proofs.Common.{◌≡◌, ◌≤◌, ◌<◌, ◌+◌, ◌++◌, ◌∙◌, ℕ, List, [], length, map, ap, sym, subst, arith}
-use Rattle.std.specs.Prelude.{slice_get, slice_set, Some, IfSome, vec_capacity, vec_len}
+use Rattle.std.proofs.Common.{◌≡◌, ◌≤◌, ◌<◌, ◌+◌, ◌++◌, ◌∙◌, ℕ, List, [], length, map, ap, sym, arith}
+use Rattle.std.specs.Prelude.{slice_get, slice_set, Some, vec_capacity}
 use Rattle.std.proofs.Math.ListN.{length-set}
 use Rattle.srp_base.specs.declared.numbers.StreamId.{StreamId}
 use Rattle.port_ledger.specs.Book.{Book, booked_only_in}
 use Rattle.attribute_propagation.specs.Dirty.{KeySet}
-use Rattle.attribute_propagation.specs.Ports.{keys_at, keys_in, keys_or_none, marked_elsewhere}
+use Rattle.attribute_propagation.specs.Ports.{keys_in, keys_or_none, marked_elsewhere}
 use Rattle.msrp_codec.specs.declared.pdu.MsrpKey.{MsrpKey}
-use Rattle.msrp.specs.declared.plan.Asked.{Asked}
 use Rattle.msrp.specs.declared.plan.Stated.{Stated}
 use Rattle.msrp.specs.PortState.{PortState}
 use Rattle.msrp.specs.Part.{key_cmp}
-use Rattle.msrp.specs.Settling.{listener_keys, moved_streams, settling_keys, streams_in, talker_keys}
+use Rattle.msrp.specs.Settling.{listener_keys, settling_keys, streams_in, talker_keys}
 use Rattle.msrp.specs.Stream.{registrations_of}
 use Rattle.msrp.specs.Side.{with_part}
 use Rattle.msrp.specs.Holding.{PortHolding, ports_in}
-use Rattle.msrp.specs.Plan.{IsPlan, asked_at, asked_book, stated_of, stated_part}
-use Rattle.msrp.proofs.Carried.{HasStepped, book_is, get-set, keys_is, keys_set, marked-many, moved_fits, moved_since, plan_at, port_has, read-set, set_has, set_is, stepped_is, talkers_fit, tried_fits}
+use Rattle.msrp.specs.Plan.{asked_at, asked_book, stated_of, stated_part}
+use Rattle.msrp.proofs.Carried.{book_is, get-set, keys_is, keys_set, marked-many, moved_fits, moved_since, plan_at, port_has, read-set, set_has, set_is, stepped_is, talkers_fit, tried_fits}
 use Rattle.msrp.proofs.InPlace.{fewer, port_is, state_is, states-set}
 use Rattle.msrp.proofs.Places.{each-set, map-set, mapped_length, opened}
 use Rattle.msrp.proofs.settling.carry_out.Goals as goal

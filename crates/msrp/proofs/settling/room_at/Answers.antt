@@ -1,4 +1,4 @@
-use Rattle.std.proofs.Common.{rules, ◌≡◌, ◌≤◌, ◌+◌, ◌∙◌, ℕ, length, ap, sym, subst, arith}
+use Rattle.std.proofs.Common.{rules, ◌≡◌, ◌≤◌, ◌+◌, ◌∙◌, ℕ, length, subst, arith}
 use Rattle.std.specs.Prelude.{slice_get, vec_capacity, vec_len, IfSome}
 use Rattle.attribute_propagation.specs.Dirty.{KeySet}
 use Rattle.attribute_propagation.specs.Ports.{HasRoom}

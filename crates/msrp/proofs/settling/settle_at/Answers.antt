@@ -1,11 +1,10 @@
-use Rattle.std.proofs.Common.{◌≡◌, ◌∙◌, ℕ, List, length, ap, sym, arith}
-use Rattle.std.specs.Prelude.{slice_get, Some, IfSome}
+use Rattle.std.proofs.Common.{◌≡◌, ◌∙◌, List, ap, sym, arith}
+use Rattle.std.specs.Prelude.{slice_get, Some}
 use Rattle.attribute_propagation.specs.Dirty.{KeySet}
-use Rattle.attribute_propagation.specs.Ports.{count_of, keys_at, keys_in, keys_or_none}
+use Rattle.attribute_propagation.specs.Ports.{keys_at, keys_in, keys_or_none}
 use Rattle.msrp_codec.specs.declared.pdu.MsrpKey.{MsrpKey}
-use Rattle.msrp.specs.PortState.{PortState}
 use Rattle.msrp.specs.Side.{Streams, settled_streams}
-use Rattle.msrp.specs.Holding.{PortHolding, ports_in, streams_of}
+use Rattle.msrp.specs.Holding.{PortHolding, ports_in}
 use Rattle.msrp.specs.Plan.{IsPlan}
 use Rattle.msrp.proofs.Carried.{same_many, same_sets}
 use Rattle.msrp.proofs.InPlace.{same_streams, state_is}

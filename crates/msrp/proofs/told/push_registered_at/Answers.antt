@@ -41,11 +41,11 @@ pushed s i key old new at e =
 pub returns-in-Some : goal.returns-in-Some
 returns-in-Some c =
     on_ok c.push_where.result c.push_where.ensures
-    (λ e. pushed c.args.part.now.state c.args.place c.in-Some.key c.args.out.now.items c.push_where.new.out.items (sym c.key_at.ensures ∙ c.in-Some.is)
-    (e ∙ ap (λ (b : Bool). c.args.out.now.items ++ filter (λ _. b) (c.in-Some.key ∷ [])) (c.is_some.ensures ∙ ap is_some c.registered.ensures)))
+    (λ e. pushed c.args.part.now.state c.args.place c.in-Some.key c.args.out.now.items c.push_where.new.out.items (sym c.in-Some.ensures.key)
+    (e ∙ ap (λ (b : Bool). c.args.out.now.items ++ filter (λ _. b) (c.in-Some.key ∷ [])) (c.is_some.ensures ∙ ap is_some c.in-Some.ensures.content)))
 
 pub returns-in-None : goal.returns-in-None
 returns-in-None c =
     ap (λ xs. c.args.out.now.items ++ xs)
     (ap (λ n. from n c.args.part.now.state) (add-one c.args.place)
-    ∙ sym (no_more (is_in c.args.part.now.state) (map key_of c.args.part.now.state.rows) c.args.place (sym c.key_at.ensures ∙ c.in-None.is)))
+    ∙ sym (no_more (is_in c.args.part.now.state) (map key_of c.args.part.now.state.rows) c.args.place (sym c.in-None.ensures.key)))

@@ -1,4 +1,4 @@
-use Rattle.std.proofs.Common.{◌≡◌, ◌∙◌, ◌-◌, ℕ, ap}
+use Rattle.std.proofs.Common.{◌≡◌, ◌∙◌, ℕ, ap}
 use Rattle.std.specs.Prelude.{OnOk}
 use Rattle.msrp.specs.Side.{Streams, due_streams}
 use Rattle.msrp.specs.Holding.{SideHolding, streams_of}

@@ -1,4 +1,4 @@
-use Rattle.std.proofs.Common.{◌≡◌, ◌≤◌, ◌∙◌, sym, ap, subst}
+use Rattle.std.proofs.Common.{◌≤◌, ◌∙◌, sym, ap, subst}
 use Rattle.std.specs.List.{list_any}
 use Rattle.msrp.specs.Side.{Streams, IsKept, clocked_streams, shows_at}
 use Rattle.msrp.specs.Holding.{SideHolding, ports_in, streams_of}

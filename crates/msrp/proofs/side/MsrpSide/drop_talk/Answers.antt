@@ -1,0 +1,16 @@
+use Rattle.std.proofs.Common.{refl}
+use Rattle.msrp.specs.Side.{Streams, talks_without}
+use Rattle.msrp.specs.Holding.{streams_of}
+use Rattle.msrp.proofs.Keeping.{kept-asked}
+use Rattle.msrp.proofs.OtherStreams.{talks_other}
+use Rattle.msrp.proofs.side.MsrpSide.drop_talk.Goals as goal
+
+pub invariant_of-self-2 : goal.invariant_of-self-2
+invariant_of-self-2 c =
+    let before : Streams = streams_of c.self.inside.ports.items c.self.inside.awaiting.items c.self.inside.talks.items c.self.inside.listens.items c.self.inside.moment.0 in (
+      rw (c.in_ok-both_await.ensures.ok, c.drop_talker.ensures.talks)
+          (kept-asked c.each_port_is_told.ensures before c.self.invariant.0 c.args.stream (talks_without c.args.stream before.talks) before.listens
+          (λ s e. talks_other c.args.stream s before.talks e)
+          (λ s e. refl)),
+      tt,
+    )

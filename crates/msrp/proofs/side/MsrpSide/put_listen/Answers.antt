@@ -1,0 +1,16 @@
+use Rattle.std.proofs.Common.{◌∷◌, refl}
+use Rattle.msrp.specs.Side.{Streams}
+use Rattle.msrp.specs.Holding.{streams_of}
+use Rattle.msrp.proofs.Keeping.{kept-asked}
+use Rattle.msrp.proofs.OtherStreams.{listens_more}
+use Rattle.msrp.proofs.side.MsrpSide.put_listen.Goals as goal
+
+pub invariant_of-self-2 : goal.invariant_of-self-2
+invariant_of-self-2 c =
+    let before : Streams = streams_of c.self.inside.ports.items c.self.inside.awaiting.items c.self.inside.talks.items c.self.inside.listens.items c.self.inside.moment.0 in (
+      rw (c.in_ok-both_await.ensures.ok, c.put_first.ensures, c.reserve.ensures.items)
+          (kept-asked c.each_port_is_told.ensures before c.self.invariant.0 c.args.stream before.talks (c.args.stream ∷ before.listens)
+          (λ s e. refl)
+          (λ s e. listens_more c.args.stream s before.listens e)),
+      tt,
+    )
