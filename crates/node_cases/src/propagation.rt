@@ -1,6 +1,10 @@
-//! Keys that await settling, and the flat rule of declarations.
+//! Keys that await settling, at one port and at three, and the flat rule of declarations.
 
-use attribute_propagation::{Dirty, flat_declares};
+use crate::vlans::setup;
+use attribute_propagation::{
+    Dirty, empty_at, flat_declares, new_sets, none_awaits, room_everywhere, set_at, some_awaits,
+    tell_elsewhere, tell_everywhere,
+};
 use srp_base::NoMemory;
 use std::alloc::Global;
 use std::test::Fail;
@@ -30,27 +34,20 @@ fn ends_with(set: &Dirty<u16>, last: u16) -> bool {
     0 < count && set.key_at(count - 1) == Some(last) && set.key_at(count) == None
 }
 
-// Whether these are all keys of the set with two more.
-fn grows_to(set: &Dirty<u16>, keys: &[u16]) -> bool {
-    match set.with_all([8, 1].as_slice()) {
-        Ok(more) => more.as_slice() == keys,
-        Err(_) => false,
+// Whether these are all keys of the set once two more are put in, for which room is made.
+fn grows_to(set: &mut Dirty<u16>, keys: &[u16]) -> bool {
+    if set.room(2).is_err() {
+        return false;
     }
+    set.mark_all([8, 1].as_slice());
+    set.as_slice() == keys
 }
 
-// Whether a copy of the set has these keys.
-fn is_copied(set: &Dirty<u16>, keys: &[u16]) -> bool {
-    match set.copy() {
-        Ok(other) => other.as_slice() == keys,
-        Err(_) => false,
-    }
-}
-
-// Whether a key that is cleared awaits no more, and a copy has what is left.
+// Whether a key that is cleared awaits no more, and the set has what is left.
 fn leaves(set: &mut Dirty<u16>, key: u16, rest: &[u16]) -> bool {
     let awaited = set.awaits(key);
     set.clear(key);
-    awaited && !set.awaits(key) && is_copied(set, rest)
+    awaited && !set.awaits(key) && set.as_slice() == rest
 }
 
 // Whether nothing leaves a set of some keys where a key is cleared that isn't in it.
@@ -61,10 +58,10 @@ fn stays(set: &mut Dirty<u16>, key: u16, keys: &[u16]) -> bool {
 
 #[test]
 fn a_set_is_read_ascending(rt: HostRuntime) -> Result<(), Fail> {
-    let set = some_keys(rt.alloc())?;
+    let mut set = some_keys(rt.alloc())?;
     assert!(rt; has_keys(&set, [3, 7, 9].as_slice()));
     assert!(rt; ends_with(&set, 9));
-    assert!(rt; grows_to(&set, [1, 3, 7, 8, 9].as_slice()));
+    assert!(rt; grows_to(&mut set, [1, 3, 7, 8, 9].as_slice()));
     Ok(())
 }
 
@@ -90,6 +87,59 @@ fn a_key_for_which_room_was_made_awaits(rt: HostRuntime) -> Result<(), Fail> {
     let awaits = awaits_in_room(rt.alloc(), 7)?;
     assert!(rt; awaits);
     Ok(())
+}
+
+// The sets of three new ports.
+fn new_ports(alloc: Global) -> Result<Vec<Dirty<u16>>, NoMemory> {
+    match (setup(1), setup(1), setup(1)) {
+        (Some(one), Some(two), Some(three)) => new_sets(alloc, [one, two, three].as_slice()),
+        _ => Err(NoMemory),
+    }
+}
+
+// Whether these are the keys that await at a place, ascending.
+fn await_at(sets: &[Dirty<u16>], at: usize, keys: &[u16]) -> bool {
+    at < sets.len() && set_at(sets, at).as_slice() == keys
+}
+
+// Whether these await at the first port and at the third, and these at the second.
+fn await_around(sets: &[Dirty<u16>], around: &[u16], within: &[u16]) -> bool {
+    await_at(sets, 0, around) && await_at(sets, 1, within) && await_at(sets, 2, around)
+}
+
+// Whether what the second port tells awaits at the others, once there is room for it.
+fn tells_others(sets: &mut Vec<Dirty<u16>>) -> Result<bool, NoMemory> {
+    let none = none_awaits(sets.as_slice());
+    room_everywhere(sets, 2)?;
+    tell_elsewhere(sets, 1, [7, 3].as_slice());
+    Ok(none && await_around(sets.as_slice(), [3, 7].as_slice(), [].as_slice()))
+}
+
+// Whether what is told everywhere awaits at each beside that, once there is room for it.
+fn tells_all(sets: &mut Vec<Dirty<u16>>) -> Result<bool, NoMemory> {
+    room_everywhere(sets, 1)?;
+    tell_everywhere(sets, [5].as_slice());
+    Ok(await_around(sets.as_slice(), [3, 5, 7].as_slice(), [5].as_slice()))
+}
+
+// Whether none awaits at the second port once all are taken out there.
+fn empties(sets: &mut Vec<Dirty<u16>>) -> bool {
+    if sets.len() != 3 {
+        return false;
+    }
+    empty_at(sets, 1);
+    some_awaits(sets.as_slice())
+        && await_around(sets.as_slice(), [3, 5, 7].as_slice(), [].as_slice())
+}
+
+fn are_told(alloc: Global) -> Result<bool, NoMemory> {
+    let mut sets = new_ports(alloc)?;
+    Ok(tells_others(&mut sets)? && tells_all(&mut sets)? && empties(&mut sets))
+}
+
+#[test]
+fn keys_are_told_to_other_ports_and_to_all(rt: HostRuntime) {
+    assert!(rt; are_told(rt.alloc()) == Ok(true));
 }
 
 // Whether the ports declare this, where this is registered.

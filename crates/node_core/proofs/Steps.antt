@@ -26,8 +26,13 @@ use Rattle.node_core.specs.declared.types.NodeEvent.TheVariants.{Request, Port, 
 use Rattle.node_core.specs.declared.types.PortStep.{PortStep}
 use Rattle.node_core.specs.declared.types.StepReply.{StepReply}
 use Rattle.node_core.specs.State.{NodeState, ports_of, box_at}
+use Rattle.node_core.specs.Holding.{NodeHolding}
 use Rattle.node_core.specs.Step.{CanStep, Stepped, node_step, port_step, after_work, worked_app, left_vid_now, left_key_now}
 use Rattle.node_core.specs.Proper.{IsInRange, IsProperNode}
+
+-- nodes that are the same have the same state
+pub state_of : {a b : NodeHolding} → a ≡ b → a.state ≡ b.state
+state_of e = ap (λ (n : NodeHolding). n.state) e
 
 -- the law of steps, as laws.rt says it
 abbrev pub StepLaw : Type 0

@@ -1,5 +1,6 @@
 pub mod Wires
 pub mod State
+pub mod Holding
 pub mod Step
 pub mod Calls
 pub mod Leaving

@@ -1,21 +1,23 @@
 //! What a step of a node does at its applications, MVRP and MSRP. Each function says what it makes of them, as the words of
 //! `specs/Step.antt` have it; what stays of a node at each step is a law over those (`every_step_keeps_a_node_proper`).
 
-ghost use Rattle.std.specs.Prelude.{◌≡◌, ◌<◌, ◌≤◌, ◌^◌, length, slice_get, vec_len, vec_capacity, Some, IfOk, IfSome, OnOk, OnErr};
+ghost use Rattle.std.specs.Prelude.{◌≡◌, ◌<◌, ◌≤◌, ◌^◌, length, slice_get, vec_len, vec_capacity, true, false, Some, IsOk, IfOk, IfSome, OnOk, OnErr};
+ghost use Rattle.std.specs.List.{list_any};
 ghost use Rattle.mrp_participant.specs.State.{due_count};
 ghost use Rattle.attribute_propagation.specs.Ports.{IsLinkPort, place_of, count_of};
 ghost use Rattle.mvrp_codec.specs.Meaning.{mvrp_reading};
 ghost use Rattle.msrp_codec.specs.Meaning.{msrp_reading};
 ghost use Rattle.flat_side.specs.Side.{awaiting_at};
 ghost use Rattle.mvrp.specs.Side.{requested_vlans, due_vlans, leave_all_vlans, periodic_vlans, settled_vlans, spoilt_vlans, sent_vlans};
-ghost use Rattle.msrp.specs.Side.{next_sets, clocked_streams, requested_streams, due_streams, leave_all_streams, periodic_streams, settled_streams, spoilt_streams, sent_streams};
+ghost use Rattle.msrp.specs.Side.{clocked_streams, requested_streams, due_streams, leave_all_streams, periodic_streams, settled_streams, shows_at, spoilt_streams, sent_streams};
+ghost use Rattle.node_core.specs.Holding.{is_ready_at};
 ghost use Rattle.node_core.specs.Calls.{HasOneTaken, HasOneSaid, IsSaying};
 ghost use Rattle.node_core.specs.Step.{all_due, all_awaiting, left_key_now, left_vid_now, said_mvrp, said_msrp, with_wire, worked_mvrp, worked_msrp};
 ghost use Rattle.node_core.specs.Wires.{IsShort};
 
 use crate::types::{StepReply, Wire};
 use mrpdu_codec::DecodeErr;
-use msrp::{ClockSets, MsrpSide, SrpRequest};
+use msrp::{MsrpSide, SrpRequest};
 use msrp_codec::MsrpKey;
 use mvrp::MvrpSide;
 use srp_base::{App, Cs, NoMemory, PortNo, Seq, Vid};
@@ -338,13 +340,28 @@ pub(crate) fn spoil_streams(side: &mut MsrpSide, port: PortNo)
     side.spoil(port);
 }
 
-// The clock goes on to a moment that isn't before the last.
-pub(crate) fn clock_by(side: &mut MsrpSide, now: Cs, sets: ClockSets)
-    requires moment { side.old.state.moment ≤ now.0 }
-    requires sets { sets ≡ next_sets now.0 side.old.state }
-    ensures { side.new.state ≡ clocked_streams now.0 side.old.state }
+// Makes the side ready for a clock that is set to a moment. It takes memory only where that shows something.
+pub(crate) fn make_ready(side: &mut MsrpSide, now: Cs) -> Result<(), NoMemory>
+    ensures state { side.new.state ≡ side.old.state }
+    ensures ready { OnOk result (is_ready_at now.0 side.new ≡ true) }
+    ensures again { is_ready_at now.0 side.old ≡ true → IsOk result }
+    ensures none { list_any (shows_at now.0) side.old.state.ports ≡ false → IsOk result }
 {
-    side.clock_by(now, sets);
+    if side.clock_shows(now) {
+        side.clock_room()
+    } else {
+        Ok(())
+    }
+}
+
+// The clock goes on to a moment that isn't before the last.
+pub(crate) fn go_on(side: &mut MsrpSide, now: Cs) -> Result<(), NoMemory>
+    requires { side.old.state.moment ≤ now.0 }
+    ensures ok { OnOk result (side.new.state ≡ clocked_streams now.0 side.old.state) }
+    ensures err { OnErr result (side.new.state ≡ side.old.state) }
+    ensures room { is_ready_at now.0 side.old ≡ true → IsOk result }
+{
+    side.clock(now)
 }
 
 // ---- what goes into an outbox

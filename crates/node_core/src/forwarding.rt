@@ -14,16 +14,16 @@ use srp_base::PortNo;
 impl Node {
     /// The participant of MVRP at a port.
     pub fn vlan_part(&self, port: PortNo) -> &Participant<MvrpApp>
-        requires { IsLinkPort port (ports_of self.now) }
-        ensures { slice_get self.now.vlans.parts (place_of port) ≡ Some result.now.state }
+        requires { IsLinkPort port (ports_of self.now.state) }
+        ensures { slice_get self.now.state.vlans.parts (place_of port) ≡ Some result.now.state }
     {
         self.mvrp.participant(port)
     }
 
     /// The ledger of a port.
     pub fn ledger(&self, port: PortNo) -> &Ledger
-        requires { IsLinkPort port (ports_of self.now) }
-        ensures { IfSome (slice_get self.now.streams.ports (place_of port))
+        requires { IsLinkPort port (ports_of self.now.state) }
+        ensures { IfSome (slice_get self.now.state.streams.ports (place_of port))
             (λ p. result.now.book ≡ p.ledger) }
     {
         self.msrp.ledger(port)

@@ -10,19 +10,18 @@ ghost use Rattle.mrp_participant.specs.Link.{with_repeat};
 
 use crate::applications::{spoil_streams, spoil_vlans};
 use crate::laws::{links_keep_a_node_proper, octets_say_what_fits};
-use crate::node::{Node, copied_wire};
+use crate::node::Node;
 use crate::types::Wire;
 use srp_base::{App, NoMemory, PortNo, Seq};
-use std::alloc::Global;
 use std::mem;
 
 impl Node {
     /// The PDUs of a port's outbox, which is empty afterwards. It takes no memory.
     pub fn take_out(&mut self, port: PortNo) -> Seq<Wire>
-        requires { IsLinkPort port (ports_of self.old) }
-        ensures taken { result ≡ box_at (place_of port) self.old.outboxes }
+        requires { IsLinkPort port (ports_of self.old.state) }
+        ensures taken { result ≡ box_at (place_of port) self.old.state.outboxes }
         ensures short { AreShort result }
-        ensures after { self.new ≡ with_outbox (place_of port) [] self.old }
+        ensures after { self.new.state ≡ with_outbox (place_of port) [] self.old.state }
     {
         links_keep_a_node_proper();
         let alloc = *self.inboxes.allocator();
@@ -33,25 +32,24 @@ impl Node {
     /// Puts PDUs of at most 1,500 octets behind those of a port's inbox. After want of memory the node is as it was, and
     /// the PDUs are handed back.
     pub fn put_in(&mut self, port: PortNo, wires: Seq<Wire>) -> Result<(), (NoMemory, Seq<Wire>)>
-        requires port { IsLinkPort port (ports_of self.old) }
+        requires port { IsLinkPort port (ports_of self.old.state) }
         requires short { AreShort wires }
-        ensures ok { OnOk result (self.new ≡ with_carried (place_of port) wires self.old) }
-        ensures err { OnErr result (self.new ≡ self.old) }
+        ensures ok { OnOk result (self.new.state
+            ≡ with_carried (place_of port) wires self.old.state) }
+        ensures err { OnErr result (self.new.state ≡ self.old.state) }
         ensures back { IfErr result (λ e. e.1 ≡ wires) }
     {
         links_keep_a_node_proper();
         each_says_what_fits(wires.as_slice());
-        let at = usize::from(port.0) - 1;
-        let alloc = *self.inboxes.allocator();
-        append(alloc, &mut self.inboxes[at], wires)
+        self.inboxes[usize::from(port.0) - 1].append(wires)
     }
 
     /// Makes these PDUs of at most 1,500 octets a port's outbox, which was empty. It takes no memory.
     pub fn put_back(&mut self, port: PortNo, wires: Seq<Wire>)
-        requires port { IsLinkPort port (ports_of self.old) }
+        requires port { IsLinkPort port (ports_of self.old.state) }
         requires short { AreShort wires }
-        requires empty { box_at (place_of port) self.old.outboxes ≡ [] }
-        ensures { self.new ≡ with_outbox (place_of port) wires self.old }
+        requires empty { box_at (place_of port) self.old.state.outboxes ≡ [] }
+        ensures { self.new.state ≡ with_outbox (place_of port) wires self.old.state }
     {
         links_keep_a_node_proper();
         each_says_what_fits(wires.as_slice());
@@ -62,29 +60,28 @@ impl Node {
     /// Loses the PDU with this index from a port's inbox, counted from 0. False exactly where no PDU has it; then nothing
     /// changes.
     pub fn lose(&mut self, port: PortNo, index: u32) -> bool
-        requires { IsLinkPort port (ports_of self.old) }
-        ensures done { result ≡ has_index (place_of port) index self.old }
-        ensures after { self.new
-            ≡ (if result then lost_at (place_of port) index self.old else self.old) }
+        requires { IsLinkPort port (ports_of self.old.state) }
+        ensures done { result ≡ has_index (place_of port) index self.old.state }
+        ensures after { self.new.state
+            ≡ (if result then lost_at (place_of port) index self.old.state else self.old.state) }
     {
         let at = usize::from(port.0) - 1;
         if self.inboxes[at].len() <= index as usize {
             return false;
         }
         links_keep_a_node_proper();
-        let alloc = *self.inboxes.allocator();
-        remove(alloc, &mut self.inboxes[at], index as usize);
+        self.inboxes[at].remove(index as usize);
         true
     }
 
     /// Puts a copy of the PDU with this index in a port's inbox right behind it. False exactly where no PDU has the index;
     /// then nothing changes.
     pub fn repeat(&mut self, port: PortNo, index: u32) -> Result<bool, NoMemory>
-        requires { IsLinkPort port (ports_of self.old) }
-        ensures done { IfOk result (λ done. done ≡ has_index (place_of port) index self.old) }
-        ensures after { IfOk result (λ done. self.new
-            ≡ (if done then repeated_at (place_of port) index self.old else self.old)) }
-        ensures err { OnErr result (self.new ≡ self.old) }
+        requires { IsLinkPort port (ports_of self.old.state) }
+        ensures done { IfOk result (λ done. done ≡ has_index (place_of port) index self.old.state) }
+        ensures after { IfOk result (λ done. self.new.state
+            ≡ (if done then repeated_at (place_of port) index self.old.state else self.old.state)) }
+        ensures err { OnErr result (self.new.state ≡ self.old.state) }
     {
         let at = usize::from(port.0) - 1;
         if self.inboxes[at].len() <= index as usize {
@@ -92,7 +89,7 @@ impl Node {
         }
         links_keep_a_node_proper();
         let alloc = *self.inboxes.allocator();
-        repeat_wire(alloc, &mut self.inboxes[at], index as usize)?;
+        self.inboxes[at].repeat(alloc, index as usize)?;
         Ok(true)
     }
 
@@ -101,12 +98,13 @@ impl Node {
     /// that was corrupted and passed its check. False exactly where the index is above the number of PDUs that wait; then
     /// nothing changes.
     pub fn forge(&mut self, port: PortNo, index: u32, wire: Wire) -> Result<bool, NoMemory>
-        requires port { IsLinkPort port (ports_of self.old) }
+        requires port { IsLinkPort port (ports_of self.old.state) }
         requires short { IsShort wire }
-        ensures done { IfOk result (λ done. done ≡ has_place (place_of port) index self.old) }
-        ensures after { IfOk result (λ done. self.new
-            ≡ (if done then forged_at (place_of port) index wire self.old else self.old)) }
-        ensures err { OnErr result (self.new ≡ self.old) }
+        ensures done { IfOk result (λ done. done ≡ has_place (place_of port) index self.old.state) }
+        ensures after { IfOk result (λ done. self.new.state
+            ≡ (if done then forged_at (place_of port) index wire self.old.state
+            else self.old.state)) }
+        ensures err { OnErr result (self.new.state ≡ self.old.state) }
     {
         let at = usize::from(port.0) - 1;
         if self.inboxes[at].len() < index as usize {
@@ -115,15 +113,14 @@ impl Node {
         links_keep_a_node_proper();
         octets_say_what_fits();
         wire.keeps();
-        let alloc = *self.inboxes.allocator();
-        insert(alloc, &mut self.inboxes[at], index as usize, wire)?;
+        self.inboxes[at].insert(index as usize, wire)?;
         Ok(true)
     }
 
     /// Ends the soundness of an application's participant at a port, as after a loss on its link. It takes no memory.
     pub fn spoil(&mut self, port: PortNo, app: App)
-        requires { IsLinkPort port (ports_of self.old) }
-        ensures { self.new ≡ spoilt_at app (place_of port) self.old }
+        requires { IsLinkPort port (ports_of self.old.state) }
+        ensures { self.new.state ≡ spoilt_at app (place_of port) self.old.state }
     {
         links_keep_a_node_proper();
         match app {
@@ -141,62 +138,4 @@ fn each_says_what_fits(wires: &[Wire])
     for wire in wires {
         wire.keeps();
     }
-}
-
-// Puts PDUs behind those of an inbox.
-fn append(
-    alloc: Global,
-    inbox: &mut Seq<Wire>,
-    wires: Seq<Wire>,
-) -> Result<(), (NoMemory, Seq<Wire>)>
-    ensures ok { OnOk result (inbox.new ≡ inbox.old ++ wires) }
-    ensures err { OnErr result (inbox.new ≡ inbox.old) }
-    ensures back { IfErr result (λ e. e.1 ≡ wires) }
-{
-    let mut more = wires.into_vec();
-    let mut all = mem::replace(inbox, Seq::new(alloc)).into_vec();
-    let appended = all.append(&mut more);
-    *inbox = Seq::from_vec(all);
-    match appended {
-        Ok(()) => Ok(()),
-        Err(_) => Err((NoMemory, Seq::from_vec(more))),
-    }
-}
-
-// Takes the PDU of an index out of an inbox.
-pub(crate) fn remove(alloc: Global, inbox: &mut Seq<Wire>, index: usize)
-    requires { index < length inbox.old }
-    ensures { inbox.new ≡ without index inbox.old }
-{
-    let mut wires = mem::replace(inbox, Seq::new(alloc)).into_vec();
-    let _ = wires.remove(index);
-    *inbox = Seq::from_vec(wires);
-}
-
-// Puts a PDU at the place of an index in an inbox.
-fn insert(alloc: Global, inbox: &mut Seq<Wire>, index: usize, wire: Wire) -> Result<(), NoMemory>
-    requires { index ≤ length inbox.old }
-    ensures ok { OnOk result (inbox.new ≡ with_wire index wire inbox.old) }
-    ensures err { OnErr result (inbox.new ≡ inbox.old) }
-{
-    let mut wires = mem::replace(inbox, Seq::new(alloc)).into_vec();
-    let inserted = wires.insert(index, wire);
-    *inbox = Seq::from_vec(wires);
-    inserted?;
-    Ok(())
-}
-
-// Puts a copy of the PDU of an index right behind it.
-#[tactic(auto, using(crate::proofs::Boxes::repeated_of))]
-fn repeat_wire(alloc: Global, inbox: &mut Seq<Wire>, index: usize) -> Result<(), NoMemory>
-    requires { index < length inbox.old }
-    ensures ok { OnOk result (inbox.new ≡ with_repeat index inbox.old) }
-    ensures err { OnErr result (inbox.new ≡ inbox.old) }
-{
-    let copy = copied_wire(alloc, &inbox.as_slice()[index])?;
-    let mut wires = mem::replace(inbox, Seq::new(alloc)).into_vec();
-    let inserted = wires.insert(index, copy);
-    *inbox = Seq::from_vec(wires);
-    inserted?;
-    Ok(())
 }

@@ -8,7 +8,7 @@ ghost use Rattle.mrp_participant.specs.State.{is_active};
 ghost use Rattle.node_core.specs.Leaving.{vlans_leave, streams_leave, has_leave_all, is_leave_all_at};
 ghost use Rattle.node_core.specs.State.{ports_of, box_at};
 
-use crate::node::{Node, copied_wires};
+use crate::node::Node;
 use crate::types::Wire;
 use leaveall::LeaveAll;
 use mrpdu_codec::DecodeErr;
@@ -18,18 +18,17 @@ use std::alloc::Global;
 impl Node {
     /// The PDUs that wait in a port's inbox, in order.
     pub fn waiting(&self, port: PortNo) -> Result<Seq<Wire>, NoMemory>
-        requires { IsLinkPort port (ports_of self.now) }
-        ensures { IfOk result (λ wires. wires ≡ box_at (place_of port) self.now.inboxes) }
+        requires { IsLinkPort port (ports_of self.now.state) }
+        ensures { IfOk result (λ wires. wires ≡ box_at (place_of port) self.now.state.inboxes) }
     {
         let alloc = *self.inboxes.allocator();
-        let wires = copied_wires(alloc, self.inboxes[usize::from(port.0) - 1].as_slice())?;
-        Ok(Seq::from_vec(wires))
+        self.inboxes[usize::from(port.0) - 1].copied(alloc)
     }
 
     /// The number of PDUs that are to go out at a port.
     pub fn outgoing_pdus(&self, port: PortNo) -> usize
-        requires { IsLinkPort port (ports_of self.now) }
-        ensures { result ≡ length (box_at (place_of port) self.now.outboxes) }
+        requires { IsLinkPort port (ports_of self.now.state) }
+        ensures { result ≡ length (box_at (place_of port) self.now.state.outboxes) }
     {
         self.outboxes[usize::from(port.0) - 1].len()
     }
@@ -37,8 +36,8 @@ impl Node {
     /// Whether the LeaveAll machine of an application at a port is Active, so that the next PDU that it sends there has
     /// LeaveAll (IEEE Std 802.1Q-2018, 10.7.10).
     pub fn leaves_next(&self, port: PortNo, app: App) -> bool
-        requires { IsLinkPort port (ports_of self.now) }
-        ensures { result ≡ is_leave_all_at app (place_of port) self.now }
+        requires { IsLinkPort port (ports_of self.now.state) }
+        ensures { result ≡ is_leave_all_at app (place_of port) self.now.state }
     {
         match app {
             App::Mvrp => is_on(self.mvrp.participant(port).leave_all()),

@@ -7,4 +7,4 @@ pub returns : goal.returns
 returns c =
     c.in_ok-push-2.ensures.items
     ∙ (ap (λ xs. xs ++ (Settle ∷ [])) (c.in_ok-push.ensures.items ∙ ap (λ xs. xs ++ (Due ∷ [])) c.in_ok-steps.ensures)
-    ∙ append_assoc (works c.args.wires.now) (Due ∷ []) (Settle ∷ []))
+    ∙ append_assoc (works c.args.inbox.now) (Due ∷ []) (Settle ∷ []))

@@ -6,6 +6,7 @@ use Rattle.node_core.specs.State.{NodeState, box_at}
 use Rattle.node_core.specs.Links.{lost_at}
 use Rattle.node_core.specs.Proper.{IsProperNode}
 use Rattle.node_core.proofs.Boxes.{box_read}
+use Rattle.node_core.proofs.Steps.{state_of}
 use Rattle.node_core.proofs.node.Node.lose.Goals as goal
 use Rattle.node_core.proofs.node.Node.lose.Goals.{After-self-1}
 
@@ -26,16 +27,16 @@ abbrev at : After-self-1 → ℕ
 at c = c.from-at.result - 1
 
 below : (c : After-self-1) → at c < length (before c).inboxes
-below c = omega (arith, c.from-at.ensures, c.requires.some, c.requires.within, c.self.invariant.kept.inboxes, ap (λ (v : NodeState). length v.vlans.parts) c.self.view_is)
+below c = omega (arith, c.from-at.ensures, c.requires.some, c.requires.within, c.self.invariant.kept.inboxes, ap (λ (v : NodeState). length v.vlans.parts) (state_of c.self.view_is))
 
 -- the inbox is without the PDU
-left : (c : After-self-1) → c.remove.new.inbox ≡ without c.args.index (box_at (at c) (before c).inboxes)
+left : (c : After-self-1) → c.remove.new.self ≡ without c.args.index (box_at (at c) (before c).inboxes)
 left c = c.remove.ensures ∙ ap (without c.args.index) (box_read (before c).inboxes (at c) c.index_mut.result.now (below c) c.index_mut.ensures.value)
 
 pub returns-clause-after : goal.returns-clause-after
 returns-clause-after c =
     ap (λ (b : List Wire). record (before c) { inboxes = slice_set (before c).inboxes (at c) b }) (left c)
-    ∙ (ap (λ (v : NodeState). lost_at (at c) c.args.index v) c.self.view_is ∙ ap (λ (n : ℕ). lost_at (n - 1) c.args.index c.args.self.now) c.from-at.ensures)
+    ∙ (ap (λ (v : NodeState). lost_at (at c) c.args.index v) (state_of c.self.view_is) ∙ ap (λ (n : ℕ). lost_at (n - 1) c.args.index c.args.self.now.state) c.from-at.ensures)
 
 pub invariant_of-self : goal.invariant_of-self
 invariant_of-self c =

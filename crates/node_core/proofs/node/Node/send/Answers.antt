@@ -10,7 +10,7 @@ use Rattle.node_core.specs.Step.{after_send}
 use Rattle.node_core.proofs.Boxes.{set_set}
 use Rattle.node_core.specs.declared.types.PortStep.TheVariants.{Send}
 use Rattle.node_core.proofs.Sending.{with_both, put_ok, put_err}
-use Rattle.node_core.proofs.Steps.{made_or_not, port_kept}
+use Rattle.node_core.proofs.Steps.{made_or_not, port_kept, state_of}
 use Rattle.node_core.proofs.node.Node.send.Goals as goal
 use Rattle.node_core.proofs.node.Node.send.Goals.{After-drop-index_mut}
 
@@ -40,7 +40,7 @@ after c =
     }
 
 below : (c : After-drop-index_mut) → at c < length (before c).outboxes
-below c = omega (arith, c.from-at.ensures, c.requires.some, c.requires.within, c.self.invariant.kept.outboxes, ap (λ (v : NodeState). length v.vlans.parts) c.self.view_is)
+below c = omega (arith, c.from-at.ensures, c.requires.some, c.requires.within, c.self.invariant.kept.outboxes, ap (λ (v : NodeState). length v.vlans.parts) (state_of c.self.view_is))
 
 -- what was put into is the port's outbox
 here : (c : After-drop-index_mut) → box_at (place_of c.args.port) (before c).outboxes ≡ c.into_vec-outbox.result.items
@@ -69,14 +69,14 @@ changed c =
 pub returns-clause-ok : goal.returns-clause-ok
 returns-clause-ok c =
     let P : NodeState → Type 0 = λ s. IfOk c.put_out-reply.result (λ reply. after_send c.args.app (place_of c.args.port) s ≡ (after c, reply)) in
-    subst P c.self.view_is
+    subst P (state_of c.self.view_is)
     (put_ok (before c) (after c) c.args.app (place_of c.args.port) c.put_out-reply.result c.put_out-reply.new.mvrp.state
     c.put_out-reply.new.msrp.state c.put_out-reply.new.outbox.items (put c) (changed c))
 
 pub returns-clause-err : goal.returns-clause-err
 returns-clause-err c =
     let P : NodeState → Type 0 = λ s. OnErr c.put_out-reply.result (after c ≡ s) in
-    subst P c.self.view_is
+    subst P (state_of c.self.view_is)
     (put_err (before c) (after c) c.args.app (place_of c.args.port) c.put_out-reply.result c.put_out-reply.new.mvrp.state
     c.put_out-reply.new.msrp.state c.put_out-reply.new.outbox.items (put c) (changed c))
 
@@ -88,4 +88,4 @@ invariant_of-self c =
     (put_err (before c) (after c) c.args.app (place_of c.args.port) c.put_out-reply.result c.put_out-reply.new.mvrp.state
     c.put_out-reply.new.msrp.state c.put_out-reply.new.outbox.items (put c) (changed c))
     c.self.invariant
-    (port_kept c.every_step_keeps_a_node_proper.ensures c.args.port (Send c.args.app) (before c) c.args.self.now c.self.view_is c.requires c.self.invariant)
+    (port_kept c.every_step_keeps_a_node_proper.ensures c.args.port (Send c.args.app) (before c) c.args.self.now.state (state_of c.self.view_is) c.requires c.self.invariant)

@@ -1,7 +1,7 @@
 use Rattle.std.proofs.Common.{List, [], ◌∷◌, ◌++◌, ◌+◌, drop, get_or, sym, ap, ◌∙◌, append_assoc}
 use Rattle.std.proofs.lemmas.List.{at_drop_more}
 use Rattle.node_core.specs.declared.types.Wire.{Wire}
-use Rattle.node_core.proofs.node.copied_wires.Goals as goal
+use Rattle.node_core.proofs.inbox.push_copies.Goals as goal
 
 pub loop-wire-preserved : goal.loop-wire-preserved
 loop-wire-preserved c =
