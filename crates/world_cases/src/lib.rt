@@ -6,11 +6,17 @@
 #![tactic(auto)]
 
 #[cfg(test)]
+mod allowed;
+#[cfg(test)]
 mod apart;
 #[cfg(test)]
 mod leaving;
 #[cfg(test)]
+mod listeners;
+#[cfg(test)]
 mod parts;
+#[cfg(test)]
+mod resumed;
 #[cfg(test)]
 mod schedule;
 #[cfg(test)]

@@ -2,67 +2,17 @@
 //!
 //! The events are steps of ports and the carrying of PDUs, which may happen at any time.
 
-ghost use Rattle.std.specs.Prelude.{IsTrue};
-ghost use Rattle.std.specs.List.{AllByRecursion};
-ghost use Rattle.world_core.specs.During.{IsAllowed};
-ghost use Rattle.world_core.specs.World.{CanAllHappen};
-
-use crate::world::{SCENE, declares, has_node, has_port, ours, port, theirs, world_of};
+use crate::allowed::{can_run, step_of};
+use crate::world::{SCENE, declares, has_node, ours, port, theirs, world_of};
+use node_core::NodeKey;
 use node_core::PortStep::{Send, Settle, Work};
 use node_core::StepReply::{Received, Sent, Settled};
-use node_core::{NodeKey, PortStep};
 use srp_base::{App, EgressPort, NodeNo, Seq, Vid};
 use std::alloc::Global;
 use stream_importance::Entry;
-use world_core::WorldEvent::{Carry, Clock, Forge, Lose, Port, Repeat, Request};
+use world_core::WorldEvent::Carry;
 use world_core::WorldReply::{Done, Step};
-use world_core::laws::what_is_allowed_may_happen;
 use world_core::{World, WorldEvent, WorldReply};
-
-// Whether an event may happen at any time: a step of a port that is there, or what happens to its PDUs.
-fn is_allowed(world: &World, event: &WorldEvent) -> bool
-    ensures { IsTrue result → IsAllowed world.now.tree event.now }
-{
-    match event {
-        Port(node, port, _) => has_port(
-            world,
-            EgressPort {
-                node: *node,
-                port: *port,
-            },
-        ),
-        Lose(at, _) => has_port(world, *at),
-        Repeat(at, _) => has_port(world, *at),
-        Carry(at) => has_port(world, *at),
-        Request(_, _) | Forge(_, _, _) | Clock => false,
-    }
-}
-
-// Whether each of these may.
-fn are_allowed(world: &World, events: &[WorldEvent]) -> bool
-    ensures { IsTrue result → AllByRecursion (IsAllowed world.now.tree) events.now }
-{
-    for event in events {
-        if !is_allowed(world, event) {
-            return false;
-        }
-    }
-    true
-}
-
-// Whether they may happen one after the other.
-#[tactic(auto, using(crate::proofs::Worlds::all_can))]
-fn can_run(world: &World, events: &[WorldEvent]) -> bool
-    ensures { IsTrue result → CanAllHappen events.now world.now }
-{
-    what_is_allowed_may_happen();
-    world.keeps();
-    if !has_node(world, NodeNo(1)) {
-        return false;
-    }
-    let _ = world.node(NodeNo(1));
-    are_allowed(world, events)
-}
 
 // Whether a run of these events has these answers.
 fn runs(alloc: Global, world: &mut World, events: &[WorldEvent], replies: &[WorldReply]) -> bool {
@@ -86,10 +36,6 @@ fn going_on() -> [WorldEvent; 5] {
         Carry(far),
         step_of(end, Work),
     ]
-}
-
-fn step_of(at: EgressPort, step: PortStep) -> WorldEvent {
-    Port(at.node, at.port, step)
 }
 
 fn going_on_replies() -> [WorldReply; 5] {

@@ -88,7 +88,7 @@ fn is_station(world: &World, node: NodeNo, request: AppRequest) -> bool
 
 // Whether the clock, which is one for all nodes, goes on.
 #[tactic(auto, using(crate::proofs::Worlds::clock_goes_on))]
-fn goes_on(world: &World) -> bool
+pub(crate) fn goes_on(world: &World) -> bool
     ensures { IsTrue result → CanHappen WorldEvent.Clock world.now }
 {
     world.keeps();

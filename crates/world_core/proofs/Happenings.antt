@@ -1,9 +1,10 @@
 -- One of a list of nodes becomes another: the list then, and where ports stand in it.
-use Rattle.std.proofs.Common.{◌≡◌, ℕ, zero, suc, ◌-◌, ◌∷◌, ◌++◌, Bool, true, false, List, [], length, map, take, drop, length-append, refl, sym, ap, subst, ◌∙◌, arith}
-use Rattle.std.specs.Prelude.{◌<◌, ◌≤◌, nat_le, slice_get, slice_set, Option, Some, None, option_map, Result, Ok, Err, OnOk, if◌then◌else◌}
+use Rattle.std.proofs.Common.{◌≡◌, ℕ, zero, suc, ◌+◌, ◌-◌, ◌∷◌, Bool, true, false, List, [], length, map, take, refl, sym, ap, subst, ◌∙◌, arith}
+use Rattle.std.specs.Prelude.{◌<◌, ◌≤◌, nat_le, slice_get, slice_set, Option, Some, None, option_map, Result, Ok, Err, OnOk, OnErr, if◌then◌else◌}
 use Rattle.std.proofs.lemmas.Option.{slice_get_within, slice_get_read}
 use Rattle.std.proofs.lemmas.Bool.{lt-ltb}
-use Rattle.std.proofs.lemmas.List.{append-nil}
+use Rattle.std.proofs.lemmas.List.{append-nil, map-set}
+use Rattle.std.specs.List.{AllByRecursion}
 use Rattle.std.specs.Option.{option_map_or}
 use Rattle.std.proofs.Math.ListN.{length-set, get_or}
 use Rattle.srp_base.specs.declared.numbers.NodeNo.{NodeNo}
@@ -15,49 +16,96 @@ use Rattle.tree_topology.specs.Topology.{Topology}
 use Rattle.tree_topology.specs.Ports.{peer_of}
 use Rattle.attribute_propagation.specs.Ports.{IsLinkPort, place_of}
 use Rattle.flat_side.specs.Side.{with_part_at, with_part}
+use Rattle.node_core.specs.declared.types.NodeEvent.{NodeEvent}
+use Rattle.node_core.specs.declared.types.StepReply.{StepReply}
 use Rattle.node_core.specs.declared.types.Wire.{Wire}
+use Rattle.node_core.specs.Holding.{NodeHolding, states_in}
 use Rattle.node_core.specs.State.{NodeState, box_at, ports_of}
 use Rattle.node_core.proofs.Boxes.{set_set, set_same}
-use Rattle.node_core.specs.Links.{with_outbox, with_carried, has_index, has_place, lost_at, forged_at, spoilt_at}
+use Rattle.node_core.specs.Step.{Stepped, node_step}
+use Rattle.node_core.specs.Links.{with_outbox, with_carried, has_index, has_place, forged_at, spoilt_at}
 use Rattle.world_core.specs.Marks.{MarksState}
-use Rattle.world_core.specs.World.{WorldState, StandsAt, nodes_with, with_changed, outbox, app_of, reaches, with_unsound_ends, with_forgery, after_carrying}
-use Rattle.world_core.specs.declared.events.WorldReply.TheVariants.{Done, Missed}
+use Rattle.world_core.specs.World.{WorldState, Happened, world_with, after_step, step_of_node, StandsAt, nodes_with, with_changed, outbox, app_of, reaches, with_unsound_ends, with_forgery, after_carrying}
+use Rattle.world_core.specs.declared.events.WorldReply.TheVariants.{Step, Done, Missed}
 use Rattle.world_core.proofs.Boxes.{box_none}
 use Rattle.world_core.proofs.Lists.{set_each, get_set, get_set_same}
 
+-- ---- the states of the nodes where the node at a place has changed in its place
+
+pub states-set : (nodes : List NodeHolding) (i : ℕ) (y : NodeHolding) → states_in (slice_set nodes i y) ≡ slice_set (states_in nodes) i y.state
+states-set nodes i y = map-set (λ (n : NodeHolding). n.state) nodes i y
+
+pub state-read : (nodes : List NodeHolding) (i : ℕ) (x : NodeHolding) → get_or (states_in nodes) i x.state ≡ (get_or nodes i x).state
+state-read [] i x = refl
+state-read (n ∷ nodes) zero x = refl
+state-read (n ∷ nodes) (suc i) x = state-read nodes i x
+
+pub state_is : (nodes : List NodeHolding) (i : ℕ) (x : NodeHolding) → x ≡ get_or nodes i x → x.state ≡ get_or (states_in nodes) i x.state
+state_is nodes i x value = ap (λ (n : NodeHolding). n.state) value ∙ sym (state-read nodes i x)
+
+-- one of the same state takes its place
+pub same_states : (nodes : List NodeHolding) (i : ℕ) (x y : NodeHolding) → x ≡ get_or nodes i x → y.state ≡ x.state → states_in (slice_set nodes i y) ≡ states_in nodes
+same_states [] i x y value e = refl
+same_states (n ∷ nodes) zero x y value e = ap (λ (s : NodeState). s ∷ states_in nodes) (e ∙ ap (λ (m : NodeHolding). m.state) value)
+same_states (n ∷ nodes) (suc i) x y value e = ap (λ ss. n.state ∷ ss) (same_states nodes i x y value e)
+
+-- what holds of each state holds of that which is read
+pub each_state : (P : NodeState → Type 0) (nodes : List NodeHolding) (i : ℕ) (x : NodeHolding) → AllByRecursion P (states_in nodes) → i < length nodes → x ≡ get_or nodes i x
+    → P x.state
+each_state P [] i x hs below value = absurd (omega (arith, below))
+each_state P (n ∷ nodes) zero x hs below value = subst (λ (m : NodeHolding). P m.state) (sym value) hs.0
+each_state P (n ∷ nodes) (suc i) x hs below value = let less : i < length nodes = omega (arith, below) in each_state P nodes i x hs.1 less value
+
 -- ---- the node that was read at a port's place
 
-pub get_there : (p : EgressPort) (nodes : List NodeState) (i : ℕ) (s : NodeState) → StandsAt p nodes → i ≡ p.node.0 - 1 → s ≡ get_or nodes i s
-    → slice_get nodes (p.node.0 - 1) ≡ Some s
-get_there p nodes i s stands at value =
-    let some = stands.some in
-    let few = stands.few in
-    subst (λ (k : ℕ). slice_get nodes k ≡ Some s) at (slice_get_read nodes (length nodes) i s refl (omega (arith, at, some, few)) value)
+there_at : (n : ℕ) (nodes : List NodeHolding) (i : ℕ) (x : NodeHolding) → 1 ≤ n → n ≤ length (states_in nodes) → i ≡ n - 1 → x ≡ get_or nodes i x
+    → slice_get (states_in nodes) (n - 1) ≡ Some x.state
+there_at n nodes i x some few at value =
+    subst (λ (k : ℕ). slice_get (states_in nodes) k ≡ Some x.state) at
+    (slice_get_read (states_in nodes) (length (states_in nodes)) i x.state refl (omega (arith, at, some, few)) (state_is nodes i x value))
+
+pub get_there : (p : EgressPort) (nodes : List NodeHolding) (i : ℕ) (x : NodeHolding) → StandsAt p (states_in nodes) → i ≡ p.node.0 - 1 → x ≡ get_or nodes i x
+    → slice_get (states_in nodes) (p.node.0 - 1) ≡ Some x.state
+get_there p nodes i x stands at value = there_at p.node.0 nodes i x stands.some stands.few at value
+
+-- a step of the node is a step of the network's node
+pub stepped_is : (n : NodeNo) (event : NodeEvent) (tree : Topology) (marks : MarksState) (nodes : List NodeHolding) (i : ℕ) (x y : NodeHolding) (reply : StepReply)
+    → 1 ≤ n.0 → n.0 ≤ length (states_in nodes) → i ≡ n.0 - 1 → x ≡ get_or nodes i x → node_step event x.state ≡ (y.state, reply)
+    → step_of_node n event (world_with tree (states_in nodes) marks) ≡ (world_with tree (states_in (slice_set nodes i y)) marks, Step reply)
+stepped_is n event tree marks nodes i x y reply some few at value made =
+    let w = world_with tree (states_in nodes) marks in
+    ap (λ (o : Option NodeState). option_map_or (λ s. after_step n (node_step event s) w) o (w, Missed)) (there_at n.0 nodes i x some few at value)
+    ∙ (ap (λ (m : Stepped). after_step n m w) made
+    ∙ ap (λ (states : List NodeState). let h : Happened = (world_with tree states marks, Step reply) in h)
+    (ap (λ (k : ℕ). slice_set (states_in nodes) k y.state) (sym at) ∙ sym (states-set nodes i y)))
 
 -- has the port
-pub port_there : (p : EgressPort) (nodes : List NodeState) (i : ℕ) (s : NodeState) → StandsAt p nodes → i ≡ p.node.0 - 1 → s ≡ get_or nodes i s
-    → IsLinkPort p.port (ports_of s)
-port_there p nodes i s stands at value = stands.port s (get_there p nodes i s stands at value)
+pub port_there : (p : EgressPort) (nodes : List NodeHolding) (i : ℕ) (x : NodeHolding) → StandsAt p (states_in nodes) → i ≡ p.node.0 - 1 → x ≡ get_or nodes i x
+    → IsLinkPort p.port (ports_of x.state)
+port_there p nodes i x stands at value = stands.port x.state (get_there p nodes i x stands at value)
 
 -- the list with another node at the place is the one where the node has changed
-pub changed_here : (p : EgressPort) (change : NodeState → NodeState) (nodes : List NodeState) (i : ℕ) (s : NodeState) → StandsAt p nodes → i ≡ p.node.0 - 1
-    → s ≡ get_or nodes i s → slice_set nodes i (change s) ≡ nodes_with p.node change nodes
-changed_here p change nodes i s stands at value =
-    ap (λ (k : ℕ). slice_set nodes k (change s)) at
-    ∙ sym (ap (λ o. option_map_or (λ s. slice_set nodes (p.node.0 - 1) (change s)) o nodes) (get_there p nodes i s stands at value))
+pub changed_here : (p : EgressPort) (change : NodeState → NodeState) (nodes : List NodeHolding) (i : ℕ) (x y : NodeHolding) → StandsAt p (states_in nodes) → i ≡ p.node.0 - 1
+    → x ≡ get_or nodes i x → y.state ≡ change x.state → states_in (slice_set nodes i y) ≡ nodes_with p.node change (states_in nodes)
+changed_here p change nodes i x y stands at value made =
+    states-set nodes i y
+    ∙ (ap (slice_set (states_in nodes) i) made
+    ∙ (ap (λ (k : ℕ). slice_set (states_in nodes) k (change x.state)) at
+    ∙ sym (ap (λ o. option_map_or (λ s. slice_set (states_in nodes) (p.node.0 - 1) (change s)) o (states_in nodes)) (get_there p nodes i x stands at value))))
 
 -- where it keeps its ports, each port stands as before
-pub stands_still : (p : EgressPort) (nodes : List NodeState) (i : ℕ) (s t : NodeState) → StandsAt p nodes → i ≡ p.node.0 - 1 → s ≡ get_or nodes i s
-    → ports_of t ≡ ports_of s → (q : EgressPort) → StandsAt q nodes → StandsAt q (slice_set nodes i t)
-stands_still p nodes i s t stands at value ports q others =
-    let is : slice_get nodes i ≡ Some s = subst (λ (k : ℕ). slice_get nodes k ≡ Some s) (sym at) (get_there p nodes i s stands at value) in
-    record {
+pub stands_still : (p : EgressPort) (nodes : List NodeHolding) (i : ℕ) (x y : NodeHolding) → StandsAt p (states_in nodes) → i ≡ p.node.0 - 1 → x ≡ get_or nodes i x
+    → ports_of y.state ≡ ports_of x.state → (q : EgressPort) → StandsAt q (states_in nodes) → StandsAt q (states_in (slice_set nodes i y))
+stands_still p nodes i x y stands at value ports q others =
+    let states = states_in nodes in
+    let is : slice_get states i ≡ Some x.state = subst (λ (k : ℕ). slice_get states k ≡ Some x.state) (sym at) (get_there p nodes i x stands at value) in
+    subst (StandsAt q) (sym (states-set nodes i y)) (record {
       some = others.some;
-      few = subst (λ (k : ℕ). q.node.0 ≤ k) (sym (length-set nodes i t)) others.few;
-      port = λ u get. set_each (λ x u. (x ≡ q.node.0 - 1) → IsLinkPort q.port (ports_of u)) nodes i t
-          (λ e. subst (IsLinkPort q.port) (sym ports) (others.port s (subst (λ (k : ℕ). slice_get nodes k ≡ Some s) e is)))
-          (λ x u got e. others.port u (subst (λ (k : ℕ). slice_get nodes k ≡ Some u) e got)) (q.node.0 - 1) u get refl;
-    }
+      few = subst (λ (k : ℕ). q.node.0 ≤ k) (sym (length-set states i y.state)) others.few;
+      port = λ u get. set_each (λ k u. (k ≡ q.node.0 - 1) → IsLinkPort q.port (ports_of u)) states i y.state
+          (λ e. subst (IsLinkPort q.port) (sym ports) (others.port x.state (subst (λ (k : ℕ). slice_get states k ≡ Some x.state) e is)))
+          (λ k u got e. others.port u (subst (λ (k : ℕ). slice_get states k ≡ Some u) e got)) (q.node.0 - 1) u get refl;
+    })
 
 -- spoiling keeps the ports
 pub ports_spoilt : (app : App) (at : ℕ) (s : NodeState) → ports_of (spoilt_at app at s) ≡ ports_of s
@@ -146,11 +194,11 @@ pub reaches_is : (p : EgressPort) (index : ℕ) (tree : Topology) (marks : Marks
 unfolding reaches_in
 reaches_is p index tree marks nodes s is = sym (ap (reaches_in p index) is)
 
-pub changed_if : (p : EgressPort) (change : NodeState → NodeState) (nodes : List NodeState) (i : ℕ) (s t : NodeState) (done : Bool) → StandsAt p nodes
-    → i ≡ p.node.0 - 1 → s ≡ get_or nodes i s → t ≡ (if done then change s else s) → slice_set nodes i t ≡ (if done then nodes_with p.node change nodes else nodes)
-changed_if p change nodes i s t true stands at value is = ap (slice_set nodes i) is ∙ changed_here p change nodes i s stands at value
-changed_if p change nodes i s t false stands at value is =
-    ap (slice_set nodes i) is ∙ set_back nodes i s (subst (λ (k : ℕ). slice_get nodes k ≡ Some s) (sym at) (get_there p nodes i s stands at value))
+pub changed_if : (p : EgressPort) (change : NodeState → NodeState) (nodes : List NodeHolding) (i : ℕ) (x y : NodeHolding) (done : Bool) → StandsAt p (states_in nodes)
+    → i ≡ p.node.0 - 1 → x ≡ get_or nodes i x → y.state ≡ (if done then change x.state else x.state)
+    → states_in (slice_set nodes i y) ≡ (if done then nodes_with p.node change (states_in nodes) else states_in nodes)
+changed_if p change nodes i x y true stands at value is = changed_here p change nodes i x y stands at value is
+changed_if p change nodes i x y false stands at value is = same_states nodes i x y value is
 
 pub ports_if : (change : NodeState → NodeState) (s t : NodeState) (done : Bool) → ports_of (change s) ≡ ports_of s → t ≡ (if done then change s else s) → ports_of t ≡ ports_of s
 ports_if change s t true same is = ap ports_of is ∙ same
@@ -254,43 +302,78 @@ pub on_ok : {A E P Q : Type 0} (r : Result A E) → (P → Q) → OnOk r P → O
 on_ok (Ok a) f h = f h
 on_ok (Err e) f h = h
 
--- ---- the clocks of all nodes, the last first
+pub on_err : {A E P : Type 0} (r : Result A E) → P → OnErr r P
+on_err (Ok a) h = tt
+on_err (Err e) h = h
 
-less_left : {X Y : Type 0} (g : X → Y) (sets : List Y) (next : Y) (xs : List X) → sets ++ (next ∷ []) ≡ map g (take (suc (length sets)) xs) → sets ≡ map g (take (length sets) xs)
-less_left g [] next xs e = refl
-less_left g (y ∷ sets) next [] e = cc
-less_left g (y ∷ sets) next (x ∷ xs) e =
-    let here : y ≡ g x = cc in
-    let rest : sets ++ (next ∷ []) ≡ map g (take (suc (length sets)) xs) = cc in
-    ap (λ z. z ∷ sets) here ∙ ap (λ zs. g x ∷ zs) (less_left g sets next xs rest)
+pub still_on_err : {A E P Q : Type 0} (r : Result A E) → (P → Q) → OnErr r P → OnErr r Q
+still_on_err (Ok a) f h = tt
+still_on_err (Err e) f h = f h
 
-one_more_done : {X : Type 0} (f : X → X) (k : ℕ) (xs : List X) (s t : X) → k < length xs
-    → s ≡ get_or (take (suc k) xs ++ map f (drop (suc k) xs)) k s → t ≡ f s
-    → slice_set (take (suc k) xs ++ map f (drop (suc k) xs)) k t ≡ take k xs ++ map f (drop k xs)
-one_more_done f k [] s t lt is made = absurd (omega arith)
-one_more_done f zero (x ∷ xs) s t lt is made = ap (λ y. y ∷ map f xs) (made ∙ ap f is)
-one_more_done f (suc k) (x ∷ xs) s t lt is made = let less : k < length xs = omega (arith, lt) in ap (λ ys. x ∷ ys) (one_more_done f k xs s t less is made)
+-- ---- the clocks of all nodes
 
--- the sets that are left are those of the first nodes, and the clocks of the others have gone on
-pub record AreTicked {X Y : Type 0} (f : X → X) (g : X → Y) (before after : List X) (sets : List Y) : Type 0 where
-  pub few : length sets ≤ length before
-  pub left : sets ≡ map g (take (length sets) before)
-  pub nodes : after ≡ take (length sets) before ++ map f (drop (length sets) before)
+-- the first so many nodes are ready for the clock, and all states are as before
+pub record AreReadied (before after : List NodeHolding) (count : ℕ) : Type 0 where
+  pub states : states_in after ≡ states_in before
+  pub ready : AllByRecursion (λ (n : NodeHolding). n.ready ≡ true) (take count after)
 
-pub ticked_more : {X Y : Type 0} (f : X → X) (g : X → Y) (before after : List X) (sets fewer : List Y) (next : Y) (k : ℕ) (s t : X)
-    → AreTicked f g before after sets → sets ≡ fewer ++ (next ∷ []) → k ≡ length fewer → s ≡ get_or after k s → t ≡ f s
-    → AreTicked f g before (slice_set after k t) fewer
-ticked_more {X = X} {Y = Y} f g before after sets fewer next k s t was popped at is made =
-    let count : length sets ≡ suc (length fewer) = omega (arith, ap length popped, length-append fewer (next ∷ [])) in
-    let few = was.few in
-    let below : length fewer < length before = omega (arith, count, few) in
-    let nodes : after ≡ take (suc (length fewer)) before ++ map f (drop (suc (length fewer)) before) = was.nodes ∙ ap (λ (n : ℕ). take n before ++ map f (drop n before)) count in
+front_set : {X : Type 0} (P : X → Type 0) (k : ℕ) (xs : List X) (y : X) → P y → AllByRecursion P (take k xs) → AllByRecursion P (take (suc k) (slice_set xs k y))
+front_set P k [] y h hs = tt
+front_set P zero (x ∷ xs) y h hs = (h, tt)
+front_set P (suc k) (x ∷ xs) y h hs = (hs.0, front_set P k xs y h hs.1)
+
+pub readied_more : (before after : List NodeHolding) (k : ℕ) (x y : NodeHolding) → AreReadied before after k → x ≡ get_or after k x → y.state ≡ x.state → y.ready ≡ true
+    → AreReadied before (slice_set after k y) (k + 1)
+readied_more before after k x y was value state ready =
     record {
-      few = omega (arith, below);
-      left = less_left g fewer next before (sym popped ∙ (was.left ∙ ap (λ (n : ℕ). map g (take n before)) count));
-      nodes =
-          ap (λ (n : ℕ). slice_set after n t) at
-          ∙ (ap (λ (xs : List X). slice_set xs (length fewer) t) nodes
-          ∙ one_more_done f (length fewer) before s t below
-          (is ∙ (ap (λ (n : ℕ). get_or after n s) at ∙ ap (λ (xs : List X). get_or xs (length fewer) s) nodes)) made);
+      states = same_states after k x y value state ∙ was.states;
+      ready = subst (λ (n : ℕ). AllByRecursion (λ (m : NodeHolding). m.ready ≡ true) (take n (slice_set after k y))) (let more : suc k ≡ k + 1 = omega arith in more)
+          (front_set (λ (m : NodeHolding). m.ready ≡ true) k after y ready was.ready);
     }
+
+-- the clocks of the first so many nodes have gone on, and the others are as before
+abbrev pub AreTicked : (NodeState → NodeState) → ℕ → List NodeHolding → List NodeHolding → Type 0
+AreTicked f count [] after = after ≡ []
+AreTicked f zero (x ∷ before) after = after ≡ x ∷ before
+AreTicked f (suc count) (x ∷ before) [] = ⊥
+AreTicked f (suc count) (x ∷ before) (y ∷ after) = (y.state ≡ f x.state) × AreTicked f count before after
+
+module _ (f : NodeState → NodeState) where
+  pub none_ticked : (nodes : List NodeHolding) → AreTicked f 0 nodes nodes
+  none_ticked [] = refl
+  none_ticked (x ∷ nodes) = refl
+
+  pub ticked_length : (count : ℕ) (before after : List NodeHolding) → AreTicked f count before after → length after ≡ length before
+  ticked_length count [] after is = ap length is
+  ticked_length zero (x ∷ before) after is = ap length is
+  ticked_length (suc count) (x ∷ before) [] is = absurd is
+  ticked_length (suc count) (x ∷ before) (y ∷ after) is = ap suc (ticked_length count before after is.1)
+
+  -- the next node is as before
+  pub next_as_before : (count : ℕ) (before after : List NodeHolding) (x : NodeHolding) → AreTicked f count before after → x ≡ get_or after count x → x ≡ get_or before count x
+  next_as_before count [] after x is value = refl
+  next_as_before zero (b ∷ before) after x is value = value ∙ ap (λ ns. get_or ns 0 x) is
+  next_as_before (suc count) (b ∷ before) [] x is value = absurd is
+  next_as_before (suc count) (b ∷ before) (y ∷ after) x is value = next_as_before count before after x is.1 value
+
+  more_ticked : (count : ℕ) (before after : List NodeHolding) (x y : NodeHolding) → AreTicked f count before after → x ≡ get_or after count x → y.state ≡ f x.state
+      → AreTicked f (suc count) before (slice_set after count y)
+  more_ticked count [] after x y is value made = ap (λ ns. slice_set ns count y) is
+  more_ticked zero (b ∷ before) after x y is value made =
+      let here : x ≡ b = value ∙ ap (λ ns. get_or ns 0 x) is in
+      subst (λ ns. AreTicked f 1 (b ∷ before) (slice_set ns 0 y)) (sym is) (made ∙ ap (λ (n : NodeHolding). f n.state) here, none_ticked before)
+  more_ticked (suc count) (b ∷ before) [] x y is value made = absurd is
+  more_ticked (suc count) (b ∷ before) (a ∷ after) x y is value made = (is.0, more_ticked count before after x y is.1 value made)
+
+  pub ticked_more : (count : ℕ) (before after : List NodeHolding) (x y : NodeHolding) → AreTicked f count before after → x ≡ get_or after count x → y.state ≡ f x.state
+      → AreTicked f (count + 1) before (slice_set after count y)
+  ticked_more count before after x y is value made =
+      subst (λ (n : ℕ). AreTicked f n before (slice_set after count y)) (let e : suc count ≡ count + 1 = omega arith in e) (more_ticked count before after x y is value made)
+
+  pub all_ticked : (count : ℕ) (before after : List NodeHolding) → length before ≤ count → AreTicked f count before after → states_in after ≡ map f (states_in before)
+  all_ticked count [] after le is = ap states_in is
+  all_ticked zero (x ∷ before) after le is = absurd (omega (arith, le))
+  all_ticked (suc count) (x ∷ before) [] le is = absurd is
+  all_ticked (suc count) (x ∷ before) (y ∷ after) le is =
+      let less : length before ≤ count = omega (arith, le) in
+      ap (λ (s : NodeState). s ∷ states_in after) is.0 ∙ ap (λ ss. f x.state ∷ ss) (all_ticked count before after less is.1)

@@ -9,9 +9,7 @@ use Rattle.srp_base.specs.declared.mrp.App.TheVariants.{Mvrp, Msrp}
 use Rattle.tree_topology.specs.Topology.{Topology, HasPort}
 use Rattle.tree_topology.specs.Ports.{peer_of}
 use Rattle.tree_topology.specs.declared.graph.NodeKind.TheVariants.{Station}
-use Rattle.msrp_codec.specs.declared.pdu.MsrpKey.{MsrpKey}
 use Rattle.attribute_propagation.specs.Ports.{IsLinkPort, place_of}
-use Rattle.msrp.specs.Side.{next_sets}
 use Rattle.node_core.specs.declared.types.Wire.{Wire}
 use Rattle.node_core.specs.declared.types.NodeEvent.{NodeEvent}
 use Rattle.node_core.specs.declared.types.NodeEvent.TheVariants as node_events
@@ -125,10 +123,6 @@ after_carrying p w =
 -- the clock of every node goes on
 abbrev pub after_clock : WorldState → WorldState
 after_clock w = record w { nodes = map (λ s. (node_step node_events.Clock s).0) w.nodes }
-
--- the keys that await at each node once its clock has gone on, where it shows anything
-abbrev pub sets_of : List NodeState → List (Option (List (List MsrpKey)))
-sets_of nodes = map (λ s. next_sets (s.clock.0 + 1) s.streams) nodes
 
 -- ---- the marks
 

@@ -2,6 +2,7 @@
 
 ghost use Rattle.std.specs.Prelude.{◌≡◌};
 ghost use Rattle.std.specs.List.{AllByRecursion};
+ghost use Rattle.node_core.specs.Holding.{states_in};
 ghost use Rattle.node_core.specs.Proper.{IsProperNode};
 ghost use Rattle.world_core.specs.Kept.{IsKeptWorld, IsWhole};
 ghost use Rattle.world_core.specs.World.{world_with};
@@ -27,9 +28,9 @@ impl World {
     pub fn part(self) -> (WorldRest, Seq<Node>)
         ensures tree { result.0.tree ≡ self.tree }
         ensures marks { result.0.marks ≡ self.marks }
-        ensures nodes { result.1 ≡ self.nodes }
-        ensures kept { IsKeptWorld (world_with result.0.tree result.1 result.0.marks) }
-        ensures whole { IsWhole (world_with result.0.tree result.1 result.0.marks) }
+        ensures nodes { states_in result.1 ≡ self.nodes }
+        ensures kept { IsKeptWorld (world_with result.0.tree (states_in result.1) result.0.marks) }
+        ensures whole { IsWhole (world_with result.0.tree (states_in result.1) result.0.marks) }
     {
         what_is_kept_is_whole();
         let World { tree, nodes, marks } = self;
@@ -41,8 +42,8 @@ impl World {
     /// steps which the nodes have made apart is the law `steps_made_apart_keep_it`. Nothing is changed in them, and no memory
     /// is taken.
     pub fn join(rest: WorldRest, nodes: Seq<Node>) -> World
-        requires { IsWhole (world_with rest.tree nodes rest.marks) }
-        ensures { result ≡ world_with rest.tree nodes rest.marks }
+        requires { IsWhole (world_with rest.tree (states_in nodes) rest.marks) }
+        ensures { result ≡ world_with rest.tree (states_in nodes) rest.marks }
     {
         what_is_kept_is_whole();
         each_is_proper(nodes.as_slice());
@@ -57,7 +58,7 @@ impl World {
 
 // What each of these nodes keeps, by its type.
 fn each_is_proper(nodes: &[Node])
-    ensures { AllByRecursion IsProperNode nodes.now }
+    ensures { AllByRecursion IsProperNode (states_in nodes.now) }
 {
     for node in nodes {
         node.keeps_all();

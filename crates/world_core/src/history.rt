@@ -183,10 +183,10 @@ impl NodeChanges {
         number: NodeNo,
         tick: u64,
     ) -> Result<(), NoMemory>
-        requires ports { length self.old ≡ ports_of node.now }
+        requires ports { length self.old ≡ ports_of node.now.state }
         requires upto { AllByRecursion (ComeUpTo tick) self.old }
         ensures { OnOk result (self.new
-            ≡ ports_noted tick node.now number 1 (length self.old) self.old) }
+            ≡ ports_noted tick node.now.state number 1 (length self.old) self.old) }
     {
         for k in 0..node.ports() {
             let at = EgressPort {
@@ -207,10 +207,10 @@ fn note_port(
     tick: u64,
     changes: &mut Seq<PortChange>,
 ) -> Result<(), NoMemory>
-    requires port { IsLinkPort at.port (ports_of node.now) }
+    requires port { IsLinkPort at.port (ports_of node.now.state) }
     requires upto { ComeUpTo tick changes.old }
     ensures { OnOk result (changes.new
-        ≡ changes_noted tick at (node_force (place_of at.port) node.now) changes.old) }
+        ≡ changes_noted tick at (node_force (place_of at.port) node.now.state) changes.old) }
 {
     let last = last_of(changes.as_slice());
     if let Some(change) = lacking_change(alloc, node, at, tick, last)? {

@@ -9,6 +9,7 @@ ghost use Rattle.std.specs.Option.{option_map_or};
 ghost use Rattle.tree_topology.specs.Topology.{Topology, HasPort};
 ghost use Rattle.tree_topology.specs.Ports.{peer_of};
 ghost use Rattle.attribute_propagation.specs.Ports.{IsLinkPort, place_of};
+ghost use Rattle.node_core.specs.Holding.{states_in};
 ghost use Rattle.node_core.specs.State.{NodeState, ports_of};
 ghost use Rattle.node_core.specs.Wires.{IsShort};
 ghost use Rattle.world_core.specs.declared.events.WorldReply.{WorldReply};
@@ -45,11 +46,11 @@ pub(crate) fn marked_step(
     step: PortStep,
 ) -> Result<WorldReply, NoMemory>
     requires port { HasPort tree.now at }
-    requires kept { IsKeptWorld (world_with tree.now nodes.old.items marks.old) }
+    requires kept { IsKeptWorld (world_with tree.now (states_in nodes.old.items) marks.old) }
     ensures ok { IfOk result (λ reply. world_step (WorldEvent.Port at.node at.port step)
-        (world_with tree.now nodes.old.items marks.old)
-        ≡ (world_with tree.now nodes.new.items marks.new, reply)) }
-    ensures err { OnErr result (nodes.new.items ≡ nodes.old.items) }
+        (world_with tree.now (states_in nodes.old.items) marks.old)
+        ≡ (world_with tree.now (states_in nodes.new.items) marks.new, reply)) }
+    ensures err { OnErr result (states_in nodes.new.items ≡ states_in nodes.old.items) }
     ensures err_marks { OnErr result (marks.new ≡ marks.old) }
 {
     ports();
@@ -69,10 +70,11 @@ fn noted_of(
     step: &PortStep,
 ) -> Result<Noted, NoMemory>
     requires port { HasPort tree.now at }
-    requires kept { IsKeptWorld (world_with tree.now nodes.now.items marks.now) }
+    requires kept { IsKeptWorld (world_with tree.now (states_in nodes.now.items) marks.now) }
     ensures noted { IfOk result (λ noted. (reply : WorldReply)
         → marks_noted at noted reply marks.now
-        ≡ marks_stepping at step.now reply (world_with tree.now nodes.now.items marks.now)) }
+        ≡ marks_stepping at step.now reply
+        (world_with tree.now (states_in nodes.now.items) marks.now)) }
     ensures can { IfOk result (λ noted. CanNote at noted marks.now) }
 {
     match step {
@@ -88,9 +90,9 @@ fn noted_of(
 
 // Whether the next PDU that an application sends at a port has LeaveAll.
 fn leaves_next(nodes: &Vec<Node>, at: EgressPort, app: App) -> bool
-    requires { StandsAt at nodes.now.items }
+    requires { StandsAt at (states_in nodes.now.items) }
     ensures { (tree : Topology) (m : MarksState) → result
-        ≡ has_leave_all_next app at (world_with tree nodes.now.items m) }
+        ≡ has_leave_all_next app at (world_with tree (states_in nodes.now.items) m) }
 {
     nodes[place(at.node)].leaves_next(at.port, app)
 }
@@ -98,10 +100,11 @@ fn leaves_next(nodes: &Vec<Node>, at: EgressPort, app: App) -> bool
 // The PDU that a port takes next: it is read only where the port's way is clear.
 fn taking(tree: &Tree, nodes: &Vec<Node>, marks: &Marks, at: EgressPort) -> Result<Noted, NoMemory>
     requires port { HasPort tree.now at }
-    requires kept { IsKeptWorld (world_with tree.now nodes.now.items marks.now) }
+    requires kept { IsKeptWorld (world_with tree.now (states_in nodes.now.items) marks.now) }
     ensures noted { IfOk result (λ noted. (reply : WorldReply)
         → marks_noted at noted reply marks.now
-        ≡ marks_stepping at PortStep.Work reply (world_with tree.now nodes.now.items marks.now)) }
+        ≡ marks_stepping at PortStep.Work reply
+        (world_with tree.now (states_in nodes.now.items) marks.now)) }
     ensures can { IfOk result (λ noted. CanNote at noted marks.now) }
 {
     ports();
@@ -116,10 +119,10 @@ fn taking(tree: &Tree, nodes: &Vec<Node>, marks: &Marks, at: EgressPort) -> Resu
 
 // Whether the front PDU that waits at a port has a LeaveAll that counts: it is read only where the port's way is clear.
 fn counts(nodes: &Vec<Node>, marks: &Marks, at: EgressPort, app: App) -> Result<bool, NoMemory>
-    requires { StandsAt at nodes.now.items }
+    requires { StandsAt at (states_in nodes.now.items) }
     ensures { IfOk result (λ leaves. (tree : Topology) (m : MarksState) → leaves
         ≡ ((mark_at app at marks.now).clear && option_map_or has_leave_all (slice_get
-        (inbox at (world_with tree nodes.now.items m)) 0) false)) }
+        (inbox at (world_with tree (states_in nodes.now.items) m)) 0) false)) }
 {
     if !marks.is_clear(at, app) {
         return Ok(false);
@@ -129,10 +132,10 @@ fn counts(nodes: &Vec<Node>, marks: &Marks, at: EgressPort, app: App) -> Result<
 
 // Whether the front PDU that waits at a port has LeaveAll, where there is one.
 fn front_leaves(nodes: &Vec<Node>, at: EgressPort) -> Result<bool, NoMemory>
-    requires { StandsAt at nodes.now.items }
+    requires { StandsAt at (states_in nodes.now.items) }
     ensures { IfOk result (λ leaves. (tree : Topology) (m : MarksState) → leaves
         ≡ option_map_or has_leave_all (slice_get
-        (inbox at (world_with tree nodes.now.items m)) 0) false) }
+        (inbox at (world_with tree (states_in nodes.now.items) m)) 0) false) }
 {
     let node = &nodes[place(at.node)];
     node.keeps();
@@ -178,10 +181,10 @@ pub(crate) fn marked_loss(
     index: u32,
 ) -> WorldReply
     requires port { HasPort tree.now at }
-    requires kept { IsKeptWorld (world_with tree.now nodes.old.items marks.old) }
+    requires kept { IsKeptWorld (world_with tree.now (states_in nodes.old.items) marks.old) }
     ensures { world_step (WorldEvent.Lose at index)
-        (world_with tree.now nodes.old.items marks.old)
-        ≡ (world_with tree.now nodes.new.items marks.new, result) }
+        (world_with tree.now (states_in nodes.old.items) marks.old)
+        ≡ (world_with tree.now (states_in nodes.new.items) marks.new, result) }
 {
     ports();
     let app = app_at(nodes, at, index);
@@ -210,11 +213,11 @@ pub(crate) fn marked_repeat(
     index: u32,
 ) -> Result<WorldReply, NoMemory>
     requires port { HasPort tree.now at }
-    requires kept { IsKeptWorld (world_with tree.now nodes.old.items marks.old) }
+    requires kept { IsKeptWorld (world_with tree.now (states_in nodes.old.items) marks.old) }
     ensures ok { IfOk result (λ reply. world_step (WorldEvent.Repeat at index)
-        (world_with tree.now nodes.old.items marks.old)
-        ≡ (world_with tree.now nodes.new.items marks.new, reply)) }
-    ensures err { OnErr result (nodes.new.items ≡ nodes.old.items) }
+        (world_with tree.now (states_in nodes.old.items) marks.old)
+        ≡ (world_with tree.now (states_in nodes.new.items) marks.new, reply)) }
+    ensures err { OnErr result (states_in nodes.new.items ≡ states_in nodes.old.items) }
     ensures err_marks { OnErr result (marks.new ≡ marks.old) }
 {
     ports();
@@ -249,12 +252,12 @@ pub(crate) fn marked_forgery(
     wire: Wire,
 ) -> Result<WorldReply, NoMemory>
     requires port { HasPort tree.now at }
-    requires kept { IsKeptWorld (world_with tree.now nodes.old.items marks.old) }
+    requires kept { IsKeptWorld (world_with tree.now (states_in nodes.old.items) marks.old) }
     requires short { IsShort wire }
     ensures ok { IfOk result (λ reply. world_step (WorldEvent.Forge at index wire)
-        (world_with tree.now nodes.old.items marks.old)
-        ≡ (world_with tree.now nodes.new.items marks.new, reply)) }
-    ensures err { OnErr result (nodes.new.items ≡ nodes.old.items) }
+        (world_with tree.now (states_in nodes.old.items) marks.old)
+        ≡ (world_with tree.now (states_in nodes.new.items) marks.new, reply)) }
+    ensures err { OnErr result (states_in nodes.new.items ≡ states_in nodes.old.items) }
     ensures err_marks { OnErr result (marks.new ≡ marks.old) }
 {
     ports();
@@ -280,7 +283,7 @@ fn note_forgery(marks: &mut Marks, at: EgressPort, app: App, reply: WorldReply)
 // Few PDUs are on their way from a port, since they wait in lists. It does nothing.
 fn few_wait(tree: &Tree, nodes: &Vec<Node>, marks: &Marks, at: EgressPort)
     requires port { HasPort tree.now at }
-    requires kept { IsKeptWorld (world_with tree.now nodes.now.items marks.now) }
+    requires kept { IsKeptWorld (world_with tree.now (states_in nodes.now.items) marks.now) }
     ensures { (app : App) → (mark_at app at marks.now).flying < 2 ^ 100 }
 {
     ports();
@@ -290,28 +293,28 @@ fn few_wait(tree: &Tree, nodes: &Vec<Node>, marks: &Marks, at: EgressPort)
 
 // The number of PDUs that are to go out at a port.
 fn out_count(nodes: &Vec<Node>, at: EgressPort) -> usize
-    requires { StandsAt at nodes.now.items }
+    requires { StandsAt at (states_in nodes.now.items) }
     ensures few { result < 2 ^ 64 }
     ensures count { (tree : Topology) (m : MarksState) → result
-        ≡ length (outbox at (world_with tree nodes.now.items m)) }
+        ≡ length (outbox at (world_with tree (states_in nodes.now.items) m)) }
 {
     nodes[place(at.node)].outgoing_pdus(at.port)
 }
 
 // The number of PDUs that came in at a port.
 fn in_count(nodes: &Vec<Node>, at: EgressPort) -> usize
-    requires { StandsAt at nodes.now.items }
+    requires { StandsAt at (states_in nodes.now.items) }
     ensures few { result < 2 ^ 64 }
     ensures count { (tree : Topology) (m : MarksState) → result
-        ≡ length (inbox at (world_with tree nodes.now.items m)) }
+        ≡ length (inbox at (world_with tree (states_in nodes.now.items) m)) }
 {
     nodes[place(at.node)].pending_pdus(at.port)
 }
 
 /// Whether both applications of every port of these nodes are sound, by their own LeaveAll or by a mark.
 pub(crate) fn are_nodes_in_step(nodes: &Vec<Node>, count: u16, marks: &Marks) -> bool
-    requires { count ≡ length nodes.now.items }
-    ensures { result ≡ are_nodes_sound 1 nodes.now.items marks.now }
+    requires { count ≡ length (states_in nodes.now.items) }
+    ensures { result ≡ are_nodes_sound 1 (states_in nodes.now.items) marks.now }
 {
     for i in 0..count {
         if !are_ports_in_step(&nodes[usize::from(i)], NodeNo(i + 1), marks) {
@@ -323,7 +326,7 @@ pub(crate) fn are_nodes_in_step(nodes: &Vec<Node>, count: u16, marks: &Marks) ->
 
 // Whether both applications of every port of a node are sound.
 fn are_ports_in_step(node: &Node, number: NodeNo, marks: &Marks) -> bool
-    ensures { result ≡ are_ports_sound number node.now marks.now 1 (ports_of node.now) }
+    ensures { result ≡ are_ports_sound number node.now.state marks.now 1 (ports_of node.now.state) }
 {
     for i in 0..node.ports() {
         if !is_end_sound(node, number, PortNo(i + 1), marks) {
@@ -335,10 +338,10 @@ fn are_ports_in_step(node: &Node, number: NodeNo, marks: &Marks) -> bool
 
 // Whether both applications at a port are sound.
 fn is_end_sound(node: &Node, number: NodeNo, port: PortNo, marks: &Marks) -> bool
-    requires { IsLinkPort port (ports_of node.now) }
+    requires { IsLinkPort port (ports_of node.now.state) }
     ensures { result
-        ≡ (is_sound_in Mvrp (record { node = number; port = port }) node.now marks.now
-        && is_sound_in Msrp (record { node = number; port = port }) node.now marks.now) }
+        ≡ (is_sound_in Mvrp (record { node = number; port = port }) node.now.state marks.now
+        && is_sound_in Msrp (record { node = number; port = port }) node.now.state marks.now) }
 {
     let at = EgressPort { node: number, port };
     is_port_sound(node, at, marks, App::Mvrp) && is_port_sound(node, at, marks, App::Msrp)
@@ -346,8 +349,8 @@ fn is_end_sound(node: &Node, number: NodeNo, port: PortNo, marks: &Marks) -> boo
 
 // Whether an application at a port is sound.
 fn is_port_sound(node: &Node, at: EgressPort, marks: &Marks, app: App) -> bool
-    requires { IsLinkPort at.port (ports_of node.now) }
-    ensures { result ≡ is_sound_in app at node.now marks.now }
+    requires { IsLinkPort at.port (ports_of node.now.state) }
+    ensures { result ≡ is_sound_in app at node.now.state marks.now }
 {
     marks.is_assured(at, app) || node.sound(at.port, app)
 }

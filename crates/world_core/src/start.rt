@@ -2,6 +2,7 @@
 
 ghost use Rattle.std.specs.Prelude.{◌≡◌, ◌≤◌, ◌++◌, length, IfOk};
 ghost use Rattle.tree_topology.specs.Graph.{IsNode};
+ghost use Rattle.node_core.specs.Holding.{states_in};
 ghost use Rattle.node_core.specs.State.{new_node};
 ghost use Rattle.world_core.specs.Start.{domain_set, setup_of, end_setup, setups_from, nodes_from};
 
@@ -13,7 +14,8 @@ use topology_file::{DomainWord, LinkEntry, NodeEntry, Scenario};
 
 /// The nodes of a scenario at its start, in the order of their numbers.
 pub(crate) fn new_nodes(alloc: Global, scenario: &Scenario) -> Result<Vec<Node>, NoMemory>
-    ensures { IfOk result (λ nodes. nodes.items ≡ nodes_from scenario.now 1 scenario.now.nodes) }
+    ensures { IfOk result (λ nodes. states_in nodes.items
+        ≡ nodes_from scenario.now 1 scenario.now.nodes) }
 {
     nodes_of_entries(alloc, scenario, scenario.nodes.as_slice())
 }
@@ -25,7 +27,8 @@ fn nodes_of_entries(
     entries: &[NodeEntry],
 ) -> Result<Vec<Node>, NoMemory>
     requires { entries.now ≡ scenario.now.nodes }
-    ensures { IfOk result (λ nodes. nodes.items ≡ nodes_from scenario.now 1 entries.now) }
+    ensures { IfOk result (λ nodes. states_in nodes.items
+        ≡ nodes_from scenario.now 1 entries.now) }
 {
     scenario.keeps_rules();
     let mut nodes = Vec::with_capacity(alloc, entries.len())?;
@@ -57,7 +60,7 @@ fn new_node_of(
     entry: &NodeEntry,
 ) -> Result<Node, NoMemory>
     requires { IsNode (length scenario.now.nodes) number }
-    ensures { IfOk result (λ node. node ≡ new_node entry.now.kind entry.now.id
+    ensures { IfOk result (λ node. node.state ≡ new_node entry.now.kind entry.now.id
         scenario.now.leave_time scenario.now.periodic
         (domain_set scenario.now.domains entry.now.domain)
         (setups_from 1 number scenario.now.links)) }

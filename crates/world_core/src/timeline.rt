@@ -93,11 +93,12 @@ fn add_of_port(
     changes: &[PortChange],
     fresh: &mut VecDeque<PortChange>,
 ) -> Result<(), NoMemory>
-    requires port { IsLinkPort at.port (ports_of node.now) }
+    requires port { IsLinkPort at.port (ports_of node.now.state) }
     requires order { AllPairs IsEarlier changes.now }
     requires before { All (λ c. c.tick < tick) changes.now }
     ensures { OnOk result (fresh.new.items ≡ fresh.old.items
-        ++ lacking tick at (node_force (place_of at.port) node.now) (changes_at changes.now at)) }
+        ++ lacking tick at (node_force (place_of at.port) node.now.state)
+        (changes_at changes.now at)) }
 {
     if let Some(change) = lacking_change(alloc, node, at, tick, last_at(changes, at))? {
         fresh.push_back(change)?;
@@ -113,10 +114,11 @@ pub(crate) fn lacking_change(
     tick: u64,
     last: Option<&PortChange>,
 ) -> Result<Option<PortChange>, NoMemory>
-    requires { IsLinkPort at.port (ports_of node.now) }
+    requires { IsLinkPort at.port (ports_of node.now.state) }
     ensures { IfOk result (λ o. (changes : List PortChange)
         → option_map (λ c. c.now) last.entry ≡ in_force tick changes
-        → option_to_list o ≡ lacking tick at (node_force (place_of at.port) node.now) changes) }
+        → option_to_list o
+        ≡ lacking tick at (node_force (place_of at.port) node.now.state) changes) }
 {
     node.keeps();
     let part = node.vlan_part(at.port);

@@ -1,7 +1,9 @@
 //! A network, how it begins, and what it shows.
 
 ghost use Rattle.std.specs.Prelude.{◌≡◌, IfOk, Some};
+ghost use Rattle.std.specs.List.{list_all};
 ghost use Rattle.tree_topology.specs.Topology.{HasNode};
+ghost use Rattle.node_core.specs.State.{is_still_node};
 ghost use Rattle.world_core.specs.World.{node_at, is_quiet, is_in_step};
 ghost use Rattle.world_core.specs.Start.{world_of};
 ghost use Rattle.world_core.specs.Kept.{IsKeptWorld};
@@ -26,14 +28,15 @@ pub struct World {
 }
 
 impl Model for World {
+    ghost use Rattle.node_core.specs.Holding.{states_in};
     ghost use Rattle.world_core.specs.World.{WorldState, world_with};
     ghost use Rattle.world_core.specs.Kept.{IsKeptWorld};
 
     ghost Value = { WorldState };
 
-    ghost view = { λ w. world_with w.tree w.nodes.items w.marks };
+    ghost view = { λ w. world_with w.tree (states_in w.nodes.items) w.marks };
 
-    ghost invariant = { λ w. IsKeptWorld (world_with w.tree w.nodes.items w.marks) };
+    ghost invariant = { λ w. IsKeptWorld (world_with w.tree (states_in w.nodes.items) w.marks) };
 }
 
 impl World {
@@ -61,7 +64,7 @@ impl World {
     /// The node of a number.
     pub fn node(&self, number: NodeNo) -> &Node
         requires { HasNode self.now.tree number.0 }
-        ensures { node_at number self.now ≡ Some result.now }
+        ensures { node_at number self.now ≡ Some result.now.state }
     {
         &self.nodes[usize::from(number.0) - 1]
     }
@@ -78,7 +81,7 @@ impl World {
     pub fn quiet(&self) -> bool
         ensures { result ≡ is_quiet self.now }
     {
-        self.nodes.iter().all(|node| node.still())
+        are_still(self.nodes.as_slice())
     }
 
     /// Whether both applications of every port are sound: each has sent a LeaveAll since a PDU of it was last lost or forged
@@ -89,4 +92,11 @@ impl World {
     {
         are_nodes_in_step(&self.nodes, self.tree.nodes(), &self.marks)
     }
+}
+
+// Whether nothing is pending at any of these nodes.
+fn are_still(nodes: &[Node]) -> bool
+    ensures { result ≡ list_all (λ n. is_still_node n.state) nodes.now }
+{
+    nodes.iter().all(|node| node.still())
 }

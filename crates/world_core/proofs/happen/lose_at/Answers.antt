@@ -1,5 +1,4 @@
-use Rattle.std.proofs.Common.{ap, ◌∙◌}
-use Rattle.std.specs.Prelude.{slice_set}
+use Rattle.std.proofs.Common.{ap}
 use Rattle.attribute_propagation.specs.Ports.{place_of}
 use Rattle.node_core.specs.Links.{lost_at}
 use Rattle.node_core.specs.State.{ports_of}
@@ -11,15 +10,15 @@ lose-requires c = port_there c.args.at c.args.nodes.now.items c.place.result c.i
 
 pub returns-clause-after : goal.returns-clause-after
 returns-clause-after c =
-    ap (slice_set c.args.nodes.now.items c.place.result)
-    (done_there c.index_mut.result.now c.lose.new.self (place_of c.args.at.port) c.args.index (lost_at (place_of c.args.at.port) c.args.index) c.lose.result
-    (c.requires.there c.index_mut.result.now (get_there c.args.at c.args.nodes.now.items c.place.result c.index_mut.result.now c.requires.here c.place.ensures c.index_mut.ensures.value))
+    changed_here c.args.at (lost_at (place_of c.args.at.port) c.args.index) c.args.nodes.now.items c.place.result c.index_mut.result.now c.lose.new.self
+    c.requires.here c.place.ensures c.index_mut.ensures.value
+    (done_there c.index_mut.result.now.state c.lose.new.self.state (place_of c.args.at.port) c.args.index (lost_at (place_of c.args.at.port) c.args.index) c.lose.result
+    (c.requires.there c.index_mut.result.now.state (get_there c.args.at c.args.nodes.now.items c.place.result c.index_mut.result.now c.requires.here c.place.ensures c.index_mut.ensures.value))
     c.lose.ensures.done c.lose.ensures.after)
-    ∙ changed_here c.args.at (lost_at (place_of c.args.at.port) c.args.index) c.args.nodes.now.items c.place.result c.index_mut.result.now c.requires.here c.place.ensures c.index_mut.ensures.value
 
 pub returns-clause-stand : goal.returns-clause-stand
 returns-clause-stand c =
     stands_still c.args.at c.args.nodes.now.items c.place.result c.index_mut.result.now c.lose.new.self c.requires.here c.place.ensures c.index_mut.ensures.value
-    (ap ports_of (done_there c.index_mut.result.now c.lose.new.self (place_of c.args.at.port) c.args.index (lost_at (place_of c.args.at.port) c.args.index) c.lose.result
-    (c.requires.there c.index_mut.result.now (get_there c.args.at c.args.nodes.now.items c.place.result c.index_mut.result.now c.requires.here c.place.ensures c.index_mut.ensures.value))
+    (ap ports_of (done_there c.index_mut.result.now.state c.lose.new.self.state (place_of c.args.at.port) c.args.index (lost_at (place_of c.args.at.port) c.args.index) c.lose.result
+    (c.requires.there c.index_mut.result.now.state (get_there c.args.at c.args.nodes.now.items c.place.result c.index_mut.result.now c.requires.here c.place.ensures c.index_mut.ensures.value))
     c.lose.ensures.done c.lose.ensures.after))

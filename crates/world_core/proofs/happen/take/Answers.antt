@@ -1,5 +1,4 @@
 use Rattle.std.proofs.Common.{sym, ap, ◌∙◌}
-use Rattle.std.specs.Prelude.{slice_set}
 use Rattle.attribute_propagation.specs.Ports.{place_of}
 use Rattle.std.specs.Prelude.{[]}
 use Rattle.std.specs.Option.{option_map_or}
@@ -13,8 +12,8 @@ take_out-requires c = port_there c.args.at c.args.nodes.now.items c.place.result
 
 pub returns-clause-after : goal.returns-clause-after
 returns-clause-after c =
-    ap (slice_set c.args.nodes.now.items c.place.result) c.take_out.ensures.after
-    ∙ changed_here c.args.at (with_outbox (place_of c.args.at.port) []) c.args.nodes.now.items c.place.result c.index_mut.result.now c.requires c.place.ensures c.index_mut.ensures.value
+    changed_here c.args.at (with_outbox (place_of c.args.at.port) []) c.args.nodes.now.items c.place.result c.index_mut.result.now c.take_out.new.self
+    c.requires c.place.ensures c.index_mut.ensures.value c.take_out.ensures.after
 
 pub returns-clause-taken : goal.returns-clause-taken
 returns-clause-taken c =

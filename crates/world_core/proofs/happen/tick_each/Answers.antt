@@ -1,12 +1,35 @@
-use Rattle.std.proofs.Common.{◌≡◌, ◌+◌, length, rules}
-use Rattle.msrp.specs.Side.{next_sets}
+use Rattle.std.proofs.Common.{◌≡◌, length, vec_len, true, arith, rules}
+use Rattle.std.specs.Prelude.{◌<◌, ◌^◌}
+use Rattle.node_core.specs.Holding.{NodeHolding}
 use Rattle.node_core.specs.State.{NodeState}
 use Rattle.node_core.specs.Step.{clocked_node}
-use Rattle.world_core.proofs.Happenings.{ticked_more}
+use Rattle.world_core.proofs.Happenings.{each_state, none_ticked, next_as_before, ticked_more, all_ticked}
+use Rattle.world_core.proofs.Histories.{each_read}
 use Rattle.world_core.proofs.happen.tick_each.Goals as goal
 
-pub loop-next-preserved : goal.loop-next-preserved
-loop-next-preserved c =
-    let place : c.len.result ≡ length c.pop.new.self.items = search rules in
-    ticked_more clocked_node (λ (s : NodeState). next_sets (s.clock.0 + 1) s.streams) c.args.nodes.now.items c.loop-next.nodes.items c.loop-next.sets.items c.pop.new.self.items
-    _ c.len.result c.index_mut.result.now c.tick.new.self c.loop-next.invariant c.in-Some.ensures.items place c.index_mut.ensures.value c.tick.ensures
+pub loop-i-init : goal.loop-i-init
+loop-i-init c = none_ticked clocked_node c.args.nodes.now.items
+
+pub tick-requires-clause-clock : goal.tick-requires-clause-clock
+tick-requires-clause-clock c =
+    let nodes = c.args.nodes.now.items in
+    let count : vec_len c.args.nodes.now ≡ length nodes = search rules in
+    each_state (λ (s : NodeState). s.clock.0 < 2 ^ 61) nodes c.loop-i.i c.index_mut.result.now c.requires.clock (omega (arith, c.loop-i-test.true, c.len-i-end.ensures, count))
+    (next_as_before clocked_node c.loop-i.i nodes c.loop-i.nodes.items c.index_mut.result.now c.loop-i.invariant c.index_mut.ensures.value)
+
+pub tick-requires-clause-ready : goal.tick-requires-clause-ready
+tick-requires-clause-ready c =
+    let nodes = c.args.nodes.now.items in
+    let count : vec_len c.args.nodes.now ≡ length nodes = search rules in
+    each_read (λ (n : NodeHolding). n.ready ≡ true) nodes c.loop-i.i c.index_mut.result.now c.requires.ready (omega (arith, c.loop-i-test.true, c.len-i-end.ensures, count))
+    (next_as_before clocked_node c.loop-i.i nodes c.loop-i.nodes.items c.index_mut.result.now c.loop-i.invariant c.index_mut.ensures.value)
+
+pub loop-i-preserved : goal.loop-i-preserved
+loop-i-preserved c =
+    ticked_more clocked_node c.loop-i.i c.args.nodes.now.items c.loop-i.nodes.items c.index_mut.result.now c.tick.new.node c.loop-i.invariant c.index_mut.ensures.value c.tick.ensures
+
+pub returns : goal.returns
+returns c =
+    let nodes = c.args.nodes.now.items in
+    let count : vec_len c.args.nodes.now ≡ length nodes = search rules in
+    all_ticked clocked_node c.loop-i.i nodes c.loop-i.nodes.items (omega (arith, c.loop-i-test.false, c.len-i-end.ensures, count)) c.loop-i.invariant

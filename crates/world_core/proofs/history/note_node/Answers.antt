@@ -21,8 +21,8 @@ note-requires-clause-ports c =
     let w = c.args.world.now in
     let x = c.args.number.0 in
     let some = c.requires.node.0 in
-    let ports : ports_of c.node-node.result.now ≡ length (neighbours w.tree.links x) =
-    (c.keeps.ensures.nodes (x - 1) c.node-node.result.now c.node-node.ensures).ports ∙ ap (λ (y : ℕ). length (neighbours w.tree.links y)) (let e : x - 1 + 1 ≡ x = omega arith in e) in
+    let ports : ports_of c.node-node.result.now.state ≡ length (neighbours w.tree.links x) =
+    (c.keeps.ensures.nodes (x - 1) c.node-node.result.now.state c.node-node.ensures).ports ∙ ap (λ (y : ℕ). length (neighbours w.tree.links y)) (let e : x - 1 + 1 ≡ x = omega arith in e) in
     node_long c.args.tick c.args.number w c.requires.shape.0 w.tree c.args.nodes.now.items c.requires.shape.1 c.requires.node (c.from.result - 1) c.index_mut.result.now
     (ap (λ (i : ℕ). i - 1) c.from.ensures) c.index_mut.ensures.value ∙ sym ports
 
@@ -39,5 +39,5 @@ returns c =
     let w = c.args.world.now in
     on_ok c.note.result
     (λ is own before. node_is_noted c.args.tick c.args.number w own w.tree c.args.nodes.now.items before c.requires.node
-    (c.from.result - 1) c.node-node.result.now c.index_mut.result.now c.note.new.self
+    (c.from.result - 1) c.node-node.result.now.state c.index_mut.result.now c.note.new.self
     (ap (λ (i : ℕ). i - 1) c.from.ensures) c.index_mut.ensures.value c.node-node.ensures is) c.note.ensures

@@ -6,4 +6,4 @@ use Rattle.world_core.proofs.marking.are_ports_in_step.Given as goal
 -- all are sound exactly where those that are left are
 abbrev pub invariant-loop-i : goal.invariant-loop-i
 invariant-loop-i l =
-    are_ports_sound l.number l.node l.marks 1 (ports_of l.node) ≡ are_ports_sound l.number l.node l.marks (l.i + 1) (ports_of l.node - l.i)
+    are_ports_sound l.number l.node.state l.marks 1 (ports_of l.node.state) ≡ are_ports_sound l.number l.node.state l.marks (l.i + 1) (ports_of l.node.state - l.i)

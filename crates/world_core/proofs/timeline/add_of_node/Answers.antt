@@ -29,7 +29,7 @@ returns c =
     let x = c.args.number.0 in
     let some = c.requires.node.0 in
     let L = λ (p : EgressPort). lacking c.args.tick p (force_at p w) (changes_at c.args.changes.now p) in
-    let ports : ports_of c.node-node.result.now ≡ length (neighbours w.tree.links x) =
-    (c.keeps.ensures.nodes (x - 1) c.node-node.result.now c.node-node.ensures).ports ∙ ap (λ (y : ℕ). length (neighbours w.tree.links y)) (let e : x - 1 + 1 ≡ x = omega arith in e) in
+    let ports : ports_of c.node-node.result.now.state ≡ length (neighbours w.tree.links x) =
+    (c.keeps.ensures.nodes (x - 1) c.node-node.result.now.state c.node-node.ensures).ports ∙ ap (λ (y : ℕ). length (neighbours w.tree.links y)) (let e : x - 1 + 1 ≡ x = omega arith in e) in
     let all : c.loop-k.k ≡ length (neighbours w.tree.links x) = omega (arith, c.loop-k-test.false, c.loop-k.auto.k-end, c.ports-k-end.ensures, ports) in
     c.loop-k.invariant ∙ ap (λ (k : ℕ). c.args.fresh.now.items ++ flat_map L (map (port_of x) (range_with_len 1 k))) all

@@ -1,42 +1,43 @@
 use Rattle.std.proofs.Common.{sym, ap, ◌∙◌}
+use Rattle.node_core.specs.Holding.{states_in}
 use Rattle.world_core.specs.declared.events.WorldEvent.{WorldEvent}
-use Rattle.world_core.specs.declared.events.WorldEvent.TheVariants.{Request, Port, Lose, Repeat, Forge, Carry, Clock}
+use Rattle.world_core.specs.declared.events.WorldEvent.TheVariants.{Request, Carry, Clock}
 use Rattle.world_core.specs.World.{world_step}
 use Rattle.world_core.proofs.Standing.{stands, peer_stands, each_node, can_as, asked_there, if_ok, kept_either}
 use Rattle.world_core.proofs.world.World.step.Goals as goal
 
 pub make_step-requires-clause-some : goal.make_step-requires-clause-some
 make_step-requires-clause-some c = (can_as c.args.event (Request c.in-Request.node c.in-Request.request) c.args.self.now
-    (record { tree = c.self.inside.tree; nodes = c.self.inside.nodes.items; marks = c.self.inside.marks }) c.in-Request.is (sym c.self.view_is) c.requires).0
+    (record { tree = c.self.inside.tree; nodes = states_in c.self.inside.nodes.items; marks = c.self.inside.marks }) c.in-Request.is (sym c.self.view_is) c.requires).0
 
 pub make_step-requires-clause-few : goal.make_step-requires-clause-few
 make_step-requires-clause-few c =
-    asked_there c.in-Request.node c.in-Request.request (record { tree = c.self.inside.tree; nodes = c.self.inside.nodes.items; marks = c.self.inside.marks })
+    asked_there c.in-Request.node c.in-Request.request (record { tree = c.self.inside.tree; nodes = states_in c.self.inside.nodes.items; marks = c.self.inside.marks })
     (can_as c.args.event (Request c.in-Request.node c.in-Request.request) c.args.self.now
-    (record { tree = c.self.inside.tree; nodes = c.self.inside.nodes.items; marks = c.self.inside.marks }) c.in-Request.is (sym c.self.view_is) c.requires)
+    (record { tree = c.self.inside.tree; nodes = states_in c.self.inside.nodes.items; marks = c.self.inside.marks }) c.in-Request.is (sym c.self.view_is) c.requires)
 
 pub carry-requires-clause-here : goal.carry-requires-clause-here
-carry-requires-clause-here c = stands (record { tree = c.self.inside.tree; nodes = c.self.inside.nodes.items; marks = c.self.inside.marks })
+carry-requires-clause-here c = stands (record { tree = c.self.inside.tree; nodes = states_in c.self.inside.nodes.items; marks = c.self.inside.marks })
     c.self.invariant c.in-Carry.at (can_as c.args.event (Carry c.in-Carry.at) c.args.self.now
-    (record { tree = c.self.inside.tree; nodes = c.self.inside.nodes.items; marks = c.self.inside.marks }) c.in-Carry.is (sym c.self.view_is) c.requires)
+    (record { tree = c.self.inside.tree; nodes = states_in c.self.inside.nodes.items; marks = c.self.inside.marks }) c.in-Carry.is (sym c.self.view_is) c.requires)
 
 pub carry-requires-clause-there : goal.carry-requires-clause-there
-carry-requires-clause-there c = peer_stands (record { tree = c.self.inside.tree; nodes = c.self.inside.nodes.items; marks = c.self.inside.marks }) c.self.invariant
+carry-requires-clause-there c = peer_stands (record { tree = c.self.inside.tree; nodes = states_in c.self.inside.nodes.items; marks = c.self.inside.marks }) c.self.invariant
     (c.ports.ensures c.self.inside.tree c.self.invariant.tree) c.in-Carry.at (can_as c.args.event (Carry c.in-Carry.at) c.args.self.now
-    (record { tree = c.self.inside.tree; nodes = c.self.inside.nodes.items; marks = c.self.inside.marks }) c.in-Carry.is (sym c.self.view_is) c.requires)
+    (record { tree = c.self.inside.tree; nodes = states_in c.self.inside.nodes.items; marks = c.self.inside.marks }) c.in-Carry.is (sym c.self.view_is) c.requires)
 
 pub tick_all-requires : goal.tick_all-requires
-tick_all-requires c = each_node _ c.self.inside.nodes.items (can_as c.args.event (Clock) c.args.self.now
-    (record { tree = c.self.inside.tree; nodes = c.self.inside.nodes.items; marks = c.self.inside.marks }) c.in-Clock.is (sym c.self.view_is) c.requires)
+tick_all-requires c = each_node _ (states_in c.self.inside.nodes.items) (can_as c.args.event (Clock) c.args.self.now
+    (record { tree = c.self.inside.tree; nodes = states_in c.self.inside.nodes.items; marks = c.self.inside.marks }) c.in-Clock.is (sym c.self.view_is) c.requires)
 
 pub invariant_of-self-in-Carry : goal.invariant_of-self-in-Carry
 invariant_of-self-in-Carry c =
-    kept_either c.carry.result (world_step (Carry c.in-Carry.at) (record { tree = c.self.inside.tree; nodes = c.self.inside.nodes.items; marks = c.self.inside.marks }))
-    c.self.inside.tree c.self.inside.marks c.self.inside.nodes.items c.carry.new.nodes.items
+    kept_either c.carry.result (world_step (Carry c.in-Carry.at) (record { tree = c.self.inside.tree; nodes = states_in c.self.inside.nodes.items; marks = c.self.inside.marks }))
+    c.self.inside.tree c.self.inside.marks (states_in c.self.inside.nodes.items) (states_in c.carry.new.nodes.items)
     (if_ok c.carry.result _ _ (λ reply h. h c.self.inside.marks) c.carry.ensures.ok) c.carry.ensures.err
-    (c.every_event_keeps_it.ensures.event (Carry c.in-Carry.at) (record { tree = c.self.inside.tree; nodes = c.self.inside.nodes.items; marks = c.self.inside.marks })
+    (c.every_event_keeps_it.ensures.event (Carry c.in-Carry.at) (record { tree = c.self.inside.tree; nodes = states_in c.self.inside.nodes.items; marks = c.self.inside.marks })
     (can_as c.args.event (Carry c.in-Carry.at) c.args.self.now
-    (record { tree = c.self.inside.tree; nodes = c.self.inside.nodes.items; marks = c.self.inside.marks }) c.in-Carry.is (sym c.self.view_is) c.requires) tt c.self.invariant)
+    (record { tree = c.self.inside.tree; nodes = states_in c.self.inside.nodes.items; marks = c.self.inside.marks }) c.in-Carry.is (sym c.self.view_is) c.requires) tt c.self.invariant)
     c.self.invariant
 
 pub returns-in-Carry-clause-ok : goal.returns-in-Carry-clause-ok
@@ -46,11 +47,11 @@ returns-in-Carry-clause-ok c =
 
 pub invariant_of-self-in-Clock : goal.invariant_of-self-in-Clock
 invariant_of-self-in-Clock c =
-    kept_either c.tick_all.result (world_step Clock (record { tree = c.self.inside.tree; nodes = c.self.inside.nodes.items; marks = c.self.inside.marks }))
-    c.self.inside.tree c.self.inside.marks c.self.inside.nodes.items c.tick_all.new.nodes.items
+    kept_either c.tick_all.result (world_step Clock (record { tree = c.self.inside.tree; nodes = states_in c.self.inside.nodes.items; marks = c.self.inside.marks }))
+    c.self.inside.tree c.self.inside.marks (states_in c.self.inside.nodes.items) (states_in c.tick_all.new.nodes.items)
     (if_ok c.tick_all.result _ _ (λ reply h. h c.self.inside.tree c.self.inside.marks) c.tick_all.ensures.ok) c.tick_all.ensures.err
-    (c.every_event_keeps_it.ensures.event Clock (record { tree = c.self.inside.tree; nodes = c.self.inside.nodes.items; marks = c.self.inside.marks })
-    (can_as c.args.event Clock c.args.self.now (record { tree = c.self.inside.tree; nodes = c.self.inside.nodes.items; marks = c.self.inside.marks }) c.in-Clock.is
+    (c.every_event_keeps_it.ensures.event Clock (record { tree = c.self.inside.tree; nodes = states_in c.self.inside.nodes.items; marks = c.self.inside.marks })
+    (can_as c.args.event Clock c.args.self.now (record { tree = c.self.inside.tree; nodes = states_in c.self.inside.nodes.items; marks = c.self.inside.marks }) c.in-Clock.is
     (sym c.self.view_is) c.requires) tt c.self.invariant)
     c.self.invariant
 

@@ -1,7 +1,7 @@
 use Rattle.std.proofs.Common.{drop}
 use Rattle.std.specs.List.{AllByRecursion}
 use Rattle.world_core.specs.During.{IsAllowed}
-use Rattle.world_cases.proofs.parts.are_allowed.Given as goal
+use Rattle.world_cases.proofs.allowed.are_allowed.Given as goal
 
 -- where it is so of the events that are left, it is so of all
 abbrev pub invariant-loop-event : goal.invariant-loop-event
