@@ -11,3 +11,5 @@ mod listeners;
 #[cfg(test)]
 mod pair;
 mod scene;
+#[cfg(test)]
+mod wanting;

@@ -30,7 +30,7 @@ const SCENE: &str = "ticks = 3000\n\
     { tick = 0, kind = 'listen', station = 'l2', stream = 'k' }, \
     { tick = 0, kind = 'listen', station = 'l3', stream = 'k' }]\n";
 
-const FIRST_TICK: &str = "ticks = 1\n\
+pub(crate) const FIRST_TICK: &str = "ticks = 1\n\
     node = [{ name = 't1', kind = 'station' }, { name = 'b1', kind = 'bridge' }, \
     { name = 'b2', kind = 'bridge' }, { name = 'l1', kind = 'station' }, \
     { name = 'l2', kind = 'station' }, { name = 'l3', kind = 'station' }]\n\
@@ -133,7 +133,7 @@ fn is_after(found: Option<&Tick>, held: u8, other: u8) -> bool {
     }
 }
 
-fn is_held(run: &Option<Run>, held: u8, other: u8) -> bool {
+pub(crate) fn is_held(run: &Option<Run>, held: u8, other: u8) -> bool {
     match run {
         Some(run) => is_after(run.journal.ticks.as_slice().first(), held, other),
         None => false,

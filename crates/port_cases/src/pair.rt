@@ -9,7 +9,7 @@ use std::sync::Wait;
 use std::thread::Threads;
 use world_core::Run;
 
-const SCENE: &str = "ticks = 22\n\
+pub(crate) const SCENE: &str = "ticks = 22\n\
     node = [{ name = 's1', kind = 'station' }, { name = 's2', kind = 'station' }]\n\
     link = [{ a = 's1', b = 's2' }]\n\
     event = [{ tick = 0, kind = 'declare', station = 's1', vid = 7 }, \
@@ -17,7 +17,7 @@ const SCENE: &str = "ticks = 22\n\
     { tick = 21, kind = 'lose', from = 's1', to = 's2', index = 0 }]\n";
 
 // Whether two runs have one journal of 22 ticks, one timeline, and a quiet network out of step at the end.
-fn are_one(ports: &Run, plain: &Run) -> bool {
+pub(crate) fn are_one(ports: &Run, plain: &Run) -> bool {
     ports.journal.ticks.len() == 22
         && ports.journal == plain.journal
         && ports.timeline == plain.timeline

@@ -11,6 +11,7 @@ use Rattle.tree_topology.specs.Ports.{neighbours}
 use Rattle.attribute_propagation.specs.Ports.{IsLinkPort, place_of}
 use Rattle.node_core.specs.declared.types.NodeStep.{NodeStep}
 use Rattle.node_core.specs.declared.types.PortStep.{PortStep}
+use Rattle.node_core.specs.Holding.{NodeHolding, states_in}
 use Rattle.node_core.specs.State.{NodeState, ports_of, job_list}
 use Rattle.bridge_book.specs.declared.notice.Notice.{Notice}
 use Rattle.world_core.specs.declared.events.WorldEvent.{WorldEvent}
@@ -89,13 +90,13 @@ steps_none p (q ∷ made) h =
 
 -- the network once the nodes behind these have become others, and the marks have followed
 abbrev after_all : List NodeState → WorldState → List Worked → WorldState
-after_all front u all = record { tree = u.tree; nodes = front ++ nodes_of all; marks = marks_made all u.marks }
+after_all front u all = record { tree = u.tree; nodes = front ++ states_in (nodes_of all); marks = marks_made all u.marks }
 
 -- the nodes behind node x have made their steps from a network
 pub record IsGathered (x : ℕ) (front : List NodeState) (u : WorldState) (all : List Worked) : Type 0 where
   pub can : CanFollow all u.marks
-  pub kept : IsKeptWorld (record { tree = u.tree; nodes = front ++ nodes_of all; marks = marks_made all u.marks })
-  pub after : world_after (step_events (steps_made all)) u ≡ record { tree = u.tree; nodes = front ++ nodes_of all; marks = marks_made all u.marks }
+  pub kept : IsKeptWorld (record { tree = u.tree; nodes = front ++ states_in (nodes_of all); marks = marks_made all u.marks })
+  pub after : world_after (step_events (steps_made all)) u ≡ record { tree = u.tree; nodes = front ++ states_in (nodes_of all); marks = marks_made all u.marks }
   pub replies : step_replies (steps_made all) ≡ replies_to (step_events (steps_made all)) u
   pub within : AllByRecursion (λ (q : NodeSteps). x < q.node.0) (steps_made all)
   pub nodes : AscendByNode (steps_made all)
@@ -116,13 +117,13 @@ link_ports_there tree n count (st ∷ made) first last ports h =
 
 module _ (laws : StepLaws) where
   module _ (task : Task) (worked : Worked) (tasks : List Task) (rest : List Worked) (x : ℕ) (front : List NodeState) (u : WorldState) (few : AreFew (2 ^ 65 + x * 2 ^ 64) u.marks)
-      (kept : IsKeptWorld u) (is : IsWorked task worked) (number : worked.number.0 ≡ x + 1) (nodes : u.nodes ≡ front ++ task.node ∷ map (λ (t : Task). t.node) tasks)
+      (kept : IsKeptWorld u) (is : IsWorked task worked) (number : worked.number.0 ≡ x + 1) (nodes : u.nodes ≡ front ++ task.node.state ∷ states_in (map (λ (t : Task). t.node) tasks))
       (long : length front ≡ x) (room : x + suc (length tasks) < 65536) where
     abbrev n : NodeNo
     n = worked.number
 
     abbrev s : NodeState
-    s = task.node
+    s = task.node.state
 
     abbrev made : List NodeStep
     made = worked.steps
@@ -134,13 +135,13 @@ module _ (laws : StepLaws) where
     place = omega (arith, number, long)
 
     at : node_at n u ≡ Some s
-    at = ap (λ (k : ℕ). slice_get u.nodes k) place ∙ (ap (λ (all : List NodeState). slice_get all (length front)) nodes ∙ get_middle front (map (λ (t : Task). t.node) tasks) s)
+    at = ap (λ (k : ℕ). slice_get u.nodes k) place ∙ (ap (λ (all : List NodeState). slice_get all (length front)) nodes ∙ get_middle front (states_in (map (λ (t : Task). t.node) tasks)) s)
 
     many : n.0 ≤ length u.tree.kinds
     many =
         let count = kept.many in
-        let all : length u.nodes ≡ length front + suc (length (map (λ (t : Task). t.node) tasks)) =
-        ap (λ (xs : List NodeState). length xs) nodes ∙ length-append front (s ∷ map (λ (t : Task). t.node) tasks)
+        let all : length u.nodes ≡ length front + suc (length (states_in (map (λ (t : Task). t.node) tasks))) =
+        ap (λ (xs : List NodeState). length xs) nodes ∙ length-append front (s ∷ states_in (map (λ (t : Task). t.node) tasks))
         in
         omega (arith, count, all, number, long)
 
@@ -167,26 +168,26 @@ module _ (laws : StepLaws) where
         let h = subst (AreFew (2 ^ 65 + x * 2 ^ 64 + length made)) (marks_of_all n made s u.marks) go.few app p has in
         omega (arith, short, h)
 
-    pub nodes_next : v.nodes ≡ (front ++ worked.node ∷ []) ++ map (λ (t : Task). t.node) tasks
+    pub nodes_next : v.nodes ≡ (front ++ worked.node.state ∷ []) ++ states_in (map (λ (t : Task). t.node) tasks)
     nodes_next =
-        let later : List NodeState = map (λ (t : Task). t.node) tasks in
+        let later : List NodeState = states_in (map (λ (t : Task). t.node) tasks) in
         ap (λ (k : ℕ). slice_set u.nodes k (node_after made s)) place
         ∙ (ap (λ (all : List NodeState). slice_set all (length front) (node_after made s)) nodes
         ∙ (set_middle front later s (node_after made s)
-        ∙ (ap (λ (y : NodeState). front ++ y ∷ later) (sym is.made.after) ∙ sym (append_assoc front (worked.node ∷ []) later))))
+        ∙ (ap (λ (y : NodeState). front ++ y ∷ later) (sym is.made.after) ∙ sym (append_assoc front (worked.node.state ∷ []) later))))
 
-    pub long_next : length (front ++ worked.node ∷ []) ≡ x + 1
-    long_next = length-append front (worked.node ∷ []) ∙ ap (λ (k : ℕ). k + 1) long
+    pub long_next : length (front ++ worked.node.state ∷ []) ≡ x + 1
+    long_next = length-append front (worked.node.state ∷ []) ∙ ap (λ (k : ℕ). k + 1) long
 
-    module _ (later : IsGathered (x + 1) (front ++ worked.node ∷ []) v rest) where
+    module _ (later : IsGathered (x + 1) (front ++ worked.node.state ∷ []) v rest) where
       abbrev all : List Worked
       all = worked ∷ rest
 
-      same_after : after_all (front ++ worked.node ∷ []) v rest ≡ after_all front u all
+      same_after : after_all (front ++ worked.node.state ∷ []) v rest ≡ after_all front u all
       same_after =
-          ap (λ (m : MarksState). record { tree = u.tree; nodes = (front ++ worked.node ∷ []) ++ nodes_of rest; marks = marks_made rest m }) marks_next
+          ap (λ (m : MarksState). record { tree = u.tree; nodes = (front ++ worked.node.state ∷ []) ++ states_in (nodes_of rest); marks = marks_made rest m }) marks_next
           ∙ ap (λ (ns : List NodeState). record { tree = u.tree; nodes = ns; marks = marks_made rest (marks_by n made worked.notices u.marks) })
-          (append_assoc front (worked.node ∷ []) (nodes_of rest))
+          (append_assoc front (worked.node.state ∷ []) (states_in (nodes_of rest)))
 
       own_after : world_after (events_of n made) u ≡ v
       own_after = laws.one n made u s at is.made.own
@@ -202,7 +203,8 @@ module _ (laws : StepLaws) where
           let own : length (neighbours u.tree.links n.0) ≡ length (neighbours u.tree.links p.node.0) = ap (λ (k : ℕ). length (neighbours u.tree.links k)) same in
           let link : IsLinkPort p.port (ports_of s) = record { some = some; within = omega (arith, fits, own, ports_are) } in
           let none : steps_of p (steps_made rest) ≡ [] =
-          steps_none p (steps_made rest) (each_more (λ (q : NodeSteps). x + 1 < q.node.0) (λ (q : NodeSteps). p.node.0 < q.node.0) (steps_made rest) (λ q h. omega (arith, h, same, number)) later.within)
+          steps_none p (steps_made rest) (each_more (λ (q : NodeSteps). x + 1 < q.node.0) (λ (q : NodeSteps). p.node.0 < q.node.0)
+          (steps_made rest) (λ q h. omega (arith, h, same, number)) later.within)
           in
           before_steps p n made (steps_made rest)
           ∙ (ap (λ (b : Bool). (if b then steps_at_port p.port made else []) ++ steps_of p (steps_made rest)) e
@@ -245,7 +247,7 @@ module _ (laws : StepLaws) where
           }
 
   pub gathered : (tasks : List Task) (all : List Worked) (x : ℕ) (front : List NodeState) (u : WorldState) → AreFew (2 ^ 65 + x * 2 ^ 64) u.marks → IsKeptWorld u → AreWorked tasks all
-      → AreNumbered x tasks → u.nodes ≡ front ++ map (λ (t : Task). t.node) tasks → length front ≡ x → x + length tasks < 65536 → IsGathered x front u all
+      → AreNumbered x tasks → u.nodes ≡ front ++ states_in (map (λ (t : Task). t.node) tasks) → length front ≡ x → x + length tasks < 65536 → IsGathered x front u all
   gathered [] [] x front u few kept worked numbers nodes long room =
       let same : u ≡ record { tree = u.tree; nodes = front ++ []; marks = u.marks } = ap (λ (ns : List NodeState). record { tree = u.tree; nodes = ns; marks = u.marks }) nodes in
       record {
@@ -267,8 +269,8 @@ module _ (laws : StepLaws) where
   gathered (task ∷ tasks) [] x front u few kept all numbers nodes long room = absurd all
   gathered (task ∷ tasks) (worked ∷ rest) x front u few kept all numbers nodes long room =
       let number : worked.number.0 ≡ x + 1 = ap (λ (k : NodeNo). k.0) all.0.number ∙ numbers.0 in
-      let v : WorldState = after_own worked.number worked.steps task.node u in
-      let later = gathered tasks rest (x + 1) (front ++ worked.node ∷ []) v
+      let v : WorldState = after_own worked.number worked.steps task.node.state u in
+      let later = gathered tasks rest (x + 1) (front ++ worked.node.state ∷ []) v
       (few_next task worked tasks rest x front u few kept all.0 number nodes long room)
       (kept_next task worked tasks rest x front u few kept all.0 number nodes long room)
       all.1 numbers.1
@@ -279,15 +281,16 @@ module _ (laws : StepLaws) where
       one_gathered task worked tasks rest x front u few kept all.0 number nodes long room later
 
   -- all nodes of a network
-  pub all_gathered : (u : WorldState) (tasks : List Task) (all : List Worked) → IsKeptWorld u → AreFew (2 ^ 65) u.marks → map (λ (t : Task). t.node) tasks ≡ u.nodes → AreNumbered 0 tasks
+  pub all_gathered : (u : WorldState) (tasks : List Task) (all : List Worked) → IsKeptWorld u → AreFew (2 ^ 65) u.marks → states_in (map (λ (t : Task). t.node) tasks) ≡ u.nodes → AreNumbered 0 tasks
       → length u.nodes < 65536 → AreWorked tasks all → IsGathered 0 [] u all
   all_gathered u tasks all kept few nodes numbers room worked =
       let none : 2 ^ 65 ≡ 2 ^ 65 + 0 * 2 ^ 64 = omega arith in
-      let count : length tasks ≡ length u.nodes = sym (length-map tasks (λ (t : Task). t.node)) ∙ ap (λ (ns : List NodeState). length ns) nodes in
+      let count : length tasks ≡ length u.nodes = sym (length-map tasks (λ (t : Task). t.node))
+      ∙ (sym (length-map (map (λ (t : Task). t.node) tasks) (λ (n : NodeHolding). n.state)) ∙ ap (λ (ns : List NodeState). length ns) nodes) in
       gathered tasks all 0 [] u (subst (λ (b : ℕ). AreFew b u.marks) none few) kept worked numbers (sym nodes) refl (omega (arith, room, count))
 
   pub steps_are : (u w : WorldState) (all : List Worked) (made : List NodeSteps) → IsGathered 0 [] u all → made ≡ steps_made all
-      → w ≡ record { tree = u.tree; nodes = nodes_of all; marks = marks_made all u.marks } → AreSteps u w made
+      → w ≡ record { tree = u.tree; nodes = states_in (nodes_of all); marks = marks_made all u.marks } → AreSteps u w made
   steps_are u w all made h is reached =
       subst (λ (ns : List NodeSteps). AreSteps u w ns) (sym is)
       (record {

@@ -1,6 +1,6 @@
 -- The steps of all nodes of a network in a tick.
 use Rattle.std.specs.Prelude.{◌≡◌, ℕ, ◌+◌, List, [], ◌∷◌, map, flat_map, Result, Ok}
-use Rattle.node_core.specs.State.{NodeState}
+use Rattle.node_core.specs.Holding.{NodeHolding}
 use Rattle.srp_base.specs.declared.memory.NoMemory.{NoMemory}
 use Rattle.world_core.specs.declared.journal.NodeSteps.{NodeSteps}
 use Rattle.world_core.specs.OneByOne.{steps_before}
@@ -48,5 +48,5 @@ CanFollow (worked ∷ later) m =
     × CanFollow later (marks_by worked.number worked.steps worked.notices m)
 
 -- the nodes of these
-abbrev pub nodes_of : List Worked → List NodeState
+abbrev pub nodes_of : List Worked → List NodeHolding
 nodes_of all = map (λ worked. worked.node) all

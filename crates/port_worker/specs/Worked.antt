@@ -34,4 +34,4 @@ pub record IsNodeWorked (s v : NodeState) (made : List NodeStep) (notices : List
 pub record IsWorked (task : Task) (worked : Worked) : Type 0 where
   pub number : worked.number ≡ task.number
   pub few : length worked.steps < 2 ^ 64
-  pub made : IsNodeWorked task.node worked.node worked.steps worked.notices
+  pub made : IsNodeWorked task.node.state worked.node.state worked.steps worked.notices

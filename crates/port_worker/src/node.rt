@@ -37,7 +37,7 @@ pub(crate) struct Worked {
 
 /// Whether a port of a node has something to do.
 pub(crate) fn has_jobs(node: &Node) -> bool
-    ensures { result ≡ has_jobs node.now }
+    ensures { result ≡ has_jobs node.now.state }
 {
     node.ports() > 0 && (node.is_busy() || is_sending_time(node.now()))
 }
@@ -67,7 +67,7 @@ fn work_by_ports<R: Threads + Wait + Sync, G: Gate>(
     number: NodeNo,
     node: Node,
 ) -> Result<Worked, NoMemory>
-    requires { has_jobs node ≡ true }
+    requires { has_jobs node.state ≡ true }
     ensures { IfOk result (λ worked. IsWorked (record { number = number; node = node }) worked) }
 {
     let lists = jobs_by_port(alloc, &node)?;
@@ -81,10 +81,10 @@ fn work_by_ports<R: Threads + Wait + Sync, G: Gate>(
 
 // A node that has made no step.
 fn idle(alloc: Global, number: NodeNo, node: Node) -> Worked
-    requires { has_jobs node ≡ false }
+    requires { has_jobs node.state ≡ false }
     ensures number { result.number ≡ number }
     ensures few { length result.steps < 2 ^ 64 }
-    ensures made { IsNodeWorked node result.node result.steps result.notices }
+    ensures made { IsNodeWorked node.state result.node.state result.steps result.notices }
 {
     Worked {
         number,
@@ -98,8 +98,8 @@ fn idle(alloc: Global, number: NodeNo, node: Node) -> Worked
 fn worked_of(number: NodeNo, closed: HubClosed) -> Worked
     ensures number { result.number ≡ number }
     ensures few { length result.steps < 2 ^ 64 }
-    ensures made { (s : NodeState) → IsNodeWorked s closed.node closed.steps closed.notices
-        → IsNodeWorked s result.node result.steps result.notices }
+    ensures made { (s : NodeState) → IsNodeWorked s closed.node.state closed.steps closed.notices
+        → IsNodeWorked s result.node.state result.steps result.notices }
 {
     let HubClosed {
         node,
@@ -117,8 +117,8 @@ fn worked_of(number: NodeNo, closed: HubClosed) -> Worked
 
 // The jobs of each of a node's ports, ports ascending.
 fn jobs_by_port(alloc: Global, node: &Node) -> Result<Vec<Seq<PortStep>>, NoMemory>
-    ensures { IfOk result
-        (λ v. v.items ≡ map (λ at. job_list at node.now) (range_with_len 0 (ports_of node.now))) }
+    ensures { IfOk result (λ v. v.items ≡ map (λ at. job_list at node.now.state)
+        (range_with_len 0 (ports_of node.now.state))) }
 {
     let _ = no_key();
     let mut jobs = Vec::new(alloc);
@@ -130,10 +130,10 @@ fn jobs_by_port(alloc: Global, node: &Node) -> Result<Vec<Seq<PortStep>>, NoMemo
 
 // A hub round a node.
 fn begin(alloc: Global, number: NodeNo, node: Node) -> Result<(NodeHub, Vec<PortPass>), NoMemory>
-    requires { 0 < ports_of node }
-    ensures node { IfOk result (λ r. first_node r.0 ≡ node) }
-    ensures count { IfOk result (λ r. r.0.lock.passes ≡ ports_of node) }
-    ensures passes { IfOk result (λ r. r.1.items ≡ first_passes r.0.lock (ports_of node)) }
+    requires { 0 < ports_of node.state }
+    ensures node { IfOk result (λ r. first_node r.0 ≡ node.state) }
+    ensures count { IfOk result (λ r. r.0.lock.passes ≡ ports_of node.state) }
+    ensures passes { IfOk result (λ r. r.1.items ≡ first_passes r.0.lock (ports_of node.state)) }
 {
     match NodeHub::begin(alloc, number, node) {
         Ok((hub, passes)) => Ok((hub, passes.into_vec())),
@@ -189,7 +189,7 @@ fn close(hub: NodeHub, jobs: &[Seq<PortStep>], passes: Vec<PortPass>) -> Result<
     requires ports { hub.lock.passes ≡ ports_of (first_node hub) }
     requires done { AreDone hub jobs.now passes.items }
     requires count { length passes.items ≡ hub.lock.passes }
-    ensures { IfOk result (λ c. IsNodeWorked (first_node hub) c.node c.steps c.notices) }
+    ensures { IfOk result (λ c. IsNodeWorked (first_node hub) c.node.state c.steps c.notices) }
 {
     ports_make_their_steps();
     steps_keep_what_a_node_is();

@@ -1,6 +1,6 @@
 use Rattle.std.proofs.Common.{◌≡◌, ◌∷◌, [], ◌++◌, List, refl, sym, ap, ◌∙◌, subst, arith}
 use Rattle.std.proofs.lemmas.List.{map-append}
-use Rattle.node_core.specs.State.{NodeState}
+use Rattle.node_core.specs.Holding.{NodeHolding}
 use Rattle.world_core.specs.declared.journal.NodeSteps.{NodeSteps}
 use Rattle.world_core.specs.Marks.{MarksState}
 use Rattle.world_core.specs.OneByOne.{steps_before}
@@ -34,7 +34,7 @@ loop-worked-preserved c =
     let so_far = c.loop-worked.invariant in
     let can = subst (λ (ws : List Worked). CanFollow ws c.loop-worked.marks) first so_far.3 in
     let added = c.in_ok-add.ensures in (
-      added.nodes ∙ (ap (λ (ns : List NodeState). ns ++ worked.node ∷ []) so_far.0 ∙ sym (map-append (λ (w : Worked). w.node) c.loop-worked.yielded (worked ∷ []))),
+      added.nodes ∙ (ap (λ (ns : List NodeHolding). ns ++ worked.node ∷ []) so_far.0 ∙ sym (map-append (λ (w : Worked). w.node) c.loop-worked.yielded (worked ∷ []))),
       added.steps ∙ (ap (λ (ss : List NodeSteps). ss ++ steps_before worked.number worked.steps []) so_far.1 ∙ sym (steps_more c.loop-worked.yielded worked)),
       added.marks ∙ (ap (λ (m : MarksState). marks_by worked.number worked.steps worked.notices m) so_far.2 ∙ sym (marks_more c.loop-worked.yielded worked c.args.marks.now)),
       subst (CanFollow next) (sym {A = MarksState} added.marks) can.1,
@@ -47,14 +47,17 @@ done f x ys all is same = is ∙ ap f same
 pub returns-clause-nodes : goal.returns-clause-nodes
 returns-clause-nodes c =
     let none : c.loop-worked.worked-iterator.rest.items ≡ [] = no_items c.loop-worked.worked-iterator.rest.items (omega (arith, c.in-None.ensures.steps.0)) in
-    done nodes_of _ c.loop-worked.yielded c.args.all.items c.loop-worked.invariant.0 (rest_none c.loop-worked.yielded c.loop-worked.worked-iterator.rest.items c.args.all.items none c.loop-worked.invariant.4)
+    done nodes_of _ c.loop-worked.yielded c.args.all.items c.loop-worked.invariant.0
+    (rest_none c.loop-worked.yielded c.loop-worked.worked-iterator.rest.items c.args.all.items none c.loop-worked.invariant.4)
 
 pub returns-clause-steps : goal.returns-clause-steps
 returns-clause-steps c =
     let none : c.loop-worked.worked-iterator.rest.items ≡ [] = no_items c.loop-worked.worked-iterator.rest.items (omega (arith, c.in-None.ensures.steps.0)) in
-    done steps_made _ c.loop-worked.yielded c.args.all.items c.loop-worked.invariant.1 (rest_none c.loop-worked.yielded c.loop-worked.worked-iterator.rest.items c.args.all.items none c.loop-worked.invariant.4)
+    done steps_made _ c.loop-worked.yielded c.args.all.items c.loop-worked.invariant.1
+    (rest_none c.loop-worked.yielded c.loop-worked.worked-iterator.rest.items c.args.all.items none c.loop-worked.invariant.4)
 
 pub returns-clause-marks : goal.returns-clause-marks
 returns-clause-marks c =
     let none : c.loop-worked.worked-iterator.rest.items ≡ [] = no_items c.loop-worked.worked-iterator.rest.items (omega (arith, c.in-None.ensures.steps.0)) in
-    done (λ (ws : List Worked). marks_made ws c.args.marks.now) _ c.loop-worked.yielded c.args.all.items c.loop-worked.invariant.2 (rest_none c.loop-worked.yielded c.loop-worked.worked-iterator.rest.items c.args.all.items none c.loop-worked.invariant.4)
+    done (λ (ws : List Worked). marks_made ws c.args.marks.now) _ c.loop-worked.yielded c.args.all.items c.loop-worked.invariant.2
+    (rest_none c.loop-worked.yielded c.loop-worked.worked-iterator.rest.items c.args.all.items none c.loop-worked.invariant.4)

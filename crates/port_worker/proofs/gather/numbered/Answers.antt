@@ -1,6 +1,6 @@
 use Rattle.std.proofs.Common.{◌≡◌, ◌∷◌, [], ◌++◌, ◌+◌, ℕ, List, length, length-append, map, sym, ap, ◌∙◌, subst, arith}
 use Rattle.std.proofs.lemmas.List.{map-append, length-map}
-use Rattle.node_core.specs.State.{NodeState}
+use Rattle.node_core.specs.Holding.{NodeHolding}
 use Rattle.port_worker.specs.declared.node.Task.{Task}
 use Rattle.port_worker.specs.Gathered.{AreNumbered}
 use Rattle.port_worker.proofs.Lists.{rest_less, rest_none, no_items}
@@ -18,7 +18,7 @@ loop-node-init c =
 
 pub loop-node-preserved : goal.loop-node-preserved
 loop-node-preserved c =
-    let node : NodeState = c.in-Some.node in
+    let node : NodeHolding = c.in-Some.node in
     let next = c.next.new.self.rest.items in
     let first : c.loop-node.node-iterator.rest.items ≡ node ∷ next = c.in-Some.ensures.steps.0 in
     let so_far = c.loop-node.invariant in
@@ -29,13 +29,13 @@ loop-node-preserved c =
     let fits = c.ranges.count.fits in
     let sat = c.saturating_add-number.ensures in
     let long : length (c.loop-node.yielded ++ node ∷ []) + length next ≡ length c.args.nodes.items =
-    sym (length-append (c.loop-node.yielded ++ node ∷ []) next) ∙ ap (λ (xs : List NodeState). length xs) rest
+    sym (length-append (c.loop-node.yielded ++ node ∷ []) next) ∙ ap (λ (xs : List NodeHolding). length xs) rest
     in
     let one = length-append c.loop-node.yielded (node ∷ []) in
-    let same : length c.loop-node.tasks.items ≡ length c.loop-node.yielded = sym (length-map c.loop-node.tasks.items (λ (t : Task). t.node)) ∙ ap (λ (xs : List NodeState). length xs) so_far.0 in
+    let same : length c.loop-node.tasks.items ≡ length c.loop-node.yielded = sym (length-map c.loop-node.tasks.items (λ (t : Task). t.node)) ∙ ap (λ (xs : List NodeHolding). length xs) so_far.0 in
     let count = so_far.2 in
     let number : c.saturating_add-number.result ≡ c.loop-node.number + 1 = grind (arith, sat, fits, few, long, one, same, count) in (
-      ap (λ (ts : List Task). map (λ t. t.node) ts) push ∙ (map-append (λ (t : Task). t.node) c.loop-node.tasks.items (task ∷ []) ∙ ap (λ (xs : List NodeState). xs ++ node ∷ []) so_far.0),
+      ap (λ (ts : List Task). map (λ t. t.node) ts) push ∙ (map-append (λ (t : Task). t.node) c.loop-node.tasks.items (task ∷ []) ∙ ap (λ (xs : List NodeHolding). xs ++ node ∷ []) so_far.0),
       subst (AreNumbered 0) (sym {A = List Task} push) (numbered_more 0 c.loop-node.tasks.items task so_far.1 (omega (arith, number, count))),
       ap (λ (ts : List Task). length ts) push ∙ (length-append c.loop-node.tasks.items (task ∷ []) ∙ (ap (λ (k : ℕ). k + 1) so_far.2 ∙ sym number)),
       rest,

@@ -19,9 +19,9 @@ pub returns-in-Ok : goal.returns-in-Ok
 returns-in-Ok c =
     let hub = c.args.hub in
     let closed = c.in-Ok.closed in
-    closed_worked c.steps_keep_what_a_node_is.ensures.ports hub c.args.jobs.now c.args.passes.items closed.node closed.steps closed.notices
+    closed_worked c.steps_keep_what_a_node_is.ensures.ports hub c.args.jobs.now c.args.passes.items closed.node.state closed.steps closed.notices
     c.requires.jobs c.requires.ports c.requires.done c.requires.count
-    (subst (λ (ps : List PortPass). HasClosedHub hub ps closed.node closed.steps closed.notices) c.from_vec.ensures c.in-Ok.ensures.closed)
+    (subst (λ (ps : List PortPass). HasClosedHub hub ps closed.node.state closed.steps closed.notices) c.from_vec.ensures c.in-Ok.ensures.closed)
 
 pub unreachable-requires : goal.unreachable-requires
 unreachable-requires c =

@@ -19,6 +19,6 @@ returns g c =
     record {
       number = c.worked_of.ensures.number;
       few = c.worked_of.ensures.few;
-      made = subst (λ (s : NodeState). IsNodeWorked s worked.node worked.steps worked.notices) c.in_ok-hub.ensures.node
+      made = subst (λ (s : NodeState). IsNodeWorked s worked.node.state worked.steps worked.notices) c.in_ok-hub.ensures.node
           (c.worked_of.ensures.made (first_node c.in_ok-hub.hub) c.in_ok-closed.ensures);
     }
