@@ -68,7 +68,7 @@ pub(crate) fn left_of(
     number: NodeNo,
     node: &Node,
 ) -> Result<Vec<PortLeft>, NoMemory>
-    ensures all { IfOk result (λ left. left.items ≡ left_of scenario.now t number node.now) }
+    ensures all { IfOk result (λ left. left.items ≡ left_of scenario.now t number node.now.state) }
     ensures few { IfOk result (λ left. length left.items ≤ 255) }
 {
     let _ = no_key();
@@ -88,9 +88,9 @@ fn left_at(
     node: &Node,
     at: u8,
 ) -> Result<PortLeft, NoMemory>
-    requires port { IsLinkPort (record { 0 = at + 1 }) (ports_of node.now) }
+    requires port { IsLinkPort (record { 0 = at + 1 }) (ports_of node.now.state) }
     requires few { at ≤ 254 }
-    ensures { IfOk result (λ left. left ≡ left_at scenario.now t number node.now at) }
+    ensures { IfOk result (λ left. left ≡ left_at scenario.now t number node.now.state at) }
 {
     let port = PortNo(at + 1);
     let mut place = Vec::new(alloc);

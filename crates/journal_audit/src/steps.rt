@@ -187,7 +187,7 @@ fn read_jobs(
 
 // Whether a node has a job: it is busy, or it is time to send.
 fn has_jobs(node: &Node) -> bool
-    ensures { result ≡ (is_busy_node node.now || is_sending_time node.now.clock) }
+    ensures { result ≡ (is_busy_node node.now.state || is_sending_time node.now.state.clock) }
 {
     node.is_busy() || is_sending_time(node.now())
 }

@@ -198,7 +198,7 @@ fn failure_there(world: &World, listener: NodeNo, stream: StreamId) -> Option<Fa
 }
 
 fn failure_of_node(node: &Node, stream: StreamId) -> Option<Failure>
-    ensures { result ≡ failure_in stream node.now }
+    ensures { result ≡ failure_in stream node.now.state }
 {
     node.keeps();
     if node.ports() == 0 {
@@ -257,8 +257,8 @@ fn refusal_of_node(
     stream: StreamId,
     failure: Failure,
 ) -> Option<Refusal>
-    requires { IsLinkPort at.port (ports_of node.now) }
-    ensures { result ≡ refusal_in stream failure at node.now }
+    requires { IsLinkPort at.port (ports_of node.now.state) }
+    ensures { result ≡ refusal_in stream failure at node.now.state }
 {
     if node.bridge() != failure.bridge {
         return None;

@@ -112,14 +112,14 @@ fn put_place(
     node: &Node,
     at: PortNo,
 ) -> Result<(), AllocError>
-    requires port { IsLinkPort at (ports_of node.now) }
+    requires port { IsLinkPort at (ports_of node.now.state) }
     requires rate { AreCaps link.now.rate (caps_of_link link.now).class_a
         (caps_of_link link.now).both }
-    requires class_a { slope_at A (place_of at) node.now ≤ (caps_of_link link.now).class_a }
-    requires both { slope_at A (place_of at) node.now + slope_at B (place_of at) node.now
-        ≤ (caps_of_link link.now).both }
+    requires class_a { slope_at A (place_of at) node.now.state ≤ (caps_of_link link.now).class_a }
+    requires both { slope_at A (place_of at) node.now.state
+        + slope_at B (place_of at) node.now.state ≤ (caps_of_link link.now).both }
     ensures { OnOk result (out.new.items ≡ out.old.items
-        ++ place_lines port.now link.now scenario.now.streams (place_of at) node.now) }
+        ++ place_lines port.now link.now scenario.now.streams (place_of at) node.now.state) }
 {
     let caps = Caps::new(link.rate, link.delta_a, link.delta_b);
     let class_a = node.slope(at, Class::A) as u64;

@@ -44,15 +44,15 @@ fn want_of_reg(reg: TalkerReg) -> Option<Want>
 
 // What a stream's Talker, as it is registered at a node, asks of each other port.
 fn asked_of(node: &Node, stream: StreamId) -> Option<Want>
-    ensures { result ≡ asked_of_spec stream node.now }
+    ensures { result ≡ asked_of_spec stream node.now.state }
 {
     want_of_reg(node.talker(stream))
 }
 
 // Whether Listeners of a stream are registered at a port.
 fn has_listeners(node: &Node, at: PortNo, stream: StreamId) -> bool
-    requires { IsLinkPort at (ports_of node.now) }
-    ensures { result ≡ has_listeners_spec stream (place_of at) node.now }
+    requires { IsLinkPort at (ports_of node.now.state) }
+    ensures { result ≡ has_listeners_spec stream (place_of at) node.now.state }
 {
     node.content(at, MsrpKey::Listener(stream)).is_some()
 }
@@ -97,9 +97,9 @@ fn put_stream(
     at: PortNo,
     entry: &StreamEntry,
 ) -> Result<(), AllocError>
-    requires { IsLinkPort at (ports_of node.now) }
+    requires { IsLinkPort at (ports_of node.now.state) }
     ensures { OnOk result (out.new.items
-        ≡ out.old.items ++ stream_line port.now (place_of at) node.now entry.now) }
+        ≡ out.old.items ++ stream_line port.now (place_of at) node.now.state entry.now) }
 {
     let stream = entry.id;
     let heard = has_listeners(node, at, stream);
@@ -120,9 +120,9 @@ pub(crate) fn put_refusals(
     at: PortNo,
     scenario: &Scenario,
 ) -> Result<(), AllocError>
-    requires { IsLinkPort at (ports_of node.now) }
-    ensures { OnOk result (out.new.items
-        ≡ out.old.items ++ refused_lines port.now (place_of at) node.now scenario.now.streams) }
+    requires { IsLinkPort at (ports_of node.now.state) }
+    ensures { OnOk result (out.new.items ≡ out.old.items
+        ++ refused_lines port.now (place_of at) node.now.state scenario.now.streams) }
 {
     put_streams(out, port, node, at, scenario.streams.as_slice())
 }
@@ -135,9 +135,9 @@ fn put_streams(
     at: PortNo,
     streams: &[StreamEntry],
 ) -> Result<(), AllocError>
-    requires { IsLinkPort at (ports_of node.now) }
+    requires { IsLinkPort at (ports_of node.now.state) }
     ensures { OnOk result (out.new.items
-        ≡ out.old.items ++ refused_lines port.now (place_of at) node.now streams.now) }
+        ≡ out.old.items ++ refused_lines port.now (place_of at) node.now.state streams.now) }
 {
     for entry in streams {
         put_stream(out, port, node, at, entry)?;

@@ -37,7 +37,7 @@ fn put_node(
     node: &Node,
 ) -> Result<(), AllocError>
     ensures { OnOk result (out.new.items
-        ≡ out.old.items ++ node_heard scenario.now number node.now) }
+        ≡ out.old.items ++ node_heard scenario.now number node.now.state) }
 {
     let name = node_name(scenario.nodes.as_slice(), number);
     match node.kind() {
@@ -54,7 +54,7 @@ fn put_streams(
     streams: &[StreamEntry],
 ) -> Result<(), AllocError>
     ensures { OnOk result (out.new.items
-        ≡ out.old.items ++ flat_map (stream_heard name.now node.now) streams.now) }
+        ≡ out.old.items ++ flat_map (stream_heard name.now node.now.state) streams.now) }
 {
     for entry in streams {
         put_stream(out, name, node, entry)?;
@@ -70,7 +70,7 @@ fn put_stream(
     entry: &StreamEntry,
 ) -> Result<(), AllocError>
     ensures { OnOk result (out.new.items
-        ≡ out.old.items ++ stream_heard name.now node.now entry.now) }
+        ≡ out.old.items ++ stream_heard name.now node.now.state entry.now) }
 {
     let stream = entry.id;
     if node.listens(stream) {

@@ -47,9 +47,9 @@ fn put_keys(
     at: PortNo,
     keys: &[NodeKey],
 ) -> Result<(), AllocError>
-    requires { IsLinkPort at (ports_of node.now) }
-    ensures { OnOk result (out.new.items
-        ≡ out.old.items ++ flat_map (key_line domains port.now (place_of at) node.now) keys.now) }
+    requires { IsLinkPort at (ports_of node.now.state) }
+    ensures { OnOk result (out.new.items ≡ out.old.items
+        ++ flat_map (key_line domains port.now (place_of at) node.now.state) keys.now) }
 {
     for key in keys {
         put_key(out, domains, port, node, at, key)?;
@@ -66,9 +66,9 @@ fn put_key(
     at: PortNo,
     key: &NodeKey,
 ) -> Result<(), AllocError>
-    requires { IsLinkPort at (ports_of node.now) }
+    requires { IsLinkPort at (ports_of node.now.state) }
     ensures { OnOk result (out.new.items
-        ≡ out.old.items ++ key_line domains port.now (place_of at) node.now key.now) }
+        ≡ out.old.items ++ key_line domains port.now (place_of at) node.now.state key.now) }
 {
     let state = node.registrar(at, *key);
     match key {

@@ -96,7 +96,7 @@ pub(crate) fn ready_in_all(scenario: &Scenario, world: &World) -> u64
 
 // Of how many of these streams a node hears Ready, where it is a station.
 fn ready_at(node: &Node, streams: &[StreamEntry]) -> u64
-    ensures { result ≡ ready_at_spec streams.now node.now }
+    ensures { result ≡ ready_at_spec streams.now node.now.state }
 {
     match node.kind() {
         NodeKind::Station => ready_of(node, streams),
@@ -106,7 +106,7 @@ fn ready_at(node: &Node, streams: &[StreamEntry]) -> u64
 
 // Of how many of these streams a station hears Ready.
 fn ready_of(node: &Node, streams: &[StreamEntry]) -> u64
-    ensures { result ≡ count_by (hears_ready_spec node.now) streams.now }
+    ensures { result ≡ count_by (hears_ready_spec node.now.state) streams.now }
 {
     let mut count: u64 = 0;
     for entry in streams {
@@ -119,7 +119,7 @@ fn ready_of(node: &Node, streams: &[StreamEntry]) -> u64
 
 // Whether a node's application listens to a stream and hears Ready.
 fn hears_ready(node: &Node, entry: &StreamEntry) -> bool
-    ensures { result ≡ hears_ready_spec node.now entry.now }
+    ensures { result ≡ hears_ready_spec node.now.state entry.now }
 {
     let stream = entry.id;
     node.listens(stream) && matches!(node.heard(stream), Some(ListenerKind::Ready))

@@ -44,9 +44,9 @@ pub(crate) fn jobs_in_order(
 
 // The jobs of a node that isn't busy: it has nothing to do but send, at a moment of sending.
 fn quiet_jobs(alloc: Global, node: &Node) -> Result<Vec<(PortNo, PortStep)>, NoMemory>
-    requires { is_busy_node node.now ≡ false }
-    ensures { IfOk result (λ v. v.items
-        ≡ order_of (map (λ at. job_list at node.now) (range_with_len 0 (ports_of node.now)))) }
+    requires { is_busy_node node.now.state ≡ false }
+    ensures { IfOk result (λ v. v.items ≡ order_of (map (λ at. job_list at node.now.state)
+        (range_with_len 0 (ports_of node.now.state)))) }
 {
     let _ = no_key();
     if is_sending_time(node.now()) {
@@ -72,8 +72,8 @@ fn sends(alloc: Global, ports: u8) -> Result<Vec<(PortNo, PortStep)>, NoMemory>
 
 // The jobs of each of a node's ports, ports ascending.
 fn jobs_by_port(alloc: Global, node: &Node) -> Result<Vec<Seq<PortStep>>, NoMemory>
-    ensures jobs { IfOk result
-        (λ v. v.items ≡ map (λ at. job_list at node.now) (range_with_len 0 (ports_of node.now))) }
+    ensures jobs { IfOk result (λ v. v.items ≡ map (λ at. job_list at node.now.state)
+        (range_with_len 0 (ports_of node.now.state))) }
     ensures few { IfOk result (λ v. length v.items ≤ 255) }
 {
     let _ = no_key();

@@ -45,10 +45,10 @@ pub(crate) fn forget_if(has_happened: bool, rest: Rest, rests: &mut Vec<Rest>)
 
 /// Whether a node is known to have nothing to do now.
 pub(crate) fn rests_now(node: &Node, rest: Rest) -> bool
-    requires { IsRestOf rest node.now }
-    ensures value { result ≡ is_rest_at node.now.clock rest }
+    requires { IsRestOf rest node.now.state }
+    ensures value { result ≡ is_rest_at node.now.state.clock rest }
     ensures idle { result ≡ true
-        → (is_busy_node node.now || is_sending_time node.now.clock) ≡ false }
+        → (is_busy_node node.now.state || is_sending_time node.now.state.clock) ≡ false }
 {
     a_node_at_rest_stays_so();
     match rest {
@@ -60,8 +60,8 @@ pub(crate) fn rests_now(node: &Node, rest: Rest) -> bool
 /// What is known of a node behind its turn in a tick: nothing where it has made a step; else what was known of it, or what it
 /// answers where it was to be asked.
 pub(crate) fn rest_after(node: &Node, rest: Rest, has_made: bool) -> Rest
-    requires { has_made ≡ false → IsRestOf rest node.now }
-    ensures { IsRestOf result node.now }
+    requires { has_made ≡ false → IsRestOf rest node.now.state }
+    ensures { IsRestOf result node.now.state }
 {
     if has_made {
         return Rest::Unknown;
@@ -74,8 +74,8 @@ pub(crate) fn rest_after(node: &Node, rest: Rest, has_made: bool) -> Rest
 
 // What a node answers: whether it is at rest up to the next moment of sending.
 fn asked(node: &Node) -> Rest
-    ensures value { result ≡ rest_of node.now }
-    ensures rest { IsRestOf result node.now }
+    ensures value { result ≡ rest_of node.now.state }
+    ensures rest { IsRestOf result node.now.state }
 {
     node.keeps();
     let until = Cs(node.now().0 / JOIN_TIME * JOIN_TIME + (JOIN_TIME - 1));

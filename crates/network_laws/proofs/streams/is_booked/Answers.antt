@@ -2,4 +2,4 @@ use Rattle.network_laws.proofs.Places.{link-port}
 use Rattle.network_laws.proofs.streams.is_booked.Goals as goal
 
 pub booked-requires : goal.booked-requires
-booked-requires c = link-port c.args.world.now c.keeps.ensures c.args.at c.requires c.node.result.now c.node.ensures
+booked-requires c = link-port c.args.world.now c.keeps.ensures c.args.at c.requires c.node.result.now.state c.node.ensures

@@ -2,4 +2,4 @@ use Rattle.network_laws.proofs.Places.{link-port}
 use Rattle.network_laws.proofs.vlans.is_registered_at.Goals as goal
 
 pub registrar-requires : goal.registrar-requires
-registrar-requires c = link-port c.args.world.now c.keeps.ensures c.args.at c.requires c.node.result.now c.node.ensures
+registrar-requires c = link-port c.args.world.now c.keeps.ensures c.args.at c.requires c.node.result.now.state c.node.ensures

@@ -11,7 +11,7 @@ use Rattle.port_margins.specs.Margins.{place_lines}
 use Rattle.port_margins.proofs.ports.put_on_link.Goals as goal
 
 pub put_place-requires-clause-port : goal.put_place-requires-clause-port
-put_place-requires-clause-port c = link-port c.args.world.now c.keeps.ensures c.args.at c.requires.port c.node-node.result.now c.node-node.ensures
+put_place-requires-clause-port c = link-port c.args.world.now c.keeps.ensures c.args.at c.requires.port c.node-node.result.now.state c.node-node.ensures
 
 pub returns : goal.returns
 returns c =
@@ -21,7 +21,7 @@ returns c =
     let at = c.args.at in
     let link = c.args.link.now in
     let place = place_of at.port in
-    let s = c.node-node.result.now in
+    let s = c.node-node.result.now.state in
     let nodes : c.as_slice-nodes.result.now ≡ plan.nodes = c.as_slice-nodes.ensures ∙ ap (λ (p : Plan). p.nodes) c.scenario.view_is in
     let name = c.in_ok-port.ensures
     ∙ (ap (λ (t : Topology). port_name c.as_slice-nodes.result.now t.links at) c.tree.ensures ∙ ap (λ (ns : List NodeEntry). port_name ns w.tree.links at) nodes) in

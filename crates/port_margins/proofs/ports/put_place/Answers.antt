@@ -12,7 +12,7 @@ pub returns : goal.returns
 returns c =
     let out = c.args.out.now.items in
     let port = c.args.port.now in
-    let s = c.args.node.now in
+    let s = c.args.node.now.state in
     let place = place_of c.args.at in
     let rate = c.args.link.now.rate in
     let refused = refused_lines port place s c.args.scenario.now.streams in

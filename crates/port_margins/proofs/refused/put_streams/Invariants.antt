@@ -7,5 +7,5 @@ use Rattle.port_margins.proofs.refused.put_streams.Given as goal
 -- the text so far with the lines of the streams that are left is the whole
 abbrev pub invariant-loop-entry : goal.invariant-loop-entry
 invariant-loop-entry l =
-    l.out.items ++ flat_map (stream_line l.port (place_of l.at) l.node) (drop l.entry-index l.streams)
-    ≡ l.initial.out.items ++ flat_map (stream_line l.port (place_of l.at) l.node) l.streams
+    l.out.items ++ flat_map (stream_line l.port (place_of l.at) l.node.state) (drop l.entry-index l.streams)
+    ≡ l.initial.out.items ++ flat_map (stream_line l.port (place_of l.at) l.node.state) l.streams

@@ -7,7 +7,7 @@ pub loop-i-preserved : goal.loop-i-preserved
 loop-i-preserved c =
     let nodes = c.args.world.now.nodes in
     let i = c.loop-i.i in
-    let s = c.node.result.now in
+    let s = c.node.result.now.state in
     let same : i + 1 - 1 ≡ i = omega arith in
     let at : slice_get nodes i ≡ Some s = subst (λ (k : ℕ). slice_get nodes k ≡ Some s) same c.node.ensures in
     next-heard c.args.scenario.now (i + 1) i c.loop-i.out.items c.put_node.new.out.items nodes s at c.in_ok-put_node.ensures

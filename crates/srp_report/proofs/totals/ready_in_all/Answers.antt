@@ -11,7 +11,7 @@ pub loop-i-preserved : goal.loop-i-preserved
 loop-i-preserved c =
     let nodes = c.args.world.now.nodes in
     let i = c.loop-i.i in
-    let s = c.node.result.now in
+    let s = c.node.result.now.state in
     let same : i + 1 - 1 ≡ i = omega arith in
     let at : slice_get nodes i ≡ Some s = subst (λ (k : ℕ). slice_get nodes k ≡ Some s) same c.node.ensures in
     let place = at-place nodes i s at in

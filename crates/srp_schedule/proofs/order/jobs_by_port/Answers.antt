@@ -8,8 +8,8 @@ loop-at-preserved c =
     let less : c.loop-at.at + 1 - 1 ≡ c.loop-at.at = omega arith in
     let count = c.ports-at-end.ensures in
     let test = c.loop-at-test.true in
-    let lt : c.loop-at.at < ports_of c.args.node.now = omega (arith, count, test) in (
-      port_more (λ at. job_list at c.args.node.now) c.loop-at.at (ports_of c.args.node.now) c.loop-at.jobs.items _ c.in_ok-jobs.field-0 _ lt
-          (c.in_ok-jobs.ensures ∙ ap (λ (k : ℕ). job_list k c.args.node.now) less) c.in_ok-push.ensures.items c.loop-at.invariant.0,
+    let lt : c.loop-at.at < ports_of c.args.node.now.state = omega (arith, count, test) in (
+      port_more (λ at. job_list at c.args.node.now.state) c.loop-at.at (ports_of c.args.node.now.state) c.loop-at.jobs.items _ c.in_ok-jobs.field-0 _ lt
+          (c.in_ok-jobs.ensures ∙ ap (λ (k : ℕ). job_list k c.args.node.now.state) less) c.in_ok-push.ensures.items c.loop-at.invariant.0,
       pushed_length c.loop-at.jobs.items _ c.in_ok-jobs.field-0 c.loop-at.at c.in_ok-push.ensures.items c.loop-at.invariant.1,
     )
