@@ -1,0 +1,7 @@
+pub mod CreditLemmas
+pub mod PortLemmas
+pub mod QueueLemmas
+pub mod RangeLemmas
+pub mod RiseLemmas
+pub mod HeightLemmas
+pub mod WaitLemmas

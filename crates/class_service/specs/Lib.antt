@@ -1,0 +1,5 @@
+pub mod Class
+pub mod Service
+pub mod Range
+pub mod Owed
+pub mod BitTimes
