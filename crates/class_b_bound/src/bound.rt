@@ -36,8 +36,9 @@ pub fn bound_b(rate: Rate, cap_a: u64, cap_ab: u64) -> BoundB
     }
 }
 
-/// The tighter bound, under the same conditions, with the caps in bit/s; worked cases come within 10 bit times of it. Class A starts with
-/// credit only, so behind another frame it takes no more than its credit at that frame's end gives.
+/// The tighter bound, under the same conditions, with the caps in bit/s. Worked cases come within 10 bit times of it, but
+/// not where class A has 1 or 2 percent of the rate: at 1 percent the longest wait that is known is 24,671 bit times of
+/// 24,796. Class A starts with credit only, so behind another frame it takes no more than its credit at that frame's end gives.
 pub fn tight_bound_b(rate: Rate, cap_a: u64, cap_ab: u64) -> BoundB
     requires { AreCaps rate cap_a cap_ab }
     ensures { result ≡ tight_bound_of rate cap_a cap_ab }

@@ -1,13 +1,13 @@
 //! What comes in and goes out at a link port, and what the application asks for.
 
-ghost use Rattle.std.specs.Prelude.{◌≡◌, ◌<◌, ◌≤◌, ◌^◌, ◌∷◌, [], false, IsTrue, if◌then◌else◌, length, slice_get, None, Some, IfOk, IfSome, IsOk, OnOk, OnErr};
+ghost use Rattle.std.specs.Prelude.{◌≡◌, ◌≢◌, ◌<◌, ◌≤◌, ◌^◌, ◌∷◌, [], true, false, IsTrue, if◌then◌else◌, length, slice_get, None, Some, IfOk, IfSome, IsOk, OnOk, OnErr};
 ghost use Rattle.mrp_participant.specs.Lookup.{find};
 ghost use Rattle.mrp_participant.specs.Row.{is_leaving_in};
-ghost use Rattle.mrp_participant.specs.State.{due_count};
+ghost use Rattle.mrp_participant.specs.State.{due_count, is_any_due};
 ghost use Rattle.attribute_propagation.specs.Dirty.{with_key, without_key};
 ghost use Rattle.attribute_propagation.specs.Ports.{IsLinkPort, count_of, keys_in, marked_everywhere, place_of};
 ghost use Rattle.flat_side.specs.Part.{said_events};
-ghost use Rattle.flat_side.specs.Side.{HasReceived, received_flat, due_flat, left_flat, leave_all_flat, periodic_flat, spoilt_flat, requested_flat};
+ghost use Rattle.flat_side.specs.Side.{HasReceived, has_own, received_flat, due_flat, left_flat, leave_all_flat, periodic_flat, spoilt_flat, requested_flat};
 
 use crate::app::FlatApp;
 use crate::laws::every_call_keeps_a_side;
@@ -25,8 +25,9 @@ use std::alloc::{AllocError, Global};
 
 impl<A: FlatApp> FlatSide<A> {
     /// Makes the side ready at a link port: afterwards `due` and `settle` of that port take no memory, and all else is
-    /// as before. Each call that may change the side ends its readiness. After want of memory, which comes only
-    /// where the side isn't ready at the port, it is ready nowhere.
+    /// as before. Each call that changes the side ends its readiness; `due`, `settle`, `send` and `request` leave it
+    /// where they change nothing. After want of memory, which comes only where the side isn't ready at the port, it is
+    /// ready nowhere.
     pub fn room(&mut self, port: PortNo) -> Result<(), NoMemory>
         requires { IsLinkPort port (length self.old.state.parts) }
         ensures state { self.new.state ≡ self.old.state }
@@ -94,7 +95,8 @@ impl<A: FlatApp> FlatSide<A> {
 
     /// Fires the timers of a link port that are due at the moment `now`, in cs and below 2^62 (IEEE Std
     /// 802.1Q-2018, 10.7.4). Answers their number. Keys that leave await at every other link port. Want of memory
-    /// comes only where the side isn't ready at the port.
+    /// comes only where a timer is due and the side isn't ready at the port. Where none is due nothing changes,
+    /// readiness either.
     pub fn due(&mut self, now: Cs, port: PortNo) -> Result<u32, NoMemory>
         requires now { now.0 < 2 ^ 62 }
         requires port { IsLinkPort port (length self.old.state.parts) }
@@ -104,13 +106,18 @@ impl<A: FlatApp> FlatSide<A> {
             (λ s. n ≡ count_of (due_count now s))) }
         ensures err { OnErr result (self.new.state ≡ self.old.state) }
         ensures room { self.old.ready ≡ Some (place_of port) → IsOk result }
-        ensures ready { OnOk result (self.new.ready ≡ None) }
+        // Want of memory comes only where a timer is due, and what fires alone ends readiness.
+        ensures none { IfSome (slice_get self.old.state.parts (place_of port))
+            (λ s. is_any_due now s ≡ false → IsOk result) }
+        ensures stays { IfSome (slice_get self.old.state.parts (place_of port))
+            (λ s. is_any_due now s ≡ false → self.new ≡ self.old) }
+        ensures ready { OnOk result (IfSome (slice_get self.old.state.parts (place_of port))
+            (λ s. is_any_due now s ≡ true → self.new.ready ≡ None)) }
     {
         each_port_is_told::<A::Key>();
         nothing_due_changes_nothing::<A>();
         let at = usize::from(port.0) - 1;
         if !part_at(self.parts.as_slice(), at).any_due(now) {
-            self.ready = None;
             return Ok(0);
         }
         self.room(port)?;
@@ -135,7 +142,7 @@ impl<A: FlatApp> FlatSide<A> {
 
     /// Ends the leave timer of one key at a link port, whatever the moment: LV becomes MT, and the key awaits
     /// at every other link port. True exactly where the registrar was LV; where it wasn't, nothing changes, and no
-    /// memory is taken.
+    /// memory is taken. It ends readiness.
     pub fn leave_now(&mut self, port: PortNo, key: A::Key) -> Result<bool, NoMemory>
         requires { IsLinkPort port (length self.old.state.parts) }
         ensures after { OnOk result (self.new.state
@@ -194,18 +201,23 @@ impl<A: FlatApp> FlatSide<A> {
     }
 
     /// Declares a key for the application where `declared` is true, and else withdraws it. Where that changes what
-    /// the application declares, the key awaits at every link port.
+    /// the application declares, the key awaits at every link port; where it doesn't, nothing changes, readiness
+    /// either, and no memory is taken.
     pub fn request(&mut self, key: A::Key, declared: bool) -> Result<(), NoMemory>
         ensures ok { OnOk result (self.new.state
             ≡ requested_flat A.Key.cmp key declared self.old.state) }
         ensures err { OnErr result (self.new.state ≡ self.old.state) }
-        ensures ready { OnOk result (self.new.ready ≡ None) }
+        // Want of memory comes only where something is to change, and that alone ends readiness.
+        ensures none { has_own A.Key.cmp key self.old.state ≡ declared → IsOk result }
+        ensures stays { has_own A.Key.cmp key self.old.state ≡ declared → self.new ≡ self.old }
+        ensures ready { OnOk result (has_own A.Key.cmp key self.old.state ≢ declared
+            → self.new.ready ≡ None) }
     {
         every_call_keeps_a_side::<A>();
-        self.ready = None;
         if agree(declared, self.own.awaits(key)) {
             return Ok(());
         }
+        self.ready = None;
         ask(&mut self.awaiting, &mut self.own, key, declared)
     }
 }

@@ -1,6 +1,6 @@
 //! Settling the keys that await at a port.
 
-ghost use Rattle.std.specs.Prelude.{◌≡◌, ◌<◌, ◌≤◌, ◌+◌, ◌||◌, ◌^◌, [], length, drop, slice_get, take, None, Some, IfOk, IfSome, IsOk, OnOk, OnErr};
+ghost use Rattle.std.specs.Prelude.{◌≡◌, ◌≢◌, ◌<◌, ◌≤◌, ◌+◌, ◌||◌, ◌^◌, [], length, drop, slice_get, take, None, Some, IfOk, IfSome, IsOk, OnOk, OnErr};
 ghost use Rattle.std.specs.List.{list_any};
 ghost use Rattle.mrp_participant.specs.State.{declared_state};
 ghost use Rattle.attribute_propagation.specs.Dirty.{is_awaiting};
@@ -20,7 +20,8 @@ impl<A: FlatApp> FlatSide<A> {
     /// Settles the keys that await at a link port, ascending: each is declared there where another port or the
     /// application has it registered, and else withdrawn (IEEE Std 802.1Q-2018, 10.3, 11.2). Answers how many
     /// awaited; none does afterwards. `now` isn't looked at: keys settle alike at every moment. Want of memory comes
-    /// only where the side isn't ready at the port and some key awaits there.
+    /// only where the side isn't ready at the port and some key awaits there. Where none awaits nothing changes,
+    /// readiness either.
     pub fn settle(&mut self, now: Cs, port: PortNo) -> Result<u32, NoMemory>
         requires now { now.0 < 2 ^ 62 }
         requires port { IsLinkPort port (length self.old.state.parts) }
@@ -31,11 +32,13 @@ impl<A: FlatApp> FlatSide<A> {
         ensures err { OnErr result (self.new.state ≡ self.old.state) }
         ensures room { self.old.ready ≡ Some (place_of port) → IsOk result }
         ensures none { awaiting_at (place_of port) self.old.state ≡ [] → IsOk result }
-        ensures ready { OnOk result (self.new.ready ≡ None) }
+        // What settles ends readiness, and nothing else does.
+        ensures stays { awaiting_at (place_of port) self.old.state ≡ [] → self.new ≡ self.old }
+        ensures ready { OnOk result (awaiting_at (place_of port) self.old.state ≢ []
+            → self.new.ready ≡ None) }
     {
         let at = usize::from(port.0) - 1;
         if set_at(self.awaiting.as_slice(), at).is_empty() {
-            self.ready = None;
             return Ok(0);
         }
         self.room(port)?;

@@ -1,6 +1,6 @@
 //! What the user asks of one key, and the end of one leave timer.
 
-ghost use Rattle.std.specs.Prelude.{◌≡◌, ◌≤◌, ◌+◌, false, Some, None, is_none, vec_capacity, vec_len, OnOk, OnErr};
+ghost use Rattle.std.specs.Prelude.{◌≡◌, ◌≤◌, ◌+◌, true, false, if◌then◌else◌, Some, None, is_none, vec_capacity, vec_len, OnOk, OnErr};
 ghost use Rattle.mrp_participant.specs.Lookup.{Ascends, ChangesOnly, key_of, find, put};
 ghost use Rattle.mrp_participant.specs.Row.{after_declare, after_withdraw, after_leave, is_leaving_in, declared_in};
 ghost use Rattle.mrp_participant.specs.Outlook.{IsOutlook};
@@ -60,21 +60,28 @@ impl<A: MrpApp> Participant<A> {
     }
 
     /// Ends a key's leave timer: LV becomes MT (IEEE Std 802.1Q-2018, 10.7.8). True exactly where the Registrar
-    /// was LV; where it wasn't, nothing changes. It lowers no spare, and ends readiness.
+    /// was LV; where it wasn't, nothing changes, readiness either. It lowers no spare, and ends readiness where it was.
     pub fn leave_due(&mut self, key: A::Key) -> bool
         ensures was { result ≡ is_leaving_in (find A.Key.cmp key self.old.state.rows) }
         ensures after { self.new.state ≡ left_state A.Key.cmp key self.old.state }
-        ensures stays { result ≡ false → self.new.state ≡ self.old.state }
+        ensures stays { result ≡ false → self.new ≡ self.old }
         ensures each_key { ChangesOnly A.Key.cmp key
             (after_leave (find A.Key.cmp key self.old.state.rows))
             self.old.state.rows self.new.state.rows }
         ensures spare { self.old.spare ≤ self.new.spare }
-        ensures ready { self.new.ready ≡ false }
+        ensures ready { result ≡ true → self.new.ready ≡ false }
     {
         let was = leave_in(&mut self.rows, &mut self.outlook, key);
-        self.ready = false;
+        self.ready = stays_ready(self.ready, was);
         was
     }
+}
+
+/// Whether a participant is ready after a call that changed it or didn't.
+fn stays_ready(ready: bool, changed: bool) -> bool
+    ensures { result ≡ (if changed then false else ready) }
+{
+    if changed { false } else { ready }
 }
 
 /// Declares a key. After want of memory, which comes only for a key without a row where there is no spare capacity,

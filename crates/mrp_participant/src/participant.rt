@@ -1,6 +1,6 @@
 //! The participant as contracts see it, and what it shows.
 
-ghost use Rattle.std.specs.Prelude.{◌≡◌, ◌≤◌, length, map, slice_get, option_map, true, false, IfOk, IfSome, IsOk, OnOk};
+ghost use Rattle.std.specs.Prelude.{◌≡◌, ◌≤◌, length, map, slice_get, option_map, is_some, true, false, IfOk, IfSome, IsOk, OnOk};
 ghost use Rattle.mrp_participant.specs.Lookup.{Ascends, find, key_of};
 ghost use Rattle.mrp_participant.specs.Row.{applicant_of, registrar_of, registered_in, declared_in};
 ghost use Rattle.mrp_participant.specs.State.{IsTime, AreRows, new_state, is_still};
@@ -129,6 +129,13 @@ impl<A: MrpApp> Participant<A> {
         self.left.reserve(self.rows.len())?;
         self.ready = true;
         Ok(())
+    }
+
+    /// Whether there is a row of a key: its Applicant isn't VO, or its Registrar isn't MT.
+    pub fn has_row(&self, key: A::Key) -> bool
+        ensures { result ≡ is_some (find A.Key.cmp key self.now.state.rows) }
+    {
+        find_row(self.rows.as_slice(), &key).is_some()
     }
 
     /// The content that is registered of a key; None exactly where its Registrar is MT.

@@ -1,6 +1,6 @@
 //! What a participant sends (IEEE Std 802.1Q-2018, 10.7.6 and 10.8).
 
-ghost use Rattle.std.specs.Prelude.{◌≡◌, ◌<◌, ◌^◌, ◌+◌, ◌++◌, ◌≤◌, ◌≢◌, ◌||◌, true, false, [], sum_by, OnOk, OnErr, IfOk, IfSome, IfNone, is_none};
+ghost use Rattle.std.specs.Prelude.{◌≡◌, ◌<◌, ◌^◌, ◌+◌, ◌++◌, ◌≤◌, ◌≢◌, ◌||◌, true, false, [], sum_by, OnOk, OnErr, IsOk, IfOk, IfSome, IfNone, is_none};
 ghost use Rattle.std.specs.List.{filter_map};
 ghost use Rattle.mrp_participant.specs.Lookup.{Ascends};
 ghost use Rattle.mrp_participant.specs.Sending.{sent_row, sent_event, is_taken};
@@ -26,7 +26,7 @@ impl<A: MrpApp> Participant<A> {
     /// A Join is JoinIn where the row's own Registrar is IN, else JoinMt; LeaveAll takes each Registrar out of
     /// IN first. The events stand ascending by key.
     ///
-    /// None exactly where no row is VP, VN, AN, AA or LA and LeaveAll is Passive.
+    /// None exactly where no row is VP, VN, AN, AA or LA and LeaveAll is Passive; that takes no memory.
     pub fn plan(&self, now: Cs) -> Result<Option<Msgs<A>>, NoMemory>
         requires { now.0 < 2 ^ 62 }
 
@@ -41,6 +41,8 @@ impl<A: MrpApp> Participant<A> {
             (λ e. A.octets e.2) msgs.events ≤ 1500)) }
         ensures says { IfOk result (λ planned. IfSome planned (λ msgs. msgs.leave_all ≡ false
             → msgs.events ≢ [])) }
+        // Want of memory comes only where something is to be said.
+        ensures none { is_silent self.now.state ≡ true → IsOk result }
     {
         if self.has_nothing_to_say() {
             return Ok(None);
@@ -76,8 +78,9 @@ impl<A: MrpApp> Participant<A> {
     /// What the participant sends at the moment `now`, in cs and below 2^62 (IEEE Std 802.1Q-2018, 10.7.6): what
     /// `plan` answers, with the change of `sent`.
     ///
-    /// None exactly where no row is VP, VN, AN, AA or LA and LeaveAll is Passive; nothing changes then. A LeaveAll
-    /// makes the participant sound. What is sent ends readiness. After want of memory the participant is as it was.
+    /// None exactly where no row is VP, VN, AN, AA or LA and LeaveAll is Passive; nothing changes then, and no memory
+    /// is taken. A LeaveAll makes the participant sound. What is sent ends readiness. After want of memory the
+    /// participant is as it was.
     pub fn send(&mut self, now: Cs) -> Result<Option<Msgs<A>>, NoMemory>
         requires { now.0 < 2 ^ 62 }
 
@@ -96,6 +99,8 @@ impl<A: MrpApp> Participant<A> {
             ≡ sent_state A.base A.octets A.Key.cmp now self.old.state) }
         ensures stays { IfOk result (λ sent. IfNone sent (self.new ≡ self.old)) }
         ensures err { OnErr result (self.new.state ≡ self.old.state) }
+        // Want of memory comes only where something is to be said.
+        ensures none { is_silent self.old.state ≡ true → IsOk result }
         ensures ready { OnOk result (is_silent self.old.state ≡ false → self.new.ready ≡ false) }
     {
         let planned = self.plan(now)?;

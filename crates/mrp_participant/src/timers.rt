@@ -2,7 +2,7 @@
 //! timer, and periodic transmission.
 
 ghost use Rattle.std.specs.Prelude.{◌≡◌, ◌<◌, ◌≤◌, ◌+◌, ◌^◌, ◌++◌, [], true, false, length, map, filter, min, if◌then◌else◌, vec_capacity, vec_len, IsOk, OnOk, OnErr, IfOk};
-ghost use Rattle.std.specs.List.{filter_map};
+ghost use Rattle.std.specs.List.{filter_map, list_any};
 ghost use Rattle.mrp_participant.specs.Lookup.{key_of};
 ghost use Rattle.mrp_participant.specs.Row.{leave_is_due, after_leave_due, periodic_row};
 ghost use Rattle.mrp_participant.specs.Outlook.{IsOutlook};
@@ -10,6 +10,7 @@ ghost use Rattle.mrp_participant.specs.State.{leave_all_state, periodic_state, i
 
 use crate::append::{keep_at, push_within};
 use crate::application::MrpApp;
+use crate::laws::nothing_due_changes_nothing;
 use crate::outlook::{Outlook, is_leave_due, outlook_of};
 use crate::participant::Participant;
 use crate::row::Row;
@@ -51,8 +52,8 @@ impl<A: MrpApp> Participant<A> {
 
     /// Fires all timers that are due at the moment `now`, in cs and below 2^62: the leave timers ascending, then
     /// LeaveAll, then periodic. Answers how many fired, a number that stops at 4,294,967,295, and the keys that
-    /// left, ascending. It ends readiness. After want of memory, which comes only where the participant isn't ready,
-    /// it is as it was.
+    /// left, ascending. What fires ends readiness; where no timer is due nothing changes. After want of memory, which
+    /// comes only where the participant isn't ready and some leave timer is due, it is as it was.
     pub fn due(&mut self, now: Cs) -> Result<(u32, Seq<A::Key>), NoMemory>
         requires { now.0 < 2 ^ 62 }
 
@@ -61,6 +62,30 @@ impl<A: MrpApp> Participant<A> {
         ensures keys { IfOk result (λ r. r.1 ≡ left_keys now self.old.state) }
         ensures err { OnErr result (self.new.state ≡ self.old.state) }
         ensures ready { self.old.ready ≡ true → IsOk result }
+        // Want of memory comes only where a leave timer is due.
+        ensures none { list_any (leave_is_due now.0) self.old.state.rows ≡ false → IsOk result }
+        // What fires ends readiness, and nothing else does.
+        ensures stays { is_any_due now self.old.state ≡ false → self.new ≡ self.old }
+        ensures ends { OnOk result (is_any_due now self.old.state ≡ true
+            → self.new.ready ≡ false) }
+    {
+        nothing_due_changes_nothing::<A>();
+        if !self.any_due(now) {
+            return Ok((0, Seq::from_vec(Vec::new(*self.rows.allocator()))));
+        }
+        self.fire(now)
+    }
+
+    /// Fires all timers that are due, as `due` does.
+    fn fire(&mut self, now: Cs) -> Result<(u32, Seq<A::Key>), NoMemory>
+        requires { now.0 < 2 ^ 62 }
+
+        ensures after { OnOk result (self.new.state ≡ due_state now self.old.state) }
+        ensures fired { IfOk result (λ r. r.0 ≡ min (due_count now self.old.state) 4294967295) }
+        ensures keys { IfOk result (λ r. r.1 ≡ left_keys now self.old.state) }
+        ensures err { OnErr result (self.new.state ≡ self.old.state) }
+        ensures ready { self.old.ready ≡ true → IsOk result }
+        ensures none { list_any (leave_is_due now.0) self.old.state.rows ≡ false → IsOk result }
         ensures ends { OnOk result (self.new.ready ≡ false) }
     {
         fire_leaves(&mut self.rows, &mut self.outlook, &mut self.left, now)?;
@@ -129,6 +154,7 @@ fn fire_leaves<K: Copy, C: Copy>(
     ensures stays { OnErr result ((keys.new.items ≡ [])
         × (vec_capacity keys.new ≡ vec_capacity keys.old)) }
     ensures room { length rows.old.items ≤ vec_capacity keys.old → IsOk result }
+    ensures none { list_any (leave_is_due now.0) rows.old.items ≡ false → IsOk result }
     ensures outlook { IsOutlook outlook.new rows.new.items }
 {
     if !outlook.has_due(now) {

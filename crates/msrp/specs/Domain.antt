@@ -1,5 +1,6 @@
 -- SRP domains at a node (IEEE Std 802.1Q-2018, 35.1.4, 35.2.2.9): the Domain values that its link ports declare, and
--- where a port is at the boundary of the domain of a class.
+-- where a port is at the boundary of the domain of a class. The standard's boundary is one of priorities; that a Domain
+-- with another VID is no agreement either is this project's own rule.
 use Rattle.std.specs.Prelude.{ℕ, Bool, true, false, not, ◌&&◌, ◌==◌, List, [], ◌∷◌, filter, find, fold, Option, Some, None, option_map, option_and_then}
 use Rattle.std.specs.Option.{option_eq}
 use Rattle.srp_base.specs.declared.bandwidth.Class.{Class}

@@ -16,7 +16,8 @@ use srp_base::{Class, NoMemory, TalkerReg};
 /// 35.2.2.9): class A is SRclassID 6 with priority 3, class B is SRclassID 5 with priority 2, each with VID 2.
 ///
 /// A port is at the boundary of a class's SRP domain where its node doesn't declare the class's Domain value, or that
-/// very value isn't registered at the port (35.1.4).
+/// very value isn't registered at the port. The standard's boundary is one of priorities (35.1.4); that a Domain with
+/// another VID is no agreement either is this project's own rule.
 #[derive(Clone, Copy, PartialEq, Eq)]
 pub enum DomainSet {
     /// Domains are off: none is declared, those of neighbours are nothing to the node, and no port is a boundary.

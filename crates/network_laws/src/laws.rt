@@ -61,8 +61,9 @@ pub fn vlans_match_whenever_at_rest()
     every_moment_keeps_it();
 }
 
-/// At every moment of every legal run of a scenario, at rest or not, both ends of each link meet their duty: what the
-/// neighbour's registrar will hold, once it has heard all that is in flight, is what this end declares.
+/// At every moment of every legal run of a scenario, at rest or not, each sound end of each link meets its duty: what the
+/// neighbour's registrar will hold, once it has heard all that is in flight, is what this end declares. Both
+/// ends are sound until a PDU is lost or forged on the link, and each is again from the next LeaveAll that it sends.
 pub fn duties_are_met_in_every_run()
     ensures { (plan : Plan) (ticks : List Tick) (end w : WorldState) → KeepsRules plan
         → AreLegalTicks plan ticks end
@@ -71,8 +72,8 @@ pub fn duties_are_met_in_every_run()
     every_moment_keeps_it();
 }
 
-/// From the start of a scenario on, after every list of events that may happen, whatever is lost or repeated and in whatever
-/// order the ports make their steps: where the network is then at rest, a VID is registered at a port exactly where a
+/// From the start of a scenario on, after every list of events that may happen, whatever is lost, repeated or forged and in
+/// whatever order the ports make their steps: where the network is then at rest, a VID is registered at a port exactly where a
 /// station behind the port has declared it.
 pub fn vlans_match_after_every_list_of_events()
     ensures { (plan : Plan) (events : List WorldEvent) → KeepsRules plan
@@ -144,7 +145,7 @@ pub fn streams_keep_their_laws_after_every_list_of_events()
     every_event_keeps_it();
 }
 
-/// At every moment of every legal run of a scenario, at rest or not, both ends of each link meet their duty in MSRP too.
+/// At every moment of every legal run of a scenario, at rest or not, each sound end of each link meets its duty in MSRP too.
 pub fn stream_duties_are_met_in_every_run()
     ensures { (plan : Plan) (ticks : List Tick) (end w : WorldState) → KeepsRules plan
         → AreLegalTicks plan ticks end

@@ -1,6 +1,6 @@
 -- The credit-based shaper of a class at a port (IEEE Std 802.1Q-2018, 8.6.8.2), in the units of tc-cbs(8): slopes in kbit/s,
--- credits in octets. Each is rounded up, sendSlope and loCredit by their amounts, so that a class isn't given less than it has
--- booked.
+-- credits in octets. idleSlope and both credits are rounded up, loCredit by its amount, so that a class isn't given less than it
+-- has booked; sendSlope is idleSlope less the rate, so its amount is rounded down.
 use Rattle.std.specs.Prelude.{ℕ, ◌-◌, ◌*◌, ◌/◌}
 use Rattle.std.specs.Int.{div_ceil}
 use Rattle.srp_base.specs.declared.bandwidth.Rate.{Rate}

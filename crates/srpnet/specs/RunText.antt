@@ -33,7 +33,7 @@ pub record IsRun (Lead : Plan → List Tick → WorldState → Type 0) (plan : P
 
 -- what holds at a moment of a run
 pub record HoldsAt (plan : Plan) (w : WorldState) : Type 0 where
-  -- both ends of each link meet their duty, in each application
+  -- each sound end of each link meets its duty, in each application
   pub vlan_duties : AreVlanDutiesMet w
   pub stream_duties : AreStreamDutiesMet w
   -- no port has booked past its limit
@@ -46,7 +46,7 @@ pub record HoldsAt (plan : Plan) (w : WorldState) : Type 0 where
 
 -- what holds of a run with these ticks and this flow of frames
 pub record HoldsThroughout (plan : Plan) (ticks : List Tick) (flows : List PortFlow) : Type 0 where
-  -- at every moment, losses and repeats included
+  -- at every moment, losses, repeats and forged PDUs included
   pub moments : (w : WorldState) → IsMoment plan ticks w → HoldsAt plan w
   -- at every port, over every window of its bit times, class A has the line for no more than its bound, with the credits of
   -- the port's cap

@@ -61,7 +61,8 @@
 //! its contract. An order between calls of passes that told each other nothing, beyond that there is one. Any
 //! time, fairness past the order of the tickets, or which thread runs. A waiting thread spins a little, then
 //! gives way to other threads, then sleeps on word 1 until the next ticket is served; so with more threads than
-//! processors each turn may cost the wake of one thread, since the turn goes to the next ticket and to no other.
+//! processors each turn may cost the wake of all that sleep: the turn goes to the next ticket and to no other, and
+//! those whose turn it isn't sleep again.
 //!
 //! # To extend it
 //!

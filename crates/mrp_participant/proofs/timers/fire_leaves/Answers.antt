@@ -1,4 +1,4 @@
-use Rattle.std.proofs.Common.{◌≡◌, ◌∙◌, ◌++◌, false, refl, sym, ap, subst, map, filter}
+use Rattle.std.proofs.Common.{◌≡◌, ◌∙◌, ◌++◌, true, false, refl, sym, ap, subst, map, filter}
 use Rattle.std.specs.List.{list_any}
 use Rattle.mrp_participant.specs.Lookup.{key_of}
 use Rattle.mrp_participant.specs.Outlook.{IsOutlook}
@@ -22,6 +22,12 @@ returns-then-not-has_due-clause-rows g c =
     (due-says c.args.now.0 c.args.outlook.now.first_leave c.args.rows.now.items c.requires.outlook.0.first c.requires.outlook.1)
     ∙ (sym c.has_due.ensures ∙ c.if-not-has_due.true) in
     sym (none-leave c.args.now.0 c.args.rows.now.items _ _ refl (sym none) refl).1
+
+pub returns-in_err-reserve-clause-none : goal.returns-in_err-reserve-clause-none
+returns-in_err-reserve-clause-none g c none =
+    let says = due-says c.args.now.0 c.args.outlook.now.first_leave c.args.rows.now.items c.requires.outlook.0.first c.requires.outlook.1 in
+    let no : true ≡ false = sym c.if-not-has_due.false ∙ (c.has_due.ensures ∙ (says ∙ none)) in
+    cc
 
 pub returns-clause-keys : goal.returns-clause-keys
 returns-clause-keys g c =

@@ -13,6 +13,5 @@ returns-then-not-any_due-clause-after g c =
     ∙ (ap (λ xs. slice_get (parts_in xs) (place_of c.args.port)) (sym c.as_slice.ensures.value)
     ∙ (ap (λ n. slice_get (parts_in c.as_slice.result.now) (n - 1)) (sym c.from-at.ensures) ∙ c.part_at.ensures)) in
     let none : is_any_due c.args.now c.part_at.result.now.state ≡ false = sym c.any_due.ensures ∙ c.if-not-any_due.true in
-    ap (λ (v : SideHolding g.row.A-Key.Denot). v.state) c.self.view_is
-    ∙ sym (none_due g.A.Key.Ord.cmp c.each_port_is_told.ensures c.args.self.now.state (place_of c.args.port) c.part_at.result.now.state here c.args.now
+    sym (none_due g.A.Key.Ord.cmp c.each_port_is_told.ensures c.args.self.now.state (place_of c.args.port) c.part_at.result.now.state here c.args.now
     (c.nothing_due_changes_nothing.ensures.state c.part_at.result.now.state c.args.now none) (c.nothing_due_changes_nothing.ensures.left c.part_at.result.now.state c.args.now none))

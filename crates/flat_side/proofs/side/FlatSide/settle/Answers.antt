@@ -15,5 +15,6 @@ returns-then-is_empty-clause-after g c =
     ∙ (ap (λ n. keys_at (n - 1) (keys_in c.as_slice.result.now)) (sym c.from-at.ensures)
     ∙ (ap (λ o. keys_or_none o) c.set_at.ensures
     ∙ nil_from_length c.set_at.result.now.keys (eqb-true (length c.set_at.result.now.keys) 0 (sym c.is_empty.ensures ∙ c.if-is_empty.true)))) in
-    sym (none_settled g.A.Key.Ord.cmp side (place_of c.args.port) none)
+    sym (ap (λ (v : SideHolding g.row.A-Key.Denot). v.state) c.self.view_is)
+    ∙ sym (none_settled g.A.Key.Ord.cmp side (place_of c.args.port) none)
     ∙ ap (λ (v : SideHolding g.row.A-Key.Denot). settled_flat g.A.Key.Ord.cmp (place_of c.args.port) v.state) c.self.view_is

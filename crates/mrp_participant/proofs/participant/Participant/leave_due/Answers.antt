@@ -1,14 +1,15 @@
-use Rattle.std.proofs.Common.{◌≡◌, List, subst, sym, ap, ◌∙◌, if◌then◌else◌}
+use Rattle.std.proofs.Common.{rules, ◌≡◌, ◌-◌, false, List, length, refl, subst, sym, ap, ◌∙◌, if◌then◌else◌, arith}
+use Rattle.std.specs.Prelude.{vec_capacity, vec_len}
 use Rattle.std.specs.declared.cmp.Ordering.{Ordering}
 use Rattle.std.specs.Cmp.{IsTotalOrder}
 use Rattle.mrp_participant.specs.declared.row.Row.{Row}
 use Rattle.mrp_participant.specs.Lookup.{ChangesOnly, find, put, same}
 use Rattle.mrp_participant.specs.Row.{after_leave}
-use Rattle.mrp_participant.specs.State.{State, AreRows}
+use Rattle.mrp_participant.specs.State.{State, AreRows, with_rows}
 use Rattle.mrp_participant.proofs.EachKey.{each-leave}
 use Rattle.mrp_participant.proofs.Transitions.{AreRows-leave}
-use Rattle.mrp_participant.proofs.Unchanged.{leave-unleaving, unchanged}
-use Rattle.mrp_participant.proofs.Holdings.{state_is}
+use Rattle.mrp_participant.proofs.Unchanged.{leave-unleaving}
+use Rattle.mrp_participant.proofs.Holdings.{same-held, same-room, state_is, stayed}
 use Rattle.mrp_participant.proofs.participant.Participant.leave_due.Goals as goal
 
 pub invariant_of-self : goal.invariant_of-self
@@ -18,7 +19,11 @@ invariant_of-self g c = (
   c.self.invariant.2,
   c.leave_in-was.ensures.outlook,
   c.self.invariant.4,
-  λ on. cc,
+  λ on.
+      let both = stayed c.leave_in-was.result c.self.inside.ready _ c.stays_ready-self-inside.ensures on in
+      let same_rows = c.leave_in-was.ensures.rows
+      ∙ leave-unleaving g.met.A.Key.Ord.total c.args.key c.self.inside.rows.items c.self.invariant.0 (sym c.leave_in-was.ensures.was ∙ both.0) in
+      same-room _ _ _ _ same_rows refl (c.self.invariant.5 both.1),
 )
 
 left-each : {K C : Type 0} {cmp : K → K → Ordering} → IsTotalOrder cmp
@@ -35,5 +40,21 @@ returns-clause-each_key g c = left-each g.met.A.Key.Ord.total c.args.key _ _ _ (
 
 pub returns-clause-stays : goal.returns-clause-stays
 returns-clause-stays g c h =
-    unchanged _ _ _ (state_is c.self.view_is)
-    (c.leave_in-was.ensures.rows ∙ leave-unleaving g.met.A.Key.Ord.total c.args.key c.self.inside.rows.items c.self.invariant.0 (sym c.leave_in-was.ensures.was ∙ h))
+    let same_rows : c.leave_in-was.new.rows.items ≡ c.self.inside.rows.items =
+    c.leave_in-was.ensures.rows ∙ leave-unleaving g.met.A.Key.Ord.total c.args.key c.self.inside.rows.items c.self.invariant.0 (sym c.leave_in-was.ensures.was ∙ h) in
+    let len : vec_len c.leave_in-was.new.rows ≡ length c.leave_in-was.new.rows.items = search rules in
+    let old_len : vec_len c.self.inside.rows ≡ length c.self.inside.rows.items = search rules in
+    let spare : vec_capacity c.leave_in-was.new.rows - vec_len c.leave_in-was.new.rows ≡ vec_capacity c.self.inside.rows - vec_len c.self.inside.rows =
+    omega (arith, c.leave_in-was.ensures.capacity, len, old_len, ap (λ (xs : List (Row _ _)). length xs) same_rows) in
+    let s : State g.row.A-Key.Denot g.row.A-Content.Denot = record {
+      rows = c.self.inside.rows.items;
+      leave_all = c.self.inside.leave_all;
+      next_leave_all = c.self.inside.next_leave_all;
+      period = c.self.inside.period;
+      leave_time = c.self.inside.leave_time;
+      periodic = c.self.inside.periodic;
+      sound = c.self.inside.sound;
+    } in
+    same-held (with_rows c.leave_in-was.new.rows.items s) s _ _ _ _ (ap (λ xs. with_rows xs s) same_rows) spare
+    (c.stays_ready-self-inside.ensures ∙ ap (λ b. if b then false else c.self.inside.ready) h)
+    ∙ c.self.view_is

@@ -4,7 +4,7 @@ use Rattle.mrp_participant.proofs.Exits.{of_error, on_error}
 use Rattle.mrp_participant.proofs.Transitions.{AreRows-filter_mapped, due-keeps}
 use Rattle.mrp_participant.proofs.Unchanged.{unchanged}
 use Rattle.mrp_participant.proofs.Holdings.{state_is, same-room}
-use Rattle.mrp_participant.proofs.participant.Participant.due.Goals as goal
+use Rattle.mrp_participant.proofs.participant.Participant.fire.Goals as goal
 
 pub invariant_of-self-2 : goal.invariant_of-self-2
 invariant_of-self-2 g c = (
