@@ -79,9 +79,7 @@ fn first(alloc: Global, node: &Node, port: PortNo) -> Result<Notice, NoMemory>
     ensures stays { IfOk result (λ notice. (reply : reply_type) → with_reply notice reply
         ≡ notice) }
 {
-    node.keeps();
-    let wires = node.waiting(port)?;
-    match wires.as_slice().first() {
+    match node.front_pdu(port) {
         Some(wire) => took(alloc, wire),
         None => Ok(Notice::Quiet),
     }

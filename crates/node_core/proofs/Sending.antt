@@ -12,7 +12,7 @@ use Rattle.node_core.specs.declared.types.StepReply.TheVariants.{Silent, Sent}
 use Rattle.node_core.specs.State.{NodeState, box_at}
 use Rattle.srp_base.specs.declared.memory.NoMemory.{NoMemory}
 use Rattle.node_core.specs.Calls.{outcome_of_saying, HasOneSaid}
-use Rattle.node_core.specs.Step.{after_send, sent_octets, said_mvrp, said_msrp, with_wire, with_said, after_app}
+use Rattle.node_core.specs.Step.{after_send, sent_octets, said_mvrp, said_msrp, with_octets, with_said, after_app}
 use Rattle.node_core.proofs.Boxes.{set_same}
 
 -- the node that has these VLANs and streams and, at a place, this outbox
@@ -23,7 +23,7 @@ with_both s at v t box = record s { vlans = v; streams = t; outboxes = slice_set
 put_by : {S : Type 0} (s : NodeState) (app : App) (at : ℕ) (o : Option (List ℕ)) (before after side : S) (box : List Wire) (reply : StepReply)
     (into : S → List Wire → NodeState)
     → into before (box_at at s.outboxes) ≡ s
-    → ((octets : List ℕ) → into after (with_wire app octets (box_at at s.outboxes)) ≡ with_said app at octets (after_app app at s))
+    → ((octets : List ℕ) → into after (with_octets app octets (box_at at s.outboxes)) ≡ with_said app at octets (after_app app at s))
     → outcome_of_saying app o before after (box_at at s.outboxes) ≡ (side, box, reply)
     → sent_octets app at o s ≡ (into side box, reply)
 put_by {S} s app at None before after side box reply into same said e =

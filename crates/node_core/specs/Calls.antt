@@ -12,7 +12,7 @@ use Rattle.msrp.specs.Side.{Streams, sent_streams}
 use Rattle.node_core.specs.declared.types.Wire.{Wire}
 use Rattle.node_core.specs.declared.types.StepReply.{StepReply}
 use Rattle.node_core.specs.declared.types.StepReply.TheVariants.{Silent, Sent}
-use Rattle.node_core.specs.Step.{worked_mvrp, worked_msrp, said_mvrp, said_msrp, with_wire}
+use Rattle.node_core.specs.Step.{worked_mvrp, worked_msrp, said_mvrp, said_msrp, with_octets}
 
 -- one of both applications has taken a PDU, and the other one is as it was
 abbrev pub HasOneTaken : App → Cs → ℕ → List ℕ → Vlans → Streams → StepReply → Vlans → Streams → Type 0
@@ -25,7 +25,7 @@ HasOneTaken Msrp now at octets v t reply v' t' =
 abbrev pub outcome_of_saying : {S : Type 0} → App → Option (List ℕ) → S → S → List Wire → S × List Wire × StepReply
 outcome_of_saying app None before after outbox = (before, outbox, Silent)
 outcome_of_saying app (Some octets) before after outbox =
-    (after, with_wire app octets outbox, Sent (count_of (length octets)))
+    (after, with_octets app octets outbox, Sent (count_of (length octets)))
 
 -- what an application has to say is said into its outbox; after want of memory both are as they were
 abbrev pub IsSaying : {S : Type 0} → App → Option (List ℕ) → S → S → List Wire → Result StepReply NoMemory → S → List Wire → Type 0

@@ -171,14 +171,14 @@ abbrev pub after_app : App → ℕ → NodeState → NodeState
 after_app Mvrp at s = record s { vlans = sent_vlans s.clock at s.vlans }
 after_app Msrp at s = record s { streams = sent_streams s.clock at s.streams }
 
--- an outbox with one PDU more
-abbrev pub with_wire : App → List ℕ → List Wire → List Wire
-with_wire app octets outbox = outbox ++ (record { app = app; octets = octets } ∷ [])
+-- an outbox with one PDU more: these octets of an application, at its end
+abbrev pub with_octets : App → List ℕ → List Wire → List Wire
+with_octets app octets outbox = outbox ++ (record { app = app; octets = octets } ∷ [])
 
 -- the node with a PDU more in an outbox
 abbrev pub with_said : App → ℕ → List ℕ → NodeState → NodeState
 with_said app at octets s =
-    record s { outboxes = slice_set s.outboxes at (with_wire app octets (box_at at s.outboxes)) }
+    record s { outboxes = slice_set s.outboxes at (with_octets app octets (box_at at s.outboxes)) }
 
 -- an application says these octets, which go to the end of the outbox, or it has none to say and is silent
 abbrev pub sent_octets : App → ℕ → Option (List ℕ) → NodeState → Stepped

@@ -12,7 +12,7 @@ ghost use Rattle.mvrp.specs.Side.{requested_vlans, due_vlans, leave_all_vlans, p
 ghost use Rattle.msrp.specs.Side.{clocked_streams, requested_streams, due_streams, leave_all_streams, periodic_streams, settled_streams, shows_at, spoilt_streams, sent_streams};
 ghost use Rattle.node_core.specs.Holding.{is_ready_at};
 ghost use Rattle.node_core.specs.Calls.{HasOneTaken, HasOneSaid, IsSaying};
-ghost use Rattle.node_core.specs.Step.{all_due, all_awaiting, left_key_now, left_vid_now, said_mvrp, said_msrp, with_wire, worked_mvrp, worked_msrp};
+ghost use Rattle.node_core.specs.Step.{all_due, all_awaiting, left_key_now, left_vid_now, said_mvrp, said_msrp, with_octets, worked_mvrp, worked_msrp};
 ghost use Rattle.node_core.specs.Wires.{IsShort};
 
 use crate::types::{StepReply, Wire};
@@ -369,7 +369,7 @@ pub(crate) fn go_on(side: &mut MsrpSide, now: Cs) -> Result<(), NoMemory>
 // Octets of an application go to the end of an outbox that has room for them.
 pub(crate) fn put_last(app: App, outbox: &mut Vec<Wire>, octets: Seq<u8>) -> StepReply
     requires room { vec_len outbox.old < vec_capacity outbox.old }
-    ensures put { outbox.new.items ≡ with_wire app octets outbox.old.items }
+    ensures put { outbox.new.items ≡ with_octets app octets outbox.old.items }
     ensures reply { result ≡ StepReply.Sent (count_of (length octets)) }
 {
     let count = u32::try_from(octets.len()).unwrap_or(u32::MAX);

@@ -1,12 +1,13 @@
 //! What waits at a link port, and whether it has LeaveAll, or what is next sent there.
 
-ghost use Rattle.std.specs.Prelude.{◌≡◌, ◌<◌, ◌^◌, length, IfOk};
+ghost use Rattle.std.specs.Prelude.{◌≡◌, ◌<◌, ◌^◌, length, slice_get, option_map, IfOk, IfSome};
 ghost use Rattle.attribute_propagation.specs.Ports.{IsLinkPort, place_of};
 ghost use Rattle.mvrp_codec.specs.Meaning.{mvrp_reading};
 ghost use Rattle.msrp_codec.specs.Meaning.{msrp_reading};
 ghost use Rattle.mrp_participant.specs.State.{is_active};
 ghost use Rattle.node_core.specs.Leaving.{vlans_leave, streams_leave, has_leave_all, is_leave_all_at};
 ghost use Rattle.node_core.specs.State.{ports_of, box_at};
+ghost use Rattle.node_core.specs.Wires.{IsShort};
 
 use crate::node::Node;
 use crate::types::Wire;
@@ -23,6 +24,18 @@ impl Node {
     {
         let alloc = *self.inboxes.allocator();
         self.inboxes[usize::from(port.0) - 1].copied(alloc)
+    }
+
+    /// The PDU that waits first in a port's inbox, which the port's next `Work` takes; `None` where none waits. A PDU that
+    /// waits has at most 1,500 octets. It takes no memory.
+    pub fn front_pdu(&self, port: PortNo) -> Option<&Wire>
+        requires { IsLinkPort port (ports_of self.now.state) }
+        ensures front { option_map (λ w. w.now) result
+            ≡ slice_get (box_at (place_of port) self.now.state.inboxes) 0 }
+        ensures short { IfSome result (λ w. IsShort w.now) }
+    {
+        self.keeps();
+        self.inboxes[usize::from(port.0) - 1].get(0)
     }
 
     /// The number of PDUs that are to go out at a port.

@@ -32,7 +32,7 @@ use Rattle.node_core.specs.Step.{node_step, port_step, after_work, worked_app, w
 use Rattle.node_core.specs.Leaving.{vlans_leave, streams_leave, octets_leave, has_leave_all, is_leave_all_at}
 use Rattle.node_core.specs.Links.{spoilt_at}
 use Rattle.node_core.specs.Proper.{IsProperNode}
-use Rattle.world_core.specs.Duty.{said_by, vlans_said, message_of, vlan_place}
+use Rattle.world_core.specs.Duty.{said_of_vlans, vlans_said, message_of, vlan_place}
 use Rattle.world_core.specs.Marks.{BothMarks, is_same_app}
 use Rattle.world_core.proofs.Lists.{one_some, at_each, within, set_at, set_at_there, set_at_other}
 use Rattle.world_core.proofs.Boxes.{box_got, box_set}
@@ -169,7 +169,7 @@ silent_app Msrp os ne = refl
 leaves_as : (app : App) (os : List ℕ) → is_same_app Mvrp app ≡ true → octets_leave app os ≡ says_leave_all (vlans_said app os)
 leaves_as Mvrp os own = by (mvrp_reading os)
   where
-    by : (r : Result MvrpPdu ℕ) → vlans_leave r ≡ says_leave_all (said_by r)
+    by : (r : Result MvrpPdu ℕ) → vlans_leave r ≡ says_leave_all (said_of_vlans r)
     by (Ok pdu) = refl
     by (Err place) = refl
 leaves_as Msrp os own = cc
@@ -209,7 +209,7 @@ module _ (laws : VlanLaws) where
       left : box_at at (slice_set s.inboxes at wires) ≡ wires
       left = box_set s.inboxes at wire wires wires is
 
-      heard : (r : Result MvrpPdu ℕ) → slice_get (worked_mvrp s.clock at r s.vlans).0.parts at ≡ option_map (hearing vlan_view links s.clock (said_by r)) (slice_get s.vlans.parts at)
+      heard : (r : Result MvrpPdu ℕ) → slice_get (worked_mvrp s.clock at r s.vlans).0.parts at ≡ option_map (hearing vlan_view links s.clock (said_of_vlans r)) (slice_get s.vlans.parts at)
       heard (Ok pdu) = made_there at (received_part s.clock pdu) s.vlans (received_vlans s.clock at pdu s.vlans) (received_is s.clock at pdu s.vlans)
       heard (Err place) = same (slice_get s.vlans.parts at)
         where
@@ -241,7 +241,7 @@ module _ (laws : VlanLaws) where
   said_is : (now : Cs) (x : Part) → AreRows nat_cmp x.rows → HasVidRows x → is_silent x ≡ false
       → message_of (record { app = Mvrp; octets = mvrp_spelling (pdu_sent now x) }) ≡ Some (sent_messages base octets nat_cmp now x)
   said_is now x rows own speaks =
-      ap said_by (laws.written now x rows own speaks).reads
+      ap said_of_vlans (laws.written now x rows own speaks).reads
       ∙ ap (λ (es : List (MrpEvent × ℕ × Unit {0})). let m : Messages ℕ (Unit {0}) = record { leave_all = is_active x.leave_all; events = es } in
       Some m) (again (sent_events base octets nat_cmp now x))
 

@@ -74,13 +74,13 @@ AreDutiesMetIn {K = K} {C = C} cmp part said app w =
 -- ---- of MVRP
 
 -- what the octets of a PDU of MVRP say to a participant; malformed octets say nothing
-abbrev pub said_by : Result MvrpPdu ℕ → Option (Messages ℕ (Unit {0}))
-said_by (Ok pdu) = Some (record { leave_all = pdu.leave_all; events = messages pdu })
-said_by (Err place) = None
+abbrev pub said_of_vlans : Result MvrpPdu ℕ → Option (Messages ℕ (Unit {0}))
+said_of_vlans (Ok pdu) = Some (record { leave_all = pdu.leave_all; events = messages pdu })
+said_of_vlans (Err place) = None
 
 -- what octets of an application say in MVRP; those of MSRP say nothing there
 abbrev pub vlans_said : App → List ℕ → Option (Messages ℕ (Unit {0}))
-vlans_said Mvrp octets = said_by (mvrp_reading octets)
+vlans_said Mvrp octets = said_of_vlans (mvrp_reading octets)
 vlans_said Msrp octets = None
 
 -- what a PDU says in MVRP, if anything

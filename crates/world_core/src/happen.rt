@@ -122,8 +122,9 @@ fn spoil_ends(tree: &Tree, nodes: &mut Vec<Node>, at: EgressPort, app: App)
         → with_unsound_ends app at (world_with tree.now (states_in nodes.old.items) m)
         ≡ world_with tree.now (states_in nodes.new.items) m }
 {
+    let peer = tree.peer(at);
     spoil(nodes, at, app);
-    spoil(nodes, tree.peer(at), app);
+    spoil(nodes, peer, app);
 }
 
 // The PDU of an index, which is there, is lost from a port's inbox.

@@ -138,9 +138,7 @@ fn front_leaves(nodes: &Vec<Node>, at: EgressPort) -> Result<bool, NoMemory>
         (inbox at (world_with tree (states_in nodes.now.items) m)) 0) false) }
 {
     let node = &nodes[place(at.node)];
-    node.keeps();
-    let wires = node.waiting(at.port)?;
-    match wires.as_slice().first() {
+    match node.front_pdu(at.port) {
         Some(wire) => short_leaves(*nodes.allocator(), wire),
         None => Ok(false),
     }
