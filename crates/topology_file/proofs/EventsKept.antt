@@ -22,7 +22,7 @@ use Rattle.topology_file.specs.declared.entries.EventKind.{EventKind}
 use Rattle.topology_file.specs.declared.entries.EventKind.TheVariants as kinds
 use Rattle.topology_file.specs.Entries.{name_at, node_named, station_named, joins_both}
 use Rattle.topology_file.specs.Events.{tick_at, event_form, form_ticks, event_ticks, event_entry}
-use Rattle.topology_file.specs.Kinds.{vlan_keys, vid_at, vlan_at, talker_keys, talker_at, listener_at, both_named, listener_named, pdu_keys, index_at, joined_named, known_pdu, pdu_at, forgery_keys, app_at, decoded, octets_of_text, octets_at, forgery_form, kind_form, vlan_form, talker_form, pdu_form, ArePduOctets, IsAtVlan, IsAtPdu, IsStationNumber, IsStreamNumber, IsNotTalker, AreJoinedNumbers, IsKnownKind}
+use Rattle.topology_file.specs.Kinds.{vlan_keys, vid_at, vlan_at, talker_keys, talker_at, listener_at, both_named, listener_named, pdu_keys, index_at, joined_named, known_pdu, pdu_at, forgery_keys, app_at, decoded, octets_of_text, pdu_octets_at, forgery_form, kind_form, vlan_form, talker_form, pdu_form, ArePduOctets, IsAtVlan, IsAtPdu, IsStationNumber, IsStreamNumber, IsNotTalker, AreJoinedNumbers, IsKnownKind}
 use Rattle.topology_file.specs.Scenario.{events_of}
 use Rattle.topology_file.specs.Streams.{stream_named, is_talker_of}
 use Rattle.topology_file.proofs.Chains.{and_then-if, map-if, made-if, when-if, unless-if, either-if, some-says, within-range, chain-if, chain-none, ok-all, ok-says, each-all, each-map, each-keeps, alike-length}
@@ -97,9 +97,9 @@ forgery-known nodes links streams ms =
     when-if P (has_only forgery_keys ms) _ (λ _.
     and_then-if P _ (known_pdu nodes links ms) (λ p ep.
     and_then-if P _ (app_at ms) (λ app ea.
-    and_then-if P _ (octets_at ms) (λ octets eo.
+    and_then-if P _ (pdu_octets_at ms) (λ octets eo.
     (let at = some-says Q (known_pdu nodes links ms) p ep (known-pdu-known nodes links ms) in
-    let are = some-says ArePduOctets (octets_at ms) octets eo (at-key (text (codes "octets") ms)) in
+    let are = some-says ArePduOctets (pdu_octets_at ms) octets eo (at-key (text (codes "octets") ms)) in
     map-if K _ p.0 (λ x ex. ((some-says (λ y. AreJoinedNumbers nodes links y.0.0 y.1.0) p.0 x ex at.0, at.1), are)))))))
   where
     at-key : (o : Option (List ℕ)) → IfSome (option_and_then octets_of_text o) ArePduOctets

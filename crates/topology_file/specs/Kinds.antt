@@ -158,15 +158,15 @@ abbrev pub octets_of_text : List ℕ → Option (List ℕ)
 octets_of_text digits = if nat_le (length digits) 3000 then decoded (decode_of digits) else None
 
 -- the octets at their key; they may be none
-abbrev pub octets_at : Members → Option (List ℕ)
-octets_at ms = option_and_then octets_of_text (text (codes "octets") ms)
+abbrev pub pdu_octets_at : Members → Option (List ℕ)
+pdu_octets_at ms = option_and_then octets_of_text (text (codes "octets") ms)
 
 -- a PDU of an application at an index, missing where no link joins nodes of these names
 abbrev pub known_forgery : List NodeEntry → List LinkEntry → Members → Option (Option EventKind)
 known_forgery nodes links ms = do
   p ← known_pdu nodes links ms
   app ← app_at ms
-  octets ← octets_at ms
+  octets ← pdu_octets_at ms
   Some (option_map (λ x. kinds.Forge x.0 x.1 p.1 app octets) p.0)
 
 -- the same, of an event with exactly these keys

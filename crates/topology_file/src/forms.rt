@@ -5,7 +5,7 @@ ghost use Rattle.std.specs.Option.{option_copied};
 ghost use Rattle.toml.specs.View.{table_view};
 ghost use Rattle.topology_file.specs.Entries.{is_name_char as is_name_char_spec, is_name as is_name_spec, name_at, kind_of_text, kind_at, id_at, domain_of_text, domain_at, rate_at, latency_at};
 ghost use Rattle.topology_file.specs.Events.{tick_at};
-ghost use Rattle.topology_file.specs.Kinds.{vid_at, index_at, app_of_text, app_at, octets_of_text, octets_at};
+ghost use Rattle.topology_file.specs.Kinds.{vid_at, index_at, app_of_text, app_at, octets_of_text, pdu_octets_at};
 ghost use Rattle.std.specs.List.{list_all};
 
 use crate::entries::DomainWord;
@@ -162,7 +162,7 @@ fn octets_of(alloc: Global, digits: &str) -> Result<Option<Seq<u8>>, NoMemory>
 }
 
 pub(crate) fn read_octets(alloc: Global, table: &Table) -> Result<Option<Seq<u8>>, NoMemory>
-    ensures { IfOk result (λ octets. octets ≡ octets_at (table_view table.now)) }
+    ensures { IfOk result (λ octets. octets ≡ pdu_octets_at (table_view table.now)) }
 {
     match text(table, "octets") {
         Some(digits) => octets_of(alloc, digits),
