@@ -1,11 +1,14 @@
-//! A gate that holds one port until another has answered.
+//! Gates that hold one port: until another has answered, or inside its turn while another asks for its own.
 
 use bridge_book::Gate;
 use srp_base::{NodeNo, PortNo};
-use std::sync::atomic::{AtomicU64, Ordering};
+use std::sync::atomic::{AtomicBool, AtomicU64, Ordering};
 
 // How many times a port that is held looks whether the other has answered.
 const TURNS: u64 = 100_000_000;
+
+// How many times a port that is held in its turn looks whether another is in its own.
+const LOOKS: u64 = 50_000_000;
 
 /// Where a port is held: before its first step of a tick, or inside its turn.
 #[derive(Clone, Copy, PartialEq, Eq)]
@@ -103,4 +106,82 @@ impl Gate for Holding {
             self.answers.fetch_add(1, Ordering::SeqCst);
         }
     }
+}
+
+/// Holds a port once inside its turn: until another port of its node asks for its own, and then for many looks more, or until
+/// some port of the node is inside its turn too. The other doesn't ask before the port is held.
+#[derive(Drop)]
+pub(crate) struct Alone {
+    held: (u16, u8),
+    other: (u16, u8),
+    // Whether the port has come inside its turn.
+    came: AtomicBool,
+    // Whether it is held there.
+    inside: AtomicBool,
+    // Whether the other asks for its turn.
+    asks: AtomicBool,
+    // Whether the other did so while the port was held.
+    asked: AtomicBool,
+    // Whether another port of its node was inside its turn then.
+    met: AtomicBool,
+}
+
+impl Alone {
+    /// Holds port `held` of a node in its turn while port `other` of a node asks for its own.
+    pub(crate) fn new(held: (u16, u8), other: (u16, u8)) -> Alone {
+        Alone {
+            held,
+            other,
+            came: AtomicBool::new(false),
+            inside: AtomicBool::new(false),
+            asks: AtomicBool::new(false),
+            asked: AtomicBool::new(false),
+            met: AtomicBool::new(false),
+        }
+    }
+
+    /// Whether the other asked for its turn while the port was held in its own, and no other port of the node came inside its
+    /// turn before the port went on.
+    pub(crate) fn was_alone(&self) -> bool {
+        self.asked.load(Ordering::SeqCst) && !self.met.load(Ordering::SeqCst)
+    }
+
+    // Holds the port in its turn.
+    fn hold(&self) {
+        self.inside.store(true, Ordering::SeqCst);
+        if is_set_within(&self.asks, TURNS) {
+            self.asked.store(true, Ordering::SeqCst);
+            let _ = is_set_within(&self.met, LOOKS);
+        }
+        self.inside.store(false, Ordering::SeqCst);
+    }
+}
+
+// Whether a flag is set, at one of so many looks.
+fn is_set_within(flag: &AtomicBool, looks: u64) -> bool {
+    for _ in 0..looks {
+        if flag.load(Ordering::SeqCst) {
+            return true;
+        }
+    }
+    false
+}
+
+impl Gate for Alone {
+    fn arrive(&self, node: NodeNo, port: PortNo) {
+        if self.other == (node.0, port.0) {
+            let _ = is_set_within(&self.inside, TURNS);
+            self.asks.store(true, Ordering::SeqCst);
+        }
+    }
+
+    fn within(&self, node: NodeNo, port: PortNo) {
+        if self.held == (node.0, port.0) && !self.came.swap(true, Ordering::SeqCst) {
+            self.hold();
+        } else if self.held.0 == node.0 && self.inside.load(Ordering::SeqCst) {
+            self.met.store(true, Ordering::SeqCst);
+        }
+    }
+
+    fn answered(&self, _node: NodeNo, _port: PortNo) {}
 }

@@ -4,7 +4,7 @@
 ghost use Rattle.std.specs.Prelude.{IsTrue};
 ghost use Rattle.tree_topology.specs.Topology.{HasNode};
 
-use crate::gate::{Holding, Place};
+use crate::gate::{Alone, Holding, Place};
 use crate::scene::{by_ports, plainly};
 use bridge_book::{Gate, NoGate};
 use node_core::{NodeStep, no_key};
@@ -165,6 +165,22 @@ fn so_is_the_other_port(rt: HostRuntime) {
     let gate = Holding::new(Place::Arriving, (2, 2), (2, 1));
     assert!(rt; goes_on(&rt, rt.alloc(), &gate, 2, 1));
     assert!(rt; gate.was_let_go());
+}
+
+// Whether a port is alone in its turn, in a run of one tick in which it is held there while another of its bridge asks.
+fn is_alone<R: Threads + Wait + Sync>(rt: &R, alloc: Global, held: u8, other: u8) -> bool {
+    let gate = Alone::new((2, held), (2, other));
+    let run = by_ports(rt, alloc, FIRST_TICK, &gate);
+    let is_made = run.is_some();
+    drop(run);
+    is_made && gate.was_alone()
+}
+
+#[test]
+fn a_port_that_is_held_in_its_turn_is_alone_there_while_another_of_its_bridge_asks(
+    rt: HostRuntime,
+) {
+    assert!(rt; is_alone(&rt, rt.alloc(), 1, 2));
 }
 
 // Whether the Listeners hear the stream in the end of a run in which a port is held in each tick, in more than these ticks.
