@@ -29,12 +29,12 @@ fn scenario_of(alloc: Global, text: &str) -> Option<Result<GroupScenario, RuleEr
 }
 
 // The scenario that a text is.
-fn scene_of(alloc: Global, text: &str) -> Option<GroupScenario> {
+pub(crate) fn scene_of(alloc: Global, text: &str) -> Option<GroupScenario> {
     scenario_of(alloc, text)?.ok()
 }
 
 // The run of the scenario that a text is.
-pub(crate) fn run_of(alloc: Global, text: &str) -> Option<GroupRun> {
+fn run_of(alloc: Global, text: &str) -> Option<GroupRun> {
     let scenario = scene_of(alloc, text)?;
     run_groups(alloc, &scenario).ok()
 }

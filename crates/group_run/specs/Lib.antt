@@ -1,4 +1,5 @@
 pub mod Ticks
+pub mod Cursor
 pub mod Allowed
 pub mod Counts
 pub mod Lines

@@ -3,6 +3,7 @@
 ghost use Rattle.std.specs.Prelude.{◌≡◌, ◌<◌, suc, IfOk, OnOk};
 ghost use Rattle.mmrp.specs.Net.{CanHappen};
 ghost use Rattle.group_run.specs.Allowed.{AreAllowed, IsInTick};
+ghost use Rattle.group_run.specs.Cursor.{IsCursor};
 ghost use Rattle.group_run.specs.Ticks.{after_event, after_events, after_tick, carries, run_of, start_of, step_port as step_port_spec};
 
 use crate::laws::{what_happens_in_a_tick_is_allowed, what_is_allowed_may_happen};
@@ -41,6 +42,7 @@ impl Model for Course {
 /// Runs a group scenario to its end: in each tick its events in the order of the file, each node's steps (all Works, then all
 /// Dues, then all Settles, then all Sends, ports ascending in each), the carrying of each port's PDUs, and the clock. It has no
 /// condition, and fails for want of memory alone.
+#[tactic(auto, using(crate::proofs::Scripts::before_all))]
 pub fn run_groups(alloc: Global, scenario: &GroupScenario) -> Result<GroupRun, NoMemory>
     ensures { IfOk result (λ run. run ≡ run_of scenario.now) }
 {
@@ -48,8 +50,9 @@ pub fn run_groups(alloc: Global, scenario: &GroupScenario) -> Result<GroupRun, N
     what_happens_in_a_tick_is_allowed();
     let closing = carries_of(alloc, &scenario.tree)?;
     let mut course = Course::of(alloc, scenario)?;
+    let mut cursor = 0;
     for _ in 0..scenario.ticks {
-        course.tick(alloc, scenario, closing.as_slice())?;
+        course.tick(alloc, scenario, &mut cursor, closing.as_slice())?;
     }
     Ok(GroupRun {
         net: course.net,
@@ -69,23 +72,27 @@ impl Course {
         })
     }
 
-    // Goes on by one tick.
+    // Goes on by one tick, whose first event stands at the cursor, if it has one.
     fn tick(
         &mut self,
         alloc: Global,
         scenario: &GroupScenario,
+        cursor: &mut usize,
         closing: &[GroupEvent],
     ) -> Result<(), NoMemory>
         requires at { IsInTick scenario.now.tree self.old.net.clock.0 self.old.net }
         requires within { self.old.net.clock.0 < scenario.now.ticks }
+        requires cursor { IsCursor scenario.now.events self.old.net.clock.0 cursor.old }
         requires closing { closing.now ≡ carries scenario.now.tree }
         ensures after { OnOk result (self.new ≡ after_tick scenario.now self.old) }
         ensures next { OnOk result
             (IsInTick scenario.now.tree (suc self.old.net.clock.0) self.new.net) }
+        ensures cursor { OnOk result
+            (IsCursor scenario.now.events (suc self.old.net.clock.0) cursor.new) }
     {
         what_happens_in_a_tick_is_allowed();
         scenario.keeps_rules();
-        let script = script_of(alloc, scenario, self.net.now())?;
+        let script = script_of(alloc, scenario, self.net.now(), cursor)?;
         self.go_on(script.as_slice())?;
         let steps = steps_of(alloc, &self.net)?;
         self.go_on(steps.as_slice())?;

@@ -1,9 +1,10 @@
 //! The events of a file in one tick.
 
-ghost use Rattle.std.specs.Prelude.{◌≡◌, IfOk};
+ghost use Rattle.std.specs.Prelude.{◌≡◌, suc, IfOk, OnOk};
 ghost use Rattle.tree_topology.specs.Graph.{Joined};
 ghost use Rattle.tree_topology.specs.Ports.{port_to};
 ghost use Rattle.group_run.specs.Allowed.{NamesNeighbours};
+ghost use Rattle.group_run.specs.Cursor.{IsCursor};
 ghost use Rattle.group_run.specs.Ticks.{event_of, script_at};
 
 use crate::laws::what_events_name_are_neighbours;
@@ -13,22 +14,32 @@ use srp_base::{Cs, EgressPort, NoMemory, NodeNo};
 use std::alloc::Global;
 use tree_topology::Tree;
 
-/// The events of a scenario in the tick of this moment, in the order of the file.
+/// The events of a scenario in the tick of this moment, in the order of the file, from the cursor on. The cursor then stands
+/// at the first event of a later tick.
 pub(crate) fn script_of(
     alloc: Global,
     scenario: &GroupScenario,
     now: Cs,
+    cursor: &mut usize,
 ) -> Result<Vec<GroupEvent>, NoMemory>
-    ensures { IfOk result (λ v. v.items ≡ script_at scenario.now now.0) }
+    requires { IsCursor scenario.now.events now.0 cursor.old }
+    ensures events { IfOk result (λ v. v.items ≡ script_at scenario.now now.0) }
+    ensures cursor { OnOk result (IsCursor scenario.now.events (suc now.0) cursor.new) }
 {
     what_events_name_are_neighbours();
     scenario.keeps_rules();
+    let events = scenario.events.as_slice();
+    let first = *cursor;
     let mut script = Vec::new(alloc);
-    for entry in scenario.events.as_slice() {
-        if entry.tick == now.0 {
-            script.push(event_of(&scenario.tree, &entry.kind))?;
+    for i in first..events.len() {
+        let entry = &events[i];
+        if entry.tick != now.0 {
+            *cursor = i;
+            return Ok(script);
         }
+        script.push(event_of(&scenario.tree, &entry.kind))?;
     }
+    *cursor = events.len();
     Ok(script)
 }
 

@@ -1,23 +1,23 @@
 //! A node that runs MMRP: its side, and the PDUs that wait at its link ports.
 
-ghost use Rattle.std.specs.Prelude.{◌≡◌, ◌<◌, ◌≤◌, ◌^◌, ◌++◌, ◌∷◌, [], length, map, slice_get, Some, IfOk, IfErr, OnOk, OnErr};
+ghost use Rattle.std.specs.Prelude.{◌≡◌, ◌<◌, ◌^◌, [], length, map, slice_get, Some, IfOk, IfErr, OnOk, OnErr};
 ghost use Rattle.std.specs.List.{AllByRecursion};
 ghost use Rattle.std.specs.Ordering.{nat_cmp};
-ghost use Rattle.mrp_participant.specs.Link.{with_repeat};
 ghost use Rattle.mrp_participant.specs.State.{IsTime};
 ghost use Rattle.attribute_propagation.specs.Ports.{IsLinkPort, place_of};
 ghost use Rattle.std.specs.Option.{option_map_or};
 ghost use Rattle.registrar.specs.declared.Registrar.TheVariants.{Empty};
 ghost use Rattle.mmrp.specs.Macs.{has_joined, registrar_in};
-ghost use Rattle.mmrp.specs.Node.{AreShort, IsKeptNode, after_send, after_work, are_all_sound, are_empty, asked, box_at, is_busy_node, is_still_node, lost_at, new_node, port_step, ports_of, repeated_at, spoilt_at, with_carried, with_outbox, without};
+ghost use Rattle.mmrp.specs.Node.{AreShort, IsKeptNode, after_send, after_work, are_all_sound, are_empty, asked, box_at, is_busy_node, is_still_node, lost_at, new_node, port_step, ports_of, repeated_at, spoilt_at, with_carried, with_outbox};
 
 use crate::app::MmrpApp;
 use crate::events::{GroupReply, GroupStep};
+use crate::inbox::{Inbox, all_taken};
 use crate::side::{MmrpSide, ask, fire, say, settle, spoil, take};
 use mrp_participant::Participant;
 use registrar::Registrar;
 use srp_base::{Cs, Mac, NoMemory, PortNo, PortSetup, Seq};
-use std::alloc::{AllocError, Global};
+use std::alloc::Global;
 use std::marker::Model;
 use std::mem;
 
@@ -25,7 +25,7 @@ use std::mem;
 #[derive(Drop)]
 pub(crate) struct GroupNode {
     side: MmrpSide,
-    inboxes: Vec<Seq<Seq<u8>>>,
+    inboxes: Vec<Inbox>,
     outboxes: Vec<Seq<Seq<u8>>>,
 }
 
@@ -53,8 +53,8 @@ impl GroupNode {
     {
         let side = MmrpSide::new(alloc, leave_time, periodic, ports)?;
         side.keeps();
-        let inboxes = new_boxes(alloc, ports)?;
-        let outboxes = new_boxes(alloc, ports)?;
+        let inboxes = new_inboxes(alloc, ports)?;
+        let outboxes = new_outboxes(alloc, ports)?;
         Ok(GroupNode {
             side,
             inboxes,
@@ -105,7 +105,7 @@ impl GroupNode {
     pub(crate) fn still(&self) -> bool
         ensures { result ≡ is_still_node self.now }
     {
-        all_empty(self.inboxes.as_slice())
+        all_taken(self.inboxes.as_slice())
             && all_empty(self.outboxes.as_slice())
             && self.side.still()
     }
@@ -121,7 +121,7 @@ impl GroupNode {
     pub(crate) fn is_busy(&self, now: Cs) -> bool
         ensures { result ≡ is_busy_node now self.now }
     {
-        !all_empty(self.inboxes.as_slice()) || self.side.is_busy(now)
+        !all_taken(self.inboxes.as_slice()) || self.side.is_busy(now)
     }
 
     // The number of PDUs that wait in a port's inbox.
@@ -175,9 +175,8 @@ impl GroupNode {
         if self.inboxes[at].is_empty() {
             return Ok(GroupReply::Nothing);
         }
-        let reply = take(&mut self.side, now, port, &self.inboxes[at].as_slice()[0])?;
-        let alloc = *self.inboxes.allocator();
-        remove(alloc, &mut self.inboxes[at], 0);
+        let reply = take(&mut self.side, now, port, self.inboxes[at].at(0))?;
+        self.inboxes[at].remove(0);
         Ok(reply)
     }
 
@@ -223,8 +222,7 @@ impl GroupNode {
         ensures back { IfErr result (λ e. e.1 ≡ pdus) }
     {
         let at = usize::from(port.0) - 1;
-        let alloc = *self.inboxes.allocator();
-        append(alloc, &mut self.inboxes[at], pdus)
+        self.inboxes[at].append(pdus)
     }
 
     // Makes these PDUs of at most 1,500 octets a port's outbox. It takes no memory.
@@ -244,8 +242,7 @@ impl GroupNode {
         ensures { self.new ≡ lost_at (place_of port) index self.old }
     {
         let at = usize::from(port.0) - 1;
-        let alloc = *self.inboxes.allocator();
-        remove(alloc, &mut self.inboxes[at], index);
+        self.inboxes[at].remove(index);
     }
 
     // Puts a copy of the PDU with this index, which there is, in a port's inbox right behind it.
@@ -257,7 +254,7 @@ impl GroupNode {
     {
         let at = usize::from(port.0) - 1;
         let alloc = *self.inboxes.allocator();
-        repeat_pdu(alloc, &mut self.inboxes[at], index)
+        self.inboxes[at].repeat(alloc, index)
     }
 
     // Ends the soundness of the participant at a port. It takes no memory.
@@ -269,8 +266,20 @@ impl GroupNode {
     }
 }
 
-// An empty box for each port.
-fn new_boxes(alloc: Global, ports: &[PortSetup]) -> Result<Vec<Seq<Seq<u8>>>, NoMemory>
+// An empty inbox for each port.
+fn new_inboxes(alloc: Global, ports: &[PortSetup]) -> Result<Vec<Inbox>, NoMemory>
+    ensures { IfOk result (λ v. v.items ≡ map (λ _. []) ports.now) }
+{
+    let mut boxes = Vec::with_capacity(alloc, ports.len())?;
+    for port in ports {
+        let _ = port;
+        boxes.push(Inbox::new(alloc))?;
+    }
+    Ok(boxes)
+}
+
+// An empty outbox for each port.
+fn new_outboxes(alloc: Global, ports: &[PortSetup]) -> Result<Vec<Seq<Seq<u8>>>, NoMemory>
     ensures { IfOk result (λ v. v.items ≡ map (λ _. []) ports.now) }
 {
     let mut boxes = Vec::with_capacity(alloc, ports.len())?;
@@ -281,64 +290,9 @@ fn new_boxes(alloc: Global, ports: &[PortSetup]) -> Result<Vec<Seq<Seq<u8>>>, No
     Ok(boxes)
 }
 
-// Whether no PDU waits in any of these boxes.
+// Whether no PDU waits in any of these outboxes.
 fn all_empty(boxes: &[Seq<Seq<u8>>]) -> bool
     ensures { result ≡ are_empty boxes.now }
 {
     boxes.iter().all(|pdus| pdus.len() == 0)
-}
-
-// Puts PDUs behind those of an inbox.
-fn append(
-    alloc: Global,
-    inbox: &mut Seq<Seq<u8>>,
-    pdus: Seq<Seq<u8>>,
-) -> Result<(), (NoMemory, Seq<Seq<u8>>)>
-    ensures ok { OnOk result (inbox.new ≡ inbox.old ++ pdus) }
-    ensures err { OnErr result (inbox.new ≡ inbox.old) }
-    ensures back { IfErr result (λ e. e.1 ≡ pdus) }
-{
-    let mut more = pdus.into_vec();
-    let mut all = mem::replace(inbox, Seq::new(alloc)).into_vec();
-    let appended = all.append(&mut more);
-    *inbox = Seq::from_vec(all);
-    match appended {
-        Ok(()) => Ok(()),
-        Err(_) => Err((NoMemory, Seq::from_vec(more))),
-    }
-}
-
-// Takes the PDU of an index out of an inbox.
-fn remove(alloc: Global, inbox: &mut Seq<Seq<u8>>, index: usize)
-    requires { index < length inbox.old }
-    ensures { inbox.new ≡ without index inbox.old }
-{
-    let mut pdus = mem::replace(inbox, Seq::new(alloc)).into_vec();
-    let _ = pdus.remove(index);
-    *inbox = Seq::from_vec(pdus);
-}
-
-// Another PDU with the same octets.
-fn copied(alloc: Global, pdu: &Seq<u8>) -> Result<Seq<u8>, AllocError>
-    ensures { IfOk result (λ p. p ≡ pdu.now) }
-{
-    let octets = Vec::from_slice(alloc, pdu.as_slice())?;
-    Ok(Seq::from_vec(octets))
-}
-
-// Puts a copy of the PDU of an index right behind it.
-#[tactic(auto, using(crate::proofs::Boxes::repeated_of, crate::proofs::Boxes::short_repeated))]
-fn repeat_pdu(alloc: Global, inbox: &mut Seq<Seq<u8>>, index: usize) -> Result<(), NoMemory>
-    requires index { index < length inbox.old }
-    requires short { AreShort inbox.old }
-    ensures ok { OnOk result (inbox.new ≡ with_repeat index inbox.old) }
-    ensures err { OnErr result (inbox.new ≡ inbox.old) }
-    ensures short { AreShort inbox.new }
-{
-    let copy = copied(alloc, &inbox.as_slice()[index])?;
-    let mut pdus = mem::replace(inbox, Seq::new(alloc)).into_vec();
-    let inserted = pdus.insert(index, copy);
-    *inbox = Seq::from_vec(pdus);
-    inserted?;
-    Ok(())
 }

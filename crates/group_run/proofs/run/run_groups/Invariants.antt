@@ -1,11 +1,13 @@
 use Rattle.std.proofs.Common.{◌≡◌}
 use Rattle.group_run.specs.Allowed.{IsInTick}
+use Rattle.group_run.specs.Cursor.{IsCursor}
 use Rattle.group_run.specs.Ticks.{after_ticks}
 use Rattle.group_run.proofs.run.run_groups.Given as goal
 
--- the ticks so far, and the next one begins
+-- the ticks so far, and the next one begins with its events
 abbrev pub invariant-loop : goal.invariant-loop
 invariant-loop l = record {
   run : l.course ≡ after_ticks l.scenario l.counter;
   at : IsInTick l.scenario.tree l.counter l.course.net;
+  cursor : IsCursor l.scenario.events l.counter l.cursor;
 }

@@ -1,4 +1,4 @@
-use Rattle.std.proofs.Common.{◌≤◌, length, sym, ap, ◌∙◌, subst, arith}
+use Rattle.std.proofs.Common.{sym, ap, ◌∙◌, subst, arith}
 use Rattle.tree_topology.specs.Topology.{HasNode}
 use Rattle.mmrp.specs.Net.{NetGroups, is_busy_at}
 use Rattle.mmrp.proofs.net.GroupNet.is_busy.Goals as goal

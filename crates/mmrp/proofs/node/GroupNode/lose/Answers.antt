@@ -22,12 +22,12 @@ below : (c : After-self-1) → at c < length (before c).inboxes
 below c = omega (arith, c.from-at.ensures, c.requires.port.some, c.requires.port.within, c.self.invariant.inboxes, ap (λ (v : NodeGroups). length v.side.parts) c.self.view_is)
 
 -- the inbox is without the PDU
-left : (c : After-self-1) → c.remove.new.inbox ≡ without c.args.index (box_at (at c) (before c).inboxes)
+left : (c : After-self-1) → c.remove.new.self ≡ without c.args.index (box_at (at c) (before c).inboxes)
 left c = c.remove.ensures ∙ ap (without c.args.index) (box_read (before c).inboxes (at c) c.index_mut.result.now (below c) c.index_mut.ensures.value)
 
 pub invariant_of-self : goal.invariant_of-self
 invariant_of-self c =
-    kept_inbox (before c) (at c) c.remove.new.inbox c.self.invariant
+    kept_inbox (before c) (at c) c.remove.new.self c.self.invariant
     (subst AreShort (sym (left c))
     (each_without IsShortPdu c.args.index (box_at (at c) (before c).inboxes) (each_box IsShortPdu (before c).inboxes (at c) c.self.invariant.short_in)))
 

@@ -24,7 +24,7 @@ below c = omega (arith, c.from-at.ensures, c.requires.port.some, c.requires.port
 
 pub returns-clause-ok : goal.returns-clause-ok
 returns-clause-ok c =
-    on_ok c.repeat_pdu.result (λ is.
+    on_ok c.repeat.result (λ is.
     ap (λ (b : Waiting). record (before c) { inboxes = slice_set (before c).inboxes (at c) b })
     (is ∙ ap (with_repeat c.args.index) (box_read (before c).inboxes (at c) c.index_mut.result.now (below c) c.index_mut.ensures.value))
-    ∙ (ap (λ (v : NodeGroups). repeated_at (at c) c.args.index v) c.self.view_is ∙ ap (λ (n : ℕ). repeated_at (n - 1) c.args.index c.args.self.now) c.from-at.ensures)) c.repeat_pdu.ensures.ok
+    ∙ (ap (λ (v : NodeGroups). repeated_at (at c) c.args.index v) c.self.view_is ∙ ap (λ (n : ℕ). repeated_at (n - 1) c.args.index c.args.self.now) c.from-at.ensures)) c.repeat.ensures.ok

@@ -1,41 +1,42 @@
-use Rattle.std.proofs.Common.{◌≡◌, ◌<◌, ◌-◌, ℕ, true, false, [], ◌∷◌, length, refl, sym, subst, ap, ◌∙◌, arith}
-use Rattle.std.specs.Prelude.{IsTrue}
-use Rattle.mmrp.specs.Node.{NodeGroups, Waiting, AreShort}
+use Rattle.std.proofs.Common.{◌≡◌, ◌<◌, ◌-◌, ℕ, Bool, false, [], ◌∷◌, length, sym, subst, ap, ◌∙◌, arith}
+use Rattle.std.specs.Prelude.{◌==◌}
+use Rattle.mmrp.specs.Node.{NodeGroups, Waiting, AreShort, box_at}
 use Rattle.mmrp.proofs.Boxes.{IsShortPdu, box_read, each_box, each_read}
 use Rattle.mmrp.proofs.node.GroupNode.work.Goals as goal
-use Rattle.mmrp.proofs.node.GroupNode.work.Goals.{After-index-as_slice-0}
+use Rattle.mmrp.proofs.node.GroupNode.work.Goals.{After-at}
 
 -- a list that isn't empty has a front
-is_some : (ws : Waiting) → (ws ≡ [] → IsTrue false) → 0 < length ws
-is_some [] h = let never : false ≡ true = h refl in cc
-is_some (w ∷ ws) h = omega arith
+is_some : (ws : Waiting) (b : Bool) → b ≡ (length ws == 0) → b ≡ false → 0 < length ws
+is_some [] b is empty = cc
+is_some (w ∷ ws) b is empty = omega arith
 
 -- the place of the port
-abbrev at : After-index-as_slice-0 → ℕ
+abbrev at : After-at → ℕ
 at c = c.from-at.result - 1
 
-below : (c : After-index-as_slice-0) → at c < length c.self.inside.inboxes.items
+below : (c : After-at) → at c < length c.self.inside.inboxes.items
 below c = omega (arith, c.from-at.ensures, c.requires.port.some, c.requires.port.within, c.self.invariant.inboxes, ap (λ (v : NodeGroups). length v.side.parts) c.self.view_is)
 
 pub take-requires-clause-port : goal.take-requires-clause-port
 take-requires-clause-port c =
     record { some = c.requires.port.some; within = omega (arith, c.requires.port.within, ap (λ (v : NodeGroups). length v.side.parts) c.self.view_is) }
 
--- the PDUs of the inbox are short
-short : (c : After-index-as_slice-0) → AreShort c.as_slice.result.now
-short c =
-    subst AreShort (sym (c.as_slice.ensures ∙ box_read c.self.inside.inboxes.items (at c) c.index-2.result.now (below c) c.index-2.ensures))
-    (each_box IsShortPdu c.self.inside.inboxes.items (at c) c.self.invariant.short_in)
+-- the inbox that is read is the port's, and has a front
+read : (c : After-at) → c.index-2.result.now ≡ box_at (at c) c.self.inside.inboxes.items
+read c = box_read c.self.inside.inboxes.items (at c) c.index-2.result.now (below c) c.index-2.ensures
+
+some : (c : After-at) → 0 < length c.index-2.result.now
+some c =
+    let P : Waiting → Type 0 = λ ws. 0 < length ws in
+    subst P (box_read c.self.inside.inboxes.items (at c) c.index.result.now (below c) c.index.ensures ∙ sym (read c))
+    (is_some c.index.result.now c.is_empty.result c.is_empty.ensures c.if-is_empty.false)
+
+-- its PDUs are short
+short : (c : After-at) → AreShort c.index-2.result.now
+short c = subst AreShort (sym (read c)) (each_box IsShortPdu c.self.inside.inboxes.items (at c) c.self.invariant.short_in)
 
 pub take-requires-clause-short : goal.take-requires-clause-short
-take-requires-clause-short c =
-    let same : c.as_slice.result.now ≡ c.index.result.now =
-    c.as_slice.ensures
-    ∙ (box_read c.self.inside.inboxes.items (at c) c.index-2.result.now (below c) c.index-2.ensures
-    ∙ sym (box_read c.self.inside.inboxes.items (at c) c.index.result.now (below c) c.index.ensures)) in
-    let P : Waiting → Type 0 = λ ws. 0 < length ws in
-    let some : 0 < length c.as_slice.result.now = subst P (sym same) (is_some c.index.result.now c.if-is_empty.ensures.1) in
-    each_read IsShortPdu c.as_slice.result.now 0 c.index-as_slice-0.result some c.index-as_slice-0.is (short c)
+take-requires-clause-short c = each_read IsShortPdu c.index-2.result.now 0 c.at.result.now (some c) c.at.ensures (short c)
 
 pub invariant_of-self : goal.invariant_of-self
 invariant_of-self c =

@@ -1,5 +1,5 @@
 use Rattle.std.proofs.Common.{◌≡◌, ◌++◌, [], map, drop}
-use Rattle.mmrp.proofs.node.new_boxes.Given as goal
+use Rattle.mmrp.proofs.node.new_inboxes.Given as goal
 
 -- the boxes so far and those that are left are all
 abbrev pub invariant-loop-port : goal.invariant-loop-port

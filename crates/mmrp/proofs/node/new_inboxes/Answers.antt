@@ -2,7 +2,7 @@ use Rattle.std.proofs.Common.{List, [], ◌∷◌, ◌++◌, ◌+◌, map, drop,
 use Rattle.std.proofs.lemmas.List.{at_drop_more}
 use Rattle.srp_base.specs.declared.ports.PortSetup.{PortSetup}
 use Rattle.mmrp.specs.Node.{Waiting}
-use Rattle.mmrp.proofs.node.new_boxes.Goals as goal
+use Rattle.mmrp.proofs.node.new_inboxes.Goals as goal
 
 pub loop-port-preserved : goal.loop-port-preserved
 loop-port-preserved c =
