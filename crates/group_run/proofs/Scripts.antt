@@ -124,10 +124,10 @@ one_entry plan t i e done next here same pushed s =
 ends : (plan : GroupPlan) (t i : ℕ) (done : List GroupEvent) → i ≤ length plan.events → AllByRecursion (λ e. suc t ≤ e.tick) (drop i plan.events)
     → IsScripted plan t i done → (done ≡ script_at plan t) × IsCursor plan.events (suc t) i
 ends plan t i done few later s = (
-      sym (append-nil done)
+  sym (append-nil done)
       ∙ (ap (λ (es : List GroupEntry). done ++ map (λ e. event_of plan.tree.links e.kind) es) (sym (none_coming t (drop i plan.events) later)) ∙ s.all),
-      record { within = few; past = s.past; coming = later },
-    )
+  record { within = few; past = s.past; coming = later },
+)
 
 -- the entry at a place is of another tick, so all from it on are of later ones
 pub stops : (plan : GroupPlan) (t i : ℕ) (e : GroupEntry) (done : List GroupEvent) → IsNonDecreasing (group_ticks plan.events)
