@@ -1,0 +1,9 @@
+pub mod OptionLemmas
+pub mod FieldLemmas
+pub mod SizeLemmas
+pub mod PieceLoops
+pub mod Spelled
+pub mod Holds
+pub mod MomentLemmas
+pub mod AnswerLemmas
+pub mod WithinLemmas
