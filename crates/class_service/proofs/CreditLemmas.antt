@@ -25,7 +25,7 @@ range_more from (suc n) =
     ap (λ ts. from ∷ ts) (range_more (from + 1) n) ∙ ap (λ t. from ∷ (range_with_len (from + 1) n ++ t ∷ [])) at
 
 -- up to the next bit time
-times_more : (from t : ℕ) → from ≤ t → bit_times from (suc t) ≡ bit_times from t ++ t ∷ []
+pub times_more : (from t : ℕ) → from ≤ t → bit_times from (suc t) ≡ bit_times from t ++ t ∷ []
 times_more from t up =
     let long : suc t - from ≡ suc (t - from) = omega (arith, up) in
     let at : from + (t - from) ≡ t = omega (arith, up) in

@@ -5,3 +5,4 @@ pub mod RangeLemmas
 pub mod RiseLemmas
 pub mod HeightLemmas
 pub mod WaitLemmas
+pub mod ServiceLemmas

@@ -2,4 +2,5 @@ pub mod Class
 pub mod Service
 pub mod Range
 pub mod Owed
+pub mod Window
 pub mod BitTimes

@@ -41,6 +41,8 @@
 //!
 //! - `laws`: all that holds. The words are those of `specs/Class.antt`, the same for both classes: `is_busy`, `bits_in` and
 //!   `area_in` of a window, `credit_at`.
+//! - `service`: `service_in`, what a class has of a window as numbers: its bits, the area of its idleSlope, and whether it is
+//!   busy all along.
 //!
 //! To extend it: a third class with a credit is a case of `IsClass`, `credit_at` and `slope_at`, and of `idle_of` with how high
 //! its credit rises, which is what has a proof of its own for each class (`proofs/RiseLemmas.antt` for class B). A
@@ -48,3 +50,6 @@
 #![tactic(auto)]
 
 pub mod laws;
+mod service;
+
+pub use service::{Service, service_in};
